@@ -1,0 +1,1 @@
+// The node table over three columns and an index.
