@@ -1,2 +1,4 @@
 pub mod Canonical
+pub mod Nearest
+pub mod Cofactor
 pub mod Examples
