@@ -3,8 +3,8 @@
 use mathlib.Core.Path.{_≡_, refl, sym, ap, ap₂, _∙_, subst, fun-ext}
 use mathlib.Core.Logic.{_≢_}
 use mathlib.Core.Bool.{Bool, true, false, not, _||_, cond}
-use mathlib.Core.List.{List, [], _∷_}
-use Prim.Native.Nat.{ℕ, zero, suc, _+_, _-_, _≤_, _<_}
+use mathlib.Core.List.{_∷_}
+use Prim.Native.Nat.{ℕ, zero, suc, _+_, _-_, _≤_}
 use native.Mathlib.Omega.{arith}
 use native.Mathlib.Decide.{ℕ-discrete}
 use lib.ListN.{length}
@@ -12,7 +12,7 @@ use lib.Dec.{eqb}
 use borrow.Author.Tests.{eqb-false}
 use Rattle.meaning.specs.Diagram.{Assignment, Diagram, leaf, node, same?, valueFrom, value, Reduced, branch, diagramFrom}
 use Rattle.meaning.specs.Operations.{nearest, cofactor}
-use Rattle.meaning.proofs.Canonical.{canonical, branch-same, reduced-from, value-skip, diagramFrom-cong, diagramFrom-reduced, diagramFrom-value, side, side-reduced, side-value, side-zero}
+use Rattle.meaning.proofs.Canonical.{canonical, branch-same, reduced-from, diagramFrom-cong, diagramFrom-reduced, diagramFrom-value, side, side-reduced, side-value, side-zero}
 use Rattle.meaning.proofs.Nearest.{nearest-self, nearest-stay, nearest-turn, Satisfied, sat-of}
 
 pub cofactor-value : (n : ℕ) (f g : Diagram) (a : Assignment) → length a ≡ n → value (cofactor n f g) a ≡ value f (nearest n (value g) a)
