@@ -1,14 +1,14 @@
 -- Node numbers and their diagrams: a number's diagram is reduced and ordered, and in a table in good order two numbers are equal exactly
 -- where their values are. The idea: children have smaller numbers, so induction on the number; no two nodes are alike. Assumes nothing.
-use mathlib.Core.Path.{_≡_, refl, sym, ap, ap₂, _∙_, subst}
-use mathlib.Core.Logic.{_≢_, _↔_}
-use mathlib.Core.Bool.{Bool, true, false}
-use mathlib.Core.List.{List, [], _∷_}
-use Prim.Native.Nat.{ℕ, zero, suc, _+_, _≤_, _<_}
+use mathlib.Core.Path.{_≡_, refl, sym, ap, ap₂, _∙_}
+use mathlib.Core.Logic.{_↔_}
+use mathlib.Core.Bool.{true, false}
+use mathlib.Core.List.{List}
+use Prim.Native.Nat.{ℕ, zero, suc, _≤_, _<_}
 use native.Mathlib.Omega.{arith}
-use lib.ListN.{length, getD, take}
+use lib.ListN.{length, take}
 use lib.Seq.{length-take-le, getD-take}
-use Rattle.meaning.specs.Diagram.{Assignment, Diagram, leaf, node, value, Reduced}
+use Rattle.meaning.specs.Diagram.{Assignment, leaf, node, value, Reduced}
 use Rattle.meaning.proofs.Canonical.{unique}
 use Rattle.table.specs.Nodes.{Node, blank, at, diagramWithin, diagramAt, goodOrder}
 use Rattle.table.proofs.Order.{same-node, Fits, Ordered, GoodOrder, good-order}

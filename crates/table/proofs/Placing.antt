@@ -1,6 +1,6 @@
 -- Placing a reduced diagram: good order is kept, the nodes are extended, the number given has that diagram, and `full` is given only with
 -- every place taken. A diagram that is there is found again. The idea: a predicate on the outcome, by induction on the diagram. Assumes nothing.
-use mathlib.Core.Path.{_≡_, refl, sym, ap, ap₂, _∙_, subst}
+use mathlib.Core.Path.{_≡_, refl, sym, ap, _∙_}
 use mathlib.Core.Logic.{_≢_}
 use mathlib.Core.Bool.{Bool, true, false, cond}
 use mathlib.Core.List.{List, [], _∷_, _++_}
@@ -8,11 +8,11 @@ use mathlib.Core.Option.{Option, none, some}
 use Prim.Native.Nat.{ℕ, zero, suc, _+_, _-_, _≤_, _<_}
 use native.Mathlib.Omega.{arith}
 use native.Mathlib.Decide.{ℕ-discrete}
-use lib.ListN.{length, getD, take, drop, length-drop}
+use lib.ListN.{length, drop, length-drop}
 use lib.Seq.{getD-drop}
 use lib.Dec.{ltb}
 use borrow.Author.Tests.{ltb-true, ltb-false, eq-eqb, ne-eqb}
-use Rattle.meaning.specs.Diagram.{Diagram, leaf, node, Reduced, branch, same?}
+use Rattle.meaning.specs.Diagram.{Diagram, leaf, node, Reduced, branch}
 use Rattle.meaning.proofs.Canonical.{reduced-from, branch-same, branch-differ}
 use Rattle.table.specs.Nodes.{Node, nodeOf, blank, at, alike, diagramAt, Placing, full, placed, findFrom, find, orAppend, put, andThen, place}
 use Rattle.table.proofs.Order.{alike-true, alike-false, Fits, Ordered}
