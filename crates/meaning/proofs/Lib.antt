@@ -2,4 +2,5 @@ pub mod Canonical
 pub mod Nearest
 pub mod Cofactor
 pub mod CofactorSteps
+pub mod Words
 pub mod Examples
