@@ -15,9 +15,9 @@ unfolding run
 run-most p [] = omega arith
 run-most p (b ∷ bs) = go (p b) (run-most p bs)
   where
-  go : (t : Bool) → run p bs ≤ length bs → cond t (suc (run p bs)) 0 ≤ suc (length bs)
-  go true h = omega arith
-  go false h = omega arith
+    go : (t : Bool) → run p bs ≤ length bs → cond t (suc (run p bs)) 0 ≤ suc (length bs)
+    go true h = omega arith
+    go false h = omega arith
 
 module _ (p : ℕ → Bool) (s : List ℕ) (at : ℕ) where
   pub past-end : length s ≤ at → past p s at ≡ at
