@@ -1,2 +1,4 @@
 pub mod Canonical
+pub mod Values
+pub mod Pointwise
 pub mod Examples
