@@ -11,14 +11,7 @@ use lib.ListN.{length, getD, set, take, length-set}
 use lib.Seq.{getD-set-same, getD-set-other, getD-take, length-take-le}
 use Rattle.meaning.specs.Diagram.{Assignment, holds, Diagram, leaf, node, same?, valueFrom, value, Reduced, branch, diagramFrom, diagram}
 use Rattle.meaning.proofs.Canonical.{reduced-from, canonical, unique, diagramFrom-cong, diagramFrom-reduced, diagramFrom-value, side}
-
-pub t≢f : {A : Type 0} → true ≡ false → A
-t≢f e = absurd (let z : _≡_ {A = ℕ} 0 1 = cc in omega arith)
-
--- two equal choices are no choice
-pub cond-same : (x y : Bool) → cond x y y ≡ y
-cond-same true y = refl
-cond-same false y = refl
+use Rattle.meaning.proofs.Booleans.{cond-same}
 
 pub reduced-to : (i e e′ : ℕ) (t : Diagram) → e ≤ e′ → Reduced i e t → Reduced i e′ t
 reduced-to i e e′ (leaf b) p o = tt
