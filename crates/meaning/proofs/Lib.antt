@@ -4,4 +4,5 @@ pub mod Values
 pub mod Pointwise
 pub mod PointwiseSteps
 pub mod Clauses
+pub mod Units
 pub mod Examples

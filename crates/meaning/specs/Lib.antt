@@ -1,3 +1,4 @@
 pub mod Diagram
 pub mod Operations
 pub mod Rules
+pub mod Branchwise
