@@ -5,4 +5,7 @@ pub mod Pointwise
 pub mod PointwiseSteps
 pub mod Clauses
 pub mod Units
+pub mod Nearest
+pub mod Cofactor
+pub mod CofactorSteps
 pub mod Examples
