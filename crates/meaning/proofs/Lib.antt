@@ -8,4 +8,5 @@ pub mod Units
 pub mod Nearest
 pub mod Cofactor
 pub mod CofactorSteps
+pub mod Soundness
 pub mod Examples

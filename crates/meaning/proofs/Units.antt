@@ -14,7 +14,7 @@ use Rattle.meaning.specs.Diagram.{Assignment, holds, Diagram, leaf, node
 use Rattle.meaning.specs.Operations.{assignments, every, isUnit}
 use Rattle.meaning.specs.Branchwise.{unitAt}
 use Rattle.meaning.proofs.Canonical.{reduced-from, unique}
-use Rattle.meaning.proofs.Booleans.{t≢f, both-ways, not-true, and-false, and-both, or-cases, or-left, or-right, eqb-eq, eq-eqb, beq-eq, eq-beq}
+use Rattle.meaning.proofs.Booleans.{t≢f, both-ways, not-true, and-both, or-cases, or-left, or-right, eqb-eq, eq-eqb, beq-eq, eq-beq}
 use Rattle.meaning.proofs.Values.{reduced-to, value-set}
 
 -- ---- every assignment
@@ -178,21 +178,38 @@ isUnit-is n f v s o lo hi =
 
 -- ---- variables that f does not have
 
-pub unitAt-beyond : (i e v : ℕ) (s : Bool) (f : Diagram) → Reduced i e f → e ≤ v → f ≢ leaf false → unitAt f v s ≡ false
-unfolding unitAt
-unitAt-beyond i e v s (leaf true) o p nz = refl
-unitAt-beyond i e v s (leaf false) o p nz = absurd (nz refl)
-unitAt-beyond i e v s (node w l h) o p nz =
-    rw (not-true (eqb w v) (λ t. let q : w ≡ v = eqb-eq w v t in omega arith))
-    (go (same? l (leaf false)) (λ n. unitAt-beyond (suc w) e v s l (o .3) p n) (λ n. unitAt-beyond (suc w) e v s h (o .4) p n))
+-- Whether variable v stands in the diagram.
+unfoldable pub variableIn : ℕ → Diagram → Bool
+variableIn v (leaf b) = false
+variableIn v (node w l h) = eqb w v || (variableIn v l || variableIn v h)
+
+variable-range : (i e v : ℕ) (f : Diagram) → Reduced i e f → variableIn v f ≡ true → v < e
+unfolding variableIn
+variable-range i e v (leaf b) o u = t≢f (sym u)
+variable-range i e v (node w l h) o u =
+    or-cases (eqb w v) (variableIn v l || variableIn v h) u (λ t. let q : w ≡ v = eqb-eq w v t in omega arith)
+    (λ t. or-cases (variableIn v l) (variableIn v h) t (variable-range (suc w) e v l (o .3)) (variable-range (suc w) e v h (o .4)))
+
+-- a unit's variable stands in the diagram, if that is not 0
+pub unit-in : (i e v : ℕ) (s : Bool) (f : Diagram) → Reduced i e f → f ≢ leaf false → unitAt f v s ≡ true → variableIn v f ≡ true
+unfolding unitAt variableIn
+unit-in i e v s (leaf true) o nz u = u
+unit-in i e v s (leaf false) o nz u = absurd (nz refl)
+unit-in i e v s (node w l h) o nz u =
+    or-cases (unitAt l v s && unitAt h v s) (eqb w v && same (cond s l h) (leaf false)) u
+    (λ p. let b : (unitAt l v s ≡ true) × (unitAt h v s ≡ true) = and-both (unitAt l v s) (unitAt h v s) p in
+    or-right (eqb w v) (variableIn v l || variableIn v h)
+    (go (same? l (leaf false)) (λ n. unit-in (suc w) e v s l (o .3) n (b .0)) (λ n. unit-in (suc w) e v s h (o .4) n (b .1))))
+    (λ p. or-left (eqb w v) (variableIn v l || variableIn v h) (and-both (eqb w v) (same (cond s l h) (leaf false)) p .0))
   where
-    go : Dec (l ≡ leaf false) → (l ≢ leaf false → unitAt l v s ≡ false) → (h ≢ leaf false → unitAt h v s ≡ false) → ((unitAt l v s && unitAt h v s) || false) ≡ false
-    go (yes z) fl fh = rw (fh (λ q. o .2 (z ∙ sym q)), and-false (unitAt l v s))
-    go (no n) fl fh = rw (fl n)
+    go : Dec (l ≡ leaf false) → (l ≢ leaf false → variableIn v l ≡ true) → (h ≢ leaf false → variableIn v h ≡ true) → (variableIn v l || variableIn v h) ≡ true
+    go (yes p) fl fh = or-right (variableIn v l) (variableIn v h) (fh (λ q. o .2 (p ∙ sym q)))
+    go (no n) fl fh = or-left (variableIn v l) (variableIn v h) (fl n)
 
 module _ (m n : ℕ) (more : m ≤ n) (f : Diagram) (o : Reduced 1 (suc m) f) (v : ℕ) (s : Bool) where
   pub isUnit-width : 1 ≤ v → v ≤ m → isUnit n f v s ≡ isUnit m f v s
   isUnit-width lo hi = isUnit-is n f v s (reduced-to 1 (suc m) (suc n) f (omega arith) o) lo (omega arith) ∙ sym (isUnit-is m f v s o lo hi)
 
   pub isUnit-beyond : m < v → v ≤ n → f ≢ leaf false → isUnit n f v s ≡ false
-  isUnit-beyond lo hi nz = isUnit-is n f v s (reduced-to 1 (suc m) (suc n) f (omega arith) o) (omega arith) hi ∙ unitAt-beyond 1 (suc m) v s f o lo nz
+  isUnit-beyond lo hi nz = isUnit-is n f v s (reduced-to 1 (suc m) (suc n) f (omega arith) o) (omega arith) hi
+      ∙ not-true (unitAt f v s) (λ u. omega (arith, variable-range 1 (suc m) v f o (unit-in 1 (suc m) v s f o nz u)))
