@@ -9,4 +9,5 @@ pub mod Nearest
 pub mod Cofactor
 pub mod CofactorSteps
 pub mod Soundness
+pub mod Ends
 pub mod Examples
