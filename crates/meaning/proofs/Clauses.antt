@@ -1,15 +1,14 @@
 -- A clause's diagram, built from its greatest variable to its least: a node for each variable that has one literal, 1 where a variable has
 -- both. P and N are the variables of the positive and of the negative literals. The idea: the same values. Assumes nothing.
-use mathlib.Core.Path.{_≡_, refl, sym, ap, ap₂, _∙_}
+use mathlib.Core.Path.{_≡_, refl, sym, _∙_}
 use mathlib.Core.Logic.{_≢_}
-use mathlib.Core.Bool.{Bool, true, false, not, _&&_, _||_, cond, Bool·beq}
+use mathlib.Core.Bool.{Bool, true, false, _&&_, _||_, cond, Bool·beq}
 use mathlib.Core.List.{List, [], _∷_}
-use Prim.Native.Nat.{ℕ, zero, suc, _+_, _-_, _≤_, _<_}
+use Prim.Native.Nat.{ℕ, zero, suc, _+_, _≤_, _<_}
 use native.Mathlib.Omega.{arith}
 use native.Mathlib.Decide.{ℕ-discrete}
-use lib.ListN.{length}
 use lib.Dec.{eqb}
-use Rattle.meaning.specs.Diagram.{Assignment, holds, Diagram, leaf, node, valueFrom, value, Reduced, branch}
+use Rattle.meaning.specs.Diagram.{Assignment, holds, Diagram, leaf, valueFrom, value, Reduced, branch}
 use Rattle.meaning.specs.Operations.{Literal, literalValue, clauseValue, clause}
 use Rattle.meaning.proofs.Canonical.{branch-same, branch-reduced}
 use Rattle.meaning.proofs.Values.{branch-at, diagram-is}

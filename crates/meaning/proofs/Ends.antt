@@ -2,7 +2,7 @@
 -- unit's variable, which stands in the member that is taken, out of every member. Assumes nothing.
 use mathlib.Core.Path.{_≡_, refl, sym, ap, _∙_}
 use mathlib.Core.Logic.{_≢_}
-use mathlib.Core.Bool.{Bool, true, false, _&&_, _||_, cond}
+use mathlib.Core.Bool.{Bool, true, false, _||_, cond}
 use mathlib.Core.List.{List, [], _∷_, map}
 use mathlib.Core.Option.{Option, none, some}
 use Prim.Native.Nat.{ℕ, zero, suc, _+_, _≤_, _<_}
@@ -12,7 +12,6 @@ use lib.Dec.{eqb}
 use Rattle.meaning.specs.Diagram.{Diagram, leaf, node, same?, same, Reduced, branch}
 use Rattle.meaning.specs.Operations.{cofactorLiterals, isUnit}
 use Rattle.meaning.specs.Rules.{any, conflicts, hasUnit, firstWithUnit, byUnits, Propagation, round, still, taking, propagate}
-use Rattle.meaning.specs.Branchwise.{unitAt}
 use Rattle.meaning.proofs.Canonical.{reduced-from}
 use Rattle.meaning.proofs.Booleans.{t≢f, not-true, or-cases, or-left, or-right, or-neither, eqb-eq}
 use Rattle.meaning.proofs.Pointwise.{literals-reduced}

@@ -10,4 +10,5 @@ pub mod Cofactor
 pub mod CofactorSteps
 pub mod Soundness
 pub mod Ends
+pub mod Widths
 pub mod Examples

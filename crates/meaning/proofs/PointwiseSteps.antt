@@ -3,17 +3,16 @@
 use mathlib.Core.Path.{_≡_, refl, sym, ap, ap₂, _∙_}
 use mathlib.Core.Logic.{_≢_}
 use mathlib.Core.Bool.{Bool, true, false, not, _&&_, cond}
-use mathlib.Core.List.{List, [], _∷_}
-use Prim.Native.Nat.{ℕ, zero, suc, _+_, _-_, _≤_, _<_}
+use Prim.Native.Nat.{ℕ, suc, _-_, _≤_}
 use native.Mathlib.Omega.{arith}
-use lib.ListN.{length, getD, take}
+use lib.ListN.{length, take}
 use lib.Seq.{getD-take, length-take-le}
-use Rattle.meaning.specs.Diagram.{Assignment, holds, Diagram, leaf, node, valueFrom, value, Reduced, branch, diagram}
+use Rattle.meaning.specs.Diagram.{Assignment, holds, Diagram, leaf, node, valueFrom, value, Reduced, branch}
 use Rattle.meaning.specs.Operations.{entry, conjunction, negation, forced, cofactorLiterals}
 use Rattle.meaning.proofs.Canonical.{reduced-from, branch-reduced, side, side-reduced}
 use Rattle.meaning.proofs.Booleans.{not-not, not-cond, and-cond, and-same, and-commutes}
 use Rattle.meaning.proofs.Values.{value-agree, value-take, branch-at, side-at, diagram-cong, diagram-is, diagram-width}
-use Rattle.meaning.proofs.Pointwise.{forced-at, forced-cong, forced-length, conjunction-value, conjunction-from, negation-value, negation-reduced, negation-from, literals-value, literals-from}
+use Rattle.meaning.proofs.Pointwise.{forced-at, forced-cong, conjunction-value, conjunction-from, negation-value, negation-from, literals-value, literals-from}
 
 -- a branch at variable v of the variables 1 to n
 reduced-branch : (n v : ℕ) (l h : Diagram) → 1 ≤ v → v ≤ n → Reduced (suc v) (suc n) l → Reduced (suc v) (suc n) h → Reduced 1 (suc n) (branch v l h)

@@ -2,16 +2,16 @@
 -- members are, and a shown PR line keeps satisfiability. The idea: an assignment that satisfies the members satisfies what the rules make
 -- of them; the witness turns one that does not satisfy the line into one that does. Assumes nothing.
 use mathlib.Core.Path.{_≡_, refl, sym, ap, _∙_}
-use mathlib.Core.Bool.{Bool, true, false, not, _&&_, _||_, cond}
+use mathlib.Core.Bool.{Bool, true, false, not, cond}
 use mathlib.Core.List.{List, [], _∷_, map}
 use mathlib.Core.Option.{Option, none, some}
-use Prim.Native.Nat.{ℕ, zero, suc, _+_, _-_}
+use Prim.Native.Nat.{ℕ, zero, suc, _-_}
 use native.Mathlib.Omega.{arith}
 use lib.ListN.{length, getD}
 use lib.Seq.{ext-getD}
-use Rattle.meaning.specs.Diagram.{Assignment, holds, Diagram, leaf, same, valueFrom, value}
+use Rattle.meaning.specs.Diagram.{Assignment, Diagram, leaf, same, valueFrom, value}
 use Rattle.meaning.specs.Operations.{negation, forced, cofactorLiterals, cofactor, isUnit}
-use Rattle.meaning.specs.Rules.{any, conflicts, hasUnit, firstWithUnit, byUnits, Propagation, round, still, taking, propagate, unitProp, Line, byDiagram, rup, afterTurn, prTurns, witnessed, pr}
+use Rattle.meaning.specs.Rules.{any, conflicts, hasUnit, firstWithUnit, byUnits, round, still, taking, propagate, unitProp, byDiagram, rup, afterTurn, prTurns, witnessed, pr}
 use Rattle.meaning.proofs.Booleans.{t≢f, not-true, not-not, and-both, or-cases}
 use Rattle.meaning.proofs.Pointwise.{forced-at, forced-length, negation-value, literals-value}
 use Rattle.meaning.proofs.Cofactor.{cofactor-where}

@@ -1,20 +1,20 @@
 -- U(f), read off the branches, is the U(f) of all assignments; and variables that f does not have change nothing. The idea: a literal that
 -- is forced at a node of another variable is forced in both branches; at a node of its own the branch where it is false is 0. Assumes nothing.
-use mathlib.Core.Path.{_≡_, refl, sym, ap, ap₂, _∙_}
+use mathlib.Core.Path.{_≡_, refl, sym, ap, _∙_}
 use mathlib.Core.Logic.{_≢_}
 use mathlib.Core.Bool.{Bool, true, false, not, _&&_, _||_, cond, Bool·beq}
 use mathlib.Core.List.{List, [], _∷_, _++_, map}
-use Prim.Native.Nat.{ℕ, zero, suc, _+_, _-_, _≤_, _<_}
+use Prim.Native.Nat.{ℕ, zero, suc, _-_, _≤_, _<_}
 use native.Mathlib.Omega.{arith}
 use native.Mathlib.Decide.{ℕ-discrete}
-use lib.ListN.{length, getD, set, replicate, length-set, length-replicate, getD-replicate}
+use lib.ListN.{length, set, replicate, length-set, length-replicate, getD-replicate}
 use lib.Seq.{getD-set-same, getD-set-other}
 use lib.Dec.{eqb}
 use Rattle.meaning.specs.Diagram.{Assignment, holds, Diagram, leaf, node, same?, same, valueFrom, value, Reduced}
 use Rattle.meaning.specs.Operations.{assignments, every, isUnit}
 use Rattle.meaning.specs.Branchwise.{unitAt}
 use Rattle.meaning.proofs.Canonical.{reduced-from, unique}
-use Rattle.meaning.proofs.Booleans.{t≢f, both-ways, not-true, and-both, or-cases, or-left, or-right, eqb-eq, eq-eqb, beq-eq, eq-beq}
+use Rattle.meaning.proofs.Booleans.{t≢f, both-ways, not-true, and-both, or-cases, or-left, or-right, eqb-eq, eq-eqb, beq-eq}
 use Rattle.meaning.proofs.Values.{reduced-to, value-set}
 
 -- ---- every assignment

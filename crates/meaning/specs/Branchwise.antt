@@ -1,5 +1,5 @@
 -- What the code computes branch by branch. Contracts do not cite this file: proofs/ shows each to be the literal definition.
-use mathlib.Core.Bool.{Bool, true, false, not, _&&_, _||_, cond}
+use mathlib.Core.Bool.{Bool, false, not, _&&_, _||_, cond}
 use Prim.Native.Nat.{ℕ}
 use lib.Dec.{eqb}
 use Rattle.meaning.specs.Diagram.{Diagram, leaf, node, same}
