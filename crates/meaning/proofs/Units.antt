@@ -101,6 +101,25 @@ forced-unit n f v s F = all-every n _ (λ a len. go s (holds a v) (value f a) (F
     go false true y h = ap not (h refl)
     go false false y h = refl
 
+-- ---- the units of a node
+
+module _ (w : ℕ) (l h : Diagram) (v : ℕ) (s : Bool) where
+  both-units : unitAt l v s ≡ true → unitAt h v s ≡ true → unitAt (node w l h) v s ≡ true
+  unfolding unitAt
+  both-units p q = rw (p, q)
+
+  root-unit : w ≡ v → cond s l h ≡ leaf false → unitAt (node w l h) v s ≡ true
+  unfolding unitAt
+  root-unit p q = or-right (unitAt l v s && unitAt h v s) (eqb w v && same (cond s l h) (leaf false)) (rw (eq-eqb w v p, eq-same (cond s l h) (leaf false) q))
+
+  unit-cases : {A : Type 0} → unitAt (node w l h) v s ≡ true → (unitAt l v s ≡ true → unitAt h v s ≡ true → A) → (w ≡ v → cond s l h ≡ leaf false → A) → A
+  unfolding unitAt
+  unit-cases u below root =
+      or-cases (unitAt l v s && unitAt h v s) (eqb w v && same (cond s l h) (leaf false)) u
+      (λ p. let b : (unitAt l v s ≡ true) × (unitAt h v s ≡ true) = and-both (unitAt l v s) (unitAt h v s) p in below (b .0) (b .1))
+      (λ p. let b : (eqb w v ≡ true) × (same (cond s l h) (leaf false) ≡ true) = and-both (eqb w v) (same (cond s l h) (leaf false)) p in
+      root (eqb-eq w v (b .0)) (same-eq (cond s l h) (leaf false) (b .1)))
+
 -- ---- the branchwise units are forced
 
 unitAt-forced : (f : Diagram) (v : ℕ) (s : Bool) (a : Assignment) → unitAt f v s ≡ true → holds a v ≡ not s → value f a ≡ false
@@ -108,12 +127,7 @@ unfolding unitAt valueFrom
 unitAt-forced (leaf true) v s a u e = sym u
 unitAt-forced (leaf false) v s a u e = refl
 unitAt-forced (node w l h) v s a u e =
-    or-cases (unitAt l v s && unitAt h v s) (eqb w v && same (cond s l h) (leaf false)) u
-    (λ p. let b : (unitAt l v s ≡ true) × (unitAt h v s ≡ true) = and-both (unitAt l v s) (unitAt h v s) p in
-    both (holds a w) (value h a) (value l a) (unitAt-forced h v s a (b .1) e) (unitAt-forced l v s a (b .0) e))
-    (λ p. let b : (eqb w v ≡ true) × (same (cond s l h) (leaf false) ≡ true) = and-both (eqb w v) (same (cond s l h) (leaf false)) p in
-    let w=v : w ≡ v = eqb-eq w v (b .0) in
-    here s (rw w=v e) (same-eq (cond s l h) (leaf false) (b .1)))
+    unit-cases w l h v s u (λ p q. both (holds a w) (value h a) (value l a) (unitAt-forced h v s a q e) (unitAt-forced l v s a p e)) (λ p q. here s (rw p e) q)
   where
     both : (x y z : Bool) → y ≡ false → z ≡ false → cond x y z ≡ false
     both true y z p q = p
@@ -168,9 +182,8 @@ forced-unitAt n (node w l h) v s o lo hi F = go (ℕ-discrete w v)
     (λ ne. forced-unitAt n h v s (reduced-from 1 (suc w) (suc n) h (omega arith) (o .4)) lo hi (forced-side n v w s l h o F ne lo true))
   where
     go : Dec (w ≡ v) → (w ≢ v → unitAt l v s ≡ true) → (w ≢ v → unitAt h v s ≡ true) → unitAt (node w l h) v s ≡ true
-    go (yes x) fl fh = or-right (unitAt l v s && unitAt h v s) (eqb w v && same (cond s l h) (leaf false))
-        (rw (eq-eqb w v x, eq-same (cond s l h) (leaf false) (forced-root n v w s l h o F x)))
-    go (no x) fl fh = or-left (unitAt l v s && unitAt h v s) (eqb w v && same (cond s l h) (leaf false)) (rw (fl x, fh x))
+    go (yes x) fl fh = root-unit w l h v s x (forced-root n v w s l h o F x)
+    go (no x) fl fh = both-units w l h v s (fl x) (fh x)
 
 pub isUnit-is : (n : ℕ) (f : Diagram) (v : ℕ) (s : Bool) → Reduced 1 (suc n) f → 1 ≤ v → v ≤ n → isUnit n f v s ≡ unitAt f v s
 isUnit-is n f v s o lo hi =
@@ -196,11 +209,9 @@ unfolding unitAt variableIn
 unit-in i e v s (leaf true) o nz u = u
 unit-in i e v s (leaf false) o nz u = absurd (nz refl)
 unit-in i e v s (node w l h) o nz u =
-    or-cases (unitAt l v s && unitAt h v s) (eqb w v && same (cond s l h) (leaf false)) u
-    (λ p. let b : (unitAt l v s ≡ true) × (unitAt h v s ≡ true) = and-both (unitAt l v s) (unitAt h v s) p in
-    or-right (eqb w v) (variableIn v l || variableIn v h)
-    (go (same? l (leaf false)) (λ n. unit-in (suc w) e v s l (o .3) n (b .0)) (λ n. unit-in (suc w) e v s h (o .4) n (b .1))))
-    (λ p. or-left (eqb w v) (variableIn v l || variableIn v h) (and-both (eqb w v) (same (cond s l h) (leaf false)) p .0))
+    unit-cases w l h v s u
+    (λ p q. or-right (eqb w v) (variableIn v l || variableIn v h) (go (same? l (leaf false)) (λ n. unit-in (suc w) e v s l (o .3) n p) (λ n. unit-in (suc w) e v s h (o .4) n q)))
+    (λ p q. or-left (eqb w v) (variableIn v l || variableIn v h) (eq-eqb w v p))
   where
     go : Dec (l ≡ leaf false) → (l ≢ leaf false → variableIn v l ≡ true) → (h ≢ leaf false → variableIn v h ≡ true) → (variableIn v l || variableIn v h) ≡ true
     go (yes p) fl fh = or-right (variableIn v l) (variableIn v h) (fh (λ q. o .2 (p ∙ sym q)))
