@@ -11,4 +11,5 @@ pub mod CofactorSteps
 pub mod Soundness
 pub mod Ends
 pub mod Widths
+pub mod Words
 pub mod Examples
