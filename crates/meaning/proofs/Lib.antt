@@ -1,6 +1,7 @@
 pub mod Canonical
 pub mod Booleans
 pub mod Values
+pub mod Assignments
 pub mod Pointwise
 pub mod PointwiseSteps
 pub mod Clauses

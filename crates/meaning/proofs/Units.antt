@@ -3,7 +3,6 @@
 use mathlib.Core.Path.{_≡_, refl, sym, ap, _∙_}
 use mathlib.Core.Logic.{_≢_}
 use mathlib.Core.Bool.{Bool, true, false, not, _&&_, _||_, cond, Bool·beq}
-use mathlib.Core.List.{List, [], _∷_, _++_, map}
 use Prim.Native.Nat.{ℕ, zero, suc, _-_, _≤_, _<_}
 use native.Mathlib.Omega.{arith}
 use native.Mathlib.Decide.{ℕ-discrete}
@@ -11,50 +10,12 @@ use lib.ListN.{length, set, replicate, length-set, length-replicate, getD-replic
 use lib.Seq.{getD-set-same, getD-set-other}
 use lib.Dec.{eqb}
 use Rattle.meaning.specs.Diagram.{Assignment, holds, Diagram, leaf, node, same?, same, valueFrom, value, Reduced}
-use Rattle.meaning.specs.Operations.{assignments, every, isUnit}
+use Rattle.meaning.specs.Operations.{isUnit}
 use Rattle.meaning.specs.Branchwise.{unitAt}
 use Rattle.meaning.proofs.Canonical.{reduced-from, unique}
 use Rattle.meaning.proofs.Booleans.{t≢f, both-ways, not-true, and-both, or-cases, or-left, or-right, eqb-eq, eq-eqb, beq-eq}
+use Rattle.meaning.proofs.Assignments.{every-all, all-every}
 use Rattle.meaning.proofs.Values.{reduced-to, value-set}
-
--- ---- every assignment
-
-every-append : (p : Assignment → Bool) (xs ys : List Assignment) → every p xs ≡ true → every p ys ≡ true → every p (xs ++ ys) ≡ true
-unfolding every
-every-append p [] ys e f = f
-every-append p (x ∷ xs) ys e f =
-    let b : (p x ≡ true) × (every p xs ≡ true) = and-both (p x) (every p xs) e in rw (b .0) (every-append p xs ys (b .1) f)
-
-append-every : (p : Assignment → Bool) (xs ys : List Assignment) → every p (xs ++ ys) ≡ true → (every p xs ≡ true) × (every p ys ≡ true)
-unfolding every
-append-every p [] ys e = (refl, e)
-append-every p (x ∷ xs) ys e =
-    let b : (p x ≡ true) × (every p (xs ++ ys) ≡ true) = and-both (p x) (every p (xs ++ ys)) e in
-    let c : (every p xs ≡ true) × (every p ys ≡ true) = append-every p xs ys (b .1) in
-    (rw (b .0) (c .0), c .1)
-
-every-map : (p : Assignment → Bool) (b : Bool) (xs : List Assignment) → every p (map (_∷_ b) xs) ≡ every (λ a. p (b ∷ a)) xs
-unfolding every
-every-map p b [] = refl
-every-map p b (x ∷ xs) = ap (_&&_ (p (b ∷ x))) (every-map p b xs)
-
-pub every-all : (n : ℕ) (p : Assignment → Bool) → every p (assignments n) ≡ true → (a : Assignment) → length a ≡ n → p a ≡ true
-unfolding every assignments
-every-all zero p e [] q = and-both (p []) true e .0
-every-all zero p e (b ∷ a) q = absurd (omega arith)
-every-all (suc n) p e [] q = absurd (omega arith)
-every-all (suc n) p e (false ∷ a) q =
-    every-all n (λ a. p (false ∷ a)) (sym (every-map p false (assignments n)) ∙ append-every p (map (_∷_ false) (assignments n)) (map (_∷_ true) (assignments n)) e .0) a (omega arith)
-every-all (suc n) p e (true ∷ a) q =
-    every-all n (λ a. p (true ∷ a)) (sym (every-map p true (assignments n)) ∙ append-every p (map (_∷_ false) (assignments n)) (map (_∷_ true) (assignments n)) e .1) a (omega arith)
-
-pub all-every : (n : ℕ) (p : Assignment → Bool) → ((a : Assignment) → length a ≡ n → p a ≡ true) → every p (assignments n) ≡ true
-unfolding every assignments
-all-every zero p h = rw (h [] refl)
-all-every (suc n) p h =
-    every-append p (map (_∷_ false) (assignments n)) (map (_∷_ true) (assignments n))
-    (every-map p false (assignments n) ∙ all-every n (λ a. p (false ∷ a)) (λ a q. h (false ∷ a) (ap suc q)))
-    (every-map p true (assignments n) ∙ all-every n (λ a. p (true ∷ a)) (λ a q. h (true ∷ a) (ap suc q)))
 
 -- ---- what a unit says
 

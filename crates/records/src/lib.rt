@@ -55,7 +55,11 @@ fn node_in(body: &[u8]) -> Record
     if body.len() < 5 {
         return Record::CutShort;
     }
-    Record::NodeEntry(NodeBody { variable: body[0], low: entry_in(body, 1), high: entry_in(body, 3) })
+    Record::NodeEntry(NodeBody {
+        variable: body[0],
+        low: entry_in(body, 1),
+        high: entry_in(body, 3),
+    })
 }
 
 // The witness record of a body, which sets its variable to `value`.
