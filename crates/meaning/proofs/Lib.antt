@@ -12,5 +12,6 @@ pub mod CofactorSteps
 pub mod Soundness
 pub mod Ends
 pub mod Widths
+pub mod LineWidths
 pub mod Words
 pub mod Examples
