@@ -7,11 +7,11 @@ use Rattle.table.proofs.test.stands_above.Reads as stands-above-reads
 
 -- src/test.rt:63:13
 shared-slice-read-v : tie.Need-shared-slice-read-v
-shared-slice-read-v c = search needs
+shared-slice-read-v c = ?
 
 -- src/test.rt:64:13
 mul-l : tie.Need-mul-l
-mul-l c = search needs
+mul-l c = ?
 
 -- src/test.rt:64:13
 shared-slice-read-l : tie.Need-shared-slice-read-l
@@ -19,7 +19,7 @@ shared-slice-read-l c = ?
 
 -- src/test.rt:65:13
 mul-h : tie.Need-mul-h
-mul-h c = search needs
+mul-h c = ?
 
 -- src/test.rt:65:13
 shared-slice-read-h : tie.Need-shared-slice-read-h

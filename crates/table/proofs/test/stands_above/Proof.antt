@@ -10,7 +10,7 @@ returns c = ?
 
 -- src/test.rt:54:9
 shared-slice-read-result : tie.Need-shared-slice-read-result
-shared-slice-read-result c = search needs
+shared-slice-read-result c = ?
 
 -- src/test.rt:46:1
 returns-2 : tie.Need-returns-2
