@@ -1,2 +1,5 @@
 pub mod Canonical
+pub mod Nearest
+pub mod Cofactor
+pub mod CofactorSteps
 pub mod Examples

@@ -15,10 +15,6 @@ key-is v l h low high sum key a b d e =
     ∙ ap (λ (k : ℕ). (k + (h * 4256249) % 4294967296) % 4294967296) (add-mod-mod v (l * 12582917) 4294967296)
     ∙ add-mod-mod ((v + l * 12582917) % 4294967296) (h * 4256249) 4294967296 ∙ mod-add-mod (v + l * 12582917) 4294967296 (h * 4256249)
 
-key-is : (v l h low high sum key : ℕ) → low ≡ (l * 12582917) % 4294967296 → high ≡ (h * 4256249) % 4294967296
-    → sum ≡ (v + low) % 2 ^ 32 → key ≡ (sum + high) % 2 ^ 32 → key ≡ (v + l * 12582917 + h * 4256249) % 4294967296
-key-is v l h low high sum key a b d e = omega arith
-
 wrapping-product-requires : tie.Need-wrapping-product-requires
 wrapping-product-requires c κs = search needs
 

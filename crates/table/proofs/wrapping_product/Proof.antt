@@ -11,11 +11,6 @@ fits-product a b p q =
     let h : a * b ≤ 4294967295 * 4294967295 = mul-le-mul {n₂ = 4294967295} {m₂ = 4294967295} (omega arith) (omega arith) in
     omega arith
 
-fits-product : (a b : ℕ) → a < 2 ^ 32 → b < 2 ^ 32 → a * b < 2 ^ 64
-fits-product a b p q =
-    let h : a * b ≤ 4294967295 * 4294967295 = mul-le-mul (omega arith) (omega arith) in
-    omega arith
-
 mul-result : tie.Need-mul-result
 mul-result c = fits-product _ _ (c .fits .a .fits) (c .fits .b .fits)
 
