@@ -100,10 +100,10 @@ module _ (T : Table) (L : Linked T) where
       elim (ℕ-discrete (chainOf (suc (suc j))) (bucket (2 * size T) (x .var) (x .low) (x .high))) [
         | yes q ↦ ap (λ (k : ℕ). find (take (suc k) nodes) x) (sym (last-here chainOf (bucket (2 * size T) (x .var) (x .low) (x .high)) j q))
         | no q ↦
-          find-end x (suc (suc j)) (omega arith) (omega arith)
-          (differ-alike (at nodes (suc (suc j))) x (λ e. q (ap (λ (y : Node). bucket (2 * size T) (y .var) (y .low) (y .high)) e)))
-          ∙ find-last x j (omega arith)
-          ∙ ap (λ (k : ℕ). find (take (suc k) nodes) x) (sym (last-before chainOf (bucket (2 * size T) (x .var) (x .low) (x .high)) j q))
+            find-end x (suc (suc j)) (omega arith) (omega arith)
+            (differ-alike (at nodes (suc (suc j))) x (λ e. q (ap (λ (y : Node). bucket (2 * size T) (y .var) (y .low) (y .high)) e)))
+            ∙ find-last x j (omega arith)
+            ∙ ap (λ (k : ℕ). find (take (suc k) nodes) x) (sym (last-before chainOf (bucket (2 * size T) (x .var) (x .low) (x .high)) j q))
       ]
 
 -- ---- the walk down the chain

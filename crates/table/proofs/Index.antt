@@ -52,9 +52,9 @@ last-is f b (suc j) ne =
     elim (ℕ-discrete (f (suc (suc j))) b) [
       | yes q ↦ subst (Last f b (suc j)) (sym (last-here f b j q)) (record { from = omega arith; below = omega arith; is = q })
       | no q ↦
-        let s : lastIn f b (suc j) ≡ lastIn f b j = last-before f b j q in
-        let r : Last f b j (lastIn f b j) = last-is f b j (λ z. ne (s ∙ z)) in
-        subst (Last f b (suc j)) (sym s) (record { from = r .from; below = omega (arith, r .below); is = r .is })
+          let s : lastIn f b (suc j) ≡ lastIn f b j = last-before f b j q in
+          let r : Last f b j (lastIn f b j) = last-is f b j (λ z. ne (s ∙ z)) in
+          subst (Last f b (suc j)) (sym s) (record { from = r .from; below = omega (arith, r .below); is = r .is })
     ]
 
 pub last-less : (f : ℕ → ℕ) (b j : ℕ) → lastIn f b j < suc (suc j)
@@ -126,9 +126,9 @@ module _ (t : List Node) (n m : ℕ) where
   links-is p (suc j) k lt two h =
       elim (ℕ-discrete k (suc (suc j))) [
         | yes q ↦
-          let r : suc (suc j) - 2 ≡ j = omega arith in
-          subst (λ (i : ℕ). getD (index (suc j) .links) i 0 ≡ lastIn chain (chain i) (i - 2)) (sym q)
-          (links-same j lt ∙ heads-is j (chain (suc (suc j))) (bucket-less n _ _ _ p) ∙ ap (lastIn chain (chain (suc (suc j)))) (sym r))
+            let r : suc (suc j) - 2 ≡ j = omega arith in
+            subst (λ (i : ℕ). getD (index (suc j) .links) i 0 ≡ lastIn chain (chain i) (i - 2)) (sym q)
+            (links-same j lt ∙ heads-is j (chain (suc (suc j))) (bucket-less n _ _ _ p) ∙ ap (lastIn chain (chain (suc (suc j)))) (sym r))
         | no q ↦ links-other j k q ∙ links-is p j k (omega arith) two (omega (arith, q))
       ]
 

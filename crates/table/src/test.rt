@@ -103,7 +103,17 @@ fn admit(
     let v = vars[k];
     let l = lows[k];
     let h = highs[k];
-    match crate::lookup(vars, lows, highs, heads, links, k, v, crate::NodeNo(l), crate::NodeNo(h)) {
+    match crate::lookup(
+        vars,
+        lows,
+        highs,
+        heads,
+        links,
+        k,
+        v,
+        crate::NodeNo(l),
+        crate::NodeNo(h),
+    ) {
         crate::Found::At(_) => false,
         crate::Found::Nothing => {
             crate::link(heads, links, k, v, l, h);

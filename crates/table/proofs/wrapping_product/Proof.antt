@@ -12,7 +12,8 @@ fits-product a b p q =
     omega arith
 
 mul-result : tie.Need-mul-result
-mul-result c = fits-product _ _ (c .fits .a .fits) (c .fits .b .fits)
+mul-result c =
+    record { fits = fits-product _ _ (c .fits .a .fits) (c .fits .b .fits) }
 
 cast-result : tie.Need-cast-result
 cast-result c = search needs
