@@ -9,51 +9,51 @@ Inv-loop vars lows highs from to i₀ i = ?
 abbrev μ-loop : tie.MeasureT-loop
 μ-loop vars lows highs from to i₀ i = ?
 
--- src/test.rt:30:5
+-- src/test.rt:29:5
 loop-holds : tie.Need-loop-holds Inv-loop μ-loop
 loop-holds c = ?
 
--- src/test.rt:31:12
+-- src/test.rt:30:12
 shared-slice-read-if1 : tie.Need-shared-slice-read-if1 Inv-loop μ-loop
 shared-slice-read-if1 c = ?
 
--- src/test.rt:32:13
+-- src/test.rt:31:13
 returns : tie.Need-returns Inv-loop μ-loop
 returns c = ?
 
--- src/test.rt:34:12
+-- src/test.rt:33:12
 mul-if2 : tie.Need-mul-if2 Inv-loop μ-loop
 mul-if2 c = ?
 
--- src/test.rt:34:12
+-- src/test.rt:33:12
 shared-slice-read-if2 : tie.Need-shared-slice-read-if2 Inv-loop μ-loop
 shared-slice-read-if2 c = ?
 
--- src/test.rt:35:13
+-- src/test.rt:34:13
 returns-2 : tie.Need-returns-2 Inv-loop μ-loop
 returns-2 c = ?
 
--- src/test.rt:37:12
+-- src/test.rt:36:12
 mul-if3 : tie.Need-mul-if3 Inv-loop μ-loop
 mul-if3 c = ?
 
--- src/test.rt:37:12
+-- src/test.rt:36:12
 shared-slice-read-if3 : tie.Need-shared-slice-read-if3 Inv-loop μ-loop
 shared-slice-read-if3 c = ?
 
--- src/test.rt:38:13
+-- src/test.rt:37:13
 returns-3 : tie.Need-returns-3 Inv-loop μ-loop
 returns-3 c = ?
 
--- src/test.rt:40:9
+-- src/test.rt:39:9
 add-i : tie.Need-add-i Inv-loop μ-loop
 add-i c = ?
 
--- src/test.rt:30:5
+-- src/test.rt:29:5
 loop-less : tie.Need-loop-less Inv-loop μ-loop
 loop-less c = ?
 
--- src/test.rt:30:5
+-- src/test.rt:29:5
 loop-again : tie.Need-loop-again Inv-loop μ-loop
 loop-again c = ?
 

@@ -4,15 +4,15 @@ use Rattle.table.proofs.test.stands_above.Tie as tie
 use Rattle.table.proofs.test.stands_above.Reads as reads
 use Rattle.table.proofs.test.stands_above.Lts as lts
 
--- src/test.rt:52:9
+-- src/test.rt:50:9
 returns : tie.Need-returns
 returns c = ?
 
--- src/test.rt:54:9
+-- src/test.rt:52:9
 shared-slice-read-result : tie.Need-shared-slice-read-result
 shared-slice-read-result c = ?
 
--- src/test.rt:46:1
+-- src/test.rt:45:1
 returns-2 : tie.Need-returns-2
 returns-2 c = ?
 
