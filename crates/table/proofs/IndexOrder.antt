@@ -102,6 +102,10 @@ module _ (t : List Node) (k v l h : ℕ) where
   unfolding fits
   fit-above a b d e f g = rw (le-leb 1 v a, le-leb v 64 b, lt-ltb l k d, lt-ltb h k e, ne-eqb l h f, g, and-true)
 
+pub fits-read : (vs ls hs : List ℕ) → length ls ≡ length vs → length hs ≡ length vs → (k : ℕ)
+    → fits (rows vs ls hs) k (at (rows vs ls hs) k) ≡ fits (rows vs ls hs) k (nodeOf (getD vs k 0) (getD ls k 0) (getD hs k 0))
+fits-read vs ls hs p q k = ap (fits (rows vs ls hs) k) (rows-at vs ls hs p q k)
+
 -- a node fits where the places before it read the same
 fits-along : (t u : List Node) (k : ℕ) (x : Node) → ((i : ℕ) → i < k → at u i ≡ at t i) → Fits t k x → Fits u k x
 fits-along t u k x same F = record {
@@ -153,20 +157,23 @@ module _ (vs ls hs ds ks : List ℕ) (k : ℕ) (L : Linked (tableOf vs ls hs ds 
     let F : Fits (take (k + 1) places) k (at places k) = subst (Fits (take (k + 1) places) k) (longer-at k (omega arith)) (O .fits k (L .least) (omega (arith, longer-length))) in
     true-not-false (sym (true-fits places k (at places k) (fits-along (take (k + 1) places) places k (at places k) (λ i h. sym (longer-at i (omega arith))) F)) ∙ e))
 
-  pub found-order : (m : ℕ) → find (nodesOf T) (at places k) ≡ some m → nodesInOrder (take (k + 1) places) ≡ false
+  find-read : find (nodesOf T) (at places k) ≡ find (nodesOf T) (nodeOf (getD vs k 0) (getD ls k 0) (getD hs k 0))
+  find-read = ap (find (nodesOf T)) (rows-at vs ls hs (L .lows) (L .highs) k)
+
+  pub found-order : (m : ℕ) → find (nodesOf T) (nodeOf (getD vs k 0) (getD ls k 0) (getD hs k 0)) ≡ some m → nodesInOrder (take (k + 1) places) ≡ false
   found-order m e = not-in-order (take (k + 1) places) (omega (arith, longer-length, L .least)) (λ O.
-    let f : Found (nodesOf T) (at places k) (some m) = subst (Found (nodesOf T) (at places k)) e (found (nodesOf T) (at places k)) in
+    let f : Found (nodesOf T) (at places k) (some m) = subst (Found (nodesOf T) (at places k)) (find-read ∙ e) (found (nodesOf T) (at places k)) in
     let below : m < k = omega (arith, f .1, linked-length T L) in
     let same : m ≡ k = O .alike m k (f .0) (omega (arith, longer-length)) (L .least) (omega (arith, longer-length))
         (longer-at m (omega arith) ∙ sym (before-at m below) ∙ f .2 ∙ sym (longer-at k (omega arith))) in
     omega arith)
 
-  pub new-order : fits places k (at places k) ≡ true → find (nodesOf T) (at places k) ≡ none → nodesInOrder (take (k + 1) places) ≡ true
+  pub new-order : fits places k (at places k) ≡ true → find (nodesOf T) (nodeOf (getD vs k 0) (getD ls k 0) (getD hs k 0)) ≡ none → nodesInOrder (take (k + 1) places) ≡ true
   new-order e none-found =
       ap nodesInOrder longer
       ∙ in-order (nodesOf T ++ at places k ∷ []) (ordered-more (nodesOf T) (at places k) (linked-ordered T L)
       (subst (λ (n : ℕ). Fits (nodesOf T) n (at places k)) (sym (linked-length T L)) (fits-along places (nodesOf T) k (at places k) before-at (fits-true places k (at places k) e)))
-      (subst (Found (nodesOf T) (at places k)) none-found (found (nodesOf T) (at places k))))
+      (subst (Found (nodesOf T) (at places k)) (find-read ∙ none-found) (found (nodesOf T) (at places k))))
 
   pub linked-more : (ds′ ks′ : List ℕ) → nodesInOrder (take (k + 1) places) ≡ true
       → indexMade ds′ ks′ ≡ insert (indexMade ds ks) (bucket (length ds) (getD vs k 0) (getD ls k 0) (getD hs k 0)) k
@@ -192,16 +199,25 @@ module _ (vs ls hs ds ks : List ℕ) (k : ℕ) (L : Linked (tableOf vs ls hs ds 
 
 -- ---- all nodes
 
-pub broken-order : (t : List Node) (k count : ℕ) → 2 ≤ k → k < count → count ≤ length t → nodesInOrder (take (k + 1) t) ≡ false → nodesInOrder (take count t) ≡ false
-broken-order t k count two lt within e =
-    let len : length (take count t) ≡ count = length-take-le count t within in
-    not-in-order (take count t) (omega arith) (λ O.
-      true-not-false (sym (in-order (take (k + 1) t) (subst Ordered (take-take (k + 1) count t (omega arith)) (ordered-dropped (take count t) O (k + 1) (omega arith) (omega arith)))) ∙ e))
+pub broken-order : (vs ls hs : List ℕ) (k count : ℕ) → length ls ≡ length vs → length hs ≡ length vs → 2 ≤ k → k < count → count ≤ length vs
+    → nodesInOrder (take (k + 1) (rows vs ls hs)) ≡ false → nodesInOrder (take count (rows vs ls hs)) ≡ false
+broken-order vs ls hs k count p q two lt within e =
+    let len : length (take count (rows vs ls hs)) ≡ count = length-take-le count (rows vs ls hs) (omega (arith, length-rows vs ls hs p q)) in
+    not-in-order (take count (rows vs ls hs)) (omega arith) (λ O.
+      true-not-false (sym (in-order (take (k + 1) (rows vs ls hs)) (subst Ordered (take-take (k + 1) count (rows vs ls hs) (omega arith))
+      (ordered-dropped (take count (rows vs ls hs)) O (k + 1) (omega arith) (omega arith)))) ∙ e))
 
 -- What the loop over the nodes keeps.
 pub record Indexing (T : Table) (count : ℕ) : Type 0 where
   pub linked : Linked T
   pub below : T .count ≤ count
+
+pub indexing-end : (vs ls hs ds ks : List ℕ) (k count : ℕ) → Indexing (tableOf vs ls hs ds ks k) count → count ≤ k → Linked (tableOf vs ls hs ds ks count)
+indexing-end vs ls hs ds ks k count I le = let e : k ≡ count = omega (arith, I .below) in subst (λ (n : ℕ). Linked (tableOf vs ls hs ds ks n)) e (I .linked)
+
+pub linked-order : (vs ls hs ds ks : List ℕ) (count : ℕ) → Linked (tableOf vs ls hs ds ks count) → nodesInOrder (take count (rows vs ls hs)) ≡ true
+unfolding nodesOf
+linked-order vs ls hs ds ks count L = L .ordered
 
 pub linked-none : (vs ls hs ds ks : List ℕ) → Sized vs ls hs → allBlank (take 2 (rows vs ls hs)) ≡ true
     → ds ≡ replicate (2 * length vs) 0 → ks ≡ replicate (length vs) 0 → Linked (tableOf vs ls hs ds ks 2)

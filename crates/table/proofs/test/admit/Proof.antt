@@ -1,79 +1,68 @@
+-- `admit` keeps order and index where the node fits and is not found. Assumes nothing.
+use mathlib.Core.Path.{_≡_, refl, ap, sym, _∙_}
+use borrow.Author.Tests.{not-true, not-false}
+use Rattle.table.proofs.Order.{true-not-false}
+use Rattle.table.proofs.IndexStores.{found-some, found-none}
+use Rattle.table.proofs.IndexOrder.{unfit-order, found-order, new-order, linked-more}
 use borrow.Author.Needs.{needs}
 use Rattle.table.proofs.test.admit.Statement.{statement}
 use Rattle.table.proofs.test.admit.Tie as tie
-use Rattle.table.proofs.test.admit.Reads as reads
-use Rattle.table.proofs.test.admit.Lts as lts
-use Rattle.table.proofs.link.Reads as link-reads
-use Rattle.table.proofs.lookup.Reads as lookup-reads
-use Rattle.table.proofs.test.fits_at.Reads as fits-at-reads
 
--- src/test.rt:97:9
 fits-at-requires : tie.Need-fits-at-requires
-fits-at-requires c κs = ?
+fits-at-requires c κs =
+    (c .before .before .before .before .before .pre .0 .lows, c .before .before .before .before .before .pre .0 .highs, c .before .before .before .before .before .pre .1)
 
--- src/test.rt:98:9
 returns : tie.Need-returns
-returns c = ?
+returns c =
+    (sym (unfit-order _ _ _ _ _ _ (c .before .before .before .before .before .before .before .pre .0) (c .before .before .before .before .before .before .before .pre .1) (sym (c .before .fits-at .ensures) ∙ not-true _ (c .if1 .taken))), λ e. true-not-false (sym e))
 
--- src/test.rt:100:13
 shared-slice-read-v : tie.Need-shared-slice-read-v
-shared-slice-read-v c = ?
+shared-slice-read-v c = search needs
 
--- src/test.rt:101:13
 mul-l : tie.Need-mul-l
-mul-l c = ?
+mul-l c = search needs
 
--- src/test.rt:101:13
 shared-slice-read-l : tie.Need-shared-slice-read-l
-shared-slice-read-l c = ?
+shared-slice-read-l c = search needs
 
--- src/test.rt:102:13
 mul-h : tie.Need-mul-h
-mul-h c = ?
+mul-h c = search needs
 
--- src/test.rt:102:13
 shared-slice-read-h : tie.Need-shared-slice-read-h
-shared-slice-read-h c = ?
+shared-slice-read-h c = search needs
 
--- src/test.rt:103:11
 lookup-requires : tie.Need-lookup-requires
-lookup-requires c κs = ?
+lookup-requires c κs = search needs
 
--- src/test.rt:114:32
 enum-told : tie.Need-enum-told
-enum-told c = ?
+enum-told c = search needs
 
--- src/test.rt:116:25
 enum-told-2 : tie.Need-enum-told-2
-enum-told-2 c = ?
+enum-told-2 c = search needs
 
--- src/test.rt:116:13
 link-requires : tie.Need-link-requires
-link-requires c κs = ?
+link-requires c κs = search needs
 
--- src/test.rt:85:1
 same-length : tie.Need-same-length
-same-length c = ?
+same-length c = search needs
 
--- src/test.rt:85:1
 same-length-2 : tie.Need-same-length-2
-same-length-2 c = ?
+same-length-2 c = search needs
 
--- src/test.rt:85:1
 returns-2 : tie.Need-returns-2
-returns-2 c = ?
+returns-2 c =
+    (sym (found-order _ _ _ _ _ _ (c .before .before .before .before .before .before .before .before .before .before .before .before .before .before .before .pre .0) (c .before .before .before .before .before .before .before .before .before .before .before .before .before .before .before .pre .1) _ (found-some _ _ (sym (c .before .before .lookup .ensures) ∙ c .enum-told .given .1))), λ e. true-not-false (sym e))
 
--- src/test.rt:85:1
 same-length-3 : tie.Need-same-length-3
-same-length-3 c = ?
+same-length-3 c = search needs
 
--- src/test.rt:85:1
 same-length-4 : tie.Need-same-length-4
-same-length-4 c = ?
+same-length-4 c = search needs
 
--- src/test.rt:85:1
 returns-3 : tie.Need-returns-3
-returns-3 c = ?
+returns-3 c =
+    let in-order = new-order _ _ _ _ _ _ (c .before .before .before .before .before .before .before .before .before .before .before .before .before .before .before .before .before .before .before .before .before .before .pre .0) (c .before .before .before .before .before .before .before .before .before .before .before .before .before .before .before .before .before .before .before .before .before .before .pre .1) (sym (c .before .before .before .before .before .before .before .before .before .before .before .before .before .before .before .before .fits-at .ensures) ∙ not-false _ (c .before .before .before .before .before .before .before .before .before .before .before .before .before .before .before .if1 .left)) (found-none _ (sym (c .before .before .before .before .before .before .before .before .before .lookup .ensures) ∙ c .before .before .before .before .before .before .before .enum-told2 .given .1)) in
+    (sym in-order, λ _. linked-more _ _ _ _ _ _ (c .before .before .before .before .before .before .before .before .before .before .before .before .before .before .before .before .before .before .before .before .before .before .pre .0) (c .before .before .before .before .before .before .before .before .before .before .before .before .before .before .before .before .before .before .before .before .before .before .pre .1) _ _ in-order (c .before .before .before .before .link .ensures))
 
 pub admit-spec : {M : Type 1} → statement M
 admit-spec =
