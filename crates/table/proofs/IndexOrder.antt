@@ -154,19 +154,19 @@ module _ (vs ls hs ds ks : List ℕ) (k : ℕ) (L : Linked (tableOf vs ls hs ds 
 
   pub unfit-order : fits places k (at places k) ≡ false → nodesInOrder (take (k + 1) places) ≡ false
   unfit-order e = not-in-order (take (k + 1) places) (omega (arith, longer-length, L .least)) (λ O.
-    let F : Fits (take (k + 1) places) k (at places k) = subst (Fits (take (k + 1) places) k) (longer-at k (omega arith)) (O .fits k (L .least) (omega (arith, longer-length))) in
-    true-not-false (sym (true-fits places k (at places k) (fits-along (take (k + 1) places) places k (at places k) (λ i h. sym (longer-at i (omega arith))) F)) ∙ e))
+      let F : Fits (take (k + 1) places) k (at places k) = subst (Fits (take (k + 1) places) k) (longer-at k (omega arith)) (O .fits k (L .least) (omega (arith, longer-length))) in
+      true-not-false (sym (true-fits places k (at places k) (fits-along (take (k + 1) places) places k (at places k) (λ i h. sym (longer-at i (omega arith))) F)) ∙ e))
 
   find-read : find (nodesOf T) (at places k) ≡ find (nodesOf T) (nodeOf (getD vs k 0) (getD ls k 0) (getD hs k 0))
   find-read = ap (find (nodesOf T)) (rows-at vs ls hs (L .lows) (L .highs) k)
 
   pub found-order : (m : ℕ) → find (nodesOf T) (nodeOf (getD vs k 0) (getD ls k 0) (getD hs k 0)) ≡ some m → nodesInOrder (take (k + 1) places) ≡ false
   found-order m e = not-in-order (take (k + 1) places) (omega (arith, longer-length, L .least)) (λ O.
-    let f : Found (nodesOf T) (at places k) (some m) = subst (Found (nodesOf T) (at places k)) (find-read ∙ e) (found (nodesOf T) (at places k)) in
-    let below : m < k = omega (arith, f .1, linked-length T L) in
-    let same : m ≡ k = O .alike m k (f .0) (omega (arith, longer-length)) (L .least) (omega (arith, longer-length))
-        (longer-at m (omega arith) ∙ sym (before-at m below) ∙ f .2 ∙ sym (longer-at k (omega arith))) in
-    omega arith)
+      let f : Found (nodesOf T) (at places k) (some m) = subst (Found (nodesOf T) (at places k)) (find-read ∙ e) (found (nodesOf T) (at places k)) in
+      let below : m < k = omega (arith, f .1, linked-length T L) in
+      let same : m ≡ k = O .alike m k (f .0) (omega (arith, longer-length)) (L .least) (omega (arith, longer-length))
+      (longer-at m (omega arith) ∙ sym (before-at m below) ∙ f .2 ∙ sym (longer-at k (omega arith))) in
+      omega arith)
 
   pub new-order : fits places k (at places k) ≡ true → find (nodesOf T) (nodeOf (getD vs k 0) (getD ls k 0) (getD hs k 0)) ≡ none → nodesInOrder (take (k + 1) places) ≡ true
   new-order e none-found =
@@ -204,8 +204,8 @@ pub broken-order : (vs ls hs : List ℕ) (k count : ℕ) → length ls ≡ lengt
 broken-order vs ls hs k count p q two lt within e =
     let len : length (take count (rows vs ls hs)) ≡ count = length-take-le count (rows vs ls hs) (omega (arith, length-rows vs ls hs p q)) in
     not-in-order (take count (rows vs ls hs)) (omega arith) (λ O.
-      true-not-false (sym (in-order (take (k + 1) (rows vs ls hs)) (subst Ordered (take-take (k + 1) count (rows vs ls hs) (omega arith))
-      (ordered-dropped (take count (rows vs ls hs)) O (k + 1) (omega arith) (omega arith)))) ∙ e))
+    true-not-false (sym (in-order (take (k + 1) (rows vs ls hs)) (subst Ordered (take-take (k + 1) count (rows vs ls hs) (omega arith))
+    (ordered-dropped (take count (rows vs ls hs)) O (k + 1) (omega arith) (omega arith)))) ∙ e))
 
 -- What the loop over the nodes keeps.
 pub record Indexing (T : Table) (count : ℕ) : Type 0 where
