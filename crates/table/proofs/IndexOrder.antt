@@ -1,21 +1,21 @@
 -- The test of good order by one pass that makes the index: what each test of the code says of the rows, and that a node that fits and is
 -- not found keeps order and index. The idea: a failed test contradicts good order, and the last node of a prefix is the one tested.
 -- Assumes nothing.
-use Prim.Native.Nat.{ℕ, zero, suc, _+_, _-_, _*_, _≤_, _<_}
+use Prim.Native.Nat.{ℕ, suc, _+_, _-_, _*_, _≤_, _<_}
 use mathlib.Core.Path.{_≡_, refl, ap, sym, _∙_, subst}
-use mathlib.Core.Bool.{Bool, true, false, not, _&&_, and-true, and-false}
+use mathlib.Core.Bool.{Bool, true, false, _&&_, and-true, and-false}
 use mathlib.Core.List.{List, [], _∷_, _++_}
-use mathlib.Core.Option.{Option, none, some}
+use mathlib.Core.Option.{none, some}
 use native.Mathlib.Omega.{arith}
 use native.Mathlib.Numerals.{add-one}
-use lib.ListN.{length, getD, set, take, drop, replicate, length-set, length-replicate, length-drop}
+use lib.ListN.{length, getD, take, drop, replicate, length-set, length-replicate, length-drop}
 use lib.Seq.{take-suc, getD-take, length-take-le, take-take, take-all, drop-cons}
 use lib.Dec.{eqb, ltb, leb}
 use borrow.Author.Tests.{eq-eqb, ne-eqb, lt-ltb, le-ltb, le-leb, lt-leb, eqb-true, leb-true}
 use Rattle.table.specs.Nodes.{Node, nodeOf, blank, at, alike, find, above, allBlank, fits, nodesInOrder, goodOrder}
 use Rattle.table.specs.Columns.{rows, sizeFits}
-use Rattle.table.specs.Indexed.{bucket, Index, indexMade, insert, indexFrom, indexOf, Table, tableOf, size, nodesOf, Good, Linked}
-use Rattle.table.proofs.Order.{true-not-false, and-parts, all-blank, Fits, fits-true, true-fits, Ordered, ordered, in-order, GoodOrder}
+use Rattle.table.specs.Indexed.{bucket, Index, indexMade, insert, indexFrom, indexOf, Table, tableOf, nodesOf, Good, Linked}
+use Rattle.table.proofs.Order.{true-not-false, and-parts, all-blank, Fits, fits-true, true-fits, Ordered, ordered, in-order}
 use Rattle.table.proofs.Written.{length-rows, good-table}
 use Rattle.table.proofs.Growth.{ordered-more, ordered-dropped}
 use Rattle.table.proofs.Placing.{Found, found}
@@ -154,19 +154,19 @@ module _ (vs ls hs ds ks : List ℕ) (k : ℕ) (L : Linked (tableOf vs ls hs ds 
 
   pub unfit-order : fits places k (at places k) ≡ false → nodesInOrder (take (k + 1) places) ≡ false
   unfit-order e = not-in-order (take (k + 1) places) (omega (arith, longer-length, L .least)) (λ O.
-    let F : Fits (take (k + 1) places) k (at places k) = subst (Fits (take (k + 1) places) k) (longer-at k (omega arith)) (O .fits k (L .least) (omega (arith, longer-length))) in
-    true-not-false (sym (true-fits places k (at places k) (fits-along (take (k + 1) places) places k (at places k) (λ i h. sym (longer-at i (omega arith))) F)) ∙ e))
+      let F : Fits (take (k + 1) places) k (at places k) = subst (Fits (take (k + 1) places) k) (longer-at k (omega arith)) (O .fits k (L .least) (omega (arith, longer-length))) in
+      true-not-false (sym (true-fits places k (at places k) (fits-along (take (k + 1) places) places k (at places k) (λ i h. sym (longer-at i (omega arith))) F)) ∙ e))
 
   find-read : find (nodesOf T) (at places k) ≡ find (nodesOf T) (nodeOf (getD vs k 0) (getD ls k 0) (getD hs k 0))
   find-read = ap (find (nodesOf T)) (rows-at vs ls hs (L .lows) (L .highs) k)
 
   pub found-order : (m : ℕ) → find (nodesOf T) (nodeOf (getD vs k 0) (getD ls k 0) (getD hs k 0)) ≡ some m → nodesInOrder (take (k + 1) places) ≡ false
   found-order m e = not-in-order (take (k + 1) places) (omega (arith, longer-length, L .least)) (λ O.
-    let f : Found (nodesOf T) (at places k) (some m) = subst (Found (nodesOf T) (at places k)) (find-read ∙ e) (found (nodesOf T) (at places k)) in
-    let below : m < k = omega (arith, f .1, linked-length T L) in
-    let same : m ≡ k = O .alike m k (f .0) (omega (arith, longer-length)) (L .least) (omega (arith, longer-length))
-        (longer-at m (omega arith) ∙ sym (before-at m below) ∙ f .2 ∙ sym (longer-at k (omega arith))) in
-    omega arith)
+      let f : Found (nodesOf T) (at places k) (some m) = subst (Found (nodesOf T) (at places k)) (find-read ∙ e) (found (nodesOf T) (at places k)) in
+      let below : m < k = omega (arith, f .1, linked-length T L) in
+      let same : m ≡ k = O .alike m k (f .0) (omega (arith, longer-length)) (L .least) (omega (arith, longer-length))
+      (longer-at m (omega arith) ∙ sym (before-at m below) ∙ f .2 ∙ sym (longer-at k (omega arith))) in
+      omega arith)
 
   pub new-order : fits places k (at places k) ≡ true → find (nodesOf T) (nodeOf (getD vs k 0) (getD ls k 0) (getD hs k 0)) ≡ none → nodesInOrder (take (k + 1) places) ≡ true
   new-order e none-found =
@@ -180,7 +180,6 @@ module _ (vs ls hs ds ks : List ℕ) (k : ℕ) (L : Linked (tableOf vs ls hs ds 
       → Linked (tableOf vs ls hs ds′ ks′ (k + 1))
   unfolding nodesOf
   linked-more ds′ ks′ o e =
-      let b : ℕ = bucket (length ds) (getD vs k 0) (getD ls k 0) (getD hs k 0) in
       record {
         least = omega (arith, L .least);
         within = omega arith;
@@ -204,8 +203,8 @@ pub broken-order : (vs ls hs : List ℕ) (k count : ℕ) → length ls ≡ lengt
 broken-order vs ls hs k count p q two lt within e =
     let len : length (take count (rows vs ls hs)) ≡ count = length-take-le count (rows vs ls hs) (omega (arith, length-rows vs ls hs p q)) in
     not-in-order (take count (rows vs ls hs)) (omega arith) (λ O.
-      true-not-false (sym (in-order (take (k + 1) (rows vs ls hs)) (subst Ordered (take-take (k + 1) count (rows vs ls hs) (omega arith))
-      (ordered-dropped (take count (rows vs ls hs)) O (k + 1) (omega arith) (omega arith)))) ∙ e))
+    true-not-false (sym (in-order (take (k + 1) (rows vs ls hs)) (subst Ordered (take-take (k + 1) count (rows vs ls hs) (omega arith))
+    (ordered-dropped (take count (rows vs ls hs)) O (k + 1) (omega arith) (omega arith)))) ∙ e))
 
 -- What the loop over the nodes keeps.
 pub record Indexing (T : Table) (count : ℕ) : Type 0 where
