@@ -1,21 +1,21 @@
 -- One walk down a chain of a table with its index finds what the walk from place 2 finds. The idea: at each place of the chain, what is to
 -- be found is what is left to be found; no two nodes are alike, so a hit is the first. Assumes nothing.
-use Prim.Native.Nat.{ℕ, zero, suc, _+_, _-_, _*_, _≤_, _<_}
-use mathlib.Core.Path.{_≡_, refl, ap, sym, _∙_, subst}
-use mathlib.Core.Bool.{Bool, true, false, cond}
-use mathlib.Core.List.{List, [], _∷_, _++_, map}
+use Prim.Native.Nat.{ℕ, zero, suc, _-_, _*_, _≤_, _<_}
+use mathlib.Core.Path.{_≡_, ap, sym, _∙_, subst}
+use mathlib.Core.Bool.{true, false}
+use mathlib.Core.List.{List}
 use mathlib.Core.Option.{Option, none, some}
 use native.Mathlib.Omega.{arith}
 use native.Mathlib.Decide.{ℕ-discrete}
 use lib.ListN.{length, getD, take, List·getD-map}
-use lib.Seq.{take-suc, getD-take, length-take-le, take-take, take-length}
+use lib.Seq.{take-suc, getD-take, length-take-le, take-length}
 use Rattle.table.specs.Nodes.{Node, nodeOf, blank, at, alike, find}
 use Rattle.table.specs.Columns.{rows, Columns, columnsOf}
 use Rattle.table.specs.Indexed.{bucket, bucketAt, Index, indexMade, indexFrom, Table, size, nodesOf, Good, Linked, indexed}
-use Rattle.table.proofs.Order.{same-alike, alike-true, differ-alike, Ordered, ordered}
+use Rattle.table.proofs.Order.{alike-true, differ-alike, Ordered, ordered}
 use Rattle.table.proofs.Written.{columns-rows, length-rows}
 use Rattle.table.proofs.Placing.{Found, found}
-use Rattle.table.proofs.Index.{bucket-less, lastIn, Last, last-is, last-less, last-here, last-before, last-none, heads-is, links-is, find-miss, find-short}
+use Rattle.table.proofs.Index.{bucket-less, lastIn, last-is, last-less, last-here, last-before, last-none, heads-is, links-is, find-miss, find-short}
 
 -- ---- the columns' reads
 

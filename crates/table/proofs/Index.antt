@@ -3,19 +3,18 @@
 -- next. Assumes nothing.
 use Prim.Native.Nat.{ℕ, zero, suc, _+_, _-_, _*_, _%_, _≤_, _<_}
 use mathlib.Core.Path.{_≡_, refl, ap, sym, _∙_, subst}
-use mathlib.Core.Bool.{Bool, true, false, cond}
+use mathlib.Core.Bool.{false, cond}
 use mathlib.Core.List.{List, [], _∷_, _++_}
-use mathlib.Core.Option.{Option, none, some}
+use mathlib.Core.Option.{none, some}
 use native.Mathlib.Omega.{arith}
 use native.Mathlib.Nat.{mod-lt}
 use native.Mathlib.Decide.{ℕ-discrete}
-use lib.ListN.{length, getD, set, take, replicate}
-use lib.Seq.{getD-set-same, getD-set-other, set-set, set-getD, take-suc, getD-take, length-take-le}
+use lib.ListN.{length, getD, set, replicate}
+use lib.Seq.{getD-set-same, getD-set-other, set-set, set-getD}
 use lib.Dec.{eqb}
 use borrow.Author.Tests.{eq-eqb, ne-eqb}
-use Rattle.table.specs.Nodes.{Node, blank, at, alike, findFrom, find}
+use Rattle.table.specs.Nodes.{Node, at, alike, findFrom, find}
 use Rattle.table.specs.Indexed.{bucket, bucketAt, Index, indexMade, insert, indexFrom}
-use Rattle.table.proofs.Order.{alike-true, differ-alike}
 use Rattle.table.proofs.Written.{length-indexFrom}
 
 pub bucket-less : (n v l h : ℕ) → 0 < n → bucket n v l h < n

@@ -1,21 +1,21 @@
 -- The test of good order by one pass that makes the index: what each test of the code says of the rows, and that a node that fits and is
 -- not found keeps order and index. The idea: a failed test contradicts good order, and the last node of a prefix is the one tested.
 -- Assumes nothing.
-use Prim.Native.Nat.{ℕ, zero, suc, _+_, _-_, _*_, _≤_, _<_}
+use Prim.Native.Nat.{ℕ, suc, _+_, _-_, _*_, _≤_, _<_}
 use mathlib.Core.Path.{_≡_, refl, ap, sym, _∙_, subst}
-use mathlib.Core.Bool.{Bool, true, false, not, _&&_, and-true, and-false}
+use mathlib.Core.Bool.{Bool, true, false, _&&_, and-true, and-false}
 use mathlib.Core.List.{List, [], _∷_, _++_}
-use mathlib.Core.Option.{Option, none, some}
+use mathlib.Core.Option.{none, some}
 use native.Mathlib.Omega.{arith}
 use native.Mathlib.Numerals.{add-one}
-use lib.ListN.{length, getD, set, take, drop, replicate, length-set, length-replicate, length-drop}
+use lib.ListN.{length, getD, take, drop, replicate, length-set, length-replicate, length-drop}
 use lib.Seq.{take-suc, getD-take, length-take-le, take-take, take-all, drop-cons}
 use lib.Dec.{eqb, ltb, leb}
 use borrow.Author.Tests.{eq-eqb, ne-eqb, lt-ltb, le-ltb, le-leb, lt-leb, eqb-true, leb-true}
 use Rattle.table.specs.Nodes.{Node, nodeOf, blank, at, alike, find, above, allBlank, fits, nodesInOrder, goodOrder}
 use Rattle.table.specs.Columns.{rows, sizeFits}
-use Rattle.table.specs.Indexed.{bucket, Index, indexMade, insert, indexFrom, indexOf, Table, tableOf, size, nodesOf, Good, Linked}
-use Rattle.table.proofs.Order.{true-not-false, and-parts, all-blank, Fits, fits-true, true-fits, Ordered, ordered, in-order, GoodOrder}
+use Rattle.table.specs.Indexed.{bucket, Index, indexMade, insert, indexFrom, indexOf, Table, tableOf, nodesOf, Good, Linked}
+use Rattle.table.proofs.Order.{true-not-false, and-parts, all-blank, Fits, fits-true, true-fits, Ordered, ordered, in-order}
 use Rattle.table.proofs.Written.{length-rows, good-table}
 use Rattle.table.proofs.Growth.{ordered-more, ordered-dropped}
 use Rattle.table.proofs.Placing.{Found, found}
@@ -180,7 +180,6 @@ module _ (vs ls hs ds ks : List ℕ) (k : ℕ) (L : Linked (tableOf vs ls hs ds 
       → Linked (tableOf vs ls hs ds′ ks′ (k + 1))
   unfolding nodesOf
   linked-more ds′ ks′ o e =
-      let b : ℕ = bucket (length ds) (getD vs k 0) (getD ls k 0) (getD hs k 0) in
       record {
         least = omega (arith, L .least);
         within = omega arith;

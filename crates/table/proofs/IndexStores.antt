@@ -2,7 +2,7 @@
 -- out. The idea: a store into padded nodes at their length is one node more, and a blank stored over the last node undoes it. Assumes
 -- nothing.
 use Prim.Native.Nat.{ℕ, zero, suc, _+_, _-_, _*_, _≤_, _<_}
-use mathlib.Core.Path.{_≡_, refl, ap, sym, _∙_, subst}
+use mathlib.Core.Path.{_≡_, refl, ap, sym, _∙_}
 use mathlib.Core.Bool.{Bool, true, false}
 use mathlib.Core.List.{List, [], _∷_, _++_, map}
 use mathlib.Core.Option.{Option, none, some}
@@ -11,13 +11,11 @@ use lib.ListN.{length, getD, set, take, replicate, length-append, length-set, Li
 use lib.Seq.{take-suc, getD-take, length-take-le, take-take, take-length, take-all, set-set, set-getD, set-append-seam, append-snoc, getD-append-seam}
 use borrow.Author.Tests.{lt-ltb, le-ltb}
 use Rattle.table.specs.declared.NodeNo.{NodeNo}
-use Rattle.table.specs.declared.Found.{Found}
 use Rattle.table.specs.declared.Found.the-variants.{At, Nothing}
 use Rattle.table.specs.Nodes.{Node, nodeOf, blank, at, find, put, orAppend, placed, full}
-use Rattle.table.specs.Columns.{rows, padded, Columns, columnsOf}
+use Rattle.table.specs.Columns.{padded, Columns, columnsOf}
 use Rattle.table.specs.Indexed.{bucket, bucketAt, Index, indexMade, insert, indexFrom, indexOf, Table, tableOf, size, nodesOf, indexed, Good, Outcome, written, foundOf}
-use Rattle.table.proofs.Order.{Ordered}
-use Rattle.table.proofs.Written.{at-padded, rows-columns, length-nodes, size-indexed, lows-indexed, highs-indexed, heads-indexed, links-indexed}
+use Rattle.table.proofs.Written.{at-padded, rows-columns, length-nodes, size-indexed, lows-indexed, highs-indexed}
 use Rattle.table.proofs.Placing.{put-same, put-differ}
 use Rattle.table.proofs.Index.{index-last, index-same, remove, index-remove}
 use Rattle.table.proofs.Chain.{rows-at}
@@ -86,7 +84,6 @@ module _ (T : Table) (G : Good T) where
       → tableOf (set (T .vars) (T .count) v) (set (T .lows) (T .count) l) (set (T .highs) (T .count) h) ds ks (T .count + 1) ≡ indexed (size T) (nodesOf T ++ nodeOf v l h ∷ [])
   unfolding indexed
   appended v l h ds ks lt e =
-      let t : List Node = nodesOf T in
       let len : length (nodesOf T) ≡ T .count = length-nodes T G in
       let columns : storedAt (columnsOf (padded (size T) (nodesOf T))) (length (nodesOf T)) (nodeOf v l h) ≡ columnsOf (padded (size T) (nodesOf T ++ nodeOf v l h ∷ [])) =
       sym (columns-set (padded (size T) (nodesOf T)) (length (nodesOf T)) (nodeOf v l h)) ∙ ap columnsOf (padded-more (size T) (nodesOf T) (nodeOf v l h) (omega arith)) in
@@ -186,7 +183,6 @@ module _ (s : ℕ) (u : List Node) (k : ℕ) (e : length u ≡ suc k) (two : 2 �
   unfolding indexed
   read-last =
       let room : length u ≤ s = omega arith in
-      let c : Columns = columnsOf (padded s u) in
       sym (rows-at (indexed s u .vars) (indexed s u .lows) (indexed s u .highs) (lows-indexed s u room ∙ sym (size-indexed s u room)) (highs-indexed s u room ∙ sym (size-indexed s u room)) k)
       ∙ ap (λ (r : List Node). at r k) (rows-columns (padded s u)) ∙ at-padded s u k
 

@@ -1,7 +1,6 @@
 -- `bucket_of` is the chain of a node: sums and products modulo 2^32 are the sum modulo 2^32. Assumes nothing.
-use Prim.Native.Nat.{ℕ, _+_, _*_, _%_, _<_, _^_}
-use mathlib.Core.Path.{_≡_, refl, ap, sym, _∙_}
-use native.Mathlib.Omega.{arith}
+use Prim.Native.Nat.{ℕ, _+_, _*_, _%_, _^_}
+use mathlib.Core.Path.{_≡_, ap, _∙_}
 use native.Mathlib.Nat.{mod-lt, add-mod-mod, mod-add-mod}
 use Rattle.table.specs.Indexed.{bucket}
 use borrow.Author.Needs.{needs}

@@ -1,6 +1,6 @@
 -- `link` puts a place to the front of its chain. Assumes nothing.
 use Prim.Native.Nat.{ℕ}
-use mathlib.Core.Path.{_≡_, ap}
+use mathlib.Core.Path.{ap}
 use lib.ListN.{getD, set}
 use Rattle.table.specs.Indexed.{indexMade}
 use borrow.Author.Needs.{needs}

@@ -1,5 +1,5 @@
 -- `lookup` finds by the index what the walk from place 2 finds: the loop goes down one chain (Chain). Assumes nothing.
-use mathlib.Core.Path.{_≡_, refl, ap, sym, _∙_}
+use mathlib.Core.Path.{ap, sym}
 use mathlib.Core.Logic.{⊎-elim}
 use borrow.Author.Tests.{eq-eqb, ne-eqb}
 use Rattle.table.specs.Nodes.{nodeOf, alike}

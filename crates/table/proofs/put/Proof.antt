@@ -1,5 +1,5 @@
 -- `put` gives the child, the place found, a new place, or `full`, as the definition does. Assumes nothing.
-use mathlib.Core.Path.{_≡_, sym, _∙_}
+use mathlib.Core.Path.{sym, _∙_}
 use native.Mathlib.Omega.{arith}
 use Rattle.table.proofs.Chain.{good-linked}
 use Rattle.table.proofs.IndexStores.{found-some, found-none, put-equal, put-found, put-new, put-full}

@@ -1,5 +1,5 @@
 -- `admit` keeps order and index where the node fits and is not found. Assumes nothing.
-use mathlib.Core.Path.{_≡_, refl, ap, sym, _∙_}
+use mathlib.Core.Path.{sym, _∙_}
 use borrow.Author.Tests.{not-true, not-false}
 use Rattle.table.proofs.Order.{true-not-false}
 use Rattle.table.proofs.IndexStores.{found-some, found-none}

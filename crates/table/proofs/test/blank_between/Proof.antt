@@ -1,5 +1,5 @@
 -- `blank_between` tests the places one by one. Assumes nothing.
-use mathlib.Core.Path.{_≡_, refl, ap, sym, _∙_}
+use mathlib.Core.Path.{_≡_, refl, sym, _∙_}
 use mathlib.Core.Bool.{and-false}
 use Prim.Native.Nat.{_-_}
 use lib.ListN.{take, drop}

@@ -1,5 +1,5 @@
 -- `fits_at` is the definition's test: each refusal makes one part of it false. Assumes nothing.
-use mathlib.Core.Path.{_≡_, refl, ap, sym, _∙_}
+use mathlib.Core.Path.{sym, _∙_}
 use native.Mathlib.Omega.{arith}
 use borrow.Author.Tests.{not-true, not-false}
 use Rattle.table.proofs.IndexOrder.{fits-read, unfit-zero, unfit-great, unfit-low, unfit-high, unfit-equal, unfit-above, fit-above}

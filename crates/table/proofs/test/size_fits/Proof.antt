@@ -1,5 +1,5 @@
 -- `size_fits` is the definition's test. Assumes nothing.
-use mathlib.Core.Path.{_≡_, refl, ap, sym, _∙_}
+use mathlib.Core.Path.{sym}
 use borrow.Author.Tests.{eq-eqb, ne-eqb, le-leb, lt-leb}
 use Rattle.table.specs.Columns.{sizeFits}
 use Rattle.table.proofs.test.size_fits.Statement.{statement}

@@ -1,5 +1,5 @@
 -- `stands_above` is the definition's test. Assumes nothing.
-use mathlib.Core.Path.{_≡_, refl, ap, sym, _∙_}
+use mathlib.Core.Path.{sym}
 use Rattle.table.proofs.IndexOrder.{above-constant, above-node}
 use borrow.Author.Needs.{needs}
 use Rattle.table.proofs.test.stands_above.Statement.{statement}
