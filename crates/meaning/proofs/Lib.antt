@@ -1,2 +1,5 @@
 pub mod Canonical
+pub mod Values
+pub mod Pointwise
+pub mod PointwiseSteps
 pub mod Examples
