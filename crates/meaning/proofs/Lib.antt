@@ -2,4 +2,6 @@ pub mod Canonical
 pub mod Values
 pub mod Pointwise
 pub mod PointwiseSteps
+pub mod Nearest
+pub mod Cofactor
 pub mod Examples
