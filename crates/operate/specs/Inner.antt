@@ -72,15 +72,11 @@ sidesOf vars lows highs f g =
     }
 
 -- Which of the sides make the result: where a side of g is 0 the cofactor is that of the other; a literal takes its own side.
-unfoldable pub stepOf : List ℕ → List ℕ → List ℕ → Operation → ℕ → ℕ → Step
-stepOf vars lows highs Conjunction f g = Both (sidesOf vars lows highs f g)
-stepOf vars lows highs Negation f g = Both (sidesOf vars lows highs f g)
-stepOf vars lows highs Cofactor f g =
-    let s = sidesOf vars lows highs f g in
-    cond (eqb (s .g0 .0) 0) (One (s .f1) (s .g1)) (cond (eqb (s .g1 .0) 0) (One (s .f0) (s .g0)) (Both s))
-stepOf vars lows highs (Literals p n) f g =
-    let s = sidesOf vars lows highs f g in
-    cond (inWord p (s .x)) (One (s .f1) (s .g1)) (cond (inWord n (s .x)) (One (s .f0) (s .g0)) (Both s))
+unfoldable pub stepOf : Operation → Sides → Step
+stepOf Conjunction s = Both s
+stepOf Negation s = Both s
+stepOf Cofactor s = cond (eqb (s .g0 .0) 0) (One (s .f1) (s .g1)) (cond (eqb (s .g1 .0) 0) (One (s .f0) (s .g0)) (Both s))
+stepOf (Literals p n) s = cond (inWord p (s .x)) (One (s .f1) (s .g1)) (cond (inWord n (s .x)) (One (s .f0) (s .g0)) (Both s))
 
 -- ---- the memo: a direct-mapped table of packed entries, 0 where there is none
 

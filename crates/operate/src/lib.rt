@@ -5,7 +5,7 @@ use table::NodeNo;
 use table::Placed;
 ghost use mathlib.Core.Path.{_≡_};
 ghost use Prim.Native.Nat.{_+_, _-_, _*_, _≤_, _<_};
-ghost use lib.ListN.{length, set};
+ghost use lib.ListN.{length, set, replicate};
 ghost use Rattle.table.specs.Indexed.{tableOf, outcomeOf, written};
 ghost use Rattle.table.specs.Nodes.{place, diagramAt};
 ghost use Rattle.operate.specs.Operate.{inWord, result};
@@ -178,31 +178,44 @@ fn memo_put(memo: &mut [u64], f: NodeNo, g: NodeNo, r: NodeNo)
     memo[s] = a * 4294967296 + b * 65536 + c;
 }
 
-// What is left to do where neither the node numbers nor the memo tell the result.
-fn step(vars: &[u8], lows: &[u16], highs: &[u16], op: Operation, f: NodeNo, g: NodeNo) -> Step
-    requires { ⌜ (f .0 < length (now vars)) × (g .0 < length (now vars)) × (length (now lows) ≡ length (now vars)) × (length (now highs) ≡ length (now vars)) ⌝ }
-    requires { ⌜ (1 ≤ top (now vars) (f .0) (g .0)) × (top (now vars) (f .0) (g .0) ≤ 64) ⌝ }
-    ensures { λ r. ⌜ r ≡ stepOf (now (vars .entry)) (now (lows .entry)) (now (highs .entry)) op (f .0) (g .0) ⌝ }
+// Empties the memo.
+pub fn clear_memo(memo: &mut [u64])
+    ensures { λ _. ⌜ now (memo .exit) ≡ replicate (length (now (memo .entry))) 0 ⌝ }
 {
-    let s = sides_of(vars, lows, highs, f, g);
+    let mut i: usize = 0;
+    while i < memo.len() {
+        memo[i] = 0;
+        i += 1;
+    }
+}
+
+// What is left to do where neither the node numbers nor the memo tell the result.
+fn step_of(op: Operation, s: Sides) -> Step
+    requires { ⌜ (1 ≤ s .x) × (s .x ≤ 64) ⌝ }
+    ensures { λ r. ⌜ r ≡ stepOf op s ⌝ }
+{
+    let f0 = s.f0;
+    let g0 = s.g0;
+    let f1 = s.f1;
+    let g1 = s.g1;
     match op {
         Operation::Conjunction => Step::Both(s),
         Operation::Negation => Step::Both(s),
         Operation::Cofactor => {
-            if s.g0.0 == 0 {
-                return Step::One(s.f1, s.g1);
+            if g0.0 == 0 {
+                return Step::One(f1, g1);
             }
-            if s.g1.0 == 0 {
-                return Step::One(s.f0, s.g0);
+            if g1.0 == 0 {
+                return Step::One(f0, g0);
             }
             Step::Both(s)
         }
         Operation::Literals(p, n) => {
             if in_word(p, s.x) {
-                return Step::One(s.f1, s.g1);
+                return Step::One(f1, g1);
             }
             if in_word(n, s.x) {
-                return Step::One(s.f0, s.g0);
+                return Step::One(f0, g0);
             }
             Step::Both(s)
         }
@@ -259,7 +272,8 @@ fn descend(
     ensures { λ r. ⌜ outcomeOf (now (vars .exit)) (now (lows .exit)) (now (highs .exit)) (now (heads .exit)) (now (links .exit)) r ≡ applied (tableOf (now (vars .entry)) (now (lows .entry)) (now (highs .entry)) (now (heads .entry)) (now (links .entry)) count) op (f .0) (g .0) ⌝ }
     ensures { λ r. ⌜ MemoRight op (now (memo .exit)) (tableOf (now (vars .exit)) (now (lows .exit)) (now (highs .exit)) (now (heads .exit)) (now (links .exit)) (r .count)) ⌝ }
 {
-    match step(vars, lows, highs, op, f, g) {
+    let s = sides_of(vars, lows, highs, f, g);
+    match step_of(op, s) {
         Step::One(a, b) => apply(vars, lows, highs, heads, links, memo, count, op, a, b),
         Step::Both(s) => join(vars, lows, highs, heads, links, memo, count, op, s),
     }
@@ -289,5 +303,5 @@ fn join(
     if q.full {
         return q;
     }
-    table::put_node(vars, lows, highs, heads, links, q.count, s.x, p.node, q.node)
+    table::put(vars, lows, highs, heads, links, q.count, s.x, p.node, q.node)
 }
