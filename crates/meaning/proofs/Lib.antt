@@ -4,4 +4,5 @@ pub mod Pointwise
 pub mod PointwiseSteps
 pub mod Nearest
 pub mod Cofactor
+pub mod CofactorSteps
 pub mod Examples

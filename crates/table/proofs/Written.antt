@@ -2,15 +2,14 @@
 -- good where t is in good order; a good table's columns read as its nodes. The idea: padding adds blank places, which is what a read past
 -- the end gives. Assumes nothing.
 use mathlib.Core.Path.{_≡_, refl, sym, ap, ap₂, _∙_, subst}
-use mathlib.Core.Bool.{Bool, true}
 use mathlib.Core.List.{List, [], _∷_, _++_, map}
-use Prim.Native.Nat.{ℕ, zero, suc, _+_, _-_, _*_, _≤_, _<_}
+use Prim.Native.Nat.{ℕ, zero, suc, _+_, _-_, _*_, _≤_}
 use native.Mathlib.Omega.{arith}
-use lib.ListN.{length, getD, set, take, drop, replicate, length-append, length-replicate, length-set, length-map, take-append-drop, length-drop, List·getD-map, List·getD-eq-default}
+use lib.ListN.{length, getD, take, drop, replicate, length-append, length-replicate, length-set, length-map, take-append-drop, length-drop, List·getD-map, List·getD-eq-default}
 use lib.Seq.{take-append-seam, length-take-le, getD-drop, ext-getD}
-use Rattle.table.specs.Nodes.{Node, nodeOf, blank, at, allBlank, nodesInOrder}
+use Rattle.table.specs.Nodes.{Node, blank, at, nodesInOrder}
 use Rattle.table.specs.Columns.{rows, padded, Columns, columnsOf}
-use Rattle.table.specs.Indexed.{Index, indexFrom, indexOf, Table, tableOf, size, nodesOf, indexed, Good}
+use Rattle.table.specs.Indexed.{indexFrom, indexOf, Table, tableOf, size, nodesOf, indexed, Good}
 use Rattle.table.proofs.Order.{all-blank, every-blank, Ordered, ordered, in-order, GoodOrder}
 
 -- ---- padding
