@@ -1,3 +1,5 @@
+use Rattle.operate.proofs.Memo.{memo-hit, memo-miss}
+use mathlib.Core.Path.{sym}
 use borrow.Author.Needs.{needs}
 use Rattle.operate.proofs.memo_find.Statement.{statement}
 use Rattle.operate.proofs.memo_find.Tie as tie
@@ -39,11 +41,13 @@ cast-t15 c = search needs
 
 -- src/lib.rt:164:9
 returns : tie.Need-returns
-returns c = ?
+returns c =
+    sym (memo-hit _ _ _ _ (c .before .before .before .before .slot-of .ensures .0) (c .if1 .taken))
 
 -- src/lib.rt:155:1
 returns-2 : tie.Need-returns-2
-returns-2 c = ?
+returns-2 c =
+    sym (memo-miss _ _ _ _ (c .before .before .before .before .slot-of .ensures .0) (c .if1 .left))
 
 pub memo-find-spec : {M : Type 1} → statement M
 memo-find-spec =

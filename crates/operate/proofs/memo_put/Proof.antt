@@ -1,3 +1,7 @@
+use Rattle.operate.specs.Inner.{pack}
+use lib.ListN.{set}
+use Prim.Native.Nat.{ℕ}
+use mathlib.Core.Path.{ap}
 use borrow.Author.Needs.{needs}
 use Rattle.operate.proofs.memo_put.Statement.{statement}
 use Rattle.operate.proofs.memo_put.Tie as tie
@@ -51,7 +55,9 @@ same-length c = search needs
 
 -- src/lib.rt:170:1
 returns : tie.Need-returns
-returns c = ?
+returns c =
+    let a = c .before .before .before .before .before .args in
+    ap (λ (s : ℕ). set (a .memo .now) s (pack (a .f .0) (a .g .0) (a .r .0))) (c .before .before .before .slot-of .ensures .0)
 
 pub memo-put-spec : {M : Type 1} → statement M
 memo-put-spec =

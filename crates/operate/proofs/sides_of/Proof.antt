@@ -1,3 +1,4 @@
+use Rattle.operate.specs.Inner.{sidesOf}
 use borrow.Author.Needs.{needs}
 use Rattle.operate.proofs.sides_of.Statement.{statement}
 use Rattle.operate.proofs.sides_of.Tie as tie
@@ -28,7 +29,9 @@ child-or-requires-4 c κs = search needs
 
 -- src/lib.rt:122:1
 returns : tie.Need-returns
-returns c = ?
+unfolding sidesOf
+returns c =
+    rw (c .before .before .before .child-or .ensures, c .before .before .child-or2 .ensures, c .before .child-or3 .ensures, c .child-or4 .ensures, c .before .before .before .before .top-of .ensures)
 
 pub sides-of-spec : {M : Type 1} → statement M
 sides-of-spec =
