@@ -39,7 +39,7 @@ number : Found → ℕ
 number (At k) = k .0
 number Nothing = 0
 
-found-number : (i j : ℕ) → found i ≡ found j → i ≡ j
+pub found-number : (i j : ℕ) → found i ≡ found j → i ≡ j
 unfolding number
 found-number i j e = ap number e
 
