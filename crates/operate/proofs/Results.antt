@@ -69,6 +69,10 @@ module _ (op : Operation) (memo : List ℕ) (t : Table) (f g : ℕ) (R : Ready o
   abbrev E : Diagram
   E = diagramAt (nodesOf t) g
 
+  -- the columns hold both numbers
+  pub columns-hold : (f < length (t .vars)) × (g < length (t .vars)) × (length (t .lows) ≡ length (t .vars)) × (length (t .highs) ≡ length (t .vars))
+  columns-hold = (omega (arith, R .f-inside, R .good .within), omega (arith, R .g-inside, R .good .within), R .good .lows, R .good .highs)
+
   -- a result that is there places nothing
   pub known-outcome : (k : ℕ) → Right op t f g k → record { table = t; full = false; node = k } ≡ applied t op f g
   known-outcome k r = sym (there t (R .good) k (r .inside)) ∙ ap (placeIn t) (r .is)

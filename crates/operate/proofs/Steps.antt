@@ -37,10 +37,10 @@ negation-branch x l h o =
     differ : {v : ℕ} {l h : Diagram} → Reduced 1 65 (node v l h) → l ≢ h
     differ r = r .2
 
-module _ (t : Table) (G : Good t) (f g : ℕ) (f-inside : f < t .count) (g-inside : g < t .count) (two : 2 ≤ f) where
-  abbrev pub sides : Sides
-  sides = sidesOf (t .vars) (t .lows) (t .highs) f g
+abbrev pub sides : Table → ℕ → ℕ → Sides
+sides t f g = sidesOf (t .vars) (t .lows) (t .highs) f g
 
+module _ (t : Table) (G : Good t) (f g : ℕ) (f-inside : f < t .count) (g-inside : g < t .count) (two : 2 ≤ f) where
   abbrev x : ℕ
   x = top (t .vars) f g
 
@@ -94,9 +94,9 @@ module _ (t : Table) (G : Good t) (f g : ℕ) (f-inside : f < t .count) (g-insid
 
   -- What the code goes on with.
   pub data Stepped (op : Operation) : Type 0 where
-    one : (b : Bool) → stepOf op sides ≡ One (record { 0 = f-side b }) (record { 0 = g-side b }) → Allowed op (g-side b)
+    one : (b : Bool) → stepOf op (sides t f g) ≡ One (record { 0 = f-side b }) (record { 0 = g-side b }) → Allowed op (g-side b)
         → result op (D f) (D g) ≡ result op (D (f-side b)) (D (g-side b)) → Stepped op
-    both : stepOf op sides ≡ Both sides → ((b : Bool) → Allowed op (g-side b))
+    both : stepOf op (sides t f g) ≡ Both (sides t f g) → ((b : Bool) → Allowed op (g-side b))
         → result op (D f) (D g) ≡ branch x (result op (D (f-side false)) (D (g-side false))) (result op (D (f-side true)) (D (g-side true))) → Stepped op
 
   stepped-cofactor : (g ≡ 0 → ⊥) → Stepped Cofactor
@@ -159,75 +159,96 @@ module _ (t : Table) (G : Good t) (f g : ℕ) (f-inside : f < t .count) (g-insid
   stepped Cofactor allowed = stepped-cofactor allowed
   stepped (Literals p n) allowed = stepped-literals p n allowed
 
-  -- ---- as the code meets it
-
   after : (b : Bool) → x < top (t .vars) (f-side b) (g-side b)
   after b = top-both (t .vars) (f-side b) (g-side b) (suc x) (f-child b .after) (g-child b .after)
 
-  module _ (op : Operation) (memo : List ℕ) (room : 0 < length memo) (memo-right : MemoRight op memo t) where
-    side-ready : (b : Bool) → Allowed op (g-side b) → Ready op memo t (f-side b) (g-side b)
-    side-ready b allowed = record {
-      good = G;
-      f-inside = f-child b .inside;
-      g-inside = g-child b .inside;
-      allowed = allowed;
-      room = room;
-      right = memo-right;
-    }
+-- ---- as the code meets it
 
-    -- One pair is left to do.
-    pub record OneLeft (a b : ℕ) : Type 0 where
-      pub ready : Ready op memo t a b
-      pub after : top (t .vars) f g < top (t .vars) a b
-      pub is : applied t op a b ≡ applied t op f g
+-- One pair of nodes is left to do.
+pub record OneLeft (op : Operation) (memo : List ℕ) (t : Table) (f g a b : ℕ) : Type 0 where
+  pub ready : Ready op memo t a b
+  pub most : top (t .vars) f g ≤ 64
+  pub after : top (t .vars) f g < top (t .vars) a b
+  pub is : applied t op a b ≡ applied t op f g
 
-    -- Both sides are.
-    pub record BothLeft (s : Sides) : Type 0 where
-      pub ready : SidesReady op memo t s
-      pub variable : s .x ≡ top (t .vars) f g
-      pub is : joinedOf t op s ≡ applied t op f g
+-- Both sides are.
+pub record BothLeft (op : Operation) (memo : List ℕ) (t : Table) (f g : ℕ) (s : Sides) : Type 0 where
+  pub ready : SidesReady op memo t s
+  pub variable : s .x ≡ top (t .vars) f g
+  pub is : joinedOf t op s ≡ applied t op f g
 
-    pub step-one : Allowed op g → (a b : NodeNo) → stepOf op sides ≡ One a b → OneLeft (a .0) (b .0)
-    step-one allowed a b e = go (stepped op allowed)
-      where
-        first : Step → ℕ
-        first (One a b) = a .0
-        first (Both s) = 0
+module _ (op : Operation) (memo : List ℕ) (t : Table) (f g : ℕ) (R : Ready op memo t f g) (two : 2 ≤ f) where
+  pub sides-ask : (s : Sides) → s ≡ sides t f g → (1 ≤ s .x) × (s .x ≤ 64)
+  unfolding sidesOf
+  sides-ask s e =
+      subst (λ (s : Sides). (1 ≤ s .x) × (s .x ≤ 64)) (sym e)
+      (top-least t (R .good) f g (R .f-inside) (R .g-inside) two, top-most t (R .good) f g (R .f-inside) (R .g-inside) two)
 
-        second : Step → ℕ
-        second (One a b) = b .0
-        second (Both s) = 0
+  abbrev P : Bool → ℕ
+  P = f-side t (R .good) f g (R .f-inside) (R .g-inside) two
 
-        go : Stepped op → OneLeft (a .0) (b .0)
-        go (one c p q r) =
-            let w : One (record { 0 = f-side c }) (record { 0 = g-side c }) ≡ One a b = sym p ∙ e in
-            subst (λ (k : ℕ). OneLeft k (b .0)) (ap first w) (subst (λ (k : ℕ). OneLeft (f-side c) k) (ap second w)
-            (record { ready = side-ready c q; after = after c; is = ap (placeIn t) (sym r) }))
-        go (both p q r) = let w : Both sides ≡ One a b = sym p ∙ e in let z : _≡_ {A = ℕ} 0 1 = cc in absurd (omega arith)
+  abbrev Q : Bool → ℕ
+  Q = g-side t (R .good) f g (R .f-inside) (R .g-inside) two
 
-    pub step-both : Allowed op g → (s : Sides) → stepOf op sides ≡ Both s → BothLeft s
-    unfolding sidesOf
-    step-both allowed s e = go (stepped op allowed)
-      where
-        whole : Step → Sides
-        whole (One a b) = s
-        whole (Both r) = r
+  side-ready : (b : Bool) → Allowed op (Q b) → Ready op memo t (P b) (Q b)
+  side-ready b allowed = record {
+    good = R .good;
+    f-inside = f-child t (R .good) f g (R .f-inside) (R .g-inside) two b .inside;
+    g-inside = g-child t (R .good) f g (R .f-inside) (R .g-inside) two b .inside;
+    allowed = allowed;
+    room = R .room;
+    right = R .right;
+  }
 
-        go : Stepped op → BothLeft s
-        go (one c p q r) =
-            let w : One (record { 0 = f-side c }) (record { 0 = g-side c }) ≡ Both s = sym p ∙ e in let z : _≡_ {A = ℕ} 0 1 = cc in absurd (omega arith)
-        go (both p q r) =
-            let w : Both sides ≡ Both s = sym p ∙ e in
-            subst BothLeft (ap whole w)
-            (record {
-              ready = record {
-                low = side-ready false (q false);
-                high = side-ready true (q true);
-                least = top-least;
-                most = top-most;
-                low-after = after false;
-                high-after = after true;
-              };
-              variable = refl;
-              is = ap (placeIn t) (sym r);
-            })
+  step : Stepped t (R .good) f g (R .f-inside) (R .g-inside) two op
+  step = stepped t (R .good) f g (R .f-inside) (R .g-inside) two op (R .allowed)
+
+  pub step-one : (a b : NodeNo) → stepOf op (sides t f g) ≡ One a b → OneLeft op memo t f g (a .0) (b .0)
+  step-one a b e = go step
+    where
+      first : Step → ℕ
+      first (One a b) = a .0
+      first (Both s) = 0
+
+      second : Step → ℕ
+      second (One a b) = b .0
+      second (Both s) = 0
+
+      go : Stepped t (R .good) f g (R .f-inside) (R .g-inside) two op → OneLeft op memo t f g (a .0) (b .0)
+      go (one c p q r) =
+          let w : One (record { 0 = P c }) (record { 0 = Q c }) ≡ One a b = sym p ∙ e in
+          subst (λ (k : ℕ). OneLeft op memo t f g k (b .0)) (ap first w) (subst (λ (k : ℕ). OneLeft op memo t f g (P c) k) (ap second w)
+          (record {
+            ready = side-ready c q;
+            most = top-most t (R .good) f g (R .f-inside) (R .g-inside) two;
+            after = after t (R .good) f g (R .f-inside) (R .g-inside) two c;
+            is = ap (placeIn t) (sym r);
+          }))
+      go (both p q r) = let w : Both (sides t f g) ≡ One a b = sym p ∙ e in let z : _≡_ {A = ℕ} 0 1 = cc in absurd (omega arith)
+
+  pub step-both : (s : Sides) → stepOf op (sides t f g) ≡ Both s → BothLeft op memo t f g s
+  unfolding sidesOf
+  step-both s e = go step
+    where
+      whole : Step → Sides
+      whole (One a b) = s
+      whole (Both r) = r
+
+      go : Stepped t (R .good) f g (R .f-inside) (R .g-inside) two op → BothLeft op memo t f g s
+      go (one c p q r) =
+          let w : One (record { 0 = P c }) (record { 0 = Q c }) ≡ Both s = sym p ∙ e in let z : _≡_ {A = ℕ} 0 1 = cc in absurd (omega arith)
+      go (both p q r) =
+          let w : Both (sides t f g) ≡ Both s = sym p ∙ e in
+          subst (BothLeft op memo t f g) (ap whole w)
+          (record {
+            ready = record {
+              low = side-ready false (q false);
+              high = side-ready true (q true);
+              least = top-least t (R .good) f g (R .f-inside) (R .g-inside) two;
+              most = top-most t (R .good) f g (R .f-inside) (R .g-inside) two;
+              low-after = after t (R .good) f g (R .f-inside) (R .g-inside) two false;
+              high-after = after t (R .good) f g (R .f-inside) (R .g-inside) two true;
+            };
+            variable = refl;
+            is = ap (placeIn t) (sym r);
+          })
