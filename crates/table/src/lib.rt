@@ -117,16 +117,32 @@ pub fn put(
     ensures { λ r. ⌜ outcomeOf (now (vars .exit)) (now (lows .exit)) (now (highs .exit)) (now (heads .exit)) (now (links .exit)) r ≡ written (length (now (vars .entry))) (put (length (now (vars .entry))) (nodesOf (tableOf (now (vars .entry)) (now (lows .entry)) (now (highs .entry)) (now (heads .entry)) (now (links .entry)) count)) v (l .0) (h .0)) ⌝ }
 {
     if l.0 == h.0 {
-        return Placed { full: false, node: l, count };
+        return Placed {
+            full: false,
+            node: l,
+            count,
+        };
     }
     match lookup(vars, lows, highs, heads, links, count, v, l, h) {
-        Found::At(k) => Placed { full: false, node: k, count },
+        Found::At(k) => Placed {
+            full: false,
+            node: k,
+            count,
+        },
         Found::Nothing => {
             if count < vars.len() {
                 append(vars, lows, highs, heads, links, count, v, l.0, h.0);
-                Placed { full: false, node: NodeNo(count as u16), count: count + 1 }
+                Placed {
+                    full: false,
+                    node: NodeNo(count as u16),
+                    count: count + 1,
+                }
             } else {
-                Placed { full: true, node: NodeNo(0), count }
+                Placed {
+                    full: true,
+                    node: NodeNo(0),
+                    count,
+                }
             }
         }
     }

@@ -1,9 +1,9 @@
 // Tests of lent columns: their size, and good order with the index made on the way.
 ghost use mathlib.Core.Path.{_≡_};
-ghost use mathlib.Core.Bool.{true, _&&_};
+ghost use mathlib.Core.Bool.{true};
 ghost use Prim.Native.Nat.{_+_, _-_, _*_, _≤_, _<_};
 ghost use lib.ListN.{length, take, drop, replicate};
-ghost use Rattle.table.specs.Nodes.{at, above, allBlank, fits, isNew, nodesInOrder, goodOrder};
+ghost use Rattle.table.specs.Nodes.{at, above, allBlank, fits, nodesInOrder, goodOrder};
 ghost use Rattle.table.specs.Columns.{rows, sizeFits};
 ghost use Rattle.table.specs.Indexed.{tableOf, Good, Linked};
 
@@ -22,8 +22,7 @@ pub fn size_fits(vars: &[u8], lows: &[u16], highs: &[u16]) -> bool
 
 // Whether the places from `from` up to `to` hold zeros.
 fn blank_between(vars: &[u8], lows: &[u16], highs: &[u16], from: usize, to: usize) -> bool
-    requires { ⌜ sizeFits (now vars) (now lows) (now highs) ≡ true ⌝ }
-    requires { ⌜ (from ≤ to) × (to ≤ length (now vars)) ⌝ }
+    requires { ⌜ (length (now lows) ≡ length (now vars)) × (length (now highs) ≡ length (now vars)) × (to ≤ length (now vars)) ⌝ }
     ensures { λ r. ⌜ r ≡ allBlank (take (to - from) (drop from (rows (now (vars .entry)) (now (lows .entry)) (now (highs .entry))))) ⌝ }
 {
     let mut i = from;
@@ -44,8 +43,7 @@ fn blank_between(vars: &[u8], lows: &[u16], highs: &[u16], from: usize, to: usiz
 
 // Whether variable v may stand above `child`: a constant, or a node with a greater variable.
 fn stands_above(vars: &[u8], lows: &[u16], highs: &[u16], v: u8, child: u16) -> bool
-    requires { ⌜ sizeFits (now vars) (now lows) (now highs) ≡ true ⌝ }
-    requires { ⌜ child < length (now vars) ⌝ }
+    requires { ⌜ (length (now lows) ≡ length (now vars)) × (length (now highs) ≡ length (now vars)) × (child < length (now vars)) ⌝ }
     ensures { λ r. ⌜ r ≡ above (rows (now (vars .entry)) (now (lows .entry)) (now (highs .entry))) v child ⌝ }
 {
     if child < 2 {
@@ -56,8 +54,7 @@ fn stands_above(vars: &[u8], lows: &[u16], highs: &[u16], v: u8, child: u16) -> 
 
 // Whether the node at place k is as good order asks, but for being new.
 fn fits_at(vars: &[u8], lows: &[u16], highs: &[u16], k: usize) -> bool
-    requires { ⌜ sizeFits (now vars) (now lows) (now highs) ≡ true ⌝ }
-    requires { ⌜ k < length (now vars) ⌝ }
+    requires { ⌜ (length (now lows) ≡ length (now vars)) × (length (now highs) ≡ length (now vars)) × (k < length (now vars)) ⌝ }
     ensures { λ r. ⌜ r ≡ fits (rows (now (vars .entry)) (now (lows .entry)) (now (highs .entry))) k (at (rows (now (vars .entry)) (now (lows .entry)) (now (highs .entry))) k) ⌝ }
 {
     let v = vars[k];
@@ -84,7 +81,7 @@ fn fits_at(vars: &[u8], lows: &[u16], highs: &[u16], k: usize) -> bool
     stands_above(vars, lows, highs, v, h)
 }
 
-// Tests the node at place k and puts it into the index, which is that of the nodes before it.
+// Whether the nodes up to place k are in good order, where those before it are; place k is then in the index too.
 fn admit(
     vars: &[u8],
     lows: &[u16],
@@ -94,7 +91,7 @@ fn admit(
     k: usize,
 ) -> bool
     requires { ⌜ Linked (tableOf (now vars) (now lows) (now highs) (now heads) (now links) k) × (k < length (now vars)) ⌝ }
-    ensures { λ r. ⌜ r ≡ (fits (rows (now (vars .entry)) (now (lows .entry)) (now (highs .entry))) k (at (rows (now (vars .entry)) (now (lows .entry)) (now (highs .entry))) k) && isNew (rows (now (vars .entry)) (now (lows .entry)) (now (highs .entry))) k) ⌝ }
+    ensures { λ r. ⌜ r ≡ nodesInOrder (take (k + 1) (rows (now (vars .entry)) (now (lows .entry)) (now (highs .entry)))) ⌝ }
     ensures { λ r. ⌜ (r ≡ true → Linked (tableOf (now (vars .entry)) (now (lows .entry)) (now (highs .entry)) (now (heads .exit)) (now (links .exit)) (k + 1))) ⌝ }
 {
     if !fits_at(vars, lows, highs, k) {
@@ -103,7 +100,17 @@ fn admit(
     let v = vars[k];
     let l = lows[k];
     let h = highs[k];
-    match crate::lookup(vars, lows, highs, heads, links, k, v, crate::NodeNo(l), crate::NodeNo(h)) {
+    match crate::lookup(
+        vars,
+        lows,
+        highs,
+        heads,
+        links,
+        k,
+        v,
+        crate::NodeNo(l),
+        crate::NodeNo(h),
+    ) {
         crate::Found::At(_) => false,
         crate::Found::Nothing => {
             crate::link(heads, links, k, v, l, h);

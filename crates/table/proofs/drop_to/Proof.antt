@@ -1,122 +1,101 @@
+-- `drop_to` leaves the table of the first nodes: one node is taken out at each turn (IndexStores). Assumes nothing.
+use mathlib.Core.Path.{refl}
+use Rattle.table.specs.Indexed.{tableOf}
+use Rattle.table.proofs.IndexStores.{Dropping, drop-start, drop-next, drop-end}
+use borrow.Author.Needs.{needs}
 use Rattle.table.proofs.drop_to.Statement.{statement}
 use Rattle.table.proofs.drop_to.Tie as tie
-use Rattle.table.proofs.drop_to.Reads as reads
-use Rattle.table.proofs.drop_to.Lts as lts
-use Rattle.table.proofs.bucket_of.Reads as bucket-of-reads
 
 abbrev Inv-loop : tie.InvT-loop
-Inv-loop vars₀ lows₀ highs₀ heads₀ links₀ count keep n k₀ vars lows highs heads links k = ?
+Inv-loop vars₀ lows₀ highs₀ heads₀ links₀ count keep n k₀ vars lows highs heads links k =
+    Dropping (tableOf vars₀ lows₀ highs₀ heads₀ links₀ count) (tableOf vars lows highs heads links k) keep
 
 abbrev μ-loop : tie.MeasureT-loop
-μ-loop vars₀ lows₀ highs₀ heads₀ links₀ count keep n k₀ vars lows highs heads links k = ?
+μ-loop vars₀ lows₀ highs₀ heads₀ links₀ count keep n k₀ vars lows highs heads links k =
+    k
 
--- src/lib.rt:150:5
 loop-holds : tie.Need-loop-holds Inv-loop μ-loop
-loop-holds c = ?
+loop-holds c =
+    drop-start _ _ (c .before .before .before .before .before .pre .0) (c .before .before .before .before .before .pre .2)
 
--- src/lib.rt:151:9
 sub-k : tie.Need-sub-k Inv-loop μ-loop
-sub-k c = ?
+sub-k c = search needs
 
--- src/lib.rt:152:30
 slice-read-bucket-of : tie.Need-slice-read-bucket-of Inv-loop μ-loop
-slice-read-bucket-of c = ?
+slice-read-bucket-of c = search needs
 
--- src/lib.rt:152:39
 mul-bucket-of : tie.Need-mul-bucket-of Inv-loop μ-loop
-mul-bucket-of c = ?
+mul-bucket-of c = search needs
 
--- src/lib.rt:152:39
 slice-read-bucket-of-2 : tie.Need-slice-read-bucket-of-2 Inv-loop μ-loop
-slice-read-bucket-of-2 c = ?
+slice-read-bucket-of-2 c = search needs
 
--- src/lib.rt:152:48
 mul-bucket-of-2 : tie.Need-mul-bucket-of-2 Inv-loop μ-loop
-mul-bucket-of-2 c = ?
+mul-bucket-of-2 c = search needs
 
--- src/lib.rt:152:48
 slice-read-bucket-of-3 : tie.Need-slice-read-bucket-of-3 Inv-loop μ-loop
-slice-read-bucket-of-3 c = ?
+slice-read-bucket-of-3 c = search needs
 
--- src/lib.rt:152:13
 bucket-of-requires : tie.Need-bucket-of-requires Inv-loop μ-loop
-bucket-of-requires c κs = ?
+bucket-of-requires c κs = search needs
 
--- src/lib.rt:153:20
 mul-heads : tie.Need-mul-heads Inv-loop μ-loop
-mul-heads c = ?
+mul-heads c = search needs
 
--- src/lib.rt:153:20
 slice-read-heads : tie.Need-slice-read-heads Inv-loop μ-loop
-slice-read-heads c = ?
+slice-read-heads c = search needs
 
--- src/lib.rt:153:9
 mul-heads-2 : tie.Need-mul-heads-2 Inv-loop μ-loop
-mul-heads-2 c = ?
+mul-heads-2 c = search needs
 
--- src/lib.rt:153:9
 slice-write-heads : tie.Need-slice-write-heads Inv-loop μ-loop
-slice-write-heads c = ?
+slice-write-heads c = search needs
 
--- src/lib.rt:154:9
 mul-links : tie.Need-mul-links Inv-loop μ-loop
-mul-links c = ?
+mul-links c = search needs
 
--- src/lib.rt:154:9
 slice-write-links : tie.Need-slice-write-links Inv-loop μ-loop
-slice-write-links c = ?
+slice-write-links c = search needs
 
--- src/lib.rt:155:9
 slice-write-vars : tie.Need-slice-write-vars Inv-loop μ-loop
-slice-write-vars c = ?
+slice-write-vars c = search needs
 
--- src/lib.rt:156:9
 mul-lows : tie.Need-mul-lows Inv-loop μ-loop
-mul-lows c = ?
+mul-lows c = search needs
 
--- src/lib.rt:156:9
 slice-write-lows : tie.Need-slice-write-lows Inv-loop μ-loop
-slice-write-lows c = ?
+slice-write-lows c = search needs
 
--- src/lib.rt:157:9
 mul-highs : tie.Need-mul-highs Inv-loop μ-loop
-mul-highs c = ?
+mul-highs c = search needs
 
--- src/lib.rt:157:9
 slice-write-highs : tie.Need-slice-write-highs Inv-loop μ-loop
-slice-write-highs c = ?
+slice-write-highs c = search needs
 
--- src/lib.rt:150:5
 loop-less : tie.Need-loop-less Inv-loop μ-loop
-loop-less c = ?
+loop-less c = search needs
 
--- src/lib.rt:150:5
 loop-again : tie.Need-loop-again Inv-loop μ-loop
-loop-again c = ?
+loop-again c =
+    drop-next _ _ _ _ _ (c .before .before .before .before .before .before .before .before .before .before .before .before .pre .0) (c .before .before .before .before .before .before .before .before .before .before .before .before .pre .1) (c .before .before .before .before .before .loop-test .taken) (c .before .before .before .before .before .before .loop .inv) refl (c .before .bucket-of .ensures .0)
 
--- src/lib.rt:136:1
 same-length : tie.Need-same-length Inv-loop μ-loop
-same-length c = ?
+same-length c = search needs
 
--- src/lib.rt:136:1
 same-length-2 : tie.Need-same-length-2 Inv-loop μ-loop
-same-length-2 c = ?
+same-length-2 c = search needs
 
--- src/lib.rt:136:1
 same-length-3 : tie.Need-same-length-3 Inv-loop μ-loop
-same-length-3 c = ?
+same-length-3 c = search needs
 
--- src/lib.rt:136:1
 same-length-4 : tie.Need-same-length-4 Inv-loop μ-loop
-same-length-4 c = ?
+same-length-4 c = search needs
 
--- src/lib.rt:136:1
 same-length-5 : tie.Need-same-length-5 Inv-loop μ-loop
-same-length-5 c = ?
+same-length-5 c = search needs
 
--- src/lib.rt:136:1
 returns : tie.Need-returns Inv-loop μ-loop
-returns c = ?
+returns c = drop-end _ _ _ (c .loop-test .left) (c .before .loop .inv)
 
 pub drop-to-spec : {M : Type 1} → statement M
 drop-to-spec =

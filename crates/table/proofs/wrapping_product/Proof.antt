@@ -1,18 +1,23 @@
+-- `wrapping_product` is the product modulo 2^32. Assumes nothing.
+use Prim.Native.Nat.{ℕ, _*_, _<_, _≤_, _^_}
+use native.Mathlib.Omega.{arith}
+use native.Mathlib.Nat.{mul-le-mul}
 use borrow.Author.Needs.{needs}
 use Rattle.table.proofs.wrapping_product.Statement.{statement}
 use Rattle.table.proofs.wrapping_product.Tie as tie
-use Rattle.table.proofs.wrapping_product.Reads as reads
-use Rattle.table.proofs.wrapping_product.Lts as lts
 
--- src/lib.rt:31:7
+fits-product : (a b : ℕ) → a < 2 ^ 32 → b < 2 ^ 32 → a * b < 2 ^ 64
+fits-product a b p q =
+    let h : a * b ≤ 4294967295 * 4294967295 = mul-le-mul {n₂ = 4294967295} {m₂ = 4294967295} (omega arith) (omega arith) in
+    omega arith
+
 mul-result : tie.Need-mul-result
-mul-result c = ?
+mul-result c =
+    record { fits = fits-product _ _ (c .fits .a .fits) (c .fits .b .fits) }
 
--- src/lib.rt:31:5
 cast-result : tie.Need-cast-result
 cast-result c = search needs
 
--- src/lib.rt:28:1
 returns : tie.Need-returns
 returns c = search needs
 

@@ -1,65 +1,66 @@
+-- `blank_between` tests the places one by one. Assumes nothing.
+use mathlib.Core.Path.{_≡_, refl, ap, sym, _∙_}
+use mathlib.Core.Bool.{and-false}
+use Prim.Native.Nat.{_-_}
+use lib.ListN.{take, drop}
+use borrow.Author.Tests.{eq-eqb, ne-eqb}
+use Rattle.table.specs.Nodes.{allBlank}
+use Rattle.table.specs.Columns.{rows}
+use Rattle.table.proofs.IndexOrder.{blank-step, blank-end}
+use borrow.Author.Needs.{needs}
 use Rattle.table.proofs.test.blank_between.Statement.{statement}
 use Rattle.table.proofs.test.blank_between.Tie as tie
-use Rattle.table.proofs.test.blank_between.Reads as reads
-use Rattle.table.proofs.test.blank_between.Lts as lts
 
 abbrev Inv-loop : tie.InvT-loop
-Inv-loop vars lows highs from to i₀ i = ?
+Inv-loop vars lows highs from to i₀ i =
+    allBlank (take (to - from) (drop from (rows vars lows highs))) ≡ allBlank (take (to - i) (drop i (rows vars lows highs)))
 
 abbrev μ-loop : tie.MeasureT-loop
-μ-loop vars lows highs from to i₀ i = ?
+μ-loop vars lows highs from to i₀ i =
+    to - i
 
--- src/test.rt:30:5
 loop-holds : tie.Need-loop-holds Inv-loop μ-loop
-loop-holds c = ?
+loop-holds c = refl
 
--- src/test.rt:31:12
 shared-slice-read-if1 : tie.Need-shared-slice-read-if1 Inv-loop μ-loop
-shared-slice-read-if1 c = ?
+shared-slice-read-if1 c = search needs
 
--- src/test.rt:32:13
 returns : tie.Need-returns Inv-loop μ-loop
-returns c = ?
+returns c =
+    sym (c .before .before .before .loop .inv ∙ blank-step _ _ _ _ _ (c .before .before .before .before .pre .0) (c .before .before .before .before .pre .1) (c .before .before .loop-test .taken) (c .before .before .before .before .pre .2) ∙ rw (ne-eqb _ _ (c .if1 .taken)))
 
--- src/test.rt:34:12
 mul-if2 : tie.Need-mul-if2 Inv-loop μ-loop
-mul-if2 c = ?
+mul-if2 c = search needs
 
--- src/test.rt:34:12
 shared-slice-read-if2 : tie.Need-shared-slice-read-if2 Inv-loop μ-loop
-shared-slice-read-if2 c = ?
+shared-slice-read-if2 c = search needs
 
--- src/test.rt:35:13
 returns-2 : tie.Need-returns-2 Inv-loop μ-loop
-returns-2 c = ?
+returns-2 c =
+    sym (c .before .before .before .before .before .loop .inv ∙ blank-step _ _ _ _ _ (c .before .before .before .before .before .before .pre .0) (c .before .before .before .before .before .before .pre .1) (c .before .before .before .before .loop-test .taken) (c .before .before .before .before .before .before .pre .2) ∙ rw (ne-eqb _ _ (c .if2 .taken), and-false))
 
--- src/test.rt:37:12
 mul-if3 : tie.Need-mul-if3 Inv-loop μ-loop
-mul-if3 c = ?
+mul-if3 c = search needs
 
--- src/test.rt:37:12
 shared-slice-read-if3 : tie.Need-shared-slice-read-if3 Inv-loop μ-loop
-shared-slice-read-if3 c = ?
+shared-slice-read-if3 c = search needs
 
--- src/test.rt:38:13
 returns-3 : tie.Need-returns-3 Inv-loop μ-loop
-returns-3 c = ?
+returns-3 c =
+    sym (c .before .before .before .before .before .before .before .loop .inv ∙ blank-step _ _ _ _ _ (c .before .before .before .before .before .before .before .before .pre .0) (c .before .before .before .before .before .before .before .before .pre .1) (c .before .before .before .before .before .before .loop-test .taken) (c .before .before .before .before .before .before .before .before .pre .2) ∙ rw (ne-eqb _ _ (c .if3 .taken), and-false, and-false))
 
--- src/test.rt:40:9
 add-i : tie.Need-add-i Inv-loop μ-loop
-add-i c = ?
+add-i c = search needs
 
--- src/test.rt:30:5
 loop-less : tie.Need-loop-less Inv-loop μ-loop
-loop-less c = ?
+loop-less c = search needs
 
--- src/test.rt:30:5
 loop-again : tie.Need-loop-again Inv-loop μ-loop
-loop-again c = ?
+loop-again c =
+    c .before .before .before .before .before .before .before .loop .inv ∙ blank-step _ _ _ _ _ (c .before .before .before .before .before .before .before .before .pre .0) (c .before .before .before .before .before .before .before .before .pre .1) (c .before .before .before .before .before .before .loop-test .taken) (c .before .before .before .before .before .before .before .before .pre .2) ∙ rw (eq-eqb _ _ (c .before .before .before .before .if1 .left), eq-eqb _ _ (c .before .before .if2 .left), eq-eqb _ _ (c .if3 .left))
 
--- src/test.rt:24:1
 returns-4 : tie.Need-returns-4 Inv-loop μ-loop
-returns-4 c = ?
+returns-4 c = sym (c .before .loop .inv ∙ blank-end _ _ _ (c .loop-test .left))
 
 pub blank-between-spec : {M : Type 1} → statement M
 blank-between-spec =
