@@ -566,7 +566,7 @@ join-put-requires t c κs =
     let s = c .before .before .before .before .before .before .before .before .before .before .before .before .before .before .before .before .before .before .before .before .before .before .before .before .before .before .before .before .before .before .before .before .before .before .before .before .before .before .before .before .before .before .before .before .before .before .before .before .before .before .before in
     let a = c .before .before .before .before .before .before .before .before .before .before .before .before .before .before .before .before .before .before .before .before .before .before .before .before .before .before .before .before .before .before .before .before .before .before .before .before .before .before in
     let b = c .before .before .before .before .before .before .before .before .before .before .before .before .before .before .before .before .before .before in
-    (high-good (j-op s) (j-memo s) (j-table s) (j-sides s) (j-ready s) (out₁ a) (is₁ a) (c .before .before .before .before .before .before .before .before .before .before .before .before .before .before .before .before .before .before .before .before .before .before .before .before .before .if1 .left) (out₂ b) (is₂ b), ?)
+    high-good (j-op s) (j-memo s) (j-table s) (j-sides s) (j-ready s) (out₁ a) (is₁ a) (c .before .before .before .before .before .before .before .before .before .before .before .before .before .before .before .before .before .before .before .before .before .before .before .before .before .if1 .left) (out₂ b) (is₂ b)
 
 -- src/lib.rt:283:1
 join-same-length-13 : (t : ℕ) → join-lts.Need-same-length-13 (join-callees t) (join-at t) join.Post
