@@ -4,13 +4,13 @@ use mathlib.Core.Path.{_≡_, refl, ap, ap₂}
 use mathlib.Core.Logic.{_≢_}
 use mathlib.Core.Bool.{Bool, true, false, not, _&&_, cond}
 use mathlib.Core.List.{List, [], _∷_}
-use Prim.Native.Nat.{ℕ, zero, suc, _+_, _-_, _≤_, _<_}
+use Prim.Native.Nat.{ℕ, suc, _+_, _-_, _≤_, _<_}
 use native.Mathlib.Omega.{arith}
 use native.Mathlib.Decide.{ℕ-discrete}
 use lib.ListN.{length, getD}
 use Rattle.meaning.specs.Diagram.{Assignment, holds, Diagram, value, Reduced}
 use Rattle.meaning.specs.Operations.{Literal, clauseValue, clause, entry, conjunction, negation, forced, cofactorLiterals}
-use Rattle.meaning.proofs.Values.{LooksFrom, value-agree, value-from, diagram-reduced, diagram-value, diagram-from}
+use Rattle.meaning.proofs.Values.{value-agree, value-from, diagram-reduced, diagram-value, diagram-from}
 
 -- ---- the assignment with the literals made true
 

@@ -3,30 +3,22 @@
 use mathlib.Core.Path.{_≡_, refl, sym, ap, ap₂, _∙_}
 use mathlib.Core.Logic.{_≢_}
 use mathlib.Core.Bool.{Bool, true, false, not, _&&_, cond}
-use mathlib.Core.List.{List, [], _∷_}
-use Prim.Native.Nat.{ℕ, zero, suc, _+_, _-_, _≤_, _<_}
+use Prim.Native.Nat.{ℕ, suc, _-_, _≤_}
 use native.Mathlib.Omega.{arith}
-use lib.ListN.{length, getD, take}
+use lib.ListN.{length, take}
 use lib.Seq.{getD-take, length-take-le}
-use Rattle.meaning.specs.Diagram.{Assignment, holds, Diagram, leaf, node, valueFrom, value, Reduced, branch, diagram}
+use Rattle.meaning.specs.Diagram.{Assignment, holds, Diagram, leaf, node, valueFrom, value, Reduced, branch}
 use Rattle.meaning.specs.Operations.{entry, conjunction, negation, forced, cofactorLiterals}
 use Rattle.meaning.proofs.Canonical.{reduced-from, branch-reduced, side, side-reduced}
+use Rattle.meaning.proofs.Booleans.{not-not, not-cond, and-cond, and-same, and-commutes}
 use Rattle.meaning.proofs.Values.{value-agree, value-take, branch-at, side-at, diagram-cong, diagram-is, diagram-width}
-use Rattle.meaning.proofs.Pointwise.{forced-at, forced-cong, forced-length, conjunction-value, conjunction-from, negation-value, negation-reduced, negation-from, literals-value, literals-from}
+use Rattle.meaning.proofs.Pointwise.{forced-at, forced-cong, conjunction-value, conjunction-from, negation-value, negation-from, literals-value, literals-from}
 
 -- a branch at variable v of the variables 1 to n
 reduced-branch : (n v : ℕ) (l h : Diagram) → 1 ≤ v → v ≤ n → Reduced (suc v) (suc n) l → Reduced (suc v) (suc n) h → Reduced 1 (suc n) (branch v l h)
 reduced-branch n v l h lo hi ol oh = reduced-from 1 v (suc n) (branch v l h) lo (branch-reduced v (suc n) l h (omega arith) ol oh)
 
 -- ---- negation
-
-not-not : (b : Bool) → not (not b) ≡ b
-not-not true = refl
-not-not false = refl
-
-not-cond : (x y z : Bool) → not (cond x y z) ≡ cond x (not y) (not z)
-not-cond true y z = refl
-not-cond false y z = refl
 
 module _ (n : ℕ) where
   pub negation-leaf : (b : Bool) → negation n (leaf b) ≡ leaf (not b)
@@ -48,22 +40,6 @@ module _ (n : ℕ) where
           ∙ negation-twice h (reduced-from 1 (suc v) (suc n) h (omega arith) (o .4)))
 
 -- ---- conjunction
-
-and-false : (x : Bool) → (x && false) ≡ false
-and-false true = refl
-and-false false = refl
-
-and-true : (x : Bool) → (x && true) ≡ x
-and-true true = refl
-and-true false = refl
-
-and-same : (x : Bool) → (x && x) ≡ x
-and-same true = refl
-and-same false = refl
-
-and-commutes : (x y : Bool) → (x && y) ≡ (y && x)
-and-commutes true y = sym (and-true y)
-and-commutes false y = sym (and-false y)
 
 module _ (n : ℕ) where
   pub conjunction-commutes : (f g : Diagram) → conjunction n f g ≡ conjunction n g f
@@ -95,7 +71,7 @@ module _ (n : ℕ) where
   conjunction-branch x f g lo hi of og =
       diagram-is n _ (branch x (both false) (both true)) (reduced-branch n x (both false) (both true) lo hi (both-from false) (both-from true)) λ a len.
       ap₂ _&&_ (side-at 1 x f a) (side-at 1 x g a)
-      ∙ go (holds a x) (value (side x true f) a) (value (side x false f) a) (value (side x true g) a) (value (side x false g) a)
+      ∙ and-cond (holds a x) (value (side x true f) a) (value (side x false f) a) (value (side x true g) a) (value (side x false g) a)
       ∙ sym (branch-at 1 x (both false) (both true) a
       ∙ ap₂ (cond (holds a x)) (conjunction-value n a len (side x true f) (side x true g)) (conjunction-value n a len (side x false f) (side x false g)))
     where
@@ -104,10 +80,6 @@ module _ (n : ℕ) where
 
       both-from : (b : Bool) → Reduced (suc x) (suc n) (both b)
       both-from b = conjunction-from n (suc x) (side x b f) (side x b g) (side-reduced x (suc n) b f of) (side-reduced x (suc n) b g og)
-
-      go : (c f₁ f₀ g₁ g₀ : Bool) → (cond c f₁ f₀ && cond c g₁ g₀) ≡ cond c (f₁ && g₁) (f₀ && g₀)
-      go true f₁ f₀ g₁ g₀ = refl
-      go false f₁ f₀ g₁ g₀ = refl
 
 -- ---- entries
 

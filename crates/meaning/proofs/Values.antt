@@ -1,24 +1,15 @@
 -- What a diagram's value looks at, and how a diagram is known by its values: the diagram of a function is the reduced diagram with those
 -- values, it has no variable that the function does not look at, and more variables than are in use change nothing. Assumes nothing.
-use mathlib.Core.Path.{_≡_, refl, sym, ap, _∙_}
-use mathlib.Core.Logic.{_≢_}
+use mathlib.Core.Path.{_≡_, refl, sym, _∙_}
 use mathlib.Core.Bool.{Bool, true, false, cond}
-use mathlib.Core.List.{List, [], _∷_}
-use Prim.Native.Nat.{ℕ, zero, suc, _+_, _-_, _≤_, _<_}
+use Prim.Native.Nat.{ℕ, suc, _-_, _≤_, _<_}
 use native.Mathlib.Omega.{arith}
 use native.Mathlib.Decide.{ℕ-discrete, decLe}
 use lib.ListN.{length, getD, set, take, length-set}
 use lib.Seq.{getD-set-same, getD-set-other, getD-take, length-take-le}
-use Rattle.meaning.specs.Diagram.{Assignment, holds, Diagram, leaf, node, same?, valueFrom, value, Reduced, branch, diagramFrom, diagram}
+use Rattle.meaning.specs.Diagram.{Assignment, holds, Diagram, leaf, node, same?, valueFrom, value, Reduced, branch, diagram}
 use Rattle.meaning.proofs.Canonical.{reduced-from, canonical, unique, diagramFrom-cong, diagramFrom-reduced, diagramFrom-value, side}
-
-pub t≢f : {A : Type 0} → true ≡ false → A
-t≢f e = absurd (let z : _≡_ {A = ℕ} 0 1 = cc in omega arith)
-
--- two equal choices are no choice
-pub cond-same : (x y : Bool) → cond x y y ≡ y
-cond-same true y = refl
-cond-same false y = refl
+use Rattle.meaning.proofs.Booleans.{cond-same}
 
 pub reduced-to : (i e e′ : ℕ) (t : Diagram) → e ≤ e′ → Reduced i e t → Reduced i e′ t
 reduced-to i e e′ (leaf b) p o = tt

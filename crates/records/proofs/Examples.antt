@@ -1,0 +1,80 @@
+-- The examples of 01 that are about the form of a record, by computation. Assumes nothing.
+use mathlib.Core.Path.{_≡_, refl}
+use mathlib.Core.Bool.{Bool, true, false}
+use mathlib.Core.List.{List, [], _∷_}
+use Prim.Native.Nat.{ℕ}
+use Rattle.records.specs.declared.EntryNo.{EntryNo}
+use Rattle.records.specs.declared.Record.the-variants.{NodeEntry, Witness, ProofLine, End, CutShort, UnknownKind, NoRecord}
+use Rattle.records.specs.declared.Rule.the-variants.{Rup, Pr}
+use Rattle.records.specs.Records.{recordAt, numberOf}
+
+abbrev entry : ℕ → EntryNo
+entry n = record { 0 = n }
+
+-- "9: unknown kind: `00`", here as the last byte too
+unknown : numberOf (recordAt (0x00 ∷ []) 0) ≡ 9
+unfolding recordAt
+unknown = refl
+
+-- "10: record cut short, or no end record: no bytes"
+no-bytes : numberOf (recordAt [] 0) ≡ 10
+unfolding recordAt
+no-bytes = refl
+
+abbrev caseA : List ℕ
+caseA = 0x4E ∷ 0x02 ∷ 0x00 ∷ 0x00 ∷ 0x01 ∷ 0x00 ∷ 0x52 ∷ 0x02 ∷ 0x00 ∷ 0x52 ∷ 0x00 ∷ 0x00 ∷ 0x45 ∷ []
+
+-- case A, record by record
+A-node : recordAt caseA 0 ≡ NodeEntry (record { variable = 2; low = entry 0; high = entry 1 })
+unfolding recordAt
+A-node = refl
+
+A-line : recordAt caseA 6 ≡ ProofLine Rup (entry 2)
+unfolding recordAt
+A-line = refl
+
+A-zero : recordAt caseA 9 ≡ ProofLine Rup (entry 0)
+unfolding recordAt
+A-zero = refl
+
+A-end : recordAt caseA 12 ≡ End
+unfolding recordAt
+A-end = refl
+
+A-past : recordAt caseA 13 ≡ NoRecord
+unfolding recordAt
+A-past = refl
+
+abbrev caseD : List ℕ
+caseD = 0x4E ∷ 0x01 ∷ 0x00 ∷ 0x00 ∷ 0x01 ∷ 0x00 ∷ 0x46 ∷ 0x01 ∷ 0x50 ∷ 0x02 ∷ 0x00 ∷ 0x45 ∷ []
+
+D-witness : recordAt caseD 6 ≡ Witness 1 false
+unfolding recordAt
+D-witness = refl
+
+D-line : recordAt caseD 8 ≡ ProofLine Pr (entry 2)
+unfolding recordAt
+D-line = refl
+
+-- case E: "D with `54` for `46`"
+E-witness : recordAt (0x54 ∷ 0x01 ∷ []) 0 ≡ Witness 1 true
+unfolding recordAt
+E-witness = refl
+
+-- "numbers low byte first"
+low-byte-first : recordAt (0x52 ∷ 0x01 ∷ 0x10 ∷ []) 0 ≡ ProofLine Rup (entry 4097)
+unfolding recordAt
+low-byte-first = refl
+
+-- a byte too few of each length of body
+cut-node : recordAt (0x4E ∷ 0x02 ∷ 0x00 ∷ 0x00 ∷ 0x01 ∷ []) 0 ≡ CutShort
+unfolding recordAt
+cut-node = refl
+
+cut-witness : recordAt (0x54 ∷ []) 0 ≡ CutShort
+unfolding recordAt
+cut-witness = refl
+
+cut-line : recordAt (0x50 ∷ 0x02 ∷ []) 0 ≡ CutShort
+unfolding recordAt
+cut-line = refl

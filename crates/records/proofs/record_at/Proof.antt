@@ -1,0 +1,93 @@
+-- `record_at` gives the record of its definition at every place. Each arm knows the kind byte, and the kind's own function has read
+-- the bytes behind it; the last arm knows that the byte is none of the kinds. Assumes nothing.
+use mathlib.Core.Path.{_≡_, refl, sym, _∙_}
+use Rattle.records.specs.Records.{recordOf}
+use Rattle.records.proofs.Reading.{record-none, record-part, record-unknown}
+use borrow.Author.Needs.{needs}
+use Rattle.records.proofs.record_at.Statement.{statement}
+use Rattle.records.proofs.record_at.Tie as tie
+
+returns : tie.Need-returns
+returns c = sym (record-none _ _ (c .if1 .taken))
+
+shared-slice-read-kind : tie.Need-shared-slice-read-kind
+shared-slice-read-kind c = search needs
+
+add-next : tie.Need-add-next
+add-next c = search needs
+
+sub-body : tie.Need-sub-body
+sub-body c = search needs
+
+part-body-start : tie.Need-part-body-start
+part-body-start c = search needs
+
+part-body-end : tie.Need-part-body-end
+part-body-end c = search needs
+
+node-in-requires : tie.Need-node-in-requires
+node-in-requires c κs = search needs
+
+witness-in-requires : tie.Need-witness-in-requires
+witness-in-requires c κs = search needs
+
+witness-in-requires-2 : tie.Need-witness-in-requires-2
+witness-in-requires-2 c κs = search needs
+
+line-in-requires : tie.Need-line-in-requires
+line-in-requires c κs = search needs
+
+line-in-requires-2 : tie.Need-line-in-requires-2
+line-in-requires-2 c κs = search needs
+
+returns-2 : tie.Need-returns-2
+unfolding recordOf
+returns-2 c = c .node-in .ensures ∙ sym (record-part _ _ 0x4E (c .before .before .before .before .if1 .left) (c .before .match .keys1))
+
+returns-3 : tie.Need-returns-3
+unfolding recordOf
+returns-3 c = c .witness-in .ensures ∙ sym (record-part _ _ 0x54 (c .before .before .before .before .if1 .left) (c .before .match .keys2))
+
+returns-4 : tie.Need-returns-4
+unfolding recordOf
+returns-4 c = c .witness-in2 .ensures ∙ sym (record-part _ _ 0x46 (c .before .before .before .before .if1 .left) (c .before .match .keys3))
+
+returns-5 : tie.Need-returns-5
+unfolding recordOf
+returns-5 c = c .line-in .ensures ∙ sym (record-part _ _ 0x52 (c .before .before .before .before .if1 .left) (c .before .match .keys4))
+
+returns-6 : tie.Need-returns-6
+unfolding recordOf
+returns-6 c = c .line-in2 .ensures ∙ sym (record-part _ _ 0x50 (c .before .before .before .before .if1 .left) (c .before .match .keys5))
+
+returns-7 : tie.Need-returns-7
+unfolding recordOf
+returns-7 c = sym (record-part _ _ 0x45 (c .before .before .before .if1 .left) (c .match .keys6))
+
+returns-8 : tie.Need-returns-8
+returns-8 c =
+    let none = c .match .rest in
+    sym (record-part _ _ _ (c .before .before .before .if1 .left) refl ∙ record-unknown _ _ (none .0 .0 .0 .0 .0 .1) (none .0 .0 .0 .0 .1) (none .0 .0 .0 .1) (none .0 .0 .1) (none .0 .1) (none .1))
+
+pub record-at-spec : {M : Type 1} → statement M
+record-at-spec =
+    tie.close
+    (tie.spec
+    returns
+    shared-slice-read-kind
+    add-next
+    sub-body
+    part-body-start
+    part-body-end
+    node-in-requires
+    witness-in-requires
+    witness-in-requires-2
+    line-in-requires
+    line-in-requires-2
+    returns-2
+    returns-3
+    returns-4
+    returns-5
+    returns-6
+    returns-7
+    returns-8)

@@ -1,0 +1,119 @@
+// The records of a proof file: the one that stands at a place of its bytes.
+ghost use mathlib.Core.Path.{_≡_};
+ghost use Prim.Native.Nat.{_+_, _*_, _≤_};
+ghost use lib.ListN.{length};
+ghost use Rattle.records.specs.Records.{entryIn, nodeIn, witnessIn, lineIn, recordAt, lengthOf};
+
+// An entry's number in the proof file. Node numbers of the table are another kind.
+pub struct EntryNo(pub u16);
+
+pub struct NodeBody {
+    pub variable: u8,
+    pub low: EntryNo,
+    pub high: EntryNo,
+}
+
+// The rule by which a line is to be shown.
+pub enum Rule {
+    Rup,
+    Pr,
+}
+
+pub enum Record {
+    NodeEntry(NodeBody),
+    // The variable, and what the witness sets it to.
+    Witness(u8, bool),
+    // The rule and the root.
+    ProofLine(Rule, EntryNo),
+    End,
+    // The kind byte is there, not its whole body.
+    CutShort,
+    UnknownKind,
+    // No byte is left at the place.
+    NoRecord,
+}
+
+// Two bytes as a number, low byte first.
+fn low_byte_first(first: u8, second: u8) -> u16
+    ensures { λ r. ⌜ r ≡ first + 256 * second ⌝ }
+{
+    (first as u16) + 256 * (second as u16)
+}
+
+// The entry number at byte i of a body.
+fn entry_in(body: &[u8], i: usize) -> EntryNo
+    requires { ⌜ i + 2 ≤ length (now body) ⌝ }
+    ensures { λ r. ⌜ r ≡ entryIn (now (body .entry)) i ⌝ }
+{
+    EntryNo(low_byte_first(body[i], body[i + 1]))
+}
+
+// The node record of a body.
+fn node_in(body: &[u8]) -> Record
+    ensures { λ r. ⌜ r ≡ nodeIn (now (body .entry)) ⌝ }
+{
+    if body.len() < 5 {
+        return Record::CutShort;
+    }
+    Record::NodeEntry(NodeBody {
+        variable: body[0],
+        low: entry_in(body, 1),
+        high: entry_in(body, 3),
+    })
+}
+
+// The witness record of a body, which sets its variable to `value`.
+fn witness_in(body: &[u8], value: bool) -> Record
+    ensures { λ r. ⌜ r ≡ witnessIn value (now (body .entry)) ⌝ }
+{
+    if body.len() < 1 {
+        return Record::CutShort;
+    }
+    Record::Witness(body[0], value)
+}
+
+// The line of a body, by a rule.
+fn line_in(body: &[u8], rule: Rule) -> Record
+    ensures { λ r. ⌜ r ≡ lineIn rule (now (body .entry)) ⌝ }
+{
+    if body.len() < 2 {
+        return Record::CutShort;
+    }
+    Record::ProofLine(rule, entry_in(body, 0))
+}
+
+// The record whose first byte is at the place; a place at or past the end has none.
+pub fn record_at(proof: &[u8], at: usize) -> Record
+    ensures { λ r. ⌜ r ≡ recordAt (now (proof .entry)) at ⌝ }
+{
+    if proof.len() <= at {
+        return Record::NoRecord;
+    }
+    let kind = proof[at];
+    let next = at + 1;
+    let body = &proof[next..];
+    match kind {
+        0x4E => node_in(body),
+        0x54 => witness_in(body, true),
+        0x46 => witness_in(body, false),
+        0x52 => line_in(body, Rule::Rup),
+        0x50 => line_in(body, Rule::Pr),
+        0x45 => Record::End,
+        _ => Record::UnknownKind,
+    }
+}
+
+// The bytes that a record takes, so that the next one starts behind them; 0 for none.
+pub fn record_length(r: Record) -> usize
+    ensures { λ n. ⌜ n ≡ lengthOf r ⌝ }
+{
+    match r {
+        Record::NodeEntry(_) => 6,
+        Record::Witness(_, _) => 2,
+        Record::ProofLine(_, _) => 3,
+        Record::End => 1,
+        Record::CutShort => 0,
+        Record::UnknownKind => 0,
+        Record::NoRecord => 0,
+    }
+}

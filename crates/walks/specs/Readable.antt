@@ -1,0 +1,27 @@
+-- What the walks that place no node ask and answer. No call open to others cites `Readable`.
+use mathlib.Core.Path.{_≡_}
+use mathlib.Core.Bool.{Bool, true}
+use mathlib.Core.List.{List}
+use Prim.Native.Nat.{ℕ, _≤_}
+use lib.ListN.{length, take}
+use Rattle.meaning.specs.Diagram.{Diagram, value}
+use Rattle.meaning.specs.Words.{assignmentOf}
+use Rattle.table.specs.Nodes.{Node, nodesInOrder, diagramAt}
+use Rattle.table.specs.Columns.{rows}
+
+-- The first `count` places of three columns.
+abbrev pub nodesIn : List ℕ → List ℕ → List ℕ → ℕ → List Node
+nodesIn vs ls hs count = take count (rows vs ls hs)
+
+-- Columns of one length whose first `count` places are nodes in good order.
+pub record Readable (vs ls hs : List ℕ) (count : ℕ) : Type 0 where
+  pub least : 2 ≤ count
+  pub within : count ≤ length vs
+  pub most : length vs ≤ 65536
+  pub lows : length ls ≡ length vs
+  pub highs : length hs ≡ length vs
+  pub ordered : nodesInOrder (nodesIn vs ls hs count) ≡ true
+
+-- "Evaluation [..] says yes exactly when the node's value under the word's assignment is 1." (01, Values)
+unfoldable pub valueUnder : List Node → ℕ → ℕ → Bool
+valueUnder t k w = value (diagramAt t k) (assignmentOf 64 w)

@@ -1,0 +1,222 @@
+//! The check of a formula and a proof.
+
+use crate::dimacs::{Formula, Refusal};
+use crate::operate::Diagrams;
+use crate::records::{EntryId, Reader, Record};
+use crate::rules;
+use crate::table::{bit, Full, Literals, NodeId, LARGEST, ONE, SMALLEST, ZERO};
+
+const MEMBERS: u64 = 2_048;
+const SCRATCH: u64 = 4_096;
+const ENTRIES: usize = 4_096;
+const LINES: usize = 1_024;
+
+/// The sizes of the lent parts.
+pub struct Lent {
+    pub table: u64,
+    pub members: u64,
+    pub scratch: u64,
+}
+
+/// What the call says, and the member list as it leaves it; the table is left in the diagrams.
+pub struct Verdict {
+    pub number: u32,
+    pub place: usize,
+    pub lines: usize,
+    pub rounds: u64,
+    pub members: Vec<NodeId>,
+}
+
+pub fn table_size_is_right(size: u64) -> bool {
+    (SMALLEST..=LARGEST).contains(&size)
+}
+
+/// "Order: 7, formula, proof."
+pub fn check(d: &mut Diagrams, lent: &Lent, formula: &[u8], proof: &[u8]) -> Verdict {
+    let sizes = table_size_is_right(lent.table) && lent.members >= MEMBERS && lent.scratch >= SCRATCH;
+    d.reset(if sizes { lent.table as usize } else { SMALLEST as usize });
+    if !sizes {
+        return refused_early(Refusal { number: 7, place: 0 });
+    }
+    match read_formula(d, formula) {
+        Err(refusal) => {
+            // "A refused formula leaves table and lists all zero, count 2."
+            d.drop_to(2);
+            refused_early(refusal)
+        }
+        Ok((variables, members)) => Checker::new(d, variables, members).run(proof),
+    }
+}
+
+fn refused_early(refusal: Refusal) -> Verdict {
+    Verdict { number: refusal.number, place: refusal.place, lines: 0, rounds: 0, members: Vec::new() }
+}
+
+/// The number of variables and the members; "a clause is made as it closes".
+fn read_formula(d: &mut Diagrams, bytes: &[u8]) -> Result<(u32, Vec<NodeId>), Refusal> {
+    let mut formula = Formula::open(bytes)?;
+    let mut members = Vec::new();
+    while let Some(clause) = formula.next_clause()? {
+        let node = d.clause(clause.literals);
+        members.push(node.map_err(|Full| Refusal { number: 8, place: clause.place })?);
+    }
+    Ok((formula.variables(), members))
+}
+
+struct Checker<'a> {
+    d: &'a mut Diagrams,
+    variables: u32,
+    /// Clauses and accepted lines.
+    members: Vec<NodeId>,
+    /// The nodes of the entries since the last accepted line, the constants first.
+    entries: Vec<NodeId>,
+    witness: Literals,
+    /// The count at the last accepted line, or after the clauses.
+    kept: usize,
+    lines: usize,
+    rounds: u64,
+    /// Whether an accepted line is 0.
+    refuted: bool,
+}
+
+impl<'a> Checker<'a> {
+    fn new(d: &'a mut Diagrams, variables: u32, members: Vec<NodeId>) -> Checker<'a> {
+        let kept = d.table.count();
+        Checker {
+            d,
+            variables,
+            members,
+            entries: vec![ZERO, ONE],
+            witness: Literals::default(),
+            kept,
+            lines: 0,
+            rounds: 0,
+            refuted: false,
+        }
+    }
+
+    fn run(mut self, proof: &[u8]) -> Verdict {
+        let (number, place) = self.records(proof);
+        // "Nodes of entries after the last accepted line are dropped in both."
+        self.d.drop_to(self.kept);
+        Verdict { number, place, lines: self.lines, rounds: self.rounds, members: self.members }
+    }
+
+    /// Takes records up to the end record or a refusal: its number and place.
+    fn records(&mut self, proof: &[u8]) -> (u32, usize) {
+        let mut reader = Reader::new(proof);
+        loop {
+            let start = reader.place();
+            let taken = match reader.take() {
+                Err(number) => Err(number),
+                Ok(Record::End) => return self.end(&reader, start),
+                Ok(Record::Node { variable, low, high }) => self.node(variable.into(), low, high),
+                Ok(Record::Witness { variable, value }) => self.witness(variable.into(), value),
+                Ok(Record::Rup { root }) => self.rup(root),
+                Ok(Record::Pr { root }) => self.pr(root),
+            };
+            if let Err(number) = taken {
+                return (number, start);
+            }
+        }
+    }
+
+    /// "Node: 10, 21, 12, 13, 14, 23."
+    fn node(&mut self, variable: u32, low: EntryId, high: EntryId) -> Result<(), u32> {
+        if self.entries.len() - 2 == ENTRIES {
+            return Err(21);
+        }
+        self.known_variable(variable)?;
+        let (low, high) = (self.entry(low)?, self.entry(high)?);
+        if variable >= self.d.table.level(low).min(self.d.table.level(high)) {
+            return Err(14);
+        }
+        let node = self.d.table.make(variable, low, high).map_err(|Full| 23u32)?;
+        self.entries.push(node);
+        Ok(())
+    }
+
+    /// "Witness: 10, 12, 15."
+    fn witness(&mut self, variable: u32, value: bool) -> Result<(), u32> {
+        self.known_variable(variable)?;
+        if self.witness.variables() & bit(variable) != 0 {
+            return Err(15);
+        }
+        let side = if value { &mut self.witness.yes } else { &mut self.witness.no };
+        *side |= bit(variable);
+        Ok(())
+    }
+
+    /// "RUP: 10, 13, 16, 22, 17, then 19 or 23, the one met first."
+    fn rup(&mut self, root: EntryId) -> Result<(), u32> {
+        let g = self.entry(root)?;
+        if !self.witness.is_empty() {
+            return Err(16);
+        }
+        self.may_be_line(g)?;
+        let kept = self.d.table.count();
+        let shown = rules::rup(self.d, &self.members, g);
+        self.close(g, kept, shown)
+    }
+
+    /// "PR: 10, 13, 22, 17, 18, then the same."
+    fn pr(&mut self, root: EntryId) -> Result<(), u32> {
+        let g = self.entry(root)?;
+        self.may_be_line(g)?;
+        if !self.d.is_one_under(g, self.witness) {
+            return Err(18);
+        }
+        let kept = self.d.table.count();
+        let shown = rules::pr(self.d, &self.members, g, self.witness);
+        self.close(g, kept, shown)
+    }
+
+    /// "End: 16, 11, 20."
+    fn end(&self, reader: &Reader, start: usize) -> (u32, usize) {
+        if !self.witness.is_empty() {
+            (16, start)
+        } else if !reader.at_end() {
+            (11, reader.place())
+        } else if !self.refuted {
+            (20, start)
+        } else {
+            (0, start)
+        }
+    }
+
+    fn known_variable(&self, variable: u32) -> Result<(), u32> {
+        if variable == 0 || variable > self.variables {
+            return Err(12);
+        }
+        Ok(())
+    }
+
+    fn entry(&self, entry: EntryId) -> Result<NodeId, u32> {
+        self.entries.get(entry.0 as usize).copied().ok_or(13)
+    }
+
+    fn may_be_line(&self, g: NodeId) -> Result<(), u32> {
+        if self.lines == LINES {
+            return Err(22);
+        }
+        if g == ONE {
+            return Err(17);
+        }
+        Ok(())
+    }
+
+    /// "At a line's end all nodes since its last entry are dropped", and "after an accepted line its root
+    /// is the next member and entries and witness start anew". Only accepted lines' rounds count.
+    fn close(&mut self, g: NodeId, kept: usize, shown: Result<Option<u64>, Full>) -> Result<(), u32> {
+        let rounds = shown.map_err(|Full| 23u32)?.ok_or(19u32)?;
+        self.d.drop_to(kept);
+        self.kept = kept;
+        self.lines += 1;
+        self.rounds += rounds;
+        self.refuted |= g == ZERO;
+        self.members.push(g);
+        self.entries.truncate(2);
+        self.witness = Literals::default();
+        Ok(())
+    }
+}

@@ -1,0 +1,39 @@
+//! A checker of diagram refutations that is not proved, to hold the proved library against. It renders
+//! document 01 directly. A filter: one command a line, one answer a command.
+
+mod check;
+mod dimacs;
+mod operate;
+mod protocol;
+mod records;
+mod rules;
+mod table;
+#[cfg(test)]
+mod selftest;
+
+use std::io::{self, BufRead, BufReader, BufWriter, Write};
+
+fn main() -> io::Result<()> {
+    let mut input = BufReader::with_capacity(1 << 16, io::stdin().lock());
+    let mut output = BufWriter::new(io::stdout().lock());
+    let mut diagrams = operate::Diagrams::new();
+    let (mut line, mut out) = (Vec::new(), Vec::new());
+    loop {
+        // The other side may be waiting, unless its next whole command is here already.
+        if !input.buffer().contains(&b'\n') {
+            output.flush()?;
+        }
+        line.clear();
+        if input.read_until(b'\n', &mut line)? == 0 {
+            return output.flush();
+        }
+        let command = line.strip_suffix(b"\n").unwrap_or(&line);
+        if command.is_empty() {
+            continue;
+        }
+        out.clear();
+        protocol::answer(&mut diagrams, command, &mut out);
+        out.push(b'\n');
+        output.write_all(&out)?;
+    }
+}

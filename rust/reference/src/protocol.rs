@@ -1,0 +1,291 @@
+//! The line protocol: a command line in, an answer line out.
+
+use crate::check::{check, table_size_is_right, Lent};
+use crate::operate::Diagrams;
+use crate::table::{Full, Literals, NodeId, Table, VARIABLES, ZERO};
+
+/// A place of a lent table, which may hold anything: variable, low, high.
+type Place = [u32; 3];
+
+/// A lent table as written; places not held are zero.
+struct LentTable {
+    size: u64,
+    count: u64,
+    places: Vec<Place>,
+}
+
+enum Call {
+    And(u64, u64),
+    Not(u64),
+    Cofactor(u64, u64),
+    Restrict(u64, Literals),
+    Evaluate(u64, u64),
+}
+
+/// Writes the answer to a command, without the line's end.
+pub fn answer(d: &mut Diagrams, line: &[u8], out: &mut Vec<u8>) {
+    let before = out.len();
+    if command(d, line, out).is_none() {
+        out.truncate(before);
+        out.extend(b"error: not a command");
+    }
+}
+
+fn command(d: &mut Diagrams, line: &[u8], out: &mut Vec<u8>) -> Option<()> {
+    let mut words = line.split(|&b| b == b' ');
+    let name = words.next()?;
+    if name == b"check" {
+        return check_command(d, words, out);
+    }
+    let lent = lent_table(&mut words)?;
+    let mut operand = || decimal(words.next()?);
+    let call = match name {
+        b"and" => Call::And(operand()?, operand()?),
+        b"not" => Call::Not(operand()?),
+        b"cof" => Call::Cofactor(operand()?, operand()?),
+        b"lits" => Call::Restrict(operand()?, Literals { yes: operand()?, no: operand()? }),
+        b"eval" => Call::Evaluate(operand()?, operand()?),
+        _ => return None,
+    };
+    if words.next().is_some() {
+        return None;
+    }
+    single(d, &lent, &call, out);
+    Some(())
+}
+
+fn check_command<'a>(d: &mut Diagrams, mut words: impl Iterator<Item = &'a [u8]>, out: &mut Vec<u8>) -> Option<()> {
+    let mut size = || decimal(words.next()?);
+    let lent = Lent { table: size()?, members: size()?, scratch: size()? };
+    let formula = hex(words.next()?)?;
+    let proof = hex(words.next()?)?;
+    if words.next().is_some() {
+        return None;
+    }
+    let verdict = check(d, &lent, &formula, &proof);
+    push_number(out, verdict.number.into());
+    for value in [verdict.place as u64, verdict.lines as u64, verdict.rounds, d.table.count() as u64] {
+        out.push(b' ');
+        push_number(out, value);
+    }
+    out.extend(b" | ");
+    push_table(out, &d.table);
+    out.extend(b" | ");
+    push_list(out, b',', &verdict.members, |out, member| push_number(out, member.0.into()));
+    Some(())
+}
+
+/// A single call: "7, 26, 13, then 27 or 15, then 23 where nodes are made". "A refused single call
+/// changes nothing", so its answer shows the table as lent.
+fn single(d: &mut Diagrams, lent: &LentTable, call: &Call, out: &mut Vec<u8>) {
+    let outcome = run(d, lent, call);
+    let (number, value) = match outcome {
+        Ok(value) => (0, value),
+        Err(number) => (number, 0),
+    };
+    let count = if number == 0 { d.table.count() as u64 } else { lent.count };
+    push_number(out, number.into());
+    out.push(b' ');
+    push_number(out, value.into());
+    out.push(b' ');
+    push_number(out, count);
+    if matches!(call, Call::Evaluate(..)) {
+        return;
+    }
+    out.extend(b" | ");
+    if number == 0 {
+        push_table(out, &d.table);
+    } else {
+        push_lent(out, &lent.places);
+    }
+}
+
+fn run(d: &mut Diagrams, lent: &LentTable, call: &Call) -> Result<u32, u32> {
+    if !table_size_is_right(lent.size) {
+        return Err(7);
+    }
+    d.reset(lent.size as usize);
+    if !load(&mut d.table, lent) {
+        return Err(26);
+    }
+    let made = match *call {
+        Call::And(f, g) => {
+            let (f, g) = (node(d, f)?, node(d, g)?);
+            d.conjoin(f, g)
+        }
+        Call::Not(f) => {
+            let f = node(d, f)?;
+            d.negate(f)
+        }
+        Call::Cofactor(f, g) => {
+            let (f, g) = (node(d, f)?, node(d, g)?);
+            if g == ZERO {
+                return Err(27);
+            }
+            d.cofactor(f, g)
+        }
+        Call::Restrict(f, by) => {
+            let f = node(d, f)?;
+            if by.clash() {
+                return Err(15);
+            }
+            d.restrict(f, by)
+        }
+        Call::Evaluate(f, word) => return Ok(d.evaluate(node(d, f)?, word).into()),
+    };
+    made.map(|node| node.0).map_err(|Full| 23)
+}
+
+fn node(d: &Diagrams, number: u64) -> Result<NodeId, u32> {
+    if d.table.has(number) {
+        Ok(NodeId(number as u32))
+    } else {
+        Err(13)
+    }
+}
+
+/// Takes a lent table into an empty one; false where it is not in "good order".
+fn load(table: &mut Table, lent: &LentTable) -> bool {
+    if lent.count < 2 || lent.count > lent.size || lent.count > lent.places.len().max(2) as u64 {
+        return false;
+    }
+    let (constants, others) = lent.places.split_at(lent.places.len().min(2));
+    let (nodes, free) = others.split_at(lent.count as usize - 2);
+    let zeros = |places: &[Place]| places.iter().all(|place| *place == [0; 3]);
+    zeros(constants) && zeros(free) && nodes.iter().all(|node| admit(table, *node))
+}
+
+/// Places one lent node that keeps to good order.
+fn admit(table: &mut Table, [variable, low, high]: Place) -> bool {
+    let proper = (1..=VARIABLES).contains(&variable) && low != high;
+    if !proper || !table.has(low.into()) || !table.has(high.into()) {
+        return false;
+    }
+    let (low, high) = (NodeId(low), NodeId(high));
+    let before = variable < table.level(low) && variable < table.level(high);
+    if !before || table.find(variable, low, high).is_some() {
+        return false;
+    }
+    table.push(variable, low, high);
+    true
+}
+
+fn lent_table<'a>(words: &mut impl Iterator<Item = &'a [u8]>) -> Option<LentTable> {
+    let size = decimal(words.next()?)?;
+    let count = decimal(words.next()?)?;
+    let mut places = lent_places(words.next()?)?;
+    // "Surplus places beyond SIZE are ignored."
+    places.truncate(usize::try_from(size).unwrap_or(usize::MAX));
+    Some(LentTable { size, count, places })
+}
+
+fn lent_places(text: &[u8]) -> Option<Vec<Place>> {
+    let (mut rest, mut places) = match text {
+        [b'@', rest @ ..] => (rest, Vec::new()),
+        _ => (text, vec![[0; 3]; 2]),
+    };
+    if rest == b"-" {
+        return Some(places);
+    }
+    loop {
+        let place = [field(&mut rest, b',')?, field(&mut rest, b',')?, field(&mut rest, b';')?];
+        places.push(place);
+        if rest.is_empty() {
+            return Some(places);
+        }
+    }
+}
+
+/// A number up to the given sign, which is passed over; the last one ends with the text.
+fn field(rest: &mut &[u8], end: u8) -> Option<u32> {
+    let length = rest.iter().position(|b| !b.is_ascii_digit()).unwrap_or(rest.len());
+    let (digits, after) = rest.split_at(length);
+    *rest = match after {
+        [sign, tail @ ..] if *sign == end && !tail.is_empty() => tail,
+        [] if end == b';' => after,
+        _ => return None,
+    };
+    u32::try_from(decimal(digits)?).ok()
+}
+
+fn decimal(digits: &[u8]) -> Option<u64> {
+    if digits.is_empty() {
+        return None;
+    }
+    digits.iter().try_fold(0u64, |value, &digit| {
+        let more = digit.is_ascii_digit().then(|| (digit - b'0') as u64)?;
+        value.checked_mul(10)?.checked_add(more)
+    })
+}
+
+fn hex(digits: &[u8]) -> Option<Vec<u8>> {
+    if digits == b"-" {
+        return Some(Vec::new());
+    }
+    if digits.is_empty() || digits.len() % 2 != 0 {
+        return None;
+    }
+    digits.chunks_exact(2).map(|pair| Some(hex_digit(pair[0])? << 4 | hex_digit(pair[1])?)).collect()
+}
+
+fn hex_digit(digit: u8) -> Option<u8> {
+    match digit {
+        b'0'..=b'9' => Some(digit - b'0'),
+        b'a'..=b'f' => Some(digit - b'a' + 10),
+        _ => None,
+    }
+}
+
+/// A table in good order: places 2 to the count.
+fn push_table(out: &mut Vec<u8>, table: &Table) {
+    let nodes: Vec<NodeId> = (2..table.count() as u32).map(NodeId).collect();
+    push_list(out, b';', &nodes, |out, &id| {
+        push_place(out, &[table.level(id), table.low(id).0, table.high(id).0]);
+    });
+}
+
+/// A lent table: to the last place that is not zero; from place 0, after `@`, where 0 or 1 is dirty.
+fn push_lent(out: &mut Vec<u8>, places: &[Place]) {
+    let used = places.iter().rposition(|place| *place != [0; 3]).map_or(0, |last| last + 1);
+    let dirty = places.iter().take(2).any(|place| *place != [0; 3]);
+    if dirty {
+        out.push(b'@');
+    }
+    let from = if dirty { 0 } else { used.min(2) };
+    push_list(out, b';', &places[from..used], push_place);
+}
+
+fn push_place(out: &mut Vec<u8>, place: &Place) {
+    for (at, &field) in place.iter().enumerate() {
+        if at > 0 {
+            out.push(b',');
+        }
+        push_number(out, field.into());
+    }
+}
+
+fn push_list<T>(out: &mut Vec<u8>, between: u8, items: &[T], push: impl Fn(&mut Vec<u8>, &T)) {
+    if items.is_empty() {
+        out.push(b'-');
+    }
+    for (at, item) in items.iter().enumerate() {
+        if at > 0 {
+            out.push(between);
+        }
+        push(out, item);
+    }
+}
+
+fn push_number(out: &mut Vec<u8>, mut value: u64) {
+    let mut digits = [0u8; 20];
+    let mut at = digits.len();
+    loop {
+        at -= 1;
+        digits[at] = b'0' + (value % 10) as u8;
+        value /= 10;
+        if value == 0 {
+            break;
+        }
+    }
+    out.extend_from_slice(&digits[at..]);
+}

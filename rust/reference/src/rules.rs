@@ -1,0 +1,83 @@
+//! Unit propagation and the two rules for a line.
+//!
+//! Each answers with the rounds where it conflicts everywhere it must, with none where it does not, and
+//! with `Full` where a node finds no room first.
+
+use crate::operate::Diagrams;
+use crate::table::{Full, Literals, NodeId, ONE};
+
+/// "UnitProp": (a) conflict, (b) a round by the units of the lowest member that has any, (c) none left.
+pub fn propagate(d: &mut Diagrams, members: &mut [NodeId]) -> Result<Option<u64>, Full> {
+    let mut rounds = 0;
+    loop {
+        if d.conflict(members) {
+            return Ok(Some(rounds));
+        }
+        let Some(units) = first_units(d, members) else {
+            return Ok(None);
+        };
+        for member in members.iter_mut() {
+            *member = d.restrict(*member, units)?;
+        }
+        rounds += 1;
+    }
+}
+
+fn first_units(d: &Diagrams, members: &[NodeId]) -> Option<Literals> {
+    members.iter().map(|&member| d.table.units(member)).find(|units| !units.is_empty())
+}
+
+/// "RUP: UnitProp of all members cofactored by not-g conflicts." g is not 1.
+pub fn rup(d: &mut Diagrams, members: &[NodeId], g: NodeId) -> Result<Option<u64>, Full> {
+    let mut cofactored = by_negation(d, members, g)?;
+    propagate(d, &mut cofactored)
+}
+
+/// The PR rule past "g under ω is 1", which is asked before.
+pub fn pr(d: &mut Diagrams, members: &[NodeId], g: NodeId, witness: Literals) -> Result<Option<u64>, Full> {
+    let first = by_negation(d, members, g)?;
+    let kept = d.table.count();
+    let mut second = Vec::with_capacity(first.len());
+    let mut rounds = 0;
+    for &member in members {
+        match turn(d, &first, member, witness, &mut second)? {
+            Some(more) => rounds += more,
+            None => return Ok(None),
+        }
+        // "In PR the nodes of one member's turn are dropped before the next."
+        d.drop_to(kept);
+    }
+    Ok(Some(rounds))
+}
+
+/// One member's turn: h; and where h is not 1, not-h, the second cofactors, and the propagation.
+fn turn(
+    d: &mut Diagrams,
+    first: &[NodeId],
+    member: NodeId,
+    witness: Literals,
+    second: &mut Vec<NodeId>,
+) -> Result<Option<u64>, Full> {
+    let h = d.restrict(member, witness)?;
+    if h == ONE {
+        return Ok(Some(0));
+    }
+    let not_h = d.negate(h)?;
+    cofactor_all(d, first, not_h, second)?;
+    propagate(d, second)
+}
+
+fn by_negation(d: &mut Diagrams, members: &[NodeId], g: NodeId) -> Result<Vec<NodeId>, Full> {
+    let not_g = d.negate(g)?;
+    let mut cofactored = Vec::with_capacity(members.len());
+    cofactor_all(d, members, not_g, &mut cofactored)?;
+    Ok(cofactored)
+}
+
+fn cofactor_all(d: &mut Diagrams, members: &[NodeId], by: NodeId, into: &mut Vec<NodeId>) -> Result<(), Full> {
+    into.clear();
+    for &member in members {
+        into.push(d.cofactor(member, by)?);
+    }
+    Ok(())
+}

@@ -1,0 +1,506 @@
+//! The checker held against the words of document 01 by brute force, over at most four variables: a
+//! function is a word of 16 values, one for each assignment, and the table is searched from end to end.
+
+use crate::operate::Diagrams;
+use crate::protocol::answer;
+use crate::table::{bit, Literals, NodeId, ZERO};
+
+const N: u32 = 4;
+const ALL: u16 = u16::MAX;
+
+/// A function by its values: bit a is the value at assignment a, whose bit i-1 is variable i.
+type Function = u16;
+
+struct Random(u64);
+
+impl Random {
+    fn below(&mut self, bound: u64) -> u64 {
+        self.0 ^= self.0 << 13;
+        self.0 ^= self.0 >> 7;
+        self.0 ^= self.0 << 17;
+        (self.0 >> 11) % bound
+    }
+
+    fn function(&mut self) -> Function {
+        self.below(1 << 16) as u16
+    }
+
+    fn one_in(&mut self, bound: u64) -> bool {
+        self.below(bound) == 0
+    }
+}
+
+fn value(f: Function, assignment: u32) -> bool {
+    f >> assignment & 1 == 1
+}
+
+fn function(values: impl Fn(u32) -> bool) -> Function {
+    (0..16).filter(|&a| values(a)).fold(0, |f, a| f | 1 << a)
+}
+
+fn variable(v: u32) -> Function {
+    function(|a| a >> (v - 1) & 1 == 1)
+}
+
+fn under(f: Function, by: Literals) -> Function {
+    function(|a| value(f, (a | by.yes as u32) & !(by.no as u32)))
+}
+
+fn distance(a: u32, b: u32) -> u32 {
+    (1..=N).filter(|i| (a ^ b) >> (i - 1) & 1 == 1).map(|i| 1 << (N - i)).sum()
+}
+
+fn nearest(f: Function, g: Function) -> Function {
+    function(|a| {
+        let best = (0..16).filter(|&b| value(g, b)).min_by_key(|&b| distance(a, b)).unwrap();
+        value(f, best)
+    })
+}
+
+fn units(f: Function) -> Literals {
+    let mut units = Literals::default();
+    for v in 1..=N {
+        if f & !variable(v) == 0 {
+            units.yes |= bit(v);
+        }
+        if f & variable(v) == 0 {
+            units.no |= bit(v);
+        }
+    }
+    units
+}
+
+/// A table that is searched from end to end.
+#[derive(Clone, PartialEq, Debug)]
+struct Plain {
+    size: usize,
+    nodes: Vec<[u32; 3]>,
+}
+
+struct NoRoom;
+
+impl Plain {
+    fn new(size: usize) -> Plain {
+        Plain { size, nodes: vec![[0; 3]; 2] }
+    }
+
+    fn place(&mut self, v: u32, low: u32, high: u32) -> Result<u32, NoRoom> {
+        let node = [v, low, high];
+        if let Some(at) = self.nodes.iter().position(|&other| other == node) {
+            return Ok(at as u32);
+        }
+        if self.nodes.len() == self.size {
+            return Err(NoRoom);
+        }
+        self.nodes.push(node);
+        Ok(self.nodes.len() as u32 - 1)
+    }
+
+    fn build(&mut self, f: Function) -> Result<u32, NoRoom> {
+        if f == 0 || f == ALL {
+            return Ok((f == ALL) as u32);
+        }
+        let branch = |v: u32| (under(f, Literals { yes: 0, no: bit(v) }), under(f, Literals { yes: bit(v), no: 0 }));
+        let v = (1..=N).find(|&v| branch(v).0 != branch(v).1).unwrap();
+        let low = self.build(branch(v).0)?;
+        let high = self.build(branch(v).1)?;
+        self.place(v, low, high)
+    }
+
+    fn function(&self, node: u32) -> Function {
+        match node {
+            0 => 0,
+            1 => ALL,
+            _ => {
+                let [v, low, high] = self.nodes[node as usize];
+                (variable(v) & self.function(high)) | (!variable(v) & self.function(low))
+            }
+        }
+    }
+
+    fn text(&self) -> String {
+        let nodes: Vec<String> = self.nodes[2..].iter().map(|[v, l, h]| format!("{v},{l},{h}")).collect();
+        if nodes.is_empty() {
+            "-".into()
+        } else {
+            nodes.join(";")
+        }
+    }
+}
+
+fn ask(d: &mut Diagrams, line: &str) -> String {
+    let mut out = Vec::new();
+    answer(d, line.as_bytes(), &mut out);
+    String::from_utf8(out).unwrap()
+}
+
+/// Number, node, count and table that a single call must give when its result is f.
+fn expected(table: &Plain, f: Function) -> String {
+    let mut after = table.clone();
+    match after.build(f) {
+        Ok(node) => format!("0 {node} {} | {}", after.nodes.len(), after.text()),
+        Err(NoRoom) => format!("23 0 {} | {}", table.nodes.len(), table.text()),
+    }
+}
+
+#[test]
+fn single_calls_are_what_the_definitions_say() {
+    let mut random = Random(0x5EED);
+    let mut d = Diagrams::new();
+    for _ in 0..10_000 {
+        let mut table = Plain::new(256);
+        for _ in 0..1 + random.below(3) {
+            let f = random.function() & if random.one_in(2) { ALL } else { random.function() };
+            assert!(table.build(f).is_ok());
+        }
+        let count = table.nodes.len() as u64;
+        table.size = (count + random.below(12)) as usize;
+        let (f, g) = (random.below(count) as u32, random.below(count) as u32);
+        let (ff, gg) = (table.function(f), table.function(g));
+        let head = format!("{} {count} {}", table.size, table.text());
+        assert_eq!(ask(&mut d, &format!("and {head} {f} {g}")), expected(&table, ff & gg));
+        assert_eq!(ask(&mut d, &format!("not {head} {f}")), expected(&table, !ff));
+        if gg != 0 {
+            assert_eq!(ask(&mut d, &format!("cof {head} {f} {g}")), expected(&table, nearest(ff, gg)));
+        }
+        let yes = random.below(16);
+        let by = Literals { yes, no: random.below(16) & !yes };
+        let line = format!("lits {head} {f} {} {}", by.yes, by.no);
+        assert_eq!(ask(&mut d, &line), expected(&table, under(ff, by)));
+        let word = random.below(16);
+        let seen = value(ff, word as u32) as u32;
+        assert_eq!(ask(&mut d, &format!("eval {head} {f} {word}")), format!("0 {seen} {count}"));
+        for node in 0..count as u32 {
+            facts_hold(&mut d, &table, node, by);
+        }
+    }
+}
+
+/// Units, the question for 1 and the tie to the negation, in the table loaded by the last call.
+fn facts_hold(d: &mut Diagrams, table: &Plain, node: u32, by: Literals) {
+    let f = table.function(node);
+    let only = |l: Literals| Literals { yes: l.yes & 15, no: l.no & 15 };
+    assert_eq!(only(d.table.units(NodeId(node))), units(f));
+    assert_eq!(d.is_one_under(NodeId(node), by), under(f, by) == ALL);
+    let negation = (0..table.nodes.len() as u32).find(|&other| table.function(other) == !f);
+    assert_eq!(d.table.negation(NodeId(node)), negation.map(NodeId));
+}
+
+#[test]
+fn units_are_read_from_both_branches() {
+    // Example H: x2 and (x1 or x3), the root x1.
+    let mut d = Diagrams::new();
+    d.reset(16);
+    let x2 = d.clause(Literals { yes: 2, no: 0 }).unwrap();
+    let either = d.clause(Literals { yes: 5, no: 0 }).unwrap();
+    let both = d.conjoin(x2, either).unwrap();
+    assert_eq!(d.table.level(both), 1);
+    assert_eq!(d.table.units(both), Literals { yes: 2, no: 0 });
+}
+
+#[derive(Clone, Copy)]
+enum Step {
+    Node(u32, u16, u16),
+    Witness(u32, bool),
+    Line(u16, bool),
+    End,
+}
+
+fn bytes(step: Step) -> Vec<u8> {
+    let two = |entry: u16| entry.to_le_bytes();
+    match step {
+        Step::Node(v, l, h) => vec![0x4E, v as u8, two(l)[0], two(l)[1], two(h)[0], two(h)[1]],
+        Step::Witness(v, value) => vec![if value { 0x54 } else { 0x46 }, v as u8],
+        Step::Line(root, pr) => vec![if pr { 0x50 } else { 0x52 }, two(root)[0], two(root)[1]],
+        Step::End => vec![0x45],
+    }
+}
+
+/// The proof's part of document 01, word for word, on functions.
+struct Model {
+    variables: u32,
+    table: Plain,
+    members: Vec<Function>,
+    entries: Vec<Function>,
+    witness: Literals,
+    kept: Plain,
+    lines: u64,
+    rounds: u64,
+    line_rounds: u64,
+    refuted: bool,
+}
+
+impl From<NoRoom> for u32 {
+    fn from(_: NoRoom) -> u32 {
+        23
+    }
+}
+
+impl Model {
+    fn root(f: Function) -> u32 {
+        (1..=N).find(|&v| under(f, Literals { yes: bit(v), no: 0 }) != f).unwrap_or(u32::MAX)
+    }
+
+    fn take(&mut self, step: Step) -> Result<(), u32> {
+        match step {
+            Step::Node(v, low, high) => {
+                let known = |e: u16| self.entries.get(e as usize).copied();
+                if v == 0 || v > self.variables {
+                    return Err(12);
+                }
+                let (Some(low), Some(high)) = (known(low), known(high)) else { return Err(13) };
+                if v >= Model::root(low) || v >= Model::root(high) {
+                    return Err(14);
+                }
+                let f = (variable(v) & high) | (!variable(v) & low);
+                self.table.build(f)?;
+                self.entries.push(f);
+            }
+            Step::Witness(v, value) => {
+                if v == 0 || v > self.variables {
+                    return Err(12);
+                }
+                if (self.witness.yes | self.witness.no) & bit(v) != 0 {
+                    return Err(15);
+                }
+                *(if value { &mut self.witness.yes } else { &mut self.witness.no }) |= bit(v);
+            }
+            Step::Line(root, pr) => {
+                let g = *self.entries.get(root as usize).ok_or(13u32)?;
+                if !pr && self.witness != Literals::default() {
+                    return Err(16);
+                }
+                if g == ALL {
+                    return Err(17);
+                }
+                if pr && under(g, self.witness) != ALL {
+                    return Err(18);
+                }
+                let before = self.table.clone();
+                self.line_rounds = 0;
+                if !self.shown(g, pr)? {
+                    return Err(19);
+                }
+                self.table = before;
+                self.kept = self.table.clone();
+                self.members.push(g);
+                self.entries = vec![0, ALL];
+                self.witness = Literals::default();
+                self.lines += 1;
+                self.rounds += self.line_rounds;
+                self.refuted |= g == 0;
+            }
+            Step::End if self.witness != Literals::default() => return Err(16),
+            Step::End => return Err(if self.refuted { 0 } else { 20 }),
+        }
+        Ok(())
+    }
+
+    fn shown(&mut self, g: Function, pr: bool) -> Result<bool, NoRoom> {
+        self.table.build(!g)?;
+        let members = self.members.clone();
+        let first = self.each(&members, |f| nearest(f, !g))?;
+        if !pr {
+            return self.conflicts(first);
+        }
+        let before = self.table.clone();
+        for f in members {
+            let h = under(f, self.witness);
+            if h != ALL {
+                self.table.build(h)?;
+                self.table.build(!h)?;
+                let second = self.each(&first, |f| nearest(f, !h))?;
+                if !self.conflicts(second)? {
+                    return Ok(false);
+                }
+            }
+            self.table = before.clone();
+        }
+        Ok(true)
+    }
+
+    fn each(&mut self, members: &[Function], change: impl Fn(Function) -> Function) -> Result<Vec<Function>, NoRoom> {
+        members.iter().map(|&f| self.table.build(change(f)).map(|_| change(f))).collect()
+    }
+
+    fn conflicts(&mut self, mut members: Vec<Function>) -> Result<bool, NoRoom> {
+        loop {
+            if members.iter().any(|&f| f == 0 || members.contains(&!f)) {
+                return Ok(true);
+            }
+            let Some(by) = members.iter().map(|&f| units(f)).find(|u| *u != Literals::default()) else {
+                return Ok(false);
+            };
+            members = self.each(&members, |f| under(f, by))?;
+            self.line_rounds += 1;
+        }
+    }
+}
+
+/// Records that make a function, its children first; the entry that holds it.
+fn make(f: Function, entries: &mut Vec<Function>, steps: &mut Vec<Step>) -> u16 {
+    if let Some(at) = entries.iter().position(|&other| other == f) {
+        return at as u16;
+    }
+    let v = Model::root(f);
+    let low = make(under(f, Literals { yes: 0, no: bit(v) }), entries, steps);
+    let high = make(under(f, Literals { yes: bit(v), no: 0 }), entries, steps);
+    steps.push(Step::Node(v, low, high));
+    entries.push(f);
+    entries.len() as u16 - 1
+}
+
+/// A proof of lines that often, not always, follow.
+fn proof(random: &mut Random, variables: u32, clauses: &[Function]) -> Vec<Step> {
+    let mut members = clauses.to_vec();
+    let mut steps = Vec::new();
+    for _ in 0..random.below(5) {
+        let mut entries = vec![0, ALL];
+        let mut g = 0;
+        for _ in 0..1 + random.below(3) {
+            g |= !members.get(random.below(members.len() as u64 + 1) as usize).copied().unwrap_or(ALL);
+        }
+        g = !g | if random.one_in(3) { random_clause(random, variables).1 } else { 0 };
+        if random.one_in(4) {
+            g = random_clause(random, variables).1;
+        }
+        let root = make(g, &mut entries, &mut steps);
+        if random.one_in(8) {
+            steps.push(noise(random));
+        }
+        let pr = random.one_in(3);
+        for v in 1..=variables {
+            if pr && random.one_in(2) {
+                steps.push(Step::Witness(v, under(g, Literals { yes: bit(v), no: 0 }) == ALL || random.one_in(2)));
+            }
+        }
+        steps.push(Step::Line(root, pr));
+        members.push(g);
+    }
+    if !random.one_in(3) {
+        steps.push(Step::Line(0, false));
+    }
+    steps.push(Step::End);
+    steps
+}
+
+fn noise(random: &mut Random) -> Step {
+    let entry = |random: &mut Random| random.below(8) as u16;
+    match random.below(4) {
+        0 => Step::Witness(random.below(6) as u32, random.one_in(2)),
+        1 => Step::Line(entry(random), random.one_in(2)),
+        _ => Step::Node(random.below(6) as u32, entry(random), entry(random)),
+    }
+}
+
+fn random_clause(random: &mut Random, variables: u32) -> (Vec<i32>, Function) {
+    let mut literals = Vec::new();
+    let mut f = 0;
+    for v in 1..=variables {
+        match random.below(4) {
+            0 => (literals.push(v as i32), f |= variable(v)).1,
+            1 => (literals.push(-(v as i32)), f |= !variable(v)).1,
+            _ => (),
+        }
+    }
+    (literals, f)
+}
+
+fn hex(bytes: &[u8]) -> String {
+    if bytes.is_empty() {
+        return "-".into();
+    }
+    bytes.iter().map(|byte| format!("{byte:02x}")).collect()
+}
+
+/// What document 01 says of a check whose formula is well written and fits the table.
+fn judged(variables: u32, size: usize, clauses: &[Function], steps: &[Step]) -> Option<String> {
+    let mut table = Plain::new(size);
+    for &clause in clauses {
+        table.build(clause).ok()?;
+    }
+    let mut model = Model {
+        variables,
+        kept: table.clone(),
+        table,
+        members: clauses.to_vec(),
+        entries: vec![0, ALL],
+        witness: Literals::default(),
+        lines: 0,
+        rounds: 0,
+        line_rounds: 0,
+        refuted: false,
+    };
+    let mut place = 0;
+    for &step in steps {
+        if let Err(number) = model.take(step) {
+            return Some(report(number, place, model));
+        }
+        place += bytes(step).len();
+    }
+    unreachable!("every proof has an end record")
+}
+
+fn report(number: u32, place: usize, mut model: Model) -> String {
+    let count = model.kept.nodes.len();
+    let members: Vec<String> =
+        model.members.iter().map(|&f| model.kept.build(f).ok().unwrap().to_string()).collect();
+    let members = if members.is_empty() { "-".into() } else { members.join(",") };
+    format!("{number} {place} {} {} {count} | {} | {members}", model.lines, model.rounds, model.kept.text())
+}
+
+#[test]
+fn checks_are_what_the_rules_say_and_0_is_said_of_nothing_satisfiable() {
+    let mut random = Random(0xC0FFEE);
+    let mut d = Diagrams::new();
+    let mut seen = [0u32; 32];
+    let mut accepted_pr = 0;
+    for _ in 0..40_000 {
+        let variables = 1 + random.below(N as u64) as u32;
+        let made: Vec<_> = (0..random.below(9)).map(|_| random_clause(&mut random, variables)).collect();
+        let clauses: Vec<Function> = made.iter().map(|clause| clause.1).collect();
+        let steps = proof(&mut random, variables, &clauses);
+        let size = if random.one_in(2) { 200 } else { 2 + random.below(40) as usize };
+        let mut text = format!("p cnf {variables} {}\n", made.len());
+        for (literals, _) in &made {
+            literals.iter().for_each(|literal| text.push_str(&format!("{literal} ")));
+            text.push_str("0\n");
+        }
+        let proof: Vec<u8> = steps.iter().flat_map(|&step| bytes(step)).collect();
+        let line = format!("check {size} 2048 4096 {} {}", hex(text.as_bytes()), hex(&proof));
+        let said = ask(&mut d, &line);
+        match judged(variables, size, &clauses, &steps) {
+            Some(judged) => assert_eq!(said, judged, "{line}"),
+            None => assert!(said.starts_with("8 "), "{line}"),
+        }
+        let number: usize = said.split(' ').next().unwrap().parse().unwrap();
+        seen[number] += 1;
+        accepted_pr += (number == 0 && proof.contains(&0x50)) as u32;
+        let models = clauses.iter().fold(ALL, |all, clause| all & clause);
+        assert!(number != 0 || models == 0, "0 said of a satisfiable formula: {line}");
+    }
+    for number in [0, 8, 12, 13, 14, 15, 16, 17, 18, 19, 20, 23] {
+        assert!(seen[number] > 20, "{number} seen {} times only", seen[number]);
+    }
+    assert!(accepted_pr > 50, "{accepted_pr}");
+}
+
+#[test]
+fn parity_over_64_variables_stays_small() {
+    let mut d = Diagrams::new();
+    d.reset(4_096);
+    let (mut odd, mut even) = (ZERO, NodeId(1));
+    for v in (1..=64).rev() {
+        let next = (d.table.make(v, odd, even).unwrap(), d.table.make(v, even, odd).unwrap());
+        (odd, even) = next;
+    }
+    assert_eq!(d.table.count(), 2 + 128);
+    assert_eq!(d.negate(odd), Ok(even));
+    let first = d.table.make(1, ZERO, NodeId(1)).unwrap();
+    let both = d.conjoin(odd, first).unwrap();
+    assert_eq!(d.cofactor(odd, first), Ok(d.table.high(odd)));
+    assert_eq!(d.cofactor(first, both), Ok(NodeId(1)));
+    assert_eq!(d.restrict(odd, Literals { yes: 1, no: 0 }), Ok(d.table.high(odd)));
+    assert!(!d.is_one_under(odd, Literals { yes: u64::MAX >> 1, no: 0 }));
+    assert!(d.is_one_under(odd, Literals { yes: u64::MAX >> 1, no: 1 << 63 }));
+}

@@ -1,0 +1,416 @@
+//! The examples of document 01, each row of its table of numbers but 24 and 25, and the edges of its
+//! sentences, asked of the filter itself.
+
+use std::io::{BufRead, BufReader, Write};
+use std::process::{Command, Stdio};
+
+/// Starts the filter, asks each command and gives the answers.
+fn ask(commands: &[String]) -> Vec<String> {
+    let mut filter = Command::new(env!("CARGO_BIN_EXE_reference"))
+        .stdin(Stdio::piped())
+        .stdout(Stdio::piped())
+        .spawn()
+        .unwrap();
+    let mut input = filter.stdin.take().unwrap();
+    let text = commands.join("\n") + "\n";
+    let writer = std::thread::spawn(move || input.write_all(text.as_bytes()).unwrap());
+    let answers = BufReader::new(filter.stdout.take().unwrap()).lines().map(Result::unwrap).collect();
+    writer.join().unwrap();
+    assert!(filter.wait().unwrap().success());
+    answers
+}
+
+/// Asks commands and compares answers, as far as each expectation goes: whole words from the start.
+fn expect(rows: Vec<(String, String)>) {
+    let (commands, wanted): (Vec<String>, Vec<String>) = rows.into_iter().unzip();
+    let answers = ask(&commands);
+    assert_eq!(answers.len(), commands.len());
+    for ((command, answer), wanted) in commands.iter().zip(&answers).zip(&wanted) {
+        let same = answer == wanted || answer.starts_with(&format!("{wanted} "));
+        let shown: String = command.chars().take(300).collect();
+        assert!(same, "\n  asked    {shown}\n  answered {answer}\n  wanted   {wanted}");
+    }
+}
+
+fn hex(bytes: &[u8]) -> String {
+    if bytes.is_empty() {
+        return "-".into();
+    }
+    bytes.iter().map(|byte| format!("{byte:02x}")).collect()
+}
+
+fn sized(size: u64, formula: &str, proof: &str) -> String {
+    let bytes: String = proof.split_whitespace().collect();
+    let proof = if bytes.is_empty() { "-".into() } else { bytes.to_lowercase() };
+    format!("check {size} 2048 4096 {} {proof}", hex(formula.as_bytes()))
+}
+
+fn check(formula: &str, proof: &str) -> String {
+    sized(4096, formula, proof)
+}
+
+fn rows(rows: &[(&str, &str, &str)]) -> Vec<(String, String)> {
+    rows.iter().map(|(formula, proof, wanted)| (check(formula, proof), wanted.to_string())).collect()
+}
+
+const FOUR: &str = "p cnf 2 4\n1 2 0\n-1 2 0\n1 -2 0\n-1 -2 0\n";
+const ONE: &str = "p cnf 2 1\n1 2 0\n";
+const A: &str = "4E 02 00 00 01 00 52 02 00 52 00 00 45";
+
+#[test]
+fn examples_a_to_f_i_and_j() {
+    expect(rows(&[
+        (FOUR, A, "0 12 2 1 8 | 2,0,1;1,2,1;1,1,2;2,1,0;1,5,1;1,1,5 | 3,4,6,7,2,0"),
+        (FOUR, "52 00 00 45", "19 0 0 0 8 | 2,0,1;1,2,1;1,1,2;2,1,0;1,5,1;1,1,5 | 3,4,6,7"),
+        ("p cnf 2 2\n1 2 0\n-1 2 0\n", A, "19 9 1 0 5 | 2,0,1;1,2,1;1,1,2 | 3,4,2"),
+        (ONE, "4E 01 00 00 01 00 46 01 50 02 00 45", "18 8 0 0 4 | 2,0,1;1,2,1 | 3"),
+        (ONE, "4E 01 00 00 01 00 54 01 50 02 00 45", "20 11 1 0 5 | 2,0,1;1,2,1;1,0,1 | 3,4"),
+        (ONE, "4E 01 00 00 01 00 52 02 00 45", "19 6 0 0 4 | 2,0,1;1,2,1 | 3"),
+        ("p cnf 3 3\n2 3 0\n1 3 0\n1 2 0\n", AT_LEAST_TWO, "20 27 1 2"),
+        ("p cnf 0 0\n", "52 00 00 45", "19 0 0 0 2 | - | -"),
+    ]));
+}
+
+const AT_LEAST_TWO: &str = "4E 03 00 00 01 00 4E 02 00 00 02 00 4E 02 02 00 01 00 4E 01 03 00 04 00 52 05 00 45";
+
+#[test]
+fn example_g() {
+    let table = "64 6 2,0,1;2,1,0;1,2,3;1,0,1";
+    expect(vec![
+        (format!("cof {table} 2 4"), "0 6 7 | 2,0,1;2,1,0;1,2,3;1,0,1;1,1,0".into()),
+        (format!("cof {table} 5 4"), "0 5 6 | 2,0,1;2,1,0;1,2,3;1,0,1".into()),
+    ]);
+}
+
+#[test]
+fn example_h_seen_through_a_line() {
+    // The first line is x2 and (x1 or x3). The second, x4, follows from unit x2 and from no other.
+    let line = "4E 03 00 00 01 00 4E 02 00 00 01 00 4E 02 00 00 02 00 4E 01 04 00 03 00 54 01 54 02 54 04 50 05 00
+                4E 04 00 00 01 00 52 02 00 45";
+    expect(rows(&[
+        ("p cnf 5 2\n-2 4 5 0\n-2 4 -5 0\n", line, "20 42 2 1"),
+        ("p cnf 5 2\n-1 4 5 0\n-1 4 -5 0\n", line, "19 39 1 0"),
+        ("p cnf 5 2\n-3 4 5 0\n-3 4 -5 0\n", line, "19 39 1 0"),
+    ]));
+}
+
+#[test]
+fn numbers_of_the_formula() {
+    expect(rows(&[
+        ("p cnf 2", "", "1 0 0 0 2 | - | -"),
+        ("p cnf 65 1", "", "2 0 0 0 2 | - | -"),
+        ("p cnf 1 1\n-0 0", "", "3 10 0 0 2 | - | -"),
+        ("p cnf 2 1\n3 0", "", "4 10 0 0 2 | - | -"),
+        ("p cnf 1 2\n1 0", "", "5 13 0 0 2 | - | -"),
+        ("p cnf 1 1\n1", "", "6 10 0 0 2 | - | -"),
+    ]));
+    expect(vec![
+        (sized(1, "p cnf 1 1\n1 0\n", ""), "7 0 0 0 2 | - | -".into()),
+        (sized(2, "p cnf 1 1\n1 0", ""), "8 10 0 0 2 | - | -".into()),
+    ]);
+}
+
+#[test]
+fn sizes_of_lent_parts() {
+    let check = |sizes: &str| format!("check {sizes} {} -", hex(b"p cnf 0 0"));
+    let row = |sizes: &str, wanted: &str| (check(sizes), wanted.to_string());
+    expect(vec![
+        row("0 2048 4096", "7 0 0 0 2 | - | -"),
+        row("2 2048 4096", "10 0 0 0 2 | - | -"),
+        row("65536 2048 4096", "10 0 0 0 2 | - | -"),
+        row("65537 2048 4096", "7 0 0 0 2 | - | -"),
+        row("70000 2048 4096", "7 0 0 0 2 | - | -"),
+        row("4096 2047 4096", "7 0 0 0 2 | - | -"),
+        row("4096 9000 4096", "10 0 0 0 2 | - | -"),
+        row("4096 2048 4095", "7 0 0 0 2 | - | -"),
+        row("4096 2048 9000", "10 0 0 0 2 | - | -"),
+    ]);
+}
+
+#[test]
+fn headers() {
+    expect(rows(&[
+        ("", "", "1 0"),
+        ("c only\n", "", "1 7"),
+        ("c only\n \t\r", "", "1 10"),
+        ("c\n\n \t\r\np cnf 0 0", "", "10 0"),
+        ("cnf is a comment too\np\t cnf \t0 0 \t\r\n", "", "10 0"),
+        ("c\n p cnf 0 0\n", "", "1 2"),
+        ("\nx\np cnf 0 0\n", "", "1 1"),
+        ("pcnf 0 0\n", "", "1 0"),
+        ("p cnf 0 0 0\n", "", "1 0"),
+        ("p cnf 0\r0\n", "", "1 0"),
+        ("p cnf\n0 0\n", "", "1 0"),
+        ("p cnf 01 0\n", "", "1 0"),
+        ("p cnf -1 0\n", "", "1 0"),
+        ("p cnf 99999999999999999999999 -1\n", "", "1 0"),
+        ("c\np cnf 99999999999999999999999 1\n", "", "2 2"),
+        ("p cnf 64 1025\n", "", "2 0"),
+        ("p cnf 64 1024\n", "", "5 14"),
+        ("p cnf 65 x\n", "", "1 0"),
+    ]));
+}
+
+#[test]
+fn clauses() {
+    expect(rows(&[
+        ("p cnf 2 3\n1 -1 0 2 2 0 0\n", "", "10 0 0 0 3 | 2,0,1 | 1,2,0"),
+        ("p cnf 1 1\n1\t\r\n0", "", "10 0"),
+        ("p cnf 1 1\n1 0\nc end\n", "", "5 14"),
+        ("p cnf 1 1\n1 0\n7 0\n", "", "5 14"),
+        ("p cnf 0 0\n0", "", "5 10"),
+        ("p cnf 0 0\n \n", "", "10 0"),
+        ("p cnf 1 2\n1 0 1", "", "6 14"),
+        ("p cnf 1 1\nc\n1 0\n", "", "3 10"),
+        ("p cnf 1 1\n1 +1 0\n", "", "3 12"),
+        ("p cnf 1 1\n1 01 0\n", "", "3 12"),
+        ("p cnf 1 1\n1 00\n", "", "3 12"),
+        ("p cnf 1 1\n- 0\n", "", "3 10"),
+        ("p cnf 1 1\n1 1- 0\n", "", "3 12"),
+        ("p cnf 1 1\n-99999999999999999999999 x\n", "", "4 10"),
+        ("p cnf 1 2\n \n 2 x\n", "", "4 13"),
+        ("p cnf 64 1\n64 -1 0\n", "", "10 0 0 0 4 | 64,0,1;1,1,2 | 3"),
+    ]));
+    // The second clause finds all its nodes; the third does not; then the token after it is not judged.
+    let formula = "p cnf 2 4\n1 2 0 2 0 -2 0 x";
+    expect(vec![
+        (sized(4, formula, ""), "8 20 0 0 2 | - | -".into()),
+        (sized(5, formula, ""), "3 25 0 0 2 | - | -".into()),
+    ]);
+}
+
+#[test]
+fn numbers_of_the_proof() {
+    let x = "p cnf 1 1\n1 0\n";
+    let zero = "p cnf 0 1\n0\n";
+    expect(rows(&[
+        (x, "00", "9 0 0 0 3 | 1,0,1 | 2"),
+        (x, "", "10 0 0 0 3 | 1,0,1 | 2"),
+        (zero, "52 00 00 45 45", "11 4 1 0 2 | - | 0,0"),
+        (x, "45 45", "11 1"),
+        (x, "54 00", "12 0"),
+        (x, "52 02 00", "13 0"),
+        ("p cnf 2 0", "4E 02 00 00 01 00 4E 02 00 00 02 00", "14 6 0 0 2 | - | -"),
+        (x, "54 01 46 01", "15 2"),
+        (x, "54 01 45", "16 2"),
+        (x, "52 01 00", "17 0"),
+        (x, "45", "20 0"),
+        (zero, "45", "20 0"),
+        ("p cnf 2 1\n1 0\n", "4E 02 00 00 01 00", "10 6 0 0 3 | 1,0,1 | 2"),
+    ]));
+    let small = sized(3, "p cnf 2 1\n1 0\n", "4E 02 00 00 01 00");
+    expect(vec![(small, "23 0 0 0 3 | 1,0,1 | 2".into())]);
+}
+
+#[test]
+fn order_of_refusals_in_a_record() {
+    let x = "p cnf 2 0\n";
+    expect(rows(&[
+        (x, "4E 00 09 00 09", "10 0"),
+        (x, "4E 00 09 00 09 00", "12 0"),
+        (x, "4E 03 00 00 01 00", "12 0"),
+        (x, "4E 01 00 00 02 00", "13 0"),
+        (x, "4E 01 02 00 00 00", "13 0"),
+        (x, "54", "10 0"),
+        (x, "46 03", "12 0"),
+        (x, "54 01 54 01", "15 2"),
+        (x, "52", "10 0"),
+        (x, "54 01 52 00", "10 2"),
+        (x, "54 01 52 02 00", "13 2"),
+        (x, "54 01 52 01 00", "16 2"),
+        (x, "50 02 00", "13 0"),
+        (x, "50 01 00", "17 0"),
+        (x, "50 00 00", "18 0"),
+        (x, "54 01 45 45", "16 2"),
+        (x, "45 00", "11 1"),
+        (x, "4E 01 00 00 01 00 4E 01 02 00 02 00", "14 6"),
+        (x, "4E 02 00 00 01 00 4E 01 02 00 02 00 52 03 00 45", "19 12"),
+    ]));
+}
+
+#[test]
+fn too_many_entries_or_lines() {
+    let node = "4E 01 00 00 01 00";
+    let x = "p cnf 1 0\n";
+    let zero = "p cnf 1 1\n0\n";
+    let entries = |count: usize, last: &str| check(x, &(node.repeat(count) + last));
+    let lines = |count: usize, last: &str| check(zero, &("52 00 00".repeat(count) + last));
+    expect(vec![
+        (entries(4096, ""), "10 24576".into()),
+        (entries(4097, ""), "21 24576".into()),
+        (entries(4096, "4E 00 00 00 01"), "10 24576".into()),
+        (entries(4096, "4E 00 09 00 09 90"), "21 24576".into()),
+        (entries(4096, "54 01 50 01 10 4E"), "10 24581 1 0 3 | 1,0,1 | 2".into()),
+        (lines(1024, "45"), "0 3072 1024 0".into()),
+        (lines(1025, ""), "22 3072 1024 0".into()),
+        (lines(1024, "52 01 00"), "22 3072 1024 0".into()),
+        (lines(1024, "52 02 00"), "13 3072 1024 0".into()),
+        (lines(1024, "54 01 52 00 00"), "16 3074 1024 0".into()),
+        (lines(1024, "54 01 50 01 00"), "22 3074 1024 0".into()),
+    ]);
+}
+
+#[test]
+fn good_order() {
+    let row = |command: &str, answer: &str| (command.to_string(), answer.to_string());
+    expect(vec![
+        row("not 4 3 1,0,0 2", "26 0 3 | 1,0,0"),
+        row("not 4 3 @1,0,0;0,0,0;1,0,1 2", "26 0 3 | @1,0,0;0,0,0;1,0,1"),
+        row("not 4 3 @0,0,0;0,1,0;1,0,1 2", "26 0 3 | @0,0,0;0,1,0;1,0,1"),
+        row("not 4 1 - 0", "26 0 1 | -"),
+        row("not 4 0 - 0", "26 0 0 | -"),
+        row("not 3 4 1,0,1;2,0,1 0", "26 0 4 | 1,0,1"),
+        row("not 4 3 0,0,1 2", "26 0 3 | 0,0,1"),
+        row("not 4 3 65,0,1 2", "26 0 3 | 65,0,1"),
+        row("not 9 4 2,0,1;2,0,2 2", "26 0 4 | 2,0,1;2,0,2"),
+        row("not 9 4 2,0,1;3,2,0 2", "26 0 4 | 2,0,1;3,2,0"),
+        row("not 9 4 1,0,3;2,0,1 2", "26 0 4 | 1,0,3;2,0,1"),
+        row("not 9 3 1,2,0 2", "26 0 3 | 1,2,0"),
+        row("not 9 4 2,0,1;2,0,1 2", "26 0 4 | 2,0,1;2,0,1"),
+        row("not 9 3 2,0,1;0,0,1 2", "26 0 3 | 2,0,1;0,0,1"),
+        row("not 9 4 2,0,1 2", "26 0 4 | 2,0,1"),
+        row("not 9 2 - 1", "0 0 2 | -"),
+        row("not 2 2 1,0,1 1", "0 0 2 | -"),
+    ]);
+}
+
+#[test]
+fn single_calls() {
+    let row = |command: &str, answer: &str| (command.to_string(), answer.to_string());
+    expect(vec![
+        row("and 1 2 - 0 0", "7 0 2 | -"),
+        row("and 0 7 1,0,1 9 9", "7 0 7 | -"),
+        row("and 65537 3 1,0,1 2 2", "7 0 3 | 1,0,1"),
+        row("and 65536 3 1,0,1 2 2", "0 2 3 | 1,0,1"),
+        row("and 8 3 1,0,1 2 3", "13 0 3 | 1,0,1"),
+        row("and 8 3 1,0,1 3 2", "13 0 3 | 1,0,1"),
+        row("and 4 4 1,0,1;2,0,1 2 3", "23 0 4 | 1,0,1;2,0,1"),
+        row("and 5 4 1,0,1;2,0,1 2 3", "0 4 5 | 1,0,1;2,0,1;1,0,3"),
+        row("not 3 3 1,0,1 2", "23 0 3 | 1,0,1"),
+        row("not 4 3 1,0,1 2", "0 3 4 | 1,0,1;1,1,0"),
+        row("cof 8 2 - 1 0", "27 0 2 | -"),
+        row("cof 8 2 - 2 0", "13 0 2 | -"),
+        row("cof 8 2 - 0 1", "0 0 2 | -"),
+        row("lits 8 3 1,0,1 2 1 1", "15 0 3 | 1,0,1"),
+        row("lits 8 3 1,0,1 3 1 1", "13 0 3 | 1,0,1"),
+        row("lits 8 3 1,0,1 2 1 2", "0 1 3 | 1,0,1"),
+        row("lits 8 3 1,0,1 2 0 18446744073709551615", "0 0 3 | 1,0,1"),
+        row("lits 4 4 2,0,1;1,0,2 3 2 0", "23 0 4 | 2,0,1;1,0,2"),
+        row("lits 5 4 2,0,1;1,0,2 3 2 0", "0 4 5 | 2,0,1;1,0,2;1,0,1"),
+        row("eval 8 3 64,0,1 2 9223372036854775808", "0 1 3"),
+        row("eval 8 3 64,0,1 2 9223372036854775807", "0 0 3"),
+        row("eval 8 3 64,0,1 3 0", "13 0 3"),
+        row("eval 8 3 64,0,0 1 0", "26 0 3"),
+        row("eval 1 3 64,0,1 1 0", "7 0 3"),
+    ]);
+}
+
+#[test]
+fn what_is_no_command() {
+    let error = "error: not a command";
+    let rows = ["chek", "check 4 4 4 0 -", "and 4 2 - 0", "and 4 2 - 0 0 0", "not 4 2 1,2 0", "check 4 4 4 - -  "];
+    expect(rows.iter().map(|row| (row.to_string(), error.to_string())).collect());
+    assert_eq!(ask(&["".into(), "not 2 2 - 0".into(), "".into()]), ["0 1 2 | -"]);
+}
+
+#[test]
+fn dropped_room_is_used_again() {
+    // Each of the four lines needs not-x2's node and the cofactors x1 and not-x1; none of them stays.
+    let line = "4E 02 00 00 01 00 52 02 00";
+    let proof = line.repeat(4) + "45";
+    let formula = "p cnf 2 2\n1 2 0\n-1 2 0\n";
+    let left = "| 2,0,1;1,2,1;1,1,2 | 3,4,2,2,2,2";
+    expect(vec![
+        (sized(8, formula, &proof), format!("20 36 4 0 5 {left}")),
+        (sized(7, formula, &proof), "23 6 0 0 5 | 2,0,1;1,2,1;1,1,2 | 3,4".into()),
+    ]);
+}
+
+#[test]
+fn entries_of_accepted_lines_stay_and_later_ones_go() {
+    let formula = "p cnf 2 1\n0\n";
+    let line = "4E 02 00 00 01 00 4E 01 00 00 01 00 52 00 00";
+    let left = "| 2,0,1;1,0,1 | 0,0";
+    expect(vec![
+        (check(formula, &format!("{line} 45")), format!("0 15 1 0 4 {left}")),
+        (check(formula, &format!("{line} 4E 01 01 00 00 00 45")), format!("0 21 1 0 4 {left}")),
+        (check(formula, &format!("{line} 4E 01 01 00 00 00 00")), format!("9 21 1 0 4 {left}")),
+    ]);
+}
+
+#[test]
+fn a_making_that_finds_its_diagram_needs_no_room() {
+    let row = |command: &str, answer: &str| (command.to_string(), answer.to_string());
+    expect(vec![
+        row("and 4 4 1,0,1;1,1,0 2 3", "0 0 4 | 1,0,1;1,1,0"),
+        row("not 4 4 1,0,1;1,1,0 2", "0 3 4 | 1,0,1;1,1,0"),
+        row("cof 4 4 1,0,1;2,0,1 2 3", "0 2 4 | 1,0,1;2,0,1"),
+        row("cof 4 4 1,0,1;2,0,1 1 0", "27 0 4 | 1,0,1;2,0,1"),
+        row("lits 4 4 1,0,1;2,0,1 2 4 4", "15 0 4 | 1,0,1;2,0,1"),
+        row("lits 4 4 2,0,1;1,0,2 3 1 0", "0 2 4 | 2,0,1;1,0,2"),
+        (sized(4, "p cnf 2 3\n1 2 0 2 0 1 -1 2 0\n", ""), "10 0 0 0 4 | 2,0,1;1,2,1 | 3,2,1".into()),
+        (sized(3, "p cnf 1 1\n1 0\n", "4E 01 00 00 01 00 4E 01 01 00 01 00 45"), "20 12 0 0 3".into()),
+    ]);
+}
+
+#[test]
+fn edges_of_the_formula() {
+    expect(rows(&[
+        (" c\np cnf 0 0\n", "", "1 0"),
+        ("c\rp cnf 0 0\n", "", "1 12"),
+        ("\rp cnf 0 0\n", "", "1 0"),
+        ("p cnf 1 1 1 0\n", "", "1 0"),
+        ("p cnf +1 0\n", "", "1 0"),
+        ("p cnf 1x 0\n", "", "1 0"),
+        ("p cnf 0 0\r \t\r\n", "", "10 0"),
+        ("p cnf 1 1\n--1 0\n", "", "3 10"),
+        ("p cnf 1 1\n1 -1 2 0\n", "", "4 15"),
+        ("p cnf 1 2\n1 0\n\n", "", "5 15"),
+        ("p cnf 1 1\n1 0 -0", "", "5 14"),
+        ("p cnf 1 1\n1 0\x0b\n", "", "3 12"),
+    ]));
+}
+
+#[test]
+fn edges_of_the_records() {
+    let x = "p cnf 2 0\n";
+    let zero = "p cnf 2 1\n0\n";
+    expect(rows(&[
+        // Equal nodes under two entry numbers give that node; the record's own variable is then gone.
+        (zero, "4E 02 00 00 01 00 4E 02 00 00 01 00 4E 01 02 00 03 00 4E 01 04 00 00 00 52 05 00 45",
+         "20 27 1 0 4 | 2,0,1;1,2,0 | 0,3"),
+        (x, "4E 01 01 00 01 00 52 02 00", "17 6"),
+        (x, "4E 01 00 00 01 00 50 02 00", "18 6"),
+        (x, "54 01 50 00 00", "18 2"),
+        (zero, "52 00 00 52 01 00", "17 3 1 0"),
+        (zero, "52 00 00 4E 01 00 00 01 00 52 02 00 45", "0 12 2 0 3 | 1,0,1 | 0,0,2"),
+        (x, "45 4E", "11 1"),
+        ("p cnf 2 2\n1 2 0 1 2 0\n", "52 00 00 45", "19 0"),
+    ]));
+}
+
+#[test]
+fn what_is_made_before_a_conflict_is_asked() {
+    let x1 = "4E 01 00 00 01 00";
+    let x2 = "4E 02 00 00 01 00";
+    let row = |size, formula: &str, proof: String, wanted: &str| (sized(size, formula, &proof), wanted.to_string());
+    let none = "p cnf 1 0\n";
+    let later = "p cnf 3 2\n2 0 1 2 3 0\n";
+    let two = "p cnf 3 2\n1 0 2 3 0\n";
+    expect(vec![
+        // not-g is made with no member at all.
+        row(3, none, format!("{x1} 52 02 00"), "23 6 0 0 2"),
+        row(4, none, format!("{x1} 52 02 00"), "19 6 0 0 2"),
+        row(3, none, format!("{x1} 54 01 50 02 00"), "23 8 0 0 2"),
+        row(4, none, format!("{x1} 54 01 50 02 00 45"), "20 11 1 0 3"),
+        // not-g is made where every h is 1.
+        row(5, ONE, format!("{x1} 54 01 50 02 00"), "23 8 0 0 4"),
+        row(6, ONE, format!("{x1} 54 01 50 02 00 45"), "20 11 1 0 5"),
+        // The first member is 0 by not-g, yet the second is made.
+        row(7, later, format!("{x2} 52 02 00"), "23 6 0 0 6"),
+        row(8, later, format!("{x2} 52 02 00 45"), "20 9 1 0 6"),
+        // The first cofactors conflict, yet the second member has its turn.
+        row(7, two, format!("{x1} 54 01 50 02 00"), "23 8 0 0 5"),
+        row(8, two, format!("{x1} 54 01 50 02 00 45"), "20 11 1 0 5"),
+    ]);
+}
