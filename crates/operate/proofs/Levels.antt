@@ -1,14 +1,12 @@
 -- The numbers of a good table as the code reads them: a node's level bounds its diagram's variables, and a node's child by a variable not
 -- above it is that side of its diagram. The idea: the columns read as the nodes, and good order speaks of those. Assumes nothing.
-use mathlib.Core.Path.{_≡_, refl, sym, ap, ap₂, _∙_, subst}
-use mathlib.Core.Logic.{_≢_}
+use mathlib.Core.Path.{_≡_, refl, sym, ap, _∙_}
 use mathlib.Core.Bool.{Bool, true, false, cond}
 use mathlib.Core.List.{List}
 use Prim.Native.Nat.{ℕ, zero, suc, _≤_, _<_}
 use native.Mathlib.Omega.{arith}
 use native.Mathlib.Decide.{ℕ-discrete, decLt}
 use lib.ListN.{length, getD}
-use lib.Dec.{eqb, ltb}
 use borrow.Author.Tests.{eq-eqb, ne-eqb, lt-ltb, le-ltb}
 use Rattle.meaning.specs.Diagram.{Diagram, leaf, node, Reduced}
 use Rattle.meaning.proofs.Canonical.{side}

@@ -1,29 +1,26 @@
 -- What the recursion's calls leave and give: results are reduced diagrams, a result that is known places nothing, one that is made is
 -- stored, and two sides are joined. The idea: an outcome is a placing, and the laws of outcomes hold for any diagram. Assumes nothing.
-use mathlib.Core.Path.{_≡_, refl, sym, ap, ap₂, _∙_, subst}
-use mathlib.Core.Logic.{_≢_}
-use mathlib.Core.Bool.{Bool, true, false}
+use mathlib.Core.Path.{_≡_, sym, ap, ap₂, _∙_, subst}
+use mathlib.Core.Bool.{true, false}
 use mathlib.Core.List.{List}
-use Prim.Native.Nat.{ℕ, zero, suc, _+_, _-_, _≤_, _<_}
+use Prim.Native.Nat.{ℕ, suc, _-_, _≤_, _<_}
 use native.Mathlib.Omega.{arith}
-use native.Mathlib.Decide.{decLt}
-use lib.ListN.{length, getD, set, take}
+use lib.ListN.{length, getD, set}
 use lib.Seq.{getD-take}
-use lib.Dec.{eqb, ltb}
-use borrow.Author.Tests.{lt-ltb, le-ltb}
-use Rattle.meaning.specs.Diagram.{Diagram, leaf, node, branch, Reduced}
+use Rattle.meaning.specs.Diagram.{Diagram, node, Reduced}
 use Rattle.meaning.proofs.Canonical.{diagramFrom-reduced}
 use Rattle.meaning.proofs.Pointwise.{conjunction-reduced, negation-reduced, literals-reduced, conjunction-from, negation-from, literals-from}
 use Rattle.meaning.proofs.Cofactor.{cofactor-reduced, cofactorFrom, cofactor-from}
 use Rattle.table.specs.Nodes.{Node, blank, at, diagramAt}
-use Rattle.table.specs.Indexed.{Table, size, nodesOf, Good, Outcome}
+use Rattle.table.specs.Indexed.{Table, nodesOf, Good, Outcome}
 use Rattle.table.proofs.Written.{length-nodes, good-ordered, var-at}
 use Rattle.table.proofs.Numbers.{root-variable}
 use Rattle.table.proofs.Outcomes.{placeIn, putIn, Longer, Grown, longer, grown, there, put-grown, low-full, high-full, joined}
 use Rattle.operate.specs.declared.Operation.{Operation}
 use Rattle.operate.specs.declared.Operation.the-variants.{Conjunction, Negation, Cofactor, Literals}
 use Rattle.operate.specs.declared.Sides.{Sides}
-use Rattle.operate.specs.Operate.{inWord, result}
+use Rattle.meaning.specs.Words.{inWord}
+use Rattle.operate.specs.Operate.{result}
 use Rattle.operate.specs.Inner.{applied, joinedOf, Allowed, level, top, slot, pack, Right, MemoRight, Ready, SidesReady}
 use Rattle.operate.proofs.Memo.{slot-less, memo-kept, memo-stored}
 use Rattle.operate.proofs.Levels.{top-first, top-second, diagramOf, zero-is, level-reduced}

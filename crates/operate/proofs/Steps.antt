@@ -2,13 +2,12 @@
 -- its diagram, and each operation has a law by sides. Assumes nothing.
 use mathlib.Core.Path.{_≡_, refl, sym, ap, ap₂, _∙_, subst}
 use mathlib.Core.Logic.{_≢_}
-use mathlib.Core.Bool.{Bool, true, false, not, cond}
+use mathlib.Core.Bool.{Bool, true, false}
 use mathlib.Core.List.{List}
-use Prim.Native.Nat.{ℕ, zero, suc, _≤_, _<_}
+use Prim.Native.Nat.{ℕ, suc, _≤_, _<_}
 use native.Mathlib.Omega.{arith}
 use native.Mathlib.Decide.{ℕ-discrete}
-use lib.ListN.{length, getD}
-use lib.Dec.{eqb, ltb}
+use lib.ListN.{getD}
 use borrow.Author.Tests.{eq-eqb, ne-eqb, le-ltb}
 use Rattle.meaning.specs.Diagram.{Diagram, leaf, node, branch, Reduced}
 use Rattle.meaning.specs.Operations.{conjunction, negation, cofactor, cofactorLiterals}
@@ -17,16 +16,16 @@ use Rattle.meaning.proofs.Pointwise.{negation-reduced}
 use Rattle.meaning.proofs.PointwiseSteps.{negation-node, conjunction-branch, literals-high, literals-low, literals-branch}
 use Rattle.meaning.proofs.CofactorSteps.{cofactor-one, cofactor-both}
 use Rattle.table.specs.declared.NodeNo.{NodeNo}
-use Rattle.table.specs.Nodes.{diagramAt}
-use Rattle.table.specs.Indexed.{Table, nodesOf, Good}
+use Rattle.table.specs.Indexed.{Table, Good}
 use Rattle.table.proofs.Outcomes.{placeIn}
 use Rattle.operate.specs.declared.Operation.{Operation}
 use Rattle.operate.specs.declared.Operation.the-variants.{Conjunction, Negation, Cofactor, Literals}
 use Rattle.operate.specs.declared.Sides.{Sides}
 use Rattle.operate.specs.declared.Step.{Step}
 use Rattle.operate.specs.declared.Step.the-variants.{One, Both}
-use Rattle.operate.specs.Operate.{inWord, result}
-use Rattle.operate.specs.Inner.{applied, joinedOf, Allowed, level, top, sidesOf, stepOf, MemoRight, Ready, SidesReady}
+use Rattle.meaning.specs.Words.{inWord}
+use Rattle.operate.specs.Operate.{result}
+use Rattle.operate.specs.Inner.{applied, joinedOf, Allowed, level, top, sidesOf, stepOf, Ready, SidesReady}
 use Rattle.operate.proofs.Levels.{top-first, top-second, top-both, top-is-first, diagramOf, is-zero, is-one, zero-is, one-is, level-constant, level-least, level-most, level-reduced, child, Child, child-of, own, node-is}
 
 negation-branch : (x : ℕ) (l h : Diagram) → Reduced 1 65 (node x l h) → negation 64 (node x l h) ≡ branch x (negation 64 l) (negation 64 h)

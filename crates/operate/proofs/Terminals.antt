@@ -1,25 +1,21 @@
 -- The terminal cases: where the node numbers tell the result it is right, and where they do not the first operand is a node. The idea:
 -- each case is one law of its operation, at the diagrams of the numbers tested. Assumes nothing.
 use mathlib.Core.Path.{_≡_, refl, sym, ap, _∙_, subst}
-use mathlib.Core.Logic.{_≢_}
 use mathlib.Core.Bool.{Bool, true, false}
-use mathlib.Core.List.{List}
-use Prim.Native.Nat.{ℕ, zero, suc, _≤_, _<_}
+use Prim.Native.Nat.{ℕ, _≤_, _<_}
 use native.Mathlib.Omega.{arith}
 use native.Mathlib.Decide.{ℕ-discrete}
-use lib.Dec.{eqb, ltb}
 use borrow.Author.Tests.{eq-eqb, ne-eqb, lt-ltb, le-ltb}
 use Rattle.meaning.specs.Diagram.{Diagram, leaf, Reduced}
-use Rattle.meaning.specs.Operations.{conjunction, negation, cofactor, cofactorLiterals}
+use Rattle.meaning.specs.Operations.{conjunction, cofactor}
 use Rattle.meaning.proofs.PointwiseSteps.{negation-leaf, zero-conjunction, one-conjunction, conjunction-zero, conjunction-one, conjunction-same, literals-leaf}
 use Rattle.meaning.proofs.CofactorSteps.{cofactor-leaf, cofactor-true, cofactor-self}
-use Rattle.table.specs.declared.Found.{Found}
-use Rattle.table.specs.declared.Found.the-variants.{At, Nothing}
-use Rattle.table.specs.Nodes.{diagramAt}
-use Rattle.table.specs.Indexed.{Table, nodesOf, Good}
+use Rattle.table.specs.declared.Found.the-variants.{Nothing}
+use Rattle.table.specs.Indexed.{Table, Good}
 use Rattle.operate.specs.declared.Operation.{Operation}
 use Rattle.operate.specs.declared.Operation.the-variants.{Conjunction, Negation, Cofactor, Literals}
-use Rattle.operate.specs.Operate.{inWord, result}
+use Rattle.meaning.specs.Words.{inWord}
+use Rattle.operate.specs.Operate.{result}
 use Rattle.operate.specs.Inner.{Allowed, found, terminalOf, Right}
 use Rattle.operate.proofs.Memo.{found-number}
 use Rattle.operate.proofs.Levels.{diagramOf, is-zero, is-one, zero-is, level-least, level-reduced}

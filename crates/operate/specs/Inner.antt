@@ -1,8 +1,8 @@
 -- What the inner functions answer, step by step, and what their memo holds. No call open to others cites this file.
 use mathlib.Core.Path.{_≡_}
-use mathlib.Core.Bool.{Bool, true, false, cond, _||_}
+use mathlib.Core.Bool.{cond, _||_}
 use mathlib.Core.List.{List}
-use Prim.Native.Nat.{ℕ, zero, suc, _+_, _-_, _*_, _/_, _%_, _≤_, _<_}
+use Prim.Native.Nat.{ℕ, _+_, _-_, _*_, _/_, _%_, _≤_, _<_}
 use lib.ListN.{length, getD}
 use lib.Dec.{eqb, ltb}
 use Rattle.meaning.specs.Diagram.{branch}
@@ -15,7 +15,8 @@ use Rattle.operate.specs.declared.Operation.the-variants.{Conjunction, N
 use Rattle.operate.specs.declared.Sides.{Sides}
 use Rattle.operate.specs.declared.Step.{Step}
 use Rattle.operate.specs.declared.Step.the-variants.{One, Both}
-use Rattle.operate.specs.Operate.{inWord, result}
+use Rattle.meaning.specs.Words.{inWord}
+use Rattle.operate.specs.Operate.{result}
 
 -- The outcome of an operation on nodes f and g of a table.
 abbrev pub applied : Table → Operation → ℕ → ℕ → Outcome

@@ -6,9 +6,9 @@ use table::Placed;
 ghost use mathlib.Core.Path.{_≡_};
 ghost use Prim.Native.Nat.{_+_, _-_, _*_, _≤_, _<_};
 ghost use lib.ListN.{length, set, replicate};
-ghost use Rattle.table.specs.Indexed.{tableOf, outcomeOf, written};
-ghost use Rattle.table.specs.Nodes.{place, diagramAt};
-ghost use Rattle.operate.specs.Operate.{inWord, result};
+ghost use Rattle.table.specs.Indexed.{tableOf, outcomeOf};
+ghost use Rattle.meaning.specs.Words.{inWord};
+ghost use Rattle.operate.specs.Operate.{result};
 ghost use Rattle.operate.specs.Inner.{applied, terminalOf, level, top, childOr, sidesOf, stepOf, slot, pack, memoFind, MemoRight, Ready, SidesReady, joinedOf};
 
 // An operation; an operation of one diagram has node 1 for its second operand.

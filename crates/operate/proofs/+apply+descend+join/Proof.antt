@@ -1,15 +1,13 @@
 -- The recursion: each function's outcome is the placing of its result, and it leaves the memo right. The idea: the number of variables left
 -- falls with each call; a place of the code is one law of Terminals, Steps, Results or Memo. Assumes nothing.
 use Prim.Native.Nat.{ℕ, _+_, _-_, _*_, _≤_, _<_}
-use mathlib.Core.Path.{_≡_, refl, ap, sym, _∙_, subst}
-use mathlib.Core.Bool.{Bool, true, false}
+use mathlib.Core.Path.{_≡_, ap, sym, _∙_, subst}
 use mathlib.Core.List.{List}
 use native.Mathlib.Omega.{arith}
-use lib.ListN.{length, set}
+use lib.ListN.{length}
 use borrow.Author.Needs.{needs}
-use Rattle.table.specs.declared.Found.{Found}
 use Rattle.table.specs.declared.Found.the-variants.{At, Nothing}
-use Rattle.table.specs.Indexed.{Table, tableOf, Outcome, outcomeOf, Good}
+use Rattle.table.specs.Indexed.{Table, tableOf, Outcome, outcomeOf}
 use Rattle.operate.specs.declared.Operation.{Operation}
 use Rattle.operate.specs.declared.Sides.{Sides}
 use Rattle.operate.specs.Inner.{applied, top, terminalOf, sidesOf, stepOf, Right, MemoRight, Ready, SidesReady}
@@ -231,95 +229,77 @@ module _ {t : ℕ} (b : join-lts.After-apply2 (join-callees t) (join-at t) join.
   is₂ : out₂ ≡ applied (out₁ ja .table) (j-op js₂) (j-sides js₂ .f1 .0) (j-sides js₂ .g1 .0)
   is₂ = b .apply2 .ensures .0
 
--- src/lib.rt:242:11
 apply-terminal-requires : (t : ℕ) → apply-lts.Need-terminal-requires (apply-callees t) (apply-at t) apply.Post
 apply-terminal-requires t c κs =
     search needs
 
--- src/lib.rt:243:19
 apply-enum-known-r : (t : ℕ) → apply-lts.Need-enum-known-r (apply-callees t) (apply-at t) apply.Post
 apply-enum-known-r t c =
     search needs
 
--- src/lib.rt:244:43
 apply-enum-told : (t : ℕ) → apply-lts.Need-enum-told (apply-callees t) (apply-at t) apply.Post
 apply-enum-told t c =
     search needs
 
--- src/lib.rt:244:33
 apply-memo-find-requires : (t : ℕ) → apply-lts.Need-memo-find-requires (apply-callees t) (apply-at t) apply.Post
 apply-memo-find-requires t c κs =
     a-ready (c .before .before .before .before .before .before .before .before .before .before) .room
 
--- src/lib.rt:245:23
 apply-enum-known-r-2 : (t : ℕ) → apply-lts.Need-enum-known-r-2 (apply-callees t) (apply-at t) apply.Post
 apply-enum-known-r-2 t c =
     search needs
 
--- src/lib.rt:247:33
 apply-enum-told-2 : (t : ℕ) → apply-lts.Need-enum-told-2 (apply-callees t) (apply-at t) apply.Post
 apply-enum-told-2 t c =
     search needs
 
--- src/lib.rt:247:21
 apply-descend-requires : (t : ℕ) → apply-lts.Need-descend-requires (apply-callees t) (apply-at t) apply.Post
 apply-descend-requires t c κs =
     let s = c .before .before .before .before .before .before .before .before .before .before .before .before .before .before .before .before .before .before .before in
     let q : 3 * (65 - top (a-table s .vars) (a-f s) (a-g s)) + 2 ≡ t = s .pre .0 in
     (omega arith, (a-ready s, nothing (c .before .before .before .before .before .before .before .before .before .before)))
 
--- src/lib.rt:249:21
 apply-same-length : (t : ℕ) → apply-lts.Need-same-length (apply-callees t) (apply-at t) apply.Post
 apply-same-length t c =
     c .before .before .before .before .before .before .before .before .before .before .before .before .before .descend .kept .0
 
--- src/lib.rt:249:21
 apply-same-length-2 : (t : ℕ) → apply-lts.Need-same-length-2 (apply-callees t) (apply-at t) apply.Post
 apply-same-length-2 t c =
     c .before .before .before .before .before .before .before .before .before .before .before .before .before .descend .kept .1 .0
 
--- src/lib.rt:249:21
 apply-same-length-3 : (t : ℕ) → apply-lts.Need-same-length-3 (apply-callees t) (apply-at t) apply.Post
 apply-same-length-3 t c =
     c .before .before .before .before .before .before .before .before .before .before .before .before .before .descend .kept .1 .1 .0
 
--- src/lib.rt:249:21
 apply-same-length-4 : (t : ℕ) → apply-lts.Need-same-length-4 (apply-callees t) (apply-at t) apply.Post
 apply-same-length-4 t c =
     c .before .before .before .before .before .before .before .before .before .before .before .before .before .descend .kept .1 .1 .1 .0
 
--- src/lib.rt:249:21
 apply-same-length-5 : (t : ℕ) → apply-lts.Need-same-length-5 (apply-callees t) (apply-at t) apply.Post
 apply-same-length-5 t c =
     c .before .before .before .before .before .before .before .before .before .before .before .before .before .descend .kept .1 .1 .1 .1 .0
 
--- src/lib.rt:249:21
 apply-same-length-6 : (t : ℕ) → apply-lts.Need-same-length-6 (apply-callees t) (apply-at t) apply.Post
 apply-same-length-6 t c =
     c .before .before .before .before .before .before .before .before .before .before .before .before .before .descend .kept .1 .1 .1 .1 .1 .0
 
--- src/lib.rt:249:21
 apply-returns : (t : ℕ) → apply-lts.Need-returns (apply-callees t) (apply-at t) apply.Post
 apply-returns t c =
     (c .before .before .before .before .before .before .before .before .before .before .before .before .before .descend .ensures .0, c .before .before .before .before .before .before .before .before .before .before .before .before .before .descend .ensures .1)
 
--- src/lib.rt:251:17
 apply-memo-put-requires : (t : ℕ) → apply-lts.Need-memo-put-requires (apply-callees t) (apply-at t) apply.Post
 apply-memo-put-requires t c κs =
     a-room (c .before .before .before .before .before .before .before .before .before .before .before .before .before .before)
 
--- src/lib.rt:226:1
 apply-returns-2 : (t : ℕ) → apply-lts.Need-returns-2 (apply-callees t) (apply-at t) apply.Post
 apply-returns-2 t c =
     let s = c .before .before .before .before .before .before .before .before .before .before in
     (known-outcome (a-op s) (a-memo s) (a-table s) (a-f s) (a-g s) (a-ready s) _ (a-terminal s _ (sym (c .before .before .before .terminal .ensures) ∙ c .before .r .given .1)), a-ready s .right)
 
--- src/lib.rt:226:1
 apply-same-length-7 : (t : ℕ) → apply-lts.Need-same-length-7 (apply-callees t) (apply-at t) apply.Post
 apply-same-length-7 t c =
     search needs
 
--- src/lib.rt:226:1
 apply-returns-3 : (t : ℕ) → apply-lts.Need-returns-3 (apply-callees t) (apply-at t) apply.Post
 apply-returns-3 t c =
     let s = c .before .before .before .before .before .before .before .before .before .before .before .before .before .before in
@@ -329,37 +309,30 @@ apply-returns-3 t c =
       a-ready s .right,
     )
 
--- src/lib.rt:226:1
 apply-same-length-8 : (t : ℕ) → apply-lts.Need-same-length-8 (apply-callees t) (apply-at t) apply.Post
 apply-same-length-8 t c =
     c .before .before .before .before .before .before .before .before .before .before .before .before .before .before .before .before .before .descend .kept .0
 
--- src/lib.rt:226:1
 apply-same-length-9 : (t : ℕ) → apply-lts.Need-same-length-9 (apply-callees t) (apply-at t) apply.Post
 apply-same-length-9 t c =
     c .before .before .before .before .before .before .before .before .before .before .before .before .before .before .before .before .before .descend .kept .1 .0
 
--- src/lib.rt:226:1
 apply-same-length-10 : (t : ℕ) → apply-lts.Need-same-length-10 (apply-callees t) (apply-at t) apply.Post
 apply-same-length-10 t c =
     c .before .before .before .before .before .before .before .before .before .before .before .before .before .before .before .before .before .descend .kept .1 .1 .0
 
--- src/lib.rt:226:1
 apply-same-length-11 : (t : ℕ) → apply-lts.Need-same-length-11 (apply-callees t) (apply-at t) apply.Post
 apply-same-length-11 t c =
     c .before .before .before .before .before .before .before .before .before .before .before .before .before .before .before .before .before .descend .kept .1 .1 .1 .0
 
--- src/lib.rt:226:1
 apply-same-length-12 : (t : ℕ) → apply-lts.Need-same-length-12 (apply-callees t) (apply-at t) apply.Post
 apply-same-length-12 t c =
     c .before .before .before .before .before .before .before .before .before .before .before .before .before .before .before .before .before .descend .kept .1 .1 .1 .1 .0
 
--- src/lib.rt:226:1
 apply-same-length-13 : (t : ℕ) → apply-lts.Need-same-length-13 (apply-callees t) (apply-at t) apply.Post
 apply-same-length-13 t c =
     c .before .before .memo-put .kept .0 ∙ c .before .before .before .before .before .before .before .before .before .before .before .before .before .before .before .before .before .descend .kept .1 .1 .1 .1 .1 .0
 
--- src/lib.rt:226:1
 apply-returns-4 : (t : ℕ) → apply-lts.Need-returns-4 (apply-callees t) (apply-at t) apply.Post
 apply-returns-4 t c =
     let a = c .before .before .before .before .before .before .before .before .before .before .before .before .before .before .before .before .before in
@@ -370,189 +343,153 @@ apply-returns-4 t c =
       (made-stored (a-op s) (a-memo s) (a-table s) (a-f s) (a-g s) (a-ready s) (a-out a) (a-is a) (c .before .before .before .before .if1 .left) (a-memo₁ a) (a-room a) (a .descend .ensures .1)),
     )
 
--- src/lib.rt:275:9
 descend-sides-of-requires : (t : ℕ) → descend-lts.Need-sides-of-requires (descend-callees t) (descend-at t) descend.Post
 descend-sides-of-requires t c κs =
     let s = c .before .before .before .before .before .before .before .before .before in columns-hold (d-op s) (d-memo s) (d-table s) (d-f s) (d-g s) (d-ready s)
 
--- src/lib.rt:276:11
 descend-step-of-requires : (t : ℕ) → descend-lts.Need-step-of-requires (descend-callees t) (descend-at t) descend.Post
 descend-step-of-requires t c κs =
     let s = c .before .before .before .before .before .before .before .before .before .before in
     sides-ask (d-op s) (d-memo s) (d-table s) (d-f s) (d-g s) (d-ready s) (d-two s) (c .sides-of .result) (c .sides-of .ensures)
 
--- src/lib.rt:277:19
 descend-enum-known-a : (t : ℕ) → descend-lts.Need-enum-known-a (descend-callees t) (descend-at t) descend.Post
 descend-enum-known-a t c =
     search needs
 
--- src/lib.rt:277:28
 descend-apply-requires : (t : ℕ) → descend-lts.Need-apply-requires (descend-callees t) (descend-at t) descend.Post
 descend-apply-requires t c κs =
     let d = c .before .before .before .before .before .before .before in
     (omega (arith, d-measure (c .before .before .before .before .before .before .before .before .before .before .before .before .before .before .before .before .before .before .before .before), d-one d .after, d-one d .most), d-one d .ready)
 
--- src/lib.rt:278:20
 descend-enum-known-s : (t : ℕ) → descend-lts.Need-enum-known-s (descend-callees t) (descend-at t) descend.Post
 descend-enum-known-s t c =
     search needs
 
--- src/lib.rt:278:26
 descend-join-requires : (t : ℕ) → descend-lts.Need-join-requires (descend-callees t) (descend-at t) descend.Post
 descend-join-requires t c κs =
     let d = c .before .before .before .before .before .before .before in
     (omega (arith, d-measure (c .before .before .before .before .before .before .before .before .before .before .before .before .before .before .before .before .before .before .before .before), d-both d .variable), d-both d .ready)
 
--- src/lib.rt:259:1
 descend-same-length : (t : ℕ) → descend-lts.Need-same-length (descend-callees t) (descend-at t) descend.Post
 descend-same-length t c =
     c .before .before .before .before .before .before .before .before .before .before .before .before .apply .kept .0
 
--- src/lib.rt:259:1
 descend-same-length-2 : (t : ℕ) → descend-lts.Need-same-length-2 (descend-callees t) (descend-at t) descend.Post
 descend-same-length-2 t c =
     c .before .before .before .before .before .before .before .before .before .before .before .before .apply .kept .1 .0
 
--- src/lib.rt:259:1
 descend-same-length-3 : (t : ℕ) → descend-lts.Need-same-length-3 (descend-callees t) (descend-at t) descend.Post
 descend-same-length-3 t c =
     c .before .before .before .before .before .before .before .before .before .before .before .before .apply .kept .1 .1 .0
 
--- src/lib.rt:259:1
 descend-same-length-4 : (t : ℕ) → descend-lts.Need-same-length-4 (descend-callees t) (descend-at t) descend.Post
 descend-same-length-4 t c =
     c .before .before .before .before .before .before .before .before .before .before .before .before .apply .kept .1 .1 .1 .0
 
--- src/lib.rt:259:1
 descend-same-length-5 : (t : ℕ) → descend-lts.Need-same-length-5 (descend-callees t) (descend-at t) descend.Post
 descend-same-length-5 t c =
     c .before .before .before .before .before .before .before .before .before .before .before .before .apply .kept .1 .1 .1 .1 .0
 
--- src/lib.rt:259:1
 descend-same-length-6 : (t : ℕ) → descend-lts.Need-same-length-6 (descend-callees t) (descend-at t) descend.Post
 descend-same-length-6 t c =
     c .before .before .before .before .before .before .before .before .before .before .before .before .apply .kept .1 .1 .1 .1 .1 .0
 
--- src/lib.rt:259:1
 descend-returns : (t : ℕ) → descend-lts.Need-returns (descend-callees t) (descend-at t) descend.Post
 descend-returns t c =
     (c .before .before .before .before .before .before .before .before .before .before .before .before .apply .ensures .0 ∙ d-one (c .before .before .before .before .before .before .before .before .before .before .before .before .before .before .before .before .before .before .before .before) .is, c .before .before .before .before .before .before .before .before .before .before .before .before .apply .ensures .1)
 
--- src/lib.rt:259:1
 descend-same-length-7 : (t : ℕ) → descend-lts.Need-same-length-7 (descend-callees t) (descend-at t) descend.Post
 descend-same-length-7 t c =
     c .before .before .before .before .before .before .before .before .before .before .before .before .join .kept .0
 
--- src/lib.rt:259:1
 descend-same-length-8 : (t : ℕ) → descend-lts.Need-same-length-8 (descend-callees t) (descend-at t) descend.Post
 descend-same-length-8 t c =
     c .before .before .before .before .before .before .before .before .before .before .before .before .join .kept .1 .0
 
--- src/lib.rt:259:1
 descend-same-length-9 : (t : ℕ) → descend-lts.Need-same-length-9 (descend-callees t) (descend-at t) descend.Post
 descend-same-length-9 t c =
     c .before .before .before .before .before .before .before .before .before .before .before .before .join .kept .1 .1 .0
 
--- src/lib.rt:259:1
 descend-same-length-10 : (t : ℕ) → descend-lts.Need-same-length-10 (descend-callees t) (descend-at t) descend.Post
 descend-same-length-10 t c =
     c .before .before .before .before .before .before .before .before .before .before .before .before .join .kept .1 .1 .1 .0
 
--- src/lib.rt:259:1
 descend-same-length-11 : (t : ℕ) → descend-lts.Need-same-length-11 (descend-callees t) (descend-at t) descend.Post
 descend-same-length-11 t c =
     c .before .before .before .before .before .before .before .before .before .before .before .before .join .kept .1 .1 .1 .1 .0
 
--- src/lib.rt:259:1
 descend-same-length-12 : (t : ℕ) → descend-lts.Need-same-length-12 (descend-callees t) (descend-at t) descend.Post
 descend-same-length-12 t c =
     c .before .before .before .before .before .before .before .before .before .before .before .before .join .kept .1 .1 .1 .1 .1 .0
 
--- src/lib.rt:259:1
 descend-returns-2 : (t : ℕ) → descend-lts.Need-returns-2 (descend-callees t) (descend-at t) descend.Post
 descend-returns-2 t c =
     (c .before .before .before .before .before .before .before .before .before .before .before .before .join .ensures .0 ∙ d-both (c .before .before .before .before .before .before .before .before .before .before .before .before .before .before .before .before .before .before .before .before) .is, c .before .before .before .before .before .before .before .before .before .before .before .before .join .ensures .1)
 
--- src/lib.rt:298:9
 join-apply-requires : (t : ℕ) → join-lts.Need-apply-requires (join-callees t) (join-at t) join.Post
 join-apply-requires t c κs =
     let s = c .before .before .before .before .before .before .before .before .before .before .before .before in (omega (arith, j-measure s, j-ready s .low-after, j-ready s .most), j-ready s .low)
 
--- src/lib.rt:300:9
 join-same-length : (t : ℕ) → join-lts.Need-same-length (join-callees t) (join-at t) join.Post
 join-same-length t c =
     c .before .before .before .before .before .before .before .before .before .before .before .before .before .apply .kept .0
 
--- src/lib.rt:300:9
 join-same-length-2 : (t : ℕ) → join-lts.Need-same-length-2 (join-callees t) (join-at t) join.Post
 join-same-length-2 t c =
     c .before .before .before .before .before .before .before .before .before .before .before .before .before .apply .kept .1 .0
 
--- src/lib.rt:300:9
 join-same-length-3 : (t : ℕ) → join-lts.Need-same-length-3 (join-callees t) (join-at t) join.Post
 join-same-length-3 t c =
     c .before .before .before .before .before .before .before .before .before .before .before .before .before .apply .kept .1 .1 .0
 
--- src/lib.rt:300:9
 join-same-length-4 : (t : ℕ) → join-lts.Need-same-length-4 (join-callees t) (join-at t) join.Post
 join-same-length-4 t c =
     c .before .before .before .before .before .before .before .before .before .before .before .before .before .apply .kept .1 .1 .1 .0
 
--- src/lib.rt:300:9
 join-same-length-5 : (t : ℕ) → join-lts.Need-same-length-5 (join-callees t) (join-at t) join.Post
 join-same-length-5 t c =
     c .before .before .before .before .before .before .before .before .before .before .before .before .before .apply .kept .1 .1 .1 .1 .0
 
--- src/lib.rt:300:9
 join-same-length-6 : (t : ℕ) → join-lts.Need-same-length-6 (join-callees t) (join-at t) join.Post
 join-same-length-6 t c =
     c .before .before .before .before .before .before .before .before .before .before .before .before .before .apply .kept .1 .1 .1 .1 .1 .0
 
--- src/lib.rt:300:9
 join-returns : (t : ℕ) → join-lts.Need-returns (join-callees t) (join-at t) join.Post
 join-returns t c =
     let s = c .before .before .before .before .before .before .before .before .before .before .before .before .before .before .before .before .before .before .before .before .before .before .before .before .before .before in
     let a = c .before .before .before .before .before .before .before .before .before .before .before .before .before in
     (low-done (j-op s) (j-memo s) (j-table s) (j-sides s) (j-ready s) (out₁ a) (is₁ a) (c .if1 .taken), a .apply .ensures .1)
 
--- src/lib.rt:302:9
 join-apply-requires-2 : (t : ℕ) → join-lts.Need-apply-requires-2 (join-callees t) (join-at t) join.Post
 join-apply-requires-2 t c κs =
     let s = c .before .before .before .before .before .before .before .before .before .before .before .before .before .before .before .before .before .before .before .before .before .before .before .before .before .before .before .before .before .before .before .before in
     let a = c .before .before .before .before .before .before .before .before .before .before .before .before .before .before .before .before .before .before .before in
     (omega (arith, j-measure s, after₁ a, j-ready s .most), ready₁ a)
 
--- src/lib.rt:304:9
 join-same-length-7 : (t : ℕ) → join-lts.Need-same-length-7 (join-callees t) (join-at t) join.Post
 join-same-length-7 t c =
     c .before .before .before .before .before .before .before .before .before .before .before .before .before .apply2 .kept .0 ∙ c .before .before .before .before .before .before .before .before .before .before .before .before .before .before .before .before .before .before .before .before .before .before .before .before .before .before .before .before .before .before .before .before .before .apply .kept .0
 
--- src/lib.rt:304:9
 join-same-length-8 : (t : ℕ) → join-lts.Need-same-length-8 (join-callees t) (join-at t) join.Post
 join-same-length-8 t c =
     c .before .before .before .before .before .before .before .before .before .before .before .before .before .apply2 .kept .1 .0 ∙ c .before .before .before .before .before .before .before .before .before .before .before .before .before .before .before .before .before .before .before .before .before .before .before .before .before .before .before .before .before .before .before .before .before .apply .kept .1 .0
 
--- src/lib.rt:304:9
 join-same-length-9 : (t : ℕ) → join-lts.Need-same-length-9 (join-callees t) (join-at t) join.Post
 join-same-length-9 t c =
     c .before .before .before .before .before .before .before .before .before .before .before .before .before .apply2 .kept .1 .1 .0 ∙ c .before .before .before .before .before .before .before .before .before .before .before .before .before .before .before .before .before .before .before .before .before .before .before .before .before .before .before .before .before .before .before .before .before .apply .kept .1 .1 .0
 
--- src/lib.rt:304:9
 join-same-length-10 : (t : ℕ) → join-lts.Need-same-length-10 (join-callees t) (join-at t) join.Post
 join-same-length-10 t c =
     c .before .before .before .before .before .before .before .before .before .before .before .before .before .apply2 .kept .1 .1 .1 .0 ∙ c .before .before .before .before .before .before .before .before .before .before .before .before .before .before .before .before .before .before .before .before .before .before .before .before .before .before .before .before .before .before .before .before .before .apply .kept .1 .1 .1 .0
 
--- src/lib.rt:304:9
 join-same-length-11 : (t : ℕ) → join-lts.Need-same-length-11 (join-callees t) (join-at t) join.Post
 join-same-length-11 t c =
     c .before .before .before .before .before .before .before .before .before .before .before .before .before .apply2 .kept .1 .1 .1 .1 .0 ∙ c .before .before .before .before .before .before .before .before .before .before .before .before .before .before .before .before .before .before .before .before .before .before .before .before .before .before .before .before .before .before .before .before .before .apply .kept .1 .1 .1 .1 .0
 
--- src/lib.rt:304:9
 join-same-length-12 : (t : ℕ) → join-lts.Need-same-length-12 (join-callees t) (join-at t) join.Post
 join-same-length-12 t c =
     c .before .before .before .before .before .before .before .before .before .before .before .before .before .apply2 .kept .1 .1 .1 .1 .1 .0 ∙ c .before .before .before .before .before .before .before .before .before .before .before .before .before .before .before .before .before .before .before .before .before .before .before .before .before .before .before .before .before .before .before .before .before .apply .kept .1 .1 .1 .1 .1 .0
 
--- src/lib.rt:304:9
 join-returns-2 : (t : ℕ) → join-lts.Need-returns-2 (join-callees t) (join-at t) join.Post
 join-returns-2 t c =
     let s = c .before .before .before .before .before .before .before .before .before .before .before .before .before .before .before .before .before .before .before .before .before .before .before .before .before .before .before .before .before .before .before .before .before .before .before .before .before .before .before .before .before .before .before .before .before .before in
@@ -560,7 +497,6 @@ join-returns-2 t c =
     let b = c .before .before .before .before .before .before .before .before .before .before .before .before .before in
     (high-done (j-op s) (j-memo s) (j-table s) (j-sides s) (j-ready s) (out₁ a) (is₁ a) (c .before .before .before .before .before .before .before .before .before .before .before .before .before .before .before .before .before .before .before .before .if1 .left) (out₂ b) (is₂ b) (c .if2 .taken), b .apply2 .ensures .1)
 
--- src/lib.rt:306:5
 join-put-requires : (t : ℕ) → join-lts.Need-put-requires (join-callees t) (join-at t) join.Post
 join-put-requires t c κs =
     let s = c .before .before .before .before .before .before .before .before .before .before .before .before .before .before .before .before .before .before .before .before .before .before .before .before .before .before .before .before .before .before .before .before .before .before .before .before .before .before .before .before .before .before .before .before .before .before .before .before .before .before .before in
@@ -568,37 +504,30 @@ join-put-requires t c κs =
     let b = c .before .before .before .before .before .before .before .before .before .before .before .before .before .before .before .before .before .before in
     high-good (j-op s) (j-memo s) (j-table s) (j-sides s) (j-ready s) (out₁ a) (is₁ a) (c .before .before .before .before .before .before .before .before .before .before .before .before .before .before .before .before .before .before .before .before .before .before .before .before .before .if1 .left) (out₂ b) (is₂ b)
 
--- src/lib.rt:283:1
 join-same-length-13 : (t : ℕ) → join-lts.Need-same-length-13 (join-callees t) (join-at t) join.Post
 join-same-length-13 t c =
     c .before .before .before .before .before .before .before .before .before .before .put .kept .0 ∙ c .before .before .before .before .before .before .before .before .before .before .before .before .before .before .before .before .before .before .before .before .before .before .before .before .before .before .before .before .before .apply2 .kept .0 ∙ c .before .before .before .before .before .before .before .before .before .before .before .before .before .before .before .before .before .before .before .before .before .before .before .before .before .before .before .before .before .before .before .before .before .before .before .before .before .before .before .before .before .before .before .before .before .before .before .before .before .apply .kept .0
 
--- src/lib.rt:283:1
 join-same-length-14 : (t : ℕ) → join-lts.Need-same-length-14 (join-callees t) (join-at t) join.Post
 join-same-length-14 t c =
     c .before .before .before .before .before .before .before .before .before .before .put .kept .1 .0 ∙ c .before .before .before .before .before .before .before .before .before .before .before .before .before .before .before .before .before .before .before .before .before .before .before .before .before .before .before .before .before .apply2 .kept .1 .0 ∙ c .before .before .before .before .before .before .before .before .before .before .before .before .before .before .before .before .before .before .before .before .before .before .before .before .before .before .before .before .before .before .before .before .before .before .before .before .before .before .before .before .before .before .before .before .before .before .before .before .before .apply .kept .1 .0
 
--- src/lib.rt:283:1
 join-same-length-15 : (t : ℕ) → join-lts.Need-same-length-15 (join-callees t) (join-at t) join.Post
 join-same-length-15 t c =
     c .before .before .before .before .before .before .before .before .before .before .put .kept .1 .1 .0 ∙ c .before .before .before .before .before .before .before .before .before .before .before .before .before .before .before .before .before .before .before .before .before .before .before .before .before .before .before .before .before .apply2 .kept .1 .1 .0 ∙ c .before .before .before .before .before .before .before .before .before .before .before .before .before .before .before .before .before .before .before .before .before .before .before .before .before .before .before .before .before .before .before .before .before .before .before .before .before .before .before .before .before .before .before .before .before .before .before .before .before .apply .kept .1 .1 .0
 
--- src/lib.rt:283:1
 join-same-length-16 : (t : ℕ) → join-lts.Need-same-length-16 (join-callees t) (join-at t) join.Post
 join-same-length-16 t c =
     c .before .before .before .before .before .before .before .before .before .before .put .kept .1 .1 .1 .0 ∙ c .before .before .before .before .before .before .before .before .before .before .before .before .before .before .before .before .before .before .before .before .before .before .before .before .before .before .before .before .before .apply2 .kept .1 .1 .1 .0 ∙ c .before .before .before .before .before .before .before .before .before .before .before .before .before .before .before .before .before .before .before .before .before .before .before .before .before .before .before .before .before .before .before .before .before .before .before .before .before .before .before .before .before .before .before .before .before .before .before .before .before .apply .kept .1 .1 .1 .0
 
--- src/lib.rt:283:1
 join-same-length-17 : (t : ℕ) → join-lts.Need-same-length-17 (join-callees t) (join-at t) join.Post
 join-same-length-17 t c =
     c .before .before .before .before .before .before .before .before .before .before .put .kept .1 .1 .1 .1 .0 ∙ c .before .before .before .before .before .before .before .before .before .before .before .before .before .before .before .before .before .before .before .before .before .before .before .before .before .before .before .before .before .apply2 .kept .1 .1 .1 .1 .0 ∙ c .before .before .before .before .before .before .before .before .before .before .before .before .before .before .before .before .before .before .before .before .before .before .before .before .before .before .before .before .before .before .before .before .before .before .before .before .before .before .before .before .before .before .before .before .before .before .before .before .before .apply .kept .1 .1 .1 .1 .0
 
--- src/lib.rt:283:1
 join-same-length-18 : (t : ℕ) → join-lts.Need-same-length-18 (join-callees t) (join-at t) join.Post
 join-same-length-18 t c =
     c .before .before .before .before .before .before .before .before .before .before .before .before .before .before .before .before .before .before .before .before .before .before .before .before .before .before .before .before .before .apply2 .kept .1 .1 .1 .1 .1 .0 ∙ c .before .before .before .before .before .before .before .before .before .before .before .before .before .before .before .before .before .before .before .before .before .before .before .before .before .before .before .before .before .before .before .before .before .before .before .before .before .before .before .before .before .before .before .before .before .before .before .before .before .apply .kept .1 .1 .1 .1 .1 .0
 
--- src/lib.rt:283:1
 join-returns-3 : (t : ℕ) → join-lts.Need-returns-3 (join-callees t) (join-at t) join.Post
 join-returns-3 t c =
     let s = c .before .before .before .before .before .before .before .before .before .before .before .before .before .before .before .before .before .before .before .before .before .before .before .before .before .before .before .before .before .before .before .before .before .before .before .before .before .before .before .before .before .before .before .before .before .before .before .before .before .before .before .before .before .before .before .before .before .before .before .before .before .before in

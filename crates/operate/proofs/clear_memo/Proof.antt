@@ -1,13 +1,12 @@
-use mathlib.Core.Path.{_≡_, refl, sym, _∙_}
-use Prim.Native.Nat.{ℕ, _-_, _≤_, _<_}
+-- `clear_memo` leaves zeros. The invariant: the places passed hold zeros (Memo). Assumes nothing.
+use mathlib.Core.Path.{_≡_, refl, _∙_}
+use Prim.Native.Nat.{_-_, _≤_, _<_}
 use native.Mathlib.Omega.{arith}
 use lib.ListN.{length, length-set}
 use borrow.Author.Needs.{needs}
 use Rattle.operate.proofs.Memo.{Cleared, cleared-one, cleared-all}
 use Rattle.operate.proofs.clear_memo.Statement.{statement}
 use Rattle.operate.proofs.clear_memo.Tie as tie
-use Rattle.operate.proofs.clear_memo.Reads as reads
-use Rattle.operate.proofs.clear_memo.Lts as lts
 
 abbrev Inv-loop : tie.InvT-loop
 Inv-loop memo₀ i₀ memo i = (length memo ≡ length memo₀) × (i ≤ length memo) × Cleared memo i
@@ -15,27 +14,21 @@ Inv-loop memo₀ i₀ memo i = (length memo ≡ length memo₀) × (i ≤ length
 abbrev μ-loop : tie.MeasureT-loop
 μ-loop memo₀ i₀ memo i = length memo₀ - i
 
--- src/lib.rt:186:5
 loop-holds : tie.Need-loop-holds Inv-loop μ-loop
 loop-holds c = (refl, omega arith, λ k p. absurd (omega arith))
 
--- src/lib.rt:187:9
 mul-memo : tie.Need-mul-memo Inv-loop μ-loop
 mul-memo c = search needs
 
--- src/lib.rt:187:9
 slice-write-memo : tie.Need-slice-write-memo Inv-loop μ-loop
 slice-write-memo c = search needs
 
--- src/lib.rt:188:9
 add-i : tie.Need-add-i Inv-loop μ-loop
 add-i c = search needs
 
--- src/lib.rt:186:5
 loop-less : tie.Need-loop-less Inv-loop μ-loop
 loop-less c = search needs
 
--- src/lib.rt:186:5
 loop-again : tie.Need-loop-again Inv-loop μ-loop
 loop-again c =
     let w = c .before .loop in
@@ -46,11 +39,9 @@ loop-again c =
       cleared-one (w .memo) (w .i) inside (w .inv .2),
     )
 
--- src/lib.rt:182:1
 same-length : tie.Need-same-length Inv-loop μ-loop
 same-length c = search needs
 
--- src/lib.rt:182:1
 returns : tie.Need-returns Inv-loop μ-loop
 returns c =
     let w = c .before .loop in

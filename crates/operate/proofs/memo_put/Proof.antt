@@ -1,3 +1,4 @@
+-- `memo_put` stores the packed entry in the slot of its key. Assumes nothing.
 use Rattle.operate.specs.Inner.{pack}
 use lib.ListN.{set}
 use Prim.Native.Nat.{ℕ}
@@ -5,55 +6,40 @@ use mathlib.Core.Path.{ap}
 use borrow.Author.Needs.{needs}
 use Rattle.operate.proofs.memo_put.Statement.{statement}
 use Rattle.operate.proofs.memo_put.Tie as tie
-use Rattle.operate.proofs.memo_put.Reads as reads
-use Rattle.operate.proofs.memo_put.Lts as lts
-use Rattle.operate.proofs.slot_of.Reads as slot-of-reads
 
--- src/lib.rt:174:9
 slot-of-requires : tie.Need-slot-of-requires
 slot-of-requires c κs = search needs
 
--- src/lib.rt:175:13
 cast-a : tie.Need-cast-a
 cast-a c = search needs
 
--- src/lib.rt:176:13
 cast-b : tie.Need-cast-b
 cast-b c = search needs
 
--- src/lib.rt:177:13
 cast-c : tie.Need-cast-c
 cast-c c = search needs
 
--- src/lib.rt:178:15
 mul-memo : tie.Need-mul-memo
 mul-memo c = search needs
 
--- src/lib.rt:178:32
 mul-memo-2 : tie.Need-mul-memo-2
 mul-memo-2 c = search needs
 
--- src/lib.rt:178:15
 add-memo : tie.Need-add-memo
 add-memo c = search needs
 
--- src/lib.rt:178:15
 add-memo-2 : tie.Need-add-memo-2
 add-memo-2 c = search needs
 
--- src/lib.rt:178:5
 mul-memo-3 : tie.Need-mul-memo-3
 mul-memo-3 c = search needs
 
--- src/lib.rt:178:5
 slice-write-memo : tie.Need-slice-write-memo
 slice-write-memo c = search needs
 
--- src/lib.rt:170:1
 same-length : tie.Need-same-length
 same-length c = search needs
 
--- src/lib.rt:170:1
 returns : tie.Need-returns
 returns c =
     let a = c .before .before .before .before .before .args in

@@ -1,33 +1,24 @@
+-- `sides_of` puts together what its calls give. Assumes nothing.
 use Rattle.operate.specs.Inner.{sidesOf}
 use borrow.Author.Needs.{needs}
 use Rattle.operate.proofs.sides_of.Statement.{statement}
 use Rattle.operate.proofs.sides_of.Tie as tie
-use Rattle.operate.proofs.sides_of.Reads as reads
-use Rattle.operate.proofs.sides_of.Lts as lts
-use Rattle.operate.proofs.child_or.Reads as child-or-reads
-use Rattle.operate.proofs.top_of.Reads as top-of-reads
 
--- src/lib.rt:126:9
 top-of-requires : tie.Need-top-of-requires
 top-of-requires c κs = search needs
 
--- src/lib.rt:127:9
 child-or-requires : tie.Need-child-or-requires
 child-or-requires c κs = search needs
 
--- src/lib.rt:128:9
 child-or-requires-2 : tie.Need-child-or-requires-2
 child-or-requires-2 c κs = search needs
 
--- src/lib.rt:129:9
 child-or-requires-3 : tie.Need-child-or-requires-3
 child-or-requires-3 c κs = search needs
 
--- src/lib.rt:130:9
 child-or-requires-4 : tie.Need-child-or-requires-4
 child-or-requires-4 c κs = search needs
 
--- src/lib.rt:122:1
 returns : tie.Need-returns
 unfolding sidesOf
 returns c =

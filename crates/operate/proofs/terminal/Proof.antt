@@ -1,82 +1,66 @@
+-- `terminal` tests the numbers in the definition's order. Assumes nothing.
 use borrow.Author.Tests.{eq-eqb, ne-eqb, lt-ltb, le-ltb}
 use Rattle.operate.specs.Inner.{terminalOf}
 use mathlib.Core.Logic.{⊎-elim}
 use borrow.Author.Needs.{needs}
 use Rattle.operate.proofs.terminal.Statement.{statement}
 use Rattle.operate.proofs.terminal.Tie as tie
-use Rattle.operate.proofs.terminal.Reads as reads
-use Rattle.operate.proofs.terminal.Lts as lts
-use Rattle.operate.proofs.terminal_conjunction.Reads as terminal-conjunction-reads
 
--- src/lib.rt:42:35
 enum-told : tie.Need-enum-told
 enum-told c = search needs
 
--- src/lib.rt:42:35
 terminal-conjunction-requires : tie.Need-terminal-conjunction-requires
 terminal-conjunction-requires c κs = search needs
 
--- src/lib.rt:44:16
 enum-told-2 : tie.Need-enum-told-2
 enum-told-2 c = search needs
 
--- src/lib.rt:45:17
 returns : tie.Need-returns
 unfolding terminalOf
 returns c =
     rw (c .before .before .enum-told2 .given .1, eq-eqb _ _ (c .if1 .taken))
 
--- src/lib.rt:48:17
 returns-2 : tie.Need-returns-2
 unfolding terminalOf
 returns-2 c =
     rw (c .before .before .before .before .enum-told2 .given .1, ne-eqb _ _ (c .before .before .if1 .left), eq-eqb _ _ (c .if2 .taken))
 
--- src/lib.rt:53:13
 enum-told-3 : tie.Need-enum-told-3
 enum-told-3 c = search needs
 
--- src/lib.rt:54:17
 returns-3 : tie.Need-returns-3
 unfolding terminalOf
 returns-3 c =
     ⊎-elim (λ w. rw (c .before .before .enum-told3 .given .1, lt-ltb _ _ (w .taken))) (λ w. rw (c .before .before .enum-told3 .given .1, le-ltb _ _ (w .0 .left), w .2 .taken)) (c .if3 .came)
 
--- src/lib.rt:57:17
 returns-4 : tie.Need-returns-4
 unfolding terminalOf
 returns-4 c =
     rw (c .before .before .before .before .before .before .before .enum-told3 .given .1, le-ltb _ _ (c .before .before .before .before .before .if3 .left), c .before .before .before .if4 .left, eq-eqb _ _ (c .if5 .taken))
 
--- src/lib.rt:62:16
 enum-told-4 : tie.Need-enum-told-4
 enum-told-4 c = search needs
 
--- src/lib.rt:63:17
 returns-5 : tie.Need-returns-5
 unfolding terminalOf
 returns-5 c =
     rw (c .before .before .enum-told4 .given .1, lt-ltb _ _ (c .if6 .taken))
 
--- src/lib.rt:38:1
 returns-6 : tie.Need-returns-6
 unfolding terminalOf
 returns-6 c =
     rw (c .before .enum-told .given .1) (c .terminal-conjunction .ensures)
 
--- src/lib.rt:38:1
 returns-7 : tie.Need-returns-7
 unfolding terminalOf
 returns-7 c =
     rw (c .before .before .before .before .enum-told2 .given .1, ne-eqb _ _ (c .before .before .if1 .left), ne-eqb _ _ (c .if2 .left))
 
--- src/lib.rt:38:1
 returns-8 : tie.Need-returns-8
 unfolding terminalOf
 returns-8 c =
     rw (c .before .before .before .before .before .before .before .enum-told3 .given .1, le-ltb _ _ (c .before .before .before .before .before .if3 .left), c .before .before .before .if4 .left, ne-eqb _ _ (c .if5 .left))
 
--- src/lib.rt:38:1
 returns-9 : tie.Need-returns-9
 unfolding terminalOf
 returns-9 c =

@@ -1,24 +1,20 @@
-use borrow.Author.Tests.{eq-eqb, ne-eqb, lt-ltb, le-ltb}
+-- `terminal_conjunction` tests the numbers in the definition's order. Assumes nothing.
+use borrow.Author.Tests.{eq-eqb, ne-eqb}
 use Rattle.operate.specs.Inner.{terminalOf}
 use mathlib.Core.Logic.{⊎-elim}
 use Rattle.operate.proofs.terminal_conjunction.Statement.{statement}
 use Rattle.operate.proofs.terminal_conjunction.Tie as tie
-use Rattle.operate.proofs.terminal_conjunction.Reads as reads
-use Rattle.operate.proofs.terminal_conjunction.Lts as lts
 
--- src/lib.rt:74:9
 returns : tie.Need-returns
 unfolding terminalOf
 returns c =
     ⊎-elim (λ w. rw (eq-eqb _ _ (w .taken))) (λ w. rw (ne-eqb _ _ (w .0 .left), w .2 .taken)) (c .if1 .came)
 
--- src/lib.rt:77:9
 returns-2 : tie.Need-returns-2
 unfolding terminalOf
 returns-2 c =
     rw (ne-eqb _ _ (c .before .before .before .before .if1 .left), c .before .before .if2 .left, eq-eqb _ _ (c .if3 .taken))
 
--- src/lib.rt:80:9
 returns-3 : tie.Need-returns-3
 unfolding terminalOf
 returns-3 c =
@@ -27,7 +23,6 @@ returns-3 c =
     (λ w. rw (ne-eqb _ _ (c .before .before .before .before .before .before .if1 .left), c .before .before .before .before .if2 .left, ne-eqb _ _ (c .before .before .if3 .left), ne-eqb _ _ (w .0 .left), w .3 .taken))
     (c .if4 .came)
 
--- src/lib.rt:70:1
 returns-4 : tie.Need-returns-4
 unfolding terminalOf
 returns-4 c =

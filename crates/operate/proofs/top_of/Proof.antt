@@ -1,25 +1,19 @@
-use borrow.Author.Tests.{eq-eqb, ne-eqb, lt-ltb, le-ltb}
+-- `top_of` takes the lesser of two levels, as the definition does. Assumes nothing.
+use borrow.Author.Tests.{lt-ltb, le-ltb}
 use borrow.Author.Needs.{needs}
 use Rattle.operate.proofs.top_of.Statement.{statement}
 use Rattle.operate.proofs.top_of.Tie as tie
-use Rattle.operate.proofs.top_of.Reads as reads
-use Rattle.operate.proofs.top_of.Lts as lts
-use Rattle.operate.proofs.level_of.Reads as level-of-reads
 
--- src/lib.rt:102:9
 level-of-requires : tie.Need-level-of-requires
 level-of-requires c κs = search needs
 
--- src/lib.rt:103:9
 level-of-requires-2 : tie.Need-level-of-requires-2
 level-of-requires-2 c κs = search needs
 
--- src/lib.rt:105:9
 returns : tie.Need-returns
 returns c =
     rw (← c .before .before .level-of .ensures, ← c .before .level-of2 .ensures, lt-ltb _ _ (c .if1 .taken))
 
--- src/lib.rt:98:1
 returns-2 : tie.Need-returns-2
 returns-2 c =
     rw (← c .before .before .level-of .ensures, ← c .before .level-of2 .ensures, le-ltb _ _ (c .if1 .left))
