@@ -51,7 +51,7 @@ result-from t G (Literals m n) f g p q allowed i lo hi rf rg = literals-from 64 
 pub level-kept : (t t′ : Table) → Good t → Longer t t′ → (f : ℕ) → f < t .count → level (t′ .vars) f ≡ level (t .vars) f
 level-kept t t′ G L f inside =
     let e : getD (t′ .vars) f 0 ≡ getD (t .vars) f 0 =
-      var-at t′ (L .good) f ∙ ap (λ (x : Node). x .var) (sym (getD-take (t .count) (nodesOf t′) f blank inside) ∙ ap (λ (u : List Node). at u f) (L .first)) ∙ sym (var-at t G f) in
+    var-at t′ (L .good) f ∙ ap (λ (x : Node). x .var) (sym (getD-take (t .count) (nodesOf t′) f blank inside) ∙ ap (λ (u : List Node). at u f) (L .first)) ∙ sym (var-at t G f) in
     rw e
 
 pub top-kept : (t t′ : Table) → Good t → Longer t t′ → (f g : ℕ) → f < t .count → g < t .count → top (t′ .vars) f g ≡ top (t .vars) f g

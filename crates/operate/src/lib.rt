@@ -240,9 +240,17 @@ pub fn apply(
     ensures { λ r. ⌜ MemoRight op (now (memo .exit)) (tableOf (now (vars .exit)) (now (lows .exit)) (now (highs .exit)) (now (heads .exit)) (now (links .exit)) (r .count)) ⌝ }
 {
     match terminal(op, f, g) {
-        Found::At(r) => Placed { full: false, node: r, count },
+        Found::At(r) => Placed {
+            full: false,
+            node: r,
+            count,
+        },
         Found::Nothing => match memo_find(memo, f, g) {
-            Found::At(r) => Placed { full: false, node: r, count },
+            Found::At(r) => Placed {
+                full: false,
+                node: r,
+                count,
+            },
             Found::Nothing => {
                 let p = descend(vars, lows, highs, heads, links, memo, count, op, f, g);
                 if p.full {
@@ -299,9 +307,30 @@ fn join(
     if p.full {
         return p;
     }
-    let q = apply(vars, lows, highs, heads, links, memo, p.count, op, s.f1, s.g1);
+    let q = apply(
+        vars,
+        lows,
+        highs,
+        heads,
+        links,
+        memo,
+        p.count,
+        op,
+        s.f1,
+        s.g1,
+    );
     if q.full {
         return q;
     }
-    table::put(vars, lows, highs, heads, links, q.count, s.x, p.node, q.node)
+    table::put(
+        vars,
+        lows,
+        highs,
+        heads,
+        links,
+        q.count,
+        s.x,
+        p.node,
+        q.node,
+    )
 }

@@ -302,10 +302,9 @@ apply-same-length-7 t c =
 
 apply-returns-3 : (t : ℕ) → apply-lts.Need-returns-3 (apply-callees t) (apply-at t) apply.Post
 apply-returns-3 t c =
-    let s = c .before .before .before .before .before .before .before .before .before .before .before .before .before .before in
-    (
+    let s = c .before .before .before .before .before .before .before .before .before .before .before .before .before .before in (
       known-outcome (a-op s) (a-memo s) (a-table s) (a-f s) (a-g s) (a-ready s) _ (memo-found (a-op s) (a-memo s) (a-table s) (a-ready s .right) (a-f s) (a-g s) _ (a-two s (nothing (c .before .before .before .before .before)))
-      (omega (arith, a-ready s .g-inside, a-ready s .good .within, a-ready s .good .most)) (sym (c .before .before .before .memo-find .ensures) ∙ c .before .r2 .given .1)),
+          (omega (arith, a-ready s .g-inside, a-ready s .good .within, a-ready s .good .most)) (sym (c .before .before .before .memo-find .ensures) ∙ c .before .r2 .given .1)),
       a-ready s .right,
     )
 
@@ -336,11 +335,10 @@ apply-same-length-13 t c =
 apply-returns-4 : (t : ℕ) → apply-lts.Need-returns-4 (apply-callees t) (apply-at t) apply.Post
 apply-returns-4 t c =
     let a = c .before .before .before .before .before .before .before .before .before .before .before .before .before .before .before .before .before in
-    let s = c .before .before .before .before .before .before .before .before .before .before .before .before .before .before .before .before .before .before .before .before .before .before .before .before .before .before .before .before .before .before .before .before .before .before .before .before .before in
-    (
+    let s = c .before .before .before .before .before .before .before .before .before .before .before .before .before .before .before .before .before .before .before .before .before .before .before .before .before .before .before .before .before .before .before .before .before .before .before .before .before in (
       a-is a,
       subst (λ (m : List ℕ). MemoRight (a-op s) m (a-out a .table)) (sym (c .before .before .memo-put .ensures))
-      (made-stored (a-op s) (a-memo s) (a-table s) (a-f s) (a-g s) (a-ready s) (a-out a) (a-is a) (c .before .before .before .before .if1 .left) (a-memo₁ a) (a-room a) (a .descend .ensures .1)),
+          (made-stored (a-op s) (a-memo s) (a-table s) (a-f s) (a-g s) (a-ready s) (a-out a) (a-is a) (c .before .before .before .before .if1 .left) (a-memo₁ a) (a-room a) (a .descend .ensures .1)),
     )
 
 descend-sides-of-requires : (t : ℕ) → descend-lts.Need-sides-of-requires (descend-callees t) (descend-at t) descend.Post
@@ -532,8 +530,7 @@ join-returns-3 : (t : ℕ) → join-lts.Need-returns-3 (join-callees t) (join-at
 join-returns-3 t c =
     let s = c .before .before .before .before .before .before .before .before .before .before .before .before .before .before .before .before .before .before .before .before .before .before .before .before .before .before .before .before .before .before .before .before .before .before .before .before .before .before .before .before .before .before .before .before .before .before .before .before .before .before .before .before .before .before .before .before .before .before .before .before .before .before in
     let a = c .before .before .before .before .before .before .before .before .before .before .before .before .before .before .before .before .before .before .before .before .before .before .before .before .before .before .before .before .before .before .before .before .before .before .before .before .before .before .before .before .before .before .before .before .before .before .before .before .before in
-    let b = c .before .before .before .before .before .before .before .before .before .before .before .before .before .before .before .before .before .before .before .before .before .before .before .before .before .before .before .before .before in
-    (
+    let b = c .before .before .before .before .before .before .before .before .before .before .before .before .before .before .before .before .before .before .before .before .before .before .before .before .before .before .before .before .before in (
       both-done (j-op s) (j-memo s) (j-table s) (j-sides s) (j-ready s) (out₁ a) (is₁ a) (c .before .before .before .before .before .before .before .before .before .before .before .before .before .before .before .before .before .before .before .before .before .before .before .before .before .before .before .before .before .before .before .before .before .before .before .before .if1 .left) (out₂ b) (is₂ b) (c .before .before .before .before .before .before .before .before .before .before .before .before .before .before .before .before .if2 .left) (outcomeOf (c .before .before .before .before .before .before .before .before .before .before .put .last .0) (c .before .before .before .before .before .before .before .before .before .before .put .last .1 .0) (c .before .before .before .before .before .before .before .before .before .before .put .last .1 .1 .0) (c .before .before .before .before .before .before .before .before .before .before .put .last .1 .1 .1 .0) (c .before .before .before .before .before .before .before .before .before .before .put .last .1 .1 .1 .1 .0) (c .before .before .before .before .before .before .before .before .before .before .put .result)) (c .before .before .before .before .before .before .before .before .before .before .put .ensures),
       memo-joined (j-op s) (j-memo s) (j-table s) (j-sides s) (j-ready s) (out₁ a) (is₁ a) (c .before .before .before .before .before .before .before .before .before .before .before .before .before .before .before .before .before .before .before .before .before .before .before .before .before .before .before .before .before .before .before .before .before .before .before .before .if1 .left) (out₂ b) (is₂ b) (c .before .before .before .before .before .before .before .before .before .before .before .before .before .before .before .before .if2 .left) (outcomeOf (c .before .before .before .before .before .before .before .before .before .before .put .last .0) (c .before .before .before .before .before .before .before .before .before .before .put .last .1 .0) (c .before .before .before .before .before .before .before .before .before .before .put .last .1 .1 .0) (c .before .before .before .before .before .before .before .before .before .before .put .last .1 .1 .1 .0) (c .before .before .before .before .before .before .before .before .before .before .put .last .1 .1 .1 .1 .0) (c .before .before .before .before .before .before .before .before .before .before .put .result)) (c .before .before .before .before .before .before .before .before .before .before .put .ensures) (memo₂ b) (b .apply2 .ensures .1),
     )

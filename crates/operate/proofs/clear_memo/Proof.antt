@@ -32,8 +32,7 @@ loop-less c = search needs
 loop-again : tie.Need-loop-again Inv-loop μ-loop
 loop-again c =
     let w = c .before .loop in
-    let inside : w .i < length (w .memo) = search needs in
-    (
+    let inside : w .i < length (w .memo) = search needs in (
       length-set (w .memo) (w .i) 0 ∙ w .inv .0,
       omega (arith, length-set (w .memo) (w .i) 0),
       cleared-one (w .memo) (w .i) inside (w .inv .2),
