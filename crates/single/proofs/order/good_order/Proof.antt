@@ -1,13 +1,13 @@
 -- The good-order test picks the arrays that the table asks for. Assumes nothing.
 use Rattle.table.proofs.IndexOrder.{sized}
 use borrow.Author.Needs.{needs}
-use Rattle.checker.proofs.order.good_order.Statement.{statement}
-use Rattle.checker.proofs.order.good_order.Tie as tie
-use Rattle.checker.proofs.order.good_order.Reads as reads
-use Rattle.checker.proofs.order.good_order.Lts as lts
-use Rattle.checker.proofs.order.good_order_4096.Reads as good-order-4096-reads
-use Rattle.checker.proofs.order.good_order_64.Reads as good-order-64-reads
-use Rattle.checker.proofs.order.good_order_65536.Reads as good-order-65536-reads
+use Rattle.single.proofs.order.good_order.Statement.{statement}
+use Rattle.single.proofs.order.good_order.Tie as tie
+use Rattle.single.proofs.order.good_order.Reads as reads
+use Rattle.single.proofs.order.good_order.Lts as lts
+use Rattle.single.proofs.order.good_order_4096.Reads as good-order-4096-reads
+use Rattle.single.proofs.order.good_order_64.Reads as good-order-64-reads
+use Rattle.single.proofs.order.good_order_65536.Reads as good-order-65536-reads
 
 good-order-64-requires : tie.Need-good-order-64-requires
 good-order-64-requires c κs = search needs

@@ -2,14 +2,14 @@
 use mathlib.Core.Path.{_≡_, sym, ap, _∙_}
 use mathlib.Core.Bool.{Bool}
 use borrow.Author.Tests.{not-true, not-false}
-use Rattle.checker.specs.declared.Evaluated.{Evaluated}
-use Rattle.checker.proofs.Refusals.{evaluated-7, evaluated-26, evaluated-13, evaluated-0, readable}
+use Rattle.single.specs.declared.Evaluated.{Evaluated}
+use Rattle.single.proofs.Refusals.{evaluated-7, evaluated-26, evaluated-13, evaluated-0, readable}
 use borrow.Author.Needs.{needs}
-use Rattle.checker.proofs.evaluate.Statement.{statement}
-use Rattle.checker.proofs.evaluate.Tie as tie
-use Rattle.checker.proofs.evaluate.Reads as reads
-use Rattle.checker.proofs.evaluate.Lts as lts
-use Rattle.checker.proofs.order.good_order.Reads as good-order-reads
+use Rattle.single.proofs.evaluate.Statement.{statement}
+use Rattle.single.proofs.evaluate.Tie as tie
+use Rattle.single.proofs.evaluate.Reads as reads
+use Rattle.single.proofs.evaluate.Lts as lts
+use Rattle.single.proofs.order.good_order.Reads as good-order-reads
 use Rattle.table.proofs.test.size_fits.Reads as size-fits-reads
 use Rattle.walks.proofs.value_of.Reads as value-of-reads
 

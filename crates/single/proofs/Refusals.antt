@@ -13,8 +13,8 @@ use Rattle.table.proofs.Order.{GoodOrder, good-order, in-order}
 use Rattle.table.proofs.IndexOrder.{Sized, sized}
 use Rattle.table.proofs.Written.{length-rows}
 use Rattle.walks.specs.Readable.{Readable, nodesIn, valueUnder}
-use Rattle.checker.specs.declared.Evaluated.{Evaluated}
-use Rattle.checker.specs.Single.{refusal, evaluation}
+use Rattle.single.specs.declared.Evaluated.{Evaluated}
+use Rattle.single.specs.Single.{refusal, evaluation}
 
 module _ (vars lows highs : List ℕ) (count : ℕ) where
   module _ (f g : ℕ) where

@@ -1,9 +1,10 @@
-// The face of the library: the calls open to others. Each tests for itself all that it needs.
+// The five single calls, with the table alone lent.
+pub mod call;
 pub mod order;
 
 use table::NodeNo;
 ghost use mathlib.Core.Path.{_≡_};
-ghost use Rattle.checker.specs.Single.{evaluation};
+ghost use Rattle.single.specs.Single.{evaluation};
 
 // What evaluation says: 01's number, yes or no, and the count as lent.
 pub struct Evaluated {

@@ -1,0 +1,5 @@
+pub mod Zeros
+pub mod Refusals
+pub mod Shares
+pub mod Operands
+pub mod Calls

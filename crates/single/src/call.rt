@@ -1,0 +1,261 @@
+// Conjunction, negation and the two cofactors: one frame for the four, with working arrays as large as the table asks for.
+use operate::Operation;
+use table::NodeNo;
+ghost use mathlib.Core.Path.{_≡_};
+ghost use mathlib.Core.Bool.{true, false};
+ghost use Prim.Native.Nat.{_*_, _≤_, _<_};
+ghost use lib.ListN.{length, replicate};
+ghost use Rattle.table.specs.Columns.{sizeFits};
+ghost use Rattle.table.specs.Indexed.{tableOf};
+ghost use Rattle.operate.specs.Inner.{Ready};
+ghost use Rattle.single.specs.Single.{sharesVariable, operandRefusal, madeOf, madeBy, operation};
+ghost use Rattle.single.specs.Inner.{OneOperand, placingOf};
+
+// What a single call says: 01's number, the node (0 with a refusal) and the count.
+pub struct Single {
+    pub number: u8,
+    pub node: NodeNo,
+    pub count: usize,
+}
+
+// Whether a variable is in both words.
+fn shares_variable(positive: u64, negative: u64) -> bool
+    ensures { λ r. ⌜ r ≡ sharesVariable positive negative ⌝ }
+{
+    let mut i: u64 = 0;
+    while i < 64 {
+        if (positive >> i) % 2 == 1 && (negative >> i) % 2 == 1 {
+            return true;
+        }
+        i += 1;
+    }
+    false
+}
+
+// 27 or 15, or 0 where the operation can have its second operand.
+fn operand_refusal(op: Operation, g: NodeNo) -> u8
+    ensures { λ r. ⌜ r ≡ operandRefusal op (g .0) ⌝ }
+{
+    match op {
+        Operation::Conjunction => 0,
+        Operation::Negation => 0,
+        Operation::Cofactor => {
+            if g.0 == 0 {
+                return 27;
+            }
+            0
+        }
+        Operation::Literals(positive, negative) => {
+            if shares_variable(positive, negative) {
+                return 15;
+            }
+            0
+        }
+    }
+}
+
+// The operation once its operands are known to be fit.
+fn made(
+    vars: &mut [u8],
+    lows: &mut [u16],
+    highs: &mut [u16],
+    heads: &mut [u16],
+    links: &mut [u16],
+    memo: &mut [u64],
+    count: usize,
+    op: Operation,
+    f: NodeNo,
+    g: NodeNo,
+) -> Single
+    requires { ⌜ Ready op (now memo) (tableOf (now vars) (now lows) (now highs) (now heads) (now links) count) (f .0) (g .0) ⌝ }
+    ensures { λ r. ⌜ madeOf (now (vars .exit)) (now (lows .exit)) (now (highs .exit)) r ≡ madeBy (now (vars .entry)) (now (lows .entry)) (now (highs .entry)) count (placingOf op (tableOf (now (vars .entry)) (now (lows .entry)) (now (highs .entry)) (now (heads .entry)) (now (links .entry)) count) (f .0) (g .0)) ⌝ }
+{
+    let p = operate::apply(vars, lows, highs, heads, links, memo, count, op, f, g);
+    if p.full {
+        table::drop_to(vars, lows, highs, heads, links, p.count, count);
+        return Single {
+            number: 23,
+            node: NodeNo(0),
+            count,
+        };
+    }
+    let node = p.node;
+    Single {
+        number: 0,
+        node,
+        count: p.count,
+    }
+}
+
+// The call over working arrays that are all zero: 26, 13, 27 or 15, then the operation.
+fn judged(
+    vars: &mut [u8],
+    lows: &mut [u16],
+    highs: &mut [u16],
+    heads: &mut [u16],
+    links: &mut [u16],
+    memo: &mut [u64],
+    count: usize,
+    op: Operation,
+    f: NodeNo,
+    g: NodeNo,
+) -> Single
+    requires { ⌜ (sizeFits (now vars) (now lows) (now highs) ≡ true) × (now heads ≡ replicate (2 * length (now vars)) 0) × (now links ≡ replicate (length (now vars)) 0) × (now memo ≡ replicate (length (now memo)) 0) × (0 < length (now memo)) × OneOperand op (g .0) ⌝ }
+    ensures { λ r. ⌜ madeOf (now (vars .exit)) (now (lows .exit)) (now (highs .exit)) r ≡ operation op (now (vars .entry)) (now (lows .entry)) (now (highs .entry)) count (f .0) (g .0) ⌝ }
+{
+    if !table::test::in_order(vars, lows, highs, heads, links, count) {
+        return Single {
+            number: 26,
+            node: NodeNo(0),
+            count,
+        };
+    }
+    if count <= f.0 as usize {
+        return Single {
+            number: 13,
+            node: NodeNo(0),
+            count,
+        };
+    }
+    if count <= g.0 as usize {
+        return Single {
+            number: 13,
+            node: NodeNo(0),
+            count,
+        };
+    }
+    let number = operand_refusal(op, g);
+    if number != 0 {
+        return Single {
+            number,
+            node: NodeNo(0),
+            count,
+        };
+    }
+    made(vars, lows, highs, heads, links, memo, count, op, f, g)
+}
+
+// For up to 64 places.
+fn judged_64(
+    vars: &mut [u8],
+    lows: &mut [u16],
+    highs: &mut [u16],
+    count: usize,
+    op: Operation,
+    f: NodeNo,
+    g: NodeNo,
+) -> Single
+    requires { ⌜ (sizeFits (now vars) (now lows) (now highs) ≡ true) × (length (now vars) ≤ 64) × OneOperand op (g .0) ⌝ }
+    ensures { λ r. ⌜ madeOf (now (vars .exit)) (now (lows .exit)) (now (highs .exit)) r ≡ operation op (now (vars .entry)) (now (lows .entry)) (now (highs .entry)) count (f .0) (g .0) ⌝ }
+{
+    let mut heads = [0u16; 128];
+    let mut links = [0u16; 64];
+    let mut memo = [0u64; 256];
+    let places = vars.len();
+    let ends = 2 * places;
+    judged(
+        vars,
+        lows,
+        highs,
+        &mut heads[..ends],
+        &mut links[..places],
+        &mut memo,
+        count,
+        op,
+        f,
+        g,
+    )
+}
+
+// For up to 4,096 places.
+fn judged_4096(
+    vars: &mut [u8],
+    lows: &mut [u16],
+    highs: &mut [u16],
+    count: usize,
+    op: Operation,
+    f: NodeNo,
+    g: NodeNo,
+) -> Single
+    requires { ⌜ (sizeFits (now vars) (now lows) (now highs) ≡ true) × (length (now vars) ≤ 4096) × OneOperand op (g .0) ⌝ }
+    ensures { λ r. ⌜ madeOf (now (vars .exit)) (now (lows .exit)) (now (highs .exit)) r ≡ operation op (now (vars .entry)) (now (lows .entry)) (now (highs .entry)) count (f .0) (g .0) ⌝ }
+{
+    let mut heads = [0u16; 8192];
+    let mut links = [0u16; 4096];
+    let mut memo = [0u64; 4096];
+    let places = vars.len();
+    let ends = 2 * places;
+    judged(
+        vars,
+        lows,
+        highs,
+        &mut heads[..ends],
+        &mut links[..places],
+        &mut memo,
+        count,
+        op,
+        f,
+        g,
+    )
+}
+
+// For up to 65,536 places.
+fn judged_65536(
+    vars: &mut [u8],
+    lows: &mut [u16],
+    highs: &mut [u16],
+    count: usize,
+    op: Operation,
+    f: NodeNo,
+    g: NodeNo,
+) -> Single
+    requires { ⌜ (sizeFits (now vars) (now lows) (now highs) ≡ true) × (length (now vars) ≤ 65536) × OneOperand op (g .0) ⌝ }
+    ensures { λ r. ⌜ madeOf (now (vars .exit)) (now (lows .exit)) (now (highs .exit)) r ≡ operation op (now (vars .entry)) (now (lows .entry)) (now (highs .entry)) count (f .0) (g .0) ⌝ }
+{
+    let mut heads = [0u16; 131072];
+    let mut links = [0u16; 65536];
+    let mut memo = [0u64; 16384];
+    let places = vars.len();
+    let ends = 2 * places;
+    judged(
+        vars,
+        lows,
+        highs,
+        &mut heads[..ends],
+        &mut links[..places],
+        &mut memo,
+        count,
+        op,
+        f,
+        g,
+    )
+}
+
+// The call: 7, then what the other numbers ask.
+pub fn call(
+    vars: &mut [u8],
+    lows: &mut [u16],
+    highs: &mut [u16],
+    count: usize,
+    op: Operation,
+    f: NodeNo,
+    g: NodeNo,
+) -> Single
+    requires { ⌜ OneOperand op (g .0) ⌝ }
+    ensures { λ r. ⌜ madeOf (now (vars .exit)) (now (lows .exit)) (now (highs .exit)) r ≡ operation op (now (vars .entry)) (now (lows .entry)) (now (highs .entry)) count (f .0) (g .0) ⌝ }
+{
+    if !table::test::size_fits(vars, lows, highs) {
+        return Single {
+            number: 7,
+            node: NodeNo(0),
+            count,
+        };
+    }
+    if vars.len() <= 64 {
+        return judged_64(vars, lows, highs, count, op, f, g);
+    }
+    if vars.len() <= 4096 {
+        return judged_4096(vars, lows, highs, count, op, f, g);
+    }
+    judged_65536(vars, lows, highs, count, op, f, g)
+}
