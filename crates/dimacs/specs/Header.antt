@@ -33,7 +33,7 @@ word s at = slice at (tokenEnd s at) s
 -- The bytes at a place.
 abbrev pub spells : List ℕ → ℕ → List ℕ → Bool
 spells s at [] = true
-spells s at (b ∷ bs) = eqb (getD s at 0) b && spells s (suc at) bs
+spells s at (b ∷ bs) = eqb (getD s at 0) b && spells s (at + 1) bs
 
 unfoldable pub isWord : List ℕ → ℕ → List ℕ → Bool
 unfolding past

@@ -1,0 +1,1 @@
+-- Words as sets. Assumes nothing.
