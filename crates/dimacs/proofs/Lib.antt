@@ -5,4 +5,5 @@ pub mod Digits
 pub mod Tokens
 pub mod Lines
 pub mod Headers
+pub mod Clauses
 pub mod Words

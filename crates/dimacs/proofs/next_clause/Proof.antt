@@ -1,3 +1,6 @@
+use mathlib.Core.Path.{sym, _∙_}
+use native.Mathlib.Omega.{arith}
+use Rattle.dimacs.proofs.Clauses.{next-many, next-here, next-end, next-few}
 use borrow.Author.Needs.{needs}
 use Rattle.dimacs.proofs.next_clause.Statement.{statement}
 use Rattle.dimacs.proofs.next_clause.Tie as tie
@@ -12,7 +15,7 @@ skip-between-requires c κs = search needs
 
 -- src/lib.rt:379:13
 returns : tie.Need-returns
-returns c = ?
+returns c = sym (next-many _ _ _ _ (c .before .before .skip-between .ensures .0) _ (c .before .if1 .taken) (c .if2 .taken))
 
 -- src/lib.rt:381:9
 open-clause-requires : tie.Need-open-clause-requires
@@ -20,15 +23,15 @@ open-clause-requires c κs = search needs
 
 -- src/lib.rt:381:9
 returns-2 : tie.Need-returns-2
-returns-2 c = ?
+returns-2 c = c .open-clause .ensures ∙ sym (next-here _ _ _ _ (c .before .before .before .skip-between .ensures .0) _ (c .before .before .if1 .taken) (c .before .if2 .left))
 
 -- src/lib.rt:384:9
 returns-3 : tie.Need-returns-3
-returns-3 c = ?
+returns-3 c = sym (next-end _ _ _ _ (c .before .before .skip-between .ensures .0) _ (c .before .if1 .left) (c .if3 .taken))
 
 -- src/lib.rt:372:1
 returns-4 : tie.Need-returns-4
-returns-4 c = ?
+returns-4 c = sym (next-few _ _ _ _ (c .before .before .skip-between .ensures .0) _ (omega arith) (c .if3 .left))
 
 pub next-clause-spec : {M : Type 1} → statement M
 next-clause-spec =
