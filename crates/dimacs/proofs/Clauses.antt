@@ -32,12 +32,12 @@ module _ (s : List ℕ) (n : ℕ) where
   abbrev pub nextAt : ℕ → ℕ
   nextAt at = between s (tokenEnd s at)
 
-  clause-end : (k first at : ℕ) → length s ≤ at → clauseFrom s n k first at ≡ refused 6 first
+  pub clause-end : (k first at : ℕ) → length s ≤ at → clauseFrom s n k first at ≡ refused 6 first
   unfolding clauseFrom
   clause-end zero first at h = refl
   clause-end (suc k) first at h = rw (le-ltb at (length s) h)
 
-  clause-suc : (k first at : ℕ) → at < length s
+  pub clause-suc : (k first at : ℕ) → at < length s
       → clauseFrom s n (suc k) first at ≡ afterToken (tokenAt at) first at (tokenEnd s at) (clauseFrom s n k first (nextAt at))
   unfolding clauseFrom
   clause-suc k first at h = rw (lt-ltb at (length s) h)

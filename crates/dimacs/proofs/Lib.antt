@@ -6,4 +6,5 @@ pub mod Tokens
 pub mod Lines
 pub mod Headers
 pub mod Clauses
+pub mod Bounds
 pub mod Words
