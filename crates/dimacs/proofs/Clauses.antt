@@ -109,8 +109,8 @@ module _ (s : List ℕ) (n first p q at : ℕ) where
           → p′ ≡ withVariable b p v → q′ ≡ withVariable (not b) q v → restOf s n first p q at ≡ restOf s n first p′ q′ next
       rest-literal v b next p′ q′ e f g h =
           let later : clauseFrom s n (length s - (at + 1)) first (between s end) ≡ clauseFrom s n (length s - between s end) first (between s end) =
-              clause-fuel s n (length s - (at + 1)) (length s - between s end) first (between s end)
-              (omega (arith, literal-moves s n at end v b inside is e, past-least isParting s end)) (omega arith) in
+          clause-fuel s n (length s - (at + 1)) (length s - between s end) first (between s end)
+          (omega (arith, literal-moves s n at end v b inside is e, past-least isParting s end)) (omega arith) in
           here ∙ rw (sym is, e, literal-words p q v b, later, sym f, sym g, sym h)
 
 -- ---- what comes next

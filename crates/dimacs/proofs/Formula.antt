@@ -29,12 +29,12 @@ pub closed-is : (x : Next) (w : ClosedClause) → clauseOf x ≡ Closed w → Is
 unfolding clauseAfter
 closed-is (closed ls first next) w e =
     let q : record { positive = setOf true ls; negative = setOf false ls; first = first; next = next } ≡ w = cc in
-    record
-      { literals = ls
-      ; is = rw (sym q)
-      ; positive = sym (ap (λ (z : ClosedClause). z .positive) q)
-      ; negative = sym (ap (λ (z : ClosedClause). z .negative) q)
-      }
+    record {
+      literals = ls;
+      is = rw (sym q);
+      positive = sym (ap (λ (z : ClosedClause). z .positive) q);
+      negative = sym (ap (λ (z : ClosedClause). z .negative) q);
+    }
 closed-is ended w e = let z : _≡_ {A = ℕ} 0 1 = cc in absurd (omega arith)
 closed-is (refused number place) w e = let z : _≡_ {A = ℕ} 0 1 = cc in absurd (omega arith)
 

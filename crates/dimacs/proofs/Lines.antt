@@ -31,7 +31,7 @@ judged-fuel s zero m at h g = judged-end s zero at (omega arith) ∙ sym (judged
 judged-fuel s (suc k) zero at h g = judged-end s (suc k) at (omega arith) ∙ sym (judged-end s zero at (omega arith))
 judged-fuel s (suc k) (suc m) at h g =
     let later : judgedFrom s k (suc (lineEnd s at)) ≡ judgedFrom s m (suc (lineEnd s at)) =
-        judged-fuel s k m (suc (lineEnd s at)) (omega (arith, past-least isLine s at)) (omega (arith, past-least isLine s at)) in
+    judged-fuel s k m (suc (lineEnd s at)) (omega (arith, past-least isLine s at)) (omega (arith, past-least isLine s at)) in
     judged-suc s k at ∙ ap (λ (p : ℕ). cond (ltb at (length s)) (cond (isPassed s at) p at) (length s)) later ∙ sym (judged-suc s m at)
 
 module _ (s : List ℕ) (at : ℕ) (inside : at < length s) where

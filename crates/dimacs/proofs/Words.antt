@@ -58,10 +58,11 @@ with-in true w x v h k =
     (λ e. let other : x - 1 ≡ v - 1 → ⊥ = λ q. eqb-false x v e (omega arith) in
     rw (e, power-other (x - 1) (v - 1) other, least (w / 2 ^ (v - 1) % 2)) (sym (or-false (inWord w v)))))
   where
-  most : (m : ℕ) → m < 2 → max m 1 ≡ 1
-  most m h = omega arith
-  least : (m : ℕ) → max m 0 ≡ m
-  least m = omega arith
+    most : (m : ℕ) → m < 2 → max m 1 ≡ 1
+    most m h = omega arith
+
+    least : (m : ℕ) → max m 0 ≡ m
+    least m = omega arith
 
 set-from : (n : ℕ) (b : Bool) (ls : List meaning.Literal) (w v : ℕ) → Within n ls → 1 ≤ v → inWord (setFrom b w ls) v ≡ (inWord w v || occurs b v ls)
 unfolding setFrom

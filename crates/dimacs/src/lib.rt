@@ -356,7 +356,12 @@ fn open_clause(s: &[u8], first: usize, variables: u8) -> Clause
         let end = past_class(s, at, Class::Token);
         match read_token(s, at, end, variables) {
             Token::Closing => {
-                return Clause::Closed(ClosedClause { positive, negative, first, next: end });
+                return Clause::Closed(ClosedClause {
+                    positive,
+                    negative,
+                    first,
+                    next: end,
+                });
             }
             Token::Wrong(number) => {
                 return Clause::Refused(number, at);

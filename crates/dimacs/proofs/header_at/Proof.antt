@@ -1,25 +1,18 @@
-use mathlib.Core.Path.{_≡_, sym, ap, _∙_}
+-- `header_at` judges the line in the order of `judgedWords`: what is known after `p` and `cnf`, after the two numbers, and after the line's
+-- end leaves one judgement at each return. Assumes nothing.
+use mathlib.Core.Path.{_≡_, sym, _∙_}
 use mathlib.Core.Bool.{true, cond}
 use mathlib.Core.List.{[], _∷_}
-use Prim.Native.Nat.{ℕ}
 use borrow.Author.Tests.{not-true, not-false, lt-ltb, le-ltb}
+use borrow.Author.Needs.{needs}
 use Rattle.dimacs.specs.declared.Natural.the-variants.{Value}
-use Rattle.dimacs.specs.declared.Header.the-variants.{Proper, Improper}
+use Rattle.dimacs.specs.declared.Header.the-variants.{Improper}
 use Rattle.dimacs.specs.Text.{lineEnd}
 use Rattle.dimacs.specs.Numbers.{naturalOf}
 use Rattle.dimacs.specs.Header.{word, isWord, endsLine, headerAt}
 use Rattle.dimacs.proofs.Headers.{within, numbered, judgedWords, header-judged}
-use borrow.Author.Needs.{needs}
 use Rattle.dimacs.proofs.header_at.Statement.{statement}
 use Rattle.dimacs.proofs.header_at.Tie as tie
-use Rattle.dimacs.proofs.header_at.Reads as reads
-use Rattle.dimacs.proofs.header_at.Lts as lts
-use Rattle.dimacs.proofs.ends_line.Reads as ends-line-reads
-use Rattle.dimacs.proofs.is_cnf.Reads as is-cnf-reads
-use Rattle.dimacs.proofs.is_p.Reads as is-p-reads
-use Rattle.dimacs.proofs.next_word.Reads as next-word-reads
-use Rattle.dimacs.proofs.past_class.Reads as past-class-reads
-use Rattle.dimacs.proofs.word_number.Reads as word-number-reads
 
 -- The words' places.
 words : (a : tie.After-next-word3)
@@ -54,95 +47,72 @@ counted a = spelled (a .before .before .before .before .before .before .before) 
 ends : (a : tie.Else3) → endsLine (a .before .before .before .before .before .before .before .before .before .before .before .before .before .before .before .before .before .before .args .s .now) (a .before .before .before .before .before .before .before .before .before .before .before .before .before .before .next-word3 .result) ≡ true
 ends a = sym (a .before .ends-line .ensures) ∙ not-false _ (a .if3 .left)
 
--- src/lib.rt:295:9
 next-word-requires : tie.Need-next-word-requires
 next-word-requires c κs = search needs
 
--- src/lib.rt:296:9
 next-word-requires-2 : tie.Need-next-word-requires-2
 next-word-requires-2 c κs = search needs
 
--- src/lib.rt:297:9
 next-word-requires-3 : tie.Need-next-word-requires-3
 next-word-requires-3 c κs = search needs
 
--- src/lib.rt:298:9
 is-p-requires : tie.Need-is-p-requires
 is-p-requires c κs = search needs
 
--- src/lib.rt:299:9
 returns : tie.Need-returns
 returns c = sym (words (c .before .before) ∙ rw (sym (c .before .is-p .ensures) ∙ not-true _ (c .if1 .taken)))
 
--- src/lib.rt:301:9
 is-cnf-requires : tie.Need-is-cnf-requires
 is-cnf-requires c κs = search needs
 
--- src/lib.rt:302:9
 returns-2 : tie.Need-returns-2
 returns-2 c = sym (words (c .before .before .before .before) ∙ rw (is-p (c .before .before), sym (c .before .is-cnf .ensures) ∙ not-true _ (c .if2 .taken)))
 
--- src/lib.rt:304:29
 word-number-requires : tie.Need-word-number-requires
 word-number-requires c κs = search needs
 
--- src/lib.rt:304:24
 enum-known-v : tie.Need-enum-known-v
 enum-known-v c = search needs
 
--- src/lib.rt:305:9
 enum-told : tie.Need-enum-told
 enum-told c = search needs
 
--- src/lib.rt:305:9
 returns-3 : tie.Need-returns-3
 returns-3 c = sym (spelled (c .before .before .before) ∙ rw (sym (c .before .before .word-number .ensures) ∙ c .enum-told .given .1))
 
--- src/lib.rt:307:29
 word-number-requires-2 : tie.Need-word-number-requires-2
 word-number-requires-2 c κs = search needs
 
--- src/lib.rt:307:24
 enum-known-c : tie.Need-enum-known-c
 enum-known-c c = search needs
 
--- src/lib.rt:308:9
 enum-told-2 : tie.Need-enum-told-2
 enum-told-2 c = search needs
 
--- src/lib.rt:308:9
 returns-4 : tie.Need-returns-4
 returns-4 c = sym (spelled (c .before .before .before .before .before .before .before) ∙ rw (first-is (c .before .before .before .before), sym (c .before .before .word-number2 .ensures) ∙ c .enum-told2 .given .1))
 
--- src/lib.rt:310:9
 ends-line-requires : tie.Need-ends-line-requires
 ends-line-requires c κs = search needs
 
--- src/lib.rt:311:9
 returns-5 : tie.Need-returns-5
 returns-5 c = sym (counted (c .before .before .before) ∙ rw (sym (c .before .ends-line .ensures) ∙ not-true _ (c .if3 .taken)))
 
--- src/lib.rt:314:9
 returns-6 : tie.Need-returns-6
 returns-6 c = sym (counted (c .before .before .before .before) ∙ rw (ends (c .before), lt-ltb _ _ (c .if4 .taken)))
 
--- src/lib.rt:317:9
 returns-7 : tie.Need-returns-7
 returns-7 c = sym (counted (c .before .before .before .before .before) ∙ rw (ends (c .before .before), le-ltb _ _ (c .before .if4 .left), lt-ltb _ _ (c .if5 .taken)))
 
--- src/lib.rt:319:20
 cast-t12 : tie.Need-cast-t12
 cast-t12 c = search needs
 
--- src/lib.rt:319:29
 cast-t13 : tie.Need-cast-t13
 cast-t13 c = search needs
 
--- src/lib.rt:319:41
 past-class-requires : tie.Need-past-class-requires
 past-class-requires c κs = search needs
 
--- src/lib.rt:291:1
 returns-8 : tie.Need-returns-8
 returns-8 c = sym
     (counted (c .before .before .before .before .before .before)

@@ -1,31 +1,24 @@
-use mathlib.Core.Path.{sym, _∙_}
+-- `is_passed`: the line is blank, or its first byte is `c`. Assumes nothing.
+use mathlib.Core.Path.{sym}
 use borrow.Author.Tests.{eq-eqb, ne-eqb}
-use Rattle.dimacs.specs.Header.{isPassed}
 use borrow.Author.Needs.{needs}
+use Rattle.dimacs.specs.Header.{isPassed}
 use Rattle.dimacs.proofs.is_passed.Statement.{statement}
 use Rattle.dimacs.proofs.is_passed.Tie as tie
-use Rattle.dimacs.proofs.is_passed.Reads as reads
-use Rattle.dimacs.proofs.is_passed.Lts as lts
-use Rattle.dimacs.proofs.past_class.Reads as past-class-reads
 
--- src/lib.rt:210:5
 past-class-requires : tie.Need-past-class-requires
 past-class-requires c κs = search needs
 
--- src/lib.rt:210:40
 past-class-requires-2 : tie.Need-past-class-requires-2
 past-class-requires-2 c κs = search needs
 
--- src/lib.rt:210:74
 shared-slice-read-result : tie.Need-shared-slice-read-result
 shared-slice-read-result c = search needs
 
--- src/lib.rt:206:1
 returns : tie.Need-returns
 unfolding isPassed
 returns c = rw (sym (c .before .before .past-class .ensures .0), sym (c .before .past-class2 .ensures .0), eq-eqb _ _ (c .if1 .taken))
 
--- src/lib.rt:206:1
 returns-2 : tie.Need-returns-2
 unfolding isPassed
 returns-2 c = rw (sym (c .before .before .before .past-class .ensures .0), sym (c .before .before .past-class2 .ensures .0), ne-eqb _ _ (c .before .if1 .left))

@@ -1,18 +1,15 @@
-use mathlib.Core.Path.{_≡_, sym, ap, _∙_}
+-- `judged_line` finds the first line that is neither blank nor a comment. The loop: the line to be found is the one to be found
+-- from `at` on. The measure is what is left of the text. Assumes nothing.
+use mathlib.Core.Path.{_≡_, sym, _∙_}
 use Prim.Native.Nat.{_≤_, _-_, _+_}
 use native.Mathlib.Omega.{arith}
 use lib.ListN.{length}
 use borrow.Author.Needs.{needs}
 use borrow.Author.Tests.{not-true, not-false}
-use Rattle.dimacs.specs.Text.{lineEnd}
 use Rattle.dimacs.specs.Header.{judgedFrom}
 use Rattle.dimacs.proofs.Lines.{judged-fuel, judged-end, judged-stop, judged-go}
 use Rattle.dimacs.proofs.judged_line.Statement.{statement}
 use Rattle.dimacs.proofs.judged_line.Tie as tie
-use Rattle.dimacs.proofs.judged_line.Reads as reads
-use Rattle.dimacs.proofs.judged_line.Lts as lts
-use Rattle.dimacs.proofs.is_passed.Reads as is-passed-reads
-use Rattle.dimacs.proofs.past_class.Reads as past-class-reads
 
 abbrev Inv-loop : tie.InvT-loop
 Inv-loop s at₀ at = (at ≤ length s) × (judgedFrom s (length s) 0 ≡ judgedFrom s (length s - at) at)
@@ -28,41 +25,33 @@ passed c =
     c .before .before .before .before .loop .inv .1
     ∙ judged-go _ _ (c .before .before .before .loop-test .taken) (sym (c .before .before .is-passed .ensures) ∙ not-false _ (c .before .if1 .left))
     ∙ rw (sym (c .past-class .ensures .0))
--- src/lib.rt:219:5
+
 loop-holds : tie.Need-loop-holds Inv-loop μ-loop
 loop-holds c = (omega arith, judged-fuel _ (length (c .before .args .s .now)) _ 0 (omega arith) (omega arith))
 
--- src/lib.rt:220:13
 is-passed-requires : tie.Need-is-passed-requires Inv-loop μ-loop
 is-passed-requires c κs = search needs
 
--- src/lib.rt:221:13
 returns : tie.Need-returns Inv-loop μ-loop
 returns c = let k = c .before .before .before in
     (sym (k .loop .inv .1 ∙ judged-stop _ _ (c .before .before .loop-test .taken) (sym (c .before .is-passed .ensures) ∙ not-true _ (c .if1 .taken))), k .loop .inv .0)
 
--- src/lib.rt:223:13
 past-class-requires : tie.Need-past-class-requires Inv-loop μ-loop
 past-class-requires c κs = search needs
 
--- src/lib.rt:225:13
 returns-2 : tie.Need-returns-2 Inv-loop μ-loop
 returns-2 c = let k = c .before .before .before .before .before in
     (c .if2 .taken ∙ sym (passed (c .before) ∙ judged-end _ _ _ (omega arith)), omega arith)
 
--- src/lib.rt:227:14
 add-at : tie.Need-add-at Inv-loop μ-loop
 add-at c = search needs
 
--- src/lib.rt:219:5
 loop-less : tie.Need-loop-less Inv-loop μ-loop
 loop-less c = search needs
 
--- src/lib.rt:219:5
 loop-again : tie.Need-loop-again Inv-loop μ-loop
 loop-again c = (omega arith, passed (c .before))
 
--- src/lib.rt:214:1
 returns-3 : tie.Need-returns-3 Inv-loop μ-loop
 returns-3 c = (omega (arith, c .loop-test .left) ∙ sym (c .before .loop .inv .1 ∙ judged-end _ _ _ (c .loop-test .left)), omega arith)
 

@@ -1,35 +1,26 @@
+-- `next_clause`: a token or none, a clause wanted or none, each by the law of that case. Assumes nothing.
 use mathlib.Core.Path.{sym, _∙_}
 use native.Mathlib.Omega.{arith}
-use Rattle.dimacs.proofs.Clauses.{next-many, next-here, next-end, next-few}
 use borrow.Author.Needs.{needs}
+use Rattle.dimacs.proofs.Clauses.{next-many, next-here, next-end, next-few}
 use Rattle.dimacs.proofs.next_clause.Statement.{statement}
 use Rattle.dimacs.proofs.next_clause.Tie as tie
-use Rattle.dimacs.proofs.next_clause.Reads as reads
-use Rattle.dimacs.proofs.next_clause.Lts as lts
-use Rattle.dimacs.proofs.open_clause.Reads as open-clause-reads
-use Rattle.dimacs.proofs.skip_between.Reads as skip-between-reads
 
--- src/lib.rt:376:9
 skip-between-requires : tie.Need-skip-between-requires
 skip-between-requires c κs = search needs
 
--- src/lib.rt:379:13
 returns : tie.Need-returns
 returns c = sym (next-many _ _ _ _ (c .before .before .skip-between .ensures .0) _ (c .before .if1 .taken) (c .if2 .taken))
 
--- src/lib.rt:381:9
 open-clause-requires : tie.Need-open-clause-requires
 open-clause-requires c κs = search needs
 
--- src/lib.rt:381:9
 returns-2 : tie.Need-returns-2
 returns-2 c = c .open-clause .ensures ∙ sym (next-here _ _ _ _ (c .before .before .before .skip-between .ensures .0) _ (c .before .before .if1 .taken) (c .before .if2 .left))
 
--- src/lib.rt:384:9
 returns-3 : tie.Need-returns-3
 returns-3 c = sym (next-end _ _ _ _ (c .before .before .skip-between .ensures .0) _ (c .before .if1 .left) (c .if3 .taken))
 
--- src/lib.rt:372:1
 returns-4 : tie.Need-returns-4
 returns-4 c = sym (next-few _ _ _ _ (c .before .before .skip-between .ensures .0) _ (omega arith) (c .if3 .left))
 

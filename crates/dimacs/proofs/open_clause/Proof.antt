@@ -1,24 +1,17 @@
-use mathlib.Core.Bool.{Bool}
-use Prim.Native.Nat.{ℕ}
-use lib.Seq.{slice}
-use Rattle.dimacs.specs.declared.Token.the-variants.{Closing, Literal, Wrong}
-use Rattle.dimacs.specs.Numbers.{tokenOf}
+-- `open_clause` reads to the closing 0. The loop: what is to be read is what is left to be read, with the two words so far. The measure is what is
+-- left of the text, since a literal has bytes. Assumes nothing.
 use mathlib.Core.Path.{_≡_, refl, sym, _∙_}
 use Prim.Native.Nat.{_≤_, _<_, _-_}
 use native.Mathlib.Omega.{arith}
+use lib.Seq.{slice}
 use lib.ListN.{length}
 use borrow.Author.Needs.{needs}
-use Rattle.dimacs.specs.Clauses.{clauseOf, clauseFrom}
+use Rattle.dimacs.specs.declared.Token.the-variants.{Literal}
+use Rattle.dimacs.specs.Numbers.{tokenOf}
 use Rattle.dimacs.proofs.Tokens.{IsLiteral, literal-bounds}
 use Rattle.dimacs.proofs.Clauses.{restOf, rest-open, rest-closing, rest-wrong, rest-literal, literal-moves}
 use Rattle.dimacs.proofs.open_clause.Statement.{statement}
 use Rattle.dimacs.proofs.open_clause.Tie as tie
-use Rattle.dimacs.proofs.open_clause.Reads as reads
-use Rattle.dimacs.proofs.open_clause.Lts as lts
-use Rattle.dimacs.proofs.past_class.Reads as past-class-reads
-use Rattle.dimacs.proofs.read_token.Reads as read-token-reads
-use Rattle.dimacs.proofs.skip_between.Reads as skip-between-reads
-use Rattle.dimacs.proofs.with_variable.Reads as with-variable-reads
 
 abbrev Inv-loop : tie.InvT-loop
 Inv-loop s first variables positive₀ negative₀ at₀ positive negative at = (at ≤ length s) × (restOf s variables first 0 0 first ≡ restOf s variables first positive negative at)
@@ -39,66 +32,54 @@ within a = literal-bounds _ _ _ _ (literal a)
 moves : (a : tie.After-variable Inv-loop μ-loop) → a .before .before .before .before .before .loop .at < a .before .before .before .past-class .result
 moves a = literal-moves _ _ _ _ _ _ (a .before .before .before .before .loop-test .taken) (a .before .before .before .past-class .ensures .0) (literal a)
 
--- src/lib.rt:355:5
 loop-holds : tie.Need-loop-holds Inv-loop μ-loop
 loop-holds c = (omega arith, refl)
 
--- src/lib.rt:356:13
 past-class-requires : tie.Need-past-class-requires Inv-loop μ-loop
 past-class-requires c κs = search needs
 
--- src/lib.rt:357:15
 read-token-requires : tie.Need-read-token-requires Inv-loop μ-loop
 read-token-requires c κs = search needs
 
--- src/lib.rt:359:39
 enum-told : tie.Need-enum-told Inv-loop μ-loop
 enum-told c = search needs
 
--- src/lib.rt:359:17
 returns : tie.Need-returns Inv-loop μ-loop
 returns c = sym
     (c .before .before .before .before .before .loop .inv .1
     ∙ rest-closing _ _ _ _ _ _ (c .before .before .before .before .loop-test .taken) _ (c .before .before .before .past-class .ensures .0) (sym (c .before .before .read-token .ensures) ∙ c .enum-told .given .1))
 
--- src/lib.rt:361:26
 enum-known-number : tie.Need-enum-known-number Inv-loop μ-loop
 enum-known-number c = search needs
 
--- src/lib.rt:362:17
 returns-2 : tie.Need-returns-2 Inv-loop μ-loop
 returns-2 c = sym
     (c .before .before .before .before .before .before .loop .inv .1
     ∙ rest-wrong _ _ _ _ _ _ (c .before .before .before .before .before .loop-test .taken) _ (c .before .before .before .before .past-class .ensures .0) _ (sym (c .before .before .before .read-token .ensures) ∙ c .before .number .given .1))
 
--- src/lib.rt:364:28
 enum-known-variable : tie.Need-enum-known-variable Inv-loop μ-loop
 enum-known-variable c = search needs
 
--- src/lib.rt:365:17
 with-variable-requires : tie.Need-with-variable-requires Inv-loop μ-loop
 with-variable-requires c κs = let l = within (c .before) in (l .least, omega (arith, l .most))
 
--- src/lib.rt:366:17
 with-variable-requires-2 : tie.Need-with-variable-requires-2 Inv-loop μ-loop
 with-variable-requires-2 c κs = let l = within (c .before .before) in (l .least, omega (arith, l .most))
 
--- src/lib.rt:367:17
 skip-between-requires : tie.Need-skip-between-requires Inv-loop μ-loop
 skip-between-requires c κs = search needs
 
--- src/lib.rt:355:5
 loop-less : tie.Need-loop-less Inv-loop μ-loop
 loop-less c = omega (arith, moves (c .before .before .before .before))
 
--- src/lib.rt:355:5
 loop-again : tie.Need-loop-again Inv-loop μ-loop
-loop-again c = (omega arith,
-    c .before .before .before .before .before .before .before .before .before .loop .inv .1
-    ∙ rest-literal _ _ _ _ _ _ (c .before .before .before .before .before .before .before .before .loop-test .taken) _ (c .before .before .before .before .before .before .before .past-class .ensures .0) _ _ _ _ _ (literal (c .before .before .before .before)) (c .skip-between .ensures .0)
-    (c .before .before .with-variable .ensures) (c .before .with-variable2 .ensures))
+loop-again c = (
+  omega arith,
+  c .before .before .before .before .before .before .before .before .before .loop .inv .1
+      ∙ rest-literal _ _ _ _ _ _ (c .before .before .before .before .before .before .before .before .loop-test .taken) _ (c .before .before .before .before .before .before .before .past-class .ensures .0) _ _ _ _ _ (literal (c .before .before .before .before)) (c .skip-between .ensures .0)
+      (c .before .before .with-variable .ensures) (c .before .with-variable2 .ensures),
+)
 
--- src/lib.rt:348:1
 returns-3 : tie.Need-returns-3 Inv-loop μ-loop
 returns-3 c = sym (c .before .loop .inv .1 ∙ rest-open _ _ _ _ _ _ (c .loop-test .left))
 

@@ -1,51 +1,39 @@
+-- `read_token`: no bytes, a minus, or none, each by the law of that case. Assumes nothing.
 use mathlib.Core.Bool.{true, false}
 use mathlib.Core.Path.{sym, ap, _∙_}
 use native.Mathlib.Omega.{arith}
+use borrow.Author.Needs.{needs}
 use Rattle.dimacs.specs.Numbers.{signedToken}
 use Rattle.dimacs.proofs.Tokens.{token-empty, token-signed, token-unsigned}
-use borrow.Author.Needs.{needs}
 use Rattle.dimacs.proofs.read_token.Statement.{statement}
 use Rattle.dimacs.proofs.read_token.Tie as tie
-use Rattle.dimacs.proofs.read_token.Reads as reads
-use Rattle.dimacs.proofs.read_token.Lts as lts
-use Rattle.dimacs.proofs.read_natural.Reads as read-natural-reads
-use Rattle.dimacs.proofs.signed_token.Reads as signed-token-reads
 
--- src/lib.rt:195:9
 returns : tie.Need-returns
 returns c = sym (token-empty _ _ _ _ (omega arith) (omega arith) (c .if1 .taken))
 
--- src/lib.rt:197:8
 shared-slice-read-if2 : tie.Need-shared-slice-read-if2
 shared-slice-read-if2 c = search needs
 
--- src/lib.rt:198:63
 add-read-natural : tie.Need-add-read-natural
 add-read-natural c = search needs
 
--- src/lib.rt:198:47
 read-natural-requires : tie.Need-read-natural-requires
 read-natural-requires c κs = search needs
 
--- src/lib.rt:198:9
 signed-token-requires : tie.Need-signed-token-requires
 signed-token-requires c κs = search needs
 
--- src/lib.rt:198:9
 returns-2 : tie.Need-returns-2
 returns-2 c = let a = c .before .before .before .before .before .before .args in
     c .signed-token .ensures ∙ ap (signedToken (a .variables) false) (c .before .read-natural .ensures)
     ∙ sym (token-signed (a .variables) (a .s .now) (a .from) (a .to) (omega arith) (omega arith) (omega arith) (c .before .before .if2 .taken))
 
--- src/lib.rt:200:35
 read-natural-requires-2 : tie.Need-read-natural-requires-2
 read-natural-requires-2 c κs = search needs
 
--- src/lib.rt:200:5
 signed-token-requires-2 : tie.Need-signed-token-requires-2
 signed-token-requires-2 c κs = search needs
 
--- src/lib.rt:190:1
 returns-3 : tie.Need-returns-3
 returns-3 c = let a = c .before .before .before .before .before .before .args in
     c .signed-token2 .ensures ∙ ap (signedToken (a .variables) true) (c .before .read-natural2 .ensures)

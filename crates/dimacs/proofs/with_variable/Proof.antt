@@ -1,5 +1,5 @@
-use mathlib.Core.Path.{ap, _∙_}
-use Prim.Native.Nat.{ℕ, _^_, _-_, _<_, _*_}
+-- `with_variable`: a shift by less than 64 is exact. Assumes nothing.
+use Prim.Native.Nat.{_^_, _-_, _<_}
 use native.Mathlib.Omega.{arith}
 use native.Mathlib.Nat.{mod-eq-of-lt, one-mul}
 use lib.Pow.{pow-lt}
@@ -7,26 +7,19 @@ use borrow.Author.Tests.{not-true, not-false}
 use borrow.Author.Needs.{needs}
 use Rattle.dimacs.proofs.with_variable.Statement.{statement}
 use Rattle.dimacs.proofs.with_variable.Tie as tie
-use Rattle.dimacs.proofs.with_variable.Reads as reads
-use Rattle.dimacs.proofs.with_variable.Lts as lts
 
--- src/lib.rt:341:9
 returns : tie.Need-returns
 returns c = rw (not-true (c .before .args .wanted) (c .if1 .taken))
 
--- src/lib.rt:343:19
 sub-result : tie.Need-sub-result
 sub-result c = search needs
 
--- src/lib.rt:343:19
 cast-result : tie.Need-cast-result
 cast-result c = search needs
 
--- src/lib.rt:343:13
 shl-result : tie.Need-shl-result
 shl-result c = search needs
 
--- src/lib.rt:336:1
 returns-2 : tie.Need-returns-2
 returns-2 c = let v = c .before .args .variable in
     let fits : 2 ^ (v - 1) < 2 ^ 64 = pow-lt {i = v - 1} {j = 64} (omega arith) in
