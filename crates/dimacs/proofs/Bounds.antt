@@ -8,18 +8,18 @@ use native.Mathlib.Omega.{arith}
 use lib.ListN.{length}
 use lib.Seq.{slice}
 use lib.Dec.{ltb, leb}
-use borrow.Author.Tests.{ltb-true, ltb-false, lt-ltb, le-ltb, leb-true}
+use borrow.Author.Tests.{ltb-true, ltb-false, leb-true}
 use Rattle.meaning.specs.Operations as meaning
 use Rattle.dimacs.specs.declared.Header.{Header}
 use Rattle.dimacs.specs.declared.Header.the-variants.{Proper, Improper}
 use Rattle.dimacs.specs.declared.Token.{Token}
 use Rattle.dimacs.specs.declared.Token.the-variants.{Closing, Literal, Wrong}
-use Rattle.dimacs.specs.Text.{past, isToken, isParting, isSpace, isLine, tokenEnd, lineEnd, between}
-use Rattle.dimacs.specs.Numbers.{tokenOf, value}
+use Rattle.dimacs.specs.Text.{isToken, isParting, isSpace, isLine, tokenEnd, lineEnd, between}
+use Rattle.dimacs.specs.Numbers.{value}
 use Rattle.dimacs.specs.Header.{judgedFrom, nextWord, word, isHeader, headerAt, header}
 use Rattle.dimacs.specs.Clauses.{Next, closed, ended, refused, withLiteral, afterToken, clauseFrom, clauseAt, nextClause}
 use Rattle.dimacs.proofs.Cases.{by, clash}
-use Rattle.dimacs.proofs.Runs.{past-least, past-most}
+use Rattle.dimacs.proofs.Runs.{past-most}
 use Rattle.dimacs.proofs.Tokens.{literal-bounds}
 use Rattle.dimacs.proofs.Clauses.{tokenAt, nextAt, clause-suc, clause-end}
 

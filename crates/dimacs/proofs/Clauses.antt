@@ -1,8 +1,8 @@
 -- One step of an open clause, for which the bytes left are steps enough, and the words that the code gathers: what is to be read is what is
 -- left to be read, with the literals so far in the two words. Assumes nothing.
 use mathlib.Core.Path.{_≡_, refl, ap, sym, _∙_}
-use mathlib.Core.Bool.{Bool, true, false, not, cond, Bool·beq}
-use mathlib.Core.List.{List, [], _∷_}
+use mathlib.Core.Bool.{Bool, true, false, not}
+use mathlib.Core.List.{List}
 use Prim.Native.Nat.{ℕ, zero, suc, _+_, _-_, _≤_, _<_}
 use native.Mathlib.Omega.{arith}
 use lib.ListN.{length}
@@ -14,9 +14,9 @@ use Rattle.dimacs.specs.declared.Token.{Token}
 use Rattle.dimacs.specs.declared.Token.the-variants.{Closing, Literal, Wrong}
 use Rattle.dimacs.specs.declared.Clause.{Clause}
 use Rattle.dimacs.specs.declared.Clause.the-variants.{Closed, End, Refused}
-use Rattle.dimacs.specs.Text.{past, isToken, isParting, tokenEnd, between}
+use Rattle.dimacs.specs.Text.{isToken, isParting, tokenEnd, between}
 use Rattle.dimacs.specs.Numbers.{tokenOf}
-use Rattle.dimacs.specs.Clauses.{Next, closed, ended, refused, withLiteral, afterToken, clauseFrom, clauseAt, nextClause, withVariable, setFrom, clauseAfter, clauseOf}
+use Rattle.dimacs.specs.Clauses.{Next, closed, ended, refused, withLiteral, afterToken, clauseFrom, nextClause, withVariable, setFrom, clauseAfter, clauseOf}
 use Rattle.dimacs.proofs.Cases.{by}
 use Rattle.dimacs.proofs.Runs.{past-least, past-most}
 use Rattle.dimacs.proofs.Tokens.{literal-bounds}

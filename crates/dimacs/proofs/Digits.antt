@@ -1,16 +1,15 @@
 -- Numbers: what the code reads digit by digit, cut off above 1,024, is the number of the definition cut off. Cutting off after each
 -- digit and at the end are one (`capped-after`), since ten times a number above 1,024 is above it too. Assumes nothing.
 use mathlib.Core.Path.{_≡_, refl, ap, sym, _∙_}
-use mathlib.Core.Bool.{Bool, true, false, not, _&&_, _||_, cond}
+use mathlib.Core.Bool.{true, false, cond}
 use mathlib.Core.List.{List, [], _∷_}
-use Prim.Native.Nat.{ℕ, zero, suc, _+_, _-_, _*_, _≤_, _<_}
+use Prim.Native.Nat.{ℕ, suc, _+_, _-_, _*_, _≤_, _<_}
 use native.Mathlib.Omega.{arith}
 use native.Mathlib.Numerals.{add-one}
 use lib.ListN.{length, getD}
 use lib.Seq.{slice, slice-empty, slice-cons}
 use lib.Dec.{ltb, leb, eqb}
 use borrow.Author.Tests.{ltb-true, lt-ltb, eq-eqb, ne-eqb, eqb-true, leb-true}
-use Rattle.dimacs.specs.declared.Natural.{Natural}
 use Rattle.dimacs.specs.declared.Natural.the-variants.{Value, Improper}
 use Rattle.dimacs.specs.Numbers.{isDigit, allDigits, isZero, isDigits, isNatural, valueAfter, value, capped, digitsAfter, naturalOf}
 use Rattle.dimacs.proofs.Cases.{by, clash}

@@ -1,20 +1,18 @@
 -- For callers: what a result of `next_clause` says of the definition's next clause, and the whole reading as its steps. Assumes nothing.
 use mathlib.Core.Path.{_≡_, refl, ap, sym, _∙_}
 use mathlib.Core.Bool.{Bool, true, false, cond}
-use mathlib.Core.List.{List, [], _∷_}
+use mathlib.Core.List.{List}
 use Prim.Native.Nat.{ℕ, zero, suc, _-_, _≤_}
 use native.Mathlib.Omega.{arith}
 use lib.ListN.{length}
 use lib.Dec.{ltb}
 use Rattle.meaning.specs.Operations as meaning
 use Rattle.dimacs.specs.declared.ClosedClause.{ClosedClause}
-use Rattle.dimacs.specs.declared.Clause.{Clause}
 use Rattle.dimacs.specs.declared.Clause.the-variants.{Closed, End, Refused}
-use Rattle.dimacs.specs.declared.Header.{Header}
 use Rattle.dimacs.specs.declared.Header.the-variants.{Proper, Improper}
 use Rattle.dimacs.specs.Text.{between}
 use Rattle.dimacs.specs.Header.{header}
-use Rattle.dimacs.specs.Clauses.{Next, closed, ended, refused, Reading, clause, complete, refusal, clauseAt, nextClause, clausesFrom, formula, setFrom, setOf, clauseAfter, clauseOf}
+use Rattle.dimacs.specs.Clauses.{Next, closed, ended, refused, clause, complete, refusal, nextClause, clausesFrom, formula, setOf, clauseAfter, clauseOf}
 
 -- ---- results
 

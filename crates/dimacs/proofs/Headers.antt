@@ -1,18 +1,17 @@
 -- The header's judgement in the order in which the code asks: `p`, `cnf`, the two numbers, the line's end, the limits. Numbers cut off
 -- above 1,024 are within a limit exactly where the numbers are. What a proper header says. Assumes nothing.
-use mathlib.Core.Path.{_≡_, refl, ap, sym, _∙_}
+use mathlib.Core.Path.{_≡_, refl, sym, _∙_}
 use mathlib.Core.Bool.{Bool, true, false, cond, _&&_}
 use mathlib.Core.List.{List, [], _∷_}
-use Prim.Native.Nat.{ℕ, zero, suc, _+_, _-_, _≤_, _<_}
+use Prim.Native.Nat.{ℕ, _-_, _≤_, _<_}
 use native.Mathlib.Omega.{arith}
-use lib.ListN.{length}
 use lib.Dec.{ltb, leb}
-use borrow.Author.Tests.{ltb-true, ltb-false, lt-ltb, le-ltb, leb-true, leb-false}
+use borrow.Author.Tests.{lt-ltb, le-ltb, leb-true, leb-false}
 use Rattle.dimacs.specs.declared.Natural.{Natural}
 use Rattle.dimacs.specs.declared.Natural.the-variants.{Value, Improper as NoNumber}
 use Rattle.dimacs.specs.declared.Header.{Header}
 use Rattle.dimacs.specs.declared.Header.the-variants.{Proper, Improper}
-use Rattle.dimacs.specs.Text.{past, lineEnd}
+use Rattle.dimacs.specs.Text.{lineEnd}
 use Rattle.dimacs.specs.Numbers.{isNatural, value, capped, naturalOf}
 use Rattle.dimacs.specs.Header.{nextWord, word, isWord, endsLine, isHeader, headerAt}
 use Rattle.dimacs.proofs.Cases.{by}

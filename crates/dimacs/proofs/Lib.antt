@@ -8,4 +8,5 @@ pub mod Headers
 pub mod Clauses
 pub mod Bounds
 pub mod Words
+pub mod Values
 pub mod Formula

@@ -1,15 +1,15 @@
 -- The lines before the header and the words of a line: one step of `judgedFrom`, for which the bytes left are steps enough; a word
 -- by its length and bytes. Assumes nothing.
-use mathlib.Core.Path.{_≡_, refl, ap, sym, subst, _∙_}
-use mathlib.Core.Bool.{Bool, true, false, cond, _&&_}
-use mathlib.Core.List.{List, [], _∷_}
+use mathlib.Core.Path.{_≡_, refl, ap, sym, _∙_}
+use mathlib.Core.Bool.{true, false, cond}
+use mathlib.Core.List.{List}
 use Prim.Native.Nat.{ℕ, zero, suc, _+_, _-_, _≤_, _<_}
 use native.Mathlib.Omega.{arith}
 use native.Mathlib.Numerals.{add-one}
 use lib.ListN.{length}
-use lib.Dec.{ltb, eqb}
+use lib.Dec.{ltb}
 use borrow.Author.Tests.{lt-ltb, le-ltb, eq-eqb, ne-eqb}
-use Rattle.dimacs.specs.Text.{past, isLine, lineEnd, tokenEnd}
+use Rattle.dimacs.specs.Text.{isLine, lineEnd, tokenEnd}
 use Rattle.dimacs.specs.Header.{isPassed, judgedFrom, isWord, spells}
 use Rattle.dimacs.proofs.Runs.{past-least}
 

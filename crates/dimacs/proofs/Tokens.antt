@@ -1,20 +1,20 @@
 -- What a token says, by the number behind its minus or by the number that it is; what a literal's token is. Assumes nothing.
-use mathlib.Core.Path.{_≡_, refl, ap, sym, _∙_}
-use mathlib.Core.Bool.{Bool, true, false, not, _||_, cond}
+use mathlib.Core.Path.{_≡_, refl, sym, _∙_}
+use mathlib.Core.Bool.{Bool, true, false, not, cond}
 use mathlib.Core.List.{List, [], _∷_}
-use Prim.Native.Nat.{ℕ, zero, suc, _+_, _-_, _≤_, _<_}
+use Prim.Native.Nat.{ℕ, suc, _+_, _-_, _≤_, _<_}
 use native.Mathlib.Omega.{arith}
 use native.Mathlib.Numerals.{add-one}
 use lib.ListN.{length, getD}
 use lib.Seq.{slice, slice-empty, slice-cons}
 use lib.Dec.{ltb, leb, eqb}
-use borrow.Author.Tests.{ltb-true, ltb-false, lt-ltb, le-ltb, ne-eqb, leb-true, leb-false}
+use borrow.Author.Tests.{lt-ltb, le-ltb, ne-eqb, leb-true, leb-false}
 use Rattle.dimacs.specs.declared.Natural.the-variants.{Value, Improper}
 use Rattle.dimacs.specs.declared.Token.{Token}
 use Rattle.dimacs.specs.declared.Token.the-variants.{Closing, Literal, Wrong}
-use Rattle.dimacs.specs.Numbers.{isZero, isDigits, isNatural, isNumber, unsigned, hasMinus, value, valueAfter, capped, naturalOf, tokenOf, signedToken}
-use Rattle.dimacs.proofs.Cases.{by, clash}
-use Rattle.dimacs.proofs.Digits.{capped-over, capped-under, zero-value, digits-value}
+use Rattle.dimacs.specs.Numbers.{isZero, isDigits, isNatural, unsigned, hasMinus, value, capped, naturalOf, tokenOf, signedToken}
+use Rattle.dimacs.proofs.Cases.{by}
+use Rattle.dimacs.proofs.Digits.{capped-under, zero-value, digits-value}
 
 -- A literal's value and sign, or 4.
 abbrev literalOr4 : ℕ → Bool → ℕ → Token

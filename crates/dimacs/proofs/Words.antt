@@ -1,9 +1,9 @@
 -- A clause's two words as sets: the bit v - 1 of `setOf b ls` is set exactly where the literal of v with sign b is in ls. The or of two
 -- words has, bit by bit, the greater of the two bits. Assumes nothing.
-use mathlib.Core.Path.{_≡_, refl, ap, sym, _∙_}
-use mathlib.Core.Bool.{Bool, true, false, cond, _&&_, _||_, or-assoc, or-true, or-false, Bool·beq}
+use mathlib.Core.Path.{_≡_, ap, sym, _∙_}
+use mathlib.Core.Bool.{Bool, true, false, _&&_, _||_, or-assoc, or-true, or-false, Bool·beq}
 use mathlib.Core.List.{List, [], _∷_}
-use Prim.Native.Nat.{ℕ, zero, suc, max, _+_, _-_, _*_, _/_, _%_, _^_, _≤_, _<_}
+use Prim.Native.Nat.{ℕ, suc, max, _+_, _-_, _*_, _/_, _%_, _^_, _≤_, _<_}
 use native.Mathlib.Nat.{one-mul, div-eq-of-lt, pow-succ', zero-div}
 use lib.Pow.{pow-lt, pow-add, shl-shr}
 use native.Mathlib.Omega.{arith}

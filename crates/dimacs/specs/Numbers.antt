@@ -1,7 +1,7 @@
 -- Numbers of the formula as lists of bytes, and what a token says. (01, The formula)
 use mathlib.Core.Bool.{Bool, true, false, not, _&&_, _||_, cond}
 use mathlib.Core.List.{List, [], _∷_}
-use Prim.Native.Nat.{ℕ, zero, suc, _+_, _-_, _*_}
+use Prim.Native.Nat.{ℕ, _+_, _-_, _*_}
 use lib.Dec.{eqb, leb, ltb}
 use Rattle.dimacs.specs.declared.Natural.{Natural}
 use Rattle.dimacs.specs.declared.Natural.the-variants.{Value, Improper}

@@ -183,7 +183,8 @@ fn signed_token(variables: u8, positive: bool, number: Natural) -> Token
     if (variables as u16) < v {
         return Token::Wrong(4);
     }
-    Token::Literal(v as u8, positive)
+    let variable = v as u8;
+    Token::Literal(variable, positive)
 }
 
 // What the token from `from` to `to` says.

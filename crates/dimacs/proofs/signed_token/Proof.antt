@@ -22,8 +22,8 @@ returns-3 c = search needs
 returns-4 : tie.Need-returns-4
 returns-4 c = rw (c .before .before .before .number .given .1, ne-eqb _ _ (c .before .if1 .left), lt-ltb _ _ (c .if3 .taken))
 
-cast-t8 : tie.Need-cast-t8
-cast-t8 c = search needs
+cast-variable : tie.Need-cast-variable
+cast-variable c = search needs
 
 returns-5 : tie.Need-returns-5
 returns-5 c = rw (c .before .before .before .number .given .1, ne-eqb _ _ (c .before .if1 .left), le-ltb _ _ (c .if3 .left))
@@ -31,4 +31,4 @@ returns-5 c = rw (c .before .before .before .number .given .1, ne-eqb _ _ (c .be
 pub signed-token-spec : {M : Type 1} → statement M
 signed-token-spec =
     tie.close
-    (tie.spec enum-known-number enum-told returns returns-2 returns-3 returns-4 cast-t8 returns-5)
+    (tie.spec enum-known-number enum-told returns returns-2 returns-3 returns-4 cast-variable returns-5)
