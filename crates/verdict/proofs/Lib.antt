@@ -1,1 +1,4 @@
 pub mod Cases
+pub mod Uses
+pub mod Steps
+pub mod Standing
