@@ -21,10 +21,10 @@ use Rattle.records.specs.declared.NodeBody.{NodeBody}
 use Rattle.records.specs.declared.Rule.{Rule}
 use Rattle.records.specs.declared.Record.{Record}
 use Rattle.records.specs.declared.Record.the-variants.{NodeEntry, Witness, ProofLine, End, CutShort, UnknownKind, NoRecord}
-use Rattle.verdict.specs.Check.{State, Step, next, stop, numbered, isEntry, entryNode, entered, step, endStep, waiting}
+use Rattle.verdict.specs.Check.{State, Step, next, stop, numbered, isEntry, entryNode, entered, step}
 use Rattle.verdict.specs.Run.{Function, Meant, numberedMeant, entryMeant, nodeMeant, afterRecord, Valued}
 use Rattle.verdict.proofs.Uses.{UsesAfter, place-uses}
-use Rattle.verdict.proofs.Steps.{stop-not-next, passed, NodeTaken, node-taken, WitnessTaken, witness-taken, LineTaken, line-taken}
+use Rattle.verdict.proofs.Steps.{stop-not-next, end-not-next, NodeTaken, node-taken, WitnessTaken, witness-taken, LineTaken, line-taken}
 
 -- ---- numbers with their functions
 
@@ -201,22 +201,12 @@ module _ {s n : ℕ} {m : Meant} {st : State} (S : Standing s n m st) (narrow : 
         many = omega (arith, length-append (st .members) (entryNode st root ∷ []), S .many);
       })
 
-  end-not-next : (more : Bool) (st′ : State) {A : Type 0} → endStep st more ≡ next st′ → A
-  unfolding endStep
-  end-not-next more st′ e = go (waiting st) more (st .refuted) e
-    where
-      go : (a b c : Bool) {A : Type 0} → cond a (stop 16 0) (cond b (stop 11 1) (cond c (stop 0 0) (stop 20 0))) ≡ next st′ → A
-      go true b c e = stop-not-next 16 0 st′ e
-      go false true c e = stop-not-next 11 1 st′ e
-      go false false true e = stop-not-next 0 0 st′ e
-      go false false false e = stop-not-next 20 0 st′ e
-
   pub step-standing : (more : Bool) (r : Record) (st′ : State) → step n s st more r ≡ next st′ → Standing s n (afterRecord m r) st′
   unfolding step afterRecord
   step-standing more (NodeEntry b) st′ e = node-standing b st′ (node-taken n s st b st′ e)
   step-standing more (Witness v b) st′ e = witness-standing v b st′ (witness-taken n st v b st′ e)
   step-standing more (ProofLine rule root) st′ e = line-standing rule (root .0) st′ (line-taken n s st rule (root .0) st′ e)
-  step-standing more End st′ e = end-not-next more st′ e
+  step-standing more End st′ e = end-not-next st more st′ e
   step-standing more CutShort st′ e = stop-not-next 10 0 st′ e
   step-standing more UnknownKind st′ e = stop-not-next 9 0 st′ e
   step-standing more NoRecord st′ e = stop-not-next 10 0 st′ e

@@ -17,7 +17,7 @@ use Rattle.table.specs.Nodes.{Node, above, Placing, full, placed, put}
 use Rattle.records.specs.declared.NodeBody.{NodeBody}
 use Rattle.records.specs.declared.Rule.{Rule}
 use Rattle.records.specs.declared.Rule.the-variants.{Rup, Pr}
-use Rattle.verdict.specs.Check.{State, Step, next, stop, isEntry, entryNode, isVariable, entered, nodeStep, withVariable, witnessStep, waiting, lineFits, accepted, judged, diagramIn, lineStep}
+use Rattle.verdict.specs.Check.{State, Step, next, stop, isEntry, entryNode, isVariable, entered, nodeStep, withVariable, witnessStep, waiting, lineFits, accepted, judged, diagramIn, lineStep, endStep}
 
 pub stop-not-next : {A : Type 0} (number offset : ℕ) (st : State) → stop number offset ≡ next st → A
 stop-not-next number offset st e = let z : _≡_ {A = ℕ} 0 1 = cc in absurd (omega arith)
@@ -153,3 +153,15 @@ line-taken n s st Pr root st′ e =
     let (witness, e₄) = met (witnessed n (inWord (st .positive)) (inWord (st .negative)) (diagramIn st g)) 18 _ e₃ in
     let (fits, shown, is) = judged-taken s st g (lineOf n st Pr g) st′ e₄ in
     record { entry = entry; few = leb-false 1024 (st .lines) few; not-one = eqb-false g 1 one; witness = witness; fits = fits; shown = shown; is = is }
+
+-- ---- the end record
+
+pub end-not-next : (st : State) (more : Bool) (st′ : State) {A : Type 0} → endStep st more ≡ next st′ → A
+unfolding endStep
+end-not-next st more st′ e = go (waiting st) more (st .refuted) e
+  where
+    go : (a b c : Bool) {A : Type 0} → cond a (stop 16 0) (cond b (stop 11 1) (cond c (stop 0 0) (stop 20 0))) ≡ next st′ → A
+    go true b c e = stop-not-next 16 0 st′ e
+    go false true c e = stop-not-next 11 1 st′ e
+    go false false true e = stop-not-next 0 0 st′ e
+    go false false false e = stop-not-next 20 0 st′ e

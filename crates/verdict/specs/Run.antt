@@ -1,5 +1,6 @@
 -- The states that a check goes through, and the functions that its members and entries stand for in each of them. (01, Values)
 use mathlib.Core.Path.{_≡_}
+use mathlib.Core.Logic.{_≢_}
 use mathlib.Core.Bool.{Bool, true, false, cond}
 use mathlib.Core.List.{List, [], _∷_, _++_}
 use Prim.Native.Nat.{ℕ, _+_, _<_}
@@ -17,7 +18,7 @@ use Rattle.records.specs.declared.Rule.{Rule}
 use Rattle.records.specs.declared.Record.{Record}
 use Rattle.records.specs.declared.Record.the-variants.{NodeEntry, Witness, ProofLine, End, CutShort, UnknownKind, NoRecord}
 use Rattle.records.specs.Records.{recordAt, lengthOf}
-use Rattle.verdict.specs.Check.{State, emptied, begun, Step, next, stop, step}
+use Rattle.verdict.specs.Check.{State, emptied, begun, Step, next, stop, step, Verdict, left, refusedFormula}
 
 -- ---- what members and entries stand for
 
@@ -80,3 +81,10 @@ pub data Reached (s : ℕ) (text proof : List ℕ) (n : ℕ) : State → ℕ →
   goes : {st st′ : State} {at : ℕ} {m : Meant}
       → Reached s text proof n st at m → step n s st (follows proof at) (recordAt proof at) ≡ next st′
       → Reached s text proof n st′ (at + lengthOf (recordAt proof at)) (afterRecord m (recordAt proof at))
+
+-- How a check ends: the formula is refused, or a record of a reached state ends the proof. What it says and leaves is what that state leaves.
+pub data Ended (s : ℕ) (text proof : List ℕ) : Verdict → Type 0 where
+  refused : {number place : ℕ} → number ≢ 0 → Ended s text proof (refusedFormula number place)
+  stopped : {n number offset at : ℕ} {st : State} {m : Meant}
+      → Reached s text proof n st at m → step n s st (follows proof at) (recordAt proof at) ≡ stop number offset
+      → Ended s text proof (left number (at + offset) st)
