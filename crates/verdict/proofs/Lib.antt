@@ -5,3 +5,4 @@ pub mod Standing
 pub mod Formula
 pub mod Clauses
 pub mod Ends
+pub mod Refuted

@@ -91,7 +91,7 @@ module _ {s n : ℕ} {m : Meant} {st : State} (S : Standing s n m st) where
 -- ---- node records
 
 -- The state with one more entry.
-abbrev withEntry : State → List Node → ℕ → State
+abbrev pub withEntry : State → List Node → ℕ → State
 withEntry st t k = record {
   nodes = t;
   kept = st .kept;

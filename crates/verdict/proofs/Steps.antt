@@ -1,6 +1,6 @@
 -- Steps turned round: where a record gives a next state, which tests it has passed and which state that is. The idea: each test that
 -- refuses gives `stop`, so that `next` lies behind all of them. Assumes nothing.
-use mathlib.Core.Path.{_≡_, refl}
+use mathlib.Core.Path.{_≡_, refl, sym}
 use mathlib.Core.Logic.{_≢_}
 use mathlib.Core.Bool.{Bool, true, false, not, _&&_, _||_, cond}
 use mathlib.Core.List.{List, map}
@@ -15,9 +15,11 @@ use Rattle.meaning.specs.Words.{inWord}
 use Rattle.meaning.proofs.Booleans.{and-both, or-neither}
 use Rattle.table.specs.Nodes.{Node, above, Placing, full, placed, put}
 use Rattle.records.specs.declared.NodeBody.{NodeBody}
+use Rattle.records.specs.declared.Record.{Record}
+use Rattle.records.specs.declared.Record.the-variants.{NodeEntry, Witness, ProofLine, End, CutShort, UnknownKind, NoRecord}
 use Rattle.records.specs.declared.Rule.{Rule}
 use Rattle.records.specs.declared.Rule.the-variants.{Rup, Pr}
-use Rattle.verdict.specs.Check.{State, Step, next, stop, isEntry, entryNode, isVariable, entered, nodeStep, withVariable, witnessStep, waiting, lineFits, accepted, judged, diagramIn, lineStep, endStep}
+use Rattle.verdict.specs.Check.{State, Step, next, stop, isEntry, entryNode, isVariable, entered, nodeStep, withVariable, witnessStep, waiting, lineFits, accepted, judged, diagramIn, lineStep, endStep, step}
 
 pub stop-not-next : {A : Type 0} (number offset : ℕ) (st : State) → stop number offset ≡ next st → A
 stop-not-next number offset st e = let z : _≡_ {A = ℕ} 0 1 = cc in absurd (omega arith)
@@ -165,3 +167,98 @@ end-not-next st more st′ e = go (waiting st) more (st .refuted) e
     go false true c e = stop-not-next 11 1 st′ e
     go false false true e = stop-not-next 0 0 st′ e
     go false false false e = stop-not-next 20 0 st′ e
+
+-- ---- the number 0
+
+module _ {offset : ℕ} where
+  stop-not-zero : {A : Type 0} (number at : ℕ) → eqb number 0 ≡ false → stop number at ≡ stop 0 offset → A
+  stop-not-zero number at other e = let z : number ≡ 0 = cc in absurd (eqb-false number 0 other z)
+
+  next-not-stop : {A : Type 0} (st : State) → next st ≡ stop 0 offset → A
+  next-not-stop st e = stop-not-next 0 offset st (sym e)
+
+  -- a test that refuses with another number was passed
+  past : (c : Bool) (number at : ℕ) (r : Step) → eqb number 0 ≡ false → cond c (stop number at) r ≡ stop 0 offset → (c ≡ false) × (r ≡ stop 0 offset)
+  past true number at r other e = stop-not-zero number at other e
+  past false number at r other e = (refl, e)
+
+  entered-not-zero : {A : Type 0} (st : State) (p : Placing) → entered st p ≡ stop 0 offset → A
+  unfolding entered
+  entered-not-zero st (full t) e = stop-not-zero 23 0 refl e
+  entered-not-zero st (placed t k) e = next-not-stop _ e
+
+  node-not-zero : {A : Type 0} (n s : ℕ) (st : State) (b : NodeBody) → nodeStep n s st b ≡ stop 0 offset → A
+  unfolding nodeStep
+  node-not-zero n s st b e =
+      let l : ℕ = entryNode st (b .low .0) in
+      let h : ℕ = entryNode st (b .high .0) in
+      let (p₁, e₁) = past (leb 4096 (length (st .entries))) 21 0 _ refl e in
+      let (p₂, e₂) = past (not (isVariable n (b .variable))) 12 0 _ refl e₁ in
+      let (p₃, e₃) = past (not (isEntry st (b .low .0) && isEntry st (b .high .0))) 13 0 _ refl e₂ in
+      let (p₄, e₄) = past (not (above (st .nodes) (b .variable) l && above (st .nodes) (b .variable) h)) 14 0 _ refl e₃ in
+      entered-not-zero st (put s (st .nodes) (b .variable) l h) e₄
+
+  witness-not-zero : {A : Type 0} (n : ℕ) (st : State) (v : ℕ) (b : Bool) → witnessStep n st v b ≡ stop 0 offset → A
+  unfolding witnessStep
+  witness-not-zero n st v b e =
+      let (p₁, e₁) = past (not (isVariable n v)) 12 0 _ refl e in
+      let (p₂, e₂) = past (inWord (st .positive) v || inWord (st .negative) v) 15 0 _ refl e₁ in
+      next-not-stop _ e₂
+
+  judged-not-zero : {A : Type 0} (s : ℕ) (st : State) (g : ℕ) (line : Line) → judged s st g line ≡ stop 0 offset → A
+  unfolding judged
+  judged-not-zero s st g line e =
+      let (p₁, e₁) = past (not (lineFits s (st .nodes) line)) 23 0 _ refl e in
+      let (p₂, e₂) = past (not (line .shown)) 19 0 _ refl e₁ in
+      next-not-stop _ e₂
+
+  line-not-zero : {A : Type 0} (n s : ℕ) (st : State) (rule : Rule) (root : ℕ) → lineStep n s st rule root ≡ stop 0 offset → A
+  unfolding lineStep
+  line-not-zero n s st Rup root e =
+      let g : ℕ = entryNode st root in
+      let (p₁, e₁) = past (not (isEntry st root)) 13 0 _ refl e in
+      let (p₂, e₂) = past (waiting st) 16 0 _ refl e₁ in
+      let (p₃, e₃) = past (leb 1024 (st .lines)) 22 0 _ refl e₂ in
+      let (p₄, e₄) = past (eqb g 1) 17 0 _ refl e₃ in
+      judged-not-zero s st g (lineOf n st Rup g) e₄
+  line-not-zero n s st Pr root e =
+      let g : ℕ = entryNode st root in
+      let (p₁, e₁) = past (not (isEntry st root)) 13 0 _ refl e in
+      let (p₂, e₂) = past (leb 1024 (st .lines)) 22 0 _ refl e₁ in
+      let (p₃, e₃) = past (eqb g 1) 17 0 _ refl e₂ in
+      let (p₄, e₄) = past (not (witnessed n (inWord (st .positive)) (inWord (st .negative)) (diagramIn st g))) 18 0 _ refl e₃ in
+      judged-not-zero s st g (lineOf n st Pr g) e₄
+
+-- The record that ends the proof with 0.
+pub record Refutes (st : State) (more : Bool) (r : Record) (offset : ℕ) : Type 0 where
+  pub end : r ≡ End
+  pub none-waits : waiting st ≡ false
+  pub last : more ≡ false
+  pub zero-line : st .refuted ≡ true
+  pub here : offset ≡ 0
+
+end-refutes : (st : State) (more : Bool) (offset : ℕ) → endStep st more ≡ stop 0 offset → Refutes st more End offset
+unfolding endStep
+end-refutes st more offset e =
+    let (none, e₁) = past (waiting st) 16 0 _ refl e in
+    let (last, e₂) = past more 11 1 _ refl e₁ in
+    let (zero-line, here) = go (st .refuted) e₂ in
+    record { end = refl; none-waits = none; last = last; zero-line = zero-line; here = here }
+  where
+    go : (c : Bool) → cond c (stop 0 0) (stop 20 0) ≡ stop 0 offset → (c ≡ true) × (offset ≡ 0)
+    go true e = (refl, cc)
+    go false e = stop-not-zero 20 0 refl e
+
+pub step-refutes : (n s : ℕ) (st : State) (more : Bool) (r : Record) (offset : ℕ) → step n s st more r ≡ stop 0 offset → Refutes st more r offset
+unfolding step
+step-refutes n s st more (NodeEntry b) offset e = node-not-zero n s st b e
+step-refutes n s st more (Witness v b) offset e = witness-not-zero n st v b e
+step-refutes n s st more (ProofLine rule root) offset e = line-not-zero n s st rule (root .0) e
+step-refutes n s st more End offset e = end-refutes st more offset e
+step-refutes n s st more CutShort offset e = stop-not-zero 10 0 refl e
+step-refutes n s st more UnknownKind offset e = stop-not-zero 9 0 refl e
+step-refutes n s st more NoRecord offset e = stop-not-zero 10 0 refl e
+
+pub refutes-step : (n s : ℕ) (st : State) (more : Bool) (r : Record) (offset : ℕ) → Refutes st more r offset → step n s st more r ≡ stop 0 offset
+unfolding step endStep
+refutes-step n s st more r offset F = rw (F .end, F .none-waits, F .last, F .zero-line, F .here)
