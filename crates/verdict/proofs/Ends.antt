@@ -19,7 +19,7 @@ use Rattle.records.specs.Records.{recordAt, lengthOf, numberOf}
 use Rattle.records.proofs.Laws.{record-takes, record-within}
 use Rattle.verdict.specs.Check.{State, emptied, begun, Step, next, stop, step, Verdict, left, afterStep, records, afterClause, clauses, afterHeader, verdict}
 use Rattle.verdict.specs.Run.{Function, Meant, Making, opened, made, follows, Reached, begins, goes, Ended, refused, stopped}
-use Rattle.verdict.proofs.Steps.{stop-not-next}
+use Rattle.verdict.proofs.Steps.{next-form}
 use Rattle.verdict.proofs.Standing.{Standing, step-standing}
 use Rattle.verdict.proofs.Formula.{Read, NamedHeader, header-named}
 use Rattle.verdict.proofs.Clauses.{Underway, underway}
@@ -32,17 +32,6 @@ module _ (s : ℕ) (text proof : List ℕ) where
       let (narrow, S) = reached-standing R in (narrow, step-standing S narrow (follows proof at) (recordAt proof at) st′ e)
 
   -- ---- records
-
-  -- a record that gives a next state is of right form
-  next-form : (n : ℕ) (st : State) (more : Bool) (r : Record) (st′ : State) → step n s st more r ≡ next st′ → numberOf r ≡ 0
-  unfolding step
-  next-form n st more (NodeEntry b) st′ e = refl
-  next-form n st more (Witness v b) st′ e = refl
-  next-form n st more (ProofLine rule root) st′ e = refl
-  next-form n st more End st′ e = refl
-  next-form n st more CutShort st′ e = stop-not-next 10 0 st′ e
-  next-form n st more UnknownKind st′ e = stop-not-next 9 0 st′ e
-  next-form n st more NoRecord st′ e = stop-not-next 10 0 st′ e
 
   records-ended : (n steps : ℕ) (st : State) (at : ℕ) (m : Meant) → Reached s text proof n st at m → at ≤ length proof → length proof - at < steps
       → Ended s text proof (records steps n s proof st at)
@@ -58,7 +47,7 @@ module _ (s : ℕ) (text proof : List ℕ) where
           → Ended s text proof (afterStep x st at (λ st′. records steps n s proof st′ next-at))
       go (stop number offset) e rec = stopped R e
       go (next st′) e rec =
-          let form : numberOf (recordAt proof at) ≡ 0 = next-form n st (follows proof at) (recordAt proof at) st′ e in
+          let form : numberOf (recordAt proof at) ≡ 0 = next-form n s st (follows proof at) (recordAt proof at) st′ e in
           let takes : 1 ≤ lengthOf (recordAt proof at) = record-takes (recordAt proof at) form in
           let inside : at + lengthOf (recordAt proof at) ≤ length proof = record-within proof at refl form in
           rec st′ next-at _ (goes R e) inside (omega arith)

@@ -6,3 +6,4 @@ pub mod Formula
 pub mod Clauses
 pub mod Ends
 pub mod Refuted
+pub mod Exactly

@@ -19,6 +19,7 @@ use Rattle.records.specs.declared.Record.{Record}
 use Rattle.records.specs.declared.Record.the-variants.{NodeEntry, Witness, ProofLine, End, CutShort, UnknownKind, NoRecord}
 use Rattle.records.specs.declared.Rule.{Rule}
 use Rattle.records.specs.declared.Rule.the-variants.{Rup, Pr}
+use Rattle.records.specs.Records.{numberOf}
 use Rattle.verdict.specs.Check.{State, Step, next, stop, isEntry, entryNode, isVariable, entered, nodeStep, withVariable, witnessStep, waiting, lineFits, accepted, judged, diagramIn, lineStep, endStep, step}
 
 pub stop-not-next : {A : Type 0} (number offset : ℕ) (st : State) → stop number offset ≡ next st → A
@@ -167,6 +168,19 @@ end-not-next st more st′ e = go (waiting st) more (st .refuted) e
     go false true c e = stop-not-next 11 1 st′ e
     go false false true e = stop-not-next 0 0 st′ e
     go false false false e = stop-not-next 20 0 st′ e
+
+-- ---- every record
+
+-- A record that gives a next state is of right form.
+pub next-form : (n s : ℕ) (st : State) (more : Bool) (r : Record) (st′ : State) → step n s st more r ≡ next st′ → numberOf r ≡ 0
+unfolding step
+next-form n s st more (NodeEntry b) st′ e = refl
+next-form n s st more (Witness v b) st′ e = refl
+next-form n s st more (ProofLine rule root) st′ e = refl
+next-form n s st more End st′ e = refl
+next-form n s st more CutShort st′ e = stop-not-next 10 0 st′ e
+next-form n s st more UnknownKind st′ e = stop-not-next 9 0 st′ e
+next-form n s st more NoRecord st′ e = stop-not-next 10 0 st′ e
 
 -- ---- the number 0
 

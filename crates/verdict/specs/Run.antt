@@ -18,7 +18,7 @@ use Rattle.records.specs.declared.Rule.{Rule}
 use Rattle.records.specs.declared.Record.{Record}
 use Rattle.records.specs.declared.Record.the-variants.{NodeEntry, Witness, ProofLine, End, CutShort, UnknownKind, NoRecord}
 use Rattle.records.specs.Records.{recordAt, lengthOf}
-use Rattle.verdict.specs.Check.{State, emptied, begun, Step, next, stop, step, Verdict, left, refusedFormula}
+use Rattle.verdict.specs.Check.{State, emptied, begun, Step, next, stop, waiting, step, Verdict, left, refusedFormula}
 
 -- ---- what members and entries stand for
 
@@ -88,3 +88,15 @@ pub data Ended (s : ℕ) (text proof : List ℕ) : Verdict → Type 0 where
   stopped : {n number offset at : ℕ} {st : State} {m : Meant}
       → Reached s text proof n st at m → step n s st (follows proof at) (recordAt proof at) ≡ stop number offset
       → Ended s text proof (left number (at + offset) st)
+
+-- A refutation: the check reaches an end record with no witness waiting, no byte behind it, and a 0 line among the accepted ones.
+pub record Refutation (s : ℕ) (text proof : List ℕ) : Type 0 where
+  pub variables : ℕ
+  pub state : State
+  pub place : ℕ
+  pub meant : Meant
+  pub reached : Reached s text proof variables state place meant
+  pub end : recordAt proof place ≡ End
+  pub none-waits : waiting state ≡ false
+  pub last : follows proof place ≡ false
+  pub zero-line : state .refuted ≡ true
