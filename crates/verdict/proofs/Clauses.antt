@@ -72,7 +72,7 @@ module _ (n : ℕ) (ls : List meaning.Literal) where
 
 -- ---- while the clauses are made
 
-emptied-ordered : Ordered emptied
+pub emptied-ordered : Ordered emptied
 emptied-ordered = record {
   two = omega arith;
   first = refl;

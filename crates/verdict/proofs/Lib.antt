@@ -7,3 +7,4 @@ pub mod Clauses
 pub mod Ends
 pub mod Refuted
 pub mod Exactly
+pub mod Values
