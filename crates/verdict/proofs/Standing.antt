@@ -15,7 +15,7 @@ use Rattle.meaning.proofs.Values.{branch-at, reduced-to as reduced-wider}
 use Rattle.table.specs.Nodes.{Node, at, diagramAt, Placing, full, placed, put, place}
 use Rattle.table.proofs.Order.{Ordered, above-true}
 use Rattle.table.proofs.Numbers.{diagramAt-zero, diagramAt-one, UsesTo, uses-64, reduced-from-to}
-use Rattle.table.proofs.Growth.{Extends, extends-length, diagramAt-grown, diagramAt-dropped}
+use Rattle.table.proofs.Growth.{Extends, extends-same, extends-length, diagramAt-grown, diagramAt-dropped}
 use Rattle.table.proofs.Placing.{After, place-after, put-place}
 use Rattle.records.specs.declared.NodeBody.{NodeBody}
 use Rattle.records.specs.declared.Rule.{Rule}
@@ -152,22 +152,46 @@ module _ {s n : ℕ} {m : Meant} {st : State} (S : Standing s n m st) (v l h : �
 
 -- ---- every record
 
--- Steps keep what holds.
+-- Steps keep what holds, and the nodes are extended.
 module _ {s n : ℕ} {m : Meant} {st : State} (S : Standing s n m st) (narrow : n ≤ 64) where
-  node-standing : (b : NodeBody) (st′ : State) → NodeTaken n s st b st′ → Standing s n (afterRecord m (NodeEntry b)) st′
-  unfolding afterRecord
-  node-standing b st′ T =
-      let (low-in, low-is) = entry-valued S (b .low .0) (T .low) in
-      let (high-in, high-is) = entry-valued S (b .high .0) (T .high) in
-      let l : ℕ = entryNode st (b .low .0) in
-      let h : ℕ = entryNode st (b .high .0) in
-      let over-low : 2 ≤ l → b .variable < at (st .nodes) l .var = above-true (st .nodes) (b .variable) l (T .over-low) in
-      let over-high : 2 ≤ h → b .variable < at (st .nodes) h .var = above-true (st .nodes) (b .variable) h (T .over-high) in
-      entered-standing S (b .variable) l h low-in high-in (T .least) over-low over-high (T .most) narrow (nodeMeant m b)
-      (λ a. branch-at 1 (b .variable) (diagramAt (st .nodes) l) (diagramAt (st .nodes) h) a ∙ rw (low-is a, high-is a)) (T .few)
-      (put s (st .nodes) (b .variable) l h)
-      (put-after S (b .variable) l h low-in high-in (T .least) over-low over-high (T .most) narrow)
-      (put-uses S (b .variable) l h low-in high-in (T .least) over-low over-high (T .most) narrow) st′ (T .is)
+  module _ (b : NodeBody) (st′ : State) (T : NodeTaken n s st b st′) where
+    abbrev l : ℕ
+    l = entryNode st (b .low .0)
+
+    abbrev h : ℕ
+    h = entryNode st (b .high .0)
+
+    low-in : l < length (st .nodes)
+    low-in = entry-valued S (b .low .0) (T .low) .0
+
+    high-in : h < length (st .nodes)
+    high-in = entry-valued S (b .high .0) (T .high) .0
+
+    over-low : 2 ≤ l → b .variable < at (st .nodes) l .var
+    over-low = above-true (st .nodes) (b .variable) l (T .over-low)
+
+    over-high : 2 ≤ h → b .variable < at (st .nodes) h .var
+    over-high = above-true (st .nodes) (b .variable) h (T .over-high)
+
+    node-after : After s (st .nodes) (branch (b .variable) (diagramAt (st .nodes) l) (diagramAt (st .nodes) h)) (put s (st .nodes) (b .variable) l h)
+    node-after = put-after S (b .variable) l h low-in high-in (T .least) over-low over-high (T .most) narrow
+
+    node-standing : Standing s n (afterRecord m (NodeEntry b)) st′
+    unfolding afterRecord
+    node-standing =
+        entered-standing S (b .variable) l h low-in high-in (T .least) over-low over-high (T .most) narrow (nodeMeant m b)
+        (λ a. branch-at 1 (b .variable) (diagramAt (st .nodes) l) (diagramAt (st .nodes) h) a
+        ∙ rw (entry-valued S (b .low .0) (T .low) .1 a, entry-valued S (b .high .0) (T .high) .1 a))
+        (T .few) (put s (st .nodes) (b .variable) l h) node-after
+        (put-uses S (b .variable) l h low-in high-in (T .least) over-low over-high (T .most) narrow) st′ (T .is)
+
+    node-extends : Extends (st .nodes) (st′ .nodes)
+    unfolding entered
+    node-extends = go (put s (st .nodes) (b .variable) l h) node-after (T .is)
+      where
+        go : (p : Placing) → After s (st .nodes) (branch (b .variable) (diagramAt (st .nodes) l) (diagramAt (st .nodes) h)) p → entered st p ≡ next st′ → Extends (st .nodes) (st′ .nodes)
+        go (full t) A e = stop-not-next 23 0 st′ e
+        go (placed t k) A e = let is : withEntry st t k ≡ st′ = cc in subst (λ (x : State). Extends (st .nodes) (x .nodes)) is (A .kept .extends)
 
   witness-standing : (v : ℕ) (b : Bool) (st′ : State) → WitnessTaken n st v b st′ → Standing s n m st′
   witness-standing v b st′ T = subst (Standing s n m) (T .is) (record {
@@ -210,3 +234,14 @@ module _ {s n : ℕ} {m : Meant} {st : State} (S : Standing s n m st) (narrow : 
   step-standing more CutShort st′ e = stop-not-next 10 0 st′ e
   step-standing more UnknownKind st′ e = stop-not-next 9 0 st′ e
   step-standing more NoRecord st′ e = stop-not-next 10 0 st′ e
+
+  pub step-extends : (more : Bool) (r : Record) (st′ : State) → step n s st more r ≡ next st′ → Extends (st .nodes) (st′ .nodes)
+  unfolding step
+  step-extends more (NodeEntry b) st′ e = node-extends b st′ (node-taken n s st b st′ e)
+  step-extends more (Witness v b) st′ e = subst (λ (x : State). Extends (st .nodes) (x .nodes)) (witness-taken n st v b st′ e .is) (extends-same (st .nodes))
+  step-extends more (ProofLine rule root) st′ e =
+      subst (λ (x : State). Extends (st .nodes) (x .nodes)) (line-taken n s st rule (root .0) st′ e .is) (extends-same (st .nodes))
+  step-extends more End st′ e = end-not-next st more st′ e
+  step-extends more CutShort st′ e = stop-not-next 10 0 st′ e
+  step-extends more UnknownKind st′ e = stop-not-next 9 0 st′ e
+  step-extends more NoRecord st′ e = stop-not-next 10 0 st′ e

@@ -12,12 +12,13 @@ use Rattle.meaning.specs.Diagram.{Assignment, value}
 use Rattle.meaning.specs.Operations as meaning
 use Rattle.table.specs.Nodes.{Node, diagramAt, nodesInOrder}
 use Rattle.table.proofs.Order.{Ordered, in-order}
-use Rattle.table.proofs.Growth.{ordered-dropped}
+use Rattle.table.proofs.Growth.{ordered-dropped, diagramAt-grown}
 use Rattle.dimacs.specs.Clauses.{Reading, clause, complete, formula}
-use Rattle.verdict.specs.Check.{State, isEntry, entryNode, Verdict, verdict}
-use Rattle.verdict.specs.Run.{Function, Meant, entryMeant, Valued, Making, Reached, begins, goes, Ended, refused, stopped}
+use Rattle.records.specs.Records.{recordAt}
+use Rattle.verdict.specs.Check.{State, isEntry, entryNode, next, step, Verdict, verdict}
+use Rattle.verdict.specs.Run.{Function, Meant, entryMeant, Valued, Making, follows, Reached, begins, goes, Ended, refused, stopped}
 use Rattle.verdict.specs.Satisfies.{clausesOf}
-use Rattle.verdict.proofs.Standing.{Standing, valued-grown, valued-dropped, valued-at, entry-valued}
+use Rattle.verdict.proofs.Standing.{Standing, valued-dropped, valued-at, entry-valued, step-extends}
 use Rattle.verdict.proofs.Clauses.{Underway, underway, emptied-ordered}
 use Rattle.verdict.proofs.Ends.{reached-standing, ended}
 
@@ -56,6 +57,13 @@ module _ (s : ℕ) (text : List ℕ) where
       left-value i p a =
           valued-at (take (st .kept) (st .nodes)) (st .kept) (st .members) (m .members)
           (valued-dropped (st .nodes) (st .kept) (stands .ordered) (stands .least) (stands .kept) (st .members) (m .members) (stands .members)) i p (λ a. false) .1 a
+
+      -- Numbers of the table keep their diagrams from one reached state to the next.
+      pub number-kept : (st′ : State) → step n s st (follows proof at) (recordAt proof at) ≡ next st′ → (k : ℕ) → k < length (st .nodes)
+          → diagramAt (st′ .nodes) k ≡ diagramAt (st .nodes) k
+      number-kept st′ e k p =
+          diagramAt-grown (st .nodes) (st′ .nodes) (stands .ordered)
+          (step-extends stands (reached-standing s text proof R .0) (follows proof at) (recordAt proof at) st′ e) k p
 
     -- ---- what the check leaves
 
