@@ -5,7 +5,7 @@ use mathlib.Core.List.{[], _∷_}
 use native.Mathlib.Decide.{ℕ-discrete}
 use lib.ListN.{replicate}
 use Rattle.meaning.specs.Diagram.{diagramFrom, same?, valueFrom}
-use Rattle.meaning.specs.Operations.{clause, conjunction, cofactor, isUnit}
+use Rattle.meaning.specs.Operations.{clause, conjunction, cofactor}
 use Rattle.meaning.specs.Rules.{rup, pr, witnessed}
 use Rattle.meaning.specs.Words.{inWord}
 use Rattle.table.specs.Nodes.{place, above, diagramAt}
@@ -21,8 +21,8 @@ unfolding verdict clausesFrom place clause diagramFrom same? recordAt above rup 
 cases = (refl, (refl, (refl, (refl, (refl, (refl, (refl, (refl, (refl, (refl, (refl, tt)))))))))))
 
 pub numbers : GivesAll numberTable
-unfolding verdict clausesFrom place clause diagramFrom same? recordAt above rup valueFrom diagramAt ℕ-discrete inWord
-numbers = (refl, (refl, (refl, (refl, (refl, (refl, (refl, (refl, (refl, (refl, (refl, (refl, (refl, (refl, (refl, (refl, (refl, (refl, tt))))))))))))))))))
+unfolding verdict clausesFrom place clause diagramFrom same? recordAt above rup pr witnessed valueFrom diagramAt ℕ-discrete inWord
+numbers = (refl, (refl, (refl, (refl, (refl, (refl, (refl, (refl, (refl, (refl, (refl, (refl, (refl, (refl, (refl, (refl, (refl, (refl, (refl, tt)))))))))))))))))))
 
 -- "7: a lent part of wrong size: table of 1 place"
 pub seven : check (0 ∷ []) (0 ∷ []) (0 ∷ []) 1 (replicate 2048 0) (replicate 4096 0) (bytes A-formula) A-proof .number ≡ 7

@@ -2,7 +2,7 @@
 -- within the header. The idea: a clause looks at the variables of the header alone, so that its node has its values under every
 -- assignment, whatever its length. Assumes nothing.
 use mathlib.Core.Path.{_≡_, refl, sym, ap, ap₂, _∙_, subst}
-use mathlib.Core.Bool.{Bool, true, false, _||_, Bool·beq}
+use mathlib.Core.Bool.{Bool, false, _||_, Bool·beq}
 use mathlib.Core.List.{List, [], _∷_, _++_, map, append-assoc}
 use Prim.Native.Nat.{ℕ, zero, suc, _+_, _-_, _≤_, _<_}
 use native.Mathlib.Omega.{arith}
@@ -12,17 +12,16 @@ use Rattle.meaning.specs.Diagram.{Assignment, holds, Diagram, value, Reduced}
 use Rattle.meaning.specs.Operations as meaning
 use Rattle.meaning.proofs.Values.{value-agree, diagram-reduced, diagram-value, reduced-to}
 use Rattle.meaning.proofs.Clauses.{Within}
-use Rattle.table.specs.Nodes.{Node, Placing, full, placed, place}
+use Rattle.table.specs.Nodes.{Node, placed, place}
 use Rattle.table.proofs.Order.{Ordered}
 use Rattle.table.proofs.Growth.{extends-length}
 use Rattle.table.proofs.Placing.{After, place-after}
-use Rattle.dimacs.specs.declared.Header.{Header}
-use Rattle.dimacs.specs.declared.Header.the-variants.{Proper, Improper}
+use Rattle.dimacs.specs.declared.Header.the-variants.{Proper}
 use Rattle.dimacs.specs.Header.{header}
-use Rattle.dimacs.specs.Clauses.{Reading, clause, complete, refusal, clausesFrom, formula}
+use Rattle.dimacs.specs.Clauses.{Reading, clause, clausesFrom, formula}
 use Rattle.dimacs.proofs.Bounds.{HeaderIn, header-in}
 use Rattle.verdict.specs.Check.{emptied, begun}
-use Rattle.verdict.specs.Run.{Function, Meant, Valued, Making, opened, made}
+use Rattle.verdict.specs.Run.{Function, Meant, Making, opened, made}
 use Rattle.verdict.specs.Satisfies.{clausesOf, readToEnd}
 use Rattle.verdict.proofs.Uses.{UsesAfter, place-uses}
 use Rattle.verdict.proofs.Standing.{Standing, valued-append, valued-grown}

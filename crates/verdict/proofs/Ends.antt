@@ -2,7 +2,6 @@
 -- which a record ends the proof; there are always steps enough. The idea: a record of right form takes a byte. Assumes nothing.
 use mathlib.Core.Path.{_≡_, refl}
 use mathlib.Core.Logic.{_≢_}
-use mathlib.Core.Bool.{Bool}
 use mathlib.Core.List.{List, [], _∷_, _++_}
 use Prim.Native.Nat.{ℕ, zero, suc, _+_, _-_, _≤_, _<_}
 use native.Mathlib.Omega.{arith}
@@ -13,11 +12,9 @@ use Rattle.dimacs.specs.declared.Header.{Header}
 use Rattle.dimacs.specs.declared.Header.the-variants.{Proper, Improper}
 use Rattle.dimacs.specs.Header.{header}
 use Rattle.dimacs.specs.Clauses.{Reading, clause, complete, refusal, clausesFrom}
-use Rattle.records.specs.declared.Record.{Record}
-use Rattle.records.specs.declared.Record.the-variants.{NodeEntry, Witness, ProofLine, End, CutShort, UnknownKind, NoRecord}
 use Rattle.records.specs.Records.{recordAt, lengthOf, numberOf}
 use Rattle.records.proofs.Laws.{record-takes, record-within}
-use Rattle.verdict.specs.Check.{State, emptied, begun, Step, next, stop, step, Verdict, left, afterStep, records, afterClause, clauses, afterHeader, verdict}
+use Rattle.verdict.specs.Check.{State, emptied, begun, Step, next, stop, step, left, afterStep, records, afterClause, clauses, afterHeader, verdict}
 use Rattle.verdict.specs.Run.{Function, Meant, Making, opened, made, follows, Reached, begins, goes, Ended, refused, stopped}
 use Rattle.verdict.proofs.Steps.{next-form}
 use Rattle.verdict.proofs.Standing.{Standing, step-standing}

@@ -1,19 +1,16 @@
 -- Number 0 is given exactly where the check reaches the end record of a refutation, and its place is that record's. The idea: each reached
 -- state has the verdict still before it, so that what its record says is the verdict. Assumes nothing.
-use mathlib.Core.Path.{_≡_, refl, sym, ap, _∙_}
+use mathlib.Core.Path.{_≡_, refl, ap, _∙_}
 use mathlib.Core.Logic.{_↔_}
-use mathlib.Core.Bool.{Bool, false}
-use mathlib.Core.List.{List, [], _∷_, _++_}
+use mathlib.Core.List.{List}
 use Prim.Native.Nat.{ℕ, zero, suc, _+_, _-_, _≤_, _<_}
 use native.Mathlib.Omega.{arith}
 use lib.ListN.{length}
 use Rattle.table.specs.Nodes.{Node, place}
-use Rattle.dimacs.specs.Header.{header}
 use Rattle.dimacs.specs.Clauses.{Reading}
-use Rattle.records.specs.declared.Record.the-variants.{End}
 use Rattle.records.specs.Records.{recordAt, lengthOf}
 use Rattle.records.proofs.Laws.{record-takes, record-within}
-use Rattle.verdict.specs.Check.{State, begun, Step, next, stop, step, Verdict, left, afterStep, records, clauses, verdict}
+use Rattle.verdict.specs.Check.{State, Step, next, stop, step, Verdict, left, afterStep, records, clauses, verdict}
 use Rattle.verdict.specs.Run.{Function, Meant, Making, opened, made, follows, Reached, begins, goes, Ended, refused, stopped, Refutation}
 use Rattle.verdict.proofs.Steps.{next-form, Refutes, step-refutes, refutes-step}
 use Rattle.verdict.proofs.Ends.{ended}

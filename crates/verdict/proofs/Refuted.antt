@@ -1,14 +1,14 @@
 -- Number 0 is given only where no assignment satisfies the formula, whatever the proof's bytes. The idea: an accepted line keeps the
 -- members satisfiable (meaning/proofs/Soundness), and with a 0 line among them they are not. Assumes nothing.
 use mathlib.Core.Path.{_≡_, refl, sym, ap, ap₂, _∙_, subst}
-use mathlib.Core.Bool.{Bool, true, false, _&&_, _||_, cond}
+use mathlib.Core.Bool.{Bool, true, false, _&&_, cond}
 use mathlib.Core.List.{List, [], _∷_, _++_, map, append-nil}
-use Prim.Native.Nat.{ℕ, zero, suc, _+_, _≤_, _<_}
+use Prim.Native.Nat.{ℕ, zero, suc, _+_, _≤_}
 use native.Mathlib.Omega.{arith}
 use lib.ListN.{length}
 use lib.Dec.{eqb}
 use borrow.Author.Tests.{eqb-true}
-use Rattle.meaning.specs.Diagram.{Assignment, Diagram, leaf, value, valueFrom}
+use Rattle.meaning.specs.Diagram.{Assignment, Diagram, value, valueFrom}
 use Rattle.meaning.specs.Operations as meaning
 use Rattle.meaning.specs.Words.{inWord}
 use Rattle.meaning.proofs.Booleans.{t≢f, not-true, and-both, or-cases}
@@ -16,8 +16,6 @@ use Rattle.meaning.proofs.Clauses.{Within}
 use Rattle.meaning.proofs.Soundness.{Satisfies, rup-sound, pr-sound}
 use Rattle.table.specs.Nodes.{Node, diagramAt, Placing, full, placed, put}
 use Rattle.table.proofs.Numbers.{diagramAt-zero}
-use Rattle.dimacs.specs.declared.Header.the-variants.{Proper}
-use Rattle.dimacs.specs.Header.{header}
 use Rattle.dimacs.specs.Clauses.{Reading, clause, complete, refusal, clausesFrom, formula}
 use Rattle.dimacs.proofs.Bounds.{HeaderIn, header-in}
 use Rattle.dimacs.proofs.Formula.{formula-proper}
@@ -26,13 +24,13 @@ use Rattle.records.specs.declared.Rule.the-variants.{Rup, Pr}
 use Rattle.records.specs.declared.Record.{Record}
 use Rattle.records.specs.declared.Record.the-variants.{NodeEntry, Witness, ProofLine, End, CutShort, UnknownKind, NoRecord}
 use Rattle.records.specs.Records.{recordAt}
-use Rattle.verdict.specs.Check.{State, begun, Step, next, stop, entryNode, entered, accepted, diagramIn, step, Verdict, verdict, Outcome, lentFits, outcome, check}
+use Rattle.verdict.specs.Check.{State, begun, next, entryNode, entered, diagramIn, step, Verdict, verdict, Outcome, lentFits, outcome, check}
 use Rattle.verdict.specs.Run.{Function, Meant, entryMeant, afterRecord, Valued, Making, opened, made, follows, Reached, begins, goes, Ended, refused, stopped}
 use Rattle.verdict.specs.Satisfies.{clausesOf, readToEnd, satisfies}
-use Rattle.verdict.proofs.Steps.{stop-not-next, end-not-next, NodeTaken, node-taken, witness-taken, lineOf, LineTaken, line-taken, step-refutes}
+use Rattle.verdict.proofs.Steps.{stop-not-next, end-not-next, node-taken, witness-taken, LineTaken, line-taken, step-refutes}
 use Rattle.verdict.proofs.Standing.{Standing, withEntry, entry-valued}
 use Rattle.verdict.proofs.Formula.{Read, clauses-read}
-use Rattle.verdict.proofs.Clauses.{fitted, fitted-length, clause-fitted, Underway, underway}
+use Rattle.verdict.proofs.Clauses.{fitted, fitted-length, clause-fitted, underway}
 use Rattle.verdict.proofs.Ends.{reached-standing, ended}
 
 -- ---- functions that are 1 under an assignment
@@ -100,12 +98,12 @@ module _ {s n : ℕ} {m : Meant} {st : State} (S : Standing s n m st) where
   line-keeps Rup root st′ T a len all =
       let (inside, is) = entry-valued S root (T .entry) in
       let one : value (diagramIn st (entryNode st root)) a ≡ true = rup-sound n (map (diagramIn st) (st .members)) (diagramIn st (entryNode st root)) (T .shown) a len
-          (members-satisfied a (st .nodes) (st .kept) (st .members) (m .members) (S .members) all) in
+      (members-satisfied a (st .nodes) (st .kept) (st .members) (m .members) (S .members) all) in
       (a, len, all-append a (m .members) (entryMeant m root) all (sym (is a) ∙ one))
   line-keeps Pr root st′ T a len all =
       let (inside, is) = entry-valued S root (T .entry) in
       let (b, lb, sat, one) = pr-sound n (inWord (st .positive)) (inWord (st .negative)) (map (diagramIn st) (st .members)) (diagramIn st (entryNode st root)) (T .witness) (T .shown) a len
-          (members-satisfied a (st .nodes) (st .kept) (st .members) (m .members) (S .members) all) in
+      (members-satisfied a (st .nodes) (st .kept) (st .members) (m .members) (S .members) all) in
       (b, lb, all-append b (m .members) (entryMeant m root) (satisfied-members b (st .nodes) (st .kept) (st .members) (m .members) (S .members) sat) (sym (is b) ∙ one))
 
   module _ (text : List ℕ) (H : Sound text n m st) where
@@ -189,8 +187,8 @@ module _ (s : ℕ) (text proof : List ℕ) where
       go _ (stopped {n} {number} {offset} {at} {st} {m} R e) z = (
         reached-end R,
         (λ a. not-true (satisfies a (clausesOf (formula text))) (λ sat.
-        let (b, lb, all) = reached-sound R .kept (fitted n a) (fitted-length n a) (satisfies-fitted n (clausesOf (formula text)) (reached-within R) a ∙ sat) in
-        reached-sound R .zero (step-refutes n s st (follows proof at) (recordAt proof at) offset (rw z at e) .zero-line) b all)),
+            let (b, lb, all) = reached-sound R .kept (fitted n a) (fitted-length n a) (satisfies-fitted n (clausesOf (formula text)) (reached-within R) a ∙ sat) in
+            reached-sound R .zero (step-refutes n s st (follows proof at) (recordAt proof at) offset (rw z at e) .zero-line) b all)),
       )
 
 -- ---- the call

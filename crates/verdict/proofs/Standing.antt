@@ -1,18 +1,17 @@
 -- What holds in every state that the check reaches: the nodes are in good order and use no variable beyond the header, and each member's
 -- and each entry's node has the values of what it stands for. The idea: a placing extends the nodes, and old numbers keep their
 -- diagrams. Assumes nothing.
-use mathlib.Core.Path.{_≡_, refl, sym, ap, _∙_, subst}
-use mathlib.Core.Logic.{_≢_}
-use mathlib.Core.Bool.{Bool, true, false, not, cond}
-use mathlib.Core.List.{List, [], _∷_, _++_, map}
+use mathlib.Core.Path.{_≡_, refl, ap, _∙_, subst}
+use mathlib.Core.Bool.{Bool, true, false}
+use mathlib.Core.List.{List, [], _∷_, _++_}
 use Prim.Native.Nat.{ℕ, zero, suc, _+_, _≤_, _<_}
 use native.Mathlib.Omega.{arith}
 use lib.ListN.{length, getD, take, length-append}
 use borrow.Author.Tests.{ltb-true}
-use Rattle.meaning.specs.Diagram.{Assignment, holds, Diagram, leaf, value, valueFrom, Reduced, branch}
+use Rattle.meaning.specs.Diagram.{Assignment, Diagram, value, valueFrom, Reduced, branch}
 use Rattle.meaning.proofs.Canonical.{reduced-from, branch-reduced}
-use Rattle.meaning.proofs.Values.{branch-at, reduced-to as reduced-wider}
-use Rattle.table.specs.Nodes.{Node, at, diagramAt, Placing, full, placed, put, place}
+use Rattle.meaning.proofs.Values.{branch-at}
+use Rattle.table.specs.Nodes.{Node, at, diagramAt, Placing, full, placed, put}
 use Rattle.table.proofs.Order.{Ordered, above-true}
 use Rattle.table.proofs.Numbers.{diagramAt-zero, diagramAt-one, UsesTo, uses-64, reduced-from-to}
 use Rattle.table.proofs.Growth.{Extends, extends-same, extends-length, diagramAt-grown, diagramAt-dropped}
@@ -21,7 +20,7 @@ use Rattle.records.specs.declared.NodeBody.{NodeBody}
 use Rattle.records.specs.declared.Rule.{Rule}
 use Rattle.records.specs.declared.Record.{Record}
 use Rattle.records.specs.declared.Record.the-variants.{NodeEntry, Witness, ProofLine, End, CutShort, UnknownKind, NoRecord}
-use Rattle.verdict.specs.Check.{State, Step, next, stop, numbered, isEntry, entryNode, entered, step}
+use Rattle.verdict.specs.Check.{State, next, numbered, isEntry, entryNode, entered, step}
 use Rattle.verdict.specs.Run.{Function, Meant, numberedMeant, entryMeant, nodeMeant, afterRecord, Valued}
 use Rattle.verdict.proofs.Uses.{UsesAfter, place-uses}
 use Rattle.verdict.proofs.Steps.{stop-not-next, end-not-next, NodeTaken, node-taken, WitnessTaken, witness-taken, LineTaken, line-taken}

@@ -1,25 +1,25 @@
 -- Every clause's, entry's and accepted line's node has the value of what it stands for, from its making until it is dropped: in every state
 -- that the check reaches, though the proof be refused later, and in what it leaves. The idea: that is what holds in every reached
 -- state. Assumes nothing.
-use mathlib.Core.Path.{_≡_, refl, sym, ap, _∙_, subst}
-use mathlib.Core.Bool.{Bool, true, false}
-use mathlib.Core.List.{List, [], _∷_, _++_, map, append-nil}
-use Prim.Native.Nat.{ℕ, zero, suc, _≤_, _<_}
+use mathlib.Core.Path.{_≡_, sym, _∙_}
+use mathlib.Core.Bool.{true, false}
+use mathlib.Core.List.{List, [], map, append-nil}
+use Prim.Native.Nat.{ℕ, _≤_, _<_}
 use native.Mathlib.Omega.{arith}
 use lib.ListN.{length, getD, take}
 use lib.Seq.{length-take-le}
 use Rattle.meaning.specs.Diagram.{Assignment, value}
 use Rattle.meaning.specs.Operations as meaning
 use Rattle.table.specs.Nodes.{Node, diagramAt, nodesInOrder}
-use Rattle.table.proofs.Order.{Ordered, in-order}
+use Rattle.table.proofs.Order.{in-order}
 use Rattle.table.proofs.Growth.{ordered-dropped, diagramAt-grown}
-use Rattle.dimacs.specs.Clauses.{Reading, clause, complete, formula}
+use Rattle.dimacs.specs.Clauses.{Reading, complete, formula}
 use Rattle.records.specs.Records.{recordAt}
 use Rattle.verdict.specs.Check.{State, isEntry, entryNode, next, step, Verdict, verdict}
-use Rattle.verdict.specs.Run.{Function, Meant, entryMeant, Valued, Making, follows, Reached, begins, goes, Ended, refused, stopped}
+use Rattle.verdict.specs.Run.{Function, Meant, entryMeant, Valued, Making, follows, Reached, Ended, refused, stopped}
 use Rattle.verdict.specs.Satisfies.{clausesOf}
 use Rattle.verdict.proofs.Standing.{Standing, valued-dropped, valued-at, entry-valued, step-extends}
-use Rattle.verdict.proofs.Clauses.{Underway, underway, emptied-ordered}
+use Rattle.verdict.proofs.Clauses.{underway, emptied-ordered}
 use Rattle.verdict.proofs.Ends.{reached-standing, ended}
 
 module _ (s : ℕ) (text : List ℕ) where

@@ -1,10 +1,10 @@
 -- 01's cases A to J as one table, and the examples of its table of numbers as another. (01, The program and its line; What the call says
 -- and leaves)
 use mathlib.Core.Path.{_≡_}
-use mathlib.Core.Bool.{Bool, true, false, cond}
+use mathlib.Core.Bool.{true, false, cond}
 use mathlib.Core.List.{List, [] as []ᴸ, _∷_ as _∷ᴸ_, _++_ as _++ᴸ_}
 use Prim.Native.Nat.{ℕ, zero, suc}
-use Prim.Native.Char.{Char, code}
+use Prim.Native.Char.{code}
 use Prim.Native.String.{String, [], _∷_, _++_}
 use Rattle.meaning.specs.Diagram.{Diagram, leaf, node}
 use Rattle.meaning.specs.Operations.{Literal, clause, conjunction, cofactor, isUnit}
@@ -119,7 +119,8 @@ caseTable =
     ∷ᴸ checked 4096 "p cnf 0 0\n" (rupLine 0 end) (prints 19 0 0 0)
     ∷ᴸ []ᴸ
 
--- Numbers 1 to 6, 8 to 17, 20 and 23 with 01's examples; 0, 18 and 19 are cases A, D and B.
+-- Numbers 1 to 6, 8 to 17, 20 and 23 with 01's examples; 0, 18 and 19 are cases A, D and B. The last row is 19 for "a PR line because the
+-- line follows under ω while some member does not". (01, Where builders go astray)
 abbrev pub numberTable : List Row
 numberTable =
     checked 4096 "p cnf 2" []ᴸ (prints 1 0 0 0)
@@ -140,4 +141,5 @@ numberTable =
     ∷ᴸ checked 4096 D-formula (rupLine 1 []ᴸ) (prints 17 0 0 0)
     ∷ᴸ checked 4096 D-formula end (prints 20 0 0 0)
     ∷ᴸ checked 3 "p cnf 2 1\n1 0\n" (over 2 0 1 []ᴸ) (prints 23 0 0 0)
+    ∷ᴸ checked 4096 "p cnf 2 1\n-1 2 0\n" (over 1 0 1 (0x54 ∷ᴸ 1 ∷ᴸ prLine 2 end)) (prints 19 8 0 0)
     ∷ᴸ []ᴸ

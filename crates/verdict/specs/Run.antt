@@ -8,17 +8,15 @@ use lib.ListN.{length, getD}
 use lib.Dec.{ltb}
 use Rattle.meaning.specs.Diagram.{Assignment, holds, value}
 use Rattle.meaning.specs.Operations as meaning
-use Rattle.table.specs.Nodes.{Node, diagramAt, Placing, placed, place}
-use Rattle.dimacs.specs.declared.Header.{Header}
+use Rattle.table.specs.Nodes.{Node, diagramAt, placed, place}
 use Rattle.dimacs.specs.declared.Header.the-variants.{Proper}
 use Rattle.dimacs.specs.Header.{header}
-use Rattle.dimacs.specs.Clauses.{Reading, clause, complete, refusal, clausesFrom}
+use Rattle.dimacs.specs.Clauses.{Reading, clause, complete, clausesFrom}
 use Rattle.records.specs.declared.NodeBody.{NodeBody}
-use Rattle.records.specs.declared.Rule.{Rule}
 use Rattle.records.specs.declared.Record.{Record}
 use Rattle.records.specs.declared.Record.the-variants.{NodeEntry, Witness, ProofLine, End, CutShort, UnknownKind, NoRecord}
 use Rattle.records.specs.Records.{recordAt, lengthOf}
-use Rattle.verdict.specs.Check.{State, emptied, begun, Step, next, stop, waiting, step, Verdict, left, refusedFormula}
+use Rattle.verdict.specs.Check.{State, emptied, begun, next, stop, waiting, step, Verdict, left, refusedFormula}
 
 -- ---- what members and entries stand for
 
@@ -62,8 +60,8 @@ Valued t bound (k ∷ ks) (f ∷ fs) = (k < bound) × ((a : Assignment) → valu
 
 -- ---- the states
 
--- While the formula's clauses are made, n variables and `many` clauses in its header: the nodes, the members, the functions that these
--- stand for, how many clauses are wanted yet, and what is still to be read.
+-- While the clauses are made of a formula whose header has n variables and `many` clauses: the nodes, the members, the functions that
+-- these stand for, and what is still to be read.
 pub data Making (s : ℕ) (text : List ℕ) (n many : ℕ) : List Node → List ℕ → List Function → Reading → Type 0 where
   opened : {at : ℕ} → header text ≡ Proper n many at → Making s text n many emptied [] [] (clausesFrom text n many at)
   made : {t t₁ : List Node} {ms : List ℕ} {k : ℕ} {fs : List Function} {ls : List meaning.Literal} {first : ℕ} {rest : Reading}
