@@ -3,6 +3,7 @@
 use std::io::{BufRead, BufReader, Write};
 use std::process::{Child, ChildStdin, ChildStdout, Command, Stdio};
 use std::thread;
+use std::time::Duration;
 
 pub struct Filter {
     child: Child,
@@ -42,6 +43,17 @@ impl Filter {
             });
             output.lines().take(commands.len()).map_while(Result::ok).collect()
         })
+    }
+
+    /// The processor time that the filter's threads have taken, from Linux's count of it.
+    pub fn busy(&self) -> Duration {
+        let folder = format!("/proc/{}/task", self.child.id());
+        let tasks = std::fs::read_dir(folder).into_iter().flatten().flatten();
+        let nanoseconds = tasks.map(|task| {
+            let text = std::fs::read_to_string(task.path().join("schedstat")).unwrap_or_default();
+            text.split(' ').next().and_then(|word| word.parse::<u64>().ok()).unwrap_or(0)
+        });
+        Duration::from_nanos(nanoseconds.sum())
     }
 
     /// Ends the filter: whether it ended well.

@@ -91,8 +91,10 @@ impl Builder {
         Builder { store, members, writer: Writer::default(), lines: 0 }
     }
 
-    fn accepted(&mut self, kind: u8, g: Node) {
+    /// Writes g as a line, whether it is accepted or not.
+    pub fn write_line(&mut self, kind: u8, g: Node, witness: Literals) {
         let root = self.writer.entry(&self.store, g);
+        self.writer.witness(witness);
         self.writer.line(kind, root);
         self.members.push(g);
         self.lines += 1;
@@ -102,7 +104,7 @@ impl Builder {
     pub fn rup(&mut self, g: Node) -> bool {
         let holds = self.store.rup(&self.members, g);
         if holds {
-            self.accepted(0x52, g);
+            self.write_line(0x52, g, Literals::default());
         }
         holds
     }
@@ -111,11 +113,7 @@ impl Builder {
     pub fn pr(&mut self, g: Node, witness: Literals) -> bool {
         let holds = self.store.pr(&self.members, g, witness);
         if holds {
-            let root = self.writer.entry(&self.store, g);
-            self.writer.witness(witness);
-            self.writer.line(0x50, root);
-            self.members.push(g);
-            self.lines += 1;
+            self.write_line(0x50, g, witness);
         }
         holds
     }
