@@ -76,7 +76,7 @@ fn answer(filter: &mut Filter, command: &str) -> String {
 fn times(filters: &mut [Filter; 2], workload: &Workload) -> [f64; 2] {
     let once = filters.each_mut().map(|filter| spent(filter, &workload.command, 1));
     let slow = once.iter().max().unwrap().as_micros().max(1);
-    let (repeats, turns) = ((20_000 / slow).clamp(1, 50) as usize, if slow > 500_000 { 1 } else { 7 });
+    let (repeats, turns) = ((40_000 / slow).clamp(1, 400) as usize, if slow > 500_000 { 1 } else { 7 });
     let mut least = [[Duration::MAX; 2]; 2];
     for _ in 0..turns {
         for (filter, least) in filters.iter_mut().zip(&mut least) {

@@ -5,6 +5,7 @@ use crate::families::{self, Problem};
 use crate::formula::Formula;
 use crate::proof::{strewn, Builder, Writer};
 use crate::random::Random;
+use crate::table;
 
 /// A few commands over one formula and one proof.
 pub fn commands(random: &mut Random) -> Vec<String> {
@@ -156,7 +157,7 @@ fn wrong_sizes(random: &mut Random) -> Vec<String> {
 fn nearly_full(random: &mut Random) -> Vec<String> {
     let problem = if random.percent(80) { small(random) } else { families::any(random) };
     let (text, proof) = (problem.formula.strewn(random), finished(&problem));
-    let first = random.pick(&[2, 4, 8, 15, 25, 40, 70, 150]);
+    let first = random.pick(&[2, 4, 8, 15, 25, 40, 70, 150, 300]);
     let first = first + random.below(first);
     (first..first + random.between(1, 8)).map(|size| command(random, size, &text, &proof)).collect()
 }
@@ -350,24 +351,50 @@ fn zero_lines(random: &mut Random, writer: &mut Writer) {
     writer.line(0x52, 0);
 }
 
-/// The limits 21 and 22: a line of 4,096 entries and more, a proof of 1,024 lines and more.
+/// The limits: 4,096 entries, 1,024 lines, 1,024 clauses, a full member list.
 fn long(random: &mut Random) -> Vec<String> {
-    let formula = Formula { variables: 3, clauses: vec![vec![1, 2], vec![-1, 3], vec![2, -3], vec![-2]] };
+    let mut formula = Formula { variables: 64, clauses: vec![vec![1, 2], vec![-1, 3], vec![2, -3], vec![-2]] };
+    if random.percent(20) {
+        let clauses = random.pick(&[1023, 1024, 1025]);
+        formula.clauses = formula.clauses.iter().cycle().take(clauses).cloned().collect();
+    }
     let mut writer = Writer::default();
-    if random.percent(50) {
-        let entries = random.pick(&[4095, 4096, 4097, 4098]);
-        for at in 0..entries {
-            writer.node([3, 2, 1][at * 3 / entries], 0, if at * 3 / entries > 0 { 2 } else { 1 });
-        }
-        let root = random.pick(&[2, 4096, 4097, 4098]);
-        writer.line(0x52, root);
-    } else {
-        for _ in 0..random.pick(&[1023, 1024, 1025, 1026]) {
-            let root = writer.node(2, 1, 0);
-            writer.line(0x52, root);
-        }
+    match random.below(5) {
+        0 | 1 => same_entries(random, &mut writer),
+        2 => entries(random, &mut writer),
+        _ => lines(random, &mut writer),
     }
     writer.line(0x52, 0);
     writer.end();
-    vec![command(random, 4096, &formula.text(), &writer.bytes)]
+    let size = random.pick(&[4096, 65_536]);
+    vec![command(random, size, &formula.text(), &writer.bytes)]
+}
+
+/// About 4,096 records of three nodes.
+fn same_entries(random: &mut Random, writer: &mut Writer) {
+    let records = random.pick(&[4095, 4096, 4097, 4097, 4098]);
+    for at in 0..records {
+        let level = at * 3 / records;
+        writer.node([3, 2, 1][level], 0, if level > 0 { 2 } else { 1 });
+    }
+    writer.line(0x52, random.pick(&[2, 4096, 4097, 4098]));
+}
+
+/// A line of many different nodes, whose entry numbers are those of the store that they are taken from.
+fn entries(random: &mut Random, writer: &mut Writer) {
+    let many = random.pick(&[100, 1000, 4095, 4096, 4097, 4098]);
+    let variables: Vec<u8> = (1..=64).collect();
+    let store = table::store(random, &variables, many + 2);
+    for (variable, low, high) in store.nodes.iter().skip(2).take(many) {
+        writer.node(*variable, *low as u16, *high as u16);
+    }
+    writer.line(random.pick(&[0x52, 0x50]), random.between(2, many + 1) as u16);
+}
+
+/// About 1,024 lines that repeat a member.
+fn lines(random: &mut Random, writer: &mut Writer) {
+    for _ in 0..random.pick(&[1023, 1024, 1025, 1026]) {
+        let root = writer.node(2, 1, 0);
+        writer.line(0x52, root);
+    }
 }

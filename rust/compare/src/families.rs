@@ -168,17 +168,18 @@ fn subsets(n: usize, size: usize) -> Vec<Vec<i32>> {
     chosen.map(|word| (0..n).filter(|at| word >> at & 1 == 1).map(|at| at as i32 + 1).collect()).collect()
 }
 
-/// Clauses of so many literals, or fewer where a variable comes twice.
+fn literal(random: &mut Random, first: usize, last: usize) -> i32 {
+    let variable = random.between(first, last) as i32;
+    if random.percent(50) {
+        variable
+    } else {
+        -variable
+    }
+}
+
+/// Clauses of so many literals, of which two may be the same.
 pub fn random_clauses(random: &mut Random, variables: usize, clauses: usize, width: usize) -> Formula {
-    let literal = |random: &mut Random| {
-        let variable = random.between(1, variables) as i32;
-        if random.percent(50) {
-            variable
-        } else {
-            -variable
-        }
-    };
-    let clauses = (0..clauses).map(|_| (0..width).map(|_| literal(random)).collect()).collect();
+    let clauses = (0..clauses).map(|_| (0..width).map(|_| literal(random, 1, variables)).collect()).collect();
     Formula { variables, clauses }
 }
 
@@ -192,9 +193,59 @@ pub fn three_sat(random: &mut Random, variables: usize, clauses: usize) -> Probl
     Problem { formula, builder }
 }
 
+/// A chain of implications, and clauses and lines that follow from it, each with two of the variables past the chain so
+/// that none of them shortens the chain for another: a line takes as many rounds as its part of the chain.
+pub fn chain(random: &mut Random, length: usize, clauses: usize, lines: usize) -> Problem {
+    let mut all: Vec<Vec<i32>> = (1..length as i32).map(|variable| vec![-variable, variable + 1]).collect();
+    while all.len() < clauses {
+        all.push(followed(random, length));
+    }
+    random.shuffle(&mut all);
+    let formula = Formula { variables: 64, clauses: all };
+    let mut builder = Builder::new(&formula);
+    while builder.lines < lines {
+        let line = builder.store.clause(&followed(random, length));
+        if line != 1 {
+            builder.write_line(0x52, line, Literals::default());
+        }
+    }
+    Problem { formula, builder }
+}
+
+fn followed(random: &mut Random, length: usize) -> Vec<i32> {
+    let from = random.between(1, length - 1);
+    let to = random.between(from + 1, length);
+    let mut clause = vec![-(from as i32), to as i32];
+    for _ in 0..2 {
+        clause.push(literal(random, length + 1, 64));
+    }
+    clause
+}
+
+/// Clauses in which variable 64 is nowhere false, and PR lines by that pure literal: the witness makes the line's other
+/// literals false, so that what not-g satisfies is satisfied.
+pub fn pure(random: &mut Random, clauses: usize, lines: usize) -> Problem {
+    let mut formula = random_clauses(random, 63, clauses, 4);
+    for clause in formula.clauses.iter_mut().step_by(3) {
+        clause.push(64);
+    }
+    formula.variables = 64;
+    let mut builder = Builder::new(&formula);
+    while builder.lines < lines {
+        let (first, second) = (random.between(1, 32) as i32, random.between(33, 63) as i32);
+        let line = builder.store.clause(&[first, -second, 64]);
+        let mut witness = Literals::default();
+        for literal in [-first, second, 64] {
+            witness.set(literal);
+        }
+        builder.write_line(0x50, line, witness);
+    }
+    Problem { formula, builder }
+}
+
 /// A problem of a random family, small enough for a run of many.
 pub fn any(random: &mut Random) -> Problem {
-    match random.below(5) {
+    match random.below(7) {
         0 => {
             let holes = random.between(1, 4);
             let pigeons = if random.percent(70) { holes + 1 } else { random.between(1, holes) };
@@ -211,6 +262,14 @@ pub fn any(random: &mut Random) -> Problem {
             cardinality(variables, least, most)
         }
         3 => wide_parities(random),
+        4 => {
+            let (length, clauses, lines) = (random.between(2, 40), random.between(40, 100), random.between(1, 20));
+            chain(random, length, clauses, lines)
+        }
+        5 => {
+            let (clauses, lines) = (random.between(10, 60), random.between(1, 10));
+            pure(random, clauses, lines)
+        }
         _ => {
             let variables = random.between(3, 12);
             let clauses = variables * random.between(3, 7);

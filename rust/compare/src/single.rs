@@ -8,10 +8,11 @@ pub const WORDS: [&str; 5] = ["and", "not", "cof", "lits", "eval"];
 /// A few commands over one table, the words among those given.
 pub fn commands(random: &mut Random, words: &[&str]) -> Vec<String> {
     let mut table = good(random);
+    // More than a third is refused: a table nearly full gives several commands, the other kinds give one to three.
     match random.below(20) {
-        0..=7 => damaged(random, words, &mut table),
-        8..=9 => wrong_size(random, words, &mut table),
-        10..=15 => nearly_full(random, words, &table),
+        0..=9 => damaged(random, words, &mut table),
+        10..=11 => wrong_size(random, words, &mut table),
+        12..=16 => nearly_full(random, words, &table),
         _ => roomy(random, words, &mut table),
     }
 }
@@ -58,7 +59,7 @@ fn wrong_size(random: &mut Random, words: &[&str], table: &mut Table) -> Vec<Str
 fn nearly_full(random: &mut Random, words: &[&str], table: &Table) -> Vec<String> {
     let word = random.pick(words);
     let operands = operands(random, word, table);
-    let steps = if table.count > 300 { 1 } else { random.between(1, 12) };
+    let steps = if table.count > 300 || word == "eval" { 1 } else { random.between(1, 12) };
     let first = if random.percent(70) { 0 } else { random.below(10) };
     let sizes = (first..first + steps).map(|room| table.size + room);
     sizes.filter(|size| *size <= 65_536).map(|size| text(word, &Table { size, ..table.clone() }, &operands)).collect()
@@ -95,13 +96,22 @@ fn operands(random: &mut Random, word: &str, table: &Table) -> String {
         "not" => f.to_string(),
         "eval" => format!("{f} {}", word_of(random)),
         _ => {
-            let (positive, mut negative) = (word_of(random), word_of(random));
+            let (positive, mut negative) = (literals(random, table), literals(random, table));
             if random.percent(80) {
                 negative &= !positive;
             }
             format!("{f} {positive} {negative}")
         }
     }
+}
+
+/// Few of the table's variables, which leaves much of a diagram, or any word.
+fn literals(random: &mut Random, table: &Table) -> u64 {
+    if random.percent(30) {
+        return word_of(random);
+    }
+    let chosen = (0..random.below(3)).map(|_| table.places[random.below(table.places.len())].0);
+    chosen.filter(|variable| (1..=64).contains(variable)).fold(0, |word, variable| word | 1 << (variable - 1))
 }
 
 /// A node of the table, often one of the last, which are the roots; sometimes one past the count.
@@ -114,7 +124,7 @@ fn operand(random: &mut Random, table: &Table) -> usize {
     if count > 5_000 && random.percent(90) {
         return random.below(2_000);
     }
-    if random.percent(50) {
+    if random.percent(70) {
         return random.between(count.saturating_sub(4), count - 1);
     }
     random.below(count)
