@@ -20,7 +20,6 @@ struct Options {
 fn main() {
     let options = options();
     let wanted = |word: &str| options.only.as_deref().is_none_or(|only| only == word);
-    println!("{:<44} {:>12} {:>12} {:>8}   answer", "microseconds a call", "library", "reference", "ratio");
     if wanted("single") {
         time_all(&options, &workloads::single());
     }
@@ -51,6 +50,7 @@ fn options() -> Options {
 }
 
 fn time_all(options: &Options, workloads: &[Workload]) {
+    println!("{:<44} {:>12} {:>12} {:>8}   answer", "microseconds a call", "library", "reference", "ratio");
     let mut filters = [Filter::start(&options.driver), Filter::start(&options.reference)];
     for workload in workloads {
         let answers = filters.each_mut().map(|filter| answer(filter, &workload.command));
