@@ -1,8 +1,10 @@
 // The calls of the face for Rust and C to link: each has the face's contract and nothing of its own.
-use checker::Evaluated;
+use operate::Operation;
+use single::Evaluated;
+use single::call::Single;
 use table::NodeNo;
 ghost use mathlib.Core.Path.{_≡_};
-ghost use Rattle.checker.specs.Single.{evaluation};
+ghost use Rattle.single.specs.Single.{evaluation, madeOf, operation};
 
 // Whether the node is 1 under the word's assignment; or 7, 26, 13.
 #[no_mangle]
@@ -17,4 +19,64 @@ pub extern "C" fn cablesalak_evaluate(
     ensures { λ r. ⌜ r ≡ evaluation (now (vars .entry)) (now (lows .entry)) (now (highs .entry)) count node word ⌝ }
 {
     checker::evaluate(vars, lows, highs, count, NodeNo(node), word)
+}
+
+// The conjunction of f and g; or 7, 26, 13, 23.
+#[no_mangle]
+pub extern "C" fn cablesalak_conjunction(
+    vars: &mut [u8],
+    lows: &mut [u16],
+    highs: &mut [u16],
+    count: usize,
+    f: u16,
+    g: u16,
+) -> Single
+    ensures { λ r. ⌜ madeOf (now (vars .exit)) (now (lows .exit)) (now (highs .exit)) r ≡ operation Operation.Conjunction (now (vars .entry)) (now (lows .entry)) (now (highs .entry)) count f g ⌝ }
+{
+    checker::conjunction(vars, lows, highs, count, NodeNo(f), NodeNo(g))
+}
+
+// The negation of f; or 7, 26, 13, 23.
+#[no_mangle]
+pub extern "C" fn cablesalak_negation(
+    vars: &mut [u8],
+    lows: &mut [u16],
+    highs: &mut [u16],
+    count: usize,
+    f: u16,
+) -> Single
+    ensures { λ r. ⌜ madeOf (now (vars .exit)) (now (lows .exit)) (now (highs .exit)) r ≡ operation Operation.Negation (now (vars .entry)) (now (lows .entry)) (now (highs .entry)) count f 1 ⌝ }
+{
+    checker::negation(vars, lows, highs, count, NodeNo(f))
+}
+
+// f cofactored by the diagram g; or 7, 26, 13, 27, 23.
+#[no_mangle]
+pub extern "C" fn cablesalak_cofactor(
+    vars: &mut [u8],
+    lows: &mut [u16],
+    highs: &mut [u16],
+    count: usize,
+    f: u16,
+    g: u16,
+) -> Single
+    ensures { λ r. ⌜ madeOf (now (vars .exit)) (now (lows .exit)) (now (highs .exit)) r ≡ operation Operation.Cofactor (now (vars .entry)) (now (lows .entry)) (now (highs .entry)) count f g ⌝ }
+{
+    checker::cofactor(vars, lows, highs, count, NodeNo(f), NodeNo(g))
+}
+
+// f with the variables of `positive` made true and those of `negative` false; or 7, 26, 13, 15, 23.
+#[no_mangle]
+pub extern "C" fn cablesalak_cofactor_literals(
+    vars: &mut [u8],
+    lows: &mut [u16],
+    highs: &mut [u16],
+    count: usize,
+    f: u16,
+    positive: u64,
+    negative: u64,
+) -> Single
+    ensures { λ r. ⌜ madeOf (now (vars .exit)) (now (lows .exit)) (now (highs .exit)) r ≡ operation (Operation.Literals positive negative) (now (vars .entry)) (now (lows .entry)) (now (highs .entry)) count f 1 ⌝ }
+{
+    checker::cofactor_literals(vars, lows, highs, count, NodeNo(f), positive, negative)
 }

@@ -12,6 +12,7 @@ ghost use Rattle.single.specs.Single.{sharesVariable, operandRefusal, ma
 ghost use Rattle.single.specs.Inner.{OneOperand, placingOf};
 
 // What a single call says: 01's number, the node (0 with a refusal) and the count.
+#[repr(C)]
 pub struct Single {
     pub number: u8,
     pub node: NodeNo,

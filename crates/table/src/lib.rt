@@ -9,6 +9,7 @@ ghost use Rattle.table.specs.Indexed.{bucket, insert, indexMade, tableOf
 pub mod test;
 
 // A node's number in the table. Entry numbers of a proof file are another kind.
+#[repr(C)]
 pub struct NodeNo(pub u16);
 
 // What looking up gives: the place that holds the node, if one does.

@@ -1,0 +1,85 @@
+// The face of the library: the calls open to others. Each tests for itself all that it needs, and none has a `requires`.
+use operate::Operation;
+use single::Evaluated;
+use single::call::Single;
+use table::NodeNo;
+ghost use mathlib.Core.Path.{_≡_};
+ghost use Rattle.single.specs.Single.{evaluation, madeOf, operation};
+
+// Whether the node is 1 under the word's assignment; or 7, 26, 13.
+pub fn evaluate(
+    vars: &[u8],
+    lows: &[u16],
+    highs: &[u16],
+    count: usize,
+    node: NodeNo,
+    word: u64,
+) -> Evaluated
+    ensures { λ r. ⌜ r ≡ evaluation (now (vars .entry)) (now (lows .entry)) (now (highs .entry)) count (node .0) word ⌝ }
+{
+    single::evaluate(vars, lows, highs, count, node, word)
+}
+
+// The conjunction of f and g; or 7, 26, 13, 23.
+pub fn conjunction(
+    vars: &mut [u8],
+    lows: &mut [u16],
+    highs: &mut [u16],
+    count: usize,
+    f: NodeNo,
+    g: NodeNo,
+) -> Single
+    ensures { λ r. ⌜ madeOf (now (vars .exit)) (now (lows .exit)) (now (highs .exit)) r ≡ operation Operation.Conjunction (now (vars .entry)) (now (lows .entry)) (now (highs .entry)) count (f .0) (g .0) ⌝ }
+{
+    single::call::call(vars, lows, highs, count, Operation::Conjunction, f, g)
+}
+
+// The negation of f; or 7, 26, 13, 23.
+pub fn negation(
+    vars: &mut [u8],
+    lows: &mut [u16],
+    highs: &mut [u16],
+    count: usize,
+    f: NodeNo,
+) -> Single
+    ensures { λ r. ⌜ madeOf (now (vars .exit)) (now (lows .exit)) (now (highs .exit)) r ≡ operation Operation.Negation (now (vars .entry)) (now (lows .entry)) (now (highs .entry)) count (f .0) 1 ⌝ }
+{
+    single::call::call(vars, lows, highs, count, Operation::Negation, f, NodeNo(1))
+}
+
+// f cofactored by the diagram g; or 7, 26, 13, 27, 23.
+pub fn cofactor(
+    vars: &mut [u8],
+    lows: &mut [u16],
+    highs: &mut [u16],
+    count: usize,
+    f: NodeNo,
+    g: NodeNo,
+) -> Single
+    ensures { λ r. ⌜ madeOf (now (vars .exit)) (now (lows .exit)) (now (highs .exit)) r ≡ operation Operation.Cofactor (now (vars .entry)) (now (lows .entry)) (now (highs .entry)) count (f .0) (g .0) ⌝ }
+{
+    single::call::call(vars, lows, highs, count, Operation::Cofactor, f, g)
+}
+
+// f with the variables of `positive` made true and those of `negative` false; or 7, 26, 13, 15, 23.
+pub fn cofactor_literals(
+    vars: &mut [u8],
+    lows: &mut [u16],
+    highs: &mut [u16],
+    count: usize,
+    f: NodeNo,
+    positive: u64,
+    negative: u64,
+) -> Single
+    ensures { λ r. ⌜ madeOf (now (vars .exit)) (now (lows .exit)) (now (highs .exit)) r ≡ operation (Operation.Literals positive negative) (now (vars .entry)) (now (lows .entry)) (now (highs .entry)) count (f .0) 1 ⌝ }
+{
+    single::call::call(
+        vars,
+        lows,
+        highs,
+        count,
+        Operation::Literals(positive, negative),
+        f,
+        NodeNo(1),
+    )
+}
