@@ -1,0 +1,82 @@
+-- The diagram of two words is the clause from its greatest variable to its least; it is 1 where a variable has both signs, 0 where no
+-- variable has one. The idea: the same values. Assumes nothing.
+use mathlib.Core.Path.{_≡_, refl, sym, ap, _∙_}
+use mathlib.Core.Bool.{Bool, true, false, not, _&&_, _||_, cond}
+use Prim.Native.Nat.{ℕ, zero, suc, _+_, _≤_, _<_, _^_}
+use native.Mathlib.Omega.{arith}
+use native.Mathlib.Decide.{ℕ-discrete}
+use lib.Bits.{bitAnd, and-lt}
+use Rattle.meaning.specs.Diagram.{Assignment, holds, Diagram, leaf, value, Reduced}
+use Rattle.meaning.specs.Words.{inWord}
+use Rattle.meaning.proofs.Booleans.{t≢f, both-ways, or-cases, or-left, or-right, and-both, and-commutes}
+use Rattle.meaning.proofs.Values.{diagram-is}
+use Rattle.meaning.proofs.Clauses.{clauseFrom, clauseFrom-reduced, clauseFrom-true, true-clauseFrom, clause-skip, clause-tautology}
+use Rattle.clause.specs.Words.{wordsValue, clauseOfWords}
+use Rattle.clause.proofs.Words.{and-in-word, zero-in-word, some-in-word}
+
+-- the literal of a variable that the assignment makes true
+literal-is : (p n h : Bool) → ((p && h) || (n && not h)) ≡ cond h p n
+literal-is true true true = refl
+literal-is true false true = refl
+literal-is false true true = refl
+literal-is false false true = refl
+literal-is true true false = refl
+literal-is true false false = refl
+literal-is false true false = refl
+literal-is false false false = refl
+
+module _ (p n : ℕ) where
+  -- the clause of the variables from i on, k of them
+  abbrev pub clauseWords : ℕ → ℕ → Diagram
+  clauseWords k i = clauseFrom (inWord p) (inWord n) k i
+
+  module _ (a : Assignment) where
+    words-step : (k : ℕ) → wordsValue p n (suc k) a ≡ (cond (holds a (suc k)) (inWord p (suc k)) (inWord n (suc k)) || wordsValue p n k a)
+    unfolding wordsValue
+    words-step k = rw (literal-is (inWord p (suc k)) (inWord n (suc k)) (holds a (suc k)))
+
+    words-true : (k v : ℕ) → 1 ≤ v → v ≤ k → cond (holds a v) (inWord p v) (inWord n v) ≡ true → wordsValue p n k a ≡ true
+    words-true zero v x y e = absurd (omega arith)
+    words-true (suc k) v x y e = words-step k ∙ go (ℕ-discrete v (suc k)) (λ ne. words-true k v x (omega arith) e)
+      where
+        go : Dec (v ≡ suc k) → ((v ≡ suc k → ⊥) → wordsValue p n k a ≡ true) → (cond (holds a (suc k)) (inWord p (suc k)) (inWord n (suc k)) || wordsValue p n k a) ≡ true
+        go (yes q) ih = or-left (cond (holds a (suc k)) (inWord p (suc k)) (inWord n (suc k))) (wordsValue p n k a) (rw (← q) e)
+        go (no ne) ih = or-right (cond (holds a (suc k)) (inWord p (suc k)) (inWord n (suc k))) (wordsValue p n k a) (ih ne)
+
+    true-words : {A : Type 0} (k : ℕ) → wordsValue p n k a ≡ true → ((v : ℕ) → 1 ≤ v → v ≤ k → cond (holds a v) (inWord p v) (inWord n v) ≡ true → A) → A
+    unfolding wordsValue
+    true-words zero e f = t≢f (sym e)
+    true-words (suc k) e f =
+        or-cases (cond (holds a (suc k)) (inWord p (suc k)) (inWord n (suc k))) (wordsValue p n k a) (sym (words-step k) ∙ e)
+        (λ t. f (suc k) (omega arith) (omega arith) t) (λ t. true-words k t (λ v x y. f v x (omega arith)))
+
+  pub words-reduced : (k i : ℕ) → i + k ≡ 65 → Reduced i 65 (clauseWords k i)
+  words-reduced k i e = clauseFrom-reduced (inWord p) (inWord n) k i 65 (sym e)
+
+  pub words-are : clauseOfWords p n ≡ clauseWords 64 1
+  unfolding clauseOfWords
+  words-are = diagram-is 64 (wordsValue p n 64) (clauseWords 64 1) (words-reduced 64 1 refl) λ a len.
+      both-ways (wordsValue p n 64 a) (value (clauseWords 64 1) a)
+      (λ t. true-words a 64 t (λ v x y e. clauseFrom-true (inWord p) (inWord n) a 64 1 v x (omega arith) e))
+      (λ t. true-clauseFrom (inWord p) (inWord n) a 64 1 t (λ v x y e. words-true a 64 v x (omega arith) e))
+
+  -- "a clause with both signs is the diagram 1" (01, The formula)
+  pub both-signs : p < 2 ^ 64 → n < 2 ^ 64 → (bitAnd p n ≡ 0 → ⊥) → clauseOfWords p n ≡ leaf true
+  both-signs hp hn ne =
+      words-are
+      ∙ some-in-word 64 (bitAnd p n) (and-lt 64 p n hp hn) ne λ v x y e.
+      let b : (inWord p v ≡ true) × (inWord n v ≡ true) = and-both (inWord p v) (inWord n v) (sym (and-in-word p n v) ∙ e) in
+      clause-tautology (inWord p) (inWord n) 64 1 v x (omega arith) (b .0) (b .1)
+
+  -- no variable has both
+  pub one-sign : bitAnd p n ≡ 0 → (v : ℕ) → (inWord n v && inWord p v) ≡ false
+  one-sign e v = and-commutes (inWord n v) (inWord p v) ∙ sym (and-in-word p n v) ∙ ap (λ (w : ℕ). inWord w v) e ∙ zero-in-word v
+
+-- "an empty clause is 0" (01, The formula)
+pub no-literal : clauseOfWords 0 0 ≡ leaf false
+unfolding clauseFrom
+no-literal = words-are 0 0 ∙ go 64 1
+  where
+    go : (k i : ℕ) → clauseWords 0 0 k i ≡ leaf false
+    go zero i = refl
+    go (suc k) i = clause-skip (inWord 0) (inWord 0) k i (zero-in-word i) (zero-in-word i) ∙ go k (suc i)

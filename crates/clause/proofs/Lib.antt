@@ -1,0 +1,5 @@
+pub mod Words
+pub mod Diagrams
+pub mod Making
+pub mod Literals
+pub mod Values
