@@ -5,7 +5,7 @@ use mathlib.Core.List.{List, [], _∷_}
 use native.Mathlib.Decide.{ℕ-discrete}
 use Prim.Native.Nat.{ℕ}
 use Rattle.meaning.specs.Diagram.{Diagram, leaf, node, same?, diagramFrom, valueFrom}
-use Rattle.meaning.specs.Operations.{Literal, clause, cofactor, isUnit}
+use Rattle.meaning.specs.Operations.{Literal, clause, conjunction, cofactor, isUnit}
 use Rattle.meaning.specs.Rules.{rup, Line}
 
 abbrev variable : ℕ → Diagram
@@ -39,3 +39,19 @@ I-shown = refl
 I-rounds : I-line .rounds ≡ 2
 unfolding rup I-line clause diagramFrom valueFrom ℕ-discrete
 I-rounds = refl
+
+-- x2 and (x1 or x3)
+H-diagram : Diagram
+unfolding conjunction
+H-diagram = conjunction 3 (variable 2) (two 1 3)
+
+-- x1 is its root
+H-root : H-diagram ≡ node 1 (node 2 (leaf false) (variable 3)) (variable 2)
+unfolding H-diagram clause diagramFrom valueFrom ℕ-discrete same?
+H-root = refl
+
+-- which of 1, -1, 2, -2, 3, -3 are its units
+H-units : (isUnit 3 H-diagram 1 true ∷ isUnit 3 H-diagram 1 false ∷ isUnit 3 H-diagram 2 true ∷ isUnit 3 H-diagram 2 false ∷ isUnit 3 H-diagram 3 true ∷ isUnit 3 H-diagram 3 false ∷ [])
+    ≡ false ∷ false ∷ true ∷ false ∷ false ∷ false ∷ []
+unfolding isUnit H-diagram clause diagramFrom valueFrom ℕ-discrete same?
+H-units = refl

@@ -1,6 +1,15 @@
 pub mod Canonical
+pub mod Booleans
+pub mod Values
+pub mod Pointwise
+pub mod PointwiseSteps
+pub mod Clauses
+pub mod Units
 pub mod Nearest
 pub mod Cofactor
 pub mod CofactorSteps
 pub mod Words
+pub mod Soundness
+pub mod Ends
+pub mod Widths
 pub mod Examples
