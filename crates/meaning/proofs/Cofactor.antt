@@ -14,6 +14,7 @@ use Rattle.meaning.specs.Diagram.{Assignment, Diagram, leaf, node, same?
 use Rattle.meaning.specs.Operations.{nearest, cofactor}
 use Rattle.meaning.proofs.Canonical.{canonical, branch-same, reduced-from, diagramFrom-cong, diagramFrom-reduced, diagramFrom-value, side, side-reduced, side-value, side-zero}
 use Rattle.meaning.proofs.Nearest.{nearest-self, nearest-stay, nearest-turn, Satisfied, sat-of}
+use Rattle.meaning.proofs.Booleans.{or-neither}
 
 pub cofactor-value : (n : ℕ) (f g : Diagram) (a : Assignment) → length a ≡ n → value (cofactor n f g) a ≡ value f (nearest n (value g) a)
 unfolding cofactor
@@ -165,10 +166,6 @@ byBranches (suc k) i f g =
       ]
     ]
 
-or-false : (x y : Bool) → (x || y) ≡ false → (x ≡ false) × (y ≡ false)
-or-false true y e = (e, cc)
-or-false false y e = (refl, e)
-
 cofactorFrom-branches : (k i e : ℕ) (f g : Diagram) → e ≡ i + k → Reduced i e f → Reduced i e g → g ≢ leaf false
     → cofactorFrom k i f g ≡ byBranches k i f g
 unfolding byBranches
@@ -188,7 +185,7 @@ cofactorFrom-branches (suc k) i e f g q of og nz =
           | true ↦ elim x [ yes _ ↦ B true | no _ ↦ elim y [ yes _ ↦ B false | no _ ↦ branch i (B false) (B true) ] ]
         ])
     go false p x y ih =
-        let d : (atRoot i f ≡ false) × (atRoot i g ≡ false) = or-false (atRoot i f) (atRoot i g) p in
+        let d : (atRoot i f ≡ false) × (atRoot i g ≡ false) = or-neither (atRoot i f) (atRoot i g) p in
         let of′ : Reduced (suc i) e f = not-root i e f of (d .0) in
         let og′ : Reduced (suc i) e g = not-root i e g og (d .1) in
         level-skip k i e f g (omega arith) of′ og′ nz ∙ ih f g of′ og′ nz

@@ -10,6 +10,7 @@ use Rattle.meaning.specs.Operations.{cofactor}
 use Rattle.meaning.proofs.Canonical.{unique, side, side-reduced, side-zero}
 use Rattle.meaning.proofs.Nearest.{nearest-is, sat-of}
 use Rattle.meaning.proofs.Cofactor.{cofactor-value, cofactor-reduced, cofactor-where, cofactorFrom, cofactorFrom-leaf, sidesFrom, level-both, level-one, cofactor-from, Sides, one, both, sides}
+use Rattle.meaning.proofs.Values.{reduced-to}
 
 -- ---- at variable x, from which on all variables of f and g are
 
@@ -63,10 +64,6 @@ cofactor-self n g og nz =
 
 -- ---- the variable count
 
-pub reduced-within : (i e d : ℕ) (t : Diagram) → e ≤ d → Reduced i e t → Reduced i d t
-reduced-within i e d (leaf b) p o = tt
-reduced-within i e d (node v l h) p o = (o .0, omega arith, o .2, reduced-within (suc v) e d l p (o .3), reduced-within (suc v) e d h p (o .4))
-
 levels-more : (k j i e m : ℕ) (f g : Diagram) → e ≡ i + k → m ≡ k + j → Reduced i e f → Reduced i e g → g ≢ leaf false
     → cofactorFrom m i f g ≡ cofactorFrom k i f g
 levels-more zero j i e m (leaf b) g p q of og nz = cofactorFrom-leaf m i b g ∙ sym (cofactorFrom-leaf zero i b g)
@@ -76,7 +73,7 @@ levels-more (suc k) j i e m f g p q of og nz =
     rw s (go (sides i e g og nz) (λ b. levels-more k j (suc i) e (k + j) (side i b f) (side i b g) (omega arith) refl (side-reduced i e b f of) (side-reduced i e b g og)))
   where
     wide : (t : Diagram) → Reduced i e t → Reduced i (e + j) t
-    wide t o = reduced-within i e (e + j) t (omega arith) o
+    wide t o = reduced-to i e (e + j) t (omega arith) o
 
     go : Sides i g → ((b : Bool) → side i b g ≢ leaf false → sidesFrom (k + j) i f g b ≡ sidesFrom k i f g b) → cofactorFrom (suc (k + j)) i f g ≡ cofactorFrom (suc k) i f g
     go (one b z n) ih = level-one (k + j) i (e + j) (omega arith) f g (wide f of) (wide g og) b z n ∙ ih (not b) n ∙ sym (level-one k i e p f g of og b z n)

@@ -1,11 +1,11 @@
 -- The rows of 01's table of cases that are about the rules alone, by computation from the literal definitions. Assumes nothing.
 use mathlib.Core.Path.{_≡_, refl}
-use mathlib.Core.Bool.{Bool, true, false}
-use mathlib.Core.List.{List, [], _∷_}
+use mathlib.Core.Bool.{true, false}
+use mathlib.Core.List.{[], _∷_}
 use native.Mathlib.Decide.{ℕ-discrete}
 use Prim.Native.Nat.{ℕ}
 use Rattle.meaning.specs.Diagram.{Diagram, leaf, node, same?, diagramFrom, valueFrom}
-use Rattle.meaning.specs.Operations.{Literal, clause, conjunction, cofactor, isUnit}
+use Rattle.meaning.specs.Operations.{clause, conjunction, cofactor, isUnit}
 use Rattle.meaning.specs.Rules.{rup, Line}
 
 abbrev variable : ℕ → Diagram

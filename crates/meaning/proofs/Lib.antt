@@ -1,6 +1,7 @@
 pub mod Canonical
 pub mod Booleans
 pub mod Values
+pub mod Assignments
 pub mod Pointwise
 pub mod PointwiseSteps
 pub mod Clauses
@@ -8,8 +9,9 @@ pub mod Units
 pub mod Nearest
 pub mod Cofactor
 pub mod CofactorSteps
-pub mod Words
 pub mod Soundness
 pub mod Ends
 pub mod Widths
+pub mod LineWidths
+pub mod Words
 pub mod Examples

@@ -2,9 +2,9 @@
 -- variable by variable: keep the first as it is if g can then be satisfied, else turn it. The idea: 2^(n-i) outweighs all later variables.
 -- Assumes nothing.
 use mathlib.Core.Path.{_≡_, refl, sym, ap, ap₂, _∙_}
-use mathlib.Core.Logic.{_≢_, _⊎_, inl, inr}
+use mathlib.Core.Logic.{_≢_, inl, inr}
 use mathlib.Core.Bool.{Bool, true, false, not, cond, Bool·beq}
-use mathlib.Core.List.{List, [], _∷_, _++_, map}
+use mathlib.Core.List.{List, [], _∷_}
 use mathlib.Core.Option.{Option, none, some}
 use Prim.Native.Nat.{ℕ, zero, suc, _+_, _-_, _^_, _≤_, _<_}
 use native.Mathlib.Omega.{arith}
@@ -15,9 +15,8 @@ use borrow.Author.Tests.{leb-true, leb-false}
 use Rattle.meaning.specs.Diagram.{Assignment, holds, Diagram, leaf, valueFrom, Reduced}
 use Rattle.meaning.specs.Operations.{sum, distance, assignments, nearer, nearestOf, orElse, nearest}
 use Rattle.meaning.proofs.Canonical.{unique}
-
-pub t≢f : {A : Type 0} → true ≡ false → A
-t≢f e = absurd (let z : _≡_ {A = ℕ} 0 1 = cc in omega arith)
+use Rattle.meaning.proofs.Booleans.{t≢f}
+use Rattle.meaning.proofs.Assignments.{Listed, listed, AllLong, all-long}
 
 -- ---- distance, the first variable apart
 
@@ -117,57 +116,6 @@ pub record Nearest (n : ℕ) (g : Assignment → Bool) (a b : Assignment) : Type
 pub nearest-unique : (n : ℕ) (g : Assignment → Bool) (a b c : Assignment) → length a ≡ n → Nearest n g a b → Nearest n g a c → b ≡ c
 nearest-unique n g a b c p N M =
     distance-injective n a b c p (N .long) (M .long) (omega (arith, N .least c (M .long) (M .satisfies), M .least b (N .long) (N .satisfies)))
-
--- ---- `assignments n` lists every assignment of n variables and no other
-
-abbrev Listed : Assignment → List Assignment → Type 0
-Listed a [] = ⊥
-Listed a (b ∷ bs) = (a ≡ b) ⊎ Listed a bs
-
-listed-left : (a : Assignment) (bs cs : List Assignment) → Listed a bs → Listed a (bs ++ cs)
-listed-left a [] cs h = absurd h
-listed-left a (b ∷ bs) cs (inl e) = inl e
-listed-left a (b ∷ bs) cs (inr h) = inr (listed-left a bs cs h)
-
-listed-right : (a : Assignment) (bs cs : List Assignment) → Listed a cs → Listed a (bs ++ cs)
-listed-right a [] cs h = h
-listed-right a (b ∷ bs) cs h = inr (listed-right a bs cs h)
-
-listed-map : (x : Bool) (a : Assignment) (bs : List Assignment) → Listed a bs → Listed (x ∷ a) (map (_∷_ x) bs)
-listed-map x a [] h = absurd h
-listed-map x a (b ∷ bs) (inl e) = inl (ap (_∷_ x) e)
-listed-map x a (b ∷ bs) (inr h) = inr (listed-map x a bs h)
-
-listed : (n : ℕ) (a : Assignment) → length a ≡ n → Listed a (assignments n)
-unfolding assignments
-listed zero [] p = inl refl
-listed zero (x ∷ a) p = absurd (omega arith)
-listed (suc n) [] p = absurd (omega arith)
-listed (suc n) (false ∷ a) p = listed-left (false ∷ a) (map (_∷_ false) (assignments n)) (map (_∷_ true) (assignments n)) (listed-map false a (assignments n) (listed n a (omega arith)))
-listed (suc n) (true ∷ a) p = listed-right (true ∷ a) (map (_∷_ false) (assignments n)) (map (_∷_ true) (assignments n)) (listed-map true a (assignments n) (listed n a (omega arith)))
-
-AllLong : ℕ → List Assignment → Type 0
-AllLong n bs = (a : Assignment) → Listed a bs → length a ≡ n
-
-long-append : (n : ℕ) (bs cs : List Assignment) → AllLong n bs → AllLong n cs → AllLong n (bs ++ cs)
-unfolding AllLong
-long-append n [] cs p q a h = q a h
-long-append n (b ∷ bs) cs p q a (inl e) = p a (inl e)
-long-append n (b ∷ bs) cs p q a (inr h) = long-append n bs cs (λ a h. p a (inr h)) q a h
-
-long-map : (n : ℕ) (x : Bool) (bs : List Assignment) → AllLong n bs → AllLong (suc n) (map (_∷_ x) bs)
-unfolding AllLong
-long-map n x [] p a h = absurd h
-long-map n x (b ∷ bs) p a (inl e) = rw e (ap suc (p b (inl refl)))
-long-map n x (b ∷ bs) p a (inr h) = long-map n x bs (λ a h. p a (inr h)) a h
-
-all-long : (n : ℕ) → AllLong n (assignments n)
-unfolding AllLong assignments
-all-long zero a (inl e) = rw e
-all-long zero a (inr h) = absurd h
-all-long (suc n) a h =
-    long-append (suc n) (map (_∷_ false) (assignments n)) (map (_∷_ true) (assignments n))
-    (long-map n false (assignments n) (all-long n)) (long-map n true (assignments n) (all-long n)) a h
 
 -- ---- the literal `nearest` is the nearest
 

@@ -3,7 +3,6 @@
 use mathlib.Core.Path.{_≡_, refl, sym, ap, _∙_}
 use mathlib.Core.Logic.{_≢_}
 use mathlib.Core.Bool.{Bool, true, false, not, _&&_, _||_, cond, Bool·beq}
-use mathlib.Core.List.{List, [], _∷_, _++_, map}
 use Prim.Native.Nat.{ℕ, zero, suc, _-_, _≤_, _<_}
 use native.Mathlib.Omega.{arith}
 use native.Mathlib.Decide.{ℕ-discrete}
@@ -11,50 +10,12 @@ use lib.ListN.{length, set, replicate, length-set, length-replicate, getD-replic
 use lib.Seq.{getD-set-same, getD-set-other}
 use lib.Dec.{eqb}
 use Rattle.meaning.specs.Diagram.{Assignment, holds, Diagram, leaf, node, same?, same, valueFrom, value, Reduced}
-use Rattle.meaning.specs.Operations.{assignments, every, isUnit}
+use Rattle.meaning.specs.Operations.{isUnit}
 use Rattle.meaning.specs.Branchwise.{unitAt}
 use Rattle.meaning.proofs.Canonical.{reduced-from, unique}
 use Rattle.meaning.proofs.Booleans.{t≢f, both-ways, not-true, and-both, or-cases, or-left, or-right, eqb-eq, eq-eqb, beq-eq}
+use Rattle.meaning.proofs.Assignments.{every-all, all-every}
 use Rattle.meaning.proofs.Values.{reduced-to, value-set}
-
--- ---- every assignment
-
-every-append : (p : Assignment → Bool) (xs ys : List Assignment) → every p xs ≡ true → every p ys ≡ true → every p (xs ++ ys) ≡ true
-unfolding every
-every-append p [] ys e f = f
-every-append p (x ∷ xs) ys e f =
-    let b : (p x ≡ true) × (every p xs ≡ true) = and-both (p x) (every p xs) e in rw (b .0) (every-append p xs ys (b .1) f)
-
-append-every : (p : Assignment → Bool) (xs ys : List Assignment) → every p (xs ++ ys) ≡ true → (every p xs ≡ true) × (every p ys ≡ true)
-unfolding every
-append-every p [] ys e = (refl, e)
-append-every p (x ∷ xs) ys e =
-    let b : (p x ≡ true) × (every p (xs ++ ys) ≡ true) = and-both (p x) (every p (xs ++ ys)) e in
-    let c : (every p xs ≡ true) × (every p ys ≡ true) = append-every p xs ys (b .1) in
-    (rw (b .0) (c .0), c .1)
-
-every-map : (p : Assignment → Bool) (b : Bool) (xs : List Assignment) → every p (map (_∷_ b) xs) ≡ every (λ a. p (b ∷ a)) xs
-unfolding every
-every-map p b [] = refl
-every-map p b (x ∷ xs) = ap (_&&_ (p (b ∷ x))) (every-map p b xs)
-
-pub every-all : (n : ℕ) (p : Assignment → Bool) → every p (assignments n) ≡ true → (a : Assignment) → length a ≡ n → p a ≡ true
-unfolding every assignments
-every-all zero p e [] q = and-both (p []) true e .0
-every-all zero p e (b ∷ a) q = absurd (omega arith)
-every-all (suc n) p e [] q = absurd (omega arith)
-every-all (suc n) p e (false ∷ a) q =
-    every-all n (λ a. p (false ∷ a)) (sym (every-map p false (assignments n)) ∙ append-every p (map (_∷_ false) (assignments n)) (map (_∷_ true) (assignments n)) e .0) a (omega arith)
-every-all (suc n) p e (true ∷ a) q =
-    every-all n (λ a. p (true ∷ a)) (sym (every-map p true (assignments n)) ∙ append-every p (map (_∷_ false) (assignments n)) (map (_∷_ true) (assignments n)) e .1) a (omega arith)
-
-pub all-every : (n : ℕ) (p : Assignment → Bool) → ((a : Assignment) → length a ≡ n → p a ≡ true) → every p (assignments n) ≡ true
-unfolding every assignments
-all-every zero p h = rw (h [] refl)
-all-every (suc n) p h =
-    every-append p (map (_∷_ false) (assignments n)) (map (_∷_ true) (assignments n))
-    (every-map p false (assignments n) ∙ all-every n (λ a. p (false ∷ a)) (λ a q. h (false ∷ a) (ap suc q)))
-    (every-map p true (assignments n) ∙ all-every n (λ a. p (true ∷ a)) (λ a q. h (true ∷ a) (ap suc q)))
 
 -- ---- what a unit says
 
@@ -101,6 +62,25 @@ forced-unit n f v s F = all-every n _ (λ a len. go s (holds a v) (value f a) (F
     go false true y h = ap not (h refl)
     go false false y h = refl
 
+-- ---- the units of a node
+
+module _ (w : ℕ) (l h : Diagram) (v : ℕ) (s : Bool) where
+  both-units : unitAt l v s ≡ true → unitAt h v s ≡ true → unitAt (node w l h) v s ≡ true
+  unfolding unitAt
+  both-units p q = rw (p, q)
+
+  root-unit : w ≡ v → cond s l h ≡ leaf false → unitAt (node w l h) v s ≡ true
+  unfolding unitAt
+  root-unit p q = or-right (unitAt l v s && unitAt h v s) (eqb w v && same (cond s l h) (leaf false)) (rw (eq-eqb w v p, eq-same (cond s l h) (leaf false) q))
+
+  unit-cases : {A : Type 0} → unitAt (node w l h) v s ≡ true → (unitAt l v s ≡ true → unitAt h v s ≡ true → A) → (w ≡ v → cond s l h ≡ leaf false → A) → A
+  unfolding unitAt
+  unit-cases u below root =
+      or-cases (unitAt l v s && unitAt h v s) (eqb w v && same (cond s l h) (leaf false)) u
+      (λ p. let b : (unitAt l v s ≡ true) × (unitAt h v s ≡ true) = and-both (unitAt l v s) (unitAt h v s) p in below (b .0) (b .1))
+      (λ p. let b : (eqb w v ≡ true) × (same (cond s l h) (leaf false) ≡ true) = and-both (eqb w v) (same (cond s l h) (leaf false)) p in
+      root (eqb-eq w v (b .0)) (same-eq (cond s l h) (leaf false) (b .1)))
+
 -- ---- the branchwise units are forced
 
 unitAt-forced : (f : Diagram) (v : ℕ) (s : Bool) (a : Assignment) → unitAt f v s ≡ true → holds a v ≡ not s → value f a ≡ false
@@ -108,12 +88,7 @@ unfolding unitAt valueFrom
 unitAt-forced (leaf true) v s a u e = sym u
 unitAt-forced (leaf false) v s a u e = refl
 unitAt-forced (node w l h) v s a u e =
-    or-cases (unitAt l v s && unitAt h v s) (eqb w v && same (cond s l h) (leaf false)) u
-    (λ p. let b : (unitAt l v s ≡ true) × (unitAt h v s ≡ true) = and-both (unitAt l v s) (unitAt h v s) p in
-    both (holds a w) (value h a) (value l a) (unitAt-forced h v s a (b .1) e) (unitAt-forced l v s a (b .0) e))
-    (λ p. let b : (eqb w v ≡ true) × (same (cond s l h) (leaf false) ≡ true) = and-both (eqb w v) (same (cond s l h) (leaf false)) p in
-    let w=v : w ≡ v = eqb-eq w v (b .0) in
-    here s (rw w=v e) (same-eq (cond s l h) (leaf false) (b .1)))
+    unit-cases w l h v s u (λ p q. both (holds a w) (value h a) (value l a) (unitAt-forced h v s a q e) (unitAt-forced l v s a p e)) (λ p q. here s (rw p e) q)
   where
     both : (x y z : Bool) → y ≡ false → z ≡ false → cond x y z ≡ false
     both true y z p q = p
@@ -168,9 +143,8 @@ forced-unitAt n (node w l h) v s o lo hi F = go (ℕ-discrete w v)
     (λ ne. forced-unitAt n h v s (reduced-from 1 (suc w) (suc n) h (omega arith) (o .4)) lo hi (forced-side n v w s l h o F ne lo true))
   where
     go : Dec (w ≡ v) → (w ≢ v → unitAt l v s ≡ true) → (w ≢ v → unitAt h v s ≡ true) → unitAt (node w l h) v s ≡ true
-    go (yes x) fl fh = or-right (unitAt l v s && unitAt h v s) (eqb w v && same (cond s l h) (leaf false))
-        (rw (eq-eqb w v x, eq-same (cond s l h) (leaf false) (forced-root n v w s l h o F x)))
-    go (no x) fl fh = or-left (unitAt l v s && unitAt h v s) (eqb w v && same (cond s l h) (leaf false)) (rw (fl x, fh x))
+    go (yes x) fl fh = root-unit w l h v s x (forced-root n v w s l h o F x)
+    go (no x) fl fh = both-units w l h v s (fl x) (fh x)
 
 pub isUnit-is : (n : ℕ) (f : Diagram) (v : ℕ) (s : Bool) → Reduced 1 (suc n) f → 1 ≤ v → v ≤ n → isUnit n f v s ≡ unitAt f v s
 isUnit-is n f v s o lo hi =
@@ -196,11 +170,9 @@ unfolding unitAt variableIn
 unit-in i e v s (leaf true) o nz u = u
 unit-in i e v s (leaf false) o nz u = absurd (nz refl)
 unit-in i e v s (node w l h) o nz u =
-    or-cases (unitAt l v s && unitAt h v s) (eqb w v && same (cond s l h) (leaf false)) u
-    (λ p. let b : (unitAt l v s ≡ true) × (unitAt h v s ≡ true) = and-both (unitAt l v s) (unitAt h v s) p in
-    or-right (eqb w v) (variableIn v l || variableIn v h)
-    (go (same? l (leaf false)) (λ n. unit-in (suc w) e v s l (o .3) n (b .0)) (λ n. unit-in (suc w) e v s h (o .4) n (b .1))))
-    (λ p. or-left (eqb w v) (variableIn v l || variableIn v h) (and-both (eqb w v) (same (cond s l h) (leaf false)) p .0))
+    unit-cases w l h v s u
+    (λ p q. or-right (eqb w v) (variableIn v l || variableIn v h) (go (same? l (leaf false)) (λ n. unit-in (suc w) e v s l (o .3) n p) (λ n. unit-in (suc w) e v s h (o .4) n q)))
+    (λ p q. or-left (eqb w v) (variableIn v l || variableIn v h) (eq-eqb w v p))
   where
     go : Dec (l ≡ leaf false) → (l ≢ leaf false → variableIn v l ≡ true) → (h ≢ leaf false → variableIn v h ≡ true) → (variableIn v l || variableIn v h) ≡ true
     go (yes p) fl fh = or-right (variableIn v l) (variableIn v h) (fh (λ q. o .2 (p ∙ sym q)))

@@ -1,5 +1,5 @@
 pub mod Diagram
 pub mod Operations
 pub mod Rules
-pub mod Words
 pub mod Branchwise
+pub mod Words

@@ -2,33 +2,33 @@
 -- looking at the first is looking at the place. Assumes nothing.
 use mathlib.Core.Path.{_≡_, refl}
 use mathlib.Core.List.{List, [], _∷_}
-use Prim.Native.Nat.{ℕ, suc, _+_, _-_, _*_, _≤_, _<_}
+use Prim.Native.Nat.{ℕ, _+_, _-_, _*_, _≤_, _<_}
 use native.Mathlib.Omega.{arith}
 use native.Mathlib.Numerals.{add-one}
 use lib.ListN.{length, getD, take, drop, drop-of-length-le, length-drop}
 use lib.Seq.{drop-cons, getD-drop, take-all}
 use borrow.Author.Tests.{ne-eqb}
 use Rattle.records.specs.declared.Record.the-variants.{UnknownKind, NoRecord}
-use Rattle.records.specs.Records.{number, field, recordOf, recordAt}
+use Rattle.records.specs.Records.{lowByteFirst, field, recordOf, recordAt}
 
 -- ---- numbers
 
-number-one : (l : List ℕ) → number (take 1 l) ≡ getD l 0 0
-unfolding number
-number-one [] = refl
-number-one (b ∷ bs) = omega arith
+first-one : (l : List ℕ) → lowByteFirst (take 1 l) ≡ getD l 0 0
+unfolding lowByteFirst
+first-one [] = refl
+first-one (b ∷ bs) = omega arith
 
-number-two : (l : List ℕ) → number (take 2 l) ≡ getD l 0 0 + 256 * getD l 1 0
-unfolding number
-number-two [] = refl
-number-two (b ∷ []) = omega arith
-number-two (b ∷ b′ ∷ bs) = omega arith
+first-two : (l : List ℕ) → lowByteFirst (take 2 l) ≡ getD l 0 0 + 256 * getD l 1 0
+unfolding lowByteFirst
+first-two [] = refl
+first-two (b ∷ []) = omega arith
+first-two (b ∷ b′ ∷ bs) = omega arith
 
 pub field-one : (i : ℕ) (body : List ℕ) → field i 1 body ≡ getD body i 0
-field-one i body = let z : i + 0 ≡ i = omega arith in rw (number-one, getD-drop, z)
+field-one i body = let z : i + 0 ≡ i = omega arith in rw (first-one, getD-drop, z)
 
 pub field-two : (i : ℕ) (body : List ℕ) → field i 2 body ≡ getD body i 0 + 256 * getD body (i + 1) 0
-field-two i body = let z : i + 0 ≡ i = omega arith in rw (number-two, getD-drop i body 0 0, getD-drop i body 1 0, z)
+field-two i body = let z : i + 0 ≡ i = omega arith in rw (first-two, getD-drop i body 0 0, getD-drop i body 1 0, z)
 
 -- ---- places
 

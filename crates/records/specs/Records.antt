@@ -11,15 +11,15 @@ use Rattle.records.specs.declared.Record.{Record}
 use Rattle.records.specs.declared.Record.the-variants.{NodeEntry, Witness, ProofLine, End, CutShort, UnknownKind, NoRecord}
 
 -- "numbers low byte first"
-unfoldable pub number : List ℕ → ℕ
-number [] = 0
-number (b ∷ bs) = b + 256 * number bs
+unfoldable pub lowByteFirst : List ℕ → ℕ
+lowByteFirst [] = 0
+lowByteFirst (b ∷ bs) = b + 256 * lowByteFirst bs
 
 -- The number in the n bytes of a body from its byte i on.
 abbrev pub field : ℕ → ℕ → List ℕ → ℕ
-field i n body = number (take n (drop i body))
+field i n body = lowByteFirst (take n (drop i body))
 
--- The entry number at byte i: "entry (2)".
+-- The entry number at byte i of a body: "entry (2)", two bytes.
 abbrev pub entryIn : List ℕ → ℕ → EntryNo
 entryIn body i = record { 0 = field i 2 body }
 
@@ -29,17 +29,17 @@ whole n body r = cond (ltb (length body) n) CutShort r
 
 -- "`4E` node: variable (1 byte), low entry (2), high entry (2)."
 unfoldable pub nodeIn : List ℕ → Record
-unfolding whole number
+unfolding whole lowByteFirst
 nodeIn body = whole 5 body (NodeEntry (record { variable = field 0 1 body; low = entryIn body 1; high = entryIn body 3 }))
 
 -- "`54`, `46`: variable (1). The witness sets it true, false."
 unfoldable pub witnessIn : Bool → List ℕ → Record
-unfolding whole number
+unfolding whole lowByteFirst
 witnessIn value body = whole 1 body (Witness (field 0 1 body) value)
 
 -- "`52` RUP line: root entry (2). `50` PR line: root entry (2)."
 unfoldable pub lineIn : Rule → List ℕ → Record
-unfolding whole number
+unfolding whole lowByteFirst
 lineIn rule body = whole 2 body (ProofLine rule (entryIn body 0))
 
 -- The record of a kind byte with the bytes behind it: "each record's kind (9) before all else", so also where no byte follows.
@@ -54,6 +54,7 @@ recordOf kind body =
     (cond (eqb kind 0x50) (lineIn Pr body)
     (cond (eqb kind 0x45) End UnknownKind)))))
 
+-- The record at the front of the bytes; "10 with no record begun", where there are none.
 unfoldable pub recordIn : List ℕ → Record
 unfolding recordOf
 recordIn [] = NoRecord

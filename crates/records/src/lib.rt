@@ -34,7 +34,7 @@ pub enum Record {
 }
 
 // Two bytes as a number, low byte first.
-fn number_of(first: u8, second: u8) -> u16
+fn low_byte_first(first: u8, second: u8) -> u16
     ensures { λ r. ⌜ r ≡ first + 256 * second ⌝ }
 {
     (first as u16) + 256 * (second as u16)
@@ -45,7 +45,7 @@ fn entry_in(body: &[u8], i: usize) -> EntryNo
     requires { ⌜ i + 2 ≤ length (now body) ⌝ }
     ensures { λ r. ⌜ r ≡ entryIn (now (body .entry)) i ⌝ }
 {
-    EntryNo(number_of(body[i], body[i + 1]))
+    EntryNo(low_byte_first(body[i], body[i + 1]))
 }
 
 // The node record of a body.
@@ -55,7 +55,11 @@ fn node_in(body: &[u8]) -> Record
     if body.len() < 5 {
         return Record::CutShort;
     }
-    Record::NodeEntry(NodeBody { variable: body[0], low: entry_in(body, 1), high: entry_in(body, 3) })
+    Record::NodeEntry(NodeBody {
+        variable: body[0],
+        low: entry_in(body, 1),
+        high: entry_in(body, 3),
+    })
 }
 
 // The witness record of a body, which sets its variable to `value`.

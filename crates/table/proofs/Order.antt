@@ -105,7 +105,7 @@ true-above t v child h = go (ltb child 2) refl
     go true e = refl
     go false e = lt-ltb v (at t child .var) (h (ltb-false child 2 e))
 
-fits-true : (t : List Node) (k : ℕ) (x : Node) → fits t k x ≡ true → Fits t k x
+pub fits-true : (t : List Node) (k : ℕ) (x : Node) → fits t k x ≡ true → Fits t k x
 unfolding fits
 fits-true t k x e =
     let p = and-parts (leb 1 (x .var) && leb (x .var) 64) ((above t (x .var) (x .low) && above t (x .var) (x .high)) && ((ltb (x .low) k && ltb (x .high) k) && not (eqb (x .low) (x .high)))) e in
@@ -124,7 +124,7 @@ fits-true t k x e =
       differ = eqb-false (x .low) (x .high) (not-true (eqb (x .low) (x .high)) (r .1));
     }
 
-true-fits : (t : List Node) (k : ℕ) (x : Node) → Fits t k x → fits t k x ≡ true
+pub true-fits : (t : List Node) (k : ℕ) (x : Node) → Fits t k x → fits t k x ≡ true
 unfolding fits
 true-fits t k x F =
     rw (

@@ -4,7 +4,10 @@ use mathlib.Core.Bool.{Bool, true, false}
 use mathlib.Core.List.{List, [], _∷_}
 use Prim.Native.Nat.{ℕ, zero, suc, _+_, _-_, _*_, _%_, _≤_, _<_}
 use lib.ListN.{length, getD, set, take, replicate}
+use mathlib.Core.Option.{Option, none, some}
 use Rattle.table.specs.declared.Placed.{Placed}
+use Rattle.table.specs.declared.Found.{Found}
+use Rattle.table.specs.declared.Found.the-variants.{At, Nothing}
 use Rattle.table.specs.Nodes.{Node, at, nodesInOrder, Placing, full, placed}
 use Rattle.table.specs.Columns.{rows, padded, columnsOf}
 
@@ -21,6 +24,9 @@ bucketAt n t k = bucket n (at t k .var) (at t k .low) (at t k .high)
 pub record Index : Type 0 where
   pub heads : List ℕ
   pub links : List ℕ
+
+abbrev pub indexMade : List ℕ → List ℕ → Index
+indexMade ds ks = record { heads = ds; links = ks }
 
 -- Place k goes to the front of chain b.
 abbrev pub insert : Index → ℕ → ℕ → Index
@@ -72,7 +78,23 @@ pub record Good (t : Table) : Type 0 where
   pub ordered : nodesInOrder (nodesOf t) ≡ true
   pub written : t ≡ indexed (size t) (nodesOf t)
 
+-- The same while the nodes are tested: their index is made, and what stands past them is not looked at.
+pub record Linked (t : Table) : Type 0 where
+  pub least : 2 ≤ t .count
+  pub within : t .count ≤ size t
+  pub most : size t ≤ 65536
+  pub lows : length (t .lows) ≡ size t
+  pub highs : length (t .highs) ≡ size t
+  pub links : length (t .links) ≡ size t
+  pub heads : length (t .heads) ≡ 2 * size t
+  pub ordered : nodesInOrder (nodesOf t) ≡ true
+  pub index : indexMade (t .heads) (t .links) ≡ indexOf (size t) (nodesOf t)
+
 -- ---- what an inner function leaves
+
+abbrev pub foundOf : Option ℕ → Found
+foundOf none = Nothing
+foundOf (some k) = At (record { 0 = k })
 
 pub record Outcome : Type 0 where
   pub table : Table

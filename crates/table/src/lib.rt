@@ -1,11 +1,175 @@
 // The node table over three columns and a lookup index: look up, place, drop, test.
+ghost use mathlib.Core.Path.{_≡_};
+ghost use mathlib.Core.List.{[], _∷_, _++_};
+ghost use Prim.Native.Nat.{_+_, _*_, _%_, _≤_, _<_};
+ghost use lib.ListN.{length, take};
+ghost use Rattle.table.specs.Nodes.{nodeOf, find, put};
+ghost use Rattle.table.specs.Indexed.{bucket, insert, indexMade, tableOf, size, nodesOf, indexed, Good, Linked, foundOf, outcomeOf, written};
+
+pub mod test;
 
 // A node's number in the table. Entry numbers of a proof file are another kind.
 pub struct NodeNo(pub u16);
+
+// What looking up gives: the place that holds the node, if one does.
+pub enum Found {
+    At(NodeNo),
+    Nothing,
+}
 
 // What placing gives: `full` where a new node was wanted and there was no room (`node` is then 0), the node, and the count.
 pub struct Placed {
     pub full: bool,
     pub node: NodeNo,
     pub count: usize,
+}
+
+// a * b in 32 bits, running over the top on purpose.
+fn wrapping_product(a: u32, b: u32) -> u32
+    ensures { λ r. ⌜ r ≡ (a * b) % 4294967296 ⌝ }
+{
+    (((a as u64) * (b as u64)) % 4294967296) as u32
+}
+
+// The chain of a node among `heads`.
+pub fn bucket_of(heads: usize, v: u8, l: u16, h: u16) -> usize
+    requires { ⌜ 0 < heads ⌝ }
+    ensures { λ r. ⌜ r ≡ bucket heads v l h ⌝ }
+    ensures { λ r. ⌜ r < heads ⌝ }
+{
+    let low = wrapping_product(l as u32, 12582917);
+    let high = wrapping_product(h as u32, 4256249);
+    let key = std::num::wrapping_add_u32(std::num::wrapping_add_u32(v as u32, low), high);
+    (key as usize) % heads
+}
+
+// The place of a node, by the index: what the walk from place 2 finds.
+pub fn lookup(
+    vars: &[u8],
+    lows: &[u16],
+    highs: &[u16],
+    heads: &[u16],
+    links: &[u16],
+    count: usize,
+    v: u8,
+    l: NodeNo,
+    h: NodeNo,
+) -> Found
+    requires { ⌜ Linked (tableOf (now vars) (now lows) (now highs) (now heads) (now links) count) ⌝ }
+    ensures { λ r. ⌜ r ≡ foundOf (find (nodesOf (tableOf (now (vars .entry)) (now (lows .entry)) (now (highs .entry)) (now (heads .entry)) (now (links .entry)) count)) (nodeOf v (l .0) (h .0))) ⌝ }
+{
+    let b = bucket_of(heads.len(), v, l.0, h.0);
+    let mut k: u16 = heads[b];
+    while k != 0 {
+        let i = k as usize;
+        if vars[i] == v && lows[i] == l.0 && highs[i] == h.0 {
+            return Found::At(NodeNo(k));
+        }
+        k = links[i];
+    }
+    Found::Nothing
+}
+
+// Puts place k to the front of its chain.
+pub fn link(heads: &mut [u16], links: &mut [u16], k: usize, v: u8, l: u16, h: u16)
+    requires { ⌜ (0 < length (now heads)) × (k < length (now links)) × (length (now links) ≤ 65536) ⌝ }
+    ensures { λ _. ⌜ indexMade (now (heads .exit)) (now (links .exit)) ≡ insert (indexMade (now (heads .entry)) (now (links .entry))) (bucket (length (now (heads .entry))) v l h) k ⌝ }
+{
+    let b = bucket_of(heads.len(), v, l, h);
+    links[k] = heads[b];
+    heads[b] = k as u16;
+}
+
+// One node more, where there is room for it.
+fn append(
+    vars: &mut [u8],
+    lows: &mut [u16],
+    highs: &mut [u16],
+    heads: &mut [u16],
+    links: &mut [u16],
+    count: usize,
+    v: u8,
+    l: u16,
+    h: u16,
+)
+    requires { ⌜ Good (tableOf (now vars) (now lows) (now highs) (now heads) (now links) count) × (count < length (now vars)) ⌝ }
+    ensures { λ _. ⌜ tableOf (now (vars .exit)) (now (lows .exit)) (now (highs .exit)) (now (heads .exit)) (now (links .exit)) (count + 1) ≡ indexed (length (now (vars .entry))) (nodesOf (tableOf (now (vars .entry)) (now (lows .entry)) (now (highs .entry)) (now (heads .entry)) (now (links .entry)) count) ++ nodeOf v l h ∷ []) ⌝ }
+{
+    link(heads, links, count, v, l, h);
+    vars[count] = v;
+    lows[count] = l;
+    highs[count] = h;
+}
+
+// The node with these children: the child where they are equal, the place that holds it, or a new place.
+pub fn put(
+    vars: &mut [u8],
+    lows: &mut [u16],
+    highs: &mut [u16],
+    heads: &mut [u16],
+    links: &mut [u16],
+    count: usize,
+    v: u8,
+    l: NodeNo,
+    h: NodeNo,
+) -> Placed
+    requires { ⌜ Good (tableOf (now vars) (now lows) (now highs) (now heads) (now links) count) ⌝ }
+    ensures { λ r. ⌜ outcomeOf (now (vars .exit)) (now (lows .exit)) (now (highs .exit)) (now (heads .exit)) (now (links .exit)) r ≡ written (length (now (vars .entry))) (put (length (now (vars .entry))) (nodesOf (tableOf (now (vars .entry)) (now (lows .entry)) (now (highs .entry)) (now (heads .entry)) (now (links .entry)) count)) v (l .0) (h .0)) ⌝ }
+{
+    if l.0 == h.0 {
+        return Placed {
+            full: false,
+            node: l,
+            count,
+        };
+    }
+    match lookup(vars, lows, highs, heads, links, count, v, l, h) {
+        Found::At(k) => Placed {
+            full: false,
+            node: k,
+            count,
+        },
+        Found::Nothing => {
+            if count < vars.len() {
+                append(vars, lows, highs, heads, links, count, v, l.0, h.0);
+                Placed {
+                    full: false,
+                    node: NodeNo(count as u16),
+                    count: count + 1,
+                }
+            } else {
+                Placed {
+                    full: true,
+                    node: NodeNo(0),
+                    count,
+                }
+            }
+        }
+    }
+}
+
+// Only the nodes below `keep` are left, with their index.
+pub fn drop_to(
+    vars: &mut [u8],
+    lows: &mut [u16],
+    highs: &mut [u16],
+    heads: &mut [u16],
+    links: &mut [u16],
+    count: usize,
+    keep: usize,
+)
+    requires { ⌜ Good (tableOf (now vars) (now lows) (now highs) (now heads) (now links) count) × (2 ≤ keep) × (keep ≤ count) ⌝ }
+    ensures { λ _. ⌜ tableOf (now (vars .exit)) (now (lows .exit)) (now (highs .exit)) (now (heads .exit)) (now (links .exit)) keep ≡ indexed (length (now (vars .entry))) (take keep (nodesOf (tableOf (now (vars .entry)) (now (lows .entry)) (now (highs .entry)) (now (heads .entry)) (now (links .entry)) count))) ⌝ }
+{
+    let n = heads.len();
+    let mut k = count;
+    while keep < k {
+        k -= 1;
+        let b = bucket_of(n, vars[k], lows[k], highs[k]);
+        heads[b] = links[k];
+        links[k] = 0;
+        vars[k] = 0;
+        lows[k] = 0;
+        highs[k] = 0;
+    }
 }

@@ -1,3 +1,4 @@
+-- `witness_in` gives the witness record of its definition, cut short where the body has no byte. Assumes nothing.
 use mathlib.Core.Path.{_≡_}
 use borrow.Author.Tests.{lt-ltb, le-ltb}
 use Rattle.records.specs.Records.{witnessIn}
@@ -5,19 +6,14 @@ use Rattle.records.proofs.Reading.{field-one}
 use borrow.Author.Needs.{needs}
 use Rattle.records.proofs.witness_in.Statement.{statement}
 use Rattle.records.proofs.witness_in.Tie as tie
-use Rattle.records.proofs.witness_in.Reads as reads
-use Rattle.records.proofs.witness_in.Lts as lts
 
--- src/lib.rt:66:9
 returns : tie.Need-returns
 unfolding witnessIn
 returns c = rw (lt-ltb _ _ (c .if1 .taken))
 
--- src/lib.rt:68:21
 shared-slice-read-t6 : tie.Need-shared-slice-read-t6
 shared-slice-read-t6 c = search needs
 
--- src/lib.rt:62:1
 returns-2 : tie.Need-returns-2
 unfolding witnessIn
 returns-2 c = rw (le-ltb _ _ (c .before .if1 .left), ← field-one 0 _)

@@ -1,0 +1,53 @@
+// The face of the library: the calls open to others. Each tests for itself all that it needs.
+pub mod order;
+
+use table::NodeNo;
+ghost use mathlib.Core.Path.{_≡_};
+ghost use Rattle.checker.specs.Single.{evaluation};
+
+// What evaluation says: 01's number, yes or no, and the count as lent.
+pub struct Evaluated {
+    pub number: u8,
+    pub yes: bool,
+    pub count: usize,
+}
+
+// Whether the node is 1 under the word's assignment; or 7, 26, 13.
+pub fn evaluate(
+    vars: &[u8],
+    lows: &[u16],
+    highs: &[u16],
+    count: usize,
+    node: NodeNo,
+    word: u64,
+) -> Evaluated
+    ensures { λ r. ⌜ r ≡ evaluation (now (vars .entry)) (now (lows .entry)) (now (highs .entry)) count (node .0) word ⌝ }
+{
+    if !table::test::size_fits(vars, lows, highs) {
+        return Evaluated {
+            number: 7,
+            yes: false,
+            count,
+        };
+    }
+    if !order::good_order(vars, lows, highs, count) {
+        return Evaluated {
+            number: 26,
+            yes: false,
+            count,
+        };
+    }
+    if count <= node.0 as usize {
+        return Evaluated {
+            number: 13,
+            yes: false,
+            count,
+        };
+    }
+    let yes = walks::value_of(vars, lows, highs, count, node, word);
+    Evaluated {
+        number: 0,
+        yes,
+        count,
+    }
+}

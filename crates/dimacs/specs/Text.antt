@@ -1,0 +1,57 @@
+-- The formula's bytes: which of them part lines and tokens, and runs of them. (01, The formula)
+use mathlib.Core.Bool.{Bool, not, _||_, cond}
+use mathlib.Core.List.{List, [], _∷_}
+use Prim.Native.Nat.{ℕ, zero, suc, _+_}
+use lib.ListN.{drop}
+use lib.Dec.{eqb}
+use Rattle.dimacs.specs.declared.Class.{Class}
+use Rattle.dimacs.specs.declared.Class.the-variants.{Space, Blank, Parting, Token, Line}
+
+-- "spaces or tabs"
+abbrev pub isSpace : ℕ → Bool
+isSpace b = eqb b 32 || eqb b 9
+
+-- "spaces, tabs or CR"
+abbrev pub isBlank : ℕ → Bool
+isBlank b = isSpace b || eqb b 13
+
+-- "literals parted by space, tab, CR or LF"
+abbrev pub isParting : ℕ → Bool
+isParting b = isBlank b || eqb b 10
+
+-- The bytes of a token: all others.
+abbrev pub isToken : ℕ → Bool
+isToken b = not (isParting b)
+
+-- The bytes of a line: only LF ends one.
+abbrev pub isLine : ℕ → Bool
+isLine b = not (eqb b 10)
+
+-- How many bytes stand before the first that p does not admit.
+unfoldable pub run : (ℕ → Bool) → List ℕ → ℕ
+run p [] = 0
+run p (b ∷ bs) = let more = suc (run p bs) in cond (p b) more 0
+
+-- The first place of s, from `at` on, whose byte p does not admit; the length where there is none.
+unfoldable pub past : (ℕ → Bool) → List ℕ → ℕ → ℕ
+unfolding run
+past p s at = at + run p (drop at s)
+
+-- The end of the token, and of the line, in which the place is.
+abbrev pub tokenEnd : List ℕ → ℕ → ℕ
+tokenEnd s at = past isToken s at
+
+abbrev pub lineEnd : List ℕ → ℕ → ℕ
+lineEnd s at = past isLine s at
+
+-- What lies between two tokens is passed: the place of the next token, or the length.
+abbrev pub between : List ℕ → ℕ → ℕ
+between s at = past isParting s at
+
+-- The classes of bytes that the code names.
+abbrev pub admitted : Class → ℕ → Bool
+admitted Space b = isSpace b
+admitted Blank b = isBlank b
+admitted Parting b = isParting b
+admitted Token b = isToken b
+admitted Line b = isLine b

@@ -1,0 +1,121 @@
+-- What the inner functions answer, step by step, and what their memo holds. No call open to others cites this file.
+use mathlib.Core.Path.{_≡_}
+use mathlib.Core.Bool.{cond, _||_}
+use mathlib.Core.List.{List}
+use Prim.Native.Nat.{ℕ, _+_, _-_, _*_, _/_, _%_, _≤_, _<_}
+use lib.ListN.{length, getD}
+use lib.Dec.{eqb, ltb}
+use Rattle.meaning.specs.Diagram.{branch}
+use Rattle.table.specs.declared.Found.{Found}
+use Rattle.table.specs.declared.Found.the-variants.{At, Nothing}
+use Rattle.table.specs.Nodes.{diagramAt, place}
+use Rattle.table.specs.Indexed.{Table, size, nodesOf, Good, Outcome, written}
+use Rattle.operate.specs.declared.Operation.{Operation}
+use Rattle.operate.specs.declared.Operation.the-variants.{Conjunction, Negation, Cofactor, Literals}
+use Rattle.operate.specs.declared.Sides.{Sides}
+use Rattle.operate.specs.declared.Step.{Step}
+use Rattle.operate.specs.declared.Step.the-variants.{One, Both}
+use Rattle.meaning.specs.Words.{inWord}
+use Rattle.operate.specs.Operate.{result}
+
+-- The outcome of an operation on nodes f and g of a table.
+abbrev pub applied : Table → Operation → ℕ → ℕ → Outcome
+applied t op f g = written (size t) (place (size t) (nodesOf t) (result op (diagramAt (nodesOf t) f) (diagramAt (nodesOf t) g)))
+
+-- The outcome of joining two sides: the diagram of x over the results of the low and of the high side.
+abbrev pub joinedOf : Table → Operation → Sides → Outcome
+joinedOf t op s =
+    written (size t) (place (size t) (nodesOf t) (branch (s .x)
+    (result op (diagramAt (nodesOf t) (s .f0 .0)) (diagramAt (nodesOf t) (s .g0 .0)))
+    (result op (diagramAt (nodesOf t) (s .f1 .0)) (diagramAt (nodesOf t) (s .g1 .0)))))
+
+-- A second operand that the operation can have: a cofactor is by no 0, and an operation of one diagram has node 1.
+abbrev pub Allowed : Operation → ℕ → Type 0
+Allowed Conjunction g = Unit {0}
+Allowed Negation g = g ≡ 1
+Allowed Cofactor g = g ≡ 0 → ⊥
+Allowed (Literals p n) g = g ≡ 1
+
+-- ---- the code's steps
+
+abbrev pub found : ℕ → Found
+found k = At (record { 0 = k })
+
+-- The result where it can be told from the node numbers alone.
+unfoldable pub terminalOf : Operation → ℕ → ℕ → Found
+terminalOf Conjunction f g =
+    cond (eqb f 0 || eqb g 0) (found 0) (cond (eqb f 1) (found g) (cond (eqb g 1 || eqb f g) (found f) Nothing))
+terminalOf Negation f g = cond (eqb f 0) (found 1) (cond (eqb f 1) (found 0) Nothing)
+terminalOf Cofactor f g = cond (ltb f 2 || eqb g 1) (found f) (cond (eqb f g) (found 1) Nothing)
+terminalOf (Literals p n) f g = cond (ltb f 2) (found f) Nothing
+
+-- A node's variable; 65, below all variables, for a constant.
+abbrev pub level : List ℕ → ℕ → ℕ
+level vars f = cond (ltb f 2) 65 (getD vars f 0)
+
+-- The lesser of two nodes' variables.
+abbrev pub top : List ℕ → ℕ → ℕ → ℕ
+top vars f g = cond (ltb (level vars g) (level vars f)) (level vars g) (level vars f)
+
+-- A node's child in a column where x is its variable, else the node itself.
+abbrev pub childOr : List ℕ → List ℕ → ℕ → ℕ → ℕ
+childOr vars column f x = cond (eqb (getD vars f 0) x) (getD column f 0) f
+
+unfoldable pub sidesOf : List ℕ → List ℕ → List ℕ → ℕ → ℕ → Sides
+sidesOf vars lows highs f g =
+    let x = top vars f g in
+    record {
+      x = x;
+      f0 = record { 0 = childOr vars lows f x };
+      g0 = record { 0 = childOr vars lows g x };
+      f1 = record { 0 = childOr vars highs f x };
+      g1 = record { 0 = childOr vars highs g x };
+    }
+
+-- Which of the sides make the result: where a side of g is 0 the cofactor is that of the other; a literal takes its own side.
+unfoldable pub stepOf : Operation → Sides → Step
+stepOf Conjunction s = Both s
+stepOf Negation s = Both s
+stepOf Cofactor s = cond (eqb (s .g0 .0) 0) (One (s .f1) (s .g1)) (cond (eqb (s .g1 .0) 0) (One (s .f0) (s .g0)) (Both s))
+stepOf (Literals p n) s = cond (inWord p (s .x)) (One (s .f1) (s .g1)) (cond (inWord n (s .x)) (One (s .f0) (s .g0)) (Both s))
+
+-- ---- the memo: a direct-mapped table of packed entries, 0 where there is none
+
+unfoldable pub slot : ℕ → ℕ → ℕ → ℕ
+slot n f g = (f * 12582917 + g * 4256249) % n
+
+abbrev pub pack : ℕ → ℕ → ℕ → ℕ
+pack f g r = f * 4294967296 + g * 65536 + r
+
+unfoldable pub memoFind : List ℕ → ℕ → ℕ → Found
+memoFind memo f g =
+    let e = getD memo (slot (length memo) f g) 0 in
+    cond (eqb (e / 65536) (f * 65536 + g)) (found (e % 65536)) Nothing
+
+-- An entry is right: node r is the operation's result on f and g.
+pub record Right (op : Operation) (t : Table) (f g r : ℕ) : Type 0 where
+  pub f-inside : f < t .count
+  pub g-inside : g < t .count
+  pub inside : r < t .count
+  pub is : diagramAt (nodesOf t) r ≡ result op (diagramAt (nodesOf t) f) (diagramAt (nodesOf t) g)
+
+unfoldable pub MemoRight : Operation → List ℕ → Table → Type 0
+MemoRight op memo t = (i f g r : ℕ) → getD memo i 0 ≡ pack f g r → 2 ≤ f → g < 65536 → r < 65536 → Right op t f g r
+
+-- What the recursion asks.
+pub record Ready (op : Operation) (memo : List ℕ) (t : Table) (f g : ℕ) : Type 0 where
+  pub good : Good t
+  pub f-inside : f < t .count
+  pub g-inside : g < t .count
+  pub allowed : Allowed op g
+  pub room : 0 < length memo
+  pub right : MemoRight op memo t
+
+-- What joining two sides asks: both sides ready, and their variables after x.
+pub record SidesReady (op : Operation) (memo : List ℕ) (t : Table) (s : Sides) : Type 0 where
+  pub low : Ready op memo t (s .f0 .0) (s .g0 .0)
+  pub high : Ready op memo t (s .f1 .0) (s .g1 .0)
+  pub least : 1 ≤ s .x
+  pub most : s .x ≤ 64
+  pub low-after : s .x < top (t .vars) (s .f0 .0) (s .g0 .0)
+  pub high-after : s .x < top (t .vars) (s .f1 .0) (s .g1 .0)

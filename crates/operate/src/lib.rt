@@ -1,0 +1,336 @@
+// Conjunction, negation and the two cofactors by one recursion over the nodes of a table, with a memo.
+// Terminal cases first, the memo next, the branches last, one store into the memo at the end.
+use table::Found;
+use table::NodeNo;
+use table::Placed;
+ghost use mathlib.Core.Path.{_≡_};
+ghost use Prim.Native.Nat.{_+_, _-_, _*_, _≤_, _<_};
+ghost use lib.ListN.{length, set, replicate};
+ghost use Rattle.table.specs.Indexed.{tableOf, outcomeOf};
+ghost use Rattle.meaning.specs.Words.{inWord};
+ghost use Rattle.operate.specs.Operate.{result};
+ghost use Rattle.operate.specs.Inner.{applied, terminalOf, level, top, childOr, sidesOf, stepOf, slot, pack, memoFind, MemoRight, Ready, SidesReady, joinedOf};
+
+// An operation; an operation of one diagram has node 1 for its second operand.
+pub enum Operation {
+    Conjunction,
+    Negation,
+    Cofactor,
+    Literals(u64, u64),
+}
+
+// The two sides of two nodes by the variable x.
+pub struct Sides {
+    pub x: u8,
+    pub f0: NodeNo,
+    pub g0: NodeNo,
+    pub f1: NodeNo,
+    pub g1: NodeNo,
+}
+
+// What is left to do: the operation on one pair of nodes, or on both sides.
+pub enum Step {
+    One(NodeNo, NodeNo),
+    Both(Sides),
+}
+
+// The result where it can be told from the node numbers alone.
+fn terminal(op: Operation, f: NodeNo, g: NodeNo) -> Found
+    ensures { λ r. ⌜ r ≡ terminalOf op (f .0) (g .0) ⌝ }
+{
+    match op {
+        Operation::Conjunction => terminal_conjunction(f, g),
+        Operation::Negation => {
+            if f.0 == 0 {
+                return Found::At(NodeNo(1));
+            }
+            if f.0 == 1 {
+                return Found::At(NodeNo(0));
+            }
+            Found::Nothing
+        }
+        Operation::Cofactor => {
+            if f.0 < 2 || g.0 == 1 {
+                return Found::At(f);
+            }
+            if f.0 == g.0 {
+                return Found::At(NodeNo(1));
+            }
+            Found::Nothing
+        }
+        Operation::Literals(_, _) => {
+            if f.0 < 2 {
+                return Found::At(f);
+            }
+            Found::Nothing
+        }
+    }
+}
+
+fn terminal_conjunction(f: NodeNo, g: NodeNo) -> Found
+    ensures { λ r. ⌜ r ≡ terminalOf Operation.Conjunction (f .0) (g .0) ⌝ }
+{
+    if f.0 == 0 || g.0 == 0 {
+        return Found::At(NodeNo(0));
+    }
+    if f.0 == 1 {
+        return Found::At(g);
+    }
+    if g.0 == 1 || f.0 == g.0 {
+        return Found::At(f);
+    }
+    Found::Nothing
+}
+
+// A node's variable; 65 for a constant.
+fn level_of(vars: &[u8], f: NodeNo) -> u8
+    requires { ⌜ f .0 < length (now vars) ⌝ }
+    ensures { λ r. ⌜ r ≡ level (now (vars .entry)) (f .0) ⌝ }
+{
+    let i = f.0 as usize;
+    if i < 2 {
+        return 65;
+    }
+    vars[i]
+}
+
+// The lesser of two nodes' variables.
+fn top_of(vars: &[u8], f: NodeNo, g: NodeNo) -> u8
+    requires { ⌜ (f .0 < length (now vars)) × (g .0 < length (now vars)) ⌝ }
+    ensures { λ r. ⌜ r ≡ top (now (vars .entry)) (f .0) (g .0) ⌝ }
+{
+    let v = level_of(vars, f);
+    let w = level_of(vars, g);
+    if w < v {
+        return w;
+    }
+    v
+}
+
+// A node's child in a column where x is its variable, else the node itself.
+fn child_or(vars: &[u8], column: &[u16], f: NodeNo, x: u8) -> NodeNo
+    requires { ⌜ (f .0 < length (now vars)) × (f .0 < length (now column)) ⌝ }
+    ensures { λ r. ⌜ r .0 ≡ childOr (now (vars .entry)) (now (column .entry)) (f .0) x ⌝ }
+{
+    let i = f.0 as usize;
+    if vars[i] == x {
+        return NodeNo(column[i]);
+    }
+    f
+}
+
+fn sides_of(vars: &[u8], lows: &[u16], highs: &[u16], f: NodeNo, g: NodeNo) -> Sides
+    requires { ⌜ (f .0 < length (now vars)) × (g .0 < length (now vars)) × (length (now lows) ≡ length (now vars)) × (length (now highs) ≡ length (now vars)) ⌝ }
+    ensures { λ r. ⌜ r ≡ sidesOf (now (vars .entry)) (now (lows .entry)) (now (highs .entry)) (f .0) (g .0) ⌝ }
+{
+    let x = top_of(vars, f, g);
+    let f0 = child_or(vars, lows, f, x);
+    let g0 = child_or(vars, lows, g, x);
+    let f1 = child_or(vars, highs, f, x);
+    let g1 = child_or(vars, highs, g, x);
+    Sides { x, f0, g0, f1, g1 }
+}
+
+// Whether a word has the variable v.
+fn in_word(w: u64, v: u8) -> bool
+    requires { ⌜ (1 ≤ v) × (v ≤ 64) ⌝ }
+    ensures { λ r. ⌜ r ≡ inWord w v ⌝ }
+{
+    let i = (v - 1) as u64;
+    (w >> i) % 2 == 1
+}
+
+// The number of two nodes' slot among n.
+fn slot_of(n: usize, f: NodeNo, g: NodeNo) -> usize
+    requires { ⌜ 0 < n ⌝ }
+    ensures { λ r. ⌜ r ≡ slot n (f .0) (g .0) ⌝ }
+    ensures { λ r. ⌜ r < n ⌝ }
+{
+    let a = f.0 as usize;
+    let b = g.0 as usize;
+    (a * 12582917 + b * 4256249) % n
+}
+
+// The result stored for f and g.
+fn memo_find(memo: &[u64], f: NodeNo, g: NodeNo) -> Found
+    requires { ⌜ 0 < length (now memo) ⌝ }
+    ensures { λ r. ⌜ r ≡ memoFind (now (memo .entry)) (f .0) (g .0) ⌝ }
+{
+    let s = slot_of(memo.len(), f, g);
+    let e = memo[s];
+    let a = f.0 as u64;
+    let b = g.0 as u64;
+    if e / 65536 == a * 65536 + b {
+        return Found::At(NodeNo((e % 65536) as u16));
+    }
+    Found::Nothing
+}
+
+// Stores the result for f and g over what its slot held.
+fn memo_put(memo: &mut [u64], f: NodeNo, g: NodeNo, r: NodeNo)
+    requires { ⌜ 0 < length (now memo) ⌝ }
+    ensures { λ _. ⌜ now (memo .exit) ≡ set (now (memo .entry)) (slot (length (now (memo .entry))) (f .0) (g .0)) (pack (f .0) (g .0) (r .0)) ⌝ }
+{
+    let s = slot_of(memo.len(), f, g);
+    let a = f.0 as u64;
+    let b = g.0 as u64;
+    let c = r.0 as u64;
+    memo[s] = a * 4294967296 + b * 65536 + c;
+}
+
+// Empties the memo.
+pub fn clear_memo(memo: &mut [u64])
+    ensures { λ _. ⌜ now (memo .exit) ≡ replicate (length (now (memo .entry))) 0 ⌝ }
+{
+    let mut i: usize = 0;
+    while i < memo.len() {
+        memo[i] = 0;
+        i += 1;
+    }
+}
+
+// What is left to do where neither the node numbers nor the memo tell the result.
+fn step_of(op: Operation, s: Sides) -> Step
+    requires { ⌜ (1 ≤ s .x) × (s .x ≤ 64) ⌝ }
+    ensures { λ r. ⌜ r ≡ stepOf op s ⌝ }
+{
+    let f0 = s.f0;
+    let g0 = s.g0;
+    let f1 = s.f1;
+    let g1 = s.g1;
+    match op {
+        Operation::Conjunction => Step::Both(s),
+        Operation::Negation => Step::Both(s),
+        Operation::Cofactor => {
+            if g0.0 == 0 {
+                return Step::One(f1, g1);
+            }
+            if g1.0 == 0 {
+                return Step::One(f0, g0);
+            }
+            Step::Both(s)
+        }
+        Operation::Literals(p, n) => {
+            if in_word(p, s.x) {
+                return Step::One(f1, g1);
+            }
+            if in_word(n, s.x) {
+                return Step::One(f0, g0);
+            }
+            Step::Both(s)
+        }
+    }
+}
+
+// The operation on the nodes f and g, or `full`. Places only nodes of the finished diagram.
+pub fn apply(
+    vars: &mut [u8],
+    lows: &mut [u16],
+    highs: &mut [u16],
+    heads: &mut [u16],
+    links: &mut [u16],
+    memo: &mut [u64],
+    count: usize,
+    op: Operation,
+    f: NodeNo,
+    g: NodeNo,
+) -> Placed
+    requires { ⌜ Ready op (now memo) (tableOf (now vars) (now lows) (now highs) (now heads) (now links) count) (f .0) (g .0) ⌝ }
+    ensures { λ r. ⌜ outcomeOf (now (vars .exit)) (now (lows .exit)) (now (highs .exit)) (now (heads .exit)) (now (links .exit)) r ≡ applied (tableOf (now (vars .entry)) (now (lows .entry)) (now (highs .entry)) (now (heads .entry)) (now (links .entry)) count) op (f .0) (g .0) ⌝ }
+    ensures { λ r. ⌜ MemoRight op (now (memo .exit)) (tableOf (now (vars .exit)) (now (lows .exit)) (now (highs .exit)) (now (heads .exit)) (now (links .exit)) (r .count)) ⌝ }
+{
+    match terminal(op, f, g) {
+        Found::At(r) => Placed {
+            full: false,
+            node: r,
+            count,
+        },
+        Found::Nothing => match memo_find(memo, f, g) {
+            Found::At(r) => Placed {
+                full: false,
+                node: r,
+                count,
+            },
+            Found::Nothing => {
+                let p = descend(vars, lows, highs, heads, links, memo, count, op, f, g);
+                if p.full {
+                    return p;
+                }
+                memo_put(memo, f, g, p.node);
+                p
+            }
+        },
+    }
+}
+
+// The operation from those of the branches.
+fn descend(
+    vars: &mut [u8],
+    lows: &mut [u16],
+    highs: &mut [u16],
+    heads: &mut [u16],
+    links: &mut [u16],
+    memo: &mut [u64],
+    count: usize,
+    op: Operation,
+    f: NodeNo,
+    g: NodeNo,
+) -> Placed
+    requires { ⌜ Ready op (now memo) (tableOf (now vars) (now lows) (now highs) (now heads) (now links) count) (f .0) (g .0) × (terminalOf op (f .0) (g .0) ≡ Found.Nothing) ⌝ }
+    ensures { λ r. ⌜ outcomeOf (now (vars .exit)) (now (lows .exit)) (now (highs .exit)) (now (heads .exit)) (now (links .exit)) r ≡ applied (tableOf (now (vars .entry)) (now (lows .entry)) (now (highs .entry)) (now (heads .entry)) (now (links .entry)) count) op (f .0) (g .0) ⌝ }
+    ensures { λ r. ⌜ MemoRight op (now (memo .exit)) (tableOf (now (vars .exit)) (now (lows .exit)) (now (highs .exit)) (now (heads .exit)) (now (links .exit)) (r .count)) ⌝ }
+{
+    let s = sides_of(vars, lows, highs, f, g);
+    match step_of(op, s) {
+        Step::One(a, b) => apply(vars, lows, highs, heads, links, memo, count, op, a, b),
+        Step::Both(s) => join(vars, lows, highs, heads, links, memo, count, op, s),
+    }
+}
+
+// The low side's result, the high side's, and the node over both.
+fn join(
+    vars: &mut [u8],
+    lows: &mut [u16],
+    highs: &mut [u16],
+    heads: &mut [u16],
+    links: &mut [u16],
+    memo: &mut [u64],
+    count: usize,
+    op: Operation,
+    s: Sides,
+) -> Placed
+    requires { ⌜ SidesReady op (now memo) (tableOf (now vars) (now lows) (now highs) (now heads) (now links) count) s ⌝ }
+    ensures { λ r. ⌜ outcomeOf (now (vars .exit)) (now (lows .exit)) (now (highs .exit)) (now (heads .exit)) (now (links .exit)) r ≡ joinedOf (tableOf (now (vars .entry)) (now (lows .entry)) (now (highs .entry)) (now (heads .entry)) (now (links .entry)) count) op s ⌝ }
+    ensures { λ r. ⌜ MemoRight op (now (memo .exit)) (tableOf (now (vars .exit)) (now (lows .exit)) (now (highs .exit)) (now (heads .exit)) (now (links .exit)) (r .count)) ⌝ }
+{
+    let p = apply(vars, lows, highs, heads, links, memo, count, op, s.f0, s.g0);
+    if p.full {
+        return p;
+    }
+    let q = apply(
+        vars,
+        lows,
+        highs,
+        heads,
+        links,
+        memo,
+        p.count,
+        op,
+        s.f1,
+        s.g1,
+    );
+    if q.full {
+        return q;
+    }
+    table::put(
+        vars,
+        lows,
+        highs,
+        heads,
+        links,
+        q.count,
+        s.x,
+        p.node,
+        q.node,
+    )
+}

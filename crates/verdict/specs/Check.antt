@@ -1,0 +1,330 @@
+-- What the check of a formula and a proof says and leaves. Clauses become members; then record after record is judged; a line is
+-- judged by the rules over the members' diagrams, and what it makes must find room. (01)
+use mathlib.Core.Bool.{Bool, true, false, not, _&&_, _||_, cond}
+use mathlib.Core.List.{List, [], _∷_, _++_, map}
+use mathlib.Core.Option.{Option, none, some}
+use Prim.Native.Nat.{ℕ, zero, suc, _+_, _-_, _^_}
+use lib.ListN.{length, getD, take, replicate}
+use lib.Dec.{eqb, ltb, leb}
+use Rattle.meaning.specs.Diagram.{Diagram}
+use Rattle.meaning.specs.Operations as meaning
+use Rattle.meaning.specs.Rules.{Line, rup, pr, witnessed}
+use Rattle.meaning.specs.Words.{inWord}
+use Rattle.table.specs.Nodes.{Node, blank, above, diagramAt, Placing, full, placed, put, place}
+use Rattle.table.specs.Columns.{sizeFits, padded, Columns, columnsOf}
+use Rattle.dimacs.specs.declared.Header.{Header}
+use Rattle.dimacs.specs.declared.Header.the-variants.{Proper, Improper}
+use Rattle.dimacs.specs.Header.{header}
+use Rattle.dimacs.specs.Clauses.{Reading, clause, complete, refusal, clausesFrom}
+use Rattle.records.specs.declared.NodeBody.{NodeBody}
+use Rattle.records.specs.declared.Rule.{Rule}
+use Rattle.records.specs.declared.Rule.the-variants.{Rup, Pr}
+use Rattle.records.specs.declared.Record.{Record}
+use Rattle.records.specs.declared.Record.the-variants.{NodeEntry, Witness, ProofLine, End, CutShort, UnknownKind, NoRecord}
+use Rattle.records.specs.Records.{recordAt, lengthOf}
+
+-- ---- the state between records
+
+-- The table's nodes, those of the line's entries included; how many of them stay if the line is not accepted; the members (clauses
+-- and accepted lines) and the line's entries from entry 2 on, as node numbers; the witness, the variables that it sets true and
+-- those that it sets false as two words; the accepted lines, their rounds, and whether one of them is the 0 diagram.
+pub record State : Type 0 where
+  pub nodes : List Node
+  pub kept : ℕ
+  pub members : List ℕ
+  pub entries : List ℕ
+  pub positive : ℕ
+  pub negative : ℕ
+  pub lines : ℕ
+  pub rounds : ℕ
+  pub refuted : Bool
+
+-- "The whole check starts by emptying the table and lists": the constants alone.
+abbrev pub emptied : List Node
+emptied = blank ∷ blank ∷ []
+
+-- The state before the first record.
+abbrev pub begun : List Node → List ℕ → State
+begun nodes members = record {
+  nodes = nodes;
+  kept = length nodes;
+  members = members;
+  entries = [];
+  positive = 0;
+  negative = 0;
+  lines = 0;
+  rounds = 0;
+  refuted = false;
+}
+
+-- What a record comes to: the next state, or the end with a number and the place, counted from the record's first byte.
+pub data Step : Type 0 where
+  next : State → Step
+  stop : (number offset : ℕ) → Step
+
+-- ---- node and witness records
+
+-- "Makes the next entry, from 2; entries 0 and 1 are the constants." (01, The proof)
+abbrev pub numbered : State → List ℕ
+numbered st = 0 ∷ 1 ∷ st .entries
+
+-- "13: no such entry or node"
+unfoldable pub isEntry : State → ℕ → Bool
+isEntry st e = ltb e (length (numbered st))
+
+unfoldable pub entryNode : State → ℕ → ℕ
+entryNode st e = getD (numbered st) e 0
+
+-- "12: variable 0 or beyond the header"
+unfoldable pub isVariable : ℕ → ℕ → Bool
+isVariable n v = leb 1 v && leb v n
+
+-- The entry made, or 23.
+unfoldable pub entered : State → Placing → Step
+entered st (full t) = stop 23 0
+entered st (placed t k) = next (record {
+  nodes = t;
+  kept = st .kept;
+  members = st .members;
+  entries = st .entries ++ k ∷ [];
+  positive = st .positive;
+  negative = st .negative;
+  lines = st .lines;
+  rounds = st .rounds;
+  refuted = st .refuted;
+})
+
+-- "Node: 10, 21, 12, 13, 14, 23." "14: variable not before its children's"
+unfoldable pub nodeStep : ℕ → ℕ → State → NodeBody → Step
+unfolding isEntry entryNode isVariable entered
+nodeStep n s st b =
+    let l = entryNode st (b .low .0) in
+    let h = entryNode st (b .high .0) in
+    let made = entered st (put s (st .nodes) (b .variable) l h) in
+    cond (leb 4096 (length (st .entries))) (stop 21 0)
+    (cond (not (isVariable n (b .variable))) (stop 12 0)
+    (cond (not (isEntry st (b .low .0) && isEntry st (b .high .0))) (stop 13 0)
+    (cond (not (above (st .nodes) (b .variable) l && above (st .nodes) (b .variable) h)) (stop 14 0) made)))
+
+-- "The witness sets it true, false": the word with the variable, where it is the one that is set.
+abbrev pub withVariable : Bool → ℕ → ℕ → ℕ
+withVariable set w v = cond set (w + 2 ^ (v - 1)) w
+
+-- "Witness: 10, 12, 15." "15: witness names a variable twice"
+unfoldable pub witnessStep : ℕ → State → ℕ → Bool → Step
+unfolding isVariable
+witnessStep n st v b =
+    cond (not (isVariable n v)) (stop 12 0)
+    (cond (inWord (st .positive) v || inWord (st .negative) v) (stop 15 0)
+    (next (record {
+      nodes = st .nodes;
+      kept = st .kept;
+      members = st .members;
+      entries = st .entries;
+      positive = withVariable b (st .positive) v;
+      negative = withVariable (not b) (st .negative) v;
+      lines = st .lines;
+      rounds = st .rounds;
+      refuted = st .refuted;
+    })))
+
+-- "16: witness left at a RUP line or the end"
+unfoldable pub waiting : State → Bool
+waiting st = not (eqb (st .positive) 0 && eqb (st .negative) 0)
+
+-- ---- lines
+
+abbrev pub afterPlacing : Placing → (List Node → Option (List Node)) → Option (List Node)
+afterPlacing (full t) rest = none
+afterPlacing (placed t k) rest = rest t
+
+-- The nodes once the diagrams are placed in their order; none where one of them finds no room.
+unfoldable pub placedAll : ℕ → List Node → List Diagram → Option (List Node)
+placedAll s t [] = some t
+placedAll s t (f ∷ fs) = afterPlacing (place s t f) (λ t₁. placedAll s t₁ fs)
+
+abbrev pub isSome : Option (List Node) → Bool
+isSome none = false
+isSome (some t) = true
+
+-- "In PR the nodes of one member's turn are dropped before the next": each turn is placed over the same nodes.
+unfoldable pub turnsFit : ℕ → List (List Diagram) → List Node → Bool
+unfolding placedAll
+turnsFit s [] t = true
+turnsFit s (made ∷ later) t = isSome (placedAll s t made) && turnsFit s later t
+
+abbrev pub fitAfter : ℕ → List (List Diagram) → Option (List Node) → Bool
+fitAfter s turns none = false
+fitAfter s turns (some t) = turnsFit s turns t
+
+-- Whether all that a line makes finds room. Else it is refused with 23: "19 or 23, the one met first", and a line that is not
+-- shown makes nothing after that.
+unfoldable pub lineFits : ℕ → List Node → Line → Bool
+unfolding placedAll turnsFit
+lineFits s t line = fitAfter s (line .turns) (placedAll s t (line .kept))
+
+-- "After an accepted line its root is the next member and entries and witness start anew." (01, The proof)
+abbrev pub accepted : State → ℕ → Line → State
+accepted st g line = record {
+  nodes = st .nodes;
+  kept = length (st .nodes);
+  members = st .members ++ g ∷ [];
+  entries = [];
+  positive = 0;
+  negative = 0;
+  lines = suc (st .lines);
+  rounds = st .rounds + line .rounds;
+  refuted = st .refuted || eqb g 0;
+}
+
+unfoldable pub judged : ℕ → State → ℕ → Line → Step
+unfolding lineFits
+judged s st g line = cond (not (lineFits s (st .nodes) line)) (stop 23 0) (cond (not (line .shown)) (stop 19 0) (next (accepted st g line)))
+
+abbrev pub diagramIn : State → ℕ → Diagram
+diagramIn st k = diagramAt (st .nodes) k
+
+-- "RUP: 10, 13, 16, 22, 17, then 19 or 23, the one met first. PR: 10, 13, 22, 17, 18, then the same."
+-- "17: line is always true"; "18: witness does not make the line 1"; "22: over 1,024 lines"
+unfoldable pub lineStep : ℕ → ℕ → State → Rule → ℕ → Step
+unfolding isEntry entryNode waiting judged
+lineStep n s st Rup root =
+    let g = entryNode st root in
+    let last = judged s st g (rup n (map (diagramIn st) (st .members)) (diagramIn st g)) in
+    cond (not (isEntry st root)) (stop 13 0)
+    (cond (waiting st) (stop 16 0) (cond (leb 1024 (st .lines)) (stop 22 0) (cond (eqb g 1) (stop 17 0) last)))
+lineStep n s st Pr root =
+    let g = entryNode st root in
+    let P = inWord (st .positive) in
+    let N = inWord (st .negative) in
+    let last = judged s st g (pr n P N (map (diagramIn st) (st .members)) (diagramIn st g)) in
+    let shut = cond (not (witnessed n P N (diagramIn st g))) (stop 18 0) last in
+    cond (not (isEntry st root)) (stop 13 0) (cond (leb 1024 (st .lines)) (stop 22 0) (cond (eqb g 1) (stop 17 0) shut))
+
+-- ---- the proof
+
+-- "End: 16, 11, 20." "11: the byte after the end record"
+unfoldable pub endStep : State → Bool → Step
+unfolding waiting
+endStep st more = cond (waiting st) (stop 16 0) (cond more (stop 11 1) (cond (st .refuted) (stop 0 0) (stop 20 0)))
+
+-- A record; `more` tells whether a byte follows it.
+unfoldable pub step : ℕ → ℕ → State → Bool → Record → Step
+unfolding nodeStep witnessStep lineStep endStep
+step n s st more (NodeEntry b) = nodeStep n s st b
+step n s st more (Witness v b) = witnessStep n st v b
+step n s st more (ProofLine rule root) = lineStep n s st rule (root .0)
+step n s st more End = endStep st more
+step n s st more CutShort = stop 10 0
+step n s st more UnknownKind = stop 9 0
+step n s st more NoRecord = stop 10 0
+
+-- What the check says, and the nodes and members that it leaves.
+pub record Verdict : Type 0 where
+  pub number : ℕ
+  pub place : ℕ
+  pub lines : ℕ
+  pub rounds : ℕ
+  pub nodes : List Node
+  pub members : List ℕ
+
+-- "A refused proof leaves the clauses and accepted lines with their nodes (those of all their entries) [..]. Number 0 leaves the same;
+-- nodes of entries after the last accepted line are dropped in both."
+abbrev pub left : ℕ → ℕ → State → Verdict
+left number place st = record {
+  number = number;
+  place = place;
+  lines = st .lines;
+  rounds = st .rounds;
+  nodes = take (st .kept) (st .nodes);
+  members = st .members;
+}
+
+abbrev pub afterStep : Step → State → ℕ → (State → Verdict) → Verdict
+afterStep (stop number offset) st at rest = left number (at + offset) st
+afterStep (next st′) st at rest = rest st′
+
+-- The records from a place on. A record has at least one byte, so that one step more than there are bytes is enough.
+unfoldable pub records : ℕ → ℕ → ℕ → List ℕ → State → ℕ → Verdict
+unfolding step
+records zero n s proof st at = left 10 at st
+records (suc steps) n s proof st at =
+    let r = recordAt proof at in
+    afterStep (step n s st (ltb (at + lengthOf r) (length proof)) r) st at (λ st′. records steps n s proof st′ (at + lengthOf r))
+
+-- ---- the formula
+
+-- "A refused formula leaves table and lists all zero, count 2."
+abbrev pub refusedFormula : ℕ → ℕ → Verdict
+refusedFormula number place = record { number = number; place = place; lines = 0; rounds = 0; nodes = emptied; members = [] }
+
+abbrev pub afterClause : Placing → (List Node → ℕ → Verdict) → ℕ → Verdict
+afterClause (full t) rest first = refusedFormula 8 first
+afterClause (placed t k) rest first = rest t k
+
+-- "Clauses become members 0, 1, 2 and so on. Tokens are judged in file order, and a clause is made as it closes." Then the proof.
+unfoldable pub clauses : ℕ → ℕ → List ℕ → List Node → List ℕ → Reading → Verdict
+unfolding records
+clauses n s proof t ms (clause ls first rest) =
+    afterClause (place s t (meaning.clause n ls)) (λ t₁ k. clauses n s proof t₁ (ms ++ k ∷ []) rest) first
+clauses n s proof t ms complete = records (suc (length proof)) n s proof (begun t ms) 0
+clauses n s proof t ms (refusal number place) = refusedFormula number place
+
+abbrev pub afterHeader : ℕ → List ℕ → List ℕ → Header → Verdict
+afterHeader s formula proof (Proper n many at) = clauses n s proof emptied [] (clausesFrom formula n many at)
+afterHeader s formula proof (Improper number place) = refusedFormula number place
+
+-- The check of a formula and a proof with a table of s places.
+unfoldable pub verdict : ℕ → List ℕ → List ℕ → Verdict
+unfolding clauses header
+verdict s formula proof = afterHeader s formula proof (header formula)
+
+-- ---- the call
+
+-- What the call says, and what every lent place holds after it.
+pub record Outcome : Type 0 where
+  pub number : ℕ
+  pub place : ℕ
+  pub lines : ℕ
+  pub rounds : ℕ
+  pub count : ℕ
+  pub columns : Columns
+  pub members : List ℕ
+  pub scratch : List ℕ
+
+-- "the member list has 2,048 or more, the scratch list 4,096 or more" (01, What is checked)
+unfoldable pub lentFits : List ℕ → List ℕ → List ℕ → List ℕ → List ℕ → Bool
+lentFits vars lows highs members scratch = sizeFits vars lows highs && (leb 2048 (length members) && leb 4096 (length scratch))
+
+abbrev pub zeros : ℕ → List ℕ
+zeros k = replicate k 0
+
+-- "zeros above. [..] Scratch ends as zeros."
+unfoldable pub outcome : ℕ → ℕ → ℕ → Verdict → Outcome
+outcome s m c v = record {
+  number = v .number;
+  place = v .place;
+  lines = v .lines;
+  rounds = v .rounds;
+  count = length (v .nodes);
+  columns = columnsOf (padded s (v .nodes));
+  members = v .members ++ zeros (m - length (v .members));
+  scratch = zeros c;
+}
+
+-- "Number 7 changes nothing": "place 0, no lines, no rounds and the count as lent".
+unfoldable pub check : List ℕ → List ℕ → List ℕ → ℕ → List ℕ → List ℕ → List ℕ → List ℕ → Outcome
+unfolding lentFits outcome verdict
+check vars lows highs count members scratch formula proof =
+    let done = outcome (length vars) (length members) (length scratch) (verdict (length vars) formula proof) in
+    let seven : Outcome = record {
+      number = 7;
+      place = 0;
+      lines = 0;
+      rounds = 0;
+      count = count;
+      columns = record { vars = vars; lows = lows; highs = highs };
+      members = members;
+      scratch = scratch;
+    } in
+    cond (lentFits vars lows highs members scratch) done seven
