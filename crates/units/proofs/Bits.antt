@@ -1,8 +1,7 @@
 -- The variables of a word made by `&`, `|` and one bit, and of the words of none and of all. The idea: each law is about one binary
 -- digit once both words are shifted. Assumes nothing.
-use mathlib.Core.Path.{_≡_, refl, sym, ap, ap₂, _∙_}
-use mathlib.Core.Logic.{_≢_}
-use mathlib.Core.Bool.{Bool, true, false, _&&_, _||_, cond}
+use mathlib.Core.Path.{_≡_, refl, sym, ap, _∙_}
+use mathlib.Core.Bool.{Bool, true, false, _&&_, _||_}
 use Prim.Native.Nat.{ℕ, zero, suc, _+_, _-_, _*_, _/_, _%_, _^_, _≤_, _<_}
 use native.Mathlib.Nat.{one-mul, div-eq-of-lt, div-self, zero-div, pow-suc, mul-mod-left}
 use native.Mathlib.Omega.{arith}

@@ -1,7 +1,7 @@
 -- U of a node from those of its two sides. The idea: the branchwise U is the literal one, and a side is 0 exactly where its number is.
 -- Assumes nothing.
-use mathlib.Core.Path.{_≡_, refl, sym, ap, ap₂, _∙_}
-use mathlib.Core.Bool.{Bool, true, false, not, _&&_, _||_, cond}
+use mathlib.Core.Path.{_≡_, sym, ap, ap₂, _∙_}
+use mathlib.Core.Bool.{Bool, true, false, _&&_, _||_, cond}
 use mathlib.Core.List.{List}
 use Prim.Native.Nat.{ℕ, _≤_, _<_}
 use native.Mathlib.Omega.{arith}
@@ -9,14 +9,14 @@ use lib.ListN.{length, getD}
 use lib.Dec.{eqb}
 use lib.Bits.{bitAnd}
 use borrow.Author.Tests.{eqb-true, eq-eqb}
-use Rattle.meaning.specs.Diagram.{Diagram, leaf, node, same, Reduced}
+use Rattle.meaning.specs.Diagram.{Diagram, leaf, node, same}
 use Rattle.meaning.specs.Operations.{isUnit}
 use Rattle.meaning.specs.Words.{inWord}
 use Rattle.meaning.specs.Branchwise.{unitAt}
 use Rattle.meaning.proofs.Booleans.{both-ways}
 use Rattle.meaning.proofs.Units.{isUnit-is, same-eq, eq-same}
 use Rattle.table.specs.Nodes.{Node, at, diagramAt}
-use Rattle.table.proofs.Order.{Ordered, Fits}
+use Rattle.table.proofs.Order.{Ordered}
 use Rattle.table.proofs.Numbers.{diagramAt-zero, diagramAt-one, diagramAt-node, diagramAt-injective, diagramAt-reduced}
 use Rattle.walks.specs.Readable.{Readable, nodesIn}
 use Rattle.walks.proofs.Here.{Here, here, node-in, ordered-in, length-in}

@@ -1,6 +1,6 @@
 -- Whether a node's cofactor by literals is a constant, from its two sides; and the memo of the nodes known to be. The idea: the cofactor
 -- is the branch over the cofactors of the two sides, which are one side where its variable has a literal. Assumes nothing.
-use mathlib.Core.Path.{_≡_, refl, sym, ap, ap₂, _∙_}
+use mathlib.Core.Path.{_≡_, refl, sym, _∙_}
 use mathlib.Core.Logic.{_≢_}
 use mathlib.Core.Bool.{Bool, true, false, not, _&&_, cond}
 use mathlib.Core.List.{List}

@@ -1,15 +1,15 @@
 -- `units_from` gives the node's units, and its memo stays right. The node's number falls. Assumes nothing.
-use mathlib.Core.Path.{_≡_, refl, sym, ap, _∙_, subst}
+use mathlib.Core.Path.{_≡_, sym, _∙_, subst}
 use mathlib.Core.List.{List}
 use Prim.Native.Nat.{ℕ, _+_, _*_, _/_, _%_, _≤_, _<_}
 use native.Mathlib.Omega.{arith}
-use lib.ListN.{length, getD, length-set}
+use lib.ListN.{length}
 use borrow.Author.Needs.{needs}
 use Rattle.table.specs.Nodes.{Node}
 use Rattle.walks.specs.Readable.{Readable, nodesIn}
 use Rattle.walks.proofs.Here.{Here, here}
 use Rattle.units.specs.declared.Units.{Units}
-use Rattle.units.specs.Units.{joined, UnitsAt, stored, UnitsMemo}
+use Rattle.units.specs.Units.{UnitsAt, UnitsMemo}
 use Rattle.units.proofs.Branches.{units-zero, units-one, units-join}
 use Rattle.units.proofs.Slots.{units-known, units-stored}
 use borrow.Fn.Kinds.{In}

@@ -2,12 +2,8 @@
 use mathlib.Core.Path.{ap₂}
 use Prim.Native.Nat.{ℕ}
 use borrow.Author.Needs.{needs}
-use Rattle.units.specs.declared.Units.{Units}
 use Rattle.units.proofs.join.Statement.{statement}
 use Rattle.units.proofs.join.Tie as tie
-use Rattle.units.proofs.join.Reads as reads
-use Rattle.units.proofs.join.Lts as lts
-use Rattle.units.proofs.with_variable.Reads as with-variable-reads
 
 with-variable-requires : tie.Need-with-variable-requires
 with-variable-requires c κs = search needs

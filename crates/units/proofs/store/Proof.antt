@@ -4,8 +4,6 @@ use lib.ListN.{length-set}
 use borrow.Author.Needs.{needs}
 use Rattle.units.proofs.store.Statement.{statement}
 use Rattle.units.proofs.store.Tie as tie
-use Rattle.units.proofs.store.Reads as reads
-use Rattle.units.proofs.store.Lts as lts
 
 cast-memo : tie.Need-cast-memo
 cast-memo c = search needs

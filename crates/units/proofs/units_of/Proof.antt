@@ -5,10 +5,6 @@ use borrow.Author.Needs.{needs}
 use Rattle.units.proofs.Slots.{units-cleared}
 use Rattle.units.proofs.units_of.Statement.{statement}
 use Rattle.units.proofs.units_of.Tie as tie
-use Rattle.units.proofs.units_of.Reads as reads
-use Rattle.units.proofs.units_of.Lts as lts
-use Rattle.units.proofs.units_from.Reads as units-from-reads
-use Rattle.walks.proofs.clear_memo.Reads as clear-memo-reads
 
 clear-memo-requires : tie.Need-clear-memo-requires
 clear-memo-requires c κs = search needs

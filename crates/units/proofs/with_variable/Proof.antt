@@ -4,8 +4,6 @@ use Rattle.units.specs.Units.{withVariable}
 use Rattle.units.proofs.Bits.{one-shifted}
 use Rattle.units.proofs.with_variable.Statement.{statement}
 use Rattle.units.proofs.with_variable.Tie as tie
-use Rattle.units.proofs.with_variable.Reads as reads
-use Rattle.units.proofs.with_variable.Lts as lts
 
 sub-i : tie.Need-sub-i
 sub-i c = search needs

@@ -1,5 +1,5 @@
 -- `clear_memo` leaves zeros. The invariant: the first i places are zeros and the rest are as they were. Assumes nothing.
-use mathlib.Core.Path.{_≡_, refl, ap, ap₂, _∙_}
+use mathlib.Core.Path.{_≡_, refl, ap, _∙_}
 use mathlib.Core.List.{List, _++_, append-nil}
 use Prim.Native.Nat.{ℕ, _-_, _≤_, _<_}
 use native.Mathlib.Omega.{arith}
@@ -9,8 +9,6 @@ use borrow.Author.Needs.{needs}
 use borrow.Author.Fill.{fill-more}
 use Rattle.walks.proofs.clear_memo.Statement.{statement}
 use Rattle.walks.proofs.clear_memo.Tie as tie
-use Rattle.walks.proofs.clear_memo.Reads as reads
-use Rattle.walks.proofs.clear_memo.Lts as lts
 
 abbrev Inv-loop : tie.InvT-loop
 Inv-loop memo₀ i₀ memo i = (memo ≡ replicate i 0 ++ drop i memo₀) × (i ≤ length memo₀) × (length memo ≡ length memo₀)

@@ -3,8 +3,6 @@ use borrow.Author.Needs.{needs}
 use Rattle.meaning.specs.Words.{inWord}
 use Rattle.walks.proofs.in_word.Statement.{statement}
 use Rattle.walks.proofs.in_word.Tie as tie
-use Rattle.walks.proofs.in_word.Reads as reads
-use Rattle.walks.proofs.in_word.Lts as lts
 
 sub-i : tie.Need-sub-i
 sub-i c = search needs

@@ -5,10 +5,6 @@ use borrow.Author.Needs.{needs}
 use Rattle.walks.proofs.Constant.{constant-cleared}
 use Rattle.walks.proofs.is_constant.Statement.{statement}
 use Rattle.walks.proofs.is_constant.Tie as tie
-use Rattle.walks.proofs.is_constant.Reads as reads
-use Rattle.walks.proofs.is_constant.Lts as lts
-use Rattle.walks.proofs.clear_memo.Reads as clear-memo-reads
-use Rattle.walks.proofs.constant_from.Reads as constant-from-reads
 
 clear-memo-requires : tie.Need-clear-memo-requires
 clear-memo-requires c κs = search needs

@@ -1,9 +1,6 @@
 -- `sides_of` gives the two nodes. Assumes nothing.
-use mathlib.Core.Path.{_≡_, sym, _∙_}
-use mathlib.Core.Bool.{true, false}
-use lib.ListN.{getD}
+use mathlib.Core.Path.{sym, _∙_}
 use borrow.Author.Needs.{needs}
-use Rattle.meaning.specs.Words.{inWord}
 use Rattle.walks.specs.Constant.{sidesUnder}
 use Rattle.walks.proofs.Here.{Here, here}
 use Rattle.walks.proofs.sides_of.Statement.{statement}
