@@ -6,6 +6,7 @@ ghost use mathlib.Core.Path.{_≡_};
 ghost use Rattle.checker.specs.Single.{evaluation};
 
 // What evaluation says: 01's number, yes or no, and the count as lent.
+#[repr(C)]
 pub struct Evaluated {
     pub number: u8,
     pub yes: bool,

@@ -1,10 +1,10 @@
 -- The rows of 01's table of numbers that belong to the formula, 1 to 6, each with number and place, and the readings of
 -- docs/DECISIONS.md, by computation from the definition. Assumes nothing.
 use mathlib.Core.Path.{_≡_, refl}
-use mathlib.Core.Bool.{Bool, true, false}
+use mathlib.Core.Bool.{true, false}
 use mathlib.Core.List.{List, [] as []ᴸ, _∷_ as _∷ᴸ_, map}
 use Prim.Native.Nat.{ℕ}
-use Prim.Native.Char.{Char, code}
+use Prim.Native.Char.{code}
 use Prim.Native.String.{String, [], _∷_, _++_}
 use Rattle.meaning.specs.Operations.{Literal}
 use Rattle.dimacs.specs.Clauses.{formula, Reading, clause, complete, refusal}

@@ -1,2 +1,12 @@
 pub mod Examples
+pub mod Cases
 pub mod Runs
+pub mod Digits
+pub mod Tokens
+pub mod Lines
+pub mod Headers
+pub mod Clauses
+pub mod Bounds
+pub mod Words
+pub mod Values
+pub mod Formula

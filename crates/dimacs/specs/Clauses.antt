@@ -88,22 +88,26 @@ formula s = afterHeader s (header s)
 
 -- ---- a clause's literals as two words, bit v - 1 for variable v
 
--- A word with the literal's variable, where the literal has the sign b.
-abbrev pub withVariable : Bool → ℕ → meaning.Literal → ℕ
-withVariable b w l = cond (Bool·beq (l .positive) b) (bitOr w (2 ^ (l .variable - 1))) w
+-- A word with the variable v, where it is wanted.
+abbrev pub withVariable : Bool → ℕ → ℕ → ℕ
+withVariable wanted w v = cond wanted (bitOr w (2 ^ (v - 1))) w
 
 -- The word w with the variables of the literals of sign b.
 unfoldable pub setFrom : Bool → ℕ → List meaning.Literal → ℕ
 setFrom b w [] = w
-setFrom b w (l ∷ ls) = setFrom b (withVariable b w l) ls
+setFrom b w (l ∷ ls) = setFrom b (withVariable (Bool·beq (l .positive) b) w (l .variable)) ls
 
-unfoldable pub setOf : Bool → List meaning.Literal → ℕ
-unfolding setFrom
+-- The variables that occur with sign b.
+abbrev pub setOf : Bool → List meaning.Literal → ℕ
 setOf b ls = setFrom b 0 ls
 
--- What the code gives of what comes next: the sets of the variables that occur positively and negatively, and the two places.
-unfoldable pub clauseOf : Next → Clause
-unfolding setOf
-clauseOf (closed ls first next) = Closed (record { positive = setOf true ls; negative = setOf false ls; first = first; next = next })
-clauseOf ended = End
-clauseOf (refused number place) = Refused number place
+-- What the code gives of what comes next, with the two words read before.
+unfoldable pub clauseAfter : ℕ → ℕ → Next → Clause
+unfolding setFrom
+clauseAfter positive negative (closed ls first next) =
+    Closed (record { positive = setFrom true positive ls; negative = setFrom false negative ls; first = first; next = next })
+clauseAfter positive negative ended = End
+clauseAfter positive negative (refused number place) = Refused number place
+
+abbrev pub clauseOf : Next → Clause
+clauseOf next = clauseAfter 0 0 next

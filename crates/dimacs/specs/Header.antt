@@ -1,5 +1,5 @@
 -- The header: the lines before it, its form, its limits. (01, The formula; numbers 1 and 2)
-use mathlib.Core.Bool.{Bool, true, false, _&&_, _||_, cond}
+use mathlib.Core.Bool.{Bool, true, _&&_, _||_, cond}
 use mathlib.Core.List.{List, [], _∷_}
 use Prim.Native.Nat.{ℕ, zero, suc, _+_}
 use lib.ListN.{length, getD}
@@ -7,7 +7,7 @@ use lib.Seq.{slice}
 use lib.Dec.{eqb, leb, ltb}
 use Rattle.dimacs.specs.declared.Header.{Header}
 use Rattle.dimacs.specs.declared.Header.the-variants.{Proper, Improper}
-use Rattle.dimacs.specs.Text.{isSpace, isBlank, isToken, past, tokenEnd, lineEnd}
+use Rattle.dimacs.specs.Text.{isSpace, isBlank, past, tokenEnd, lineEnd}
 use Rattle.dimacs.specs.Numbers.{isNatural, value, valueAfter}
 
 -- "Before the header: blank lines (spaces, tabs, CR at most) and lines beginning with `c`."
@@ -33,7 +33,7 @@ word s at = slice at (tokenEnd s at) s
 -- The bytes at a place.
 abbrev pub spells : List ℕ → ℕ → List ℕ → Bool
 spells s at [] = true
-spells s at (b ∷ bs) = eqb (getD s at 0) b && spells s (suc at) bs
+spells s at (b ∷ bs) = eqb (getD s at 0) b && spells s (at + 1) bs
 
 unfoldable pub isWord : List ℕ → ℕ → List ℕ → Bool
 unfolding past

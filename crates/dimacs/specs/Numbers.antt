@@ -1,7 +1,7 @@
 -- Numbers of the formula as lists of bytes, and what a token says. (01, The formula)
 use mathlib.Core.Bool.{Bool, true, false, not, _&&_, _||_, cond}
 use mathlib.Core.List.{List, [], _∷_}
-use Prim.Native.Nat.{ℕ, zero, suc, _+_, _-_, _*_}
+use Prim.Native.Nat.{ℕ, _+_, _-_, _*_}
 use lib.Dec.{eqb, leb, ltb}
 use Rattle.dimacs.specs.declared.Natural.{Natural}
 use Rattle.dimacs.specs.declared.Natural.the-variants.{Value, Improper}
@@ -9,7 +9,7 @@ use Rattle.dimacs.specs.declared.Token.{Token}
 use Rattle.dimacs.specs.declared.Token.the-variants.{Closing, Literal, Wrong}
 
 abbrev pub isDigit : ℕ → Bool
-isDigit b = not (ltb b 48 || ltb 57 b)
+isDigit b = leb 48 b && leb b 57
 
 unfoldable pub allDigits : List ℕ → Bool
 allDigits [] = true
@@ -65,6 +65,10 @@ tokenOf n bs =
 -- A number that the code tells apart from others up to 1,024.
 abbrev pub capped : ℕ → ℕ
 capped v = cond (ltb 1024 v) 1025 v
+
+-- Digits read after the value n.
+abbrev pub digitsAfter : ℕ → List ℕ → Natural
+digitsAfter n bs = cond (allDigits bs) (Value (capped (valueAfter n bs))) Improper
 
 abbrev pub naturalOf : List ℕ → Natural
 naturalOf bs = cond (isNatural bs) (Value (capped (value bs))) Improper

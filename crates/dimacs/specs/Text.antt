@@ -1,7 +1,7 @@
 -- The formula's bytes: which of them part lines and tokens, and runs of them. (01, The formula)
 use mathlib.Core.Bool.{Bool, not, _||_, cond}
 use mathlib.Core.List.{List, [], _∷_}
-use Prim.Native.Nat.{ℕ, zero, suc, _+_}
+use Prim.Native.Nat.{ℕ, suc, _+_}
 use lib.ListN.{drop}
 use lib.Dec.{eqb}
 use Rattle.dimacs.specs.declared.Class.{Class}

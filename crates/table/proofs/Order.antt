@@ -93,7 +93,7 @@ pub record Fits (t : List Node) (k : ℕ) (x : Node) : Type 0 where
   pub above-high : 2 ≤ x .high → x .var < at t (x .high) .var
   pub differ : x .low ≢ x .high
 
-above-true : (t : List Node) (v child : ℕ) → above t v child ≡ true → 2 ≤ child → v < at t child .var
+pub above-true : (t : List Node) (v child : ℕ) → above t v child ≡ true → 2 ≤ child → v < at t child .var
 unfolding above
 above-true t v child e h = ltb-true v (at t child .var) (or-second (ltb child 2) (ltb v (at t child .var)) e (le-ltb child 2 h))
 

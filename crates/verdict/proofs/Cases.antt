@@ -1,28 +1,30 @@
--- 01's cases A to F, I and J by computation from the definitions that the contract cites. Assumes nothing.
+-- 01's cases A to J, and the examples of its table of numbers, by computation from the definitions that the contracts cite.
+-- Assumes nothing.
 use mathlib.Core.Path.{_≡_, refl}
-use mathlib.Core.Bool.{Bool, true, false}
-use mathlib.Core.List.{List, [], _∷_, _++_}
+use mathlib.Core.List.{[], _∷_}
 use native.Mathlib.Decide.{ℕ-discrete}
-use Prim.Native.Nat.{ℕ}
+use lib.ListN.{replicate}
 use Rattle.meaning.specs.Diagram.{diagramFrom, same?, valueFrom}
-use Rattle.meaning.specs.Operations as operations
-use Rattle.meaning.specs.Rules.{rup}
+use Rattle.meaning.specs.Operations.{clause, conjunction, cofactor}
+use Rattle.meaning.specs.Rules.{rup, pr, witnessed}
+use Rattle.meaning.specs.Words.{inWord}
 use Rattle.table.specs.Nodes.{place, above, diagramAt}
+use Rattle.table.specs.Columns.{sizeFits}
 use Rattle.dimacs.specs.Clauses.{clausesFrom}
 use Rattle.records.specs.Records.{recordAt}
-use Rattle.verdict.specs.Check.{verdict, Verdict}
+use Rattle.verdict.specs.Check.{verdict, check}
+use Rattle.verdict.specs.Cases.{GivesAll, caseTable, numberTable, unitsTo, bytes, A-formula, A-proof}
 
-abbrev formula-A : List ℕ
-formula-A =
-    0x70 ∷ 0x20 ∷ 0x63 ∷ 0x6e ∷ 0x66 ∷ 0x20 ∷ 0x32 ∷ 0x20 ∷ 0x34 ∷ 0x0a ∷ 0x31 ∷ 0x20 ∷ 0x32 ∷ 0x20 ∷ 0x30 ∷ 0x0a ∷ 0x2d ∷ 0x31 ∷ 0x20 ∷ 0x32 ∷ 0x20 ∷ 0x30 ∷ 0x0a
-    ∷ 0x31 ∷ 0x20 ∷ 0x2d ∷ 0x32 ∷ 0x20 ∷ 0x30 ∷ 0x0a ∷ 0x2d ∷ 0x31 ∷ 0x20 ∷ 0x2d ∷ 0x32 ∷ 0x20 ∷ 0x30 ∷ 0x0a ∷ []
+-- "A to J form one table, and one theorem says that the rules give each row." (01, Conditions of acceptance)
+pub cases : GivesAll caseTable
+unfolding verdict clausesFrom place clause diagramFrom same? recordAt above rup valueFrom diagramAt ℕ-discrete conjunction cofactor unitsTo pr witnessed inWord
+cases = (refl, (refl, (refl, (refl, (refl, (refl, (refl, (refl, (refl, (refl, (refl, tt)))))))))))
 
-abbrev proof-A : List ℕ
-proof-A = 0x4E ∷ 2 ∷ 0 ∷ 0 ∷ 1 ∷ 0 ∷ 0x52 ∷ 2 ∷ 0 ∷ 0x52 ∷ 0 ∷ 0 ∷ 0x45 ∷ []
+pub numbers : GivesAll numberTable
+unfolding verdict clausesFrom place clause diagramFrom same? recordAt above rup pr witnessed valueFrom diagramAt ℕ-discrete inWord
+numbers = (refl, (refl, (refl, (refl, (refl, (refl, (refl, (refl, (refl, (refl, (refl, (refl, (refl, (refl, (refl, (refl, (refl, (refl, (refl, tt)))))))))))))))))))
 
-abbrev line : Verdict → List ℕ
-line v = v .number ∷ v .place ∷ v .lines ∷ v .rounds ∷ []
-
-A : line (verdict 4096 formula-A proof-A) ≡ 0 ∷ 12 ∷ 2 ∷ 1 ∷ []
-unfolding verdict clausesFrom place operations.clause diagramFrom same? recordAt above rup valueFrom diagramAt ℕ-discrete
-A = refl
+-- "7: a lent part of wrong size: table of 1 place"
+pub seven : check (0 ∷ []) (0 ∷ []) (0 ∷ []) 1 (replicate 2048 0) (replicate 4096 0) (bytes A-formula) A-proof .number ≡ 7
+unfolding check sizeFits
+seven = refl

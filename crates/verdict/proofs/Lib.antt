@@ -1,1 +1,10 @@
 pub mod Cases
+pub mod Uses
+pub mod Steps
+pub mod Standing
+pub mod Formula
+pub mod Clauses
+pub mod Ends
+pub mod Refuted
+pub mod Exactly
+pub mod Values

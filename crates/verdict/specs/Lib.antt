@@ -1,1 +1,4 @@
 pub mod Check
+pub mod Cases
+pub mod Run
+pub mod Satisfies

@@ -1,68 +1,49 @@
-use mathlib.Core.Path.{sym, ap, _∙_}
+-- `admits` asks the test of each class. Assumes nothing.
+use mathlib.Core.Path.{ap}
 use mathlib.Core.Bool.{not}
-use Rattle.dimacs.specs.Text.{admitted}
 use borrow.Author.Needs.{needs}
 use Rattle.dimacs.proofs.admits.Statement.{statement}
 use Rattle.dimacs.proofs.admits.Tie as tie
-use Rattle.dimacs.proofs.admits.Reads as reads
-use Rattle.dimacs.proofs.admits.Lts as lts
-use Rattle.dimacs.proofs.is_blank.Reads as is-blank-reads
-use Rattle.dimacs.proofs.is_parting.Reads as is-parting-reads
-use Rattle.dimacs.proofs.is_space.Reads as is-space-reads
 
--- src/lib.rt:81:25
 enum-told : tie.Need-enum-told
 enum-told c = search needs
 
--- src/lib.rt:81:25
 is-space-requires : tie.Need-is-space-requires
 is-space-requires c κs = search needs
 
--- src/lib.rt:82:25
 enum-told-2 : tie.Need-enum-told-2
 enum-told-2 c = search needs
 
--- src/lib.rt:82:25
 is-blank-requires : tie.Need-is-blank-requires
 is-blank-requires c κs = search needs
 
--- src/lib.rt:83:27
 enum-told-3 : tie.Need-enum-told-3
 enum-told-3 c = search needs
 
--- src/lib.rt:83:27
 is-parting-requires : tie.Need-is-parting-requires
 is-parting-requires c κs = search needs
 
--- src/lib.rt:84:26
 enum-told-4 : tie.Need-enum-told-4
 enum-told-4 c = search needs
 
--- src/lib.rt:84:26
 is-parting-requires-2 : tie.Need-is-parting-requires-2
 is-parting-requires-2 c κs = search needs
 
--- src/lib.rt:85:24
 enum-told-5 : tie.Need-enum-told-5
 enum-told-5 c = search needs
 
--- src/lib.rt:77:1
 returns : tie.Need-returns
 returns c = rw (c .before .enum-told .given .1) (c .is-space .ensures)
 
--- src/lib.rt:77:1
 returns-2 : tie.Need-returns-2
 returns-2 c = rw (c .before .enum-told2 .given .1) (c .is-blank .ensures)
 
--- src/lib.rt:77:1
 returns-3 : tie.Need-returns-3
 returns-3 c = rw (c .before .enum-told3 .given .1) (c .is-parting .ensures)
 
--- src/lib.rt:77:1
 returns-4 : tie.Need-returns-4
 returns-4 c = rw (c .before .enum-told4 .given .1) (ap not (c .is-parting2 .ensures))
 
--- src/lib.rt:77:1
 returns-5 : tie.Need-returns-5
 returns-5 c = rw (c .enum-told5 .given .1)
 

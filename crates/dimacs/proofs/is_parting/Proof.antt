@@ -1,20 +1,15 @@
+-- `is_parting` is `is_blank` or LF. Assumes nothing.
 use mathlib.Core.Path.{sym}
 use borrow.Author.Needs.{needs}
 use Rattle.dimacs.proofs.is_parting.Statement.{statement}
 use Rattle.dimacs.proofs.is_parting.Tie as tie
-use Rattle.dimacs.proofs.is_parting.Reads as reads
-use Rattle.dimacs.proofs.is_parting.Lts as lts
-use Rattle.dimacs.proofs.is_blank.Reads as is-blank-reads
 
--- src/lib.rt:73:5
 is-blank-requires : tie.Need-is-blank-requires
 is-blank-requires c κs = search needs
 
--- src/lib.rt:70:1
 returns : tie.Need-returns
 returns c = rw (sym (c .before .is-blank .ensures), c .if1 .taken)
 
--- src/lib.rt:70:1
 returns-2 : tie.Need-returns-2
 returns-2 c = rw (sym (c .before .is-blank .ensures), c .if1 .left)
 

@@ -1,14 +1,11 @@
+-- `is_space` answers whether the byte is a space or a tab, test by test. Assumes nothing.
 use borrow.Author.Tests.{eq-eqb, ne-eqb}
 use Rattle.dimacs.proofs.is_space.Statement.{statement}
 use Rattle.dimacs.proofs.is_space.Tie as tie
-use Rattle.dimacs.proofs.is_space.Reads as reads
-use Rattle.dimacs.proofs.is_space.Lts as lts
 
--- src/lib.rt:58:1
 returns : tie.Need-returns
 returns c = rw (eq-eqb _ _ (c .if1 .taken))
 
--- src/lib.rt:58:1
 returns-2 : tie.Need-returns-2
 returns-2 c = rw (ne-eqb _ _ (c .if1 .left))
 

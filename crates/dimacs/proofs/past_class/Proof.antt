@@ -1,16 +1,15 @@
+-- `past_class` ends where the run of the class ends. The loop: what is left of the run is the run. The measure is what is left
+-- of the text. Assumes nothing.
 use mathlib.Core.Path.{_≡_, refl, sym, _∙_}
-use Prim.Native.Nat.{_≤_, _<_, _-_}
+use Prim.Native.Nat.{_≤_, _-_}
 use native.Mathlib.Omega.{arith}
-use lib.ListN.{length, getD}
+use lib.ListN.{length}
 use borrow.Author.Needs.{needs}
 use borrow.Author.Tests.{not-true, not-false}
 use Rattle.dimacs.specs.Text.{admitted, past}
 use Rattle.dimacs.proofs.Runs.{past-end, past-stop, past-go}
 use Rattle.dimacs.proofs.past_class.Statement.{statement}
 use Rattle.dimacs.proofs.past_class.Tie as tie
-use Rattle.dimacs.proofs.past_class.Reads as reads
-use Rattle.dimacs.proofs.past_class.Lts as lts
-use Rattle.dimacs.proofs.admits.Reads as admits-reads
 
 abbrev Inv-loop : tie.InvT-loop
 Inv-loop s at class i₀ i = (at ≤ i) × (i ≤ length s) × (past (admitted class) s at ≡ past (admitted class) s i)
@@ -18,37 +17,29 @@ Inv-loop s at class i₀ i = (at ≤ i) × (i ≤ length s) × (past (admitted c
 abbrev μ-loop : tie.MeasureT-loop
 μ-loop s at class i₀ i = length s - i
 
--- src/lib.rt:78:5
 loop-holds : tie.Need-loop-holds Inv-loop μ-loop
 loop-holds c = (omega arith, omega arith, refl)
 
--- src/lib.rt:79:27
 shared-slice-read-admits : tie.Need-shared-slice-read-admits Inv-loop μ-loop
 shared-slice-read-admits c = search needs
 
--- src/lib.rt:79:13
 admits-requires : tie.Need-admits-requires Inv-loop μ-loop
 admits-requires c κs = search needs
 
--- src/lib.rt:80:13
 returns : tie.Need-returns Inv-loop μ-loop
 returns c = let k = c .before .before .before .before in
     (sym (k .loop .inv .2 ∙ past-stop _ _ _ (c .before .before .before .loop-test .taken) (sym (c .before .admits .ensures) ∙ not-true _ (c .if1 .taken))), (omega arith, omega arith))
 
--- src/lib.rt:82:9
 add-i : tie.Need-add-i Inv-loop μ-loop
 add-i c = search needs
 
--- src/lib.rt:78:5
 loop-less : tie.Need-loop-less Inv-loop μ-loop
 loop-less c = search needs
 
--- src/lib.rt:78:5
 loop-again : tie.Need-loop-again Inv-loop μ-loop
 loop-again c = let k = c .before .before .before .before in
     (omega arith, omega arith, k .loop .inv .2 ∙ past-go _ _ _ (c .before .before .before .loop-test .taken) (sym (c .before .admits .ensures) ∙ not-false _ (c .if1 .left)))
 
--- src/lib.rt:72:1
 returns-2 : tie.Need-returns-2 Inv-loop μ-loop
 returns-2 c = (sym (c .before .loop .inv .2 ∙ past-end _ _ _ (c .loop-test .left)), (omega arith, omega arith))
 

@@ -1,0 +1,105 @@
+-- `open_clause` reads to the closing 0. The loop: what is to be read is what is left to be read, with the two words so far. The measure is what is
+-- left of the text, since a literal has bytes. Assumes nothing.
+use mathlib.Core.Path.{_≡_, refl, sym, _∙_}
+use Prim.Native.Nat.{_≤_, _<_, _-_}
+use native.Mathlib.Omega.{arith}
+use lib.Seq.{slice}
+use lib.ListN.{length}
+use borrow.Author.Needs.{needs}
+use Rattle.dimacs.specs.declared.Token.the-variants.{Literal}
+use Rattle.dimacs.specs.Numbers.{tokenOf}
+use Rattle.dimacs.proofs.Tokens.{IsLiteral, literal-bounds}
+use Rattle.dimacs.proofs.Clauses.{restOf, rest-open, rest-closing, rest-wrong, rest-literal, literal-moves}
+use Rattle.dimacs.proofs.open_clause.Statement.{statement}
+use Rattle.dimacs.proofs.open_clause.Tie as tie
+
+abbrev Inv-loop : tie.InvT-loop
+Inv-loop s first variables positive₀ negative₀ at₀ positive negative at = (at ≤ length s) × (restOf s variables first 0 0 first ≡ restOf s variables first positive negative at)
+
+abbrev μ-loop : tie.MeasureT-loop
+μ-loop s first variables positive₀ negative₀ at₀ positive negative at = length s - at
+
+literal : (a : tie.After-variable Inv-loop μ-loop)
+    → tokenOf (a .before .before .before .before .before .before .before .args .variables) (slice (a .before .before .before .before .before .loop .at) (a .before .before .before .past-class .result) (a .before .before .before .before .before .before .before .args .s .now))
+    ≡ Literal (a .variable .given .0 .0) (a .variable .given .0 .1 .0)
+literal a = sym (a .before .before .read-token .ensures) ∙ a .variable .given .1
+
+within : (a : tie.After-variable Inv-loop μ-loop)
+    → IsLiteral (a .before .before .before .before .before .before .before .args .variables) (slice (a .before .before .before .before .before .loop .at) (a .before .before .before .past-class .result) (a .before .before .before .before .before .before .before .args .s .now)) (a .variable .given .0 .0)
+within a = literal-bounds _ _ _ _ (literal a)
+
+-- The next token lies behind this one.
+moves : (a : tie.After-variable Inv-loop μ-loop) → a .before .before .before .before .before .loop .at < a .before .before .before .past-class .result
+moves a = literal-moves _ _ _ _ _ _ (a .before .before .before .before .loop-test .taken) (a .before .before .before .past-class .ensures .0) (literal a)
+
+loop-holds : tie.Need-loop-holds Inv-loop μ-loop
+loop-holds c = (omega arith, refl)
+
+past-class-requires : tie.Need-past-class-requires Inv-loop μ-loop
+past-class-requires c κs = search needs
+
+read-token-requires : tie.Need-read-token-requires Inv-loop μ-loop
+read-token-requires c κs = search needs
+
+enum-told : tie.Need-enum-told Inv-loop μ-loop
+enum-told c = search needs
+
+returns : tie.Need-returns Inv-loop μ-loop
+returns c = sym
+    (c .before .before .before .before .before .loop .inv .1
+    ∙ rest-closing _ _ _ _ _ _ (c .before .before .before .before .loop-test .taken) _ (c .before .before .before .past-class .ensures .0) (sym (c .before .before .read-token .ensures) ∙ c .enum-told .given .1))
+
+enum-known-number : tie.Need-enum-known-number Inv-loop μ-loop
+enum-known-number c = search needs
+
+returns-2 : tie.Need-returns-2 Inv-loop μ-loop
+returns-2 c = sym
+    (c .before .before .before .before .before .before .loop .inv .1
+    ∙ rest-wrong _ _ _ _ _ _ (c .before .before .before .before .before .loop-test .taken) _ (c .before .before .before .before .past-class .ensures .0) _ (sym (c .before .before .before .read-token .ensures) ∙ c .before .number .given .1))
+
+enum-known-variable : tie.Need-enum-known-variable Inv-loop μ-loop
+enum-known-variable c = search needs
+
+with-variable-requires : tie.Need-with-variable-requires Inv-loop μ-loop
+with-variable-requires c κs = let l = within (c .before) in (l .least, omega (arith, l .most))
+
+with-variable-requires-2 : tie.Need-with-variable-requires-2 Inv-loop μ-loop
+with-variable-requires-2 c κs = let l = within (c .before .before) in (l .least, omega (arith, l .most))
+
+skip-between-requires : tie.Need-skip-between-requires Inv-loop μ-loop
+skip-between-requires c κs = search needs
+
+loop-less : tie.Need-loop-less Inv-loop μ-loop
+loop-less c = omega (arith, moves (c .before .before .before .before))
+
+loop-again : tie.Need-loop-again Inv-loop μ-loop
+loop-again c = (
+  omega arith,
+  c .before .before .before .before .before .before .before .before .before .loop .inv .1
+      ∙ rest-literal _ _ _ _ _ _ (c .before .before .before .before .before .before .before .before .loop-test .taken) _ (c .before .before .before .before .before .before .before .past-class .ensures .0) _ _ _ _ _ (literal (c .before .before .before .before)) (c .skip-between .ensures .0)
+      (c .before .before .with-variable .ensures) (c .before .with-variable2 .ensures),
+)
+
+returns-3 : tie.Need-returns-3 Inv-loop μ-loop
+returns-3 c = sym (c .before .loop .inv .1 ∙ rest-open _ _ _ _ _ _ (c .loop-test .left))
+
+pub open-clause-spec : {M : Type 1} → statement M
+open-clause-spec =
+    tie.close
+    (tie.spec
+    Inv-loop
+    μ-loop
+    loop-holds
+    past-class-requires
+    read-token-requires
+    enum-told
+    returns
+    enum-known-number
+    returns-2
+    enum-known-variable
+    with-variable-requires
+    with-variable-requires-2
+    skip-between-requires
+    loop-less
+    loop-again
+    returns-3)

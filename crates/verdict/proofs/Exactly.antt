@@ -1,0 +1,88 @@
+-- Number 0 is given exactly where the check reaches the end record of a refutation, and its place is that record's. The idea: each reached
+-- state has the verdict still before it, so that what its record says is the verdict. Assumes nothing.
+use mathlib.Core.Path.{_≡_, refl, ap, _∙_}
+use mathlib.Core.Logic.{_↔_}
+use mathlib.Core.List.{List}
+use Prim.Native.Nat.{ℕ, zero, suc, _+_, _-_, _≤_, _<_}
+use native.Mathlib.Omega.{arith}
+use lib.ListN.{length}
+use Rattle.table.specs.Nodes.{Node, place}
+use Rattle.dimacs.specs.Clauses.{Reading}
+use Rattle.records.specs.Records.{recordAt, lengthOf}
+use Rattle.records.proofs.Laws.{record-takes, record-within}
+use Rattle.verdict.specs.Check.{State, Step, next, stop, step, Verdict, left, afterStep, records, clauses, verdict}
+use Rattle.verdict.specs.Run.{Function, Meant, Making, opened, made, follows, Reached, begins, goes, Ended, refused, stopped, Refutation}
+use Rattle.verdict.proofs.Steps.{next-form, Refutes, step-refutes, refutes-step}
+use Rattle.verdict.proofs.Ends.{ended}
+
+module _ (s : ℕ) (text proof : List ℕ) where
+  making-runs : {n many : ℕ} {t : List Node} {ms : List ℕ} {fs : List Function} {r : Reading} → Making s text n many t ms fs r → verdict s text proof ≡ clauses n s proof t ms r
+  unfolding verdict clauses
+  making-runs (opened e) = rw e
+  making-runs (made M e) = making-runs M ∙ rw e
+
+  -- The verdict is still to come in a reached state, and there are steps enough for it.
+  record Ahead (n : ℕ) (st : State) (at : ℕ) : Type 0 where
+    steps : ℕ
+    within : at ≤ length proof
+    enough : length proof - at < steps
+    is : verdict s text proof ≡ records steps n s proof st at
+
+  goes-ahead : (n : ℕ) (st st′ : State) (at : ℕ) → step n s st (follows proof at) (recordAt proof at) ≡ next st′ → Ahead n st at → Ahead n st′ (at + lengthOf (recordAt proof at))
+  unfolding records
+  goes-ahead n st st′ at e A = go (A .steps) (A .enough) (A .is)
+    where
+      go : (steps : ℕ) → length proof - at < steps → verdict s text proof ≡ records steps n s proof st at → Ahead n st′ (at + lengthOf (recordAt proof at))
+      go zero enough is = absurd (omega arith)
+      go (suc steps) enough is =
+          let form = next-form n s st (follows proof at) (recordAt proof at) st′ e in
+          let takes : 1 ≤ lengthOf (recordAt proof at) = record-takes (recordAt proof at) form in
+          let inside : at + lengthOf (recordAt proof at) ≤ length proof = record-within proof at refl form in
+          record {
+            steps = steps;
+            within = inside;
+            enough = omega arith;
+            is = is ∙ ap (λ (x : Step). afterStep x st at (λ st′. records steps n s proof st′ (at + lengthOf (recordAt proof at)))) e;
+          }
+
+  reached-ahead : {n : ℕ} {st : State} {at : ℕ} {m : Meant} → Reached s text proof n st at m → Ahead n st at
+  unfolding clauses
+  reached-ahead (begins M) = record { steps = suc (length proof); within = omega arith; enough = omega arith; is = making-runs M }
+  reached-ahead {n} (goes {st} {st′} {at} R e) = goes-ahead n st st′ at e (reached-ahead R)
+
+  -- What the record of a reached state says, the check says.
+  pub reached-stops : {n : ℕ} {st : State} {at : ℕ} {m : Meant} → Reached s text proof n st at m → (number offset : ℕ)
+      → step n s st (follows proof at) (recordAt proof at) ≡ stop number offset → verdict s text proof ≡ left number (at + offset) st
+  unfolding records
+  reached-stops {n} {st} {at} R number offset e = go (A .steps) (A .enough) (A .is)
+    where
+      A : Ahead n st at
+      A = reached-ahead R
+
+      go : (steps : ℕ) → length proof - at < steps → verdict s text proof ≡ records steps n s proof st at → verdict s text proof ≡ left number (at + offset) st
+      go zero enough is = absurd (omega arith)
+      go (suc steps) enough is = is ∙ ap (λ (x : Step). afterStep x st at (λ st′. records steps n s proof st′ (at + lengthOf (recordAt proof at)))) e
+
+  zero-refutes : (v : Verdict) → Ended s text proof v → v .number ≡ 0 → Refutation s text proof
+  zero-refutes _ (refused named) z = absurd (named z)
+  zero-refutes _ (stopped {n} {number} {offset} {at} {st} {m} R e) z =
+      let F : Refutes st (follows proof at) (recordAt proof at) offset = step-refutes n s st (follows proof at) (recordAt proof at) offset (rw z at e) in
+      record { variables = n; state = st; place = at; meant = m; reached = R; end = F .end; none-waits = F .none-waits; last = F .last; zero-line = F .zero-line }
+
+  -- A refutation's end record is the verdict.
+  pub refutation-said : (F : Refutation s text proof) → verdict s text proof ≡ left 0 (F .place) (F .state)
+  refutation-said F =
+      let z : F .place + 0 ≡ F .place = omega arith in
+      reached-stops (F .reached) 0 0
+      (refutes-step (F .variables) s (F .state) (follows proof (F .place)) (recordAt proof (F .place)) 0 (record {
+        end = F .end;
+        none-waits = F .none-waits;
+        last = F .last;
+        zero-line = F .zero-line;
+        here = refl;
+      }))
+      ∙ rw z
+
+  -- "0: refuted; place of the end record"
+  pub zero-exactly : (verdict s text proof .number ≡ 0) ↔ Refutation s text proof
+  zero-exactly = ((λ z. zero-refutes (verdict s text proof) (ended s text proof) z), (λ F. ap (λ (v : Verdict). v .number) (refutation-said F)))

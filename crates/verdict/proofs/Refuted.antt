@@ -1,0 +1,207 @@
+-- Number 0 is given only where no assignment satisfies the formula, whatever the proof's bytes. The idea: an accepted line keeps the
+-- members satisfiable (meaning/proofs/Soundness), and with a 0 line among them they are not. Assumes nothing.
+use mathlib.Core.Path.{_≡_, refl, sym, ap, ap₂, _∙_, subst}
+use mathlib.Core.Bool.{Bool, true, false, _&&_, cond}
+use mathlib.Core.List.{List, [], _∷_, _++_, map, append-nil}
+use Prim.Native.Nat.{ℕ, zero, suc, _+_, _≤_}
+use native.Mathlib.Omega.{arith}
+use lib.ListN.{length}
+use lib.Dec.{eqb}
+use borrow.Author.Tests.{eqb-true}
+use Rattle.meaning.specs.Diagram.{Assignment, Diagram, value, valueFrom}
+use Rattle.meaning.specs.Operations as meaning
+use Rattle.meaning.specs.Words.{inWord}
+use Rattle.meaning.proofs.Booleans.{t≢f, not-true, and-both, or-cases}
+use Rattle.meaning.proofs.Clauses.{Within}
+use Rattle.meaning.proofs.Soundness.{Satisfies, rup-sound, pr-sound}
+use Rattle.table.specs.Nodes.{Node, diagramAt, Placing, full, placed, put}
+use Rattle.table.proofs.Numbers.{diagramAt-zero}
+use Rattle.dimacs.specs.Clauses.{Reading, clause, complete, refusal, clausesFrom, formula}
+use Rattle.dimacs.proofs.Bounds.{HeaderIn, header-in}
+use Rattle.dimacs.proofs.Formula.{formula-proper}
+use Rattle.records.specs.declared.Rule.{Rule}
+use Rattle.records.specs.declared.Rule.the-variants.{Rup, Pr}
+use Rattle.records.specs.declared.Record.{Record}
+use Rattle.records.specs.declared.Record.the-variants.{NodeEntry, Witness, ProofLine, End, CutShort, UnknownKind, NoRecord}
+use Rattle.records.specs.Records.{recordAt}
+use Rattle.verdict.specs.Check.{State, begun, next, entryNode, entered, diagramIn, step, Verdict, verdict, Outcome, lentFits, outcome, check}
+use Rattle.verdict.specs.Run.{Function, Meant, entryMeant, afterRecord, Valued, Making, opened, made, follows, Reached, begins, goes, Ended, refused, stopped}
+use Rattle.verdict.specs.Satisfies.{clausesOf, readToEnd, satisfies}
+use Rattle.verdict.proofs.Steps.{stop-not-next, end-not-next, node-taken, witness-taken, LineTaken, line-taken, step-refutes}
+use Rattle.verdict.proofs.Standing.{Standing, withEntry, entry-valued}
+use Rattle.verdict.proofs.Formula.{Read, clauses-read}
+use Rattle.verdict.proofs.Clauses.{fitted, fitted-length, clause-fitted, underway}
+use Rattle.verdict.proofs.Ends.{reached-standing, ended}
+
+-- ---- functions that are 1 under an assignment
+
+abbrev pub AllOne : Assignment → List Function → Type 0
+AllOne a [] = Unit {0}
+AllOne a (f ∷ fs) = (f a ≡ true) × AllOne a fs
+
+module _ (a : Assignment) where
+  all-append : (fs : List Function) (f : Function) → AllOne a fs → f a ≡ true → AllOne a (fs ++ f ∷ [])
+  all-append [] f all one = (one, tt)
+  all-append (g ∷ fs) f all one = (all .0, all-append fs f (all .1) one)
+
+  append-all : (fs : List Function) (f : Function) → AllOne a (fs ++ f ∷ []) → AllOne a fs × (f a ≡ true)
+  append-all [] f all = (tt, all .0)
+  append-all (g ∷ fs) f all = let (rest, one) = append-all fs f (all .1) in ((all .0, rest), one)
+
+  -- members whose functions are 1 are satisfied, and the other way round
+  members-satisfied : (t : List Node) (b : ℕ) (ks : List ℕ) (fs : List Function) → Valued t b ks fs → AllOne a fs → Satisfies a (map (diagramAt t) ks)
+  members-satisfied t b [] [] W all = tt
+  members-satisfied t b [] (f ∷ fs) W all = absurd W
+  members-satisfied t b (k ∷ ks) [] W all = absurd W
+  members-satisfied t b (k ∷ ks) (f ∷ fs) W all = (W .1 a ∙ all .0, members-satisfied t b ks fs (W .2) (all .1))
+
+  satisfied-members : (t : List Node) (b : ℕ) (ks : List ℕ) (fs : List Function) → Valued t b ks fs → Satisfies a (map (diagramAt t) ks) → AllOne a fs
+  satisfied-members t b [] [] W sat = tt
+  satisfied-members t b [] (f ∷ fs) W sat = absurd W
+  satisfied-members t b (k ∷ ks) [] W sat = absurd W
+  satisfied-members t b (k ∷ ks) (f ∷ fs) W sat = (sym (W .1 a) ∙ sat .0, satisfied-members t b ks fs (W .2) (sat .1))
+
+  satisfied-clauses : (cs : List (List meaning.Literal)) → satisfies a cs ≡ true → AllOne a (map meaning.clauseValue cs)
+  unfolding satisfies
+  satisfied-clauses [] e = tt
+  satisfied-clauses (ls ∷ cs) e = let (one, rest) = and-both (meaning.clauseValue ls a) (satisfies a cs) e in (one, satisfied-clauses cs rest)
+
+-- ---- clauses of n variables
+
+abbrev AllWithin : ℕ → List (List meaning.Literal) → Type 0
+AllWithin n [] = Unit {0}
+AllWithin n (ls ∷ cs) = Within n ls × AllWithin n cs
+
+read-within : (n left : ℕ) (r : Reading) → Read n left r → AllWithin n (clausesOf r)
+unfolding clausesOf
+read-within n zero (clause ls first rest) R = absurd R
+read-within n (suc left) (clause ls first rest) R = (R .0, read-within n left rest (R .1))
+read-within n left complete R = tt
+read-within n left (refusal number place) R = tt
+
+satisfies-fitted : (n : ℕ) (cs : List (List meaning.Literal)) → AllWithin n cs → (a : Assignment) → satisfies (fitted n a) cs ≡ satisfies a cs
+unfolding satisfies
+satisfies-fitted n [] w a = refl
+satisfies-fitted n (ls ∷ cs) w a = ap₂ _&&_ (clause-fitted n ls (w .0) a) (satisfies-fitted n cs (w .1) a)
+
+-- ---- reached states are sound
+
+-- Where an assignment satisfies the formula one satisfies all members, and none does once a 0 line is accepted.
+pub record Sound (text : List ℕ) (n : ℕ) (m : Meant) (st : State) : Type 0 where
+  pub kept : (a : Assignment) → length a ≡ n → satisfies a (clausesOf (formula text)) ≡ true → (b : Assignment) × (length b ≡ n) × AllOne b (m .members)
+  pub zero : st .refuted ≡ true → (b : Assignment) → AllOne b (m .members) → ⊥
+
+module _ {s n : ℕ} {m : Meant} {st : State} (S : Standing s n m st) where
+  -- an assignment for the members gives one for the members and an accepted line
+  line-keeps : (rule : Rule) (root : ℕ) (st′ : State) → LineTaken n s st rule root st′ → (a : Assignment) → length a ≡ n → AllOne a (m .members)
+      → (b : Assignment) × (length b ≡ n) × AllOne b (m .members ++ entryMeant m root ∷ [])
+  line-keeps Rup root st′ T a len all =
+      let (inside, is) = entry-valued S root (T .entry) in
+      let one : value (diagramIn st (entryNode st root)) a ≡ true = rup-sound n (map (diagramIn st) (st .members)) (diagramIn st (entryNode st root)) (T .shown) a len
+      (members-satisfied a (st .nodes) (st .kept) (st .members) (m .members) (S .members) all) in
+      (a, len, all-append a (m .members) (entryMeant m root) all (sym (is a) ∙ one))
+  line-keeps Pr root st′ T a len all =
+      let (inside, is) = entry-valued S root (T .entry) in
+      let (b, lb, sat, one) = pr-sound n (inWord (st .positive)) (inWord (st .negative)) (map (diagramIn st) (st .members)) (diagramIn st (entryNode st root)) (T .witness) (T .shown) a len
+      (members-satisfied a (st .nodes) (st .kept) (st .members) (m .members) (S .members) all) in
+      (b, lb, all-append b (m .members) (entryMeant m root) (satisfied-members b (st .nodes) (st .kept) (st .members) (m .members) (S .members) sat) (sym (is b) ∙ one))
+
+  module _ (text : List ℕ) (H : Sound text n m st) where
+    line-sound : (rule : Rule) (root : ℕ) (st′ : State) → LineTaken n s st rule root st′
+        → Sound text n (record { members = m .members ++ entryMeant m root ∷ []; entries = [] }) st′
+    unfolding valueFrom
+    line-sound rule root st′ T =
+        let (inside, is) = entry-valued S root (T .entry) in
+        subst (Sound text n (record { members = m .members ++ entryMeant m root ∷ []; entries = [] })) (T .is) (record {
+          kept = λ a len sat. let (b, lb, all) = H .kept a len sat in line-keeps rule root st′ T b lb all;
+          zero = λ e b all.
+              let (before, one) = append-all b (m .members) (entryMeant m root) all in
+              or-cases (st .refuted) (eqb (entryNode st root) 0) e (λ x. H .zero x b before)
+              (λ x. t≢f (sym one ∙ sym (is b) ∙ ap (λ (k : ℕ). value (diagramAt (st .nodes) k) b) (eqb-true (entryNode st root) 0 x)
+              ∙ ap (λ (D : Diagram). value D b) (diagramAt-zero (st .nodes))));
+        })
+
+    -- the members and the accepted lines stay as they are
+    same-sound : (m′ : Meant) (st′ : State) → m .members ≡ m′ .members → st .refuted ≡ st′ .refuted → Sound text n m′ st′
+    same-sound m′ st′ same e = record {
+      kept = λ a len sat. let (b, lb, all) = H .kept a len sat in (b, lb, subst (AllOne b) same all);
+      zero = λ r b all. H .zero (e ∙ r) b (subst (AllOne b) (sym same) all);
+    }
+
+    entered-refuted : (p : Placing) (st′ : State) → entered st p ≡ next st′ → st .refuted ≡ st′ .refuted
+    unfolding entered
+    entered-refuted (full t) st′ e = stop-not-next 23 0 st′ e
+    entered-refuted (placed t k) st′ e = let is : withEntry st t k ≡ st′ = cc in ap (λ (x : State). x .refuted) is
+
+    step-sound : (more : Bool) (r : Record) (st′ : State) → step n s st more r ≡ next st′ → Sound text n (afterRecord m r) st′
+    unfolding step afterRecord
+    step-sound more (NodeEntry b) st′ e =
+        same-sound (afterRecord m (NodeEntry b)) st′ refl
+        (entered-refuted (put s (st .nodes) (b .variable) (entryNode st (b .low .0)) (entryNode st (b .high .0))) st′ (node-taken n s st b st′ e .is))
+    step-sound more (Witness v b) st′ e = same-sound m st′ refl (ap (λ (x : State). x .refuted) (witness-taken n st v b st′ e .is))
+    step-sound more (ProofLine rule root) st′ e = line-sound rule (root .0) st′ (line-taken n s st rule (root .0) st′ e)
+    step-sound more End st′ e = end-not-next st more st′ e
+    step-sound more CutShort st′ e = stop-not-next 10 0 st′ e
+    step-sound more UnknownKind st′ e = stop-not-next 9 0 st′ e
+    step-sound more NoRecord st′ e = stop-not-next 10 0 st′ e
+
+module _ (s : ℕ) (text proof : List ℕ) where
+  -- the members made are the clauses of the formula
+  begun-sound : (n many : ℕ) (t : List Node) (ms : List ℕ) (fs : List Function) → Making s text n many t ms fs complete
+      → Sound text n (record { members = fs; entries = [] }) (begun t ms)
+  unfolding clausesOf
+  begun-sound n many t ms fs M = record {
+    kept = λ a len sat. (a, len, subst (AllOne a) (sym (sym (append-nil fs) ∙ underway s text n many M .clauses)) (satisfied-clauses a (clausesOf (formula text)) sat));
+    zero = λ e b all. t≢f (sym e);
+  }
+
+  reached-sound : {n : ℕ} {st : State} {at : ℕ} {m : Meant} → Reached s text proof n st at m → Sound text n m st
+  reached-sound {n} (begins {many} {t} {ms} {fs} M) = begun-sound n many t ms fs M
+  reached-sound (goes {st} {st′} {at} R e) = step-sound (reached-standing s text proof R .1) text (reached-sound R) (follows proof at) (recordAt proof at) st′ e
+
+  -- ---- the formula of a reached state
+
+  making-within : {n many : ℕ} {t : List Node} {ms : List ℕ} {fs : List Function} {r : Reading} → Making s text n many t ms fs r → AllWithin n (clausesOf (formula text))
+  making-within {n} {many} (opened {at} e) =
+      let h : (n ≤ 64) × (many ≤ 1024) × (at ≤ length text) = subst (HeaderIn text) e (header-in text) in
+      rw (formula-proper text n many at e) (read-within n many (clausesFrom text n many at) (clauses-read text n many at (h .2)))
+  making-within (made M e) = making-within M
+
+  reached-within : {n : ℕ} {st : State} {at : ℕ} {m : Meant} → Reached s text proof n st at m → AllWithin n (clausesOf (formula text))
+  reached-within (begins M) = making-within M
+  reached-within (goes R e) = reached-within R
+
+  reached-end : {n : ℕ} {st : State} {at : ℕ} {m : Meant} → Reached s text proof n st at m → readToEnd (formula text) ≡ true
+  unfolding readToEnd
+  reached-end {n} (begins {many} M) = sym (underway s text n many M .end)
+  reached-end (goes R e) = reached-end R
+
+  -- ---- the theorem
+
+  -- The number 0 is given: the formula was read to its end, and no assignment, of as many variables as one likes, satisfies it.
+  pub refuted : verdict s text proof .number ≡ 0 → (readToEnd (formula text) ≡ true) × ((a : Assignment) → satisfies a (clausesOf (formula text)) ≡ false)
+  refuted zero-said = go (verdict s text proof) (ended s text proof) zero-said
+    where
+      go : (v : Verdict) → Ended s text proof v → v .number ≡ 0 → (readToEnd (formula text) ≡ true) × ((a : Assignment) → satisfies a (clausesOf (formula text)) ≡ false)
+      go _ (refused named) z = absurd (named z)
+      go _ (stopped {n} {number} {offset} {at} {st} {m} R e) z = (
+        reached-end R,
+        (λ a. not-true (satisfies a (clausesOf (formula text))) (λ sat.
+            let (b, lb, all) = reached-sound R .kept (fitted n a) (fitted-length n a) (satisfies-fitted n (clausesOf (formula text)) (reached-within R) a ∙ sat) in
+            reached-sound R .zero (step-refutes n s st (follows proof at) (recordAt proof at) offset (rw z at e) .zero-line) b all)),
+      )
+
+-- ---- the call
+
+said-zero : (c : Bool) (x y : Outcome) → y .number ≡ 7 → cond c x y .number ≡ 0 → x .number ≡ 0
+said-zero true x y seven e = e
+said-zero false x y seven e = absurd (omega arith)
+
+-- The same of the call, whatever the lent places held.
+pub check-refuted : (vars lows highs : List ℕ) (count : ℕ) (members scratch text proof : List ℕ)
+    → check vars lows highs count members scratch text proof .number ≡ 0
+    → (readToEnd (formula text) ≡ true) × ((a : Assignment) → satisfies a (clausesOf (formula text)) ≡ false)
+unfolding check outcome
+check-refuted vars lows highs count members scratch text proof e =
+    refuted (length vars) text proof
+    (said-zero (lentFits vars lows highs members scratch) (outcome (length vars) (length members) (length scratch) (verdict (length vars) text proof)) _ refl e)

@@ -1,0 +1,277 @@
+-- Steps turned round: where a record gives a next state, which tests it has passed and which state that is. The idea: each test that
+-- refuses gives `stop`, so that `next` lies behind all of them. Assumes nothing.
+use mathlib.Core.Path.{_≡_, refl, sym}
+use mathlib.Core.Logic.{_≢_}
+use mathlib.Core.Bool.{Bool, true, false, not, _&&_, _||_, cond}
+use mathlib.Core.List.{map}
+use Prim.Native.Nat.{ℕ, _≤_, _<_}
+use native.Mathlib.Omega.{arith}
+use lib.ListN.{length}
+use lib.Dec.{eqb, leb}
+use borrow.Author.Tests.{leb-true, leb-false, eqb-false, not-false}
+use Rattle.meaning.specs.Rules.{Line, rup, pr, witnessed}
+use Rattle.meaning.specs.Words.{inWord}
+use Rattle.meaning.proofs.Booleans.{and-both, or-neither}
+use Rattle.table.specs.Nodes.{above, Placing, full, placed, put}
+use Rattle.records.specs.declared.NodeBody.{NodeBody}
+use Rattle.records.specs.declared.Record.{Record}
+use Rattle.records.specs.declared.Record.the-variants.{NodeEntry, Witness, ProofLine, End, CutShort, UnknownKind, NoRecord}
+use Rattle.records.specs.declared.Rule.{Rule}
+use Rattle.records.specs.declared.Rule.the-variants.{Rup, Pr}
+use Rattle.records.specs.Records.{numberOf}
+use Rattle.verdict.specs.Check.{State, Step, next, stop, isEntry, entryNode, isVariable, entered, nodeStep, withVariable, witnessStep, waiting, lineFits, accepted, judged, diagramIn, lineStep, endStep, step}
+
+pub stop-not-next : {A : Type 0} (number offset : ℕ) (st : State) → stop number offset ≡ next st → A
+stop-not-next number offset st e = let z : _≡_ {A = ℕ} 0 1 = cc in absurd (omega arith)
+
+module _ {st′ : State} where
+  -- a test that refuses was passed
+  pub passed : (c : Bool) (number : ℕ) (r : Step) → cond c (stop number 0) r ≡ next st′ → (c ≡ false) × (r ≡ next st′)
+  passed true number r e = stop-not-next number 0 st′ e
+  passed false number r e = (refl, e)
+
+  -- one that asks for a fact
+  pub met : (c : Bool) (number : ℕ) (r : Step) → cond (not c) (stop number 0) r ≡ next st′ → (c ≡ true) × (r ≡ next st′)
+  met c number r e = let (p, q) = passed (not c) number r e in (not-false c p, q)
+
+-- ---- node records
+
+pub record NodeTaken (n s : ℕ) (st : State) (b : NodeBody) (st′ : State) : Type 0 where
+  pub few : length (st .entries) < 4096
+  pub least : 1 ≤ b .variable
+  pub most : b .variable ≤ n
+  pub low : isEntry st (b .low .0) ≡ true
+  pub high : isEntry st (b .high .0) ≡ true
+  pub over-low : above (st .nodes) (b .variable) (entryNode st (b .low .0)) ≡ true
+  pub over-high : above (st .nodes) (b .variable) (entryNode st (b .high .0)) ≡ true
+  pub is : entered st (put s (st .nodes) (b .variable) (entryNode st (b .low .0)) (entryNode st (b .high .0))) ≡ next st′
+
+pub node-taken : (n s : ℕ) (st : State) (b : NodeBody) (st′ : State) → nodeStep n s st b ≡ next st′ → NodeTaken n s st b st′
+unfolding nodeStep
+node-taken n s st b st′ e =
+    let l : ℕ = entryNode st (b .low .0) in
+    let h : ℕ = entryNode st (b .high .0) in
+    let made : Step = entered st (put s (st .nodes) (b .variable) l h) in
+    let (few, e₁) = passed (leb 4096 (length (st .entries))) 21 _ e in
+    let (variable, e₂) = met (isVariable n (b .variable)) 12 _ e₁ in
+    let (entries, e₃) = met (isEntry st (b .low .0) && isEntry st (b .high .0)) 13 _ e₂ in
+    let (over, e₄) = met (above (st .nodes) (b .variable) l && above (st .nodes) (b .variable) h) 14 made e₃ in
+    let (least, most) = and-both (leb 1 (b .variable)) (leb (b .variable) n) variable in
+    let (low, high) = and-both (isEntry st (b .low .0)) (isEntry st (b .high .0)) entries in
+    let (over-low, over-high) = and-both (above (st .nodes) (b .variable) l) (above (st .nodes) (b .variable) h) over in
+    record {
+      few = leb-false 4096 (length (st .entries)) few;
+      least = leb-true 1 (b .variable) least;
+      most = leb-true (b .variable) n most;
+      low = low;
+      high = high;
+      over-low = over-low;
+      over-high = over-high;
+      is = e₄;
+    }
+
+-- ---- witness records
+
+-- The state with another witness.
+abbrev pub withWitness : State → ℕ → ℕ → State
+withWitness st positive negative = record {
+  nodes = st .nodes;
+  kept = st .kept;
+  members = st .members;
+  entries = st .entries;
+  positive = positive;
+  negative = negative;
+  lines = st .lines;
+  rounds = st .rounds;
+  refuted = st .refuted;
+}
+
+pub record WitnessTaken (n : ℕ) (st : State) (v : ℕ) (b : Bool) (st′ : State) : Type 0 where
+  pub least : 1 ≤ v
+  pub most : v ≤ n
+  pub new-positive : inWord (st .positive) v ≡ false
+  pub new-negative : inWord (st .negative) v ≡ false
+  pub is : withWitness st (withVariable b (st .positive) v) (withVariable (not b) (st .negative) v) ≡ st′
+
+pub witness-taken : (n : ℕ) (st : State) (v : ℕ) (b : Bool) (st′ : State) → witnessStep n st v b ≡ next st′ → WitnessTaken n st v b st′
+unfolding witnessStep
+witness-taken n st v b st′ e =
+    let (variable, e₁) = met (isVariable n v) 12 _ e in
+    let (new, e₂) = passed (inWord (st .positive) v || inWord (st .negative) v) 15 _ e₁ in
+    let (least, most) = and-both (leb 1 v) (leb v n) variable in
+    let (positive, negative) = or-neither (inWord (st .positive) v) (inWord (st .negative) v) new in
+    record {
+      least = leb-true 1 v least;
+      most = leb-true v n most;
+      new-positive = positive;
+      new-negative = negative;
+      is = cc;
+    }
+
+-- ---- lines
+
+-- A line's propagations by its rule.
+abbrev pub lineOf : ℕ → State → Rule → ℕ → Line
+lineOf n st Rup g = rup n (map (diagramIn st) (st .members)) (diagramIn st g)
+lineOf n st Pr g = pr n (inWord (st .positive)) (inWord (st .negative)) (map (diagramIn st) (st .members)) (diagramIn st g)
+
+-- What its rule asks of the witness.
+abbrev pub Witnessed : ℕ → State → Rule → ℕ → Type 0
+Witnessed n st Rup g = waiting st ≡ false
+Witnessed n st Pr g = witnessed n (inWord (st .positive)) (inWord (st .negative)) (diagramIn st g) ≡ true
+
+pub record LineTaken (n s : ℕ) (st : State) (rule : Rule) (root : ℕ) (st′ : State) : Type 0 where
+  pub entry : isEntry st root ≡ true
+  pub few : st .lines < 1024
+  pub not-one : entryNode st root ≢ 1
+  pub witness : Witnessed n st rule (entryNode st root)
+  pub fits : lineFits s (st .nodes) (lineOf n st rule (entryNode st root)) ≡ true
+  pub shown : lineOf n st rule (entryNode st root) .shown ≡ true
+  pub is : accepted st (entryNode st root) (lineOf n st rule (entryNode st root)) ≡ st′
+
+judged-taken : (s : ℕ) (st : State) (g : ℕ) (line : Line) (st′ : State) → judged s st g line ≡ next st′
+    → (lineFits s (st .nodes) line ≡ true) × (line .shown ≡ true) × (accepted st g line ≡ st′)
+unfolding judged
+judged-taken s st g line st′ e =
+    let (fits, e₁) = met (lineFits s (st .nodes) line) 23 _ e in
+    let (shown, e₂) = met (line .shown) 19 _ e₁ in
+    (fits, shown, cc)
+
+pub line-taken : (n s : ℕ) (st : State) (rule : Rule) (root : ℕ) (st′ : State) → lineStep n s st rule root ≡ next st′ → LineTaken n s st rule root st′
+unfolding lineStep
+line-taken n s st Rup root st′ e =
+    let g : ℕ = entryNode st root in
+    let (entry, e₁) = met (isEntry st root) 13 _ e in
+    let (none, e₂) = passed (waiting st) 16 _ e₁ in
+    let (few, e₃) = passed (leb 1024 (st .lines)) 22 _ e₂ in
+    let (one, e₄) = passed (eqb g 1) 17 _ e₃ in
+    let (fits, shown, is) = judged-taken s st g (lineOf n st Rup g) st′ e₄ in
+    record { entry = entry; few = leb-false 1024 (st .lines) few; not-one = eqb-false g 1 one; witness = none; fits = fits; shown = shown; is = is }
+line-taken n s st Pr root st′ e =
+    let g : ℕ = entryNode st root in
+    let (entry, e₁) = met (isEntry st root) 13 _ e in
+    let (few, e₂) = passed (leb 1024 (st .lines)) 22 _ e₁ in
+    let (one, e₃) = passed (eqb g 1) 17 _ e₂ in
+    let (witness, e₄) = met (witnessed n (inWord (st .positive)) (inWord (st .negative)) (diagramIn st g)) 18 _ e₃ in
+    let (fits, shown, is) = judged-taken s st g (lineOf n st Pr g) st′ e₄ in
+    record { entry = entry; few = leb-false 1024 (st .lines) few; not-one = eqb-false g 1 one; witness = witness; fits = fits; shown = shown; is = is }
+
+-- ---- the end record
+
+pub end-not-next : (st : State) (more : Bool) (st′ : State) {A : Type 0} → endStep st more ≡ next st′ → A
+unfolding endStep
+end-not-next st more st′ e = go (waiting st) more (st .refuted) e
+  where
+    go : (a b c : Bool) {A : Type 0} → cond a (stop 16 0) (cond b (stop 11 1) (cond c (stop 0 0) (stop 20 0))) ≡ next st′ → A
+    go true b c e = stop-not-next 16 0 st′ e
+    go false true c e = stop-not-next 11 1 st′ e
+    go false false true e = stop-not-next 0 0 st′ e
+    go false false false e = stop-not-next 20 0 st′ e
+
+-- ---- every record
+
+-- A record that gives a next state is of right form.
+pub next-form : (n s : ℕ) (st : State) (more : Bool) (r : Record) (st′ : State) → step n s st more r ≡ next st′ → numberOf r ≡ 0
+unfolding step
+next-form n s st more (NodeEntry b) st′ e = refl
+next-form n s st more (Witness v b) st′ e = refl
+next-form n s st more (ProofLine rule root) st′ e = refl
+next-form n s st more End st′ e = refl
+next-form n s st more CutShort st′ e = stop-not-next 10 0 st′ e
+next-form n s st more UnknownKind st′ e = stop-not-next 9 0 st′ e
+next-form n s st more NoRecord st′ e = stop-not-next 10 0 st′ e
+
+-- ---- the number 0
+
+module _ {offset : ℕ} where
+  stop-not-zero : {A : Type 0} (number at : ℕ) → eqb number 0 ≡ false → stop number at ≡ stop 0 offset → A
+  stop-not-zero number at other e = let z : number ≡ 0 = cc in absurd (eqb-false number 0 other z)
+
+  next-not-stop : {A : Type 0} (st : State) → next st ≡ stop 0 offset → A
+  next-not-stop st e = stop-not-next 0 offset st (sym e)
+
+  -- a test that refuses with another number was passed
+  past : (c : Bool) (number at : ℕ) (r : Step) → eqb number 0 ≡ false → cond c (stop number at) r ≡ stop 0 offset → (c ≡ false) × (r ≡ stop 0 offset)
+  past true number at r other e = stop-not-zero number at other e
+  past false number at r other e = (refl, e)
+
+  entered-not-zero : {A : Type 0} (st : State) (p : Placing) → entered st p ≡ stop 0 offset → A
+  unfolding entered
+  entered-not-zero st (full t) e = stop-not-zero 23 0 refl e
+  entered-not-zero st (placed t k) e = next-not-stop _ e
+
+  node-not-zero : {A : Type 0} (n s : ℕ) (st : State) (b : NodeBody) → nodeStep n s st b ≡ stop 0 offset → A
+  unfolding nodeStep
+  node-not-zero n s st b e =
+      let l : ℕ = entryNode st (b .low .0) in
+      let h : ℕ = entryNode st (b .high .0) in
+      let (p₁, e₁) = past (leb 4096 (length (st .entries))) 21 0 _ refl e in
+      let (p₂, e₂) = past (not (isVariable n (b .variable))) 12 0 _ refl e₁ in
+      let (p₃, e₃) = past (not (isEntry st (b .low .0) && isEntry st (b .high .0))) 13 0 _ refl e₂ in
+      let (p₄, e₄) = past (not (above (st .nodes) (b .variable) l && above (st .nodes) (b .variable) h)) 14 0 _ refl e₃ in
+      entered-not-zero st (put s (st .nodes) (b .variable) l h) e₄
+
+  witness-not-zero : {A : Type 0} (n : ℕ) (st : State) (v : ℕ) (b : Bool) → witnessStep n st v b ≡ stop 0 offset → A
+  unfolding witnessStep
+  witness-not-zero n st v b e =
+      let (p₁, e₁) = past (not (isVariable n v)) 12 0 _ refl e in
+      let (p₂, e₂) = past (inWord (st .positive) v || inWord (st .negative) v) 15 0 _ refl e₁ in
+      next-not-stop _ e₂
+
+  judged-not-zero : {A : Type 0} (s : ℕ) (st : State) (g : ℕ) (line : Line) → judged s st g line ≡ stop 0 offset → A
+  unfolding judged
+  judged-not-zero s st g line e =
+      let (p₁, e₁) = past (not (lineFits s (st .nodes) line)) 23 0 _ refl e in
+      let (p₂, e₂) = past (not (line .shown)) 19 0 _ refl e₁ in
+      next-not-stop _ e₂
+
+  line-not-zero : {A : Type 0} (n s : ℕ) (st : State) (rule : Rule) (root : ℕ) → lineStep n s st rule root ≡ stop 0 offset → A
+  unfolding lineStep
+  line-not-zero n s st Rup root e =
+      let g : ℕ = entryNode st root in
+      let (p₁, e₁) = past (not (isEntry st root)) 13 0 _ refl e in
+      let (p₂, e₂) = past (waiting st) 16 0 _ refl e₁ in
+      let (p₃, e₃) = past (leb 1024 (st .lines)) 22 0 _ refl e₂ in
+      let (p₄, e₄) = past (eqb g 1) 17 0 _ refl e₃ in
+      judged-not-zero s st g (lineOf n st Rup g) e₄
+  line-not-zero n s st Pr root e =
+      let g : ℕ = entryNode st root in
+      let (p₁, e₁) = past (not (isEntry st root)) 13 0 _ refl e in
+      let (p₂, e₂) = past (leb 1024 (st .lines)) 22 0 _ refl e₁ in
+      let (p₃, e₃) = past (eqb g 1) 17 0 _ refl e₂ in
+      let (p₄, e₄) = past (not (witnessed n (inWord (st .positive)) (inWord (st .negative)) (diagramIn st g))) 18 0 _ refl e₃ in
+      judged-not-zero s st g (lineOf n st Pr g) e₄
+
+-- The record that ends the proof with 0.
+pub record Refutes (st : State) (more : Bool) (r : Record) (offset : ℕ) : Type 0 where
+  pub end : r ≡ End
+  pub none-waits : waiting st ≡ false
+  pub last : more ≡ false
+  pub zero-line : st .refuted ≡ true
+  pub here : offset ≡ 0
+
+end-refutes : (st : State) (more : Bool) (offset : ℕ) → endStep st more ≡ stop 0 offset → Refutes st more End offset
+unfolding endStep
+end-refutes st more offset e =
+    let (none, e₁) = past (waiting st) 16 0 _ refl e in
+    let (last, e₂) = past more 11 1 _ refl e₁ in
+    let (zero-line, here) = go (st .refuted) e₂ in
+    record { end = refl; none-waits = none; last = last; zero-line = zero-line; here = here }
+  where
+    go : (c : Bool) → cond c (stop 0 0) (stop 20 0) ≡ stop 0 offset → (c ≡ true) × (offset ≡ 0)
+    go true e = (refl, cc)
+    go false e = stop-not-zero 20 0 refl e
+
+pub step-refutes : (n s : ℕ) (st : State) (more : Bool) (r : Record) (offset : ℕ) → step n s st more r ≡ stop 0 offset → Refutes st more r offset
+unfolding step
+step-refutes n s st more (NodeEntry b) offset e = node-not-zero n s st b e
+step-refutes n s st more (Witness v b) offset e = witness-not-zero n st v b e
+step-refutes n s st more (ProofLine rule root) offset e = line-not-zero n s st rule (root .0) e
+step-refutes n s st more End offset e = end-refutes st more offset e
+step-refutes n s st more CutShort offset e = stop-not-zero 10 0 refl e
+step-refutes n s st more UnknownKind offset e = stop-not-zero 9 0 refl e
+step-refutes n s st more NoRecord offset e = stop-not-zero 10 0 refl e
+
+pub refutes-step : (n s : ℕ) (st : State) (more : Bool) (r : Record) (offset : ℕ) → Refutes st more r offset → step n s st more r ≡ stop 0 offset
+unfolding step endStep
+refutes-step n s st more r offset F = rw (F .end, F .none-waits, F .last, F .zero-line, F .here)

@@ -1,0 +1,145 @@
+-- 01's cases A to J as one table, and the examples of its table of numbers as another. (01, The program and its line; What the call says
+-- and leaves)
+use mathlib.Core.Path.{_≡_}
+use mathlib.Core.Bool.{true, false, cond}
+use mathlib.Core.List.{List, [] as []ᴸ, _∷_ as _∷ᴸ_, _++_ as _++ᴸ_}
+use Prim.Native.Nat.{ℕ, zero, suc}
+use Prim.Native.Char.{code}
+use Prim.Native.String.{String, [], _∷_, _++_}
+use Rattle.meaning.specs.Diagram.{Diagram, leaf, node}
+use Rattle.meaning.specs.Operations.{Literal, clause, conjunction, cofactor, isUnit}
+use Rattle.verdict.specs.Check.{Verdict, verdict}
+
+-- ---- rows
+
+-- The four numbers of the program's line: "number, place, accepted lines, rounds".
+pub record Printed : Type 0 where
+  pub number : ℕ
+  pub place : ℕ
+  pub lines : ℕ
+  pub rounds : ℕ
+
+abbrev pub prints : ℕ → ℕ → ℕ → ℕ → Printed
+prints number place lines rounds = record { number = number; place = place; lines = lines; rounds = rounds }
+
+-- A row: what is printed of a formula and a proof with a table of s places; what f cofactored by g is; what U(f) is.
+pub data Row : Type 0 where
+  checked : (s : ℕ) (formula : String) (proof : List ℕ) (line : Printed) → Row
+  cofactored : (n : ℕ) (f g result : Diagram) → Row
+  units : (n : ℕ) (f : Diagram) (result : List Literal) → Row
+
+-- The bytes of a text of plain characters.
+abbrev pub bytes : String → List ℕ
+bytes [] = []ᴸ
+bytes (c ∷ s) = code c ∷ᴸ bytes s
+
+abbrev pub printed : Verdict → Printed
+printed v = prints (v .number) (v .place) (v .lines) (v .rounds)
+
+abbrev pub plus : ℕ → Literal
+plus v = record { variable = v; positive = true }
+
+abbrev pub minus : ℕ → Literal
+minus v = record { variable = v; positive = false }
+
+-- The literals of U(f) of the variables 1 to v.
+unfoldable pub unitsTo : ℕ → ℕ → Diagram → List Literal
+unfolding isUnit
+unitsTo n zero f = []ᴸ
+unitsTo n (suc v) f =
+    unitsTo n v f ++ᴸ (cond (isUnit n f (suc v) true) (plus (suc v) ∷ᴸ []ᴸ) []ᴸ ++ᴸ cond (isUnit n f (suc v) false) (minus (suc v) ∷ᴸ []ᴸ) []ᴸ)
+
+-- The rules give the row.
+abbrev pub Gives : Row → Type 0
+Gives (checked s formula proof line) = printed (verdict s (bytes formula) proof) ≡ line
+Gives (cofactored n f g result) = cofactor n f g ≡ result
+Gives (units n f result) = unitsTo n n f ≡ result
+
+abbrev pub GivesAll : List Row → Type 0
+GivesAll []ᴸ = Unit {0}
+GivesAll (row ∷ᴸ rows) = Gives row × GivesAll rows
+
+-- ---- diagrams and proofs of the rows
+
+abbrev pub variable : ℕ → Diagram
+variable v = node v (leaf false) (leaf true)
+
+abbrev pub negated : ℕ → Diagram
+negated v = node v (leaf true) (leaf false)
+
+-- x1 xor x2
+abbrev pub xor12 : Diagram
+xor12 = node 1 (variable 2) (negated 2)
+
+-- x2 and (x1 or x3)
+abbrev pub H-diagram : Diagram
+H-diagram = conjunction 3 (variable 2) (clause 3 (plus 1 ∷ᴸ plus 3 ∷ᴸ []ᴸ))
+
+abbrev pub A-formula : String
+A-formula = "p cnf 2 4\n1 2 0\n-1 2 0\n1 -2 0\n-1 -2 0\n"
+
+abbrev pub D-formula : String
+D-formula = "p cnf 2 1\n1 2 0\n"
+
+-- A node record, over entries below 256.
+abbrev pub over : ℕ → ℕ → ℕ → List ℕ → List ℕ
+over v low high rest = 0x4E ∷ᴸ v ∷ᴸ low ∷ᴸ 0 ∷ᴸ high ∷ᴸ 0 ∷ᴸ rest
+
+abbrev pub rupLine : ℕ → List ℕ → List ℕ
+rupLine root rest = 0x52 ∷ᴸ root ∷ᴸ 0 ∷ᴸ rest
+
+abbrev pub prLine : ℕ → List ℕ → List ℕ
+prLine root rest = 0x50 ∷ᴸ root ∷ᴸ 0 ∷ᴸ rest
+
+abbrev pub end : List ℕ
+end = 0x45 ∷ᴸ []ᴸ
+
+abbrev pub A-proof : List ℕ
+A-proof = over 2 0 1 (rupLine 2 (rupLine 0 end))
+
+-- "at least two of 1, 2, 3": entry 2 is x3, entry 3 is x2 and x3, entry 4 is x2 or x3.
+abbrev pub I-proof : List ℕ
+I-proof = over 3 0 1 (over 2 0 2 (over 2 2 1 (over 1 3 4 (rupLine 5 end))))
+
+-- ---- the tables
+
+-- Cases A to J, with the program's table of 4,096 places. The end after I's accepted line gives 20.
+abbrev pub caseTable : List Row
+caseTable =
+    checked 4096 A-formula A-proof (prints 0 12 2 1)
+    ∷ᴸ checked 4096 A-formula (rupLine 0 end) (prints 19 0 0 0)
+    ∷ᴸ checked 4096 "p cnf 2 2\n1 2 0\n-1 2 0\n" A-proof (prints 19 9 1 0)
+    ∷ᴸ checked 4096 D-formula (over 1 0 1 (0x46 ∷ᴸ 1 ∷ᴸ prLine 2 end)) (prints 18 8 0 0)
+    ∷ᴸ checked 4096 D-formula (over 1 0 1 (0x54 ∷ᴸ 1 ∷ᴸ prLine 2 end)) (prints 20 11 1 0)
+    ∷ᴸ checked 4096 D-formula (over 1 0 1 (rupLine 2 end)) (prints 19 6 0 0)
+    ∷ᴸ cofactored 2 (variable 2) xor12 (negated 1)
+    ∷ᴸ cofactored 2 (variable 1) xor12 (variable 1)
+    ∷ᴸ units 3 H-diagram (plus 2 ∷ᴸ []ᴸ)
+    ∷ᴸ checked 4096 "p cnf 3 3\n2 3 0\n1 3 0\n1 2 0\n" I-proof (prints 20 27 1 2)
+    ∷ᴸ checked 4096 "p cnf 0 0\n" (rupLine 0 end) (prints 19 0 0 0)
+    ∷ᴸ []ᴸ
+
+-- Numbers 1 to 6, 8 to 17, 20 and 23 with 01's examples; 0, 18 and 19 are cases A, D and B. The last row is 19 for "a PR line because the
+-- line follows under ω while some member does not". (01, Where builders go astray)
+abbrev pub numberTable : List Row
+numberTable =
+    checked 4096 "p cnf 2" []ᴸ (prints 1 0 0 0)
+    ∷ᴸ checked 4096 "p cnf 65 1" []ᴸ (prints 2 0 0 0)
+    ∷ᴸ checked 4096 "p cnf 1 1\n-0 0\n" []ᴸ (prints 3 10 0 0)
+    ∷ᴸ checked 4096 "p cnf 2 1\n3 0\n" []ᴸ (prints 4 10 0 0)
+    ∷ᴸ checked 4096 "p cnf 1 2\n1 0\n" []ᴸ (prints 5 14 0 0)
+    ∷ᴸ checked 4096 "p cnf 1 1\n1\n" []ᴸ (prints 6 10 0 0)
+    ∷ᴸ checked 2 "p cnf 1 1\n1 0\n" []ᴸ (prints 8 10 0 0)
+    ∷ᴸ checked 4096 D-formula (0x00 ∷ᴸ []ᴸ) (prints 9 0 0 0)
+    ∷ᴸ checked 4096 D-formula []ᴸ (prints 10 0 0 0)
+    ∷ᴸ checked 4096 D-formula (0x45 ∷ᴸ end) (prints 11 1 0 0)
+    ∷ᴸ checked 4096 D-formula (0x54 ∷ᴸ 0 ∷ᴸ []ᴸ) (prints 12 0 0 0)
+    ∷ᴸ checked 4096 D-formula (rupLine 2 []ᴸ) (prints 13 0 0 0)
+    ∷ᴸ checked 4096 D-formula (over 2 0 1 (over 2 0 2 []ᴸ)) (prints 14 6 0 0)
+    ∷ᴸ checked 4096 D-formula (0x54 ∷ᴸ 1 ∷ᴸ 0x46 ∷ᴸ 1 ∷ᴸ []ᴸ) (prints 15 2 0 0)
+    ∷ᴸ checked 4096 D-formula (0x54 ∷ᴸ 1 ∷ᴸ end) (prints 16 2 0 0)
+    ∷ᴸ checked 4096 D-formula (rupLine 1 []ᴸ) (prints 17 0 0 0)
+    ∷ᴸ checked 4096 D-formula end (prints 20 0 0 0)
+    ∷ᴸ checked 3 "p cnf 2 1\n1 0\n" (over 2 0 1 []ᴸ) (prints 23 0 0 0)
+    ∷ᴸ checked 4096 "p cnf 2 1\n-1 2 0\n" (over 1 0 1 (0x54 ∷ᴸ 1 ∷ᴸ prLine 2 end)) (prints 19 8 0 0)
+    ∷ᴸ []ᴸ

@@ -1,0 +1,96 @@
+//! `bench [--driver COMMAND] [--reference COMMAND] [--only WORD]`
+//!
+//! Times the proved library and the reference on the same commands in one run, the cost of text taken away, and says what
+//! stack a call takes. WORD is `single`, `check` or `stack`.
+
+mod stack;
+mod workloads;
+
+use compare::filter::Filter;
+use std::process::exit;
+use std::time::Duration;
+use workloads::Workload;
+
+struct Options {
+    driver: String,
+    reference: String,
+    only: Option<String>,
+}
+
+fn main() {
+    let options = options();
+    let wanted = |word: &str| options.only.as_deref().is_none_or(|only| only == word);
+    if wanted("single") {
+        time_all(&options, &workloads::single());
+    }
+    if wanted("check") {
+        time_all(&options, &workloads::check());
+    }
+    if wanted("stack") {
+        stack::report(&options.driver, &[workloads::single(), workloads::check()].concat());
+    }
+}
+
+fn options() -> Options {
+    let beside = |name: &str| std::env::current_exe().unwrap().with_file_name(name).display().to_string();
+    let mut options = Options { driver: beside("driver"), reference: beside("reference"), only: None };
+    let mut given = std::env::args().skip(1);
+    while let Some(word) = given.next() {
+        match (word.as_str(), given.next()) {
+            ("--driver", Some(command)) => options.driver = command,
+            ("--reference", Some(command)) => options.reference = command,
+            ("--only", Some(word)) => options.only = Some(word),
+            _ => {
+                eprintln!("usage: bench [--driver COMMAND] [--reference COMMAND] [--only single|check|stack]");
+                exit(2)
+            }
+        }
+    }
+    options
+}
+
+fn time_all(options: &Options, workloads: &[Workload]) {
+    println!("{:<44} {:>12} {:>12} {:>8}   answer", "microseconds a call", "library", "reference", "ratio");
+    let mut filters = [Filter::start(&options.driver), Filter::start(&options.reference)];
+    for workload in workloads {
+        let answers = filters.each_mut().map(|filter| answer(filter, &workload.command));
+        if answers[0] == "unavailable" {
+            println!("{:<44} {:>12}", workload.name, "unavailable");
+            continue;
+        }
+        if answers[0] != answers[1] {
+            println!("bench: the answers to {} differ: {:.300} and {:.300}", workload.name, answers[0], answers[1]);
+            exit(1);
+        }
+        let [library, reference] = times(&mut filters, workload);
+        let said = answers[0].split(" |").next().unwrap_or("");
+        println!("{:<44} {library:>12.1} {reference:>12.1} {:>8.2}   {said}", workload.name, library / reference);
+    }
+}
+
+fn answer(filter: &mut Filter, command: &str) -> String {
+    filter.ask(&[command.to_string()]).pop().unwrap_or_else(|| "(the filter ended)".into())
+}
+
+/// Microseconds of processor time that a call takes in each filter, without the cost of text: the least of several turns.
+fn times(filters: &mut [Filter; 2], workload: &Workload) -> [f64; 2] {
+    let once = filters.each_mut().map(|filter| spent(filter, &workload.command, 1));
+    let slow = once.iter().max().unwrap().as_micros().max(1);
+    let (repeats, turns) = ((40_000 / slow).clamp(1, 400) as usize, if slow > 500_000 { 1 } else { 7 });
+    let mut least = [[Duration::MAX; 2]; 2];
+    for _ in 0..turns {
+        for (filter, least) in filters.iter_mut().zip(&mut least) {
+            least[0] = least[0].min(spent(filter, &workload.command, repeats));
+            least[1] = least[1].min(spent(filter, &workload.text, repeats));
+        }
+    }
+    least.map(|[whole, text]| whole.saturating_sub(text).as_nanos() as f64 / 1000.0 / repeats as f64)
+}
+
+/// The filter's own processor time for some answers, which a busy machine does not lengthen as it does the clock's.
+fn spent(filter: &mut Filter, command: &str, repeats: usize) -> Duration {
+    let commands = vec![command.to_string(); repeats];
+    let start = filter.busy();
+    filter.ask(&commands);
+    filter.busy() - start
+}

@@ -1,0 +1,109 @@
+//! What is timed: each command beside one with the same text that asks for next to no work.
+
+use compare::diagram::{Diagrams, Node};
+use compare::families::{self, Parity};
+use compare::random::Random;
+use compare::table::Table;
+
+#[derive(Clone)]
+pub struct Workload {
+    pub name: String,
+    pub command: String,
+    /// The same text with little to do: its time is the cost of reading and writing.
+    pub text: String,
+}
+
+const WORDS: [&str; 5] = ["eval", "not", "and", "cof", "lits"];
+
+/// The single calls: parities and thresholds in tables of several sizes.
+pub fn single() -> Vec<Workload> {
+    let mut all = Vec::new();
+    for (variables, size) in [(20, 64), (20, 4_096), (40, 4_096), (64, 4_096), (64, 65_536)] {
+        all.extend(WORDS.map(|word| parities(word, variables, size)));
+    }
+    all.extend(WORDS.map(|word| thresholds(word, 64, 65_536)));
+    all.extend(WORDS.map(smallest));
+    all
+}
+
+/// An odd parity of all variables, with an even one of those from the fourth on.
+fn parities(word: &str, variables: u8, size: usize) -> Workload {
+    let mut store = Diagrams::default();
+    let (all, rest): (Vec<u8>, Vec<u8>) = ((1..=variables).collect(), (4..=variables).collect());
+    let (f, g) = (store.parity(&all, true), store.parity(&rest, false));
+    // A table too small for the answer gets the room.
+    call(&format!("{word}, parity of {variables}"), word, &store, size.max(store.nodes.len() * 4), f, g)
+}
+
+/// At least half of the variables, with at least a quarter of every second one.
+fn thresholds(word: &str, variables: u8, size: usize) -> Workload {
+    let mut store = Diagrams::default();
+    let (all, second): (Vec<u8>, Vec<u8>) = ((1..=variables).collect(), (1..=variables).step_by(2).collect());
+    let f = store.at_least(&all, usize::from(variables) / 2);
+    let g = store.at_least(&second, usize::from(variables) / 4);
+    call(&format!("{word}, threshold of {variables}"), word, &store, size, f, g)
+}
+
+fn smallest(word: &str) -> Workload {
+    let mut store = Diagrams::default();
+    let (f, g) = (store.literal(1), store.literal(2));
+    call(&format!("{word}, literals"), word, &store, 8, f, g)
+}
+
+fn call(name: &str, word: &str, store: &Diagrams, size: usize, f: Node, g: Node) -> Workload {
+    let table = Table { size, ..Table::of(store) };
+    let lent = table.text();
+    let command = match word {
+        "eval" => format!("eval {lent} {f} {}", u64::MAX),
+        "not" => format!("not {lent} {f}"),
+        "lits" => format!("lits {lent} {f} {} {}", 0x2222_2222_2222_2222u64, 0x8888_8888_8888_8888u64),
+        _ => format!("{word} {lent} {f} {g}"),
+    };
+    // Evaluation tests the table as the other calls do, so what is left of them is the making. Its own time is nearly all
+    // that test, which a count of 0 leaves out.
+    let text = match word {
+        "eval" => format!("eval {} {f} 0", Table { count: 0, ..table }.text()),
+        _ => format!("eval {lent} 0 0"),
+    };
+    Workload { name: format!("{name}, {size} places"), command, text }
+}
+
+/// Whole checks.
+pub fn check() -> Vec<Workload> {
+    vec![
+        proof("parity sums of 60", &parity_sums(60)),
+        proof("parity sums of 64", &parity_sums(64)),
+        proof("pigeonhole 7", &families::pigeonhole(8, 7)),
+        proof("rounds: 1,000 clauses, 500 RUP lines", &families::chain(&mut Random::new(1), 40, 1_000, 500)),
+        proof("1,000 clauses, 20 PR lines", &families::pure(&mut Random::new(2), 1_000, 20)),
+    ]
+}
+
+fn proof(name: &str, problem: &families::Problem) -> Workload {
+    let mut writer = problem.builder.writer.clone();
+    writer.end();
+    let hex = |bytes: &[u8]| bytes.iter().map(|byte| format!("{byte:02x}")).collect::<String>();
+    let (formula, proof) = (hex(&problem.formula.text()), hex(&writer.bytes));
+    let lines = problem.builder.lines;
+    Workload {
+        name: format!("{name} ({lines} lines)"),
+        command: format!("check 65536 2048 4096 {formula} {proof}"),
+        // A table of one place is refused at once.
+        text: format!("check 1 2048 4096 {formula} {proof}"),
+    }
+}
+
+/// Parity constraints of three variables, summed: about 250 lines.
+fn parity_sums(variables: usize) -> families::Problem {
+    let random = &mut Random::new(variables as u64);
+    let mut constraints: Vec<Parity> = Vec::new();
+    while constraints.len() < 62 {
+        let mut chosen: Vec<u8> = (0..3).map(|_| random.between(1, variables) as u8).collect();
+        chosen.sort_unstable();
+        chosen.dedup();
+        if chosen.len() == 3 {
+            constraints.push((chosen, random.percent(50)));
+        }
+    }
+    families::parities(variables, &constraints)
+}

@@ -1,0 +1,141 @@
+//! `compare [COUNT] [SEED] [--left COMMAND] [--right COMMAND] [--only WORD,WORD,..]`
+//!
+//! Asks two filters the same random commands. Says how often each number came; ends with status 1 and shows the command
+//! where the answers differ. The filters are `driver` and `reference` beside this program where none are named.
+
+use compare::filter::Filter;
+use compare::random::Random;
+use compare::{check, single};
+use std::collections::BTreeMap;
+use std::process::exit;
+
+struct Options {
+    count: usize,
+    seed: u64,
+    filters: [String; 2],
+    words: Vec<String>,
+}
+
+fn main() {
+    let options = options();
+    let mut random = Random::new(options.seed);
+    let mut filters = options.filters.each_ref().map(|command| Filter::start(command));
+    let mut tally = Tally::default();
+    while tally.asked < options.count {
+        let commands = batch(&mut random, &options.words, options.count - tally.asked);
+        let [left, right] = ask(&mut filters, &commands);
+        for (at, command) in commands.iter().enumerate() {
+            let (left, right) = (left.get(at), right.get(at));
+            if left.is_none() || left != right {
+                differ(&options, command, [left, right]);
+            }
+            tally.add(command, left.unwrap());
+        }
+    }
+    print!("{}", tally.text());
+    if !filters.into_iter().all(Filter::end) {
+        println!("compare: a filter ended badly");
+        exit(1);
+    }
+    println!("compare: {} commands from seed {}, no difference", tally.asked, options.seed);
+}
+
+fn options() -> Options {
+    let beside = |name: &str| std::env::current_exe().unwrap().with_file_name(name).display().to_string();
+    let words = single::WORDS.iter().chain(&["check"]).map(|word| word.to_string()).collect();
+    let mut options = Options { count: 2000, seed: 1, filters: [beside("driver"), beside("reference")], words };
+    let mut numbers = 0;
+    let mut given = std::env::args().skip(1);
+    while let Some(word) = given.next() {
+        let mut value = || given.next().unwrap_or_else(|| usage());
+        match word.as_str() {
+            "--left" => options.filters[0] = value(),
+            "--right" => options.filters[1] = value(),
+            "--only" => options.words = value().split(',').map(String::from).collect(),
+            number => {
+                let number = number.parse().unwrap_or_else(|_| usage());
+                match numbers {
+                    0 => options.count = number as usize,
+                    1 => options.seed = number,
+                    _ => usage(),
+                }
+                numbers += 1;
+            }
+        }
+    }
+    options
+}
+
+fn usage() -> ! {
+    eprintln!("usage: compare [COUNT] [SEED] [--left COMMAND] [--right COMMAND] [--only WORD,WORD,..]");
+    exit(2)
+}
+
+/// Some commands, at most so many.
+fn batch(random: &mut Random, words: &[String], most: usize) -> Vec<String> {
+    let singles: Vec<&str> = words.iter().map(String::as_str).filter(|word| *word != "check").collect();
+    let checks = words.len() > singles.len();
+    let mut commands = Vec::new();
+    while commands.len() < most.min(200) {
+        if checks && (singles.is_empty() || random.percent(50)) {
+            commands.extend(check::commands(random));
+        } else {
+            commands.extend(single::commands(random, &singles));
+        }
+    }
+    commands.truncate(most);
+    commands
+}
+
+fn ask(filters: &mut [Filter; 2], commands: &[String]) -> [Vec<String>; 2] {
+    let [left, right] = filters;
+    std::thread::scope(|scope| {
+        let asked = scope.spawn(|| left.ask(commands));
+        let right = right.ask(commands);
+        [asked.join().unwrap(), right]
+    })
+}
+
+/// Shows a difference, cut where it is long, and leaves it whole in a file.
+fn differ(options: &Options, command: &str, answers: [Option<&String>; 2]) -> ! {
+    let cut = |text: &str| text.chars().take(3000).collect::<String>();
+    let none = "(the filter ended)".to_string();
+    let answers = answers.map(|answer| answer.unwrap_or(&none));
+    println!("compare: a difference\ncommand: {}", cut(command));
+    for (filter, answer) in options.filters.iter().zip(answers) {
+        println!("{filter}: {}", cut(answer));
+    }
+    let file = std::env::current_exe().unwrap().with_file_name("difference.txt");
+    if std::fs::write(&file, format!("{command}\n{}\n{}\n", answers[0], answers[1])).is_ok() {
+        println!("compare: whole in {}", file.display());
+    }
+    exit(1)
+}
+
+/// How often each number came, by command.
+#[derive(Default)]
+struct Tally {
+    asked: usize,
+    numbers: BTreeMap<String, BTreeMap<u32, usize>>,
+}
+
+impl Tally {
+    fn add(&mut self, command: &str, answer: &str) {
+        self.asked += 1;
+        let first = |line: &str| line.split(' ').next().unwrap_or("").to_string();
+        let number = first(answer).parse().unwrap_or(99);
+        *self.numbers.entry(first(command)).or_default().entry(number).or_default() += 1;
+    }
+
+    fn text(&self) -> String {
+        let mut text = String::new();
+        for (word, numbers) in &self.numbers {
+            text += &format!("{word}:");
+            for (number, times) in numbers {
+                text += &format!("  {number} x {times}");
+            }
+            text += "\n";
+        }
+        text
+    }
+}

@@ -1,0 +1,123 @@
+//! The commands of the line protocol, read from text.
+
+pub type Node = (u8, u16, u16);
+
+/// A table as lent to a single call: the nodes from place 0 on, zeros above them.
+pub struct Table {
+    pub size: usize,
+    pub count: usize,
+    pub nodes: Vec<Node>,
+}
+
+/// What a single call asks of a table.
+pub enum Call {
+    And(u16, u16),
+    Not(u16),
+    Cofactor(u16, u16),
+    Literals(u16, u64, u64),
+    Evaluate(u16, u64),
+}
+
+/// Sizes and bytes of a whole check.
+pub struct Check {
+    pub size: usize,
+    pub members: usize,
+    pub scratch: usize,
+    pub formula: Vec<u8>,
+    pub proof: Vec<u8>,
+}
+
+pub enum Command {
+    Single(Table, Call),
+    Check(Check),
+}
+
+/// The largest buffer that a command may ask for.
+const LARGEST: usize = 1 << 20;
+
+/// The command in a line, if it is one.
+pub fn read(line: &str) -> Option<Command> {
+    let words: Vec<&str> = line.split(' ').collect();
+    match words[..] {
+        ["check", size, members, scratch, formula, proof] => Some(Command::Check(Check {
+            size: places(size)?,
+            members: places(members)?,
+            scratch: places(scratch)?,
+            formula: bytes(formula)?,
+            proof: bytes(proof)?,
+        })),
+        [word, size, count, nodes, ref operands @ ..] => {
+            let call = call(word, operands)?;
+            let table = Table { size: places(size)?, count: number(count)?, nodes: table(nodes)? };
+            Some(Command::Single(table, call))
+        }
+        _ => None,
+    }
+}
+
+fn call(word: &str, operands: &[&str]) -> Option<Call> {
+    Some(match (word, operands) {
+        ("and", [f, g]) => Call::And(number(f)?, number(g)?),
+        ("not", [f]) => Call::Not(number(f)?),
+        ("cof", [f, g]) => Call::Cofactor(number(f)?, number(g)?),
+        ("lits", [f, positive, negative]) => Call::Literals(number(f)?, number(positive)?, number(negative)?),
+        ("eval", [f, word]) => Call::Evaluate(number(f)?, number(word)?),
+        _ => return None,
+    })
+}
+
+/// A number in decimal digits that its type can hold.
+fn number<T: std::str::FromStr>(word: &str) -> Option<T> {
+    if word.bytes().all(|byte| byte.is_ascii_digit()) {
+        word.parse().ok()
+    } else {
+        None
+    }
+}
+
+fn places(word: &str) -> Option<usize> {
+    number(word).filter(|size| *size <= LARGEST)
+}
+
+/// Bytes in lower-case hex, `-` for none.
+fn bytes(word: &str) -> Option<Vec<u8>> {
+    if word == "-" {
+        return Some(Vec::new());
+    }
+    if word.is_empty() || word.len() % 2 != 0 {
+        return None;
+    }
+    word.as_bytes().chunks(2).map(|pair| Some(16 * digit(pair[0])? + digit(pair[1])?)).collect()
+}
+
+fn digit(byte: u8) -> Option<u8> {
+    match byte {
+        b'0'..=b'9' => Some(byte - b'0'),
+        b'a'..=b'f' => Some(byte - b'a' + 10),
+        _ => None,
+    }
+}
+
+/// The nodes from place 0 on: a leading `@` says that the list starts there and not at place 2.
+fn table(word: &str) -> Option<Vec<Node>> {
+    let (mut nodes, listed) = match word.strip_prefix('@') {
+        Some(listed) => (Vec::new(), listed),
+        None => (vec![(0, 0, 0); 2], word),
+    };
+    if listed != "-" {
+        for node in listed.split(';') {
+            nodes.push(self::node(node)?);
+        }
+    }
+    Some(nodes)
+}
+
+fn node(word: &str) -> Option<Node> {
+    let mut fields = word.split(',');
+    let node = (number(fields.next()?)?, number(fields.next()?)?, number(fields.next()?)?);
+    if fields.next().is_none() {
+        Some(node)
+    } else {
+        None
+    }
+}
