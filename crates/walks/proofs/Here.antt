@@ -1,24 +1,17 @@
 -- What a walk reads from the columns is what the nodes hold, and what good order says of it in numbers. Assumes nothing.
-use mathlib.Core.Path.{_≡_, refl, sym, ap, _∙_}
-use mathlib.Core.Logic.{_≢_}
-use mathlib.Core.List.{List, [], _∷_}
-use Prim.Native.Nat.{ℕ, zero, suc, _+_, _≤_, _<_}
+use mathlib.Core.Path.{_≡_, _∙_}
+use mathlib.Core.List.{List}
+use Prim.Native.Nat.{ℕ, _≤_, _<_}
 use native.Mathlib.Omega.{arith}
-use lib.ListN.{length, getD, take}
+use lib.ListN.{length, getD}
 use lib.Seq.{getD-take, length-take-le}
-use Rattle.table.specs.Nodes.{Node, nodeOf, blank, at}
+use Rattle.table.specs.Nodes.{nodeOf, blank, at}
 use Rattle.table.specs.Columns.{rows}
+use Rattle.table.specs.Indexed.{Table, nodesOf, Good}
 use Rattle.table.proofs.Order.{Ordered, Fits, ordered}
 use Rattle.table.proofs.Written.{length-rows}
+use Rattle.table.proofs.Chain.{rows-at}
 use Rattle.walks.specs.Readable.{Readable, nodesIn}
-
-rows-at : (vs ls hs : List ℕ) (k : ℕ) → length ls ≡ length vs → length hs ≡ length vs → k < length vs → at (rows vs ls hs) k ≡ nodeOf (getD vs k 0) (getD ls k 0) (getD hs k 0)
-unfolding rows
-rows-at [] ls hs k p q h = absurd (omega arith)
-rows-at (v ∷ vs) [] hs k p q h = absurd (omega arith)
-rows-at (v ∷ vs) (l ∷ ls) [] k p q h = absurd (omega arith)
-rows-at (v ∷ vs) (l ∷ ls) (x ∷ hs) zero p q h = refl
-rows-at (v ∷ vs) (l ∷ ls) (x ∷ hs) (suc k) p q h = rows-at vs ls hs k (omega arith) (omega arith) (omega arith)
 
 -- What good order says of the node at place k, in the columns' own terms.
 pub record Here (vs ls hs : List ℕ) (count k : ℕ) : Type 0 where
@@ -35,7 +28,7 @@ module _ (vs ls hs : List ℕ) (count : ℕ) (R : Readable vs ls hs count) where
   ordered-in = ordered (nodesIn vs ls hs count) (R .ordered) (omega (arith, length-in, R .least))
 
   pub node-in : (k : ℕ) → k < count → at (nodesIn vs ls hs count) k ≡ nodeOf (getD vs k 0) (getD ls k 0) (getD hs k 0)
-  node-in k h = getD-take count (rows vs ls hs) k blank h ∙ rows-at vs ls hs k (R .lows) (R .highs) (omega (arith, R .within))
+  node-in k h = getD-take count (rows vs ls hs) k blank h ∙ rows-at vs ls hs (R .lows) (R .highs) k
 
   pub here : (k : ℕ) → 2 ≤ k → k < count → Here vs ls hs count k
   here k two h =
@@ -47,3 +40,8 @@ module _ (vs ls hs : List ℕ) (count : ℕ) (R : Readable vs ls hs count) where
         low-less = rw e at (F .low-less);
         high-less = rw e at (F .high-less);
       }
+
+-- A table with its index can be read.
+pub good-readable : (T : Table) → Good T → Readable (T .vars) (T .lows) (T .highs) (T .count)
+unfolding nodesOf
+good-readable T G = record { least = G .least; within = G .within; most = G .most; lows = G .lows; highs = G .highs; ordered = G .ordered }

@@ -1,2 +1,4 @@
 pub mod Here
 pub mod Values
+pub mod Memo
+pub mod Constant

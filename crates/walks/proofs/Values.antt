@@ -1,17 +1,17 @@
 -- The value of a node under a word, step by step: from a node to its side, and at a constant. Assumes nothing.
-use mathlib.Core.Path.{_≡_, refl, sym, ap, _∙_}
+use mathlib.Core.Path.{_≡_, sym, ap, _∙_}
 use mathlib.Core.Logic.{_≢_}
-use mathlib.Core.Bool.{Bool, true, false, cond}
+use mathlib.Core.Bool.{false, cond}
 use mathlib.Core.List.{List}
 use Prim.Native.Nat.{ℕ, zero, suc, _+_, _-_, _/_, _%_, _^_, _≤_, _<_}
 use native.Mathlib.Omega.{arith}
-use lib.ListN.{length, getD}
+use lib.ListN.{getD}
 use lib.Dec.{eqb}
 use borrow.Author.Tests.{eq-eqb, ne-eqb}
-use Rattle.meaning.specs.Diagram.{Diagram, leaf, node, value, valueFrom}
+use Rattle.meaning.specs.Diagram.{valueFrom}
 use Rattle.meaning.specs.Words.{inWord, truthFrom}
 use Rattle.meaning.proofs.Words.{truth-at}
-use Rattle.table.specs.Nodes.{Node, nodeOf, at, diagramAt}
+use Rattle.table.specs.Nodes.{Node, at}
 use Rattle.table.proofs.Numbers.{diagramAt-zero, diagramAt-one, diagramAt-node}
 use Rattle.walks.specs.Readable.{Readable, nodesIn, valueUnder}
 use Rattle.walks.proofs.Here.{Here, here, node-in, ordered-in, length-in}

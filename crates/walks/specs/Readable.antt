@@ -4,7 +4,7 @@ use mathlib.Core.Bool.{Bool, true}
 use mathlib.Core.List.{List}
 use Prim.Native.Nat.{ℕ, _≤_}
 use lib.ListN.{length, take}
-use Rattle.meaning.specs.Diagram.{Diagram, value}
+use Rattle.meaning.specs.Diagram.{value}
 use Rattle.meaning.specs.Words.{assignmentOf}
 use Rattle.table.specs.Nodes.{Node, nodesInOrder, diagramAt}
 use Rattle.table.specs.Columns.{rows}

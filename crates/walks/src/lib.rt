@@ -1,8 +1,11 @@
 // Walks over the nodes of a table that place no node.
 use table::NodeNo;
 ghost use mathlib.Core.Path.{_≡_};
-ghost use Prim.Native.Nat.{_<_};
+ghost use Prim.Native.Nat.{_≤_, _<_};
+ghost use lib.ListN.{length, replicate};
+ghost use Rattle.meaning.specs.Words.{inWord};
 ghost use Rattle.walks.specs.Readable.{Readable, nodesIn, valueUnder};
+ghost use Rattle.walks.specs.Constant.{sidesUnder, constantAt, ConstantMemo};
 
 // The value of a node under the word's assignment: the walk from it to a constant.
 pub fn value_of(
@@ -26,4 +29,135 @@ pub fn value_of(
         }
     }
     k == 1
+}
+
+// Whether the word has the variable v.
+pub fn in_word(word: u64, v: u8) -> bool
+    requires { ⌜ (1 ≤ v) × (v ≤ 64) ⌝ }
+    ensures { λ r. ⌜ r ≡ inWord word v ⌝ }
+{
+    let i = (v - 1) as u64;
+    (word >> i) % 2 == 1
+}
+
+// Empties the memo.
+pub fn clear_memo(memo: &mut [u64])
+    ensures { λ _. ⌜ now (memo .exit) ≡ replicate (length (now (memo .entry))) 0 ⌝ }
+{
+    let mut i: usize = 0;
+    while i < memo.len() {
+        memo[i] = 0;
+        i += 1;
+    }
+}
+
+// The two nodes that a node's cofactor by literals is made from; they are one where its variable has a literal.
+pub struct Sides {
+    pub low: NodeNo,
+    pub high: NodeNo,
+}
+
+fn sides_of(
+    vars: &[u8],
+    lows: &[u16],
+    highs: &[u16],
+    count: usize,
+    f: NodeNo,
+    positive: u64,
+    negative: u64,
+) -> Sides
+    requires { ⌜ Readable (now vars) (now lows) (now highs) count × (2 ≤ f .0) × (f .0 < count) ⌝ }
+    ensures { λ r. ⌜ r ≡ sidesUnder (now (vars .entry)) (now (lows .entry)) (now (highs .entry)) (f .0) positive negative ⌝ }
+{
+    let i = f.0 as usize;
+    let v = vars[i];
+    let low = NodeNo(lows[i]);
+    let high = NodeNo(highs[i]);
+    if in_word(positive, v) {
+        return Sides { low: high, high };
+    }
+    if in_word(negative, v) {
+        return Sides { low, high: low };
+    }
+    Sides { low, high }
+}
+
+// Whether the node's cofactor by the literals is the constant `one`. Stops at the first leaf that is not.
+pub fn is_constant(
+    vars: &[u8],
+    lows: &[u16],
+    highs: &[u16],
+    memo: &mut [u64],
+    count: usize,
+    f: NodeNo,
+    positive: u64,
+    negative: u64,
+    one: bool,
+) -> bool
+    requires { ⌜ Readable (now vars) (now lows) (now highs) count × (f .0 < count) × (0 < length (now memo)) ⌝ }
+    ensures { λ r. ⌜ r ≡ constantAt (nodesIn (now (vars .entry)) (now (lows .entry)) (now (highs .entry)) count) positive negative one (f .0) ⌝ }
+{
+    clear_memo(memo);
+    constant_from(vars, lows, highs, memo, count, f, positive, negative, one)
+}
+
+// The same where the memo holds nodes already known to be that constant; it stays so.
+pub fn constant_from(
+    vars: &[u8],
+    lows: &[u16],
+    highs: &[u16],
+    memo: &mut [u64],
+    count: usize,
+    f: NodeNo,
+    positive: u64,
+    negative: u64,
+    one: bool,
+) -> bool
+    requires { ⌜ Readable (now vars) (now lows) (now highs) count × (f .0 < count) × (0 < length (now memo)) ⌝ }
+    requires { ⌜ ConstantMemo (now memo) (nodesIn (now vars) (now lows) (now highs) count) positive negative one ⌝ }
+    ensures { λ r. ⌜ r ≡ constantAt (nodesIn (now (vars .entry)) (now (lows .entry)) (now (highs .entry)) count) positive negative one (f .0) ⌝ }
+    ensures { λ _. ⌜ ConstantMemo (now (memo .exit)) (nodesIn (now (vars .entry)) (now (lows .entry)) (now (highs .entry)) count) positive negative one ⌝ }
+{
+    if f.0 == 0 {
+        return !one;
+    }
+    if f.0 == 1 {
+        return one;
+    }
+    let i = f.0 as usize;
+    let s = i % memo.len();
+    if memo[s] == f.0 as u64 {
+        return true;
+    }
+    let sides = sides_of(vars, lows, highs, count, f, positive, negative);
+    let low = constant_from(
+        vars,
+        lows,
+        highs,
+        memo,
+        count,
+        sides.low,
+        positive,
+        negative,
+        one,
+    );
+    if !low {
+        return false;
+    }
+    let high = constant_from(
+        vars,
+        lows,
+        highs,
+        memo,
+        count,
+        sides.high,
+        positive,
+        negative,
+        one,
+    );
+    if !high {
+        return false;
+    }
+    memo[s] = f.0 as u64;
+    true
 }

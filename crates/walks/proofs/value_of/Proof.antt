@@ -1,10 +1,9 @@
 -- `value_of` gives the node's value. The invariant: the node that the walk is at has the value asked for. Assumes nothing.
-use mathlib.Core.Path.{_≡_, refl, sym, ap, _∙_}
-use Prim.Native.Nat.{ℕ, _≤_, _<_, _-_}
+use mathlib.Core.Path.{_≡_, sym, _∙_}
+use Prim.Native.Nat.{_<_}
 use native.Mathlib.Omega.{arith}
 use borrow.Author.Needs.{needs}
-use lib.ListN.{length, getD}
-use Rattle.walks.specs.Readable.{Readable, nodesIn, valueUnder}
+use Rattle.walks.specs.Readable.{nodesIn, valueUnder}
 use Rattle.walks.proofs.Here.{Here, here}
 use Rattle.walks.proofs.Values.{value-high, value-low, value-end}
 use Rattle.walks.proofs.value_of.Statement.{statement}

@@ -1,0 +1,26 @@
+-- `negation_in` starts from an empty memo. Assumes nothing.
+use native.Mathlib.Omega.{arith}
+use lib.ListN.{length}
+use borrow.Author.Needs.{needs}
+use Rattle.negate.proofs.Entries.{negations-cleared}
+use Rattle.negate.proofs.negation_in.Statement.{statement}
+use Rattle.negate.proofs.negation_in.Tie as tie
+
+clear-memo-requires : tie.Need-clear-memo-requires
+clear-memo-requires c κs = search needs
+
+negation-from-requires : tie.Need-negation-from-requires
+negation-from-requires c κs =
+    let s = c .before .before .before .before .before .before .before .before .before .before .before in
+    let k = c .before .before .before .clear-memo in
+    record { good = s .pre .0; inside = s .pre .1; room = omega (arith, s .pre .2, k .kept); right = negations-cleared _ _ (length (s .args .memo .now)) (k .ensures) }
+
+same-length : tie.Need-same-length
+same-length c = search needs
+
+returns : tie.Need-returns
+returns c = search needs
+
+pub negation-in-spec : {M : Type 1} → statement M
+negation-in-spec =
+    tie.close (tie.spec clear-memo-requires negation-from-requires same-length returns)

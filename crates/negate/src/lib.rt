@@ -1,0 +1,107 @@
+// The number of a node's negation where the table holds it, with a memo. Places no node.
+use table::Found;
+use table::NodeNo;
+ghost use mathlib.Core.Path.{_≡_};
+ghost use Prim.Native.Nat.{_≤_, _<_};
+ghost use lib.ListN.{length};
+ghost use Rattle.table.specs.Indexed.{tableOf, Good};
+ghost use Rattle.negate.specs.Negations.{Negates, entryOf, foundIn, NegationMemo, NegationReady};
+
+// The node that is f's negation, if the table has it.
+pub fn negation_in(
+    vars: &[u8],
+    lows: &[u16],
+    highs: &[u16],
+    heads: &[u16],
+    links: &[u16],
+    memo: &mut [u64],
+    count: usize,
+    f: NodeNo,
+) -> Found
+    requires { ⌜ Good (tableOf (now vars) (now lows) (now highs) (now heads) (now links) count) × (f .0 < count) × (0 < length (now memo)) ⌝ }
+    ensures { λ r. ⌜ Negates (tableOf (now (vars .entry)) (now (lows .entry)) (now (highs .entry)) (now (heads .entry)) (now (links .entry)) count) (f .0) r ⌝ }
+{
+    walks::clear_memo(memo);
+    negation_from(vars, lows, highs, heads, links, memo, count, f)
+}
+
+// The same where the memo holds what is already known of nodes of this table; it stays so.
+pub fn negation_from(
+    vars: &[u8],
+    lows: &[u16],
+    highs: &[u16],
+    heads: &[u16],
+    links: &[u16],
+    memo: &mut [u64],
+    count: usize,
+    f: NodeNo,
+) -> Found
+    requires { ⌜ NegationReady (now memo) (tableOf (now vars) (now lows) (now highs) (now heads) (now links) count) (f .0) ⌝ }
+    ensures { λ r. ⌜ Negates (tableOf (now (vars .entry)) (now (lows .entry)) (now (highs .entry)) (now (heads .entry)) (now (links .entry)) count) (f .0) r ⌝ }
+    ensures { λ _. ⌜ NegationMemo (now (memo .exit)) (tableOf (now (vars .entry)) (now (lows .entry)) (now (highs .entry)) (now (heads .entry)) (now (links .entry)) count) ⌝ }
+{
+    if f.0 == 0 {
+        return Found::At(NodeNo(1));
+    }
+    if f.0 == 1 {
+        return Found::At(NodeNo(0));
+    }
+    let i = f.0 as usize;
+    let s = i % memo.len();
+    let e = memo[s];
+    if e / 131072 == f.0 as u64 {
+        return found_in(e);
+    }
+    let r = negation_over(vars, lows, highs, heads, links, memo, count, f);
+    memo[s] = entry_of(f, r);
+    r
+}
+
+// The negation's node from those of the two sides' negations.
+fn negation_over(
+    vars: &[u8],
+    lows: &[u16],
+    highs: &[u16],
+    heads: &[u16],
+    links: &[u16],
+    memo: &mut [u64],
+    count: usize,
+    f: NodeNo,
+) -> Found
+    requires { ⌜ NegationReady (now memo) (tableOf (now vars) (now lows) (now highs) (now heads) (now links) count) (f .0) × (2 ≤ f .0) ⌝ }
+    ensures { λ r. ⌜ Negates (tableOf (now (vars .entry)) (now (lows .entry)) (now (highs .entry)) (now (heads .entry)) (now (links .entry)) count) (f .0) r ⌝ }
+    ensures { λ _. ⌜ NegationMemo (now (memo .exit)) (tableOf (now (vars .entry)) (now (lows .entry)) (now (highs .entry)) (now (heads .entry)) (now (links .entry)) count) ⌝ }
+{
+    let i = f.0 as usize;
+    let v = vars[i];
+    let low = NodeNo(lows[i]);
+    let high = NodeNo(highs[i]);
+    match negation_from(vars, lows, highs, heads, links, memo, count, low) {
+        Found::At(l) => match negation_from(vars, lows, highs, heads, links, memo, count, high) {
+            Found::At(h) => table::lookup(vars, lows, highs, heads, links, count, v, l, h),
+            Found::Nothing => Found::Nothing,
+        },
+        Found::Nothing => Found::Nothing,
+    }
+}
+
+// What a memo entry says: the upper bits are the node, then one bit whether its negation is there, then where.
+fn found_in(e: u64) -> Found
+    ensures { λ r. ⌜ r ≡ foundIn e ⌝ }
+{
+    if e / 65536 % 2 == 1 {
+        return Found::At(NodeNo((e % 65536) as u16));
+    }
+    Found::Nothing
+}
+
+// The memo entry of a node.
+fn entry_of(f: NodeNo, r: Found) -> u64
+    ensures { λ e. ⌜ e ≡ entryOf (f .0) r ⌝ }
+{
+    let a = f.0 as u64;
+    match r {
+        Found::At(k) => a * 131072 + 65536 + k.0 as u64,
+        Found::Nothing => a * 131072,
+    }
+}

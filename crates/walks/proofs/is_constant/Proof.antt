@@ -1,0 +1,26 @@
+-- `is_constant` starts from an empty memo. Assumes nothing.
+use native.Mathlib.Omega.{arith}
+use lib.ListN.{length}
+use borrow.Author.Needs.{needs}
+use Rattle.walks.proofs.Constant.{constant-cleared}
+use Rattle.walks.proofs.is_constant.Statement.{statement}
+use Rattle.walks.proofs.is_constant.Tie as tie
+
+clear-memo-requires : tie.Need-clear-memo-requires
+clear-memo-requires c κs = search needs
+
+constant-from-requires : tie.Need-constant-from-requires
+constant-from-requires c κs =
+    let s = c .before .before .before .before .before .before .before .before .before in
+    let k = c .before .before .before .clear-memo in
+    ((s .pre .0, s .pre .1, omega (arith, s .pre .2, k .kept)), constant-cleared _ _ _ _ _ (length (s .args .memo .now)) (k .ensures))
+
+same-length : tie.Need-same-length
+same-length c = search needs
+
+returns : tie.Need-returns
+returns c = search needs
+
+pub is-constant-spec : {M : Type 1} → statement M
+is-constant-spec =
+    tie.close (tie.spec clear-memo-requires constant-from-requires same-length returns)

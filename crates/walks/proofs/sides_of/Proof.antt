@@ -1,0 +1,71 @@
+-- `sides_of` gives the two nodes. Assumes nothing.
+use mathlib.Core.Path.{sym, _∙_}
+use borrow.Author.Needs.{needs}
+use Rattle.walks.specs.Constant.{sidesUnder}
+use Rattle.walks.proofs.Here.{Here, here}
+use Rattle.walks.proofs.sides_of.Statement.{statement}
+use Rattle.walks.proofs.sides_of.Tie as tie
+use Rattle.walks.proofs.sides_of.Reads as reads
+use Rattle.walks.proofs.sides_of.Lts as lts
+use Rattle.walks.proofs.in_word.Reads as in-word-reads
+
+-- what good order says of the node
+module _ (s : lts.Start (in-word-reads.Asked, in-word-reads.Learnt) reads.Pre reads.Post) where
+  at-node : Here (s .args .vars .now) (s .args .lows .now) (s .args .highs .now) (s .args .count) (s .args .f .0)
+  at-node = here _ _ _ _ (s .pre .0) _ (s .pre .1) (s .pre .2)
+
+cast-i : tie.Need-cast-i
+cast-i c = search needs
+
+shared-slice-read-v : tie.Need-shared-slice-read-v
+shared-slice-read-v c = search needs
+
+mul-t14 : tie.Need-mul-t14
+mul-t14 c = search needs
+
+shared-slice-read-t16 : tie.Need-shared-slice-read-t16
+shared-slice-read-t16 c = search needs
+
+mul-t14-2 : tie.Need-mul-t14-2
+mul-t14-2 c = search needs
+
+shared-slice-read-t16-2 : tie.Need-shared-slice-read-t16-2
+shared-slice-read-t16-2 c = search needs
+
+in-word-requires : tie.Need-in-word-requires
+in-word-requires c κs =
+    (at-node (c .before .before .before .before .before .before .before) .least, at-node (c .before .before .before .before .before .before .before) .most)
+
+returns : tie.Need-returns
+unfolding sidesUnder
+returns c = rw (sym (c .before .in-word .ensures) ∙ c .if1 .taken)
+
+in-word-requires-2 : tie.Need-in-word-requires-2
+in-word-requires-2 c κs =
+    (at-node (c .before .before .before .before .before .before .before .before .before) .least, at-node (c .before .before .before .before .before .before .before .before .before) .most)
+
+returns-2 : tie.Need-returns-2
+unfolding sidesUnder
+returns-2 c =
+    rw (sym (c .before .before .before .in-word .ensures) ∙ c .before .before .if1 .left, sym (c .before .in-word2 .ensures) ∙ c .if2 .taken)
+
+returns-3 : tie.Need-returns-3
+unfolding sidesUnder
+returns-3 c =
+    rw (sym (c .before .before .before .in-word .ensures) ∙ c .before .before .if1 .left, sym (c .before .in-word2 .ensures) ∙ c .if2 .left)
+
+pub sides-of-spec : {M : Type 1} → statement M
+sides-of-spec =
+    tie.close
+    (tie.spec
+    cast-i
+    shared-slice-read-v
+    mul-t14
+    shared-slice-read-t16
+    mul-t14-2
+    shared-slice-read-t16-2
+    in-word-requires
+    returns
+    in-word-requires-2
+    returns-2
+    returns-3)
