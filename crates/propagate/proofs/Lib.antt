@@ -1,0 +1,3 @@
+pub mod PlacedAll
+pub mod Extended
+pub mod Replacing
