@@ -1,3 +1,4 @@
 pub mod PlacedAll
 pub mod Extended
 pub mod Replacing
+pub mod Taking

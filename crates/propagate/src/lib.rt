@@ -1,13 +1,16 @@
 // Unit propagation over a list of nodes.
 use operate::Operation;
 use table::NodeNo;
+use units::Units;
 ghost use mathlib.Core.Path.{_≡_};
-ghost use Prim.Native.Nat.{_<_};
+ghost use Prim.Native.Nat.{_≤_, _<_};
 ghost use lib.ListN.{length};
 ghost use Rattle.table.specs.Indexed.{tableOf, nodesOf};
+ghost use Rattle.walks.specs.Readable.{Readable, nodesIn};
 ghost use Rattle.operate.specs.Inner.{Allowed};
 ghost use Rattle.conflict.specs.Members.{diagramsOf, Inside, ListReady};
 ghost use Rattle.propagate.specs.Made.{results, AllMade};
+ghost use Rattle.propagate.specs.Units.{AreFirst};
 
 // What making diagrams in their order gives: `full` where one of them found no room, and the count.
 pub struct Made {
@@ -46,4 +49,42 @@ pub fn all_by(
         i += 1;
     }
     Made { full: false, count: n }
+}
+
+// The units of the first member that has any.
+pub enum FirstUnits {
+    Of(Units),
+    Nothing,
+}
+
+pub fn first_units(
+    vars: &[u8],
+    lows: &[u16],
+    highs: &[u16],
+    memo: &mut [u64],
+    count: usize,
+    list: &[u16],
+) -> FirstUnits
+    requires { ⌜ Readable (now vars) (now lows) (now highs) count × Inside count (now list) × (3 ≤ length (now memo)) ⌝ }
+    ensures { λ r. ⌜ AreFirst (diagramsOf (nodesIn (now (vars .entry)) (now (lows .entry)) (now (highs .entry)) count) (now (list .entry))) r ⌝ }
+{
+    walks::clear_memo(memo);
+    let mut i: usize = 0;
+    while i < list.len() {
+        let f = NodeNo(list[i]);
+        let u = units::units_from(vars, lows, highs, memo, count, f);
+        if u.positive != 0 || u.negative != 0 {
+            return FirstUnits::Of(u);
+        }
+        i += 1;
+    }
+    FirstUnits::Nothing
+}
+
+// What a propagation says: `full` where a node found no room, else whether it conflicts, and its rounds; and the count.
+pub struct Propagated {
+    pub full: bool,
+    pub conflict: bool,
+    pub rounds: u32,
+    pub count: usize,
 }
