@@ -1,2 +1,3 @@
 pub mod Marks
-pub mod Conflicts
+pub mod Numbers
+pub mod Marked

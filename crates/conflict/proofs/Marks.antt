@@ -66,12 +66,12 @@ mark-of m marks (k ∷ ks) j h =
     go (yes e) = rw (e, eq-eqb k k refl, getD-set-same marks k m 0 (h 0 (omega arith))) (at-mark-same (isListed ks k) m)
     go (no n) = rw (ne-eqb k j (λ q. n (sym q)), getD-set-other marks k j m 0 n)
 
+pub marked-length : (s : ℕ) (list : List ℕ) → length (setAll 1 (unmarked s) list) ≡ s
+marked-length s list = length-setAll 1 (unmarked s) list ∙ length-replicate {A = ℕ} s 0
+
 module _ (s : ℕ) (list : List ℕ) (h : Inside s list) where
   in-marks : Inside (length (unmarked s)) list
   in-marks i p = rw (length-replicate {A = ℕ} s 0) (h i p)
-
-  marked-length : length (setAll 1 (unmarked s) list) ≡ s
-  marked-length = length-setAll 1 (unmarked s) list ∙ length-replicate {A = ℕ} s 0
 
   pub marks-tell : (j : ℕ) → j < s → eqb (getD (setAll 1 (unmarked s) list) j 0) 1 ≡ isListed list j
   marks-tell j p = rw (mark-of 1 (unmarked s) list j in-marks, getD-replicate {A = ℕ} s j 0 0 p) (go (isListed list j))
@@ -83,9 +83,9 @@ module _ (s : ℕ) (list : List ℕ) (h : Inside s list) where
   pub none-left : setAll 0 (setAll 1 (unmarked s) list) list ≡ unmarked s
   none-left =
       ext-getD 0 (setAll 0 (setAll 1 (unmarked s) list) list) (unmarked s) (length-setAll 0 (setAll 1 (unmarked s) list) list ∙ length-setAll 1 (unmarked s) list)
-      (λ j p. mark-of 0 (setAll 1 (unmarked s) list) list j (λ i q. rw marked-length (h i q))
+      (λ j p. mark-of 0 (setAll 1 (unmarked s) list) list j (λ i q. rw (marked-length s list) (h i q))
       ∙ ap (at-mark (isListed list j) 0) (mark-of 1 (unmarked s) list j in-marks)
-      ∙ twice (isListed list j) (getD (unmarked s) j 0) (getD-replicate {A = ℕ} s j 0 0 (omega (arith, length-setAll 0 (setAll 1 (unmarked s) list) list, marked-length))))
+      ∙ twice (isListed list j) (getD (unmarked s) j 0) (getD-replicate {A = ℕ} s j 0 0 (omega (arith, length-setAll 0 (setAll 1 (unmarked s) list) list, marked-length s list))))
     where
       twice : (b : Bool) (z : ℕ) → z ≡ 0 → at-mark b 0 (at-mark b 1 z) ≡ z
       twice true z e = sym e

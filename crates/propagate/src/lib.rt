@@ -5,12 +5,15 @@ use units::Units;
 ghost use mathlib.Core.Path.{_≡_};
 ghost use Prim.Native.Nat.{_≤_, _<_};
 ghost use lib.ListN.{length};
+ghost use Rattle.meaning.specs.Rules.{unitProp};
 ghost use Rattle.table.specs.Indexed.{tableOf, nodesOf};
 ghost use Rattle.walks.specs.Readable.{Readable, nodesIn};
 ghost use Rattle.operate.specs.Inner.{Allowed};
 ghost use Rattle.conflict.specs.Members.{diagramsOf, Inside, ListReady};
+ghost use Rattle.conflict.specs.Marks.{unmarked};
 ghost use Rattle.propagate.specs.Made.{results, AllMade};
 ghost use Rattle.propagate.specs.Units.{AreFirst};
+ghost use Rattle.propagate.specs.Rounds.{Comes, Said};
 
 // What making diagrams in their order gives: `full` where one of them found no room, and the count.
 pub struct Made {
@@ -87,4 +90,75 @@ pub struct Propagated {
     pub conflict: bool,
     pub rounds: u32,
     pub count: usize,
+}
+
+// What comes next in a propagation: its end, or a round by the units.
+pub enum Next {
+    End(bool),
+    By(Units),
+}
+
+// What comes after so many rounds.
+fn next_round(
+    vars: &[u8],
+    lows: &[u16],
+    highs: &[u16],
+    heads: &[u16],
+    links: &[u16],
+    memo: &mut [u64],
+    marks: &mut [u8],
+    count: usize,
+    list: &[u16],
+    rounds: u32,
+) -> Next
+    requires { ⌜ ListReady (tableOf (now vars) (now lows) (now highs) (now heads) (now links) count) (now list) (now memo) × (now marks ≡ unmarked (length (now vars))) × (rounds ≤ 64) ⌝ }
+    ensures { λ r. ⌜ Comes (diagramsOf (nodesOf (tableOf (now (vars .entry)) (now (lows .entry)) (now (highs .entry)) (now (heads .entry)) (now (links .entry)) count)) (now (list .entry))) rounds r ⌝ }
+    ensures { λ _. ⌜ now (marks .exit) ≡ unmarked (length (now (vars .entry))) ⌝ }
+{
+    if conflict::conflicts(vars, lows, highs, heads, links, memo, marks, count, list) {
+        return Next::End(true);
+    }
+    if rounds == 64 {
+        return Next::End(false);
+    }
+    match first_units(vars, lows, highs, memo, count, list) {
+        FirstUnits::Of(u) => Next::By(u),
+        FirstUnits::Nothing => Next::End(false),
+    }
+}
+
+// UnitProp of the listed nodes: round by round all are replaced by their cofactors by the units of the first that has any.
+pub fn unit_prop(
+    vars: &mut [u8],
+    lows: &mut [u16],
+    highs: &mut [u16],
+    heads: &mut [u16],
+    links: &mut [u16],
+    memo: &mut [u64],
+    marks: &mut [u8],
+    list: &mut [u16],
+    count: usize,
+) -> Propagated
+    requires { ⌜ ListReady (tableOf (now vars) (now lows) (now highs) (now heads) (now links) count) (now list) (now memo) × (now marks ≡ unmarked (length (now vars))) ⌝ }
+    ensures { λ r. ⌜ Said (tableOf (now (vars .entry)) (now (lows .entry)) (now (highs .entry)) (now (heads .entry)) (now (links .entry)) count) (unitProp 64 (diagramsOf (nodesOf (tableOf (now (vars .entry)) (now (lows .entry)) (now (highs .entry)) (now (heads .entry)) (now (links .entry)) count)) (now (list .entry)))) r (tableOf (now (vars .exit)) (now (lows .exit)) (now (highs .exit)) (now (heads .exit)) (now (links .exit)) (r .count)) ⌝ }
+    ensures { λ _. ⌜ now (marks .exit) ≡ unmarked (length (now (vars .entry))) ⌝ }
+{
+    let mut n = count;
+    let mut rounds: u32 = 0;
+    loop {
+        match next_round(vars, lows, highs, heads, links, memo, marks, n, list, rounds) {
+            Next::End(conflict) => {
+                return Propagated { full: false, conflict, rounds, count: n };
+            }
+            Next::By(u) => {
+                let op = Operation::Literals(u.positive, u.negative);
+                let made = all_by(vars, lows, highs, heads, links, memo, list, n, op, NodeNo(1));
+                n = made.count;
+                if made.full {
+                    return Propagated { full: true, conflict: false, rounds, count: n };
+                }
+                rounds += 1;
+            }
+        }
+    }
 }
