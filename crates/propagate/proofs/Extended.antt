@@ -18,7 +18,7 @@ longer-extended T T′ L = record { good = L .good; same-size = L .same-size; mo
 pub extended-longer : (T T′ : Table) → Good T → Extended T T′ → Longer T T′
 extended-longer T T′ G E =
     let X : Extends (nodesOf T) (nodesOf T′) =
-      (drop (T .count) (nodesOf T′), sym (take-append-drop (T .count) (nodesOf T′)) ∙ ap (λ (u : List Node). u ++ drop (T .count) (nodesOf T′)) (E .first)) in
+    (drop (T .count) (nodesOf T′), sym (take-append-drop (T .count) (nodesOf T′)) ∙ ap (λ (u : List Node). u ++ drop (T .count) (nodesOf T′)) (E .first)) in
     record {
       good = E .good;
       same-size = E .same-size;

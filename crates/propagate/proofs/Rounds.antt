@@ -170,7 +170,7 @@ module _ (T₀ : Table) (G₀ : Good T₀) (ms₀ : List Diagram) (T : Table) (l
         record {
           extended = long;
           fits = ap isSome (all-to-place ∙ placed-none (size T) (nodesOf T) made (propagate (roundsLeft (rounds + 1)) 64 made .made)
-            (made-placed ∙ ap (λ (b : Bool). cond b none (some (nodesOf T′))) f));
+              (made-placed ∙ ap (λ (b : Bool). cond b none (some (nodesOf T′))) f));
           conflict = λ z. t≢f z;
           rounds = λ z. t≢f z;
           most = W .most;

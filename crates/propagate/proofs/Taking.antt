@@ -87,8 +87,7 @@ module _ (t : List Node) (k positive negative : ℕ) (U : UnitsAt t k positive n
   pub words-empty : positive ≡ 0 → negative ≡ 0 → hasUnit 64 64 (diagramAt t k) ≡ false
   unfolding UnitsAt
   words-empty p n =
-      no-units 64 64 (diagramAt t k) λ v lo hi.
-      (
+      no-units 64 64 (diagramAt t k) λ v lo hi. (
         sym (U v lo hi .0) ∙ ap (λ (w : ℕ). inWord w v) p ∙ zero-word v,
         sym (U v lo hi .1) ∙ ap (λ (w : ℕ). inWord w v) n ∙ zero-word v,
       )
@@ -96,11 +95,10 @@ module _ (t : List Node) (k positive negative : ℕ) (U : UnitsAt t k positive n
   module _ (fits-p : positive < 2 ^ 64) (fits-n : negative < 2 ^ 64) where
     words-none : hasUnit 64 64 (diagramAt t k) ≡ false → (positive ≡ 0) × (negative ≡ 0)
     unfolding UnitsAt
-    words-none e =
-        (
-          word-zero 64 positive fits-p (λ v lo hi. U v lo hi .0 ∙ units-none 64 64 (diagramAt t k) e v lo hi .0),
-          word-zero 64 negative fits-n (λ v lo hi. U v lo hi .1 ∙ units-none 64 64 (diagramAt t k) e v lo hi .1),
-        )
+    words-none e = (
+      word-zero 64 positive fits-p (λ v lo hi. U v lo hi .0 ∙ units-none 64 64 (diagramAt t k) e v lo hi .0),
+      word-zero 64 negative fits-n (λ v lo hi. U v lo hi .1 ∙ units-none 64 64 (diagramAt t k) e v lo hi .1),
+    )
 
     pub words-some : ((positive ≡ 0) × (negative ≡ 0) → ⊥) → hasUnit 64 64 (diagramAt t k) ≡ true
     words-some h = go (hasUnit 64 64 (diagramAt t k)) words-none

@@ -45,13 +45,19 @@ pub fn all_by(
         let p = operate::apply(vars, lows, highs, heads, links, memo, n, op, f, g);
         n = p.count;
         if p.full {
-            return Made { full: true, count: n };
+            return Made {
+                full: true,
+                count: n,
+            };
         }
         let k = p.node;
         list[i] = k.0;
         i += 1;
     }
-    Made { full: false, count: n }
+    Made {
+        full: false,
+        count: n,
+    }
 }
 
 // The units of the first member that has any.
@@ -146,16 +152,48 @@ pub fn unit_prop(
     let mut n = count;
     let mut rounds: u32 = 0;
     loop {
-        match next_round(vars, lows, highs, heads, links, memo, marks, n, list, rounds) {
+        match next_round(
+            vars,
+            lows,
+            highs,
+            heads,
+            links,
+            memo,
+            marks,
+            n,
+            list,
+            rounds,
+        ) {
             Next::End(conflict) => {
-                return Propagated { full: false, conflict, rounds, count: n };
+                return Propagated {
+                    full: false,
+                    conflict,
+                    rounds,
+                    count: n,
+                };
             }
             Next::By(u) => {
                 let op = Operation::Literals(u.positive, u.negative);
-                let made = all_by(vars, lows, highs, heads, links, memo, list, n, op, NodeNo(1));
+                let made = all_by(
+                    vars,
+                    lows,
+                    highs,
+                    heads,
+                    links,
+                    memo,
+                    list,
+                    n,
+                    op,
+                    NodeNo(1),
+                );
                 n = made.count;
                 if made.full {
-                    return Propagated { full: true, conflict: false, rounds, count: n };
+                    return Propagated {
+                        full: true,
+                        conflict: false,
+                        rounds,
+                        count: n,
+                    };
                 }
                 rounds += 1;
             }

@@ -21,28 +21,28 @@ has-zero-requires c κs = search needs
 
 -- src/lib.rt:98:9
 returns : tie.Need-returns
-returns c = 
+returns c =
     let a = c .before .before .before .before .before .before .before .before .before .before .args in
     let r = c .before .before .before .before .before .before .before .before .before .before .pre in
     (sym (zero-conflicts (nodesOf (tableOf (a .vars .now) (a .lows .now) (a .highs .now) (a .heads .now) (a .links .now) (a .count))) (good-ordered (tableOf (a .vars .now) (a .lows .now) (a .highs .now) (a .heads .now) (a .links .now) (a .count)) (r .0 .good)) (a .list .now) (in-nodes (tableOf (a .vars .now) (a .lows .now) (a .highs .now) (a .heads .now) (a .links .now) (a .count)) (r .0 .good) (a .list .now) (r .0 .inside)) (sym (c .before .has-zero .ensures) ∙ c .if1 .taken)), r .1)
 
 -- src/lib.rt:100:5
 set-all-requires : tie.Need-set-all-requires
-set-all-requires c κs = 
+set-all-requires c κs =
     let a = c .before .before .before .before .before .before .before .before .before .before .before .args in
     let r = c .before .before .before .before .before .before .before .before .before .before .before .pre in
     in-unmarked (tableOf (a .vars .now) (a .lows .now) (a .highs .now) (a .heads .now) (a .links .now) (a .count)) (r .0 .good) (a .list .now) (r .0 .inside) (a .marks .now) (r .1)
 
 -- src/lib.rt:101:9
 some-negated-requires : tie.Need-some-negated-requires
-some-negated-requires c κs = 
+some-negated-requires c κs =
     let a = c .before .before .before .before .before .before .before .before .before .before .before .before .before .before .before .before .args in
     let r = c .before .before .before .before .before .before .before .before .before .before .before .before .before .before .before .before .pre in
     (r .0, c .before .before .before .before .set-all .ensures ∙ ap (λ m. setAll 1 m (a .list .now)) (r .1))
 
 -- src/lib.rt:102:5
 set-all-requires-2 : tie.Need-set-all-requires-2
-set-all-requires-2 c κs = 
+set-all-requires-2 c κs =
     let a = c .before .before .before .before .before .before .before .before .before .before .before .before .before .before .before .before .before .before .before .before .args in
     let r = c .before .before .before .before .before .before .before .before .before .before .before .before .before .before .before .before .before .before .before .before .pre in
     in-marked (tableOf (a .vars .now) (a .lows .now) (a .highs .now) (a .heads .now) (a .links .now) (a .count)) (r .0 .good) (a .list .now) (r .0 .inside) (c .before .before .before .before .before .before .before .before .set-all .last .0) (c .before .before .before .before .before .before .before .before .set-all .ensures ∙ ap (λ m. setAll 1 m (a .list .now)) (r .1))
@@ -57,10 +57,9 @@ same-length-2 c = search needs
 
 -- src/lib.rt:82:1
 returns-2 : tie.Need-returns-2
-returns-2 c = 
+returns-2 c =
     let a = c .before .before .before .before .before .before .before .before .before .before .before .before .before .before .before .before .before .before .before .before .before .before .before .args in
-    let r = c .before .before .before .before .before .before .before .before .before .before .before .before .before .before .before .before .before .before .before .before .before .before .before .pre in
-    (
+    let r = c .before .before .before .before .before .before .before .before .before .before .before .before .before .before .before .before .before .before .before .before .before .before .before .pre in (
       c .before .before .before .before .before .before .some-negated .ensures ∙ sym (others-conflict (nodesOf (tableOf (a .vars .now) (a .lows .now) (a .highs .now) (a .heads .now) (a .links .now) (a .count))) (good-ordered (tableOf (a .vars .now) (a .lows .now) (a .highs .now) (a .heads .now) (a .links .now) (a .count)) (r .0 .good)) (a .list .now) (in-nodes (tableOf (a .vars .now) (a .lows .now) (a .highs .now) (a .heads .now) (a .links .now) (a .count)) (r .0 .good) (a .list .now) (r .0 .inside)) (sym (c .before .before .before .before .before .before .before .before .before .before .before .before .before .before .has-zero .ensures) ∙ c .before .before .before .before .before .before .before .before .before .before .before .before .before .if1 .left)),
       c .before .before .set-all2 .ensures ∙ ap (λ m. setAll 0 m (a .list .now)) (c .before .before .before .before .before .before .before .before .before .before .before .set-all .ensures ∙ ap (λ m. setAll 1 m (a .list .now)) (r .1)) ∙ none-left (length (a .vars .now)) (a .list .now) (in-size (tableOf (a .vars .now) (a .lows .now) (a .highs .now) (a .heads .now) (a .links .now) (a .count)) (r .0 .good) (a .list .now) (r .0 .inside)),
     )

@@ -46,10 +46,9 @@ loop-less c = search needs
 
 -- src/lib.rt:32:5
 loop-again : tie.Need-loop-again Inv-loop μ-loop
-loop-again c = 
+loop-again c =
     let w = c .before .before .loop in
-    let a = c .before .before .before .args in
-    (
+    let a = c .before .before .before .args in (
       length-set (w .marks) (getD (a .list .now) (w .i) 0) (a .mark) ∙ w .inv .0,
       search needs,
       w .inv .2 ∙ set-step (a .mark) (w .marks) (a .list .now) (w .i) (c .before .loop-test .taken),

@@ -21,10 +21,10 @@ use Rattle.negate.proofs.negation_from.Reads as negation-from-reads
 use Rattle.walks.proofs.clear_memo.Reads as clear-memo-reads
 
 abbrev Inv-loop : tie.InvT-loop
-Inv-loop vars lows highs heads links memo₀ marks count list i₀ memo i = 
+Inv-loop vars lows highs heads links memo₀ marks count list i₀ memo i =
     (length memo ≡ length memo₀) × (i ≤ length list) × NegationMemo memo (tableOf vars lows highs heads links count)
     × (any (negationIn (diagramsOf (nodesOf (tableOf vars lows highs heads links count)) list)) (diagramsOf (nodesOf (tableOf vars lows highs heads links count)) list)
-      ≡ any (negationIn (diagramsOf (nodesOf (tableOf vars lows highs heads links count)) list)) (diagramsOf (nodesOf (tableOf vars lows highs heads links count)) (drop i list)))
+    ≡ any (negationIn (diagramsOf (nodesOf (tableOf vars lows highs heads links count)) list)) (diagramsOf (nodesOf (tableOf vars lows highs heads links count)) (drop i list)))
 
 abbrev μ-loop : tie.MeasureT-loop
 μ-loop vars lows highs heads links memo₀ marks count list i₀ memo i = length list - i
@@ -35,9 +35,8 @@ clear-memo-requires c κs = search needs
 
 -- src/lib.rt:70:5
 loop-holds : tie.Need-loop-holds Inv-loop μ-loop
-loop-holds c = 
-    let a = c .before .before .before .before .before .before .before .before .before .before .before .before .args in
-    (
+loop-holds c =
+    let a = c .before .before .before .before .before .before .before .before .before .before .before .before .args in (
       refl,
       omega arith,
       negations-cleared (tableOf (a .vars .now) (a .lows .now) (a .highs .now) (a .heads .now) (a .links .now) (a .count)) _ (length (a .memo .now)) (c .before .before .clear-memo .ensures),
@@ -54,23 +53,19 @@ shared-slice-read-t19 c = search needs
 
 -- src/lib.rt:72:13
 negation-from-requires : tie.Need-negation-from-requires Inv-loop μ-loop
-negation-from-requires c κs = 
-    let a = c .before .before .before .before .before .before .before .before .before .before .before .before .before .before .before .before .args in
+negation-from-requires c κs =
     let r = c .before .before .before .before .before .before .before .before .before .before .before .before .before .before .before .before .pre in
     let w = c .before .before .before .loop in
-    (
-      record {
-        good = r .0 .good;
-        inside = r .0 .inside (w .i) (c .before .before .loop-test .taken);
-        room = omega (arith, w .inv .0, c .before .before .before .before .before .before .clear-memo .kept .0, r .0 .room);
-        right = w .inv .2;
-      },
-      ?,
-    )
+    record {
+      good = r .0 .good;
+      inside = r .0 .inside (w .i) (c .before .before .loop-test .taken);
+      room = omega (arith, w .inv .0, c .before .before .before .before .before .before .clear-memo .kept .0, r .0 .room);
+      right = w .inv .2;
+    }
 
 -- src/lib.rt:73:12
 is-marked-requires : tie.Need-is-marked-requires Inv-loop μ-loop
-is-marked-requires c κs = 
+is-marked-requires c κs =
     let a = c .before .before .before .before .before .before .before .before .before .before .before .before .before .before .before .before .before .before .before .args in
     let r = c .before .before .before .before .before .before .before .before .before .before .before .before .before .before .before .before .before .before .before .pre in
     let w = c .before .before .before .before .before .before .loop in
@@ -84,7 +79,7 @@ same-length c = search needs
 
 -- src/lib.rt:74:13
 returns : tie.Need-returns Inv-loop μ-loop
-returns c = 
+returns c =
     let a = c .before .before .before .before .before .before .before .before .before .before .before .before .before .before .before .before .before .before .before .before .before .args in
     let r = c .before .before .before .before .before .before .before .before .before .before .before .before .before .before .before .before .before .before .before .before .before .pre in
     let w = c .before .before .before .before .before .before .before .before .loop in
@@ -100,11 +95,10 @@ loop-less c = search needs
 
 -- src/lib.rt:70:5
 loop-again : tie.Need-loop-again Inv-loop μ-loop
-loop-again c = 
+loop-again c =
     let a = c .before .before .before .before .before .before .before .before .before .before .before .before .before .before .before .before .before .before .before .before .before .args in
     let r = c .before .before .before .before .before .before .before .before .before .before .before .before .before .before .before .before .before .before .before .before .before .pre in
-    let w = c .before .before .before .before .before .before .before .before .loop in
-    (
+    let w = c .before .before .before .before .before .before .before .before .loop in (
       c .before .before .before .before .negation-from .kept .1 .1 .1 .1 .1 .0 ∙ w .inv .0,
       omega (arith, c .before .before .before .before .before .before .before .loop-test .taken),
       c .before .before .before .before .negation-from .ensures .1,
@@ -117,7 +111,7 @@ same-length-2 c = search needs
 
 -- src/lib.rt:54:1
 returns-2 : tie.Need-returns-2 Inv-loop μ-loop
-returns-2 c = 
+returns-2 c =
     let a = c .before .before .before .before .before .before .before .before .before .before .before .before .before .before .args in
     let r = c .before .before .before .before .before .before .before .before .before .before .before .before .before .before .pre in
     let w = c .before .loop in

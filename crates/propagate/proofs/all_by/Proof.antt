@@ -17,7 +17,7 @@ use Rattle.operate.proofs.apply.Reads as apply-reads
 use Rattle.operate.proofs.clear_memo.Reads as clear-memo-reads
 
 abbrev Inv-loop : tie.InvT-loop
-Inv-loop vars₀ lows₀ highs₀ heads₀ links₀ memo₀ list₀ count op g n₀ i₀ vars lows highs heads links memo list n i = 
+Inv-loop vars₀ lows₀ highs₀ heads₀ links₀ memo₀ list₀ count op g n₀ i₀ vars lows highs heads links memo list n i =
     Replacing op (g .0) (tableOf vars₀ lows₀ highs₀ heads₀ links₀ count) list₀ (tableOf vars lows highs heads links n) list memo i
     × (length vars ≡ length vars₀) × (length lows ≡ length lows₀) × (length highs ≡ length highs₀) × (length heads ≡ length heads₀) × (length links ≡ length links₀)
     × (length memo ≡ length memo₀)
@@ -31,12 +31,11 @@ clear-memo-requires c κs = search needs
 
 -- src/lib.rt:37:5
 loop-holds : tie.Need-loop-holds Inv-loop μ-loop
-loop-holds c = 
+loop-holds c =
     let a = c .before .before .before .before .before .before .before .before .before .before .before .args in
     let r = c .before .before .before .before .before .before .before .before .before .before .before .pre in
     let e = c .before .before .clear-memo .ensures in
-    let len = c .before .before .clear-memo .kept .0 in
-    (
+    let len = c .before .before .clear-memo .kept .0 in (
       replacing-none (a .op) (a .g .0) (tableOf (a .vars .now) (a .lows .now) (a .highs .now) (a .heads .now) (a .links .now) (a .count)) (a .list .now) (a .memo .now) (r .0) (r .1) (c .before .before .clear-memo .last .0) (omega (arith, len, r .0 .room)) (subst (λ m. MemoRight (a .op) m (tableOf (a .vars .now) (a .lows .now) (a .highs .now) (a .heads .now) (a .links .now) (a .count))) (sym e) (memo-empty (a .op) (length (a .memo .now)) (tableOf (a .vars .now) (a .lows .now) (a .highs .now) (a .heads .now) (a .links .now) (a .count)))),
       refl,
       refl,
@@ -56,7 +55,7 @@ slice-read-t22 c = search needs
 
 -- src/lib.rt:39:13
 apply-requires : tie.Need-apply-requires Inv-loop μ-loop
-apply-requires c κs = 
+apply-requires c κs =
     let a = c .before .before .before .before .before .before .before .before .before .before .before .before .before .before .before .before .before .before .before .before .args in
     let r = c .before .before .before .before .before .before .before .before .before .before .before .before .before .before .before .before .before .before .before .before .pre in
     let w = c .before .before .before .before .before .before .before .before .loop in
@@ -92,7 +91,7 @@ same-length-7 c = search needs
 
 -- src/lib.rt:42:13
 returns : tie.Need-returns Inv-loop μ-loop
-returns c = 
+returns c =
     let a = c .before .before .before .before .before .before .before .before .before .before .before .before .before .before .before .before .before .before .before .before .before .before .before .before .before .before .before .before .before .before .before .before .before .before .args in
     let r = c .before .before .before .before .before .before .before .before .before .before .before .before .before .before .before .before .before .before .before .before .before .before .before .before .before .before .before .before .before .before .before .before .before .before .pre in
     let w = c .before .before .before .before .before .before .before .before .before .before .before .before .before .before .before .before .before .before .before .before .before .before .loop in
@@ -117,12 +116,11 @@ loop-less c = search needs
 
 -- src/lib.rt:37:5
 loop-again : tie.Need-loop-again Inv-loop μ-loop
-loop-again c = 
+loop-again c =
     let a = c .before .before .before .before .before .before .before .before .before .before .before .before .before .before .before .before .before .before .before .before .before .before .before .before .before .before .before .before .before .before .before .before .before .before .before .args in
     let r = c .before .before .before .before .before .before .before .before .before .before .before .before .before .before .before .before .before .before .before .before .before .before .before .before .before .before .before .before .before .before .before .before .before .before .before .pre in
     let w = c .before .before .before .before .before .before .before .before .before .before .before .before .before .before .before .before .before .before .before .before .before .before .before .loop in
-    let y = c .before .before .before .before .before .before .before .before .before .before .before .before .before .before .apply in
-    (
+    let y = c .before .before .before .before .before .before .before .before .before .before .before .before .before .before .apply in (
       replaced (a .op) (a .g .0) (tableOf (a .vars .now) (a .lows .now) (a .highs .now) (a .heads .now) (a .links .now) (a .count)) (a .list .now) (a .memo .now) (r .0) (r .1) (r .2) (tableOf (w .vars) (w .lows) (w .highs) (w .heads) (w .links) (w .n)) (w .list) (w .memo) (w .i) (w .inv .0) (c .before .before .before .before .before .before .before .before .before .before .before .before .before .before .before .before .before .before .before .before .before .before .loop-test .taken) (outcomeOf (y .last .0) (y .last .1 .0) (y .last .1 .1 .0) (y .last .1 .1 .1 .0) (y .last .1 .1 .1 .1 .0) (y .result)) (y .ensures .0) (c .before .if1 .left) (y .last .1 .1 .1 .1 .1 .0) (y .kept .1 .1 .1 .1 .1 .0) (y .ensures .1),
       y .kept .0 ∙ w .inv .1,
       y .kept .1 .0 ∙ w .inv .2,
@@ -162,7 +160,7 @@ same-length-14 c = search needs
 
 -- src/lib.rt:19:1
 returns-2 : tie.Need-returns-2 Inv-loop μ-loop
-returns-2 c = 
+returns-2 c =
     let a = c .before .before .before .before .before .before .before .before .before .before .before .before .before .args in
     let r = c .before .before .before .before .before .before .before .before .before .before .before .before .before .pre in
     let w = c .before .loop in

@@ -1,3 +1,5 @@
+use mathlib.Core.Bool.{Bool, true, false}
+use Rattle.units.proofs.Slots.{units-cleared}
 use mathlib.Core.Path.{_≡_, refl, sym, _∙_, subst}
 use Prim.Native.Nat.{ℕ, _-_, _≤_, _<_}
 use native.Mathlib.Omega.{arith}
@@ -16,7 +18,7 @@ use Rattle.units.proofs.units_from.Reads as units-from-reads
 use Rattle.walks.proofs.clear_memo.Reads as clear-memo-reads
 
 abbrev Inv-loop : tie.InvT-loop
-Inv-loop vars lows highs memo₀ count list i₀ memo i = 
+Inv-loop vars lows highs memo₀ count list i₀ memo i =
     (length memo ≡ length memo₀) × (i ≤ length list) × UnitsMemo memo (nodesIn vars lows highs count)
     × (firstWithUnit 64 (diagramsOf (nodesIn vars lows highs count) list) ≡ firstWithUnit 64 (diagramsOf (nodesIn vars lows highs count) (drop i list)))
 
@@ -29,7 +31,9 @@ clear-memo-requires c κs = search needs
 
 -- src/lib.rt:73:5
 loop-holds : tie.Need-loop-holds Inv-loop μ-loop
-loop-holds c = ?
+loop-holds c =
+    let a = c .before .before .before .before .before .before .before .before .before .args in
+    (refl, omega arith, units-cleared (nodesIn (a .vars .now) (a .lows .now) (a .highs .now) (a .count)) _ (length (a .memo .now)) (c .before .before .clear-memo .ensures), refl)
 
 -- src/lib.rt:74:24
 mul-t13 : tie.Need-mul-t13 Inv-loop μ-loop
@@ -41,7 +45,11 @@ shared-slice-read-t16 c = search needs
 
 -- src/lib.rt:75:13
 units-from-requires : tie.Need-units-from-requires Inv-loop μ-loop
-units-from-requires c κs = ?
+units-from-requires c κs =
+    let a = c .before .before .before .before .before .before .before .before .before .before .before .before .before .args in
+    let r = c .before .before .before .before .before .before .before .before .before .before .before .before .before .pre in
+    let w = c .before .before .before .loop in
+    ((r .0, r .1 (w .i) (c .before .before .loop-test .taken), omega (arith, w .inv .0, c .before .before .before .before .before .before .clear-memo .kept .0, r .2)), w .inv .2)
 
 -- src/lib.rt:77:13
 same-length : tie.Need-same-length Inv-loop μ-loop
@@ -61,7 +69,16 @@ loop-less c = search needs
 
 -- src/lib.rt:73:5
 loop-again : tie.Need-loop-again Inv-loop μ-loop
-loop-again c = ?
+loop-again c =
+    let a = c .before .before .before .before .before .before .before .before .before .before .before .before .before .before .before .before .before .before .before .before .args in
+    let r = c .before .before .before .before .before .before .before .before .before .before .before .before .before .before .before .before .before .before .before .before .pre in
+    let w = c .before .before .before .before .before .before .before .before .before .before .loop in
+    let y = c .before .before .before .before .before .before .units-from in (
+      y .kept .1 .1 .1 .0 ∙ w .inv .0,
+      omega (arith, c .before .before .before .before .before .before .before .before .before .loop-test .taken),
+      y .ensures .1,
+      w .inv .3 ∙ first-later (nodesIn (a .vars .now) (a .lows .now) (a .highs .now) (a .count)) (a .list .now) (w .i) (c .before .before .before .before .before .before .before .before .before .loop-test .taken) (words-empty (nodesIn (a .vars .now) (a .lows .now) (a .highs .now) (a .count)) _ _ _ (y .ensures .0) ? ?),
+    )
 
 -- src/lib.rt:60:1
 same-length-2 : tie.Need-same-length-2 Inv-loop μ-loop
@@ -69,7 +86,11 @@ same-length-2 c = search needs
 
 -- src/lib.rt:60:1
 returns-2 : tie.Need-returns-2 Inv-loop μ-loop
-returns-2 c = ?
+returns-2 c =
+    let a = c .before .before .before .before .before .before .before .before .before .before .before .args in
+    let r = c .before .before .before .before .before .before .before .before .before .before .before .pre in
+    let w = c .before .loop in
+    w .inv .3 ∙ first-none (nodesIn (a .vars .now) (a .lows .now) (a .highs .now) (a .count)) (a .list .now) (w .i) (omega (arith, c .loop-test .left))
 
 pub first-units-spec : {M : Type 1} → statement M
 first-units-spec =
