@@ -59,7 +59,7 @@ apply-requires c κs =
     let a = c .before .before .before .before .before .before .before .before .before .before .before .before .before .before .before .before .before .before .before .before .args in
     let r = c .before .before .before .before .before .before .before .before .before .before .before .before .before .before .before .before .before .before .before .before .pre in
     let w = c .before .before .before .before .before .before .before .before .loop in
-    (member-ready (a .op) (a .g .0) (tableOf (a .vars .now) (a .lows .now) (a .highs .now) (a .heads .now) (a .links .now) (a .count)) (a .list .now) (a .memo .now) (r .0) (r .1) (r .2) (tableOf (w .vars) (w .lows) (w .highs) (w .heads) (w .links) (w .n)) (w .list) (w .memo) (w .i) (w .inv .0) (c .before .before .before .before .before .before .before .loop-test .taken), ?)
+    member-ready (a .op) (a .g .0) (tableOf (a .vars .now) (a .lows .now) (a .highs .now) (a .heads .now) (a .links .now) (a .count)) (a .list .now) (a .memo .now) (r .0) (r .1) (r .2) (tableOf (w .vars) (w .lows) (w .highs) (w .heads) (w .links) (w .n)) (w .list) (w .memo) (w .i) (w .inv .0) (c .before .before .before .before .before .before .before .loop-test .taken)
 
 -- src/lib.rt:42:13
 same-length : tie.Need-same-length Inv-loop μ-loop

@@ -1,9 +1,14 @@
+use mathlib.Core.Logic.{⊎-elim}
+use Prim.Native.Nat.{_^_}
+use borrow.Author.Tests.{eqb-true, eqb-false, not-true, not-false}
+use Rattle.meaning.specs.Rules.{hasUnit}
+use Rattle.table.specs.Nodes.{diagramAt}
 use mathlib.Core.Bool.{Bool, true, false}
 use Rattle.units.proofs.Slots.{units-cleared}
 use mathlib.Core.Path.{_≡_, refl, sym, _∙_, subst}
 use Prim.Native.Nat.{ℕ, _-_, _≤_, _<_}
 use native.Mathlib.Omega.{arith}
-use lib.ListN.{length, drop}
+use lib.ListN.{length, getD, drop}
 use borrow.Author.Needs.{needs}
 use Rattle.meaning.specs.Rules.{firstWithUnit}
 use Rattle.walks.specs.Readable.{nodesIn}
@@ -57,7 +62,15 @@ same-length c = search needs
 
 -- src/lib.rt:77:13
 returns : tie.Need-returns Inv-loop μ-loop
-returns c = ?
+returns c = 
+    let a = c .before .before .before .before .before .before .before .before .before .before .before .before .before .before .before .before .before .before .args in
+    let r = c .before .before .before .before .before .before .before .before .before .before .before .before .before .before .before .before .before .before .pre in
+    let w = c .before .before .before .before .before .before .before .before .loop in
+    let y = c .before .before .before .before .units-from in
+    let some-unit : hasUnit 64 64 (diagramAt (nodesIn (a .vars .now) (a .lows .now) (a .highs .now) (a .count)) (getD (a .list .now) (w .i) 0)) ≡ true =
+      words-some (nodesIn (a .vars .now) (a .lows .now) (a .highs .now) (a .count)) (getD (a .list .now) (w .i) 0) (y .result .positive) (y .result .negative) (y .ensures .0) (omega (arith, c .before .struct-known .given)) (omega (arith, c .before .struct-known .given))
+      (λ z. ⊎-elim (λ s. s .taken (z .0)) (λ s. eqb-false _ _ (not-true _ (s .2 .taken)) (z .1)) (c .if1 .came)) in
+    first-here (nodesIn (a .vars .now) (a .lows .now) (a .highs .now) (a .count)) (a .list .now) (w .i) (c .before .before .before .before .before .before .before .loop-test .taken) (w .inv .3) some-unit (y .result .positive) (y .result .negative) (y .ensures .0)
 
 -- src/lib.rt:79:9
 add-i : tie.Need-add-i Inv-loop μ-loop
@@ -69,15 +82,16 @@ loop-less c = search needs
 
 -- src/lib.rt:73:5
 loop-again : tie.Need-loop-again Inv-loop μ-loop
-loop-again c =
+loop-again c = 
     let a = c .before .before .before .before .before .before .before .before .before .before .before .before .before .before .before .before .before .before .before .before .args in
     let r = c .before .before .before .before .before .before .before .before .before .before .before .before .before .before .before .before .before .before .before .before .pre in
     let w = c .before .before .before .before .before .before .before .before .before .before .loop in
-    let y = c .before .before .before .before .before .before .units-from in (
+    let y = c .before .before .before .before .before .before .units-from in
+    (
       y .kept .1 .1 .1 .0 ∙ w .inv .0,
       omega (arith, c .before .before .before .before .before .before .before .before .before .loop-test .taken),
       y .ensures .1,
-      w .inv .3 ∙ first-later (nodesIn (a .vars .now) (a .lows .now) (a .highs .now) (a .count)) (a .list .now) (w .i) (c .before .before .before .before .before .before .before .before .before .loop-test .taken) (words-empty (nodesIn (a .vars .now) (a .lows .now) (a .highs .now) (a .count)) _ _ _ (y .ensures .0) ? ?),
+      w .inv .3 ∙ first-later (nodesIn (a .vars .now) (a .lows .now) (a .highs .now) (a .count)) (a .list .now) (w .i) (c .before .before .before .before .before .before .before .before .before .loop-test .taken) (words-empty (nodesIn (a .vars .now) (a .lows .now) (a .highs .now) (a .count)) _ _ _ (y .ensures .0) (c .before .before .if1 .left) (eqb-true _ _ (not-false _ (c .if2 .left)))),
     )
 
 -- src/lib.rt:60:1
