@@ -7,7 +7,7 @@ use Rattle.meaning.specs.Diagram.{Diagram, same}
 use Rattle.meaning.specs.Operations.{negation}
 use Rattle.meaning.specs.Rules.{any}
 use Rattle.table.specs.Nodes.{Node, diagramAt}
-use Rattle.table.specs.Indexed.{Table, nodesOf, Good}
+use Rattle.table.specs.Indexed.{Table, Good}
 
 -- The diagrams of listed node numbers.
 abbrev pub diagramsOf : List Node → List ℕ → List Diagram

@@ -1,11 +1,11 @@
 -- A table that others extend keeps its nodes' diagrams, and what extends an extension extends the table. Assumes nothing.
 use mathlib.Core.Path.{_≡_, refl, sym, ap, ap₂, _∙_}
-use mathlib.Core.List.{List, [], _∷_, _++_, map}
-use Prim.Native.Nat.{ℕ, zero, suc, _≤_, _<_}
+use mathlib.Core.List.{List, [], _∷_, _++_}
+use Prim.Native.Nat.{ℕ, suc}
 use native.Mathlib.Omega.{arith}
-use lib.ListN.{length, getD, drop, take-append-drop}
-use Rattle.table.specs.Nodes.{Node, diagramAt}
-use Rattle.table.specs.Indexed.{Table, size, nodesOf, Good}
+use lib.ListN.{drop, take-append-drop}
+use Rattle.table.specs.Nodes.{Node}
+use Rattle.table.specs.Indexed.{Table, nodesOf, Good}
 use Rattle.table.proofs.Written.{length-nodes, good-ordered}
 use Rattle.table.proofs.Growth.{Extends, diagramAt-grown}
 use Rattle.table.proofs.Outcomes.{Longer, longer-same, longer-trans}

@@ -1,13 +1,13 @@
 -- Diagrams placed in their order: the first and the rest, one list after another, as outcomes tell it. Assumes nothing.
 use mathlib.Core.Path.{_≡_, refl, sym, ap, _∙_}
-use mathlib.Core.Bool.{Bool, true, false}
+use mathlib.Core.Bool.{true, false}
 use mathlib.Core.List.{List, [], _∷_, _++_}
 use mathlib.Core.Option.{Option, none, some}
 use Prim.Native.Nat.{ℕ}
 use Rattle.meaning.specs.Diagram.{Diagram}
 use Rattle.meaning.proofs.Booleans.{t≢f}
 use Rattle.table.specs.Nodes.{Node, Placing, full, placed, place}
-use Rattle.table.specs.Indexed.{size, nodesOf, Outcome, written}
+use Rattle.table.specs.Indexed.{nodesOf, Outcome, written}
 use Rattle.table.proofs.Written.{nodes-indexed}
 use Rattle.verdict.specs.Check.{afterPlacing, placedAll}
 

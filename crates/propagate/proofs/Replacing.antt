@@ -1,27 +1,26 @@
 -- A list's members replaced one by one by an operation's results. The idea: what is to be placed is what is left to be placed, the members
 -- behind are the results, and those ahead are as they were. Assumes nothing.
-use mathlib.Core.Path.{_≡_, refl, sym, ap, ap₂, _∙_, subst}
-use mathlib.Core.Bool.{Bool, true, false, cond}
+use mathlib.Core.Path.{_≡_, refl, sym, ap, ap₂, _∙_}
+use mathlib.Core.Bool.{true, false}
 use mathlib.Core.List.{List, [], _∷_, map}
-use mathlib.Core.Option.{none, some}
 use Prim.Native.Nat.{ℕ, zero, suc, _+_, _≤_, _<_}
 use native.Mathlib.Omega.{arith}
 use native.Mathlib.Numerals.{add-one}
 use native.Mathlib.Decide.{ℕ-discrete}
-use lib.ListN.{length, getD, set, take, drop, length-set, length-map, drop-of-length-le}
+use lib.ListN.{length, getD, set, drop, length-set, length-map, drop-of-length-le}
 use lib.Seq.{drop-cons, getD-set-same, getD-set-other, ext-getD}
 use Rattle.meaning.specs.Diagram.{Diagram, leaf}
 use Rattle.meaning.proofs.Booleans.{t≢f}
-use Rattle.table.specs.Nodes.{Node, diagramAt}
-use Rattle.table.specs.Indexed.{Table, size, nodesOf, Good, Outcome}
+use Rattle.table.specs.Nodes.{diagramAt}
+use Rattle.table.specs.Indexed.{Table, size, nodesOf, Outcome}
 use Rattle.table.proofs.Outcomes.{Longer, longer, longer-same, longer-trans, Grown, grown}
 use Rattle.operate.specs.declared.Operation.{Operation}
 use Rattle.operate.specs.Operate.{result}
 use Rattle.operate.specs.Inner.{applied, Allowed, MemoRight, Ready}
 use Rattle.operate.proofs.Results.{result-reduced}
 use Rattle.verdict.specs.Check.{placedAll}
-use Rattle.conflict.specs.Members.{diagramsOf, Inside, ListReady}
-use Rattle.propagate.specs.Made.{Extended, results, AllMade}
+use Rattle.conflict.specs.Members.{diagramsOf, ListReady}
+use Rattle.propagate.specs.Made.{results, AllMade}
 use Rattle.propagate.proofs.PlacedAll.{first-full, first-placed}
 use Rattle.propagate.proofs.Extended.{longer-extended}
 
@@ -88,28 +87,27 @@ module _ (op : Operation) (g : ℕ) (T₀ : Table) (list₀ memo₀ : List ℕ) 
           right = W .right;
         }
 
-    next : Diagram
-    next = getD (results op T₀ list₀ g) i (leaf false)
+    -- what the operation makes of the member
+    abbrev made : Diagram
+    made = result op (diagramAt (nodesOf T) (getD list i 0)) (diagramAt (nodesOf T) g)
 
-    member-result : result op (diagramAt (nodesOf T) (getD list i 0)) (diagramAt (nodesOf T) g) ≡ next
-    unfolding next
+    member-result : made ≡ getD (results op T₀ list₀ g) i (leaf false)
     member-result =
         ap₂ (result op) (W .long .kept (getD list i 0) member-inside ∙ ap (diagramAt (nodesOf T₀)) (W .ahead i (omega arith))) (W .long .kept g g-inside)
         ∙ sym (result-at i (omega (arith, W .members)))
 
-    left-to-place : placedAll (size T₀) (nodesOf T₀) (results op T₀ list₀ g) ≡ placedAll (size T) (nodesOf T) (result op (diagramAt (nodesOf T) (getD list i 0)) (diagramAt (nodesOf T) g) ∷ drop (suc i) (results op T₀ list₀ g))
-    unfolding next
+    left-to-place : placedAll (size T₀) (nodesOf T₀) (results op T₀ list₀ g) ≡ placedAll (size T) (nodesOf T) (made ∷ drop (suc i) (results op T₀ list₀ g))
     left-to-place =
         W .to-place
         ∙ ap (placedAll (size T₀) (nodesOf T)) (drop-cons (results op T₀ list₀ g) i (leaf false) (omega (arith, results-length, W .members)))
         ∙ ap₂ (λ (s : ℕ) (D : Diagram). placedAll s (nodesOf T) (D ∷ drop (suc i) (results op T₀ list₀ g))) (sym (W .long .same-size)) (sym member-result)
 
     module _ (o : Outcome) (e : o ≡ applied T op (getD list i 0) g) where
-      outcome-grown : Grown T (result op (diagramAt (nodesOf T) (getD list i 0)) (diagramAt (nodesOf T) g)) o
+      outcome-grown : Grown T made o
       outcome-grown = grown T (W .long .good) _ (result-reduced op (diagramAt (nodesOf T) (getD list i 0)) (diagramAt (nodesOf T) g)) o e
 
       long-after : Longer T₀ (o .table)
-      long-after = longer-trans T₀ T (o .table) (W .long) (longer T (result op (diagramAt (nodesOf T) (getD list i 0)) (diagramAt (nodesOf T) g)) o outcome-grown)
+      long-after = longer-trans T₀ T (o .table) (W .long) (longer T made o outcome-grown)
 
       -- it found no room
       pub stopped : o .full ≡ true → AllMade T₀ (results op T₀ list₀ g) true (o .table) list
@@ -124,7 +122,6 @@ module _ (op : Operation) (g : ℕ) (T₀ : Table) (list₀ memo₀ : List ℕ) 
       -- it is replaced
       pub replaced : o .full ≡ false → (memo′ : List ℕ) → length memo′ ≡ length memo → MemoRight op memo′ (o .table)
           → Replacing op g T₀ list₀ (o .table) (set list i (o .node)) memo′ (i + 1)
-      unfolding next
       replaced f memo′ len right =
           record {
             long = long-after;
@@ -145,7 +142,7 @@ module _ (op : Operation) (g : ℕ) (T₀ : Table) (list₀ memo₀ : List ℕ) 
               rw (z, getD-set-same list i (o .node) 0 p) (record { inside = outcome-grown .inside; is = outcome-grown .is f ∙ member-result })
           now-done k q (no z) =
               rw (getD-set-other list i k (o .node) 0 z)
-              (has-longer T (o .table) (longer T (result op (diagramAt (nodesOf T) (getD list i 0)) (diagramAt (nodesOf T) g)) o outcome-grown) (getD list k 0) (getD (results op T₀ list₀ g) k (leaf false)) (W .done k (omega arith)))
+              (has-longer T (o .table) (longer T made o outcome-grown) (getD list k 0) (getD (results op T₀ list₀ g) k (leaf false)) (W .done k (omega arith)))
 
   -- ---- all members
 

@@ -1,10 +1,10 @@
 -- A propagation round by round. The idea: what the whole propagation says is what the rounds so far and those to come say; each round
 -- replaces all members by their cofactors by the units of the first member that has any. Assumes nothing.
 use mathlib.Core.Path.{_≡_, refl, sym, ap, ap₂, _∙_}
-use mathlib.Core.Bool.{Bool, true, false, not, cond}
+use mathlib.Core.Bool.{Bool, true, false, cond}
 use mathlib.Core.List.{List, [], _∷_, _++_, map}
 use mathlib.Core.Option.{Option, none, some}
-use Prim.Native.Nat.{ℕ, zero, suc, _+_, _-_, _≤_, _<_}
+use Prim.Native.Nat.{ℕ, zero, suc, _+_, _≤_, _<_}
 use native.Mathlib.Omega.{arith}
 use lib.ListN.{length}
 use Rattle.meaning.specs.Diagram.{Diagram}
@@ -13,15 +13,13 @@ use Rattle.meaning.specs.Rules.{conflicts, firstWithUnit, byUnits, Propagation,
 use Rattle.meaning.specs.Words.{inWord}
 use Rattle.meaning.proofs.Booleans.{t≢f}
 use Rattle.meaning.proofs.PointwiseSteps.{literals-cong}
-use Rattle.table.specs.Nodes.{Node, diagramAt}
+use Rattle.table.specs.Nodes.{diagramAt}
 use Rattle.table.specs.Indexed.{Table, size, nodesOf, Good}
-use Rattle.operate.specs.declared.Operation.{Operation}
 use Rattle.operate.specs.declared.Operation.the-variants.{Literals}
 use Rattle.operate.specs.Operate.{result}
 use Rattle.verdict.specs.Check.{placedAll, isSome}
 use Rattle.conflict.specs.Members.{diagramsOf, Inside, ListReady}
 use Rattle.conflict.specs.Marks.{unmarked}
-use Rattle.propagate.specs.declared.Propagated.{Propagated}
 use Rattle.propagate.specs.Made.{Extended, results, AllMade}
 use Rattle.propagate.specs.Units.{Taken}
 use Rattle.propagate.specs.Rounds.{Said, roundsLeft}

@@ -8,7 +8,6 @@ use Rattle.meaning.specs.Diagram.{Diagram}
 use Rattle.meaning.specs.Operations.{isUnit}
 use Rattle.meaning.specs.Rules.{firstWithUnit}
 use Rattle.meaning.specs.Words.{inWord}
-use Rattle.units.specs.declared.Units.{Units}
 use Rattle.propagate.specs.declared.FirstUnits.{FirstUnits}
 use Rattle.propagate.specs.declared.FirstUnits.the-variants.{Of, Nothing}
 

@@ -80,8 +80,8 @@ pub fn first_units(
     walks::clear_memo(memo);
     let mut i: usize = 0;
     while i < list.len() {
-        let f = NodeNo(list[i]);
-        let u = units::units_from(vars, lows, highs, memo, count, f);
+        let member = NodeNo(list[i]);
+        let u = units::units_from(vars, lows, highs, memo, count, member);
         if u.positive != 0 || u.negative != 0 {
             return FirstUnits::Of(u);
         }

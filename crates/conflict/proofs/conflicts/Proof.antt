@@ -1,4 +1,5 @@
-use mathlib.Core.Path.{_≡_, refl, sym, ap, _∙_}
+-- Node 0 is looked for first; else the members are marked, their negations looked for, and the marks taken away. Assumes nothing.
+use mathlib.Core.Path.{sym, ap, _∙_}
 use lib.ListN.{length}
 use Rattle.table.specs.Indexed.{tableOf, nodesOf}
 use Rattle.table.proofs.Written.{good-ordered}
@@ -9,11 +10,6 @@ use Rattle.conflict.proofs.Marked.{in-nodes, in-size, in-unmarked, in-m
 use borrow.Author.Needs.{needs}
 use Rattle.conflict.proofs.conflicts.Statement.{statement}
 use Rattle.conflict.proofs.conflicts.Tie as tie
-use Rattle.conflict.proofs.conflicts.Reads as reads
-use Rattle.conflict.proofs.conflicts.Lts as lts
-use Rattle.conflict.proofs.has_zero.Reads as has-zero-reads
-use Rattle.conflict.proofs.set_all.Reads as set-all-reads
-use Rattle.conflict.proofs.some_negated.Reads as some-negated-reads
 
 -- src/lib.rt:97:8
 has-zero-requires : tie.Need-has-zero-requires

@@ -1,5 +1,6 @@
+-- The walk over the list: what is to be found is what is left to be found. Assumes nothing.
 use mathlib.Core.Path.{_≡_, refl, sym, _∙_}
-use Prim.Native.Nat.{ℕ, _-_, _≤_, _<_}
+use Prim.Native.Nat.{_-_, _≤_}
 use native.Mathlib.Omega.{arith}
 use lib.ListN.{length, drop}
 use borrow.Author.Needs.{needs}
@@ -7,8 +8,6 @@ use Rattle.conflict.specs.Marks.{isListed}
 use Rattle.conflict.proofs.Marks.{listed-here, listed-later, listed-none}
 use Rattle.conflict.proofs.has_zero.Statement.{statement}
 use Rattle.conflict.proofs.has_zero.Tie as tie
-use Rattle.conflict.proofs.has_zero.Reads as reads
-use Rattle.conflict.proofs.has_zero.Lts as lts
 
 abbrev Inv-loop : tie.InvT-loop
 Inv-loop list i₀ i = (i ≤ length list) × (isListed list 0 ≡ isListed (drop i list) 0)

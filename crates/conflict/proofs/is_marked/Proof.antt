@@ -1,11 +1,10 @@
-use mathlib.Core.Path.{_≡_, sym, ap, subst}
+-- A place that is found is read. Assumes nothing.
+use mathlib.Core.Path.{sym, ap, subst}
 use lib.ListN.{length}
 use Rattle.conflict.specs.Marks.{markedAt, FoundInside}
 use borrow.Author.Needs.{needs}
 use Rattle.conflict.proofs.is_marked.Statement.{statement}
 use Rattle.conflict.proofs.is_marked.Tie as tie
-use Rattle.conflict.proofs.is_marked.Reads as reads
-use Rattle.conflict.proofs.is_marked.Lts as lts
 
 -- src/lib.rt:45:19
 enum-known-found : tie.Need-enum-known-found

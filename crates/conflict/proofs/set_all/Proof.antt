@@ -1,5 +1,6 @@
+-- The walk over the list: what is to be set is what is left to be set. Assumes nothing.
 use mathlib.Core.Path.{_≡_, refl, sym, _∙_}
-use Prim.Native.Nat.{ℕ, _-_, _≤_, _<_}
+use Prim.Native.Nat.{_-_, _≤_}
 use native.Mathlib.Omega.{arith}
 use lib.ListN.{length, getD, drop, length-set}
 use borrow.Author.Needs.{needs}
@@ -7,8 +8,6 @@ use Rattle.conflict.specs.Marks.{setAll}
 use Rattle.conflict.proofs.Marks.{set-step, set-end}
 use Rattle.conflict.proofs.set_all.Statement.{statement}
 use Rattle.conflict.proofs.set_all.Tie as tie
-use Rattle.conflict.proofs.set_all.Reads as reads
-use Rattle.conflict.proofs.set_all.Lts as lts
 
 abbrev Inv-loop : tie.InvT-loop
 Inv-loop marks₀ list mark i₀ marks i = (length marks ≡ length marks₀) × (i ≤ length list) × (setAll mark marks₀ list ≡ setAll mark marks (drop i list))

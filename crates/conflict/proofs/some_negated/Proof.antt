@@ -1,6 +1,7 @@
+-- The walk over the list: what is to be found is what is left to be found, while the memo stays right. Assumes nothing.
 use Rattle.negate.proofs.Entries.{negations-cleared}
 use mathlib.Core.Path.{_≡_, refl, sym, ap, _∙_, subst}
-use Prim.Native.Nat.{ℕ, _-_, _≤_, _<_}
+use Prim.Native.Nat.{_-_, _≤_}
 use native.Mathlib.Omega.{arith}
 use lib.ListN.{length, getD, drop}
 use borrow.Author.Needs.{needs}
@@ -8,17 +9,12 @@ use Rattle.meaning.specs.Rules.{any}
 use Rattle.table.specs.Indexed.{tableOf, nodesOf}
 use Rattle.negate.specs.Negations.{NegationMemo}
 use Rattle.conflict.specs.Members.{diagramsOf, negationIn}
-use Rattle.conflict.specs.Marks.{markedAt, FoundInside, setAll, unmarked}
+use Rattle.conflict.specs.Marks.{markedAt, FoundInside}
 use Rattle.conflict.proofs.Numbers.{any-here, any-later, any-none}
 use Rattle.conflict.proofs.Marks.{marked-length}
 use Rattle.conflict.proofs.Marked.{someNegated-is, found-inside, negation-marked}
 use Rattle.conflict.proofs.some_negated.Statement.{statement}
 use Rattle.conflict.proofs.some_negated.Tie as tie
-use Rattle.conflict.proofs.some_negated.Reads as reads
-use Rattle.conflict.proofs.some_negated.Lts as lts
-use Rattle.conflict.proofs.is_marked.Reads as is-marked-reads
-use Rattle.negate.proofs.negation_from.Reads as negation-from-reads
-use Rattle.walks.proofs.clear_memo.Reads as clear-memo-reads
 
 abbrev Inv-loop : tie.InvT-loop
 Inv-loop vars lows highs heads links memo₀ marks count list i₀ memo i =

@@ -1,20 +1,15 @@
-use lib.ListN.{length, length-set, length-replicate}
-use Rattle.table.specs.Indexed.{Table, tableOf, outcomeOf}
+-- The members are replaced one by one: `Replacing` holds at each. Assumes nothing.
+use lib.ListN.{length}
+use Rattle.table.specs.Indexed.{tableOf, outcomeOf}
 use Rattle.operate.specs.Inner.{MemoRight}
 use mathlib.Core.Path.{_≡_, refl, sym, _∙_, subst}
-use Prim.Native.Nat.{ℕ, _-_, _≤_, _<_}
+use Prim.Native.Nat.{_-_}
 use native.Mathlib.Omega.{arith}
-use lib.ListN.{length}
 use borrow.Author.Needs.{needs}
-use Rattle.table.specs.Indexed.{Table, tableOf}
 use Rattle.operate.proofs.Memo.{memo-empty}
 use Rattle.propagate.proofs.Replacing.{Replacing, replacing-none, member-ready, stopped, replaced, all-replaced}
 use Rattle.propagate.proofs.all_by.Statement.{statement}
 use Rattle.propagate.proofs.all_by.Tie as tie
-use Rattle.propagate.proofs.all_by.Reads as reads
-use Rattle.propagate.proofs.all_by.Lts as lts
-use Rattle.operate.proofs.apply.Reads as apply-reads
-use Rattle.operate.proofs.clear_memo.Reads as clear-memo-reads
 
 abbrev Inv-loop : tie.InvT-loop
 Inv-loop vars₀ lows₀ highs₀ heads₀ links₀ memo₀ list₀ count op g n₀ i₀ vars lows highs heads links memo list n i =

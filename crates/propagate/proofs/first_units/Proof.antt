@@ -1,12 +1,12 @@
+-- The walk over the list: what is to be taken is what is left to be taken, while the memo stays right. Assumes nothing.
 use mathlib.Core.Logic.{⊎-elim}
-use Prim.Native.Nat.{_^_}
 use borrow.Author.Tests.{eqb-true, eqb-false, not-true, not-false}
 use Rattle.meaning.specs.Rules.{hasUnit}
 use Rattle.table.specs.Nodes.{diagramAt}
-use mathlib.Core.Bool.{Bool, true, false}
+use mathlib.Core.Bool.{true}
 use Rattle.units.proofs.Slots.{units-cleared}
-use mathlib.Core.Path.{_≡_, refl, sym, _∙_, subst}
-use Prim.Native.Nat.{ℕ, _-_, _≤_, _<_}
+use mathlib.Core.Path.{_≡_, refl, _∙_}
+use Prim.Native.Nat.{_-_, _≤_}
 use native.Mathlib.Omega.{arith}
 use lib.ListN.{length, getD, drop}
 use borrow.Author.Needs.{needs}
@@ -17,10 +17,6 @@ use Rattle.conflict.specs.Members.{diagramsOf}
 use Rattle.propagate.proofs.Taking.{words-empty, words-some, first-later, first-here, first-none}
 use Rattle.propagate.proofs.first_units.Statement.{statement}
 use Rattle.propagate.proofs.first_units.Tie as tie
-use Rattle.propagate.proofs.first_units.Reads as reads
-use Rattle.propagate.proofs.first_units.Lts as lts
-use Rattle.units.proofs.units_from.Reads as units-from-reads
-use Rattle.walks.proofs.clear_memo.Reads as clear-memo-reads
 
 abbrev Inv-loop : tie.InvT-loop
 Inv-loop vars lows highs memo₀ count list i₀ memo i =
@@ -62,14 +58,14 @@ same-length c = search needs
 
 -- src/lib.rt:77:13
 returns : tie.Need-returns Inv-loop μ-loop
-returns c = 
+returns c =
     let a = c .before .before .before .before .before .before .before .before .before .before .before .before .before .before .before .before .before .before .args in
     let r = c .before .before .before .before .before .before .before .before .before .before .before .before .before .before .before .before .before .before .pre in
     let w = c .before .before .before .before .before .before .before .before .loop in
     let y = c .before .before .before .before .units-from in
     let some-unit : hasUnit 64 64 (diagramAt (nodesIn (a .vars .now) (a .lows .now) (a .highs .now) (a .count)) (getD (a .list .now) (w .i) 0)) ≡ true =
-      words-some (nodesIn (a .vars .now) (a .lows .now) (a .highs .now) (a .count)) (getD (a .list .now) (w .i) 0) (y .result .positive) (y .result .negative) (y .ensures .0) (omega (arith, c .before .struct-known .given)) (omega (arith, c .before .struct-known .given))
-      (λ z. ⊎-elim (λ s. s .taken (z .0)) (λ s. eqb-false _ _ (not-true _ (s .2 .taken)) (z .1)) (c .if1 .came)) in
+    words-some (nodesIn (a .vars .now) (a .lows .now) (a .highs .now) (a .count)) (getD (a .list .now) (w .i) 0) (y .result .positive) (y .result .negative) (y .ensures .0) (omega (arith, c .before .struct-known .given)) (omega (arith, c .before .struct-known .given))
+    (λ z. ⊎-elim (λ s. s .taken (z .0)) (λ s. eqb-false _ _ (not-true _ (s .2 .taken)) (z .1)) (c .if1 .came)) in
     first-here (nodesIn (a .vars .now) (a .lows .now) (a .highs .now) (a .count)) (a .list .now) (w .i) (c .before .before .before .before .before .before .before .loop-test .taken) (w .inv .3) some-unit (y .result .positive) (y .result .negative) (y .ensures .0)
 
 -- src/lib.rt:79:9
@@ -82,12 +78,11 @@ loop-less c = search needs
 
 -- src/lib.rt:73:5
 loop-again : tie.Need-loop-again Inv-loop μ-loop
-loop-again c = 
+loop-again c =
     let a = c .before .before .before .before .before .before .before .before .before .before .before .before .before .before .before .before .before .before .before .before .args in
     let r = c .before .before .before .before .before .before .before .before .before .before .before .before .before .before .before .before .before .before .before .before .pre in
     let w = c .before .before .before .before .before .before .before .before .before .before .loop in
-    let y = c .before .before .before .before .before .before .units-from in
-    (
+    let y = c .before .before .before .before .before .before .units-from in (
       y .kept .1 .1 .1 .0 ∙ w .inv .0,
       omega (arith, c .before .before .before .before .before .before .before .before .before .loop-test .taken),
       y .ensures .1,

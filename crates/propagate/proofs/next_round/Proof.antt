@@ -1,9 +1,8 @@
-use mathlib.Core.Path.{_≡_, refl, sym, ap, _∙_, subst}
-use Prim.Native.Nat.{ℕ, _-_, _≤_, _<_}
+-- The conflict test, the rounds left, then the first member with units: each ends the propagation or gives its round. Assumes nothing.
+use mathlib.Core.Path.{sym, _∙_, subst}
+use Prim.Native.Nat.{_-_}
 use native.Mathlib.Omega.{arith}
-use lib.ListN.{length}
 use Rattle.table.specs.Indexed.{tableOf, nodesOf}
-use Rattle.walks.specs.Readable.{nodesIn}
 use Rattle.walks.proofs.Here.{good-readable}
 use Rattle.conflict.specs.Members.{diagramsOf}
 use Rattle.propagate.specs.Units.{AreFirst}
@@ -11,10 +10,6 @@ use Rattle.propagate.proofs.Rounds.{ends-conflict, ends-last, ends-stil
 use borrow.Author.Needs.{needs}
 use Rattle.propagate.proofs.next_round.Statement.{statement}
 use Rattle.propagate.proofs.next_round.Tie as tie
-use Rattle.propagate.proofs.next_round.Reads as reads
-use Rattle.propagate.proofs.next_round.Lts as lts
-use Rattle.conflict.proofs.conflicts.Reads as conflicts-reads
-use Rattle.propagate.proofs.first_units.Reads as first-units-reads
 
 -- src/lib.rt:124:8
 conflicts-requires : tie.Need-conflicts-requires
@@ -30,7 +25,7 @@ same-length-2 c = search needs
 
 -- src/lib.rt:125:9
 returns : tie.Need-returns
-returns c = 
+returns c =
     let a = c .before .before .before .before .before .before .before .before .before .before .before .before .before .before .before .before .args in
     let r = c .before .before .before .before .before .before .before .before .before .before .before .before .before .before .before .before .pre in
     let y = c .before .before .before .before .before .conflicts in
@@ -46,7 +41,7 @@ same-length-4 c = search needs
 
 -- src/lib.rt:128:9
 returns-2 : tie.Need-returns-2
-returns-2 c = 
+returns-2 c =
     let a = c .before .before .before .before .before .before .before .before .before .before .before .before .before .before .before .before .before .args in
     let r = c .before .before .before .before .before .before .before .before .before .before .before .before .before .before .before .before .before .pre in
     let y = c .before .before .before .before .before .before .conflicts in
@@ -54,7 +49,7 @@ returns-2 c =
 
 -- src/lib.rt:130:11
 first-units-requires : tie.Need-first-units-requires
-first-units-requires c κs = 
+first-units-requires c κs =
     let a = c .before .before .before .before .before .before .before .before .before .before .before .before .before .before .before .before .before .before .args in
     let r = c .before .before .before .before .before .before .before .before .before .before .before .before .before .before .before .before .before .before .pre in
     let y = c .before .before .before .before .before .before .before .conflicts in
@@ -79,7 +74,7 @@ same-length-6 c = search needs
 -- src/lib.rt:108:1
 returns-3 : tie.Need-returns-3
 unfolding nodesOf
-returns-3 c = 
+returns-3 c =
     let a = c .before .before .before .before .before .before .before .before .before .before .before .before .before .before .before .before .before .before .before .before .before .before .before .before .args in
     let r = c .before .before .before .before .before .before .before .before .before .before .before .before .before .before .before .before .before .before .before .before .before .before .before .before .pre in
     let y = c .before .before .before .before .before .before .before .before .before .before .before .before .before .conflicts in
@@ -96,7 +91,7 @@ same-length-8 c = search needs
 -- src/lib.rt:108:1
 returns-4 : tie.Need-returns-4
 unfolding nodesOf
-returns-4 c = 
+returns-4 c =
     let a = c .before .before .before .before .before .before .before .before .before .before .before .before .before .before .before .before .before .before .before .before .before .before .before .args in
     let r = c .before .before .before .before .before .before .before .before .before .before .before .before .before .before .before .before .before .before .before .before .before .before .before .pre in
     let y = c .before .before .before .before .before .before .before .before .before .before .before .before .conflicts in

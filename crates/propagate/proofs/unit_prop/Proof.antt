@@ -1,6 +1,7 @@
+-- Round by round: `Going` holds before each. Assumes nothing.
 use mathlib.Core.Path.{_≡_, refl, sym, ap, _∙_, subst}
-use mathlib.Core.Bool.{true, false}
-use Prim.Native.Nat.{ℕ, _-_, _≤_, _<_}
+use mathlib.Core.Bool.{false}
+use Prim.Native.Nat.{_-_}
 use native.Mathlib.Omega.{arith}
 use lib.ListN.{length}
 use borrow.Author.Needs.{needs}
@@ -11,13 +12,9 @@ use Rattle.propagate.specs.Rounds.{Comes}
 use Rattle.propagate.proofs.Rounds.{Going, going-first, going-ready, going-ends, going-full, going-on}
 use Rattle.propagate.proofs.unit_prop.Statement.{statement}
 use Rattle.propagate.proofs.unit_prop.Tie as tie
-use Rattle.propagate.proofs.unit_prop.Reads as reads
-use Rattle.propagate.proofs.unit_prop.Lts as lts
-use Rattle.propagate.proofs.all_by.Reads as all-by-reads
-use Rattle.propagate.proofs.next_round.Reads as next-round-reads
 
 abbrev Inv-loop : tie.InvT-loop
-Inv-loop vars₀ lows₀ highs₀ heads₀ links₀ memo₀ marks₀ list₀ count n₀ rounds₀ vars lows highs heads links memo marks list n rounds = 
+Inv-loop vars₀ lows₀ highs₀ heads₀ links₀ memo₀ marks₀ list₀ count n₀ rounds₀ vars lows highs heads links memo marks list n rounds =
     Going (tableOf vars₀ lows₀ highs₀ heads₀ links₀ count) (diagramsOf (nodesOf (tableOf vars₀ lows₀ highs₀ heads₀ links₀ count)) list₀) (tableOf vars lows highs heads links n) list memo marks rounds
     × (length vars ≡ length vars₀) × (length lows ≡ length lows₀) × (length highs ≡ length highs₀) × (length heads ≡ length heads₀) × (length links ≡ length links₀) × (length memo ≡ length memo₀) × (length marks ≡ length marks₀) × (length list ≡ length list₀)
 
@@ -26,14 +23,14 @@ abbrev μ-loop : tie.MeasureT-loop
 
 -- src/lib.rt:154:5
 loop-holds : tie.Need-loop-holds Inv-loop μ-loop
-loop-holds c = 
+loop-holds c =
     let a = c .before .before .before .before .before .before .before .before .args in
     let r = c .before .before .before .before .before .before .before .before .pre in
     (going-first (tableOf (a .vars .now) (a .lows .now) (a .highs .now) (a .heads .now) (a .links .now) (a .count)) (a .list .now) (a .memo .now) (a .marks .now) (r .0) (r .1), refl, refl, refl, refl, refl, refl, refl, refl)
 
 -- src/lib.rt:155:15
 next-round-requires : tie.Need-next-round-requires Inv-loop μ-loop
-next-round-requires c κs = 
+next-round-requires c κs =
     let a = c .before .before .before .before .before .before .before .before .before .before .before .before .before .before .before .before .before .args in
     let r = c .before .before .before .before .before .before .before .before .before .before .before .before .before .before .before .before .before .pre in
     let w = c .before .before .before .before .before .before .before .before .loop in
@@ -77,7 +74,7 @@ same-length-8 c = c .before .before .before .before .before .before .before .bef
 
 -- src/lib.rt:168:17
 returns : tie.Need-returns Inv-loop μ-loop
-returns c = 
+returns c =
     let a = c .before .before .before .before .before .before .before .before .before .before .before .before .before .before .before .before .before .before .before .before .before .before .before .before .before .args in
     let r = c .before .before .before .before .before .before .before .before .before .before .before .before .before .before .before .before .before .before .before .before .before .before .before .before .before .pre in
     let w = c .before .before .before .before .before .before .before .before .before .before .before .before .before .before .before .before .loop in
@@ -91,13 +88,12 @@ enum-known-u c = search needs
 
 -- src/lib.rt:177:21
 all-by-requires : tie.Need-all-by-requires Inv-loop μ-loop
-all-by-requires c κs = 
+all-by-requires c κs =
     let a = c .before .before .before .before .before .before .before .before .before .before .before .before .before .before .before .before .before .before .before .before .before .before .before .before .before .before .before .before .before .before .before .before .args in
     let r = c .before .before .before .before .before .before .before .before .before .before .before .before .before .before .before .before .before .before .before .before .before .before .before .before .before .before .before .before .before .before .before .before .pre in
     let w = c .before .before .before .before .before .before .before .before .before .before .before .before .before .before .before .before .before .before .before .before .before .before .before .loop in
     let y = c .before .before .before .before .before .before .before .before .before .before .before .before .before .before .next-round in
-    let ready = going-ready (tableOf (a .vars .now) (a .lows .now) (a .highs .now) (a .heads .now) (a .links .now) (a .count)) (r .0 .good) (diagramsOf (nodesOf (tableOf (a .vars .now) (a .lows .now) (a .highs .now) (a .heads .now) (a .links .now) (a .count))) (a .list .now)) (tableOf (w .vars) (w .lows) (w .highs) (w .heads) (w .links) (w .n)) (w .list) (w .memo) (w .marks) (w .rounds) (w .inv .0) in
-    (
+    let ready = going-ready (tableOf (a .vars .now) (a .lows .now) (a .highs .now) (a .heads .now) (a .links .now) (a .count)) (r .0 .good) (diagramsOf (nodesOf (tableOf (a .vars .now) (a .lows .now) (a .highs .now) (a .heads .now) (a .links .now) (a .count))) (a .list .now)) (tableOf (w .vars) (w .lows) (w .highs) (w .heads) (w .links) (w .n)) (w .list) (w .memo) (w .marks) (w .rounds) (w .inv .0) in (
       record { good = ready .good; inside = ready .inside; room = omega (arith, y .kept .1 .1 .1 .1 .1 .0, ready .room) },
       omega (arith, ready .good .least),
       refl,
@@ -137,7 +133,7 @@ same-length-16 c = c .before .before .before .before .before .before .before .be
 
 -- src/lib.rt:191:21
 returns-2 : tie.Need-returns-2 Inv-loop μ-loop
-returns-2 c = 
+returns-2 c =
     let a = c .before .before .before .before .before .before .before .before .before .before .before .before .before .before .before .before .before .before .before .before .before .before .before .before .before .before .before .before .before .before .before .before .before .before .before .before .before .before .before .before .before .before .before .before .before .before .before .before .args in
     let r = c .before .before .before .before .before .before .before .before .before .before .before .before .before .before .before .before .before .before .before .before .before .before .before .before .before .before .before .before .before .before .before .before .before .before .before .before .before .before .before .before .before .before .before .before .before .before .before .before .pre in
     let w = c .before .before .before .before .before .before .before .before .before .before .before .before .before .before .before .before .before .before .before .before .before .before .before .before .before .before .before .before .before .before .before .before .before .before .before .before .before .before .before .loop in
@@ -152,7 +148,7 @@ add-rounds c = omega (arith, c .before .before .before .before .before .before .
 
 -- src/lib.rt:154:5
 loop-less : tie.Need-loop-less Inv-loop μ-loop
-loop-less c = 
+loop-less c =
     let a = c .before .before .before .before .before .before .before .before .before .before .before .before .before .before .before .before .before .before .before .before .before .before .before .before .before .before .before .before .before .before .before .before .before .before .before .before .before .before .before .before .before .before .before .before .before .before .before .before .args in
     let r = c .before .before .before .before .before .before .before .before .before .before .before .before .before .before .before .before .before .before .before .before .before .before .before .before .before .before .before .before .before .before .before .before .before .before .before .before .before .before .before .before .before .before .before .before .before .before .before .before .pre in
     let w = c .before .before .before .before .before .before .before .before .before .before .before .before .before .before .before .before .before .before .before .before .before .before .before .before .before .before .before .before .before .before .before .before .before .before .before .before .before .before .before .loop in
@@ -162,14 +158,13 @@ loop-less c =
 
 -- src/lib.rt:154:5
 loop-again : tie.Need-loop-again Inv-loop μ-loop
-loop-again c = 
+loop-again c =
     let a = c .before .before .before .before .before .before .before .before .before .before .before .before .before .before .before .before .before .before .before .before .before .before .before .before .before .before .before .before .before .before .before .before .before .before .before .before .before .before .before .before .before .before .before .before .before .before .before .before .args in
     let r = c .before .before .before .before .before .before .before .before .before .before .before .before .before .before .before .before .before .before .before .before .before .before .before .before .before .before .before .before .before .before .before .before .before .before .before .before .before .before .before .before .before .before .before .before .before .before .before .before .pre in
     let w = c .before .before .before .before .before .before .before .before .before .before .before .before .before .before .before .before .before .before .before .before .before .before .before .before .before .before .before .before .before .before .before .before .before .before .before .before .before .before .before .loop in
     let y = c .before .before .before .before .before .before .before .before .before .before .before .before .before .before .before .before .before .before .before .before .before .before .before .before .before .before .before .before .before .before .next-round in
     let z = c .before .before .before .before .before .before .before .before .before .before .before .before .before .before .before .all-by in
-    let comes = subst (Comes (diagramsOf (nodesOf (tableOf (w .vars) (w .lows) (w .highs) (w .heads) (w .links) (w .n))) (w .list)) (w .rounds)) (c .before .before .before .before .before .before .before .before .before .before .before .before .before .before .before .before .before .before .before .before .before .before .before .before .u .given .1) (y .ensures .0) in
-    (
+    let comes = subst (Comes (diagramsOf (nodesOf (tableOf (w .vars) (w .lows) (w .highs) (w .heads) (w .links) (w .n))) (w .list)) (w .rounds)) (c .before .before .before .before .before .before .before .before .before .before .before .before .before .before .before .before .before .before .before .before .before .before .before .before .u .given .1) (y .ensures .0) in (
       going-on (tableOf (a .vars .now) (a .lows .now) (a .highs .now) (a .heads .now) (a .links .now) (a .count)) (r .0 .good) (diagramsOf (nodesOf (tableOf (a .vars .now) (a .lows .now) (a .highs .now) (a .heads .now) (a .links .now) (a .count))) (a .list .now)) (tableOf (w .vars) (w .lows) (w .highs) (w .heads) (w .links) (w .n)) (w .list) (w .memo) (w .marks) (w .rounds) (w .inv .0) (comes .0) (comes .1) (c .before .before .before .before .before .before .before .before .before .before .before .before .before .before .before .before .before .before .before .before .before .before .before .before .u .given .0 .0 .positive) (c .before .before .before .before .before .before .before .before .before .before .before .before .before .before .before .before .before .before .before .before .before .before .before .before .u .given .0 .0 .negative) (comes .2) (z .result .full) (tableOf (z .last .0) (z .last .1 .0) (z .last .1 .1 .0) (z .last .1 .1 .1 .0) (z .last .1 .1 .1 .1 .0) (z .result .count)) (z .last .1 .1 .1 .1 .1 .1 .0) (z .ensures) (c .if1 .left) (z .last .1 .1 .1 .1 .1 .0) (z .kept .1 .1 .1 .1 .1 .0 ∙ y .kept .1 .1 .1 .1 .1 .0) (y .last .1 .1 .1 .1 .1 .1 .0) (y .ensures .1 ∙ ap unmarked (w .inv .1)),
       z .kept .0 ∙ w .inv .1,
       z .kept .1 .0 ∙ w .inv .2,
