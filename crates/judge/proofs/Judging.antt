@@ -1,22 +1,19 @@
 -- A line judged from the parts that the code makes: not-g and the members by it, then one propagation or the turns. Assumes nothing.
 use mathlib.Core.Path.{_≡_, refl, sym, ap, ap₂, _∙_}
-use mathlib.Core.Bool.{Bool, true, false, not}
+use mathlib.Core.Bool.{Bool, true, false}
 use mathlib.Core.List.{List, [], _∷_}
-use mathlib.Core.Option.{Option, none, some}
-use Prim.Native.Nat.{ℕ, _*_}
+use mathlib.Core.Option.{none}
+use Prim.Native.Nat.{ℕ}
 use native.Mathlib.Omega.{arith}
-use lib.ListN.{length}
 use Rattle.meaning.specs.Diagram.{Diagram}
 use Rattle.meaning.specs.Operations.{negation}
 use Rattle.meaning.specs.Rules.{Propagation, Line, unitProp, byDiagram, rup, prTurns, pr}
 use Rattle.meaning.specs.Words.{inWord}
 use Rattle.meaning.proofs.Booleans.{t≢f, and-true}
-use Rattle.table.specs.Nodes.{Node, diagramAt}
 use Rattle.table.specs.Indexed.{Table, size, nodesOf, Good}
 use Rattle.verdict.specs.Check.{placedAll, isSome, turnsFit, fitAfter, lineFits}
 use Rattle.conflict.specs.Members.{diagramsOf, Inside}
 use Rattle.propagate.specs.declared.Propagated.{Propagated}
-use Rattle.propagate.specs.Made.{Extended}
 use Rattle.propagate.specs.Rounds.{Said}
 use Rattle.propagate.proofs.Extended.{extended-longer, extended-trans, diagrams-kept}
 use Rattle.judge.specs.declared.Judged.{Judged}

@@ -1,31 +1,29 @@
 -- The negation of a node, and the members by it. The idea: the negation of what is not 1 is not 0, so that it can be cofactored by,
 -- and one list placed after another is both placed. Assumes nothing.
-use mathlib.Core.Path.{_≡_, refl, sym, ap, ap₂, _∙_, subst}
+use mathlib.Core.Path.{_≡_, refl, sym, ap, ap₂, _∙_}
 use mathlib.Core.Logic.{_≢_}
-use mathlib.Core.Bool.{Bool, true, false, cond}
-use mathlib.Core.List.{List, map}
-use mathlib.Core.Option.{none, some}
-use Prim.Native.Nat.{ℕ, suc, _≤_, _<_}
+use mathlib.Core.Bool.{Bool, true, false}
+use mathlib.Core.List.{List}
+use Prim.Native.Nat.{ℕ, _<_}
 use native.Mathlib.Omega.{arith}
 use lib.ListN.{length}
 use Rattle.meaning.specs.Diagram.{Diagram, leaf}
-use Rattle.meaning.specs.Operations.{negation, cofactor}
-use Rattle.meaning.specs.Rules.{byDiagram, base}
+use Rattle.meaning.specs.Operations.{negation}
+use Rattle.meaning.specs.Rules.{byDiagram}
 use Rattle.meaning.proofs.Booleans.{t≢f}
 use Rattle.meaning.proofs.LineWidths.{negation-some}
-use Rattle.table.specs.Nodes.{Node, diagramAt}
+use Rattle.table.specs.Nodes.{diagramAt}
 use Rattle.table.specs.Indexed.{Table, size, nodesOf, Good, Outcome}
 use Rattle.table.proofs.Written.{length-nodes, good-ordered}
 use Rattle.table.proofs.Numbers.{diagramAt-zero, diagramAt-one, diagramAt-injective, diagramAt-reduced}
 use Rattle.table.proofs.Outcomes.{Longer, longer, Grown, grown}
-use Rattle.operate.specs.declared.Operation.{Operation}
 use Rattle.operate.specs.declared.Operation.the-variants.{Negation, Cofactor}
 use Rattle.operate.specs.Operate.{result}
 use Rattle.operate.specs.Inner.{applied, Allowed, MemoRight, Ready}
 use Rattle.operate.proofs.Results.{result-reduced}
 use Rattle.verdict.specs.Check.{placedAll}
-use Rattle.conflict.specs.Members.{diagramsOf, Inside, ListReady}
-use Rattle.propagate.specs.Made.{Extended, results, AllMade}
+use Rattle.conflict.specs.Members.{diagramsOf, ListReady}
+use Rattle.propagate.specs.Made.{results, AllMade}
 use Rattle.propagate.proofs.PlacedAll.{first-full, first-placed}
 use Rattle.propagate.proofs.Extended.{longer-extended, extended-trans, diagrams-kept}
 use Rattle.judge.specs.Lines.{Negatable, ByNegation}

@@ -1,13 +1,13 @@
 -- What the calls ask, met by what those before them left. Assumes nothing.
-use mathlib.Core.Path.{_≡_, refl, sym, ap, subst}
+use mathlib.Core.Path.{_≡_, refl, sym, subst}
 use mathlib.Core.Bool.{false}
 use mathlib.Core.List.{List}
-use Prim.Native.Nat.{ℕ, _≤_, _<_}
+use Prim.Native.Nat.{ℕ, _≤_}
 use native.Mathlib.Omega.{arith}
-use lib.ListN.{length, getD}
+use lib.ListN.{length}
 use Rattle.meaning.specs.Diagram.{Diagram}
-use Rattle.table.specs.Indexed.{Table, nodesOf, Good}
-use Rattle.conflict.specs.Members.{diagramsOf, Inside, ListReady}
+use Rattle.table.specs.Indexed.{Table, Good}
+use Rattle.conflict.specs.Members.{Inside, ListReady}
 use Rattle.propagate.specs.Made.{Extended}
 use Rattle.judge.specs.Lines.{ByNegation}
 

@@ -8,25 +8,23 @@ use native.Mathlib.Omega.{arith}
 use native.Mathlib.Numerals.{add-one}
 use lib.ListN.{length, getD, drop, drop-of-length-le}
 use lib.Seq.{drop-cons}
-use Rattle.meaning.specs.Diagram.{Diagram, leaf, same}
+use Rattle.meaning.specs.Diagram.{Diagram, leaf}
 use Rattle.meaning.specs.Operations.{cofactorLiterals}
 use Rattle.meaning.specs.Rules.{Line, rup, prTurns, base}
 use Rattle.meaning.specs.Words.{inWord}
-use Rattle.meaning.proofs.Booleans.{t≢f, not-true}
-use Rattle.meaning.proofs.Units.{same-eq, eq-same}
-use Rattle.table.specs.Nodes.{Node, diagramAt}
+use Rattle.meaning.proofs.Booleans.{t≢f}
+use Rattle.meaning.proofs.Units.{eq-same}
+use Rattle.table.specs.Nodes.{diagramAt}
 use Rattle.table.specs.Indexed.{Table, size, nodesOf, Good, Outcome}
 use Rattle.table.proofs.Numbers.{diagramAt-one}
 use Rattle.table.proofs.Outcomes.{Longer, longer, Grown, grown}
 use Rattle.walks.specs.Constant.{constantAt}
-use Rattle.operate.specs.declared.Operation.{Operation}
 use Rattle.operate.specs.declared.Operation.the-variants.{Literals}
 use Rattle.operate.specs.Operate.{result}
 use Rattle.operate.specs.Inner.{applied, MemoRight, Ready}
 use Rattle.operate.proofs.Results.{result-reduced}
 use Rattle.verdict.specs.Check.{placedAll, isSome, turnsFit, lineFits}
-use Rattle.conflict.specs.Members.{diagramsOf, Inside, ListReady}
-use Rattle.propagate.specs.Made.{Extended}
+use Rattle.conflict.specs.Members.{diagramsOf, ListReady}
 use Rattle.propagate.proofs.PlacedAll.{first-full, first-placed}
 use Rattle.propagate.proofs.Extended.{longer-extended, extended-same, extended-trans, diagrams-kept}
 use Rattle.judge.specs.declared.Judged.{Judged}

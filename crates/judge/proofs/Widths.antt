@@ -3,11 +3,9 @@
 use mathlib.Core.Path.{_≡_, refl}
 use mathlib.Core.Bool.{Bool, true}
 use mathlib.Core.List.{List, [], _∷_}
-use Prim.Native.Nat.{ℕ, zero, suc, _≤_, _<_}
+use Prim.Native.Nat.{ℕ, suc, _≤_, _<_}
 use native.Mathlib.Omega.{arith}
-use lib.ListN.{length}
-use Rattle.meaning.specs.Diagram.{Diagram, Reduced, same, leaf}
-use Rattle.meaning.specs.Operations.{cofactorLiterals}
+use Rattle.meaning.specs.Diagram.{Reduced}
 use Rattle.meaning.specs.Rules.{rup, pr, witnessed}
 use Rattle.meaning.specs.Words.{inWord}
 use Rattle.meaning.proofs.Ends.{AllReduced}

@@ -1,18 +1,15 @@
 -- What judging a line asks, leaves and says. No call open to others cites this file.
 use mathlib.Core.Path.{_≡_}
-use mathlib.Core.Bool.{Bool, true, false, not, cond}
+use mathlib.Core.Bool.{Bool, false, not, cond}
 use mathlib.Core.List.{List}
 use mathlib.Core.Option.{none, some}
 use Prim.Native.Nat.{ℕ, _≤_, _<_}
-use lib.ListN.{length}
 use Rattle.meaning.specs.Diagram.{Diagram}
 use Rattle.meaning.specs.Operations.{negation}
 use Rattle.meaning.specs.Rules.{Line, byDiagram, base}
-use Rattle.table.specs.Nodes.{diagramAt}
 use Rattle.table.specs.Indexed.{Table, size, nodesOf}
 use Rattle.verdict.specs.Check.{placedAll, lineFits}
 use Rattle.conflict.specs.Members.{diagramsOf, Inside, ListReady}
-use Rattle.conflict.specs.Marks.{unmarked}
 use Rattle.propagate.specs.Made.{Extended}
 use Rattle.judge.specs.declared.Judged.{Judged}
 

@@ -34,7 +34,7 @@ fn copy(from: &[u16], to: &mut [u16])
     }
 }
 
-// Makes not-g, and replaces each listed node, in order, by its cofactor by not-g; or stops at `full`.
+// Makes not-g, and fills the list with the members' cofactors by not-g, made in order; or stops at `full`.
 fn by_negation(
     vars: &mut [u8],
     lows: &mut [u16],
@@ -42,13 +42,15 @@ fn by_negation(
     heads: &mut [u16],
     links: &mut [u16],
     memo: &mut [u64],
+    members: &[u16],
     list: &mut [u16],
     count: usize,
     g: NodeNo,
 ) -> Made
-    requires { ⌜ Negatable (tableOf (now vars) (now lows) (now highs) (now heads) (now links) count) (now list) (now memo) (g .0) ⌝ }
-    ensures { λ r. ⌜ ByNegation (tableOf (now (vars .entry)) (now (lows .entry)) (now (highs .entry)) (now (heads .entry)) (now (links .entry)) count) (diagramsOf (nodesOf (tableOf (now (vars .entry)) (now (lows .entry)) (now (highs .entry)) (now (heads .entry)) (now (links .entry)) count)) (now (list .entry))) (diagramAt (nodesOf (tableOf (now (vars .entry)) (now (lows .entry)) (now (highs .entry)) (now (heads .entry)) (now (links .entry)) count)) (g .0)) (r .full) (tableOf (now (vars .exit)) (now (lows .exit)) (now (highs .exit)) (now (heads .exit)) (now (links .exit)) (r .count)) (now (list .exit)) ⌝ }
+    requires { ⌜ Negatable (tableOf (now vars) (now lows) (now highs) (now heads) (now links) count) (now members) (now memo) (g .0) × (length (now list) ≡ length (now members)) ⌝ }
+    ensures { λ r. ⌜ ByNegation (tableOf (now (vars .entry)) (now (lows .entry)) (now (highs .entry)) (now (heads .entry)) (now (links .entry)) count) (diagramsOf (nodesOf (tableOf (now (vars .entry)) (now (lows .entry)) (now (highs .entry)) (now (heads .entry)) (now (links .entry)) count)) (now (members .entry))) (diagramAt (nodesOf (tableOf (now (vars .entry)) (now (lows .entry)) (now (highs .entry)) (now (heads .entry)) (now (links .entry)) count)) (g .0)) (r .full) (tableOf (now (vars .exit)) (now (lows .exit)) (now (highs .exit)) (now (heads .exit)) (now (links .exit)) (r .count)) (now (list .exit)) ⌝ }
 {
+    copy(members, list);
     operate::clear_memo(memo);
     let not = operate::apply(
         vars,
@@ -100,8 +102,18 @@ pub fn rup(
     ensures { λ r. ⌜ Says (tableOf (now (vars .entry)) (now (lows .entry)) (now (highs .entry)) (now (heads .entry)) (now (links .entry)) count) (rup 64 (diagramsOf (nodesOf (tableOf (now (vars .entry)) (now (lows .entry)) (now (highs .entry)) (now (heads .entry)) (now (links .entry)) count)) (now (members .entry))) (diagramAt (nodesOf (tableOf (now (vars .entry)) (now (lows .entry)) (now (highs .entry)) (now (heads .entry)) (now (links .entry)) count)) (root .0))) 64 r (tableOf (now (vars .exit)) (now (lows .exit)) (now (highs .exit)) (now (heads .exit)) (now (links .exit)) (r .count)) ⌝ }
     ensures { λ _. ⌜ now (marks .exit) ≡ unmarked (length (now (vars .entry))) ⌝ }
 {
-    copy(members, list);
-    let made = by_negation(vars, lows, highs, heads, links, memo, list, count, root);
+    let made = by_negation(
+        vars,
+        lows,
+        highs,
+        heads,
+        links,
+        memo,
+        members,
+        list,
+        count,
+        root,
+    );
     if made.full {
         return Judged {
             full: true,
@@ -282,8 +294,18 @@ pub fn pr(
     ensures { λ r. ⌜ Says (tableOf (now (vars .entry)) (now (lows .entry)) (now (highs .entry)) (now (heads .entry)) (now (links .entry)) count) (pr 64 (inWord positive) (inWord negative) (diagramsOf (nodesOf (tableOf (now (vars .entry)) (now (lows .entry)) (now (highs .entry)) (now (heads .entry)) (now (links .entry)) count)) (now (members .entry))) (diagramAt (nodesOf (tableOf (now (vars .entry)) (now (lows .entry)) (now (highs .entry)) (now (heads .entry)) (now (links .entry)) count)) (root .0))) (64 * length (now (members .entry))) r (tableOf (now (vars .exit)) (now (lows .exit)) (now (highs .exit)) (now (heads .exit)) (now (links .exit)) (r .count)) ⌝ }
     ensures { λ _. ⌜ now (marks .exit) ≡ unmarked (length (now (vars .entry))) ⌝ }
 {
-    copy(members, first);
-    let made = by_negation(vars, lows, highs, heads, links, memo, first, count, root);
+    let made = by_negation(
+        vars,
+        lows,
+        highs,
+        heads,
+        links,
+        memo,
+        members,
+        first,
+        count,
+        root,
+    );
     if made.full {
         return Judged {
             full: true,

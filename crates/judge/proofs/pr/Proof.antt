@@ -1,17 +1,15 @@
 -- `pr` judges the PR line. Each place of the code is one law of Judging. Assumes nothing.
-use mathlib.Core.Path.{_≡_, refl, sym, ap, _∙_, subst}
+use mathlib.Core.Path.{_≡_, sym, ap, _∙_, subst}
 use mathlib.Core.Bool.{Bool, true, false}
 use mathlib.Core.List.{List}
 use Prim.Native.Nat.{ℕ}
-use native.Mathlib.Omega.{arith}
 use lib.ListN.{length}
-use borrow.Author.Needs.{needs}
 use Rattle.meaning.specs.Diagram.{Diagram}
 use Rattle.table.specs.Nodes.{diagramAt}
 use Rattle.table.specs.Indexed.{Table, tableOf, nodesOf}
 use Rattle.conflict.specs.Members.{diagramsOf}
 use Rattle.conflict.specs.Marks.{unmarked}
-use Rattle.judge.specs.Lines.{Negatable, ByNegation, Says}
+use Rattle.judge.specs.Lines.{ByNegation}
 use Prim.Native.Nat.{_*_}
 use Rattle.meaning.specs.Words.{inWord}
 use Rattle.judge.proofs.Ready.{list-ready, inside-more}
@@ -32,30 +30,23 @@ module _ (s : tie.Start) where
 -- what not-g and the members by it leave
 module _ (a : tie.After-by-negation) where
   abbrev start : tie.Start
-  start = a .before .before .before .before .before .before .before .before .before .before .before .before .before .before .before .before .before .before .before .before .before .before
+  start = a .before .before .before .before .before .before .before .before .before .before .before .before .before .before .before .before .before .before
 
   abbrev table₁ : Table
   table₁ = tableOf (a .by-negation .last .0) (a .by-negation .last .1 .0) (a .by-negation .last .1 .1 .0) (a .by-negation .last .1 .1 .1 .0) (a .by-negation .last .1 .1 .1 .1 .0) (a .by-negation .result .count)
 
   abbrev list₁ : List ℕ
-  list₁ = a .by-negation .last .1 .1 .1 .1 .1 .1 .0
+  list₁ = a .by-negation .last .1 .1 .1 .1 .1 .1 .1 .0
 
   by-negation : (b : Bool) → a .by-negation .result .full ≡ b → ByNegation (before start) (members start) (root start) b table₁ list₁
   by-negation b e =
-      subst (λ full. ByNegation (before start) (members start) (root start) full table₁ list₁) e
-      (subst (λ l. ByNegation (before start) (diagramsOf (nodesOf (before start)) l) (root start) (a .by-negation .result .full) table₁ list₁)
-      (a .before .before .before .before .before .before .before .before .before .before .copy .ensures) (a .by-negation .ensures))
+      subst (λ full. ByNegation (before start) (members start) (root start) full table₁ list₁) e (a .by-negation .ensures)
 
   memo-length : length (a .by-negation .last .1 .1 .1 .1 .1 .0) ≡ length (start .args .memo .now)
   memo-length = a .by-negation .kept .1 .1 .1 .1 .1 .0
 
-copy-requires : tie.Need-copy-requires
-copy-requires c κs = c .before .before .before .before .before .before .before .before .before .before .before .pre .2
-
 by-negation-requires : tie.Need-by-negation-requires
-by-negation-requires c κs =
-    let s = c .before .before .before .before .before .before .before .before .before .before .before .before .before .before .before .before .before .before .before .before .before in
-    subst (λ l. Negatable (before s) l (s .args .memo .now) (s .args .root .0)) (sym (c .before .before .before .before .before .before .before .before .before .copy .ensures)) (s .pre .0)
+by-negation-requires c κs = (c .before .before .before .before .before .before .before .before .before .before .before .before .before .before .before .before .before .pre .0, c .before .before .before .before .before .before .before .before .before .before .before .before .before .before .before .before .before .pre .2)
 
 same-length : tie.Need-same-length
 same-length c = c .before .before .before .before .before .before .before .before .before .before .before .before .before .before .before .by-negation .kept .0
@@ -76,7 +67,7 @@ same-length-6 : tie.Need-same-length-6
 same-length-6 c = c .before .before .before .before .before .before .before .before .before .before .before .before .before .before .before .by-negation .kept .1 .1 .1 .1 .1 .0
 
 same-length-7 : tie.Need-same-length-7
-same-length-7 c = c .before .before .before .before .before .before .before .before .before .before .before .before .before .before .before .by-negation .kept .1 .1 .1 .1 .1 .1 .0 ∙ c .before .before .before .before .before .before .before .before .before .before .before .before .before .before .before .before .before .before .before .before .before .before .before .before .before .copy .kept .1 .0
+same-length-7 c = c .before .before .before .before .before .before .before .before .before .before .before .before .before .before .before .by-negation .kept .1 .1 .1 .1 .1 .1 .1 .0
 
 returns : tie.Need-returns
 returns c =
@@ -94,7 +85,7 @@ turns-requires c κs =
     let B = by-negation a false (c .before .before .before .before .before .before .before .before .before .if1 .left) in (
       list-ready (before s) (members s) (root s) (table₁ a) (list₁ a) (s .args .memo .now) (a .by-negation .last .1 .1 .1 .1 .1 .0) B (s .pre .0 .ready .room) (memo-length a),
       s .pre .1 ∙ ap unmarked (sym (a .by-negation .kept .0)),
-      s .pre .3 ∙ sym (a .by-negation .kept .1 .1 .1 .1 .1 .1 .0 ∙ c .before .before .before .before .before .before .before .before .before .before .before .before .before .before .before .before .before .before .before .before .before .before .before .before .before .before .before .before .before .before .before .before .before .before .copy .kept .1 .0 ∙ s .pre .2),
+      s .pre .3 ∙ sym (a .by-negation .kept .1 .1 .1 .1 .1 .1 .1 .0 ∙ s .pre .2),
       inside-more (before s) (table₁ a) (s .args .members .now) (B .extended) (s .pre .0 .ready .inside),
       s .pre .4,
     )
@@ -121,7 +112,7 @@ same-length-14 : tie.Need-same-length-14
 same-length-14 c = c .before .before .before .before .before .before .before .before .before .before .before .before .before .before .before .before .turns .kept .1 .1 .1 .1 .1 .1 .0
 
 same-length-15 : tie.Need-same-length-15
-same-length-15 c = c .before .before .before .before .before .before .before .before .before .before .before .before .before .before .before .before .before .before .before .before .before .before .before .before .before .before .before .before .before .before .before .before .before .before .before .before .before .before .before .before .before .by-negation .kept .1 .1 .1 .1 .1 .1 .0 ∙ c .before .before .before .before .before .before .before .before .before .before .before .before .before .before .before .before .before .before .before .before .before .before .before .before .before .before .before .before .before .before .before .before .before .before .before .before .before .before .before .before .before .before .before .before .before .before .before .before .before .before .before .copy .kept .1 .0
+same-length-15 c = c .before .before .before .before .before .before .before .before .before .before .before .before .before .before .before .before .before .before .before .before .before .before .before .before .before .before .before .before .before .before .before .before .before .before .before .before .before .before .before .before .before .by-negation .kept .1 .1 .1 .1 .1 .1 .1 .0
 
 same-length-16 : tie.Need-same-length-16
 same-length-16 c = c .before .before .before .before .before .before .before .before .before .before .before .before .before .before .before .before .turns .kept .1 .1 .1 .1 .1 .1 .1 .1 .1 .0
@@ -137,4 +128,4 @@ returns-2 c =
     )
 
 pub pr-spec : {M : Type 1} → statement M
-pr-spec = tie.close (tie.spec copy-requires by-negation-requires same-length same-length-2 same-length-3 same-length-4 same-length-5 same-length-6 same-length-7 returns turns-requires same-length-8 same-length-9 same-length-10 same-length-11 same-length-12 same-length-13 same-length-14 same-length-15 same-length-16 returns-2)
+pr-spec = tie.close (tie.spec by-negation-requires same-length same-length-2 same-length-3 same-length-4 same-length-5 same-length-6 same-length-7 returns turns-requires same-length-8 same-length-9 same-length-10 same-length-11 same-length-12 same-length-13 same-length-14 same-length-15 same-length-16 returns-2)

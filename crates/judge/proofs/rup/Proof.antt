@@ -1,9 +1,8 @@
 -- `rup` judges the RUP line. Each place of the code is one law of Judging. Assumes nothing.
-use mathlib.Core.Path.{_≡_, refl, sym, ap, _∙_, subst}
+use mathlib.Core.Path.{_≡_, sym, ap, _∙_, subst}
 use mathlib.Core.Bool.{Bool, true, false}
 use mathlib.Core.List.{List}
 use Prim.Native.Nat.{ℕ}
-use native.Mathlib.Omega.{arith}
 use lib.ListN.{length}
 use borrow.Author.Needs.{needs}
 use Rattle.meaning.specs.Diagram.{Diagram}
@@ -11,7 +10,7 @@ use Rattle.table.specs.Nodes.{diagramAt}
 use Rattle.table.specs.Indexed.{Table, tableOf, nodesOf}
 use Rattle.conflict.specs.Members.{diagramsOf}
 use Rattle.conflict.specs.Marks.{unmarked}
-use Rattle.judge.specs.Lines.{Negatable, ByNegation, Says}
+use Rattle.judge.specs.Lines.{ByNegation}
 use Rattle.judge.proofs.Ready.{list-ready}
 use Rattle.judge.proofs.Judging.{rup-full, rup-judged}
 use Rattle.judge.proofs.rup.Statement.{statement}
@@ -30,30 +29,23 @@ module _ (s : tie.Start) where
 -- what not-g and the members by it leave
 module _ (a : tie.After-by-negation) where
   abbrev start : tie.Start
-  start = a .before .before .before .before .before .before .before .before .before .before .before .before .before .before .before .before .before .before .before .before .before
+  start = a .before .before .before .before .before .before .before .before .before .before .before .before .before .before .before .before .before
 
   abbrev table₁ : Table
   table₁ = tableOf (a .by-negation .last .0) (a .by-negation .last .1 .0) (a .by-negation .last .1 .1 .0) (a .by-negation .last .1 .1 .1 .0) (a .by-negation .last .1 .1 .1 .1 .0) (a .by-negation .result .count)
 
   abbrev list₁ : List ℕ
-  list₁ = a .by-negation .last .1 .1 .1 .1 .1 .1 .0
+  list₁ = a .by-negation .last .1 .1 .1 .1 .1 .1 .1 .0
 
   by-negation : (b : Bool) → a .by-negation .result .full ≡ b → ByNegation (before start) (members start) (root start) b table₁ list₁
   by-negation b e =
-      subst (λ full. ByNegation (before start) (members start) (root start) full table₁ list₁) e
-      (subst (λ l. ByNegation (before start) (diagramsOf (nodesOf (before start)) l) (root start) (a .by-negation .result .full) table₁ list₁)
-      (a .before .before .before .before .before .before .before .before .before .before .copy .ensures) (a .by-negation .ensures))
+      subst (λ full. ByNegation (before start) (members start) (root start) full table₁ list₁) e (a .by-negation .ensures)
 
   memo-length : length (a .by-negation .last .1 .1 .1 .1 .1 .0) ≡ length (start .args .memo .now)
   memo-length = a .by-negation .kept .1 .1 .1 .1 .1 .0
 
-copy-requires : tie.Need-copy-requires
-copy-requires c κs = c .before .before .before .before .before .before .before .before .before .before .pre .2
-
 by-negation-requires : tie.Need-by-negation-requires
-by-negation-requires c κs =
-    let s = c .before .before .before .before .before .before .before .before .before .before .before .before .before .before .before .before .before .before .before .before in
-    subst (λ l. Negatable (before s) l (s .args .memo .now) (s .args .root .0)) (sym (c .before .before .before .before .before .before .before .before .before .copy .ensures)) (s .pre .0)
+by-negation-requires c κs = (c .before .before .before .before .before .before .before .before .before .before .before .before .before .before .before .before .pre .0, c .before .before .before .before .before .before .before .before .before .before .before .before .before .before .before .before .pre .2)
 
 same-length : tie.Need-same-length
 same-length c = c .before .before .before .before .before .before .before .before .before .before .before .before .before .before .before .by-negation .kept .0
@@ -74,7 +66,7 @@ same-length-6 : tie.Need-same-length-6
 same-length-6 c = c .before .before .before .before .before .before .before .before .before .before .before .before .before .before .before .by-negation .kept .1 .1 .1 .1 .1 .0
 
 same-length-7 : tie.Need-same-length-7
-same-length-7 c = c .before .before .before .before .before .before .before .before .before .before .before .before .before .before .before .by-negation .kept .1 .1 .1 .1 .1 .1 .0 ∙ c .before .before .before .before .before .before .before .before .before .before .before .before .before .before .before .before .before .before .before .before .before .before .before .before .before .copy .kept .1 .0
+same-length-7 c = c .before .before .before .before .before .before .before .before .before .before .before .before .before .before .before .by-negation .kept .1 .1 .1 .1 .1 .1 .1 .0
 
 returns : tie.Need-returns
 returns c =
@@ -91,8 +83,8 @@ unit-prop-requires c κs =
       s .pre .1 ∙ ap unmarked (sym (a .by-negation .kept .0)),
     )
 
-cast-t48 : tie.Need-cast-t48
-cast-t48 c = search needs
+cast-t45 : tie.Need-cast-t45
+cast-t45 c = search needs
 
 same-length-8 : tie.Need-same-length-8
 same-length-8 c = c .before .before .before .before .before .before .before .before .before .before .before .before .before .before .before .before .before .unit-prop .kept .0 ∙ c .before .before .before .before .before .before .before .before .before .before .before .before .before .before .before .before .before .before .before .before .before .before .before .before .before .before .before .before .before .before .before .before .before .before .before .before .before .before .before .before .before .by-negation .kept .0
@@ -116,7 +108,7 @@ same-length-14 : tie.Need-same-length-14
 same-length-14 c = c .before .before .before .before .before .before .before .before .before .before .before .before .before .before .before .before .before .unit-prop .kept .1 .1 .1 .1 .1 .1 .0
 
 same-length-15 : tie.Need-same-length-15
-same-length-15 c = c .before .before .before .before .before .before .before .before .before .before .before .before .before .before .before .before .before .unit-prop .kept .1 .1 .1 .1 .1 .1 .1 .0 ∙ c .before .before .before .before .before .before .before .before .before .before .before .before .before .before .before .before .before .before .before .before .before .before .before .before .before .before .before .before .before .before .before .before .before .before .before .before .before .before .before .before .before .by-negation .kept .1 .1 .1 .1 .1 .1 .0 ∙ c .before .before .before .before .before .before .before .before .before .before .before .before .before .before .before .before .before .before .before .before .before .before .before .before .before .before .before .before .before .before .before .before .before .before .before .before .before .before .before .before .before .before .before .before .before .before .before .before .before .before .before .copy .kept .1 .0
+same-length-15 c = c .before .before .before .before .before .before .before .before .before .before .before .before .before .before .before .before .before .unit-prop .kept .1 .1 .1 .1 .1 .1 .1 .0 ∙ c .before .before .before .before .before .before .before .before .before .before .before .before .before .before .before .before .before .before .before .before .before .before .before .before .before .before .before .before .before .before .before .before .before .before .before .before .before .before .before .before .before .by-negation .kept .1 .1 .1 .1 .1 .1 .1 .0
 
 returns-2 : tie.Need-returns-2
 returns-2 c =
@@ -128,4 +120,4 @@ returns-2 c =
     )
 
 pub rup-spec : {M : Type 1} → statement M
-rup-spec = tie.close (tie.spec copy-requires by-negation-requires same-length same-length-2 same-length-3 same-length-4 same-length-5 same-length-6 same-length-7 returns unit-prop-requires cast-t48 same-length-8 same-length-9 same-length-10 same-length-11 same-length-12 same-length-13 same-length-14 same-length-15 returns-2)
+rup-spec = tie.close (tie.spec by-negation-requires same-length same-length-2 same-length-3 same-length-4 same-length-5 same-length-6 same-length-7 returns unit-prop-requires cast-t45 same-length-8 same-length-9 same-length-10 same-length-11 same-length-12 same-length-13 same-length-14 same-length-15 returns-2)

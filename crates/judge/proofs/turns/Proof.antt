@@ -4,7 +4,7 @@ use mathlib.Core.Path.{_≡_, refl, sym, ap, _∙_, subst}
 use mathlib.Core.Bool.{true, false, not}
 use mathlib.Core.List.{List, [], _∷_}
 use Rattle.meaning.proofs.Booleans.{not-not}
-use Prim.Native.Nat.{ℕ, _+_, _-_, _*_, _≤_, _<_}
+use Prim.Native.Nat.{ℕ, _+_, _-_, _*_, _<_}
 use native.Mathlib.Omega.{arith}
 use lib.ListN.{length, getD}
 use borrow.Author.Needs.{needs}
@@ -13,7 +13,7 @@ use Rattle.meaning.specs.Words.{inWord}
 use Rattle.table.specs.Nodes.{diagramAt}
 use Rattle.table.specs.Indexed.{Table, tableOf, nodesOf, Good}
 use Rattle.table.proofs.Outcomes.{undone}
-use Rattle.conflict.specs.Members.{diagramsOf, ListReady}
+use Rattle.conflict.specs.Members.{diagramsOf}
 use Rattle.conflict.specs.Marks.{unmarked}
 use Rattle.propagate.proofs.Extended.{extended-longer}
 use Rattle.judge.specs.Lines.{Says}
