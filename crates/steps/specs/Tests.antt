@@ -30,7 +30,7 @@ lineRefusal n st Rup root =
     cond (not (isEntry st root)) 13 (cond (waiting st) 16 (cond (leb 1024 (st .lines)) 22 (cond (eqb (entryNode st root) 1) 17 0)))
 lineRefusal n st Pr root =
     let g = diagramIn st (entryNode st root) in
-    let shut = cond (not (witnessed n (inWord (st .positive)) (inWord (st .negative)) g)) 18 0 in
+    let shut : ℕ = cond (not (witnessed n (inWord (st .positive)) (inWord (st .negative)) g)) 18 0 in
     cond (not (isEntry st root)) 13 (cond (leb 1024 (st .lines)) 22 (cond (eqb (entryNode st root) 1) 17 shut))
 
 -- The line of node g by its rule.

@@ -33,7 +33,7 @@ pub enum Step {
 
 // The end record; `more` tells whether a byte follows it.
 fn end_step(st: State, more: bool) -> Step
-    ensures { λ r. ⌜ (n : ℕ) (l : Lent) → Stepped n l l st (endStep (stateOf l st) more) r ⌝ }
+    ensures { λ r. ⌜ ((n : ℕ) (l : Lent) → Stepped n l l st (endStep (stateOf l st) more) r) ⌝ }
 {
     if witness::waits(st.positive, st.negative) {
         return Step::Stop(16, 0);

@@ -4,9 +4,11 @@ use records::EntryNo;
 use records::Rule;
 use table::NodeNo;
 ghost use mathlib.Core.Path.{_≡_};
+ghost use mathlib.Core.Bool.{_||_};
 ghost use mathlib.Core.List.{List};
 ghost use Prim.Native.Nat.{ℕ, _+_, _*_, _≤_, _<_};
 ghost use lib.ListN.{length, take};
+ghost use lib.Dec.{eqb};
 ghost use Rattle.table.specs.Indexed.{tableOf};
 ghost use Rattle.walks.specs.Readable.{Readable};
 ghost use Rattle.verdict.specs.Check.{lineStep};
@@ -28,7 +30,7 @@ fn line_refusal(
     root: EntryNo,
 ) -> u8
     requires { ⌜ Readable (now vars) (now lows) (now highs) (st .count) × Inside (st .count) (take (st .entries) (now scratch)) × (st .entries ≤ 4096) × (4096 ≤ length (now scratch)) × (3 ≤ length (now memo)) ⌝ }
-    ensures { λ r. ⌜ (ds ks ms : List ℕ) → r ≡ lineRefusal 64 (stateOf (lentOf (now (vars .entry)) (now (lows .entry)) (now (highs .entry)) ds ks ms (now (scratch .entry))) st) rule (root .0) ⌝ }
+    ensures { λ r. ⌜ ((ds ks ms : List ℕ) → r ≡ lineRefusal 64 (stateOf (lentOf (now (vars .entry)) (now (lows .entry)) (now (highs .entry)) ds ks ms (now (scratch .entry))) st) rule (root .0)) ⌝ }
 {
     let entries = st.entries;
     if !crate::node::is_entry(entries, root) {
@@ -137,7 +139,7 @@ pub fn line_step(
     root: EntryNo,
 ) -> crate::Step
     requires { ⌜ Held 64 (lentOf (now vars) (now lows) (now highs) (now heads) (now links) (now members) (now scratch)) st × (now marks ≡ unmarked (length (now vars))) × (3 ≤ length (now memo)) ⌝ }
-    ensures { λ r. ⌜ (n : ℕ) → Held n (lentOf (now (vars .entry)) (now (lows .entry)) (now (highs .entry)) (now (heads .entry)) (now (links .entry)) (now (members .entry)) (now (scratch .entry))) st → Stepped n (lentOf (now (vars .entry)) (now (lows .entry)) (now (highs .entry)) (now (heads .entry)) (now (links .entry)) (now (members .entry)) (now (scratch .entry))) (lentOf (now (vars .exit)) (now (lows .exit)) (now (highs .exit)) (now (heads .exit)) (now (links .exit)) (now (members .exit)) (now (scratch .exit))) st (lineStep n (length (now (vars .entry))) (stateOf (lentOf (now (vars .entry)) (now (lows .entry)) (now (highs .entry)) (now (heads .entry)) (now (links .entry)) (now (members .entry)) (now (scratch .entry))) st) rule (root .0)) r ⌝ }
+    ensures { λ r. ⌜ ((n : ℕ) → Held n (lentOf (now (vars .entry)) (now (lows .entry)) (now (highs .entry)) (now (heads .entry)) (now (links .entry)) (now (members .entry)) (now (scratch .entry))) st → Stepped n (lentOf (now (vars .entry)) (now (lows .entry)) (now (highs .entry)) (now (heads .entry)) (now (links .entry)) (now (members .entry)) (now (scratch .entry))) (lentOf (now (vars .exit)) (now (lows .exit)) (now (highs .exit)) (now (heads .exit)) (now (links .exit)) (now (members .exit)) (now (scratch .exit))) st (lineStep n (length (now (vars .entry))) (stateOf (lentOf (now (vars .entry)) (now (lows .entry)) (now (highs .entry)) (now (heads .entry)) (now (links .entry)) (now (members .entry)) (now (scratch .entry))) st) rule (root .0)) r) ⌝ }
     ensures { λ _. ⌜ now (marks .exit) ≡ unmarked (length (now (vars .entry))) ⌝ }
 {
     let number = line_refusal(vars, lows, highs, memo, scratch, st, rule, root);

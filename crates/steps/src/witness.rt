@@ -46,7 +46,7 @@ fn with_witness(st: crate::State, positive: u64, negative: u64) -> crate::State
 // The witness sets the variable v to `value`: 12, 15, or the next state.
 pub fn witness_step(st: crate::State, variables: u8, v: u8, value: bool) -> crate::Step
     requires { ⌜ variables ≤ 64 ⌝ }
-    ensures { λ r. ⌜ (l : Lent) → Held variables l st → Stepped variables l l st (witnessStep variables (stateOf l st) v value) r ⌝ }
+    ensures { λ r. ⌜ ((l : Lent) → Held variables l st → Stepped variables l l st (witnessStep variables (stateOf l st) v value) r) ⌝ }
 {
     if v < 1 {
         return crate::Step::Stop(12, 0);
