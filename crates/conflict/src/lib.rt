@@ -1,0 +1,104 @@
+// Whether a list of nodes conflicts: a member is 0 or the negation of another.
+use table::Found;
+use table::NodeNo;
+ghost use mathlib.Core.Path.{_≡_};
+ghost use Prim.Native.Nat.{_<_};
+ghost use lib.ListN.{length};
+ghost use Rattle.meaning.specs.Rules as rules;
+ghost use Rattle.table.specs.Indexed.{tableOf, nodesOf};
+ghost use Rattle.conflict.specs.Members.{diagramsOf, Inside, ListReady, someNegated};
+ghost use Rattle.conflict.specs.Marks.{isListed, unmarked, setAll, markedAt, FoundInside};
+
+// Whether node 0 is listed.
+fn has_zero(list: &[u16]) -> bool
+    ensures { λ r. ⌜ r ≡ isListed (now (list .entry)) 0 ⌝ }
+{
+    let mut i: usize = 0;
+    while i < list.len() {
+        if list[i] == 0 {
+            return true;
+        }
+        i += 1;
+    }
+    false
+}
+
+// Sets the mark of each listed place.
+fn set_all(marks: &mut [u8], list: &[u16], mark: u8)
+    requires { ⌜ Inside (length (now marks)) (now list) ⌝ }
+    ensures { λ _. ⌜ now (marks .exit) ≡ setAll mark (now (marks .entry)) (now (list .entry)) ⌝ }
+{
+    let mut i: usize = 0;
+    while i < list.len() {
+        let k = list[i] as usize;
+        marks[k] = mark;
+        i += 1;
+    }
+}
+
+// Whether a place was found and is marked.
+fn is_marked(marks: &[u8], found: Found) -> bool
+    requires { ⌜ FoundInside (length (now marks)) found ⌝ }
+    ensures { λ r. ⌜ r ≡ markedAt (now (marks .entry)) found ⌝ }
+{
+    match found {
+        Found::At(node) => {
+            let k = node.0 as usize;
+            marks[k] == 1
+        }
+        Found::Nothing => false,
+    }
+}
+
+// Whether the negation of some member is marked, where the members are. Clears the memo.
+fn some_negated(
+    vars: &[u8],
+    lows: &[u16],
+    highs: &[u16],
+    heads: &[u16],
+    links: &[u16],
+    memo: &mut [u64],
+    marks: &[u8],
+    count: usize,
+    list: &[u16],
+) -> bool
+    requires { ⌜ ListReady (tableOf (now vars) (now lows) (now highs) (now heads) (now links) count) (now list) (now memo) × (now marks ≡ setAll 1 (unmarked (length (now vars))) (now list)) ⌝ }
+    ensures { λ r. ⌜ r ≡ someNegated (diagramsOf (nodesOf (tableOf (now (vars .entry)) (now (lows .entry)) (now (highs .entry)) (now (heads .entry)) (now (links .entry)) count)) (now (list .entry))) ⌝ }
+{
+    walks::clear_memo(memo);
+    let mut i: usize = 0;
+    while i < list.len() {
+        let f = NodeNo(list[i]);
+        let r = negate::negation_from(vars, lows, highs, heads, links, memo, count, f);
+        if is_marked(marks, r) {
+            return true;
+        }
+        i += 1;
+    }
+    false
+}
+
+// Whether a member is 0 or the negation of another. No place is marked before or after.
+pub fn conflicts(
+    vars: &[u8],
+    lows: &[u16],
+    highs: &[u16],
+    heads: &[u16],
+    links: &[u16],
+    memo: &mut [u64],
+    marks: &mut [u8],
+    count: usize,
+    list: &[u16],
+) -> bool
+    requires { ⌜ ListReady (tableOf (now vars) (now lows) (now highs) (now heads) (now links) count) (now list) (now memo) × (now marks ≡ unmarked (length (now vars))) ⌝ }
+    ensures { λ r. ⌜ r ≡ rules.conflicts 64 (diagramsOf (nodesOf (tableOf (now (vars .entry)) (now (lows .entry)) (now (highs .entry)) (now (heads .entry)) (now (links .entry)) count)) (now (list .entry))) ⌝ }
+    ensures { λ _. ⌜ now (marks .exit) ≡ unmarked (length (now (vars .entry))) ⌝ }
+{
+    if has_zero(list) {
+        return true;
+    }
+    set_all(marks, list, 1);
+    let r = some_negated(vars, lows, highs, heads, links, memo, marks, count, list);
+    set_all(marks, list, 0);
+    r
+}

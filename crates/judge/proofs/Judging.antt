@@ -1,0 +1,88 @@
+-- A line judged from the parts that the code makes: not-g and the members by it, then one propagation or the turns. Assumes nothing.
+use mathlib.Core.Path.{_≡_, refl, sym, ap, ap₂, _∙_}
+use mathlib.Core.Bool.{Bool, true, false, not}
+use mathlib.Core.List.{List, [], _∷_}
+use mathlib.Core.Option.{Option, none, some}
+use Prim.Native.Nat.{ℕ, _*_}
+use native.Mathlib.Omega.{arith}
+use lib.ListN.{length}
+use Rattle.meaning.specs.Diagram.{Diagram}
+use Rattle.meaning.specs.Operations.{negation}
+use Rattle.meaning.specs.Rules.{Propagation, Line, unitProp, byDiagram, rup, prTurns, pr}
+use Rattle.meaning.specs.Words.{inWord}
+use Rattle.meaning.proofs.Booleans.{t≢f, and-true}
+use Rattle.table.specs.Nodes.{Node, diagramAt}
+use Rattle.table.specs.Indexed.{Table, size, nodesOf, Good}
+use Rattle.verdict.specs.Check.{placedAll, isSome, turnsFit, fitAfter, lineFits}
+use Rattle.conflict.specs.Members.{diagramsOf, Inside}
+use Rattle.propagate.specs.declared.Propagated.{Propagated}
+use Rattle.propagate.specs.Made.{Extended}
+use Rattle.propagate.specs.Rounds.{Said}
+use Rattle.propagate.proofs.Extended.{extended-longer, extended-trans, diagrams-kept}
+use Rattle.judge.specs.declared.Judged.{Judged}
+use Rattle.judge.specs.Lines.{ByNegation, Says}
+use Rattle.judge.proofs.Fits.{turns-fit}
+use Rattle.judge.proofs.Turning.{judgedAs}
+
+module _ (T : Table) (G : Good T) (ms : List Diagram) (g : Diagram) (T₁ : Table) (list : List ℕ) where
+  -- not-g or a member by it found no room
+  module _ (B : ByNegation T ms g true T₁ list) (bound count : ℕ) where
+    said-full : (line : Line) → fitAfter (size T) (line .turns) none ≡ lineFits (size T) (nodesOf T) line → Says T line bound (judgedAs true false 0 count) T₁
+    said-full line e =
+        record { extended = B .extended; fits = sym e; shown = λ z. t≢f z; rounds = λ z. t≢f z; most = omega arith }
+
+    pub rup-full : Says T (rup 64 ms g) bound (judgedAs true false 0 count) T₁
+    unfolding rup lineFits
+    rup-full = said-full (rup 64 ms g) (ap (fitAfter (size T) (rup 64 ms g .turns)) (sym (B .places)))
+
+    pub pr-full : (P N : ℕ → Bool) → Says T (pr 64 P N ms g) bound (judgedAs true false 0 count) T₁
+    unfolding pr lineFits
+    pr-full P N = said-full (pr 64 P N ms g) (ap (fitAfter (size T) (pr 64 P N ms g .turns)) (sym (B .places)))
+
+  module _ (B : ByNegation T ms g false T₁ list) where
+    same-size : size T₁ ≡ size T
+    same-size = B .extended .same-size
+
+    pub rup-judged : (p : Propagated) (T₂ : Table) → Said T₁ (unitProp 64 (diagramsOf (nodesOf T₁) list)) p T₂
+        → Says T (rup 64 ms g) 64 (judgedAs (p .full) (p .conflict) (p .rounds) (p .count)) T₂
+    unfolding rup lineFits turnsFit
+    rup-judged p T₂ S =
+        let e : unitProp 64 (diagramsOf (nodesOf T₁) list) ≡ unitProp 64 (byDiagram 64 (negation 64 g) ms) = ap (unitProp 64) (B .are refl) in
+        let u : Propagation = unitProp 64 (byDiagram 64 (negation 64 g) ms) in
+        record {
+          extended = extended-trans T T₁ T₂ G (B .extended) (S .extended);
+          fits =
+              ap (fitAfter (size T) (u .made ∷ [])) (B .places)
+              ∙ and-true (isSome (placedAll (size T) (nodesOf T₁) (u .made)))
+              ∙ ap₂ (λ (s : ℕ) (q : Propagation). isSome (placedAll s (nodesOf T₁) (q .made))) (sym same-size) (sym e)
+              ∙ S .fits;
+          shown = λ z. S .conflict z ∙ ap (λ (q : Propagation). q .conflict) e;
+          rounds = λ z. S .rounds z ∙ ap (λ (q : Propagation). q .rounds) e;
+          most = S .most;
+        }
+
+module _ (T : Table) (G : Good T) (members : List ℕ) (inside : Inside (T .count) members) (g : Diagram) (T₁ : Table) (list : List ℕ)
+    (B : ByNegation T (diagramsOf (nodesOf T) members) g false T₁ list) (p n : ℕ) where
+  abbrev ms : List Diagram
+  ms = diagramsOf (nodesOf T) members
+
+  turns-are : prTurns 64 (inWord p) (inWord n) (diagramsOf (nodesOf T₁) list) (diagramsOf (nodesOf T₁) members)
+      ≡ prTurns 64 (inWord p) (inWord n) (byDiagram 64 (negation 64 g) ms) ms
+  turns-are = ap₂ (prTurns 64 (inWord p) (inWord n)) (B .are refl) (diagrams-kept T T₁ (extended-longer T T₁ G (B .extended)) members inside)
+
+  pub pr-judged : (bound : ℕ) (r : Judged) (T₂ : Table) → Says T₁ (prTurns 64 (inWord p) (inWord n) (diagramsOf (nodesOf T₁) list) (diagramsOf (nodesOf T₁) members)) bound r T₂
+      → Says T (pr 64 (inWord p) (inWord n) ms g) bound r T₂
+  unfolding pr lineFits
+  pr-judged bound r T₂ S =
+      let turned : Line = prTurns 64 (inWord p) (inWord n) (byDiagram 64 (negation 64 g) ms) ms in
+      record {
+        extended = extended-trans T T₁ T₂ G (B .extended) (S .extended);
+        fits =
+            ap (fitAfter (size T) (turned .turns)) (B .places)
+            ∙ sym (turns-fit 64 (inWord p) (inWord n) (byDiagram 64 (negation 64 g) ms) (size T) (nodesOf T₁) ms)
+            ∙ ap₂ (λ (s : ℕ) (L : Line). lineFits s (nodesOf T₁) L) (sym (B .extended .same-size)) (sym turns-are)
+            ∙ S .fits;
+        shown = λ z. S .shown z ∙ ap (λ (L : Line). L .shown) turns-are;
+        rounds = λ z. S .rounds z ∙ ap (λ (L : Line). L .rounds) turns-are;
+        most = S .most;
+      }

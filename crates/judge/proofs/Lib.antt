@@ -1,0 +1,7 @@
+pub mod Copies
+pub mod Negations
+pub mod Fits
+pub mod Turning
+pub mod Ready
+pub mod Judging
+pub mod Widths

@@ -1,0 +1,107 @@
+-- The negation of a node, and the members by it. The idea: the negation of what is not 1 is not 0, so that it can be cofactored by,
+-- and one list placed after another is both placed. Assumes nothing.
+use mathlib.Core.Path.{_≡_, refl, sym, ap, ap₂, _∙_, subst}
+use mathlib.Core.Logic.{_≢_}
+use mathlib.Core.Bool.{Bool, true, false, cond}
+use mathlib.Core.List.{List, map}
+use mathlib.Core.Option.{none, some}
+use Prim.Native.Nat.{ℕ, suc, _≤_, _<_}
+use native.Mathlib.Omega.{arith}
+use lib.ListN.{length}
+use Rattle.meaning.specs.Diagram.{Diagram, leaf}
+use Rattle.meaning.specs.Operations.{negation, cofactor}
+use Rattle.meaning.specs.Rules.{byDiagram, base}
+use Rattle.meaning.proofs.Booleans.{t≢f}
+use Rattle.meaning.proofs.LineWidths.{negation-some}
+use Rattle.table.specs.Nodes.{Node, diagramAt}
+use Rattle.table.specs.Indexed.{Table, size, nodesOf, Good, Outcome}
+use Rattle.table.proofs.Written.{length-nodes, good-ordered}
+use Rattle.table.proofs.Numbers.{diagramAt-zero, diagramAt-one, diagramAt-injective, diagramAt-reduced}
+use Rattle.table.proofs.Outcomes.{Longer, longer, Grown, grown}
+use Rattle.operate.specs.declared.Operation.{Operation}
+use Rattle.operate.specs.declared.Operation.the-variants.{Negation, Cofactor}
+use Rattle.operate.specs.Operate.{result}
+use Rattle.operate.specs.Inner.{applied, Allowed, MemoRight, Ready}
+use Rattle.operate.proofs.Results.{result-reduced}
+use Rattle.verdict.specs.Check.{placedAll}
+use Rattle.conflict.specs.Members.{diagramsOf, Inside, ListReady}
+use Rattle.propagate.specs.Made.{Extended, results, AllMade}
+use Rattle.propagate.proofs.PlacedAll.{first-full, first-placed}
+use Rattle.propagate.proofs.Extended.{longer-extended, extended-trans, diagrams-kept}
+use Rattle.judge.specs.Lines.{Negatable, ByNegation}
+
+-- A number that is not 1 has not the diagram 1.
+pub not-one : (T : Table) → Good T → (g : ℕ) → g < T .count → (g ≡ 1 → ⊥) → diagramAt (nodesOf T) g ≢ leaf true
+not-one T G g inside ne e =
+    ne (diagramAt-injective (nodesOf T) (good-ordered T G) g 1 (omega (arith, length-nodes T G)) (omega (arith, length-nodes T G, G .least)) (e ∙ sym (diagramAt-one (nodesOf T))))
+
+module _ (T : Table) (list memo : List ℕ) (g : ℕ) (R : Negatable T list memo g) where
+  pub negation-ready : (memo′ : List ℕ) → length memo′ ≡ length memo → MemoRight Negation memo′ T → Ready Negation memo′ T g 1
+  negation-ready memo′ len right =
+      record {
+        good = R .ready .good;
+        f-inside = R .inside;
+        g-inside = omega (arith, R .ready .good .least);
+        allowed = refl;
+        room = omega (arith, R .ready .room);
+        right = right;
+      }
+
+  module _ (o : Outcome) (e : o ≡ applied T Negation g 1) where
+    made : Grown T (negation 64 (diagramAt (nodesOf T) g)) o
+    unfolding result
+    made = grown T (R .ready .good) (negation 64 (diagramAt (nodesOf T) g)) (result-reduced Negation (diagramAt (nodesOf T) g) (diagramAt (nodesOf T) 1)) o e
+
+    long : Longer T (o .table)
+    long = longer T (negation 64 (diagramAt (nodesOf T) g)) o made
+
+    -- not-g found no room
+    pub negation-full : o .full ≡ true → (list′ : List ℕ) → ByNegation T (diagramsOf (nodesOf T) list) (diagramAt (nodesOf T) g) true (o .table) list′
+    unfolding result
+    negation-full f list′ =
+        record {
+          extended = longer-extended T (o .table) long;
+          places = first-full (size T) (nodesOf T) (negation 64 (diagramAt (nodesOf T) g))
+              (byDiagram 64 (negation 64 (diagramAt (nodesOf T) g)) (diagramsOf (nodesOf T) list)) o e f;
+          inside = λ q. t≢f q;
+          are = λ q. t≢f q;
+        }
+
+    module _ (f : o .full ≡ false) where
+      not-zero : o .node ≡ 0 → ⊥
+      not-zero z =
+          negation-some 64 (diagramAt (nodesOf T) g) (diagramAt-reduced (nodesOf T) (good-ordered T (R .ready .good)) g (omega (arith, length-nodes T (R .ready .good), R .inside)))
+          (not-one T (R .ready .good) g (R .inside) (R .not-one))
+          (sym (made .is f) ∙ ap (diagramAt (nodesOf (o .table))) z ∙ diagramAt-zero (nodesOf (o .table)))
+
+      -- the members can be cofactored by it
+      pub cofactors-ready : (memo′ : List ℕ) → length memo′ ≡ length memo → ListReady (o .table) list memo′ × (o .node < o .table .count) × Allowed Cofactor (o .node)
+      cofactors-ready memo′ len = (
+        record {
+          good = made .good;
+          inside = λ i p. omega (arith, made .more, R .ready .inside i p);
+          room = omega (arith, R .ready .room);
+        },
+        made .inside,
+        not-zero,
+      )
+
+      cofactors : results Cofactor (o .table) list (o .node) ≡ byDiagram 64 (negation 64 (diagramAt (nodesOf T) g)) (diagramsOf (nodesOf T) list)
+      unfolding result
+      cofactors =
+          ap₂ (λ (h : Diagram) (ms : List Diagram). byDiagram 64 h ms) (made .is f) (diagrams-kept T (o .table) long list (R .ready .inside))
+
+      pub cofactors-made : (full : Bool) (T′ : Table) (list′ : List ℕ) → AllMade (o .table) (results Cofactor (o .table) list (o .node)) full T′ list′
+          → ByNegation T (diagramsOf (nodesOf T) list) (diagramAt (nodesOf T) g) full T′ list′
+      unfolding result
+      cofactors-made full T′ list′ A =
+          record {
+            extended = extended-trans T (o .table) T′ (R .ready .good) (longer-extended T (o .table) long) (A .extended);
+            places =
+                first-placed (size T) (nodesOf T) (negation 64 (diagramAt (nodesOf T) g))
+                (byDiagram 64 (negation 64 (diagramAt (nodesOf T) g)) (diagramsOf (nodesOf T) list)) o e f
+                ∙ ap₂ (λ (s : ℕ) (Ds : List Diagram). placedAll s (nodesOf (o .table)) Ds) (sym (made .same-size)) (sym cofactors)
+                ∙ A .places;
+            inside = A .inside;
+            are = λ q. A .are q ∙ cofactors;
+          }

@@ -1,0 +1,30 @@
+-- What the calls ask, met by what those before them left. Assumes nothing.
+use mathlib.Core.Path.{_≡_, refl, sym, ap, subst}
+use mathlib.Core.Bool.{false}
+use mathlib.Core.List.{List}
+use Prim.Native.Nat.{ℕ, _≤_, _<_}
+use native.Mathlib.Omega.{arith}
+use lib.ListN.{length, getD}
+use Rattle.meaning.specs.Diagram.{Diagram}
+use Rattle.table.specs.Indexed.{Table, nodesOf, Good}
+use Rattle.conflict.specs.Members.{diagramsOf, Inside, ListReady}
+use Rattle.propagate.specs.Made.{Extended}
+use Rattle.judge.specs.Lines.{ByNegation}
+
+-- the members by not-g
+pub list-ready : (T : Table) (ms : List Diagram) (g : Diagram) (T′ : Table) (list memo memo′ : List ℕ) → ByNegation T ms g false T′ list → 3 ≤ length memo → length memo′ ≡ length memo
+    → ListReady T′ list memo′
+list-ready T ms g T′ list memo memo′ B room len = record { good = B .extended .good; inside = B .inside refl; room = omega arith }
+
+-- the same list over the same table
+pub again-ready : (T T′ : Table) (list memo memo′ : List ℕ) → T′ ≡ T → length memo′ ≡ length memo → ListReady T list memo → ListReady T′ list memo′
+again-ready T T′ list memo memo′ e len R =
+    record {
+      good = subst Good (sym e) (R .good);
+      inside = subst (λ (t : Table). Inside (t .count) list) (sym e) (R .inside);
+      room = omega (arith, R .room);
+    }
+
+-- a list over a table that has grown
+pub inside-more : (T T′ : Table) (list : List ℕ) → Extended T T′ → Inside (T .count) list → Inside (T′ .count) list
+inside-more T T′ list E h i p = omega (arith, E .more, h i p)

@@ -1,0 +1,257 @@
+-- A PR line's turns: one member's, and those of all, over a table that is the same before each. The idea: what is to be shown is what is
+-- left to be shown, and the rounds are those counted and those to come. Assumes nothing.
+use mathlib.Core.Path.{_≡_, refl, sym, ap, ap₂, _∙_}
+use mathlib.Core.Bool.{Bool, true, false, not, _&&_}
+use mathlib.Core.List.{List, [], _∷_, _++_}
+use Prim.Native.Nat.{ℕ, suc, _+_, _*_, _≤_, _<_}
+use native.Mathlib.Omega.{arith}
+use native.Mathlib.Numerals.{add-one}
+use lib.ListN.{length, getD, drop, drop-of-length-le}
+use lib.Seq.{drop-cons}
+use Rattle.meaning.specs.Diagram.{Diagram, leaf, same}
+use Rattle.meaning.specs.Operations.{cofactorLiterals}
+use Rattle.meaning.specs.Rules.{Line, rup, prTurns, base}
+use Rattle.meaning.specs.Words.{inWord}
+use Rattle.meaning.proofs.Booleans.{t≢f, not-true}
+use Rattle.meaning.proofs.Units.{same-eq, eq-same}
+use Rattle.table.specs.Nodes.{Node, diagramAt}
+use Rattle.table.specs.Indexed.{Table, size, nodesOf, Good, Outcome}
+use Rattle.table.proofs.Numbers.{diagramAt-one}
+use Rattle.table.proofs.Outcomes.{Longer, longer, Grown, grown}
+use Rattle.walks.specs.Constant.{constantAt}
+use Rattle.operate.specs.declared.Operation.{Operation}
+use Rattle.operate.specs.declared.Operation.the-variants.{Literals}
+use Rattle.operate.specs.Operate.{result}
+use Rattle.operate.specs.Inner.{applied, MemoRight, Ready}
+use Rattle.operate.proofs.Results.{result-reduced}
+use Rattle.verdict.specs.Check.{placedAll, isSome, turnsFit, lineFits}
+use Rattle.conflict.specs.Members.{diagramsOf, Inside, ListReady}
+use Rattle.propagate.specs.Made.{Extended}
+use Rattle.propagate.proofs.PlacedAll.{first-full, first-placed}
+use Rattle.propagate.proofs.Extended.{longer-extended, extended-same, extended-trans, diagrams-kept}
+use Rattle.judge.specs.declared.Judged.{Judged}
+use Rattle.judge.specs.Lines.{Negatable, Says}
+use Rattle.judge.proofs.Fits.{propagation, rup-fits, turns-fit, constant-turn, turn-shown, turn-rounds, turn-fits, GoesOn, Stops, goes-on, stops}
+
+abbrev pub judgedAs : Bool → Bool → ℕ → ℕ → Judged
+judgedAs full shown rounds count = record { full = full; shown = shown; rounds = rounds; count = count }
+
+-- ---- one member
+
+module _ (T : Table) (list memo : List ℕ) (R : ListReady T list memo) (f p n : ℕ) (inside : f < T .count) where
+  abbrev One : Line
+  One = prTurns 64 (inWord p) (inWord n) (diagramsOf (nodesOf T) list) (diagramAt (nodesOf T) f ∷ [])
+
+  -- h is 1: nothing is made
+  pub turn-constant : constantAt (nodesOf T) p n true f ≡ true → Says T One 64 (judgedAs false true 0 (T .count)) T
+  unfolding constantAt lineFits turnsFit placedAll
+  turn-constant e =
+      let q : One ≡ _ = constant-turn 64 (inWord p) (inWord n) (diagramsOf (nodesOf T) list) (diagramAt (nodesOf T) f) e in
+      record {
+        extended = extended-same T (R .good);
+        fits = ap (lineFits (size T) (nodesOf T)) q;
+        shown = λ _. sym (ap (λ (L : Line). L .shown) q);
+        rounds = λ _. sym (ap (λ (L : Line). L .rounds) q);
+        most = omega arith;
+      }
+
+  pub literals-ready : (memo′ : List ℕ) → length memo′ ≡ length memo → MemoRight (Literals p n) memo′ T → Ready (Literals p n) memo′ T f 1
+  literals-ready memo′ len right =
+      record {
+        good = R .good;
+        f-inside = inside;
+        g-inside = omega (arith, R .good .least);
+        allowed = refl;
+        room = omega (arith, R .room);
+        right = right;
+      }
+
+  module _ (other : constantAt (nodesOf T) p n true f ≡ false) (o : Outcome) (e : o ≡ applied T (Literals p n) f 1) where
+    abbrev h : Diagram
+    h = cofactorLiterals 64 (inWord p) (inWord n) (diagramAt (nodesOf T) f)
+
+    abbrev ms : List Diagram
+    ms = diagramsOf (nodesOf T) list
+
+    made : Grown T h o
+    unfolding result
+    made = grown T (R .good) h (result-reduced (Literals p n) (diagramAt (nodesOf T) f) (diagramAt (nodesOf T) 1)) o e
+
+    long : Longer T (o .table)
+    long = longer T h o made
+
+    fits-is : lineFits (size T) (nodesOf T) One ≡ isSome (placedAll (size T) (nodesOf T) (h ∷ (base 64 ms h ++ propagation 64 ms h .made)))
+    unfolding constantAt
+    fits-is = turn-fits 64 (inWord p) (inWord n) ms (diagramAt (nodesOf T) f) other (size T) (nodesOf T)
+
+    -- h found no room
+    pub turn-full : o .full ≡ true → (count : ℕ) → Says T One 64 (judgedAs true false 0 count) (o .table)
+    unfolding result
+    turn-full q count =
+        record {
+          extended = longer-extended T (o .table) long;
+          fits = fits-is ∙ ap isSome (first-full (size T) (nodesOf T) h (base 64 ms h ++ propagation 64 ms h .made) o e q);
+          shown = λ z. t≢f z;
+          rounds = λ z. t≢f z;
+          most = omega arith;
+        }
+
+    module _ (q : o .full ≡ false) where
+      not-one : o .node ≡ 1 → ⊥
+      unfolding constantAt
+      not-one z =
+          t≢f (sym (eq-same h (leaf true) (sym (made .is q) ∙ ap (diagramAt (nodesOf (o .table))) z ∙ diagramAt-one (nodesOf (o .table)))) ∙ other)
+
+      -- the members by not-g can be propagated after a cofactor by not-h
+      pub turn-ready : (memo′ : List ℕ) → length memo′ ≡ length memo → Negatable (o .table) list memo′ (o .node)
+      turn-ready memo′ len =
+          record {
+            ready = record {
+              good = made .good;
+              inside = λ i b. omega (arith, made .more, R .inside i b);
+              room = omega (arith, R .room);
+            };
+            inside = made .inside;
+            not-one = not-one;
+          }
+
+      abbrev Rup : Line
+      Rup = rup 64 (diagramsOf (nodesOf (o .table)) list) (diagramAt (nodesOf (o .table)) (o .node))
+
+      rup-is : Rup ≡ rup 64 ms h
+      rup-is = ap₂ (rup 64) (diagrams-kept T (o .table) long list (R .inside)) (made .is q)
+
+      fits-both : lineFits (size T) (nodesOf T) One ≡ lineFits (size (o .table)) (nodesOf (o .table)) Rup
+      unfolding result
+      fits-both =
+          fits-is
+          ∙ ap isSome (first-placed (size T) (nodesOf T) h (base 64 ms h ++ propagation 64 ms h .made) o e q)
+          ∙ sym (rup-fits (size T) (nodesOf (o .table)) 64 ms h)
+          ∙ ap₂ (λ (s : ℕ) (L : Line). lineFits s (nodesOf (o .table)) L) (sym (made .same-size)) (sym rup-is)
+
+      pub turn-judged : (r : Judged) (T′ : Table) → Says (o .table) Rup 64 r T′ → Says T One 64 r T′
+      unfolding constantAt
+      turn-judged r T′ S =
+          record {
+            extended = extended-trans T (o .table) T′ (R .good) (longer-extended T (o .table) long) (S .extended);
+            fits = fits-both ∙ S .fits;
+            shown = λ z. S .shown z ∙ ap (λ (L : Line). L .shown) rup-is ∙ sym (turn-shown 64 (inWord p) (inWord n) ms (diagramAt (nodesOf T) f) other);
+            rounds = λ z. S .rounds z ∙ ap (λ (L : Line). L .rounds) rup-is ∙ sym (turn-rounds 64 (inWord p) (inWord n) ms (diagramAt (nodesOf T) f) other);
+            most = S .most;
+          }
+
+-- ---- all members
+
+module _ (T : Table) (list members : List ℕ) (p n : ℕ) where
+  -- the line of the members numbered
+  abbrev lineOf : List ℕ → Line
+  lineOf ks = prTurns 64 (inWord p) (inWord n) (diagramsOf (nodesOf T) list) (diagramsOf (nodesOf T) ks)
+
+  abbrev fit : List ℕ → Bool
+  fit ks = turnsFit (size T) (lineOf ks .turns) (nodesOf T)
+
+  -- The turns of the first i members conflicted, in so many rounds.
+  pub record Turning (i rounds : ℕ) : Type 0 where
+    pub so-far : i ≤ length members
+    pub most : rounds ≤ 64 * i
+    pub shown-left : lineOf members .shown ≡ lineOf (drop i members) .shown
+    pub rounds-left : lineOf members .rounds ≡ rounds + lineOf (drop i members) .rounds
+    pub fits-left : fit members ≡ fit (drop i members)
+
+  pub turning-none : Turning 0 0
+  turning-none = record { so-far = omega arith; most = omega arith; shown-left = refl; rounds-left = omega arith; fits-left = refl }
+
+  module _ (good : Good T) where
+    -- all are passed
+    pub turns-done : (i rounds : ℕ) → Turning i rounds → length members ≤ i → Says T (lineOf members) (64 * length members) (judgedAs false true rounds (T .count)) T
+    unfolding prTurns turnsFit
+    turns-done i rounds W end =
+        let none : drop i members ≡ [] = drop-of-length-le members {i = i} end in
+        record {
+          extended = extended-same T good;
+          fits = turns-fit 64 (inWord p) (inWord n) (diagramsOf (nodesOf T) list) (size T) (nodesOf T) (diagramsOf (nodesOf T) members) ∙ W .fits-left ∙ ap fit none;
+          shown = λ _. sym (W .shown-left ∙ ap (λ (ks : List ℕ). lineOf ks .shown) none);
+          rounds = λ _. sym (W .rounds-left ∙ ap (λ (ks : List ℕ). rounds + lineOf ks .rounds) none ∙ plus-zero rounds);
+          most = omega (arith, W .most, W .so-far);
+        }
+      where
+        plus-zero : (m : ℕ) → m + 0 ≡ m
+        plus-zero m = omega arith
+
+    module _ (i rounds : ℕ) (W : Turning i rounds) (more : i < length members) (r : Judged) (T′ : Table) (S : Says T (lineOf (getD members i 0 ∷ [])) 64 r T′) where
+      abbrev one : Line
+      one = lineOf (getD members i 0 ∷ [])
+
+      next : drop i members ≡ getD members i 0 ∷ drop (suc i) members
+      next = drop-cons members i 0 more
+
+      one-fits : fit (getD members i 0 ∷ []) ≡ not (r .full)
+      one-fits = sym (turns-fit 64 (inWord p) (inWord n) (diagramsOf (nodesOf T) list) (size T) (nodesOf T) (diagramsOf (nodesOf T) (getD members i 0 ∷ []))) ∙ S .fits
+
+      all-fit : lineFits (size T) (nodesOf T) (lineOf members) ≡ fit (getD members i 0 ∷ drop (suc i) members)
+      all-fit =
+          turns-fit 64 (inWord p) (inWord n) (diagramsOf (nodesOf T) list) (size T) (nodesOf T) (diagramsOf (nodesOf T) members) ∙ W .fits-left ∙ ap fit next
+
+      onward : one .shown ≡ true → GoesOn (size T) (nodesOf T) one (lineOf (drop (suc i) members)) (lineOf (getD members i 0 ∷ drop (suc i) members))
+      onward =
+          goes-on (size T) (nodesOf T) 64 (inWord p) (inWord n) (diagramsOf (nodesOf T) list) (diagramAt (nodesOf T) (getD members i 0)) (diagramsOf (nodesOf T) (drop (suc i) members))
+
+      last : one .shown ≡ false → Stops (size T) (nodesOf T) one (lineOf (getD members i 0 ∷ drop (suc i) members))
+      last =
+          stops (size T) (nodesOf T) 64 (inWord p) (inWord n) (diagramsOf (nodesOf T) list) (diagramAt (nodesOf T) (getD members i 0)) (diagramsOf (nodesOf T) (drop (suc i) members))
+
+      -- a turn that found no room
+      pub turns-full : r .full ≡ true → (count : ℕ) → Says T (lineOf members) (64 * length members) (judgedAs true false 0 count) T′
+      turns-full q count =
+          record {
+            extended = S .extended;
+            fits = all-fit ∙ go (one .shown) refl;
+            shown = λ z. t≢f z;
+            rounds = λ z. t≢f z;
+            most = omega arith;
+          }
+        where
+          no-room : fit (getD members i 0 ∷ []) ≡ false
+          no-room = one-fits ∙ ap not q
+
+          go : (b : Bool) → one .shown ≡ b → fit (getD members i 0 ∷ drop (suc i) members) ≡ false
+          go true e = onward e .fits ∙ ap (λ (x : Bool). x && fit (drop (suc i) members)) no-room
+          go false e = last e .fits ∙ no-room
+
+      module _ (q : r .full ≡ false) where
+        has-room : fit (getD members i 0 ∷ []) ≡ true
+        has-room = one-fits ∙ ap not q
+
+        -- a turn that does not conflict
+        pub turns-end : r .shown ≡ false → Says T (lineOf members) (64 * length members) (judgedAs false false (rounds + r .rounds) (T .count)) T
+        turns-end z =
+            let e : one .shown ≡ false = sym (S .shown q) ∙ z in
+            record {
+              extended = extended-same T good;
+              fits = all-fit ∙ last e .fits ∙ has-room;
+              shown = λ _. sym (W .shown-left ∙ ap (λ (ks : List ℕ). lineOf ks .shown) next ∙ last e .shown);
+              rounds = λ _. sym (W .rounds-left ∙ ap (λ (ks : List ℕ). rounds + lineOf ks .rounds) next ∙ ap (λ (m : ℕ). rounds + m) (last e .rounds ∙ sym (S .rounds q)));
+              most = omega (arith, W .most, S .most);
+            }
+
+        -- a turn that conflicts
+        pub turns-on : r .shown ≡ true → Turning (i + 1) (rounds + r .rounds)
+        turns-on z =
+            let e : one .shown ≡ true = sym (S .shown q) ∙ z in
+            let g = onward e in
+            record {
+              so-far = omega arith;
+              most = omega (arith, W .most, S .most);
+              shown-left = W .shown-left ∙ ap (λ (ks : List ℕ). lineOf ks .shown) next ∙ g .shown ∙ ap (λ (k : ℕ). lineOf (drop k members) .shown) (sym (add-one i));
+              rounds-left =
+                  W .rounds-left ∙ ap (λ (ks : List ℕ). rounds + lineOf ks .rounds) next ∙ ap (λ (m : ℕ). rounds + m) (g .rounds)
+                  ∙ ap (λ (m : ℕ). rounds + (m + lineOf (drop (suc i) members) .rounds)) (sym (S .rounds q))
+                  ∙ ap (λ (k : ℕ). rounds + (r .rounds + lineOf (drop k members) .rounds)) (sym (add-one i))
+                  ∙ grouped rounds (r .rounds) (lineOf (drop (i + 1) members) .rounds);
+              fits-left =
+                  W .fits-left ∙ ap fit next ∙ g .fits ∙ ap (λ (x : Bool). x && fit (drop (suc i) members)) has-room
+                  ∙ ap (λ (k : ℕ). fit (drop k members)) (sym (add-one i));
+            }
+          where
+            grouped : (a b c : ℕ) → a + (b + c) ≡ (a + b) + c
+            grouped a b c = omega arith

@@ -1,0 +1,40 @@
+-- What judging a line asks, leaves and says. No call open to others cites this file.
+use mathlib.Core.Path.{_≡_}
+use mathlib.Core.Bool.{Bool, true, false, not, cond}
+use mathlib.Core.List.{List}
+use mathlib.Core.Option.{none, some}
+use Prim.Native.Nat.{ℕ, _≤_, _<_}
+use lib.ListN.{length}
+use Rattle.meaning.specs.Diagram.{Diagram}
+use Rattle.meaning.specs.Operations.{negation}
+use Rattle.meaning.specs.Rules.{Line, byDiagram, base}
+use Rattle.table.specs.Nodes.{diagramAt}
+use Rattle.table.specs.Indexed.{Table, size, nodesOf}
+use Rattle.verdict.specs.Check.{placedAll, lineFits}
+use Rattle.conflict.specs.Members.{diagramsOf, Inside, ListReady}
+use Rattle.conflict.specs.Marks.{unmarked}
+use Rattle.propagate.specs.Made.{Extended}
+use Rattle.judge.specs.declared.Judged.{Judged}
+
+-- Members that are propagated after a cofactor by the negation of node g: g is not 1, so that its negation is not 0.
+pub record Negatable (t : Table) (members memo : List ℕ) (g : ℕ) : Type 0 where
+  pub ready : ListReady t members memo
+  pub inside : g < t .count
+  pub not-one : g ≡ 1 → ⊥
+
+-- The negation of g and then the members by it were placed, up to the one that found no room; the table is then t′, and where all
+-- found room the list has the members by not-g.
+pub record ByNegation (t : Table) (ms : List Diagram) (g : Diagram) (full : Bool) (t′ : Table) (list : List ℕ) : Type 0 where
+  pub extended : Extended t t′
+  pub places : placedAll (size t) (nodesOf t) (base 64 ms g) ≡ cond full none (some (nodesOf t′))
+  pub inside : full ≡ false → Inside (t′ .count) list
+  pub are : full ≡ false → diagramsOf (nodesOf t′) list ≡ byDiagram 64 (negation 64 g) ms
+
+-- The line over the table t: `full` exactly where what it makes finds no room, else whether it is shown, and its rounds, at most so
+-- many; the table is then t′.
+pub record Says (t : Table) (line : Line) (bound : ℕ) (r : Judged) (t′ : Table) : Type 0 where
+  pub extended : Extended t t′
+  pub fits : lineFits (size t) (nodesOf t) line ≡ not (r .full)
+  pub shown : r .full ≡ false → r .shown ≡ line .shown
+  pub rounds : r .full ≡ false → r .rounds ≡ line .rounds
+  pub most : r .rounds ≤ bound

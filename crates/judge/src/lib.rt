@@ -1,0 +1,310 @@
+// A RUP line and a PR line over a table, its members and lists to work in.
+use operate::Operation;
+use propagate::Made;
+use table::NodeNo;
+ghost use mathlib.Core.Path.{_≡_};
+ghost use mathlib.Core.List.{[], _∷_};
+ghost use Prim.Native.Nat.{_*_, _≤_, _<_};
+ghost use lib.ListN.{length};
+ghost use Rattle.meaning.specs.Rules.{rup, prTurns, pr};
+ghost use Rattle.meaning.specs.Words.{inWord};
+ghost use Rattle.table.specs.Nodes.{diagramAt};
+ghost use Rattle.table.specs.Indexed.{tableOf, nodesOf};
+ghost use Rattle.conflict.specs.Members.{diagramsOf, Inside, ListReady};
+ghost use Rattle.conflict.specs.Marks.{unmarked};
+ghost use Rattle.judge.specs.Lines.{Negatable, ByNegation, Says};
+
+// What judging says: `full` where a node found no room, else whether the line is shown, and its rounds; and the count.
+pub struct Judged {
+    pub full: bool,
+    pub shown: bool,
+    pub rounds: u64,
+    pub count: usize,
+}
+
+// Fills a list with another of its length.
+fn copy(from: &[u16], to: &mut [u16])
+    requires { ⌜ length (now to) ≡ length (now from) ⌝ }
+    ensures { λ _. ⌜ now (to .exit) ≡ now (from .entry) ⌝ }
+{
+    let mut i: usize = 0;
+    while i < from.len() {
+        to[i] = from[i];
+        i += 1;
+    }
+}
+
+// Makes not-g, and replaces each listed node, in order, by its cofactor by not-g; or stops at `full`.
+fn by_negation(
+    vars: &mut [u8],
+    lows: &mut [u16],
+    highs: &mut [u16],
+    heads: &mut [u16],
+    links: &mut [u16],
+    memo: &mut [u64],
+    list: &mut [u16],
+    count: usize,
+    g: NodeNo,
+) -> Made
+    requires { ⌜ Negatable (tableOf (now vars) (now lows) (now highs) (now heads) (now links) count) (now list) (now memo) (g .0) ⌝ }
+    ensures { λ r. ⌜ ByNegation (tableOf (now (vars .entry)) (now (lows .entry)) (now (highs .entry)) (now (heads .entry)) (now (links .entry)) count) (diagramsOf (nodesOf (tableOf (now (vars .entry)) (now (lows .entry)) (now (highs .entry)) (now (heads .entry)) (now (links .entry)) count)) (now (list .entry))) (diagramAt (nodesOf (tableOf (now (vars .entry)) (now (lows .entry)) (now (highs .entry)) (now (heads .entry)) (now (links .entry)) count)) (g .0)) (r .full) (tableOf (now (vars .exit)) (now (lows .exit)) (now (highs .exit)) (now (heads .exit)) (now (links .exit)) (r .count)) (now (list .exit)) ⌝ }
+{
+    operate::clear_memo(memo);
+    let not = operate::apply(
+        vars,
+        lows,
+        highs,
+        heads,
+        links,
+        memo,
+        count,
+        Operation::Negation,
+        g,
+        NodeNo(1),
+    );
+    if not.full {
+        return Made {
+            full: true,
+            count: not.count,
+        };
+    }
+    propagate::all_by(
+        vars,
+        lows,
+        highs,
+        heads,
+        links,
+        memo,
+        list,
+        not.count,
+        Operation::Cofactor,
+        not.node,
+    )
+}
+
+// The RUP line of node `root`, worked out in `list`. Its nodes stay.
+pub fn rup(
+    vars: &mut [u8],
+    lows: &mut [u16],
+    highs: &mut [u16],
+    heads: &mut [u16],
+    links: &mut [u16],
+    memo: &mut [u64],
+    marks: &mut [u8],
+    members: &[u16],
+    list: &mut [u16],
+    count: usize,
+    root: NodeNo,
+) -> Judged
+    requires { ⌜ Negatable (tableOf (now vars) (now lows) (now highs) (now heads) (now links) count) (now members) (now memo) (root .0) × (now marks ≡ unmarked (length (now vars))) × (length (now list) ≡ length (now members)) ⌝ }
+    ensures { λ r. ⌜ Says (tableOf (now (vars .entry)) (now (lows .entry)) (now (highs .entry)) (now (heads .entry)) (now (links .entry)) count) (rup 64 (diagramsOf (nodesOf (tableOf (now (vars .entry)) (now (lows .entry)) (now (highs .entry)) (now (heads .entry)) (now (links .entry)) count)) (now (members .entry))) (diagramAt (nodesOf (tableOf (now (vars .entry)) (now (lows .entry)) (now (highs .entry)) (now (heads .entry)) (now (links .entry)) count)) (root .0))) 64 r (tableOf (now (vars .exit)) (now (lows .exit)) (now (highs .exit)) (now (heads .exit)) (now (links .exit)) (r .count)) ⌝ }
+    ensures { λ _. ⌜ now (marks .exit) ≡ unmarked (length (now (vars .entry))) ⌝ }
+{
+    copy(members, list);
+    let made = by_negation(vars, lows, highs, heads, links, memo, list, count, root);
+    if made.full {
+        return Judged {
+            full: true,
+            shown: false,
+            rounds: 0,
+            count: made.count,
+        };
+    }
+    let p = propagate::unit_prop(
+        vars,
+        lows,
+        highs,
+        heads,
+        links,
+        memo,
+        marks,
+        list,
+        made.count,
+    );
+    Judged {
+        full: p.full,
+        shown: p.conflict,
+        rounds: p.rounds as u64,
+        count: p.count,
+    }
+}
+
+// A member's turn of a PR line, worked out in `second`, where `first` has the members by not-g. Its nodes stay.
+fn turn(
+    vars: &mut [u8],
+    lows: &mut [u16],
+    highs: &mut [u16],
+    heads: &mut [u16],
+    links: &mut [u16],
+    memo: &mut [u64],
+    marks: &mut [u8],
+    first: &[u16],
+    second: &mut [u16],
+    count: usize,
+    f: NodeNo,
+    positive: u64,
+    negative: u64,
+) -> Judged
+    requires { ⌜ ListReady (tableOf (now vars) (now lows) (now highs) (now heads) (now links) count) (now first) (now memo) × (now marks ≡ unmarked (length (now vars))) × (length (now second) ≡ length (now first)) × (f .0 < count) ⌝ }
+    ensures { λ r. ⌜ Says (tableOf (now (vars .entry)) (now (lows .entry)) (now (highs .entry)) (now (heads .entry)) (now (links .entry)) count) (prTurns 64 (inWord positive) (inWord negative) (diagramsOf (nodesOf (tableOf (now (vars .entry)) (now (lows .entry)) (now (highs .entry)) (now (heads .entry)) (now (links .entry)) count)) (now (first .entry))) (diagramAt (nodesOf (tableOf (now (vars .entry)) (now (lows .entry)) (now (highs .entry)) (now (heads .entry)) (now (links .entry)) count)) (f .0) ∷ [])) 64 r (tableOf (now (vars .exit)) (now (lows .exit)) (now (highs .exit)) (now (heads .exit)) (now (links .exit)) (r .count)) ⌝ }
+    ensures { λ _. ⌜ now (marks .exit) ≡ unmarked (length (now (vars .entry))) ⌝ }
+{
+    if walks::is_constant(vars, lows, highs, memo, count, f, positive, negative, true) {
+        return Judged {
+            full: false,
+            shown: true,
+            rounds: 0,
+            count,
+        };
+    }
+    operate::clear_memo(memo);
+    let h = operate::apply(
+        vars,
+        lows,
+        highs,
+        heads,
+        links,
+        memo,
+        count,
+        Operation::Literals(positive, negative),
+        f,
+        NodeNo(1),
+    );
+    if h.full {
+        return Judged {
+            full: true,
+            shown: false,
+            rounds: 0,
+            count: h.count,
+        };
+    }
+    rup(
+        vars,
+        lows,
+        highs,
+        heads,
+        links,
+        memo,
+        marks,
+        first,
+        second,
+        h.count,
+        h.node,
+    )
+}
+
+// The turns of all members, by place, up to one that is `full` or does not conflict. Each one's nodes are dropped before the next.
+fn turns(
+    vars: &mut [u8],
+    lows: &mut [u16],
+    highs: &mut [u16],
+    heads: &mut [u16],
+    links: &mut [u16],
+    memo: &mut [u64],
+    marks: &mut [u8],
+    members: &[u16],
+    first: &[u16],
+    second: &mut [u16],
+    count: usize,
+    positive: u64,
+    negative: u64,
+) -> Judged
+    requires { ⌜ ListReady (tableOf (now vars) (now lows) (now highs) (now heads) (now links) count) (now first) (now memo) × (now marks ≡ unmarked (length (now vars))) × (length (now second) ≡ length (now first)) × Inside count (now members) × (length (now members) ≤ 65536) ⌝ }
+    ensures { λ r. ⌜ Says (tableOf (now (vars .entry)) (now (lows .entry)) (now (highs .entry)) (now (heads .entry)) (now (links .entry)) count) (prTurns 64 (inWord positive) (inWord negative) (diagramsOf (nodesOf (tableOf (now (vars .entry)) (now (lows .entry)) (now (highs .entry)) (now (heads .entry)) (now (links .entry)) count)) (now (first .entry))) (diagramsOf (nodesOf (tableOf (now (vars .entry)) (now (lows .entry)) (now (highs .entry)) (now (heads .entry)) (now (links .entry)) count)) (now (members .entry)))) (64 * length (now (members .entry))) r (tableOf (now (vars .exit)) (now (lows .exit)) (now (highs .exit)) (now (heads .exit)) (now (links .exit)) (r .count)) ⌝ }
+    ensures { λ _. ⌜ now (marks .exit) ≡ unmarked (length (now (vars .entry))) ⌝ }
+{
+    let mut rounds: u64 = 0;
+    let mut i: usize = 0;
+    while i < members.len() {
+        let f = NodeNo(members[i]);
+        let t = turn(
+            vars,
+            lows,
+            highs,
+            heads,
+            links,
+            memo,
+            marks,
+            first,
+            second,
+            count,
+            f,
+            positive,
+            negative,
+        );
+        if t.full {
+            return Judged {
+                full: true,
+                shown: false,
+                rounds: 0,
+                count: t.count,
+            };
+        }
+        table::drop_to(vars, lows, highs, heads, links, t.count, count);
+        rounds += t.rounds;
+        if !t.shown {
+            return Judged {
+                full: false,
+                shown: false,
+                rounds,
+                count,
+            };
+        }
+        i += 1;
+    }
+    Judged {
+        full: false,
+        shown: true,
+        rounds,
+        count,
+    }
+}
+
+// The PR line of node `root` with the witness of the two words, worked out in `first` and `second`. Of its nodes those of not-g and of
+// the members by not-g stay; where it is `full`, those of the turn that found no room too.
+pub fn pr(
+    vars: &mut [u8],
+    lows: &mut [u16],
+    highs: &mut [u16],
+    heads: &mut [u16],
+    links: &mut [u16],
+    memo: &mut [u64],
+    marks: &mut [u8],
+    members: &[u16],
+    first: &mut [u16],
+    second: &mut [u16],
+    count: usize,
+    root: NodeNo,
+    positive: u64,
+    negative: u64,
+) -> Judged
+    requires { ⌜ Negatable (tableOf (now vars) (now lows) (now highs) (now heads) (now links) count) (now members) (now memo) (root .0) × (now marks ≡ unmarked (length (now vars))) × (length (now first) ≡ length (now members)) × (length (now second) ≡ length (now members)) × (length (now members) ≤ 65536) ⌝ }
+    ensures { λ r. ⌜ Says (tableOf (now (vars .entry)) (now (lows .entry)) (now (highs .entry)) (now (heads .entry)) (now (links .entry)) count) (pr 64 (inWord positive) (inWord negative) (diagramsOf (nodesOf (tableOf (now (vars .entry)) (now (lows .entry)) (now (highs .entry)) (now (heads .entry)) (now (links .entry)) count)) (now (members .entry))) (diagramAt (nodesOf (tableOf (now (vars .entry)) (now (lows .entry)) (now (highs .entry)) (now (heads .entry)) (now (links .entry)) count)) (root .0))) (64 * length (now (members .entry))) r (tableOf (now (vars .exit)) (now (lows .exit)) (now (highs .exit)) (now (heads .exit)) (now (links .exit)) (r .count)) ⌝ }
+    ensures { λ _. ⌜ now (marks .exit) ≡ unmarked (length (now (vars .entry))) ⌝ }
+{
+    copy(members, first);
+    let made = by_negation(vars, lows, highs, heads, links, memo, first, count, root);
+    if made.full {
+        return Judged {
+            full: true,
+            shown: false,
+            rounds: 0,
+            count: made.count,
+        };
+    }
+    turns(
+        vars,
+        lows,
+        highs,
+        heads,
+        links,
+        memo,
+        marks,
+        members,
+        first,
+        second,
+        made.count,
+        positive,
+        negative,
+    )
+}

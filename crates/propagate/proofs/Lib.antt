@@ -1,0 +1,5 @@
+pub mod PlacedAll
+pub mod Extended
+pub mod Replacing
+pub mod Taking
+pub mod Rounds

@@ -1,0 +1,121 @@
+-- The walk over the list: what is to be taken is what is left to be taken, while the memo stays right. Assumes nothing.
+use mathlib.Core.Logic.{⊎-elim}
+use borrow.Author.Tests.{eqb-true, eqb-false, not-true, not-false}
+use Rattle.meaning.specs.Rules.{hasUnit}
+use Rattle.table.specs.Nodes.{diagramAt}
+use mathlib.Core.Bool.{true}
+use Rattle.units.proofs.Slots.{units-cleared}
+use mathlib.Core.Path.{_≡_, refl, _∙_}
+use Prim.Native.Nat.{_-_, _≤_}
+use native.Mathlib.Omega.{arith}
+use lib.ListN.{length, getD, drop}
+use borrow.Author.Needs.{needs}
+use Rattle.meaning.specs.Rules.{firstWithUnit}
+use Rattle.walks.specs.Readable.{nodesIn}
+use Rattle.units.specs.Units.{UnitsMemo}
+use Rattle.conflict.specs.Members.{diagramsOf}
+use Rattle.propagate.proofs.Taking.{words-empty, words-some, first-later, first-here, first-none}
+use Rattle.propagate.proofs.first_units.Statement.{statement}
+use Rattle.propagate.proofs.first_units.Tie as tie
+
+abbrev Inv-loop : tie.InvT-loop
+Inv-loop vars lows highs memo₀ count list i₀ memo i =
+    (length memo ≡ length memo₀) × (i ≤ length list) × UnitsMemo memo (nodesIn vars lows highs count)
+    × (firstWithUnit 64 (diagramsOf (nodesIn vars lows highs count) list) ≡ firstWithUnit 64 (diagramsOf (nodesIn vars lows highs count) (drop i list)))
+
+abbrev μ-loop : tie.MeasureT-loop
+μ-loop vars lows highs memo₀ count list i₀ memo i = length list - i
+
+-- src/lib.rt:71:5
+clear-memo-requires : tie.Need-clear-memo-requires Inv-loop μ-loop
+clear-memo-requires c κs = search needs
+
+-- src/lib.rt:73:5
+loop-holds : tie.Need-loop-holds Inv-loop μ-loop
+loop-holds c =
+    let a = c .before .before .before .before .before .before .before .before .before .args in
+    (refl, omega arith, units-cleared (nodesIn (a .vars .now) (a .lows .now) (a .highs .now) (a .count)) _ (length (a .memo .now)) (c .before .before .clear-memo .ensures), refl)
+
+-- src/lib.rt:74:24
+mul-t13 : tie.Need-mul-t13 Inv-loop μ-loop
+mul-t13 c = search needs
+
+-- src/lib.rt:74:24
+shared-slice-read-t16 : tie.Need-shared-slice-read-t16 Inv-loop μ-loop
+shared-slice-read-t16 c = search needs
+
+-- src/lib.rt:75:13
+units-from-requires : tie.Need-units-from-requires Inv-loop μ-loop
+units-from-requires c κs =
+    let a = c .before .before .before .before .before .before .before .before .before .before .before .before .before .args in
+    let r = c .before .before .before .before .before .before .before .before .before .before .before .before .before .pre in
+    let w = c .before .before .before .loop in
+    ((r .0, r .1 (w .i) (c .before .before .loop-test .taken), omega (arith, w .inv .0, c .before .before .before .before .before .before .clear-memo .kept .0, r .2)), w .inv .2)
+
+-- src/lib.rt:77:13
+same-length : tie.Need-same-length Inv-loop μ-loop
+same-length c = search needs
+
+-- src/lib.rt:77:13
+returns : tie.Need-returns Inv-loop μ-loop
+returns c =
+    let a = c .before .before .before .before .before .before .before .before .before .before .before .before .before .before .before .before .before .before .args in
+    let r = c .before .before .before .before .before .before .before .before .before .before .before .before .before .before .before .before .before .before .pre in
+    let w = c .before .before .before .before .before .before .before .before .loop in
+    let y = c .before .before .before .before .units-from in
+    let some-unit : hasUnit 64 64 (diagramAt (nodesIn (a .vars .now) (a .lows .now) (a .highs .now) (a .count)) (getD (a .list .now) (w .i) 0)) ≡ true =
+    words-some (nodesIn (a .vars .now) (a .lows .now) (a .highs .now) (a .count)) (getD (a .list .now) (w .i) 0) (y .result .positive) (y .result .negative) (y .ensures .0) (omega (arith, c .before .struct-known .given)) (omega (arith, c .before .struct-known .given))
+    (λ z. ⊎-elim (λ s. s .taken (z .0)) (λ s. eqb-false _ _ (not-true _ (s .2 .taken)) (z .1)) (c .if1 .came)) in
+    first-here (nodesIn (a .vars .now) (a .lows .now) (a .highs .now) (a .count)) (a .list .now) (w .i) (c .before .before .before .before .before .before .before .loop-test .taken) (w .inv .3) some-unit (y .result .positive) (y .result .negative) (y .ensures .0)
+
+-- src/lib.rt:79:9
+add-i : tie.Need-add-i Inv-loop μ-loop
+add-i c = search needs
+
+-- src/lib.rt:73:5
+loop-less : tie.Need-loop-less Inv-loop μ-loop
+loop-less c = search needs
+
+-- src/lib.rt:73:5
+loop-again : tie.Need-loop-again Inv-loop μ-loop
+loop-again c =
+    let a = c .before .before .before .before .before .before .before .before .before .before .before .before .before .before .before .before .before .before .before .before .args in
+    let r = c .before .before .before .before .before .before .before .before .before .before .before .before .before .before .before .before .before .before .before .before .pre in
+    let w = c .before .before .before .before .before .before .before .before .before .before .loop in
+    let y = c .before .before .before .before .before .before .units-from in (
+      y .kept .1 .1 .1 .0 ∙ w .inv .0,
+      omega (arith, c .before .before .before .before .before .before .before .before .before .loop-test .taken),
+      y .ensures .1,
+      w .inv .3 ∙ first-later (nodesIn (a .vars .now) (a .lows .now) (a .highs .now) (a .count)) (a .list .now) (w .i) (c .before .before .before .before .before .before .before .before .before .loop-test .taken) (words-empty (nodesIn (a .vars .now) (a .lows .now) (a .highs .now) (a .count)) _ _ _ (y .ensures .0) (c .before .before .if1 .left) (eqb-true _ _ (not-false _ (c .if2 .left)))),
+    )
+
+-- src/lib.rt:60:1
+same-length-2 : tie.Need-same-length-2 Inv-loop μ-loop
+same-length-2 c = search needs
+
+-- src/lib.rt:60:1
+returns-2 : tie.Need-returns-2 Inv-loop μ-loop
+returns-2 c =
+    let a = c .before .before .before .before .before .before .before .before .before .before .before .args in
+    let r = c .before .before .before .before .before .before .before .before .before .before .before .pre in
+    let w = c .before .loop in
+    w .inv .3 ∙ first-none (nodesIn (a .vars .now) (a .lows .now) (a .highs .now) (a .count)) (a .list .now) (w .i) (omega (arith, c .loop-test .left))
+
+pub first-units-spec : {M : Type 1} → statement M
+first-units-spec =
+    tie.close
+    (tie.spec
+    Inv-loop
+    μ-loop
+    clear-memo-requires
+    loop-holds
+    mul-t13
+    shared-slice-read-t16
+    units-from-requires
+    same-length
+    returns
+    add-i
+    loop-less
+    loop-again
+    same-length-2
+    returns-2)

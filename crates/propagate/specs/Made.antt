@@ -1,0 +1,33 @@
+-- What is left once all members of a list are replaced. No call open to others cites this file.
+use mathlib.Core.Path.{_≡_}
+use mathlib.Core.Bool.{Bool, false, cond}
+use mathlib.Core.List.{List, map}
+use mathlib.Core.Option.{none, some}
+use Prim.Native.Nat.{ℕ, _≤_}
+use lib.ListN.{take}
+use Rattle.meaning.specs.Diagram.{Diagram}
+use Rattle.table.specs.Nodes.{diagramAt}
+use Rattle.table.specs.Indexed.{Table, size, nodesOf, Good}
+use Rattle.operate.specs.declared.Operation.{Operation}
+use Rattle.operate.specs.Operate.{result}
+use Rattle.verdict.specs.Check.{placedAll}
+use Rattle.conflict.specs.Members.{diagramsOf, Inside}
+
+-- t′ is t, maybe with more nodes.
+pub record Extended (t t′ : Table) : Type 0 where
+  pub good : Good t′
+  pub same-size : size t′ ≡ size t
+  pub more : t .count ≤ t′ .count
+  pub first : take (t .count) (nodesOf t′) ≡ nodesOf t
+
+-- The operation's results on the listed nodes and g.
+abbrev pub results : Operation → Table → List ℕ → ℕ → List Diagram
+results op t list g = map (λ f. result op f (diagramAt (nodesOf t) g)) (diagramsOf (nodesOf t) list)
+
+-- In the table t the diagrams `made` were placed in their order, up to the one that found no room; the table is then t′, and where all
+-- found room they are the diagrams of the list.
+pub record AllMade (t : Table) (made : List Diagram) (full : Bool) (t′ : Table) (list : List ℕ) : Type 0 where
+  pub extended : Extended t t′
+  pub places : placedAll (size t) (nodesOf t) made ≡ cond full none (some (nodesOf t′))
+  pub inside : full ≡ false → Inside (t′ .count) list
+  pub are : full ≡ false → diagramsOf (nodesOf t′) list ≡ made

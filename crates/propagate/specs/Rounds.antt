@@ -1,0 +1,31 @@
+-- What a propagation over a table leaves and says. No call open to others cites this file.
+use mathlib.Core.Path.{_≡_}
+use mathlib.Core.Bool.{false, not}
+use mathlib.Core.List.{List}
+use Prim.Native.Nat.{ℕ, _-_, _≤_, _<_}
+use Rattle.meaning.specs.Diagram.{Diagram}
+use Rattle.meaning.specs.Rules.{conflicts, Propagation, still, propagate}
+use Rattle.table.specs.Indexed.{Table, size, nodesOf}
+use Rattle.verdict.specs.Check.{placedAll, isSome}
+use Rattle.propagate.specs.declared.Propagated.{Propagated}
+use Rattle.propagate.specs.declared.Next.{Next}
+use Rattle.propagate.specs.declared.Next.the-variants.{End, By}
+use Rattle.propagate.specs.Units.{Taken}
+use Rattle.propagate.specs.Made.{Extended}
+
+-- The rounds that may still come after so many.
+abbrev pub roundsLeft : ℕ → ℕ
+roundsLeft rounds = 64 - rounds
+
+-- What comes after so many rounds: the end, with or without a conflict, or a round by the units given.
+abbrev pub Comes : List Diagram → ℕ → Next → Type 0
+Comes ms rounds (End conflict) = propagate (roundsLeft rounds) 64 ms ≡ still conflict
+Comes ms rounds (By u) = (rounds < 64) × (conflicts 64 ms ≡ false) × Taken ms (u .positive) (u .negative)
+
+-- The propagation p over the table t: `full` exactly where what it makes finds no room, else its conflict and its rounds.
+pub record Said (t : Table) (p : Propagation) (r : Propagated) (t′ : Table) : Type 0 where
+  pub extended : Extended t t′
+  pub fits : isSome (placedAll (size t) (nodesOf t) (p .made)) ≡ not (r .full)
+  pub conflict : r .full ≡ false → r .conflict ≡ p .conflict
+  pub rounds : r .full ≡ false → r .rounds ≡ p .rounds
+  pub most : r .rounds ≤ 64

@@ -1,0 +1,202 @@
+// Unit propagation over a list of nodes.
+use operate::Operation;
+use table::NodeNo;
+use units::Units;
+ghost use mathlib.Core.Path.{_≡_};
+ghost use Prim.Native.Nat.{_≤_, _<_};
+ghost use lib.ListN.{length};
+ghost use Rattle.meaning.specs.Rules.{unitProp};
+ghost use Rattle.table.specs.Indexed.{tableOf, nodesOf};
+ghost use Rattle.walks.specs.Readable.{Readable, nodesIn};
+ghost use Rattle.operate.specs.Inner.{Allowed};
+ghost use Rattle.conflict.specs.Members.{diagramsOf, Inside, ListReady};
+ghost use Rattle.conflict.specs.Marks.{unmarked};
+ghost use Rattle.propagate.specs.Made.{results, AllMade};
+ghost use Rattle.propagate.specs.Units.{AreFirst};
+ghost use Rattle.propagate.specs.Rounds.{Comes, Said};
+
+// What making diagrams in their order gives: `full` where one of them found no room, and the count.
+pub struct Made {
+    pub full: bool,
+    pub count: usize,
+}
+
+// Replaces each listed node, in order, by the operation's result on it and g, or stops at `full`.
+pub fn all_by(
+    vars: &mut [u8],
+    lows: &mut [u16],
+    highs: &mut [u16],
+    heads: &mut [u16],
+    links: &mut [u16],
+    memo: &mut [u64],
+    list: &mut [u16],
+    count: usize,
+    op: Operation,
+    g: NodeNo,
+) -> Made
+    requires { ⌜ ListReady (tableOf (now vars) (now lows) (now highs) (now heads) (now links) count) (now list) (now memo) × (g .0 < count) × Allowed op (g .0) ⌝ }
+    ensures { λ r. ⌜ AllMade (tableOf (now (vars .entry)) (now (lows .entry)) (now (highs .entry)) (now (heads .entry)) (now (links .entry)) count) (results op (tableOf (now (vars .entry)) (now (lows .entry)) (now (highs .entry)) (now (heads .entry)) (now (links .entry)) count) (now (list .entry)) (g .0)) (r .full) (tableOf (now (vars .exit)) (now (lows .exit)) (now (highs .exit)) (now (heads .exit)) (now (links .exit)) (r .count)) (now (list .exit)) ⌝ }
+{
+    operate::clear_memo(memo);
+    let mut n = count;
+    let mut i: usize = 0;
+    while i < list.len() {
+        let f = NodeNo(list[i]);
+        let p = operate::apply(vars, lows, highs, heads, links, memo, n, op, f, g);
+        n = p.count;
+        if p.full {
+            return Made {
+                full: true,
+                count: n,
+            };
+        }
+        let k = p.node;
+        list[i] = k.0;
+        i += 1;
+    }
+    Made {
+        full: false,
+        count: n,
+    }
+}
+
+// The units of the first member that has any.
+pub enum FirstUnits {
+    Of(Units),
+    Nothing,
+}
+
+pub fn first_units(
+    vars: &[u8],
+    lows: &[u16],
+    highs: &[u16],
+    memo: &mut [u64],
+    count: usize,
+    list: &[u16],
+) -> FirstUnits
+    requires { ⌜ Readable (now vars) (now lows) (now highs) count × Inside count (now list) × (3 ≤ length (now memo)) ⌝ }
+    ensures { λ r. ⌜ AreFirst (diagramsOf (nodesIn (now (vars .entry)) (now (lows .entry)) (now (highs .entry)) count) (now (list .entry))) r ⌝ }
+{
+    walks::clear_memo(memo);
+    let mut i: usize = 0;
+    while i < list.len() {
+        let member = NodeNo(list[i]);
+        let u = units::units_from(vars, lows, highs, memo, count, member);
+        if u.positive != 0 || u.negative != 0 {
+            return FirstUnits::Of(u);
+        }
+        i += 1;
+    }
+    FirstUnits::Nothing
+}
+
+// What a propagation says: `full` where a node found no room, else whether it conflicts, and its rounds; and the count.
+pub struct Propagated {
+    pub full: bool,
+    pub conflict: bool,
+    pub rounds: u32,
+    pub count: usize,
+}
+
+// What comes next in a propagation: its end, or a round by the units.
+pub enum Next {
+    End(bool),
+    By(Units),
+}
+
+// What comes after so many rounds.
+fn next_round(
+    vars: &[u8],
+    lows: &[u16],
+    highs: &[u16],
+    heads: &[u16],
+    links: &[u16],
+    memo: &mut [u64],
+    marks: &mut [u8],
+    count: usize,
+    list: &[u16],
+    rounds: u32,
+) -> Next
+    requires { ⌜ ListReady (tableOf (now vars) (now lows) (now highs) (now heads) (now links) count) (now list) (now memo) × (now marks ≡ unmarked (length (now vars))) × (rounds ≤ 64) ⌝ }
+    ensures { λ r. ⌜ Comes (diagramsOf (nodesOf (tableOf (now (vars .entry)) (now (lows .entry)) (now (highs .entry)) (now (heads .entry)) (now (links .entry)) count)) (now (list .entry))) rounds r ⌝ }
+    ensures { λ _. ⌜ now (marks .exit) ≡ unmarked (length (now (vars .entry))) ⌝ }
+{
+    if conflict::conflicts(vars, lows, highs, heads, links, memo, marks, count, list) {
+        return Next::End(true);
+    }
+    if rounds == 64 {
+        return Next::End(false);
+    }
+    match first_units(vars, lows, highs, memo, count, list) {
+        FirstUnits::Of(u) => Next::By(u),
+        FirstUnits::Nothing => Next::End(false),
+    }
+}
+
+// UnitProp of the listed nodes: round by round all are replaced by their cofactors by the units of the first that has any.
+pub fn unit_prop(
+    vars: &mut [u8],
+    lows: &mut [u16],
+    highs: &mut [u16],
+    heads: &mut [u16],
+    links: &mut [u16],
+    memo: &mut [u64],
+    marks: &mut [u8],
+    list: &mut [u16],
+    count: usize,
+) -> Propagated
+    requires { ⌜ ListReady (tableOf (now vars) (now lows) (now highs) (now heads) (now links) count) (now list) (now memo) × (now marks ≡ unmarked (length (now vars))) ⌝ }
+    ensures { λ r. ⌜ Said (tableOf (now (vars .entry)) (now (lows .entry)) (now (highs .entry)) (now (heads .entry)) (now (links .entry)) count) (unitProp 64 (diagramsOf (nodesOf (tableOf (now (vars .entry)) (now (lows .entry)) (now (highs .entry)) (now (heads .entry)) (now (links .entry)) count)) (now (list .entry)))) r (tableOf (now (vars .exit)) (now (lows .exit)) (now (highs .exit)) (now (heads .exit)) (now (links .exit)) (r .count)) ⌝ }
+    ensures { λ _. ⌜ now (marks .exit) ≡ unmarked (length (now (vars .entry))) ⌝ }
+{
+    let mut n = count;
+    let mut rounds: u32 = 0;
+    loop {
+        match next_round(
+            vars,
+            lows,
+            highs,
+            heads,
+            links,
+            memo,
+            marks,
+            n,
+            list,
+            rounds,
+        ) {
+            Next::End(conflict) => {
+                return Propagated {
+                    full: false,
+                    conflict,
+                    rounds,
+                    count: n,
+                };
+            }
+            Next::By(u) => {
+                let op = Operation::Literals(u.positive, u.negative);
+                let made = all_by(
+                    vars,
+                    lows,
+                    highs,
+                    heads,
+                    links,
+                    memo,
+                    list,
+                    n,
+                    op,
+                    NodeNo(1),
+                );
+                n = made.count;
+                if made.full {
+                    return Propagated {
+                        full: true,
+                        conflict: false,
+                        rounds,
+                        count: n,
+                    };
+                }
+                rounds += 1;
+            }
+        }
+    }
+}
