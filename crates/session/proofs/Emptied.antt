@@ -22,7 +22,7 @@ map-blanks : (part : Node → ℕ) → part blank ≡ 0 → (k : ℕ) → map pa
 map-blanks part e zero = refl
 map-blanks part e (suc k) = ap₂ {B = List ℕ} (λ (x : ℕ) (xs : List ℕ). x ∷ xs) e (map-blanks part e k)
 
-abbrev columnsMade : List ℕ → List ℕ → List ℕ → Columns
+abbrev pub columnsMade : List ℕ → List ℕ → List ℕ → Columns
 columnsMade vs ls hs = record { vars = vs; lows = ls; highs = hs }
 
 pub columns-emptied : (s : ℕ) → 2 ≤ s → columnsOf (padded s emptied) ≡ columnsMade (zeros s) (zeros s) (zeros s)

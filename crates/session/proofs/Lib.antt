@@ -1,2 +1,5 @@
 pub mod Emptied
 pub mod Building
+pub mod Going
+pub mod Finish
+pub mod Sizes
