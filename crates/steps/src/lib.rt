@@ -49,7 +49,7 @@ fn end_step(st: State, more: bool) -> Step
 
 // The step that a record makes; `more` tells whether a byte follows it. Table, index, member list and scratch list are then the next
 // state's; a refused record leaves table, index and member list as they were. Marks are clear again.
-pub fn step(
+pub fn record_step(
     vars: &mut [u8],
     lows: &mut [u16],
     highs: &mut [u16],
