@@ -1,7 +1,7 @@
 -- Entries and their nodes as the scratch list holds them, and the tests of a node record in their order. Assumes nothing.
 use mathlib.Core.Path.{_≡_, refl, sym, ap, _∙_}
-use mathlib.Core.Bool.{Bool, true, false, not, _&&_, _||_}
-use mathlib.Core.List.{List, [], _∷_}
+use mathlib.Core.Bool.{Bool, true, false, not, _&&_}
+use mathlib.Core.List.{List, _∷_}
 use Prim.Native.Nat.{ℕ, zero, suc, _+_, _-_, _≤_, _<_}
 use native.Mathlib.Omega.{arith}
 use lib.ListN.{length, getD, take}
@@ -11,7 +11,7 @@ use borrow.Author.Tests.{ltb-true, eq-eqb, ne-eqb, le-leb, lt-leb}
 use Rattle.meaning.specs.Rules.{witnessed}
 use Rattle.meaning.specs.Words.{inWord}
 use Rattle.meaning.proofs.Booleans.{and-false}
-use Rattle.table.specs.Nodes.{Node, blank, at, above}
+use Rattle.table.specs.Nodes.{Node, blank, above}
 use Rattle.table.specs.Columns.{rows}
 use Rattle.table.specs.Indexed.{nodesOf}
 use Rattle.walks.specs.Readable.{nodesIn}

@@ -1,6 +1,6 @@
 -- Node records: a node without room leaves the table as it was; one that is placed is the next entry, and all that is held stays held.
 -- Assumes nothing.
-use mathlib.Core.Path.{_≡_, refl, sym, ap, ap₂, _∙_, subst}
+use mathlib.Core.Path.{_≡_, refl, sym, ap, _∙_, subst}
 use mathlib.Core.Bool.{Bool, true, false, cond}
 use mathlib.Core.List.{List, [], _∷_, _++_}
 use mathlib.Core.Option.{Option, none, some}
@@ -14,7 +14,7 @@ use borrow.Author.Tests.{ltb-true}
 use Rattle.meaning.specs.Diagram.{Diagram, branch}
 use Rattle.meaning.proofs.Canonical.{reduced-from, branch-reduced}
 use Rattle.table.specs.Nodes.{Node, nodeOf, at, diagramAt, Placing, full, placed, find, orAppend, put}
-use Rattle.table.specs.Indexed.{Table, size, nodesOf, indexed, Good, Outcome, written}
+use Rattle.table.specs.Indexed.{Table, size, nodesOf, indexed, Outcome, written}
 use Rattle.table.proofs.Order.{true-not-false, above-true, Ordered}
 use Rattle.table.proofs.Numbers.{UsesTo, reduced-from-to}
 use Rattle.table.proofs.Written.{nodes-indexed, length-nodes, good-ordered}
@@ -27,7 +27,7 @@ use Rattle.verdict.proofs.Uses.{UsesAfter, place-uses}
 use Rattle.conflict.specs.Members.{Inside}
 use Rattle.steps.specs.declared.State.{State}
 use Rattle.steps.specs.declared.Step.the-variants.{Next, Stop}
-use Rattle.steps.specs.States.{Lent, lentOf, tableIn, stateOf, withEntry, EntriesHeld, Held, Stepped}
+use Rattle.steps.specs.States.{Lent, lentOf, tableIn, stateOf, withEntry, Held, Stepped}
 use Rattle.steps.specs.Tests.{nodeRefusal}
 use Rattle.steps.proofs.Stops.{unless, unless-refused, unless-none, node-is, NodeFits, node-fits, stopped}
 use Rattle.steps.proofs.Entries.{entry-is, entry-in}
@@ -100,21 +100,20 @@ placed-goes : (st : check.State) (n s : ℕ) (p : Placing) → UsesAfter n p →
     → (entered st p ≡ next (entryMade st (written s p))) × UsesTo n (nodesOf (written s p .table))
 unfolding written entered
 placed-goes st n s (full t) u f = true-not-false f
-placed-goes st n s (placed t k) u f =
-    (
-      ap (λ (x : List Node). next (record {
-        nodes = x;
-        kept = st .kept;
-        members = st .members;
-        entries = st .entries ++ k ∷ [];
-        positive = st .positive;
-        negative = st .negative;
-        lines = st .lines;
-        rounds = st .rounds;
-        refuted = st .refuted;
-      })) (sym (nodes-indexed s t)),
-      subst (UsesTo n) (sym (nodes-indexed s t)) u,
-    )
+placed-goes st n s (placed t k) u f = (
+  ap (λ (x : List Node). next (record {
+    nodes = x;
+    kept = st .kept;
+    members = st .members;
+    entries = st .entries ++ k ∷ [];
+    positive = st .positive;
+    negative = st .negative;
+    lines = st .lines;
+    rounds = st .rounds;
+    refuted = st .refuted;
+  })) (sym (nodes-indexed s t)),
+  subst (UsesTo n) (sym (nodes-indexed s t)) u,
+)
 
 -- ---- the step
 

@@ -1,5 +1,5 @@
 -- Records that are refused, and those that change nothing lent: the definition's tests as one number, 0 where none refuses. Assumes nothing.
-use mathlib.Core.Path.{_≡_, refl, sym, ap, _∙_}
+use mathlib.Core.Path.{_≡_, refl, sym}
 use mathlib.Core.Bool.{Bool, true, false, not, _&&_, cond}
 use Prim.Native.Nat.{ℕ, _≤_, _<_}
 use lib.ListN.{length}
@@ -16,7 +16,7 @@ use Rattle.verdict.specs.Check as check
 use Rattle.verdict.specs.Check.{stop, isEntry, entryNode, isVariable, entered, nodeStep, waiting, judged, diagramIn, lineStep, endStep}
 use Rattle.steps.specs.declared.State.{State}
 use Rattle.steps.specs.declared.Step.the-variants.{Stop}
-use Rattle.steps.specs.States.{Lent, stateOf, Stepped}
+use Rattle.steps.specs.States.{Lent, Stepped}
 use Rattle.steps.specs.Tests.{nodeRefusal, lineRefusal, lineOf}
 
 -- The lent lists are as they were.

@@ -1,11 +1,11 @@
 -- Witness records: refused, or the next state with one variable more. Assumes nothing.
-use mathlib.Core.Path.{_≡_, refl, sym, ap, ap₂, _∙_, subst}
-use mathlib.Core.Bool.{Bool, true, false, not, _||_, or-true}
+use mathlib.Core.Path.{_≡_, sym, ap₂, _∙_, subst}
+use mathlib.Core.Bool.{Bool, true, false, not, or-true}
 use Prim.Native.Nat.{ℕ, _≤_, _<_}
 use borrow.Author.Tests.{le-leb, lt-leb}
 use Rattle.meaning.specs.Words.{inWord}
 use Rattle.verdict.specs.Check as check
-use Rattle.verdict.specs.Check.{next, stop, isVariable, withVariable, witnessStep}
+use Rattle.verdict.specs.Check.{next, isVariable, withVariable, witnessStep}
 use Rattle.steps.specs.declared.State.{State}
 use Rattle.steps.specs.declared.Step.the-variants.{Next, Stop}
 use Rattle.steps.specs.States.{Lent, stateOf, withWitness, Held, Stepped}

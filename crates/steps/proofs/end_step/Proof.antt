@@ -1,14 +1,10 @@
 -- `end_step`: each way out is one law of Stops. Assumes nothing.
-use mathlib.Core.Path.{_≡_, refl, sym, ap, _∙_, subst}
 use borrow.Author.Needs.{needs}
-use Rattle.verdict.specs.Check.{endStep}
 use Rattle.steps.specs.States.{stateOf}
 use Rattle.steps.proofs.Entries.{waits-is}
 use Rattle.steps.proofs.Stops.{stopped, end-16, end-11, end-0, end-20}
 use Rattle.steps.proofs.end_step.Statement.{statement}
 use Rattle.steps.proofs.end_step.Tie as tie
-
-
 
 waits-requires : tie.Need-waits-requires
 waits-requires c κs = search needs

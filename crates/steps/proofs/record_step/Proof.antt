@@ -1,11 +1,6 @@
 -- `record_step`: the step of the record's kind. Assumes nothing.
-use mathlib.Core.Path.{_≡_, refl, sym, ap, _∙_, subst}
-use mathlib.Core.List.{List, [], _∷_}
-use Prim.Native.Nat.{ℕ, _+_, _-_, _*_, _^_, _≤_, _<_}
-use native.Mathlib.Omega.{arith}
-use lib.ListN.{length}
 use borrow.Author.Needs.{needs}
-use Rattle.steps.specs.States.{Lent, lentOf, Held}
+use Rattle.steps.specs.States.{Lent, lentOf}
 use Rattle.steps.proofs.Lines.{held-64}
 use Rattle.steps.proofs.Records.{as-node, as-witness, as-line, as-end, cut-short, unknown-kind, no-record}
 use Rattle.steps.proofs.record_step.Statement.{statement}

@@ -1,10 +1,6 @@
--- `refutes`: assumes nothing.
-use borrow.Author.Tests.{eq-eqb, ne-eqb}
-use borrow.Author.Needs.{needs}
+-- `refutes` is the "or" of the two. Assumes nothing.
 use Rattle.steps.proofs.line.refutes.Statement.{statement}
 use Rattle.steps.proofs.line.refutes.Tie as tie
-
-
 
 returns : tie.Need-returns
 returns c = rw (c .if1 .taken)

@@ -1,14 +1,10 @@
 -- `with_line` counts the line and its rounds. Assumes nothing.
-use mathlib.Core.Path.{_≡_, refl, sym, ap, _∙_, subst}
-use mathlib.Core.Bool.{Bool, true, false, not}
-use Prim.Native.Nat.{ℕ, _+_, _-_, _*_, _^_, _≤_, _<_}
-use native.Mathlib.Omega.{arith}
+use mathlib.Core.Path.{ap}
+use mathlib.Core.Bool.{Bool}
+use Prim.Native.Nat.{_+_}
 use borrow.Author.Needs.{needs}
-use Rattle.steps.specs.declared.State.{State}
 use Rattle.steps.proofs.line.with_line.Statement.{statement}
 use Rattle.steps.proofs.line.with_line.Tie as tie
-
-
 
 refutes-requires : tie.Need-refutes-requires
 refutes-requires c κs = search needs
@@ -23,7 +19,7 @@ add-t7 : tie.Need-add-t7
 add-t7 c = search needs
 
 returns : tie.Need-returns
-returns c = 
+returns c =
     let s = c .before .before .before .before .args in
     ap (λ (b : Bool). record {
       count = s .st .count;

@@ -1,13 +1,12 @@
 -- `node_refusal`: each way out is one law of Entries. Assumes nothing.
-use mathlib.Core.Path.{_≡_, refl, sym, ap, _∙_, subst}
-use mathlib.Core.Bool.{Bool, true, false, not}
+use mathlib.Core.Path.{_≡_, sym, _∙_, subst}
+use mathlib.Core.Bool.{true, false}
 use mathlib.Core.List.{List, [], _∷_}
-use Prim.Native.Nat.{ℕ, _+_, _-_, _*_, _^_, _≤_, _<_}
+use Prim.Native.Nat.{ℕ, _+_, _≤_, _<_}
 use native.Mathlib.Omega.{arith}
 use lib.ListN.{length, getD, take}
 use lib.Dec.{leb}
 use borrow.Author.Tests.{not-true, not-false, ltb-true}
-use borrow.Author.Needs.{needs}
 use Rattle.verdict.specs.Check as check
 use Rattle.verdict.specs.Check.{isVariable, isEntry}
 use Rattle.steps.specs.States.{Lent, lentOf, stateOf}

@@ -1,17 +1,15 @@
 -- `node_step`: the ways out are laws of Nodes. Assumes nothing.
-use mathlib.Core.Path.{_≡_, refl, sym, ap, ap₂, _∙_, subst}
-use mathlib.Core.Bool.{Bool, true, false, not}
-use mathlib.Core.List.{List, [], _∷_}
-use Prim.Native.Nat.{ℕ, _+_, _-_, _*_, _^_, _≤_, _<_}
+use mathlib.Core.Path.{_≡_, refl, sym, ap₂, _∙_}
+use mathlib.Core.List.{List, []}
+use Prim.Native.Nat.{ℕ, _+_, _≤_, _<_}
 use native.Mathlib.Omega.{arith}
-use lib.ListN.{length, getD, take, length-set}
-use borrow.Author.Needs.{needs}
+use lib.ListN.{length, length-set}
 use Rattle.table.specs.Nodes.{put}
 use Rattle.table.specs.Indexed.{Table, tableOf, size, nodesOf, Outcome, outcomeOf, written}
 use Rattle.walks.proofs.Here.{good-readable}
 use Rattle.verdict.specs.Check as check
 use Rattle.verdict.specs.Check.{entryNode}
-use Rattle.steps.specs.States.{Lent, lentOf, stateOf, Held}
+use Rattle.steps.specs.States.{Lent, lentOf, stateOf}
 use Rattle.steps.specs.Tests.{nodeRefusal}
 use Rattle.steps.proofs.Stops.{NodeFits, node-fits}
 use Rattle.steps.proofs.Entries.{node-is-at}

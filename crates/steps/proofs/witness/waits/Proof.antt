@@ -3,8 +3,6 @@ use borrow.Author.Tests.{eq-eqb, ne-eqb}
 use Rattle.steps.proofs.witness.waits.Statement.{statement}
 use Rattle.steps.proofs.witness.waits.Tie as tie
 
-
-
 returns : tie.Need-returns
 returns c = rw (eq-eqb _ _ (c .if1 .taken))
 

@@ -1,14 +1,12 @@
 -- `with_variable` adds a bit that is clear. Assumes nothing.
-use mathlib.Core.Path.{_≡_, refl, sym, ap, _∙_, subst}
-use Prim.Native.Nat.{ℕ, _+_, _-_, _*_, _^_, _≤_, _<_}
+use mathlib.Core.Path.{ap}
+use Prim.Native.Nat.{ℕ, _+_, _^_, _<_}
 use native.Mathlib.Omega.{arith}
 use borrow.Author.Needs.{needs}
 use Rattle.units.proofs.Bits.{one-shifted}
 use Rattle.steps.proofs.Bits.{add-fits}
 use Rattle.steps.proofs.witness.with_variable.Statement.{statement}
 use Rattle.steps.proofs.witness.with_variable.Tie as tie
-
-
 
 sub-i : tie.Need-sub-i
 sub-i c = search needs

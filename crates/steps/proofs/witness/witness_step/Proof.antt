@@ -1,10 +1,9 @@
 -- `witness_step`: each way out is one law of Witnesses. Assumes nothing.
-use mathlib.Core.Path.{_≡_, refl, sym, ap, _∙_, subst}
-use mathlib.Core.Bool.{Bool, true, false, not}
-use Prim.Native.Nat.{ℕ, _+_, _-_, _*_, _^_, _≤_, _<_}
+use mathlib.Core.Path.{sym, ap, _∙_}
+use mathlib.Core.Bool.{Bool, not}
+use Prim.Native.Nat.{_≤_}
 use native.Mathlib.Omega.{arith}
 use borrow.Author.Needs.{needs}
-use Rattle.meaning.specs.Words.{inWord}
 use Rattle.verdict.specs.Check.{withVariable}
 use Rattle.steps.proofs.Witnesses.{is-variable, variable-zero, variable-beyond, refused-12, refused-15, refused-15-negative, witness-taken}
 use Rattle.steps.proofs.witness.witness_step.Statement.{statement}
@@ -40,7 +39,7 @@ with-witness-requires : tie.Need-with-witness-requires
 with-witness-requires c κs = search needs
 
 returns-5 : tie.Need-returns-5
-returns-5 c = 
+returns-5 c =
     let a = c .before .before .before .before .before .before .before .before .before .args in
     λ l H. witness-taken _ _ _ _ _ H (is-variable _ _ (is-one (c .before .before .before .before .before .before .before)) (c .before .before .before .before .before .before .before .if2 .left)) (sym (c .before .before .before .before .before .before .in-word .ensures) ∙ c .before .before .before .before .before .if3 .left)
     (sym (c .before .before .before .before .in-word2 .ensures) ∙ c .before .before .before .if4 .left) _ _ (c .with-witness .result) (c .with-witness .ensures)
@@ -54,7 +53,7 @@ with-witness-requires-2 : tie.Need-with-witness-requires-2
 with-witness-requires-2 c κs = search needs
 
 returns-6 : tie.Need-returns-6
-returns-6 c = 
+returns-6 c =
     let a = c .before .before .before .before .before .before .before .before .before .args in
     λ l H. witness-taken _ _ _ _ _ H (is-variable _ _ (is-one (c .before .before .before .before .before .before .before)) (c .before .before .before .before .before .before .before .if2 .left)) (sym (c .before .before .before .before .before .before .in-word .ensures) ∙ c .before .before .before .before .before .if3 .left)
     (sym (c .before .before .before .before .in-word2 .ensures) ∙ c .before .before .before .if4 .left) _ _ (c .with-witness2 .result) (c .with-witness2 .ensures)
