@@ -7,9 +7,9 @@ ghost use Rattle.verdict.specs.Check.{endStep, step};
 ghost use Rattle.conflict.specs.Marks.{unmarked};
 ghost use Rattle.steps.specs.States.{Lent, lentOf, stateOf, Held, Stepped};
 
-pub mod line;
-pub mod node;
-pub mod witness;
+mod line;
+mod node;
+mod witness;
 
 // The state between records: the table's count, how many nodes stay if the line is not accepted, the numbers of members and of the
 // line's entries, the witness as two words, the accepted lines, their rounds, and whether one of them is the 0 diagram.
@@ -49,7 +49,7 @@ fn end_step(st: State, more: bool) -> Step
 
 // The step that a record makes; `more` tells whether a byte follows it. Table, index, member list and scratch list are then the next
 // state's; a refused record leaves table, index and member list as they were. Marks are clear again.
-pub fn step(
+pub fn record_step(
     vars: &mut [u8],
     lows: &mut [u16],
     highs: &mut [u16],
@@ -69,9 +69,32 @@ pub fn step(
     ensures { λ _. ⌜ now (marks .exit) ≡ unmarked (length (now (vars .entry))) ⌝ }
 {
     match r {
-        Record::NodeEntry(b) => node::node_step(vars, lows, highs, heads, links, scratch, st, variables, b),
+        Record::NodeEntry(b) => node::node_step(
+            vars,
+            lows,
+            highs,
+            heads,
+            links,
+            scratch,
+            st,
+            variables,
+            b,
+        ),
         Record::Witness(v, value) => witness::witness_step(st, variables, v, value),
-        Record::ProofLine(rule, root) => line::line_step(vars, lows, highs, heads, links, memo, marks, members, scratch, st, rule, root),
+        Record::ProofLine(rule, root) => line::line_step(
+            vars,
+            lows,
+            highs,
+            heads,
+            links,
+            memo,
+            marks,
+            members,
+            scratch,
+            st,
+            rule,
+            root,
+        ),
         Record::End => end_step(st, more),
         Record::CutShort => Step::Stop(10, 0),
         Record::UnknownKind => Step::Stop(9, 0),

@@ -6,7 +6,7 @@ use table::NodeNo;
 ghost use mathlib.Core.Path.{_≡_};
 ghost use mathlib.Core.Bool.{_||_};
 ghost use mathlib.Core.List.{List};
-ghost use Prim.Native.Nat.{ℕ, _+_, _*_, _≤_, _<_};
+ghost use Prim.Native.Nat.{ℕ, _+_, _*_, _≤_};
 ghost use lib.ListN.{length, take};
 ghost use lib.Dec.{eqb};
 ghost use Rattle.table.specs.Indexed.{tableOf};
@@ -57,7 +57,17 @@ fn line_refusal(
             if g.0 == 1 {
                 return 17;
             }
-            if !walks::is_constant(vars, lows, highs, memo, st.count, g, st.positive, st.negative, true) {
+            if !walks::is_constant(
+                vars,
+                lows,
+                highs,
+                memo,
+                st.count,
+                g,
+                st.positive,
+                st.negative,
+                true,
+            ) {
                 return 18;
             }
             0
@@ -86,10 +96,38 @@ fn judge_line(
 {
     let m = st.members;
     match rule {
-        Rule::Rup => judge::rup(vars, lows, highs, heads, links, memo, marks, &members[..m], &mut scratch[..m], st.count, g),
+        Rule::Rup => judge::rup(
+            vars,
+            lows,
+            highs,
+            heads,
+            links,
+            memo,
+            marks,
+            &members[..m],
+            &mut scratch[..m],
+            st.count,
+            g,
+        ),
         Rule::Pr => {
+            // Two parts of the scratch list cannot be lent at once.
             let mut second = [0u16; 2048];
-            judge::pr(vars, lows, highs, heads, links, memo, marks, &members[..m], &mut scratch[..m], &mut second[..m], st.count, g, st.positive, st.negative)
+            judge::pr(
+                vars,
+                lows,
+                highs,
+                heads,
+                links,
+                memo,
+                marks,
+                &members[..m],
+                &mut scratch[..m],
+                &mut second[..m],
+                st.count,
+                g,
+                st.positive,
+                st.negative,
+            )
         }
     }
 }
@@ -147,7 +185,20 @@ pub fn line_step(
         return crate::Step::Stop(number, 0);
     }
     let g = crate::node::entry_node(scratch, st.entries, root);
-    let j = judge_line(vars, lows, highs, heads, links, memo, marks, members, scratch, st, rule, g);
+    let j = judge_line(
+        vars,
+        lows,
+        highs,
+        heads,
+        links,
+        memo,
+        marks,
+        members,
+        scratch,
+        st,
+        rule,
+        g,
+    );
     table::drop_to(vars, lows, highs, heads, links, j.count, st.count);
     if j.full {
         return crate::Step::Stop(23, 0);
