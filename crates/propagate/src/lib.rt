@@ -21,7 +21,7 @@ pub struct Made {
     pub count: usize,
 }
 
-// Replaces each listed node, in order, by the operation's result on it and g, or stops at `full`.
+// Replaces each listed node, in order, by the operation's result on it and g, or stops at `full`. One memo, cleared, serves all.
 pub fn all_by(
     vars: &mut [u8],
     lows: &mut [u16],
@@ -60,12 +60,13 @@ pub fn all_by(
     }
 }
 
-// The units of the first member that has any.
+// The units by which a round cofactors, if there are any.
 pub enum FirstUnits {
     Of(Units),
     Nothing,
 }
 
+// The units of the first listed node that has any. Clears the memo.
 pub fn first_units(
     vars: &[u8],
     lows: &[u16],
@@ -78,14 +79,14 @@ pub fn first_units(
     ensures { λ r. ⌜ AreFirst (diagramsOf (nodesIn (now (vars .entry)) (now (lows .entry)) (now (highs .entry)) count) (now (list .entry))) r ⌝ }
 {
     walks::clear_memo(memo);
-    let mut i: usize = 0;
-    while i < list.len() {
-        let member = NodeNo(list[i]);
+    let mut place: usize = 0;
+    while place < list.len() {
+        let member = NodeNo(list[place]);
         let u = units::units_from(vars, lows, highs, memo, count, member);
         if u.positive != 0 || u.negative != 0 {
             return FirstUnits::Of(u);
         }
-        i += 1;
+        place += 1;
     }
     FirstUnits::Nothing
 }

@@ -19,12 +19,12 @@ use Rattle.propagate.proofs.first_units.Statement.{statement}
 use Rattle.propagate.proofs.first_units.Tie as tie
 
 abbrev Inv-loop : tie.InvT-loop
-Inv-loop vars lows highs memo₀ count list i₀ memo i =
-    (length memo ≡ length memo₀) × (i ≤ length list) × UnitsMemo memo (nodesIn vars lows highs count)
-    × (firstWithUnit 64 (diagramsOf (nodesIn vars lows highs count) list) ≡ firstWithUnit 64 (diagramsOf (nodesIn vars lows highs count) (drop i list)))
+Inv-loop vars lows highs memo₀ count list place₀ memo place =
+    (length memo ≡ length memo₀) × (place ≤ length list) × UnitsMemo memo (nodesIn vars lows highs count)
+    × (firstWithUnit 64 (diagramsOf (nodesIn vars lows highs count) list) ≡ firstWithUnit 64 (diagramsOf (nodesIn vars lows highs count) (drop place list)))
 
 abbrev μ-loop : tie.MeasureT-loop
-μ-loop vars lows highs memo₀ count list i₀ memo i = length list - i
+μ-loop vars lows highs memo₀ count list place₀ memo place = length list - place
 
 -- src/lib.rt:71:5
 clear-memo-requires : tie.Need-clear-memo-requires Inv-loop μ-loop
@@ -50,7 +50,7 @@ units-from-requires c κs =
     let a = c .before .before .before .before .before .before .before .before .before .before .before .before .before .args in
     let r = c .before .before .before .before .before .before .before .before .before .before .before .before .before .pre in
     let w = c .before .before .before .loop in
-    ((r .0, r .1 (w .i) (c .before .before .loop-test .taken), omega (arith, w .inv .0, c .before .before .before .before .before .before .clear-memo .kept .0, r .2)), w .inv .2)
+    ((r .0, r .1 (w .place) (c .before .before .loop-test .taken), omega (arith, w .inv .0, c .before .before .before .before .before .before .clear-memo .kept .0, r .2)), w .inv .2)
 
 -- src/lib.rt:77:13
 same-length : tie.Need-same-length Inv-loop μ-loop
@@ -63,14 +63,14 @@ returns c =
     let r = c .before .before .before .before .before .before .before .before .before .before .before .before .before .before .before .before .before .before .pre in
     let w = c .before .before .before .before .before .before .before .before .loop in
     let y = c .before .before .before .before .units-from in
-    let some-unit : hasUnit 64 64 (diagramAt (nodesIn (a .vars .now) (a .lows .now) (a .highs .now) (a .count)) (getD (a .list .now) (w .i) 0)) ≡ true =
-    words-some (nodesIn (a .vars .now) (a .lows .now) (a .highs .now) (a .count)) (getD (a .list .now) (w .i) 0) (y .result .positive) (y .result .negative) (y .ensures .0) (omega (arith, c .before .struct-known .given)) (omega (arith, c .before .struct-known .given))
+    let some-unit : hasUnit 64 64 (diagramAt (nodesIn (a .vars .now) (a .lows .now) (a .highs .now) (a .count)) (getD (a .list .now) (w .place) 0)) ≡ true =
+    words-some (nodesIn (a .vars .now) (a .lows .now) (a .highs .now) (a .count)) (getD (a .list .now) (w .place) 0) (y .result .positive) (y .result .negative) (y .ensures .0) (omega (arith, c .before .struct-known .given)) (omega (arith, c .before .struct-known .given))
     (λ z. ⊎-elim (λ s. s .taken (z .0)) (λ s. eqb-false _ _ (not-true _ (s .2 .taken)) (z .1)) (c .if1 .came)) in
-    first-here (nodesIn (a .vars .now) (a .lows .now) (a .highs .now) (a .count)) (a .list .now) (w .i) (c .before .before .before .before .before .before .before .loop-test .taken) (w .inv .3) some-unit (y .result .positive) (y .result .negative) (y .ensures .0)
+    first-here (nodesIn (a .vars .now) (a .lows .now) (a .highs .now) (a .count)) (a .list .now) (w .place) (c .before .before .before .before .before .before .before .loop-test .taken) (w .inv .3) some-unit (y .result .positive) (y .result .negative) (y .ensures .0)
 
 -- src/lib.rt:79:9
-add-i : tie.Need-add-i Inv-loop μ-loop
-add-i c = search needs
+add-place : tie.Need-add-place Inv-loop μ-loop
+add-place c = search needs
 
 -- src/lib.rt:73:5
 loop-less : tie.Need-loop-less Inv-loop μ-loop
@@ -86,7 +86,7 @@ loop-again c =
       y .kept .1 .1 .1 .0 ∙ w .inv .0,
       omega (arith, c .before .before .before .before .before .before .before .before .before .loop-test .taken),
       y .ensures .1,
-      w .inv .3 ∙ first-later (nodesIn (a .vars .now) (a .lows .now) (a .highs .now) (a .count)) (a .list .now) (w .i) (c .before .before .before .before .before .before .before .before .before .loop-test .taken) (words-empty (nodesIn (a .vars .now) (a .lows .now) (a .highs .now) (a .count)) _ _ _ (y .ensures .0) (c .before .before .if1 .left) (eqb-true _ _ (not-false _ (c .if2 .left)))),
+      w .inv .3 ∙ first-later (nodesIn (a .vars .now) (a .lows .now) (a .highs .now) (a .count)) (a .list .now) (w .place) (c .before .before .before .before .before .before .before .before .before .loop-test .taken) (words-empty (nodesIn (a .vars .now) (a .lows .now) (a .highs .now) (a .count)) _ _ _ (y .ensures .0) (c .before .before .if1 .left) (eqb-true _ _ (not-false _ (c .if2 .left)))),
     )
 
 -- src/lib.rt:60:1
@@ -99,7 +99,7 @@ returns-2 c =
     let a = c .before .before .before .before .before .before .before .before .before .before .before .args in
     let r = c .before .before .before .before .before .before .before .before .before .before .before .pre in
     let w = c .before .loop in
-    w .inv .3 ∙ first-none (nodesIn (a .vars .now) (a .lows .now) (a .highs .now) (a .count)) (a .list .now) (w .i) (omega (arith, c .loop-test .left))
+    w .inv .3 ∙ first-none (nodesIn (a .vars .now) (a .lows .now) (a .highs .now) (a .count)) (a .list .now) (w .place) (omega (arith, c .loop-test .left))
 
 pub first-units-spec : {M : Type 1} → statement M
 first-units-spec =
@@ -114,7 +114,7 @@ first-units-spec =
     units-from-requires
     same-length
     returns
-    add-i
+    add-place
     loop-less
     loop-again
     same-length-2
