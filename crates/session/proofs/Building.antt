@@ -8,12 +8,11 @@ use native.Mathlib.Omega.{arith}
 use native.Mathlib.Decide.{ℕ-discrete}
 use lib.ListN.{length, getD, set, take, length-set}
 use lib.Seq.{take-suc-set, getD-set-same, getD-set-other}
-use Rattle.meaning.specs.Diagram.{Diagram, Reduced}
+use Rattle.meaning.specs.Diagram.{Reduced}
 use Rattle.meaning.specs.Operations as meaning
 use Rattle.meaning.proofs.Values.{diagram-reduced, reduced-to}
-use Rattle.meaning.proofs.Clauses.{Within}
 use Rattle.table.specs.Nodes.{Node, Placing, full, placed, place}
-use Rattle.table.specs.Indexed.{Table, size, nodesOf, Good, Outcome, written}
+use Rattle.table.specs.Indexed.{Table, size, nodesOf, Outcome, written}
 use Rattle.table.proofs.Order.{true-not-false}
 use Rattle.table.proofs.Numbers.{UsesTo}
 use Rattle.table.proofs.Written.{nodes-indexed}

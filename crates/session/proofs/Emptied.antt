@@ -1,10 +1,10 @@
 -- The emptied table: columns and index of zeros are the table that holds the two constants alone, and it is good. The idea: a place
 -- that holds no node holds zeros, and an index of no nodes is zeros. Assumes nothing.
-use mathlib.Core.Path.{_≡_, refl, sym, ap, ap₂, _∙_, subst}
-use mathlib.Core.List.{List, [], _∷_, map}
+use mathlib.Core.Path.{_≡_, refl, sym, ap, ap₂, subst}
+use mathlib.Core.List.{List, _∷_, map}
 use Prim.Native.Nat.{ℕ, zero, suc, _-_, _*_, _≤_}
 use native.Mathlib.Omega.{arith}
-use lib.ListN.{length, getD, replicate}
+use lib.ListN.{getD, replicate}
 use Rattle.table.specs.Nodes.{Node, blank}
 use Rattle.table.specs.Columns.{padded, Columns, columnsOf}
 use Rattle.table.specs.Indexed.{Table, tableOf, size, indexed, indexFrom, Good}

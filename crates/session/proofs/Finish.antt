@@ -1,17 +1,17 @@
 -- What is left at the end: the emptied lists of a refused formula, and the table with only the nodes that stay of a proof that was
 -- judged, are the definition's outcome. The idea: a table that is written out has its nodes' columns. Assumes nothing.
 use mathlib.Core.Path.{_≡_, refl, sym, ap, ap₂, _∙_, subst}
-use mathlib.Core.Bool.{Bool, true, false, _&&_}
-use mathlib.Core.List.{List, [], _∷_, _++_}
-use Prim.Native.Nat.{ℕ, zero, suc, _+_, _-_, _*_, _≤_, _<_}
+use mathlib.Core.Bool.{true, false, _&&_}
+use mathlib.Core.List.{List, [], _++_}
+use Prim.Native.Nat.{ℕ, suc, _+_, _-_, _*_, _≤_}
 use native.Mathlib.Omega.{arith}
-use lib.ListN.{length, getD, take, drop, length-append, length-replicate, length-drop, take-append-drop}
+use lib.ListN.{length, getD, take, drop, length-replicate, length-drop, take-append-drop}
 use lib.Seq.{length-take-le, getD-take, getD-drop, ext-getD}
 use lib.Dec.{leb}
 use borrow.Author.Tests.{leb-true}
 use Rattle.table.specs.Nodes.{Node}
 use Rattle.table.specs.Columns.{sizeFits, padded, Columns, columnsOf}
-use Rattle.table.specs.Indexed.{Table, tableOf, size, nodesOf, indexed, Good}
+use Rattle.table.specs.Indexed.{Table, tableOf, size, nodesOf, indexed}
 use Rattle.table.proofs.Order.{and-parts}
 use Rattle.table.proofs.Written.{count-indexed, length-nodes}
 use Rattle.table.proofs.IndexOrder.{Sized, sized}
@@ -19,7 +19,6 @@ use Rattle.dimacs.specs.declared.Header.the-variants.{Proper, Improper}
 use Rattle.dimacs.specs.Header.{header}
 use Rattle.dimacs.specs.Clauses.{clausesFrom}
 use Rattle.dimacs.proofs.Bounds.{HeaderIn, header-in}
-use Rattle.conflict.specs.Members.{Inside}
 use Rattle.verdict.specs.Check as check
 use Rattle.verdict.specs.Check.{emptied, zeros, begun, Verdict, left, records, refusedFormula, clauses, verdict, Outcome, lentFits, outcome}
 use Rattle.steps.specs.declared.State.{State}

@@ -1,19 +1,12 @@
 -- The records read one by one: what the whole proof comes to is what is left to be said from the state reached and the place of the next
 -- record. The idea: a record of right form takes a byte, so that there are always steps enough. Assumes nothing.
 use mathlib.Core.Path.{_≡_, refl, sym, ap, ap₂, _∙_, subst}
-use mathlib.Core.Bool.{Bool, true, false, not, _&&_, _||_, cond}
-use mathlib.Core.List.{List, map}
+use mathlib.Core.List.{List}
 use Prim.Native.Nat.{ℕ, zero, suc, _+_, _-_, _≤_, _<_}
 use native.Mathlib.Omega.{arith}
 use lib.ListN.{length, getD, take}
-use lib.Dec.{eqb, ltb, leb}
-use Rattle.meaning.specs.Rules.{Line, rup, pr, witnessed}
-use Rattle.meaning.specs.Words.{inWord}
-use Rattle.table.specs.Nodes.{Placing, full, placed, above, put}
+use lib.Dec.{ltb}
 use Rattle.table.specs.Indexed.{Table, nodesOf, Good}
-use Rattle.records.specs.declared.NodeBody.{NodeBody}
-use Rattle.records.specs.declared.Rule.{Rule}
-use Rattle.records.specs.declared.Rule.the-variants.{Rup, Pr}
 use Rattle.records.specs.declared.Record.{Record}
 use Rattle.records.specs.declared.Record.the-variants.{NodeEntry, Witness, ProofLine, End, CutShort, UnknownKind, NoRecord}
 use Rattle.records.specs.Records.{recordAt, lengthOf, numberOf}
@@ -25,8 +18,9 @@ use Rattle.verdict.proofs.Steps.{next-form}
 use Rattle.steps.specs.declared.State.{State}
 use Rattle.steps.specs.declared.Step.{Step}
 use Rattle.steps.specs.declared.Step.the-variants.{Next, Stop}
-use Rattle.steps.specs.States.{Lent, tableIn, stateOf, stepOf, Held, HeldAfter, Stepped}
+use Rattle.steps.specs.States.{Lent, stateOf, stepOf, Held, HeldAfter, Stepped}
 use Rattle.session.specs.Records.{Ends}
+use Rattle.session.proofs.Near.{Near, step-near}
 
 -- ---- one step of the definition
 
@@ -71,82 +65,6 @@ module _ (n s : ℕ) (proof : List ℕ) (whole : check.Verdict) (st : check.Stat
         let none : recordAt proof at ≡ NoRecord = record-none proof at h in
         remains-stop 10 0 (ap (λ (r : Record). check.step n s st (ltb (at + lengthOf r) (length proof)) r) none)
         ∙ ap (λ (k : ℕ). check.left 10 k st) (omega arith)
-
--- ---- a record is refused at its first byte or at the one behind it
-
-abbrev Near : check.Step → Type 0
-Near (check.next st) = Unit {0}
-Near (check.stop number offset) = offset ≤ 1
-
-either : (c : Bool) (x y : check.Step) → Near x → Near y → Near (cond c x y)
-either true x y p q = p
-either false x y p q = q
-
-entered-near : (st : check.State) (p : Placing) → Near (check.entered st p)
-unfolding check.entered
-entered-near st (full t) = omega arith
-entered-near st (placed t k) = tt
-
-node-near : (n s : ℕ) (st : check.State) (b : NodeBody) → Near (check.nodeStep n s st b)
-unfolding check.nodeStep
-node-near n s st b =
-    let l : ℕ = check.entryNode st (b .low .0) in
-    let h : ℕ = check.entryNode st (b .high .0) in
-    let made : check.Step = check.entered st (put s (st .nodes) (b .variable) l h) in
-    either (leb 4096 (length (st .entries))) (check.stop 21 0) _ (omega arith)
-    (either (not (check.isVariable n (b .variable))) (check.stop 12 0) _ (omega arith)
-    (either (not (check.isEntry st (b .low .0) && check.isEntry st (b .high .0))) (check.stop 13 0) _ (omega arith)
-    (either (not (above (st .nodes) (b .variable) l && above (st .nodes) (b .variable) h)) (check.stop 14 0) made (omega arith)
-    (entered-near st (put s (st .nodes) (b .variable) l h)))))
-
-witness-near : (n : ℕ) (st : check.State) (v : ℕ) (b : Bool) → Near (check.witnessStep n st v b)
-unfolding check.witnessStep
-witness-near n st v b =
-    either (not (check.isVariable n v)) (check.stop 12 0) _ (omega arith)
-    (either (inWord (st .positive) v || inWord (st .negative) v) (check.stop 15 0) _ (omega arith) tt)
-
-judged-near : (s : ℕ) (st : check.State) (g : ℕ) (line : Line) → Near (check.judged s st g line)
-unfolding check.judged
-judged-near s st g line =
-    either (not (check.lineFits s (st .nodes) line)) (check.stop 23 0) _ (omega arith)
-    (either (not (line .shown)) (check.stop 19 0) _ (omega arith) tt)
-
-line-near : (n s : ℕ) (st : check.State) (rule : Rule) (root : ℕ) → Near (check.lineStep n s st rule root)
-unfolding check.lineStep
-line-near n s st Rup root =
-    let g : ℕ = check.entryNode st root in
-    let last : check.Step = check.judged s st g (rup n (map (check.diagramIn st) (st .members)) (check.diagramIn st g)) in
-    either (not (check.isEntry st root)) (check.stop 13 0) _ (omega arith)
-    (either (check.waiting st) (check.stop 16 0) _ (omega arith)
-    (either (leb 1024 (st .lines)) (check.stop 22 0) _ (omega arith)
-    (either (eqb g 1) (check.stop 17 0) last (omega arith)
-    (judged-near s st g (rup n (map (check.diagramIn st) (st .members)) (check.diagramIn st g))))))
-line-near n s st Pr root =
-    let g : ℕ = check.entryNode st root in
-    let P : ℕ → Bool = inWord (st .positive) in
-    let N : ℕ → Bool = inWord (st .negative) in
-    let last : check.Step = check.judged s st g (pr n P N (map (check.diagramIn st) (st .members)) (check.diagramIn st g)) in
-    either (not (check.isEntry st root)) (check.stop 13 0) _ (omega arith)
-    (either (leb 1024 (st .lines)) (check.stop 22 0) _ (omega arith)
-    (either (eqb g 1) (check.stop 17 0) _ (omega arith)
-    (either (not (witnessed n P N (check.diagramIn st g))) (check.stop 18 0) last (omega arith)
-    (judged-near s st g (pr n P N (map (check.diagramIn st) (st .members)) (check.diagramIn st g))))))
-
-end-near : (st : check.State) (more : Bool) → Near (check.endStep st more)
-unfolding check.endStep
-end-near st more =
-    either (check.waiting st) (check.stop 16 0) _ (omega arith)
-    (either more (check.stop 11 1) _ (omega arith) (either (st .refuted) (check.stop 0 0) (check.stop 20 0) (omega arith) (omega arith)))
-
-step-near : (n s : ℕ) (st : check.State) (more : Bool) (r : Record) → Near (check.step n s st more r)
-unfolding check.step
-step-near n s st more (NodeEntry b) = node-near n s st b
-step-near n s st more (Witness v b) = witness-near n st v b
-step-near n s st more (ProofLine rule root) = line-near n s st rule (root .0)
-step-near n s st more End = end-near st more
-step-near n s st more CutShort = omega arith
-step-near n s st more UnknownKind = omega arith
-step-near n s st more NoRecord = omega arith
 
 pub record-short : (r : Record) → lengthOf r ≤ 6
 record-short (NodeEntry b) = omega arith
@@ -209,7 +127,7 @@ module _ (n s : ℕ) (proof : List ℕ) (whole : check.Verdict) where
         going-stop =
             let (table, members) = leaves (Stop number offset) e in (
               remains-stop n s proof whole (stateOf l st) at (G .remains) number offset (says (Stop number offset) e)
-              ∙ ap₂ (λ (t : Table) (ms : List ℕ). leftOf t ms) (sym table) (sym members),
+                  ∙ ap₂ (λ (t : Table) (ms : List ℕ). leftOf t ms) (sym table) (sym members),
               record {
                 good = subst Good (sym table) (held-ends .good);
                 least = held-ends .least;

@@ -1,5 +1,5 @@
 -- The call by the sizes of the lists lent: 7 where they do not fit, else the outcome of the verdict. Assumes nothing.
-use mathlib.Core.Path.{_≡_, sym, _∙_}
+use mathlib.Core.Path.{_≡_, _∙_}
 use mathlib.Core.Bool.{true, false, _&&_}
 use mathlib.Core.List.{List}
 use Prim.Native.Nat.{ℕ}

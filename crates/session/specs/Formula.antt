@@ -1,6 +1,6 @@
 -- What the inner functions say of the formula's clauses made in the table. No call open to others cites this file.
 use mathlib.Core.Path.{_≡_}
-use mathlib.Core.List.{List, []}
+use mathlib.Core.List.{List}
 use Prim.Native.Nat.{ℕ, suc, _≤_, _<_}
 use lib.ListN.{length, getD, take}
 use Rattle.table.specs.Nodes.{at}

@@ -8,13 +8,7 @@ ghost use Rattle.verdict.specs.Check.{verdict, lentFits, outcome, check};
 ghost use Rattle.session.specs.Checked.{outcomeOf};
 
 // Whether columns, member list and scratch list are of proper size.
-fn lent_fits(
-    vars: &[u8],
-    lows: &[u16],
-    highs: &[u16],
-    members: &[u16],
-    scratch: &[u16],
-) -> bool
+fn lent_fits(vars: &[u8], lows: &[u16], highs: &[u16], members: &[u16], scratch: &[u16]) -> bool
     ensures { λ r. ⌜ r ≡ lentFits (now (vars .entry)) (now (lows .entry)) (now (highs .entry)) (now (members .entry)) (now (scratch .entry)) ⌝ }
 {
     if !table::test::size_fits(vars, lows, highs) {

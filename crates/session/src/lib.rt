@@ -154,7 +154,17 @@ pub fn run<'a>(
 {
     clear::empty(vars, lows, highs, members);
     let said = judge(
-        vars, lows, highs, heads, links, memo, marks, members, scratch, formula, proof,
+        vars,
+        lows,
+        highs,
+        heads,
+        links,
+        memo,
+        marks,
+        members,
+        scratch,
+        formula,
+        proof,
     );
     clear::clear_numbers(scratch);
     said

@@ -3,7 +3,7 @@ use crate::Checked;
 use steps::State;
 use steps::Step;
 ghost use mathlib.Core.Path.{_≡_};
-ghost use Prim.Native.Nat.{ℕ, suc, _≤_};
+ghost use Prim.Native.Nat.{suc, _≤_};
 ghost use lib.ListN.{length, take};
 ghost use Rattle.table.specs.Indexed.{tableOf, nodesOf};
 ghost use Rattle.conflict.specs.Marks.{unmarked};

@@ -6,12 +6,6 @@ use Rattle.session.proofs.Finish.{lent-sized}
 use Rattle.session.proofs.Sizes.{called-7, called-done}
 use Rattle.session.proofs.call.call.Statement.{statement}
 use Rattle.session.proofs.call.call.Tie as tie
-use Rattle.session.proofs.call.call.Reads as reads
-use Rattle.session.proofs.call.call.Lts as lts
-use Rattle.session.proofs.call.check_4096.Reads as check-4096-reads
-use Rattle.session.proofs.call.check_64.Reads as check-64-reads
-use Rattle.session.proofs.call.check_65536.Reads as check-65536-reads
-use Rattle.session.proofs.call.lent_fits.Reads as lent-fits-reads
 
 lent-fits-requires : tie.Need-lent-fits-requires
 lent-fits-requires c κs =
@@ -43,87 +37,119 @@ returns c =
 
 check-64-requires : tie.Need-check-64-requires
 check-64-requires c κs =
-    ((sym (c .before .before .before .before .before .before .before .lent-fits .ensures) ∙ not-false _ (c .before .before .before .before .before .before .if1 .left)), c .before .before .before .before .before .if2 .taken)
+    let after-lent-fits = c .before .before .before .before .before .before .before in
+    let else1 = c .before .before .before .before .before .before in
+    let then2 = c .before .before .before .before .before in
+    ((sym (after-lent-fits .lent-fits .ensures) ∙ not-false _ (else1 .if1 .left)), then2 .if2 .taken)
 
 same-length-6 : tie.Need-same-length-6
 same-length-6 c =
-    c .before .before .before .before .before .before .before .before .before .before .check-64 .kept .0
+    let after-check-64 = c .before .before .before .before .before .before .before .before .before .before in
+    after-check-64 .check-64 .kept .0
 
 same-length-7 : tie.Need-same-length-7
 same-length-7 c =
-    c .before .before .before .before .before .before .before .before .before .before .check-64 .kept .1 .0
+    let after-check-64 = c .before .before .before .before .before .before .before .before .before .before in
+    after-check-64 .check-64 .kept .1 .0
 
 same-length-8 : tie.Need-same-length-8
 same-length-8 c =
-    c .before .before .before .before .before .before .before .before .before .before .check-64 .kept .1 .1 .0
+    let after-check-64 = c .before .before .before .before .before .before .before .before .before .before in
+    after-check-64 .check-64 .kept .1 .1 .0
 
 same-length-9 : tie.Need-same-length-9
 same-length-9 c =
-    c .before .before .before .before .before .before .before .before .before .before .check-64 .kept .1 .1 .1 .0
+    let after-check-64 = c .before .before .before .before .before .before .before .before .before .before in
+    after-check-64 .check-64 .kept .1 .1 .1 .0
 
 same-length-10 : tie.Need-same-length-10
 same-length-10 c =
-    c .before .before .before .before .before .before .before .before .before .before .check-64 .kept .1 .1 .1 .1 .0
+    let after-check-64 = c .before .before .before .before .before .before .before .before .before .before in
+    after-check-64 .check-64 .kept .1 .1 .1 .1 .0
 
 returns-2 : tie.Need-returns-2
 returns-2 c =
-    called-done _ _ _ _ _ _ _ _ (sym (c .before .before .before .before .before .before .before .before .before .before .before .before .before .before .before .before .before .before .lent-fits .ensures) ∙ not-false _ (c .before .before .before .before .before .before .before .before .before .before .before .before .before .before .before .before .before .if1 .left)) _ (c .before .before .before .before .before .before .before .before .before .before .check-64 .ensures)
+    let after-lent-fits = c .before .before .before .before .before .before .before .before .before .before .before .before .before .before .before .before .before .before in
+    let else1 = c .before .before .before .before .before .before .before .before .before .before .before .before .before .before .before .before .before in
+    let after-check-64 = c .before .before .before .before .before .before .before .before .before .before in
+    called-done _ _ _ _ _ _ _ _ (sym (after-lent-fits .lent-fits .ensures) ∙ not-false _ (else1 .if1 .left)) _ (after-check-64 .check-64 .ensures)
 
 check-4096-requires : tie.Need-check-4096-requires
 check-4096-requires c κs =
-    ((sym (c .before .before .before .before .before .before .before .before .lent-fits .ensures) ∙ not-false _ (c .before .before .before .before .before .before .before .if1 .left)), c .before .before .before .before .before .if3 .taken)
+    let after-lent-fits = c .before .before .before .before .before .before .before .before in
+    let else1 = c .before .before .before .before .before .before .before in
+    let then3 = c .before .before .before .before .before in
+    ((sym (after-lent-fits .lent-fits .ensures) ∙ not-false _ (else1 .if1 .left)), then3 .if3 .taken)
 
 same-length-11 : tie.Need-same-length-11
 same-length-11 c =
-    c .before .before .before .before .before .before .before .before .before .before .check-4096 .kept .0
+    let after-check-4096 = c .before .before .before .before .before .before .before .before .before .before in
+    after-check-4096 .check-4096 .kept .0
 
 same-length-12 : tie.Need-same-length-12
 same-length-12 c =
-    c .before .before .before .before .before .before .before .before .before .before .check-4096 .kept .1 .0
+    let after-check-4096 = c .before .before .before .before .before .before .before .before .before .before in
+    after-check-4096 .check-4096 .kept .1 .0
 
 same-length-13 : tie.Need-same-length-13
 same-length-13 c =
-    c .before .before .before .before .before .before .before .before .before .before .check-4096 .kept .1 .1 .0
+    let after-check-4096 = c .before .before .before .before .before .before .before .before .before .before in
+    after-check-4096 .check-4096 .kept .1 .1 .0
 
 same-length-14 : tie.Need-same-length-14
 same-length-14 c =
-    c .before .before .before .before .before .before .before .before .before .before .check-4096 .kept .1 .1 .1 .0
+    let after-check-4096 = c .before .before .before .before .before .before .before .before .before .before in
+    after-check-4096 .check-4096 .kept .1 .1 .1 .0
 
 same-length-15 : tie.Need-same-length-15
 same-length-15 c =
-    c .before .before .before .before .before .before .before .before .before .before .check-4096 .kept .1 .1 .1 .1 .0
+    let after-check-4096 = c .before .before .before .before .before .before .before .before .before .before in
+    after-check-4096 .check-4096 .kept .1 .1 .1 .1 .0
 
 returns-3 : tie.Need-returns-3
 returns-3 c =
-    called-done _ _ _ _ _ _ _ _ (sym (c .before .before .before .before .before .before .before .before .before .before .before .before .before .before .before .before .before .before .before .lent-fits .ensures) ∙ not-false _ (c .before .before .before .before .before .before .before .before .before .before .before .before .before .before .before .before .before .before .if1 .left)) _ (c .before .before .before .before .before .before .before .before .before .before .check-4096 .ensures)
+    let after-lent-fits = c .before .before .before .before .before .before .before .before .before .before .before .before .before .before .before .before .before .before .before in
+    let else1 = c .before .before .before .before .before .before .before .before .before .before .before .before .before .before .before .before .before .before in
+    let after-check-4096 = c .before .before .before .before .before .before .before .before .before .before in
+    called-done _ _ _ _ _ _ _ _ (sym (after-lent-fits .lent-fits .ensures) ∙ not-false _ (else1 .if1 .left)) _ (after-check-4096 .check-4096 .ensures)
 
 check-65536-requires : tie.Need-check-65536-requires
 check-65536-requires c κs =
-    ((sym (c .before .before .before .before .before .before .before .before .lent-fits .ensures) ∙ not-false _ (c .before .before .before .before .before .before .before .if1 .left)), lent-sized _ _ _ _ _ (sym (c .before .before .before .before .before .before .before .before .lent-fits .ensures) ∙ not-false _ (c .before .before .before .before .before .before .before .if1 .left)) .columns .most)
+    let after-lent-fits = c .before .before .before .before .before .before .before .before in
+    let else1 = c .before .before .before .before .before .before .before in
+    ((sym (after-lent-fits .lent-fits .ensures) ∙ not-false _ (else1 .if1 .left)), lent-sized _ _ _ _ _ (sym (after-lent-fits .lent-fits .ensures) ∙ not-false _ (else1 .if1 .left)) .columns .most)
 
 same-length-16 : tie.Need-same-length-16
 same-length-16 c =
-    c .before .before .before .before .before .before .before .before .before .before .check-65536 .kept .0
+    let after-check-65536 = c .before .before .before .before .before .before .before .before .before .before in
+    after-check-65536 .check-65536 .kept .0
 
 same-length-17 : tie.Need-same-length-17
 same-length-17 c =
-    c .before .before .before .before .before .before .before .before .before .before .check-65536 .kept .1 .0
+    let after-check-65536 = c .before .before .before .before .before .before .before .before .before .before in
+    after-check-65536 .check-65536 .kept .1 .0
 
 same-length-18 : tie.Need-same-length-18
 same-length-18 c =
-    c .before .before .before .before .before .before .before .before .before .before .check-65536 .kept .1 .1 .0
+    let after-check-65536 = c .before .before .before .before .before .before .before .before .before .before in
+    after-check-65536 .check-65536 .kept .1 .1 .0
 
 same-length-19 : tie.Need-same-length-19
 same-length-19 c =
-    c .before .before .before .before .before .before .before .before .before .before .check-65536 .kept .1 .1 .1 .0
+    let after-check-65536 = c .before .before .before .before .before .before .before .before .before .before in
+    after-check-65536 .check-65536 .kept .1 .1 .1 .0
 
 same-length-20 : tie.Need-same-length-20
 same-length-20 c =
-    c .before .before .before .before .before .before .before .before .before .before .check-65536 .kept .1 .1 .1 .1 .0
+    let after-check-65536 = c .before .before .before .before .before .before .before .before .before .before in
+    after-check-65536 .check-65536 .kept .1 .1 .1 .1 .0
 
 returns-4 : tie.Need-returns-4
 returns-4 c =
-    called-done _ _ _ _ _ _ _ _ (sym (c .before .before .before .before .before .before .before .before .before .before .before .before .before .before .before .before .before .before .before .lent-fits .ensures) ∙ not-false _ (c .before .before .before .before .before .before .before .before .before .before .before .before .before .before .before .before .before .before .if1 .left)) _ (c .before .before .before .before .before .before .before .before .before .before .check-65536 .ensures)
+    let after-lent-fits = c .before .before .before .before .before .before .before .before .before .before .before .before .before .before .before .before .before .before .before in
+    let else1 = c .before .before .before .before .before .before .before .before .before .before .before .before .before .before .before .before .before .before in
+    let after-check-65536 = c .before .before .before .before .before .before .before .before .before .before in
+    called-done _ _ _ _ _ _ _ _ (sym (after-lent-fits .lent-fits .ensures) ∙ not-false _ (else1 .if1 .left)) _ (after-check-65536 .check-65536 .ensures)
 
 pub call-spec : {M : Type 1} → statement M
 call-spec = tie.close (tie.spec lent-fits-requires same-length same-length-2 same-length-3 same-length-4 same-length-5 returns check-64-requires same-length-6 same-length-7 same-length-8 same-length-9 same-length-10 returns-2 check-4096-requires same-length-11 same-length-12 same-length-13 same-length-14 same-length-15 returns-3 check-65536-requires same-length-16 same-length-17 same-length-18 same-length-19 same-length-20 returns-4)

@@ -5,9 +5,6 @@ use borrow.Author.Tests.{le-leb, lt-leb, not-true, not-false}
 use Rattle.session.proofs.Sizes.{unfit-columns, fit-columns}
 use Rattle.session.proofs.call.lent_fits.Statement.{statement}
 use Rattle.session.proofs.call.lent_fits.Tie as tie
-use Rattle.session.proofs.call.lent_fits.Reads as reads
-use Rattle.session.proofs.call.lent_fits.Lts as lts
-use Rattle.table.proofs.test.size_fits.Reads as size-fits-reads
 
 size-fits-requires : tie.Need-size-fits-requires
 size-fits-requires c κs =

@@ -2,10 +2,6 @@
 use borrow.Author.Needs.{needs}
 use Rattle.session.proofs.clear.empty.Statement.{statement}
 use Rattle.session.proofs.clear.empty.Tie as tie
-use Rattle.session.proofs.clear.empty.Reads as reads
-use Rattle.session.proofs.clear.empty.Lts as lts
-use Rattle.session.proofs.clear.clear_bytes.Reads as clear-bytes-reads
-use Rattle.session.proofs.clear.clear_numbers.Reads as clear-numbers-reads
 
 clear-bytes-requires : tie.Need-clear-bytes-requires
 clear-bytes-requires c κs =
@@ -41,7 +37,10 @@ same-length-4 c =
 
 returns : tie.Need-returns
 returns c =
-    (c .before .before .before .before .before .before .before .before .before .before .before .before .before .before .clear-bytes .ensures, (c .before .before .before .before .before .before .before .before .before .before .clear-numbers .ensures, (c .before .before .before .before .before .before .clear-numbers2 .ensures, c .before .before .clear-numbers3 .ensures)))
+    let after-clear-bytes = c .before .before .before .before .before .before .before .before .before .before .before .before .before .before in
+    let after-clear-numbers = c .before .before .before .before .before .before .before .before .before .before in
+    let after-clear-numbers2 = c .before .before .before .before .before .before in
+    (after-clear-bytes .clear-bytes .ensures, (after-clear-numbers .clear-numbers .ensures, (after-clear-numbers2 .clear-numbers2 .ensures, c .before .before .clear-numbers3 .ensures)))
 
 pub empty-spec : {M : Type 1} → statement M
 empty-spec = tie.close (tie.spec clear-bytes-requires clear-numbers-requires clear-numbers-requires-2 clear-numbers-requires-3 same-length same-length-2 same-length-3 same-length-4 returns)
