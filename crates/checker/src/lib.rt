@@ -1,10 +1,13 @@
 // The face of the library: the calls open to others. Each tests for itself all that it needs, and none has a `requires`.
 use operate::Operation;
+use session::Checked;
 use single::Evaluated;
 use single::call::Single;
 use table::NodeNo;
 ghost use mathlib.Core.Path.{_≡_};
+ghost use Rattle.session.specs.Checked.{outcomeOf};
 ghost use Rattle.single.specs.Single.{evaluation, madeOf, operation};
+ghost use Rattle.verdict.specs.Check.{check};
 
 // Whether the node is 1 under the word's assignment; or 7, 26, 13.
 pub fn evaluate(
@@ -82,4 +85,20 @@ pub fn cofactor_literals(
         f,
         NodeNo(1),
     )
+}
+
+// The whole check of a formula and a proof. What it says and leaves is the definition's.
+pub fn check<'a>(
+    vars: &mut [u8],
+    lows: &mut [u16],
+    highs: &mut [u16],
+    count: usize,
+    members: &mut [u16],
+    scratch: &mut [u16],
+    formula: &'a [u8],
+    proof: &'a [u8],
+) -> Checked
+    ensures { λ r. ⌜ outcomeOf (now (vars .exit)) (now (lows .exit)) (now (highs .exit)) (now (members .exit)) (now (scratch .exit)) r ≡ check (now (vars .entry)) (now (lows .entry)) (now (highs .entry)) count (now (members .entry)) (now (scratch .entry)) (now (formula .entry)) (now (proof .entry)) ⌝ }
+{
+    session::call::call(vars, lows, highs, count, members, scratch, formula, proof)
 }

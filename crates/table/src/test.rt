@@ -42,7 +42,7 @@ fn blank_between(vars: &[u8], lows: &[u16], highs: &[u16], from: usize, to: usiz
 }
 
 // Whether variable v may stand above `child`: a constant, or a node with a greater variable.
-fn stands_above(vars: &[u8], lows: &[u16], highs: &[u16], v: u8, child: u16) -> bool
+pub fn stands_above(vars: &[u8], lows: &[u16], highs: &[u16], v: u8, child: u16) -> bool
     requires { ⌜ (length (now lows) ≡ length (now vars)) × (length (now highs) ≡ length (now vars)) × (child < length (now vars)) ⌝ }
     ensures { λ r. ⌜ r ≡ above (rows (now (vars .entry)) (now (lows .entry)) (now (highs .entry))) v child ⌝ }
 {

@@ -1,0 +1,200 @@
+-- What is left at the end: the emptied lists of a refused formula, and the table with only the nodes that stay of a proof that was
+-- judged, are the definition's outcome. The idea: a table that is written out has its nodes' columns. Assumes nothing.
+use mathlib.Core.Path.{_≡_, refl, sym, ap, ap₂, _∙_, subst}
+use mathlib.Core.Bool.{true, false, _&&_}
+use mathlib.Core.List.{List, [], _++_}
+use Prim.Native.Nat.{ℕ, suc, _+_, _-_, _*_, _≤_}
+use native.Mathlib.Omega.{arith}
+use lib.ListN.{length, getD, take, drop, length-replicate, length-drop, take-append-drop}
+use lib.Seq.{length-take-le, getD-take, getD-drop, ext-getD}
+use lib.Dec.{leb}
+use borrow.Author.Tests.{leb-true}
+use Rattle.table.specs.Nodes.{Node}
+use Rattle.table.specs.Columns.{sizeFits, padded, Columns, columnsOf}
+use Rattle.table.specs.Indexed.{Table, tableOf, size, nodesOf, indexed}
+use Rattle.table.proofs.Order.{and-parts}
+use Rattle.table.proofs.Written.{count-indexed, length-nodes}
+use Rattle.table.proofs.IndexOrder.{Sized, sized}
+use Rattle.dimacs.specs.declared.Header.the-variants.{Proper, Improper}
+use Rattle.dimacs.specs.Header.{header}
+use Rattle.dimacs.specs.Clauses.{clausesFrom}
+use Rattle.dimacs.proofs.Bounds.{HeaderIn, header-in}
+use Rattle.verdict.specs.Check as check
+use Rattle.verdict.specs.Check.{emptied, zeros, begun, Verdict, left, records, refusedFormula, clauses, verdict, Outcome, lentFits, outcome}
+use Rattle.steps.specs.declared.State.{State}
+use Rattle.steps.specs.States.{Lent, tableIn, stateOf, Held}
+use Rattle.session.specs.declared.Checked.{Checked}
+use Rattle.session.specs.Checked.{outcomeOf}
+use Rattle.session.specs.declared.formula.Start.{Start}
+use Rattle.session.specs.declared.formula.Start.the-variants.{Begun, Refused}
+use Rattle.session.specs.Formula.{Opened, saidFrom, Built}
+use Rattle.session.specs.Records.{Ends}
+use Rattle.session.proofs.Emptied.{zeros-at, columnsMade, columns-emptied, table-emptied}
+
+-- ---- an outcome from its parts
+
+abbrev pub answer : ℕ → ℕ → ℕ → ℕ → ℕ → Checked
+answer number place lines rounds count = record { number = number; place = place; lines = lines; rounds = rounds; count = count }
+
+outcome-is : (s m c number place lines rounds count : ℕ) (vs ls hs ms : List ℕ) (t : List Node) (ks : List ℕ)
+    → count ≡ length t → columnsMade vs ls hs ≡ columnsOf (padded s t) → ms ≡ ks ++ zeros (m - length ks)
+    → outcomeOf vs ls hs ms (zeros c) (answer number place lines rounds count)
+    ≡ outcome s m c (record { number = number; place = place; lines = lines; rounds = rounds; nodes = t; members = ks })
+unfolding outcome
+outcome-is s m c number place lines rounds count vs ls hs ms t ks e f g = ap₂ (λ (k : ℕ) (d : Columns). made k d ms) e f ∙ ap (made (length t) (columnsOf (padded s t))) g
+  where
+    made : ℕ → Columns → List ℕ → Outcome
+    made k d xs = record { number = number; place = place; lines = lines; rounds = rounds; count = k; columns = d; members = xs; scratch = zeros c }
+
+-- a table written out
+written-columns : (T : Table) (s : ℕ) (t : List Node) → T ≡ indexed s t → columnsMade (T .vars) (T .lows) (T .highs) ≡ columnsOf (padded s t)
+unfolding indexed
+written-columns T s t e = ap (λ (u : Table). columnsMade (u .vars) (u .lows) (u .highs)) e
+
+-- ---- a refused formula
+
+no-members : (m : ℕ) → zeros m ≡ [] ++ zeros (m - 0)
+no-members m = let e : m ≡ m - 0 = omega arith in ap zeros e
+
+-- the lists once they are emptied again
+pub refused-is : (s m c number place : ℕ) → 2 ≤ s → (vs ls hs ms : List ℕ) → vs ≡ zeros s → ls ≡ zeros s → hs ≡ zeros s → ms ≡ zeros m
+    → outcomeOf vs ls hs ms (zeros c) (answer number place 0 0 2) ≡ outcome s m c (refusedFormula number place)
+refused-is s m c number place two vs ls hs ms a b d e =
+    outcome-is s m c number place 0 0 2 vs ls hs ms emptied [] refl (ap₂ (λ (x y : List ℕ). columnsMade x y hs) a b ∙ ap (columnsMade (zeros s) (zeros s)) d ∙ sym (columns-emptied s two))
+    (e ∙ no-members m)
+
+-- the lists as they were opened
+pub unopened-is : (T : Table) (members : List ℕ) → Opened T members → T .count ≡ 2 → (c number place : ℕ)
+    → outcomeOf (T .vars) (T .lows) (T .highs) members (zeros c) (answer number place 0 0 2) ≡ outcome (size T) (length members) c (refusedFormula number place)
+unopened-is T members O two c number place =
+    outcome-is (size T) (length members) c number place 0 0 2 (T .vars) (T .lows) (T .highs) members emptied [] refl
+    (written-columns T (size T) emptied (O .written)) (O .none ∙ no-members (length members))
+
+-- ---- the proof
+
+rest-zeros : (ms : List ℕ) (k : ℕ) → k ≤ length ms → ((i : ℕ) → k ≤ i → _≡_ {A = ℕ} (getD ms i 0) 0)
+    → ms ≡ take k ms ++ zeros (length ms - length (take k ms))
+rest-zeros ms k within rest =
+    let len : length (take k ms) ≡ k = length-take-le k ms within in
+    sym (take-append-drop k ms) ∙ ap (λ (xs : List ℕ). take k ms ++ xs)
+    (ext-getD 0 (drop k ms) (zeros (length ms - length (take k ms))) (length-drop k ms ∙ ap (λ (j : ℕ). length ms - j) (sym len) ∙ sym (length-replicate (length ms - length (take k ms)) 0))
+    (λ i p. getD-drop k ms i 0 ∙ rest (k + i) (omega arith) ∙ sym (zeros-at (length ms - length (take k ms)) i)))
+
+-- the table once the nodes that do not stay are dropped
+pub judged-is : (l : Lent) (st : State) → Ends l st → (T : Table) → T .count ≡ st .kept
+    → T ≡ indexed (length (l .vars)) (take (st .kept) (nodesOf (tableIn l (st .count)))) → (s m : ℕ) → length (l .vars) ≡ s → length (l .members) ≡ m
+    → (c number place : ℕ) (whole : Verdict) → whole ≡ left number place (stateOf l st)
+    → outcomeOf (T .vars) (T .lows) (T .highs) (l .members) (zeros c) (answer number place (st .lines) (st .rounds) (st .kept)) ≡ outcome s m c whole
+judged-is l st E T count e s m same same′ c number place whole v =
+    let t : List Node = take (st .kept) (nodesOf (tableIn l (st .count))) in
+    outcome-is (length (l .vars)) (length (l .members)) c number place (st .lines) (st .rounds) (st .kept) (T .vars) (T .lows) (T .highs) (l .members) t (take (st .members) (l .members))
+    (sym count ∙ ap (λ (u : Table). u .count) e ∙ count-indexed (length (l .vars)) t)
+    (written-columns T (length (l .vars)) t e) (rest-zeros (l .members) (st .members) (E .room) (E .rest))
+    ∙ ap₂ (λ (a b : ℕ). outcome a b c (left number place (stateOf l st))) same same′ ∙ ap (outcome s m c) (sym v)
+
+-- the state before the first record
+abbrev pub firstOf : ℕ → ℕ → State
+firstOf count made = record {
+  count = count;
+  kept = count;
+  members = made;
+  entries = 0;
+  positive = 0;
+  negative = 0;
+  lines = 0;
+  rounds = 0;
+  refuted = false;
+}
+
+module _ (n : ℕ) (l : Lent) (count made : ℕ) (B : Built n (tableIn l count) (l .members) made) where
+  pub first-is : stateOf l (firstOf count made) ≡ begun (nodesOf (tableIn l count)) (take made (l .members))
+  first-is = ap withKept (sym (length-nodes (tableIn l count) (B .good)))
+    where
+      withKept : ℕ → check.State
+      withKept k = record {
+        nodes = nodesOf (tableIn l count);
+        kept = k;
+        members = take made (l .members);
+        entries = [];
+        positive = 0;
+        negative = 0;
+        lines = 0;
+        rounds = 0;
+        refuted = false;
+      }
+
+  pub first-held : n ≤ 64 → 2048 ≤ length (l .members) → 4096 ≤ length (l .scratch) → Held n l (firstOf count made)
+  first-held narrow room scratch =
+      let len : length (take made (l .members)) ≡ made = length-take-le made (l .members) (omega (arith, B .few)) in
+      record {
+        entries = record { good = B .good; uses = B .uses; inside = λ i p. absurd (omega arith); few = omega arith; room = scratch; narrow = narrow };
+        least = B .good .least;
+        kept = omega arith;
+        inside = λ i p. rw (getD-take made (l .members) i 0 (omega arith)) (B .inside i (omega arith));
+        rest = B .rest;
+        many = omega (arith, B .few);
+        lines = omega arith;
+        room = room;
+        rounds = omega arith;
+      }
+
+-- ---- the formula
+
+module _ (s : ℕ) (formula proof : List ℕ) where
+  pub verdict-proper : (n wanted from : ℕ) → header formula ≡ Proper n wanted from → verdict s formula proof ≡ clauses n s proof emptied [] (clausesFrom formula n wanted from)
+  unfolding verdict
+  verdict-proper n wanted from e = rw e
+
+  pub verdict-improper : (number place : ℕ) → header formula ≡ Improper number place → verdict s formula proof ≡ refusedFormula number place
+  unfolding verdict
+  verdict-improper number place e = rw e
+
+pub header-bounds : (formula : List ℕ) (n wanted from : ℕ) → header formula ≡ Proper n wanted from → (n ≤ 64) × (wanted ≤ 1024) × (from ≤ length formula)
+header-bounds formula n wanted from e = subst (HeaderIn formula) e (header-in formula)
+
+-- what the clauses come to, by how the formula was read
+module _ (n : ℕ) (proof vs ls hs ds ks ms : List ℕ) (s m c : ℕ) (whole : Verdict) (r : Start) (w : whole ≡ saidFrom n proof vs ls hs ds ks ms r) where
+  pub begun-is : (count made : ℕ) → r ≡ Begun count made → length vs ≡ s → length ms ≡ m
+      → outcome (length vs) (length ms) c (records (suc (length proof)) n (length vs) proof (begun (nodesOf (tableOf vs ls hs ds ks count)) (take made ms)) 0) ≡ outcome s m c whole
+  begun-is count made e same same′ =
+      ap₂ (λ (a b : ℕ). outcome a b c (saidFrom n proof vs ls hs ds ks ms (Begun count made))) same same′
+      ∙ ap (outcome s m c) (sym (w ∙ ap (saidFrom n proof vs ls hs ds ks ms) e))
+
+  pub unbegun-is : (number place : ℕ) → r ≡ Refused number place → outcome s m c (refusedFormula number place) ≡ outcome s m c whole
+  unbegun-is number place e = ap (outcome s m c) (sym (w ∙ ap (saidFrom n proof vs ls hs ds ks ms) e))
+
+-- ---- the lists lent
+
+pub record LentSized (vars lows highs members scratch : List ℕ) : Type 0 where
+  pub columns : Sized vars lows highs
+  pub member-room : 2048 ≤ length members
+  pub scratch-room : 4096 ≤ length scratch
+
+pub lent-sized : (vars lows highs members scratch : List ℕ) → lentFits vars lows highs members scratch ≡ true → LentSized vars lows highs members scratch
+unfolding lentFits
+lent-sized vars lows highs members scratch e =
+    let (columns, lists) = and-parts (sizeFits vars lows highs) (leb 2048 (length members) && leb 4096 (length scratch)) e in
+    let (m, c) = and-parts (leb 2048 (length members)) (leb 4096 (length scratch)) lists in
+    record { columns = sized vars lows highs columns; member-room = leb-true 2048 (length members) m; scratch-room = leb-true 4096 (length scratch) c }
+
+-- columns, index and member list once they are emptied
+pub emptied-opened : (s m : ℕ) → 2 ≤ s → s ≤ 65536 → 2048 ≤ m → (vs ls hs ds ks ms : List ℕ) → vs ≡ zeros s → ls ≡ zeros s → hs ≡ zeros s
+    → ds ≡ zeros (2 * s) → ks ≡ zeros s → ms ≡ zeros m → Opened (tableOf vs ls hs ds ks 2) ms
+emptied-opened s m two most room vs ls hs ds ks ms a b d e f g =
+    let len : length vs ≡ s = ap length a ∙ length-replicate s 0 in
+    let long : length ms ≡ m = ap length g ∙ length-replicate m 0 in
+    record {
+      least = omega arith;
+      most = omega arith;
+      written = ap₂ (λ (x y : List ℕ). tableOf x y hs ds ks 2) a b ∙ ap₂ (λ (x y : List ℕ). tableOf (zeros s) (zeros s) x y ks 2) d e
+          ∙ ap (λ (x : List ℕ). tableOf (zeros s) (zeros s) (zeros s) (zeros (2 * s)) x 2) f ∙ table-emptied s two ∙ ap (λ (k : ℕ). indexed k emptied) (sym len);
+      room = omega arith;
+      none = g ∙ ap zeros (sym long);
+    }
+
+-- the whole, once the scratch list is zeros
+pub run-is : (s m c : ℕ) (formula proof : List ℕ) (vs ls hs ms : List ℕ) (r : Checked) (s′ m′ c′ : ℕ) (cs : List ℕ)
+    → outcomeOf vs ls hs ms (zeros c) r ≡ outcome s′ m′ c (verdict s′ formula proof) → s′ ≡ s → m′ ≡ m → cs ≡ zeros c′ → c′ ≡ c
+    → outcomeOf vs ls hs ms cs r ≡ outcome s m c (verdict s formula proof)
+run-is s m c formula proof vs ls hs ms r s′ m′ c′ cs e same same′ none same″ =
+    ap (λ (x : List ℕ). outcomeOf vs ls hs ms x r) (none ∙ ap zeros same″) ∙ e ∙ ap₂ (λ (a b : ℕ). outcome a b c (verdict a formula proof)) same same′

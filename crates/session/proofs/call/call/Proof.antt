@@ -1,0 +1,155 @@
+-- `call` says 7, or what the check over the arrays says that the table asks for. Assumes nothing.
+use mathlib.Core.Path.{sym, _∙_}
+use borrow.Author.Needs.{needs}
+use borrow.Author.Tests.{not-true, not-false}
+use Rattle.session.proofs.Finish.{lent-sized}
+use Rattle.session.proofs.Sizes.{called-7, called-done}
+use Rattle.session.proofs.call.call.Statement.{statement}
+use Rattle.session.proofs.call.call.Tie as tie
+
+lent-fits-requires : tie.Need-lent-fits-requires
+lent-fits-requires c κs =
+    search needs
+
+same-length : tie.Need-same-length
+same-length c =
+    search needs
+
+same-length-2 : tie.Need-same-length-2
+same-length-2 c =
+    search needs
+
+same-length-3 : tie.Need-same-length-3
+same-length-3 c =
+    search needs
+
+same-length-4 : tie.Need-same-length-4
+same-length-4 c =
+    search needs
+
+same-length-5 : tie.Need-same-length-5
+same-length-5 c =
+    search needs
+
+returns : tie.Need-returns
+returns c =
+    called-7 _ _ _ _ _ _ _ _ (sym (c .before .lent-fits .ensures) ∙ not-true _ (c .if1 .taken))
+
+check-64-requires : tie.Need-check-64-requires
+check-64-requires c κs =
+    let after-lent-fits = c .before .before .before .before .before .before .before in
+    let else1 = c .before .before .before .before .before .before in
+    let then2 = c .before .before .before .before .before in
+    ((sym (after-lent-fits .lent-fits .ensures) ∙ not-false _ (else1 .if1 .left)), then2 .if2 .taken)
+
+same-length-6 : tie.Need-same-length-6
+same-length-6 c =
+    let after-check-64 = c .before .before .before .before .before .before .before .before .before .before in
+    after-check-64 .check-64 .kept .0
+
+same-length-7 : tie.Need-same-length-7
+same-length-7 c =
+    let after-check-64 = c .before .before .before .before .before .before .before .before .before .before in
+    after-check-64 .check-64 .kept .1 .0
+
+same-length-8 : tie.Need-same-length-8
+same-length-8 c =
+    let after-check-64 = c .before .before .before .before .before .before .before .before .before .before in
+    after-check-64 .check-64 .kept .1 .1 .0
+
+same-length-9 : tie.Need-same-length-9
+same-length-9 c =
+    let after-check-64 = c .before .before .before .before .before .before .before .before .before .before in
+    after-check-64 .check-64 .kept .1 .1 .1 .0
+
+same-length-10 : tie.Need-same-length-10
+same-length-10 c =
+    let after-check-64 = c .before .before .before .before .before .before .before .before .before .before in
+    after-check-64 .check-64 .kept .1 .1 .1 .1 .0
+
+returns-2 : tie.Need-returns-2
+returns-2 c =
+    let after-lent-fits = c .before .before .before .before .before .before .before .before .before .before .before .before .before .before .before .before .before .before in
+    let else1 = c .before .before .before .before .before .before .before .before .before .before .before .before .before .before .before .before .before in
+    let after-check-64 = c .before .before .before .before .before .before .before .before .before .before in
+    called-done _ _ _ _ _ _ _ _ (sym (after-lent-fits .lent-fits .ensures) ∙ not-false _ (else1 .if1 .left)) _ (after-check-64 .check-64 .ensures)
+
+check-4096-requires : tie.Need-check-4096-requires
+check-4096-requires c κs =
+    let after-lent-fits = c .before .before .before .before .before .before .before .before in
+    let else1 = c .before .before .before .before .before .before .before in
+    let then3 = c .before .before .before .before .before in
+    ((sym (after-lent-fits .lent-fits .ensures) ∙ not-false _ (else1 .if1 .left)), then3 .if3 .taken)
+
+same-length-11 : tie.Need-same-length-11
+same-length-11 c =
+    let after-check-4096 = c .before .before .before .before .before .before .before .before .before .before in
+    after-check-4096 .check-4096 .kept .0
+
+same-length-12 : tie.Need-same-length-12
+same-length-12 c =
+    let after-check-4096 = c .before .before .before .before .before .before .before .before .before .before in
+    after-check-4096 .check-4096 .kept .1 .0
+
+same-length-13 : tie.Need-same-length-13
+same-length-13 c =
+    let after-check-4096 = c .before .before .before .before .before .before .before .before .before .before in
+    after-check-4096 .check-4096 .kept .1 .1 .0
+
+same-length-14 : tie.Need-same-length-14
+same-length-14 c =
+    let after-check-4096 = c .before .before .before .before .before .before .before .before .before .before in
+    after-check-4096 .check-4096 .kept .1 .1 .1 .0
+
+same-length-15 : tie.Need-same-length-15
+same-length-15 c =
+    let after-check-4096 = c .before .before .before .before .before .before .before .before .before .before in
+    after-check-4096 .check-4096 .kept .1 .1 .1 .1 .0
+
+returns-3 : tie.Need-returns-3
+returns-3 c =
+    let after-lent-fits = c .before .before .before .before .before .before .before .before .before .before .before .before .before .before .before .before .before .before .before in
+    let else1 = c .before .before .before .before .before .before .before .before .before .before .before .before .before .before .before .before .before .before in
+    let after-check-4096 = c .before .before .before .before .before .before .before .before .before .before in
+    called-done _ _ _ _ _ _ _ _ (sym (after-lent-fits .lent-fits .ensures) ∙ not-false _ (else1 .if1 .left)) _ (after-check-4096 .check-4096 .ensures)
+
+check-65536-requires : tie.Need-check-65536-requires
+check-65536-requires c κs =
+    let after-lent-fits = c .before .before .before .before .before .before .before .before in
+    let else1 = c .before .before .before .before .before .before .before in
+    ((sym (after-lent-fits .lent-fits .ensures) ∙ not-false _ (else1 .if1 .left)), lent-sized _ _ _ _ _ (sym (after-lent-fits .lent-fits .ensures) ∙ not-false _ (else1 .if1 .left)) .columns .most)
+
+same-length-16 : tie.Need-same-length-16
+same-length-16 c =
+    let after-check-65536 = c .before .before .before .before .before .before .before .before .before .before in
+    after-check-65536 .check-65536 .kept .0
+
+same-length-17 : tie.Need-same-length-17
+same-length-17 c =
+    let after-check-65536 = c .before .before .before .before .before .before .before .before .before .before in
+    after-check-65536 .check-65536 .kept .1 .0
+
+same-length-18 : tie.Need-same-length-18
+same-length-18 c =
+    let after-check-65536 = c .before .before .before .before .before .before .before .before .before .before in
+    after-check-65536 .check-65536 .kept .1 .1 .0
+
+same-length-19 : tie.Need-same-length-19
+same-length-19 c =
+    let after-check-65536 = c .before .before .before .before .before .before .before .before .before .before in
+    after-check-65536 .check-65536 .kept .1 .1 .1 .0
+
+same-length-20 : tie.Need-same-length-20
+same-length-20 c =
+    let after-check-65536 = c .before .before .before .before .before .before .before .before .before .before in
+    after-check-65536 .check-65536 .kept .1 .1 .1 .1 .0
+
+returns-4 : tie.Need-returns-4
+returns-4 c =
+    let after-lent-fits = c .before .before .before .before .before .before .before .before .before .before .before .before .before .before .before .before .before .before .before in
+    let else1 = c .before .before .before .before .before .before .before .before .before .before .before .before .before .before .before .before .before .before in
+    let after-check-65536 = c .before .before .before .before .before .before .before .before .before .before in
+    called-done _ _ _ _ _ _ _ _ (sym (after-lent-fits .lent-fits .ensures) ∙ not-false _ (else1 .if1 .left)) _ (after-check-65536 .check-65536 .ensures)
+
+pub call-spec : {M : Type 1} → statement M
+call-spec = tie.close (tie.spec lent-fits-requires same-length same-length-2 same-length-3 same-length-4 same-length-5 returns check-64-requires same-length-6 same-length-7 same-length-8 same-length-9 same-length-10 returns-2 check-4096-requires same-length-11 same-length-12 same-length-13 same-length-14 same-length-15 returns-3 check-65536-requires same-length-16 same-length-17 same-length-18 same-length-19 same-length-20 returns-4)

@@ -1,0 +1,81 @@
+-- The check over local arrays for up to 4,096 places: the lent parts are zeros. Assumes nothing.
+use Prim.Native.Nat.{_*_}
+use native.Mathlib.Omega.{arith}
+use lib.ListN.{length}
+use borrow.Author.Needs.{needs}
+use Rattle.single.proofs.Zeros.{part-zeros, length-part, length-whole}
+use Rattle.session.proofs.call.check_4096.Statement.{statement}
+use Rattle.session.proofs.call.check_4096.Tie as tie
+
+mul-ends : tie.Need-mul-ends
+mul-ends c =
+    search needs
+
+array-borrow-prefix-heads : tie.Need-array-borrow-prefix-heads
+array-borrow-prefix-heads c =
+    search needs
+
+slice-aggregate-run : tie.Need-slice-aggregate-run
+slice-aggregate-run c =
+    let start = c .before .before .before .before .before .before .before .before .before .before .before in
+    length-part _ 8192 (omega (arith, start .pre .1))
+
+array-borrow-prefix-links : tie.Need-array-borrow-prefix-links
+array-borrow-prefix-links c =
+    search needs
+
+slice-aggregate-run-2 : tie.Need-slice-aggregate-run-2
+slice-aggregate-run-2 c =
+    let start = c .before .before .before .before .before .before .before .before .before .before .before .before in
+    length-part _ 4096 (omega (arith, start .pre .1))
+
+slice-aggregate-run-3 : tie.Need-slice-aggregate-run-3
+slice-aggregate-run-3 c =
+    length-whole 8192
+
+array-borrow-prefix-marks : tie.Need-array-borrow-prefix-marks
+array-borrow-prefix-marks c =
+    search needs
+
+slice-aggregate-run-4 : tie.Need-slice-aggregate-run-4
+slice-aggregate-run-4 c =
+    let start = c .before .before .before .before .before .before .before .before .before .before .before .before .before .before in
+    length-part _ 4096 (omega (arith, start .pre .1))
+
+run-requires : tie.Need-run-requires
+run-requires c κs =
+    let start = c .before .before .before .before .before .before .before .before .before .before .before .before .before .before .before .before in
+    (start .pre .0, (part-zeros (2 * (length (start .args .vars .now))) 8192 (omega (arith, start .pre .1)), part-zeros (length (start .args .vars .now)) 4096 (omega (arith, start .pre .1)), part-zeros (length (start .args .vars .now)) 4096 (omega (arith, start .pre .1)), omega (arith, length-whole 8192)))
+
+same-length : tie.Need-same-length
+same-length c =
+    let after-run = c .before .before .before .before .before .before .before .before .before .before .before .before .before .before in
+    after-run .run .kept .0
+
+same-length-2 : tie.Need-same-length-2
+same-length-2 c =
+    let after-run = c .before .before .before .before .before .before .before .before .before .before .before .before .before .before in
+    after-run .run .kept .1 .0
+
+same-length-3 : tie.Need-same-length-3
+same-length-3 c =
+    let after-run = c .before .before .before .before .before .before .before .before .before .before .before .before .before .before in
+    after-run .run .kept .1 .1 .0
+
+same-length-4 : tie.Need-same-length-4
+same-length-4 c =
+    let after-run = c .before .before .before .before .before .before .before .before .before .before .before .before .before .before in
+    after-run .run .kept .1 .1 .1 .1 .1 .1 .1 .0
+
+same-length-5 : tie.Need-same-length-5
+same-length-5 c =
+    let after-run = c .before .before .before .before .before .before .before .before .before .before .before .before .before .before in
+    after-run .run .kept .1 .1 .1 .1 .1 .1 .1 .1 .0
+
+returns : tie.Need-returns
+returns c =
+    let after-run = c .before .before .before .before .before .before .before .before .before .before .before .before .before .before in
+    after-run .run .ensures
+
+pub check-4096-spec : {M : Type 1} → statement M
+check-4096-spec = tie.close (tie.spec mul-ends array-borrow-prefix-heads slice-aggregate-run array-borrow-prefix-links slice-aggregate-run-2 slice-aggregate-run-3 array-borrow-prefix-marks slice-aggregate-run-4 run-requires same-length same-length-2 same-length-3 same-length-4 same-length-5 returns)

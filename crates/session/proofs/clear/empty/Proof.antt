@@ -1,0 +1,46 @@
+-- `empty` leaves zeros in each list, by the two that clear one. Assumes nothing.
+use borrow.Author.Needs.{needs}
+use Rattle.session.proofs.clear.empty.Statement.{statement}
+use Rattle.session.proofs.clear.empty.Tie as tie
+
+clear-bytes-requires : tie.Need-clear-bytes-requires
+clear-bytes-requires c κs =
+    search needs
+
+clear-numbers-requires : tie.Need-clear-numbers-requires
+clear-numbers-requires c κs =
+    search needs
+
+clear-numbers-requires-2 : tie.Need-clear-numbers-requires-2
+clear-numbers-requires-2 c κs =
+    search needs
+
+clear-numbers-requires-3 : tie.Need-clear-numbers-requires-3
+clear-numbers-requires-3 c κs =
+    search needs
+
+same-length : tie.Need-same-length
+same-length c =
+    search needs
+
+same-length-2 : tie.Need-same-length-2
+same-length-2 c =
+    search needs
+
+same-length-3 : tie.Need-same-length-3
+same-length-3 c =
+    search needs
+
+same-length-4 : tie.Need-same-length-4
+same-length-4 c =
+    search needs
+
+returns : tie.Need-returns
+returns c =
+    let after-clear-bytes = c .before .before .before .before .before .before .before .before .before .before .before .before .before .before in
+    let after-clear-numbers = c .before .before .before .before .before .before .before .before .before .before in
+    let after-clear-numbers2 = c .before .before .before .before .before .before in
+    (after-clear-bytes .clear-bytes .ensures, (after-clear-numbers .clear-numbers .ensures, (after-clear-numbers2 .clear-numbers2 .ensures, c .before .before .clear-numbers3 .ensures)))
+
+pub empty-spec : {M : Type 1} → statement M
+empty-spec = tie.close (tie.spec clear-bytes-requires clear-numbers-requires clear-numbers-requires-2 clear-numbers-requires-3 same-length same-length-2 same-length-3 same-length-4 returns)

@@ -1,0 +1,93 @@
+-- `judge` leaves the outcome of the formula and the proof, by the header. Assumes nothing.
+use mathlib.Core.Path.{refl, sym, ap, _∙_}
+use lib.ListN.{length}
+use borrow.Author.Needs.{needs}
+use Rattle.verdict.specs.Check.{outcome}
+use Rattle.session.proofs.Finish.{unopened-is, header-bounds, verdict-proper, verdict-improper}
+use Rattle.session.proofs.judge.Statement.{statement}
+use Rattle.session.proofs.judge.Tie as tie
+
+read-header-requires : tie.Need-read-header-requires
+read-header-requires c κs =
+    search needs
+
+enum-known-number : tie.Need-enum-known-number
+enum-known-number c =
+    search needs
+
+enum-known-variables : tie.Need-enum-known-variables
+enum-known-variables c =
+    search needs
+
+judge-clauses-requires : tie.Need-judge-clauses-requires
+judge-clauses-requires c κs =
+    let start = c .before .before .before .before .before .before .before .before .before .before .before .before .before .before .before .before .before .before .before .before .before .before .before .before in
+    let after-read-header = c .before .before .before .before .before .before .before .before .before .before .before .before in
+    let after-variables = c .before .before .before .before .before .before .before .before .before .before in
+    let b = header-bounds _ _ _ _ (sym (after-read-header .read-header .ensures) ∙ after-variables .variables .given .1) in
+    (start .pre .0, (b .0, b .1, b .2, start .pre .1 .0, start .pre .1 .1, start .pre .1 .2))
+
+returns : tie.Need-returns
+returns c =
+    let start = c .before .before .before .before .before .before .before .before .before .before .before .before .before .before .before in
+    let a = start .args in
+    unopened-is _ _ (start .pre .0) refl (length (a .scratch .now)) _ _
+    ∙ ap (outcome (length (a .vars .now)) (length (a .members .now)) (length (a .scratch .now))) (sym (verdict-improper (length (a .vars .now)) _ (a .proof .now) _ _ (sym (c .before .before .before .read-header .ensures) ∙ c .before .number .given .1)))
+
+same-length : tie.Need-same-length
+same-length c =
+    let after-judge-clauses = c .before .before .before .before .before .before .before .before .before .before .before .before .before .before .before .before .before .before in
+    after-judge-clauses .judge-clauses .kept .0
+
+same-length-2 : tie.Need-same-length-2
+same-length-2 c =
+    let after-judge-clauses = c .before .before .before .before .before .before .before .before .before .before .before .before .before .before .before .before .before .before in
+    after-judge-clauses .judge-clauses .kept .1 .0
+
+same-length-3 : tie.Need-same-length-3
+same-length-3 c =
+    let after-judge-clauses = c .before .before .before .before .before .before .before .before .before .before .before .before .before .before .before .before .before .before in
+    after-judge-clauses .judge-clauses .kept .1 .1 .0
+
+same-length-4 : tie.Need-same-length-4
+same-length-4 c =
+    let after-judge-clauses = c .before .before .before .before .before .before .before .before .before .before .before .before .before .before .before .before .before .before in
+    after-judge-clauses .judge-clauses .kept .1 .1 .1 .0
+
+same-length-5 : tie.Need-same-length-5
+same-length-5 c =
+    let after-judge-clauses = c .before .before .before .before .before .before .before .before .before .before .before .before .before .before .before .before .before .before in
+    after-judge-clauses .judge-clauses .kept .1 .1 .1 .1 .0
+
+same-length-6 : tie.Need-same-length-6
+same-length-6 c =
+    let after-judge-clauses = c .before .before .before .before .before .before .before .before .before .before .before .before .before .before .before .before .before .before in
+    after-judge-clauses .judge-clauses .kept .1 .1 .1 .1 .1 .0
+
+same-length-7 : tie.Need-same-length-7
+same-length-7 c =
+    let after-judge-clauses = c .before .before .before .before .before .before .before .before .before .before .before .before .before .before .before .before .before .before in
+    after-judge-clauses .judge-clauses .kept .1 .1 .1 .1 .1 .1 .0
+
+same-length-8 : tie.Need-same-length-8
+same-length-8 c =
+    let after-judge-clauses = c .before .before .before .before .before .before .before .before .before .before .before .before .before .before .before .before .before .before in
+    after-judge-clauses .judge-clauses .kept .1 .1 .1 .1 .1 .1 .1 .0
+
+same-length-9 : tie.Need-same-length-9
+same-length-9 c =
+    let after-judge-clauses = c .before .before .before .before .before .before .before .before .before .before .before .before .before .before .before .before .before .before in
+    after-judge-clauses .judge-clauses .kept .1 .1 .1 .1 .1 .1 .1 .1 .0
+
+returns-2 : tie.Need-returns-2
+returns-2 c =
+    let start = c .before .before .before .before .before .before .before .before .before .before .before .before .before .before .before .before .before .before .before .before .before .before .before .before .before .before .before .before .before .before .before .before .before .before .before .before .before .before .before .before .before .before .before in
+    let after-read-header = c .before .before .before .before .before .before .before .before .before .before .before .before .before .before .before .before .before .before .before .before .before .before .before .before .before .before .before .before .before .before .before in
+    let after-variables = c .before .before .before .before .before .before .before .before .before .before .before .before .before .before .before .before .before .before .before .before .before .before .before .before .before .before .before .before .before in
+    let after-judge-clauses = c .before .before .before .before .before .before .before .before .before .before .before .before .before .before .before .before .before .before in
+    let a = start .args in
+    after-judge-clauses .judge-clauses .ensures
+    ∙ ap (outcome (length (a .vars .now)) (length (a .members .now)) (length (a .scratch .now))) (sym (verdict-proper (length (a .vars .now)) _ (a .proof .now) _ _ _ (sym (after-read-header .read-header .ensures) ∙ after-variables .variables .given .1)))
+
+pub judge-spec : {M : Type 1} → statement M
+judge-spec = tie.close (tie.spec read-header-requires enum-known-number enum-known-variables judge-clauses-requires returns same-length same-length-2 same-length-3 same-length-4 same-length-5 same-length-6 same-length-7 same-length-8 same-length-9 returns-2)

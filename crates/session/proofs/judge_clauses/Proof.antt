@@ -1,0 +1,154 @@
+-- `judge_clauses` leaves the outcome of the clauses: emptied lists where the formula is refused, else what the proof leaves. Assumes nothing.
+use mathlib.Core.Path.{sym, ap, _∙_, subst}
+use native.Mathlib.Omega.{arith}
+use lib.ListN.{length}
+use borrow.Author.Needs.{needs}
+use Rattle.conflict.specs.Marks.{unmarked}
+use Rattle.verdict.specs.Check.{zeros}
+use Rattle.session.specs.Formula.{Begins}
+use Rattle.session.proofs.Emptied.{opened-good}
+use Rattle.session.proofs.Finish.{refused-is, begun-is, unbegun-is}
+use Rattle.session.proofs.judge_clauses.Statement.{statement}
+use Rattle.session.proofs.judge_clauses.Tie as tie
+
+read-clauses-requires : tie.Need-read-clauses-requires
+read-clauses-requires c κs =
+    let start = c .before .before .before .before .before .before .before .before .before .before .before .before .before .before .before .before .before in
+    (start .pre .0, (start .pre .1 .0, start .pre .1 .1, start .pre .1 .2))
+
+enum-known-number : tie.Need-enum-known-number
+enum-known-number c =
+    search needs
+
+empty-requires : tie.Need-empty-requires
+empty-requires c κs =
+    search needs
+
+enum-known-count : tie.Need-enum-known-count
+enum-known-count c =
+    search needs
+
+judge-proof-requires : tie.Need-judge-proof-requires
+judge-proof-requires c κs =
+    let start = c .before .before .before .before .before .before .before .before .before .before .before .before .before .before .before .before .before .before .before .before .before .before .before .before .before .before .before .before .before .before .before .before .before .before .before .before .before .before .before .before .before .before in
+    let after-read-clauses = c .before .before .before .before .before .before .before .before .before .before .before .before .before .before .before .before .before .before .before .before .before .before .before .before in
+    let after-count = c .before .before .before .before .before .before .before .before .before .before in
+    let x = after-read-clauses .read-clauses .last in (
+      subst (Begins (start .args .variables) (x .0) (x .1 .0) (x .1 .1 .0) (x .1 .1 .1 .0) (x .1 .1 .1 .1 .0) (x .1 .1 .1 .1 .1 .0)) (after-count .count .given .1) (after-read-clauses .read-clauses .ensures .1),
+      start .pre .1 .0,
+      omega (arith, start .pre .0 .room, after-read-clauses .read-clauses .kept .1 .1 .1 .1 .1 .0),
+      start .pre .1 .3,
+      start .pre .1 .4 ∙ ap unmarked (sym (after-read-clauses .read-clauses .kept .0)),
+      start .pre .1 .5,
+    )
+
+same-length : tie.Need-same-length
+same-length c =
+    let after-read-clauses = c .before .before .before .before .before .before .before .before .before .before .before .before .before .before .before .before .before .before .before .before .before .before .before .before .before .before .before .before in
+    let after-empty = c .before .before .before .before .before .before .before .before in
+    after-empty .empty .kept .0 ∙ after-read-clauses .read-clauses .kept .0
+
+same-length-2 : tie.Need-same-length-2
+same-length-2 c =
+    let after-read-clauses = c .before .before .before .before .before .before .before .before .before .before .before .before .before .before .before .before .before .before .before .before .before .before .before .before .before .before .before .before in
+    let after-empty = c .before .before .before .before .before .before .before .before in
+    after-empty .empty .kept .1 .0 ∙ after-read-clauses .read-clauses .kept .1 .0
+
+same-length-3 : tie.Need-same-length-3
+same-length-3 c =
+    let after-read-clauses = c .before .before .before .before .before .before .before .before .before .before .before .before .before .before .before .before .before .before .before .before .before .before .before .before .before .before .before .before in
+    let after-empty = c .before .before .before .before .before .before .before .before in
+    after-empty .empty .kept .1 .1 .0 ∙ after-read-clauses .read-clauses .kept .1 .1 .0
+
+same-length-4 : tie.Need-same-length-4
+same-length-4 c =
+    let after-read-clauses = c .before .before .before .before .before .before .before .before .before .before .before .before .before .before .before .before .before .before .before .before .before .before .before .before .before .before .before .before in
+    after-read-clauses .read-clauses .kept .1 .1 .1 .0
+
+same-length-5 : tie.Need-same-length-5
+same-length-5 c =
+    let after-read-clauses = c .before .before .before .before .before .before .before .before .before .before .before .before .before .before .before .before .before .before .before .before .before .before .before .before .before .before .before .before in
+    after-read-clauses .read-clauses .kept .1 .1 .1 .1 .0
+
+same-length-6 : tie.Need-same-length-6
+same-length-6 c =
+    let after-read-clauses = c .before .before .before .before .before .before .before .before .before .before .before .before .before .before .before .before .before .before .before .before .before .before .before .before .before .before .before .before in
+    let after-empty = c .before .before .before .before .before .before .before .before in
+    after-empty .empty .kept .1 .1 .1 .0 ∙ after-read-clauses .read-clauses .kept .1 .1 .1 .1 .1 .0
+
+returns : tie.Need-returns
+returns c =
+    let start = c .before .before .before .before .before .before .before .before .before .before .before .before .before .before .before .before .before .before .before .before .before .before .before .before .before .before .before .before .before .before .before .before .before .before .before .before .before .before .before .before .before .before .before .before .before .before in
+    let after-read-clauses = c .before .before .before .before .before .before .before .before .before .before .before .before .before .before .before .before .before .before .before .before .before .before .before .before .before .before .before .before in
+    let after-number = c .before .before .before .before .before .before .before .before .before .before .before .before .before .before in
+    let after-empty = c .before .before .before .before .before .before .before .before in
+    let a = start .args in
+    let x = after-read-clauses .read-clauses .last in
+    let G = opened-good _ _ (start .pre .0) in
+    refused-is (length (a .vars .now)) (length (a .members .now)) (length (a .scratch .now)) _ _ (start .pre .0 .least) _ _ _ _
+    (after-empty .empty .ensures .0 ∙ ap zeros (after-read-clauses .read-clauses .kept .0)) (after-empty .empty .ensures .1 .0 ∙ ap zeros (after-read-clauses .read-clauses .kept .1 .0 ∙ G .lows)) (after-empty .empty .ensures .1 .1 .0 ∙ ap zeros (after-read-clauses .read-clauses .kept .1 .1 .0 ∙ G .highs)) (after-empty .empty .ensures .1 .1 .1 ∙ ap zeros (after-read-clauses .read-clauses .kept .1 .1 .1 .1 .1 .0))
+    ∙ unbegun-is (a .variables) (a .proof .now) (x .0) (x .1 .0) (x .1 .1 .0) (x .1 .1 .1 .0) (x .1 .1 .1 .1 .0) (x .1 .1 .1 .1 .1 .0) (length (a .vars .now)) (length (a .members .now)) (length (a .scratch .now)) _ _ (after-read-clauses .read-clauses .ensures .0 (a .proof .now)) _ _ (after-number .number .given .1)
+
+same-length-7 : tie.Need-same-length-7
+same-length-7 c =
+    let after-read-clauses = c .before .before .before .before .before .before .before .before .before .before .before .before .before .before .before .before .before .before .before .before .before .before .before .before .before .before .before .before .before .before .before .before .before .before .before .before .before .before .before .before .before .before .before in
+    let after-judge-proof = c .before .before .before .before .before .before .before .before .before .before .before .before .before .before .before .before .before .before in
+    after-judge-proof .judge-proof .kept .0 ∙ after-read-clauses .read-clauses .kept .0
+
+same-length-8 : tie.Need-same-length-8
+same-length-8 c =
+    let after-read-clauses = c .before .before .before .before .before .before .before .before .before .before .before .before .before .before .before .before .before .before .before .before .before .before .before .before .before .before .before .before .before .before .before .before .before .before .before .before .before .before .before .before .before .before .before in
+    let after-judge-proof = c .before .before .before .before .before .before .before .before .before .before .before .before .before .before .before .before .before .before in
+    after-judge-proof .judge-proof .kept .1 .0 ∙ after-read-clauses .read-clauses .kept .1 .0
+
+same-length-9 : tie.Need-same-length-9
+same-length-9 c =
+    let after-read-clauses = c .before .before .before .before .before .before .before .before .before .before .before .before .before .before .before .before .before .before .before .before .before .before .before .before .before .before .before .before .before .before .before .before .before .before .before .before .before .before .before .before .before .before .before in
+    let after-judge-proof = c .before .before .before .before .before .before .before .before .before .before .before .before .before .before .before .before .before .before in
+    after-judge-proof .judge-proof .kept .1 .1 .0 ∙ after-read-clauses .read-clauses .kept .1 .1 .0
+
+same-length-10 : tie.Need-same-length-10
+same-length-10 c =
+    let after-read-clauses = c .before .before .before .before .before .before .before .before .before .before .before .before .before .before .before .before .before .before .before .before .before .before .before .before .before .before .before .before .before .before .before .before .before .before .before .before .before .before .before .before .before .before .before in
+    let after-judge-proof = c .before .before .before .before .before .before .before .before .before .before .before .before .before .before .before .before .before .before in
+    after-judge-proof .judge-proof .kept .1 .1 .1 .0 ∙ after-read-clauses .read-clauses .kept .1 .1 .1 .0
+
+same-length-11 : tie.Need-same-length-11
+same-length-11 c =
+    let after-read-clauses = c .before .before .before .before .before .before .before .before .before .before .before .before .before .before .before .before .before .before .before .before .before .before .before .before .before .before .before .before .before .before .before .before .before .before .before .before .before .before .before .before .before .before .before in
+    let after-judge-proof = c .before .before .before .before .before .before .before .before .before .before .before .before .before .before .before .before .before .before in
+    after-judge-proof .judge-proof .kept .1 .1 .1 .1 .0 ∙ after-read-clauses .read-clauses .kept .1 .1 .1 .1 .0
+
+same-length-12 : tie.Need-same-length-12
+same-length-12 c =
+    let after-judge-proof = c .before .before .before .before .before .before .before .before .before .before .before .before .before .before .before .before .before .before in
+    after-judge-proof .judge-proof .kept .1 .1 .1 .1 .1 .0
+
+same-length-13 : tie.Need-same-length-13
+same-length-13 c =
+    let after-judge-proof = c .before .before .before .before .before .before .before .before .before .before .before .before .before .before .before .before .before .before in
+    after-judge-proof .judge-proof .kept .1 .1 .1 .1 .1 .1 .0
+
+same-length-14 : tie.Need-same-length-14
+same-length-14 c =
+    let after-read-clauses = c .before .before .before .before .before .before .before .before .before .before .before .before .before .before .before .before .before .before .before .before .before .before .before .before .before .before .before .before .before .before .before .before .before .before .before .before .before .before .before .before .before .before .before in
+    let after-judge-proof = c .before .before .before .before .before .before .before .before .before .before .before .before .before .before .before .before .before .before in
+    after-judge-proof .judge-proof .kept .1 .1 .1 .1 .1 .1 .1 .0 ∙ after-read-clauses .read-clauses .kept .1 .1 .1 .1 .1 .0
+
+same-length-15 : tie.Need-same-length-15
+same-length-15 c =
+    let after-judge-proof = c .before .before .before .before .before .before .before .before .before .before .before .before .before .before .before .before .before .before in
+    after-judge-proof .judge-proof .kept .1 .1 .1 .1 .1 .1 .1 .1 .0
+
+returns-2 : tie.Need-returns-2
+returns-2 c =
+    let start = c .before .before .before .before .before .before .before .before .before .before .before .before .before .before .before .before .before .before .before .before .before .before .before .before .before .before .before .before .before .before .before .before .before .before .before .before .before .before .before .before .before .before .before .before .before .before .before .before .before .before .before .before .before .before .before .before .before .before .before .before .before in
+    let after-read-clauses = c .before .before .before .before .before .before .before .before .before .before .before .before .before .before .before .before .before .before .before .before .before .before .before .before .before .before .before .before .before .before .before .before .before .before .before .before .before .before .before .before .before .before .before in
+    let after-count = c .before .before .before .before .before .before .before .before .before .before .before .before .before .before .before .before .before .before .before .before .before .before .before .before .before .before .before .before .before in
+    let after-judge-proof = c .before .before .before .before .before .before .before .before .before .before .before .before .before .before .before .before .before .before in
+    let a = start .args in
+    let x = after-read-clauses .read-clauses .last in
+    after-judge-proof .judge-proof .ensures ∙ begun-is (a .variables) (a .proof .now) (x .0) (x .1 .0) (x .1 .1 .0) (x .1 .1 .1 .0) (x .1 .1 .1 .1 .0) (x .1 .1 .1 .1 .1 .0) (length (a .vars .now)) (length (a .members .now)) (length (a .scratch .now)) _ _ (after-read-clauses .read-clauses .ensures .0 (a .proof .now)) _ _ (after-count .count .given .1) (after-read-clauses .read-clauses .kept .0) (after-read-clauses .read-clauses .kept .1 .1 .1 .1 .1 .0)
+
+pub judge-clauses-spec : {M : Type 1} → statement M
+judge-clauses-spec = tie.close (tie.spec read-clauses-requires enum-known-number empty-requires enum-known-count judge-proof-requires same-length same-length-2 same-length-3 same-length-4 same-length-5 same-length-6 returns same-length-7 same-length-8 same-length-9 same-length-10 same-length-11 same-length-12 same-length-13 same-length-14 same-length-15 returns-2)

@@ -1,0 +1,89 @@
+-- `judge_proof` leaves the outcome of the records read, with the nodes that do not stay dropped. Assumes nothing.
+use mathlib.Core.Path.{refl, sym, ap, _∙_}
+use Prim.Native.Nat.{suc}
+use lib.ListN.{length}
+use Rattle.table.specs.Indexed.{tableOf}
+use Rattle.verdict.specs.Check as check
+use Rattle.steps.specs.declared.State.{State}
+use Rattle.steps.specs.States.{Lent, lentOf}
+use Rattle.session.proofs.Finish.{judged-is, first-is, first-held}
+use Rattle.session.proofs.proof.judge_proof.Statement.{statement}
+use Rattle.session.proofs.proof.judge_proof.Tie as tie
+
+read-records-requires : tie.Need-read-records-requires
+read-records-requires c κs =
+    let start = c .before .before .before .before .before .before .before .before .before .before .before .before .before .before .before .before .before .before .before in
+    let a = start .args in
+    (first-held (a .variables) (lentOf (a .vars .now) (a .lows .now) (a .highs .now) (a .heads .now) (a .links .now) (a .members .now) (a .scratch .now)) (a .count) (a .made) (start .pre .0) (start .pre .1) (start .pre .2) (start .pre .3), start .pre .4, start .pre .5)
+
+drop-to-requires : tie.Need-drop-to-requires
+drop-to-requires c κs =
+    let after-read-records = c .before .before .before .before .before .before .before .before .before .before .before .before .before .before .before .before .before .before .before .before .before .before .before .before in
+    let E = after-read-records .read-records .ensures .1 in (E .good, E .least, E .kept)
+
+same-length : tie.Need-same-length
+same-length c =
+    let after-read-records = c .before .before .before .before .before .before .before .before .before .before .before .before .before .before .before .before .before .before .before .before .before .before .before .before .before .before .before .before .before .before .before .before .before .before .before in
+    let after-drop-to = c .before .before .before .before .before .before .before .before .before .before in
+    after-drop-to .drop-to .kept .0 ∙ after-read-records .read-records .kept .0
+
+same-length-2 : tie.Need-same-length-2
+same-length-2 c =
+    let after-read-records = c .before .before .before .before .before .before .before .before .before .before .before .before .before .before .before .before .before .before .before .before .before .before .before .before .before .before .before .before .before .before .before .before .before .before .before in
+    let after-drop-to = c .before .before .before .before .before .before .before .before .before .before in
+    after-drop-to .drop-to .kept .1 .0 ∙ after-read-records .read-records .kept .1 .0
+
+same-length-3 : tie.Need-same-length-3
+same-length-3 c =
+    let after-read-records = c .before .before .before .before .before .before .before .before .before .before .before .before .before .before .before .before .before .before .before .before .before .before .before .before .before .before .before .before .before .before .before .before .before .before .before in
+    let after-drop-to = c .before .before .before .before .before .before .before .before .before .before in
+    after-drop-to .drop-to .kept .1 .1 .0 ∙ after-read-records .read-records .kept .1 .1 .0
+
+same-length-4 : tie.Need-same-length-4
+same-length-4 c =
+    let after-read-records = c .before .before .before .before .before .before .before .before .before .before .before .before .before .before .before .before .before .before .before .before .before .before .before .before .before .before .before .before .before .before .before .before .before .before .before in
+    let after-drop-to = c .before .before .before .before .before .before .before .before .before .before in
+    after-drop-to .drop-to .kept .1 .1 .1 .0 ∙ after-read-records .read-records .kept .1 .1 .1 .0
+
+same-length-5 : tie.Need-same-length-5
+same-length-5 c =
+    let after-read-records = c .before .before .before .before .before .before .before .before .before .before .before .before .before .before .before .before .before .before .before .before .before .before .before .before .before .before .before .before .before .before .before .before .before .before .before in
+    let after-drop-to = c .before .before .before .before .before .before .before .before .before .before in
+    after-drop-to .drop-to .kept .1 .1 .1 .1 .0 ∙ after-read-records .read-records .kept .1 .1 .1 .1 .0
+
+same-length-6 : tie.Need-same-length-6
+same-length-6 c =
+    let after-read-records = c .before .before .before .before .before .before .before .before .before .before .before .before .before .before .before .before .before .before .before .before .before .before .before .before .before .before .before .before .before .before .before .before .before .before .before in
+    after-read-records .read-records .kept .1 .1 .1 .1 .1 .0
+
+same-length-7 : tie.Need-same-length-7
+same-length-7 c =
+    let after-read-records = c .before .before .before .before .before .before .before .before .before .before .before .before .before .before .before .before .before .before .before .before .before .before .before .before .before .before .before .before .before .before .before .before .before .before .before in
+    after-read-records .read-records .kept .1 .1 .1 .1 .1 .1 .0
+
+same-length-8 : tie.Need-same-length-8
+same-length-8 c =
+    let after-read-records = c .before .before .before .before .before .before .before .before .before .before .before .before .before .before .before .before .before .before .before .before .before .before .before .before .before .before .before .before .before .before .before .before .before .before .before in
+    after-read-records .read-records .kept .1 .1 .1 .1 .1 .1 .1 .0
+
+same-length-9 : tie.Need-same-length-9
+same-length-9 c =
+    let after-read-records = c .before .before .before .before .before .before .before .before .before .before .before .before .before .before .before .before .before .before .before .before .before .before .before .before .before .before .before .before .before .before .before .before .before .before .before in
+    after-read-records .read-records .kept .1 .1 .1 .1 .1 .1 .1 .1 .0
+
+returns : tie.Need-returns
+returns c =
+    let start = c .before .before .before .before .before .before .before .before .before .before .before .before .before .before .before .before .before .before .before .before .before .before .before .before .before .before .before .before .before .before .before .before .before .before .before .before .before .before .before .before .before .before .before .before .before .before .before .before .before .before .before .before .before .before .before in
+    let after-read-records = c .before .before .before .before .before .before .before .before .before .before .before .before .before .before .before .before .before .before .before .before .before .before .before .before .before .before .before .before .before .before .before .before .before .before .before in
+    let after-drop-to = c .before .before .before .before .before .before .before .before .before .before in
+    let a = start .args in
+    let x = after-read-records .read-records .last in
+    let l : Lent = lentOf (x .0) (x .1 .0) (x .1 .1 .0) (x .1 .1 .1 .0) (x .1 .1 .1 .1 .0) (x .1 .1 .1 .1 .1 .1 .1 .0) (x .1 .1 .1 .1 .1 .1 .1 .1 .0) in
+    let st : State = after-read-records .read-records .result .state in
+    let d = after-drop-to .drop-to .last in
+    judged-is l st (after-read-records .read-records .ensures .1) (tableOf (d .0) (d .1 .0) (d .1 .1 .0) (d .1 .1 .1 .0) (d .1 .1 .1 .1 .0) (st .kept)) refl (after-drop-to .drop-to .ensures) _ _ (after-read-records .read-records .kept .0) (after-read-records .read-records .kept .1 .1 .1 .1 .1 .1 .1 .0) _ _ _ _
+    (ap (λ (first : check.State). check.records (suc (length (a .proof .now))) (a .variables) (length (a .vars .now)) (a .proof .now) first 0)
+    (sym (first-is (a .variables) (lentOf (a .vars .now) (a .lows .now) (a .highs .now) (a .heads .now) (a .links .now) (a .members .now) (a .scratch .now)) (a .count) (a .made) (start .pre .0))) ∙ after-read-records .read-records .ensures .0)
+
+pub judge-proof-spec : {M : Type 1} → statement M
+judge-proof-spec = tie.close (tie.spec read-records-requires drop-to-requires same-length same-length-2 same-length-3 same-length-4 same-length-5 same-length-6 same-length-7 same-length-8 same-length-9 returns)

@@ -1,0 +1,228 @@
+-- `read_records` says what the definition says of the records: at the loop's head what is to be said is what is left to be said
+-- (Going). Assumes nothing.
+use mathlib.Core.Path.{_≡_, refl, _∙_}
+use Prim.Native.Nat.{suc, _+_, _-_, _^_, _<_}
+use native.Mathlib.Omega.{arith}
+use lib.ListN.{length}
+use borrow.Author.Needs.{needs}
+use Rattle.verdict.specs.Check.{records}
+use Rattle.steps.specs.States.{Lent, lentOf, stateOf}
+use Rattle.session.proofs.Going.{Going, record-short, going-start, going-asks, going-end, stop-near, going-stop, next-within, next-takes, going-next}
+use Rattle.session.proofs.proof.read_records.Statement.{statement}
+use Rattle.session.proofs.proof.read_records.Tie as tie
+
+abbrev Inv-loop : tie.InvT-loop
+Inv-loop vars₀ lows₀ highs₀ heads₀ links₀ memo₀ marks₀ members₀ scratch₀ variables proof state₀ at₀ vars lows highs heads links memo marks members scratch state at =
+    Going variables (length vars₀) proof (records (suc (length proof)) variables (length vars₀) proof (stateOf (lentOf vars₀ lows₀ highs₀ heads₀ links₀ members₀ scratch₀) state₀) 0)
+    (lentOf vars lows highs heads links members scratch) marks memo state at
+    × (length vars ≡ length vars₀) × (length lows ≡ length lows₀) × (length highs ≡ length highs₀) × (length heads ≡ length heads₀) × (length links ≡ length links₀) × (length memo ≡ length memo₀) × (length marks ≡ length marks₀) × (length members ≡ length members₀) × (length scratch ≡ length scratch₀)
+
+abbrev μ-loop : tie.MeasureT-loop
+μ-loop vars₀ lows₀ highs₀ heads₀ links₀ memo₀ marks₀ members₀ scratch₀ variables proof state₀ at₀ vars lows highs heads links memo marks members scratch state at =
+    length proof - at
+
+-- what a step leaves
+module _ (a : tie.After-record-step Inv-loop μ-loop) where
+  abbrev lent : Lent
+  lent =
+      let x = a .record-step .last in
+      lentOf (x .0) (x .1 .0) (x .1 .1 .0) (x .1 .1 .1 .0) (x .1 .1 .1 .1 .0) (x .1 .1 .1 .1 .1 .1 .1 .0) (x .1 .1 .1 .1 .1 .1 .1 .1 .0)
+
+-- the byte behind a record's first one has a place
+room : (a : tie.In-loop Inv-loop μ-loop) → a .before .loop .at + 1 < 2 ^ 64
+room a = omega (arith, a .loop-test .taken)
+
+loop-holds : tie.Need-loop-holds Inv-loop μ-loop
+loop-holds c =
+    let start = c .before .before .before .before .before .before .before .before .before .before in
+    (going-start _ _ _ _ _ _ (start .pre), refl, refl, refl, refl, refl, refl, refl, refl, refl)
+
+record-at-requires : tie.Need-record-at-requires Inv-loop μ-loop
+record-at-requires c κs =
+    search needs
+
+record-length-requires : tie.Need-record-length-requires Inv-loop μ-loop
+record-length-requires c κs =
+    search needs
+
+add-next : tie.Need-add-next Inv-loop μ-loop
+add-next c =
+    omega (arith, c .before .before .loop-test .taken, c .record-length .ensures, record-short (c .before .record-at .result))
+
+record-step-requires : tie.Need-record-step-requires Inv-loop μ-loop
+record-step-requires c κs =
+    let at-loop = c .before .before .before .before .before .before .before .before .before .before .before .before in
+    going-asks _ _ _ _ _ _ _ _ _ (at-loop .loop .inv .0)
+
+enum-known-number : tie.Need-enum-known-number Inv-loop μ-loop
+enum-known-number c =
+    search needs
+
+add-t41 : tie.Need-add-t41 Inv-loop μ-loop
+add-t41 c =
+    let at-loop = c .before .before .before .before .before .before .before .before .before .before .before .before .before .before .before .before .before .before .before .before .before .before .before .before .before .before .before .before .before .before .before .before .before .before in
+    let in-loop = c .before .before .before .before .before .before .before .before .before .before .before .before .before .before .before .before .before .before .before .before .before .before .before .before .before .before .before .before .before .before .before .before .before in
+    let after-record-at = c .before .before .before .before .before .before .before .before .before .before .before .before .before .before .before .before .before .before .before .before .before .before .before .before .before .before .before .before .before .before .before .before in
+    let after-record-length = c .before .before .before .before .before .before .before .before .before .before .before .before .before .before .before .before .before .before .before .before .before .before .before .before .before .before .before .before .before .before .before in
+    let after-record-step = c .before .before .before .before .before .before .before .before .before .before .before .before .before .before .before .before .before .before .before .before .before in
+    omega (arith, room in-loop, stop-near _ _ _ _ _ _ _ _ _ (at-loop .loop .inv .0) _ (after-record-at .record-at .ensures) _ (after-record-length .record-length .ensures) (lent after-record-step) _ (after-record-step .record-step .ensures .0) _ _ (c .before .number .given .1))
+
+same-length : tie.Need-same-length Inv-loop μ-loop
+same-length c =
+    let at-loop = c .before .before .before .before .before .before .before .before .before .before .before .before .before .before .before .before .before .before .before .before .before .before .before .before .before .before .before .before .before .before .before .before .before .before in
+    let after-record-step = c .before .before .before .before .before .before .before .before .before .before .before .before .before .before .before .before .before .before .before .before .before in
+    after-record-step .record-step .kept .0 ∙ at-loop .loop .inv .1
+
+same-length-2 : tie.Need-same-length-2 Inv-loop μ-loop
+same-length-2 c =
+    let at-loop = c .before .before .before .before .before .before .before .before .before .before .before .before .before .before .before .before .before .before .before .before .before .before .before .before .before .before .before .before .before .before .before .before .before .before in
+    let after-record-step = c .before .before .before .before .before .before .before .before .before .before .before .before .before .before .before .before .before .before .before .before .before in
+    after-record-step .record-step .kept .1 .0 ∙ at-loop .loop .inv .2
+
+same-length-3 : tie.Need-same-length-3 Inv-loop μ-loop
+same-length-3 c =
+    let at-loop = c .before .before .before .before .before .before .before .before .before .before .before .before .before .before .before .before .before .before .before .before .before .before .before .before .before .before .before .before .before .before .before .before .before .before in
+    let after-record-step = c .before .before .before .before .before .before .before .before .before .before .before .before .before .before .before .before .before .before .before .before .before in
+    after-record-step .record-step .kept .1 .1 .0 ∙ at-loop .loop .inv .3
+
+same-length-4 : tie.Need-same-length-4 Inv-loop μ-loop
+same-length-4 c =
+    let at-loop = c .before .before .before .before .before .before .before .before .before .before .before .before .before .before .before .before .before .before .before .before .before .before .before .before .before .before .before .before .before .before .before .before .before .before in
+    let after-record-step = c .before .before .before .before .before .before .before .before .before .before .before .before .before .before .before .before .before .before .before .before .before in
+    after-record-step .record-step .kept .1 .1 .1 .0 ∙ at-loop .loop .inv .4
+
+same-length-5 : tie.Need-same-length-5 Inv-loop μ-loop
+same-length-5 c =
+    let at-loop = c .before .before .before .before .before .before .before .before .before .before .before .before .before .before .before .before .before .before .before .before .before .before .before .before .before .before .before .before .before .before .before .before .before .before in
+    let after-record-step = c .before .before .before .before .before .before .before .before .before .before .before .before .before .before .before .before .before .before .before .before .before in
+    after-record-step .record-step .kept .1 .1 .1 .1 .0 ∙ at-loop .loop .inv .5
+
+same-length-6 : tie.Need-same-length-6 Inv-loop μ-loop
+same-length-6 c =
+    let at-loop = c .before .before .before .before .before .before .before .before .before .before .before .before .before .before .before .before .before .before .before .before .before .before .before .before .before .before .before .before .before .before .before .before .before .before in
+    let after-record-step = c .before .before .before .before .before .before .before .before .before .before .before .before .before .before .before .before .before .before .before .before .before in
+    after-record-step .record-step .kept .1 .1 .1 .1 .1 .0 ∙ at-loop .loop .inv .6
+
+same-length-7 : tie.Need-same-length-7 Inv-loop μ-loop
+same-length-7 c =
+    let at-loop = c .before .before .before .before .before .before .before .before .before .before .before .before .before .before .before .before .before .before .before .before .before .before .before .before .before .before .before .before .before .before .before .before .before .before in
+    let after-record-step = c .before .before .before .before .before .before .before .before .before .before .before .before .before .before .before .before .before .before .before .before .before in
+    after-record-step .record-step .kept .1 .1 .1 .1 .1 .1 .0 ∙ at-loop .loop .inv .7
+
+same-length-8 : tie.Need-same-length-8 Inv-loop μ-loop
+same-length-8 c =
+    let at-loop = c .before .before .before .before .before .before .before .before .before .before .before .before .before .before .before .before .before .before .before .before .before .before .before .before .before .before .before .before .before .before .before .before .before .before in
+    let after-record-step = c .before .before .before .before .before .before .before .before .before .before .before .before .before .before .before .before .before .before .before .before .before in
+    after-record-step .record-step .kept .1 .1 .1 .1 .1 .1 .1 .0 ∙ at-loop .loop .inv .8
+
+same-length-9 : tie.Need-same-length-9 Inv-loop μ-loop
+same-length-9 c =
+    let at-loop = c .before .before .before .before .before .before .before .before .before .before .before .before .before .before .before .before .before .before .before .before .before .before .before .before .before .before .before .before .before .before .before .before .before .before in
+    let after-record-step = c .before .before .before .before .before .before .before .before .before .before .before .before .before .before .before .before .before .before .before .before .before in
+    after-record-step .record-step .kept .1 .1 .1 .1 .1 .1 .1 .1 .0 ∙ at-loop .loop .inv .9
+
+returns : tie.Need-returns Inv-loop μ-loop
+returns c =
+    let at-loop = c .before .before .before .before .before .before .before .before .before .before .before .before .before .before .before .before .before .before .before .before .before .before .before .before .before .before .before .before .before .before .before .before .before .before in
+    let after-record-at = c .before .before .before .before .before .before .before .before .before .before .before .before .before .before .before .before .before .before .before .before .before .before .before .before .before .before .before .before .before .before .before .before in
+    let after-record-length = c .before .before .before .before .before .before .before .before .before .before .before .before .before .before .before .before .before .before .before .before .before .before .before .before .before .before .before .before .before .before .before in
+    let after-record-step = c .before .before .before .before .before .before .before .before .before .before .before .before .before .before .before .before .before .before .before .before .before in
+    going-stop _ _ _ _ _ _ _ _ _ (at-loop .loop .inv .0) _ (after-record-at .record-at .ensures) _ (after-record-length .record-length .ensures) (lent after-record-step) _ (after-record-step .record-step .ensures .0) _ _ (c .before .number .given .1)
+
+enum-known-s : tie.Need-enum-known-s Inv-loop μ-loop
+enum-known-s c =
+    search needs
+
+loop-less : tie.Need-loop-less Inv-loop μ-loop
+loop-less c =
+    let at-loop = c .before .before .before .before .before .before .before .before .before .before .before .before .before .before .before .before .before .before .before .before .before .before .before .before .before .before .before .before .before .before .before .before .before .before in
+    let in-loop = c .before .before .before .before .before .before .before .before .before .before .before .before .before .before .before .before .before .before .before .before .before .before .before .before .before .before .before .before .before .before .before .before .before in
+    let after-record-at = c .before .before .before .before .before .before .before .before .before .before .before .before .before .before .before .before .before .before .before .before .before .before .before .before .before .before .before .before .before .before .before .before in
+    let after-record-length = c .before .before .before .before .before .before .before .before .before .before .before .before .before .before .before .before .before .before .before .before .before .before .before .before .before .before .before .before .before .before .before in
+    let after-record-step = c .before .before .before .before .before .before .before .before .before .before .before .before .before .before .before .before .before .before .before .before .before in
+    omega (arith, in-loop .loop-test .taken, next-takes _ _ _ _ _ _ _ _ _ (at-loop .loop .inv .0) _ (after-record-at .record-at .ensures) _ (after-record-length .record-length .ensures) (lent after-record-step) _ (after-record-step .record-step .ensures .0) _ (c .before .s .given .1), next-within _ _ _ _ _ _ _ _ _ (at-loop .loop .inv .0) _ (after-record-at .record-at .ensures) _ (after-record-length .record-length .ensures) (lent after-record-step) _ (after-record-step .record-step .ensures .0) _ (c .before .s .given .1))
+
+loop-again : tie.Need-loop-again Inv-loop μ-loop
+loop-again c =
+    let at-loop = c .before .before .before .before .before .before .before .before .before .before .before .before .before .before .before .before .before .before .before .before .before .before .before .before .before .before .before .before .before .before .before .before .before .before in
+    let after-record-at = c .before .before .before .before .before .before .before .before .before .before .before .before .before .before .before .before .before .before .before .before .before .before .before .before .before .before .before .before .before .before .before .before in
+    let after-record-length = c .before .before .before .before .before .before .before .before .before .before .before .before .before .before .before .before .before .before .before .before .before .before .before .before .before .before .before .before .before .before .before in
+    let after-record-step = c .before .before .before .before .before .before .before .before .before .before .before .before .before .before .before .before .before .before .before .before .before in
+    (going-next _ _ _ _ _ _ _ _ _ (at-loop .loop .inv .0) _ (after-record-at .record-at .ensures) _ (after-record-length .record-length .ensures) (lent after-record-step) _ (after-record-step .record-step .ensures .0) _ (c .before .s .given .1) _ _ (after-record-step .record-step .kept .0) (after-record-step .record-step .ensures .1) (after-record-step .record-step .kept .1 .1 .1 .1 .1 .0), after-record-step .record-step .kept .0 ∙ at-loop .loop .inv .1, after-record-step .record-step .kept .1 .0 ∙ at-loop .loop .inv .2, after-record-step .record-step .kept .1 .1 .0 ∙ at-loop .loop .inv .3, after-record-step .record-step .kept .1 .1 .1 .0 ∙ at-loop .loop .inv .4, after-record-step .record-step .kept .1 .1 .1 .1 .0 ∙ at-loop .loop .inv .5, after-record-step .record-step .kept .1 .1 .1 .1 .1 .0 ∙ at-loop .loop .inv .6, after-record-step .record-step .kept .1 .1 .1 .1 .1 .1 .0 ∙ at-loop .loop .inv .7, after-record-step .record-step .kept .1 .1 .1 .1 .1 .1 .1 .0 ∙ at-loop .loop .inv .8, after-record-step .record-step .kept .1 .1 .1 .1 .1 .1 .1 .1 .0 ∙ at-loop .loop .inv .9)
+
+same-length-10 : tie.Need-same-length-10 Inv-loop μ-loop
+same-length-10 c =
+    c .before .loop .inv .1
+
+same-length-11 : tie.Need-same-length-11 Inv-loop μ-loop
+same-length-11 c =
+    c .before .loop .inv .2
+
+same-length-12 : tie.Need-same-length-12 Inv-loop μ-loop
+same-length-12 c =
+    c .before .loop .inv .3
+
+same-length-13 : tie.Need-same-length-13 Inv-loop μ-loop
+same-length-13 c =
+    c .before .loop .inv .4
+
+same-length-14 : tie.Need-same-length-14 Inv-loop μ-loop
+same-length-14 c =
+    c .before .loop .inv .5
+
+same-length-15 : tie.Need-same-length-15 Inv-loop μ-loop
+same-length-15 c =
+    c .before .loop .inv .6
+
+same-length-16 : tie.Need-same-length-16 Inv-loop μ-loop
+same-length-16 c =
+    c .before .loop .inv .7
+
+same-length-17 : tie.Need-same-length-17 Inv-loop μ-loop
+same-length-17 c =
+    c .before .loop .inv .8
+
+same-length-18 : tie.Need-same-length-18 Inv-loop μ-loop
+same-length-18 c =
+    c .before .loop .inv .9
+
+returns-2 : tie.Need-returns-2 Inv-loop μ-loop
+returns-2 c =
+    going-end _ _ _ _ _ _ _ _ _ (c .before .loop .inv .0) (omega (arith, c .loop-test .left))
+
+pub read-records-spec : {M : Type 1} → statement M
+read-records-spec =
+    tie.close
+    (tie.spec
+    Inv-loop
+    μ-loop
+    loop-holds
+    record-at-requires
+    record-length-requires
+    add-next
+    record-step-requires
+    enum-known-number
+    add-t41
+    same-length
+    same-length-2
+    same-length-3
+    same-length-4
+    same-length-5
+    same-length-6
+    same-length-7
+    same-length-8
+    same-length-9
+    returns
+    enum-known-s
+    loop-less
+    loop-again
+    same-length-10
+    same-length-11
+    same-length-12
+    same-length-13
+    same-length-14
+    same-length-15
+    same-length-16
+    same-length-17
+    same-length-18
+    returns-2)

@@ -1,0 +1,89 @@
+-- `run` leaves the outcome of the whole check: the lists are emptied first, the scratch list last. Assumes nothing.
+use mathlib.Core.Path.{sym, ap, _∙_}
+use lib.ListN.{length}
+use borrow.Author.Needs.{needs}
+use Rattle.conflict.specs.Marks.{unmarked}
+use Rattle.verdict.specs.Check.{zeros}
+use Rattle.session.proofs.Finish.{lent-sized, emptied-opened, run-is}
+use Rattle.session.proofs.run.Statement.{statement}
+use Rattle.session.proofs.run.Tie as tie
+
+empty-requires : tie.Need-empty-requires
+empty-requires c κs =
+    search needs
+
+judge-requires : tie.Need-judge-requires
+judge-requires c κs =
+    let start = c .before .before .before .before .before .before .before .before .before .before .before .before .before .before .before .before .before .before .before .before .before .before .before .before .before .before .before .before .before .before .before .before .before in
+    let after-empty = c .before .before .before .before .before .before .before .before .before .before .before .before .before .before .before .before .before in
+    let a = start .args in
+    let z = lent-sized _ _ _ _ _ (start .pre .0) in (
+      emptied-opened (length (a .vars .now)) (length (a .members .now)) (z .columns .least) (z .columns .most) (z .member-room) _ _ _ _ _ _
+          (after-empty .empty .ensures .0) (after-empty .empty .ensures .1 .0 ∙ ap zeros (z .columns .lows)) (after-empty .empty .ensures .1 .1 .0 ∙ ap zeros (z .columns .highs)) (start .pre .1 .0) (start .pre .1 .1) (after-empty .empty .ensures .1 .1 .1),
+      (z .scratch-room, start .pre .1 .2 ∙ ap unmarked (sym (after-empty .empty .kept .0)), start .pre .1 .3),
+    )
+
+clear-numbers-requires : tie.Need-clear-numbers-requires
+clear-numbers-requires c κs =
+    search needs
+
+same-length : tie.Need-same-length
+same-length c =
+    let after-empty = c .before .before .before .before .before .before .before .before .before .before .before .before .before .before .before .before .before .before .before .before .before .before .before .before .before .before .before .before .before .before .before .before .before .before .before .before .before .before .before .before in
+    let after-judge = c .before .before .before .before .before .before .before .before .before .before .before .before .before .before .before .before .before .before .before .before .before .before in
+    after-judge .judge .kept .0 ∙ after-empty .empty .kept .0
+
+same-length-2 : tie.Need-same-length-2
+same-length-2 c =
+    let after-empty = c .before .before .before .before .before .before .before .before .before .before .before .before .before .before .before .before .before .before .before .before .before .before .before .before .before .before .before .before .before .before .before .before .before .before .before .before .before .before .before .before in
+    let after-judge = c .before .before .before .before .before .before .before .before .before .before .before .before .before .before .before .before .before .before .before .before .before .before in
+    after-judge .judge .kept .1 .0 ∙ after-empty .empty .kept .1 .0
+
+same-length-3 : tie.Need-same-length-3
+same-length-3 c =
+    let after-empty = c .before .before .before .before .before .before .before .before .before .before .before .before .before .before .before .before .before .before .before .before .before .before .before .before .before .before .before .before .before .before .before .before .before .before .before .before .before .before .before .before in
+    let after-judge = c .before .before .before .before .before .before .before .before .before .before .before .before .before .before .before .before .before .before .before .before .before .before in
+    after-judge .judge .kept .1 .1 .0 ∙ after-empty .empty .kept .1 .1 .0
+
+same-length-4 : tie.Need-same-length-4
+same-length-4 c =
+    let after-judge = c .before .before .before .before .before .before .before .before .before .before .before .before .before .before .before .before .before .before .before .before .before .before in
+    after-judge .judge .kept .1 .1 .1 .0
+
+same-length-5 : tie.Need-same-length-5
+same-length-5 c =
+    let after-judge = c .before .before .before .before .before .before .before .before .before .before .before .before .before .before .before .before .before .before .before .before .before .before in
+    after-judge .judge .kept .1 .1 .1 .1 .0
+
+same-length-6 : tie.Need-same-length-6
+same-length-6 c =
+    let after-judge = c .before .before .before .before .before .before .before .before .before .before .before .before .before .before .before .before .before .before .before .before .before .before in
+    after-judge .judge .kept .1 .1 .1 .1 .1 .0
+
+same-length-7 : tie.Need-same-length-7
+same-length-7 c =
+    let after-judge = c .before .before .before .before .before .before .before .before .before .before .before .before .before .before .before .before .before .before .before .before .before .before in
+    after-judge .judge .kept .1 .1 .1 .1 .1 .1 .0
+
+same-length-8 : tie.Need-same-length-8
+same-length-8 c =
+    let after-empty = c .before .before .before .before .before .before .before .before .before .before .before .before .before .before .before .before .before .before .before .before .before .before .before .before .before .before .before .before .before .before .before .before .before .before .before .before .before .before .before .before in
+    let after-judge = c .before .before .before .before .before .before .before .before .before .before .before .before .before .before .before .before .before .before .before .before .before .before in
+    after-judge .judge .kept .1 .1 .1 .1 .1 .1 .1 .0 ∙ after-empty .empty .kept .1 .1 .1 .0
+
+same-length-9 : tie.Need-same-length-9
+same-length-9 c =
+    let after-judge = c .before .before .before .before .before .before .before .before .before .before .before .before .before .before .before .before .before .before .before .before .before .before in
+    c .before .before .clear-numbers .kept .0 ∙ after-judge .judge .kept .1 .1 .1 .1 .1 .1 .1 .1 .0
+
+returns : tie.Need-returns
+returns c =
+    let start = c .before .before .before .before .before .before .before .before .before .before .before .before .before .before .before .before .before .before .before .before .before .before .before .before .before .before .before .before .before .before .before .before .before .before .before .before .before .before .before .before .before .before .before .before .before .before .before .before .before .before .before .before .before .before .before .before in
+    let after-empty = c .before .before .before .before .before .before .before .before .before .before .before .before .before .before .before .before .before .before .before .before .before .before .before .before .before .before .before .before .before .before .before .before .before .before .before .before .before .before .before .before in
+    let after-judge = c .before .before .before .before .before .before .before .before .before .before .before .before .before .before .before .before .before .before .before .before .before .before in
+    let a = start .args in
+    run-is (length (a .vars .now)) (length (a .members .now)) (length (a .scratch .now)) (a .formula .now) (a .proof .now) _ _ _ _ _ _ _ _ _
+    (after-judge .judge .ensures) (after-empty .empty .kept .0) (after-empty .empty .kept .1 .1 .1 .0) (c .before .before .clear-numbers .ensures) (after-judge .judge .kept .1 .1 .1 .1 .1 .1 .1 .1 .0)
+
+pub run-spec : {M : Type 1} → statement M
+run-spec = tie.close (tie.spec empty-requires judge-requires clear-numbers-requires same-length same-length-2 same-length-3 same-length-4 same-length-5 same-length-6 same-length-7 same-length-8 same-length-9 returns)

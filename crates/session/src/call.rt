@@ -1,0 +1,151 @@
+// The call of the whole check: 7 by the sizes, else working arrays as large as the table asks for.
+use crate::Checked;
+ghost use mathlib.Core.Path.{_≡_};
+ghost use mathlib.Core.Bool.{true};
+ghost use Prim.Native.Nat.{_≤_};
+ghost use lib.ListN.{length};
+ghost use Rattle.verdict.specs.Check.{verdict, lentFits, outcome, check};
+ghost use Rattle.session.specs.Checked.{outcomeOf};
+
+// Whether columns, member list and scratch list are of proper size.
+fn lent_fits(vars: &[u8], lows: &[u16], highs: &[u16], members: &[u16], scratch: &[u16]) -> bool
+    ensures { λ r. ⌜ r ≡ lentFits (now (vars .entry)) (now (lows .entry)) (now (highs .entry)) (now (members .entry)) (now (scratch .entry)) ⌝ }
+{
+    if !table::test::size_fits(vars, lows, highs) {
+        return false;
+    }
+    2048 <= members.len() && 4096 <= scratch.len()
+}
+
+// For up to 64 places.
+fn check_64<'a>(
+    vars: &mut [u8],
+    lows: &mut [u16],
+    highs: &mut [u16],
+    members: &mut [u16],
+    scratch: &mut [u16],
+    formula: &'a [u8],
+    proof: &'a [u8],
+) -> Checked
+    requires { ⌜ (lentFits (now vars) (now lows) (now highs) (now members) (now scratch) ≡ true) × (length (now vars) ≤ 64) ⌝ }
+    ensures { λ r. ⌜ outcomeOf (now (vars .exit)) (now (lows .exit)) (now (highs .exit)) (now (members .exit)) (now (scratch .exit)) r ≡ outcome (length (now (vars .entry))) (length (now (members .entry))) (length (now (scratch .entry))) (verdict (length (now (vars .entry))) (now (formula .entry)) (now (proof .entry))) ⌝ }
+{
+    let mut heads = [0u16; 128];
+    let mut links = [0u16; 64];
+    let mut memo = [0u64; 1024];
+    let mut marks = [0u8; 64];
+    let places = vars.len();
+    let ends = 2 * places;
+    crate::run(
+        vars,
+        lows,
+        highs,
+        &mut heads[..ends],
+        &mut links[..places],
+        &mut memo,
+        &mut marks[..places],
+        members,
+        scratch,
+        formula,
+        proof,
+    )
+}
+
+// For up to 4,096 places.
+fn check_4096<'a>(
+    vars: &mut [u8],
+    lows: &mut [u16],
+    highs: &mut [u16],
+    members: &mut [u16],
+    scratch: &mut [u16],
+    formula: &'a [u8],
+    proof: &'a [u8],
+) -> Checked
+    requires { ⌜ (lentFits (now vars) (now lows) (now highs) (now members) (now scratch) ≡ true) × (length (now vars) ≤ 4096) ⌝ }
+    ensures { λ r. ⌜ outcomeOf (now (vars .exit)) (now (lows .exit)) (now (highs .exit)) (now (members .exit)) (now (scratch .exit)) r ≡ outcome (length (now (vars .entry))) (length (now (members .entry))) (length (now (scratch .entry))) (verdict (length (now (vars .entry))) (now (formula .entry)) (now (proof .entry))) ⌝ }
+{
+    let mut heads = [0u16; 8192];
+    let mut links = [0u16; 4096];
+    let mut memo = [0u64; 8192];
+    let mut marks = [0u8; 4096];
+    let places = vars.len();
+    let ends = 2 * places;
+    crate::run(
+        vars,
+        lows,
+        highs,
+        &mut heads[..ends],
+        &mut links[..places],
+        &mut memo,
+        &mut marks[..places],
+        members,
+        scratch,
+        formula,
+        proof,
+    )
+}
+
+// For up to 65,536 places.
+fn check_65536<'a>(
+    vars: &mut [u8],
+    lows: &mut [u16],
+    highs: &mut [u16],
+    members: &mut [u16],
+    scratch: &mut [u16],
+    formula: &'a [u8],
+    proof: &'a [u8],
+) -> Checked
+    requires { ⌜ (lentFits (now vars) (now lows) (now highs) (now members) (now scratch) ≡ true) × (length (now vars) ≤ 65536) ⌝ }
+    ensures { λ r. ⌜ outcomeOf (now (vars .exit)) (now (lows .exit)) (now (highs .exit)) (now (members .exit)) (now (scratch .exit)) r ≡ outcome (length (now (vars .entry))) (length (now (members .entry))) (length (now (scratch .entry))) (verdict (length (now (vars .entry))) (now (formula .entry)) (now (proof .entry))) ⌝ }
+{
+    let mut heads = [0u16; 131072];
+    let mut links = [0u16; 65536];
+    let mut memo = [0u64; 16384];
+    let mut marks = [0u8; 65536];
+    let places = vars.len();
+    let ends = 2 * places;
+    crate::run(
+        vars,
+        lows,
+        highs,
+        &mut heads[..ends],
+        &mut links[..places],
+        &mut memo,
+        &mut marks[..places],
+        members,
+        scratch,
+        formula,
+        proof,
+    )
+}
+
+// The whole check. What it says and leaves is the definition's.
+pub fn call<'a>(
+    vars: &mut [u8],
+    lows: &mut [u16],
+    highs: &mut [u16],
+    count: usize,
+    members: &mut [u16],
+    scratch: &mut [u16],
+    formula: &'a [u8],
+    proof: &'a [u8],
+) -> Checked
+    ensures { λ r. ⌜ outcomeOf (now (vars .exit)) (now (lows .exit)) (now (highs .exit)) (now (members .exit)) (now (scratch .exit)) r ≡ check (now (vars .entry)) (now (lows .entry)) (now (highs .entry)) count (now (members .entry)) (now (scratch .entry)) (now (formula .entry)) (now (proof .entry)) ⌝ }
+{
+    if !lent_fits(vars, lows, highs, members, scratch) {
+        return Checked {
+            number: 7,
+            place: 0,
+            lines: 0,
+            rounds: 0,
+            count,
+        };
+    }
+    if vars.len() <= 64 {
+        return check_64(vars, lows, highs, members, scratch, formula, proof);
+    }
+    if vars.len() <= 4096 {
+        return check_4096(vars, lows, highs, members, scratch, formula, proof);
+    }
+    check_65536(vars, lows, highs, members, scratch, formula, proof)
+}

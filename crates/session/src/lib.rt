@@ -1,0 +1,171 @@
+// The whole check over working arrays that are lent: the table emptied, the clauses made, the records judged, the rest dropped.
+use dimacs::Header;
+use formula::Start;
+ghost use mathlib.Core.Path.{_≡_};
+ghost use mathlib.Core.Bool.{true};
+ghost use mathlib.Core.List.{[]};
+ghost use Prim.Native.Nat.{_*_, _≤_};
+ghost use lib.ListN.{length};
+ghost use Rattle.dimacs.specs.Clauses.{clausesFrom};
+ghost use Rattle.table.specs.Indexed.{tableOf};
+ghost use Rattle.conflict.specs.Marks.{unmarked};
+ghost use Rattle.verdict.specs.Check.{emptied, clauses, verdict, zeros, lentFits, outcome};
+ghost use Rattle.session.specs.Checked.{outcomeOf};
+ghost use Rattle.session.specs.Formula.{Opened};
+
+pub mod call;
+pub mod clear;
+pub mod formula;
+pub mod proof;
+
+// What the check says: 01's number and its place, the accepted lines, their rounds, and the table's count.
+#[repr(C)]
+pub struct Checked {
+    pub number: u8,
+    pub place: usize,
+    pub lines: usize,
+    pub rounds: u64,
+    pub count: usize,
+}
+
+// The clauses from `from` on, then the proof, with table and member list emptied. The scratch list is then anything.
+fn judge_clauses<'a>(
+    vars: &mut [u8],
+    lows: &mut [u16],
+    highs: &mut [u16],
+    heads: &mut [u16],
+    links: &mut [u16],
+    memo: &mut [u64],
+    marks: &mut [u8],
+    members: &mut [u16],
+    scratch: &mut [u16],
+    variables: u8,
+    wanted: usize,
+    from: usize,
+    formula: &'a [u8],
+    proof: &'a [u8],
+) -> Checked
+    requires { ⌜ Opened (tableOf (now vars) (now lows) (now highs) (now heads) (now links) 2) (now members) ⌝ }
+    requires { ⌜ (variables ≤ 64) × (wanted ≤ 1024) × (from ≤ length (now formula)) × (4096 ≤ length (now scratch)) × (now marks ≡ unmarked (length (now vars))) × (3 ≤ length (now memo)) ⌝ }
+    ensures { λ r. ⌜ outcomeOf (now (vars .exit)) (now (lows .exit)) (now (highs .exit)) (now (members .exit)) (zeros (length (now (scratch .entry)))) r ≡ outcome (length (now (vars .entry))) (length (now (members .entry))) (length (now (scratch .entry))) (clauses variables (length (now (vars .entry))) (now (proof .entry)) emptied [] (clausesFrom (now (formula .entry)) variables wanted from)) ⌝ }
+{
+    match formula::read_clauses(
+        vars,
+        lows,
+        highs,
+        heads,
+        links,
+        members,
+        formula,
+        variables,
+        wanted,
+        from,
+    ) {
+        Start::Refused(number, place) => {
+            clear::empty(vars, lows, highs, members);
+            Checked {
+                number,
+                place,
+                lines: 0,
+                rounds: 0,
+                count: 2,
+            }
+        }
+        Start::Begun(count, made) => proof::judge_proof(
+            vars,
+            lows,
+            highs,
+            heads,
+            links,
+            memo,
+            marks,
+            members,
+            scratch,
+            variables,
+            count,
+            made,
+            proof,
+        ),
+    }
+}
+
+// The formula and the proof, with table and member list emptied. The scratch list is then anything.
+fn judge<'a>(
+    vars: &mut [u8],
+    lows: &mut [u16],
+    highs: &mut [u16],
+    heads: &mut [u16],
+    links: &mut [u16],
+    memo: &mut [u64],
+    marks: &mut [u8],
+    members: &mut [u16],
+    scratch: &mut [u16],
+    formula: &'a [u8],
+    proof: &'a [u8],
+) -> Checked
+    requires { ⌜ Opened (tableOf (now vars) (now lows) (now highs) (now heads) (now links) 2) (now members) ⌝ }
+    requires { ⌜ (4096 ≤ length (now scratch)) × (now marks ≡ unmarked (length (now vars))) × (3 ≤ length (now memo)) ⌝ }
+    ensures { λ r. ⌜ outcomeOf (now (vars .exit)) (now (lows .exit)) (now (highs .exit)) (now (members .exit)) (zeros (length (now (scratch .entry)))) r ≡ outcome (length (now (vars .entry))) (length (now (members .entry))) (length (now (scratch .entry))) (verdict (length (now (vars .entry))) (now (formula .entry)) (now (proof .entry))) ⌝ }
+{
+    match dimacs::read_header(formula) {
+        Header::Improper(number, place) => Checked {
+            number,
+            place,
+            lines: 0,
+            rounds: 0,
+            count: 2,
+        },
+        Header::Proper(variables, wanted, from) => judge_clauses(
+            vars,
+            lows,
+            highs,
+            heads,
+            links,
+            memo,
+            marks,
+            members,
+            scratch,
+            variables,
+            wanted,
+            from,
+            formula,
+            proof,
+        ),
+    }
+}
+
+// The whole check, with index and marks all zero. What it leaves in index, memo and marks is not said.
+pub fn run<'a>(
+    vars: &mut [u8],
+    lows: &mut [u16],
+    highs: &mut [u16],
+    heads: &mut [u16],
+    links: &mut [u16],
+    memo: &mut [u64],
+    marks: &mut [u8],
+    members: &mut [u16],
+    scratch: &mut [u16],
+    formula: &'a [u8],
+    proof: &'a [u8],
+) -> Checked
+    requires { ⌜ lentFits (now vars) (now lows) (now highs) (now members) (now scratch) ≡ true ⌝ }
+    requires { ⌜ (now heads ≡ zeros (2 * length (now vars))) × (now links ≡ zeros (length (now vars))) × (now marks ≡ unmarked (length (now vars))) × (3 ≤ length (now memo)) ⌝ }
+    ensures { λ r. ⌜ outcomeOf (now (vars .exit)) (now (lows .exit)) (now (highs .exit)) (now (members .exit)) (now (scratch .exit)) r ≡ outcome (length (now (vars .entry))) (length (now (members .entry))) (length (now (scratch .entry))) (verdict (length (now (vars .entry))) (now (formula .entry)) (now (proof .entry))) ⌝ }
+{
+    clear::empty(vars, lows, highs, members);
+    let said = judge(
+        vars,
+        lows,
+        highs,
+        heads,
+        links,
+        memo,
+        marks,
+        members,
+        scratch,
+        formula,
+        proof,
+    );
+    clear::clear_numbers(scratch);
+    said
+}

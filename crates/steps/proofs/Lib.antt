@@ -1,0 +1,7 @@
+pub mod Bits
+pub mod Stops
+pub mod Witnesses
+pub mod Entries
+pub mod Nodes
+pub mod Lines
+pub mod Records

@@ -1,0 +1,74 @@
+-- A record's step is the step of its kind. Assumes nothing.
+use mathlib.Core.Path.{_≡_, refl, sym, ap, _∙_, subst}
+use mathlib.Core.Bool.{Bool}
+use Prim.Native.Nat.{ℕ}
+use Rattle.records.specs.declared.NodeBody.{NodeBody}
+use Rattle.records.specs.declared.Rule.{Rule}
+use Rattle.records.specs.declared.EntryNo.{EntryNo}
+use Rattle.records.specs.declared.Record.{Record}
+use Rattle.records.specs.declared.Record.the-variants.{NodeEntry, Witness, ProofLine, End, CutShort, UnknownKind, NoRecord}
+use Rattle.verdict.specs.Check as check
+use Rattle.verdict.specs.Check.{stop, nodeStep, witnessStep, lineStep, endStep, step}
+use Rattle.steps.specs.declared.State.{State}
+use Rattle.steps.specs.declared.Step.{Step}
+use Rattle.steps.specs.declared.Step.the-variants.{Stop}
+use Rattle.steps.specs.States.{Lent, stateOf, Stepped}
+use Rattle.steps.proofs.Stops.{stopped}
+
+module _ (n s : ℕ) (S : check.State) (more : Bool) where
+  step-node : (b : NodeBody) → step n s S more (NodeEntry b) ≡ nodeStep n s S b
+  unfolding step
+  step-node b = refl
+
+  step-witness : (v : ℕ) (b : Bool) → step n s S more (Witness v b) ≡ witnessStep n S v b
+  unfolding step
+  step-witness v b = refl
+
+  step-line : (rule : Rule) (root : EntryNo) → step n s S more (ProofLine rule root) ≡ lineStep n s S rule (root .0)
+  unfolding step
+  step-line rule root = refl
+
+  step-end : step n s S more End ≡ endStep S more
+  unfolding step
+  step-end = refl
+
+  step-cut : step n s S more CutShort ≡ stop 10 0
+  unfolding step
+  step-cut = refl
+
+  step-unknown : step n s S more UnknownKind ≡ stop 9 0
+  unfolding step
+  step-unknown = refl
+
+  step-none : step n s S more NoRecord ≡ stop 10 0
+  unfolding step
+  step-none = refl
+
+module _ (n s : ℕ) (l l′ : Lent) (st : State) (more : Bool) (r : Record) (res : Step) where
+  abbrev S : check.State
+  S = stateOf l st
+
+  as-said : (r′ : Record) (said : check.Step) → r ≡ r′ → step n s S more r′ ≡ said → Stepped n l l′ st said res → Stepped n l l′ st (step n s S more r) res
+  as-said r′ said e is W = subst (λ (x : check.Step). Stepped n l l′ st x res) (sym (ap (step n s S more) e ∙ is)) W
+
+  pub as-node : (b : NodeBody) → r ≡ NodeEntry b → Stepped n l l′ st (nodeStep n s S b) res → Stepped n l l′ st (step n s S more r) res
+  as-node b e = as-said (NodeEntry b) (nodeStep n s S b) e (step-node n s S more b)
+
+  pub as-witness : (v : ℕ) (b : Bool) → r ≡ Witness v b → Stepped n l l′ st (witnessStep n S v b) res → Stepped n l l′ st (step n s S more r) res
+  as-witness v b e = as-said (Witness v b) (witnessStep n S v b) e (step-witness n s S more v b)
+
+  pub as-line : (rule : Rule) (root : EntryNo) → r ≡ ProofLine rule root → Stepped n l l′ st (lineStep n s S rule (root .0)) res → Stepped n l l′ st (step n s S more r) res
+  as-line rule root e = as-said (ProofLine rule root) (lineStep n s S rule (root .0)) e (step-line n s S more rule root)
+
+  pub as-end : r ≡ End → Stepped n l l′ st (endStep S more) res → Stepped n l l′ st (step n s S more r) res
+  as-end e = as-said End (endStep S more) e (step-end n s S more)
+
+module _ (n s : ℕ) (l : Lent) (st : State) (more : Bool) (r : Record) where
+  pub cut-short : r ≡ CutShort → Stepped n l l st (step n s (stateOf l st) more r) (Stop 10 0)
+  cut-short e = stopped n l st _ 10 0 (ap (step n s (stateOf l st) more) e ∙ step-cut n s (stateOf l st) more)
+
+  pub unknown-kind : r ≡ UnknownKind → Stepped n l l st (step n s (stateOf l st) more r) (Stop 9 0)
+  unknown-kind e = stopped n l st _ 9 0 (ap (step n s (stateOf l st) more) e ∙ step-unknown n s (stateOf l st) more)
+
+  pub no-record : r ≡ NoRecord → Stepped n l l st (step n s (stateOf l st) more r) (Stop 10 0)
+  no-record e = stopped n l st _ 10 0 (ap (step n s (stateOf l st) more) e ∙ step-none n s (stateOf l st) more)

@@ -1,0 +1,37 @@
+-- `with_line` counts the line and its rounds. Assumes nothing.
+use mathlib.Core.Path.{ap}
+use mathlib.Core.Bool.{Bool}
+use Prim.Native.Nat.{_+_}
+use borrow.Author.Needs.{needs}
+use Rattle.steps.proofs.line.with_line.Statement.{statement}
+use Rattle.steps.proofs.line.with_line.Tie as tie
+
+refutes-requires : tie.Need-refutes-requires
+refutes-requires c κs = search needs
+
+add-t5 : tie.Need-add-t5
+add-t5 c = search needs
+
+add-t6 : tie.Need-add-t6
+add-t6 c = search needs
+
+add-t7 : tie.Need-add-t7
+add-t7 c = search needs
+
+returns : tie.Need-returns
+returns c =
+    let s = c .before .before .before .before .args in
+    ap (λ (b : Bool). record {
+      count = s .st .count;
+      kept = s .st .count;
+      members = s .st .members + 1;
+      entries = 0;
+      positive = 0;
+      negative = 0;
+      lines = s .st .lines + 1;
+      rounds = s .st .rounds + s .rounds;
+      refuted = b;
+    }) (c .before .before .before .refutes .ensures)
+
+pub with-line-spec : {M : Type 1} → statement M
+with-line-spec = tie.close (tie.spec refutes-requires add-t5 add-t6 add-t7 returns)

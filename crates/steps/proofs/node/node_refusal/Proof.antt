@@ -1,0 +1,119 @@
+-- `node_refusal`: each way out is one law of Entries. Assumes nothing.
+use mathlib.Core.Path.{_≡_, sym, _∙_, subst}
+use mathlib.Core.Bool.{true, false}
+use mathlib.Core.List.{List, [], _∷_}
+use Prim.Native.Nat.{ℕ, _+_, _≤_, _<_}
+use native.Mathlib.Omega.{arith}
+use lib.ListN.{length, getD, take}
+use lib.Dec.{leb}
+use borrow.Author.Tests.{not-true, not-false, ltb-true}
+use Rattle.verdict.specs.Check as check
+use Rattle.verdict.specs.Check.{isVariable, isEntry}
+use Rattle.steps.specs.States.{Lent, lentOf, stateOf}
+use Rattle.steps.proofs.Witnesses.{is-variable, variable-zero, variable-beyond}
+use Rattle.steps.proofs.Entries.{node-inside, above-is, entry-told, full-entries, few-entries, node-21, node-12, node-13-low, node-13-high, node-14-low, node-14-high, node-0}
+use Rattle.steps.proofs.node.node_refusal.Statement.{statement}
+use Rattle.steps.proofs.node.node_refusal.Tie as tie
+
+module _ (s : tie.Start) (ds ks ms : List ℕ) where
+  abbrev lent : Lent
+  lent = lentOf (s .args .vars .now) (s .args .lows .now) (s .args .highs .now) ds ks ms (s .args .scratch .now)
+
+  abbrev state : check.State
+  state = stateOf lent (s .args .st)
+
+  room : s .args .st .entries ≤ length (s .args .scratch .now)
+  room = omega (arith, s .pre .2, s .pre .3)
+
+-- the tests of the number of entries and of the variable are passed
+module _ (c : tie.Else3) (ds ks ms : List ℕ) where
+  abbrev start : tie.Start
+  start = c .before .before .before .before .before .before .before
+
+  few : leb 4096 (length (state start ds ks ms .entries)) ≡ false
+  few = few-entries (lent start ds ks ms) (start .args .st) (room start ds ks ms) (c .before .before .if1 .left)
+
+  variable : isVariable (start .args .variables) (start .args .b .variable) ≡ true
+  variable = is-variable _ _ (omega (arith, c .before .if2 .left)) (c .if3 .left)
+
+-- both entries are there
+module _ (c : tie.Else5) (ds ks ms : List ℕ) where
+  abbrev begun : tie.Start
+  begun = c .before .before .before .before .before .before .before .before .before .before .before .before .before
+
+  low : isEntry (state begun ds ks ms) (begun .args .b .low .0) ≡ true
+  low = entry-told (lent begun ds ks ms) (begun .args .st) (room begun ds ks ms) _ _ _ (c .before .before .before .is-entry .ensures) (not-false _ (c .before .before .if4 .left))
+
+  high : isEntry (state begun ds ks ms) (begun .args .b .high .0) ≡ true
+  high = entry-told (lent begun ds ks ms) (begun .args .st) (room begun ds ks ms) _ _ _ (c .before .is-entry2 .ensures) (not-false _ (c .if5 .left))
+
+  low-there : begun .args .b .low .0 < begun .args .st .entries + 2
+  low-there = ltb-true _ _ (sym (c .before .before .before .is-entry .ensures) ∙ not-false _ (c .before .before .if4 .left))
+
+  high-there : begun .args .b .high .0 < begun .args .st .entries + 2
+  high-there = ltb-true _ _ (sym (c .before .is-entry2 .ensures) ∙ not-false _ (c .if5 .left))
+
+-- the entries' nodes are in the table
+module _ (c : tie.After-entry-node2) where
+  abbrev read : tie.Start
+  read = c .before .before .before .before .before .before .before .before .before .before .before .before .before .before .before
+
+  inside : (e k : ℕ) → e < read .args .st .entries + 2 → k ≡ getD (0 ∷ 1 ∷ take (read .args .st .entries) (read .args .scratch .now)) e 0 → k < read .args .st .count
+  inside e k there is =
+      subst (λ (x : ℕ). x < read .args .st .count) (sym is)
+      (node-inside (read .args .scratch .now) (read .args .st .entries) (omega (arith, read .pre .2, read .pre .3)) (read .args .st .count) (read .pre .0 .least) (read .pre .1) e there)
+
+  low-inside : c .before .entry-node .result .0 < read .args .st .count
+  low-inside = inside (read .args .b .low .0) _ (low-there (c .before .before) [] [] []) (c .before .entry-node .ensures)
+
+  high-inside : c .entry-node2 .result .0 < read .args .st .count
+  high-inside = inside (read .args .b .high .0) _ (high-there (c .before .before) [] [] []) (c .entry-node2 .ensures)
+
+returns : tie.Need-returns
+returns c = λ ds ks ms. let s = c .before .before .before .before .before in node-21 _ _ _ (full-entries (lent s ds ks ms) (s .args .st) (room s ds ks ms) (c .if1 .taken))
+
+returns-2 : tie.Need-returns-2
+returns-2 c = λ ds ks ms. let s = c .before .before .before .before .before .before in node-12 _ _ _ (few-entries (lent s ds ks ms) (s .args .st) (room s ds ks ms) (c .before .if1 .left)) (variable-zero _ _ (c .if2 .taken))
+
+returns-3 : tie.Need-returns-3
+returns-3 c = λ ds ks ms. let s = c .before .before .before .before .before .before .before in node-12 _ _ _ (few-entries (lent s ds ks ms) (s .args .st) (room s ds ks ms) (c .before .before .if1 .left)) (variable-beyond _ _ (omega (arith, c .before .if2 .left)) (c .if3 .taken))
+
+is-entry-requires : tie.Need-is-entry-requires
+is-entry-requires c κs = c .before .before .before .before .before .before .before .before .before .pre .2
+
+returns-4 : tie.Need-returns-4
+returns-4 c = λ ds ks ms. let s = c .before .before .before .before .before .before .before .before .before .before .before in node-13-low _ _ _ (few (c .before .before .before .before) ds ks ms) (variable (c .before .before .before .before) ds ks ms) (entry-told (lent s ds ks ms) (s .args .st) (room s ds ks ms) _ _ _ (c .before .is-entry .ensures) (not-true _ (c .if4 .taken)))
+
+is-entry-requires-2 : tie.Need-is-entry-requires-2
+is-entry-requires-2 c κs = c .before .before .before .before .before .before .before .before .before .before .before .pre .2
+
+returns-5 : tie.Need-returns-5
+returns-5 c = λ ds ks ms. let s = c .before .before .before .before .before .before .before .before .before .before .before .before .before in node-13-high _ _ _ (few (c .before .before .before .before .before .before) ds ks ms) (variable (c .before .before .before .before .before .before) ds ks ms) (entry-told (lent s ds ks ms) (s .args .st) (room s ds ks ms) _ _ _ (c .before .is-entry2 .ensures) (not-true _ (c .if5 .taken)))
+
+entry-node-requires : tie.Need-entry-node-requires
+entry-node-requires c κs = (room (c .before .before .before .before .before .before .before .before .before .before .before .before .before) [] [] [], low-there (c) [] [] [])
+
+entry-node-requires-2 : tie.Need-entry-node-requires-2
+entry-node-requires-2 c κs = (room (c .before .before .before .before .before .before .before .before .before .before .before .before .before .before) [] [] [], high-there (c .before) [] [] [])
+
+stands-above-requires : tie.Need-stands-above-requires
+stands-above-requires c κs = let s = c .before .before .before .before .before .before .before .before .before .before .before .before .before .before .before in (s .pre .0 .lows, s .pre .0 .highs, omega (arith, low-inside (c), s .pre .0 .within))
+
+returns-6 : tie.Need-returns-6
+returns-6 c = λ ds ks ms. let s = c .before .before .before .before .before .before .before .before .before .before .before .before .before .before .before .before .before in node-14-low _ _ _ (few (c .before .before .before .before .before .before .before .before .before .before) ds ks ms) (variable (c .before .before .before .before .before .before .before .before .before .before) ds ks ms) (low (c .before .before .before .before) ds ks ms) (high (c .before .before .before .before) ds ks ms)
+    (above-is (lent s ds ks ms) (s .args .st) _ _ (c .before .before .before .entry-node .ensures) _ (low-inside (c .before .before)) _ _ (c .before .stands-above .ensures) (not-true _ (c .if6 .taken)))
+
+stands-above-requires-2 : tie.Need-stands-above-requires-2
+stands-above-requires-2 c κs = let s = c .before .before .before .before .before .before .before .before .before .before .before .before .before .before .before .before .before in (s .pre .0 .lows, s .pre .0 .highs, omega (arith, high-inside (c .before .before), s .pre .0 .within))
+
+returns-7 : tie.Need-returns-7
+returns-7 c = λ ds ks ms. let s = c .before .before .before .before .before .before .before .before .before .before .before .before .before .before .before .before .before .before .before in node-14-high _ _ _ (few (c .before .before .before .before .before .before .before .before .before .before .before .before) ds ks ms) (variable (c .before .before .before .before .before .before .before .before .before .before .before .before) ds ks ms) (low (c .before .before .before .before .before .before) ds ks ms) (high (c .before .before .before .before .before .before) ds ks ms)
+    (above-is (lent s ds ks ms) (s .args .st) _ _ (c .before .before .before .before .entry-node2 .ensures) _ (high-inside (c .before .before .before .before)) _ _ (c .before .stands-above2 .ensures) (not-true _ (c .if7 .taken)))
+
+returns-8 : tie.Need-returns-8
+returns-8 c = λ ds ks ms. let s = c .before .before .before .before .before .before .before .before .before .before .before .before .before .before .before .before .before .before .before in node-0 _ _ _ (few (c .before .before .before .before .before .before .before .before .before .before .before .before) ds ks ms) (variable (c .before .before .before .before .before .before .before .before .before .before .before .before) ds ks ms) (low (c .before .before .before .before .before .before) ds ks ms) (high (c .before .before .before .before .before .before) ds ks ms)
+    (above-is (lent s ds ks ms) (s .args .st) _ _ (c .before .before .before .before .before .entry-node .ensures) _ (low-inside (c .before .before .before .before)) _ _ (c .before .before .before .stands-above .ensures) (not-false _ (c .before .before .if6 .left)))
+    (above-is (lent s ds ks ms) (s .args .st) _ _ (c .before .before .before .before .entry-node2 .ensures) _ (high-inside (c .before .before .before .before)) _ _ (c .before .stands-above2 .ensures) (not-false _ (c .if7 .left)))
+
+pub node-refusal-spec : {M : Type 1} → statement M
+node-refusal-spec = tie.close (tie.spec returns returns-2 returns-3 is-entry-requires returns-4 is-entry-requires-2 returns-5 entry-node-requires entry-node-requires-2 stands-above-requires returns-6 stands-above-requires-2 returns-7 returns-8)

@@ -1,0 +1,113 @@
+-- `record_step`: the step of the record's kind. Assumes nothing.
+use borrow.Author.Needs.{needs}
+use Rattle.steps.specs.States.{Lent, lentOf}
+use Rattle.steps.proofs.Lines.{held-64}
+use Rattle.steps.proofs.Records.{as-node, as-witness, as-line, as-end, cut-short, unknown-kind, no-record}
+use Rattle.steps.proofs.record_step.Statement.{statement}
+use Rattle.steps.proofs.record_step.Tie as tie
+
+module _ (s : tie.Start) where
+  abbrev lent : Lent
+  lent = lentOf (s .args .vars .now) (s .args .lows .now) (s .args .highs .now) (s .args .heads .now) (s .args .links .now) (s .args .members .now) (s .args .scratch .now)
+
+enum-known-r : tie.Need-enum-known-r
+enum-known-r c = search needs
+
+node-step-requires : tie.Need-node-step-requires
+node-step-requires c κs = c .before .before .before .before .before .before .before .before .before .before .before .before .before .before .before .before .before .before .pre .0 .entries
+
+enum-known-r-2 : tie.Need-enum-known-r-2
+enum-known-r-2 c = search needs
+
+witness-step-requires : tie.Need-witness-step-requires
+witness-step-requires c κs = c .before .before .before .before .before .before .before .before .before .before .before .before .pre .0 .entries .narrow
+
+enum-known-r-3 : tie.Need-enum-known-r-3
+enum-known-r-3 c = search needs
+
+line-step-requires : tie.Need-line-step-requires
+line-step-requires c κs = let s = c .before .before .before .before .before .before .before .before .before .before .before .before .before .before .before .before .before .before .before .before .before in (held-64 (s .args .variables) (lent s) (s .args .st) (s .pre .0), s .pre .1, s .pre .2)
+
+enum-told : tie.Need-enum-told
+enum-told c = search needs
+
+end-step-requires : tie.Need-end-step-requires
+end-step-requires c κs = search needs
+
+enum-told-2 : tie.Need-enum-told-2
+enum-told-2 c = search needs
+
+enum-told-3 : tie.Need-enum-told-3
+enum-told-3 c = search needs
+
+enum-told-4 : tie.Need-enum-told-4
+enum-told-4 c = search needs
+
+same-length : tie.Need-same-length
+same-length c = c .before .before .before .before .before .before .before .before .before .before .before .before .node-step .kept .0
+
+same-length-2 : tie.Need-same-length-2
+same-length-2 c = c .before .before .before .before .before .before .before .before .before .before .before .before .node-step .kept .1 .0
+
+same-length-3 : tie.Need-same-length-3
+same-length-3 c = c .before .before .before .before .before .before .before .before .before .before .before .before .node-step .kept .1 .1 .0
+
+same-length-4 : tie.Need-same-length-4
+same-length-4 c = c .before .before .before .before .before .before .before .before .before .before .before .before .node-step .kept .1 .1 .1 .0
+
+same-length-5 : tie.Need-same-length-5
+same-length-5 c = c .before .before .before .before .before .before .before .before .before .before .before .before .node-step .kept .1 .1 .1 .1 .0
+
+same-length-6 : tie.Need-same-length-6
+same-length-6 c = c .before .before .before .before .before .before .before .before .before .before .before .before .node-step .kept .1 .1 .1 .1 .1 .0
+
+returns : tie.Need-returns
+returns c = let s = c .before .before .before .before .before .before .before .before .before .before .before .before .before .before .before .before .before .before .before .before .before .before .before .before .before .before .before .before .before .before .before in (as-node _ _ _ _ _ _ _ _ _ (c .before .before .before .before .before .before .before .before .before .before .before .before .before .before .before .before .before .before .before .before .r .given .1) (c .before .before .before .before .before .before .before .before .before .before .before .before .node-step .ensures (s .args .members .now) (s .pre .0)), s .pre .1)
+
+returns-2 : tie.Need-returns-2
+returns-2 c = let s = c .before .before .before .before .before .before .before .before .before .before .before .before .before in (as-witness _ _ _ _ _ _ _ _ _ _ (c .before .before .r2 .given .1) (c .witness-step .ensures (lent s) (s .pre .0)), s .pre .1)
+
+same-length-7 : tie.Need-same-length-7
+same-length-7 c = c .before .before .before .before .before .before .before .before .before .before .before .before .before .before .before .before .before .before .line-step .kept .0
+
+same-length-8 : tie.Need-same-length-8
+same-length-8 c = c .before .before .before .before .before .before .before .before .before .before .before .before .before .before .before .before .before .before .line-step .kept .1 .0
+
+same-length-9 : tie.Need-same-length-9
+same-length-9 c = c .before .before .before .before .before .before .before .before .before .before .before .before .before .before .before .before .before .before .line-step .kept .1 .1 .0
+
+same-length-10 : tie.Need-same-length-10
+same-length-10 c = c .before .before .before .before .before .before .before .before .before .before .before .before .before .before .before .before .before .before .line-step .kept .1 .1 .1 .0
+
+same-length-11 : tie.Need-same-length-11
+same-length-11 c = c .before .before .before .before .before .before .before .before .before .before .before .before .before .before .before .before .before .before .line-step .kept .1 .1 .1 .1 .0
+
+same-length-12 : tie.Need-same-length-12
+same-length-12 c = c .before .before .before .before .before .before .before .before .before .before .before .before .before .before .before .before .before .before .line-step .kept .1 .1 .1 .1 .1 .0
+
+same-length-13 : tie.Need-same-length-13
+same-length-13 c = c .before .before .before .before .before .before .before .before .before .before .before .before .before .before .before .before .before .before .line-step .kept .1 .1 .1 .1 .1 .1 .0
+
+same-length-14 : tie.Need-same-length-14
+same-length-14 c = c .before .before .before .before .before .before .before .before .before .before .before .before .before .before .before .before .before .before .line-step .kept .1 .1 .1 .1 .1 .1 .1 .0
+
+same-length-15 : tie.Need-same-length-15
+same-length-15 c = c .before .before .before .before .before .before .before .before .before .before .before .before .before .before .before .before .before .before .line-step .kept .1 .1 .1 .1 .1 .1 .1 .1 .0
+
+returns-3 : tie.Need-returns-3
+returns-3 c = let s = c .before .before .before .before .before .before .before .before .before .before .before .before .before .before .before .before .before .before .before .before .before .before .before .before .before .before .before .before .before .before .before .before .before .before .before .before .before .before .before .before in (as-line _ _ _ _ _ _ _ _ _ _ (c .before .before .before .before .before .before .before .before .before .before .before .before .before .before .before .before .before .before .before .before .before .before .before .before .before .before .before .before .before .r3 .given .1) (c .before .before .before .before .before .before .before .before .before .before .before .before .before .before .before .before .before .before .line-step .ensures .0 (s .args .variables) (s .pre .0)), c .before .before .before .before .before .before .before .before .before .before .before .before .before .before .before .before .before .before .line-step .ensures .1)
+
+returns-4 : tie.Need-returns-4
+returns-4 c = let s = c .before .before .before .before .before .before .before .before .before .before .before .before in (as-end _ _ _ _ _ _ _ _ (c .before .enum-told .given .1) (c .end-step .ensures (s .args .variables) (lent s)), s .pre .1)
+
+returns-5 : tie.Need-returns-5
+returns-5 c = let s = c .before .before .before .before .before .before .before .before .before .before .before in (cut-short _ _ _ _ _ _ (c .enum-told2 .given .1), s .pre .1)
+
+returns-6 : tie.Need-returns-6
+returns-6 c = let s = c .before .before .before .before .before .before .before .before .before .before .before in (unknown-kind _ _ _ _ _ _ (c .enum-told3 .given .1), s .pre .1)
+
+returns-7 : tie.Need-returns-7
+returns-7 c = let s = c .before .before .before .before .before .before .before .before .before .before .before in (no-record _ _ _ _ _ _ (c .enum-told4 .given .1), s .pre .1)
+
+pub record-step-spec : {M : Type 1} → statement M
+record-step-spec = tie.close (tie.spec enum-known-r node-step-requires enum-known-r-2 witness-step-requires enum-known-r-3 line-step-requires enum-told end-step-requires enum-told-2 enum-told-3 enum-told-4 same-length same-length-2 same-length-3 same-length-4 same-length-5 same-length-6 returns returns-2 same-length-7 same-length-8 same-length-9 same-length-10 same-length-11 same-length-12 same-length-13 same-length-14 same-length-15 returns-3 returns-4 returns-5 returns-6 returns-7)

@@ -1,0 +1,64 @@
+-- `witness_step`: each way out is one law of Witnesses. Assumes nothing.
+use mathlib.Core.Path.{sym, ap, _∙_}
+use mathlib.Core.Bool.{Bool, not}
+use Prim.Native.Nat.{_≤_}
+use native.Mathlib.Omega.{arith}
+use borrow.Author.Needs.{needs}
+use Rattle.verdict.specs.Check.{withVariable}
+use Rattle.steps.proofs.Witnesses.{is-variable, variable-zero, variable-beyond, refused-12, refused-15, refused-15-negative, witness-taken}
+use Rattle.steps.proofs.witness.witness_step.Statement.{statement}
+use Rattle.steps.proofs.witness.witness_step.Tie as tie
+
+-- the variable's test is passed
+module _ (c : tie.Else2) where
+  is-one : 1 ≤ c .before .before .args .v
+  is-one = omega (arith, c .before .if1 .left)
+
+returns : tie.Need-returns
+returns c = λ l H. refused-12 _ _ _ _ _ (variable-zero _ _ (c .if1 .taken))
+
+returns-2 : tie.Need-returns-2
+returns-2 c = λ l H. refused-12 _ _ _ _ _ (variable-beyond _ _ (omega (arith, c .before .if1 .left)) (c .if2 .taken))
+
+in-word-requires : tie.Need-in-word-requires
+in-word-requires c κs = (is-one (c), omega (arith, c .if2 .left, c .before .before .pre))
+
+returns-3 : tie.Need-returns-3
+returns-3 c = λ l H. refused-15 _ _ _ _ _ (is-variable _ _ (is-one (c .before .before)) (c .before .before .if2 .left)) (sym (c .before .in-word .ensures) ∙ c .if3 .taken)
+
+in-word-requires-2 : tie.Need-in-word-requires-2
+in-word-requires-2 c κs = (is-one (c .before .before), omega (arith, c .before .before .if2 .left, c .before .before .before .before .pre))
+
+returns-4 : tie.Need-returns-4
+returns-4 c = λ l H. refused-15-negative _ _ _ _ _ (is-variable _ _ (is-one (c .before .before .before .before)) (c .before .before .before .before .if2 .left)) (sym (c .before .in-word2 .ensures) ∙ c .if4 .taken)
+
+with-variable-requires : tie.Need-with-variable-requires
+with-variable-requires c κs = (is-one (c .before .before .before .before .before), omega (arith, c .before .before .before .before .before .if2 .left, c .before .before .before .before .before .before .before .pre), sym (c .before .before .before .before .in-word .ensures) ∙ c .before .before .before .if3 .left)
+
+with-witness-requires : tie.Need-with-witness-requires
+with-witness-requires c κs = search needs
+
+returns-5 : tie.Need-returns-5
+returns-5 c =
+    let a = c .before .before .before .before .before .before .before .before .before .args in
+    λ l H. witness-taken _ _ _ _ _ H (is-variable _ _ (is-one (c .before .before .before .before .before .before .before)) (c .before .before .before .before .before .before .before .if2 .left)) (sym (c .before .before .before .before .before .before .in-word .ensures) ∙ c .before .before .before .before .before .if3 .left)
+    (sym (c .before .before .before .before .in-word2 .ensures) ∙ c .before .before .before .if4 .left) _ _ (c .with-witness .result) (c .with-witness .ensures)
+    (c .before .with-variable .ensures ∙ ap (λ (b : Bool). withVariable b (a .st .positive) (a .v)) (sym (c .before .before .if5 .taken)))
+    (ap (λ (b : Bool). withVariable (not b) (a .st .negative) (a .v)) (sym (c .before .before .if5 .taken)))
+
+with-variable-requires-2 : tie.Need-with-variable-requires-2
+with-variable-requires-2 c κs = (is-one (c .before .before .before .before .before), omega (arith, c .before .before .before .before .before .if2 .left, c .before .before .before .before .before .before .before .pre), sym (c .before .before .in-word2 .ensures) ∙ c .before .if4 .left)
+
+with-witness-requires-2 : tie.Need-with-witness-requires-2
+with-witness-requires-2 c κs = search needs
+
+returns-6 : tie.Need-returns-6
+returns-6 c =
+    let a = c .before .before .before .before .before .before .before .before .before .args in
+    λ l H. witness-taken _ _ _ _ _ H (is-variable _ _ (is-one (c .before .before .before .before .before .before .before)) (c .before .before .before .before .before .before .before .if2 .left)) (sym (c .before .before .before .before .before .before .in-word .ensures) ∙ c .before .before .before .before .before .if3 .left)
+    (sym (c .before .before .before .before .in-word2 .ensures) ∙ c .before .before .before .if4 .left) _ _ (c .with-witness2 .result) (c .with-witness2 .ensures)
+    (ap (λ (b : Bool). withVariable b (a .st .positive) (a .v)) (sym (c .before .before .if5 .left)))
+    (c .before .with-variable2 .ensures ∙ ap (λ (b : Bool). withVariable (not b) (a .st .negative) (a .v)) (sym (c .before .before .if5 .left)))
+
+pub witness-step-spec : {M : Type 1} → statement M
+witness-step-spec = tie.close (tie.spec returns returns-2 in-word-requires returns-3 in-word-requires-2 returns-4 with-variable-requires with-witness-requires returns-5 with-variable-requires-2 with-witness-requires-2 returns-6)

@@ -1,0 +1,128 @@
+-- The state between records as the code holds it, and what a step asks and leaves. No call open to others cites this file.
+use mathlib.Core.Path.{_≡_}
+use mathlib.Core.Bool.{_||_}
+use mathlib.Core.List.{List}
+use Prim.Native.Nat.{ℕ, _+_, _*_, _≤_, _<_}
+use lib.ListN.{length, getD, take}
+use lib.Dec.{eqb}
+use Rattle.table.specs.Nodes.{at}
+use Rattle.table.specs.Indexed.{Table, tableOf, nodesOf, Good}
+use Rattle.verdict.specs.Check as check
+use Rattle.conflict.specs.Members.{Inside}
+use Rattle.steps.specs.declared.State.{State}
+use Rattle.steps.specs.declared.Step.{Step}
+use Rattle.steps.specs.declared.Step.the-variants.{Next, Stop}
+
+-- ---- the definition's state
+
+-- The lists that hold a state: columns, index, member list and scratch list.
+pub record Lent : Type 0 where
+  pub vars : List ℕ
+  pub lows : List ℕ
+  pub highs : List ℕ
+  pub heads : List ℕ
+  pub links : List ℕ
+  pub members : List ℕ
+  pub scratch : List ℕ
+
+abbrev pub lentOf : List ℕ → List ℕ → List ℕ → List ℕ → List ℕ → List ℕ → List ℕ → Lent
+lentOf vs ls hs ds ks ms cs = record { vars = vs; lows = ls; highs = hs; heads = ds; links = ks; members = ms; scratch = cs }
+
+-- The table lent, with a count.
+abbrev pub tableIn : Lent → ℕ → Table
+tableIn l count = tableOf (l .vars) (l .lows) (l .highs) (l .heads) (l .links) count
+
+-- The scratch list's first places hold the line's entries from entry 2 on.
+abbrev pub stateOf : Lent → State → check.State
+stateOf l st = record {
+  nodes = nodesOf (tableIn l (st .count));
+  kept = st .kept;
+  members = take (st .members) (l .members);
+  entries = take (st .entries) (l .scratch);
+  positive = st .positive;
+  negative = st .negative;
+  lines = st .lines;
+  rounds = st .rounds;
+  refuted = st .refuted;
+}
+
+abbrev pub stepOf : Lent → Step → check.Step
+stepOf l (Next st) = check.next (stateOf l st)
+stepOf l (Stop number offset) = check.stop number offset
+
+-- ---- the next state
+
+-- The state with another witness.
+abbrev pub withWitness : State → ℕ → ℕ → State
+withWitness st positive negative = record {
+  count = st .count;
+  kept = st .kept;
+  members = st .members;
+  entries = st .entries;
+  positive = positive;
+  negative = negative;
+  lines = st .lines;
+  rounds = st .rounds;
+  refuted = st .refuted;
+}
+
+-- The state with one entry more, and the table's count.
+abbrev pub withEntry : State → ℕ → State
+withEntry st count = record {
+  count = count;
+  kept = st .kept;
+  members = st .members;
+  entries = st .entries + 1;
+  positive = st .positive;
+  negative = st .negative;
+  lines = st .lines;
+  rounds = st .rounds;
+  refuted = st .refuted;
+}
+
+-- The state after a line of so many rounds whose root is node g.
+abbrev pub withLine : State → ℕ → ℕ → State
+withLine st rounds g = record {
+  count = st .count;
+  kept = st .count;
+  members = st .members + 1;
+  entries = 0;
+  positive = 0;
+  negative = 0;
+  lines = st .lines + 1;
+  rounds = st .rounds + rounds;
+  refuted = st .refuted || eqb g 0;
+}
+
+-- ---- what steps ask and leave
+
+-- A table with no variable beyond n, and the line's entries in it.
+pub record EntriesHeld (n : ℕ) (t : Table) (scratch : List ℕ) (entries : ℕ) : Type 0 where
+  pub good : Good t
+  pub uses : (k : ℕ) → 2 ≤ k → k < length (nodesOf t) → at (nodesOf t) k .var ≤ n
+  pub inside : Inside (t .count) (take entries scratch)
+  pub few : entries ≤ 4096
+  pub room : 4096 ≤ length scratch
+  pub narrow : n ≤ 64
+
+-- Every state between records, n being the header's variables: 131,072 is 64 rounds for each of 2,048 members.
+pub record Held (n : ℕ) (l : Lent) (st : State) : Type 0 where
+  pub entries : EntriesHeld n (tableIn l (st .count)) (l .scratch) (st .entries)
+  pub least : 2 ≤ st .kept
+  pub kept : st .kept ≤ st .count
+  pub inside : Inside (st .kept) (take (st .members) (l .members))
+  pub rest : (i : ℕ) → st .members ≤ i → getD (l .members) i 0 ≡ 0
+  pub many : st .members ≤ 1024 + st .lines
+  pub lines : st .lines ≤ 1024
+  pub room : 2048 ≤ length (l .members)
+  pub rounds : st .rounds ≤ st .lines * 131072
+
+-- The next state is held; a refused record leaves table and members as they were.
+abbrev pub HeldAfter : ℕ → Lent → Lent → State → Step → Type 0
+HeldAfter n l l′ st (Next st′) = Held n l′ st′
+HeldAfter n l l′ st (Stop number offset) = (tableIn l′ (st .count) ≡ tableIn l (st .count)) × (l′ .members ≡ l .members)
+
+-- A step comes to what the definition says, and leaves l′ of l.
+pub record Stepped (n : ℕ) (l l′ : Lent) (st : State) (said : check.Step) (r : Step) : Type 0 where
+  pub says : stepOf l′ r ≡ said
+  pub leaves : HeldAfter n l l′ st r

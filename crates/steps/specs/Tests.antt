@@ -1,0 +1,39 @@
+-- The numbers with which a record is refused before anything is made, 0 where it is not; and the line that is then judged. No call open
+-- to others cites this file.
+use mathlib.Core.Bool.{not, _&&_, cond}
+use mathlib.Core.List.{map}
+use Prim.Native.Nat.{ℕ}
+use lib.ListN.{length}
+use lib.Dec.{eqb, leb}
+use Rattle.meaning.specs.Rules.{Line, rup, pr, witnessed}
+use Rattle.meaning.specs.Words.{inWord}
+use Rattle.table.specs.Nodes.{above}
+use Rattle.records.specs.declared.NodeBody.{NodeBody}
+use Rattle.records.specs.declared.Rule.{Rule}
+use Rattle.records.specs.declared.Rule.the-variants.{Rup, Pr}
+use Rattle.verdict.specs.Check.{State, isEntry, entryNode, isVariable, waiting, diagramIn}
+
+-- "Node: 10, 21, 12, 13, 14, 23."
+unfoldable pub nodeRefusal : ℕ → State → NodeBody → ℕ
+nodeRefusal n st b =
+    let v = b .variable in
+    let l = b .low .0 in
+    let h = b .high .0 in
+    cond (leb 4096 (length (st .entries))) 21
+    (cond (not (isVariable n v)) 12
+    (cond (not (isEntry st l && isEntry st h)) 13
+    (cond (not (above (st .nodes) v (entryNode st l) && above (st .nodes) v (entryNode st h))) 14 0)))
+
+-- "RUP: 10, 13, 16, 22, 17, [..]. PR: 10, 13, 22, 17, 18, [..]."
+unfoldable pub lineRefusal : ℕ → State → Rule → ℕ → ℕ
+lineRefusal n st Rup root =
+    cond (not (isEntry st root)) 13 (cond (waiting st) 16 (cond (leb 1024 (st .lines)) 22 (cond (eqb (entryNode st root) 1) 17 0)))
+lineRefusal n st Pr root =
+    let g = diagramIn st (entryNode st root) in
+    let shut : ℕ = cond (not (witnessed n (inWord (st .positive)) (inWord (st .negative)) g)) 18 0 in
+    cond (not (isEntry st root)) 13 (cond (leb 1024 (st .lines)) 22 (cond (eqb (entryNode st root) 1) 17 shut))
+
+-- The line of node g by its rule.
+abbrev pub lineOf : ℕ → State → Rule → ℕ → Line
+lineOf n st Rup g = rup n (map (diagramIn st) (st .members)) (diagramIn st g)
+lineOf n st Pr g = pr n (inWord (st .positive)) (inWord (st .negative)) (map (diagramIn st) (st .members)) (diagramIn st g)

@@ -1,0 +1,103 @@
+// One record of a proof: the next state, or the number and the place of the proof's end.
+use records::Record;
+ghost use mathlib.Core.Path.{_≡_};
+ghost use Prim.Native.Nat.{ℕ, _≤_};
+ghost use lib.ListN.{length};
+ghost use Rattle.verdict.specs.Check.{endStep, step};
+ghost use Rattle.conflict.specs.Marks.{unmarked};
+ghost use Rattle.steps.specs.States.{Lent, lentOf, stateOf, Held, Stepped};
+
+mod line;
+mod node;
+mod witness;
+
+// The state between records: the table's count, how many nodes stay if the line is not accepted, the numbers of members and of the
+// line's entries, the witness as two words, the accepted lines, their rounds, and whether one of them is the 0 diagram.
+pub struct State {
+    pub count: usize,
+    pub kept: usize,
+    pub members: usize,
+    pub entries: usize,
+    pub positive: u64,
+    pub negative: u64,
+    pub lines: usize,
+    pub rounds: u64,
+    pub refuted: bool,
+}
+
+// What a record comes to: the next state; or 01's number and the place, counted from the record's first byte.
+pub enum Step {
+    Next(State),
+    Stop(u8, usize),
+}
+
+// The end record; `more` tells whether a byte follows it.
+fn end_step(st: State, more: bool) -> Step
+    ensures { λ r. ⌜ ((n : ℕ) (l : Lent) → Stepped n l l st (endStep (stateOf l st) more) r) ⌝ }
+{
+    if witness::waits(st.positive, st.negative) {
+        return Step::Stop(16, 0);
+    }
+    if more {
+        return Step::Stop(11, 1);
+    }
+    if st.refuted {
+        return Step::Stop(0, 0);
+    }
+    Step::Stop(20, 0)
+}
+
+// The step that a record makes; `more` tells whether a byte follows it. Table, index, member list and scratch list are then the next
+// state's; a refused record leaves table, index and member list as they were. Marks are clear again.
+pub fn record_step(
+    vars: &mut [u8],
+    lows: &mut [u16],
+    highs: &mut [u16],
+    heads: &mut [u16],
+    links: &mut [u16],
+    memo: &mut [u64],
+    marks: &mut [u8],
+    members: &mut [u16],
+    scratch: &mut [u16],
+    st: State,
+    variables: u8,
+    more: bool,
+    r: Record,
+) -> Step
+    requires { ⌜ Held variables (lentOf (now vars) (now lows) (now highs) (now heads) (now links) (now members) (now scratch)) st × (now marks ≡ unmarked (length (now vars))) × (3 ≤ length (now memo)) ⌝ }
+    ensures { λ s. ⌜ Stepped variables (lentOf (now (vars .entry)) (now (lows .entry)) (now (highs .entry)) (now (heads .entry)) (now (links .entry)) (now (members .entry)) (now (scratch .entry))) (lentOf (now (vars .exit)) (now (lows .exit)) (now (highs .exit)) (now (heads .exit)) (now (links .exit)) (now (members .exit)) (now (scratch .exit))) st (step variables (length (now (vars .entry))) (stateOf (lentOf (now (vars .entry)) (now (lows .entry)) (now (highs .entry)) (now (heads .entry)) (now (links .entry)) (now (members .entry)) (now (scratch .entry))) st) more r) s ⌝ }
+    ensures { λ _. ⌜ now (marks .exit) ≡ unmarked (length (now (vars .entry))) ⌝ }
+{
+    match r {
+        Record::NodeEntry(b) => node::node_step(
+            vars,
+            lows,
+            highs,
+            heads,
+            links,
+            scratch,
+            st,
+            variables,
+            b,
+        ),
+        Record::Witness(v, value) => witness::witness_step(st, variables, v, value),
+        Record::ProofLine(rule, root) => line::line_step(
+            vars,
+            lows,
+            highs,
+            heads,
+            links,
+            memo,
+            marks,
+            members,
+            scratch,
+            st,
+            rule,
+            root,
+        ),
+        Record::End => end_step(st, more),
+        Record::CutShort => Step::Stop(10, 0),
+        Record::UnknownKind => Step::Stop(9, 0),
+        Record::NoRecord => Step::Stop(10, 0),
+    }
+}

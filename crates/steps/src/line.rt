@@ -1,0 +1,212 @@
+// Proof lines, by RUP and by PR.
+use judge::Judged;
+use records::EntryNo;
+use records::Rule;
+use table::NodeNo;
+ghost use mathlib.Core.Path.{_≡_};
+ghost use mathlib.Core.Bool.{_||_};
+ghost use mathlib.Core.List.{List};
+ghost use Prim.Native.Nat.{ℕ, _+_, _*_, _≤_};
+ghost use lib.ListN.{length, take};
+ghost use lib.Dec.{eqb};
+ghost use Rattle.table.specs.Indexed.{tableOf};
+ghost use Rattle.walks.specs.Readable.{Readable};
+ghost use Rattle.verdict.specs.Check.{lineStep};
+ghost use Rattle.conflict.specs.Members.{Inside};
+ghost use Rattle.conflict.specs.Marks.{unmarked};
+ghost use Rattle.judge.specs.Lines.{Negatable, Says};
+ghost use Rattle.steps.specs.States.{lentOf, stateOf, withLine, Held, Stepped};
+ghost use Rattle.steps.specs.Tests.{lineRefusal, lineOf};
+
+// 13, 16, 22 or 17 of a RUP line, 13, 22, 17 or 18 of a PR line, or 0 where the line is to be judged.
+fn line_refusal(
+    vars: &[u8],
+    lows: &[u16],
+    highs: &[u16],
+    memo: &mut [u64],
+    scratch: &[u16],
+    st: crate::State,
+    rule: Rule,
+    root: EntryNo,
+) -> u8
+    requires { ⌜ Readable (now vars) (now lows) (now highs) (st .count) × Inside (st .count) (take (st .entries) (now scratch)) × (st .entries ≤ 4096) × (4096 ≤ length (now scratch)) × (3 ≤ length (now memo)) ⌝ }
+    ensures { λ r. ⌜ ((ds ks ms : List ℕ) → r ≡ lineRefusal 64 (stateOf (lentOf (now (vars .entry)) (now (lows .entry)) (now (highs .entry)) ds ks ms (now (scratch .entry))) st) rule (root .0)) ⌝ }
+{
+    let entries = st.entries;
+    if !crate::node::is_entry(entries, root) {
+        return 13;
+    }
+    let g = crate::node::entry_node(scratch, entries, root);
+    match rule {
+        Rule::Rup => {
+            if crate::witness::waits(st.positive, st.negative) {
+                return 16;
+            }
+            if 1024 <= st.lines {
+                return 22;
+            }
+            if g.0 == 1 {
+                return 17;
+            }
+            0
+        }
+        Rule::Pr => {
+            if 1024 <= st.lines {
+                return 22;
+            }
+            if g.0 == 1 {
+                return 17;
+            }
+            if !walks::is_constant(
+                vars,
+                lows,
+                highs,
+                memo,
+                st.count,
+                g,
+                st.positive,
+                st.negative,
+                true,
+            ) {
+                return 18;
+            }
+            0
+        }
+    }
+}
+
+// Judges the line by its rule over the members; the entries are gone. Its nodes stay.
+fn judge_line(
+    vars: &mut [u8],
+    lows: &mut [u16],
+    highs: &mut [u16],
+    heads: &mut [u16],
+    links: &mut [u16],
+    memo: &mut [u64],
+    marks: &mut [u8],
+    members: &[u16],
+    scratch: &mut [u16],
+    st: crate::State,
+    rule: Rule,
+    g: NodeNo,
+) -> Judged
+    requires { ⌜ Negatable (tableOf (now vars) (now lows) (now highs) (now heads) (now links) (st .count)) (take (st .members) (now members)) (now memo) (g .0) × (now marks ≡ unmarked (length (now vars))) × (st .members ≤ 2048) × (2048 ≤ length (now members)) × (4096 ≤ length (now scratch)) ⌝ }
+    ensures { λ r. ⌜ Says (tableOf (now (vars .entry)) (now (lows .entry)) (now (highs .entry)) (now (heads .entry)) (now (links .entry)) (st .count)) (lineOf 64 (stateOf (lentOf (now (vars .entry)) (now (lows .entry)) (now (highs .entry)) (now (heads .entry)) (now (links .entry)) (now (members .entry)) (now (scratch .entry))) st) rule (g .0)) 131072 r (tableOf (now (vars .exit)) (now (lows .exit)) (now (highs .exit)) (now (heads .exit)) (now (links .exit)) (r .count)) ⌝ }
+    ensures { λ _. ⌜ now (marks .exit) ≡ unmarked (length (now (vars .entry))) ⌝ }
+{
+    let m = st.members;
+    match rule {
+        Rule::Rup => judge::rup(
+            vars,
+            lows,
+            highs,
+            heads,
+            links,
+            memo,
+            marks,
+            &members[..m],
+            &mut scratch[..m],
+            st.count,
+            g,
+        ),
+        Rule::Pr => {
+            // Two parts of the scratch list cannot be lent at once.
+            let mut second = [0u16; 2048];
+            judge::pr(
+                vars,
+                lows,
+                highs,
+                heads,
+                links,
+                memo,
+                marks,
+                &members[..m],
+                &mut scratch[..m],
+                &mut second[..m],
+                st.count,
+                g,
+                st.positive,
+                st.negative,
+            )
+        }
+    }
+}
+
+// Whether a line is 0, or one before it was.
+fn refutes(before: bool, g: NodeNo) -> bool
+    ensures { λ r. ⌜ r ≡ (before || eqb (g .0) 0) ⌝ }
+{
+    if before {
+        return true;
+    }
+    g.0 == 0
+}
+
+// The state after a line that is shown.
+fn with_line(st: crate::State, rounds: u64, g: NodeNo) -> crate::State
+    requires { ⌜ (st .members ≤ 2048) × (st .lines ≤ 1024) × (st .rounds + rounds ≤ 1025 * 131072) ⌝ }
+    ensures { λ r. ⌜ r ≡ withLine st rounds (g .0) ⌝ }
+{
+    let refuted = refutes(st.refuted, g);
+    crate::State {
+        count: st.count,
+        kept: st.count,
+        members: st.members + 1,
+        entries: 0,
+        positive: 0,
+        negative: 0,
+        lines: st.lines + 1,
+        rounds: st.rounds + rounds,
+        refuted,
+    }
+}
+
+// The line is refused, or its root is the next member. The nodes that judging makes are dropped.
+pub fn line_step(
+    vars: &mut [u8],
+    lows: &mut [u16],
+    highs: &mut [u16],
+    heads: &mut [u16],
+    links: &mut [u16],
+    memo: &mut [u64],
+    marks: &mut [u8],
+    members: &mut [u16],
+    scratch: &mut [u16],
+    st: crate::State,
+    rule: Rule,
+    root: EntryNo,
+) -> crate::Step
+    requires { ⌜ Held 64 (lentOf (now vars) (now lows) (now highs) (now heads) (now links) (now members) (now scratch)) st × (now marks ≡ unmarked (length (now vars))) × (3 ≤ length (now memo)) ⌝ }
+    ensures { λ r. ⌜ ((n : ℕ) → Held n (lentOf (now (vars .entry)) (now (lows .entry)) (now (highs .entry)) (now (heads .entry)) (now (links .entry)) (now (members .entry)) (now (scratch .entry))) st → Stepped n (lentOf (now (vars .entry)) (now (lows .entry)) (now (highs .entry)) (now (heads .entry)) (now (links .entry)) (now (members .entry)) (now (scratch .entry))) (lentOf (now (vars .exit)) (now (lows .exit)) (now (highs .exit)) (now (heads .exit)) (now (links .exit)) (now (members .exit)) (now (scratch .exit))) st (lineStep n (length (now (vars .entry))) (stateOf (lentOf (now (vars .entry)) (now (lows .entry)) (now (highs .entry)) (now (heads .entry)) (now (links .entry)) (now (members .entry)) (now (scratch .entry))) st) rule (root .0)) r) ⌝ }
+    ensures { λ _. ⌜ now (marks .exit) ≡ unmarked (length (now (vars .entry))) ⌝ }
+{
+    let number = line_refusal(vars, lows, highs, memo, scratch, st, rule, root);
+    if number != 0 {
+        return crate::Step::Stop(number, 0);
+    }
+    let g = crate::node::entry_node(scratch, st.entries, root);
+    let j = judge_line(
+        vars,
+        lows,
+        highs,
+        heads,
+        links,
+        memo,
+        marks,
+        members,
+        scratch,
+        st,
+        rule,
+        g,
+    );
+    table::drop_to(vars, lows, highs, heads, links, j.count, st.count);
+    if j.full {
+        return crate::Step::Stop(23, 0);
+    }
+    if !j.shown {
+        return crate::Step::Stop(19, 0);
+    }
+    let m = st.members;
+    members[m] = g.0;
+    crate::Step::Next(with_line(st, j.rounds, g))
+}
