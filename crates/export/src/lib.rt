@@ -1,10 +1,13 @@
 // The calls of the face for Rust and C to link: each has the face's contract and nothing of its own.
 use operate::Operation;
+use session::Checked;
 use single::Evaluated;
 use single::call::Single;
 use table::NodeNo;
 ghost use mathlib.Core.Path.{_≡_};
+ghost use Rattle.session.specs.Checked.{outcomeOf};
 ghost use Rattle.single.specs.Single.{evaluation, madeOf, operation};
+ghost use Rattle.verdict.specs.Check.{check};
 
 // Whether the node is 1 under the word's assignment; or 7, 26, 13.
 #[no_mangle]
@@ -79,4 +82,21 @@ pub extern "C" fn cablesalak_cofactor_literals(
     ensures { λ r. ⌜ madeOf (now (vars .exit)) (now (lows .exit)) (now (highs .exit)) r ≡ operation (Operation.Literals positive negative) (now (vars .entry)) (now (lows .entry)) (now (highs .entry)) count f 1 ⌝ }
 {
     checker::cofactor_literals(vars, lows, highs, count, NodeNo(f), positive, negative)
+}
+
+// The check of a formula and a proof. Number 0: no assignment satisfies the formula.
+#[no_mangle]
+pub extern "C" fn cablesalak_check<'a>(
+    vars: &mut [u8],
+    lows: &mut [u16],
+    highs: &mut [u16],
+    count: usize,
+    members: &mut [u16],
+    scratch: &mut [u16],
+    formula: &'a [u8],
+    proof: &'a [u8],
+) -> Checked
+    ensures { λ r. ⌜ outcomeOf (now (vars .exit)) (now (lows .exit)) (now (highs .exit)) (now (members .exit)) (now (scratch .exit)) r ≡ check (now (vars .entry)) (now (lows .entry)) (now (highs .entry)) count (now (members .entry)) (now (scratch .entry)) (now (formula .entry)) (now (proof .entry)) ⌝ }
+{
+    checker::check(vars, lows, highs, count, members, scratch, formula, proof)
 }
