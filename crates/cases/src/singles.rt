@@ -1,0 +1,96 @@
+// The examples of single calls. Their lines: label, number, node (evaluation: 1 for yes, 0 for no), count.
+use crate::print;
+use single::Evaluated;
+use single::call::Single;
+use table::NodeNo;
+
+fn print_single(label: &[u8], r: Single) {
+    let node = r.node;
+    print::label(label);
+    print::number(r.number as u64);
+    print::number(node.0 as u64);
+    print::number(r.count as u64);
+    print::end();
+}
+
+fn print_evaluated(label: &[u8], r: Evaluated) {
+    print::label(label);
+    print::number(r.number as u64);
+    print::number(r.yes as u64);
+    print::number(r.count as u64);
+    print::end();
+}
+
+// Node 6's variable, low and high.
+fn print_node(label: &[u8], vars: &[u8; 7], lows: &[u16; 7], highs: &[u16; 7]) {
+    print::label(label);
+    print::byte(vars[6]);
+    print::short(lows[6]);
+    print::short(highs[6]);
+    print::end();
+}
+
+// The table: x2, not-x2, x1 xor x2, x1 as nodes 2 to 5, and one free place. x2 by the xor is not-x1, a new node; x1 by it is x1.
+pub fn case_g() {
+    let mut vars = [0u8, 0, 2, 2, 1, 1, 0];
+    let mut lows = [0u16, 0, 0, 1, 2, 0, 0];
+    let mut highs = [0u16, 0, 1, 0, 3, 1, 0];
+    let r = checker::cofactor(&mut vars, &mut lows, &mut highs, 6, NodeNo(2), NodeNo(4));
+    print_single(b"G", r);
+    print_node(b"G node 6", &vars, &lows, &highs);
+    let s = checker::cofactor(&mut vars, &mut lows, &mut highs, 7, NodeNo(5), NodeNo(4));
+    print_single(b"G", s);
+}
+
+pub fn wrong_size() {
+    let mut vars = [0u8; 1];
+    let mut lows = [0u16; 1];
+    let mut highs = [0u16; 1];
+    print_evaluated(
+        b"7 evaluate",
+        checker::evaluate(&vars, &lows, &highs, 2, NodeNo(1), 0),
+    );
+    print_single(
+        b"7 negation",
+        checker::negation(&mut vars, &mut lows, &mut highs, 2, NodeNo(1)),
+    );
+}
+
+// Node 2 = 1, 0, 0.
+pub fn not_in_order() {
+    let mut vars = [0u8, 0, 1];
+    let mut lows = [0u16; 3];
+    let mut highs = [0u16; 3];
+    print_evaluated(
+        b"26 evaluate",
+        checker::evaluate(&vars, &lows, &highs, 3, NodeNo(1), 0),
+    );
+    let r = checker::conjunction(&mut vars, &mut lows, &mut highs, 3, NodeNo(1), NodeNo(1));
+    print_single(b"26 conjunction", r);
+}
+
+// The constants alone.
+pub fn wrong_operands() {
+    let mut vars = [0u8; 2];
+    let mut lows = [0u16; 2];
+    let mut highs = [0u16; 2];
+    print_evaluated(
+        b"13 evaluate",
+        checker::evaluate(&vars, &lows, &highs, 2, NodeNo(2), 0),
+    );
+    let r = checker::conjunction(&mut vars, &mut lows, &mut highs, 2, NodeNo(1), NodeNo(2));
+    print_single(b"13 conjunction", r);
+    let s = checker::cofactor(&mut vars, &mut lows, &mut highs, 2, NodeNo(1), NodeNo(0));
+    print_single(b"27 cofactor", s);
+    let t = checker::cofactor_literals(&mut vars, &mut lows, &mut highs, 2, NodeNo(1), 1, 1);
+    print_single(b"15 literals", t);
+}
+
+// x1 is node 2 of three places: its negation finds no room.
+pub fn full() {
+    let mut vars = [0u8, 0, 1];
+    let mut lows = [0u16; 3];
+    let mut highs = [0u16, 0, 1];
+    let r = checker::negation(&mut vars, &mut lows, &mut highs, 3, NodeNo(2));
+    print_single(b"23 negation", r);
+}
