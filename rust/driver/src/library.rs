@@ -68,14 +68,57 @@ extern "C" {
         negative: u64,
     ) -> Single;
 
-    pub fn cablesalak_check(
-        vars: &mut [u8],
-        lows: &mut [u16],
-        highs: &mut [u16],
+    #[link_name = "cablesalak_check"]
+    fn check_apart(
+        vars: *mut u8,
+        vars_length: usize,
+        lows: *mut u16,
+        lows_length: usize,
+        highs: *mut u16,
+        highs_length: usize,
         count: usize,
-        members: &mut [u16],
-        scratch: &mut [u16],
-        formula: &[u8],
-        proof: &[u8],
+        members: *mut u16,
+        members_length: usize,
+        scratch: *mut u16,
+        scratch_length: usize,
+        formula: *const u8,
+        formula_length: usize,
+        proof: *const u8,
+        proof_length: usize,
     ) -> Checked;
+}
+
+/// The check. Its result comes back through a pointer, so one register less is left for the arguments, and a slice that Rust hands over as
+/// one pair would no longer lie where a pointer and a length apart do: so they are declared apart.
+///
+/// # Safety
+/// As for any function of the archive: nothing checks the declaration against the Rattle source.
+#[allow(clippy::too_many_arguments)]
+pub unsafe fn cablesalak_check(
+    vars: &mut [u8],
+    lows: &mut [u16],
+    highs: &mut [u16],
+    count: usize,
+    members: &mut [u16],
+    scratch: &mut [u16],
+    formula: &[u8],
+    proof: &[u8],
+) -> Checked {
+    check_apart(
+        vars.as_mut_ptr(),
+        vars.len(),
+        lows.as_mut_ptr(),
+        lows.len(),
+        highs.as_mut_ptr(),
+        highs.len(),
+        count,
+        members.as_mut_ptr(),
+        members.len(),
+        scratch.as_mut_ptr(),
+        scratch.len(),
+        formula.as_ptr(),
+        formula.len(),
+        proof.as_ptr(),
+        proof.len(),
+    )
 }
