@@ -1,4 +1,4 @@
-//! Formulas from outside with their proofs: pigeonhole, parity chains, cardinality, random 3-SAT.
+//! Formulas from outside with their proofs: pigeonhole, parity chains, cardinality, random 3-SAT, two-band rule books.
 
 use crate::diagram::{Literals, Node};
 use crate::formula::Formula;
@@ -243,9 +243,40 @@ pub fn pure(random: &mut Random, clauses: usize, lines: usize) -> Problem {
     Problem { formula, builder }
 }
 
+/// A rule book of two contribution bands, facts 1 and 2: each band asks for a chain of facts, and both bands are asserted. The chains end in
+/// one fact, with both signs where no worker can be in both bands.
+pub fn rule_book(random: &mut Random, facts: usize, satisfiable: bool) -> Problem {
+    let mut asked: Vec<i32> = (3..facts as i32).collect();
+    random.shuffle(&mut asked);
+    let last = facts as i32;
+    let (first, second) = asked.split_at(asked.len() / 2);
+    let mut clauses = vec![vec![1], vec![2]];
+    clauses.extend(rules(1, first, last));
+    clauses.extend(rules(2, second, if satisfiable { last } else { -last }));
+    random.shuffle(&mut clauses);
+    let formula = Formula { variables: facts, clauses };
+    let mut builder = Builder::new(&formula);
+    for line in [vec![-1, last], vec![-2, -last], vec![]] {
+        let root = builder.store.clause(&line);
+        builder.rup(root);
+    }
+    Problem { formula, builder }
+}
+
+/// Who has the first fact has each fact of the chain, and the last one.
+fn rules(from: i32, chain: &[i32], last: i32) -> Vec<Vec<i32>> {
+    let mut before = from;
+    let mut clauses = Vec::new();
+    for &fact in chain.iter().chain([&last]) {
+        clauses.push(vec![-before, fact]);
+        before = fact;
+    }
+    clauses
+}
+
 /// A problem of a random family, small enough for a run of many.
 pub fn any(random: &mut Random) -> Problem {
-    match random.below(7) {
+    match random.below(8) {
         0 => {
             let holes = random.between(1, 4);
             let pigeons = if random.percent(70) { holes + 1 } else { random.between(1, holes) };
@@ -267,6 +298,10 @@ pub fn any(random: &mut Random) -> Problem {
             chain(random, length, clauses, lines)
         }
         5 => {
+            let (facts, satisfiable) = (random.between(20, 64), random.percent(30));
+            rule_book(random, facts, satisfiable)
+        }
+        6 => {
             let (clauses, lines) = (random.between(10, 60), random.between(1, 10));
             pure(random, clauses, lines)
         }
