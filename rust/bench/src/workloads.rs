@@ -75,7 +75,7 @@ pub fn check() -> Vec<Workload> {
         proof("parity sums of 64", &parity_sums(64)),
         proof("pigeonhole 7", &families::pigeonhole(8, 7)),
         proof("rounds: 1,000 clauses, 500 RUP lines", &families::chain(&mut Random::new(1), 40, 1_000, 500)),
-        proof("1,000 clauses, 20 PR lines", &families::pure(&mut Random::new(2), 1_000, 20)),
+        proof("1,000 clauses, 200 PR lines", &families::pure(&mut Random::new(2), 1_000, 200)),
     ]
 }
 
