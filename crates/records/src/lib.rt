@@ -117,3 +117,40 @@ pub fn record_length(r: Record) -> usize
         Record::NoRecord => 0,
     }
 }
+
+// The reader of a proof: its bytes, and a place among them.
+pub struct Reader<'a> {
+    pub bytes: &'a [u8],
+    pub at: usize,
+}
+
+// The reader of these bytes at a place.
+pub fn reader_at<'a>(bytes: &'a [u8], at: usize) -> Reader<'a>
+    ensures { λ r. ⌜ (r .bytes ≡ bytes .entry) × (r .at ≡ at) ⌝ }
+{
+    Reader { bytes, at }
+}
+
+// The record at the reader's place.
+pub fn next_record<'a>(reader: Reader<'a>) -> Record
+    ensures { λ r. ⌜ r ≡ recordAt (now (reader .entry .bytes)) (reader .entry .at) ⌝ }
+{
+    record_at(reader.bytes, reader.at)
+}
+
+// The reader of the same bytes at another place.
+pub fn moved<'a>(reader: Reader<'a>, at: usize) -> Reader<'a>
+    ensures { λ r. ⌜ (r .bytes ≡ reader .entry .bytes) × (r .at ≡ at) ⌝ }
+{
+    Reader {
+        bytes: reader.bytes,
+        at,
+    }
+}
+
+// The record that a reader of these bytes at the place takes, for callers that hold no reader.
+pub fn record_from(bytes: &[u8], at: usize) -> Record
+    ensures { λ r. ⌜ r ≡ recordAt (now (bytes .entry)) at ⌝ }
+{
+    next_record(reader_at(bytes, at))
+}

@@ -42,7 +42,7 @@ pub fn read_records(
     let mut state = first;
     let mut at: usize = 0;
     while at < proof.len() {
-        let r = records::record_at(proof, at);
+        let r = records::record_from(proof, at);
         let next = at + records::record_length(r);
         match steps::record_step(
             vars,
