@@ -1,8 +1,9 @@
 //! `bench [--driver COMMAND] [--reference COMMAND] [--only WORD]`
 //!
 //! Times the proved library and the reference on the same commands in one run, the cost of text taken away, and says what
-//! stack a call takes. WORD is `single`, `check` or `stack`.
+//! stack a call takes. WORD is `single`, `check`, `slow` or `stack`.
 
+mod slow;
 mod stack;
 mod workloads;
 
@@ -26,6 +27,9 @@ fn main() {
     if wanted("check") {
         time_all(&options, &workloads::check());
     }
+    if wanted("slow") {
+        time_all(&options, &slow::all());
+    }
     if wanted("stack") {
         stack::report(&options.driver, &[workloads::single(), workloads::check()].concat());
     }
@@ -41,7 +45,7 @@ fn options() -> Options {
             ("--reference", Some(command)) => options.reference = command,
             ("--only", Some(word)) => options.only = Some(word),
             _ => {
-                eprintln!("usage: bench [--driver COMMAND] [--reference COMMAND] [--only single|check|stack]");
+                eprintln!("usage: bench [--driver COMMAND] [--reference COMMAND] [--only single|check|slow|stack]");
                 exit(2)
             }
         }
@@ -50,12 +54,12 @@ fn options() -> Options {
 }
 
 fn time_all(options: &Options, workloads: &[Workload]) {
-    println!("{:<44} {:>12} {:>12} {:>8}   answer", "microseconds a call", "library", "reference", "ratio");
+    println!("{:<56} {:>12} {:>12} {:>8}   answer", "microseconds a call", "library", "reference", "ratio");
     let mut filters = [Filter::start(&options.driver), Filter::start(&options.reference)];
     for workload in workloads {
         let answers = filters.each_mut().map(|filter| answer(filter, &workload.command));
         if answers[0] == "unavailable" {
-            println!("{:<44} {:>12}", workload.name, "unavailable");
+            println!("{:<56} {:>12}", workload.name, "unavailable");
             continue;
         }
         if answers[0] != answers[1] {
@@ -64,7 +68,7 @@ fn time_all(options: &Options, workloads: &[Workload]) {
         }
         let [library, reference] = times(&mut filters, workload);
         let said = answers[0].split(" |").next().unwrap_or("");
-        println!("{:<44} {library:>12.1} {reference:>12.1} {:>8.2}   {said}", workload.name, library / reference);
+        println!("{:<56} {library:>12.1} {reference:>12.1} {:>8.2}   {said}", workload.name, library / reference);
     }
 }
 

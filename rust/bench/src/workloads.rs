@@ -50,7 +50,7 @@ fn smallest(word: &str) -> Workload {
     call(&format!("{word}, literals"), word, &store, 8, f, g)
 }
 
-fn call(name: &str, word: &str, store: &Diagrams, size: usize, f: Node, g: Node) -> Workload {
+pub fn call(name: &str, word: &str, store: &Diagrams, size: usize, f: Node, g: Node) -> Workload {
     let table = Table { size, ..Table::of(store) };
     let lent = table.text();
     let command = match word {
@@ -71,23 +71,23 @@ fn call(name: &str, word: &str, store: &Diagrams, size: usize, f: Node, g: Node)
 /// Whole checks.
 pub fn check() -> Vec<Workload> {
     vec![
-        proof("parity sums of 60", &parity_sums(60)),
-        proof("parity sums of 64", &parity_sums(64)),
-        proof("pigeonhole 7", &families::pigeonhole(8, 7)),
-        proof("rounds: 1,000 clauses, 500 RUP lines", &families::chain(&mut Random::new(1), 40, 1_000, 500)),
-        proof("1,000 clauses, 200 PR lines", &families::pure(&mut Random::new(2), 1_000, 200)),
+        proof("parity sums of 60", &parity_sums(60), 65_536),
+        proof("parity sums of 64", &parity_sums(64), 65_536),
+        proof("pigeonhole 7", &families::pigeonhole(8, 7), 65_536),
+        proof("rounds: 1,000 clauses, 500 RUP lines", &families::chain(&mut Random::new(1), 40, 1_000, 500), 65_536),
+        proof("1,000 clauses, 200 PR lines", &families::pure(&mut Random::new(2), 1_000, 200), 65_536),
     ]
 }
 
-fn proof(name: &str, problem: &families::Problem) -> Workload {
+pub fn proof(name: &str, problem: &families::Problem, places: usize) -> Workload {
     let mut writer = problem.builder.writer.clone();
     writer.end();
     let hex = |bytes: &[u8]| bytes.iter().map(|byte| format!("{byte:02x}")).collect::<String>();
     let (formula, proof) = (hex(&problem.formula.text()), hex(&writer.bytes));
     let lines = problem.builder.lines;
     Workload {
-        name: format!("{name} ({lines} lines)"),
-        command: format!("check 65536 2048 4096 {formula} {proof}"),
+        name: format!("{name} ({lines} lines, {places} places)"),
+        command: format!("check {places} 2048 4096 {formula} {proof}"),
         // A table of one place is refused at once.
         text: format!("check 1 2048 4096 {formula} {proof}"),
     }

@@ -1,0 +1,61 @@
+//! Inputs made to be slow: each aims at one thing that bounds the work.
+
+use crate::workloads::{self, Workload};
+use compare::diagram::{Diagrams, Node};
+use compare::families::{self, Problem};
+use compare::formula::Formula;
+use compare::proof::Builder;
+use compare::random::Random;
+
+/// Every member's turn of every line works over every member; every line takes all rounds; every pair of nodes is reached.
+pub fn all() -> Vec<Workload> {
+    let mut all = vec![
+        workloads::proof("turns: 1,000 clauses, PR lines", &families::pure(&mut Random::new(3), 1_000, 20), 65_536),
+        workloads::proof("rounds: a chain of 62", &families::chain(&mut Random::new(4), 62, 1_000, 300), 65_536),
+    ];
+    for (first, second) in [(8, 9), (16, 17), (24, 25), (31, 32)] {
+        for places in [4_096, 65_536] {
+            all.push(workloads::proof(&format!("counters by {first}, {second}"), &counters(first, second), places));
+        }
+    }
+    for (first, second) in [(31, 32), (60, 61), (100, 101)] {
+        all.push(disjoint(first, second));
+    }
+    all
+}
+
+/// The sum of weights of the variables before 63 by a modulus picks one of two ends.
+fn counter(store: &mut Diagrams, random: &mut Random, modulus: usize, ends: [Node; 2]) -> Node {
+    let mut below: Vec<Node> = (0..modulus).map(|sum| ends[usize::from(sum == 0)]).collect();
+    for variable in (1..63).rev() {
+        let weight = random.between(1, modulus - 1);
+        below = (0..modulus).map(|sum| store.node(variable, below[sum], below[(sum + weight) % modulus])).collect();
+    }
+    below[0]
+}
+
+/// Two lines that follow from the clause 64, each with a counter in it: the second one's check meets all pairs of their sums.
+fn counters(first: usize, second: usize) -> Problem {
+    let formula = Formula { variables: 64, clauses: vec![vec![64]] };
+    let mut builder = Builder::new(&formula);
+    let random = &mut Random::new(5);
+    for modulus in [first, second] {
+        let ends = [builder.store.clause(&[64]), builder.store.clause(&[63, 64])];
+        let line = counter(&mut builder.store, random, modulus, ends);
+        assert!(builder.rup(line));
+    }
+    Problem { formula, builder }
+}
+
+/// The conjunction of two counters that differ in variable 64 alone at their ends: 0 at every pair of sums.
+fn disjoint(first: usize, second: usize) -> Workload {
+    let mut store = Diagrams::default();
+    let random = &mut Random::new(6);
+    let roots = [(first, 64), (second, -64)].map(|(modulus, last)| {
+        let other = store.literal(63);
+        let last = store.literal(last);
+        let ends = [last, store.and(other, last)];
+        counter(&mut store, random, modulus, ends)
+    });
+    workloads::call(&format!("and, counters by {first}, {second}"), "and", &store, 65_536, roots[0], roots[1])
+}
