@@ -4,6 +4,8 @@
 //! handed, it answers by its contract (`crates/export/src/lib.rt`), so that the functions here are safe. Nothing checks
 //! the declarations below against the archive; the tests run every one of them.
 
+use std::mem::{offset_of, size_of};
+
 /// Evaluation's answer.
 #[repr(C)]
 #[derive(Clone, Copy, Debug, PartialEq, Eq)]
@@ -32,6 +34,15 @@ pub struct Checked {
     pub rounds: u64,
     pub count: usize,
 }
+
+// The layout that the archive was compiled with; the C header asserts the same.
+const _: () = {
+    assert!(size_of::<usize>() == 8);
+    assert!(size_of::<Evaluated>() == 16 && offset_of!(Evaluated, yes) == 1 && offset_of!(Evaluated, count) == 8);
+    assert!(size_of::<Single>() == 16 && offset_of!(Single, node) == 2 && offset_of!(Single, count) == 8);
+    assert!(size_of::<Checked>() == 40 && offset_of!(Checked, place) == 8 && offset_of!(Checked, lines) == 16);
+    assert!(offset_of!(Checked, rounds) == 24 && offset_of!(Checked, count) == 32);
+};
 
 /// The declarations. A slice is handed over as its address and its length, two arguments apart: a pair that did not fit into
 /// the registers left would lie elsewhere.
