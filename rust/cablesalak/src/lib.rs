@@ -66,3 +66,8 @@ pub use lent::{TableMut, PLACES};
 pub use node::{Node, NodeNo, Variables};
 pub use number::{NoSuchNumber, Number, Text};
 pub use table::Table;
+
+/// The examples of the page for those who link the library are run with the others.
+#[cfg(doctest)]
+#[doc = include_str!("../../../docs/LINKING.md")]
+pub struct Linking;
