@@ -98,3 +98,14 @@ fn the_largest_table() {
     assert_eq!(table.conjunction(x64, not_x64), Ok(NodeNo::ZERO));
     assert_eq!(table.evaluate(not_x64, Variables::of(&[1, 63]).unwrap()), Ok(true));
 }
+
+/// The rows of docs/diagram.svg: node 5 is "at least two of 1, 2, 3".
+#[test]
+fn the_pictured_diagram() {
+    let rows = [node(3, 0, 1), node(2, 0, 2), node(2, 2, 1), node(1, 3, 4)];
+    let table = Table::with_nodes(8, &rows).unwrap();
+    assert_eq!(table.count(), 6);
+    for word in 0..8u64 {
+        assert_eq!(table.evaluate(NodeNo(5), Variables(word)), Ok(word.count_ones() >= 2));
+    }
+}
