@@ -58,10 +58,6 @@ fn time_all(options: &Options, workloads: &[Workload]) {
     let mut filters = [Filter::start(&options.driver), Filter::start(&options.reference)];
     for workload in workloads {
         let answers = filters.each_mut().map(|filter| answer(filter, &workload.command));
-        if answers[0] == "unavailable" {
-            println!("{:<56} {:>12}", workload.name, "unavailable");
-            continue;
-        }
         if answers[0] != answers[1] {
             println!("bench: the answers to {} differ: {:.300} and {:.300}", workload.name, answers[0], answers[1]);
             exit(1);

@@ -7,9 +7,7 @@ const STEP: usize = 16 << 10;
 const LARGEST: usize = 8 << 20;
 
 pub fn report(driver: &str, workloads: &[Workload]) {
-    // A call that crate `export` does not have takes none.
-    let exported = |workload: &&Workload| answers(driver, &workload.command, LARGEST) != ["unavailable"];
-    for workload in workloads.iter().filter(exported) {
+    for workload in workloads {
         match least(driver, &workload.command) {
             Some(bytes) => println!("{:<44} {:>9} KiB of stack", workload.name, bytes >> 10),
             None => println!("{:<44} more than {} KiB of stack", workload.name, LARGEST >> 10),
@@ -34,14 +32,10 @@ fn least(driver: &str, command: &str) -> Option<usize> {
     Some(enough * STEP)
 }
 
+/// Whether a driver on this stack answers, rather than ends early.
 fn answered(driver: &str, command: &str, stack: usize) -> bool {
-    answers(driver, command, stack).len() == 1
-}
-
-/// The answer of a driver on this stack, none where it ended early.
-fn answers(driver: &str, command: &str, stack: usize) -> Vec<String> {
     let mut filter = Filter::start(&format!("{driver} --stack {stack}"));
     let answers = filter.ask(&[command.to_string()]);
     filter.end();
-    answers
+    answers.len() == 1
 }

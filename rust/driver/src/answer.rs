@@ -2,7 +2,7 @@
 
 use crate::command::{Call, Check, Command, Node, Table};
 use crate::lent::{Columns, Dirt, Lent};
-use crate::library::*;
+use cablesalak::raw::{self, Checked, Single};
 use std::fmt::Write;
 
 /// The answer to a command, or what the library broke. Dirt is what the lent places may hold.
@@ -26,33 +26,18 @@ fn expect(holds: bool, what: &str) -> Result<(), String> {
     }
 }
 
-/// Refuses a call that crate `export` does not have yet.
-fn exported(has: bool) -> Result<(), String> {
-    if has {
-        Ok(())
-    } else {
-        Err("unavailable".into())
-    }
-}
-
 fn evaluate(table: &Table, node: u16, word: u64) -> Answered {
-    exported(cfg!(feature = "eval"))?;
     let columns = Columns::holding(table.size, &table.nodes);
     let (vars, lows, highs) = (&columns.vars, &columns.lows, &columns.highs);
-    let said = if cfg!(feature = "eval") {
-        unsafe { cablesalak_evaluate(vars.places(), lows.places(), highs.places(), table.count, node, word) }
-    } else {
-        unreachable!()
-    };
+    let said = raw::evaluate(vars.places(), lows.places(), highs.places(), table.count, node, word);
     expect(columns.guarded(), "written outside the table")?;
     expect(columns.nodes() == Columns::holding(table.size, &table.nodes).nodes(), "evaluation wrote to the table")?;
     Ok(format!("{} {} {}", said.number, u8::from(said.yes), said.count))
 }
 
 fn single(table: &Table, call: &Call) -> Answered {
-    exported(cfg!(feature = "single"))?;
     let mut columns = Columns::holding(table.size, &table.nodes);
-    let said = if cfg!(feature = "single") { operate(&mut columns, table.count, call) } else { unreachable!() };
+    let said = operate(&mut columns, table.count, call);
     expect(columns.guarded(), "written outside the table")?;
     if said.number == 0 {
         expect(said.count <= table.size, "the count is above the size")?;
@@ -65,16 +50,14 @@ fn single(table: &Table, call: &Call) -> Answered {
 fn operate(columns: &mut Columns, count: usize, call: &Call) -> Single {
     let Columns { vars, lows, highs } = columns;
     let (vars, lows, highs) = (vars.lend(), lows.lend(), highs.lend());
-    unsafe {
-        match *call {
-            Call::And(f, g) => cablesalak_conjunction(vars, lows, highs, count, f, g),
-            Call::Not(f) => cablesalak_negation(vars, lows, highs, count, f),
-            Call::Cofactor(f, g) => cablesalak_cofactor(vars, lows, highs, count, f, g),
-            Call::Literals(f, positive, negative) => {
-                cablesalak_cofactor_literals(vars, lows, highs, count, f, positive, negative)
-            }
-            Call::Evaluate(..) => unreachable!(),
+    match *call {
+        Call::And(f, g) => raw::conjunction(vars, lows, highs, count, f, g),
+        Call::Not(f) => raw::negation(vars, lows, highs, count, f),
+        Call::Cofactor(f, g) => raw::cofactor(vars, lows, highs, count, f, g),
+        Call::Literals(f, positive, negative) => {
+            raw::cofactor_literals(vars, lows, highs, count, f, positive, negative)
         }
+        Call::Evaluate(..) => unreachable!(),
     }
 }
 
@@ -89,10 +72,9 @@ struct Parts {
 const LENT_COUNT: usize = 2;
 
 fn check(asked: &Check, dirt: &mut Dirt) -> Answered {
-    exported(cfg!(feature = "check"))?;
     let seed = dirt.next();
     let mut parts = dirty_parts(asked, seed);
-    let said = if cfg!(feature = "check") { judge(&mut parts, asked) } else { unreachable!() };
+    let said = judge(&mut parts, asked);
     expect(parts.columns.guarded(), "written outside the table")?;
     expect(parts.members.guarded(), "written outside the member list")?;
     expect(parts.scratch.guarded(), "written outside the scratch list")?;
@@ -127,18 +109,16 @@ fn dirty_parts(asked: &Check, seed: u64) -> Parts {
 
 fn judge(parts: &mut Parts, asked: &Check) -> Checked {
     let Parts { columns, members, scratch } = parts;
-    unsafe {
-        cablesalak_check(
-            columns.vars.lend(),
-            columns.lows.lend(),
-            columns.highs.lend(),
-            LENT_COUNT,
-            members.lend(),
-            scratch.lend(),
-            &asked.formula,
-            &asked.proof,
-        )
-    }
+    raw::check(
+        columns.vars.lend(),
+        columns.lows.lend(),
+        columns.highs.lend(),
+        LENT_COUNT,
+        members.lend(),
+        scratch.lend(),
+        &asked.formula,
+        &asked.proof,
+    )
 }
 
 /// "Number 7 changes nothing."

@@ -6,7 +6,6 @@
 mod answer;
 mod command;
 mod lent;
-mod library;
 #[cfg(test)]
 mod tests;
 

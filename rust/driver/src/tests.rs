@@ -1,7 +1,7 @@
 //! What the line protocol cannot ask, and the driver's own reading.
 
 use crate::command;
-use crate::library::*;
+use cablesalak::raw;
 
 #[test]
 fn what_is_no_command() {
@@ -50,28 +50,20 @@ fn unequal_columns() {
     {
         let vars: Vec<u8> = vec![0; lengths[0]];
         let (lows, highs) = (vec![0u16; lengths[1]], vec![0u16; lengths[2]]);
-        if cfg!(feature = "eval") {
-            let said = unsafe { cablesalak_evaluate(&vars, &lows, &highs, 2, 1, 0) };
-            assert_eq!((said.number, said.yes, said.count), (7, false, 2), "{lengths:?}");
-        }
-        if cfg!(feature = "single") {
-            single_on_unequal(vars.clone(), lows.clone(), highs.clone());
-        }
-        if cfg!(feature = "check") {
-            check_on_unequal(vars, lows, highs);
-        }
+        let said = raw::evaluate(&vars, &lows, &highs, 2, 1, 0);
+        assert_eq!((said.number, said.yes, said.count), (7, false, 2), "{lengths:?}");
+        single_on_unequal(vars.clone(), lows.clone(), highs.clone());
+        check_on_unequal(vars, lows, highs);
     }
 }
 
 fn single_on_unequal(mut vars: Vec<u8>, mut lows: Vec<u16>, mut highs: Vec<u16>) {
-    let said = unsafe {
-        [
-            cablesalak_conjunction(&mut vars, &mut lows, &mut highs, 2, 1, 1),
-            cablesalak_negation(&mut vars, &mut lows, &mut highs, 2, 1),
-            cablesalak_cofactor(&mut vars, &mut lows, &mut highs, 2, 1, 0),
-            cablesalak_cofactor_literals(&mut vars, &mut lows, &mut highs, 2, 1, 1, 1),
-        ]
-    };
+    let said = [
+        raw::conjunction(&mut vars, &mut lows, &mut highs, 2, 1, 1),
+        raw::negation(&mut vars, &mut lows, &mut highs, 2, 1),
+        raw::cofactor(&mut vars, &mut lows, &mut highs, 2, 1, 0),
+        raw::cofactor_literals(&mut vars, &mut lows, &mut highs, 2, 1, 1, 1),
+    ];
     assert!(said.iter().all(|said| (said.number, said.node, said.count) == (7, 0, 2)));
     assert!(vars.iter().all(|place| *place == 0) && lows.iter().chain(&highs).all(|place| *place == 0));
 }
@@ -79,9 +71,7 @@ fn single_on_unequal(mut vars: Vec<u8>, mut lows: Vec<u16>, mut highs: Vec<u16>)
 fn check_on_unequal(mut vars: Vec<u8>, mut lows: Vec<u16>, mut highs: Vec<u16>) {
     let (mut members, mut scratch) = (vec![5u16; 2048], vec![6u16; 4096]);
     vars.fill(7);
-    let said = unsafe {
-        cablesalak_check(&mut vars, &mut lows, &mut highs, 9, &mut members, &mut scratch, b"p cnf 0 0", &[0x45])
-    };
+    let said = raw::check(&mut vars, &mut lows, &mut highs, 9, &mut members, &mut scratch, b"p cnf 0 0", &[0x45]);
     assert_eq!((said.number, said.place, said.lines, said.rounds, said.count), (7, 0, 0, 0, 9));
     assert!(vars.iter().all(|place| *place == 7) && lows.iter().chain(&highs).all(|place| *place == 0));
     assert!(members.iter().all(|place| *place == 5) && scratch.iter().all(|place| *place == 6));

@@ -7,9 +7,9 @@ mod operate;
 mod protocol;
 mod records;
 mod rules;
-mod table;
 #[cfg(test)]
 mod selftest;
+mod table;
 
 use std::io::{self, BufRead, BufReader, BufWriter, Write};
 

@@ -222,7 +222,7 @@ fn hex(digits: &[u8]) -> Option<Vec<u8>> {
     if digits == b"-" {
         return Some(Vec::new());
     }
-    if digits.is_empty() || digits.len() % 2 != 0 {
+    if digits.is_empty() || !digits.len().is_multiple_of(2) {
         return None;
     }
     digits.chunks_exact(2).map(|pair| Some(hex_digit(pair[0])? << 4 | hex_digit(pair[1])?)).collect()

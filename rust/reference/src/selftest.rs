@@ -443,8 +443,7 @@ fn judged(variables: u32, size: usize, clauses: &[Function], steps: &[Step]) -> 
 
 fn report(number: u32, place: usize, mut model: Model) -> String {
     let count = model.kept.nodes.len();
-    let members: Vec<String> =
-        model.members.iter().map(|&f| model.kept.build(f).ok().unwrap().to_string()).collect();
+    let members: Vec<String> = model.members.iter().map(|&f| model.kept.build(f).ok().unwrap().to_string()).collect();
     let members = if members.is_empty() { "-".into() } else { members.join(",") };
     format!("{number} {place} {} {} {count} | {} | {members}", model.lines, model.rounds, model.kept.text())
 }

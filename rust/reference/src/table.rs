@@ -85,10 +85,7 @@ impl Table {
         Table {
             size: SMALLEST as usize,
             nodes: vec![constant; 2],
-            facts: vec![
-                Facts { support: 0, units: all },
-                Facts { support: 0, units: Literals::default() },
-            ],
+            facts: vec![Facts { support: 0, units: all }, Facts { support: 0, units: Literals::default() }],
             negations: vec![ONE.0, ZERO.0],
             buckets: vec![NONE; FIRST_BUCKETS],
         }
@@ -210,10 +207,7 @@ impl Table {
         let of = |there: NodeId| if there == ZERO { bit(level) } else { 0 };
         Facts {
             support: bit(level) | l.support | h.support,
-            units: Literals {
-                yes: (l.units.yes & h.units.yes) | of(low),
-                no: (l.units.no & h.units.no) | of(high),
-            },
+            units: Literals { yes: (l.units.yes & h.units.yes) | of(low), no: (l.units.no & h.units.no) | of(high) },
         }
     }
 

@@ -6,11 +6,8 @@ use std::process::{Command, Stdio};
 
 /// Starts the filter, asks each command and gives the answers.
 fn ask(commands: &[String]) -> Vec<String> {
-    let mut filter = Command::new(env!("CARGO_BIN_EXE_reference"))
-        .stdin(Stdio::piped())
-        .stdout(Stdio::piped())
-        .spawn()
-        .unwrap();
+    let mut filter =
+        Command::new(env!("CARGO_BIN_EXE_reference")).stdin(Stdio::piped()).stdout(Stdio::piped()).spawn().unwrap();
     let mut input = filter.stdin.take().unwrap();
     let text = commands.join("\n") + "\n";
     let writer = std::thread::spawn(move || input.write_all(text.as_bytes()).unwrap());
@@ -377,8 +374,11 @@ fn edges_of_the_records() {
     let zero = "p cnf 2 1\n0\n";
     expect(rows(&[
         // Equal nodes under two entry numbers give that node; the record's own variable is then gone.
-        (zero, "4E 02 00 00 01 00 4E 02 00 00 01 00 4E 01 02 00 03 00 4E 01 04 00 00 00 52 05 00 45",
-         "20 27 1 0 4 | 2,0,1;1,2,0 | 0,3"),
+        (
+            zero,
+            "4E 02 00 00 01 00 4E 02 00 00 01 00 4E 01 02 00 03 00 4E 01 04 00 00 00 52 05 00 45",
+            "20 27 1 0 4 | 2,0,1;1,2,0 | 0,3",
+        ),
         (x, "4E 01 01 00 01 00 52 02 00", "17 6"),
         (x, "4E 01 00 00 01 00 50 02 00", "18 6"),
         (x, "54 01 50 00 00", "18 2"),

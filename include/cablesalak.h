@@ -1,0 +1,156 @@
+/* The proved checker of diagram refutations, for C and C++ on x86-64 with the System V calling convention (Linux).
+ *
+ * Link target/staticlib/libexport.a, which `rt staticlib export` writes once every function is proved. docs/LINKING.md has
+ * the commands, docs/THEOREMS.md what is proved, crates/export/src/lib.rt the contracts that the words below render.
+ *
+ * What is lent. The library allocates nothing and keeps nothing between calls: the caller lends every list as an address and
+ * a length, counted in places, not bytes. An address is aligned for its type and not null, also where the length is 0. A
+ * list that a call writes to overlaps no other list of the call. Nothing else is asked: whatever the lengths, the count, the
+ * node numbers and the contents, each call answers as told here, with 7 where a lent part is of wrong size.
+ *
+ * The table is three columns of one length, its size, 2 to 65,536: variables, low children, high children. Place k is node
+ * k; places 0 and 1 stand for the constants 0 and 1. The count says how many places are taken, the constants' two among
+ * them. The table is in good order when
+ *   - places 0 and 1 and the places from the count on hold zeros, and 2 <= count <= size;
+ *   - each node's variable is 1 to 64 and smaller than those of its children that are not constants;
+ *   - children have smaller numbers than their parent; low differs from high; no two nodes are alike.
+ * A node has the value of its high where its variable is true, else of its low. In a table in good order two node numbers
+ * are equal exactly when they have the same value under every assignment.
+ *
+ * Stack: a call takes less than 1 MiB, whatever the table (docs/BENCH.md has the measured figures).
+ * Threads: calls at the same time are fine where no list that one of them writes to is lent to another. */
+#ifndef CABLESALAK_H
+#define CABLESALAK_H
+
+#include "cablesalak_numbers.h"
+#include <stdbool.h>
+#include <stddef.h>
+#include <stdint.h>
+
+/* Sizes of what is lent. Member list and scratch list may be longer. */
+#define CABLESALAK_LEAST_PLACES 2
+#define CABLESALAK_MOST_PLACES 65536
+#define CABLESALAK_LEAST_MEMBERS 2048
+#define CABLESALAK_LEAST_SCRATCH 4096
+
+#ifdef __cplusplus
+extern "C" {
+#endif
+
+/* Evaluation's answer. */
+typedef struct {
+    uint8_t number; /* 0, or why it is refused */
+    bool yes;       /* whether the node is 1; false with a refusal */
+    size_t count;   /* as lent */
+} cablesalak_evaluated;
+
+/* The answer of a single call that makes nodes. */
+typedef struct {
+    uint8_t number; /* 0, or why it is refused */
+    uint16_t node;  /* the node asked for; 0 with a refusal */
+    size_t count;   /* the count after the call; as lent with a refusal */
+} cablesalak_single;
+
+/* The answer of the check. */
+typedef struct {
+    uint8_t number;  /* 0: refuted; else why not */
+    size_t place;    /* byte offset: in the formula for 1 to 6 and 8, in the proof for 0 and 9 to 23; 0 for 7 */
+    size_t lines;    /* the accepted lines */
+    uint64_t rounds; /* their rounds of unit propagation */
+    size_t count;    /* the table's count after the call; as lent with 7 */
+} cablesalak_checked;
+
+/* ---- Single calls, on a table in good order.
+ *
+ * Each tests, in this order: 7, the columns are of one length, 2 to 65,536; 26, the table is in good order; 13, its node
+ * numbers are below the count; then what is told with it; then 23, there is room for the nodes to be made.
+ * A refused call changes nothing. Else the nodes below the old count stay as they are, the new ones follow them, low side's
+ * before high side's and children before their parent, and zeros follow those. Only nodes of the diagram asked for are
+ * placed, and one that is there already is found again: a full table refuses only what it does not hold. */
+
+/* Whether the node is 1 under the assignment that makes variable i true where bit i - 1 of the word is set.
+ * Gives 0, 7, 26, 13. Writes to nothing. */
+cablesalak_evaluated cablesalak_evaluate(
+    const uint8_t *vars, size_t vars_length,
+    const uint16_t *lows, size_t lows_length,
+    const uint16_t *highs, size_t highs_length,
+    size_t count, uint16_t node, uint64_t word);
+
+/* The conjunction of f and g: 1 where both are. Gives 0, 7, 26, 13, 23. */
+cablesalak_single cablesalak_conjunction(
+    uint8_t *vars, size_t vars_length,
+    uint16_t *lows, size_t lows_length,
+    uint16_t *highs, size_t highs_length,
+    size_t count, uint16_t f, uint16_t g);
+
+/* The negation of f: 1 where f is 0. Gives 0, 7, 26, 13, 23. */
+cablesalak_single cablesalak_negation(
+    uint8_t *vars, size_t vars_length,
+    uint16_t *lows, size_t lows_length,
+    uint16_t *highs, size_t highs_length,
+    size_t count, uint16_t f);
+
+/* f cofactored by the diagram g: at each assignment f's value at the nearest one that satisfies g. The distance of two
+ * assignments is the sum of 2^(64 - i) over the variables i on which they differ, so that variable 1 weighs most.
+ * Gives 0, 7, 26, 13, 27 where g is 0, 23. */
+cablesalak_single cablesalak_cofactor(
+    uint8_t *vars, size_t vars_length,
+    uint16_t *lows, size_t lows_length,
+    uint16_t *highs, size_t highs_length,
+    size_t count, uint16_t f, uint16_t g);
+
+/* f with the variables of `positive` made true and those of `negative` made false, bit i - 1 for variable i.
+ * Gives 0, 7, 26, 13, 15 where the two words share a bit, 23. */
+cablesalak_single cablesalak_cofactor_literals(
+    uint8_t *vars, size_t vars_length,
+    uint16_t *lows, size_t lows_length,
+    uint16_t *highs, size_t highs_length,
+    size_t count, uint16_t f, uint64_t positive, uint64_t negative);
+
+/* ---- The check of a formula (the bytes of a DIMACS CNF file) and a proof (the bytes of a proof file).
+ *
+ * Number 0: no assignment satisfies the formula, whatever the proof's bytes and whatever the lent lists held before.
+ * Gives 0 to 23. Tests 7 first: the columns are of one length, 2 to 65,536, the member list has 2,048 places or more, the
+ * scratch list 4,096 or more. Then the formula is read in its order, then the proof record by record, until a refusal or
+ * the end. At most 64 variables, 1,024 clauses, 1,024 lines, and 4,096 entries in a line. The lent count is not judged:
+ * the check empties the table and the lists first.
+ *
+ * What the lists hold afterwards:
+ *   7             what they held before.
+ *   1 to 6, 8     zeros everywhere; the count is 2.
+ *   0, 9 to 23    the table, in good order: the nodes of the clauses and of all entries of the accepted lines, in the order in
+ *                 which they were made; zeros from the count on. The member list: the clauses' nodes in the formula's order,
+ *                 then the accepted lines' nodes; zeros above. The scratch list: zeros. */
+cablesalak_checked cablesalak_check(
+    uint8_t *vars, size_t vars_length,
+    uint16_t *lows, size_t lows_length,
+    uint16_t *highs, size_t highs_length,
+    size_t count,
+    uint16_t *members, size_t members_length,
+    uint16_t *scratch, size_t scratch_length,
+    const uint8_t *formula, size_t formula_length,
+    const uint8_t *proof, size_t proof_length);
+
+#ifdef __cplusplus
+}
+#endif
+
+/* The layout that the archive was compiled with. */
+#if defined(__cplusplus) ? __cplusplus >= 201103L : __STDC_VERSION__ >= 201112L
+#ifdef __cplusplus
+#define CABLESALAK_LAYOUT(holds) static_assert(holds, "not the archive's layout")
+#else
+#define CABLESALAK_LAYOUT(holds) _Static_assert(holds, "not the archive's layout")
+#endif
+CABLESALAK_LAYOUT(sizeof(size_t) == 8 && sizeof(bool) == 1);
+CABLESALAK_LAYOUT(sizeof(cablesalak_evaluated) == 16 && offsetof(cablesalak_evaluated, yes) == 1);
+CABLESALAK_LAYOUT(offsetof(cablesalak_evaluated, number) == 0 && offsetof(cablesalak_evaluated, count) == 8);
+CABLESALAK_LAYOUT(sizeof(cablesalak_single) == 16 && offsetof(cablesalak_single, node) == 2);
+CABLESALAK_LAYOUT(offsetof(cablesalak_single, number) == 0 && offsetof(cablesalak_single, count) == 8);
+CABLESALAK_LAYOUT(sizeof(cablesalak_checked) == 40 && offsetof(cablesalak_checked, number) == 0);
+CABLESALAK_LAYOUT(offsetof(cablesalak_checked, place) == 8 && offsetof(cablesalak_checked, lines) == 16);
+CABLESALAK_LAYOUT(offsetof(cablesalak_checked, rounds) == 24 && offsetof(cablesalak_checked, count) == 32);
+#undef CABLESALAK_LAYOUT
+#endif
+
+#endif

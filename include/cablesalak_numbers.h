@@ -1,0 +1,100 @@
+/* The numbers that the calls and the programs give, with the meanings of document 01. */
+#ifndef CABLESALAK_NUMBERS_H
+#define CABLESALAK_NUMBERS_H
+
+enum cablesalak_number {
+    /* The check: no assignment satisfies the formula. A single call: not refused. */
+    CABLESALAK_REFUTED = 0,
+    /* The first line of the formula that is neither blank nor a comment is no header p cnf VARIABLES CLAUSES. */
+    CABLESALAK_NO_HEADER = 1,
+    /* The header names more than 64 variables or more than 1,024 clauses. */
+    CABLESALAK_HEADER_TOO_LARGE = 2,
+    /* A token behind the header is neither 0 nor an optional minus with digits that do not start with 0. */
+    CABLESALAK_NOT_A_NUMBER = 3,
+    /* A literal's variable is greater than the header's number of variables. */
+    CABLESALAK_LITERAL_BEYOND_HEADER = 4,
+    /* The formula has fewer clauses than the header names, or a token after the last one. */
+    CABLESALAK_CLAUSE_COUNT = 5,
+    /* The formula ends within a clause. */
+    CABLESALAK_CLAUSE_OPEN = 6,
+    /* A lent part is too short or too long, or the columns differ in length. */
+    CABLESALAK_WRONG_SIZE = 7,
+    /* A clause wants a new node and every place of the table is taken. */
+    CABLESALAK_FULL_AT_CLAUSE = 8,
+    /* A record's first byte is none of 4E, 54, 46, 52, 50, 45. */
+    CABLESALAK_UNKNOWN_KIND = 9,
+    /* The proof ends within a record, or without an end record. */
+    CABLESALAK_CUT_SHORT = 10,
+    /* A byte follows the end record. */
+    CABLESALAK_BYTES_AFTER_END = 11,
+    /* A record names variable 0, or one greater than the header's number of variables. */
+    CABLESALAK_NO_SUCH_VARIABLE = 12,
+    /* A record names an entry not made yet; a single call is handed a node number that is not below the count. */
+    CABLESALAK_NO_SUCH_NODE = 13,
+    /* A node record's variable is not smaller than the variables of its children. */
+    CABLESALAK_VARIABLE_ORDER = 14,
+    /* A witness names a variable twice; the two sets of a cofactor by literals share a variable. */
+    CABLESALAK_VARIABLE_TWICE = 15,
+    /* A witness stands before a RUP line or before the end record, where none may. */
+    CABLESALAK_WITNESS_LEFT = 16,
+    /* The line's diagram is 1, so that the line says nothing. */
+    CABLESALAK_ALWAYS_TRUE = 17,
+    /* The PR line's diagram under its witness is not 1. */
+    CABLESALAK_WITNESS_FAILS = 18,
+    /* Unit propagation meets no conflict, so that the line is not shown. */
+    CABLESALAK_NOT_SHOWN = 19,
+    /* The proof ends and no accepted line was the diagram 0. */
+    CABLESALAK_NO_ZERO_LINE = 20,
+    /* A line has more than 4,096 node records. */
+    CABLESALAK_TOO_MANY_ENTRIES = 21,
+    /* The proof has more than 1,024 lines. */
+    CABLESALAK_TOO_MANY_LINES = 22,
+    /* An entry, a line's work or a single call wants a new node and every place of the table is taken. */
+    CABLESALAK_TABLE_FULL = 23,
+    /* Of a program: a file is longer than 65,536 bytes. */
+    CABLESALAK_FILE_TOO_LONG = 24,
+    /* Of a program: a file cannot be read. */
+    CABLESALAK_FILE_UNREADABLE = 25,
+    /* Of a single call: the lent table is not in good order. */
+    CABLESALAK_NOT_IN_ORDER = 26,
+    /* Of a single call: a cofactor by the diagram 0 has no value. */
+    CABLESALAK_COFACTOR_BY_ZERO = 27
+};
+
+/* A number's meaning in a few words; null for what is no number. */
+static inline const char *cablesalak_meaning(unsigned number)
+{
+    switch (number) {
+    case CABLESALAK_REFUTED: return "refuted";
+    case CABLESALAK_NO_HEADER: return "no proper header";
+    case CABLESALAK_HEADER_TOO_LARGE: return "over 64 variables or 1,024 clauses";
+    case CABLESALAK_NOT_A_NUMBER: return "not a number";
+    case CABLESALAK_LITERAL_BEYOND_HEADER: return "literal beyond the header";
+    case CABLESALAK_CLAUSE_COUNT: return "clauses too few or too many";
+    case CABLESALAK_CLAUSE_OPEN: return "last clause open";
+    case CABLESALAK_WRONG_SIZE: return "a lent part of wrong size";
+    case CABLESALAK_FULL_AT_CLAUSE: return "table full at a clause";
+    case CABLESALAK_UNKNOWN_KIND: return "unknown kind";
+    case CABLESALAK_CUT_SHORT: return "record cut short, or no end record";
+    case CABLESALAK_BYTES_AFTER_END: return "bytes after the end";
+    case CABLESALAK_NO_SUCH_VARIABLE: return "variable 0 or beyond the header";
+    case CABLESALAK_NO_SUCH_NODE: return "no such entry or node";
+    case CABLESALAK_VARIABLE_ORDER: return "variable not before its children's";
+    case CABLESALAK_VARIABLE_TWICE: return "witness names a variable twice";
+    case CABLESALAK_WITNESS_LEFT: return "witness left at a RUP line or the end";
+    case CABLESALAK_ALWAYS_TRUE: return "line is always true";
+    case CABLESALAK_WITNESS_FAILS: return "witness does not make the line 1";
+    case CABLESALAK_NOT_SHOWN: return "not shown: no conflict";
+    case CABLESALAK_NO_ZERO_LINE: return "end without a 0 line";
+    case CABLESALAK_TOO_MANY_ENTRIES: return "over 4,096 entries";
+    case CABLESALAK_TOO_MANY_LINES: return "over 1,024 lines";
+    case CABLESALAK_TABLE_FULL: return "table full elsewhere";
+    case CABLESALAK_FILE_TOO_LONG: return "a file over 65,536 bytes";
+    case CABLESALAK_FILE_UNREADABLE: return "a file cannot be read";
+    case CABLESALAK_NOT_IN_ORDER: return "table not in good order";
+    case CABLESALAK_COFACTOR_BY_ZERO: return "cofactor by 0";
+    default: return 0;
+    }
+}
+
+#endif

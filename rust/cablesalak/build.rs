@@ -1,0 +1,20 @@
+//! Links the archive that `rt staticlib export` writes. No other crate links it.
+
+use std::env;
+use std::path::Path;
+
+const FOLDER: &str = "CABLESALAK_ARCHIVE_FOLDER";
+
+fn main() {
+    let beside = || format!("{}/../../target/staticlib", env::var("CARGO_MANIFEST_DIR").unwrap());
+    let folder = env::var(FOLDER).unwrap_or_else(|_| beside());
+    println!("cargo:rerun-if-env-changed={FOLDER}");
+    println!("cargo:rerun-if-changed={folder}/libexport.a");
+    println!("cargo:rustc-link-search=native={folder}");
+    println!("cargo:rustc-link-lib=static=export");
+    println!("cargo:rustc-env=CABLESALAK_ARCHIVE={folder}/libexport.a");
+    assert!(
+        Path::new(&folder).join("libexport.a").exists(),
+        "no libexport.a in {folder}: write it with `rt staticlib export`, or name its folder in {FOLDER}"
+    );
+}

@@ -1,0 +1,94 @@
+//! The check of a formula and a proof.
+
+use crate::{raw, NodeNo, Number, Table, TableMut};
+use std::fmt;
+
+/// The least length of the member list.
+pub const MEMBERS: usize = 2_048;
+/// The least length of the scratch list.
+pub const SCRATCH: usize = 4_096;
+
+/// What a check says. Written out with `{}` it is the program's line: number, place, lines, rounds.
+#[derive(Clone, Copy, Debug, PartialEq, Eq)]
+pub struct Verdict {
+    /// Refuted, or why not.
+    pub number: Number,
+    /// A byte offset, in the formula or in the proof as [`Number::text`] tells: what is refused, or the end record.
+    pub place: usize,
+    /// The accepted lines.
+    pub lines: usize,
+    /// Their rounds of unit propagation.
+    pub rounds: u64,
+    /// The table's count.
+    pub count: usize,
+}
+
+impl Verdict {
+    /// Whether it is shown that no assignment satisfies the formula.
+    pub fn refuted(&self) -> bool {
+        self.number == Number::Refuted
+    }
+}
+
+impl fmt::Display for Verdict {
+    fn fmt(&self, out: &mut fmt::Formatter<'_>) -> fmt::Result {
+        write!(out, "{} {} {} {}", self.number.code(), self.place, self.lines, self.rounds)
+    }
+}
+
+/// The places that a check works on: a table, the member list and the scratch list. It can be used again and again: a check
+/// empties it first.
+#[derive(Clone, Debug)]
+pub struct Workspace {
+    table: Table,
+    members: Vec<u16>,
+    scratch: Vec<u16>,
+}
+
+impl Workspace {
+    /// A workspace whose table has so many places; 7 where they are not 2 to 65,536. The program has 4,096.
+    pub fn new(size: usize) -> Result<Workspace, Number> {
+        Ok(Workspace { table: Table::new(size)?, members: vec![0; MEMBERS], scratch: vec![0; SCRATCH] })
+    }
+
+    /// The table as the last check left it: the nodes of the clauses and of the accepted lines, or the constants alone where
+    /// the formula was refused.
+    pub fn table(&self) -> &Table {
+        &self.table
+    }
+
+    /// The same, for single calls on those nodes.
+    pub fn table_mut(&mut self) -> &mut Table {
+        &mut self.table
+    }
+
+    /// The member of this place as the last check left it: the clauses in their order, then the accepted lines. The places
+    /// above them, and all where the formula was refused, hold 0.
+    pub fn member(&self, place: usize) -> Option<NodeNo> {
+        self.members.get(place).copied().map(NodeNo)
+    }
+}
+
+/// Checks a proof of a formula. Refuted: no assignment satisfies the formula, whatever the proof's bytes and whatever the
+/// workspace held before.
+pub fn check(workspace: &mut Workspace, formula: &[u8], proof: &[u8]) -> Verdict {
+    let Workspace { table, members, scratch } = workspace;
+    check_lent(&mut table.lend(), members, scratch, formula, proof)
+}
+
+/// The same over lists of the caller's, whatever they hold. 7, and nothing is changed, where the member list has fewer than
+/// 2,048 places or the scratch list fewer than 4,096. Else the scratch list ends as zeros, and the table and the member
+/// list hold what [`Workspace`] tells.
+pub fn check_lent(
+    table: &mut TableMut<'_>,
+    members: &mut [u16],
+    scratch: &mut [u16],
+    formula: &[u8],
+    proof: &[u8],
+) -> Verdict {
+    let count = *table.count;
+    let said = raw::check(table.vars, table.lows, table.highs, count, members, scratch, formula, proof);
+    *table.count = said.count;
+    let raw::Checked { number, place, lines, rounds, count } = said;
+    Verdict { number: Number::said(number), place, lines, rounds, count }
+}

@@ -1,0 +1,210 @@
+//! The archive's calls, declared once, and a safe function over slices for each.
+//!
+//! `include/cablesalak.h` tells what each says and leaves. None has a `requires`: whatever lengths, counts and numbers it is
+//! handed, it answers by its contract (`crates/export/src/lib.rt`), so that the functions here are safe. Nothing checks
+//! the declarations below against the archive; the tests run every one of them.
+
+use std::mem::{offset_of, size_of};
+
+/// Evaluation's answer.
+#[repr(C)]
+#[derive(Clone, Copy, Debug, PartialEq, Eq)]
+pub struct Evaluated {
+    pub number: u8,
+    pub yes: bool,
+    pub count: usize,
+}
+
+/// The answer of a single call that makes nodes.
+#[repr(C)]
+#[derive(Clone, Copy, Debug, PartialEq, Eq)]
+pub struct Single {
+    pub number: u8,
+    pub node: u16,
+    pub count: usize,
+}
+
+/// The answer of the check of a formula and a proof.
+#[repr(C)]
+#[derive(Clone, Copy, Debug, PartialEq, Eq)]
+pub struct Checked {
+    pub number: u8,
+    pub place: usize,
+    pub lines: usize,
+    pub rounds: u64,
+    pub count: usize,
+}
+
+// The layout that the archive was compiled with; the C header asserts the same.
+const _: () = {
+    assert!(size_of::<usize>() == 8);
+    assert!(size_of::<Evaluated>() == 16 && offset_of!(Evaluated, yes) == 1 && offset_of!(Evaluated, count) == 8);
+    assert!(size_of::<Single>() == 16 && offset_of!(Single, node) == 2 && offset_of!(Single, count) == 8);
+    assert!(size_of::<Checked>() == 40 && offset_of!(Checked, place) == 8 && offset_of!(Checked, lines) == 16);
+    assert!(offset_of!(Checked, rounds) == 24 && offset_of!(Checked, count) == 32);
+};
+
+/// The declarations. A slice is handed over as its address and its length, two arguments apart: a pair that did not fit into
+/// the registers left would lie elsewhere.
+mod archive {
+    use super::{Checked, Evaluated, Single};
+
+    extern "C" {
+        pub fn cablesalak_evaluate(
+            vars: *const u8,
+            vars_length: usize,
+            lows: *const u16,
+            lows_length: usize,
+            highs: *const u16,
+            highs_length: usize,
+            count: usize,
+            node: u16,
+            word: u64,
+        ) -> Evaluated;
+
+        pub fn cablesalak_conjunction(
+            vars: *mut u8,
+            vars_length: usize,
+            lows: *mut u16,
+            lows_length: usize,
+            highs: *mut u16,
+            highs_length: usize,
+            count: usize,
+            f: u16,
+            g: u16,
+        ) -> Single;
+
+        pub fn cablesalak_negation(
+            vars: *mut u8,
+            vars_length: usize,
+            lows: *mut u16,
+            lows_length: usize,
+            highs: *mut u16,
+            highs_length: usize,
+            count: usize,
+            f: u16,
+        ) -> Single;
+
+        pub fn cablesalak_cofactor(
+            vars: *mut u8,
+            vars_length: usize,
+            lows: *mut u16,
+            lows_length: usize,
+            highs: *mut u16,
+            highs_length: usize,
+            count: usize,
+            f: u16,
+            g: u16,
+        ) -> Single;
+
+        pub fn cablesalak_cofactor_literals(
+            vars: *mut u8,
+            vars_length: usize,
+            lows: *mut u16,
+            lows_length: usize,
+            highs: *mut u16,
+            highs_length: usize,
+            count: usize,
+            f: u16,
+            positive: u64,
+            negative: u64,
+        ) -> Single;
+
+        pub fn cablesalak_check(
+            vars: *mut u8,
+            vars_length: usize,
+            lows: *mut u16,
+            lows_length: usize,
+            highs: *mut u16,
+            highs_length: usize,
+            count: usize,
+            members: *mut u16,
+            members_length: usize,
+            scratch: *mut u16,
+            scratch_length: usize,
+            formula: *const u8,
+            formula_length: usize,
+            proof: *const u8,
+            proof_length: usize,
+        ) -> Checked;
+    }
+}
+
+/// Calls a function of the archive with each slice as its address and its length, then the plain arguments.
+///
+/// SAFETY: a slice is valid for its length, and one that is `&mut` overlaps no other; the calls ask for nothing more.
+macro_rules! call {
+    ($name:ident, $vars:ident.$of:ident, $lows:ident, $highs:ident $(, $plain:ident)*) => {
+        unsafe {
+            archive::$name(
+                $vars.$of(), $vars.len(), $lows.$of(), $lows.len(), $highs.$of(), $highs.len() $(, $plain)*
+            )
+        }
+    };
+}
+
+/// Whether the node is 1 under the word's assignment; or 7, 26, 13.
+pub fn evaluate(vars: &[u8], lows: &[u16], highs: &[u16], count: usize, node: u16, word: u64) -> Evaluated {
+    call!(cablesalak_evaluate, vars.as_ptr, lows, highs, count, node, word)
+}
+
+/// The conjunction of f and g; or 7, 26, 13, 23.
+pub fn conjunction(vars: &mut [u8], lows: &mut [u16], highs: &mut [u16], count: usize, f: u16, g: u16) -> Single {
+    call!(cablesalak_conjunction, vars.as_mut_ptr, lows, highs, count, f, g)
+}
+
+/// The negation of f; or 7, 26, 13, 23.
+pub fn negation(vars: &mut [u8], lows: &mut [u16], highs: &mut [u16], count: usize, f: u16) -> Single {
+    call!(cablesalak_negation, vars.as_mut_ptr, lows, highs, count, f)
+}
+
+/// f cofactored by the diagram g; or 7, 26, 13, 27, 23.
+pub fn cofactor(vars: &mut [u8], lows: &mut [u16], highs: &mut [u16], count: usize, f: u16, g: u16) -> Single {
+    call!(cablesalak_cofactor, vars.as_mut_ptr, lows, highs, count, f, g)
+}
+
+/// f with the variables of `positive` made true and those of `negative` false; or 7, 26, 13, 15, 23.
+pub fn cofactor_literals(
+    vars: &mut [u8],
+    lows: &mut [u16],
+    highs: &mut [u16],
+    count: usize,
+    f: u16,
+    positive: u64,
+    negative: u64,
+) -> Single {
+    call!(cablesalak_cofactor_literals, vars.as_mut_ptr, lows, highs, count, f, positive, negative)
+}
+
+/// The check of a formula and a proof. Number 0: no assignment satisfies the formula.
+#[allow(clippy::too_many_arguments)]
+pub fn check(
+    vars: &mut [u8],
+    lows: &mut [u16],
+    highs: &mut [u16],
+    count: usize,
+    members: &mut [u16],
+    scratch: &mut [u16],
+    formula: &[u8],
+    proof: &[u8],
+) -> Checked {
+    let (members, members_length) = (members.as_mut_ptr(), members.len());
+    let (scratch, scratch_length) = (scratch.as_mut_ptr(), scratch.len());
+    let (formula, formula_length) = (formula.as_ptr(), formula.len());
+    let (proof, proof_length) = (proof.as_ptr(), proof.len());
+    call!(
+        cablesalak_check,
+        vars.as_mut_ptr,
+        lows,
+        highs,
+        count,
+        members,
+        members_length,
+        scratch,
+        scratch_length,
+        formula,
+        formula_length,
+        proof,
+        proof_length
+    )
+}

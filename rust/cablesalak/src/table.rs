@@ -1,0 +1,121 @@
+//! A table that owns its columns.
+
+use crate::lent::{TableMut, PLACES};
+use crate::view::View;
+use crate::{Node, NodeNo, Number, Variables};
+
+/// A table that owns its columns. Its rows are always in good order, so that its calls never give 26.
+///
+/// The calls make nodes from nodes; the first ones are rows of the caller's ([`Table::push`], [`Table::with_nodes`]) or what a
+/// check leaves.
+#[derive(Clone, Debug, PartialEq, Eq)]
+pub struct Table {
+    vars: Vec<u8>,
+    lows: Vec<u16>,
+    highs: Vec<u16>,
+    count: usize,
+}
+
+impl Table {
+    /// A table of so many places with the constants alone; 7 where the size is not 2 to 65,536.
+    pub fn new(size: usize) -> Result<Table, Number> {
+        if PLACES.contains(&size) {
+            Ok(Table { vars: vec![0; size], lows: vec![0; size], highs: vec![0; size], count: 2 })
+        } else {
+            Err(Number::WrongSize)
+        }
+    }
+
+    /// A table of so many places with these rows from place 2 on: 7 as above, 23 where there are more rows than places, 26
+    /// where they are not in good order.
+    pub fn with_nodes(size: usize, nodes: &[Node]) -> Result<Table, Number> {
+        let mut table = Table::new(size)?;
+        if nodes.len() > size - table.count {
+            return Err(Number::TableFull);
+        }
+        for node in nodes {
+            table.write(table.count, *node);
+            table.count += 1;
+        }
+        table.in_order()?;
+        Ok(table)
+    }
+
+    /// Takes the next place for a row of the caller's: 23 where there is none, 26 where the table would not be in good
+    /// order; a refusal changes nothing. Each call reads the whole table: many rows are better given at once.
+    pub fn push(&mut self, node: Node) -> Result<NodeNo, Number> {
+        let place = self.count;
+        if place == self.size() {
+            return Err(Number::TableFull);
+        }
+        self.write(place, node);
+        self.count += 1;
+        if let Err(refusal) = self.in_order() {
+            self.write(place, Node::new(0, NodeNo::ZERO, NodeNo::ZERO));
+            self.count = place;
+            return Err(refusal);
+        }
+        Ok(NodeNo(place as u16))
+    }
+
+    fn write(&mut self, place: usize, node: Node) {
+        self.vars[place] = node.variable;
+        self.lows[place] = node.low.0;
+        self.highs[place] = node.high.0;
+    }
+
+    /// Asked of the library: it evaluates a constant in no table that is not in good order.
+    fn in_order(&self) -> Result<(), Number> {
+        self.evaluate(NodeNo::ZERO, Variables::NONE).map(|_| ())
+    }
+
+    /// The same table, lent.
+    pub fn lend(&mut self) -> TableMut<'_> {
+        let Table { vars, lows, highs, count } = self;
+        TableMut { vars, lows, highs, count }
+    }
+
+    fn view(&self) -> View<'_> {
+        View { vars: &self.vars, lows: &self.lows, highs: &self.highs, count: self.count }
+    }
+
+    /// The number of places.
+    pub fn size(&self) -> usize {
+        self.vars.len()
+    }
+
+    /// The number of places that are taken, the two constants' among them.
+    pub fn count(&self) -> usize {
+        self.count
+    }
+
+    /// The row of a node that is no constant and lies below the count.
+    pub fn node(&self, number: NodeNo) -> Option<Node> {
+        self.view().node(number)
+    }
+
+    /// Whether the node is 1 under the assignment; or 13.
+    pub fn evaluate(&self, node: NodeNo, assignment: Variables) -> Result<bool, Number> {
+        self.view().evaluate(node, assignment)
+    }
+
+    /// The conjunction of f and g; or 13, 23.
+    pub fn conjunction(&mut self, f: NodeNo, g: NodeNo) -> Result<NodeNo, Number> {
+        self.lend().conjunction(f, g)
+    }
+
+    /// The negation of f; or 13, 23.
+    pub fn negation(&mut self, f: NodeNo) -> Result<NodeNo, Number> {
+        self.lend().negation(f)
+    }
+
+    /// f cofactored by the diagram g: at each assignment f's value at the nearest one that satisfies g; or 13, 27, 23.
+    pub fn cofactor(&mut self, f: NodeNo, g: NodeNo) -> Result<NodeNo, Number> {
+        self.lend().cofactor(f, g)
+    }
+
+    /// f with the variables of `positive` made true and those of `negative` false; or 13, 15, 23.
+    pub fn cofactor_literals(&mut self, f: NodeNo, positive: Variables, negative: Variables) -> Result<NodeNo, Number> {
+        self.lend().cofactor_literals(f, positive, negative)
+    }
+}

@@ -1,0 +1,125 @@
+/* Every call from C, as the header declares it: answers, what the lists hold, and the numbers' meanings on standard output. */
+#include "cablesalak.h"
+#include <stdio.h>
+#include <stdlib.h>
+#include <string.h>
+
+#define PLACES 7
+#define COLUMNS(t) (t)->vars, PLACES, (t)->lows, PLACES, (t)->highs, PLACES
+
+/* Also where NDEBUG is set. */
+#define EXPECT(holds) ((holds) ? (void)0 : fail(__LINE__, #holds))
+
+static void fail(int line, const char *what)
+{
+    fprintf(stderr, "calls.c:%d: %s\n", line, what);
+    exit(1);
+}
+
+typedef struct {
+    uint8_t vars[PLACES];
+    uint16_t lows[PLACES], highs[PLACES];
+} table;
+
+/* x2, not-x2, x1 xor x2 and x1 as nodes 2 to 5, and one free place. */
+static table case_g(void)
+{
+    table t = {{0, 0, 2, 2, 1, 1, 0}, {0, 0, 0, 1, 2, 0, 0}, {0, 0, 1, 0, 3, 1, 0}};
+    return t;
+}
+
+static bool same(const table *t, const table *u)
+{
+    return memcmp(t->vars, u->vars, sizeof t->vars) == 0 && memcmp(t->lows, u->lows, sizeof t->lows) == 0 &&
+           memcmp(t->highs, u->highs, sizeof t->highs) == 0;
+}
+
+static void is(cablesalak_single said, unsigned number, unsigned node, size_t count)
+{
+    EXPECT(said.number == number);
+    EXPECT(said.node == node);
+    EXPECT(said.count == count);
+}
+
+static void evaluations(void)
+{
+    table t = case_g();
+    cablesalak_evaluated said = cablesalak_evaluate(COLUMNS(&t), 6, 4, 1);
+    EXPECT(said.number == 0 && said.yes && said.count == 6);
+    said = cablesalak_evaluate(COLUMNS(&t), 6, 4, 0xFFFFFFFFFFFFFFFFu);
+    EXPECT(said.number == 0 && !said.yes && said.count == 6);
+    said = cablesalak_evaluate(COLUMNS(&t), 6, 6, 1);
+    EXPECT(said.number == CABLESALAK_NO_SUCH_NODE && !said.yes && said.count == 6);
+    said = cablesalak_evaluate(COLUMNS(&t), 5, 1, 1);
+    EXPECT(said.number == CABLESALAK_NOT_IN_ORDER && !said.yes && said.count == 5);
+    said = cablesalak_evaluate(t.vars, PLACES, t.lows, PLACES - 1, t.highs, PLACES, SIZE_MAX, 1, 1);
+    EXPECT(said.number == CABLESALAK_WRONG_SIZE && !said.yes && said.count == SIZE_MAX);
+}
+
+static void granted(void)
+{
+    table t = case_g();
+    is(cablesalak_conjunction(COLUMNS(&t), 6, 2, 3), 0, 0, 6);
+    is(cablesalak_negation(COLUMNS(&t), 6, 2), 0, 3, 6);
+    is(cablesalak_cofactor(COLUMNS(&t), 6, 5, 4), 0, 5, 6);
+    is(cablesalak_cofactor_literals(COLUMNS(&t), 6, 4, 1, 0), 0, 3, 6);
+    is(cablesalak_cofactor_literals(COLUMNS(&t), 6, 4, 0, 1), 0, 2, 6);
+    is(cablesalak_cofactor(COLUMNS(&t), 6, 2, 4), 0, 6, 7);
+    EXPECT(t.vars[6] == 1 && t.lows[6] == 1 && t.highs[6] == 0);
+}
+
+static void refused(void)
+{
+    table t = case_g(), before = t;
+    is(cablesalak_conjunction(COLUMNS(&t), 6, 6, 2), CABLESALAK_NO_SUCH_NODE, 0, 6);
+    is(cablesalak_negation(COLUMNS(&t), 7, 2), CABLESALAK_NOT_IN_ORDER, 0, 7);
+    is(cablesalak_cofactor(COLUMNS(&t), 6, 2, 0), CABLESALAK_COFACTOR_BY_ZERO, 0, 6);
+    is(cablesalak_cofactor_literals(COLUMNS(&t), 6, 2, 3, 2), CABLESALAK_VARIABLE_TWICE, 0, 6);
+    is(cablesalak_negation(t.vars, 6, t.lows, 6, t.highs, 6, 6, 4), CABLESALAK_TABLE_FULL, 0, 6);
+    is(cablesalak_negation(t.vars, 1, t.lows, 1, t.highs, 1, 9, 4), CABLESALAK_WRONG_SIZE, 0, 9);
+    EXPECT(same(&t, &before));
+}
+
+#define FORMULA "p cnf 2 4\n1 2 0\n-1 2 0\n1 -2 0\n-1 -2 0\n"
+static const uint8_t proof[] = {0x4E, 2, 0, 0, 1, 0, 0x52, 2, 0, 0x52, 0, 0, 0x45};
+static uint8_t vars[64];
+static uint16_t lows[64], highs[64], members[2048], scratch[4096];
+
+static cablesalak_checked check(size_t scratch_length, const uint8_t *lines, size_t length)
+{
+    memset(vars, 0xA5, sizeof vars);
+    memset(lows, 0xA5, sizeof lows);
+    memset(highs, 0xA5, sizeof highs);
+    memset(members, 0xA5, sizeof members);
+    memset(scratch, 0xA5, sizeof scratch);
+    return cablesalak_check(vars, 64, lows, 64, highs, 64, 9, members, 2048, scratch, scratch_length,
+                            (const uint8_t *)FORMULA, strlen(FORMULA), lines, length);
+}
+
+static bool says(cablesalak_checked said, unsigned number, size_t place, size_t lines, uint64_t rounds, size_t count)
+{
+    return said.number == number && said.place == place && said.lines == lines && said.rounds == rounds &&
+           said.count == count;
+}
+
+static void checks(void)
+{
+    EXPECT(says(check(4096, proof, sizeof proof), CABLESALAK_REFUTED, 12, 2, 1, 8));
+    EXPECT(vars[7] == 1 && lows[7] == 1 && highs[7] == 5 && vars[8] == 0 && lows[63] == 0);
+    EXPECT(members[0] == 3 && members[3] == 7 && members[4] == 2 && members[5] == 0 && members[2047] == 0);
+    EXPECT(scratch[0] == 0 && scratch[4095] == 0);
+    EXPECT(says(check(4096, proof + 9, 4), CABLESALAK_NOT_SHOWN, 0, 0, 0, 8));
+    EXPECT(says(check(4095, proof, sizeof proof), CABLESALAK_WRONG_SIZE, 0, 0, 0, 9));
+    EXPECT(vars[0] == 0xA5 && members[2047] == 0xA5A5 && scratch[0] == 0xA5A5);
+}
+
+int main(void)
+{
+    evaluations();
+    granted();
+    refused();
+    checks();
+    for (unsigned number = 0; cablesalak_meaning(number) != 0; number++)
+        printf("%u %s\n", number, cablesalak_meaning(number));
+    return 0;
+}

@@ -1,0 +1,118 @@
+//! Every number that a check gives: document 01's examples through the wrapper, over dirty lists.
+
+use crate::lent::Lists;
+use cablesalak::{check, NodeNo, Number, Text, Variables, Workspace, MEMBERS};
+
+const A: &[u8] = b"p cnf 2 4\n1 2 0\n-1 2 0\n1 -2 0\n-1 -2 0\n";
+const A_PROOF: &[u8] = b"\x4E\x02\0\0\x01\0\x52\x02\0\x52\0\0\x45";
+/// The formula of a row that names none.
+const D: &[u8] = b"p cnf 2 1\n1 2 0\n";
+const D_PROOF: &[u8] = b"\x4E\x01\0\0\x01\0\x46\x01\x50\x02\0\x45";
+const E_PROOF: &[u8] = b"\x4E\x01\0\0\x01\0\x54\x01\x50\x02\0\x45";
+const F_PROOF: &[u8] = b"\x4E\x01\0\0\x01\0\x52\x02\0\x45";
+/// The line "at least two of 1, 2, 3".
+const I_PROOF: &[u8] = b"\x4E\x03\0\0\x01\0\x4E\x02\0\0\x02\0\x4E\x02\x02\0\x01\0\x4E\x01\x03\0\x04\0\x52\x05\0\x45";
+
+/// Places of the table, formula, proof; number, place, lines, rounds, count; the clauses that are left as members.
+type Row<'a> = (usize, &'a [u8], &'a [u8], (u8, usize, usize, u64, usize), usize);
+
+/// Runs the row over dirty lists and over a workspace that other rows have used.
+fn run(row: &Row, workspace: &mut Workspace) {
+    let (size, formula, proof, said, clauses) = *row;
+    let mut lists = Lists::of_size(size);
+    let verdict = lists.check(formula, proof);
+    let number = verdict.number;
+    assert_eq!((number.code(), verdict.place, verdict.lines, verdict.rounds, verdict.count), said, "{number}");
+    assert_eq!(verdict.refuted(), number.code() == 0);
+    assert_eq!(lists.count, verdict.count);
+    assert!(lists.zero_above(clauses + verdict.lines), "{number}");
+    if number.text() == Some(Text::Formula) {
+        assert!(lists.count == 2 && lists.zero_above(0), "{number}");
+    }
+    // What is left is a table in good order, and every member is a node of it.
+    assert_eq!(lists.table().evaluate(NodeNo::ONE, Variables::NONE), Ok(true));
+    assert!(lists.members.iter().all(|member| usize::from(*member) < lists.count), "{number}");
+    if size == workspace.table().size() {
+        assert_eq!(check(workspace, formula, proof), verdict);
+        assert_eq!(workspace.table().count(), verdict.count);
+        assert!((0..MEMBERS).all(|at| workspace.member(at).unwrap().0 == lists.members[at]), "{number}");
+    }
+}
+
+fn run_all(rows: &[Row]) {
+    let mut workspace = Workspace::new(4_096).unwrap();
+    for row in rows {
+        run(row, &mut workspace);
+    }
+}
+
+#[test]
+fn lettered_cases() {
+    run_all(&[
+        (4_096, A, A_PROOF, (0, 12, 2, 1, 8), 4),
+        (4_096, A, b"\x52\0\0\x45", (19, 0, 0, 0, 8), 4),
+        (4_096, b"p cnf 2 2\n1 2 0\n-1 2 0\n", A_PROOF, (19, 9, 1, 0, 5), 2),
+        (4_096, D, D_PROOF, (18, 8, 0, 0, 4), 1),
+        (4_096, D, E_PROOF, (20, 11, 1, 0, 5), 1),
+        (4_096, D, F_PROOF, (19, 6, 0, 0, 4), 1),
+        (4_096, b"p cnf 3 3\n2 3 0\n1 3 0\n1 2 0\n", I_PROOF, (20, 27, 1, 2, 9), 3),
+        (4_096, b"p cnf 0 0\n", b"\x52\0\0\x45", (19, 0, 0, 0, 2), 0),
+    ]);
+}
+
+#[test]
+fn formulas() {
+    run_all(&[
+        (4_096, b"p cnf 2", b"", (1, 0, 0, 0, 2), 0),
+        (4_096, b"p cnf 65 1", b"", (2, 0, 0, 0, 2), 0),
+        (4_096, b"p cnf 1 1\n-0 0\n", b"", (3, 10, 0, 0, 2), 0),
+        (4_096, b"p cnf 2 1\n3 0\n", b"", (4, 10, 0, 0, 2), 0),
+        (4_096, b"p cnf 1 2\n1 0\n", b"", (5, 14, 0, 0, 2), 0),
+        (4_096, b"p cnf 1 1\n1\n", b"", (6, 10, 0, 0, 2), 0),
+        (2, b"p cnf 1 1\n1 0\n", b"", (8, 10, 0, 0, 2), 0),
+    ]);
+}
+
+#[test]
+fn records() {
+    run_all(&[
+        (4_096, D, b"\0", (9, 0, 0, 0, 4), 1),
+        (4_096, D, b"", (10, 0, 0, 0, 4), 1),
+        (4_096, D, b"\x45\x45", (11, 1, 0, 0, 4), 1),
+        (4_096, D, b"\x54\0", (12, 0, 0, 0, 4), 1),
+        (4_096, D, b"\x52\x02\0", (13, 0, 0, 0, 4), 1),
+        (4_096, D, b"\x4E\x02\0\0\x01\0\x4E\x02\x02\0\x01\0", (14, 6, 0, 0, 4), 1),
+        (4_096, D, b"\x54\x01\x46\x01", (15, 2, 0, 0, 4), 1),
+        (4_096, D, b"\x54\x01\x45", (16, 2, 0, 0, 4), 1),
+        (4_096, D, b"\x52\x01\0", (17, 0, 0, 0, 4), 1),
+        (4_096, D, b"\x45", (20, 0, 0, 0, 4), 1),
+        (3, b"p cnf 2 1\n1 0\n", b"\x4E\x02\0\0\x01\0", (23, 0, 0, 0, 3), 1),
+    ]);
+}
+
+#[test]
+fn too_many() {
+    let entries = b"\x4E\x02\0\0\x01\0".repeat(4_097);
+    let lines = b"\x52\0\0".repeat(1_025);
+    run_all(&[
+        (4_096, D, &entries, (21, 24_576, 0, 0, 4), 1),
+        (4_096, b"p cnf 0 1\n0\n", &lines, (22, 3_072, 1_024, 0, 2), 1),
+    ]);
+}
+
+/// What case A leaves, place by place: the four clauses over x2 and not-x2, the line "2" and the line 0.
+#[test]
+fn what_case_a_leaves() {
+    let mut lists = Lists::of_size(64);
+    assert!(lists.check(A, A_PROOF).refuted());
+    assert_eq!(lists.rows(), [(2, 0, 1), (1, 2, 1), (1, 1, 2), (2, 1, 0), (1, 5, 1), (1, 1, 5)]);
+    assert_eq!(lists.members[..7], [3, 4, 6, 7, 2, 0, 0]);
+}
+
+/// Nodes of entries after the last accepted line are dropped; the clauses stay.
+#[test]
+fn what_a_refused_proof_leaves() {
+    let mut lists = Lists::of_size(64);
+    assert_eq!(lists.check(D, F_PROOF).number, Number::NotShown);
+    assert_eq!((lists.rows(), &lists.members[..2]), (vec![(2, 0, 1), (1, 2, 1)], &[3, 0][..]));
+}

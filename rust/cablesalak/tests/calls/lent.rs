@@ -1,0 +1,60 @@
+//! Lists to lend that hold anything, and what they hold after a call.
+
+use cablesalak::{check_lent, TableMut, Verdict, MEMBERS, SCRATCH};
+
+/// The lists of a check, the count beside them.
+#[derive(Clone, Debug, PartialEq, Eq)]
+pub struct Lists {
+    pub vars: Vec<u8>,
+    pub lows: Vec<u16>,
+    pub highs: Vec<u16>,
+    pub count: usize,
+    pub members: Vec<u16>,
+    pub scratch: Vec<u16>,
+}
+
+impl Lists {
+    /// Lists of these lengths without a zero place.
+    pub fn dirty(size: usize, members: usize, scratch: usize) -> Lists {
+        let word = |place: usize| (place as u16).wrapping_mul(40_503) | 1;
+        let words = |length| (0..length).map(word).collect::<Vec<u16>>();
+        let vars = (0..size).map(|place| word(place) as u8).collect();
+        Lists {
+            vars,
+            lows: words(size),
+            highs: words(size),
+            count: 9,
+            members: words(members),
+            scratch: words(scratch),
+        }
+    }
+
+    /// Dirty lists of proper size.
+    pub fn of_size(size: usize) -> Lists {
+        Lists::dirty(size, MEMBERS, SCRATCH)
+    }
+
+    pub fn table(&mut self) -> TableMut<'_> {
+        TableMut::new(&mut self.vars, &mut self.lows, &mut self.highs, &mut self.count).expect("columns of proper size")
+    }
+
+    pub fn check(&mut self, formula: &[u8], proof: &[u8]) -> Verdict {
+        let Lists { vars, lows, highs, count, members, scratch } = self;
+        let mut table = TableMut::new(vars, lows, highs, count).expect("columns of proper size");
+        check_lent(&mut table, members, scratch, formula, proof)
+    }
+
+    /// The rows of the table from place 2 to its count, as variable, low, high.
+    pub fn rows(&self) -> Vec<(u8, u16, u16)> {
+        (2..self.count).map(|place| (self.vars[place], self.lows[place], self.highs[place])).collect()
+    }
+
+    /// Whether places 0 and 1, the places from the count on, the members past the first `members`, and the scratch list
+    /// are zero.
+    pub fn zero_above(&self, members: usize) -> bool {
+        let outside = |place: &usize| *place < 2 || self.count <= *place;
+        let blank = |place: usize| (self.vars[place], self.lows[place], self.highs[place]) == (0, 0, 0);
+        let lists = self.members.iter().skip(members).chain(&self.scratch);
+        (0..self.vars.len()).filter(outside).all(blank) && lists.into_iter().all(|place| *place == 0)
+    }
+}

@@ -1,0 +1,8 @@
+//! The library through the wrapper, over lists that hold anything before a call.
+
+mod checks;
+mod lent;
+mod numbers;
+mod singles;
+mod sizes;
+mod stack;

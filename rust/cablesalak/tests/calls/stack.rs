@@ -1,0 +1,51 @@
+//! A call fits a thread of 1 MiB, and threads may call at the same time.
+
+use cablesalak::{check, Node, NodeNo, Table, Variables, Workspace};
+use std::thread;
+
+const FORMULA: &[u8] = b"p cnf 2 4\n1 2 0\n-1 2 0\n1 -2 0\n-1 -2 0\n";
+const PROOF: &[u8] = b"\x4E\x02\0\0\x01\0\x52\x02\0\x52\0\0\x45";
+
+/// Parity over 64 variables, the deepest diagram: its negation and a cofactor of it by itself; then a check.
+fn calls() {
+    let mut table = parity();
+    let odd = NodeNo(table.count() as u16 - 1);
+    let even = table.negation(odd).unwrap();
+    assert_eq!(table.conjunction(odd, even), Ok(NodeNo::ZERO));
+    assert_eq!(table.cofactor(odd, odd), Ok(NodeNo::ONE));
+    assert_eq!(table.evaluate(even, Variables::of(&[1, 64]).unwrap()), Ok(true));
+    assert_eq!(table.cofactor_literals(odd, Variables::NONE, Variables(u64::MAX)), Ok(NodeNo::ZERO));
+    let mut workspace = Workspace::new(65_536).unwrap();
+    assert_eq!(check(&mut workspace, FORMULA, PROOF).to_string(), "0 12 2 1");
+}
+
+/// Whether an odd number of variables is true, as the last node.
+fn parity() -> Table {
+    let mut nodes = Vec::new();
+    let (mut even, mut odd) = (NodeNo::ONE, NodeNo::ZERO);
+    for variable in (1..=64).rev() {
+        nodes.extend([Node::new(variable, even, odd), Node::new(variable, odd, even)]);
+        odd = NodeNo(nodes.len() as u16 + 1);
+        even = NodeNo(odd.0 - 1);
+    }
+    Table::with_nodes(65_536, &nodes).unwrap()
+}
+
+#[test]
+fn threads_of_a_mebibyte() {
+    let threads = [(); 4].map(|()| thread::Builder::new().stack_size(1 << 20).spawn(calls).unwrap());
+    assert!(threads.map(|thread| thread.join()).iter().all(Result::is_ok));
+}
+
+/// Evaluation only reads: one table may be shared.
+#[test]
+fn a_shared_table() {
+    let table = parity();
+    let odd = NodeNo(table.count() as u16 - 1);
+    thread::scope(|scope| {
+        for variable in 1..=4 {
+            let table = &table;
+            scope.spawn(move || assert_eq!(table.evaluate(odd, Variables::of(&[variable]).unwrap()), Ok(true)));
+        }
+    });
+}
