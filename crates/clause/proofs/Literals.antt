@@ -11,35 +11,12 @@ use lib.Seq.{getD-take}
 use Rattle.meaning.specs.Diagram.{Assignment}
 use Rattle.meaning.specs.Operations.{Literal, literalValue, clauseValue, clause}
 use Rattle.meaning.specs.Words.{inWord}
-use Rattle.meaning.proofs.Booleans.{and-commutes}
 use Rattle.meaning.proofs.Values.{diagram-width}
 use Rattle.meaning.proofs.Clauses.{occurs, Within, clause-is}
 use Rattle.dimacs.specs.Clauses.{setOf}
-use Rattle.dimacs.proofs.Bounds as bounds
-use Rattle.dimacs.proofs.Words as dimacs
+use Rattle.dimacs.proofs.Words.{in-set}
 use Rattle.clause.specs.Words.{clauseOfWords}
 use Rattle.clause.proofs.Diagrams.{words-are}
-
--- ---- the words of the literals
-
--- the reader's laws say the same of the literals in their own words
-occurs-is : (ls : List Literal) (v : ℕ) (b : Bool) → dimacs.occurs b v ls ≡ occurs ls v b
-unfolding occurs
-occurs-is [] v b = refl
-occurs-is (l ∷ ls) v b = ap₂ _||_ (and-commutes (Bool·beq (l .positive) b) (eqb (l .variable) v)) (occurs-is ls v b)
-
-pub reader-within : (n : ℕ) (ls : List Literal) → Within n ls → bounds.Within n ls
-reader-within n [] i = tt
-reader-within n (l ∷ ls) i = (i .0, i .1, reader-within n ls (i .2))
-
-pub within-reader : (n : ℕ) (ls : List Literal) → bounds.Within n ls → Within n ls
-within-reader n [] i = tt
-within-reader n (l ∷ ls) i = (i .0, i .1, within-reader n ls (i .2))
-
--- a clause's word has the variables that occur with its sign
-pub set-has : (b : Bool) (n : ℕ) (ls : List Literal) → Within n ls → (v : ℕ) → 1 ≤ v → inWord (setOf b ls) v ≡ occurs ls v b
-unfolding inWord
-set-has b n ls i v p = dimacs.in-set n b ls v (reader-within n ls i) p ∙ occurs-is ls v b
 
 -- ---- the variable count
 
@@ -69,4 +46,4 @@ words-clause n le ls i p q pos neg =
 -- of the two words that the reader gives
 pub clause-of-words : (n : ℕ) → n ≤ 64 → (ls : List Literal) → Within n ls → clauseOfWords (setOf true ls) (setOf false ls) ≡ clause n ls
 clause-of-words n le ls i =
-    words-clause n le ls i (setOf true ls) (setOf false ls) (λ v x y. set-has true n ls i v x) (λ v x y. set-has false n ls i v x)
+    words-clause n le ls i (setOf true ls) (setOf false ls) (λ v x y. in-set n true ls v i x) (λ v x y. in-set n false ls v i x)

@@ -10,6 +10,7 @@ use lib.Seq.{slice}
 use lib.Dec.{ltb, leb}
 use borrow.Author.Tests.{ltb-true, ltb-false, leb-true}
 use Rattle.meaning.specs.Operations as meaning
+use Rattle.meaning.proofs.Clauses.{Within}
 use Rattle.dimacs.specs.declared.Header.{Header}
 use Rattle.dimacs.specs.declared.Header.the-variants.{Proper, Improper}
 use Rattle.dimacs.specs.declared.Token.{Token}
@@ -66,11 +67,6 @@ header-in s =
     (omega arith)
 
 -- ---- the clauses
-
--- Variables from 1 to n.
-abbrev pub Within : ℕ → List meaning.Literal → Type 0
-Within n [] = Unit {0}
-Within n (l ∷ ls) = (1 ≤ l .variable) × (l .variable ≤ n) × Within n ls
 
 -- A clause of s within n variables, a refusal within s.
 abbrev pub NextIn : List ℕ → ℕ → Next → Type 0

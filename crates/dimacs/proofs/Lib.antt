@@ -8,5 +8,4 @@ pub mod Headers
 pub mod Clauses
 pub mod Bounds
 pub mod Words
-pub mod Values
 pub mod Formula

@@ -11,18 +11,11 @@ use lib.Dec.{eqb, ltb}
 use lib.Bits.{bitOr, or-shr, or-step}
 use borrow.Author.Tests.{eqb-true, eqb-false, ltb-true, ltb-false}
 use Rattle.meaning.specs.Operations as meaning
+use Rattle.meaning.specs.Words.{inWord}
+use Rattle.meaning.proofs.Booleans.{and-commutes}
+use Rattle.meaning.proofs.Clauses.{occurs, Within}
 use Rattle.dimacs.specs.Clauses.{withVariable, setFrom, setOf}
 use Rattle.dimacs.proofs.Cases.{by}
-use Rattle.dimacs.proofs.Bounds.{Within}
-
--- Whether the variable v is in the word.
-abbrev pub inWord : ℕ → ℕ → Bool
-inWord w v = eqb (w / 2 ^ (v - 1) % 2) 1
-
--- Whether the literal of v with sign b is among the literals.
-abbrev pub occurs : Bool → ℕ → List meaning.Literal → Bool
-occurs b v [] = false
-occurs b v (l ∷ ls) = (Bool·beq (l .positive) b && eqb (l .variable) v) || occurs b v ls
 
 -- ---- bits
 
@@ -49,6 +42,7 @@ power-other j k h =
 -- ---- sets
 
 with-in : (t : Bool) (w x v : ℕ) → 1 ≤ x → 1 ≤ v → inWord (withVariable t w x) v ≡ (inWord w v || (t && eqb x v))
+unfolding inWord
 with-in false w x v h k = sym (or-false (inWord w v))
 with-in true w x v h k =
     rw (or-bit w (2 ^ (x - 1)) (v - 1))
@@ -64,14 +58,17 @@ with-in true w x v h k =
     least : (m : ℕ) → max m 0 ≡ m
     least m = omega arith
 
-set-from : (n : ℕ) (b : Bool) (ls : List meaning.Literal) (w v : ℕ) → Within n ls → 1 ≤ v → inWord (setFrom b w ls) v ≡ (inWord w v || occurs b v ls)
-unfolding setFrom
+set-from : (n : ℕ) (b : Bool) (ls : List meaning.Literal) (w v : ℕ) → Within n ls → 1 ≤ v → inWord (setFrom b w ls) v ≡ (inWord w v || occurs ls v b)
+unfolding setFrom occurs
 set-from n b [] w v h k = sym (or-false (inWord w v))
 set-from n b (l ∷ ls) w v h k =
     set-from n b ls (withVariable (Bool·beq (l .positive) b) w (l .variable)) v (h .2) k
-    ∙ ap (λ (t : Bool). t || occurs b v ls) (with-in (Bool·beq (l .positive) b) w (l .variable) v (h .0) k)
-    ∙ or-assoc (inWord w v) (Bool·beq (l .positive) b && eqb (l .variable) v) (occurs b v ls)
+    ∙ ap (λ (t : Bool). t || occurs ls v b)
+    (with-in (Bool·beq (l .positive) b) w (l .variable) v (h .0) k
+    ∙ ap (λ (t : Bool). inWord w v || t) (and-commutes (Bool·beq (l .positive) b) (eqb (l .variable) v)))
+    ∙ or-assoc (inWord w v) (eqb (l .variable) v && Bool·beq (l .positive) b) (occurs ls v b)
 
 -- A variable is in the word of sign b exactly where its literal of that sign is in the clause.
-pub in-set : (n : ℕ) (b : Bool) (ls : List meaning.Literal) (v : ℕ) → Within n ls → 1 ≤ v → inWord (setOf b ls) v ≡ occurs b v ls
+pub in-set : (n : ℕ) (b : Bool) (ls : List meaning.Literal) (v : ℕ) → Within n ls → 1 ≤ v → inWord (setOf b ls) v ≡ occurs ls v b
+unfolding inWord
 in-set n b ls v h k = set-from n b ls 0 v h k ∙ rw (zero-div (2 ^ (v - 1)))

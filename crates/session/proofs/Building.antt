@@ -23,7 +23,7 @@ use Rattle.dimacs.specs.Clauses.{Reading, clause, nextClause, clauseOf, clauses
 use Rattle.dimacs.proofs.Formula.{IsClosed, closed-is, ended-is, refused-is, closed-wanted, clauses-closed, clauses-ended, clauses-refused}
 use Rattle.dimacs.proofs.Bounds.{NextIn, next-in}
 use Rattle.clause.specs.Words.{clauseOfWords}
-use Rattle.clause.proofs.Literals.{within-reader, clause-of-words}
+use Rattle.clause.proofs.Literals.{clause-of-words}
 use Rattle.verdict.specs.Check.{emptied, begun, Verdict, records, refusedFormula, clauses}
 use Rattle.verdict.proofs.Uses.{UsesAfter, place-uses}
 use Rattle.session.specs.Formula.{Opened, Built}
@@ -127,7 +127,7 @@ module _ (n wanted from : ℕ) (formula : List ℕ) (s : ℕ) where
         is-clause : clauseOfWords (c .positive) (c .negative) ≡ meaning.clause n ls
         is-clause =
             ap₂ clauseOfWords (closes .positive) (closes .negative)
-            ∙ clause-of-words n (B .narrow) ls (within-reader n ls (subst (NextIn formula n) (closes .is) inside-text .2))
+            ∙ clause-of-words n (B .narrow) ls (subst (NextIn formula n) (closes .is) inside-text .2)
 
         placed-is : o ≡ placeIn T (meaning.clause n ls)
         placed-is = q ∙ ap (placeIn T) is-clause
