@@ -7,7 +7,7 @@ ghost use Prim.Native.Nat.{_≤_, _<_};
 ghost use lib.ListN.{length};
 ghost use Rattle.meaning.specs.Rules.{unitProp};
 ghost use Rattle.table.specs.Indexed.{tableOf, nodesOf};
-ghost use Rattle.walks.specs.Readable.{Readable, nodesIn};
+ghost use Rattle.walks.specs.Readable.{Readable, Roomy, nodesIn};
 ghost use Rattle.operate.specs.Inner.{Allowed};
 ghost use Rattle.conflict.specs.Members.{diagramsOf, Inside, ListReady};
 ghost use Rattle.conflict.specs.Marks.{unmarked};
@@ -75,14 +75,15 @@ pub fn first_units(
     count: usize,
     list: &[u16],
 ) -> FirstUnits
-    requires { ⌜ Readable (now vars) (now lows) (now highs) count × Inside count (now list) × (3 ≤ length (now memo)) ⌝ }
+    requires { ⌜ Readable (now vars) (now lows) (now highs) count × Inside count (now list) × Roomy (now vars) (now memo) ⌝ }
     ensures { λ r. ⌜ AreFirst (diagramsOf (nodesIn (now (vars .entry)) (now (lows .entry)) (now (highs .entry)) count) (now (list .entry))) r ⌝ }
 {
-    walks::clear_memo(memo);
+    walks::clear_memo(memo, count);
     let mut place: usize = 0;
     while place < list.len() {
         let member = NodeNo(list[place]);
-        let u = units::units_from(vars, lows, highs, memo, count, member);
+        let stamp = (place + 1) as u64;
+        let u = units::units_from(vars, lows, highs, memo, count, member, stamp);
         if u.positive != 0 || u.negative != 0 {
             return FirstUnits::Of(u);
         }
