@@ -51,7 +51,7 @@ fn by_negation(
     ensures { λ r. ⌜ ByNegation (tableOf (now (vars .entry)) (now (lows .entry)) (now (highs .entry)) (now (heads .entry)) (now (links .entry)) count) (diagramsOf (nodesOf (tableOf (now (vars .entry)) (now (lows .entry)) (now (highs .entry)) (now (heads .entry)) (now (links .entry)) count)) (now (members .entry))) (diagramAt (nodesOf (tableOf (now (vars .entry)) (now (lows .entry)) (now (highs .entry)) (now (heads .entry)) (now (links .entry)) count)) (g .0)) (r .full) (tableOf (now (vars .exit)) (now (lows .exit)) (now (highs .exit)) (now (heads .exit)) (now (links .exit)) (r .count)) (now (list .exit)) ⌝ }
 {
     copy(members, list);
-    operate::clear_memo(memo);
+    operate::memo::clear_memo(memo);
     let not = operate::apply(
         vars,
         lows,
@@ -169,7 +169,7 @@ fn turn(
             count,
         };
     }
-    operate::clear_memo(memo);
+    operate::memo::clear_memo(memo);
     let h = operate::apply(
         vars,
         lows,

@@ -6,10 +6,9 @@ use lib.ListN.{length}
 use borrow.Author.Needs.{needs}
 use Rattle.table.specs.Indexed.{Table, tableOf, Outcome, outcomeOf}
 use Rattle.operate.specs.declared.Operation.the-variants.{Negation, Cofactor}
-use Rattle.operate.specs.Inner.{applied, Allowed, MemoRight}
+use Rattle.operate.specs.Inner.{applied, Allowed}
 use Rattle.conflict.specs.Members.{ListReady}
 use Rattle.propagate.specs.Made.{results, AllMade}
-use Rattle.operate.proofs.Memo.{memo-empty}
 use Rattle.judge.proofs.Negations.{negation-ready, negation-full, cofactors-ready, cofactors-made}
 use Rattle.judge.proofs.by_negation.Statement.{statement}
 use Rattle.judge.proofs.by_negation.Tie as tie
@@ -45,8 +44,7 @@ apply-requires : tie.Need-apply-requires
 apply-requires c κs =
     let s = c .before .before .before .before .before .before .before .before .before .before .before .before .before .before .before .before .before .before .before .before .before .before in
     let m = c .before .before .before .before .before .before .before .before .clear-memo in
-    negation-ready (before s) (s .args .members .now) (s .args .memo .now) (s .args .g .0) (s .pre .0) (m .last .0) (m .kept .0)
-    (subst (λ u. MemoRight Negation u (before s)) (sym (m .ensures)) (memo-empty Negation (length (s .args .memo .now)) (before s)))
+    negation-ready (before s) (s .args .members .now) (s .args .memo .now) (s .args .g .0) (s .pre .0) (m .last .0) (m .ensures Negation (before s))
 
 same-length : tie.Need-same-length
 same-length c = c .before .before .before .before .before .before .before .before .before .before .before .before .before .apply .kept .0

@@ -1,12 +1,10 @@
 -- The members are replaced one by one: `Replacing` holds at each. Assumes nothing.
 use lib.ListN.{length}
 use Rattle.table.specs.Indexed.{tableOf, outcomeOf}
-use Rattle.operate.specs.Inner.{MemoRight}
-use mathlib.Core.Path.{_≡_, refl, sym, _∙_, subst}
+use mathlib.Core.Path.{_≡_, refl, _∙_}
 use Prim.Native.Nat.{_-_}
 use native.Mathlib.Omega.{arith}
 use borrow.Author.Needs.{needs}
-use Rattle.operate.proofs.Memo.{memo-empty}
 use Rattle.propagate.proofs.Replacing.{Replacing, replacing-none, member-ready, stopped, replaced, all-replaced}
 use Rattle.propagate.proofs.all_by.Statement.{statement}
 use Rattle.propagate.proofs.all_by.Tie as tie
@@ -29,9 +27,8 @@ loop-holds : tie.Need-loop-holds Inv-loop μ-loop
 loop-holds c =
     let a = c .before .before .before .before .before .before .before .before .before .before .before .args in
     let r = c .before .before .before .before .before .before .before .before .before .before .before .pre in
-    let e = c .before .before .clear-memo .ensures in
-    let len = c .before .before .clear-memo .kept .0 in (
-      replacing-none (a .op) (a .g .0) (tableOf (a .vars .now) (a .lows .now) (a .highs .now) (a .heads .now) (a .links .now) (a .count)) (a .list .now) (a .memo .now) (r .0) (r .1) (c .before .before .clear-memo .last .0) (omega (arith, len, r .0 .room)) (subst (λ m. MemoRight (a .op) m (tableOf (a .vars .now) (a .lows .now) (a .highs .now) (a .heads .now) (a .links .now) (a .count))) (sym e) (memo-empty (a .op) (length (a .memo .now)) (tableOf (a .vars .now) (a .lows .now) (a .highs .now) (a .heads .now) (a .links .now) (a .count)))),
+    let m = c .before .before .clear-memo in (
+      replacing-none (a .op) (a .g .0) (tableOf (a .vars .now) (a .lows .now) (a .highs .now) (a .heads .now) (a .links .now) (a .count)) (a .list .now) (a .memo .now) (r .0) (r .1) (m .last .0) (m .ensures (a .op) (tableOf (a .vars .now) (a .lows .now) (a .highs .now) (a .heads .now) (a .links .now) (a .count))),
       refl,
       refl,
       refl,
@@ -116,7 +113,7 @@ loop-again c =
     let r = c .before .before .before .before .before .before .before .before .before .before .before .before .before .before .before .before .before .before .before .before .before .before .before .before .before .before .before .before .before .before .before .before .before .before .before .pre in
     let w = c .before .before .before .before .before .before .before .before .before .before .before .before .before .before .before .before .before .before .before .before .before .before .before .loop in
     let y = c .before .before .before .before .before .before .before .before .before .before .before .before .before .before .apply in (
-      replaced (a .op) (a .g .0) (tableOf (a .vars .now) (a .lows .now) (a .highs .now) (a .heads .now) (a .links .now) (a .count)) (a .list .now) (a .memo .now) (r .0) (r .1) (r .2) (tableOf (w .vars) (w .lows) (w .highs) (w .heads) (w .links) (w .n)) (w .list) (w .memo) (w .i) (w .inv .0) (c .before .before .before .before .before .before .before .before .before .before .before .before .before .before .before .before .before .before .before .before .before .before .loop-test .taken) (outcomeOf (y .last .0) (y .last .1 .0) (y .last .1 .1 .0) (y .last .1 .1 .1 .0) (y .last .1 .1 .1 .1 .0) (y .result)) (y .ensures .0) (c .before .if1 .left) (y .last .1 .1 .1 .1 .1 .0) (y .kept .1 .1 .1 .1 .1 .0) (y .ensures .1),
+      replaced (a .op) (a .g .0) (tableOf (a .vars .now) (a .lows .now) (a .highs .now) (a .heads .now) (a .links .now) (a .count)) (a .list .now) (a .memo .now) (r .0) (r .1) (r .2) (tableOf (w .vars) (w .lows) (w .highs) (w .heads) (w .links) (w .n)) (w .list) (w .memo) (w .i) (w .inv .0) (c .before .before .before .before .before .before .before .before .before .before .before .before .before .before .before .before .before .before .before .before .before .before .loop-test .taken) (outcomeOf (y .last .0) (y .last .1 .0) (y .last .1 .1 .0) (y .last .1 .1 .1 .0) (y .last .1 .1 .1 .1 .0) (y .result)) (y .ensures .0) (c .before .if1 .left) (y .last .1 .1 .1 .1 .1 .0) (y .ensures .1),
       y .kept .0 ∙ w .inv .1,
       y .kept .1 .0 ∙ w .inv .2,
       y .kept .1 .1 .0 ∙ w .inv .3,
