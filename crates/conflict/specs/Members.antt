@@ -1,13 +1,14 @@
 -- Lists of node numbers and the diagrams that they stand for. No call open to others cites this file.
 use mathlib.Core.Bool.{Bool}
 use mathlib.Core.List.{List, map}
-use Prim.Native.Nat.{ℕ, _≤_, _<_}
+use Prim.Native.Nat.{ℕ, _<_}
 use lib.ListN.{length, getD}
 use Rattle.meaning.specs.Diagram.{Diagram, same}
 use Rattle.meaning.specs.Operations.{negation}
 use Rattle.meaning.specs.Rules.{any}
 use Rattle.table.specs.Nodes.{Node, diagramAt}
 use Rattle.table.specs.Indexed.{Table, Good}
+use Rattle.walks.specs.Readable.{Roomy}
 
 -- The diagrams of listed node numbers.
 abbrev pub diagramsOf : List Node → List ℕ → List Diagram
@@ -21,7 +22,7 @@ Inside m list = (i : ℕ) → i < length list → getD list i 0 < m
 pub record ListReady (t : Table) (list memo : List ℕ) : Type 0 where
   pub good : Good t
   pub inside : Inside (t .count) list
-  pub room : 3 ≤ length memo
+  pub room : Roomy (t .vars) memo
 
 -- Whether the negation of g is one of the members.
 unfoldable pub negationIn : List Diagram → Diagram → Bool

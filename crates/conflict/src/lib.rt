@@ -65,7 +65,7 @@ fn some_negated(
     requires { ⌜ ListReady (tableOf (now vars) (now lows) (now highs) (now heads) (now links) count) (now list) (now memo) × (now marks ≡ setAll 1 (unmarked (length (now vars))) (now list)) ⌝ }
     ensures { λ r. ⌜ r ≡ someNegated (diagramsOf (nodesOf (tableOf (now (vars .entry)) (now (lows .entry)) (now (highs .entry)) (now (heads .entry)) (now (links .entry)) count)) (now (list .entry))) ⌝ }
 {
-    walks::clear_memo(memo);
+    walks::clear_memo(memo, count);
     let mut i: usize = 0;
     while i < list.len() {
         let f = NodeNo(list[i]);

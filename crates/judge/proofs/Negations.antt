@@ -81,7 +81,7 @@ module _ (T : Table) (list memo : List ℕ) (g : ℕ) (R : Negatable T list memo
         record {
           good = made .good;
           inside = λ i p. omega (arith, made .more, R .ready .inside i p);
-          room = omega (arith, R .ready .room);
+          room = omega (arith, R .ready .room, made .same-size);
         },
         made .inside,
         not-zero,

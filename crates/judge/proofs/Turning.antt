@@ -109,7 +109,7 @@ module _ (T : Table) (list memo : List ℕ) (R : ListReady T list memo) (f p n :
             ready = record {
               good = made .good;
               inside = λ i b. omega (arith, made .more, R .inside i b);
-              room = omega (arith, R .room);
+              room = omega (arith, R .room, made .same-size);
             };
             inside = made .inside;
             not-one = not-one;

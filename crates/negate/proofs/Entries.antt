@@ -3,11 +3,12 @@ use mathlib.Core.Path.{_≡_, subst}
 use mathlib.Core.List.{List}
 use Prim.Native.Nat.{ℕ, _+_, _*_, _/_, _%_, _≤_, _<_}
 use native.Mathlib.Omega.{arith}
-use lib.ListN.{length, getD, set, replicate}
+use lib.ListN.{length, getD, set}
 use Rattle.table.specs.declared.Found.{Found}
 use Rattle.table.specs.declared.Found.the-variants.{At, Nothing}
 use Rattle.table.specs.Indexed.{Table, Good}
-use Rattle.walks.proofs.Memo.{cleared-at, stored}
+use Rattle.walks.specs.Readable.{Cleared}
+use Rattle.walks.proofs.Memo.{stored}
 use Rattle.negate.specs.Negations.{Negates, entryOf, foundIn, NegationMemo}
 
 -- what is stored is read back
@@ -23,18 +24,18 @@ read-back T G f Nothing N =
     (omega arith, rw flag)
 
 module _ (T : Table) (memo : List ℕ) where
-  pub negations-cleared : (m : ℕ) → memo ≡ replicate m 0 → NegationMemo memo T
+  pub negations-cleared : Cleared (T .count) memo → NegationMemo memo T
   unfolding NegationMemo
-  negations-cleared m e i two = absurd (omega (arith, cleared-at memo m e i))
+  negations-cleared C i inside two = absurd (omega (arith, C i inside))
 
-  pub negation-known : (s f : ℕ) → NegationMemo memo T → getD memo s 0 / 131072 ≡ f → 2 ≤ f → Negates T f (foundIn (getD memo s 0))
+  pub negation-known : (f : ℕ) → f < T .count → NegationMemo memo T → getD memo f 0 / 131072 ≡ f → 2 ≤ f → Negates T f (foundIn (getD memo f 0))
   unfolding NegationMemo
-  negation-known s f M e two = subst (λ (k : ℕ). Negates T k (foundIn (getD memo s 0))) e (M s (omega arith))
+  negation-known f inside M e two = subst (λ (k : ℕ). Negates T k (foundIn (getD memo f 0))) e (M f inside (omega arith))
 
-  pub negation-stored : Good T → (s f : ℕ) (r : Found) → s < length memo → NegationMemo memo T → Negates T f r → NegationMemo (set memo s (entryOf f r)) T
+  pub negation-stored : Good T → (f : ℕ) (r : Found) → f < length memo → NegationMemo memo T → Negates T f r → NegationMemo (set memo f (entryOf f r)) T
   unfolding NegationMemo
-  negation-stored G s f r inside M N =
-      stored (λ e. 2 ≤ e / 131072 → Negates T (e / 131072) (foundIn e)) memo s (entryOf f r) inside (λ _. new) M
+  negation-stored G f r inside M N =
+      stored (λ i e. i < T .count → 2 ≤ e / 131072 → Negates T (e / 131072) (foundIn e)) memo f (entryOf f r) inside (λ _ _. new) (λ i _. M i)
     where
       new : Negates T (entryOf f r / 131072) (foundIn (entryOf f r))
       new = rw (read-back T G f r N .0, read-back T G f r N .1) N

@@ -3,8 +3,8 @@ use table::Found;
 use table::NodeNo;
 ghost use mathlib.Core.Path.{_≡_};
 ghost use Prim.Native.Nat.{_≤_, _<_};
-ghost use lib.ListN.{length};
 ghost use Rattle.table.specs.Indexed.{tableOf, Good};
+ghost use Rattle.walks.specs.Readable.{Roomy};
 ghost use Rattle.negate.specs.Negations.{Negates, entryOf, foundIn, NegationMemo, NegationReady};
 
 // The node that is f's negation, if the table has it.
@@ -18,10 +18,10 @@ pub fn negation_in(
     count: usize,
     f: NodeNo,
 ) -> Found
-    requires { ⌜ Good (tableOf (now vars) (now lows) (now highs) (now heads) (now links) count) × (f .0 < count) × (0 < length (now memo)) ⌝ }
+    requires { ⌜ Good (tableOf (now vars) (now lows) (now highs) (now heads) (now links) count) × (f .0 < count) × Roomy (now vars) (now memo) ⌝ }
     ensures { λ r. ⌜ Negates (tableOf (now (vars .entry)) (now (lows .entry)) (now (highs .entry)) (now (heads .entry)) (now (links .entry)) count) (f .0) r ⌝ }
 {
-    walks::clear_memo(memo);
+    walks::clear_memo(memo, count);
     negation_from(vars, lows, highs, heads, links, memo, count, f)
 }
 
@@ -47,13 +47,12 @@ pub fn negation_from(
         return Found::At(NodeNo(0));
     }
     let i = f.0 as usize;
-    let s = i % memo.len();
-    let e = memo[s];
+    let e = memo[i];
     if e / 131072 == f.0 as u64 {
         return found_in(e);
     }
     let r = negation_over(vars, lows, highs, heads, links, memo, count, f);
-    memo[s] = entry_of(f, r);
+    memo[i] = entry_of(f, r);
     r
 }
 

@@ -15,6 +15,7 @@ use Rattle.meaning.proofs.Booleans.{t≢f}
 use Rattle.meaning.proofs.PointwiseSteps.{literals-cong}
 use Rattle.table.specs.Nodes.{diagramAt}
 use Rattle.table.specs.Indexed.{Table, size, nodesOf, Good}
+use Rattle.walks.specs.Readable.{Roomy}
 use Rattle.operate.specs.declared.Operation.the-variants.{Literals}
 use Rattle.operate.specs.Operate.{result}
 use Rattle.verdict.specs.Check.{placedAll, isSome}
@@ -93,7 +94,7 @@ units-made T list positive negative K =
 pub record Going (T₀ : Table) (ms₀ : List Diagram) (T : Table) (list memo marks : List ℕ) (rounds : ℕ) : Type 0 where
   pub extended : Extended T₀ T
   pub inside : Inside (T .count) list
-  pub room : 3 ≤ length memo
+  pub room : Roomy (T₀ .vars) memo
   pub clear : marks ≡ unmarked (size T₀)
   pub most : rounds ≤ 64
   pub conflict : unitProp 64 ms₀ .conflict ≡ propagate (roundsLeft rounds) 64 (diagramsOf (nodesOf T) list) .conflict
@@ -119,7 +120,7 @@ going-first T₀ list memo marks R e =
 
 module _ (T₀ : Table) (G₀ : Good T₀) (ms₀ : List Diagram) (T : Table) (list memo marks : List ℕ) (rounds : ℕ) (W : Going T₀ ms₀ T list memo marks rounds) where
   pub going-ready : ListReady T list memo
-  going-ready = record { good = W .extended .good; inside = W .inside; room = W .room }
+  going-ready = record { good = W .extended .good; inside = W .inside; room = omega (arith, W .room, W .extended .same-size) }
 
   -- it ends
   pub going-ends : (b : Bool) → propagate (roundsLeft rounds) 64 (diagramsOf (nodesOf T) list) ≡ still b

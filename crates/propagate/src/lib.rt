@@ -10,7 +10,7 @@ ghost use Rattle.meaning.specs.Rules.{unitProp};
 ghost use mathlib.Core.Bool.{false};
 ghost use Rattle.table.specs.Nodes.{diagramAt};
 ghost use Rattle.table.specs.Indexed.{tableOf, nodesOf, outcomeOf};
-ghost use Rattle.walks.specs.Readable.{Readable, nodesIn};
+ghost use Rattle.walks.specs.Readable.{Readable, Roomy, nodesIn};
 ghost use Rattle.operate.specs.Inner.{applied, Allowed, MemoRight, Ready};
 ghost use Rattle.supports.specs.Supports.{Support, Supports};
 ghost use Rattle.conflict.specs.Members.{diagramsOf, Inside, ListReady};
@@ -140,10 +140,10 @@ pub fn first_units(
     count: usize,
     list: &[u16],
 ) -> FirstUnits
-    requires { ⌜ Readable (now vars) (now lows) (now highs) count × Inside count (now list) × (3 ≤ length (now memo)) ⌝ }
+    requires { ⌜ Readable (now vars) (now lows) (now highs) count × Inside count (now list) × Roomy (now vars) (now memo) ⌝ }
     ensures { λ r. ⌜ AreFirst (diagramsOf (nodesIn (now (vars .entry)) (now (lows .entry)) (now (highs .entry)) count) (now (list .entry))) r ⌝ }
 {
-    walks::clear_memo(memo);
+    units::clear_memo(memo);
     let mut place: usize = 0;
     while place < list.len() {
         let member = NodeNo(list[place]);

@@ -7,6 +7,7 @@ use native.Mathlib.Omega.{arith}
 use lib.ListN.{length, getD, take}
 use lib.Dec.{ltb}
 use Rattle.table.specs.Indexed.{Table, nodesOf, Good}
+use Rattle.walks.specs.Readable.{Roomy}
 use Rattle.records.specs.declared.Record.{Record}
 use Rattle.records.specs.declared.Record.the-variants.{NodeEntry, Witness, ProofLine, End, CutShort, UnknownKind, NoRecord}
 use Rattle.records.specs.Records.{recordAt, lengthOf, numberOf}
@@ -83,7 +84,7 @@ module _ (n s : ℕ) (proof : List ℕ) (whole : check.Verdict) where
     pub same-size : length (l .vars) ≡ s
     pub held : Held n l st
     pub none-marked : marks ≡ unmarked s
-    pub room : 3 ≤ length memo
+    pub room : Roomy (l .vars) memo
     pub within : at ≤ length proof
     pub remains : Remains n s proof whole (stateOf l st) at
 
@@ -97,7 +98,7 @@ module _ (n s : ℕ) (proof : List ℕ) (whole : check.Verdict) where
       rest = G .held .rest;
     }
 
-    pub going-asks : Held n l st × (marks ≡ unmarked (length (l .vars))) × (3 ≤ length memo)
+    pub going-asks : Held n l st × (marks ≡ unmarked (length (l .vars))) × Roomy (l .vars) memo
     going-asks = (G .held, G .none-marked ∙ ap unmarked (sym (G .same-size)), G .room)
 
     -- no byte is left
@@ -163,13 +164,13 @@ module _ (n s : ℕ) (proof : List ℕ) (whole : check.Verdict) where
           same-size = size-kept ∙ G .same-size;
           held = leaves (Next st′) e;
           none-marked = marks-kept ∙ ap unmarked (G .same-size);
-          room = omega (arith, G .room);
+          room = omega (arith, G .room, size-kept);
           within = next-within;
           remains = subst (Remains n s proof whole (stateOf l′ st′)) (ap (λ (k : ℕ). at + k) (sym takes))
               (remains-next n s proof whole (stateOf l st) at (G .remains) (stateOf l′ st′) (says (Next st′) e) (G .within));
         }
 
-pub going-start : (n : ℕ) (proof : List ℕ) (l : Lent) (marks memo : List ℕ) (st : State) → Held n l st × (marks ≡ unmarked (length (l .vars))) × (3 ≤ length memo)
+pub going-start : (n : ℕ) (proof : List ℕ) (l : Lent) (marks memo : List ℕ) (st : State) → Held n l st × (marks ≡ unmarked (length (l .vars))) × Roomy (l .vars) memo
     → Going n (length (l .vars)) proof (check.records (suc (length proof)) n (length (l .vars)) proof (stateOf l st) 0) l marks memo st 0
 going-start n proof l marks memo st h = record {
   same-size = refl;

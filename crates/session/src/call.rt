@@ -100,7 +100,7 @@ fn check_65536<'a>(
 {
     let mut heads = [0u16; 131072];
     let mut links = [0u16; 65536];
-    let mut memo = [0u64; 16384];
+    let mut memo = [0u64; 65600];
     let mut marks = [0u8; 65536];
     let places = vars.len();
     let ends = 2 * places;

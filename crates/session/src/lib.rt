@@ -8,6 +8,7 @@ ghost use Prim.Native.Nat.{_*_, _≤_};
 ghost use lib.ListN.{length};
 ghost use Rattle.dimacs.specs.Clauses.{clausesFrom};
 ghost use Rattle.table.specs.Indexed.{tableOf};
+ghost use Rattle.walks.specs.Readable.{Roomy};
 ghost use Rattle.conflict.specs.Marks.{unmarked};
 ghost use Rattle.verdict.specs.Check.{emptied, clauses, verdict, zeros, lentFits, outcome};
 ghost use Rattle.session.specs.Checked.{outcomeOf};
@@ -46,7 +47,7 @@ fn judge_clauses<'a>(
     proof: &'a [u8],
 ) -> Checked
     requires { ⌜ Opened (tableOf (now vars) (now lows) (now highs) (now heads) (now links) 2) (now members) ⌝ }
-    requires { ⌜ (variables ≤ 64) × (wanted ≤ 1024) × (from ≤ length (now formula)) × (4096 ≤ length (now scratch)) × (now marks ≡ unmarked (length (now vars))) × (3 ≤ length (now memo)) ⌝ }
+    requires { ⌜ (variables ≤ 64) × (wanted ≤ 1024) × (from ≤ length (now formula)) × (4096 ≤ length (now scratch)) × (now marks ≡ unmarked (length (now vars))) × Roomy (now vars) (now memo) ⌝ }
     ensures { λ r. ⌜ outcomeOf (now (vars .exit)) (now (lows .exit)) (now (highs .exit)) (now (members .exit)) (zeros (length (now (scratch .entry)))) r ≡ outcome (length (now (vars .entry))) (length (now (members .entry))) (length (now (scratch .entry))) (clauses variables (length (now (vars .entry))) (now (proof .entry)) emptied [] (clausesFrom (now (formula .entry)) variables wanted from)) ⌝ }
 {
     match formula::read_clauses(
@@ -104,7 +105,7 @@ fn judge<'a>(
     proof: &'a [u8],
 ) -> Checked
     requires { ⌜ Opened (tableOf (now vars) (now lows) (now highs) (now heads) (now links) 2) (now members) ⌝ }
-    requires { ⌜ (4096 ≤ length (now scratch)) × (now marks ≡ unmarked (length (now vars))) × (3 ≤ length (now memo)) ⌝ }
+    requires { ⌜ (4096 ≤ length (now scratch)) × (now marks ≡ unmarked (length (now vars))) × Roomy (now vars) (now memo) ⌝ }
     ensures { λ r. ⌜ outcomeOf (now (vars .exit)) (now (lows .exit)) (now (highs .exit)) (now (members .exit)) (zeros (length (now (scratch .entry)))) r ≡ outcome (length (now (vars .entry))) (length (now (members .entry))) (length (now (scratch .entry))) (verdict (length (now (vars .entry))) (now (formula .entry)) (now (proof .entry))) ⌝ }
 {
     match dimacs::read_header(formula) {
@@ -149,7 +150,7 @@ pub fn run<'a>(
     proof: &'a [u8],
 ) -> Checked
     requires { ⌜ lentFits (now vars) (now lows) (now highs) (now members) (now scratch) ≡ true ⌝ }
-    requires { ⌜ (now heads ≡ zeros (2 * length (now vars))) × (now links ≡ zeros (length (now vars))) × (now marks ≡ unmarked (length (now vars))) × (3 ≤ length (now memo)) ⌝ }
+    requires { ⌜ (now heads ≡ zeros (2 * length (now vars))) × (now links ≡ zeros (length (now vars))) × (now marks ≡ unmarked (length (now vars))) × Roomy (now vars) (now memo) ⌝ }
     ensures { λ r. ⌜ outcomeOf (now (vars .exit)) (now (lows .exit)) (now (highs .exit)) (now (members .exit)) (now (scratch .exit)) r ≡ outcome (length (now (vars .entry))) (length (now (members .entry))) (length (now (scratch .entry))) (verdict (length (now (vars .entry))) (now (formula .entry)) (now (proof .entry))) ⌝ }
 {
     clear::empty(vars, lows, highs, members);

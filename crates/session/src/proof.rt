@@ -6,6 +6,7 @@ ghost use mathlib.Core.Path.{_≡_};
 ghost use Prim.Native.Nat.{suc, _≤_};
 ghost use lib.ListN.{length, take};
 ghost use Rattle.table.specs.Indexed.{tableOf, nodesOf};
+ghost use Rattle.walks.specs.Readable.{Roomy};
 ghost use Rattle.conflict.specs.Marks.{unmarked};
 ghost use Rattle.verdict.specs.Check.{begun, left, records, zeros, outcome};
 ghost use Rattle.steps.specs.States.{lentOf, stateOf, Held};
@@ -35,7 +36,7 @@ pub fn read_records(
     variables: u8,
     proof: &[u8],
 ) -> Ended
-    requires { ⌜ Held variables (lentOf (now vars) (now lows) (now highs) (now heads) (now links) (now members) (now scratch)) first × (now marks ≡ unmarked (length (now vars))) × (3 ≤ length (now memo)) ⌝ }
+    requires { ⌜ Held variables (lentOf (now vars) (now lows) (now highs) (now heads) (now links) (now members) (now scratch)) first × (now marks ≡ unmarked (length (now vars))) × Roomy (now vars) (now memo) ⌝ }
     ensures { λ r. ⌜ records (suc (length (now (proof .entry)))) variables (length (now (vars .entry))) (now (proof .entry)) (stateOf (lentOf (now (vars .entry)) (now (lows .entry)) (now (highs .entry)) (now (heads .entry)) (now (links .entry)) (now (members .entry)) (now (scratch .entry))) first) 0 ≡ left (r .number) (r .place) (stateOf (lentOf (now (vars .exit)) (now (lows .exit)) (now (highs .exit)) (now (heads .exit)) (now (links .exit)) (now (members .exit)) (now (scratch .exit))) (r .state)) ⌝ }
     ensures { λ r. ⌜ Ends (lentOf (now (vars .exit)) (now (lows .exit)) (now (highs .exit)) (now (heads .exit)) (now (links .exit)) (now (members .exit)) (now (scratch .exit))) (r .state) ⌝ }
 {
@@ -95,7 +96,7 @@ pub fn judge_proof(
     made: usize,
     proof: &[u8],
 ) -> Checked
-    requires { ⌜ Built variables (tableOf (now vars) (now lows) (now highs) (now heads) (now links) count) (now members) made × (variables ≤ 64) × (2048 ≤ length (now members)) × (4096 ≤ length (now scratch)) × (now marks ≡ unmarked (length (now vars))) × (3 ≤ length (now memo)) ⌝ }
+    requires { ⌜ Built variables (tableOf (now vars) (now lows) (now highs) (now heads) (now links) count) (now members) made × (variables ≤ 64) × (2048 ≤ length (now members)) × (4096 ≤ length (now scratch)) × (now marks ≡ unmarked (length (now vars))) × Roomy (now vars) (now memo) ⌝ }
     ensures { λ r. ⌜ outcomeOf (now (vars .exit)) (now (lows .exit)) (now (highs .exit)) (now (members .exit)) (zeros (length (now (scratch .entry)))) r ≡ outcome (length (now (vars .entry))) (length (now (members .entry))) (length (now (scratch .entry))) (records (suc (length (now (proof .entry)))) variables (length (now (vars .entry))) (now (proof .entry)) (begun (nodesOf (tableOf (now (vars .entry)) (now (lows .entry)) (now (highs .entry)) (now (heads .entry)) (now (links .entry)) count)) (take made (now (members .entry)))) 0) ⌝ }
 {
     let first = State {

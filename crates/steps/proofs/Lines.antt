@@ -11,6 +11,7 @@ use lib.Seq.{getD-set-other}
 use Rattle.meaning.specs.Rules.{Line, witnessed}
 use Rattle.meaning.specs.Words.{inWord}
 use Rattle.table.specs.Indexed.{Table, size, nodesOf}
+use Rattle.walks.specs.Readable.{Roomy}
 use Rattle.table.proofs.Written.{length-nodes}
 use Rattle.table.proofs.Outcomes.{droppedTo, undone}
 use Rattle.records.specs.declared.Rule.{Rule}
@@ -190,7 +191,7 @@ module _ (n : ℕ) (L : Lent) (st : State) (H : Held n L st) (rule : Rule) (root
         line-is n (size T) S rule root ∙ unless-none (lineRefusal n S rule root) _ (sym refusal-width ∙ none)
         ∙ ap (λ (x : ℕ). judged (size T) S x (lineOf n S rule x)) (sym is) ∙ ap (judged (size T) S k) (sym (line-width k k-in not-one))
 
-    pub line-ready : (memo : List ℕ) → 3 ≤ length memo → Negatable T (take (st .members) (L .members)) memo k
+    pub line-ready : (memo : List ℕ) → Roomy (T .vars) memo → Negatable T (take (st .members) (L .members)) memo k
     line-ready memo room = record { ready = record { good = H .entries .good; inside = members-inside; room = room }; inside = k-in; not-one = not-one }
 
     pub few-members : st .members < 2048

@@ -10,7 +10,7 @@ ghost use Prim.Native.Nat.{ℕ, _+_, _*_, _≤_};
 ghost use lib.ListN.{length, take};
 ghost use lib.Dec.{eqb};
 ghost use Rattle.table.specs.Indexed.{tableOf};
-ghost use Rattle.walks.specs.Readable.{Readable};
+ghost use Rattle.walks.specs.Readable.{Readable, Roomy};
 ghost use Rattle.verdict.specs.Check.{lineStep};
 ghost use Rattle.conflict.specs.Members.{Inside};
 ghost use Rattle.conflict.specs.Marks.{unmarked};
@@ -29,7 +29,7 @@ fn line_refusal(
     rule: Rule,
     root: EntryNo,
 ) -> u8
-    requires { ⌜ Readable (now vars) (now lows) (now highs) (st .count) × Inside (st .count) (take (st .entries) (now scratch)) × (st .entries ≤ 4096) × (4096 ≤ length (now scratch)) × (3 ≤ length (now memo)) ⌝ }
+    requires { ⌜ Readable (now vars) (now lows) (now highs) (st .count) × Inside (st .count) (take (st .entries) (now scratch)) × (st .entries ≤ 4096) × (4096 ≤ length (now scratch)) × Roomy (now vars) (now memo) ⌝ }
     ensures { λ r. ⌜ ((ds ks ms : List ℕ) → r ≡ lineRefusal 64 (stateOf (lentOf (now (vars .entry)) (now (lows .entry)) (now (highs .entry)) ds ks ms (now (scratch .entry))) st) rule (root .0)) ⌝ }
 {
     let entries = st.entries;
@@ -176,7 +176,7 @@ pub fn line_step(
     rule: Rule,
     root: EntryNo,
 ) -> crate::Step
-    requires { ⌜ Held 64 (lentOf (now vars) (now lows) (now highs) (now heads) (now links) (now members) (now scratch)) st × (now marks ≡ unmarked (length (now vars))) × (3 ≤ length (now memo)) ⌝ }
+    requires { ⌜ Held 64 (lentOf (now vars) (now lows) (now highs) (now heads) (now links) (now members) (now scratch)) st × (now marks ≡ unmarked (length (now vars))) × Roomy (now vars) (now memo) ⌝ }
     ensures { λ r. ⌜ ((n : ℕ) → Held n (lentOf (now (vars .entry)) (now (lows .entry)) (now (highs .entry)) (now (heads .entry)) (now (links .entry)) (now (members .entry)) (now (scratch .entry))) st → Stepped n (lentOf (now (vars .entry)) (now (lows .entry)) (now (highs .entry)) (now (heads .entry)) (now (links .entry)) (now (members .entry)) (now (scratch .entry))) (lentOf (now (vars .exit)) (now (lows .exit)) (now (highs .exit)) (now (heads .exit)) (now (links .exit)) (now (members .exit)) (now (scratch .exit))) st (lineStep n (length (now (vars .entry))) (stateOf (lentOf (now (vars .entry)) (now (lows .entry)) (now (highs .entry)) (now (heads .entry)) (now (links .entry)) (now (members .entry)) (now (scratch .entry))) st) rule (root .0)) r) ⌝ }
     ensures { λ _. ⌜ now (marks .exit) ≡ unmarked (length (now (vars .entry))) ⌝ }
 {

@@ -6,7 +6,7 @@ use mathlib.Core.List.{List}
 use Prim.Native.Nat.{ℕ, suc, _+_, _-_, _^_, _≤_, _<_}
 use native.Mathlib.Omega.{arith}
 use native.Mathlib.Decide.{ℕ-discrete}
-use lib.ListN.{length, getD, set, replicate, length-set}
+use lib.ListN.{length, getD, set, length-set}
 use lib.Seq.{getD-set-same, getD-set-other}
 use lib.Dec.{eqb}
 use lib.Bits.{bitOr}
@@ -15,9 +15,9 @@ use Rattle.meaning.specs.Words.{inWord}
 use Rattle.meaning.proofs.Booleans.{or-left, or-right, eq-eqb}
 use Rattle.table.specs.Nodes.{Node, diagramAt}
 use Rattle.table.proofs.Numbers.{diagramAt-zero, diagramAt-one, diagramAt-node}
-use Rattle.walks.specs.Readable.{Readable, nodesIn}
+use Rattle.walks.specs.Readable.{Readable, Cleared, nodesIn}
 use Rattle.walks.proofs.Here.{Here, here, node-in, ordered-in, length-in}
-use Rattle.walks.proofs.Memo.{cleared-at}
+use Rattle.walks.proofs.Memo.{stored}
 use Rattle.units.proofs.Bits.{in-or, in-bit}
 use Rattle.supports.specs.Supports.{Uses, Support, Supports, SupportMemo}
 use Rattle.supports.proofs.Uses.{uses-more}
@@ -73,21 +73,18 @@ module _ (vs ls hs : List ℕ) (count : ℕ) (R : Readable vs ls hs count) (k : 
 
 -- ---- the memo
 
-pub memo-cleared : (t : List Node) (memo : List ℕ) (m : ℕ) → memo ≡ replicate m 0 → SupportMemo memo t
+pub memo-cleared : (t : List Node) (memo : List ℕ) (count : ℕ) → length t ≡ count → Cleared count memo → SupportMemo memo t
 unfolding SupportMemo
-memo-cleared t memo m e i ne = absurd (ne (cleared-at memo m e i))
+memo-cleared t memo count len zero i p ne = absurd (ne (zero i (omega arith)))
 
-pub memo-known : (t : List Node) (memo : List ℕ) (k : ℕ) → SupportMemo memo t → getD memo k 0 ≢ 0 → Support (getD memo k 0) (diagramAt t k)
+pub memo-known : (t : List Node) (memo : List ℕ) (k : ℕ) → k < length t → SupportMemo memo t → getD memo k 0 ≢ 0 → Support (getD memo k 0) (diagramAt t k)
 unfolding SupportMemo
-memo-known t memo k M ne = M k ne
+memo-known t memo k p M ne = M k p ne
 
 pub memo-stored : (t : List Node) (memo : List ℕ) (k word : ℕ) → k < length memo → SupportMemo memo t → Support word (diagramAt t k) → SupportMemo (set memo k word) t
 unfolding SupportMemo
-memo-stored t memo k word inside M new i = go (ℕ-discrete i k)
-  where
-    go : Dec (i ≡ k) → getD (set memo k word) i 0 ≢ 0 → Support (getD (set memo k word) i 0) (diagramAt t i)
-    go (yes e) = rw (e, getD-set-same memo k word 0 inside) (λ ne. new)
-    go (no n) = rw (getD-set-other memo k i word 0 n) (M i)
+memo-stored t memo k word inside M new =
+    stored (λ (i e : ℕ). i < length t → e ≢ 0 → Support e (diagramAt t i)) memo k word inside (λ p ne. new) (λ i n. M i)
 
 -- ---- a list
 

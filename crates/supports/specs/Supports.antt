@@ -24,7 +24,7 @@ unfoldable pub Supports : List Node → List ℕ → List ℕ → Type 0
 unfolding Support
 Supports t list words = (i : ℕ) → i < length list → Support (getD words i 0) (diagramAt t (getD list i 0))
 
--- Each place of the memo that is not 0 has every variable of the node of its number.
+-- Each node's cell of the memo that is not 0 has every variable of the node.
 unfoldable pub SupportMemo : List ℕ → List Node → Type 0
 unfolding Support
-SupportMemo memo t = (i : ℕ) → getD memo i 0 ≢ 0 → Support (getD memo i 0) (diagramAt t i)
+SupportMemo memo t = (i : ℕ) → i < length t → getD memo i 0 ≢ 0 → Support (getD memo i 0) (diagramAt t i)

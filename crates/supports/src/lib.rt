@@ -5,7 +5,7 @@ ghost use Prim.Native.Nat.{_-_, _^_, _≤_, _<_};
 ghost use lib.ListN.{length};
 ghost use lib.Bits.{bitOr};
 ghost use Rattle.table.specs.Nodes.{diagramAt};
-ghost use Rattle.walks.specs.Readable.{Readable, nodesIn};
+ghost use Rattle.walks.specs.Readable.{Readable, Roomy, nodesIn};
 ghost use Rattle.conflict.specs.Members.{Inside};
 ghost use Rattle.supports.specs.Supports.{Support, Supports, SupportMemo};
 
@@ -27,7 +27,7 @@ pub fn support_from(
     count: usize,
     f: NodeNo,
 ) -> u64
-    requires { ⌜ Readable (now vars) (now lows) (now highs) count × (f .0 < count) × (count ≤ length (now memo)) ⌝ }
+    requires { ⌜ Readable (now vars) (now lows) (now highs) count × (f .0 < count) × Roomy (now vars) (now memo) ⌝ }
     requires { ⌜ SupportMemo (now memo) (nodesIn (now vars) (now lows) (now highs) count) ⌝ }
     ensures { λ r. ⌜ Support r (diagramAt (nodesIn (now (vars .entry)) (now (lows .entry)) (now (highs .entry)) count) (f .0)) ⌝ }
     ensures { λ _. ⌜ SupportMemo (now (memo .exit)) (nodesIn (now (vars .entry)) (now (lows .entry)) (now (highs .entry)) count) ⌝ }
@@ -60,11 +60,11 @@ pub fn supports_of(
     list: &[u16],
     words: &mut [u64],
 )
-    requires { ⌜ Readable (now vars) (now lows) (now highs) count × Inside count (now list) × (count ≤ length (now memo)) × (length (now words) ≡ length (now list)) ⌝ }
+    requires { ⌜ Readable (now vars) (now lows) (now highs) count × Inside count (now list) × Roomy (now vars) (now memo) × (length (now words) ≡ length (now list)) ⌝ }
     ensures { λ _. ⌜ Supports (nodesIn (now (vars .entry)) (now (lows .entry)) (now (highs .entry)) count) (now (list .entry)) (now (words .exit)) ⌝ }
     ensures { λ _. ⌜ SupportMemo (now (memo .exit)) (nodesIn (now (vars .entry)) (now (lows .entry)) (now (highs .entry)) count) ⌝ }
 {
-    walks::clear_memo(memo);
+    walks::clear_memo(memo, count);
     let mut i: usize = 0;
     while i < list.len() {
         let f = NodeNo(list[i]);

@@ -1,20 +1,29 @@
 -- The memo of the units known: cleared, read and stored into, slot by slot. Assumes nothing.
-use mathlib.Core.Path.{_≡_, _∙_}
+use mathlib.Core.Path.{_≡_, refl, _∙_}
 use mathlib.Core.Logic.{_≢_}
-use mathlib.Core.List.{List}
-use Prim.Native.Nat.{ℕ, _+_, _*_, _≤_, _<_}
+use mathlib.Core.List.{List, [], _∷_}
+use Prim.Native.Nat.{ℕ, zero, suc, _+_, _*_, _≤_, _<_}
 use native.Mathlib.Omega.{arith}
-use native.Mathlib.Decide.{ℕ-discrete}
-use lib.ListN.{length, getD, set, replicate, length-set}
+use native.Mathlib.Decide.{ℕ-discrete, decLt}
+use lib.ListN.{length, getD, set, length-set}
 use lib.Seq.{getD-set-same, getD-set-other}
 use Rattle.table.specs.Nodes.{Node}
-use Rattle.walks.proofs.Memo.{cleared-at}
+use Rattle.walks.specs.Readable.{Cleared}
 use Rattle.units.specs.declared.Units.{Units}
 use Rattle.units.specs.Units.{UnitsAt, stored, UnitsMemo}
 
-pub units-cleared : (t : List Node) (memo : List ℕ) (m : ℕ) → memo ≡ replicate m 0 → UnitsMemo memo t
+beyond : (xs : List ℕ) (i : ℕ) → length xs ≤ i → getD xs i 0 ≡ 0
+beyond [] i p = refl
+beyond (x ∷ xs) zero p = absurd (omega arith)
+beyond (x ∷ xs) (suc i) p = beyond xs i (omega arith)
+
+pub units-cleared : (t : List Node) (memo : List ℕ) (m : ℕ) → length memo ≡ m → Cleared m memo → UnitsMemo memo t
 unfolding UnitsMemo
-units-cleared t memo m e j two = absurd (omega (arith, cleared-at memo m e (j * 3)))
+units-cleared t memo m e C j two = absurd (go (decLt (j * 3) m))
+  where
+    go : Dec (j * 3 < m) → ⊥
+    go (yes p) = absurd (omega (arith, C (j * 3) p))
+    go (no n) = absurd (omega (arith, beyond memo (j * 3) (omega arith)))
 
 pub units-known : (t : List Node) (memo : List ℕ) (s j k : ℕ) → UnitsMemo memo t → s ≡ j * 3 → getD memo s 0 ≡ k → 2 ≤ k
     → UnitsAt t k (getD memo (s + 1) 0) (getD memo (s + 2) 0)

@@ -3,13 +3,21 @@ use table::NodeNo;
 ghost use mathlib.Core.Path.{_≡_};
 ghost use Prim.Native.Nat.{_+_, _*_, _/_, _%_, _≤_, _<_};
 ghost use lib.ListN.{length};
-ghost use Rattle.walks.specs.Readable.{Readable, nodesIn};
+ghost use Rattle.walks.specs.Readable.{Readable, Roomy, Cleared, nodesIn};
 ghost use Rattle.units.specs.Units.{withVariable, joined, UnitsAt, stored, UnitsMemo};
 
 // A set of literals: the variables that it makes true, and those that it makes false.
 pub struct Units {
     pub positive: u64,
     pub negative: u64,
+}
+
+// Empties the memo.
+pub fn clear_memo(memo: &mut [u64])
+    ensures { λ _. ⌜ Cleared (length (now (memo .entry))) (now (memo .exit)) ⌝ }
+{
+    let n = memo.len();
+    walks::clear_memo(memo, n);
 }
 
 // U(f): the literals that are true wherever f is. All literals for node 0, none for node 1.
@@ -21,10 +29,10 @@ pub fn units_of(
     count: usize,
     f: NodeNo,
 ) -> Units
-    requires { ⌜ Readable (now vars) (now lows) (now highs) count × (f .0 < count) × (3 ≤ length (now memo)) ⌝ }
+    requires { ⌜ Readable (now vars) (now lows) (now highs) count × (f .0 < count) × Roomy (now vars) (now memo) ⌝ }
     ensures { λ r. ⌜ UnitsAt (nodesIn (now (vars .entry)) (now (lows .entry)) (now (highs .entry)) count) (f .0) (r .positive) (r .negative) ⌝ }
 {
-    walks::clear_memo(memo);
+    clear_memo(memo);
     units_from(vars, lows, highs, memo, count, f)
 }
 
@@ -37,7 +45,7 @@ pub fn units_from(
     count: usize,
     f: NodeNo,
 ) -> Units
-    requires { ⌜ Readable (now vars) (now lows) (now highs) count × (f .0 < count) × (3 ≤ length (now memo)) ⌝ }
+    requires { ⌜ Readable (now vars) (now lows) (now highs) count × (f .0 < count) × Roomy (now vars) (now memo) ⌝ }
     requires { ⌜ UnitsMemo (now memo) (nodesIn (now vars) (now lows) (now highs) count) ⌝ }
     ensures { λ r. ⌜ UnitsAt (nodesIn (now (vars .entry)) (now (lows .entry)) (now (highs .entry)) count) (f .0) (r .positive) (r .negative) ⌝ }
     ensures { λ _. ⌜ UnitsMemo (now (memo .exit)) (nodesIn (now (vars .entry)) (now (lows .entry)) (now (highs .entry)) count) ⌝ }

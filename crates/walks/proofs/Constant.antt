@@ -6,7 +6,7 @@ use mathlib.Core.Bool.{Bool, true, false, not, _&&_, cond}
 use mathlib.Core.List.{List}
 use Prim.Native.Nat.{ℕ, _≤_, _<_}
 use native.Mathlib.Omega.{arith}
-use lib.ListN.{length, getD, set, replicate}
+use lib.ListN.{length, getD, set}
 use Rattle.meaning.specs.Diagram.{Diagram, leaf, node, same?, same, branch, Reduced}
 use Rattle.meaning.specs.Operations.{cofactorLiterals}
 use Rattle.meaning.specs.Words.{inWord}
@@ -16,10 +16,10 @@ use Rattle.meaning.proofs.PointwiseSteps.{literals-leaf, literals-high, literal
 use Rattle.table.specs.Nodes.{Node, diagramAt}
 use Rattle.table.proofs.Numbers.{diagramAt-zero, diagramAt-one, diagramAt-node, diagramAt-reduced}
 use Rattle.walks.specs.declared.Sides.{Sides}
-use Rattle.walks.specs.Readable.{Readable, nodesIn}
+use Rattle.walks.specs.Readable.{Readable, Cleared, nodesIn}
 use Rattle.walks.specs.Constant.{constantAt, sidesBy, sidesUnder, ConstantMemo}
 use Rattle.walks.proofs.Here.{Here, here, node-in, ordered-in, length-in}
-use Rattle.walks.proofs.Memo.{cleared-at, stored}
+use Rattle.walks.proofs.Memo.{stored}
 
 differ-same : (f g : Diagram) → f ≢ g → same f g ≡ false
 differ-same f g n = not-true (same f g) (λ e. n (same-eq f g e))
@@ -55,17 +55,17 @@ module _ (t : List Node) (p n : ℕ) (b : Bool) where
   unfolding constantAt
   constant-one = rw (diagramAt-one t, literals-leaf 64 (inWord p) (inWord n) true) (same-leaves true b)
 
-  pub constant-cleared : (memo : List ℕ) (m : ℕ) → memo ≡ replicate m 0 → ConstantMemo memo t p n b
+  pub constant-cleared : (memo : List ℕ) → Cleared (length t) memo → ConstantMemo memo t p n b
   unfolding ConstantMemo
-  constant-cleared memo m e i two = absurd (omega (arith, cleared-at memo m e i))
+  constant-cleared memo C i inside two = absurd (omega (arith, C i inside))
 
-  pub constant-known : (memo : List ℕ) (s k : ℕ) → ConstantMemo memo t p n b → getD memo s 0 ≡ k → 2 ≤ k → constantAt t p n b k ≡ true
+  pub constant-known : (memo : List ℕ) (k : ℕ) → k < length t → ConstantMemo memo t p n b → getD memo k 0 ≡ k → 2 ≤ k → constantAt t p n b k ≡ true
   unfolding ConstantMemo
-  constant-known memo s k C e two = rw e at (C s (omega arith))
+  constant-known memo k inside C e two = rw e at (C k inside (omega arith))
 
-  pub constant-stored : (memo : List ℕ) (s k : ℕ) → s < length memo → ConstantMemo memo t p n b → constantAt t p n b k ≡ true → ConstantMemo (set memo s k) t p n b
+  pub constant-stored : (memo : List ℕ) (k : ℕ) → k < length memo → ConstantMemo memo t p n b → constantAt t p n b k ≡ true → ConstantMemo (set memo k k) t p n b
   unfolding ConstantMemo
-  constant-stored memo s k inside C e = stored (λ x. 2 ≤ x → constantAt t p n b x ≡ true) memo s k inside (λ _. e) C
+  constant-stored memo k inside C e = stored (λ i x. i < length t → 2 ≤ x → constantAt t p n b x ≡ true) memo k k inside (λ _ _. e) (λ i _. C i)
 
 module _ (vs ls hs : List ℕ) (count p n : ℕ) (b : Bool) (R : Readable vs ls hs count) (k : ℕ) (two : 2 ≤ k) (inside : k < count) where
   abbrev t : List Node

@@ -2,8 +2,8 @@
 use mathlib.Core.Path.{_≡_}
 use mathlib.Core.Bool.{Bool, true, cond}
 use mathlib.Core.List.{List}
-use Prim.Native.Nat.{ℕ, _≤_}
-use lib.ListN.{getD}
+use Prim.Native.Nat.{ℕ, _≤_, _<_}
+use lib.ListN.{length, getD}
 use Rattle.meaning.specs.Diagram.{leaf, same}
 use Rattle.meaning.specs.Operations.{cofactorLiterals}
 use Rattle.meaning.specs.Words.{inWord}
@@ -27,6 +27,6 @@ unfoldable pub sidesUnder : List ℕ → List ℕ → List ℕ → ℕ → ℕ �
 unfolding inWord
 sidesUnder vs ls hs k positive negative = sidesBy (inWord positive (getD vs k 0)) (inWord negative (getD vs k 0)) (getD ls k 0) (getD hs k 0)
 
--- Every node in the memo is known to be the constant.
+-- Every node that a cell of the memo names is known to be the constant.
 unfoldable pub ConstantMemo : List ℕ → List Node → ℕ → ℕ → Bool → Type 0
-ConstantMemo memo t positive negative b = (i : ℕ) → 2 ≤ getD memo i 0 → constantAt t positive negative b (getD memo i 0) ≡ true
+ConstantMemo memo t positive negative b = (i : ℕ) → i < length t → 2 ≤ getD memo i 0 → constantAt t positive negative b (getD memo i 0) ≡ true

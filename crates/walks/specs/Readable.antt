@@ -2,8 +2,8 @@
 use mathlib.Core.Path.{_≡_}
 use mathlib.Core.Bool.{Bool, true}
 use mathlib.Core.List.{List}
-use Prim.Native.Nat.{ℕ, _≤_}
-use lib.ListN.{length, take}
+use Prim.Native.Nat.{ℕ, _+_, _≤_, _<_}
+use lib.ListN.{length, getD, take}
 use Rattle.meaning.specs.Diagram.{value}
 use Rattle.meaning.specs.Words.{assignmentOf}
 use Rattle.table.specs.Nodes.{Node, nodesInOrder, diagramAt}
@@ -21,6 +21,14 @@ pub record Readable (vs ls hs : List ℕ) (count : ℕ) : Type 0 where
   pub lows : length ls ≡ length vs
   pub highs : length hs ≡ length vs
   pub ordered : nodesInOrder (nodesIn vs ls hs count) ≡ true
+
+-- A memo has a cell for each place of the table, so that a node's cell is its own, and 64 more.
+abbrev pub Roomy : List ℕ → List ℕ → Type 0
+Roomy vs memo = 64 + length vs ≤ length memo
+
+-- The first `count` cells of a memo hold 0.
+abbrev pub Cleared : ℕ → List ℕ → Type 0
+Cleared count memo = (i : ℕ) → i < count → getD memo i 0 ≡ 0
 
 -- "Evaluation [..] says yes exactly when the node's value under the word's assignment is 1." (01, Values)
 unfoldable pub valueUnder : List Node → ℕ → ℕ → Bool

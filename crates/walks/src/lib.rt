@@ -2,9 +2,9 @@
 use table::NodeNo;
 ghost use mathlib.Core.Path.{_≡_};
 ghost use Prim.Native.Nat.{_≤_, _<_};
-ghost use lib.ListN.{length, replicate};
+ghost use lib.ListN.{length};
 ghost use Rattle.meaning.specs.Words.{inWord};
-ghost use Rattle.walks.specs.Readable.{Readable, nodesIn, valueUnder};
+ghost use Rattle.walks.specs.Readable.{Readable, Roomy, Cleared, nodesIn, valueUnder};
 ghost use Rattle.walks.specs.Constant.{sidesUnder, constantAt, ConstantMemo};
 
 // The value of a node under the word's assignment: the walk from it to a constant.
@@ -40,12 +40,13 @@ pub fn in_word(word: u64, v: u8) -> bool
     (word >> i) % 2 == 1
 }
 
-// Empties the memo.
-pub fn clear_memo(memo: &mut [u64])
-    ensures { λ _. ⌜ now (memo .exit) ≡ replicate (length (now (memo .entry))) 0 ⌝ }
+// Empties the memo's cells for the first `count` nodes.
+pub fn clear_memo(memo: &mut [u64], count: usize)
+    requires { ⌜ count ≤ length (now memo) ⌝ }
+    ensures { λ _. ⌜ Cleared count (now (memo .exit)) ⌝ }
 {
     let mut i: usize = 0;
-    while i < memo.len() {
+    while i < count {
         memo[i] = 0;
         i += 1;
     }
@@ -94,10 +95,10 @@ pub fn is_constant(
     negative: u64,
     one: bool,
 ) -> bool
-    requires { ⌜ Readable (now vars) (now lows) (now highs) count × (f .0 < count) × (0 < length (now memo)) ⌝ }
+    requires { ⌜ Readable (now vars) (now lows) (now highs) count × (f .0 < count) × Roomy (now vars) (now memo) ⌝ }
     ensures { λ r. ⌜ r ≡ constantAt (nodesIn (now (vars .entry)) (now (lows .entry)) (now (highs .entry)) count) positive negative one (f .0) ⌝ }
 {
-    clear_memo(memo);
+    clear_memo(memo, count);
     constant_from(vars, lows, highs, memo, count, f, positive, negative, one)
 }
 
@@ -113,7 +114,7 @@ pub fn constant_from(
     negative: u64,
     one: bool,
 ) -> bool
-    requires { ⌜ Readable (now vars) (now lows) (now highs) count × (f .0 < count) × (0 < length (now memo)) ⌝ }
+    requires { ⌜ Readable (now vars) (now lows) (now highs) count × (f .0 < count) × Roomy (now vars) (now memo) ⌝ }
     requires { ⌜ ConstantMemo (now memo) (nodesIn (now vars) (now lows) (now highs) count) positive negative one ⌝ }
     ensures { λ r. ⌜ r ≡ constantAt (nodesIn (now (vars .entry)) (now (lows .entry)) (now (highs .entry)) count) positive negative one (f .0) ⌝ }
     ensures { λ _. ⌜ ConstantMemo (now (memo .exit)) (nodesIn (now (vars .entry)) (now (lows .entry)) (now (highs .entry)) count) positive negative one ⌝ }
@@ -125,8 +126,7 @@ pub fn constant_from(
         return one;
     }
     let i = f.0 as usize;
-    let s = i % memo.len();
-    if memo[s] == f.0 as u64 {
+    if memo[i] == f.0 as u64 {
         return true;
     }
     let sides = sides_of(vars, lows, highs, count, f, positive, negative);
@@ -158,6 +158,6 @@ pub fn constant_from(
     if !high {
         return false;
     }
-    memo[s] = f.0 as u64;
+    memo[i] = f.0 as u64;
     true
 }

@@ -35,7 +35,7 @@ loop-holds c =
     let a = c .before .before .before .before .before .before .before .before .before .before .before .before .args in (
       refl,
       omega arith,
-      negations-cleared (tableOf (a .vars .now) (a .lows .now) (a .highs .now) (a .heads .now) (a .links .now) (a .count)) _ (length (a .memo .now)) (c .before .before .clear-memo .ensures),
+      negations-cleared (tableOf (a .vars .now) (a .lows .now) (a .highs .now) (a .heads .now) (a .links .now) (a .count)) _ (c .before .before .clear-memo .ensures),
       refl,
     )
 

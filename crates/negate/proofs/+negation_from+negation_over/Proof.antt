@@ -1,8 +1,7 @@
 -- `negation_from` and `negation_over` give the negation's node or say that there is none, and the memo stays right. Twice the node's number
 -- falls, and one more for the first. Assumes nothing.
 use mathlib.Core.Path.{_≡_, sym, _∙_, subst}
-use Prim.Native.Nat.{ℕ, _+_, _*_, _%_, _≤_, _<_}
-use native.Mathlib.Nat.{mod-lt}
+use Prim.Native.Nat.{ℕ, _+_, _*_, _≤_, _<_}
 use native.Mathlib.Omega.{arith}
 use lib.ListN.{length, set, length-set}
 use borrow.Author.Needs.{needs}
@@ -74,8 +73,8 @@ module _ {t : ℕ} (s : negation-from-lts.Start (negation-from-callees t) (negat
   measure : 2 * s .args .f .0 + 1 ≡ t
   measure = s .pre .0
 
-  slot-inside : s .args .f .0 % length (s .args .memo .now) < length (s .args .memo .now)
-  slot-inside = mod-lt (s .args .f .0) (ready .room)
+  cell-inside : s .args .f .0 < length (s .args .memo .now)
+  cell-inside = omega (arith, ready .room, ready .inside, ready .good .within)
 
 -- past the two constants
 two : {t : ℕ} (e : negation-from-lts.Else2 (negation-from-callees t) (negation-from-at t) negation-from.Post) → 2 ≤ e .before .before .before .before .before .before .before .before .before .before .args .f .0
@@ -109,15 +108,12 @@ negation-from-returns-2 t c =
 negation-from-cast-i : (t : ℕ) → negation-from-lts.Need-cast-i (negation-from-callees t) (negation-from-at t) negation-from.Post
 negation-from-cast-i t c = search needs
 
-negation-from-rem-s : (t : ℕ) → negation-from-lts.Need-rem-s (negation-from-callees t) (negation-from-at t) negation-from.Post
-negation-from-rem-s t c = omega (arith, ready (c .before .before .before .before .before .before .before .before .before .before .before) .room)
-
 negation-from-mul-e : (t : ℕ) → negation-from-lts.Need-mul-e (negation-from-callees t) (negation-from-at t) negation-from.Post
 negation-from-mul-e t c =
-    omega (arith, slot-inside (c .before .before .before .before .before .before .before .before .before .before .before), c .before .before .before .before .before .before .before .before .before .before .before .good, c .before .before .before .before .before .before .before .before .before .before .before .fits)
+    omega (arith, cell-inside (c .before .before .before .before .before .before .before .before .before .before .before), c .before .before .before .before .before .before .before .before .before .before .before .good, c .before .before .before .before .before .before .before .before .before .before .before .fits)
 
 negation-from-slice-read-e : (t : ℕ) → negation-from-lts.Need-slice-read-e (negation-from-callees t) (negation-from-at t) negation-from.Post
-negation-from-slice-read-e t c = slot-inside (c .before .before .before .before .before .before .before .before .before .before .before .before)
+negation-from-slice-read-e t c = cell-inside (c .before .before .before .before .before .before .before .before .before .before .before .before)
 
 negation-from-cast-if3 : (t : ℕ) → negation-from-lts.Need-cast-if3 (negation-from-callees t) (negation-from-at t) negation-from.Post
 negation-from-cast-if3 t c = search needs
@@ -128,7 +124,7 @@ negation-from-found-in-requires t c κs = search needs
 negation-from-returns-3 : (t : ℕ) → negation-from-lts.Need-returns-3 (negation-from-callees t) (negation-from-at t) negation-from.Post
 negation-from-returns-3 t c =
     let s = c .before .before .before .before .before .before .before .before .before .before .before .before .before .before .before in
-    (subst (Negates (table s) (s .args .f .0)) (sym (c .found-in .ensures)) (negation-known (table s) (s .args .memo .now) _ (s .args .f .0) (ready s .right) (c .before .if3 .taken) (two (c .before .before .before .before .before))), ready s .right)
+    (subst (Negates (table s) (s .args .f .0)) (sym (c .found-in .ensures)) (negation-known (table s) (s .args .memo .now) (s .args .f .0) (ready s .inside) (ready s .right) (c .before .if3 .taken) (two (c .before .before .before .before .before))), ready s .right)
 
 negation-from-negation-over-requires : (t : ℕ) → negation-from-lts.Need-negation-over-requires (negation-from-callees t) (negation-from-at t) negation-from.Post
 negation-from-negation-over-requires t c κs =
@@ -139,11 +135,11 @@ negation-from-entry-of-requires t c κs = search needs
 
 negation-from-mul-memo : (t : ℕ) → negation-from-lts.Need-mul-memo (negation-from-callees t) (negation-from-at t) negation-from.Post
 negation-from-mul-memo t c =
-    omega (arith, slot-inside (c .before .before .before .before .before .before .before .before .before .before .before .before .before .before .before .before .before .before .before), c .before .before .before .before .before .before .before .before .before .before .before .before .before .before .before .before .before .before .before .good, c .before .before .before .before .before .before .before .before .before .before .before .before .before .before .before .before .before .before .before .fits)
+    omega (arith, cell-inside (c .before .before .before .before .before .before .before .before .before .before .before .before .before .before .before .before .before .before .before), c .before .before .before .before .before .before .before .before .before .before .before .before .before .before .before .before .before .before .before .good, c .before .before .before .before .before .before .before .before .before .before .before .before .before .before .before .before .before .before .before .fits)
 
 negation-from-slice-write-memo : (t : ℕ) → negation-from-lts.Need-slice-write-memo (negation-from-callees t) (negation-from-at t) negation-from.Post
 negation-from-slice-write-memo t c =
-    omega (arith, slot-inside (c .before .before .before .before .before .before .before .before .before .before .before .before .before .before .before .before .before .before .before), c .before .before .before .negation-over .kept .1 .1 .1 .1 .1 .0)
+    omega (arith, cell-inside (c .before .before .before .before .before .before .before .before .before .before .before .before .before .before .before .before .before .before .before), c .before .before .before .negation-over .kept .1 .1 .1 .1 .1 .0)
 
 negation-from-same-length : (t : ℕ) → negation-from-lts.Need-same-length (negation-from-callees t) (negation-from-at t) negation-from.Post
 negation-from-same-length t c =
@@ -154,8 +150,8 @@ negation-from-returns-4 t c =
     let s = c .before .before .before .before .before .before .before .before .before .before .before .before .before .before .before .before .before .before .before in
     let k = c .before .before .before .negation-over in (
       k .ensures .0,
-      subst (λ (e : ℕ). NegationMemo (set (k .last .1 .1 .1 .1 .1 .0) (s .args .f .0 % length (s .args .memo .now)) e) (table s)) (sym (c .entry-of .ensures))
-          (negation-stored (table s) (k .last .1 .1 .1 .1 .1 .0) (ready s .good) _ (s .args .f .0) (k .result) (omega (arith, slot-inside s, k .kept .1 .1 .1 .1 .1 .0)) (k .ensures .1) (k .ensures .0)),
+      subst (λ (e : ℕ). NegationMemo (set (k .last .1 .1 .1 .1 .1 .0) (s .args .f .0) e) (table s)) (sym (c .entry-of .ensures))
+          (negation-stored (table s) (k .last .1 .1 .1 .1 .1 .0) (ready s .good) (s .args .f .0) (k .result) (omega (arith, cell-inside s, k .kept .1 .1 .1 .1 .1 .0)) (k .ensures .1) (k .ensures .0)),
     )
 
 negation-over-cast-i : (t : ℕ) → negation-over-lts.Need-cast-i (negation-over-callees t) (negation-over-at t) negation-over.Post
@@ -256,7 +252,6 @@ pub +negation-from+negation-over-spec : {M : Type 1} → statement M
     (negation-from-returns t)
     (negation-from-returns-2 t)
     (negation-from-cast-i t)
-    (negation-from-rem-s t)
     (negation-from-mul-e t)
     (negation-from-slice-read-e t)
     (negation-from-cast-if3 t)

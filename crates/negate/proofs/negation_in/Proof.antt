@@ -1,7 +1,7 @@
 -- `negation_in` starts from an empty memo. Assumes nothing.
 use native.Mathlib.Omega.{arith}
-use lib.ListN.{length}
 use borrow.Author.Needs.{needs}
+use Rattle.table.specs.Indexed.{tableOf}
 use Rattle.negate.proofs.Entries.{negations-cleared}
 use Rattle.negate.proofs.negation_in.Statement.{statement}
 use Rattle.negate.proofs.negation_in.Tie as tie
@@ -13,7 +13,7 @@ negation-from-requires : tie.Need-negation-from-requires
 negation-from-requires c κs =
     let s = c .before .before .before .before .before .before .before .before .before .before .before in
     let k = c .before .before .before .clear-memo in
-    record { good = s .pre .0; inside = s .pre .1; room = omega (arith, s .pre .2, k .kept); right = negations-cleared _ _ (length (s .args .memo .now)) (k .ensures) }
+    record { good = s .pre .0; inside = s .pre .1; room = omega (arith, s .pre .2, k .kept); right = negations-cleared (tableOf (s .args .vars .now) (s .args .lows .now) (s .args .highs .now) (s .args .heads .now) (s .args .links .now) (s .args .count)) _ (k .ensures) }
 
 same-length : tie.Need-same-length
 same-length c = search needs

@@ -34,7 +34,7 @@ clear-memo-requires c κs = search needs
 loop-holds : tie.Need-loop-holds Inv-loop μ-loop
 loop-holds c =
     let a = c .before .before .before .before .before .before .before .before .before .args in
-    (refl, omega arith, units-cleared (nodesIn (a .vars .now) (a .lows .now) (a .highs .now) (a .count)) _ (length (a .memo .now)) (c .before .before .clear-memo .ensures), refl)
+    (refl, omega arith, units-cleared (nodesIn (a .vars .now) (a .lows .now) (a .highs .now) (a .count)) _ (length (a .memo .now)) (c .before .before .clear-memo .kept .0) (c .before .before .clear-memo .ensures), refl)
 
 -- src/lib.rt:74:24
 mul-t13 : tie.Need-mul-t13 Inv-loop μ-loop

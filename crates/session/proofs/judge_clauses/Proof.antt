@@ -39,7 +39,7 @@ judge-proof-requires c κs =
       omega (arith, start .pre .0 .room, after-read-clauses .read-clauses .kept .1 .1 .1 .1 .1 .0),
       start .pre .1 .3,
       start .pre .1 .4 ∙ ap unmarked (sym (after-read-clauses .read-clauses .kept .0)),
-      start .pre .1 .5,
+      omega (arith, start .pre .1 .5, after-read-clauses .read-clauses .kept .0),
     )
 
 same-length : tie.Need-same-length

@@ -1,5 +1,6 @@
 -- `run` leaves the outcome of the whole check: the lists are emptied first, the scratch list last. Assumes nothing.
 use mathlib.Core.Path.{sym, ap, _∙_}
+use native.Mathlib.Omega.{arith}
 use lib.ListN.{length}
 use borrow.Author.Needs.{needs}
 use Rattle.conflict.specs.Marks.{unmarked}
@@ -20,7 +21,7 @@ judge-requires c κs =
     let z = lent-sized _ _ _ _ _ (start .pre .0) in (
       emptied-opened (length (a .vars .now)) (length (a .members .now)) (z .columns .least) (z .columns .most) (z .member-room) _ _ _ _ _ _
           (after-empty .empty .ensures .0) (after-empty .empty .ensures .1 .0 ∙ ap zeros (z .columns .lows)) (after-empty .empty .ensures .1 .1 .0 ∙ ap zeros (z .columns .highs)) (start .pre .1 .0) (start .pre .1 .1) (after-empty .empty .ensures .1 .1 .1),
-      (z .scratch-room, start .pre .1 .2 ∙ ap unmarked (sym (after-empty .empty .kept .0)), start .pre .1 .3),
+      (z .scratch-room, start .pre .1 .2 ∙ ap unmarked (sym (after-empty .empty .kept .0)), omega (arith, start .pre .1 .3, after-empty .empty .kept .0)),
     )
 
 clear-numbers-requires : tie.Need-clear-numbers-requires

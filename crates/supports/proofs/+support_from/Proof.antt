@@ -6,8 +6,8 @@ use native.Mathlib.Omega.{arith}
 use lib.ListN.{length, length-set}
 use borrow.Author.Needs.{needs}
 use Rattle.table.specs.Nodes.{Node, diagramAt}
-use Rattle.walks.specs.Readable.{Readable, nodesIn}
-use Rattle.walks.proofs.Here.{Here, here}
+use Rattle.walks.specs.Readable.{Readable, Roomy, nodesIn}
+use Rattle.walks.proofs.Here.{Here, here, length-in}
 use Rattle.supports.specs.Supports.{Support, SupportMemo}
 use Rattle.supports.proofs.Words.{support-leaf, support-node, memo-known, memo-stored}
 use borrow.Fn.Kinds.{In}
@@ -41,8 +41,14 @@ module _ {t : ℕ} (s : support-from-lts.Start (callees t) (support-from-at t) s
   inside : s .args .f .0 < s .args .count
   inside = s .pre .1 .0 .1
 
-  room : s .args .count ≤ length (s .args .memo .now)
+  room : Roomy (s .args .vars .now) (s .args .memo .now)
   room = s .pre .1 .0 .2
+
+  cell : s .args .f .0 < length (s .args .memo .now)
+  cell = omega (arith, inside, room, readable .within)
+
+  in-nodes : s .args .f .0 < length nodes
+  in-nodes = omega (arith, inside, length-in (s .args .vars .now) (s .args .lows .now) (s .args .highs .now) (s .args .count) readable)
 
   right : SupportMemo (s .args .memo .now) nodes
   right = s .pre .1 .1
@@ -75,11 +81,11 @@ support-from-mul-known t c =
 
 support-from-slice-read-known : (t : ℕ) → support-from-lts.Need-slice-read-known (callees t) (support-from-at t) support-from.Post
 support-from-slice-read-known t c =
-    omega (arith, inside (c .before .before .before .before .before .before .before .before), room (c .before .before .before .before .before .before .before .before))
+    cell (c .before .before .before .before .before .before .before .before)
 
 support-from-returns-2 : (t : ℕ) → support-from-lts.Need-returns-2 (callees t) (support-from-at t) support-from.Post
 support-from-returns-2 t c =
-    let s = c .before .before .before .before .before .before .before .before .before in (memo-known (nodes s) (s .args .memo .now) (s .args .f .0) (right s) (c .if2 .taken), right s)
+    let s = c .before .before .before .before .before .before .before .before .before in (memo-known (nodes s) (s .args .memo .now) (s .args .f .0) (in-nodes s) (right s) (c .if2 .taken), right s)
 
 support-from-shared-slice-read-v : (t : ℕ) → support-from-lts.Need-shared-slice-read-v (callees t) (support-from-at t) support-from.Post
 support-from-shared-slice-read-v t c =
@@ -119,7 +125,7 @@ support-from-mul-memo t c =
 
 support-from-slice-write-memo : (t : ℕ) → support-from-lts.Need-slice-write-memo (callees t) (support-from-at t) support-from.Post
 support-from-slice-write-memo t c =
-    let s = c .before .before .before .before .before .before .before .before .before .before .before .before .before .before .before .before .before .before .before .before .before in omega (arith, inside s, room s, c .before .before .before .before .before .before .before .support-from .kept .1 .1 .1 .0, c .before .before .before .support-from2 .kept .1 .1 .1 .0)
+    let s = c .before .before .before .before .before .before .before .before .before .before .before .before .before .before .before .before .before .before .before .before .before in omega (arith, cell s, c .before .before .before .before .before .before .before .support-from .kept .1 .1 .1 .0, c .before .before .before .support-from2 .kept .1 .1 .1 .0)
 
 support-from-same-length : (t : ℕ) → support-from-lts.Need-same-length (callees t) (support-from-at t) support-from.Post
 support-from-same-length t c =
@@ -133,7 +139,7 @@ support-from-returns-3 t c =
     let is : Support (c .with-variable .result) (diagramAt (nodes s) (s .args .f .0)) =
     subst (λ (x : ℕ). Support x (diagramAt (nodes s) (s .args .f .0))) (sym (c .with-variable .ensures))
     (support-node (s .args .vars .now) (s .args .lows .now) (s .args .highs .now) (s .args .count) (readable s) (s .args .f .0) (two (c .before .before .before .before .before .before .before .before .before .before .before .before .before .before .before)) (inside s) (k₁ .result) (k₂ .result) (k₁ .ensures .0) (k₂ .ensures .0)) in
-    (is, memo-stored (nodes s) (k₂ .last .1 .1 .1 .0) (s .args .f .0) (c .with-variable .result) (omega (arith, inside s, room s, k₁ .kept .1 .1 .1 .0, k₂ .kept .1 .1 .1 .0)) (k₂ .ensures .1) is)
+    (is, memo-stored (nodes s) (k₂ .last .1 .1 .1 .0) (s .args .f .0) (c .with-variable .result) (omega (arith, cell s, k₁ .kept .1 .1 .1 .0, k₂ .kept .1 .1 .1 .0)) (k₂ .ensures .1) is)
 
 pub +support-from-spec : {M : Type 1} → statement M
 +support-from-spec = close μ-support-from λ t. support-from-lts.spec (callees t)

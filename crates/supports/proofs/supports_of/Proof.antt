@@ -5,6 +5,7 @@ use native.Mathlib.Omega.{arith}
 use lib.ListN.{length, length-set}
 use borrow.Author.Needs.{needs}
 use Rattle.walks.specs.Readable.{nodesIn}
+use Rattle.walks.proofs.Here.{length-in}
 use Rattle.supports.specs.Supports.{SupportMemo}
 use Rattle.supports.proofs.Words.{memo-cleared, Filled, filled-none, filled-next, filled-all}
 use Rattle.supports.proofs.supports_of.Statement.{statement}
@@ -20,13 +21,13 @@ abbrev μ-loop : tie.MeasureT-loop
 
 clear-memo-requires : tie.Need-clear-memo-requires Inv-loop μ-loop
 clear-memo-requires c κs =
-    search needs
+    omega (arith, c .before .before .before .before .before .before .before .pre .0 .within, c .before .before .before .before .before .before .before .pre .2)
 
 loop-holds : tie.Need-loop-holds Inv-loop μ-loop
 loop-holds c =
     let a = c .before .before .before .before .before .before .before .before .before .before .args in
     let nodes = nodesIn (a .vars .now) (a .lows .now) (a .highs .now) (a .count) in
-    (filled-none nodes (a .list .now) (a .words .now) (c .before .before .before .before .before .before .before .before .before .before .pre .3), memo-cleared nodes _ (length (a .memo .now)) (c .before .before .clear-memo .ensures), refl, refl)
+    (filled-none nodes (a .list .now) (a .words .now) (c .before .before .before .before .before .before .before .before .before .before .pre .3), memo-cleared nodes _ (a .count) (length-in (a .vars .now) (a .lows .now) (a .highs .now) (a .count) (c .before .before .before .before .before .before .before .before .before .before .pre .0)) (c .before .before .clear-memo .ensures), refl, refl)
 
 mul-t13 : tie.Need-mul-t13 Inv-loop μ-loop
 mul-t13 c =

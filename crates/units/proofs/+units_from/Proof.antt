@@ -6,7 +6,7 @@ use native.Mathlib.Omega.{arith}
 use lib.ListN.{length}
 use borrow.Author.Needs.{needs}
 use Rattle.table.specs.Nodes.{Node}
-use Rattle.walks.specs.Readable.{Readable, nodesIn}
+use Rattle.walks.specs.Readable.{Readable, Roomy, nodesIn}
 use Rattle.walks.proofs.Here.{Here, here}
 use Rattle.units.specs.declared.Units.{Units}
 use Rattle.units.specs.Units.{UnitsAt, UnitsMemo}
@@ -47,7 +47,7 @@ module _ {t : ℕ} (s : units-from-lts.Start (units-from-callees t) (units-from-
   inside : s .args .f .0 < s .args .count
   inside = s .pre .1 .0 .1
 
-  room : 3 ≤ length (s .args .memo .now)
+  room : Roomy (s .args .vars .now) (s .args .memo .now)
   room = s .pre .1 .0 .2
 
   right : UnitsMemo (s .args .memo .now) nodes
@@ -84,7 +84,7 @@ units-from-returns-2 t c =
     let s = c .before .before .before .before .before .before .before .before in (subst (λ (k : ℕ). UnitsAt (nodes s) k 0 0) (sym (c .if2 .taken)) (units-one (nodes s)), right s)
 
 units-from-slot-of-requires : (t : ℕ) → units-from-lts.Need-slot-of-requires (units-from-callees t) (units-from-at t) units-from.Post
-units-from-slot-of-requires t c κs = room (c .before .before .before .before .before .before .before .before)
+units-from-slot-of-requires t c κs = omega (arith, room (c .before .before .before .before .before .before .before .before))
 
 units-from-mul-if3 : (t : ℕ) → units-from-lts.Need-mul-if3 (units-from-callees t) (units-from-at t) units-from.Post
 units-from-mul-if3 t c = search needs

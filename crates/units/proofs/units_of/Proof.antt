@@ -13,7 +13,7 @@ units-from-requires : tie.Need-units-from-requires
 units-from-requires c κs =
     let s = c .before .before .before .before .before .before .before .before .before in
     let k = c .before .before .before .clear-memo in
-    ((s .pre .0, s .pre .1, omega (arith, s .pre .2, k .kept)), units-cleared _ _ (length (s .args .memo .now)) (k .ensures))
+    ((s .pre .0, s .pre .1, omega (arith, s .pre .2, k .kept)), units-cleared _ _ (length (s .args .memo .now)) (k .kept .0) (k .ensures))
 
 same-length : tie.Need-same-length
 same-length c = search needs

@@ -2,8 +2,7 @@
 use mathlib.Core.Path.{_≡_, sym, ap, ap₂, _∙_, subst}
 use mathlib.Core.Bool.{Bool, true, _&&_}
 use mathlib.Core.List.{List}
-use Prim.Native.Nat.{ℕ, _%_, _≤_, _<_}
-use native.Mathlib.Nat.{mod-lt}
+use Prim.Native.Nat.{ℕ, _≤_, _<_}
 use native.Mathlib.Omega.{arith}
 use lib.ListN.{length, length-set}
 use borrow.Author.Needs.{needs}
@@ -12,8 +11,9 @@ use borrow.Fn.Kinds.{In}
 use Rattle.table.specs.Nodes.{Node}
 use Rattle.meaning.proofs.Booleans.{and-false}
 use Rattle.walks.specs.declared.Sides.{Sides}
-use Rattle.walks.specs.Readable.{Readable, nodesIn}
+use Rattle.walks.specs.Readable.{Readable, Roomy, nodesIn}
 use Rattle.walks.specs.Constant.{constantAt, sidesUnder, ConstantMemo}
+use Rattle.walks.proofs.Here.{length-in}
 use Rattle.walks.proofs.Constant.{constant-zero, constant-one, constant-known, constant-stored, side-less, constant-node}
 use borrow.Fn.PlainCycle.{Measures, is, falls, and}
 use Rattle.walks.proofs.constant_from.Reads as constant-from
@@ -60,7 +60,7 @@ module _ {t : ℕ} (s : constant-from-lts.Start (constant-from-callees t) (const
   inside : s .args .f .0 < s .args .count
   inside = s .pre .1 .0 .1
 
-  room : 0 < length (s .args .memo .now)
+  room : Roomy (s .args .vars .now) (s .args .memo .now)
   room = s .pre .1 .0 .2
 
   right : Right (s .args .memo .now)
@@ -69,8 +69,11 @@ module _ {t : ℕ} (s : constant-from-lts.Start (constant-from-callees t) (const
   measure : s .args .f .0 ≡ t
   measure = s .pre .0
 
-  slot-inside : s .args .f .0 % length (s .args .memo .now) < length (s .args .memo .now)
-  slot-inside = mod-lt (s .args .f .0) room
+  cell-inside : s .args .f .0 < length (s .args .memo .now)
+  cell-inside = omega (arith, room, inside, readable .within)
+
+  in-nodes : s .args .f .0 < length nodes
+  in-nodes = omega (arith, inside, length-in (s .args .vars .now) (s .args .lows .now) (s .args .highs .now) (s .args .count) readable)
 
 -- past the two leaves
 module _ {t : ℕ} (e : constant-from-lts.Else2 (constant-from-callees t) (constant-from-at t) constant-from.Post) where
@@ -114,22 +117,19 @@ constant-from-returns-2 t c =
 constant-from-cast-i : (t : ℕ) → constant-from-lts.Need-cast-i (constant-from-callees t) (constant-from-at t) constant-from.Post
 constant-from-cast-i t c = search needs
 
-constant-from-rem-s : (t : ℕ) → constant-from-lts.Need-rem-s (constant-from-callees t) (constant-from-at t) constant-from.Post
-constant-from-rem-s t c = search needs
-
 constant-from-mul-if3 : (t : ℕ) → constant-from-lts.Need-mul-if3 (constant-from-callees t) (constant-from-at t) constant-from.Post
 constant-from-mul-if3 t c =
-    omega (arith, slot-inside (c .before .before .before .before .before .before .before .before .before), c .before .before .before .before .before .before .before .before .before .good, c .before .before .before .before .before .before .before .before .before .fits)
+    omega (arith, cell-inside (c .before .before .before .before .before .before .before .before .before), c .before .before .before .before .before .before .before .before .before .good, c .before .before .before .before .before .before .before .before .before .fits)
 
 constant-from-slice-read-if3 : (t : ℕ) → constant-from-lts.Need-slice-read-if3 (constant-from-callees t) (constant-from-at t) constant-from.Post
-constant-from-slice-read-if3 t c = slot-inside (c .before .before .before .before .before .before .before .before .before .before)
+constant-from-slice-read-if3 t c = cell-inside (c .before .before .before .before .before .before .before .before .before .before)
 
 constant-from-cast-if3 : (t : ℕ) → constant-from-lts.Need-cast-if3 (constant-from-callees t) (constant-from-at t) constant-from.Post
 constant-from-cast-if3 t c = search needs
 
 constant-from-returns-3 : (t : ℕ) → constant-from-lts.Need-returns-3 (constant-from-callees t) (constant-from-at t) constant-from.Post
 constant-from-returns-3 t c =
-    (sym (constant-known (nodes (c .before .before .before .before .before .before .before .before .before .before .before .before)) (c .before .before .before .before .before .before .before .before .before .before .before .before .args .positive) (c .before .before .before .before .before .before .before .before .before .before .before .before .args .negative) (c .before .before .before .before .before .before .before .before .before .before .before .before .args .one) (c .before .before .before .before .before .before .before .before .before .before .before .before .args .memo .now) _ _ (right (c .before .before .before .before .before .before .before .before .before .before .before .before)) (c .if3 .taken) (two (c .before .before .before .before))), right (c .before .before .before .before .before .before .before .before .before .before .before .before))
+    (sym (constant-known (nodes (c .before .before .before .before .before .before .before .before .before .before .before .before)) (c .before .before .before .before .before .before .before .before .before .before .before .before .args .positive) (c .before .before .before .before .before .before .before .before .before .before .before .before .args .negative) (c .before .before .before .before .before .before .before .before .before .before .before .before .args .one) (c .before .before .before .before .before .before .before .before .before .before .before .before .args .memo .now) _ (in-nodes (c .before .before .before .before .before .before .before .before .before .before .before .before)) (right (c .before .before .before .before .before .before .before .before .before .before .before .before)) (c .if3 .taken) (two (c .before .before .before .before))), right (c .before .before .before .before .before .before .before .before .before .before .before .before))
 
 constant-from-sides-of-requires : (t : ℕ) → constant-from-lts.Need-sides-of-requires (constant-from-callees t) (constant-from-at t) constant-from.Post
 constant-from-sides-of-requires t c κs =
@@ -170,11 +170,11 @@ constant-from-cast-memo t c = search needs
 
 constant-from-mul-memo : (t : ℕ) → constant-from-lts.Need-mul-memo (constant-from-callees t) (constant-from-at t) constant-from.Post
 constant-from-mul-memo t c =
-    omega (arith, slot-inside (c .before .before .before .before .before .before .before .before .before .before .before .before .before .before .before .before .before .before .before .before .before .before .before .before), c .before .before .before .before .before .before .before .before .before .before .before .before .before .before .before .before .before .before .before .before .before .before .before .before .good, c .before .before .before .before .before .before .before .before .before .before .before .before .before .before .before .before .before .before .before .before .before .before .before .before .fits)
+    omega (arith, cell-inside (c .before .before .before .before .before .before .before .before .before .before .before .before .before .before .before .before .before .before .before .before .before .before .before .before), c .before .before .before .before .before .before .before .before .before .before .before .before .before .before .before .before .before .before .before .before .before .before .before .before .good, c .before .before .before .before .before .before .before .before .before .before .before .before .before .before .before .before .before .before .before .before .before .before .before .before .fits)
 
 constant-from-slice-write-memo : (t : ℕ) → constant-from-lts.Need-slice-write-memo (constant-from-callees t) (constant-from-at t) constant-from.Post
 constant-from-slice-write-memo t c =
-    omega (arith, slot-inside (c .before .before .before .before .before .before .before .before .before .before .before .before .before .before .before .before .before .before .before .before .before .before .before .before), c .before .before .before .before .before .before .before .before .before .constant-from .kept .1 .1 .1 .0, c .before .before .before .before .constant-from2 .kept .1 .1 .1 .0)
+    omega (arith, cell-inside (c .before .before .before .before .before .before .before .before .before .before .before .before .before .before .before .before .before .before .before .before .before .before .before .before), c .before .before .before .before .before .before .before .before .before .constant-from .kept .1 .1 .1 .0, c .before .before .before .before .constant-from2 .kept .1 .1 .1 .0)
 
 constant-from-same-length-3 : (t : ℕ) → constant-from-lts.Need-same-length-3 (constant-from-callees t) (constant-from-at t) constant-from.Post
 constant-from-same-length-3 t c =
@@ -189,8 +189,8 @@ constant-from-returns-6 t c =
     let is : constant s (s .args .f .0) ≡ true = from-both a
     ∙ ap₂ _&&_ (sym (k₁ .ensures .0) ∙ not-false _ (c .before .before .before .before .before .before .if4 .left)) (sym (k₂ .ensures .0) ∙ not-false _ (c .before .if5 .left)) in (
       sym is,
-      constant-stored (nodes s) (s .args .positive) (s .args .negative) (s .args .one) (k₂ .last .1 .1 .1 .0) _ (s .args .f .0)
-          (omega (arith, slot-inside s, k₁ .kept .1 .1 .1 .0, k₂ .kept .1 .1 .1 .0)) (k₂ .ensures .1) is,
+      constant-stored (nodes s) (s .args .positive) (s .args .negative) (s .args .one) (k₂ .last .1 .1 .1 .0) (s .args .f .0)
+          (omega (arith, cell-inside s, k₁ .kept .1 .1 .1 .0, k₂ .kept .1 .1 .1 .0)) (k₂ .ensures .1) is,
     )
 
 pub +constant-from-spec : {M : Type 1} → statement M
@@ -200,7 +200,6 @@ pub +constant-from-spec : {M : Type 1} → statement M
     (constant-from-returns t)
     (constant-from-returns-2 t)
     (constant-from-cast-i t)
-    (constant-from-rem-s t)
     (constant-from-mul-if3 t)
     (constant-from-slice-read-if3 t)
     (constant-from-cast-if3 t)

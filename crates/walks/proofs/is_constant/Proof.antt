@@ -1,7 +1,10 @@
 -- `is_constant` starts from an empty memo. Assumes nothing.
+use mathlib.Core.Path.{sym, subst}
+use Prim.Native.Nat.{ℕ}
 use native.Mathlib.Omega.{arith}
-use lib.ListN.{length}
 use borrow.Author.Needs.{needs}
+use Rattle.walks.specs.Readable.{Cleared, nodesIn}
+use Rattle.walks.proofs.Here.{length-in}
 use Rattle.walks.proofs.Constant.{constant-cleared}
 use Rattle.walks.proofs.is_constant.Statement.{statement}
 use Rattle.walks.proofs.is_constant.Tie as tie
@@ -13,7 +16,7 @@ constant-from-requires : tie.Need-constant-from-requires
 constant-from-requires c κs =
     let s = c .before .before .before .before .before .before .before .before .before in
     let k = c .before .before .before .clear-memo in
-    ((s .pre .0, s .pre .1, omega (arith, s .pre .2, k .kept)), constant-cleared _ _ _ _ _ (length (s .args .memo .now)) (k .ensures))
+    ((s .pre .0, s .pre .1, omega (arith, s .pre .2, k .kept)), constant-cleared (nodesIn (s .args .vars .now) (s .args .lows .now) (s .args .highs .now) (s .args .count)) _ _ _ _ (subst (λ (m : ℕ). Cleared m (k .last .0)) (sym (length-in _ _ _ _ (s .pre .0))) (k .ensures)))
 
 same-length : tie.Need-same-length
 same-length c = search needs

@@ -45,7 +45,7 @@ slice-aggregate-run-4 c =
 run-requires : tie.Need-run-requires
 run-requires c κs =
     let start = c .before .before .before .before .before .before .before .before .before .before .before .before .before .before .before .before in
-    (start .pre .0, (part-zeros (2 * (length (start .args .vars .now))) 8192 (omega (arith, start .pre .1)), part-zeros (length (start .args .vars .now)) 4096 (omega (arith, start .pre .1)), part-zeros (length (start .args .vars .now)) 4096 (omega (arith, start .pre .1)), omega (arith, length-whole 8192)))
+    (start .pre .0, (part-zeros (2 * (length (start .args .vars .now))) 8192 (omega (arith, start .pre .1)), part-zeros (length (start .args .vars .now)) 4096 (omega (arith, start .pre .1)), part-zeros (length (start .args .vars .now)) 4096 (omega (arith, start .pre .1)), omega (arith, length-whole 8192, start .pre .1)))
 
 same-length : tie.Need-same-length
 same-length c =
