@@ -1,67 +1,59 @@
+-- `copy_words` leaves the list that it was given. The invariant: the places passed are alike. Assumes nothing.
+use mathlib.Core.Path.{_≡_, refl, _∙_}
+use Prim.Native.Nat.{_-_, _≤_, _<_}
+use native.Mathlib.Omega.{arith}
+use lib.ListN.{length, getD, length-set}
+use borrow.Author.Needs.{needs}
+use Rattle.judge.proofs.Copies.{Alike, alike-one, alike-all}
 use Rattle.judge.proofs.copy_words.Statement.{statement}
 use Rattle.judge.proofs.copy_words.Tie as tie
-use Rattle.judge.proofs.copy_words.Reads as reads
-use Rattle.judge.proofs.copy_words.Lts as lts
 
 abbrev Inv-loop : tie.InvT-loop
-Inv-loop from to₀ i₀ to i = ?
+Inv-loop from to₀ i₀ to i = (length to ≡ length to₀) × (i ≤ length from) × Alike from to i
 
 abbrev μ-loop : tie.MeasureT-loop
-μ-loop from to₀ i₀ to i = ?
+μ-loop from to₀ i₀ to i = length from - i
 
--- src/lib.rt:44:5
 loop-holds : tie.Need-loop-holds Inv-loop μ-loop
-loop-holds c = ?
+loop-holds c = (refl, omega arith, λ k p. absurd (omega arith))
 
--- src/lib.rt:45:17
 mul-to : tie.Need-mul-to Inv-loop μ-loop
-mul-to c = ?
+mul-to c = search needs
 
--- src/lib.rt:45:17
 shared-slice-read-to : tie.Need-shared-slice-read-to Inv-loop μ-loop
-shared-slice-read-to c = ?
+shared-slice-read-to c = search needs
 
--- src/lib.rt:45:9
 mul-to-2 : tie.Need-mul-to-2 Inv-loop μ-loop
-mul-to-2 c = ?
+mul-to-2 c = search needs
 
--- src/lib.rt:45:9
 slice-write-to : tie.Need-slice-write-to Inv-loop μ-loop
-slice-write-to c = ?
+slice-write-to c = search needs
 
--- src/lib.rt:46:9
 add-i : tie.Need-add-i Inv-loop μ-loop
-add-i c = ?
+add-i c = search needs
 
--- src/lib.rt:44:5
 loop-less : tie.Need-loop-less Inv-loop μ-loop
-loop-less c = ?
+loop-less c = search needs
 
--- src/lib.rt:44:5
 loop-again : tie.Need-loop-again Inv-loop μ-loop
-loop-again c = ?
+loop-again c =
+    let w = c .before .before .loop in
+    let from = c .before .before .before .args .from .now in
+    let inside : w .i < length (w .to) = search needs in (
+      length-set (w .to) (w .i) (getD from (w .i) 0) ∙ w .inv .0,
+      omega (arith, c .before .loop-test .taken),
+      alike-one from (w .to) (w .i) inside (w .inv .2),
+    )
 
--- src/lib.rt:39:1
 same-length : tie.Need-same-length Inv-loop μ-loop
-same-length c = ?
+same-length c = search needs
 
--- src/lib.rt:39:1
 returns : tie.Need-returns Inv-loop μ-loop
-returns c = ?
+returns c =
+    let w = c .before .loop in
+    let from = c .before .before .args .from .now in
+    let len : length (w .to) ≡ length from = w .inv .0 ∙ c .before .before .pre in
+    alike-all from (w .to) (w .i) len (omega (arith, c .loop-test .left)) (w .inv .2)
 
 pub copy-words-spec : {M : Type 1} → statement M
-copy-words-spec =
-    tie.close
-    (tie.spec
-    Inv-loop
-    μ-loop
-    loop-holds
-    mul-to
-    shared-slice-read-to
-    mul-to-2
-    slice-write-to
-    add-i
-    loop-less
-    loop-again
-    same-length
-    returns)
+copy-words-spec = tie.close (tie.spec Inv-loop μ-loop loop-holds mul-to shared-slice-read-to mul-to-2 slice-write-to add-i loop-less loop-again same-length returns)
