@@ -12,7 +12,8 @@ use Rattle.meaning.proofs.Booleans.{t≢f, both-ways, or-cases, or-left, or-rig
 use Rattle.meaning.proofs.Values.{diagram-is}
 use Rattle.meaning.proofs.Clauses.{clauseFrom, clauseFrom-reduced, clauseFrom-true, true-clauseFrom, clause-skip, clause-tautology}
 use Rattle.clause.specs.Words.{wordsValue, clauseOfWords}
-use Rattle.clause.proofs.Words.{and-in-word, zero-in-word, some-in-word}
+use Rattle.meaning.proofs.Words.{in-and, in-none}
+use Rattle.clause.proofs.Words.{some-in-word}
 
 -- the literal of a variable that the assignment makes true
 literal-is : (p n h : Bool) → ((p && h) || (n && not h)) ≡ cond h p n
@@ -65,12 +66,12 @@ module _ (p n : ℕ) where
   both-signs hp hn ne =
       words-are
       ∙ some-in-word 64 (bitAnd p n) (and-lt 64 p n hp hn) ne λ v x y e.
-      let b : (inWord p v ≡ true) × (inWord n v ≡ true) = and-both (inWord p v) (inWord n v) (sym (and-in-word p n v) ∙ e) in
+      let b : (inWord p v ≡ true) × (inWord n v ≡ true) = and-both (inWord p v) (inWord n v) (sym (in-and p n v) ∙ e) in
       clause-tautology (inWord p) (inWord n) 64 1 v x (omega arith) (b .0) (b .1)
 
   -- no variable has both
   pub one-sign : bitAnd p n ≡ 0 → (v : ℕ) → (inWord n v && inWord p v) ≡ false
-  one-sign e v = and-commutes (inWord n v) (inWord p v) ∙ sym (and-in-word p n v) ∙ ap (λ (w : ℕ). inWord w v) e ∙ zero-in-word v
+  one-sign e v = and-commutes (inWord n v) (inWord p v) ∙ sym (in-and p n v) ∙ ap (λ (w : ℕ). inWord w v) e ∙ in-none v
 
 -- "an empty clause is 0" (01, The formula)
 pub no-literal : clauseOfWords 0 0 ≡ leaf false
@@ -79,4 +80,4 @@ no-literal = words-are 0 0 ∙ go 64 1
   where
     go : (k i : ℕ) → clauseWords 0 0 k i ≡ leaf false
     go zero i = refl
-    go (suc k) i = clause-skip (inWord 0) (inWord 0) k i (zero-in-word i) (zero-in-word i) ∙ go k (suc i)
+    go (suc k) i = clause-skip (inWord 0) (inWord 0) k i (in-none i) (in-none i) ∙ go k (suc i)

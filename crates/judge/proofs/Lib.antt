@@ -1,3 +1,4 @@
+pub mod Worded
 pub mod Copies
 pub mod Negations
 pub mod Fits

@@ -1,6 +1,6 @@
 -- The negation of a node, and the members by it. The idea: the negation of what is not 1 is not 0, so that it can be cofactored by,
 -- and one list placed after another is both placed. Assumes nothing.
-use mathlib.Core.Path.{_≡_, refl, sym, ap, ap₂, _∙_}
+use mathlib.Core.Path.{_≡_, refl, sym, ap, ap₂, _∙_, subst}
 use mathlib.Core.Logic.{_≢_}
 use mathlib.Core.Bool.{Bool, true, false}
 use mathlib.Core.List.{List}
@@ -22,11 +22,14 @@ use Rattle.operate.specs.Operate.{result}
 use Rattle.operate.specs.Inner.{applied, Allowed, MemoRight, Ready}
 use Rattle.operate.proofs.Results.{result-reduced}
 use Rattle.verdict.specs.Check.{placedAll}
+use Rattle.supports.specs.Supports.{Support, Supports}
 use Rattle.conflict.specs.Members.{diagramsOf, ListReady}
 use Rattle.propagate.specs.Made.{results, AllMade}
+use Rattle.propagate.specs.Touching.{Touches}
 use Rattle.propagate.proofs.PlacedAll.{first-full, first-placed}
 use Rattle.propagate.proofs.Extended.{longer-extended, extended-trans, diagrams-kept}
-use Rattle.judge.specs.Lines.{Negatable, ByNegation}
+use Rattle.judge.specs.Lines.{Negatable, Worded, ByNegation}
+use Rattle.judge.proofs.Worded.{negation-has, supports-longer}
 
 -- A number that is not 1 has not the diagram 1.
 pub not-one : (T : Table) → Good T → (g : ℕ) → g < T .count → (g ≡ 1 → ⊥) → diagramAt (nodesOf T) g ≢ leaf true
@@ -81,6 +84,15 @@ module _ (T : Table) (list memo : List ℕ) (g : ℕ) (R : Negatable T list memo
         },
         made .inside,
         not-zero,
+      )
+
+      -- and the words are as before, with g's for not-g
+      pub negation-words : (words : List ℕ) (word : ℕ) → Worded T list words g word
+          → (length words ≡ length list) × Supports (nodesOf (o .table)) list words × Touches Cofactor (diagramAt (nodesOf (o .table)) (o .node)) word
+      negation-words words word W = (
+        W .lengths,
+        supports-longer T (o .table) long list words (R .ready .inside) (W .have),
+        subst (Support word) (sym (made .is f)) (negation-has T (R .ready .good) g (R .inside) word (W .has)),
       )
 
       cofactors : results Cofactor (o .table) list (o .node) ≡ byDiagram 64 (negation 64 (diagramAt (nodesOf T) g)) (diagramsOf (nodesOf T) list)

@@ -10,7 +10,7 @@ use Rattle.table.specs.Indexed.{Table, size, Good}
 use Rattle.walks.specs.Readable.{Roomy}
 use Rattle.conflict.specs.Members.{Inside, ListReady}
 use Rattle.propagate.specs.Made.{Extended}
-use Rattle.judge.specs.Lines.{ByNegation}
+use Rattle.judge.specs.Lines.{Negatable, ByNegation}
 
 -- the members by not-g
 pub list-ready : (T : Table) (ms : List Diagram) (g : Diagram) (T′ : Table) (list memo memo′ : List ℕ) → ByNegation T ms g false T′ list → Roomy (T .vars) memo → length memo′ ≡ length memo
@@ -29,3 +29,12 @@ again-ready T T′ list memo memo′ e len R =
 -- a list over a table that has grown
 pub inside-more : (T T′ : Table) (list : List ℕ) → Extended T T′ → Inside (T .count) list → Inside (T′ .count) list
 inside-more T T′ list E h i p = omega (arith, E .more, h i p)
+
+-- the same line with another memo of its length
+pub memo-again : (T : Table) (list memo memo′ : List ℕ) (g : ℕ) → length memo′ ≡ length memo → Negatable T list memo g → Negatable T list memo′ g
+memo-again T list memo memo′ g len R =
+    record {
+      ready = record { good = R .ready .good; inside = R .ready .inside; room = omega (arith, R .ready .room) };
+      inside = R .inside;
+      not-one = R .not-one;
+    }

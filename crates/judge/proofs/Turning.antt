@@ -1,6 +1,6 @@
 -- A PR line's turns: one member's, and those of all, over a table that is the same before each. The idea: what is to be shown is what is
 -- left to be shown, and the rounds are those counted and those to come. Assumes nothing.
-use mathlib.Core.Path.{_≡_, refl, sym, ap, ap₂, _∙_}
+use mathlib.Core.Path.{_≡_, refl, sym, ap, ap₂, _∙_, subst}
 use mathlib.Core.Bool.{Bool, true, false, not, _&&_}
 use mathlib.Core.List.{List, [], _∷_, _++_}
 use Prim.Native.Nat.{ℕ, suc, _+_, _*_, _≤_, _<_}
@@ -24,11 +24,13 @@ use Rattle.operate.specs.Operate.{result}
 use Rattle.operate.specs.Inner.{applied, MemoRight, Ready}
 use Rattle.operate.proofs.Results.{result-reduced}
 use Rattle.verdict.specs.Check.{placedAll, isSome, turnsFit, lineFits}
+use Rattle.supports.specs.Supports.{Support}
 use Rattle.conflict.specs.Members.{diagramsOf, ListReady}
 use Rattle.propagate.proofs.PlacedAll.{first-full, first-placed}
 use Rattle.propagate.proofs.Extended.{longer-extended, extended-same, extended-trans, diagrams-kept}
 use Rattle.judge.specs.declared.Judged.{Judged}
-use Rattle.judge.specs.Lines.{Negatable, Says}
+use Rattle.judge.specs.Lines.{Negatable, Worded, Says}
+use Rattle.judge.proofs.Worded.{literals-has, supports-longer}
 use Rattle.judge.proofs.Fits.{propagation, rup-fits, turns-fit, constant-turn, turn-shown, turn-rounds, turn-fits, GoesOn, Stops, goes-on, stops}
 
 abbrev pub judgedAs : Bool → Bool → ℕ → ℕ → Judged
@@ -110,6 +112,15 @@ module _ (T : Table) (list memo : List ℕ) (R : ListReady T list memo) (f p n :
             };
             inside = made .inside;
             not-one = not-one;
+          }
+
+      -- the words are as before, with the member's for h
+      pub turn-worded : (words : List ℕ) (word : ℕ) → Worded T list words f word → Worded (o .table) list words (o .node) word
+      turn-worded words word W =
+          record {
+            lengths = W .lengths;
+            have = supports-longer T (o .table) long list words (R .inside) (W .have);
+            has = subst (Support word) (sym (made .is q)) (literals-has T (R .good) f inside word (W .has) p n);
           }
 
       abbrev Rup : Line

@@ -4,11 +4,14 @@ use mathlib.Core.Bool.{Bool, false, not, cond}
 use mathlib.Core.List.{List}
 use mathlib.Core.Option.{none, some}
 use Prim.Native.Nat.{ℕ, _≤_, _<_}
+use lib.ListN.{length}
 use Rattle.meaning.specs.Diagram.{Diagram}
 use Rattle.meaning.specs.Operations.{negation}
 use Rattle.meaning.specs.Rules.{Line, byDiagram, base}
+use Rattle.table.specs.Nodes.{diagramAt}
 use Rattle.table.specs.Indexed.{Table, size, nodesOf}
 use Rattle.verdict.specs.Check.{placedAll, lineFits}
+use Rattle.supports.specs.Supports.{Support, Supports}
 use Rattle.conflict.specs.Members.{diagramsOf, Inside, ListReady}
 use Rattle.propagate.specs.Made.{Extended}
 use Rattle.judge.specs.declared.Judged.{Judged}
@@ -18,6 +21,12 @@ pub record Negatable (t : Table) (members memo : List ℕ) (g : ℕ) : Type 0 wh
   pub ready : ListReady t members memo
   pub inside : g < t .count
   pub not-one : g ≡ 1 → ⊥
+
+-- The words have the listed nodes' variables, one word each, and `word` has those of node g.
+pub record Worded (t : Table) (list words : List ℕ) (g word : ℕ) : Type 0 where
+  pub lengths : length words ≡ length list
+  pub have : Supports (nodesOf t) list words
+  pub has : Support word (diagramAt (nodesOf t) g)
 
 -- The negation of g and then the members by it were placed, up to the one that found no room; the table is then t′, and where all
 -- found room the list has the members by not-g.

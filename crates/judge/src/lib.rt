@@ -3,6 +3,7 @@ use operate::Operation;
 use propagate::Made;
 use table::NodeNo;
 ghost use mathlib.Core.Path.{_≡_};
+ghost use mathlib.Core.Bool.{false};
 ghost use mathlib.Core.List.{[], _∷_};
 ghost use Prim.Native.Nat.{_*_, _≤_, _<_};
 ghost use lib.ListN.{length};
@@ -12,7 +13,8 @@ ghost use Rattle.table.specs.Nodes.{diagramAt};
 ghost use Rattle.table.specs.Indexed.{tableOf, nodesOf};
 ghost use Rattle.conflict.specs.Members.{diagramsOf, Inside, ListReady};
 ghost use Rattle.conflict.specs.Marks.{unmarked};
-ghost use Rattle.judge.specs.Lines.{Negatable, ByNegation, Says};
+ghost use Rattle.supports.specs.Supports.{Supports};
+ghost use Rattle.judge.specs.Lines.{Negatable, Worded, ByNegation, Says};
 
 // What judging says: `full` where a node found no room, else whether the line is shown, and its rounds; and the count.
 pub struct Judged {
@@ -34,7 +36,19 @@ fn copy(from: &[u16], to: &mut [u16])
     }
 }
 
+fn copy_words(from: &[u64], to: &mut [u64])
+    requires { ⌜ length (now to) ≡ length (now from) ⌝ }
+    ensures { λ _. ⌜ now (to .exit) ≡ now (from .entry) ⌝ }
+{
+    let mut i: usize = 0;
+    while i < from.len() {
+        to[i] = from[i];
+        i += 1;
+    }
+}
+
 // Makes not-g, and fills the list with the members' cofactors by not-g, made in order; or stops at `full`.
+// `given` has the members' variables and `word` those of g; `words` then has the list's.
 fn by_negation(
     vars: &mut [u8],
     lows: &mut [u16],
@@ -43,14 +57,20 @@ fn by_negation(
     links: &mut [u16],
     memo: &mut [u64],
     members: &[u16],
+    given: &[u64],
     list: &mut [u16],
+    words: &mut [u64],
     count: usize,
     g: NodeNo,
+    word: u64,
 ) -> Made
     requires { ⌜ Negatable (tableOf (now vars) (now lows) (now highs) (now heads) (now links) count) (now members) (now memo) (g .0) × (length (now list) ≡ length (now members)) ⌝ }
+    requires { ⌜ Worded (tableOf (now vars) (now lows) (now highs) (now heads) (now links) count) (now members) (now given) (g .0) word × (length (now words) ≡ length (now members)) ⌝ }
     ensures { λ r. ⌜ ByNegation (tableOf (now (vars .entry)) (now (lows .entry)) (now (highs .entry)) (now (heads .entry)) (now (links .entry)) count) (diagramsOf (nodesOf (tableOf (now (vars .entry)) (now (lows .entry)) (now (highs .entry)) (now (heads .entry)) (now (links .entry)) count)) (now (members .entry))) (diagramAt (nodesOf (tableOf (now (vars .entry)) (now (lows .entry)) (now (highs .entry)) (now (heads .entry)) (now (links .entry)) count)) (g .0)) (r .full) (tableOf (now (vars .exit)) (now (lows .exit)) (now (highs .exit)) (now (heads .exit)) (now (links .exit)) (r .count)) (now (list .exit)) ⌝ }
+    ensures { λ r. ⌜ (r .full ≡ false → Supports (nodesOf (tableOf (now (vars .exit)) (now (lows .exit)) (now (highs .exit)) (now (heads .exit)) (now (links .exit)) (r .count))) (now (list .exit)) (now (words .exit))) ⌝ }
 {
     copy(members, list);
+    copy_words(given, words);
     operate::memo::clear_memo(memo);
     let not = operate::apply(
         vars,
@@ -78,14 +98,16 @@ fn by_negation(
         links,
         memo,
         list,
+        words,
         not.count,
         Operation::Cofactor,
         not.node,
+        word,
     )
 }
 
-// The RUP line of node `root`, worked out in `list`. Its nodes stay.
-pub fn rup(
+// The RUP line of node `root`, worked out in `list`, where `given` has the members' variables and `word` those of the root. Its nodes stay.
+fn rup_with(
     vars: &mut [u8],
     lows: &mut [u16],
     highs: &mut [u16],
@@ -94,11 +116,15 @@ pub fn rup(
     memo: &mut [u64],
     marks: &mut [u8],
     members: &[u16],
+    given: &[u64],
     list: &mut [u16],
+    words: &mut [u64],
     count: usize,
     root: NodeNo,
+    word: u64,
 ) -> Judged
     requires { ⌜ Negatable (tableOf (now vars) (now lows) (now highs) (now heads) (now links) count) (now members) (now memo) (root .0) × (now marks ≡ unmarked (length (now vars))) × (length (now list) ≡ length (now members)) ⌝ }
+    requires { ⌜ Worded (tableOf (now vars) (now lows) (now highs) (now heads) (now links) count) (now members) (now given) (root .0) word × (length (now words) ≡ length (now members)) ⌝ }
     ensures { λ r. ⌜ Says (tableOf (now (vars .entry)) (now (lows .entry)) (now (highs .entry)) (now (heads .entry)) (now (links .entry)) count) (rup 64 (diagramsOf (nodesOf (tableOf (now (vars .entry)) (now (lows .entry)) (now (highs .entry)) (now (heads .entry)) (now (links .entry)) count)) (now (members .entry))) (diagramAt (nodesOf (tableOf (now (vars .entry)) (now (lows .entry)) (now (highs .entry)) (now (heads .entry)) (now (links .entry)) count)) (root .0))) 64 r (tableOf (now (vars .exit)) (now (lows .exit)) (now (highs .exit)) (now (heads .exit)) (now (links .exit)) (r .count)) ⌝ }
     ensures { λ _. ⌜ now (marks .exit) ≡ unmarked (length (now (vars .entry))) ⌝ }
 {
@@ -110,9 +136,12 @@ pub fn rup(
         links,
         memo,
         members,
+        given,
         list,
+        words,
         count,
         root,
+        word,
     );
     if made.full {
         return Judged {
@@ -131,6 +160,7 @@ pub fn rup(
         memo,
         marks,
         list,
+        words,
         made.count,
     );
     Judged {
@@ -141,7 +171,49 @@ pub fn rup(
     }
 }
 
-// A member's turn of a PR line, worked out in `second`, where `first` has the members by not-g. Its nodes stay.
+// The RUP line of node `root`, worked out in `list`, with words to work in for the members and for the list. Its nodes stay.
+pub fn rup(
+    vars: &mut [u8],
+    lows: &mut [u16],
+    highs: &mut [u16],
+    heads: &mut [u16],
+    links: &mut [u16],
+    memo: &mut [u64],
+    marks: &mut [u8],
+    members: &[u16],
+    given: &mut [u64],
+    list: &mut [u16],
+    words: &mut [u64],
+    count: usize,
+    root: NodeNo,
+) -> Judged
+    requires { ⌜ Negatable (tableOf (now vars) (now lows) (now highs) (now heads) (now links) count) (now members) (now memo) (root .0) × (now marks ≡ unmarked (length (now vars))) × (length (now list) ≡ length (now members)) ⌝ }
+    requires { ⌜ (length (now given) ≡ length (now members)) × (length (now words) ≡ length (now members)) ⌝ }
+    ensures { λ r. ⌜ Says (tableOf (now (vars .entry)) (now (lows .entry)) (now (highs .entry)) (now (heads .entry)) (now (links .entry)) count) (rup 64 (diagramsOf (nodesOf (tableOf (now (vars .entry)) (now (lows .entry)) (now (highs .entry)) (now (heads .entry)) (now (links .entry)) count)) (now (members .entry))) (diagramAt (nodesOf (tableOf (now (vars .entry)) (now (lows .entry)) (now (highs .entry)) (now (heads .entry)) (now (links .entry)) count)) (root .0))) 64 r (tableOf (now (vars .exit)) (now (lows .exit)) (now (highs .exit)) (now (heads .exit)) (now (links .exit)) (r .count)) ⌝ }
+    ensures { λ _. ⌜ now (marks .exit) ≡ unmarked (length (now (vars .entry))) ⌝ }
+{
+    supports::supports_of(vars, lows, highs, memo, count, members, given);
+    let word = supports::support_from(vars, lows, highs, memo, count, root);
+    rup_with(
+        vars,
+        lows,
+        highs,
+        heads,
+        links,
+        memo,
+        marks,
+        members,
+        given,
+        list,
+        words,
+        count,
+        root,
+        word,
+    )
+}
+
+// A member's turn of a PR line, worked out in `second`, where `first` has the members by not-g, `firsts` their variables
+// and `word` the member's own. Its nodes stay.
 fn turn(
     vars: &mut [u8],
     lows: &mut [u16],
@@ -151,13 +223,17 @@ fn turn(
     memo: &mut [u64],
     marks: &mut [u8],
     first: &[u16],
+    firsts: &[u64],
     second: &mut [u16],
+    seconds: &mut [u64],
     count: usize,
     f: NodeNo,
+    word: u64,
     positive: u64,
     negative: u64,
 ) -> Judged
     requires { ⌜ ListReady (tableOf (now vars) (now lows) (now highs) (now heads) (now links) count) (now first) (now memo) × (now marks ≡ unmarked (length (now vars))) × (length (now second) ≡ length (now first)) × (f .0 < count) ⌝ }
+    requires { ⌜ Worded (tableOf (now vars) (now lows) (now highs) (now heads) (now links) count) (now first) (now firsts) (f .0) word × (length (now seconds) ≡ length (now first)) ⌝ }
     ensures { λ r. ⌜ Says (tableOf (now (vars .entry)) (now (lows .entry)) (now (highs .entry)) (now (heads .entry)) (now (links .entry)) count) (prTurns 64 (inWord positive) (inWord negative) (diagramsOf (nodesOf (tableOf (now (vars .entry)) (now (lows .entry)) (now (highs .entry)) (now (heads .entry)) (now (links .entry)) count)) (now (first .entry))) (diagramAt (nodesOf (tableOf (now (vars .entry)) (now (lows .entry)) (now (highs .entry)) (now (heads .entry)) (now (links .entry)) count)) (f .0) ∷ [])) 64 r (tableOf (now (vars .exit)) (now (lows .exit)) (now (highs .exit)) (now (heads .exit)) (now (links .exit)) (r .count)) ⌝ }
     ensures { λ _. ⌜ now (marks .exit) ≡ unmarked (length (now (vars .entry))) ⌝ }
 {
@@ -190,7 +266,7 @@ fn turn(
             count: h.count,
         };
     }
-    rup(
+    rup_with(
         vars,
         lows,
         highs,
@@ -199,9 +275,12 @@ fn turn(
         memo,
         marks,
         first,
+        firsts,
         second,
+        seconds,
         h.count,
         h.node,
+        word,
     )
 }
 
@@ -215,13 +294,17 @@ fn turns(
     memo: &mut [u64],
     marks: &mut [u8],
     members: &[u16],
+    given: &[u64],
     first: &[u16],
+    firsts: &[u64],
     second: &mut [u16],
+    seconds: &mut [u64],
     count: usize,
     positive: u64,
     negative: u64,
 ) -> Judged
     requires { ⌜ ListReady (tableOf (now vars) (now lows) (now highs) (now heads) (now links) count) (now first) (now memo) × (now marks ≡ unmarked (length (now vars))) × (length (now second) ≡ length (now first)) × Inside count (now members) × (length (now members) ≤ 65536) ⌝ }
+    requires { ⌜ (length (now given) ≡ length (now members)) × Supports (nodesOf (tableOf (now vars) (now lows) (now highs) (now heads) (now links) count)) (now members) (now given) × (length (now firsts) ≡ length (now first)) × Supports (nodesOf (tableOf (now vars) (now lows) (now highs) (now heads) (now links) count)) (now first) (now firsts) × (length (now seconds) ≡ length (now first)) ⌝ }
     ensures { λ r. ⌜ Says (tableOf (now (vars .entry)) (now (lows .entry)) (now (highs .entry)) (now (heads .entry)) (now (links .entry)) count) (prTurns 64 (inWord positive) (inWord negative) (diagramsOf (nodesOf (tableOf (now (vars .entry)) (now (lows .entry)) (now (highs .entry)) (now (heads .entry)) (now (links .entry)) count)) (now (first .entry))) (diagramsOf (nodesOf (tableOf (now (vars .entry)) (now (lows .entry)) (now (highs .entry)) (now (heads .entry)) (now (links .entry)) count)) (now (members .entry)))) (64 * length (now (members .entry))) r (tableOf (now (vars .exit)) (now (lows .exit)) (now (highs .exit)) (now (heads .exit)) (now (links .exit)) (r .count)) ⌝ }
     ensures { λ _. ⌜ now (marks .exit) ≡ unmarked (length (now (vars .entry))) ⌝ }
 {
@@ -238,9 +321,12 @@ fn turns(
             memo,
             marks,
             first,
+            firsts,
             second,
+            seconds,
             count,
             f,
+            given[i],
             positive,
             negative,
         );
@@ -272,7 +358,8 @@ fn turns(
     }
 }
 
-// The PR line of node `root` with the witness of the two words, worked out in `first` and `second`. Of its nodes those of not-g and of
+// The PR line of node `root` with the witness of the two words, worked out in `first` and `second`, with words to
+// work in for the members and for each of the two. Of its nodes those of not-g and of
 // the members by not-g stay; where it is `full`, those of the turn that found no room too.
 pub fn pr(
     vars: &mut [u8],
@@ -283,17 +370,23 @@ pub fn pr(
     memo: &mut [u64],
     marks: &mut [u8],
     members: &[u16],
+    given: &mut [u64],
     first: &mut [u16],
+    firsts: &mut [u64],
     second: &mut [u16],
+    seconds: &mut [u64],
     count: usize,
     root: NodeNo,
     positive: u64,
     negative: u64,
 ) -> Judged
     requires { ⌜ Negatable (tableOf (now vars) (now lows) (now highs) (now heads) (now links) count) (now members) (now memo) (root .0) × (now marks ≡ unmarked (length (now vars))) × (length (now first) ≡ length (now members)) × (length (now second) ≡ length (now members)) × (length (now members) ≤ 65536) ⌝ }
+    requires { ⌜ (length (now given) ≡ length (now members)) × (length (now firsts) ≡ length (now members)) × (length (now seconds) ≡ length (now members)) ⌝ }
     ensures { λ r. ⌜ Says (tableOf (now (vars .entry)) (now (lows .entry)) (now (highs .entry)) (now (heads .entry)) (now (links .entry)) count) (pr 64 (inWord positive) (inWord negative) (diagramsOf (nodesOf (tableOf (now (vars .entry)) (now (lows .entry)) (now (highs .entry)) (now (heads .entry)) (now (links .entry)) count)) (now (members .entry))) (diagramAt (nodesOf (tableOf (now (vars .entry)) (now (lows .entry)) (now (highs .entry)) (now (heads .entry)) (now (links .entry)) count)) (root .0))) (64 * length (now (members .entry))) r (tableOf (now (vars .exit)) (now (lows .exit)) (now (highs .exit)) (now (heads .exit)) (now (links .exit)) (r .count)) ⌝ }
     ensures { λ _. ⌜ now (marks .exit) ≡ unmarked (length (now (vars .entry))) ⌝ }
 {
+    supports::supports_of(vars, lows, highs, memo, count, members, given);
+    let word = supports::support_from(vars, lows, highs, memo, count, root);
     let made = by_negation(
         vars,
         lows,
@@ -302,9 +395,12 @@ pub fn pr(
         links,
         memo,
         members,
+        given,
         first,
+        firsts,
         count,
         root,
+        word,
     );
     if made.full {
         return Judged {
@@ -314,6 +410,7 @@ pub fn pr(
             count: made.count,
         };
     }
+    supports::supports_of(vars, lows, highs, memo, made.count, first, firsts);
     turns(
         vars,
         lows,
@@ -323,8 +420,11 @@ pub fn pr(
         memo,
         marks,
         members,
+        given,
         first,
+        firsts,
         second,
+        seconds,
         made.count,
         positive,
         negative,

@@ -1,12 +1,12 @@
 -- A list's members replaced one by one by an operation's results. The idea: what is to be placed is what is left to be placed, the members
 -- behind are the results, and those ahead are as they were. Assumes nothing.
-use mathlib.Core.Path.{_≡_, refl, sym, ap, ap₂, _∙_}
+use mathlib.Core.Path.{_≡_, refl, sym, ap, ap₂, _∙_, subst}
 use mathlib.Core.Bool.{true, false}
 use mathlib.Core.List.{List, [], _∷_, map}
 use Prim.Native.Nat.{ℕ, zero, suc, _+_, _≤_, _<_}
 use native.Mathlib.Omega.{arith}
 use native.Mathlib.Numerals.{add-one}
-use native.Mathlib.Decide.{ℕ-discrete}
+use native.Mathlib.Decide.{ℕ-discrete, decLt}
 use lib.ListN.{length, getD, set, drop, length-set, length-map, drop-of-length-le}
 use lib.Seq.{drop-cons, getD-set-same, getD-set-other, ext-getD}
 use Rattle.meaning.specs.Diagram.{Diagram, leaf}
@@ -19,10 +19,13 @@ use Rattle.operate.specs.Operate.{result}
 use Rattle.operate.specs.Inner.{applied, Allowed, MemoRight, Ready}
 use Rattle.operate.proofs.Results.{result-reduced}
 use Rattle.verdict.specs.Check.{placedAll}
-use Rattle.conflict.specs.Members.{diagramsOf, ListReady}
+use Rattle.supports.specs.Supports.{Support, Supports}
+use Rattle.conflict.specs.Members.{diagramsOf, Inside, ListReady}
 use Rattle.propagate.specs.Made.{results, AllMade}
+use Rattle.propagate.specs.Touching.{Touches, touched}
 use Rattle.propagate.proofs.PlacedAll.{first-full, first-placed}
 use Rattle.propagate.proofs.Extended.{longer-extended}
+use Rattle.propagate.proofs.Touching.{result-supported, touches-kept, supports-replaced}
 
 getD-map : {A B : Type 0} (f : A → B) (l : List A) (k : ℕ) (d : A) (e : B) → k < length l → getD (map f l) k e ≡ f (getD l k d)
 getD-map f [] k d e p = absurd (omega arith)
@@ -84,6 +87,20 @@ module _ (op : Operation) (g : ℕ) (T₀ : Table) (list₀ memo₀ : List ℕ) 
           right = W .right;
         }
 
+    list-inside : Inside (T .count) list
+    list-inside k q = elim (decLt k i) [
+      | yes r ↦ W .done k r .inside
+      | no r ↦ rw (W .ahead k (omega arith)) (omega (arith, R .inside k (omega (arith, W .members)), W .long .more))
+    ]
+
+    pub member-supported : (words : List ℕ) → Supports (nodesOf T) list words → Support (getD words i 0) (diagramAt (nodesOf T) (getD list i 0))
+    unfolding Supports
+    member-supported words S = S i p
+
+    -- the operation has the variables that it had
+    pub touches-now : (touching : ℕ) → Touches op (diagramAt (nodesOf T₀) g) touching → Touches op (diagramAt (nodesOf T) g) touching
+    touches-now touching touches = touches-kept op (diagramAt (nodesOf T) g) (diagramAt (nodesOf T₀) g) touching (W .long .kept g g-inside) touches
+
     -- what the operation makes of the member
     abbrev made : Diagram
     made = result op (diagramAt (nodesOf T) (getD list i 0)) (diagramAt (nodesOf T) g)
@@ -139,6 +156,15 @@ module _ (op : Operation) (g : ℕ) (T₀ : Table) (list₀ memo₀ : List ℕ) 
           now-done k q (no z) =
               rw (getD-set-other list i k (o .node) 0 z)
               (has-longer T (o .table) (longer T made o outcome-grown) (getD list k 0) (getD (results op T₀ list₀ g) k (leaf false)) (W .done k (omega arith)))
+
+      -- and its word with it
+      pub supported : o .full ≡ false → (words : List ℕ) (touching : ℕ) → length words ≡ length list → Supports (nodesOf T) list words → Touches op (diagramAt (nodesOf T₀) g) touching
+          → Supports (nodesOf (o .table)) (set list i (o .node)) (set words i (touched (getD words i 0) touching))
+      unfolding Supports
+      supported f words touching len old touches =
+          supports-replaced T (o .table) (longer T made o outcome-grown) list words list-inside len old i (o .node) (touched (getD words i 0) touching) p
+          (subst (Support (touched (getD words i 0) touching)) (sym (outcome-grown .is f))
+          (result-supported T (W .long .good) (getD list i 0) g (list-inside i p) (omega (arith, W .long .more)) (getD words i 0) touching (old i p) op allowed (touches-now touching touches)))
 
   -- ---- all members
 

@@ -1,17 +1,22 @@
 // Unit propagation over a list of nodes.
 use operate::Operation;
 use table::NodeNo;
+use table::Placed;
 use units::Units;
 ghost use mathlib.Core.Path.{_≡_};
 ghost use Prim.Native.Nat.{_≤_, _<_};
 ghost use lib.ListN.{length};
 ghost use Rattle.meaning.specs.Rules.{unitProp};
-ghost use Rattle.table.specs.Indexed.{tableOf, nodesOf};
+ghost use mathlib.Core.Bool.{false};
+ghost use Rattle.table.specs.Nodes.{diagramAt};
+ghost use Rattle.table.specs.Indexed.{tableOf, nodesOf, outcomeOf};
 ghost use Rattle.walks.specs.Readable.{Readable, Roomy, nodesIn};
-ghost use Rattle.operate.specs.Inner.{Allowed};
+ghost use Rattle.operate.specs.Inner.{applied, Allowed, MemoRight, Ready};
+ghost use Rattle.supports.specs.Supports.{Support, Supports};
 ghost use Rattle.conflict.specs.Members.{diagramsOf, Inside, ListReady};
 ghost use Rattle.conflict.specs.Marks.{unmarked};
 ghost use Rattle.propagate.specs.Made.{results, AllMade};
+ghost use Rattle.propagate.specs.Touching.{Touches, touched};
 ghost use Rattle.propagate.specs.Units.{AreFirst};
 ghost use Rattle.propagate.specs.Rounds.{Comes, Said};
 
@@ -21,7 +26,48 @@ pub struct Made {
     pub count: usize,
 }
 
-// Replaces each listed node, in order, by the operation's result on it and g, or stops at `full`. One memo, cleared, serves all.
+// The operation on the nodes f and g, where `word` has f's variables and `touching` those that the cofactor is by: f itself, at once, where
+// none is in both.
+fn apply_touching(
+    vars: &mut [u8],
+    lows: &mut [u16],
+    highs: &mut [u16],
+    heads: &mut [u16],
+    links: &mut [u16],
+    memo: &mut [u64],
+    count: usize,
+    op: Operation,
+    f: NodeNo,
+    g: NodeNo,
+    word: u64,
+    touching: u64,
+) -> Placed
+    requires { ⌜ Ready op (now memo) (tableOf (now vars) (now lows) (now highs) (now heads) (now links) count) (f .0) (g .0) × Support word (diagramAt (nodesOf (tableOf (now vars) (now lows) (now highs) (now heads) (now links) count)) (f .0)) × Touches op (diagramAt (nodesOf (tableOf (now vars) (now lows) (now highs) (now heads) (now links) count)) (g .0)) touching ⌝ }
+    ensures { λ r. ⌜ outcomeOf (now (vars .exit)) (now (lows .exit)) (now (highs .exit)) (now (heads .exit)) (now (links .exit)) r ≡ applied (tableOf (now (vars .entry)) (now (lows .entry)) (now (highs .entry)) (now (heads .entry)) (now (links .entry)) count) op (f .0) (g .0) ⌝ }
+    ensures { λ r. ⌜ MemoRight op (now (memo .exit)) (tableOf (now (vars .exit)) (now (lows .exit)) (now (highs .exit)) (now (heads .exit)) (now (links .exit)) (r .count)) ⌝ }
+{
+    if word & touching == 0 {
+        return Placed {
+            full: false,
+            node: f,
+            count,
+        };
+    }
+    operate::apply(vars, lows, highs, heads, links, memo, count, op, f, g)
+}
+
+// A member's word after the operation.
+fn word_after(word: u64, touching: u64) -> u64
+    ensures { λ r. ⌜ r ≡ touched word touching ⌝ }
+{
+    if word & touching != 0 {
+        return word | touching;
+    }
+    word
+}
+
+// Replaces each listed node, in order, by the operation's result on it and g, or stops at `full`. One memo, cleared, serves all. The words
+// have the listed nodes' variables, and still do after it.
 pub fn all_by(
     vars: &mut [u8],
     lows: &mut [u16],
@@ -30,19 +76,37 @@ pub fn all_by(
     links: &mut [u16],
     memo: &mut [u64],
     list: &mut [u16],
+    words: &mut [u64],
     count: usize,
     op: Operation,
     g: NodeNo,
+    touching: u64,
 ) -> Made
     requires { ⌜ ListReady (tableOf (now vars) (now lows) (now highs) (now heads) (now links) count) (now list) (now memo) × (g .0 < count) × Allowed op (g .0) ⌝ }
+    requires { ⌜ (length (now words) ≡ length (now list)) × Supports (nodesOf (tableOf (now vars) (now lows) (now highs) (now heads) (now links) count)) (now list) (now words) × Touches op (diagramAt (nodesOf (tableOf (now vars) (now lows) (now highs) (now heads) (now links) count)) (g .0)) touching ⌝ }
     ensures { λ r. ⌜ AllMade (tableOf (now (vars .entry)) (now (lows .entry)) (now (highs .entry)) (now (heads .entry)) (now (links .entry)) count) (results op (tableOf (now (vars .entry)) (now (lows .entry)) (now (highs .entry)) (now (heads .entry)) (now (links .entry)) count) (now (list .entry)) (g .0)) (r .full) (tableOf (now (vars .exit)) (now (lows .exit)) (now (highs .exit)) (now (heads .exit)) (now (links .exit)) (r .count)) (now (list .exit)) ⌝ }
+    ensures { λ r. ⌜ (r .full ≡ false → Supports (nodesOf (tableOf (now (vars .exit)) (now (lows .exit)) (now (highs .exit)) (now (heads .exit)) (now (links .exit)) (r .count))) (now (list .exit)) (now (words .exit))) ⌝ }
 {
     operate::memo::clear_memo(memo);
     let mut n = count;
     let mut i: usize = 0;
     while i < list.len() {
         let f = NodeNo(list[i]);
-        let p = operate::apply(vars, lows, highs, heads, links, memo, n, op, f, g);
+        let word = words[i];
+        let p = apply_touching(
+            vars,
+            lows,
+            highs,
+            heads,
+            links,
+            memo,
+            n,
+            op,
+            f,
+            g,
+            word,
+            touching,
+        );
         n = p.count;
         if p.full {
             return Made {
@@ -52,6 +116,7 @@ pub fn all_by(
         }
         let k = p.node;
         list[i] = k.0;
+        words[i] = word_after(word, touching);
         i += 1;
     }
     Made {
@@ -135,7 +200,8 @@ fn next_round(
     }
 }
 
-// UnitProp of the listed nodes: round by round all are replaced by their cofactors by the units of the first that has any.
+// UnitProp of the listed nodes: round by round all are replaced by their cofactors by the units of the first that has any. The words
+// have the listed nodes' variables.
 pub fn unit_prop(
     vars: &mut [u8],
     lows: &mut [u16],
@@ -145,9 +211,11 @@ pub fn unit_prop(
     memo: &mut [u64],
     marks: &mut [u8],
     list: &mut [u16],
+    words: &mut [u64],
     count: usize,
 ) -> Propagated
     requires { ⌜ ListReady (tableOf (now vars) (now lows) (now highs) (now heads) (now links) count) (now list) (now memo) × (now marks ≡ unmarked (length (now vars))) ⌝ }
+    requires { ⌜ (length (now words) ≡ length (now list)) × Supports (nodesOf (tableOf (now vars) (now lows) (now highs) (now heads) (now links) count)) (now list) (now words) ⌝ }
     ensures { λ r. ⌜ Said (tableOf (now (vars .entry)) (now (lows .entry)) (now (highs .entry)) (now (heads .entry)) (now (links .entry)) count) (unitProp 64 (diagramsOf (nodesOf (tableOf (now (vars .entry)) (now (lows .entry)) (now (highs .entry)) (now (heads .entry)) (now (links .entry)) count)) (now (list .entry)))) r (tableOf (now (vars .exit)) (now (lows .exit)) (now (highs .exit)) (now (heads .exit)) (now (links .exit)) (r .count)) ⌝ }
     ensures { λ _. ⌜ now (marks .exit) ≡ unmarked (length (now (vars .entry))) ⌝ }
 {
@@ -184,9 +252,11 @@ pub fn unit_prop(
                     links,
                     memo,
                     list,
+                    words,
                     n,
                     op,
                     NodeNo(1),
+                    u.positive | u.negative,
                 );
                 n = made.count;
                 if made.full {

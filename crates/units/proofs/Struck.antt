@@ -19,7 +19,8 @@ use Rattle.walks.proofs.Here.{Here, here, node-in, ordered-in, length-in}
 use Rattle.walks.proofs.Memo.{stored}
 use Rattle.units.specs.declared.Units.{Units}
 use Rattle.units.specs.Units.{UnitsAt, has, struckTo, past, Struck, Marked, MarksBelow}
-use Rattle.units.proofs.Bits.{in-or, in-none, in-all, in-without}
+use Rattle.meaning.proofs.Words.{in-or, in-none}
+use Rattle.units.proofs.Bits.{in-all, in-without}
 use Rattle.units.proofs.Branches.{zero-units, one-units, past-least, past-most, unit-edges}
 
 -- ---- sets

@@ -1,18 +1,23 @@
--- `pr` judges the PR line. Each place of the code is one law of Judging. Assumes nothing.
+-- `pr` finds the members' and the root's variables, then judges the PR line. Each place of the code is one law of Judging. Assumes nothing.
 use mathlib.Core.Path.{_≡_, sym, ap, _∙_, subst}
 use mathlib.Core.Bool.{Bool, true, false}
 use mathlib.Core.List.{List}
-use Prim.Native.Nat.{ℕ}
+use Prim.Native.Nat.{ℕ, _*_}
+use native.Mathlib.Omega.{arith}
 use lib.ListN.{length}
+use borrow.Author.Needs.{needs}
 use Rattle.meaning.specs.Diagram.{Diagram}
+use Rattle.meaning.specs.Words.{inWord}
 use Rattle.table.specs.Nodes.{diagramAt}
 use Rattle.table.specs.Indexed.{Table, tableOf, nodesOf}
-use Rattle.conflict.specs.Members.{diagramsOf}
+use Rattle.walks.proofs.Here.{good-readable}
+use Rattle.supports.specs.Supports.{Supports}
+use Rattle.conflict.specs.Members.{diagramsOf, ListReady}
 use Rattle.conflict.specs.Marks.{unmarked}
-use Rattle.judge.specs.Lines.{ByNegation}
-use Prim.Native.Nat.{_*_}
-use Rattle.meaning.specs.Words.{inWord}
-use Rattle.judge.proofs.Ready.{list-ready, inside-more}
+use Rattle.propagate.proofs.Extended.{extended-longer}
+use Rattle.judge.specs.Lines.{Negatable, Worded, ByNegation}
+use Rattle.judge.proofs.Worded.{supports-longer}
+use Rattle.judge.proofs.Ready.{list-ready, inside-more, memo-again}
 use Rattle.judge.proofs.Judging.{pr-full, pr-judged}
 use Rattle.judge.proofs.pr.Statement.{statement}
 use Rattle.judge.proofs.pr.Tie as tie
@@ -21,111 +26,254 @@ module _ (s : tie.Start) where
   abbrev before : Table
   before = tableOf (s .args .vars .now) (s .args .lows .now) (s .args .highs .now) (s .args .heads .now) (s .args .links .now) (s .args .count)
 
+-- what the walks over the members and the root leave
+module _ (a : tie.After-support-from) where
+  abbrev begun : tie.Start
+  begun = a .before .before .before .before .before .before .before .before .before .before .before .before .before .before .before .before .before .before .before .before .before .before .before .before .before .before .before .before
+
+  abbrev given₁ : List ℕ
+  given₁ = a .before .before .before .before .before .before .before .before .before .supports-of .last .1 .1 .1 .1 .1 .1 .0
+
+  abbrev memo₁ : List ℕ
+  memo₁ = a .support-from .last .1 .1 .1 .0
+
+  worded : Worded (before begun) (begun .args .members .now) given₁ (begun .args .root .0) (a .support-from .result)
+  unfolding nodesOf
+  worded =
+      record {
+        lengths = a .before .before .before .before .before .before .before .before .before .supports-of .kept .1 .1 .1 .1 .1 .1 .0 ∙ begun .pre .1 .0;
+        have = a .before .before .before .before .before .before .before .before .before .supports-of .ensures .0;
+        has = a .support-from .ensures .0;
+      }
+
+  memo-kept : length memo₁ ≡ length (begun .args .memo .now)
+  memo-kept = a .support-from .kept .1 .1 .1 .0 ∙ a .before .before .before .before .before .before .before .before .before .supports-of .kept .1 .1 .1 .0
+
+  negatable : Negatable (before begun) (begun .args .members .now) memo₁ (begun .args .root .0)
+  negatable = memo-again (before begun) (begun .args .members .now) (begun .args .memo .now) memo₁ (begun .args .root .0) memo-kept (begun .pre .0 .0)
+
+module _ (s : tie.Start) where
   abbrev members : List Diagram
-  members = diagramsOf (nodesOf before) (s .args .members .now)
+  members = diagramsOf (nodesOf (before s)) (s .args .members .now)
 
   abbrev root : Diagram
-  root = diagramAt (nodesOf before) (s .args .root .0)
+  root = diagramAt (nodesOf (before s)) (s .args .root .0)
 
 -- what not-g and the members by it leave
 module _ (a : tie.After-by-negation) where
   abbrev start : tie.Start
-  start = a .before .before .before .before .before .before .before .before .before .before .before .before .before .before .before .before .before .before
+  start = a .before .before .before .before .before .before .before .before .before .before .before .before .before .before .before .before .before .before .before .before .before .before .before .before .before .before .before .before .before .before .before .before .before .before .before .before .before .before .before .before
 
   abbrev table₁ : Table
   table₁ = tableOf (a .by-negation .last .0) (a .by-negation .last .1 .0) (a .by-negation .last .1 .1 .0) (a .by-negation .last .1 .1 .1 .0) (a .by-negation .last .1 .1 .1 .1 .0) (a .by-negation .result .count)
 
   abbrev list₁ : List ℕ
-  list₁ = a .by-negation .last .1 .1 .1 .1 .1 .1 .1 .0
+  list₁ = a .by-negation .last .1 .1 .1 .1 .1 .1 .1 .1 .0
 
   by-negation : (b : Bool) → a .by-negation .result .full ≡ b → ByNegation (before start) (members start) (root start) b table₁ list₁
   by-negation b e =
-      subst (λ full. ByNegation (before start) (members start) (root start) full table₁ list₁) e (a .by-negation .ensures)
+      subst (λ full. ByNegation (before start) (members start) (root start) full table₁ list₁) e (a .by-negation .ensures .0)
+
+  first-ready : a .by-negation .result .full ≡ false → (memo : List ℕ) → length memo ≡ length (start .args .memo .now) → ListReady table₁ list₁ memo
+  first-ready e memo len =
+      list-ready (before start) (members start) (root start) table₁ list₁ (start .args .memo .now) memo (by-negation false e) (start .pre .0 .0 .ready .room) len
 
   memo-length : length (a .by-negation .last .1 .1 .1 .1 .1 .0) ≡ length (start .args .memo .now)
-  memo-length = a .by-negation .kept .1 .1 .1 .1 .1 .0
+  memo-length = a .by-negation .kept .1 .1 .1 .1 .1 .0 ∙ memo-kept (a .before .before .before .before .before .before .before .before .before .before .before .before)
+
+  first-length : length list₁ ≡ length (start .args .members .now)
+  first-length = a .by-negation .kept .1 .1 .1 .1 .1 .1 .1 .1 .0 ∙ start .pre .0 .2
+
+  given-kept : a .by-negation .result .full ≡ false → Supports (nodesOf table₁) (start .args .members .now) (given₁ (a .before .before .before .before .before .before .before .before .before .before .before .before))
+  given-kept e =
+      let R = start .pre .0 .0 .ready in
+      supports-longer (before start) table₁ (extended-longer (before start) table₁ (R .good) (by-negation false e .extended)) (start .args .members .now) (given₁ (a .before .before .before .before .before .before .before .before .before .before .before .before)) (R .inside) (worded (a .before .before .before .before .before .before .before .before .before .before .before .before) .have)
+
+-- what the walk over the members by not-g leaves
+module _ (w : tie.After-supports-of2) where
+  first-words : Supports (nodesOf (table₁ (w .before .before .before .before .before .before .before .before .before .before .before .before .before .before .before .before .before .before .before .before .before .before .before .before))) (list₁ (w .before .before .before .before .before .before .before .before .before .before .before .before .before .before .before .before .before .before .before .before .before .before .before .before)) (w .supports-of2 .last .1 .1 .1 .1 .1 .1 .0)
+  unfolding nodesOf
+  first-words = w .supports-of2 .ensures .0
+
+supports-of-requires : tie.Need-supports-of-requires
+supports-of-requires c κs =
+    let s = c .before .before .before .before .before .before .before .before .before .before .before .before .before .before .before .before .before .before in
+    let R = s .pre .0 .0 .ready in
+    (good-readable (before s) (R .good), R .inside, R .room, s .pre .1 .0)
+
+support-from-requires : tie.Need-support-from-requires
+support-from-requires c κs =
+    let s = c .before .before .before .before .before .before .before .before .before .before .before .before .before .before .before .before .before .before .before .before .before .before .before .before .before .before .before in
+    let w = c .before .before .before .before .before .before .before .before .supports-of in
+    ((good-readable (before s) (s .pre .0 .0 .ready .good), s .pre .0 .0 .inside, omega (arith, s .pre .0 .0 .ready .room, w .kept .1 .1 .1 .0)), w .ensures .1)
 
 by-negation-requires : tie.Need-by-negation-requires
-by-negation-requires c κs = (c .before .before .before .before .before .before .before .before .before .before .before .before .before .before .before .before .before .pre .0, c .before .before .before .before .before .before .before .before .before .before .before .before .before .before .before .before .before .pre .2)
+by-negation-requires c κs =
+    let a = c .before .before .before .before .before .before .before .before .before .before .before in
+    let s = begun a in
+    ((negatable a, s .pre .0 .2), (worded a, s .pre .1 .1))
 
 same-length : tie.Need-same-length
-same-length c = c .before .before .before .before .before .before .before .before .before .before .before .before .before .before .before .by-negation .kept .0
+same-length c =
+    c .before .before .before .before .before .before .before .before .before .before .before .before .before .before .before .before .before .by-negation .kept .0
 
 same-length-2 : tie.Need-same-length-2
-same-length-2 c = c .before .before .before .before .before .before .before .before .before .before .before .before .before .before .before .by-negation .kept .1 .0
+same-length-2 c =
+    c .before .before .before .before .before .before .before .before .before .before .before .before .before .before .before .before .before .by-negation .kept .1 .0
 
 same-length-3 : tie.Need-same-length-3
-same-length-3 c = c .before .before .before .before .before .before .before .before .before .before .before .before .before .before .before .by-negation .kept .1 .1 .0
+same-length-3 c =
+    c .before .before .before .before .before .before .before .before .before .before .before .before .before .before .before .before .before .by-negation .kept .1 .1 .0
 
 same-length-4 : tie.Need-same-length-4
-same-length-4 c = c .before .before .before .before .before .before .before .before .before .before .before .before .before .before .before .by-negation .kept .1 .1 .1 .0
+same-length-4 c =
+    c .before .before .before .before .before .before .before .before .before .before .before .before .before .before .before .before .before .by-negation .kept .1 .1 .1 .0
 
 same-length-5 : tie.Need-same-length-5
-same-length-5 c = c .before .before .before .before .before .before .before .before .before .before .before .before .before .before .before .by-negation .kept .1 .1 .1 .1 .0
+same-length-5 c =
+    c .before .before .before .before .before .before .before .before .before .before .before .before .before .before .before .before .before .by-negation .kept .1 .1 .1 .1 .0
 
 same-length-6 : tie.Need-same-length-6
-same-length-6 c = c .before .before .before .before .before .before .before .before .before .before .before .before .before .before .before .by-negation .kept .1 .1 .1 .1 .1 .0
+same-length-6 c =
+    memo-length (c .before .before .before .before .before .before .before .before .before .before .before .before .before .before .before .before .before)
 
 same-length-7 : tie.Need-same-length-7
-same-length-7 c = c .before .before .before .before .before .before .before .before .before .before .before .before .before .before .before .by-negation .kept .1 .1 .1 .1 .1 .1 .1 .0
+same-length-7 c =
+    c .before .before .before .before .before .before .before .before .before .before .before .before .before .before .before .before .before .before .before .before .before .before .before .before .before .before .before .before .before .before .before .before .before .before .before .before .before .before .supports-of .kept .1 .1 .1 .1 .1 .1 .0
+
+same-length-8 : tie.Need-same-length-8
+same-length-8 c =
+    c .before .before .before .before .before .before .before .before .before .before .before .before .before .before .before .before .before .by-negation .kept .1 .1 .1 .1 .1 .1 .1 .1 .0
+
+same-length-9 : tie.Need-same-length-9
+same-length-9 c =
+    c .before .before .before .before .before .before .before .before .before .before .before .before .before .before .before .before .before .by-negation .kept .1 .1 .1 .1 .1 .1 .1 .1 .1 .0
 
 returns : tie.Need-returns
 returns c =
-    let a = c .before .before .before .before .before .before .before .before .before .before .before .before .before .before .before in
+    let a = c .before .before .before .before .before .before .before .before .before .before .before .before .before .before .before .before .before in
     let s = start a in (
-      pr-full (before s) (s .pre .0 .ready .good) (members s) (root s) (table₁ a) (list₁ a) (by-negation a true (c .if1 .taken)) (64 * length (s .args .members .now)) (a .by-negation .result .count)
+      pr-full (before s) (s .pre .0 .0 .ready .good) (members s) (root s) (table₁ a) (list₁ a) (by-negation a true (c .if1 .taken)) (64 * length (s .args .members .now)) (a .by-negation .result .count)
           (inWord (s .args .positive)) (inWord (s .args .negative)),
-      s .pre .1,
+      s .pre .0 .1,
     )
+
+supports-of-requires-2 : tie.Need-supports-of-requires-2
+supports-of-requires-2 c κs =
+    let a = c .before .before .before .before .before .before .before .before .before .before .before .before .before .before .before .before .before .before .before .before .before .before .before in
+    let s = start a in
+    let F = first-ready a (c .before .before .before .before .before .before .if1 .left) (a .by-negation .last .1 .1 .1 .1 .1 .0) (memo-length a) in
+    (good-readable (table₁ a) (F .good), F .inside, F .room, a .by-negation .kept .1 .1 .1 .1 .1 .1 .1 .1 .1 .0 ∙ s .pre .1 .1 ∙ sym (first-length a))
 
 turns-requires : tie.Need-turns-requires
 turns-requires c κs =
-    let a = c .before .before .before .before .before .before .before .before .before .before .before .before .before .before .before .before .before .before .before .before .before .before .before .before in
+    let a = c .before .before .before .before .before .before .before .before .before .before .before .before .before .before .before .before .before .before .before .before .before .before .before .before .before .before .before .before .before .before .before .before .before .before .before .before .before .before .before .before in
     let s = start a in
-    let B = by-negation a false (c .before .before .before .before .before .before .before .before .before .if1 .left) in (
-      list-ready (before s) (members s) (root s) (table₁ a) (list₁ a) (s .args .memo .now) (a .by-negation .last .1 .1 .1 .1 .1 .0) B (s .pre .0 .ready .room) (memo-length a),
-      s .pre .1 ∙ ap unmarked (sym (a .by-negation .kept .0)),
-      s .pre .3 ∙ sym (a .by-negation .kept .1 .1 .1 .1 .1 .1 .1 .0 ∙ s .pre .2),
-      inside-more (before s) (table₁ a) (s .args .members .now) (B .extended) (s .pre .0 .ready .inside),
-      s .pre .4,
+    let e = c .before .before .before .before .before .before .before .before .before .before .before .before .before .before .before .before .before .before .before .before .before .before .before .if1 .left in
+    let w = c .before .before .before .before .before .before .before .before .before .before .before .before .before .before .before .before .supports-of2 in (
+      (
+        first-ready a e (w .last .1 .1 .1 .0) (w .kept .1 .1 .1 .0 ∙ memo-length a),
+        s .pre .0 .1 ∙ ap unmarked (sym (a .by-negation .kept .0)),
+        s .pre .0 .3 ∙ sym (first-length a),
+        inside-more (before s) (table₁ a) (s .args .members .now) (by-negation a false e .extended) (s .pre .0 .0 .ready .inside),
+        s .pre .0 .4,
+      ),
+      (
+        worded (c .before .before .before .before .before .before .before .before .before .before .before .before .before .before .before .before .before .before .before .before .before .before .before .before .before .before .before .before .before .before .before .before .before .before .before .before .before .before .before .before .before .before .before .before .before .before .before .before .before .before .before .before) .lengths,
+        given-kept a e,
+        w .kept .1 .1 .1 .1 .1 .1 .0 ∙ a .by-negation .kept .1 .1 .1 .1 .1 .1 .1 .1 .1 .0 ∙ s .pre .1 .1 ∙ sym (first-length a),
+        first-words (c .before .before .before .before .before .before .before .before .before .before .before .before .before .before .before .before),
+        s .pre .1 .2 ∙ sym (first-length a),
+      ),
     )
 
-same-length-8 : tie.Need-same-length-8
-same-length-8 c = c .before .before .before .before .before .before .before .before .before .before .before .before .before .before .before .before .turns .kept .0 ∙ c .before .before .before .before .before .before .before .before .before .before .before .before .before .before .before .before .before .before .before .before .before .before .before .before .before .before .before .before .before .before .before .before .before .before .before .before .before .before .before .before .before .by-negation .kept .0
-
-same-length-9 : tie.Need-same-length-9
-same-length-9 c = c .before .before .before .before .before .before .before .before .before .before .before .before .before .before .before .before .turns .kept .1 .0 ∙ c .before .before .before .before .before .before .before .before .before .before .before .before .before .before .before .before .before .before .before .before .before .before .before .before .before .before .before .before .before .before .before .before .before .before .before .before .before .before .before .before .before .by-negation .kept .1 .0
-
 same-length-10 : tie.Need-same-length-10
-same-length-10 c = c .before .before .before .before .before .before .before .before .before .before .before .before .before .before .before .before .turns .kept .1 .1 .0 ∙ c .before .before .before .before .before .before .before .before .before .before .before .before .before .before .before .before .before .before .before .before .before .before .before .before .before .before .before .before .before .before .before .before .before .before .before .before .before .before .before .before .before .by-negation .kept .1 .1 .0
+same-length-10 c =
+    c .before .before .before .before .before .before .before .before .before .before .before .before .before .before .before .before .before .before .turns .kept .0 ∙ c .before .before .before .before .before .before .before .before .before .before .before .before .before .before .before .before .before .before .before .before .before .before .before .before .before .before .before .before .before .before .before .before .before .before .before .before .before .before .before .before .before .before .before .before .before .before .before .before .before .before .before .before .before .before .before .before .before .before .before .by-negation .kept .0
 
 same-length-11 : tie.Need-same-length-11
-same-length-11 c = c .before .before .before .before .before .before .before .before .before .before .before .before .before .before .before .before .turns .kept .1 .1 .1 .0 ∙ c .before .before .before .before .before .before .before .before .before .before .before .before .before .before .before .before .before .before .before .before .before .before .before .before .before .before .before .before .before .before .before .before .before .before .before .before .before .before .before .before .before .by-negation .kept .1 .1 .1 .0
+same-length-11 c =
+    c .before .before .before .before .before .before .before .before .before .before .before .before .before .before .before .before .before .before .turns .kept .1 .0 ∙ c .before .before .before .before .before .before .before .before .before .before .before .before .before .before .before .before .before .before .before .before .before .before .before .before .before .before .before .before .before .before .before .before .before .before .before .before .before .before .before .before .before .before .before .before .before .before .before .before .before .before .before .before .before .before .before .before .before .before .before .by-negation .kept .1 .0
 
 same-length-12 : tie.Need-same-length-12
-same-length-12 c = c .before .before .before .before .before .before .before .before .before .before .before .before .before .before .before .before .turns .kept .1 .1 .1 .1 .0 ∙ c .before .before .before .before .before .before .before .before .before .before .before .before .before .before .before .before .before .before .before .before .before .before .before .before .before .before .before .before .before .before .before .before .before .before .before .before .before .before .before .before .before .by-negation .kept .1 .1 .1 .1 .0
+same-length-12 c =
+    c .before .before .before .before .before .before .before .before .before .before .before .before .before .before .before .before .before .before .turns .kept .1 .1 .0 ∙ c .before .before .before .before .before .before .before .before .before .before .before .before .before .before .before .before .before .before .before .before .before .before .before .before .before .before .before .before .before .before .before .before .before .before .before .before .before .before .before .before .before .before .before .before .before .before .before .before .before .before .before .before .before .before .before .before .before .before .before .by-negation .kept .1 .1 .0
 
 same-length-13 : tie.Need-same-length-13
-same-length-13 c = c .before .before .before .before .before .before .before .before .before .before .before .before .before .before .before .before .turns .kept .1 .1 .1 .1 .1 .0 ∙ c .before .before .before .before .before .before .before .before .before .before .before .before .before .before .before .before .before .before .before .before .before .before .before .before .before .before .before .before .before .before .before .before .before .before .before .before .before .before .before .before .before .by-negation .kept .1 .1 .1 .1 .1 .0
+same-length-13 c =
+    c .before .before .before .before .before .before .before .before .before .before .before .before .before .before .before .before .before .before .turns .kept .1 .1 .1 .0 ∙ c .before .before .before .before .before .before .before .before .before .before .before .before .before .before .before .before .before .before .before .before .before .before .before .before .before .before .before .before .before .before .before .before .before .before .before .before .before .before .before .before .before .before .before .before .before .before .before .before .before .before .before .before .before .before .before .before .before .before .before .by-negation .kept .1 .1 .1 .0
 
 same-length-14 : tie.Need-same-length-14
-same-length-14 c = c .before .before .before .before .before .before .before .before .before .before .before .before .before .before .before .before .turns .kept .1 .1 .1 .1 .1 .1 .0
+same-length-14 c =
+    c .before .before .before .before .before .before .before .before .before .before .before .before .before .before .before .before .before .before .turns .kept .1 .1 .1 .1 .0 ∙ c .before .before .before .before .before .before .before .before .before .before .before .before .before .before .before .before .before .before .before .before .before .before .before .before .before .before .before .before .before .before .before .before .before .before .before .before .before .before .before .before .before .before .before .before .before .before .before .before .before .before .before .before .before .before .before .before .before .before .before .by-negation .kept .1 .1 .1 .1 .0
 
 same-length-15 : tie.Need-same-length-15
-same-length-15 c = c .before .before .before .before .before .before .before .before .before .before .before .before .before .before .before .before .before .before .before .before .before .before .before .before .before .before .before .before .before .before .before .before .before .before .before .before .before .before .before .before .before .by-negation .kept .1 .1 .1 .1 .1 .1 .1 .0
+same-length-15 c =
+    c .before .before .before .before .before .before .before .before .before .before .before .before .before .before .before .before .before .before .turns .kept .1 .1 .1 .1 .1 .0 ∙ c .before .before .before .before .before .before .before .before .before .before .before .before .before .before .before .before .before .before .before .before .before .before .before .before .before .before .before .before .before .before .before .before .before .before .before .supports-of2 .kept .1 .1 .1 .0 ∙ memo-length (c .before .before .before .before .before .before .before .before .before .before .before .before .before .before .before .before .before .before .before .before .before .before .before .before .before .before .before .before .before .before .before .before .before .before .before .before .before .before .before .before .before .before .before .before .before .before .before .before .before .before .before .before .before .before .before .before .before .before .before)
 
 same-length-16 : tie.Need-same-length-16
-same-length-16 c = c .before .before .before .before .before .before .before .before .before .before .before .before .before .before .before .before .turns .kept .1 .1 .1 .1 .1 .1 .1 .1 .1 .0
+same-length-16 c =
+    c .before .before .before .before .before .before .before .before .before .before .before .before .before .before .before .before .before .before .turns .kept .1 .1 .1 .1 .1 .1 .0
+
+same-length-17 : tie.Need-same-length-17
+same-length-17 c =
+    c .before .before .before .before .before .before .before .before .before .before .before .before .before .before .before .before .before .before .before .before .before .before .before .before .before .before .before .before .before .before .before .before .before .before .before .before .before .before .before .before .before .before .before .before .before .before .before .before .before .before .before .before .before .before .before .before .before .before .before .before .before .before .before .before .before .before .before .before .before .before .before .before .before .before .before .before .before .before .before .before .supports-of .kept .1 .1 .1 .1 .1 .1 .0
+
+same-length-18 : tie.Need-same-length-18
+same-length-18 c =
+    c .before .before .before .before .before .before .before .before .before .before .before .before .before .before .before .before .before .before .before .before .before .before .before .before .before .before .before .before .before .before .before .before .before .before .before .before .before .before .before .before .before .before .before .before .before .before .before .before .before .before .before .before .before .before .before .before .before .before .before .by-negation .kept .1 .1 .1 .1 .1 .1 .1 .1 .0
+
+same-length-19 : tie.Need-same-length-19
+same-length-19 c =
+    c .before .before .before .before .before .before .before .before .before .before .before .before .before .before .before .before .before .before .before .before .before .before .before .before .before .before .before .before .before .before .before .before .before .before .before .supports-of2 .kept .1 .1 .1 .1 .1 .1 .0 ∙ c .before .before .before .before .before .before .before .before .before .before .before .before .before .before .before .before .before .before .before .before .before .before .before .before .before .before .before .before .before .before .before .before .before .before .before .before .before .before .before .before .before .before .before .before .before .before .before .before .before .before .before .before .before .before .before .before .before .before .before .by-negation .kept .1 .1 .1 .1 .1 .1 .1 .1 .1 .0
+
+same-length-20 : tie.Need-same-length-20
+same-length-20 c =
+    c .before .before .before .before .before .before .before .before .before .before .before .before .before .before .before .before .before .before .turns .kept .1 .1 .1 .1 .1 .1 .1 .1 .1 .1 .1 .0
+
+same-length-21 : tie.Need-same-length-21
+same-length-21 c =
+    c .before .before .before .before .before .before .before .before .before .before .before .before .before .before .before .before .before .before .turns .kept .1 .1 .1 .1 .1 .1 .1 .1 .1 .1 .1 .1 .0
 
 returns-2 : tie.Need-returns-2
 returns-2 c =
-    let a = c .before .before .before .before .before .before .before .before .before .before .before .before .before .before .before .before .before .before .before .before .before .before .before .before .before .before .before .before .before .before .before .before .before .before .before .before .before .before .before .before .before in
+    let a = c .before .before .before .before .before .before .before .before .before .before .before .before .before .before .before .before .before .before .before .before .before .before .before .before .before .before .before .before .before .before .before .before .before .before .before .before .before .before .before .before .before .before .before .before .before .before .before .before .before .before .before .before .before .before .before .before .before .before .before in
     let s = start a in
-    let r = c .before .before .before .before .before .before .before .before .before .before .before .before .before .before .before .before .turns in (
-      pr-judged (before s) (s .pre .0 .ready .good) (s .args .members .now) (s .pre .0 .ready .inside) (root s) (table₁ a) (list₁ a) (by-negation a false (c .before .before .before .before .before .before .before .before .before .before .before .before .before .before .before .before .before .before .before .before .before .before .before .before .before .before .if1 .left)) (s .args .positive) (s .args .negative)
+    let r = c .before .before .before .before .before .before .before .before .before .before .before .before .before .before .before .before .before .before .turns in (
+      pr-judged (before s) (s .pre .0 .0 .ready .good) (s .args .members .now) (s .pre .0 .0 .ready .inside) (root s) (table₁ a) (list₁ a) (by-negation a false (c .before .before .before .before .before .before .before .before .before .before .before .before .before .before .before .before .before .before .before .before .before .before .before .before .before .before .before .before .before .before .before .before .before .before .before .before .before .before .before .before .before .before .if1 .left)) (s .args .positive) (s .args .negative)
           (64 * length (s .args .members .now)) (r .result) (tableOf (r .last .0) (r .last .1 .0) (r .last .1 .1 .0) (r .last .1 .1 .1 .0) (r .last .1 .1 .1 .1 .0) (r .result .count)) (r .ensures .0),
       r .ensures .1 ∙ ap unmarked (a .by-negation .kept .0),
     )
 
 pub pr-spec : {M : Type 1} → statement M
-pr-spec = tie.close (tie.spec by-negation-requires same-length same-length-2 same-length-3 same-length-4 same-length-5 same-length-6 same-length-7 returns turns-requires same-length-8 same-length-9 same-length-10 same-length-11 same-length-12 same-length-13 same-length-14 same-length-15 same-length-16 returns-2)
+pr-spec =
+    tie.close
+    (tie.spec
+    supports-of-requires
+    support-from-requires
+    by-negation-requires
+    same-length
+    same-length-2
+    same-length-3
+    same-length-4
+    same-length-5
+    same-length-6
+    same-length-7
+    same-length-8
+    same-length-9
+    returns
+    supports-of-requires-2
+    turns-requires
+    same-length-10
+    same-length-11
+    same-length-12
+    same-length-13
+    same-length-14
+    same-length-15
+    same-length-16
+    same-length-17
+    same-length-18
+    same-length-19
+    same-length-20
+    same-length-21
+    returns-2)

@@ -1,18 +1,14 @@
--- `rup` judges the RUP line. Each place of the code is one law of Judging. Assumes nothing.
-use mathlib.Core.Path.{_≡_, sym, ap, _∙_, subst}
-use mathlib.Core.Bool.{Bool, true, false}
+-- `rup` finds the members' and the root's variables, then judges the line. Assumes nothing.
+use mathlib.Core.Path.{_≡_, _∙_}
 use mathlib.Core.List.{List}
 use Prim.Native.Nat.{ℕ}
+use native.Mathlib.Omega.{arith}
 use lib.ListN.{length}
 use borrow.Author.Needs.{needs}
-use Rattle.meaning.specs.Diagram.{Diagram}
-use Rattle.table.specs.Nodes.{diagramAt}
 use Rattle.table.specs.Indexed.{Table, tableOf, nodesOf}
-use Rattle.conflict.specs.Members.{diagramsOf}
-use Rattle.conflict.specs.Marks.{unmarked}
-use Rattle.judge.specs.Lines.{ByNegation}
-use Rattle.judge.proofs.Ready.{list-ready}
-use Rattle.judge.proofs.Judging.{rup-full, rup-judged}
+use Rattle.walks.proofs.Here.{good-readable}
+use Rattle.judge.specs.Lines.{Negatable, Worded}
+use Rattle.judge.proofs.Ready.{memo-again}
 use Rattle.judge.proofs.rup.Statement.{statement}
 use Rattle.judge.proofs.rup.Tie as tie
 
@@ -20,104 +16,109 @@ module _ (s : tie.Start) where
   abbrev before : Table
   before = tableOf (s .args .vars .now) (s .args .lows .now) (s .args .highs .now) (s .args .heads .now) (s .args .links .now) (s .args .count)
 
-  abbrev members : List Diagram
-  members = diagramsOf (nodesOf before) (s .args .members .now)
+-- what the walks over the members and the root leave
+module _ (a : tie.After-support-from) where
+  abbrev begun : tie.Start
+  begun = a .before .before .before .before .before .before .before .before .before .before .before .before .before .before .before .before .before .before .before .before .before .before .before .before .before .before
 
-  abbrev root : Diagram
-  root = diagramAt (nodesOf before) (s .args .root .0)
+  abbrev given₁ : List ℕ
+  given₁ = a .before .before .before .before .before .before .before .before .before .supports-of .last .1 .1 .1 .1 .1 .1 .0
 
--- what not-g and the members by it leave
-module _ (a : tie.After-by-negation) where
-  abbrev start : tie.Start
-  start = a .before .before .before .before .before .before .before .before .before .before .before .before .before .before .before .before .before
+  abbrev memo₁ : List ℕ
+  memo₁ = a .support-from .last .1 .1 .1 .0
 
-  abbrev table₁ : Table
-  table₁ = tableOf (a .by-negation .last .0) (a .by-negation .last .1 .0) (a .by-negation .last .1 .1 .0) (a .by-negation .last .1 .1 .1 .0) (a .by-negation .last .1 .1 .1 .1 .0) (a .by-negation .result .count)
+  worded : Worded (before begun) (begun .args .members .now) given₁ (begun .args .root .0) (a .support-from .result)
+  unfolding nodesOf
+  worded =
+      record {
+        lengths = a .before .before .before .before .before .before .before .before .before .supports-of .kept .1 .1 .1 .1 .1 .1 .0 ∙ begun .pre .1 .0;
+        have = a .before .before .before .before .before .before .before .before .before .supports-of .ensures .0;
+        has = a .support-from .ensures .0;
+      }
 
-  abbrev list₁ : List ℕ
-  list₁ = a .by-negation .last .1 .1 .1 .1 .1 .1 .1 .0
+  memo-kept : length memo₁ ≡ length (begun .args .memo .now)
+  memo-kept = a .support-from .kept .1 .1 .1 .0 ∙ a .before .before .before .before .before .before .before .before .before .supports-of .kept .1 .1 .1 .0
 
-  by-negation : (b : Bool) → a .by-negation .result .full ≡ b → ByNegation (before start) (members start) (root start) b table₁ list₁
-  by-negation b e =
-      subst (λ full. ByNegation (before start) (members start) (root start) full table₁ list₁) e (a .by-negation .ensures)
+  negatable : Negatable (before begun) (begun .args .members .now) memo₁ (begun .args .root .0)
+  negatable = memo-again (before begun) (begun .args .members .now) (begun .args .memo .now) memo₁ (begun .args .root .0) memo-kept (begun .pre .0 .0)
 
-  memo-length : length (a .by-negation .last .1 .1 .1 .1 .1 .0) ≡ length (start .args .memo .now)
-  memo-length = a .by-negation .kept .1 .1 .1 .1 .1 .0
+supports-of-requires : tie.Need-supports-of-requires
+supports-of-requires c κs =
+    let s = c .before .before .before .before .before .before .before .before .before .before .before .before .before .before .before .before in
+    let R = s .pre .0 .0 .ready in
+    (good-readable (before s) (R .good), R .inside, R .room, s .pre .1 .0)
 
-by-negation-requires : tie.Need-by-negation-requires
-by-negation-requires c κs = (c .before .before .before .before .before .before .before .before .before .before .before .before .before .before .before .before .pre .0, c .before .before .before .before .before .before .before .before .before .before .before .before .before .before .before .before .pre .2)
+support-from-requires : tie.Need-support-from-requires
+support-from-requires c κs =
+    let s = c .before .before .before .before .before .before .before .before .before .before .before .before .before .before .before .before .before .before .before .before .before .before .before .before .before in
+    let w = c .before .before .before .before .before .before .before .before .supports-of in
+    ((good-readable (before s) (s .pre .0 .0 .ready .good), s .pre .0 .0 .inside, omega (arith, s .pre .0 .0 .ready .room, w .kept .1 .1 .1 .0)), w .ensures .1)
+
+rup-with-requires : tie.Need-rup-with-requires
+rup-with-requires c κs =
+    let a = c .before .before .before .before .before .before .before .before .before .before .before .before in
+    let s = begun a in
+    ((negatable a, s .pre .0 .1, s .pre .0 .2), (worded a, s .pre .1 .1))
 
 same-length : tie.Need-same-length
-same-length c = c .before .before .before .before .before .before .before .before .before .before .before .before .before .before .before .by-negation .kept .0
+same-length c =
+    c .before .before .before .before .before .before .before .before .before .before .before .before .before .before .before .before .before .before .rup-with .kept .0
 
 same-length-2 : tie.Need-same-length-2
-same-length-2 c = c .before .before .before .before .before .before .before .before .before .before .before .before .before .before .before .by-negation .kept .1 .0
+same-length-2 c =
+    c .before .before .before .before .before .before .before .before .before .before .before .before .before .before .before .before .before .before .rup-with .kept .1 .0
 
 same-length-3 : tie.Need-same-length-3
-same-length-3 c = c .before .before .before .before .before .before .before .before .before .before .before .before .before .before .before .by-negation .kept .1 .1 .0
+same-length-3 c =
+    c .before .before .before .before .before .before .before .before .before .before .before .before .before .before .before .before .before .before .rup-with .kept .1 .1 .0
 
 same-length-4 : tie.Need-same-length-4
-same-length-4 c = c .before .before .before .before .before .before .before .before .before .before .before .before .before .before .before .by-negation .kept .1 .1 .1 .0
+same-length-4 c =
+    c .before .before .before .before .before .before .before .before .before .before .before .before .before .before .before .before .before .before .rup-with .kept .1 .1 .1 .0
 
 same-length-5 : tie.Need-same-length-5
-same-length-5 c = c .before .before .before .before .before .before .before .before .before .before .before .before .before .before .before .by-negation .kept .1 .1 .1 .1 .0
+same-length-5 c =
+    c .before .before .before .before .before .before .before .before .before .before .before .before .before .before .before .before .before .before .rup-with .kept .1 .1 .1 .1 .0
 
 same-length-6 : tie.Need-same-length-6
-same-length-6 c = c .before .before .before .before .before .before .before .before .before .before .before .before .before .before .before .by-negation .kept .1 .1 .1 .1 .1 .0
+same-length-6 c =
+    c .before .before .before .before .before .before .before .before .before .before .before .before .before .before .before .before .before .before .rup-with .kept .1 .1 .1 .1 .1 .0 ∙ memo-kept (c .before .before .before .before .before .before .before .before .before .before .before .before .before .before .before .before .before .before .before .before .before .before .before .before .before .before .before .before .before .before .before)
 
 same-length-7 : tie.Need-same-length-7
-same-length-7 c = c .before .before .before .before .before .before .before .before .before .before .before .before .before .before .before .by-negation .kept .1 .1 .1 .1 .1 .1 .1 .0
+same-length-7 c =
+    c .before .before .before .before .before .before .before .before .before .before .before .before .before .before .before .before .before .before .rup-with .kept .1 .1 .1 .1 .1 .1 .0
+
+same-length-8 : tie.Need-same-length-8
+same-length-8 c =
+    c .before .before .before .before .before .before .before .before .before .before .before .before .before .before .before .before .before .before .before .before .before .before .before .before .before .before .before .before .before .before .before .before .before .before .before .before .before .before .before .before .supports-of .kept .1 .1 .1 .1 .1 .1 .0
+
+same-length-9 : tie.Need-same-length-9
+same-length-9 c =
+    c .before .before .before .before .before .before .before .before .before .before .before .before .before .before .before .before .before .before .rup-with .kept .1 .1 .1 .1 .1 .1 .1 .1 .1 .0
+
+same-length-10 : tie.Need-same-length-10
+same-length-10 c =
+    c .before .before .before .before .before .before .before .before .before .before .before .before .before .before .before .before .before .before .rup-with .kept .1 .1 .1 .1 .1 .1 .1 .1 .1 .1 .0
 
 returns : tie.Need-returns
 returns c =
-    let a = c .before .before .before .before .before .before .before .before .before .before .before .before .before .before .before in
-    let s = start a in
-    (rup-full (before s) (s .pre .0 .ready .good) (members s) (root s) (table₁ a) (list₁ a) (by-negation a true (c .if1 .taken)) 64 (a .by-negation .result .count), s .pre .1)
-
-unit-prop-requires : tie.Need-unit-prop-requires
-unit-prop-requires c κs =
-    let a = c .before .before .before .before .before .before .before .before .before .before .before .before .before .before .before .before .before .before .before .before .before .before .before in
-    let s = start a in
-    let B = by-negation a false (c .before .before .before .before .before .before .before .before .if1 .left) in (
-      list-ready (before s) (members s) (root s) (table₁ a) (list₁ a) (s .args .memo .now) (a .by-negation .last .1 .1 .1 .1 .1 .0) B (s .pre .0 .ready .room) (memo-length a),
-      s .pre .1 ∙ ap unmarked (sym (a .by-negation .kept .0)),
-    )
-
-cast-t45 : tie.Need-cast-t45
-cast-t45 c = search needs
-
-same-length-8 : tie.Need-same-length-8
-same-length-8 c = c .before .before .before .before .before .before .before .before .before .before .before .before .before .before .before .before .before .unit-prop .kept .0 ∙ c .before .before .before .before .before .before .before .before .before .before .before .before .before .before .before .before .before .before .before .before .before .before .before .before .before .before .before .before .before .before .before .before .before .before .before .before .before .before .before .before .before .by-negation .kept .0
-
-same-length-9 : tie.Need-same-length-9
-same-length-9 c = c .before .before .before .before .before .before .before .before .before .before .before .before .before .before .before .before .before .unit-prop .kept .1 .0 ∙ c .before .before .before .before .before .before .before .before .before .before .before .before .before .before .before .before .before .before .before .before .before .before .before .before .before .before .before .before .before .before .before .before .before .before .before .before .before .before .before .before .before .by-negation .kept .1 .0
-
-same-length-10 : tie.Need-same-length-10
-same-length-10 c = c .before .before .before .before .before .before .before .before .before .before .before .before .before .before .before .before .before .unit-prop .kept .1 .1 .0 ∙ c .before .before .before .before .before .before .before .before .before .before .before .before .before .before .before .before .before .before .before .before .before .before .before .before .before .before .before .before .before .before .before .before .before .before .before .before .before .before .before .before .before .by-negation .kept .1 .1 .0
-
-same-length-11 : tie.Need-same-length-11
-same-length-11 c = c .before .before .before .before .before .before .before .before .before .before .before .before .before .before .before .before .before .unit-prop .kept .1 .1 .1 .0 ∙ c .before .before .before .before .before .before .before .before .before .before .before .before .before .before .before .before .before .before .before .before .before .before .before .before .before .before .before .before .before .before .before .before .before .before .before .before .before .before .before .before .before .by-negation .kept .1 .1 .1 .0
-
-same-length-12 : tie.Need-same-length-12
-same-length-12 c = c .before .before .before .before .before .before .before .before .before .before .before .before .before .before .before .before .before .unit-prop .kept .1 .1 .1 .1 .0 ∙ c .before .before .before .before .before .before .before .before .before .before .before .before .before .before .before .before .before .before .before .before .before .before .before .before .before .before .before .before .before .before .before .before .before .before .before .before .before .before .before .before .before .by-negation .kept .1 .1 .1 .1 .0
-
-same-length-13 : tie.Need-same-length-13
-same-length-13 c = c .before .before .before .before .before .before .before .before .before .before .before .before .before .before .before .before .before .unit-prop .kept .1 .1 .1 .1 .1 .0 ∙ c .before .before .before .before .before .before .before .before .before .before .before .before .before .before .before .before .before .before .before .before .before .before .before .before .before .before .before .before .before .before .before .before .before .before .before .before .before .before .before .before .before .by-negation .kept .1 .1 .1 .1 .1 .0
-
-same-length-14 : tie.Need-same-length-14
-same-length-14 c = c .before .before .before .before .before .before .before .before .before .before .before .before .before .before .before .before .before .unit-prop .kept .1 .1 .1 .1 .1 .1 .0
-
-same-length-15 : tie.Need-same-length-15
-same-length-15 c = c .before .before .before .before .before .before .before .before .before .before .before .before .before .before .before .before .before .unit-prop .kept .1 .1 .1 .1 .1 .1 .1 .0 ∙ c .before .before .before .before .before .before .before .before .before .before .before .before .before .before .before .before .before .before .before .before .before .before .before .before .before .before .before .before .before .before .before .before .before .before .before .before .before .before .before .before .before .by-negation .kept .1 .1 .1 .1 .1 .1 .1 .0
-
-returns-2 : tie.Need-returns-2
-returns-2 c =
-    let a = c .before .before .before .before .before .before .before .before .before .before .before .before .before .before .before .before .before .before .before .before .before .before .before .before .before .before .before .before .before .before .before .before .before .before .before .before .before .before .before .before .before in
-    let s = start a in
-    let p = c .before .before .before .before .before .before .before .before .before .before .before .before .before .before .before .before .before .unit-prop in (
-      rup-judged (before s) (s .pre .0 .ready .good) (members s) (root s) (table₁ a) (list₁ a) (by-negation a false (c .before .before .before .before .before .before .before .before .before .before .before .before .before .before .before .before .before .before .before .before .before .before .before .before .before .before .if1 .left)) (p .result) (tableOf (p .last .0) (p .last .1 .0) (p .last .1 .1 .0) (p .last .1 .1 .1 .0) (p .last .1 .1 .1 .1 .0) (p .result .count)) (p .ensures .0),
-      p .ensures .1 ∙ ap unmarked (a .by-negation .kept .0),
-    )
+    c .before .before .before .before .before .before .before .before .before .before .before .before .before .before .before .before .before .before .rup-with .ensures
 
 pub rup-spec : {M : Type 1} → statement M
-rup-spec = tie.close (tie.spec by-negation-requires same-length same-length-2 same-length-3 same-length-4 same-length-5 same-length-6 same-length-7 returns unit-prop-requires cast-t45 same-length-8 same-length-9 same-length-10 same-length-11 same-length-12 same-length-13 same-length-14 same-length-15 returns-2)
+rup-spec =
+    tie.close
+    (tie.spec
+    supports-of-requires
+    support-from-requires
+    rup-with-requires
+    same-length
+    same-length-2
+    same-length-3
+    same-length-4
+    same-length-5
+    same-length-6
+    same-length-7
+    same-length-8
+    same-length-9
+    same-length-10
+    returns)

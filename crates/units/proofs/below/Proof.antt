@@ -4,7 +4,7 @@ use Prim.Native.Nat.{ℕ, _-_, _*_, _%_, _^_, _<_}
 use native.Mathlib.Omega.{arith}
 use lib.Pow.{pow-pos}
 use Rattle.units.specs.Units.{belowWord}
-use Rattle.units.proofs.Bits.{one-shifted}
+use Rattle.meaning.proofs.Words.{one-shifted}
 use borrow.Author.Needs.{needs}
 use Rattle.units.proofs.below.Statement.{statement}
 use Rattle.units.proofs.below.Tie as tie

@@ -3,7 +3,7 @@ use mathlib.Core.Path.{ap}
 use Prim.Native.Nat.{ℕ, _+_, _^_, _<_}
 use native.Mathlib.Omega.{arith}
 use borrow.Author.Needs.{needs}
-use Rattle.units.proofs.Bits.{one-shifted}
+use Rattle.meaning.proofs.Words.{one-shifted}
 use Rattle.steps.proofs.Bits.{add-fits}
 use Rattle.steps.proofs.witness.with_variable.Statement.{statement}
 use Rattle.steps.proofs.witness.with_variable.Tie as tie

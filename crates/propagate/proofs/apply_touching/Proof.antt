@@ -1,0 +1,58 @@
+-- A member that shares no variable with the operation is given back, the others go to `apply`. Assumes nothing.
+use borrow.Author.Needs.{needs}
+use Rattle.table.specs.Indexed.{tableOf}
+use Rattle.propagate.proofs.Touching.{untouched}
+use Rattle.propagate.proofs.apply_touching.Statement.{statement}
+use Rattle.propagate.proofs.apply_touching.Tie as tie
+
+returns : tie.Need-returns
+returns c =
+    let a = c .before .before .before .before .before .before .before .args in
+    let r = c .before .before .before .before .before .before .before .pre in
+    (untouched (tableOf (a .vars .now) (a .lows .now) (a .highs .now) (a .heads .now) (a .links .now) (a .count)) (r .0 .good) (a .f .0) (a .g .0) (r .0 .f-inside) (r .0 .g-inside) (a .word) (a .touching) (r .1) (a .op) (a .memo .now) (r .0) (r .2) (c .if1 .taken), r .0 .right)
+
+apply-requires : tie.Need-apply-requires
+apply-requires c κs =
+    search needs
+
+same-length : tie.Need-same-length
+same-length c =
+    search needs
+
+same-length-2 : tie.Need-same-length-2
+same-length-2 c =
+    search needs
+
+same-length-3 : tie.Need-same-length-3
+same-length-3 c =
+    search needs
+
+same-length-4 : tie.Need-same-length-4
+same-length-4 c =
+    search needs
+
+same-length-5 : tie.Need-same-length-5
+same-length-5 c =
+    search needs
+
+same-length-6 : tie.Need-same-length-6
+same-length-6 c =
+    search needs
+
+returns-2 : tie.Need-returns-2
+returns-2 c =
+    search needs
+
+pub apply-touching-spec : {M : Type 1} → statement M
+apply-touching-spec =
+    tie.close
+    (tie.spec
+    returns
+    apply-requires
+    same-length
+    same-length-2
+    same-length-3
+    same-length-4
+    same-length-5
+    same-length-6
+    returns-2)

@@ -1,0 +1,74 @@
+// The variables of a node's diagram, as a word.
+use table::NodeNo;
+ghost use mathlib.Core.Path.{_≡_};
+ghost use Prim.Native.Nat.{_-_, _^_, _≤_, _<_};
+ghost use lib.ListN.{length};
+ghost use lib.Bits.{bitOr};
+ghost use Rattle.table.specs.Nodes.{diagramAt};
+ghost use Rattle.walks.specs.Readable.{Readable, Roomy, nodesIn};
+ghost use Rattle.conflict.specs.Members.{Inside};
+ghost use Rattle.supports.specs.Supports.{Support, Supports, SupportMemo};
+
+// The word with the variable v.
+fn with_variable(word: u64, v: u8) -> u64
+    requires { ⌜ (1 ≤ v) × (v ≤ 64) ⌝ }
+    ensures { λ r. ⌜ r ≡ bitOr word (2 ^ (v - 1)) ⌝ }
+{
+    let i = (v - 1) as u64;
+    word | 1 << i
+}
+
+// The variables of a node, where the memo holds those of nodes already known; it stays so.
+pub fn support_from(
+    vars: &[u8],
+    lows: &[u16],
+    highs: &[u16],
+    memo: &mut [u64],
+    count: usize,
+    f: NodeNo,
+) -> u64
+    requires { ⌜ Readable (now vars) (now lows) (now highs) count × (f .0 < count) × Roomy (now vars) (now memo) ⌝ }
+    requires { ⌜ SupportMemo (now memo) (nodesIn (now vars) (now lows) (now highs) count) ⌝ }
+    ensures { λ r. ⌜ Support r (diagramAt (nodesIn (now (vars .entry)) (now (lows .entry)) (now (highs .entry)) count) (f .0)) ⌝ }
+    ensures { λ _. ⌜ SupportMemo (now (memo .exit)) (nodesIn (now (vars .entry)) (now (lows .entry)) (now (highs .entry)) count) ⌝ }
+{
+    if f.0 < 2 {
+        return 0;
+    }
+    let i = f.0 as usize;
+    let known = memo[i];
+    if known != 0 {
+        return known;
+    }
+    let v = vars[i];
+    let low = NodeNo(lows[i]);
+    let high = NodeNo(highs[i]);
+    let a = support_from(vars, lows, highs, memo, count, low);
+    let b = support_from(vars, lows, highs, memo, count, high);
+    let word = with_variable(a | b, v);
+    memo[i] = word;
+    word
+}
+
+// Fills the words with the variables of the listed nodes. The memo, cleared first, then holds those of all nodes met.
+pub fn supports_of(
+    vars: &[u8],
+    lows: &[u16],
+    highs: &[u16],
+    memo: &mut [u64],
+    count: usize,
+    list: &[u16],
+    words: &mut [u64],
+)
+    requires { ⌜ Readable (now vars) (now lows) (now highs) count × Inside count (now list) × Roomy (now vars) (now memo) × (length (now words) ≡ length (now list)) ⌝ }
+    ensures { λ _. ⌜ Supports (nodesIn (now (vars .entry)) (now (lows .entry)) (now (highs .entry)) count) (now (list .entry)) (now (words .exit)) ⌝ }
+    ensures { λ _. ⌜ SupportMemo (now (memo .exit)) (nodesIn (now (vars .entry)) (now (lows .entry)) (now (highs .entry)) count) ⌝ }
+{
+    walks::clear_memo(memo, count);
+    let mut i: usize = 0;
+    while i < list.len() {
+        let f = NodeNo(list[i]);
+        words[i] = support_from(vars, lows, highs, memo, count, f);
+        i += 1;
+    }
+}
