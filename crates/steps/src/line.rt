@@ -95,6 +95,8 @@ fn judge_line(
     ensures { λ _. ⌜ now (marks .exit) ≡ unmarked (length (now (vars .entry))) ⌝ }
 {
     let m = st.members;
+    let mut given = [0u64; 2048];
+    let mut words = [0u64; 2048];
     match rule {
         Rule::Rup => judge::rup(
             vars,
@@ -105,13 +107,16 @@ fn judge_line(
             memo,
             marks,
             &members[..m],
+            &mut given[..m],
             &mut scratch[..m],
+            &mut words[..m],
             st.count,
             g,
         ),
         Rule::Pr => {
             // Two parts of the scratch list cannot be lent at once.
             let mut second = [0u16; 2048];
+            let mut seconds = [0u64; 2048];
             judge::pr(
                 vars,
                 lows,
@@ -121,8 +126,11 @@ fn judge_line(
                 memo,
                 marks,
                 &members[..m],
+                &mut given[..m],
                 &mut scratch[..m],
+                &mut words[..m],
                 &mut second[..m],
+                &mut seconds[..m],
                 st.count,
                 g,
                 st.positive,

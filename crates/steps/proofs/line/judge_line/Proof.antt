@@ -28,110 +28,221 @@ module _ (s : tie.Start) where
   scratch-length : length (take (s .args .st .members) (s .args .scratch .now)) ≡ s .args .st .members
   scratch-length = length-take-le (s .args .st .members) (s .args .scratch .now) (omega (arith, s .pre .2, s .pre .4))
 
-  second-length : length (take (s .args .st .members) (replicate {A = ℕ} 2048 0)) ≡ s .args .st .members
-  second-length = length-take-le (s .args .st .members) (replicate {A = ℕ} 2048 0) (omega (arith, length-replicate {A = ℕ} 2048 0, s .pre .2))
+  -- the lists made here
+  own-length : length (take (s .args .st .members) (replicate {A = ℕ} 2048 0)) ≡ s .args .st .members
+  own-length = length-take-le (s .args .st .members) (replicate {A = ℕ} 2048 0) (omega (arith, length-replicate {A = ℕ} 2048 0, s .pre .2))
 
 enum-told : tie.Need-enum-told
-enum-told c = search needs
+enum-told c =
+    search needs
 
 slice-aggregate-rup : tie.Need-slice-aggregate-rup
-slice-aggregate-rup c = sym (members-length (c .before .before .before .before .before .before .before .before .before .before .before .before .before .before .before .before .before .before .before))
+slice-aggregate-rup c =
+    sym (members-length (c .before .before .before .before .before .before .before .before .before .before .before .before .before .before .before .before .before .before .before))
 
-slice-relend-prefix-rup : tie.Need-slice-relend-prefix-rup
-slice-relend-prefix-rup c = search needs
+array-borrow-prefix-given : tie.Need-array-borrow-prefix-given
+array-borrow-prefix-given c =
+    search needs
 
 slice-aggregate-rup-2 : tie.Need-slice-aggregate-rup-2
-slice-aggregate-rup-2 c = sym (scratch-length (c .before .before .before .before .before .before .before .before .before .before .before .before .before .before .before .before .before .before .before .before))
+slice-aggregate-rup-2 c =
+    sym (own-length (c .before .before .before .before .before .before .before .before .before .before .before .before .before .before .before .before .before .before .before .before))
+
+slice-relend-prefix-rup : tie.Need-slice-relend-prefix-rup
+slice-relend-prefix-rup c =
+    search needs
+
+slice-aggregate-rup-3 : tie.Need-slice-aggregate-rup-3
+slice-aggregate-rup-3 c =
+    sym (scratch-length (c .before .before .before .before .before .before .before .before .before .before .before .before .before .before .before .before .before .before .before .before .before))
+
+array-borrow-prefix-words : tie.Need-array-borrow-prefix-words
+array-borrow-prefix-words c =
+    search needs
+
+slice-aggregate-rup-4 : tie.Need-slice-aggregate-rup-4
+slice-aggregate-rup-4 c =
+    sym (own-length (c .before .before .before .before .before .before .before .before .before .before .before .before .before .before .before .before .before .before .before .before .before .before))
 
 rup-requires : tie.Need-rup-requires
-rup-requires c κs = let s = c .before .before .before .before .before .before .before .before .before .before .before .before .before .before .before .before .before .before .before .before in (s .pre .0, s .pre .1, scratch-length s ∙ sym (members-length s))
+rup-requires c κs =
+    let s = c .before .before .before .before .before .before .before .before .before .before .before .before .before .before .before .before .before .before .before .before .before .before in ((s .pre .0, s .pre .1, scratch-length s ∙ sym (members-length s)), (own-length s ∙ sym (members-length s), own-length s ∙ sym (members-length s)))
 
 enum-told-2 : tie.Need-enum-told-2
-enum-told-2 c = search needs
+enum-told-2 c =
+    search needs
 
 slice-aggregate-pr : tie.Need-slice-aggregate-pr
-slice-aggregate-pr c = sym (members-length (c .before .before .before .before .before .before .before .before .before .before .before .before .before .before .before .before .before .before .before))
+slice-aggregate-pr c =
+    sym (members-length (c .before .before .before .before .before .before .before .before .before .before .before .before .before .before .before .before .before .before .before))
 
-slice-relend-prefix-pr : tie.Need-slice-relend-prefix-pr
-slice-relend-prefix-pr c = search needs
+array-borrow-prefix-given-2 : tie.Need-array-borrow-prefix-given-2
+array-borrow-prefix-given-2 c =
+    search needs
 
 slice-aggregate-pr-2 : tie.Need-slice-aggregate-pr-2
-slice-aggregate-pr-2 c = sym (scratch-length (c .before .before .before .before .before .before .before .before .before .before .before .before .before .before .before .before .before .before .before .before))
+slice-aggregate-pr-2 c =
+    sym (own-length (c .before .before .before .before .before .before .before .before .before .before .before .before .before .before .before .before .before .before .before .before))
 
-array-borrow-prefix-second : tie.Need-array-borrow-prefix-second
-array-borrow-prefix-second c = search needs
+slice-relend-prefix-pr : tie.Need-slice-relend-prefix-pr
+slice-relend-prefix-pr c =
+    search needs
 
 slice-aggregate-pr-3 : tie.Need-slice-aggregate-pr-3
-slice-aggregate-pr-3 c = sym (second-length (c .before .before .before .before .before .before .before .before .before .before .before .before .before .before .before .before .before .before .before .before .before))
+slice-aggregate-pr-3 c =
+    sym (scratch-length (c .before .before .before .before .before .before .before .before .before .before .before .before .before .before .before .before .before .before .before .before .before))
+
+array-borrow-prefix-words-2 : tie.Need-array-borrow-prefix-words-2
+array-borrow-prefix-words-2 c =
+    search needs
+
+slice-aggregate-pr-4 : tie.Need-slice-aggregate-pr-4
+slice-aggregate-pr-4 c =
+    sym (own-length (c .before .before .before .before .before .before .before .before .before .before .before .before .before .before .before .before .before .before .before .before .before .before))
+
+array-borrow-prefix-second : tie.Need-array-borrow-prefix-second
+array-borrow-prefix-second c =
+    search needs
+
+slice-aggregate-pr-5 : tie.Need-slice-aggregate-pr-5
+slice-aggregate-pr-5 c =
+    sym (own-length (c .before .before .before .before .before .before .before .before .before .before .before .before .before .before .before .before .before .before .before .before .before .before .before))
+
+array-borrow-prefix-seconds : tie.Need-array-borrow-prefix-seconds
+array-borrow-prefix-seconds c =
+    search needs
+
+slice-aggregate-pr-6 : tie.Need-slice-aggregate-pr-6
+slice-aggregate-pr-6 c =
+    sym (own-length (c .before .before .before .before .before .before .before .before .before .before .before .before .before .before .before .before .before .before .before .before .before .before .before .before))
 
 pr-requires : tie.Need-pr-requires
-pr-requires c κs = let s = c .before .before .before .before .before .before .before .before .before .before .before .before .before .before .before .before .before .before .before .before .before in (s .pre .0, s .pre .1, scratch-length s ∙ sym (members-length s), second-length s ∙ sym (members-length s), omega (arith, members-length s, s .pre .2))
+pr-requires c κs =
+    let s = c .before .before .before .before .before .before .before .before .before .before .before .before .before .before .before .before .before .before .before .before .before .before .before .before in ((s .pre .0, s .pre .1, scratch-length s ∙ sym (members-length s), own-length s ∙ sym (members-length s), omega (arith, members-length s, s .pre .2)), (own-length s ∙ sym (members-length s), own-length s ∙ sym (members-length s), own-length s ∙ sym (members-length s)))
 
 same-length : tie.Need-same-length
-same-length c = c .before .before .before .before .before .before .before .before .before .before .before .before .before .before .before .before .rup .kept .0
+same-length c =
+    c .before .before .before .before .before .before .before .before .before .before .before .before .before .before .before .before .before .before .rup .kept .0
 
 same-length-2 : tie.Need-same-length-2
-same-length-2 c = c .before .before .before .before .before .before .before .before .before .before .before .before .before .before .before .before .rup .kept .1 .0
+same-length-2 c =
+    c .before .before .before .before .before .before .before .before .before .before .before .before .before .before .before .before .before .before .rup .kept .1 .0
 
 same-length-3 : tie.Need-same-length-3
-same-length-3 c = c .before .before .before .before .before .before .before .before .before .before .before .before .before .before .before .before .rup .kept .1 .1 .0
+same-length-3 c =
+    c .before .before .before .before .before .before .before .before .before .before .before .before .before .before .before .before .before .before .rup .kept .1 .1 .0
 
 same-length-4 : tie.Need-same-length-4
-same-length-4 c = c .before .before .before .before .before .before .before .before .before .before .before .before .before .before .before .before .rup .kept .1 .1 .1 .0
+same-length-4 c =
+    c .before .before .before .before .before .before .before .before .before .before .before .before .before .before .before .before .before .before .rup .kept .1 .1 .1 .0
 
 same-length-5 : tie.Need-same-length-5
-same-length-5 c = c .before .before .before .before .before .before .before .before .before .before .before .before .before .before .before .before .rup .kept .1 .1 .1 .1 .0
+same-length-5 c =
+    c .before .before .before .before .before .before .before .before .before .before .before .before .before .before .before .before .before .before .rup .kept .1 .1 .1 .1 .0
 
 same-length-6 : tie.Need-same-length-6
-same-length-6 c = c .before .before .before .before .before .before .before .before .before .before .before .before .before .before .before .before .rup .kept .1 .1 .1 .1 .1 .0
+same-length-6 c =
+    c .before .before .before .before .before .before .before .before .before .before .before .before .before .before .before .before .before .before .rup .kept .1 .1 .1 .1 .1 .0
 
 same-length-7 : tie.Need-same-length-7
-same-length-7 c = c .before .before .before .before .before .before .before .before .before .before .before .before .before .before .before .before .rup .kept .1 .1 .1 .1 .1 .1 .0
+same-length-7 c =
+    c .before .before .before .before .before .before .before .before .before .before .before .before .before .before .before .before .before .before .rup .kept .1 .1 .1 .1 .1 .1 .0
 
 same-length-8 : tie.Need-same-length-8
-same-length-8 c = length-front (c .before .before .before .before .before .before .before .before .before .before .before .before .before .before .before .before .before .before .before .before .before .before .before .before .before .before .before .before .before .before .before .before .before .before .before .before .before .args .scratch .now) (c .before .before .before .before .before .before .before .before .before .before .before .before .before .before .before .before .rup .last .1 .1 .1 .1 .1 .1 .1 .1 .0) (c .before .before .before .before .before .before .before .before .before .before .before .before .before .before .before .before .before .before .before .before .before .before .before .before .before .before .before .before .before .before .before .before .before .before .before .before .before .args .st .members) (c .before .before .before .before .before .before .before .before .before .before .before .before .before .before .before .before .rup .kept .1 .1 .1 .1 .1 .1 .1 .1 .0)
+same-length-8 c =
+    length-front (c .before .before .before .before .before .before .before .before .before .before .before .before .before .before .before .before .before .before .before .before .before .before .before .before .before .before .before .before .before .before .before .before .before .before .before .before .before .before .before .before .before .args .scratch .now) (c .before .before .before .before .before .before .before .before .before .before .before .before .before .before .before .before .before .before .rup .last .1 .1 .1 .1 .1 .1 .1 .1 .1 .0) (c .before .before .before .before .before .before .before .before .before .before .before .before .before .before .before .before .before .before .before .before .before .before .before .before .before .before .before .before .before .before .before .before .before .before .before .before .before .before .before .before .before .args .st .members) (c .before .before .before .before .before .before .before .before .before .before .before .before .before .before .before .before .before .before .rup .kept .1 .1 .1 .1 .1 .1 .1 .1 .1 .0)
 
 returns : tie.Need-returns
 returns c =
-    let s = c .before .before .before .before .before .before .before .before .before .before .before .before .before .before .before .before .before .before .before .before .before .before .before .before .before .before .before .before .before .before .before .before .before .before .before .before .before in
-    let r = c .before .before .before .before .before .before .before .before .before .before .before .before .before .before .before .before .rup in (
-      subst (λ (x : Rule). Says (before s) (lineOf 64 (state s) x (s .args .g .0)) 131072 (r .result) (tableOf (r .last .0) (r .last .1 .0) (r .last .1 .1 .0) (r .last .1 .1 .1 .0) (r .last .1 .1 .1 .1 .0) (r .result .count))) (sym (c .before .before .before .before .before .before .before .before .before .before .before .before .before .before .before .before .before .before .before .before .before .before .before .before .before .before .enum-told .given .1))
+    let s = c .before .before .before .before .before .before .before .before .before .before .before .before .before .before .before .before .before .before .before .before .before .before .before .before .before .before .before .before .before .before .before .before .before .before .before .before .before .before .before .before .before in
+    let r = c .before .before .before .before .before .before .before .before .before .before .before .before .before .before .before .before .before .before .rup in (
+      subst (λ (x : Rule). Says (before s) (lineOf 64 (state s) x (s .args .g .0)) 131072 (r .result) (tableOf (r .last .0) (r .last .1 .0) (r .last .1 .1 .0) (r .last .1 .1 .1 .0) (r .last .1 .1 .1 .1 .0) (r .result .count))) (sym (c .before .before .before .before .before .before .before .before .before .before .before .before .before .before .before .before .before .before .before .before .before .before .before .before .before .before .before .before .before .before .enum-told .given .1))
           (says-most (before s) _ _ 131072 (r .result) _ (omega arith) (r .ensures .0)),
       r .ensures .1,
     )
 
 same-length-9 : tie.Need-same-length-9
-same-length-9 c = c .before .before .before .before .before .before .before .before .before .before .before .before .before .before .before .before .before .pr .kept .0
+same-length-9 c =
+    c .before .before .before .before .before .before .before .before .before .before .before .before .before .before .before .before .before .before .before .before .pr .kept .0
 
 same-length-10 : tie.Need-same-length-10
-same-length-10 c = c .before .before .before .before .before .before .before .before .before .before .before .before .before .before .before .before .before .pr .kept .1 .0
+same-length-10 c =
+    c .before .before .before .before .before .before .before .before .before .before .before .before .before .before .before .before .before .before .before .before .pr .kept .1 .0
 
 same-length-11 : tie.Need-same-length-11
-same-length-11 c = c .before .before .before .before .before .before .before .before .before .before .before .before .before .before .before .before .before .pr .kept .1 .1 .0
+same-length-11 c =
+    c .before .before .before .before .before .before .before .before .before .before .before .before .before .before .before .before .before .before .before .before .pr .kept .1 .1 .0
 
 same-length-12 : tie.Need-same-length-12
-same-length-12 c = c .before .before .before .before .before .before .before .before .before .before .before .before .before .before .before .before .before .pr .kept .1 .1 .1 .0
+same-length-12 c =
+    c .before .before .before .before .before .before .before .before .before .before .before .before .before .before .before .before .before .before .before .before .pr .kept .1 .1 .1 .0
 
 same-length-13 : tie.Need-same-length-13
-same-length-13 c = c .before .before .before .before .before .before .before .before .before .before .before .before .before .before .before .before .before .pr .kept .1 .1 .1 .1 .0
+same-length-13 c =
+    c .before .before .before .before .before .before .before .before .before .before .before .before .before .before .before .before .before .before .before .before .pr .kept .1 .1 .1 .1 .0
 
 same-length-14 : tie.Need-same-length-14
-same-length-14 c = c .before .before .before .before .before .before .before .before .before .before .before .before .before .before .before .before .before .pr .kept .1 .1 .1 .1 .1 .0
+same-length-14 c =
+    c .before .before .before .before .before .before .before .before .before .before .before .before .before .before .before .before .before .before .before .before .pr .kept .1 .1 .1 .1 .1 .0
 
 same-length-15 : tie.Need-same-length-15
-same-length-15 c = c .before .before .before .before .before .before .before .before .before .before .before .before .before .before .before .before .before .pr .kept .1 .1 .1 .1 .1 .1 .0
+same-length-15 c =
+    c .before .before .before .before .before .before .before .before .before .before .before .before .before .before .before .before .before .before .before .before .pr .kept .1 .1 .1 .1 .1 .1 .0
 
 same-length-16 : tie.Need-same-length-16
-same-length-16 c = length-front (c .before .before .before .before .before .before .before .before .before .before .before .before .before .before .before .before .before .before .before .before .before .before .before .before .before .before .before .before .before .before .before .before .before .before .before .before .before .before .before .args .scratch .now) (c .before .before .before .before .before .before .before .before .before .before .before .before .before .before .before .before .before .pr .last .1 .1 .1 .1 .1 .1 .1 .1 .0) (c .before .before .before .before .before .before .before .before .before .before .before .before .before .before .before .before .before .before .before .before .before .before .before .before .before .before .before .before .before .before .before .before .before .before .before .before .before .before .before .args .st .members) (c .before .before .before .before .before .before .before .before .before .before .before .before .before .before .before .before .before .pr .kept .1 .1 .1 .1 .1 .1 .1 .1 .0)
+same-length-16 c =
+    length-front (c .before .before .before .before .before .before .before .before .before .before .before .before .before .before .before .before .before .before .before .before .before .before .before .before .before .before .before .before .before .before .before .before .before .before .before .before .before .before .before .before .before .before .before .before .before .args .scratch .now) (c .before .before .before .before .before .before .before .before .before .before .before .before .before .before .before .before .before .before .before .before .pr .last .1 .1 .1 .1 .1 .1 .1 .1 .1 .0) (c .before .before .before .before .before .before .before .before .before .before .before .before .before .before .before .before .before .before .before .before .before .before .before .before .before .before .before .before .before .before .before .before .before .before .before .before .before .before .before .before .before .before .before .before .before .args .st .members) (c .before .before .before .before .before .before .before .before .before .before .before .before .before .before .before .before .before .before .before .before .pr .kept .1 .1 .1 .1 .1 .1 .1 .1 .1 .0)
 
 returns-2 : tie.Need-returns-2
 returns-2 c =
-    let s = c .before .before .before .before .before .before .before .before .before .before .before .before .before .before .before .before .before .before .before .before .before .before .before .before .before .before .before .before .before .before .before .before .before .before .before .before .before .before .before in
-    let r = c .before .before .before .before .before .before .before .before .before .before .before .before .before .before .before .before .before .pr in (
-      subst (λ (x : Rule). Says (before s) (lineOf 64 (state s) x (s .args .g .0)) 131072 (r .result) (tableOf (r .last .0) (r .last .1 .0) (r .last .1 .1 .0) (r .last .1 .1 .1 .0) (r .last .1 .1 .1 .1 .0) (r .result .count))) (sym (c .before .before .before .before .before .before .before .before .before .before .before .before .before .before .before .before .before .before .before .before .before .before .before .before .before .before .before .before .enum-told2 .given .1))
+    let s = c .before .before .before .before .before .before .before .before .before .before .before .before .before .before .before .before .before .before .before .before .before .before .before .before .before .before .before .before .before .before .before .before .before .before .before .before .before .before .before .before .before .before .before .before .before in
+    let r = c .before .before .before .before .before .before .before .before .before .before .before .before .before .before .before .before .before .before .before .before .pr in (
+      subst (λ (x : Rule). Says (before s) (lineOf 64 (state s) x (s .args .g .0)) 131072 (r .result) (tableOf (r .last .0) (r .last .1 .0) (r .last .1 .1 .0) (r .last .1 .1 .1 .0) (r .last .1 .1 .1 .1 .0) (r .result .count))) (sym (c .before .before .before .before .before .before .before .before .before .before .before .before .before .before .before .before .before .before .before .before .before .before .before .before .before .before .before .before .before .before .before .before .before .before .enum-told2 .given .1))
           (says-most (before s) _ _ 131072 (r .result) _ (omega (arith, members-length s, s .pre .2)) (r .ensures .0)),
       r .ensures .1,
     )
 
 pub judge-line-spec : {M : Type 1} → statement M
-judge-line-spec = tie.close (tie.spec enum-told slice-aggregate-rup slice-relend-prefix-rup slice-aggregate-rup-2 rup-requires enum-told-2 slice-aggregate-pr slice-relend-prefix-pr slice-aggregate-pr-2 array-borrow-prefix-second slice-aggregate-pr-3 pr-requires same-length same-length-2 same-length-3 same-length-4 same-length-5 same-length-6 same-length-7 same-length-8 returns same-length-9 same-length-10 same-length-11 same-length-12 same-length-13 same-length-14 same-length-15 same-length-16 returns-2)
+judge-line-spec =
+    tie.close
+    (tie.spec
+    enum-told
+    slice-aggregate-rup
+    array-borrow-prefix-given
+    slice-aggregate-rup-2
+    slice-relend-prefix-rup
+    slice-aggregate-rup-3
+    array-borrow-prefix-words
+    slice-aggregate-rup-4
+    rup-requires
+    enum-told-2
+    slice-aggregate-pr
+    array-borrow-prefix-given-2
+    slice-aggregate-pr-2
+    slice-relend-prefix-pr
+    slice-aggregate-pr-3
+    array-borrow-prefix-words-2
+    slice-aggregate-pr-4
+    array-borrow-prefix-second
+    slice-aggregate-pr-5
+    array-borrow-prefix-seconds
+    slice-aggregate-pr-6
+    pr-requires
+    same-length
+    same-length-2
+    same-length-3
+    same-length-4
+    same-length-5
+    same-length-6
+    same-length-7
+    same-length-8
+    returns
+    same-length-9
+    same-length-10
+    same-length-11
+    same-length-12
+    same-length-13
+    same-length-14
+    same-length-15
+    same-length-16
+    returns-2)
