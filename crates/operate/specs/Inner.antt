@@ -79,8 +79,8 @@ stepOf Negation s = Both s
 stepOf Cofactor s = cond (eqb (s .g0 .0) 0) (One (s .f1) (s .g1)) (cond (eqb (s .g1 .0) 0) (One (s .f0) (s .g0)) (Both s))
 stepOf (Literals p n) s = cond (inWord p (s .x)) (One (s .f1) (s .g1)) (cond (inWord n (s .x)) (One (s .f0) (s .g0)) (Both s))
 
--- ---- the memo: three cells that say how many of the cells behind them are live, how many of those are used, and the level step; then
--- packed entries, 0 where there is none
+-- ---- the memo: three cells that say how many of the cells behind them are live, how many of those are used, and at each how many-th variable
+-- results are held; then packed entries, 0 where there is none
 
 abbrev pub pack : ℕ → ℕ → ℕ → ℕ
 pack f g r = f * 4294967296 + g * 65536 + r

@@ -1,5 +1,6 @@
-// The memo of the recursion: a hash table of results in the slice that is lent, as much of it as there is use for. No entry is lost while
-// there is room. Where all of the slice is too little, every step-th level of variables is still held so, and the others share half of it.
+// The memo of the recursion: a hash table of results in the slice that is lent, in as much of it as there is use for. No result is lost
+// while there is room. Where all of the slice is too little, only every step-th variable's results are held, so that the work is bounded by
+// the cells times 2 to the step, and not by the number of paths.
 use crate::top_of;
 use table::Found;
 use table::NodeNo;
@@ -41,31 +42,21 @@ fn probe(memo: &[u64], from: usize, to: usize, key: u64) -> usize
     to
 }
 
-// The cell of f and g among the first m: from their home to the end, then from the beginning.
-fn exact_cell(memo: &[u64], m: usize, f: NodeNo, g: NodeNo) -> usize
-    requires { ⌜ (3 + m ≤ length (now memo)) × (m ≤ 1048576) ⌝ }
+// The cell of f and g among n live ones, from their home to the end, then from the beginning; n where there are none.
+fn cell_of(memo: &[u64], n: usize, f: NodeNo, g: NodeNo) -> usize
+    requires { ⌜ (3 + n ≤ length (now memo)) × (n ≤ 1048576) ⌝ }
 {
     let key = (f.0 as u64) * 65536 + (g.0 as u64);
-    let home = home_of(m, f, g);
-    let c = probe(memo, home, m, key);
-    if c < m {
+    let home = home_of(n, f, g);
+    let c = probe(memo, home, n, key);
+    if c < n {
         return c;
     }
     probe(memo, 0, home, key)
 }
 
-// How many of n live cells lose no entry: all, or the first half where not every level has them.
-fn exact_cells(n: usize, step: u64) -> usize
-    ensures { λ r. ⌜ r ≤ n ⌝ }
-{
-    if step <= 1 {
-        return n;
-    }
-    n - n / 2
-}
-
-// Whether the level of f and g is one whose entries are not lost.
-fn is_exact(vars: &[u8], step: u64, f: NodeNo, g: NodeNo) -> bool
+// Whether results are held for the first variable of f and g.
+fn is_held(vars: &[u8], step: u64, f: NodeNo, g: NodeNo) -> bool
     requires { ⌜ (f .0 < length (now vars)) × (g .0 < length (now vars)) ⌝ }
 {
     if step <= 1 {
@@ -75,25 +66,16 @@ fn is_exact(vars: &[u8], step: u64, f: NodeNo, g: NodeNo) -> bool
     x % step == 0
 }
 
-// The cell of f and g among n live ones; n or more where there is none.
-fn cell_of(vars: &[u8], memo: &[u64], n: usize, f: NodeNo, g: NodeNo) -> usize
-    requires { ⌜ (f .0 < length (now vars)) × (g .0 < length (now vars)) × (3 + n ≤ length (now memo)) × (n ≤ 1048576) ⌝ }
-{
-    let step = memo[2];
-    let m = exact_cells(n, step);
-    if is_exact(vars, step, f, g) {
-        return exact_cell(memo, m, f, g);
-    }
-    m + home_of(n - m, f, g)
-}
-
 // The result stored for f and g.
 pub fn memo_find(vars: &[u8], memo: &[u64], f: NodeNo, g: NodeNo) -> Found
     requires { ⌜ Shaped (now memo) × (f .0 < length (now vars)) × (g .0 < length (now vars)) ⌝ }
     ensures { λ r. ⌜ Tells (now (memo .entry)) (f .0) (g .0) r ⌝ }
 {
+    if !is_held(vars, memo[2], f, g) {
+        return Found::Nothing;
+    }
     let n = memo[0] as usize;
-    let c = cell_of(vars, memo, n, f, g);
+    let c = cell_of(memo, n, f, g);
     if n <= c {
         return Found::Nothing;
     }
@@ -121,16 +103,14 @@ fn restart(memo: &mut [u64], n: usize, step: u64)
     memo[2] = step;
 }
 
-// Where three quarters are used: begins anew with four times the cells, so that what is lost costs less than what follows, or, with all
-// of the slice in use, with the next level step.
+// Where three quarters of the cells are used: begins anew with four times as many, so that what is lost costs less than what comes, or,
+// with all of the slice in use, with the next step.
 fn make_room(memo: &mut [u64])
     requires { ⌜ Shaped (now memo) ⌝ }
     ensures { λ _. ⌜ Follows (now (memo .entry)) (now (memo .exit)) ⌝ }
 {
     let n = memo[0] as usize;
-    let step = memo[2];
-    let m = exact_cells(n, step) as u64;
-    if memo[1] < m - m / 4 {
+    if memo[1] < (n - n / 4) as u64 {
         return;
     }
     let all = lesser(memo.len() - 3, 1048576);
@@ -139,22 +119,8 @@ fn make_room(memo: &mut [u64])
         restart(memo, more, 1);
         return;
     }
-    restart(memo, n, step % 64 + 1);
-}
-
-// The number of used cells once c is one of them; those that may lose their entry do not count.
-fn used_with(memo: &[u64], n: usize, c: usize) -> u64
-    requires { ⌜ 3 ≤ length (now memo) ⌝ }
-{
-    let used = memo[1];
-    let m = exact_cells(n, memo[2]);
-    if m <= c {
-        return used;
-    }
-    if 1048576 <= used {
-        return used;
-    }
-    used + 1
+    let step = memo[2] % 64 + 1;
+    restart(memo, n, step);
 }
 
 // Stores the result for f and g.
@@ -162,13 +128,16 @@ pub fn memo_put(vars: &[u8], memo: &mut [u64], f: NodeNo, g: NodeNo, r: NodeNo)
     requires { ⌜ Shaped (now memo) × (f .0 < length (now vars)) × (g .0 < length (now vars)) ⌝ }
     ensures { λ _. ⌜ Stores (now (memo .entry)) (f .0) (g .0) (r .0) (now (memo .exit)) ⌝ }
 {
+    if !is_held(vars, memo[2], f, g) {
+        return;
+    }
     make_room(memo);
     let n = memo[0] as usize;
-    let c = cell_of(vars, memo, n, f, g);
+    let c = cell_of(memo, n, f, g);
     if n <= c {
         return;
     }
-    memo[1] = used_with(memo, n, c);
+    memo[1] = std::num::wrapping_add_u64(memo[1], 1);
     let a = f.0 as u64;
     let b = g.0 as u64;
     let d = r.0 as u64;
@@ -180,5 +149,6 @@ pub fn clear_memo(memo: &mut [u64])
     requires { ⌜ 3 ≤ length (now memo) ⌝ }
     ensures { λ _. ⌜ Empty (now (memo .exit)) ⌝ }
 {
+    memo[2] = 1;
     memo[0] = 0;
 }

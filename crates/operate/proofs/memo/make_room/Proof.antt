@@ -7,12 +7,6 @@ use Rattle.operate.proofs.memo.make_room.Tie as tie
 slice-read-n : tie.Need-slice-read-n
 slice-read-n c = search needs
 
-slice-read-step : tie.Need-slice-read-step
-slice-read-step c = search needs
-
-exact-cells-requires : tie.Need-exact-cells-requires
-exact-cells-requires c κs = search needs
-
 slice-read-if1 : tie.Need-slice-read-if1
 slice-read-if1 c = search needs
 
@@ -20,7 +14,7 @@ sub-if1 : tie.Need-sub-if1
 sub-if1 c = search needs
 
 returns : tie.Need-returns
-returns c = record { shaped = c .before .before .before .before .before .before .pre; right = λ op t right. right }
+returns c = record { shaped = c .before .before .before .before .pre; right = λ op t right. right }
 
 sub-lesser : tie.Need-sub-lesser
 sub-lesser c = search needs
@@ -46,8 +40,11 @@ same-length c = search needs
 returns-2 : tie.Need-returns-2
 returns-2 c = empty-follows _ _ (c .before .before .restart .ensures)
 
-add-restart : tie.Need-add-restart
-add-restart c = search needs
+slice-read-step : tie.Need-slice-read-step
+slice-read-step c = search needs
+
+add-step : tie.Need-add-step
+add-step c = search needs
 
 restart-requires-2 : tie.Need-restart-requires-2
 restart-requires-2 c κs = search needs
@@ -63,8 +60,6 @@ make-room-spec =
     tie.close
     (tie.spec
     slice-read-n
-    slice-read-step
-    exact-cells-requires
     slice-read-if1
     sub-if1
     returns
@@ -76,7 +71,8 @@ make-room-spec =
     restart-requires
     same-length
     returns-2
-    add-restart
+    slice-read-step
+    add-step
     restart-requires-2
     same-length-2
     returns-3)
