@@ -1,0 +1,11 @@
+pub mod Arrays
+pub mod Checking
+pub mod Clipping
+pub mod First
+pub mod Lent
+pub mod Lists
+pub mod Loading
+pub mod Opened
+pub mod Saving
+pub mod Setting
+pub mod Whole
