@@ -18,7 +18,7 @@ use prog.Wp.{Heap}
 use ghost.Atoms.{Atoms, sem}
 use contract.Lifetimes.{Lfts}
 use contract.Monad.{Fun, fact}
-use types.Kit.{Given, Item, ‵, raw, _⊛_, some, later, ⋆, _$_, _∵_, !, qed, move, keep, use1, use3, split, split3, join, pick, group, check, fsplit, fsplit3, fjoin, feqL, frame, await, updating, now as at-once, show, done}
+use types.Kit.{Given, Item, ‵, raw, _⊛_, some, later, ⋆, _$_, _∵_, !, qed, move, keep, use1, use2, use3, split, split3, join, pick, group, check, fsplit, fsplit3, fjoin, feqL, frame, await, updating, now as at-once, show, done}
 use denote.Laws.{Is}
 use denote.Plain.{uint-makes}
 use denote.Builtin.{u8, u16, usize}
@@ -26,6 +26,8 @@ use denote.Ref.{RefT}
 use denote.Slice.{sliceVal, slice-vals, ShrSlice, MutSlice, finally}
 use denote.Index.{row}
 use denote.Steps.{nothing, owned, heard}
+use denote.Struct.Laws as LL
+use denote.Enum.Laws as LE
 use denote.Triple.Entry.{Args, Vals}
 use denote.Triple.Spec.{tripleOf}
 use denote.Triple.Statement.{Contract}
@@ -36,7 +38,7 @@ use Rattle.session.specs.Checked.{outcomeOf}
 use Rattle.session.proofs.Checked as K
 use Rattle.nodes.specs.Within.{checkWithin}
 use Rattle.nodes.proofs.Setting.{Spot, Filled, Columns, room8, room16}
-use Rattle.nodes.proofs.Lent.{Loan, lifetime, lent-as, Lender, lends, back}
+use Rattle.nodes.proofs.Lent.{Loan, lifetime, lent-as, Lender, Sharer, lends, shares-out, back, whole-back}
 use Rattle.nodes.proofs.within.check_within as check-fn
 
 abbrev pub Check : {M : Type 1} (𝓤 : URA M) (H : Heap 𝓤) (A : Atoms 𝓤) (mem : Memory → SProp 𝓤) (run : Routine → Fun 𝓤) → Contract 𝓤
@@ -76,18 +78,17 @@ module _ {M : Type 1} (𝓤 : URA M) (H : Heap 𝓤) (A : Atoms 𝓤) (W : Given
       nothing ! $ move ! (6 ∷ 0 ∷ []) $ join ! $ move ! (5 ∷ 0 ∷ []) $ join ! $ move ! (4 ∷ 0 ∷ []) $ join ! $ move ! (3 ∷ 0 ∷ []) $ join ! $ move ! (2 ∷ 0 ∷ []) $ join ! $ move ! (1 ∷ 0 ∷ []) $ join ! $ frame ! $ nothing ! $ move ! (7 ∷ 0 ∷ []) $ fjoin ! $ move ! (6 ∷ 0 ∷ []) $ fjoin ! $ move ! (5 ∷ 0 ∷ []) $ fjoin ! $ move ! (4 ∷ 0 ∷ []) $ fjoin ! $ owned ! usize (Is usize) (uint-makes 𝓤 H A W w64) count (vint w64 count ∷ []) (refl, g-count) $ fjoin ! $ owned ! usize (Is usize) (uint-makes 𝓤 H A W w64) n (vint w64 n ∷ []) (refl, g-n) $ fjoin ! $ move ! (3 ∷ 0 ∷ []) $ fjoin ! $ move ! (2 ∷ 0 ∷ []) $ fjoin ! $ move ! (1 ∷ 0 ∷ []) $ fjoin ! $ done !
 
   abbrev pub Gives : List (Item 𝓤)
-  Gives = ‵ (Columns sp (cs .vs) (cs .ls) (cs .hs)) ∷ ‵ (flft κM qM) ∷ ‵ (flft κS qS) ∷ ‵ (flft κT qT) ∷ ‵ (MutSlice (named 3) κM u16 .own xM (slice-vals xM)) ∷ ‵ (MutSlice (named 4) κS u16 .own xS (slice-vals xS))
-      ∷ ‵ (ShrSlice (named 5) κT u8 .own xF (slice-vals xF)) ∷ ‵ (ShrSlice (named 5) κT u8 .own xP (slice-vals xP)) ∷ []
+  Gives = ‵ (Columns sp (cs .vs) (cs .ls) (cs .hs)) ∷ ‵ (flft (κM) qM) ∷ ‵ (flft (κS) qS) ∷ ‵ (flft (κT) qT) ∷ ‵ (MutSlice (named 3) (κM) u16 .own xM (slice-vals xM)) ∷ ‵ (MutSlice (named 4) (κS) u16 .own xS (slice-vals xS)) ∷ ‵ (ShrSlice (named 5) (κT) u8 .own xF (slice-vals xF)) ∷ ‵ (ShrSlice (named 5) (κT) u8 .own xP (slice-vals xP)) ∷ []
 
   pub before : ent 𝓤 (⋆ 𝓤 H A Gives) (H .⇛ (ex 𝓤 (λ (p : Loans). sep 𝓤 (Check 𝓤 H A mem run .pre (to p)) (sem 𝓤 H A (Kept p)))))
   before =
       qed W Gives ∵ updating ! $
       fsplit3 ! $
-      use1 W (later (some (λ (p : Loan). ‵ (flft (lifetime p) fullShare) ⊛ ‵ (MutSlice (named 0) (lifetime p) u8 .own (lent-as u8 (sp .bV) 0 p (cs .vs)) (sliceVal ((sp .bV), 0) 65536 ∷ [])) ⊛ ‵ (Lender u8 (sp .bV) 0 p 65536)))) (lends u8 (sp .bV) 0 𝓤 H A W (named 0) (cs .vs) 65536 (cs .eV) room8) $ await ! tt $ pick ! (λ pV. split3 ! $
+      use1 W (later (some (λ (p : Loan). ‵ (flft (lifetime p) fullShare) ⊛ ‵ (MutSlice (named 0) (lifetime p) u8 .own (lent-as u8 (sp .bV) 0 p (cs .vs)) (sliceVal (sp .bV, 0) 65536 ∷ [])) ⊛ ‵ (Lender u8 (sp .bV) 0 p 65536)))) (lends u8 (sp .bV) 0 𝓤 H A W (named 0) (cs .vs) 65536 (cs .eV) room8) $ await ! tt $ pick ! (λ pV. split3 ! $
       move ! (3 ∷ []) $
-      use1 W (later (some (λ (p : Loan). ‵ (flft (lifetime p) fullShare) ⊛ ‵ (MutSlice (named 1) (lifetime p) u16 .own (lent-as u16 (sp .bL) 0 p (cs .ls)) (sliceVal ((sp .bL), 0) 65536 ∷ [])) ⊛ ‵ (Lender u16 (sp .bL) 0 p 65536)))) (lends u16 (sp .bL) 0 𝓤 H A W (named 1) (cs .ls) 65536 (cs .eL) room16) $ await ! tt $ pick ! (λ pL. split3 ! $
+      use1 W (later (some (λ (p : Loan). ‵ (flft (lifetime p) fullShare) ⊛ ‵ (MutSlice (named 1) (lifetime p) u16 .own (lent-as u16 (sp .bL) 0 p (cs .ls)) (sliceVal (sp .bL, 0) 65536 ∷ [])) ⊛ ‵ (Lender u16 (sp .bL) 0 p 65536)))) (lends u16 (sp .bL) 0 𝓤 H A W (named 1) (cs .ls) 65536 (cs .eL) room16) $ await ! tt $ pick ! (λ pL. split3 ! $
       move ! (6 ∷ []) $
-      use1 W (later (some (λ (p : Loan). ‵ (flft (lifetime p) fullShare) ⊛ ‵ (MutSlice (named 2) (lifetime p) u16 .own (lent-as u16 (sp .bH) 0 p (cs .hs)) (sliceVal ((sp .bH), 0) 65536 ∷ [])) ⊛ ‵ (Lender u16 (sp .bH) 0 p 65536)))) (lends u16 (sp .bH) 0 𝓤 H A W (named 2) (cs .hs) 65536 (cs .eH) room16) $ await ! tt $ pick ! (λ pH. split3 ! $
+      use1 W (later (some (λ (p : Loan). ‵ (flft (lifetime p) fullShare) ⊛ ‵ (MutSlice (named 2) (lifetime p) u16 .own (lent-as u16 (sp .bH) 0 p (cs .hs)) (sliceVal (sp .bH, 0) 65536 ∷ [])) ⊛ ‵ (Lender u16 (sp .bH) 0 p 65536)))) (lends u16 (sp .bH) 0 𝓤 H A W (named 2) (cs .hs) 65536 (cs .eH) room16) $ await ! tt $ pick ! (λ pH. split3 ! $
       at-once ! $ show ! (λ (p : Loans). sep 𝓤 (Check 𝓤 H A mem run .pre (to p)) (sem 𝓤 H A (Kept p))) (pV, (pL, pH)) $
       move ! (6 ∷ 3 ∷ 0 ∷ 9 ∷ 10 ∷ 11 ∷ 7 ∷ 4 ∷ 1 ∷ 12 ∷ 13 ∷ 14 ∷ 15 ∷ []) $
       group ! 13 $ use1 W (raw (Check 𝓤 H A mem run .pre (to (pV, (pL, pH))))) (asks (pV, (pL, pH))) $ frame ! $
@@ -133,21 +134,17 @@ module _ {M : Type 1} (𝓤 : URA M) (H : Heap 𝓤) (A : Atoms 𝓤) (W : Given
       move ! (2 ∷ []) $
       fsplit ! $
       fsplit ! $
-      move ! (2 ∷ []) $
-      fsplit ! $
-      move ! (1 ∷ []) $
-      fsplit ! $
-      move ! (14 ∷ []) $
-      feqL ! (λ lV.
       move ! (12 ∷ []) $
+      feqL ! (λ lV.
+      move ! (10 ∷ []) $
       feqL ! (λ lL.
-      move ! (10 ∷ []) $
+      move ! (8 ∷ []) $
       feqL ! (λ lH.
-      move ! (6 ∷ []) $
-      feqL ! (λ lM.
       move ! (4 ∷ []) $
+      feqL ! (λ lM.
+      move ! (1 ∷ []) $
       feqL ! (λ lS.
-      move ! (10 ∷ []) $
+      move ! (8 ∷ []) $
       split ! $
       split ! $
       move ! (1 ∷ []) $
@@ -161,16 +158,17 @@ module _ {M : Type 1} (𝓤 : URA M) (H : Heap 𝓤) (A : Atoms 𝓤) (W : Given
       move ! (1 ∷ []) $
       split ! $
       move ! (1 ∷ []) $
-      move ! (18 ∷ []) $
+      move ! (16 ∷ []) $
       fsplit3 ! $
-      move ! (9 ∷ 0 ∷ 20 ∷ []) $
+      move ! (9 ∷ 0 ∷ 18 ∷ []) $
       use3 W (later (‵ (row u8 fullShare (zs .0) (sp .bV) 0))) (back u8 (sp .bV) 0 𝓤 H A W (p .0) 65536 (zs .0)) $ await ! tt $
-      move ! (8 ∷ 1 ∷ 18 ∷ []) $
+      move ! (8 ∷ 1 ∷ 16 ∷ []) $
       use3 W (later (‵ (row u16 fullShare (zs .1 .0) (sp .bL) 0))) (back u16 (sp .bL) 0 𝓤 H A W (p .1 .0) 65536 (zs .1 .0)) $ await ! tt $
-      move ! (7 ∷ 2 ∷ 16 ∷ []) $
+      move ! (7 ∷ 2 ∷ 14 ∷ []) $
       use3 W (later (‵ (row u16 fullShare (zs .1 .1 .0) (sp .bH) 0))) (back u16 (sp .bH) 0 𝓤 H A W (p .1 .1) 65536 (zs .1 .1 .0)) $ await ! tt $
       at-once ! $ show ! (λ (o : Checked × Last). guard 𝓤 (Told o) (sem 𝓤 H A (Had o w))) (r, zs) $ check ! (told, lV ∙ cs .eV, lL ∙ cs .eL, lH ∙ cs .eH, lM, lS) $
-      keep ! (11 ∷ 7 ∷ 12 ∷ 4 ∷ 5 ∷ 6 ∷ 1 ∷ 0 ∷ 2 ∷ []) $
+      keep ! (7 ∷ 8 ∷ 10 ∷ 4 ∷ 5 ∷ 6 ∷ 1 ∷ 0 ∷ 2 ∷ []) $
+      move ! (1 ∷ 0 ∷ []) $
       fjoin ! $
       move ! (1 ∷ 0 ∷ []) $
       fjoin ! $

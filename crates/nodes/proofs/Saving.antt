@@ -59,7 +59,7 @@ module _ {M : Type 1} (𝓤 : URA M) (H : Heap 𝓤) (A : Atoms 𝓤) (W : Given
   to p = ((lfts p, (fullShare, (fullShare, (fullShare, (fullShare, tt)))), tt, x p, at p), tt)
 
   abbrev pub Kept : Loans → Fml
-  Kept p = fsep (Lender N.the-row (sp .bN) (sp .oN) (p .0) (length (sp .ys))) (fsep (Sharer u8 (sp .bV) 0 (p .1 .0) 65536 (cs .vs)) (fsep (Sharer u16 (sp .bL) 0 (p .1 .1 .0) 65536 (cs .ls)) (Sharer u16 (sp .bH) 0 (p .1 .1 .1) 65536 (cs .hs))))
+  Kept p = fsep (Lender N.the-row (sp .bN) (sp .oN) (p .0) (length (sp .ys))) (fsep (Sharer u8 (sp .bV) 0 (p .1 .0) fullShare 65536 (cs .vs)) (fsep (Sharer u16 (sp .bL) 0 (p .1 .1 .0) fullShare 65536 (cs .ls)) (Sharer u16 (sp .bH) 0 (p .1 .1 .1) fullShare 65536 (cs .hs))))
 
   abbrev Has : Loans → List (Item 𝓤)
   Has p = ‵ (flft (lifetime (p .0)) fullShare) ∷ ‵ (flft (lifetime (p .1 .0)) fullShare) ∷ ‵ (flft (lifetime (p .1 .1 .0)) fullShare) ∷ ‵ (flft (lifetime (p .1 .1 .1)) fullShare)
@@ -72,20 +72,20 @@ module _ {M : Type 1} (𝓤 : URA M) (H : Heap 𝓤) (A : Atoms 𝓤) (W : Given
       nothing ! $ move ! (4 ∷ 0 ∷ []) $ join ! $ move ! (3 ∷ 0 ∷ []) $ join ! $ move ! (2 ∷ 0 ∷ []) $ join ! $ move ! (1 ∷ 0 ∷ []) $ join ! $ frame ! $
       nothing ! $ move ! (4 ∷ 0 ∷ []) $ fjoin ! $ move ! (3 ∷ 0 ∷ []) $ fjoin ! $ move ! (2 ∷ 0 ∷ []) $ fjoin ! $ owned ! usize (Is usize) (uint-makes 𝓤 H A W w64) n (vint w64 n ∷ []) (refl, omega (arith, cut .1)) $ fjoin ! $ move ! (1 ∷ 0 ∷ []) $ fjoin ! $ done !
 
-  pub before : ent 𝓤 (sem 𝓤 H A (Table sp (sp .ys) (cs .vs) (cs .ls) (cs .hs))) (H .⇛ (ex 𝓤 (λ (p : Loans). sep 𝓤 (Save 𝓤 H A mem run .pre (to p)) (sem 𝓤 H A (Kept p)))))
+  pub before : ent 𝓤 (sem 𝓤 H A (Table fullShare sp (sp .ys) (cs .vs) (cs .ls) (cs .hs))) (H .⇛ (ex 𝓤 (λ (p : Loans). sep 𝓤 (Save 𝓤 H A mem run .pre (to p)) (sem 𝓤 H A (Kept p)))))
   before =
-      qed W (‵ (Table sp (sp .ys) (cs .vs) (cs .ls) (cs .hs)) ∷ []) ∵ updating ! $ fsplit ! $ move ! (1 ∷ []) $ fsplit3 ! $
+      qed W (‵ (Table fullShare sp (sp .ys) (cs .vs) (cs .ls) (cs .hs)) ∷ []) ∵ updating ! $ fsplit ! $ move ! (1 ∷ []) $ fsplit3 ! $
       -- [vars; lows; highs; nodes]
-      use1 W (later (some (λ (p : Loan). raw (Shared u8 (sp .bV) 0 𝓤 H A W (named 1) (cs .vs) 65536 p)))) (shares-out u8 (sp .bV) 0 𝓤 H A W (named 1) (cs .vs) 65536 (cs .eV) room8) $ await ! tt $ pick ! (λ pV. move ! (1 ∷ []) $
-      use1 W (later (some (λ (p : Loan). raw (Shared u16 (sp .bL) 0 𝓤 H A W (named 2) (cs .ls) 65536 p)))) (shares-out u16 (sp .bL) 0 𝓤 H A W (named 2) (cs .ls) 65536 (cs .eL) room16) $ await ! tt $ pick ! (λ pL. move ! (2 ∷ []) $
-      use1 W (later (some (λ (p : Loan). raw (Shared u16 (sp .bH) 0 𝓤 H A W (named 3) (cs .hs) 65536 p)))) (shares-out u16 (sp .bH) 0 𝓤 H A W (named 3) (cs .hs) 65536 (cs .eH) room16) $ await ! tt $ pick ! (λ pH. move ! (3 ∷ []) $
+      use1 W (later (some (λ (p : Loan). raw (Shared u8 (sp .bV) 0 𝓤 H A W (named 1) (cs .vs) fullShare 65536 p)))) (shares-out u8 (sp .bV) 0 𝓤 H A W (named 1) (cs .vs) fullShare 65536 (cs .eV) room8) $ await ! tt $ pick ! (λ pV. move ! (1 ∷ []) $
+      use1 W (later (some (λ (p : Loan). raw (Shared u16 (sp .bL) 0 𝓤 H A W (named 2) (cs .ls) fullShare 65536 p)))) (shares-out u16 (sp .bL) 0 𝓤 H A W (named 2) (cs .ls) fullShare 65536 (cs .eL) room16) $ await ! tt $ pick ! (λ pL. move ! (2 ∷ []) $
+      use1 W (later (some (λ (p : Loan). raw (Shared u16 (sp .bH) 0 𝓤 H A W (named 3) (cs .hs) fullShare 65536 p)))) (shares-out u16 (sp .bH) 0 𝓤 H A W (named 3) (cs .hs) fullShare 65536 (cs .eH) room16) $ await ! tt $ pick ! (λ pH. move ! (3 ∷ []) $
       use1 W (later (some (λ (p : Loan). raw (Loaned N.the-row (sp .bN) (sp .oN) 𝓤 H A W (named 0) (sp .ys) (length (sp .ys)) p)))) (lends N.the-row (sp .bN) (sp .oN) 𝓤 H A W (named 0) (sp .ys) (length (sp .ys)) refl (sp .room)) $ await ! tt $ pick ! (λ pN.
       -- [nodes'; highs'; lows'; vars']
       at-once ! $ show ! (λ (p : Loans). sep 𝓤 (Save 𝓤 H A mem run .pre (to p)) (sem 𝓤 H A (Kept p))) (pN, (pV, (pL, pH))) $
       use1 W (‵ (flft (lifetime pN) fullShare) ⊛ ‵ (MutSlice (named 0) (lifetime pN) N.the-row .own (lent-as N.the-row (sp .bN) (sp .oN) pN (sp .ys)) (sliceVal ((sp .bN), (sp .oN)) (length (sp .ys)) ∷ [])) ⊛ ‵ (Lender N.the-row (sp .bN) (sp .oN) pN (length (sp .ys)))) (id⊢ 𝓤 _) $ split3 ! $ move ! (5 ∷ []) $
-      use1 W (‵ (flft (lifetime pV) fullShare) ⊛ ‵ (ShrSlice (named 1) (lifetime pV) u8 .own (lent-as u8 (sp .bV) 0 pV (cs .vs)) (sliceVal ((sp .bV), 0) 65536 ∷ [])) ⊛ ‵ (Sharer u8 (sp .bV) 0 pV 65536 (cs .vs))) (id⊢ 𝓤 _) $ split3 ! $ move ! (7 ∷ []) $
-      use1 W (‵ (flft (lifetime pL) fullShare) ⊛ ‵ (ShrSlice (named 2) (lifetime pL) u16 .own (lent-as u16 (sp .bL) 0 pL (cs .ls)) (sliceVal ((sp .bL), 0) 65536 ∷ [])) ⊛ ‵ (Sharer u16 (sp .bL) 0 pL 65536 (cs .ls))) (id⊢ 𝓤 _) $ split3 ! $ move ! (9 ∷ []) $
-      use1 W (‵ (flft (lifetime pH) fullShare) ⊛ ‵ (ShrSlice (named 3) (lifetime pH) u16 .own (lent-as u16 (sp .bH) 0 pH (cs .hs)) (sliceVal ((sp .bH), 0) 65536 ∷ [])) ⊛ ‵ (Sharer u16 (sp .bH) 0 pH 65536 (cs .hs))) (id⊢ 𝓤 _) $ split3 ! $
+      use1 W (‵ (flft (lifetime pV) fullShare) ⊛ ‵ (ShrSlice (named 1) (lifetime pV) u8 .own (lent-as u8 (sp .bV) 0 pV (cs .vs)) (sliceVal ((sp .bV), 0) 65536 ∷ [])) ⊛ ‵ (Sharer u8 (sp .bV) 0 pV fullShare 65536 (cs .vs))) (id⊢ 𝓤 _) $ split3 ! $ move ! (7 ∷ []) $
+      use1 W (‵ (flft (lifetime pL) fullShare) ⊛ ‵ (ShrSlice (named 2) (lifetime pL) u16 .own (lent-as u16 (sp .bL) 0 pL (cs .ls)) (sliceVal ((sp .bL), 0) 65536 ∷ [])) ⊛ ‵ (Sharer u16 (sp .bL) 0 pL fullShare 65536 (cs .ls))) (id⊢ 𝓤 _) $ split3 ! $ move ! (9 ∷ []) $
+      use1 W (‵ (flft (lifetime pH) fullShare) ⊛ ‵ (ShrSlice (named 3) (lifetime pH) u16 .own (lent-as u16 (sp .bH) 0 pH (cs .hs)) (sliceVal ((sp .bH), 0) 65536 ∷ [])) ⊛ ‵ (Sharer u16 (sp .bH) 0 pH fullShare 65536 (cs .hs))) (id⊢ 𝓤 _) $ split3 ! $
       -- [highs: token, slice, lender; lows; vars; nodes]
       move ! (9 ∷ 6 ∷ 3 ∷ 0 ∷ 10 ∷ 7 ∷ 4 ∷ 1 ∷ []) $ group ! 8 $ use1 W (raw (Save 𝓤 H A mem run .pre (to (pN, (pV, (pL, pH)))))) (asks (pN, (pV, (pL, pH)))) $ frame ! $
       -- [the lenders of highs, lows, vars, nodes]
@@ -98,7 +98,7 @@ module _ {M : Type 1} (𝓤 : URA M) (H : Heap 𝓤) (A : Atoms 𝓤) (W : Given
   abbrev Ws : Type 0
   Ws = List Node × (Unit {0} × (Unit {0} × (Unit {0} × (Unit {0} × Unit {0}))))
 
-  pub after : (p : Loans) (w : Val) → ent 𝓤 (sep 𝓤 (Save 𝓤 H A mem run .post (to p) w) (sem 𝓤 H A (Kept p))) (H .⇛ (guard 𝓤 (w ≡ vunit) (sem 𝓤 H A (Table sp ys′ (cs .vs) (cs .ls) (cs .hs)))))
+  pub after : (p : Loans) (w : Val) → ent 𝓤 (sep 𝓤 (Save 𝓤 H A mem run .post (to p) w) (sem 𝓤 H A (Kept p))) (H .⇛ (guard 𝓤 (w ≡ vunit) (sem 𝓤 H A (Table fullShare sp ys′ (cs .vs) (cs .ls) (cs .hs)))))
   after p w =
       qed W (raw (Save 𝓤 H A mem run .post (to p) w) ∷ ‵ (Kept p) ∷ []) ∵ updating ! $
       use1 W (later (some (λ (r : Unit {0}). ((‵ (flft (lifetime (p .0)) fullShare) ⊛ (‵ (flft (lifetime (p .1 .0)) fullShare) ⊛ (‵ (flft (lifetime (p .1 .1 .0)) fullShare) ⊛ (‵ (flft (lifetime (p .1 .1 .1)) fullShare) ⊛ ‵ ftrue)))) ⊛ ‵ (unit .own r (w ∷ [])))
@@ -109,7 +109,7 @@ module _ {M : Type 1} (𝓤 : URA M) (H : Heap 𝓤) (A : Atoms 𝓤) (W : Given
       keep ! (3 ∷ 0 ∷ 4 ∷ []) $ split ! $ move ! (1 ∷ []) $ feqL ! (λ is. split ! $ move ! (1 ∷ []) $ split ! $ move ! (1 ∷ []) $ split ! $ move ! (1 ∷ []) $ split ! $ move ! (6 ∷ []) $ fsplit ! $ move ! (1 ∷ []) $ fsplit3 ! $
       -- [the sharers of vars, lows, highs; the lender of nodes; the tokens of highs, true, of lows, vars, nodes; the last list]
       move ! (8 ∷ 3 ∷ 9 ∷ []) $ use3 W (later (‵ (row N.the-row fullShare ys′ (sp .bN) (sp .oN)))) (back N.the-row (sp .bN) (sp .oN) 𝓤 H A W (p .0) (length (sp .ys)) ys′) $ await ! tt $
-      move ! (7 ∷ 1 ∷ []) $ use2 W (later (‵ (row u8 fullShare (cs .vs) (sp .bV) 0))) (whole-back u8 (sp .bV) 0 𝓤 H A W (p .1 .0) 65536 (cs .vs)) $ await ! tt $
-      move ! (6 ∷ 2 ∷ []) $ use2 W (later (‵ (row u16 fullShare (cs .ls) (sp .bL) 0))) (whole-back u16 (sp .bL) 0 𝓤 H A W (p .1 .1 .0) 65536 (cs .ls)) $ await ! tt $
-      move ! (4 ∷ 3 ∷ []) $ use2 W (later (‵ (row u16 fullShare (cs .hs) (sp .bH) 0))) (whole-back u16 (sp .bH) 0 𝓤 H A W (p .1 .1 .1) 65536 (cs .hs)) $ await ! tt $
+      move ! (7 ∷ 1 ∷ []) $ use2 W (later (‵ (row u8 fullShare (cs .vs) (sp .bV) 0))) (whole-back u8 (sp .bV) 0 𝓤 H A W (p .1 .0) fullShare 65536 (cs .vs)) $ await ! tt $
+      move ! (6 ∷ 2 ∷ []) $ use2 W (later (‵ (row u16 fullShare (cs .ls) (sp .bL) 0))) (whole-back u16 (sp .bL) 0 𝓤 H A W (p .1 .1 .0) fullShare 65536 (cs .ls)) $ await ! tt $
+      move ! (4 ∷ 3 ∷ []) $ use2 W (later (‵ (row u16 fullShare (cs .hs) (sp .bH) 0))) (whole-back u16 (sp .bH) 0 𝓤 H A W (p .1 .1 .1) fullShare 65536 (cs .hs)) $ await ! tt $
       at-once ! $ check ! (ap only is) $ move ! (1 ∷ 0 ∷ []) $ fjoin ! $ move ! (1 ∷ 0 ∷ []) $ fjoin ! $ move ! (1 ∷ 0 ∷ []) $ fjoin ! $ keep ! (0 ∷ []) $ done !))))

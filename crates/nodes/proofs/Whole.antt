@@ -1,7 +1,7 @@
 -- A call over the arrays, with the nodes loaded before and written back after, is the call over the slice's own columns.
 -- A slice of at most 65,536 nodes is loaded and written back whole; of a longer one the first 65,536 nodes are, unchanged, since the call says 7. Assumes nothing.
 use mathlib.Core.Path.{_≡_, refl, sym, ap, _∙_, subst}
-use mathlib.Core.Bool.{Bool, true, false, _&&_}
+use mathlib.Core.Bool.{Bool, true, false, _&&_, cond}
 use Prim.Native.Nat.{ℕ, zero, suc, _≤_, _<_}
 use native.Mathlib.Omega.{arith}
 use mathlib.Core.List.{List, [], _∷_, _++_, map, append-nil}
@@ -10,12 +10,16 @@ use lib.Seq.{length-take-le, take-all, take-at, take-length, drop-length}
 use lib.Dec.{eqb, leb}
 use borrow.Author.Tests.{le-leb, lt-leb, leb-true, leb-false}
 use Rattle.table.specs.Columns.{sizeFits}
+use Rattle.operate.specs.declared.Operation.{Operation}
+use Rattle.single.specs.declared.Evaluated.{Evaluated}
+use Rattle.single.specs.declared.call.Single.{Single}
+use Rattle.single.specs.Single.{Made, madeOf, unchanged, refusal, operation, evaluation}
 use Rattle.verdict.specs.Check.{Outcome, lentFits, check}
 use Rattle.session.specs.declared.Checked.{Checked}
 use Rattle.session.specs.Checked.{outcomeOf}
 use Rattle.nodes.specs.declared.Node.{Node}
-use Rattle.nodes.specs.Slice.{varsOf, lowsOf, highsOf, nodesOf}
-use Rattle.nodes.specs.Within.{checkWithin}
+use Rattle.nodes.specs.Slice.{varsOf, lowsOf, highsOf, nodesOf, secondOf}
+use Rattle.nodes.specs.Within.{checkWithin, operationWithin, evaluationWithin}
 use Rattle.nodes.proofs.Lists.{varOf, lowOf, highOf, column, slice}
 use Rattle.nodes.proofs.Setting.{Cut}
 
@@ -88,48 +92,88 @@ vars-past : (ys : List Node) → 65536 < length ys → 65536 < length (varsOf ys
 unfolding varsOf
 vars-past ys h = omega (arith, h, length-map ys varOf)
 
+-- ---- a call over the arrays and over the slice
+-- `out` is what is said and left, as the three columns are left; `call` is the definition of the call, and `stay` what it says where the columns are of wrong size: they stay
+module _ {X : Type 0} (out call stay : List ℕ → List ℕ → List ℕ → X) (refused : (v l h : List ℕ) → sizeFits v l h ≡ false → call v l h ≡ stay v l h)
+    (moved : (a b c v l h : List ℕ) → out a b c ≡ stay v l h → ((a ≡ v) × (b ≡ l) × (c ≡ h)) × ((v l h : List ℕ) → out v l h ≡ stay v l h)) (ys : List Node) (vs₀ ls₀ hs₀ vs ls hs : List ℕ) (e : Sized vs ls hs) where
+  abbrev n : ℕ
+  n = length ys
+
+  abbrev Arrays-say : ℕ → Type 0
+  Arrays-say m = out (take n vs) (take n ls) (take n hs) ≡ cond (leb n 65536) (call (take n (column varOf ys vs₀ m)) (take n (column lowOf ys ls₀ m)) (take n (column highOf ys hs₀ m))) (stay (column varOf ys vs₀ m) (column lowOf ys ls₀ m) (column highOf ys hs₀ m))
+
+  abbrev Slice-says : ℕ → Type 0
+  Slice-says m = out (varsOf (slice vs ls hs ys m)) (lowsOf (slice vs ls hs ys m)) (highsOf (slice vs ls hs ys m)) ≡ call (varsOf ys) (lowsOf ys) (highsOf ys)
+
+  fit-case : n ≤ 65536 → Arrays-say n → Slice-says n
+  fit-case h told =
+      let a = columns-after ys vs ls hs h e in
+      let b = columns-before ys vs₀ ls₀ hs₀ in
+      let said : out (take n vs) (take n ls) (take n hs) ≡ call (take n (column varOf ys vs₀ n)) (take n (column lowOf ys ls₀ n)) (take n (column highOf ys hs₀ n)) = told ∙ rw (le-leb n 65536 h) in
+      rw (a .0, a .1, a .2) (said ∙ rw (b .0, b .1, b .2))
+
+  past-case : (m : ℕ) → m ≤ n → 65536 < n → Arrays-say m → Slice-says m
+  past-case m i h told =
+      let all : (xs : List ℕ) → length xs ≡ 65536 → xs ≡ take n xs = λ xs s. sym (take-all n xs (omega (arith, h, s))) in
+      let stayed = moved (take n vs) (take n ls) (take n hs) (column varOf ys vs₀ m) (column lowOf ys ls₀ m) (column highOf ys hs₀ m) (told ∙ rw (lt-leb n 65536 h)) in
+      let back : slice vs ls hs ys m ≡ ys = written-back ys m vs ls hs vs₀ ls₀ hs₀ i (all vs (e .0) ∙ stayed .0 .0) (all ls (e .1) ∙ stayed .0 .1) (all hs (e .2) ∙ stayed .0 .2) in
+      rw back (stayed .1 (varsOf ys) (lowsOf ys) (highsOf ys) ∙ sym (refused (varsOf ys) (lowsOf ys) (highsOf ys) (unfit (varsOf ys) (lowsOf ys) (highsOf ys) (vars-past ys h))))
+
+  whole : (m : ℕ) → Cut n m → Arrays-say m → Slice-says m
+  whole m cut told = by-test (leb n 65536)
+      (λ t. let h : n ≤ 65536 = leb-true _ _ t in
+      let same : n ≡ m = omega (arith, cut .0, cut .2 h) in
+      subst (λ (k : ℕ). Arrays-say k → Slice-says k) same (fit-case h) told)
+      (λ t. past-case m (cut .0) (leb-false _ _ t) told)
+
 -- ---- the check
-module _ (count : ℕ) (ms ss formula proof : List ℕ) where
+module _ (count : ℕ) (ms ss formula proof ms′ ss′ : List ℕ) (r : Checked) where
   abbrev seven : List ℕ → List ℕ → List ℕ → Outcome
-  seven vars lows highs = record { number = 7; place = 0; lines = 0; rounds = 0; count = count; columns = record { vars = vars; lows = lows; highs = highs }; members = ms; scratch = ss }
+  seven v l h = record { number = 7; place = 0; lines = 0; rounds = 0; count = count; columns = record { vars = v; lows = l; highs = h }; members = ms; scratch = ss }
 
-  within-fit : (n : ℕ) (vs ls hs : List ℕ) → n ≤ 65536 → checkWithin n vs ls hs count ms ss formula proof ≡ check (take n vs) (take n ls) (take n hs) count ms ss formula proof
-  unfolding checkWithin
-  within-fit n vs ls hs h = rw (le-leb n 65536 h)
-
-  within-past : (n : ℕ) (vs ls hs : List ℕ) → 65536 < n → checkWithin n vs ls hs count ms ss formula proof ≡ seven vs ls hs
-  unfolding checkWithin
-  within-past n vs ls hs h = rw (lt-leb n 65536 h)
-
-  check-unfit : (vs ls hs : List ℕ) → 65536 < length vs → check vs ls hs count ms ss formula proof ≡ seven vs ls hs
+  check-refused : (v l h : List ℕ) → sizeFits v l h ≡ false → check v l h count ms ss formula proof ≡ seven v l h
   unfolding check lentFits
-  check-unfit vs ls hs h = rw (unfit vs ls hs h)
+  check-refused v l h e = rw e
 
-  module _ (ys : List Node) (vs₀ ls₀ hs₀ vs ls hs ms′ ss′ : List ℕ) (r : Checked) where
-    abbrev Arrays-say : ℕ → Type 0
-    Arrays-say m = outcomeOf (take (length ys) vs) (take (length ys) ls) (take (length ys) hs) ms′ ss′ r ≡ checkWithin (length ys) (column varOf ys vs₀ m) (column lowOf ys ls₀ m) (column highOf ys hs₀ m) count ms ss formula proof
+  check-moved : (a b c v l h : List ℕ) → outcomeOf a b c ms′ ss′ r ≡ seven v l h → ((a ≡ v) × (b ≡ l) × (c ≡ h)) × ((v l h : List ℕ) → outcomeOf v l h ms′ ss′ r ≡ seven v l h)
+  check-moved a b c v l h e = (
+    (ap (λ (o : Outcome). o .columns .vars) e, ap (λ (o : Outcome). o .columns .lows) e, ap (λ (o : Outcome). o .columns .highs) e),
+    (λ v l h. ap (λ (o : Outcome). record { number = o .number; place = o .place; lines = o .lines; rounds = o .rounds; count = o .count; columns = record { vars = v; lows = l; highs = h }; members = o .members; scratch = o .scratch }) e),
+  )
 
-    abbrev Slice-says : ℕ → Type 0
-    Slice-says m = outcomeOf (varsOf (slice vs ls hs ys m)) (lowsOf (slice vs ls hs ys m)) (highsOf (slice vs ls hs ys m)) ms′ ss′ r ≡ check (varsOf ys) (lowsOf ys) (highsOf ys) count ms ss formula proof
+  pub check-whole : (ys : List Node) (m : ℕ) (vs₀ ls₀ hs₀ vs ls hs : List ℕ) → Cut (length ys) m → Sized vs ls hs
+      → outcomeOf (take (length ys) vs) (take (length ys) ls) (take (length ys) hs) ms′ ss′ r ≡ checkWithin (length ys) (column varOf ys vs₀ m) (column lowOf ys ls₀ m) (column highOf ys hs₀ m) count ms ss formula proof
+      → outcomeOf (varsOf (slice vs ls hs ys m)) (lowsOf (slice vs ls hs ys m)) (highsOf (slice vs ls hs ys m)) ms′ ss′ r ≡ check (varsOf ys) (lowsOf ys) (highsOf ys) count ms ss formula proof
+  unfolding checkWithin
+  check-whole ys m vs₀ ls₀ hs₀ vs ls hs cut e told =
+      whole (λ v l h. outcomeOf v l h ms′ ss′ r) (λ v l h. check v l h count ms ss formula proof) seven check-refused check-moved ys vs₀ ls₀ hs₀ vs ls hs e m cut told
 
-    fit-case : length ys ≤ 65536 → Sized vs ls hs → Arrays-say (length ys) → Slice-says (length ys)
-    fit-case h e told =
-        let a = columns-after ys vs ls hs h e in
-        let b = columns-before ys vs₀ ls₀ hs₀ in
-        rw (a .0, a .1, a .2) (told ∙ within-fit (length ys) (column varOf ys vs₀ (length ys)) (column lowOf ys ls₀ (length ys)) (column highOf ys hs₀ (length ys)) h ∙ rw (b .0, b .1, b .2))
+-- ---- conjunction, negation, both cofactors
+module _ (op : Operation) (count f g : ℕ) (r : Single) where
+  operation-refused : (v l h : List ℕ) → sizeFits v l h ≡ false → operation op v l h count f (secondOf op g) ≡ unchanged v l h count 7
+  unfolding operation refusal
+  operation-refused v l h e = rw e
 
-    past-case : (m : ℕ) → m ≤ length ys → 65536 < length ys → Sized vs ls hs → Arrays-say m → Slice-says m
-    past-case m i h e told =
-        let same = told ∙ within-past (length ys) (column varOf ys vs₀ m) (column lowOf ys ls₀ m) (column highOf ys hs₀ m) h in
-        let all : (xs : List ℕ) → length xs ≡ 65536 → xs ≡ take (length ys) xs = λ xs s. sym (take-all (length ys) xs (omega (arith, h, s))) in
-        let back : slice vs ls hs ys m ≡ ys = written-back ys m vs ls hs vs₀ ls₀ hs₀ i (all vs (e .0) ∙ ap (λ (o : Outcome). o .columns .vars) same) (all ls (e .1) ∙ ap (λ (o : Outcome). o .columns .lows) same) (all hs (e .2) ∙ ap (λ (o : Outcome). o .columns .highs) same) in
-        rw back (ap (λ (o : Outcome). record { number = o .number; place = o .place; lines = o .lines; rounds = o .rounds; count = o .count; columns = record { vars = varsOf ys; lows = lowsOf ys; highs = highsOf ys }; members = o .members; scratch = o .scratch }) same
-        ∙ sym (check-unfit (varsOf ys) (lowsOf ys) (highsOf ys) (vars-past ys h)))
+  operation-moved : (a b c v l h : List ℕ) → madeOf a b c r ≡ unchanged v l h count 7 → ((a ≡ v) × (b ≡ l) × (c ≡ h)) × ((v l h : List ℕ) → madeOf v l h r ≡ unchanged v l h count 7)
+  operation-moved a b c v l h e = (
+    (ap (λ (o : Made). o .columns .vars) e, ap (λ (o : Made). o .columns .lows) e, ap (λ (o : Made). o .columns .highs) e),
+    (λ v l h. ap (λ (o : Made). record { number = o .number; node = o .node; count = o .count; columns = record { vars = v; lows = l; highs = h } }) e),
+  )
 
-pub check-whole : (ys : List Node) (m count : ℕ) (vs₀ ls₀ hs₀ ms ss formula proof vs ls hs ms′ ss′ : List ℕ) (r : Checked) → Cut (length ys) m → Sized vs₀ ls₀ hs₀ → Sized vs ls hs
-    → Arrays-say count ms ss formula proof ys vs₀ ls₀ hs₀ vs ls hs ms′ ss′ r m → Slice-says count ms ss formula proof ys vs₀ ls₀ hs₀ vs ls hs ms′ ss′ r m
-check-whole ys m count vs₀ ls₀ hs₀ ms ss formula proof vs ls hs ms′ ss′ r cut e₀ e told = by-test (leb (length ys) 65536)
+  pub operation-whole : (ys : List Node) (m : ℕ) (vs₀ ls₀ hs₀ vs ls hs : List ℕ) → Cut (length ys) m → Sized vs ls hs
+      → madeOf (take (length ys) vs) (take (length ys) ls) (take (length ys) hs) r ≡ operationWithin op (length ys) (column varOf ys vs₀ m) (column lowOf ys ls₀ m) (column highOf ys hs₀ m) count f g
+      → madeOf (varsOf (slice vs ls hs ys m)) (lowsOf (slice vs ls hs ys m)) (highsOf (slice vs ls hs ys m)) r ≡ operation op (varsOf ys) (lowsOf ys) (highsOf ys) count f (secondOf op g)
+  unfolding operationWithin
+  operation-whole ys m vs₀ ls₀ hs₀ vs ls hs cut e told =
+      whole (λ v l h. madeOf v l h r) (λ v l h. operation op v l h count f (secondOf op g)) (λ v l h. unchanged v l h count 7) operation-refused operation-moved ys vs₀ ls₀ hs₀ vs ls hs e m cut told
+
+-- ---- evaluation, which leaves the columns
+pub evaluation-whole : (ys : List Node) (m count f word : ℕ) (vs₀ ls₀ hs₀ : List ℕ) (r : Evaluated) → Cut (length ys) m
+    → r ≡ evaluationWithin (length ys) (column varOf ys vs₀ m) (column lowOf ys ls₀ m) (column highOf ys hs₀ m) count f word → r ≡ evaluation (varsOf ys) (lowsOf ys) (highsOf ys) count f word
+unfolding evaluationWithin evaluation refusal
+evaluation-whole ys m count f word vs₀ ls₀ hs₀ r cut told = by-test (leb (length ys) 65536)
     (λ t. let h : length ys ≤ 65536 = leb-true _ _ t in
-    let same : length ys ≡ m = omega (arith, cut .0, cut .2 h) in
-    subst (λ (k : ℕ). Arrays-say count ms ss formula proof ys vs₀ ls₀ hs₀ vs ls hs ms′ ss′ r k → Slice-says count ms ss formula proof ys vs₀ ls₀ hs₀ vs ls hs ms′ ss′ r k) same (fit-case count ms ss formula proof ys vs₀ ls₀ hs₀ vs ls hs ms′ ss′ r h e) told)
-    (λ t. past-case count ms ss formula proof ys vs₀ ls₀ hs₀ vs ls hs ms′ ss′ r m (cut .0) (leb-false _ _ t) e told)
+    let same : m ≡ length ys = omega (arith, cut .0, cut .2 h) in
+    let b = columns-before ys vs₀ ls₀ hs₀ in
+    told ∙ rw (t, same, b .0, b .1, b .2))
+    (λ t. told ∙ rw (t, unfit (varsOf ys) (lowsOf ys) (highsOf ys) (vars-past ys (leb-false _ _ t))))

@@ -150,11 +150,11 @@ module _ {M : Type 1} (𝓤 : URA M) (H : Heap 𝓤) (A : Atoms 𝓤) (W : Given
     Had w = ‵ (flft κ₀ q₀) ∷ ‵ (flft κ₁ q₁) ∷ ‵ (flft κ₂ q₂) ∷ ‵ (flft κ₃ q₃) ∷ ‵ (MutSlice (named 0) κ₀ N.the-row .own (at-list γN bN oN ys′) (slice-vals xN)) ∷ ‵ (finally u16 (xM .name) (o .1 .1 .1 .1 .1 .1 .0)) ∷ ‵ (finally u16 (xS .name) (o .1 .1 .1 .1 .1 .1 .1 .0))
         ∷ ‵ (ShrSlice (named 3) κ₃ u8 .own xF (slice-vals xF)) ∷ ‵ (ShrSlice (named 3) κ₃ u8 .own xP (slice-vals xP)) ∷ ‵ (K.the-row .own (o .0) (w ∷ [])) ∷ []
 
-    exits : (vs ls hs : List ℕ) (w : Val) → Cut (length ys) m → (length vs ≡ 65536) × (length ls ≡ 65536) × (length hs ≡ 65536) → Told vs ls hs m o → ent 𝓤 (⋆ 𝓤 H A (Had w)) (Post w)
-    exits vs ls hs w cut e told =
+    exits : (vs ls hs : List ℕ) (w : Val) → Cut (length ys) m → Told vs ls hs m o → ent 𝓤 (⋆ 𝓤 H A (Had w)) (Post w)
+    exits vs ls hs w cut told =
         qed W (Had w) ∵
         suffices ! _ (ends-at 𝓤 H A check-fn.ended stayed (check-fn.clauses 𝓤 H A mem run) W bound w (o .0) (ys′, (tt, (o .1 .1 .1 .1 .1 .1 .0, (o .1 .1 .1 .1 .1 .1 .1 .0, (tt, (tt, tt))))))
-        (ys′-length cut (told .1) (told .2) (told .3), (tt, (told .4, (told .5, (tt, (tt, tt))))))) $ says ! (check-whole ys m count vs ls hs _ _ _ _ _ _ _ _ _ (o .0) cut e (told .1, told .2, told .3) (told .0)) $
+        (ys′-length cut (told .1) (told .2) (told .3), (tt, (told .4, (told .5, (tt, (tt, tt))))))) $ says ! (check-whole count _ _ _ _ _ _ (o .0) ys m vs ls hs _ _ _ cut (told .1, told .2, told .3) (told .0)) $
         nothing ! $ move ! (4 ∷ 0 ∷ []) $ join ! $ move ! (3 ∷ 0 ∷ []) $ join ! $ move ! (2 ∷ 0 ∷ []) $ join ! $ move ! (1 ∷ 0 ∷ []) $ join ! $ frame ! $
         nothing ! $ move ! (5 ∷ 0 ∷ []) $ fjoin ! $ move ! (4 ∷ 0 ∷ []) $ fjoin ! $ move ! (3 ∷ 0 ∷ []) $ fjoin ! $ move ! (2 ∷ 0 ∷ []) $ fjoin ! $ owned ! usize (Is usize) (uint-makes 𝓤 H A W w64) count (vint w64 count ∷ []) (refl, g-count) $ fjoin ! $ move ! (1 ∷ 0 ∷ []) $ fjoin ! $ frame ! $ done !
 
@@ -172,8 +172,7 @@ module _ {M : Type 1} (𝓤 : URA M) (H : Heap 𝓤) (A : Atoms 𝓤) (W : Given
         alloc1 ! (λ l20. alloc1 ! (λ l21. alloc1 ! (λ l22. alloc1 ! (λ l23. alloc1 ! (λ l24. alloc1 ! (λ l25. alloc1 ! (λ l26. alloc1 ! (λ l27. alloc1 ! (λ l28. alloc1 ! (λ l29.
         alloc1 ! (λ l30. alloc1 ! (λ l31. alloc1 ! (λ l32. alloc1 ! (λ l33. alloc1 ! (λ l34. alloc1 ! (λ l35. alloc1 ! (λ l36. alloc1 ! (λ l37. alloc1 ! (λ l38. alloc1 ! (λ l39.
         alloc0 ! $ params1 ! $
-        pass1 ! (init ! 76 refl (tt, (tt, (record { fits = roomN .0 }, tt)))) $ pass1 ! (init ! 74 refl (tt, record { fits = g-count })) $ pass1 ! (init ! 72 refl (tt, (tt, (record { fits = roomM .0 }, tt)))) $
-        pass1 ! (init ! 70 refl (tt, (tt, (record { fits = roomS .0 }, tt)))) $ pass1 ! (init ! 68 refl (tt, (tt, (record { fits = roomF .0 }, tt)))) $ pass1 ! (init ! 66 refl (tt, (tt, (record { fits = roomP .0 }, tt)))) $ pass0 ! $
+        pass1 ! (init ! 76 refl (tt, (tt, (record { fits = roomN .0 }, tt)))) $ pass1 ! (init ! 74 refl (tt, record { fits = g-count })) $ pass1 ! (init ! 72 refl (tt, (tt, (record { fits = roomM .0 }, tt)))) $ pass1 ! (init ! 70 refl (tt, (tt, (record { fits = roomS .0 }, tt)))) $ pass1 ! (init ! 68 refl (tt, (tt, (record { fits = roomF .0 }, tt)))) $ pass1 ! (init ! 66 refl (tt, (tt, (record { fits = roomP .0 }, tt)))) $ pass0 ! $
         -- the tokens, and what the parameters own; the nodes are opened
         move ! (80 ∷ []) $
         split ! $
@@ -231,11 +230,12 @@ module _ {M : Type 1} (𝓤 : URA M) (H : Heap 𝓤) (A : Atoms 𝓤) (W : Given
         fjoin ! $
         move ! (1 ∷ 0 ∷ []) $
         fjoin ! $
-        use1 W (later (some (λ (p : Lo.Loans). raw (Load 𝓤 H A mem run .pre (Lo.to 𝓤 H A W mem run (record { bN = bN; oN = oN; bV = l7; bL = l8; bH = l9; ys = ys; room = roomN }) (record { vs = vs; ls = ls; hs = hs; eV = eV; eL = eL; eH = eH }) m cut p)) ⊛ ‵ (Lo.Kept 𝓤 H A W mem run (record { bN = bN; oN = oN; bV = l7; bL = l8; bH = l9; ys = ys; room = roomN }) (record { vs = vs; ls = ls; hs = hs; eV = eV; eL = eL; eH = eH }) m cut p)))) (Lo.before 𝓤 H A W mem run (record { bN = bN; oN = oN; bV = l7; bL = l8; bH = l9; ys = ys; room = roomN }) (record { vs = vs; ls = ls; hs = hs; eV = eV; eL = eL; eH = eH }) m cut) $ await ! tt $ pick ! (λ p. split ! $
-        calls-at ! fm (Load 𝓤 H A mem run) known-load (Lo.to 𝓤 H A W mem run (record { bN = bN; oN = oN; bV = l7; bL = l8; bH = l9; ys = ys; room = roomN }) (record { vs = vs; ls = ls; hs = hs; eV = eV; eL = eL; eH = eH }) m cut p) (and-then ! (load ! (from ! (stop !)) (look ! 61 refl)) (and-then ! (load ! (from ! (stop !)) (look ! 71 refl)) (and-then ! (load ! (from ! (stop !)) (look ! 57 refl)) (and-then ! (load ! (from ! (stop !)) (look ! 53 refl)) (and-then ! (load ! (from ! (stop !)) (look ! 49 refl)) (no-more !)))))) (λ w₁.
-        use2 W (later (given (w₁ ≡ vunit) (‵ (Table (record { bN = bN; oN = oN; bV = l7; bL = l8; bH = l9; ys = ys; room = roomN }) ys (column varOf ys vs m) (column lowOf ys ls m) (column highOf ys hs m))))) (Lo.after 𝓤 H A W mem run (record { bN = bN; oN = oN; bV = l7; bL = l8; bH = l9; ys = ys; room = roomN }) (record { vs = vs; ls = ls; hs = hs; eV = eV; eL = eL; eH = eH }) m cut p w₁) $ await ! tt $ learn ! (λ e₁.
+        use1 W (later (some (λ (p : Lo.Loans). raw (Load 𝓤 H A mem run .pre (Lo.to 𝓤 H A W mem run fullShare (record { bN = bN; oN = oN; bV = l7; bL = l8; bH = l9; ys = ys; room = roomN }) (record { vs = vs; ls = ls; hs = hs; eV = eV; eL = eL; eH = eH }) m cut p)) ⊛ ‵ (Lo.Kept 𝓤 H A W mem run fullShare (record { bN = bN; oN = oN; bV = l7; bL = l8; bH = l9; ys = ys; room = roomN }) (record { vs = vs; ls = ls; hs = hs; eV = eV; eL = eL; eH = eH }) m cut p)))) (Lo.before 𝓤 H A W mem run fullShare (record { bN = bN; oN = oN; bV = l7; bL = l8; bH = l9; ys = ys; room = roomN }) (record { vs = vs; ls = ls; hs = hs; eV = eV; eL = eL; eH = eH }) m cut) $ await ! tt $ pick ! (λ p. split ! $
+        calls-at ! fm (Load 𝓤 H A mem run) known-load (Lo.to 𝓤 H A W mem run fullShare (record { bN = bN; oN = oN; bV = l7; bL = l8; bH = l9; ys = ys; room = roomN }) (record { vs = vs; ls = ls; hs = hs; eV = eV; eL = eL; eH = eH }) m cut p) (and-then ! (load ! (from ! (stop !)) (look ! 61 refl)) (and-then ! (load ! (from ! (stop !)) (look ! 71 refl)) (and-then ! (load ! (from ! (stop !)) (look ! 57 refl)) (and-then ! (load ! (from ! (stop !)) (look ! 53 refl)) (and-then ! (load ! (from ! (stop !)) (look ! 49 refl)) (no-more !)))))) (λ w₁.
+        use2 W (later (given (w₁ ≡ vunit) (‵ (Table fullShare (record { bN = bN; oN = oN; bV = l7; bL = l8; bH = l9; ys = ys; room = roomN }) ys (column varOf ys vs m) (column lowOf ys ls m) (column highOf ys hs m))))) (Lo.after 𝓤 H A W mem run fullShare (record { bN = bN; oN = oN; bV = l7; bL = l8; bH = l9; ys = ys; room = roomN }) (record { vs = vs; ls = ls; hs = hs; eV = eV; eL = eL; eH = eH }) m cut p w₁) $ await ! tt $ learn ! (λ e₁.
         land ! (from ! (stop !)) (init ! 64 refl (subst (λ (v : Val). T (hasTy tyUnit v) × WT v) (sym e₁) (tt, tt))) $
         fsplit ! $
+        let cs : Filled = loaded vs ls hs eV eL eH m cut in
         -- `check_within`
         assigns ! (addr ! (from ! (stop !))) (from ! (stop !)) (init ! 47 refl (tt, tt)) $
         assigns ! (agg ! (and-then ! (load ! (from ! (stop !)) (look ! 47 refl)) (and-then ! (big-lit ! (record { fits = lit< tt })) (no-more !)))) (from ! (stop !)) (init ! 45 refl (tt, (tt, (record { fits = lit< tt }, tt)))) $
@@ -252,9 +252,9 @@ module _ {M : Type 1} (𝓤 : URA M) (H : Heap 𝓤) (A : Atoms 𝓤) (W : Given
         use1 W (‵ (ShrSlice (named 3) κ₃ u8 .own xF (slice-vals xF)) ⊛ ‵ (ShrSlice (named 3) κ₃ u8 .own xF (slice-vals xF))) (shr-slice-copy 𝓤 H A W (named 3) κ₃ u8 .twice xF (slice-vals xF)) $ split ! $
         move ! (6 ∷ []) $
         use1 W (‵ (ShrSlice (named 3) κ₃ u8 .own xP (slice-vals xP)) ⊛ ‵ (ShrSlice (named 3) κ₃ u8 .own xP (slice-vals xP))) (shr-slice-copy 𝓤 H A W (named 3) κ₃ u8 .twice xP (slice-vals xP)) $ split ! $
-        let cs : Filled = loaded vs ls hs eV eL eH m cut in
         move ! (5 ∷ 14 ∷ 13 ∷ 12 ∷ 9 ∷ 8 ∷ 3 ∷ 1 ∷ []) $
-        group ! 8 $ use1 W (later (some (λ (p : Ch.Loans). raw (Check 𝓤 H A mem run .pre (Ch.to 𝓤 H A W mem run κ₁ κ₂ κ₃ q₁ q₂ q₃ (record { bN = bN; oN = oN; bV = l7; bL = l8; bH = l9; ys = ys; room = roomN }) cs (length ys) count xM xS xF xP (roomN .0) g-count p)) ⊛ ‵ (Ch.Kept 𝓤 H A W mem run κ₁ κ₂ κ₃ q₁ q₂ q₃ (record { bN = bN; oN = oN; bV = l7; bL = l8; bH = l9; ys = ys; room = roomN }) cs (length ys) count xM xS xF xP (roomN .0) g-count p)))) (Ch.before 𝓤 H A W mem run κ₁ κ₂ κ₃ q₁ q₂ q₃ (record { bN = bN; oN = oN; bV = l7; bL = l8; bH = l9; ys = ys; room = roomN }) cs (length ys) count xM xS xF xP (roomN .0) g-count) $ await ! tt $ pick ! (λ p. split ! $
+        group ! 8 $
+        use1 W (later (some (λ (p : Ch.Loans). raw (Check 𝓤 H A mem run .pre (Ch.to 𝓤 H A W mem run κ₁ κ₂ κ₃ q₁ q₂ q₃ (record { bN = bN; oN = oN; bV = l7; bL = l8; bH = l9; ys = ys; room = roomN }) cs (length ys) count xM xS xF xP (roomN .0) g-count p)) ⊛ ‵ (Ch.Kept 𝓤 H A W mem run κ₁ κ₂ κ₃ q₁ q₂ q₃ (record { bN = bN; oN = oN; bV = l7; bL = l8; bH = l9; ys = ys; room = roomN }) cs (length ys) count xM xS xF xP (roomN .0) g-count p)))) (Ch.before 𝓤 H A W mem run κ₁ κ₂ κ₃ q₁ q₂ q₃ (record { bN = bN; oN = oN; bV = l7; bL = l8; bH = l9; ys = ys; room = roomN }) cs (length ys) count xM xS xF xP (roomN .0) g-count) $ await ! tt $ pick ! (λ p. split ! $
         calls-at ! fm (Check 𝓤 H A mem run) known-check (Ch.to 𝓤 H A W mem run κ₁ κ₂ κ₃ q₁ q₂ q₃ (record { bN = bN; oN = oN; bV = l7; bL = l8; bH = l9; ys = ys; room = roomN }) cs (length ys) count xM xS xF xP (roomN .0) g-count p) (and-then ! (load ! (from ! (stop !)) (look ! 41 refl)) (and-then ! (load ! (from ! (stop !)) (look ! 37 refl)) (and-then ! (load ! (from ! (stop !)) (look ! 33 refl)) (and-then ! (load ! (from ! (stop !)) (look ! 63 refl)) (and-then ! (load ! (from ! (stop !)) (look ! 80 refl)) (and-then ! (load ! (from ! (stop !)) (look ! 29 refl)) (and-then ! (load ! (from ! (stop !)) (look ! 25 refl)) (and-then ! (load ! (from ! (stop !)) (look ! 74 refl)) (and-then ! (load ! (from ! (stop !)) (look ! 72 refl)) (no-more !)))))))))) (λ w₂.
         use2 W (later (some (λ (o : Checked × Ch.Last). given (Ch.Told 𝓤 H A W mem run κ₁ κ₂ κ₃ q₁ q₂ q₃ (record { bN = bN; oN = oN; bV = l7; bL = l8; bH = l9; ys = ys; room = roomN }) cs (length ys) count xM xS xF xP (roomN .0) g-count o) (‵ (Ch.Had 𝓤 H A W mem run κ₁ κ₂ κ₃ q₁ q₂ q₃ (record { bN = bN; oN = oN; bV = l7; bL = l8; bH = l9; ys = ys; room = roomN }) cs (length ys) count xM xS xF xP (roomN .0) g-count o w₂))))) (Ch.after 𝓤 H A W mem run κ₁ κ₂ κ₃ q₁ q₂ q₃ (record { bN = bN; oN = oN; bV = l7; bL = l8; bH = l9; ys = ys; room = roomN }) cs (length ys) count xM xS xF xP (roomN .0) g-count p w₂) $ await ! tt $ pick ! (λ o. learn ! (λ told.
         fsplit ! $
@@ -285,58 +285,25 @@ module _ {M : Type 1} (𝓤 : URA M) (H : Heap 𝓤) (A : Atoms 𝓤) (W : Given
         fjoin ! $
         use1 W (later (some (λ (p : Sa.Loans). raw (Save 𝓤 H A mem run .pre (Sa.to 𝓤 H A W mem run (record { bN = bN; oN = oN; bV = l7; bL = l8; bH = l9; ys = ys; room = roomN }) cs₂ m cut p)) ⊛ ‵ (Sa.Kept 𝓤 H A W mem run (record { bN = bN; oN = oN; bV = l7; bL = l8; bH = l9; ys = ys; room = roomN }) cs₂ m cut p)))) (Sa.before 𝓤 H A W mem run (record { bN = bN; oN = oN; bV = l7; bL = l8; bH = l9; ys = ys; room = roomN }) cs₂ m cut) $ await ! tt $ pick ! (λ p. split ! $
         calls-at ! fm (Save 𝓤 H A mem run) known-save (Sa.to 𝓤 H A W mem run (record { bN = bN; oN = oN; bV = l7; bL = l8; bH = l9; ys = ys; room = roomN }) cs₂ m cut p) (and-then ! (load ! (from ! (stop !)) (look ! 26 refl)) (and-then ! (load ! (from ! (stop !)) (look ! 72 refl)) (and-then ! (load ! (from ! (stop !)) (look ! 22 refl)) (and-then ! (load ! (from ! (stop !)) (look ! 18 refl)) (and-then ! (load ! (from ! (stop !)) (look ! 14 refl)) (no-more !)))))) (λ w₃.
-        use2 W (later (given (w₃ ≡ vunit) (‵ (Table (record { bN = bN; oN = oN; bV = l7; bL = l8; bH = l9; ys = ys; room = roomN }) (ys′ m o) (o .1 .0) (o .1 .1 .0) (o .1 .1 .1 .0))))) (Sa.after 𝓤 H A W mem run (record { bN = bN; oN = oN; bV = l7; bL = l8; bH = l9; ys = ys; room = roomN }) cs₂ m cut p w₃) $ await ! tt $ learn ! (λ e₃.
+        use2 W (later (given (w₃ ≡ vunit) (‵ (Table fullShare (record { bN = bN; oN = oN; bV = l7; bL = l8; bH = l9; ys = ys; room = roomN }) (ys′ m o) (o .1 .0) (o .1 .1 .0) (o .1 .1 .1 .0))))) (Sa.after 𝓤 H A W mem run (record { bN = bN; oN = oN; bV = l7; bL = l8; bH = l9; ys = ys; room = roomN }) cs₂ m cut p w₃) $ await ! tt $ learn ! (λ e₃.
         land ! (from ! (stop !)) (store ! 65 refl (subst (λ (v : Val). T (hasTy tyUnit v) × WT v) (sym e₃) (tt, tt))) $
         fsplit ! $
-        move ! (1 ∷ []) $
-        fsplit3 ! $
         -- the nodes are closed, and the arrays are freed with the other locals
-        move ! (3 ∷ 12 ∷ []) $
+        move ! (0 ∷ 10 ∷ []) $
         use2 W (later (‵ (MutSlice (named 0) κ₀ N.the-row .own (at-list γN bN oN (ys′ m o)) (slice-vals xN)) ⊛ ‵ (flft κ₀ q₀))) (closes N.the-row κ₀ q₀ γN bN oN 𝓤 H A W (named 0) ys (ys′ m o) roomN (ys′-length m o cut (told .1) (told .2) (told .3))) $ await ! tt $ split ! $
-        assigns ! (of-opd ! (load ! (from ! (stop !)) (look ! 72 refl))) (from ! (stop !)) (init ! 91 refl (LL.lawful K.the-type K′.the-laws 𝓤 H A W .typed (o .0) _ is .0)) $
-        returns ! (look ! 91 refl) $
-        forget ! 91 refl $
-        forget ! 89 refl $
-        forget ! 87 refl $
-        forget ! 85 refl $
-        forget ! 83 refl $
-        forget ! 81 refl $
-        forget ! 79 refl $
-        forget ! 74 refl $
-        forget ! 72 refl $
-        forget ! 70 refl $
-        forget ! 68 refl $
-        forget ! 66 refl $
-        forget ! 64 refl $
-        forget ! 62 refl $
-        forget ! 60 refl $
-        forget ! 58 refl $
-        forget ! 56 refl $
-        forget ! 54 refl $
-        forget ! 52 refl $
-        forget ! 50 refl $
-        forget ! 48 refl $
-        forget ! 46 refl $
-        forget ! 44 refl $
-        forget ! 42 refl $
-        forget ! 40 refl $
-        forget ! 38 refl $
-        forget ! 36 refl $
-        forget ! 34 refl $
-        forget ! 32 refl $
-        forget ! 30 refl $
-        forget ! 28 refl $
-        forget ! 26 refl $
-        forget ! 24 refl $
-        forget ! 22 refl $
-        forget ! 20 refl $
-        forget ! 18 refl $
-        forget ! 16 refl $
+        assigns ! (of-opd ! (load ! (from ! (stop !)) (look ! 70 refl))) (from ! (stop !)) (init ! 89 refl (LL.lawful K.the-type K′.the-laws 𝓤 H A W .typed (o .0) _ is .0)) $
         move ! (2 ∷ []) $
+        fsplit3 ! $
+        returns ! (look ! 91 refl) $
+        forget ! 91 refl $ forget ! 89 refl $ forget ! 87 refl $ forget ! 85 refl $ forget ! 83 refl $ forget ! 81 refl $ forget ! 79 refl $ forget ! 74 refl $
+        forget ! 72 refl $ forget ! 70 refl $ forget ! 68 refl $ forget ! 66 refl $ forget ! 64 refl $ forget ! 62 refl $ forget ! 60 refl $ forget ! 58 refl $
+        forget ! 56 refl $ forget ! 54 refl $ forget ! 52 refl $ forget ! 50 refl $ forget ! 48 refl $ forget ! 46 refl $ forget ! 44 refl $ forget ! 42 refl $
+        forget ! 40 refl $ forget ! 38 refl $ forget ! 36 refl $ forget ! 34 refl $ forget ! 32 refl $ forget ! 30 refl $ forget ! 28 refl $ forget ! 26 refl $
+        forget ! 24 refl $ forget ! 22 refl $ forget ! 20 refl $ forget ! 18 refl $ forget ! 16 refl $
         use1 W (‵ (froom (tyArray (tyInt w8) 65536) l7 0)) (freed w8 𝓤 H A W 65536 l7 (o .1 .0) (told .1)) $
-        move ! (3 ∷ []) $
+        move ! (1 ∷ []) $
         use1 W (‵ (froom (tyArray (tyInt w16) 65536) l8 0)) (freed w16 𝓤 H A W 65536 l8 (o .1 .1 .0) (told .2)) $
-        move ! (4 ∷ []) $
+        move ! (2 ∷ []) $
         use1 W (‵ (froom (tyArray (tyInt w16) 65536) l9 0)) (freed w16 𝓤 H A W 65536 l9 (o .1 .1 .1 .0) (told .3)) $
         move ! (91 ∷ 92 ∷ []) $ free1 ! $ move ! (89 ∷ 90 ∷ []) $ free1 ! $ move ! (87 ∷ 88 ∷ []) $ free1 ! $ move ! (85 ∷ 86 ∷ []) $ free1 ! $ move ! (83 ∷ 84 ∷ []) $ free1 ! $ move ! (81 ∷ 82 ∷ []) $ free1 ! $ move ! (79 ∷ 80 ∷ []) $ free1 ! $ move ! (2 ∷ 78 ∷ []) $ free1 ! $
         move ! (1 ∷ 76 ∷ []) $ free1 ! $ move ! (0 ∷ 74 ∷ []) $ free1 ! $ move ! (71 ∷ 72 ∷ []) $ free1 ! $ move ! (69 ∷ 70 ∷ []) $ free1 ! $ move ! (67 ∷ 68 ∷ []) $ free1 ! $ move ! (65 ∷ 66 ∷ []) $ free1 ! $ move ! (63 ∷ 64 ∷ []) $ free1 ! $ move ! (61 ∷ 62 ∷ []) $ free1 ! $
@@ -345,7 +312,7 @@ module _ {M : Type 1} (𝓤 : URA M) (H : Heap 𝓤) (A : Atoms 𝓤) (W : Given
         move ! (27 ∷ 28 ∷ []) $ free1 ! $ move ! (25 ∷ 26 ∷ []) $ free1 ! $ move ! (23 ∷ 24 ∷ []) $ free1 ! $ move ! (21 ∷ 22 ∷ []) $ free1 ! $ move ! (19 ∷ 20 ∷ []) $ free1 ! $ move ! (17 ∷ 18 ∷ []) $ free1 ! $ move ! (15 ∷ 16 ∷ []) $ free1 ! $ move ! (13 ∷ 14 ∷ []) $ free1 ! $
         free0 ! $
         keep ! (1 ∷ 7 ∷ 6 ∷ 5 ∷ 0 ∷ 4 ∷ 3 ∷ 9 ∷ 8 ∷ 2 ∷ []) $
-        by ! (exits m o vs ls hs w₂ cut (eV, eL, eH) told)))))))))))))))))))))))))))))))))))))))))))))))))))))))))))))
+        by ! (exits m o vs ls hs w₂ cut told)))))))))))))))))))))))))))))))))))))))))))))))))))))))))))))
 
 module _ {M : Type 1} (𝓤 : URA M) (H : Heap 𝓤) (A : Atoms 𝓤) (W : Given 𝓤 H A) (mem : Memory → SProp 𝓤) (run : Routine → Fun 𝓤) (𝓣 : Tables 𝓤 H) (known-places : Triple 𝓤 (𝓣 .C #places) (Places 𝓤 H A mem run)) (known-load : Triple 𝓤 (𝓣 .C #load) (Load 𝓤 H A mem run))
     (known-check : Triple 𝓤 (𝓣 .C #within) (Check 𝓤 H A mem run)) (known-save : Triple 𝓤 (𝓣 .C #save) (Save 𝓤 H A mem run)) where
