@@ -1,0 +1,13 @@
+pub mod Arrays
+pub mod Checking
+pub mod Clipping
+pub mod Evaluating
+pub mod First
+pub mod Lent
+pub mod Lists
+pub mod Loading
+pub mod Opened
+pub mod Operating
+pub mod Saving
+pub mod Setting
+pub mod Whole

@@ -1,0 +1,32 @@
+-- What the inner calls say of arrays whose first n places are the columns. No call open to others cites this file.
+use mathlib.Core.Bool.{cond, false}
+use mathlib.Core.List.{List}
+use Prim.Native.Nat.{ℕ}
+use lib.ListN.{take}
+use lib.Dec.{leb}
+use Rattle.operate.specs.declared.Operation.{Operation}
+use Rattle.single.specs.declared.Evaluated.{Evaluated}
+use Rattle.single.specs.Single.{Made, unchanged, operation, evaluation}
+use Rattle.verdict.specs.Check.{Outcome, check}
+use Rattle.nodes.specs.Slice.{secondOf}
+
+-- "The table has 2 to 65,536 places": 7 where the slice has more, and the arrays stay.
+unfoldable pub checkWithin : ℕ → List ℕ → List ℕ → List ℕ → ℕ → List ℕ → List ℕ → List ℕ → List ℕ → Outcome
+checkWithin n vars lows highs count members scratch formula proof =
+    let seven : Outcome = record {
+      number = 7;
+      place = 0;
+      lines = 0;
+      rounds = 0;
+      count = count;
+      columns = record { vars = vars; lows = lows; highs = highs };
+      members = members;
+      scratch = scratch;
+    } in
+    cond (leb n 65536) (check (take n vars) (take n lows) (take n highs) count members scratch formula proof) seven
+
+unfoldable pub operationWithin : Operation → ℕ → List ℕ → List ℕ → List ℕ → ℕ → ℕ → ℕ → Made
+operationWithin op n vars lows highs count f g = cond (leb n 65536) (operation op (take n vars) (take n lows) (take n highs) count f (secondOf op g)) (unchanged vars lows highs count 7)
+
+unfoldable pub evaluationWithin : ℕ → List ℕ → List ℕ → List ℕ → ℕ → ℕ → ℕ → Evaluated
+evaluationWithin n vars lows highs count f word = cond (leb n 65536) (evaluation (take n vars) (take n lows) (take n highs) count f word) (record { number = 7; yes = false; count = count })

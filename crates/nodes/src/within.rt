@@ -1,0 +1,117 @@
+// The calls over arrays whose first n places are the columns; 7 where the slice has more nodes than a table can.
+use operate::Operation;
+use session::Checked;
+use single::Evaluated;
+use single::call::Single;
+use table::NodeNo;
+ghost use mathlib.Core.Path.{_≡_};
+ghost use lib.ListN.{length, take};
+ghost use Rattle.session.specs.Checked.{outcomeOf};
+ghost use Rattle.single.specs.Single.{madeOf};
+ghost use Rattle.single.specs.Inner.{OneOperand};
+ghost use Rattle.nodes.specs.Slice.{secondOf};
+ghost use Rattle.nodes.specs.Within.{checkWithin, operationWithin, evaluationWithin};
+
+// The whole check.
+pub fn check_within<'a>(
+    vars: &mut [u8],
+    lows: &mut [u16],
+    highs: &mut [u16],
+    n: usize,
+    count: usize,
+    members: &mut [u16],
+    scratch: &mut [u16],
+    formula: &'a [u8],
+    proof: &'a [u8],
+) -> Checked
+    requires { ⌜ (length (now vars) ≡ 65536) × (length (now lows) ≡ 65536) × (length (now highs) ≡ 65536) ⌝ }
+    ensures { λ r. ⌜ outcomeOf (take n (now (vars .exit))) (take n (now (lows .exit))) (take n (now (highs .exit))) (now (members .exit)) (now (scratch .exit)) r ≡ checkWithin n (now (vars .entry)) (now (lows .entry)) (now (highs .entry)) count (now (members .entry)) (now (scratch .entry)) (now (formula .entry)) (now (proof .entry)) ⌝ }
+{
+    if 65536 < n {
+        return Checked {
+            number: 7,
+            place: 0,
+            lines: 0,
+            rounds: 0,
+            count,
+        };
+    }
+    checker::check(
+        &mut vars[..n],
+        &mut lows[..n],
+        &mut highs[..n],
+        count,
+        members,
+        scratch,
+        formula,
+        proof,
+    )
+}
+
+// The second operand: node 1 where the operation is of one diagram.
+fn second(op: Operation, g: NodeNo) -> NodeNo
+    ensures { λ r. ⌜ (r .0 ≡ secondOf op (g .0)) × OneOperand op (r .0) ⌝ }
+{
+    match op {
+        Operation::Conjunction => g,
+        Operation::Negation => NodeNo(1),
+        Operation::Cofactor => g,
+        Operation::Literals(_, _) => NodeNo(1),
+    }
+}
+
+// Conjunction, negation and the two cofactors.
+pub fn operation_within(
+    vars: &mut [u8],
+    lows: &mut [u16],
+    highs: &mut [u16],
+    n: usize,
+    count: usize,
+    op: Operation,
+    f: NodeNo,
+    g: NodeNo,
+) -> Single
+    requires { ⌜ (length (now vars) ≡ 65536) × (length (now lows) ≡ 65536) × (length (now highs) ≡ 65536) ⌝ }
+    ensures { λ r. ⌜ madeOf (take n (now (vars .exit))) (take n (now (lows .exit))) (take n (now (highs .exit))) r ≡ operationWithin op n (now (vars .entry)) (now (lows .entry)) (now (highs .entry)) count (f .0) (g .0) ⌝ }
+{
+    if 65536 < n {
+        return Single {
+            number: 7,
+            node: NodeNo(0),
+            count,
+        };
+    }
+    let h = second(op, g);
+    single::call::call(
+        &mut vars[..n],
+        &mut lows[..n],
+        &mut highs[..n],
+        count,
+        op,
+        f,
+        h,
+    )
+}
+
+// Whether the node is 1 under the word's assignment.
+pub fn evaluate_within(
+    vars: &[u8],
+    lows: &[u16],
+    highs: &[u16],
+    n: usize,
+    count: usize,
+    node: NodeNo,
+    word: u64,
+) -> Evaluated
+    requires { ⌜ (length (now vars) ≡ 65536) × (length (now lows) ≡ 65536) × (length (now highs) ≡ 65536) ⌝ }
+    ensures { λ r. ⌜ r ≡ evaluationWithin n (now (vars .entry)) (now (lows .entry)) (now (highs .entry)) count (node .0) word ⌝ }
+{
+    if 65536 < n {
+        return Evaluated {
+            number: 7,
+            yes: false,
+            count,
+        };
+    }
+    checker::evaluate(&vars[..n], &lows[..n], &highs[..n], count, node, word)
+}
