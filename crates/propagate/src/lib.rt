@@ -143,11 +143,12 @@ pub fn first_units(
     requires { ⌜ Readable (now vars) (now lows) (now highs) count × Inside count (now list) × Roomy (now vars) (now memo) ⌝ }
     ensures { λ r. ⌜ AreFirst (diagramsOf (nodesIn (now (vars .entry)) (now (lows .entry)) (now (highs .entry)) count) (now (list .entry))) r ⌝ }
 {
-    units::clear_memo(memo);
+    walks::clear_memo(memo, count);
     let mut place: usize = 0;
     while place < list.len() {
         let member = NodeNo(list[place]);
-        let u = units::units_from(vars, lows, highs, memo, count, member);
+        let stamp = (place + 1) as u64;
+        let u = units::units_from(vars, lows, highs, memo, count, member, stamp);
         if u.positive != 0 || u.negative != 0 {
             return FirstUnits::Of(u);
         }

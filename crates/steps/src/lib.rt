@@ -1,7 +1,7 @@
 // One record of a proof: the next state, or the number and the place of the proof's end.
 use records::Record;
 ghost use mathlib.Core.Path.{_≡_};
-ghost use Prim.Native.Nat.{ℕ, _≤_};
+ghost use Prim.Native.Nat.{ℕ};
 ghost use lib.ListN.{length};
 ghost use Rattle.verdict.specs.Check.{endStep, step};
 ghost use Rattle.walks.specs.Readable.{Roomy};

@@ -1,20 +1,18 @@
--- The variables of a word made by `&`, `|` and one bit, and of the words of none and of all. The idea: each law is about one binary
--- digit once both words are shifted. Assumes nothing.
-use mathlib.Core.Path.{_≡_, refl, sym, ap, _∙_}
-use mathlib.Core.Bool.{Bool, true, false, _&&_, _||_}
-use Prim.Native.Nat.{ℕ, zero, suc, _+_, _-_, _*_, _/_, _%_, _^_, _≤_, _<_}
-use native.Mathlib.Nat.{one-mul, div-eq-of-lt, div-self, zero-div, pow-suc, mul-mod-left}
+-- The variables of a word made by `&`, `|` and of the words of none, of all and of those below or from a variable on. The idea: a digit
+-- of `&` or `|` is one of the digits; the words of variables are tried one by one. Assumes nothing.
+use mathlib.Core.Path.{_≡_, refl, ap, ap₂, _∙_}
+use mathlib.Core.Bool.{Bool, true, false, _&&_, _||_, Bool·beq}
+use Prim.Native.Nat.{ℕ, zero, suc, _-_, _*_, _/_, _%_, _^_, _≤_, _<_}
+use native.Mathlib.Nat.{one-mul, zero-div}
 use native.Mathlib.Omega.{arith}
-use native.Mathlib.Decide.{ℕ-discrete, decLt}
-use lib.Dec.{eqb}
+use lib.Dec.{eqb, ltb, leb}
 use lib.Bits.{bitAnd, bitOr, and-shr, and-mod, or-shr, or-mod}
-use lib.Pow.{pow-pos, pow-lt, pow-add, shl-exact, shl-shr}
-use borrow.Author.Tests.{eq-eqb, ne-eqb}
+use lib.Pow.{shl-exact}
 use Rattle.meaning.specs.Words.{inWord}
-use Rattle.meaning.proofs.Booleans.{and-true, and-false}
+use Rattle.meaning.proofs.Booleans.{beq-eq}
 use Rattle.table.specs.Nodes.{allBelow}
 use Rattle.table.proofs.Order.{all-below}
-use Rattle.units.specs.Units.{withVariable}
+use Rattle.units.specs.Units.{belowWord, without}
 
 and-digit : (p q : ℕ) → p < 2 → q < 2 → eqb (bitAnd p q) 1 ≡ (eqb p 1 && eqb q 1)
 and-digit zero q h k = refl
@@ -45,37 +43,9 @@ module _ (a b v : ℕ) where
   unfolding inWord
   in-or = ap (λ (d : ℕ). eqb d 1) (ap (λ (d : ℕ). d % 2) (or-shr a b (v - 1)) ∙ or-mod x y 1) ∙ or-digit (x % 2) (y % 2) (omega arith) (omega arith)
 
-even-above : (d j : ℕ) → 2 ^ (suc d + j) / 2 ^ j % 2 ≡ 0
-even-above d j =
-    ap (λ (m : ℕ). m % 2) (ap (λ (m : ℕ). m / 2 ^ j) (pow-add 2 (suc d) j) ∙ shl-shr (2 ^ suc d) j ∙ pow-suc 2 d) ∙ mul-mod-left (2 ^ d) 2
-
--- the digit j of 2^i
-digit : (i j : ℕ) → eqb (2 ^ i / 2 ^ j % 2) 1 ≡ eqb i j
-digit i j = go (decLt i j) (ℕ-discrete i j)
-  where
-    go : Dec (i < j) → Dec (i ≡ j) → eqb (2 ^ i / 2 ^ j % 2) 1 ≡ eqb i j
-    go (yes less) e =
-        let z : 2 ^ i / 2 ^ j ≡ 0 = div-eq-of-lt (pow-lt less) in
-        rw (z, ne-eqb i j (λ q. absurd (omega arith)))
-    go (no more) (yes e) =
-        let one : 2 ^ j / 2 ^ j ≡ 1 = div-self (pow-pos j) in
-        rw (e, one, eq-eqb j j refl)
-    go (no more) (no differ) =
-        let split : i ≡ suc (i - j - 1) + j = omega arith in
-        let even : 2 ^ i / 2 ^ j % 2 ≡ 0 = rw split (even-above (i - j - 1) j) in
-        rw (even, ne-eqb i j differ)
-
 -- the code's `1 << (v - 1)`
 pub one-shifted : (v : ℕ) → 1 ≤ v → v ≤ 64 → 1 * 2 ^ (v - 1) % 18446744073709551616 ≡ 2 ^ (v - 1)
 one-shifted v p q = shl-exact {a = 1} 1 (v - 1) 64 (omega arith) (omega arith) ∙ one-mul (2 ^ (v - 1))
-
-pub in-bit : (w v : ℕ) → 1 ≤ w → 1 ≤ v → inWord (2 ^ (w - 1)) v ≡ eqb w v
-unfolding inWord
-in-bit w v p q = digit (w - 1) (v - 1) ∙ go (ℕ-discrete w v)
-  where
-    go : Dec (w ≡ v) → eqb (w - 1) (v - 1) ≡ eqb w v
-    go (yes e) = rw (eq-eqb w v e, eq-eqb (w - 1) (v - 1) (omega arith))
-    go (no n) = rw (ne-eqb w v n, ne-eqb (w - 1) (v - 1) (λ e. absurd (n (omega arith))))
 
 pub in-none : (v : ℕ) → inWord 0 v ≡ false
 unfolding inWord
@@ -85,11 +55,26 @@ pub in-all : (v : ℕ) → 1 ≤ v → v ≤ 64 → inWord 18446744073709551615 
 unfolding inWord allBelow
 in-all v p q = all-below 64 (λ j. eqb (18446744073709551615 / 2 ^ j % 2) 1) refl (v - 1) (omega arith)
 
-pub in-with : (word w v : ℕ) (b : Bool) → 1 ≤ w → 1 ≤ v → inWord (withVariable word w b) v ≡ (inWord word v || (eqb w v && b))
-unfolding withVariable
-in-with word w v true p q = in-or word (2 ^ (w - 1)) v ∙ ap (_||_ (inWord word v)) (in-bit w v p q ∙ sym (and-true (eqb w v)))
-in-with word w v false p q = sym (ap (_||_ (inWord word v)) (and-false (eqb w v)) ∙ or-false (inWord word v))
-  where
-    or-false : (x : Bool) → (x || false) ≡ x
-    or-false true = refl
-    or-false false = refl
+-- p holds of each bound, 1 to 65, and each variable, 1 to 64, tried one by one
+abbrev everyPair : (ℕ → ℕ → Bool) → Bool
+everyPair p = allBelow 65 (λ i. allBelow 64 (λ j. p (suc i) (suc j)))
+
+every-pair : (p : ℕ → ℕ → Bool) → everyPair p ≡ true → (b v : ℕ) → 1 ≤ b → b ≤ 65 → 1 ≤ v → v ≤ 64 → p b v ≡ true
+every-pair p e b v lo hi one most =
+    let x : suc (b - 1) ≡ b = omega arith in
+    let y : suc (v - 1) ≡ v = omega arith in
+    rw (x, y) at (all-below 64 (λ j. p (suc (b - 1)) (suc j)) (all-below 65 (λ i. allBelow 64 (λ j. p (suc i) (suc j))) e (b - 1) (omega arith)) (v - 1) (omega arith))
+
+pub in-below : (b v : ℕ) → 1 ≤ b → b ≤ 65 → 1 ≤ v → v ≤ 64 → inWord (belowWord b) v ≡ ltb v b
+unfolding inWord belowWord allBelow
+in-below b v lo hi one most = beq-eq _ _ (every-pair (λ b v. Bool·beq (inWord (belowWord b) v) (ltb v b)) refl b v lo hi one most)
+
+pub in-above : (b v : ℕ) → 1 ≤ b → b ≤ 65 → 1 ≤ v → v ≤ 64 → inWord (18446744073709551615 - belowWord b) v ≡ leb b v
+unfolding inWord belowWord allBelow
+in-above b v lo hi one most = beq-eq _ _ (every-pair (λ b v. Bool·beq (inWord (18446744073709551615 - belowWord b) v) (leb b v)) refl b v lo hi one most)
+
+pub in-without : (word from to v : ℕ) → 1 ≤ from → from ≤ 65 → 1 ≤ to → to ≤ 65 → 1 ≤ v → v ≤ 64 → inWord (without word from to) v ≡ (inWord word v && (ltb v from || leb to v))
+unfolding without
+in-without word from to v a b c d e f =
+    in-and word (bitOr (belowWord from) (18446744073709551615 - belowWord to)) v
+    ∙ ap (_&&_ (inWord word v)) (in-or (belowWord from) (18446744073709551615 - belowWord to) v ∙ ap₂ _||_ (in-below from v a b e f) (in-above to v c d e f))

@@ -1,44 +1,49 @@
--- U of a node from those of its two sides. The idea: the branchwise U is the literal one, and a side is 0 exactly where its number is.
--- Assumes nothing.
-use mathlib.Core.Path.{_≡_, sym, ap, ap₂, _∙_}
+-- U of a node from those of its two sides. The idea: the branchwise U is the literal one, a side is 0 exactly where its number is, and a
+-- variable that is not in a diagram has no unit in it. Assumes nothing.
+use mathlib.Core.Path.{_≡_, refl, sym, ap, ap₂, _∙_}
+use mathlib.Core.Logic.{_≢_}
 use mathlib.Core.Bool.{Bool, true, false, _&&_, _||_, cond}
 use mathlib.Core.List.{List}
-use Prim.Native.Nat.{ℕ, _≤_, _<_}
+use Prim.Native.Nat.{ℕ, suc, _+_, _≤_, _<_}
 use native.Mathlib.Omega.{arith}
 use lib.ListN.{length, getD}
-use lib.Dec.{eqb}
-use lib.Bits.{bitAnd}
-use borrow.Author.Tests.{eqb-true, eq-eqb}
-use Rattle.meaning.specs.Diagram.{Diagram, leaf, node, same}
+use lib.Dec.{eqb, ltb, leb}
+use native.Mathlib.Decide.{ℕ-discrete, decLt}
+use borrow.Author.Tests.{eqb-true, eq-eqb, ne-eqb, lt-ltb, le-ltb, le-leb, lt-leb}
+use Rattle.meaning.specs.Diagram.{Diagram, leaf, node, same, same?, Reduced}
 use Rattle.meaning.specs.Operations.{isUnit}
-use Rattle.meaning.specs.Words.{inWord}
 use Rattle.meaning.specs.Branchwise.{unitAt}
-use Rattle.meaning.proofs.Booleans.{both-ways}
+use Rattle.meaning.proofs.Booleans.{t≢f, both-ways, and-false, or-right}
 use Rattle.meaning.proofs.Units.{isUnit-is, same-eq, eq-same}
 use Rattle.table.specs.Nodes.{Node, at, diagramAt}
 use Rattle.table.proofs.Order.{Ordered}
 use Rattle.table.proofs.Numbers.{diagramAt-zero, diagramAt-one, diagramAt-node, diagramAt-injective, diagramAt-reduced}
 use Rattle.walks.specs.Readable.{Readable, nodesIn}
 use Rattle.walks.proofs.Here.{Here, here, node-in, ordered-in, length-in}
-use Rattle.units.specs.declared.Units.{Units}
-use Rattle.units.specs.Units.{withVariable, joined, UnitsAt}
-use Rattle.units.proofs.Bits.{in-and, in-none, in-all, in-with}
+use Rattle.units.specs.Units.{past}
 
 -- ---- the constants
 
-pub units-zero : (t : List Node) → UnitsAt t 0 18446744073709551615 18446744073709551615
-unfolding UnitsAt unitAt
-units-zero t v p q = (in-all v p q ∙ sym (all true), in-all v p q ∙ sym (all false))
-  where
-    all : (s : Bool) → isUnit 64 (diagramAt t 0) v s ≡ true
-    all s = ap (λ (d : Diagram). isUnit 64 d v s) (diagramAt-zero t) ∙ isUnit-is 64 (leaf false) v s tt p q
+pub zero-units : (t : List Node) (v : ℕ) (s : Bool) → 1 ≤ v → v ≤ 64 → isUnit 64 (diagramAt t 0) v s ≡ true
+unfolding unitAt
+zero-units t v s p q = ap (λ (d : Diagram). isUnit 64 d v s) (diagramAt-zero t) ∙ isUnit-is 64 (leaf false) v s tt p q
 
-pub units-one : (t : List Node) → UnitsAt t 1 0 0
-unfolding UnitsAt unitAt
-units-one t v p q = (in-none v ∙ sym (none true), in-none v ∙ sym (none false))
+pub one-units : (t : List Node) (v : ℕ) (s : Bool) → 1 ≤ v → v ≤ 64 → isUnit 64 (diagramAt t 1) v s ≡ false
+unfolding unitAt
+one-units t v s p q = ap (λ (d : Diagram). isUnit 64 d v s) (diagramAt-one t) ∙ isUnit-is 64 (leaf true) v s tt p q
+
+-- a variable before all of a diagram has no unit in it, unless it is 0
+unit-absent : (f : Diagram) (i e v : ℕ) (s : Bool) → Reduced i e f → f ≢ leaf false → v < i → unitAt f v s ≡ false
+unfolding unitAt
+unit-absent (leaf true) i e v s o n p = refl
+unit-absent (leaf false) i e v s o n p = absurd (n refl)
+unit-absent (node w l h) i e v s o n p =
+    rw (ne-eqb w v (λ q. absurd (omega arith)))
+    (sides (same? l (leaf false)) (λ d. unit-absent l (suc w) e v s (o .3) d (omega arith)) (λ d. unit-absent h (suc w) e v s (o .4) d (omega arith)))
   where
-    none : (s : Bool) → isUnit 64 (diagramAt t 1) v s ≡ false
-    none s = ap (λ (d : Diagram). isUnit 64 d v s) (diagramAt-one t) ∙ isUnit-is 64 (leaf true) v s tt p q
+    sides : Dec (l ≡ leaf false) → (l ≢ leaf false → unitAt l v s ≡ false) → (h ≢ leaf false → unitAt h v s ≡ false) → ((unitAt l v s && unitAt h v s) || false) ≡ false
+    sides (yes z) low high = rw (high (λ q. o .2 (z ∙ sym q)), and-false (unitAt l v s))
+    sides (no d) low high = rw (low d)
 
 -- ---- a node
 
@@ -47,6 +52,31 @@ zero-number : (t : List Node) → Ordered t → (k : ℕ) → k < length t → s
 zero-number t O k p = both-ways (same (diagramAt t k) (leaf false)) (eqb k 0)
     (λ e. eq-eqb k 0 (diagramAt-injective t O k 0 p (omega (arith, O .two)) (same-eq (diagramAt t k) (leaf false) e ∙ sym (diagramAt-zero t))))
     (λ e. eq-same (diagramAt t k) (leaf false) (rw (eqb-true k 0 e) (diagramAt-zero t)))
+
+pub past-zero : (v side : ℕ) → side ≡ 0 → past v side ≡ v
+unfolding past
+past-zero v side e = rw (eq-eqb side 0 e)
+
+past-other : (v side : ℕ) → side ≢ 0 → past v side ≡ v + 1
+unfolding past
+past-other v side n = rw (ne-eqb side 0 n)
+
+past-bounds : (v side : ℕ) → (v ≤ past v side) × (past v side ≤ v + 1)
+past-bounds v side = go (ℕ-discrete side 0)
+  where
+    go : Dec (side ≡ 0) → (v ≤ past v side) × (past v side ≤ v + 1)
+    go (yes e) = (omega (arith, past-zero v side e), omega (arith, past-zero v side e))
+    go (no n) = (omega (arith, past-other v side n), omega (arith, past-other v side n))
+
+pub past-least : (v side : ℕ) → v ≤ past v side
+past-least v side = past-bounds v side .0
+
+pub past-most : (v side : ℕ) → past v side ≤ v + 1
+past-most v side = past-bounds v side .1
+
+or-false : (x : Bool) → (x || false) ≡ x
+or-false true = refl
+or-false false = refl
 
 module _ (vs ls hs : List ℕ) (count : ℕ) (R : Readable vs ls hs count) (k : ℕ) (two : 2 ≤ k) (inside : k < count) where
   abbrev t : List Node
@@ -87,17 +117,49 @@ module _ (vs ls hs : List ℕ) (count : ℕ) (R : Readable vs ls hs count) (k : 
       branches true = ap (λ (z : Bool). (unitAt (diagramAt t l) v true && unitAt (diagramAt t h) v true) || (eqb w v && z)) (zero-number t O l (within l (omega (arith, H .low-less))))
       branches false = ap (λ (z : Bool). (unitAt (diagramAt t l) v false && unitAt (diagramAt t h) v false) || (eqb w v && z)) (zero-number t O h (within h (omega (arith, H .high-less))))
 
-  pub units-join : (a b : Units) → UnitsAt t l (a .positive) (a .negative) → UnitsAt t h (b .positive) (b .negative)
-      → UnitsAt t k (joined w l h a b .positive) (joined w l h a b .negative)
-  unfolding UnitsAt
-  units-join a b A B v lo hi = (
-    word true (a .positive) (b .positive) (A v lo hi .0) (B v lo hi .0),
-    word false (a .negative) (b .negative) (A v lo hi .1) (B v lo hi .1),
-  )
+  reduced : Reduced 1 65 (node w (diagramAt t l) (diagramAt t h))
+  reduced = rw is-node at (diagramAt-reduced t O k (within k inside))
+
+  -- v's literal is no unit of a side that is not 0 where v is the node's variable or before it
+  side-absent : (j v : ℕ) (s : Bool) → j < count → Reduced (suc w) 65 (diagramAt t j) → 1 ≤ v → v ≤ w → j ≢ 0 → isUnit 64 (diagramAt t j) v s ≡ false
+  side-absent j v s p o lo hi n =
+      unit-of j v s p lo (omega (arith, H .most))
+      ∙ unit-absent (diagramAt t j) (suc w) 65 v s o (λ z. n (eqb-true j 0 (sym (zero-number t O j (within j p)) ∙ eq-same (diagramAt t j) (leaf false) z))) (omega arith)
+
+  -- the units of the node are what its two edges leave
+  pub unit-edges : (v : ℕ) (s : Bool) → 1 ≤ v → v ≤ 64
+      → isUnit 64 (diagramAt t k) v s
+      ≡ (leb (past w (cond s l h)) v && ((ltb v (w + 1) || isUnit 64 (diagramAt t l) v s) && (ltb v (w + 1) || isUnit 64 (diagramAt t h) v s)))
+  unit-edges v s lo hi = go (decLt v w) (ℕ-discrete v w) (ℕ-discrete (cond s l h) 0)
     where
-      word : (s : Bool) (x y : ℕ) → inWord x v ≡ isUnit 64 (diagramAt t l) v s → inWord y v ≡ isUnit 64 (diagramAt t h) v s
-          → inWord (withVariable (bitAnd x y) w (eqb (cond s l h) 0)) v ≡ isUnit 64 (diagramAt t k) v s
-      word s x y p q =
-          in-with (bitAnd x y) w v (eqb (cond s l h) 0) (H .least) lo
-          ∙ ap (λ (z : Bool). z || (eqb w v && eqb (cond s l h) 0)) (in-and x y v ∙ ap₂ _&&_ p q)
-          ∙ sym (unit-node v s lo hi)
+      Ul : Bool
+      Ul = isUnit 64 (diagramAt t l) v s
+
+      Uh : Bool
+      Uh = isUnit 64 (diagramAt t h) v s
+
+      below : v < w → isUnit 64 (diagramAt t k) v s ≡ false
+      below p =
+          unit-of k v s inside lo hi ∙ ap (λ (d : Diagram). unitAt d v s) is-node
+          ∙ unit-absent (node w (diagramAt t l) (diagramAt t h)) w 65 v s (omega arith, reduced .1, reduced .2, reduced .3, reduced .4)
+          (λ e. let z : true ≡ false = cc in t≢f z) p
+
+      -- at its own variable the side in which the literal is false has no unit unless it is 0
+      neither : v ≡ w → (s : Bool) → cond s l h ≢ 0 → (isUnit 64 (diagramAt t l) v s && isUnit 64 (diagramAt t h) v s) ≡ false
+      neither e true n = rw (side-absent l v true (omega (arith, H .low-less)) (reduced .3) lo (omega arith) n)
+      neither e false n =
+          rw (side-absent h v false (omega (arith, H .high-less)) (reduced .4) lo (omega arith) n) (and-false (isUnit 64 (diagramAt t l) v false))
+
+      go : Dec (v < w) → Dec (v ≡ w) → Dec (cond s l h ≡ 0)
+          → isUnit 64 (diagramAt t k) v s ≡ (leb (past w (cond s l h)) v && ((ltb v (w + 1) || Ul) && (ltb v (w + 1) || Uh)))
+      go (yes p) e z =
+          below p ∙ sym (ap (λ (x : Bool). x && ((ltb v (w + 1) || Ul) && (ltb v (w + 1) || Uh))) (lt-leb (past w (cond s l h)) v (omega (arith, past-least w (cond s l h)))))
+      go (no p) (yes e) (yes z) =
+          unit-node v s lo hi
+          ∙ (rw (eq-eqb w v (sym e), eq-eqb (cond s l h) 0 z, past-zero w (cond s l h) z, le-leb w v (omega arith), lt-ltb v (w + 1) (omega arith)) (or-right (Ul && Uh) true refl))
+      go (no p) (yes e) (no n) =
+          unit-node v s lo hi
+          ∙ (rw (eq-eqb w v (sym e), ne-eqb (cond s l h) 0 n, past-other w (cond s l h) n, lt-leb (w + 1) v (omega arith), neither e s n))
+      go (no p) (no d) z =
+          unit-node v s lo hi
+          ∙ (rw (ne-eqb w v (λ e. d (sym e)), le-leb (past w (cond s l h)) v (omega (arith, past-most w (cond s l h), d)), le-ltb v (w + 1) (omega (arith, d))) (or-false (Ul && Uh)))

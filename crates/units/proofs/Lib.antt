@@ -1,3 +1,3 @@
 pub mod Bits
 pub mod Branches
-pub mod Slots
+pub mod Struck

@@ -1,23 +1,14 @@
-// U(f) of a node, read off its branches with a memo.
+// U(f) of a node: from all literals those are struck out, edge by edge, that some way to node 1 leaves open or makes false.
 use table::NodeNo;
 ghost use mathlib.Core.Path.{_≡_};
-ghost use Prim.Native.Nat.{_+_, _*_, _/_, _%_, _≤_, _<_};
-ghost use lib.ListN.{length};
-ghost use Rattle.walks.specs.Readable.{Readable, Roomy, Cleared, nodesIn};
-ghost use Rattle.units.specs.Units.{withVariable, joined, UnitsAt, stored, UnitsMemo};
+ghost use Prim.Native.Nat.{_+_, _≤_, _<_};
+ghost use Rattle.walks.specs.Readable.{Readable, Roomy, nodesIn};
+ghost use Rattle.units.specs.Units.{UnitsAt, belowWord, without, past, struckTo, Struck, Marked, MarksBelow, StrikeReady};
 
 // A set of literals: the variables that it makes true, and those that it makes false.
 pub struct Units {
     pub positive: u64,
     pub negative: u64,
-}
-
-// Empties the memo.
-pub fn clear_memo(memo: &mut [u64])
-    ensures { λ _. ⌜ Cleared (length (now (memo .entry))) (now (memo .exit)) ⌝ }
-{
-    let n = memo.len();
-    walks::clear_memo(memo, n);
 }
 
 // U(f): the literals that are true wherever f is. All literals for node 0, none for node 1.
@@ -32,11 +23,11 @@ pub fn units_of(
     requires { ⌜ Readable (now vars) (now lows) (now highs) count × (f .0 < count) × Roomy (now vars) (now memo) ⌝ }
     ensures { λ r. ⌜ UnitsAt (nodesIn (now (vars .entry)) (now (lows .entry)) (now (highs .entry)) count) (f .0) (r .positive) (r .negative) ⌝ }
 {
-    clear_memo(memo);
-    units_from(vars, lows, highs, memo, count, f)
+    walks::clear_memo(memo, count);
+    units_from(vars, lows, highs, memo, count, f, 1)
 }
 
-// The same where the memo holds the units of nodes already known; it stays so.
+// The same with a stamp above all marks in the memo, so that one clearing serves many walks.
 pub fn units_from(
     vars: &[u8],
     lows: &[u16],
@@ -44,81 +35,99 @@ pub fn units_from(
     memo: &mut [u64],
     count: usize,
     f: NodeNo,
+    stamp: u64,
 ) -> Units
-    requires { ⌜ Readable (now vars) (now lows) (now highs) count × (f .0 < count) × Roomy (now vars) (now memo) ⌝ }
-    requires { ⌜ UnitsMemo (now memo) (nodesIn (now vars) (now lows) (now highs) count) ⌝ }
+    requires { ⌜ Readable (now vars) (now lows) (now highs) count × (f .0 < count) × Roomy (now vars) (now memo) × MarksBelow count (now memo) stamp ⌝ }
     ensures { λ r. ⌜ UnitsAt (nodesIn (now (vars .entry)) (now (lows .entry)) (now (highs .entry)) count) (f .0) (r .positive) (r .negative) ⌝ }
-    ensures { λ _. ⌜ UnitsMemo (now (memo .exit)) (nodesIn (now (vars .entry)) (now (lows .entry)) (now (highs .entry)) count) ⌝ }
+    ensures { λ _. ⌜ MarksBelow count (now (memo .exit)) (stamp + 1) ⌝ }
+{
+    let all = Units {
+        positive: 18446744073709551615,
+        negative: 18446744073709551615,
+    };
+    strike(vars, lows, highs, memo, count, f, 1, stamp, all)
+}
+
+// What is left of the literals alive once those of variables from `from` on that are no units of f are struck: those of skipped
+// variables and of f's own, then what each side strikes. A node with the stamp has none left to strike.
+fn strike(
+    vars: &[u8],
+    lows: &[u16],
+    highs: &[u16],
+    memo: &mut [u64],
+    count: usize,
+    f: NodeNo,
+    from: u8,
+    stamp: u64,
+    alive: Units,
+) -> Units
+    requires { ⌜ StrikeReady (now vars) (now lows) (now highs) (now memo) count (f .0) from stamp alive ⌝ }
+    ensures { λ r. ⌜ Struck (nodesIn (now (vars .entry)) (now (lows .entry)) (now (highs .entry)) count) (f .0) from alive r ⌝ }
+    ensures { λ r. ⌜ Marked (now (memo .exit)) (nodesIn (now (vars .entry)) (now (lows .entry)) (now (highs .entry)) count) stamp r ⌝ }
+    ensures { λ _. ⌜ MarksBelow count (now (memo .exit)) (stamp + 1) ⌝ }
 {
     if f.0 == 0 {
-        return Units {
-            positive: 18446744073709551615,
-            negative: 18446744073709551615,
-        };
+        return alive;
     }
     if f.0 == 1 {
-        return Units {
-            positive: 0,
-            negative: 0,
-        };
-    }
-    let s = slot_of(memo.len(), f);
-    if memo[s] == f.0 as u64 {
-        return Units {
-            positive: memo[s + 1],
-            negative: memo[s + 2],
-        };
+        return strike_to(alive, from, 65, 65);
     }
     let i = f.0 as usize;
     let v = vars[i];
     let low = NodeNo(lows[i]);
     let high = NodeNo(highs[i]);
-    let a = units_from(vars, lows, highs, memo, count, low);
-    let b = units_from(vars, lows, highs, memo, count, high);
-    let u = join(v, low, high, a, b);
-    store(memo, s, f, u);
-    u
+    let a = strike_to(alive, from, past(v, low), past(v, high));
+    if a.positive | a.negative == 0 {
+        return a;
+    }
+    if memo[i] == stamp {
+        return a;
+    }
+    let b = strike(vars, lows, highs, memo, count, low, v + 1, stamp, a);
+    let c = strike(vars, lows, highs, memo, count, high, v + 1, stamp, b);
+    memo[i] = stamp;
+    c
 }
 
-// The first of a node's three places in a memo of n: its number, then its two words.
-fn slot_of(n: usize, f: NodeNo) -> usize
-    requires { ⌜ 3 ≤ n ⌝ }
-    ensures { λ r. ⌜ r ≡ f .0 % (n / 3) * 3 ⌝ }
-    ensures { λ r. ⌜ r + 2 < n ⌝ }
+// The first variable past those that a node of v strikes: v's own literal stays where the side in which it is false is 0.
+fn past(v: u8, side: NodeNo) -> u8
+    requires { ⌜ v ≤ 64 ⌝ }
+    ensures { λ r. ⌜ r ≡ past v (side .0) ⌝ }
 {
-    (f.0 as usize) % (n / 3) * 3
+    if side.0 == 0 {
+        return v;
+    }
+    v + 1
 }
 
-// Stores the units of a node into its slot.
-fn store(memo: &mut [u64], s: usize, f: NodeNo, u: Units)
-    requires { ⌜ s + 2 < length (now memo) ⌝ }
-    ensures { λ _. ⌜ now (memo .exit) ≡ stored (now (memo .entry)) s (f .0) u ⌝ }
-{
-    memo[s] = f.0 as u64;
-    memo[s + 1] = u.positive;
-    memo[s + 2] = u.negative;
-}
-
-// The units of the node of variable v over two others, from theirs: those of both, and v's literal where the side in which it is
-// false is 0.
-fn join(v: u8, low: NodeNo, high: NodeNo, a: Units, b: Units) -> Units
-    requires { ⌜ (1 ≤ v) × (v ≤ 64) ⌝ }
-    ensures { λ r. ⌜ r ≡ joined v (low .0) (high .0) a b ⌝ }
+// The set without the variables from `from` on, positive ones below p and negative ones below n.
+fn strike_to(alive: Units, from: u8, p: u8, n: u8) -> Units
+    requires { ⌜ (1 ≤ from) × (from ≤ 65) × (1 ≤ p) × (p ≤ 65) × (1 ≤ n) × (n ≤ 65) ⌝ }
+    ensures { λ r. ⌜ r ≡ struckTo alive from p n ⌝ }
 {
     Units {
-        positive: with_variable(a.positive & b.positive, v, low.0 == 0),
-        negative: with_variable(a.negative & b.negative, v, high.0 == 0),
+        positive: without(alive.positive, from, p),
+        negative: without(alive.negative, from, n),
     }
 }
 
-// The word with the variable v where it is a unit.
-fn with_variable(word: u64, v: u8, unit: bool) -> u64
-    requires { ⌜ (1 ≤ v) × (v ≤ 64) ⌝ }
-    ensures { λ r. ⌜ r ≡ withVariable word v unit ⌝ }
+// The word without the variables from `from` on below `to`.
+fn without(word: u64, from: u8, to: u8) -> u64
+    requires { ⌜ (1 ≤ from) × (from ≤ 65) × (1 ≤ to) × (to ≤ 65) ⌝ }
+    ensures { λ r. ⌜ r ≡ without word from to ⌝ }
 {
-    if unit {
-        let i = (v - 1) as u64;
-        return word | 1 << i;
+    word & (below(from) | (18446744073709551615 - below(to)))
+}
+
+// The word of the variables below v.
+fn below(v: u8) -> u64
+    requires { ⌜ (1 ≤ v) × (v ≤ 65) ⌝ }
+    ensures { λ r. ⌜ r ≡ belowWord v ⌝ }
+{
+    if v == 65 {
+        return 18446744073709551615;
     }
-    word
+    let i = (v - 1) as u64;
+    let bit: u64 = 1 << i;
+    bit - 1
 }

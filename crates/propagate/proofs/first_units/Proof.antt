@@ -4,15 +4,14 @@ use borrow.Author.Tests.{eqb-true, eqb-false, not-true, not-false}
 use Rattle.meaning.specs.Rules.{hasUnit}
 use Rattle.table.specs.Nodes.{diagramAt}
 use mathlib.Core.Bool.{true}
-use Rattle.units.proofs.Slots.{units-cleared}
 use mathlib.Core.Path.{_≡_, refl, _∙_}
-use Prim.Native.Nat.{_-_, _≤_}
+use Prim.Native.Nat.{_+_, _-_, _≤_}
 use native.Mathlib.Omega.{arith}
 use lib.ListN.{length, getD, drop}
 use borrow.Author.Needs.{needs}
 use Rattle.meaning.specs.Rules.{firstWithUnit}
 use Rattle.walks.specs.Readable.{nodesIn}
-use Rattle.units.specs.Units.{UnitsMemo}
+use Rattle.units.specs.Units.{MarksBelow}
 use Rattle.conflict.specs.Members.{diagramsOf}
 use Rattle.propagate.proofs.Taking.{words-empty, words-some, first-later, first-here, first-none}
 use Rattle.propagate.proofs.first_units.Statement.{statement}
@@ -20,7 +19,7 @@ use Rattle.propagate.proofs.first_units.Tie as tie
 
 abbrev Inv-loop : tie.InvT-loop
 Inv-loop vars lows highs memo₀ count list place₀ memo place =
-    (length memo ≡ length memo₀) × (place ≤ length list) × UnitsMemo memo (nodesIn vars lows highs count)
+    (length memo ≡ length memo₀) × (place ≤ length list) × MarksBelow count memo (place + 1)
     × (firstWithUnit 64 (diagramsOf (nodesIn vars lows highs count) list) ≡ firstWithUnit 64 (diagramsOf (nodesIn vars lows highs count) (drop place list)))
 
 abbrev μ-loop : tie.MeasureT-loop
@@ -34,15 +33,19 @@ clear-memo-requires c κs = search needs
 loop-holds : tie.Need-loop-holds Inv-loop μ-loop
 loop-holds c =
     let a = c .before .before .before .before .before .before .before .before .before .args in
-    (refl, omega arith, units-cleared (nodesIn (a .vars .now) (a .lows .now) (a .highs .now) (a .count)) _ (length (a .memo .now)) (c .before .before .clear-memo .kept .0) (c .before .before .clear-memo .ensures), refl)
+    (refl, omega arith, λ i p. omega (arith, c .before .before .clear-memo .ensures i p), refl)
 
 -- src/lib.rt:74:24
-mul-t13 : tie.Need-mul-t13 Inv-loop μ-loop
-mul-t13 c = search needs
+mul-t14 : tie.Need-mul-t14 Inv-loop μ-loop
+mul-t14 c = search needs
 
 -- src/lib.rt:74:24
-shared-slice-read-t16 : tie.Need-shared-slice-read-t16 Inv-loop μ-loop
-shared-slice-read-t16 c = search needs
+shared-slice-read-t17 : tie.Need-shared-slice-read-t17 Inv-loop μ-loop
+shared-slice-read-t17 c = search needs
+
+-- src/lib.rt:85:21
+add-stamp : tie.Need-add-stamp Inv-loop μ-loop
+add-stamp c = search needs
 
 -- src/lib.rt:75:13
 units-from-requires : tie.Need-units-from-requires Inv-loop μ-loop
@@ -50,7 +53,7 @@ units-from-requires c κs =
     let a = c .before .before .before .before .before .before .before .before .before .before .before .before .before .args in
     let r = c .before .before .before .before .before .before .before .before .before .before .before .before .before .pre in
     let w = c .before .before .before .loop in
-    ((r .0, r .1 (w .place) (c .before .before .loop-test .taken), omega (arith, w .inv .0, c .before .before .before .before .before .before .clear-memo .kept .0, r .2)), w .inv .2)
+    (r .0, r .1 (w .place) (c .before .before .loop-test .taken), omega (arith, w .inv .0, c .before .before .before .before .before .before .clear-memo .kept .0, r .2), w .inv .2)
 
 -- src/lib.rt:77:13
 same-length : tie.Need-same-length Inv-loop μ-loop
@@ -109,8 +112,9 @@ first-units-spec =
     μ-loop
     clear-memo-requires
     loop-holds
-    mul-t13
-    shared-slice-read-t16
+    mul-t14
+    shared-slice-read-t17
+    add-stamp
     units-from-requires
     same-length
     returns

@@ -1,0 +1,258 @@
+-- `strike` leaves the literals alive that are units of the node or of variables before it, and the marks stay right. The node's number
+-- falls. Assumes nothing.
+use mathlib.Core.Path.{_≡_, sym, ap₂, _∙_, subst}
+use mathlib.Core.List.{List}
+use Prim.Native.Nat.{ℕ, _≤_, _<_}
+use native.Mathlib.Omega.{arith}
+use lib.ListN.{length, getD, length-set}
+use borrow.Author.Needs.{needs}
+use borrow.Fn.Kinds.{In}
+use borrow.Fn.PlainCycle.{Measures, is, falls, and}
+use Rattle.table.specs.Nodes.{Node}
+use Rattle.walks.specs.Readable.{nodesIn}
+use Rattle.walks.proofs.Here.{Here, here}
+use Rattle.units.specs.Units.{struckTo, past, Struck, StrikeReady}
+use Rattle.units.proofs.Branches.{past-least, past-most}
+use Rattle.units.proofs.Struck.{struck-zero, struck-one, marked-less, marks-stored, sides-after, marked-here, struck-node, struck-marked, struck-none, marked-stored}
+use Rattle.units.proofs.strike.Reads as strike
+use Rattle.units.proofs.strike.Kinds as strike-kinds
+use Rattle.units.proofs.+strike.Lts-strike as strike-lts
+use Rattle.units.proofs.past.Reads as past-reads
+use Rattle.units.proofs.strike_to.Reads as strike-to-reads
+use Rattle.units.proofs.+strike.{statement}
+use Rattle.units.proofs.+strike.Tie.{close}
+
+abbrev μ-strike : Measures 4 strike-kinds.ps ℕ
+μ-strike κs a = a .1 .1 .1 .1 .1 .0 .0
+
+abbrev strike-at : ℕ → In 4 strike-kinds.ps
+strike-at t = and 4 strike-kinds.ps (is 4 strike-kinds.ps μ-strike t) strike.Pre
+
+abbrev strike-below : ℕ → In 4 strike-kinds.ps
+strike-below t = and 4 strike-kinds.ps (falls 4 strike-kinds.ps _<_ μ-strike t) strike.Pre
+
+abbrev strike-callees : ℕ → strike-lts.Claims
+strike-callees t = (strike-to-reads.Asked, strike-to-reads.Learnt, past-reads.Asked, past-reads.Learnt, strike-below t, strike.Post)
+
+module _ {t : ℕ} (s : strike-lts.Start (strike-callees t) (strike-at t) strike.Post) where
+  abbrev nodes : List Node
+  nodes = nodesIn (s .args .vars .now) (s .args .lows .now) (s .args .highs .now) (s .args .count)
+
+  ready : StrikeReady (s .args .vars .now) (s .args .lows .now) (s .args .highs .now) (s .args .memo .now) (s .args .count) (s .args .f .0) (s .args .from) (s .args .stamp) (s .args .alive)
+  ready = s .pre .1
+
+  measure : s .args .f .0 ≡ t
+  measure = s .pre .0
+
+  cell-inside : s .args .f .0 < length (s .args .memo .now)
+  cell-inside = omega (arith, ready .room, ready .inside, ready .readable .within)
+
+-- past the two constants
+module _ {t : ℕ} (e : strike-lts.Else2 (strike-callees t) (strike-at t) strike.Post) where
+  abbrev start : strike-lts.Start (strike-callees t) (strike-at t) strike.Post
+  start = e .before .before .before .before .before .before .before .before
+
+  two : 2 ≤ start .args .f .0
+  two = omega (arith, e .before .before .if1 .left, e .if2 .left)
+
+  at-node : Here (start .args .vars .now) (start .args .lows .now) (start .args .highs .now) (start .args .count) (start .args .f .0)
+  at-node = here (start .args .vars .now) (start .args .lows .now) (start .args .highs .now) (start .args .count) (ready start .readable) (start .args .f .0) two (ready start .inside)
+
+-- where the literals that the node itself strikes are struck
+module _ {t : ℕ} (a : strike-lts.After-strike-to2 (strike-callees t) (strike-at t) strike.Post) where
+  abbrev here-else : strike-lts.Else2 (strike-callees t) (strike-at t) strike.Post
+  here-else = a .before .before .before .before .before .before .before
+
+  abbrev begun : strike-lts.Start (strike-callees t) (strike-at t) strike.Post
+  begun = start here-else
+
+  abbrev v : ℕ
+  v = getD (begun .args .vars .now) (begun .args .f .0) 0
+
+  abbrev low : ℕ
+  low = getD (begun .args .lows .now) (begun .args .f .0) 0
+
+  abbrev high : ℕ
+  high = getD (begun .args .highs .now) (begun .args .f .0) 0
+
+  left-is : a .strike-to2 .result ≡ struckTo (begun .args .alive) (begun .args .from) (past v low) (past v high)
+  left-is = a .strike-to2 .ensures ∙ ap₂ (λ (p n : ℕ). struckTo (begun .args .alive) (begun .args .from) p n) (a .before .before .past .ensures) (a .before .past2 .ensures)
+
+strike-returns : (t : ℕ) → strike-lts.Need-returns (strike-callees t) (strike-at t) strike.Post
+strike-returns t c =
+    let s = c .before .before .before .before .before .before in
+    (subst (λ (k : ℕ). Struck (nodes s) k (s .args .from) (s .args .alive) (s .args .alive)) (sym (c .if1 .taken)) (struck-zero (nodes s) (s .args .from) (s .args .alive)), (ready s .right, ready s .marks))
+
+strike-strike-to-requires : (t : ℕ) → strike-lts.Need-strike-to-requires (strike-callees t) (strike-at t) strike.Post
+strike-strike-to-requires t c κs =
+    let s = c .before .before .before .before .before .before .before .before in
+    (ready s .least, ready s .most, omega arith, omega arith, omega arith, omega arith)
+
+strike-returns-2 : (t : ℕ) → strike-lts.Need-returns-2 (strike-callees t) (strike-at t) strike.Post
+strike-returns-2 t c =
+    let s = c .before .before .before .before .before .before .before .before .before in
+    let k = c .strike-to in
+    let is : Struck (nodes s) 1 (s .args .from) (s .args .alive) (k .result) = struck-one (nodes s) (s .args .from) (s .args .alive) (k .result) (ready s .least) (ready s .most) (k .ensures) in
+    (subst (λ (j : ℕ). Struck (nodes s) j (s .args .from) (s .args .alive) (k .result)) (sym (c .before .if2 .taken)) is, (marked-less (nodes s) (s .args .memo .now) (s .args .stamp) 1 (s .args .from) (s .args .alive) (k .result) is (ready s .right), ready s .marks))
+
+strike-cast-i : (t : ℕ) → strike-lts.Need-cast-i (strike-callees t) (strike-at t) strike.Post
+strike-cast-i t c =
+    search needs
+
+strike-shared-slice-read-v : (t : ℕ) → strike-lts.Need-shared-slice-read-v (strike-callees t) (strike-at t) strike.Post
+strike-shared-slice-read-v t c =
+    search needs
+
+strike-mul-t20 : (t : ℕ) → strike-lts.Need-mul-t20 (strike-callees t) (strike-at t) strike.Post
+strike-mul-t20 t c =
+    search needs
+
+strike-shared-slice-read-t22 : (t : ℕ) → strike-lts.Need-shared-slice-read-t22 (strike-callees t) (strike-at t) strike.Post
+strike-shared-slice-read-t22 t c =
+    search needs
+
+strike-mul-t20-2 : (t : ℕ) → strike-lts.Need-mul-t20-2 (strike-callees t) (strike-at t) strike.Post
+strike-mul-t20-2 t c =
+    search needs
+
+strike-shared-slice-read-t22-2 : (t : ℕ) → strike-lts.Need-shared-slice-read-t22-2 (strike-callees t) (strike-at t) strike.Post
+strike-shared-slice-read-t22-2 t c =
+    search needs
+
+strike-past-requires : (t : ℕ) → strike-lts.Need-past-requires (strike-callees t) (strike-at t) strike.Post
+strike-past-requires t c κs =
+    at-node (c .before .before .before .before) .most
+
+strike-past-requires-2 : (t : ℕ) → strike-lts.Need-past-requires-2 (strike-callees t) (strike-at t) strike.Post
+strike-past-requires-2 t c κs =
+    at-node (c .before .before .before .before .before) .most
+
+strike-strike-to-requires-2 : (t : ℕ) → strike-lts.Need-strike-to-requires-2 (strike-callees t) (strike-at t) strike.Post
+strike-strike-to-requires-2 t c κs =
+    let s = c .before .before .before .before .before .before .before .before .before .before .before .before .before .before in
+    let p = c .before .past .ensures in
+    let n = c .past2 .ensures in
+    let H = at-node (c .before .before .before .before .before .before) in
+    let v = getD (s .args .vars .now) (s .args .f .0) 0 in
+    let l = getD (s .args .lows .now) (s .args .f .0) 0 in
+    let h = getD (s .args .highs .now) (s .args .f .0) 0 in
+    (ready s .least, ready s .most, omega (arith, p, H .least, past-least v l), omega (arith, p, H .most, past-most v l), omega (arith, n, H .least, past-least v h), omega (arith, n, H .most, past-most v h))
+
+strike-returns-3 : (t : ℕ) → strike-lts.Need-returns-3 (strike-callees t) (strike-at t) strike.Post
+strike-returns-3 t c =
+    let s = c .before .before .before .before .before .before .before .before .before .before .before .before .before .before .before .before .before in
+    let a = c .before .before in
+    (struck-none (s .args .vars .now) (s .args .lows .now) (s .args .highs .now) (s .args .count) (ready s .readable) (s .args .f .0) (two (here-else a)) (ready s .inside) (s .args .from) (s .args .alive) (a .strike-to2 .result) (ready s .least) (ready s .most) (ready s .reached (two (here-else a))) (left-is a) (c .if3 .taken), (marked-here (s .args .vars .now) (s .args .lows .now) (s .args .highs .now) (s .args .count) (ready s .readable) (s .args .f .0) (two (here-else a)) (ready s .inside) (s .args .from) (s .args .alive) (a .strike-to2 .result) (ready s .least) (ready s .most) (ready s .reached (two (here-else a))) (left-is a) (s .args .memo .now) (s .args .stamp) (ready s .right), ready s .marks))
+
+strike-mul-if4 : (t : ℕ) → strike-lts.Need-mul-if4 (strike-callees t) (strike-at t) strike.Post
+strike-mul-if4 t c =
+    omega (arith, cell-inside (c .before .before .before .before .before .before .before .before .before .before .before .before .before .before .before .before .before), c .before .before .before .before .before .before .before .before .before .before .before .before .before .before .before .before .before .good, c .before .before .before .before .before .before .before .before .before .before .before .before .before .before .before .before .before .fits)
+
+strike-slice-read-if4 : (t : ℕ) → strike-lts.Need-slice-read-if4 (strike-callees t) (strike-at t) strike.Post
+strike-slice-read-if4 t c =
+    cell-inside (c .before .before .before .before .before .before .before .before .before .before .before .before .before .before .before .before .before .before)
+
+strike-returns-4 : (t : ℕ) → strike-lts.Need-returns-4 (strike-callees t) (strike-at t) strike.Post
+strike-returns-4 t c =
+    let s = c .before .before .before .before .before .before .before .before .before .before .before .before .before .before .before .before .before .before .before in
+    let a = c .before .before .before .before in
+    (struck-marked (s .args .vars .now) (s .args .lows .now) (s .args .highs .now) (s .args .count) (ready s .readable) (s .args .f .0) (two (here-else a)) (ready s .inside) (s .args .from) (s .args .alive) (a .strike-to2 .result) (ready s .least) (ready s .most) (ready s .reached (two (here-else a))) (left-is a) (s .args .memo .now) (s .args .stamp) (ready s .right) (c .if4 .taken), (marked-here (s .args .vars .now) (s .args .lows .now) (s .args .highs .now) (s .args .count) (ready s .readable) (s .args .f .0) (two (here-else a)) (ready s .inside) (s .args .from) (s .args .alive) (a .strike-to2 .result) (ready s .least) (ready s .most) (ready s .reached (two (here-else a))) (left-is a) (s .args .memo .now) (s .args .stamp) (ready s .right), ready s .marks))
+
+strike-add-strike : (t : ℕ) → strike-lts.Need-add-strike (strike-callees t) (strike-at t) strike.Post
+strike-add-strike t c =
+    omega (arith, at-node (c .before .before .before .before .before .before .before .before .before .before .before .before) .most)
+
+strike-strike-requires : (t : ℕ) → strike-lts.Need-strike-requires (strike-callees t) (strike-at t) strike.Post
+strike-strike-requires t c κs =
+    let s = c .before .before .before .before .before .before .before .before .before .before .before .before .before .before .before .before .before .before .before .before in
+    let a = c .before .before .before .before .before in
+    let H = at-node (here-else a) in (
+      omega (arith, measure s, H .low-less),
+      record {
+        readable = ready s .readable;
+        inside = omega (arith, ready s .inside, H .low-less);
+        room = ready s .room;
+        least = omega arith;
+        most = omega (arith, H .most);
+        reached = sides-after (s .args .vars .now) (s .args .lows .now) (s .args .highs .now) (s .args .count) (ready s .readable) (s .args .f .0) (two (here-else a)) (ready s .inside) .0;
+        right = marked-here (s .args .vars .now) (s .args .lows .now) (s .args .highs .now) (s .args .count) (ready s .readable) (s .args .f .0) (two (here-else a)) (ready s .inside) (s .args .from) (s .args .alive) (a .strike-to2 .result) (ready s .least) (ready s .most) (ready s .reached (two (here-else a))) (left-is a) (s .args .memo .now) (s .args .stamp) (ready s .right);
+        marks = ready s .marks;
+      },
+    )
+
+strike-add-strike-2 : (t : ℕ) → strike-lts.Need-add-strike-2 (strike-callees t) (strike-at t) strike.Post
+strike-add-strike-2 t c =
+    omega (arith, at-node (c .before .before .before .before .before .before .before .before .before .before .before .before .before .before .before .before) .most)
+
+strike-strike-requires-2 : (t : ℕ) → strike-lts.Need-strike-requires-2 (strike-callees t) (strike-at t) strike.Post
+strike-strike-requires-2 t c κs =
+    let s = c .before .before .before .before .before .before .before .before .before .before .before .before .before .before .before .before .before .before .before .before .before .before .before .before in
+    let a = c .before .before .before .before .before .before .before .before .before in
+    let H = at-node (here-else a) in
+    let k = c .before .before .before .strike in (
+      omega (arith, measure s, H .high-less),
+      record {
+        readable = ready s .readable;
+        inside = omega (arith, ready s .inside, H .high-less);
+        room = omega (arith, ready s .room, k .kept .1 .1 .1 .0);
+        least = omega arith;
+        most = omega (arith, H .most);
+        reached = sides-after (s .args .vars .now) (s .args .lows .now) (s .args .highs .now) (s .args .count) (ready s .readable) (s .args .f .0) (two (here-else a)) (ready s .inside) .1;
+        right = k .ensures .1 .0;
+        marks = k .ensures .1 .1;
+      },
+    )
+
+strike-mul-memo : (t : ℕ) → strike-lts.Need-mul-memo (strike-callees t) (strike-at t) strike.Post
+strike-mul-memo t c =
+    omega (arith, cell-inside (c .before .before .before .before .before .before .before .before .before .before .before .before .before .before .before .before .before .before .before .before .before .before .before .before .before .before .before), c .before .before .before .before .before .before .before .before .before .before .before .before .before .before .before .before .before .before .before .before .before .before .before .before .before .before .before .good, c .before .before .before .before .before .before .before .before .before .before .before .before .before .before .before .before .before .before .before .before .before .before .before .before .before .before .before .fits)
+
+strike-slice-write-memo : (t : ℕ) → strike-lts.Need-slice-write-memo (strike-callees t) (strike-at t) strike.Post
+strike-slice-write-memo t c =
+    omega (arith, cell-inside (c .before .before .before .before .before .before .before .before .before .before .before .before .before .before .before .before .before .before .before .before .before .before .before .before .before .before .before), c .before .before .before .before .before .before .strike .kept .1 .1 .1 .0, c .before .before .strike2 .kept .1 .1 .1 .0)
+
+strike-same-length : (t : ℕ) → strike-lts.Need-same-length (strike-callees t) (strike-at t) strike.Post
+strike-same-length t c =
+    length-set (c .before .before .strike2 .last .1 .1 .1 .0) _ _ ∙ c .before .before .strike2 .kept .1 .1 .1 .0 ∙ c .before .before .before .before .before .before .strike .kept .1 .1 .1 .0
+
+strike-returns-5 : (t : ℕ) → strike-lts.Need-returns-5 (strike-callees t) (strike-at t) strike.Post
+strike-returns-5 t c =
+    let s = c .before .before .before .before .before .before .before .before .before .before .before .before .before .before .before .before .before .before .before .before .before .before .before .before .before .before .before in
+    let a = c .before .before .before .before .before .before .before .before .before .before .before .before in
+    let k₁ = c .before .before .before .before .before .before .strike in
+    let k₂ = c .before .before .strike2 in
+    let room : s .args .f .0 < length (k₂ .last .1 .1 .1 .0) = omega (arith, cell-inside s, k₁ .kept .1 .1 .1 .0, k₂ .kept .1 .1 .1 .0) in
+    let is : Struck (nodes s) (s .args .f .0) (s .args .from) (s .args .alive) (k₂ .result) = struck-node (s .args .vars .now) (s .args .lows .now) (s .args .highs .now) (s .args .count) (ready s .readable) (s .args .f .0) (two (here-else a)) (ready s .inside) (s .args .from) (s .args .alive) (a .strike-to2 .result) (ready s .least) (ready s .most) (ready s .reached (two (here-else a))) (left-is a) (k₁ .result) (k₂ .result) (k₁ .ensures .0) (k₂ .ensures .0) in (
+      is,
+      (
+        marked-stored (s .args .vars .now) (s .args .lows .now) (s .args .highs .now) (s .args .count) (ready s .readable) (s .args .f .0) (two (here-else a)) (ready s .inside) (s .args .from) (s .args .alive) (k₂ .result) (k₂ .last .1 .1 .1 .0) (s .args .stamp) (ready s .reached (two (here-else a))) room is (k₂ .ensures .1 .0),
+        marks-stored (k₂ .last .1 .1 .1 .0) (s .args .count) (s .args .f .0) (s .args .stamp) room (k₂ .ensures .1 .1),
+      ),
+    )
+
+pub +strike-spec : {M : Type 1} → statement M
++strike-spec = close μ-strike λ t. strike-lts.spec (strike-callees t) (strike-at t) strike.Post
+    (strike-returns t)
+    (strike-strike-to-requires t)
+    (strike-returns-2 t)
+    (strike-cast-i t)
+    (strike-shared-slice-read-v t)
+    (strike-mul-t20 t)
+    (strike-shared-slice-read-t22 t)
+    (strike-mul-t20-2 t)
+    (strike-shared-slice-read-t22-2 t)
+    (strike-past-requires t)
+    (strike-past-requires-2 t)
+    (strike-strike-to-requires-2 t)
+    (strike-returns-3 t)
+    (strike-mul-if4 t)
+    (strike-slice-read-if4 t)
+    (strike-returns-4 t)
+    (strike-add-strike t)
+    (strike-strike-requires t)
+    (strike-add-strike-2 t)
+    (strike-strike-requires-2 t)
+    (strike-mul-memo t)
+    (strike-slice-write-memo t)
+    (strike-same-length t)
+    (strike-returns-5 t)
