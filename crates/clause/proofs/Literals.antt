@@ -1,7 +1,7 @@
 -- The words of a clause's literals have the variables that occur with each sign, so that their diagram is the clause's, for every variable
 -- count that the literals keep within. The idea: the reader's law of its words, and that a clause looks at its own variables. Assumes nothing.
 use mathlib.Core.Path.{_≡_, refl, sym, ap, ap₂, _∙_}
-use mathlib.Core.Bool.{Bool, true, false, Bool·beq}
+use mathlib.Core.Bool.{Bool, true, false, _||_, Bool·beq}
 use mathlib.Core.List.{List, [], _∷_}
 use Prim.Native.Nat.{ℕ, _-_, _≤_}
 use native.Mathlib.Omega.{arith}
