@@ -18,7 +18,7 @@ use prog.Wp.{Heap}
 use ghost.Atoms.{Atoms, sem}
 use contract.Lifetimes.{Lfts}
 use contract.Monad.{Fun, fact}
-use types.Kit.{Given, Item, ‵, raw, _⊛_, some, later, ⋆, _$_, _∵_, !, qed, move, keep, use1, use2, use3, split, split3, join, pick, group, check, fsplit, fsplit3, fjoin, feqL, frame, await, updating, now as at-once, show, done}
+use types.Kit.{Given, Item, ‵, raw, _⊛_, some, later, ⋆, _$_, _∵_, !, qed, move, keep, use1, use3, split, split3, join, pick, group, check, fsplit, fsplit3, fjoin, feqL, frame, await, updating, now as at-once, show, done}
 use denote.Laws.{Is}
 use denote.Plain.{uint-makes}
 use denote.Builtin.{u8, u16, usize}
@@ -26,8 +26,6 @@ use denote.Ref.{RefT}
 use denote.Slice.{sliceVal, slice-vals, ShrSlice, MutSlice, finally}
 use denote.Index.{row}
 use denote.Steps.{nothing, owned, heard}
-use denote.Struct.Laws as LL
-use denote.Enum.Laws as LE
 use denote.Triple.Entry.{Args, Vals}
 use denote.Triple.Spec.{tripleOf}
 use denote.Triple.Statement.{Contract}
@@ -38,7 +36,7 @@ use Rattle.session.specs.Checked.{outcomeOf}
 use Rattle.session.proofs.Checked as K
 use Rattle.nodes.specs.Within.{checkWithin}
 use Rattle.nodes.proofs.Setting.{Spot, Filled, Columns, room8, room16}
-use Rattle.nodes.proofs.Lent.{Loan, lifetime, lent-as, Lender, Sharer, lends, shares-out, back, whole-back}
+use Rattle.nodes.proofs.Lent.{Loan, lifetime, lent-as, Lender, lends, back}
 use Rattle.nodes.proofs.within.check_within as check-fn
 
 abbrev pub Check : {M : Type 1} (𝓤 : URA M) (H : Heap 𝓤) (A : Atoms 𝓤) (mem : Memory → SProp 𝓤) (run : Routine → Fun 𝓤) → Contract 𝓤

@@ -1,12 +1,18 @@
 -- The lists that a slice of nodes and its columns go through, one place after the other.
 -- Assumes nothing.
 use mathlib.Core.Path.{_≡_, refl, ap}
+use mathlib.Core.Bool.{Bool, true, false}
 use Prim.Native.Nat.{ℕ, zero, suc, _+_, _<_, _≤_}
 use native.Mathlib.Omega.{arith}
 use mathlib.Core.List.{List, [], _∷_, _++_, map}
 use lib.ListN.{length, getD, set, take, drop}
 use Rattle.nodes.specs.declared.Node.{Node}
-use Rattle.nodes.specs.Slice.{varsOf, lowsOf, highsOf, nodesOf, blank}
+use Rattle.nodes.specs.Slice.{nodesOf, blank}
+
+-- by a test's answer
+pub by-test {α} : {P : Type α} (t : Bool) → (t ≡ true → P) → (t ≡ false → P) → P
+by-test true f g = f refl
+by-test false f g = g refl
 
 pub add-one : (i : ℕ) → i + 1 ≡ suc i
 add-one i = omega arith

@@ -1,7 +1,8 @@
 -- What a call over a slice of nodes works on: the nodes, and three local arrays of 65,536 places whose first places hold the columns.
 -- Assumes nothing.
-use mathlib.Core.Path.{_≡_}
+use mathlib.Core.Path.{_≡_, _∙_}
 use Prim.Native.Nat.{ℕ, _≤_}
+use native.Mathlib.Omega.{arith}
 use mathlib.Core.List.{List}
 use lib.ListN.{length}
 use lib.Dec.{lit<}
@@ -11,6 +12,7 @@ use denote.Builtin.{u8, u16}
 use denote.Slice.{Room}
 use denote.Index.{row}
 use Rattle.nodes.specs.declared.Node.{Node}
+use Rattle.nodes.proofs.Lists.{varOf, lowOf, highOf, column, column-length, slice, slice-length}
 use Rattle.nodes.proofs.Node as N
 
 -- where the nodes and the arrays lie, and the nodes
@@ -35,6 +37,24 @@ pub record Filled : Type 0 where
 -- m of a slice's n places have room in the arrays: all of them, where there are no more than 65,536
 abbrev pub Cut : ℕ → ℕ → Type 0
 Cut n m = (m ≤ n) × (m ≤ 65536) × (n ≤ 65536 → n ≤ m)
+
+-- the arrays once m nodes are loaded
+abbrev pub loaded : (ys : List Node) → Filled → (m : ℕ) → Cut (length ys) m → Filled
+loaded ys cs m cut = record {
+  vs = column varOf ys (cs .vs) m;
+  ls = column lowOf ys (cs .ls) m;
+  hs = column highOf ys (cs .hs) m;
+  eV = column-length varOf ys (cs .vs) m (cut .0) (omega (arith, cut .1, cs .eV)) ∙ cs .eV;
+  eL = column-length lowOf ys (cs .ls) m (cut .0) (omega (arith, cut .1, cs .eL)) ∙ cs .eL;
+  eH = column-length highOf ys (cs .hs) m (cut .0) (omega (arith, cut .1, cs .eH)) ∙ cs .eH;
+}
+
+-- the nodes once m places are written back
+abbrev pub written : List Node → Filled → ℕ → List Node
+written ys cs m = slice (cs .vs) (cs .ls) (cs .hs) ys m
+
+pub written-length : (ys : List Node) (cs : Filled) (m : ℕ) → Cut (length ys) m → length (written ys cs m) ≡ length ys
+written-length ys cs m cut = slice-length (cs .vs) (cs .ls) (cs .hs) ys m (omega (arith, cut .1, cs .eV)) (omega (arith, cut .1, cs .eL)) (omega (arith, cut .1, cs .eH)) (cut .0)
 
 -- the arrays in memory
 abbrev pub Columns : Spot → List ℕ → List ℕ → List ℕ → Fml

@@ -2,7 +2,7 @@
 -- A slice of at most 65,536 nodes is loaded and written back whole; of a longer one the first 65,536 nodes are, unchanged, since the call says 7. Assumes nothing.
 use mathlib.Core.Path.{_≡_, refl, sym, ap, _∙_, subst}
 use mathlib.Core.Bool.{Bool, true, false, _&&_, cond}
-use Prim.Native.Nat.{ℕ, zero, suc, _≤_, _<_}
+use Prim.Native.Nat.{ℕ, _≤_, _<_}
 use native.Mathlib.Omega.{arith}
 use mathlib.Core.List.{List, [], _∷_, _++_, map, append-nil}
 use lib.ListN.{length, take, drop, length-map, take-append-drop}
@@ -20,12 +20,8 @@ use Rattle.session.specs.Checked.{outcomeOf}
 use Rattle.nodes.specs.declared.Node.{Node}
 use Rattle.nodes.specs.Slice.{varsOf, lowsOf, highsOf, nodesOf, secondOf}
 use Rattle.nodes.specs.Within.{checkWithin, operationWithin, evaluationWithin}
-use Rattle.nodes.proofs.Lists.{varOf, lowOf, highOf, column, slice}
+use Rattle.nodes.proofs.Lists.{by-test, varOf, lowOf, highOf, column, slice}
 use Rattle.nodes.proofs.Setting.{Cut}
-
-by-test : {P : Type 0} (t : Bool) → (t ≡ true → P) → (t ≡ false → P) → P
-by-test true f g = f refl
-by-test false f g = g refl
 
 -- ---- lists
 

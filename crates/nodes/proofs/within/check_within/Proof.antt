@@ -4,71 +4,54 @@ use borrow.Author.Needs.{needs}
 use Rattle.nodes.proofs.First.{first-length, check-past, check-first}
 use Rattle.nodes.proofs.within.check_within.Statement.{statement}
 use Rattle.nodes.proofs.within.check_within.Tie as tie
-use Rattle.nodes.proofs.within.check_within.Reads as reads
-use Rattle.nodes.proofs.within.check_within.Lts as lts
-use Rattle.checker.proofs.check.Reads as check-reads
 
--- src/within.rt:24:9
 returns : tie.Need-returns
 returns c =
     let start = c .before .before .before .before .before .before .before .before in
     check-past _ _ _ _ _ _ _ _ _ (c .if1 .taken) (start .pre .0) (start .pre .1) (start .pre .2)
 
--- src/within.rt:33:9
 slice-relend-prefix-check : tie.Need-slice-relend-prefix-check
 slice-relend-prefix-check c = search needs
 
--- src/within.rt:33:9
 slice-aggregate-check : tie.Need-slice-aggregate-check
 slice-aggregate-check c =
     let start = c .before .before .before .before .before .before .before .before .before in
     first-length _ _ (omega (arith, c .before .if1 .left)) (start .pre .0)
 
--- src/within.rt:34:9
 slice-relend-prefix-check-2 : tie.Need-slice-relend-prefix-check-2
 slice-relend-prefix-check-2 c = search needs
 
--- src/within.rt:34:9
 slice-aggregate-check-2 : tie.Need-slice-aggregate-check-2
 slice-aggregate-check-2 c =
     let start = c .before .before .before .before .before .before .before .before .before .before in
     first-length _ _ (omega (arith, c .before .before .if1 .left)) (start .pre .1)
 
--- src/within.rt:35:9
 slice-relend-prefix-check-3 : tie.Need-slice-relend-prefix-check-3
 slice-relend-prefix-check-3 c = search needs
 
--- src/within.rt:35:9
 slice-aggregate-check-3 : tie.Need-slice-aggregate-check-3
 slice-aggregate-check-3 c =
     let start = c .before .before .before .before .before .before .before .before .before .before .before in
     first-length _ _ (omega (arith, c .before .before .before .if1 .left)) (start .pre .2)
 
--- src/within.rt:32:5
 check-requires : tie.Need-check-requires
 check-requires c κs = search needs
 
--- src/within.rt:9:1
 same-length : tie.Need-same-length
 same-length c = search needs
 
--- src/within.rt:9:1
 same-length-2 : tie.Need-same-length-2
 same-length-2 c = search needs
 
--- src/within.rt:9:1
 same-length-3 : tie.Need-same-length-3
 same-length-3 c = search needs
 
--- src/within.rt:9:1
 same-length-4 : tie.Need-same-length-4
 same-length-4 c = search needs
 
--- src/within.rt:9:1
 same-length-5 : tie.Need-same-length-5
 same-length-5 c = search needs
 
--- src/within.rt:9:1
 returns-2 : tie.Need-returns-2
 returns-2 c =
     let start = c .before .before .before .before .before .before .before .before .before .before .before .before .before .before .before .before .before .before .before .before .before .before .before .before in

@@ -4,31 +4,22 @@ use borrow.Author.Needs.{needs}
 use Rattle.nodes.proofs.First.{first-length, evaluation-past, evaluation-first}
 use Rattle.nodes.proofs.within.evaluate_within.Statement.{statement}
 use Rattle.nodes.proofs.within.evaluate_within.Tie as tie
-use Rattle.nodes.proofs.within.evaluate_within.Reads as reads
-use Rattle.nodes.proofs.within.evaluate_within.Lts as lts
-use Rattle.checker.proofs.evaluate.Reads as evaluate-reads
 
--- src/within.rt:102:9
 returns : tie.Need-returns
 returns c = evaluation-past _ _ _ _ _ _ _ (c .if1 .taken)
 
--- src/within.rt:108:23
 slice-aggregate-evaluate : tie.Need-slice-aggregate-evaluate
 slice-aggregate-evaluate c = first-length _ _ (omega (arith, c .before .if1 .left)) (c .before .before .before .before .before .pre .0)
 
--- src/within.rt:108:35
 slice-aggregate-evaluate-2 : tie.Need-slice-aggregate-evaluate-2
 slice-aggregate-evaluate-2 c = first-length _ _ (omega (arith, c .before .before .if1 .left)) (c .before .before .before .before .before .before .pre .1)
 
--- src/within.rt:108:47
 slice-aggregate-evaluate-3 : tie.Need-slice-aggregate-evaluate-3
 slice-aggregate-evaluate-3 c = first-length _ _ (omega (arith, c .before .before .before .if1 .left)) (c .before .before .before .before .before .before .before .pre .2)
 
--- src/within.rt:108:5
 evaluate-requires : tie.Need-evaluate-requires
 evaluate-requires c κs = search needs
 
--- src/within.rt:89:1
 returns-2 : tie.Need-returns-2
 returns-2 c = evaluation-first _ _ _ _ _ _ _ _ (omega (arith, c .before .before .before .before .if1 .left)) (c .evaluate .ensures)
 

@@ -4,60 +4,43 @@ use borrow.Author.Needs.{needs}
 use Rattle.nodes.proofs.First.{first-length, operation-past, operation-first}
 use Rattle.nodes.proofs.within.operation_within.Statement.{statement}
 use Rattle.nodes.proofs.within.operation_within.Tie as tie
-use Rattle.nodes.proofs.within.operation_within.Reads as reads
-use Rattle.nodes.proofs.within.operation_within.Lts as lts
-use Rattle.nodes.proofs.within.second.Reads as second-reads
-use Rattle.single.proofs.call.call.Reads as call-reads
 
--- src/within.rt:78:9
 returns : tie.Need-returns
 returns c = operation-past _ _ _ _ _ _ _ _ (c .if1 .taken) (c .before .before .before .before .pre .0) (c .before .before .before .before .pre .1) (c .before .before .before .before .pre .2)
 
--- src/within.rt:84:9
 second-requires : tie.Need-second-requires
 second-requires c κs = search needs
 
--- src/within.rt:85:24
 slice-relend-prefix-call : tie.Need-slice-relend-prefix-call
 slice-relend-prefix-call c = search needs
 
--- src/within.rt:85:24
 slice-aggregate-call : tie.Need-slice-aggregate-call
 slice-aggregate-call c = first-length _ _ (omega (arith, c .before .before .if1 .left)) (c .before .before .before .before .before .before .pre .0)
 
--- src/within.rt:85:40
 slice-relend-prefix-call-2 : tie.Need-slice-relend-prefix-call-2
 slice-relend-prefix-call-2 c = search needs
 
--- src/within.rt:85:40
 slice-aggregate-call-2 : tie.Need-slice-aggregate-call-2
 slice-aggregate-call-2 c = first-length _ _ (omega (arith, c .before .before .before .if1 .left)) (c .before .before .before .before .before .before .before .pre .1)
 
--- src/within.rt:85:56
 slice-relend-prefix-call-3 : tie.Need-slice-relend-prefix-call-3
 slice-relend-prefix-call-3 c = search needs
 
--- src/within.rt:85:56
 slice-aggregate-call-3 : tie.Need-slice-aggregate-call-3
 slice-aggregate-call-3 c = first-length _ _ (omega (arith, c .before .before .before .before .if1 .left)) (c .before .before .before .before .before .before .before .before .pre .2)
 
--- src/within.rt:85:5
 call-requires : tie.Need-call-requires
 call-requires c κs = search needs
 
--- src/within.rt:64:1
 same-length : tie.Need-same-length
 same-length c = search needs
 
--- src/within.rt:64:1
 same-length-2 : tie.Need-same-length-2
 same-length-2 c = search needs
 
--- src/within.rt:64:1
 same-length-3 : tie.Need-same-length-3
 same-length-3 c = search needs
 
--- src/within.rt:64:1
 returns-2 : tie.Need-returns-2
 returns-2 c =
     let start = c .before .before .before .before .before .before .before .before .before .before .before .before .before .before .before in

@@ -6,41 +6,31 @@ use Rattle.nodes.specs.Slice.{secondOf}
 use Rattle.nodes.proofs.First.{kind-second}
 use Rattle.nodes.proofs.within.second.Statement.{statement}
 use Rattle.nodes.proofs.within.second.Tie as tie
-use Rattle.nodes.proofs.within.second.Reads as reads
-use Rattle.nodes.proofs.within.second.Lts as lts
 
--- src/within.rt:56:35
 enum-told : tie.Need-enum-told
 enum-told c = search needs
 
--- src/within.rt:57:32
 enum-told-2 : tie.Need-enum-told-2
 enum-told-2 c = search needs
 
--- src/within.rt:58:32
 enum-told-3 : tie.Need-enum-told-3
 enum-told-3 c = search needs
 
--- src/within.rt:59:38
 enum-told-4 : tie.Need-enum-told-4
 enum-told-4 c = search needs
 
--- src/within.rt:52:1
 returns : tie.Need-returns
 unfolding secondOf
 returns c = kind-second _ Conjunction _ _ (c .enum-told .given .1) refl tt
 
--- src/within.rt:52:1
 returns-2 : tie.Need-returns-2
 unfolding secondOf
 returns-2 c = kind-second _ Negation _ _ (c .enum-told2 .given .1) refl refl
 
--- src/within.rt:52:1
 returns-3 : tie.Need-returns-3
 unfolding secondOf
 returns-3 c = kind-second _ Cofactor _ _ (c .enum-told3 .given .1) refl tt
 
--- src/within.rt:52:1
 returns-4 : tie.Need-returns-4
 unfolding secondOf
 returns-4 c = kind-second _ (Literals _ _) _ _ (c .enum-told4 .given .1) refl refl
