@@ -131,6 +131,31 @@ cablesalak_checked cablesalak_check(
     const uint8_t *formula, size_t formula_length,
     const uint8_t *proof, size_t proof_length);
 
+/* ---- The table as one list of records. These two are in target/staticlib/libnodes.a (`rt staticlib nodes`), which can be linked
+ * beside the other archive.
+ *
+ * Each is the call of the same name over the list's three columns: numbers, places, counts and what the list holds
+ * afterwards are those told there. A list of fewer than 2 or more than 65,536 places is refused with 7 and stays as it is. They
+ * copy the list into columns and back, and take 320 KiB of stack more than the calls over columns. */
+typedef struct {
+    uint8_t var;
+    uint16_t low;
+    uint16_t high;
+} cablesalak_node;
+
+/* As cablesalak_evaluate. */
+cablesalak_evaluated cablesalak_evaluate_nodes(
+    const cablesalak_node *nodes, size_t nodes_length, size_t count, uint16_t node, uint64_t word);
+
+/* As cablesalak_check. */
+cablesalak_checked cablesalak_check_nodes(
+    cablesalak_node *nodes, size_t nodes_length,
+    size_t count,
+    uint16_t *members, size_t members_length,
+    uint16_t *scratch, size_t scratch_length,
+    const uint8_t *formula, size_t formula_length,
+    const uint8_t *proof, size_t proof_length);
+
 #ifdef __cplusplus
 }
 #endif
@@ -147,6 +172,8 @@ CABLESALAK_LAYOUT(sizeof(cablesalak_evaluated) == 16 && offsetof(cablesalak_eval
 CABLESALAK_LAYOUT(offsetof(cablesalak_evaluated, number) == 0 && offsetof(cablesalak_evaluated, count) == 8);
 CABLESALAK_LAYOUT(sizeof(cablesalak_single) == 16 && offsetof(cablesalak_single, node) == 2);
 CABLESALAK_LAYOUT(offsetof(cablesalak_single, number) == 0 && offsetof(cablesalak_single, count) == 8);
+CABLESALAK_LAYOUT(sizeof(cablesalak_node) == 6 && offsetof(cablesalak_node, var) == 0);
+CABLESALAK_LAYOUT(offsetof(cablesalak_node, low) == 2 && offsetof(cablesalak_node, high) == 4);
 CABLESALAK_LAYOUT(sizeof(cablesalak_checked) == 40 && offsetof(cablesalak_checked, number) == 0);
 CABLESALAK_LAYOUT(offsetof(cablesalak_checked, place) == 8 && offsetof(cablesalak_checked, lines) == 16);
 CABLESALAK_LAYOUT(offsetof(cablesalak_checked, rounds) == 24 && offsetof(cablesalak_checked, count) == 32);

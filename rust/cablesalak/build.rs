@@ -13,6 +13,7 @@ fn main() {
     println!("cargo:rustc-link-search=native={folder}");
     println!("cargo:rustc-link-lib=static=export");
     println!("cargo:rustc-env=CABLESALAK_ARCHIVE={folder}/libexport.a");
+    println!("cargo:rustc-env=CABLESALAK_NODES_ARCHIVE={folder}/libnodes.a");
     assert!(
         Path::new(&folder).join("libexport.a").exists(),
         "no libexport.a in {folder}: write it with `rt staticlib export`, or name its folder in {FOLDER}"

@@ -22,7 +22,8 @@ pub struct Node {
 }
 
 // The whole check of a formula and a proof. What it says and leaves is the definition's.
-pub fn check<'a>(
+#[no_mangle]
+pub extern "C" fn cablesalak_check_nodes<'a>(
     nodes: &mut [Node],
     count: usize,
     members: &mut [u16],
@@ -76,7 +77,13 @@ pub fn operation(nodes: &mut [Node], count: usize, op: Operation, f: NodeNo, g: 
 }
 
 // Whether the node is 1 under the word's assignment; or 7, 26, 13.
-pub fn evaluate(nodes: &[Node], count: usize, node: NodeNo, word: u64) -> Evaluated
+#[no_mangle]
+pub extern "C" fn cablesalak_evaluate_nodes(
+    nodes: &[Node],
+    count: usize,
+    node: NodeNo,
+    word: u64,
+) -> Evaluated
     ensures { λ r. ⌜ r ≡ evaluation (varsOf (now (nodes .entry))) (lowsOf (now (nodes .entry))) (highsOf (now (nodes .entry))) count (node .0) word ⌝ }
 {
     let mut vars = [0u8; 65536];

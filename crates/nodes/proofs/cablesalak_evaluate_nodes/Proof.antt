@@ -1,4 +1,4 @@
--- `nodes::evaluate` meets its contract: a walk of its MIR, by hand, as that of `nodes::check`. The nodes are loaded into three local arrays, and the evaluation over the columns is called.
+-- `nodes::cablesalak_evaluate_nodes` meets its contract: a walk of its MIR, by hand, as that of `nodes::check`. The nodes are loaded into three local arrays, and the evaluation over the columns is called.
 -- The three calls go by their contracts (`Clipping.antt`, `Loading.antt`, `Evaluating.antt`), and `Whole.antt` says that the columns' equation is the slice's.
 -- Assumes nothing.
 use mathlib.Core.Path.{_≡_, refl, sym, subst}
@@ -69,10 +69,10 @@ use Rattle.nodes.proofs.columns.load.Met as load-thm
 use Rattle.nodes.proofs.within.evaluate_within.Symbol as within-def
 use Rattle.nodes.proofs.within.evaluate_within.Symbol.{name as #within}
 use Rattle.nodes.proofs.within.evaluate_within.Met as within-thm
-use Rattle.nodes.proofs.evaluate.Key.{name as #nodes·evaluate}
-use Rattle.nodes.proofs.evaluate as evaluate-fn
-use Rattle.nodes.proofs.evaluate.Statement as stated
-use Rattle.nodes.proofs.evaluate.Code as code
+use Rattle.nodes.proofs.cablesalak_evaluate_nodes.Key.{name as #nodes·evaluate}
+use Rattle.nodes.proofs.cablesalak_evaluate_nodes as evaluate-fn
+use Rattle.nodes.proofs.cablesalak_evaluate_nodes.Statement as stated
+use Rattle.nodes.proofs.cablesalak_evaluate_nodes.Code as code
 
 abbrev Arg : Type 0
 Arg = RefT (List Node) × (ℕ × (NodeNo × (ℕ × Unit {0})))
@@ -221,9 +221,9 @@ module _ {M : Type 1} (𝓤 : URA M) (H : Heap 𝓤) (A : Atoms 𝓤) (W : Given
       walk-meets 𝓤 H A evaluate-fn.ended stayed W (goes-none-slice 𝓤 H A W 1 (0 ∷ []) tt (plain (λ _. N.the-row)) yes, (goes-none 𝓤 H A W 1 (λ _. usize) yes (λ κs x f. refl), (goes-none 𝓤 H A W 1 (λ _. D.the-row) yes (λ κs x f. refl), (goes-none 𝓤 H A W 1 (λ _. u64) yes (λ κs x f. refl), tt))))
       (evaluate-fn.clauses 𝓤 H A mem run) (WpFn 𝓤 H (𝓣 .C) (𝓣 .Λ) code.function) (WpFn-mono 𝓤 H (W .laws) 𝓣 code.function) evaluate-walks
 
-pub evaluate-spec : {M : Type 1} → stated.statement M
+pub cablesalak-evaluate-nodes-spec : {M : Type 1} → stated.statement M
 unfolding code.routine tablesOf
-evaluate-spec 𝓤 H 𝓜 𝓖 𝓡 =
+cablesalak-evaluate-nodes-spec 𝓤 H 𝓜 𝓖 𝓡 =
     entered 𝓤 H (tripleOf 𝓤 H (𝓖 .A) evaluate-fn.signature (evaluate-fn.spec 𝓤 H (𝓖 .A) (𝓜 .mem) (𝓡 .run)))
     (tables 𝓤 H 𝓜 𝓡 code.env .C) (tables 𝓤 H 𝓜 𝓡 code.env .Λ) #nodes·evaluate code.function (code.unfolded 𝓤 H 𝓜 𝓡)
     (evaluate-meets 𝓤 H (𝓖 .A) (givenOf 𝓤 H 𝓜 𝓖) (𝓜 .mem) (𝓡 .run) (tablesOf 𝓤 H 𝓜 (tables 𝓤 H 𝓜 𝓡 code.env))

@@ -1,4 +1,4 @@
--- `nodes::check` meets its contract: a walk of its MIR, by hand. The nodes are loaded into three local arrays, the check over the columns is called, and the columns are written back.
+-- `nodes::cablesalak_check_nodes` meets its contract: a walk of its MIR, by hand. The nodes are loaded into three local arrays, the check over the columns is called, and the columns are written back.
 -- The four calls go by their contracts (`Clipping.antt`, `Loading.antt`, `Checking.antt`, `Saving.antt`), and `Whole.antt` says that the columns' equation is the slice's.
 -- Assumes nothing.
 use mathlib.Core.Path.{_≡_, refl, sym, subst}
@@ -71,10 +71,10 @@ use Rattle.nodes.proofs.columns.save.Met as save-thm
 use Rattle.nodes.proofs.within.check_within.Symbol as within-def
 use Rattle.nodes.proofs.within.check_within.Symbol.{name as #within}
 use Rattle.nodes.proofs.within.check_within.Met as within-thm
-use Rattle.nodes.proofs.check.Key.{name as #nodes·check}
-use Rattle.nodes.proofs.check as check-fn
-use Rattle.nodes.proofs.check.Statement as stated
-use Rattle.nodes.proofs.check.Code as code
+use Rattle.nodes.proofs.cablesalak_check_nodes.Key.{name as #nodes·check}
+use Rattle.nodes.proofs.cablesalak_check_nodes as check-fn
+use Rattle.nodes.proofs.cablesalak_check_nodes.Statement as stated
+use Rattle.nodes.proofs.cablesalak_check_nodes.Code as code
 
 abbrev Slice : Type 0
 Slice = RefT (List ℕ)
@@ -326,9 +326,9 @@ module _ {M : Type 1} (𝓤 : URA M) (H : Heap 𝓤) (A : Atoms 𝓤) (W : Given
         ),
       ) (check-fn.clauses 𝓤 H A mem run) (WpFn 𝓤 H (𝓣 .C) (𝓣 .Λ) code.function) (WpFn-mono 𝓤 H (W .laws) 𝓣 code.function) check-walks
 
-pub check-spec : {M : Type 1} → stated.statement M
+pub cablesalak-check-nodes-spec : {M : Type 1} → stated.statement M
 unfolding code.routine tablesOf
-check-spec 𝓤 H 𝓜 𝓖 𝓡 =
+cablesalak-check-nodes-spec 𝓤 H 𝓜 𝓖 𝓡 =
     entered 𝓤 H (tripleOf 𝓤 H (𝓖 .A) check-fn.signature (check-fn.spec 𝓤 H (𝓖 .A) (𝓜 .mem) (𝓡 .run)))
     (tables 𝓤 H 𝓜 𝓡 code.env .C) (tables 𝓤 H 𝓜 𝓡 code.env .Λ) #nodes·check code.function (code.unfolded 𝓤 H 𝓜 𝓡)
     (check-meets 𝓤 H (𝓖 .A) (givenOf 𝓤 H 𝓜 𝓖) (𝓜 .mem) (𝓡 .run) (tablesOf 𝓤 H 𝓜 (tables 𝓤 H 𝓜 𝓡 code.env))
