@@ -37,14 +37,13 @@ not-one T G g inside ne e =
     ne (diagramAt-injective (nodesOf T) (good-ordered T G) g 1 (omega (arith, length-nodes T G)) (omega (arith, length-nodes T G, G .least)) (e ∙ sym (diagramAt-one (nodesOf T))))
 
 module _ (T : Table) (list memo : List ℕ) (g : ℕ) (R : Negatable T list memo g) where
-  pub negation-ready : (memo′ : List ℕ) → length memo′ ≡ length memo → MemoRight Negation memo′ T → Ready Negation memo′ T g 1
-  negation-ready memo′ len right =
+  pub negation-ready : (memo′ : List ℕ) → MemoRight Negation memo′ T → Ready Negation memo′ T g 1
+  negation-ready memo′ right =
       record {
         good = R .ready .good;
         f-inside = R .inside;
         g-inside = omega (arith, R .ready .good .least);
         allowed = refl;
-        room = omega (arith, R .ready .room);
         right = right;
       }
 

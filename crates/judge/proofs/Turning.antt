@@ -55,14 +55,13 @@ module _ (T : Table) (list memo : List ℕ) (R : ListReady T list memo) (f p n :
         most = omega arith;
       }
 
-  pub literals-ready : (memo′ : List ℕ) → length memo′ ≡ length memo → MemoRight (Literals p n) memo′ T → Ready (Literals p n) memo′ T f 1
-  literals-ready memo′ len right =
+  pub literals-ready : (memo′ : List ℕ) → MemoRight (Literals p n) memo′ T → Ready (Literals p n) memo′ T f 1
+  literals-ready memo′ right =
       record {
         good = R .good;
         f-inside = inside;
         g-inside = omega (arith, R .good .least);
         allowed = refl;
-        room = omega (arith, R .room);
         right = right;
       }
 

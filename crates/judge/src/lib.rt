@@ -71,7 +71,7 @@ fn by_negation(
 {
     copy(members, list);
     copy_words(given, words);
-    operate::clear_memo(memo);
+    operate::memo::clear_memo(memo);
     let not = operate::apply(
         vars,
         lows,
@@ -245,7 +245,7 @@ fn turn(
             count,
         };
     }
-    operate::clear_memo(memo);
+    operate::memo::clear_memo(memo);
     let h = operate::apply(
         vars,
         lows,

@@ -5,7 +5,7 @@ use mathlib.Core.Bool.{true, false}
 use mathlib.Core.List.{List}
 use Prim.Native.Nat.{ℕ, suc, _-_, _≤_, _<_}
 use native.Mathlib.Omega.{arith}
-use lib.ListN.{length, getD, set}
+use lib.ListN.{length, getD}
 use lib.Seq.{getD-take}
 use Rattle.meaning.specs.Diagram.{Diagram, node, Reduced}
 use Rattle.meaning.proofs.Canonical.{diagramFrom-reduced}
@@ -21,8 +21,8 @@ use Rattle.operate.specs.declared.Operation.the-variants.{Conjunction, N
 use Rattle.operate.specs.declared.Sides.{Sides}
 use Rattle.meaning.specs.Words.{inWord}
 use Rattle.operate.specs.Operate.{result}
-use Rattle.operate.specs.Inner.{applied, joinedOf, Allowed, level, top, slot, pack, Right, MemoRight, Ready, SidesReady}
-use Rattle.operate.proofs.Memo.{slot-less, memo-kept, memo-stored}
+use Rattle.operate.specs.Inner.{applied, joinedOf, Allowed, level, top, Right, MemoRight, Ready, SidesReady}
+use Rattle.operate.proofs.RightMemo.{memo-kept}
 use Rattle.operate.proofs.Levels.{top-first, top-second, diagramOf, zero-is, level-reduced}
 
 -- ---- results are reduced
@@ -81,7 +81,8 @@ module _ (op : Operation) (memo : List ℕ) (t : Table) (f g : ℕ) (R : Ready o
     pub applied-longer : Longer t (o .table)
     applied-longer = longer t (result op F E) o applied-grown
 
-    made-right : o .full ≡ false → Right op (o .table) f g (o .node)
+    -- one that is made is right
+    pub made-right : o .full ≡ false → Right op (o .table) f g (o .node)
     made-right made =
         let W : Grown t (result op F E) o = applied-grown in
         record {
@@ -90,14 +91,6 @@ module _ (op : Operation) (memo : List ℕ) (t : Table) (f g : ℕ) (R : Ready o
           inside = W .inside;
           is = W .is made ∙ sym (ap₂ (result op) (W .kept f (R .f-inside)) (W .kept g (R .g-inside)));
         }
-
-    -- a result that is made is stored
-    pub made-stored : o .full ≡ false → (memo₁ : List ℕ) → 0 < length memo₁ → MemoRight op memo₁ (o .table)
-        → MemoRight op (set memo₁ (slot (length memo₁) f g) (pack f g (o .node))) (o .table)
-    made-stored made memo₁ room right =
-        let W : Grown t (result op F E) o = applied-grown in
-        memo-stored op memo₁ (o .table) right (slot (length memo₁) f g) f g (o .node) (slot-less (length memo₁) f g room)
-        (omega (arith, R .g-inside, R .good .within, R .good .most)) (omega (arith, W .inside, W .good .within, W .good .most)) (made-right made)
 
 -- ---- two sides
 
@@ -124,13 +117,12 @@ module _ (op : Operation) (memo : List ℕ) (t : Table) (s : Sides) (R : SidesRe
   low-done = low-full t good (s .x) low high (result-reduced op _ _) (result-reduced op _ _) o₁ e₁
 
   -- the high side can be done next
-  pub high-ready : (memo₁ : List ℕ) → length memo₁ ≡ length memo → MemoRight op memo₁ (o₁ .table) → Ready op memo₁ (o₁ .table) (s .f1 .0) (s .g1 .0)
-  high-ready memo₁ len right = record {
+  pub high-ready : (memo₁ : List ℕ) → MemoRight op memo₁ (o₁ .table) → Ready op memo₁ (o₁ .table) (s .f1 .0) (s .g1 .0)
+  high-ready memo₁ right = record {
     good = low-grown .good;
     f-inside = omega (arith, R .high .f-inside, low-grown .more);
     g-inside = omega (arith, R .high .g-inside, low-grown .more);
     allowed = R .high .allowed;
-    room = omega (arith, R .high .room);
     right = right;
   }
 

@@ -195,7 +195,6 @@ module _ (op : Operation) (memo : List ℕ) (t : Table) (f g : ℕ) (R : Ready o
     f-inside = f-child t (R .good) f g (R .f-inside) (R .g-inside) two b .inside;
     g-inside = g-child t (R .good) f g (R .f-inside) (R .g-inside) two b .inside;
     allowed = allowed;
-    room = R .room;
     right = R .right;
   }
 

@@ -10,18 +10,26 @@ use Rattle.meaning.specs.Diagram.{Diagram, leaf, Reduced}
 use Rattle.meaning.specs.Operations.{conjunction, cofactor}
 use Rattle.meaning.proofs.PointwiseSteps.{negation-leaf, zero-conjunction, one-conjunction, conjunction-zero, conjunction-one, conjunction-same, literals-leaf}
 use Rattle.meaning.proofs.CofactorSteps.{cofactor-leaf, cofactor-true, cofactor-self}
-use Rattle.table.specs.declared.Found.the-variants.{Nothing}
+use Rattle.table.specs.declared.Found.{Found}
+use Rattle.table.specs.declared.Found.the-variants.{At, Nothing}
 use Rattle.table.specs.Indexed.{Table, Good}
 use Rattle.operate.specs.declared.Operation.{Operation}
 use Rattle.operate.specs.declared.Operation.the-variants.{Conjunction, Negation, Cofactor, Literals}
 use Rattle.meaning.specs.Words.{inWord}
 use Rattle.operate.specs.Operate.{result}
 use Rattle.operate.specs.Inner.{Allowed, found, terminalOf, Right}
-use Rattle.operate.proofs.Memo.{found-number}
 use Rattle.operate.proofs.Levels.{diagramOf, is-zero, is-one, zero-is, level-least, level-reduced}
 
 from-two : (k : ℕ) → (k ≡ 0 → ⊥) → (k ≡ 1 → ⊥) → 2 ≤ k
 from-two k a b = omega (arith, a, b)
+
+number : Found → ℕ
+number (At k) = k .0
+number Nothing = 0
+
+found-number : (i j : ℕ) → found i ≡ found j → i ≡ j
+unfolding number
+found-number i j e = ap number e
 
 -- What the numbers tell.
 pub data Told (op : Operation) (t : Table) (f g : ℕ) : Type 0 where

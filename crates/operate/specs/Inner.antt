@@ -2,7 +2,7 @@
 use mathlib.Core.Path.{_≡_}
 use mathlib.Core.Bool.{cond, _||_}
 use mathlib.Core.List.{List}
-use Prim.Native.Nat.{ℕ, _+_, _-_, _*_, _/_, _%_, _≤_, _<_}
+use Prim.Native.Nat.{ℕ, _+_, _*_, _≤_, _<_}
 use lib.ListN.{length, getD}
 use lib.Dec.{eqb, ltb}
 use Rattle.meaning.specs.Diagram.{branch}
@@ -79,18 +79,20 @@ stepOf Negation s = Both s
 stepOf Cofactor s = cond (eqb (s .g0 .0) 0) (One (s .f1) (s .g1)) (cond (eqb (s .g1 .0) 0) (One (s .f0) (s .g0)) (Both s))
 stepOf (Literals p n) s = cond (inWord p (s .x)) (One (s .f1) (s .g1)) (cond (inWord n (s .x)) (One (s .f0) (s .g0)) (Both s))
 
--- ---- the memo: a direct-mapped table of packed entries, 0 where there is none
-
-unfoldable pub slot : ℕ → ℕ → ℕ → ℕ
-slot n f g = (f * 12582917 + g * 4256249) % n
+-- ---- the memo: three cells that say how many of the cells behind them are live, how many of those are used, and at each how many-th variable
+-- results are held; then packed entries, 0 where there is none
 
 abbrev pub pack : ℕ → ℕ → ℕ → ℕ
 pack f g r = f * 4294967296 + g * 65536 + r
 
-unfoldable pub memoFind : List ℕ → ℕ → ℕ → Found
-memoFind memo f g =
-    let e = getD memo (slot (length memo) f g) 0 in
-    cond (eqb (e / 65536) (f * 65536 + g)) (found (e % 65536)) Nothing
+-- How many cells are live; what the others hold is never read.
+abbrev pub live : List ℕ → ℕ
+live memo = getD memo 0 0
+
+-- The live cells are there, and so few that a product of their number with one of 32 bits fits 64.
+pub record Shaped (memo : List ℕ) : Type 0 where
+  pub room : 3 + live memo ≤ length memo
+  pub few : live memo ≤ 1048576
 
 -- An entry is right: node r is the operation's result on f and g.
 pub record Right (op : Operation) (t : Table) (f g r : ℕ) : Type 0 where
@@ -99,8 +101,28 @@ pub record Right (op : Operation) (t : Table) (f g r : ℕ) : Type 0 where
   pub inside : r < t .count
   pub is : diagramAt (nodesOf t) r ≡ result op (diagramAt (nodesOf t) f) (diagramAt (nodesOf t) g)
 
-unfoldable pub MemoRight : Operation → List ℕ → Table → Type 0
-MemoRight op memo t = (i f g r : ℕ) → getD memo i 0 ≡ pack f g r → 2 ≤ f → g < 65536 → r < 65536 → Right op t f g r
+-- Each entry in a live cell is right.
+pub record MemoRight (op : Operation) (memo : List ℕ) (t : Table) : Type 0 where
+  pub shaped : Shaped memo
+  pub entries : (i f g r : ℕ) → i < live memo → getD memo (3 + i) 0 ≡ pack f g r → 2 ≤ f → g < 65536 → r < 65536 → Right op t f g r
+
+-- A memo without entries is right for every operation and table.
+abbrev pub Empty : List ℕ → Type 0
+Empty memo = (op : Operation) (t : Table) → MemoRight op memo t
+
+-- What is found for f and g is right wherever the memo is.
+abbrev pub Tells : List ℕ → ℕ → ℕ → Found → Type 0
+Tells memo f g (At r) = (op : Operation) (t : Table) → MemoRight op memo t → 2 ≤ f → Right op t f g (r .0)
+Tells memo f g Nothing = Unit {0}
+
+-- A memo that is right wherever the one before it is.
+pub record Follows (memo memo′ : List ℕ) : Type 0 where
+  pub shaped : Shaped memo′
+  pub right : (op : Operation) (t : Table) → MemoRight op memo t → MemoRight op memo′ t
+
+-- A memo that is right wherever the one before it is and r is right for f and g.
+abbrev pub Stores : List ℕ → ℕ → ℕ → ℕ → List ℕ → Type 0
+Stores memo f g r memo′ = (op : Operation) (t : Table) → MemoRight op memo t → Right op t f g r → MemoRight op memo′ t
 
 -- What the recursion asks.
 pub record Ready (op : Operation) (memo : List ℕ) (t : Table) (f g : ℕ) : Type 0 where
@@ -108,7 +130,6 @@ pub record Ready (op : Operation) (memo : List ℕ) (t : Table) (f g : ℕ) : Ty
   pub f-inside : f < t .count
   pub g-inside : g < t .count
   pub allowed : Allowed op g
-  pub room : 0 < length memo
   pub right : MemoRight op memo t
 
 -- What joining two sides asks: both sides ready, and their variables after x.

@@ -4,12 +4,12 @@ use table::Found;
 use table::NodeNo;
 use table::Placed;
 ghost use mathlib.Core.Path.{_≡_};
-ghost use Prim.Native.Nat.{_+_, _-_, _*_, _≤_, _<_};
-ghost use lib.ListN.{length, set, replicate};
+ghost use Prim.Native.Nat.{_≤_, _<_};
+ghost use lib.ListN.{length};
 ghost use Rattle.table.specs.Indexed.{tableOf, outcomeOf};
-ghost use Rattle.meaning.specs.Words.{inWord};
-ghost use Rattle.operate.specs.Operate.{result};
-ghost use Rattle.operate.specs.Inner.{applied, terminalOf, level, top, childOr, sidesOf, stepOf, slot, pack, memoFind, MemoRight, Ready, SidesReady, joinedOf};
+ghost use Rattle.operate.specs.Inner.{applied, terminalOf, level, top, childOr, sidesOf, stepOf, MemoRight, Ready, SidesReady, joinedOf};
+
+pub mod memo;
 
 // An operation; an operation of one diagram has node 1 for its second operand.
 pub enum Operation {
@@ -131,64 +131,6 @@ fn sides_of(vars: &[u8], lows: &[u16], highs: &[u16], f: NodeNo, g: NodeNo) -> S
     Sides { x, f0, g0, f1, g1 }
 }
 
-// Whether a word has the variable v.
-fn in_word(w: u64, v: u8) -> bool
-    requires { ⌜ (1 ≤ v) × (v ≤ 64) ⌝ }
-    ensures { λ r. ⌜ r ≡ inWord w v ⌝ }
-{
-    let i = (v - 1) as u64;
-    (w >> i) % 2 == 1
-}
-
-// The number of two nodes' slot among n.
-fn slot_of(n: usize, f: NodeNo, g: NodeNo) -> usize
-    requires { ⌜ 0 < n ⌝ }
-    ensures { λ r. ⌜ r ≡ slot n (f .0) (g .0) ⌝ }
-    ensures { λ r. ⌜ r < n ⌝ }
-{
-    let a = f.0 as usize;
-    let b = g.0 as usize;
-    (a * 12582917 + b * 4256249) % n
-}
-
-// The result stored for f and g.
-fn memo_find(memo: &[u64], f: NodeNo, g: NodeNo) -> Found
-    requires { ⌜ 0 < length (now memo) ⌝ }
-    ensures { λ r. ⌜ r ≡ memoFind (now (memo .entry)) (f .0) (g .0) ⌝ }
-{
-    let s = slot_of(memo.len(), f, g);
-    let e = memo[s];
-    let a = f.0 as u64;
-    let b = g.0 as u64;
-    if e / 65536 == a * 65536 + b {
-        return Found::At(NodeNo((e % 65536) as u16));
-    }
-    Found::Nothing
-}
-
-// Stores the result for f and g over what its slot held.
-fn memo_put(memo: &mut [u64], f: NodeNo, g: NodeNo, r: NodeNo)
-    requires { ⌜ 0 < length (now memo) ⌝ }
-    ensures { λ _. ⌜ now (memo .exit) ≡ set (now (memo .entry)) (slot (length (now (memo .entry))) (f .0) (g .0)) (pack (f .0) (g .0) (r .0)) ⌝ }
-{
-    let s = slot_of(memo.len(), f, g);
-    let a = f.0 as u64;
-    let b = g.0 as u64;
-    let c = r.0 as u64;
-    memo[s] = a * 4294967296 + b * 65536 + c;
-}
-
-// Empties the memo.
-pub fn clear_memo(memo: &mut [u64])
-    ensures { λ _. ⌜ now (memo .exit) ≡ replicate (length (now (memo .entry))) 0 ⌝ }
-{
-    let mut i: usize = 0;
-    while i < memo.len() {
-        memo[i] = 0;
-        i += 1;
-    }
-}
-
 // What is left to do where neither the node numbers nor the memo tell the result.
 fn step_of(op: Operation, s: Sides) -> Step
     requires { ⌜ (1 ≤ s .x) × (s .x ≤ 64) ⌝ }
@@ -211,10 +153,10 @@ fn step_of(op: Operation, s: Sides) -> Step
             Step::Both(s)
         }
         Operation::Literals(p, n) => {
-            if in_word(p, s.x) {
+            if walks::in_word(p, s.x) {
                 return Step::One(f1, g1);
             }
-            if in_word(n, s.x) {
+            if walks::in_word(n, s.x) {
                 return Step::One(f0, g0);
             }
             Step::Both(s)
@@ -245,7 +187,7 @@ pub fn apply(
             node: r,
             count,
         },
-        Found::Nothing => match memo_find(memo, f, g) {
+        Found::Nothing => match memo::memo_find(vars, memo, f, g) {
             Found::At(r) => Placed {
                 full: false,
                 node: r,
@@ -256,7 +198,7 @@ pub fn apply(
                 if p.full {
                     return p;
                 }
-                memo_put(memo, f, g, p.node);
+                memo::memo_put(vars, memo, f, g, p.node);
                 p
             }
         },

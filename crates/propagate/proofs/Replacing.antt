@@ -44,7 +44,6 @@ has-longer T T′ L k D H = record { inside = omega (arith, L .more, H .inside);
 pub record Replacing (op : Operation) (g : ℕ) (T₀ : Table) (list₀ : List ℕ) (T : Table) (list memo : List ℕ) (i : ℕ) : Type 0 where
   pub long : Longer T₀ T
   pub right : MemoRight op memo T
-  pub room : 0 < length memo
   pub members : length list ≡ length list₀
   pub so-far : i ≤ length list
   pub done : (k : ℕ) → k < i → Has T (getD list k 0) (getD (results op T₀ list₀ g) k (leaf false))
@@ -60,12 +59,11 @@ module _ (op : Operation) (g : ℕ) (T₀ : Table) (list₀ memo₀ : List ℕ) 
       getD-map (λ f. result op f (diagramAt (nodesOf T₀) g)) (diagramsOf (nodesOf T₀) list₀) k (leaf false) (leaf false) (omega (arith, length-map list₀ (diagramAt (nodesOf T₀))))
       ∙ ap (λ (f : Diagram). result op f (diagramAt (nodesOf T₀) g)) (getD-map (diagramAt (nodesOf T₀)) list₀ k 0 (leaf false) p)
 
-  pub replacing-none : (memo : List ℕ) → 0 < length memo → MemoRight op memo T₀ → Replacing op g T₀ list₀ T₀ list₀ memo 0
-  replacing-none memo room right =
+  pub replacing-none : (memo : List ℕ) → MemoRight op memo T₀ → Replacing op g T₀ list₀ T₀ list₀ memo 0
+  replacing-none memo right =
       record {
         long = longer-same T₀ (R .good);
         right = right;
-        room = room;
         members = refl;
         so-far = omega arith;
         done = λ k p. absurd (omega arith);
@@ -86,7 +84,6 @@ module _ (op : Operation) (g : ℕ) (T₀ : Table) (list₀ memo₀ : List ℕ) 
           f-inside = omega (arith, member-inside, W .long .more);
           g-inside = omega (arith, W .long .more);
           allowed = allowed;
-          room = W .room;
           right = W .right;
         }
 
@@ -137,13 +134,12 @@ module _ (op : Operation) (g : ℕ) (T₀ : Table) (list₀ memo₀ : List ℕ) 
           }
 
       -- it is replaced
-      pub replaced : o .full ≡ false → (memo′ : List ℕ) → length memo′ ≡ length memo → MemoRight op memo′ (o .table)
+      pub replaced : o .full ≡ false → (memo′ : List ℕ) → MemoRight op memo′ (o .table)
           → Replacing op g T₀ list₀ (o .table) (set list i (o .node)) memo′ (i + 1)
-      replaced f memo′ len right =
+      replaced f memo′ right =
           record {
             long = long-after;
             right = right;
-            room = omega (arith, W .room);
             members = length-set list i (o .node) ∙ W .members;
             so-far = omega (arith, length-set list i (o .node));
             done = λ k q. now-done k q (ℕ-discrete k i);

@@ -87,7 +87,7 @@ pub fn all_by(
     ensures { λ r. ⌜ AllMade (tableOf (now (vars .entry)) (now (lows .entry)) (now (highs .entry)) (now (heads .entry)) (now (links .entry)) count) (results op (tableOf (now (vars .entry)) (now (lows .entry)) (now (highs .entry)) (now (heads .entry)) (now (links .entry)) count) (now (list .entry)) (g .0)) (r .full) (tableOf (now (vars .exit)) (now (lows .exit)) (now (highs .exit)) (now (heads .exit)) (now (links .exit)) (r .count)) (now (list .exit)) ⌝ }
     ensures { λ r. ⌜ (r .full ≡ false → Supports (nodesOf (tableOf (now (vars .exit)) (now (lows .exit)) (now (highs .exit)) (now (heads .exit)) (now (links .exit)) (r .count))) (now (list .exit)) (now (words .exit))) ⌝ }
 {
-    operate::clear_memo(memo);
+    operate::memo::clear_memo(memo);
     let mut n = count;
     let mut i: usize = 0;
     while i < list.len() {

@@ -1,17 +1,13 @@
 -- What is asked of the second operand, operation by operation. Assumes nothing.
-use mathlib.Core.Path.{_≡_, refl, sym, ap, _∙_, subst}
+use mathlib.Core.Path.{_≡_, refl, _∙_}
 use mathlib.Core.Bool.{Bool, true, false}
-use mathlib.Core.List.{List}
 use Prim.Native.Nat.{ℕ}
 use native.Mathlib.Omega.{arith}
-use lib.ListN.{length, replicate}
 use lib.Dec.{eqb}
 use borrow.Author.Tests.{eq-eqb, ne-eqb, eqb-true}
-use Rattle.table.specs.Indexed.{Table}
 use Rattle.operate.specs.declared.Operation.{Operation}
 use Rattle.operate.specs.declared.Operation.the-variants.{Conjunction, Negation, Cofactor, Literals}
-use Rattle.operate.specs.Inner.{Allowed, MemoRight}
-use Rattle.operate.proofs.Memo.{memo-empty}
+use Rattle.operate.specs.Inner.{Allowed}
 use Rattle.single.specs.Single.{sharesVariable, operandRefusal}
 use Rattle.single.specs.Inner.{OneOperand}
 
@@ -47,7 +43,3 @@ allowed-by Conjunction g o e = tt
 allowed-by Negation g o e = o
 allowed-by Cofactor g o e = λ z. let q : _≡_ {A = ℕ} 27 0 = cofactor-27 Cofactor g refl z ∙ e in absurd (omega arith)
 allowed-by (Literals p n) g o e = o
-
--- A memo of zeros is right.
-pub zeros-right : (op : Operation) (memo : List ℕ) (t : Table) → memo ≡ replicate (length memo) 0 → MemoRight op memo t
-zeros-right op memo t e = subst (λ (m : List ℕ). MemoRight op m t) (sym e) (memo-empty op (length memo) t)

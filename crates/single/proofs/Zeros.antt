@@ -21,5 +21,5 @@ module _ (n : ℕ) where
   pub whole-zeros : _≡_ {A = List ℕ} (replicate n 0) (replicate (length {A = ℕ} (replicate n 0)) 0)
   whole-zeros = ap {A = ℕ} {B = List ℕ} (λ k. replicate k 0) length-whole
 
-  pub whole-room : 0 < n → 0 < length {A = ℕ} (replicate n 0)
+  pub whole-room : 3 ≤ n → 3 ≤ length {A = ℕ} (replicate n 0)
   whole-room h = omega (arith, length-whole)

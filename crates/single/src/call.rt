@@ -101,7 +101,7 @@ fn judged(
     f: NodeNo,
     g: NodeNo,
 ) -> Single
-    requires { ⌜ (sizeFits (now vars) (now lows) (now highs) ≡ true) × (now heads ≡ replicate (2 * length (now vars)) 0) × (now links ≡ replicate (length (now vars)) 0) × (now memo ≡ replicate (length (now memo)) 0) × (0 < length (now memo)) × OneOperand op (g .0) ⌝ }
+    requires { ⌜ (sizeFits (now vars) (now lows) (now highs) ≡ true) × (now heads ≡ replicate (2 * length (now vars)) 0) × (now links ≡ replicate (length (now vars)) 0) × (now memo ≡ replicate (length (now memo)) 0) × (3 ≤ length (now memo)) × OneOperand op (g .0) ⌝ }
     ensures { λ r. ⌜ madeOf (now (vars .exit)) (now (lows .exit)) (now (highs .exit)) r ≡ operation op (now (vars .entry)) (now (lows .entry)) (now (highs .entry)) count (f .0) (g .0) ⌝ }
 {
     if !table::test::in_order(vars, lows, highs, heads, links, count) {
@@ -151,7 +151,7 @@ fn judged_64(
 {
     let mut heads = [0u16; 128];
     let mut links = [0u16; 64];
-    let mut memo = [0u64; 256];
+    let mut memo = [0u64; 1024];
     let places = vars.len();
     let ends = 2 * places;
     judged(
@@ -183,7 +183,7 @@ fn judged_4096(
 {
     let mut heads = [0u16; 8192];
     let mut links = [0u16; 4096];
-    let mut memo = [0u64; 4096];
+    let mut memo = [0u64; 8192];
     let places = vars.len();
     let ends = 2 * places;
     judged(
@@ -215,7 +215,7 @@ fn judged_65536(
 {
     let mut heads = [0u16; 131072];
     let mut links = [0u16; 65536];
-    let mut memo = [0u64; 16384];
+    let mut memo = [0u64; 65536];
     let places = vars.len();
     let ends = 2 * places;
     judged(

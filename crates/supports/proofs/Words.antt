@@ -3,24 +3,31 @@ use mathlib.Core.Path.{_≡_, refl, sym, _∙_, subst}
 use mathlib.Core.Logic.{_≢_}
 use mathlib.Core.Bool.{Bool, true, _||_}
 use mathlib.Core.List.{List}
-use Prim.Native.Nat.{ℕ, suc, _+_, _-_, _^_, _≤_, _<_}
+use Prim.Native.Nat.{ℕ, _+_, _-_, _/_, _^_, _≤_, _<_}
+use native.Mathlib.Nat.{div-self}
 use native.Mathlib.Omega.{arith}
 use native.Mathlib.Decide.{ℕ-discrete}
 use lib.ListN.{length, getD, set, length-set}
 use lib.Seq.{getD-set-same, getD-set-other}
 use lib.Dec.{eqb}
 use lib.Bits.{bitOr}
+use lib.Pow.{pow-pos}
 use Rattle.meaning.specs.Diagram.{Diagram, leaf, node}
 use Rattle.meaning.specs.Words.{inWord}
-use Rattle.meaning.proofs.Booleans.{or-left, or-right, eq-eqb}
+use Rattle.meaning.proofs.Booleans.{or-left, or-right}
 use Rattle.table.specs.Nodes.{Node, diagramAt}
 use Rattle.table.proofs.Numbers.{diagramAt-zero, diagramAt-one, diagramAt-node}
 use Rattle.walks.specs.Readable.{Readable, Cleared, nodesIn}
 use Rattle.walks.proofs.Here.{Here, here, node-in, ordered-in, length-in}
 use Rattle.walks.proofs.Memo.{stored}
-use Rattle.units.proofs.Bits.{in-or, in-bit}
+use Rattle.units.proofs.Bits.{in-or}
 use Rattle.supports.specs.Supports.{Uses, Support, Supports, SupportMemo}
 use Rattle.supports.proofs.Uses.{uses-more}
+
+-- a variable is in its own bit's word
+in-own : (v : ℕ) → inWord (2 ^ (v - 1)) v ≡ true
+unfolding inWord
+in-own v = let one : 2 ^ (v - 1) / 2 ^ (v - 1) ≡ 1 = div-self (pow-pos (v - 1)) in rw one
 
 -- ---- one word or the other
 
@@ -63,13 +70,10 @@ module _ (vs ls hs : List ℕ) (count : ℕ) (R : Readable vs ls hs count) (k : 
   unfolding Support
   support-node a b u x =
       subst (Uses (inWord (bitOr (bitOr a b) (2 ^ (w - 1))))) (sym is-node) (
-        in-right (bitOr a b) (2 ^ (w - 1)) w (in-bit w w least least ∙ eq-eqb w w refl),
+        in-right (bitOr a b) (2 ^ (w - 1)) w (in-own w),
         support-left (bitOr a b) (2 ^ (w - 1)) (diagramAt t (getD ls k 0)) (support-left a b (diagramAt t (getD ls k 0)) u),
         support-left (bitOr a b) (2 ^ (w - 1)) (diagramAt t (getD hs k 0)) (support-right a b (diagramAt t (getD hs k 0)) x),
       )
-    where
-      least : 1 ≤ w
-      least = here vs ls hs count R k two inside .least
 
 -- ---- the memo
 

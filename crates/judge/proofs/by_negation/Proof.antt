@@ -7,14 +7,14 @@ use borrow.Author.Needs.{needs}
 use Rattle.table.specs.Nodes.{diagramAt}
 use Rattle.table.specs.Indexed.{Table, tableOf, nodesOf, Outcome, outcomeOf}
 use Rattle.operate.specs.declared.Operation.the-variants.{Negation, Cofactor}
-use Rattle.operate.specs.Inner.{applied, Allowed, MemoRight}
-use Rattle.operate.proofs.Memo.{memo-empty}
+use Rattle.operate.specs.Inner.{applied, Allowed}
 use Rattle.meaning.proofs.Booleans.{t≢f}
 use Rattle.supports.specs.Supports.{Supports}
 use Rattle.conflict.specs.Members.{ListReady}
 use Rattle.propagate.specs.Made.{results, AllMade}
 use Rattle.propagate.specs.Touching.{Touches}
 use Rattle.judge.proofs.Negations.{negation-ready, negation-full, cofactors-ready, negation-words, cofactors-made}
+use native.Mathlib.Omega.{arith}
 use Rattle.judge.proofs.by_negation.Statement.{statement}
 use Rattle.judge.proofs.by_negation.Tie as tie
 
@@ -49,14 +49,13 @@ copy-words-requires c κs =
 
 clear-memo-requires : tie.Need-clear-memo-requires
 clear-memo-requires c κs =
-    search needs
+    omega (arith, c .before .before .before .before .before .before .before .before .before .before .before .before .before .before .before .before .before .before .before .pre .0 .0 .ready .room)
 
 apply-requires : tie.Need-apply-requires
 apply-requires c κs =
     let s = c .before .before .before .before .before .before .before .before .before .before .before .before .before .before .before .before .before .before .before .before .before .before .before .before .before .before .before .before in
     let m = c .before .before .before .before .before .before .before .before .clear-memo in
-    negation-ready (before s) (s .args .members .now) (s .args .memo .now) (s .args .g .0) (s .pre .0 .0) (m .last .0) (m .kept .0)
-    (subst (λ u. MemoRight Negation u (before s)) (sym (m .ensures)) (memo-empty Negation (length (s .args .memo .now)) (before s)))
+    negation-ready (before s) (s .args .members .now) (s .args .memo .now) (s .args .g .0) (s .pre .0 .0) (m .last .0) (m .ensures Negation (before s))
 
 same-length : tie.Need-same-length
 same-length c =

@@ -8,8 +8,7 @@ use Rattle.table.specs.Indexed.{Table, tableOf, nodesOf, Outcome, outcomeOf}
 use Rattle.walks.specs.Constant.{constantAt}
 use Rattle.walks.proofs.Here.{good-readable}
 use Rattle.operate.specs.declared.Operation.the-variants.{Literals}
-use Rattle.operate.specs.Inner.{applied, MemoRight}
-use Rattle.operate.proofs.Memo.{memo-empty}
+use Rattle.operate.specs.Inner.{applied}
 use Rattle.conflict.specs.Marks.{unmarked}
 use Rattle.judge.proofs.Turning.{turn-constant, literals-ready, turn-full, turn-ready, turn-worded, turn-judged}
 use Rattle.judge.proofs.turn.Statement.{statement}
@@ -70,14 +69,13 @@ returns c =
 
 clear-memo-requires : tie.Need-clear-memo-requires
 clear-memo-requires c κs =
-    search needs
+    omega (arith, c .before .before .before .before .before .before .before .before .before .before .before .before .before .before .before .before .before .before .before .before .pre .0 .0 .room, c .before .before .before .before .is-constant .kept .1 .1 .1 .0)
 
 apply-requires : tie.Need-apply-requires
 apply-requires c κs =
     let s = c .before .before .before .before .before .before .before .before .before .before .before .before .before .before .before .before .before .before .before .before .before .before .before .before .before .before .before .before .before in
     let m = c .before .before .before .before .before .before .before .before .clear-memo in
-    literals-ready (before s) (s .args .first .now) (s .args .memo .now) (s .pre .0 .0) (s .args .f .0) (s .args .positive) (s .args .negative) (s .pre .0 .3) (m .last .0) (m .kept .0 ∙ c .before .before .before .before .before .before .before .before .before .before .before .before .before .is-constant .kept .1 .1 .1 .0)
-    (subst (λ u. MemoRight (Literals (s .args .positive) (s .args .negative)) u (before s)) (sym (m .ensures)) (memo-empty (Literals (s .args .positive) (s .args .negative)) (length (c .before .before .before .before .before .before .before .before .before .before .before .before .before .is-constant .last .1 .1 .1 .0)) (before s)))
+    literals-ready (before s) (s .args .first .now) (s .args .memo .now) (s .pre .0 .0) (s .args .f .0) (s .args .positive) (s .args .negative) (s .pre .0 .3) (m .last .0) (m .ensures (Literals (s .args .positive) (s .args .negative)) (before s))
 
 same-length-5 : tie.Need-same-length-5
 same-length-5 c =

@@ -10,11 +10,10 @@ use Rattle.table.specs.declared.Found.the-variants.{At, Nothing}
 use Rattle.table.specs.Indexed.{Table, tableOf, Outcome, outcomeOf}
 use Rattle.operate.specs.declared.Operation.{Operation}
 use Rattle.operate.specs.declared.Sides.{Sides}
-use Rattle.operate.specs.Inner.{applied, top, terminalOf, sidesOf, stepOf, Right, MemoRight, Ready, SidesReady}
-use Rattle.operate.proofs.Memo.{memo-found}
+use Rattle.operate.specs.Inner.{applied, top, terminalOf, sidesOf, stepOf, Right, Shaped, Tells, Ready, SidesReady}
 use Rattle.operate.proofs.Terminals.{terminal-right, terminal-two}
 use Rattle.operate.proofs.Steps.{sides-ask, OneLeft, BothLeft, step-one, step-both}
-use Rattle.operate.proofs.Results.{columns-hold, known-outcome, made-stored, low-done, high-ready, high-top, high-good, high-done, both-done, memo-joined}
+use Rattle.operate.proofs.Results.{columns-hold, known-outcome, made-right, low-done, high-ready, high-top, high-good, high-done, both-done, memo-joined}
 use borrow.Fn.Kinds.{In}
 use borrow.Fn.PlainCycle.{Measures, is, falls, and}
 use Rattle.operate.proofs.apply.Reads as apply
@@ -26,8 +25,8 @@ use Rattle.operate.proofs.+apply+descend+join.Lts-descend as descend-lt
 use Rattle.operate.proofs.join.Reads as join
 use Rattle.operate.proofs.join.Kinds as join-kinds
 use Rattle.operate.proofs.+apply+descend+join.Lts-join as join-lts
-use Rattle.operate.proofs.memo_find.Reads as memo-find-reads
-use Rattle.operate.proofs.memo_put.Reads as memo-put-reads
+use Rattle.operate.proofs.memo.memo_find.Reads as memo-find-reads
+use Rattle.operate.proofs.memo.memo_put.Reads as memo-put-reads
 use Rattle.operate.proofs.sides_of.Reads as sides-of-reads
 use Rattle.operate.proofs.step_of.Reads as step-of-reads
 use Rattle.operate.proofs.terminal.Reads as terminal-reads
@@ -105,7 +104,7 @@ module _ {t : ℕ} (e : apply-lts.After-enum-told (apply-callees t) (apply-at t)
 -- what descend leaves to apply
 module _ {t : ℕ} (a : apply-lts.After-descend (apply-callees t) (apply-at t) apply.Post) where
   abbrev a-start : apply-lts.Start (apply-callees t) (apply-at t) apply.Post
-  a-start = a .before .before .before .before .before .before .before .before .before .before .before .before .before .before .before .before .before .before .before .before
+  a-start = a .before .before .before .before .before .before .before .before .before .before .before .before .before .before .before .before .before .before .before .before .before
 
   abbrev a-out : Outcome
   a-out = outcomeOf (a .descend .last .0) (a .descend .last .1 .0) (a .descend .last .1 .1 .0) (a .descend .last .1 .1 .1 .0) (a .descend .last .1 .1 .1 .1 .0) (a .descend .result)
@@ -116,11 +115,11 @@ module _ {t : ℕ} (a : apply-lts.After-descend (apply-callees t) (apply-at t) a
   a-is : a-out ≡ applied (a-table a-start) (a-op a-start) (a-f a-start) (a-g a-start)
   a-is = a .descend .ensures .0
 
-  a-room : 0 < length a-memo₁
-  a-room =
-      let k : length a-memo₁ ≡ length (a-memo a-start) = a .descend .kept .1 .1 .1 .1 .1 .0 in
-      let r : 0 < length (a-memo a-start) = a-ready a-start .room in
-      omega arith
+  a-asks : Shaped a-memo₁ × (a-f a-start < length (a .descend .last .0)) × (a-g a-start < length (a .descend .last .0))
+  a-asks =
+      let k : length (a .descend .last .0) ≡ length (a-table a-start .vars) = a .descend .kept .0 in
+      let h = columns-hold (a-op a-start) (a-memo a-start) (a-table a-start) (a-f a-start) (a-g a-start) (a-ready a-start) in
+      (a .descend .ensures .1 .shaped, omega (arith, k, h .0), omega (arith, k, h .1))
 
 -- where descend starts
 module _ {t : ℕ} (s : descend-lts.Start (descend-callees t) (descend-at t) descend.Post) where
@@ -207,7 +206,7 @@ module _ {t : ℕ} (a : join-lts.After-apply (join-callees t) (join-at t) join.P
   is₁ = a .apply .ensures .0
 
   ready₁ : Ready (j-op js) memo₁ (out₁ .table) (j-sides js .f1 .0) (j-sides js .g1 .0)
-  ready₁ = high-ready (j-op js) (j-memo js) (j-table js) (j-sides js) (j-ready js) out₁ is₁ memo₁ (a .apply .kept .1 .1 .1 .1 .1 .0) (a .apply .ensures .1)
+  ready₁ = high-ready (j-op js) (j-memo js) (j-table js) (j-sides js) (j-ready js) out₁ is₁ memo₁ (a .apply .ensures .1)
 
   after₁ : j-sides js .x < top (out₁ .table .vars) (j-sides js .f1 .0) (j-sides js .g1 .0)
   after₁ = high-top (j-op js) (j-memo js) (j-table js) (j-sides js) (j-ready js) out₁ is₁
@@ -243,7 +242,9 @@ apply-enum-told t c =
 
 apply-memo-find-requires : (t : ℕ) → apply-lts.Need-memo-find-requires (apply-callees t) (apply-at t) apply.Post
 apply-memo-find-requires t c κs =
-    a-ready (c .before .before .before .before .before .before .before .before .before .before) .room
+    let s = c .before .before .before .before .before .before .before .before .before .before .before in
+    let h = columns-hold (a-op s) (a-memo s) (a-table s) (a-f s) (a-g s) (a-ready s) in
+    (a-ready s .right .shaped, h .0, h .1)
 
 apply-enum-known-r-2 : (t : ℕ) → apply-lts.Need-enum-known-r-2 (apply-callees t) (apply-at t) apply.Post
 apply-enum-known-r-2 t c =
@@ -255,9 +256,9 @@ apply-enum-told-2 t c =
 
 apply-descend-requires : (t : ℕ) → apply-lts.Need-descend-requires (apply-callees t) (apply-at t) apply.Post
 apply-descend-requires t c κs =
-    let s = c .before .before .before .before .before .before .before .before .before .before .before .before .before .before .before .before .before .before .before in
+    let s = c .before .before .before .before .before .before .before .before .before .before .before .before .before .before .before .before .before .before .before .before in
     let q : 3 * (65 - top (a-table s .vars) (a-f s) (a-g s)) + 2 ≡ t = s .pre .0 in
-    (omega arith, (a-ready s, nothing (c .before .before .before .before .before .before .before .before .before .before)))
+    (omega arith, (a-ready s, nothing (c .before .before .before .before .before .before .before .before .before .before .before)))
 
 apply-same-length : (t : ℕ) → apply-lts.Need-same-length (apply-callees t) (apply-at t) apply.Post
 apply-same-length t c =
@@ -289,7 +290,7 @@ apply-returns t c =
 
 apply-memo-put-requires : (t : ℕ) → apply-lts.Need-memo-put-requires (apply-callees t) (apply-at t) apply.Post
 apply-memo-put-requires t c κs =
-    a-room (c .before .before .before .before .before .before .before .before .before .before .before .before .before .before)
+    a-asks (c .before .before .before .before .before .before .before .before .before .before .before .before .before .before .before)
 
 apply-returns-2 : (t : ℕ) → apply-lts.Need-returns-2 (apply-callees t) (apply-at t) apply.Post
 apply-returns-2 t c =
@@ -300,45 +301,47 @@ apply-same-length-7 : (t : ℕ) → apply-lts.Need-same-length-7 (apply-callees 
 apply-same-length-7 t c =
     search needs
 
-apply-returns-3 : (t : ℕ) → apply-lts.Need-returns-3 (apply-callees t) (apply-at t) apply.Post
-apply-returns-3 t c =
-    let s = c .before .before .before .before .before .before .before .before .before .before .before .before .before .before in (
-      known-outcome (a-op s) (a-memo s) (a-table s) (a-f s) (a-g s) (a-ready s) _ (memo-found (a-op s) (a-memo s) (a-table s) (a-ready s .right) (a-f s) (a-g s) _ (a-two s (nothing (c .before .before .before .before .before)))
-          (omega (arith, a-ready s .g-inside, a-ready s .good .within, a-ready s .good .most)) (sym (c .before .before .before .memo-find .ensures) ∙ c .before .r2 .given .1)),
-      a-ready s .right,
-    )
-
 apply-same-length-8 : (t : ℕ) → apply-lts.Need-same-length-8 (apply-callees t) (apply-at t) apply.Post
 apply-same-length-8 t c =
-    c .before .before .before .before .before .before .before .before .before .before .before .before .before .before .before .before .before .descend .kept .0
+    search needs
+
+apply-returns-3 : (t : ℕ) → apply-lts.Need-returns-3 (apply-callees t) (apply-at t) apply.Post
+apply-returns-3 t c =
+    let s = c .before .before .before .before .before .before .before .before .before .before .before .before .before .before .before in
+    let told = subst (Tells (a-memo s) (a-f s) (a-g s)) (c .before .r2 .given .1) (c .before .before .before .memo-find .ensures) in
+    (known-outcome (a-op s) (a-memo s) (a-table s) (a-f s) (a-g s) (a-ready s) _ (told (a-op s) (a-table s) (a-ready s .right) (a-two s (nothing (c .before .before .before .before .before .before)))), a-ready s .right)
 
 apply-same-length-9 : (t : ℕ) → apply-lts.Need-same-length-9 (apply-callees t) (apply-at t) apply.Post
 apply-same-length-9 t c =
-    c .before .before .before .before .before .before .before .before .before .before .before .before .before .before .before .before .before .descend .kept .1 .0
+    c .before .before .before .before .before .before .before .before .before .before .before .before .before .before .before .before .before .before .descend .kept .0
 
 apply-same-length-10 : (t : ℕ) → apply-lts.Need-same-length-10 (apply-callees t) (apply-at t) apply.Post
 apply-same-length-10 t c =
-    c .before .before .before .before .before .before .before .before .before .before .before .before .before .before .before .before .before .descend .kept .1 .1 .0
+    c .before .before .before .before .before .before .before .before .before .before .before .before .before .before .before .before .before .before .descend .kept .1 .0
 
 apply-same-length-11 : (t : ℕ) → apply-lts.Need-same-length-11 (apply-callees t) (apply-at t) apply.Post
 apply-same-length-11 t c =
-    c .before .before .before .before .before .before .before .before .before .before .before .before .before .before .before .before .before .descend .kept .1 .1 .1 .0
+    c .before .before .before .before .before .before .before .before .before .before .before .before .before .before .before .before .before .before .descend .kept .1 .1 .0
 
 apply-same-length-12 : (t : ℕ) → apply-lts.Need-same-length-12 (apply-callees t) (apply-at t) apply.Post
 apply-same-length-12 t c =
-    c .before .before .before .before .before .before .before .before .before .before .before .before .before .before .before .before .before .descend .kept .1 .1 .1 .1 .0
+    c .before .before .before .before .before .before .before .before .before .before .before .before .before .before .before .before .before .before .descend .kept .1 .1 .1 .0
 
 apply-same-length-13 : (t : ℕ) → apply-lts.Need-same-length-13 (apply-callees t) (apply-at t) apply.Post
 apply-same-length-13 t c =
-    c .before .before .memo-put .kept .0 ∙ c .before .before .before .before .before .before .before .before .before .before .before .before .before .before .before .before .before .descend .kept .1 .1 .1 .1 .1 .0
+    c .before .before .before .before .before .before .before .before .before .before .before .before .before .before .before .before .before .before .descend .kept .1 .1 .1 .1 .0
+
+apply-same-length-14 : (t : ℕ) → apply-lts.Need-same-length-14 (apply-callees t) (apply-at t) apply.Post
+apply-same-length-14 t c =
+    c .before .before .memo-put .kept .1 .0 ∙ c .before .before .before .before .before .before .before .before .before .before .before .before .before .before .before .before .before .before .descend .kept .1 .1 .1 .1 .1 .0
 
 apply-returns-4 : (t : ℕ) → apply-lts.Need-returns-4 (apply-callees t) (apply-at t) apply.Post
 apply-returns-4 t c =
-    let a = c .before .before .before .before .before .before .before .before .before .before .before .before .before .before .before .before .before in
-    let s = c .before .before .before .before .before .before .before .before .before .before .before .before .before .before .before .before .before .before .before .before .before .before .before .before .before .before .before .before .before .before .before .before .before .before .before .before .before in (
+    let a = c .before .before .before .before .before .before .before .before .before .before .before .before .before .before .before .before .before .before in
+    let s = c .before .before .before .before .before .before .before .before .before .before .before .before .before .before .before .before .before .before .before .before .before .before .before .before .before .before .before .before .before .before .before .before .before .before .before .before .before .before .before in (
       a-is a,
-      subst (λ (m : List ℕ). MemoRight (a-op s) m (a-out a .table)) (sym (c .before .before .memo-put .ensures))
-          (made-stored (a-op s) (a-memo s) (a-table s) (a-f s) (a-g s) (a-ready s) (a-out a) (a-is a) (c .before .before .before .before .if1 .left) (a-memo₁ a) (a-room a) (a .descend .ensures .1)),
+      c .before .before .memo-put .ensures (a-op s) (a-out a .table) (a .descend .ensures .1)
+          (made-right (a-op s) (a-memo s) (a-table s) (a-f s) (a-g s) (a-ready s) (a-out a) (a-is a) (c .before .before .before .before .before .if1 .left)),
     )
 
 descend-sides-of-requires : (t : ℕ) → descend-lts.Need-sides-of-requires (descend-callees t) (descend-at t) descend.Post
@@ -556,13 +559,14 @@ pub +apply+descend+join-spec : {M : Type 1} → statement M
     (apply-memo-put-requires t)
     (apply-returns-2 t)
     (apply-same-length-7 t)
-    (apply-returns-3 t)
     (apply-same-length-8 t)
+    (apply-returns-3 t)
     (apply-same-length-9 t)
     (apply-same-length-10 t)
     (apply-same-length-11 t)
     (apply-same-length-12 t)
     (apply-same-length-13 t)
+    (apply-same-length-14 t)
     (apply-returns-4 t))
     (λ t. descend-lts.spec (descend-callees t)
     (descend-at t)

@@ -7,8 +7,6 @@ use lib.ListN.{length, getD, set, length-set}
 use borrow.Author.Needs.{needs}
 use Rattle.meaning.proofs.Booleans.{t≢f}
 use Rattle.table.specs.Indexed.{tableOf, nodesOf, outcomeOf}
-use Rattle.operate.specs.Inner.{MemoRight}
-use Rattle.operate.proofs.Memo.{memo-empty}
 use Rattle.supports.specs.Supports.{Supports}
 use Rattle.propagate.proofs.Replacing.{Replacing, replacing-none, member-ready, member-supported, touches-now, stopped, replaced, supported, all-replaced}
 use Rattle.propagate.proofs.all_by.Statement.{statement}
@@ -27,15 +25,13 @@ abbrev μ-loop : tie.MeasureT-loop
 
 clear-memo-requires : tie.Need-clear-memo-requires Inv-loop μ-loop
 clear-memo-requires c κs =
-    search needs
+    omega (arith, c .before .before .before .before .before .before .before .before .before .pre .0 .0 .room)
 
 loop-holds : tie.Need-loop-holds Inv-loop μ-loop
 loop-holds c =
     let a = c .before .before .before .before .before .before .before .before .before .before .before .before .args in
-    let r = c .before .before .before .before .before .before .before .before .before .before .before .before .pre in
-    let e = c .before .before .clear-memo .ensures in
-    let len = c .before .before .clear-memo .kept .0 in (
-      replacing-none (a .op) (a .g .0) (tableOf (a .vars .now) (a .lows .now) (a .highs .now) (a .heads .now) (a .links .now) (a .count)) (a .list .now) (a .memo .now) (r .0 .0) (r .0 .1) (c .before .before .clear-memo .last .0) (omega (arith, len, r .0 .0 .room)) (subst (λ m. MemoRight (a .op) m (tableOf (a .vars .now) (a .lows .now) (a .highs .now) (a .heads .now) (a .links .now) (a .count))) (sym e) (memo-empty (a .op) (length (a .memo .now)) (tableOf (a .vars .now) (a .lows .now) (a .highs .now) (a .heads .now) (a .links .now) (a .count)))),
+    let r = c .before .before .before .before .before .before .before .before .before .before .before .before .pre in (
+      replacing-none (a .op) (a .g .0) (tableOf (a .vars .now) (a .lows .now) (a .highs .now) (a .heads .now) (a .links .now) (a .count)) (a .list .now) (a .memo .now) (r .0 .0) (r .0 .1) (c .before .before .clear-memo .last .0) (c .before .before .clear-memo .ensures (a .op) (tableOf (a .vars .now) (a .lows .now) (a .highs .now) (a .heads .now) (a .links .now) (a .count))),
       r .1 .1,
       refl,
       refl,
@@ -149,7 +145,7 @@ loop-again c =
     let r = c .before .before .before .before .before .before .before .before .before .before .before .before .before .before .before .before .before .before .before .before .before .before .before .before .before .before .before .before .before .before .before .before .before .before .before .before .before .before .pre in
     let w = c .before .before .before .before .before .before .before .before .before .before .before .before .before .before .before .before .before .before .before .before .before .before .before .before .before .loop in
     let y = c .before .before .before .before .before .before .before .before .before .before .before .before .before .before .before .apply-touching in (
-      replaced (a .op) (a .g .0) (tableOf (a .vars .now) (a .lows .now) (a .highs .now) (a .heads .now) (a .links .now) (a .count)) (a .list .now) (a .memo .now) (r .0 .0) (r .0 .1) (r .0 .2) (tableOf (w .vars) (w .lows) (w .highs) (w .heads) (w .links) (w .n)) (w .list) (w .memo) (w .i) (w .inv .0) (c .before .before .before .before .before .before .before .before .before .before .before .before .before .before .before .before .before .before .before .before .before .before .before .before .loop-test .taken) (outcomeOf (y .last .0) (y .last .1 .0) (y .last .1 .1 .0) (y .last .1 .1 .1 .0) (y .last .1 .1 .1 .1 .0) (y .result)) (y .ensures .0) (c .before .before .if1 .left) (y .last .1 .1 .1 .1 .1 .0) (y .kept .1 .1 .1 .1 .1 .0) (y .ensures .1),
+      replaced (a .op) (a .g .0) (tableOf (a .vars .now) (a .lows .now) (a .highs .now) (a .heads .now) (a .links .now) (a .count)) (a .list .now) (a .memo .now) (r .0 .0) (r .0 .1) (r .0 .2) (tableOf (w .vars) (w .lows) (w .highs) (w .heads) (w .links) (w .n)) (w .list) (w .memo) (w .i) (w .inv .0) (c .before .before .before .before .before .before .before .before .before .before .before .before .before .before .before .before .before .before .before .before .before .before .before .before .loop-test .taken) (outcomeOf (y .last .0) (y .last .1 .0) (y .last .1 .1 .0) (y .last .1 .1 .1 .0) (y .last .1 .1 .1 .1 .0) (y .result)) (y .ensures .0) (c .before .before .if1 .left) (y .last .1 .1 .1 .1 .1 .0) (y .ensures .1),
       subst (λ (x : ℕ). Supports (nodesOf ((outcomeOf (y .last .0) (y .last .1 .0) (y .last .1 .1 .0) (y .last .1 .1 .1 .0) (y .last .1 .1 .1 .1 .0) (y .result)) .table)) (set (w .list) (w .i) ((outcomeOf (y .last .0) (y .last .1 .0) (y .last .1 .1 .0) (y .last .1 .1 .1 .0) (y .last .1 .1 .1 .1 .0) (y .result)) .node)) (set (w .words) (w .i) x)) (sym (c .word-after .ensures)) (supported (a .op) (a .g .0) (tableOf (a .vars .now) (a .lows .now) (a .highs .now) (a .heads .now) (a .links .now) (a .count)) (a .list .now) (a .memo .now) (r .0 .0) (r .0 .1) (r .0 .2) (tableOf (w .vars) (w .lows) (w .highs) (w .heads) (w .links) (w .n)) (w .list) (w .memo) (w .i) (w .inv .0) (c .before .before .before .before .before .before .before .before .before .before .before .before .before .before .before .before .before .before .before .before .before .before .before .before .loop-test .taken) (outcomeOf (y .last .0) (y .last .1 .0) (y .last .1 .1 .0) (y .last .1 .1 .1 .0) (y .last .1 .1 .1 .1 .0) (y .result)) (y .ensures .0) (c .before .before .if1 .left) (w .words) (a .touching) (omega (arith, w .inv .2, w .inv .0 .members, r .1 .0)) (w .inv .1) (r .1 .2)),
       length-set (w .words) (w .i) (c .word-after .result) ∙ w .inv .2,
       y .kept .0 ∙ w .inv .3,

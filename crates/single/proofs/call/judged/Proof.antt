@@ -7,7 +7,8 @@ use native.Mathlib.Omega.{arith}
 use lib.ListN.{length, replicate}
 use borrow.Author.Needs.{needs}
 use borrow.Author.Tests.{not-true, not-false}
-use Rattle.single.proofs.Operands.{allowed-by, zeros-right}
+use Rattle.operate.proofs.RightMemo.{memo-fresh}
+use Rattle.single.proofs.Operands.{allowed-by}
 use Rattle.single.proofs.Calls.{called-26, called-13-first, called-13-second, called-second, called-made}
 use Rattle.single.proofs.call.judged.Statement.{statement}
 use Rattle.single.proofs.call.judged.Tie as tie
@@ -136,8 +137,7 @@ made-requires c κs =
       f-inside = c .before .before .before .before .before .before .before .before .before .before .if2 .left;
       g-inside = c .before .before .before .before .before .before .before .before .if3 .left;
       allowed = allowed-by _ _ (c .before .before .before .before .before .before .before .before .before .before .before .before .before .before .before .before .before .before .before .before .before .before .before .before .before .before .before .before .before .pre .5) (sym (c .before .before .before .before .before .before .before .operand-refusal .ensures) ∙ c .before .before .before .before .before .before .if4 .left);
-      room = c .before .before .before .before .before .before .before .before .before .before .before .before .before .before .before .before .before .before .before .before .before .before .before .before .before .before .before .before .before .pre .4;
-      right = zeros-right _ _ _ (c .before .before .before .before .before .before .before .before .before .before .before .before .before .before .before .before .before .before .before .before .before .before .before .before .before .before .before .before .before .pre .3);
+      right = memo-fresh _ (c .before .before .before .before .before .before .before .before .before .before .before .before .before .before .before .before .before .before .before .before .before .before .before .before .before .before .before .before .before .pre .4) (c .before .before .before .before .before .before .before .before .before .before .before .before .before .before .before .before .before .before .before .before .before .before .before .before .before .before .before .before .before .pre .3) _ _;
     }
 
 same-length-21 : tie.Need-same-length-21

@@ -36,11 +36,11 @@ slice-aggregate-judged-2 c =
 
 slice-aggregate-judged-3 : tie.Need-slice-aggregate-judged-3
 slice-aggregate-judged-3 c =
-    length-whole 16384
+    length-whole 65536
 
 judged-requires : tie.Need-judged-requires
 judged-requires c κs =
-    (c .before .before .before .before .before .before .before .before .before .pre .0, part-zeros (2 * (length (c .before .before .before .before .before .before .before .before .before .args .vars .now))) 131072 (omega (arith, c .before .before .before .before .before .before .before .before .before .pre .1)), part-zeros (length (c .before .before .before .before .before .before .before .before .before .args .vars .now)) 65536 (omega (arith, c .before .before .before .before .before .before .before .before .before .pre .1)), whole-zeros 16384, whole-room 16384 (omega arith), c .before .before .before .before .before .before .before .before .before .pre .2)
+    (c .before .before .before .before .before .before .before .before .before .pre .0, part-zeros (2 * (length (c .before .before .before .before .before .before .before .before .before .args .vars .now))) 131072 (omega (arith, c .before .before .before .before .before .before .before .before .before .pre .1)), part-zeros (length (c .before .before .before .before .before .before .before .before .before .args .vars .now)) 65536 (omega (arith, c .before .before .before .before .before .before .before .before .before .pre .1)), whole-zeros 65536, whole-room 65536 (omega arith), c .before .before .before .before .before .before .before .before .before .pre .2)
 
 same-length : tie.Need-same-length
 same-length c =

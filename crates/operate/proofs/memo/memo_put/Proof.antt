@@ -1,0 +1,109 @@
+-- `memo_put` stores the packed entry in a live cell (RightMemo), or leaves the memo. Assumes nothing.
+use native.Mathlib.Omega.{arith}
+use lib.ListN.{length-set}
+use borrow.Author.Needs.{needs}
+use Rattle.operate.proofs.RightMemo.{memo-stored}
+use Rattle.operate.proofs.memo.memo_put.Statement.{statement}
+use Rattle.operate.proofs.memo.memo_put.Tie as tie
+
+slice-read-is-held : tie.Need-slice-read-is-held
+slice-read-is-held c = search needs
+
+is-held-requires : tie.Need-is-held-requires
+is-held-requires c κs = search needs
+
+returns : tie.Need-returns
+returns c = λ op t right _. right
+
+make-room-requires : tie.Need-make-room-requires
+make-room-requires c κs = search needs
+
+slice-read-n : tie.Need-slice-read-n
+slice-read-n c = search needs
+
+cell-of-requires : tie.Need-cell-of-requires
+cell-of-requires c κs = search needs
+
+same-length : tie.Need-same-length
+same-length c = search needs
+
+returns-2 : tie.Need-returns-2
+returns-2 c = λ op t right _. c .before .before .before .before .before .before .make-room .ensures .right op t right
+
+slice-read-wrapping-add-u64 : tie.Need-slice-read-wrapping-add-u64
+slice-read-wrapping-add-u64 c = search needs
+
+wrapping-add-u64-requires : tie.Need-wrapping-add-u64-requires
+wrapping-add-u64-requires c κs = search needs
+
+slice-write-memo : tie.Need-slice-write-memo
+slice-write-memo c = search needs
+
+cast-a : tie.Need-cast-a
+cast-a c = search needs
+
+cast-b : tie.Need-cast-b
+cast-b c = search needs
+
+cast-d : tie.Need-cast-d
+cast-d c = search needs
+
+mul-memo : tie.Need-mul-memo
+mul-memo c = search needs
+
+mul-memo-2 : tie.Need-mul-memo-2
+mul-memo-2 c = search needs
+
+add-memo : tie.Need-add-memo
+add-memo c = search needs
+
+add-memo-2 : tie.Need-add-memo-2
+add-memo-2 c = search needs
+
+add-memo-3 : tie.Need-add-memo-3
+add-memo-3 c = search needs
+
+mul-memo-3 : tie.Need-mul-memo-3
+mul-memo-3 c = search needs
+
+slice-write-memo-2 : tie.Need-slice-write-memo-2
+slice-write-memo-2 c =
+    let m = c .before .before .before .before .before .before .before .before .before .before .before .make-room in
+    omega (arith, length-set (m .last .0) 1 (c .before .before .before .wrapping-add-u64 .result), m .ensures .shaped .room, c .before .before .before .before .before .if2 .left)
+
+same-length-2 : tie.Need-same-length-2
+same-length-2 c = search needs
+
+returns-3 : tie.Need-returns-3
+returns-3 c =
+    let s = c .before .before .before .before .before .before .before .before .before .before .before .before .before .before .before .before .before .before in
+    let m = c .before .before .before .before .before .before .before .before .before .before .before .make-room in
+    λ op t right entry. memo-stored op (m .last .0) t (m .ensures .right op t right) (c .before .before .before .wrapping-add-u64 .result) (c .before .before .before .before .before .before .cell-of .result) (s .args .f .0) (s .args .g .0) (s .args .r .0) (c .before .before .before .before .before .if2 .left) (omega (arith, c .before .struct-known2 .given)) (omega (arith, c .struct-known3 .given)) entry
+
+pub memo-put-spec : {M : Type 1} → statement M
+memo-put-spec =
+    tie.close
+    (tie.spec
+    slice-read-is-held
+    is-held-requires
+    returns
+    make-room-requires
+    slice-read-n
+    cell-of-requires
+    same-length
+    returns-2
+    slice-read-wrapping-add-u64
+    wrapping-add-u64-requires
+    slice-write-memo
+    cast-a
+    cast-b
+    cast-d
+    mul-memo
+    mul-memo-2
+    add-memo
+    add-memo-2
+    add-memo-3
+    mul-memo-3
+    slice-write-memo-2
+    same-length-2
+    returns-3)
