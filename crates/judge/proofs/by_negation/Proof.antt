@@ -145,7 +145,7 @@ returns-2 c =
     let b = c .before .before .before .before .before .before .before .before .before .before .before .before .before .before .before .before .all-by in (
       cofactors-made (before s) (s .args .members .now) (s .args .memo .now) (s .args .g .0) (s .pre .0 .0) (made a) (made-is a) (c .before .before .before .before .before .before .before .before .before .before .before .before .before .before .before .before .before .before .before .before .before .before .before .before .before .if1 .left) (b .result .full) (tableOf (b .last .0) (b .last .1 .0) (b .last .1 .1 .0) (b .last .1 .1 .1 .0) (b .last .1 .1 .1 .1 .0) (b .result .count)) (b .last .1 .1 .1 .1 .1 .1 .0)
           (subst (λ l. AllMade (made a .table) (results Cofactor (made a .table) l (made a .node)) (b .result .full) (tableOf (b .last .0) (b .last .1 .0) (b .last .1 .1 .0) (b .last .1 .1 .1 .0) (b .last .1 .1 .1 .1 .0) (b .result .count)) (b .last .1 .1 .1 .1 .1 .1 .0)) (c .before .before .before .before .before .before .before .before .before .before .before .before .before .before .before .before .before .before .before .before .before .before .before .before .before .before .before .before .before .before .before .before .before .before .before .before .before .before .before .before .before .before .before .before .before .before .before .before .before .before .before .before .before .before .before .copy .ensures) (b .ensures .0)),
-      b .ensures .1,
+      b .ensures .1 .0,
     )
 
 pub by-negation-spec : {M : Type 1} → statement M
