@@ -1,3 +1,4 @@
 pub mod Marks
 pub mod Numbers
+pub mod Asked
 pub mod Marked

@@ -1,25 +1,19 @@
 -- A member's negation is listed exactly where its node is found and marked. Assumes nothing.
-use mathlib.Core.Path.{_≡_, refl, sym, _∙_}
+use mathlib.Core.Path.{_≡_, sym, _∙_}
 use mathlib.Core.List.{List}
 use Prim.Native.Nat.{ℕ}
 use native.Mathlib.Omega.{arith}
 use lib.ListN.{length, length-replicate}
-use Rattle.meaning.specs.Diagram.{Diagram}
-use Rattle.meaning.specs.Rules.{any}
 use Rattle.table.specs.declared.Found.{Found}
 use Rattle.table.specs.declared.Found.the-variants.{At, Nothing}
 use Rattle.table.specs.Nodes.{diagramAt}
 use Rattle.table.specs.Indexed.{Table, size, nodesOf, Good}
 use Rattle.table.proofs.Written.{length-nodes, good-ordered}
 use Rattle.negate.specs.Negations.{Negates}
-use Rattle.conflict.specs.Members.{diagramsOf, Inside, negationIn, someNegated}
+use Rattle.conflict.specs.Members.{diagramsOf, Inside, negationIn}
 use Rattle.conflict.specs.Marks.{unmarked, setAll, markedAt, FoundInside}
 use Rattle.conflict.proofs.Marks.{marked-length, marks-tell}
 use Rattle.conflict.proofs.Numbers.{negation-found, negation-absent}
-
-pub someNegated-is : (ms : List Diagram) → someNegated ms ≡ any (negationIn ms) ms
-unfolding someNegated
-someNegated-is ms = refl
 
 module _ (T : Table) (G : Good T) (list : List ℕ) (h : Inside (T .count) list) where
   pub in-nodes : Inside (length (nodesOf T)) list

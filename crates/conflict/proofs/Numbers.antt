@@ -5,11 +5,9 @@ use mathlib.Core.Path.{_≡_, refl, sym, ap, ap₂, _∙_}
 use mathlib.Core.Logic.{_≢_}
 use mathlib.Core.Bool.{Bool, true, false, _||_}
 use mathlib.Core.List.{List, [], _∷_}
-use Prim.Native.Nat.{ℕ, suc, _+_, _≤_, _<_}
+use Prim.Native.Nat.{ℕ, suc, _<_}
 use native.Mathlib.Omega.{arith}
-use native.Mathlib.Numerals.{add-one}
-use lib.ListN.{length, getD, drop, drop-of-length-le}
-use lib.Seq.{drop-cons}
+use lib.ListN.{length}
 use lib.Dec.{eqb}
 use borrow.Author.Tests.{eq-eqb, eqb-true}
 use Rattle.meaning.specs.Diagram.{Diagram, leaf, same}
@@ -22,24 +20,6 @@ use Rattle.table.proofs.Order.{Ordered}
 use Rattle.table.proofs.Numbers.{diagramAt-zero, diagramAt-injective}
 use Rattle.conflict.specs.Members.{diagramsOf, Inside, negationIn, someNegated}
 use Rattle.conflict.specs.Marks.{isListed}
-
--- ---- a test over the list's diagrams
-
-module _ (p : Diagram → Bool) (t : List Node) (list : List ℕ) (i : ℕ) where
-  module _ (inside : i < length list) where
-    any-step : any p (diagramsOf t (drop i list)) ≡ (p (diagramAt t (getD list i 0)) || any p (diagramsOf t (drop (i + 1) list)))
-    unfolding any
-    any-step = rw (add-one, drop-cons list i 0 inside)
-
-    pub any-here : p (diagramAt t (getD list i 0)) ≡ true → any p (diagramsOf t (drop i list)) ≡ true
-    any-here e = any-step ∙ ap (λ (b : Bool). b || any p (diagramsOf t (drop (i + 1) list))) e
-
-    pub any-later : p (diagramAt t (getD list i 0)) ≡ false → any p (diagramsOf t (drop i list)) ≡ any p (diagramsOf t (drop (i + 1) list))
-    any-later e = any-step ∙ ap (λ (b : Bool). b || any p (diagramsOf t (drop (i + 1) list))) e
-
-  pub any-none : length list ≤ i → any p (diagramsOf t (drop i list)) ≡ false
-  unfolding any
-  any-none h = rw (drop-of-length-le list h)
 
 -- ---- two members in either order
 

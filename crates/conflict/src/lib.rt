@@ -2,11 +2,12 @@
 use table::Found;
 use table::NodeNo;
 ghost use mathlib.Core.Path.{_≡_};
+ghost use mathlib.Core.Bool.{false};
 ghost use Prim.Native.Nat.{_<_};
 ghost use lib.ListN.{length};
 ghost use Rattle.meaning.specs.Rules as rules;
 ghost use Rattle.table.specs.Indexed.{tableOf, nodesOf};
-ghost use Rattle.conflict.specs.Members.{diagramsOf, Inside, ListReady, someNegated};
+ghost use Rattle.conflict.specs.Members.{diagramsOf, Inside, ListReady, someNegated, Quiet};
 ghost use Rattle.conflict.specs.Marks.{isListed, unmarked, setAll, markedAt, FoundInside};
 
 // Whether node 0 is listed.
@@ -50,7 +51,8 @@ fn is_marked(marks: &[u8], found: Found) -> bool
     }
 }
 
-// Whether the negation of some member is marked, where the members are. Clears the memo.
+// Whether the negation of some member is marked, where the members are and none is 0. Only members with a variable in `touching` are
+// asked. Clears the memo.
 fn some_negated(
     vars: &[u8],
     lows: &[u16],
@@ -61,24 +63,30 @@ fn some_negated(
     marks: &[u8],
     count: usize,
     list: &[u16],
+    words: &[u64],
+    touching: u64,
 ) -> bool
     requires { ⌜ ListReady (tableOf (now vars) (now lows) (now highs) (now heads) (now links) count) (now list) (now memo) × (now marks ≡ setAll 1 (unmarked (length (now vars))) (now list)) ⌝ }
+    requires { ⌜ (isListed (now list) 0 ≡ false) × (length (now words) ≡ length (now list)) × Quiet (nodesOf (tableOf (now vars) (now lows) (now highs) (now heads) (now links) count)) (now list) (now words) touching ⌝ }
     ensures { λ r. ⌜ r ≡ someNegated (diagramsOf (nodesOf (tableOf (now (vars .entry)) (now (lows .entry)) (now (highs .entry)) (now (heads .entry)) (now (links .entry)) count)) (now (list .entry))) ⌝ }
 {
     walks::clear_memo(memo, count);
     let mut i: usize = 0;
     while i < list.len() {
-        let f = NodeNo(list[i]);
-        let r = negate::negation_from(vars, lows, highs, heads, links, memo, count, f);
-        if is_marked(marks, r) {
-            return true;
+        if words[i] & touching != 0 {
+            let f = NodeNo(list[i]);
+            let r = negate::negation_from(vars, lows, highs, heads, links, memo, count, f);
+            if is_marked(marks, r) {
+                return true;
+            }
         }
         i += 1;
     }
     false
 }
 
-// Whether a member is 0 or the negation of another. No place is marked before or after.
+// Whether a member is 0 or the negation of another, where no two without a variable in `touching`, as their words tell, are each other's
+// negations. No place is marked before or after.
 pub fn conflicts(
     vars: &[u8],
     lows: &[u16],
@@ -89,8 +97,11 @@ pub fn conflicts(
     marks: &mut [u8],
     count: usize,
     list: &[u16],
+    words: &[u64],
+    touching: u64,
 ) -> bool
     requires { ⌜ ListReady (tableOf (now vars) (now lows) (now highs) (now heads) (now links) count) (now list) (now memo) × (now marks ≡ unmarked (length (now vars))) ⌝ }
+    requires { ⌜ (length (now words) ≡ length (now list)) × Quiet (nodesOf (tableOf (now vars) (now lows) (now highs) (now heads) (now links) count)) (now list) (now words) touching ⌝ }
     ensures { λ r. ⌜ r ≡ rules.conflicts 64 (diagramsOf (nodesOf (tableOf (now (vars .entry)) (now (lows .entry)) (now (highs .entry)) (now (heads .entry)) (now (links .entry)) count)) (now (list .entry))) ⌝ }
     ensures { λ _. ⌜ now (marks .exit) ≡ unmarked (length (now (vars .entry))) ⌝ }
 {
@@ -98,7 +109,19 @@ pub fn conflicts(
         return true;
     }
     set_all(marks, list, 1);
-    let r = some_negated(vars, lows, highs, heads, links, memo, marks, count, list);
+    let r = some_negated(
+        vars,
+        lows,
+        highs,
+        heads,
+        links,
+        memo,
+        marks,
+        count,
+        list,
+        words,
+        touching,
+    );
     set_all(marks, list, 0);
     r
 }

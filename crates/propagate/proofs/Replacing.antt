@@ -27,7 +27,7 @@ use Rattle.propagate.proofs.PlacedAll.{first-full, first-placed}
 use Rattle.propagate.proofs.Extended.{longer-extended}
 use Rattle.propagate.proofs.Touching.{result-supported, touches-kept, supports-replaced}
 
-getD-map : {A B : Type 0} (f : A → B) (l : List A) (k : ℕ) (d : A) (e : B) → k < length l → getD (map f l) k e ≡ f (getD l k d)
+pub getD-map : {A B : Type 0} (f : A → B) (l : List A) (k : ℕ) (d : A) (e : B) → k < length l → getD (map f l) k e ≡ f (getD l k d)
 getD-map f [] k d e p = absurd (omega arith)
 getD-map f (x ∷ l) zero d e p = refl
 getD-map f (x ∷ l) (suc k) d e p = getD-map f l k d e (omega arith)
@@ -54,7 +54,7 @@ module _ (op : Operation) (g : ℕ) (T₀ : Table) (list₀ memo₀ : List ℕ) 
   results-length : length (results op T₀ list₀ g) ≡ length list₀
   results-length = length-map (diagramsOf (nodesOf T₀) list₀) (λ f. result op f (diagramAt (nodesOf T₀) g)) ∙ length-map list₀ (diagramAt (nodesOf T₀))
 
-  result-at : (k : ℕ) → k < length list₀ → getD (results op T₀ list₀ g) k (leaf false) ≡ result op (diagramAt (nodesOf T₀) (getD list₀ k 0)) (diagramAt (nodesOf T₀) g)
+  pub result-at : (k : ℕ) → k < length list₀ → getD (results op T₀ list₀ g) k (leaf false) ≡ result op (diagramAt (nodesOf T₀) (getD list₀ k 0)) (diagramAt (nodesOf T₀) g)
   result-at k p =
       getD-map (λ f. result op f (diagramAt (nodesOf T₀) g)) (diagramsOf (nodesOf T₀) list₀) k (leaf false) (leaf false) (omega (arith, length-map list₀ (diagramAt (nodesOf T₀))))
       ∙ ap (λ (f : Diagram). result op f (diagramAt (nodesOf T₀) g)) (getD-map (diagramAt (nodesOf T₀)) list₀ k 0 (leaf false) p)

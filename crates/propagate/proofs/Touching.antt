@@ -34,7 +34,7 @@ use Rattle.conflict.specs.Members.{Inside}
 use Rattle.propagate.specs.Touching.{Touches, touched}
 
 -- words without a variable in common
-words-apart : (a b : ℕ) → bitAnd a b ≡ 0 → (v : ℕ) → inWord a v ≡ true → inWord b v ≡ false
+pub words-apart : (a b : ℕ) → bitAnd a b ≡ 0 → (v : ℕ) → inWord a v ≡ true → inWord b v ≡ false
 words-apart a b e v p =
     ap (λ (x : Bool). x && inWord b v) (sym p) ∙ sym (in-and a b v) ∙ ap (λ (w : ℕ). inWord w v) e ∙ in-none v
 
@@ -50,15 +50,15 @@ module _ (t : Table) (G : Good t) where
     E = diagramAt (nodesOf t) g
 
     -- no variable in common: the member stays
-    stays : (op : Operation) → Allowed op g → Touches op E touching → bitAnd word touching ≡ 0 → result op F E ≡ F
+    pub stays : (op : Operation) → Allowed op g → Touches op E touching → ((v : ℕ) → inWord word v ≡ true → inWord touching v ≡ false) → result op F E ≡ F
     unfolding result Support
-    stays Conjunction allowed touches e = absurd touches
-    stays Negation allowed touches e = absurd touches
-    stays Cofactor allowed touches e =
-        cofactor-apart (inWord word) (inWord touching) (words-apart word touching e) 64 F E (reduced f f-inside) (reduced g g-inside) (λ z. allowed (zero-is t G g g-inside z)) has touches
-    stays (Literals p n) allowed touches e =
+    stays Conjunction allowed touches apart = absurd touches
+    stays Negation allowed touches apart = absurd touches
+    stays Cofactor allowed touches apart =
+        cofactor-apart (inWord word) (inWord touching) apart 64 F E (reduced f f-inside) (reduced g g-inside) (λ z. allowed (zero-is t G g g-inside z)) has touches
+    stays (Literals p n) allowed touches apart =
         literals-apart 64 (inWord p) (inWord n) (inWord word)
-        (λ v q. or-neither (inWord p v) (inWord n v) (sym (in-or p n v) ∙ words-apart word (bitOr p n) (rw touches at e) v q)) F (reduced f f-inside) has
+        (λ v q. or-neither (inWord p v) (inWord n v) (sym (in-or p n v) ∙ ap (λ (w : ℕ). inWord w v) (sym touches) ∙ apart v q)) F (reduced f f-inside) has
 
     -- else the word has the result's variables with the operation's
     grows : (op : Operation) → Allowed op g → Touches op E touching → Support (bitOr word touching) (result op F E)
@@ -76,13 +76,13 @@ module _ (t : Table) (G : Good t) where
     result-supported op allowed touches = go (eqb (bitAnd word touching) 0) refl
       where
         go : (b : Bool) → eqb (bitAnd word touching) 0 ≡ b → Support (cond b word (bitOr word touching)) (result op F E)
-        go true e = subst (Support word) (sym (stays op allowed touches (eqb-true (bitAnd word touching) 0 e))) has
+        go true e = subst (Support word) (sym (stays op allowed touches (words-apart word touching (eqb-true (bitAnd word touching) 0 e)))) has
         go false e = grows op allowed touches
 
     pub untouched : (op : Operation) (memo : List ℕ) → Ready op memo t f g → Touches op E touching → bitAnd word touching ≡ 0
         → record { table = t; full = false; node = f } ≡ applied t op f g
     untouched op memo R touches e =
-        known-outcome op memo t f g R f (record { f-inside = f-inside; g-inside = g-inside; inside = f-inside; is = sym (stays op (R .allowed) touches e) })
+        known-outcome op memo t f g R f (record { f-inside = f-inside; g-inside = g-inside; inside = f-inside; is = sym (stays op (R .allowed) touches (words-apart word touching e)) })
 
 -- ---- the list's words
 

@@ -1,7 +1,9 @@
 -- The variables by which an operation changes a member. No call open to others cites this file.
 use mathlib.Core.Path.{_≡_}
 use mathlib.Core.Bool.{cond}
-use Prim.Native.Nat.{ℕ}
+use mathlib.Core.List.{List}
+use Prim.Native.Nat.{ℕ, _<_}
+use lib.ListN.{length, getD}
 use lib.Dec.{eqb}
 use lib.Bits.{bitAnd, bitOr}
 use Rattle.meaning.specs.Diagram.{Diagram}
@@ -20,3 +22,8 @@ Touches (Literals p n) g word = word ≡ bitOr p n
 -- A member's word after a cofactor by variables of the second word.
 unfoldable pub touched : ℕ → ℕ → ℕ
 touched word touching = cond (eqb (bitAnd word touching) 0) word (bitOr word touching)
+
+-- Each word after a cofactor of all members.
+unfoldable pub AllTouched : List ℕ → List ℕ → ℕ → Type 0
+unfolding touched
+AllTouched words words′ touching = (i : ℕ) → i < length words → getD words′ i 0 ≡ touched (getD words i 0) touching

@@ -13,10 +13,10 @@ ghost use Rattle.table.specs.Indexed.{tableOf, nodesOf, outcomeOf};
 ghost use Rattle.walks.specs.Readable.{Readable, Roomy, nodesIn};
 ghost use Rattle.operate.specs.Inner.{applied, Allowed, MemoRight, Ready};
 ghost use Rattle.supports.specs.Supports.{Support, Supports};
-ghost use Rattle.conflict.specs.Members.{diagramsOf, Inside, ListReady};
+ghost use Rattle.conflict.specs.Members.{diagramsOf, Inside, ListReady, Quiet};
 ghost use Rattle.conflict.specs.Marks.{unmarked};
 ghost use Rattle.propagate.specs.Made.{results, AllMade};
-ghost use Rattle.propagate.specs.Touching.{Touches, touched};
+ghost use Rattle.propagate.specs.Touching.{Touches, touched, AllTouched};
 ghost use Rattle.propagate.specs.Units.{AreFirst};
 ghost use Rattle.propagate.specs.Rounds.{Comes, Said};
 
@@ -86,6 +86,7 @@ pub fn all_by(
     requires { ⌜ (length (now words) ≡ length (now list)) × Supports (nodesOf (tableOf (now vars) (now lows) (now highs) (now heads) (now links) count)) (now list) (now words) × Touches op (diagramAt (nodesOf (tableOf (now vars) (now lows) (now highs) (now heads) (now links) count)) (g .0)) touching ⌝ }
     ensures { λ r. ⌜ AllMade (tableOf (now (vars .entry)) (now (lows .entry)) (now (highs .entry)) (now (heads .entry)) (now (links .entry)) count) (results op (tableOf (now (vars .entry)) (now (lows .entry)) (now (highs .entry)) (now (heads .entry)) (now (links .entry)) count) (now (list .entry)) (g .0)) (r .full) (tableOf (now (vars .exit)) (now (lows .exit)) (now (highs .exit)) (now (heads .exit)) (now (links .exit)) (r .count)) (now (list .exit)) ⌝ }
     ensures { λ r. ⌜ (r .full ≡ false → Supports (nodesOf (tableOf (now (vars .exit)) (now (lows .exit)) (now (highs .exit)) (now (heads .exit)) (now (links .exit)) (r .count))) (now (list .exit)) (now (words .exit))) ⌝ }
+    ensures { λ r. ⌜ (r .full ≡ false → AllTouched (now (words .entry)) (now (words .exit)) touching) ⌝ }
 {
     operate::memo::clear_memo(memo);
     let mut n = count;
@@ -171,7 +172,7 @@ pub enum Next {
     By(Units),
 }
 
-// What comes after so many rounds.
+// What comes after so many rounds, the last of them by the variables of `touching`.
 fn next_round(
     vars: &[u8],
     lows: &[u16],
@@ -182,13 +183,28 @@ fn next_round(
     marks: &mut [u8],
     count: usize,
     list: &[u16],
+    words: &[u64],
+    touching: u64,
     rounds: u32,
 ) -> Next
     requires { ⌜ ListReady (tableOf (now vars) (now lows) (now highs) (now heads) (now links) count) (now list) (now memo) × (now marks ≡ unmarked (length (now vars))) × (rounds ≤ 64) ⌝ }
+    requires { ⌜ (length (now words) ≡ length (now list)) × Quiet (nodesOf (tableOf (now vars) (now lows) (now highs) (now heads) (now links) count)) (now list) (now words) touching ⌝ }
     ensures { λ r. ⌜ Comes (diagramsOf (nodesOf (tableOf (now (vars .entry)) (now (lows .entry)) (now (highs .entry)) (now (heads .entry)) (now (links .entry)) count)) (now (list .entry))) rounds r ⌝ }
     ensures { λ _. ⌜ now (marks .exit) ≡ unmarked (length (now (vars .entry))) ⌝ }
 {
-    if conflict::conflicts(vars, lows, highs, heads, links, memo, marks, count, list) {
+    if conflict::conflicts(
+        vars,
+        lows,
+        highs,
+        heads,
+        links,
+        memo,
+        marks,
+        count,
+        list,
+        words,
+        touching,
+    ) {
         return Next::End(true);
     }
     if rounds == 64 {
@@ -221,6 +237,7 @@ pub fn unit_prop(
 {
     let mut n = count;
     let mut rounds: u32 = 0;
+    let mut touching: u64 = 18446744073709551615;
     loop {
         match next_round(
             vars,
@@ -232,6 +249,8 @@ pub fn unit_prop(
             marks,
             n,
             list,
+            words,
+            touching,
             rounds,
         ) {
             Next::End(conflict) => {
@@ -244,6 +263,7 @@ pub fn unit_prop(
             }
             Next::By(u) => {
                 let op = Operation::Literals(u.positive, u.negative);
+                touching = u.positive | u.negative;
                 let made = all_by(
                     vars,
                     lows,
@@ -256,7 +276,7 @@ pub fn unit_prop(
                     n,
                     op,
                     NodeNo(1),
-                    u.positive | u.negative,
+                    touching,
                 );
                 n = made.count;
                 if made.full {

@@ -14,6 +14,7 @@ use Rattle.conflict.specs.Members.{ListReady}
 use Rattle.propagate.specs.Made.{results, AllMade}
 use Rattle.propagate.specs.Touching.{Touches}
 use Rattle.judge.proofs.Negations.{negation-ready, negation-full, cofactors-ready, negation-words, cofactors-made}
+use native.Mathlib.Omega.{arith}
 use Rattle.judge.proofs.by_negation.Statement.{statement}
 use Rattle.judge.proofs.by_negation.Tie as tie
 
@@ -48,7 +49,7 @@ copy-words-requires c κs =
 
 clear-memo-requires : tie.Need-clear-memo-requires
 clear-memo-requires c κs =
-    search needs
+    omega (arith, c .before .before .before .before .before .before .before .before .before .before .before .before .before .before .before .before .before .before .before .pre .0 .0 .ready .room)
 
 apply-requires : tie.Need-apply-requires
 apply-requires c κs =
@@ -144,7 +145,7 @@ returns-2 c =
     let b = c .before .before .before .before .before .before .before .before .before .before .before .before .before .before .before .before .all-by in (
       cofactors-made (before s) (s .args .members .now) (s .args .memo .now) (s .args .g .0) (s .pre .0 .0) (made a) (made-is a) (c .before .before .before .before .before .before .before .before .before .before .before .before .before .before .before .before .before .before .before .before .before .before .before .before .before .if1 .left) (b .result .full) (tableOf (b .last .0) (b .last .1 .0) (b .last .1 .1 .0) (b .last .1 .1 .1 .0) (b .last .1 .1 .1 .1 .0) (b .result .count)) (b .last .1 .1 .1 .1 .1 .1 .0)
           (subst (λ l. AllMade (made a .table) (results Cofactor (made a .table) l (made a .node)) (b .result .full) (tableOf (b .last .0) (b .last .1 .0) (b .last .1 .1 .0) (b .last .1 .1 .1 .0) (b .last .1 .1 .1 .1 .0) (b .result .count)) (b .last .1 .1 .1 .1 .1 .1 .0)) (c .before .before .before .before .before .before .before .before .before .before .before .before .before .before .before .before .before .before .before .before .before .before .before .before .before .before .before .before .before .before .before .before .before .before .before .before .before .before .before .before .before .before .before .before .before .before .before .before .before .before .before .before .before .before .before .copy .ensures) (b .ensures .0)),
-      b .ensures .1,
+      b .ensures .1 .0,
     )
 
 pub by-negation-spec : {M : Type 1} → statement M

@@ -69,14 +69,13 @@ returns c =
 
 clear-memo-requires : tie.Need-clear-memo-requires
 clear-memo-requires c κs =
-    search needs
+    omega (arith, c .before .before .before .before .before .before .before .before .before .before .before .before .before .before .before .before .before .before .before .before .pre .0 .0 .room, c .before .before .before .before .is-constant .kept .1 .1 .1 .0)
 
 apply-requires : tie.Need-apply-requires
 apply-requires c κs =
     let s = c .before .before .before .before .before .before .before .before .before .before .before .before .before .before .before .before .before .before .before .before .before .before .before .before .before .before .before .before .before in
     let m = c .before .before .before .before .before .before .before .before .clear-memo in
-    literals-ready (before s) (s .args .first .now) (s .args .memo .now) (s .pre .0 .0) (s .args .f .0) (s .args .positive) (s .args .negative) (s .pre .0 .3)
-    (m .last .0) (m .ensures (Literals (s .args .positive) (s .args .negative)) (before s))
+    literals-ready (before s) (s .args .first .now) (s .args .memo .now) (s .pre .0 .0) (s .args .f .0) (s .args .positive) (s .args .negative) (s .pre .0 .3) (m .last .0) (m .ensures (Literals (s .args .positive) (s .args .negative)) (before s))
 
 same-length-5 : tie.Need-same-length-5
 same-length-5 c =

@@ -3,11 +3,12 @@ use mathlib.Core.Path.{_≡_, refl, sym, _∙_, subst}
 use mathlib.Core.List.{List}
 use Prim.Native.Nat.{ℕ, _-_}
 use native.Mathlib.Omega.{arith}
-use lib.ListN.{length, getD, set, length-set}
+use lib.ListN.{length, set}
 use borrow.Author.Needs.{needs}
 use Rattle.meaning.proofs.Booleans.{t≢f}
 use Rattle.table.specs.Indexed.{tableOf, nodesOf, outcomeOf}
 use Rattle.supports.specs.Supports.{Supports}
+use Rattle.propagate.proofs.Quieting.{Rewording, rewording-none, rewording-next, rewording-all}
 use Rattle.propagate.proofs.Replacing.{Replacing, replacing-none, member-ready, member-supported, touches-now, stopped, replaced, supported, all-replaced}
 use Rattle.propagate.proofs.all_by.Statement.{statement}
 use Rattle.propagate.proofs.all_by.Tie as tie
@@ -15,7 +16,7 @@ use Rattle.propagate.proofs.all_by.Tie as tie
 abbrev Inv-loop : tie.InvT-loop
 Inv-loop vars₀ lows₀ highs₀ heads₀ links₀ memo₀ list₀ words₀ count op g touching n₀ i₀ vars lows highs heads links memo list words n i =
     Replacing op (g .0) (tableOf vars₀ lows₀ highs₀ heads₀ links₀ count) list₀ (tableOf vars lows highs heads links n) list memo i
-    × Supports (nodesOf (tableOf vars lows highs heads links n)) list words × (length words ≡ length words₀)
+    × Supports (nodesOf (tableOf vars lows highs heads links n)) list words × Rewording words₀ words touching i
     × (length vars ≡ length vars₀) × (length lows ≡ length lows₀) × (length highs ≡ length highs₀) × (length heads ≡ length heads₀) × (length links ≡ length links₀)
     × (length memo ≡ length memo₀)
 
@@ -25,16 +26,15 @@ abbrev μ-loop : tie.MeasureT-loop
 
 clear-memo-requires : tie.Need-clear-memo-requires Inv-loop μ-loop
 clear-memo-requires c κs =
-    search needs
+    omega (arith, c .before .before .before .before .before .before .before .before .before .pre .0 .0 .room)
 
 loop-holds : tie.Need-loop-holds Inv-loop μ-loop
 loop-holds c =
     let a = c .before .before .before .before .before .before .before .before .before .before .before .before .args in
-    let r = c .before .before .before .before .before .before .before .before .before .before .before .before .pre in
-    let m = c .before .before .clear-memo in (
-      replacing-none (a .op) (a .g .0) (tableOf (a .vars .now) (a .lows .now) (a .highs .now) (a .heads .now) (a .links .now) (a .count)) (a .list .now) (a .memo .now) (r .0 .0) (r .0 .1) (m .last .0) (m .ensures (a .op) (tableOf (a .vars .now) (a .lows .now) (a .highs .now) (a .heads .now) (a .links .now) (a .count))),
+    let r = c .before .before .before .before .before .before .before .before .before .before .before .before .pre in (
+      replacing-none (a .op) (a .g .0) (tableOf (a .vars .now) (a .lows .now) (a .highs .now) (a .heads .now) (a .links .now) (a .count)) (a .list .now) (a .memo .now) (r .0 .0) (r .0 .1) (c .before .before .clear-memo .last .0) (c .before .before .clear-memo .ensures (a .op) (tableOf (a .vars .now) (a .lows .now) (a .highs .now) (a .heads .now) (a .links .now) (a .count))),
       r .1 .1,
-      refl,
+      rewording-none (a .words .now) (a .touching),
       refl,
       refl,
       refl,
@@ -60,7 +60,7 @@ slice-read-word c =
     let a = c .before .before .before .before .before .before .before .before .before .before .before .before .before .before .before .before .args in
     let r = c .before .before .before .before .before .before .before .before .before .before .before .before .before .before .before .before .pre in
     let w = c .before .before .before .loop in
-    omega (arith, w .inv .2, w .inv .0 .members, r .1 .0, c .before .before .loop-test .taken)
+    omega (arith, w .inv .2 .lengths, w .inv .0 .members, r .1 .0, c .before .before .loop-test .taken)
 
 apply-touching-requires : tie.Need-apply-touching-requires Inv-loop μ-loop
 apply-touching-requires c κs =
@@ -107,7 +107,7 @@ returns c =
     let r = c .before .before .before .before .before .before .before .before .before .before .before .before .before .before .before .before .before .before .before .before .before .before .before .before .before .before .before .before .before .before .before .before .before .before .before .before .pre in
     let w = c .before .before .before .before .before .before .before .before .before .before .before .before .before .before .before .before .before .before .before .before .before .before .before .loop in
     let y = c .before .before .before .before .before .before .before .before .before .before .before .before .before .apply-touching in
-    (stopped (a .op) (a .g .0) (tableOf (a .vars .now) (a .lows .now) (a .highs .now) (a .heads .now) (a .links .now) (a .count)) (a .list .now) (a .memo .now) (r .0 .0) (r .0 .1) (r .0 .2) (tableOf (w .vars) (w .lows) (w .highs) (w .heads) (w .links) (w .n)) (w .list) (w .memo) (w .i) (w .inv .0) (c .before .before .before .before .before .before .before .before .before .before .before .before .before .before .before .before .before .before .before .before .before .before .loop-test .taken) (outcomeOf (y .last .0) (y .last .1 .0) (y .last .1 .1 .0) (y .last .1 .1 .1 .0) (y .last .1 .1 .1 .1 .0) (y .result)) (y .ensures .0) (c .if1 .taken), λ z. t≢f z)
+    (stopped (a .op) (a .g .0) (tableOf (a .vars .now) (a .lows .now) (a .highs .now) (a .heads .now) (a .links .now) (a .count)) (a .list .now) (a .memo .now) (r .0 .0) (r .0 .1) (r .0 .2) (tableOf (w .vars) (w .lows) (w .highs) (w .heads) (w .links) (w .n)) (w .list) (w .memo) (w .i) (w .inv .0) (c .before .before .before .before .before .before .before .before .before .before .before .before .before .before .before .before .before .before .before .before .before .before .loop-test .taken) (outcomeOf (y .last .0) (y .last .1 .0) (y .last .1 .1 .0) (y .last .1 .1 .1 .0) (y .last .1 .1 .1 .1 .0) (y .result)) (y .ensures .0) (c .if1 .taken), (λ z. t≢f z, λ z. t≢f z))
 
 mul-list : tie.Need-mul-list Inv-loop μ-loop
 mul-list c =
@@ -130,7 +130,7 @@ slice-write-words c =
     let a = c .before .before .before .before .before .before .before .before .before .before .before .before .before .before .before .before .before .before .before .before .before .before .before .before .before .before .before .before .before .before .before .before .before .before .before .before .before .before .args in
     let r = c .before .before .before .before .before .before .before .before .before .before .before .before .before .before .before .before .before .before .before .before .before .before .before .before .before .before .before .before .before .before .before .before .before .before .before .before .before .before .pre in
     let w = c .before .before .before .before .before .before .before .before .before .before .before .before .before .before .before .before .before .before .before .before .before .before .before .before .before .loop in
-    omega (arith, w .inv .2, w .inv .0 .members, r .1 .0, c .before .before .before .before .before .before .before .before .before .before .before .before .before .before .before .before .before .before .before .before .before .before .before .before .loop-test .taken)
+    omega (arith, w .inv .2 .lengths, w .inv .0 .members, r .1 .0, c .before .before .before .before .before .before .before .before .before .before .before .before .before .before .before .before .before .before .before .before .before .before .before .before .loop-test .taken)
 
 add-i : tie.Need-add-i Inv-loop μ-loop
 add-i c =
@@ -147,8 +147,8 @@ loop-again c =
     let w = c .before .before .before .before .before .before .before .before .before .before .before .before .before .before .before .before .before .before .before .before .before .before .before .before .before .loop in
     let y = c .before .before .before .before .before .before .before .before .before .before .before .before .before .before .before .apply-touching in (
       replaced (a .op) (a .g .0) (tableOf (a .vars .now) (a .lows .now) (a .highs .now) (a .heads .now) (a .links .now) (a .count)) (a .list .now) (a .memo .now) (r .0 .0) (r .0 .1) (r .0 .2) (tableOf (w .vars) (w .lows) (w .highs) (w .heads) (w .links) (w .n)) (w .list) (w .memo) (w .i) (w .inv .0) (c .before .before .before .before .before .before .before .before .before .before .before .before .before .before .before .before .before .before .before .before .before .before .before .before .loop-test .taken) (outcomeOf (y .last .0) (y .last .1 .0) (y .last .1 .1 .0) (y .last .1 .1 .1 .0) (y .last .1 .1 .1 .1 .0) (y .result)) (y .ensures .0) (c .before .before .if1 .left) (y .last .1 .1 .1 .1 .1 .0) (y .ensures .1),
-      subst (λ (x : ℕ). Supports (nodesOf ((outcomeOf (y .last .0) (y .last .1 .0) (y .last .1 .1 .0) (y .last .1 .1 .1 .0) (y .last .1 .1 .1 .1 .0) (y .result)) .table)) (set (w .list) (w .i) ((outcomeOf (y .last .0) (y .last .1 .0) (y .last .1 .1 .0) (y .last .1 .1 .1 .0) (y .last .1 .1 .1 .1 .0) (y .result)) .node)) (set (w .words) (w .i) x)) (sym (c .word-after .ensures)) (supported (a .op) (a .g .0) (tableOf (a .vars .now) (a .lows .now) (a .highs .now) (a .heads .now) (a .links .now) (a .count)) (a .list .now) (a .memo .now) (r .0 .0) (r .0 .1) (r .0 .2) (tableOf (w .vars) (w .lows) (w .highs) (w .heads) (w .links) (w .n)) (w .list) (w .memo) (w .i) (w .inv .0) (c .before .before .before .before .before .before .before .before .before .before .before .before .before .before .before .before .before .before .before .before .before .before .before .before .loop-test .taken) (outcomeOf (y .last .0) (y .last .1 .0) (y .last .1 .1 .0) (y .last .1 .1 .1 .0) (y .last .1 .1 .1 .1 .0) (y .result)) (y .ensures .0) (c .before .before .if1 .left) (w .words) (a .touching) (omega (arith, w .inv .2, w .inv .0 .members, r .1 .0)) (w .inv .1) (r .1 .2)),
-      length-set (w .words) (w .i) (c .word-after .result) ∙ w .inv .2,
+      subst (λ (x : ℕ). Supports (nodesOf ((outcomeOf (y .last .0) (y .last .1 .0) (y .last .1 .1 .0) (y .last .1 .1 .1 .0) (y .last .1 .1 .1 .1 .0) (y .result)) .table)) (set (w .list) (w .i) ((outcomeOf (y .last .0) (y .last .1 .0) (y .last .1 .1 .0) (y .last .1 .1 .1 .0) (y .last .1 .1 .1 .1 .0) (y .result)) .node)) (set (w .words) (w .i) x)) (sym (c .word-after .ensures)) (supported (a .op) (a .g .0) (tableOf (a .vars .now) (a .lows .now) (a .highs .now) (a .heads .now) (a .links .now) (a .count)) (a .list .now) (a .memo .now) (r .0 .0) (r .0 .1) (r .0 .2) (tableOf (w .vars) (w .lows) (w .highs) (w .heads) (w .links) (w .n)) (w .list) (w .memo) (w .i) (w .inv .0) (c .before .before .before .before .before .before .before .before .before .before .before .before .before .before .before .before .before .before .before .before .before .before .before .before .loop-test .taken) (outcomeOf (y .last .0) (y .last .1 .0) (y .last .1 .1 .0) (y .last .1 .1 .1 .0) (y .last .1 .1 .1 .1 .0) (y .result)) (y .ensures .0) (c .before .before .if1 .left) (w .words) (a .touching) (omega (arith, w .inv .2 .lengths, w .inv .0 .members, r .1 .0)) (w .inv .1) (r .1 .2)),
+      rewording-next (a .words .now) (w .words) (a .touching) (w .i) (c .word-after .result) (w .inv .2) (omega (arith, w .inv .0 .members, r .1 .0, c .before .before .before .before .before .before .before .before .before .before .before .before .before .before .before .before .before .before .before .before .before .before .before .before .loop-test .taken)) (c .word-after .ensures),
       y .kept .0 ∙ w .inv .3,
       y .kept .1 .0 ∙ w .inv .4,
       y .kept .1 .1 .0 ∙ w .inv .5,
@@ -194,7 +194,7 @@ returns-2 c =
     let a = c .before .before .before .before .before .before .before .before .before .before .before .before .before .before .args in
     let r = c .before .before .before .before .before .before .before .before .before .before .before .before .before .before .pre in
     let w = c .before .loop in
-    (all-replaced (a .op) (a .g .0) (tableOf (a .vars .now) (a .lows .now) (a .highs .now) (a .heads .now) (a .links .now) (a .count)) (a .list .now) (a .memo .now) (r .0 .0) (r .0 .1) (tableOf (w .vars) (w .lows) (w .highs) (w .heads) (w .links) (w .n)) (w .list) (w .memo) (w .i) (w .inv .0) (omega (arith, c .loop-test .left)), λ z. w .inv .1)
+    (all-replaced (a .op) (a .g .0) (tableOf (a .vars .now) (a .lows .now) (a .highs .now) (a .heads .now) (a .links .now) (a .count)) (a .list .now) (a .memo .now) (r .0 .0) (r .0 .1) (tableOf (w .vars) (w .lows) (w .highs) (w .heads) (w .links) (w .n)) (w .list) (w .memo) (w .i) (w .inv .0) (omega (arith, c .loop-test .left)), (λ z. w .inv .1, λ z. rewording-all (a .words .now) (w .words) (a .touching) (w .i) (w .inv .2) (omega (arith, w .inv .0 .members, r .1 .0, c .loop-test .left))))
 
 pub all-by-spec : {M : Type 1} → statement M
 all-by-spec =

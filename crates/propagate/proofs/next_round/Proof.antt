@@ -2,98 +2,93 @@
 use mathlib.Core.Path.{sym, _∙_, subst}
 use Prim.Native.Nat.{_-_}
 use native.Mathlib.Omega.{arith}
+use borrow.Author.Needs.{needs}
 use Rattle.table.specs.Indexed.{tableOf, nodesOf}
 use Rattle.walks.proofs.Here.{good-readable}
 use Rattle.conflict.specs.Members.{diagramsOf}
 use Rattle.propagate.specs.Units.{AreFirst}
 use Rattle.propagate.proofs.Rounds.{ends-conflict, ends-last, ends-still}
-use borrow.Author.Needs.{needs}
 use Rattle.propagate.proofs.next_round.Statement.{statement}
 use Rattle.propagate.proofs.next_round.Tie as tie
 
--- src/lib.rt:124:8
 conflicts-requires : tie.Need-conflicts-requires
-conflicts-requires c κs = search needs
+conflicts-requires c κs =
+    let r = c .before .before .before .before .before .before .before .before .before .before .before .pre in ((r .0 .0, r .0 .1), r .1)
 
--- src/lib.rt:125:9
 same-length : tie.Need-same-length
-same-length c = search needs
+same-length c =
+    search needs
 
--- src/lib.rt:125:9
 same-length-2 : tie.Need-same-length-2
-same-length-2 c = search needs
+same-length-2 c =
+    search needs
 
--- src/lib.rt:125:9
 returns : tie.Need-returns
 returns c =
-    let a = c .before .before .before .before .before .before .before .before .before .before .before .before .before .before .before .before .args in
-    let r = c .before .before .before .before .before .before .before .before .before .before .before .before .before .before .before .before .pre in
+    let a = c .before .before .before .before .before .before .before .before .before .before .before .before .before .before .before .before .before .args in
+    let r = c .before .before .before .before .before .before .before .before .before .before .before .before .before .before .before .before .before .pre in
     let y = c .before .before .before .before .before .conflicts in
     (ends-conflict (64 - a .rounds) (diagramsOf (nodesOf (tableOf (a .vars .now) (a .lows .now) (a .highs .now) (a .heads .now) (a .links .now) (a .count))) (a .list .now)) (sym (y .ensures .0) ∙ c .if1 .taken), y .ensures .1)
 
--- src/lib.rt:128:9
 same-length-3 : tie.Need-same-length-3
-same-length-3 c = search needs
+same-length-3 c =
+    search needs
 
--- src/lib.rt:128:9
 same-length-4 : tie.Need-same-length-4
-same-length-4 c = search needs
+same-length-4 c =
+    search needs
 
--- src/lib.rt:128:9
 returns-2 : tie.Need-returns-2
 returns-2 c =
-    let a = c .before .before .before .before .before .before .before .before .before .before .before .before .before .before .before .before .before .args in
-    let r = c .before .before .before .before .before .before .before .before .before .before .before .before .before .before .before .before .before .pre in
+    let a = c .before .before .before .before .before .before .before .before .before .before .before .before .before .before .before .before .before .before .args in
+    let r = c .before .before .before .before .before .before .before .before .before .before .before .before .before .before .before .before .before .before .pre in
     let y = c .before .before .before .before .before .before .conflicts in
     (ends-last (64 - a .rounds) (diagramsOf (nodesOf (tableOf (a .vars .now) (a .lows .now) (a .highs .now) (a .heads .now) (a .links .now) (a .count))) (a .list .now)) (omega (arith, c .if2 .taken)) (sym (y .ensures .0) ∙ c .before .if1 .left), y .ensures .1)
 
--- src/lib.rt:130:11
 first-units-requires : tie.Need-first-units-requires
 first-units-requires c κs =
-    let a = c .before .before .before .before .before .before .before .before .before .before .before .before .before .before .before .before .before .before .args in
-    let r = c .before .before .before .before .before .before .before .before .before .before .before .before .before .before .before .before .before .before .pre in
+    let a = c .before .before .before .before .before .before .before .before .before .before .before .before .before .before .before .before .before .before .before .args in
+    let r = c .before .before .before .before .before .before .before .before .before .before .before .before .before .before .before .before .before .before .before .pre in
     let y = c .before .before .before .before .before .before .before .conflicts in
-    (good-readable (tableOf (a .vars .now) (a .lows .now) (a .highs .now) (a .heads .now) (a .links .now) (a .count)) (r .0 .good), r .0 .inside, omega (arith, y .kept .1 .1 .1 .1 .1 .0, r .0 .room))
+    (good-readable (tableOf (a .vars .now) (a .lows .now) (a .highs .now) (a .heads .now) (a .links .now) (a .count)) (r .0 .0 .good), r .0 .0 .inside, omega (arith, y .kept .1 .1 .1 .1 .1 .0, r .0 .0 .room))
 
--- src/lib.rt:131:24
 enum-known-u : tie.Need-enum-known-u
-enum-known-u c = search needs
+enum-known-u c =
+    search needs
 
--- src/lib.rt:132:32
 enum-told : tie.Need-enum-told
-enum-told c = search needs
+enum-told c =
+    search needs
 
--- src/lib.rt:108:1
 same-length-5 : tie.Need-same-length-5
-same-length-5 c = search needs
+same-length-5 c =
+    search needs
 
--- src/lib.rt:108:1
 same-length-6 : tie.Need-same-length-6
-same-length-6 c = search needs
+same-length-6 c =
+    search needs
 
--- src/lib.rt:108:1
 returns-3 : tie.Need-returns-3
 unfolding nodesOf
 returns-3 c =
-    let a = c .before .before .before .before .before .before .before .before .before .before .before .before .before .before .before .before .before .before .before .before .before .before .before .before .args in
-    let r = c .before .before .before .before .before .before .before .before .before .before .before .before .before .before .before .before .before .before .before .before .before .before .before .before .pre in
+    let a = c .before .before .before .before .before .before .before .before .before .before .before .before .before .before .before .before .before .before .before .before .before .before .before .before .before .args in
+    let r = c .before .before .before .before .before .before .before .before .before .before .before .before .before .before .before .before .before .before .before .before .before .before .before .before .before .pre in
     let y = c .before .before .before .before .before .before .before .before .before .before .before .before .before .conflicts in
-    ((omega (arith, r .2, c .before .before .before .before .before .before .before .if2 .left), (sym (y .ensures .0) ∙ c .before .before .before .before .before .before .before .before .if1 .left), subst (AreFirst (diagramsOf (nodesOf (tableOf (a .vars .now) (a .lows .now) (a .highs .now) (a .heads .now) (a .links .now) (a .count))) (a .list .now))) (c .before .u .given .1) (c .before .before .before .before .before .first-units .ensures)), y .ensures .1)
+    ((omega (arith, r .0 .2, c .before .before .before .before .before .before .before .if2 .left), (sym (y .ensures .0) ∙ c .before .before .before .before .before .before .before .before .if1 .left), subst (AreFirst (diagramsOf (nodesOf (tableOf (a .vars .now) (a .lows .now) (a .highs .now) (a .heads .now) (a .links .now) (a .count))) (a .list .now))) (c .before .u .given .1) (c .before .before .before .before .before .first-units .ensures)), y .ensures .1)
 
--- src/lib.rt:108:1
 same-length-7 : tie.Need-same-length-7
-same-length-7 c = search needs
+same-length-7 c =
+    search needs
 
--- src/lib.rt:108:1
 same-length-8 : tie.Need-same-length-8
-same-length-8 c = search needs
+same-length-8 c =
+    search needs
 
--- src/lib.rt:108:1
 returns-4 : tie.Need-returns-4
 unfolding nodesOf
 returns-4 c =
-    let a = c .before .before .before .before .before .before .before .before .before .before .before .before .before .before .before .before .before .before .before .before .before .before .before .args in
-    let r = c .before .before .before .before .before .before .before .before .before .before .before .before .before .before .before .before .before .before .before .before .before .before .before .pre in
+    let a = c .before .before .before .before .before .before .before .before .before .before .before .before .before .before .before .before .before .before .before .before .before .before .before .before .args in
+    let r = c .before .before .before .before .before .before .before .before .before .before .before .before .before .before .before .before .before .before .before .before .before .before .before .before .pre in
     let y = c .before .before .before .before .before .before .before .before .before .before .before .before .conflicts in
     (ends-still (64 - a .rounds) (diagramsOf (nodesOf (tableOf (a .vars .now) (a .lows .now) (a .highs .now) (a .heads .now) (a .links .now) (a .count))) (a .list .now)) (sym (y .ensures .0) ∙ c .before .before .before .before .before .before .before .if1 .left) (subst (AreFirst (diagramsOf (nodesOf (tableOf (a .vars .now) (a .lows .now) (a .highs .now) (a .heads .now) (a .links .now) (a .count))) (a .list .now))) (c .enum-told .given .1) (c .before .before .before .before .first-units .ensures)), y .ensures .1)
 

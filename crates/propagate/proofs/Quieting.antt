@@ -1,0 +1,113 @@
+-- The words after a round tell which members it changed, and those that it did not change are no negations of each other. Assumes nothing.
+use mathlib.Core.Path.{_≡_, refl, sym, ap, ap₂, _∙_}
+use mathlib.Core.Logic.{_≢_}
+use mathlib.Core.Bool.{Bool, true, false, cond}
+use mathlib.Core.List.{List}
+use Prim.Native.Nat.{ℕ, _+_, _≤_, _<_}
+use native.Mathlib.Omega.{arith}
+use native.Mathlib.Decide.{ℕ-discrete}
+use lib.ListN.{length, getD, set, length-set, length-map}
+use lib.Seq.{getD-set-same, getD-set-other}
+use lib.Dec.{eqb}
+use lib.Bits.{bitAnd, bitOr}
+use borrow.Author.Tests.{eqb-true}
+use Rattle.meaning.specs.Diagram.{Diagram, leaf, node, Reduced}
+use Rattle.meaning.specs.Operations.{negation}
+use Rattle.meaning.specs.Rules.{conflicts}
+use Rattle.meaning.specs.Words.{inWord}
+use Rattle.meaning.proofs.Booleans.{t≢f}
+use Rattle.meaning.proofs.PointwiseSteps.{negation-leaf}
+use Rattle.table.specs.Nodes.{diagramAt}
+use Rattle.table.specs.Indexed.{Table, nodesOf, Good}
+use Rattle.table.proofs.Written.{length-nodes, good-ordered}
+use Rattle.table.proofs.Numbers.{diagramAt-reduced}
+use Rattle.operate.specs.declared.Operation.the-variants.{Literals}
+use Rattle.operate.specs.Operate.{result}
+use Rattle.operate.proofs.Levels.{zero-is}
+use Rattle.units.proofs.Bits.{in-all}
+use Rattle.supports.specs.Supports.{Uses, Support, Supports}
+use Rattle.supports.proofs.Words.{in-left}
+use Rattle.conflict.specs.Members.{diagramsOf, Inside, ListReady, Quiet}
+use Rattle.conflict.proofs.Asked.{no-conflict}
+use Rattle.propagate.specs.Made.{results, AllMade}
+use Rattle.propagate.specs.Touching.{touched, AllTouched}
+use Rattle.propagate.proofs.Touching.{words-apart, stays}
+use Rattle.propagate.proofs.Replacing.{getD-map, result-at}
+
+-- ---- the words, one by one
+
+-- Of the words, which were words₀, the first i are rewritten.
+pub record Rewording (words₀ words : List ℕ) (touching i : ℕ) : Type 0 where
+  pub lengths : length words ≡ length words₀
+  pub done : (k : ℕ) → k < i → getD words k 0 ≡ touched (getD words₀ k 0) touching
+  pub ahead : (k : ℕ) → i ≤ k → getD words k 0 ≡ getD words₀ k 0
+
+pub rewording-none : (words : List ℕ) (touching : ℕ) → Rewording words words touching 0
+rewording-none words touching = record { lengths = refl; done = λ k p. absurd (omega arith); ahead = λ k p. refl }
+
+pub rewording-next : (words₀ words : List ℕ) (touching i word : ℕ) → Rewording words₀ words touching i → i < length words₀ → word ≡ touched (getD words i 0) touching
+    → Rewording words₀ (set words i word) touching (i + 1)
+rewording-next words₀ words touching i word W p e =
+    record {
+      lengths = length-set words i word ∙ W .lengths;
+      done = λ k q. go k q (ℕ-discrete k i);
+      ahead = λ k q. getD-set-other words i k word 0 (λ z. absurd (omega arith)) ∙ W .ahead k (omega arith);
+    }
+  where
+    go : (k : ℕ) → k < i + 1 → Dec (k ≡ i) → getD (set words i word) k 0 ≡ touched (getD words₀ k 0) touching
+    go k q (yes z) = rw (z, getD-set-same words i word 0 (omega (arith, W .lengths))) (e ∙ ap (λ (x : ℕ). touched x touching) (W .ahead i (omega arith)))
+    go k q (no n) = getD-set-other words i k word 0 n ∙ W .done k (omega arith)
+
+pub rewording-all : (words₀ words : List ℕ) (touching i : ℕ) → Rewording words₀ words touching i → length words₀ ≤ i → AllTouched words₀ words touching
+unfolding AllTouched
+rewording-all words₀ words touching i W h k p = W .done k (omega arith)
+
+-- ---- before the first round
+
+-- A node other than 0 whose word has none of all variables is 1.
+one-of : (T : Table) → Good T → (k : ℕ) → k < T .count → k ≢ 0 → (word : ℕ) → Support word (diagramAt (nodesOf T) k) → bitAnd word 18446744073709551615 ≡ 0
+    → diagramAt (nodesOf T) k ≡ leaf true
+unfolding Support
+one-of T G k inside nz word has e =
+    go (diagramAt (nodesOf T) k) refl (diagramAt-reduced (nodesOf T) (good-ordered T G) k (omega (arith, length-nodes T G))) has
+  where
+    go : (d : Diagram) → diagramAt (nodesOf T) k ≡ d → Reduced 1 65 d → Uses (inWord word) d → d ≡ leaf true
+    go (leaf true) q o u = refl
+    go (leaf false) q o u = absurd (nz (zero-is T G k inside q))
+    go (node v l h) q o u = t≢f (sym (in-all v (o .0) (omega arith)) ∙ words-apart word 18446744073709551615 e v (u .0))
+
+pub quiet-all : (T : Table) (list memo words : List ℕ) → ListReady T list memo → Supports (nodesOf T) list words → Quiet (nodesOf T) list words 18446744073709551615
+unfolding Quiet Supports
+quiet-all T list memo words R S i j p q x y ni nj e =
+    let one : leaf true ≡ leaf false =
+    sym (one-of T (R .good) (getD list j 0) (R .inside j q) nj (getD words j 0) (S j q) y) ∙ e
+    ∙ ap (negation 64) (one-of T (R .good) (getD list i 0) (R .inside i p) ni (getD words i 0) (S i p) x) ∙ negation-leaf 64 true in
+    let z : true ≡ false = cc in t≢f z
+
+-- ---- after a round
+
+touched-apart : (word touching : ℕ) → bitAnd (touched word touching) touching ≡ 0 → (v : ℕ) → inWord word v ≡ true → inWord touching v ≡ false
+unfolding touched
+touched-apart word touching e = go (eqb (bitAnd word touching) 0) refl e
+  where
+    go : (b : Bool) → eqb (bitAnd word touching) 0 ≡ b → bitAnd (cond b word (bitOr word touching)) touching ≡ 0 → (v : ℕ) → inWord word v ≡ true → inWord touching v ≡ false
+    go true q z = words-apart word touching z
+    go false q z = λ v p. words-apart (bitOr word touching) touching z v (in-left word touching v p)
+
+module _ (T : Table) (list memo words : List ℕ) (R : ListReady T list memo) (len : length words ≡ length list) (S : Supports (nodesOf T) list words) (positive negative : ℕ)
+    (T′ : Table) (list′ : List ℕ) (A : AllMade T (results (Literals positive negative) T list 1) false T′ list′) (len′ : length list′ ≡ length list)
+    (words′ : List ℕ) (W : AllTouched words words′ (bitOr positive negative)) where
+  unchanged : (i : ℕ) → i < length list → bitAnd (getD words′ i 0) (bitOr positive negative) ≡ 0 → diagramAt (nodesOf T′) (getD list′ i 0) ≡ diagramAt (nodesOf T) (getD list i 0)
+  unfolding Supports AllTouched
+  unchanged i p e =
+      sym (getD-map (diagramAt (nodesOf T′)) list′ i 0 (leaf false) (omega arith))
+      ∙ ap (λ (ms : List Diagram). getD ms i (leaf false)) (A .are refl)
+      ∙ result-at (Literals positive negative) 1 T list memo R (omega (arith, R .good .least)) i p
+      ∙ stays T (R .good) (getD list i 0) 1 (R .inside i p) (omega (arith, R .good .least)) (getD words i 0) (bitOr positive negative) (S i p) (Literals positive negative) refl refl
+      (touched-apart (getD words i 0) (bitOr positive negative) (ap (λ (x : ℕ). bitAnd x (bitOr positive negative)) (sym (W i (omega arith))) ∙ e))
+
+  pub quiet-next : conflicts 64 (diagramsOf (nodesOf T) list) ≡ false → Quiet (nodesOf T′) list′ words′ (bitOr positive negative)
+  unfolding Quiet
+  quiet-next c i j p q x y ni nj e =
+      no-conflict (nodesOf T) list c i j (omega arith) (omega arith)
+      (sym (unchanged j (omega arith) y) ∙ e ∙ ap (negation 64) (unchanged i (omega arith) x))
