@@ -7,7 +7,7 @@ use native.Mathlib.Omega.{arith}
 use mathlib.Core.List.{List, [], _∷_, _++_, map}
 use lib.ListN.{length, getD, set, take, drop}
 use Rattle.nodes.specs.declared.Node.{Node}
-use Rattle.nodes.specs.Slice.{nodesOf, blank}
+use Rattle.nodes.specs.Within.{nodesOf}
 
 -- by a test's answer
 pub by-test {α} : {P : Type α} (t : Bool) → (t ≡ true → P) → (t ≡ false → P) → P
@@ -25,6 +25,10 @@ lowOf y = y .low
 
 abbrev pub highOf : Node → ℕ
 highOf y = y .high
+
+-- what `getD` gives past the end, where nothing is read
+abbrev pub blank : Node
+blank = record { var = 0; low = 0; high = 0 }
 
 -- the column of a field once i nodes are read into it
 module _ (f : Node → ℕ) where

@@ -18,8 +18,8 @@ use Rattle.verdict.specs.Check.{Outcome, lentFits, check}
 use Rattle.session.specs.declared.Checked.{Checked}
 use Rattle.session.specs.Checked.{outcomeOf}
 use Rattle.nodes.specs.declared.Node.{Node}
-use Rattle.nodes.specs.Slice.{varsOf, lowsOf, highsOf, nodesOf, secondOf}
-use Rattle.nodes.specs.Within.{checkWithin, operationWithin, evaluationWithin}
+use Rattle.nodes.specs.Slice.{varsOf, lowsOf, highsOf, secondOf}
+use Rattle.nodes.specs.Within.{nodesOf, checkWithin, operationWithin, evaluationWithin}
 use Rattle.nodes.proofs.Lists.{by-test, varOf, lowOf, highOf, column, slice}
 use Rattle.nodes.proofs.Setting.{Cut}
 
@@ -37,8 +37,8 @@ nodes-columns (v ∷ a) (l ∷ b) (h ∷ c) eb ec =
     let r = nodes-columns a b c (omega (arith, eb)) (omega (arith, ec)) in
     (ap (λ (x : List ℕ). v ∷ x) (r .0), ap (λ (x : List ℕ). l ∷ x) (r .1), ap (λ (x : List ℕ). h ∷ x) (r .2))
 
--- the slice of its own columns
-own-nodes : (t : List Node) → nodesOf (varsOf t) (lowsOf t) (highsOf t) ≡ t
+-- the slice of its own columns: its three columns settle it
+pub own-nodes : (t : List Node) → nodesOf (varsOf t) (lowsOf t) (highsOf t) ≡ t
 unfolding varsOf lowsOf highsOf nodesOf
 own-nodes [] = refl
 own-nodes (y ∷ t) = ap (λ (x : List Node). y ∷ x) (own-nodes t)

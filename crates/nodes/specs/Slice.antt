@@ -1,11 +1,11 @@
 -- A node table lent as one slice of node structs. (01: "The node table is a list of records: variable, low, high")
-use mathlib.Core.List.{List, [], _∷_, map}
+use mathlib.Core.List.{List, map}
 use Prim.Native.Nat.{ℕ}
 use Rattle.operate.specs.declared.Operation.{Operation}
 use Rattle.operate.specs.declared.Operation.the-variants.{Conjunction, Negation, Cofactor, Literals}
 use Rattle.nodes.specs.declared.Node.{Node}
 
--- The three columns of a slice.
+-- The three columns of a slice: a list of records is its columns (`own-nodes`, proofs/Whole).
 unfoldable pub varsOf : List Node → List ℕ
 varsOf t = map (λ x. x .var) t
 
@@ -14,17 +14,6 @@ lowsOf t = map (λ x. x .low) t
 
 unfoldable pub highsOf : List Node → List ℕ
 highsOf t = map (λ x. x .high) t
-
--- The node that stands at no place.
-abbrev pub blank : Node
-blank = record { var = 0; low = 0; high = 0 }
-
--- The slice of three columns.
-unfoldable pub nodesOf : List ℕ → List ℕ → List ℕ → List Node
-nodesOf [] ls hs = []
-nodesOf (v ∷ vs) [] hs = []
-nodesOf (v ∷ vs) (l ∷ ls) [] = []
-nodesOf (v ∷ vs) (l ∷ ls) (h ∷ hs) = record { var = v; low = l; high = h } ∷ nodesOf vs ls hs
 
 -- The second operand of an operation: an operation of one diagram has node 1, whatever is passed.
 unfoldable pub secondOf : Operation → ℕ → ℕ

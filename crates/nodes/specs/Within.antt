@@ -1,6 +1,6 @@
--- What the inner calls say of arrays whose first n places are the columns. No call open to others cites this file.
+-- The slice that three columns give, and what the inner calls say of arrays whose first n places are the columns. No call open to others cites this file.
 use mathlib.Core.Bool.{cond, false}
-use mathlib.Core.List.{List}
+use mathlib.Core.List.{List, [], _∷_}
 use Prim.Native.Nat.{ℕ}
 use lib.ListN.{take}
 use lib.Dec.{leb}
@@ -8,7 +8,15 @@ use Rattle.operate.specs.declared.Operation.{Operation}
 use Rattle.single.specs.declared.Evaluated.{Evaluated}
 use Rattle.single.specs.Single.{Made, unchanged, operation, evaluation}
 use Rattle.verdict.specs.Check.{Outcome, check}
+use Rattle.nodes.specs.declared.Node.{Node}
 use Rattle.nodes.specs.Slice.{secondOf}
+
+-- The nodes of three columns.
+unfoldable pub nodesOf : List ℕ → List ℕ → List ℕ → List Node
+nodesOf [] ls hs = []
+nodesOf (v ∷ vs) [] hs = []
+nodesOf (v ∷ vs) (l ∷ ls) [] = []
+nodesOf (v ∷ vs) (l ∷ ls) (h ∷ hs) = record { var = v; low = l; high = h } ∷ nodesOf vs ls hs
 
 -- "The table has 2 to 65,536 places": 7 where the slice has more, and the arrays stay.
 unfoldable pub checkWithin : ℕ → List ℕ → List ℕ → List ℕ → ℕ → List ℕ → List ℕ → List ℕ → List ℕ → Outcome

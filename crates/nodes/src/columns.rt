@@ -4,7 +4,8 @@ ghost use mathlib.Core.Path.{_≡_};
 ghost use mathlib.Core.List.{_++_};
 ghost use Prim.Native.Nat.{_≤_};
 ghost use lib.ListN.{length, take, drop};
-ghost use Rattle.nodes.specs.Slice.{varsOf, lowsOf, highsOf, nodesOf};
+ghost use Rattle.nodes.specs.Slice.{varsOf, lowsOf, highsOf};
+ghost use Rattle.nodes.specs.Within.{nodesOf};
 
 // How many places of a slice of so many nodes the columns have room for.
 pub fn places(len: usize) -> usize

@@ -43,8 +43,8 @@ use denote.Triple.Table.{entered}
 use denote.Triple.Walked.{says, needs, Stays, stay-none-slice, stay-none, stay-slice, walkOf, Walks, ends-at, walked, goes-none-slice, goes-none, goes-slice, walk-meets}
 use denote.Exit.{yes}
 use Rattle.nodes.specs.declared.Node.{Node}
-use Rattle.nodes.specs.Slice.{nodesOf, blank}
-use Rattle.nodes.proofs.Lists.{by-test, slice, nodeAt, slice-step, slice-length, add-one}
+use Rattle.nodes.specs.Within.{nodesOf}
+use Rattle.nodes.proofs.Lists.{by-test, blank, slice, nodeAt, slice-step, slice-length, add-one}
 use Rattle.nodes.proofs.Opened.{Left, LeftShared, opens, closes, looks, shuts}
 use Rattle.nodes.proofs.Node as N
 use Rattle.nodes.proofs.Node.Laws as N′
