@@ -103,8 +103,8 @@ fn restart(memo: &mut [u64], n: usize, step: u64)
     memo[2] = step;
 }
 
-// Where three quarters of the cells are used: begins anew with four times as many, so that what is lost costs less than what comes, or,
-// with all of the slice in use, with the next step.
+// Where three quarters of the cells are used: begins anew with sixteen times as many, so that what is lost costs less than what comes,
+// or, with all of the slice in use, with the next step.
 fn make_room(memo: &mut [u64])
     requires { ⌜ Shaped (now memo) ⌝ }
     ensures { λ _. ⌜ Follows (now (memo .entry)) (now (memo .exit)) ⌝ }
@@ -115,7 +115,7 @@ fn make_room(memo: &mut [u64])
     }
     let all = lesser(memo.len() - 3, 1048576);
     if n < all {
-        let more = lesser(4 * n + 512, all);
+        let more = lesser(16 * n + 64, all);
         restart(memo, more, 1);
         return;
     }
