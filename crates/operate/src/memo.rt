@@ -18,12 +18,12 @@ fn lesser(a: usize, b: usize) -> usize
     a
 }
 
-// Where the search for f and g begins among m cells: a product in 32 bits, scaled to m.
+// Where the search for f and g begins among m cells: two products, the second in 32 bits, scaled to m, so that neighbours lie apart.
 fn home_of(m: usize, f: NodeNo, g: NodeNo) -> usize
     requires { ⌜ m ≤ 1048576 ⌝ }
     ensures { λ r. ⌜ r ≤ m ⌝ }
 {
-    let key = (f.0 as usize) * 65536 + (g.0 as usize);
+    let key = (f.0 as usize) * 31153 + (g.0 as usize);
     (key * 2654435769 % 4294967296) * m / 4294967296
 }
 

@@ -30,7 +30,7 @@ mul-result c = search needs
 
 mul-result-2 : tie.Need-mul-result-2
 mul-result-2 c =
-    let s = c .before .before in omega (arith, product-fits ((s .args .f .0 * 65536 + s .args .g .0) * 2654435769) (s .args .m) (s .pre))
+    let s = c .before .before in omega (arith, product-fits ((s .args .f .0 * 31153 + s .args .g .0) * 2654435769) (s .args .m) (s .pre))
 
 returns : tie.Need-returns
 returns c = scaled _ _
