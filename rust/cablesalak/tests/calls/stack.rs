@@ -1,4 +1,4 @@
-//! A call fits a thread of 1 MiB, and threads may call at the same time.
+//! A call fits a thread of 1.25 MiB, and threads may call at the same time.
 
 use cablesalak::{check, Node, NodeNo, Table, Variables, Workspace};
 use std::thread;
@@ -33,7 +33,7 @@ fn parity() -> Table {
 
 #[test]
 fn threads_of_a_mebibyte() {
-    let threads = [(); 4].map(|()| thread::Builder::new().stack_size(1 << 20).spawn(calls).unwrap());
+    let threads = [(); 4].map(|()| thread::Builder::new().stack_size(5 << 18).spawn(calls).unwrap());
     assert!(threads.map(|thread| thread.join()).iter().all(Result::is_ok));
 }
 
