@@ -17,7 +17,7 @@
  * A node has the value of its high where its variable is true, else of its low. In a table in good order two node numbers
  * are equal exactly when they have the same value under every assignment.
  *
- * Stack: a call takes less than 1 MiB, whatever the table (docs/BENCH.md has the measured figures).
+ * Stack: a call takes less than 1.25 MiB, whatever the table (docs/BENCH.md has the measured figures).
  * Threads: calls at the same time are fine where no list that one of them writes to is lent to another. */
 #ifndef CABLESALAK_H
 #define CABLESALAK_H

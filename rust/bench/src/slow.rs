@@ -13,7 +13,7 @@ pub fn all() -> Vec<Workload> {
         workloads::proof("turns: 1,000 clauses, PR lines", &families::pure(&mut Random::new(3), 1_000, 20), 65_536),
         workloads::proof("rounds: a chain of 62", &families::chain(&mut Random::new(4), 62, 1_000, 300), 65_536),
     ];
-    for (first, second) in [(8, 9), (16, 17), (24, 25), (31, 32)] {
+    for (first, second) in [(16, 17), (31, 32), (64, 65)] {
         for places in [4_096, 65_536] {
             all.push(workloads::proof(&format!("counters by {first}, {second}"), &counters(first, second), places));
         }

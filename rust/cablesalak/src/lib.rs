@@ -50,7 +50,7 @@
 //!
 //! # Stack and threads
 //!
-//! A call takes less than 1 MiB of stack, whatever the table. The library keeps nothing between calls, so that threads may call it at
+//! A call takes less than 1.25 MiB of stack, whatever the table. The library keeps nothing between calls, so that threads may call it at
 //! the same time, each with its own places.
 
 mod check;
