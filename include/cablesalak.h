@@ -17,7 +17,7 @@
  * A node has the value of its high where its variable is true, else of its low. In a table in good order two node numbers
  * are equal exactly when they have the same value under every assignment.
  *
- * Stack: a call takes less than 1.25 MiB, whatever the table (docs/BENCH.md has the measured figures).
+ * Stack: a call over columns takes less than 1.25 MiB, whatever the table (docs/BENCH.md has the measured figures).
  * Threads: calls at the same time are fine where no list that one of them writes to is lent to another. */
 #ifndef CABLESALAK_H
 #define CABLESALAK_H
@@ -136,7 +136,7 @@ cablesalak_checked cablesalak_check(
  *
  * Each is the call of the same name over the list's three columns: numbers, places, counts and what the list holds
  * afterwards are those told there. A list of fewer than 2 or more than 65,536 places is refused with 7 and stays as it is. They
- * copy the list into columns and back, and take 320 KiB of stack more than the calls over columns. */
+ * copy the list into columns and back, and take less than 1.5 MiB of stack. */
 typedef struct {
     uint8_t var;
     uint16_t low;
