@@ -21,6 +21,7 @@ use Rattle.dimacs.specs.Header.{judgedFrom, nextWord, word, isHeader, he
 use Rattle.dimacs.specs.Clauses.{Next, closed, ended, refused, withLiteral, afterToken, clauseFrom, clauseAt, nextClause}
 use Rattle.dimacs.proofs.Cases.{by, clash}
 use Rattle.dimacs.proofs.Runs.{past-most}
+use Rattle.dimacs.proofs.Between.{between-most}
 use Rattle.dimacs.proofs.Tokens.{literal-bounds}
 use Rattle.dimacs.proofs.Clauses.{tokenAt, nextAt, clause-suc, clause-end}
 
@@ -113,4 +114,4 @@ clause-at-in s n (suc left) first h =
 
 pub next-in : (s : List ℕ) (n left at : ℕ) → at ≤ length s → NextIn s n (nextClause s n left at)
 unfolding nextClause
-next-in s n left at h = clause-at-in s n left (between s at) (past-most isParting s at h)
+next-in s n left at h = clause-at-in s n left (between s at) (between-most s at h)

@@ -18,7 +18,8 @@ use Rattle.dimacs.specs.Text.{isToken, isParting, tokenEnd, between}
 use Rattle.dimacs.specs.Numbers.{tokenOf}
 use Rattle.dimacs.specs.Clauses.{Next, closed, ended, refused, withLiteral, afterToken, clauseFrom, nextClause, withVariable, setFrom, clauseAfter, clauseOf}
 use Rattle.dimacs.proofs.Cases.{by}
-use Rattle.dimacs.proofs.Runs.{past-least, past-most}
+use Rattle.dimacs.proofs.Runs.{past-most}
+use Rattle.dimacs.proofs.Between.{between-least}
 use Rattle.dimacs.proofs.Tokens.{literal-bounds}
 
 -- ---- steps
@@ -63,8 +64,8 @@ module _ (s : List ℕ) (n : ℕ) where
       (λ t. let inside : at < length s = ltb-true at (length s) t in
       clause-suc k first at inside
       ∙ after-cong (tokenAt at) first at (tokenEnd s at) (clauseFrom s n k first (nextAt at)) (clauseFrom s n m first (nextAt at))
-      (λ v b e. clause-fuel k m first (nextAt at) (omega (arith, literal-moves at (tokenEnd s at) v b inside refl e, past-least isParting s (tokenEnd s at)))
-      (omega (arith, literal-moves at (tokenEnd s at) v b inside refl e, past-least isParting s (tokenEnd s at))))
+      (λ v b e. clause-fuel k m first (nextAt at) (omega (arith, literal-moves at (tokenEnd s at) v b inside refl e, between-least s (tokenEnd s at)))
+      (omega (arith, literal-moves at (tokenEnd s at) v b inside refl e, between-least s (tokenEnd s at))))
       ∙ sym (clause-suc m first at inside))
       (λ f. let outside : length s ≤ at = ltb-false at (length s) f in clause-end (suc k) first at outside ∙ sym (clause-end (suc m) first at outside))
 
@@ -110,7 +111,7 @@ module _ (s : List ℕ) (n first p q at : ℕ) where
       rest-literal v b next p′ q′ e f g h =
           let later : clauseFrom s n (length s - (at + 1)) first (between s end) ≡ clauseFrom s n (length s - between s end) first (between s end) =
           clause-fuel s n (length s - (at + 1)) (length s - between s end) first (between s end)
-          (omega (arith, literal-moves s n at end v b inside is e, past-least isParting s end)) (omega arith) in
+          (omega (arith, literal-moves s n at end v b inside is e, between-least s end)) (omega arith) in
           here ∙ rw (sym is, e, literal-words p q v b, later, sym f, sym g, sym h)
 
 -- ---- what comes next

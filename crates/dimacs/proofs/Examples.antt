@@ -91,8 +91,8 @@ abbrev tokens : List String → List Reading
 tokens texts = map (λ t. formula (bytes ("p cnf 1 1\n" ++ t))) texts
 
 no-number : tokens
-    ("-" ∷ᴸ "--1 0" ∷ᴸ "+1 0" ∷ᴸ "00" ∷ᴸ "01 0" ∷ᴸ "1 -0 0" ∷ᴸ "1x 0" ∷ᴸ "c" ∷ᴸ " -12a 0" ∷ᴸ []ᴸ)
-    ≡ (refusal 3 10 ∷ᴸ refusal 3 10 ∷ᴸ refusal 3 10 ∷ᴸ refusal 3 10 ∷ᴸ refusal 3 10 ∷ᴸ refusal 3 12 ∷ᴸ refusal 3 10 ∷ᴸ refusal 3 10 ∷ᴸ refusal 3 11 ∷ᴸ []ᴸ)
+    ("-" ∷ᴸ "--1 0" ∷ᴸ "+1 0" ∷ᴸ "00" ∷ᴸ "01 0" ∷ᴸ "1 -0 0" ∷ᴸ "1x 0" ∷ᴸ " c" ∷ᴸ " -12a 0" ∷ᴸ []ᴸ)
+    ≡ (refusal 3 10 ∷ᴸ refusal 3 10 ∷ᴸ refusal 3 10 ∷ᴸ refusal 3 10 ∷ᴸ refusal 3 10 ∷ᴸ refusal 3 12 ∷ᴸ refusal 3 10 ∷ᴸ refusal 3 11 ∷ᴸ refusal 3 11 ∷ᴸ []ᴸ)
 unfolding formula
 no-number = refl
 
@@ -110,3 +110,10 @@ too-many : tokens ("1 0 0" ∷ᴸ "1 0\nx" ∷ᴸ "1 0 2" ∷ᴸ []ᴸ)
     ≡ (clause (plus 1 ∷ᴸ []ᴸ) 10 (refusal 5 14) ∷ᴸ clause (plus 1 ∷ᴸ []ᴸ) 10 (refusal 5 14) ∷ᴸ clause (plus 1 ∷ᴸ []ᴸ) 10 (refusal 5 14) ∷ᴸ []ᴸ)
 unfolding formula
 too-many = refl
+
+-- Comment lines between clauses, inside an open clause and after the last one; a `c` behind a CR or a space is a token. (02, 1/14)
+comments : tokens ("c x\n1 0\n" ∷ᴸ "1\nc 0\nc\n-1 0" ∷ᴸ "1 0\nc 1 0" ∷ᴸ "1 0\rc 1 0" ∷ᴸ "c" ∷ᴸ "1\nc" ∷ᴸ "-\nc\n1 0" ∷ᴸ []ᴸ)
+    ≡ (clause (plus 1 ∷ᴸ []ᴸ) 14 complete ∷ᴸ clause (plus 1 ∷ᴸ minus 1 ∷ᴸ []ᴸ) 10 complete ∷ᴸ clause (plus 1 ∷ᴸ []ᴸ) 10 complete
+    ∷ᴸ clause (plus 1 ∷ᴸ []ᴸ) 10 (refusal 5 14) ∷ᴸ refusal 5 11 ∷ᴸ refusal 6 10 ∷ᴸ refusal 3 10 ∷ᴸ []ᴸ)
+unfolding formula
+comments = refl

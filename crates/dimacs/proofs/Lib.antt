@@ -9,3 +9,4 @@ pub mod Clauses
 pub mod Bounds
 pub mod Words
 pub mod Formula
+pub mod Between

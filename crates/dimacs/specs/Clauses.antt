@@ -13,7 +13,7 @@ use Rattle.dimacs.specs.declared.Token.{Token}
 use Rattle.dimacs.specs.declared.Token.the-variants.{Closing, Literal, Wrong}
 use Rattle.dimacs.specs.declared.Clause.{Clause}
 use Rattle.dimacs.specs.declared.Clause.the-variants.{Closed, End, Refused}
-use Rattle.dimacs.specs.Text.{past, tokenEnd, between}
+use Rattle.dimacs.specs.Text.{past, tokenEnd, betweenFrom, between}
 use Rattle.dimacs.specs.Numbers.{tokenOf}
 use Rattle.dimacs.specs.Header.{header}
 
@@ -40,7 +40,7 @@ afterToken (Literal v b) first place end rest = withLiteral (record { variable =
 -- The rest of an open clause, from the token at `at` on; its first token is at `first`. At most k tokens are left.
 -- "each clause closed by `0`"; 3 and 4 at "the token"; 6 "last clause open", at "the clause's first token".
 unfoldable pub clauseFrom : List ℕ → ℕ → ℕ → ℕ → ℕ → Next
-unfolding tokenOf past
+unfolding tokenOf betweenFrom
 clauseFrom s n zero first at = refused 6 first
 clauseFrom s n (suc k) first at =
     let end = tokenEnd s at in
@@ -56,7 +56,7 @@ clauseAt s n (suc left) first = let here = clauseFrom s n (length s - first) fir
 
 -- The next clause from `at` on, in a formula of n variables, where `left` clauses are wanted yet.
 unfoldable pub nextClause : List ℕ → ℕ → ℕ → ℕ → Next
-unfolding clauseAt past
+unfolding clauseAt betweenFrom
 nextClause s n left at = clauseAt s n left (between s at)
 
 -- ---- the formula

@@ -1,8 +1,8 @@
 -- The formula's bytes: which of them part lines and tokens, and runs of them. (01, The formula)
-use mathlib.Core.Bool.{Bool, not, _||_, cond}
+use mathlib.Core.Bool.{Bool, not, _&&_, _||_, cond}
 use mathlib.Core.List.{List, [], _∷_}
-use Prim.Native.Nat.{ℕ, suc, _+_}
-use lib.ListN.{drop}
+use Prim.Native.Nat.{ℕ, zero, suc, _+_, _-_}
+use lib.ListN.{length, getD, drop}
 use lib.Dec.{eqb}
 use Rattle.dimacs.specs.declared.Class.{Class}
 use Rattle.dimacs.specs.declared.Class.the-variants.{Space, Blank, Parting, Token, Line}
@@ -44,9 +44,21 @@ tokenEnd s at = past isToken s at
 abbrev pub lineEnd : List ℕ → ℕ → ℕ
 lineEnd s at = past isLine s at
 
--- What lies between two tokens is passed: the place of the next token, or the length.
+-- "A line whose first byte is `c`" starts at the place: a line starts at the text's first byte, and behind each LF. (02, 1/14)
+unfoldable pub isComment : List ℕ → ℕ → Bool
+isComment s at = eqb (getD s at 0) 99 && (eqb at 0 || eqb (getD s (at - 1) 0) 10)
+
+-- What lies between two tokens is passed: the place of the next token, or the length. A comment line is "skipped anywhere in the formula,
+-- also inside an open clause"; at most k of them are left.
+unfoldable pub betweenFrom : List ℕ → ℕ → ℕ → ℕ
+unfolding past isComment
+betweenFrom s zero at = past isParting s at
+betweenFrom s (suc k) at =
+    let first = past isParting s at in
+    let later = betweenFrom s k (lineEnd s first) in cond (isComment s first) later first
+
 abbrev pub between : List ℕ → ℕ → ℕ
-between s at = past isParting s at
+between s at = betweenFrom s (length s) at
 
 -- The classes of bytes that the code names.
 abbrev pub admitted : Class → ℕ → Bool

@@ -4,7 +4,7 @@ ghost use mathlib.Core.List.{[], _∷_};
 ghost use Prim.Native.Nat.{_+_, _-_, _*_, _≤_, _<_};
 ghost use lib.ListN.{length};
 ghost use lib.Seq.{slice};
-ghost use Rattle.dimacs.specs.Text.{isSpace, isBlank, isParting, admitted, past, between};
+ghost use Rattle.dimacs.specs.Text.{isSpace, isBlank, isParting, admitted, past, isComment, between};
 ghost use Rattle.dimacs.specs.Numbers.{isDigit, capped, digitsAfter, naturalOf, tokenOf, signedToken};
 ghost use Rattle.dimacs.specs.Header.{isPassed, judgedFrom, nextWord, word, isWord, endsLine, headerAt, header};
 ghost use Rattle.dimacs.specs.Clauses.{nextClause, clauseFrom, withVariable, clauseOf};
@@ -102,13 +102,37 @@ pub fn past_class(s: &[u8], at: usize, class: Class) -> usize
     i
 }
 
-// What lies between two tokens is passed: the place of the next token, or the length.
+// Whether a comment line starts at the place.
+fn is_comment(s: &[u8], at: usize) -> bool
+    requires { ⌜ at ≤ length (now s) ⌝ }
+    ensures { λ r. ⌜ r ≡ isComment (now (s .entry)) at ⌝ }
+{
+    if at == s.len() {
+        return false;
+    }
+    if s[at] != 99 {
+        return false;
+    }
+    if at == 0 {
+        return true;
+    }
+    s[at - 1] == 10
+}
+
+// What lies between two tokens is passed, comment lines too: the place of the next token, or the length.
 pub fn skip_between(s: &[u8], at: usize) -> usize
     requires { ⌜ at ≤ length (now s) ⌝ }
     ensures { λ r. ⌜ r ≡ between (now (s .entry)) at ⌝ }
     ensures { λ r. ⌜ (at ≤ r) × (r ≤ length (now (s .entry))) ⌝ }
 {
-    past_class(s, at, Class::Parting)
+    let mut place = at;
+    loop {
+        let first = past_class(s, place, Class::Parting);
+        if !is_comment(s, first) {
+            return first;
+        }
+        place = past_class(s, first, Class::Line);
+    }
 }
 
 // ---- numbers
