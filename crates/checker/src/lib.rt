@@ -32,7 +32,8 @@ pub fn conjunction(
     f: NodeNo,
     g: NodeNo,
 ) -> Single
-    ensures { λ r. ⌜ madeOf (now (vars .exit)) (now (lows .exit)) (now (highs .exit)) r ≡ operation Operation.Conjunction (now (vars .entry)) (now (lows .entry)) (now (highs .entry)) count (f .0) (g .0) ⌝ }
+    ensures { λ r. ⌜ madeOf (now (vars .exit)) (now (lows .exit)) (now (highs .exit)) r
+        ≡ operation Operation.Conjunction (now (vars .entry)) (now (lows .entry)) (now (highs .entry)) count (f .0) (g .0) ⌝ }
 {
     single::call::call(vars, lows, highs, count, Operation::Conjunction, f, g)
 }
@@ -45,7 +46,8 @@ pub fn negation(
     count: usize,
     f: NodeNo,
 ) -> Single
-    ensures { λ r. ⌜ madeOf (now (vars .exit)) (now (lows .exit)) (now (highs .exit)) r ≡ operation Operation.Negation (now (vars .entry)) (now (lows .entry)) (now (highs .entry)) count (f .0) 1 ⌝ }
+    ensures { λ r. ⌜ madeOf (now (vars .exit)) (now (lows .exit)) (now (highs .exit)) r
+        ≡ operation Operation.Negation (now (vars .entry)) (now (lows .entry)) (now (highs .entry)) count (f .0) 1 ⌝ }
 {
     single::call::call(vars, lows, highs, count, Operation::Negation, f, NodeNo(1))
 }
@@ -59,7 +61,8 @@ pub fn cofactor(
     f: NodeNo,
     g: NodeNo,
 ) -> Single
-    ensures { λ r. ⌜ madeOf (now (vars .exit)) (now (lows .exit)) (now (highs .exit)) r ≡ operation Operation.Cofactor (now (vars .entry)) (now (lows .entry)) (now (highs .entry)) count (f .0) (g .0) ⌝ }
+    ensures { λ r. ⌜ madeOf (now (vars .exit)) (now (lows .exit)) (now (highs .exit)) r
+        ≡ operation Operation.Cofactor (now (vars .entry)) (now (lows .entry)) (now (highs .entry)) count (f .0) (g .0) ⌝ }
 {
     single::call::call(vars, lows, highs, count, Operation::Cofactor, f, g)
 }
@@ -74,7 +77,8 @@ pub fn cofactor_literals(
     positive: u64,
     negative: u64,
 ) -> Single
-    ensures { λ r. ⌜ madeOf (now (vars .exit)) (now (lows .exit)) (now (highs .exit)) r ≡ operation (Operation.Literals positive negative) (now (vars .entry)) (now (lows .entry)) (now (highs .entry)) count (f .0) 1 ⌝ }
+    ensures { λ r. ⌜ madeOf (now (vars .exit)) (now (lows .exit)) (now (highs .exit)) r
+        ≡ operation (Operation.Literals positive negative) (now (vars .entry)) (now (lows .entry)) (now (highs .entry)) count (f .0) 1 ⌝ }
 {
     single::call::call(
         vars,
@@ -98,7 +102,9 @@ pub fn check<'a>(
     formula: &'a [u8],
     proof: &'a [u8],
 ) -> Checked
-    ensures { λ r. ⌜ outcomeOf (now (vars .exit)) (now (lows .exit)) (now (highs .exit)) (now (members .exit)) (now (scratch .exit)) r ≡ check (now (vars .entry)) (now (lows .entry)) (now (highs .entry)) count (now (members .entry)) (now (scratch .entry)) (now (formula .entry)) (now (proof .entry)) ⌝ }
+    ensures { λ r. ⌜ outcomeOf (now (vars .exit)) (now (lows .exit)) (now (highs .exit)) (now (members .exit)) (now (scratch .exit)) r
+        ≡ check (now (vars .entry)) (now (lows .entry)) (now (highs .entry)) count (now (members .entry)) (now (scratch .entry))
+        (now (formula .entry)) (now (proof .entry)) ⌝ }
 {
     session::call::call(vars, lows, highs, count, members, scratch, formula, proof)
 }

@@ -35,7 +35,10 @@ pub fn make(
     negative: u64,
 ) -> Placed
     requires { ⌜ Good (tableOf (now vars) (now lows) (now highs) (now heads) (now links) count) ⌝ }
-    ensures { λ r. ⌜ outcomeOf (now (vars .exit)) (now (lows .exit)) (now (highs .exit)) (now (heads .exit)) (now (links .exit)) r ≡ written (length (now (vars .entry))) (place (length (now (vars .entry))) (nodesOf (tableOf (now (vars .entry)) (now (lows .entry)) (now (highs .entry)) (now (heads .entry)) (now (links .entry)) count)) (clauseOfWords positive negative)) ⌝ }
+    ensures { λ r. ⌜ (
+        let before = tableOf (now (vars .entry)) (now (lows .entry)) (now (highs .entry)) (now (heads .entry)) (now (links .entry)) count in
+        outcomeOf (now (vars .exit)) (now (lows .exit)) (now (highs .exit)) (now (heads .exit)) (now (links .exit)) r
+        ≡ written (length (now (vars .entry))) (place (length (now (vars .entry))) (nodesOf before) (clauseOfWords positive negative))) ⌝ }
 {
     if positive & negative != 0 {
         return Placed {

@@ -66,9 +66,17 @@ fn some_negated(
     words: &[u64],
     touching: u64,
 ) -> bool
-    requires { ⌜ ListReady (tableOf (now vars) (now lows) (now highs) (now heads) (now links) count) (now list) (now memo) × (now marks ≡ setAll 1 (unmarked (length (now vars))) (now list)) ⌝ }
-    requires { ⌜ (isListed (now list) 0 ≡ false) × (length (now words) ≡ length (now list)) × Quiet (nodesOf (tableOf (now vars) (now lows) (now highs) (now heads) (now links) count)) (now list) (now words) touching ⌝ }
-    ensures { λ r. ⌜ r ≡ someNegated (diagramsOf (nodesOf (tableOf (now (vars .entry)) (now (lows .entry)) (now (highs .entry)) (now (heads .entry)) (now (links .entry)) count)) (now (list .entry))) ⌝ }
+    requires { ⌜ (
+        let before = tableOf (now vars) (now lows) (now highs) (now heads) (now links) count in
+        ListReady before (now list) (now memo) × (now marks ≡ setAll 1 (unmarked (length (now vars))) (now list))) ⌝ }
+    requires { ⌜ (
+        let before = tableOf (now vars) (now lows) (now highs) (now heads) (now links) count in
+        (isListed (now list) 0 ≡ false)
+        × (length (now words) ≡ length (now list))
+        × Quiet (nodesOf before) (now list) (now words) touching) ⌝ }
+    ensures { λ r. ⌜ (
+        let before = tableOf (now (vars .entry)) (now (lows .entry)) (now (highs .entry)) (now (heads .entry)) (now (links .entry)) count in
+        r ≡ someNegated (diagramsOf (nodesOf before) (now (list .entry)))) ⌝ }
 {
     walks::clear_memo(memo, count);
     let mut i: usize = 0;
@@ -100,9 +108,15 @@ pub fn conflicts(
     words: &[u64],
     touching: u64,
 ) -> bool
-    requires { ⌜ ListReady (tableOf (now vars) (now lows) (now highs) (now heads) (now links) count) (now list) (now memo) × (now marks ≡ unmarked (length (now vars))) ⌝ }
-    requires { ⌜ (length (now words) ≡ length (now list)) × Quiet (nodesOf (tableOf (now vars) (now lows) (now highs) (now heads) (now links) count)) (now list) (now words) touching ⌝ }
-    ensures { λ r. ⌜ r ≡ rules.conflicts 64 (diagramsOf (nodesOf (tableOf (now (vars .entry)) (now (lows .entry)) (now (highs .entry)) (now (heads .entry)) (now (links .entry)) count)) (now (list .entry))) ⌝ }
+    requires { ⌜ (
+        let before = tableOf (now vars) (now lows) (now highs) (now heads) (now links) count in
+        ListReady before (now list) (now memo) × (now marks ≡ unmarked (length (now vars)))) ⌝ }
+    requires { ⌜ (
+        let before = tableOf (now vars) (now lows) (now highs) (now heads) (now links) count in
+        (length (now words) ≡ length (now list)) × Quiet (nodesOf before) (now list) (now words) touching) ⌝ }
+    ensures { λ r. ⌜ (
+        let before = tableOf (now (vars .entry)) (now (lows .entry)) (now (highs .entry)) (now (heads .entry)) (now (links .entry)) count in
+        r ≡ rules.conflicts 64 (diagramsOf (nodesOf before) (now (list .entry)))) ⌝ }
     ensures { λ _. ⌜ now (marks .exit) ≡ unmarked (length (now (vars .entry))) ⌝ }
 {
     if has_zero(list) {

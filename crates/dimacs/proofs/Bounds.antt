@@ -9,7 +9,6 @@ use lib.ListN.{length}
 use lib.Seq.{slice}
 use lib.Dec.{ltb, leb}
 use borrow.Author.Tests.{ltb-true, ltb-false, leb-true}
-use Rattle.meaning.specs.Operations as meaning
 use Rattle.meaning.proofs.Clauses.{Within}
 use Rattle.dimacs.specs.declared.Header.{Header}
 use Rattle.dimacs.specs.declared.Header.the-variants.{Proper, Improper}

@@ -34,7 +34,8 @@ pub extern "C" fn cablesalak_conjunction(
     f: u16,
     g: u16,
 ) -> Single
-    ensures { λ r. ⌜ madeOf (now (vars .exit)) (now (lows .exit)) (now (highs .exit)) r ≡ operation Operation.Conjunction (now (vars .entry)) (now (lows .entry)) (now (highs .entry)) count f g ⌝ }
+    ensures { λ r. ⌜ madeOf (now (vars .exit)) (now (lows .exit)) (now (highs .exit)) r
+        ≡ operation Operation.Conjunction (now (vars .entry)) (now (lows .entry)) (now (highs .entry)) count f g ⌝ }
 {
     checker::conjunction(vars, lows, highs, count, NodeNo(f), NodeNo(g))
 }
@@ -48,7 +49,8 @@ pub extern "C" fn cablesalak_negation(
     count: usize,
     f: u16,
 ) -> Single
-    ensures { λ r. ⌜ madeOf (now (vars .exit)) (now (lows .exit)) (now (highs .exit)) r ≡ operation Operation.Negation (now (vars .entry)) (now (lows .entry)) (now (highs .entry)) count f 1 ⌝ }
+    ensures { λ r. ⌜ madeOf (now (vars .exit)) (now (lows .exit)) (now (highs .exit)) r
+        ≡ operation Operation.Negation (now (vars .entry)) (now (lows .entry)) (now (highs .entry)) count f 1 ⌝ }
 {
     checker::negation(vars, lows, highs, count, NodeNo(f))
 }
@@ -63,7 +65,8 @@ pub extern "C" fn cablesalak_cofactor(
     f: u16,
     g: u16,
 ) -> Single
-    ensures { λ r. ⌜ madeOf (now (vars .exit)) (now (lows .exit)) (now (highs .exit)) r ≡ operation Operation.Cofactor (now (vars .entry)) (now (lows .entry)) (now (highs .entry)) count f g ⌝ }
+    ensures { λ r. ⌜ madeOf (now (vars .exit)) (now (lows .exit)) (now (highs .exit)) r
+        ≡ operation Operation.Cofactor (now (vars .entry)) (now (lows .entry)) (now (highs .entry)) count f g ⌝ }
 {
     checker::cofactor(vars, lows, highs, count, NodeNo(f), NodeNo(g))
 }
@@ -79,7 +82,8 @@ pub extern "C" fn cablesalak_cofactor_literals(
     positive: u64,
     negative: u64,
 ) -> Single
-    ensures { λ r. ⌜ madeOf (now (vars .exit)) (now (lows .exit)) (now (highs .exit)) r ≡ operation (Operation.Literals positive negative) (now (vars .entry)) (now (lows .entry)) (now (highs .entry)) count f 1 ⌝ }
+    ensures { λ r. ⌜ madeOf (now (vars .exit)) (now (lows .exit)) (now (highs .exit)) r
+        ≡ operation (Operation.Literals positive negative) (now (vars .entry)) (now (lows .entry)) (now (highs .entry)) count f 1 ⌝ }
 {
     checker::cofactor_literals(vars, lows, highs, count, NodeNo(f), positive, negative)
 }
@@ -96,7 +100,9 @@ pub extern "C" fn cablesalak_check<'a>(
     formula: &'a [u8],
     proof: &'a [u8],
 ) -> Checked
-    ensures { λ r. ⌜ outcomeOf (now (vars .exit)) (now (lows .exit)) (now (highs .exit)) (now (members .exit)) (now (scratch .exit)) r ≡ check (now (vars .entry)) (now (lows .entry)) (now (highs .entry)) count (now (members .entry)) (now (scratch .entry)) (now (formula .entry)) (now (proof .entry)) ⌝ }
+    ensures { λ r. ⌜ outcomeOf (now (vars .exit)) (now (lows .exit)) (now (highs .exit)) (now (members .exit)) (now (scratch .exit)) r
+        ≡ check (now (vars .entry)) (now (lows .entry)) (now (highs .entry)) count (now (members .entry)) (now (scratch .entry))
+        (now (formula .entry)) (now (proof .entry)) ⌝ }
 {
     checker::check(vars, lows, highs, count, members, scratch, formula, proof)
 }

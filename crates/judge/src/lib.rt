@@ -64,10 +64,20 @@ fn by_negation(
     g: NodeNo,
     word: u64,
 ) -> Made
-    requires { ⌜ Negatable (tableOf (now vars) (now lows) (now highs) (now heads) (now links) count) (now members) (now memo) (g .0) × (length (now list) ≡ length (now members)) ⌝ }
-    requires { ⌜ Worded (tableOf (now vars) (now lows) (now highs) (now heads) (now links) count) (now members) (now given) (g .0) word × (length (now words) ≡ length (now members)) ⌝ }
-    ensures { λ r. ⌜ ByNegation (tableOf (now (vars .entry)) (now (lows .entry)) (now (highs .entry)) (now (heads .entry)) (now (links .entry)) count) (diagramsOf (nodesOf (tableOf (now (vars .entry)) (now (lows .entry)) (now (highs .entry)) (now (heads .entry)) (now (links .entry)) count)) (now (members .entry))) (diagramAt (nodesOf (tableOf (now (vars .entry)) (now (lows .entry)) (now (highs .entry)) (now (heads .entry)) (now (links .entry)) count)) (g .0)) (r .full) (tableOf (now (vars .exit)) (now (lows .exit)) (now (highs .exit)) (now (heads .exit)) (now (links .exit)) (r .count)) (now (list .exit)) ⌝ }
-    ensures { λ r. ⌜ (r .full ≡ false → Supports (nodesOf (tableOf (now (vars .exit)) (now (lows .exit)) (now (highs .exit)) (now (heads .exit)) (now (links .exit)) (r .count))) (now (list .exit)) (now (words .exit))) ⌝ }
+    requires { ⌜ (
+        let before = tableOf (now vars) (now lows) (now highs) (now heads) (now links) count in
+        Negatable before (now members) (now memo) (g .0) × (length (now list) ≡ length (now members))) ⌝ }
+    requires { ⌜ (
+        let before = tableOf (now vars) (now lows) (now highs) (now heads) (now links) count in
+        Worded before (now members) (now given) (g .0) word × (length (now words) ≡ length (now members))) ⌝ }
+    ensures { λ r. ⌜ (
+        let before = tableOf (now (vars .entry)) (now (lows .entry)) (now (highs .entry)) (now (heads .entry)) (now (links .entry)) count in
+        let after = tableOf (now (vars .exit)) (now (lows .exit)) (now (highs .exit)) (now (heads .exit)) (now (links .exit)) (r .count) in
+        ByNegation before (diagramsOf (nodesOf before) (now (members .entry))) (diagramAt (nodesOf before) (g .0)) (r .full) after
+        (now (list .exit))) ⌝ }
+    ensures { λ r. ⌜ (
+        let after = tableOf (now (vars .exit)) (now (lows .exit)) (now (highs .exit)) (now (heads .exit)) (now (links .exit)) (r .count) in
+        r .full ≡ false → Supports (nodesOf after) (now (list .exit)) (now (words .exit))) ⌝ }
 {
     copy(members, list);
     copy_words(given, words);
@@ -123,9 +133,18 @@ fn rup_with(
     root: NodeNo,
     word: u64,
 ) -> Judged
-    requires { ⌜ Negatable (tableOf (now vars) (now lows) (now highs) (now heads) (now links) count) (now members) (now memo) (root .0) × (now marks ≡ unmarked (length (now vars))) × (length (now list) ≡ length (now members)) ⌝ }
-    requires { ⌜ Worded (tableOf (now vars) (now lows) (now highs) (now heads) (now links) count) (now members) (now given) (root .0) word × (length (now words) ≡ length (now members)) ⌝ }
-    ensures { λ r. ⌜ Says (tableOf (now (vars .entry)) (now (lows .entry)) (now (highs .entry)) (now (heads .entry)) (now (links .entry)) count) (rup 64 (diagramsOf (nodesOf (tableOf (now (vars .entry)) (now (lows .entry)) (now (highs .entry)) (now (heads .entry)) (now (links .entry)) count)) (now (members .entry))) (diagramAt (nodesOf (tableOf (now (vars .entry)) (now (lows .entry)) (now (highs .entry)) (now (heads .entry)) (now (links .entry)) count)) (root .0))) 64 r (tableOf (now (vars .exit)) (now (lows .exit)) (now (highs .exit)) (now (heads .exit)) (now (links .exit)) (r .count)) ⌝ }
+    requires { ⌜ (
+        let before = tableOf (now vars) (now lows) (now highs) (now heads) (now links) count in
+        Negatable before (now members) (now memo) (root .0)
+        × (now marks ≡ unmarked (length (now vars)))
+        × (length (now list) ≡ length (now members))) ⌝ }
+    requires { ⌜ (
+        let before = tableOf (now vars) (now lows) (now highs) (now heads) (now links) count in
+        Worded before (now members) (now given) (root .0) word × (length (now words) ≡ length (now members))) ⌝ }
+    ensures { λ r. ⌜ (
+        let before = tableOf (now (vars .entry)) (now (lows .entry)) (now (highs .entry)) (now (heads .entry)) (now (links .entry)) count in
+        let after = tableOf (now (vars .exit)) (now (lows .exit)) (now (highs .exit)) (now (heads .exit)) (now (links .exit)) (r .count) in
+        Says before (rup 64 (diagramsOf (nodesOf before) (now (members .entry))) (diagramAt (nodesOf before) (root .0))) 64 r after) ⌝ }
     ensures { λ _. ⌜ now (marks .exit) ≡ unmarked (length (now (vars .entry))) ⌝ }
 {
     let made = by_negation(
@@ -187,9 +206,16 @@ pub fn rup(
     count: usize,
     root: NodeNo,
 ) -> Judged
-    requires { ⌜ Negatable (tableOf (now vars) (now lows) (now highs) (now heads) (now links) count) (now members) (now memo) (root .0) × (now marks ≡ unmarked (length (now vars))) × (length (now list) ≡ length (now members)) ⌝ }
+    requires { ⌜ (
+        let before = tableOf (now vars) (now lows) (now highs) (now heads) (now links) count in
+        Negatable before (now members) (now memo) (root .0)
+        × (now marks ≡ unmarked (length (now vars)))
+        × (length (now list) ≡ length (now members))) ⌝ }
     requires { ⌜ (length (now given) ≡ length (now members)) × (length (now words) ≡ length (now members)) ⌝ }
-    ensures { λ r. ⌜ Says (tableOf (now (vars .entry)) (now (lows .entry)) (now (highs .entry)) (now (heads .entry)) (now (links .entry)) count) (rup 64 (diagramsOf (nodesOf (tableOf (now (vars .entry)) (now (lows .entry)) (now (highs .entry)) (now (heads .entry)) (now (links .entry)) count)) (now (members .entry))) (diagramAt (nodesOf (tableOf (now (vars .entry)) (now (lows .entry)) (now (highs .entry)) (now (heads .entry)) (now (links .entry)) count)) (root .0))) 64 r (tableOf (now (vars .exit)) (now (lows .exit)) (now (highs .exit)) (now (heads .exit)) (now (links .exit)) (r .count)) ⌝ }
+    ensures { λ r. ⌜ (
+        let before = tableOf (now (vars .entry)) (now (lows .entry)) (now (highs .entry)) (now (heads .entry)) (now (links .entry)) count in
+        let after = tableOf (now (vars .exit)) (now (lows .exit)) (now (highs .exit)) (now (heads .exit)) (now (links .exit)) (r .count) in
+        Says before (rup 64 (diagramsOf (nodesOf before) (now (members .entry))) (diagramAt (nodesOf before) (root .0))) 64 r after) ⌝ }
     ensures { λ _. ⌜ now (marks .exit) ≡ unmarked (length (now (vars .entry))) ⌝ }
 {
     supports::supports_of(vars, lows, highs, memo, count, members, given);
@@ -232,9 +258,22 @@ fn turn(
     positive: u64,
     negative: u64,
 ) -> Judged
-    requires { ⌜ ListReady (tableOf (now vars) (now lows) (now highs) (now heads) (now links) count) (now first) (now memo) × (now marks ≡ unmarked (length (now vars))) × (length (now second) ≡ length (now first)) × (f .0 < count) ⌝ }
-    requires { ⌜ Worded (tableOf (now vars) (now lows) (now highs) (now heads) (now links) count) (now first) (now firsts) (f .0) word × (length (now seconds) ≡ length (now first)) ⌝ }
-    ensures { λ r. ⌜ Says (tableOf (now (vars .entry)) (now (lows .entry)) (now (highs .entry)) (now (heads .entry)) (now (links .entry)) count) (prTurns 64 (inWord positive) (inWord negative) (diagramsOf (nodesOf (tableOf (now (vars .entry)) (now (lows .entry)) (now (highs .entry)) (now (heads .entry)) (now (links .entry)) count)) (now (first .entry))) (diagramAt (nodesOf (tableOf (now (vars .entry)) (now (lows .entry)) (now (highs .entry)) (now (heads .entry)) (now (links .entry)) count)) (f .0) ∷ [])) 64 r (tableOf (now (vars .exit)) (now (lows .exit)) (now (highs .exit)) (now (heads .exit)) (now (links .exit)) (r .count)) ⌝ }
+    requires { ⌜ (
+        let before = tableOf (now vars) (now lows) (now highs) (now heads) (now links) count in
+        ListReady before (now first) (now memo)
+        × (now marks ≡ unmarked (length (now vars)))
+        × (length (now second) ≡ length (now first))
+        × (f .0 < count)) ⌝ }
+    requires { ⌜ (
+        let before = tableOf (now vars) (now lows) (now highs) (now heads) (now links) count in
+        Worded before (now first) (now firsts) (f .0) word × (length (now seconds) ≡ length (now first))) ⌝ }
+    ensures { λ r. ⌜ (
+        let before = tableOf (now (vars .entry)) (now (lows .entry)) (now (highs .entry)) (now (heads .entry)) (now (links .entry)) count in
+        let after = tableOf (now (vars .exit)) (now (lows .exit)) (now (highs .exit)) (now (heads .exit)) (now (links .exit)) (r .count) in
+        Says before
+        (prTurns 64 (inWord positive) (inWord negative) (diagramsOf (nodesOf before) (now (first .entry)))
+        (diagramAt (nodesOf before) (f .0) ∷ []))
+        64 r after) ⌝ }
     ensures { λ _. ⌜ now (marks .exit) ≡ unmarked (length (now (vars .entry))) ⌝ }
 {
     if walks::is_constant(vars, lows, highs, memo, count, f, positive, negative, true) {
@@ -303,9 +342,27 @@ fn turns(
     positive: u64,
     negative: u64,
 ) -> Judged
-    requires { ⌜ ListReady (tableOf (now vars) (now lows) (now highs) (now heads) (now links) count) (now first) (now memo) × (now marks ≡ unmarked (length (now vars))) × (length (now second) ≡ length (now first)) × Inside count (now members) × (length (now members) ≤ 65536) ⌝ }
-    requires { ⌜ (length (now given) ≡ length (now members)) × Supports (nodesOf (tableOf (now vars) (now lows) (now highs) (now heads) (now links) count)) (now members) (now given) × (length (now firsts) ≡ length (now first)) × Supports (nodesOf (tableOf (now vars) (now lows) (now highs) (now heads) (now links) count)) (now first) (now firsts) × (length (now seconds) ≡ length (now first)) ⌝ }
-    ensures { λ r. ⌜ Says (tableOf (now (vars .entry)) (now (lows .entry)) (now (highs .entry)) (now (heads .entry)) (now (links .entry)) count) (prTurns 64 (inWord positive) (inWord negative) (diagramsOf (nodesOf (tableOf (now (vars .entry)) (now (lows .entry)) (now (highs .entry)) (now (heads .entry)) (now (links .entry)) count)) (now (first .entry))) (diagramsOf (nodesOf (tableOf (now (vars .entry)) (now (lows .entry)) (now (highs .entry)) (now (heads .entry)) (now (links .entry)) count)) (now (members .entry)))) (64 * length (now (members .entry))) r (tableOf (now (vars .exit)) (now (lows .exit)) (now (highs .exit)) (now (heads .exit)) (now (links .exit)) (r .count)) ⌝ }
+    requires { ⌜ (
+        let before = tableOf (now vars) (now lows) (now highs) (now heads) (now links) count in
+        ListReady before (now first) (now memo)
+        × (now marks ≡ unmarked (length (now vars)))
+        × (length (now second) ≡ length (now first))
+        × Inside count (now members)
+        × (length (now members) ≤ 65536)) ⌝ }
+    requires { ⌜ (
+        let before = tableOf (now vars) (now lows) (now highs) (now heads) (now links) count in
+        (length (now given) ≡ length (now members))
+        × Supports (nodesOf before) (now members) (now given)
+        × (length (now firsts) ≡ length (now first))
+        × Supports (nodesOf before) (now first) (now firsts)
+        × (length (now seconds) ≡ length (now first))) ⌝ }
+    ensures { λ r. ⌜ (
+        let before = tableOf (now (vars .entry)) (now (lows .entry)) (now (highs .entry)) (now (heads .entry)) (now (links .entry)) count in
+        let after = tableOf (now (vars .exit)) (now (lows .exit)) (now (highs .exit)) (now (heads .exit)) (now (links .exit)) (r .count) in
+        Says before
+        (prTurns 64 (inWord positive) (inWord negative) (diagramsOf (nodesOf before) (now (first .entry)))
+        (diagramsOf (nodesOf before) (now (members .entry))))
+        (64 * length (now (members .entry))) r after) ⌝ }
     ensures { λ _. ⌜ now (marks .exit) ≡ unmarked (length (now (vars .entry))) ⌝ }
 {
     let mut rounds: u64 = 0;
@@ -380,9 +437,23 @@ pub fn pr(
     positive: u64,
     negative: u64,
 ) -> Judged
-    requires { ⌜ Negatable (tableOf (now vars) (now lows) (now highs) (now heads) (now links) count) (now members) (now memo) (root .0) × (now marks ≡ unmarked (length (now vars))) × (length (now first) ≡ length (now members)) × (length (now second) ≡ length (now members)) × (length (now members) ≤ 65536) ⌝ }
-    requires { ⌜ (length (now given) ≡ length (now members)) × (length (now firsts) ≡ length (now members)) × (length (now seconds) ≡ length (now members)) ⌝ }
-    ensures { λ r. ⌜ Says (tableOf (now (vars .entry)) (now (lows .entry)) (now (highs .entry)) (now (heads .entry)) (now (links .entry)) count) (pr 64 (inWord positive) (inWord negative) (diagramsOf (nodesOf (tableOf (now (vars .entry)) (now (lows .entry)) (now (highs .entry)) (now (heads .entry)) (now (links .entry)) count)) (now (members .entry))) (diagramAt (nodesOf (tableOf (now (vars .entry)) (now (lows .entry)) (now (highs .entry)) (now (heads .entry)) (now (links .entry)) count)) (root .0))) (64 * length (now (members .entry))) r (tableOf (now (vars .exit)) (now (lows .exit)) (now (highs .exit)) (now (heads .exit)) (now (links .exit)) (r .count)) ⌝ }
+    requires { ⌜ (
+        let before = tableOf (now vars) (now lows) (now highs) (now heads) (now links) count in
+        Negatable before (now members) (now memo) (root .0)
+        × (now marks ≡ unmarked (length (now vars)))
+        × (length (now first) ≡ length (now members))
+        × (length (now second) ≡ length (now members))
+        × (length (now members) ≤ 65536)) ⌝ }
+    requires { ⌜ (length (now given) ≡ length (now members))
+        × (length (now firsts) ≡ length (now members))
+        × (length (now seconds) ≡ length (now members)) ⌝ }
+    ensures { λ r. ⌜ (
+        let before = tableOf (now (vars .entry)) (now (lows .entry)) (now (highs .entry)) (now (heads .entry)) (now (links .entry)) count in
+        let after = tableOf (now (vars .exit)) (now (lows .exit)) (now (highs .exit)) (now (heads .exit)) (now (links .exit)) (r .count) in
+        Says before
+        (pr 64 (inWord positive) (inWord negative) (diagramsOf (nodesOf before) (now (members .entry)))
+        (diagramAt (nodesOf before) (root .0)))
+        (64 * length (now (members .entry))) r after) ⌝ }
     ensures { λ _. ⌜ now (marks .exit) ≡ unmarked (length (now (vars .entry))) ⌝ }
 {
     supports::supports_of(vars, lows, highs, memo, count, members, given);

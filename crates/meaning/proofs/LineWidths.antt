@@ -2,16 +2,16 @@
 -- what it makes included. The idea: each operation of the rules has this law, and no cofactor is by 0. Assumes nothing.
 use mathlib.Core.Path.{_≡_, refl, sym, ap, ap₂, _∙_}
 use mathlib.Core.Logic.{_≢_}
-use mathlib.Core.Bool.{Bool, true, false, not, cond}
-use mathlib.Core.List.{List, [], _∷_, _++_, map}
-use Prim.Native.Nat.{ℕ, zero, suc, _+_, _≤_}
-use Rattle.meaning.specs.Diagram.{Diagram, leaf, node, same, Reduced}
-use Rattle.meaning.specs.Operations.{negation, cofactor, cofactorLiterals}
+use mathlib.Core.Bool.{Bool, true, false, cond}
+use mathlib.Core.List.{List, [], _∷_}
+use Prim.Native.Nat.{ℕ, suc, _≤_}
+use Rattle.meaning.specs.Diagram.{Diagram, leaf, same, Reduced}
+use Rattle.meaning.specs.Operations.{negation, cofactorLiterals}
 use Rattle.meaning.specs.Rules.{Propagation, Line, unitProp, byDiagram, base, rup, afterTurn, prTurns, witnessed, pr}
 use Rattle.meaning.proofs.Booleans.{t≢f}
 use Rattle.meaning.proofs.Pointwise.{negation-reduced, literals-reduced}
 use Rattle.meaning.proofs.PointwiseSteps.{negation-leaf, negation-twice, negation-width, literals-width}
-use Rattle.meaning.proofs.Units.{same-eq, eq-same}
+use Rattle.meaning.proofs.Units.{eq-same}
 use Rattle.meaning.proofs.Cofactor.{cofactor-reduced}
 use Rattle.meaning.proofs.CofactorSteps.{cofactor-width}
 use Rattle.meaning.proofs.Ends.{AllReduced, map-reduced}

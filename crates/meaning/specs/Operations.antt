@@ -5,7 +5,7 @@ use mathlib.Core.List.{List, [], _∷_, _++_, map}
 use mathlib.Core.Option.{Option, none, some}
 use Prim.Native.Nat.{ℕ, zero, suc, _+_, _-_, _^_}
 use lib.Dec.{leb}
-use Rattle.meaning.specs.Diagram.{Assignment, holds, Diagram, leaf, node, value, diagram}
+use Rattle.meaning.specs.Diagram.{Assignment, holds, Diagram, value, diagram}
 
 -- ---- clauses and entries
 

@@ -18,8 +18,12 @@ pub fn negation_in(
     count: usize,
     f: NodeNo,
 ) -> Found
-    requires { ⌜ Good (tableOf (now vars) (now lows) (now highs) (now heads) (now links) count) × (f .0 < count) × Roomy (now vars) (now memo) ⌝ }
-    ensures { λ r. ⌜ Negates (tableOf (now (vars .entry)) (now (lows .entry)) (now (highs .entry)) (now (heads .entry)) (now (links .entry)) count) (f .0) r ⌝ }
+    requires { ⌜ (
+        let before = tableOf (now vars) (now lows) (now highs) (now heads) (now links) count in
+        Good before × (f .0 < count) × Roomy (now vars) (now memo)) ⌝ }
+    ensures { λ r. ⌜ (
+        let before = tableOf (now (vars .entry)) (now (lows .entry)) (now (highs .entry)) (now (heads .entry)) (now (links .entry)) count in
+        Negates before (f .0) r) ⌝ }
 {
     walks::clear_memo(memo, count);
     negation_from(vars, lows, highs, heads, links, memo, count, f)
@@ -37,8 +41,12 @@ pub fn negation_from(
     f: NodeNo,
 ) -> Found
     requires { ⌜ NegationReady (now memo) (tableOf (now vars) (now lows) (now highs) (now heads) (now links) count) (f .0) ⌝ }
-    ensures { λ r. ⌜ Negates (tableOf (now (vars .entry)) (now (lows .entry)) (now (highs .entry)) (now (heads .entry)) (now (links .entry)) count) (f .0) r ⌝ }
-    ensures { λ _. ⌜ NegationMemo (now (memo .exit)) (tableOf (now (vars .entry)) (now (lows .entry)) (now (highs .entry)) (now (heads .entry)) (now (links .entry)) count) ⌝ }
+    ensures { λ r. ⌜ (
+        let before = tableOf (now (vars .entry)) (now (lows .entry)) (now (highs .entry)) (now (heads .entry)) (now (links .entry)) count in
+        Negates before (f .0) r) ⌝ }
+    ensures { λ _. ⌜ (
+        let before = tableOf (now (vars .entry)) (now (lows .entry)) (now (highs .entry)) (now (heads .entry)) (now (links .entry)) count in
+        NegationMemo (now (memo .exit)) before) ⌝ }
 {
     if f.0 == 0 {
         return Found::At(NodeNo(1));
@@ -68,8 +76,12 @@ fn negation_over(
     f: NodeNo,
 ) -> Found
     requires { ⌜ NegationReady (now memo) (tableOf (now vars) (now lows) (now highs) (now heads) (now links) count) (f .0) × (2 ≤ f .0) ⌝ }
-    ensures { λ r. ⌜ Negates (tableOf (now (vars .entry)) (now (lows .entry)) (now (highs .entry)) (now (heads .entry)) (now (links .entry)) count) (f .0) r ⌝ }
-    ensures { λ _. ⌜ NegationMemo (now (memo .exit)) (tableOf (now (vars .entry)) (now (lows .entry)) (now (highs .entry)) (now (heads .entry)) (now (links .entry)) count) ⌝ }
+    ensures { λ r. ⌜ (
+        let before = tableOf (now (vars .entry)) (now (lows .entry)) (now (highs .entry)) (now (heads .entry)) (now (links .entry)) count in
+        Negates before (f .0) r) ⌝ }
+    ensures { λ _. ⌜ (
+        let before = tableOf (now (vars .entry)) (now (lows .entry)) (now (highs .entry)) (now (heads .entry)) (now (links .entry)) count in
+        NegationMemo (now (memo .exit)) before) ⌝ }
 {
     let i = f.0 as usize;
     let v = vars[i];

@@ -20,7 +20,9 @@ pub fn places(len: usize) -> usize
 // The first n nodes into the columns' first places.
 pub fn load(nodes: &[Node], n: usize, vars: &mut [u8], lows: &mut [u16], highs: &mut [u16])
     requires { ⌜ (n ≤ length (now nodes)) × (n ≤ length (now vars)) × (n ≤ length (now lows)) × (n ≤ length (now highs)) ⌝ }
-    ensures { λ _. ⌜ (now (vars .exit) ≡ varsOf (take n (now (nodes .entry))) ++ drop n (now (vars .entry))) × (now (lows .exit) ≡ lowsOf (take n (now (nodes .entry))) ++ drop n (now (lows .entry))) × (now (highs .exit) ≡ highsOf (take n (now (nodes .entry))) ++ drop n (now (highs .entry))) ⌝ }
+    ensures { λ _. ⌜ (now (vars .exit) ≡ varsOf (take n (now (nodes .entry))) ++ drop n (now (vars .entry)))
+        × (now (lows .exit) ≡ lowsOf (take n (now (nodes .entry))) ++ drop n (now (lows .entry)))
+        × (now (highs .exit) ≡ highsOf (take n (now (nodes .entry))) ++ drop n (now (highs .entry))) ⌝ }
 {
     let mut i: usize = 0;
     while i < n {
@@ -35,7 +37,8 @@ pub fn load(nodes: &[Node], n: usize, vars: &mut [u8], lows: &mut [u16], highs: 
 // The columns' first n places into the first n nodes.
 pub fn save(nodes: &mut [Node], n: usize, vars: &[u8], lows: &[u16], highs: &[u16])
     requires { ⌜ (n ≤ length (now nodes)) × (n ≤ length (now vars)) × (n ≤ length (now lows)) × (n ≤ length (now highs)) ⌝ }
-    ensures { λ _. ⌜ now (nodes .exit) ≡ nodesOf (take n (now (vars .entry))) (take n (now (lows .entry))) (take n (now (highs .entry))) ++ drop n (now (nodes .entry)) ⌝ }
+    ensures { λ _. ⌜ now (nodes .exit)
+        ≡ nodesOf (take n (now (vars .entry))) (take n (now (lows .entry))) (take n (now (highs .entry))) ++ drop n (now (nodes .entry)) ⌝ }
 {
     let mut i: usize = 0;
     while i < n {

@@ -1,4 +1,5 @@
-// The calls of the face over the node table as one lent slice of node structs. Each tests for itself all that it needs, and none has a `requires`.
+// The calls of the face over the node table as one lent slice of node structs. Each tests for itself all that it needs,
+// and none has a `requires`.
 mod columns;
 mod within;
 
@@ -31,7 +32,10 @@ pub extern "C" fn cablesalak_check_nodes<'a>(
     formula: &'a [u8],
     proof: &'a [u8],
 ) -> Checked
-    ensures { λ r. ⌜ outcomeOf (varsOf (now (nodes .exit))) (lowsOf (now (nodes .exit))) (highsOf (now (nodes .exit))) (now (members .exit)) (now (scratch .exit)) r ≡ check (varsOf (now (nodes .entry))) (lowsOf (now (nodes .entry))) (highsOf (now (nodes .entry))) count (now (members .entry)) (now (scratch .entry)) (now (formula .entry)) (now (proof .entry)) ⌝ }
+    ensures { λ r. ⌜ outcomeOf (varsOf (now (nodes .exit))) (lowsOf (now (nodes .exit))) (highsOf (now (nodes .exit))) (now (members .exit))
+        (now (scratch .exit)) r
+        ≡ check (varsOf (now (nodes .entry))) (lowsOf (now (nodes .entry))) (highsOf (now (nodes .entry))) count (now (members .entry))
+        (now (scratch .entry)) (now (formula .entry)) (now (proof .entry)) ⌝ }
 {
     let mut vars = [0u8; 65536];
     let mut lows = [0u16; 65536];
@@ -55,7 +59,9 @@ pub extern "C" fn cablesalak_check_nodes<'a>(
 
 // Conjunction, negation and the two cofactors; an operation of one diagram looks at f alone. Or 7, 26, 13, 27, 15, 23.
 pub fn operation(nodes: &mut [Node], count: usize, op: Operation, f: NodeNo, g: NodeNo) -> Single
-    ensures { λ r. ⌜ madeOf (varsOf (now (nodes .exit))) (lowsOf (now (nodes .exit))) (highsOf (now (nodes .exit))) r ≡ operation op (varsOf (now (nodes .entry))) (lowsOf (now (nodes .entry))) (highsOf (now (nodes .entry))) count (f .0) (secondOf op (g .0)) ⌝ }
+    ensures { λ r. ⌜ madeOf (varsOf (now (nodes .exit))) (lowsOf (now (nodes .exit))) (highsOf (now (nodes .exit))) r
+        ≡ operation op (varsOf (now (nodes .entry))) (lowsOf (now (nodes .entry))) (highsOf (now (nodes .entry))) count (f .0)
+        (secondOf op (g .0)) ⌝ }
 {
     let mut vars = [0u8; 65536];
     let mut lows = [0u16; 65536];
@@ -84,7 +90,8 @@ pub extern "C" fn cablesalak_evaluate_nodes(
     node: NodeNo,
     word: u64,
 ) -> Evaluated
-    ensures { λ r. ⌜ r ≡ evaluation (varsOf (now (nodes .entry))) (lowsOf (now (nodes .entry))) (highsOf (now (nodes .entry))) count (node .0) word ⌝ }
+    ensures { λ r. ⌜ r
+        ≡ evaluation (varsOf (now (nodes .entry))) (lowsOf (now (nodes .entry))) (highsOf (now (nodes .entry))) count (node .0) word ⌝ }
 {
     let mut vars = [0u8; 65536];
     let mut lows = [0u16; 65536];

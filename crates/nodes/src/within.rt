@@ -25,7 +25,10 @@ pub fn check_within<'a>(
     proof: &'a [u8],
 ) -> Checked
     requires { ⌜ (length (now vars) ≡ 65536) × (length (now lows) ≡ 65536) × (length (now highs) ≡ 65536) ⌝ }
-    ensures { λ r. ⌜ outcomeOf (take n (now (vars .exit))) (take n (now (lows .exit))) (take n (now (highs .exit))) (now (members .exit)) (now (scratch .exit)) r ≡ checkWithin n (now (vars .entry)) (now (lows .entry)) (now (highs .entry)) count (now (members .entry)) (now (scratch .entry)) (now (formula .entry)) (now (proof .entry)) ⌝ }
+    ensures { λ r. ⌜ outcomeOf (take n (now (vars .exit))) (take n (now (lows .exit))) (take n (now (highs .exit))) (now (members .exit))
+        (now (scratch .exit)) r
+        ≡ checkWithin n (now (vars .entry)) (now (lows .entry)) (now (highs .entry)) count (now (members .entry)) (now (scratch .entry))
+        (now (formula .entry)) (now (proof .entry)) ⌝ }
 {
     if 65536 < n {
         return Checked {
@@ -72,7 +75,8 @@ pub fn operation_within(
     g: NodeNo,
 ) -> Single
     requires { ⌜ (length (now vars) ≡ 65536) × (length (now lows) ≡ 65536) × (length (now highs) ≡ 65536) ⌝ }
-    ensures { λ r. ⌜ madeOf (take n (now (vars .exit))) (take n (now (lows .exit))) (take n (now (highs .exit))) r ≡ operationWithin op n (now (vars .entry)) (now (lows .entry)) (now (highs .entry)) count (f .0) (g .0) ⌝ }
+    ensures { λ r. ⌜ madeOf (take n (now (vars .exit))) (take n (now (lows .exit))) (take n (now (highs .exit))) r
+        ≡ operationWithin op n (now (vars .entry)) (now (lows .entry)) (now (highs .entry)) count (f .0) (g .0) ⌝ }
 {
     if 65536 < n {
         return Single {

@@ -1,5 +1,4 @@
 -- The operations on diagrams that the table's nodes are made by, at 64 variables.
-use Prim.Native.Nat.{_-_}
 use Rattle.meaning.specs.Diagram.{Diagram}
 use Rattle.meaning.specs.Operations.{conjunction, negation, cofactor, cofactorLiterals}
 use Rattle.meaning.specs.Words.{inWord}

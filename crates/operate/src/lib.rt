@@ -7,7 +7,8 @@ ghost use mathlib.Core.Path.{_≡_};
 ghost use Prim.Native.Nat.{_≤_, _<_};
 ghost use lib.ListN.{length};
 ghost use Rattle.table.specs.Indexed.{tableOf, outcomeOf};
-ghost use Rattle.operate.specs.Inner.{applied, terminalOf, level, top, childOr, sidesOf, stepOf, MemoRight, Ready, SidesReady, joinedOf};
+ghost use Rattle.operate.specs.Inner.{applied, terminalOf, level, top, childOr, sidesOf, stepOf, MemoRight};
+ghost use Rattle.operate.specs.Inner.{Ready, SidesReady, joinedOf};
 
 pub mod memo;
 
@@ -120,7 +121,10 @@ fn child_or(vars: &[u8], column: &[u16], f: NodeNo, x: u8) -> NodeNo
 }
 
 fn sides_of(vars: &[u8], lows: &[u16], highs: &[u16], f: NodeNo, g: NodeNo) -> Sides
-    requires { ⌜ (f .0 < length (now vars)) × (g .0 < length (now vars)) × (length (now lows) ≡ length (now vars)) × (length (now highs) ≡ length (now vars)) ⌝ }
+    requires { ⌜ (f .0 < length (now vars))
+        × (g .0 < length (now vars))
+        × (length (now lows) ≡ length (now vars))
+        × (length (now highs) ≡ length (now vars)) ⌝ }
     ensures { λ r. ⌜ r ≡ sidesOf (now (vars .entry)) (now (lows .entry)) (now (highs .entry)) (f .0) (g .0) ⌝ }
 {
     let x = top_of(vars, f, g);
@@ -178,8 +182,13 @@ pub fn apply(
     g: NodeNo,
 ) -> Placed
     requires { ⌜ Ready op (now memo) (tableOf (now vars) (now lows) (now highs) (now heads) (now links) count) (f .0) (g .0) ⌝ }
-    ensures { λ r. ⌜ outcomeOf (now (vars .exit)) (now (lows .exit)) (now (highs .exit)) (now (heads .exit)) (now (links .exit)) r ≡ applied (tableOf (now (vars .entry)) (now (lows .entry)) (now (highs .entry)) (now (heads .entry)) (now (links .entry)) count) op (f .0) (g .0) ⌝ }
-    ensures { λ r. ⌜ MemoRight op (now (memo .exit)) (tableOf (now (vars .exit)) (now (lows .exit)) (now (highs .exit)) (now (heads .exit)) (now (links .exit)) (r .count)) ⌝ }
+    ensures { λ r. ⌜ (
+        let before = tableOf (now (vars .entry)) (now (lows .entry)) (now (highs .entry)) (now (heads .entry)) (now (links .entry)) count in
+        outcomeOf (now (vars .exit)) (now (lows .exit)) (now (highs .exit)) (now (heads .exit)) (now (links .exit)) r
+        ≡ applied before op (f .0) (g .0)) ⌝ }
+    ensures { λ r. ⌜ (
+        let after = tableOf (now (vars .exit)) (now (lows .exit)) (now (highs .exit)) (now (heads .exit)) (now (links .exit)) (r .count) in
+        MemoRight op (now (memo .exit)) after) ⌝ }
 {
     match terminal(op, f, g) {
         Found::At(r) => Placed {
@@ -218,9 +227,16 @@ fn descend(
     f: NodeNo,
     g: NodeNo,
 ) -> Placed
-    requires { ⌜ Ready op (now memo) (tableOf (now vars) (now lows) (now highs) (now heads) (now links) count) (f .0) (g .0) × (terminalOf op (f .0) (g .0) ≡ Found.Nothing) ⌝ }
-    ensures { λ r. ⌜ outcomeOf (now (vars .exit)) (now (lows .exit)) (now (highs .exit)) (now (heads .exit)) (now (links .exit)) r ≡ applied (tableOf (now (vars .entry)) (now (lows .entry)) (now (highs .entry)) (now (heads .entry)) (now (links .entry)) count) op (f .0) (g .0) ⌝ }
-    ensures { λ r. ⌜ MemoRight op (now (memo .exit)) (tableOf (now (vars .exit)) (now (lows .exit)) (now (highs .exit)) (now (heads .exit)) (now (links .exit)) (r .count)) ⌝ }
+    requires { ⌜ (
+        let before = tableOf (now vars) (now lows) (now highs) (now heads) (now links) count in
+        Ready op (now memo) before (f .0) (g .0) × (terminalOf op (f .0) (g .0) ≡ Found.Nothing)) ⌝ }
+    ensures { λ r. ⌜ (
+        let before = tableOf (now (vars .entry)) (now (lows .entry)) (now (highs .entry)) (now (heads .entry)) (now (links .entry)) count in
+        outcomeOf (now (vars .exit)) (now (lows .exit)) (now (highs .exit)) (now (heads .exit)) (now (links .exit)) r
+        ≡ applied before op (f .0) (g .0)) ⌝ }
+    ensures { λ r. ⌜ (
+        let after = tableOf (now (vars .exit)) (now (lows .exit)) (now (highs .exit)) (now (heads .exit)) (now (links .exit)) (r .count) in
+        MemoRight op (now (memo .exit)) after) ⌝ }
 {
     let s = sides_of(vars, lows, highs, f, g);
     match step_of(op, s) {
@@ -242,8 +258,13 @@ fn join(
     s: Sides,
 ) -> Placed
     requires { ⌜ SidesReady op (now memo) (tableOf (now vars) (now lows) (now highs) (now heads) (now links) count) s ⌝ }
-    ensures { λ r. ⌜ outcomeOf (now (vars .exit)) (now (lows .exit)) (now (highs .exit)) (now (heads .exit)) (now (links .exit)) r ≡ joinedOf (tableOf (now (vars .entry)) (now (lows .entry)) (now (highs .entry)) (now (heads .entry)) (now (links .entry)) count) op s ⌝ }
-    ensures { λ r. ⌜ MemoRight op (now (memo .exit)) (tableOf (now (vars .exit)) (now (lows .exit)) (now (highs .exit)) (now (heads .exit)) (now (links .exit)) (r .count)) ⌝ }
+    ensures { λ r. ⌜ (
+        let before = tableOf (now (vars .entry)) (now (lows .entry)) (now (highs .entry)) (now (heads .entry)) (now (links .entry)) count in
+        outcomeOf (now (vars .exit)) (now (lows .exit)) (now (highs .exit)) (now (heads .exit)) (now (links .exit)) r
+        ≡ joinedOf before op s) ⌝ }
+    ensures { λ r. ⌜ (
+        let after = tableOf (now (vars .exit)) (now (lows .exit)) (now (highs .exit)) (now (heads .exit)) (now (links .exit)) (r .count) in
+        MemoRight op (now (memo .exit)) after) ⌝ }
 {
     let p = apply(vars, lows, highs, heads, links, memo, count, op, s.f0, s.g0);
     if p.full {

@@ -1,16 +1,15 @@
 -- The words after a round tell which members it changed, and those that it did not change are no negations of each other. Assumes nothing.
-use mathlib.Core.Path.{_≡_, refl, sym, ap, ap₂, _∙_}
+use mathlib.Core.Path.{_≡_, refl, sym, ap, _∙_}
 use mathlib.Core.Logic.{_≢_}
 use mathlib.Core.Bool.{Bool, true, false, cond}
 use mathlib.Core.List.{List}
 use Prim.Native.Nat.{ℕ, _+_, _≤_, _<_}
 use native.Mathlib.Omega.{arith}
 use native.Mathlib.Decide.{ℕ-discrete}
-use lib.ListN.{length, getD, set, length-set, length-map}
+use lib.ListN.{length, getD, set, length-set}
 use lib.Seq.{getD-set-same, getD-set-other}
 use lib.Dec.{eqb}
 use lib.Bits.{bitAnd, bitOr}
-use borrow.Author.Tests.{eqb-true}
 use Rattle.meaning.specs.Diagram.{Diagram, leaf, node, Reduced}
 use Rattle.meaning.specs.Operations.{negation}
 use Rattle.meaning.specs.Rules.{conflicts}
@@ -22,12 +21,11 @@ use Rattle.table.specs.Indexed.{Table, nodesOf, Good}
 use Rattle.table.proofs.Written.{length-nodes, good-ordered}
 use Rattle.table.proofs.Numbers.{diagramAt-reduced}
 use Rattle.operate.specs.declared.Operation.the-variants.{Literals}
-use Rattle.operate.specs.Operate.{result}
 use Rattle.operate.proofs.Levels.{zero-is}
 use Rattle.units.proofs.Bits.{in-all}
 use Rattle.supports.specs.Supports.{Uses, Support, Supports}
 use Rattle.supports.proofs.Words.{in-left}
-use Rattle.conflict.specs.Members.{diagramsOf, Inside, ListReady, Quiet}
+use Rattle.conflict.specs.Members.{diagramsOf, ListReady, Quiet}
 use Rattle.conflict.proofs.Asked.{no-conflict}
 use Rattle.propagate.specs.Made.{results, AllMade}
 use Rattle.propagate.specs.Touching.{touched, AllTouched}

@@ -1,6 +1,5 @@
 -- A member that shares no variable with the operation stays as it is, and each member's word still has its variables. Assumes nothing.
 use mathlib.Core.Path.{_≡_, refl, sym, ap, _∙_, subst}
-use mathlib.Core.Logic.{_≢_}
 use mathlib.Core.Bool.{Bool, true, false, _&&_, cond}
 use mathlib.Core.List.{List}
 use Prim.Native.Nat.{ℕ, _<_}
@@ -11,7 +10,7 @@ use lib.Seq.{getD-set-same, getD-set-other}
 use lib.Dec.{eqb}
 use lib.Bits.{bitAnd, bitOr}
 use borrow.Author.Tests.{eqb-true}
-use Rattle.meaning.specs.Diagram.{Diagram, leaf, Reduced}
+use Rattle.meaning.specs.Diagram.{Diagram, Reduced}
 use Rattle.meaning.specs.Operations.{cofactorLiterals}
 use Rattle.meaning.specs.Words.{inWord}
 use Rattle.meaning.proofs.Booleans.{or-neither}

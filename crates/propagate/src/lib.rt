@@ -42,9 +42,18 @@ fn apply_touching(
     word: u64,
     touching: u64,
 ) -> Placed
-    requires { ⌜ Ready op (now memo) (tableOf (now vars) (now lows) (now highs) (now heads) (now links) count) (f .0) (g .0) × Support word (diagramAt (nodesOf (tableOf (now vars) (now lows) (now highs) (now heads) (now links) count)) (f .0)) × Touches op (diagramAt (nodesOf (tableOf (now vars) (now lows) (now highs) (now heads) (now links) count)) (g .0)) touching ⌝ }
-    ensures { λ r. ⌜ outcomeOf (now (vars .exit)) (now (lows .exit)) (now (highs .exit)) (now (heads .exit)) (now (links .exit)) r ≡ applied (tableOf (now (vars .entry)) (now (lows .entry)) (now (highs .entry)) (now (heads .entry)) (now (links .entry)) count) op (f .0) (g .0) ⌝ }
-    ensures { λ r. ⌜ MemoRight op (now (memo .exit)) (tableOf (now (vars .exit)) (now (lows .exit)) (now (highs .exit)) (now (heads .exit)) (now (links .exit)) (r .count)) ⌝ }
+    requires { ⌜ (
+        let before = tableOf (now vars) (now lows) (now highs) (now heads) (now links) count in
+        Ready op (now memo) before (f .0) (g .0)
+        × Support word (diagramAt (nodesOf before) (f .0))
+        × Touches op (diagramAt (nodesOf before) (g .0)) touching) ⌝ }
+    ensures { λ r. ⌜ (
+        let before = tableOf (now (vars .entry)) (now (lows .entry)) (now (highs .entry)) (now (heads .entry)) (now (links .entry)) count in
+        outcomeOf (now (vars .exit)) (now (lows .exit)) (now (highs .exit)) (now (heads .exit)) (now (links .exit)) r
+        ≡ applied before op (f .0) (g .0)) ⌝ }
+    ensures { λ r. ⌜ (
+        let after = tableOf (now (vars .exit)) (now (lows .exit)) (now (highs .exit)) (now (heads .exit)) (now (links .exit)) (r .count) in
+        MemoRight op (now (memo .exit)) after) ⌝ }
 {
     if word & touching == 0 {
         return Placed {
@@ -82,10 +91,21 @@ pub fn all_by(
     g: NodeNo,
     touching: u64,
 ) -> Made
-    requires { ⌜ ListReady (tableOf (now vars) (now lows) (now highs) (now heads) (now links) count) (now list) (now memo) × (g .0 < count) × Allowed op (g .0) ⌝ }
-    requires { ⌜ (length (now words) ≡ length (now list)) × Supports (nodesOf (tableOf (now vars) (now lows) (now highs) (now heads) (now links) count)) (now list) (now words) × Touches op (diagramAt (nodesOf (tableOf (now vars) (now lows) (now highs) (now heads) (now links) count)) (g .0)) touching ⌝ }
-    ensures { λ r. ⌜ AllMade (tableOf (now (vars .entry)) (now (lows .entry)) (now (highs .entry)) (now (heads .entry)) (now (links .entry)) count) (results op (tableOf (now (vars .entry)) (now (lows .entry)) (now (highs .entry)) (now (heads .entry)) (now (links .entry)) count) (now (list .entry)) (g .0)) (r .full) (tableOf (now (vars .exit)) (now (lows .exit)) (now (highs .exit)) (now (heads .exit)) (now (links .exit)) (r .count)) (now (list .exit)) ⌝ }
-    ensures { λ r. ⌜ (r .full ≡ false → Supports (nodesOf (tableOf (now (vars .exit)) (now (lows .exit)) (now (highs .exit)) (now (heads .exit)) (now (links .exit)) (r .count))) (now (list .exit)) (now (words .exit))) ⌝ }
+    requires { ⌜ (
+        let before = tableOf (now vars) (now lows) (now highs) (now heads) (now links) count in
+        ListReady before (now list) (now memo) × (g .0 < count) × Allowed op (g .0)) ⌝ }
+    requires { ⌜ (
+        let before = tableOf (now vars) (now lows) (now highs) (now heads) (now links) count in
+        (length (now words) ≡ length (now list))
+        × Supports (nodesOf before) (now list) (now words)
+        × Touches op (diagramAt (nodesOf before) (g .0)) touching) ⌝ }
+    ensures { λ r. ⌜ (
+        let before = tableOf (now (vars .entry)) (now (lows .entry)) (now (highs .entry)) (now (heads .entry)) (now (links .entry)) count in
+        let after = tableOf (now (vars .exit)) (now (lows .exit)) (now (highs .exit)) (now (heads .exit)) (now (links .exit)) (r .count) in
+        AllMade before (results op before (now (list .entry)) (g .0)) (r .full) after (now (list .exit))) ⌝ }
+    ensures { λ r. ⌜ (
+        let after = tableOf (now (vars .exit)) (now (lows .exit)) (now (highs .exit)) (now (heads .exit)) (now (links .exit)) (r .count) in
+        r .full ≡ false → Supports (nodesOf after) (now (list .exit)) (now (words .exit))) ⌝ }
     ensures { λ r. ⌜ (r .full ≡ false → AllTouched (now (words .entry)) (now (words .exit)) touching) ⌝ }
 {
     operate::memo::clear_memo(memo);
@@ -142,7 +162,9 @@ pub fn first_units(
     list: &[u16],
 ) -> FirstUnits
     requires { ⌜ Readable (now vars) (now lows) (now highs) count × Inside count (now list) × Roomy (now vars) (now memo) ⌝ }
-    ensures { λ r. ⌜ AreFirst (diagramsOf (nodesIn (now (vars .entry)) (now (lows .entry)) (now (highs .entry)) count) (now (list .entry))) r ⌝ }
+    ensures { λ r. ⌜ (
+        let nodes = nodesIn (now (vars .entry)) (now (lows .entry)) (now (highs .entry)) count in
+        AreFirst (diagramsOf nodes (now (list .entry))) r) ⌝ }
 {
     walks::clear_memo(memo, count);
     let mut place: usize = 0;
@@ -187,9 +209,15 @@ fn next_round(
     touching: u64,
     rounds: u32,
 ) -> Next
-    requires { ⌜ ListReady (tableOf (now vars) (now lows) (now highs) (now heads) (now links) count) (now list) (now memo) × (now marks ≡ unmarked (length (now vars))) × (rounds ≤ 64) ⌝ }
-    requires { ⌜ (length (now words) ≡ length (now list)) × Quiet (nodesOf (tableOf (now vars) (now lows) (now highs) (now heads) (now links) count)) (now list) (now words) touching ⌝ }
-    ensures { λ r. ⌜ Comes (diagramsOf (nodesOf (tableOf (now (vars .entry)) (now (lows .entry)) (now (highs .entry)) (now (heads .entry)) (now (links .entry)) count)) (now (list .entry))) rounds r ⌝ }
+    requires { ⌜ (
+        let before = tableOf (now vars) (now lows) (now highs) (now heads) (now links) count in
+        ListReady before (now list) (now memo) × (now marks ≡ unmarked (length (now vars))) × (rounds ≤ 64)) ⌝ }
+    requires { ⌜ (
+        let before = tableOf (now vars) (now lows) (now highs) (now heads) (now links) count in
+        (length (now words) ≡ length (now list)) × Quiet (nodesOf before) (now list) (now words) touching) ⌝ }
+    ensures { λ r. ⌜ (
+        let before = tableOf (now (vars .entry)) (now (lows .entry)) (now (highs .entry)) (now (heads .entry)) (now (links .entry)) count in
+        Comes (diagramsOf (nodesOf before) (now (list .entry))) rounds r) ⌝ }
     ensures { λ _. ⌜ now (marks .exit) ≡ unmarked (length (now (vars .entry))) ⌝ }
 {
     if conflict::conflicts(
@@ -230,9 +258,16 @@ pub fn unit_prop(
     words: &mut [u64],
     count: usize,
 ) -> Propagated
-    requires { ⌜ ListReady (tableOf (now vars) (now lows) (now highs) (now heads) (now links) count) (now list) (now memo) × (now marks ≡ unmarked (length (now vars))) ⌝ }
-    requires { ⌜ (length (now words) ≡ length (now list)) × Supports (nodesOf (tableOf (now vars) (now lows) (now highs) (now heads) (now links) count)) (now list) (now words) ⌝ }
-    ensures { λ r. ⌜ Said (tableOf (now (vars .entry)) (now (lows .entry)) (now (highs .entry)) (now (heads .entry)) (now (links .entry)) count) (unitProp 64 (diagramsOf (nodesOf (tableOf (now (vars .entry)) (now (lows .entry)) (now (highs .entry)) (now (heads .entry)) (now (links .entry)) count)) (now (list .entry)))) r (tableOf (now (vars .exit)) (now (lows .exit)) (now (highs .exit)) (now (heads .exit)) (now (links .exit)) (r .count)) ⌝ }
+    requires { ⌜ (
+        let before = tableOf (now vars) (now lows) (now highs) (now heads) (now links) count in
+        ListReady before (now list) (now memo) × (now marks ≡ unmarked (length (now vars)))) ⌝ }
+    requires { ⌜ (
+        let before = tableOf (now vars) (now lows) (now highs) (now heads) (now links) count in
+        (length (now words) ≡ length (now list)) × Supports (nodesOf before) (now list) (now words)) ⌝ }
+    ensures { λ r. ⌜ (
+        let before = tableOf (now (vars .entry)) (now (lows .entry)) (now (highs .entry)) (now (heads .entry)) (now (links .entry)) count in
+        let after = tableOf (now (vars .exit)) (now (lows .exit)) (now (highs .exit)) (now (heads .exit)) (now (links .exit)) (r .count) in
+        Said before (unitProp 64 (diagramsOf (nodesOf before) (now (list .entry)))) r after) ⌝ }
     ensures { λ _. ⌜ now (marks .exit) ≡ unmarked (length (now (vars .entry))) ⌝ }
 {
     let mut n = count;

@@ -9,7 +9,8 @@ ghost use Rattle.session.specs.Checked.{outcomeOf};
 
 // Whether columns, member list and scratch list are of proper size.
 fn lent_fits(vars: &[u8], lows: &[u16], highs: &[u16], members: &[u16], scratch: &[u16]) -> bool
-    ensures { λ r. ⌜ r ≡ lentFits (now (vars .entry)) (now (lows .entry)) (now (highs .entry)) (now (members .entry)) (now (scratch .entry)) ⌝ }
+    ensures { λ r. ⌜ r
+        ≡ lentFits (now (vars .entry)) (now (lows .entry)) (now (highs .entry)) (now (members .entry)) (now (scratch .entry)) ⌝ }
 {
     if !table::test::size_fits(vars, lows, highs) {
         return false;
@@ -28,7 +29,9 @@ fn check_64<'a>(
     proof: &'a [u8],
 ) -> Checked
     requires { ⌜ (lentFits (now vars) (now lows) (now highs) (now members) (now scratch) ≡ true) × (length (now vars) ≤ 64) ⌝ }
-    ensures { λ r. ⌜ outcomeOf (now (vars .exit)) (now (lows .exit)) (now (highs .exit)) (now (members .exit)) (now (scratch .exit)) r ≡ outcome (length (now (vars .entry))) (length (now (members .entry))) (length (now (scratch .entry))) (verdict (length (now (vars .entry))) (now (formula .entry)) (now (proof .entry))) ⌝ }
+    ensures { λ r. ⌜ outcomeOf (now (vars .exit)) (now (lows .exit)) (now (highs .exit)) (now (members .exit)) (now (scratch .exit)) r
+        ≡ outcome (length (now (vars .entry))) (length (now (members .entry))) (length (now (scratch .entry)))
+        (verdict (length (now (vars .entry))) (now (formula .entry)) (now (proof .entry))) ⌝ }
 {
     let mut heads = [0u16; 128];
     let mut links = [0u16; 64];
@@ -62,7 +65,9 @@ fn check_4096<'a>(
     proof: &'a [u8],
 ) -> Checked
     requires { ⌜ (lentFits (now vars) (now lows) (now highs) (now members) (now scratch) ≡ true) × (length (now vars) ≤ 4096) ⌝ }
-    ensures { λ r. ⌜ outcomeOf (now (vars .exit)) (now (lows .exit)) (now (highs .exit)) (now (members .exit)) (now (scratch .exit)) r ≡ outcome (length (now (vars .entry))) (length (now (members .entry))) (length (now (scratch .entry))) (verdict (length (now (vars .entry))) (now (formula .entry)) (now (proof .entry))) ⌝ }
+    ensures { λ r. ⌜ outcomeOf (now (vars .exit)) (now (lows .exit)) (now (highs .exit)) (now (members .exit)) (now (scratch .exit)) r
+        ≡ outcome (length (now (vars .entry))) (length (now (members .entry))) (length (now (scratch .entry)))
+        (verdict (length (now (vars .entry))) (now (formula .entry)) (now (proof .entry))) ⌝ }
 {
     let mut heads = [0u16; 8192];
     let mut links = [0u16; 4096];
@@ -96,7 +101,9 @@ fn check_65536<'a>(
     proof: &'a [u8],
 ) -> Checked
     requires { ⌜ (lentFits (now vars) (now lows) (now highs) (now members) (now scratch) ≡ true) × (length (now vars) ≤ 65536) ⌝ }
-    ensures { λ r. ⌜ outcomeOf (now (vars .exit)) (now (lows .exit)) (now (highs .exit)) (now (members .exit)) (now (scratch .exit)) r ≡ outcome (length (now (vars .entry))) (length (now (members .entry))) (length (now (scratch .entry))) (verdict (length (now (vars .entry))) (now (formula .entry)) (now (proof .entry))) ⌝ }
+    ensures { λ r. ⌜ outcomeOf (now (vars .exit)) (now (lows .exit)) (now (highs .exit)) (now (members .exit)) (now (scratch .exit)) r
+        ≡ outcome (length (now (vars .entry))) (length (now (members .entry))) (length (now (scratch .entry)))
+        (verdict (length (now (vars .entry))) (now (formula .entry)) (now (proof .entry))) ⌝ }
 {
     let mut heads = [0u16; 131072];
     let mut links = [0u16; 65536];
@@ -130,7 +137,9 @@ pub fn call<'a>(
     formula: &'a [u8],
     proof: &'a [u8],
 ) -> Checked
-    ensures { λ r. ⌜ outcomeOf (now (vars .exit)) (now (lows .exit)) (now (highs .exit)) (now (members .exit)) (now (scratch .exit)) r ≡ check (now (vars .entry)) (now (lows .entry)) (now (highs .entry)) count (now (members .entry)) (now (scratch .entry)) (now (formula .entry)) (now (proof .entry)) ⌝ }
+    ensures { λ r. ⌜ outcomeOf (now (vars .exit)) (now (lows .exit)) (now (highs .exit)) (now (members .exit)) (now (scratch .exit)) r
+        ≡ check (now (vars .entry)) (now (lows .entry)) (now (highs .entry)) count (now (members .entry)) (now (scratch .entry))
+        (now (formula .entry)) (now (proof .entry)) ⌝ }
 {
     if !lent_fits(vars, lows, highs, members, scratch) {
         return Checked {

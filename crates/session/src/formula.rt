@@ -30,8 +30,12 @@ pub fn read_clauses(
 ) -> Start
     requires { ⌜ Opened (tableOf (now vars) (now lows) (now highs) (now heads) (now links) 2) (now members) ⌝ }
     requires { ⌜ (variables ≤ 64) × (wanted ≤ 1024) × (from ≤ length (now formula)) ⌝ }
-    ensures { λ r. ⌜ ((proof : List ℕ) → clauses variables (length (now (vars .entry))) proof emptied [] (clausesFrom (now (formula .entry)) variables wanted from) ≡ saidFrom variables proof (now (vars .exit)) (now (lows .exit)) (now (highs .exit)) (now (heads .exit)) (now (links .exit)) (now (members .exit)) r) ⌝ }
-    ensures { λ r. ⌜ Begins variables (now (vars .exit)) (now (lows .exit)) (now (highs .exit)) (now (heads .exit)) (now (links .exit)) (now (members .exit)) r ⌝ }
+    ensures { λ r. ⌜ ((proof : List ℕ) →
+        clauses variables (length (now (vars .entry))) proof emptied [] (clausesFrom (now (formula .entry)) variables wanted from)
+        ≡ saidFrom variables proof (now (vars .exit)) (now (lows .exit)) (now (highs .exit)) (now (heads .exit)) (now (links .exit))
+        (now (members .exit)) r) ⌝ }
+    ensures { λ r. ⌜ Begins variables (now (vars .exit)) (now (lows .exit)) (now (highs .exit)) (now (heads .exit)) (now (links .exit))
+        (now (members .exit)) r ⌝ }
 {
     let mut count: usize = 2;
     let mut made: usize = 0;

@@ -47,8 +47,17 @@ fn judge_clauses<'a>(
     proof: &'a [u8],
 ) -> Checked
     requires { ⌜ Opened (tableOf (now vars) (now lows) (now highs) (now heads) (now links) 2) (now members) ⌝ }
-    requires { ⌜ (variables ≤ 64) × (wanted ≤ 1024) × (from ≤ length (now formula)) × (4096 ≤ length (now scratch)) × (now marks ≡ unmarked (length (now vars))) × Roomy (now vars) (now memo) ⌝ }
-    ensures { λ r. ⌜ outcomeOf (now (vars .exit)) (now (lows .exit)) (now (highs .exit)) (now (members .exit)) (zeros (length (now (scratch .entry)))) r ≡ outcome (length (now (vars .entry))) (length (now (members .entry))) (length (now (scratch .entry))) (clauses variables (length (now (vars .entry))) (now (proof .entry)) emptied [] (clausesFrom (now (formula .entry)) variables wanted from)) ⌝ }
+    requires { ⌜ (variables ≤ 64)
+        × (wanted ≤ 1024)
+        × (from ≤ length (now formula))
+        × (4096 ≤ length (now scratch))
+        × (now marks ≡ unmarked (length (now vars)))
+        × Roomy (now vars) (now memo) ⌝ }
+    ensures { λ r. ⌜ outcomeOf (now (vars .exit)) (now (lows .exit)) (now (highs .exit)) (now (members .exit))
+        (zeros (length (now (scratch .entry)))) r
+        ≡ outcome (length (now (vars .entry))) (length (now (members .entry))) (length (now (scratch .entry)))
+        (clauses variables (length (now (vars .entry))) (now (proof .entry)) emptied []
+        (clausesFrom (now (formula .entry)) variables wanted from)) ⌝ }
 {
     match formula::read_clauses(
         vars,
@@ -106,7 +115,10 @@ fn judge<'a>(
 ) -> Checked
     requires { ⌜ Opened (tableOf (now vars) (now lows) (now highs) (now heads) (now links) 2) (now members) ⌝ }
     requires { ⌜ (4096 ≤ length (now scratch)) × (now marks ≡ unmarked (length (now vars))) × Roomy (now vars) (now memo) ⌝ }
-    ensures { λ r. ⌜ outcomeOf (now (vars .exit)) (now (lows .exit)) (now (highs .exit)) (now (members .exit)) (zeros (length (now (scratch .entry)))) r ≡ outcome (length (now (vars .entry))) (length (now (members .entry))) (length (now (scratch .entry))) (verdict (length (now (vars .entry))) (now (formula .entry)) (now (proof .entry))) ⌝ }
+    ensures { λ r. ⌜ outcomeOf (now (vars .exit)) (now (lows .exit)) (now (highs .exit)) (now (members .exit))
+        (zeros (length (now (scratch .entry)))) r
+        ≡ outcome (length (now (vars .entry))) (length (now (members .entry))) (length (now (scratch .entry)))
+        (verdict (length (now (vars .entry))) (now (formula .entry)) (now (proof .entry))) ⌝ }
 {
     match dimacs::read_header(formula) {
         Header::Improper(number, place) => Checked {
@@ -150,8 +162,13 @@ pub fn run<'a>(
     proof: &'a [u8],
 ) -> Checked
     requires { ⌜ lentFits (now vars) (now lows) (now highs) (now members) (now scratch) ≡ true ⌝ }
-    requires { ⌜ (now heads ≡ zeros (2 * length (now vars))) × (now links ≡ zeros (length (now vars))) × (now marks ≡ unmarked (length (now vars))) × Roomy (now vars) (now memo) ⌝ }
-    ensures { λ r. ⌜ outcomeOf (now (vars .exit)) (now (lows .exit)) (now (highs .exit)) (now (members .exit)) (now (scratch .exit)) r ≡ outcome (length (now (vars .entry))) (length (now (members .entry))) (length (now (scratch .entry))) (verdict (length (now (vars .entry))) (now (formula .entry)) (now (proof .entry))) ⌝ }
+    requires { ⌜ (now heads ≡ zeros (2 * length (now vars)))
+        × (now links ≡ zeros (length (now vars)))
+        × (now marks ≡ unmarked (length (now vars)))
+        × Roomy (now vars) (now memo) ⌝ }
+    ensures { λ r. ⌜ outcomeOf (now (vars .exit)) (now (lows .exit)) (now (highs .exit)) (now (members .exit)) (now (scratch .exit)) r
+        ≡ outcome (length (now (vars .entry))) (length (now (members .entry))) (length (now (scratch .entry)))
+        (verdict (length (now (vars .entry))) (now (formula .entry)) (now (proof .entry))) ⌝ }
 {
     clear::empty(vars, lows, highs, members);
     let said = judge(

@@ -36,9 +36,20 @@ pub fn read_records(
     variables: u8,
     proof: &[u8],
 ) -> Ended
-    requires { ⌜ Held variables (lentOf (now vars) (now lows) (now highs) (now heads) (now links) (now members) (now scratch)) first × (now marks ≡ unmarked (length (now vars))) × Roomy (now vars) (now memo) ⌝ }
-    ensures { λ r. ⌜ records (suc (length (now (proof .entry)))) variables (length (now (vars .entry))) (now (proof .entry)) (stateOf (lentOf (now (vars .entry)) (now (lows .entry)) (now (highs .entry)) (now (heads .entry)) (now (links .entry)) (now (members .entry)) (now (scratch .entry))) first) 0 ≡ left (r .number) (r .place) (stateOf (lentOf (now (vars .exit)) (now (lows .exit)) (now (highs .exit)) (now (heads .exit)) (now (links .exit)) (now (members .exit)) (now (scratch .exit))) (r .state)) ⌝ }
-    ensures { λ r. ⌜ Ends (lentOf (now (vars .exit)) (now (lows .exit)) (now (highs .exit)) (now (heads .exit)) (now (links .exit)) (now (members .exit)) (now (scratch .exit))) (r .state) ⌝ }
+    requires { ⌜ (
+        let lent = lentOf (now vars) (now lows) (now highs) (now heads) (now links) (now members) (now scratch) in
+        Held variables lent first × (now marks ≡ unmarked (length (now vars))) × Roomy (now vars) (now memo)) ⌝ }
+    ensures { λ r. ⌜ (
+        let lent = lentOf (now (vars .entry)) (now (lows .entry)) (now (highs .entry)) (now (heads .entry)) (now (links .entry))
+        (now (members .entry)) (now (scratch .entry)) in
+        let returned = lentOf (now (vars .exit)) (now (lows .exit)) (now (highs .exit)) (now (heads .exit)) (now (links .exit))
+        (now (members .exit)) (now (scratch .exit)) in
+        records (suc (length (now (proof .entry)))) variables (length (now (vars .entry))) (now (proof .entry)) (stateOf lent first) 0
+        ≡ left (r .number) (r .place) (stateOf returned (r .state))) ⌝ }
+    ensures { λ r. ⌜ (
+        let returned = lentOf (now (vars .exit)) (now (lows .exit)) (now (highs .exit)) (now (heads .exit)) (now (links .exit))
+        (now (members .exit)) (now (scratch .exit)) in
+        Ends returned (r .state)) ⌝ }
 {
     let mut state = first;
     let mut at: usize = 0;
@@ -96,8 +107,20 @@ pub fn judge_proof(
     made: usize,
     proof: &[u8],
 ) -> Checked
-    requires { ⌜ Built variables (tableOf (now vars) (now lows) (now highs) (now heads) (now links) count) (now members) made × (variables ≤ 64) × (2048 ≤ length (now members)) × (4096 ≤ length (now scratch)) × (now marks ≡ unmarked (length (now vars))) × Roomy (now vars) (now memo) ⌝ }
-    ensures { λ r. ⌜ outcomeOf (now (vars .exit)) (now (lows .exit)) (now (highs .exit)) (now (members .exit)) (zeros (length (now (scratch .entry)))) r ≡ outcome (length (now (vars .entry))) (length (now (members .entry))) (length (now (scratch .entry))) (records (suc (length (now (proof .entry)))) variables (length (now (vars .entry))) (now (proof .entry)) (begun (nodesOf (tableOf (now (vars .entry)) (now (lows .entry)) (now (highs .entry)) (now (heads .entry)) (now (links .entry)) count)) (take made (now (members .entry)))) 0) ⌝ }
+    requires { ⌜ (
+        let before = tableOf (now vars) (now lows) (now highs) (now heads) (now links) count in
+        Built variables before (now members) made
+        × (variables ≤ 64)
+        × (2048 ≤ length (now members))
+        × (4096 ≤ length (now scratch))
+        × (now marks ≡ unmarked (length (now vars)))
+        × Roomy (now vars) (now memo)) ⌝ }
+    ensures { λ r. ⌜ (
+        let before = tableOf (now (vars .entry)) (now (lows .entry)) (now (highs .entry)) (now (heads .entry)) (now (links .entry)) count in
+        outcomeOf (now (vars .exit)) (now (lows .exit)) (now (highs .exit)) (now (members .exit)) (zeros (length (now (scratch .entry)))) r
+        ≡ outcome (length (now (vars .entry))) (length (now (members .entry))) (length (now (scratch .entry)))
+        (records (suc (length (now (proof .entry)))) variables (length (now (vars .entry))) (now (proof .entry))
+        (begun (nodesOf before) (take made (now (members .entry)))) 0)) ⌝ }
 {
     let first = State {
         count,

@@ -1,23 +1,20 @@
 -- What a single call that makes nodes says and leaves, case by case in the order of its refusals, and the operation's outcome as
 -- the call's. Assumes nothing.
-use mathlib.Core.Path.{_≡_, refl, sym, ap, _∙_, subst}
-use mathlib.Core.Bool.{Bool, true, false, not, _&&_, cond}
+use mathlib.Core.Path.{_≡_, refl, sym, ap, _∙_}
+use mathlib.Core.Bool.{true, false, _&&_}
 use mathlib.Core.List.{List}
 use Prim.Native.Nat.{ℕ, _≤_, _<_}
-use native.Mathlib.Omega.{arith}
 use lib.ListN.{length, take}
-use lib.Dec.{eqb, ltb}
+use lib.Dec.{ltb}
 use borrow.Author.Tests.{ne-eqb, lt-ltb, le-ltb}
-use Rattle.table.specs.declared.NodeNo.{NodeNo}
-use Rattle.table.specs.Nodes.{Node, goodOrder, diagramAt, Placing, full, placed, place}
-use Rattle.table.specs.Columns.{rows, sizeFits, columnsOf, padded}
-use Rattle.table.specs.Indexed.{Table, tableOf, size, nodesOf, indexed, Good, Outcome, written}
+use Rattle.table.specs.Nodes.{goodOrder, diagramAt, Placing, full, placed, place}
+use Rattle.table.specs.Columns.{rows, sizeFits}
+use Rattle.table.specs.Indexed.{Table, tableOf, nodesOf, indexed, Good, Outcome, written}
 use Rattle.table.proofs.Outcomes.{Longer, droppedTo, undone}
 use Rattle.table.proofs.Order.{true-not-false}
 use Rattle.operate.specs.declared.Operation.{Operation}
 use Rattle.operate.specs.Operate.{result}
-use Rattle.single.specs.declared.call.Single.{Single}
-use Rattle.single.specs.Single.{refusal, Made, madeOf, unchanged, operandRefusal, madeBy, operation}
+use Rattle.single.specs.Single.{Made, unchanged, operandRefusal, madeBy, operation}
 use Rattle.single.specs.Inner.{placingOf}
 use Rattle.single.proofs.Refusals.{refused-7, refused-26, refused-13, accepted-0}
 

@@ -1,12 +1,12 @@
 -- What the five single calls say and leave. (01, What the call says and leaves: "Single calls: 7, 26, 13, then 27 [..] or 15 [..], then 23";
 -- "A refused single call changes nothing"; "with a refusal the node is 0 (evaluation: no)")
-use mathlib.Core.Bool.{Bool, true, false, not, _&&_, _||_, cond}
-use mathlib.Core.List.{List, [], _∷_}
-use Prim.Native.Nat.{ℕ, zero, suc}
+use mathlib.Core.Bool.{Bool, not, _&&_, cond}
+use mathlib.Core.List.{List}
+use Prim.Native.Nat.{ℕ, suc}
 use lib.ListN.{length, take}
 use lib.Dec.{eqb, ltb}
 use Rattle.meaning.specs.Words.{inWord}
-use Rattle.table.specs.Nodes.{Node, goodOrder, allBelow, diagramAt, Placing, full, placed, place}
+use Rattle.table.specs.Nodes.{goodOrder, allBelow, diagramAt, Placing, full, placed, place}
 use Rattle.table.specs.Columns.{rows, sizeFits, padded, Columns, columnsOf}
 use Rattle.walks.specs.Readable.{valueUnder}
 use Rattle.operate.specs.declared.Operation.{Operation}

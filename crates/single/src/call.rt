@@ -69,7 +69,10 @@ fn made(
     g: NodeNo,
 ) -> Single
     requires { ⌜ Ready op (now memo) (tableOf (now vars) (now lows) (now highs) (now heads) (now links) count) (f .0) (g .0) ⌝ }
-    ensures { λ r. ⌜ madeOf (now (vars .exit)) (now (lows .exit)) (now (highs .exit)) r ≡ madeBy (now (vars .entry)) (now (lows .entry)) (now (highs .entry)) count (placingOf op (tableOf (now (vars .entry)) (now (lows .entry)) (now (highs .entry)) (now (heads .entry)) (now (links .entry)) count) (f .0) (g .0)) ⌝ }
+    ensures { λ r. ⌜ (
+        let before = tableOf (now (vars .entry)) (now (lows .entry)) (now (highs .entry)) (now (heads .entry)) (now (links .entry)) count in
+        madeOf (now (vars .exit)) (now (lows .exit)) (now (highs .exit)) r
+        ≡ madeBy (now (vars .entry)) (now (lows .entry)) (now (highs .entry)) count (placingOf op before (f .0) (g .0))) ⌝ }
 {
     let p = operate::apply(vars, lows, highs, heads, links, memo, count, op, f, g);
     if p.full {
@@ -101,8 +104,14 @@ fn judged(
     f: NodeNo,
     g: NodeNo,
 ) -> Single
-    requires { ⌜ (sizeFits (now vars) (now lows) (now highs) ≡ true) × (now heads ≡ replicate (2 * length (now vars)) 0) × (now links ≡ replicate (length (now vars)) 0) × (now memo ≡ replicate (length (now memo)) 0) × (3 ≤ length (now memo)) × OneOperand op (g .0) ⌝ }
-    ensures { λ r. ⌜ madeOf (now (vars .exit)) (now (lows .exit)) (now (highs .exit)) r ≡ operation op (now (vars .entry)) (now (lows .entry)) (now (highs .entry)) count (f .0) (g .0) ⌝ }
+    requires { ⌜ (sizeFits (now vars) (now lows) (now highs) ≡ true)
+        × (now heads ≡ replicate (2 * length (now vars)) 0)
+        × (now links ≡ replicate (length (now vars)) 0)
+        × (now memo ≡ replicate (length (now memo)) 0)
+        × (3 ≤ length (now memo))
+        × OneOperand op (g .0) ⌝ }
+    ensures { λ r. ⌜ madeOf (now (vars .exit)) (now (lows .exit)) (now (highs .exit)) r
+        ≡ operation op (now (vars .entry)) (now (lows .entry)) (now (highs .entry)) count (f .0) (g .0) ⌝ }
 {
     if !table::test::in_order(vars, lows, highs, heads, links, count) {
         return Single {
@@ -147,7 +156,8 @@ fn judged_64(
     g: NodeNo,
 ) -> Single
     requires { ⌜ (sizeFits (now vars) (now lows) (now highs) ≡ true) × (length (now vars) ≤ 64) × OneOperand op (g .0) ⌝ }
-    ensures { λ r. ⌜ madeOf (now (vars .exit)) (now (lows .exit)) (now (highs .exit)) r ≡ operation op (now (vars .entry)) (now (lows .entry)) (now (highs .entry)) count (f .0) (g .0) ⌝ }
+    ensures { λ r. ⌜ madeOf (now (vars .exit)) (now (lows .exit)) (now (highs .exit)) r
+        ≡ operation op (now (vars .entry)) (now (lows .entry)) (now (highs .entry)) count (f .0) (g .0) ⌝ }
 {
     let mut heads = [0u16; 128];
     let mut links = [0u16; 64];
@@ -179,7 +189,8 @@ fn judged_4096(
     g: NodeNo,
 ) -> Single
     requires { ⌜ (sizeFits (now vars) (now lows) (now highs) ≡ true) × (length (now vars) ≤ 4096) × OneOperand op (g .0) ⌝ }
-    ensures { λ r. ⌜ madeOf (now (vars .exit)) (now (lows .exit)) (now (highs .exit)) r ≡ operation op (now (vars .entry)) (now (lows .entry)) (now (highs .entry)) count (f .0) (g .0) ⌝ }
+    ensures { λ r. ⌜ madeOf (now (vars .exit)) (now (lows .exit)) (now (highs .exit)) r
+        ≡ operation op (now (vars .entry)) (now (lows .entry)) (now (highs .entry)) count (f .0) (g .0) ⌝ }
 {
     let mut heads = [0u16; 8192];
     let mut links = [0u16; 4096];
@@ -211,7 +222,8 @@ fn judged_65536(
     g: NodeNo,
 ) -> Single
     requires { ⌜ (sizeFits (now vars) (now lows) (now highs) ≡ true) × (length (now vars) ≤ 65536) × OneOperand op (g .0) ⌝ }
-    ensures { λ r. ⌜ madeOf (now (vars .exit)) (now (lows .exit)) (now (highs .exit)) r ≡ operation op (now (vars .entry)) (now (lows .entry)) (now (highs .entry)) count (f .0) (g .0) ⌝ }
+    ensures { λ r. ⌜ madeOf (now (vars .exit)) (now (lows .exit)) (now (highs .exit)) r
+        ≡ operation op (now (vars .entry)) (now (lows .entry)) (now (highs .entry)) count (f .0) (g .0) ⌝ }
 {
     let mut heads = [0u16; 131072];
     let mut links = [0u16; 65536];
@@ -243,7 +255,8 @@ pub fn call(
     g: NodeNo,
 ) -> Single
     requires { ⌜ OneOperand op (g .0) ⌝ }
-    ensures { λ r. ⌜ madeOf (now (vars .exit)) (now (lows .exit)) (now (highs .exit)) r ≡ operation op (now (vars .entry)) (now (lows .entry)) (now (highs .entry)) count (f .0) (g .0) ⌝ }
+    ensures { λ r. ⌜ madeOf (now (vars .exit)) (now (lows .exit)) (now (highs .exit)) r
+        ≡ operation op (now (vars .entry)) (now (lows .entry)) (now (highs .entry)) count (f .0) (g .0) ⌝ }
 {
     if !table::test::size_fits(vars, lows, highs) {
         return Single {

@@ -65,8 +65,15 @@ pub fn record_step(
     more: bool,
     r: Record,
 ) -> Step
-    requires { ⌜ Held variables (lentOf (now vars) (now lows) (now highs) (now heads) (now links) (now members) (now scratch)) st × (now marks ≡ unmarked (length (now vars))) × Roomy (now vars) (now memo) ⌝ }
-    ensures { λ s. ⌜ Stepped variables (lentOf (now (vars .entry)) (now (lows .entry)) (now (highs .entry)) (now (heads .entry)) (now (links .entry)) (now (members .entry)) (now (scratch .entry))) (lentOf (now (vars .exit)) (now (lows .exit)) (now (highs .exit)) (now (heads .exit)) (now (links .exit)) (now (members .exit)) (now (scratch .exit))) st (step variables (length (now (vars .entry))) (stateOf (lentOf (now (vars .entry)) (now (lows .entry)) (now (highs .entry)) (now (heads .entry)) (now (links .entry)) (now (members .entry)) (now (scratch .entry))) st) more r) s ⌝ }
+    requires { ⌜ (
+        let lent = lentOf (now vars) (now lows) (now highs) (now heads) (now links) (now members) (now scratch) in
+        Held variables lent st × (now marks ≡ unmarked (length (now vars))) × Roomy (now vars) (now memo)) ⌝ }
+    ensures { λ s. ⌜ (
+        let lent = lentOf (now (vars .entry)) (now (lows .entry)) (now (highs .entry)) (now (heads .entry)) (now (links .entry))
+        (now (members .entry)) (now (scratch .entry)) in
+        let returned = lentOf (now (vars .exit)) (now (lows .exit)) (now (highs .exit)) (now (heads .exit)) (now (links .exit))
+        (now (members .exit)) (now (scratch .exit)) in
+        Stepped variables lent returned st (step variables (length (now (vars .entry))) (stateOf lent st) more r) s) ⌝ }
     ensures { λ _. ⌜ now (marks .exit) ≡ unmarked (length (now (vars .entry))) ⌝ }
 {
     match r {

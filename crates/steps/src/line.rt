@@ -29,8 +29,14 @@ fn line_refusal(
     rule: Rule,
     root: EntryNo,
 ) -> u8
-    requires { ⌜ Readable (now vars) (now lows) (now highs) (st .count) × Inside (st .count) (take (st .entries) (now scratch)) × (st .entries ≤ 4096) × (4096 ≤ length (now scratch)) × Roomy (now vars) (now memo) ⌝ }
-    ensures { λ r. ⌜ ((ds ks ms : List ℕ) → r ≡ lineRefusal 64 (stateOf (lentOf (now (vars .entry)) (now (lows .entry)) (now (highs .entry)) ds ks ms (now (scratch .entry))) st) rule (root .0)) ⌝ }
+    requires { ⌜ Readable (now vars) (now lows) (now highs) (st .count)
+        × Inside (st .count) (take (st .entries) (now scratch))
+        × (st .entries ≤ 4096)
+        × (4096 ≤ length (now scratch))
+        × Roomy (now vars) (now memo) ⌝ }
+    ensures { λ r. ⌜ ((ds ks ms : List ℕ) → (
+        let lent = lentOf (now (vars .entry)) (now (lows .entry)) (now (highs .entry)) ds ks ms (now (scratch .entry)) in
+        r ≡ lineRefusal 64 (stateOf lent st) rule (root .0))) ⌝ }
 {
     let entries = st.entries;
     if !crate::node::is_entry(entries, root) {
@@ -90,8 +96,20 @@ fn judge_line(
     rule: Rule,
     g: NodeNo,
 ) -> Judged
-    requires { ⌜ Negatable (tableOf (now vars) (now lows) (now highs) (now heads) (now links) (st .count)) (take (st .members) (now members)) (now memo) (g .0) × (now marks ≡ unmarked (length (now vars))) × (st .members ≤ 2048) × (2048 ≤ length (now members)) × (4096 ≤ length (now scratch)) ⌝ }
-    ensures { λ r. ⌜ Says (tableOf (now (vars .entry)) (now (lows .entry)) (now (highs .entry)) (now (heads .entry)) (now (links .entry)) (st .count)) (lineOf 64 (stateOf (lentOf (now (vars .entry)) (now (lows .entry)) (now (highs .entry)) (now (heads .entry)) (now (links .entry)) (now (members .entry)) (now (scratch .entry))) st) rule (g .0)) 131072 r (tableOf (now (vars .exit)) (now (lows .exit)) (now (highs .exit)) (now (heads .exit)) (now (links .exit)) (r .count)) ⌝ }
+    requires { ⌜ (
+        let before = tableOf (now vars) (now lows) (now highs) (now heads) (now links) (st .count) in
+        Negatable before (take (st .members) (now members)) (now memo) (g .0)
+        × (now marks ≡ unmarked (length (now vars)))
+        × (st .members ≤ 2048)
+        × (2048 ≤ length (now members))
+        × (4096 ≤ length (now scratch))) ⌝ }
+    ensures { λ r. ⌜ (
+        let before = tableOf (now (vars .entry)) (now (lows .entry)) (now (highs .entry)) (now (heads .entry)) (now (links .entry))
+        (st .count) in
+        let lent = lentOf (now (vars .entry)) (now (lows .entry)) (now (highs .entry)) (now (heads .entry)) (now (links .entry))
+        (now (members .entry)) (now (scratch .entry)) in
+        let after = tableOf (now (vars .exit)) (now (lows .exit)) (now (highs .exit)) (now (heads .exit)) (now (links .exit)) (r .count) in
+        Says before (lineOf 64 (stateOf lent st) rule (g .0)) 131072 r after) ⌝ }
     ensures { λ _. ⌜ now (marks .exit) ≡ unmarked (length (now (vars .entry))) ⌝ }
 {
     let m = st.members;
@@ -184,8 +202,16 @@ pub fn line_step(
     rule: Rule,
     root: EntryNo,
 ) -> crate::Step
-    requires { ⌜ Held 64 (lentOf (now vars) (now lows) (now highs) (now heads) (now links) (now members) (now scratch)) st × (now marks ≡ unmarked (length (now vars))) × Roomy (now vars) (now memo) ⌝ }
-    ensures { λ r. ⌜ ((n : ℕ) → Held n (lentOf (now (vars .entry)) (now (lows .entry)) (now (highs .entry)) (now (heads .entry)) (now (links .entry)) (now (members .entry)) (now (scratch .entry))) st → Stepped n (lentOf (now (vars .entry)) (now (lows .entry)) (now (highs .entry)) (now (heads .entry)) (now (links .entry)) (now (members .entry)) (now (scratch .entry))) (lentOf (now (vars .exit)) (now (lows .exit)) (now (highs .exit)) (now (heads .exit)) (now (links .exit)) (now (members .exit)) (now (scratch .exit))) st (lineStep n (length (now (vars .entry))) (stateOf (lentOf (now (vars .entry)) (now (lows .entry)) (now (highs .entry)) (now (heads .entry)) (now (links .entry)) (now (members .entry)) (now (scratch .entry))) st) rule (root .0)) r) ⌝ }
+    requires { ⌜ (
+        let lent = lentOf (now vars) (now lows) (now highs) (now heads) (now links) (now members) (now scratch) in
+        Held 64 lent st × (now marks ≡ unmarked (length (now vars))) × Roomy (now vars) (now memo)) ⌝ }
+    ensures { λ r. ⌜ (
+        let lent = lentOf (now (vars .entry)) (now (lows .entry)) (now (highs .entry)) (now (heads .entry)) (now (links .entry))
+        (now (members .entry)) (now (scratch .entry)) in
+        let returned = lentOf (now (vars .exit)) (now (lows .exit)) (now (highs .exit)) (now (heads .exit)) (now (links .exit))
+        (now (members .exit)) (now (scratch .exit)) in
+        (n : ℕ) → Held n lent st →
+        Stepped n lent returned st (lineStep n (length (now (vars .entry))) (stateOf lent st) rule (root .0)) r) ⌝ }
     ensures { λ _. ⌜ now (marks .exit) ≡ unmarked (length (now (vars .entry))) ⌝ }
 {
     let number = line_refusal(vars, lows, highs, memo, scratch, st, rule, root);

@@ -45,8 +45,13 @@ fn node_refusal(
     variables: u8,
     b: NodeBody,
 ) -> u8
-    requires { ⌜ Readable (now vars) (now lows) (now highs) (st .count) × Inside (st .count) (take (st .entries) (now scratch)) × (st .entries ≤ 4096) × (4096 ≤ length (now scratch)) ⌝ }
-    ensures { λ r. ⌜ ((ds ks ms : List ℕ) → r ≡ nodeRefusal variables (stateOf (lentOf (now (vars .entry)) (now (lows .entry)) (now (highs .entry)) ds ks ms (now (scratch .entry))) st) b) ⌝ }
+    requires { ⌜ Readable (now vars) (now lows) (now highs) (st .count)
+        × Inside (st .count) (take (st .entries) (now scratch))
+        × (st .entries ≤ 4096)
+        × (4096 ≤ length (now scratch)) ⌝ }
+    ensures { λ r. ⌜ ((ds ks ms : List ℕ) → (
+        let lent = lentOf (now (vars .entry)) (now (lows .entry)) (now (highs .entry)) ds ks ms (now (scratch .entry)) in
+        r ≡ nodeRefusal variables (stateOf lent st) b)) ⌝ }
 {
     let entries = st.entries;
     if 4096 <= entries {
@@ -108,8 +113,16 @@ pub fn node_step(
     variables: u8,
     b: NodeBody,
 ) -> crate::Step
-    requires { ⌜ EntriesHeld variables (tableOf (now vars) (now lows) (now highs) (now heads) (now links) (st .count)) (now scratch) (st .entries) ⌝ }
-    ensures { λ r. ⌜ ((ms : List ℕ) → Held variables (lentOf (now (vars .entry)) (now (lows .entry)) (now (highs .entry)) (now (heads .entry)) (now (links .entry)) ms (now (scratch .entry))) st → Stepped variables (lentOf (now (vars .entry)) (now (lows .entry)) (now (highs .entry)) (now (heads .entry)) (now (links .entry)) ms (now (scratch .entry))) (lentOf (now (vars .exit)) (now (lows .exit)) (now (highs .exit)) (now (heads .exit)) (now (links .exit)) ms (now (scratch .exit))) st (nodeStep variables (length (now (vars .entry))) (stateOf (lentOf (now (vars .entry)) (now (lows .entry)) (now (highs .entry)) (now (heads .entry)) (now (links .entry)) ms (now (scratch .entry))) st) b) r) ⌝ }
+    requires { ⌜ (
+        let before = tableOf (now vars) (now lows) (now highs) (now heads) (now links) (st .count) in
+        EntriesHeld variables before (now scratch) (st .entries)) ⌝ }
+    ensures { λ r. ⌜ ((ms : List ℕ) → (
+        let lent = lentOf (now (vars .entry)) (now (lows .entry)) (now (highs .entry)) (now (heads .entry)) (now (links .entry)) ms
+        (now (scratch .entry)) in
+        let returned = lentOf (now (vars .exit)) (now (lows .exit)) (now (highs .exit)) (now (heads .exit)) (now (links .exit)) ms
+        (now (scratch .exit)) in
+        Held variables lent st →
+        Stepped variables lent returned st (nodeStep variables (length (now (vars .entry))) (stateOf lent st) b) r)) ⌝ }
 {
     let number = node_refusal(vars, lows, highs, scratch, st, variables, b);
     if number != 0 {

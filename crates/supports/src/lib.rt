@@ -60,8 +60,13 @@ pub fn supports_of(
     list: &[u16],
     words: &mut [u64],
 )
-    requires { ⌜ Readable (now vars) (now lows) (now highs) count × Inside count (now list) × Roomy (now vars) (now memo) × (length (now words) ≡ length (now list)) ⌝ }
-    ensures { λ _. ⌜ Supports (nodesIn (now (vars .entry)) (now (lows .entry)) (now (highs .entry)) count) (now (list .entry)) (now (words .exit)) ⌝ }
+    requires { ⌜ Readable (now vars) (now lows) (now highs) count
+        × Inside count (now list)
+        × Roomy (now vars) (now memo)
+        × (length (now words) ≡ length (now list)) ⌝ }
+    ensures { λ _. ⌜ (
+        let nodes = nodesIn (now (vars .entry)) (now (lows .entry)) (now (highs .entry)) count in
+        Supports nodes (now (list .entry)) (now (words .exit))) ⌝ }
     ensures { λ _. ⌜ SupportMemo (now (memo .exit)) (nodesIn (now (vars .entry)) (now (lows .entry)) (now (highs .entry)) count) ⌝ }
 {
     walks::clear_memo(memo, count);

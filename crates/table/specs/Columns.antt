@@ -1,7 +1,7 @@
 -- A node table lent as three columns. (01: "the core first works on three columns")
 use mathlib.Core.Bool.{Bool, _&&_}
 use mathlib.Core.List.{List, [], _∷_, _++_, map}
-use Prim.Native.Nat.{ℕ, zero, suc, _-_}
+use Prim.Native.Nat.{ℕ, _-_}
 use lib.ListN.{length, replicate}
 use lib.Dec.{eqb, leb}
 use Rattle.table.specs.Nodes.{Node, nodeOf, blank}

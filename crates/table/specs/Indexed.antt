@@ -1,8 +1,8 @@
 -- Three columns with their lookup index, as the inner functions are lent them. No call open to others cites this file.
 use mathlib.Core.Path.{_≡_}
 use mathlib.Core.Bool.{Bool, true, false}
-use mathlib.Core.List.{List, [], _∷_}
-use Prim.Native.Nat.{ℕ, zero, suc, _+_, _-_, _*_, _%_, _≤_, _<_}
+use mathlib.Core.List.{List}
+use Prim.Native.Nat.{ℕ, zero, suc, _+_, _-_, _*_, _%_, _≤_}
 use lib.ListN.{length, getD, set, take, replicate}
 use mathlib.Core.Option.{Option, none, some}
 use Rattle.table.specs.declared.Placed.{Placed}

@@ -4,7 +4,8 @@ ghost use mathlib.Core.List.{[], _∷_, _++_};
 ghost use Prim.Native.Nat.{_+_, _*_, _%_, _≤_, _<_};
 ghost use lib.ListN.{length, take};
 ghost use Rattle.table.specs.Nodes.{nodeOf, find, put};
-ghost use Rattle.table.specs.Indexed.{bucket, insert, indexMade, tableOf, size, nodesOf, indexed, Good, Linked, foundOf, outcomeOf, written};
+ghost use Rattle.table.specs.Indexed.{bucket, insert, indexMade, tableOf, nodesOf, indexed, Good, Linked};
+ghost use Rattle.table.specs.Indexed.{foundOf, outcomeOf, written};
 
 pub mod test;
 
@@ -57,7 +58,9 @@ pub fn lookup(
     h: NodeNo,
 ) -> Found
     requires { ⌜ Linked (tableOf (now vars) (now lows) (now highs) (now heads) (now links) count) ⌝ }
-    ensures { λ r. ⌜ r ≡ foundOf (find (nodesOf (tableOf (now (vars .entry)) (now (lows .entry)) (now (highs .entry)) (now (heads .entry)) (now (links .entry)) count)) (nodeOf v (l .0) (h .0))) ⌝ }
+    ensures { λ r. ⌜ (
+        let before = tableOf (now (vars .entry)) (now (lows .entry)) (now (highs .entry)) (now (heads .entry)) (now (links .entry)) count in
+        r ≡ foundOf (find (nodesOf before) (nodeOf v (l .0) (h .0)))) ⌝ }
 {
     let b = bucket_of(heads.len(), v, l.0, h.0);
     let mut k: u16 = heads[b];
@@ -74,7 +77,8 @@ pub fn lookup(
 // Puts place k to the front of its chain.
 pub fn link(heads: &mut [u16], links: &mut [u16], k: usize, v: u8, l: u16, h: u16)
     requires { ⌜ (0 < length (now heads)) × (k < length (now links)) × (length (now links) ≤ 65536) ⌝ }
-    ensures { λ _. ⌜ indexMade (now (heads .exit)) (now (links .exit)) ≡ insert (indexMade (now (heads .entry)) (now (links .entry))) (bucket (length (now (heads .entry))) v l h) k ⌝ }
+    ensures { λ _. ⌜ indexMade (now (heads .exit)) (now (links .exit))
+        ≡ insert (indexMade (now (heads .entry)) (now (links .entry))) (bucket (length (now (heads .entry))) v l h) k ⌝ }
 {
     let b = bucket_of(heads.len(), v, l, h);
     links[k] = heads[b];
@@ -94,7 +98,10 @@ fn append(
     h: u16,
 )
     requires { ⌜ Good (tableOf (now vars) (now lows) (now highs) (now heads) (now links) count) × (count < length (now vars)) ⌝ }
-    ensures { λ _. ⌜ tableOf (now (vars .exit)) (now (lows .exit)) (now (highs .exit)) (now (heads .exit)) (now (links .exit)) (count + 1) ≡ indexed (length (now (vars .entry))) (nodesOf (tableOf (now (vars .entry)) (now (lows .entry)) (now (highs .entry)) (now (heads .entry)) (now (links .entry)) count) ++ nodeOf v l h ∷ []) ⌝ }
+    ensures { λ _. ⌜ (
+        let before = tableOf (now (vars .entry)) (now (lows .entry)) (now (highs .entry)) (now (heads .entry)) (now (links .entry)) count in
+        let after = tableOf (now (vars .exit)) (now (lows .exit)) (now (highs .exit)) (now (heads .exit)) (now (links .exit)) (count + 1) in
+        after ≡ indexed (length (now (vars .entry))) (nodesOf before ++ nodeOf v l h ∷ [])) ⌝ }
 {
     link(heads, links, count, v, l, h);
     vars[count] = v;
@@ -115,7 +122,10 @@ pub fn put(
     h: NodeNo,
 ) -> Placed
     requires { ⌜ Good (tableOf (now vars) (now lows) (now highs) (now heads) (now links) count) ⌝ }
-    ensures { λ r. ⌜ outcomeOf (now (vars .exit)) (now (lows .exit)) (now (highs .exit)) (now (heads .exit)) (now (links .exit)) r ≡ written (length (now (vars .entry))) (put (length (now (vars .entry))) (nodesOf (tableOf (now (vars .entry)) (now (lows .entry)) (now (highs .entry)) (now (heads .entry)) (now (links .entry)) count)) v (l .0) (h .0)) ⌝ }
+    ensures { λ r. ⌜ (
+        let before = tableOf (now (vars .entry)) (now (lows .entry)) (now (highs .entry)) (now (heads .entry)) (now (links .entry)) count in
+        outcomeOf (now (vars .exit)) (now (lows .exit)) (now (highs .exit)) (now (heads .exit)) (now (links .exit)) r
+        ≡ written (length (now (vars .entry))) (put (length (now (vars .entry))) (nodesOf before) v (l .0) (h .0))) ⌝ }
 {
     if l.0 == h.0 {
         return Placed {
@@ -160,7 +170,10 @@ pub fn drop_to(
     keep: usize,
 )
     requires { ⌜ Good (tableOf (now vars) (now lows) (now highs) (now heads) (now links) count) × (2 ≤ keep) × (keep ≤ count) ⌝ }
-    ensures { λ _. ⌜ tableOf (now (vars .exit)) (now (lows .exit)) (now (highs .exit)) (now (heads .exit)) (now (links .exit)) keep ≡ indexed (length (now (vars .entry))) (take keep (nodesOf (tableOf (now (vars .entry)) (now (lows .entry)) (now (highs .entry)) (now (heads .entry)) (now (links .entry)) count))) ⌝ }
+    ensures { λ _. ⌜ (
+        let before = tableOf (now (vars .entry)) (now (lows .entry)) (now (highs .entry)) (now (heads .entry)) (now (links .entry)) count in
+        let after = tableOf (now (vars .exit)) (now (lows .exit)) (now (highs .exit)) (now (heads .exit)) (now (links .exit)) keep in
+        after ≡ indexed (length (now (vars .entry))) (take keep (nodesOf before))) ⌝ }
 {
     let n = heads.len();
     let mut k = count;

@@ -55,7 +55,9 @@ pub fn stands_above(vars: &[u8], lows: &[u16], highs: &[u16], v: u8, child: u16)
 // Whether the node at place k is as good order asks, but for being new.
 fn fits_at(vars: &[u8], lows: &[u16], highs: &[u16], k: usize) -> bool
     requires { ⌜ (length (now lows) ≡ length (now vars)) × (length (now highs) ≡ length (now vars)) × (k < length (now vars)) ⌝ }
-    ensures { λ r. ⌜ r ≡ fits (rows (now (vars .entry)) (now (lows .entry)) (now (highs .entry))) k (at (rows (now (vars .entry)) (now (lows .entry)) (now (highs .entry))) k) ⌝ }
+    ensures { λ r. ⌜ (
+        let nodes = rows (now (vars .entry)) (now (lows .entry)) (now (highs .entry)) in
+        r ≡ fits nodes k (at nodes k)) ⌝ }
 {
     let v = vars[k];
     let l = lows[k];
@@ -92,7 +94,9 @@ fn admit(
 ) -> bool
     requires { ⌜ Linked (tableOf (now vars) (now lows) (now highs) (now heads) (now links) k) × (k < length (now vars)) ⌝ }
     ensures { λ r. ⌜ r ≡ nodesInOrder (take (k + 1) (rows (now (vars .entry)) (now (lows .entry)) (now (highs .entry)))) ⌝ }
-    ensures { λ r. ⌜ (r ≡ true → Linked (tableOf (now (vars .entry)) (now (lows .entry)) (now (highs .entry)) (now (heads .exit)) (now (links .exit)) (k + 1))) ⌝ }
+    ensures { λ r. ⌜ (
+        let after = tableOf (now (vars .entry)) (now (lows .entry)) (now (highs .entry)) (now (heads .exit)) (now (links .exit)) (k + 1) in
+        r ≡ true → Linked after) ⌝ }
 {
     if !fits_at(vars, lows, highs, k) {
         return false;
@@ -128,9 +132,13 @@ fn index_nodes(
     links: &mut [u16],
     count: usize,
 ) -> bool
-    requires { ⌜ Linked (tableOf (now vars) (now lows) (now highs) (now heads) (now links) 2) × (2 ≤ count) × (count ≤ length (now vars)) ⌝ }
+    requires { ⌜ (
+        let before = tableOf (now vars) (now lows) (now highs) (now heads) (now links) 2 in
+        Linked before × (2 ≤ count) × (count ≤ length (now vars))) ⌝ }
     ensures { λ r. ⌜ r ≡ nodesInOrder (take count (rows (now (vars .entry)) (now (lows .entry)) (now (highs .entry)))) ⌝ }
-    ensures { λ r. ⌜ (r ≡ true → Linked (tableOf (now (vars .entry)) (now (lows .entry)) (now (highs .entry)) (now (heads .exit)) (now (links .exit)) count)) ⌝ }
+    ensures { λ r. ⌜ (
+        let after = tableOf (now (vars .entry)) (now (lows .entry)) (now (highs .entry)) (now (heads .exit)) (now (links .exit)) count in
+        r ≡ true → Linked after) ⌝ }
 {
     let mut k: usize = 2;
     while k < count {
@@ -154,7 +162,9 @@ pub fn in_order(
     requires { ⌜ sizeFits (now vars) (now lows) (now highs) ≡ true ⌝ }
     requires { ⌜ (now heads ≡ replicate (2 * length (now vars)) 0) × (now links ≡ replicate (length (now vars)) 0) ⌝ }
     ensures { λ r. ⌜ r ≡ goodOrder (rows (now (vars .entry)) (now (lows .entry)) (now (highs .entry))) count ⌝ }
-    ensures { λ r. ⌜ (r ≡ true → Good (tableOf (now (vars .entry)) (now (lows .entry)) (now (highs .entry)) (now (heads .exit)) (now (links .exit)) count)) ⌝ }
+    ensures { λ r. ⌜ (
+        let after = tableOf (now (vars .entry)) (now (lows .entry)) (now (highs .entry)) (now (heads .exit)) (now (links .exit)) count in
+        r ≡ true → Good after) ⌝ }
 {
     if count < 2 {
         return false;

@@ -21,7 +21,9 @@ pub fn units_of(
     f: NodeNo,
 ) -> Units
     requires { ⌜ Readable (now vars) (now lows) (now highs) count × (f .0 < count) × Roomy (now vars) (now memo) ⌝ }
-    ensures { λ r. ⌜ UnitsAt (nodesIn (now (vars .entry)) (now (lows .entry)) (now (highs .entry)) count) (f .0) (r .positive) (r .negative) ⌝ }
+    ensures { λ r. ⌜ (
+        let nodes = nodesIn (now (vars .entry)) (now (lows .entry)) (now (highs .entry)) count in
+        UnitsAt nodes (f .0) (r .positive) (r .negative)) ⌝ }
 {
     walks::clear_memo(memo, count);
     units_from(vars, lows, highs, memo, count, f, 1)
@@ -37,8 +39,13 @@ pub fn units_from(
     f: NodeNo,
     stamp: u64,
 ) -> Units
-    requires { ⌜ Readable (now vars) (now lows) (now highs) count × (f .0 < count) × Roomy (now vars) (now memo) × MarksBelow count (now memo) stamp ⌝ }
-    ensures { λ r. ⌜ UnitsAt (nodesIn (now (vars .entry)) (now (lows .entry)) (now (highs .entry)) count) (f .0) (r .positive) (r .negative) ⌝ }
+    requires { ⌜ Readable (now vars) (now lows) (now highs) count
+        × (f .0 < count)
+        × Roomy (now vars) (now memo)
+        × MarksBelow count (now memo) stamp ⌝ }
+    ensures { λ r. ⌜ (
+        let nodes = nodesIn (now (vars .entry)) (now (lows .entry)) (now (highs .entry)) count in
+        UnitsAt nodes (f .0) (r .positive) (r .negative)) ⌝ }
     ensures { λ _. ⌜ MarksBelow count (now (memo .exit)) (stamp + 1) ⌝ }
 {
     let all = Units {

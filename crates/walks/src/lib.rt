@@ -96,7 +96,9 @@ pub fn is_constant(
     one: bool,
 ) -> bool
     requires { ⌜ Readable (now vars) (now lows) (now highs) count × (f .0 < count) × Roomy (now vars) (now memo) ⌝ }
-    ensures { λ r. ⌜ r ≡ constantAt (nodesIn (now (vars .entry)) (now (lows .entry)) (now (highs .entry)) count) positive negative one (f .0) ⌝ }
+    ensures { λ r. ⌜ (
+        let nodes = nodesIn (now (vars .entry)) (now (lows .entry)) (now (highs .entry)) count in
+        r ≡ constantAt nodes positive negative one (f .0)) ⌝ }
 {
     clear_memo(memo, count);
     constant_from(vars, lows, highs, memo, count, f, positive, negative, one)
@@ -116,8 +118,12 @@ pub fn constant_from(
 ) -> bool
     requires { ⌜ Readable (now vars) (now lows) (now highs) count × (f .0 < count) × Roomy (now vars) (now memo) ⌝ }
     requires { ⌜ ConstantMemo (now memo) (nodesIn (now vars) (now lows) (now highs) count) positive negative one ⌝ }
-    ensures { λ r. ⌜ r ≡ constantAt (nodesIn (now (vars .entry)) (now (lows .entry)) (now (highs .entry)) count) positive negative one (f .0) ⌝ }
-    ensures { λ _. ⌜ ConstantMemo (now (memo .exit)) (nodesIn (now (vars .entry)) (now (lows .entry)) (now (highs .entry)) count) positive negative one ⌝ }
+    ensures { λ r. ⌜ (
+        let nodes = nodesIn (now (vars .entry)) (now (lows .entry)) (now (highs .entry)) count in
+        r ≡ constantAt nodes positive negative one (f .0)) ⌝ }
+    ensures { λ _. ⌜ (
+        let nodes = nodesIn (now (vars .entry)) (now (lows .entry)) (now (highs .entry)) count in
+        ConstantMemo (now (memo .exit)) nodes positive negative one) ⌝ }
 {
     if f.0 == 0 {
         return !one;

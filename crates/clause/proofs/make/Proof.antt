@@ -14,11 +14,51 @@ abbrev μ-loop : tie.MeasureT-loop
 μ-loop vars₀ lows₀ highs₀ heads₀ links₀ count positive negative made₀ v₀ vars lows highs heads links made v =
     v
 
+-- The ways back, written by ways.py: TO-from-FROM leads from the place FROM of the code to the place TO before it.
+module _ (c : tie.Else1 Inv-loop μ-loop) where
+  abbrev start-from-else1 : tie.Start Inv-loop μ-loop
+  start-from-else1 = c .before .before .before .before .before .before
+
+module _ (c : tie.Then1 Inv-loop μ-loop) where
+  abbrev start-from-then1 : tie.Start Inv-loop μ-loop
+  start-from-then1 = c .before .before .before .before .before .before
+
+module _ (c : tie.After-loop Inv-loop μ-loop) where
+  abbrev start-from-return-3 : tie.Start Inv-loop μ-loop
+  start-from-return-3 = start-from-else1 (c .before .before)
+
+module _ (c : tie.After-put Inv-loop μ-loop) where
+  abbrev side2-from-put : tie.After-side2 Inv-loop μ-loop
+  side2-from-put = c .before .before .before .before .before .before
+
+  abbrev side-from-put : tie.After-side Inv-loop μ-loop
+  side-from-put = side2-from-put .before
+
+  abbrev in-loop-from-put : tie.In-loop Inv-loop μ-loop
+  in-loop-from-put = side-from-put .before
+
+  abbrev at-loop-from-put : tie.At-loop Inv-loop μ-loop
+  at-loop-from-put = in-loop-from-put .before
+
+  abbrev else1-from-put : tie.Else1 Inv-loop μ-loop
+  else1-from-put = at-loop-from-put .before
+
+  abbrev start-from-put : tie.Start Inv-loop μ-loop
+  start-from-put = start-from-else1 else1-from-put
+
+module _ (c : tie.Else2 Inv-loop μ-loop) where
+  abbrev put-from-else2 : tie.After-put Inv-loop μ-loop
+  put-from-else2 = c .before .before .before .before .before .before .before .before .before .before .before
+
+module _ (c : tie.Then2 Inv-loop μ-loop) where
+  abbrev put-from-then2 : tie.After-put Inv-loop μ-loop
+  put-from-then2 = c .before .before .before .before .before .before .before .before .before .before .before
+
 -- the turn of one variable, once its node is put
 module _ (a : tie.After-put Inv-loop μ-loop) where
   abbrev lent : Table
   lent =
-      let x = a .before .before .before .before .before .before .before .before .before .before .before .before .before .before .before .before .args in
+      let x = start-from-put a .args in
       tableOf (x .vars .now) (x .lows .now) (x .highs .now) (x .heads .now) (x .links .now) (x .count)
 
   abbrev left : Outcome
@@ -26,18 +66,18 @@ module _ (a : tie.After-put Inv-loop μ-loop) where
       let x = a .put .last in
       outcomeOf (x .0) (x .1 .0) (x .1 .1 .0) (x .1 .1 .1 .0) (x .1 .1 .1 .1 .0) (a .put .result)
 
-  turn : Turn lent (a .before .before .before .before .before .before .before .before .before .before .before .before .before .before .before .before .args .positive) (a .before .before .before .before .before .before .before .before .before .before .before .before .before .before .before .before .args .negative) (a .before .before .before .before .before .before .before .before .before .loop .v) left
+  turn : Turn lent (start-from-put a .args .positive) (start-from-put a .args .negative) (at-loop-from-put a .loop .v) left
   turn =
-      make-turn _ (a .before .before .before .before .before .before .before .before .before .before .before .before .before .before .before .before .pre) _ _ (a .before .before .before .before .before .before .before .before .before .before .if1 .left) _ (a .before .before .before .before .before .before .before .before .loop-test .taken) _ (a .before .before .before .before .before .before .before .before .before .loop .inv) _ _
-      (a .before .before .before .before .before .before .before .side .ensures) (a .before .before .before .before .before .before .side2 .ensures) _ (a .put .ensures)
+      make-turn _ (start-from-put a .pre) _ _ (else1-from-put a .if1 .left) _ (in-loop-from-put a .loop-test .taken) _ (at-loop-from-put a .loop .inv) _ _
+      (side-from-put a .side .ensures) (side2-from-put a .side2 .ensures) _ (a .put .ensures)
 
 returns : tie.Need-returns Inv-loop μ-loop
 returns c =
-    make-both _ (c .before .before .before .before .before .before .pre) _ _ (omega (arith, c .before .before .before .before .before .before .fits .positive)) (omega (arith, c .before .before .before .before .before .before .fits .negative)) (c .if1 .taken)
+    make-both _ (start-from-then1 c .pre) _ _ (omega (arith, start-from-then1 c .fits .positive)) (omega (arith, start-from-then1 c .fits .negative)) (c .if1 .taken)
 
 loop-holds : tie.Need-loop-holds Inv-loop μ-loop
 loop-holds c =
-    make-start _ (c .before .before .before .before .before .before .pre) _ _
+    make-start _ (start-from-else1 c .pre) _ _
 
 side-requires : tie.Need-side-requires Inv-loop μ-loop
 side-requires c κs = search needs
@@ -64,7 +104,7 @@ same-length-5 : tie.Need-same-length-5 Inv-loop μ-loop
 same-length-5 c = search needs
 
 returns-2 : tie.Need-returns-2 Inv-loop μ-loop
-returns-2 c = turn (c .before .before .before .before .before .before .before .before .before .before .before) .last (c .if2 .taken)
+returns-2 c = turn (put-from-then2 c) .last (c .if2 .taken)
 
 sub-v : tie.Need-sub-v Inv-loop μ-loop
 sub-v c = search needs
@@ -73,7 +113,7 @@ loop-less : tie.Need-loop-less Inv-loop μ-loop
 loop-less c = search needs
 
 loop-again : tie.Need-loop-again Inv-loop μ-loop
-loop-again c = turn (c .before .before .before .before .before .before .before .before .before .before .before) .next (c .if2 .left)
+loop-again c = turn (put-from-else2 c) .next (c .if2 .left)
 
 same-length-6 : tie.Need-same-length-6 Inv-loop μ-loop
 same-length-6 c = search needs
@@ -92,7 +132,7 @@ same-length-10 c = search needs
 
 returns-3 : tie.Need-returns-3 Inv-loop μ-loop
 returns-3 c =
-    make-end _ (c .before .before .before .before .before .before .before .before .pre) _ _ _ (c .loop-test .left) _ (c .before .loop .inv)
+    make-end _ (start-from-return-3 c .pre) _ _ _ (c .loop-test .left) _ (c .before .loop .inv)
 
 pub make-spec : {M : Type 1} → statement M
 make-spec =

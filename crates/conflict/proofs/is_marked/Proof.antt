@@ -14,9 +14,17 @@ enum-known-found c = search needs
 cast-k : tie.Need-cast-k
 cast-k c = search needs
 
+-- The ways back, written by ways.py: TO-from-FROM leads from the place FROM of the code to the place TO before it.
+module _ (c : tie.After-shared-slice-known) where
+  abbrev found-from-return : tie.After-found
+  found-from-return = c .before .before .before
+
+  abbrev start-from-return : tie.Start
+  start-from-return = found-from-return .before .before
+
 -- src/lib.rt:47:13
 shared-slice-read-result : tie.Need-shared-slice-read-result
-shared-slice-read-result c = subst (FoundInside (length (c .before .before .before .before .before .args .marks .now))) (c .before .before .before .found .given .1) (c .before .before .before .before .before .pre)
+shared-slice-read-result c = subst (FoundInside (length (start-from-return c .args .marks .now))) (found-from-return c .found .given .1) (start-from-return c .pre)
 
 -- src/lib.rt:49:27
 enum-told : tie.Need-enum-told
@@ -24,7 +32,7 @@ enum-told c = search needs
 
 -- src/lib.rt:40:1
 returns : tie.Need-returns
-returns c = ap (markedAt (c .before .before .before .before .before .args .marks .now)) (sym (c .before .before .before .found .given .1))
+returns c = ap (markedAt (start-from-return c .args .marks .now)) (sym (found-from-return c .found .given .1))
 
 -- src/lib.rt:40:1
 returns-2 : tie.Need-returns-2

@@ -29,9 +29,74 @@ clear-memo-requires : tie.Need-clear-memo-requires Inv-loop μ-loop
 clear-memo-requires c κs =
     search needs
 
+-- The ways back, written by ways.py: TO-from-FROM leads from the place FROM of the code to the place TO before it.
+module _ (c : tie.After-clear-memo Inv-loop μ-loop) where
+  abbrev start-from-clear-memo : tie.Start Inv-loop μ-loop
+  start-from-clear-memo = c .before .before .before .before .before .before .before .before .before .before .before
+
+module _ (c : tie.After-slice-known2 Inv-loop μ-loop) where
+  abbrev start-from-loop-holds : tie.Start Inv-loop μ-loop
+  start-from-loop-holds = start-from-clear-memo (c .before .before)
+
+module _ (c : tie.At-loop Inv-loop μ-loop) where
+  abbrev clear-memo-from-at-loop : tie.After-clear-memo Inv-loop μ-loop
+  clear-memo-from-at-loop = c .before .before .before
+
+module _ (c : tie.After-loop Inv-loop μ-loop) where
+  abbrev start-from-return-2 : tie.Start Inv-loop μ-loop
+  start-from-return-2 = start-from-clear-memo (clear-memo-from-at-loop (c .before))
+
+module _ (c : tie.After-shared-slice-known9 Inv-loop μ-loop) where
+  abbrev start-from-shared-slice-read-if1 : tie.Start Inv-loop μ-loop
+  start-from-shared-slice-read-if1 = start-from-clear-memo (clear-memo-from-at-loop (c .before .before))
+
+module _ (c : tie.Joined1 Inv-loop μ-loop) where
+  abbrev at-loop-from-loop-again : tie.At-loop Inv-loop μ-loop
+  at-loop-from-loop-again = c .before .before .before
+
+  abbrev start-from-loop-again : tie.Start Inv-loop μ-loop
+  start-from-loop-again = start-from-clear-memo (clear-memo-from-at-loop at-loop-from-loop-again)
+
+module _ (c : tie.After-negation-from-arg Inv-loop μ-loop) where
+  abbrev in-loop-from-negation-from-call : tie.In-loop Inv-loop μ-loop
+  in-loop-from-negation-from-call = c .before .before .before .before
+
+  abbrev at-loop-from-negation-from-call : tie.At-loop Inv-loop μ-loop
+  at-loop-from-negation-from-call = in-loop-from-negation-from-call .before
+
+  abbrev clear-memo-from-negation-from-call : tie.After-clear-memo Inv-loop μ-loop
+  clear-memo-from-negation-from-call = clear-memo-from-at-loop at-loop-from-negation-from-call
+
+  abbrev start-from-negation-from-call : tie.Start Inv-loop μ-loop
+  start-from-negation-from-call = start-from-clear-memo clear-memo-from-negation-from-call
+
+module _ (c : tie.After-negation-from Inv-loop μ-loop) where
+  abbrev in-loop-from-negation-from : tie.In-loop Inv-loop μ-loop
+  in-loop-from-negation-from = c .before .before .before .before .before
+
+module _ (c : tie.After-slice-known3 Inv-loop μ-loop) where
+  abbrev at-loop-from-is-marked-call : tie.At-loop Inv-loop μ-loop
+  at-loop-from-is-marked-call = in-loop-from-negation-from (c .before .before) .before
+
+  abbrev start-from-is-marked-call : tie.Start Inv-loop μ-loop
+  start-from-is-marked-call = start-from-clear-memo (clear-memo-from-at-loop at-loop-from-is-marked-call)
+
+module _ (c : tie.Then2 Inv-loop μ-loop) where
+  abbrev negation-from-from-then2 : tie.After-negation-from Inv-loop μ-loop
+  negation-from-from-then2 = c .before .before .before .before
+
+  abbrev in-loop-from-then2 : tie.In-loop Inv-loop μ-loop
+  in-loop-from-then2 = in-loop-from-negation-from negation-from-from-then2
+
+  abbrev at-loop-from-then2 : tie.At-loop Inv-loop μ-loop
+  at-loop-from-then2 = in-loop-from-then2 .before
+
+  abbrev start-from-then2 : tie.Start Inv-loop μ-loop
+  start-from-then2 = start-from-clear-memo (clear-memo-from-at-loop at-loop-from-then2)
+
 loop-holds : tie.Need-loop-holds Inv-loop μ-loop
 loop-holds c =
-    let a = c .before .before .before .before .before .before .before .before .before .before .before .before .before .args in
+    let a = start-from-loop-holds c .args in
     (refl, negations-cleared (tableOf (a .vars .now) (a .lows .now) (a .highs .now) (a .heads .now) (a .links .now) (a .count)) _ (c .before .before .clear-memo .ensures), asked-first (nodesOf (tableOf (a .vars .now) (a .lows .now) (a .highs .now) (a .heads .now) (a .links .now) (a .count))) (a .list .now) (a .words .now) (a .touching))
 
 mul-if1 : tie.Need-mul-if1 Inv-loop μ-loop
@@ -40,7 +105,7 @@ mul-if1 c =
 
 shared-slice-read-if1 : tie.Need-shared-slice-read-if1 Inv-loop μ-loop
 shared-slice-read-if1 c =
-    omega (arith, c .before .before .before .before .before .before .before .before .before .before .before .before .before .before .before .before .pre .1 .1, c .before .loop-test .taken)
+    omega (arith, start-from-shared-slice-read-if1 c .pre .1 .1, c .before .loop-test .taken)
 
 mul-t23 : tie.Need-mul-t23 Inv-loop μ-loop
 mul-t23 c =
@@ -52,20 +117,20 @@ shared-slice-read-t25 c =
 
 negation-from-requires : tie.Need-negation-from-requires Inv-loop μ-loop
 negation-from-requires c κs =
-    let r = c .before .before .before .before .before .before .before .before .before .before .before .before .before .before .before .before .before .before .before .pre in
-    let w = c .before .before .before .before .before .loop in
+    let r = start-from-negation-from-call c .pre in
+    let w = at-loop-from-negation-from-call c .loop in
     record {
       good = r .0 .0 .good;
-      inside = r .0 .0 .inside (w .i) (c .before .before .before .before .loop-test .taken);
-      room = omega (arith, w .inv .0, c .before .before .before .before .before .before .before .before .clear-memo .kept .0, r .0 .0 .room);
+      inside = r .0 .0 .inside (w .i) (in-loop-from-negation-from-call c .loop-test .taken);
+      room = omega (arith, w .inv .0, clear-memo-from-negation-from-call c .clear-memo .kept .0, r .0 .0 .room);
       right = w .inv .1;
     }
 
 is-marked-requires : tie.Need-is-marked-requires Inv-loop μ-loop
 is-marked-requires c κs =
-    let a = c .before .before .before .before .before .before .before .before .before .before .before .before .before .before .before .before .before .before .before .before .before .before .args in
-    let r = c .before .before .before .before .before .before .before .before .before .before .before .before .before .before .before .before .before .before .before .before .before .before .pre in
-    let w = c .before .before .before .before .before .before .before .before .loop in
+    let a = start-from-is-marked-call c .args in
+    let r = start-from-is-marked-call c .pre in
+    let w = at-loop-from-is-marked-call c .loop in
     let y = c .before .before .negation-from in
     let len : length (a .marks .now) ≡ length (a .vars .now) = ap length (r .0 .1) ∙ marked-length (length (a .vars .now)) (a .list .now) in
     subst (λ n. FoundInside n (y .result)) (sym len) (found-inside (tableOf (a .vars .now) (a .lows .now) (a .highs .now) (a .heads .now) (a .links .now) (a .count)) (r .0 .0 .good) (a .list .now) (r .0 .0 .inside) _ (y .result) (y .ensures .0))
@@ -76,10 +141,10 @@ same-length c =
 
 returns : tie.Need-returns Inv-loop μ-loop
 returns c =
-    let a = c .before .before .before .before .before .before .before .before .before .before .before .before .before .before .before .before .before .before .before .before .before .before .before .before .args in
-    let r = c .before .before .before .before .before .before .before .before .before .before .before .before .before .before .before .before .before .before .before .before .before .before .before .before .pre in
-    let w = c .before .before .before .before .before .before .before .before .before .before .loop in
-    sym (negated-here (nodesOf (tableOf (a .vars .now) (a .lows .now) (a .highs .now) (a .heads .now) (a .links .now) (a .count))) (a .list .now) (w .i) (c .before .before .before .before .before .before .before .before .before .loop-test .taken) (negation-marked (tableOf (a .vars .now) (a .lows .now) (a .highs .now) (a .heads .now) (a .links .now) (a .count)) (r .0 .0 .good) (a .list .now) (r .0 .0 .inside) (getD (a .list .now) (w .i) 0) ((c .before .before .before .before .negation-from) .result) ((c .before .before .before .before .negation-from) .ensures .0) ∙ ap (λ m. markedAt m ((c .before .before .before .before .negation-from) .result)) (sym (r .0 .1)) ∙ sym ((c .before .is-marked) .ensures) ∙ c .if2 .taken))
+    let a = start-from-then2 c .args in
+    let r = start-from-then2 c .pre in
+    let w = at-loop-from-then2 c .loop in
+    sym (negated-here (nodesOf (tableOf (a .vars .now) (a .lows .now) (a .highs .now) (a .heads .now) (a .links .now) (a .count))) (a .list .now) (w .i) (in-loop-from-then2 c .loop-test .taken) (negation-marked (tableOf (a .vars .now) (a .lows .now) (a .highs .now) (a .heads .now) (a .links .now) (a .count)) (r .0 .0 .good) (a .list .now) (r .0 .0 .inside) (getD (a .list .now) (w .i) 0) ((negation-from-from-then2 c .negation-from) .result) ((negation-from-from-then2 c .negation-from) .ensures .0) ∙ ap (λ m. markedAt m ((negation-from-from-then2 c .negation-from) .result)) (sym (r .0 .1)) ∙ sym ((c .before .is-marked) .ensures) ∙ c .if2 .taken))
 
 add-i : tie.Need-add-i Inv-loop μ-loop
 add-i c =
@@ -91,9 +156,9 @@ loop-less c =
 
 loop-again : tie.Need-loop-again Inv-loop μ-loop
 loop-again c =
-    let a = c .before .before .before .before .before .before .before .before .before .before .before .before .before .before .before .before .before .args in
-    let r = c .before .before .before .before .before .before .before .before .before .before .before .before .before .before .before .before .before .pre in
-    let w = c .before .before .before .loop in
+    let a = start-from-loop-again c .args in
+    let r = start-from-loop-again c .pre in
+    let w = at-loop-from-loop-again c .loop in
     ⊎-elim
     (λ x. (
       ap length (x .8) ∙ x .3 .kept .1 .1 .1 .1 .1 .0 ∙ w .inv .0,
@@ -113,8 +178,8 @@ same-length-2 c =
 
 returns-2 : tie.Need-returns-2 Inv-loop μ-loop
 returns-2 c =
-    let a = c .before .before .before .before .before .before .before .before .before .before .before .before .before .before .before .args in
-    let r = c .before .before .before .before .before .before .before .before .before .before .before .before .before .before .before .pre in
+    let a = start-from-return-2 c .args in
+    let r = start-from-return-2 c .pre in
     let w = c .before .loop in
     sym (none-negated (nodesOf (tableOf (a .vars .now) (a .lows .now) (a .highs .now) (a .heads .now) (a .links .now) (a .count))) (a .list .now) (good-ordered (tableOf (a .vars .now) (a .lows .now) (a .highs .now) (a .heads .now) (a .links .now) (a .count)) (r .0 .0 .good)) (in-nodes (tableOf (a .vars .now) (a .lows .now) (a .highs .now) (a .heads .now) (a .links .now) (a .count)) (r .0 .0 .good) (a .list .now) (r .0 .0 .inside)) (a .words .now) (a .touching) (r .1 .0) (r .1 .2) (λ j q. w .inv .2 .none j (omega (arith, c .loop-test .left))))
 

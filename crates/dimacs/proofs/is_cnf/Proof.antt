@@ -14,8 +14,21 @@ use Rattle.dimacs.proofs.is_cnf.Tie as tie
 abbrev letters : List ℕ
 letters = 99 ∷ 110 ∷ 102 ∷ []
 
+-- The ways back, written by ways.py: TO-from-FROM leads from the place FROM of the code to the place TO before it.
+module _ (c : tie.Else1) where
+  abbrev start-from-else1 : tie.Start
+  start-from-else1 = c .before .before .before
+
+module _ (c : tie.Then3) where
+  abbrev else1-from-then3 : tie.Else1
+  else1-from-then3 = c .before .before .before .before
+
+module _ (c : tie.After-shared-slice-known4) where
+  abbrev else1-from-return-4 : tie.Else1
+  else1-from-return-4 = c .before .before .before .before .before
+
 -- A word of three bytes is `cnf` where they are.
-cnf : (c : tie.Else1) → isWord (c .before .before .before .args .s .now) (c .before .before .before .args .at) letters ≡ spells (c .before .before .before .args .s .now) (c .before .before .before .args .at) letters
+cnf : (c : tie.Else1) → isWord (start-from-else1 c .args .s .now) (start-from-else1 c .args .at) letters ≡ spells (start-from-else1 c .args .s .now) (start-from-else1 c .args .at) letters
 cnf c = word-is _ _ _ letters (c .before .past-class .ensures .0) (omega arith) (c .if1 .left)
 
 past-class-requires : tie.Need-past-class-requires
@@ -40,7 +53,7 @@ shared-slice-read-if3 : tie.Need-shared-slice-read-if3
 shared-slice-read-if3 c = search needs
 
 returns-3 : tie.Need-returns-3
-returns-3 c = sym (cnf (c .before .before .before .before) ∙ rw (eq-eqb _ _ (c .before .before .if2 .left), ne-eqb _ _ (c .if3 .taken)))
+returns-3 c = sym (cnf (else1-from-then3 c) ∙ rw (eq-eqb _ _ (c .before .before .if2 .left), ne-eqb _ _ (c .if3 .taken)))
 
 add-result : tie.Need-add-result
 add-result c = search needs
@@ -50,7 +63,7 @@ shared-slice-read-result c = search needs
 
 returns-4 : tie.Need-returns-4
 returns-4 c = sym
-    (cnf (c .before .before .before .before .before)
+    (cnf (else1-from-return-4 c)
     ∙ rw (eq-eqb _ _ (c .before .before .before .if2 .left), eq-eqb _ _ (c .before .if3 .left)) (and-true _))
 
 pub is-cnf-spec : {M : Type 1} → statement M

@@ -26,9 +26,24 @@ shared-slice-read-admits c = search needs
 admits-requires : tie.Need-admits-requires Inv-loop μ-loop
 admits-requires c κs = search needs
 
+-- The ways back, written by ways.py: TO-from-FROM leads from the place FROM of the code to the place TO before it.
+module _ (c : tie.Else1 Inv-loop μ-loop) where
+  abbrev in-loop-from-else1 : tie.In-loop Inv-loop μ-loop
+  in-loop-from-else1 = c .before .before .before
+
+  abbrev at-loop-from-else1 : tie.At-loop Inv-loop μ-loop
+  at-loop-from-else1 = in-loop-from-else1 .before
+
+module _ (c : tie.Then1 Inv-loop μ-loop) where
+  abbrev in-loop-from-then1 : tie.In-loop Inv-loop μ-loop
+  in-loop-from-then1 = c .before .before .before
+
+  abbrev at-loop-from-then1 : tie.At-loop Inv-loop μ-loop
+  at-loop-from-then1 = in-loop-from-then1 .before
+
 returns : tie.Need-returns Inv-loop μ-loop
-returns c = let k = c .before .before .before .before in
-    (sym (k .loop .inv .2 ∙ past-stop _ _ _ (c .before .before .before .loop-test .taken) (sym (c .before .admits .ensures) ∙ not-true _ (c .if1 .taken))), (omega arith, omega arith))
+returns c = let k = at-loop-from-then1 c in
+    (sym (k .loop .inv .2 ∙ past-stop _ _ _ (in-loop-from-then1 c .loop-test .taken) (sym (c .before .admits .ensures) ∙ not-true _ (c .if1 .taken))), (omega arith, omega arith))
 
 add-i : tie.Need-add-i Inv-loop μ-loop
 add-i c = search needs
@@ -37,8 +52,8 @@ loop-less : tie.Need-loop-less Inv-loop μ-loop
 loop-less c = search needs
 
 loop-again : tie.Need-loop-again Inv-loop μ-loop
-loop-again c = let k = c .before .before .before .before in
-    (omega arith, omega arith, k .loop .inv .2 ∙ past-go _ _ _ (c .before .before .before .loop-test .taken) (sym (c .before .admits .ensures) ∙ not-false _ (c .if1 .left)))
+loop-again c = let k = at-loop-from-else1 c in
+    (omega arith, omega arith, k .loop .inv .2 ∙ past-go _ _ _ (in-loop-from-else1 c .loop-test .taken) (sym (c .before .admits .ensures) ∙ not-false _ (c .if1 .left)))
 
 returns-2 : tie.Need-returns-2 Inv-loop μ-loop
 returns-2 c = (sym (c .before .loop .inv .2 ∙ past-end _ _ _ (c .loop-test .left)), (omega arith, omega arith))

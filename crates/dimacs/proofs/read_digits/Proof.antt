@@ -26,10 +26,29 @@ shared-slice-read-b c = search needs
 is-digit-requires : tie.Need-is-digit-requires Inv-loop μ-loop
 is-digit-requires c κs = search needs
 
+-- The ways back, written by ways.py: TO-from-FROM leads from the place FROM of the code to the place TO before it.
+module _ (c : tie.After-loop Inv-loop μ-loop) where
+  abbrev start-from-return-2 : tie.Start Inv-loop μ-loop
+  start-from-return-2 = c .before .before .before
+
+module _ (c : tie.Then1 Inv-loop μ-loop) where
+  abbrev in-loop-from-then1 : tie.In-loop Inv-loop μ-loop
+  in-loop-from-then1 = c .before .before .before
+
+  abbrev at-loop-from-then1 : tie.At-loop Inv-loop μ-loop
+  at-loop-from-then1 = in-loop-from-then1 .before
+
+module _ (c : tie.After-with-digit Inv-loop μ-loop) where
+  abbrev in-loop-from-loop-again : tie.In-loop Inv-loop μ-loop
+  in-loop-from-loop-again = c .before .before .before .before
+
+  abbrev at-loop-from-loop-again : tie.At-loop Inv-loop μ-loop
+  at-loop-from-loop-again = in-loop-from-loop-again .before
+
 returns : tie.Need-returns Inv-loop μ-loop
 returns c = sym
-    (c .before .before .before .before .loop .inv .3
-    ∙ digits-stop _ _ _ _ (c .before .before .before .loop-test .taken) (omega arith) (sym (c .before .is-digit .ensures) ∙ not-true _ (c .if1 .taken)))
+    (at-loop-from-then1 c .loop .inv .3
+    ∙ digits-stop _ _ _ _ (in-loop-from-then1 c .loop-test .taken) (omega arith) (sym (c .before .is-digit .ensures) ∙ not-true _ (c .if1 .taken)))
 
 with-digit-requires : tie.Need-with-digit-requires Inv-loop μ-loop
 with-digit-requires c κs = let d = sym (c .before .is-digit .ensures) ∙ not-false _ (c .if1 .left) in (omega arith, digit-least _ d, digit-most _ d)
@@ -41,17 +60,17 @@ loop-less : tie.Need-loop-less Inv-loop μ-loop
 loop-less c = search needs
 
 loop-again : tie.Need-loop-again Inv-loop μ-loop
-loop-again c = let k = c .before .before .before .before .before in (
+loop-again c = let k = at-loop-from-loop-again c in (
   omega arith,
   omega arith,
   c .with-digit .ensures .1,
   k .loop .inv .3
-      ∙ digits-go _ _ _ _ _ (c .before .before .before .before .loop-test .taken) (omega arith) (sym (c .before .before .is-digit .ensures) ∙ not-false _ (c .before .if1 .left))
+      ∙ digits-go _ _ _ _ _ (in-loop-from-loop-again c .loop-test .taken) (omega arith) (sym (c .before .before .is-digit .ensures) ∙ not-false _ (c .before .if1 .left))
       (c .with-digit .ensures .0),
 )
 
 returns-2 : tie.Need-returns-2 Inv-loop μ-loop
-returns-2 c = let a = c .before .before .before .args in
+returns-2 c = let a = start-from-return-2 c .args in
     sym (c .before .loop .inv .3 ∙ digits-end (a .s .now) (c .before .loop .at) (a .to) (c .before .loop .n) (omega arith) (c .before .loop .inv .2))
 
 pub read-digits-spec : {M : Type 1} → statement M

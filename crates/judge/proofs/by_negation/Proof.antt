@@ -22,10 +22,98 @@ module _ (s : tie.Start) where
   abbrev before : Table
   before = tableOf (s .args .vars .now) (s .args .lows .now) (s .args .highs .now) (s .args .heads .now) (s .args .links .now) (s .args .count)
 
+-- The ways back, written by ways.py: TO-from-FROM leads from the place FROM of the code to the place TO before it.
+module _ (c : tie.After-copy) where
+  abbrev start-from-copy : tie.Start
+  start-from-copy = c .before .before .before .before .before .before .before .before .before .before .before .before
+
+module _ (c : tie.After-copy-words) where
+  abbrev copy-from-copy-words : tie.After-copy
+  copy-from-copy-words = c .before .before .before .before
+
+module _ (c : tie.After-clear-memo-arg) where
+  abbrev copy-words-from-clear-memo-call : tie.After-copy-words
+  copy-words-from-clear-memo-call = c .before .before .before
+
+  abbrev start-from-clear-memo-call : tie.Start
+  start-from-clear-memo-call = start-from-copy (copy-from-copy-words copy-words-from-clear-memo-call)
+
+module _ (c : tie.After-clear-memo) where
+  abbrev copy-words-from-clear-memo : tie.After-copy-words
+  copy-words-from-clear-memo = c .before .before .before .before
+
+module _ (c : tie.After-apply-arg6) where
+  abbrev clear-memo-from-apply-call : tie.After-clear-memo
+  clear-memo-from-apply-call = c .before .before .before .before .before .before .before .before
+
+  abbrev start-from-apply-call : tie.Start
+  start-from-apply-call = start-from-copy (copy-from-copy-words (copy-words-from-clear-memo clear-memo-from-apply-call))
+
+module _ (c : tie.After-apply) where
+  abbrev clear-memo-from-apply : tie.After-clear-memo
+  clear-memo-from-apply = c .before .before .before .before .before .before .before .before .before
+
+  abbrev start-from-apply : tie.Start
+  start-from-apply = start-from-copy (copy-from-copy-words (copy-words-from-clear-memo clear-memo-from-apply))
+
+module _ (c : tie.Else1) where
+  abbrev apply-from-else1 : tie.After-apply
+  apply-from-else1 = c .before .before .before .before .before .before .before .before .before .before .before .before .before
+
+module _ (c : tie.Then1) where
+  abbrev apply-from-then1 : tie.After-apply
+  apply-from-then1 = c .before .before .before .before .before .before .before .before .before .before .before .before .before
+
+  abbrev clear-memo-from-then1 : tie.After-clear-memo
+  clear-memo-from-then1 = clear-memo-from-apply apply-from-then1
+
+  abbrev copy-words-from-then1 : tie.After-copy-words
+  copy-words-from-then1 = copy-words-from-clear-memo clear-memo-from-then1
+
+  abbrev copy-from-then1 : tie.After-copy
+  copy-from-then1 = copy-from-copy-words copy-words-from-then1
+
+module _ (c : tie.After-all-by-arg8) where
+  abbrev else1-from-all-by-call : tie.Else1
+  else1-from-all-by-call = c .before .before .before .before .before .before .before .before
+
+  abbrev apply-from-all-by-call : tie.After-apply
+  apply-from-all-by-call = apply-from-else1 else1-from-all-by-call
+
+  abbrev copy-words-from-all-by-call : tie.After-copy-words
+  copy-words-from-all-by-call = copy-words-from-clear-memo (clear-memo-from-apply apply-from-all-by-call)
+
+  abbrev copy-from-all-by-call : tie.After-copy
+  copy-from-all-by-call = copy-from-copy-words copy-words-from-all-by-call
+
+module _ (c : tie.After-all-by) where
+  abbrev else1-from-all-by : tie.Else1
+  else1-from-all-by = c .before .before .before .before .before .before .before .before .before
+
+module _ (c : tie.After-slice-known25) where
+  abbrev all-by-from-return-2 : tie.After-all-by
+  all-by-from-return-2 = c .before .before .before .before .before .before .before .before .before .before .before .before .before .before
+      .before .before
+
+  abbrev else1-from-return-2 : tie.Else1
+  else1-from-return-2 = else1-from-all-by all-by-from-return-2
+
+  abbrev apply-from-return-2 : tie.After-apply
+  apply-from-return-2 = apply-from-else1 else1-from-return-2
+
+  abbrev clear-memo-from-return-2 : tie.After-clear-memo
+  clear-memo-from-return-2 = clear-memo-from-apply apply-from-return-2
+
+  abbrev copy-words-from-return-2 : tie.After-copy-words
+  copy-words-from-return-2 = copy-words-from-clear-memo clear-memo-from-return-2
+
+  abbrev copy-from-return-2 : tie.After-copy
+  copy-from-return-2 = copy-from-copy-words copy-words-from-return-2
+
 -- what making not-g leaves
 module _ (a : tie.After-apply) where
   abbrev start : tie.Start
-  start = a .before .before .before .before .before .before .before .before .before .before .before .before .before .before .before .before .before .before .before .before .before .before .before .before .before .before .before .before .before
+  start = start-from-apply a
 
   abbrev made : Outcome
   made = outcomeOf (a .apply .last .0) (a .apply .last .1 .0) (a .apply .last .1 .1 .0) (a .apply .last .1 .1 .1 .0) (a .apply .last .1 .1 .1 .1 .0) (a .apply .result)
@@ -37,7 +125,7 @@ module _ (a : tie.After-apply) where
   made-is = a .apply .ensures .0
 
   memo-length : length memo₁ ≡ length (start .args .memo .now)
-  memo-length = a .apply .kept .1 .1 .1 .1 .1 .0 ∙ a .before .before .before .before .before .before .before .before .before .clear-memo .kept .0
+  memo-length = a .apply .kept .1 .1 .1 .1 .1 .0 ∙ clear-memo-from-apply a .clear-memo .kept .0
 
 copy-requires : tie.Need-copy-requires
 copy-requires c κs =
@@ -49,102 +137,102 @@ copy-words-requires c κs =
 
 clear-memo-requires : tie.Need-clear-memo-requires
 clear-memo-requires c κs =
-    omega (arith, c .before .before .before .before .before .before .before .before .before .before .before .before .before .before .before .before .before .before .before .pre .0 .0 .ready .room)
+    omega (arith, start-from-clear-memo-call c .pre .0 .0 .ready .room)
 
 apply-requires : tie.Need-apply-requires
 apply-requires c κs =
-    let s = c .before .before .before .before .before .before .before .before .before .before .before .before .before .before .before .before .before .before .before .before .before .before .before .before .before .before .before .before in
-    let m = c .before .before .before .before .before .before .before .before .clear-memo in
+    let s = start-from-apply-call c in
+    let m = clear-memo-from-apply-call c .clear-memo in
     negation-ready (before s) (s .args .members .now) (s .args .memo .now) (s .args .g .0) (s .pre .0 .0) (m .last .0) (m .ensures Negation (before s))
 
 same-length : tie.Need-same-length
 same-length c =
-    c .before .before .before .before .before .before .before .before .before .before .before .before .before .apply .kept .0
+    apply-from-then1 c .apply .kept .0
 
 same-length-2 : tie.Need-same-length-2
 same-length-2 c =
-    c .before .before .before .before .before .before .before .before .before .before .before .before .before .apply .kept .1 .0
+    apply-from-then1 c .apply .kept .1 .0
 
 same-length-3 : tie.Need-same-length-3
 same-length-3 c =
-    c .before .before .before .before .before .before .before .before .before .before .before .before .before .apply .kept .1 .1 .0
+    apply-from-then1 c .apply .kept .1 .1 .0
 
 same-length-4 : tie.Need-same-length-4
 same-length-4 c =
-    c .before .before .before .before .before .before .before .before .before .before .before .before .before .apply .kept .1 .1 .1 .0
+    apply-from-then1 c .apply .kept .1 .1 .1 .0
 
 same-length-5 : tie.Need-same-length-5
 same-length-5 c =
-    c .before .before .before .before .before .before .before .before .before .before .before .before .before .apply .kept .1 .1 .1 .1 .0
+    apply-from-then1 c .apply .kept .1 .1 .1 .1 .0
 
 same-length-6 : tie.Need-same-length-6
 same-length-6 c =
-    c .before .before .before .before .before .before .before .before .before .before .before .before .before .apply .kept .1 .1 .1 .1 .1 .0 ∙ c .before .before .before .before .before .before .before .before .before .before .before .before .before .before .before .before .before .before .before .before .before .before .clear-memo .kept .0
+    apply-from-then1 c .apply .kept .1 .1 .1 .1 .1 .0 ∙ clear-memo-from-then1 c .clear-memo .kept .0
 
 same-length-7 : tie.Need-same-length-7
 same-length-7 c =
-    c .before .before .before .before .before .before .before .before .before .before .before .before .before .before .before .before .before .before .before .before .before .before .before .before .before .before .before .before .before .before .copy .kept .1 .0
+    copy-from-then1 c .copy .kept .1 .0
 
 same-length-8 : tie.Need-same-length-8
 same-length-8 c =
-    c .before .before .before .before .before .before .before .before .before .before .before .before .before .before .before .before .before .before .before .before .before .before .before .before .before .before .copy-words .kept .1 .0
+    copy-words-from-then1 c .copy-words .kept .1 .0
 
 returns : tie.Need-returns
 returns c =
-    let a = c .before .before .before .before .before .before .before .before .before .before .before .before .before in
+    let a = apply-from-then1 c in
     let s = start a in
-    (negation-full (before s) (s .args .members .now) (s .args .memo .now) (s .args .g .0) (s .pre .0 .0) (made a) (made-is a) (c .if1 .taken) (c .before .before .before .before .before .before .before .before .before .before .before .before .before .before .before .before .before .before .before .before .before .before .before .before .before .before .before .before .before .before .copy .last .1 .0), λ z. t≢f z)
+    (negation-full (before s) (s .args .members .now) (s .args .memo .now) (s .args .g .0) (s .pre .0 .0) (made a) (made-is a) (c .if1 .taken) (copy-from-then1 c .copy .last .1 .0), λ z. t≢f z)
 
 all-by-requires : tie.Need-all-by-requires
 all-by-requires c κs =
-    let a = c .before .before .before .before .before .before .before .before .before .before .before .before .before .before .before .before .before .before .before .before .before in
+    let a = apply-from-all-by-call c in
     let s = start a in
-    let e = c .before .before .before .before .before .before .before .before .if1 .left in (
-      subst (λ l. ListReady (made a .table) l (memo₁ a) × (made a .node < made a .table .count) × Allowed Cofactor (made a .node)) (sym (c .before .before .before .before .before .before .before .before .before .before .before .before .before .before .before .before .before .before .before .before .before .before .before .before .before .before .before .before .before .before .before .before .before .before .before .before .before .before .copy .ensures)) (cofactors-ready (before s) (s .args .members .now) (s .args .memo .now) (s .args .g .0) (s .pre .0 .0) (made a) (made-is a) e (memo₁ a) (memo-length a)),
-      subst (λ l. (length (c .before .before .before .before .before .before .before .before .before .before .before .before .before .before .before .before .before .before .before .before .before .before .before .before .before .before .before .before .before .before .before .before .before .before .copy-words .last .1 .0) ≡ length l) × Supports (nodesOf (made a .table)) l (c .before .before .before .before .before .before .before .before .before .before .before .before .before .before .before .before .before .before .before .before .before .before .before .before .before .before .before .before .before .before .before .before .before .before .copy-words .last .1 .0) × Touches Cofactor (diagramAt (nodesOf (made a .table)) (made a .node)) (s .args .word)) (sym (c .before .before .before .before .before .before .before .before .before .before .before .before .before .before .before .before .before .before .before .before .before .before .before .before .before .before .before .before .before .before .before .before .before .before .before .before .before .before .copy .ensures))
-          (subst (λ w. (length w ≡ length (s .args .members .now)) × Supports (nodesOf (made a .table)) (s .args .members .now) w × Touches Cofactor (diagramAt (nodesOf (made a .table)) (made a .node)) (s .args .word)) (sym (c .before .before .before .before .before .before .before .before .before .before .before .before .before .before .before .before .before .before .before .before .before .before .before .before .before .before .before .before .before .before .before .before .before .before .copy-words .ensures))
+    let e = else1-from-all-by-call c .if1 .left in (
+      subst (λ l. ListReady (made a .table) l (memo₁ a) × (made a .node < made a .table .count) × Allowed Cofactor (made a .node)) (sym (copy-from-all-by-call c .copy .ensures)) (cofactors-ready (before s) (s .args .members .now) (s .args .memo .now) (s .args .g .0) (s .pre .0 .0) (made a) (made-is a) e (memo₁ a) (memo-length a)),
+      subst (λ l. (length (copy-words-from-all-by-call c .copy-words .last .1 .0) ≡ length l) × Supports (nodesOf (made a .table)) l (copy-words-from-all-by-call c .copy-words .last .1 .0) × Touches Cofactor (diagramAt (nodesOf (made a .table)) (made a .node)) (s .args .word)) (sym (copy-from-all-by-call c .copy .ensures))
+          (subst (λ w. (length w ≡ length (s .args .members .now)) × Supports (nodesOf (made a .table)) (s .args .members .now) w × Touches Cofactor (diagramAt (nodesOf (made a .table)) (made a .node)) (s .args .word)) (sym (copy-words-from-all-by-call c .copy-words .ensures))
           (negation-words (before s) (s .args .members .now) (s .args .memo .now) (s .args .g .0) (s .pre .0 .0) (made a) (made-is a) e (s .args .given .now) (s .args .word) (s .pre .1 .0))),
     )
 
 same-length-9 : tie.Need-same-length-9
 same-length-9 c =
-    c .before .before .before .before .before .before .before .before .before .before .before .before .before .before .before .before .all-by .kept .0 ∙ c .before .before .before .before .before .before .before .before .before .before .before .before .before .before .before .before .before .before .before .before .before .before .before .before .before .before .before .before .before .before .before .before .before .before .before .before .before .before .apply .kept .0
+    all-by-from-return-2 c .all-by .kept .0 ∙ apply-from-return-2 c .apply .kept .0
 
 same-length-10 : tie.Need-same-length-10
 same-length-10 c =
-    c .before .before .before .before .before .before .before .before .before .before .before .before .before .before .before .before .all-by .kept .1 .0 ∙ c .before .before .before .before .before .before .before .before .before .before .before .before .before .before .before .before .before .before .before .before .before .before .before .before .before .before .before .before .before .before .before .before .before .before .before .before .before .before .apply .kept .1 .0
+    all-by-from-return-2 c .all-by .kept .1 .0 ∙ apply-from-return-2 c .apply .kept .1 .0
 
 same-length-11 : tie.Need-same-length-11
 same-length-11 c =
-    c .before .before .before .before .before .before .before .before .before .before .before .before .before .before .before .before .all-by .kept .1 .1 .0 ∙ c .before .before .before .before .before .before .before .before .before .before .before .before .before .before .before .before .before .before .before .before .before .before .before .before .before .before .before .before .before .before .before .before .before .before .before .before .before .before .apply .kept .1 .1 .0
+    all-by-from-return-2 c .all-by .kept .1 .1 .0 ∙ apply-from-return-2 c .apply .kept .1 .1 .0
 
 same-length-12 : tie.Need-same-length-12
 same-length-12 c =
-    c .before .before .before .before .before .before .before .before .before .before .before .before .before .before .before .before .all-by .kept .1 .1 .1 .0 ∙ c .before .before .before .before .before .before .before .before .before .before .before .before .before .before .before .before .before .before .before .before .before .before .before .before .before .before .before .before .before .before .before .before .before .before .before .before .before .before .apply .kept .1 .1 .1 .0
+    all-by-from-return-2 c .all-by .kept .1 .1 .1 .0 ∙ apply-from-return-2 c .apply .kept .1 .1 .1 .0
 
 same-length-13 : tie.Need-same-length-13
 same-length-13 c =
-    c .before .before .before .before .before .before .before .before .before .before .before .before .before .before .before .before .all-by .kept .1 .1 .1 .1 .0 ∙ c .before .before .before .before .before .before .before .before .before .before .before .before .before .before .before .before .before .before .before .before .before .before .before .before .before .before .before .before .before .before .before .before .before .before .before .before .before .before .apply .kept .1 .1 .1 .1 .0
+    all-by-from-return-2 c .all-by .kept .1 .1 .1 .1 .0 ∙ apply-from-return-2 c .apply .kept .1 .1 .1 .1 .0
 
 same-length-14 : tie.Need-same-length-14
 same-length-14 c =
-    c .before .before .before .before .before .before .before .before .before .before .before .before .before .before .before .before .all-by .kept .1 .1 .1 .1 .1 .0 ∙ c .before .before .before .before .before .before .before .before .before .before .before .before .before .before .before .before .before .before .before .before .before .before .before .before .before .before .before .before .before .before .before .before .before .before .before .before .before .before .apply .kept .1 .1 .1 .1 .1 .0 ∙ c .before .before .before .before .before .before .before .before .before .before .before .before .before .before .before .before .before .before .before .before .before .before .before .before .before .before .before .before .before .before .before .before .before .before .before .before .before .before .before .before .before .before .before .before .before .before .before .clear-memo .kept .0
+    all-by-from-return-2 c .all-by .kept .1 .1 .1 .1 .1 .0 ∙ apply-from-return-2 c .apply .kept .1 .1 .1 .1 .1 .0 ∙ clear-memo-from-return-2 c .clear-memo .kept .0
 
 same-length-15 : tie.Need-same-length-15
 same-length-15 c =
-    c .before .before .before .before .before .before .before .before .before .before .before .before .before .before .before .before .all-by .kept .1 .1 .1 .1 .1 .1 .0 ∙ c .before .before .before .before .before .before .before .before .before .before .before .before .before .before .before .before .before .before .before .before .before .before .before .before .before .before .before .before .before .before .before .before .before .before .before .before .before .before .before .before .before .before .before .before .before .before .before .before .before .before .before .before .before .before .before .copy .kept .1 .0
+    all-by-from-return-2 c .all-by .kept .1 .1 .1 .1 .1 .1 .0 ∙ copy-from-return-2 c .copy .kept .1 .0
 
 same-length-16 : tie.Need-same-length-16
 same-length-16 c =
-    c .before .before .before .before .before .before .before .before .before .before .before .before .before .before .before .before .all-by .kept .1 .1 .1 .1 .1 .1 .1 .0 ∙ c .before .before .before .before .before .before .before .before .before .before .before .before .before .before .before .before .before .before .before .before .before .before .before .before .before .before .before .before .before .before .before .before .before .before .before .before .before .before .before .before .before .before .before .before .before .before .before .before .before .before .before .copy-words .kept .1 .0
+    all-by-from-return-2 c .all-by .kept .1 .1 .1 .1 .1 .1 .1 .0 ∙ copy-words-from-return-2 c .copy-words .kept .1 .0
 
 returns-2 : tie.Need-returns-2
 returns-2 c =
-    let a = c .before .before .before .before .before .before .before .before .before .before .before .before .before .before .before .before .before .before .before .before .before .before .before .before .before .before .before .before .before .before .before .before .before .before .before .before .before .before in
+    let a = apply-from-return-2 c in
     let s = start a in
-    let b = c .before .before .before .before .before .before .before .before .before .before .before .before .before .before .before .before .all-by in (
-      cofactors-made (before s) (s .args .members .now) (s .args .memo .now) (s .args .g .0) (s .pre .0 .0) (made a) (made-is a) (c .before .before .before .before .before .before .before .before .before .before .before .before .before .before .before .before .before .before .before .before .before .before .before .before .before .if1 .left) (b .result .full) (tableOf (b .last .0) (b .last .1 .0) (b .last .1 .1 .0) (b .last .1 .1 .1 .0) (b .last .1 .1 .1 .1 .0) (b .result .count)) (b .last .1 .1 .1 .1 .1 .1 .0)
-          (subst (λ l. AllMade (made a .table) (results Cofactor (made a .table) l (made a .node)) (b .result .full) (tableOf (b .last .0) (b .last .1 .0) (b .last .1 .1 .0) (b .last .1 .1 .1 .0) (b .last .1 .1 .1 .1 .0) (b .result .count)) (b .last .1 .1 .1 .1 .1 .1 .0)) (c .before .before .before .before .before .before .before .before .before .before .before .before .before .before .before .before .before .before .before .before .before .before .before .before .before .before .before .before .before .before .before .before .before .before .before .before .before .before .before .before .before .before .before .before .before .before .before .before .before .before .before .before .before .before .before .copy .ensures) (b .ensures .0)),
+    let b = all-by-from-return-2 c .all-by in (
+      cofactors-made (before s) (s .args .members .now) (s .args .memo .now) (s .args .g .0) (s .pre .0 .0) (made a) (made-is a) (else1-from-return-2 c .if1 .left) (b .result .full) (tableOf (b .last .0) (b .last .1 .0) (b .last .1 .1 .0) (b .last .1 .1 .1 .0) (b .last .1 .1 .1 .1 .0) (b .result .count)) (b .last .1 .1 .1 .1 .1 .1 .0)
+          (subst (λ l. AllMade (made a .table) (results Cofactor (made a .table) l (made a .node)) (b .result .full) (tableOf (b .last .0) (b .last .1 .0) (b .last .1 .1 .0) (b .last .1 .1 .1 .0) (b .last .1 .1 .1 .1 .0) (b .result .count)) (b .last .1 .1 .1 .1 .1 .1 .0)) (copy-from-return-2 c .copy .ensures) (b .ensures .0)),
       b .ensures .1 .0,
     )
 

@@ -26,10 +26,53 @@ module _ (s : tie.Start) where
   abbrev root : Diagram
   root = diagramAt (nodesOf before) (s .args .root .0)
 
+-- The ways back, written by ways.py: TO-from-FROM leads from the place FROM of the code to the place TO before it.
+module _ (c : tie.After-by-negation-arg8) where
+  abbrev start-from-by-negation-call : tie.Start
+  start-from-by-negation-call = c .before .before .before .before .before .before .before .before .before .before .before .before .before
+      .before .before .before .before .before .before
+
+module _ (c : tie.After-by-negation) where
+  abbrev start-from-by-negation : tie.Start
+  start-from-by-negation = c .before .before .before .before .before .before .before .before .before .before .before .before .before .before
+      .before .before .before .before .before .before
+
+module _ (c : tie.Else1) where
+  abbrev by-negation-from-else1 : tie.After-by-negation
+  by-negation-from-else1 = c .before .before .before .before .before .before .before .before .before .before .before .before .before .before
+      .before .before .before
+
+module _ (c : tie.Then1) where
+  abbrev by-negation-from-then1 : tie.After-by-negation
+  by-negation-from-then1 = c .before .before .before .before .before .before .before .before .before .before .before .before .before .before
+      .before .before .before
+
+module _ (c : tie.After-unit-prop-arg9) where
+  abbrev else1-from-unit-prop-call : tie.Else1
+  else1-from-unit-prop-call = c .before .before .before .before .before .before .before .before .before
+
+  abbrev by-negation-from-unit-prop-call : tie.After-by-negation
+  by-negation-from-unit-prop-call = by-negation-from-else1 else1-from-unit-prop-call
+
+module _ (c : tie.After-unit-prop) where
+  abbrev else1-from-unit-prop : tie.Else1
+  else1-from-unit-prop = c .before .before .before .before .before .before .before .before .before .before
+
+module _ (c : tie.After-struct-known) where
+  abbrev unit-prop-from-return-2 : tie.After-unit-prop
+  unit-prop-from-return-2 = c .before .before .before .before .before .before .before .before .before .before .before .before .before
+      .before .before .before .before .before .before
+
+  abbrev else1-from-return-2 : tie.Else1
+  else1-from-return-2 = else1-from-unit-prop unit-prop-from-return-2
+
+  abbrev by-negation-from-return-2 : tie.After-by-negation
+  by-negation-from-return-2 = by-negation-from-else1 else1-from-return-2
+
 -- what not-g and the members by it leave
 module _ (a : tie.After-by-negation) where
   abbrev start : tie.Start
-  start = a .before .before .before .before .before .before .before .before .before .before .before .before .before .before .before .before .before .before .before .before
+  start = start-from-by-negation a
 
   abbrev table₁ : Table
   table₁ = tableOf (a .by-negation .last .0) (a .by-negation .last .1 .0) (a .by-negation .last .1 .1 .0) (a .by-negation .last .1 .1 .1 .0) (a .by-negation .last .1 .1 .1 .1 .0) (a .by-negation .result .count)
@@ -46,56 +89,56 @@ module _ (a : tie.After-by-negation) where
 
 by-negation-requires : tie.Need-by-negation-requires
 by-negation-requires c κs =
-    ((c .before .before .before .before .before .before .before .before .before .before .before .before .before .before .before .before .before .before .before .pre .0 .0, c .before .before .before .before .before .before .before .before .before .before .before .before .before .before .before .before .before .before .before .pre .0 .2), c .before .before .before .before .before .before .before .before .before .before .before .before .before .before .before .before .before .before .before .pre .1)
+    ((start-from-by-negation-call c .pre .0 .0, start-from-by-negation-call c .pre .0 .2), start-from-by-negation-call c .pre .1)
 
 same-length : tie.Need-same-length
 same-length c =
-    c .before .before .before .before .before .before .before .before .before .before .before .before .before .before .before .before .before .by-negation .kept .0
+    by-negation-from-then1 c .by-negation .kept .0
 
 same-length-2 : tie.Need-same-length-2
 same-length-2 c =
-    c .before .before .before .before .before .before .before .before .before .before .before .before .before .before .before .before .before .by-negation .kept .1 .0
+    by-negation-from-then1 c .by-negation .kept .1 .0
 
 same-length-3 : tie.Need-same-length-3
 same-length-3 c =
-    c .before .before .before .before .before .before .before .before .before .before .before .before .before .before .before .before .before .by-negation .kept .1 .1 .0
+    by-negation-from-then1 c .by-negation .kept .1 .1 .0
 
 same-length-4 : tie.Need-same-length-4
 same-length-4 c =
-    c .before .before .before .before .before .before .before .before .before .before .before .before .before .before .before .before .before .by-negation .kept .1 .1 .1 .0
+    by-negation-from-then1 c .by-negation .kept .1 .1 .1 .0
 
 same-length-5 : tie.Need-same-length-5
 same-length-5 c =
-    c .before .before .before .before .before .before .before .before .before .before .before .before .before .before .before .before .before .by-negation .kept .1 .1 .1 .1 .0
+    by-negation-from-then1 c .by-negation .kept .1 .1 .1 .1 .0
 
 same-length-6 : tie.Need-same-length-6
 same-length-6 c =
-    c .before .before .before .before .before .before .before .before .before .before .before .before .before .before .before .before .before .by-negation .kept .1 .1 .1 .1 .1 .0
+    by-negation-from-then1 c .by-negation .kept .1 .1 .1 .1 .1 .0
 
 same-length-7 : tie.Need-same-length-7
 same-length-7 c =
-    c .before .before .before .before .before .before .before .before .before .before .before .before .before .before .before .before .before .by-negation .kept .1 .1 .1 .1 .1 .1 .1 .1 .0
+    by-negation-from-then1 c .by-negation .kept .1 .1 .1 .1 .1 .1 .1 .1 .0
 
 same-length-8 : tie.Need-same-length-8
 same-length-8 c =
-    c .before .before .before .before .before .before .before .before .before .before .before .before .before .before .before .before .before .by-negation .kept .1 .1 .1 .1 .1 .1 .1 .1 .1 .0
+    by-negation-from-then1 c .by-negation .kept .1 .1 .1 .1 .1 .1 .1 .1 .1 .0
 
 returns : tie.Need-returns
 returns c =
-    let a = c .before .before .before .before .before .before .before .before .before .before .before .before .before .before .before .before .before in
+    let a = by-negation-from-then1 c in
     let s = start a in
     (rup-full (before s) (s .pre .0 .0 .ready .good) (members s) (root s) (table₁ a) (list₁ a) (by-negation a true (c .if1 .taken)) 64 (a .by-negation .result .count), s .pre .0 .1)
 
 unit-prop-requires : tie.Need-unit-prop-requires
 unit-prop-requires c κs =
-    let a = c .before .before .before .before .before .before .before .before .before .before .before .before .before .before .before .before .before .before .before .before .before .before .before .before .before .before in
+    let a = by-negation-from-unit-prop-call c in
     let s = start a in
-    let B = by-negation a false (c .before .before .before .before .before .before .before .before .before .if1 .left) in (
+    let B = by-negation a false (else1-from-unit-prop-call c .if1 .left) in (
       (
         list-ready (before s) (members s) (root s) (table₁ a) (list₁ a) (s .args .memo .now) (a .by-negation .last .1 .1 .1 .1 .1 .0) B (s .pre .0 .0 .ready .room) (memo-length a),
         s .pre .0 .1 ∙ ap unmarked (sym (a .by-negation .kept .0)),
       ),
-      (a .by-negation .kept .1 .1 .1 .1 .1 .1 .1 .1 .1 .0 ∙ s .pre .1 .1 ∙ sym (a .by-negation .kept .1 .1 .1 .1 .1 .1 .1 .1 .0 ∙ s .pre .0 .2), a .by-negation .ensures .1 (c .before .before .before .before .before .before .before .before .before .if1 .left)),
+      (a .by-negation .kept .1 .1 .1 .1 .1 .1 .1 .1 .1 .0 ∙ s .pre .1 .1 ∙ sym (a .by-negation .kept .1 .1 .1 .1 .1 .1 .1 .1 .0 ∙ s .pre .0 .2), a .by-negation .ensures .1 (else1-from-unit-prop-call c .if1 .left)),
     )
 
 cast-t52 : tie.Need-cast-t52
@@ -104,46 +147,46 @@ cast-t52 c =
 
 same-length-9 : tie.Need-same-length-9
 same-length-9 c =
-    c .before .before .before .before .before .before .before .before .before .before .before .before .before .before .before .before .before .before .before .unit-prop .kept .0 ∙ c .before .before .before .before .before .before .before .before .before .before .before .before .before .before .before .before .before .before .before .before .before .before .before .before .before .before .before .before .before .before .before .before .before .before .before .before .before .before .before .before .before .before .before .before .before .before .by-negation .kept .0
+    unit-prop-from-return-2 c .unit-prop .kept .0 ∙ by-negation-from-return-2 c .by-negation .kept .0
 
 same-length-10 : tie.Need-same-length-10
 same-length-10 c =
-    c .before .before .before .before .before .before .before .before .before .before .before .before .before .before .before .before .before .before .before .unit-prop .kept .1 .0 ∙ c .before .before .before .before .before .before .before .before .before .before .before .before .before .before .before .before .before .before .before .before .before .before .before .before .before .before .before .before .before .before .before .before .before .before .before .before .before .before .before .before .before .before .before .before .before .before .by-negation .kept .1 .0
+    unit-prop-from-return-2 c .unit-prop .kept .1 .0 ∙ by-negation-from-return-2 c .by-negation .kept .1 .0
 
 same-length-11 : tie.Need-same-length-11
 same-length-11 c =
-    c .before .before .before .before .before .before .before .before .before .before .before .before .before .before .before .before .before .before .before .unit-prop .kept .1 .1 .0 ∙ c .before .before .before .before .before .before .before .before .before .before .before .before .before .before .before .before .before .before .before .before .before .before .before .before .before .before .before .before .before .before .before .before .before .before .before .before .before .before .before .before .before .before .before .before .before .before .by-negation .kept .1 .1 .0
+    unit-prop-from-return-2 c .unit-prop .kept .1 .1 .0 ∙ by-negation-from-return-2 c .by-negation .kept .1 .1 .0
 
 same-length-12 : tie.Need-same-length-12
 same-length-12 c =
-    c .before .before .before .before .before .before .before .before .before .before .before .before .before .before .before .before .before .before .before .unit-prop .kept .1 .1 .1 .0 ∙ c .before .before .before .before .before .before .before .before .before .before .before .before .before .before .before .before .before .before .before .before .before .before .before .before .before .before .before .before .before .before .before .before .before .before .before .before .before .before .before .before .before .before .before .before .before .before .by-negation .kept .1 .1 .1 .0
+    unit-prop-from-return-2 c .unit-prop .kept .1 .1 .1 .0 ∙ by-negation-from-return-2 c .by-negation .kept .1 .1 .1 .0
 
 same-length-13 : tie.Need-same-length-13
 same-length-13 c =
-    c .before .before .before .before .before .before .before .before .before .before .before .before .before .before .before .before .before .before .before .unit-prop .kept .1 .1 .1 .1 .0 ∙ c .before .before .before .before .before .before .before .before .before .before .before .before .before .before .before .before .before .before .before .before .before .before .before .before .before .before .before .before .before .before .before .before .before .before .before .before .before .before .before .before .before .before .before .before .before .before .by-negation .kept .1 .1 .1 .1 .0
+    unit-prop-from-return-2 c .unit-prop .kept .1 .1 .1 .1 .0 ∙ by-negation-from-return-2 c .by-negation .kept .1 .1 .1 .1 .0
 
 same-length-14 : tie.Need-same-length-14
 same-length-14 c =
-    c .before .before .before .before .before .before .before .before .before .before .before .before .before .before .before .before .before .before .before .unit-prop .kept .1 .1 .1 .1 .1 .0 ∙ c .before .before .before .before .before .before .before .before .before .before .before .before .before .before .before .before .before .before .before .before .before .before .before .before .before .before .before .before .before .before .before .before .before .before .before .before .before .before .before .before .before .before .before .before .before .before .by-negation .kept .1 .1 .1 .1 .1 .0
+    unit-prop-from-return-2 c .unit-prop .kept .1 .1 .1 .1 .1 .0 ∙ by-negation-from-return-2 c .by-negation .kept .1 .1 .1 .1 .1 .0
 
 same-length-15 : tie.Need-same-length-15
 same-length-15 c =
-    c .before .before .before .before .before .before .before .before .before .before .before .before .before .before .before .before .before .before .before .unit-prop .kept .1 .1 .1 .1 .1 .1 .0
+    unit-prop-from-return-2 c .unit-prop .kept .1 .1 .1 .1 .1 .1 .0
 
 same-length-16 : tie.Need-same-length-16
 same-length-16 c =
-    c .before .before .before .before .before .before .before .before .before .before .before .before .before .before .before .before .before .before .before .unit-prop .kept .1 .1 .1 .1 .1 .1 .1 .0 ∙ c .before .before .before .before .before .before .before .before .before .before .before .before .before .before .before .before .before .before .before .before .before .before .before .before .before .before .before .before .before .before .before .before .before .before .before .before .before .before .before .before .before .before .before .before .before .before .by-negation .kept .1 .1 .1 .1 .1 .1 .1 .1 .0
+    unit-prop-from-return-2 c .unit-prop .kept .1 .1 .1 .1 .1 .1 .1 .0 ∙ by-negation-from-return-2 c .by-negation .kept .1 .1 .1 .1 .1 .1 .1 .1 .0
 
 same-length-17 : tie.Need-same-length-17
 same-length-17 c =
-    c .before .before .before .before .before .before .before .before .before .before .before .before .before .before .before .before .before .before .before .unit-prop .kept .1 .1 .1 .1 .1 .1 .1 .1 .0 ∙ c .before .before .before .before .before .before .before .before .before .before .before .before .before .before .before .before .before .before .before .before .before .before .before .before .before .before .before .before .before .before .before .before .before .before .before .before .before .before .before .before .before .before .before .before .before .before .by-negation .kept .1 .1 .1 .1 .1 .1 .1 .1 .1 .0
+    unit-prop-from-return-2 c .unit-prop .kept .1 .1 .1 .1 .1 .1 .1 .1 .0 ∙ by-negation-from-return-2 c .by-negation .kept .1 .1 .1 .1 .1 .1 .1 .1 .1 .0
 
 returns-2 : tie.Need-returns-2
 returns-2 c =
-    let a = c .before .before .before .before .before .before .before .before .before .before .before .before .before .before .before .before .before .before .before .before .before .before .before .before .before .before .before .before .before .before .before .before .before .before .before .before .before .before .before .before .before .before .before .before .before .before in
+    let a = by-negation-from-return-2 c in
     let s = start a in
-    let p = c .before .before .before .before .before .before .before .before .before .before .before .before .before .before .before .before .before .before .before .unit-prop in (
-      rup-judged (before s) (s .pre .0 .0 .ready .good) (members s) (root s) (table₁ a) (list₁ a) (by-negation a false (c .before .before .before .before .before .before .before .before .before .before .before .before .before .before .before .before .before .before .before .before .before .before .before .before .before .before .before .before .before .if1 .left)) (p .result) (tableOf (p .last .0) (p .last .1 .0) (p .last .1 .1 .0) (p .last .1 .1 .1 .0) (p .last .1 .1 .1 .1 .0) (p .result .count)) (p .ensures .0),
+    let p = unit-prop-from-return-2 c .unit-prop in (
+      rup-judged (before s) (s .pre .0 .0 .ready .good) (members s) (root s) (table₁ a) (list₁ a) (by-negation a false (else1-from-return-2 c .if1 .left)) (p .result) (tableOf (p .last .0) (p .last .1 .0) (p .last .1 .1 .0) (p .last .1 .1 .1 .0) (p .last .1 .1 .1 .1 .0) (p .result .count)) (p .ensures .0),
       p .ensures .1 ∙ ap unmarked (a .by-negation .kept .0),
     )
 

@@ -1,8 +1,7 @@
 -- `turn` judges one member's turn. Each place of the code is one law of Turning. Assumes nothing.
-use mathlib.Core.Path.{_≡_, refl, sym, ap, _∙_, subst}
+use mathlib.Core.Path.{_≡_, refl, sym, ap, _∙_}
 use native.Mathlib.Omega.{arith}
 use lib.ListN.{length}
-use borrow.Author.Needs.{needs}
 use mathlib.Core.Bool.{Bool, true, false}
 use Rattle.table.specs.Indexed.{Table, tableOf, nodesOf, Outcome, outcomeOf}
 use Rattle.walks.specs.Constant.{constantAt}
@@ -18,10 +17,110 @@ module _ (s : tie.Start) where
   abbrev before : Table
   before = tableOf (s .args .vars .now) (s .args .lows .now) (s .args .highs .now) (s .args .heads .now) (s .args .links .now) (s .args .count)
 
+-- The ways back, written by ways.py: TO-from-FROM leads from the place FROM of the code to the place TO before it.
+module _ (c : tie.After-is-constant-arg4) where
+  abbrev start-from-is-constant-call : tie.Start
+  start-from-is-constant-call = c .before .before .before .before .before .before .before .before .before .before .before .before .before
+      .before .before
+
+module _ (c : tie.After-is-constant) where
+  abbrev start-from-is-constant : tie.Start
+  start-from-is-constant = c .before .before .before .before .before .before .before .before .before .before .before .before .before .before
+      .before .before
+
+module _ (c : tie.Else1) where
+  abbrev is-constant-from-else1 : tie.After-is-constant
+  is-constant-from-else1 = c .before .before .before
+
+module _ (c : tie.Then1) where
+  abbrev is-constant-from-then1 : tie.After-is-constant
+  is-constant-from-then1 = c .before .before .before
+
+  abbrev start-from-then1 : tie.Start
+  start-from-then1 = start-from-is-constant is-constant-from-then1
+
+module _ (c : tie.After-clear-memo-arg) where
+  abbrev is-constant-from-clear-memo-call : tie.After-is-constant
+  is-constant-from-clear-memo-call = is-constant-from-else1 (c .before)
+
+  abbrev start-from-clear-memo-call : tie.Start
+  start-from-clear-memo-call = start-from-is-constant is-constant-from-clear-memo-call
+
+module _ (c : tie.After-apply-arg6) where
+  abbrev clear-memo-from-apply-call : tie.After-clear-memo
+  clear-memo-from-apply-call = c .before .before .before .before .before .before .before .before
+
+  abbrev start-from-apply-call : tie.Start
+  start-from-apply-call = start-from-is-constant (is-constant-from-else1 (clear-memo-from-apply-call .before .before))
+
+module _ (c : tie.After-apply) where
+  abbrev clear-memo-from-apply : tie.After-clear-memo
+  clear-memo-from-apply = c .before .before .before .before .before .before .before .before .before
+
+  abbrev is-constant-from-apply : tie.After-is-constant
+  is-constant-from-apply = is-constant-from-else1 (clear-memo-from-apply .before .before)
+
+  abbrev start-from-apply : tie.Start
+  start-from-apply = start-from-is-constant is-constant-from-apply
+
+module _ (c : tie.Else2) where
+  abbrev apply-from-else2 : tie.After-apply
+  apply-from-else2 = c .before .before .before .before .before .before .before .before .before .before .before .before .before
+
+module _ (c : tie.Then2) where
+  abbrev apply-from-then2 : tie.After-apply
+  apply-from-then2 = c .before .before .before .before .before .before .before .before .before .before .before .before .before
+
+  abbrev clear-memo-from-then2 : tie.After-clear-memo
+  clear-memo-from-then2 = clear-memo-from-apply apply-from-then2
+
+  abbrev else1-from-then2 : tie.Else1
+  else1-from-then2 = clear-memo-from-then2 .before .before
+
+  abbrev is-constant-from-then2 : tie.After-is-constant
+  is-constant-from-then2 = is-constant-from-else1 else1-from-then2
+
+module _ (c : tie.After-rup-with-arg9) where
+  abbrev else2-from-rup-with-call : tie.Else2
+  else2-from-rup-with-call = c .before .before .before .before .before .before .before .before .before
+
+  abbrev apply-from-rup-with-call : tie.After-apply
+  apply-from-rup-with-call = apply-from-else2 else2-from-rup-with-call
+
+  abbrev else1-from-rup-with-call : tie.Else1
+  else1-from-rup-with-call = clear-memo-from-apply apply-from-rup-with-call .before .before
+
+  abbrev is-constant-from-rup-with-call : tie.After-is-constant
+  is-constant-from-rup-with-call = is-constant-from-else1 else1-from-rup-with-call
+
+module _ (c : tie.After-rup-with) where
+  abbrev else2-from-rup-with : tie.Else2
+  else2-from-rup-with = c .before .before .before .before .before .before .before .before .before .before
+
+module _ (c : tie.After-slice-known26) where
+  abbrev rup-with-from-return-3 : tie.After-rup-with
+  rup-with-from-return-3 = c .before .before .before .before .before .before .before .before .before .before .before .before .before .before
+      .before .before .before .before
+
+  abbrev else2-from-return-3 : tie.Else2
+  else2-from-return-3 = else2-from-rup-with rup-with-from-return-3
+
+  abbrev apply-from-return-3 : tie.After-apply
+  apply-from-return-3 = apply-from-else2 else2-from-return-3
+
+  abbrev clear-memo-from-return-3 : tie.After-clear-memo
+  clear-memo-from-return-3 = clear-memo-from-apply apply-from-return-3
+
+  abbrev else1-from-return-3 : tie.Else1
+  else1-from-return-3 = clear-memo-from-return-3 .before .before
+
+  abbrev is-constant-from-return-3 : tie.After-is-constant
+  is-constant-from-return-3 = is-constant-from-else1 else1-from-return-3
+
 -- whether h is 1
 module _ (a : tie.After-is-constant) where
   abbrev asked : tie.Start
-  asked = a .before .before .before .before .before .before .before .before .before .before .before .before .before .before .before .before
+  asked = start-from-is-constant a
 
   told : (b : Bool) → a .is-constant .result ≡ b → constantAt (nodesOf (before asked)) (asked .args .positive) (asked .args .negative) true (asked .args .f .0) ≡ b
   unfolding nodesOf
@@ -30,7 +129,7 @@ module _ (a : tie.After-is-constant) where
 -- what making h leaves
 module _ (a : tie.After-apply) where
   abbrev start : tie.Start
-  start = a .before .before .before .before .before .before .before .before .before .before .before .before .before .before .before .before .before .before .before .before .before .before .before .before .before .before .before .before .before .before
+  start = start-from-apply a
 
   abbrev made : Outcome
   made = outcomeOf (a .apply .last .0) (a .apply .last .1 .0) (a .apply .last .1 .1 .0) (a .apply .last .1 .1 .1 .0) (a .apply .last .1 .1 .1 .1 .0) (a .apply .result)
@@ -39,11 +138,11 @@ module _ (a : tie.After-apply) where
   made-is = a .apply .ensures .0
 
   memo-length : length (a .apply .last .1 .1 .1 .1 .1 .0) ≡ length (start .args .memo .now)
-  memo-length = a .apply .kept .1 .1 .1 .1 .1 .0 ∙ a .before .before .before .before .before .before .before .before .before .clear-memo .kept .0 ∙ a .before .before .before .before .before .before .before .before .before .before .before .before .before .before .is-constant .kept .1 .1 .1 .0
+  memo-length = a .apply .kept .1 .1 .1 .1 .1 .0 ∙ clear-memo-from-apply a .clear-memo .kept .0 ∙ is-constant-from-apply a .is-constant .kept .1 .1 .1 .0
 
 is-constant-requires : tie.Need-is-constant-requires
 is-constant-requires c κs =
-    let s = c .before .before .before .before .before .before .before .before .before .before .before .before .before .before .before in
+    let s = start-from-is-constant-call c in
     (good-readable (before s) (s .pre .0 .0 .good), s .pre .0 .3, s .pre .0 .0 .room)
 
 same-length : tie.Need-same-length
@@ -60,107 +159,107 @@ same-length-3 c =
 
 same-length-4 : tie.Need-same-length-4
 same-length-4 c =
-    c .before .before .before .is-constant .kept .1 .1 .1 .0
+    is-constant-from-then1 c .is-constant .kept .1 .1 .1 .0
 
 returns : tie.Need-returns
 returns c =
-    let s = c .before .before .before .before .before .before .before .before .before .before .before .before .before .before .before .before .before .before .before in
-    (turn-constant (before s) (s .args .first .now) (s .args .memo .now) (s .pre .0 .0) (s .args .f .0) (s .args .positive) (s .args .negative) (s .pre .0 .3) (told (c .before .before .before) true (c .if1 .taken)), s .pre .0 .1)
+    let s = start-from-then1 c in
+    (turn-constant (before s) (s .args .first .now) (s .args .memo .now) (s .pre .0 .0) (s .args .f .0) (s .args .positive) (s .args .negative) (s .pre .0 .3) (told (is-constant-from-then1 c) true (c .if1 .taken)), s .pre .0 .1)
 
 clear-memo-requires : tie.Need-clear-memo-requires
 clear-memo-requires c κs =
-    omega (arith, c .before .before .before .before .before .before .before .before .before .before .before .before .before .before .before .before .before .before .before .before .pre .0 .0 .room, c .before .before .before .before .is-constant .kept .1 .1 .1 .0)
+    omega (arith, start-from-clear-memo-call c .pre .0 .0 .room, is-constant-from-clear-memo-call c .is-constant .kept .1 .1 .1 .0)
 
 apply-requires : tie.Need-apply-requires
 apply-requires c κs =
-    let s = c .before .before .before .before .before .before .before .before .before .before .before .before .before .before .before .before .before .before .before .before .before .before .before .before .before .before .before .before .before in
-    let m = c .before .before .before .before .before .before .before .before .clear-memo in
+    let s = start-from-apply-call c in
+    let m = clear-memo-from-apply-call c .clear-memo in
     literals-ready (before s) (s .args .first .now) (s .args .memo .now) (s .pre .0 .0) (s .args .f .0) (s .args .positive) (s .args .negative) (s .pre .0 .3) (m .last .0) (m .ensures (Literals (s .args .positive) (s .args .negative)) (before s))
 
 same-length-5 : tie.Need-same-length-5
 same-length-5 c =
-    c .before .before .before .before .before .before .before .before .before .before .before .before .before .apply .kept .0
+    apply-from-then2 c .apply .kept .0
 
 same-length-6 : tie.Need-same-length-6
 same-length-6 c =
-    c .before .before .before .before .before .before .before .before .before .before .before .before .before .apply .kept .1 .0
+    apply-from-then2 c .apply .kept .1 .0
 
 same-length-7 : tie.Need-same-length-7
 same-length-7 c =
-    c .before .before .before .before .before .before .before .before .before .before .before .before .before .apply .kept .1 .1 .0
+    apply-from-then2 c .apply .kept .1 .1 .0
 
 same-length-8 : tie.Need-same-length-8
 same-length-8 c =
-    c .before .before .before .before .before .before .before .before .before .before .before .before .before .apply .kept .1 .1 .1 .0
+    apply-from-then2 c .apply .kept .1 .1 .1 .0
 
 same-length-9 : tie.Need-same-length-9
 same-length-9 c =
-    c .before .before .before .before .before .before .before .before .before .before .before .before .before .apply .kept .1 .1 .1 .1 .0
+    apply-from-then2 c .apply .kept .1 .1 .1 .1 .0
 
 same-length-10 : tie.Need-same-length-10
 same-length-10 c =
-    c .before .before .before .before .before .before .before .before .before .before .before .before .before .apply .kept .1 .1 .1 .1 .1 .0 ∙ c .before .before .before .before .before .before .before .before .before .before .before .before .before .before .before .before .before .before .before .before .before .before .clear-memo .kept .0 ∙ c .before .before .before .before .before .before .before .before .before .before .before .before .before .before .before .before .before .before .before .before .before .before .before .before .before .before .before .is-constant .kept .1 .1 .1 .0
+    apply-from-then2 c .apply .kept .1 .1 .1 .1 .1 .0 ∙ clear-memo-from-then2 c .clear-memo .kept .0 ∙ is-constant-from-then2 c .is-constant .kept .1 .1 .1 .0
 
 returns-2 : tie.Need-returns-2
 returns-2 c =
-    let a = c .before .before .before .before .before .before .before .before .before .before .before .before .before in
+    let a = apply-from-then2 c in
     let s = start a in
-    (turn-full (before s) (s .args .first .now) (s .args .memo .now) (s .pre .0 .0) (s .args .f .0) (s .args .positive) (s .args .negative) (s .pre .0 .3) (told (c .before .before .before .before .before .before .before .before .before .before .before .before .before .before .before .before .before .before .before .before .before .before .before .before .before .before .before) false (c .before .before .before .before .before .before .before .before .before .before .before .before .before .before .before .before .before .before .before .before .before .before .before .before .if1 .left)) (made a) (made-is a) (c .if2 .taken) (a .apply .result .count), s .pre .0 .1)
+    (turn-full (before s) (s .args .first .now) (s .args .memo .now) (s .pre .0 .0) (s .args .f .0) (s .args .positive) (s .args .negative) (s .pre .0 .3) (told (is-constant-from-then2 c) false (else1-from-then2 c .if1 .left)) (made a) (made-is a) (c .if2 .taken) (a .apply .result .count), s .pre .0 .1)
 
 rup-with-requires : tie.Need-rup-with-requires
 rup-with-requires c κs =
-    let a = c .before .before .before .before .before .before .before .before .before .before .before .before .before .before .before .before .before .before .before .before .before .before in
+    let a = apply-from-rup-with-call c in
     let s = start a in (
       (
-        turn-ready (before s) (s .args .first .now) (s .args .memo .now) (s .pre .0 .0) (s .args .f .0) (s .args .positive) (s .args .negative) (s .pre .0 .3) (told (c .before .before .before .before .before .before .before .before .before .before .before .before .before .before .before .before .before .before .before .before .before .before .before .before .before .before .before .before .before .before .before .before .before .before .before .before) false (c .before .before .before .before .before .before .before .before .before .before .before .before .before .before .before .before .before .before .before .before .before .before .before .before .before .before .before .before .before .before .before .before .before .if1 .left)) (made a) (made-is a) (c .before .before .before .before .before .before .before .before .before .if2 .left) (a .apply .last .1 .1 .1 .1 .1 .0) (memo-length a),
+        turn-ready (before s) (s .args .first .now) (s .args .memo .now) (s .pre .0 .0) (s .args .f .0) (s .args .positive) (s .args .negative) (s .pre .0 .3) (told (is-constant-from-rup-with-call c) false (else1-from-rup-with-call c .if1 .left)) (made a) (made-is a) (else2-from-rup-with-call c .if2 .left) (a .apply .last .1 .1 .1 .1 .1 .0) (memo-length a),
         s .pre .0 .1 ∙ ap unmarked (sym (a .apply .kept .0)),
         s .pre .0 .2,
       ),
-      (turn-worded (before s) (s .args .first .now) (s .args .memo .now) (s .pre .0 .0) (s .args .f .0) (s .args .positive) (s .args .negative) (s .pre .0 .3) (told (c .before .before .before .before .before .before .before .before .before .before .before .before .before .before .before .before .before .before .before .before .before .before .before .before .before .before .before .before .before .before .before .before .before .before .before .before) false (c .before .before .before .before .before .before .before .before .before .before .before .before .before .before .before .before .before .before .before .before .before .before .before .before .before .before .before .before .before .before .before .before .before .if1 .left)) (made a) (made-is a) (c .before .before .before .before .before .before .before .before .before .if2 .left) (s .args .firsts .now) (s .args .word) (s .pre .1 .0), s .pre .1 .1),
+      (turn-worded (before s) (s .args .first .now) (s .args .memo .now) (s .pre .0 .0) (s .args .f .0) (s .args .positive) (s .args .negative) (s .pre .0 .3) (told (is-constant-from-rup-with-call c) false (else1-from-rup-with-call c .if1 .left)) (made a) (made-is a) (else2-from-rup-with-call c .if2 .left) (s .args .firsts .now) (s .args .word) (s .pre .1 .0), s .pre .1 .1),
     )
 
 same-length-11 : tie.Need-same-length-11
 same-length-11 c =
-    c .before .before .before .before .before .before .before .before .before .before .before .before .before .before .before .before .before .before .rup-with .kept .0 ∙ c .before .before .before .before .before .before .before .before .before .before .before .before .before .before .before .before .before .before .before .before .before .before .before .before .before .before .before .before .before .before .before .before .before .before .before .before .before .before .before .before .before .apply .kept .0
+    rup-with-from-return-3 c .rup-with .kept .0 ∙ apply-from-return-3 c .apply .kept .0
 
 same-length-12 : tie.Need-same-length-12
 same-length-12 c =
-    c .before .before .before .before .before .before .before .before .before .before .before .before .before .before .before .before .before .before .rup-with .kept .1 .0 ∙ c .before .before .before .before .before .before .before .before .before .before .before .before .before .before .before .before .before .before .before .before .before .before .before .before .before .before .before .before .before .before .before .before .before .before .before .before .before .before .before .before .before .apply .kept .1 .0
+    rup-with-from-return-3 c .rup-with .kept .1 .0 ∙ apply-from-return-3 c .apply .kept .1 .0
 
 same-length-13 : tie.Need-same-length-13
 same-length-13 c =
-    c .before .before .before .before .before .before .before .before .before .before .before .before .before .before .before .before .before .before .rup-with .kept .1 .1 .0 ∙ c .before .before .before .before .before .before .before .before .before .before .before .before .before .before .before .before .before .before .before .before .before .before .before .before .before .before .before .before .before .before .before .before .before .before .before .before .before .before .before .before .before .apply .kept .1 .1 .0
+    rup-with-from-return-3 c .rup-with .kept .1 .1 .0 ∙ apply-from-return-3 c .apply .kept .1 .1 .0
 
 same-length-14 : tie.Need-same-length-14
 same-length-14 c =
-    c .before .before .before .before .before .before .before .before .before .before .before .before .before .before .before .before .before .before .rup-with .kept .1 .1 .1 .0 ∙ c .before .before .before .before .before .before .before .before .before .before .before .before .before .before .before .before .before .before .before .before .before .before .before .before .before .before .before .before .before .before .before .before .before .before .before .before .before .before .before .before .before .apply .kept .1 .1 .1 .0
+    rup-with-from-return-3 c .rup-with .kept .1 .1 .1 .0 ∙ apply-from-return-3 c .apply .kept .1 .1 .1 .0
 
 same-length-15 : tie.Need-same-length-15
 same-length-15 c =
-    c .before .before .before .before .before .before .before .before .before .before .before .before .before .before .before .before .before .before .rup-with .kept .1 .1 .1 .1 .0 ∙ c .before .before .before .before .before .before .before .before .before .before .before .before .before .before .before .before .before .before .before .before .before .before .before .before .before .before .before .before .before .before .before .before .before .before .before .before .before .before .before .before .before .apply .kept .1 .1 .1 .1 .0
+    rup-with-from-return-3 c .rup-with .kept .1 .1 .1 .1 .0 ∙ apply-from-return-3 c .apply .kept .1 .1 .1 .1 .0
 
 same-length-16 : tie.Need-same-length-16
 same-length-16 c =
-    c .before .before .before .before .before .before .before .before .before .before .before .before .before .before .before .before .before .before .rup-with .kept .1 .1 .1 .1 .1 .0 ∙ c .before .before .before .before .before .before .before .before .before .before .before .before .before .before .before .before .before .before .before .before .before .before .before .before .before .before .before .before .before .before .before .before .before .before .before .before .before .before .before .before .before .apply .kept .1 .1 .1 .1 .1 .0 ∙ c .before .before .before .before .before .before .before .before .before .before .before .before .before .before .before .before .before .before .before .before .before .before .before .before .before .before .before .before .before .before .before .before .before .before .before .before .before .before .before .before .before .before .before .before .before .before .before .before .before .before .clear-memo .kept .0 ∙ c .before .before .before .before .before .before .before .before .before .before .before .before .before .before .before .before .before .before .before .before .before .before .before .before .before .before .before .before .before .before .before .before .before .before .before .before .before .before .before .before .before .before .before .before .before .before .before .before .before .before .before .before .before .before .before .is-constant .kept .1 .1 .1 .0
+    rup-with-from-return-3 c .rup-with .kept .1 .1 .1 .1 .1 .0 ∙ apply-from-return-3 c .apply .kept .1 .1 .1 .1 .1 .0 ∙ clear-memo-from-return-3 c .clear-memo .kept .0 ∙ is-constant-from-return-3 c .is-constant .kept .1 .1 .1 .0
 
 same-length-17 : tie.Need-same-length-17
 same-length-17 c =
-    c .before .before .before .before .before .before .before .before .before .before .before .before .before .before .before .before .before .before .rup-with .kept .1 .1 .1 .1 .1 .1 .0
+    rup-with-from-return-3 c .rup-with .kept .1 .1 .1 .1 .1 .1 .0
 
 same-length-18 : tie.Need-same-length-18
 same-length-18 c =
-    c .before .before .before .before .before .before .before .before .before .before .before .before .before .before .before .before .before .before .rup-with .kept .1 .1 .1 .1 .1 .1 .1 .1 .1 .0
+    rup-with-from-return-3 c .rup-with .kept .1 .1 .1 .1 .1 .1 .1 .1 .1 .0
 
 same-length-19 : tie.Need-same-length-19
 same-length-19 c =
-    c .before .before .before .before .before .before .before .before .before .before .before .before .before .before .before .before .before .before .rup-with .kept .1 .1 .1 .1 .1 .1 .1 .1 .1 .1 .0
+    rup-with-from-return-3 c .rup-with .kept .1 .1 .1 .1 .1 .1 .1 .1 .1 .1 .0
 
 returns-3 : tie.Need-returns-3
 returns-3 c =
-    let a = c .before .before .before .before .before .before .before .before .before .before .before .before .before .before .before .before .before .before .before .before .before .before .before .before .before .before .before .before .before .before .before .before .before .before .before .before .before .before .before .before .before in
+    let a = apply-from-return-3 c in
     let s = start a in
-    let r = c .before .before .before .before .before .before .before .before .before .before .before .before .before .before .before .before .before .before .rup-with in (
-      turn-judged (before s) (s .args .first .now) (s .args .memo .now) (s .pre .0 .0) (s .args .f .0) (s .args .positive) (s .args .negative) (s .pre .0 .3) (told (c .before .before .before .before .before .before .before .before .before .before .before .before .before .before .before .before .before .before .before .before .before .before .before .before .before .before .before .before .before .before .before .before .before .before .before .before .before .before .before .before .before .before .before .before .before .before .before .before .before .before .before .before .before .before .before) false (c .before .before .before .before .before .before .before .before .before .before .before .before .before .before .before .before .before .before .before .before .before .before .before .before .before .before .before .before .before .before .before .before .before .before .before .before .before .before .before .before .before .before .before .before .before .before .before .before .before .before .before .before .if1 .left)) (made a) (made-is a) (c .before .before .before .before .before .before .before .before .before .before .before .before .before .before .before .before .before .before .before .before .before .before .before .before .before .before .before .before .if2 .left) (r .result) (tableOf (r .last .0) (r .last .1 .0) (r .last .1 .1 .0) (r .last .1 .1 .1 .0) (r .last .1 .1 .1 .1 .0) (r .result .count)) (r .ensures .0),
+    let r = rup-with-from-return-3 c .rup-with in (
+      turn-judged (before s) (s .args .first .now) (s .args .memo .now) (s .pre .0 .0) (s .args .f .0) (s .args .positive) (s .args .negative) (s .pre .0 .3) (told (is-constant-from-return-3 c) false (else1-from-return-3 c .if1 .left)) (made a) (made-is a) (else2-from-return-3 c .if2 .left) (r .result) (tableOf (r .last .0) (r .last .1 .0) (r .last .1 .1 .0) (r .last .1 .1 .1 .0) (r .last .1 .1 .1 .1 .0) (r .result .count)) (r .ensures .0),
       r .ensures .1 ∙ ap unmarked (a .apply .kept .0),
     )
 

@@ -46,13 +46,112 @@ module _ (s : tie.Start Inv-loop μ-loop) where
   abbrev line : List ℕ → Line
   line ks = prTurns 64 (inWord (s .args .positive)) (inWord (s .args .negative)) (diagramsOf (nodesOf before) (s .args .first .now)) (diagramsOf (nodesOf before) ks)
 
+-- The ways back, written by ways.py: TO-from-FROM leads from the place FROM of the code to the place TO before it.
+module _ (c : tie.After-slice-known9 Inv-loop μ-loop) where
+  abbrev start-from-loop-holds : tie.Start Inv-loop μ-loop
+  start-from-loop-holds = c .before .before .before .before .before .before .before .before .before .before .before .before .before
+
+module _ (c : tie.At-loop Inv-loop μ-loop) where
+  abbrev start-from-at-loop : tie.Start Inv-loop μ-loop
+  start-from-at-loop = c .before .before .before .before .before .before .before .before .before .before .before .before .before .before
+
+module _ (c : tie.After-loop Inv-loop μ-loop) where
+  abbrev start-from-return-3 : tie.Start Inv-loop μ-loop
+  start-from-return-3 = start-from-at-loop (c .before)
+
+module _ (c : tie.After-shared-slice-known6 Inv-loop μ-loop) where
+  abbrev in-loop-from-turn-call : tie.In-loop Inv-loop μ-loop
+  in-loop-from-turn-call = c .before .before .before .before .before .before .before .before .before .before .before
+
+  abbrev at-loop-from-turn-call : tie.At-loop Inv-loop μ-loop
+  at-loop-from-turn-call = in-loop-from-turn-call .before
+
+  abbrev start-from-turn-call : tie.Start Inv-loop μ-loop
+  start-from-turn-call = start-from-at-loop at-loop-from-turn-call
+
+module _ (c : tie.After-turn Inv-loop μ-loop) where
+  abbrev in-loop-from-turn : tie.In-loop Inv-loop μ-loop
+  in-loop-from-turn = c .before .before .before .before .before .before .before .before .before .before .before .before
+
+  abbrev at-loop-from-turn : tie.At-loop Inv-loop μ-loop
+  at-loop-from-turn = in-loop-from-turn .before
+
+  abbrev start-from-turn : tie.Start Inv-loop μ-loop
+  start-from-turn = start-from-at-loop at-loop-from-turn
+
+module _ (c : tie.Else1 Inv-loop μ-loop) where
+  abbrev turn-from-else1 : tie.After-turn Inv-loop μ-loop
+  turn-from-else1 = c .before .before .before .before .before .before .before .before .before .before .before .before .before .before
+      .before .before .before .before .before
+
+module _ (c : tie.Then1 Inv-loop μ-loop) where
+  abbrev turn-from-then1 : tie.After-turn Inv-loop μ-loop
+  turn-from-then1 = c .before .before .before .before .before .before .before .before .before .before .before .before .before .before
+      .before .before .before .before .before
+
+  abbrev at-loop-from-then1 : tie.At-loop Inv-loop μ-loop
+  at-loop-from-then1 = at-loop-from-turn turn-from-then1
+
+  abbrev start-from-then1 : tie.Start Inv-loop μ-loop
+  start-from-then1 = start-from-at-loop at-loop-from-then1
+
+module _ (c : tie.After-drop-to-arg5 Inv-loop μ-loop) where
+  abbrev else1-from-drop-to-call : tie.Else1 Inv-loop μ-loop
+  else1-from-drop-to-call = c .before .before .before .before .before
+
+  abbrev turn-from-drop-to-call : tie.After-turn Inv-loop μ-loop
+  turn-from-drop-to-call = turn-from-else1 else1-from-drop-to-call
+
+module _ (c : tie.After-drop-to Inv-loop μ-loop) where
+  abbrev else1-from-drop-to : tie.Else1 Inv-loop μ-loop
+  else1-from-drop-to = c .before .before .before .before .before .before
+
+  abbrev turn-from-drop-to : tie.After-turn Inv-loop μ-loop
+  turn-from-drop-to = turn-from-else1 else1-from-drop-to
+
+  abbrev start-from-drop-to : tie.Start Inv-loop μ-loop
+  start-from-drop-to = start-from-turn turn-from-drop-to
+
+module _ (c : tie.After-struct-known Inv-loop μ-loop) where
+  abbrev drop-to-from-add-rounds : tie.After-drop-to Inv-loop μ-loop
+  drop-to-from-add-rounds = c .before .before .before .before .before .before .before .before .before .before .before
+
+  abbrev turn-from-add-rounds : tie.After-turn Inv-loop μ-loop
+  turn-from-add-rounds = turn-from-drop-to drop-to-from-add-rounds
+
+module _ (c : tie.Else2 Inv-loop μ-loop) where
+  abbrev drop-to-from-else2 : tie.After-drop-to Inv-loop μ-loop
+  drop-to-from-else2 = c .before .before .before .before .before .before .before .before .before .before .before .before .before
+
+  abbrev else1-from-else2 : tie.Else1 Inv-loop μ-loop
+  else1-from-else2 = else1-from-drop-to drop-to-from-else2
+
+  abbrev turn-from-else2 : tie.After-turn Inv-loop μ-loop
+  turn-from-else2 = turn-from-else1 else1-from-else2
+
+module _ (c : tie.Then2 Inv-loop μ-loop) where
+  abbrev drop-to-from-then2 : tie.After-drop-to Inv-loop μ-loop
+  drop-to-from-then2 = c .before .before .before .before .before .before .before .before .before .before .before .before .before
+
+  abbrev else1-from-then2 : tie.Else1 Inv-loop μ-loop
+  else1-from-then2 = else1-from-drop-to drop-to-from-then2
+
+  abbrev turn-from-then2 : tie.After-turn Inv-loop μ-loop
+  turn-from-then2 = turn-from-else1 else1-from-then2
+
+  abbrev at-loop-from-then2 : tie.At-loop Inv-loop μ-loop
+  at-loop-from-then2 = at-loop-from-turn turn-from-then2
+
+  abbrev start-from-then2 : tie.Start Inv-loop μ-loop
+  start-from-then2 = start-from-at-loop at-loop-from-then2
+
 -- what a turn leaves
 module _ (a : tie.After-turn Inv-loop μ-loop) where
   abbrev start : tie.Start Inv-loop μ-loop
-  start = a .before .before .before .before .before .before .before .before .before .before .before .before .before .before .before .before .before .before .before .before .before .before .before .before .before .before .before
+  start = start-from-turn a
 
   abbrev reached : tie.At-loop Inv-loop μ-loop
-  reached = a .before .before .before .before .before .before .before .before .before .before .before .before .before
+  reached = at-loop-from-turn a
 
   abbrev table₁ : Table
   table₁ = tableOf (a .turn .last .0) (a .turn .last .1 .0) (a .turn .last .1 .1 .0) (a .turn .last .1 .1 .1 .0) (a .turn .last .1 .1 .1 .1 .0) (a .turn .result .count)
@@ -66,7 +165,7 @@ module _ (a : tie.After-turn Inv-loop μ-loop) where
       (reached .loop .inv .0) (a .turn .ensures .0)
 
   more : reached .loop .i < length (start .args .members .now)
-  more = a .before .before .before .before .before .before .before .before .before .before .before .before .loop-test .taken
+  more = in-loop-from-turn a .loop-test .taken
 
   unmarked-again : a .turn .last .1 .1 .1 .1 .1 .1 .0 ≡ unmarked (length (start .args .vars .now))
   unmarked-again = a .turn .ensures .1 ∙ ap (λ (t : Table). unmarked (length (t .vars))) (reached .loop .inv .0)
@@ -74,17 +173,17 @@ module _ (a : tie.After-turn Inv-loop μ-loop) where
 -- what dropping its nodes leaves
 module _ (d : tie.After-drop-to Inv-loop μ-loop) where
   abbrev turned : tie.After-turn Inv-loop μ-loop
-  turned = d .before .before .before .before .before .before .before .before .before .before .before .before .before .before .before .before .before .before .before .before .before .before .before .before .before
+  turned = turn-from-drop-to d
 
   abbrev begun : tie.Start Inv-loop μ-loop
-  begun = d .before .before .before .before .before .before .before .before .before .before .before .before .before .before .before .before .before .before .before .before .before .before .before .before .before .before .before .before .before .before .before .before .before .before .before .before .before .before .before .before .before .before .before .before .before .before .before .before .before .before .before .before
+  begun = start-from-drop-to d
 
   as-before : tableOf (d .drop-to .last .0) (d .drop-to .last .1 .0) (d .drop-to .last .1 .1 .0) (d .drop-to .last .1 .1 .1 .0) (d .drop-to .last .1 .1 .1 .1 .0) (begun .args .count) ≡ before begun
   as-before = d .drop-to .ensures ∙ undone (before begun) (good begun) (table₁ turned) (extended-longer (before begun) (table₁ turned) (good begun) (said turned .extended))
 
 loop-holds : tie.Need-loop-holds Inv-loop μ-loop
 loop-holds c =
-    let s = c .before .before .before .before .before .before .before .before .before .before .before .before .before in (refl, turning-none (before s) (s .args .first .now) (s .args .members .now) (s .args .positive) (s .args .negative), s .pre .0 .1, refl, refl, refl)
+    let s = start-from-loop-holds c in (refl, turning-none (before s) (s .args .first .now) (s .args .members .now) (s .args .positive) (s .args .negative), s .pre .0 .1, refl, refl, refl)
 
 mul-t21 : tie.Need-mul-t21 Inv-loop μ-loop
 mul-t21 c =
@@ -100,13 +199,13 @@ mul-turn c =
 
 shared-slice-read-turn : tie.Need-shared-slice-read-turn Inv-loop μ-loop
 shared-slice-read-turn c =
-    omega (arith, c .before .before .before .before .before .before .before .before .before .before .before .loop-test .taken, c .before .before .before .before .before .before .before .before .before .before .before .before .before .before .before .before .before .before .before .before .before .before .before .before .before .before .pre .1 .0)
+    omega (arith, in-loop-from-turn-call c .loop-test .taken, start-from-turn-call c .pre .1 .0)
 
 turn-requires : tie.Need-turn-requires Inv-loop μ-loop
 turn-requires c κs =
-    let s = c .before .before .before .before .before .before .before .before .before .before .before .before .before .before .before .before .before .before .before .before .before .before .before .before .before .before in
-    let w = c .before .before .before .before .before .before .before .before .before .before .before .before .loop in
-    let more = c .before .before .before .before .before .before .before .before .before .before .before .loop-test .taken in (
+    let s = start-from-turn-call c in
+    let w = at-loop-from-turn-call c .loop in
+    let more = in-loop-from-turn-call c .loop-test .taken in (
       (
         again-ready (before s) (tableOf (w .vars) (w .lows) (w .highs) (w .heads) (w .links) (s .args .count)) (s .args .first .now) (s .args .memo .now) (w .memo) (w .inv .0) (w .inv .3) (s .pre .0 .0),
         w .inv .2 ∙ sym (ap (λ (t : Table). unmarked (length (t .vars))) (w .inv .0)),
@@ -122,43 +221,43 @@ turn-requires c κs =
 
 same-length : tie.Need-same-length Inv-loop μ-loop
 same-length c =
-    c .before .before .before .before .before .before .before .before .before .before .before .before .before .before .before .before .before .before .before .turn .kept .0 ∙ ap (λ (t : Table). length (t .vars)) (c .before .before .before .before .before .before .before .before .before .before .before .before .before .before .before .before .before .before .before .before .before .before .before .before .before .before .before .before .before .before .before .before .loop .inv .0)
+    turn-from-then1 c .turn .kept .0 ∙ ap (λ (t : Table). length (t .vars)) (at-loop-from-then1 c .loop .inv .0)
 
 same-length-2 : tie.Need-same-length-2 Inv-loop μ-loop
 same-length-2 c =
-    c .before .before .before .before .before .before .before .before .before .before .before .before .before .before .before .before .before .before .before .turn .kept .1 .0 ∙ ap (λ (t : Table). length (t .lows)) (c .before .before .before .before .before .before .before .before .before .before .before .before .before .before .before .before .before .before .before .before .before .before .before .before .before .before .before .before .before .before .before .before .loop .inv .0)
+    turn-from-then1 c .turn .kept .1 .0 ∙ ap (λ (t : Table). length (t .lows)) (at-loop-from-then1 c .loop .inv .0)
 
 same-length-3 : tie.Need-same-length-3 Inv-loop μ-loop
 same-length-3 c =
-    c .before .before .before .before .before .before .before .before .before .before .before .before .before .before .before .before .before .before .before .turn .kept .1 .1 .0 ∙ ap (λ (t : Table). length (t .highs)) (c .before .before .before .before .before .before .before .before .before .before .before .before .before .before .before .before .before .before .before .before .before .before .before .before .before .before .before .before .before .before .before .before .loop .inv .0)
+    turn-from-then1 c .turn .kept .1 .1 .0 ∙ ap (λ (t : Table). length (t .highs)) (at-loop-from-then1 c .loop .inv .0)
 
 same-length-4 : tie.Need-same-length-4 Inv-loop μ-loop
 same-length-4 c =
-    c .before .before .before .before .before .before .before .before .before .before .before .before .before .before .before .before .before .before .before .turn .kept .1 .1 .1 .0 ∙ ap (λ (t : Table). length (t .heads)) (c .before .before .before .before .before .before .before .before .before .before .before .before .before .before .before .before .before .before .before .before .before .before .before .before .before .before .before .before .before .before .before .before .loop .inv .0)
+    turn-from-then1 c .turn .kept .1 .1 .1 .0 ∙ ap (λ (t : Table). length (t .heads)) (at-loop-from-then1 c .loop .inv .0)
 
 same-length-5 : tie.Need-same-length-5 Inv-loop μ-loop
 same-length-5 c =
-    c .before .before .before .before .before .before .before .before .before .before .before .before .before .before .before .before .before .before .before .turn .kept .1 .1 .1 .1 .0 ∙ ap (λ (t : Table). length (t .links)) (c .before .before .before .before .before .before .before .before .before .before .before .before .before .before .before .before .before .before .before .before .before .before .before .before .before .before .before .before .before .before .before .before .loop .inv .0)
+    turn-from-then1 c .turn .kept .1 .1 .1 .1 .0 ∙ ap (λ (t : Table). length (t .links)) (at-loop-from-then1 c .loop .inv .0)
 
 same-length-6 : tie.Need-same-length-6 Inv-loop μ-loop
 same-length-6 c =
-    c .before .before .before .before .before .before .before .before .before .before .before .before .before .before .before .before .before .before .before .turn .kept .1 .1 .1 .1 .1 .0 ∙ c .before .before .before .before .before .before .before .before .before .before .before .before .before .before .before .before .before .before .before .before .before .before .before .before .before .before .before .before .before .before .before .before .loop .inv .3
+    turn-from-then1 c .turn .kept .1 .1 .1 .1 .1 .0 ∙ at-loop-from-then1 c .loop .inv .3
 
 same-length-7 : tie.Need-same-length-7 Inv-loop μ-loop
 same-length-7 c =
-    c .before .before .before .before .before .before .before .before .before .before .before .before .before .before .before .before .before .before .before .turn .kept .1 .1 .1 .1 .1 .1 .0 ∙ ap length (c .before .before .before .before .before .before .before .before .before .before .before .before .before .before .before .before .before .before .before .before .before .before .before .before .before .before .before .before .before .before .before .before .loop .inv .2 ∙ sym (c .before .before .before .before .before .before .before .before .before .before .before .before .before .before .before .before .before .before .before .before .before .before .before .before .before .before .before .before .before .before .before .before .before .before .before .before .before .before .before .before .before .before .before .before .before .before .pre .0 .1))
+    turn-from-then1 c .turn .kept .1 .1 .1 .1 .1 .1 .0 ∙ ap length (at-loop-from-then1 c .loop .inv .2 ∙ sym (start-from-then1 c .pre .0 .1))
 
 same-length-8 : tie.Need-same-length-8 Inv-loop μ-loop
 same-length-8 c =
-    c .before .before .before .before .before .before .before .before .before .before .before .before .before .before .before .before .before .before .before .turn .kept .1 .1 .1 .1 .1 .1 .1 .1 .1 .0 ∙ c .before .before .before .before .before .before .before .before .before .before .before .before .before .before .before .before .before .before .before .before .before .before .before .before .before .before .before .before .before .before .before .before .loop .inv .4
+    turn-from-then1 c .turn .kept .1 .1 .1 .1 .1 .1 .1 .1 .1 .0 ∙ at-loop-from-then1 c .loop .inv .4
 
 same-length-9 : tie.Need-same-length-9 Inv-loop μ-loop
 same-length-9 c =
-    c .before .before .before .before .before .before .before .before .before .before .before .before .before .before .before .before .before .before .before .turn .kept .1 .1 .1 .1 .1 .1 .1 .1 .1 .1 .0 ∙ c .before .before .before .before .before .before .before .before .before .before .before .before .before .before .before .before .before .before .before .before .before .before .before .before .before .before .before .before .before .before .before .before .loop .inv .5
+    turn-from-then1 c .turn .kept .1 .1 .1 .1 .1 .1 .1 .1 .1 .1 .0 ∙ at-loop-from-then1 c .loop .inv .5
 
 returns : tie.Need-returns Inv-loop μ-loop
 returns c =
-    let a = c .before .before .before .before .before .before .before .before .before .before .before .before .before .before .before .before .before .before .before in
+    let a = turn-from-then1 c in
     let s = start a in
     let w = reached a .loop in (
       turns-full (before s) (s .args .first .now) (s .args .members .now) (s .args .positive) (s .args .negative) (good s) (w .i) (w .rounds) (w .inv .1) (more a) (a .turn .result) (table₁ a) (said a) (c .if1 .taken) (a .turn .result .count),
@@ -167,77 +266,77 @@ returns c =
 
 drop-to-requires : tie.Need-drop-to-requires Inv-loop μ-loop
 drop-to-requires c κs =
-    let a = c .before .before .before .before .before .before .before .before .before .before .before .before .before .before .before .before .before .before .before .before .before .before .before .before in
+    let a = turn-from-drop-to-call c in
     (said a .extended .good, omega (arith, good (start a) .least, said a .extended .more), omega (arith, said a .extended .more))
 
 add-rounds : tie.Need-add-rounds Inv-loop μ-loop
 add-rounds c =
-    let a = c .before .before .before .before .before .before .before .before .before .before .before .before .before .before .before .before .before .before .before .before .before .before .before .before .before .before .before .before .before .before .before .before .before .before .before .before in
+    let a = turn-from-add-rounds c in
     omega (arith, said a .most, reached a .loop .inv .1 .most, more a, start a .pre .0 .4)
 
 same-length-10 : tie.Need-same-length-10 Inv-loop μ-loop
 same-length-10 c =
-    c .before .before .before .before .before .before .before .before .before .before .before .before .before .drop-to .kept .0 ∙ c .before .before .before .before .before .before .before .before .before .before .before .before .before .before .before .before .before .before .before .before .before .before .before .before .before .before .before .before .before .before .before .before .before .before .before .before .before .before .turn .kept .0 ∙ ap (λ (t : Table). length (t .vars)) (c .before .before .before .before .before .before .before .before .before .before .before .before .before .before .before .before .before .before .before .before .before .before .before .before .before .before .before .before .before .before .before .before .before .before .before .before .before .before .before .before .before .before .before .before .before .before .before .before .before .before .before .loop .inv .0)
+    drop-to-from-then2 c .drop-to .kept .0 ∙ turn-from-then2 c .turn .kept .0 ∙ ap (λ (t : Table). length (t .vars)) (at-loop-from-then2 c .loop .inv .0)
 
 same-length-11 : tie.Need-same-length-11 Inv-loop μ-loop
 same-length-11 c =
-    c .before .before .before .before .before .before .before .before .before .before .before .before .before .drop-to .kept .1 .0 ∙ c .before .before .before .before .before .before .before .before .before .before .before .before .before .before .before .before .before .before .before .before .before .before .before .before .before .before .before .before .before .before .before .before .before .before .before .before .before .before .turn .kept .1 .0 ∙ ap (λ (t : Table). length (t .lows)) (c .before .before .before .before .before .before .before .before .before .before .before .before .before .before .before .before .before .before .before .before .before .before .before .before .before .before .before .before .before .before .before .before .before .before .before .before .before .before .before .before .before .before .before .before .before .before .before .before .before .before .before .loop .inv .0)
+    drop-to-from-then2 c .drop-to .kept .1 .0 ∙ turn-from-then2 c .turn .kept .1 .0 ∙ ap (λ (t : Table). length (t .lows)) (at-loop-from-then2 c .loop .inv .0)
 
 same-length-12 : tie.Need-same-length-12 Inv-loop μ-loop
 same-length-12 c =
-    c .before .before .before .before .before .before .before .before .before .before .before .before .before .drop-to .kept .1 .1 .0 ∙ c .before .before .before .before .before .before .before .before .before .before .before .before .before .before .before .before .before .before .before .before .before .before .before .before .before .before .before .before .before .before .before .before .before .before .before .before .before .before .turn .kept .1 .1 .0 ∙ ap (λ (t : Table). length (t .highs)) (c .before .before .before .before .before .before .before .before .before .before .before .before .before .before .before .before .before .before .before .before .before .before .before .before .before .before .before .before .before .before .before .before .before .before .before .before .before .before .before .before .before .before .before .before .before .before .before .before .before .before .before .loop .inv .0)
+    drop-to-from-then2 c .drop-to .kept .1 .1 .0 ∙ turn-from-then2 c .turn .kept .1 .1 .0 ∙ ap (λ (t : Table). length (t .highs)) (at-loop-from-then2 c .loop .inv .0)
 
 same-length-13 : tie.Need-same-length-13 Inv-loop μ-loop
 same-length-13 c =
-    c .before .before .before .before .before .before .before .before .before .before .before .before .before .drop-to .kept .1 .1 .1 .0 ∙ c .before .before .before .before .before .before .before .before .before .before .before .before .before .before .before .before .before .before .before .before .before .before .before .before .before .before .before .before .before .before .before .before .before .before .before .before .before .before .turn .kept .1 .1 .1 .0 ∙ ap (λ (t : Table). length (t .heads)) (c .before .before .before .before .before .before .before .before .before .before .before .before .before .before .before .before .before .before .before .before .before .before .before .before .before .before .before .before .before .before .before .before .before .before .before .before .before .before .before .before .before .before .before .before .before .before .before .before .before .before .before .loop .inv .0)
+    drop-to-from-then2 c .drop-to .kept .1 .1 .1 .0 ∙ turn-from-then2 c .turn .kept .1 .1 .1 .0 ∙ ap (λ (t : Table). length (t .heads)) (at-loop-from-then2 c .loop .inv .0)
 
 same-length-14 : tie.Need-same-length-14 Inv-loop μ-loop
 same-length-14 c =
-    c .before .before .before .before .before .before .before .before .before .before .before .before .before .drop-to .kept .1 .1 .1 .1 .0 ∙ c .before .before .before .before .before .before .before .before .before .before .before .before .before .before .before .before .before .before .before .before .before .before .before .before .before .before .before .before .before .before .before .before .before .before .before .before .before .before .turn .kept .1 .1 .1 .1 .0 ∙ ap (λ (t : Table). length (t .links)) (c .before .before .before .before .before .before .before .before .before .before .before .before .before .before .before .before .before .before .before .before .before .before .before .before .before .before .before .before .before .before .before .before .before .before .before .before .before .before .before .before .before .before .before .before .before .before .before .before .before .before .before .loop .inv .0)
+    drop-to-from-then2 c .drop-to .kept .1 .1 .1 .1 .0 ∙ turn-from-then2 c .turn .kept .1 .1 .1 .1 .0 ∙ ap (λ (t : Table). length (t .links)) (at-loop-from-then2 c .loop .inv .0)
 
 same-length-15 : tie.Need-same-length-15 Inv-loop μ-loop
 same-length-15 c =
-    c .before .before .before .before .before .before .before .before .before .before .before .before .before .before .before .before .before .before .before .before .before .before .before .before .before .before .before .before .before .before .before .before .before .before .before .before .before .before .turn .kept .1 .1 .1 .1 .1 .0 ∙ c .before .before .before .before .before .before .before .before .before .before .before .before .before .before .before .before .before .before .before .before .before .before .before .before .before .before .before .before .before .before .before .before .before .before .before .before .before .before .before .before .before .before .before .before .before .before .before .before .before .before .before .loop .inv .3
+    turn-from-then2 c .turn .kept .1 .1 .1 .1 .1 .0 ∙ at-loop-from-then2 c .loop .inv .3
 
 same-length-16 : tie.Need-same-length-16 Inv-loop μ-loop
 same-length-16 c =
-    c .before .before .before .before .before .before .before .before .before .before .before .before .before .before .before .before .before .before .before .before .before .before .before .before .before .before .before .before .before .before .before .before .before .before .before .before .before .before .turn .kept .1 .1 .1 .1 .1 .1 .0 ∙ ap length (c .before .before .before .before .before .before .before .before .before .before .before .before .before .before .before .before .before .before .before .before .before .before .before .before .before .before .before .before .before .before .before .before .before .before .before .before .before .before .before .before .before .before .before .before .before .before .before .before .before .before .before .loop .inv .2 ∙ sym (c .before .before .before .before .before .before .before .before .before .before .before .before .before .before .before .before .before .before .before .before .before .before .before .before .before .before .before .before .before .before .before .before .before .before .before .before .before .before .before .before .before .before .before .before .before .before .before .before .before .before .before .before .before .before .before .before .before .before .before .before .before .before .before .before .before .pre .0 .1))
+    turn-from-then2 c .turn .kept .1 .1 .1 .1 .1 .1 .0 ∙ ap length (at-loop-from-then2 c .loop .inv .2 ∙ sym (start-from-then2 c .pre .0 .1))
 
 same-length-17 : tie.Need-same-length-17 Inv-loop μ-loop
 same-length-17 c =
-    c .before .before .before .before .before .before .before .before .before .before .before .before .before .before .before .before .before .before .before .before .before .before .before .before .before .before .before .before .before .before .before .before .before .before .before .before .before .before .turn .kept .1 .1 .1 .1 .1 .1 .1 .1 .1 .0 ∙ c .before .before .before .before .before .before .before .before .before .before .before .before .before .before .before .before .before .before .before .before .before .before .before .before .before .before .before .before .before .before .before .before .before .before .before .before .before .before .before .before .before .before .before .before .before .before .before .before .before .before .before .loop .inv .4
+    turn-from-then2 c .turn .kept .1 .1 .1 .1 .1 .1 .1 .1 .1 .0 ∙ at-loop-from-then2 c .loop .inv .4
 
 same-length-18 : tie.Need-same-length-18 Inv-loop μ-loop
 same-length-18 c =
-    c .before .before .before .before .before .before .before .before .before .before .before .before .before .before .before .before .before .before .before .before .before .before .before .before .before .before .before .before .before .before .before .before .before .before .before .before .before .before .turn .kept .1 .1 .1 .1 .1 .1 .1 .1 .1 .1 .0 ∙ c .before .before .before .before .before .before .before .before .before .before .before .before .before .before .before .before .before .before .before .before .before .before .before .before .before .before .before .before .before .before .before .before .before .before .before .before .before .before .before .before .before .before .before .before .before .before .before .before .before .before .before .loop .inv .5
+    turn-from-then2 c .turn .kept .1 .1 .1 .1 .1 .1 .1 .1 .1 .1 .0 ∙ at-loop-from-then2 c .loop .inv .5
 
 returns-2 : tie.Need-returns-2 Inv-loop μ-loop
 returns-2 c =
-    let d = c .before .before .before .before .before .before .before .before .before .before .before .before .before in
+    let d = drop-to-from-then2 c in
     let a = turned d in
     let s = start a in
     let w = reached a .loop in (
       subst (λ (t : Table). Says (before s) (line s (s .args .members .now)) (64 * length (s .args .members .now)) (judgedAs false false (w .rounds + a .turn .result .rounds) (s .args .count)) t) (sym (as-before d))
-          (turns-end (before s) (s .args .first .now) (s .args .members .now) (s .args .positive) (s .args .negative) (good s) (w .i) (w .rounds) (w .inv .1) (more a) (a .turn .result) (table₁ a) (said a) (c .before .before .before .before .before .before .before .before .before .before .before .before .before .before .before .before .before .before .before .if1 .left) (sym (not-not (a .turn .result .shown)) ∙ ap not (c .if2 .taken))),
+          (turns-end (before s) (s .args .first .now) (s .args .members .now) (s .args .positive) (s .args .negative) (good s) (w .i) (w .rounds) (w .inv .1) (more a) (a .turn .result) (table₁ a) (said a) (else1-from-then2 c .if1 .left) (sym (not-not (a .turn .result .shown)) ∙ ap not (c .if2 .taken))),
       unmarked-again a,
     )
 
 add-i : tie.Need-add-i Inv-loop μ-loop
 add-i c =
-    let a = c .before .before .before .before .before .before .before .before .before .before .before .before .before .before .before .before .before .before .before .before .before .before .before .before .before .before .before .before .before .before .before .before .before .before .before .before .before .before in omega (arith, more a, start a .pre .0 .4)
+    let a = turn-from-else2 c in omega (arith, more a, start a .pre .0 .4)
 
 loop-less : tie.Need-loop-less Inv-loop μ-loop
 loop-less c =
-    let a = c .before .before .before .before .before .before .before .before .before .before .before .before .before .before .before .before .before .before .before .before .before .before .before .before .before .before .before .before .before .before .before .before .before .before .before .before .before .before in omega (arith, more a)
+    let a = turn-from-else2 c in omega (arith, more a)
 
 loop-again : tie.Need-loop-again Inv-loop μ-loop
 loop-again c =
-    let d = c .before .before .before .before .before .before .before .before .before .before .before .before .before in
+    let d = drop-to-from-else2 c in
     let a = turned d in
     let s = start a in
     let w = reached a .loop in (
       as-before d,
-      turns-on (before s) (s .args .first .now) (s .args .members .now) (s .args .positive) (s .args .negative) (good s) (w .i) (w .rounds) (w .inv .1) (more a) (a .turn .result) (table₁ a) (said a) (c .before .before .before .before .before .before .before .before .before .before .before .before .before .before .before .before .before .before .before .if1 .left) (sym (not-not (a .turn .result .shown)) ∙ ap not (c .if2 .left)),
+      turns-on (before s) (s .args .first .now) (s .args .members .now) (s .args .positive) (s .args .negative) (good s) (w .i) (w .rounds) (w .inv .1) (more a) (a .turn .result) (table₁ a) (said a) (else1-from-else2 c .if1 .left) (sym (not-not (a .turn .result .shown)) ∙ ap not (c .if2 .left)),
       unmarked-again a,
       a .turn .kept .1 .1 .1 .1 .1 .0 ∙ w .inv .3,
       a .turn .kept .1 .1 .1 .1 .1 .1 .1 .1 .1 .0 ∙ w .inv .4,
@@ -270,7 +369,7 @@ same-length-24 c =
 
 same-length-25 : tie.Need-same-length-25 Inv-loop μ-loop
 same-length-25 c =
-    ap length (c .before .loop .inv .2 ∙ sym (c .before .before .before .before .before .before .before .before .before .before .before .before .before .before .before .pre .0 .1))
+    ap length (c .before .loop .inv .2 ∙ sym (start-from-return-3 c .pre .0 .1))
 
 same-length-26 : tie.Need-same-length-26 Inv-loop μ-loop
 same-length-26 c =
@@ -282,7 +381,7 @@ same-length-27 c =
 
 returns-3 : tie.Need-returns-3 Inv-loop μ-loop
 returns-3 c =
-    let s = c .before .before .before .before .before .before .before .before .before .before .before .before .before .before .before in
+    let s = start-from-return-3 c in
     let w = c .before .loop in (
       subst (λ (t : Table). Says (before s) (line s (s .args .members .now)) (64 * length (s .args .members .now)) (judgedAs false true (w .rounds) (s .args .count)) t) (sym (w .inv .0))
           (turns-done (before s) (s .args .first .now) (s .args .members .now) (s .args .positive) (s .args .negative) (good s) (w .i) (w .rounds) (w .inv .1) (omega (arith, c .loop-test .left))),

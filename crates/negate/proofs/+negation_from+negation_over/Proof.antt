@@ -76,8 +76,130 @@ module _ {t : ℕ} (s : negation-from-lts.Start (negation-from-callees t) (negat
   cell-inside : s .args .f .0 < length (s .args .memo .now)
   cell-inside = omega (arith, ready .room, ready .inside, ready .good .within)
 
+-- The ways back, written by ways.py: TO-from-FROM leads from the place FROM of the code to the place TO before it.
+module _ {t : ℕ} (c : negation-from-lts.Then1 (negation-from-callees t) (negation-from-at t) negation-from.Post) where
+  abbrev start-from-negation-from-then1 : negation-from-lts.Start (negation-from-callees t) (negation-from-at t) negation-from.Post
+  start-from-negation-from-then1 = c .before .before .before .before .before .before .before .before
+
+module _ {t : ℕ} (c : negation-from-lts.Else2 (negation-from-callees t) (negation-from-at t) negation-from.Post) where
+  abbrev start-from-negation-from-else2 : negation-from-lts.Start (negation-from-callees t) (negation-from-at t) negation-from.Post
+  start-from-negation-from-else2 = c .before .before .before .before .before .before .before .before .before .before
+
+module _ {t : ℕ} (c : negation-from-lts.Then2 (negation-from-callees t) (negation-from-at t) negation-from.Post) where
+  abbrev start-from-negation-from-then2 : negation-from-lts.Start (negation-from-callees t) (negation-from-at t) negation-from.Post
+  start-from-negation-from-then2 = c .before .before .before .before .before .before .before .before .before .before
+
+module _ {t : ℕ} (c : negation-from-lts.After-struct-known3 (negation-from-callees t) (negation-from-at t) negation-from.Post) where
+  abbrev start-from-negation-from-cast-i : negation-from-lts.Start (negation-from-callees t) (negation-from-at t) negation-from.Post
+  start-from-negation-from-cast-i = start-from-negation-from-else2 (c .before)
+
+module _ {t : ℕ} (c : negation-from-lts.After-slice-known2 (negation-from-callees t) (negation-from-at t) negation-from.Post) where
+  abbrev start-from-negation-from-slice-read-e : negation-from-lts.Start (negation-from-callees t) (negation-from-at t) negation-from.Post
+  start-from-negation-from-slice-read-e = start-from-negation-from-else2 (c .before .before)
+
+module _ {t : ℕ} (c : negation-from-lts.After-found-in (negation-from-callees t) (negation-from-at t) negation-from.Post) where
+  abbrev else2-from-negation-from-return-3 : negation-from-lts.Else2 (negation-from-callees t) (negation-from-at t) negation-from.Post
+  else2-from-negation-from-return-3 = c .before .before .before .before .before
+
+  abbrev start-from-negation-from-return-3 : negation-from-lts.Start (negation-from-callees t) (negation-from-at t) negation-from.Post
+  start-from-negation-from-return-3 = start-from-negation-from-else2 else2-from-negation-from-return-3
+
+module _ {t : ℕ} (c : negation-from-lts.After-negation-over-arg (negation-from-callees t) (negation-from-at t) negation-from.Post) where
+  abbrev else2-from-negation-from-negation-over-call : negation-from-lts.Else2 (negation-from-callees t) (negation-from-at t) negation-from.Post
+  else2-from-negation-from-negation-over-call = c .before .before .before .before .before
+
+  abbrev start-from-negation-from-negation-over-call : negation-from-lts.Start (negation-from-callees t) (negation-from-at t) negation-from.Post
+  start-from-negation-from-negation-over-call = start-from-negation-from-else2 else2-from-negation-from-negation-over-call
+
+module _ {t : ℕ} (c : negation-from-lts.After-negation-over (negation-from-callees t) (negation-from-at t) negation-from.Post) where
+  abbrev else2-from-negation-from-negation-over : negation-from-lts.Else2 (negation-from-callees t) (negation-from-at t) negation-from.Post
+  else2-from-negation-from-negation-over = c .before .before .before .before .before .before
+
+module _ {t : ℕ} (c : negation-from-lts.After-entry-of (negation-from-callees t) (negation-from-at t) negation-from.Post) where
+  abbrev negation-over-from-negation-from-return-4 : negation-from-lts.After-negation-over (negation-from-callees t) (negation-from-at t) negation-from.Post
+  negation-over-from-negation-from-return-4 = c .before .before .before
+
+  abbrev start-from-negation-from-return-4 : negation-from-lts.Start (negation-from-callees t) (negation-from-at t) negation-from.Post
+  start-from-negation-from-return-4 = start-from-negation-from-else2 (else2-from-negation-from-negation-over
+      negation-over-from-negation-from-return-4)
+
+module _ {t : ℕ} (c : negation-over-lts.After-shared-slice-known6 (negation-over-callees t) (negation-over-at t) negation-over.Post) where
+  abbrev start-from-negation-over-shared-slice-read-v : negation-over-lts.Start (negation-over-callees t) (negation-over-at t) negation-over.Post
+  start-from-negation-over-shared-slice-read-v = c .before .before .before .before .before .before .before .before
+
+module _ {t : ℕ} (c : negation-over-lts.After-shared-slice-known7 (negation-over-callees t) (negation-over-at t) negation-over.Post) where
+  abbrev start-from-negation-over-shared-slice-read-t19 : negation-over-lts.Start (negation-over-callees t) (negation-over-at t) negation-over.Post
+  start-from-negation-over-shared-slice-read-t19 = c .before .before .before .before .before .before .before .before .before
+
+module _ {t : ℕ} (c : negation-over-lts.After-shared-slice-known8 (negation-over-callees t) (negation-over-at t) negation-over.Post) where
+  abbrev start-from-negation-over-shared-slice-read-t19-2 : negation-over-lts.Start (negation-over-callees t) (negation-over-at t) negation-over.Post
+  start-from-negation-over-shared-slice-read-t19-2 = c .before .before .before .before .before .before .before .before .before .before
+
+module _ {t : ℕ} (c : negation-over-lts.After-negation-from-arg (negation-over-callees t) (negation-over-at t) negation-over.Post) where
+  abbrev start-from-negation-over-negation-from-call : negation-over-lts.Start (negation-over-callees t) (negation-over-at t) negation-over.Post
+  start-from-negation-over-negation-from-call = c .before .before .before .before .before .before .before .before .before .before .before
+
+module _ {t : ℕ} (c : negation-over-lts.After-negation-from (negation-over-callees t) (negation-over-at t) negation-over.Post) where
+  abbrev start-from-negation-over-negation-from : negation-over-lts.Start (negation-over-callees t) (negation-over-at t) negation-over.Post
+  start-from-negation-over-negation-from = c .before .before .before .before .before .before .before .before .before .before .before .before
+
+module _ {t : ℕ} (c : negation-over-lts.After-enum-told2 (negation-over-callees t) (negation-over-at t) negation-over.Post) where
+  abbrev negation-from-from-negation-over-return-3 : negation-over-lts.After-negation-from (negation-over-callees t) (negation-over-at t) negation-over.Post
+  negation-from-from-negation-over-return-3 = c .before .before .before .before
+
+  abbrev start-from-negation-over-return-3 : negation-over-lts.Start (negation-over-callees t) (negation-over-at t) negation-over.Post
+  start-from-negation-over-return-3 = start-from-negation-over-negation-from negation-from-from-negation-over-return-3
+
+module _ {t : ℕ} (c : negation-over-lts.After-l (negation-over-callees t) (negation-over-at t) negation-over.Post) where
+  abbrev negation-from-from-negation-over-l : negation-over-lts.After-negation-from (negation-over-callees t) (negation-over-at t) negation-over.Post
+  negation-from-from-negation-over-l = c .before .before .before .before
+
+module _ {t : ℕ} (c : negation-over-lts.After-negation-from-arg2 (negation-over-callees t) (negation-over-at t) negation-over.Post) where
+  abbrev negation-from-from-negation-over-negation-from-call-2 : negation-over-lts.After-negation-from (negation-over-callees t) (negation-over-at t) negation-over.Post
+  negation-from-from-negation-over-negation-from-call-2 = negation-from-from-negation-over-l (c .before .before)
+
+  abbrev start-from-negation-over-negation-from-call-2 : negation-over-lts.Start (negation-over-callees t) (negation-over-at t) negation-over.Post
+  start-from-negation-over-negation-from-call-2 = start-from-negation-over-negation-from
+      negation-from-from-negation-over-negation-from-call-2
+
+module _ {t : ℕ} (c : negation-over-lts.After-negation-from2 (negation-over-callees t) (negation-over-at t) negation-over.Post) where
+  abbrev l-from-negation-over-negation-from2 : negation-over-lts.After-l (negation-over-callees t) (negation-over-at t) negation-over.Post
+  l-from-negation-over-negation-from2 = c .before .before .before
+
+module _ {t : ℕ} (c : negation-over-lts.After-enum-told (negation-over-callees t) (negation-over-at t) negation-over.Post) where
+  abbrev negation-from2-from-negation-over-return-2 : negation-over-lts.After-negation-from2 (negation-over-callees t) (negation-over-at t) negation-over.Post
+  negation-from2-from-negation-over-return-2 = c .before .before .before .before
+
+  abbrev negation-from-from-negation-over-return-2 : negation-over-lts.After-negation-from (negation-over-callees t) (negation-over-at t) negation-over.Post
+  negation-from-from-negation-over-return-2 = negation-from-from-negation-over-l (l-from-negation-over-negation-from2
+      negation-from2-from-negation-over-return-2)
+
+  abbrev start-from-negation-over-return-2 : negation-over-lts.Start (negation-over-callees t) (negation-over-at t) negation-over.Post
+  start-from-negation-over-return-2 = start-from-negation-over-negation-from negation-from-from-negation-over-return-2
+
+module _ {t : ℕ} (c : negation-over-lts.After-known-told2 (negation-over-callees t) (negation-over-at t) negation-over.Post) where
+  abbrev negation-from2-from-negation-over-lookup-call : negation-over-lts.After-negation-from2 (negation-over-callees t) (negation-over-at t) negation-over.Post
+  negation-from2-from-negation-over-lookup-call = c .before .before .before .before .before
+
+  abbrev start-from-negation-over-lookup-call : negation-over-lts.Start (negation-over-callees t) (negation-over-at t) negation-over.Post
+  start-from-negation-over-lookup-call = start-from-negation-over-negation-from (negation-from-from-negation-over-l
+      (l-from-negation-over-negation-from2 negation-from2-from-negation-over-lookup-call))
+
+module _ {t : ℕ} (c : negation-over-lts.After-lookup (negation-over-callees t) (negation-over-at t) negation-over.Post) where
+  abbrev negation-from2-from-negation-over-return : negation-over-lts.After-negation-from2 (negation-over-callees t) (negation-over-at t) negation-over.Post
+  negation-from2-from-negation-over-return = c .before .before .before .before .before .before
+
+  abbrev l-from-negation-over-return : negation-over-lts.After-l (negation-over-callees t) (negation-over-at t) negation-over.Post
+  l-from-negation-over-return = l-from-negation-over-negation-from2 negation-from2-from-negation-over-return
+
+  abbrev negation-from-from-negation-over-return : negation-over-lts.After-negation-from (negation-over-callees t) (negation-over-at t) negation-over.Post
+  negation-from-from-negation-over-return = negation-from-from-negation-over-l l-from-negation-over-return
+
+  abbrev start-from-negation-over-return : negation-over-lts.Start (negation-over-callees t) (negation-over-at t) negation-over.Post
+  start-from-negation-over-return = start-from-negation-over-negation-from negation-from-from-negation-over-return
+
 -- past the two constants
-two : {t : ℕ} (e : negation-from-lts.Else2 (negation-from-callees t) (negation-from-at t) negation-from.Post) → 2 ≤ e .before .before .before .before .before .before .before .before .before .before .args .f .0
+two : {t : ℕ} (e : negation-from-lts.Else2 (negation-from-callees t) (negation-from-at t) negation-from.Post) → 2 ≤ start-from-negation-from-else2 e .args .f .0
 two e = omega (arith, e .before .before .if1 .left, e .if2 .left)
 
 -- where negation_over starts
@@ -99,21 +221,21 @@ module _ {t : ℕ} (s : negation-over-lts.Start (negation-over-callees t) (negat
 
 negation-from-returns : (t : ℕ) → negation-from-lts.Need-returns (negation-from-callees t) (negation-from-at t) negation-from.Post
 negation-from-returns t c =
-    let s = c .before .before .before .before .before .before .before .before in (subst (λ (k : ℕ). Negates (table s) k (At (record { 0 = 1 }))) (sym (c .if1 .taken)) (negates-zero (table s) (ready s .good)), ready s .right)
+    let s = start-from-negation-from-then1 c in (subst (λ (k : ℕ). Negates (table s) k (At (record { 0 = 1 }))) (sym (c .if1 .taken)) (negates-zero (table s) (ready s .good)), ready s .right)
 
 negation-from-returns-2 : (t : ℕ) → negation-from-lts.Need-returns-2 (negation-from-callees t) (negation-from-at t) negation-from.Post
 negation-from-returns-2 t c =
-    let s = c .before .before .before .before .before .before .before .before .before .before in (subst (λ (k : ℕ). Negates (table s) k (At (record { 0 = 0 }))) (sym (c .if2 .taken)) (negates-one (table s) (ready s .good)), ready s .right)
+    let s = start-from-negation-from-then2 c in (subst (λ (k : ℕ). Negates (table s) k (At (record { 0 = 0 }))) (sym (c .if2 .taken)) (negates-one (table s) (ready s .good)), ready s .right)
 
 negation-from-cast-i : (t : ℕ) → negation-from-lts.Need-cast-i (negation-from-callees t) (negation-from-at t) negation-from.Post
 negation-from-cast-i t c = search needs
 
 negation-from-mul-e : (t : ℕ) → negation-from-lts.Need-mul-e (negation-from-callees t) (negation-from-at t) negation-from.Post
 negation-from-mul-e t c =
-    omega (arith, cell-inside (c .before .before .before .before .before .before .before .before .before .before .before), c .before .before .before .before .before .before .before .before .before .before .before .good, c .before .before .before .before .before .before .before .before .before .before .before .fits)
+    omega (arith, cell-inside (start-from-negation-from-cast-i c), start-from-negation-from-cast-i c .good, start-from-negation-from-cast-i c .fits)
 
 negation-from-slice-read-e : (t : ℕ) → negation-from-lts.Need-slice-read-e (negation-from-callees t) (negation-from-at t) negation-from.Post
-negation-from-slice-read-e t c = cell-inside (c .before .before .before .before .before .before .before .before .before .before .before .before)
+negation-from-slice-read-e t c = cell-inside (start-from-negation-from-slice-read-e c)
 
 negation-from-cast-if3 : (t : ℕ) → negation-from-lts.Need-cast-if3 (negation-from-callees t) (negation-from-at t) negation-from.Post
 negation-from-cast-if3 t c = search needs
@@ -123,32 +245,32 @@ negation-from-found-in-requires t c κs = search needs
 
 negation-from-returns-3 : (t : ℕ) → negation-from-lts.Need-returns-3 (negation-from-callees t) (negation-from-at t) negation-from.Post
 negation-from-returns-3 t c =
-    let s = c .before .before .before .before .before .before .before .before .before .before .before .before .before .before .before in
-    (subst (Negates (table s) (s .args .f .0)) (sym (c .found-in .ensures)) (negation-known (table s) (s .args .memo .now) (s .args .f .0) (ready s .inside) (ready s .right) (c .before .if3 .taken) (two (c .before .before .before .before .before))), ready s .right)
+    let s = start-from-negation-from-return-3 c in
+    (subst (Negates (table s) (s .args .f .0)) (sym (c .found-in .ensures)) (negation-known (table s) (s .args .memo .now) (s .args .f .0) (ready s .inside) (ready s .right) (c .before .if3 .taken) (two (else2-from-negation-from-return-3 c))), ready s .right)
 
 negation-from-negation-over-requires : (t : ℕ) → negation-from-lts.Need-negation-over-requires (negation-from-callees t) (negation-from-at t) negation-from.Post
 negation-from-negation-over-requires t c κs =
-    (omega (arith, measure (c .before .before .before .before .before .before .before .before .before .before .before .before .before .before .before)), (ready (c .before .before .before .before .before .before .before .before .before .before .before .before .before .before .before), two (c .before .before .before .before .before)))
+    (omega (arith, measure (start-from-negation-from-negation-over-call c)), (ready (start-from-negation-from-negation-over-call c), two (else2-from-negation-from-negation-over-call c)))
 
 negation-from-entry-of-requires : (t : ℕ) → negation-from-lts.Need-entry-of-requires (negation-from-callees t) (negation-from-at t) negation-from.Post
 negation-from-entry-of-requires t c κs = search needs
 
 negation-from-mul-memo : (t : ℕ) → negation-from-lts.Need-mul-memo (negation-from-callees t) (negation-from-at t) negation-from.Post
 negation-from-mul-memo t c =
-    omega (arith, cell-inside (c .before .before .before .before .before .before .before .before .before .before .before .before .before .before .before .before .before .before .before), c .before .before .before .before .before .before .before .before .before .before .before .before .before .before .before .before .before .before .before .good, c .before .before .before .before .before .before .before .before .before .before .before .before .before .before .before .before .before .before .before .fits)
+    omega (arith, cell-inside (start-from-negation-from-return-4 c), start-from-negation-from-return-4 c .good, start-from-negation-from-return-4 c .fits)
 
 negation-from-slice-write-memo : (t : ℕ) → negation-from-lts.Need-slice-write-memo (negation-from-callees t) (negation-from-at t) negation-from.Post
 negation-from-slice-write-memo t c =
-    omega (arith, cell-inside (c .before .before .before .before .before .before .before .before .before .before .before .before .before .before .before .before .before .before .before), c .before .before .before .negation-over .kept .1 .1 .1 .1 .1 .0)
+    omega (arith, cell-inside (start-from-negation-from-return-4 c), negation-over-from-negation-from-return-4 c .negation-over .kept .1 .1 .1 .1 .1 .0)
 
 negation-from-same-length : (t : ℕ) → negation-from-lts.Need-same-length (negation-from-callees t) (negation-from-at t) negation-from.Post
 negation-from-same-length t c =
-    length-set (c .before .before .before .negation-over .last .1 .1 .1 .1 .1 .0) _ _ ∙ c .before .before .before .negation-over .kept .1 .1 .1 .1 .1 .0
+    length-set (negation-over-from-negation-from-return-4 c .negation-over .last .1 .1 .1 .1 .1 .0) _ _ ∙ negation-over-from-negation-from-return-4 c .negation-over .kept .1 .1 .1 .1 .1 .0
 
 negation-from-returns-4 : (t : ℕ) → negation-from-lts.Need-returns-4 (negation-from-callees t) (negation-from-at t) negation-from.Post
 negation-from-returns-4 t c =
-    let s = c .before .before .before .before .before .before .before .before .before .before .before .before .before .before .before .before .before .before .before in
-    let k = c .before .before .before .negation-over in (
+    let s = start-from-negation-from-return-4 c in
+    let k = negation-over-from-negation-from-return-4 c .negation-over in (
       k .ensures .0,
       subst (λ (e : ℕ). NegationMemo (set (k .last .1 .1 .1 .1 .1 .0) (s .args .f .0) e) (table s)) (sym (c .entry-of .ensures))
           (negation-stored (table s) (k .last .1 .1 .1 .1 .1 .0) (ready s .good) (s .args .f .0) (k .result) (omega (arith, cell-inside s, k .kept .1 .1 .1 .1 .1 .0)) (k .ensures .1) (k .ensures .0)),
@@ -159,25 +281,25 @@ negation-over-cast-i t c = search needs
 
 negation-over-shared-slice-read-v : (t : ℕ) → negation-over-lts.Need-shared-slice-read-v (negation-over-callees t) (negation-over-at t) negation-over.Post
 negation-over-shared-slice-read-v t c =
-    omega (arith, over-ready (c .before .before .before .before .before .before .before .before) .inside, over-ready (c .before .before .before .before .before .before .before .before) .good .within)
+    omega (arith, over-ready (start-from-negation-over-shared-slice-read-v c) .inside, over-ready (start-from-negation-over-shared-slice-read-v c) .good .within)
 
 negation-over-mul-t17 : (t : ℕ) → negation-over-lts.Need-mul-t17 (negation-over-callees t) (negation-over-at t) negation-over.Post
 negation-over-mul-t17 t c = search needs
 
 negation-over-shared-slice-read-t19 : (t : ℕ) → negation-over-lts.Need-shared-slice-read-t19 (negation-over-callees t) (negation-over-at t) negation-over.Post
 negation-over-shared-slice-read-t19 t c =
-    omega (arith, over-ready (c .before .before .before .before .before .before .before .before .before) .inside, over-ready (c .before .before .before .before .before .before .before .before .before) .good .within, over-ready (c .before .before .before .before .before .before .before .before .before) .good .lows)
+    omega (arith, over-ready (start-from-negation-over-shared-slice-read-t19 c) .inside, over-ready (start-from-negation-over-shared-slice-read-t19 c) .good .within, over-ready (start-from-negation-over-shared-slice-read-t19 c) .good .lows)
 
 negation-over-mul-t17-2 : (t : ℕ) → negation-over-lts.Need-mul-t17-2 (negation-over-callees t) (negation-over-at t) negation-over.Post
 negation-over-mul-t17-2 t c = search needs
 
 negation-over-shared-slice-read-t19-2 : (t : ℕ) → negation-over-lts.Need-shared-slice-read-t19-2 (negation-over-callees t) (negation-over-at t) negation-over.Post
 negation-over-shared-slice-read-t19-2 t c =
-    omega (arith, over-ready (c .before .before .before .before .before .before .before .before .before .before) .inside, over-ready (c .before .before .before .before .before .before .before .before .before .before) .good .within, over-ready (c .before .before .before .before .before .before .before .before .before .before) .good .highs)
+    omega (arith, over-ready (start-from-negation-over-shared-slice-read-t19-2 c) .inside, over-ready (start-from-negation-over-shared-slice-read-t19-2 c) .good .within, over-ready (start-from-negation-over-shared-slice-read-t19-2 c) .good .highs)
 
 negation-over-negation-from-requires : (t : ℕ) → negation-over-lts.Need-negation-from-requires (negation-over-callees t) (negation-over-at t) negation-over.Post
 negation-over-negation-from-requires t c κs =
-    let s = c .before .before .before .before .before .before .before .before .before .before .before in
+    let s = start-from-negation-over-negation-from-call c in
     let R = over-ready s in
     (omega (arith, over-measure s, at-node s .low-less), record { good = R .good; inside = omega (arith, R .inside, at-node s .low-less); room = R .room; right = R .right })
 
@@ -186,9 +308,9 @@ negation-over-enum-known-l t c = search needs
 
 negation-over-negation-from-requires-2 : (t : ℕ) → negation-over-lts.Need-negation-from-requires-2 (negation-over-callees t) (negation-over-at t) negation-over.Post
 negation-over-negation-from-requires-2 t c κs =
-    let s = c .before .before .before .before .before .before .before .before .before .before .before .before .before .before .before .before .before .before in
+    let s = start-from-negation-over-negation-from-call-2 c in
     let R = over-ready s in
-    let k = c .before .before .before .before .before .before .negation-from in
+    let k = negation-from-from-negation-over-negation-from-call-2 c .negation-from in
     (omega (arith, over-measure s, at-node s .high-less), record { good = R .good; inside = omega (arith, R .inside, at-node s .high-less); room = omega (arith, R .room, k .kept .1 .1 .1 .1 .1 .0); right = k .ensures .1 })
 
 negation-over-enum-known-h : (t : ℕ) → negation-over-lts.Need-enum-known-h (negation-over-callees t) (negation-over-at t) negation-over.Post
@@ -196,7 +318,7 @@ negation-over-enum-known-h t c = search needs
 
 negation-over-lookup-requires : (t : ℕ) → negation-over-lts.Need-lookup-requires (negation-over-callees t) (negation-over-at t) negation-over.Post
 negation-over-lookup-requires t c κs =
-    good-linked (over-table (c .before .before .before .before .before .before .before .before .before .before .before .before .before .before .before .before .before .before .before .before .before .before .before .before)) (over-ready (c .before .before .before .before .before .before .before .before .before .before .before .before .before .before .before .before .before .before .before .before .before .before .before .before) .good)
+    good-linked (over-table (start-from-negation-over-lookup-call c)) (over-ready (start-from-negation-over-lookup-call c) .good)
 
 negation-over-enum-told : (t : ℕ) → negation-over-lts.Need-enum-told (negation-over-callees t) (negation-over-at t) negation-over.Post
 negation-over-enum-told t c = search needs
@@ -206,35 +328,35 @@ negation-over-enum-told-2 t c = search needs
 
 negation-over-same-length : (t : ℕ) → negation-over-lts.Need-same-length (negation-over-callees t) (negation-over-at t) negation-over.Post
 negation-over-same-length t c =
-    c .before .before .before .before .before .before .negation-from2 .kept .1 .1 .1 .1 .1 .0 ∙ c .before .before .before .before .before .before .before .before .before .before .before .before .before .negation-from .kept .1 .1 .1 .1 .1 .0
+    negation-from2-from-negation-over-return c .negation-from2 .kept .1 .1 .1 .1 .1 .0 ∙ negation-from-from-negation-over-return c .negation-from .kept .1 .1 .1 .1 .1 .0
 
 negation-over-returns : (t : ℕ) → negation-over-lts.Need-returns (negation-over-callees t) (negation-over-at t) negation-over.Post
 negation-over-returns t c =
-    let s = c .before .before .before .before .before .before .before .before .before .before .before .before .before .before .before .before .before .before .before .before .before .before .before .before .before in
-    let k₁ = c .before .before .before .before .before .before .before .before .before .before .before .before .before .negation-from in
-    let k₂ = c .before .before .before .before .before .before .negation-from2 in (
+    let s = start-from-negation-over-return c in
+    let k₁ = negation-from-from-negation-over-return c .negation-from in
+    let k₂ = negation-from2-from-negation-over-return c .negation-from2 in (
       negates-lookup (over-table s) (over-ready s .good) (s .args .f .0) (over-two s) (over-ready s .inside) _ _ _
-          (subst (Negates (over-table s) _) (c .before .before .before .before .before .before .before .before .before .l .given .1) (k₁ .ensures .0)) (subst (Negates (over-table s) _) (c .before .before .h .given .1) (k₂ .ensures .0)) (c .lookup .ensures),
+          (subst (Negates (over-table s) _) (l-from-negation-over-return c .l .given .1) (k₁ .ensures .0)) (subst (Negates (over-table s) _) (c .before .before .h .given .1) (k₂ .ensures .0)) (c .lookup .ensures),
       k₂ .ensures .1,
     )
 
 negation-over-same-length-2 : (t : ℕ) → negation-over-lts.Need-same-length-2 (negation-over-callees t) (negation-over-at t) negation-over.Post
 negation-over-same-length-2 t c =
-    c .before .before .before .before .negation-from2 .kept .1 .1 .1 .1 .1 .0 ∙ c .before .before .before .before .before .before .before .before .before .before .before .negation-from .kept .1 .1 .1 .1 .1 .0
+    negation-from2-from-negation-over-return-2 c .negation-from2 .kept .1 .1 .1 .1 .1 .0 ∙ negation-from-from-negation-over-return-2 c .negation-from .kept .1 .1 .1 .1 .1 .0
 
 negation-over-returns-2 : (t : ℕ) → negation-over-lts.Need-returns-2 (negation-over-callees t) (negation-over-at t) negation-over.Post
 negation-over-returns-2 t c =
-    let s = c .before .before .before .before .before .before .before .before .before .before .before .before .before .before .before .before .before .before .before .before .before .before .before in
-    let k = c .before .before .before .before .negation-from2 in
+    let s = start-from-negation-over-return-2 c in
+    let k = negation-from2-from-negation-over-return-2 c .negation-from2 in
     (negates-high (over-table s) (over-ready s .good) (s .args .f .0) (over-two s) (over-ready s .inside) (subst (Negates (over-table s) _) (c .enum-told .given .1) (k .ensures .0)), k .ensures .1)
 
 negation-over-same-length-3 : (t : ℕ) → negation-over-lts.Need-same-length-3 (negation-over-callees t) (negation-over-at t) negation-over.Post
-negation-over-same-length-3 t c = c .before .before .before .before .negation-from .kept .1 .1 .1 .1 .1 .0
+negation-over-same-length-3 t c = negation-from-from-negation-over-return-3 c .negation-from .kept .1 .1 .1 .1 .1 .0
 
 negation-over-returns-3 : (t : ℕ) → negation-over-lts.Need-returns-3 (negation-over-callees t) (negation-over-at t) negation-over.Post
 negation-over-returns-3 t c =
-    let s = c .before .before .before .before .before .before .before .before .before .before .before .before .before .before .before .before in
-    let k = c .before .before .before .before .negation-from in
+    let s = start-from-negation-over-return-3 c in
+    let k = negation-from-from-negation-over-return-3 c .negation-from in
     (negates-low (over-table s) (over-ready s .good) (s .args .f .0) (over-two s) (over-ready s .inside) (subst (Negates (over-table s) _) (c .enum-told2 .given .1) (k .ensures .0)), k .ensures .1)
 
 pub +negation-from+negation-over-spec : {M : Type 1} → statement M

@@ -96,15 +96,239 @@ module _ {t : ℕ} (s : apply-lts.Start (apply-callees t) (apply-at t) apply.Pos
   a-two : terminalOf a-op a-f a-g ≡ Nothing → 2 ≤ a-f
   a-two = terminal-two a-table (a-ready .good) a-f a-g (a-ready .f-inside) (a-ready .g-inside) a-op (a-ready .allowed)
 
+-- The ways back, written by ways.py: TO-from-FROM leads from the place FROM of the code to the place TO before it.
+module _ {t : ℕ} (c : apply-lts.After-terminal (apply-callees t) (apply-at t) apply.Post) where
+  abbrev start-from-apply-terminal : apply-lts.Start (apply-callees t) (apply-at t) apply.Post
+  start-from-apply-terminal = c .before .before .before .before .before .before .before
+
+module _ {t : ℕ} (c : apply-lts.After-enum-told (apply-callees t) (apply-at t) apply.Post) where
+  abbrev start-from-apply-enum-told : apply-lts.Start (apply-callees t) (apply-at t) apply.Post
+  start-from-apply-enum-told = start-from-apply-terminal (c .before .before)
+
+module _ {t : ℕ} (c : apply-lts.After-known-told (apply-callees t) (apply-at t) apply.Post) where
+  abbrev terminal-from-apply-return-2 : apply-lts.After-terminal (apply-callees t) (apply-at t) apply.Post
+  terminal-from-apply-return-2 = c .before .before .before
+
+  abbrev start-from-apply-return-2 : apply-lts.Start (apply-callees t) (apply-at t) apply.Post
+  start-from-apply-return-2 = start-from-apply-terminal terminal-from-apply-return-2
+
+module _ {t : ℕ} (c : apply-lts.After-memo-find-arg2 (apply-callees t) (apply-at t) apply.Post) where
+  abbrev start-from-apply-memo-find-call : apply-lts.Start (apply-callees t) (apply-at t) apply.Post
+  start-from-apply-memo-find-call = start-from-apply-enum-told (c .before .before)
+
+module _ {t : ℕ} (c : apply-lts.After-memo-find (apply-callees t) (apply-at t) apply.Post) where
+  abbrev enum-told-from-apply-memo-find : apply-lts.After-enum-told (apply-callees t) (apply-at t) apply.Post
+  enum-told-from-apply-memo-find = c .before .before .before
+
+module _ {t : ℕ} (c : apply-lts.After-known-told2 (apply-callees t) (apply-at t) apply.Post) where
+  abbrev memo-find-from-apply-return-3 : apply-lts.After-memo-find (apply-callees t) (apply-at t) apply.Post
+  memo-find-from-apply-return-3 = c .before .before .before
+
+  abbrev enum-told-from-apply-return-3 : apply-lts.After-enum-told (apply-callees t) (apply-at t) apply.Post
+  enum-told-from-apply-return-3 = enum-told-from-apply-memo-find memo-find-from-apply-return-3
+
+  abbrev start-from-apply-return-3 : apply-lts.Start (apply-callees t) (apply-at t) apply.Post
+  start-from-apply-return-3 = start-from-apply-enum-told enum-told-from-apply-return-3
+
+module _ {t : ℕ} (c : apply-lts.After-descend-arg6 (apply-callees t) (apply-at t) apply.Post) where
+  abbrev memo-find-from-apply-descend-call : apply-lts.After-memo-find (apply-callees t) (apply-at t) apply.Post
+  memo-find-from-apply-descend-call = c .before .before .before .before .before .before .before .before
+
+  abbrev enum-told-from-apply-descend-call : apply-lts.After-enum-told (apply-callees t) (apply-at t) apply.Post
+  enum-told-from-apply-descend-call = enum-told-from-apply-memo-find memo-find-from-apply-descend-call
+
+  abbrev start-from-apply-descend-call : apply-lts.Start (apply-callees t) (apply-at t) apply.Post
+  start-from-apply-descend-call = start-from-apply-enum-told enum-told-from-apply-descend-call
+
+module _ {t : ℕ} (c : apply-lts.After-descend (apply-callees t) (apply-at t) apply.Post) where
+  abbrev memo-find-from-apply-descend : apply-lts.After-memo-find (apply-callees t) (apply-at t) apply.Post
+  memo-find-from-apply-descend = c .before .before .before .before .before .before .before .before .before
+
+  abbrev start-from-apply-descend : apply-lts.Start (apply-callees t) (apply-at t) apply.Post
+  start-from-apply-descend = start-from-apply-enum-told (enum-told-from-apply-memo-find memo-find-from-apply-descend)
+
+module _ {t : ℕ} (c : apply-lts.Else1 (apply-callees t) (apply-at t) apply.Post) where
+  abbrev descend-from-apply-else1 : apply-lts.After-descend (apply-callees t) (apply-at t) apply.Post
+  descend-from-apply-else1 = c .before .before .before .before .before .before .before .before .before .before .before .before .before
+
+module _ {t : ℕ} (c : apply-lts.Then1 (apply-callees t) (apply-at t) apply.Post) where
+  abbrev descend-from-apply-then1 : apply-lts.After-descend (apply-callees t) (apply-at t) apply.Post
+  descend-from-apply-then1 = c .before .before .before .before .before .before .before .before .before .before .before .before .before
+
+module _ {t : ℕ} (c : apply-lts.After-memo-put-arg2 (apply-callees t) (apply-at t) apply.Post) where
+  abbrev descend-from-apply-memo-put-call : apply-lts.After-descend (apply-callees t) (apply-at t) apply.Post
+  descend-from-apply-memo-put-call = descend-from-apply-else1 (c .before .before)
+
+module _ {t : ℕ} (c : apply-lts.After-slice-known13 (apply-callees t) (apply-at t) apply.Post) where
+  abbrev else1-from-apply-return-4 : apply-lts.Else1 (apply-callees t) (apply-at t) apply.Post
+  else1-from-apply-return-4 = c .before .before .before .before .before
+
+  abbrev descend-from-apply-return-4 : apply-lts.After-descend (apply-callees t) (apply-at t) apply.Post
+  descend-from-apply-return-4 = descend-from-apply-else1 else1-from-apply-return-4
+
+  abbrev start-from-apply-return-4 : apply-lts.Start (apply-callees t) (apply-at t) apply.Post
+  start-from-apply-return-4 = start-from-apply-descend descend-from-apply-return-4
+
+module _ {t : ℕ} (c : descend-lts.After-sides-of-arg3 (descend-callees t) (descend-at t) descend.Post) where
+  abbrev start-from-descend-sides-of-call : descend-lts.Start (descend-callees t) (descend-at t) descend.Post
+  start-from-descend-sides-of-call = c .before .before .before .before .before .before .before .before .before
+
+module _ {t : ℕ} (c : descend-lts.After-sides-of (descend-callees t) (descend-at t) descend.Post) where
+  abbrev start-from-descend-step-of-call : descend-lts.Start (descend-callees t) (descend-at t) descend.Post
+  start-from-descend-step-of-call = c .before .before .before .before .before .before .before .before .before .before
+
+module _ {t : ℕ} (c : descend-lts.After-step-of (descend-callees t) (descend-at t) descend.Post) where
+  abbrev start-from-descend-step-of : descend-lts.Start (descend-callees t) (descend-at t) descend.Post
+  start-from-descend-step-of = c .before .before .before .before .before .before .before .before .before .before .before
+
+module _ {t : ℕ} (c : descend-lts.After-a (descend-callees t) (descend-at t) descend.Post) where
+  abbrev start-from-descend-a : descend-lts.Start (descend-callees t) (descend-at t) descend.Post
+  start-from-descend-a = c .before .before .before .before .before .before .before .before .before .before .before .before .before
+
+module _ {t : ℕ} (c : descend-lts.After-s (descend-callees t) (descend-at t) descend.Post) where
+  abbrev start-from-descend-s : descend-lts.Start (descend-callees t) (descend-at t) descend.Post
+  start-from-descend-s = c .before .before .before .before .before .before .before .before .before .before .before .before .before
+
+module _ {t : ℕ} (c : descend-lts.After-apply-arg6 (descend-callees t) (descend-at t) descend.Post) where
+  abbrev a-from-descend-apply-call : descend-lts.After-a (descend-callees t) (descend-at t) descend.Post
+  a-from-descend-apply-call = c .before .before .before .before .before .before .before
+
+  abbrev start-from-descend-apply-call : descend-lts.Start (descend-callees t) (descend-at t) descend.Post
+  start-from-descend-apply-call = start-from-descend-a a-from-descend-apply-call
+
+module _ {t : ℕ} (c : descend-lts.After-join-arg6 (descend-callees t) (descend-at t) descend.Post) where
+  abbrev s-from-descend-join-call : descend-lts.After-s (descend-callees t) (descend-at t) descend.Post
+  s-from-descend-join-call = c .before .before .before .before .before .before .before
+
+  abbrev start-from-descend-join-call : descend-lts.Start (descend-callees t) (descend-at t) descend.Post
+  start-from-descend-join-call = start-from-descend-s s-from-descend-join-call
+
+module _ {t : ℕ} (c : descend-lts.After-apply (descend-callees t) (descend-at t) descend.Post) where
+  abbrev a-from-descend-apply : descend-lts.After-a (descend-callees t) (descend-at t) descend.Post
+  a-from-descend-apply = c .before .before .before .before .before .before .before .before
+
+module _ {t : ℕ} (c : descend-lts.After-join (descend-callees t) (descend-at t) descend.Post) where
+  abbrev s-from-descend-join : descend-lts.After-s (descend-callees t) (descend-at t) descend.Post
+  s-from-descend-join = c .before .before .before .before .before .before .before .before
+
+module _ {t : ℕ} (c : descend-lts.After-slice-known12 (descend-callees t) (descend-at t) descend.Post) where
+  abbrev apply-from-descend-return : descend-lts.After-apply (descend-callees t) (descend-at t) descend.Post
+  apply-from-descend-return = c .before .before .before .before .before .before .before .before .before .before .before .before
+
+  abbrev a-from-descend-return : descend-lts.After-a (descend-callees t) (descend-at t) descend.Post
+  a-from-descend-return = a-from-descend-apply apply-from-descend-return
+
+module _ {t : ℕ} (c : descend-lts.After-slice-known18 (descend-callees t) (descend-at t) descend.Post) where
+  abbrev join-from-descend-return-2 : descend-lts.After-join (descend-callees t) (descend-at t) descend.Post
+  join-from-descend-return-2 = c .before .before .before .before .before .before .before .before .before .before .before .before
+
+  abbrev s-from-descend-return-2 : descend-lts.After-s (descend-callees t) (descend-at t) descend.Post
+  s-from-descend-return-2 = s-from-descend-join join-from-descend-return-2
+
+module _ {t : ℕ} (c : join-lts.After-apply-arg6 (join-callees t) (join-at t) join.Post) where
+  abbrev start-from-join-apply-call : join-lts.Start (join-callees t) (join-at t) join.Post
+  start-from-join-apply-call = c .before .before .before .before .before .before .before .before .before .before .before .before
+
+module _ {t : ℕ} (c : join-lts.After-apply (join-callees t) (join-at t) join.Post) where
+  abbrev start-from-join-apply : join-lts.Start (join-callees t) (join-at t) join.Post
+  start-from-join-apply = c .before .before .before .before .before .before .before .before .before .before .before .before .before
+
+module _ {t : ℕ} (c : join-lts.Else1 (join-callees t) (join-at t) join.Post) where
+  abbrev apply-from-join-else1 : join-lts.After-apply (join-callees t) (join-at t) join.Post
+  apply-from-join-else1 = c .before .before .before .before .before .before .before .before .before .before .before .before .before
+
+module _ {t : ℕ} (c : join-lts.Then1 (join-callees t) (join-at t) join.Post) where
+  abbrev apply-from-join-then1 : join-lts.After-apply (join-callees t) (join-at t) join.Post
+  apply-from-join-then1 = c .before .before .before .before .before .before .before .before .before .before .before .before .before
+
+  abbrev start-from-join-then1 : join-lts.Start (join-callees t) (join-at t) join.Post
+  start-from-join-then1 = start-from-join-apply apply-from-join-then1
+
+module _ {t : ℕ} (c : join-lts.After-apply-arg12 (join-callees t) (join-at t) join.Post) where
+  abbrev else1-from-join-apply-call-2 : join-lts.Else1 (join-callees t) (join-at t) join.Post
+  else1-from-join-apply-call-2 = c .before .before .before .before .before .before
+
+  abbrev apply-from-join-apply-call-2 : join-lts.After-apply (join-callees t) (join-at t) join.Post
+  apply-from-join-apply-call-2 = apply-from-join-else1 else1-from-join-apply-call-2
+
+  abbrev start-from-join-apply-call-2 : join-lts.Start (join-callees t) (join-at t) join.Post
+  start-from-join-apply-call-2 = start-from-join-apply apply-from-join-apply-call-2
+
+module _ {t : ℕ} (c : join-lts.After-apply2 (join-callees t) (join-at t) join.Post) where
+  abbrev else1-from-join-apply2 : join-lts.Else1 (join-callees t) (join-at t) join.Post
+  else1-from-join-apply2 = c .before .before .before .before .before .before .before
+
+  abbrev apply-from-join-apply2 : join-lts.After-apply (join-callees t) (join-at t) join.Post
+  apply-from-join-apply2 = apply-from-join-else1 else1-from-join-apply2
+
+  abbrev start-from-join-apply2 : join-lts.Start (join-callees t) (join-at t) join.Post
+  start-from-join-apply2 = start-from-join-apply apply-from-join-apply2
+
+module _ {t : ℕ} (c : join-lts.Else2 (join-callees t) (join-at t) join.Post) where
+  abbrev apply2-from-join-else2 : join-lts.After-apply2 (join-callees t) (join-at t) join.Post
+  apply2-from-join-else2 = c .before .before .before .before .before .before .before .before .before .before .before .before .before
+
+module _ {t : ℕ} (c : join-lts.Then2 (join-callees t) (join-at t) join.Post) where
+  abbrev apply2-from-join-then2 : join-lts.After-apply2 (join-callees t) (join-at t) join.Post
+  apply2-from-join-then2 = c .before .before .before .before .before .before .before .before .before .before .before .before .before
+
+  abbrev else1-from-join-then2 : join-lts.Else1 (join-callees t) (join-at t) join.Post
+  else1-from-join-then2 = else1-from-join-apply2 apply2-from-join-then2
+
+  abbrev apply-from-join-then2 : join-lts.After-apply (join-callees t) (join-at t) join.Post
+  apply-from-join-then2 = apply-from-join-else1 else1-from-join-then2
+
+  abbrev start-from-join-then2 : join-lts.Start (join-callees t) (join-at t) join.Post
+  start-from-join-then2 = start-from-join-apply apply-from-join-then2
+
+module _ {t : ℕ} (c : join-lts.After-put-arg5 (join-callees t) (join-at t) join.Post) where
+  abbrev else2-from-join-put-call : join-lts.Else2 (join-callees t) (join-at t) join.Post
+  else2-from-join-put-call = c .before .before .before .before .before
+
+  abbrev apply2-from-join-put-call : join-lts.After-apply2 (join-callees t) (join-at t) join.Post
+  apply2-from-join-put-call = apply2-from-join-else2 else2-from-join-put-call
+
+  abbrev else1-from-join-put-call : join-lts.Else1 (join-callees t) (join-at t) join.Post
+  else1-from-join-put-call = else1-from-join-apply2 apply2-from-join-put-call
+
+  abbrev apply-from-join-put-call : join-lts.After-apply (join-callees t) (join-at t) join.Post
+  apply-from-join-put-call = apply-from-join-else1 else1-from-join-put-call
+
+  abbrev start-from-join-put-call : join-lts.Start (join-callees t) (join-at t) join.Post
+  start-from-join-put-call = start-from-join-apply apply-from-join-put-call
+
+module _ {t : ℕ} (c : join-lts.After-put (join-callees t) (join-at t) join.Post) where
+  abbrev else2-from-join-put : join-lts.Else2 (join-callees t) (join-at t) join.Post
+  else2-from-join-put = c .before .before .before .before .before .before
+
+module _ {t : ℕ} (c : join-lts.After-slice-known23 (join-callees t) (join-at t) join.Post) where
+  abbrev put-from-join-return-3 : join-lts.After-put (join-callees t) (join-at t) join.Post
+  put-from-join-return-3 = c .before .before .before .before .before .before .before .before .before .before
+
+  abbrev else2-from-join-return-3 : join-lts.Else2 (join-callees t) (join-at t) join.Post
+  else2-from-join-return-3 = else2-from-join-put put-from-join-return-3
+
+  abbrev apply2-from-join-return-3 : join-lts.After-apply2 (join-callees t) (join-at t) join.Post
+  apply2-from-join-return-3 = apply2-from-join-else2 else2-from-join-return-3
+
+  abbrev else1-from-join-return-3 : join-lts.Else1 (join-callees t) (join-at t) join.Post
+  else1-from-join-return-3 = else1-from-join-apply2 apply2-from-join-return-3
+
+  abbrev apply-from-join-return-3 : join-lts.After-apply (join-callees t) (join-at t) join.Post
+  apply-from-join-return-3 = apply-from-join-else1 else1-from-join-return-3
+
+  abbrev start-from-join-return-3 : join-lts.Start (join-callees t) (join-at t) join.Post
+  start-from-join-return-3 = start-from-join-apply apply-from-join-return-3
+
 -- where the numbers tell nothing
 module _ {t : ℕ} (e : apply-lts.After-enum-told (apply-callees t) (apply-at t) apply.Post) where
-  nothing : terminalOf (a-op (e .before .before .before .before .before .before .before .before .before)) (a-f (e .before .before .before .before .before .before .before .before .before)) (a-g (e .before .before .before .before .before .before .before .before .before)) ≡ Nothing
+  nothing : terminalOf (a-op (start-from-apply-enum-told e)) (a-f (start-from-apply-enum-told e)) (a-g (start-from-apply-enum-told e)) ≡ Nothing
   nothing = sym (e .before .before .terminal .ensures) ∙ e .enum-told .given .1
 
 -- what descend leaves to apply
 module _ {t : ℕ} (a : apply-lts.After-descend (apply-callees t) (apply-at t) apply.Post) where
   abbrev a-start : apply-lts.Start (apply-callees t) (apply-at t) apply.Post
-  a-start = a .before .before .before .before .before .before .before .before .before .before .before .before .before .before .before .before .before .before .before .before .before
+  a-start = start-from-apply-descend a
 
   abbrev a-out : Outcome
   a-out = outcomeOf (a .descend .last .0) (a .descend .last .1 .0) (a .descend .last .1 .1 .0) (a .descend .last .1 .1 .1 .0) (a .descend .last .1 .1 .1 .1 .0) (a .descend .result)
@@ -150,7 +374,7 @@ module _ {t : ℕ} (s : descend-lts.Start (descend-callees t) (descend-at t) des
 -- where the step is known
 module _ {t : ℕ} (d : descend-lts.After-step-of (descend-callees t) (descend-at t) descend.Post) where
   abbrev ds : descend-lts.Start (descend-callees t) (descend-at t) descend.Post
-  ds = d .before .before .before .before .before .before .before .before .before .before .before
+  ds = start-from-descend-step-of d
 
   d-step : stepOf (d-op ds) (sidesOf (d-table ds .vars) (d-table ds .lows) (d-table ds .highs) (d-f ds) (d-g ds)) ≡ d .step-of .result
   d-step = sym (d .step-of .ensures ∙ ap (stepOf (d-op ds)) (d .before .sides-of .ensures))
@@ -158,7 +382,7 @@ module _ {t : ℕ} (d : descend-lts.After-step-of (descend-callees t) (descend-a
 -- one pair is left
 module _ {t : ℕ} (d : descend-lts.After-a (descend-callees t) (descend-at t) descend.Post) where
   abbrev ds₁ : descend-lts.Start (descend-callees t) (descend-at t) descend.Post
-  ds₁ = d .before .before .before .before .before .before .before .before .before .before .before .before .before
+  ds₁ = start-from-descend-a d
 
   d-one : OneLeft (d-op ds₁) (d-memo ds₁) (d-table ds₁) (d-f ds₁) (d-g ds₁) (d .a .given .0 .0 .0) (d .a .given .0 .1 .0 .0)
   d-one = step-one (d-op ds₁) (d-memo ds₁) (d-table ds₁) (d-f ds₁) (d-g ds₁) (d-ready ds₁) (d-two ds₁) (d .a .given .0 .0) (d .a .given .0 .1 .0) (d-step (d .before .before) ∙ d .a .given .1)
@@ -166,7 +390,7 @@ module _ {t : ℕ} (d : descend-lts.After-a (descend-callees t) (descend-at t) d
 -- both sides are
 module _ {t : ℕ} (d : descend-lts.After-s (descend-callees t) (descend-at t) descend.Post) where
   abbrev ds₂ : descend-lts.Start (descend-callees t) (descend-at t) descend.Post
-  ds₂ = d .before .before .before .before .before .before .before .before .before .before .before .before .before
+  ds₂ = start-from-descend-s d
 
   d-both : BothLeft (d-op ds₂) (d-memo ds₂) (d-table ds₂) (d-f ds₂) (d-g ds₂) (d .s .given .0 .0)
   d-both = step-both (d-op ds₂) (d-memo ds₂) (d-table ds₂) (d-f ds₂) (d-g ds₂) (d-ready ds₂) (d-two ds₂) (d .s .given .0 .0) (d-step (d .before .before) ∙ d .s .given .1)
@@ -194,7 +418,7 @@ module _ {t : ℕ} (s : join-lts.Start (join-callees t) (join-at t) join.Post) w
 -- what the low side leaves
 module _ {t : ℕ} (a : join-lts.After-apply (join-callees t) (join-at t) join.Post) where
   abbrev js : join-lts.Start (join-callees t) (join-at t) join.Post
-  js = a .before .before .before .before .before .before .before .before .before .before .before .before .before
+  js = start-from-join-apply a
 
   abbrev out₁ : Outcome
   out₁ = outcomeOf (a .apply .last .0) (a .apply .last .1 .0) (a .apply .last .1 .1 .0) (a .apply .last .1 .1 .1 .0) (a .apply .last .1 .1 .1 .1 .0) (a .apply .result)
@@ -214,10 +438,10 @@ module _ {t : ℕ} (a : join-lts.After-apply (join-callees t) (join-at t) join.P
 -- what the high side leaves
 module _ {t : ℕ} (b : join-lts.After-apply2 (join-callees t) (join-at t) join.Post) where
   abbrev ja : join-lts.After-apply (join-callees t) (join-at t) join.Post
-  ja = b .before .before .before .before .before .before .before .before .before .before .before .before .before .before .before .before .before .before .before .before
+  ja = apply-from-join-apply2 b
 
   abbrev js₂ : join-lts.Start (join-callees t) (join-at t) join.Post
-  js₂ = b .before .before .before .before .before .before .before .before .before .before .before .before .before .before .before .before .before .before .before .before .before .before .before .before .before .before .before .before .before .before .before .before .before
+  js₂ = start-from-join-apply2 b
 
   abbrev out₂ : Outcome
   out₂ = outcomeOf (b .apply2 .last .0) (b .apply2 .last .1 .0) (b .apply2 .last .1 .1 .0) (b .apply2 .last .1 .1 .1 .0) (b .apply2 .last .1 .1 .1 .1 .0) (b .apply2 .result)
@@ -242,7 +466,7 @@ apply-enum-told t c =
 
 apply-memo-find-requires : (t : ℕ) → apply-lts.Need-memo-find-requires (apply-callees t) (apply-at t) apply.Post
 apply-memo-find-requires t c κs =
-    let s = c .before .before .before .before .before .before .before .before .before .before .before in
+    let s = start-from-apply-memo-find-call c in
     let h = columns-hold (a-op s) (a-memo s) (a-table s) (a-f s) (a-g s) (a-ready s) in
     (a-ready s .right .shaped, h .0, h .1)
 
@@ -256,46 +480,46 @@ apply-enum-told-2 t c =
 
 apply-descend-requires : (t : ℕ) → apply-lts.Need-descend-requires (apply-callees t) (apply-at t) apply.Post
 apply-descend-requires t c κs =
-    let s = c .before .before .before .before .before .before .before .before .before .before .before .before .before .before .before .before .before .before .before .before in
+    let s = start-from-apply-descend-call c in
     let q : 3 * (65 - top (a-table s .vars) (a-f s) (a-g s)) + 2 ≡ t = s .pre .0 in
-    (omega arith, (a-ready s, nothing (c .before .before .before .before .before .before .before .before .before .before .before)))
+    (omega arith, (a-ready s, nothing (enum-told-from-apply-descend-call c)))
 
 apply-same-length : (t : ℕ) → apply-lts.Need-same-length (apply-callees t) (apply-at t) apply.Post
 apply-same-length t c =
-    c .before .before .before .before .before .before .before .before .before .before .before .before .before .descend .kept .0
+    descend-from-apply-then1 c .descend .kept .0
 
 apply-same-length-2 : (t : ℕ) → apply-lts.Need-same-length-2 (apply-callees t) (apply-at t) apply.Post
 apply-same-length-2 t c =
-    c .before .before .before .before .before .before .before .before .before .before .before .before .before .descend .kept .1 .0
+    descend-from-apply-then1 c .descend .kept .1 .0
 
 apply-same-length-3 : (t : ℕ) → apply-lts.Need-same-length-3 (apply-callees t) (apply-at t) apply.Post
 apply-same-length-3 t c =
-    c .before .before .before .before .before .before .before .before .before .before .before .before .before .descend .kept .1 .1 .0
+    descend-from-apply-then1 c .descend .kept .1 .1 .0
 
 apply-same-length-4 : (t : ℕ) → apply-lts.Need-same-length-4 (apply-callees t) (apply-at t) apply.Post
 apply-same-length-4 t c =
-    c .before .before .before .before .before .before .before .before .before .before .before .before .before .descend .kept .1 .1 .1 .0
+    descend-from-apply-then1 c .descend .kept .1 .1 .1 .0
 
 apply-same-length-5 : (t : ℕ) → apply-lts.Need-same-length-5 (apply-callees t) (apply-at t) apply.Post
 apply-same-length-5 t c =
-    c .before .before .before .before .before .before .before .before .before .before .before .before .before .descend .kept .1 .1 .1 .1 .0
+    descend-from-apply-then1 c .descend .kept .1 .1 .1 .1 .0
 
 apply-same-length-6 : (t : ℕ) → apply-lts.Need-same-length-6 (apply-callees t) (apply-at t) apply.Post
 apply-same-length-6 t c =
-    c .before .before .before .before .before .before .before .before .before .before .before .before .before .descend .kept .1 .1 .1 .1 .1 .0
+    descend-from-apply-then1 c .descend .kept .1 .1 .1 .1 .1 .0
 
 apply-returns : (t : ℕ) → apply-lts.Need-returns (apply-callees t) (apply-at t) apply.Post
 apply-returns t c =
-    (c .before .before .before .before .before .before .before .before .before .before .before .before .before .descend .ensures .0, c .before .before .before .before .before .before .before .before .before .before .before .before .before .descend .ensures .1)
+    (descend-from-apply-then1 c .descend .ensures .0, descend-from-apply-then1 c .descend .ensures .1)
 
 apply-memo-put-requires : (t : ℕ) → apply-lts.Need-memo-put-requires (apply-callees t) (apply-at t) apply.Post
 apply-memo-put-requires t c κs =
-    a-asks (c .before .before .before .before .before .before .before .before .before .before .before .before .before .before .before)
+    a-asks (descend-from-apply-memo-put-call c)
 
 apply-returns-2 : (t : ℕ) → apply-lts.Need-returns-2 (apply-callees t) (apply-at t) apply.Post
 apply-returns-2 t c =
-    let s = c .before .before .before .before .before .before .before .before .before .before in
-    (known-outcome (a-op s) (a-memo s) (a-table s) (a-f s) (a-g s) (a-ready s) _ (a-terminal s _ (sym (c .before .before .before .terminal .ensures) ∙ c .before .r .given .1)), a-ready s .right)
+    let s = start-from-apply-return-2 c in
+    (known-outcome (a-op s) (a-memo s) (a-table s) (a-f s) (a-g s) (a-ready s) _ (a-terminal s _ (sym (terminal-from-apply-return-2 c .terminal .ensures) ∙ c .before .r .given .1)), a-ready s .right)
 
 apply-same-length-7 : (t : ℕ) → apply-lts.Need-same-length-7 (apply-callees t) (apply-at t) apply.Post
 apply-same-length-7 t c =
@@ -307,50 +531,50 @@ apply-same-length-8 t c =
 
 apply-returns-3 : (t : ℕ) → apply-lts.Need-returns-3 (apply-callees t) (apply-at t) apply.Post
 apply-returns-3 t c =
-    let s = c .before .before .before .before .before .before .before .before .before .before .before .before .before .before .before in
-    let told = subst (Tells (a-memo s) (a-f s) (a-g s)) (c .before .r2 .given .1) (c .before .before .before .memo-find .ensures) in
-    (known-outcome (a-op s) (a-memo s) (a-table s) (a-f s) (a-g s) (a-ready s) _ (told (a-op s) (a-table s) (a-ready s .right) (a-two s (nothing (c .before .before .before .before .before .before)))), a-ready s .right)
+    let s = start-from-apply-return-3 c in
+    let told = subst (Tells (a-memo s) (a-f s) (a-g s)) (c .before .r2 .given .1) (memo-find-from-apply-return-3 c .memo-find .ensures) in
+    (known-outcome (a-op s) (a-memo s) (a-table s) (a-f s) (a-g s) (a-ready s) _ (told (a-op s) (a-table s) (a-ready s .right) (a-two s (nothing (enum-told-from-apply-return-3 c)))), a-ready s .right)
 
 apply-same-length-9 : (t : ℕ) → apply-lts.Need-same-length-9 (apply-callees t) (apply-at t) apply.Post
 apply-same-length-9 t c =
-    c .before .before .before .before .before .before .before .before .before .before .before .before .before .before .before .before .before .before .descend .kept .0
+    descend-from-apply-return-4 c .descend .kept .0
 
 apply-same-length-10 : (t : ℕ) → apply-lts.Need-same-length-10 (apply-callees t) (apply-at t) apply.Post
 apply-same-length-10 t c =
-    c .before .before .before .before .before .before .before .before .before .before .before .before .before .before .before .before .before .before .descend .kept .1 .0
+    descend-from-apply-return-4 c .descend .kept .1 .0
 
 apply-same-length-11 : (t : ℕ) → apply-lts.Need-same-length-11 (apply-callees t) (apply-at t) apply.Post
 apply-same-length-11 t c =
-    c .before .before .before .before .before .before .before .before .before .before .before .before .before .before .before .before .before .before .descend .kept .1 .1 .0
+    descend-from-apply-return-4 c .descend .kept .1 .1 .0
 
 apply-same-length-12 : (t : ℕ) → apply-lts.Need-same-length-12 (apply-callees t) (apply-at t) apply.Post
 apply-same-length-12 t c =
-    c .before .before .before .before .before .before .before .before .before .before .before .before .before .before .before .before .before .before .descend .kept .1 .1 .1 .0
+    descend-from-apply-return-4 c .descend .kept .1 .1 .1 .0
 
 apply-same-length-13 : (t : ℕ) → apply-lts.Need-same-length-13 (apply-callees t) (apply-at t) apply.Post
 apply-same-length-13 t c =
-    c .before .before .before .before .before .before .before .before .before .before .before .before .before .before .before .before .before .before .descend .kept .1 .1 .1 .1 .0
+    descend-from-apply-return-4 c .descend .kept .1 .1 .1 .1 .0
 
 apply-same-length-14 : (t : ℕ) → apply-lts.Need-same-length-14 (apply-callees t) (apply-at t) apply.Post
 apply-same-length-14 t c =
-    c .before .before .memo-put .kept .1 .0 ∙ c .before .before .before .before .before .before .before .before .before .before .before .before .before .before .before .before .before .before .descend .kept .1 .1 .1 .1 .1 .0
+    c .before .before .memo-put .kept .1 .0 ∙ descend-from-apply-return-4 c .descend .kept .1 .1 .1 .1 .1 .0
 
 apply-returns-4 : (t : ℕ) → apply-lts.Need-returns-4 (apply-callees t) (apply-at t) apply.Post
 apply-returns-4 t c =
-    let a = c .before .before .before .before .before .before .before .before .before .before .before .before .before .before .before .before .before .before in
-    let s = c .before .before .before .before .before .before .before .before .before .before .before .before .before .before .before .before .before .before .before .before .before .before .before .before .before .before .before .before .before .before .before .before .before .before .before .before .before .before .before in (
+    let a = descend-from-apply-return-4 c in
+    let s = start-from-apply-return-4 c in (
       a-is a,
       c .before .before .memo-put .ensures (a-op s) (a-out a .table) (a .descend .ensures .1)
-          (made-right (a-op s) (a-memo s) (a-table s) (a-f s) (a-g s) (a-ready s) (a-out a) (a-is a) (c .before .before .before .before .before .if1 .left)),
+          (made-right (a-op s) (a-memo s) (a-table s) (a-f s) (a-g s) (a-ready s) (a-out a) (a-is a) (else1-from-apply-return-4 c .if1 .left)),
     )
 
 descend-sides-of-requires : (t : ℕ) → descend-lts.Need-sides-of-requires (descend-callees t) (descend-at t) descend.Post
 descend-sides-of-requires t c κs =
-    let s = c .before .before .before .before .before .before .before .before .before in columns-hold (d-op s) (d-memo s) (d-table s) (d-f s) (d-g s) (d-ready s)
+    let s = start-from-descend-sides-of-call c in columns-hold (d-op s) (d-memo s) (d-table s) (d-f s) (d-g s) (d-ready s)
 
 descend-step-of-requires : (t : ℕ) → descend-lts.Need-step-of-requires (descend-callees t) (descend-at t) descend.Post
 descend-step-of-requires t c κs =
-    let s = c .before .before .before .before .before .before .before .before .before .before in
+    let s = start-from-descend-step-of-call c in
     sides-ask (d-op s) (d-memo s) (d-table s) (d-f s) (d-g s) (d-ready s) (d-two s) (c .sides-of .result) (c .sides-of .ensures)
 
 descend-enum-known-a : (t : ℕ) → descend-lts.Need-enum-known-a (descend-callees t) (descend-at t) descend.Post
@@ -359,8 +583,8 @@ descend-enum-known-a t c =
 
 descend-apply-requires : (t : ℕ) → descend-lts.Need-apply-requires (descend-callees t) (descend-at t) descend.Post
 descend-apply-requires t c κs =
-    let d = c .before .before .before .before .before .before .before in
-    (omega (arith, d-measure (c .before .before .before .before .before .before .before .before .before .before .before .before .before .before .before .before .before .before .before .before), d-one d .after, d-one d .most), d-one d .ready)
+    let d = a-from-descend-apply-call c in
+    (omega (arith, d-measure (start-from-descend-apply-call c), d-one d .after, d-one d .most), d-one d .ready)
 
 descend-enum-known-s : (t : ℕ) → descend-lts.Need-enum-known-s (descend-callees t) (descend-at t) descend.Post
 descend-enum-known-s t c =
@@ -368,174 +592,174 @@ descend-enum-known-s t c =
 
 descend-join-requires : (t : ℕ) → descend-lts.Need-join-requires (descend-callees t) (descend-at t) descend.Post
 descend-join-requires t c κs =
-    let d = c .before .before .before .before .before .before .before in
-    (omega (arith, d-measure (c .before .before .before .before .before .before .before .before .before .before .before .before .before .before .before .before .before .before .before .before), d-both d .variable), d-both d .ready)
+    let d = s-from-descend-join-call c in
+    (omega (arith, d-measure (start-from-descend-join-call c), d-both d .variable), d-both d .ready)
 
 descend-same-length : (t : ℕ) → descend-lts.Need-same-length (descend-callees t) (descend-at t) descend.Post
 descend-same-length t c =
-    c .before .before .before .before .before .before .before .before .before .before .before .before .apply .kept .0
+    apply-from-descend-return c .apply .kept .0
 
 descend-same-length-2 : (t : ℕ) → descend-lts.Need-same-length-2 (descend-callees t) (descend-at t) descend.Post
 descend-same-length-2 t c =
-    c .before .before .before .before .before .before .before .before .before .before .before .before .apply .kept .1 .0
+    apply-from-descend-return c .apply .kept .1 .0
 
 descend-same-length-3 : (t : ℕ) → descend-lts.Need-same-length-3 (descend-callees t) (descend-at t) descend.Post
 descend-same-length-3 t c =
-    c .before .before .before .before .before .before .before .before .before .before .before .before .apply .kept .1 .1 .0
+    apply-from-descend-return c .apply .kept .1 .1 .0
 
 descend-same-length-4 : (t : ℕ) → descend-lts.Need-same-length-4 (descend-callees t) (descend-at t) descend.Post
 descend-same-length-4 t c =
-    c .before .before .before .before .before .before .before .before .before .before .before .before .apply .kept .1 .1 .1 .0
+    apply-from-descend-return c .apply .kept .1 .1 .1 .0
 
 descend-same-length-5 : (t : ℕ) → descend-lts.Need-same-length-5 (descend-callees t) (descend-at t) descend.Post
 descend-same-length-5 t c =
-    c .before .before .before .before .before .before .before .before .before .before .before .before .apply .kept .1 .1 .1 .1 .0
+    apply-from-descend-return c .apply .kept .1 .1 .1 .1 .0
 
 descend-same-length-6 : (t : ℕ) → descend-lts.Need-same-length-6 (descend-callees t) (descend-at t) descend.Post
 descend-same-length-6 t c =
-    c .before .before .before .before .before .before .before .before .before .before .before .before .apply .kept .1 .1 .1 .1 .1 .0
+    apply-from-descend-return c .apply .kept .1 .1 .1 .1 .1 .0
 
 descend-returns : (t : ℕ) → descend-lts.Need-returns (descend-callees t) (descend-at t) descend.Post
 descend-returns t c =
-    (c .before .before .before .before .before .before .before .before .before .before .before .before .apply .ensures .0 ∙ d-one (c .before .before .before .before .before .before .before .before .before .before .before .before .before .before .before .before .before .before .before .before) .is, c .before .before .before .before .before .before .before .before .before .before .before .before .apply .ensures .1)
+    (apply-from-descend-return c .apply .ensures .0 ∙ d-one (a-from-descend-return c) .is, apply-from-descend-return c .apply .ensures .1)
 
 descend-same-length-7 : (t : ℕ) → descend-lts.Need-same-length-7 (descend-callees t) (descend-at t) descend.Post
 descend-same-length-7 t c =
-    c .before .before .before .before .before .before .before .before .before .before .before .before .join .kept .0
+    join-from-descend-return-2 c .join .kept .0
 
 descend-same-length-8 : (t : ℕ) → descend-lts.Need-same-length-8 (descend-callees t) (descend-at t) descend.Post
 descend-same-length-8 t c =
-    c .before .before .before .before .before .before .before .before .before .before .before .before .join .kept .1 .0
+    join-from-descend-return-2 c .join .kept .1 .0
 
 descend-same-length-9 : (t : ℕ) → descend-lts.Need-same-length-9 (descend-callees t) (descend-at t) descend.Post
 descend-same-length-9 t c =
-    c .before .before .before .before .before .before .before .before .before .before .before .before .join .kept .1 .1 .0
+    join-from-descend-return-2 c .join .kept .1 .1 .0
 
 descend-same-length-10 : (t : ℕ) → descend-lts.Need-same-length-10 (descend-callees t) (descend-at t) descend.Post
 descend-same-length-10 t c =
-    c .before .before .before .before .before .before .before .before .before .before .before .before .join .kept .1 .1 .1 .0
+    join-from-descend-return-2 c .join .kept .1 .1 .1 .0
 
 descend-same-length-11 : (t : ℕ) → descend-lts.Need-same-length-11 (descend-callees t) (descend-at t) descend.Post
 descend-same-length-11 t c =
-    c .before .before .before .before .before .before .before .before .before .before .before .before .join .kept .1 .1 .1 .1 .0
+    join-from-descend-return-2 c .join .kept .1 .1 .1 .1 .0
 
 descend-same-length-12 : (t : ℕ) → descend-lts.Need-same-length-12 (descend-callees t) (descend-at t) descend.Post
 descend-same-length-12 t c =
-    c .before .before .before .before .before .before .before .before .before .before .before .before .join .kept .1 .1 .1 .1 .1 .0
+    join-from-descend-return-2 c .join .kept .1 .1 .1 .1 .1 .0
 
 descend-returns-2 : (t : ℕ) → descend-lts.Need-returns-2 (descend-callees t) (descend-at t) descend.Post
 descend-returns-2 t c =
-    (c .before .before .before .before .before .before .before .before .before .before .before .before .join .ensures .0 ∙ d-both (c .before .before .before .before .before .before .before .before .before .before .before .before .before .before .before .before .before .before .before .before) .is, c .before .before .before .before .before .before .before .before .before .before .before .before .join .ensures .1)
+    (join-from-descend-return-2 c .join .ensures .0 ∙ d-both (s-from-descend-return-2 c) .is, join-from-descend-return-2 c .join .ensures .1)
 
 join-apply-requires : (t : ℕ) → join-lts.Need-apply-requires (join-callees t) (join-at t) join.Post
 join-apply-requires t c κs =
-    let s = c .before .before .before .before .before .before .before .before .before .before .before .before in (omega (arith, j-measure s, j-ready s .low-after, j-ready s .most), j-ready s .low)
+    let s = start-from-join-apply-call c in (omega (arith, j-measure s, j-ready s .low-after, j-ready s .most), j-ready s .low)
 
 join-same-length : (t : ℕ) → join-lts.Need-same-length (join-callees t) (join-at t) join.Post
 join-same-length t c =
-    c .before .before .before .before .before .before .before .before .before .before .before .before .before .apply .kept .0
+    apply-from-join-then1 c .apply .kept .0
 
 join-same-length-2 : (t : ℕ) → join-lts.Need-same-length-2 (join-callees t) (join-at t) join.Post
 join-same-length-2 t c =
-    c .before .before .before .before .before .before .before .before .before .before .before .before .before .apply .kept .1 .0
+    apply-from-join-then1 c .apply .kept .1 .0
 
 join-same-length-3 : (t : ℕ) → join-lts.Need-same-length-3 (join-callees t) (join-at t) join.Post
 join-same-length-3 t c =
-    c .before .before .before .before .before .before .before .before .before .before .before .before .before .apply .kept .1 .1 .0
+    apply-from-join-then1 c .apply .kept .1 .1 .0
 
 join-same-length-4 : (t : ℕ) → join-lts.Need-same-length-4 (join-callees t) (join-at t) join.Post
 join-same-length-4 t c =
-    c .before .before .before .before .before .before .before .before .before .before .before .before .before .apply .kept .1 .1 .1 .0
+    apply-from-join-then1 c .apply .kept .1 .1 .1 .0
 
 join-same-length-5 : (t : ℕ) → join-lts.Need-same-length-5 (join-callees t) (join-at t) join.Post
 join-same-length-5 t c =
-    c .before .before .before .before .before .before .before .before .before .before .before .before .before .apply .kept .1 .1 .1 .1 .0
+    apply-from-join-then1 c .apply .kept .1 .1 .1 .1 .0
 
 join-same-length-6 : (t : ℕ) → join-lts.Need-same-length-6 (join-callees t) (join-at t) join.Post
 join-same-length-6 t c =
-    c .before .before .before .before .before .before .before .before .before .before .before .before .before .apply .kept .1 .1 .1 .1 .1 .0
+    apply-from-join-then1 c .apply .kept .1 .1 .1 .1 .1 .0
 
 join-returns : (t : ℕ) → join-lts.Need-returns (join-callees t) (join-at t) join.Post
 join-returns t c =
-    let s = c .before .before .before .before .before .before .before .before .before .before .before .before .before .before .before .before .before .before .before .before .before .before .before .before .before .before in
-    let a = c .before .before .before .before .before .before .before .before .before .before .before .before .before in
+    let s = start-from-join-then1 c in
+    let a = apply-from-join-then1 c in
     (low-done (j-op s) (j-memo s) (j-table s) (j-sides s) (j-ready s) (out₁ a) (is₁ a) (c .if1 .taken), a .apply .ensures .1)
 
 join-apply-requires-2 : (t : ℕ) → join-lts.Need-apply-requires-2 (join-callees t) (join-at t) join.Post
 join-apply-requires-2 t c κs =
-    let s = c .before .before .before .before .before .before .before .before .before .before .before .before .before .before .before .before .before .before .before .before .before .before .before .before .before .before .before .before .before .before .before .before in
-    let a = c .before .before .before .before .before .before .before .before .before .before .before .before .before .before .before .before .before .before .before in
+    let s = start-from-join-apply-call-2 c in
+    let a = apply-from-join-apply-call-2 c in
     (omega (arith, j-measure s, after₁ a, j-ready s .most), ready₁ a)
 
 join-same-length-7 : (t : ℕ) → join-lts.Need-same-length-7 (join-callees t) (join-at t) join.Post
 join-same-length-7 t c =
-    c .before .before .before .before .before .before .before .before .before .before .before .before .before .apply2 .kept .0 ∙ c .before .before .before .before .before .before .before .before .before .before .before .before .before .before .before .before .before .before .before .before .before .before .before .before .before .before .before .before .before .before .before .before .before .apply .kept .0
+    apply2-from-join-then2 c .apply2 .kept .0 ∙ apply-from-join-then2 c .apply .kept .0
 
 join-same-length-8 : (t : ℕ) → join-lts.Need-same-length-8 (join-callees t) (join-at t) join.Post
 join-same-length-8 t c =
-    c .before .before .before .before .before .before .before .before .before .before .before .before .before .apply2 .kept .1 .0 ∙ c .before .before .before .before .before .before .before .before .before .before .before .before .before .before .before .before .before .before .before .before .before .before .before .before .before .before .before .before .before .before .before .before .before .apply .kept .1 .0
+    apply2-from-join-then2 c .apply2 .kept .1 .0 ∙ apply-from-join-then2 c .apply .kept .1 .0
 
 join-same-length-9 : (t : ℕ) → join-lts.Need-same-length-9 (join-callees t) (join-at t) join.Post
 join-same-length-9 t c =
-    c .before .before .before .before .before .before .before .before .before .before .before .before .before .apply2 .kept .1 .1 .0 ∙ c .before .before .before .before .before .before .before .before .before .before .before .before .before .before .before .before .before .before .before .before .before .before .before .before .before .before .before .before .before .before .before .before .before .apply .kept .1 .1 .0
+    apply2-from-join-then2 c .apply2 .kept .1 .1 .0 ∙ apply-from-join-then2 c .apply .kept .1 .1 .0
 
 join-same-length-10 : (t : ℕ) → join-lts.Need-same-length-10 (join-callees t) (join-at t) join.Post
 join-same-length-10 t c =
-    c .before .before .before .before .before .before .before .before .before .before .before .before .before .apply2 .kept .1 .1 .1 .0 ∙ c .before .before .before .before .before .before .before .before .before .before .before .before .before .before .before .before .before .before .before .before .before .before .before .before .before .before .before .before .before .before .before .before .before .apply .kept .1 .1 .1 .0
+    apply2-from-join-then2 c .apply2 .kept .1 .1 .1 .0 ∙ apply-from-join-then2 c .apply .kept .1 .1 .1 .0
 
 join-same-length-11 : (t : ℕ) → join-lts.Need-same-length-11 (join-callees t) (join-at t) join.Post
 join-same-length-11 t c =
-    c .before .before .before .before .before .before .before .before .before .before .before .before .before .apply2 .kept .1 .1 .1 .1 .0 ∙ c .before .before .before .before .before .before .before .before .before .before .before .before .before .before .before .before .before .before .before .before .before .before .before .before .before .before .before .before .before .before .before .before .before .apply .kept .1 .1 .1 .1 .0
+    apply2-from-join-then2 c .apply2 .kept .1 .1 .1 .1 .0 ∙ apply-from-join-then2 c .apply .kept .1 .1 .1 .1 .0
 
 join-same-length-12 : (t : ℕ) → join-lts.Need-same-length-12 (join-callees t) (join-at t) join.Post
 join-same-length-12 t c =
-    c .before .before .before .before .before .before .before .before .before .before .before .before .before .apply2 .kept .1 .1 .1 .1 .1 .0 ∙ c .before .before .before .before .before .before .before .before .before .before .before .before .before .before .before .before .before .before .before .before .before .before .before .before .before .before .before .before .before .before .before .before .before .apply .kept .1 .1 .1 .1 .1 .0
+    apply2-from-join-then2 c .apply2 .kept .1 .1 .1 .1 .1 .0 ∙ apply-from-join-then2 c .apply .kept .1 .1 .1 .1 .1 .0
 
 join-returns-2 : (t : ℕ) → join-lts.Need-returns-2 (join-callees t) (join-at t) join.Post
 join-returns-2 t c =
-    let s = c .before .before .before .before .before .before .before .before .before .before .before .before .before .before .before .before .before .before .before .before .before .before .before .before .before .before .before .before .before .before .before .before .before .before .before .before .before .before .before .before .before .before .before .before .before .before in
-    let a = c .before .before .before .before .before .before .before .before .before .before .before .before .before .before .before .before .before .before .before .before .before .before .before .before .before .before .before .before .before .before .before .before .before in
-    let b = c .before .before .before .before .before .before .before .before .before .before .before .before .before in
-    (high-done (j-op s) (j-memo s) (j-table s) (j-sides s) (j-ready s) (out₁ a) (is₁ a) (c .before .before .before .before .before .before .before .before .before .before .before .before .before .before .before .before .before .before .before .before .if1 .left) (out₂ b) (is₂ b) (c .if2 .taken), b .apply2 .ensures .1)
+    let s = start-from-join-then2 c in
+    let a = apply-from-join-then2 c in
+    let b = apply2-from-join-then2 c in
+    (high-done (j-op s) (j-memo s) (j-table s) (j-sides s) (j-ready s) (out₁ a) (is₁ a) (else1-from-join-then2 c .if1 .left) (out₂ b) (is₂ b) (c .if2 .taken), b .apply2 .ensures .1)
 
 join-put-requires : (t : ℕ) → join-lts.Need-put-requires (join-callees t) (join-at t) join.Post
 join-put-requires t c κs =
-    let s = c .before .before .before .before .before .before .before .before .before .before .before .before .before .before .before .before .before .before .before .before .before .before .before .before .before .before .before .before .before .before .before .before .before .before .before .before .before .before .before .before .before .before .before .before .before .before .before .before .before .before .before in
-    let a = c .before .before .before .before .before .before .before .before .before .before .before .before .before .before .before .before .before .before .before .before .before .before .before .before .before .before .before .before .before .before .before .before .before .before .before .before .before .before in
-    let b = c .before .before .before .before .before .before .before .before .before .before .before .before .before .before .before .before .before .before in
-    high-good (j-op s) (j-memo s) (j-table s) (j-sides s) (j-ready s) (out₁ a) (is₁ a) (c .before .before .before .before .before .before .before .before .before .before .before .before .before .before .before .before .before .before .before .before .before .before .before .before .before .if1 .left) (out₂ b) (is₂ b)
+    let s = start-from-join-put-call c in
+    let a = apply-from-join-put-call c in
+    let b = apply2-from-join-put-call c in
+    high-good (j-op s) (j-memo s) (j-table s) (j-sides s) (j-ready s) (out₁ a) (is₁ a) (else1-from-join-put-call c .if1 .left) (out₂ b) (is₂ b)
 
 join-same-length-13 : (t : ℕ) → join-lts.Need-same-length-13 (join-callees t) (join-at t) join.Post
 join-same-length-13 t c =
-    c .before .before .before .before .before .before .before .before .before .before .put .kept .0 ∙ c .before .before .before .before .before .before .before .before .before .before .before .before .before .before .before .before .before .before .before .before .before .before .before .before .before .before .before .before .before .apply2 .kept .0 ∙ c .before .before .before .before .before .before .before .before .before .before .before .before .before .before .before .before .before .before .before .before .before .before .before .before .before .before .before .before .before .before .before .before .before .before .before .before .before .before .before .before .before .before .before .before .before .before .before .before .before .apply .kept .0
+    put-from-join-return-3 c .put .kept .0 ∙ apply2-from-join-return-3 c .apply2 .kept .0 ∙ apply-from-join-return-3 c .apply .kept .0
 
 join-same-length-14 : (t : ℕ) → join-lts.Need-same-length-14 (join-callees t) (join-at t) join.Post
 join-same-length-14 t c =
-    c .before .before .before .before .before .before .before .before .before .before .put .kept .1 .0 ∙ c .before .before .before .before .before .before .before .before .before .before .before .before .before .before .before .before .before .before .before .before .before .before .before .before .before .before .before .before .before .apply2 .kept .1 .0 ∙ c .before .before .before .before .before .before .before .before .before .before .before .before .before .before .before .before .before .before .before .before .before .before .before .before .before .before .before .before .before .before .before .before .before .before .before .before .before .before .before .before .before .before .before .before .before .before .before .before .before .apply .kept .1 .0
+    put-from-join-return-3 c .put .kept .1 .0 ∙ apply2-from-join-return-3 c .apply2 .kept .1 .0 ∙ apply-from-join-return-3 c .apply .kept .1 .0
 
 join-same-length-15 : (t : ℕ) → join-lts.Need-same-length-15 (join-callees t) (join-at t) join.Post
 join-same-length-15 t c =
-    c .before .before .before .before .before .before .before .before .before .before .put .kept .1 .1 .0 ∙ c .before .before .before .before .before .before .before .before .before .before .before .before .before .before .before .before .before .before .before .before .before .before .before .before .before .before .before .before .before .apply2 .kept .1 .1 .0 ∙ c .before .before .before .before .before .before .before .before .before .before .before .before .before .before .before .before .before .before .before .before .before .before .before .before .before .before .before .before .before .before .before .before .before .before .before .before .before .before .before .before .before .before .before .before .before .before .before .before .before .apply .kept .1 .1 .0
+    put-from-join-return-3 c .put .kept .1 .1 .0 ∙ apply2-from-join-return-3 c .apply2 .kept .1 .1 .0 ∙ apply-from-join-return-3 c .apply .kept .1 .1 .0
 
 join-same-length-16 : (t : ℕ) → join-lts.Need-same-length-16 (join-callees t) (join-at t) join.Post
 join-same-length-16 t c =
-    c .before .before .before .before .before .before .before .before .before .before .put .kept .1 .1 .1 .0 ∙ c .before .before .before .before .before .before .before .before .before .before .before .before .before .before .before .before .before .before .before .before .before .before .before .before .before .before .before .before .before .apply2 .kept .1 .1 .1 .0 ∙ c .before .before .before .before .before .before .before .before .before .before .before .before .before .before .before .before .before .before .before .before .before .before .before .before .before .before .before .before .before .before .before .before .before .before .before .before .before .before .before .before .before .before .before .before .before .before .before .before .before .apply .kept .1 .1 .1 .0
+    put-from-join-return-3 c .put .kept .1 .1 .1 .0 ∙ apply2-from-join-return-3 c .apply2 .kept .1 .1 .1 .0 ∙ apply-from-join-return-3 c .apply .kept .1 .1 .1 .0
 
 join-same-length-17 : (t : ℕ) → join-lts.Need-same-length-17 (join-callees t) (join-at t) join.Post
 join-same-length-17 t c =
-    c .before .before .before .before .before .before .before .before .before .before .put .kept .1 .1 .1 .1 .0 ∙ c .before .before .before .before .before .before .before .before .before .before .before .before .before .before .before .before .before .before .before .before .before .before .before .before .before .before .before .before .before .apply2 .kept .1 .1 .1 .1 .0 ∙ c .before .before .before .before .before .before .before .before .before .before .before .before .before .before .before .before .before .before .before .before .before .before .before .before .before .before .before .before .before .before .before .before .before .before .before .before .before .before .before .before .before .before .before .before .before .before .before .before .before .apply .kept .1 .1 .1 .1 .0
+    put-from-join-return-3 c .put .kept .1 .1 .1 .1 .0 ∙ apply2-from-join-return-3 c .apply2 .kept .1 .1 .1 .1 .0 ∙ apply-from-join-return-3 c .apply .kept .1 .1 .1 .1 .0
 
 join-same-length-18 : (t : ℕ) → join-lts.Need-same-length-18 (join-callees t) (join-at t) join.Post
 join-same-length-18 t c =
-    c .before .before .before .before .before .before .before .before .before .before .before .before .before .before .before .before .before .before .before .before .before .before .before .before .before .before .before .before .before .apply2 .kept .1 .1 .1 .1 .1 .0 ∙ c .before .before .before .before .before .before .before .before .before .before .before .before .before .before .before .before .before .before .before .before .before .before .before .before .before .before .before .before .before .before .before .before .before .before .before .before .before .before .before .before .before .before .before .before .before .before .before .before .before .apply .kept .1 .1 .1 .1 .1 .0
+    apply2-from-join-return-3 c .apply2 .kept .1 .1 .1 .1 .1 .0 ∙ apply-from-join-return-3 c .apply .kept .1 .1 .1 .1 .1 .0
 
 join-returns-3 : (t : ℕ) → join-lts.Need-returns-3 (join-callees t) (join-at t) join.Post
 join-returns-3 t c =
-    let s = c .before .before .before .before .before .before .before .before .before .before .before .before .before .before .before .before .before .before .before .before .before .before .before .before .before .before .before .before .before .before .before .before .before .before .before .before .before .before .before .before .before .before .before .before .before .before .before .before .before .before .before .before .before .before .before .before .before .before .before .before .before .before in
-    let a = c .before .before .before .before .before .before .before .before .before .before .before .before .before .before .before .before .before .before .before .before .before .before .before .before .before .before .before .before .before .before .before .before .before .before .before .before .before .before .before .before .before .before .before .before .before .before .before .before .before in
-    let b = c .before .before .before .before .before .before .before .before .before .before .before .before .before .before .before .before .before .before .before .before .before .before .before .before .before .before .before .before .before in (
-      both-done (j-op s) (j-memo s) (j-table s) (j-sides s) (j-ready s) (out₁ a) (is₁ a) (c .before .before .before .before .before .before .before .before .before .before .before .before .before .before .before .before .before .before .before .before .before .before .before .before .before .before .before .before .before .before .before .before .before .before .before .before .if1 .left) (out₂ b) (is₂ b) (c .before .before .before .before .before .before .before .before .before .before .before .before .before .before .before .before .if2 .left) (outcomeOf (c .before .before .before .before .before .before .before .before .before .before .put .last .0) (c .before .before .before .before .before .before .before .before .before .before .put .last .1 .0) (c .before .before .before .before .before .before .before .before .before .before .put .last .1 .1 .0) (c .before .before .before .before .before .before .before .before .before .before .put .last .1 .1 .1 .0) (c .before .before .before .before .before .before .before .before .before .before .put .last .1 .1 .1 .1 .0) (c .before .before .before .before .before .before .before .before .before .before .put .result)) (c .before .before .before .before .before .before .before .before .before .before .put .ensures),
-      memo-joined (j-op s) (j-memo s) (j-table s) (j-sides s) (j-ready s) (out₁ a) (is₁ a) (c .before .before .before .before .before .before .before .before .before .before .before .before .before .before .before .before .before .before .before .before .before .before .before .before .before .before .before .before .before .before .before .before .before .before .before .before .if1 .left) (out₂ b) (is₂ b) (c .before .before .before .before .before .before .before .before .before .before .before .before .before .before .before .before .if2 .left) (outcomeOf (c .before .before .before .before .before .before .before .before .before .before .put .last .0) (c .before .before .before .before .before .before .before .before .before .before .put .last .1 .0) (c .before .before .before .before .before .before .before .before .before .before .put .last .1 .1 .0) (c .before .before .before .before .before .before .before .before .before .before .put .last .1 .1 .1 .0) (c .before .before .before .before .before .before .before .before .before .before .put .last .1 .1 .1 .1 .0) (c .before .before .before .before .before .before .before .before .before .before .put .result)) (c .before .before .before .before .before .before .before .before .before .before .put .ensures) (memo₂ b) (b .apply2 .ensures .1),
+    let s = start-from-join-return-3 c in
+    let a = apply-from-join-return-3 c in
+    let b = apply2-from-join-return-3 c in (
+      both-done (j-op s) (j-memo s) (j-table s) (j-sides s) (j-ready s) (out₁ a) (is₁ a) (else1-from-join-return-3 c .if1 .left) (out₂ b) (is₂ b) (else2-from-join-return-3 c .if2 .left) (outcomeOf (put-from-join-return-3 c .put .last .0) (put-from-join-return-3 c .put .last .1 .0) (put-from-join-return-3 c .put .last .1 .1 .0) (put-from-join-return-3 c .put .last .1 .1 .1 .0) (put-from-join-return-3 c .put .last .1 .1 .1 .1 .0) (put-from-join-return-3 c .put .result)) (put-from-join-return-3 c .put .ensures),
+      memo-joined (j-op s) (j-memo s) (j-table s) (j-sides s) (j-ready s) (out₁ a) (is₁ a) (else1-from-join-return-3 c .if1 .left) (out₂ b) (is₂ b) (else2-from-join-return-3 c .if2 .left) (outcomeOf (put-from-join-return-3 c .put .last .0) (put-from-join-return-3 c .put .last .1 .0) (put-from-join-return-3 c .put .last .1 .1 .0) (put-from-join-return-3 c .put .last .1 .1 .1 .0) (put-from-join-return-3 c .put .last .1 .1 .1 .1 .0) (put-from-join-return-3 c .put .result)) (put-from-join-return-3 c .put .ensures) (memo₂ b) (b .apply2 .ensures .1),
     )
 
 pub +apply+descend+join-spec : {M : Type 1} → statement M

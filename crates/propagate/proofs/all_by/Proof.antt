@@ -1,6 +1,5 @@
 -- The members are replaced one by one: `Replacing` holds at each, and the words have the members' variables. Assumes nothing.
 use mathlib.Core.Path.{_≡_, refl, sym, _∙_, subst}
-use mathlib.Core.List.{List}
 use Prim.Native.Nat.{ℕ, _-_}
 use native.Mathlib.Omega.{arith}
 use lib.ListN.{length, set}
@@ -24,14 +23,93 @@ abbrev μ-loop : tie.MeasureT-loop
 μ-loop vars₀ lows₀ highs₀ heads₀ links₀ memo₀ list₀ words₀ count op g touching n₀ i₀ vars lows highs heads links memo list words n i =
     length list₀ - i
 
+-- The ways back, written by ways.py: TO-from-FROM leads from the place FROM of the code to the place TO before it.
+module _ (c : tie.After-clear-memo-arg Inv-loop μ-loop) where
+  abbrev start-from-clear-memo-call : tie.Start Inv-loop μ-loop
+  start-from-clear-memo-call = c .before .before .before .before .before .before .before .before .before
+
+module _ (c : tie.After-slice-known9 Inv-loop μ-loop) where
+  abbrev start-from-loop-holds : tie.Start Inv-loop μ-loop
+  start-from-loop-holds = c .before .before .before .before .before .before .before .before .before .before .before .before
+
+module _ (c : tie.At-loop Inv-loop μ-loop) where
+  abbrev start-from-at-loop : tie.Start Inv-loop μ-loop
+  start-from-at-loop = c .before .before .before .before .before .before .before .before .before .before .before .before .before
+
+module _ (c : tie.After-loop Inv-loop μ-loop) where
+  abbrev start-from-return-2 : tie.Start Inv-loop μ-loop
+  start-from-return-2 = start-from-at-loop (c .before)
+
+module _ (c : tie.After-slice-known11 Inv-loop μ-loop) where
+  abbrev at-loop-from-slice-read-word : tie.At-loop Inv-loop μ-loop
+  at-loop-from-slice-read-word = c .before .before .before
+
+  abbrev start-from-slice-read-word : tie.Start Inv-loop μ-loop
+  start-from-slice-read-word = start-from-at-loop at-loop-from-slice-read-word
+
+module _ (c : tie.After-apply-touching-arg6 Inv-loop μ-loop) where
+  abbrev slice-known10-from-apply-touching-call : tie.After-slice-known10 Inv-loop μ-loop
+  slice-known10-from-apply-touching-call = c .before .before .before .before .before .before .before
+
+  abbrev in-loop-from-apply-touching-call : tie.In-loop Inv-loop μ-loop
+  in-loop-from-apply-touching-call = slice-known10-from-apply-touching-call .before
+
+  abbrev at-loop-from-apply-touching-call : tie.At-loop Inv-loop μ-loop
+  at-loop-from-apply-touching-call = in-loop-from-apply-touching-call .before
+
+  abbrev start-from-apply-touching-call : tie.Start Inv-loop μ-loop
+  start-from-apply-touching-call = start-from-at-loop at-loop-from-apply-touching-call
+
+module _ (c : tie.After-apply-touching Inv-loop μ-loop) where
+  abbrev slice-known10-from-apply-touching : tie.After-slice-known10 Inv-loop μ-loop
+  slice-known10-from-apply-touching = c .before .before .before .before .before .before .before .before
+
+module _ (c : tie.Then1 Inv-loop μ-loop) where
+  abbrev apply-touching-from-then1 : tie.After-apply-touching Inv-loop μ-loop
+  apply-touching-from-then1 = c .before .before .before .before .before .before .before .before .before .before .before .before .before
+
+  abbrev in-loop-from-then1 : tie.In-loop Inv-loop μ-loop
+  in-loop-from-then1 = slice-known10-from-apply-touching apply-touching-from-then1 .before
+
+  abbrev at-loop-from-then1 : tie.At-loop Inv-loop μ-loop
+  at-loop-from-then1 = in-loop-from-then1 .before
+
+  abbrev start-from-then1 : tie.Start Inv-loop μ-loop
+  start-from-then1 = start-from-at-loop at-loop-from-then1
+
+module _ (c : tie.After-k Inv-loop μ-loop) where
+  abbrev apply-touching-from-word-after-call : tie.After-apply-touching Inv-loop μ-loop
+  apply-touching-from-word-after-call = c .before .before .before .before .before .before .before .before .before .before .before .before
+      .before .before
+
+  abbrev in-loop-from-word-after-call : tie.In-loop Inv-loop μ-loop
+  in-loop-from-word-after-call = slice-known10-from-apply-touching apply-touching-from-word-after-call .before
+
+module _ (c : tie.After-word-after Inv-loop μ-loop) where
+  abbrev apply-touching-from-loop-again : tie.After-apply-touching Inv-loop μ-loop
+  apply-touching-from-loop-again = c .before .before .before .before .before .before .before .before .before .before .before .before .before
+      .before .before
+
+  abbrev slice-known10-from-loop-again : tie.After-slice-known10 Inv-loop μ-loop
+  slice-known10-from-loop-again = slice-known10-from-apply-touching apply-touching-from-loop-again
+
+  abbrev in-loop-from-loop-again : tie.In-loop Inv-loop μ-loop
+  in-loop-from-loop-again = slice-known10-from-loop-again .before
+
+  abbrev at-loop-from-loop-again : tie.At-loop Inv-loop μ-loop
+  at-loop-from-loop-again = in-loop-from-loop-again .before
+
+  abbrev start-from-loop-again : tie.Start Inv-loop μ-loop
+  start-from-loop-again = start-from-at-loop at-loop-from-loop-again
+
 clear-memo-requires : tie.Need-clear-memo-requires Inv-loop μ-loop
 clear-memo-requires c κs =
-    omega (arith, c .before .before .before .before .before .before .before .before .before .pre .0 .0 .room)
+    omega (arith, start-from-clear-memo-call c .pre .0 .0 .room)
 
 loop-holds : tie.Need-loop-holds Inv-loop μ-loop
 loop-holds c =
-    let a = c .before .before .before .before .before .before .before .before .before .before .before .before .args in
-    let r = c .before .before .before .before .before .before .before .before .before .before .before .before .pre in (
+    let a = start-from-loop-holds c .args in
+    let r = start-from-loop-holds c .pre in (
       replacing-none (a .op) (a .g .0) (tableOf (a .vars .now) (a .lows .now) (a .highs .now) (a .heads .now) (a .links .now) (a .count)) (a .list .now) (a .memo .now) (r .0 .0) (r .0 .1) (c .before .before .clear-memo .last .0) (c .before .before .clear-memo .ensures (a .op) (tableOf (a .vars .now) (a .lows .now) (a .highs .now) (a .heads .now) (a .links .now) (a .count))),
       r .1 .1,
       rewording-none (a .words .now) (a .touching),
@@ -57,17 +135,17 @@ mul-word c =
 
 slice-read-word : tie.Need-slice-read-word Inv-loop μ-loop
 slice-read-word c =
-    let a = c .before .before .before .before .before .before .before .before .before .before .before .before .before .before .before .before .args in
-    let r = c .before .before .before .before .before .before .before .before .before .before .before .before .before .before .before .before .pre in
-    let w = c .before .before .before .loop in
+    let a = start-from-slice-read-word c .args in
+    let r = start-from-slice-read-word c .pre in
+    let w = at-loop-from-slice-read-word c .loop in
     omega (arith, w .inv .2 .lengths, w .inv .0 .members, r .1 .0, c .before .before .loop-test .taken)
 
 apply-touching-requires : tie.Need-apply-touching-requires Inv-loop μ-loop
 apply-touching-requires c κs =
-    let a = c .before .before .before .before .before .before .before .before .before .before .before .before .before .before .before .before .before .before .before .before .before .before .args in
-    let r = c .before .before .before .before .before .before .before .before .before .before .before .before .before .before .before .before .before .before .before .before .before .before .pre in
-    let w = c .before .before .before .before .before .before .before .before .before .loop in
-    (member-ready (a .op) (a .g .0) (tableOf (a .vars .now) (a .lows .now) (a .highs .now) (a .heads .now) (a .links .now) (a .count)) (a .list .now) (a .memo .now) (r .0 .0) (r .0 .1) (r .0 .2) (tableOf (w .vars) (w .lows) (w .highs) (w .heads) (w .links) (w .n)) (w .list) (w .memo) (w .i) (w .inv .0) (c .before .before .before .before .before .before .before .before .loop-test .taken), member-supported (a .op) (a .g .0) (tableOf (a .vars .now) (a .lows .now) (a .highs .now) (a .heads .now) (a .links .now) (a .count)) (a .list .now) (a .memo .now) (r .0 .0) (r .0 .1) (r .0 .2) (tableOf (w .vars) (w .lows) (w .highs) (w .heads) (w .links) (w .n)) (w .list) (w .memo) (w .i) (w .inv .0) (c .before .before .before .before .before .before .before .before .loop-test .taken) (w .words) (w .inv .1), touches-now (a .op) (a .g .0) (tableOf (a .vars .now) (a .lows .now) (a .highs .now) (a .heads .now) (a .links .now) (a .count)) (a .list .now) (a .memo .now) (r .0 .0) (r .0 .1) (r .0 .2) (tableOf (w .vars) (w .lows) (w .highs) (w .heads) (w .links) (w .n)) (w .list) (w .memo) (w .i) (w .inv .0) (c .before .before .before .before .before .before .before .before .loop-test .taken) (a .touching) (r .1 .2))
+    let a = start-from-apply-touching-call c .args in
+    let r = start-from-apply-touching-call c .pre in
+    let w = at-loop-from-apply-touching-call c .loop in
+    (member-ready (a .op) (a .g .0) (tableOf (a .vars .now) (a .lows .now) (a .highs .now) (a .heads .now) (a .links .now) (a .count)) (a .list .now) (a .memo .now) (r .0 .0) (r .0 .1) (r .0 .2) (tableOf (w .vars) (w .lows) (w .highs) (w .heads) (w .links) (w .n)) (w .list) (w .memo) (w .i) (w .inv .0) (in-loop-from-apply-touching-call c .loop-test .taken), member-supported (a .op) (a .g .0) (tableOf (a .vars .now) (a .lows .now) (a .highs .now) (a .heads .now) (a .links .now) (a .count)) (a .list .now) (a .memo .now) (r .0 .0) (r .0 .1) (r .0 .2) (tableOf (w .vars) (w .lows) (w .highs) (w .heads) (w .links) (w .n)) (w .list) (w .memo) (w .i) (w .inv .0) (in-loop-from-apply-touching-call c .loop-test .taken) (w .words) (w .inv .1), touches-now (a .op) (a .g .0) (tableOf (a .vars .now) (a .lows .now) (a .highs .now) (a .heads .now) (a .links .now) (a .count)) (a .list .now) (a .memo .now) (r .0 .0) (r .0 .1) (r .0 .2) (tableOf (w .vars) (w .lows) (w .highs) (w .heads) (w .links) (w .n)) (w .list) (w .memo) (w .i) (w .inv .0) (in-loop-from-apply-touching-call c .loop-test .taken) (a .touching) (r .1 .2))
 
 same-length : tie.Need-same-length Inv-loop μ-loop
 same-length c =
@@ -103,15 +181,15 @@ same-length-8 c =
 
 returns : tie.Need-returns Inv-loop μ-loop
 returns c =
-    let a = c .before .before .before .before .before .before .before .before .before .before .before .before .before .before .before .before .before .before .before .before .before .before .before .before .before .before .before .before .before .before .before .before .before .before .before .before .args in
-    let r = c .before .before .before .before .before .before .before .before .before .before .before .before .before .before .before .before .before .before .before .before .before .before .before .before .before .before .before .before .before .before .before .before .before .before .before .before .pre in
-    let w = c .before .before .before .before .before .before .before .before .before .before .before .before .before .before .before .before .before .before .before .before .before .before .before .loop in
-    let y = c .before .before .before .before .before .before .before .before .before .before .before .before .before .apply-touching in
-    (stopped (a .op) (a .g .0) (tableOf (a .vars .now) (a .lows .now) (a .highs .now) (a .heads .now) (a .links .now) (a .count)) (a .list .now) (a .memo .now) (r .0 .0) (r .0 .1) (r .0 .2) (tableOf (w .vars) (w .lows) (w .highs) (w .heads) (w .links) (w .n)) (w .list) (w .memo) (w .i) (w .inv .0) (c .before .before .before .before .before .before .before .before .before .before .before .before .before .before .before .before .before .before .before .before .before .before .loop-test .taken) (outcomeOf (y .last .0) (y .last .1 .0) (y .last .1 .1 .0) (y .last .1 .1 .1 .0) (y .last .1 .1 .1 .1 .0) (y .result)) (y .ensures .0) (c .if1 .taken), (λ z. t≢f z, λ z. t≢f z))
+    let a = start-from-then1 c .args in
+    let r = start-from-then1 c .pre in
+    let w = at-loop-from-then1 c .loop in
+    let y = apply-touching-from-then1 c .apply-touching in
+    (stopped (a .op) (a .g .0) (tableOf (a .vars .now) (a .lows .now) (a .highs .now) (a .heads .now) (a .links .now) (a .count)) (a .list .now) (a .memo .now) (r .0 .0) (r .0 .1) (r .0 .2) (tableOf (w .vars) (w .lows) (w .highs) (w .heads) (w .links) (w .n)) (w .list) (w .memo) (w .i) (w .inv .0) (in-loop-from-then1 c .loop-test .taken) (outcomeOf (y .last .0) (y .last .1 .0) (y .last .1 .1 .0) (y .last .1 .1 .1 .0) (y .last .1 .1 .1 .1 .0) (y .result)) (y .ensures .0) (c .if1 .taken), (λ z. t≢f z, λ z. t≢f z))
 
 mul-list : tie.Need-mul-list Inv-loop μ-loop
 mul-list c =
-    mul-t22 (c .before .before .before .before .before .before .before .before .before .before .before .before .before .before .before .before .before .before .before .before .before .before .before)
+    mul-t22 (in-loop-from-word-after-call c)
 
 slice-write-list : tie.Need-slice-write-list Inv-loop μ-loop
 slice-write-list c =
@@ -123,18 +201,18 @@ word-after-requires c κs =
 
 mul-words : tie.Need-mul-words Inv-loop μ-loop
 mul-words c =
-    mul-word (c .before .before .before .before .before .before .before .before .before .before .before .before .before .before .before .before .before .before .before .before .before .before .before)
+    mul-word (slice-known10-from-loop-again c)
 
 slice-write-words : tie.Need-slice-write-words Inv-loop μ-loop
 slice-write-words c =
-    let a = c .before .before .before .before .before .before .before .before .before .before .before .before .before .before .before .before .before .before .before .before .before .before .before .before .before .before .before .before .before .before .before .before .before .before .before .before .before .before .args in
-    let r = c .before .before .before .before .before .before .before .before .before .before .before .before .before .before .before .before .before .before .before .before .before .before .before .before .before .before .before .before .before .before .before .before .before .before .before .before .before .before .pre in
-    let w = c .before .before .before .before .before .before .before .before .before .before .before .before .before .before .before .before .before .before .before .before .before .before .before .before .before .loop in
-    omega (arith, w .inv .2 .lengths, w .inv .0 .members, r .1 .0, c .before .before .before .before .before .before .before .before .before .before .before .before .before .before .before .before .before .before .before .before .before .before .before .before .loop-test .taken)
+    let a = start-from-loop-again c .args in
+    let r = start-from-loop-again c .pre in
+    let w = at-loop-from-loop-again c .loop in
+    omega (arith, w .inv .2 .lengths, w .inv .0 .members, r .1 .0, in-loop-from-loop-again c .loop-test .taken)
 
 add-i : tie.Need-add-i Inv-loop μ-loop
 add-i c =
-    omega (arith, mul-t22 (c .before .before .before .before .before .before .before .before .before .before .before .before .before .before .before .before .before .before .before .before .before .before .before .before))
+    omega (arith, mul-t22 (in-loop-from-loop-again c))
 
 loop-less : tie.Need-loop-less Inv-loop μ-loop
 loop-less c =
@@ -142,13 +220,13 @@ loop-less c =
 
 loop-again : tie.Need-loop-again Inv-loop μ-loop
 loop-again c =
-    let a = c .before .before .before .before .before .before .before .before .before .before .before .before .before .before .before .before .before .before .before .before .before .before .before .before .before .before .before .before .before .before .before .before .before .before .before .before .before .before .args in
-    let r = c .before .before .before .before .before .before .before .before .before .before .before .before .before .before .before .before .before .before .before .before .before .before .before .before .before .before .before .before .before .before .before .before .before .before .before .before .before .before .pre in
-    let w = c .before .before .before .before .before .before .before .before .before .before .before .before .before .before .before .before .before .before .before .before .before .before .before .before .before .loop in
-    let y = c .before .before .before .before .before .before .before .before .before .before .before .before .before .before .before .apply-touching in (
-      replaced (a .op) (a .g .0) (tableOf (a .vars .now) (a .lows .now) (a .highs .now) (a .heads .now) (a .links .now) (a .count)) (a .list .now) (a .memo .now) (r .0 .0) (r .0 .1) (r .0 .2) (tableOf (w .vars) (w .lows) (w .highs) (w .heads) (w .links) (w .n)) (w .list) (w .memo) (w .i) (w .inv .0) (c .before .before .before .before .before .before .before .before .before .before .before .before .before .before .before .before .before .before .before .before .before .before .before .before .loop-test .taken) (outcomeOf (y .last .0) (y .last .1 .0) (y .last .1 .1 .0) (y .last .1 .1 .1 .0) (y .last .1 .1 .1 .1 .0) (y .result)) (y .ensures .0) (c .before .before .if1 .left) (y .last .1 .1 .1 .1 .1 .0) (y .ensures .1),
-      subst (λ (x : ℕ). Supports (nodesOf ((outcomeOf (y .last .0) (y .last .1 .0) (y .last .1 .1 .0) (y .last .1 .1 .1 .0) (y .last .1 .1 .1 .1 .0) (y .result)) .table)) (set (w .list) (w .i) ((outcomeOf (y .last .0) (y .last .1 .0) (y .last .1 .1 .0) (y .last .1 .1 .1 .0) (y .last .1 .1 .1 .1 .0) (y .result)) .node)) (set (w .words) (w .i) x)) (sym (c .word-after .ensures)) (supported (a .op) (a .g .0) (tableOf (a .vars .now) (a .lows .now) (a .highs .now) (a .heads .now) (a .links .now) (a .count)) (a .list .now) (a .memo .now) (r .0 .0) (r .0 .1) (r .0 .2) (tableOf (w .vars) (w .lows) (w .highs) (w .heads) (w .links) (w .n)) (w .list) (w .memo) (w .i) (w .inv .0) (c .before .before .before .before .before .before .before .before .before .before .before .before .before .before .before .before .before .before .before .before .before .before .before .before .loop-test .taken) (outcomeOf (y .last .0) (y .last .1 .0) (y .last .1 .1 .0) (y .last .1 .1 .1 .0) (y .last .1 .1 .1 .1 .0) (y .result)) (y .ensures .0) (c .before .before .if1 .left) (w .words) (a .touching) (omega (arith, w .inv .2 .lengths, w .inv .0 .members, r .1 .0)) (w .inv .1) (r .1 .2)),
-      rewording-next (a .words .now) (w .words) (a .touching) (w .i) (c .word-after .result) (w .inv .2) (omega (arith, w .inv .0 .members, r .1 .0, c .before .before .before .before .before .before .before .before .before .before .before .before .before .before .before .before .before .before .before .before .before .before .before .before .loop-test .taken)) (c .word-after .ensures),
+    let a = start-from-loop-again c .args in
+    let r = start-from-loop-again c .pre in
+    let w = at-loop-from-loop-again c .loop in
+    let y = apply-touching-from-loop-again c .apply-touching in (
+      replaced (a .op) (a .g .0) (tableOf (a .vars .now) (a .lows .now) (a .highs .now) (a .heads .now) (a .links .now) (a .count)) (a .list .now) (a .memo .now) (r .0 .0) (r .0 .1) (r .0 .2) (tableOf (w .vars) (w .lows) (w .highs) (w .heads) (w .links) (w .n)) (w .list) (w .memo) (w .i) (w .inv .0) (in-loop-from-loop-again c .loop-test .taken) (outcomeOf (y .last .0) (y .last .1 .0) (y .last .1 .1 .0) (y .last .1 .1 .1 .0) (y .last .1 .1 .1 .1 .0) (y .result)) (y .ensures .0) (c .before .before .if1 .left) (y .last .1 .1 .1 .1 .1 .0) (y .ensures .1),
+      subst (λ (x : ℕ). Supports (nodesOf ((outcomeOf (y .last .0) (y .last .1 .0) (y .last .1 .1 .0) (y .last .1 .1 .1 .0) (y .last .1 .1 .1 .1 .0) (y .result)) .table)) (set (w .list) (w .i) ((outcomeOf (y .last .0) (y .last .1 .0) (y .last .1 .1 .0) (y .last .1 .1 .1 .0) (y .last .1 .1 .1 .1 .0) (y .result)) .node)) (set (w .words) (w .i) x)) (sym (c .word-after .ensures)) (supported (a .op) (a .g .0) (tableOf (a .vars .now) (a .lows .now) (a .highs .now) (a .heads .now) (a .links .now) (a .count)) (a .list .now) (a .memo .now) (r .0 .0) (r .0 .1) (r .0 .2) (tableOf (w .vars) (w .lows) (w .highs) (w .heads) (w .links) (w .n)) (w .list) (w .memo) (w .i) (w .inv .0) (in-loop-from-loop-again c .loop-test .taken) (outcomeOf (y .last .0) (y .last .1 .0) (y .last .1 .1 .0) (y .last .1 .1 .1 .0) (y .last .1 .1 .1 .1 .0) (y .result)) (y .ensures .0) (c .before .before .if1 .left) (w .words) (a .touching) (omega (arith, w .inv .2 .lengths, w .inv .0 .members, r .1 .0)) (w .inv .1) (r .1 .2)),
+      rewording-next (a .words .now) (w .words) (a .touching) (w .i) (c .word-after .result) (w .inv .2) (omega (arith, w .inv .0 .members, r .1 .0, in-loop-from-loop-again c .loop-test .taken)) (c .word-after .ensures),
       y .kept .0 ∙ w .inv .3,
       y .kept .1 .0 ∙ w .inv .4,
       y .kept .1 .1 .0 ∙ w .inv .5,
@@ -191,8 +269,8 @@ same-length-16 c =
 
 returns-2 : tie.Need-returns-2 Inv-loop μ-loop
 returns-2 c =
-    let a = c .before .before .before .before .before .before .before .before .before .before .before .before .before .before .args in
-    let r = c .before .before .before .before .before .before .before .before .before .before .before .before .before .before .pre in
+    let a = start-from-return-2 c .args in
+    let r = start-from-return-2 c .pre in
     let w = c .before .loop in
     (all-replaced (a .op) (a .g .0) (tableOf (a .vars .now) (a .lows .now) (a .highs .now) (a .heads .now) (a .links .now) (a .count)) (a .list .now) (a .memo .now) (r .0 .0) (r .0 .1) (tableOf (w .vars) (w .lows) (w .highs) (w .heads) (w .links) (w .n)) (w .list) (w .memo) (w .i) (w .inv .0) (omega (arith, c .loop-test .left)), (λ z. w .inv .1, λ z. rewording-all (a .words .now) (w .words) (a .touching) (w .i) (w .inv .2) (omega (arith, w .inv .0 .members, r .1 .0, c .loop-test .left))))
 

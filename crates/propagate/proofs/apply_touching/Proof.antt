@@ -5,10 +5,15 @@ use Rattle.propagate.proofs.Touching.{untouched}
 use Rattle.propagate.proofs.apply_touching.Statement.{statement}
 use Rattle.propagate.proofs.apply_touching.Tie as tie
 
+-- The ways back, written by ways.py: TO-from-FROM leads from the place FROM of the code to the place TO before it.
+module _ (c : tie.Then1) where
+  abbrev start-from-then1 : tie.Start
+  start-from-then1 = c .before .before .before .before .before .before .before
+
 returns : tie.Need-returns
 returns c =
-    let a = c .before .before .before .before .before .before .before .args in
-    let r = c .before .before .before .before .before .before .before .pre in
+    let a = start-from-then1 c .args in
+    let r = start-from-then1 c .pre in
     (untouched (tableOf (a .vars .now) (a .lows .now) (a .highs .now) (a .heads .now) (a .links .now) (a .count)) (r .0 .good) (a .f .0) (a .g .0) (r .0 .f-inside) (r .0 .g-inside) (a .word) (a .touching) (r .1) (a .op) (a .memo .now) (r .0) (r .2) (c .if1 .taken), r .0 .right)
 
 apply-requires : tie.Need-apply-requires

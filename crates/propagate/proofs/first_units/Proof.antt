@@ -29,10 +29,67 @@ abbrev μ-loop : tie.MeasureT-loop
 clear-memo-requires : tie.Need-clear-memo-requires Inv-loop μ-loop
 clear-memo-requires c κs = search needs
 
+-- The ways back, written by ways.py: TO-from-FROM leads from the place FROM of the code to the place TO before it.
+module _ (c : tie.After-clear-memo Inv-loop μ-loop) where
+  abbrev start-from-clear-memo : tie.Start Inv-loop μ-loop
+  start-from-clear-memo = c .before .before .before .before .before .before .before
+
+module _ (c : tie.After-slice-known2 Inv-loop μ-loop) where
+  abbrev start-from-loop-holds : tie.Start Inv-loop μ-loop
+  start-from-loop-holds = start-from-clear-memo (c .before .before)
+
+module _ (c : tie.At-loop Inv-loop μ-loop) where
+  abbrev clear-memo-from-at-loop : tie.After-clear-memo Inv-loop μ-loop
+  clear-memo-from-at-loop = c .before .before .before
+
+module _ (c : tie.After-loop Inv-loop μ-loop) where
+  abbrev start-from-return-2 : tie.Start Inv-loop μ-loop
+  start-from-return-2 = start-from-clear-memo (clear-memo-from-at-loop (c .before))
+
+module _ (c : tie.After-units-from-arg Inv-loop μ-loop) where
+  abbrev at-loop-from-units-from-call : tie.At-loop Inv-loop μ-loop
+  at-loop-from-units-from-call = c .before .before .before
+
+  abbrev clear-memo-from-units-from-call : tie.After-clear-memo Inv-loop μ-loop
+  clear-memo-from-units-from-call = clear-memo-from-at-loop at-loop-from-units-from-call
+
+  abbrev start-from-units-from-call : tie.Start Inv-loop μ-loop
+  start-from-units-from-call = start-from-clear-memo clear-memo-from-units-from-call
+
+module _ (c : tie.After-units-from Inv-loop μ-loop) where
+  abbrev in-loop-from-units-from : tie.In-loop Inv-loop μ-loop
+  in-loop-from-units-from = c .before .before .before
+
+module _ (c : tie.Joined1 Inv-loop μ-loop) where
+  abbrev units-from-from-return : tie.After-units-from Inv-loop μ-loop
+  units-from-from-return = c .before .before .before .before
+
+  abbrev in-loop-from-return : tie.In-loop Inv-loop μ-loop
+  in-loop-from-return = in-loop-from-units-from units-from-from-return
+
+  abbrev at-loop-from-return : tie.At-loop Inv-loop μ-loop
+  at-loop-from-return = in-loop-from-return .before
+
+  abbrev start-from-return : tie.Start Inv-loop μ-loop
+  start-from-return = start-from-clear-memo (clear-memo-from-at-loop at-loop-from-return)
+
+module _ (c : tie.Else2 Inv-loop μ-loop) where
+  abbrev units-from-from-else2 : tie.After-units-from Inv-loop μ-loop
+  units-from-from-else2 = c .before .before .before .before .before .before
+
+  abbrev in-loop-from-else2 : tie.In-loop Inv-loop μ-loop
+  in-loop-from-else2 = in-loop-from-units-from units-from-from-else2
+
+  abbrev at-loop-from-else2 : tie.At-loop Inv-loop μ-loop
+  at-loop-from-else2 = in-loop-from-else2 .before
+
+  abbrev start-from-else2 : tie.Start Inv-loop μ-loop
+  start-from-else2 = start-from-clear-memo (clear-memo-from-at-loop at-loop-from-else2)
+
 -- src/lib.rt:73:5
 loop-holds : tie.Need-loop-holds Inv-loop μ-loop
 loop-holds c =
-    let a = c .before .before .before .before .before .before .before .before .before .args in
+    let a = start-from-loop-holds c .args in
     (refl, omega arith, λ i p. omega (arith, c .before .before .clear-memo .ensures i p), refl)
 
 -- src/lib.rt:74:24
@@ -50,10 +107,10 @@ add-stamp c = search needs
 -- src/lib.rt:75:13
 units-from-requires : tie.Need-units-from-requires Inv-loop μ-loop
 units-from-requires c κs =
-    let a = c .before .before .before .before .before .before .before .before .before .before .before .before .before .args in
-    let r = c .before .before .before .before .before .before .before .before .before .before .before .before .before .pre in
-    let w = c .before .before .before .loop in
-    (r .0, r .1 (w .place) (c .before .before .loop-test .taken), omega (arith, w .inv .0, c .before .before .before .before .before .before .clear-memo .kept .0, r .2), w .inv .2)
+    let a = start-from-units-from-call c .args in
+    let r = start-from-units-from-call c .pre in
+    let w = at-loop-from-units-from-call c .loop in
+    (r .0, r .1 (w .place) (c .before .before .loop-test .taken), omega (arith, w .inv .0, clear-memo-from-units-from-call c .clear-memo .kept .0, r .2), w .inv .2)
 
 -- src/lib.rt:77:13
 same-length : tie.Need-same-length Inv-loop μ-loop
@@ -62,14 +119,14 @@ same-length c = search needs
 -- src/lib.rt:77:13
 returns : tie.Need-returns Inv-loop μ-loop
 returns c =
-    let a = c .before .before .before .before .before .before .before .before .before .before .before .before .before .before .before .before .before .before .args in
-    let r = c .before .before .before .before .before .before .before .before .before .before .before .before .before .before .before .before .before .before .pre in
-    let w = c .before .before .before .before .before .before .before .before .loop in
-    let y = c .before .before .before .before .units-from in
+    let a = start-from-return c .args in
+    let r = start-from-return c .pre in
+    let w = at-loop-from-return c .loop in
+    let y = units-from-from-return c .units-from in
     let some-unit : hasUnit 64 64 (diagramAt (nodesIn (a .vars .now) (a .lows .now) (a .highs .now) (a .count)) (getD (a .list .now) (w .place) 0)) ≡ true =
     words-some (nodesIn (a .vars .now) (a .lows .now) (a .highs .now) (a .count)) (getD (a .list .now) (w .place) 0) (y .result .positive) (y .result .negative) (y .ensures .0) (omega (arith, c .before .struct-known .given)) (omega (arith, c .before .struct-known .given))
     (λ z. ⊎-elim (λ s. s .taken (z .0)) (λ s. eqb-false _ _ (not-true _ (s .2 .taken)) (z .1)) (c .if1 .came)) in
-    first-here (nodesIn (a .vars .now) (a .lows .now) (a .highs .now) (a .count)) (a .list .now) (w .place) (c .before .before .before .before .before .before .before .loop-test .taken) (w .inv .3) some-unit (y .result .positive) (y .result .negative) (y .ensures .0)
+    first-here (nodesIn (a .vars .now) (a .lows .now) (a .highs .now) (a .count)) (a .list .now) (w .place) (in-loop-from-return c .loop-test .taken) (w .inv .3) some-unit (y .result .positive) (y .result .negative) (y .ensures .0)
 
 -- src/lib.rt:79:9
 add-place : tie.Need-add-place Inv-loop μ-loop
@@ -82,14 +139,14 @@ loop-less c = search needs
 -- src/lib.rt:73:5
 loop-again : tie.Need-loop-again Inv-loop μ-loop
 loop-again c =
-    let a = c .before .before .before .before .before .before .before .before .before .before .before .before .before .before .before .before .before .before .before .before .args in
-    let r = c .before .before .before .before .before .before .before .before .before .before .before .before .before .before .before .before .before .before .before .before .pre in
-    let w = c .before .before .before .before .before .before .before .before .before .before .loop in
-    let y = c .before .before .before .before .before .before .units-from in (
+    let a = start-from-else2 c .args in
+    let r = start-from-else2 c .pre in
+    let w = at-loop-from-else2 c .loop in
+    let y = units-from-from-else2 c .units-from in (
       y .kept .1 .1 .1 .0 ∙ w .inv .0,
-      omega (arith, c .before .before .before .before .before .before .before .before .before .loop-test .taken),
+      omega (arith, in-loop-from-else2 c .loop-test .taken),
       y .ensures .1,
-      w .inv .3 ∙ first-later (nodesIn (a .vars .now) (a .lows .now) (a .highs .now) (a .count)) (a .list .now) (w .place) (c .before .before .before .before .before .before .before .before .before .loop-test .taken) (words-empty (nodesIn (a .vars .now) (a .lows .now) (a .highs .now) (a .count)) _ _ _ (y .ensures .0) (c .before .before .if1 .left) (eqb-true _ _ (not-false _ (c .if2 .left)))),
+      w .inv .3 ∙ first-later (nodesIn (a .vars .now) (a .lows .now) (a .highs .now) (a .count)) (a .list .now) (w .place) (in-loop-from-else2 c .loop-test .taken) (words-empty (nodesIn (a .vars .now) (a .lows .now) (a .highs .now) (a .count)) _ _ _ (y .ensures .0) (c .before .before .if1 .left) (eqb-true _ _ (not-false _ (c .if2 .left)))),
     )
 
 -- src/lib.rt:60:1
@@ -99,8 +156,8 @@ same-length-2 c = search needs
 -- src/lib.rt:60:1
 returns-2 : tie.Need-returns-2 Inv-loop μ-loop
 returns-2 c =
-    let a = c .before .before .before .before .before .before .before .before .before .before .before .args in
-    let r = c .before .before .before .before .before .before .before .before .before .before .before .pre in
+    let a = start-from-return-2 c .args in
+    let r = start-from-return-2 c .pre in
     let w = c .before .loop in
     w .inv .3 ∙ first-none (nodesIn (a .vars .now) (a .lows .now) (a .highs .now) (a .count)) (a .list .now) (w .place) (omega (arith, c .loop-test .left))
 

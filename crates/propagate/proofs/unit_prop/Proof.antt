@@ -28,17 +28,102 @@ abbrev μ-loop : tie.MeasureT-loop
 μ-loop vars₀ lows₀ highs₀ heads₀ links₀ memo₀ marks₀ list₀ words₀ count n₀ rounds₀ touching₀ vars lows highs heads links memo marks list words n rounds touching =
     64 - rounds
 
+-- The ways back, written by ways.py: TO-from-FROM leads from the place FROM of the code to the place TO before it.
+module _ (c : tie.After-slice-known9 Inv-loop μ-loop) where
+  abbrev start-from-loop-holds : tie.Start Inv-loop μ-loop
+  start-from-loop-holds = c .before .before .before .before .before .before .before .before .before
+
+module _ (c : tie.At-loop Inv-loop μ-loop) where
+  abbrev start-from-at-loop : tie.Start Inv-loop μ-loop
+  start-from-at-loop = c .before .before .before .before .before .before .before .before .before .before
+
+module _ (c : tie.After-next-round-arg9 Inv-loop μ-loop) where
+  abbrev at-loop-from-next-round-call : tie.At-loop Inv-loop μ-loop
+  at-loop-from-next-round-call = c .before .before .before .before .before .before .before .before .before
+
+  abbrev start-from-next-round-call : tie.Start Inv-loop μ-loop
+  start-from-next-round-call = start-from-at-loop at-loop-from-next-round-call
+
+module _ (c : tie.After-next-round Inv-loop μ-loop) where
+  abbrev at-loop-from-next-round : tie.At-loop Inv-loop μ-loop
+  at-loop-from-next-round = c .before .before .before .before .before .before .before .before .before .before
+
+module _ (c : tie.After-u Inv-loop μ-loop) where
+  abbrev next-round-from-u : tie.After-next-round Inv-loop μ-loop
+  next-round-from-u = c .before .before .before .before .before .before
+
+module _ (c : tie.After-known-told Inv-loop μ-loop) where
+  abbrev next-round-from-return : tie.After-next-round Inv-loop μ-loop
+  next-round-from-return = c .before .before .before .before .before .before .before
+
+  abbrev at-loop-from-return : tie.At-loop Inv-loop μ-loop
+  at-loop-from-return = at-loop-from-next-round next-round-from-return
+
+  abbrev start-from-return : tie.Start Inv-loop μ-loop
+  start-from-return = start-from-at-loop at-loop-from-return
+
+module _ (c : tie.After-all-by-arg8 Inv-loop μ-loop) where
+  abbrev u-from-all-by-call : tie.After-u Inv-loop μ-loop
+  u-from-all-by-call = c .before .before .before .before .before .before .before .before .before .before
+
+  abbrev next-round-from-all-by-call : tie.After-next-round Inv-loop μ-loop
+  next-round-from-all-by-call = next-round-from-u u-from-all-by-call
+
+  abbrev at-loop-from-all-by-call : tie.At-loop Inv-loop μ-loop
+  at-loop-from-all-by-call = at-loop-from-next-round next-round-from-all-by-call
+
+  abbrev start-from-all-by-call : tie.Start Inv-loop μ-loop
+  start-from-all-by-call = start-from-at-loop at-loop-from-all-by-call
+
+module _ (c : tie.After-all-by Inv-loop μ-loop) where
+  abbrev u-from-all-by : tie.After-u Inv-loop μ-loop
+  u-from-all-by = c .before .before .before .before .before .before .before .before .before .before .before
+
+module _ (c : tie.Else1 Inv-loop μ-loop) where
+  abbrev all-by-from-else1 : tie.After-all-by Inv-loop μ-loop
+  all-by-from-else1 = c .before .before .before .before .before .before .before .before .before .before .before .before .before .before
+      .before .before .before
+
+  abbrev u-from-else1 : tie.After-u Inv-loop μ-loop
+  u-from-else1 = u-from-all-by all-by-from-else1
+
+  abbrev next-round-from-else1 : tie.After-next-round Inv-loop μ-loop
+  next-round-from-else1 = next-round-from-u u-from-else1
+
+  abbrev at-loop-from-else1 : tie.At-loop Inv-loop μ-loop
+  at-loop-from-else1 = at-loop-from-next-round next-round-from-else1
+
+  abbrev start-from-else1 : tie.Start Inv-loop μ-loop
+  start-from-else1 = start-from-at-loop at-loop-from-else1
+
+module _ (c : tie.Then1 Inv-loop μ-loop) where
+  abbrev all-by-from-then1 : tie.After-all-by Inv-loop μ-loop
+  all-by-from-then1 = c .before .before .before .before .before .before .before .before .before .before .before .before .before .before
+      .before .before .before
+
+  abbrev u-from-then1 : tie.After-u Inv-loop μ-loop
+  u-from-then1 = u-from-all-by all-by-from-then1
+
+  abbrev next-round-from-then1 : tie.After-next-round Inv-loop μ-loop
+  next-round-from-then1 = next-round-from-u u-from-then1
+
+  abbrev at-loop-from-then1 : tie.At-loop Inv-loop μ-loop
+  at-loop-from-then1 = at-loop-from-next-round next-round-from-then1
+
+  abbrev start-from-then1 : tie.Start Inv-loop μ-loop
+  start-from-then1 = start-from-at-loop at-loop-from-then1
+
 loop-holds : tie.Need-loop-holds Inv-loop μ-loop
 loop-holds c =
-    let a = c .before .before .before .before .before .before .before .before .before .args in
-    let r = c .before .before .before .before .before .before .before .before .before .pre in
+    let a = start-from-loop-holds c .args in
+    let r = start-from-loop-holds c .pre in
     (going-first (tableOf (a .vars .now) (a .lows .now) (a .highs .now) (a .heads .now) (a .links .now) (a .count)) (a .list .now) (a .memo .now) (a .marks .now) (r .0 .0) (r .0 .1), r .1 .1, quiet-all (tableOf (a .vars .now) (a .lows .now) (a .highs .now) (a .heads .now) (a .links .now) (a .count)) (a .list .now) (a .memo .now) (a .words .now) (r .0 .0) (r .1 .1), refl, refl, refl, refl, refl, refl, refl, refl, refl)
 
 next-round-requires : tie.Need-next-round-requires Inv-loop μ-loop
 next-round-requires c κs =
-    let a = c .before .before .before .before .before .before .before .before .before .before .before .before .before .before .before .before .before .before .before .args in
-    let r = c .before .before .before .before .before .before .before .before .before .before .before .before .before .before .before .before .before .before .before .pre in
-    let w = c .before .before .before .before .before .before .before .before .before .loop in
+    let a = start-from-next-round-call c .args in
+    let r = start-from-next-round-call c .pre in
+    let w = at-loop-from-next-round-call c .loop in
     ((going-ready (tableOf (a .vars .now) (a .lows .now) (a .highs .now) (a .heads .now) (a .links .now) (a .count)) (r .0 .0 .good) (diagramsOf (nodesOf (tableOf (a .vars .now) (a .lows .now) (a .highs .now) (a .heads .now) (a .links .now) (a .count))) (a .list .now)) (tableOf (w .vars) (w .lows) (w .highs) (w .heads) (w .links) (w .n)) (w .list) (w .memo) (w .marks) (w .rounds) (w .inv .0), w .inv .0 .clear ∙ ap unmarked (sym (w .inv .3)), w .inv .0 .most), (w .inv .11 ∙ r .1 .0 ∙ sym (w .inv .10), w .inv .2))
 
 enum-known-conflict : tie.Need-enum-known-conflict Inv-loop μ-loop
@@ -47,46 +132,46 @@ enum-known-conflict c =
 
 same-length : tie.Need-same-length Inv-loop μ-loop
 same-length c =
-    c .before .before .before .before .before .before .before .before .before .before .before .before .before .before .before .before .before .loop .inv .3
+    at-loop-from-return c .loop .inv .3
 
 same-length-2 : tie.Need-same-length-2 Inv-loop μ-loop
 same-length-2 c =
-    c .before .before .before .before .before .before .before .before .before .before .before .before .before .before .before .before .before .loop .inv .4
+    at-loop-from-return c .loop .inv .4
 
 same-length-3 : tie.Need-same-length-3 Inv-loop μ-loop
 same-length-3 c =
-    c .before .before .before .before .before .before .before .before .before .before .before .before .before .before .before .before .before .loop .inv .5
+    at-loop-from-return c .loop .inv .5
 
 same-length-4 : tie.Need-same-length-4 Inv-loop μ-loop
 same-length-4 c =
-    c .before .before .before .before .before .before .before .before .before .before .before .before .before .before .before .before .before .loop .inv .6
+    at-loop-from-return c .loop .inv .6
 
 same-length-5 : tie.Need-same-length-5 Inv-loop μ-loop
 same-length-5 c =
-    c .before .before .before .before .before .before .before .before .before .before .before .before .before .before .before .before .before .loop .inv .7
+    at-loop-from-return c .loop .inv .7
 
 same-length-6 : tie.Need-same-length-6 Inv-loop μ-loop
 same-length-6 c =
-    c .before .before .before .before .before .before .before .next-round .kept .1 .1 .1 .1 .1 .0 ∙ c .before .before .before .before .before .before .before .before .before .before .before .before .before .before .before .before .before .loop .inv .8
+    next-round-from-return c .next-round .kept .1 .1 .1 .1 .1 .0 ∙ at-loop-from-return c .loop .inv .8
 
 same-length-7 : tie.Need-same-length-7 Inv-loop μ-loop
 same-length-7 c =
-    c .before .before .before .before .before .before .before .next-round .kept .1 .1 .1 .1 .1 .1 .0 ∙ c .before .before .before .before .before .before .before .before .before .before .before .before .before .before .before .before .before .loop .inv .9
+    next-round-from-return c .next-round .kept .1 .1 .1 .1 .1 .1 .0 ∙ at-loop-from-return c .loop .inv .9
 
 same-length-8 : tie.Need-same-length-8 Inv-loop μ-loop
 same-length-8 c =
-    c .before .before .before .before .before .before .before .before .before .before .before .before .before .before .before .before .before .loop .inv .10
+    at-loop-from-return c .loop .inv .10
 
 same-length-9 : tie.Need-same-length-9 Inv-loop μ-loop
 same-length-9 c =
-    c .before .before .before .before .before .before .before .before .before .before .before .before .before .before .before .before .before .loop .inv .11
+    at-loop-from-return c .loop .inv .11
 
 returns : tie.Need-returns Inv-loop μ-loop
 returns c =
-    let a = c .before .before .before .before .before .before .before .before .before .before .before .before .before .before .before .before .before .before .before .before .before .before .before .before .before .before .before .args in
-    let r = c .before .before .before .before .before .before .before .before .before .before .before .before .before .before .before .before .before .before .before .before .before .before .before .before .before .before .before .pre in
-    let w = c .before .before .before .before .before .before .before .before .before .before .before .before .before .before .before .before .before .loop in
-    let y = c .before .before .before .before .before .before .before .next-round in
+    let a = start-from-return c .args in
+    let r = start-from-return c .pre in
+    let w = at-loop-from-return c .loop in
+    let y = next-round-from-return c .next-round in
     let ends = subst (Comes (diagramsOf (nodesOf (tableOf (w .vars) (w .lows) (w .highs) (w .heads) (w .links) (w .n))) (w .list)) (w .rounds)) (c .before .conflict .given .1) (y .ensures .0) in
     (going-ends (tableOf (a .vars .now) (a .lows .now) (a .highs .now) (a .heads .now) (a .links .now) (a .count)) (r .0 .0 .good) (diagramsOf (nodesOf (tableOf (a .vars .now) (a .lows .now) (a .highs .now) (a .heads .now) (a .links .now) (a .count))) (a .list .now)) (tableOf (w .vars) (w .lows) (w .highs) (w .heads) (w .links) (w .n)) (w .list) (w .memo) (w .marks) (w .rounds) (w .inv .0) (c .before .conflict .given .0 .0) ends, y .ensures .1 ∙ ap unmarked (w .inv .3))
 
@@ -96,10 +181,10 @@ enum-known-u c =
 
 all-by-requires : tie.Need-all-by-requires Inv-loop μ-loop
 all-by-requires c κs =
-    let a = c .before .before .before .before .before .before .before .before .before .before .before .before .before .before .before .before .before .before .before .before .before .before .before .before .before .before .before .before .before .before .before .before .before .before .before .before .args in
-    let r = c .before .before .before .before .before .before .before .before .before .before .before .before .before .before .before .before .before .before .before .before .before .before .before .before .before .before .before .before .before .before .before .before .before .before .before .before .pre in
-    let w = c .before .before .before .before .before .before .before .before .before .before .before .before .before .before .before .before .before .before .before .before .before .before .before .before .before .before .loop in
-    let y = c .before .before .before .before .before .before .before .before .before .before .before .before .before .before .before .before .next-round in
+    let a = start-from-all-by-call c .args in
+    let r = start-from-all-by-call c .pre in
+    let w = at-loop-from-all-by-call c .loop in
+    let y = next-round-from-all-by-call c .next-round in
     let ready = going-ready (tableOf (a .vars .now) (a .lows .now) (a .highs .now) (a .heads .now) (a .links .now) (a .count)) (r .0 .0 .good) (diagramsOf (nodesOf (tableOf (a .vars .now) (a .lows .now) (a .highs .now) (a .heads .now) (a .links .now) (a .count))) (a .list .now)) (tableOf (w .vars) (w .lows) (w .highs) (w .heads) (w .links) (w .n)) (w .list) (w .memo) (w .marks) (w .rounds) (w .inv .0) in (
       (record { good = ready .good; inside = ready .inside; room = omega (arith, y .kept .1 .1 .1 .1 .1 .0, ready .room) }, omega (arith, ready .good .least), refl),
       (w .inv .11 ∙ r .1 .0 ∙ sym (w .inv .10), w .inv .1, refl),
@@ -107,75 +192,75 @@ all-by-requires c κs =
 
 same-length-10 : tie.Need-same-length-10 Inv-loop μ-loop
 same-length-10 c =
-    c .before .before .before .before .before .before .before .before .before .before .before .before .before .before .before .before .before .all-by .kept .0 ∙ c .before .before .before .before .before .before .before .before .before .before .before .before .before .before .before .before .before .before .before .before .before .before .before .before .before .before .before .before .before .before .before .before .before .before .before .before .before .before .before .before .before .before .before .before .loop .inv .3
+    all-by-from-then1 c .all-by .kept .0 ∙ at-loop-from-then1 c .loop .inv .3
 
 same-length-11 : tie.Need-same-length-11 Inv-loop μ-loop
 same-length-11 c =
-    c .before .before .before .before .before .before .before .before .before .before .before .before .before .before .before .before .before .all-by .kept .1 .0 ∙ c .before .before .before .before .before .before .before .before .before .before .before .before .before .before .before .before .before .before .before .before .before .before .before .before .before .before .before .before .before .before .before .before .before .before .before .before .before .before .before .before .before .before .before .before .loop .inv .4
+    all-by-from-then1 c .all-by .kept .1 .0 ∙ at-loop-from-then1 c .loop .inv .4
 
 same-length-12 : tie.Need-same-length-12 Inv-loop μ-loop
 same-length-12 c =
-    c .before .before .before .before .before .before .before .before .before .before .before .before .before .before .before .before .before .all-by .kept .1 .1 .0 ∙ c .before .before .before .before .before .before .before .before .before .before .before .before .before .before .before .before .before .before .before .before .before .before .before .before .before .before .before .before .before .before .before .before .before .before .before .before .before .before .before .before .before .before .before .before .loop .inv .5
+    all-by-from-then1 c .all-by .kept .1 .1 .0 ∙ at-loop-from-then1 c .loop .inv .5
 
 same-length-13 : tie.Need-same-length-13 Inv-loop μ-loop
 same-length-13 c =
-    c .before .before .before .before .before .before .before .before .before .before .before .before .before .before .before .before .before .all-by .kept .1 .1 .1 .0 ∙ c .before .before .before .before .before .before .before .before .before .before .before .before .before .before .before .before .before .before .before .before .before .before .before .before .before .before .before .before .before .before .before .before .before .before .before .before .before .before .before .before .before .before .before .before .loop .inv .6
+    all-by-from-then1 c .all-by .kept .1 .1 .1 .0 ∙ at-loop-from-then1 c .loop .inv .6
 
 same-length-14 : tie.Need-same-length-14 Inv-loop μ-loop
 same-length-14 c =
-    c .before .before .before .before .before .before .before .before .before .before .before .before .before .before .before .before .before .all-by .kept .1 .1 .1 .1 .0 ∙ c .before .before .before .before .before .before .before .before .before .before .before .before .before .before .before .before .before .before .before .before .before .before .before .before .before .before .before .before .before .before .before .before .before .before .before .before .before .before .before .before .before .before .before .before .loop .inv .7
+    all-by-from-then1 c .all-by .kept .1 .1 .1 .1 .0 ∙ at-loop-from-then1 c .loop .inv .7
 
 same-length-15 : tie.Need-same-length-15 Inv-loop μ-loop
 same-length-15 c =
-    c .before .before .before .before .before .before .before .before .before .before .before .before .before .before .before .before .before .all-by .kept .1 .1 .1 .1 .1 .0 ∙ c .before .before .before .before .before .before .before .before .before .before .before .before .before .before .before .before .before .before .before .before .before .before .before .before .before .before .before .before .before .before .before .before .before .before .next-round .kept .1 .1 .1 .1 .1 .0 ∙ c .before .before .before .before .before .before .before .before .before .before .before .before .before .before .before .before .before .before .before .before .before .before .before .before .before .before .before .before .before .before .before .before .before .before .before .before .before .before .before .before .before .before .before .before .loop .inv .8
+    all-by-from-then1 c .all-by .kept .1 .1 .1 .1 .1 .0 ∙ next-round-from-then1 c .next-round .kept .1 .1 .1 .1 .1 .0 ∙ at-loop-from-then1 c .loop .inv .8
 
 same-length-16 : tie.Need-same-length-16 Inv-loop μ-loop
 same-length-16 c =
-    c .before .before .before .before .before .before .before .before .before .before .before .before .before .before .before .before .before .before .before .before .before .before .before .before .before .before .before .before .before .before .before .before .before .before .next-round .kept .1 .1 .1 .1 .1 .1 .0 ∙ c .before .before .before .before .before .before .before .before .before .before .before .before .before .before .before .before .before .before .before .before .before .before .before .before .before .before .before .before .before .before .before .before .before .before .before .before .before .before .before .before .before .before .before .before .loop .inv .9
+    next-round-from-then1 c .next-round .kept .1 .1 .1 .1 .1 .1 .0 ∙ at-loop-from-then1 c .loop .inv .9
 
 same-length-17 : tie.Need-same-length-17 Inv-loop μ-loop
 same-length-17 c =
-    c .before .before .before .before .before .before .before .before .before .before .before .before .before .before .before .before .before .all-by .kept .1 .1 .1 .1 .1 .1 .0 ∙ c .before .before .before .before .before .before .before .before .before .before .before .before .before .before .before .before .before .before .before .before .before .before .before .before .before .before .before .before .before .before .before .before .before .before .before .before .before .before .before .before .before .before .before .before .loop .inv .10
+    all-by-from-then1 c .all-by .kept .1 .1 .1 .1 .1 .1 .0 ∙ at-loop-from-then1 c .loop .inv .10
 
 same-length-18 : tie.Need-same-length-18 Inv-loop μ-loop
 same-length-18 c =
-    c .before .before .before .before .before .before .before .before .before .before .before .before .before .before .before .before .before .all-by .kept .1 .1 .1 .1 .1 .1 .1 .0 ∙ c .before .before .before .before .before .before .before .before .before .before .before .before .before .before .before .before .before .before .before .before .before .before .before .before .before .before .before .before .before .before .before .before .before .before .before .before .before .before .before .before .before .before .before .before .loop .inv .11
+    all-by-from-then1 c .all-by .kept .1 .1 .1 .1 .1 .1 .1 .0 ∙ at-loop-from-then1 c .loop .inv .11
 
 returns-2 : tie.Need-returns-2 Inv-loop μ-loop
 returns-2 c =
-    let a = c .before .before .before .before .before .before .before .before .before .before .before .before .before .before .before .before .before .before .before .before .before .before .before .before .before .before .before .before .before .before .before .before .before .before .before .before .before .before .before .before .before .before .before .before .before .before .before .before .before .before .before .before .before .before .args in
-    let r = c .before .before .before .before .before .before .before .before .before .before .before .before .before .before .before .before .before .before .before .before .before .before .before .before .before .before .before .before .before .before .before .before .before .before .before .before .before .before .before .before .before .before .before .before .before .before .before .before .before .before .before .before .before .before .pre in
-    let w = c .before .before .before .before .before .before .before .before .before .before .before .before .before .before .before .before .before .before .before .before .before .before .before .before .before .before .before .before .before .before .before .before .before .before .before .before .before .before .before .before .before .before .before .before .loop in
-    let y = c .before .before .before .before .before .before .before .before .before .before .before .before .before .before .before .before .before .before .before .before .before .before .before .before .before .before .before .before .before .before .before .before .before .before .next-round in
-    let z = c .before .before .before .before .before .before .before .before .before .before .before .before .before .before .before .before .before .all-by in
-    let comes = subst (Comes (diagramsOf (nodesOf (tableOf (w .vars) (w .lows) (w .highs) (w .heads) (w .links) (w .n))) (w .list)) (w .rounds)) (c .before .before .before .before .before .before .before .before .before .before .before .before .before .before .before .before .before .before .before .before .before .before .before .before .before .before .before .before .u .given .1) (y .ensures .0) in
-    (going-full (tableOf (a .vars .now) (a .lows .now) (a .highs .now) (a .heads .now) (a .links .now) (a .count)) (r .0 .0 .good) (diagramsOf (nodesOf (tableOf (a .vars .now) (a .lows .now) (a .highs .now) (a .heads .now) (a .links .now) (a .count))) (a .list .now)) (tableOf (w .vars) (w .lows) (w .highs) (w .heads) (w .links) (w .n)) (w .list) (w .memo) (w .marks) (w .rounds) (w .inv .0) (comes .0) (comes .1) (c .before .before .before .before .before .before .before .before .before .before .before .before .before .before .before .before .before .before .before .before .before .before .before .before .before .before .before .before .u .given .0 .0 .positive) (c .before .before .before .before .before .before .before .before .before .before .before .before .before .before .before .before .before .before .before .before .before .before .before .before .before .before .before .before .u .given .0 .0 .negative) (comes .2) (z .result .full) (tableOf (z .last .0) (z .last .1 .0) (z .last .1 .1 .0) (z .last .1 .1 .1 .0) (z .last .1 .1 .1 .1 .0) (z .result .count)) (z .last .1 .1 .1 .1 .1 .1 .0) (z .ensures .0) (c .if1 .taken) false, y .ensures .1 ∙ ap unmarked (w .inv .3))
+    let a = start-from-then1 c .args in
+    let r = start-from-then1 c .pre in
+    let w = at-loop-from-then1 c .loop in
+    let y = next-round-from-then1 c .next-round in
+    let z = all-by-from-then1 c .all-by in
+    let comes = subst (Comes (diagramsOf (nodesOf (tableOf (w .vars) (w .lows) (w .highs) (w .heads) (w .links) (w .n))) (w .list)) (w .rounds)) (u-from-then1 c .u .given .1) (y .ensures .0) in
+    (going-full (tableOf (a .vars .now) (a .lows .now) (a .highs .now) (a .heads .now) (a .links .now) (a .count)) (r .0 .0 .good) (diagramsOf (nodesOf (tableOf (a .vars .now) (a .lows .now) (a .highs .now) (a .heads .now) (a .links .now) (a .count))) (a .list .now)) (tableOf (w .vars) (w .lows) (w .highs) (w .heads) (w .links) (w .n)) (w .list) (w .memo) (w .marks) (w .rounds) (w .inv .0) (comes .0) (comes .1) (u-from-then1 c .u .given .0 .0 .positive) (u-from-then1 c .u .given .0 .0 .negative) (comes .2) (z .result .full) (tableOf (z .last .0) (z .last .1 .0) (z .last .1 .1 .0) (z .last .1 .1 .1 .0) (z .last .1 .1 .1 .1 .0) (z .result .count)) (z .last .1 .1 .1 .1 .1 .1 .0) (z .ensures .0) (c .if1 .taken) false, y .ensures .1 ∙ ap unmarked (w .inv .3))
 
 add-rounds : tie.Need-add-rounds Inv-loop μ-loop
 add-rounds c =
-    omega (arith, c .before .before .before .before .before .before .before .before .before .before .before .before .before .before .before .before .before .before .before .before .before .before .before .before .before .before .before .before .before .before .before .before .before .before .before .before .before .before .before .before .before .before .before .before .loop .inv .0 .most)
+    omega (arith, at-loop-from-else1 c .loop .inv .0 .most)
 
 loop-less : tie.Need-loop-less Inv-loop μ-loop
 loop-less c =
-    let a = c .before .before .before .before .before .before .before .before .before .before .before .before .before .before .before .before .before .before .before .before .before .before .before .before .before .before .before .before .before .before .before .before .before .before .before .before .before .before .before .before .before .before .before .before .before .before .before .before .before .before .before .before .before .before .args in
-    let r = c .before .before .before .before .before .before .before .before .before .before .before .before .before .before .before .before .before .before .before .before .before .before .before .before .before .before .before .before .before .before .before .before .before .before .before .before .before .before .before .before .before .before .before .before .before .before .before .before .before .before .before .before .before .before .pre in
-    let w = c .before .before .before .before .before .before .before .before .before .before .before .before .before .before .before .before .before .before .before .before .before .before .before .before .before .before .before .before .before .before .before .before .before .before .before .before .before .before .before .before .before .before .before .before .loop in
-    let y = c .before .before .before .before .before .before .before .before .before .before .before .before .before .before .before .before .before .before .before .before .before .before .before .before .before .before .before .before .before .before .before .before .before .before .next-round in
-    let comes = subst (Comes (diagramsOf (nodesOf (tableOf (w .vars) (w .lows) (w .highs) (w .heads) (w .links) (w .n))) (w .list)) (w .rounds)) (c .before .before .before .before .before .before .before .before .before .before .before .before .before .before .before .before .before .before .before .before .before .before .before .before .before .before .before .before .u .given .1) (y .ensures .0) in
+    let a = start-from-else1 c .args in
+    let r = start-from-else1 c .pre in
+    let w = at-loop-from-else1 c .loop in
+    let y = next-round-from-else1 c .next-round in
+    let comes = subst (Comes (diagramsOf (nodesOf (tableOf (w .vars) (w .lows) (w .highs) (w .heads) (w .links) (w .n))) (w .list)) (w .rounds)) (u-from-else1 c .u .given .1) (y .ensures .0) in
     omega (arith, comes .0)
 
 loop-again : tie.Need-loop-again Inv-loop μ-loop
 loop-again c =
-    let a = c .before .before .before .before .before .before .before .before .before .before .before .before .before .before .before .before .before .before .before .before .before .before .before .before .before .before .before .before .before .before .before .before .before .before .before .before .before .before .before .before .before .before .before .before .before .before .before .before .before .before .before .before .before .before .args in
-    let r = c .before .before .before .before .before .before .before .before .before .before .before .before .before .before .before .before .before .before .before .before .before .before .before .before .before .before .before .before .before .before .before .before .before .before .before .before .before .before .before .before .before .before .before .before .before .before .before .before .before .before .before .before .before .before .pre in
-    let w = c .before .before .before .before .before .before .before .before .before .before .before .before .before .before .before .before .before .before .before .before .before .before .before .before .before .before .before .before .before .before .before .before .before .before .before .before .before .before .before .before .before .before .before .before .loop in
-    let y = c .before .before .before .before .before .before .before .before .before .before .before .before .before .before .before .before .before .before .before .before .before .before .before .before .before .before .before .before .before .before .before .before .before .before .next-round in
-    let z = c .before .before .before .before .before .before .before .before .before .before .before .before .before .before .before .before .before .all-by in
-    let comes = subst (Comes (diagramsOf (nodesOf (tableOf (w .vars) (w .lows) (w .highs) (w .heads) (w .links) (w .n))) (w .list)) (w .rounds)) (c .before .before .before .before .before .before .before .before .before .before .before .before .before .before .before .before .before .before .before .before .before .before .before .before .before .before .before .before .u .given .1) (y .ensures .0) in (
-      going-on (tableOf (a .vars .now) (a .lows .now) (a .highs .now) (a .heads .now) (a .links .now) (a .count)) (r .0 .0 .good) (diagramsOf (nodesOf (tableOf (a .vars .now) (a .lows .now) (a .highs .now) (a .heads .now) (a .links .now) (a .count))) (a .list .now)) (tableOf (w .vars) (w .lows) (w .highs) (w .heads) (w .links) (w .n)) (w .list) (w .memo) (w .marks) (w .rounds) (w .inv .0) (comes .0) (comes .1) (c .before .before .before .before .before .before .before .before .before .before .before .before .before .before .before .before .before .before .before .before .before .before .before .before .before .before .before .before .u .given .0 .0 .positive) (c .before .before .before .before .before .before .before .before .before .before .before .before .before .before .before .before .before .before .before .before .before .before .before .before .before .before .before .before .u .given .0 .0 .negative) (comes .2) (z .result .full) (tableOf (z .last .0) (z .last .1 .0) (z .last .1 .1 .0) (z .last .1 .1 .1 .0) (z .last .1 .1 .1 .1 .0) (z .result .count)) (z .last .1 .1 .1 .1 .1 .1 .0) (z .ensures .0) (c .if1 .left) (z .last .1 .1 .1 .1 .1 .0) (z .kept .1 .1 .1 .1 .1 .0 ∙ y .kept .1 .1 .1 .1 .1 .0) (y .last .1 .1 .1 .1 .1 .1 .0) (y .ensures .1 ∙ ap unmarked (w .inv .3)),
+    let a = start-from-else1 c .args in
+    let r = start-from-else1 c .pre in
+    let w = at-loop-from-else1 c .loop in
+    let y = next-round-from-else1 c .next-round in
+    let z = all-by-from-else1 c .all-by in
+    let comes = subst (Comes (diagramsOf (nodesOf (tableOf (w .vars) (w .lows) (w .highs) (w .heads) (w .links) (w .n))) (w .list)) (w .rounds)) (u-from-else1 c .u .given .1) (y .ensures .0) in (
+      going-on (tableOf (a .vars .now) (a .lows .now) (a .highs .now) (a .heads .now) (a .links .now) (a .count)) (r .0 .0 .good) (diagramsOf (nodesOf (tableOf (a .vars .now) (a .lows .now) (a .highs .now) (a .heads .now) (a .links .now) (a .count))) (a .list .now)) (tableOf (w .vars) (w .lows) (w .highs) (w .heads) (w .links) (w .n)) (w .list) (w .memo) (w .marks) (w .rounds) (w .inv .0) (comes .0) (comes .1) (u-from-else1 c .u .given .0 .0 .positive) (u-from-else1 c .u .given .0 .0 .negative) (comes .2) (z .result .full) (tableOf (z .last .0) (z .last .1 .0) (z .last .1 .1 .0) (z .last .1 .1 .1 .0) (z .last .1 .1 .1 .1 .0) (z .result .count)) (z .last .1 .1 .1 .1 .1 .1 .0) (z .ensures .0) (c .if1 .left) (z .last .1 .1 .1 .1 .1 .0) (z .kept .1 .1 .1 .1 .1 .0 ∙ y .kept .1 .1 .1 .1 .1 .0) (y .last .1 .1 .1 .1 .1 .1 .0) (y .ensures .1 ∙ ap unmarked (w .inv .3)),
       z .ensures .1 .0 (c .if1 .left),
-      quiet-next (tableOf (w .vars) (w .lows) (w .highs) (w .heads) (w .links) (w .n)) (w .list) (w .memo) (w .words) (going-ready (tableOf (a .vars .now) (a .lows .now) (a .highs .now) (a .heads .now) (a .links .now) (a .count)) (r .0 .0 .good) (diagramsOf (nodesOf (tableOf (a .vars .now) (a .lows .now) (a .highs .now) (a .heads .now) (a .links .now) (a .count))) (a .list .now)) (tableOf (w .vars) (w .lows) (w .highs) (w .heads) (w .links) (w .n)) (w .list) (w .memo) (w .marks) (w .rounds) (w .inv .0)) (w .inv .11 ∙ r .1 .0 ∙ sym (w .inv .10)) (w .inv .1) (c .before .before .before .before .before .before .before .before .before .before .before .before .before .before .before .before .before .before .before .before .before .before .before .before .before .before .before .before .u .given .0 .0 .positive) (c .before .before .before .before .before .before .before .before .before .before .before .before .before .before .before .before .before .before .before .before .before .before .before .before .before .before .before .before .u .given .0 .0 .negative) (tableOf (z .last .0) (z .last .1 .0) (z .last .1 .1 .0) (z .last .1 .1 .1 .0) (z .last .1 .1 .1 .1 .0) (z .result .count)) (z .last .1 .1 .1 .1 .1 .1 .0)
-          (subst (λ b. AllMade (tableOf (w .vars) (w .lows) (w .highs) (w .heads) (w .links) (w .n)) (results (Literals (c .before .before .before .before .before .before .before .before .before .before .before .before .before .before .before .before .before .before .before .before .before .before .before .before .before .before .before .before .u .given .0 .0 .positive) (c .before .before .before .before .before .before .before .before .before .before .before .before .before .before .before .before .before .before .before .before .before .before .before .before .before .before .before .before .u .given .0 .0 .negative)) (tableOf (w .vars) (w .lows) (w .highs) (w .heads) (w .links) (w .n)) (w .list) 1) b (tableOf (z .last .0) (z .last .1 .0) (z .last .1 .1 .0) (z .last .1 .1 .1 .0) (z .last .1 .1 .1 .1 .0) (z .result .count)) (z .last .1 .1 .1 .1 .1 .1 .0)) (c .if1 .left) (z .ensures .0)) (z .kept .1 .1 .1 .1 .1 .1 .0) (z .last .1 .1 .1 .1 .1 .1 .1 .0) (z .ensures .1 .1 (c .if1 .left)) (comes .1),
+      quiet-next (tableOf (w .vars) (w .lows) (w .highs) (w .heads) (w .links) (w .n)) (w .list) (w .memo) (w .words) (going-ready (tableOf (a .vars .now) (a .lows .now) (a .highs .now) (a .heads .now) (a .links .now) (a .count)) (r .0 .0 .good) (diagramsOf (nodesOf (tableOf (a .vars .now) (a .lows .now) (a .highs .now) (a .heads .now) (a .links .now) (a .count))) (a .list .now)) (tableOf (w .vars) (w .lows) (w .highs) (w .heads) (w .links) (w .n)) (w .list) (w .memo) (w .marks) (w .rounds) (w .inv .0)) (w .inv .11 ∙ r .1 .0 ∙ sym (w .inv .10)) (w .inv .1) (u-from-else1 c .u .given .0 .0 .positive) (u-from-else1 c .u .given .0 .0 .negative) (tableOf (z .last .0) (z .last .1 .0) (z .last .1 .1 .0) (z .last .1 .1 .1 .0) (z .last .1 .1 .1 .1 .0) (z .result .count)) (z .last .1 .1 .1 .1 .1 .1 .0)
+          (subst (λ b. AllMade (tableOf (w .vars) (w .lows) (w .highs) (w .heads) (w .links) (w .n)) (results (Literals (u-from-else1 c .u .given .0 .0 .positive) (u-from-else1 c .u .given .0 .0 .negative)) (tableOf (w .vars) (w .lows) (w .highs) (w .heads) (w .links) (w .n)) (w .list) 1) b (tableOf (z .last .0) (z .last .1 .0) (z .last .1 .1 .0) (z .last .1 .1 .1 .0) (z .last .1 .1 .1 .1 .0) (z .result .count)) (z .last .1 .1 .1 .1 .1 .1 .0)) (c .if1 .left) (z .ensures .0)) (z .kept .1 .1 .1 .1 .1 .1 .0) (z .last .1 .1 .1 .1 .1 .1 .1 .0) (z .ensures .1 .1 (c .if1 .left)) (comes .1),
       z .kept .0 ∙ w .inv .3,
       z .kept .1 .0 ∙ w .inv .4,
       z .kept .1 .1 .0 ∙ w .inv .5,

@@ -1,6 +1,6 @@
 -- `entry_in` gives the entry number of its definition: two bytes, low byte first, are the field of two bytes. Assumes nothing.
 use Prim.Native.Nat.{ℕ}
-use mathlib.Core.Path.{_≡_, ap, sym, _∙_}
+use mathlib.Core.Path.{ap, sym, _∙_}
 use Rattle.records.proofs.Reading.{field-two}
 use borrow.Author.Needs.{needs}
 use Rattle.records.proofs.entry_in.Statement.{statement}

@@ -1,5 +1,4 @@
 -- `line_in` gives the line of its definition, cut short where the body has fewer than two bytes. Assumes nothing.
-use mathlib.Core.Path.{_≡_}
 use borrow.Author.Tests.{lt-ltb, le-ltb}
 use Rattle.records.specs.Records.{lineIn}
 use borrow.Author.Needs.{needs}

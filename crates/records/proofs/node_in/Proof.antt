@@ -1,5 +1,4 @@
 -- `node_in` gives the node record of its definition, cut short where the body has fewer than five bytes. Assumes nothing.
-use mathlib.Core.Path.{_≡_}
 use borrow.Author.Tests.{lt-ltb, le-ltb}
 use Rattle.records.specs.Records.{nodeIn}
 use Rattle.records.proofs.Reading.{field-one}

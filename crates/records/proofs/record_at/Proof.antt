@@ -1,6 +1,6 @@
 -- `record_at` gives the record of its definition at every place. Each arm knows the kind byte, and the kind's own function has read
 -- the bytes behind it; the last arm knows that the byte is none of the kinds. Assumes nothing.
-use mathlib.Core.Path.{_≡_, refl, sym, _∙_}
+use mathlib.Core.Path.{refl, sym, _∙_}
 use Rattle.records.specs.Records.{recordOf}
 use Rattle.records.proofs.Reading.{record-none, record-part, record-unknown}
 use borrow.Author.Needs.{needs}

@@ -1,5 +1,4 @@
 -- `witness_in` gives the witness record of its definition, cut short where the body has no byte. Assumes nothing.
-use mathlib.Core.Path.{_≡_}
 use borrow.Author.Tests.{lt-ltb, le-ltb}
 use Rattle.records.specs.Records.{witnessIn}
 use Rattle.records.proofs.Reading.{field-one}

@@ -19,72 +19,112 @@ enum-known-variables : tie.Need-enum-known-variables
 enum-known-variables c =
     search needs
 
+-- The ways back, written by ways.py: TO-from-FROM leads from the place FROM of the code to the place TO before it.
+module _ (c : tie.After-read-header) where
+  abbrev start-from-read-header : tie.Start
+  start-from-read-header = c .before .before .before .before .before .before .before .before .before .before .before .before
+
+module _ (c : tie.After-known-told) where
+  abbrev read-header-from-return : tie.After-read-header
+  read-header-from-return = c .before .before .before
+
+  abbrev start-from-return : tie.Start
+  start-from-return = start-from-read-header read-header-from-return
+
+module _ (c : tie.After-judge-clauses-arg9) where
+  abbrev variables-from-judge-clauses-call : tie.After-variables
+  variables-from-judge-clauses-call = c .before .before .before .before .before .before .before .before .before .before
+
+  abbrev read-header-from-judge-clauses-call : tie.After-read-header
+  read-header-from-judge-clauses-call = variables-from-judge-clauses-call .before .before
+
+  abbrev start-from-judge-clauses-call : tie.Start
+  start-from-judge-clauses-call = start-from-read-header read-header-from-judge-clauses-call
+
+module _ (c : tie.After-judge-clauses) where
+  abbrev variables-from-judge-clauses : tie.After-variables
+  variables-from-judge-clauses = c .before .before .before .before .before .before .before .before .before .before .before
+
+module _ (c : tie.After-slice-known18) where
+  abbrev judge-clauses-from-return-2 : tie.After-judge-clauses
+  judge-clauses-from-return-2 = c .before .before .before .before .before .before .before .before .before .before .before .before .before
+      .before .before .before .before .before
+
+  abbrev variables-from-return-2 : tie.After-variables
+  variables-from-return-2 = variables-from-judge-clauses judge-clauses-from-return-2
+
+  abbrev read-header-from-return-2 : tie.After-read-header
+  read-header-from-return-2 = variables-from-return-2 .before .before
+
+  abbrev start-from-return-2 : tie.Start
+  start-from-return-2 = start-from-read-header read-header-from-return-2
+
 judge-clauses-requires : tie.Need-judge-clauses-requires
 judge-clauses-requires c κs =
-    let start = c .before .before .before .before .before .before .before .before .before .before .before .before .before .before .before .before .before .before .before .before .before .before .before .before in
-    let after-read-header = c .before .before .before .before .before .before .before .before .before .before .before .before in
-    let after-variables = c .before .before .before .before .before .before .before .before .before .before in
+    let start = start-from-judge-clauses-call c in
+    let after-read-header = read-header-from-judge-clauses-call c in
+    let after-variables = variables-from-judge-clauses-call c in
     let b = header-bounds _ _ _ _ (sym (after-read-header .read-header .ensures) ∙ after-variables .variables .given .1) in
     (start .pre .0, (b .0, b .1, b .2, start .pre .1 .0, start .pre .1 .1, start .pre .1 .2))
 
 returns : tie.Need-returns
 returns c =
-    let start = c .before .before .before .before .before .before .before .before .before .before .before .before .before .before .before in
+    let start = start-from-return c in
     let a = start .args in
     unopened-is _ _ (start .pre .0) refl (length (a .scratch .now)) _ _
-    ∙ ap (outcome (length (a .vars .now)) (length (a .members .now)) (length (a .scratch .now))) (sym (verdict-improper (length (a .vars .now)) _ (a .proof .now) _ _ (sym (c .before .before .before .read-header .ensures) ∙ c .before .number .given .1)))
+    ∙ ap (outcome (length (a .vars .now)) (length (a .members .now)) (length (a .scratch .now))) (sym (verdict-improper (length (a .vars .now)) _ (a .proof .now) _ _ (sym (read-header-from-return c .read-header .ensures) ∙ c .before .number .given .1)))
 
 same-length : tie.Need-same-length
 same-length c =
-    let after-judge-clauses = c .before .before .before .before .before .before .before .before .before .before .before .before .before .before .before .before .before .before in
+    let after-judge-clauses = judge-clauses-from-return-2 c in
     after-judge-clauses .judge-clauses .kept .0
 
 same-length-2 : tie.Need-same-length-2
 same-length-2 c =
-    let after-judge-clauses = c .before .before .before .before .before .before .before .before .before .before .before .before .before .before .before .before .before .before in
+    let after-judge-clauses = judge-clauses-from-return-2 c in
     after-judge-clauses .judge-clauses .kept .1 .0
 
 same-length-3 : tie.Need-same-length-3
 same-length-3 c =
-    let after-judge-clauses = c .before .before .before .before .before .before .before .before .before .before .before .before .before .before .before .before .before .before in
+    let after-judge-clauses = judge-clauses-from-return-2 c in
     after-judge-clauses .judge-clauses .kept .1 .1 .0
 
 same-length-4 : tie.Need-same-length-4
 same-length-4 c =
-    let after-judge-clauses = c .before .before .before .before .before .before .before .before .before .before .before .before .before .before .before .before .before .before in
+    let after-judge-clauses = judge-clauses-from-return-2 c in
     after-judge-clauses .judge-clauses .kept .1 .1 .1 .0
 
 same-length-5 : tie.Need-same-length-5
 same-length-5 c =
-    let after-judge-clauses = c .before .before .before .before .before .before .before .before .before .before .before .before .before .before .before .before .before .before in
+    let after-judge-clauses = judge-clauses-from-return-2 c in
     after-judge-clauses .judge-clauses .kept .1 .1 .1 .1 .0
 
 same-length-6 : tie.Need-same-length-6
 same-length-6 c =
-    let after-judge-clauses = c .before .before .before .before .before .before .before .before .before .before .before .before .before .before .before .before .before .before in
+    let after-judge-clauses = judge-clauses-from-return-2 c in
     after-judge-clauses .judge-clauses .kept .1 .1 .1 .1 .1 .0
 
 same-length-7 : tie.Need-same-length-7
 same-length-7 c =
-    let after-judge-clauses = c .before .before .before .before .before .before .before .before .before .before .before .before .before .before .before .before .before .before in
+    let after-judge-clauses = judge-clauses-from-return-2 c in
     after-judge-clauses .judge-clauses .kept .1 .1 .1 .1 .1 .1 .0
 
 same-length-8 : tie.Need-same-length-8
 same-length-8 c =
-    let after-judge-clauses = c .before .before .before .before .before .before .before .before .before .before .before .before .before .before .before .before .before .before in
+    let after-judge-clauses = judge-clauses-from-return-2 c in
     after-judge-clauses .judge-clauses .kept .1 .1 .1 .1 .1 .1 .1 .0
 
 same-length-9 : tie.Need-same-length-9
 same-length-9 c =
-    let after-judge-clauses = c .before .before .before .before .before .before .before .before .before .before .before .before .before .before .before .before .before .before in
+    let after-judge-clauses = judge-clauses-from-return-2 c in
     after-judge-clauses .judge-clauses .kept .1 .1 .1 .1 .1 .1 .1 .1 .0
 
 returns-2 : tie.Need-returns-2
 returns-2 c =
-    let start = c .before .before .before .before .before .before .before .before .before .before .before .before .before .before .before .before .before .before .before .before .before .before .before .before .before .before .before .before .before .before .before .before .before .before .before .before .before .before .before .before .before .before .before in
-    let after-read-header = c .before .before .before .before .before .before .before .before .before .before .before .before .before .before .before .before .before .before .before .before .before .before .before .before .before .before .before .before .before .before .before in
-    let after-variables = c .before .before .before .before .before .before .before .before .before .before .before .before .before .before .before .before .before .before .before .before .before .before .before .before .before .before .before .before .before in
-    let after-judge-clauses = c .before .before .before .before .before .before .before .before .before .before .before .before .before .before .before .before .before .before in
+    let start = start-from-return-2 c in
+    let after-read-header = read-header-from-return-2 c in
+    let after-variables = variables-from-return-2 c in
+    let after-judge-clauses = judge-clauses-from-return-2 c in
     let a = start .args in
     after-judge-clauses .judge-clauses .ensures
     ∙ ap (outcome (length (a .vars .now)) (length (a .members .now)) (length (a .scratch .now))) (sym (verdict-proper (length (a .vars .now)) _ (a .proof .now) _ _ _ (sym (after-read-header .read-header .ensures) ∙ after-variables .variables .given .1)))

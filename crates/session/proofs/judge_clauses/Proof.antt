@@ -11,9 +11,75 @@ use Rattle.session.proofs.Finish.{refused-is, begun-is, unbegun-is}
 use Rattle.session.proofs.judge_clauses.Statement.{statement}
 use Rattle.session.proofs.judge_clauses.Tie as tie
 
+-- The ways back, written by ways.py: TO-from-FROM leads from the place FROM of the code to the place TO before it.
+module _ (c : tie.After-read-clauses-arg6) where
+  abbrev start-from-read-clauses-call : tie.Start
+  start-from-read-clauses-call = c .before .before .before .before .before .before .before .before .before .before .before .before .before
+      .before .before .before .before
+
+module _ (c : tie.After-read-clauses) where
+  abbrev start-from-read-clauses : tie.Start
+  start-from-read-clauses = c .before .before .before .before .before .before .before .before .before .before .before .before .before
+      .before .before .before .before .before
+
+module _ (c : tie.After-count) where
+  abbrev read-clauses-from-count : tie.After-read-clauses
+  read-clauses-from-count = c .before .before .before .before .before .before .before .before .before .before .before .before .before
+      .before
+
+module _ (c : tie.After-number) where
+  abbrev read-clauses-from-number : tie.After-read-clauses
+  read-clauses-from-number = c .before .before .before .before .before .before .before .before .before .before .before .before .before
+      .before
+
+module _ (c : tie.After-empty) where
+  abbrev number-from-empty : tie.After-number
+  number-from-empty = c .before .before .before .before .before .before
+
+module _ (c : tie.After-judge-proof-arg9) where
+  abbrev count-from-judge-proof-call : tie.After-count
+  count-from-judge-proof-call = c .before .before .before .before .before .before .before .before .before .before
+
+  abbrev read-clauses-from-judge-proof-call : tie.After-read-clauses
+  read-clauses-from-judge-proof-call = read-clauses-from-count count-from-judge-proof-call
+
+  abbrev start-from-judge-proof-call : tie.Start
+  start-from-judge-proof-call = start-from-read-clauses read-clauses-from-judge-proof-call
+
+module _ (c : tie.After-judge-proof) where
+  abbrev count-from-judge-proof : tie.After-count
+  count-from-judge-proof = c .before .before .before .before .before .before .before .before .before .before .before
+
+module _ (c : tie.After-slice-known19) where
+  abbrev empty-from-return : tie.After-empty
+  empty-from-return = c .before .before .before .before .before .before .before .before
+
+  abbrev number-from-return : tie.After-number
+  number-from-return = number-from-empty empty-from-return
+
+  abbrev read-clauses-from-return : tie.After-read-clauses
+  read-clauses-from-return = read-clauses-from-number number-from-return
+
+  abbrev start-from-return : tie.Start
+  start-from-return = start-from-read-clauses read-clauses-from-return
+
+module _ (c : tie.After-slice-known28) where
+  abbrev judge-proof-from-return-2 : tie.After-judge-proof
+  judge-proof-from-return-2 = c .before .before .before .before .before .before .before .before .before .before .before .before .before
+      .before .before .before .before .before
+
+  abbrev count-from-return-2 : tie.After-count
+  count-from-return-2 = count-from-judge-proof judge-proof-from-return-2
+
+  abbrev read-clauses-from-return-2 : tie.After-read-clauses
+  read-clauses-from-return-2 = read-clauses-from-count count-from-return-2
+
+  abbrev start-from-return-2 : tie.Start
+  start-from-return-2 = start-from-read-clauses read-clauses-from-return-2
+
 read-clauses-requires : tie.Need-read-clauses-requires
 read-clauses-requires c κs =
-    let start = c .before .before .before .before .before .before .before .before .before .before .before .before .before .before .before .before .before in
+    let start = start-from-read-clauses-call c in
     (start .pre .0, (start .pre .1 .0, start .pre .1 .1, start .pre .1 .2))
 
 enum-known-number : tie.Need-enum-known-number
@@ -30,9 +96,9 @@ enum-known-count c =
 
 judge-proof-requires : tie.Need-judge-proof-requires
 judge-proof-requires c κs =
-    let start = c .before .before .before .before .before .before .before .before .before .before .before .before .before .before .before .before .before .before .before .before .before .before .before .before .before .before .before .before .before .before .before .before .before .before .before .before .before .before .before .before .before .before in
-    let after-read-clauses = c .before .before .before .before .before .before .before .before .before .before .before .before .before .before .before .before .before .before .before .before .before .before .before .before in
-    let after-count = c .before .before .before .before .before .before .before .before .before .before in
+    let start = start-from-judge-proof-call c in
+    let after-read-clauses = read-clauses-from-judge-proof-call c in
+    let after-count = count-from-judge-proof-call c in
     let x = after-read-clauses .read-clauses .last in (
       subst (Begins (start .args .variables) (x .0) (x .1 .0) (x .1 .1 .0) (x .1 .1 .1 .0) (x .1 .1 .1 .1 .0) (x .1 .1 .1 .1 .1 .0)) (after-count .count .given .1) (after-read-clauses .read-clauses .ensures .1),
       start .pre .1 .0,
@@ -44,44 +110,44 @@ judge-proof-requires c κs =
 
 same-length : tie.Need-same-length
 same-length c =
-    let after-read-clauses = c .before .before .before .before .before .before .before .before .before .before .before .before .before .before .before .before .before .before .before .before .before .before .before .before .before .before .before .before in
-    let after-empty = c .before .before .before .before .before .before .before .before in
+    let after-read-clauses = read-clauses-from-return c in
+    let after-empty = empty-from-return c in
     after-empty .empty .kept .0 ∙ after-read-clauses .read-clauses .kept .0
 
 same-length-2 : tie.Need-same-length-2
 same-length-2 c =
-    let after-read-clauses = c .before .before .before .before .before .before .before .before .before .before .before .before .before .before .before .before .before .before .before .before .before .before .before .before .before .before .before .before in
-    let after-empty = c .before .before .before .before .before .before .before .before in
+    let after-read-clauses = read-clauses-from-return c in
+    let after-empty = empty-from-return c in
     after-empty .empty .kept .1 .0 ∙ after-read-clauses .read-clauses .kept .1 .0
 
 same-length-3 : tie.Need-same-length-3
 same-length-3 c =
-    let after-read-clauses = c .before .before .before .before .before .before .before .before .before .before .before .before .before .before .before .before .before .before .before .before .before .before .before .before .before .before .before .before in
-    let after-empty = c .before .before .before .before .before .before .before .before in
+    let after-read-clauses = read-clauses-from-return c in
+    let after-empty = empty-from-return c in
     after-empty .empty .kept .1 .1 .0 ∙ after-read-clauses .read-clauses .kept .1 .1 .0
 
 same-length-4 : tie.Need-same-length-4
 same-length-4 c =
-    let after-read-clauses = c .before .before .before .before .before .before .before .before .before .before .before .before .before .before .before .before .before .before .before .before .before .before .before .before .before .before .before .before in
+    let after-read-clauses = read-clauses-from-return c in
     after-read-clauses .read-clauses .kept .1 .1 .1 .0
 
 same-length-5 : tie.Need-same-length-5
 same-length-5 c =
-    let after-read-clauses = c .before .before .before .before .before .before .before .before .before .before .before .before .before .before .before .before .before .before .before .before .before .before .before .before .before .before .before .before in
+    let after-read-clauses = read-clauses-from-return c in
     after-read-clauses .read-clauses .kept .1 .1 .1 .1 .0
 
 same-length-6 : tie.Need-same-length-6
 same-length-6 c =
-    let after-read-clauses = c .before .before .before .before .before .before .before .before .before .before .before .before .before .before .before .before .before .before .before .before .before .before .before .before .before .before .before .before in
-    let after-empty = c .before .before .before .before .before .before .before .before in
+    let after-read-clauses = read-clauses-from-return c in
+    let after-empty = empty-from-return c in
     after-empty .empty .kept .1 .1 .1 .0 ∙ after-read-clauses .read-clauses .kept .1 .1 .1 .1 .1 .0
 
 returns : tie.Need-returns
 returns c =
-    let start = c .before .before .before .before .before .before .before .before .before .before .before .before .before .before .before .before .before .before .before .before .before .before .before .before .before .before .before .before .before .before .before .before .before .before .before .before .before .before .before .before .before .before .before .before .before .before in
-    let after-read-clauses = c .before .before .before .before .before .before .before .before .before .before .before .before .before .before .before .before .before .before .before .before .before .before .before .before .before .before .before .before in
-    let after-number = c .before .before .before .before .before .before .before .before .before .before .before .before .before .before in
-    let after-empty = c .before .before .before .before .before .before .before .before in
+    let start = start-from-return c in
+    let after-read-clauses = read-clauses-from-return c in
+    let after-number = number-from-return c in
+    let after-empty = empty-from-return c in
     let a = start .args in
     let x = after-read-clauses .read-clauses .last in
     let G = opened-good _ _ (start .pre .0) in
@@ -91,61 +157,61 @@ returns c =
 
 same-length-7 : tie.Need-same-length-7
 same-length-7 c =
-    let after-read-clauses = c .before .before .before .before .before .before .before .before .before .before .before .before .before .before .before .before .before .before .before .before .before .before .before .before .before .before .before .before .before .before .before .before .before .before .before .before .before .before .before .before .before .before .before in
-    let after-judge-proof = c .before .before .before .before .before .before .before .before .before .before .before .before .before .before .before .before .before .before in
+    let after-read-clauses = read-clauses-from-return-2 c in
+    let after-judge-proof = judge-proof-from-return-2 c in
     after-judge-proof .judge-proof .kept .0 ∙ after-read-clauses .read-clauses .kept .0
 
 same-length-8 : tie.Need-same-length-8
 same-length-8 c =
-    let after-read-clauses = c .before .before .before .before .before .before .before .before .before .before .before .before .before .before .before .before .before .before .before .before .before .before .before .before .before .before .before .before .before .before .before .before .before .before .before .before .before .before .before .before .before .before .before in
-    let after-judge-proof = c .before .before .before .before .before .before .before .before .before .before .before .before .before .before .before .before .before .before in
+    let after-read-clauses = read-clauses-from-return-2 c in
+    let after-judge-proof = judge-proof-from-return-2 c in
     after-judge-proof .judge-proof .kept .1 .0 ∙ after-read-clauses .read-clauses .kept .1 .0
 
 same-length-9 : tie.Need-same-length-9
 same-length-9 c =
-    let after-read-clauses = c .before .before .before .before .before .before .before .before .before .before .before .before .before .before .before .before .before .before .before .before .before .before .before .before .before .before .before .before .before .before .before .before .before .before .before .before .before .before .before .before .before .before .before in
-    let after-judge-proof = c .before .before .before .before .before .before .before .before .before .before .before .before .before .before .before .before .before .before in
+    let after-read-clauses = read-clauses-from-return-2 c in
+    let after-judge-proof = judge-proof-from-return-2 c in
     after-judge-proof .judge-proof .kept .1 .1 .0 ∙ after-read-clauses .read-clauses .kept .1 .1 .0
 
 same-length-10 : tie.Need-same-length-10
 same-length-10 c =
-    let after-read-clauses = c .before .before .before .before .before .before .before .before .before .before .before .before .before .before .before .before .before .before .before .before .before .before .before .before .before .before .before .before .before .before .before .before .before .before .before .before .before .before .before .before .before .before .before in
-    let after-judge-proof = c .before .before .before .before .before .before .before .before .before .before .before .before .before .before .before .before .before .before in
+    let after-read-clauses = read-clauses-from-return-2 c in
+    let after-judge-proof = judge-proof-from-return-2 c in
     after-judge-proof .judge-proof .kept .1 .1 .1 .0 ∙ after-read-clauses .read-clauses .kept .1 .1 .1 .0
 
 same-length-11 : tie.Need-same-length-11
 same-length-11 c =
-    let after-read-clauses = c .before .before .before .before .before .before .before .before .before .before .before .before .before .before .before .before .before .before .before .before .before .before .before .before .before .before .before .before .before .before .before .before .before .before .before .before .before .before .before .before .before .before .before in
-    let after-judge-proof = c .before .before .before .before .before .before .before .before .before .before .before .before .before .before .before .before .before .before in
+    let after-read-clauses = read-clauses-from-return-2 c in
+    let after-judge-proof = judge-proof-from-return-2 c in
     after-judge-proof .judge-proof .kept .1 .1 .1 .1 .0 ∙ after-read-clauses .read-clauses .kept .1 .1 .1 .1 .0
 
 same-length-12 : tie.Need-same-length-12
 same-length-12 c =
-    let after-judge-proof = c .before .before .before .before .before .before .before .before .before .before .before .before .before .before .before .before .before .before in
+    let after-judge-proof = judge-proof-from-return-2 c in
     after-judge-proof .judge-proof .kept .1 .1 .1 .1 .1 .0
 
 same-length-13 : tie.Need-same-length-13
 same-length-13 c =
-    let after-judge-proof = c .before .before .before .before .before .before .before .before .before .before .before .before .before .before .before .before .before .before in
+    let after-judge-proof = judge-proof-from-return-2 c in
     after-judge-proof .judge-proof .kept .1 .1 .1 .1 .1 .1 .0
 
 same-length-14 : tie.Need-same-length-14
 same-length-14 c =
-    let after-read-clauses = c .before .before .before .before .before .before .before .before .before .before .before .before .before .before .before .before .before .before .before .before .before .before .before .before .before .before .before .before .before .before .before .before .before .before .before .before .before .before .before .before .before .before .before in
-    let after-judge-proof = c .before .before .before .before .before .before .before .before .before .before .before .before .before .before .before .before .before .before in
+    let after-read-clauses = read-clauses-from-return-2 c in
+    let after-judge-proof = judge-proof-from-return-2 c in
     after-judge-proof .judge-proof .kept .1 .1 .1 .1 .1 .1 .1 .0 ∙ after-read-clauses .read-clauses .kept .1 .1 .1 .1 .1 .0
 
 same-length-15 : tie.Need-same-length-15
 same-length-15 c =
-    let after-judge-proof = c .before .before .before .before .before .before .before .before .before .before .before .before .before .before .before .before .before .before in
+    let after-judge-proof = judge-proof-from-return-2 c in
     after-judge-proof .judge-proof .kept .1 .1 .1 .1 .1 .1 .1 .1 .0
 
 returns-2 : tie.Need-returns-2
 returns-2 c =
-    let start = c .before .before .before .before .before .before .before .before .before .before .before .before .before .before .before .before .before .before .before .before .before .before .before .before .before .before .before .before .before .before .before .before .before .before .before .before .before .before .before .before .before .before .before .before .before .before .before .before .before .before .before .before .before .before .before .before .before .before .before .before .before in
-    let after-read-clauses = c .before .before .before .before .before .before .before .before .before .before .before .before .before .before .before .before .before .before .before .before .before .before .before .before .before .before .before .before .before .before .before .before .before .before .before .before .before .before .before .before .before .before .before in
-    let after-count = c .before .before .before .before .before .before .before .before .before .before .before .before .before .before .before .before .before .before .before .before .before .before .before .before .before .before .before .before .before in
-    let after-judge-proof = c .before .before .before .before .before .before .before .before .before .before .before .before .before .before .before .before .before .before in
+    let start = start-from-return-2 c in
+    let after-read-clauses = read-clauses-from-return-2 c in
+    let after-count = count-from-return-2 c in
+    let after-judge-proof = judge-proof-from-return-2 c in
     let a = start .args in
     let x = after-read-clauses .read-clauses .last in
     after-judge-proof .judge-proof .ensures ∙ begun-is (a .variables) (a .proof .now) (x .0) (x .1 .0) (x .1 .1 .0) (x .1 .1 .1 .0) (x .1 .1 .1 .1 .0) (x .1 .1 .1 .1 .1 .0) (length (a .vars .now)) (length (a .members .now)) (length (a .scratch .now)) _ _ (after-read-clauses .read-clauses .ensures .0 (a .proof .now)) _ _ (after-count .count .given .1) (after-read-clauses .read-clauses .kept .0) (after-read-clauses .read-clauses .kept .1 .1 .1 .1 .1 .0)

@@ -13,10 +13,40 @@ empty-requires : tie.Need-empty-requires
 empty-requires c κs =
     search needs
 
+-- The ways back, written by ways.py: TO-from-FROM leads from the place FROM of the code to the place TO before it.
+module _ (c : tie.After-empty) where
+  abbrev start-from-empty : tie.Start
+  start-from-empty = c .before .before .before .before .before .before .before .before .before .before .before .before .before .before
+      .before .before
+
+module _ (c : tie.After-judge-arg9) where
+  abbrev empty-from-judge-call : tie.After-empty
+  empty-from-judge-call = c .before .before .before .before .before .before .before .before .before .before .before .before .before .before
+      .before .before .before
+
+  abbrev start-from-judge-call : tie.Start
+  start-from-judge-call = start-from-empty empty-from-judge-call
+
+module _ (c : tie.After-judge) where
+  abbrev empty-from-judge : tie.After-empty
+  empty-from-judge = c .before .before .before .before .before .before .before .before .before .before .before .before .before .before
+      .before .before .before .before
+
+module _ (c : tie.After-slice-known23) where
+  abbrev judge-from-return : tie.After-judge
+  judge-from-return = c .before .before .before .before .before .before .before .before .before .before .before .before .before .before
+      .before .before .before .before .before .before .before .before
+
+  abbrev empty-from-return : tie.After-empty
+  empty-from-return = empty-from-judge judge-from-return
+
+  abbrev start-from-return : tie.Start
+  start-from-return = start-from-empty empty-from-return
+
 judge-requires : tie.Need-judge-requires
 judge-requires c κs =
-    let start = c .before .before .before .before .before .before .before .before .before .before .before .before .before .before .before .before .before .before .before .before .before .before .before .before .before .before .before .before .before .before .before .before .before in
-    let after-empty = c .before .before .before .before .before .before .before .before .before .before .before .before .before .before .before .before .before in
+    let start = start-from-judge-call c in
+    let after-empty = empty-from-judge-call c in
     let a = start .args in
     let z = lent-sized _ _ _ _ _ (start .pre .0) in (
       emptied-opened (length (a .vars .now)) (length (a .members .now)) (z .columns .least) (z .columns .most) (z .member-room) _ _ _ _ _ _
@@ -30,58 +60,58 @@ clear-numbers-requires c κs =
 
 same-length : tie.Need-same-length
 same-length c =
-    let after-empty = c .before .before .before .before .before .before .before .before .before .before .before .before .before .before .before .before .before .before .before .before .before .before .before .before .before .before .before .before .before .before .before .before .before .before .before .before .before .before .before .before in
-    let after-judge = c .before .before .before .before .before .before .before .before .before .before .before .before .before .before .before .before .before .before .before .before .before .before in
+    let after-empty = empty-from-return c in
+    let after-judge = judge-from-return c in
     after-judge .judge .kept .0 ∙ after-empty .empty .kept .0
 
 same-length-2 : tie.Need-same-length-2
 same-length-2 c =
-    let after-empty = c .before .before .before .before .before .before .before .before .before .before .before .before .before .before .before .before .before .before .before .before .before .before .before .before .before .before .before .before .before .before .before .before .before .before .before .before .before .before .before .before in
-    let after-judge = c .before .before .before .before .before .before .before .before .before .before .before .before .before .before .before .before .before .before .before .before .before .before in
+    let after-empty = empty-from-return c in
+    let after-judge = judge-from-return c in
     after-judge .judge .kept .1 .0 ∙ after-empty .empty .kept .1 .0
 
 same-length-3 : tie.Need-same-length-3
 same-length-3 c =
-    let after-empty = c .before .before .before .before .before .before .before .before .before .before .before .before .before .before .before .before .before .before .before .before .before .before .before .before .before .before .before .before .before .before .before .before .before .before .before .before .before .before .before .before in
-    let after-judge = c .before .before .before .before .before .before .before .before .before .before .before .before .before .before .before .before .before .before .before .before .before .before in
+    let after-empty = empty-from-return c in
+    let after-judge = judge-from-return c in
     after-judge .judge .kept .1 .1 .0 ∙ after-empty .empty .kept .1 .1 .0
 
 same-length-4 : tie.Need-same-length-4
 same-length-4 c =
-    let after-judge = c .before .before .before .before .before .before .before .before .before .before .before .before .before .before .before .before .before .before .before .before .before .before in
+    let after-judge = judge-from-return c in
     after-judge .judge .kept .1 .1 .1 .0
 
 same-length-5 : tie.Need-same-length-5
 same-length-5 c =
-    let after-judge = c .before .before .before .before .before .before .before .before .before .before .before .before .before .before .before .before .before .before .before .before .before .before in
+    let after-judge = judge-from-return c in
     after-judge .judge .kept .1 .1 .1 .1 .0
 
 same-length-6 : tie.Need-same-length-6
 same-length-6 c =
-    let after-judge = c .before .before .before .before .before .before .before .before .before .before .before .before .before .before .before .before .before .before .before .before .before .before in
+    let after-judge = judge-from-return c in
     after-judge .judge .kept .1 .1 .1 .1 .1 .0
 
 same-length-7 : tie.Need-same-length-7
 same-length-7 c =
-    let after-judge = c .before .before .before .before .before .before .before .before .before .before .before .before .before .before .before .before .before .before .before .before .before .before in
+    let after-judge = judge-from-return c in
     after-judge .judge .kept .1 .1 .1 .1 .1 .1 .0
 
 same-length-8 : tie.Need-same-length-8
 same-length-8 c =
-    let after-empty = c .before .before .before .before .before .before .before .before .before .before .before .before .before .before .before .before .before .before .before .before .before .before .before .before .before .before .before .before .before .before .before .before .before .before .before .before .before .before .before .before in
-    let after-judge = c .before .before .before .before .before .before .before .before .before .before .before .before .before .before .before .before .before .before .before .before .before .before in
+    let after-empty = empty-from-return c in
+    let after-judge = judge-from-return c in
     after-judge .judge .kept .1 .1 .1 .1 .1 .1 .1 .0 ∙ after-empty .empty .kept .1 .1 .1 .0
 
 same-length-9 : tie.Need-same-length-9
 same-length-9 c =
-    let after-judge = c .before .before .before .before .before .before .before .before .before .before .before .before .before .before .before .before .before .before .before .before .before .before in
+    let after-judge = judge-from-return c in
     c .before .before .clear-numbers .kept .0 ∙ after-judge .judge .kept .1 .1 .1 .1 .1 .1 .1 .1 .0
 
 returns : tie.Need-returns
 returns c =
-    let start = c .before .before .before .before .before .before .before .before .before .before .before .before .before .before .before .before .before .before .before .before .before .before .before .before .before .before .before .before .before .before .before .before .before .before .before .before .before .before .before .before .before .before .before .before .before .before .before .before .before .before .before .before .before .before .before .before in
-    let after-empty = c .before .before .before .before .before .before .before .before .before .before .before .before .before .before .before .before .before .before .before .before .before .before .before .before .before .before .before .before .before .before .before .before .before .before .before .before .before .before .before .before in
-    let after-judge = c .before .before .before .before .before .before .before .before .before .before .before .before .before .before .before .before .before .before .before .before .before .before in
+    let start = start-from-return c in
+    let after-empty = empty-from-return c in
+    let after-judge = judge-from-return c in
     let a = start .args in
     run-is (length (a .vars .now)) (length (a .members .now)) (length (a .scratch .now)) (a .formula .now) (a .proof .now) _ _ _ _ _ _ _ _ _
     (after-judge .judge .ensures) (after-empty .empty .kept .0) (after-empty .empty .kept .1 .1 .1 .0) (c .before .before .clear-numbers .ensures) (after-judge .judge .kept .1 .1 .1 .1 .1 .1 .1 .1 .0)

@@ -1,17 +1,11 @@
 -- `evaluate` says what its definition says, by the refusals in their order. Assumes nothing.
-use mathlib.Core.Path.{_≡_, sym, ap, _∙_}
+use mathlib.Core.Path.{sym, ap, _∙_}
 use mathlib.Core.Bool.{Bool}
 use borrow.Author.Tests.{not-true, not-false}
-use Rattle.single.specs.declared.Evaluated.{Evaluated}
 use Rattle.single.proofs.Refusals.{evaluated-7, evaluated-26, evaluated-13, evaluated-0, readable}
 use borrow.Author.Needs.{needs}
 use Rattle.single.proofs.evaluate.Statement.{statement}
 use Rattle.single.proofs.evaluate.Tie as tie
-use Rattle.single.proofs.evaluate.Reads as reads
-use Rattle.single.proofs.evaluate.Lts as lts
-use Rattle.single.proofs.order.good_order.Reads as good-order-reads
-use Rattle.table.proofs.test.size_fits.Reads as size-fits-reads
-use Rattle.walks.proofs.value_of.Reads as value-of-reads
 
 size-fits-requires : tie.Need-size-fits-requires
 size-fits-requires c κs = search needs
@@ -24,24 +18,69 @@ good-order-requires : tie.Need-good-order-requires
 good-order-requires c κs =
     (sym (c .before .size-fits .ensures) ∙ not-false _ (c .if1 .left))
 
+-- The ways back, written by ways.py: TO-from-FROM leads from the place FROM of the code to the place TO before it.
+module _ (c : tie.After-size-fits) where
+  abbrev start-from-size-fits : tie.Start
+  start-from-size-fits = c .before .before .before .before
+
+module _ (c : tie.Then2) where
+  abbrev size-fits-from-then2 : tie.After-size-fits
+  size-fits-from-then2 = c .before .before .before
+
+module _ (c : tie.Else3) where
+  abbrev good-order-from-else3 : tie.After-good-order
+  good-order-from-else3 = c .before .before .before
+
+  abbrev else1-from-else3 : tie.Else1
+  else1-from-else3 = good-order-from-else3 .before
+
+  abbrev size-fits-from-else3 : tie.After-size-fits
+  size-fits-from-else3 = else1-from-else3 .before
+
+module _ (c : tie.Then3) where
+  abbrev good-order-from-then3 : tie.After-good-order
+  good-order-from-then3 = c .before .before .before
+
+  abbrev else1-from-then3 : tie.Else1
+  else1-from-then3 = good-order-from-then3 .before
+
+  abbrev size-fits-from-then3 : tie.After-size-fits
+  size-fits-from-then3 = else1-from-then3 .before
+
+module _ (c : tie.After-value-of) where
+  abbrev else2-from-return-4 : tie.Else2
+  else2-from-return-4 = c .before .before .before
+
+  abbrev good-order-from-return-4 : tie.After-good-order
+  good-order-from-return-4 = else2-from-return-4 .before
+
+  abbrev else1-from-return-4 : tie.Else1
+  else1-from-return-4 = good-order-from-return-4 .before
+
+  abbrev size-fits-from-return-4 : tie.After-size-fits
+  size-fits-from-return-4 = else1-from-return-4 .before
+
+  abbrev start-from-return-4 : tie.Start
+  start-from-return-4 = start-from-size-fits size-fits-from-return-4
+
 returns-2 : tie.Need-returns-2
 returns-2 c =
-    evaluated-26 _ _ _ _ _ _ (sym (c .before .before .before .size-fits .ensures) ∙ not-false _ (c .before .before .if1 .left)) (sym (c .before .good-order .ensures) ∙ not-true _ (c .if2 .taken))
+    evaluated-26 _ _ _ _ _ _ (sym (size-fits-from-then2 c .size-fits .ensures) ∙ not-false _ (c .before .before .if1 .left)) (sym (c .before .good-order .ensures) ∙ not-true _ (c .if2 .taken))
 
 cast-if3 : tie.Need-cast-if3
 cast-if3 c = search needs
 
 returns-3 : tie.Need-returns-3
 returns-3 c =
-    evaluated-13 _ _ _ _ _ _ (sym (c .before .before .before .before .before .size-fits .ensures) ∙ not-false _ (c .before .before .before .before .if1 .left)) (sym (c .before .before .before .good-order .ensures) ∙ not-false _ (c .before .before .if2 .left)) (c .if3 .taken)
+    evaluated-13 _ _ _ _ _ _ (sym (size-fits-from-then3 c .size-fits .ensures) ∙ not-false _ (else1-from-then3 c .if1 .left)) (sym (good-order-from-then3 c .good-order .ensures) ∙ not-false _ (c .before .before .if2 .left)) (c .if3 .taken)
 
 value-of-requires : tie.Need-value-of-requires
 value-of-requires c κs =
-    (readable _ _ _ _ (sym (c .before .before .before .before .before .size-fits .ensures) ∙ not-false _ (c .before .before .before .before .if1 .left)) (sym (c .before .before .before .good-order .ensures) ∙ not-false _ (c .before .before .if2 .left)), c .if3 .left)
+    (readable _ _ _ _ (sym (size-fits-from-else3 c .size-fits .ensures) ∙ not-false _ (else1-from-else3 c .if1 .left)) (sym (good-order-from-else3 c .good-order .ensures) ∙ not-false _ (c .before .before .if2 .left)), c .if3 .left)
 
 returns-4 : tie.Need-returns-4
 returns-4 c =
-    ap (λ (b : Bool). record { number = 0; yes = b; count = c .before .before .before .before .before .before .before .before .before .before .args .count }) (c .value-of .ensures) ∙ evaluated-0 _ _ _ _ _ _ (sym (c .before .before .before .before .before .before .size-fits .ensures) ∙ not-false _ (c .before .before .before .before .before .if1 .left)) (sym (c .before .before .before .before .good-order .ensures) ∙ not-false _ (c .before .before .before .if2 .left)) (c .before .if3 .left)
+    ap (λ (b : Bool). record { number = 0; yes = b; count = start-from-return-4 c .args .count }) (c .value-of .ensures) ∙ evaluated-0 _ _ _ _ _ _ (sym (size-fits-from-return-4 c .size-fits .ensures) ∙ not-false _ (else1-from-return-4 c .if1 .left)) (sym (good-order-from-return-4 c .good-order .ensures) ∙ not-false _ (else2-from-return-4 c .if2 .left)) (c .before .if3 .left)
 
 pub evaluate-spec : {M : Type 1} → statement M
 evaluate-spec =

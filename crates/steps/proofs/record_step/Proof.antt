@@ -13,20 +13,96 @@ module _ (s : tie.Start) where
 enum-known-r : tie.Need-enum-known-r
 enum-known-r c = search needs
 
+-- The ways back, written by ways.py: TO-from-FROM leads from the place FROM of the code to the place TO before it.
+module _ (c : tie.After-enum-told2) where
+  abbrev start-from-return-5 : tie.Start
+  start-from-return-5 = c .before .before .before .before .before .before .before .before .before .before .before
+
+module _ (c : tie.After-enum-told3) where
+  abbrev start-from-return-6 : tie.Start
+  start-from-return-6 = c .before .before .before .before .before .before .before .before .before .before .before
+
+module _ (c : tie.After-enum-told4) where
+  abbrev start-from-return-7 : tie.Start
+  start-from-return-7 = c .before .before .before .before .before .before .before .before .before .before .before
+
+module _ (c : tie.After-r) where
+  abbrev start-from-r : tie.Start
+  start-from-r = c .before .before .before .before .before .before .before .before .before .before .before
+
+module _ (c : tie.After-r3) where
+  abbrev start-from-r3 : tie.Start
+  start-from-r3 = c .before .before .before .before .before .before .before .before .before .before .before
+
+module _ (c : tie.After-end-step) where
+  abbrev start-from-return-4 : tie.Start
+  start-from-return-4 = c .before .before .before .before .before .before .before .before .before .before .before .before
+
+module _ (c : tie.After-known-told2) where
+  abbrev start-from-witness-step-call : tie.Start
+  start-from-witness-step-call = c .before .before .before .before .before .before .before .before .before .before .before .before
+
+module _ (c : tie.After-witness-step) where
+  abbrev start-from-return-2 : tie.Start
+  start-from-return-2 = c .before .before .before .before .before .before .before .before .before .before .before .before .before
+
+module _ (c : tie.After-node-step-arg6) where
+  abbrev r-from-node-step-call : tie.After-r
+  r-from-node-step-call = c .before .before .before .before .before .before .before
+
+  abbrev start-from-node-step-call : tie.Start
+  start-from-node-step-call = start-from-r r-from-node-step-call
+
+module _ (c : tie.After-node-step) where
+  abbrev r-from-node-step : tie.After-r
+  r-from-node-step = c .before .before .before .before .before .before .before .before
+
+module _ (c : tie.After-line-step-arg9) where
+  abbrev r3-from-line-step-call : tie.After-r3
+  r3-from-line-step-call = c .before .before .before .before .before .before .before .before .before .before
+
+  abbrev start-from-line-step-call : tie.Start
+  start-from-line-step-call = start-from-r3 r3-from-line-step-call
+
+module _ (c : tie.After-line-step) where
+  abbrev r3-from-line-step : tie.After-r3
+  r3-from-line-step = c .before .before .before .before .before .before .before .before .before .before .before
+
+module _ (c : tie.After-slice-known15) where
+  abbrev node-step-from-return : tie.After-node-step
+  node-step-from-return = c .before .before .before .before .before .before .before .before .before .before .before .before
+
+  abbrev r-from-return : tie.After-r
+  r-from-return = r-from-node-step node-step-from-return
+
+  abbrev start-from-return : tie.Start
+  start-from-return = start-from-r r-from-return
+
+module _ (c : tie.After-slice-known24) where
+  abbrev line-step-from-return-3 : tie.After-line-step
+  line-step-from-return-3 = c .before .before .before .before .before .before .before .before .before .before .before .before .before
+      .before .before .before .before .before
+
+  abbrev r3-from-return-3 : tie.After-r3
+  r3-from-return-3 = r3-from-line-step line-step-from-return-3
+
+  abbrev start-from-return-3 : tie.Start
+  start-from-return-3 = start-from-r3 r3-from-return-3
+
 node-step-requires : tie.Need-node-step-requires
-node-step-requires c κs = c .before .before .before .before .before .before .before .before .before .before .before .before .before .before .before .before .before .before .pre .0 .entries
+node-step-requires c κs = start-from-node-step-call c .pre .0 .entries
 
 enum-known-r-2 : tie.Need-enum-known-r-2
 enum-known-r-2 c = search needs
 
 witness-step-requires : tie.Need-witness-step-requires
-witness-step-requires c κs = c .before .before .before .before .before .before .before .before .before .before .before .before .pre .0 .entries .narrow
+witness-step-requires c κs = start-from-witness-step-call c .pre .0 .entries .narrow
 
 enum-known-r-3 : tie.Need-enum-known-r-3
 enum-known-r-3 c = search needs
 
 line-step-requires : tie.Need-line-step-requires
-line-step-requires c κs = let s = c .before .before .before .before .before .before .before .before .before .before .before .before .before .before .before .before .before .before .before .before .before in (held-64 (s .args .variables) (lent s) (s .args .st) (s .pre .0), s .pre .1, s .pre .2)
+line-step-requires c κs = let s = start-from-line-step-call c in (held-64 (s .args .variables) (lent s) (s .args .st) (s .pre .0), s .pre .1, s .pre .2)
 
 enum-told : tie.Need-enum-told
 enum-told c = search needs
@@ -44,70 +120,70 @@ enum-told-4 : tie.Need-enum-told-4
 enum-told-4 c = search needs
 
 same-length : tie.Need-same-length
-same-length c = c .before .before .before .before .before .before .before .before .before .before .before .before .node-step .kept .0
+same-length c = node-step-from-return c .node-step .kept .0
 
 same-length-2 : tie.Need-same-length-2
-same-length-2 c = c .before .before .before .before .before .before .before .before .before .before .before .before .node-step .kept .1 .0
+same-length-2 c = node-step-from-return c .node-step .kept .1 .0
 
 same-length-3 : tie.Need-same-length-3
-same-length-3 c = c .before .before .before .before .before .before .before .before .before .before .before .before .node-step .kept .1 .1 .0
+same-length-3 c = node-step-from-return c .node-step .kept .1 .1 .0
 
 same-length-4 : tie.Need-same-length-4
-same-length-4 c = c .before .before .before .before .before .before .before .before .before .before .before .before .node-step .kept .1 .1 .1 .0
+same-length-4 c = node-step-from-return c .node-step .kept .1 .1 .1 .0
 
 same-length-5 : tie.Need-same-length-5
-same-length-5 c = c .before .before .before .before .before .before .before .before .before .before .before .before .node-step .kept .1 .1 .1 .1 .0
+same-length-5 c = node-step-from-return c .node-step .kept .1 .1 .1 .1 .0
 
 same-length-6 : tie.Need-same-length-6
-same-length-6 c = c .before .before .before .before .before .before .before .before .before .before .before .before .node-step .kept .1 .1 .1 .1 .1 .0
+same-length-6 c = node-step-from-return c .node-step .kept .1 .1 .1 .1 .1 .0
 
 returns : tie.Need-returns
-returns c = let s = c .before .before .before .before .before .before .before .before .before .before .before .before .before .before .before .before .before .before .before .before .before .before .before .before .before .before .before .before .before .before .before in (as-node _ _ _ _ _ _ _ _ _ (c .before .before .before .before .before .before .before .before .before .before .before .before .before .before .before .before .before .before .before .before .r .given .1) (c .before .before .before .before .before .before .before .before .before .before .before .before .node-step .ensures (s .args .members .now) (s .pre .0)), s .pre .1)
+returns c = let s = start-from-return c in (as-node _ _ _ _ _ _ _ _ _ (r-from-return c .r .given .1) (node-step-from-return c .node-step .ensures (s .args .members .now) (s .pre .0)), s .pre .1)
 
 returns-2 : tie.Need-returns-2
-returns-2 c = let s = c .before .before .before .before .before .before .before .before .before .before .before .before .before in (as-witness _ _ _ _ _ _ _ _ _ _ (c .before .before .r2 .given .1) (c .witness-step .ensures (lent s) (s .pre .0)), s .pre .1)
+returns-2 c = let s = start-from-return-2 c in (as-witness _ _ _ _ _ _ _ _ _ _ (c .before .before .r2 .given .1) (c .witness-step .ensures (lent s) (s .pre .0)), s .pre .1)
 
 same-length-7 : tie.Need-same-length-7
-same-length-7 c = c .before .before .before .before .before .before .before .before .before .before .before .before .before .before .before .before .before .before .line-step .kept .0
+same-length-7 c = line-step-from-return-3 c .line-step .kept .0
 
 same-length-8 : tie.Need-same-length-8
-same-length-8 c = c .before .before .before .before .before .before .before .before .before .before .before .before .before .before .before .before .before .before .line-step .kept .1 .0
+same-length-8 c = line-step-from-return-3 c .line-step .kept .1 .0
 
 same-length-9 : tie.Need-same-length-9
-same-length-9 c = c .before .before .before .before .before .before .before .before .before .before .before .before .before .before .before .before .before .before .line-step .kept .1 .1 .0
+same-length-9 c = line-step-from-return-3 c .line-step .kept .1 .1 .0
 
 same-length-10 : tie.Need-same-length-10
-same-length-10 c = c .before .before .before .before .before .before .before .before .before .before .before .before .before .before .before .before .before .before .line-step .kept .1 .1 .1 .0
+same-length-10 c = line-step-from-return-3 c .line-step .kept .1 .1 .1 .0
 
 same-length-11 : tie.Need-same-length-11
-same-length-11 c = c .before .before .before .before .before .before .before .before .before .before .before .before .before .before .before .before .before .before .line-step .kept .1 .1 .1 .1 .0
+same-length-11 c = line-step-from-return-3 c .line-step .kept .1 .1 .1 .1 .0
 
 same-length-12 : tie.Need-same-length-12
-same-length-12 c = c .before .before .before .before .before .before .before .before .before .before .before .before .before .before .before .before .before .before .line-step .kept .1 .1 .1 .1 .1 .0
+same-length-12 c = line-step-from-return-3 c .line-step .kept .1 .1 .1 .1 .1 .0
 
 same-length-13 : tie.Need-same-length-13
-same-length-13 c = c .before .before .before .before .before .before .before .before .before .before .before .before .before .before .before .before .before .before .line-step .kept .1 .1 .1 .1 .1 .1 .0
+same-length-13 c = line-step-from-return-3 c .line-step .kept .1 .1 .1 .1 .1 .1 .0
 
 same-length-14 : tie.Need-same-length-14
-same-length-14 c = c .before .before .before .before .before .before .before .before .before .before .before .before .before .before .before .before .before .before .line-step .kept .1 .1 .1 .1 .1 .1 .1 .0
+same-length-14 c = line-step-from-return-3 c .line-step .kept .1 .1 .1 .1 .1 .1 .1 .0
 
 same-length-15 : tie.Need-same-length-15
-same-length-15 c = c .before .before .before .before .before .before .before .before .before .before .before .before .before .before .before .before .before .before .line-step .kept .1 .1 .1 .1 .1 .1 .1 .1 .0
+same-length-15 c = line-step-from-return-3 c .line-step .kept .1 .1 .1 .1 .1 .1 .1 .1 .0
 
 returns-3 : tie.Need-returns-3
-returns-3 c = let s = c .before .before .before .before .before .before .before .before .before .before .before .before .before .before .before .before .before .before .before .before .before .before .before .before .before .before .before .before .before .before .before .before .before .before .before .before .before .before .before .before in (as-line _ _ _ _ _ _ _ _ _ _ (c .before .before .before .before .before .before .before .before .before .before .before .before .before .before .before .before .before .before .before .before .before .before .before .before .before .before .before .before .before .r3 .given .1) (c .before .before .before .before .before .before .before .before .before .before .before .before .before .before .before .before .before .before .line-step .ensures .0 (s .args .variables) (s .pre .0)), c .before .before .before .before .before .before .before .before .before .before .before .before .before .before .before .before .before .before .line-step .ensures .1)
+returns-3 c = let s = start-from-return-3 c in (as-line _ _ _ _ _ _ _ _ _ _ (r3-from-return-3 c .r3 .given .1) (line-step-from-return-3 c .line-step .ensures .0 (s .args .variables) (s .pre .0)), line-step-from-return-3 c .line-step .ensures .1)
 
 returns-4 : tie.Need-returns-4
-returns-4 c = let s = c .before .before .before .before .before .before .before .before .before .before .before .before in (as-end _ _ _ _ _ _ _ _ (c .before .enum-told .given .1) (c .end-step .ensures (s .args .variables) (lent s)), s .pre .1)
+returns-4 c = let s = start-from-return-4 c in (as-end _ _ _ _ _ _ _ _ (c .before .enum-told .given .1) (c .end-step .ensures (s .args .variables) (lent s)), s .pre .1)
 
 returns-5 : tie.Need-returns-5
-returns-5 c = let s = c .before .before .before .before .before .before .before .before .before .before .before in (cut-short _ _ _ _ _ _ (c .enum-told2 .given .1), s .pre .1)
+returns-5 c = let s = start-from-return-5 c in (cut-short _ _ _ _ _ _ (c .enum-told2 .given .1), s .pre .1)
 
 returns-6 : tie.Need-returns-6
-returns-6 c = let s = c .before .before .before .before .before .before .before .before .before .before .before in (unknown-kind _ _ _ _ _ _ (c .enum-told3 .given .1), s .pre .1)
+returns-6 c = let s = start-from-return-6 c in (unknown-kind _ _ _ _ _ _ (c .enum-told3 .given .1), s .pre .1)
 
 returns-7 : tie.Need-returns-7
-returns-7 c = let s = c .before .before .before .before .before .before .before .before .before .before .before in (no-record _ _ _ _ _ _ (c .enum-told4 .given .1), s .pre .1)
+returns-7 c = let s = start-from-return-7 c in (no-record _ _ _ _ _ _ (c .enum-told4 .given .1), s .pre .1)
 
 pub record-step-spec : {M : Type 1} → statement M
 record-step-spec = tie.close (tie.spec enum-known-r node-step-requires enum-known-r-2 witness-step-requires enum-known-r-3 line-step-requires enum-told end-step-requires enum-told-2 enum-told-3 enum-told-4 same-length same-length-2 same-length-3 same-length-4 same-length-5 same-length-6 returns returns-2 same-length-7 same-length-8 same-length-9 same-length-10 same-length-11 same-length-12 same-length-13 same-length-14 same-length-15 returns-3 returns-4 returns-5 returns-6 returns-7)

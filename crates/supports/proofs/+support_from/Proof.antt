@@ -56,10 +56,75 @@ module _ {t : ℕ} (s : support-from-lts.Start (callees t) (support-from-at t) s
   measure : s .args .f .0 ≡ t
   measure = s .pre .0
 
+-- The ways back, written by ways.py: TO-from-FROM leads from the place FROM of the code to the place TO before it.
+module _ {t : ℕ} (c : support-from-lts.Else1 (callees t) (support-from-at t) support-from.Post) where
+  abbrev start-from-else1 : support-from-lts.Start (callees t) (support-from-at t) support-from.Post
+  start-from-else1 = c .before .before .before .before .before .before
+
+module _ {t : ℕ} (c : support-from-lts.Then1 (callees t) (support-from-at t) support-from.Post) where
+  abbrev start-from-then1 : support-from-lts.Start (callees t) (support-from-at t) support-from.Post
+  start-from-then1 = c .before .before .before .before .before .before
+
+module _ {t : ℕ} (c : support-from-lts.After-slice-known2 (callees t) (support-from-at t) support-from.Post) where
+  abbrev start-from-slice-read-known : support-from-lts.Start (callees t) (support-from-at t) support-from.Post
+  start-from-slice-read-known = start-from-else1 (c .before .before)
+
+module _ {t : ℕ} (c : support-from-lts.Then2 (callees t) (support-from-at t) support-from.Post) where
+  abbrev start-from-then2 : support-from-lts.Start (callees t) (support-from-at t) support-from.Post
+  start-from-then2 = start-from-else1 (c .before .before .before)
+
+module _ {t : ℕ} (c : support-from-lts.After-support-from-arg (callees t) (support-from-at t) support-from.Post) where
+  abbrev struct-known2-from-support-from-call : support-from-lts.After-struct-known2 (callees t) (support-from-at t) support-from.Post
+  struct-known2-from-support-from-call = c .before .before .before .before .before .before
+
+  abbrev else1-from-support-from-call : support-from-lts.Else1 (callees t) (support-from-at t) support-from.Post
+  else1-from-support-from-call = struct-known2-from-support-from-call .before
+
+  abbrev start-from-support-from-call : support-from-lts.Start (callees t) (support-from-at t) support-from.Post
+  start-from-support-from-call = start-from-else1 else1-from-support-from-call
+
+module _ {t : ℕ} (c : support-from-lts.After-support-from (callees t) (support-from-at t) support-from.Post) where
+  abbrev struct-known2-from-support-from : support-from-lts.After-struct-known2 (callees t) (support-from-at t) support-from.Post
+  struct-known2-from-support-from = c .before .before .before .before .before .before .before
+
+module _ {t : ℕ} (c : support-from-lts.After-support-from-arg2 (callees t) (support-from-at t) support-from.Post) where
+  abbrev support-from-from-support-from-call-2 : support-from-lts.After-support-from (callees t) (support-from-at t) support-from.Post
+  support-from-from-support-from-call-2 = c .before .before .before
+
+  abbrev else1-from-support-from-call-2 : support-from-lts.Else1 (callees t) (support-from-at t) support-from.Post
+  else1-from-support-from-call-2 = struct-known2-from-support-from support-from-from-support-from-call-2 .before
+
+  abbrev start-from-support-from-call-2 : support-from-lts.Start (callees t) (support-from-at t) support-from.Post
+  start-from-support-from-call-2 = start-from-else1 else1-from-support-from-call-2
+
+module _ {t : ℕ} (c : support-from-lts.After-support-from2 (callees t) (support-from-at t) support-from.Post) where
+  abbrev support-from-from-support-from2 : support-from-lts.After-support-from (callees t) (support-from-at t) support-from.Post
+  support-from-from-support-from2 = c .before .before .before .before
+
+module _ {t : ℕ} (c : support-from-lts.After-slice-known4 (callees t) (support-from-at t) support-from.Post) where
+  abbrev else1-from-with-variable-call : support-from-lts.Else1 (callees t) (support-from-at t) support-from.Post
+  else1-from-with-variable-call = struct-known2-from-support-from (support-from-from-support-from2 (c .before .before)) .before
+
+module _ {t : ℕ} (c : support-from-lts.After-with-variable (callees t) (support-from-at t) support-from.Post) where
+  abbrev support-from2-from-return-3 : support-from-lts.After-support-from2 (callees t) (support-from-at t) support-from.Post
+  support-from2-from-return-3 = c .before .before .before
+
+  abbrev support-from-from-return-3 : support-from-lts.After-support-from (callees t) (support-from-at t) support-from.Post
+  support-from-from-return-3 = support-from-from-support-from2 support-from2-from-return-3
+
+  abbrev struct-known2-from-return-3 : support-from-lts.After-struct-known2 (callees t) (support-from-at t) support-from.Post
+  struct-known2-from-return-3 = struct-known2-from-support-from support-from-from-return-3
+
+  abbrev else1-from-return-3 : support-from-lts.Else1 (callees t) (support-from-at t) support-from.Post
+  else1-from-return-3 = struct-known2-from-return-3 .before
+
+  abbrev start-from-return-3 : support-from-lts.Start (callees t) (support-from-at t) support-from.Post
+  start-from-return-3 = start-from-else1 else1-from-return-3
+
 -- past the constants
 module _ {t : ℕ} (e : support-from-lts.Else1 (callees t) (support-from-at t) support-from.Post) where
   abbrev start : support-from-lts.Start (callees t) (support-from-at t) support-from.Post
-  start = e .before .before .before .before .before .before
+  start = start-from-else1 e
 
   two : 2 ≤ start .args .f .0
   two = omega (arith, e .if1 .left)
@@ -69,7 +134,7 @@ module _ {t : ℕ} (e : support-from-lts.Else1 (callees t) (support-from-at t) s
 
 support-from-returns : (t : ℕ) → support-from-lts.Need-returns (callees t) (support-from-at t) support-from.Post
 support-from-returns t c =
-    let s = c .before .before .before .before .before .before in (support-leaf (nodes s) (s .args .f .0) 0 (c .if1 .taken), right s)
+    let s = start-from-then1 c in (support-leaf (nodes s) (s .args .f .0) 0 (c .if1 .taken), right s)
 
 support-from-cast-i : (t : ℕ) → support-from-lts.Need-cast-i (callees t) (support-from-at t) support-from.Post
 support-from-cast-i t c =
@@ -81,11 +146,11 @@ support-from-mul-known t c =
 
 support-from-slice-read-known : (t : ℕ) → support-from-lts.Need-slice-read-known (callees t) (support-from-at t) support-from.Post
 support-from-slice-read-known t c =
-    cell (c .before .before .before .before .before .before .before .before)
+    cell (start-from-slice-read-known c)
 
 support-from-returns-2 : (t : ℕ) → support-from-lts.Need-returns-2 (callees t) (support-from-at t) support-from.Post
 support-from-returns-2 t c =
-    let s = c .before .before .before .before .before .before .before .before .before in (memo-known (nodes s) (s .args .memo .now) (s .args .f .0) (in-nodes s) (right s) (c .if2 .taken), right s)
+    let s = start-from-then2 c in (memo-known (nodes s) (s .args .memo .now) (s .args .f .0) (in-nodes s) (right s) (c .if2 .taken), right s)
 
 support-from-shared-slice-read-v : (t : ℕ) → support-from-lts.Need-shared-slice-read-v (callees t) (support-from-at t) support-from.Post
 support-from-shared-slice-read-v t c =
@@ -109,36 +174,36 @@ support-from-shared-slice-read-t22-2 t c =
 
 support-from-support-from-requires : (t : ℕ) → support-from-lts.Need-support-from-requires (callees t) (support-from-at t) support-from.Post
 support-from-support-from-requires t c κs =
-    let s = c .before .before .before .before .before .before .before .before .before .before .before .before .before in (omega (arith, measure s, at-node (c .before .before .before .before .before .before .before) .low-less), ((readable s, omega (arith, inside s, at-node (c .before .before .before .before .before .before .before) .low-less), room s), right s))
+    let s = start-from-support-from-call c in (omega (arith, measure s, at-node (else1-from-support-from-call c) .low-less), ((readable s, omega (arith, inside s, at-node (else1-from-support-from-call c) .low-less), room s), right s))
 
 support-from-support-from-requires-2 : (t : ℕ) → support-from-lts.Need-support-from-requires-2 (callees t) (support-from-at t) support-from.Post
 support-from-support-from-requires-2 t c κs =
-    let s = c .before .before .before .before .before .before .before .before .before .before .before .before .before .before .before .before .before in let k = c .before .before .before .support-from in (omega (arith, measure s, at-node (c .before .before .before .before .before .before .before .before .before .before .before) .high-less), ((readable s, omega (arith, inside s, at-node (c .before .before .before .before .before .before .before .before .before .before .before) .high-less), omega (arith, room s, k .kept .1 .1 .1 .0)), k .ensures .1))
+    let s = start-from-support-from-call-2 c in let k = support-from-from-support-from-call-2 c .support-from in (omega (arith, measure s, at-node (else1-from-support-from-call-2 c) .high-less), ((readable s, omega (arith, inside s, at-node (else1-from-support-from-call-2 c) .high-less), omega (arith, room s, k .kept .1 .1 .1 .0)), k .ensures .1))
 
 support-from-with-variable-requires : (t : ℕ) → support-from-lts.Need-with-variable-requires (callees t) (support-from-at t) support-from.Post
 support-from-with-variable-requires t c κs =
-    (at-node (c .before .before .before .before .before .before .before .before .before .before .before .before .before .before) .least, at-node (c .before .before .before .before .before .before .before .before .before .before .before .before .before .before) .most)
+    (at-node (else1-from-with-variable-call c) .least, at-node (else1-from-with-variable-call c) .most)
 
 support-from-mul-memo : (t : ℕ) → support-from-lts.Need-mul-memo (callees t) (support-from-at t) support-from.Post
 support-from-mul-memo t c =
-    support-from-mul-known t (c .before .before .before .before .before .before .before .before .before .before .before .before .before .before)
+    support-from-mul-known t (struct-known2-from-return-3 c)
 
 support-from-slice-write-memo : (t : ℕ) → support-from-lts.Need-slice-write-memo (callees t) (support-from-at t) support-from.Post
 support-from-slice-write-memo t c =
-    let s = c .before .before .before .before .before .before .before .before .before .before .before .before .before .before .before .before .before .before .before .before .before in omega (arith, cell s, c .before .before .before .before .before .before .before .support-from .kept .1 .1 .1 .0, c .before .before .before .support-from2 .kept .1 .1 .1 .0)
+    let s = start-from-return-3 c in omega (arith, cell s, support-from-from-return-3 c .support-from .kept .1 .1 .1 .0, support-from2-from-return-3 c .support-from2 .kept .1 .1 .1 .0)
 
 support-from-same-length : (t : ℕ) → support-from-lts.Need-same-length (callees t) (support-from-at t) support-from.Post
 support-from-same-length t c =
-    length-set (c .before .before .before .support-from2 .last .1 .1 .1 .0) _ _ ∙ c .before .before .before .support-from2 .kept .1 .1 .1 .0 ∙ c .before .before .before .before .before .before .before .support-from .kept .1 .1 .1 .0
+    length-set (support-from2-from-return-3 c .support-from2 .last .1 .1 .1 .0) _ _ ∙ support-from2-from-return-3 c .support-from2 .kept .1 .1 .1 .0 ∙ support-from-from-return-3 c .support-from .kept .1 .1 .1 .0
 
 support-from-returns-3 : (t : ℕ) → support-from-lts.Need-returns-3 (callees t) (support-from-at t) support-from.Post
 support-from-returns-3 t c =
-    let s = c .before .before .before .before .before .before .before .before .before .before .before .before .before .before .before .before .before .before .before .before .before in
-    let k₁ = c .before .before .before .before .before .before .before .support-from in
-    let k₂ = c .before .before .before .support-from2 in
+    let s = start-from-return-3 c in
+    let k₁ = support-from-from-return-3 c .support-from in
+    let k₂ = support-from2-from-return-3 c .support-from2 in
     let is : Support (c .with-variable .result) (diagramAt (nodes s) (s .args .f .0)) =
     subst (λ (x : ℕ). Support x (diagramAt (nodes s) (s .args .f .0))) (sym (c .with-variable .ensures))
-    (support-node (s .args .vars .now) (s .args .lows .now) (s .args .highs .now) (s .args .count) (readable s) (s .args .f .0) (two (c .before .before .before .before .before .before .before .before .before .before .before .before .before .before .before)) (inside s) (k₁ .result) (k₂ .result) (k₁ .ensures .0) (k₂ .ensures .0)) in
+    (support-node (s .args .vars .now) (s .args .lows .now) (s .args .highs .now) (s .args .count) (readable s) (s .args .f .0) (two (else1-from-return-3 c)) (inside s) (k₁ .result) (k₂ .result) (k₁ .ensures .0) (k₂ .ensures .0)) in
     (is, memo-stored (nodes s) (k₂ .last .1 .1 .1 .0) (s .args .f .0) (c .with-variable .result) (omega (arith, cell s, k₁ .kept .1 .1 .1 .0, k₂ .kept .1 .1 .1 .0)) (k₂ .ensures .1) is)
 
 pub +support-from-spec : {M : Type 1} → statement M

@@ -19,15 +19,56 @@ abbrev μ-loop : tie.MeasureT-loop
 μ-loop vars lows highs memo₀ count list words₀ i₀ memo words i =
     length list - i
 
+-- The ways back, written by ways.py: TO-from-FROM leads from the place FROM of the code to the place TO before it.
+module _ (c : tie.After-clear-memo-arg Inv-loop μ-loop) where
+  abbrev start-from-clear-memo-call : tie.Start Inv-loop μ-loop
+  start-from-clear-memo-call = c .before .before .before .before .before .before .before
+
+module _ (c : tie.After-clear-memo Inv-loop μ-loop) where
+  abbrev start-from-clear-memo : tie.Start Inv-loop μ-loop
+  start-from-clear-memo = c .before .before .before .before .before .before .before .before
+
+module _ (c : tie.After-slice-known3 Inv-loop μ-loop) where
+  abbrev start-from-loop-holds : tie.Start Inv-loop μ-loop
+  start-from-loop-holds = start-from-clear-memo (c .before .before)
+
+module _ (c : tie.At-loop Inv-loop μ-loop) where
+  abbrev clear-memo-from-at-loop : tie.After-clear-memo Inv-loop μ-loop
+  clear-memo-from-at-loop = c .before .before .before
+
+module _ (c : tie.After-loop Inv-loop μ-loop) where
+  abbrev start-from-return : tie.Start Inv-loop μ-loop
+  start-from-return = start-from-clear-memo (clear-memo-from-at-loop (c .before))
+
+module _ (c : tie.After-support-from-arg Inv-loop μ-loop) where
+  abbrev at-loop-from-support-from-call : tie.At-loop Inv-loop μ-loop
+  at-loop-from-support-from-call = c .before .before .before
+
+  abbrev clear-memo-from-support-from-call : tie.After-clear-memo Inv-loop μ-loop
+  clear-memo-from-support-from-call = clear-memo-from-at-loop at-loop-from-support-from-call
+
+  abbrev start-from-support-from-call : tie.Start Inv-loop μ-loop
+  start-from-support-from-call = start-from-clear-memo clear-memo-from-support-from-call
+
+module _ (c : tie.After-slice-known4 Inv-loop μ-loop) where
+  abbrev in-loop-from-loop-again : tie.In-loop Inv-loop μ-loop
+  in-loop-from-loop-again = c .before .before .before .before .before
+
+  abbrev at-loop-from-loop-again : tie.At-loop Inv-loop μ-loop
+  at-loop-from-loop-again = in-loop-from-loop-again .before
+
+  abbrev start-from-loop-again : tie.Start Inv-loop μ-loop
+  start-from-loop-again = start-from-clear-memo (clear-memo-from-at-loop at-loop-from-loop-again)
+
 clear-memo-requires : tie.Need-clear-memo-requires Inv-loop μ-loop
 clear-memo-requires c κs =
-    omega (arith, c .before .before .before .before .before .before .before .pre .0 .within, c .before .before .before .before .before .before .before .pre .2)
+    omega (arith, start-from-clear-memo-call c .pre .0 .within, start-from-clear-memo-call c .pre .2)
 
 loop-holds : tie.Need-loop-holds Inv-loop μ-loop
 loop-holds c =
-    let a = c .before .before .before .before .before .before .before .before .before .before .args in
+    let a = start-from-loop-holds c .args in
     let nodes = nodesIn (a .vars .now) (a .lows .now) (a .highs .now) (a .count) in
-    (filled-none nodes (a .list .now) (a .words .now) (c .before .before .before .before .before .before .before .before .before .before .pre .3), memo-cleared nodes _ (a .count) (length-in (a .vars .now) (a .lows .now) (a .highs .now) (a .count) (c .before .before .before .before .before .before .before .before .before .before .pre .0)) (c .before .before .clear-memo .ensures), refl, refl)
+    (filled-none nodes (a .list .now) (a .words .now) (start-from-loop-holds c .pre .3), memo-cleared nodes _ (a .count) (length-in (a .vars .now) (a .lows .now) (a .highs .now) (a .count) (start-from-loop-holds c .pre .0)) (c .before .before .clear-memo .ensures), refl, refl)
 
 mul-t13 : tie.Need-mul-t13 Inv-loop μ-loop
 mul-t13 c =
@@ -39,9 +80,9 @@ shared-slice-read-t16 c =
 
 support-from-requires : tie.Need-support-from-requires Inv-loop μ-loop
 support-from-requires c κs =
-    let r = c .before .before .before .before .before .before .before .before .before .before .before .before .before .before .pre in
-    let w = c .before .before .before .loop in
-    ((r .0, r .1 (w .i) (c .before .before .loop-test .taken), omega (arith, w .inv .2, c .before .before .before .before .before .before .clear-memo .kept .0, r .2)), w .inv .1)
+    let r = start-from-support-from-call c .pre in
+    let w = at-loop-from-support-from-call c .loop in
+    ((r .0, r .1 (w .i) (c .before .before .loop-test .taken), omega (arith, w .inv .2, clear-memo-from-support-from-call c .clear-memo .kept .0, r .2)), w .inv .1)
 
 mul-words : tie.Need-mul-words Inv-loop μ-loop
 mul-words c =
@@ -61,10 +102,10 @@ loop-less c =
 
 loop-again : tie.Need-loop-again Inv-loop μ-loop
 loop-again c =
-    let a = c .before .before .before .before .before .before .before .before .before .before .before .before .before .before .before .before .before .args in
-    let w = c .before .before .before .before .before .before .loop in
+    let a = start-from-loop-again c .args in
+    let w = at-loop-from-loop-again c .loop in
     let y = c .before .before .support-from in
-    (filled-next (nodesIn (a .vars .now) (a .lows .now) (a .highs .now) (a .count)) (a .list .now) (w .words) (w .i) (y .result) (w .inv .0) (c .before .before .before .before .before .loop-test .taken) (y .ensures .0), y .ensures .1, y .kept .1 .1 .1 .0 ∙ w .inv .2, length-set (w .words) (w .i) (y .result) ∙ w .inv .3)
+    (filled-next (nodesIn (a .vars .now) (a .lows .now) (a .highs .now) (a .count)) (a .list .now) (w .words) (w .i) (y .result) (w .inv .0) (in-loop-from-loop-again c .loop-test .taken) (y .ensures .0), y .ensures .1, y .kept .1 .1 .1 .0 ∙ w .inv .2, length-set (w .words) (w .i) (y .result) ∙ w .inv .3)
 
 same-length : tie.Need-same-length Inv-loop μ-loop
 same-length c =
@@ -76,7 +117,7 @@ same-length-2 c =
 
 returns : tie.Need-returns Inv-loop μ-loop
 returns c =
-    let a = c .before .before .before .before .before .before .before .before .before .before .before .before .args in
+    let a = start-from-return c .args in
     let w = c .before .loop in
     (filled-all (nodesIn (a .vars .now) (a .lows .now) (a .highs .now) (a .count)) (a .list .now) (w .words) (w .i) (w .inv .0) (omega (arith, c .loop-test .left)), w .inv .1)
 

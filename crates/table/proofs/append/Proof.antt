@@ -38,10 +38,22 @@ same-length-4 c = search needs
 same-length-5 : tie.Need-same-length-5
 same-length-5 c = search needs
 
+-- The ways back, written by ways.py: TO-from-FROM leads from the place FROM of the code to the place TO before it.
+module _ (c : tie.After-link) where
+  abbrev start-from-link : tie.Start
+  start-from-link = c .before .before .before .before .before .before .before .before
+
+module _ (c : tie.After-slice-known7) where
+  abbrev link-from-return : tie.After-link
+  link-from-return = c .before .before .before .before
+
+  abbrev start-from-return : tie.Start
+  start-from-return = start-from-link link-from-return
+
 returns : tie.Need-returns
 returns c =
-    let a = c .before .before .before .before .before .before .before .before .before .before .before .before .args in
-    appended (tableOf (a .vars .now) (a .lows .now) (a .highs .now) (a .heads .now) (a .links .now) (a .count)) (c .before .before .before .before .before .before .before .before .before .before .before .before .pre .0) (a .v) (a .l) (a .h) _ _ (c .before .before .before .before .before .before .before .before .before .before .before .before .pre .1) (c .before .before .before .before .link .ensures)
+    let a = start-from-return c .args in
+    appended (tableOf (a .vars .now) (a .lows .now) (a .highs .now) (a .heads .now) (a .links .now) (a .count)) (start-from-return c .pre .0) (a .v) (a .l) (a .h) _ _ (start-from-return c .pre .1) (link-from-return c .link .ensures)
 
 pub append-spec : {M : Type 1} → statement M
 append-spec =

@@ -32,10 +32,18 @@ cast-result c = search needs
 rem-result : tie.Need-rem-result
 rem-result c = search needs
 
+-- The ways back, written by ways.py: TO-from-FROM leads from the place FROM of the code to the place TO before it.
+module _ (c : tie.After-wrapping-add-u322) where
+  abbrev wrapping-product-from-return : tie.After-wrapping-product
+  wrapping-product-from-return = c .before .before .before
+
+  abbrev start-from-return : tie.Start
+  start-from-return = wrapping-product-from-return .before
+
 returns : tie.Need-returns
 unfolding bucket
 returns c =
-    (ap (λ (k : ℕ). k % c .before .before .before .before .args .heads) (key-is _ _ _ _ _ _ _ (c .before .before .before .wrapping-product .ensures) (c .before .before .wrapping-product2 .ensures) (c .before .wrapping-add-u32 .ensures) (c .wrapping-add-u322 .ensures)), mod-lt _ (c .before .before .before .before .pre))
+    (ap (λ (k : ℕ). k % start-from-return c .args .heads) (key-is _ _ _ _ _ _ _ (wrapping-product-from-return c .wrapping-product .ensures) (c .before .before .wrapping-product2 .ensures) (c .before .wrapping-add-u32 .ensures) (c .wrapping-add-u322 .ensures)), mod-lt _ (start-from-return c .pre))
 
 pub bucket-of-spec : {M : Type 1} → statement M
 bucket-of-spec =

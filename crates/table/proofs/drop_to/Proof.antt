@@ -14,9 +14,28 @@ abbrev μ-loop : tie.MeasureT-loop
 μ-loop vars₀ lows₀ highs₀ heads₀ links₀ count keep n k₀ vars lows highs heads links k =
     k
 
+-- The ways back, written by ways.py: TO-from-FROM leads from the place FROM of the code to the place TO before it.
+module _ (c : tie.After-slice-known5 Inv-loop μ-loop) where
+  abbrev start-from-loop-holds : tie.Start Inv-loop μ-loop
+  start-from-loop-holds = c .before .before .before .before .before
+
+module _ (c : tie.At-loop Inv-loop μ-loop) where
+  abbrev start-from-at-loop : tie.Start Inv-loop μ-loop
+  start-from-at-loop = c .before .before .before .before .before .before
+
+module _ (c : tie.After-slice-known9 Inv-loop μ-loop) where
+  abbrev in-loop-from-loop-again : tie.In-loop Inv-loop μ-loop
+  in-loop-from-loop-again = c .before .before .before .before .before
+
+  abbrev at-loop-from-loop-again : tie.At-loop Inv-loop μ-loop
+  at-loop-from-loop-again = in-loop-from-loop-again .before
+
+  abbrev start-from-loop-again : tie.Start Inv-loop μ-loop
+  start-from-loop-again = start-from-at-loop at-loop-from-loop-again
+
 loop-holds : tie.Need-loop-holds Inv-loop μ-loop
 loop-holds c =
-    drop-start _ _ (c .before .before .before .before .before .pre .0) (c .before .before .before .before .before .pre .2)
+    drop-start _ _ (start-from-loop-holds c .pre .0) (start-from-loop-holds c .pre .2)
 
 sub-k : tie.Need-sub-k Inv-loop μ-loop
 sub-k c = search needs
@@ -77,7 +96,7 @@ loop-less c = search needs
 
 loop-again : tie.Need-loop-again Inv-loop μ-loop
 loop-again c =
-    drop-next _ _ _ _ _ (c .before .before .before .before .before .before .before .before .before .before .before .before .pre .0) (c .before .before .before .before .before .before .before .before .before .before .before .before .pre .1) (c .before .before .before .before .before .loop-test .taken) (c .before .before .before .before .before .before .loop .inv) refl (c .before .bucket-of .ensures .0)
+    drop-next _ _ _ _ _ (start-from-loop-again c .pre .0) (start-from-loop-again c .pre .1) (in-loop-from-loop-again c .loop-test .taken) (at-loop-from-loop-again c .loop .inv) refl (c .before .bucket-of .ensures .0)
 
 same-length : tie.Need-same-length Inv-loop μ-loop
 same-length c = search needs

@@ -37,9 +37,14 @@ same-length c = search needs
 same-length-2 : tie.Need-same-length-2
 same-length-2 c = search needs
 
+-- The ways back, written by ways.py: TO-from-FROM leads from the place FROM of the code to the place TO before it.
+module _ (c : tie.After-slice-known3) where
+  abbrev start-from-return : tie.Start
+  start-from-return = c .before .before .before .before
+
 returns : tie.Need-returns
 returns c =
-    ap (λ (b : ℕ). indexMade (set (c .before .before .before .before .args .heads .now) b (c .before .before .before .before .args .k)) (set (c .before .before .before .before .args .links .now) (c .before .before .before .before .args .k) (getD (c .before .before .before .before .args .heads .now) b 0))) (c .before .bucket-of .ensures .0)
+    ap (λ (b : ℕ). indexMade (set (start-from-return c .args .heads .now) b (start-from-return c .args .k)) (set (start-from-return c .args .links .now) (start-from-return c .args .k) (getD (start-from-return c .args .heads .now) b 0))) (c .before .bucket-of .ensures .0)
 
 pub link-spec : {M : Type 1} → statement M
 link-spec =

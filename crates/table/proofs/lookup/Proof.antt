@@ -26,9 +26,42 @@ mul-k c = search needs
 shared-slice-read-k : tie.Need-shared-slice-read-k Inv-loop μ-loop
 shared-slice-read-k c = search needs
 
+-- The ways back, written by ways.py: TO-from-FROM leads from the place FROM of the code to the place TO before it.
+module _ (c : tie.After-shared-slice-known6 Inv-loop μ-loop) where
+  abbrev start-from-loop-holds : tie.Start Inv-loop μ-loop
+  start-from-loop-holds = c .before .before .before .before .before .before .before
+
+module _ (c : tie.At-loop Inv-loop μ-loop) where
+  abbrev start-from-at-loop : tie.Start Inv-loop μ-loop
+  start-from-at-loop = c .before .before .before .before .before .before .before .before
+
+module _ (c : tie.After-loop Inv-loop μ-loop) where
+  abbrev start-from-return-2 : tie.Start Inv-loop μ-loop
+  start-from-return-2 = start-from-at-loop (c .before)
+
+module _ (c : tie.After-shared-slice-known10 Inv-loop μ-loop) where
+  abbrev in-loop-from-loop-again : tie.In-loop Inv-loop μ-loop
+  in-loop-from-loop-again = c .before .before .before
+
+  abbrev at-loop-from-loop-again : tie.At-loop Inv-loop μ-loop
+  at-loop-from-loop-again = in-loop-from-loop-again .before
+
+  abbrev start-from-loop-again : tie.Start Inv-loop μ-loop
+  start-from-loop-again = start-from-at-loop at-loop-from-loop-again
+
+module _ (c : tie.Then3 Inv-loop μ-loop) where
+  abbrev in-loop-from-then3 : tie.In-loop Inv-loop μ-loop
+  in-loop-from-then3 = c .before .before .before .before .before .before .before .before
+
+  abbrev at-loop-from-then3 : tie.At-loop Inv-loop μ-loop
+  at-loop-from-then3 = in-loop-from-then3 .before
+
+  abbrev start-from-then3 : tie.Start Inv-loop μ-loop
+  start-from-then3 = start-from-at-loop at-loop-from-then3
+
 loop-holds : tie.Need-loop-holds Inv-loop μ-loop
 loop-holds c =
-    chain-start _ (c .before .before .before .before .before .before .before .pre) (nodeOf (c .before .before .before .before .before .before .before .args .v) (c .before .before .before .before .before .before .before .args .l .0) (c .before .before .before .before .before .before .before .args .h .0)) _ (c .before .bucket-of .ensures .0)
+    chain-start _ (start-from-loop-holds c .pre) (nodeOf (start-from-loop-holds c .args .v) (start-from-loop-holds c .args .l .0) (start-from-loop-holds c .args .h .0)) _ (c .before .bucket-of .ensures .0)
 
 cast-i : tie.Need-cast-i Inv-loop μ-loop
 cast-i c = search needs
@@ -51,7 +84,7 @@ shared-slice-read-if3 c = search needs
 returns : tie.Need-returns Inv-loop μ-loop
 unfolding alike
 returns c =
-    ap foundOf (sym (chain-hit _ (c .before .before .before .before .before .before .before .before .before .before .before .before .before .before .before .before .before .pre) _ _ (c .before .before .before .before .before .before .before .before .loop-test .taken) (c .before .before .before .before .before .before .before .before .before .loop .inv)
+    ap foundOf (sym (chain-hit _ (start-from-then3 c .pre) _ _ (in-loop-from-then3 c .loop-test .taken) (at-loop-from-then3 c .loop .inv)
     (rw (eq-eqb _ _ (c .before .before .before .before .before .before .if1 .taken), c .before .before .before .if2 .taken, c .if3 .taken))))
 
 mul-k-2 : tie.Need-mul-k-2 Inv-loop μ-loop
@@ -62,12 +95,12 @@ shared-slice-read-k-2 c = search needs
 
 loop-less : tie.Need-loop-less Inv-loop μ-loop
 loop-less c =
-    chain-less _ (c .before .before .before .before .before .before .before .before .before .before .before .before .pre) _ _ (c .before .before .before .loop-test .taken) (c .before .before .before .before .loop .inv)
+    chain-less _ (start-from-loop-again c .pre) _ _ (in-loop-from-loop-again c .loop-test .taken) (at-loop-from-loop-again c .loop .inv)
 
 loop-again : tie.Need-loop-again Inv-loop μ-loop
 unfolding alike
 loop-again c =
-    let next = chain-next _ (c .before .before .before .before .before .before .before .before .before .before .before .before .pre) _ _ (c .before .before .before .loop-test .taken) (c .before .before .before .before .loop .inv) in
+    let next = chain-next _ (start-from-loop-again c .pre) _ _ (in-loop-from-loop-again c .loop-test .taken) (at-loop-from-loop-again c .loop .inv) in
     ⊎-elim
     (λ w. next (rw (eq-eqb _ _ (w .0 .taken), w .3 .taken, w .6 .left)))
     (λ w. ⊎-elim (λ u. next (rw (eq-eqb _ _ (u .0 .taken), u .3 .left))) (λ u. next (rw (ne-eqb _ _ (u .left)))) w)
@@ -75,7 +108,7 @@ loop-again c =
 
 returns-2 : tie.Need-returns-2 Inv-loop μ-loop
 returns-2 c =
-    ap foundOf (sym (chain-end _ (c .before .before .before .before .before .before .before .before .before .pre) _ _ (c .loop-test .left) (c .before .loop .inv)))
+    ap foundOf (sym (chain-end _ (start-from-return-2 c .pre) _ _ (c .loop-test .left) (c .before .loop .inv)))
 
 pub lookup-spec : {M : Type 1} → statement M
 lookup-spec =

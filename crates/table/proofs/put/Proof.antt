@@ -7,13 +7,76 @@ use borrow.Author.Needs.{needs}
 use Rattle.table.proofs.put.Statement.{statement}
 use Rattle.table.proofs.put.Tie as tie
 
+-- The ways back, written by ways.py: TO-from-FROM leads from the place FROM of the code to the place TO before it.
+module _ (c : tie.Else1) where
+  abbrev start-from-else1 : tie.Start
+  start-from-else1 = c .before .before .before .before .before .before .before .before
+
+module _ (c : tie.Then1) where
+  abbrev start-from-then1 : tie.Start
+  start-from-then1 = c .before .before .before .before .before .before .before .before
+
+module _ (c : tie.After-lookup-arg5) where
+  abbrev else1-from-lookup-call : tie.Else1
+  else1-from-lookup-call = c .before .before .before .before .before
+
+  abbrev start-from-lookup-call : tie.Start
+  start-from-lookup-call = start-from-else1 else1-from-lookup-call
+
+module _ (c : tie.After-lookup) where
+  abbrev else1-from-lookup : tie.Else1
+  else1-from-lookup = c .before .before .before .before .before .before
+
+module _ (c : tie.After-known-told) where
+  abbrev lookup-from-return-2 : tie.After-lookup
+  lookup-from-return-2 = c .before .before .before
+
+  abbrev else1-from-return-2 : tie.Else1
+  else1-from-return-2 = else1-from-lookup lookup-from-return-2
+
+  abbrev start-from-return-2 : tie.Start
+  start-from-return-2 = start-from-else1 else1-from-return-2
+
+module _ (c : tie.Else2) where
+  abbrev lookup-from-else2 : tie.After-lookup
+  lookup-from-else2 = c .before .before .before
+
+  abbrev else1-from-else2 : tie.Else1
+  else1-from-else2 = else1-from-lookup lookup-from-else2
+
+  abbrev start-from-else2 : tie.Start
+  start-from-else2 = start-from-else1 else1-from-else2
+
+module _ (c : tie.After-append) where
+  abbrev then2-from-append : tie.Then2
+  then2-from-append = c .before .before .before .before .before .before
+
+module _ (c : tie.After-slice-known10) where
+  abbrev append-from-return-3 : tie.After-append
+  append-from-return-3 = c .before .before .before .before .before .before .before .before .before .before
+
+  abbrev then2-from-return-3 : tie.Then2
+  then2-from-return-3 = then2-from-append append-from-return-3
+
+  abbrev enum-told-from-return-3 : tie.After-enum-told
+  enum-told-from-return-3 = then2-from-return-3 .before
+
+  abbrev lookup-from-return-3 : tie.After-lookup
+  lookup-from-return-3 = enum-told-from-return-3 .before .before
+
+  abbrev else1-from-return-3 : tie.Else1
+  else1-from-return-3 = else1-from-lookup lookup-from-return-3
+
+  abbrev start-from-return-3 : tie.Start
+  start-from-return-3 = start-from-else1 else1-from-return-3
+
 returns : tie.Need-returns
 returns c =
-    put-equal _ (c .before .before .before .before .before .before .before .before .pre) _ _ _ (c .if1 .taken)
+    put-equal _ (start-from-then1 c .pre) _ _ _ (c .if1 .taken)
 
 lookup-requires : tie.Need-lookup-requires
 lookup-requires c κs =
-    good-linked _ (c .before .before .before .before .before .before .before .before .before .before .before .before .before .pre)
+    good-linked _ (start-from-lookup-call c .pre)
 
 enum-known-k : tie.Need-enum-known-k
 enum-known-k c = search needs
@@ -26,7 +89,7 @@ append-requires c κs = search needs
 
 cast-t38 : tie.Need-cast-t38
 cast-t38 c =
-    omega (arith, c .before .before .before .before .before .before .before .before .before .before .before .before .before .before .before .before .before .before .before .before .before .before .before .before .before .before .before .before .before .before .before .before .before .pre .most, c .before .before .before .before .before .before .before .before .before .before .before .before .before .before .before .before .if2 .taken)
+    omega (arith, start-from-return-3 c .pre .most, then2-from-return-3 c .if2 .taken)
 
 add-t40 : tie.Need-add-t40
 add-t40 c = search needs
@@ -48,7 +111,7 @@ same-length-5 c = search needs
 
 returns-2 : tie.Need-returns-2
 returns-2 c =
-    put-found _ (c .before .before .before .before .before .before .before .before .before .before .before .before .before .before .before .before .before .pre) _ _ _ (c .before .before .before .before .before .before .before .before .before .if1 .left) _ (found-some _ _ (sym (c .before .before .before .lookup .ensures) ∙ c .before .k .given .1))
+    put-found _ (start-from-return-2 c .pre) _ _ _ (else1-from-return-2 c .if1 .left) _ (found-some _ _ (sym (lookup-from-return-2 c .lookup .ensures) ∙ c .before .k .given .1))
 
 same-length-6 : tie.Need-same-length-6
 same-length-6 c = search needs
@@ -67,7 +130,7 @@ same-length-10 c = search needs
 
 returns-3 : tie.Need-returns-3
 returns-3 c =
-    put-new _ (c .before .before .before .before .before .before .before .before .before .before .before .before .before .before .before .before .before .before .before .before .before .before .before .before .before .before .before .before .before .before .before .before .before .pre) _ _ _ (c .before .before .before .before .before .before .before .before .before .before .before .before .before .before .before .before .before .before .before .before .before .before .before .before .before .if1 .left) _ (found-none _ (sym (c .before .before .before .before .before .before .before .before .before .before .before .before .before .before .before .before .before .before .before .lookup .ensures) ∙ c .before .before .before .before .before .before .before .before .before .before .before .before .before .before .before .before .before .enum-told .given .1)) (c .before .before .before .before .before .before .before .before .before .before .before .before .before .before .before .before .if2 .taken) (c .before .before .before .before .before .before .before .before .before .before .append .ensures)
+    put-new _ (start-from-return-3 c .pre) _ _ _ (else1-from-return-3 c .if1 .left) _ (found-none _ (sym (lookup-from-return-3 c .lookup .ensures) ∙ enum-told-from-return-3 c .enum-told .given .1)) (then2-from-return-3 c .if2 .taken) (append-from-return-3 c .append .ensures)
 
 same-length-11 : tie.Need-same-length-11
 same-length-11 c = search needs
@@ -86,7 +149,7 @@ same-length-15 c = search needs
 
 returns-4 : tie.Need-returns-4
 returns-4 c =
-    put-full _ (c .before .before .before .before .before .before .before .before .before .before .before .before .before .before .before .before .before .pre) _ _ _ (c .before .before .before .before .before .before .before .before .before .if1 .left) (found-none _ (sym (c .before .before .before .lookup .ensures) ∙ c .before .enum-told .given .1)) (c .if2 .left)
+    put-full _ (start-from-else2 c .pre) _ _ _ (else1-from-else2 c .if1 .left) (found-none _ (sym (lookup-from-else2 c .lookup .ensures) ∙ c .before .enum-told .given .1)) (c .if2 .left)
 
 pub put-spec : {M : Type 1} → statement M
 put-spec =

@@ -47,10 +47,105 @@ module _ {t : ℕ} (s : strike-lts.Start (strike-callees t) (strike-at t) strike
   cell-inside : s .args .f .0 < length (s .args .memo .now)
   cell-inside = omega (arith, ready .room, ready .inside, ready .readable .within)
 
+-- The ways back, written by ways.py: TO-from-FROM leads from the place FROM of the code to the place TO before it.
+module _ {t : ℕ} (c : strike-lts.Then1 (strike-callees t) (strike-at t) strike.Post) where
+  abbrev start-from-then1 : strike-lts.Start (strike-callees t) (strike-at t) strike.Post
+  start-from-then1 = c .before .before .before .before .before .before
+
+module _ {t : ℕ} (c : strike-lts.Else2 (strike-callees t) (strike-at t) strike.Post) where
+  abbrev start-from-else2 : strike-lts.Start (strike-callees t) (strike-at t) strike.Post
+  start-from-else2 = c .before .before .before .before .before .before .before .before
+
+module _ {t : ℕ} (c : strike-lts.Then2 (strike-callees t) (strike-at t) strike.Post) where
+  abbrev start-from-then2 : strike-lts.Start (strike-callees t) (strike-at t) strike.Post
+  start-from-then2 = c .before .before .before .before .before .before .before .before
+
+module _ {t : ℕ} (c : strike-lts.After-strike-to (strike-callees t) (strike-at t) strike.Post) where
+  abbrev start-from-return-2 : strike-lts.Start (strike-callees t) (strike-at t) strike.Post
+  start-from-return-2 = c .before .before .before .before .before .before .before .before .before
+
+module _ {t : ℕ} (c : strike-lts.After-shared-slice-known6 (strike-callees t) (strike-at t) strike.Post) where
+  abbrev else2-from-past-call : strike-lts.Else2 (strike-callees t) (strike-at t) strike.Post
+  else2-from-past-call = c .before .before .before .before
+
+module _ {t : ℕ} (c : strike-lts.After-past (strike-callees t) (strike-at t) strike.Post) where
+  abbrev else2-from-past-call-2 : strike-lts.Else2 (strike-callees t) (strike-at t) strike.Post
+  else2-from-past-call-2 = c .before .before .before .before .before
+
+module _ {t : ℕ} (c : strike-lts.After-past2 (strike-callees t) (strike-at t) strike.Post) where
+  abbrev else2-from-strike-to-call-2 : strike-lts.Else2 (strike-callees t) (strike-at t) strike.Post
+  else2-from-strike-to-call-2 = c .before .before .before .before .before .before
+
+  abbrev start-from-strike-to-call-2 : strike-lts.Start (strike-callees t) (strike-at t) strike.Post
+  start-from-strike-to-call-2 = start-from-else2 else2-from-strike-to-call-2
+
+module _ {t : ℕ} (c : strike-lts.After-strike-to2 (strike-callees t) (strike-at t) strike.Post) where
+  abbrev else2-from-strike-to2 : strike-lts.Else2 (strike-callees t) (strike-at t) strike.Post
+  else2-from-strike-to2 = c .before .before .before .before .before .before .before
+
+module _ {t : ℕ} (c : strike-lts.Else3 (strike-callees t) (strike-at t) strike.Post) where
+  abbrev start-from-else3 : strike-lts.Start (strike-callees t) (strike-at t) strike.Post
+  start-from-else3 = start-from-else2 (else2-from-strike-to2 (c .before .before))
+
+module _ {t : ℕ} (c : strike-lts.Then3 (strike-callees t) (strike-at t) strike.Post) where
+  abbrev start-from-then3 : strike-lts.Start (strike-callees t) (strike-at t) strike.Post
+  start-from-then3 = start-from-else2 (else2-from-strike-to2 (c .before .before))
+
+module _ {t : ℕ} (c : strike-lts.After-slice-known2 (strike-callees t) (strike-at t) strike.Post) where
+  abbrev strike-to2-from-slice-read-if4 : strike-lts.After-strike-to2 (strike-callees t) (strike-at t) strike.Post
+  strike-to2-from-slice-read-if4 = c .before .before .before
+
+  abbrev start-from-slice-read-if4 : strike-lts.Start (strike-callees t) (strike-at t) strike.Post
+  start-from-slice-read-if4 = start-from-else2 (else2-from-strike-to2 strike-to2-from-slice-read-if4)
+
+module _ {t : ℕ} (c : strike-lts.Then4 (strike-callees t) (strike-at t) strike.Post) where
+  abbrev strike-to2-from-then4 : strike-lts.After-strike-to2 (strike-callees t) (strike-at t) strike.Post
+  strike-to2-from-then4 = c .before .before .before .before
+
+  abbrev start-from-then4 : strike-lts.Start (strike-callees t) (strike-at t) strike.Post
+  start-from-then4 = start-from-else2 (else2-from-strike-to2 strike-to2-from-then4)
+
+module _ {t : ℕ} (c : strike-lts.After-strike-arg (strike-callees t) (strike-at t) strike.Post) where
+  abbrev strike-to2-from-strike-call : strike-lts.After-strike-to2 (strike-callees t) (strike-at t) strike.Post
+  strike-to2-from-strike-call = c .before .before .before .before .before
+
+  abbrev else2-from-strike-call : strike-lts.Else2 (strike-callees t) (strike-at t) strike.Post
+  else2-from-strike-call = else2-from-strike-to2 strike-to2-from-strike-call
+
+  abbrev start-from-strike-call : strike-lts.Start (strike-callees t) (strike-at t) strike.Post
+  start-from-strike-call = start-from-else2 else2-from-strike-call
+
+module _ {t : ℕ} (c : strike-lts.After-strike (strike-callees t) (strike-at t) strike.Post) where
+  abbrev strike-to2-from-strike : strike-lts.After-strike-to2 (strike-callees t) (strike-at t) strike.Post
+  strike-to2-from-strike = c .before .before .before .before .before .before
+
+module _ {t : ℕ} (c : strike-lts.After-strike-arg2 (strike-callees t) (strike-at t) strike.Post) where
+  abbrev strike-from-strike-call-2 : strike-lts.After-strike (strike-callees t) (strike-at t) strike.Post
+  strike-from-strike-call-2 = c .before .before .before
+
+  abbrev strike-to2-from-strike-call-2 : strike-lts.After-strike-to2 (strike-callees t) (strike-at t) strike.Post
+  strike-to2-from-strike-call-2 = strike-to2-from-strike strike-from-strike-call-2
+
+  abbrev else2-from-strike-call-2 : strike-lts.Else2 (strike-callees t) (strike-at t) strike.Post
+  else2-from-strike-call-2 = else2-from-strike-to2 strike-to2-from-strike-call-2
+
+  abbrev start-from-strike-call-2 : strike-lts.Start (strike-callees t) (strike-at t) strike.Post
+  start-from-strike-call-2 = start-from-else2 else2-from-strike-call-2
+
+module _ {t : ℕ} (c : strike-lts.After-slice-known4 (strike-callees t) (strike-at t) strike.Post) where
+  abbrev strike-from-return-5 : strike-lts.After-strike (strike-callees t) (strike-at t) strike.Post
+  strike-from-return-5 = c .before .before .before .before .before .before
+
+  abbrev strike-to2-from-return-5 : strike-lts.After-strike-to2 (strike-callees t) (strike-at t) strike.Post
+  strike-to2-from-return-5 = strike-to2-from-strike strike-from-return-5
+
+  abbrev start-from-return-5 : strike-lts.Start (strike-callees t) (strike-at t) strike.Post
+  start-from-return-5 = start-from-else2 (else2-from-strike-to2 strike-to2-from-return-5)
+
 -- past the two constants
 module _ {t : ℕ} (e : strike-lts.Else2 (strike-callees t) (strike-at t) strike.Post) where
   abbrev start : strike-lts.Start (strike-callees t) (strike-at t) strike.Post
-  start = e .before .before .before .before .before .before .before .before
+  start = start-from-else2 e
 
   two : 2 ≤ start .args .f .0
   two = omega (arith, e .before .before .if1 .left, e .if2 .left)
@@ -61,7 +156,7 @@ module _ {t : ℕ} (e : strike-lts.Else2 (strike-callees t) (strike-at t) strike
 -- where the literals that the node itself strikes are struck
 module _ {t : ℕ} (a : strike-lts.After-strike-to2 (strike-callees t) (strike-at t) strike.Post) where
   abbrev here-else : strike-lts.Else2 (strike-callees t) (strike-at t) strike.Post
-  here-else = a .before .before .before .before .before .before .before
+  here-else = else2-from-strike-to2 a
 
   abbrev begun : strike-lts.Start (strike-callees t) (strike-at t) strike.Post
   begun = start here-else
@@ -80,17 +175,17 @@ module _ {t : ℕ} (a : strike-lts.After-strike-to2 (strike-callees t) (strike-a
 
 strike-returns : (t : ℕ) → strike-lts.Need-returns (strike-callees t) (strike-at t) strike.Post
 strike-returns t c =
-    let s = c .before .before .before .before .before .before in
+    let s = start-from-then1 c in
     (subst (λ (k : ℕ). Struck (nodes s) k (s .args .from) (s .args .alive) (s .args .alive)) (sym (c .if1 .taken)) (struck-zero (nodes s) (s .args .from) (s .args .alive)), (ready s .right, ready s .marks))
 
 strike-strike-to-requires : (t : ℕ) → strike-lts.Need-strike-to-requires (strike-callees t) (strike-at t) strike.Post
 strike-strike-to-requires t c κs =
-    let s = c .before .before .before .before .before .before .before .before in
+    let s = start-from-then2 c in
     (ready s .least, ready s .most, omega arith, omega arith, omega arith, omega arith)
 
 strike-returns-2 : (t : ℕ) → strike-lts.Need-returns-2 (strike-callees t) (strike-at t) strike.Post
 strike-returns-2 t c =
-    let s = c .before .before .before .before .before .before .before .before .before in
+    let s = start-from-return-2 c in
     let k = c .strike-to in
     let is : Struck (nodes s) 1 (s .args .from) (s .args .alive) (k .result) = struck-one (nodes s) (s .args .from) (s .args .alive) (k .result) (ready s .least) (ready s .most) (k .ensures) in
     (subst (λ (j : ℕ). Struck (nodes s) j (s .args .from) (s .args .alive) (k .result)) (sym (c .before .if2 .taken)) is, (marked-less (nodes s) (s .args .memo .now) (s .args .stamp) 1 (s .args .from) (s .args .alive) (k .result) is (ready s .right), ready s .marks))
@@ -121,18 +216,18 @@ strike-shared-slice-read-t22-2 t c =
 
 strike-past-requires : (t : ℕ) → strike-lts.Need-past-requires (strike-callees t) (strike-at t) strike.Post
 strike-past-requires t c κs =
-    at-node (c .before .before .before .before) .most
+    at-node (else2-from-past-call c) .most
 
 strike-past-requires-2 : (t : ℕ) → strike-lts.Need-past-requires-2 (strike-callees t) (strike-at t) strike.Post
 strike-past-requires-2 t c κs =
-    at-node (c .before .before .before .before .before) .most
+    at-node (else2-from-past-call-2 c) .most
 
 strike-strike-to-requires-2 : (t : ℕ) → strike-lts.Need-strike-to-requires-2 (strike-callees t) (strike-at t) strike.Post
 strike-strike-to-requires-2 t c κs =
-    let s = c .before .before .before .before .before .before .before .before .before .before .before .before .before .before in
+    let s = start-from-strike-to-call-2 c in
     let p = c .before .past .ensures in
     let n = c .past2 .ensures in
-    let H = at-node (c .before .before .before .before .before .before) in
+    let H = at-node (else2-from-strike-to-call-2 c) in
     let v = getD (s .args .vars .now) (s .args .f .0) 0 in
     let l = getD (s .args .lows .now) (s .args .f .0) 0 in
     let h = getD (s .args .highs .now) (s .args .f .0) 0 in
@@ -140,32 +235,32 @@ strike-strike-to-requires-2 t c κs =
 
 strike-returns-3 : (t : ℕ) → strike-lts.Need-returns-3 (strike-callees t) (strike-at t) strike.Post
 strike-returns-3 t c =
-    let s = c .before .before .before .before .before .before .before .before .before .before .before .before .before .before .before .before .before in
+    let s = start-from-then3 c in
     let a = c .before .before in
     (struck-none (s .args .vars .now) (s .args .lows .now) (s .args .highs .now) (s .args .count) (ready s .readable) (s .args .f .0) (two (here-else a)) (ready s .inside) (s .args .from) (s .args .alive) (a .strike-to2 .result) (ready s .least) (ready s .most) (ready s .reached (two (here-else a))) (left-is a) (c .if3 .taken), (marked-here (s .args .vars .now) (s .args .lows .now) (s .args .highs .now) (s .args .count) (ready s .readable) (s .args .f .0) (two (here-else a)) (ready s .inside) (s .args .from) (s .args .alive) (a .strike-to2 .result) (ready s .least) (ready s .most) (ready s .reached (two (here-else a))) (left-is a) (s .args .memo .now) (s .args .stamp) (ready s .right), ready s .marks))
 
 strike-mul-if4 : (t : ℕ) → strike-lts.Need-mul-if4 (strike-callees t) (strike-at t) strike.Post
 strike-mul-if4 t c =
-    omega (arith, cell-inside (c .before .before .before .before .before .before .before .before .before .before .before .before .before .before .before .before .before), c .before .before .before .before .before .before .before .before .before .before .before .before .before .before .before .before .before .good, c .before .before .before .before .before .before .before .before .before .before .before .before .before .before .before .before .before .fits)
+    omega (arith, cell-inside (start-from-else3 c), start-from-else3 c .good, start-from-else3 c .fits)
 
 strike-slice-read-if4 : (t : ℕ) → strike-lts.Need-slice-read-if4 (strike-callees t) (strike-at t) strike.Post
 strike-slice-read-if4 t c =
-    cell-inside (c .before .before .before .before .before .before .before .before .before .before .before .before .before .before .before .before .before .before)
+    cell-inside (start-from-slice-read-if4 c)
 
 strike-returns-4 : (t : ℕ) → strike-lts.Need-returns-4 (strike-callees t) (strike-at t) strike.Post
 strike-returns-4 t c =
-    let s = c .before .before .before .before .before .before .before .before .before .before .before .before .before .before .before .before .before .before .before in
-    let a = c .before .before .before .before in
+    let s = start-from-then4 c in
+    let a = strike-to2-from-then4 c in
     (struck-marked (s .args .vars .now) (s .args .lows .now) (s .args .highs .now) (s .args .count) (ready s .readable) (s .args .f .0) (two (here-else a)) (ready s .inside) (s .args .from) (s .args .alive) (a .strike-to2 .result) (ready s .least) (ready s .most) (ready s .reached (two (here-else a))) (left-is a) (s .args .memo .now) (s .args .stamp) (ready s .right) (c .if4 .taken), (marked-here (s .args .vars .now) (s .args .lows .now) (s .args .highs .now) (s .args .count) (ready s .readable) (s .args .f .0) (two (here-else a)) (ready s .inside) (s .args .from) (s .args .alive) (a .strike-to2 .result) (ready s .least) (ready s .most) (ready s .reached (two (here-else a))) (left-is a) (s .args .memo .now) (s .args .stamp) (ready s .right), ready s .marks))
 
 strike-add-strike : (t : ℕ) → strike-lts.Need-add-strike (strike-callees t) (strike-at t) strike.Post
 strike-add-strike t c =
-    omega (arith, at-node (c .before .before .before .before .before .before .before .before .before .before .before .before) .most)
+    omega (arith, at-node (else2-from-strike-call c) .most)
 
 strike-strike-requires : (t : ℕ) → strike-lts.Need-strike-requires (strike-callees t) (strike-at t) strike.Post
 strike-strike-requires t c κs =
-    let s = c .before .before .before .before .before .before .before .before .before .before .before .before .before .before .before .before .before .before .before .before in
-    let a = c .before .before .before .before .before in
+    let s = start-from-strike-call c in
+    let a = strike-to2-from-strike-call c in
     let H = at-node (here-else a) in (
       omega (arith, measure s, H .low-less),
       record {
@@ -182,14 +277,14 @@ strike-strike-requires t c κs =
 
 strike-add-strike-2 : (t : ℕ) → strike-lts.Need-add-strike-2 (strike-callees t) (strike-at t) strike.Post
 strike-add-strike-2 t c =
-    omega (arith, at-node (c .before .before .before .before .before .before .before .before .before .before .before .before .before .before .before .before) .most)
+    omega (arith, at-node (else2-from-strike-call-2 c) .most)
 
 strike-strike-requires-2 : (t : ℕ) → strike-lts.Need-strike-requires-2 (strike-callees t) (strike-at t) strike.Post
 strike-strike-requires-2 t c κs =
-    let s = c .before .before .before .before .before .before .before .before .before .before .before .before .before .before .before .before .before .before .before .before .before .before .before .before in
-    let a = c .before .before .before .before .before .before .before .before .before in
+    let s = start-from-strike-call-2 c in
+    let a = strike-to2-from-strike-call-2 c in
     let H = at-node (here-else a) in
-    let k = c .before .before .before .strike in (
+    let k = strike-from-strike-call-2 c .strike in (
       omega (arith, measure s, H .high-less),
       record {
         readable = ready s .readable;
@@ -205,21 +300,21 @@ strike-strike-requires-2 t c κs =
 
 strike-mul-memo : (t : ℕ) → strike-lts.Need-mul-memo (strike-callees t) (strike-at t) strike.Post
 strike-mul-memo t c =
-    omega (arith, cell-inside (c .before .before .before .before .before .before .before .before .before .before .before .before .before .before .before .before .before .before .before .before .before .before .before .before .before .before .before), c .before .before .before .before .before .before .before .before .before .before .before .before .before .before .before .before .before .before .before .before .before .before .before .before .before .before .before .good, c .before .before .before .before .before .before .before .before .before .before .before .before .before .before .before .before .before .before .before .before .before .before .before .before .before .before .before .fits)
+    omega (arith, cell-inside (start-from-return-5 c), start-from-return-5 c .good, start-from-return-5 c .fits)
 
 strike-slice-write-memo : (t : ℕ) → strike-lts.Need-slice-write-memo (strike-callees t) (strike-at t) strike.Post
 strike-slice-write-memo t c =
-    omega (arith, cell-inside (c .before .before .before .before .before .before .before .before .before .before .before .before .before .before .before .before .before .before .before .before .before .before .before .before .before .before .before), c .before .before .before .before .before .before .strike .kept .1 .1 .1 .0, c .before .before .strike2 .kept .1 .1 .1 .0)
+    omega (arith, cell-inside (start-from-return-5 c), strike-from-return-5 c .strike .kept .1 .1 .1 .0, c .before .before .strike2 .kept .1 .1 .1 .0)
 
 strike-same-length : (t : ℕ) → strike-lts.Need-same-length (strike-callees t) (strike-at t) strike.Post
 strike-same-length t c =
-    length-set (c .before .before .strike2 .last .1 .1 .1 .0) _ _ ∙ c .before .before .strike2 .kept .1 .1 .1 .0 ∙ c .before .before .before .before .before .before .strike .kept .1 .1 .1 .0
+    length-set (c .before .before .strike2 .last .1 .1 .1 .0) _ _ ∙ c .before .before .strike2 .kept .1 .1 .1 .0 ∙ strike-from-return-5 c .strike .kept .1 .1 .1 .0
 
 strike-returns-5 : (t : ℕ) → strike-lts.Need-returns-5 (strike-callees t) (strike-at t) strike.Post
 strike-returns-5 t c =
-    let s = c .before .before .before .before .before .before .before .before .before .before .before .before .before .before .before .before .before .before .before .before .before .before .before .before .before .before .before in
-    let a = c .before .before .before .before .before .before .before .before .before .before .before .before in
-    let k₁ = c .before .before .before .before .before .before .strike in
+    let s = start-from-return-5 c in
+    let a = strike-to2-from-return-5 c in
+    let k₁ = strike-from-return-5 c .strike in
     let k₂ = c .before .before .strike2 in
     let room : s .args .f .0 < length (k₂ .last .1 .1 .1 .0) = omega (arith, cell-inside s, k₁ .kept .1 .1 .1 .0, k₂ .kept .1 .1 .1 .0) in
     let is : Struck (nodes s) (s .args .f .0) (s .args .from) (s .args .alive) (k₂ .result) = struck-node (s .args .vars .now) (s .args .lows .now) (s .args .highs .now) (s .args .count) (ready s .readable) (s .args .f .0) (two (here-else a)) (ready s .inside) (s .args .from) (s .args .alive) (a .strike-to2 .result) (ready s .least) (ready s .most) (ready s .reached (two (here-else a))) (left-is a) (k₁ .result) (k₂ .result) (k₁ .ensures .0) (k₂ .ensures .0) in (

@@ -32,9 +32,18 @@ mul-t14-2 c = search needs
 shared-slice-read-t16-2 : tie.Need-shared-slice-read-t16-2
 shared-slice-read-t16-2 c = search needs
 
+-- The ways back, written by ways.py: TO-from-FROM leads from the place FROM of the code to the place TO before it.
+module _ (c : tie.After-shared-slice-known6) where
+  abbrev start-from-in-word-call : tie.Start
+  start-from-in-word-call = c .before .before .before .before .before .before .before
+
+module _ (c : tie.Else1) where
+  abbrev start-from-else1 : tie.Start
+  start-from-else1 = c .before .before .before .before .before .before .before .before .before
+
 in-word-requires : tie.Need-in-word-requires
 in-word-requires c κs =
-    (at-node (c .before .before .before .before .before .before .before) .least, at-node (c .before .before .before .before .before .before .before) .most)
+    (at-node (start-from-in-word-call c) .least, at-node (start-from-in-word-call c) .most)
 
 returns : tie.Need-returns
 unfolding sidesUnder
@@ -42,7 +51,7 @@ returns c = rw (sym (c .before .in-word .ensures) ∙ c .if1 .taken)
 
 in-word-requires-2 : tie.Need-in-word-requires-2
 in-word-requires-2 c κs =
-    (at-node (c .before .before .before .before .before .before .before .before .before) .least, at-node (c .before .before .before .before .before .before .before .before .before) .most)
+    (at-node (start-from-else1 c) .least, at-node (start-from-else1 c) .most)
 
 returns-2 : tie.Need-returns-2
 unfolding sidesUnder

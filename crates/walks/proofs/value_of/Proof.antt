@@ -17,10 +17,35 @@ Inv-loop vars lows highs count word k₀ k = (k < count) × (valueUnder (nodesIn
 abbrev μ-loop : tie.MeasureT-loop
 μ-loop vars lows highs count word k₀ k = k
 
+-- The ways back, written by ways.py: TO-from-FROM leads from the place FROM of the code to the place TO before it.
+module _ (c : tie.After-shared-slice-known Inv-loop μ-loop) where
+  abbrev start-from-shared-slice-read-v : tie.Start Inv-loop μ-loop
+  start-from-shared-slice-read-v = c .before .before .before .before
+
+module _ (c : tie.After-shared-slice-known2 Inv-loop μ-loop) where
+  abbrev in-loop-from-loop-again : tie.In-loop Inv-loop μ-loop
+  in-loop-from-loop-again = c .before .before .before
+
+  abbrev at-loop-from-loop-again : tie.At-loop Inv-loop μ-loop
+  at-loop-from-loop-again = in-loop-from-loop-again .before
+
+  abbrev start-from-loop-again : tie.Start Inv-loop μ-loop
+  start-from-loop-again = at-loop-from-loop-again .before .before
+
+module _ (c : tie.After-shared-slice-known3 Inv-loop μ-loop) where
+  abbrev in-loop-from-loop-less-2 : tie.In-loop Inv-loop μ-loop
+  in-loop-from-loop-less-2 = c .before .before .before
+
+  abbrev at-loop-from-loop-less-2 : tie.At-loop Inv-loop μ-loop
+  at-loop-from-loop-less-2 = in-loop-from-loop-less-2 .before
+
+  abbrev start-from-loop-less-2 : tie.Start Inv-loop μ-loop
+  start-from-loop-less-2 = at-loop-from-loop-less-2 .before .before
+
 -- what good order says of the node that the walk is at
 at-node : (c : lts.After-shared-slice-known reads.Pre reads.Post Inv-loop μ-loop)
-    → Here (c .before .before .before .before .args .vars .now) (c .before .before .before .before .args .lows .now) (c .before .before .before .before .args .highs .now) (c .before .before .before .before .args .count) (c .before .before .loop .k)
-at-node c = here _ _ _ _ (c .before .before .before .before .pre .0) _ (c .before .loop-test .taken) (c .before .before .loop .inv .0)
+    → Here (start-from-shared-slice-read-v c .args .vars .now) (start-from-shared-slice-read-v c .args .lows .now) (start-from-shared-slice-read-v c .args .highs .now) (start-from-shared-slice-read-v c .args .count) (c .before .before .loop .k)
+at-node c = here _ _ _ _ (start-from-shared-slice-read-v c .pre .0) _ (c .before .loop-test .taken) (c .before .before .loop .inv .0)
 
 -- src/lib.rt:12:17
 cast-k : tie.Need-cast-k Inv-loop μ-loop
@@ -64,7 +89,7 @@ loop-less c = omega (arith, at-node (c .before .before))
 
 -- src/lib.rt:13:5
 loop-again : tie.Need-loop-again Inv-loop μ-loop
-loop-again c = (omega (arith, at-node (c .before .before)), value-high _ _ _ _ _ _ (c .before .before .before .before .before .before .pre .0) (c .before .before .before .loop-test .taken) (c .before .before .before .before .loop .inv .0) (c .before .if1 .taken) ∙ c .before .before .before .before .loop .inv .1)
+loop-again c = (omega (arith, at-node (c .before .before)), value-high _ _ _ _ _ _ (start-from-loop-again c .pre .0) (in-loop-from-loop-again c .loop-test .taken) (at-loop-from-loop-again c .loop .inv .0) (c .before .if1 .taken) ∙ at-loop-from-loop-again c .loop .inv .1)
 
 -- src/lib.rt:18:17
 mul-k-2 : tie.Need-mul-k-2 Inv-loop μ-loop
@@ -84,7 +109,7 @@ loop-less-2 c = omega (arith, at-node (c .before .before))
 
 -- src/lib.rt:13:5
 loop-again-2 : tie.Need-loop-again-2 Inv-loop μ-loop
-loop-again-2 c = (omega (arith, at-node (c .before .before)), value-low _ _ _ _ _ _ (c .before .before .before .before .before .before .pre .0) (c .before .before .before .loop-test .taken) (c .before .before .before .before .loop .inv .0) (c .before .if1 .left) ∙ c .before .before .before .before .loop .inv .1)
+loop-again-2 c = (omega (arith, at-node (c .before .before)), value-low _ _ _ _ _ _ (start-from-loop-less-2 c .pre .0) (in-loop-from-loop-less-2 c .loop-test .taken) (at-loop-from-loop-less-2 c .loop .inv .0) (c .before .if1 .left) ∙ at-loop-from-loop-less-2 c .loop .inv .1)
 
 -- src/lib.rt:8:1
 returns : tie.Need-returns Inv-loop μ-loop

@@ -5,9 +5,47 @@ use Rattle.nodes.proofs.First.{first-length, check-past, check-first}
 use Rattle.nodes.proofs.within.check_within.Statement.{statement}
 use Rattle.nodes.proofs.within.check_within.Tie as tie
 
+-- The ways back, written by ways.py: TO-from-FROM leads from the place FROM of the code to the place TO before it.
+module _ (c : tie.Else1) where
+  abbrev start-from-else1 : tie.Start
+  start-from-else1 = c .before .before .before .before .before .before .before .before
+
+module _ (c : tie.Then1) where
+  abbrev start-from-then1 : tie.Start
+  start-from-then1 = c .before .before .before .before .before .before .before .before
+
+module _ (c : tie.After-check-arg) where
+  abbrev start-from-slice-aggregate-check : tie.Start
+  start-from-slice-aggregate-check = start-from-else1 (c .before)
+
+module _ (c : tie.After-check-arg2) where
+  abbrev start-from-slice-aggregate-check-2 : tie.Start
+  start-from-slice-aggregate-check-2 = start-from-else1 (c .before .before)
+
+module _ (c : tie.After-check-arg3) where
+  abbrev else1-from-slice-aggregate-check-3 : tie.Else1
+  else1-from-slice-aggregate-check-3 = c .before .before .before
+
+  abbrev start-from-slice-aggregate-check-3 : tie.Start
+  start-from-slice-aggregate-check-3 = start-from-else1 else1-from-slice-aggregate-check-3
+
+module _ (c : tie.After-check) where
+  abbrev else1-from-check : tie.Else1
+  else1-from-check = c .before .before .before .before .before .before
+
+module _ (c : tie.After-slice-known10) where
+  abbrev check-from-return-2 : tie.After-check
+  check-from-return-2 = c .before .before .before .before .before .before .before .before .before .before
+
+  abbrev else1-from-return-2 : tie.Else1
+  else1-from-return-2 = else1-from-check check-from-return-2
+
+  abbrev start-from-return-2 : tie.Start
+  start-from-return-2 = start-from-else1 else1-from-return-2
+
 returns : tie.Need-returns
 returns c =
-    let start = c .before .before .before .before .before .before .before .before in
+    let start = start-from-then1 c in
     check-past _ _ _ _ _ _ _ _ _ (c .if1 .taken) (start .pre .0) (start .pre .1) (start .pre .2)
 
 slice-relend-prefix-check : tie.Need-slice-relend-prefix-check
@@ -15,7 +53,7 @@ slice-relend-prefix-check c = search needs
 
 slice-aggregate-check : tie.Need-slice-aggregate-check
 slice-aggregate-check c =
-    let start = c .before .before .before .before .before .before .before .before .before in
+    let start = start-from-slice-aggregate-check c in
     first-length _ _ (omega (arith, c .before .if1 .left)) (start .pre .0)
 
 slice-relend-prefix-check-2 : tie.Need-slice-relend-prefix-check-2
@@ -23,7 +61,7 @@ slice-relend-prefix-check-2 c = search needs
 
 slice-aggregate-check-2 : tie.Need-slice-aggregate-check-2
 slice-aggregate-check-2 c =
-    let start = c .before .before .before .before .before .before .before .before .before .before in
+    let start = start-from-slice-aggregate-check-2 c in
     first-length _ _ (omega (arith, c .before .before .if1 .left)) (start .pre .1)
 
 slice-relend-prefix-check-3 : tie.Need-slice-relend-prefix-check-3
@@ -31,8 +69,8 @@ slice-relend-prefix-check-3 c = search needs
 
 slice-aggregate-check-3 : tie.Need-slice-aggregate-check-3
 slice-aggregate-check-3 c =
-    let start = c .before .before .before .before .before .before .before .before .before .before .before in
-    first-length _ _ (omega (arith, c .before .before .before .if1 .left)) (start .pre .2)
+    let start = start-from-slice-aggregate-check-3 c in
+    first-length _ _ (omega (arith, else1-from-slice-aggregate-check-3 c .if1 .left)) (start .pre .2)
 
 check-requires : tie.Need-check-requires
 check-requires c κs = search needs
@@ -54,9 +92,9 @@ same-length-5 c = search needs
 
 returns-2 : tie.Need-returns-2
 returns-2 c =
-    let start = c .before .before .before .before .before .before .before .before .before .before .before .before .before .before .before .before .before .before .before .before .before .before .before .before in
-    let after-check = c .before .before .before .before .before .before .before .before .before .before in
-    check-first _ _ _ _ _ _ _ _ _ _ _ _ _ _ _ (omega (arith, c .before .before .before .before .before .before .before .before .before .before .before .before .before .before .before .before .if1 .left)) (start .pre) (after-check .check .kept .0) (after-check .check .kept .1 .0) (after-check .check .kept .1 .1 .0) (after-check .check .ensures)
+    let start = start-from-return-2 c in
+    let after-check = check-from-return-2 c in
+    check-first _ _ _ _ _ _ _ _ _ _ _ _ _ _ _ (omega (arith, else1-from-return-2 c .if1 .left)) (start .pre) (after-check .check .kept .0) (after-check .check .kept .1 .0) (after-check .check .kept .1 .1 .0) (after-check .check .ensures)
 
 pub check-within-spec : {M : Type 1} → statement M
 check-within-spec =

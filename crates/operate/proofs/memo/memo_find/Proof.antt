@@ -47,10 +47,25 @@ add-if3 c = search needs
 cast-t21 : tie.Need-cast-t21
 cast-t21 c = search needs
 
+-- The ways back, written by ways.py: TO-from-FROM leads from the place FROM of the code to the place TO before it.
+module _ (c : tie.After-cell-of) where
+  abbrev start-from-cell-of : tie.Start
+  start-from-cell-of = c .before .before .before .before .before .before .before
+
+module _ (c : tie.Then3) where
+  abbrev else2-from-then3 : tie.Else2
+  else2-from-then3 = c .before .before .before .before
+
+  abbrev cell-of-from-then3 : tie.After-cell-of
+  cell-of-from-then3 = else2-from-then3 .before
+
+  abbrev start-from-then3 : tie.Start
+  start-from-then3 = start-from-cell-of cell-of-from-then3
+
 returns-3 : tie.Need-returns-3
 returns-3 c =
-    let s = c .before .before .before .before .before .before .before .before .before .before .before .before in
-    λ op t right two. memo-told op (s .args .memo .now) t right (c .before .before .before .before .before .cell-of .result) (s .args .f .0) (s .args .g .0) (c .before .before .before .before .if2 .left) (c .if3 .taken) (omega (arith, c .before .struct-known2 .given)) two
+    let s = start-from-then3 c in
+    λ op t right two. memo-told op (s .args .memo .now) t right (cell-of-from-then3 c .cell-of .result) (s .args .f .0) (s .args .g .0) (else2-from-then3 c .if2 .left) (c .if3 .taken) (omega (arith, c .before .struct-known2 .given)) two
 
 returns-4 : tie.Need-returns-4
 returns-4 c = search needs

@@ -27,8 +27,37 @@ cell-of-requires c κs = search needs
 same-length : tie.Need-same-length
 same-length c = search needs
 
+-- The ways back, written by ways.py: TO-from-FROM leads from the place FROM of the code to the place TO before it.
+module _ (c : tie.After-make-room) where
+  abbrev start-from-make-room : tie.Start
+  start-from-make-room = c .before .before .before .before .before .before .before
+
+module _ (c : tie.After-cell-of) where
+  abbrev make-room-from-cell-of : tie.After-make-room
+  make-room-from-cell-of = c .before .before .before .before .before
+
+module _ (c : tie.Then2) where
+  abbrev make-room-from-then2 : tie.After-make-room
+  make-room-from-then2 = make-room-from-cell-of (c .before)
+
+module _ (c : tie.After-struct-known3) where
+  abbrev wrapping-add-u64-from-return-3 : tie.After-wrapping-add-u64
+  wrapping-add-u64-from-return-3 = c .before .before .before
+
+  abbrev else2-from-return-3 : tie.Else2
+  else2-from-return-3 = wrapping-add-u64-from-return-3 .before .before
+
+  abbrev cell-of-from-return-3 : tie.After-cell-of
+  cell-of-from-return-3 = else2-from-return-3 .before
+
+  abbrev make-room-from-return-3 : tie.After-make-room
+  make-room-from-return-3 = make-room-from-cell-of cell-of-from-return-3
+
+  abbrev start-from-return-3 : tie.Start
+  start-from-return-3 = start-from-make-room make-room-from-return-3
+
 returns-2 : tie.Need-returns-2
-returns-2 c = λ op t right _. c .before .before .before .before .before .before .make-room .ensures .right op t right
+returns-2 c = λ op t right _. make-room-from-then2 c .make-room .ensures .right op t right
 
 slice-read-wrapping-add-u64 : tie.Need-slice-read-wrapping-add-u64
 slice-read-wrapping-add-u64 c = search needs
@@ -68,17 +97,17 @@ mul-memo-3 c = search needs
 
 slice-write-memo-2 : tie.Need-slice-write-memo-2
 slice-write-memo-2 c =
-    let m = c .before .before .before .before .before .before .before .before .before .before .before .make-room in
-    omega (arith, length-set (m .last .0) 1 (c .before .before .before .wrapping-add-u64 .result), m .ensures .shaped .room, c .before .before .before .before .before .if2 .left)
+    let m = make-room-from-return-3 c .make-room in
+    omega (arith, length-set (m .last .0) 1 (wrapping-add-u64-from-return-3 c .wrapping-add-u64 .result), m .ensures .shaped .room, else2-from-return-3 c .if2 .left)
 
 same-length-2 : tie.Need-same-length-2
 same-length-2 c = search needs
 
 returns-3 : tie.Need-returns-3
 returns-3 c =
-    let s = c .before .before .before .before .before .before .before .before .before .before .before .before .before .before .before .before .before .before in
-    let m = c .before .before .before .before .before .before .before .before .before .before .before .make-room in
-    λ op t right entry. memo-stored op (m .last .0) t (m .ensures .right op t right) (c .before .before .before .wrapping-add-u64 .result) (c .before .before .before .before .before .before .cell-of .result) (s .args .f .0) (s .args .g .0) (s .args .r .0) (c .before .before .before .before .before .if2 .left) (omega (arith, c .before .struct-known2 .given)) (omega (arith, c .struct-known3 .given)) entry
+    let s = start-from-return-3 c in
+    let m = make-room-from-return-3 c .make-room in
+    λ op t right entry. memo-stored op (m .last .0) t (m .ensures .right op t right) (wrapping-add-u64-from-return-3 c .wrapping-add-u64 .result) (cell-of-from-return-3 c .cell-of .result) (s .args .f .0) (s .args .g .0) (s .args .r .0) (else2-from-return-3 c .if2 .left) (omega (arith, c .before .struct-known2 .given)) (omega (arith, c .struct-known3 .given)) entry
 
 pub memo-put-spec : {M : Type 1} → statement M
 memo-put-spec =

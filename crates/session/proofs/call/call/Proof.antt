@@ -35,120 +35,190 @@ returns : tie.Need-returns
 returns c =
     called-7 _ _ _ _ _ _ _ _ (sym (c .before .lent-fits .ensures) ∙ not-true _ (c .if1 .taken))
 
+-- The ways back, written by ways.py: TO-from-FROM leads from the place FROM of the code to the place TO before it.
+module _ (c : tie.After-check-64-arg5) where
+  abbrev then2-from-check-64-call : tie.Then2
+  then2-from-check-64-call = c .before .before .before .before .before
+
+  abbrev else1-from-check-64-call : tie.Else1
+  else1-from-check-64-call = then2-from-check-64-call .before
+
+  abbrev lent-fits-from-check-64-call : tie.After-lent-fits
+  lent-fits-from-check-64-call = else1-from-check-64-call .before
+
+module _ (c : tie.After-check-4096-arg5) where
+  abbrev then3-from-check-4096-call : tie.Then3
+  then3-from-check-4096-call = c .before .before .before .before .before
+
+  abbrev else1-from-check-4096-call : tie.Else1
+  else1-from-check-4096-call = then3-from-check-4096-call .before .before
+
+  abbrev lent-fits-from-check-4096-call : tie.After-lent-fits
+  lent-fits-from-check-4096-call = else1-from-check-4096-call .before
+
+module _ (c : tie.After-check-64) where
+  abbrev then2-from-check-64 : tie.Then2
+  then2-from-check-64 = c .before .before .before .before .before .before
+
+module _ (c : tie.After-check-65536-arg5) where
+  abbrev else1-from-check-65536-call : tie.Else1
+  else1-from-check-65536-call = c .before .before .before .before .before .before .before
+
+  abbrev lent-fits-from-check-65536-call : tie.After-lent-fits
+  lent-fits-from-check-65536-call = else1-from-check-65536-call .before
+
+module _ (c : tie.After-check-4096) where
+  abbrev then3-from-check-4096 : tie.Then3
+  then3-from-check-4096 = c .before .before .before .before .before .before
+
+module _ (c : tie.After-check-65536) where
+  abbrev else1-from-check-65536 : tie.Else1
+  else1-from-check-65536 = c .before .before .before .before .before .before .before .before
+
+module _ (c : tie.After-slice-known10) where
+  abbrev check-64-from-return-2 : tie.After-check-64
+  check-64-from-return-2 = c .before .before .before .before .before .before .before .before .before .before
+
+  abbrev else1-from-return-2 : tie.Else1
+  else1-from-return-2 = then2-from-check-64 check-64-from-return-2 .before
+
+  abbrev lent-fits-from-return-2 : tie.After-lent-fits
+  lent-fits-from-return-2 = else1-from-return-2 .before
+
+module _ (c : tie.After-slice-known15) where
+  abbrev check-4096-from-return-3 : tie.After-check-4096
+  check-4096-from-return-3 = c .before .before .before .before .before .before .before .before .before .before
+
+  abbrev else1-from-return-3 : tie.Else1
+  else1-from-return-3 = then3-from-check-4096 check-4096-from-return-3 .before .before
+
+  abbrev lent-fits-from-return-3 : tie.After-lent-fits
+  lent-fits-from-return-3 = else1-from-return-3 .before
+
+module _ (c : tie.After-slice-known20) where
+  abbrev check-65536-from-return-4 : tie.After-check-65536
+  check-65536-from-return-4 = c .before .before .before .before .before .before .before .before .before .before
+
+  abbrev else1-from-return-4 : tie.Else1
+  else1-from-return-4 = else1-from-check-65536 check-65536-from-return-4
+
+  abbrev lent-fits-from-return-4 : tie.After-lent-fits
+  lent-fits-from-return-4 = else1-from-return-4 .before
+
 check-64-requires : tie.Need-check-64-requires
 check-64-requires c κs =
-    let after-lent-fits = c .before .before .before .before .before .before .before in
-    let else1 = c .before .before .before .before .before .before in
-    let then2 = c .before .before .before .before .before in
+    let after-lent-fits = lent-fits-from-check-64-call c in
+    let else1 = else1-from-check-64-call c in
+    let then2 = then2-from-check-64-call c in
     ((sym (after-lent-fits .lent-fits .ensures) ∙ not-false _ (else1 .if1 .left)), then2 .if2 .taken)
 
 same-length-6 : tie.Need-same-length-6
 same-length-6 c =
-    let after-check-64 = c .before .before .before .before .before .before .before .before .before .before in
+    let after-check-64 = check-64-from-return-2 c in
     after-check-64 .check-64 .kept .0
 
 same-length-7 : tie.Need-same-length-7
 same-length-7 c =
-    let after-check-64 = c .before .before .before .before .before .before .before .before .before .before in
+    let after-check-64 = check-64-from-return-2 c in
     after-check-64 .check-64 .kept .1 .0
 
 same-length-8 : tie.Need-same-length-8
 same-length-8 c =
-    let after-check-64 = c .before .before .before .before .before .before .before .before .before .before in
+    let after-check-64 = check-64-from-return-2 c in
     after-check-64 .check-64 .kept .1 .1 .0
 
 same-length-9 : tie.Need-same-length-9
 same-length-9 c =
-    let after-check-64 = c .before .before .before .before .before .before .before .before .before .before in
+    let after-check-64 = check-64-from-return-2 c in
     after-check-64 .check-64 .kept .1 .1 .1 .0
 
 same-length-10 : tie.Need-same-length-10
 same-length-10 c =
-    let after-check-64 = c .before .before .before .before .before .before .before .before .before .before in
+    let after-check-64 = check-64-from-return-2 c in
     after-check-64 .check-64 .kept .1 .1 .1 .1 .0
 
 returns-2 : tie.Need-returns-2
 returns-2 c =
-    let after-lent-fits = c .before .before .before .before .before .before .before .before .before .before .before .before .before .before .before .before .before .before in
-    let else1 = c .before .before .before .before .before .before .before .before .before .before .before .before .before .before .before .before .before in
-    let after-check-64 = c .before .before .before .before .before .before .before .before .before .before in
+    let after-lent-fits = lent-fits-from-return-2 c in
+    let else1 = else1-from-return-2 c in
+    let after-check-64 = check-64-from-return-2 c in
     called-done _ _ _ _ _ _ _ _ (sym (after-lent-fits .lent-fits .ensures) ∙ not-false _ (else1 .if1 .left)) _ (after-check-64 .check-64 .ensures)
 
 check-4096-requires : tie.Need-check-4096-requires
 check-4096-requires c κs =
-    let after-lent-fits = c .before .before .before .before .before .before .before .before in
-    let else1 = c .before .before .before .before .before .before .before in
-    let then3 = c .before .before .before .before .before in
+    let after-lent-fits = lent-fits-from-check-4096-call c in
+    let else1 = else1-from-check-4096-call c in
+    let then3 = then3-from-check-4096-call c in
     ((sym (after-lent-fits .lent-fits .ensures) ∙ not-false _ (else1 .if1 .left)), then3 .if3 .taken)
 
 same-length-11 : tie.Need-same-length-11
 same-length-11 c =
-    let after-check-4096 = c .before .before .before .before .before .before .before .before .before .before in
+    let after-check-4096 = check-4096-from-return-3 c in
     after-check-4096 .check-4096 .kept .0
 
 same-length-12 : tie.Need-same-length-12
 same-length-12 c =
-    let after-check-4096 = c .before .before .before .before .before .before .before .before .before .before in
+    let after-check-4096 = check-4096-from-return-3 c in
     after-check-4096 .check-4096 .kept .1 .0
 
 same-length-13 : tie.Need-same-length-13
 same-length-13 c =
-    let after-check-4096 = c .before .before .before .before .before .before .before .before .before .before in
+    let after-check-4096 = check-4096-from-return-3 c in
     after-check-4096 .check-4096 .kept .1 .1 .0
 
 same-length-14 : tie.Need-same-length-14
 same-length-14 c =
-    let after-check-4096 = c .before .before .before .before .before .before .before .before .before .before in
+    let after-check-4096 = check-4096-from-return-3 c in
     after-check-4096 .check-4096 .kept .1 .1 .1 .0
 
 same-length-15 : tie.Need-same-length-15
 same-length-15 c =
-    let after-check-4096 = c .before .before .before .before .before .before .before .before .before .before in
+    let after-check-4096 = check-4096-from-return-3 c in
     after-check-4096 .check-4096 .kept .1 .1 .1 .1 .0
 
 returns-3 : tie.Need-returns-3
 returns-3 c =
-    let after-lent-fits = c .before .before .before .before .before .before .before .before .before .before .before .before .before .before .before .before .before .before .before in
-    let else1 = c .before .before .before .before .before .before .before .before .before .before .before .before .before .before .before .before .before .before in
-    let after-check-4096 = c .before .before .before .before .before .before .before .before .before .before in
+    let after-lent-fits = lent-fits-from-return-3 c in
+    let else1 = else1-from-return-3 c in
+    let after-check-4096 = check-4096-from-return-3 c in
     called-done _ _ _ _ _ _ _ _ (sym (after-lent-fits .lent-fits .ensures) ∙ not-false _ (else1 .if1 .left)) _ (after-check-4096 .check-4096 .ensures)
 
 check-65536-requires : tie.Need-check-65536-requires
 check-65536-requires c κs =
-    let after-lent-fits = c .before .before .before .before .before .before .before .before in
-    let else1 = c .before .before .before .before .before .before .before in
+    let after-lent-fits = lent-fits-from-check-65536-call c in
+    let else1 = else1-from-check-65536-call c in
     ((sym (after-lent-fits .lent-fits .ensures) ∙ not-false _ (else1 .if1 .left)), lent-sized _ _ _ _ _ (sym (after-lent-fits .lent-fits .ensures) ∙ not-false _ (else1 .if1 .left)) .columns .most)
 
 same-length-16 : tie.Need-same-length-16
 same-length-16 c =
-    let after-check-65536 = c .before .before .before .before .before .before .before .before .before .before in
+    let after-check-65536 = check-65536-from-return-4 c in
     after-check-65536 .check-65536 .kept .0
 
 same-length-17 : tie.Need-same-length-17
 same-length-17 c =
-    let after-check-65536 = c .before .before .before .before .before .before .before .before .before .before in
+    let after-check-65536 = check-65536-from-return-4 c in
     after-check-65536 .check-65536 .kept .1 .0
 
 same-length-18 : tie.Need-same-length-18
 same-length-18 c =
-    let after-check-65536 = c .before .before .before .before .before .before .before .before .before .before in
+    let after-check-65536 = check-65536-from-return-4 c in
     after-check-65536 .check-65536 .kept .1 .1 .0
 
 same-length-19 : tie.Need-same-length-19
 same-length-19 c =
-    let after-check-65536 = c .before .before .before .before .before .before .before .before .before .before in
+    let after-check-65536 = check-65536-from-return-4 c in
     after-check-65536 .check-65536 .kept .1 .1 .1 .0
 
 same-length-20 : tie.Need-same-length-20
 same-length-20 c =
-    let after-check-65536 = c .before .before .before .before .before .before .before .before .before .before in
+    let after-check-65536 = check-65536-from-return-4 c in
     after-check-65536 .check-65536 .kept .1 .1 .1 .1 .0
 
 returns-4 : tie.Need-returns-4
 returns-4 c =
-    let after-lent-fits = c .before .before .before .before .before .before .before .before .before .before .before .before .before .before .before .before .before .before .before in
-    let else1 = c .before .before .before .before .before .before .before .before .before .before .before .before .before .before .before .before .before .before in
-    let after-check-65536 = c .before .before .before .before .before .before .before .before .before .before in
+    let after-lent-fits = lent-fits-from-return-4 c in
+    let else1 = else1-from-return-4 c in
+    let after-check-65536 = check-65536-from-return-4 c in
     called-done _ _ _ _ _ _ _ _ (sym (after-lent-fits .lent-fits .ensures) ∙ not-false _ (else1 .if1 .left)) _ (after-check-65536 .check-65536 .ensures)
 
 pub call-spec : {M : Type 1} → statement M

@@ -15,9 +15,32 @@ array-borrow-prefix-heads : tie.Need-array-borrow-prefix-heads
 array-borrow-prefix-heads c =
     search needs
 
+-- The ways back, written by ways.py: TO-from-FROM leads from the place FROM of the code to the place TO before it.
+module _ (c : tie.After-heads) where
+  abbrev start-from-slice-aggregate-run : tie.Start
+  start-from-slice-aggregate-run = c .before .before .before .before .before .before .before .before .before .before .before
+
+module _ (c : tie.After-links) where
+  abbrev start-from-slice-aggregate-run-2 : tie.Start
+  start-from-slice-aggregate-run-2 = c .before .before .before .before .before .before .before .before .before .before .before .before
+
+module _ (c : tie.After-marks) where
+  abbrev start-from-slice-aggregate-run-4 : tie.Start
+  start-from-slice-aggregate-run-4 = c .before .before .before .before .before .before .before .before .before .before .before .before
+      .before .before
+
+module _ (c : tie.After-run-arg5) where
+  abbrev start-from-run-call : tie.Start
+  start-from-run-call = c .before .before .before .before .before .before .before .before .before .before .before .before .before .before
+      .before .before
+
+module _ (c : tie.After-slice-known10) where
+  abbrev run-from-return : tie.After-run
+  run-from-return = c .before .before .before .before .before .before .before .before .before .before .before .before .before .before
+
 slice-aggregate-run : tie.Need-slice-aggregate-run
 slice-aggregate-run c =
-    let start = c .before .before .before .before .before .before .before .before .before .before .before in
+    let start = start-from-slice-aggregate-run c in
     length-part _ 131072 (omega (arith, start .pre .1))
 
 array-borrow-prefix-links : tie.Need-array-borrow-prefix-links
@@ -26,7 +49,7 @@ array-borrow-prefix-links c =
 
 slice-aggregate-run-2 : tie.Need-slice-aggregate-run-2
 slice-aggregate-run-2 c =
-    let start = c .before .before .before .before .before .before .before .before .before .before .before .before in
+    let start = start-from-slice-aggregate-run-2 c in
     length-part _ 65536 (omega (arith, start .pre .1))
 
 slice-aggregate-run-3 : tie.Need-slice-aggregate-run-3
@@ -39,42 +62,42 @@ array-borrow-prefix-marks c =
 
 slice-aggregate-run-4 : tie.Need-slice-aggregate-run-4
 slice-aggregate-run-4 c =
-    let start = c .before .before .before .before .before .before .before .before .before .before .before .before .before .before in
+    let start = start-from-slice-aggregate-run-4 c in
     length-part _ 65536 (omega (arith, start .pre .1))
 
 run-requires : tie.Need-run-requires
 run-requires c κs =
-    let start = c .before .before .before .before .before .before .before .before .before .before .before .before .before .before .before .before in
+    let start = start-from-run-call c in
     (start .pre .0, (part-zeros (2 * (length (start .args .vars .now))) 131072 (omega (arith, start .pre .1)), part-zeros (length (start .args .vars .now)) 65536 (omega (arith, start .pre .1)), part-zeros (length (start .args .vars .now)) 65536 (omega (arith, start .pre .1)), omega (arith, length-whole 65600, start .pre .1)))
 
 same-length : tie.Need-same-length
 same-length c =
-    let after-run = c .before .before .before .before .before .before .before .before .before .before .before .before .before .before in
+    let after-run = run-from-return c in
     after-run .run .kept .0
 
 same-length-2 : tie.Need-same-length-2
 same-length-2 c =
-    let after-run = c .before .before .before .before .before .before .before .before .before .before .before .before .before .before in
+    let after-run = run-from-return c in
     after-run .run .kept .1 .0
 
 same-length-3 : tie.Need-same-length-3
 same-length-3 c =
-    let after-run = c .before .before .before .before .before .before .before .before .before .before .before .before .before .before in
+    let after-run = run-from-return c in
     after-run .run .kept .1 .1 .0
 
 same-length-4 : tie.Need-same-length-4
 same-length-4 c =
-    let after-run = c .before .before .before .before .before .before .before .before .before .before .before .before .before .before in
+    let after-run = run-from-return c in
     after-run .run .kept .1 .1 .1 .1 .1 .1 .1 .0
 
 same-length-5 : tie.Need-same-length-5
 same-length-5 c =
-    let after-run = c .before .before .before .before .before .before .before .before .before .before .before .before .before .before in
+    let after-run = run-from-return c in
     after-run .run .kept .1 .1 .1 .1 .1 .1 .1 .1 .0
 
 returns : tie.Need-returns
 returns c =
-    let after-run = c .before .before .before .before .before .before .before .before .before .before .before .before .before .before in
+    let after-run = run-from-return c in
     after-run .run .ensures
 
 pub check-65536-spec : {M : Type 1} → statement M

@@ -35,11 +35,30 @@ same-length-4 : tie.Need-same-length-4
 same-length-4 c =
     search needs
 
+-- The ways back, written by ways.py: TO-from-FROM leads from the place FROM of the code to the place TO before it.
+module _ (c : tie.After-clear-numbers) where
+  abbrev clear-bytes-from-clear-numbers : tie.After-clear-bytes
+  clear-bytes-from-clear-numbers = c .before .before .before .before
+
+module _ (c : tie.After-clear-numbers2) where
+  abbrev clear-numbers-from-clear-numbers2 : tie.After-clear-numbers
+  clear-numbers-from-clear-numbers2 = c .before .before .before .before
+
+module _ (c : tie.After-slice-known8) where
+  abbrev clear-numbers2-from-return : tie.After-clear-numbers2
+  clear-numbers2-from-return = c .before .before .before .before .before .before
+
+  abbrev clear-numbers-from-return : tie.After-clear-numbers
+  clear-numbers-from-return = clear-numbers-from-clear-numbers2 clear-numbers2-from-return
+
+  abbrev clear-bytes-from-return : tie.After-clear-bytes
+  clear-bytes-from-return = clear-bytes-from-clear-numbers clear-numbers-from-return
+
 returns : tie.Need-returns
 returns c =
-    let after-clear-bytes = c .before .before .before .before .before .before .before .before .before .before .before .before .before .before in
-    let after-clear-numbers = c .before .before .before .before .before .before .before .before .before .before in
-    let after-clear-numbers2 = c .before .before .before .before .before .before in
+    let after-clear-bytes = clear-bytes-from-return c in
+    let after-clear-numbers = clear-numbers-from-return c in
+    let after-clear-numbers2 = clear-numbers2-from-return c in
     (after-clear-bytes .clear-bytes .ensures, (after-clear-numbers .clear-numbers .ensures, (after-clear-numbers2 .clear-numbers2 .ensures, c .before .before .clear-numbers3 .ensures)))
 
 pub empty-spec : {M : Type 1} → statement M

@@ -27,9 +27,62 @@ module _ (a : tie.After-make Inv-loop μ-loop) where
       let x = a .make .last in
       outcomeOf (x .0) (x .1 .0) (x .1 .1 .0) (x .1 .1 .1 .0) (x .1 .1 .1 .1 .0) (a .make .result)
 
+-- The ways back, written by ways.py: TO-from-FROM leads from the place FROM of the code to the place TO before it.
+module _ (c : tie.After-shared-slice-known Inv-loop μ-loop) where
+  abbrev start-from-loop-holds : tie.Start Inv-loop μ-loop
+  start-from-loop-holds = c .before .before .before .before .before .before .before
+
+module _ (c : tie.After-enum-told Inv-loop μ-loop) where
+  abbrev at-loop-from-return : tie.At-loop Inv-loop μ-loop
+  at-loop-from-return = c .before .before .before
+
+module _ (c : tie.After-known-told Inv-loop μ-loop) where
+  abbrev next-clause-from-return-2 : tie.After-next-clause Inv-loop μ-loop
+  next-clause-from-return-2 = c .before .before .before
+
+  abbrev at-loop-from-return-2 : tie.At-loop Inv-loop μ-loop
+  at-loop-from-return-2 = next-clause-from-return-2 .before
+
+module _ (c : tie.After-make-arg5 Inv-loop μ-loop) where
+  abbrev c-from-make-call : tie.After-c Inv-loop μ-loop
+  c-from-make-call = c .before .before .before .before .before .before
+
+  abbrev at-loop-from-make-call : tie.At-loop Inv-loop μ-loop
+  at-loop-from-make-call = c-from-make-call .before .before .before
+
+module _ (c : tie.After-make Inv-loop μ-loop) where
+  abbrev c-from-make : tie.After-c Inv-loop μ-loop
+  c-from-make = c .before .before .before .before .before .before .before
+
+module _ (c : tie.Then1 Inv-loop μ-loop) where
+  abbrev make-from-then1 : tie.After-make Inv-loop μ-loop
+  make-from-then1 = c .before .before .before .before .before .before .before .before .before .before .before
+
+  abbrev c-from-then1 : tie.After-c Inv-loop μ-loop
+  c-from-then1 = c-from-make make-from-then1
+
+  abbrev next-clause-from-then1 : tie.After-next-clause Inv-loop μ-loop
+  next-clause-from-then1 = c-from-then1 .before .before
+
+  abbrev at-loop-from-then1 : tie.At-loop Inv-loop μ-loop
+  at-loop-from-then1 = next-clause-from-then1 .before
+
+module _ (c : tie.After-node Inv-loop μ-loop) where
+  abbrev make-from-loop-again : tie.After-make Inv-loop μ-loop
+  make-from-loop-again = c .before .before .before .before .before .before .before .before .before .before .before .before
+
+  abbrev c-from-loop-again : tie.After-c Inv-loop μ-loop
+  c-from-loop-again = c-from-make make-from-loop-again
+
+  abbrev next-clause-from-loop-again : tie.After-next-clause Inv-loop μ-loop
+  next-clause-from-loop-again = c-from-loop-again .before .before
+
+  abbrev at-loop-from-loop-again : tie.At-loop Inv-loop μ-loop
+  at-loop-from-loop-again = next-clause-from-loop-again .before
+
 loop-holds : tie.Need-loop-holds Inv-loop μ-loop
 loop-holds c =
-    let start = c .before .before .before .before .before .before .before in
+    let start = start-from-loop-holds c in
     (building-start _ _ _ _ _ (omega (arith, start .pre)) (omega (arith, start .pre)) (omega (arith, start .pre)) _ _ refl (start .pre .0), refl, refl, refl, refl, refl, refl)
 
 sub-next-clause : tie.Need-sub-next-clause Inv-loop μ-loop
@@ -46,31 +99,31 @@ enum-told c =
 
 same-length : tie.Need-same-length Inv-loop μ-loop
 same-length c =
-    c .before .before .before .loop .inv .1
+    at-loop-from-return c .loop .inv .1
 
 same-length-2 : tie.Need-same-length-2 Inv-loop μ-loop
 same-length-2 c =
-    c .before .before .before .loop .inv .2
+    at-loop-from-return c .loop .inv .2
 
 same-length-3 : tie.Need-same-length-3 Inv-loop μ-loop
 same-length-3 c =
-    c .before .before .before .loop .inv .3
+    at-loop-from-return c .loop .inv .3
 
 same-length-4 : tie.Need-same-length-4 Inv-loop μ-loop
 same-length-4 c =
-    c .before .before .before .loop .inv .4
+    at-loop-from-return c .loop .inv .4
 
 same-length-5 : tie.Need-same-length-5 Inv-loop μ-loop
 same-length-5 c =
-    c .before .before .before .loop .inv .5
+    at-loop-from-return c .loop .inv .5
 
 same-length-6 : tie.Need-same-length-6 Inv-loop μ-loop
 same-length-6 c =
-    c .before .before .before .loop .inv .6
+    at-loop-from-return c .loop .inv .6
 
 returns : tie.Need-returns Inv-loop μ-loop
 returns c =
-    (building-end _ _ _ _ _ _ _ _ _ (c .before .before .before .loop .inv .0) (sym (c .before .before .next-clause .ensures) ∙ c .enum-told .given .1), (c .before .before .before .loop .inv .0) .built)
+    (building-end _ _ _ _ _ _ _ _ _ (at-loop-from-return c .loop .inv .0) (sym (c .before .before .next-clause .ensures) ∙ c .enum-told .given .1), (at-loop-from-return c .loop .inv .0) .built)
 
 enum-known-number : tie.Need-enum-known-number Inv-loop μ-loop
 enum-known-number c =
@@ -78,38 +131,38 @@ enum-known-number c =
 
 same-length-7 : tie.Need-same-length-7 Inv-loop μ-loop
 same-length-7 c =
-    let at-loop = c .before .before .before .before in
+    let at-loop = at-loop-from-return-2 c in
     at-loop .loop .inv .1
 
 same-length-8 : tie.Need-same-length-8 Inv-loop μ-loop
 same-length-8 c =
-    let at-loop = c .before .before .before .before in
+    let at-loop = at-loop-from-return-2 c in
     at-loop .loop .inv .2
 
 same-length-9 : tie.Need-same-length-9 Inv-loop μ-loop
 same-length-9 c =
-    let at-loop = c .before .before .before .before in
+    let at-loop = at-loop-from-return-2 c in
     at-loop .loop .inv .3
 
 same-length-10 : tie.Need-same-length-10 Inv-loop μ-loop
 same-length-10 c =
-    let at-loop = c .before .before .before .before in
+    let at-loop = at-loop-from-return-2 c in
     at-loop .loop .inv .4
 
 same-length-11 : tie.Need-same-length-11 Inv-loop μ-loop
 same-length-11 c =
-    let at-loop = c .before .before .before .before in
+    let at-loop = at-loop-from-return-2 c in
     at-loop .loop .inv .5
 
 same-length-12 : tie.Need-same-length-12 Inv-loop μ-loop
 same-length-12 c =
-    let at-loop = c .before .before .before .before in
+    let at-loop = at-loop-from-return-2 c in
     at-loop .loop .inv .6
 
 returns-2 : tie.Need-returns-2 Inv-loop μ-loop
 returns-2 c =
-    let at-loop = c .before .before .before .before in
-    (building-refused _ _ _ _ _ _ _ _ _ (at-loop .loop .inv .0) _ _ (sym (c .before .before .before .next-clause .ensures) ∙ c .before .number .given .1), tt)
+    let at-loop = at-loop-from-return-2 c in
+    (building-refused _ _ _ _ _ _ _ _ _ (at-loop .loop .inv .0) _ _ (sym (next-clause-from-return-2 c .next-clause .ensures) ∙ c .before .number .given .1), tt)
 
 enum-known-c : tie.Need-enum-known-c Inv-loop μ-loop
 enum-known-c c =
@@ -117,82 +170,82 @@ enum-known-c c =
 
 make-requires : tie.Need-make-requires Inv-loop μ-loop
 make-requires c κs =
-    let at-loop = c .before .before .before .before .before .before .before .before .before in
+    let at-loop = at-loop-from-make-call c in
     (at-loop .loop .inv .0) .built .good
 
 same-length-13 : tie.Need-same-length-13 Inv-loop μ-loop
 same-length-13 c =
-    let at-loop = c .before .before .before .before .before .before .before .before .before .before .before .before .before .before .before .before .before .before .before .before .before in
-    let after-make = c .before .before .before .before .before .before .before .before .before .before .before in
+    let at-loop = at-loop-from-then1 c in
+    let after-make = make-from-then1 c in
     after-make .make .kept .0 ∙ at-loop .loop .inv .1
 
 same-length-14 : tie.Need-same-length-14 Inv-loop μ-loop
 same-length-14 c =
-    let at-loop = c .before .before .before .before .before .before .before .before .before .before .before .before .before .before .before .before .before .before .before .before .before in
-    let after-make = c .before .before .before .before .before .before .before .before .before .before .before in
+    let at-loop = at-loop-from-then1 c in
+    let after-make = make-from-then1 c in
     after-make .make .kept .1 .0 ∙ at-loop .loop .inv .2
 
 same-length-15 : tie.Need-same-length-15 Inv-loop μ-loop
 same-length-15 c =
-    let at-loop = c .before .before .before .before .before .before .before .before .before .before .before .before .before .before .before .before .before .before .before .before .before in
-    let after-make = c .before .before .before .before .before .before .before .before .before .before .before in
+    let at-loop = at-loop-from-then1 c in
+    let after-make = make-from-then1 c in
     after-make .make .kept .1 .1 .0 ∙ at-loop .loop .inv .3
 
 same-length-16 : tie.Need-same-length-16 Inv-loop μ-loop
 same-length-16 c =
-    let at-loop = c .before .before .before .before .before .before .before .before .before .before .before .before .before .before .before .before .before .before .before .before .before in
-    let after-make = c .before .before .before .before .before .before .before .before .before .before .before in
+    let at-loop = at-loop-from-then1 c in
+    let after-make = make-from-then1 c in
     after-make .make .kept .1 .1 .1 .0 ∙ at-loop .loop .inv .4
 
 same-length-17 : tie.Need-same-length-17 Inv-loop μ-loop
 same-length-17 c =
-    let at-loop = c .before .before .before .before .before .before .before .before .before .before .before .before .before .before .before .before .before .before .before .before .before in
-    let after-make = c .before .before .before .before .before .before .before .before .before .before .before in
+    let at-loop = at-loop-from-then1 c in
+    let after-make = make-from-then1 c in
     after-make .make .kept .1 .1 .1 .1 .0 ∙ at-loop .loop .inv .5
 
 same-length-18 : tie.Need-same-length-18 Inv-loop μ-loop
 same-length-18 c =
-    let at-loop = c .before .before .before .before .before .before .before .before .before .before .before .before .before .before .before .before .before .before .before .before .before in
+    let at-loop = at-loop-from-then1 c in
     at-loop .loop .inv .6
 
 returns-3 : tie.Need-returns-3 Inv-loop μ-loop
 returns-3 c =
-    let at-loop = c .before .before .before .before .before .before .before .before .before .before .before .before .before .before .before .before .before .before .before .before .before in
-    let after-next-clause = c .before .before .before .before .before .before .before .before .before .before .before .before .before .before .before .before .before .before .before .before in
-    let after-c = c .before .before .before .before .before .before .before .before .before .before .before .before .before .before .before .before .before .before in
-    let after-make = c .before .before .before .before .before .before .before .before .before .before .before in
+    let at-loop = at-loop-from-then1 c in
+    let after-next-clause = next-clause-from-then1 c in
+    let after-c = c-from-then1 c in
+    let after-make = make-from-then1 c in
     (building-full _ _ _ _ _ _ _ _ _ (at-loop .loop .inv .0) _ (sym (after-next-clause .next-clause .ensures) ∙ after-c .c .given .1) (left after-make) (after-make .make .ensures) (c .if1 .taken), tt)
 
 mul-members : tie.Need-mul-members Inv-loop μ-loop
 mul-members c =
-    let at-loop = c .before .before .before .before .before .before .before .before .before .before .before .before .before .before .before .before .before .before .before .before .before .before in
+    let at-loop = at-loop-from-loop-again c in
     omega (arith, (at-loop .loop .inv .0) .limit, (at-loop .loop .inv .0) .counted)
 
 slice-write-members : tie.Need-slice-write-members Inv-loop μ-loop
 slice-write-members c =
-    let at-loop = c .before .before .before .before .before .before .before .before .before .before .before .before .before .before .before .before .before .before .before .before .before .before in
-    let after-next-clause = c .before .before .before .before .before .before .before .before .before .before .before .before .before .before .before .before .before .before .before .before .before in
-    let after-c = c .before .before .before .before .before .before .before .before .before .before .before .before .before .before .before .before .before .before .before in
+    let at-loop = at-loop-from-loop-again c in
+    let after-next-clause = next-clause-from-loop-again c in
+    let after-c = c-from-loop-again c in
     omega (arith, (at-loop .loop .inv .0) .limit, (at-loop .loop .inv .0) .room, building-more _ _ _ _ _ _ _ _ _ (at-loop .loop .inv .0) _ (sym (after-next-clause .next-clause .ensures) ∙ after-c .c .given .1))
 
 add-made : tie.Need-add-made Inv-loop μ-loop
 add-made c =
-    let at-loop = c .before .before .before .before .before .before .before .before .before .before .before .before .before .before .before .before .before .before .before .before .before .before in
+    let at-loop = at-loop-from-loop-again c in
     omega (arith, (at-loop .loop .inv .0) .limit, (at-loop .loop .inv .0) .counted)
 
 loop-less : tie.Need-loop-less Inv-loop μ-loop
 loop-less c =
-    let at-loop = c .before .before .before .before .before .before .before .before .before .before .before .before .before .before .before .before .before .before .before .before .before .before in
-    let after-next-clause = c .before .before .before .before .before .before .before .before .before .before .before .before .before .before .before .before .before .before .before .before .before in
-    let after-c = c .before .before .before .before .before .before .before .before .before .before .before .before .before .before .before .before .before .before .before in
+    let at-loop = at-loop-from-loop-again c in
+    let after-next-clause = next-clause-from-loop-again c in
+    let after-c = c-from-loop-again c in
     omega (arith, building-more _ _ _ _ _ _ _ _ _ (at-loop .loop .inv .0) _ (sym (after-next-clause .next-clause .ensures) ∙ after-c .c .given .1))
 
 loop-again : tie.Need-loop-again Inv-loop μ-loop
 loop-again c =
-    let at-loop = c .before .before .before .before .before .before .before .before .before .before .before .before .before .before .before .before .before .before .before .before .before .before in
-    let after-next-clause = c .before .before .before .before .before .before .before .before .before .before .before .before .before .before .before .before .before .before .before .before .before in
-    let after-c = c .before .before .before .before .before .before .before .before .before .before .before .before .before .before .before .before .before .before .before in
-    let after-make = c .before .before .before .before .before .before .before .before .before .before .before .before in
+    let at-loop = at-loop-from-loop-again c in
+    let after-next-clause = next-clause-from-loop-again c in
+    let after-c = c-from-loop-again c in
+    let after-make = make-from-loop-again c in
     (building-next _ _ _ _ _ _ _ _ _ (at-loop .loop .inv .0) _ (sym (after-next-clause .next-clause .ensures) ∙ after-c .c .given .1) (left after-make) (after-make .make .ensures) (c .before .if1 .left), after-make .make .kept .0 ∙ at-loop .loop .inv .1, after-make .make .kept .1 .0 ∙ at-loop .loop .inv .2, after-make .make .kept .1 .1 .0 ∙ at-loop .loop .inv .3, after-make .make .kept .1 .1 .1 .0 ∙ at-loop .loop .inv .4, after-make .make .kept .1 .1 .1 .1 .0 ∙ at-loop .loop .inv .5, length-set (at-loop .loop .members) (at-loop .loop .made) _ ∙ at-loop .loop .inv .6)
 
 pub read-clauses-spec : {M : Type 1} → statement M

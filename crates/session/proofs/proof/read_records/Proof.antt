@@ -32,9 +32,59 @@ module _ (a : tie.After-record-step Inv-loop μ-loop) where
 room : (a : tie.In-loop Inv-loop μ-loop) → a .before .loop .at + 1 < 2 ^ 64
 room a = omega (arith, a .loop-test .taken)
 
+-- The ways back, written by ways.py: TO-from-FROM leads from the place FROM of the code to the place TO before it.
+module _ (c : tie.After-shared-slice-known Inv-loop μ-loop) where
+  abbrev start-from-loop-holds : tie.Start Inv-loop μ-loop
+  start-from-loop-holds = c .before .before .before .before .before .before .before .before .before .before
+
+module _ (c : tie.After-record-step-arg9 Inv-loop μ-loop) where
+  abbrev record-length-from-record-step-call : tie.After-record-length Inv-loop μ-loop
+  record-length-from-record-step-call = c .before .before .before .before .before .before .before .before .before
+
+  abbrev at-loop-from-record-step-call : tie.At-loop Inv-loop μ-loop
+  at-loop-from-record-step-call = record-length-from-record-step-call .before .before .before
+
+module _ (c : tie.After-record-step Inv-loop μ-loop) where
+  abbrev record-length-from-record-step : tie.After-record-length Inv-loop μ-loop
+  record-length-from-record-step = c .before .before .before .before .before .before .before .before .before .before
+
+module _ (c : tie.After-known-told Inv-loop μ-loop) where
+  abbrev record-step-from-return : tie.After-record-step Inv-loop μ-loop
+  record-step-from-return = c .before .before .before .before .before .before .before .before .before .before .before .before .before
+      .before .before .before .before .before .before .before .before
+
+  abbrev record-length-from-return : tie.After-record-length Inv-loop μ-loop
+  record-length-from-return = record-length-from-record-step record-step-from-return
+
+  abbrev record-from-from-return : tie.After-record-from Inv-loop μ-loop
+  record-from-from-return = record-length-from-return .before
+
+  abbrev in-loop-from-return : tie.In-loop Inv-loop μ-loop
+  in-loop-from-return = record-from-from-return .before
+
+  abbrev at-loop-from-return : tie.At-loop Inv-loop μ-loop
+  at-loop-from-return = in-loop-from-return .before
+
+module _ (c : tie.After-known-told2 Inv-loop μ-loop) where
+  abbrev record-step-from-loop-again : tie.After-record-step Inv-loop μ-loop
+  record-step-from-loop-again = c .before .before .before .before .before .before .before .before .before .before .before .before .before
+      .before .before .before .before .before .before .before .before
+
+  abbrev record-length-from-loop-again : tie.After-record-length Inv-loop μ-loop
+  record-length-from-loop-again = record-length-from-record-step record-step-from-loop-again
+
+  abbrev record-from-from-loop-again : tie.After-record-from Inv-loop μ-loop
+  record-from-from-loop-again = record-length-from-loop-again .before
+
+  abbrev in-loop-from-loop-again : tie.In-loop Inv-loop μ-loop
+  in-loop-from-loop-again = record-from-from-loop-again .before
+
+  abbrev at-loop-from-loop-again : tie.At-loop Inv-loop μ-loop
+  at-loop-from-loop-again = in-loop-from-loop-again .before
+
 loop-holds : tie.Need-loop-holds Inv-loop μ-loop
 loop-holds c =
-    let start = c .before .before .before .before .before .before .before .before .before .before in
+    let start = start-from-loop-holds c in
     (going-start _ _ _ _ _ _ (start .pre), refl, refl, refl, refl, refl, refl, refl, refl, refl)
 
 record-from-requires : tie.Need-record-from-requires Inv-loop μ-loop
@@ -51,7 +101,7 @@ add-next c =
 
 record-step-requires : tie.Need-record-step-requires Inv-loop μ-loop
 record-step-requires c κs =
-    let at-loop = c .before .before .before .before .before .before .before .before .before .before .before .before in
+    let at-loop = at-loop-from-record-step-call c in
     going-asks _ _ _ _ _ _ _ _ _ (at-loop .loop .inv .0)
 
 enum-known-number : tie.Need-enum-known-number Inv-loop μ-loop
@@ -60,73 +110,73 @@ enum-known-number c =
 
 add-t41 : tie.Need-add-t41 Inv-loop μ-loop
 add-t41 c =
-    let at-loop = c .before .before .before .before .before .before .before .before .before .before .before .before .before .before .before .before .before .before .before .before .before .before .before .before .before .before .before .before .before .before .before .before .before .before in
-    let in-loop = c .before .before .before .before .before .before .before .before .before .before .before .before .before .before .before .before .before .before .before .before .before .before .before .before .before .before .before .before .before .before .before .before .before in
-    let after-record-from = c .before .before .before .before .before .before .before .before .before .before .before .before .before .before .before .before .before .before .before .before .before .before .before .before .before .before .before .before .before .before .before .before in
-    let after-record-length = c .before .before .before .before .before .before .before .before .before .before .before .before .before .before .before .before .before .before .before .before .before .before .before .before .before .before .before .before .before .before .before in
-    let after-record-step = c .before .before .before .before .before .before .before .before .before .before .before .before .before .before .before .before .before .before .before .before .before in
+    let at-loop = at-loop-from-return c in
+    let in-loop = in-loop-from-return c in
+    let after-record-from = record-from-from-return c in
+    let after-record-length = record-length-from-return c in
+    let after-record-step = record-step-from-return c in
     omega (arith, room in-loop, stop-near _ _ _ _ _ _ _ _ _ (at-loop .loop .inv .0) _ (after-record-from .record-from .ensures) _ (after-record-length .record-length .ensures) (lent after-record-step) _ (after-record-step .record-step .ensures .0) _ _ (c .before .number .given .1))
 
 same-length : tie.Need-same-length Inv-loop μ-loop
 same-length c =
-    let at-loop = c .before .before .before .before .before .before .before .before .before .before .before .before .before .before .before .before .before .before .before .before .before .before .before .before .before .before .before .before .before .before .before .before .before .before in
-    let after-record-step = c .before .before .before .before .before .before .before .before .before .before .before .before .before .before .before .before .before .before .before .before .before in
+    let at-loop = at-loop-from-return c in
+    let after-record-step = record-step-from-return c in
     after-record-step .record-step .kept .0 ∙ at-loop .loop .inv .1
 
 same-length-2 : tie.Need-same-length-2 Inv-loop μ-loop
 same-length-2 c =
-    let at-loop = c .before .before .before .before .before .before .before .before .before .before .before .before .before .before .before .before .before .before .before .before .before .before .before .before .before .before .before .before .before .before .before .before .before .before in
-    let after-record-step = c .before .before .before .before .before .before .before .before .before .before .before .before .before .before .before .before .before .before .before .before .before in
+    let at-loop = at-loop-from-return c in
+    let after-record-step = record-step-from-return c in
     after-record-step .record-step .kept .1 .0 ∙ at-loop .loop .inv .2
 
 same-length-3 : tie.Need-same-length-3 Inv-loop μ-loop
 same-length-3 c =
-    let at-loop = c .before .before .before .before .before .before .before .before .before .before .before .before .before .before .before .before .before .before .before .before .before .before .before .before .before .before .before .before .before .before .before .before .before .before in
-    let after-record-step = c .before .before .before .before .before .before .before .before .before .before .before .before .before .before .before .before .before .before .before .before .before in
+    let at-loop = at-loop-from-return c in
+    let after-record-step = record-step-from-return c in
     after-record-step .record-step .kept .1 .1 .0 ∙ at-loop .loop .inv .3
 
 same-length-4 : tie.Need-same-length-4 Inv-loop μ-loop
 same-length-4 c =
-    let at-loop = c .before .before .before .before .before .before .before .before .before .before .before .before .before .before .before .before .before .before .before .before .before .before .before .before .before .before .before .before .before .before .before .before .before .before in
-    let after-record-step = c .before .before .before .before .before .before .before .before .before .before .before .before .before .before .before .before .before .before .before .before .before in
+    let at-loop = at-loop-from-return c in
+    let after-record-step = record-step-from-return c in
     after-record-step .record-step .kept .1 .1 .1 .0 ∙ at-loop .loop .inv .4
 
 same-length-5 : tie.Need-same-length-5 Inv-loop μ-loop
 same-length-5 c =
-    let at-loop = c .before .before .before .before .before .before .before .before .before .before .before .before .before .before .before .before .before .before .before .before .before .before .before .before .before .before .before .before .before .before .before .before .before .before in
-    let after-record-step = c .before .before .before .before .before .before .before .before .before .before .before .before .before .before .before .before .before .before .before .before .before in
+    let at-loop = at-loop-from-return c in
+    let after-record-step = record-step-from-return c in
     after-record-step .record-step .kept .1 .1 .1 .1 .0 ∙ at-loop .loop .inv .5
 
 same-length-6 : tie.Need-same-length-6 Inv-loop μ-loop
 same-length-6 c =
-    let at-loop = c .before .before .before .before .before .before .before .before .before .before .before .before .before .before .before .before .before .before .before .before .before .before .before .before .before .before .before .before .before .before .before .before .before .before in
-    let after-record-step = c .before .before .before .before .before .before .before .before .before .before .before .before .before .before .before .before .before .before .before .before .before in
+    let at-loop = at-loop-from-return c in
+    let after-record-step = record-step-from-return c in
     after-record-step .record-step .kept .1 .1 .1 .1 .1 .0 ∙ at-loop .loop .inv .6
 
 same-length-7 : tie.Need-same-length-7 Inv-loop μ-loop
 same-length-7 c =
-    let at-loop = c .before .before .before .before .before .before .before .before .before .before .before .before .before .before .before .before .before .before .before .before .before .before .before .before .before .before .before .before .before .before .before .before .before .before in
-    let after-record-step = c .before .before .before .before .before .before .before .before .before .before .before .before .before .before .before .before .before .before .before .before .before in
+    let at-loop = at-loop-from-return c in
+    let after-record-step = record-step-from-return c in
     after-record-step .record-step .kept .1 .1 .1 .1 .1 .1 .0 ∙ at-loop .loop .inv .7
 
 same-length-8 : tie.Need-same-length-8 Inv-loop μ-loop
 same-length-8 c =
-    let at-loop = c .before .before .before .before .before .before .before .before .before .before .before .before .before .before .before .before .before .before .before .before .before .before .before .before .before .before .before .before .before .before .before .before .before .before in
-    let after-record-step = c .before .before .before .before .before .before .before .before .before .before .before .before .before .before .before .before .before .before .before .before .before in
+    let at-loop = at-loop-from-return c in
+    let after-record-step = record-step-from-return c in
     after-record-step .record-step .kept .1 .1 .1 .1 .1 .1 .1 .0 ∙ at-loop .loop .inv .8
 
 same-length-9 : tie.Need-same-length-9 Inv-loop μ-loop
 same-length-9 c =
-    let at-loop = c .before .before .before .before .before .before .before .before .before .before .before .before .before .before .before .before .before .before .before .before .before .before .before .before .before .before .before .before .before .before .before .before .before .before in
-    let after-record-step = c .before .before .before .before .before .before .before .before .before .before .before .before .before .before .before .before .before .before .before .before .before in
+    let at-loop = at-loop-from-return c in
+    let after-record-step = record-step-from-return c in
     after-record-step .record-step .kept .1 .1 .1 .1 .1 .1 .1 .1 .0 ∙ at-loop .loop .inv .9
 
 returns : tie.Need-returns Inv-loop μ-loop
 returns c =
-    let at-loop = c .before .before .before .before .before .before .before .before .before .before .before .before .before .before .before .before .before .before .before .before .before .before .before .before .before .before .before .before .before .before .before .before .before .before in
-    let after-record-from = c .before .before .before .before .before .before .before .before .before .before .before .before .before .before .before .before .before .before .before .before .before .before .before .before .before .before .before .before .before .before .before .before in
-    let after-record-length = c .before .before .before .before .before .before .before .before .before .before .before .before .before .before .before .before .before .before .before .before .before .before .before .before .before .before .before .before .before .before .before in
-    let after-record-step = c .before .before .before .before .before .before .before .before .before .before .before .before .before .before .before .before .before .before .before .before .before in
+    let at-loop = at-loop-from-return c in
+    let after-record-from = record-from-from-return c in
+    let after-record-length = record-length-from-return c in
+    let after-record-step = record-step-from-return c in
     going-stop _ _ _ _ _ _ _ _ _ (at-loop .loop .inv .0) _ (after-record-from .record-from .ensures) _ (after-record-length .record-length .ensures) (lent after-record-step) _ (after-record-step .record-step .ensures .0) _ _ (c .before .number .given .1)
 
 enum-known-s : tie.Need-enum-known-s Inv-loop μ-loop
@@ -135,19 +185,19 @@ enum-known-s c =
 
 loop-less : tie.Need-loop-less Inv-loop μ-loop
 loop-less c =
-    let at-loop = c .before .before .before .before .before .before .before .before .before .before .before .before .before .before .before .before .before .before .before .before .before .before .before .before .before .before .before .before .before .before .before .before .before .before in
-    let in-loop = c .before .before .before .before .before .before .before .before .before .before .before .before .before .before .before .before .before .before .before .before .before .before .before .before .before .before .before .before .before .before .before .before .before in
-    let after-record-from = c .before .before .before .before .before .before .before .before .before .before .before .before .before .before .before .before .before .before .before .before .before .before .before .before .before .before .before .before .before .before .before .before in
-    let after-record-length = c .before .before .before .before .before .before .before .before .before .before .before .before .before .before .before .before .before .before .before .before .before .before .before .before .before .before .before .before .before .before .before in
-    let after-record-step = c .before .before .before .before .before .before .before .before .before .before .before .before .before .before .before .before .before .before .before .before .before in
+    let at-loop = at-loop-from-loop-again c in
+    let in-loop = in-loop-from-loop-again c in
+    let after-record-from = record-from-from-loop-again c in
+    let after-record-length = record-length-from-loop-again c in
+    let after-record-step = record-step-from-loop-again c in
     omega (arith, in-loop .loop-test .taken, next-takes _ _ _ _ _ _ _ _ _ (at-loop .loop .inv .0) _ (after-record-from .record-from .ensures) _ (after-record-length .record-length .ensures) (lent after-record-step) _ (after-record-step .record-step .ensures .0) _ (c .before .s .given .1), next-within _ _ _ _ _ _ _ _ _ (at-loop .loop .inv .0) _ (after-record-from .record-from .ensures) _ (after-record-length .record-length .ensures) (lent after-record-step) _ (after-record-step .record-step .ensures .0) _ (c .before .s .given .1))
 
 loop-again : tie.Need-loop-again Inv-loop μ-loop
 loop-again c =
-    let at-loop = c .before .before .before .before .before .before .before .before .before .before .before .before .before .before .before .before .before .before .before .before .before .before .before .before .before .before .before .before .before .before .before .before .before .before in
-    let after-record-from = c .before .before .before .before .before .before .before .before .before .before .before .before .before .before .before .before .before .before .before .before .before .before .before .before .before .before .before .before .before .before .before .before in
-    let after-record-length = c .before .before .before .before .before .before .before .before .before .before .before .before .before .before .before .before .before .before .before .before .before .before .before .before .before .before .before .before .before .before .before in
-    let after-record-step = c .before .before .before .before .before .before .before .before .before .before .before .before .before .before .before .before .before .before .before .before .before in
+    let at-loop = at-loop-from-loop-again c in
+    let after-record-from = record-from-from-loop-again c in
+    let after-record-length = record-length-from-loop-again c in
+    let after-record-step = record-step-from-loop-again c in
     (going-next _ _ _ _ _ _ _ _ _ (at-loop .loop .inv .0) _ (after-record-from .record-from .ensures) _ (after-record-length .record-length .ensures) (lent after-record-step) _ (after-record-step .record-step .ensures .0) _ (c .before .s .given .1) _ _ (after-record-step .record-step .kept .0) (after-record-step .record-step .ensures .1) (after-record-step .record-step .kept .1 .1 .1 .1 .1 .0), after-record-step .record-step .kept .0 ∙ at-loop .loop .inv .1, after-record-step .record-step .kept .1 .0 ∙ at-loop .loop .inv .2, after-record-step .record-step .kept .1 .1 .0 ∙ at-loop .loop .inv .3, after-record-step .record-step .kept .1 .1 .1 .0 ∙ at-loop .loop .inv .4, after-record-step .record-step .kept .1 .1 .1 .1 .0 ∙ at-loop .loop .inv .5, after-record-step .record-step .kept .1 .1 .1 .1 .1 .0 ∙ at-loop .loop .inv .6, after-record-step .record-step .kept .1 .1 .1 .1 .1 .1 .0 ∙ at-loop .loop .inv .7, after-record-step .record-step .kept .1 .1 .1 .1 .1 .1 .1 .0 ∙ at-loop .loop .inv .8, after-record-step .record-step .kept .1 .1 .1 .1 .1 .1 .1 .1 .0 ∙ at-loop .loop .inv .9)
 
 same-length-10 : tie.Need-same-length-10 Inv-loop μ-loop

@@ -1,12 +1,5 @@
 -- `made` leaves the operation's result placed, or the table as lent and 23. Assumes nothing.
-use mathlib.Core.Path.{_≡_, refl, sym, ap, _∙_, subst}
-use mathlib.Core.Bool.{Bool, true, false}
-use mathlib.Core.List.{List}
-use Prim.Native.Nat.{ℕ, _*_, _≤_, _<_}
-use native.Mathlib.Omega.{arith}
-use lib.ListN.{length, replicate}
-use borrow.Author.Needs.{needs}
-use borrow.Author.Tests.{not-true, not-false}
+use mathlib.Core.Path.{_∙_}
 use Rattle.table.specs.Indexed.{Table, tableOf, Outcome, outcomeOf}
 use Rattle.operate.proofs.Results.{applied-grown, applied-longer}
 use Rattle.single.proofs.Calls.{done-is, full-is, dropped-is}
@@ -29,74 +22,121 @@ module _ (a : lts.After-apply callees reads.Pre reads.Post) where
   abbrev o-of : Outcome
   o-of = outcomeOf (a .apply .last .0) (a .apply .last .1 .0) (a .apply .last .1 .1 .0) (a .apply .last .1 .1 .1 .0) (a .apply .last .1 .1 .1 .1 .0) (a .apply .result)
 
+-- The ways back, written by ways.py: TO-from-FROM leads from the place FROM of the code to the place TO before it.
+module _ (c : tie.After-apply-arg6) where
+  abbrev start-from-apply-call : tie.Start
+  start-from-apply-call = c .before .before .before .before .before .before .before .before .before .before .before .before
+
+module _ (c : tie.After-apply) where
+  abbrev start-from-apply : tie.Start
+  start-from-apply = c .before .before .before .before .before .before .before .before .before .before .before .before .before
+
+module _ (c : tie.Then1) where
+  abbrev apply-from-then1 : tie.After-apply
+  apply-from-then1 = c .before .before .before .before .before .before .before .before .before .before .before .before .before
+
+module _ (c : tie.After-node) where
+  abbrev apply-from-return-2 : tie.After-apply
+  apply-from-return-2 = c .before .before .before .before .before .before .before .before .before .before .before .before .before .before
+
+  abbrev start-from-return-2 : tie.Start
+  start-from-return-2 = start-from-apply apply-from-return-2
+
+module _ (c : tie.After-drop-to-arg5) where
+  abbrev then1-from-drop-to-call : tie.Then1
+  then1-from-drop-to-call = c .before .before .before .before .before
+
+  abbrev apply-from-drop-to-call : tie.After-apply
+  apply-from-drop-to-call = apply-from-then1 then1-from-drop-to-call
+
+  abbrev start-from-drop-to-call : tie.Start
+  start-from-drop-to-call = start-from-apply apply-from-drop-to-call
+
+module _ (c : tie.After-drop-to) where
+  abbrev then1-from-drop-to : tie.Then1
+  then1-from-drop-to = c .before .before .before .before .before .before
+
+module _ (c : tie.After-slice-known17) where
+  abbrev drop-to-from-return : tie.After-drop-to
+  drop-to-from-return = c .before .before .before .before .before .before .before .before .before .before
+
+  abbrev then1-from-return : tie.Then1
+  then1-from-return = then1-from-drop-to drop-to-from-return
+
+  abbrev apply-from-return : tie.After-apply
+  apply-from-return = apply-from-then1 then1-from-return
+
+  abbrev start-from-return : tie.Start
+  start-from-return = start-from-apply apply-from-return
+
 apply-requires : tie.Need-apply-requires
 apply-requires c κs =
-    c .before .before .before .before .before .before .before .before .before .before .before .before .pre
+    start-from-apply-call c .pre
 
 drop-to-requires : tie.Need-drop-to-requires
 drop-to-requires c κs =
-    let W = applied-grown _ _ _ _ _ (c .before .before .before .before .before .before .before .before .before .before .before .before .before .before .before .before .before .before .before .before .before .before .before .before .before .before .before .before .before .before .before .pre) (o-of (c .before .before .before .before .before .before .before .before .before .before .before .before .before .before .before .before .before .before)) (c .before .before .before .before .before .before .before .before .before .before .before .before .before .before .before .before .before .before .apply .ensures .0) in (W .good, c .before .before .before .before .before .before .before .before .before .before .before .before .before .before .before .before .before .before .before .before .before .before .before .before .before .before .before .before .before .before .before .pre .good .least, W .more)
+    let W = applied-grown _ _ _ _ _ (start-from-drop-to-call c .pre) (o-of (apply-from-drop-to-call c)) (apply-from-drop-to-call c .apply .ensures .0) in (W .good, start-from-drop-to-call c .pre .good .least, W .more)
 
 same-length : tie.Need-same-length
 same-length c =
-    c .before .before .before .before .before .before .before .before .before .before .drop-to .kept .0 ∙ c .before .before .before .before .before .before .before .before .before .before .before .before .before .before .before .before .before .before .before .before .before .before .before .before .before .before .before .before .before .apply .kept .0
+    drop-to-from-return c .drop-to .kept .0 ∙ apply-from-return c .apply .kept .0
 
 same-length-2 : tie.Need-same-length-2
 same-length-2 c =
-    c .before .before .before .before .before .before .before .before .before .before .drop-to .kept .1 .0 ∙ c .before .before .before .before .before .before .before .before .before .before .before .before .before .before .before .before .before .before .before .before .before .before .before .before .before .before .before .before .before .apply .kept .1 .0
+    drop-to-from-return c .drop-to .kept .1 .0 ∙ apply-from-return c .apply .kept .1 .0
 
 same-length-3 : tie.Need-same-length-3
 same-length-3 c =
-    c .before .before .before .before .before .before .before .before .before .before .drop-to .kept .1 .1 .0 ∙ c .before .before .before .before .before .before .before .before .before .before .before .before .before .before .before .before .before .before .before .before .before .before .before .before .before .before .before .before .before .apply .kept .1 .1 .0
+    drop-to-from-return c .drop-to .kept .1 .1 .0 ∙ apply-from-return c .apply .kept .1 .1 .0
 
 same-length-4 : tie.Need-same-length-4
 same-length-4 c =
-    c .before .before .before .before .before .before .before .before .before .before .drop-to .kept .1 .1 .1 .0 ∙ c .before .before .before .before .before .before .before .before .before .before .before .before .before .before .before .before .before .before .before .before .before .before .before .before .before .before .before .before .before .apply .kept .1 .1 .1 .0
+    drop-to-from-return c .drop-to .kept .1 .1 .1 .0 ∙ apply-from-return c .apply .kept .1 .1 .1 .0
 
 same-length-5 : tie.Need-same-length-5
 same-length-5 c =
-    c .before .before .before .before .before .before .before .before .before .before .drop-to .kept .1 .1 .1 .1 .0 ∙ c .before .before .before .before .before .before .before .before .before .before .before .before .before .before .before .before .before .before .before .before .before .before .before .before .before .before .before .before .before .apply .kept .1 .1 .1 .1 .0
+    drop-to-from-return c .drop-to .kept .1 .1 .1 .1 .0 ∙ apply-from-return c .apply .kept .1 .1 .1 .1 .0
 
 same-length-6 : tie.Need-same-length-6
 same-length-6 c =
-    c .before .before .before .before .before .before .before .before .before .before .before .before .before .before .before .before .before .before .before .before .before .before .before .before .before .before .before .before .before .apply .kept .1 .1 .1 .1 .1 .0
+    apply-from-return c .apply .kept .1 .1 .1 .1 .1 .0
 
 returns : tie.Need-returns
 returns c =
-    let s = c .before .before .before .before .before .before .before .before .before .before .before .before .before .before .before .before .before .before .before .before .before .before .before .before .before .before .before .before .before .before .before .before .before .before .before .before .before .before .before .before .before .before in
-    let a = c .before .before .before .before .before .before .before .before .before .before .before .before .before .before .before .before .before .before .before .before .before .before .before .before .before .before .before .before .before in
+    let s = start-from-return c in
+    let a = apply-from-return c in
     let L = applied-longer _ _ _ _ _ (s .pre) (o-of a) (a .apply .ensures .0) in
-    dropped-is (t-of s) (o-of a .table) (tableOf (c .before .before .before .before .before .before .before .before .before .before .drop-to .last .0) (c .before .before .before .before .before .before .before .before .before .before .drop-to .last .1 .0) (c .before .before .before .before .before .before .before .before .before .before .drop-to .last .1 .1 .0) (c .before .before .before .before .before .before .before .before .before .before .drop-to .last .1 .1 .1 .0) (c .before .before .before .before .before .before .before .before .before .before .drop-to .last .1 .1 .1 .1 .0) (s .args .count)) (s .pre .good) L (c .before .before .before .before .before .before .before .before .before .before .drop-to .ensures)
-    ∙ full-is (s .args .vars .now) (s .args .lows .now) (s .args .highs .now) (s .args .count) (o-of a) _ (a .apply .ensures .0) (c .before .before .before .before .before .before .before .before .before .before .before .before .before .before .before .before .if1 .taken)
+    dropped-is (t-of s) (o-of a .table) (tableOf (drop-to-from-return c .drop-to .last .0) (drop-to-from-return c .drop-to .last .1 .0) (drop-to-from-return c .drop-to .last .1 .1 .0) (drop-to-from-return c .drop-to .last .1 .1 .1 .0) (drop-to-from-return c .drop-to .last .1 .1 .1 .1 .0) (s .args .count)) (s .pre .good) L (drop-to-from-return c .drop-to .ensures)
+    ∙ full-is (s .args .vars .now) (s .args .lows .now) (s .args .highs .now) (s .args .count) (o-of a) _ (a .apply .ensures .0) (then1-from-return c .if1 .taken)
 
 same-length-7 : tie.Need-same-length-7
 same-length-7 c =
-    c .before .before .before .before .before .before .before .before .before .before .before .before .before .before .apply .kept .0
+    apply-from-return-2 c .apply .kept .0
 
 same-length-8 : tie.Need-same-length-8
 same-length-8 c =
-    c .before .before .before .before .before .before .before .before .before .before .before .before .before .before .apply .kept .1 .0
+    apply-from-return-2 c .apply .kept .1 .0
 
 same-length-9 : tie.Need-same-length-9
 same-length-9 c =
-    c .before .before .before .before .before .before .before .before .before .before .before .before .before .before .apply .kept .1 .1 .0
+    apply-from-return-2 c .apply .kept .1 .1 .0
 
 same-length-10 : tie.Need-same-length-10
 same-length-10 c =
-    c .before .before .before .before .before .before .before .before .before .before .before .before .before .before .apply .kept .1 .1 .1 .0
+    apply-from-return-2 c .apply .kept .1 .1 .1 .0
 
 same-length-11 : tie.Need-same-length-11
 same-length-11 c =
-    c .before .before .before .before .before .before .before .before .before .before .before .before .before .before .apply .kept .1 .1 .1 .1 .0
+    apply-from-return-2 c .apply .kept .1 .1 .1 .1 .0
 
 same-length-12 : tie.Need-same-length-12
 same-length-12 c =
-    c .before .before .before .before .before .before .before .before .before .before .before .before .before .before .apply .kept .1 .1 .1 .1 .1 .0
+    apply-from-return-2 c .apply .kept .1 .1 .1 .1 .1 .0
 
 returns-2 : tie.Need-returns-2
 returns-2 c =
-    let s = c .before .before .before .before .before .before .before .before .before .before .before .before .before .before .before .before .before .before .before .before .before .before .before .before .before .before .before in
-    let a = c .before .before .before .before .before .before .before .before .before .before .before .before .before .before in
+    let s = start-from-return-2 c in
+    let a = apply-from-return-2 c in
     done-is (s .args .vars .now) (s .args .lows .now) (s .args .highs .now) (s .args .count) (o-of a) _ (a .apply .ensures .0) (c .before .if1 .left)
 
 pub made-spec : {M : Type 1} → statement M

@@ -1,18 +1,9 @@
 -- `operand_refusal` gives 27 or 15 where its definition does. Assumes nothing.
-use mathlib.Core.Path.{_≡_, refl, sym, ap, _∙_, subst}
-use mathlib.Core.Bool.{Bool, true, false}
-use mathlib.Core.List.{List}
-use Prim.Native.Nat.{ℕ, _*_, _≤_, _<_}
-use native.Mathlib.Omega.{arith}
-use lib.ListN.{length, replicate}
+use mathlib.Core.Path.{sym, _∙_}
 use borrow.Author.Needs.{needs}
-use borrow.Author.Tests.{not-true, not-false}
 use Rattle.single.proofs.Operands.{conjunction-none, negation-none, cofactor-27, cofactor-none, literals-15, literals-none}
 use Rattle.single.proofs.call.operand_refusal.Statement.{statement}
 use Rattle.single.proofs.call.operand_refusal.Tie as tie
-use Rattle.single.proofs.call.operand_refusal.Reads as reads
-use Rattle.single.proofs.call.operand_refusal.Lts as lts
-use Rattle.single.proofs.call.shares_variable.Reads as shares-variable-reads
 
 enum-told : tie.Need-enum-told
 enum-told c =

@@ -1,17 +1,15 @@
 -- `shares_variable` tells whether a variable is in both words. The invariant: none of those before i is. Assumes nothing.
-use mathlib.Core.Path.{_≡_, refl, sym, ap, _∙_, subst}
+use mathlib.Core.Path.{_≡_, sym, _∙_, subst}
 use mathlib.Core.Logic.{⊎-elim}
-use mathlib.Core.Bool.{Bool, true, false, not, _&&_}
-use Prim.Native.Nat.{ℕ, _+_, _-_, _≤_, _<_}
+use mathlib.Core.Bool.{true}
+use Prim.Native.Nat.{ℕ, _-_, _≤_}
 use native.Mathlib.Omega.{arith}
 use borrow.Author.Needs.{needs}
 use borrow.Author.Tests.{eq-eqb, ne-eqb}
 use Rattle.table.specs.Nodes.{allBelow}
-use Rattle.single.proofs.Shares.{parted, parted-is, shares-none, shares-start, shares-start, shares-hit, shares-next}
+use Rattle.single.proofs.Shares.{parted, parted-is, shares-none, shares-start, shares-hit, shares-next}
 use Rattle.single.proofs.call.shares_variable.Statement.{statement}
 use Rattle.single.proofs.call.shares_variable.Tie as tie
-use Rattle.single.proofs.call.shares_variable.Reads as reads
-use Rattle.single.proofs.call.shares_variable.Lts as lts
 
 abbrev Inv-loop : tie.InvT-loop
 Inv-loop positive negative i₀ i = (i ≤ 64) × (allBelow i (parted positive negative) ≡ true)

@@ -3,11 +3,6 @@ use Rattle.table.proofs.IndexOrder.{sized}
 use borrow.Author.Needs.{needs}
 use Rattle.single.proofs.order.good_order.Statement.{statement}
 use Rattle.single.proofs.order.good_order.Tie as tie
-use Rattle.single.proofs.order.good_order.Reads as reads
-use Rattle.single.proofs.order.good_order.Lts as lts
-use Rattle.single.proofs.order.good_order_4096.Reads as good-order-4096-reads
-use Rattle.single.proofs.order.good_order_64.Reads as good-order-64-reads
-use Rattle.single.proofs.order.good_order_65536.Reads as good-order-65536-reads
 
 good-order-64-requires : tie.Need-good-order-64-requires
 good-order-64-requires c κs = search needs
@@ -21,9 +16,14 @@ good-order-4096-requires c κs = search needs
 returns-2 : tie.Need-returns-2
 returns-2 c = search needs
 
+-- The ways back, written by ways.py: TO-from-FROM leads from the place FROM of the code to the place TO before it.
+module _ (c : tie.Else2) where
+  abbrev start-from-else2 : tie.Start
+  start-from-else2 = c .before .before .before .before .before
+
 good-order-65536-requires : tie.Need-good-order-65536-requires
 good-order-65536-requires c κs =
-    (c .before .before .before .before .before .pre, sized _ _ _ (c .before .before .before .before .before .pre) .most)
+    (start-from-else2 c .pre, sized _ _ _ (start-from-else2 c .pre) .most)
 
 returns-3 : tie.Need-returns-3
 returns-3 c = search needs

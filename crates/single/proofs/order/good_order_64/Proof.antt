@@ -1,5 +1,4 @@
 -- The good-order test over local arrays for up to 64 places: the lent parts are zeros. Assumes nothing.
-use mathlib.Core.Path.{_≡_, sym, _∙_}
 use Prim.Native.Nat.{_*_}
 use native.Mathlib.Omega.{arith}
 use lib.ListN.{length}
@@ -7,9 +6,6 @@ use borrow.Author.Needs.{needs}
 use Rattle.single.proofs.Zeros.{part-zeros, length-part}
 use Rattle.single.proofs.order.good_order_64.Statement.{statement}
 use Rattle.single.proofs.order.good_order_64.Tie as tie
-use Rattle.single.proofs.order.good_order_64.Reads as reads
-use Rattle.single.proofs.order.good_order_64.Lts as lts
-use Rattle.table.proofs.test.in_order.Reads as in-order-reads
 
 mul-ends : tie.Need-mul-ends
 mul-ends c = search needs
@@ -17,18 +13,27 @@ mul-ends c = search needs
 array-borrow-prefix-heads : tie.Need-array-borrow-prefix-heads
 array-borrow-prefix-heads c = search needs
 
+-- The ways back, written by ways.py: TO-from-FROM leads from the place FROM of the code to the place TO before it.
+module _ (c : tie.After-heads) where
+  abbrev start-from-slice-aggregate-in-order : tie.Start
+  start-from-slice-aggregate-in-order = c .before .before .before .before
+
+module _ (c : tie.After-links) where
+  abbrev start-from-in-order-call : tie.Start
+  start-from-in-order-call = c .before .before .before .before .before
+
 slice-aggregate-in-order : tie.Need-slice-aggregate-in-order
-slice-aggregate-in-order c = length-part _ 128 (omega (arith, c .before .before .before .before .pre .1))
+slice-aggregate-in-order c = length-part _ 128 (omega (arith, start-from-slice-aggregate-in-order c .pre .1))
 
 array-borrow-prefix-links : tie.Need-array-borrow-prefix-links
 array-borrow-prefix-links c = search needs
 
 slice-aggregate-in-order-2 : tie.Need-slice-aggregate-in-order-2
-slice-aggregate-in-order-2 c = length-part _ 64 (omega (arith, c .before .before .before .before .before .pre .1))
+slice-aggregate-in-order-2 c = length-part _ 64 (omega (arith, start-from-in-order-call c .pre .1))
 
 in-order-requires : tie.Need-in-order-requires
 in-order-requires c κs =
-    (c .before .before .before .before .before .pre .0, (part-zeros (2 * length (c .before .before .before .before .before .args .vars .now)) 128 (omega (arith, c .before .before .before .before .before .pre .1)), part-zeros (length (c .before .before .before .before .before .args .vars .now)) 64 (omega (arith, c .before .before .before .before .before .pre .1))))
+    (start-from-in-order-call c .pre .0, (part-zeros (2 * length (start-from-in-order-call c .args .vars .now)) 128 (omega (arith, start-from-in-order-call c .pre .1)), part-zeros (length (start-from-in-order-call c .args .vars .now)) 64 (omega (arith, start-from-in-order-call c .pre .1))))
 
 returns : tie.Need-returns
 returns c = search needs

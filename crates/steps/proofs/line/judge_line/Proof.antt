@@ -36,9 +36,118 @@ enum-told : tie.Need-enum-told
 enum-told c =
     search needs
 
+-- The ways back, written by ways.py: TO-from-FROM leads from the place FROM of the code to the place TO before it.
+module _ (c : tie.After-enum-told) where
+  abbrev start-from-enum-told : tie.Start
+  start-from-enum-told = c .before .before .before .before .before .before .before .before .before .before .before
+
+module _ (c : tie.After-enum-told2) where
+  abbrev start-from-enum-told2 : tie.Start
+  start-from-enum-told2 = c .before .before .before .before .before .before .before .before .before .before .before
+
+module _ (c : tie.After-pr-arg8) where
+  abbrev enum-told2-from-slice-aggregate-pr : tie.After-enum-told2
+  enum-told2-from-slice-aggregate-pr = c .before .before .before .before .before .before .before .before
+
+  abbrev start-from-slice-aggregate-pr : tie.Start
+  start-from-slice-aggregate-pr = start-from-enum-told2 enum-told2-from-slice-aggregate-pr
+
+module _ (c : tie.After-rup-arg8) where
+  abbrev enum-told-from-slice-aggregate-rup : tie.After-enum-told
+  enum-told-from-slice-aggregate-rup = c .before .before .before .before .before .before .before .before
+
+  abbrev start-from-slice-aggregate-rup : tie.Start
+  start-from-slice-aggregate-rup = start-from-enum-told enum-told-from-slice-aggregate-rup
+
+module _ (c : tie.After-given) where
+  abbrev enum-told-from-slice-aggregate-rup-2 : tie.After-enum-told
+  enum-told-from-slice-aggregate-rup-2 = c .before .before .before .before .before .before .before .before .before
+
+  abbrev start-from-slice-aggregate-rup-2 : tie.Start
+  start-from-slice-aggregate-rup-2 = start-from-enum-told enum-told-from-slice-aggregate-rup-2
+
+module _ (c : tie.After-given3) where
+  abbrev enum-told2-from-slice-aggregate-pr-2 : tie.After-enum-told2
+  enum-told2-from-slice-aggregate-pr-2 = c .before .before .before .before .before .before .before .before .before
+
+  abbrev start-from-slice-aggregate-pr-2 : tie.Start
+  start-from-slice-aggregate-pr-2 = start-from-enum-told2 enum-told2-from-slice-aggregate-pr-2
+
+module _ (c : tie.After-pr-arg9) where
+  abbrev enum-told2-from-slice-aggregate-pr-3 : tie.After-enum-told2
+  enum-told2-from-slice-aggregate-pr-3 = c .before .before .before .before .before .before .before .before .before .before
+
+  abbrev start-from-slice-aggregate-pr-3 : tie.Start
+  start-from-slice-aggregate-pr-3 = start-from-enum-told2 enum-told2-from-slice-aggregate-pr-3
+
+module _ (c : tie.After-rup-arg9) where
+  abbrev enum-told-from-slice-aggregate-rup-3 : tie.After-enum-told
+  enum-told-from-slice-aggregate-rup-3 = c .before .before .before .before .before .before .before .before .before .before
+
+  abbrev start-from-slice-aggregate-rup-3 : tie.Start
+  start-from-slice-aggregate-rup-3 = start-from-enum-told enum-told-from-slice-aggregate-rup-3
+
+module _ (c : tie.After-words) where
+  abbrev enum-told-from-rup-call : tie.After-enum-told
+  enum-told-from-rup-call = c .before .before .before .before .before .before .before .before .before .before .before
+
+  abbrev start-from-rup-call : tie.Start
+  start-from-rup-call = start-from-enum-told enum-told-from-rup-call
+
+module _ (c : tie.After-words3) where
+  abbrev enum-told2-from-slice-aggregate-pr-4 : tie.After-enum-told2
+  enum-told2-from-slice-aggregate-pr-4 = c .before .before .before .before .before .before .before .before .before .before .before
+
+  abbrev start-from-slice-aggregate-pr-4 : tie.Start
+  start-from-slice-aggregate-pr-4 = start-from-enum-told2 enum-told2-from-slice-aggregate-pr-4
+
+module _ (c : tie.After-rup) where
+  abbrev enum-told-from-rup : tie.After-enum-told
+  enum-told-from-rup = c .before .before .before .before .before .before .before .before .before .before .before .before
+
+module _ (c : tie.After-second) where
+  abbrev enum-told2-from-slice-aggregate-pr-5 : tie.After-enum-told2
+  enum-told2-from-slice-aggregate-pr-5 = c .before .before .before .before .before .before .before .before .before .before .before .before
+
+  abbrev start-from-slice-aggregate-pr-5 : tie.Start
+  start-from-slice-aggregate-pr-5 = start-from-enum-told2 enum-told2-from-slice-aggregate-pr-5
+
+module _ (c : tie.After-seconds) where
+  abbrev enum-told2-from-pr-call : tie.After-enum-told2
+  enum-told2-from-pr-call = c .before .before .before .before .before .before .before .before .before .before .before .before .before
+
+  abbrev start-from-pr-call : tie.Start
+  start-from-pr-call = start-from-enum-told2 enum-told2-from-pr-call
+
+module _ (c : tie.After-pr) where
+  abbrev enum-told2-from-pr : tie.After-enum-told2
+  enum-told2-from-pr = c .before .before .before .before .before .before .before .before .before .before .before .before .before .before
+
+module _ (c : tie.After-words2) where
+  abbrev rup-from-return : tie.After-rup
+  rup-from-return = c .before .before .before .before .before .before .before .before .before .before .before .before .before .before
+      .before .before .before .before
+
+  abbrev enum-told-from-return : tie.After-enum-told
+  enum-told-from-return = enum-told-from-rup rup-from-return
+
+  abbrev start-from-return : tie.Start
+  start-from-return = start-from-enum-told enum-told-from-return
+
+module _ (c : tie.After-seconds2) where
+  abbrev pr-from-return-2 : tie.After-pr
+  pr-from-return-2 = c .before .before .before .before .before .before .before .before .before .before .before .before .before .before
+      .before .before .before .before .before .before
+
+  abbrev enum-told2-from-return-2 : tie.After-enum-told2
+  enum-told2-from-return-2 = enum-told2-from-pr pr-from-return-2
+
+  abbrev start-from-return-2 : tie.Start
+  start-from-return-2 = start-from-enum-told2 enum-told2-from-return-2
+
 slice-aggregate-rup : tie.Need-slice-aggregate-rup
 slice-aggregate-rup c =
-    sym (members-length (c .before .before .before .before .before .before .before .before .before .before .before .before .before .before .before .before .before .before .before))
+    sym (members-length (start-from-slice-aggregate-rup c))
 
 array-borrow-prefix-given : tie.Need-array-borrow-prefix-given
 array-borrow-prefix-given c =
@@ -46,7 +155,7 @@ array-borrow-prefix-given c =
 
 slice-aggregate-rup-2 : tie.Need-slice-aggregate-rup-2
 slice-aggregate-rup-2 c =
-    sym (own-length (c .before .before .before .before .before .before .before .before .before .before .before .before .before .before .before .before .before .before .before .before))
+    sym (own-length (start-from-slice-aggregate-rup-2 c))
 
 slice-relend-prefix-rup : tie.Need-slice-relend-prefix-rup
 slice-relend-prefix-rup c =
@@ -54,7 +163,7 @@ slice-relend-prefix-rup c =
 
 slice-aggregate-rup-3 : tie.Need-slice-aggregate-rup-3
 slice-aggregate-rup-3 c =
-    sym (scratch-length (c .before .before .before .before .before .before .before .before .before .before .before .before .before .before .before .before .before .before .before .before .before))
+    sym (scratch-length (start-from-slice-aggregate-rup-3 c))
 
 array-borrow-prefix-words : tie.Need-array-borrow-prefix-words
 array-borrow-prefix-words c =
@@ -62,11 +171,11 @@ array-borrow-prefix-words c =
 
 slice-aggregate-rup-4 : tie.Need-slice-aggregate-rup-4
 slice-aggregate-rup-4 c =
-    sym (own-length (c .before .before .before .before .before .before .before .before .before .before .before .before .before .before .before .before .before .before .before .before .before .before))
+    sym (own-length (start-from-rup-call c))
 
 rup-requires : tie.Need-rup-requires
 rup-requires c κs =
-    let s = c .before .before .before .before .before .before .before .before .before .before .before .before .before .before .before .before .before .before .before .before .before .before in ((s .pre .0, s .pre .1, scratch-length s ∙ sym (members-length s)), (own-length s ∙ sym (members-length s), own-length s ∙ sym (members-length s)))
+    let s = start-from-rup-call c in ((s .pre .0, s .pre .1, scratch-length s ∙ sym (members-length s)), (own-length s ∙ sym (members-length s), own-length s ∙ sym (members-length s)))
 
 enum-told-2 : tie.Need-enum-told-2
 enum-told-2 c =
@@ -74,7 +183,7 @@ enum-told-2 c =
 
 slice-aggregate-pr : tie.Need-slice-aggregate-pr
 slice-aggregate-pr c =
-    sym (members-length (c .before .before .before .before .before .before .before .before .before .before .before .before .before .before .before .before .before .before .before))
+    sym (members-length (start-from-slice-aggregate-pr c))
 
 array-borrow-prefix-given-2 : tie.Need-array-borrow-prefix-given-2
 array-borrow-prefix-given-2 c =
@@ -82,7 +191,7 @@ array-borrow-prefix-given-2 c =
 
 slice-aggregate-pr-2 : tie.Need-slice-aggregate-pr-2
 slice-aggregate-pr-2 c =
-    sym (own-length (c .before .before .before .before .before .before .before .before .before .before .before .before .before .before .before .before .before .before .before .before))
+    sym (own-length (start-from-slice-aggregate-pr-2 c))
 
 slice-relend-prefix-pr : tie.Need-slice-relend-prefix-pr
 slice-relend-prefix-pr c =
@@ -90,7 +199,7 @@ slice-relend-prefix-pr c =
 
 slice-aggregate-pr-3 : tie.Need-slice-aggregate-pr-3
 slice-aggregate-pr-3 c =
-    sym (scratch-length (c .before .before .before .before .before .before .before .before .before .before .before .before .before .before .before .before .before .before .before .before .before))
+    sym (scratch-length (start-from-slice-aggregate-pr-3 c))
 
 array-borrow-prefix-words-2 : tie.Need-array-borrow-prefix-words-2
 array-borrow-prefix-words-2 c =
@@ -98,7 +207,7 @@ array-borrow-prefix-words-2 c =
 
 slice-aggregate-pr-4 : tie.Need-slice-aggregate-pr-4
 slice-aggregate-pr-4 c =
-    sym (own-length (c .before .before .before .before .before .before .before .before .before .before .before .before .before .before .before .before .before .before .before .before .before .before))
+    sym (own-length (start-from-slice-aggregate-pr-4 c))
 
 array-borrow-prefix-second : tie.Need-array-borrow-prefix-second
 array-borrow-prefix-second c =
@@ -106,7 +215,7 @@ array-borrow-prefix-second c =
 
 slice-aggregate-pr-5 : tie.Need-slice-aggregate-pr-5
 slice-aggregate-pr-5 c =
-    sym (own-length (c .before .before .before .before .before .before .before .before .before .before .before .before .before .before .before .before .before .before .before .before .before .before .before))
+    sym (own-length (start-from-slice-aggregate-pr-5 c))
 
 array-borrow-prefix-seconds : tie.Need-array-borrow-prefix-seconds
 array-borrow-prefix-seconds c =
@@ -114,90 +223,90 @@ array-borrow-prefix-seconds c =
 
 slice-aggregate-pr-6 : tie.Need-slice-aggregate-pr-6
 slice-aggregate-pr-6 c =
-    sym (own-length (c .before .before .before .before .before .before .before .before .before .before .before .before .before .before .before .before .before .before .before .before .before .before .before .before))
+    sym (own-length (start-from-pr-call c))
 
 pr-requires : tie.Need-pr-requires
 pr-requires c κs =
-    let s = c .before .before .before .before .before .before .before .before .before .before .before .before .before .before .before .before .before .before .before .before .before .before .before .before in ((s .pre .0, s .pre .1, scratch-length s ∙ sym (members-length s), own-length s ∙ sym (members-length s), omega (arith, members-length s, s .pre .2)), (own-length s ∙ sym (members-length s), own-length s ∙ sym (members-length s), own-length s ∙ sym (members-length s)))
+    let s = start-from-pr-call c in ((s .pre .0, s .pre .1, scratch-length s ∙ sym (members-length s), own-length s ∙ sym (members-length s), omega (arith, members-length s, s .pre .2)), (own-length s ∙ sym (members-length s), own-length s ∙ sym (members-length s), own-length s ∙ sym (members-length s)))
 
 same-length : tie.Need-same-length
 same-length c =
-    c .before .before .before .before .before .before .before .before .before .before .before .before .before .before .before .before .before .before .rup .kept .0
+    rup-from-return c .rup .kept .0
 
 same-length-2 : tie.Need-same-length-2
 same-length-2 c =
-    c .before .before .before .before .before .before .before .before .before .before .before .before .before .before .before .before .before .before .rup .kept .1 .0
+    rup-from-return c .rup .kept .1 .0
 
 same-length-3 : tie.Need-same-length-3
 same-length-3 c =
-    c .before .before .before .before .before .before .before .before .before .before .before .before .before .before .before .before .before .before .rup .kept .1 .1 .0
+    rup-from-return c .rup .kept .1 .1 .0
 
 same-length-4 : tie.Need-same-length-4
 same-length-4 c =
-    c .before .before .before .before .before .before .before .before .before .before .before .before .before .before .before .before .before .before .rup .kept .1 .1 .1 .0
+    rup-from-return c .rup .kept .1 .1 .1 .0
 
 same-length-5 : tie.Need-same-length-5
 same-length-5 c =
-    c .before .before .before .before .before .before .before .before .before .before .before .before .before .before .before .before .before .before .rup .kept .1 .1 .1 .1 .0
+    rup-from-return c .rup .kept .1 .1 .1 .1 .0
 
 same-length-6 : tie.Need-same-length-6
 same-length-6 c =
-    c .before .before .before .before .before .before .before .before .before .before .before .before .before .before .before .before .before .before .rup .kept .1 .1 .1 .1 .1 .0
+    rup-from-return c .rup .kept .1 .1 .1 .1 .1 .0
 
 same-length-7 : tie.Need-same-length-7
 same-length-7 c =
-    c .before .before .before .before .before .before .before .before .before .before .before .before .before .before .before .before .before .before .rup .kept .1 .1 .1 .1 .1 .1 .0
+    rup-from-return c .rup .kept .1 .1 .1 .1 .1 .1 .0
 
 same-length-8 : tie.Need-same-length-8
 same-length-8 c =
-    length-front (c .before .before .before .before .before .before .before .before .before .before .before .before .before .before .before .before .before .before .before .before .before .before .before .before .before .before .before .before .before .before .before .before .before .before .before .before .before .before .before .before .before .args .scratch .now) (c .before .before .before .before .before .before .before .before .before .before .before .before .before .before .before .before .before .before .rup .last .1 .1 .1 .1 .1 .1 .1 .1 .1 .0) (c .before .before .before .before .before .before .before .before .before .before .before .before .before .before .before .before .before .before .before .before .before .before .before .before .before .before .before .before .before .before .before .before .before .before .before .before .before .before .before .before .before .args .st .members) (c .before .before .before .before .before .before .before .before .before .before .before .before .before .before .before .before .before .before .rup .kept .1 .1 .1 .1 .1 .1 .1 .1 .1 .0)
+    length-front (start-from-return c .args .scratch .now) (rup-from-return c .rup .last .1 .1 .1 .1 .1 .1 .1 .1 .1 .0) (start-from-return c .args .st .members) (rup-from-return c .rup .kept .1 .1 .1 .1 .1 .1 .1 .1 .1 .0)
 
 returns : tie.Need-returns
 returns c =
-    let s = c .before .before .before .before .before .before .before .before .before .before .before .before .before .before .before .before .before .before .before .before .before .before .before .before .before .before .before .before .before .before .before .before .before .before .before .before .before .before .before .before .before in
-    let r = c .before .before .before .before .before .before .before .before .before .before .before .before .before .before .before .before .before .before .rup in (
-      subst (λ (x : Rule). Says (before s) (lineOf 64 (state s) x (s .args .g .0)) 131072 (r .result) (tableOf (r .last .0) (r .last .1 .0) (r .last .1 .1 .0) (r .last .1 .1 .1 .0) (r .last .1 .1 .1 .1 .0) (r .result .count))) (sym (c .before .before .before .before .before .before .before .before .before .before .before .before .before .before .before .before .before .before .before .before .before .before .before .before .before .before .before .before .before .before .enum-told .given .1))
+    let s = start-from-return c in
+    let r = rup-from-return c .rup in (
+      subst (λ (x : Rule). Says (before s) (lineOf 64 (state s) x (s .args .g .0)) 131072 (r .result) (tableOf (r .last .0) (r .last .1 .0) (r .last .1 .1 .0) (r .last .1 .1 .1 .0) (r .last .1 .1 .1 .1 .0) (r .result .count))) (sym (enum-told-from-return c .enum-told .given .1))
           (says-most (before s) _ _ 131072 (r .result) _ (omega arith) (r .ensures .0)),
       r .ensures .1,
     )
 
 same-length-9 : tie.Need-same-length-9
 same-length-9 c =
-    c .before .before .before .before .before .before .before .before .before .before .before .before .before .before .before .before .before .before .before .before .pr .kept .0
+    pr-from-return-2 c .pr .kept .0
 
 same-length-10 : tie.Need-same-length-10
 same-length-10 c =
-    c .before .before .before .before .before .before .before .before .before .before .before .before .before .before .before .before .before .before .before .before .pr .kept .1 .0
+    pr-from-return-2 c .pr .kept .1 .0
 
 same-length-11 : tie.Need-same-length-11
 same-length-11 c =
-    c .before .before .before .before .before .before .before .before .before .before .before .before .before .before .before .before .before .before .before .before .pr .kept .1 .1 .0
+    pr-from-return-2 c .pr .kept .1 .1 .0
 
 same-length-12 : tie.Need-same-length-12
 same-length-12 c =
-    c .before .before .before .before .before .before .before .before .before .before .before .before .before .before .before .before .before .before .before .before .pr .kept .1 .1 .1 .0
+    pr-from-return-2 c .pr .kept .1 .1 .1 .0
 
 same-length-13 : tie.Need-same-length-13
 same-length-13 c =
-    c .before .before .before .before .before .before .before .before .before .before .before .before .before .before .before .before .before .before .before .before .pr .kept .1 .1 .1 .1 .0
+    pr-from-return-2 c .pr .kept .1 .1 .1 .1 .0
 
 same-length-14 : tie.Need-same-length-14
 same-length-14 c =
-    c .before .before .before .before .before .before .before .before .before .before .before .before .before .before .before .before .before .before .before .before .pr .kept .1 .1 .1 .1 .1 .0
+    pr-from-return-2 c .pr .kept .1 .1 .1 .1 .1 .0
 
 same-length-15 : tie.Need-same-length-15
 same-length-15 c =
-    c .before .before .before .before .before .before .before .before .before .before .before .before .before .before .before .before .before .before .before .before .pr .kept .1 .1 .1 .1 .1 .1 .0
+    pr-from-return-2 c .pr .kept .1 .1 .1 .1 .1 .1 .0
 
 same-length-16 : tie.Need-same-length-16
 same-length-16 c =
-    length-front (c .before .before .before .before .before .before .before .before .before .before .before .before .before .before .before .before .before .before .before .before .before .before .before .before .before .before .before .before .before .before .before .before .before .before .before .before .before .before .before .before .before .before .before .before .before .args .scratch .now) (c .before .before .before .before .before .before .before .before .before .before .before .before .before .before .before .before .before .before .before .before .pr .last .1 .1 .1 .1 .1 .1 .1 .1 .1 .0) (c .before .before .before .before .before .before .before .before .before .before .before .before .before .before .before .before .before .before .before .before .before .before .before .before .before .before .before .before .before .before .before .before .before .before .before .before .before .before .before .before .before .before .before .before .before .args .st .members) (c .before .before .before .before .before .before .before .before .before .before .before .before .before .before .before .before .before .before .before .before .pr .kept .1 .1 .1 .1 .1 .1 .1 .1 .1 .0)
+    length-front (start-from-return-2 c .args .scratch .now) (pr-from-return-2 c .pr .last .1 .1 .1 .1 .1 .1 .1 .1 .1 .0) (start-from-return-2 c .args .st .members) (pr-from-return-2 c .pr .kept .1 .1 .1 .1 .1 .1 .1 .1 .1 .0)
 
 returns-2 : tie.Need-returns-2
 returns-2 c =
-    let s = c .before .before .before .before .before .before .before .before .before .before .before .before .before .before .before .before .before .before .before .before .before .before .before .before .before .before .before .before .before .before .before .before .before .before .before .before .before .before .before .before .before .before .before .before .before in
-    let r = c .before .before .before .before .before .before .before .before .before .before .before .before .before .before .before .before .before .before .before .before .pr in (
-      subst (λ (x : Rule). Says (before s) (lineOf 64 (state s) x (s .args .g .0)) 131072 (r .result) (tableOf (r .last .0) (r .last .1 .0) (r .last .1 .1 .0) (r .last .1 .1 .1 .0) (r .last .1 .1 .1 .1 .0) (r .result .count))) (sym (c .before .before .before .before .before .before .before .before .before .before .before .before .before .before .before .before .before .before .before .before .before .before .before .before .before .before .before .before .before .before .before .before .before .before .enum-told2 .given .1))
+    let s = start-from-return-2 c in
+    let r = pr-from-return-2 c .pr in (
+      subst (λ (x : Rule). Says (before s) (lineOf 64 (state s) x (s .args .g .0)) 131072 (r .result) (tableOf (r .last .0) (r .last .1 .0) (r .last .1 .1 .0) (r .last .1 .1 .1 .0) (r .last .1 .1 .1 .1 .0) (r .result .count))) (sym (enum-told2-from-return-2 c .enum-told2 .given .1))
           (says-most (before s) _ _ 131072 (r .result) _ (omega (arith, members-length s, s .pre .2)) (r .ensures .0)),
       r .ensures .1,
     )

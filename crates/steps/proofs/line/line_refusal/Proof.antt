@@ -27,10 +27,155 @@ module _ (s : tie.Start) (ds ks ms : List ℕ) where
   room : s .args .st .entries ≤ length (s .args .scratch .now)
   room = omega (arith, s .pre .2, s .pre .3)
 
+-- The ways back, written by ways.py: TO-from-FROM leads from the place FROM of the code to the place TO before it.
+module _ (c : tie.After-shared-slice-known4) where
+  abbrev start-from-is-entry-call : tie.Start
+  start-from-is-entry-call = c .before .before .before .before .before
+
+module _ (c : tie.Else1) where
+  abbrev start-from-else1 : tie.Start
+  start-from-else1 = c .before .before .before .before .before .before .before
+
+module _ (c : tie.Then1) where
+  abbrev start-from-then1 : tie.Start
+  start-from-then1 = c .before .before .before .before .before .before .before
+
+module _ (c : tie.Then2) where
+  abbrev else1-from-then2 : tie.Else1
+  else1-from-then2 = c .before .before .before .before .before
+
+  abbrev start-from-then2 : tie.Start
+  start-from-then2 = start-from-else1 else1-from-then2
+
+module _ (c : tie.Then5) where
+  abbrev else1-from-then5 : tie.Else1
+  else1-from-then5 = c .before .before .before .before .before
+
+  abbrev start-from-then5 : tie.Start
+  start-from-then5 = start-from-else1 else1-from-then5
+
+module _ (c : tie.Then3) where
+  abbrev waits-from-then3 : tie.After-waits
+  waits-from-then3 = c .before .before .before
+
+  abbrev enum-told-from-then3 : tie.After-enum-told
+  enum-told-from-then3 = waits-from-then3 .before
+
+  abbrev else1-from-then3 : tie.Else1
+  else1-from-then3 = enum-told-from-then3 .before .before .before
+
+  abbrev start-from-then3 : tie.Start
+  start-from-then3 = start-from-else1 else1-from-then3
+
+module _ (c : tie.Then6) where
+  abbrev enum-told2-from-then6 : tie.After-enum-told2
+  enum-told2-from-then6 = c .before .before .before .before
+
+  abbrev entry-node-from-then6 : tie.After-entry-node
+  entry-node-from-then6 = enum-told2-from-then6 .before .before
+
+  abbrev else1-from-then6 : tie.Else1
+  else1-from-then6 = entry-node-from-then6 .before
+
+  abbrev start-from-then6 : tie.Start
+  start-from-then6 = start-from-else1 else1-from-then6
+
+module _ (c : tie.After-is-constant-arg) where
+  abbrev entry-node-from-is-constant-call : tie.After-entry-node
+  entry-node-from-is-constant-call = c .before .before .before .before .before .before .before
+
+  abbrev else1-from-is-constant-call : tie.Else1
+  else1-from-is-constant-call = entry-node-from-is-constant-call .before
+
+  abbrev start-from-is-constant-call : tie.Start
+  start-from-is-constant-call = start-from-else1 else1-from-is-constant-call
+
+module _ (c : tie.Else4) where
+  abbrev else2-from-else4 : tie.Else2
+  else2-from-else4 = c .before .before .before .before
+
+  abbrev waits-from-else4 : tie.After-waits
+  waits-from-else4 = else2-from-else4 .before
+
+  abbrev enum-told-from-else4 : tie.After-enum-told
+  enum-told-from-else4 = waits-from-else4 .before
+
+  abbrev entry-node-from-else4 : tie.After-entry-node
+  entry-node-from-else4 = enum-told-from-else4 .before .before
+
+  abbrev else1-from-else4 : tie.Else1
+  else1-from-else4 = entry-node-from-else4 .before
+
+  abbrev start-from-else4 : tie.Start
+  start-from-else4 = start-from-else1 else1-from-else4
+
+module _ (c : tie.Then4) where
+  abbrev else2-from-then4 : tie.Else2
+  else2-from-then4 = c .before .before .before .before
+
+  abbrev waits-from-then4 : tie.After-waits
+  waits-from-then4 = else2-from-then4 .before
+
+  abbrev enum-told-from-then4 : tie.After-enum-told
+  enum-told-from-then4 = waits-from-then4 .before
+
+  abbrev entry-node-from-then4 : tie.After-entry-node
+  entry-node-from-then4 = enum-told-from-then4 .before .before
+
+  abbrev else1-from-then4 : tie.Else1
+  else1-from-then4 = entry-node-from-then4 .before
+
+  abbrev start-from-then4 : tie.Start
+  start-from-then4 = start-from-else1 else1-from-then4
+
+module _ (c : tie.Else7) where
+  abbrev is-constant-from-else7 : tie.After-is-constant
+  is-constant-from-else7 = c .before .before .before
+
+  abbrev else6-from-else7 : tie.Else6
+  else6-from-else7 = is-constant-from-else7 .before .before
+
+  abbrev else5-from-else7 : tie.Else5
+  else5-from-else7 = else6-from-else7 .before .before
+
+  abbrev enum-told2-from-else7 : tie.After-enum-told2
+  enum-told2-from-else7 = else5-from-else7 .before .before
+
+  abbrev entry-node-from-else7 : tie.After-entry-node
+  entry-node-from-else7 = enum-told2-from-else7 .before .before
+
+  abbrev else1-from-else7 : tie.Else1
+  else1-from-else7 = entry-node-from-else7 .before
+
+  abbrev start-from-else7 : tie.Start
+  start-from-else7 = start-from-else1 else1-from-else7
+
+module _ (c : tie.Then7) where
+  abbrev is-constant-from-then7 : tie.After-is-constant
+  is-constant-from-then7 = c .before .before .before
+
+  abbrev else6-from-then7 : tie.Else6
+  else6-from-then7 = is-constant-from-then7 .before .before
+
+  abbrev else5-from-then7 : tie.Else5
+  else5-from-then7 = else6-from-then7 .before .before
+
+  abbrev enum-told2-from-then7 : tie.After-enum-told2
+  enum-told2-from-then7 = else5-from-then7 .before .before
+
+  abbrev entry-node-from-then7 : tie.After-entry-node
+  entry-node-from-then7 = enum-told2-from-then7 .before .before
+
+  abbrev else1-from-then7 : tie.Else1
+  else1-from-then7 = entry-node-from-then7 .before
+
+  abbrev start-from-then7 : tie.Start
+  start-from-then7 = start-from-else1 else1-from-then7
+
 -- the entry is there
 module _ (c : tie.Else1) (ds ks ms : List ℕ) where
   abbrev start : tie.Start
-  start = c .before .before .before .before .before .before .before
+  start = start-from-else1 c
 
   entry : isEntry (state start ds ks ms) (start .args .root .0) ≡ true
   entry = entry-told (lent start ds ks ms) (start .args .st) (room start ds ks ms) _ _ _ (c .before .is-entry .ensures) (not-false _ (c .if1 .left))
@@ -39,13 +184,13 @@ module _ (c : tie.Else1) (ds ks ms : List ℕ) where
   there = ltb-true _ _ (sym (c .before .is-entry .ensures) ∙ not-false _ (c .if1 .left))
 
 is-entry-requires : tie.Need-is-entry-requires
-is-entry-requires c κs = c .before .before .before .before .before .pre .2
+is-entry-requires c κs = start-from-is-entry-call c .pre .2
 
 returns : tie.Need-returns
-returns c = λ ds ks ms. let s = c .before .before .before .before .before .before .before in line-13 64 (state s ds ks ms) (s .args .root .0) (s .args .rule) (entry-told (lent s ds ks ms) (s .args .st) (room s ds ks ms) _ _ _ (c .before .is-entry .ensures) (not-true _ (c .if1 .taken)))
+returns c = λ ds ks ms. let s = start-from-then1 c in line-13 64 (state s ds ks ms) (s .args .root .0) (s .args .rule) (entry-told (lent s ds ks ms) (s .args .st) (room s ds ks ms) _ _ _ (c .before .is-entry .ensures) (not-true _ (c .if1 .taken)))
 
 entry-node-requires : tie.Need-entry-node-requires
-entry-node-requires c κs = (room (c .before .before .before .before .before .before .before) [] [] [], there (c) [] [] [])
+entry-node-requires c κs = (room (start-from-else1 c) [] [] [], there (c) [] [] [])
 
 enum-told : tie.Need-enum-told
 enum-told c = search needs
@@ -54,40 +199,40 @@ waits-requires : tie.Need-waits-requires
 waits-requires c κs = search needs
 
 returns-2 : tie.Need-returns-2
-returns-2 c = λ ds ks ms. let s = c .before .before .before .before .before .before .before .before .before .before .before .before in rup-16 64 _ _ (entry (c .before .before .before .before .before) ds ks ms) (waits-is (lent s ds ks ms) (s .args .st) _ _ (c .before .waits .ensures) (c .if2 .taken)) ∙ ap (λ (r : Rule). lineRefusal 64 (state s ds ks ms) r (s .args .root .0)) (sym (c .before .before .enum-told .given .1))
+returns-2 c = λ ds ks ms. let s = start-from-then2 c in rup-16 64 _ _ (entry (else1-from-then2 c) ds ks ms) (waits-is (lent s ds ks ms) (s .args .st) _ _ (c .before .waits .ensures) (c .if2 .taken)) ∙ ap (λ (r : Rule). lineRefusal 64 (state s ds ks ms) r (s .args .root .0)) (sym (c .before .before .enum-told .given .1))
 
 returns-3 : tie.Need-returns-3
-returns-3 c = λ ds ks ms. let s = c .before .before .before .before .before .before .before .before .before .before .before .before .before .before in rup-22 64 _ _ (entry (c .before .before .before .before .before .before .before) ds ks ms) (waits-is (lent s ds ks ms) (s .args .st) _ _ (c .before .before .before .waits .ensures) (c .before .before .if2 .left)) (le-leb 1024 _ (c .if3 .taken)) ∙ ap (λ (r : Rule). lineRefusal 64 (state s ds ks ms) r (s .args .root .0)) (sym (c .before .before .before .before .enum-told .given .1))
+returns-3 c = λ ds ks ms. let s = start-from-then3 c in rup-22 64 _ _ (entry (else1-from-then3 c) ds ks ms) (waits-is (lent s ds ks ms) (s .args .st) _ _ (waits-from-then3 c .waits .ensures) (c .before .before .if2 .left)) (le-leb 1024 _ (c .if3 .taken)) ∙ ap (λ (r : Rule). lineRefusal 64 (state s ds ks ms) r (s .args .root .0)) (sym (enum-told-from-then3 c .enum-told .given .1))
 
 returns-4 : tie.Need-returns-4
-returns-4 c = λ ds ks ms. let s = c .before .before .before .before .before .before .before .before .before .before .before .before .before .before .before .before in rup-17 64 _ _ (entry (c .before .before .before .before .before .before .before .before .before) ds ks ms) (waits-is (lent s ds ks ms) (s .args .st) _ _ (c .before .before .before .before .before .waits .ensures) (c .before .before .before .before .if2 .left)) (lt-leb 1024 _ (c .before .before .if3 .left)) (is-one (lent s ds ks ms) (s .args .st) _ _ (c .before .before .before .before .before .before .before .before .entry-node .ensures) (c .if4 .taken)) ∙ ap (λ (r : Rule). lineRefusal 64 (state s ds ks ms) r (s .args .root .0)) (sym (c .before .before .before .before .before .before .enum-told .given .1))
+returns-4 c = λ ds ks ms. let s = start-from-then4 c in rup-17 64 _ _ (entry (else1-from-then4 c) ds ks ms) (waits-is (lent s ds ks ms) (s .args .st) _ _ (waits-from-then4 c .waits .ensures) (else2-from-then4 c .if2 .left)) (lt-leb 1024 _ (c .before .before .if3 .left)) (is-one (lent s ds ks ms) (s .args .st) _ _ (entry-node-from-then4 c .entry-node .ensures) (c .if4 .taken)) ∙ ap (λ (r : Rule). lineRefusal 64 (state s ds ks ms) r (s .args .root .0)) (sym (enum-told-from-then4 c .enum-told .given .1))
 
 enum-told-2 : tie.Need-enum-told-2
 enum-told-2 c = search needs
 
 returns-5 : tie.Need-returns-5
-returns-5 c = λ ds ks ms. let s = c .before .before .before .before .before .before .before .before .before .before .before .before in pr-22 64 _ _ (entry (c .before .before .before .before .before) ds ks ms) (le-leb 1024 _ (c .if5 .taken)) ∙ ap (λ (r : Rule). lineRefusal 64 (state s ds ks ms) r (s .args .root .0)) (sym (c .before .before .enum-told2 .given .1))
+returns-5 c = λ ds ks ms. let s = start-from-then5 c in pr-22 64 _ _ (entry (else1-from-then5 c) ds ks ms) (le-leb 1024 _ (c .if5 .taken)) ∙ ap (λ (r : Rule). lineRefusal 64 (state s ds ks ms) r (s .args .root .0)) (sym (c .before .before .enum-told2 .given .1))
 
 returns-6 : tie.Need-returns-6
-returns-6 c = λ ds ks ms. let s = c .before .before .before .before .before .before .before .before .before .before .before .before .before .before in pr-17 64 _ _ (entry (c .before .before .before .before .before .before .before) ds ks ms) (lt-leb 1024 _ (c .before .before .if5 .left)) (is-one (lent s ds ks ms) (s .args .st) _ _ (c .before .before .before .before .before .before .entry-node .ensures) (c .if6 .taken)) ∙ ap (λ (r : Rule). lineRefusal 64 (state s ds ks ms) r (s .args .root .0)) (sym (c .before .before .before .before .enum-told2 .given .1))
+returns-6 c = λ ds ks ms. let s = start-from-then6 c in pr-17 64 _ _ (entry (else1-from-then6 c) ds ks ms) (lt-leb 1024 _ (c .before .before .if5 .left)) (is-one (lent s ds ks ms) (s .args .st) _ _ (entry-node-from-then6 c .entry-node .ensures) (c .if6 .taken)) ∙ ap (λ (r : Rule). lineRefusal 64 (state s ds ks ms) r (s .args .root .0)) (sym (enum-told2-from-then6 c .enum-told2 .given .1))
 
 is-constant-requires : tie.Need-is-constant-requires
-is-constant-requires c κs = let s = c .before .before .before .before .before .before .before .before .before .before .before .before .before .before .before in (s .pre .0, subst (λ (x : ℕ). x < s .args .st .count) (sym (c .before .before .before .before .before .before .before .entry-node .ensures)) (node-inside (s .args .scratch .now) (s .args .st .entries) (room s [] [] []) (s .args .st .count) (s .pre .0 .least) (s .pre .1) (s .args .root .0) (there (c .before .before .before .before .before .before .before .before) [] [] [])), omega (arith, s .pre .4))
+is-constant-requires c κs = let s = start-from-is-constant-call c in (s .pre .0, subst (λ (x : ℕ). x < s .args .st .count) (sym (entry-node-from-is-constant-call c .entry-node .ensures)) (node-inside (s .args .scratch .now) (s .args .st .entries) (room s [] [] []) (s .args .st .count) (s .pre .0 .least) (s .pre .1) (s .args .root .0) (there (else1-from-is-constant-call c) [] [] [])), omega (arith, s .pre .4))
 
 same-length : tie.Need-same-length
 same-length c = search needs
 
 returns-7 : tie.Need-returns-7
-returns-7 c = λ ds ks ms. let s = c .before .before .before .before .before .before .before .before .before .before .before .before .before .before .before .before .before .before .before in pr-18 64 _ _ (entry (c .before .before .before .before .before .before .before .before .before .before .before .before) ds ks ms) (lt-leb 1024 _ (c .before .before .before .before .before .before .before .if5 .left)) (not-one (lent s ds ks ms) (s .args .st) _ _ (c .before .before .before .before .before .before .before .before .before .before .before .entry-node .ensures) (c .before .before .before .before .before .if6 .left)) (shut-is (lent s ds ks ms) (s .args .st) _ _ (c .before .before .before .before .before .before .before .before .before .before .before .entry-node .ensures) _ _ (c .before .before .before .is-constant .ensures) (not-true _ (c .if7 .taken))) ∙ ap (λ (r : Rule). lineRefusal 64 (state s ds ks ms) r (s .args .root .0)) (sym (c .before .before .before .before .before .before .before .before .before .enum-told2 .given .1))
+returns-7 c = λ ds ks ms. let s = start-from-then7 c in pr-18 64 _ _ (entry (else1-from-then7 c) ds ks ms) (lt-leb 1024 _ (else5-from-then7 c .if5 .left)) (not-one (lent s ds ks ms) (s .args .st) _ _ (entry-node-from-then7 c .entry-node .ensures) (else6-from-then7 c .if6 .left)) (shut-is (lent s ds ks ms) (s .args .st) _ _ (entry-node-from-then7 c .entry-node .ensures) _ _ (is-constant-from-then7 c .is-constant .ensures) (not-true _ (c .if7 .taken))) ∙ ap (λ (r : Rule). lineRefusal 64 (state s ds ks ms) r (s .args .root .0)) (sym (enum-told2-from-then7 c .enum-told2 .given .1))
 
 returns-8 : tie.Need-returns-8
-returns-8 c = λ ds ks ms. let s = c .before .before .before .before .before .before .before .before .before .before .before .before .before .before .before .before in rup-0 64 _ _ (entry (c .before .before .before .before .before .before .before .before .before) ds ks ms) (waits-is (lent s ds ks ms) (s .args .st) _ _ (c .before .before .before .before .before .waits .ensures) (c .before .before .before .before .if2 .left)) (lt-leb 1024 _ (c .before .before .if3 .left)) (not-one (lent s ds ks ms) (s .args .st) _ _ (c .before .before .before .before .before .before .before .before .entry-node .ensures) (c .if4 .left)) ∙ ap (λ (r : Rule). lineRefusal 64 (state s ds ks ms) r (s .args .root .0)) (sym (c .before .before .before .before .before .before .enum-told .given .1))
+returns-8 c = λ ds ks ms. let s = start-from-else4 c in rup-0 64 _ _ (entry (else1-from-else4 c) ds ks ms) (waits-is (lent s ds ks ms) (s .args .st) _ _ (waits-from-else4 c .waits .ensures) (else2-from-else4 c .if2 .left)) (lt-leb 1024 _ (c .before .before .if3 .left)) (not-one (lent s ds ks ms) (s .args .st) _ _ (entry-node-from-else4 c .entry-node .ensures) (c .if4 .left)) ∙ ap (λ (r : Rule). lineRefusal 64 (state s ds ks ms) r (s .args .root .0)) (sym (enum-told-from-else4 c .enum-told .given .1))
 
 same-length-2 : tie.Need-same-length-2
 same-length-2 c = search needs
 
 returns-9 : tie.Need-returns-9
-returns-9 c = λ ds ks ms. let s = c .before .before .before .before .before .before .before .before .before .before .before .before .before .before .before .before .before .before .before in pr-0 64 _ _ (entry (c .before .before .before .before .before .before .before .before .before .before .before .before) ds ks ms) (lt-leb 1024 _ (c .before .before .before .before .before .before .before .if5 .left)) (not-one (lent s ds ks ms) (s .args .st) _ _ (c .before .before .before .before .before .before .before .before .before .before .before .entry-node .ensures) (c .before .before .before .before .before .if6 .left)) (shut-is (lent s ds ks ms) (s .args .st) _ _ (c .before .before .before .before .before .before .before .before .before .before .before .entry-node .ensures) _ _ (c .before .before .before .is-constant .ensures) (not-false _ (c .if7 .left))) ∙ ap (λ (r : Rule). lineRefusal 64 (state s ds ks ms) r (s .args .root .0)) (sym (c .before .before .before .before .before .before .before .before .before .enum-told2 .given .1))
+returns-9 c = λ ds ks ms. let s = start-from-else7 c in pr-0 64 _ _ (entry (else1-from-else7 c) ds ks ms) (lt-leb 1024 _ (else5-from-else7 c .if5 .left)) (not-one (lent s ds ks ms) (s .args .st) _ _ (entry-node-from-else7 c .entry-node .ensures) (else6-from-else7 c .if6 .left)) (shut-is (lent s ds ks ms) (s .args .st) _ _ (entry-node-from-else7 c .entry-node .ensures) _ _ (is-constant-from-else7 c .is-constant .ensures) (not-false _ (c .if7 .left))) ∙ ap (λ (r : Rule). lineRefusal 64 (state s ds ks ms) r (s .args .root .0)) (sym (enum-told2-from-else7 c .enum-told2 .given .1))
 
 pub line-refusal-spec : {M : Type 1} → statement M
 line-refusal-spec = tie.close (tie.spec is-entry-requires returns entry-node-requires enum-told waits-requires returns-2 returns-3 returns-4 enum-told-2 returns-5 returns-6 is-constant-requires same-length returns-7 returns-8 same-length-2 returns-9)

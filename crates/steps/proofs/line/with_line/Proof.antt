@@ -18,9 +18,17 @@ add-t6 c = search needs
 add-t7 : tie.Need-add-t7
 add-t7 c = search needs
 
+-- The ways back, written by ways.py: TO-from-FROM leads from the place FROM of the code to the place TO before it.
+module _ (c : tie.After-struct-known3) where
+  abbrev refutes-from-return : tie.After-refutes
+  refutes-from-return = c .before .before .before
+
+  abbrev start-from-return : tie.Start
+  start-from-return = refutes-from-return .before
+
 returns : tie.Need-returns
 returns c =
-    let s = c .before .before .before .before .args in
+    let s = start-from-return c .args in
     ap (λ (b : Bool). record {
       count = s .st .count;
       kept = s .st .count;
@@ -31,7 +39,7 @@ returns c =
       lines = s .st .lines + 1;
       rounds = s .st .rounds + s .rounds;
       refuted = b;
-    }) (c .before .before .before .refutes .ensures)
+    }) (refutes-from-return c .refutes .ensures)
 
 pub with-line-spec : {M : Type 1} → statement M
 with-line-spec = tie.close (tie.spec refutes-requires add-t5 add-t6 add-t7 returns)

@@ -17,8 +17,13 @@ mul-t7 c = search needs
 shared-slice-read-t9 : tie.Need-shared-slice-read-t9
 shared-slice-read-t9 c = search needs
 
+-- The ways back, written by ways.py: TO-from-FROM leads from the place FROM of the code to the place TO before it.
+module _ (c : tie.After-shared-slice-known) where
+  abbrev start-from-return-2 : tie.Start
+  start-from-return-2 = c .before .before .before
+
 returns-2 : tie.Need-returns-2
-returns-2 c = node-at _ _ (c .before .before .before .pre .0) _ (c .before .if1 .left) (c .before .before .before .pre .1)
+returns-2 c = node-at _ _ (start-from-return-2 c .pre .0) _ (c .before .if1 .left) (start-from-return-2 c .pre .1)
 
 pub entry-node-spec : {M : Type 1} → statement M
 entry-node-spec = tie.close (tie.spec cast-k returns mul-t7 shared-slice-read-t9 returns-2)

@@ -8,13 +8,57 @@ use borrow.Author.Needs.{needs}
 use Rattle.table.proofs.test.admit.Statement.{statement}
 use Rattle.table.proofs.test.admit.Tie as tie
 
+-- The ways back, written by ways.py: TO-from-FROM leads from the place FROM of the code to the place TO before it.
+module _ (c : tie.After-slice-known2) where
+  abbrev start-from-fits-at-call : tie.Start
+  start-from-fits-at-call = c .before .before .before .before .before
+
+module _ (c : tie.After-fits-at) where
+  abbrev start-from-fits-at : tie.Start
+  start-from-fits-at = c .before .before .before .before .before .before
+
+module _ (c : tie.Then1) where
+  abbrev start-from-then1 : tie.Start
+  start-from-then1 = start-from-fits-at (c .before)
+
+module _ (c : tie.After-lookup) where
+  abbrev else1-from-lookup : tie.Else1
+  else1-from-lookup = c .before .before .before .before .before .before
+
+module _ (c : tie.After-enum-told) where
+  abbrev start-from-return-2 : tie.Start
+  start-from-return-2 = start-from-fits-at (else1-from-lookup (c .before .before) .before)
+
+module _ (c : tie.After-link) where
+  abbrev enum-told2-from-link : tie.After-enum-told2
+  enum-told2-from-link = c .before .before .before
+
+module _ (c : tie.After-slice-known4) where
+  abbrev link-from-return-3 : tie.After-link
+  link-from-return-3 = c .before .before .before .before
+
+  abbrev enum-told2-from-return-3 : tie.After-enum-told2
+  enum-told2-from-return-3 = enum-told2-from-link link-from-return-3
+
+  abbrev lookup-from-return-3 : tie.After-lookup
+  lookup-from-return-3 = enum-told2-from-return-3 .before .before
+
+  abbrev else1-from-return-3 : tie.Else1
+  else1-from-return-3 = else1-from-lookup lookup-from-return-3
+
+  abbrev fits-at-from-return-3 : tie.After-fits-at
+  fits-at-from-return-3 = else1-from-return-3 .before
+
+  abbrev start-from-return-3 : tie.Start
+  start-from-return-3 = start-from-fits-at fits-at-from-return-3
+
 fits-at-requires : tie.Need-fits-at-requires
 fits-at-requires c κs =
-    (c .before .before .before .before .before .pre .0 .lows, c .before .before .before .before .before .pre .0 .highs, c .before .before .before .before .before .pre .1)
+    (start-from-fits-at-call c .pre .0 .lows, start-from-fits-at-call c .pre .0 .highs, start-from-fits-at-call c .pre .1)
 
 returns : tie.Need-returns
 returns c =
-    (sym (unfit-order _ _ _ _ _ _ (c .before .before .before .before .before .before .before .pre .0) (c .before .before .before .before .before .before .before .pre .1) (sym (c .before .fits-at .ensures) ∙ not-true _ (c .if1 .taken))), λ e. true-not-false (sym e))
+    (sym (unfit-order _ _ _ _ _ _ (start-from-then1 c .pre .0) (start-from-then1 c .pre .1) (sym (c .before .fits-at .ensures) ∙ not-true _ (c .if1 .taken))), λ e. true-not-false (sym e))
 
 shared-slice-read-v : tie.Need-shared-slice-read-v
 shared-slice-read-v c = search needs
@@ -51,7 +95,7 @@ same-length-2 c = search needs
 
 returns-2 : tie.Need-returns-2
 returns-2 c =
-    (sym (found-order _ _ _ _ _ _ (c .before .before .before .before .before .before .before .before .before .before .before .before .before .before .before .pre .0) (c .before .before .before .before .before .before .before .before .before .before .before .before .before .before .before .pre .1) _ (found-some _ _ (sym (c .before .before .lookup .ensures) ∙ c .enum-told .given .1))), λ e. true-not-false (sym e))
+    (sym (found-order _ _ _ _ _ _ (start-from-return-2 c .pre .0) (start-from-return-2 c .pre .1) _ (found-some _ _ (sym (c .before .before .lookup .ensures) ∙ c .enum-told .given .1))), λ e. true-not-false (sym e))
 
 same-length-3 : tie.Need-same-length-3
 same-length-3 c = search needs
@@ -61,8 +105,8 @@ same-length-4 c = search needs
 
 returns-3 : tie.Need-returns-3
 returns-3 c =
-    let in-order = new-order _ _ _ _ _ _ (c .before .before .before .before .before .before .before .before .before .before .before .before .before .before .before .before .before .before .before .before .before .before .pre .0) (c .before .before .before .before .before .before .before .before .before .before .before .before .before .before .before .before .before .before .before .before .before .before .pre .1) (sym (c .before .before .before .before .before .before .before .before .before .before .before .before .before .before .before .before .fits-at .ensures) ∙ not-false _ (c .before .before .before .before .before .before .before .before .before .before .before .before .before .before .before .if1 .left)) (found-none _ (sym (c .before .before .before .before .before .before .before .before .before .lookup .ensures) ∙ c .before .before .before .before .before .before .before .enum-told2 .given .1)) in
-    (sym in-order, λ _. linked-more _ _ _ _ _ _ (c .before .before .before .before .before .before .before .before .before .before .before .before .before .before .before .before .before .before .before .before .before .before .pre .0) (c .before .before .before .before .before .before .before .before .before .before .before .before .before .before .before .before .before .before .before .before .before .before .pre .1) _ _ in-order (c .before .before .before .before .link .ensures))
+    let in-order = new-order _ _ _ _ _ _ (start-from-return-3 c .pre .0) (start-from-return-3 c .pre .1) (sym (fits-at-from-return-3 c .fits-at .ensures) ∙ not-false _ (else1-from-return-3 c .if1 .left)) (found-none _ (sym (lookup-from-return-3 c .lookup .ensures) ∙ enum-told2-from-return-3 c .enum-told2 .given .1)) in
+    (sym in-order, λ _. linked-more _ _ _ _ _ _ (start-from-return-3 c .pre .0) (start-from-return-3 c .pre .1) _ _ in-order (link-from-return-3 c .link .ensures))
 
 pub admit-spec : {M : Type 1} → statement M
 admit-spec =

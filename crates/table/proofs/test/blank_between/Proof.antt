@@ -25,9 +25,47 @@ loop-holds c = refl
 shared-slice-read-if1 : tie.Need-shared-slice-read-if1 Inv-loop μ-loop
 shared-slice-read-if1 c = search needs
 
+-- The ways back, written by ways.py: TO-from-FROM leads from the place FROM of the code to the place TO before it.
+module _ (c : tie.Then1 Inv-loop μ-loop) where
+  abbrev at-loop-from-then1 : tie.At-loop Inv-loop μ-loop
+  at-loop-from-then1 = c .before .before .before
+
+  abbrev start-from-then1 : tie.Start Inv-loop μ-loop
+  start-from-then1 = at-loop-from-then1 .before
+
+module _ (c : tie.Then2 Inv-loop μ-loop) where
+  abbrev in-loop-from-then2 : tie.In-loop Inv-loop μ-loop
+  in-loop-from-then2 = c .before .before .before .before
+
+  abbrev at-loop-from-then2 : tie.At-loop Inv-loop μ-loop
+  at-loop-from-then2 = in-loop-from-then2 .before
+
+  abbrev start-from-then2 : tie.Start Inv-loop μ-loop
+  start-from-then2 = at-loop-from-then2 .before
+
+module _ (c : tie.Else3 Inv-loop μ-loop) where
+  abbrev in-loop-from-else3 : tie.In-loop Inv-loop μ-loop
+  in-loop-from-else3 = c .before .before .before .before .before .before
+
+  abbrev at-loop-from-else3 : tie.At-loop Inv-loop μ-loop
+  at-loop-from-else3 = in-loop-from-else3 .before
+
+  abbrev start-from-else3 : tie.Start Inv-loop μ-loop
+  start-from-else3 = at-loop-from-else3 .before
+
+module _ (c : tie.Then3 Inv-loop μ-loop) where
+  abbrev in-loop-from-then3 : tie.In-loop Inv-loop μ-loop
+  in-loop-from-then3 = c .before .before .before .before .before .before
+
+  abbrev at-loop-from-then3 : tie.At-loop Inv-loop μ-loop
+  at-loop-from-then3 = in-loop-from-then3 .before
+
+  abbrev start-from-then3 : tie.Start Inv-loop μ-loop
+  start-from-then3 = at-loop-from-then3 .before
+
 returns : tie.Need-returns Inv-loop μ-loop
 returns c =
-    sym (c .before .before .before .loop .inv ∙ blank-step _ _ _ _ _ (c .before .before .before .before .pre .0) (c .before .before .before .before .pre .1) (c .before .before .loop-test .taken) (c .before .before .before .before .pre .2) ∙ rw (ne-eqb _ _ (c .if1 .taken)))
+    sym (at-loop-from-then1 c .loop .inv ∙ blank-step _ _ _ _ _ (start-from-then1 c .pre .0) (start-from-then1 c .pre .1) (c .before .before .loop-test .taken) (start-from-then1 c .pre .2) ∙ rw (ne-eqb _ _ (c .if1 .taken)))
 
 mul-if2 : tie.Need-mul-if2 Inv-loop μ-loop
 mul-if2 c = search needs
@@ -37,7 +75,7 @@ shared-slice-read-if2 c = search needs
 
 returns-2 : tie.Need-returns-2 Inv-loop μ-loop
 returns-2 c =
-    sym (c .before .before .before .before .before .loop .inv ∙ blank-step _ _ _ _ _ (c .before .before .before .before .before .before .pre .0) (c .before .before .before .before .before .before .pre .1) (c .before .before .before .before .loop-test .taken) (c .before .before .before .before .before .before .pre .2) ∙ rw (ne-eqb _ _ (c .if2 .taken), and-false))
+    sym (at-loop-from-then2 c .loop .inv ∙ blank-step _ _ _ _ _ (start-from-then2 c .pre .0) (start-from-then2 c .pre .1) (in-loop-from-then2 c .loop-test .taken) (start-from-then2 c .pre .2) ∙ rw (ne-eqb _ _ (c .if2 .taken), and-false))
 
 mul-if3 : tie.Need-mul-if3 Inv-loop μ-loop
 mul-if3 c = search needs
@@ -47,7 +85,7 @@ shared-slice-read-if3 c = search needs
 
 returns-3 : tie.Need-returns-3 Inv-loop μ-loop
 returns-3 c =
-    sym (c .before .before .before .before .before .before .before .loop .inv ∙ blank-step _ _ _ _ _ (c .before .before .before .before .before .before .before .before .pre .0) (c .before .before .before .before .before .before .before .before .pre .1) (c .before .before .before .before .before .before .loop-test .taken) (c .before .before .before .before .before .before .before .before .pre .2) ∙ rw (ne-eqb _ _ (c .if3 .taken), and-false, and-false))
+    sym (at-loop-from-then3 c .loop .inv ∙ blank-step _ _ _ _ _ (start-from-then3 c .pre .0) (start-from-then3 c .pre .1) (in-loop-from-then3 c .loop-test .taken) (start-from-then3 c .pre .2) ∙ rw (ne-eqb _ _ (c .if3 .taken), and-false, and-false))
 
 add-i : tie.Need-add-i Inv-loop μ-loop
 add-i c = search needs
@@ -57,7 +95,7 @@ loop-less c = search needs
 
 loop-again : tie.Need-loop-again Inv-loop μ-loop
 loop-again c =
-    c .before .before .before .before .before .before .before .loop .inv ∙ blank-step _ _ _ _ _ (c .before .before .before .before .before .before .before .before .pre .0) (c .before .before .before .before .before .before .before .before .pre .1) (c .before .before .before .before .before .before .loop-test .taken) (c .before .before .before .before .before .before .before .before .pre .2) ∙ rw (eq-eqb _ _ (c .before .before .before .before .if1 .left), eq-eqb _ _ (c .before .before .if2 .left), eq-eqb _ _ (c .if3 .left))
+    at-loop-from-else3 c .loop .inv ∙ blank-step _ _ _ _ _ (start-from-else3 c .pre .0) (start-from-else3 c .pre .1) (in-loop-from-else3 c .loop-test .taken) (start-from-else3 c .pre .2) ∙ rw (eq-eqb _ _ (c .before .before .before .before .if1 .left), eq-eqb _ _ (c .before .before .if2 .left), eq-eqb _ _ (c .if3 .left))
 
 returns-4 : tie.Need-returns-4 Inv-loop μ-loop
 returns-4 c = sym (c .before .loop .inv ∙ blank-end _ _ _ (c .loop-test .left))
