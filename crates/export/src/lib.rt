@@ -1,10 +1,15 @@
 // The calls of the face for Rust and C to link: each has the face's contract and nothing of its own.
 use operate::Operation;
+use report::Told;
 use session::Checked;
 use single::Evaluated;
 use single::call::Single;
 use table::NodeNo;
 ghost use mathlib.Core.Path.{_≡_};
+ghost use lib.ListN.{take, drop};
+ghost use Rattle.io.specs.Counts.{Counts};
+ghost use Rattle.report.specs.Files.{said, statusOf};
+ghost use Rattle.report.specs.Line.{lineBytes};
 ghost use Rattle.session.specs.Checked.{outcomeOf};
 ghost use Rattle.single.specs.Single.{evaluation, madeOf, operation};
 ghost use Rattle.verdict.specs.Check.{check};
@@ -105,4 +110,22 @@ pub extern "C" fn cablesalak_check<'a>(
         (now (formula .entry)) (now (proof .entry)) ⌝ }
 {
     checker::check(vars, lows, highs, count, members, scratch, formula, proof)
+}
+
+// The program's line on two files, put at the start of `line`, and the status to end with: 0 for refuted alone, 2 where a file was not
+// taken, 1 for every other refusal. `first` and `second` tell whether formula and proof could be read.
+#[no_mangle]
+pub extern "C" fn cablesalak_report<'a>(
+    first: bool,
+    formula: &'a [u8],
+    second: bool,
+    proof: &'a [u8],
+    line: &mut [u8; 84],
+) -> Told
+    ensures { λ r. ⌜ take (r .length) (now (line .exit)) ≡ lineBytes (said first (now (formula .entry)) second (now (proof .entry))) ⌝ }
+    ensures { λ r. ⌜ drop (r .length) (now (line .exit)) ≡ drop (r .length) (now (line .entry)) ⌝ }
+    ensures { λ r. ⌜ r .status ≡ statusOf (said first (now (formula .entry)) second (now (proof .entry)) .number) ⌝ }
+    ensures { λ r. ⌜ Counts (r .length) (now (line .exit)) ⌝ }
+{
+    report::report(first, formula, second, proof, line)
 }

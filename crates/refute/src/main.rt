@@ -1,11 +1,15 @@
-// Checks a proof: two file names, formula then proof; prints one line: number, place, accepted lines, rounds.
+// Checks a proof: two file names, formula then proof; prints one line: number, place, accepted lines, rounds. What the line is for the
+// bytes that were read is proved (crate `report`); here are the reads, which no contract can speak of, and the one write.
 use libc::STDOUT_FILENO;
+ghost use mathlib.Core.Path.{_≡_};
 ghost use Prim.Native.Nat.{_≤_};
 ghost use lib.ListN.{length};
+ghost use Rattle.report.specs.Line.{lineBytes};
+ghost use Rattle.report.specs.Files.{said};
 
-// A file read: 0, or 24 or 25; and how many bytes it has, 0 with a refusal.
+// A file: whether it could be read, and how many bytes came, 0 where it could not.
 struct Text {
-    number: u8,
+    read: bool,
     length: usize,
 }
 
@@ -31,7 +35,7 @@ fn read_some(fd: i32, room: &mut [u8]) -> Part
     }
 }
 
-// Reads to the file's end. A file that fills the buffer is too long: the buffer has one byte more than a file may have.
+// Reads to the file's end, or until the buffer is full.
 fn read_all(fd: i32, buffer: &mut [u8]) -> Text
     ensures { λ r. ⌜ r .length ≤ length (now (buffer .entry)) ⌝ }
 {
@@ -40,21 +44,21 @@ fn read_all(fd: i32, buffer: &mut [u8]) -> Text
         let got = read_some(fd, &mut buffer[at..]);
         if got.failed {
             return Text {
-                number: 25,
+                read: false,
                 length: 0,
             };
         }
         if got.bytes == 0 {
             return Text {
-                number: 0,
+                read: true,
                 length: at,
             };
         }
         at += got.bytes;
     }
     Text {
-        number: 24,
-        length: 0,
+        read: true,
+        length: at,
     }
 }
 
@@ -66,14 +70,14 @@ fn read_argument(i: usize, buffer: &mut [u8]) -> Text
     let length = os::arg(i, &mut path);
     if os::errno() != 0 {
         return Text {
-            number: 25,
+            read: false,
             length: 0,
         };
     }
     let fd = os::open_read(&path[..length]);
     if fd < 0 {
         return Text {
-            number: 25,
+            read: false,
             length: 0,
         };
     }
@@ -82,61 +86,41 @@ fn read_argument(i: usize, buffer: &mut [u8]) -> Text
     text
 }
 
-fn print_line(number: u8, place: usize, lines: usize, rounds: u64) {
-    io::print_decimal(STDOUT_FILENO, number as u64);
-    io::write_all(STDOUT_FILENO, b" ");
-    io::print_decimal(STDOUT_FILENO, place as u64);
-    io::write_all(STDOUT_FILENO, b" ");
-    io::print_decimal(STDOUT_FILENO, lines as u64);
-    io::write_all(STDOUT_FILENO, b" ");
-    io::print_decimal(STDOUT_FILENO, rounds);
-    io::write_all(STDOUT_FILENO, b"\n");
+// The one write to standard output. It is not handed anything but the definition's line for the bytes that were read: who calls it has
+// shown that.
+fn deliver<'a>(
+    line: &'a [u8],
+    first: bool,
+    formula: &'a [u8],
+    second: bool,
+    proof: &'a [u8],
+) -> bool
+    requires { ⌜ now line ≡ lineBytes (said first (now formula) second (now proof)) ⌝ }
+{
+    io::write_all(STDOUT_FILENO, line)
 }
 
-// The line for a file that is not taken: 24 or 25.
-fn print_refusal(number: u8) {
-    if number == 24 {
-        print_line(24, 65536, 0, 0);
-        return;
-    }
-    print_line(number, 0, 0, 0);
+// The line for what was read.
+fn answer<'a>(first: bool, formula: &'a [u8], second: bool, proof: &'a [u8]) -> bool {
+    let mut line = [0u8; 84];
+    let told = report::report(first, formula, second, proof, &mut line);
+    let length = told.length;
+    deliver(&line[..length], first, formula, second, proof)
 }
 
-// The check with a table of 4,096 places.
-fn check<'a>(formula: &'a [u8], proof: &'a [u8]) {
-    let mut vars = [0u8; 4096];
-    let mut lows = [0u16; 4096];
-    let mut highs = [0u16; 4096];
-    let mut members = [0u16; 2048];
-    let mut scratch = [0u16; 4096];
-    let r = checker::check(
-        &mut vars,
-        &mut lows,
-        &mut highs,
-        2,
-        &mut members,
-        &mut scratch,
-        formula,
-        proof,
-    );
-    print_line(r.number, r.place, r.lines, r.rounds);
-}
-
-// Both files read, the formula first; then the check, or the refusal of the first file that is not taken.
+// Both files read, the formula first; then the line. A buffer has one byte more than a file may have, so that a file that is too long
+// fills more than 65,536 bytes of it.
 fn run(formula: &mut [u8], proof: &mut [u8]) {
     let f = read_argument(1, formula);
-    if f.number != 0 {
-        print_refusal(f.number);
-        return;
-    }
     let p = read_argument(2, proof);
-    if p.number != 0 {
-        print_refusal(p.number);
-        return;
-    }
     let formula_length = f.length;
     let proof_length = p.length;
-    check(&formula[..formula_length], &proof[..proof_length]);
+    answer(
+        f.read,
+        &formula[..formula_length],
+        p.read,
+        &proof[..proof_length],
+    );
 }
 
 fn main() {

@@ -1,0 +1,62 @@
+-- The four fields, one after the other. Assumes nothing.
+use mathlib.Core.Path.{sym}
+use Prim.Native.Nat.{_≤_}
+use lib.ListN.{length}
+use lib.Seq.{length-take-le}
+use native.Mathlib.Omega.{arith}
+use borrow.Author.Needs.{needs}
+use Rattle.report.proofs.Putting.{put-whole}
+use Rattle.report.proofs.put.put_fields.Statement.{statement}
+use Rattle.report.proofs.put.put_fields.Tie as tie
+
+cast-put-field : tie.Need-cast-put-field
+cast-put-field c = search needs
+
+put-field-requires : tie.Need-put-field-requires
+put-field-requires c κs = search needs
+
+put-field-requires-2 : tie.Need-put-field-requires-2
+put-field-requires-2 c κs = search needs
+
+put-field-requires-3 : tie.Need-put-field-requires-3
+put-field-requires-3 c κs = search needs
+
+put-field-requires-4 : tie.Need-put-field-requires-4
+put-field-requires-4 c κs = search needs
+
+same-length : tie.Need-same-length
+same-length c = search needs
+
+returns : tie.Need-returns
+returns c =
+    let first = c .before .before .before .before .before .before .before .before .before .before .before .before .before .before in
+    let second = c .before .before .before .before .before .before .before .before .before .before in
+    let third = c .before .before .before .before .before .before in
+    let last = c .before .before in
+    let within : last .put-field4 .result ≤ length (last .put-field4 .last .1 .1 .0) =
+    omega (
+      arith,
+      first .put-field .ensures .1,
+      second .put-field2 .ensures .1,
+      third .put-field3 .ensures .1,
+      last .put-field4 .ensures .1,
+      first .put-field .kept .1 .1 .0,
+      second .put-field2 .kept .1 .1 .0,
+      third .put-field3 .kept .1 .1 .0,
+      last .put-field4 .kept .1 .1 .0,
+      c .before .before .before .before .before .before .before .before .before .before .before .before .before .before .before .before .before .before .pre,
+    ) in
+    let all = put-whole _ (first .put-field .ensures .0) (second .put-field2 .ensures .0) (third .put-field3 .ensures .0) (last .put-field4 .ensures .0) in
+    (all .held, (all .rest, (within, sym (length-take-le _ _ within))))
+
+pub put-fields-spec : {M : Type 1} → statement M
+put-fields-spec =
+    tie.close
+    (tie.spec
+    cast-put-field
+    put-field-requires
+    put-field-requires-2
+    put-field-requires-3
+    put-field-requires-4
+    same-length
+    returns)

@@ -1,0 +1,31 @@
+-- What the program says of two files, and with which status it ends. (01, The program and its line)
+use mathlib.Core.Bool.{Bool, cond, not}
+use mathlib.Core.List.{List}
+use Prim.Native.Nat.{ℕ}
+use lib.ListN.{length}
+use lib.Dec.{eqb, leb, ltb}
+use Rattle.verdict.specs.Check.{Verdict, verdict}
+use Rattle.report.specs.declared.Line.{Line}
+
+-- "For 24 the place is 65,536, for 25 it is 0, and lines and rounds are 0."
+abbrev pub fileRefused : ℕ → ℕ → Line
+fileRefused number place = record { number = number; place = place; lines = 0; rounds = 0 }
+
+abbrev pub ofVerdict : Verdict → Line
+ofVerdict v = record { number = v .number; place = v .place; lines = v .lines; rounds = v .rounds }
+
+-- A file: whether it could be read, and the bytes that came. 25 where it could not, 24 where they are over 65,536; else what follows.
+abbrev pub ofFile : Bool → List ℕ → Line → Line
+ofFile isRead text rest = cond (not isRead) (fileRefused 25 0) (cond (ltb 65536 (length text)) (fileRefused 24 65536) rest)
+
+-- "Both files are read before the check, the formula first"; the check has "a table of 4,096 places".
+unfoldable pub said : Bool → List ℕ → Bool → List ℕ → Line
+unfolding verdict
+said isFormula formula isProof proof =
+    let checked = ofVerdict (verdict 4096 formula proof) in
+    let second = ofFile isProof proof checked in
+    ofFile isFormula formula second
+
+-- The status of a number: 0 for refuted alone, 2 where a file was not taken, 1 for every other refusal.
+abbrev pub statusOf : ℕ → ℕ
+statusOf number = cond (eqb number 0) 0 (cond (leb 24 number) 2 1)

@@ -1,0 +1,46 @@
+-- The program's one line as bytes, and how such bytes are read back. (01, The program and its line)
+use mathlib.Core.Path.{_≡_}
+use mathlib.Core.Bool.{Bool, cond, _&&_}
+use mathlib.Core.List.{List, [], _∷_, _++_}
+use Prim.Native.Nat.{ℕ, zero, suc, _+_, _-_, _*_, _/_, _%_}
+use lib.ListN.{length, take, drop}
+use lib.Dec.{ltb, leb}
+use Rattle.report.specs.declared.Line.{Line}
+
+-- The decimal digits of n in ASCII, the greatest first; `steps` bounds how many.
+unfoldable pub decimalBy : ℕ → ℕ → List ℕ
+decimalBy zero n = []
+decimalBy (suc steps) n =
+    let more = decimalBy steps (n / 10) ++ (48 + n % 10) ∷ [] in
+    cond (ltb n 10) ((48 + n) ∷ []) more
+
+-- n + 1 steps are always enough: each but the last divides by 10.
+abbrev pub decimal : ℕ → List ℕ
+decimal n = decimalBy (suc n) n
+
+-- A number and the byte that parts it from what follows.
+abbrev pub field : ℕ → ℕ → List ℕ
+field n parting = decimal n ++ parting ∷ []
+
+-- "prints one line: number, place, accepted lines, rounds": parted by a space each, and LF at the end.
+unfoldable pub lineBytes : Line → List ℕ
+lineBytes l = field (l .number) 32 ++ (field (l .place) 32 ++ (field (l .lines) 32 ++ field (l .rounds) 10))
+
+-- The bytes put into a line at a place: what stood before and behind them stays, and `next` is the place after them.
+pub record Put (before : List ℕ) (at : ℕ) (bytes after : List ℕ) (next : ℕ) : Type 0 where
+  pub place : next ≡ at + length bytes
+  pub held : take next after ≡ take at before ++ bytes
+  pub rest : drop next after ≡ drop next before
+
+-- ---- reading back
+
+abbrev pub isDigit : ℕ → Bool
+isDigit b = leb 48 b && leb b 57
+
+-- The numbers of a text of digits in which each number is closed by one other byte; n is what was read of the first of them.
+unfoldable pub numbersAfter : ℕ → List ℕ → List ℕ
+numbersAfter n [] = []
+numbersAfter n (b ∷ bs) = cond (isDigit b) (numbersAfter (n * 10 + (b - 48)) bs) (n ∷ numbersAfter 0 bs)
+
+abbrev pub numbersOf : List ℕ → List ℕ
+numbersOf bs = numbersAfter 0 bs

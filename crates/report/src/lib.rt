@@ -1,0 +1,123 @@
+// What the program says: the verdict on two files, its line of bytes and the status to end with.
+mod put;
+
+pub use put::put_line;
+ghost use mathlib.Core.Path.{_≡_};
+ghost use lib.ListN.{take, drop};
+ghost use Rattle.io.specs.Counts.{Counts};
+ghost use Rattle.verdict.specs.Check.{verdict};
+ghost use Rattle.report.specs.Files.{said, ofVerdict, statusOf};
+ghost use Rattle.report.specs.Line.{lineBytes};
+
+// 01's number and its place, the accepted lines and their rounds.
+pub struct Line {
+    pub number: u8,
+    pub place: usize,
+    pub lines: usize,
+    pub rounds: u64,
+}
+
+// How many bytes the line has, and the status to end with.
+#[repr(C)]
+pub struct Told {
+    pub length: usize,
+    pub status: u8,
+}
+
+// The check with a table of 4,096 places.
+pub fn check<'a>(formula: &'a [u8], proof: &'a [u8]) -> Line
+    ensures { λ r. ⌜ r ≡ ofVerdict (verdict 4096 (now (formula .entry)) (now (proof .entry))) ⌝ }
+{
+    let mut vars = [0u8; 4096];
+    let mut lows = [0u16; 4096];
+    let mut highs = [0u16; 4096];
+    let mut members = [0u16; 2048];
+    let mut scratch = [0u16; 4096];
+    let r = checker::check(
+        &mut vars,
+        &mut lows,
+        &mut highs,
+        2,
+        &mut members,
+        &mut scratch,
+        formula,
+        proof,
+    );
+    Line {
+        number: r.number,
+        place: r.place,
+        lines: r.lines,
+        rounds: r.rounds,
+    }
+}
+
+// The verdict on two files: 25 and 24 of the formula, then of the proof, then the check's.
+pub fn judge<'a>(first: bool, formula: &'a [u8], second: bool, proof: &'a [u8]) -> Line
+    ensures { λ r. ⌜ r ≡ said first (now (formula .entry)) second (now (proof .entry)) ⌝ }
+{
+    if !first {
+        return Line {
+            number: 25,
+            place: 0,
+            lines: 0,
+            rounds: 0,
+        };
+    }
+    if formula.len() > 65536 {
+        return Line {
+            number: 24,
+            place: 65536,
+            lines: 0,
+            rounds: 0,
+        };
+    }
+    if !second {
+        return Line {
+            number: 25,
+            place: 0,
+            lines: 0,
+            rounds: 0,
+        };
+    }
+    if proof.len() > 65536 {
+        return Line {
+            number: 24,
+            place: 65536,
+            lines: 0,
+            rounds: 0,
+        };
+    }
+    check(formula, proof)
+}
+
+// 0 for refuted alone, 2 where a file was not taken, 1 for every other refusal.
+pub fn status_of(number: u8) -> u8
+    ensures { λ r. ⌜ r ≡ statusOf number ⌝ }
+{
+    if number == 0 {
+        return 0;
+    }
+    if number >= 24 {
+        return 2;
+    }
+    1
+}
+
+// The line on two files, put at the start of `line`, and the status.
+pub fn report<'a>(
+    first: bool,
+    formula: &'a [u8],
+    second: bool,
+    proof: &'a [u8],
+    line: &mut [u8; 84],
+) -> Told
+    ensures { λ r. ⌜ take (r .length) (now (line .exit)) ≡ lineBytes (said first (now (formula .entry)) second (now (proof .entry))) ⌝ }
+    ensures { λ r. ⌜ drop (r .length) (now (line .exit)) ≡ drop (r .length) (now (line .entry)) ⌝ }
+    ensures { λ r. ⌜ r .status ≡ statusOf (said first (now (formula .entry)) second (now (proof .entry)) .number) ⌝ }
+    ensures { λ r. ⌜ Counts (r .length) (now (line .exit)) ⌝ }
+{
+    let line_told = judge(first, formula, second, proof);
+    let status = status_of(line_told.number);
+    let length = put_line(line_told, line);
+    Told { length, status }
+}
