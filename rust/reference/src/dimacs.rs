@@ -85,16 +85,22 @@ impl<'a> Formula<'a> {
         Ok(false)
     }
 
-    /// The next run of bytes between spaces, tabs, CR and LF.
+    /// The next run of bytes between spaces, tabs, CR and LF, outside comment lines: "a line whose first
+    /// byte is `c` is now skipped anywhere in the formula, also inside an open clause."
     fn token(&mut self) -> Option<(usize, &'a [u8])> {
         let apart = |b: &u8| is_trailing(*b) || *b == b'\n';
-        let rest = &self.bytes[self.place..];
-        let skipped = rest.iter().position(|b| !apart(b))?;
-        let rest = &rest[skipped..];
-        let length = rest.iter().position(apart).unwrap_or(rest.len());
-        let start = self.place + skipped;
-        self.place = start + length;
-        Some((start, &rest[..length]))
+        loop {
+            let skipped = self.bytes[self.place..].iter().position(|b| !apart(b))?;
+            let start = self.place + skipped;
+            let (before, rest) = self.bytes.split_at(start);
+            let comment = rest[0] == b'c' && before.ends_with(b"\n");
+            let end = if comment { rest.iter().position(|&b| b == b'\n') } else { rest.iter().position(apart) };
+            let length = end.unwrap_or(rest.len());
+            self.place = start + length;
+            if !comment {
+                return Some((start, &rest[..length]));
+            }
+        }
     }
 }
 

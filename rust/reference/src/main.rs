@@ -1,5 +1,5 @@
 //! A checker of diagram refutations that is not proved, to hold the proved library against. It renders
-//! document 01 directly. A filter: one command a line, one answer a command.
+//! documents 01 and 02 directly. A filter: one command a line, one answer a command.
 
 mod check;
 mod dimacs;

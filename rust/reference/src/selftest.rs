@@ -406,6 +406,11 @@ fn random_clause(random: &mut Random, variables: u32) -> (Vec<i32>, Function) {
     (literals, f)
 }
 
+/// What parts two tokens, comment lines included.
+fn between(random: &mut Random) -> &'static str {
+    ["\n", "\r\nc 1 0\n", "\nc\n\nc 0 x\n "].get(random.below(12) as usize).unwrap_or(&" ")
+}
+
 fn hex(bytes: &[u8]) -> String {
     if bytes.is_empty() {
         return "-".into();
@@ -462,8 +467,9 @@ fn checks_are_what_the_rules_say_and_0_is_said_of_nothing_satisfiable() {
         let size = if random.one_in(2) { 200 } else { 2 + random.below(40) as usize };
         let mut text = format!("p cnf {variables} {}\n", made.len());
         for (literals, _) in &made {
-            literals.iter().for_each(|literal| text.push_str(&format!("{literal} ")));
-            text.push_str("0\n");
+            for literal in literals.iter().chain([&0]) {
+                text.push_str(&format!("{literal}{}", between(&mut random)));
+            }
         }
         let proof: Vec<u8> = steps.iter().flat_map(|&step| bytes(step)).collect();
         let line = format!("check {size} 2048 4096 {} {}", hex(text.as_bytes()), hex(&proof));

@@ -1,5 +1,5 @@
 //! The examples of document 01, each row of its table of numbers but 24 and 25, and the edges of its
-//! sentences, asked of the filter itself.
+//! sentences and of document 02's, asked of the filter itself.
 
 use std::io::{BufRead, BufReader, Write};
 use std::process::{Command, Stdio};
@@ -153,12 +153,10 @@ fn clauses() {
     expect(rows(&[
         ("p cnf 2 3\n1 -1 0 2 2 0 0\n", "", "10 0 0 0 3 | 2,0,1 | 1,2,0"),
         ("p cnf 1 1\n1\t\r\n0", "", "10 0"),
-        ("p cnf 1 1\n1 0\nc end\n", "", "5 14"),
         ("p cnf 1 1\n1 0\n7 0\n", "", "5 14"),
         ("p cnf 0 0\n0", "", "5 10"),
         ("p cnf 0 0\n \n", "", "10 0"),
         ("p cnf 1 2\n1 0 1", "", "6 14"),
-        ("p cnf 1 1\nc\n1 0\n", "", "3 10"),
         ("p cnf 1 1\n1 +1 0\n", "", "3 12"),
         ("p cnf 1 1\n1 01 0\n", "", "3 12"),
         ("p cnf 1 1\n1 00\n", "", "3 12"),
@@ -174,6 +172,35 @@ fn clauses() {
         (sized(4, formula, ""), "8 20 0 0 2 | - | -".into()),
         (sized(5, formula, ""), "3 25 0 0 2 | - | -".into()),
     ]);
+}
+
+/// 02, 1/14: "a line whose first byte is `c` is now skipped anywhere in the formula".
+#[test]
+fn comment_lines() {
+    expect(rows(&[
+        ("p cnf 1 1\nc\n1 0\n", "", "10 0 0 0 3 | 1,0,1 | 2"),
+        ("p cnf 1 1\n1 0\nc end\n", "", "10 0"),
+        ("p cnf 1 1\n1 0\nc end", "", "10 0"),
+        ("p cnf 1 1\n1 0\nc", "", "10 0"),
+        ("p cnf 0 0\nc\nc\n\nc\n", "", "10 0 0 0 2 | - | -"),
+        ("p cnf 2 1\n1\nc 0 x -0\r 9\n2\ncomment\n0", "", "10 0 0 0 4 | 2,0,1;1,2,1 | 3"),
+        ("p cnf 1 2\nc\n1 0\nc 1 0\n", "", "5 22"),
+        ("p cnf 1 1\nc\n1 0\nc\n\n1 0\n", "", "5 19"),
+        ("p cnf 1 1\nc\n1\nc 0\n", "", "6 12"),
+        ("p cnf 1 1\nc 0\n1\nc 0", "", "6 14"),
+        ("p cnf 1 1\nc\n2 0\n", "", "4 12"),
+        // A `c` that is not its line's first byte is a token, as is a header after the header.
+        ("p cnf 1 1\n c\n1 0\n", "", "3 11"),
+        ("p cnf 1 1\n\rc\n1 0\n", "", "3 11"),
+        ("p cnf 1 1\n1 c\n0\n", "", "3 12"),
+        ("p cnf 1 1\n1 0 c\n", "", "5 14"),
+        ("p cnf 1 1\n1 0\n c\n", "", "5 15"),
+        ("p cnf 1 1\nC\n1 0\n", "", "3 10"),
+        ("p cnf 1 1 c\n1 0\n", "", "1 0"),
+        ("p cnf 1 1\nc\np cnf 1 1\n1 0\n", "", "3 12"),
+    ]));
+    // 8 stands at the clause's first token, past the comment before it.
+    expect(vec![(sized(2, "p cnf 1 1\nc\n1\nc\n0\n", ""), "8 12 0 0 2 | - | -".into())]);
 }
 
 #[test]
