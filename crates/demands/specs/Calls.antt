@@ -1,0 +1,55 @@
+-- What the theorems on the single calls speak of: the nodes that lent columns hold, 01's value of each operation, and what a call that is not
+-- refused has done. No call open to others cites this file.
+use mathlib.Core.Path.{_≡_}
+use mathlib.Core.Logic.{_≢_}
+use mathlib.Core.Bool.{Bool, true, not, _&&_}
+use mathlib.Core.List.{List}
+use Prim.Native.Nat.{ℕ, _<_}
+use lib.ListN.{length, take}
+use Rattle.meaning.specs.Diagram.{Assignment, Diagram, value}
+use Rattle.meaning.specs.Operations.{forced, nearest}
+use Rattle.meaning.specs.Words.{inWord}
+use Rattle.table.specs.Nodes.{Node, goodOrder, diagramAt}
+use Rattle.table.specs.Columns.{rows, Columns}
+use Rattle.operate.specs.declared.Operation.{Operation}
+use Rattle.operate.specs.declared.Operation.the-variants.{Conjunction, Negation, Cofactor, Literals}
+use Rattle.single.specs.Single.{Made, unchanged}
+
+-- ---- lent columns
+
+-- The nodes that three columns hold below a count.
+abbrev pub nodesIn : Columns → ℕ → List Node
+nodesIn c count = take count (rows (c .vars) (c .lows) (c .highs))
+
+-- Three columns with a count are in good order, every place of them. (01, The table)
+abbrev pub inGoodOrder : Columns → ℕ → Bool
+inGoodOrder c count = goodOrder (rows (c .vars) (c .lows) (c .highs)) count
+
+-- "Node 0 has the value 0, node 1 the value 1; any other node has the value of its high where its variable is true, of its low
+-- where it is false." (01, Values; `node-value` is that sentence)
+abbrev pub valueAt : Columns → ℕ → ℕ → Assignment → Bool
+valueAt c count k a = value (diagramAt (nodesIn c count) k) a
+
+-- ---- operations
+
+-- "A conjunction is 1 where both diagrams are, a negation where the diagram is 0; elsewhere each is 0. A cofactor by a diagram is as in
+-- the rules; by literals it has f's value once the true set's variables are made true and the false set's false." (01, Values)
+unfoldable pub valueOf : Operation → (f g : Assignment → Bool) → Assignment → Bool
+valueOf Conjunction f g a = f a && g a
+valueOf Negation f g a = not (f a)
+valueOf Cofactor f g a = f (nearest 64 g a)
+valueOf (Literals p n) f g a = f (forced (inWord p) (inWord n) 1 a)
+
+-- What holds of a call that is not refused: its node is in the table as left, which is in good order; every old number keeps its diagram; and
+-- the node has 01's value of the operation under every assignment, "operands in the table as handed in, a single call's node in the table as left".
+pub record Answers (op : Operation) (c : Columns) (count f g : ℕ) (o : Made) : Type 0 where
+  pub below : o .node < o .count
+  pub good : inGoodOrder (o .columns) (o .count) ≡ true
+  pub kept : (k : ℕ) → k < count → diagramAt (nodesIn (o .columns) (o .count)) k ≡ diagramAt (nodesIn c count) k
+  pub values : (a : Assignment) → length a ≡ 64
+      → valueAt (o .columns) (o .count) (o .node) a ≡ valueOf op (valueAt c count f) (valueAt c count g) a
+
+-- "A refused single call changes nothing"; "with a refusal the node is 0". (01, What the call says and leaves)
+pub data Says (op : Operation) (c : Columns) (count f g : ℕ) (o : Made) : Type 0 where
+  answered : o .number ≡ 0 → Answers op c count f g o → Says op c count f g o
+  refused : o .number ≢ 0 → o ≡ unchanged (c .vars) (c .lows) (c .highs) count (o .number) → Says op c count f g o

@@ -1,0 +1,18 @@
+-- Sentences of 01 that its definitions compute in another form, in their own form. No call open to others cites this file.
+use mathlib.Core.Path.{_≡_}
+use mathlib.Core.Logic.{_≢_}
+use mathlib.Core.List.{List}
+use mathlib.Core.Bool.{false}
+use Prim.Native.Nat.{ℕ, _<_}
+use lib.ListN.{length, getD}
+use Rattle.meaning.specs.Diagram.{Diagram, leaf}
+use Rattle.meaning.specs.Operations.{negation}
+
+-- The member at a place.
+abbrev pub memberAt : List Diagram → ℕ → Diagram
+memberAt ms i = getD ms i (leaf false)
+
+-- "(a) a member is 0 or the negation of another" (01, The rules)
+pub data Conflict (n : ℕ) (ms : List Diagram) : Type 0 where
+  is-zero : (i : ℕ) → i < length ms → memberAt ms i ≡ leaf false → Conflict n ms
+  negated : (i j : ℕ) → i < length ms → j < length ms → i ≢ j → memberAt ms i ≡ negation n (memberAt ms j) → Conflict n ms
