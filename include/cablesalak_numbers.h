@@ -9,7 +9,8 @@ enum cablesalak_number {
     CABLESALAK_NO_HEADER = 1,
     /* The header names more than 64 variables or more than 1,024 clauses. */
     CABLESALAK_HEADER_TOO_LARGE = 2,
-    /* A token behind the header is neither 0 nor an optional minus with digits that do not start with 0. */
+    /* A token behind the header is neither 0 nor an optional minus with digits that do not start with 0. Lines whose first byte is c
+     * are comments, wherever they stand, and have no tokens. */
     CABLESALAK_NOT_A_NUMBER = 3,
     /* A literal's variable is greater than the header's number of variables. */
     CABLESALAK_LITERAL_BEYOND_HEADER = 4,

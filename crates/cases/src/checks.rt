@@ -15,7 +15,7 @@ fn print_checked(label: &[u8], r: Checked) {
 }
 
 // The count lent is 9, which only number 7 hands back.
-fn run_in<'a>(
+pub fn run_in<'a>(
     label: &[u8],
     vars: &mut [u8],
     lows: &mut [u16],
@@ -39,7 +39,7 @@ fn run_in<'a>(
 }
 
 // The check with a table of 4,096 places.
-fn run<'a>(label: &[u8], formula: &'a [u8], proof: &'a [u8]) {
+pub fn run<'a>(label: &[u8], formula: &'a [u8], proof: &'a [u8]) {
     let mut vars = [0u8; 4096];
     let mut lows = [0u16; 4096];
     let mut highs = [0u16; 4096];

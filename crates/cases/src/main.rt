@@ -1,5 +1,6 @@
-// Document 01's examples through the face: a line for each, its label and then the numbers that came.
+// Document 01's examples through the face, and 02's as they land: a line for each, its label and then the numbers that came.
 mod checks;
+mod comments;
 mod print;
 mod singles;
 
@@ -20,4 +21,8 @@ fn main() {
     singles::not_in_order();
     singles::wrong_operands();
     singles::full();
+    comments::everywhere();
+    comments::whole_line();
+    comments::tokens();
+    comments::places();
 }

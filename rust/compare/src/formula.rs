@@ -45,7 +45,10 @@ impl Formula {
             2 => replace(
                 random,
                 &mut tokens,
-                &["-0", "00", "01", "-", "--1", "+1", "1x", "x", "c", "1-", "-01", "p", "\u{b}"],
+                &[
+                    "-0", "00", "01", "-", "--1", "+1", "1x", "x", "c", " c", "\rc", "\tc 1", "1 c", "1-", "-01", "p",
+                    "\u{b}",
+                ],
             ),
             3 => {
                 let beyond = self.variables + random.pick(&[1, 2, 10, 1000]);
@@ -64,22 +67,37 @@ impl Formula {
 
 const SPACES: [&str; 8] = [" ", " ", " ", "\n", "\n", "\t", "\r\n", "  \r"];
 
+/// What may stand where a line begins, before the header and behind it.
+const COMMENTS: [&str; 8] =
+    ["c\n", "c\r\n", "comment 1 0\n", "c p cnf 1 1\r\n", "c 0\n", "cc\r1 0\n", "c\t-1 0 c\n", "c c\n\n"];
+
 fn laid_out(random: &mut Random, header: &str, tokens: &[String]) -> Vec<u8> {
     let mut text = String::new();
     for _ in 0..random.below(3) {
-        text += random.pick(&["\n", " \t\r\n", "c\n", "comment 1 0\n", "c p cnf 1 1\r\n", "\r\n"]);
+        let comment = random.pick(&COMMENTS);
+        text += random.pick(&["\n", " \t\r\n", "\r\n", comment, comment, comment]);
     }
+    let often = random.pick(&[0, 10, 50]);
     let words: Vec<&str> = header.split(' ').collect();
     text += &words.join(random.pick(&[" ", "  ", "\t", " \t "]));
     text += random.pick(&["\n", "\n", " \n", "\r\n", "\t\r \n"]);
+    comments(random, &mut text, often);
     for token in tokens {
         text += token;
         text += random.pick(&SPACES);
+        comments(random, &mut text, often);
     }
     if random.percent(30) {
         text.truncate(text.trim_end().len());
     }
     text.into_bytes()
+}
+
+/// Comment lines at the text's end, if a line begins there, with the chance of each in percent.
+fn comments(random: &mut Random, text: &mut String, often: usize) {
+    while text.ends_with('\n') && random.percent(often) {
+        *text += random.pick(&COMMENTS);
+    }
 }
 
 /// 1: no proper header.
@@ -111,6 +129,8 @@ fn improper(random: &mut Random, header: &str) -> Vec<u8> {
         "p",
         "p cnf ",
         "p cnf 1 1c\n",
+        "p cnf 1 1\rc\n1 0\n",
+        "p cnf 1 1 c\n1 0\n",
     ];
     let mut text = random.pick(&bad).to_string();
     if random.percent(40) {
@@ -148,7 +168,7 @@ fn number_of_clauses(random: &mut Random, tokens: &mut Vec<String>) {
         let last = tokens.iter().rposition(|token| token == "0");
         tokens.truncate(last.map_or(0, |last| last + 1));
     } else {
-        tokens.push(random.pick(&["0", "1", "-1", "x", "00", "99", "c"]).into());
+        tokens.push(random.pick(&["0", "1", "-1", "x", "00", "99", "c", " c", "\rc"]).into());
     }
 }
 
@@ -157,5 +177,33 @@ fn leave_open(random: &mut Random, tokens: &mut Vec<String>, variables: usize) {
     tokens.pop();
     if variables > 0 && (random.percent(30) || tokens.last().is_none_or(|token| token == "0")) {
         tokens.push(random.between(1, variables).to_string());
+    }
+}
+
+#[cfg(test)]
+mod tests {
+    use super::*;
+
+    /// Without the lines that begin with `c` the layout leaves the header's words and the tokens; comments stand before, between and behind them.
+    #[test]
+    fn comments_are_whole_lines() {
+        let formula = Formula { variables: 3, clauses: vec![vec![1, -2], vec![3], vec![-1, 2, -3]] };
+        let words: Vec<String> = formula.header().split(' ').map(String::from).chain(formula.tokens()).collect();
+        let mut places = [0; 3];
+        for seed in 0..2_000 {
+            let text = String::from_utf8(formula.strewn(&mut Random::new(seed))).unwrap();
+            let (mut left, mut comments) = (Vec::new(), Vec::new());
+            for line in text.split('\n') {
+                match line.strip_prefix('c') {
+                    Some(_) => comments.push(left.len()),
+                    None => left.extend(line.split([' ', '\t', '\r']).filter(|word| !word.is_empty())),
+                }
+            }
+            assert_eq!(left, words);
+            for before in comments {
+                places[usize::from(before > 0) + usize::from(before == words.len())] += 1;
+            }
+        }
+        assert!(places.iter().all(|&times| times > 100), "{places:?}");
     }
 }
