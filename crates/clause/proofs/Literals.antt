@@ -12,7 +12,7 @@ use Rattle.meaning.specs.Operations.{Literal, literalValue, clauseValue, clause
 use Rattle.meaning.specs.Words.{inWord}
 use Rattle.meaning.proofs.Values.{diagram-width}
 use Rattle.meaning.proofs.Clauses.{occurs, Within, clause-is}
-use Rattle.dimacs.specs.Clauses.{setOf}
+use Rattle.dimacs.specs.Inner.{setOf}
 use Rattle.dimacs.proofs.Words.{in-set}
 use Rattle.clause.specs.Words.{clauseOfWords}
 use Rattle.clause.proofs.Diagrams.{words-are}

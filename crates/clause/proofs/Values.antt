@@ -12,7 +12,7 @@ use Rattle.meaning.proofs.Clauses.{Within}
 use Rattle.table.specs.Nodes.{diagramAt}
 use Rattle.table.specs.Indexed.{Table, nodesOf, Good, Outcome}
 use Rattle.table.proofs.Outcomes.{placeIn, Grown, grown, Longer}
-use Rattle.dimacs.specs.Clauses.{setOf}
+use Rattle.dimacs.specs.Inner.{setOf}
 use Rattle.clause.specs.Words.{wordsValue, clauseOfWords}
 use Rattle.clause.proofs.Literals.{within-more, clause-of-words}
 

@@ -1,4 +1,5 @@
--- A clause given by two words, the variables of its positive and of its negative literals: bit v − 1 for variable v.
+-- A clause given by two words, the variables of its positive and of its negative literals: bit v − 1 for variable v. No call open to others
+-- cites this file.
 use mathlib.Core.Bool.{Bool, false, not, _&&_, _||_}
 use Prim.Native.Nat.{ℕ, zero, suc}
 use Rattle.meaning.specs.Diagram.{Assignment, holds, Diagram, diagram}

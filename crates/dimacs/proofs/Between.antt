@@ -1,17 +1,17 @@
 -- What lies between two tokens: one comment line more, for which the bytes left are steps enough; and where it may end. Assumes nothing.
-use mathlib.Core.Path.{_≡_, refl, sym, ap, _∙_}
-use mathlib.Core.Bool.{Bool, true, false, _&&_, _||_, cond}
+use mathlib.Core.Path.{_≡_, refl, sym, _∙_}
+use mathlib.Core.Bool.{true, false, _||_, cond}
 use mathlib.Core.List.{List}
 use Prim.Native.Nat.{ℕ, zero, suc, _+_, _-_, _≤_, _<_}
 use native.Mathlib.Omega.{arith}
-use native.Mathlib.Decide.{decLt, ℕ-discrete}
+use native.Mathlib.Decide.{decLt}
 use lib.ListN.{length, getD, List·getD-eq-default}
 use lib.Dec.{eqb}
-use borrow.Author.Tests.{eq-eqb, ne-eqb, eqb-true}
-use Rattle.meaning.proofs.Booleans.{t≢f, and-both, not-true}
+use borrow.Author.Tests.{ne-eqb, eqb-true}
+use Rattle.meaning.proofs.Booleans.{and-both, not-true}
 use Rattle.dimacs.specs.Text.{isParting, isLine, past, lineEnd, isComment, betweenFrom, between}
 use Rattle.dimacs.proofs.Cases.{by}
-use Rattle.dimacs.proofs.Runs.{past-end, past-go, past-least, past-most}
+use Rattle.dimacs.proofs.Runs.{past-go, past-least, past-most}
 
 module _ (s : List ℕ) where
   comment-byte : (at : ℕ) → isComment s at ≡ true → getD s at 0 ≡ 99

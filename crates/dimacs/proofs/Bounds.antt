@@ -14,7 +14,7 @@ use Rattle.dimacs.specs.declared.Header.{Header}
 use Rattle.dimacs.specs.declared.Header.the-variants.{Proper, Improper}
 use Rattle.dimacs.specs.declared.Token.{Token}
 use Rattle.dimacs.specs.declared.Token.the-variants.{Closing, Literal, Wrong}
-use Rattle.dimacs.specs.Text.{isToken, isParting, isSpace, isLine, tokenEnd, lineEnd, between}
+use Rattle.dimacs.specs.Text.{isToken, isSpace, isLine, tokenEnd, lineEnd, between}
 use Rattle.dimacs.specs.Numbers.{value}
 use Rattle.dimacs.specs.Header.{judgedFrom, nextWord, word, isHeader, headerAt, header}
 use Rattle.dimacs.specs.Clauses.{Next, closed, ended, refused, withLiteral, afterToken, clauseFrom, clauseAt, nextClause}
@@ -22,7 +22,7 @@ use Rattle.dimacs.proofs.Cases.{by, clash}
 use Rattle.dimacs.proofs.Runs.{past-most}
 use Rattle.dimacs.proofs.Between.{between-most}
 use Rattle.dimacs.proofs.Tokens.{literal-bounds}
-use Rattle.dimacs.proofs.Clauses.{tokenAt, nextAt, clause-suc, clause-end}
+use Rattle.dimacs.proofs.OpenClause.{tokenAt, nextAt, clause-suc, clause-end}
 
 -- ---- the header
 

@@ -10,8 +10,9 @@ use lib.ListN.{length, getD}
 use lib.Seq.{slice, slice-empty, slice-cons}
 use lib.Dec.{ltb, leb, eqb}
 use borrow.Author.Tests.{ltb-true, lt-ltb, eq-eqb, ne-eqb, eqb-true, leb-true}
-use Rattle.dimacs.specs.declared.Natural.the-variants.{Value, Improper}
-use Rattle.dimacs.specs.Numbers.{isDigit, allDigits, isZero, isDigits, isNatural, valueAfter, value, capped, digitsAfter, naturalOf}
+use Rattle.dimacs.specs.declared.numbers.Natural.the-variants.{Value, Improper}
+use Rattle.dimacs.specs.Numbers.{isDigit, allDigits, isZero, isDigits, isNatural, valueAfter, value}
+use Rattle.dimacs.specs.Inner.{capped, digitsAfter, naturalOf}
 use Rattle.dimacs.proofs.Cases.{by, clash}
 
 -- ---- digits

@@ -12,7 +12,8 @@ use Rattle.dimacs.specs.declared.Clause.the-variants.{Closed, End, Refus
 use Rattle.dimacs.specs.declared.Header.the-variants.{Proper, Improper}
 use Rattle.dimacs.specs.Text.{between}
 use Rattle.dimacs.specs.Header.{header}
-use Rattle.dimacs.specs.Clauses.{Next, closed, ended, refused, clause, complete, refusal, nextClause, clausesFrom, formula, setOf, clauseAfter, clauseOf}
+use Rattle.dimacs.specs.Clauses.{Next, closed, ended, refused, clause, complete, refusal, nextClause, clausesFrom, formula}
+use Rattle.dimacs.specs.Inner.{setOf, clauseAfter, clauseOf}
 
 -- ---- results
 

@@ -7,12 +7,13 @@ use Prim.Native.Nat.{ℕ, _-_, _≤_, _<_}
 use native.Mathlib.Omega.{arith}
 use lib.Dec.{ltb, leb}
 use borrow.Author.Tests.{lt-ltb, le-ltb, leb-true, leb-false}
-use Rattle.dimacs.specs.declared.Natural.{Natural}
-use Rattle.dimacs.specs.declared.Natural.the-variants.{Value, Improper as NoNumber}
+use Rattle.dimacs.specs.declared.numbers.Natural.{Natural}
+use Rattle.dimacs.specs.declared.numbers.Natural.the-variants.{Value, Improper as NoNumber}
 use Rattle.dimacs.specs.declared.Header.{Header}
 use Rattle.dimacs.specs.declared.Header.the-variants.{Proper, Improper}
 use Rattle.dimacs.specs.Text.{lineEnd}
-use Rattle.dimacs.specs.Numbers.{isNatural, value, capped, naturalOf}
+use Rattle.dimacs.specs.Numbers.{isNatural, value}
+use Rattle.dimacs.specs.Inner.{capped, naturalOf}
 use Rattle.dimacs.specs.Header.{nextWord, word, isWord, endsLine, isHeader, headerAt}
 use Rattle.dimacs.proofs.Cases.{by}
 use Rattle.dimacs.proofs.Digits.{capped-over, capped-under}

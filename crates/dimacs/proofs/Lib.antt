@@ -5,7 +5,7 @@ pub mod Digits
 pub mod Tokens
 pub mod Lines
 pub mod Headers
-pub mod Clauses
+pub mod OpenClause
 pub mod Bounds
 pub mod Words
 pub mod Formula

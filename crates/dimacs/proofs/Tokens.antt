@@ -9,10 +9,11 @@ use lib.ListN.{length, getD}
 use lib.Seq.{slice, slice-empty, slice-cons}
 use lib.Dec.{ltb, leb, eqb}
 use borrow.Author.Tests.{lt-ltb, le-ltb, ne-eqb, leb-true, leb-false}
-use Rattle.dimacs.specs.declared.Natural.the-variants.{Value, Improper}
+use Rattle.dimacs.specs.declared.numbers.Natural.the-variants.{Value, Improper}
 use Rattle.dimacs.specs.declared.Token.{Token}
 use Rattle.dimacs.specs.declared.Token.the-variants.{Closing, Literal, Wrong}
-use Rattle.dimacs.specs.Numbers.{isZero, isDigits, isNatural, unsigned, hasMinus, value, capped, naturalOf, tokenOf, signedToken}
+use Rattle.dimacs.specs.Numbers.{isZero, isDigits, isNatural, unsigned, hasMinus, value, tokenOf}
+use Rattle.dimacs.specs.Inner.{capped, naturalOf, signedToken}
 use Rattle.dimacs.proofs.Cases.{by}
 use Rattle.dimacs.proofs.Digits.{capped-under, zero-value, digits-value}
 

@@ -10,7 +10,7 @@ use Rattle.meaning.specs.Words.{inWord}
 use Rattle.meaning.proofs.Booleans.{and-commutes}
 use Rattle.meaning.proofs.Clauses.{occurs, Within}
 use Rattle.meaning.proofs.Words.{in-or, in-bit, in-none}
-use Rattle.dimacs.specs.Clauses.{withVariable, setFrom, setOf}
+use Rattle.dimacs.specs.Inner.{withVariable, setFrom, setOf}
 
 with-in : (t : Bool) (w x v : ℕ) → 1 ≤ x → 1 ≤ v → inWord (withVariable t w x) v ≡ (inWord w v || (t && eqb x v))
 with-in false w x v h k = sym (or-false (inWord w v))

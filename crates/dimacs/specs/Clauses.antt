@@ -1,19 +1,16 @@
 -- The clauses, token by token in file order, and the whole formula. (01, The formula; numbers 3 to 6)
-use mathlib.Core.Bool.{Bool, true, false, cond, Bool·beq}
+use mathlib.Core.Bool.{cond}
 use mathlib.Core.List.{List, [], _∷_}
-use Prim.Native.Nat.{ℕ, zero, suc, _-_, _^_}
+use Prim.Native.Nat.{ℕ, zero, suc, _-_}
 use lib.ListN.{length}
 use lib.Seq.{slice}
 use lib.Dec.{ltb}
-use lib.Bits.{bitOr}
 use Rattle.meaning.specs.Operations as meaning
 use Rattle.dimacs.specs.declared.Header.{Header}
 use Rattle.dimacs.specs.declared.Header.the-variants.{Proper, Improper}
 use Rattle.dimacs.specs.declared.Token.{Token}
 use Rattle.dimacs.specs.declared.Token.the-variants.{Closing, Literal, Wrong}
-use Rattle.dimacs.specs.declared.Clause.{Clause}
-use Rattle.dimacs.specs.declared.Clause.the-variants.{Closed, End, Refused}
-use Rattle.dimacs.specs.Text.{past, tokenEnd, betweenFrom, between}
+use Rattle.dimacs.specs.Text.{tokenEnd, betweenFrom, between}
 use Rattle.dimacs.specs.Numbers.{tokenOf}
 use Rattle.dimacs.specs.Header.{header}
 
@@ -85,29 +82,3 @@ afterHeader s (Improper number place) = refusal number place
 unfoldable pub formula : List ℕ → Reading
 unfolding header clausesFrom
 formula s = afterHeader s (header s)
-
--- ---- a clause's literals as two words, bit v - 1 for variable v
-
--- A word with the variable v, where it is wanted.
-abbrev pub withVariable : Bool → ℕ → ℕ → ℕ
-withVariable wanted w v = cond wanted (bitOr w (2 ^ (v - 1))) w
-
--- The word w with the variables of the literals of sign b.
-unfoldable pub setFrom : Bool → ℕ → List meaning.Literal → ℕ
-setFrom b w [] = w
-setFrom b w (l ∷ ls) = setFrom b (withVariable (Bool·beq (l .positive) b) w (l .variable)) ls
-
--- The variables that occur with sign b.
-abbrev pub setOf : Bool → List meaning.Literal → ℕ
-setOf b ls = setFrom b 0 ls
-
--- What the code gives of what comes next, with the two words read before.
-unfoldable pub clauseAfter : ℕ → ℕ → Next → Clause
-unfolding setFrom
-clauseAfter positive negative (closed ls first next) =
-    Closed (record { positive = setFrom true positive ls; negative = setFrom false negative ls; first = first; next = next })
-clauseAfter positive negative ended = End
-clauseAfter positive negative (refused number place) = Refused number place
-
-abbrev pub clauseOf : Next → Clause
-clauseOf next = clauseAfter 0 0 next

@@ -2,3 +2,4 @@ pub mod Text
 pub mod Numbers
 pub mod Header
 pub mod Clauses
+pub mod Inner

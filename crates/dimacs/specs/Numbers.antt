@@ -2,9 +2,7 @@
 use mathlib.Core.Bool.{Bool, true, false, not, _&&_, _||_, cond}
 use mathlib.Core.List.{List, [], _∷_}
 use Prim.Native.Nat.{ℕ, _+_, _-_, _*_}
-use lib.Dec.{eqb, leb, ltb}
-use Rattle.dimacs.specs.declared.Natural.{Natural}
-use Rattle.dimacs.specs.declared.Natural.the-variants.{Value, Improper}
+use lib.Dec.{eqb, leb}
 use Rattle.dimacs.specs.declared.Token.{Token}
 use Rattle.dimacs.specs.declared.Token.the-variants.{Closing, Literal, Wrong}
 
@@ -59,22 +57,3 @@ unfolding isNumber valueAfter
 tokenOf n bs =
     let v = value (unsigned bs) in
     cond (isZero bs) Closing (cond (isNumber bs) (cond (leb v n) (Literal v (not (hasMinus bs))) (Wrong 4)) (Wrong 3))
-
--- ---- the code's numbers, cut off above the header's limits
-
--- A number that the code tells apart from others up to 1,024.
-abbrev pub capped : ℕ → ℕ
-capped v = cond (ltb 1024 v) 1025 v
-
--- Digits read after the value n.
-abbrev pub digitsAfter : ℕ → List ℕ → Natural
-digitsAfter n bs = cond (allDigits bs) (Value (capped (valueAfter n bs))) Improper
-
-abbrev pub naturalOf : List ℕ → Natural
-naturalOf bs = cond (isNatural bs) (Value (capped (value bs))) Improper
-
--- A token with or without a minus, by the number behind it.
-abbrev pub signedToken : ℕ → Bool → Natural → Token
-signedToken n positive Improper = Wrong 3
-signedToken n positive (Value v) =
-    cond (eqb v 0) (cond positive Closing (Wrong 3)) (cond (ltb n v) (Wrong 4) (Literal v positive))

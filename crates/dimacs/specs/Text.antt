@@ -4,8 +4,6 @@ use mathlib.Core.List.{List, [], _∷_}
 use Prim.Native.Nat.{ℕ, zero, suc, _+_, _-_}
 use lib.ListN.{length, getD, drop}
 use lib.Dec.{eqb}
-use Rattle.dimacs.specs.declared.Class.{Class}
-use Rattle.dimacs.specs.declared.Class.the-variants.{Space, Blank, Parting, Token, Line}
 
 -- "spaces or tabs"
 abbrev pub isSpace : ℕ → Bool
@@ -59,11 +57,3 @@ betweenFrom s (suc k) at =
 
 abbrev pub between : List ℕ → ℕ → ℕ
 between s at = betweenFrom s (length s) at
-
--- The classes of bytes that the code names.
-abbrev pub admitted : Class → ℕ → Bool
-admitted Space b = isSpace b
-admitted Blank b = isBlank b
-admitted Parting b = isParting b
-admitted Token b = isToken b
-admitted Line b = isLine b

@@ -19,7 +19,8 @@ use Rattle.table.proofs.Written.{nodes-indexed}
 use Rattle.table.proofs.Outcomes.{placeIn, Grown, grown}
 use Rattle.dimacs.specs.declared.ClosedClause.{ClosedClause}
 use Rattle.dimacs.specs.declared.Clause.the-variants.{Closed, End, Refused}
-use Rattle.dimacs.specs.Clauses.{Reading, clause, nextClause, clauseOf, clausesFrom}
+use Rattle.dimacs.specs.Clauses.{Reading, clause, nextClause, clausesFrom}
+use Rattle.dimacs.specs.Inner.{clauseOf}
 use Rattle.dimacs.proofs.Formula.{IsClosed, closed-is, ended-is, refused-is, closed-wanted, clauses-closed, clauses-ended, clauses-refused}
 use Rattle.dimacs.proofs.Bounds.{NextIn, next-in}
 use Rattle.clause.specs.Words.{clauseOfWords}

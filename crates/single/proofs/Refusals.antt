@@ -51,7 +51,7 @@ module _ (vars lows highs : List ℕ) (count : ℕ) where
 
     pub evaluated-0 : sizeFits vars lows highs ≡ true → goodOrder (rows vars lows highs) count ≡ true → f < count
         → answer 0 (valueUnder (nodesIn vars lows highs count) f word) ≡ evaluation vars lows highs count f word
-    unfolding evaluation
+    unfolding evaluation valueUnder
     evaluated-0 e o p = rw (accepted-0 f f e o p p)
 
   pub readable : sizeFits vars lows highs ≡ true → goodOrder (rows vars lows highs) count ≡ true → Readable vars lows highs count

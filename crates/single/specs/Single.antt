@@ -5,10 +5,10 @@ use mathlib.Core.List.{List}
 use Prim.Native.Nat.{ℕ, suc}
 use lib.ListN.{length, take}
 use lib.Dec.{eqb, ltb}
-use Rattle.meaning.specs.Words.{inWord}
+use Rattle.meaning.specs.Diagram.{value}
+use Rattle.meaning.specs.Words.{inWord, assignmentOf}
 use Rattle.table.specs.Nodes.{goodOrder, allBelow, diagramAt, Placing, full, placed, place}
 use Rattle.table.specs.Columns.{rows, sizeFits, padded, Columns, columnsOf}
-use Rattle.walks.specs.Readable.{valueUnder}
 use Rattle.operate.specs.declared.Operation.{Operation}
 use Rattle.operate.specs.declared.Operation.the-variants.{Conjunction, Negation, Cofactor, Literals}
 use Rattle.operate.specs.Operate.{result}
@@ -25,7 +25,8 @@ unfoldable pub evaluation : List ℕ → List ℕ → List ℕ → ℕ → ℕ �
 unfolding refusal
 evaluation vars lows highs count f word =
     let number = refusal vars lows highs count f f in
-    record { number = number; yes = eqb number 0 && valueUnder (take count (rows vars lows highs)) f word; count = count }
+    let t = take count (rows vars lows highs) in
+    record { number = number; yes = eqb number 0 && value (diagramAt t f) (assignmentOf 64 word); count = count }
 
 -- ---- conjunction, negation, both cofactors
 
