@@ -1,7 +1,6 @@
 -- A check goes through reached states and ends in one of them: its verdict is what a refused formula leaves, or what the state leaves in
 -- which a record ends the proof; there are always steps enough. The idea: a record of right form takes a byte. Assumes nothing.
 use mathlib.Core.Path.{_≡_, refl}
-use mathlib.Core.Logic.{_≢_}
 use mathlib.Core.List.{List, [], _∷_, _++_}
 use Prim.Native.Nat.{ℕ, zero, suc, _+_, _-_, _≤_, _<_}
 use native.Mathlib.Omega.{arith}
@@ -15,18 +14,16 @@ use Rattle.dimacs.specs.Clauses.{Reading, clause, complete, refusal, clausesFro
 use Rattle.records.specs.Records.{recordAt, lengthOf, numberOf}
 use Rattle.records.proofs.Laws.{record-takes, record-within}
 use Rattle.verdict.specs.Check.{State, emptied, begun, Step, next, stop, step, left, afterStep, records, afterClause, clauses, afterHeader, verdict}
-use Rattle.verdict.specs.Run.{Function, Meant, Making, opened, made, follows, Reached, begins, goes, Ended, refused, stopped}
-use Rattle.verdict.proofs.Steps.{next-form}
+use Rattle.verdict.specs.Run.{Function, Meant, Making, opened, made, follows, Reached, begins, goes, Ended, no-header, not-read, no-room, stopped}
+use Rattle.verdict.proofs.Steps.{next-form, step-taken}
 use Rattle.verdict.proofs.Standing.{Standing, step-standing}
-use Rattle.verdict.proofs.Formula.{Read, NamedHeader, header-named}
-use Rattle.verdict.proofs.Clauses.{Underway, underway}
+use Rattle.verdict.proofs.Clauses.{underway}
 
 module _ (s : ℕ) (text proof : List ℕ) where
   -- What holds in every reached state.
   pub reached-standing : {n : ℕ} {st : State} {at : ℕ} {m : Meant} → Reached s text proof n st at m → (n ≤ 64) × Standing s n m st
   reached-standing {n} (begins {many} M) = let Y = underway s text n many M in (Y .narrow, Y .standing)
-  reached-standing {n} (goes {st} {st′} {at} R e) =
-      let (narrow, S) = reached-standing R in (narrow, step-standing S narrow (follows proof at) (recordAt proof at) st′ e)
+  reached-standing {n} (goes {st} {st′} {at} R T) = let (narrow, S) = reached-standing R in (narrow, step-standing S narrow (recordAt proof at) st′ T)
 
   -- ---- records
 
@@ -47,38 +44,28 @@ module _ (s : ℕ) (text proof : List ℕ) where
           let form : numberOf (recordAt proof at) ≡ 0 = next-form n s st (follows proof at) (recordAt proof at) st′ e in
           let takes : 1 ≤ lengthOf (recordAt proof at) = record-takes (recordAt proof at) form in
           let inside : at + lengthOf (recordAt proof at) ≤ length proof = record-within proof at refl form in
-          rec st′ next-at _ (goes R e) inside (omega arith)
+          rec st′ next-at _ (goes R (step-taken n s st (follows proof at) (recordAt proof at) st′ e)) inside (omega arith)
 
   -- ---- the formula
 
   module _ (n many : ℕ) where
-    refused-ended : (t : List Node) (ms : List ℕ) (fs : List Function) (number place : ℕ) → Making s text n many t ms fs (refusal number place) → number ≢ 0
-    refused-ended t ms fs number place M = go (Y .left) (Y .read)
-      where
-        Y : Underway s text n many t ms fs (refusal number place)
-        Y = underway s text n many M
-
-        go : (left : ℕ) → Read n left (refusal number place) → number ≢ 0
-        go zero r = r
-        go (suc left) r = r
-
     clauses-ended : (r : Reading) (t : List Node) (ms : List ℕ) (fs : List Function) → Making s text n many t ms fs r → Ended s text proof (clauses n s proof t ms r)
     unfolding clauses
     clauses-ended complete t ms fs M = records-ended n (suc (length proof)) (begun t ms) 0 _ (begins M) (omega arith) (omega arith)
-    clauses-ended (refusal number place) t ms fs M = refused (refused-ended t ms fs number place M)
+    clauses-ended (refusal number place) t ms fs M = not-read M
     clauses-ended (clause ls first rest) t ms fs M = go (place s t (meaning.clause n ls)) refl (clauses-ended rest)
       where
         go : (p : Placing) → place s t (meaning.clause n ls) ≡ p
             → ((t₁ : List Node) (ms₁ : List ℕ) (fs₁ : List Function) → Making s text n many t₁ ms₁ fs₁ rest → Ended s text proof (clauses n s proof t₁ ms₁ rest))
             → Ended s text proof (afterClause p (λ t₁ k. clauses n s proof t₁ (ms ++ k ∷ []) rest) first)
-        go (full t₁) e rec = let named : _≢_ {A = ℕ} 8 0 = λ z. omega arith in refused named
+        go (full t₁) e rec = no-room M e
         go (placed t₁ k) e rec = rec t₁ (ms ++ k ∷ []) _ (made M e)
 
   -- The verdict is what the end leaves.
   pub ended : Ended s text proof (verdict s text proof)
   unfolding verdict
-  ended = go (header text) refl (header-named text)
+  ended = go (header text) refl
     where
-      go : (h : Header) → header text ≡ h → NamedHeader h → Ended s text proof (afterHeader s text proof h)
-      go (Proper n many at) e named = clauses-ended n many (clausesFrom text n many at) emptied [] [] (opened e)
-      go (Improper number place) e named = refused named
+      go : (h : Header) → header text ≡ h → Ended s text proof (afterHeader s text proof h)
+      go (Proper n many at) e = clauses-ended n many (clausesFrom text n many at) emptied [] [] (opened e)
+      go (Improper number place) e = no-header e

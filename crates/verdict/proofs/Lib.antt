@@ -5,6 +5,9 @@ pub mod Standing
 pub mod Formula
 pub mod Clauses
 pub mod Ends
+pub mod Numbers
 pub mod Refuted
 pub mod Exactly
 pub mod Values
+pub mod Members
+pub mod Onward

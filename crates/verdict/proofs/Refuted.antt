@@ -14,7 +14,7 @@ use Rattle.meaning.specs.Words.{inWord}
 use Rattle.meaning.proofs.Booleans.{t≢f, not-true, and-both, or-cases}
 use Rattle.meaning.proofs.Clauses.{Within}
 use Rattle.meaning.proofs.Soundness.{Satisfies, rup-sound, pr-sound}
-use Rattle.table.specs.Nodes.{Node, diagramAt, Placing, full, placed, put}
+use Rattle.table.specs.Nodes.{Node, diagramAt}
 use Rattle.table.proofs.Numbers.{diagramAt-zero}
 use Rattle.dimacs.specs.Clauses.{Reading, clause, complete, refusal, clausesFrom, formula}
 use Rattle.dimacs.proofs.Bounds.{HeaderIn, header-in}
@@ -24,14 +24,15 @@ use Rattle.records.specs.declared.Rule.the-variants.{Rup, Pr}
 use Rattle.records.specs.declared.Record.{Record}
 use Rattle.records.specs.declared.Record.the-variants.{NodeEntry, Witness, ProofLine, End, CutShort, UnknownKind, NoRecord}
 use Rattle.records.specs.Records.{recordAt}
-use Rattle.verdict.specs.Check.{State, begun, next, entryNode, entered, diagramIn, step, Verdict, verdict, Outcome, lentFits, outcome, check}
-use Rattle.verdict.specs.Run.{Function, Meant, entryMeant, afterRecord, Valued, Making, opened, made, follows, Reached, begins, goes, Ended, refused, stopped}
-use Rattle.verdict.specs.Satisfies.{clausesOf, readToEnd, satisfies}
-use Rattle.verdict.proofs.Steps.{stop-not-next, end-not-next, node-taken, witness-taken, LineTaken, line-taken, step-refutes}
-use Rattle.verdict.proofs.Standing.{Standing, withEntry, entry-valued}
+use Rattle.verdict.specs.Check.{State, begun, entryNode, diagramIn, Verdict, verdict, Outcome, lentFits, outcome, check}
+use Rattle.verdict.specs.Run.{Function, Meant, entryMeant, afterRecord, Valued, LineTaken, Taken, Making, opened, made, follows, Reached, begins, goes}
+use Rattle.verdict.specs.Satisfies.{clausesOf, readToEnd, satisfies, Unsatisfiable}
+use Rattle.verdict.proofs.Steps.{step-refutes}
+use Rattle.verdict.proofs.Standing.{Standing, entry-valued}
 use Rattle.verdict.proofs.Formula.{Read, clauses-read}
 use Rattle.verdict.proofs.Clauses.{fitted, fitted-length, clause-fitted, underway}
 use Rattle.verdict.proofs.Ends.{reached-standing, ended}
+use Rattle.verdict.proofs.Numbers.{Closed, formula-refused, proof-ended, ended-closed}
 
 -- ---- functions that are 1 under an assignment
 
@@ -128,22 +129,15 @@ module _ {s n : ℕ} {m : Meant} {st : State} (S : Standing s n m st) where
       zero = λ r b all. H .zero (e ∙ r) b (subst (AllOne b) (sym same) all);
     }
 
-    entered-refuted : (p : Placing) (st′ : State) → entered st p ≡ next st′ → st .refuted ≡ st′ .refuted
-    unfolding entered
-    entered-refuted (full t) st′ e = stop-not-next 23 0 st′ e
-    entered-refuted (placed t k) st′ e = let is : withEntry st t k ≡ st′ = cc in ap (λ (x : State). x .refuted) is
-
-    step-sound : (more : Bool) (r : Record) (st′ : State) → step n s st more r ≡ next st′ → Sound text n (afterRecord m r) st′
-    unfolding step afterRecord
-    step-sound more (NodeEntry b) st′ e =
-        same-sound (afterRecord m (NodeEntry b)) st′ refl
-        (entered-refuted (put s (st .nodes) (b .variable) (entryNode st (b .low .0)) (entryNode st (b .high .0))) st′ (node-taken n s st b st′ e .is))
-    step-sound more (Witness v b) st′ e = same-sound m st′ refl (ap (λ (x : State). x .refuted) (witness-taken n st v b st′ e .is))
-    step-sound more (ProofLine rule root) st′ e = line-sound rule (root .0) st′ (line-taken n s st rule (root .0) st′ e)
-    step-sound more End st′ e = end-not-next st more st′ e
-    step-sound more CutShort st′ e = stop-not-next 10 0 st′ e
-    step-sound more UnknownKind st′ e = stop-not-next 9 0 st′ e
-    step-sound more NoRecord st′ e = stop-not-next 10 0 st′ e
+    step-sound : (r : Record) (st′ : State) → Taken n s st r st′ → Sound text n (afterRecord m r) st′
+    unfolding afterRecord
+    step-sound (NodeEntry b) st′ T = same-sound (afterRecord m (NodeEntry b)) st′ refl (ap (λ (x : State). x .refuted) (T .is))
+    step-sound (Witness v b) st′ T = same-sound m st′ refl (ap (λ (x : State). x .refuted) (T .is))
+    step-sound (ProofLine rule root) st′ T = line-sound rule (root .0) st′ T
+    step-sound End st′ T = absurd T
+    step-sound CutShort st′ T = absurd T
+    step-sound UnknownKind st′ T = absurd T
+    step-sound NoRecord st′ T = absurd T
 
 module _ (s : ℕ) (text proof : List ℕ) where
   -- the members made are the clauses of the formula
@@ -157,7 +151,7 @@ module _ (s : ℕ) (text proof : List ℕ) where
 
   reached-sound : {n : ℕ} {st : State} {at : ℕ} {m : Meant} → Reached s text proof n st at m → Sound text n m st
   reached-sound {n} (begins {many} {t} {ms} {fs} M) = begun-sound n many t ms fs M
-  reached-sound (goes {st} {st′} {at} R e) = step-sound (reached-standing s text proof R .1) text (reached-sound R) (follows proof at) (recordAt proof at) st′ e
+  reached-sound (goes {st} {st′} {at} R T) = step-sound (reached-standing s text proof R .1) text (reached-sound R) (recordAt proof at) st′ T
 
   -- ---- the formula of a reached state
 
@@ -171,7 +165,7 @@ module _ (s : ℕ) (text proof : List ℕ) where
   reached-within (begins M) = making-within M
   reached-within (goes R e) = reached-within R
 
-  reached-end : {n : ℕ} {st : State} {at : ℕ} {m : Meant} → Reached s text proof n st at m → readToEnd (formula text) ≡ true
+  pub reached-end : {n : ℕ} {st : State} {at : ℕ} {m : Meant} → Reached s text proof n st at m → readToEnd (formula text) ≡ true
   unfolding readToEnd
   reached-end {n} (begins {many} M) = sym (underway s text n many M .end)
   reached-end (goes R e) = reached-end R
@@ -179,12 +173,12 @@ module _ (s : ℕ) (text proof : List ℕ) where
   -- ---- the theorem
 
   -- The number 0 is given: the formula was read to its end, and no assignment, of as many variables as one likes, satisfies it.
-  pub refuted : verdict s text proof .number ≡ 0 → (readToEnd (formula text) ≡ true) × ((a : Assignment) → satisfies a (clausesOf (formula text)) ≡ false)
-  refuted zero-said = go (verdict s text proof) (ended s text proof) zero-said
+  pub refuted : verdict s text proof .number ≡ 0 → Unsatisfiable text
+  refuted zero-said = go (verdict s text proof) (ended-closed s text proof (verdict s text proof) (ended s text proof)) zero-said
     where
-      go : (v : Verdict) → Ended s text proof v → v .number ≡ 0 → (readToEnd (formula text) ≡ true) × ((a : Assignment) → satisfies a (clausesOf (formula text)) ≡ false)
-      go _ (refused named) z = absurd (named z)
-      go _ (stopped {n} {number} {offset} {at} {st} {m} R e) z = (
+      go : (v : Verdict) → Closed s text proof v → v .number ≡ 0 → Unsatisfiable text
+      go _ (formula-refused named) z = absurd (omega arith)
+      go _ (proof-ended {n} {number} {offset} {at} {st} {m} _ R e) z = (
         reached-end R,
         (λ a. not-true (satisfies a (clausesOf (formula text))) (λ sat.
             let (b, lb, all) = reached-sound R .kept (fitted n a) (fitted-length n a) (satisfies-fitted n (clausesOf (formula text)) (reached-within R) a ∙ sat) in
@@ -200,7 +194,7 @@ said-zero false x y seven e = absurd (omega arith)
 -- The same of the call, whatever the lent places held.
 pub check-refuted : (vars lows highs : List ℕ) (count : ℕ) (members scratch text proof : List ℕ)
     → check vars lows highs count members scratch text proof .number ≡ 0
-    → (readToEnd (formula text) ≡ true) × ((a : Assignment) → satisfies a (clausesOf (formula text)) ≡ false)
+    → Unsatisfiable text
 unfolding check outcome
 check-refuted vars lows highs count members scratch text proof e =
     refuted (length vars) text proof

@@ -11,7 +11,7 @@ use borrow.Author.Tests.{ltb-true}
 use Rattle.meaning.specs.Diagram.{Assignment, Diagram, value, valueFrom, Reduced, branch}
 use Rattle.meaning.proofs.Canonical.{reduced-from, branch-reduced}
 use Rattle.meaning.proofs.Values.{branch-at}
-use Rattle.table.specs.Nodes.{Node, at, diagramAt, Placing, full, placed, put}
+use Rattle.table.specs.Nodes.{Node, at, diagramAt, placed, put}
 use Rattle.table.proofs.Order.{Ordered, above-true}
 use Rattle.table.proofs.Numbers.{diagramAt-zero, diagramAt-one, UsesTo, uses-64, reduced-from-to}
 use Rattle.table.proofs.Growth.{Extends, extends-same, extends-length, diagramAt-grown, diagramAt-dropped}
@@ -20,10 +20,9 @@ use Rattle.records.specs.declared.NodeBody.{NodeBody}
 use Rattle.records.specs.declared.Rule.{Rule}
 use Rattle.records.specs.declared.Record.{Record}
 use Rattle.records.specs.declared.Record.the-variants.{NodeEntry, Witness, ProofLine, End, CutShort, UnknownKind, NoRecord}
-use Rattle.verdict.specs.Check.{State, next, numbered, isEntry, entryNode, entered, step}
-use Rattle.verdict.specs.Run.{Function, Meant, numberedMeant, entryMeant, nodeMeant, afterRecord, Valued}
+use Rattle.verdict.specs.Check.{State, numbered, isEntry, entryNode}
+use Rattle.verdict.specs.Run.{Function, Meant, numberedMeant, entryMeant, nodeMeant, afterRecord, Valued, withEntry, NodeTaken, WitnessTaken, LineTaken, Taken}
 use Rattle.verdict.proofs.Uses.{UsesAfter, place-uses}
-use Rattle.verdict.proofs.Steps.{stop-not-next, end-not-next, NodeTaken, node-taken, WitnessTaken, witness-taken, LineTaken, line-taken}
 
 -- ---- numbers with their functions
 
@@ -89,20 +88,6 @@ module _ {s n : ℕ} {m : Meant} {st : State} (S : Standing s n m st) where
 
 -- ---- node records
 
--- The state with one more entry.
-abbrev pub withEntry : State → List Node → ℕ → State
-withEntry st t k = record {
-  nodes = t;
-  kept = st .kept;
-  members = st .members;
-  entries = st .entries ++ k ∷ [];
-  positive = st .positive;
-  negative = st .negative;
-  lines = st .lines;
-  rounds = st .rounds;
-  refuted = st .refuted;
-}
-
 module _ {s n : ℕ} {m : Meant} {st : State} (S : Standing s n m st) (v l h : ℕ) (low-in : l < length (st .nodes)) (high-in : h < length (st .nodes))
     (least : 1 ≤ v) (over-low : 2 ≤ l → v < at (st .nodes) l .var) (over-high : 2 ≤ h → v < at (st .nodes) h .var) where
   abbrev over : Diagram
@@ -127,13 +112,10 @@ module _ {s n : ℕ} {m : Meant} {st : State} (S : Standing s n m st) (v l h : �
         (place-uses n s (st .nodes) over (S .uses) (over-reduced n (S .uses) most))
 
     entered-standing : (f : Function) → ((a : Assignment) → value over a ≡ f a) → length (st .entries) < 4096
-        → (p : Placing) → After s (st .nodes) over p → UsesAfter n p → (st′ : State) → entered st p ≡ next st′
+        → (t : List Node) (k : ℕ) → After s (st .nodes) over (placed t k) → UsesAfter n (placed t k) → (st′ : State) → withEntry st t k ≡ st′
         → Standing s n (record { members = m .members; entries = m .entries ++ f ∷ [] }) st′
-    unfolding entered
-    entered-standing f values few (full t) A u st′ e = stop-not-next 23 0 st′ e
-    entered-standing f values few (placed t k) A u st′ e =
+    entered-standing f values few t k A u st′ is =
         let longer : length (st .nodes) ≤ length t = extends-length (st .nodes) t (A .kept .extends) in
-        let is : withEntry st t k ≡ st′ = cc in
         subst (Standing s n (record { members = m .members; entries = m .entries ++ f ∷ [] })) is (record {
           ordered = A .kept .ordered;
           uses = u;
@@ -172,8 +154,8 @@ module _ {s n : ℕ} {m : Meant} {st : State} (S : Standing s n m st) (narrow : 
     over-high : 2 ≤ h → b .variable < at (st .nodes) h .var
     over-high = above-true (st .nodes) (b .variable) h (T .over-high)
 
-    node-after : After s (st .nodes) (branch (b .variable) (diagramAt (st .nodes) l) (diagramAt (st .nodes) h)) (put s (st .nodes) (b .variable) l h)
-    node-after = put-after S (b .variable) l h low-in high-in (T .least) over-low over-high (T .most) narrow
+    node-after : After s (st .nodes) (branch (b .variable) (diagramAt (st .nodes) l) (diagramAt (st .nodes) h)) (placed (T .nodes) (T .entry))
+    node-after = subst (After s (st .nodes) _) (T .room) (put-after S (b .variable) l h low-in high-in (T .least) over-low over-high (T .most) narrow)
 
     node-standing : Standing s n (afterRecord m (NodeEntry b)) st′
     unfolding afterRecord
@@ -181,16 +163,11 @@ module _ {s n : ℕ} {m : Meant} {st : State} (S : Standing s n m st) (narrow : 
         entered-standing S (b .variable) l h low-in high-in (T .least) over-low over-high (T .most) narrow (nodeMeant m b)
         (λ a. branch-at 1 (b .variable) (diagramAt (st .nodes) l) (diagramAt (st .nodes) h) a
         ∙ rw (entry-valued S (b .low .0) (T .low) .1 a, entry-valued S (b .high .0) (T .high) .1 a))
-        (T .few) (put s (st .nodes) (b .variable) l h) node-after
-        (put-uses S (b .variable) l h low-in high-in (T .least) over-low over-high (T .most) narrow) st′ (T .is)
+        (T .few) (T .nodes) (T .entry) node-after
+        (subst (UsesAfter n) (T .room) (put-uses S (b .variable) l h low-in high-in (T .least) over-low over-high (T .most) narrow)) st′ (T .is)
 
     node-extends : Extends (st .nodes) (st′ .nodes)
-    unfolding entered
-    node-extends = go (put s (st .nodes) (b .variable) l h) node-after (T .is)
-      where
-        go : (p : Placing) → After s (st .nodes) (branch (b .variable) (diagramAt (st .nodes) l) (diagramAt (st .nodes) h)) p → entered st p ≡ next st′ → Extends (st .nodes) (st′ .nodes)
-        go (full t) A e = stop-not-next 23 0 st′ e
-        go (placed t k) A e = let is : withEntry st t k ≡ st′ = cc in subst (λ (x : State). Extends (st .nodes) (x .nodes)) is (A .kept .extends)
+    node-extends = subst (λ (x : State). Extends (st .nodes) (x .nodes)) (T .is) (node-after .kept .extends)
 
   witness-standing : (v : ℕ) (b : Bool) (st′ : State) → WitnessTaken n st v b st′ → Standing s n m st′
   witness-standing v b st′ T = subst (Standing s n m) (T .is) (record {
@@ -224,23 +201,21 @@ module _ {s n : ℕ} {m : Meant} {st : State} (S : Standing s n m st) (narrow : 
         many = omega (arith, length-append (st .members) (entryNode st root ∷ []), S .many);
       })
 
-  pub step-standing : (more : Bool) (r : Record) (st′ : State) → step n s st more r ≡ next st′ → Standing s n (afterRecord m r) st′
-  unfolding step afterRecord
-  step-standing more (NodeEntry b) st′ e = node-standing b st′ (node-taken n s st b st′ e)
-  step-standing more (Witness v b) st′ e = witness-standing v b st′ (witness-taken n st v b st′ e)
-  step-standing more (ProofLine rule root) st′ e = line-standing rule (root .0) st′ (line-taken n s st rule (root .0) st′ e)
-  step-standing more End st′ e = end-not-next st more st′ e
-  step-standing more CutShort st′ e = stop-not-next 10 0 st′ e
-  step-standing more UnknownKind st′ e = stop-not-next 9 0 st′ e
-  step-standing more NoRecord st′ e = stop-not-next 10 0 st′ e
+  pub step-standing : (r : Record) (st′ : State) → Taken n s st r st′ → Standing s n (afterRecord m r) st′
+  unfolding afterRecord
+  step-standing (NodeEntry b) st′ T = node-standing b st′ T
+  step-standing (Witness v b) st′ T = witness-standing v b st′ T
+  step-standing (ProofLine rule root) st′ T = line-standing rule (root .0) st′ T
+  step-standing End st′ T = absurd T
+  step-standing CutShort st′ T = absurd T
+  step-standing UnknownKind st′ T = absurd T
+  step-standing NoRecord st′ T = absurd T
 
-  pub step-extends : (more : Bool) (r : Record) (st′ : State) → step n s st more r ≡ next st′ → Extends (st .nodes) (st′ .nodes)
-  unfolding step
-  step-extends more (NodeEntry b) st′ e = node-extends b st′ (node-taken n s st b st′ e)
-  step-extends more (Witness v b) st′ e = subst (λ (x : State). Extends (st .nodes) (x .nodes)) (witness-taken n st v b st′ e .is) (extends-same (st .nodes))
-  step-extends more (ProofLine rule root) st′ e =
-      subst (λ (x : State). Extends (st .nodes) (x .nodes)) (line-taken n s st rule (root .0) st′ e .is) (extends-same (st .nodes))
-  step-extends more End st′ e = end-not-next st more st′ e
-  step-extends more CutShort st′ e = stop-not-next 10 0 st′ e
-  step-extends more UnknownKind st′ e = stop-not-next 9 0 st′ e
-  step-extends more NoRecord st′ e = stop-not-next 10 0 st′ e
+  pub step-extends : (r : Record) (st′ : State) → Taken n s st r st′ → Extends (st .nodes) (st′ .nodes)
+  step-extends (NodeEntry b) st′ T = node-extends b st′ T
+  step-extends (Witness v b) st′ T = subst (λ (x : State). Extends (st .nodes) (x .nodes)) (T .is) (extends-same (st .nodes))
+  step-extends (ProofLine rule root) st′ T = subst (λ (x : State). Extends (st .nodes) (x .nodes)) (T .is) (extends-same (st .nodes))
+  step-extends End st′ T = absurd T
+  step-extends CutShort st′ T = absurd T
+  step-extends UnknownKind st′ T = absurd T
+  step-extends NoRecord st′ T = absurd T

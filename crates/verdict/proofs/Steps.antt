@@ -1,25 +1,26 @@
--- Steps turned round: where a record gives a next state, which tests it has passed and which state that is. The idea: each test that
--- refuses gives `stop`, so that `next` lies behind all of them. Assumes nothing.
-use mathlib.Core.Path.{_≡_, refl, sym}
-use mathlib.Core.Logic.{_≢_}
+-- A record gives a next state exactly where it passes what 01 asks of its kind, and the number 0 exactly where it ends a refutation. The idea: each
+-- test that refuses gives `stop`, so that `next` lies behind all of them. Assumes nothing.
+use mathlib.Core.Path.{_≡_, refl, sym, ap}
+use mathlib.Core.Logic.{_↔_}
 use mathlib.Core.Bool.{Bool, true, false, not, _&&_, _||_, cond}
-use mathlib.Core.List.{map}
-use Prim.Native.Nat.{ℕ, _≤_, _<_}
+use mathlib.Core.List.{List}
+use Prim.Native.Nat.{ℕ}
 use native.Mathlib.Omega.{arith}
 use lib.ListN.{length}
 use lib.Dec.{eqb, leb}
-use borrow.Author.Tests.{leb-true, leb-false, eqb-false, not-false}
-use Rattle.meaning.specs.Rules.{Line, rup, pr, witnessed}
+use borrow.Author.Tests.{leb-true, leb-false, le-leb, lt-leb, eqb-false, ne-eqb, not-false}
+use Rattle.meaning.specs.Rules.{Line, witnessed}
 use Rattle.meaning.specs.Words.{inWord}
 use Rattle.meaning.proofs.Booleans.{and-both, or-neither}
-use Rattle.table.specs.Nodes.{above, Placing, full, placed, put}
+use Rattle.table.specs.Nodes.{Node, above, Placing, full, placed, put}
 use Rattle.records.specs.declared.NodeBody.{NodeBody}
 use Rattle.records.specs.declared.Record.{Record}
 use Rattle.records.specs.declared.Record.the-variants.{NodeEntry, Witness, ProofLine, End, CutShort, UnknownKind, NoRecord}
 use Rattle.records.specs.declared.Rule.{Rule}
 use Rattle.records.specs.declared.Rule.the-variants.{Rup, Pr}
 use Rattle.records.specs.Records.{numberOf}
-use Rattle.verdict.specs.Check.{State, Step, next, stop, isEntry, entryNode, isVariable, entered, nodeStep, withVariable, witnessStep, waiting, lineFits, accepted, judged, diagramIn, lineStep, endStep, step}
+use Rattle.verdict.specs.Check.{State, Step, next, stop, isEntry, entryNode, isVariable, entered, nodeStep, witnessStep, waiting, lineFits, accepted, judged, diagramIn, lineStep, endStep, step}
+use Rattle.verdict.specs.Run.{withEntry, NodeTaken, WitnessTaken, lineOf, LineTaken, Taken}
 
 pub stop-not-next : {A : Type 0} (number offset : ℕ) (st : State) → stop number offset ≡ next st → A
 stop-not-next number offset st e = let z : _≡_ {A = ℕ} 0 1 = cc in absurd (omega arith)
@@ -36,15 +37,10 @@ module _ {st′ : State} where
 
 -- ---- node records
 
-pub record NodeTaken (n s : ℕ) (st : State) (b : NodeBody) (st′ : State) : Type 0 where
-  pub few : length (st .entries) < 4096
-  pub least : 1 ≤ b .variable
-  pub most : b .variable ≤ n
-  pub low : isEntry st (b .low .0) ≡ true
-  pub high : isEntry st (b .high .0) ≡ true
-  pub over-low : above (st .nodes) (b .variable) (entryNode st (b .low .0)) ≡ true
-  pub over-high : above (st .nodes) (b .variable) (entryNode st (b .high .0)) ≡ true
-  pub is : entered st (put s (st .nodes) (b .variable) (entryNode st (b .low .0)) (entryNode st (b .high .0))) ≡ next st′
+entered-taken : (st : State) (p : Placing) (st′ : State) → entered st p ≡ next st′ → (t : List Node) × (k : ℕ) × (p ≡ placed t k) × (withEntry st t k ≡ st′)
+unfolding entered
+entered-taken st (full t) st′ e = stop-not-next 23 0 st′ e
+entered-taken st (placed t k) st′ e = (t, k, refl, cc)
 
 pub node-taken : (n s : ℕ) (st : State) (b : NodeBody) (st′ : State) → nodeStep n s st b ≡ next st′ → NodeTaken n s st b st′
 unfolding nodeStep
@@ -59,6 +55,7 @@ node-taken n s st b st′ e =
     let (least, most) = and-both (leb 1 (b .variable)) (leb (b .variable) n) variable in
     let (low, high) = and-both (isEntry st (b .low .0)) (isEntry st (b .high .0)) entries in
     let (over-low, over-high) = and-both (above (st .nodes) (b .variable) l) (above (st .nodes) (b .variable) h) over in
+    let (nodes, entry, room, is) = entered-taken st (put s (st .nodes) (b .variable) l h) st′ e₄ in
     record {
       few = leb-false 4096 (length (st .entries)) few;
       least = leb-true 1 (b .variable) least;
@@ -67,31 +64,28 @@ node-taken n s st b st′ e =
       high = high;
       over-low = over-low;
       over-high = over-high;
-      is = e₄;
+      nodes = nodes;
+      entry = entry;
+      room = room;
+      is = is;
     }
 
+taken-node : (n s : ℕ) (st : State) (b : NodeBody) (st′ : State) → NodeTaken n s st b st′ → nodeStep n s st b ≡ next st′
+unfolding nodeStep isVariable entered
+taken-node n s st b st′ T =
+    rw (
+      lt-leb 4096 (length (st .entries)) (T .few),
+      le-leb 1 (b .variable) (T .least),
+      le-leb (b .variable) n (T .most),
+      T .low,
+      T .high,
+      T .over-low,
+      T .over-high,
+      T .room,
+    )
+    (ap next (T .is))
+
 -- ---- witness records
-
--- The state with another witness.
-abbrev pub withWitness : State → ℕ → ℕ → State
-withWitness st positive negative = record {
-  nodes = st .nodes;
-  kept = st .kept;
-  members = st .members;
-  entries = st .entries;
-  positive = positive;
-  negative = negative;
-  lines = st .lines;
-  rounds = st .rounds;
-  refuted = st .refuted;
-}
-
-pub record WitnessTaken (n : ℕ) (st : State) (v : ℕ) (b : Bool) (st′ : State) : Type 0 where
-  pub least : 1 ≤ v
-  pub most : v ≤ n
-  pub new-positive : inWord (st .positive) v ≡ false
-  pub new-negative : inWord (st .negative) v ≡ false
-  pub is : withWitness st (withVariable b (st .positive) v) (withVariable (not b) (st .negative) v) ≡ st′
 
 pub witness-taken : (n : ℕ) (st : State) (v : ℕ) (b : Bool) (st′ : State) → witnessStep n st v b ≡ next st′ → WitnessTaken n st v b st′
 unfolding witnessStep
@@ -108,26 +102,11 @@ witness-taken n st v b st′ e =
       is = cc;
     }
 
+taken-witness : (n : ℕ) (st : State) (v : ℕ) (b : Bool) (st′ : State) → WitnessTaken n st v b st′ → witnessStep n st v b ≡ next st′
+unfolding witnessStep isVariable
+taken-witness n st v b st′ T = rw (le-leb 1 v (T .least), le-leb v n (T .most), T .new-positive, T .new-negative) (ap next (T .is))
+
 -- ---- lines
-
--- A line's propagations by its rule.
-abbrev pub lineOf : ℕ → State → Rule → ℕ → Line
-lineOf n st Rup g = rup n (map (diagramIn st) (st .members)) (diagramIn st g)
-lineOf n st Pr g = pr n (inWord (st .positive)) (inWord (st .negative)) (map (diagramIn st) (st .members)) (diagramIn st g)
-
--- What its rule asks of the witness.
-abbrev pub Witnessed : ℕ → State → Rule → ℕ → Type 0
-Witnessed n st Rup g = waiting st ≡ false
-Witnessed n st Pr g = witnessed n (inWord (st .positive)) (inWord (st .negative)) (diagramIn st g) ≡ true
-
-pub record LineTaken (n s : ℕ) (st : State) (rule : Rule) (root : ℕ) (st′ : State) : Type 0 where
-  pub entry : isEntry st root ≡ true
-  pub few : st .lines < 1024
-  pub not-one : entryNode st root ≢ 1
-  pub witness : Witnessed n st rule (entryNode st root)
-  pub fits : lineFits s (st .nodes) (lineOf n st rule (entryNode st root)) ≡ true
-  pub shown : lineOf n st rule (entryNode st root) .shown ≡ true
-  pub is : accepted st (entryNode st root) (lineOf n st rule (entryNode st root)) ≡ st′
 
 judged-taken : (s : ℕ) (st : State) (g : ℕ) (line : Line) (st′ : State) → judged s st g line ≡ next st′
     → (lineFits s (st .nodes) line ≡ true) × (line .shown ≡ true) × (accepted st g line ≡ st′)
@@ -156,6 +135,13 @@ line-taken n s st Pr root st′ e =
     let (fits, shown, is) = judged-taken s st g (lineOf n st Pr g) st′ e₄ in
     record { entry = entry; few = leb-false 1024 (st .lines) few; not-one = eqb-false g 1 one; witness = witness; fits = fits; shown = shown; is = is }
 
+taken-line : (n s : ℕ) (st : State) (rule : Rule) (root : ℕ) (st′ : State) → LineTaken n s st rule root st′ → lineStep n s st rule root ≡ next st′
+unfolding lineStep judged
+taken-line n s st Rup root st′ T =
+    rw (T .entry, T .witness, lt-leb 1024 (st .lines) (T .few), ne-eqb (entryNode st root) 1 (T .not-one), T .fits, T .shown) (ap next (T .is))
+taken-line n s st Pr root st′ T =
+    rw (T .entry, lt-leb 1024 (st .lines) (T .few), ne-eqb (entryNode st root) 1 (T .not-one), T .witness, T .fits, T .shown) (ap next (T .is))
+
 -- ---- the end record
 
 pub end-not-next : (st : State) (more : Bool) (st′ : State) {A : Type 0} → endStep st more ≡ next st′ → A
@@ -169,6 +155,30 @@ end-not-next st more st′ e = go (waiting st) more (st .refuted) e
     go false false false e = stop-not-next 20 0 st′ e
 
 -- ---- every record
+
+-- A record gives a next state exactly where it passes what its kind asks.
+pub step-taken : (n s : ℕ) (st : State) (more : Bool) (r : Record) (st′ : State) → step n s st more r ≡ next st′ → Taken n s st r st′
+unfolding step
+step-taken n s st more (NodeEntry b) st′ e = node-taken n s st b st′ e
+step-taken n s st more (Witness v b) st′ e = witness-taken n st v b st′ e
+step-taken n s st more (ProofLine rule root) st′ e = line-taken n s st rule (root .0) st′ e
+step-taken n s st more End st′ e = end-not-next st more st′ e
+step-taken n s st more CutShort st′ e = stop-not-next 10 0 st′ e
+step-taken n s st more UnknownKind st′ e = stop-not-next 9 0 st′ e
+step-taken n s st more NoRecord st′ e = stop-not-next 10 0 st′ e
+
+pub taken-step : (n s : ℕ) (st : State) (more : Bool) (r : Record) (st′ : State) → Taken n s st r st′ → step n s st more r ≡ next st′
+unfolding step
+taken-step n s st more (NodeEntry b) st′ T = taken-node n s st b st′ T
+taken-step n s st more (Witness v b) st′ T = taken-witness n st v b st′ T
+taken-step n s st more (ProofLine rule root) st′ T = taken-line n s st rule (root .0) st′ T
+taken-step n s st more End st′ T = absurd T
+taken-step n s st more CutShort st′ T = absurd T
+taken-step n s st more UnknownKind st′ T = absurd T
+taken-step n s st more NoRecord st′ T = absurd T
+
+pub step-exactly : (n s : ℕ) (st : State) (more : Bool) (r : Record) (st′ : State) → (step n s st more r ≡ next st′) ↔ Taken n s st r st′
+step-exactly n s st more r st′ = (step-taken n s st more r st′, taken-step n s st more r st′)
 
 -- A record that gives a next state is of right form.
 pub next-form : (n s : ℕ) (st : State) (more : Bool) (r : Record) (st′ : State) → step n s st more r ≡ next st′ → numberOf r ≡ 0

@@ -1,26 +1,23 @@
 -- Every clause's, entry's and accepted line's node has the value of what it stands for, from its making until it is dropped: in every state
--- that the check reaches, though the proof be refused later, and in what it leaves. The idea: that is what holds in every reached
--- state. Assumes nothing.
-use mathlib.Core.Path.{_≡_, sym, _∙_}
+-- that the check reaches, though the proof be refused later. The idea: that is what holds in every reached state, and steps extend the
+-- nodes. Assumes nothing.
+use mathlib.Core.Path.{_≡_, sym, ap, _∙_}
 use mathlib.Core.Bool.{true, false}
 use mathlib.Core.List.{List, [], map, append-nil}
 use Prim.Native.Nat.{ℕ, _≤_, _<_}
-use native.Mathlib.Omega.{arith}
 use lib.ListN.{length, getD, take}
-use lib.Seq.{length-take-le}
-use Rattle.meaning.specs.Diagram.{Assignment, value}
+use Rattle.meaning.specs.Diagram.{Assignment, Diagram, value}
 use Rattle.meaning.specs.Operations as meaning
-use Rattle.table.specs.Nodes.{Node, diagramAt, nodesInOrder}
-use Rattle.table.proofs.Order.{in-order}
-use Rattle.table.proofs.Growth.{ordered-dropped, diagramAt-grown}
+use Rattle.table.specs.Nodes.{Node, diagramAt}
+use Rattle.table.proofs.Growth.{Extends, extends-same, extends-trans, diagramAt-grown}
 use Rattle.dimacs.specs.Clauses.{Reading, complete, formula}
 use Rattle.records.specs.Records.{recordAt}
-use Rattle.verdict.specs.Check.{State, isEntry, entryNode, next, step, Verdict, verdict}
-use Rattle.verdict.specs.Run.{Function, Meant, entryMeant, Valued, Making, follows, Reached, Ended, refused, stopped}
+use Rattle.verdict.specs.Check.{State, isEntry, entryNode}
+use Rattle.verdict.specs.Run.{Function, Meant, entryMeant, afterRecord, Valued, Making, Reached, Later, here, after}
 use Rattle.verdict.specs.Satisfies.{clausesOf}
-use Rattle.verdict.proofs.Standing.{Standing, valued-dropped, valued-at, entry-valued, step-extends}
-use Rattle.verdict.proofs.Clauses.{underway, emptied-ordered}
-use Rattle.verdict.proofs.Ends.{reached-standing, ended}
+use Rattle.verdict.proofs.Standing.{Standing, valued-dropped, valued-at, entry-valued, step-standing, step-extends}
+use Rattle.verdict.proofs.Clauses.{underway}
+use Rattle.verdict.proofs.Ends.{reached-standing}
 
 module _ (s : ℕ) (text : List ℕ) where
   -- ---- clauses
@@ -58,44 +55,22 @@ module _ (s : ℕ) (text : List ℕ) where
           valued-at (take (st .kept) (st .nodes)) (st .kept) (st .members) (m .members)
           (valued-dropped (st .nodes) (st .kept) (stands .ordered) (stands .least) (stands .kept) (st .members) (m .members) (stands .members)) i p (λ a. false) .1 a
 
-      -- Numbers of the table keep their diagrams from one reached state to the next.
-      pub number-kept : (st′ : State) → step n s st (follows proof at) (recordAt proof at) ≡ next st′ → (k : ℕ) → k < length (st .nodes)
-          → diagramAt (st′ .nodes) k ≡ diagramAt (st .nodes) k
-      number-kept st′ e k p =
-          diagramAt-grown (st .nodes) (st′ .nodes) (stands .ordered)
-          (step-extends stands (reached-standing s text proof R .0) (follows proof at) (recordAt proof at) st′ e) k p
+      -- Numbers of the table keep their diagrams in every state reached later.
+      later-standing : {st′ : State} {at′ : ℕ} → Later s proof n st at st′ at′ → ((m′ : Meant) × Standing s n m′ st′) × Extends (st .nodes) (st′ .nodes)
+      later-standing here = ((m, stands), extends-same (st .nodes))
+      later-standing (after {st₁} {st₂} {at₁} L T) =
+          let ((m₁, S₁), E) = later-standing L in
+          let narrow : n ≤ 64 = reached-standing s text proof R .0 in (
+            (afterRecord m₁ (recordAt proof at₁), step-standing S₁ narrow (recordAt proof at₁) st₂ T),
+            extends-trans (st .nodes) (st₁ .nodes) (st₂ .nodes) E (step-extends S₁ narrow (recordAt proof at₁) st₂ T),
+          )
 
-    -- ---- what the check leaves
+      pub number-kept : {st′ : State} {at′ : ℕ} → Later s proof n st at st′ at′ → (k : ℕ) → k < length (st .nodes) → diagramAt (st′ .nodes) k ≡ diagramAt (st .nodes) k
+      number-kept {st′} L k p = diagramAt-grown (st .nodes) (st′ .nodes) (stands .ordered) (later-standing L .1) k p
 
-    -- Nodes in good order that have room, and members among them with the values of what they stand for.
-    pub record Leaves (v : Verdict) : Type 0 where
-      pub in-good-order : nodesInOrder (v .nodes) ≡ true
-      pub least : 2 ≤ length (v .nodes)
-      pub room : 2 ≤ s → length (v .nodes) ≤ s
-      pub members-room : length (v .members) ≤ 2048
-      pub functions : List Function
-      pub values : Valued (v .nodes) (length (v .nodes)) (v .members) functions
-
-    pub verdict-leaves : Leaves (verdict s text proof)
-    verdict-leaves = go (verdict s text proof) (ended s text proof)
-      where
-        go : (v : Verdict) → Ended s text proof v → Leaves v
-        go _ (refused named) = record {
-          in-good-order = in-order _ emptied-ordered;
-          least = omega arith;
-          room = λ two. two;
-          members-room = omega arith;
-          functions = [];
-          values = tt;
-        }
-        go _ (stopped {n} {number} {offset} {at} {st} {m} R e) =
-            let S : Standing s n m st = stands R in
-            let len : length (take (st .kept) (st .nodes)) ≡ st .kept = length-take-le (st .kept) (st .nodes) (S .kept) in
-            record {
-              in-good-order = in-order (take (st .kept) (st .nodes)) (ordered-dropped (st .nodes) (S .ordered) (st .kept) (S .least) (S .kept));
-              least = omega (arith, S .least);
-              room = λ two. let r : length (st .nodes) ≤ s = S .room two in omega (arith, S .kept);
-              members-room = omega (arith, S .many, S .lines);
-              functions = m .members;
-              values = rw len (valued-dropped (st .nodes) (st .kept) (S .ordered) (S .least) (S .kept) (st .members) (m .members) (S .members));
-            }
+      -- "an entry's node [has its value] from its making until it is dropped": in every state reached later.
+      pub entry-kept : {st′ : State} {at′ : ℕ} → Later s proof n st at st′ at′ → (e : ℕ) → isEntry st e ≡ true → (a : Assignment)
+          → value (diagramAt (st′ .nodes) (entryNode st e)) a ≡ entryMeant m e a
+      entry-kept L e there a =
+          let (inside, is) = entry-valued stands e there in
+          ap (λ (D : Diagram). value D a) (number-kept L (entryNode st e) inside) ∙ is a

@@ -1,22 +1,28 @@
--- The states that a check goes through, and the functions that its members and entries stand for in each of them. (01, Values)
+-- The run of a check as 01 tells it: the functions that members and entries stand for, what a record has to pass to be taken, the states between
+-- records, and where the run ends. No call open to others cites this file: the theorems on what `check` says do.
 use mathlib.Core.Path.{_≡_}
 use mathlib.Core.Logic.{_≢_}
-use mathlib.Core.Bool.{Bool, true, false, cond}
-use mathlib.Core.List.{List, [], _∷_, _++_}
-use Prim.Native.Nat.{ℕ, _+_, _<_}
-use lib.ListN.{length, getD}
+use mathlib.Core.Bool.{Bool, true, false, not, cond}
+use mathlib.Core.List.{List, [], _∷_, _++_, map}
+use Prim.Native.Nat.{ℕ, zero, suc, _+_, _≤_, _<_}
+use lib.ListN.{length, getD, take}
 use lib.Dec.{ltb}
 use Rattle.meaning.specs.Diagram.{Assignment, holds, value}
 use Rattle.meaning.specs.Operations as meaning
-use Rattle.table.specs.Nodes.{Node, diagramAt, placed, place}
-use Rattle.dimacs.specs.declared.Header.the-variants.{Proper}
+use Rattle.meaning.specs.Rules.{Line, rup, pr, witnessed}
+use Rattle.meaning.specs.Words.{inWord}
+use Rattle.table.specs.Nodes.{Node, above, diagramAt, full, placed, put, place}
+use Rattle.dimacs.specs.declared.Header.the-variants.{Proper, Improper}
 use Rattle.dimacs.specs.Header.{header}
-use Rattle.dimacs.specs.Clauses.{Reading, clause, complete, clausesFrom}
+use Rattle.dimacs.specs.Clauses.{Reading, clause, complete, refusal, clausesFrom, formula}
 use Rattle.records.specs.declared.NodeBody.{NodeBody}
+use Rattle.records.specs.declared.Rule.{Rule}
+use Rattle.records.specs.declared.Rule.the-variants.{Rup, Pr}
 use Rattle.records.specs.declared.Record.{Record}
 use Rattle.records.specs.declared.Record.the-variants.{NodeEntry, Witness, ProofLine, End, CutShort, UnknownKind, NoRecord}
 use Rattle.records.specs.Records.{recordAt, lengthOf}
-use Rattle.verdict.specs.Check.{State, emptied, begun, next, stop, waiting, step, Verdict, left, refusedFormula}
+use Rattle.verdict.specs.Check.{State, emptied, begun, stop, isEntry, entryNode, withVariable, waiting, lineFits, accepted, diagramIn, step, Verdict, left, refusedFormula}
+use Rattle.verdict.specs.Satisfies.{clausesOf}
 
 -- ---- what members and entries stand for
 
@@ -51,12 +57,114 @@ afterRecord m CutShort = m
 afterRecord m UnknownKind = m
 afterRecord m NoRecord = m
 
+-- What members and entries stand for once so many records from a place on are taken.
+unfoldable pub meantAfter : ℕ → List ℕ → ℕ → Meant → Meant
+unfolding afterRecord
+meantAfter zero proof at m = m
+meantAfter (suc k) proof at m = meantAfter k proof (at + lengthOf (recordAt proof at)) (afterRecord m (recordAt proof at))
+
+-- The functions of the roots of a proof's lines, line after line, as its bytes fix them. There are no more records than bytes.
+abbrev pub lineFunctions : List ℕ → List Function
+lineFunctions proof = meantAfter (length proof) proof 0 (record { members = []; entries = [] }) .members
+
+-- The functions of a formula's clauses, in file order.
+abbrev pub clauseFunctions : List ℕ → List Function
+clauseFunctions text = map meaning.clauseValue (clausesOf (formula text))
+
+-- "Clauses become members 0, 1, 2 and so on"; "After an accepted line its root is the next member": what the members stand for once so many
+-- lines are accepted.
+abbrev pub standsFor : List ℕ → List ℕ → ℕ → List Function
+standsFor text proof lines = clauseFunctions text ++ take lines (lineFunctions proof)
+
 -- Each of the numbers is a node below the bound and has the values of its function, in the nodes t.
 abbrev pub Valued : List Node → ℕ → List ℕ → List Function → Type 0
 Valued t bound [] [] = Unit {0}
 Valued t bound [] (f ∷ fs) = ⊥
 Valued t bound (k ∷ ks) [] = ⊥
 Valued t bound (k ∷ ks) (f ∷ fs) = (k < bound) × ((a : Assignment) → value (diagramAt t k) a ≡ f a) × Valued t bound ks fs
+
+-- ---- a record that is taken
+
+-- The state with one more entry.
+abbrev pub withEntry : State → List Node → ℕ → State
+withEntry st t k = record {
+  nodes = t;
+  kept = st .kept;
+  members = st .members;
+  entries = st .entries ++ k ∷ [];
+  positive = st .positive;
+  negative = st .negative;
+  lines = st .lines;
+  rounds = st .rounds;
+  refuted = st .refuted;
+}
+
+-- The state with another witness.
+abbrev pub withWitness : State → ℕ → ℕ → State
+withWitness st positive negative = record {
+  nodes = st .nodes;
+  kept = st .kept;
+  members = st .members;
+  entries = st .entries;
+  positive = positive;
+  negative = negative;
+  lines = st .lines;
+  rounds = st .rounds;
+  refuted = st .refuted;
+}
+
+-- "Node: 10, 21, 12, 13, 14, 23": none of them holds, and the node has a place.
+pub record NodeTaken (n s : ℕ) (st : State) (b : NodeBody) (st′ : State) : Type 0 where
+  pub few : length (st .entries) < 4096
+  pub least : 1 ≤ b .variable
+  pub most : b .variable ≤ n
+  pub low : isEntry st (b .low .0) ≡ true
+  pub high : isEntry st (b .high .0) ≡ true
+  pub over-low : above (st .nodes) (b .variable) (entryNode st (b .low .0)) ≡ true
+  pub over-high : above (st .nodes) (b .variable) (entryNode st (b .high .0)) ≡ true
+  pub nodes : List Node
+  pub entry : ℕ
+  pub room : put s (st .nodes) (b .variable) (entryNode st (b .low .0)) (entryNode st (b .high .0)) ≡ placed nodes entry
+  pub is : withEntry st nodes entry ≡ st′
+
+-- "Witness: 10, 12, 15": none of them holds.
+pub record WitnessTaken (n : ℕ) (st : State) (v : ℕ) (b : Bool) (st′ : State) : Type 0 where
+  pub least : 1 ≤ v
+  pub most : v ≤ n
+  pub new-positive : inWord (st .positive) v ≡ false
+  pub new-negative : inWord (st .negative) v ≡ false
+  pub is : withWitness st (withVariable b (st .positive) v) (withVariable (not b) (st .negative) v) ≡ st′
+
+-- A line by its rule: RUP, or PR with the witness, of the members' diagrams and the root's.
+abbrev pub lineOf : ℕ → State → Rule → ℕ → Line
+lineOf n st Rup g = rup n (map (diagramIn st) (st .members)) (diagramIn st g)
+lineOf n st Pr g = pr n (inWord (st .positive)) (inWord (st .negative)) (map (diagramIn st) (st .members)) (diagramIn st g)
+
+-- What its rule asks of the witness: none is left at a RUP line; "g under ω is 1" at a PR line.
+abbrev pub Witnessed : ℕ → State → Rule → ℕ → Type 0
+Witnessed n st Rup g = waiting st ≡ false
+Witnessed n st Pr g = witnessed n (inWord (st .positive)) (inWord (st .negative)) (diagramIn st g) ≡ true
+
+-- "RUP: 10, 13, 16, 22, 17, then 19 or 23 [..]. PR: 10, 13, 22, 17, 18, then the same": none of them holds: its rule shows the line, and all
+-- that it makes finds room.
+pub record LineTaken (n s : ℕ) (st : State) (rule : Rule) (root : ℕ) (st′ : State) : Type 0 where
+  pub entry : isEntry st root ≡ true
+  pub few : st .lines < 1024
+  pub not-one : entryNode st root ≢ 1
+  pub witness : Witnessed n st rule (entryNode st root)
+  pub fits : lineFits s (st .nodes) (lineOf n st rule (entryNode st root)) ≡ true
+  pub shown : lineOf n st rule (entryNode st root) .shown ≡ true
+  pub is : accepted st (entryNode st root) (lineOf n st rule (entryNode st root)) ≡ st′
+
+-- What a record has to pass, by its kind, and the state that it leads to. No other record is followed by a state.
+abbrev pub Taken : ℕ → ℕ → State → Record → State → Type 0
+Taken n s st (NodeEntry b) st′ = NodeTaken n s st b st′
+Taken n s st (Witness v b) st′ = WitnessTaken n st v b st′
+Taken n s st (ProofLine rule root) st′ = LineTaken n s st rule (root .0) st′
+Taken n s st End st′ = ⊥
+Taken n s st CutShort st′ = ⊥
+Taken n s st UnknownKind st′ = ⊥
+Taken n s st NoRecord st′ = ⊥
 
 -- ---- the states
 
@@ -77,12 +185,23 @@ pub data Reached (s : ℕ) (text proof : List ℕ) (n : ℕ) : State → ℕ →
   begins : {many : ℕ} {t : List Node} {ms : List ℕ} {fs : List Function}
       → Making s text n many t ms fs complete → Reached s text proof n (begun t ms) 0 (record { members = fs; entries = [] })
   goes : {st st′ : State} {at : ℕ} {m : Meant}
-      → Reached s text proof n st at m → step n s st (follows proof at) (recordAt proof at) ≡ next st′
+      → Reached s text proof n st at m → Taken n s st (recordAt proof at) st′
       → Reached s text proof n st′ (at + lengthOf (recordAt proof at)) (afterRecord m (recordAt proof at))
 
--- How a check ends: the formula is refused, or a record of a reached state ends the proof. What it says and leaves is what that state leaves.
+-- The states that are reached from one by records that are taken.
+pub data Later (s : ℕ) (proof : List ℕ) (n : ℕ) (st : State) (at : ℕ) : State → ℕ → Type 0 where
+  here : Later s proof n st at st at
+  after : {st₁ st₂ : State} {at₁ : ℕ} → Later s proof n st at st₁ at₁ → Taken n s st₁ (recordAt proof at₁) st₂
+      → Later s proof n st at st₂ (at₁ + lengthOf (recordAt proof at₁))
+
+-- How a check ends, with what it says and leaves: there is no proper header; a token of the formula is refused, all clauses before it made; a
+-- clause finds no room; or a record is refused or ends the proof, all records before it taken. Each gives its number and its place.
 pub data Ended (s : ℕ) (text proof : List ℕ) : Verdict → Type 0 where
-  refused : {number place : ℕ} → number ≢ 0 → Ended s text proof (refusedFormula number place)
+  no-header : {number place : ℕ} → header text ≡ Improper number place → Ended s text proof (refusedFormula number place)
+  not-read : {n many number place : ℕ} {t : List Node} {ms : List ℕ} {fs : List Function}
+      → Making s text n many t ms fs (refusal number place) → Ended s text proof (refusedFormula number place)
+  no-room : {n many first : ℕ} {t t₁ : List Node} {ms : List ℕ} {fs : List Function} {ls : List meaning.Literal} {rest : Reading}
+      → Making s text n many t ms fs (clause ls first rest) → place s t (meaning.clause n ls) ≡ full t₁ → Ended s text proof (refusedFormula 8 first)
   stopped : {n number offset at : ℕ} {st : State} {m : Meant}
       → Reached s text proof n st at m → step n s st (follows proof at) (recordAt proof at) ≡ stop number offset
       → Ended s text proof (left number (at + offset) st)
