@@ -31,7 +31,6 @@ use Rattle.operate.specs.Operate.{result}
 use Rattle.operate.proofs.Results.{result-reduced}
 use Rattle.single.specs.Single as single
 use Rattle.single.specs.Single.{refusal, evaluation, operandRefusal, madeBy, operation}
-use Rattle.walks.specs.Readable.{valueUnder}
 use Rattle.demands.specs.Calls.{nodesIn, valueAt, valueOf, Answers, Says, answered, refused}
 use Rattle.demands.proofs.Lent.{read-back, left-good}
 
@@ -133,7 +132,7 @@ cofactor-nearest c count f g z a = go (eqb n 0) refl (eqb g 0) refl z
 pub evaluation-says : (c : Columns) (count f word : ℕ)
     → (evaluation (c .vars) (c .lows) (c .highs) count f word .number ≡ 0 → evaluation (c .vars) (c .lows) (c .highs) count f word .yes ≡ valueAt c count f (assignmentOf 64 word))
     × (evaluation (c .vars) (c .lows) (c .highs) count f word .number ≢ 0 → evaluation (c .vars) (c .lows) (c .highs) count f word .yes ≡ false)
-unfolding evaluation valueUnder
+unfolding evaluation
 evaluation-says c count f word = ((λ z. rw z), (λ other. go (eqb number 0) refl other))
   where
     number : ℕ
