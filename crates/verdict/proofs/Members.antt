@@ -106,15 +106,27 @@ module _ (s : ℕ) (text proof : List ℕ) where
       record { steps = 0; few = omega arith; within = omega arith; later = []; counted = refl; are = clause-members s text M ∙ sym (append-nil (clauseFunctions text)); run = λ j. let z : 0 + j ≡ j = omega arith in ap (λ (k : ℕ). meantAfter k proof 0 (meant [] [])) z }
   reached-follows {n} (goes {st} {st′} {at} {m} R T) = goes-follows n st st′ at m T (reached-follows R)
 
-  -- The members of a reached state stand for the clauses and the roots of the lines accepted so far.
-  pub members-are : {n : ℕ} {st : State} {at : ℕ} {m : Meant} → Reached s text proof n st at m → m .members ≡ standsFor text proof (st .lines)
-  members-are {n} {st} {at} {m} R =
+  -- The lines accepted so far are the first of the proof's.
+  lines-first : {n : ℕ} {st : State} {at : ℕ} {m : Meant} (R : Reached s text proof n st at m)
+      → (more : List Function) × (lineFunctions proof ≡ reached-follows R .later ++ more)
+  lines-first {n} {st} {at} {m} R =
       let F : Follows text proof st at m = reached-follows R in
       let rest : ℕ = length proof - F .steps in
       let all : length proof ≡ F .steps + rest = omega (arith, F .few, F .within) in
       let (more, adds) = records-add rest proof at (meant (F .later) (m .entries)) in
-      let whole : lineFunctions proof ≡ F .later ++ more =
-      ap (λ (k : ℕ). meantAfter k proof 0 (meant [] []) .members) all ∙ ap (λ (x : Meant). x .members) (F .run rest) ∙ adds in
+      (more, ap (λ (k : ℕ). meantAfter k proof 0 (meant [] []) .members) all ∙ ap (λ (x : Meant). x .members) (F .run rest) ∙ adds)
+
+  pub lines-there : {n : ℕ} {st : State} {at : ℕ} {m : Meant} → Reached s text proof n st at m → st .lines ≤ length (lineFunctions proof)
+  lines-there R =
+      let F = reached-follows R in
+      let (more, whole) = lines-first R in
+      omega (arith, F .counted, ap length whole ∙ length-append (F .later) more)
+
+  -- The members of a reached state stand for the clauses and the roots of the lines accepted so far.
+  pub members-are : {n : ℕ} {st : State} {at : ℕ} {m : Meant} → Reached s text proof n st at m → m .members ≡ standsFor text proof (st .lines)
+  members-are {n} {st} {at} {m} R =
+      let F : Follows text proof st at m = reached-follows R in
+      let (more, whole) = lines-first R in
       F .are ∙ ap (λ (x : List Function). clauseFunctions text ++ x) (sym (ap (take (st .lines)) whole ∙ ap (λ (k : ℕ). take k (F .later ++ more)) (sym (F .counted)) ∙ take-append-seam (F .later) more))
 
   -- In the nodes that a reached state leaves each member has the value of what it stands for.

@@ -1,0 +1,213 @@
+-- What the check leaves in every lent place: nothing changed, all zero, or the table in good order with the members' values as formula and proof
+-- fix them. The idea: what a reached state leaves, written into the lent lists and read back. Assumes nothing.
+use mathlib.Core.Path.{_≡_, refl, sym, ap, ap₂, _∙_, subst}
+use mathlib.Core.Logic.{_≢_}
+use mathlib.Core.Bool.{Bool, true, false, _&&_}
+use mathlib.Core.List.{List, [], _∷_, _++_, map}
+use Prim.Native.Nat.{ℕ, zero, suc, _+_, _-_, _≤_, _<_}
+use native.Mathlib.Omega.{arith}
+use lib.ListN.{length, getD, take, replicate, length-append, length-map, length-replicate, List·getD-append, List·getD-map}
+use lib.Seq.{length-take-le, getD-take}
+use borrow.Author.Tests.{leb-true}
+use Rattle.meaning.specs.Diagram.{Assignment, Diagram, value}
+use Rattle.meaning.specs.Operations.{Literal, clauseValue}
+use Rattle.meaning.proofs.Booleans.{and-both}
+use Rattle.table.specs.Nodes.{Node, blank, diagramAt}
+use Rattle.table.specs.Columns.{sizeFits, padded, Columns, columnsOf}
+use Rattle.table.proofs.Growth.{ordered-dropped}
+use Rattle.table.proofs.IndexOrder.{Sized, sized}
+use Rattle.dimacs.specs.Clauses.{formula}
+use Rattle.verdict.specs.Check as verdict
+use Rattle.verdict.specs.Check.{State, isEntry, entryNode, Verdict, Outcome, lentFits, zeros, outcome, refusedFormula, left}
+use Rattle.verdict.specs.Run.{Function, Meant, entryMeant, lineFunctions, clauseFunctions, standsFor, Valued, Reached}
+use Rattle.verdict.specs.Satisfies.{clausesOf, readToEnd}
+use Rattle.verdict.proofs.Standing.{Standing, valued-at, entry-valued}
+use Rattle.verdict.proofs.Ends.{reached-standing, ended}
+use Rattle.verdict.proofs.Numbers.{Closed, formula-refused, proof-ended, ended-closed}
+use Rattle.verdict.proofs.Refuted.{reached-end}
+use Rattle.verdict.proofs.Members.{lines-there, members-left}
+use Rattle.verdict.proofs.Onward.{reached-onward}
+use Rattle.demands.specs.Calls.{nodesIn, inGoodOrder, valueAt}
+use Rattle.demands.specs.Leaving.{Lent, checked, Fits, places, clausesRead, seven, Emptied, Member, Kept, Leaves, unchanged, emptied, kept}
+use Rattle.demands.proofs.Lent.{read-back, left-good}
+use Rattle.demands.proofs.Ending.{done, fits?, checked-fits, checked-seven}
+
+-- ---- lists
+
+map-blanks : (f : Node → ℕ) (k : ℕ) → f blank ≡ 0 → map f (replicate k blank) ≡ zeros k
+map-blanks f zero e = refl
+map-blanks f (suc k) e = ap₂ _∷_ e (map-blanks f k e)
+
+two-blanks : (f : Node → ℕ) (s : ℕ) → 2 ≤ s → f blank ≡ 0 → map f (padded s verdict.emptied) ≡ zeros s
+unfolding padded
+two-blanks f (suc (suc s)) two e = let z : suc (suc s) - 2 ≡ s = omega arith in rw z (ap₂ _∷_ e (ap₂ _∷_ e (map-blanks f s e)))
+two-blanks f (suc zero) two e = absurd (omega arith)
+two-blanks f zero two e = absurd (omega arith)
+
+zero-at : (k i : ℕ) → _≡_ {A = ℕ} (getD (zeros k) i 0) 0
+zero-at zero i = refl
+zero-at (suc k) zero = refl
+zero-at (suc k) (suc i) = zero-at k i
+
+getD-past : (xs : List ℕ) (k i : ℕ) → length xs ≤ i → getD (xs ++ zeros k) i 0 ≡ 0
+getD-past [] k i p = zero-at k i
+getD-past (x ∷ xs) k zero p = absurd (omega arith)
+getD-past (x ∷ xs) k (suc i) p = getD-past xs k i (omega arith)
+
+getD-second : (fs gs : List Function) (j : ℕ) (other : Function) → getD (fs ++ gs) (length fs + j) other ≡ getD gs j other
+getD-second [] gs j other = let z : 0 + j ≡ j = omega arith in ap (λ (k : ℕ). getD gs k other) z
+getD-second (f ∷ fs) gs j other =
+    let z : suc (length fs) + j ≡ suc (length fs + j) = omega arith in ap (λ (k : ℕ). getD (f ∷ (fs ++ gs)) k other) z ∙ getD-second fs gs j other
+
+valued-length : (t : List Node) (b : ℕ) (ks : List ℕ) (fs : List Function) → Valued t b ks fs → length ks ≡ length fs
+valued-length t b [] [] W = refl
+valued-length t b [] (f ∷ fs) W = absurd W
+valued-length t b (k ∷ ks) [] W = absurd W
+valued-length t b (k ∷ ks) (f ∷ fs) W = ap suc (valued-length t b ks fs (W .2))
+
+clause-at : (cs : List (List Literal)) (k : ℕ) → k < length cs → (other : Function) → getD (map clauseValue cs) k other ≡ clauseValue (getD cs k [])
+clause-at [] k p other = absurd (omega arith)
+clause-at (c ∷ cs) zero p other = refl
+clause-at (c ∷ cs) (suc k) p other = clause-at cs k (omega arith) other
+
+-- ---- sizes
+
+record Sizes (i : Lent) : Type 0 where
+  columns : Sized (i .columns .vars) (i .columns .lows) (i .columns .highs)
+  members : 2048 ≤ length (i .members)
+
+sizes : (i : Lent) → Fits i → Sizes i
+unfolding lentFits
+sizes i e =
+    let (size, lists) = and-both (sizeFits (i .columns .vars) (i .columns .lows) (i .columns .highs)) _ e in
+    record { columns = sized (i .columns .vars) (i .columns .lows) (i .columns .highs) size; members = leb-true 2048 (length (i .members)) (and-both _ _ lists .0) }
+
+-- ---- a refused formula
+
+module _ (i : Lent) (S : Sizes i) where
+  refused-emptied : (number place : ℕ) → (1 ≤ number) × (number ≤ 8) × (number ≢ 7) → Emptied i (done i (refusedFormula number place))
+  unfolding outcome columnsOf
+  refused-emptied number place named = record {
+    number = named;
+    lines = refl;
+    rounds = refl;
+    count = refl;
+    vars = two-blanks (λ x. x .var) (places i) (S .columns .least) refl;
+    lows = two-blanks (λ x. x .low) (places i) (S .columns .least) refl ∙ ap zeros (sym (S .columns .lows));
+    highs = two-blanks (λ x. x .high) (places i) (S .columns .least) refl ∙ ap zeros (sym (S .columns .highs));
+    members = let z : length (i .members) - 0 ≡ length (i .members) = omega arith in ap zeros z;
+    scratch = refl;
+  }
+
+-- ---- a proof that was judged
+
+module _ (i : Lent) (S : Sizes i) {n : ℕ} {st : State} {at : ℕ} {m : Meant} (R : Reached (places i) (i .text) (i .proof) n st at m) (number place : ℕ) where
+  abbrev t : List Node
+  t = take (st .kept) (st .nodes)
+
+  abbrev o : Outcome
+  o = done i (left number place st)
+
+  stands : Standing (places i) n m st
+  stands = reached-standing (places i) (i .text) (i .proof) R .1
+
+  W : Valued t (length t) (st .members) (standsFor (i .text) (i .proof) (st .lines))
+  W = members-left (places i) (i .text) (i .proof) R
+
+  len : length t ≡ st .kept
+  len = length-take-le (st .kept) (st .nodes) (stands .kept)
+
+  room : length t ≤ places i
+  room = omega (arith, len, stands .room (S .columns .least), stands .kept)
+
+  back : nodesIn (columnsOf (padded (places i) t)) (length t) ≡ t
+  back = read-back (places i) t
+
+  few : length (take (st .lines) (lineFunctions (i .proof))) ≡ st .lines
+  few = length-take-le (st .lines) (lineFunctions (i .proof)) (lines-there (places i) (i .text) (i .proof) R)
+
+  many : length (st .members) ≡ length (clausesRead i) + st .lines
+  many =
+      valued-length t (length t) (st .members) (standsFor (i .text) (i .proof) (st .lines)) W
+      ∙ length-append (clauseFunctions (i .text)) (take (st .lines) (lineFunctions (i .proof))) ∙ omega (arith, few, length-map (clausesRead i) clauseValue)
+
+  -- a place of the member list, and what it stands for
+  member : (k : ℕ) → k < length (st .members) → Member o k (getD (standsFor (i .text) (i .proof) (st .lines)) k (λ a. false))
+  unfolding outcome
+  member k p =
+      let (inside, is) = valued-at t (length t) (st .members) (standsFor (i .text) (i .proof) (st .lines)) W k p (λ a. false) in
+      let same : getD (st .members ++ zeros (length (i .members) - length (st .members))) k 0 ≡ getD (st .members) k 0 = List·getD-append (st .members) _ 0 k p in
+      rw (same, back) (inside, is)
+
+  -- what the clauses' places stand for, and the lines'
+  clause-there : (k : ℕ) → k < length (clausesRead i) → getD (standsFor (i .text) (i .proof) (st .lines)) k (λ a. false) ≡ clauseValue (getD (clausesRead i) k [])
+  clause-there k p =
+      List·getD-append (clauseFunctions (i .text)) (take (st .lines) (lineFunctions (i .proof))) (λ a. false) k (omega (arith, length-map (clausesRead i) clauseValue))
+      ∙ clause-at (clausesRead i) k p (λ a. false)
+
+  line-there : (j : ℕ) → j < st .lines
+      → getD (standsFor (i .text) (i .proof) (st .lines)) (length (clausesRead i) + j) (λ a. false) ≡ getD (lineFunctions (i .proof)) j (λ a. false)
+  line-there j p =
+      ap (λ (k : ℕ). getD (standsFor (i .text) (i .proof) (st .lines)) (k + j) (λ a. false)) (sym (length-map (clausesRead i) clauseValue))
+      ∙ getD-second (clauseFunctions (i .text)) (take (st .lines) (lineFunctions (i .proof))) j (λ a. false) ∙ getD-take (st .lines) (lineFunctions (i .proof)) j (λ a. false) p
+
+  judged-kept : (number ≤ 23) × (number ≢ 0 → 9 ≤ number) → Kept i o
+  unfolding outcome
+  judged-kept named = record {
+    number = named;
+    read = reached-end (places i) (i .text) (i .proof) R;
+    good = left-good (places i) t (ordered-dropped (st .nodes) (stands .ordered) (st .kept) (stands .least) (stands .kept)) room;
+    clauses = λ k p. subst (Member o k) (clause-there k p) (member k (omega (arith, many)));
+    lines = λ j p. subst (Member o (length (clausesRead i) + j)) (line-there j p) (member (length (clausesRead i) + j) (omega (arith, many)));
+    above = λ k p. getD-past (st .members) (length (i .members) - length (st .members)) k (omega (arith, many));
+    long = length-append (st .members) (zeros (length (i .members) - length (st .members)))
+        ∙ omega (arith, length-replicate {A = ℕ} (length (i .members) - length (st .members)) 0, stands .many, stands .lines, S .members);
+    scratch = refl;
+  }
+
+-- For every input: what every lent place holds after the call.
+pub check-leaves : (i : Lent) → Leaves i (checked i)
+check-leaves i = fits? i (Leaves i (checked i)) fit (λ other. unchanged other (checked-seven i other))
+  where
+    v : Verdict
+    v = verdict.verdict (places i) (i .text) (i .proof)
+
+    go : Fits i → Sizes i → (v : Verdict) → Closed (places i) (i .text) (i .proof) v → Leaves i (done i v)
+    go e S _ (formula-refused {number} {place} named) = emptied e (refused-emptied i S number place named)
+    go e S _ (proof-ended {n} {number} {offset} {at} named R _) = kept e (judged-kept i S R number (at + offset) named)
+
+    fit : Fits i → Leaves i (checked i)
+    fit e = subst (Leaves i) (sym (checked-fits i e)) (go e (sizes i e) v (ended-closed (places i) (i .text) (i .proof) v (ended (places i) (i .text) (i .proof))))
+
+-- ---- entries
+
+module _ (i : Lent) (e : Fits i) {n : ℕ} {st : State} {at : ℕ} {m : Meant} (R : Reached (places i) (i .text) (i .proof) n st at m) where
+  abbrev v : Verdict
+  v = verdict.verdict (places i) (i .text) (i .proof)
+
+  left-same : (valueAt (checked i .columns) (checked i .count) ≡ valueAt (done i v .columns) (done i v .count)) × (checked i .count ≡ length (v .nodes)) × (checked i .lines ≡ v .lines)
+  unfolding outcome
+  left-same =
+      let is : checked i ≡ done i v = checked-fits i e in
+      (ap (λ (o : Outcome). valueAt (o .columns) (o .count)) is, ap (λ (o : Outcome). o .count) is, ap (λ (o : Outcome). o .lines) is)
+
+  -- An entry's node that is not dropped has the entry's value in the table as left, whatever number the call says.
+  pub entry-left : (entry : ℕ) → isEntry st entry ≡ true → entryNode st entry < checked i .count
+      → (a : Assignment) → valueAt (checked i .columns) (checked i .count) (entryNode st entry) a ≡ entryMeant m entry a
+  unfolding outcome
+  entry-left entry there stays a =
+      let S : Standing (places i) n m st = reached-standing (places i) (i .text) (i .proof) R .1 in
+      let (inside, is) = entry-valued S entry there in
+      let (same, count, lines) = left-same in
+      ap (λ (f : ℕ → Assignment → Bool). f (entryNode st entry) a) same
+      ∙ ap (λ (x : List Node). value (diagramAt x (entryNode st entry)) a) (read-back (places i) (v .nodes))
+      ∙ ap (λ (D : Diagram). value D a) (reached-onward (places i) (i .text) (i .proof) R .same (entryNode st entry) inside (omega arith)) ∙ is a
+
+  -- The entries of a line that is accepted are not dropped: "with their nodes (those of all their entries)".
+  pub entry-stays : (entry : ℕ) → isEntry st entry ≡ true → st .lines < checked i .lines → entryNode st entry < checked i .count
+  entry-stays entry there accepted =
+      let S : Standing (places i) n m st = reached-standing (places i) (i .text) (i .proof) R .1 in
+      let (inside, is) = entry-valued S entry there in
+      let (same, count, lines) = left-same in
+      let stays : length (st .nodes) ≤ length (v .nodes) = reached-onward (places i) (i .text) (i .proof) R .stays (omega arith) in
+      omega arith

@@ -1,0 +1,88 @@
+-- What the theorems on the whole check speak of: where it ends, and what every lent place holds after it. No call open to others cites this file.
+use mathlib.Core.Path.{_≡_}
+use mathlib.Core.Logic.{_≢_}
+use mathlib.Core.Bool.{true, false}
+use mathlib.Core.List.{List, []}
+use Prim.Native.Nat.{ℕ, _+_, _≤_, _<_}
+use lib.ListN.{length, getD}
+use Rattle.meaning.specs.Diagram.{Assignment}
+use Rattle.meaning.specs.Operations.{Literal, clauseValue}
+use Rattle.table.specs.Columns.{Columns}
+use Rattle.dimacs.specs.Clauses.{formula}
+use Rattle.verdict.specs.Check.{Verdict, Outcome, lentFits, zeros, outcome, check}
+use Rattle.verdict.specs.Run.{Function, lineFunctions, Ended}
+use Rattle.verdict.specs.Satisfies.{clausesOf, readToEnd}
+use Rattle.demands.specs.Calls.{valueAt, inGoodOrder}
+
+-- What is handed to the check: the columns with their count, the member list and the scratch list, the bytes of formula and proof.
+pub record Lent : Type 0 where
+  pub columns : Columns
+  pub count : ℕ
+  pub members : List ℕ
+  pub scratch : List ℕ
+  pub text : List ℕ
+  pub proof : List ℕ
+
+-- What the call says and leaves: the definition that the contracts of `checker`, `nodes` and `export` cite.
+abbrev pub checked : Lent → Outcome
+checked i = check (i .columns .vars) (i .columns .lows) (i .columns .highs) (i .count) (i .members) (i .scratch) (i .text) (i .proof)
+
+-- The sizes that are asked of what is lent. (01, What is checked)
+abbrev pub Fits : Lent → Type 0
+Fits i = lentFits (i .columns .vars) (i .columns .lows) (i .columns .highs) (i .members) (i .scratch) ≡ true
+
+-- The size of the table.
+abbrev pub places : Lent → ℕ
+places i = length (i .columns .vars)
+
+-- The clauses read, in file order.
+abbrev pub clausesRead : Lent → List (List Literal)
+clausesRead i = clausesOf (formula (i .text))
+
+-- ---- where it ends
+
+-- "Number 7 changes nothing": "place 0, no lines, no rounds and the count as lent".
+abbrev pub seven : Lent → Outcome
+seven i = record { number = 7; place = 0; lines = 0; rounds = 0; count = i .count; columns = i .columns; members = i .members; scratch = i .scratch }
+
+-- "Order: 7, formula [..], proof": the call ends at the first place that is refused, or at the end record, and says what that place says.
+pub data Ends (i : Lent) : Outcome → Type 0 where
+  wrong-size : (Fits i → ⊥) → Ends i (seven i)
+  at-place : {v : Verdict} → Fits i → Ended (places i) (i .text) (i .proof) v → Ends i (outcome (places i) (length (i .members)) (length (i .scratch)) v)
+
+-- ---- what it leaves
+
+-- "A refused formula leaves table and lists all zero, count 2. [..] Scratch ends as zeros."
+pub record Emptied (i : Lent) (o : Outcome) : Type 0 where
+  pub number : (1 ≤ o .number) × (o .number ≤ 8) × (o .number ≢ 7)
+  pub lines : o .lines ≡ 0
+  pub rounds : o .rounds ≡ 0
+  pub count : o .count ≡ 2
+  pub vars : o .columns .vars ≡ zeros (length (i .columns .vars))
+  pub lows : o .columns .lows ≡ zeros (length (i .columns .lows))
+  pub highs : o .columns .highs ≡ zeros (length (i .columns .highs))
+  pub members : o .members ≡ zeros (length (i .members))
+  pub scratch : o .scratch ≡ zeros (length (i .scratch))
+
+-- Member k is a node of the table as left, and has under every assignment the value of the function.
+abbrev pub Member : Outcome → ℕ → Function → Type 0
+Member o k f = (getD (o .members) k 0 < o .count) × ((a : Assignment) → valueAt (o .columns) (o .count) (getD (o .members) k 0) a ≡ f a)
+
+-- "A refused proof leaves the clauses and accepted lines with their nodes (those of all their entries), zeros above. Number 0 leaves the same":
+-- the member list holds the clauses, in file order, and then the roots of the accepted lines, in theirs, each with its value; the table is in
+-- good order.
+pub record Kept (i : Lent) (o : Outcome) : Type 0 where
+  pub number : (o .number ≤ 23) × (o .number ≢ 0 → 9 ≤ o .number)
+  pub read : readToEnd (formula (i .text)) ≡ true
+  pub good : inGoodOrder (o .columns) (o .count) ≡ true
+  pub clauses : (k : ℕ) → k < length (clausesRead i) → Member o k (clauseValue (getD (clausesRead i) k []))
+  pub lines : (j : ℕ) → j < o .lines → Member o (length (clausesRead i) + j) (getD (lineFunctions (i .proof)) j (λ a. false))
+  pub above : (k : ℕ) → length (clausesRead i) + o .lines ≤ k → getD (o .members) k 0 ≡ 0
+  pub long : length (o .members) ≡ length (i .members)
+  pub scratch : o .scratch ≡ zeros (length (i .scratch))
+
+-- What every lent place holds after the call, for every input.
+pub data Leaves (i : Lent) (o : Outcome) : Type 0 where
+  unchanged : (Fits i → ⊥) → o ≡ seven i → Leaves i o
+  emptied : Fits i → Emptied i o → Leaves i o
+  kept : Fits i → Kept i o → Leaves i o
