@@ -1,0 +1,11 @@
+pub mod Places
+pub mod Numbers
+pub mod Tokens
+pub mod Blanks
+pub mod Gaps
+pub mod ClausesRead
+pub mod ClausesOf
+pub mod HeaderRead
+pub mod HeaderOf
+pub mod Exact
+pub mod Enough
