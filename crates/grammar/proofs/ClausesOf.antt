@@ -15,7 +15,7 @@ use Rattle.dimacs.specs.declared.Token.the-variants.{Closing, Literal, Wrong}
 use Rattle.dimacs.specs.Text.{isToken, tokenEnd, between}
 use Rattle.dimacs.specs.Clauses.{Next, closed, ended, refused, withLiteral, afterToken, clauseFrom, nextClause, clause as andNext, complete, andThen, clausesFrom}
 use Rattle.dimacs.proofs.Cases.{by, clash}
-use Rattle.dimacs.proofs.Clauses.{tokenAt, nextAt, clause-suc, clause-end}
+use Rattle.dimacs.proofs.OpenClause.{tokenAt, nextAt, clause-suc, clause-end}
 use Rattle.dimacs.proofs.Formula.{clauses-closed, clauses-ended, clauses-refused}
 use Rattle.grammar.specs.Parts.{Piece, gap, Parting, parting, Decimal, decimal, sign}
 use Rattle.grammar.specs.Formula.{Item, clause, literals, plain, lastComment, Body, end, clauseThen, body, clauses, Within, AllWithin}

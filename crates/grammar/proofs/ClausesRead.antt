@@ -15,7 +15,7 @@ use Rattle.dimacs.specs.Text.{isParting, isToken, tokenEnd, between}
 use Rattle.dimacs.specs.Numbers.{tokenOf}
 use Rattle.dimacs.specs.Clauses.{Next, closed, ended, withLiteral, afterToken, clauseFrom, nextClause, clause as andNext, clausesFrom}
 use Rattle.dimacs.proofs.Between.{between-least}
-use Rattle.dimacs.proofs.Clauses.{tokenAt, nextAt, clause-suc, literal-moves}
+use Rattle.dimacs.proofs.OpenClause.{tokenAt, nextAt, clause-suc, literal-moves}
 use Rattle.dimacs.proofs.Formula.{clauses-closed, clauses-ended}
 use Rattle.grammar.specs.Parts.{spaced, carriage, space, tab, Piece, blank, newLine, gap, Parting, parting, Decimal, decimal, Signed, sign, signed, literal}
 use Rattle.grammar.specs.Formula.{Item, clause, literals, Ending, plain, lastComment, ending, Body, end, clauseThen, body, clauses, Within, AllWithin}

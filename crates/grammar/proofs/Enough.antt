@@ -14,7 +14,7 @@ use Rattle.dimacs.proofs.Cases.{by}
 use Rattle.dimacs.proofs.Runs.{past-least}
 use Rattle.dimacs.proofs.Between.{comment-inside, comment-moves, between-stop}
 use Rattle.dimacs.proofs.Lines.{judged-fuel}
-use Rattle.dimacs.proofs.Clauses.{clause-fuel}
+use Rattle.dimacs.proofs.OpenClause.{clause-fuel}
 
 module _ (s : List ℕ) where
   -- The lines before the header (`header` starts with the text's length).

@@ -17,7 +17,7 @@ use Rattle.dimacs.specs.Text.{isToken, tokenEnd, lineEnd, between}
 use Rattle.dimacs.specs.Header.{judgedFrom, nextWord, headerAt, header}
 use Rattle.dimacs.specs.Clauses.{Next, closed, ended, refused, afterToken, clauseFrom, nextClause, Reading, clause, complete, refusal, andThen, clausesFrom, formula}
 use Rattle.dimacs.proofs.Cases.{by}
-use Rattle.dimacs.proofs.Clauses.{tokenAt, nextAt, clause-suc, clause-end}
+use Rattle.dimacs.proofs.OpenClause.{tokenAt, nextAt, clause-suc, clause-end}
 use Rattle.dimacs.proofs.Formula.{clauses-closed, clauses-refused, formula-proper, formula-improper}
 use Rattle.grammar.specs.Parts.{numberValue}
 use Rattle.grammar.specs.Formula.{passed, headerLine, LineEnds, body, clauses, AllWithin, Dimacs}
