@@ -9,3 +9,5 @@ pub mod HeaderRead
 pub mod HeaderOf
 pub mod Exact
 pub mod Enough
+pub mod Examples
+pub mod Refuted
