@@ -11,3 +11,4 @@ pub mod Exact
 pub mod Enough
 pub mod Examples
 pub mod Refuted
+pub mod Written

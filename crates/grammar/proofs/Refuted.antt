@@ -1,6 +1,7 @@
--- What number 0 says, in the grammar's words alone: the text is DIMACS, and no assignment satisfies the clauses that it says. The idea: a reading
--- that ends with nothing refused gives its clauses (`formula-exactly`). Assumes nothing.
-use mathlib.Core.Path.{_≡_, refl, sym}
+-- What the check says of a text, in the grammar's words: 0 only where the text is DIMACS and no assignment satisfies the clauses that it says; a
+-- text that is no DIMACS gets a number of the formula; a DIMACS text none but 8. The idea: a reading that ends with nothing refused gives its
+-- clauses (`formula-exactly`). Assumes nothing.
+use mathlib.Core.Path.{_≡_, refl, sym, _∙_}
 use mathlib.Core.Bool.{true, false}
 use mathlib.Core.List.{List, [], _∷_}
 use Prim.Native.Nat.{ℕ}
@@ -8,9 +9,15 @@ use Rattle.meaning.specs.Diagram.{Assignment}
 use Rattle.meaning.specs.Operations as meaning
 use Rattle.meaning.proofs.Booleans.{t≢f}
 use Rattle.dimacs.specs.Clauses.{Reading, clause, complete, refusal, formula}
-use Rattle.verdict.specs.Check.{check}
+use Rattle.dimacs.proofs.Formula.{formula-improper}
+use Rattle.records.specs.Records.{recordAt}
+use Rattle.verdict.specs.Check.{State, stop, step, Verdict, verdict, check}
+use Rattle.verdict.specs.Run.{Meant, follows, Reached, Ended, no-header, not-read, no-room, stopped}
 use Rattle.verdict.specs.Satisfies.{clausesOf, readToEnd, satisfies}
-use Rattle.verdict.proofs.Refuted.{check-refuted}
+use Rattle.verdict.proofs.Clauses.{underway}
+use Rattle.verdict.proofs.Ends.{ended}
+use Rattle.verdict.proofs.Numbers.{FormulaNumber, Closed, formula-refused, proof-ended, ended-closed}
+use Rattle.verdict.proofs.Refuted.{reached-end, check-refuted}
 use Rattle.grammar.specs.Formula.{Dimacs}
 use Rattle.grammar.specs.Reads.{Gives}
 use Rattle.grammar.proofs.Exact.{formula-exactly}
@@ -50,3 +57,36 @@ refuted-dimacs vars lows highs count members scratch text proof e =
     let R = check-refuted vars lows highs count members scratch text proof e in
     let D = formula-exactly text (clausesOf (formula text)) .0 (end-gives (formula text) (R .0)) in
     (clausesOf (formula text), D .0, D .1, R .1)
+
+-- ---- what is no DIMACS, and what is, at the check
+
+refusal-ends : (number place : ℕ) (r : Reading) → r ≡ refusal number place → readToEnd r ≡ false
+unfolding readToEnd
+refusal-ends number place r e = rw e
+
+module _ (s : ℕ) (text proof : List ℕ) where
+  -- A text that is no DIMACS is refused with a number of the formula: 1 to 6, or 8 where the table is full at a clause before the fault.
+  pub not-dimacs-refused : (Says text → ⊥) → FormulaNumber (verdict s text proof .number)
+  not-dimacs-refused no-text = go (verdict s text proof) (ended-closed s text proof (verdict s text proof) (ended s text proof))
+    where
+      go : (v : Verdict) → Closed s text proof v → FormulaNumber (v .number)
+      go _ (formula-refused named) = named
+      go _ (proof-ended p R e) = absurd (no-text (reads-to-end text .0 (reached-end s text proof R)))
+
+  -- Of a DIMACS text the table is full at a clause, or the check comes to the proof's records.
+  pub data Judged (v : Verdict) : Type 0 where
+    full-at-clause : v .number ≡ 8 → Judged v
+    at-record : {n at : ℕ} {st : State} {m : Meant} → Reached s text proof n st at m → (offset : ℕ)
+        → step n s st (follows proof at) (recordAt proof at) ≡ stop (v .number) offset → Judged v
+
+  pub dimacs-judged : Says text → Judged (verdict s text proof)
+  dimacs-judged d = go (verdict s text proof) (ended s text proof)
+    where
+      whole : readToEnd (formula text) ≡ true
+      whole = reads-to-end text .1 d
+
+      go : (v : Verdict) → Ended s text proof v → Judged v
+      go _ (no-header {number} {place} e) = t≢f (sym whole ∙ refusal-ends number place (formula text) (formula-improper text number place e))
+      go _ (not-read {n} {many} {number} {place} M) = t≢f (sym whole ∙ sym (underway s text n many M .end) ∙ refusal-ends number place (refusal number place) refl)
+      go _ (no-room M e) = full-at-clause refl
+      go _ (stopped {n} {number} {offset} R e) = at-record R offset e
