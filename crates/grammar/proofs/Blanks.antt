@@ -25,7 +25,7 @@ space-is : (x : Space) → isSpace (spaceByte x) ≡ true
 space-is space = refl
 space-is tab = refl
 
-pub blank-is : (b : Blank) → isBlank (blankByte b) ≡ true
+blank-is : (b : Blank) → isBlank (blankByte b) ≡ true
 blank-is (spaced space) = refl
 blank-is (spaced tab) = refl
 blank-is carriage = refl
@@ -35,7 +35,7 @@ blank-parts (spaced space) = refl
 blank-parts (spaced tab) = refl
 blank-parts carriage = refl
 
-pub blank-line : (b : Blank) → isLine (blankByte b) ≡ true
+blank-line : (b : Blank) → isLine (blankByte b) ≡ true
 blank-line (spaced space) = refl
 blank-line (spaced tab) = refl
 blank-line carriage = refl

@@ -97,7 +97,11 @@ module _ (s : List ℕ) (n : ℕ) where
           stops = C .stops;
         }
 
-  module _ (k first at f next : ℕ) (ls : List meaning.Literal) (ih : (ms : List meaning.Literal) → clauseFrom s n k first (nextAt s n at) ≡ closed ms f next → ClauseOf (nextAt s n at) next ms) where
+  -- What the rest of a clause gives, once its first token is read.
+  abbrev Rest : ℕ → ℕ → ℕ → ℕ → ℕ → Type 0
+  Rest k first at f next = (ms : List meaning.Literal) → clauseFrom s n k first at ≡ closed ms f next → ClauseOf at next ms
+
+  module _ (k first at f next : ℕ) (ls : List meaning.Literal) (ih : Rest k first (nextAt s n at) f next) where
     literal-step : (v : ℕ) (b : Bool) → tokenAt s n at ≡ Literal v b
         → withLiteral (record { variable = v; positive = b }) (clauseFrom s n k first (nextAt s n at)) ≡ closed ls f next → ClauseOf at next ls
     literal-step v b q e =
@@ -120,7 +124,7 @@ module _ (s : List ℕ) (n : ℕ) where
   unfolding clauseFrom
   clause-none first at f next ls e = not-closed 6 first f next ls e
 
-  pub clause-of : (k first at f next : ℕ) (ls : List meaning.Literal) → clauseFrom s n k first at ≡ closed ls f next → ClauseOf at next ls
+  clause-of : (k first at f next : ℕ) (ls : List meaning.Literal) → clauseFrom s n k first at ≡ closed ls f next → ClauseOf at next ls
   clause-of zero first at f next ls e = clause-none first at f next ls e
   clause-of (suc k) first at f next ls e =
       by (ltb at (length s))

@@ -86,7 +86,7 @@ module _ (s : List ℕ) where
       let later = comments-skipped cs x (lineEnd s (suc at)) (comment-rest at (10 ∷ comments cs x) c e refl) in
       (later .0, later .1, comment-skipped at (10 ∷ comments cs x) c e ∙ later .2)
 
-  pub gap-skipped : (g : List Piece) (x : List ℕ) (at : ℕ) → drop at s ≡ gap g x → Reaches at x
+  gap-skipped : (g : List Piece) (x : List ℕ) (at : ℕ) → drop at s ≡ gap g x → Reaches at x
   gap-skipped [] x at e = (at, e, refl)
   gap-skipped (blank b ∷ g) x at e =
       let later = gap-skipped g x (suc at) (behind s at (blankByte b) (gap g x) e) in

@@ -12,3 +12,4 @@ pub mod Enough
 pub mod Examples
 pub mod Refuted
 pub mod Written
+pub mod Numerals

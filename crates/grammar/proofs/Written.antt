@@ -1,5 +1,5 @@
--- Every formula within the limits has a text: each number a numeral, single spaces, a line for each clause. The idea: the numeral of a number's
--- successor is its numeral raised by one, from the last digit on. Assumes nothing.
+-- Every formula within the limits has a text, which is read back as that formula: each number a numeral, single spaces, a line for each clause.
+-- The idea: the numeral of a number's successor is its numeral raised by one, from the last digit on. Assumes nothing.
 use mathlib.Core.Path.{_≡_, refl, ap, ap₂, sym, _∙_}
 use mathlib.Core.List.{List, [], _∷_}
 use Prim.Native.Nat.{ℕ, zero, suc, _*_, _^_, _≤_}
@@ -10,6 +10,8 @@ use lib.ListN.{length, replicate, length-replicate}
 use Rattle.meaning.specs.Operations as meaning
 use Rattle.grammar.specs.Parts.{Digits, worth, Decimal, decimalValue, Number, nought, positive, numberValue, Spaces, space, spaced, blank, newLine, Parting, literal}
 use Rattle.grammar.specs.Formula.{passed, HeaderLine, headerLine, LineEnds, Item, literals, plain, Body, end, clauseThen, body, clauses, Within, AllWithin, Dimacs}
+use Rattle.grammar.specs.Reads.{Reads}
+use Rattle.grammar.proofs.Exact.{print-and-read}
 
 -- ---- numerals
 
@@ -156,3 +158,8 @@ written n cs small few h =
         within = all-within n cs h;
       },
     )
+
+-- What is written so is read back: the same variables, the same clauses, nothing refused.
+pub read-after-write : (n : ℕ) (cs : List (List meaning.Literal)) (small : n ≤ 64) (few : length cs ≤ 1024) (h : AllProper n cs)
+    → Reads (written n cs small few h .0) n cs
+read-after-write n cs small few h = print-and-read (written n cs small few h .0) n cs (written n cs small few h .1)
