@@ -34,13 +34,8 @@ pub record HeaderLine : Type 0 where
 
 abbrev pub headerLine : HeaderLine → List ℕ → List ℕ
 headerLine h r =
-    112
-    ∷ spacing (h .behindP)
-    (99
-    ∷ 110
-    ∷ 102
-    ∷ spacing (h .behindCnf)
-    (number (h .variables) (spacing (h .behindVariables) (number (h .clauses) (blanks (h .behindClauses) r)))))
+    let numbers = number (h .variables) (spacing (h .behindVariables) (number (h .clauses) (blanks (h .behindClauses) r))) in
+    let cnf : List ℕ = 99 ∷ 110 ∷ 102 ∷ spacing (h .behindCnf) numbers in 112 ∷ spacing (h .behindP) cnf
 
 -- The header's line ends behind it: with an LF or with the text.
 abbrev pub LineEnds : List ℕ → Type 0
@@ -96,7 +91,7 @@ abbrev pub AllWithin : ℕ → List (List meaning.Literal) → Type 0
 AllWithin n [] = Unit {0}
 AllWithin n (c ∷ cs) = Within n c × AllWithin n cs
 
--- The text s says the formula of n variables and the clauses cs, within "at most 64 variables, 1,024 clauses".
+-- The text s says the formula of n variables and the clauses cs: as many as the header says, and "at most 64 variables, 1,024 clauses".
 pub record Dimacs (s : List ℕ) (n : ℕ) (cs : List (List meaning.Literal)) : Type 0 where
   pub before : List Passed
   pub line : HeaderLine

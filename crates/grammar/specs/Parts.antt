@@ -53,7 +53,7 @@ pub record Comment : Type 0 where
   pub bytes : List ℕ
   pub inLine : InLine bytes
 
--- "A line whose first byte is `c`"; r begins with its LF.
+-- "A line whose first byte is `c`", up to its end; its LF, if it has one, is the first byte of r.
 abbrev pub comment : Comment → List ℕ → List ℕ
 comment c r = 99 ∷ (c .bytes ++ r)
 
