@@ -19,7 +19,8 @@ use Rattle.meaning.proofs.PointwiseSteps.{negation-twice}
 use Rattle.table.specs.Nodes.{Node, diagramAt}
 use Rattle.table.proofs.Order.{Ordered}
 use Rattle.table.proofs.Numbers.{diagramAt-reduced}
-use Rattle.conflict.specs.Members.{diagramsOf, Inside, negationIn, someNegated, Quiet}
+use Rattle.conflict.specs.Members.{negationIn, someNegated, Quiet}
+use Rattle.table.specs.Lists.{diagramsOf, Inside}
 use Rattle.conflict.specs.Marks.{isListed}
 
 -- ---- a test over the list's diagrams, place by place

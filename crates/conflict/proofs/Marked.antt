@@ -10,7 +10,8 @@ use Rattle.table.specs.Nodes.{diagramAt}
 use Rattle.table.specs.Indexed.{Table, size, nodesOf, Good}
 use Rattle.table.proofs.Written.{length-nodes, good-ordered}
 use Rattle.negate.specs.Negations.{Negates}
-use Rattle.conflict.specs.Members.{diagramsOf, Inside, negationIn}
+use Rattle.conflict.specs.Members.{negationIn}
+use Rattle.table.specs.Lists.{diagramsOf, Inside}
 use Rattle.conflict.specs.Marks.{unmarked, setAll, markedAt, FoundInside}
 use Rattle.conflict.proofs.Marks.{marked-length, marks-tell}
 use Rattle.conflict.proofs.Numbers.{negation-found, negation-absent}

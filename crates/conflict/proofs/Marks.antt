@@ -11,7 +11,7 @@ use lib.ListN.{length, getD, set, drop, length-set, length-replicate, getD-repli
 use lib.Seq.{drop-cons, getD-set-same, getD-set-other, ext-getD}
 use lib.Dec.{eqb}
 use borrow.Author.Tests.{eq-eqb, ne-eqb}
-use Rattle.conflict.specs.Members.{Inside}
+use Rattle.table.specs.Lists.{Inside}
 use Rattle.conflict.specs.Marks.{isListed, unmarked, setAll}
 
 -- ---- the loops' steps

@@ -18,7 +18,8 @@ use Rattle.meaning.proofs.Units.{same-eq, eq-same}
 use Rattle.table.specs.Nodes.{Node, diagramAt}
 use Rattle.table.proofs.Order.{Ordered}
 use Rattle.table.proofs.Numbers.{diagramAt-zero, diagramAt-injective}
-use Rattle.conflict.specs.Members.{diagramsOf, Inside, negationIn, someNegated}
+use Rattle.conflict.specs.Members.{negationIn, someNegated}
+use Rattle.table.specs.Lists.{diagramsOf, Inside}
 use Rattle.conflict.specs.Marks.{isListed}
 
 -- ---- two members in either order

@@ -7,7 +7,9 @@ ghost use Prim.Native.Nat.{_<_};
 ghost use lib.ListN.{length};
 ghost use Rattle.meaning.specs.Rules as rules;
 ghost use Rattle.table.specs.Indexed.{tableOf, nodesOf};
-ghost use Rattle.conflict.specs.Members.{diagramsOf, Inside, ListReady, someNegated, Quiet};
+ghost use Rattle.conflict.specs.Members.{someNegated, Quiet};
+ghost use Rattle.walks.specs.Readable.{ListReady};
+ghost use Rattle.table.specs.Lists.{diagramsOf, Inside};
 ghost use Rattle.conflict.specs.Marks.{isListed, unmarked, setAll, markedAt, FoundInside};
 
 // Whether node 0 is listed.

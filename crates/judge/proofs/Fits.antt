@@ -1,4 +1,4 @@
--- Whether what a line makes finds room, told from the parts that the code makes one after another. The idea: a turn's diagrams are
+-- What a line reaches, whether it finds room and how far, told from the parts that the code makes one after another. The idea: a turn's diagrams are
 -- placed as one list, and members without a turn make nothing. Assumes nothing.
 use mathlib.Core.Path.{_≡_, refl, sym, ap, _∙_}
 use mathlib.Core.Bool.{Bool, true, false, _&&_, cond}
@@ -6,22 +6,14 @@ use mathlib.Core.List.{List, [], _∷_, _++_}
 use mathlib.Core.Option.{Option, none, some}
 use Prim.Native.Nat.{ℕ, _+_}
 use native.Mathlib.Omega.{arith}
+use lib.ListN.{length}
 use Rattle.meaning.specs.Diagram.{Diagram, leaf, same}
 use Rattle.meaning.specs.Operations.{negation, cofactorLiterals}
 use Rattle.meaning.specs.Rules.{Propagation, Line, unitProp, byDiagram, base, rup, afterTurn, prTurns}
 use Rattle.meaning.proofs.Booleans.{t≢f, and-true}
 use Rattle.table.specs.Nodes.{Node}
-use Rattle.verdict.specs.Check.{placedAll, isSome, turnsFit, fitAfter, lineFits}
-use Rattle.propagate.proofs.PlacedAll.{placed-none, placed-then}
-
--- ---- one list after another
-
-module _ (s : ℕ) (t : List Node) (Ds Es : List Diagram) where
-  -- the second is placed over what the first left
-  pub both-fit : (rest : Option (List Node)) → placedAll s t Ds ≡ rest → isSome (placedAll s t (Ds ++ Es)) ≡ fitAfter s (Es ∷ []) rest
-  unfolding turnsFit
-  both-fit none e = ap isSome (placed-none s t Ds Es e)
-  both-fit (some t′) e = ap isSome (placed-then s t Ds Es t′ e) ∙ sym (and-true (isSome (placedAll s t′ Es)))
+use Rattle.table.specs.Making.{placedAll, Reach, reached, thenReach, turnsReach, keptReach, lineReach}
+use Rattle.table.proofs.PlacedAll.{after-nothing, turns-peak, one-reach, both-reach}
 
 -- ---- RUP
 
@@ -29,9 +21,9 @@ abbrev pub propagation : ℕ → List Diagram → Diagram → Propagation
 propagation n ms g = unitProp n (byDiagram n (negation n g) ms)
 
 module _ (s : ℕ) (t : List Node) (n : ℕ) (ms : List Diagram) (g : Diagram) where
-  pub rup-fits : lineFits s t (rup n ms g) ≡ isSome (placedAll s t (base n ms g ++ propagation n ms g .made))
-  unfolding rup lineFits
-  rup-fits = sym (both-fit s t (base n ms g) (propagation n ms g .made) (placedAll s t (base n ms g)) refl)
+  pub rup-reach : lineReach s t (rup n ms g) ≡ reached (placedAll s t (base n ms g ++ propagation n ms g .made))
+  unfolding rup lineReach
+  rup-reach = sym (both-reach s t (base n ms g) (propagation n ms g .made) (placedAll s t (base n ms g)) refl)
 
 -- ---- PR
 
@@ -55,9 +47,9 @@ module _ (n : ℕ) (P N : ℕ → Bool) (ms′ : List Diagram) where
   turns-kept [] = refl
   turns-kept (f ∷ fs) = kept-cond (same (cofactorLiterals n P N f) (leaf true)) (cofactorLiterals n P N f) (prTurns n P N ms′ fs) (turns-kept fs)
 
-  pub turns-fit : (s : ℕ) (t : List Node) (fs : List Diagram) → lineFits s t (prTurns n P N ms′ fs) ≡ turnsFit s (prTurns n P N ms′ fs .turns) t
-  unfolding lineFits placedAll
-  turns-fit s t fs = ap (λ (kept : List Diagram). fitAfter s (prTurns n P N ms′ fs .turns) (placedAll s t kept)) (turns-kept fs)
+  pub turns-reach : (s : ℕ) (t : List Node) (fs : List Diagram) → lineReach s t (prTurns n P N ms′ fs) ≡ turnsReach s (prTurns n P N ms′ fs .turns) t
+  unfolding lineReach placedAll
+  turns-reach s t fs = ap (λ (kept : List Diagram). keptReach s (prTurns n P N ms′ fs .turns) (placedAll s t kept)) (turns-kept fs)
 
   -- ---- one member
 
@@ -87,12 +79,12 @@ module _ (n : ℕ) (P N : ℕ → Bool) (ms′ : List Diagram) where
               choose true m = omega arith
               choose false m = refl
 
-      pub turn-fits : (s : ℕ) (t : List Node) → lineFits s t (prTurns n P N ms′ (f ∷ []))
-          ≡ isSome (placedAll s t (cofactorLiterals n P N f ∷ (base n ms′ (cofactorLiterals n P N f) ++ propagation n ms′ (cofactorLiterals n P N f) .made)))
-      unfolding afterTurn turnsFit
-      turn-fits s t =
-          turns-fit s t (f ∷ [])
-          ∙ ap (λ (L : Line). turnsFit s (L .turns) t) one-turn
+      pub turn-reach : (s : ℕ) (t : List Node) → lineReach s t (prTurns n P N ms′ (f ∷ []))
+          ≡ reached (placedAll s t (cofactorLiterals n P N f ∷ (base n ms′ (cofactorLiterals n P N f) ++ propagation n ms′ (cofactorLiterals n P N f) .made)))
+      unfolding afterTurn
+      turn-reach s t =
+          turns-reach s t (f ∷ [])
+          ∙ ap (λ (L : Line). turnsReach s (L .turns) t) one-turn
           ∙ go (propagation n ms′ (cofactorLiterals n P N f) .conflict)
         where
           h : Diagram
@@ -101,9 +93,9 @@ module _ (n : ℕ) (P N : ℕ → Bool) (ms′ : List Diagram) where
           Ds : List Diagram
           Ds = h ∷ (base n ms′ h ++ propagation n ms′ h .made)
 
-          go : (b : Bool) → turnsFit s (Ds ∷ cond b [] []) t ≡ isSome (placedAll s t Ds)
-          go true = and-true (isSome (placedAll s t Ds))
-          go false = and-true (isSome (placedAll s t Ds))
+          go : (b : Bool) → turnsReach s (Ds ∷ cond b [] []) t ≡ reached (placedAll s t Ds)
+          go true = one-reach s Ds t
+          go false = one-reach s Ds t
 
 -- ---- a member and those after it
 
@@ -111,12 +103,12 @@ module _ (n : ℕ) (P N : ℕ → Bool) (ms′ : List Diagram) where
 pub record GoesOn (s : ℕ) (t : List Node) (one rest all : Line) : Type 0 where
   pub shown : all .shown ≡ rest .shown
   pub rounds : all .rounds ≡ one .rounds + rest .rounds
-  pub fits : turnsFit s (all .turns) t ≡ (turnsFit s (one .turns) t && turnsFit s (rest .turns) t)
+  pub reach : turnsReach s (all .turns) t ≡ thenReach (turnsReach s (one .turns) t) (turnsReach s (rest .turns) t)
 
 pub record Stops (s : ℕ) (t : List Node) (one all : Line) : Type 0 where
   pub shown : all .shown ≡ false
   pub rounds : all .rounds ≡ one .rounds
-  pub fits : turnsFit s (all .turns) t ≡ turnsFit s (one .turns) t
+  pub reach : turnsReach s (all .turns) t ≡ turnsReach s (one .turns) t
 
 -- A turn taken apart: whether h is 1, and if not whether it conflicts, its rounds and what it makes.
 abbrev turned : Bool → Bool → ℕ → List Diagram → Line → Line
@@ -125,16 +117,16 @@ turned constant conflict rounds made rest =
 
 module _ (s : ℕ) (t : List Node) where
   turned-on : (b c : Bool) (m : ℕ) (ds : List Diagram) (L : Line) → turned b c m ds nothing .shown ≡ true → GoesOn s t (turned b c m ds nothing) L (turned b c m ds L)
-  unfolding turnsFit
-  turned-on true c m ds L e = record { shown = refl; rounds = omega arith; fits = refl }
+  unfolding turnsReach
+  turned-on true c m ds L e = record { shown = refl; rounds = omega arith; reach = sym (after-nothing (length t) (turnsReach s (L .turns) t) (turns-peak s (L .turns) t)) }
   turned-on false true m ds L e =
-      record { shown = refl; rounds = omega arith; fits = ap (λ (x : Bool). x && turnsFit s (L .turns) t) (sym (and-true (isSome (placedAll s t ds)))) }
+      record { shown = refl; rounds = omega arith; reach = ap (λ (r : Reach). thenReach r (turnsReach s (L .turns) t)) (sym (one-reach s ds t)) }
   turned-on false false m ds L e = t≢f (sym e)
 
   turned-last : (b c : Bool) (m : ℕ) (ds : List Diagram) (L : Line) → turned b c m ds nothing .shown ≡ false → Stops s t (turned b c m ds nothing) (turned b c m ds L)
   turned-last true c m ds L e = t≢f e
   turned-last false true m ds L e = t≢f e
-  turned-last false false m ds L e = record { shown = refl; rounds = refl; fits = refl }
+  turned-last false false m ds L e = record { shown = refl; rounds = refl; reach = refl }
 
   module _ (n : ℕ) (P N : ℕ → Bool) (ms′ : List Diagram) (f : Diagram) (fs : List Diagram) where
     abbrev h : Diagram

@@ -5,36 +5,38 @@ use mathlib.Core.List.{List, [], _∷_}
 use mathlib.Core.Option.{none}
 use Prim.Native.Nat.{ℕ}
 use native.Mathlib.Omega.{arith}
+use lib.ListN.{length}
 use Rattle.meaning.specs.Diagram.{Diagram}
 use Rattle.meaning.specs.Operations.{negation}
 use Rattle.meaning.specs.Rules.{Propagation, Line, unitProp, byDiagram, rup, prTurns, pr}
 use Rattle.meaning.specs.Words.{inWord}
 use Rattle.meaning.proofs.Booleans.{t≢f, and-true}
 use Rattle.table.specs.Indexed.{Table, size, nodesOf, Good}
-use Rattle.verdict.specs.Check.{placedAll, isSome, turnsFit, fitAfter, lineFits}
-use Rattle.conflict.specs.Members.{diagramsOf, Inside}
+use Rattle.table.specs.Making.{placedAll, Reach, reach, reached, keptReach, lineReach}
+use Rattle.table.proofs.PlacedAll.{one-reach, room-reached}
+use Rattle.table.specs.Lists.{diagramsOf, Inside}
 use Rattle.propagate.specs.declared.Propagated.{Propagated}
 use Rattle.propagate.specs.Rounds.{Said}
-use Rattle.propagate.proofs.Extended.{extended-longer, extended-trans, diagrams-kept}
+use Rattle.table.proofs.Extended.{extended-longer, extended-trans, diagrams-kept}
 use Rattle.judge.specs.declared.Judged.{Judged}
 use Rattle.judge.specs.Lines.{ByNegation, Says}
-use Rattle.judge.proofs.Fits.{turns-fit}
+use Rattle.judge.proofs.Fits.{turns-reach}
 use Rattle.judge.proofs.Turning.{judgedAs}
 
 module _ (T : Table) (G : Good T) (ms : List Diagram) (g : Diagram) (T₁ : Table) (list : List ℕ) where
   -- not-g or a member by it found no room
   module _ (B : ByNegation T ms g true T₁ list) (bound count : ℕ) where
-    said-full : (line : Line) → fitAfter (size T) (line .turns) none ≡ lineFits (size T) (nodesOf T) line → Says T line bound (judgedAs true false 0 count) T₁
+    said-full : (line : Line) → lineReach (size T) (nodesOf T) line ≡ reach false (length (nodesOf T₁)) → Says T line bound (judgedAs true false 0 count) T₁
     said-full line e =
-        record { extended = B .extended; fits = sym e; shown = λ z. t≢f z; rounds = λ z. t≢f z; most = omega arith }
+        record { extended = B .extended; fits = ap (λ (x : Reach). x .fits) e; shown = λ z. t≢f z; rounds = λ z. t≢f z; most = omega arith }
 
     pub rup-full : Says T (rup 64 ms g) bound (judgedAs true false 0 count) T₁
-    unfolding rup lineFits
-    rup-full = said-full (rup 64 ms g) (ap (fitAfter (size T) (rup 64 ms g .turns)) (sym (B .places)))
+    unfolding rup lineReach
+    rup-full = said-full (rup 64 ms g) (ap (keptReach (size T) (rup 64 ms g .turns)) (B .places))
 
     pub pr-full : (P N : ℕ → Bool) → Says T (pr 64 P N ms g) bound (judgedAs true false 0 count) T₁
-    unfolding pr lineFits
-    pr-full P N = said-full (pr 64 P N ms g) (ap (fitAfter (size T) (pr 64 P N ms g .turns)) (sym (B .places)))
+    unfolding pr lineReach
+    pr-full P N = said-full (pr 64 P N ms g) (ap (keptReach (size T) (pr 64 P N ms g .turns)) (B .places))
 
   module _ (B : ByNegation T ms g false T₁ list) where
     same-size : size T₁ ≡ size T
@@ -42,17 +44,19 @@ module _ (T : Table) (G : Good T) (ms : List Diagram) (g : Diagram) (T₁ : Tabl
 
     pub rup-judged : (p : Propagated) (T₂ : Table) → Said T₁ (unitProp 64 (diagramsOf (nodesOf T₁) list)) p T₂
         → Says T (rup 64 ms g) 64 (judgedAs (p .full) (p .conflict) (p .rounds) (p .count)) T₂
-    unfolding rup lineFits turnsFit
+    unfolding rup lineReach
     rup-judged p T₂ S =
         let e : unitProp 64 (diagramsOf (nodesOf T₁) list) ≡ unitProp 64 (byDiagram 64 (negation 64 g) ms) = ap (unitProp 64) (B .are refl) in
         let u : Propagation = unitProp 64 (byDiagram 64 (negation 64 g) ms) in
         record {
           extended = extended-trans T T₁ T₂ G (B .extended) (S .extended);
           fits =
-              ap (fitAfter (size T) (u .made ∷ [])) (B .places)
-              ∙ and-true (isSome (placedAll (size T) (nodesOf T₁) (u .made)))
-              ∙ ap₂ (λ (s : ℕ) (q : Propagation). isSome (placedAll s (nodesOf T₁) (q .made))) (sym same-size) (sym e)
-              ∙ S .fits;
+              ap (λ (x : Reach). x .fits)
+              (ap (keptReach (size T) (u .made ∷ [])) (B .places)
+              ∙ one-reach (size T) (u .made) (nodesOf T₁)
+              ∙ ap₂ (λ (s : ℕ) (q : Propagation). reached (placedAll s (nodesOf T₁) (q .made))) (sym same-size) (sym e)
+              ∙ ap reached (S .places)
+              ∙ room-reached (p .full) (nodesOf T₂));
           shown = λ z. S .conflict z ∙ ap (λ (q : Propagation). q .conflict) e;
           rounds = λ z. S .rounds z ∙ ap (λ (q : Propagation). q .rounds) e;
           most = S .most;
@@ -69,15 +73,16 @@ module _ (T : Table) (G : Good T) (members : List ℕ) (inside : Inside (T .coun
 
   pub pr-judged : (bound : ℕ) (r : Judged) (T₂ : Table) → Says T₁ (prTurns 64 (inWord p) (inWord n) (diagramsOf (nodesOf T₁) list) (diagramsOf (nodesOf T₁) members)) bound r T₂
       → Says T (pr 64 (inWord p) (inWord n) ms g) bound r T₂
-  unfolding pr lineFits
+  unfolding pr lineReach
   pr-judged bound r T₂ S =
       let turned : Line = prTurns 64 (inWord p) (inWord n) (byDiagram 64 (negation 64 g) ms) ms in
       record {
         extended = extended-trans T T₁ T₂ G (B .extended) (S .extended);
         fits =
-            ap (fitAfter (size T) (turned .turns)) (B .places)
-            ∙ sym (turns-fit 64 (inWord p) (inWord n) (byDiagram 64 (negation 64 g) ms) (size T) (nodesOf T₁) ms)
-            ∙ ap₂ (λ (s : ℕ) (L : Line). lineFits s (nodesOf T₁) L) (sym (B .extended .same-size)) (sym turns-are)
+            ap (λ (x : Reach). x .fits)
+            (ap (keptReach (size T) (turned .turns)) (B .places)
+            ∙ sym (turns-reach 64 (inWord p) (inWord n) (byDiagram 64 (negation 64 g) ms) (size T) (nodesOf T₁) ms)
+            ∙ ap₂ (λ (s : ℕ) (L : Line). lineReach s (nodesOf T₁) L) (sym (B .extended .same-size)) (sym turns-are))
             ∙ S .fits;
         shown = λ z. S .shown z ∙ ap (λ (L : Line). L .shown) turns-are;
         rounds = λ z. S .rounds z ∙ ap (λ (L : Line). L .rounds) turns-are;

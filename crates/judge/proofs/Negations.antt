@@ -21,13 +21,14 @@ use Rattle.operate.specs.declared.Operation.the-variants.{Negation, Cofactor}
 use Rattle.operate.specs.Operate.{result}
 use Rattle.operate.specs.Inner.{applied, Allowed, MemoRight, Ready}
 use Rattle.operate.proofs.Results.{result-reduced}
-use Rattle.verdict.specs.Check.{placedAll}
+use Rattle.table.specs.Making.{placedAll}
 use Rattle.supports.specs.Supports.{Support, Supports}
-use Rattle.conflict.specs.Members.{diagramsOf, ListReady}
+use Rattle.walks.specs.Readable.{ListReady}
+use Rattle.table.specs.Lists.{diagramsOf}
 use Rattle.propagate.specs.Made.{results, AllMade}
 use Rattle.propagate.specs.Touching.{Touches}
-use Rattle.propagate.proofs.PlacedAll.{first-full, first-placed}
-use Rattle.propagate.proofs.Extended.{longer-extended, extended-trans, diagrams-kept}
+use Rattle.table.proofs.PlacedAll.{first-full, first-placed}
+use Rattle.table.proofs.Extended.{longer-extended, extended-trans, diagrams-kept}
 use Rattle.judge.specs.Lines.{Negatable, Worded, ByNegation}
 use Rattle.judge.proofs.Worded.{negation-has, supports-longer}
 

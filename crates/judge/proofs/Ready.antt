@@ -7,9 +7,8 @@ use native.Mathlib.Omega.{arith}
 use lib.ListN.{length}
 use Rattle.meaning.specs.Diagram.{Diagram}
 use Rattle.table.specs.Indexed.{Table, size, Good}
-use Rattle.walks.specs.Readable.{Roomy}
-use Rattle.conflict.specs.Members.{Inside, ListReady}
-use Rattle.propagate.specs.Made.{Extended}
+use Rattle.walks.specs.Readable.{Roomy, ListReady}
+use Rattle.table.specs.Lists.{Inside, Extended}
 use Rattle.judge.specs.Lines.{Negatable, ByNegation}
 
 -- the members by not-g

@@ -23,15 +23,16 @@ use Rattle.operate.specs.declared.Operation.the-variants.{Literals}
 use Rattle.operate.specs.Operate.{result}
 use Rattle.operate.specs.Inner.{applied, MemoRight, Ready}
 use Rattle.operate.proofs.Results.{result-reduced}
-use Rattle.verdict.specs.Check.{placedAll, isSome, turnsFit, lineFits}
+use Rattle.table.specs.Making.{placedAll, Reach, reached, turnsReach, lineReach}
 use Rattle.supports.specs.Supports.{Support}
-use Rattle.conflict.specs.Members.{diagramsOf, ListReady}
-use Rattle.propagate.proofs.PlacedAll.{first-full, first-placed}
-use Rattle.propagate.proofs.Extended.{longer-extended, extended-same, extended-trans, diagrams-kept}
+use Rattle.walks.specs.Readable.{ListReady}
+use Rattle.table.specs.Lists.{diagramsOf}
+use Rattle.table.proofs.PlacedAll.{first-full, first-placed}
+use Rattle.table.proofs.Extended.{longer-extended, extended-same, extended-trans, diagrams-kept}
 use Rattle.judge.specs.declared.Judged.{Judged}
 use Rattle.judge.specs.Lines.{Negatable, Worded, Says}
 use Rattle.judge.proofs.Worded.{literals-has, supports-longer}
-use Rattle.judge.proofs.Fits.{propagation, rup-fits, turns-fit, constant-turn, turn-shown, turn-rounds, turn-fits, GoesOn, Stops, goes-on, stops}
+use Rattle.judge.proofs.Fits.{propagation, rup-reach, turns-reach, constant-turn, turn-shown, turn-rounds, turn-reach, GoesOn, Stops, goes-on, stops}
 
 abbrev pub judgedAs : Bool → Bool → ℕ → ℕ → Judged
 judgedAs full shown rounds count = record { full = full; shown = shown; rounds = rounds; count = count }
@@ -44,12 +45,12 @@ module _ (T : Table) (list memo : List ℕ) (R : ListReady T list memo) (f p n :
 
   -- h is 1: nothing is made
   pub turn-constant : constantAt (nodesOf T) p n true f ≡ true → Says T One 64 (judgedAs false true 0 (T .count)) T
-  unfolding constantAt lineFits turnsFit placedAll
+  unfolding constantAt lineReach turnsReach placedAll
   turn-constant e =
       let q : One ≡ _ = constant-turn 64 (inWord p) (inWord n) (diagramsOf (nodesOf T) list) (diagramAt (nodesOf T) f) e in
       record {
         extended = extended-same T (R .good);
-        fits = ap (lineFits (size T) (nodesOf T)) q;
+        fits = ap (λ (L : Line). lineReach (size T) (nodesOf T) L .fits) q;
         shown = λ _. sym (ap (λ (L : Line). L .shown) q);
         rounds = λ _. sym (ap (λ (L : Line). L .rounds) q);
         most = omega arith;
@@ -79,9 +80,9 @@ module _ (T : Table) (list memo : List ℕ) (R : ListReady T list memo) (f p n :
     long : Longer T (o .table)
     long = longer T h o made
 
-    fits-is : lineFits (size T) (nodesOf T) One ≡ isSome (placedAll (size T) (nodesOf T) (h ∷ (base 64 ms h ++ propagation 64 ms h .made)))
+    reach-is : lineReach (size T) (nodesOf T) One ≡ reached (placedAll (size T) (nodesOf T) (h ∷ (base 64 ms h ++ propagation 64 ms h .made)))
     unfolding constantAt
-    fits-is = turn-fits 64 (inWord p) (inWord n) ms (diagramAt (nodesOf T) f) other (size T) (nodesOf T)
+    reach-is = turn-reach 64 (inWord p) (inWord n) ms (diagramAt (nodesOf T) f) other (size T) (nodesOf T)
 
     -- h found no room
     pub turn-full : o .full ≡ true → (count : ℕ) → Says T One 64 (judgedAs true false 0 count) (o .table)
@@ -89,7 +90,7 @@ module _ (T : Table) (list memo : List ℕ) (R : ListReady T list memo) (f p n :
     turn-full q count =
         record {
           extended = longer-extended T (o .table) long;
-          fits = fits-is ∙ ap isSome (first-full (size T) (nodesOf T) h (base 64 ms h ++ propagation 64 ms h .made) o e q);
+          fits = ap (λ (x : Reach). x .fits) (reach-is ∙ ap reached (first-full (size T) (nodesOf T) h (base 64 ms h ++ propagation 64 ms h .made) o e q));
           shown = λ z. t≢f z;
           rounds = λ z. t≢f z;
           most = omega arith;
@@ -129,20 +130,20 @@ module _ (T : Table) (list memo : List ℕ) (R : ListReady T list memo) (f p n :
       rup-is : Rup ≡ rup 64 ms h
       rup-is = ap₂ (rup 64) (diagrams-kept T (o .table) long list (R .inside)) (made .is q)
 
-      fits-both : lineFits (size T) (nodesOf T) One ≡ lineFits (size (o .table)) (nodesOf (o .table)) Rup
+      reach-both : lineReach (size T) (nodesOf T) One ≡ lineReach (size (o .table)) (nodesOf (o .table)) Rup
       unfolding result
-      fits-both =
-          fits-is
-          ∙ ap isSome (first-placed (size T) (nodesOf T) h (base 64 ms h ++ propagation 64 ms h .made) o e q)
-          ∙ sym (rup-fits (size T) (nodesOf (o .table)) 64 ms h)
-          ∙ ap₂ (λ (s : ℕ) (L : Line). lineFits s (nodesOf (o .table)) L) (sym (made .same-size)) (sym rup-is)
+      reach-both =
+          reach-is
+          ∙ ap reached (first-placed (size T) (nodesOf T) h (base 64 ms h ++ propagation 64 ms h .made) o e q)
+          ∙ sym (rup-reach (size T) (nodesOf (o .table)) 64 ms h)
+          ∙ ap₂ (λ (s : ℕ) (L : Line). lineReach s (nodesOf (o .table)) L) (sym (made .same-size)) (sym rup-is)
 
       pub turn-judged : (r : Judged) (T′ : Table) → Says (o .table) Rup 64 r T′ → Says T One 64 r T′
       unfolding constantAt
       turn-judged r T′ S =
           record {
             extended = extended-trans T (o .table) T′ (R .good) (longer-extended T (o .table) long) (S .extended);
-            fits = fits-both ∙ S .fits;
+            fits = ap (λ (x : Reach). x .fits) reach-both ∙ S .fits;
             shown = λ z. S .shown z ∙ ap (λ (L : Line). L .shown) rup-is ∙ sym (turn-shown 64 (inWord p) (inWord n) ms (diagramAt (nodesOf T) f) other);
             rounds = λ z. S .rounds z ∙ ap (λ (L : Line). L .rounds) rup-is ∙ sym (turn-rounds 64 (inWord p) (inWord n) ms (diagramAt (nodesOf T) f) other);
             most = S .most;
@@ -156,7 +157,10 @@ module _ (T : Table) (list members : List ℕ) (p n : ℕ) where
   lineOf ks = prTurns 64 (inWord p) (inWord n) (diagramsOf (nodesOf T) list) (diagramsOf (nodesOf T) ks)
 
   abbrev fit : List ℕ → Bool
-  fit ks = turnsFit (size T) (lineOf ks .turns) (nodesOf T)
+  fit ks = turnsReach (size T) (lineOf ks .turns) (nodesOf T) .fits
+
+  line-fit : (ks : List ℕ) → lineReach (size T) (nodesOf T) (lineOf ks) .fits ≡ fit ks
+  line-fit ks = ap (λ (x : Reach). x .fits) (turns-reach 64 (inWord p) (inWord n) (diagramsOf (nodesOf T) list) (size T) (nodesOf T) (diagramsOf (nodesOf T) ks))
 
   -- The turns of the first i members conflicted, in so many rounds.
   pub record Turning (i rounds : ℕ) : Type 0 where
@@ -172,12 +176,12 @@ module _ (T : Table) (list members : List ℕ) (p n : ℕ) where
   module _ (good : Good T) where
     -- all are passed
     pub turns-done : (i rounds : ℕ) → Turning i rounds → length members ≤ i → Says T (lineOf members) (64 * length members) (judgedAs false true rounds (T .count)) T
-    unfolding prTurns turnsFit
+    unfolding prTurns turnsReach
     turns-done i rounds W end =
         let none : drop i members ≡ [] = drop-of-length-le members {i = i} end in
         record {
           extended = extended-same T good;
-          fits = turns-fit 64 (inWord p) (inWord n) (diagramsOf (nodesOf T) list) (size T) (nodesOf T) (diagramsOf (nodesOf T) members) ∙ W .fits-left ∙ ap fit none;
+          fits = line-fit members ∙ W .fits-left ∙ ap fit none;
           shown = λ _. sym (W .shown-left ∙ ap (λ (ks : List ℕ). lineOf ks .shown) none);
           rounds = λ _. sym (W .rounds-left ∙ ap (λ (ks : List ℕ). rounds + lineOf ks .rounds) none ∙ plus-zero rounds);
           most = omega (arith, W .most, W .so-far);
@@ -194,11 +198,10 @@ module _ (T : Table) (list members : List ℕ) (p n : ℕ) where
       next = drop-cons members i 0 more
 
       one-fits : fit (getD members i 0 ∷ []) ≡ not (r .full)
-      one-fits = sym (turns-fit 64 (inWord p) (inWord n) (diagramsOf (nodesOf T) list) (size T) (nodesOf T) (diagramsOf (nodesOf T) (getD members i 0 ∷ []))) ∙ S .fits
+      one-fits = sym (line-fit (getD members i 0 ∷ [])) ∙ S .fits
 
-      all-fit : lineFits (size T) (nodesOf T) (lineOf members) ≡ fit (getD members i 0 ∷ drop (suc i) members)
-      all-fit =
-          turns-fit 64 (inWord p) (inWord n) (diagramsOf (nodesOf T) list) (size T) (nodesOf T) (diagramsOf (nodesOf T) members) ∙ W .fits-left ∙ ap fit next
+      all-fit : lineReach (size T) (nodesOf T) (lineOf members) .fits ≡ fit (getD members i 0 ∷ drop (suc i) members)
+      all-fit = line-fit members ∙ W .fits-left ∙ ap fit next
 
       onward : one .shown ≡ true → GoesOn (size T) (nodesOf T) one (lineOf (drop (suc i) members)) (lineOf (getD members i 0 ∷ drop (suc i) members))
       onward =
@@ -223,8 +226,8 @@ module _ (T : Table) (list members : List ℕ) (p n : ℕ) where
           no-room = one-fits ∙ ap not q
 
           go : (b : Bool) → one .shown ≡ b → fit (getD members i 0 ∷ drop (suc i) members) ≡ false
-          go true e = onward e .fits ∙ ap (λ (x : Bool). x && fit (drop (suc i) members)) no-room
-          go false e = last e .fits ∙ no-room
+          go true e = ap (λ (x : Reach). x .fits) (onward e .reach) ∙ ap (λ (x : Bool). x && fit (drop (suc i) members)) no-room
+          go false e = ap (λ (x : Reach). x .fits) (last e .reach) ∙ no-room
 
       module _ (q : r .full ≡ false) where
         has-room : fit (getD members i 0 ∷ []) ≡ true
@@ -236,7 +239,7 @@ module _ (T : Table) (list members : List ℕ) (p n : ℕ) where
             let e : one .shown ≡ false = sym (S .shown q) ∙ z in
             record {
               extended = extended-same T good;
-              fits = all-fit ∙ last e .fits ∙ has-room;
+              fits = all-fit ∙ ap (λ (x : Reach). x .fits) (last e .reach) ∙ has-room;
               shown = λ _. sym (W .shown-left ∙ ap (λ (ks : List ℕ). lineOf ks .shown) next ∙ last e .shown);
               rounds = λ _. sym (W .rounds-left ∙ ap (λ (ks : List ℕ). rounds + lineOf ks .rounds) next ∙ ap (λ (m : ℕ). rounds + m) (last e .rounds ∙ sym (S .rounds q)));
               most = omega (arith, W .most, S .most);
@@ -257,7 +260,7 @@ module _ (T : Table) (list members : List ℕ) (p n : ℕ) where
                   ∙ ap (λ (k : ℕ). rounds + (r .rounds + lineOf (drop k members) .rounds)) (sym (add-one i))
                   ∙ grouped rounds (r .rounds) (lineOf (drop (i + 1) members) .rounds);
               fits-left =
-                  W .fits-left ∙ ap fit next ∙ g .fits ∙ ap (λ (x : Bool). x && fit (drop (suc i) members)) has-room
+                  W .fits-left ∙ ap fit next ∙ ap (λ (x : Reach). x .fits) (g .reach) ∙ ap (λ (x : Bool). x && fit (drop (suc i) members)) has-room
                   ∙ ap (λ (k : ℕ). fit (drop k members)) (sym (add-one i));
             }
           where

@@ -15,7 +15,7 @@ use Rattle.table.specs.Indexed.{Table, nodesOf, Good}
 use Rattle.table.proofs.Written.{length-nodes, good-ordered}
 use Rattle.table.proofs.Numbers.{UsesTo, reduced-to}
 use Rattle.walks.specs.Constant.{constantAt}
-use Rattle.conflict.specs.Members.{diagramsOf, Inside}
+use Rattle.table.specs.Lists.{diagramsOf, Inside}
 use Rattle.judge.proofs.Negations.{not-one}
 
 -- The walk that asks whether a cofactor by literals is 1 tells whether a line is witnessed.

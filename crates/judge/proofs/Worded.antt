@@ -14,7 +14,7 @@ use Rattle.table.proofs.Numbers.{diagramAt-reduced}
 use Rattle.table.proofs.Outcomes.{Longer}
 use Rattle.supports.specs.Supports.{Support, Supports}
 use Rattle.supports.proofs.Uses.{negation-uses, literals-uses}
-use Rattle.conflict.specs.Members.{Inside}
+use Rattle.table.specs.Lists.{Inside}
 use Rattle.judge.specs.Lines.{Worded}
 
 -- ---- what is made of a node

@@ -10,10 +10,10 @@ use Rattle.meaning.specs.Operations.{negation}
 use Rattle.meaning.specs.Rules.{Line, byDiagram, base}
 use Rattle.table.specs.Nodes.{diagramAt}
 use Rattle.table.specs.Indexed.{Table, size, nodesOf}
-use Rattle.verdict.specs.Check.{placedAll, lineFits}
+use Rattle.table.specs.Making.{placedAll, lineReach}
 use Rattle.supports.specs.Supports.{Support, Supports}
-use Rattle.conflict.specs.Members.{diagramsOf, Inside, ListReady}
-use Rattle.propagate.specs.Made.{Extended}
+use Rattle.walks.specs.Readable.{ListReady}
+use Rattle.table.specs.Lists.{room, diagramsOf, Inside, Extended}
 use Rattle.judge.specs.declared.Judged.{Judged}
 
 -- Members that are propagated after a cofactor by the negation of node g: g is not 1, so that its negation is not 0.
@@ -32,7 +32,7 @@ pub record Worded (t : Table) (list words : List ℕ) (g word : ℕ) : Type 0 wh
 -- found room the list has the members by not-g.
 pub record ByNegation (t : Table) (ms : List Diagram) (g : Diagram) (full : Bool) (t′ : Table) (list : List ℕ) : Type 0 where
   pub extended : Extended t t′
-  pub places : placedAll (size t) (nodesOf t) (base 64 ms g) ≡ cond full none (some (nodesOf t′))
+  pub places : placedAll (size t) (nodesOf t) (base 64 ms g) ≡ room full (nodesOf t′)
   pub inside : full ≡ false → Inside (t′ .count) list
   pub are : full ≡ false → diagramsOf (nodesOf t′) list ≡ byDiagram 64 (negation 64 g) ms
 
@@ -40,7 +40,7 @@ pub record ByNegation (t : Table) (ms : List Diagram) (g : Diagram) (full : Bool
 -- many; the table is then t′.
 pub record Says (t : Table) (line : Line) (bound : ℕ) (r : Judged) (t′ : Table) : Type 0 where
   pub extended : Extended t t′
-  pub fits : lineFits (size t) (nodesOf t) line ≡ not (r .full)
+  pub fits : lineReach (size t) (nodesOf t) line .fits ≡ not (r .full)
   pub shown : r .full ≡ false → r .shown ≡ line .shown
   pub rounds : r .full ≡ false → r .rounds ≡ line .rounds
   pub most : r .rounds ≤ bound

@@ -8,6 +8,7 @@ use native.Mathlib.Decide.{ℕ-discrete}
 use lib.ListN.{length, getD, set, replicate, length-set, length-replicate}
 use lib.Seq.{getD-set-same, getD-set-other, ext-getD}
 use Rattle.table.specs.Indexed.{Table, tableOf}
+use Rattle.table.proofs.Zeros.{zeros-at, Cleared}
 use Rattle.table.proofs.Outcomes.{Longer}
 use Rattle.operate.specs.declared.Operation.{Operation}
 use Rattle.operate.specs.declared.Operation.the-variants.{Negation}
@@ -88,31 +89,9 @@ memo-none memo three e op t =
 pub empty-follows : (memo memo′ : List ℕ) → Empty memo′ → Follows memo memo′
 empty-follows memo memo′ empty = record { shaped = empty Negation (tableOf [] [] [] [] [] 0) .shaped; right = λ op t _. empty op t }
 
-zeros : (n i : ℕ) → _≡_ {A = ℕ} (getD (replicate n 0) i 0) 0
-zeros zero i = refl
-zeros (suc n) zero = refl
-zeros (suc n) (suc i) = zeros n i
-
 -- one of zeros
 pub memo-fresh : (memo : List ℕ) → 3 ≤ length memo → memo ≡ replicate (length memo) 0 → Empty memo
-memo-fresh memo three e = memo-none memo three (ap (λ (m : List ℕ). getD m 0 0) e ∙ zeros (length memo) 0)
-
--- ---- emptying it
-
--- the first i places hold zeros
-abbrev pub Cleared : List ℕ → ℕ → Type 0
-Cleared memo i = (k : ℕ) → k < i → _≡_ {A = ℕ} (getD memo k 0) 0
-
-pub cleared-one : (memo : List ℕ) (i : ℕ) → i < length memo → Cleared memo i → Cleared (set memo i 0) (i + 1)
-cleared-one memo i inside before k p = go (ℕ-discrete k i)
-  where
-    go : Dec (k ≡ i) → _≡_ {A = ℕ} (getD (set memo i 0) k 0) 0
-    go (yes e) = rw e (getD-set-same memo i 0 0 inside)
-    go (no n) = getD-set-other memo i k 0 0 n ∙ before k (omega arith)
-
-pub cleared-all : (memo : List ℕ) (n : ℕ) → length memo ≡ n → Cleared memo n → memo ≡ replicate n 0
-cleared-all memo n len all =
-    ext-getD 0 memo (replicate n 0) (len ∙ sym (length-replicate n 0)) (λ k p. all k (omega arith) ∙ sym (zeros n k))
+memo-fresh memo three e = memo-none memo three (ap (λ (m : List ℕ). getD m 0 0) e ∙ zeros-at (length memo) 0)
 
 -- one whose live cells are zeros, with its header
 pub memo-zeros : (memo : List ℕ) (n step : ℕ) → 3 + n ≤ length memo → n ≤ 1048576 → Cleared memo (3 + n) → Empty (set (set memo 0 n) 2 step)

@@ -1,5 +1,3 @@
-pub mod PlacedAll
-pub mod Extended
 pub mod Touching
 pub mod Replacing
 pub mod Quieting

@@ -25,7 +25,9 @@ use Rattle.operate.proofs.Levels.{zero-is}
 use Rattle.units.proofs.Bits.{in-all}
 use Rattle.supports.specs.Supports.{Uses, Support, Supports}
 use Rattle.supports.proofs.Words.{in-left}
-use Rattle.conflict.specs.Members.{diagramsOf, ListReady, Quiet}
+use Rattle.conflict.specs.Members.{Quiet}
+use Rattle.walks.specs.Readable.{ListReady}
+use Rattle.table.specs.Lists.{diagramsOf}
 use Rattle.conflict.proofs.Asked.{no-conflict}
 use Rattle.propagate.specs.Made.{results, AllMade}
 use Rattle.propagate.specs.Touching.{touched, AllTouched}

@@ -18,13 +18,14 @@ use Rattle.operate.specs.declared.Operation.{Operation}
 use Rattle.operate.specs.Operate.{result}
 use Rattle.operate.specs.Inner.{applied, Allowed, MemoRight, Ready}
 use Rattle.operate.proofs.Results.{result-reduced}
-use Rattle.verdict.specs.Check.{placedAll}
+use Rattle.table.specs.Making.{placedAll}
 use Rattle.supports.specs.Supports.{Support, Supports}
-use Rattle.conflict.specs.Members.{diagramsOf, Inside, ListReady}
+use Rattle.walks.specs.Readable.{ListReady}
+use Rattle.table.specs.Lists.{diagramsOf, Inside}
 use Rattle.propagate.specs.Made.{results, AllMade}
 use Rattle.propagate.specs.Touching.{Touches, touched}
-use Rattle.propagate.proofs.PlacedAll.{first-full, first-placed}
-use Rattle.propagate.proofs.Extended.{longer-extended}
+use Rattle.table.proofs.PlacedAll.{first-full, first-placed}
+use Rattle.table.proofs.Extended.{longer-extended}
 use Rattle.propagate.proofs.Touching.{result-supported, touches-kept, supports-replaced}
 
 pub getD-map : {A B : Type 0} (f : A → B) (l : List A) (k : ℕ) (d : A) (e : B) → k < length l → getD (map f l) k e ≡ f (getD l k d)

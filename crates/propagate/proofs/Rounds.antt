@@ -15,17 +15,17 @@ use Rattle.meaning.proofs.Booleans.{t≢f}
 use Rattle.meaning.proofs.PointwiseSteps.{literals-cong}
 use Rattle.table.specs.Nodes.{diagramAt}
 use Rattle.table.specs.Indexed.{Table, size, nodesOf, Good}
-use Rattle.walks.specs.Readable.{Roomy}
+use Rattle.walks.specs.Readable.{Roomy, ListReady}
 use Rattle.operate.specs.declared.Operation.the-variants.{Literals}
 use Rattle.operate.specs.Operate.{result}
-use Rattle.verdict.specs.Check.{placedAll, isSome}
-use Rattle.conflict.specs.Members.{diagramsOf, Inside, ListReady}
+use Rattle.table.specs.Making.{placedAll}
+use Rattle.table.specs.Lists.{room, diagramsOf, Inside, Extended}
 use Rattle.conflict.specs.Marks.{unmarked}
-use Rattle.propagate.specs.Made.{Extended, results, AllMade}
+use Rattle.propagate.specs.Made.{results, AllMade}
 use Rattle.propagate.specs.Units.{Taken}
 use Rattle.propagate.specs.Rounds.{Said, roundsLeft}
-use Rattle.propagate.proofs.PlacedAll.{placed-none, placed-then}
-use Rattle.propagate.proofs.Extended.{extended-same, extended-trans}
+use Rattle.table.proofs.PlacedAll.{placed-short, placed-then}
+use Rattle.table.proofs.Extended.{extended-same, extended-trans}
 
 -- ---- the definition's steps
 
@@ -129,7 +129,7 @@ module _ (T₀ : Table) (G₀ : Good T₀) (ms₀ : List Diagram) (T : Table) (l
   going-ends b e =
       record {
         extended = W .extended;
-        fits = ap isSome (W .to-place ∙ ap (λ (p : Propagation). placedAll (size T₀) (nodesOf T) (p .made)) e);
+        places = W .to-place ∙ ap (λ (p : Propagation). placedAll (size T₀) (nodesOf T) (p .made)) e;
         conflict = λ _. sym (W .conflict ∙ ap (λ (p : Propagation). p .conflict) e);
         rounds = λ _. sym (W .counted ∙ ap (λ (p : Propagation). rounds + p .rounds) e ∙ plus-zero rounds);
         most = W .most;
@@ -159,7 +159,7 @@ module _ (T₀ : Table) (G₀ : Good T₀) (ms₀ : List Diagram) (T : Table) (l
     all-to-place =
         W .to-place ∙ ap₂ (λ (s : ℕ) (p : Propagation). placedAll s (nodesOf T) (p .made)) (sym (W .extended .same-size)) this-round
 
-    made-placed : placedAll (size T) (nodesOf T) made ≡ cond full none (some (nodesOf T′))
+    made-placed : placedAll (size T) (nodesOf T) made ≡ room full (nodesOf T′)
     unfolding made
     made-placed = ap (placedAll (size T) (nodesOf T)) (sym (units-made T list positive negative K)) ∙ A .places
 
@@ -168,8 +168,9 @@ module _ (T₀ : Table) (G₀ : Good T₀) (ms₀ : List Diagram) (T : Table) (l
     going-full f conflict =
         record {
           extended = long;
-          fits = ap isSome (all-to-place ∙ placed-none (size T) (nodesOf T) made (propagate (roundsLeft (rounds + 1)) 64 made .made)
-              (made-placed ∙ ap (λ (b : Bool). cond b none (some (nodesOf T′))) f));
+          places =
+              all-to-place ∙ placed-short (size T) (nodesOf T) made (propagate (roundsLeft (rounds + 1)) 64 made .made) (nodesOf T′)
+              (made-placed ∙ ap (λ (b : Bool). room b (nodesOf T′)) f);
           conflict = λ z. t≢f z;
           rounds = λ z. t≢f z;
           most = W .most;
@@ -194,7 +195,7 @@ module _ (T₀ : Table) (G₀ : Good T₀) (ms₀ : List Diagram) (T : Table) (l
           counted = W .counted ∙ ap (λ (p : Propagation). rounds + p .rounds) this-round ∙ moved rounds (later .rounds) ∙ sym (ap (λ (p : Propagation). rounds + 1 + p .rounds) same);
           to-place =
               all-to-place
-              ∙ placed-then (size T) (nodesOf T) made (later .made) (nodesOf T′) (made-placed ∙ ap (λ (b : Bool). cond b none (some (nodesOf T′))) f)
+              ∙ placed-then (size T) (nodesOf T) made (later .made) (nodesOf T′) (made-placed ∙ ap (λ (b : Bool). room b (nodesOf T′)) f)
               ∙ ap₂ (λ (s : ℕ) (p : Propagation). placedAll s (nodesOf T′) (p .made)) (W .extended .same-size) (sym same);
         }
       where

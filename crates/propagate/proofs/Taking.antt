@@ -21,7 +21,7 @@ use Rattle.meaning.specs.Words.{inWord}
 use Rattle.meaning.proofs.Booleans.{or-neither}
 use Rattle.table.specs.Nodes.{Node, diagramAt}
 use Rattle.units.specs.Units.{UnitsAt}
-use Rattle.conflict.specs.Members.{diagramsOf}
+use Rattle.table.specs.Lists.{diagramsOf}
 use Rattle.propagate.specs.Units.{Taken}
 
 -- ---- words

@@ -29,7 +29,7 @@ use Rattle.meaning.proofs.Words.{in-and, in-or, in-none}
 use Rattle.supports.specs.Supports.{Support, Supports}
 use Rattle.supports.proofs.Uses.{literals-uses, literals-apart, cofactor-uses, cofactor-apart}
 use Rattle.supports.proofs.Words.{support-left, support-right}
-use Rattle.conflict.specs.Members.{Inside}
+use Rattle.table.specs.Lists.{Inside}
 use Rattle.propagate.specs.Touching.{Touches, touched}
 
 -- words without a variable in common

@@ -10,15 +10,8 @@ use Rattle.table.specs.Nodes.{diagramAt}
 use Rattle.table.specs.Indexed.{Table, size, nodesOf, Good}
 use Rattle.operate.specs.declared.Operation.{Operation}
 use Rattle.operate.specs.Operate.{result}
-use Rattle.verdict.specs.Check.{placedAll}
-use Rattle.conflict.specs.Members.{diagramsOf, Inside}
-
--- t′ is t, maybe with more nodes.
-pub record Extended (t t′ : Table) : Type 0 where
-  pub good : Good t′
-  pub same-size : size t′ ≡ size t
-  pub more : t .count ≤ t′ .count
-  pub first : take (t .count) (nodesOf t′) ≡ nodesOf t
+use Rattle.table.specs.Making.{placedAll}
+use Rattle.table.specs.Lists.{diagramsOf, Inside, Extended, room}
 
 -- The operation's results on the listed nodes and g.
 abbrev pub results : Operation → Table → List ℕ → ℕ → List Diagram
@@ -28,6 +21,6 @@ results op t list g = map (λ f. result op f (diagramAt (nodesOf t) g)) (diagram
 -- found room they are the diagrams of the list.
 pub record AllMade (t : Table) (made : List Diagram) (full : Bool) (t′ : Table) (list : List ℕ) : Type 0 where
   pub extended : Extended t t′
-  pub places : placedAll (size t) (nodesOf t) made ≡ cond full none (some (nodesOf t′))
+  pub places : placedAll (size t) (nodesOf t) made ≡ room full (nodesOf t′)
   pub inside : full ≡ false → Inside (t′ .count) list
   pub are : full ≡ false → diagramsOf (nodesOf t′) list ≡ made

@@ -6,12 +6,12 @@ use Prim.Native.Nat.{ℕ, _-_, _≤_, _<_}
 use Rattle.meaning.specs.Diagram.{Diagram}
 use Rattle.meaning.specs.Rules.{conflicts, Propagation, still, propagate}
 use Rattle.table.specs.Indexed.{Table, size, nodesOf}
-use Rattle.verdict.specs.Check.{placedAll, isSome}
+use Rattle.table.specs.Making.{placedAll}
 use Rattle.propagate.specs.declared.Propagated.{Propagated}
 use Rattle.propagate.specs.declared.Next.{Next}
 use Rattle.propagate.specs.declared.Next.the-variants.{End, By}
 use Rattle.propagate.specs.Units.{Taken}
-use Rattle.propagate.specs.Made.{Extended}
+use Rattle.table.specs.Lists.{Extended, room}
 
 -- The rounds that may still come after so many.
 abbrev pub roundsLeft : ℕ → ℕ
@@ -25,7 +25,7 @@ Comes ms rounds (By u) = (rounds < 64) × (conflicts 64 ms ≡ false) × Taken m
 -- The propagation p over the table t: `full` exactly where what it makes finds no room, else its conflict and its rounds.
 pub record Said (t : Table) (p : Propagation) (r : Propagated) (t′ : Table) : Type 0 where
   pub extended : Extended t t′
-  pub fits : isSome (placedAll (size t) (nodesOf t) (p .made)) ≡ not (r .full)
+  pub places : placedAll (size t) (nodesOf t) (p .made) ≡ room (r .full) (nodesOf t′)
   pub conflict : r .full ≡ false → r .conflict ≡ p .conflict
   pub rounds : r .full ≡ false → r .rounds ≡ p .rounds
   pub most : r .rounds ≤ 64

@@ -13,7 +13,7 @@ use Rattle.meaning.specs.Operations as meaning
 use Rattle.meaning.proofs.Values.{diagram-reduced, reduced-to}
 use Rattle.table.specs.Nodes.{Node, Placing, full, placed, place}
 use Rattle.table.specs.Indexed.{Table, size, nodesOf, Outcome, written}
-use Rattle.table.proofs.Order.{true-not-false}
+use Rattle.meaning.proofs.Booleans.{t≢f}
 use Rattle.table.proofs.Numbers.{UsesTo}
 use Rattle.table.proofs.Written.{nodes-indexed}
 use Rattle.table.proofs.Outcomes.{placeIn, Grown, grown}
@@ -28,7 +28,8 @@ use Rattle.clause.proofs.Literals.{clause-of-words}
 use Rattle.verdict.specs.Check.{emptied, begun, Verdict, records, refusedFormula, clauses}
 use Rattle.verdict.proofs.Uses.{UsesAfter, place-uses}
 use Rattle.session.specs.Formula.{Opened, Built}
-use Rattle.session.proofs.Emptied.{zeros-at, opened-good}
+use Rattle.session.proofs.Emptied.{opened-good}
+use Rattle.table.proofs.Zeros.{zeros-at}
 
 -- ---- one clause of the definition, by the outcome of its placing
 
@@ -37,12 +38,12 @@ module _ (n s : ℕ) (proof : List ℕ) (t : List Node) (ms : List ℕ) (ls : Li
       → clauses n s proof t ms (clause ls first rest) ≡ refusedFormula 8 first
   unfolding clauses written
   clause-full (full t₁) e f = rw e
-  clause-full (placed t₁ k) e f = true-not-false (sym f)
+  clause-full (placed t₁ k) e f = t≢f (sym f)
 
   clause-placed : (p : Placing) → place s t (meaning.clause n ls) ≡ p → written s p .full ≡ false
       → clauses n s proof t ms (clause ls first rest) ≡ clauses n s proof (nodesOf (written s p .table)) (ms ++ written s p .node ∷ []) rest
   unfolding clauses written
-  clause-placed (full t₁) e f = true-not-false f
+  clause-placed (full t₁) e f = t≢f f
   clause-placed (placed t₁ k) e f = rw (e, nodes-indexed s t₁)
 
 uses-written : (n s : ℕ) (p : Placing) → UsesAfter n p → UsesTo n (nodesOf (written s p .table))

@@ -13,11 +13,6 @@ use Rattle.verdict.specs.Check.{emptied, zeros}
 use Rattle.verdict.proofs.Clauses.{emptied-ordered}
 use Rattle.session.specs.Formula.{Opened}
 
-pub zeros-at : (n i : ℕ) → _≡_ {A = ℕ} (getD (zeros n) i 0) 0
-zeros-at zero i = refl
-zeros-at (suc n) zero = refl
-zeros-at (suc n) (suc i) = zeros-at n i
-
 map-blanks : (part : Node → ℕ) → part blank ≡ 0 → (k : ℕ) → map part (replicate k blank) ≡ zeros k
 map-blanks part e zero = refl
 map-blanks part e (suc k) = ap₂ {B = List ℕ} (λ (x : ℕ) (xs : List ℕ). x ∷ xs) e (map-blanks part e k)

@@ -12,7 +12,7 @@ use borrow.Author.Tests.{leb-true}
 use Rattle.table.specs.Nodes.{Node}
 use Rattle.table.specs.Columns.{sizeFits, padded, Columns, columnsOf}
 use Rattle.table.specs.Indexed.{Table, tableOf, size, nodesOf, indexed}
-use Rattle.table.proofs.Order.{and-parts}
+use Rattle.meaning.proofs.Booleans.{and-both}
 use Rattle.table.proofs.Written.{count-indexed, length-nodes}
 use Rattle.table.proofs.IndexOrder.{Sized, sized}
 use Rattle.dimacs.specs.declared.Header.the-variants.{Proper, Improper}
@@ -29,7 +29,8 @@ use Rattle.session.specs.declared.formula.Start.{Start}
 use Rattle.session.specs.declared.formula.Start.the-variants.{Begun, Refused}
 use Rattle.session.specs.Formula.{Opened, saidFrom, Built}
 use Rattle.session.specs.Records.{Ends}
-use Rattle.session.proofs.Emptied.{zeros-at, columnsMade, columns-emptied, table-emptied}
+use Rattle.session.proofs.Emptied.{columnsMade, columns-emptied, table-emptied}
+use Rattle.table.proofs.Zeros.{zeros-at}
 
 -- ---- an outcome from its parts
 
@@ -173,8 +174,8 @@ pub record LentSized (vars lows highs members scratch : List ℕ) : Type 0 where
 pub lent-sized : (vars lows highs members scratch : List ℕ) → lentFits vars lows highs members scratch ≡ true → LentSized vars lows highs members scratch
 unfolding lentFits
 lent-sized vars lows highs members scratch e =
-    let (columns, lists) = and-parts (sizeFits vars lows highs) (leb 2048 (length members) && leb 4096 (length scratch)) e in
-    let (m, c) = and-parts (leb 2048 (length members)) (leb 4096 (length scratch)) lists in
+    let (columns, lists) = and-both (sizeFits vars lows highs) (leb 2048 (length members) && leb 4096 (length scratch)) e in
+    let (m, c) = and-both (leb 2048 (length members)) (leb 4096 (length scratch)) lists in
     record { columns = sized vars lows highs columns; member-room = leb-true 2048 (length members) m; scratch-room = leb-true 4096 (length scratch) c }
 
 -- columns, index and member list once they are emptied

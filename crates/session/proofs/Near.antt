@@ -9,6 +9,7 @@ use lib.Dec.{eqb, leb}
 use Rattle.meaning.specs.Rules.{Line, rup, pr, witnessed}
 use Rattle.meaning.specs.Words.{inWord}
 use Rattle.table.specs.Nodes.{Placing, full, placed, above, put}
+use Rattle.table.specs.Making.{lineReach}
 use Rattle.records.specs.declared.NodeBody.{NodeBody}
 use Rattle.records.specs.declared.Rule.{Rule}
 use Rattle.records.specs.declared.Rule.the-variants.{Rup, Pr}
@@ -50,7 +51,7 @@ witness-near n st v b =
 judged-near : (s : ℕ) (st : check.State) (g : ℕ) (line : Line) → Near (check.judged s st g line)
 unfolding check.judged
 judged-near s st g line =
-    either (not (check.lineFits s (st .nodes) line)) (check.stop 23 0) _ (omega arith)
+    either (not (lineReach s (st .nodes) line .fits)) (check.stop 23 0) _ (omega arith)
     (either (not (line .shown)) (check.stop 19 0) _ (omega arith) tt)
 
 line-near : (n s : ℕ) (st : check.State) (rule : Rule) (root : ℕ) → Near (check.lineStep n s st rule root)

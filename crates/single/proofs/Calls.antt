@@ -11,7 +11,7 @@ use Rattle.table.specs.Nodes.{goodOrder, diagramAt, Placing, full, placed, plac
 use Rattle.table.specs.Columns.{rows, sizeFits}
 use Rattle.table.specs.Indexed.{Table, tableOf, nodesOf, indexed, Good, Outcome, written}
 use Rattle.table.proofs.Outcomes.{Longer, droppedTo, undone}
-use Rattle.table.proofs.Order.{true-not-false}
+use Rattle.meaning.proofs.Booleans.{t≢f}
 use Rattle.operate.specs.declared.Operation.{Operation}
 use Rattle.operate.specs.Operate.{result}
 use Rattle.single.specs.Single.{Made, unchanged, operandRefusal, madeBy, operation}
@@ -66,14 +66,14 @@ module _ (vars lows highs : List ℕ) (count : ℕ) where
   -- A placing that found room, written.
   pub done-is : (o : Outcome) (p : Placing) → o ≡ written (length vars) p → o .full ≡ false → answered o ≡ madeBy vars lows highs count p
   unfolding written madeBy indexed
-  done-is o (full t) e n = true-not-false (sym (ap (λ (x : Outcome). x .full) e) ∙ n)
+  done-is o (full t) e n = t≢f (sym (ap (λ (x : Outcome). x .full) e) ∙ n)
   done-is o (placed t k) e n = ap answered e
 
   -- One that did not.
   pub full-is : (o : Outcome) (p : Placing) → o ≡ written (length vars) p → o .full ≡ true → unchanged vars lows highs count 23 ≡ madeBy vars lows highs count p
   unfolding written madeBy
   full-is o (full t) e n = refl
-  full-is o (placed t k) e n = true-not-false (sym n ∙ ap (λ (x : Outcome). x .full) e)
+  full-is o (placed t k) e n = t≢f (sym n ∙ ap (λ (x : Outcome). x .full) e)
 
 abbrev shown : ℕ → Table → Made
 shown number t = record { number = number; node = 0; count = t .count; columns = record { vars = t .vars; lows = t .lows; highs = t .highs } }

@@ -1,4 +1,3 @@
-pub mod Zeros
 pub mod Refusals
 pub mod Shares
 pub mod Operands

@@ -7,7 +7,8 @@ use native.Mathlib.Numerals.{add-one}
 use lib.Dec.{eqb}
 use Rattle.meaning.specs.Words.{inWord}
 use Rattle.table.specs.Nodes.{allBelow}
-use Rattle.table.proofs.Order.{all-below, and-both, true-not-false}
+use Rattle.table.proofs.Order.{all-below, both-true}
+use Rattle.meaning.proofs.Booleans.{t≢f}
 use Rattle.single.specs.Single.{sharesVariable}
 
 -- Whether bit i is set in not both words.
@@ -31,7 +32,7 @@ module _ (p n : ℕ) where
   shares-hit i h e = go (allBelow 64 (parted p n)) refl
     where
       go : (b : Bool) → allBelow 64 (parted p n) ≡ b → not b ≡ true
-      go true q = true-not-false (sym (all-below 64 (parted p n) q i h) ∙ e)
+      go true q = t≢f (sym (all-below 64 (parted p n) q i h) ∙ e)
       go false q = refl
 
   pub shares-start : allBelow 0 (parted p n) ≡ true
@@ -40,4 +41,4 @@ module _ (p n : ℕ) where
 
   pub shares-next : (i : ℕ) → allBelow i (parted p n) ≡ true → parted p n i ≡ true → allBelow (i + 1) (parted p n) ≡ true
   unfolding allBelow
-  shares-next i e q = rw add-one (and-both (allBelow i (parted p n)) (parted p n i) e q)
+  shares-next i e q = rw add-one (both-true (allBelow i (parted p n)) (parted p n i) e q)

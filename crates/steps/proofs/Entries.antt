@@ -19,7 +19,7 @@ use Rattle.walks.specs.Constant.{constantAt}
 use Rattle.records.specs.declared.NodeBody.{NodeBody}
 use Rattle.verdict.specs.Check as check
 use Rattle.verdict.specs.Check.{isEntry, entryNode, isVariable, waiting, diagramIn}
-use Rattle.conflict.specs.Members.{Inside}
+use Rattle.table.specs.Lists.{Inside}
 use Rattle.judge.proofs.Widths.{witnessed-walk}
 use Rattle.steps.specs.declared.State.{State}
 use Rattle.steps.specs.States.{Lent, stateOf, Held}

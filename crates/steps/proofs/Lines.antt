@@ -12,14 +12,15 @@ use Rattle.meaning.specs.Rules.{Line, witnessed}
 use Rattle.meaning.specs.Words.{inWord}
 use Rattle.table.specs.Indexed.{Table, size, nodesOf}
 use Rattle.walks.specs.Readable.{Roomy}
+use Rattle.table.specs.Making.{lineReach}
 use Rattle.table.proofs.Written.{length-nodes}
 use Rattle.table.proofs.Outcomes.{droppedTo, undone}
 use Rattle.records.specs.declared.Rule.{Rule}
 use Rattle.records.specs.declared.Rule.the-variants.{Rup, Pr}
 use Rattle.verdict.specs.Check as check
-use Rattle.verdict.specs.Check.{next, stop, isEntry, entryNode, waiting, lineFits, accepted, judged, diagramIn, lineStep}
-use Rattle.conflict.specs.Members.{Inside}
-use Rattle.propagate.proofs.Extended.{extended-longer}
+use Rattle.verdict.specs.Check.{next, stop, isEntry, entryNode, waiting, accepted, judged, diagramIn, lineStep}
+use Rattle.table.specs.Lists.{Inside}
+use Rattle.table.proofs.Extended.{extended-longer}
 use Rattle.judge.specs.declared.Judged.{Judged}
 use Rattle.judge.specs.Lines.{Negatable, Says}
 use Rattle.judge.proofs.Widths.{witnessed-at, rup-at, pr-at}
@@ -81,11 +82,11 @@ module _ (n : ℕ) (st : check.State) (root : ℕ) where
 -- ---- what judging says
 
 module _ (s : ℕ) (st : check.State) (g : ℕ) (line : Line) where
-  judged-23 : lineFits s (st .nodes) line ≡ false → judged s st g line ≡ stop 23 0
+  judged-23 : lineReach s (st .nodes) line .fits ≡ false → judged s st g line ≡ stop 23 0
   unfolding judged
   judged-23 e = rw e
 
-  module _ (fits : lineFits s (st .nodes) line ≡ true) where
+  module _ (fits : lineReach s (st .nodes) line .fits ≡ true) where
     judged-19 : line .shown ≡ false → judged s st g line ≡ stop 19 0
     unfolding judged
     judged-19 e = rw (fits, e)

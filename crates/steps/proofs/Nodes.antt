@@ -15,7 +15,8 @@ use Rattle.meaning.specs.Diagram.{Diagram, branch}
 use Rattle.meaning.proofs.Canonical.{reduced-from, branch-reduced}
 use Rattle.table.specs.Nodes.{Node, nodeOf, at, diagramAt, Placing, full, placed, find, orAppend, put}
 use Rattle.table.specs.Indexed.{Table, size, nodesOf, indexed, Outcome, written}
-use Rattle.table.proofs.Order.{true-not-false, above-true, Ordered}
+use Rattle.table.proofs.Order.{above-true, Ordered}
+use Rattle.meaning.proofs.Booleans.{t≢f}
 use Rattle.table.proofs.Numbers.{UsesTo, reduced-from-to}
 use Rattle.table.proofs.Written.{nodes-indexed, length-nodes, good-ordered}
 use Rattle.table.proofs.Placing.{put-place}
@@ -24,7 +25,7 @@ use Rattle.records.specs.declared.NodeBody.{NodeBody}
 use Rattle.verdict.specs.Check as check
 use Rattle.verdict.specs.Check.{next, stop, isEntry, entryNode, entered, nodeStep}
 use Rattle.verdict.proofs.Uses.{UsesAfter, place-uses}
-use Rattle.conflict.specs.Members.{Inside}
+use Rattle.table.specs.Lists.{Inside}
 use Rattle.steps.specs.declared.State.{State}
 use Rattle.steps.specs.declared.Step.the-variants.{Next, Stop}
 use Rattle.steps.specs.States.{Lent, lentOf, tableIn, stateOf, withEntry, Held, Stepped}
@@ -81,7 +82,7 @@ full-stops : (st : check.State) (s : ℕ) (p : Placing) → FullSame (st .nodes)
     → (written s p .table ≡ indexed s (st .nodes)) × (entered st p ≡ stop 23 0)
 unfolding written entered
 full-stops st s (full t) same f = (ap (indexed s) same, refl)
-full-stops st s (placed t k) same f = true-not-false (sym f)
+full-stops st s (placed t k) same f = t≢f (sym f)
 
 abbrev entryMade : check.State → Outcome → check.State
 entryMade st o = record {
@@ -99,7 +100,7 @@ entryMade st o = record {
 placed-goes : (st : check.State) (n s : ℕ) (p : Placing) → UsesAfter n p → written s p .full ≡ false
     → (entered st p ≡ next (entryMade st (written s p))) × UsesTo n (nodesOf (written s p .table))
 unfolding written entered
-placed-goes st n s (full t) u f = true-not-false f
+placed-goes st n s (full t) u f = t≢f f
 placed-goes st n s (placed t k) u f = (
   ap (λ (x : List Node). next (record {
     nodes = x;

@@ -12,7 +12,7 @@ ghost use lib.Dec.{eqb};
 ghost use Rattle.table.specs.Indexed.{tableOf};
 ghost use Rattle.walks.specs.Readable.{Readable, Roomy};
 ghost use Rattle.verdict.specs.Check.{lineStep};
-ghost use Rattle.conflict.specs.Members.{Inside};
+ghost use Rattle.table.specs.Lists.{Inside};
 ghost use Rattle.conflict.specs.Marks.{unmarked};
 ghost use Rattle.judge.specs.Lines.{Negatable, Says};
 ghost use Rattle.steps.specs.States.{lentOf, stateOf, withLine, Held, Stepped};

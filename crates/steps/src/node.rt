@@ -10,7 +10,7 @@ ghost use lib.Dec.{ltb};
 ghost use Rattle.table.specs.Indexed.{tableOf};
 ghost use Rattle.walks.specs.Readable.{Readable};
 ghost use Rattle.verdict.specs.Check.{nodeStep};
-ghost use Rattle.conflict.specs.Members.{Inside};
+ghost use Rattle.table.specs.Lists.{Inside};
 ghost use Rattle.steps.specs.States.{lentOf, stateOf, withEntry, EntriesHeld, Held, Stepped};
 ghost use Rattle.steps.specs.Tests.{nodeRefusal};
 

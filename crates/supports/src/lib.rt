@@ -6,7 +6,7 @@ ghost use lib.ListN.{length};
 ghost use lib.Bits.{bitOr};
 ghost use Rattle.table.specs.Nodes.{diagramAt};
 ghost use Rattle.walks.specs.Readable.{Readable, Roomy, nodesIn};
-ghost use Rattle.conflict.specs.Members.{Inside};
+ghost use Rattle.table.specs.Lists.{Inside};
 ghost use Rattle.supports.specs.Supports.{Support, Supports, SupportMemo};
 
 // The word with the variable v.

@@ -15,7 +15,8 @@ use borrow.Author.Tests.{eq-eqb, ne-eqb, lt-ltb, le-ltb, le-leb, lt-leb, eqb-tru
 use Rattle.table.specs.Nodes.{Node, nodeOf, blank, at, alike, find, above, allBlank, fits, nodesInOrder, goodOrder}
 use Rattle.table.specs.Columns.{rows, sizeFits}
 use Rattle.table.specs.Indexed.{bucket, Index, indexMade, insert, indexFrom, indexOf, Table, tableOf, nodesOf, Good, Linked}
-use Rattle.table.proofs.Order.{true-not-false, and-parts, all-blank, Fits, fits-true, true-fits, Ordered, ordered, in-order}
+use Rattle.table.proofs.Order.{all-blank, Fits, fits-true, true-fits, Ordered, ordered, in-order}
+use Rattle.meaning.proofs.Booleans.{t≢f, and-both}
 use Rattle.table.proofs.Written.{length-rows, good-table}
 use Rattle.table.proofs.Growth.{ordered-more, ordered-dropped}
 use Rattle.table.proofs.Placing.{Found, found}
@@ -33,9 +34,9 @@ pub record Sized (vs ls hs : List ℕ) : Type 0 where
 pub sized : (vs ls hs : List ℕ) → sizeFits vs ls hs ≡ true → Sized vs ls hs
 unfolding sizeFits
 sized vs ls hs e =
-    let p = and-parts (eqb (length ls) (length vs) && eqb (length hs) (length vs)) (leb 2 (length vs) && leb (length vs) 65536) e in
-    let q = and-parts (eqb (length ls) (length vs)) (eqb (length hs) (length vs)) (p .0) in
-    let r = and-parts (leb 2 (length vs)) (leb (length vs) 65536) (p .1) in
+    let p = and-both (eqb (length ls) (length vs) && eqb (length hs) (length vs)) (leb 2 (length vs) && leb (length vs) 65536) e in
+    let q = and-both (eqb (length ls) (length vs)) (eqb (length hs) (length vs)) (p .0) in
+    let r = and-both (leb 2 (length vs)) (leb (length vs) 65536) (p .1) in
     record {
       lows = eqb-true (length ls) (length vs) (q .0);
       highs = eqb-true (length hs) (length vs) (q .1);
@@ -155,7 +156,7 @@ module _ (vs ls hs ds ks : List ℕ) (k : ℕ) (L : Linked (tableOf vs ls hs ds 
   pub unfit-order : fits places k (at places k) ≡ false → nodesInOrder (take (k + 1) places) ≡ false
   unfit-order e = not-in-order (take (k + 1) places) (omega (arith, longer-length, L .least)) (λ O.
       let F : Fits (take (k + 1) places) k (at places k) = subst (Fits (take (k + 1) places) k) (longer-at k (omega arith)) (O .fits k (L .least) (omega (arith, longer-length))) in
-      true-not-false (sym (true-fits places k (at places k) (fits-along (take (k + 1) places) places k (at places k) (λ i h. sym (longer-at i (omega arith))) F)) ∙ e))
+      t≢f (sym (true-fits places k (at places k) (fits-along (take (k + 1) places) places k (at places k) (λ i h. sym (longer-at i (omega arith))) F)) ∙ e))
 
   find-read : find (nodesOf T) (at places k) ≡ find (nodesOf T) (nodeOf (getD vs k 0) (getD ls k 0) (getD hs k 0))
   find-read = ap (find (nodesOf T)) (rows-at vs ls hs (L .lows) (L .highs) k)
@@ -203,7 +204,7 @@ pub broken-order : (vs ls hs : List ℕ) (k count : ℕ) → length ls ≡ lengt
 broken-order vs ls hs k count p q two lt within e =
     let len : length (take count (rows vs ls hs)) ≡ count = length-take-le count (rows vs ls hs) (omega (arith, length-rows vs ls hs p q)) in
     not-in-order (take count (rows vs ls hs)) (omega arith) (λ O.
-    true-not-false (sym (in-order (take (k + 1) (rows vs ls hs)) (subst Ordered (take-take (k + 1) count (rows vs ls hs) (omega arith))
+    t≢f (sym (in-order (take (k + 1) (rows vs ls hs)) (subst Ordered (take-take (k + 1) count (rows vs ls hs) (omega arith))
     (ordered-dropped (take count (rows vs ls hs)) O (k + 1) (omega arith) (omega arith)))) ∙ e))
 
 -- What the loop over the nodes keeps.

@@ -11,36 +11,29 @@ use lib.ListN.{length, take, drop}
 use lib.Seq.{getD-take, length-take-le}
 use lib.Dec.{eqb, ltb, leb}
 use borrow.Author.Tests.{ltb-true, ltb-false, leb-true, eqb-true, eqb-false, not-true, lt-ltb, le-ltb, le-leb, eq-eqb, ne-eqb}
+use Rattle.meaning.proofs.Booleans.{t≢f, and-both}
 use Rattle.table.specs.Nodes.{Node, nodeOf, blank, at, alike, allBlank, allBelow, above, fits, isNew, nodesInOrder, goodOrder}
 
 -- ---- truth values
 
-pub true-not-false : {A : Type 0} → true ≡ false → A
-true-not-false e = let z : _≡_ {A = ℕ} 0 1 = cc in absurd (omega arith)
-
-pub and-parts : (a b : Bool) → (a && b) ≡ true → (a ≡ true) × (b ≡ true)
-and-parts true true e = (refl, refl)
-and-parts true false e = true-not-false (sym e)
-and-parts false b e = true-not-false (sym e)
-
-pub and-both : (a b : Bool) → a ≡ true → b ≡ true → (a && b) ≡ true
-and-both a b p q = rw (p, q)
+pub both-true : (a b : Bool) → a ≡ true → b ≡ true → (a && b) ≡ true
+both-true a b p q = rw (p, q)
 
 pub or-second : (a b : Bool) → (a || b) ≡ true → a ≡ false → b ≡ true
-or-second true b e p = true-not-false p
+or-second true b e p = t≢f p
 or-second false b e p = e
 
 pub all-below : (m : ℕ) (p : ℕ → Bool) → allBelow m p ≡ true → (k : ℕ) → k < m → p k ≡ true
 unfolding allBelow
 all-below zero p e k h = absurd (omega arith)
 all-below (suc m) p e k h =
-    let both : (allBelow m p ≡ true) × (p m ≡ true) = and-parts (allBelow m p) (p m) e in
+    let both : (allBelow m p ≡ true) × (p m ≡ true) = and-both (allBelow m p) (p m) e in
     elim (ℕ-discrete k m) [ yes q ↦ rw q (both .1) | no n ↦ all-below m p (both .0) k (omega arith) ]
 
 pub every-below : (m : ℕ) (p : ℕ → Bool) → ((k : ℕ) → k < m → p k ≡ true) → allBelow m p ≡ true
 unfolding allBelow
 every-below zero p h = refl
-every-below (suc m) p h = and-both (allBelow m p) (p m) (every-below m p (λ k q. h k (omega arith))) (h m (omega arith))
+every-below (suc m) p h = both-true (allBelow m p) (p m) (every-below m p (λ k q. h k (omega arith))) (h m (omega arith))
 
 -- ---- equal nodes
 
@@ -50,8 +43,8 @@ same-node x y v l h = ap₂ (nodeOf (x .var)) l h ∙ ap (λ (w : ℕ). nodeOf w
 pub alike-true : (x y : Node) → alike x y ≡ true → x ≡ y
 unfolding alike
 alike-true x y e =
-    let p : (eqb (x .var) (y .var) ≡ true) × ((eqb (x .low) (y .low) && eqb (x .high) (y .high)) ≡ true) = and-parts (eqb (x .var) (y .var)) (eqb (x .low) (y .low) && eqb (x .high) (y .high)) e in
-    let q : (eqb (x .low) (y .low) ≡ true) × (eqb (x .high) (y .high) ≡ true) = and-parts (eqb (x .low) (y .low)) (eqb (x .high) (y .high)) (p .1) in
+    let p : (eqb (x .var) (y .var) ≡ true) × ((eqb (x .low) (y .low) && eqb (x .high) (y .high)) ≡ true) = and-both (eqb (x .var) (y .var)) (eqb (x .low) (y .low) && eqb (x .high) (y .high)) e in
+    let q : (eqb (x .low) (y .low) ≡ true) × (eqb (x .high) (y .high) ≡ true) = and-both (eqb (x .low) (y .low)) (eqb (x .high) (y .high)) (p .1) in
     same-node x y (eqb-true (x .var) (y .var) (p .0)) (eqb-true (x .low) (y .low) (q .0)) (eqb-true (x .high) (y .high) (q .1))
 
 pub same-alike : (x y : Node) → x ≡ y → alike x y ≡ true
@@ -59,7 +52,7 @@ unfolding alike
 same-alike x y e = rw (eq-eqb (x .var) (y .var) (ap (λ (z : Node). z .var) e), eq-eqb (x .low) (y .low) (ap (λ (z : Node). z .low) e), eq-eqb (x .high) (y .high) (ap (λ (z : Node). z .high) e))
 
 pub alike-false : (x y : Node) → alike x y ≡ false → x ≢ y
-alike-false x y e q = true-not-false (sym (same-alike x y q) ∙ e)
+alike-false x y e q = t≢f (sym (same-alike x y q) ∙ e)
 
 pub differ-alike : (x y : Node) → x ≢ y → alike x y ≡ false
 differ-alike x y n = go (alike x y) refl
@@ -73,13 +66,13 @@ differ-alike x y n = go (alike x y) refl
 pub all-blank : (xs : List Node) → allBlank xs ≡ true → (k : ℕ) → at xs k ≡ blank
 unfolding allBlank
 all-blank [] e k = refl
-all-blank (x ∷ xs) e zero = alike-true x blank (and-parts (alike x blank) (allBlank xs) e .0)
-all-blank (x ∷ xs) e (suc k) = all-blank xs (and-parts (alike x blank) (allBlank xs) e .1) k
+all-blank (x ∷ xs) e zero = alike-true x blank (and-both (alike x blank) (allBlank xs) e .0)
+all-blank (x ∷ xs) e (suc k) = all-blank xs (and-both (alike x blank) (allBlank xs) e .1) k
 
 pub every-blank : (xs : List Node) → ((k : ℕ) → k < length xs → at xs k ≡ blank) → allBlank xs ≡ true
 unfolding allBlank
 every-blank [] h = refl
-every-blank (x ∷ xs) h = and-both (alike x blank) (allBlank xs) (same-alike x blank (h 0 (omega arith))) (every-blank xs (λ k p. h (suc k) (omega arith)))
+every-blank (x ∷ xs) h = both-true (alike x blank) (allBlank xs) (same-alike x blank (h 0 (omega arith))) (every-blank xs (λ k p. h (suc k) (omega arith)))
 
 -- ---- one node
 
@@ -108,12 +101,12 @@ true-above t v child h = go (ltb child 2) refl
 pub fits-true : (t : List Node) (k : ℕ) (x : Node) → fits t k x ≡ true → Fits t k x
 unfolding fits
 fits-true t k x e =
-    let p = and-parts (leb 1 (x .var) && leb (x .var) 64) ((above t (x .var) (x .low) && above t (x .var) (x .high)) && ((ltb (x .low) k && ltb (x .high) k) && not (eqb (x .low) (x .high)))) e in
-    let v = and-parts (leb 1 (x .var)) (leb (x .var) 64) (p .0) in
-    let q = and-parts (above t (x .var) (x .low) && above t (x .var) (x .high)) ((ltb (x .low) k && ltb (x .high) k) && not (eqb (x .low) (x .high))) (p .1) in
-    let a = and-parts (above t (x .var) (x .low)) (above t (x .var) (x .high)) (q .0) in
-    let r = and-parts (ltb (x .low) k && ltb (x .high) k) (not (eqb (x .low) (x .high))) (q .1) in
-    let c = and-parts (ltb (x .low) k) (ltb (x .high) k) (r .0) in
+    let p = and-both (leb 1 (x .var) && leb (x .var) 64) ((above t (x .var) (x .low) && above t (x .var) (x .high)) && ((ltb (x .low) k && ltb (x .high) k) && not (eqb (x .low) (x .high)))) e in
+    let v = and-both (leb 1 (x .var)) (leb (x .var) 64) (p .0) in
+    let q = and-both (above t (x .var) (x .low) && above t (x .var) (x .high)) ((ltb (x .low) k && ltb (x .high) k) && not (eqb (x .low) (x .high))) (p .1) in
+    let a = and-both (above t (x .var) (x .low)) (above t (x .var) (x .high)) (q .0) in
+    let r = and-both (ltb (x .low) k && ltb (x .high) k) (not (eqb (x .low) (x .high))) (q .1) in
+    let c = and-both (ltb (x .low) k) (ltb (x .high) k) (r .0) in
     record {
       least = leb-true 1 (x .var) (v .0);
       most = leb-true (x .var) 64 (v .1);
@@ -163,14 +156,14 @@ new-is t k h = every-below k (λ i. ltb i 2 || not (alike (at t i) (at t k))) (�
 module _ (t : List Node) (e : nodesInOrder t ≡ true) (two : 2 ≤ length t) where
   parts : (allBlank (take 2 t) ≡ true) × (allBelow (length t) (λ k. ltb k 2 || (fits t k (at t k) && isNew t k)) ≡ true)
   unfolding nodesInOrder
-  parts = and-parts (allBlank (take 2 t)) (allBelow (length t) (λ k. ltb k 2 || (fits t k (at t k) && isNew t k))) e
+  parts = and-both (allBlank (take 2 t)) (allBelow (length t) (λ k. ltb k 2 || (fits t k (at t k) && isNew t k))) e
 
   first-blank : (k : ℕ) → k < 2 → at t k ≡ blank
   first-blank k h = sym (getD-take 2 t k blank h) ∙ all-blank (take 2 t) (parts .0) k
 
   node-parts : (k : ℕ) → 2 ≤ k → k < length t → (fits t k (at t k) ≡ true) × (isNew t k ≡ true)
   node-parts k h p =
-      and-parts (fits t k (at t k)) (isNew t k)
+      and-both (fits t k (at t k)) (isNew t k)
       (or-second (ltb k 2) (fits t k (at t k) && isNew t k) (all-below (length t) (λ k. ltb k 2 || (fits t k (at t k) && isNew t k)) (parts .1) k p) (le-ltb k 2 h))
 
   pub ordered : Ordered t
@@ -189,7 +182,7 @@ module _ (t : List Node) (e : nodesInOrder t ≡ true) (two : 2 ≤ length t) wh
 pub in-order : (t : List Node) → Ordered t → nodesInOrder t ≡ true
 unfolding nodesInOrder
 in-order t O =
-    and-both (allBlank (take 2 t)) (allBelow (length t) (λ k. ltb k 2 || (fits t k (at t k) && isNew t k)))
+    both-true (allBlank (take 2 t)) (allBelow (length t) (λ k. ltb k 2 || (fits t k (at t k) && isNew t k)))
     (every-blank (take 2 t) (λ k h. blanks k (omega (arith, length-take-le 2 t (O .two)))))
     (every-below (length t) (λ k. ltb k 2 || (fits t k (at t k) && isNew t k)) (λ k p. go k p (ltb k 2) refl))
   where
@@ -202,7 +195,7 @@ in-order t O =
     go k p true e = refl
     go k p false e =
         let h : 2 ≤ k = ltb-false k 2 e in
-        and-both (fits t k (at t k)) (isNew t k) (true-fits t k (at t k) (O .fits k h p))
+        both-true (fits t k (at t k)) (isNew t k) (true-fits t k (at t k) (O .fits k h p))
         (new-is t k (λ j a l same. let z : j ≡ k = O .alike j k a (omega arith) h p same in absurd (omega arith)))
 
 -- ---- a table lent in full
@@ -216,9 +209,9 @@ pub record GoodOrder (rows : List Node) (count : ℕ) : Type 0 where
 pub good-order : (rows : List Node) (count : ℕ) → goodOrder rows count ≡ true → GoodOrder rows count
 unfolding goodOrder
 good-order rows count e =
-    let p = and-parts (leb 2 count && leb count (length rows)) (nodesInOrder (take count rows) && allBlank (drop count rows)) e in
-    let n = and-parts (leb 2 count) (leb count (length rows)) (p .0) in
-    let q = and-parts (nodesInOrder (take count rows)) (allBlank (drop count rows)) (p .1) in
+    let p = and-both (leb 2 count && leb count (length rows)) (nodesInOrder (take count rows) && allBlank (drop count rows)) e in
+    let n = and-both (leb 2 count) (leb count (length rows)) (p .0) in
+    let q = and-both (nodesInOrder (take count rows)) (allBlank (drop count rows)) (p .1) in
     let least : 2 ≤ count = leb-true 2 count (n .0) in
     let within : count ≤ length rows = leb-true count (length rows) (n .1) in
     record {

@@ -11,7 +11,8 @@ use Rattle.meaning.specs.Diagram.{Diagram, Reduced, branch}
 use Rattle.meaning.proofs.Canonical.{reduced-from, branch-reduced}
 use Rattle.table.specs.Nodes.{Node, at, diagramAt, Placing, full, placed, put, andThen, place}
 use Rattle.table.specs.Indexed.{Table, size, nodesOf, indexed, Good, Outcome, written}
-use Rattle.table.proofs.Order.{true-not-false, Ordered}
+use Rattle.table.proofs.Order.{Ordered}
+use Rattle.meaning.proofs.Booleans.{t≢f}
 use Rattle.table.proofs.Written.{nodes-indexed, size-indexed, count-indexed, good-indexed, length-nodes, good-ordered}
 use Rattle.table.proofs.Numbers.{diagramAt-reduced-from}
 use Rattle.table.proofs.Growth.{dropped-back, extends-length, diagramAt-grown, ordered-dropped, diagramAt-dropped}
@@ -108,8 +109,8 @@ module _ (T : Table) (G : Good T) where
 
   grown-written : (D : Diagram) (p : Placing) → After (size T) (nodesOf T) D p → Grown T D (written (size T) p)
   unfolding written
-  grown-written D (full t′) A = grown-kept D t′ (A .kept) true 0 (omega (arith, A .kept .ordered .two)) (λ e. true-not-false e) (λ _. A .no-room nodes-fit)
-  grown-written D (placed t′ k) A = grown-kept D t′ (A .kept) false k (A .inside) (λ _. A .is) (λ e. true-not-false (sym e))
+  grown-written D (full t′) A = grown-kept D t′ (A .kept) true 0 (omega (arith, A .kept .ordered .two)) (λ e. t≢f e) (λ _. A .no-room nodes-fit)
+  grown-written D (placed t′ k) A = grown-kept D t′ (A .kept) false k (A .inside) (λ _. A .is) (λ e. t≢f (sym e))
 
   pub grown : (D : Diagram) → Reduced 1 65 D → (o : Outcome) → o ≡ placeIn T D → Grown T D o
   grown D r o e = subst (Grown T D) (sym e) (grown-written D (place (size T) (nodesOf T) D) (place-after (size T) (nodesOf T) (good-ordered T G) D r))
@@ -143,12 +144,12 @@ module _ (T : Table) (G : Good T) where
 then-full : (s : ℕ) (p : Placing) (next : List Node → ℕ → Placing) → written s p .full ≡ true → written s (andThen p next) ≡ written s p
 unfolding written andThen
 then-full s (full t) next e = refl
-then-full s (placed t k) next e = true-not-false (sym e)
+then-full s (placed t k) next e = t≢f (sym e)
 
 then-placed : (s : ℕ) (p : Placing) (next : List Node → ℕ → Placing) → written s p .full ≡ false
     → written s (andThen p next) ≡ written s (next (nodesOf (written s p .table)) (written s p .node))
 unfolding written andThen
-then-placed s (full t) next e = true-not-false e
+then-placed s (full t) next e = t≢f e
 then-placed s (placed t k) next e = ap (λ (u : List Node). written s (next u k)) (sym (nodes-indexed s t))
 
 module _ (T : Table) (G : Good T) (v : ℕ) (l h : Diagram) (rl : Reduced 1 65 l) (rh : Reduced 1 65 h) (o₁ : Outcome) (e₁ : o₁ ≡ placeIn T l) where

@@ -1,3 +1,5 @@
 pub mod Nodes
 pub mod Columns
 pub mod Indexed
+pub mod Making
+pub mod Lists

@@ -11,6 +11,7 @@ use lib.Dec.{eqb, leb}
 use Rattle.meaning.specs.Rules.{Line, witnessed}
 use Rattle.meaning.specs.Words.{inWord}
 use Rattle.table.specs.Nodes.{Node, above, Placing, full, placed, put}
+use Rattle.table.specs.Making.{lineReach}
 use Rattle.dimacs.specs.declared.Header.the-variants.{Improper}
 use Rattle.dimacs.specs.Clauses.{refusal}
 use Rattle.records.specs.declared.NodeBody.{NodeBody}
@@ -19,7 +20,7 @@ use Rattle.records.specs.declared.Rule.the-variants.{Rup, Pr}
 use Rattle.records.specs.declared.Record.{Record}
 use Rattle.records.specs.declared.Record.the-variants.{NodeEntry, Witness, ProofLine, End, CutShort, UnknownKind, NoRecord}
 use Rattle.records.specs.Records.{recordAt}
-use Rattle.verdict.specs.Check.{State, Step, next, stop, isEntry, entryNode, isVariable, entered, nodeStep, witnessStep, waiting, lineFits, accepted, judged, diagramIn, lineStep, endStep, step, Verdict, left, refusedFormula}
+use Rattle.verdict.specs.Check.{State, Step, next, stop, isEntry, entryNode, isVariable, entered, nodeStep, witnessStep, waiting, accepted, judged, diagramIn, lineStep, endStep, step, Verdict, left, refusedFormula}
 use Rattle.verdict.specs.Run.{Function, Meant, Making, follows, Reached, lineOf, Ended, no-header, not-read, no-room, stopped}
 use Rattle.verdict.proofs.Formula.{Early, NamedHeader, header-named, Read, either}
 use Rattle.verdict.proofs.Clauses.{Underway, underway}
@@ -83,7 +84,7 @@ witness-numbered n st v b =
 judged-numbered : (s : ℕ) (st : State) (g : ℕ) (line : Line) → Numbered (judged s st g line)
 unfolding judged
 judged-numbered s st g line =
-    refuses (not (lineFits s (st .nodes) line)) 23 0 _ (omega arith, λ _. omega arith) (refuses (not (line .shown)) 19 0 _ (omega arith, λ _. omega arith) tt)
+    refuses (not (lineReach s (st .nodes) line .fits)) 23 0 _ (omega arith, λ _. omega arith) (refuses (not (line .shown)) 19 0 _ (omega arith, λ _. omega arith) tt)
 
 line-numbered : (n s : ℕ) (st : State) (rule : Rule) (root : ℕ) → Numbered (lineStep n s st rule root)
 unfolding lineStep

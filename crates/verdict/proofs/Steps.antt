@@ -13,13 +13,14 @@ use Rattle.meaning.specs.Rules.{Line, witnessed}
 use Rattle.meaning.specs.Words.{inWord}
 use Rattle.meaning.proofs.Booleans.{and-both, or-neither}
 use Rattle.table.specs.Nodes.{Node, above, Placing, full, placed, put}
+use Rattle.table.specs.Making.{lineReach}
 use Rattle.records.specs.declared.NodeBody.{NodeBody}
 use Rattle.records.specs.declared.Record.{Record}
 use Rattle.records.specs.declared.Record.the-variants.{NodeEntry, Witness, ProofLine, End, CutShort, UnknownKind, NoRecord}
 use Rattle.records.specs.declared.Rule.{Rule}
 use Rattle.records.specs.declared.Rule.the-variants.{Rup, Pr}
 use Rattle.records.specs.Records.{numberOf}
-use Rattle.verdict.specs.Check.{State, Step, next, stop, isEntry, entryNode, isVariable, entered, nodeStep, witnessStep, waiting, lineFits, accepted, judged, diagramIn, lineStep, endStep, step}
+use Rattle.verdict.specs.Check.{State, Step, next, stop, isEntry, entryNode, isVariable, entered, nodeStep, witnessStep, waiting, accepted, judged, diagramIn, lineStep, endStep, step}
 use Rattle.verdict.specs.Run.{withEntry, NodeTaken, WitnessTaken, lineOf, LineTaken, Taken}
 
 pub stop-not-next : {A : Type 0} (number offset : ℕ) (st : State) → stop number offset ≡ next st → A
@@ -109,10 +110,10 @@ taken-witness n st v b st′ T = rw (le-leb 1 v (T .least), le-leb v n (T .most)
 -- ---- lines
 
 judged-taken : (s : ℕ) (st : State) (g : ℕ) (line : Line) (st′ : State) → judged s st g line ≡ next st′
-    → (lineFits s (st .nodes) line ≡ true) × (line .shown ≡ true) × (accepted st g line ≡ st′)
+    → (lineReach s (st .nodes) line .fits ≡ true) × (line .shown ≡ true) × (accepted st g line ≡ st′)
 unfolding judged
 judged-taken s st g line st′ e =
-    let (fits, e₁) = met (lineFits s (st .nodes) line) 23 _ e in
+    let (fits, e₁) = met (lineReach s (st .nodes) line .fits) 23 _ e in
     let (shown, e₂) = met (line .shown) 19 _ e₁ in
     (fits, shown, cc)
 
@@ -231,7 +232,7 @@ module _ {offset : ℕ} where
   judged-not-zero : {A : Type 0} (s : ℕ) (st : State) (g : ℕ) (line : Line) → judged s st g line ≡ stop 0 offset → A
   unfolding judged
   judged-not-zero s st g line e =
-      let (p₁, e₁) = past (not (lineFits s (st .nodes) line)) 23 0 _ refl e in
+      let (p₁, e₁) = past (not (lineReach s (st .nodes) line .fits)) 23 0 _ refl e in
       let (p₂, e₂) = past (not (line .shown)) 19 0 _ refl e₁ in
       next-not-stop _ e₂
 

@@ -11,6 +11,7 @@ use Rattle.meaning.specs.Operations as meaning
 use Rattle.meaning.specs.Rules.{Line, rup, pr, witnessed}
 use Rattle.meaning.specs.Words.{inWord}
 use Rattle.table.specs.Nodes.{Node, blank, above, diagramAt, Placing, full, placed, put, place}
+use Rattle.table.specs.Making.{lineReach}
 use Rattle.table.specs.Columns.{sizeFits, padded, Columns, columnsOf}
 use Rattle.dimacs.specs.declared.Header.{Header}
 use Rattle.dimacs.specs.declared.Header.the-variants.{Proper, Improper}
@@ -134,35 +135,6 @@ waiting st = not (eqb (st .positive) 0 && eqb (st .negative) 0)
 
 -- ---- lines
 
-abbrev pub afterPlacing : Placing → (List Node → Option (List Node)) → Option (List Node)
-afterPlacing (full t) rest = none
-afterPlacing (placed t k) rest = rest t
-
--- The nodes once the diagrams are placed in their order; none where one of them finds no room.
-unfoldable pub placedAll : ℕ → List Node → List Diagram → Option (List Node)
-placedAll s t [] = some t
-placedAll s t (f ∷ fs) = afterPlacing (place s t f) (λ t₁. placedAll s t₁ fs)
-
-abbrev pub isSome : Option (List Node) → Bool
-isSome none = false
-isSome (some t) = true
-
--- "In PR the nodes of one member's turn are dropped before the next": each turn is placed over the same nodes.
-unfoldable pub turnsFit : ℕ → List (List Diagram) → List Node → Bool
-unfolding placedAll
-turnsFit s [] t = true
-turnsFit s (made ∷ later) t = isSome (placedAll s t made) && turnsFit s later t
-
-abbrev pub fitAfter : ℕ → List (List Diagram) → Option (List Node) → Bool
-fitAfter s turns none = false
-fitAfter s turns (some t) = turnsFit s turns t
-
--- Whether all that a line makes finds room. Else it is refused with 23: "19 or 23, the one met first", and a line that is not
--- shown makes nothing after that.
-unfoldable pub lineFits : ℕ → List Node → Line → Bool
-unfolding placedAll turnsFit
-lineFits s t line = fitAfter s (line .turns) (placedAll s t (line .kept))
-
 -- "After an accepted line its root is the next member and entries and witness start anew." (01, The proof)
 abbrev pub accepted : State → ℕ → Line → State
 accepted st g line = record {
@@ -178,8 +150,8 @@ accepted st g line = record {
 }
 
 unfoldable pub judged : ℕ → State → ℕ → Line → Step
-unfolding lineFits
-judged s st g line = cond (not (lineFits s (st .nodes) line)) (stop 23 0) (cond (not (line .shown)) (stop 19 0) (next (accepted st g line)))
+unfolding lineReach
+judged s st g line = cond (not (lineReach s (st .nodes) line .fits)) (stop 23 0) (cond (not (line .shown)) (stop 19 0) (next (accepted st g line)))
 
 abbrev pub diagramIn : State → ℕ → Diagram
 diagramIn st k = diagramAt (st .nodes) k

@@ -12,6 +12,7 @@ use Rattle.meaning.specs.Operations as meaning
 use Rattle.meaning.specs.Rules.{Line, rup, pr, witnessed}
 use Rattle.meaning.specs.Words.{inWord}
 use Rattle.table.specs.Nodes.{Node, above, diagramAt, full, placed, put, place}
+use Rattle.table.specs.Making.{lineReach}
 use Rattle.dimacs.specs.declared.Header.the-variants.{Proper, Improper}
 use Rattle.dimacs.specs.Header.{header}
 use Rattle.dimacs.specs.Clauses.{Reading, clause, complete, refusal, clausesFrom, formula}
@@ -21,7 +22,7 @@ use Rattle.records.specs.declared.Rule.the-variants.{Rup, Pr}
 use Rattle.records.specs.declared.Record.{Record}
 use Rattle.records.specs.declared.Record.the-variants.{NodeEntry, Witness, ProofLine, End, CutShort, UnknownKind, NoRecord}
 use Rattle.records.specs.Records.{recordAt, lengthOf}
-use Rattle.verdict.specs.Check.{State, emptied, begun, stop, isEntry, entryNode, withVariable, waiting, lineFits, accepted, diagramIn, step, Verdict, left, refusedFormula}
+use Rattle.verdict.specs.Check.{State, emptied, begun, stop, isEntry, entryNode, withVariable, waiting, accepted, diagramIn, step, Verdict, left, refusedFormula}
 use Rattle.verdict.specs.Satisfies.{clausesOf}
 
 -- ---- what members and entries stand for
@@ -152,7 +153,7 @@ pub record LineTaken (n s : ℕ) (st : State) (rule : Rule) (root : ℕ) (st′ 
   pub few : st .lines < 1024
   pub not-one : entryNode st root ≢ 1
   pub witness : Witnessed n st rule (entryNode st root)
-  pub fits : lineFits s (st .nodes) (lineOf n st rule (entryNode st root)) ≡ true
+  pub fits : lineReach s (st .nodes) (lineOf n st rule (entryNode st root)) .fits ≡ true
   pub shown : lineOf n st rule (entryNode st root) .shown ≡ true
   pub is : accepted st (entryNode st root) (lineOf n st rule (entryNode st root)) ≡ st′
 

@@ -8,6 +8,8 @@ use Rattle.meaning.specs.Diagram.{value}
 use Rattle.meaning.specs.Words.{assignmentOf}
 use Rattle.table.specs.Nodes.{Node, nodesInOrder, diagramAt}
 use Rattle.table.specs.Columns.{rows}
+use Rattle.table.specs.Indexed.{Table, Good}
+use Rattle.table.specs.Lists.{Inside}
 
 -- The first `count` places of three columns.
 abbrev pub nodesIn : List ℕ → List ℕ → List ℕ → ℕ → List Node
@@ -25,6 +27,12 @@ pub record Readable (vs ls hs : List ℕ) (count : ℕ) : Type 0 where
 -- A memo has a cell for each place of the table, so that a node's cell is its own, and 64 more.
 abbrev pub Roomy : List ℕ → List ℕ → Type 0
 Roomy vs memo = 64 + length vs ≤ length memo
+
+-- What the functions over a list ask: a good table that has the listed nodes, and a memo with room.
+pub record ListReady (t : Table) (list memo : List ℕ) : Type 0 where
+  pub good : Good t
+  pub inside : Inside (t .count) list
+  pub room : Roomy (t .vars) memo
 
 -- The first `count` cells of a memo hold 0.
 abbrev pub Cleared : ℕ → List ℕ → Type 0

@@ -10,7 +10,7 @@ use Rattle.operate.specs.declared.Operation.the-variants.{Negation, Cofactor}
 use Rattle.operate.specs.Inner.{applied, Allowed}
 use Rattle.meaning.proofs.Booleans.{t≢f}
 use Rattle.supports.specs.Supports.{Supports}
-use Rattle.conflict.specs.Members.{ListReady}
+use Rattle.walks.specs.Readable.{ListReady}
 use Rattle.propagate.specs.Made.{results, AllMade}
 use Rattle.propagate.specs.Touching.{Touches}
 use Rattle.judge.proofs.Negations.{negation-ready, negation-full, cofactors-ready, negation-words, cofactors-made}

@@ -11,9 +11,10 @@ use Rattle.table.specs.Nodes.{diagramAt}
 use Rattle.table.specs.Indexed.{Table, tableOf, nodesOf}
 use Rattle.walks.proofs.Here.{good-readable}
 use Rattle.supports.specs.Supports.{Supports}
-use Rattle.conflict.specs.Members.{diagramsOf, ListReady}
+use Rattle.walks.specs.Readable.{ListReady}
+use Rattle.table.specs.Lists.{diagramsOf}
 use Rattle.conflict.specs.Marks.{unmarked}
-use Rattle.propagate.proofs.Extended.{extended-longer}
+use Rattle.table.proofs.Extended.{extended-longer}
 use Rattle.judge.specs.Lines.{Negatable, Worded, ByNegation}
 use Rattle.judge.proofs.Worded.{supports-longer}
 use Rattle.judge.proofs.Ready.{list-ready, inside-more, memo-again}

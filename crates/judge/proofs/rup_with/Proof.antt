@@ -8,7 +8,7 @@ use borrow.Author.Needs.{needs}
 use Rattle.meaning.specs.Diagram.{Diagram}
 use Rattle.table.specs.Nodes.{diagramAt}
 use Rattle.table.specs.Indexed.{Table, tableOf, nodesOf}
-use Rattle.conflict.specs.Members.{diagramsOf}
+use Rattle.table.specs.Lists.{diagramsOf}
 use Rattle.conflict.specs.Marks.{unmarked}
 use Rattle.judge.specs.Lines.{ByNegation}
 use Rattle.judge.proofs.Ready.{list-ready}

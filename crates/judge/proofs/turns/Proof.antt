@@ -13,9 +13,9 @@ use Rattle.meaning.specs.Words.{inWord}
 use Rattle.table.specs.Nodes.{diagramAt}
 use Rattle.table.specs.Indexed.{Table, tableOf, nodesOf, Good}
 use Rattle.table.proofs.Outcomes.{undone}
-use Rattle.conflict.specs.Members.{diagramsOf}
+use Rattle.table.specs.Lists.{diagramsOf}
 use Rattle.conflict.specs.Marks.{unmarked}
-use Rattle.propagate.proofs.Extended.{extended-longer}
+use Rattle.table.proofs.Extended.{extended-longer}
 use Rattle.judge.specs.Lines.{Says}
 use Rattle.judge.proofs.Worded.{member-worded, worded-again}
 use Rattle.judge.proofs.Ready.{again-ready}

@@ -1,7 +1,7 @@
 -- The walk over the list: what is to be taken is what is left to be taken, while the memo stays right. Assumes nothing.
 use mathlib.Core.Logic.{⊎-elim}
 use borrow.Author.Tests.{eqb-true, eqb-false, not-true, not-false}
-use Rattle.meaning.specs.Rules.{hasUnit}
+use Rattle.meaning.specs.Rules.{hasUnit, firstWithUnit}
 use Rattle.table.specs.Nodes.{diagramAt}
 use mathlib.Core.Bool.{true}
 use mathlib.Core.Path.{_≡_, refl, _∙_}
@@ -9,10 +9,9 @@ use Prim.Native.Nat.{_+_, _-_, _≤_}
 use native.Mathlib.Omega.{arith}
 use lib.ListN.{length, getD, drop}
 use borrow.Author.Needs.{needs}
-use Rattle.meaning.specs.Rules.{firstWithUnit}
 use Rattle.walks.specs.Readable.{nodesIn}
 use Rattle.units.specs.Units.{MarksBelow}
-use Rattle.conflict.specs.Members.{diagramsOf}
+use Rattle.table.specs.Lists.{diagramsOf}
 use Rattle.propagate.proofs.Taking.{words-empty, words-some, first-later, first-here, first-none}
 use Rattle.propagate.proofs.first_units.Statement.{statement}
 use Rattle.propagate.proofs.first_units.Tie as tie

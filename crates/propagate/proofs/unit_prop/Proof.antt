@@ -8,7 +8,8 @@ use borrow.Author.Needs.{needs}
 use Rattle.table.specs.Indexed.{tableOf, nodesOf}
 use Rattle.supports.specs.Supports.{Supports}
 use Rattle.operate.specs.declared.Operation.the-variants.{Literals}
-use Rattle.conflict.specs.Members.{diagramsOf, Quiet}
+use Rattle.conflict.specs.Members.{Quiet}
+use Rattle.table.specs.Lists.{diagramsOf}
 use Rattle.conflict.specs.Marks.{unmarked}
 use Rattle.propagate.specs.Made.{results, AllMade}
 use Rattle.propagate.specs.Rounds.{Comes}

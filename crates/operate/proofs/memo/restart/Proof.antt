@@ -4,7 +4,8 @@ use Prim.Native.Nat.{_-_, _<_}
 use native.Mathlib.Omega.{arith}
 use lib.ListN.{length, length-set}
 use borrow.Author.Needs.{needs}
-use Rattle.operate.proofs.RightMemo.{Cleared, cleared-one, memo-zeros}
+use Rattle.operate.proofs.RightMemo.{memo-zeros}
+use Rattle.table.proofs.Zeros.{Cleared, cleared-one}
 use Rattle.operate.proofs.memo.restart.Statement.{statement}
 use Rattle.operate.proofs.memo.restart.Tie as tie
 

@@ -4,7 +4,7 @@ use Prim.Native.Nat.{_-_, _≤_, _<_}
 use native.Mathlib.Omega.{arith}
 use lib.ListN.{length, length-set}
 use borrow.Author.Needs.{needs}
-use Rattle.operate.proofs.RightMemo.{Cleared, cleared-one, cleared-all}
+use Rattle.table.proofs.Zeros.{Cleared, cleared-one, cleared-all}
 use Rattle.session.proofs.clear.clear_numbers.Statement.{statement}
 use Rattle.session.proofs.clear.clear_numbers.Tie as tie
 

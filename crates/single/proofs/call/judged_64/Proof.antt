@@ -3,7 +3,7 @@ use Prim.Native.Nat.{_*_}
 use native.Mathlib.Omega.{arith}
 use lib.ListN.{length}
 use borrow.Author.Needs.{needs}
-use Rattle.single.proofs.Zeros.{part-zeros, length-part, length-whole, whole-zeros, whole-room}
+use Rattle.table.proofs.Zeros.{part-zeros, length-part, length-whole, whole-zeros, whole-room}
 use Rattle.single.proofs.call.judged_64.Statement.{statement}
 use Rattle.single.proofs.call.judged_64.Tie as tie
 

@@ -1,7 +1,7 @@
 -- `admit` keeps order and index where the node fits and is not found. Assumes nothing.
 use mathlib.Core.Path.{sym, _∙_}
 use borrow.Author.Tests.{not-true, not-false}
-use Rattle.table.proofs.Order.{true-not-false}
+use Rattle.meaning.proofs.Booleans.{t≢f}
 use Rattle.table.proofs.IndexStores.{found-some, found-none}
 use Rattle.table.proofs.IndexOrder.{unfit-order, found-order, new-order, linked-more}
 use borrow.Author.Needs.{needs}
@@ -58,7 +58,7 @@ fits-at-requires c κs =
 
 returns : tie.Need-returns
 returns c =
-    (sym (unfit-order _ _ _ _ _ _ (start-from-then1 c .pre .0) (start-from-then1 c .pre .1) (sym (c .before .fits-at .ensures) ∙ not-true _ (c .if1 .taken))), λ e. true-not-false (sym e))
+    (sym (unfit-order _ _ _ _ _ _ (start-from-then1 c .pre .0) (start-from-then1 c .pre .1) (sym (c .before .fits-at .ensures) ∙ not-true _ (c .if1 .taken))), λ e. t≢f (sym e))
 
 shared-slice-read-v : tie.Need-shared-slice-read-v
 shared-slice-read-v c = search needs
@@ -95,7 +95,7 @@ same-length-2 c = search needs
 
 returns-2 : tie.Need-returns-2
 returns-2 c =
-    (sym (found-order _ _ _ _ _ _ (start-from-return-2 c .pre .0) (start-from-return-2 c .pre .1) _ (found-some _ _ (sym (c .before .before .lookup .ensures) ∙ c .enum-told .given .1))), λ e. true-not-false (sym e))
+    (sym (found-order _ _ _ _ _ _ (start-from-return-2 c .pre .0) (start-from-return-2 c .pre .1) _ (found-some _ _ (sym (c .before .before .lookup .ensures) ∙ c .enum-told .given .1))), λ e. t≢f (sym e))
 
 same-length-3 : tie.Need-same-length-3
 same-length-3 c = search needs

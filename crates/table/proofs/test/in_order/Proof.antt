@@ -2,7 +2,7 @@
 use mathlib.Core.Path.{sym, _∙_}
 use native.Mathlib.Omega.{arith}
 use borrow.Author.Tests.{not-true, not-false}
-use Rattle.table.proofs.Order.{true-not-false}
+use Rattle.meaning.proofs.Booleans.{t≢f}
 use Rattle.table.proofs.IndexOrder.{sized, too-few, too-many, bad-start, bad-rest, linked-none, order-nodes, good-built}
 use borrow.Author.Needs.{needs}
 use Rattle.table.proofs.test.in_order.Statement.{statement}
@@ -87,11 +87,11 @@ module _ (c : tie.After-slice-known4) where
 
 returns : tie.Need-returns
 returns c =
-    (sym (too-few _ _ _ (sized _ _ _ (start-from-then1 c .pre .0)) _ (c .if1 .taken)), λ e. true-not-false (sym e))
+    (sym (too-few _ _ _ (sized _ _ _ (start-from-then1 c .pre .0)) _ (c .if1 .taken)), λ e. t≢f (sym e))
 
 returns-2 : tie.Need-returns-2
 returns-2 c =
-    (sym (too-many _ _ _ (sized _ _ _ (start-from-then2 c .pre .0)) _ (c .if2 .taken)), λ e. true-not-false (sym e))
+    (sym (too-many _ _ _ (sized _ _ _ (start-from-then2 c .pre .0)) _ (c .if2 .taken)), λ e. t≢f (sym e))
 
 blank-between-requires : tie.Need-blank-between-requires
 blank-between-requires c κs =
@@ -99,7 +99,7 @@ blank-between-requires c κs =
 
 returns-3 : tie.Need-returns-3
 returns-3 c =
-    (sym (bad-start _ _ _ (sized _ _ _ (start-from-then3 c .pre .0)) _ (else1-from-then3 c .if1 .left) (c .before .before .if2 .left) (sym (c .before .blank-between .ensures) ∙ not-true _ (c .if3 .taken))), λ e. true-not-false (sym e))
+    (sym (bad-start _ _ _ (sized _ _ _ (start-from-then3 c .pre .0)) _ (else1-from-then3 c .if1 .left) (c .before .before .if2 .left) (sym (c .before .blank-between .ensures) ∙ not-true _ (c .if3 .taken))), λ e. t≢f (sym e))
 
 blank-between-requires-2 : tie.Need-blank-between-requires-2
 blank-between-requires-2 c κs =
@@ -107,7 +107,7 @@ blank-between-requires-2 c κs =
 
 returns-4 : tie.Need-returns-4
 returns-4 c =
-    (sym (bad-rest _ _ _ (sized _ _ _ (start-from-then4 c .pre .0)) _ (else1-from-then4 c .if1 .left) (else2-from-then4 c .if2 .left) (sym (c .before .blank-between2 .ensures) ∙ not-true _ (c .if4 .taken))), λ e. true-not-false (sym e))
+    (sym (bad-rest _ _ _ (sized _ _ _ (start-from-then4 c .pre .0)) _ (else1-from-then4 c .if1 .left) (else2-from-then4 c .if2 .left) (sym (c .before .blank-between2 .ensures) ∙ not-true _ (c .if4 .taken))), λ e. t≢f (sym e))
 
 index-nodes-requires : tie.Need-index-nodes-requires
 index-nodes-requires c κs =

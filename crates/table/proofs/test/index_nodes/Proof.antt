@@ -4,7 +4,7 @@ use Prim.Native.Nat.{_-_}
 use native.Mathlib.Omega.{arith}
 use borrow.Author.Tests.{not-true, not-false}
 use Rattle.table.specs.Indexed.{tableOf}
-use Rattle.table.proofs.Order.{true-not-false}
+use Rattle.meaning.proofs.Booleans.{t≢f}
 use Rattle.table.proofs.IndexOrder.{Indexing, broken-order, indexing-end, linked-order}
 use borrow.Author.Needs.{needs}
 use Rattle.table.proofs.test.index_nodes.Statement.{statement}
@@ -74,7 +74,7 @@ same-length-2 c = search needs
 
 returns : tie.Need-returns Inv-loop μ-loop
 returns c =
-    (sym (broken-order _ _ _ _ _ (start-from-then1 c .pre .0 .lows) (start-from-then1 c .pre .0 .highs) (at-loop-from-then1 c .loop .inv .linked .least) (in-loop-from-then1 c .loop-test .taken) (start-from-then1 c .pre .2) (sym (admit-from-then1 c .admit .ensures .0) ∙ not-true _ (c .if1 .taken))), λ e. true-not-false (sym e))
+    (sym (broken-order _ _ _ _ _ (start-from-then1 c .pre .0 .lows) (start-from-then1 c .pre .0 .highs) (at-loop-from-then1 c .loop .inv .linked .least) (in-loop-from-then1 c .loop-test .taken) (start-from-then1 c .pre .2) (sym (admit-from-then1 c .admit .ensures .0) ∙ not-true _ (c .if1 .taken))), λ e. t≢f (sym e))
 
 add-k : tie.Need-add-k Inv-loop μ-loop
 add-k c = search needs

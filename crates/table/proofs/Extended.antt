@@ -4,13 +4,12 @@ use mathlib.Core.List.{List, [], _∷_, _++_}
 use Prim.Native.Nat.{ℕ, suc}
 use native.Mathlib.Omega.{arith}
 use lib.ListN.{drop, take-append-drop}
 use Rattle.table.specs.Nodes.{Node}
 use Rattle.table.specs.Indexed.{Table, nodesOf, Good}
+use Rattle.table.specs.Lists.{diagramsOf, Inside, Extended}
 use Rattle.table.proofs.Written.{length-nodes, good-ordered}
 use Rattle.table.proofs.Growth.{Extends, diagramAt-grown}
 use Rattle.table.proofs.Outcomes.{Longer, longer-same, longer-trans}
-use Rattle.conflict.specs.Members.{diagramsOf, Inside}
-use Rattle.propagate.specs.Made.{Extended}
 
 pub longer-extended : (T T′ : Table) → Longer T T′ → Extended T T′
 longer-extended T T′ L = record { good = L .good; same-size = L .same-size; more = L .more; first = L .first }
