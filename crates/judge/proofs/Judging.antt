@@ -2,7 +2,6 @@
 use mathlib.Core.Path.{_≡_, refl, sym, ap, ap₂, _∙_}
 use mathlib.Core.Bool.{Bool, true, false}
 use mathlib.Core.List.{List, [], _∷_}
-use mathlib.Core.Option.{none}
 use Prim.Native.Nat.{ℕ}
 use native.Mathlib.Omega.{arith}
 use lib.ListN.{length}
@@ -10,7 +9,7 @@ use Rattle.meaning.specs.Diagram.{Diagram}
 use Rattle.meaning.specs.Operations.{negation}
 use Rattle.meaning.specs.Rules.{Propagation, Line, unitProp, byDiagram, rup, prTurns, pr}
 use Rattle.meaning.specs.Words.{inWord}
-use Rattle.meaning.proofs.Booleans.{t≢f, and-true}
+use Rattle.meaning.proofs.Booleans.{t≢f}
 use Rattle.table.specs.Indexed.{Table, size, nodesOf, Good}
 use Rattle.table.specs.Making.{placedAll, Reach, reach, reached, keptReach, lineReach}
 use Rattle.table.proofs.PlacedAll.{one-reach, room-reached}

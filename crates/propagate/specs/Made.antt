@@ -1,13 +1,11 @@
 -- What is left once all members of a list are replaced. No call open to others cites this file.
 use mathlib.Core.Path.{_≡_}
-use mathlib.Core.Bool.{Bool, false, cond}
+use mathlib.Core.Bool.{Bool, false}
 use mathlib.Core.List.{List, map}
-use mathlib.Core.Option.{none, some}
-use Prim.Native.Nat.{ℕ, _≤_}
-use lib.ListN.{take}
+use Prim.Native.Nat.{ℕ}
 use Rattle.meaning.specs.Diagram.{Diagram}
 use Rattle.table.specs.Nodes.{diagramAt}
-use Rattle.table.specs.Indexed.{Table, size, nodesOf, Good}
+use Rattle.table.specs.Indexed.{Table, size, nodesOf}
 use Rattle.operate.specs.declared.Operation.{Operation}
 use Rattle.operate.specs.Operate.{result}
 use Rattle.table.specs.Making.{placedAll}

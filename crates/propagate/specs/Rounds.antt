@@ -1,6 +1,6 @@
 -- What a propagation over a table leaves and says. No call open to others cites this file.
 use mathlib.Core.Path.{_≡_}
-use mathlib.Core.Bool.{false, not}
+use mathlib.Core.Bool.{false}
 use mathlib.Core.List.{List}
 use Prim.Native.Nat.{ℕ, _-_, _≤_, _<_}
 use Rattle.meaning.specs.Diagram.{Diagram}

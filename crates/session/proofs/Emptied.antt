@@ -4,7 +4,7 @@ use mathlib.Core.Path.{_≡_, refl, sym, ap, ap₂, subst}
 use mathlib.Core.List.{List, _∷_, map}
 use Prim.Native.Nat.{ℕ, zero, suc, _-_, _*_, _≤_}
 use native.Mathlib.Omega.{arith}
-use lib.ListN.{getD, replicate}
+use lib.ListN.{replicate}
 use Rattle.table.specs.Nodes.{Node, blank}
 use Rattle.table.specs.Columns.{padded, Columns, columnsOf}
 use Rattle.table.specs.Indexed.{Table, tableOf, size, indexed, indexFrom, Good}

@@ -1,7 +1,7 @@
 -- Diagrams placed in their order: the first and the rest, one list after another, as outcomes tell it; and that nothing is lost by placing.
 -- The idea: each placing goes on with what the one before it left. Assumes nothing.
 use mathlib.Core.Path.{_≡_, refl, sym, ap, ap₂, _∙_}
-use mathlib.Core.Bool.{Bool, true, false, not, _&&_, cond}
+use mathlib.Core.Bool.{Bool, true, false, not, cond}
 use mathlib.Core.List.{List, [], _∷_, _++_}
 use mathlib.Core.Option.{Option, none, some}
 use Prim.Native.Nat.{ℕ, max, _≤_}
