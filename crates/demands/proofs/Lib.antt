@@ -3,3 +3,9 @@ pub mod Singles
 pub mod Words
 pub mod Ending
 pub mod Lists
+pub mod Full
+pub mod NoRoom
+pub mod Rows
+pub mod Demand1
+pub mod Demand2
+pub mod Demand3

@@ -72,11 +72,11 @@ clause-at (c ∷ cs) (suc k) p other = clause-at cs k (omega arith) other
 
 -- ---- sizes
 
-record Sizes (i : Lent) : Type 0 where
-  columns : Sized (i .columns .vars) (i .columns .lows) (i .columns .highs)
-  members : 2048 ≤ length (i .members)
+pub record Sizes (i : Lent) : Type 0 where
+  pub columns : Sized (i .columns .vars) (i .columns .lows) (i .columns .highs)
+  pub members : 2048 ≤ length (i .members)
 
-sizes : (i : Lent) → Fits i → Sizes i
+pub sizes : (i : Lent) → Fits i → Sizes i
 unfolding lentFits
 sizes i e =
     let (size, lists) = and-both (sizeFits (i .columns .vars) (i .columns .lows) (i .columns .highs)) _ e in

@@ -1,3 +1,4 @@
 pub mod Calls
 pub mod Words
 pub mod Leaving
+pub mod Full

@@ -11,3 +11,4 @@ pub mod Exactly
 pub mod Values
 pub mod Members
 pub mod Onward
+pub mod MetFirst

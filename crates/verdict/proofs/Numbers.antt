@@ -35,7 +35,7 @@ early : {number : ℕ} → Early number → FormulaNumber number
 early e = (e .0, omega arith, λ q. omega arith)
 
 module _ (s : ℕ) (text : List ℕ) where
-  making-refused : {n many number place : ℕ} {t : List Node} {ms : List ℕ} {fs : List Function} → Making s text n many t ms fs (refusal number place) → Early number
+  pub making-refused : {n many number place : ℕ} {t : List Node} {ms : List ℕ} {fs : List Function} → Making s text n many t ms fs (refusal number place) → Early number
   making-refused {n} {many} {number} {place} {t} {ms} {fs} M = go (Y .left) (Y .read)
     where
       Y : Underway s text n many t ms fs (refusal number place)
@@ -51,7 +51,7 @@ module _ (s : ℕ) (text : List ℕ) where
 abbrev pub ProofNumber : ℕ → Type 0
 ProofNumber number = (number ≤ 23) × (number ≢ 0 → 9 ≤ number)
 
-abbrev Numbered : Step → Type 0
+abbrev pub Numbered : Step → Type 0
 Numbered (next st) = Unit {0}
 Numbered (stop number offset) = ProofNumber number
 
@@ -84,7 +84,7 @@ witness-numbered n st v b =
 judged-numbered : (s : ℕ) (st : State) (g : ℕ) (line : Line) → Numbered (judged s st g line)
 unfolding judged
 judged-numbered s st g line =
-    refuses (not (lineReach s (st .nodes) line .fits)) 23 0 _ (omega arith, λ _. omega arith) (refuses (not (line .shown)) 19 0 _ (omega arith, λ _. omega arith) tt)
+    refuses (not (lineReach s (st .nodes) line .fits)) _ _ _ (omega arith, λ _. omega arith) (refuses (not (line .shown)) _ _ _ (omega arith, λ _. omega arith) tt)
 
 line-numbered : (n s : ℕ) (st : State) (rule : Rule) (root : ℕ) → Numbered (lineStep n s st rule root)
 unfolding lineStep
@@ -108,7 +108,7 @@ end-numbered st more =
     refuses (waiting st) 16 0 _ (omega arith, λ _. omega arith)
     (refuses more 11 1 _ (omega arith, λ _. omega arith) (refuses (st .refuted) 0 0 _ (omega arith, λ other. absurd (other refl)) (omega arith, λ _. omega arith)))
 
-step-numbered : (n s : ℕ) (st : State) (more : Bool) (r : Record) → Numbered (step n s st more r)
+pub step-numbered : (n s : ℕ) (st : State) (more : Bool) (r : Record) → Numbered (step n s st more r)
 unfolding step
 step-numbered n s st more (NodeEntry b) = node-numbered n s st b
 step-numbered n s st more (Witness v b) = witness-numbered n st v b

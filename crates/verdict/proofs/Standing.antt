@@ -90,10 +90,10 @@ module _ {s n : ℕ} {m : Meant} {st : State} (S : Standing s n m st) where
 
 module _ {s n : ℕ} {m : Meant} {st : State} (S : Standing s n m st) (v l h : ℕ) (low-in : l < length (st .nodes)) (high-in : h < length (st .nodes))
     (least : 1 ≤ v) (over-low : 2 ≤ l → v < at (st .nodes) l .var) (over-high : 2 ≤ h → v < at (st .nodes) h .var) where
-  abbrev over : Diagram
+  abbrev pub over : Diagram
   over = branch v (diagramAt (st .nodes) l) (diagramAt (st .nodes) h)
 
-  over-reduced : (w : ℕ) → UsesTo w (st .nodes) → v ≤ w → Reduced 1 (suc w) over
+  pub over-reduced : (w : ℕ) → UsesTo w (st .nodes) → v ≤ w → Reduced 1 (suc w) over
   over-reduced w uses most =
       reduced-from 1 v (suc w) over least
       (branch-reduced v (suc w) (diagramAt (st .nodes) l) (diagramAt (st .nodes) h) (omega arith)

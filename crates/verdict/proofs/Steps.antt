@@ -113,8 +113,8 @@ judged-taken : (s : ℕ) (st : State) (g : ℕ) (line : Line) (st′ : State) �
     → (lineReach s (st .nodes) line .fits ≡ true) × (line .shown ≡ true) × (accepted st g line ≡ st′)
 unfolding judged
 judged-taken s st g line st′ e =
-    let (fits, e₁) = met (lineReach s (st .nodes) line .fits) 23 _ e in
-    let (shown, e₂) = met (line .shown) 19 _ e₁ in
+    let (fits, e₁) = met (lineReach s (st .nodes) line .fits) _ _ e in
+    let (shown, e₂) = met (line .shown) _ _ e₁ in
     (fits, shown, cc)
 
 pub line-taken : (n s : ℕ) (st : State) (rule : Rule) (root : ℕ) (st′ : State) → lineStep n s st rule root ≡ next st′ → LineTaken n s st rule root st′
@@ -194,21 +194,22 @@ next-form n s st more NoRecord st′ e = stop-not-next 10 0 st′ e
 
 -- ---- the number 0
 
-module _ {offset : ℕ} where
-  stop-not-zero : {A : Type 0} (number at : ℕ) → eqb number 0 ≡ false → stop number at ≡ stop 0 offset → A
-  stop-not-zero number at other e = let z : number ≡ 0 = cc in absurd (eqb-false number 0 other z)
+module _ {wanted offset : ℕ} where
+  pub stop-other : {A : Type 0} (number at : ℕ) → eqb number wanted ≡ false → stop number at ≡ stop wanted offset → A
+  stop-other number at other e = let z : number ≡ wanted = cc in absurd (eqb-false number wanted other z)
 
-  next-not-stop : {A : Type 0} (st : State) → next st ≡ stop 0 offset → A
-  next-not-stop st e = stop-not-next 0 offset st (sym e)
+  pub next-not-stop : {A : Type 0} (st : State) → next st ≡ stop wanted offset → A
+  next-not-stop st e = stop-not-next wanted offset st (sym e)
 
-  -- a test that refuses with another number was passed
-  past : (c : Bool) (number at : ℕ) (r : Step) → eqb number 0 ≡ false → cond c (stop number at) r ≡ stop 0 offset → (c ≡ false) × (r ≡ stop 0 offset)
-  past true number at r other e = stop-not-zero number at other e
+  -- A test that refuses with another number was passed.
+  pub past : (c : Bool) (number at : ℕ) (r : Step) → eqb number wanted ≡ false → cond c (stop number at) r ≡ stop wanted offset → (c ≡ false) × (r ≡ stop wanted offset)
+  past true number at r other e = stop-other number at other e
   past false number at r other e = (refl, e)
 
+module _ {offset : ℕ} where
   entered-not-zero : {A : Type 0} (st : State) (p : Placing) → entered st p ≡ stop 0 offset → A
   unfolding entered
-  entered-not-zero st (full t) e = stop-not-zero 23 0 refl e
+  entered-not-zero st (full t) e = stop-other 23 0 refl e
   entered-not-zero st (placed t k) e = next-not-stop _ e
 
   node-not-zero : {A : Type 0} (n s : ℕ) (st : State) (b : NodeBody) → nodeStep n s st b ≡ stop 0 offset → A
@@ -232,8 +233,8 @@ module _ {offset : ℕ} where
   judged-not-zero : {A : Type 0} (s : ℕ) (st : State) (g : ℕ) (line : Line) → judged s st g line ≡ stop 0 offset → A
   unfolding judged
   judged-not-zero s st g line e =
-      let (p₁, e₁) = past (not (lineReach s (st .nodes) line .fits)) 23 0 _ refl e in
-      let (p₂, e₂) = past (not (line .shown)) 19 0 _ refl e₁ in
+      let (p₁, e₁) = past (not (lineReach s (st .nodes) line .fits)) _ _ _ refl e in
+      let (p₂, e₂) = past (not (line .shown)) _ _ _ refl e₁ in
       next-not-stop _ e₂
 
   line-not-zero : {A : Type 0} (n s : ℕ) (st : State) (rule : Rule) (root : ℕ) → lineStep n s st rule root ≡ stop 0 offset → A
@@ -271,7 +272,7 @@ end-refutes st more offset e =
   where
     go : (c : Bool) → cond c (stop 0 0) (stop 20 0) ≡ stop 0 offset → (c ≡ true) × (offset ≡ 0)
     go true e = (refl, cc)
-    go false e = stop-not-zero 20 0 refl e
+    go false e = stop-other 20 0 refl e
 
 pub step-refutes : (n s : ℕ) (st : State) (more : Bool) (r : Record) (offset : ℕ) → step n s st more r ≡ stop 0 offset → Refutes st more r offset
 unfolding step
@@ -279,9 +280,9 @@ step-refutes n s st more (NodeEntry b) offset e = node-not-zero n s st b e
 step-refutes n s st more (Witness v b) offset e = witness-not-zero n st v b e
 step-refutes n s st more (ProofLine rule root) offset e = line-not-zero n s st rule (root .0) e
 step-refutes n s st more End offset e = end-refutes st more offset e
-step-refutes n s st more CutShort offset e = stop-not-zero 10 0 refl e
-step-refutes n s st more UnknownKind offset e = stop-not-zero 9 0 refl e
-step-refutes n s st more NoRecord offset e = stop-not-zero 10 0 refl e
+step-refutes n s st more CutShort offset e = stop-other 10 0 refl e
+step-refutes n s st more UnknownKind offset e = stop-other 9 0 refl e
+step-refutes n s st more NoRecord offset e = stop-other 10 0 refl e
 
 pub refutes-step : (n s : ℕ) (st : State) (more : Bool) (r : Record) (offset : ℕ) → Refutes st more r offset → step n s st more r ≡ stop 0 offset
 unfolding step endStep

@@ -22,7 +22,7 @@ use Rattle.records.specs.declared.Rule.{Rule}
 use Rattle.records.specs.declared.Rule.the-variants.{Rup, Pr}
 use Rattle.records.specs.declared.Record.{Record}
 use Rattle.records.specs.declared.Record.the-variants.{NodeEntry, Witness, ProofLine, End, CutShort, UnknownKind, NoRecord}
-use Rattle.records.specs.Records.{recordAt, lengthOf}
+use Rattle.records.specs.Records.{recordAt, lengthOf, numberOf}
 
 -- ---- the state between records
 
@@ -180,16 +180,16 @@ unfoldable pub endStep : State → Bool → Step
 unfolding waiting
 endStep st more = cond (waiting st) (stop 16 0) (cond more (stop 11 1) (cond (st .refuted) (stop 0 0) (stop 20 0)))
 
--- A record; `more` tells whether a byte follows it.
+-- A record; `more` tells whether a byte follows it. "each record's kind (9) before all else"; 10: `numberOf`.
 unfoldable pub step : ℕ → ℕ → State → Bool → Record → Step
 unfolding nodeStep witnessStep lineStep endStep
 step n s st more (NodeEntry b) = nodeStep n s st b
 step n s st more (Witness v b) = witnessStep n st v b
 step n s st more (ProofLine rule root) = lineStep n s st rule (root .0)
 step n s st more End = endStep st more
-step n s st more CutShort = stop 10 0
-step n s st more UnknownKind = stop 9 0
-step n s st more NoRecord = stop 10 0
+step n s st more CutShort = stop (numberOf CutShort) 0
+step n s st more UnknownKind = stop (numberOf UnknownKind) 0
+step n s st more NoRecord = stop (numberOf NoRecord) 0
 
 -- What the check says, and the nodes and members that it leaves.
 pub record Verdict : Type 0 where

@@ -2,3 +2,4 @@ pub mod Check
 pub mod Cases
 pub mod Run
 pub mod Satisfies
+pub mod MetFirst

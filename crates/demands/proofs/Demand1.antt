@@ -1,0 +1,59 @@
+-- Demand 1, what is said and left for every input, refused or not: one theorem a sentence. The contracts of `checker`, `nodes` and `export` say that their
+-- calls give and leave `check`, `operation` and `evaluation`; the theorems say of these what 01 says. The idea: proved in the files named. Assumes nothing.
+use mathlib.Core.Path.{_≡_, sym, ap, _∙_, subst}
+use mathlib.Core.Logic.{_≢_, _↔_}
+use Prim.Native.Nat.{ℕ, _≤_}
+use native.Mathlib.Omega.{arith}
+use Rattle.table.specs.Columns.{Columns}
+use Rattle.operate.specs.declared.Operation.{Operation}
+use Rattle.single.specs.Single.{operation, Made, unchanged}
+use Rattle.verdict.specs.Check.{Outcome, check}
+use Rattle.demands.specs.Calls.{Says, answered, refused}
+use Rattle.demands.specs.Leaving as leaving
+use Rattle.demands.specs.Leaving.{Lent, checked, Fits, seven, Ends, Leaves, emptied, kept}
+use Rattle.demands.proofs.Singles as Singles
+use Rattle.demands.proofs.Ending as Ending
+use Rattle.demands.proofs.Lists as Lists
+
+-- The check ends in exactly one of the ways that 01 names, at the first place that is refused or at the end record, and number, place, counts and every
+-- lent place are what that way gives.
+pub check-exactly : (i : Lent) (o : Outcome) → (checked i ≡ o) ↔ Ends i o
+check-exactly = Ending.check-exactly
+
+-- "Number 7 changes nothing. A refused formula leaves table and lists all zero, count 2. A refused proof leaves the clauses and accepted lines with their
+-- nodes [..], zeros above. Number 0 leaves the same [..]. Scratch ends as zeros."
+pub check-leaves : (i : Lent) → Leaves i (checked i)
+check-leaves = Lists.check-leaves
+
+-- "7: a lent part of wrong size": given exactly where one is, and nothing is changed.
+pub seven-exactly : (i : Lent) → (checked i .number ≡ 7) ↔ (Fits i → ⊥)
+seven-exactly i = ((λ z fits. not-seven (check-leaves i) fits z), (λ other. ap (λ (o : Outcome). o .number) (Ending.checked-seven i other)))
+  where
+    not-seven : Leaves i (checked i) → Fits i → checked i .number ≡ 7 → ⊥
+    not-seven (leaving.unchanged other is) fits z = other fits
+    not-seven (emptied _ E) fits z = E .number .2 z
+    not-seven (kept _ K) fits z = let nine : 9 ≤ checked i .number = K .number .1 (λ y. omega arith) in absurd (omega arith)
+
+pub seven-changes-nothing : (i : Lent) → (Fits i → ⊥) → checked i ≡ seven i
+seven-changes-nothing = Ending.checked-seven
+
+-- "The whole check [..] never gives 26 or 27", nor the program's 24 and 25.
+pub check-number : (i : Lent) → checked i .number ≤ 23
+check-number i = go (checked i) (check-leaves i)
+  where
+    go : (o : Outcome) → Leaves i o → o .number ≤ 23
+    go o (leaving.unchanged other is) = let z : o .number ≡ 7 = ap (λ (x : Outcome). x .number) is in omega arith
+    go o (emptied _ E) = omega (arith, E .number .1)
+    go o (kept _ K) = K .number .0
+
+-- "A refused single call changes nothing"; "with a refusal the node is 0".
+pub refused-changes-nothing : (op : Operation) (c : Columns) (count f g : ℕ) → operation op (c .vars) (c .lows) (c .highs) count f g .number ≢ 0
+    → operation op (c .vars) (c .lows) (c .highs) count f g ≡ unchanged (c .vars) (c .lows) (c .highs) count (operation op (c .vars) (c .lows) (c .highs) count f g .number)
+refused-changes-nothing op c count f g other = go (Singles.operation-says op c count f g)
+  where
+    o : Made
+    o = operation op (c .vars) (c .lows) (c .highs) count f g
+
+    go : Says op c count f g o → o ≡ unchanged (c .vars) (c .lows) (c .highs) count (o .number)
+    go (answered z A) = absurd (other z)
+    go (refused _ same) = same

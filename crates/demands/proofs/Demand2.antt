@@ -1,0 +1,114 @@
+-- Demand 2, the rules: one theorem a sentence. The idea: proved in the files named. Assumes nothing.
+use mathlib.Core.Path.{_≡_}
+use mathlib.Core.Logic.{_↔_}
+use mathlib.Core.Bool.{Bool, true}
+use mathlib.Core.List.{List, [], _∷_}
+use Prim.Native.Nat.{ℕ}
+use lib.ListN.{length, replicate}
+use Rattle.meaning.specs.Diagram.{Assignment, Diagram}
+use Rattle.meaning.specs.Operations.{nearest}
+use Rattle.meaning.specs.Rules.{conflicts, byUnits, byDiagram}
+use Rattle.meaning.proofs.Nearest as Near
+use Rattle.meaning.proofs.Nearest.{Nearest, Satisfied}
+use Rattle.table.specs.Nodes.{diagramAt}
+use Rattle.table.specs.Columns.{Columns}
+use Rattle.records.specs.declared.Rule.{Rule}
+use Rattle.records.specs.declared.Record.{Record}
+use Rattle.operate.specs.declared.Operation.{Operation}
+use Rattle.operate.specs.declared.Operation.the-variants.{Negation, Cofactor}
+use Rattle.operate.specs.Operate.{result}
+use Rattle.single.specs.Single.{operation}
+use Rattle.verdict.specs.Check.{State, next, judged, step, check}
+use Rattle.verdict.specs.Run.{Taken, lineOf, Refutation}
+use Rattle.verdict.specs.MetFirst.{metBy, sayMet}
+use Rattle.verdict.specs.Cases.{Gives, GivesAll, checked as row, prints, bytes, A-formula, A-proof, caseTable, numberTable}
+use Rattle.verdict.proofs.Cases as Tables
+use Rattle.verdict.proofs.Steps as Steps
+use Rattle.verdict.proofs.MetFirst as MetFirst
+use Rattle.demands.specs.Calls.{nodesIn}
+use Rattle.demands.specs.Words.{Conflict}
+use Rattle.demands.specs.Leaving.{Lent, checked, Fits, places}
+use Rattle.demands.specs.Full.{Wants, AtClause, AtRecord}
+use Rattle.demands.proofs.Words as Words
+use Rattle.demands.proofs.Words.{GoesOn}
+use Rattle.demands.proofs.Ending as Ending
+use Rattle.demands.proofs.NoRoom as NoRoom
+use Rattle.demands.proofs.Rows as Rows
+use Rattle.demands.proofs.Rows.{nodeRecords, rupLines}
+
+-- ---- the check
+
+-- 0 is given exactly where the sizes fit, the formula is read and its clauses made, each record in turn passes what 01 asks of its kind (a line: RUP or
+-- PR, within room and limits), an accepted line is 0, and the end record ends the proof with no witness left and no byte behind it.
+pub check-zero-exactly : (i : Lent) → (checked i .number ≡ 0) ↔ (Fits i × Refutation (places i) (i .text) (i .proof))
+check-zero-exactly = Ending.check-zero-exactly
+
+-- "0: refuted; place of the end record"
+pub check-zero-place : (i : Lent) → Fits i → (F : Refutation (places i) (i .text) (i .proof)) → checked i .place ≡ F .place
+check-zero-place = Ending.check-zero-place
+
+-- A record leads to a next state exactly where it passes what 01 asks of its kind: `NodeTaken`, `WitnessTaken`, `LineTaken`.
+pub step-exactly : (n s : ℕ) (st : State) (more : Bool) (r : Record) (st′ : State) → (step n s st more r ≡ next st′) ↔ Taken n s st r st′
+step-exactly = Steps.step-exactly
+
+-- "then 19 or 23, the one met first": a line is judged as its diagrams are made, in 01's making order.
+pub met-first : (n s : ℕ) (st : State) (rule : Rule) (g : ℕ) → judged s st g (lineOf n st rule g) ≡ sayMet st g (lineOf n st rule g) (metBy n s st rule g)
+met-first = MetFirst.met-first
+
+-- "8 and 23 are given only where a node not in the table is to be placed and the count equals the size."
+pub eight-only : (i : Lent) → checked i .number ≡ 8 → AtClause (places i) (i .text) (checked i .place)
+eight-only = NoRoom.eight-only
+
+pub twenty-three-only : (i : Lent) → checked i .number ≡ 23 → AtRecord (places i) (i .text) (i .proof) (checked i .place)
+twenty-three-only = NoRoom.twenty-three-only
+
+pub operation-full : (op : Operation) (c : Columns) (count f g : ℕ) → operation op (c .vars) (c .lows) (c .highs) count f g .number ≡ 23
+    → Wants (length (c .vars)) (nodesIn c count) (result op (diagramAt (nodesIn c count) f) (diagramAt (nodesIn c count) g))
+operation-full = NoRoom.operation-full
+
+-- ---- the rules' words
+
+-- "the nearest one that satisfies g": there is one where g is satisfied at all, and only one.
+pub nearest-is : (n : ℕ) (g : Assignment → Bool) (a : Assignment) → Satisfied n g → Nearest n g a (nearest n g a)
+nearest-is = Near.nearest-is
+
+pub nearest-unique : (n : ℕ) (g : Assignment → Bool) (a b c : Assignment) → length a ≡ n → Nearest n g a b → Nearest n g a c → b ≡ c
+nearest-unique = Near.nearest-unique
+
+-- "(a) a member is 0 or the negation of another: conflict"
+pub conflicts-exactly : (n : ℕ) (ms : List Diagram) → (conflicts n ms ≡ true) ↔ Conflict n ms
+conflicts-exactly = Words.conflicts-exactly
+
+-- "(b) else, if some U is not empty, take the member of lowest place, cofactor all members by its U, count one round, go to (a); (c) else no conflict": of
+-- the members that a line's propagation begins with, and of those that a round leaves.
+pub line-goes-on : (n : ℕ) (g : Diagram) (ms : List Diagram) → GoesOn n (byDiagram n g ms)
+line-goes-on = Words.line-goes-on
+
+pub round-goes-on : (n : ℕ) (u : Diagram) (ms : List Diagram) → GoesOn n (byUnits n u ms)
+round-goes-on = Words.round-goes-on
+
+-- ---- the tables
+
+-- "A to J form one table, and one theorem says that the rules give each row."
+pub cases : GivesAll caseTable
+cases = Tables.cases
+
+pub numbers : GivesAll numberTable
+numbers = Tables.numbers
+
+-- "7: table of 1 place"; "21: node record 4,097 of a line"; "22: line 1,025"; "26: node 2 = 1, 0, 0"; "27: f = 1, g = 0". 24 and 25 are the program's
+-- (report/proofs/Saying: `long-formula`, `long-proof`, `no-formula`, `no-proof`).
+pub seven : check (0 ∷ []) (0 ∷ []) (0 ∷ []) 1 (replicate 2048 0) (replicate 4096 0) (bytes A-formula) A-proof .number ≡ 7
+seven = Tables.seven
+
+pub twenty-one : Gives (row 4096 "p cnf 1 0\n" (nodeRecords 4097) (prints 21 24576 0 0))
+twenty-one = Rows.twenty-one
+
+pub twenty-two : Gives (row 4096 "p cnf 0 1\n0\n" (rupLines 1025) (prints 22 3072 1024 0))
+twenty-two = Rows.twenty-two
+
+pub twenty-six : operation Negation (0 ∷ 0 ∷ 1 ∷ []) (0 ∷ 0 ∷ 0 ∷ []) (0 ∷ 0 ∷ 0 ∷ []) 3 2 1 .number ≡ 26
+twenty-six = Rows.twenty-six
+
+pub twenty-seven : operation Cofactor (0 ∷ 0 ∷ []) (0 ∷ 0 ∷ []) (0 ∷ 0 ∷ []) 2 1 0 .number ≡ 27
+twenty-seven = Rows.twenty-seven

@@ -1,0 +1,127 @@
+-- Demand 3, values: one theorem a sentence. The idea: proved in the files named. Assumes nothing.
+use mathlib.Core.Path.{_≡_}
+use mathlib.Core.Logic.{_≢_, _↔_}
+use mathlib.Core.Bool.{Bool, true, false, cond}
+use mathlib.Core.List.{List, []}
+use Prim.Native.Nat.{ℕ, _+_, _≤_, _<_}
+use native.Mathlib.Omega.{arith}
+use lib.ListN.{length, getD}
+use Rattle.meaning.specs.Diagram.{Assignment, Diagram, holds, value}
+use Rattle.meaning.specs.Operations.{clauseValue, nearest}
+use Rattle.meaning.specs.Words.{assignmentOf}
+use Rattle.meaning.proofs.Nearest.{Nearest}
+use Rattle.table.specs.Nodes.{at, diagramAt}
+use Rattle.table.specs.Columns.{rows, Columns}
+use Rattle.table.proofs.Numbers as Numbers
+use Rattle.operate.specs.declared.Operation.{Operation}
+use Rattle.operate.specs.declared.Operation.the-variants.{Cofactor}
+use Rattle.single.specs.Single.{Made, evaluation, operation}
+use Rattle.verdict.specs.Check.{State, isEntry, entryNode, Outcome, check}
+use Rattle.verdict.specs.Run.{Meant, entryMeant, lineFunctions, Reached, Later}
+use Rattle.verdict.specs.Satisfies.{Unsatisfiable}
+use Rattle.verdict.proofs.Refuted as Refuted
+use Rattle.verdict.proofs.Values as Values
+use Rattle.demands.specs.Calls.{nodesIn, inGoodOrder, valueAt, Answers, Says, answered, refused}
+use Rattle.demands.specs.Leaving as leaving
+use Rattle.demands.specs.Leaving.{Lent, checked, Fits, places, clausesRead, Member, Kept, Leaves, unchanged, emptied, kept}
+use Rattle.demands.proofs.Singles as Singles
+use Rattle.demands.proofs.Words as Words
+use Rattle.demands.proofs.Lists as Lists
+
+-- ---- a table in good order
+
+-- Two node numbers are equal exactly when their values are equal under every assignment.
+pub numbers-equal : (c : Columns) (count : ℕ) → inGoodOrder c count ≡ true → (j k : ℕ) → j < count → k < count
+    → (j ≡ k) ↔ ((a : Assignment) → length a ≡ 64 → valueAt c count j a ≡ valueAt c count k a)
+numbers-equal c count = Numbers.numbers-equal (rows (c .vars) (c .lows) (c .highs)) count
+
+-- "any smaller n that no variable in use exceeds gives the same values"
+pub numbers-equal-to : (n : ℕ) (c : Columns) (count : ℕ) → inGoodOrder c count ≡ true
+    → ((i : ℕ) → 2 ≤ i → i < count → at (rows (c .vars) (c .lows) (c .highs)) i .var ≤ n) → (j k : ℕ) → j < count → k < count
+    → (j ≡ k) ↔ ((a : Assignment) → length a ≡ n → valueAt c count j a ≡ valueAt c count k a)
+numbers-equal-to n c count = Numbers.numbers-equal-to n (rows (c .vars) (c .lows) (c .highs)) count
+
+-- "Node 0 has the value 0, node 1 the value 1; any other node has the value of its high where its variable is true, of its low where it is false."
+pub zero-value : (c : Columns) (count : ℕ) (a : Assignment) → valueAt c count 0 a ≡ false
+zero-value = Words.zero-value
+
+pub one-value : (c : Columns) (count : ℕ) (a : Assignment) → valueAt c count 1 a ≡ true
+one-value = Words.one-value
+
+pub node-value : (c : Columns) (count : ℕ) → inGoodOrder c count ≡ true → (k : ℕ) → 2 ≤ k → k < count → (a : Assignment)
+    → valueAt c count k a ≡ cond (holds a (at (nodesIn c count) k .var)) (valueAt c count (at (nodesIn c count) k .high) a) (valueAt c count (at (nodesIn c count) k .low) a)
+node-value = Words.node-value
+
+-- ---- the single calls
+
+-- For every table, count and operand: the call is refused, changes nothing and gives node 0; or it answers with a node of the table as left that has
+-- exactly 01's value of the operation under every assignment, the table as left is in good order, and every old number keeps its diagram.
+pub operation-says : (op : Operation) (c : Columns) (count f g : ℕ) → Says op c count f g (operation op (c .vars) (c .lows) (c .highs) count f g)
+operation-says = Singles.operation-says
+
+-- The same where number 0 is at hand.
+pub operation-answers : (op : Operation) (c : Columns) (count f g : ℕ) → operation op (c .vars) (c .lows) (c .highs) count f g .number ≡ 0
+    → Answers op c count f g (operation op (c .vars) (c .lows) (c .highs) count f g)
+operation-answers op c count f g z = go (operation-says op c count f g)
+  where
+    go : Says op c count f g (operation op (c .vars) (c .lows) (c .highs) count f g) → Answers op c count f g (operation op (c .vars) (c .lows) (c .highs) count f g)
+    go (answered _ A) = A
+    go (refused other _) = absurd (other z)
+
+-- A cofactor's value is taken at an assignment that satisfies g, and none that does is nearer.
+pub cofactor-nearest : (c : Columns) (count f g : ℕ) → operation Cofactor (c .vars) (c .lows) (c .highs) count f g .number ≡ 0
+    → (a : Assignment) → Nearest 64 (valueAt c count g) a (nearest 64 (valueAt c count g) a)
+cofactor-nearest = Singles.cofactor-nearest
+
+-- "Evaluation, where it does not refuse, says yes exactly when the node's value under the word's assignment is 1."
+pub evaluation-says : (c : Columns) (count f word : ℕ)
+    → (evaluation (c .vars) (c .lows) (c .highs) count f word .number ≡ 0 → evaluation (c .vars) (c .lows) (c .highs) count f word .yes ≡ valueAt c count f (assignmentOf 64 word))
+    × (evaluation (c .vars) (c .lows) (c .highs) count f word .number ≢ 0 → evaluation (c .vars) (c .lows) (c .highs) count f word .yes ≡ false)
+evaluation-says = Singles.evaluation-says
+
+-- ---- the check
+
+-- where the formula was read and the proof judged: number 0, or 9 and more
+judged-kept : (i : Lent) → Fits i → (checked i .number ≢ 0 → 9 ≤ checked i .number) → Kept i (checked i)
+judged-kept i fits late = go (Lists.check-leaves i)
+  where
+    go : Leaves i (checked i) → Kept i (checked i)
+    go (unchanged other is) = absurd (other fits)
+    go (emptied _ E) =
+        let most : checked i .number ≤ 8 = E .number .1 in
+        let nine : 9 ≤ checked i .number = late (λ z. omega (arith, E .number .0)) in absurd (omega arith)
+    go (kept _ K) = K
+
+-- "a clause's [..] node from its making until it is dropped": in every state that the check reaches (`Values.clause-values`, `Values.member-value`), and in
+-- what it leaves: place k of the member list is a node with clause k's value.
+pub clause-left : (i : Lent) → Fits i → (checked i .number ≢ 0 → 9 ≤ checked i .number) → (k : ℕ) → k < length (clausesRead i)
+    → Member (checked i) k (clauseValue (getD (clausesRead i) k []))
+clause-left i fits late = judged-kept i fits late .clauses
+
+-- Then the accepted lines in order, each with its root's value as the proof's bytes fix it.
+pub line-left : (i : Lent) → Fits i → (checked i .number ≢ 0 → 9 ≤ checked i .number) → (j : ℕ) → j < checked i .lines
+    → Member (checked i) (length (clausesRead i) + j) (getD (lineFunctions (i .proof)) j (λ a. false))
+line-left i fits late = judged-kept i fits late .lines
+
+-- The table as left is in good order.
+pub left-in-order : (i : Lent) → Fits i → (checked i .number ≢ 0 → 9 ≤ checked i .number) → inGoodOrder (checked i .columns) (checked i .count) ≡ true
+left-in-order i fits late = judged-kept i fits late .good
+
+module _ (i : Lent) {n : ℕ} {st : State} {at : ℕ} {m : Meant} (R : Reached (places i) (i .text) (i .proof) n st at m) where
+  -- "an entry's node [has its value] from its making until it is dropped, though the proof be refused later": in every state reached later,
+  pub entry-kept : {st′ : State} {at′ : ℕ} → Later (places i) (i .proof) n st at st′ at′ → (e : ℕ) → isEntry st e ≡ true → (a : Assignment)
+      → value (diagramAt (st′ .nodes) (entryNode st e)) a ≡ entryMeant m e a
+  entry-kept = Values.entry-kept (places i) (i .text) (i .proof) R
+
+  -- in the table as left, where it is not dropped,
+  pub entry-left : Fits i → (e : ℕ) → isEntry st e ≡ true → entryNode st e < checked i .count
+      → (a : Assignment) → valueAt (checked i .columns) (checked i .count) (entryNode st e) a ≡ entryMeant m e a
+  entry-left fits = Lists.entry-left i fits R
+
+  -- and it is not where its line is accepted.
+  pub entry-stays : Fits i → (e : ℕ) → isEntry st e ≡ true → st .lines < checked i .lines → entryNode st e < checked i .count
+  entry-stays fits = Lists.entry-stays i fits R
+
+-- Where 0 is said no assignment satisfies the formula's bytes, whatever the proof's bytes and whatever the lent places held.
+pub check-refuted : (i : Lent) → checked i .number ≡ 0 → Unsatisfiable (i .text)
+check-refuted i = Refuted.check-refuted (i .columns .vars) (i .columns .lows) (i .columns .highs) (i .count) (i .members) (i .scratch) (i .text) (i .proof)

@@ -1,0 +1,77 @@
+-- A line judged as its diagrams are made, one after the other: "19 or 23, the one met first". (01, What the call says and leaves) No call open to
+-- others cites this file: `met-first` says that the definition of the check judges so.
+use mathlib.Core.Bool.{Bool, cond}
+use mathlib.Core.List.{List, [], _∷_, map}
+use mathlib.Core.Option.{Option, none, some}
+use mathlib.Core.Bool.{true, false}
+use Prim.Native.Nat.{ℕ, zero, suc}
+use Rattle.meaning.specs.Diagram.{Diagram, leaf, same}
+use Rattle.meaning.specs.Operations.{negation, cofactorLiterals}
+use Rattle.meaning.specs.Rules.{Line, conflicts, firstWithUnit, byUnits, byDiagram, base}
+use Rattle.meaning.specs.Words.{inWord}
+use Rattle.table.specs.Nodes.{Node, Placing, full, placed, place}
+use Rattle.records.specs.declared.Rule.{Rule}
+use Rattle.records.specs.declared.Rule.the-variants.{Rup, Pr}
+use Rattle.verdict.specs.Check.{State, Step, next, stop, accepted, diagramIn}
+
+-- What is met: a conflict in every propagation; a propagation that ends without one; a diagram that finds no room.
+pub data Met : Type 0 where
+  all-shown : Met
+  no-conflict : Met
+  no-place : Met
+
+abbrev pub afterMade : Placing → (List Node → Met) → Met
+afterMade (full t) go = no-place
+afterMade (placed t k) go = go t
+
+-- Diagrams made one after the other over the nodes t; then it goes on over the nodes that there are by then.
+unfoldable pub making : ℕ → List Node → List Diagram → (List Node → Met) → Met
+making s t [] go = go t
+making s t (f ∷ fs) go = afterMade (place s t f) (λ t₁. making s t₁ fs go)
+
+abbrev pub inRound : Option Diagram → (Diagram → Met) → Met
+inRound none go = no-conflict
+inRound (some u) go = go u
+
+-- "(a) a member is 0 or the negation of another: conflict; (b) else, if some U is not empty, [..] cofactor all members by its U, [..] go to (a);
+-- (c) else no conflict"; "in each round all members by place". With at most so many rounds to come: n are enough.
+unfoldable pub propagating : ℕ → ℕ → ℕ → List Node → List Diagram → Met
+unfolding conflicts firstWithUnit byUnits making
+propagating s zero n t ms = cond (conflicts n ms) all-shown no-conflict
+propagating s (suc most) n t ms =
+    let later = inRound (firstWithUnit n ms) (λ u. making s t (byUnits n u ms) (λ t₁. propagating s most n t₁ (byUnits n u ms))) in
+    cond (conflicts n ms) all-shown later
+
+abbrev pub andThen : Met → Met → Met
+andThen all-shown later = later
+andThen no-conflict later = no-conflict
+andThen no-place later = no-place
+
+-- "for each member f, by place, with h = f under ω: h is 1, or UnitProp of the members cofactored by not-g and then by not-h conflicts"; "in PR, per
+-- member, h, not-h, the second cofactors; in each round all members by place. In PR the nodes of one member's turn are dropped before the next."
+unfoldable pub turning : ℕ → ℕ → (ℕ → Bool) → (ℕ → Bool) → List Node → List Diagram → List Diagram → Met
+unfolding making propagating
+turning s n P N t ms′ [] = all-shown
+turning s n P N t ms′ (f ∷ fs) =
+    let h = cofactorLiterals n P N f in
+    let second = byDiagram n (negation n h) ms′ in
+    let rest = turning s n P N t ms′ fs in
+    let turn = andThen (making s t (h ∷ negation n h ∷ second) (λ t₁. propagating s n n t₁ second)) rest in
+    cond (same h (leaf true)) rest turn
+
+-- "Making order of a line: not-g; members by not-g, by place", then the propagation of RUP or the turns of PR.
+unfoldable pub metBy : ℕ → ℕ → State → Rule → ℕ → Met
+unfolding making propagating turning
+metBy n s st Rup g =
+    let ms = map (diagramIn st) (st .members) in
+    making s (st .nodes) (base n ms (diagramIn st g)) (λ t. propagating s n n t (byDiagram n (negation n (diagramIn st g)) ms))
+metBy n s st Pr g =
+    let ms = map (diagramIn st) (st .members) in
+    making s (st .nodes) (base n ms (diagramIn st g))
+    (λ t. turning s n (inWord (st .positive)) (inWord (st .negative)) t (byDiagram n (negation n (diagramIn st g)) ms) ms)
+
+-- What each says: the line accepted, 19, 23.
+abbrev pub sayMet : State → ℕ → Line → Met → Step
+sayMet st g line all-shown = next (accepted st g line)
+sayMet st g line no-conflict = stop 19 0
+sayMet st g line no-place = stop 23 0
