@@ -1,6 +1,6 @@
 -- Demand 1, what is said and left for every input, refused or not: one theorem a sentence. The contracts of `checker`, `nodes` and `export` say that their
 -- calls give and leave `check`, `operation` and `evaluation`; the theorems say of these what 01 says. The idea: proved in the files named. Assumes nothing.
-use mathlib.Core.Path.{_≡_, sym, ap, _∙_, subst}
+use mathlib.Core.Path.{_≡_, ap}
 use mathlib.Core.Logic.{_≢_, _↔_}
 use Prim.Native.Nat.{ℕ, _≤_}
 use native.Mathlib.Omega.{arith}
@@ -10,15 +10,21 @@ use Rattle.single.specs.Single.{operation, Made, unchanged}
 use Rattle.verdict.specs.Check.{Outcome, check}
 use Rattle.demands.specs.Calls.{Says, answered, refused}
 use Rattle.demands.specs.Leaving as leaving
-use Rattle.demands.specs.Leaving.{Lent, checked, Fits, seven, Ends, Leaves, emptied, kept}
+use Rattle.demands.specs.Leaving.{Lent, checked, Fits, seven, Ends, Leaves, emptied, kept, AtEnd}
 use Rattle.demands.proofs.Singles as Singles
 use Rattle.demands.proofs.Ending as Ending
 use Rattle.demands.proofs.Lists as Lists
+use Rattle.demands.proofs.Places as Places
 
 -- The check ends in exactly one of the ways that 01 names, at the first place that is refused or at the end record, and number, place, counts and every
 -- lent place are what that way gives.
 pub check-exactly : (i : Lent) (o : Outcome) → (checked i ≡ o) ↔ Ends i o
 check-exactly = Ending.check-exactly
+
+-- "Place: [..] 9 to 23 [..] the record's first byte (10 with no record begun: the length; 11: the byte after the end record)", and that of 0: where the number
+-- is one of the proof's, the run ends at a record there, all records before it taken.
+pub check-place : (i : Lent) → (1 ≤ checked i .number → 9 ≤ checked i .number) → AtEnd i (checked i)
+check-place = Places.check-place
 
 -- "Number 7 changes nothing. A refused formula leaves table and lists all zero, count 2. A refused proof leaves the clauses and accepted lines with their
 -- nodes [..], zeros above. Number 0 leaves the same [..]. Scratch ends as zeros."

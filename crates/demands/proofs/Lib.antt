@@ -6,6 +6,7 @@ pub mod Lists
 pub mod Full
 pub mod NoRoom
 pub mod Rows
+pub mod Places
 pub mod Demand1
 pub mod Demand2
 pub mod Demand3

@@ -1,16 +1,19 @@
 -- What the theorems on the whole check speak of: where it ends, and what every lent place holds after it. No call open to others cites this file.
 use mathlib.Core.Path.{_≡_}
 use mathlib.Core.Logic.{_≢_}
-use mathlib.Core.Bool.{true, false}
+use mathlib.Core.Bool.{true, false, cond}
 use mathlib.Core.List.{List, []}
 use Prim.Native.Nat.{ℕ, _+_, _≤_, _<_}
 use lib.ListN.{length, getD}
+use lib.Dec.{eqb}
 use Rattle.meaning.specs.Diagram.{Assignment}
 use Rattle.meaning.specs.Operations.{Literal, clauseValue}
 use Rattle.table.specs.Columns.{Columns}
 use Rattle.dimacs.specs.Clauses.{formula}
-use Rattle.verdict.specs.Check.{Verdict, Outcome, lentFits, zeros, outcome, check}
-use Rattle.verdict.specs.Run.{Function, lineFunctions, Ended}
+use Rattle.records.specs.declared.Record.the-variants.{NoRecord}
+use Rattle.records.specs.Records.{recordAt}
+use Rattle.verdict.specs.Check.{State, stop, step, Verdict, Outcome, lentFits, zeros, outcome, check}
+use Rattle.verdict.specs.Run.{Function, Meant, lineFunctions, follows, Reached, Ended}
 use Rattle.verdict.specs.Satisfies.{clausesOf, readToEnd}
 use Rattle.demands.specs.Calls.{valueAt, inGoodOrder}
 
@@ -86,3 +89,17 @@ pub data Leaves (i : Lent) (o : Outcome) : Type 0 where
   unchanged : (Fits i → ⊥) → o ≡ seven i → Leaves i o
   emptied : Fits i → Emptied i o → Leaves i o
   kept : Fits i → Kept i o → Leaves i o
+
+-- ---- its place
+
+-- "9 to 23 [..] the record's first byte (10 with no record begun: the length; 11: the byte after the end record)": the record at which the run ends, all
+-- records before it taken, and where the place given is.
+pub record AtEnd (i : Lent) (o : Outcome) : Type 0 where
+  pub n : ℕ
+  pub state : State
+  pub at : ℕ
+  pub meant : Meant
+  pub reached : Reached (places i) (i .text) (i .proof) n state at meant
+  pub says : step n (places i) state (follows (i .proof) at) (recordAt (i .proof) at) ≡ stop (o .number) (cond (eqb (o .number) 11) 1 0)
+  pub place : o .place ≡ at + cond (eqb (o .number) 11) 1 0
+  pub none-begun : recordAt (i .proof) at ≡ NoRecord → o .place ≡ length (i .proof)
