@@ -22,7 +22,9 @@ use Rattle.table.proofs.Written.{length-nodes, good-ordered}
 use Rattle.table.proofs.Numbers.{diagramAt-reduced}
 use Rattle.operate.specs.declared.Operation.the-variants.{Literals}
 use Rattle.operate.proofs.Levels.{zero-is}
-use Rattle.units.proofs.Bits.{in-all}
+use Rattle.words.specs.declared.Literals as sets
+use Rattle.words.specs.Sets.{allWord}
+use Rattle.words.proofs.Variables.{in-all}
 use Rattle.supports.specs.Supports.{Uses, Support, Supports}
 use Rattle.supports.proofs.Words.{in-left}
 use Rattle.conflict.specs.Members.{Quiet}
@@ -65,7 +67,7 @@ rewording-all words₀ words touching i W h k p = W .done k (omega arith)
 -- ---- before the first round
 
 -- A node other than 0 whose word has none of all variables is 1.
-one-of : (T : Table) → Good T → (k : ℕ) → k < T .count → k ≢ 0 → (word : ℕ) → Support word (diagramAt (nodesOf T) k) → bitAnd word 18446744073709551615 ≡ 0
+one-of : (T : Table) → Good T → (k : ℕ) → k < T .count → k ≢ 0 → (word : ℕ) → Support word (diagramAt (nodesOf T) k) → bitAnd word (allWord 64) ≡ 0
     → diagramAt (nodesOf T) k ≡ leaf true
 unfolding Support
 one-of T G k inside nz word has e =
@@ -74,9 +76,9 @@ one-of T G k inside nz word has e =
     go : (d : Diagram) → diagramAt (nodesOf T) k ≡ d → Reduced 1 65 d → Uses (inWord word) d → d ≡ leaf true
     go (leaf true) q o u = refl
     go (leaf false) q o u = absurd (nz (zero-is T G k inside q))
-    go (node v l h) q o u = t≢f (sym (in-all v (o .0) (omega arith)) ∙ words-apart word 18446744073709551615 e v (u .0))
+    go (node v l h) q o u = t≢f (sym (in-all 64 v (o .0) (omega arith)) ∙ words-apart word (allWord 64) e v (u .0))
 
-pub quiet-all : (T : Table) (list memo words : List ℕ) → ListReady T list memo → Supports (nodesOf T) list words → Quiet (nodesOf T) list words 18446744073709551615
+pub quiet-all : (T : Table) (list memo words : List ℕ) → ListReady T list memo → Supports (nodesOf T) list words → Quiet (nodesOf T) list words (allWord 64)
 unfolding Quiet Supports
 quiet-all T list memo words R S i j p q x y ni nj e =
     let one : leaf true ≡ leaf false =
@@ -94,19 +96,19 @@ touched-apart word touching e = go (eqb (bitAnd word touching) 0) refl e
     go true q z = words-apart word touching z
     go false q z = λ v p. words-apart (bitOr word touching) touching z v (in-left word touching v p)
 
-module _ (T : Table) (list memo words : List ℕ) (R : ListReady T list memo) (len : length words ≡ length list) (S : Supports (nodesOf T) list words) (positive negative : ℕ)
-    (T′ : Table) (list′ : List ℕ) (A : AllMade T (results (Literals positive negative) T list 1) false T′ list′) (len′ : length list′ ≡ length list)
-    (words′ : List ℕ) (W : AllTouched words words′ (bitOr positive negative)) where
-  unchanged : (i : ℕ) → i < length list → bitAnd (getD words′ i 0) (bitOr positive negative) ≡ 0 → diagramAt (nodesOf T′) (getD list′ i 0) ≡ diagramAt (nodesOf T) (getD list i 0)
+module _ (T : Table) (list memo words : List ℕ) (R : ListReady T list memo) (len : length words ≡ length list) (S : Supports (nodesOf T) list words) (u : sets.Literals)
+    (T′ : Table) (list′ : List ℕ) (A : AllMade T (results (Literals (u .positive) (u .negative)) T list 1) false T′ list′) (len′ : length list′ ≡ length list)
+    (words′ : List ℕ) (W : AllTouched words words′ (bitOr (u .positive) (u .negative))) where
+  unchanged : (i : ℕ) → i < length list → bitAnd (getD words′ i 0) (bitOr (u .positive) (u .negative)) ≡ 0 → diagramAt (nodesOf T′) (getD list′ i 0) ≡ diagramAt (nodesOf T) (getD list i 0)
   unfolding Supports AllTouched
   unchanged i p e =
       sym (getD-map (diagramAt (nodesOf T′)) list′ i 0 (leaf false) (omega arith))
       ∙ ap (λ (ms : List Diagram). getD ms i (leaf false)) (A .are refl)
-      ∙ result-at (Literals positive negative) 1 T list memo R (omega (arith, R .good .least)) i p
-      ∙ stays T (R .good) (getD list i 0) 1 (R .inside i p) (omega (arith, R .good .least)) (getD words i 0) (bitOr positive negative) (S i p) (Literals positive negative) refl refl
-      (touched-apart (getD words i 0) (bitOr positive negative) (ap (λ (x : ℕ). bitAnd x (bitOr positive negative)) (sym (W i (omega arith))) ∙ e))
+      ∙ result-at (Literals (u .positive) (u .negative)) 1 T list memo R (omega (arith, R .good .least)) i p
+      ∙ stays T (R .good) (getD list i 0) 1 (R .inside i p) (omega (arith, R .good .least)) (getD words i 0) (bitOr (u .positive) (u .negative)) (S i p) (Literals (u .positive) (u .negative)) refl refl
+      (touched-apart (getD words i 0) (bitOr (u .positive) (u .negative)) (ap (λ (x : ℕ). bitAnd x (bitOr (u .positive) (u .negative))) (sym (W i (omega arith))) ∙ e))
 
-  pub quiet-next : conflicts 64 (diagramsOf (nodesOf T) list) ≡ false → Quiet (nodesOf T′) list′ words′ (bitOr positive negative)
+  pub quiet-next : conflicts 64 (diagramsOf (nodesOf T) list) ≡ false → Quiet (nodesOf T′) list′ words′ (bitOr (u .positive) (u .negative))
   unfolding Quiet
   quiet-next c i j p q x y ni nj e =
       no-conflict (nodesOf T) list c i j (omega arith) (omega arith)

@@ -16,6 +16,8 @@ use Rattle.meaning.proofs.PointwiseSteps.{literals-cong}
 use Rattle.table.specs.Nodes.{diagramAt}
 use Rattle.table.specs.Indexed.{Table, size, nodesOf, Good}
 use Rattle.walks.specs.Readable.{Roomy, ListReady}
+use Rattle.words.specs.declared.Literals as words
+use Rattle.words.specs.Sets.{has}
 use Rattle.operate.specs.declared.Operation.the-variants.{Literals}
 use Rattle.operate.specs.Operate.{result}
 use Rattle.table.specs.Making.{placedAll}
@@ -80,12 +82,13 @@ byUnits-is : (n : ℕ) (u : Diagram) (ms : List Diagram) → byUnits n u ms ≡ 
 unfolding byUnits
 byUnits-is n u ms = refl
 
-units-made : (T : Table) (list : List ℕ) (positive negative : ℕ) (K : Taken (diagramsOf (nodesOf T) list) positive negative)
-    → results (Literals positive negative) T list 1 ≡ byUnits 64 (K .member) (diagramsOf (nodesOf T) list)
-units-made T list positive negative K =
-    map-cong (λ f. result (Literals positive negative) f (diagramAt (nodesOf T) 1)) (cofactorLiterals 64 (λ v. isUnit 64 (K .member) v true) (λ v. isUnit 64 (K .member) v false)) (diagramsOf (nodesOf T) list)
-    (λ f. literals-result positive negative f (diagramAt (nodesOf T) 1)
-    ∙ literals-cong 64 (inWord positive) (inWord negative) (λ v. isUnit 64 (K .member) v true) (λ v. isUnit 64 (K .member) v false) f (K .true-units) (K .false-units))
+units-made : (T : Table) (list : List ℕ) (u : words.Literals) (K : Taken 64 (diagramsOf (nodesOf T) list) u)
+    → results (Literals (u .positive) (u .negative)) T list 1 ≡ byUnits 64 (K .member) (diagramsOf (nodesOf T) list)
+unfolding has
+units-made T list u K =
+    map-cong (λ f. result (Literals (u .positive) (u .negative)) f (diagramAt (nodesOf T) 1)) (cofactorLiterals 64 (λ v. isUnit 64 (K .member) v true) (λ v. isUnit 64 (K .member) v false)) (diagramsOf (nodesOf T) list)
+    (λ f. literals-result (u .positive) (u .negative) f (diagramAt (nodesOf T) 1)
+    ∙ literals-cong 64 (inWord (u .positive)) (inWord (u .negative)) (λ v. isUnit 64 (K .member) v true) (λ v. isUnit 64 (K .member) v false) f (λ v. K .holds v true) (λ v. K .holds v false))
     ∙ sym (byUnits-is 64 (K .member) (diagramsOf (nodesOf T) list))
 
 -- ---- the loop
@@ -140,8 +143,8 @@ module _ (T₀ : Table) (G₀ : Good T₀) (ms₀ : List Diagram) (T : Table) (l
 
   -- one round more
 
-  module _ (less : rounds < 64) (quiet : conflicts 64 (diagramsOf (nodesOf T) list) ≡ false) (positive negative : ℕ) (K : Taken (diagramsOf (nodesOf T) list) positive negative)
-      (full : Bool) (T′ : Table) (list′ : List ℕ) (A : AllMade T (results (Literals positive negative) T list 1) full T′ list′) where
+  module _ (less : rounds < 64) (quiet : conflicts 64 (diagramsOf (nodesOf T) list) ≡ false) (u : words.Literals) (K : Taken 64 (diagramsOf (nodesOf T) list) u)
+      (full : Bool) (T′ : Table) (list′ : List ℕ) (A : AllMade T (results (Literals (u .positive) (u .negative)) T list 1) full T′ list′) where
     made : List Diagram
     made = byUnits 64 (K .member) (diagramsOf (nodesOf T) list)
 
@@ -161,7 +164,7 @@ module _ (T₀ : Table) (G₀ : Good T₀) (ms₀ : List Diagram) (T : Table) (l
 
     made-placed : placedAll (size T) (nodesOf T) made ≡ room full (nodesOf T′)
     unfolding made
-    made-placed = ap (placedAll (size T) (nodesOf T)) (sym (units-made T list positive negative K)) ∙ A .places
+    made-placed = ap (placedAll (size T) (nodesOf T)) (sym (units-made T list u K)) ∙ A .places
 
     -- a node found no room
     pub going-full : full ≡ true → (conflict : Bool) → Said T₀ (unitProp 64 ms₀) (record { full = true; conflict = conflict; rounds = rounds; count = T′ .count }) T′
@@ -178,7 +181,7 @@ module _ (T₀ : Table) (G₀ : Good T₀) (ms₀ : List Diagram) (T : Table) (l
 
     now-are : full ≡ false → diagramsOf (nodesOf T′) list′ ≡ made
     unfolding made
-    now-are f = A .are f ∙ units-made T list positive negative K
+    now-are f = A .are f ∙ units-made T list u K
 
     pub going-on : full ≡ false → (memo′ : List ℕ) → length memo′ ≡ length memo → (marks′ : List ℕ) → marks′ ≡ unmarked (size T₀) → Going T₀ ms₀ T′ list′ memo′ marks′ (rounds + 1)
     unfolding round

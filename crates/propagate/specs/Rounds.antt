@@ -20,7 +20,7 @@ roundsLeft rounds = 64 - rounds
 -- What comes after so many rounds: the end, with or without a conflict, or a round by the units given.
 abbrev pub Comes : List Diagram → ℕ → Next → Type 0
 Comes ms rounds (End conflict) = propagate (roundsLeft rounds) 64 ms ≡ still conflict
-Comes ms rounds (By u) = (rounds < 64) × (conflicts 64 ms ≡ false) × Taken ms (u .positive) (u .negative)
+Comes ms rounds (By u) = (rounds < 64) × (conflicts 64 ms ≡ false) × Taken 64 ms u
 
 -- The propagation p over the table t: `full` exactly where what it makes finds no room, else its conflict and its rounds.
 pub record Said (t : Table) (p : Propagation) (r : Propagated) (t′ : Table) : Type 0 where

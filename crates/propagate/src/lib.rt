@@ -2,7 +2,7 @@
 use operate::Operation;
 use table::NodeNo;
 use table::Placed;
-use units::Units;
+use words::Literals;
 ghost use mathlib.Core.Path.{_≡_};
 ghost use Prim.Native.Nat.{_≤_, _<_};
 ghost use lib.ListN.{length};
@@ -149,7 +149,7 @@ pub fn all_by(
 
 // The units by which a round cofactors, if there are any.
 pub enum FirstUnits {
-    Of(Units),
+    Of(Literals),
     Nothing,
 }
 
@@ -165,7 +165,7 @@ pub fn first_units(
     requires { ⌜ Readable (now vars) (now lows) (now highs) count × Inside count (now list) × Roomy (now vars) (now memo) ⌝ }
     ensures { λ r. ⌜ (
         let nodes = nodesIn (now (vars .entry)) (now (lows .entry)) (now (highs .entry)) count in
-        AreFirst (diagramsOf nodes (now (list .entry))) r) ⌝ }
+        AreFirst 64 (diagramsOf nodes (now (list .entry))) r) ⌝ }
 {
     walks::clear_memo(memo, count);
     let mut place: usize = 0;
@@ -192,7 +192,7 @@ pub struct Propagated {
 // What comes next in a propagation: its end, or a round by the units.
 pub enum Next {
     End(bool),
-    By(Units),
+    By(Literals),
 }
 
 // What comes after so many rounds, the last of them by the variables of `touching`.
@@ -273,7 +273,7 @@ pub fn unit_prop(
 {
     let mut n = count;
     let mut rounds: u32 = 0;
-    let mut touching: u64 = 18446744073709551615;
+    let mut touching: u64 = words::ALL;
     loop {
         match next_round(
             vars,

@@ -20,17 +20,17 @@ use Rattle.table.proofs.Order.{Ordered}
 use Rattle.table.proofs.Numbers.{diagramAt-zero, diagramAt-one, diagramAt-node, diagramAt-injective, diagramAt-reduced}
 use Rattle.walks.specs.Readable.{Readable, nodesIn}
 use Rattle.walks.proofs.Here.{Here, here, node-in, ordered-in, length-in}
-use Rattle.units.specs.Units.{past}
+use Rattle.units.specs.Units.{past, OfVariables}
 
 -- ---- the constants
 
-pub zero-units : (t : List Node) (v : ℕ) (s : Bool) → 1 ≤ v → v ≤ 64 → isUnit 64 (diagramAt t 0) v s ≡ true
+pub zero-units : (n : ℕ) (t : List Node) (v : ℕ) (s : Bool) → 1 ≤ v → v ≤ n → isUnit n (diagramAt t 0) v s ≡ true
 unfolding unitAt
-zero-units t v s p q = ap (λ (d : Diagram). isUnit 64 d v s) (diagramAt-zero t) ∙ isUnit-is 64 (leaf false) v s tt p q
+zero-units n t v s p q = ap (λ (d : Diagram). isUnit n d v s) (diagramAt-zero t) ∙ isUnit-is n (leaf false) v s tt p q
 
-pub one-units : (t : List Node) (v : ℕ) (s : Bool) → 1 ≤ v → v ≤ 64 → isUnit 64 (diagramAt t 1) v s ≡ false
+pub one-units : (n : ℕ) (t : List Node) (v : ℕ) (s : Bool) → 1 ≤ v → v ≤ n → isUnit n (diagramAt t 1) v s ≡ false
 unfolding unitAt
-one-units t v s p q = ap (λ (d : Diagram). isUnit 64 d v s) (diagramAt-one t) ∙ isUnit-is 64 (leaf true) v s tt p q
+one-units n t v s p q = ap (λ (d : Diagram). isUnit n d v s) (diagramAt-one t) ∙ isUnit-is n (leaf true) v s tt p q
 
 -- a variable before all of a diagram has no unit in it, unless it is 0
 unit-absent : (f : Diagram) (i e v : ℕ) (s : Bool) → Reduced i e f → f ≢ leaf false → v < i → unitAt f v s ≡ false
@@ -78,7 +78,11 @@ or-false : (x : Bool) → (x || false) ≡ x
 or-false true = refl
 or-false false = refl
 
-module _ (vs ls hs : List ℕ) (count : ℕ) (R : Readable vs ls hs count) (k : ℕ) (two : 2 ≤ k) (inside : k < count) where
+-- nodes in good order are of 64 variables
+pub of-64 : (vs ls hs : List ℕ) (count : ℕ) → Readable vs ls hs count → OfVariables 64 (nodesIn vs ls hs count)
+of-64 vs ls hs count R = diagramAt-reduced (nodesIn vs ls hs count) (ordered-in vs ls hs count R)
+
+module _ (n : ℕ) (vs ls hs : List ℕ) (count : ℕ) (R : Readable vs ls hs count) (narrow : OfVariables n (nodesIn vs ls hs count)) (k : ℕ) (two : 2 ≤ k) (inside : k < count) where
   abbrev t : List Node
   t = nodesIn vs ls hs count
 
@@ -103,11 +107,11 @@ module _ (vs ls hs : List ℕ) (count : ℕ) (R : Readable vs ls hs count) (k : 
   is-node : diagramAt t k ≡ node w (diagramAt t l) (diagramAt t h)
   is-node = rw (node-in vs ls hs count R k inside) at (diagramAt-node t O k two (within k inside))
 
-  unit-of : (j v : ℕ) (s : Bool) → j < count → 1 ≤ v → v ≤ 64 → isUnit 64 (diagramAt t j) v s ≡ unitAt (diagramAt t j) v s
-  unit-of j v s p lo hi = isUnit-is 64 (diagramAt t j) v s (diagramAt-reduced t O j (within j p)) lo hi
+  unit-of : (j v : ℕ) (s : Bool) → j < count → 1 ≤ v → v ≤ n → isUnit n (diagramAt t j) v s ≡ unitAt (diagramAt t j) v s
+  unit-of j v s p lo hi = isUnit-is n (diagramAt t j) v s (narrow j (within j p)) lo hi
 
-  unit-node : (v : ℕ) (s : Bool) → 1 ≤ v → v ≤ 64
-      → isUnit 64 (diagramAt t k) v s ≡ ((isUnit 64 (diagramAt t l) v s && isUnit 64 (diagramAt t h) v s) || (eqb w v && eqb (cond s l h) 0))
+  unit-node : (v : ℕ) (s : Bool) → 1 ≤ v → v ≤ n
+      → isUnit n (diagramAt t k) v s ≡ ((isUnit n (diagramAt t l) v s && isUnit n (diagramAt t h) v s) || (eqb w v && eqb (cond s l h) 0))
   unfolding unitAt
   unit-node v s lo hi =
       unit-of k v s inside lo hi ∙ ap (λ (d : Diagram). unitAt d v s) is-node ∙ branches s
@@ -117,49 +121,52 @@ module _ (vs ls hs : List ℕ) (count : ℕ) (R : Readable vs ls hs count) (k : 
       branches true = ap (λ (z : Bool). (unitAt (diagramAt t l) v true && unitAt (diagramAt t h) v true) || (eqb w v && z)) (zero-number t O l (within l (omega (arith, H .low-less))))
       branches false = ap (λ (z : Bool). (unitAt (diagramAt t l) v false && unitAt (diagramAt t h) v false) || (eqb w v && z)) (zero-number t O h (within h (omega (arith, H .high-less))))
 
-  reduced : Reduced 1 65 (node w (diagramAt t l) (diagramAt t h))
-  reduced = rw is-node at (diagramAt-reduced t O k (within k inside))
+  reduced : Reduced 1 (suc n) (node w (diagramAt t l) (diagramAt t h))
+  reduced = rw is-node at (narrow k (within k inside))
+
+  pub top-within : w ≤ n
+  top-within = omega (arith, reduced .1)
 
   -- v's literal is no unit of a side that is not 0 where v is the node's variable or before it
-  side-absent : (j v : ℕ) (s : Bool) → j < count → Reduced (suc w) 65 (diagramAt t j) → 1 ≤ v → v ≤ w → j ≢ 0 → isUnit 64 (diagramAt t j) v s ≡ false
-  side-absent j v s p o lo hi n =
-      unit-of j v s p lo (omega (arith, H .most))
-      ∙ unit-absent (diagramAt t j) (suc w) 65 v s o (λ z. n (eqb-true j 0 (sym (zero-number t O j (within j p)) ∙ eq-same (diagramAt t j) (leaf false) z))) (omega arith)
+  side-absent : (j v : ℕ) (s : Bool) → j < count → Reduced (suc w) (suc n) (diagramAt t j) → 1 ≤ v → v ≤ w → j ≢ 0 → isUnit n (diagramAt t j) v s ≡ false
+  side-absent j v s p o lo hi some =
+      unit-of j v s p lo (omega (arith, reduced .1))
+      ∙ unit-absent (diagramAt t j) (suc w) (suc n) v s o (λ z. some (eqb-true j 0 (sym (zero-number t O j (within j p)) ∙ eq-same (diagramAt t j) (leaf false) z))) (omega arith)
 
   -- the units of the node are what its two edges leave
-  pub unit-edges : (v : ℕ) (s : Bool) → 1 ≤ v → v ≤ 64
-      → isUnit 64 (diagramAt t k) v s
-      ≡ (leb (past w (cond s l h)) v && ((ltb v (w + 1) || isUnit 64 (diagramAt t l) v s) && (ltb v (w + 1) || isUnit 64 (diagramAt t h) v s)))
+  pub unit-edges : (v : ℕ) (s : Bool) → 1 ≤ v → v ≤ n
+      → isUnit n (diagramAt t k) v s
+      ≡ (leb (past w (cond s l h)) v && ((ltb v (w + 1) || isUnit n (diagramAt t l) v s) && (ltb v (w + 1) || isUnit n (diagramAt t h) v s)))
   unit-edges v s lo hi = go (decLt v w) (ℕ-discrete v w) (ℕ-discrete (cond s l h) 0)
     where
       Ul : Bool
-      Ul = isUnit 64 (diagramAt t l) v s
+      Ul = isUnit n (diagramAt t l) v s
 
       Uh : Bool
-      Uh = isUnit 64 (diagramAt t h) v s
+      Uh = isUnit n (diagramAt t h) v s
 
-      below : v < w → isUnit 64 (diagramAt t k) v s ≡ false
+      below : v < w → isUnit n (diagramAt t k) v s ≡ false
       below p =
           unit-of k v s inside lo hi ∙ ap (λ (d : Diagram). unitAt d v s) is-node
-          ∙ unit-absent (node w (diagramAt t l) (diagramAt t h)) w 65 v s (omega arith, reduced .1, reduced .2, reduced .3, reduced .4)
+          ∙ unit-absent (node w (diagramAt t l) (diagramAt t h)) w (suc n) v s (omega arith, reduced .1, reduced .2, reduced .3, reduced .4)
           (λ e. let z : true ≡ false = cc in t≢f z) p
 
       -- at its own variable the side in which the literal is false has no unit unless it is 0
-      neither : v ≡ w → (s : Bool) → cond s l h ≢ 0 → (isUnit 64 (diagramAt t l) v s && isUnit 64 (diagramAt t h) v s) ≡ false
-      neither e true n = rw (side-absent l v true (omega (arith, H .low-less)) (reduced .3) lo (omega arith) n)
-      neither e false n =
-          rw (side-absent h v false (omega (arith, H .high-less)) (reduced .4) lo (omega arith) n) (and-false (isUnit 64 (diagramAt t l) v false))
+      neither : v ≡ w → (s : Bool) → cond s l h ≢ 0 → (isUnit n (diagramAt t l) v s && isUnit n (diagramAt t h) v s) ≡ false
+      neither e true d = rw (side-absent l v true (omega (arith, H .low-less)) (reduced .3) lo (omega arith) d)
+      neither e false d =
+          rw (side-absent h v false (omega (arith, H .high-less)) (reduced .4) lo (omega arith) d) (and-false (isUnit n (diagramAt t l) v false))
 
       go : Dec (v < w) → Dec (v ≡ w) → Dec (cond s l h ≡ 0)
-          → isUnit 64 (diagramAt t k) v s ≡ (leb (past w (cond s l h)) v && ((ltb v (w + 1) || Ul) && (ltb v (w + 1) || Uh)))
+          → isUnit n (diagramAt t k) v s ≡ (leb (past w (cond s l h)) v && ((ltb v (w + 1) || Ul) && (ltb v (w + 1) || Uh)))
       go (yes p) e z =
           below p ∙ sym (ap (λ (x : Bool). x && ((ltb v (w + 1) || Ul) && (ltb v (w + 1) || Uh))) (lt-leb (past w (cond s l h)) v (omega (arith, past-least w (cond s l h)))))
       go (no p) (yes e) (yes z) =
           unit-node v s lo hi
           ∙ (rw (eq-eqb w v (sym e), eq-eqb (cond s l h) 0 z, past-zero w (cond s l h) z, le-leb w v (omega arith), lt-ltb v (w + 1) (omega arith)) (or-right (Ul && Uh) true refl))
-      go (no p) (yes e) (no n) =
+      go (no p) (yes e) (no d) =
           unit-node v s lo hi
-          ∙ (rw (eq-eqb w v (sym e), ne-eqb (cond s l h) 0 n, past-other w (cond s l h) n, lt-leb (w + 1) v (omega arith), neither e s n))
+          ∙ (rw (eq-eqb w v (sym e), ne-eqb (cond s l h) 0 d, past-other w (cond s l h) d, lt-leb (w + 1) v (omega arith), neither e s d))
       go (no p) (no d) z =
           unit-node v s lo hi
           ∙ (rw (ne-eqb w v (λ e. d (sym e)), le-leb (past w (cond s l h)) v (omega (arith, past-most w (cond s l h), d)), le-ltb v (w + 1) (omega (arith, d))) (or-false (Ul && Uh)))

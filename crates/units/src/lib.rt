@@ -1,35 +1,13 @@
 // U(f) of a node: from all literals those are struck out, edge by edge, that some way to node 1 leaves open or makes false.
 use table::NodeNo;
+use words::Literals;
 ghost use mathlib.Core.Path.{_≡_};
 ghost use Prim.Native.Nat.{_+_, _≤_, _<_};
 ghost use Rattle.walks.specs.Readable.{Readable, Roomy, nodesIn};
-ghost use Rattle.units.specs.Units.{UnitsAt, belowWord, without, past, struckTo, Struck, Marked, MarksBelow, StrikeReady};
+ghost use Rattle.units.specs.Units.{UnitsAt, past, struckTo, Struck, Marked, MarksBelow, StrikeReady};
 
-// A set of literals: the variables that it makes true, and those that it makes false.
-pub struct Units {
-    pub positive: u64,
-    pub negative: u64,
-}
-
-// U(f): the literals that are true wherever f is. All literals for node 0, none for node 1.
-pub fn units_of(
-    vars: &[u8],
-    lows: &[u16],
-    highs: &[u16],
-    memo: &mut [u64],
-    count: usize,
-    f: NodeNo,
-) -> Units
-    requires { ⌜ Readable (now vars) (now lows) (now highs) count × (f .0 < count) × Roomy (now vars) (now memo) ⌝ }
-    ensures { λ r. ⌜ (
-        let nodes = nodesIn (now (vars .entry)) (now (lows .entry)) (now (highs .entry)) count in
-        UnitsAt nodes (f .0) (r .positive) (r .negative)) ⌝ }
-{
-    walks::clear_memo(memo, count);
-    units_from(vars, lows, highs, memo, count, f, 1)
-}
-
-// The same with a stamp above all marks in the memo, so that one clearing serves many walks.
+// U(f): the literals that are true wherever f is. All literals for node 0, none for node 1. The stamp is above all marks in the memo, so
+// that one clearing serves many walks.
 pub fn units_from(
     vars: &[u8],
     lows: &[u16],
@@ -38,19 +16,19 @@ pub fn units_from(
     count: usize,
     f: NodeNo,
     stamp: u64,
-) -> Units
+) -> Literals
     requires { ⌜ Readable (now vars) (now lows) (now highs) count
         × (f .0 < count)
         × Roomy (now vars) (now memo)
         × MarksBelow count (now memo) stamp ⌝ }
     ensures { λ r. ⌜ (
         let nodes = nodesIn (now (vars .entry)) (now (lows .entry)) (now (highs .entry)) count in
-        UnitsAt nodes (f .0) (r .positive) (r .negative)) ⌝ }
+        UnitsAt 64 nodes (f .0) r) ⌝ }
     ensures { λ _. ⌜ MarksBelow count (now (memo .exit)) (stamp + 1) ⌝ }
 {
-    let all = Units {
-        positive: 18446744073709551615,
-        negative: 18446744073709551615,
+    let all = Literals {
+        positive: words::ALL,
+        negative: words::ALL,
     };
     strike(vars, lows, highs, memo, count, f, 1, stamp, all)
 }
@@ -66,11 +44,11 @@ fn strike(
     f: NodeNo,
     from: u8,
     stamp: u64,
-    alive: Units,
-) -> Units
+    alive: Literals,
+) -> Literals
     requires { ⌜ StrikeReady (now vars) (now lows) (now highs) (now memo) count (f .0) from stamp alive ⌝ }
-    ensures { λ r. ⌜ Struck (nodesIn (now (vars .entry)) (now (lows .entry)) (now (highs .entry)) count) (f .0) from alive r ⌝ }
-    ensures { λ r. ⌜ Marked (now (memo .exit)) (nodesIn (now (vars .entry)) (now (lows .entry)) (now (highs .entry)) count) stamp r ⌝ }
+    ensures { λ r. ⌜ Struck 64 (nodesIn (now (vars .entry)) (now (lows .entry)) (now (highs .entry)) count) (f .0) from alive r ⌝ }
+    ensures { λ r. ⌜ Marked 64 (now (memo .exit)) (nodesIn (now (vars .entry)) (now (lows .entry)) (now (highs .entry)) count) stamp r ⌝ }
     ensures { λ _. ⌜ MarksBelow count (now (memo .exit)) (stamp + 1) ⌝ }
 {
     if f.0 == 0 {
@@ -108,33 +86,12 @@ fn past(v: u8, side: NodeNo) -> u8
 }
 
 // The set without the variables from `from` on, positive ones below p and negative ones below n.
-fn strike_to(alive: Units, from: u8, p: u8, n: u8) -> Units
+fn strike_to(alive: Literals, from: u8, p: u8, n: u8) -> Literals
     requires { ⌜ (1 ≤ from) × (from ≤ 65) × (1 ≤ p) × (p ≤ 65) × (1 ≤ n) × (n ≤ 65) ⌝ }
-    ensures { λ r. ⌜ r ≡ struckTo alive from p n ⌝ }
+    ensures { λ r. ⌜ r ≡ struckTo 64 alive from p n ⌝ }
 {
-    Units {
-        positive: without(alive.positive, from, p),
-        negative: without(alive.negative, from, n),
+    Literals {
+        positive: words::without(alive.positive, from, p),
+        negative: words::without(alive.negative, from, n),
     }
-}
-
-// The word without the variables from `from` on below `to`.
-fn without(word: u64, from: u8, to: u8) -> u64
-    requires { ⌜ (1 ≤ from) × (from ≤ 65) × (1 ≤ to) × (to ≤ 65) ⌝ }
-    ensures { λ r. ⌜ r ≡ without word from to ⌝ }
-{
-    word & (below(from) | (18446744073709551615 - below(to)))
-}
-
-// The word of the variables below v.
-fn below(v: u8) -> u64
-    requires { ⌜ (1 ≤ v) × (v ≤ 65) ⌝ }
-    ensures { λ r. ⌜ r ≡ belowWord v ⌝ }
-{
-    if v == 65 {
-        return 18446744073709551615;
-    }
-    let i = (v - 1) as u64;
-    let bit: u64 = 1 << i;
-    bit - 1
 }

@@ -123,9 +123,9 @@ returns c =
     let w = at-loop-from-return c .loop in
     let y = units-from-from-return c .units-from in
     let some-unit : hasUnit 64 64 (diagramAt (nodesIn (a .vars .now) (a .lows .now) (a .highs .now) (a .count)) (getD (a .list .now) (w .place) 0)) ≡ true =
-    words-some (nodesIn (a .vars .now) (a .lows .now) (a .highs .now) (a .count)) (getD (a .list .now) (w .place) 0) (y .result .positive) (y .result .negative) (y .ensures .0) (omega (arith, c .before .struct-known .given)) (omega (arith, c .before .struct-known .given))
+    words-some 64 (nodesIn (a .vars .now) (a .lows .now) (a .highs .now) (a .count)) (getD (a .list .now) (w .place) 0) (y .result) (y .ensures .0) (omega (arith, c .before .struct-known .given)) (omega (arith, c .before .struct-known .given))
     (λ z. ⊎-elim (λ s. s .taken (z .0)) (λ s. eqb-false _ _ (not-true _ (s .2 .taken)) (z .1)) (c .if1 .came)) in
-    first-here (nodesIn (a .vars .now) (a .lows .now) (a .highs .now) (a .count)) (a .list .now) (w .place) (in-loop-from-return c .loop-test .taken) (w .inv .3) some-unit (y .result .positive) (y .result .negative) (y .ensures .0)
+    first-here 64 (nodesIn (a .vars .now) (a .lows .now) (a .highs .now) (a .count)) (a .list .now) (w .place) (in-loop-from-return c .loop-test .taken) (w .inv .3) some-unit (y .result) (y .ensures .0)
 
 -- src/lib.rt:79:9
 add-place : tie.Need-add-place Inv-loop μ-loop
@@ -145,7 +145,7 @@ loop-again c =
       y .kept .1 .1 .1 .0 ∙ w .inv .0,
       omega (arith, in-loop-from-else2 c .loop-test .taken),
       y .ensures .1,
-      w .inv .3 ∙ first-later (nodesIn (a .vars .now) (a .lows .now) (a .highs .now) (a .count)) (a .list .now) (w .place) (in-loop-from-else2 c .loop-test .taken) (words-empty (nodesIn (a .vars .now) (a .lows .now) (a .highs .now) (a .count)) _ _ _ (y .ensures .0) (c .before .before .if1 .left) (eqb-true _ _ (not-false _ (c .if2 .left)))),
+      w .inv .3 ∙ first-later 64 (nodesIn (a .vars .now) (a .lows .now) (a .highs .now) (a .count)) (a .list .now) (w .place) (in-loop-from-else2 c .loop-test .taken) (words-empty 64 (nodesIn (a .vars .now) (a .lows .now) (a .highs .now) (a .count)) _ _ (y .ensures .0) (c .before .before .if1 .left) (eqb-true _ _ (not-false _ (c .if2 .left)))),
     )
 
 -- src/lib.rt:60:1
@@ -158,7 +158,7 @@ returns-2 c =
     let a = start-from-return-2 c .args in
     let r = start-from-return-2 c .pre in
     let w = c .before .loop in
-    w .inv .3 ∙ first-none (nodesIn (a .vars .now) (a .lows .now) (a .highs .now) (a .count)) (a .list .now) (w .place) (omega (arith, c .loop-test .left))
+    w .inv .3 ∙ first-none 64 (nodesIn (a .vars .now) (a .lows .now) (a .highs .now) (a .count)) (a .list .now) (w .place) (omega (arith, c .loop-test .left))
 
 pub first-units-spec : {M : Type 1} → statement M
 first-units-spec =

@@ -137,7 +137,7 @@ returns-3 c =
     let a = start-from-return-3 c .args in
     let r = start-from-return-3 c .pre in
     let y = conflicts-from-return-3 c .conflicts in
-    ((omega (arith, r .0 .2, else2-from-return-3 c .if2 .left), (sym (y .ensures .0) ∙ else1-from-return-3 c .if1 .left), subst (AreFirst (diagramsOf (nodesOf (tableOf (a .vars .now) (a .lows .now) (a .highs .now) (a .heads .now) (a .links .now) (a .count))) (a .list .now))) (c .before .u .given .1) (first-units-from-return-3 c .first-units .ensures)), y .ensures .1)
+    ((omega (arith, r .0 .2, else2-from-return-3 c .if2 .left), (sym (y .ensures .0) ∙ else1-from-return-3 c .if1 .left), subst (AreFirst 64 (diagramsOf (nodesOf (tableOf (a .vars .now) (a .lows .now) (a .highs .now) (a .heads .now) (a .links .now) (a .count))) (a .list .now))) (c .before .u .given .1) (first-units-from-return-3 c .first-units .ensures)), y .ensures .1)
 
 same-length-7 : tie.Need-same-length-7
 same-length-7 c =
@@ -153,7 +153,7 @@ returns-4 c =
     let a = start-from-return-4 c .args in
     let r = start-from-return-4 c .pre in
     let y = conflicts-from-return-4 c .conflicts in
-    (ends-still (64 - a .rounds) (diagramsOf (nodesOf (tableOf (a .vars .now) (a .lows .now) (a .highs .now) (a .heads .now) (a .links .now) (a .count))) (a .list .now)) (sym (y .ensures .0) ∙ else1-from-return-4 c .if1 .left) (subst (AreFirst (diagramsOf (nodesOf (tableOf (a .vars .now) (a .lows .now) (a .highs .now) (a .heads .now) (a .links .now) (a .count))) (a .list .now))) (c .enum-told .given .1) (first-units-from-return-4 c .first-units .ensures)), y .ensures .1)
+    (ends-still (64 - a .rounds) (diagramsOf (nodesOf (tableOf (a .vars .now) (a .lows .now) (a .highs .now) (a .heads .now) (a .links .now) (a .count))) (a .list .now)) (sym (y .ensures .0) ∙ else1-from-return-4 c .if1 .left) (subst (AreFirst 64 (diagramsOf (nodesOf (tableOf (a .vars .now) (a .lows .now) (a .highs .now) (a .heads .now) (a .links .now) (a .count))) (a .list .now))) (c .enum-told .given .1) (first-units-from-return-4 c .first-units .ensures)), y .ensures .1)
 
 pub next-round-spec : {M : Type 1} → statement M
 next-round-spec =

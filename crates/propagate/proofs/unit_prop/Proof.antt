@@ -235,7 +235,7 @@ returns-2 c =
     let y = next-round-from-then1 c .next-round in
     let z = all-by-from-then1 c .all-by in
     let comes = subst (Comes (diagramsOf (nodesOf (tableOf (w .vars) (w .lows) (w .highs) (w .heads) (w .links) (w .n))) (w .list)) (w .rounds)) (u-from-then1 c .u .given .1) (y .ensures .0) in
-    (going-full (tableOf (a .vars .now) (a .lows .now) (a .highs .now) (a .heads .now) (a .links .now) (a .count)) (r .0 .0 .good) (diagramsOf (nodesOf (tableOf (a .vars .now) (a .lows .now) (a .highs .now) (a .heads .now) (a .links .now) (a .count))) (a .list .now)) (tableOf (w .vars) (w .lows) (w .highs) (w .heads) (w .links) (w .n)) (w .list) (w .memo) (w .marks) (w .rounds) (w .inv .0) (comes .0) (comes .1) (u-from-then1 c .u .given .0 .0 .positive) (u-from-then1 c .u .given .0 .0 .negative) (comes .2) (z .result .full) (tableOf (z .last .0) (z .last .1 .0) (z .last .1 .1 .0) (z .last .1 .1 .1 .0) (z .last .1 .1 .1 .1 .0) (z .result .count)) (z .last .1 .1 .1 .1 .1 .1 .0) (z .ensures .0) (c .if1 .taken) false, y .ensures .1 ∙ ap unmarked (w .inv .3))
+    (going-full (tableOf (a .vars .now) (a .lows .now) (a .highs .now) (a .heads .now) (a .links .now) (a .count)) (r .0 .0 .good) (diagramsOf (nodesOf (tableOf (a .vars .now) (a .lows .now) (a .highs .now) (a .heads .now) (a .links .now) (a .count))) (a .list .now)) (tableOf (w .vars) (w .lows) (w .highs) (w .heads) (w .links) (w .n)) (w .list) (w .memo) (w .marks) (w .rounds) (w .inv .0) (comes .0) (comes .1) (u-from-then1 c .u .given .0 .0) (comes .2) (z .result .full) (tableOf (z .last .0) (z .last .1 .0) (z .last .1 .1 .0) (z .last .1 .1 .1 .0) (z .last .1 .1 .1 .1 .0) (z .result .count)) (z .last .1 .1 .1 .1 .1 .1 .0) (z .ensures .0) (c .if1 .taken) false, y .ensures .1 ∙ ap unmarked (w .inv .3))
 
 add-rounds : tie.Need-add-rounds Inv-loop μ-loop
 add-rounds c =
@@ -258,9 +258,9 @@ loop-again c =
     let y = next-round-from-else1 c .next-round in
     let z = all-by-from-else1 c .all-by in
     let comes = subst (Comes (diagramsOf (nodesOf (tableOf (w .vars) (w .lows) (w .highs) (w .heads) (w .links) (w .n))) (w .list)) (w .rounds)) (u-from-else1 c .u .given .1) (y .ensures .0) in (
-      going-on (tableOf (a .vars .now) (a .lows .now) (a .highs .now) (a .heads .now) (a .links .now) (a .count)) (r .0 .0 .good) (diagramsOf (nodesOf (tableOf (a .vars .now) (a .lows .now) (a .highs .now) (a .heads .now) (a .links .now) (a .count))) (a .list .now)) (tableOf (w .vars) (w .lows) (w .highs) (w .heads) (w .links) (w .n)) (w .list) (w .memo) (w .marks) (w .rounds) (w .inv .0) (comes .0) (comes .1) (u-from-else1 c .u .given .0 .0 .positive) (u-from-else1 c .u .given .0 .0 .negative) (comes .2) (z .result .full) (tableOf (z .last .0) (z .last .1 .0) (z .last .1 .1 .0) (z .last .1 .1 .1 .0) (z .last .1 .1 .1 .1 .0) (z .result .count)) (z .last .1 .1 .1 .1 .1 .1 .0) (z .ensures .0) (c .if1 .left) (z .last .1 .1 .1 .1 .1 .0) (z .kept .1 .1 .1 .1 .1 .0 ∙ y .kept .1 .1 .1 .1 .1 .0) (y .last .1 .1 .1 .1 .1 .1 .0) (y .ensures .1 ∙ ap unmarked (w .inv .3)),
+      going-on (tableOf (a .vars .now) (a .lows .now) (a .highs .now) (a .heads .now) (a .links .now) (a .count)) (r .0 .0 .good) (diagramsOf (nodesOf (tableOf (a .vars .now) (a .lows .now) (a .highs .now) (a .heads .now) (a .links .now) (a .count))) (a .list .now)) (tableOf (w .vars) (w .lows) (w .highs) (w .heads) (w .links) (w .n)) (w .list) (w .memo) (w .marks) (w .rounds) (w .inv .0) (comes .0) (comes .1) (u-from-else1 c .u .given .0 .0) (comes .2) (z .result .full) (tableOf (z .last .0) (z .last .1 .0) (z .last .1 .1 .0) (z .last .1 .1 .1 .0) (z .last .1 .1 .1 .1 .0) (z .result .count)) (z .last .1 .1 .1 .1 .1 .1 .0) (z .ensures .0) (c .if1 .left) (z .last .1 .1 .1 .1 .1 .0) (z .kept .1 .1 .1 .1 .1 .0 ∙ y .kept .1 .1 .1 .1 .1 .0) (y .last .1 .1 .1 .1 .1 .1 .0) (y .ensures .1 ∙ ap unmarked (w .inv .3)),
       z .ensures .1 .0 (c .if1 .left),
-      quiet-next (tableOf (w .vars) (w .lows) (w .highs) (w .heads) (w .links) (w .n)) (w .list) (w .memo) (w .words) (going-ready (tableOf (a .vars .now) (a .lows .now) (a .highs .now) (a .heads .now) (a .links .now) (a .count)) (r .0 .0 .good) (diagramsOf (nodesOf (tableOf (a .vars .now) (a .lows .now) (a .highs .now) (a .heads .now) (a .links .now) (a .count))) (a .list .now)) (tableOf (w .vars) (w .lows) (w .highs) (w .heads) (w .links) (w .n)) (w .list) (w .memo) (w .marks) (w .rounds) (w .inv .0)) (w .inv .11 ∙ r .1 .0 ∙ sym (w .inv .10)) (w .inv .1) (u-from-else1 c .u .given .0 .0 .positive) (u-from-else1 c .u .given .0 .0 .negative) (tableOf (z .last .0) (z .last .1 .0) (z .last .1 .1 .0) (z .last .1 .1 .1 .0) (z .last .1 .1 .1 .1 .0) (z .result .count)) (z .last .1 .1 .1 .1 .1 .1 .0)
+      quiet-next (tableOf (w .vars) (w .lows) (w .highs) (w .heads) (w .links) (w .n)) (w .list) (w .memo) (w .words) (going-ready (tableOf (a .vars .now) (a .lows .now) (a .highs .now) (a .heads .now) (a .links .now) (a .count)) (r .0 .0 .good) (diagramsOf (nodesOf (tableOf (a .vars .now) (a .lows .now) (a .highs .now) (a .heads .now) (a .links .now) (a .count))) (a .list .now)) (tableOf (w .vars) (w .lows) (w .highs) (w .heads) (w .links) (w .n)) (w .list) (w .memo) (w .marks) (w .rounds) (w .inv .0)) (w .inv .11 ∙ r .1 .0 ∙ sym (w .inv .10)) (w .inv .1) (u-from-else1 c .u .given .0 .0) (tableOf (z .last .0) (z .last .1 .0) (z .last .1 .1 .0) (z .last .1 .1 .1 .0) (z .last .1 .1 .1 .1 .0) (z .result .count)) (z .last .1 .1 .1 .1 .1 .1 .0)
           (subst (λ b. AllMade (tableOf (w .vars) (w .lows) (w .highs) (w .heads) (w .links) (w .n)) (results (Literals (u-from-else1 c .u .given .0 .0 .positive) (u-from-else1 c .u .given .0 .0 .negative)) (tableOf (w .vars) (w .lows) (w .highs) (w .heads) (w .links) (w .n)) (w .list) 1) b (tableOf (z .last .0) (z .last .1 .0) (z .last .1 .1 .0) (z .last .1 .1 .1 .0) (z .last .1 .1 .1 .1 .0) (z .result .count)) (z .last .1 .1 .1 .1 .1 .1 .0)) (c .if1 .left) (z .ensures .0)) (z .kept .1 .1 .1 .1 .1 .1 .0) (z .last .1 .1 .1 .1 .1 .1 .1 .0) (z .ensures .1 .1 (c .if1 .left)) (comes .1),
       z .kept .0 ∙ w .inv .3,
       z .kept .1 .0 ∙ w .inv .4,

@@ -11,8 +11,8 @@ use borrow.Fn.PlainCycle.{Measures, is, falls, and}
 use Rattle.table.specs.Nodes.{Node}
 use Rattle.walks.specs.Readable.{nodesIn}
 use Rattle.walks.proofs.Here.{Here, here}
-use Rattle.units.specs.Units.{struckTo, past, Struck, StrikeReady}
-use Rattle.units.proofs.Branches.{past-least, past-most}
+use Rattle.units.specs.Units.{OfVariables, struckTo, past, Struck, StrikeReady}
+use Rattle.units.proofs.Branches.{past-least, past-most, of-64}
 use Rattle.units.proofs.Struck.{struck-zero, struck-one, marked-less, marks-stored, sides-after, marked-here, struck-node, struck-marked, struck-none, marked-stored}
 use Rattle.units.proofs.strike.Reads as strike
 use Rattle.units.proofs.strike.Kinds as strike-kinds
@@ -40,6 +40,9 @@ module _ {t : ℕ} (s : strike-lts.Start (strike-callees t) (strike-at t) strike
 
   ready : StrikeReady (s .args .vars .now) (s .args .lows .now) (s .args .highs .now) (s .args .memo .now) (s .args .count) (s .args .f .0) (s .args .from) (s .args .stamp) (s .args .alive)
   ready = s .pre .1
+
+  narrow : OfVariables 64 nodes
+  narrow = of-64 (s .args .vars .now) (s .args .lows .now) (s .args .highs .now) (s .args .count) (ready .readable)
 
   measure : s .args .f .0 ≡ t
   measure = s .pre .0
@@ -170,13 +173,13 @@ module _ {t : ℕ} (a : strike-lts.After-strike-to2 (strike-callees t) (strike-a
   abbrev high : ℕ
   high = getD (begun .args .highs .now) (begun .args .f .0) 0
 
-  left-is : a .strike-to2 .result ≡ struckTo (begun .args .alive) (begun .args .from) (past v low) (past v high)
-  left-is = a .strike-to2 .ensures ∙ ap₂ (λ (p n : ℕ). struckTo (begun .args .alive) (begun .args .from) p n) (a .before .before .past .ensures) (a .before .past2 .ensures)
+  left-is : a .strike-to2 .result ≡ struckTo 64 (begun .args .alive) (begun .args .from) (past v low) (past v high)
+  left-is = a .strike-to2 .ensures ∙ ap₂ (λ (p n : ℕ). struckTo 64 (begun .args .alive) (begun .args .from) p n) (a .before .before .past .ensures) (a .before .past2 .ensures)
 
 strike-returns : (t : ℕ) → strike-lts.Need-returns (strike-callees t) (strike-at t) strike.Post
 strike-returns t c =
     let s = start-from-then1 c in
-    (subst (λ (k : ℕ). Struck (nodes s) k (s .args .from) (s .args .alive) (s .args .alive)) (sym (c .if1 .taken)) (struck-zero (nodes s) (s .args .from) (s .args .alive)), (ready s .right, ready s .marks))
+    (subst (λ (k : ℕ). Struck 64 (nodes s) k (s .args .from) (s .args .alive) (s .args .alive)) (sym (c .if1 .taken)) (struck-zero 64 (nodes s) (s .args .from) (s .args .alive)), (ready s .right, ready s .marks))
 
 strike-strike-to-requires : (t : ℕ) → strike-lts.Need-strike-to-requires (strike-callees t) (strike-at t) strike.Post
 strike-strike-to-requires t c κs =
@@ -187,8 +190,8 @@ strike-returns-2 : (t : ℕ) → strike-lts.Need-returns-2 (strike-callees t) (s
 strike-returns-2 t c =
     let s = start-from-return-2 c in
     let k = c .strike-to in
-    let is : Struck (nodes s) 1 (s .args .from) (s .args .alive) (k .result) = struck-one (nodes s) (s .args .from) (s .args .alive) (k .result) (ready s .least) (ready s .most) (k .ensures) in
-    (subst (λ (j : ℕ). Struck (nodes s) j (s .args .from) (s .args .alive) (k .result)) (sym (c .before .if2 .taken)) is, (marked-less (nodes s) (s .args .memo .now) (s .args .stamp) 1 (s .args .from) (s .args .alive) (k .result) is (ready s .right), ready s .marks))
+    let is : Struck 64 (nodes s) 1 (s .args .from) (s .args .alive) (k .result) = struck-one 64 (nodes s) (s .args .from) (s .args .alive) (k .result) (ready s .least) (k .ensures) in
+    (subst (λ (j : ℕ). Struck 64 (nodes s) j (s .args .from) (s .args .alive) (k .result)) (sym (c .before .if2 .taken)) is, (marked-less 64 (nodes s) (s .args .memo .now) (s .args .stamp) 1 (s .args .from) (s .args .alive) (k .result) is (ready s .right), ready s .marks))
 
 strike-cast-i : (t : ℕ) → strike-lts.Need-cast-i (strike-callees t) (strike-at t) strike.Post
 strike-cast-i t c =
@@ -237,7 +240,7 @@ strike-returns-3 : (t : ℕ) → strike-lts.Need-returns-3 (strike-callees t) (s
 strike-returns-3 t c =
     let s = start-from-then3 c in
     let a = c .before .before in
-    (struck-none (s .args .vars .now) (s .args .lows .now) (s .args .highs .now) (s .args .count) (ready s .readable) (s .args .f .0) (two (here-else a)) (ready s .inside) (s .args .from) (s .args .alive) (a .strike-to2 .result) (ready s .least) (ready s .most) (ready s .reached (two (here-else a))) (left-is a) (c .if3 .taken), (marked-here (s .args .vars .now) (s .args .lows .now) (s .args .highs .now) (s .args .count) (ready s .readable) (s .args .f .0) (two (here-else a)) (ready s .inside) (s .args .from) (s .args .alive) (a .strike-to2 .result) (ready s .least) (ready s .most) (ready s .reached (two (here-else a))) (left-is a) (s .args .memo .now) (s .args .stamp) (ready s .right), ready s .marks))
+    (struck-none 64 (s .args .vars .now) (s .args .lows .now) (s .args .highs .now) (s .args .count) (ready s .readable) (narrow s) (s .args .f .0) (two (here-else a)) (ready s .inside) (s .args .from) (s .args .alive) (a .strike-to2 .result) (ready s .least) (ready s .reached (two (here-else a))) (left-is a) (c .if3 .taken), (marked-here 64 (s .args .vars .now) (s .args .lows .now) (s .args .highs .now) (s .args .count) (ready s .readable) (narrow s) (s .args .f .0) (two (here-else a)) (ready s .inside) (s .args .from) (s .args .alive) (a .strike-to2 .result) (ready s .least) (ready s .reached (two (here-else a))) (left-is a) (s .args .memo .now) (s .args .stamp) (ready s .right), ready s .marks))
 
 strike-mul-if4 : (t : ℕ) → strike-lts.Need-mul-if4 (strike-callees t) (strike-at t) strike.Post
 strike-mul-if4 t c =
@@ -251,7 +254,7 @@ strike-returns-4 : (t : ℕ) → strike-lts.Need-returns-4 (strike-callees t) (s
 strike-returns-4 t c =
     let s = start-from-then4 c in
     let a = strike-to2-from-then4 c in
-    (struck-marked (s .args .vars .now) (s .args .lows .now) (s .args .highs .now) (s .args .count) (ready s .readable) (s .args .f .0) (two (here-else a)) (ready s .inside) (s .args .from) (s .args .alive) (a .strike-to2 .result) (ready s .least) (ready s .most) (ready s .reached (two (here-else a))) (left-is a) (s .args .memo .now) (s .args .stamp) (ready s .right) (c .if4 .taken), (marked-here (s .args .vars .now) (s .args .lows .now) (s .args .highs .now) (s .args .count) (ready s .readable) (s .args .f .0) (two (here-else a)) (ready s .inside) (s .args .from) (s .args .alive) (a .strike-to2 .result) (ready s .least) (ready s .most) (ready s .reached (two (here-else a))) (left-is a) (s .args .memo .now) (s .args .stamp) (ready s .right), ready s .marks))
+    (struck-marked 64 (s .args .vars .now) (s .args .lows .now) (s .args .highs .now) (s .args .count) (ready s .readable) (narrow s) (s .args .f .0) (two (here-else a)) (ready s .inside) (s .args .from) (s .args .alive) (a .strike-to2 .result) (ready s .least) (ready s .reached (two (here-else a))) (left-is a) (s .args .memo .now) (s .args .stamp) (ready s .right) (c .if4 .taken), (marked-here 64 (s .args .vars .now) (s .args .lows .now) (s .args .highs .now) (s .args .count) (ready s .readable) (narrow s) (s .args .f .0) (two (here-else a)) (ready s .inside) (s .args .from) (s .args .alive) (a .strike-to2 .result) (ready s .least) (ready s .reached (two (here-else a))) (left-is a) (s .args .memo .now) (s .args .stamp) (ready s .right), ready s .marks))
 
 strike-add-strike : (t : ℕ) → strike-lts.Need-add-strike (strike-callees t) (strike-at t) strike.Post
 strike-add-strike t c =
@@ -269,8 +272,8 @@ strike-strike-requires t c κs =
         room = ready s .room;
         least = omega arith;
         most = omega (arith, H .most);
-        reached = sides-after (s .args .vars .now) (s .args .lows .now) (s .args .highs .now) (s .args .count) (ready s .readable) (s .args .f .0) (two (here-else a)) (ready s .inside) .0;
-        right = marked-here (s .args .vars .now) (s .args .lows .now) (s .args .highs .now) (s .args .count) (ready s .readable) (s .args .f .0) (two (here-else a)) (ready s .inside) (s .args .from) (s .args .alive) (a .strike-to2 .result) (ready s .least) (ready s .most) (ready s .reached (two (here-else a))) (left-is a) (s .args .memo .now) (s .args .stamp) (ready s .right);
+        reached = sides-after 64 (s .args .vars .now) (s .args .lows .now) (s .args .highs .now) (s .args .count) (ready s .readable) (narrow s) (s .args .f .0) (two (here-else a)) (ready s .inside) .0;
+        right = marked-here 64 (s .args .vars .now) (s .args .lows .now) (s .args .highs .now) (s .args .count) (ready s .readable) (narrow s) (s .args .f .0) (two (here-else a)) (ready s .inside) (s .args .from) (s .args .alive) (a .strike-to2 .result) (ready s .least) (ready s .reached (two (here-else a))) (left-is a) (s .args .memo .now) (s .args .stamp) (ready s .right);
         marks = ready s .marks;
       },
     )
@@ -292,7 +295,7 @@ strike-strike-requires-2 t c κs =
         room = omega (arith, ready s .room, k .kept .1 .1 .1 .0);
         least = omega arith;
         most = omega (arith, H .most);
-        reached = sides-after (s .args .vars .now) (s .args .lows .now) (s .args .highs .now) (s .args .count) (ready s .readable) (s .args .f .0) (two (here-else a)) (ready s .inside) .1;
+        reached = sides-after 64 (s .args .vars .now) (s .args .lows .now) (s .args .highs .now) (s .args .count) (ready s .readable) (narrow s) (s .args .f .0) (two (here-else a)) (ready s .inside) .1;
         right = k .ensures .1 .0;
         marks = k .ensures .1 .1;
       },
@@ -317,10 +320,10 @@ strike-returns-5 t c =
     let k₁ = strike-from-return-5 c .strike in
     let k₂ = c .before .before .strike2 in
     let room : s .args .f .0 < length (k₂ .last .1 .1 .1 .0) = omega (arith, cell-inside s, k₁ .kept .1 .1 .1 .0, k₂ .kept .1 .1 .1 .0) in
-    let is : Struck (nodes s) (s .args .f .0) (s .args .from) (s .args .alive) (k₂ .result) = struck-node (s .args .vars .now) (s .args .lows .now) (s .args .highs .now) (s .args .count) (ready s .readable) (s .args .f .0) (two (here-else a)) (ready s .inside) (s .args .from) (s .args .alive) (a .strike-to2 .result) (ready s .least) (ready s .most) (ready s .reached (two (here-else a))) (left-is a) (k₁ .result) (k₂ .result) (k₁ .ensures .0) (k₂ .ensures .0) in (
+    let is : Struck 64 (nodes s) (s .args .f .0) (s .args .from) (s .args .alive) (k₂ .result) = struck-node 64 (s .args .vars .now) (s .args .lows .now) (s .args .highs .now) (s .args .count) (ready s .readable) (narrow s) (s .args .f .0) (two (here-else a)) (ready s .inside) (s .args .from) (s .args .alive) (a .strike-to2 .result) (ready s .least) (ready s .reached (two (here-else a))) (left-is a) (k₁ .result) (k₂ .result) (k₁ .ensures .0) (k₂ .ensures .0) in (
       is,
       (
-        marked-stored (s .args .vars .now) (s .args .lows .now) (s .args .highs .now) (s .args .count) (ready s .readable) (s .args .f .0) (two (here-else a)) (ready s .inside) (s .args .from) (s .args .alive) (k₂ .result) (k₂ .last .1 .1 .1 .0) (s .args .stamp) (ready s .reached (two (here-else a))) room is (k₂ .ensures .1 .0),
+        marked-stored 64 (s .args .vars .now) (s .args .lows .now) (s .args .highs .now) (s .args .count) (ready s .readable) (narrow s) (s .args .f .0) (two (here-else a)) (ready s .inside) (s .args .from) (s .args .alive) (k₂ .result) (k₂ .last .1 .1 .1 .0) (s .args .stamp) (ready s .reached (two (here-else a))) room is (k₂ .ensures .1 .0),
         marks-stored (k₂ .last .1 .1 .1 .0) (s .args .count) (s .args .f .0) (s .args .stamp) room (k₂ .ensures .1 .1),
       ),
     )

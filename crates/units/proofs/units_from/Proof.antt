@@ -21,7 +21,7 @@ strike-requires c κs =
       least = omega arith;
       most = omega arith;
       reached = λ two. here (a .vars .now) (a .lows .now) (a .highs .now) (a .count) (s .pre .0) (a .f .0) two (s .pre .1) .least;
-      right = marked-new (nodesIn (a .vars .now) (a .lows .now) (a .highs .now) (a .count)) (a .memo .now) (a .stamp) _
+      right = marked-new 64 (nodesIn (a .vars .now) (a .lows .now) (a .highs .now) (a .count)) (a .memo .now) (a .stamp) _
           (subst (λ (m : ℕ). MarksBelow m (a .memo .now) (a .stamp)) (sym (length-in (a .vars .now) (a .lows .now) (a .highs .now) (a .count) (s .pre .0))) (s .pre .3));
       marks = λ i p. omega (arith, s .pre .3 i p);
     }
@@ -31,7 +31,7 @@ same-length c = search needs
 
 returns : tie.Need-returns
 returns c =
-    let k = c .before .before .strike in (struck-all _ _ (k .result) (k .ensures .0), k .ensures .1 .1)
+    let k = c .before .before .strike in (struck-all 64 _ _ (k .result) (k .ensures .0), k .ensures .1 .1)
 
 pub units-from-spec : {M : Type 1} → statement M
 units-from-spec = tie.close (tie.spec strike-requires same-length returns)

@@ -3,13 +3,13 @@ use mathlib.Core.Path.{_≡_, sym, ap}
 use Prim.Native.Nat.{ℕ, _-_, _*_, _%_, _^_, _<_}
 use native.Mathlib.Omega.{arith}
 use lib.Pow.{pow-pos}
-use Rattle.units.specs.Units.{belowWord}
+use Rattle.words.specs.Sets.{belowWord}
 use Rattle.meaning.proofs.Words.{one-shifted}
 use borrow.Author.Needs.{needs}
-use Rattle.units.proofs.below.Statement.{statement}
-use Rattle.units.proofs.below.Tie as tie
-use Rattle.units.proofs.below.Reads as reads
-use Rattle.units.proofs.below.Lts as lts
+use Rattle.words.proofs.below.Statement.{statement}
+use Rattle.words.proofs.below.Tie as tie
+use Rattle.words.proofs.below.Reads as reads
+use Rattle.words.proofs.below.Lts as lts
 
 shifted : (c : lts.Else1 reads.Pre reads.Post) → 1 * 2 ^ (c .before .args .v - 1) % 18446744073709551616 ≡ 2 ^ (c .before .args .v - 1)
 shifted c = one-shifted (c .before .args .v) (c .before .pre .0) (omega (arith, c .before .pre .1, c .if1 .left))

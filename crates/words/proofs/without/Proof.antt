@@ -2,10 +2,10 @@
 use mathlib.Core.Path.{ap₂}
 use Prim.Native.Nat.{ℕ, _-_}
 use lib.Bits.{bitAnd, bitOr}
-use Rattle.units.specs.Units.{without}
+use Rattle.words.specs.Sets.{without}
 use borrow.Author.Needs.{needs}
-use Rattle.units.proofs.without.Statement.{statement}
-use Rattle.units.proofs.without.Tie as tie
+use Rattle.words.proofs.without.Statement.{statement}
+use Rattle.words.proofs.without.Tie as tie
 
 below-requires : tie.Need-below-requires
 below-requires c κs = search needs
