@@ -134,9 +134,9 @@ cablesalak_checked cablesalak_check(
 /* ---- The program's line.
  *
  * What bin/refute prints of two files, with a table of 4,096 places of its own: `number place lines rounds` and LF at the start of
- * `line`; the places behind it stay as they are. `first` and `second` tell whether formula and proof could be read (25 where not); a text
+ * `line`; the places behind it stay as they are. `formula_read` and `proof_read` tell whether the files could be read (25 where not); a text
  * of over 65,536 bytes gives 24, so that of a longer file the first 65,537 bytes are enough. The status is 0 for number 0 alone, 2 for 24
- * and 25, 1 for every other number. Takes about 1.3 MiB of stack. */
+ * and 25, 1 for every other number. Takes less than 1.25 MiB of stack. */
 #define CABLESALAK_LINE 84
 
 typedef struct {
@@ -145,8 +145,8 @@ typedef struct {
 } cablesalak_told;
 
 cablesalak_told cablesalak_report(
-    bool first, const uint8_t *formula, size_t formula_length,
-    bool second, const uint8_t *proof, size_t proof_length,
+    bool formula_read, const uint8_t *formula, size_t formula_length,
+    bool proof_read, const uint8_t *proof, size_t proof_length,
     uint8_t line[CABLESALAK_LINE]);
 
 /* ---- The table as one list of records. These two are in target/staticlib/libnodes.a (`rt staticlib nodes`), which can be linked

@@ -1,18 +1,13 @@
-/* refute FORMULA PROOF: checks a proof of a formula. Prints number, place, accepted lines and rounds, then the number's meaning.
- * Ends with status 0 only where the number is 0: no assignment satisfies the formula. */
+/* refute FORMULA PROOF: prints the proved library's line on two files, `number place lines rounds`, and ends with its status: 0 refuted (number
+ * 0), 1 refused, 2 a file was not taken; 3 where the line could not be written. A refusal's meaning goes to standard error. The line's bytes
+ * and the status are cablesalak_report's, whose contract settles both; here are the two reads and the write. */
 #include "cablesalak.h"
-#include <inttypes.h>
 #include <stdio.h>
+#include <stdlib.h>
 
-#define PLACES 4096
 #define LONGEST 65536
 
-/* The places that the check works on. Static, so that they take no stack; what they hold before does not matter. */
-static uint8_t vars[PLACES];
-static uint16_t lows[PLACES], highs[PLACES];
-static uint16_t members[CABLESALAK_LEAST_MEMBERS], scratch[CABLESALAK_LEAST_SCRATCH];
-
-/* A file's bytes, with room for one more than it may have. */
+/* A file's bytes, with room for one more than it may have, so that a file that is too long is seen. Static, so that they take no stack. */
 typedef struct {
     uint8_t bytes[LONGEST + 1];
     size_t length;
@@ -20,39 +15,31 @@ typedef struct {
 
 static text formula, proof;
 
-/* 0, or why the file cannot be had. */
-static uint8_t read_text(const char *name, text *into)
+/* Whether the file could be read. */
+static bool read_text(const char *name, text *into)
 {
     FILE *file = name ? fopen(name, "rb") : NULL;
     if (!file)
-        return CABLESALAK_FILE_UNREADABLE;
+        return false;
     into->length = fread(into->bytes, 1, sizeof into->bytes, file);
     bool failed = ferror(file);
     fclose(file);
-    if (failed)
-        return CABLESALAK_FILE_UNREADABLE;
-    return into->length > LONGEST ? CABLESALAK_FILE_TOO_LONG : 0;
-}
-
-/* Both files are read before the check, the formula first. */
-static cablesalak_checked refute(const char *formula_name, const char *proof_name)
-{
-    uint8_t number = read_text(formula_name, &formula);
-    if (number == 0)
-        number = read_text(proof_name, &proof);
-    if (number != 0) {
-        cablesalak_checked unread = {number, number == CABLESALAK_FILE_TOO_LONG ? LONGEST : 0, 0, 0, 0};
-        return unread;
-    }
-    return cablesalak_check(vars, PLACES, lows, PLACES, highs, PLACES, 0,
-                            members, CABLESALAK_LEAST_MEMBERS, scratch, CABLESALAK_LEAST_SCRATCH,
-                            formula.bytes, formula.length, proof.bytes, proof.length);
+    return !failed;
 }
 
 int main(int argc, char **argv)
 {
-    cablesalak_checked said = refute(argc > 1 ? argv[1] : NULL, argc > 2 ? argv[2] : NULL);
-    printf("%u %zu %zu %" PRIu64 "\n", said.number, said.place, said.lines, said.rounds);
-    puts(cablesalak_meaning(said.number));
-    return said.number == CABLESALAK_REFUTED ? 0 : 1;
+    if (argc > 3) {
+        fputs("refute FORMULA PROOF\n", stderr);
+        return 2;
+    }
+    bool formula_read = read_text(argc > 1 ? argv[1] : NULL, &formula);
+    bool proof_read = read_text(argc > 2 ? argv[2] : NULL, &proof);
+    uint8_t line[CABLESALAK_LINE];
+    cablesalak_told told = cablesalak_report(formula_read, formula.bytes, formula.length, proof_read, proof.bytes, proof.length, line);
+    if (fwrite(line, 1, told.length, stdout) != told.length || fflush(stdout) != 0)
+        return 3;
+    if (told.status != 0)
+        fprintf(stderr, "refused: %s\n", cablesalak_meaning((unsigned)strtoul((const char *)line, NULL, 10)));
+    return told.status;
 }

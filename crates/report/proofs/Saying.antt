@@ -5,8 +5,8 @@ use mathlib.Core.List.{List, [], _∷_}
 use Prim.Native.Nat.{ℕ, zero, suc, _+_, _≤_, _<_}
 use native.Mathlib.Omega.{arith}
 use lib.ListN.{length, replicate}
-use lib.Dec.{ltb, leb, eqb}
-use borrow.Author.Tests.{lt-ltb, le-ltb, le-leb, lt-leb, eq-eqb, ne-eqb, eqb-true}
+use lib.Dec.{ltb, eqb}
+use borrow.Author.Tests.{lt-ltb, le-ltb, eq-eqb, ne-eqb, eqb-true}
 use Rattle.meaning.specs.Diagram.{Assignment}
 use Rattle.table.specs.Columns.{sizeFits}
 use Rattle.dimacs.specs.Clauses as dimacs
@@ -70,18 +70,23 @@ said-refuted f p formula proof e =
 pub status-0 : (n : ℕ) → n ≡ 0 → 0 ≡ statusOf n
 status-0 n e = rw (eq-eqb n 0 e)
 
-pub status-2 : (n : ℕ) → (n ≡ 0 → ⊥) → 24 ≤ n → 2 ≡ statusOf n
-status-2 n d h = rw (ne-eqb n 0 d, le-leb 24 n h)
-
 pub status-1 : (n : ℕ) → (n ≡ 0 → ⊥) → n < 24 → 1 ≡ statusOf n
-status-1 n d h = rw (ne-eqb n 0 d, lt-leb 24 n h)
+status-1 n d h = rw (ne-eqb n 0 d, lt-ltb n 24 h)
+
+pub status-2 : (n : ℕ) → (n ≡ 0 → ⊥) → 24 ≤ n → n < 26 → 2 ≡ statusOf n
+status-2 n d h i = rw (ne-eqb n 0 d, le-ltb n 24 h, lt-ltb n 26 i)
+
+pub status-later : (n : ℕ) → (n ≡ 0 → ⊥) → 24 ≤ n → 26 ≤ n → 1 ≡ statusOf n
+status-later n d h i = rw (ne-eqb n 0 d, le-ltb n 24 h, le-ltb n 26 i)
 
 status-zero : (n : ℕ) → statusOf n ≡ 0 → n ≡ 0
 status-zero n e =
     by (eqb n 0) (λ t. eqb-true n 0 t)
-    (λ u. absurd (by (leb 24 n)
-    (λ v. let z : _≡_ {A = ℕ} 2 0 = sym (rw (u, v)) ∙ e in omega arith)
-    (λ v. let z : _≡_ {A = ℕ} 1 0 = sym (rw (u, v)) ∙ e in omega arith)))
+    (λ u. absurd (by (ltb n 24)
+    (λ v. let z : _≡_ {A = ℕ} 1 0 = sym (rw (u, v)) ∙ e in omega arith)
+    (λ v. by (ltb n 26)
+    (λ w. let z : _≡_ {A = ℕ} 2 0 = sym (rw (u, v, w)) ∙ e in omega arith)
+    (λ w. let z : _≡_ {A = ℕ} 1 0 = sym (rw (u, v, w)) ∙ e in omega arith))))
 
 -- So is the status 0.
 pub status-refuted : (f p : Bool) (formula proof : List ℕ) → statusOf (said f formula p proof .number) ≡ 0

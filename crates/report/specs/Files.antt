@@ -3,7 +3,7 @@ use mathlib.Core.Bool.{Bool, cond, not}
 use mathlib.Core.List.{List}
 use Prim.Native.Nat.{ℕ}
 use lib.ListN.{length}
-use lib.Dec.{eqb, leb, ltb}
+use lib.Dec.{eqb, ltb}
 use Rattle.verdict.specs.Check.{Verdict, verdict}
 use Rattle.report.specs.declared.Line.{Line}
 
@@ -26,6 +26,6 @@ said isFormula formula isProof proof =
     let second = ofFile isProof proof checked in
     ofFile isFormula formula second
 
--- The status of a number: 0 for refuted alone, 2 where a file was not taken, 1 for every other refusal.
+-- The status of a number: 0 for refuted alone, 2 where a file was not taken (24 and 25), 1 for every other refusal.
 abbrev pub statusOf : ℕ → ℕ
-statusOf number = cond (eqb number 0) 0 (cond (leb 24 number) 2 1)
+statusOf number = cond (eqb number 0) 0 (cond (ltb number 24) 1 (cond (ltb number 26) 2 1))

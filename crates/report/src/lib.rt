@@ -1,4 +1,5 @@
-// What the program says: the verdict on two files, its line of bytes and the status to end with.
+// What the program says: the verdict on two files, its line of bytes and the status to end with. The program (`refute`), the exported call
+// and the hosts over it share this, so that the line and the status are proved once and nobody formats or maps them again.
 mod put;
 
 pub use put::put_line;
@@ -6,7 +7,7 @@ ghost use mathlib.Core.Path.{_≡_};
 ghost use lib.ListN.{take, drop};
 ghost use Rattle.io.specs.Counts.{Counts};
 ghost use Rattle.verdict.specs.Check.{verdict};
-ghost use Rattle.report.specs.Files.{said, ofVerdict, statusOf};
+ghost use Rattle.report.specs.Files.{said, fileRefused, ofVerdict, statusOf};
 ghost use Rattle.report.specs.Line.{lineBytes};
 
 // 01's number and its place, the accepted lines and their rounds.
@@ -51,41 +52,34 @@ pub fn check<'a>(formula: &'a [u8], proof: &'a [u8]) -> Line
     }
 }
 
-// The verdict on two files: 25 and 24 of the formula, then of the proof, then the check's.
-pub fn judge<'a>(first: bool, formula: &'a [u8], second: bool, proof: &'a [u8]) -> Line
+// The line of a file that was not taken.
+fn refused(number: u8, place: usize) -> Line
+    ensures { λ r. ⌜ r ≡ fileRefused number place ⌝ }
+{
+    Line {
+        number,
+        place,
+        lines: 0,
+        rounds: 0,
+    }
+}
+
+// The line on two files: 25 and 24 of the formula, then of the proof, then the check's. `first` and `second` tell whether the formula and the
+// proof could be read.
+pub fn line_on<'a>(first: bool, formula: &'a [u8], second: bool, proof: &'a [u8]) -> Line
     ensures { λ r. ⌜ r ≡ said first (now (formula .entry)) second (now (proof .entry)) ⌝ }
 {
     if !first {
-        return Line {
-            number: 25,
-            place: 0,
-            lines: 0,
-            rounds: 0,
-        };
+        return refused(25, 0);
     }
     if formula.len() > 65536 {
-        return Line {
-            number: 24,
-            place: 65536,
-            lines: 0,
-            rounds: 0,
-        };
+        return refused(24, 65536);
     }
     if !second {
-        return Line {
-            number: 25,
-            place: 0,
-            lines: 0,
-            rounds: 0,
-        };
+        return refused(25, 0);
     }
     if proof.len() > 65536 {
-        return Line {
-            number: 24,
-            place: 65536,
-            lines: 0,
-            rounds: 0,
-        };
+        return refused(24, 65536);
     }
     check(formula, proof)
 }
@@ -97,7 +91,10 @@ pub fn status_of(number: u8) -> u8
     if number == 0 {
         return 0;
     }
-    if number >= 24 {
+    if number < 24 {
+        return 1;
+    }
+    if number < 26 {
         return 2;
     }
     1
@@ -116,8 +113,8 @@ pub fn report<'a>(
     ensures { λ r. ⌜ r .status ≡ statusOf (said first (now (formula .entry)) second (now (proof .entry)) .number) ⌝ }
     ensures { λ r. ⌜ Counts (r .length) (now (line .exit)) ⌝ }
 {
-    let line_told = judge(first, formula, second, proof);
-    let status = status_of(line_told.number);
-    let length = put_line(line_told, line);
+    let told = line_on(first, formula, second, proof);
+    let status = status_of(told.number);
+    let length = put_line(told, line);
     Told { length, status }
 }

@@ -1,60 +1,42 @@
-//! `refute FORMULA PROOF`: checks a proof of a formula. Prints number, place, accepted lines and rounds, then the number's meaning.
-//! Ends with status 0 only where the number is 0: no assignment satisfies the formula.
+//! `refute FORMULA PROOF`: prints the proved library's line on two files, `number place lines rounds`, and ends with its status: 0 refuted
+//! (number 0), 1 refused, 2 a file was not taken; 3 where the line could not be written. A refusal's meaning goes to standard error.
 
-use cablesalak::{check, Number, Verdict, Workspace};
+use cablesalak::{report, LONGEST};
 use std::env;
-use std::ffi::OsString;
+use std::ffi::OsStr;
 use std::fs::File;
-use std::io::Read;
+use std::io::{self, Read, Write};
 use std::process::ExitCode;
 
-const PLACES: usize = 4_096;
-const LONGEST: usize = 65_536;
-
-/// A file's bytes, or why they cannot be had. One byte more than a file may have tells that it is too long.
-fn read(name: Option<OsString>) -> Result<Vec<u8>, Number> {
-    let file =
-        File::open(name.ok_or(Number::FileUnreadable)?).map_err(|_| Number::FileUnreadable)?;
+/// A file's bytes, or nothing where it cannot be read. One byte more than a file may have tells that it is too long.
+fn read(name: &OsStr) -> Option<Vec<u8>> {
     let mut bytes = Vec::new();
-    file.take(LONGEST as u64 + 1)
-        .read_to_end(&mut bytes)
-        .map_err(|_| Number::FileUnreadable)?;
-    if bytes.len() > LONGEST {
-        return Err(Number::FileTooLong);
-    }
-    Ok(bytes)
-}
-
-/// Both files are read before the check, the formula first.
-fn refute(formula: Option<OsString>, proof: Option<OsString>) -> Result<Verdict, Number> {
-    let (formula, proof) = (read(formula)?, read(proof)?);
-    let mut workspace = Workspace::new(PLACES)?;
-    Ok(check(&mut workspace, &formula, &proof))
-}
-
-/// What is said of files that could not be read.
-fn unread(number: Number) -> Verdict {
-    let place = if number == Number::FileTooLong {
-        LONGEST
-    } else {
-        0
-    };
-    Verdict {
-        number,
-        place,
-        lines: 0,
-        rounds: 0,
-        count: 0,
-    }
+    let file = File::open(name).ok()?;
+    file.take(LONGEST as u64 + 1).read_to_end(&mut bytes).ok()?;
+    Some(bytes)
 }
 
 fn main() -> ExitCode {
-    let mut names = env::args_os().skip(1);
-    let verdict = refute(names.next(), names.next()).unwrap_or_else(unread);
-    println!("{verdict}\n{}", verdict.number);
-    if verdict.refuted() {
-        ExitCode::SUCCESS
-    } else {
-        ExitCode::FAILURE
+    let names: Vec<_> = env::args_os().skip(1).collect();
+    if names.len() > 2 {
+        eprintln!("refute FORMULA PROOF");
+        return ExitCode::from(2);
     }
+    // A name not given is a file that cannot be read. The formula is read first.
+    let formula = names.first().and_then(|name| read(name));
+    let proof = names.get(1).and_then(|name| read(name));
+    let said = report(formula.as_deref(), proof.as_deref());
+    let mut out = io::stdout();
+    if out
+        .write_all(said.line().as_bytes())
+        .and_then(|()| out.flush())
+        .is_err()
+    {
+        return ExitCode::from(3);
+    }
+    if said.status() != 0 {
+        // Words only: the line is out, so that they may fail.
+        let _ = writeln!(io::stderr(), "refused: {}", said.number());
+    }
+    ExitCode::from(said.status())
 }

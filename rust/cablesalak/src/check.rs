@@ -1,6 +1,6 @@
 //! The check of a formula and a proof.
 
-use crate::{raw, NodeNo, Number, Table, TableMut};
+use crate::{raw, NodeNo, Number, Table, TableMut, Text};
 use std::fmt;
 
 /// The least length of the member list.
@@ -10,6 +10,7 @@ pub const SCRATCH: usize = 4_096;
 
 /// What a check says. Written out with `{}` it is the program's line: number, place, lines, rounds.
 #[derive(Clone, Copy, Debug, PartialEq, Eq)]
+#[non_exhaustive]
 pub struct Verdict {
     /// Refuted, or why not.
     pub number: Number,
@@ -42,13 +43,20 @@ impl fmt::Display for Verdict {
 pub struct Workspace {
     table: Table,
     members: Vec<u16>,
+    /// How many of them the last check left: one for each clause and for each accepted line.
+    member_count: usize,
     scratch: Vec<u16>,
 }
 
 impl Workspace {
     /// A workspace whose table has so many places; 7 where they are not 2 to 65,536. The program has 4,096.
     pub fn new(size: usize) -> Result<Workspace, Number> {
-        Ok(Workspace { table: Table::new(size)?, members: vec![0; MEMBERS], scratch: vec![0; SCRATCH] })
+        Ok(Workspace {
+            table: Table::new(size)?,
+            members: vec![0; MEMBERS],
+            member_count: 0,
+            scratch: vec![0; SCRATCH],
+        })
     }
 
     /// The table as the last check left it: the nodes of the clauses and of the accepted lines, or the constants alone where
@@ -62,23 +70,41 @@ impl Workspace {
         &mut self.table
     }
 
-    /// The member of this place as the last check left it: the clauses in their order, then the accepted lines. The places
-    /// above them, and all where the formula was refused, hold 0.
+    /// The members as the last check left them: the clauses in their order, then the accepted lines. There are none where the formula was
+    /// refused.
+    pub fn members(&self) -> impl ExactSizeIterator<Item = NodeNo> + '_ {
+        self.members[..self.member_count].iter().copied().map(NodeNo)
+    }
+
+    /// The member of this place; `None` where there is none. A member that is the diagram 0 is `Some(NodeNo::ZERO)`.
     pub fn member(&self, place: usize) -> Option<NodeNo> {
-        self.members.get(place).copied().map(NodeNo)
+        self.members().nth(place)
     }
 }
 
 /// Checks a proof of a formula. Refuted: no assignment satisfies the formula, whatever the proof's bytes and whatever the
 /// workspace held before.
 pub fn check(workspace: &mut Workspace, formula: &[u8], proof: &[u8]) -> Verdict {
-    let Workspace { table, members, scratch } = workspace;
-    check_lent(&mut table.lend(), members, scratch, formula, proof)
+    let Workspace { table, members, member_count, scratch } = workspace;
+    let verdict = check_lent(&mut table.lend(), members, scratch, formula, proof);
+    *member_count = match verdict.number.text() {
+        Some(Text::Proof) => (clause_count(formula) + verdict.lines).min(members.len()),
+        _ => 0,
+    };
+    verdict
+}
+
+/// The header's number of clauses, in a formula that the check has read: the fourth word of the first line that is neither blank nor a comment.
+fn clause_count(formula: &[u8]) -> usize {
+    let mut lines = formula.split(|&byte| byte == b'\n').filter(|line| line.first() != Some(&b'c'));
+    let header = lines.find(|line| !line.trim_ascii().is_empty()).unwrap_or_default();
+    let clauses = std::str::from_utf8(header).ok().and_then(|words| words.split_ascii_whitespace().nth(3));
+    clauses.and_then(|word| word.parse().ok()).unwrap_or(0)
 }
 
 /// The same over lists of the caller's, whatever they hold. 7, and nothing is changed, where the member list has fewer than
 /// 2,048 places or the scratch list fewer than 4,096. Else the scratch list ends as zeros, and the table and the member
-/// list hold what [`Workspace`] tells.
+/// list hold what [`Workspace`] tells, the member list zeros above the members.
 pub fn check_lent(
     table: &mut TableMut<'_>,
     members: &mut [u16],

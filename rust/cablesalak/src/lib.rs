@@ -25,6 +25,21 @@
 //! # Ok::<(), Number>(())
 //! ```
 //!
+//! # A program
+//!
+//! [`report`] gives the line that `bin/refute` prints of two files, and the status to end with; both are proved.
+//!
+//! ```
+//! use cablesalak::report;
+//!
+//! let said = report(Some(b"p cnf 1 2\n1 0\n-1 0\n"), Some(b"\x52\0\0\x45"));
+//! assert_eq!((said.line(), said.status()), ("0 3 1 0\n", 0));
+//!
+//! // A proof that could not be read.
+//! let said = report(Some(b"p cnf 1 2\n1 0\n-1 0\n"), None);
+//! assert_eq!((said.line(), said.status()), ("25 0 0 0\n", 2));
+//! ```
+//!
 //! # Single calls
 //!
 //! A table holds diagrams; equal diagrams have equal node numbers.
@@ -58,6 +73,7 @@ mod lent;
 mod node;
 mod number;
 pub mod raw;
+mod report;
 mod table;
 mod view;
 
@@ -65,6 +81,7 @@ pub use check::{check, check_lent, Verdict, Workspace, MEMBERS, SCRATCH};
 pub use lent::{TableMut, PLACES};
 pub use node::{Node, NodeNo, Variables};
 pub use number::{NoSuchNumber, Number, Text};
+pub use report::{report, Report, LONGEST};
 pub use table::Table;
 
 /// The examples of the page for those who link the library are run with the others.

@@ -4,8 +4,10 @@ use std::error::Error;
 use std::fmt;
 
 /// What is said of a call, numbered and worded as in document 01. Written out with `{}` it is its meaning in words.
+/// Later versions of the library have more of them.
 #[derive(Clone, Copy, Debug, PartialEq, Eq, PartialOrd, Ord, Hash)]
 #[repr(u8)]
+#[non_exhaustive]
 pub enum Number {
     /// No assignment satisfies the formula. (Of a single call: not refused, which comes back as `Ok` here.)
     Refuted = 0,
@@ -13,7 +15,8 @@ pub enum Number {
     NoHeader = 1,
     /// The header names more than 64 variables or more than 1,024 clauses.
     HeaderTooLarge = 2,
-    /// A token behind the header is neither `0` nor an optional minus with digits that do not start with 0.
+    /// A token behind the header is neither `0` nor an optional minus with digits that do not start with 0. Lines whose first byte is `c` are
+    /// comments, wherever they stand, and have no tokens.
     NotANumber = 3,
     /// A literal's variable is greater than the header's number of variables.
     LiteralBeyondHeader = 4,
@@ -145,6 +148,14 @@ impl Error for Number {}
 /// There is no such number.
 #[derive(Clone, Copy, Debug, PartialEq, Eq)]
 pub struct NoSuchNumber(pub u8);
+
+impl fmt::Display for NoSuchNumber {
+    fn fmt(&self, out: &mut fmt::Formatter<'_>) -> fmt::Result {
+        write!(out, "there is no number {}", self.0)
+    }
+}
+
+impl Error for NoSuchNumber {}
 
 impl TryFrom<u8> for Number {
     type Error = NoSuchNumber;

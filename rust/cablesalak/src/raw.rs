@@ -35,6 +35,17 @@ pub struct Checked {
     pub count: usize,
 }
 
+/// How many bytes a line can have: see [`report`].
+pub const LINE: usize = 84;
+
+/// The answer of the report on two files.
+#[repr(C)]
+#[derive(Clone, Copy, Debug, PartialEq, Eq)]
+pub struct Told {
+    pub length: usize,
+    pub status: u8,
+}
+
 // The layout that the archive was compiled with; the C header asserts the same.
 const _: () = {
     assert!(size_of::<usize>() == 8);
@@ -42,12 +53,13 @@ const _: () = {
     assert!(size_of::<Single>() == 16 && offset_of!(Single, node) == 2 && offset_of!(Single, count) == 8);
     assert!(size_of::<Checked>() == 40 && offset_of!(Checked, place) == 8 && offset_of!(Checked, lines) == 16);
     assert!(offset_of!(Checked, rounds) == 24 && offset_of!(Checked, count) == 32);
+    assert!(size_of::<Told>() == 16 && offset_of!(Told, status) == 8);
 };
 
 /// The declarations. A slice is handed over as its address and its length, two arguments apart: a pair that did not fit into
 /// the registers left would lie elsewhere.
 mod archive {
-    use super::{Checked, Evaluated, Single};
+    use super::{Checked, Evaluated, Single, Told, LINE};
 
     extern "C" {
         pub fn cablesalak_evaluate(
@@ -127,6 +139,16 @@ mod archive {
             proof: *const u8,
             proof_length: usize,
         ) -> Checked;
+
+        pub fn cablesalak_report(
+            formula_read: bool,
+            formula: *const u8,
+            formula_length: usize,
+            proof_read: bool,
+            proof: *const u8,
+            proof_length: usize,
+            line: *mut [u8; LINE],
+        ) -> Told;
     }
 }
 
@@ -207,4 +229,21 @@ pub fn check(
         proof,
         proof_length
     )
+}
+
+/// The program's line on two files, put at the start of `line`, and the status to end with: 0 for refuted alone, 2 where a file was not taken,
+/// 1 for every other refusal.
+pub fn report(formula_read: bool, formula: &[u8], proof_read: bool, proof: &[u8], line: &mut [u8; LINE]) -> Told {
+    // SAFETY: the slices and the line are valid for their lengths, and the line, being `&mut`, overlaps neither; the call asks for nothing more.
+    unsafe {
+        archive::cablesalak_report(
+            formula_read,
+            formula.as_ptr(),
+            formula.len(),
+            proof_read,
+            proof.as_ptr(),
+            proof.len(),
+            line,
+        )
+    }
 }

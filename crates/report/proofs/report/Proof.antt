@@ -1,4 +1,5 @@
--- The verdict's line and status, by the callees' contracts. Assumes nothing.
+-- The line put and the status are those of what is said of the two files.
+-- By the callees' contracts alone. Assumes nothing.
 use mathlib.Core.Path.{ap, _∙_}
 use borrow.Author.Needs.{needs}
 use Rattle.report.specs.declared.Line.{Line}
@@ -7,8 +8,8 @@ use Rattle.report.specs.Files.{statusOf}
 use Rattle.report.proofs.report.Statement.{statement}
 use Rattle.report.proofs.report.Tie as tie
 
-judge-requires : tie.Need-judge-requires
-judge-requires c κs = search needs
+line-on-requires : tie.Need-line-on-requires
+line-on-requires c κs = search needs
 
 status-of-requires : tie.Need-status-of-requires
 status-of-requires c κs = search needs
@@ -18,13 +19,13 @@ put-line-requires c κs = search needs
 
 returns : tie.Need-returns
 returns c =
-    let after-judge = c .before .before .before in (
-      c .put-line .ensures .0 ∙ ap lineBytes (after-judge .judge .ensures),
+    let after-line = c .before .before .before in (
+      c .put-line .ensures .0 ∙ ap lineBytes (after-line .line-on .ensures),
       (
         c .put-line .ensures .1 .0,
-        (c .before .before .status-of .ensures ∙ ap (λ (l : Line). statusOf (l .number)) (after-judge .judge .ensures), c .put-line .ensures .1 .1),
+        (c .before .before .status-of .ensures ∙ ap (λ (l : Line). statusOf (l .number)) (after-line .line-on .ensures), c .put-line .ensures .1 .1),
       ),
     )
 
 pub report-spec : {M : Type 1} → statement M
-report-spec = tie.close (tie.spec judge-requires status-of-requires put-line-requires returns)
+report-spec = tie.close (tie.spec line-on-requires status-of-requires put-line-requires returns)

@@ -113,12 +113,34 @@ static void checks(void)
     EXPECT(vars[0] == 0xA5 && members[2047] == 0xA5A5 && scratch[0] == 0xA5A5);
 }
 
+/* The line at the start, what lies behind it as it was, and the status. */
+static bool tells(bool formula_read, bool proof_read, const uint8_t *lines, size_t length, const char *line, unsigned status)
+{
+    uint8_t put[CABLESALAK_LINE];
+    memset(put, 0xA5, sizeof put);
+    cablesalak_told told =
+        cablesalak_report(formula_read, (const uint8_t *)FORMULA, strlen(FORMULA), proof_read, lines, length, put);
+    bool behind = true;
+    for (size_t at = told.length; at < sizeof put; at++)
+        behind = behind && put[at] == 0xA5;
+    return behind && told.status == status && told.length == strlen(line) && memcmp(put, line, told.length) == 0;
+}
+
+static void reports(void)
+{
+    EXPECT(tells(true, true, proof, sizeof proof, "0 12 2 1\n", 0));
+    EXPECT(tells(true, true, proof + 9, 4, "19 0 0 0\n", 1));
+    EXPECT(tells(true, false, proof, sizeof proof, "25 0 0 0\n", 2));
+    EXPECT(tells(false, true, proof, sizeof proof, "25 0 0 0\n", 2));
+}
+
 int main(void)
 {
     evaluations();
     granted();
     refused();
     checks();
+    reports();
     for (unsigned number = 0; cablesalak_meaning(number) != 0; number++)
         printf("%u %s\n", number, cablesalak_meaning(number));
     return 0;

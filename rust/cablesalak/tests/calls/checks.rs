@@ -1,7 +1,7 @@
 //! Every number that a check gives: document 01's examples through the wrapper, over dirty lists.
 
 use crate::lent::Lists;
-use cablesalak::{check, NodeNo, Number, Text, Variables, Workspace, MEMBERS};
+use cablesalak::{check, report, NodeNo, Number, Text, Variables, Workspace};
 
 const A: &[u8] = b"p cnf 2 4\n1 2 0\n-1 2 0\n1 -2 0\n-1 -2 0\n";
 const A_PROOF: &[u8] = b"\x4E\x02\0\0\x01\0\x52\x02\0\x52\0\0\x45";
@@ -35,7 +35,17 @@ fn run(row: &Row, workspace: &mut Workspace) {
     if size == workspace.table().size() {
         assert_eq!(check(workspace, formula, proof), verdict);
         assert_eq!(workspace.table().count(), verdict.count);
-        assert!((0..MEMBERS).all(|at| workspace.member(at).unwrap().0 == lists.members[at]), "{number}");
+        assert!(
+            workspace.members().eq(lists.members[..clauses + verdict.lines].iter().copied().map(NodeNo)),
+            "{number}"
+        );
+        assert_eq!(workspace.member(clauses + verdict.lines), None);
+    }
+    // The program's table has 4,096 places.
+    if size == 4_096 {
+        let said = report(Some(formula), Some(proof));
+        assert_eq!((said.line(), said.number()), (format!("{verdict}\n").as_str(), number));
+        assert_eq!(said.status(), u8::from(!verdict.refuted()));
     }
 }
 
@@ -71,6 +81,46 @@ fn formulas() {
         (4_096, b"p cnf 1 1\n1\n", b"", (6, 10, 0, 0, 2), 0),
         (2, b"p cnf 1 1\n1 0\n", b"", (8, 10, 0, 0, 2), 0),
     ]);
+}
+
+/// Lines whose first byte is `c` are passed over anywhere; elsewhere `c` is a token.
+#[test]
+fn comments() {
+    run_all(&[
+        (4_096, b"c\np cnf 1 2\nc 1 0\n1\nc 0\n0\nc\n-1 0\nc", b"\x52\0\0\x45", (0, 3, 1, 0, 4), 2),
+        (4_096, b"p cnf 1 1\n c\n1 0\n", b"", (3, 11, 0, 0, 2), 0),
+        (4_096, b"p cnf 1 1\n1 0\n\rc\n", b"", (5, 15, 0, 0, 2), 0),
+        (4_096, b"p cnf 1 1\rc\n1 0\n", b"", (1, 0, 0, 0, 2), 0),
+    ]);
+}
+
+/// A member that is the diagram 0 is one; above the members there is none.
+#[test]
+fn zero_is_a_member() {
+    let mut workspace = Workspace::new(64).unwrap();
+    assert_eq!(workspace.member(0), None);
+    check(&mut workspace, b"c p cnf 9 9\n \t\r\np\tcnf 1  2 \r\n1 0 0\n", b"\x52\0\0\x45");
+    assert_eq!((workspace.member(1), workspace.member(2)), (Some(NodeNo::ZERO), Some(NodeNo::ZERO)));
+    assert_eq!((workspace.members().len(), workspace.member(3)), (3, None));
+    check(&mut workspace, b"p cnf 1 3\n1 0 0\n", b"\x45");
+    assert_eq!(workspace.members().len(), 0);
+}
+
+/// 24 and 25: the formula's before the proof's, and no check.
+#[test]
+fn files_not_taken() {
+    let (long, longest) = (vec![0; 65_537], vec![0; 65_536]);
+    for (formula, proof, line, status) in [
+        (None, Some(&long[..]), "25 0 0 0", 2),
+        (Some(&long[..]), None, "24 65536 0 0", 2),
+        (Some(A), None, "25 0 0 0", 2),
+        (Some(A), Some(&long[..]), "24 65536 0 0", 2),
+        (Some(&longest[..]), Some(&longest[..]), "1 0 0 0", 1),
+        (Some(A), Some(A_PROOF), "0 12 2 1", 0),
+    ] {
+        let said = report(formula, proof);
+        assert_eq!((said.to_string().as_str(), said.status()), (line, status));
+    }
 }
 
 #[test]

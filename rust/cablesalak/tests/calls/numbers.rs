@@ -1,6 +1,7 @@
 //! The numbers themselves.
 
 use cablesalak::{NoSuchNumber, Number, Text};
+use std::error::Error;
 
 #[test]
 fn each_has_its_code() {
@@ -22,4 +23,11 @@ fn each_has_its_text() {
         };
         assert_eq!(number.text(), text, "{number}");
     }
+}
+
+/// Both can be handed on with `?`, and say what they are.
+#[test]
+fn each_is_an_error() {
+    let errors: [Box<dyn Error>; 2] = [Box::new(Number::NotShown), Box::new(NoSuchNumber(200))];
+    assert_eq!(errors.map(|error| error.to_string()), ["not shown: no conflict", "there is no number 200"]);
 }

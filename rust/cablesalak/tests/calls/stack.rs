@@ -1,6 +1,6 @@
 //! A call fits a thread of 1.25 MiB, and threads may call at the same time.
 
-use cablesalak::{check, Node, NodeNo, Table, Variables, Workspace};
+use cablesalak::{check, report, Node, NodeNo, Table, Variables, Workspace};
 use std::thread;
 
 const FORMULA: &[u8] = b"p cnf 2 4\n1 2 0\n-1 2 0\n1 -2 0\n-1 -2 0\n";
@@ -17,6 +17,7 @@ fn calls() {
     assert_eq!(table.cofactor_literals(odd, Variables::NONE, Variables(u64::MAX)), Ok(NodeNo::ZERO));
     let mut workspace = Workspace::new(65_536).unwrap();
     assert_eq!(check(&mut workspace, FORMULA, PROOF).to_string(), "0 12 2 1");
+    assert_eq!(report(Some(FORMULA), Some(PROOF)).status(), 0);
 }
 
 /// Whether an odd number of variables is true, as the last node.
