@@ -1,19 +1,18 @@
--- The diagram of two words is the clause from its greatest variable to its least; it is 1 where a variable has both signs, 0 where no
--- variable has one. The idea: the same values. Assumes nothing.
-use mathlib.Core.Path.{_≡_, refl, sym, ap, _∙_}
+-- The diagram of two words is the clause from its greatest variable to its least; it is 1 where a variable has both signs. The idea: the
+-- same values. Assumes nothing.
+use mathlib.Core.Path.{_≡_, refl, sym, _∙_}
 use mathlib.Core.Bool.{Bool, true, false, not, _&&_, _||_, cond}
-use Prim.Native.Nat.{ℕ, zero, suc, _+_, _≤_, _<_, _^_}
+use Prim.Native.Nat.{ℕ, zero, suc, _+_, _≤_}
 use native.Mathlib.Omega.{arith}
 use native.Mathlib.Decide.{ℕ-discrete}
-use lib.Bits.{bitAnd, and-lt}
 use Rattle.meaning.specs.Diagram.{Assignment, holds, Diagram, leaf, value, Reduced}
 use Rattle.meaning.specs.Words.{inWord}
-use Rattle.meaning.proofs.Booleans.{t≢f, both-ways, or-cases, or-left, or-right, and-both, and-commutes}
+use Rattle.meaning.proofs.Booleans.{t≢f, both-ways, or-cases, or-left, or-right, and-commutes}
 use Rattle.meaning.proofs.Values.{diagram-is}
-use Rattle.meaning.proofs.Clauses.{clauseFrom, clauseFrom-reduced, clauseFrom-true, true-clauseFrom, clause-skip, clause-tautology}
+use Rattle.meaning.proofs.Clauses.{clauseFrom, clauseFrom-reduced, clauseFrom-true, true-clauseFrom, clause-tautology}
+use Rattle.words.specs.Sets.{shares}
+use Rattle.words.proofs.Variables.{shares-found, shares-apart}
 use Rattle.clause.specs.Words.{wordsValue, clauseOfWords}
-use Rattle.meaning.proofs.Words.{in-and, in-none}
-use Rattle.clause.proofs.Words.{some-in-word}
 
 -- the literal of a variable that the assignment makes true
 literal-is : (p n h : Bool) → ((p && h) || (n && not h)) ≡ cond h p n
@@ -62,22 +61,9 @@ module _ (p n : ℕ) where
       (λ t. true-clauseFrom (inWord p) (inWord n) a 64 1 t (λ v x y e. words-true a 64 v x (omega arith) e))
 
   -- "a clause with both signs is the diagram 1" (01, The formula)
-  pub both-signs : p < 2 ^ 64 → n < 2 ^ 64 → (bitAnd p n ≡ 0 → ⊥) → clauseOfWords p n ≡ leaf true
-  both-signs hp hn ne =
-      words-are
-      ∙ some-in-word 64 (bitAnd p n) (and-lt 64 p n hp hn) ne λ v x y e.
-      let b : (inWord p v ≡ true) × (inWord n v ≡ true) = and-both (inWord p v) (inWord n v) (sym (in-and p n v) ∙ e) in
-      clause-tautology (inWord p) (inWord n) 64 1 v x (omega arith) (b .0) (b .1)
+  pub both-signs : shares 64 p n ≡ true → clauseOfWords p n ≡ leaf true
+  both-signs e = words-are ∙ shares-found 64 p n e λ v x y a b. clause-tautology (inWord p) (inWord n) 64 1 v x (omega arith) a b
 
   -- no variable has both
-  pub one-sign : bitAnd p n ≡ 0 → (v : ℕ) → (inWord n v && inWord p v) ≡ false
-  one-sign e v = and-commutes (inWord n v) (inWord p v) ∙ sym (in-and p n v) ∙ ap (λ (w : ℕ). inWord w v) e ∙ in-none v
-
--- "an empty clause is 0" (01, The formula)
-pub no-literal : clauseOfWords 0 0 ≡ leaf false
-unfolding clauseFrom
-no-literal = words-are 0 0 ∙ go 64 1
-  where
-    go : (k i : ℕ) → clauseWords 0 0 k i ≡ leaf false
-    go zero i = refl
-    go (suc k) i = clause-skip (inWord 0) (inWord 0) k i (in-none i) (in-none i) ∙ go k (suc i)
+  pub one-sign : shares 64 p n ≡ false → (v : ℕ) → 1 ≤ v → v ≤ 64 → (inWord n v && inWord p v) ≡ false
+  one-sign e v lo hi = and-commutes (inWord n v) (inWord p v) ∙ shares-apart 64 p n e v lo hi

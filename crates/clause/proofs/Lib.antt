@@ -1,4 +1,3 @@
-pub mod Words
 pub mod Diagrams
 pub mod Making
 pub mod Literals

@@ -1,5 +1,5 @@
--- The words of a clause's literals have the variables that occur with each sign, so that their diagram is the clause's, for every variable
--- count that the literals keep within. The idea: the reader's law of its words, and that a clause looks at its own variables. Assumes nothing.
+-- The set of a clause's literals has the variables that occur with each sign, so that its diagram is the clause's, for every variable
+-- count that the literals keep within. The idea: the law of the set, and that a clause looks at its own variables. Assumes nothing.
 use mathlib.Core.Path.{_≡_, refl, sym, ap, ap₂, _∙_}
 use mathlib.Core.Bool.{Bool, true, false, _||_, Bool·beq}
 use mathlib.Core.List.{List, [], _∷_}
@@ -12,8 +12,9 @@ use Rattle.meaning.specs.Operations.{Literal, literalValue, clauseValue, clause
 use Rattle.meaning.specs.Words.{inWord}
 use Rattle.meaning.proofs.Values.{diagram-width}
 use Rattle.meaning.proofs.Clauses.{occurs, Within, clause-is}
-use Rattle.dimacs.specs.Inner.{setOf}
-use Rattle.dimacs.proofs.Words.{in-set}
+use Rattle.words.specs.declared.Literals.{Literals}
+use Rattle.words.specs.Sets.{has, literalsOf}
+use Rattle.words.proofs.LiteralSets.{in-set}
 use Rattle.clause.specs.Words.{clauseOfWords}
 use Rattle.clause.proofs.Diagrams.{words-are}
 
@@ -36,13 +37,13 @@ clause-width n m le ls i = diagram-width n m (clauseValue ls) (clauseValue ls) l
 
 -- ---- the clause
 
--- of any two words that have the variables of the literals
-pub words-clause : (n : ℕ) → n ≤ 64 → (ls : List Literal) → Within n ls → (p q : ℕ) → ((v : ℕ) → 1 ≤ v → v ≤ 64 → inWord p v ≡ occurs ls v true)
-    → ((v : ℕ) → 1 ≤ v → v ≤ 64 → inWord q v ≡ occurs ls v false) → clauseOfWords p q ≡ clause n ls
-words-clause n le ls i p q pos neg =
-    words-are p q ∙ sym (clause-is 64 ls (inWord p) (inWord q) (within-more n 64 le ls i) pos neg) ∙ clause-width n 64 le ls i
+-- of any set that has just the literals
+pub words-clause : (n : ℕ) → n ≤ 64 → (ls : List Literal) → Within n ls → (u : Literals) → ((v : ℕ) (s : Bool) → 1 ≤ v → v ≤ 64 → has u v s ≡ occurs ls v s)
+    → clauseOfWords (u .positive) (u .negative) ≡ clause n ls
+unfolding has
+words-clause n le ls i u is =
+    words-are (u .positive) (u .negative) ∙ sym (clause-is 64 ls (inWord (u .positive)) (inWord (u .negative)) (within-more n 64 le ls i) (λ v. is v true) (λ v. is v false)) ∙ clause-width n 64 le ls i
 
--- of the two words that the reader gives
-pub clause-of-words : (n : ℕ) → n ≤ 64 → (ls : List Literal) → Within n ls → clauseOfWords (setOf true ls) (setOf false ls) ≡ clause n ls
-clause-of-words n le ls i =
-    words-clause n le ls i (setOf true ls) (setOf false ls) (λ v x y. in-set n true ls v i x) (λ v x y. in-set n false ls v i x)
+-- of the set that the reader gives
+pub clause-of-words : (n : ℕ) → n ≤ 64 → (ls : List Literal) → Within n ls → clauseOfWords (literalsOf ls .positive) (literalsOf ls .negative) ≡ clause n ls
+clause-of-words n le ls i = words-clause n le ls i (literalsOf ls) (λ v s x y. in-set n ls v s i x)

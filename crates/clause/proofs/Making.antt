@@ -2,9 +2,8 @@
 -- more; where it found no room, that clause finds none. The idea: node 1 and what is made are there already. Assumes nothing.
 use mathlib.Core.Path.{_≡_, refl, sym, ap, _∙_}
 use mathlib.Core.Bool.{Bool, true, false, _&&_, cond}
-use Prim.Native.Nat.{ℕ, zero, suc, _+_, _-_, _≤_, _<_, _^_}
+use Prim.Native.Nat.{ℕ, zero, suc, _+_, _-_, _≤_, _<_}
 use native.Mathlib.Omega.{arith}
-use lib.Bits.{bitAnd}
 use Rattle.meaning.specs.Diagram.{Diagram, leaf, Reduced, branch}
 use Rattle.meaning.specs.Words.{inWord}
 use Rattle.meaning.proofs.Booleans.{t≢f}
@@ -13,6 +12,7 @@ use Rattle.meaning.proofs.Clauses.{clauseFrom}
 use Rattle.table.specs.Nodes.{diagramAt}
 use Rattle.table.specs.Indexed.{Table, size, Good, Outcome}
 use Rattle.table.proofs.Outcomes.{placeIn, putIn, Grown, grown, there, low-full, high-full, joined}
+use Rattle.words.specs.Sets.{shares}
 use Rattle.clause.specs.Words.{clauseOfWords}
 use Rattle.clause.proofs.Diagrams.{clauseWords, words-reduced, words-are, both-signs, one-sign}
 
@@ -86,17 +86,17 @@ module _ (T : Table) (G : Good T) (p n : ℕ) where
       let z : v ≡ 0 = omega arith in
       M .is ∙ ap (λ (x : ℕ). placeIn T (clauseWords p n (64 - x) (suc x))) z ∙ ap (placeIn T) (sym (words-are p n))
 
-  pub make-both : p < 2 ^ 64 → n < 2 ^ 64 → (bitAnd p n ≡ 0 → ⊥) → stay T 1 ≡ placeIn T (clauseOfWords p n)
-  make-both hp hn ne = one-there T G ∙ ap (placeIn T) (sym (both-signs p n hp hn ne))
+  pub make-both : shares 64 p n ≡ true → stay T 1 ≡ placeIn T (clauseOfWords p n)
+  make-both e = one-there T G ∙ ap (placeIn T) (sym (both-signs p n e))
 
-  module _ (apart : bitAnd p n ≡ 0) where
+  module _ (apart : shares 64 p n ≡ false) where
     -- without room once, without room to the end
     full-on : (i k : ℕ) → suc i + k ≡ 65 → (o : Outcome) → o .full ≡ true → o ≡ placeIn T (clauseWords p n k (suc i)) → o ≡ placeIn T (clauseWords p n 64 1)
     unfolding clauseFrom
     full-on zero k q o f e = let z : k ≡ 64 = omega arith in e ∙ ap (λ (x : ℕ). placeIn T (clauseWords p n x 1)) z
     full-on (suc i) k q o f e =
         full-on i (suc k) (omega arith) o f
-        (no-room-yet T G (suc i) (clauseWords p n k (suc (suc i))) (from-one k (suc i) q) o e (inWord n (suc i)) (inWord p (suc i)) (one-sign p n apart (suc i)) f)
+        (no-room-yet T G (suc i) (clauseWords p n k (suc (suc i))) (from-one k (suc i) q) o e (inWord n (suc i)) (inWord p (suc i)) (one-sign p n apart (suc i) (omega arith) (omega arith)) f)
 
     module _ (v : ℕ) (some : 0 < v) (o : Outcome) (M : Making T p n v o) (l h : ℕ) (low : l ≡ cond (inWord n v) 1 (o .node)) (high : h ≡ cond (inWord p v) 1 (o .node))
         (o′ : Outcome) (put : o′ ≡ putIn (o .table) v l h) where
@@ -106,7 +106,7 @@ module _ (T : Table) (G : Good T) (p n : ℕ) where
           let z : 64 - (v - 1) ≡ suc (64 - v) = omega (arith, M .most) in
           let y : suc (v - 1) ≡ v = omega arith in
           rw (z, y)
-          (one-more T G v (clauseWords p n (64 - v) (suc v)) (from-one (64 - v) v (omega (arith, M .most))) o (M .is) (inWord n v) (inWord p v) (one-sign p n apart v)
+          (one-more T G v (clauseWords p n (64 - v) (suc v)) (from-one (64 - v) v (omega (arith, M .most))) o (M .is) (inWord n v) (inWord p v) (one-sign p n apart v (omega arith) (M .most))
           (M .going) o′ (rw (low, high) at put))
 
       -- with room the next turn starts, without it the clause finds none

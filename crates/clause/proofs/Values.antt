@@ -1,7 +1,7 @@
 -- The node that `make` gives has the clause's value under every assignment, of the header's variables and of all 64. The idea: the diagram
 -- placed is the clause's, and the diagram of a function has its values. Assumes nothing.
 use mathlib.Core.Path.{_≡_, ap, _∙_}
-use mathlib.Core.Bool.{true, false}
+use mathlib.Core.Bool.{false}
 use mathlib.Core.List.{List}
 use Prim.Native.Nat.{ℕ, _≤_}
 use lib.ListN.{length}
@@ -12,7 +12,7 @@ use Rattle.meaning.proofs.Clauses.{Within}
 use Rattle.table.specs.Nodes.{diagramAt}
 use Rattle.table.specs.Indexed.{Table, nodesOf, Good, Outcome}
 use Rattle.table.proofs.Outcomes.{placeIn, Grown, grown, Longer}
-use Rattle.dimacs.specs.Inner.{setOf}
+use Rattle.words.specs.Sets.{literalsOf}
 use Rattle.clause.specs.Words.{wordsValue, clauseOfWords}
 use Rattle.clause.proofs.Literals.{within-more, clause-of-words}
 
@@ -20,30 +20,26 @@ pub of-words-reduced : (p q : ℕ) → Reduced 1 65 (clauseOfWords p q)
 unfolding clauseOfWords
 of-words-reduced p q = diagram-reduced 64 (wordsValue p q 64)
 
-pub of-words-value : (p q : ℕ) (a : Assignment) → length a ≡ 64 → value (clauseOfWords p q) a ≡ wordsValue p q 64 a
-unfolding clauseOfWords
-of-words-value p q a len = diagram-value 64 (wordsValue p q 64) a len
-
 -- what `make` leaves and gives
 pub made : (T : Table) → Good T → (p q : ℕ) (o : Outcome) → o ≡ placeIn T (clauseOfWords p q) → Grown T (clauseOfWords p q) o
 made T G p q o e = grown T G (clauseOfWords p q) (of-words-reduced p q) o e
 
 module _ (n : ℕ) (most : n ≤ 64) (ls : List Literal) (i : Within n ls) where
   -- for n variables, or any greater number
-  pub clause-value : (m : ℕ) → n ≤ m → m ≤ 64 → (a : Assignment) → length a ≡ m → value (clauseOfWords (setOf true ls) (setOf false ls)) a ≡ clauseValue ls a
+  pub clause-value : (m : ℕ) → n ≤ m → m ≤ 64 → (a : Assignment) → length a ≡ m → value (clauseOfWords (literalsOf ls .positive) (literalsOf ls .negative)) a ≡ clauseValue ls a
   unfolding clause
   clause-value m le top a len =
       ap (λ (f : Diagram). value f a) (clause-of-words m top ls (within-more n m le ls i)) ∙ diagram-value m (clauseValue ls) a len
 
-  module _ (T : Table) (G : Good T) (o : Outcome) (e : o ≡ placeIn T (clauseOfWords (setOf true ls) (setOf false ls))) (room : o .full ≡ false) where
+  module _ (T : Table) (G : Good T) (o : Outcome) (e : o ≡ placeIn T (clauseOfWords (literalsOf ls .positive) (literalsOf ls .negative))) (room : o .full ≡ false) where
     -- from its making on, in every table that keeps its node
     pub made-clause : (T′ : Table) → Longer (o .table) T′ → diagramAt (nodesOf T′) (o .node) ≡ clause n ls
     made-clause T′ L =
-        let W : Grown T (clauseOfWords (setOf true ls) (setOf false ls)) o = made T G (setOf true ls) (setOf false ls) o e in
+        let W : Grown T (clauseOfWords (literalsOf ls .positive) (literalsOf ls .negative)) o = made T G (literalsOf ls .positive) (literalsOf ls .negative) o e in
         L .kept (o .node) (W .inside) ∙ W .is room ∙ clause-of-words n most ls i
 
     pub made-value : (T′ : Table) → Longer (o .table) T′ → (m : ℕ) → n ≤ m → m ≤ 64 → (a : Assignment) → length a ≡ m
         → value (diagramAt (nodesOf T′) (o .node)) a ≡ clauseValue ls a
     made-value T′ L m le top a len =
-        let W : Grown T (clauseOfWords (setOf true ls) (setOf false ls)) o = made T G (setOf true ls) (setOf false ls) o e in
+        let W : Grown T (clauseOfWords (literalsOf ls .positive) (literalsOf ls .negative)) o = made T G (literalsOf ls .positive) (literalsOf ls .negative) o e in
         ap (λ (f : Diagram). value f a) (L .kept (o .node) (W .inside) ∙ W .is room) ∙ clause-value m le top a len

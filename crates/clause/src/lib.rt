@@ -15,8 +15,7 @@ fn side(word: u64, v: u8, rest: NodeNo) -> NodeNo
     requires { ⌜ (1 ≤ v) × (v ≤ 64) ⌝ }
     ensures { λ r. ⌜ r .0 ≡ cond (inWord word v) 1 (rest .0) ⌝ }
 {
-    let i = (v - 1) as u64;
-    if (word >> i) % 2 == 1 {
+    if words::in_word(word, v) {
         return NodeNo(1);
     }
     rest
@@ -40,7 +39,7 @@ pub fn make(
         outcomeOf (now (vars .exit)) (now (lows .exit)) (now (highs .exit)) (now (heads .exit)) (now (links .exit)) r
         ≡ written (length (now (vars .entry))) (place (length (now (vars .entry))) (nodesOf before) (clauseOfWords positive negative))) ⌝ }
 {
-    if positive & negative != 0 {
+    if words::shared(positive, negative) {
         return Placed {
             full: false,
             node: NodeNo(1),

@@ -7,27 +7,28 @@ use native.Mathlib.Omega.{arith}
 use lib.ListN.{length}
 use lib.Dec.{ltb}
 use Rattle.meaning.specs.Operations as meaning
+use Rattle.words.specs.Sets.{literalsOf}
 use Rattle.dimacs.specs.declared.ClosedClause.{ClosedClause}
 use Rattle.dimacs.specs.declared.Clause.the-variants.{Closed, End, Refused}
 use Rattle.dimacs.specs.declared.Header.the-variants.{Proper, Improper}
 use Rattle.dimacs.specs.Text.{between}
 use Rattle.dimacs.specs.Header.{header}
 use Rattle.dimacs.specs.Clauses.{Next, closed, ended, refused, clause, complete, refusal, nextClause, clausesFrom, formula}
-use Rattle.dimacs.specs.Inner.{setOf, clauseAfter, clauseOf}
+use Rattle.dimacs.specs.Inner.{clauseAfter, clauseOf}
 
 -- ---- results
 
--- The next clause x closes, and w holds its words and places.
+-- The next clause x closes, and w holds its literals and places.
 pub record IsClosed (x : Next) (w : ClosedClause) : Type 0 where
   pub literals : List meaning.Literal
   pub is : x ≡ closed literals (w .first) (w .next)
-  pub positive : w .positive ≡ setOf true literals
-  pub negative : w .negative ≡ setOf false literals
+  pub positive : w .positive ≡ literalsOf literals .positive
+  pub negative : w .negative ≡ literalsOf literals .negative
 
 pub closed-is : (x : Next) (w : ClosedClause) → clauseOf x ≡ Closed w → IsClosed x w
 unfolding clauseAfter
 closed-is (closed ls first next) w e =
-    let q : record { positive = setOf true ls; negative = setOf false ls; first = first; next = next } ≡ w = cc in
+    let q : record { positive = literalsOf ls .positive; negative = literalsOf ls .negative; first = first; next = next } ≡ w = cc in
     record {
       literals = ls;
       is = rw (sym q);

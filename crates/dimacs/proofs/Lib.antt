@@ -7,6 +7,5 @@ pub mod Lines
 pub mod Headers
 pub mod OpenClause
 pub mod Bounds
-pub mod Words
 pub mod Formula
 pub mod Between

@@ -1,7 +1,7 @@
--- One step of an open clause, for which the bytes left are steps enough, and the words that the code gathers: what is to be read is what is
--- left to be read, with the literals so far in the two words. Assumes nothing.
+-- One step of an open clause, for which the bytes left are steps enough, and the set that the code gathers: what is to be read is what is
+-- left to be read, with the literals so far. Assumes nothing.
 use mathlib.Core.Path.{_≡_, refl, ap, sym, _∙_}
-use mathlib.Core.Bool.{Bool, true, false, not}
+use mathlib.Core.Bool.{Bool}
 use mathlib.Core.List.{List}
 use Prim.Native.Nat.{ℕ, zero, suc, _+_, _-_, _≤_, _<_}
 use native.Mathlib.Omega.{arith}
@@ -16,7 +16,9 @@ use Rattle.dimacs.specs.declared.Clause.the-variants.{Closed, End, Refus
 use Rattle.dimacs.specs.Text.{isToken, tokenEnd, between}
 use Rattle.dimacs.specs.Numbers.{tokenOf}
 use Rattle.dimacs.specs.Clauses.{Next, closed, ended, refused, withLiteral, afterToken, clauseFrom, nextClause}
-use Rattle.dimacs.specs.Inner.{withVariable, setFrom, clauseAfter, clauseOf}
+use Rattle.dimacs.specs.Inner.{clauseAfter, clauseOf}
+use Rattle.words.specs.declared.Literals.{Literals}
+use Rattle.words.specs.Sets.{noLiterals, withLiteral as with-in, withAll}
 use Rattle.dimacs.proofs.Cases.{by}
 use Rattle.dimacs.proofs.Runs.{past-most}
 use Rattle.dimacs.proofs.Between.{between-least}
@@ -69,50 +71,48 @@ module _ (s : List ℕ) (n : ℕ) where
       ∙ sym (clause-suc m first at inside))
       (λ f. let outside : length s ≤ at = ltb-false at (length s) f in clause-end (suc k) first at outside ∙ sym (clause-end (suc m) first at outside))
 
--- ---- the code's words
+-- ---- the code's set
 
-literal-words : (p q v : ℕ) (b : Bool) (x : Next)
-    → clauseAfter p q (withLiteral (record { variable = v; positive = b }) x) ≡ clauseAfter (withVariable b p v) (withVariable (not b) q v) x
+literal-set : (u : Literals) (v : ℕ) (b : Bool) (x : Next) → clauseAfter u (withLiteral (record { variable = v; positive = b }) x) ≡ clauseAfter (with-in u v b) x
 unfolding clauseAfter
-literal-words p q v true (closed ls first next) = refl
-literal-words p q v false (closed ls first next) = refl
-literal-words p q v b ended = refl
-literal-words p q v b (refused number place) = refl
+literal-set u v b (closed ls first next) = refl
+literal-set u v b ended = refl
+literal-set u v b (refused number place) = refl
 
--- An open clause from `at` on, with the words p and q so far.
-abbrev pub restOf : List ℕ → ℕ → ℕ → ℕ → ℕ → ℕ → Clause
-restOf s n first p q at = clauseAfter p q (clauseFrom s n (length s - at) first at)
+-- An open clause from `at` on, with the literals so far.
+abbrev pub restOf : List ℕ → ℕ → ℕ → Literals → ℕ → Clause
+restOf s n first u at = clauseAfter u (clauseFrom s n (length s - at) first at)
 
-module _ (s : List ℕ) (n first p q at : ℕ) where
-  pub rest-open : length s ≤ at → restOf s n first p q at ≡ Refused 6 first
+module _ (s : List ℕ) (n first : ℕ) (u : Literals) (at : ℕ) where
+  pub rest-open : length s ≤ at → restOf s n first u at ≡ Refused 6 first
   unfolding clauseAfter
-  rest-open h = ap (clauseAfter p q) (clause-end s n (length s - at) first at h)
+  rest-open h = ap (clauseAfter u) (clause-end s n (length s - at) first at h)
 
   module _ (inside : at < length s) where
     steps : length s - at ≡ suc (length s - (at + 1))
     steps = omega arith
 
-    here : restOf s n first p q at
-        ≡ clauseAfter p q (afterToken (tokenAt s n at) first at (tokenEnd s at) (clauseFrom s n (length s - (at + 1)) first (nextAt s n at)))
-    here = rw steps (ap (clauseAfter p q) (clause-suc s n (length s - (at + 1)) first at inside))
+    here : restOf s n first u at
+        ≡ clauseAfter u (afterToken (tokenAt s n at) first at (tokenEnd s at) (clauseFrom s n (length s - (at + 1)) first (nextAt s n at)))
+    here = rw steps (ap (clauseAfter u) (clause-suc s n (length s - (at + 1)) first at inside))
 
     module _ (end : ℕ) (is : end ≡ tokenEnd s at) where
       pub rest-closing : tokenOf n (slice at end s) ≡ Closing
-          → restOf s n first p q at ≡ Closed (record { positive = p; negative = q; first = first; next = end })
-      unfolding clauseAfter setFrom
+          → restOf s n first u at ≡ Closed (record { positive = u .positive; negative = u .negative; first = first; next = end })
+      unfolding clauseAfter withAll
       rest-closing e = here ∙ rw (sym is, e)
 
-      pub rest-wrong : (k : ℕ) → tokenOf n (slice at end s) ≡ Wrong k → restOf s n first p q at ≡ Refused k at
+      pub rest-wrong : (k : ℕ) → tokenOf n (slice at end s) ≡ Wrong k → restOf s n first u at ≡ Refused k at
       unfolding clauseAfter
       rest-wrong k e = here ∙ rw (sym is, e)
 
-      pub rest-literal : (v : ℕ) (b : Bool) (next p′ q′ : ℕ) → tokenOf n (slice at end s) ≡ Literal v b → next ≡ between s end
-          → p′ ≡ withVariable b p v → q′ ≡ withVariable (not b) q v → restOf s n first p q at ≡ restOf s n first p′ q′ next
-      rest-literal v b next p′ q′ e f g h =
+      pub rest-literal : (v : ℕ) (b : Bool) (next : ℕ) (u′ : Literals) → tokenOf n (slice at end s) ≡ Literal v b → next ≡ between s end
+          → u′ ≡ with-in u v b → restOf s n first u at ≡ restOf s n first u′ next
+      rest-literal v b next u′ e f g =
           let later : clauseFrom s n (length s - (at + 1)) first (between s end) ≡ clauseFrom s n (length s - between s end) first (between s end) =
           clause-fuel s n (length s - (at + 1)) (length s - between s end) first (between s end)
           (omega (arith, literal-moves s n at end v b inside is e, between-least s end)) (omega arith) in
-          here ∙ rw (sym is, e, literal-words p q v b, later, sym f, sym g, sym h)
+          here ∙ rw (sym is, e, literal-set u v b, later, sym f, sym g)
 
 -- ---- what comes next
 
@@ -121,7 +121,7 @@ module _ (s : List ℕ) (n at first : ℕ) (is : first ≡ between s at) where
   unfolding nextClause clauseAfter
   next-many left h e = rw (e, sym is, lt-ltb first (length s) h)
 
-  pub next-here : (left : ℕ) → first < length s → (left ≡ 0 → ⊥) → clauseOf (nextClause s n left at) ≡ restOf s n first 0 0 first
+  pub next-here : (left : ℕ) → first < length s → (left ≡ 0 → ⊥) → clauseOf (nextClause s n left at) ≡ restOf s n first noLiterals first
   unfolding nextClause clauseAfter
   next-here left h e =
       let more : left ≡ suc (left - 1) = omega (arith, e) in rw (more, sym is, lt-ltb first (length s) h)

@@ -1,16 +1,16 @@
 -- What the inner functions answer in the code's own types. No call open to others cites this file.
-use mathlib.Core.Bool.{Bool, true, false, cond, Bool·beq}
-use mathlib.Core.List.{List, [], _∷_}
-use Prim.Native.Nat.{ℕ, _-_, _^_}
+use mathlib.Core.Bool.{Bool, cond}
+use mathlib.Core.List.{List}
+use Prim.Native.Nat.{ℕ}
 use lib.Dec.{eqb, ltb}
-use lib.Bits.{bitOr}
-use Rattle.meaning.specs.Operations.{Literal}
+use Rattle.words.specs.declared.Literals.{Literals}
+use Rattle.words.specs.Sets.{noLiterals, withAll}
 use Rattle.dimacs.specs.declared.text.Class.{Class}
 use Rattle.dimacs.specs.declared.text.Class.the-variants.{Space, Blank, Parting, Token as TokenByte, Line}
 use Rattle.dimacs.specs.declared.numbers.Natural.{Natural}
 use Rattle.dimacs.specs.declared.numbers.Natural.the-variants.{Value, Improper}
 use Rattle.dimacs.specs.declared.Token.{Token}
-use Rattle.dimacs.specs.declared.Token.the-variants.{Closing, Literal as LiteralToken, Wrong}
+use Rattle.dimacs.specs.declared.Token.the-variants.{Closing, Literal, Wrong}
 use Rattle.dimacs.specs.declared.Clause.{Clause}
 use Rattle.dimacs.specs.declared.Clause.the-variants.{Closed, End, Refused}
 use Rattle.dimacs.specs.Text.{isSpace, isBlank, isParting, isToken, isLine}
@@ -42,30 +42,18 @@ naturalOf bs = cond (isNatural bs) (Value (capped (value bs))) Improper
 abbrev pub signedToken : ℕ → Bool → Natural → Token
 signedToken n positive Improper = Wrong 3
 signedToken n positive (Value v) =
-    cond (eqb v 0) (cond positive Closing (Wrong 3)) (cond (ltb n v) (Wrong 4) (LiteralToken v positive))
+    cond (eqb v 0) (cond positive Closing (Wrong 3)) (cond (ltb n v) (Wrong 4) (Literal v positive))
 
--- ---- a clause's literals as two words, bit v - 1 for variable v
+-- ---- a clause's literals as a set
 
--- A word with the variable v, where it is wanted.
-abbrev pub withVariable : Bool → ℕ → ℕ → ℕ
-withVariable wanted w v = cond wanted (bitOr w (2 ^ (v - 1))) w
-
--- The word w with the variables of the literals of sign b.
-unfoldable pub setFrom : Bool → ℕ → List Literal → ℕ
-setFrom b w [] = w
-setFrom b w (l ∷ ls) = setFrom b (withVariable (Bool·beq (l .positive) b) w (l .variable)) ls
-
--- The variables that occur with sign b.
-abbrev pub setOf : Bool → List Literal → ℕ
-setOf b ls = setFrom b 0 ls
-
--- What the code gives of what comes next, with the two words read before.
-unfoldable pub clauseAfter : ℕ → ℕ → Next → Clause
-unfolding setFrom
-clauseAfter positive negative (closed ls first next) =
-    Closed (record { positive = setFrom true positive ls; negative = setFrom false negative ls; first = first; next = next })
-clauseAfter positive negative ended = End
-clauseAfter positive negative (refused number place) = Refused number place
+-- What the code gives of what comes next, with the literals read before.
+unfoldable pub clauseAfter : Literals → Next → Clause
+unfolding withAll
+clauseAfter before (closed ls first next) =
+    let all = withAll before ls in
+    Closed (record { positive = all .positive; negative = all .negative; first = first; next = next })
+clauseAfter before ended = End
+clauseAfter before (refused number place) = Refused number place
 
 abbrev pub clauseOf : Next → Clause
-clauseOf next = clauseAfter 0 0 next
+clauseOf next = clauseAfter noLiterals next

@@ -1,42 +1,34 @@
-// The clauses, token by token: each as two words of variables.
+// The clauses, token by token.
 use crate::Clause;
 use crate::ClosedClause;
 use crate::Token;
 use crate::numbers;
 use crate::text;
 use crate::text::Class;
+use words::Literals;
 ghost use mathlib.Core.Path.{_≡_};
 ghost use Prim.Native.Nat.{_-_, _≤_};
 ghost use lib.ListN.{length};
 ghost use Rattle.dimacs.specs.Clauses.{nextClause, clauseFrom};
-ghost use Rattle.dimacs.specs.Inner.{withVariable, clauseOf};
-
-// The word with the variable, where it is wanted.
-fn with_variable(word: u64, variable: u8, wanted: bool) -> u64
-    requires { ⌜ (1 ≤ variable) × (variable ≤ 64) ⌝ }
-    ensures { λ r. ⌜ r ≡ withVariable wanted word variable ⌝ }
-{
-    if !wanted {
-        return word;
-    }
-    word | (1 << (variable - 1))
-}
+ghost use Rattle.dimacs.specs.Inner.{clauseOf};
 
 // The clause whose first token is at `first`, up to its closing 0.
 fn open_clause(s: &[u8], first: usize, variables: u8) -> Clause
     requires { ⌜ (first ≤ length (now s)) × (variables ≤ 64) ⌝ }
     ensures { λ r. ⌜ r ≡ clauseOf (clauseFrom (now (s .entry)) variables (length (now (s .entry)) - first) first first) ⌝ }
 {
-    let mut positive: u64 = 0;
-    let mut negative: u64 = 0;
+    let mut literals = Literals {
+        positive: 0,
+        negative: 0,
+    };
     let mut at = first;
     while at < s.len() {
         let end = text::past_class(s, at, Class::Token);
         match numbers::read_token(s, at, end, variables) {
             Token::Closing => {
                 return Clause::Closed(ClosedClause {
-                    positive,
-                    negative,
+                    positive: literals.positive,
+                    negative: literals.negative,
                     first,
                     next: end,
                 });
@@ -44,9 +36,8 @@ fn open_clause(s: &[u8], first: usize, variables: u8) -> Clause
             Token::Wrong(number) => {
                 return Clause::Refused(number, at);
             }
-            Token::Literal(variable, sign) => {
-                positive = with_variable(positive, variable, sign);
-                negative = with_variable(negative, variable, !sign);
+            Token::Literal { variable, positive } => {
+                literals = words::with_literal(literals, variable, positive);
                 at = text::skip_between(s, end);
             }
         }

@@ -10,7 +10,7 @@ pub use header_line::read_header;
 // A closing 0; a literal's variable and sign; or the number of the token's fault.
 pub enum Token {
     Closing,
-    Literal(u8, bool),
+    Literal { variable: u8, positive: bool },
     Wrong(u8),
 }
 

@@ -84,7 +84,7 @@ fn signed_token(variables: u8, positive: bool, number: Natural) -> Token
         return Token::Wrong(4);
     }
     let variable = v as u8;
-    Token::Literal(variable, positive)
+    Token::Literal { variable, positive }
 }
 
 // What the token from `from` to `to` says.

@@ -157,10 +157,10 @@ fn step_of(op: Operation, s: Sides) -> Step
             Step::Both(s)
         }
         Operation::Literals(p, n) => {
-            if walks::in_word(p, s.x) {
+            if words::in_word(p, s.x) {
                 return Step::One(f1, g1);
             }
-            if walks::in_word(n, s.x) {
+            if words::in_word(n, s.x) {
                 return Step::One(f0, g0);
             }
             Step::Both(s)

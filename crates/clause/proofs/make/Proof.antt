@@ -1,4 +1,5 @@
 -- `make` places the clause's diagram: at the start of each turn the clause of the later variables is placed (Making). Assumes nothing.
+use mathlib.Core.Path.{sym, _∙_}
 use native.Mathlib.Omega.{arith}
 use Rattle.table.specs.Indexed.{Table, tableOf, Outcome, outcomeOf}
 use Rattle.clause.proofs.Making.{Making, Turn, make-start, make-end, make-both, make-turn}
@@ -17,11 +18,11 @@ abbrev μ-loop : tie.MeasureT-loop
 -- The ways back, written by ways.py: TO-from-FROM leads from the place FROM of the code to the place TO before it.
 module _ (c : tie.Else1 Inv-loop μ-loop) where
   abbrev start-from-else1 : tie.Start Inv-loop μ-loop
-  start-from-else1 = c .before .before .before .before .before .before
+  start-from-else1 = c .before .before .before .before .before .before .before
 
 module _ (c : tie.Then1 Inv-loop μ-loop) where
   abbrev start-from-then1 : tie.Start Inv-loop μ-loop
-  start-from-then1 = c .before .before .before .before .before .before
+  start-from-then1 = c .before .before .before .before .before .before .before
 
 module _ (c : tie.After-loop Inv-loop μ-loop) where
   abbrev start-from-return-3 : tie.Start Inv-loop μ-loop
@@ -68,12 +69,15 @@ module _ (a : tie.After-put Inv-loop μ-loop) where
 
   turn : Turn lent (start-from-put a .args .positive) (start-from-put a .args .negative) (at-loop-from-put a .loop .v) left
   turn =
-      make-turn _ (start-from-put a .pre) _ _ (else1-from-put a .if1 .left) _ (in-loop-from-put a .loop-test .taken) _ (at-loop-from-put a .loop .inv) _ _
+      make-turn _ (start-from-put a .pre) _ _ (sym (else1-from-put a .before .shared .ensures) ∙ else1-from-put a .if1 .left) _ (in-loop-from-put a .loop-test .taken) _ (at-loop-from-put a .loop .inv) _ _
       (side-from-put a .side .ensures) (side2-from-put a .side2 .ensures) _ (a .put .ensures)
+
+shared-requires : tie.Need-shared-requires Inv-loop μ-loop
+shared-requires c κs = search needs
 
 returns : tie.Need-returns Inv-loop μ-loop
 returns c =
-    make-both _ (start-from-then1 c .pre) _ _ (omega (arith, start-from-then1 c .fits .positive)) (omega (arith, start-from-then1 c .fits .negative)) (c .if1 .taken)
+    make-both _ (start-from-then1 c .pre) _ _ (sym (c .before .shared .ensures) ∙ c .if1 .taken)
 
 loop-holds : tie.Need-loop-holds Inv-loop μ-loop
 loop-holds c =
@@ -92,16 +96,16 @@ same-length : tie.Need-same-length Inv-loop μ-loop
 same-length c = search needs
 
 same-length-2 : tie.Need-same-length-2 Inv-loop μ-loop
-same-length-2 c = search needs
+same-length-2 c = let a = put-from-then2 c in omega (arith, a .put .kept, at-loop-from-put a .loop .inv .good, at-loop-from-put a .loop .inv .same-size, start-from-put a .pre)
 
 same-length-3 : tie.Need-same-length-3 Inv-loop μ-loop
-same-length-3 c = search needs
+same-length-3 c = let a = put-from-then2 c in omega (arith, a .put .kept, at-loop-from-put a .loop .inv .good, at-loop-from-put a .loop .inv .same-size, start-from-put a .pre)
 
 same-length-4 : tie.Need-same-length-4 Inv-loop μ-loop
-same-length-4 c = search needs
+same-length-4 c = let a = put-from-then2 c in omega (arith, a .put .kept, at-loop-from-put a .loop .inv .good, at-loop-from-put a .loop .inv .same-size, start-from-put a .pre)
 
 same-length-5 : tie.Need-same-length-5 Inv-loop μ-loop
-same-length-5 c = search needs
+same-length-5 c = let a = put-from-then2 c in omega (arith, a .put .kept, at-loop-from-put a .loop .inv .good, at-loop-from-put a .loop .inv .same-size, start-from-put a .pre)
 
 returns-2 : tie.Need-returns-2 Inv-loop μ-loop
 returns-2 c = turn (put-from-then2 c) .last (c .if2 .taken)
@@ -140,6 +144,7 @@ make-spec =
     (tie.spec
     Inv-loop
     μ-loop
+    shared-requires
     returns
     loop-holds
     side-requires

@@ -1,4 +1,4 @@
--- `open_clause` reads to the closing 0. The loop: what is to be read is what is left to be read, with the two words so far. The measure is what is
+-- `open_clause` reads to the closing 0. The loop: what is to be read is what is left to be read, with the literals so far. The measure is what is
 -- left of the text, since a literal has bytes. Assumes nothing.
 use mathlib.Core.Path.{_≡_, refl, sym, _∙_}
 use Prim.Native.Nat.{_≤_, _<_, _-_}
@@ -6,6 +6,7 @@ use native.Mathlib.Omega.{arith}
 use lib.Seq.{slice}
 use lib.ListN.{length}
 use borrow.Author.Needs.{needs}
+use Rattle.words.specs.Sets.{noLiterals}
 use Rattle.dimacs.specs.declared.Token.the-variants.{Literal}
 use Rattle.dimacs.specs.Numbers.{tokenOf}
 use Rattle.dimacs.proofs.Tokens.{IsLiteral, literal-bounds}
@@ -14,10 +15,10 @@ use Rattle.dimacs.proofs.clauses.open_clause.Statement.{statement}
 use Rattle.dimacs.proofs.clauses.open_clause.Tie as tie
 
 abbrev Inv-loop : tie.InvT-loop
-Inv-loop s first variables positive₀ negative₀ at₀ positive negative at = (at ≤ length s) × (restOf s variables first 0 0 first ≡ restOf s variables first positive negative at)
+Inv-loop s first variables literals₀ at₀ literals at = (at ≤ length s) × (restOf s variables first noLiterals first ≡ restOf s variables first literals at)
 
 abbrev μ-loop : tie.MeasureT-loop
-μ-loop s first variables positive₀ negative₀ at₀ positive negative at = length s - at
+μ-loop s first variables literals₀ at₀ literals at = length s - at
 
 -- The ways back, written by ways.py: TO-from-FROM leads from the place FROM of the code to the place TO before it.
 module _ (c : tie.After-enum-told Inv-loop μ-loop) where
@@ -58,7 +59,7 @@ module _ (c : tie.After-known-told Inv-loop μ-loop) where
 
 module _ (c : tie.After-skip-between Inv-loop μ-loop) where
   abbrev variable-from-loop-again : tie.After-variable Inv-loop μ-loop
-  variable-from-loop-again = c .before .before .before .before
+  variable-from-loop-again = c .before .before .before
 
   abbrev past-class-from-loop-again : tie.After-past-class Inv-loop μ-loop
   past-class-from-loop-again = past-class-from-variable variable-from-loop-again
@@ -97,7 +98,7 @@ enum-told c = search needs
 returns : tie.Need-returns Inv-loop μ-loop
 returns c = sym
     (at-loop-from-return c .loop .inv .1
-    ∙ rest-closing _ _ _ _ _ _ (in-loop-from-return c .loop-test .taken) _ (past-class-from-return c .past-class .ensures .0) (sym (c .before .before .read-token .ensures) ∙ c .enum-told .given .1))
+    ∙ rest-closing _ _ _ _ _ (in-loop-from-return c .loop-test .taken) _ (past-class-from-return c .past-class .ensures .0) (sym (c .before .before .read-token .ensures) ∙ c .enum-told .given .1))
 
 enum-known-number : tie.Need-enum-known-number Inv-loop μ-loop
 enum-known-number c = search needs
@@ -105,16 +106,13 @@ enum-known-number c = search needs
 returns-2 : tie.Need-returns-2 Inv-loop μ-loop
 returns-2 c = sym
     (at-loop-from-return-2 c .loop .inv .1
-    ∙ rest-wrong _ _ _ _ _ _ (in-loop-from-return-2 c .loop-test .taken) _ (past-class-from-return-2 c .past-class .ensures .0) _ (sym (read-token-from-return-2 c .read-token .ensures) ∙ c .before .number .given .1))
+    ∙ rest-wrong _ _ _ _ _ (in-loop-from-return-2 c .loop-test .taken) _ (past-class-from-return-2 c .past-class .ensures .0) _ (sym (read-token-from-return-2 c .read-token .ensures) ∙ c .before .number .given .1))
 
 enum-known-variable : tie.Need-enum-known-variable Inv-loop μ-loop
 enum-known-variable c = search needs
 
-with-variable-requires : tie.Need-with-variable-requires Inv-loop μ-loop
-with-variable-requires c κs = let l = within (c .before) in (l .least, omega (arith, l .most))
-
-with-variable-requires-2 : tie.Need-with-variable-requires-2 Inv-loop μ-loop
-with-variable-requires-2 c κs = let l = within (c .before .before) in (l .least, omega (arith, l .most))
+with-literal-requires : tie.Need-with-literal-requires Inv-loop μ-loop
+with-literal-requires c κs = let l = within (c .before) in (l .least, omega (arith, l .most))
 
 skip-between-requires : tie.Need-skip-between-requires Inv-loop μ-loop
 skip-between-requires c κs = search needs
@@ -126,12 +124,12 @@ loop-again : tie.Need-loop-again Inv-loop μ-loop
 loop-again c = (
   omega arith,
   at-loop-from-loop-again c .loop .inv .1
-      ∙ rest-literal _ _ _ _ _ _ (in-loop-from-loop-again c .loop-test .taken) _ (past-class-from-loop-again c .past-class .ensures .0) _ _ _ _ _ (literal (variable-from-loop-again c)) (c .skip-between .ensures .0)
-      (c .before .before .with-variable .ensures) (c .before .with-variable2 .ensures),
+      ∙ rest-literal _ _ _ _ _ (in-loop-from-loop-again c .loop-test .taken) _ (past-class-from-loop-again c .past-class .ensures .0) _ _ _ _ (literal (variable-from-loop-again c)) (c .skip-between .ensures .0)
+      (c .before .with-literal .ensures),
 )
 
 returns-3 : tie.Need-returns-3 Inv-loop μ-loop
-returns-3 c = sym (c .before .loop .inv .1 ∙ rest-open _ _ _ _ _ _ (c .loop-test .left))
+returns-3 c = sym (c .before .loop .inv .1 ∙ rest-open _ _ _ _ _ (c .loop-test .left))
 
 pub open-clause-spec : {M : Type 1} → statement M
 open-clause-spec =
@@ -147,8 +145,7 @@ open-clause-spec =
     enum-known-number
     returns-2
     enum-known-variable
-    with-variable-requires
-    with-variable-requires-2
+    with-literal-requires
     skip-between-requires
     loop-less
     loop-again
