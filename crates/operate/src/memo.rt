@@ -1,12 +1,18 @@
-// The memo of the recursion: a hash table of results in the slice that is lent, in as much of it as there is use for. No result is lost
-// while there is room. Where all of the slice is too little, only every step-th variable's results are held, so that the work is bounded by
-// the cells times 2 to the step, and not by the number of paths.
-use crate::top_of;
+// The memo of the recursion: a hash table of results in the slice that is lent, in as much of it as there is use for. A result may stand in
+// any of the eight cells from its home on; where all of them hold others, one of those gives way. So no search is long, and what is forgotten
+// is what has not been asked for a while: it is worked out again.
 use table::Found;
 use table::NodeNo;
 ghost use Prim.Native.Nat.{_+_, _≤_, _<_};
 ghost use lib.ListN.{length};
 ghost use Rattle.operate.specs.Inner.{Shaped, Empty, Tells, Follows, Stores};
+
+// The head: how many cells are live, and how many results were stored in them. Behind it are the cells.
+const LIVE: usize = 0;
+
+const STORED: usize = 1;
+
+const HEAD: usize = 2;
 
 // The lesser of two numbers.
 fn lesser(a: usize, b: usize) -> usize
@@ -18,22 +24,31 @@ fn lesser(a: usize, b: usize) -> usize
     a
 }
 
-// Where the search for f and g begins among m cells: two products, the second in 32 bits, scaled to m, so that neighbours lie apart.
+// The numbers of f and g mixed to 32 bits. Not linear, so that nodes cannot be numbered in such a way that many pairs have few homes.
+fn mixed(f: NodeNo, g: NodeNo) -> usize
+    ensures { λ r. ⌜ r < 4294967296 ⌝ }
+{
+    let a = (f.0 as usize) * 65536 + (g.0 as usize);
+    let b = (a ^ (a / 65536)) % 4294967296 * 2146121005;
+    let c = (b ^ (b / 65536)) % 4294967296 * 2221713035;
+    c % 4294967296
+}
+
+// The home of f and g among m cells.
 fn home_of(m: usize, f: NodeNo, g: NodeNo) -> usize
     requires { ⌜ m ≤ 1048576 ⌝ }
     ensures { λ r. ⌜ r ≤ m ⌝ }
 {
-    let key = (f.0 as usize) * 31153 + (g.0 as usize);
-    (key * 2654435769 % 4294967296) * m / 4294967296
+    mixed(f, g) * m / 4294967296
 }
 
 // The first cell from `from` on that is empty or has the key; `to` where none before it is.
 fn probe(memo: &[u64], from: usize, to: usize, key: u64) -> usize
-    requires { ⌜ 3 + to ≤ length (now memo) ⌝ }
+    requires { ⌜ 2 + to ≤ length (now memo) ⌝ }
 {
     let mut c = from;
     while c < to {
-        let e = memo[3 + c];
+        let e = memo[HEAD + c];
         if e == 0 || e / 65536 == key {
             return c;
         }
@@ -42,44 +57,31 @@ fn probe(memo: &[u64], from: usize, to: usize, key: u64) -> usize
     to
 }
 
-// The cell of f and g among n live ones, from their home to the end, then from the beginning; n where there are none.
+// The cell of f and g among n live ones: the first of the eight from their home on that is empty or has their key; n where none is.
 fn cell_of(memo: &[u64], n: usize, f: NodeNo, g: NodeNo) -> usize
-    requires { ⌜ (3 + n ≤ length (now memo)) × (n ≤ 1048576) ⌝ }
+    requires { ⌜ (2 + n ≤ length (now memo)) × (n ≤ 1048576) ⌝ }
 {
     let key = (f.0 as u64) * 65536 + (g.0 as u64);
     let home = home_of(n, f, g);
-    let c = probe(memo, home, n, key);
-    if c < n {
+    let end = lesser(home + 8, n);
+    let c = probe(memo, home, end, key);
+    if c < end {
         return c;
     }
-    probe(memo, 0, home, key)
-}
-
-// Whether results are held for the first variable of f and g.
-fn is_held(vars: &[u8], step: u64, f: NodeNo, g: NodeNo) -> bool
-    requires { ⌜ (f .0 < length (now vars)) × (g .0 < length (now vars)) ⌝ }
-{
-    if step <= 1 {
-        return true;
-    }
-    let x = top_of(vars, f, g) as u64;
-    x % step == 0
+    n
 }
 
 // The result stored for f and g.
-pub fn memo_find(vars: &[u8], memo: &[u64], f: NodeNo, g: NodeNo) -> Found
-    requires { ⌜ Shaped (now memo) × (f .0 < length (now vars)) × (g .0 < length (now vars)) ⌝ }
+pub fn memo_find(memo: &[u64], f: NodeNo, g: NodeNo) -> Found
+    requires { ⌜ Shaped (now memo) ⌝ }
     ensures { λ r. ⌜ Tells (now (memo .entry)) (f .0) (g .0) r ⌝ }
 {
-    if !is_held(vars, memo[2], f, g) {
-        return Found::Nothing;
-    }
-    let n = memo[0] as usize;
+    let n = memo[LIVE] as usize;
     let c = cell_of(memo, n, f, g);
     if n <= c {
         return Found::Nothing;
     }
-    let e = memo[3 + c];
+    let e = memo[HEAD + c];
     let a = f.0 as u64;
     let b = g.0 as u64;
     if e / 65536 == a * 65536 + b {
@@ -89,66 +91,69 @@ pub fn memo_find(vars: &[u8], memo: &[u64], f: NodeNo, g: NodeNo) -> Found
 }
 
 // Makes n cells live and empty.
-fn restart(memo: &mut [u64], n: usize, step: u64)
-    requires { ⌜ (3 + n ≤ length (now memo)) × (n ≤ 1048576) ⌝ }
+fn restart(memo: &mut [u64], n: usize)
+    requires { ⌜ (2 + n ≤ length (now memo)) × (n ≤ 1048576) ⌝ }
     ensures { λ _. ⌜ Empty (now (memo .exit)) ⌝ }
 {
-    let end = 3 + n;
+    let end = HEAD + n;
     let mut i: usize = 0;
     while i < end {
         memo[i] = 0;
         i += 1;
     }
-    memo[0] = n as u64;
-    memo[2] = step;
+    memo[LIVE] = n as u64;
 }
 
-// Where three quarters of the cells are used: begins anew with sixteen times as many, so that what is lost costs less than what comes,
-// or, with all of the slice in use, with the next step.
+// Where half of the cells may be used and there are more: begins anew with eight times as many, so that what is lost costs less than what
+// comes.
 fn make_room(memo: &mut [u64])
     requires { ⌜ Shaped (now memo) ⌝ }
     ensures { λ _. ⌜ Follows (now (memo .entry)) (now (memo .exit)) ⌝ }
 {
-    let n = memo[0] as usize;
-    if memo[1] < (n - n / 4) as u64 {
+    let n = memo[LIVE] as usize;
+    if memo[STORED] < (n / 2) as u64 {
         return;
     }
-    let all = lesser(memo.len() - 3, 1048576);
+    let all = lesser(memo.len() - HEAD, 1048576);
     if n < all {
-        let more = lesser(16 * n + 64, all);
-        restart(memo, more, 1);
-        return;
+        let more = lesser(8 * n + 512, all);
+        restart(memo, more);
     }
-    let step = memo[2] % 64 + 1;
-    restart(memo, n, step);
+}
+
+// The cell for a new result among n live ones: that of f and g, else one of the eight in turn.
+fn cell_for(memo: &[u64], n: usize, f: NodeNo, g: NodeNo) -> usize
+    requires { ⌜ (2 + n ≤ length (now memo)) × (n ≤ 1048576) ⌝ }
+{
+    let c = cell_of(memo, n, f, g);
+    if c < n {
+        return c;
+    }
+    home_of(n, f, g) + (memo[STORED] % 8) as usize
 }
 
 // Stores the result for f and g.
-pub fn memo_put(vars: &[u8], memo: &mut [u64], f: NodeNo, g: NodeNo, r: NodeNo)
-    requires { ⌜ Shaped (now memo) × (f .0 < length (now vars)) × (g .0 < length (now vars)) ⌝ }
+pub fn memo_put(memo: &mut [u64], f: NodeNo, g: NodeNo, r: NodeNo)
+    requires { ⌜ Shaped (now memo) ⌝ }
     ensures { λ _. ⌜ Stores (now (memo .entry)) (f .0) (g .0) (r .0) (now (memo .exit)) ⌝ }
 {
-    if !is_held(vars, memo[2], f, g) {
-        return;
-    }
     make_room(memo);
-    let n = memo[0] as usize;
-    let c = cell_of(memo, n, f, g);
+    let n = memo[LIVE] as usize;
+    let c = cell_for(memo, n, f, g);
     if n <= c {
         return;
     }
-    memo[1] = std::num::wrapping_add_u64(memo[1], 1);
+    memo[STORED] = std::num::wrapping_add_u64(memo[STORED], 1);
     let a = f.0 as u64;
     let b = g.0 as u64;
     let d = r.0 as u64;
-    memo[3 + c] = a * 4294967296 + b * 65536 + d;
+    memo[HEAD + c] = a * 4294967296 + b * 65536 + d;
 }
 
 // Empties the memo: no cell is live.
 pub fn clear_memo(memo: &mut [u64])
-    requires { ⌜ 3 ≤ length (now memo) ⌝ }
+    requires { ⌜ 2 ≤ length (now memo) ⌝ }
     ensures { λ _. ⌜ Empty (now (memo .exit)) ⌝ }
 {
-    memo[2] = 1;
-    memo[0] = 0;
+    memo[LIVE] = 0;
 }

@@ -4,6 +4,7 @@ ghost use mathlib.Core.Path.{_≡_};
 ghost use mathlib.Core.Bool.{true};
 ghost use Prim.Native.Nat.{_≤_};
 ghost use lib.ListN.{length};
+ghost use Rattle.walks.specs.Readable.{Roomy};
 ghost use Rattle.verdict.specs.Check.{verdict, lentFits, outcome, check};
 ghost use Rattle.session.specs.Checked.{outcomeOf};
 
@@ -54,8 +55,45 @@ fn check_64<'a>(
     )
 }
 
-// For up to 4,096 places.
+// For up to 4,096 places, with a memo that is lent.
 fn check_4096<'a>(
+    vars: &mut [u8],
+    lows: &mut [u16],
+    highs: &mut [u16],
+    members: &mut [u16],
+    scratch: &mut [u16],
+    memo: &mut [u64],
+    formula: &'a [u8],
+    proof: &'a [u8],
+) -> Checked
+    requires { ⌜ (lentFits (now vars) (now lows) (now highs) (now members) (now scratch) ≡ true) × (length (now vars) ≤ 4096)
+        × Roomy (now vars) (now memo) ⌝ }
+    ensures { λ r. ⌜ outcomeOf (now (vars .exit)) (now (lows .exit)) (now (highs .exit)) (now (members .exit)) (now (scratch .exit)) r
+        ≡ outcome (length (now (vars .entry))) (length (now (members .entry))) (length (now (scratch .entry)))
+        (verdict (length (now (vars .entry))) (now (formula .entry)) (now (proof .entry))) ⌝ }
+{
+    let mut heads = [0u16; 8192];
+    let mut links = [0u16; 4096];
+    let mut marks = [0u8; 4096];
+    let places = vars.len();
+    let ends = 2 * places;
+    crate::run(
+        vars,
+        lows,
+        highs,
+        &mut heads[..ends],
+        &mut links[..places],
+        memo,
+        &mut marks[..places],
+        members,
+        scratch,
+        formula,
+        proof,
+    )
+}
+
+// For up to 4,096 places and a short proof: a small memo, since clearing it is what such a check pays for.
+fn check_4096_short<'a>(
     vars: &mut [u8],
     lows: &mut [u16],
     highs: &mut [u16],
@@ -69,22 +107,42 @@ fn check_4096<'a>(
         ≡ outcome (length (now (vars .entry))) (length (now (members .entry))) (length (now (scratch .entry)))
         (verdict (length (now (vars .entry))) (now (formula .entry)) (now (proof .entry))) ⌝ }
 {
-    let mut heads = [0u16; 8192];
-    let mut links = [0u16; 4096];
     let mut memo = [0u64; 8192];
-    let mut marks = [0u8; 4096];
-    let places = vars.len();
-    let ends = 2 * places;
-    crate::run(
+    check_4096(
         vars,
         lows,
         highs,
-        &mut heads[..ends],
-        &mut links[..places],
-        &mut memo,
-        &mut marks[..places],
         members,
         scratch,
+        &mut memo,
+        formula,
+        proof,
+    )
+}
+
+// For up to 4,096 places and a long proof: a memo that holds the pairs of any two diagrams over a few neighbouring variables.
+fn check_4096_long<'a>(
+    vars: &mut [u8],
+    lows: &mut [u16],
+    highs: &mut [u16],
+    members: &mut [u16],
+    scratch: &mut [u16],
+    formula: &'a [u8],
+    proof: &'a [u8],
+) -> Checked
+    requires { ⌜ (lentFits (now vars) (now lows) (now highs) (now members) (now scratch) ≡ true) × (length (now vars) ≤ 4096) ⌝ }
+    ensures { λ r. ⌜ outcomeOf (now (vars .exit)) (now (lows .exit)) (now (highs .exit)) (now (members .exit)) (now (scratch .exit)) r
+        ≡ outcome (length (now (vars .entry))) (length (now (members .entry))) (length (now (scratch .entry)))
+        (verdict (length (now (vars .entry))) (now (formula .entry)) (now (proof .entry))) ⌝ }
+{
+    let mut memo = [0u64; 131072];
+    check_4096(
+        vars,
+        lows,
+        highs,
+        members,
+        scratch,
+        &mut memo,
         formula,
         proof,
     )
@@ -107,7 +165,7 @@ fn check_65536<'a>(
 {
     let mut heads = [0u16; 131072];
     let mut links = [0u16; 65536];
-    let mut memo = [0u64; 65600];
+    let mut memo = [0u64; 90112];
     let mut marks = [0u8; 65536];
     let places = vars.len();
     let ends = 2 * places;
@@ -154,7 +212,10 @@ pub fn call<'a>(
         return check_64(vars, lows, highs, members, scratch, formula, proof);
     }
     if vars.len() <= 4096 {
-        return check_4096(vars, lows, highs, members, scratch, formula, proof);
+        if proof.len() <= 2048 {
+            return check_4096_short(vars, lows, highs, members, scratch, formula, proof);
+        }
+        return check_4096_long(vars, lows, highs, members, scratch, formula, proof);
     }
     check_65536(vars, lows, highs, members, scratch, formula, proof)
 }

@@ -10,11 +10,8 @@ slice-read-n c = search needs
 slice-read-if1 : tie.Need-slice-read-if1
 slice-read-if1 c = search needs
 
-sub-if1 : tie.Need-sub-if1
-sub-if1 c = search needs
-
 returns : tie.Need-returns
-returns c = record { shaped = c .before .before .before .before .pre; right = λ op t right. right }
+returns c = search needs
 
 sub-lesser : tie.Need-sub-lesser
 sub-lesser c = search needs
@@ -40,20 +37,8 @@ same-length c = search needs
 returns-2 : tie.Need-returns-2
 returns-2 c = empty-follows _ _ (c .before .before .restart .ensures)
 
-slice-read-step : tie.Need-slice-read-step
-slice-read-step c = search needs
-
-add-step : tie.Need-add-step
-add-step c = search needs
-
-restart-requires-2 : tie.Need-restart-requires-2
-restart-requires-2 c κs = search needs
-
-same-length-2 : tie.Need-same-length-2
-same-length-2 c = search needs
-
 returns-3 : tie.Need-returns-3
-returns-3 c = empty-follows _ _ (c .before .before .restart2 .ensures)
+returns-3 c = search needs
 
 pub make-room-spec : {M : Type 1} → statement M
 make-room-spec =
@@ -61,7 +46,6 @@ make-room-spec =
     (tie.spec
     slice-read-n
     slice-read-if1
-    sub-if1
     returns
     sub-lesser
     lesser-requires
@@ -71,8 +55,4 @@ make-room-spec =
     restart-requires
     same-length
     returns-2
-    slice-read-step
-    add-step
-    restart-requires-2
-    same-length-2
     returns-3)

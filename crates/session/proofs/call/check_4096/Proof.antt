@@ -1,9 +1,9 @@
--- The check over local arrays for up to 4,096 places: the lent parts are zeros. Assumes nothing.
+-- The check over local arrays and a lent memo for up to 4,096 places: the lent parts are zeros. Assumes nothing.
 use Prim.Native.Nat.{_*_}
 use native.Mathlib.Omega.{arith}
 use lib.ListN.{length}
 use borrow.Author.Needs.{needs}
-use Rattle.table.proofs.Zeros.{part-zeros, length-part, length-whole}
+use Rattle.table.proofs.Zeros.{part-zeros, length-part}
 use Rattle.session.proofs.call.check_4096.Statement.{statement}
 use Rattle.session.proofs.call.check_4096.Tie as tie
 
@@ -18,25 +18,27 @@ array-borrow-prefix-heads c =
 -- The ways back, written by ways.py: TO-from-FROM leads from the place FROM of the code to the place TO before it.
 module _ (c : tie.After-heads) where
   abbrev start-from-slice-aggregate-run : tie.Start
-  start-from-slice-aggregate-run = c .before .before .before .before .before .before .before .before .before .before .before
+  start-from-slice-aggregate-run = c .before .before .before .before .before .before .before .before .before .before .before .before
 
 module _ (c : tie.After-links) where
   abbrev start-from-slice-aggregate-run-2 : tie.Start
   start-from-slice-aggregate-run-2 = c .before .before .before .before .before .before .before .before .before .before .before .before
+      .before
 
 module _ (c : tie.After-marks) where
-  abbrev start-from-slice-aggregate-run-4 : tie.Start
-  start-from-slice-aggregate-run-4 = c .before .before .before .before .before .before .before .before .before .before .before .before
-      .before .before
+  abbrev start-from-slice-aggregate-run-3 : tie.Start
+  start-from-slice-aggregate-run-3 = c .before .before .before .before .before .before .before .before .before .before .before .before
+      .before .before .before
 
-module _ (c : tie.After-run-arg5) where
+module _ (c : tie.After-run-arg6) where
   abbrev start-from-run-call : tie.Start
   start-from-run-call = c .before .before .before .before .before .before .before .before .before .before .before .before .before .before
-      .before .before
+      .before .before .before
 
-module _ (c : tie.After-slice-known10) where
+module _ (c : tie.After-slice-known12) where
   abbrev run-from-return : tie.After-run
   run-from-return = c .before .before .before .before .before .before .before .before .before .before .before .before .before .before
+      .before
 
 slice-aggregate-run : tie.Need-slice-aggregate-run
 slice-aggregate-run c =
@@ -52,23 +54,19 @@ slice-aggregate-run-2 c =
     let start = start-from-slice-aggregate-run-2 c in
     length-part _ 4096 (omega (arith, start .pre .1))
 
-slice-aggregate-run-3 : tie.Need-slice-aggregate-run-3
-slice-aggregate-run-3 c =
-    length-whole 8192
-
 array-borrow-prefix-marks : tie.Need-array-borrow-prefix-marks
 array-borrow-prefix-marks c =
     search needs
 
-slice-aggregate-run-4 : tie.Need-slice-aggregate-run-4
-slice-aggregate-run-4 c =
-    let start = start-from-slice-aggregate-run-4 c in
+slice-aggregate-run-3 : tie.Need-slice-aggregate-run-3
+slice-aggregate-run-3 c =
+    let start = start-from-slice-aggregate-run-3 c in
     length-part _ 4096 (omega (arith, start .pre .1))
 
 run-requires : tie.Need-run-requires
 run-requires c κs =
     let start = start-from-run-call c in
-    (start .pre .0, (part-zeros (2 * (length (start .args .vars .now))) 8192 (omega (arith, start .pre .1)), part-zeros (length (start .args .vars .now)) 4096 (omega (arith, start .pre .1)), part-zeros (length (start .args .vars .now)) 4096 (omega (arith, start .pre .1)), omega (arith, length-whole 8192, start .pre .1)))
+    (start .pre .0, (part-zeros (2 * (length (start .args .vars .now))) 8192 (omega (arith, start .pre .1)), part-zeros (length (start .args .vars .now)) 4096 (omega (arith, start .pre .1)), part-zeros (length (start .args .vars .now)) 4096 (omega (arith, start .pre .1)), start .pre .2))
 
 same-length : tie.Need-same-length
 same-length c =
@@ -95,10 +93,15 @@ same-length-5 c =
     let after-run = run-from-return c in
     after-run .run .kept .1 .1 .1 .1 .1 .1 .1 .1 .0
 
+same-length-6 : tie.Need-same-length-6
+same-length-6 c =
+    let after-run = run-from-return c in
+    after-run .run .kept .1 .1 .1 .1 .1 .0
+
 returns : tie.Need-returns
 returns c =
     let after-run = run-from-return c in
     after-run .run .ensures
 
 pub check-4096-spec : {M : Type 1} → statement M
-check-4096-spec = tie.close (tie.spec mul-ends array-borrow-prefix-heads slice-aggregate-run array-borrow-prefix-links slice-aggregate-run-2 slice-aggregate-run-3 array-borrow-prefix-marks slice-aggregate-run-4 run-requires same-length same-length-2 same-length-3 same-length-4 same-length-5 returns)
+check-4096-spec = tie.close (tie.spec mul-ends array-borrow-prefix-heads slice-aggregate-run array-borrow-prefix-links slice-aggregate-run-2 array-borrow-prefix-marks slice-aggregate-run-3 run-requires same-length same-length-2 same-length-3 same-length-4 same-length-5 same-length-6 returns)

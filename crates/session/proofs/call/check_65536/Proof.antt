@@ -54,7 +54,7 @@ slice-aggregate-run-2 c =
 
 slice-aggregate-run-3 : tie.Need-slice-aggregate-run-3
 slice-aggregate-run-3 c =
-    length-whole 65600
+    length-whole 90112
 
 array-borrow-prefix-marks : tie.Need-array-borrow-prefix-marks
 array-borrow-prefix-marks c =
@@ -68,7 +68,7 @@ slice-aggregate-run-4 c =
 run-requires : tie.Need-run-requires
 run-requires c κs =
     let start = start-from-run-call c in
-    (start .pre .0, (part-zeros (2 * (length (start .args .vars .now))) 131072 (omega (arith, start .pre .1)), part-zeros (length (start .args .vars .now)) 65536 (omega (arith, start .pre .1)), part-zeros (length (start .args .vars .now)) 65536 (omega (arith, start .pre .1)), omega (arith, length-whole 65600, start .pre .1)))
+    (start .pre .0, (part-zeros (2 * (length (start .args .vars .now))) 131072 (omega (arith, start .pre .1)), part-zeros (length (start .args .vars .now)) 65536 (omega (arith, start .pre .1)), part-zeros (length (start .args .vars .now)) 65536 (omega (arith, start .pre .1)), omega (arith, length-whole 90112, start .pre .1)))
 
 same-length : tie.Need-same-length
 same-length c =
