@@ -3,6 +3,7 @@
 //! Times the proved library and the reference on the same commands in one run, the cost of text taken away, and says what
 //! stack a call takes. WORD is `single`, `check`, `slow` or `stack`.
 
+mod pairs;
 mod slow;
 mod stack;
 mod workloads;

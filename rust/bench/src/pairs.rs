@@ -73,7 +73,7 @@ pub fn wide(depth: usize, width: usize, levels: usize, repeats: usize) -> Proble
         for _ in 0..levels {
             row = level(&mut store, random, variables.next().unwrap(), &row, width, closed);
         }
-        row.truncate(1 << depth);
+        row = (0..1 << depth).map(|leaf| if leaf < row.len() { row[leaf] } else { random.pick(&row) }).collect();
         for variable in variables {
             row = row.chunks(2).map(|pair| store.node(variable, pair[0], pair[1])).collect();
         }
@@ -84,7 +84,14 @@ pub fn wide(depth: usize, width: usize, levels: usize, repeats: usize) -> Proble
 
 /// So many nodes of one variable over the nodes below it; with each its negation, if the diagram is to be closed under it, so
 /// that negating it places nothing.
-fn level(store: &mut Diagrams, random: &mut Random, variable: u8, below: &[Node], most: usize, closed: bool) -> Vec<Node> {
+fn level(
+    store: &mut Diagrams,
+    random: &mut Random,
+    variable: u8,
+    below: &[Node],
+    most: usize,
+    closed: bool,
+) -> Vec<Node> {
     let mut row = Vec::new();
     for _ in 0..50 * most {
         let node = store.node(variable, random.pick(below), random.pick(below));

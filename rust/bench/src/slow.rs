@@ -1,5 +1,6 @@
 //! Inputs made to be slow: each aims at one thing that bounds the work.
 
+use crate::pairs;
 use crate::workloads::{self, Workload};
 use compare::diagram::{Diagrams, Node};
 use compare::families::{self, Problem};
@@ -18,9 +19,17 @@ pub fn all() -> Vec<Workload> {
             all.push(workloads::proof(&format!("counters by {first}, {second}"), &counters(first, second), places));
         }
     }
-    for (first, second) in [(31, 32), (60, 61), (100, 101)] {
+    for (first, second) in [(31, 32), (60, 61), (100, 101), (127, 128)] {
         all.push(disjoint(first, second));
     }
+    all.extend([
+        workloads::proof("counters apart, by 64", &pairs::apart(64, 0), 4_096),
+        workloads::proof("counters that exclude each other, by 64, 36", &pairs::excluding(64, 36), 4_096),
+        workloads::proof("PR lines over counters apart, by 64", &pairs::apart(64, 20), 4_096),
+        workloads::proof("wide levels, 6 of 200", &pairs::wide(8, 200, 6, 0), 4_096),
+        workloads::proof("PR lines over wide levels", &pairs::wide(8, 200, 6, 5), 4_096),
+        workloads::proof("counters apart, by 130", &pairs::apart(130, 0), 65_536),
+    ]);
     all
 }
 
