@@ -63,9 +63,9 @@ fn some_negated(
     links: &[u16],
     memo: &mut [u64],
     marks: &[u8],
-    count: usize,
     list: &[u16],
     words: &[u64],
+    count: usize,
     touching: u64,
 ) -> bool
     requires { ⌜ (
@@ -80,7 +80,7 @@ fn some_negated(
         let before = tableOf (now (vars .entry)) (now (lows .entry)) (now (highs .entry)) (now (heads .entry)) (now (links .entry)) count in
         r ≡ someNegated (diagramsOf (nodesOf before) (now (list .entry)))) ⌝ }
 {
-    walks::clear_memo(memo, count);
+    walks::clear_cells(memo, count);
     let mut i: usize = 0;
     while i < list.len() {
         if words[i] & touching != 0 {
@@ -105,9 +105,9 @@ pub fn conflicts(
     links: &[u16],
     memo: &mut [u64],
     marks: &mut [u8],
-    count: usize,
     list: &[u16],
     words: &[u64],
+    count: usize,
     touching: u64,
 ) -> bool
     requires { ⌜ (
@@ -133,9 +133,9 @@ pub fn conflicts(
         links,
         memo,
         marks,
-        count,
         list,
         words,
+        count,
         touching,
     );
     set_all(marks, list, 0);

@@ -18,7 +18,7 @@ use Rattle.table.specs.Nodes.{diagramAt}
 use Rattle.table.specs.Indexed.{Table, size, nodesOf, Good, Outcome}
 use Rattle.table.proofs.Numbers.{diagramAt-one}
 use Rattle.table.proofs.Outcomes.{Longer, longer, Grown, grown}
-use Rattle.walks.specs.Constant.{constantAt}
+use Rattle.walks.specs.Constant.{oneAt}
 use Rattle.operate.specs.declared.Operation.the-variants.{Literals}
 use Rattle.operate.specs.Operate.{result}
 use Rattle.operate.specs.Inner.{applied, MemoRight, Ready}
@@ -44,8 +44,8 @@ module _ (T : Table) (list memo : List ℕ) (R : ListReady T list memo) (f p n :
   One = prTurns 64 (inWord p) (inWord n) (diagramsOf (nodesOf T) list) (diagramAt (nodesOf T) f ∷ [])
 
   -- h is 1: nothing is made
-  pub turn-constant : constantAt (nodesOf T) p n true f ≡ true → Says T One 64 (judgedAs false true 0 (T .count)) T
-  unfolding constantAt lineReach turnsReach placedAll
+  pub turn-constant : oneAt (nodesOf T) p n f ≡ true → Says T One 64 (judgedAs false true 0 (T .count)) T
+  unfolding oneAt lineReach turnsReach placedAll
   turn-constant e =
       let q : One ≡ _ = constant-turn 64 (inWord p) (inWord n) (diagramsOf (nodesOf T) list) (diagramAt (nodesOf T) f) e in
       record {
@@ -66,7 +66,7 @@ module _ (T : Table) (list memo : List ℕ) (R : ListReady T list memo) (f p n :
         right = right;
       }
 
-  module _ (other : constantAt (nodesOf T) p n true f ≡ false) (o : Outcome) (e : o ≡ applied T (Literals p n) f 1) where
+  module _ (other : oneAt (nodesOf T) p n f ≡ false) (o : Outcome) (e : o ≡ applied T (Literals p n) f 1) where
     abbrev h : Diagram
     h = cofactorLiterals 64 (inWord p) (inWord n) (diagramAt (nodesOf T) f)
 
@@ -81,7 +81,7 @@ module _ (T : Table) (list memo : List ℕ) (R : ListReady T list memo) (f p n :
     long = longer T h o made
 
     reach-is : lineReach (size T) (nodesOf T) One ≡ reached (placedAll (size T) (nodesOf T) (h ∷ (base 64 ms h ++ propagation 64 ms h .made)))
-    unfolding constantAt
+    unfolding oneAt
     reach-is = turn-reach 64 (inWord p) (inWord n) ms (diagramAt (nodesOf T) f) other (size T) (nodesOf T)
 
     -- h found no room
@@ -98,7 +98,7 @@ module _ (T : Table) (list memo : List ℕ) (R : ListReady T list memo) (f p n :
 
     module _ (q : o .full ≡ false) where
       not-one : o .node ≡ 1 → ⊥
-      unfolding constantAt
+      unfolding oneAt
       not-one z =
           t≢f (sym (eq-same h (leaf true) (sym (made .is q) ∙ ap (diagramAt (nodesOf (o .table))) z ∙ diagramAt-one (nodesOf (o .table)))) ∙ other)
 
@@ -139,7 +139,7 @@ module _ (T : Table) (list memo : List ℕ) (R : ListReady T list memo) (f p n :
           ∙ ap₂ (λ (s : ℕ) (L : Line). lineReach s (nodesOf (o .table)) L) (sym (made .same-size)) (sym rup-is)
 
       pub turn-judged : (r : Judged) (T′ : Table) → Says (o .table) Rup 64 r T′ → Says T One 64 r T′
-      unfolding constantAt
+      unfolding oneAt
       turn-judged r T′ S =
           record {
             extended = extended-trans T (o .table) T′ (R .good) (longer-extended T (o .table) long) (S .extended);

@@ -14,13 +14,13 @@ use Rattle.table.specs.Nodes.{Node, diagramAt}
 use Rattle.table.specs.Indexed.{Table, nodesOf, Good}
 use Rattle.table.proofs.Written.{length-nodes, good-ordered}
 use Rattle.table.proofs.Numbers.{UsesTo, reduced-to}
-use Rattle.walks.specs.Constant.{constantAt}
+use Rattle.walks.specs.Constant.{oneAt}
 use Rattle.table.specs.Lists.{diagramsOf, Inside}
 use Rattle.judge.proofs.Negations.{not-one}
 
 -- The walk that asks whether a cofactor by literals is 1 tells whether a line is witnessed.
-pub witnessed-walk : (t : List Node) (p n k : ℕ) → constantAt t p n true k ≡ witnessed 64 (inWord p) (inWord n) (diagramAt t k)
-unfolding constantAt witnessed
+pub witnessed-walk : (t : List Node) (p n k : ℕ) → oneAt t p n k ≡ witnessed 64 (inWord p) (inWord n) (diagramAt t k)
+unfolding oneAt witnessed
 witnessed-walk t p n k = refl
 
 module _ (n : ℕ) (most : n ≤ 64) (T : Table) (G : Good T) (uses : UsesTo n (nodesOf T)) where

@@ -49,7 +49,7 @@ fn copy_words(from: &[u64], to: &mut [u64])
 }
 
 // Makes not-g, and fills the list with the members' cofactors by not-g, made in order; or stops at `full`.
-// `given` has the members' variables and `word` those of g; `words` then has the list's.
+// `member_words` has the members' variables and `word` those of g; `words` then has the list's.
 fn by_negation(
     vars: &mut [u8],
     lows: &mut [u16],
@@ -58,7 +58,7 @@ fn by_negation(
     links: &mut [u16],
     memo: &mut [u64],
     members: &[u16],
-    given: &[u64],
+    member_words: &[u64],
     list: &mut [u16],
     words: &mut [u64],
     count: usize,
@@ -70,7 +70,7 @@ fn by_negation(
         Negatable before (now members) (now memo) (g .0) × (length (now list) ≡ length (now members))) ⌝ }
     requires { ⌜ (
         let before = tableOf (now vars) (now lows) (now highs) (now heads) (now links) count in
-        Worded before (now members) (now given) (g .0) word × (length (now words) ≡ length (now members))) ⌝ }
+        Worded before (now members) (now member_words) (g .0) word × (length (now words) ≡ length (now members))) ⌝ }
     ensures { λ r. ⌜ (
         let before = tableOf (now (vars .entry)) (now (lows .entry)) (now (highs .entry)) (now (heads .entry)) (now (links .entry)) count in
         let after = tableOf (now (vars .exit)) (now (lows .exit)) (now (highs .exit)) (now (heads .exit)) (now (links .exit)) (r .count) in
@@ -81,7 +81,7 @@ fn by_negation(
         r .full ≡ false → Supports (nodesOf after) (now (list .exit)) (now (words .exit))) ⌝ }
 {
     copy(members, list);
-    copy_words(given, words);
+    copy_words(member_words, words);
     operate::memo::clear_memo(memo);
     let not = operate::apply(
         vars,
@@ -117,7 +117,7 @@ fn by_negation(
     )
 }
 
-// The RUP line of node `root`, worked out in `list`, where `given` has the members' variables and `word` those of the root. Its nodes stay.
+// The RUP line of node `root`, worked out in `list`, where `member_words` has the members' variables and `word` those of the root. Its nodes stay.
 fn rup_with(
     vars: &mut [u8],
     lows: &mut [u16],
@@ -127,7 +127,7 @@ fn rup_with(
     memo: &mut [u64],
     marks: &mut [u8],
     members: &[u16],
-    given: &[u64],
+    member_words: &[u64],
     list: &mut [u16],
     words: &mut [u64],
     count: usize,
@@ -141,7 +141,7 @@ fn rup_with(
         × (length (now list) ≡ length (now members))) ⌝ }
     requires { ⌜ (
         let before = tableOf (now vars) (now lows) (now highs) (now heads) (now links) count in
-        Worded before (now members) (now given) (root .0) word × (length (now words) ≡ length (now members))) ⌝ }
+        Worded before (now members) (now member_words) (root .0) word × (length (now words) ≡ length (now members))) ⌝ }
     ensures { λ r. ⌜ (
         let before = tableOf (now (vars .entry)) (now (lows .entry)) (now (highs .entry)) (now (heads .entry)) (now (links .entry)) count in
         let after = tableOf (now (vars .exit)) (now (lows .exit)) (now (highs .exit)) (now (heads .exit)) (now (links .exit)) (r .count) in
@@ -156,7 +156,7 @@ fn rup_with(
         links,
         memo,
         members,
-        given,
+        member_words,
         list,
         words,
         count,
@@ -201,7 +201,7 @@ pub fn rup(
     memo: &mut [u64],
     marks: &mut [u8],
     members: &[u16],
-    given: &mut [u64],
+    member_words: &mut [u64],
     list: &mut [u16],
     words: &mut [u64],
     count: usize,
@@ -212,14 +212,14 @@ pub fn rup(
         Negatable before (now members) (now memo) (root .0)
         × (now marks ≡ unmarked (length (now vars)))
         × (length (now list) ≡ length (now members))) ⌝ }
-    requires { ⌜ (length (now given) ≡ length (now members)) × (length (now words) ≡ length (now members)) ⌝ }
+    requires { ⌜ (length (now member_words) ≡ length (now members)) × (length (now words) ≡ length (now members)) ⌝ }
     ensures { λ r. ⌜ (
         let before = tableOf (now (vars .entry)) (now (lows .entry)) (now (highs .entry)) (now (heads .entry)) (now (links .entry)) count in
         let after = tableOf (now (vars .exit)) (now (lows .exit)) (now (highs .exit)) (now (heads .exit)) (now (links .exit)) (r .count) in
         Says before (rup 64 (diagramsOf (nodesOf before) (now (members .entry))) (diagramAt (nodesOf before) (root .0))) 64 r after) ⌝ }
     ensures { λ _. ⌜ now (marks .exit) ≡ unmarked (length (now (vars .entry))) ⌝ }
 {
-    supports::supports_of(vars, lows, highs, memo, count, members, given);
+    supports::supports_of(vars, lows, highs, memo, members, member_words, count);
     let word = supports::support_from(vars, lows, highs, memo, count, root);
     rup_with(
         vars,
@@ -230,7 +230,7 @@ pub fn rup(
         memo,
         marks,
         members,
-        given,
+        member_words,
         list,
         words,
         count,
@@ -239,7 +239,7 @@ pub fn rup(
     )
 }
 
-// A member's turn of a PR line, worked out in `second`, where `first` has the members by not-g, `firsts` their variables
+// A member's turn of a PR line, worked out in `second`, where `first` has the members by not-g, `first_words` their variables
 // and `word` the member's own. Its nodes stay.
 fn turn(
     vars: &mut [u8],
@@ -250,9 +250,9 @@ fn turn(
     memo: &mut [u64],
     marks: &mut [u8],
     first: &[u16],
-    firsts: &[u64],
+    first_words: &[u64],
     second: &mut [u16],
-    seconds: &mut [u64],
+    second_words: &mut [u64],
     count: usize,
     f: NodeNo,
     word: u64,
@@ -267,7 +267,7 @@ fn turn(
         × (f .0 < count)) ⌝ }
     requires { ⌜ (
         let before = tableOf (now vars) (now lows) (now highs) (now heads) (now links) count in
-        Worded before (now first) (now firsts) (f .0) word × (length (now seconds) ≡ length (now first))) ⌝ }
+        Worded before (now first) (now first_words) (f .0) word × (length (now second_words) ≡ length (now first))) ⌝ }
     ensures { λ r. ⌜ (
         let before = tableOf (now (vars .entry)) (now (lows .entry)) (now (highs .entry)) (now (heads .entry)) (now (links .entry)) count in
         let after = tableOf (now (vars .exit)) (now (lows .exit)) (now (highs .exit)) (now (heads .exit)) (now (links .exit)) (r .count) in
@@ -277,7 +277,7 @@ fn turn(
         64 r after) ⌝ }
     ensures { λ _. ⌜ now (marks .exit) ≡ unmarked (length (now (vars .entry))) ⌝ }
 {
-    if walks::is_constant(vars, lows, highs, memo, count, f, positive, negative, true) {
+    if walks::is_one(vars, lows, highs, memo, count, f, positive, negative) {
         return Judged {
             full: false,
             shown: true,
@@ -315,9 +315,9 @@ fn turn(
         memo,
         marks,
         first,
-        firsts,
+        first_words,
         second,
-        seconds,
+        second_words,
         h.count,
         h.node,
         word,
@@ -334,11 +334,11 @@ fn turns(
     memo: &mut [u64],
     marks: &mut [u8],
     members: &[u16],
-    given: &[u64],
+    member_words: &[u64],
     first: &[u16],
-    firsts: &[u64],
+    first_words: &[u64],
     second: &mut [u16],
-    seconds: &mut [u64],
+    second_words: &mut [u64],
     count: usize,
     positive: u64,
     negative: u64,
@@ -352,11 +352,11 @@ fn turns(
         × (length (now members) ≤ 65536)) ⌝ }
     requires { ⌜ (
         let before = tableOf (now vars) (now lows) (now highs) (now heads) (now links) count in
-        (length (now given) ≡ length (now members))
-        × Supports (nodesOf before) (now members) (now given)
-        × (length (now firsts) ≡ length (now first))
-        × Supports (nodesOf before) (now first) (now firsts)
-        × (length (now seconds) ≡ length (now first))) ⌝ }
+        (length (now member_words) ≡ length (now members))
+        × Supports (nodesOf before) (now members) (now member_words)
+        × (length (now first_words) ≡ length (now first))
+        × Supports (nodesOf before) (now first) (now first_words)
+        × (length (now second_words) ≡ length (now first))) ⌝ }
     ensures { λ r. ⌜ (
         let before = tableOf (now (vars .entry)) (now (lows .entry)) (now (highs .entry)) (now (heads .entry)) (now (links .entry)) count in
         let after = tableOf (now (vars .exit)) (now (lows .exit)) (now (highs .exit)) (now (heads .exit)) (now (links .exit)) (r .count) in
@@ -379,12 +379,12 @@ fn turns(
             memo,
             marks,
             first,
-            firsts,
+            first_words,
             second,
-            seconds,
+            second_words,
             count,
             f,
-            given[i],
+            member_words[i],
             positive,
             negative,
         );
@@ -428,11 +428,11 @@ pub fn pr(
     memo: &mut [u64],
     marks: &mut [u8],
     members: &[u16],
-    given: &mut [u64],
+    member_words: &mut [u64],
     first: &mut [u16],
-    firsts: &mut [u64],
+    first_words: &mut [u64],
     second: &mut [u16],
-    seconds: &mut [u64],
+    second_words: &mut [u64],
     count: usize,
     root: NodeNo,
     positive: u64,
@@ -445,9 +445,9 @@ pub fn pr(
         × (length (now first) ≡ length (now members))
         × (length (now second) ≡ length (now members))
         × (length (now members) ≤ 65536)) ⌝ }
-    requires { ⌜ (length (now given) ≡ length (now members))
-        × (length (now firsts) ≡ length (now members))
-        × (length (now seconds) ≡ length (now members)) ⌝ }
+    requires { ⌜ (length (now member_words) ≡ length (now members))
+        × (length (now first_words) ≡ length (now members))
+        × (length (now second_words) ≡ length (now members)) ⌝ }
     ensures { λ r. ⌜ (
         let before = tableOf (now (vars .entry)) (now (lows .entry)) (now (highs .entry)) (now (heads .entry)) (now (links .entry)) count in
         let after = tableOf (now (vars .exit)) (now (lows .exit)) (now (highs .exit)) (now (heads .exit)) (now (links .exit)) (r .count) in
@@ -457,7 +457,7 @@ pub fn pr(
         (64 * length (now (members .entry))) r after) ⌝ }
     ensures { λ _. ⌜ now (marks .exit) ≡ unmarked (length (now (vars .entry))) ⌝ }
 {
-    supports::supports_of(vars, lows, highs, memo, count, members, given);
+    supports::supports_of(vars, lows, highs, memo, members, member_words, count);
     let word = supports::support_from(vars, lows, highs, memo, count, root);
     let made = by_negation(
         vars,
@@ -467,9 +467,9 @@ pub fn pr(
         links,
         memo,
         members,
-        given,
+        member_words,
         first,
-        firsts,
+        first_words,
         count,
         root,
         word,
@@ -482,7 +482,7 @@ pub fn pr(
             count: made.count,
         };
     }
-    supports::supports_of(vars, lows, highs, memo, made.count, first, firsts);
+    supports::supports_of(vars, lows, highs, memo, first, first_words, made.count);
     turns(
         vars,
         lows,
@@ -492,11 +492,11 @@ pub fn pr(
         memo,
         marks,
         members,
-        given,
+        member_words,
         first,
-        firsts,
+        first_words,
         second,
-        seconds,
+        second_words,
         made.count,
         positive,
         negative,

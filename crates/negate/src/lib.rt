@@ -25,7 +25,7 @@ pub fn negation_in(
         let before = tableOf (now (vars .entry)) (now (lows .entry)) (now (highs .entry)) (now (heads .entry)) (now (links .entry)) count in
         Negates before (f .0) r) ⌝ }
 {
-    walks::clear_memo(memo, count);
+    walks::clear_cells(memo, count);
     negation_from(vars, lows, highs, heads, links, memo, count, f)
 }
 

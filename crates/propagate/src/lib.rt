@@ -159,15 +159,15 @@ pub fn first_units(
     lows: &[u16],
     highs: &[u16],
     memo: &mut [u64],
-    count: usize,
     list: &[u16],
+    count: usize,
 ) -> FirstUnits
     requires { ⌜ Readable (now vars) (now lows) (now highs) count × Inside count (now list) × Roomy (now vars) (now memo) ⌝ }
     ensures { λ r. ⌜ (
         let nodes = nodesIn (now (vars .entry)) (now (lows .entry)) (now (highs .entry)) count in
         AreFirst 64 (diagramsOf nodes (now (list .entry))) r) ⌝ }
 {
-    walks::clear_memo(memo, count);
+    walks::clear_cells(memo, count);
     let mut place: usize = 0;
     while place < list.len() {
         let member = NodeNo(list[place]);
@@ -204,9 +204,9 @@ fn next_round(
     links: &[u16],
     memo: &mut [u64],
     marks: &mut [u8],
-    count: usize,
     list: &[u16],
     words: &[u64],
+    count: usize,
     touching: u64,
     rounds: u32,
 ) -> Next
@@ -229,9 +229,9 @@ fn next_round(
         links,
         memo,
         marks,
-        count,
         list,
         words,
+        count,
         touching,
     ) {
         return Next::End(true);
@@ -239,7 +239,7 @@ fn next_round(
     if rounds == 64 {
         return Next::End(false);
     }
-    match first_units(vars, lows, highs, memo, count, list) {
+    match first_units(vars, lows, highs, memo, list, count) {
         FirstUnits::Of(u) => Next::By(u),
         FirstUnits::Nothing => Next::End(false),
     }
@@ -283,9 +283,9 @@ pub fn unit_prop(
             links,
             memo,
             marks,
-            n,
             list,
             words,
+            n,
             touching,
             rounds,
         ) {

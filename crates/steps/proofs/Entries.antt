@@ -15,7 +15,7 @@ use Rattle.table.specs.Nodes.{Node, blank, above}
 use Rattle.table.specs.Columns.{rows}
 use Rattle.table.specs.Indexed.{nodesOf}
 use Rattle.walks.specs.Readable.{nodesIn}
-use Rattle.walks.specs.Constant.{constantAt}
+use Rattle.walks.specs.Constant.{oneAt}
 use Rattle.records.specs.declared.NodeBody.{NodeBody}
 use Rattle.verdict.specs.Check as check
 use Rattle.verdict.specs.Check.{isEntry, entryNode, isVariable, waiting, diagramIn}
@@ -78,7 +78,7 @@ module _ (l : Lent) (st : State) where
     above-is v p r b ensures told =
         ap (above (take (st .count) (rows (l .vars) (l .lows) (l .highs))) v) (sym child-is) ∙ above-first (st .count) (rows (l .vars) (l .lows) (l .highs)) v child p ∙ sym ensures ∙ told
 
-    pub shut-is : (r b : Bool) → r ≡ constantAt (nodesIn (l .vars) (l .lows) (l .highs) (st .count)) (st .positive) (st .negative) true child → r ≡ b
+    pub shut-is : (r b : Bool) → r ≡ oneAt (nodesIn (l .vars) (l .lows) (l .highs) (st .count)) (st .positive) (st .negative) child → r ≡ b
         → witnessed 64 (inWord (st .positive)) (inWord (st .negative)) (diagramIn (stateOf l st) (entryNode (stateOf l st) e)) ≡ b
     unfolding nodesOf
     shut-is r b ensures told =

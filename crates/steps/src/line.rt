@@ -63,7 +63,7 @@ fn line_refusal(
             if g.0 == 1 {
                 return 17;
             }
-            if !walks::is_constant(
+            if !walks::is_one(
                 vars,
                 lows,
                 highs,
@@ -72,7 +72,6 @@ fn line_refusal(
                 g,
                 st.positive,
                 st.negative,
-                true,
             ) {
                 return 18;
             }
@@ -113,7 +112,7 @@ fn judge_line(
     ensures { λ _. ⌜ now (marks .exit) ≡ unmarked (length (now (vars .entry))) ⌝ }
 {
     let m = st.members;
-    let mut given = [0u64; 2048];
+    let mut member_words = [0u64; 2048];
     let mut words = [0u64; 2048];
     match rule {
         Rule::Rup => judge::rup(
@@ -125,7 +124,7 @@ fn judge_line(
             memo,
             marks,
             &members[..m],
-            &mut given[..m],
+            &mut member_words[..m],
             &mut scratch[..m],
             &mut words[..m],
             st.count,
@@ -134,7 +133,7 @@ fn judge_line(
         Rule::Pr => {
             // Two parts of the scratch list cannot be lent at once.
             let mut second = [0u16; 2048];
-            let mut seconds = [0u64; 2048];
+            let mut second_words = [0u64; 2048];
             judge::pr(
                 vars,
                 lows,
@@ -144,11 +143,11 @@ fn judge_line(
                 memo,
                 marks,
                 &members[..m],
-                &mut given[..m],
+                &mut member_words[..m],
                 &mut scratch[..m],
                 &mut words[..m],
                 &mut second[..m],
-                &mut seconds[..m],
+                &mut second_words[..m],
                 st.count,
                 g,
                 st.positive,

@@ -56,9 +56,9 @@ pub fn supports_of(
     lows: &[u16],
     highs: &[u16],
     memo: &mut [u64],
-    count: usize,
     list: &[u16],
     words: &mut [u64],
+    count: usize,
 )
     requires { ⌜ Readable (now vars) (now lows) (now highs) count
         × Inside count (now list)
@@ -69,7 +69,7 @@ pub fn supports_of(
         Supports nodes (now (list .entry)) (now (words .exit))) ⌝ }
     ensures { λ _. ⌜ SupportMemo (now (memo .exit)) (nodesIn (now (vars .entry)) (now (lows .entry)) (now (highs .entry)) count) ⌝ }
 {
-    walks::clear_memo(memo, count);
+    walks::clear_cells(memo, count);
     let mut i: usize = 0;
     while i < list.len() {
         let f = NodeNo(list[i]);

@@ -1,4 +1,4 @@
--- Whether a node's cofactor by literals is a constant, from its two sides; and the memo of the nodes known to be. The idea: the cofactor
+-- Whether a node's cofactor by literals is 1, from its two sides; and the memo of the nodes known to be. The idea: the cofactor
 -- is the branch over the cofactors of the two sides, which are one side where its variable has a literal. Assumes nothing.
 use mathlib.Core.Path.{_≡_, refl, sym, _∙_}
 use mathlib.Core.Logic.{_≢_}
@@ -15,9 +15,9 @@ use Rattle.meaning.proofs.Units.{same-eq, eq-same}
 use Rattle.meaning.proofs.PointwiseSteps.{literals-leaf, literals-high, literals-low, literals-branch}
 use Rattle.table.specs.Nodes.{Node, diagramAt}
 use Rattle.table.proofs.Numbers.{diagramAt-zero, diagramAt-one, diagramAt-node, diagramAt-reduced}
-use Rattle.walks.specs.declared.Sides.{Sides}
+use Rattle.walks.specs.declared.SidesUnder.{SidesUnder}
 use Rattle.walks.specs.Readable.{Readable, Cleared, nodesIn}
-use Rattle.walks.specs.Constant.{constantAt, sidesBy, sidesUnder, ConstantMemo}
+use Rattle.walks.specs.Constant.{oneAt, sidesBy, sidesUnder, OneMemo}
 use Rattle.walks.proofs.Here.{Here, here, node-in, ordered-in, length-in}
 use Rattle.walks.proofs.Memo.{stored}
 
@@ -46,32 +46,32 @@ branch-constant v f g b = go (same? f g)
     go (yes p) = rw (← p) (sym (and-same (same f (leaf b))))
     go (no n) = differ-same (node v f g) (leaf b) (λ e. let z : true ≡ false = cc in t≢f z) ∙ sym (both n)
 
-module _ (t : List Node) (p n : ℕ) (b : Bool) where
-  pub constant-zero : constantAt t p n b 0 ≡ not b
-  unfolding constantAt
-  constant-zero = rw (diagramAt-zero t, literals-leaf 64 (inWord p) (inWord n) false) (same-leaves false b)
+module _ (t : List Node) (p n : ℕ) where
+  pub constant-zero : oneAt t p n 0 ≡ false
+  unfolding oneAt
+  constant-zero = rw (diagramAt-zero t, literals-leaf 64 (inWord p) (inWord n) false) (same-leaves false true)
 
-  pub constant-one : constantAt t p n b 1 ≡ b
-  unfolding constantAt
-  constant-one = rw (diagramAt-one t, literals-leaf 64 (inWord p) (inWord n) true) (same-leaves true b)
+  pub constant-one : oneAt t p n 1 ≡ true
+  unfolding oneAt
+  constant-one = rw (diagramAt-one t, literals-leaf 64 (inWord p) (inWord n) true) (same-leaves true true)
 
-  pub constant-cleared : (memo : List ℕ) → Cleared (length t) memo → ConstantMemo memo t p n b
-  unfolding ConstantMemo
+  pub constant-cleared : (memo : List ℕ) → Cleared (length t) memo → OneMemo memo t p n
+  unfolding OneMemo
   constant-cleared memo C i inside two = absurd (omega (arith, C i inside))
 
-  pub constant-known : (memo : List ℕ) (k : ℕ) → k < length t → ConstantMemo memo t p n b → getD memo k 0 ≡ k → 2 ≤ k → constantAt t p n b k ≡ true
-  unfolding ConstantMemo
+  pub constant-known : (memo : List ℕ) (k : ℕ) → k < length t → OneMemo memo t p n → getD memo k 0 ≡ k → 2 ≤ k → oneAt t p n k ≡ true
+  unfolding OneMemo
   constant-known memo k inside C e two = rw e at (C k inside (omega arith))
 
-  pub constant-stored : (memo : List ℕ) (k : ℕ) → k < length memo → ConstantMemo memo t p n b → constantAt t p n b k ≡ true → ConstantMemo (set memo k k) t p n b
-  unfolding ConstantMemo
-  constant-stored memo k inside C e = stored (λ i x. i < length t → 2 ≤ x → constantAt t p n b x ≡ true) memo k k inside (λ _ _. e) (λ i _. C i)
+  pub constant-stored : (memo : List ℕ) (k : ℕ) → k < length memo → OneMemo memo t p n → oneAt t p n k ≡ true → OneMemo (set memo k k) t p n
+  unfolding OneMemo
+  constant-stored memo k inside C e = stored (λ i x. i < length t → 2 ≤ x → oneAt t p n x ≡ true) memo k k inside (λ _ _. e) (λ i _. C i)
 
-module _ (vs ls hs : List ℕ) (count p n : ℕ) (b : Bool) (R : Readable vs ls hs count) (k : ℕ) (two : 2 ≤ k) (inside : k < count) where
+module _ (vs ls hs : List ℕ) (count p n : ℕ) (R : Readable vs ls hs count) (k : ℕ) (two : 2 ≤ k) (inside : k < count) where
   abbrev t : List Node
   t = nodesIn vs ls hs count
 
-  abbrev S : Sides
+  abbrev S : SidesUnder
   S = sidesUnder vs ls hs k p n
 
   H : Here vs ls hs count k
@@ -93,8 +93,8 @@ module _ (vs ls hs : List ℕ) (count p n : ℕ) (b : Bool) (R : Readable vs ls 
   is-node : diagramAt t k ≡ node (getD vs k 0) (diagramAt t (getD ls k 0)) (diagramAt t (getD hs k 0))
   is-node = rw (node-in vs ls hs count R k inside) at (diagramAt-node t (ordered-in vs ls hs count R) k two (omega (arith, length-in vs ls hs count R)))
 
-  pub constant-node : constantAt t p n b k ≡ (constantAt t p n b (S .low .0) && constantAt t p n b (S .high .0))
-  unfolding constantAt sidesUnder
+  pub constant-node : oneAt t p n k ≡ (oneAt t p n (S .low .0) && oneAt t p n (S .high .0))
+  unfolding oneAt sidesUnder
   constant-node = rw is-node (go (inWord p (getD vs k 0)) (inWord n (getD vs k 0)) refl refl)
     where
       l : Diagram
@@ -110,8 +110,8 @@ module _ (vs ls hs : List ℕ) (count p n : ℕ) (b : Bool) (R : Readable vs ls 
       reduced = rw is-node at (diagramAt-reduced t (ordered-in vs ls hs count R) k (omega (arith, length-in vs ls hs count R)))
 
       go : (x y : Bool) → inWord p (getD vs k 0) ≡ x → inWord n (getD vs k 0) ≡ y
-          → (let s : Sides = sidesBy x y (getD ls k 0) (getD hs k 0) in
-          same (cofactor (node (getD vs k 0) l h)) (leaf b) ≡ (constantAt t p n b (s .low .0) && constantAt t p n b (s .high .0)))
-      go true y e f = rw (literals-high 64 (inWord p) (inWord n) (getD vs k 0) l h (H .least) (H .most) e) (sym (and-same (same (cofactor h) (leaf b))))
-      go false true e f = rw (literals-low 64 (inWord p) (inWord n) (getD vs k 0) l h (H .least) (H .most) e f) (sym (and-same (same (cofactor l) (leaf b))))
-      go false false e f = rw (literals-branch 64 (inWord p) (inWord n) (getD vs k 0) l h reduced e f) (branch-constant (getD vs k 0) (cofactor l) (cofactor h) b)
+          → (let s : SidesUnder = sidesBy x y (getD ls k 0) (getD hs k 0) in
+          same (cofactor (node (getD vs k 0) l h)) (leaf true) ≡ (oneAt t p n (s .low .0) && oneAt t p n (s .high .0)))
+      go true y e f = rw (literals-high 64 (inWord p) (inWord n) (getD vs k 0) l h (H .least) (H .most) e) (sym (and-same (same (cofactor h) (leaf true))))
+      go false true e f = rw (literals-low 64 (inWord p) (inWord n) (getD vs k 0) l h (H .least) (H .most) e f) (sym (and-same (same (cofactor l) (leaf true))))
+      go false false e f = rw (literals-branch 64 (inWord p) (inWord n) (getD vs k 0) l h reduced e f) (branch-constant (getD vs k 0) (cofactor l) (cofactor h) true)

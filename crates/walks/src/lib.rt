@@ -5,7 +5,7 @@ ghost use Prim.Native.Nat.{_≤_, _<_};
 ghost use lib.ListN.{length};
 ghost use Rattle.meaning.specs.Words.{inWord};
 ghost use Rattle.walks.specs.Readable.{Readable, Roomy, Cleared, nodesIn, valueUnder};
-ghost use Rattle.walks.specs.Constant.{sidesUnder, constantAt, ConstantMemo};
+ghost use Rattle.walks.specs.Constant.{sidesUnder, oneAt, OneMemo};
 
 // The value of a node under the word's assignment: the walk from it to a constant.
 pub fn value_of(
@@ -41,7 +41,7 @@ pub fn in_word(word: u64, v: u8) -> bool
 }
 
 // Empties the memo's cells for the first `count` nodes.
-pub fn clear_memo(memo: &mut [u64], count: usize)
+pub fn clear_cells(memo: &mut [u64], count: usize)
     requires { ⌜ count ≤ length (now memo) ⌝ }
     ensures { λ _. ⌜ Cleared count (now (memo .exit)) ⌝ }
 {
@@ -53,12 +53,12 @@ pub fn clear_memo(memo: &mut [u64], count: usize)
 }
 
 // The two nodes that a node's cofactor by literals is made from; they are one where its variable has a literal.
-pub struct Sides {
+pub struct SidesUnder {
     pub low: NodeNo,
     pub high: NodeNo,
 }
 
-fn sides_of(
+fn sides_under(
     vars: &[u8],
     lows: &[u16],
     highs: &[u16],
@@ -66,7 +66,7 @@ fn sides_of(
     f: NodeNo,
     positive: u64,
     negative: u64,
-) -> Sides
+) -> SidesUnder
     requires { ⌜ Readable (now vars) (now lows) (now highs) count × (2 ≤ f .0) × (f .0 < count) ⌝ }
     ensures { λ r. ⌜ r ≡ sidesUnder (now (vars .entry)) (now (lows .entry)) (now (highs .entry)) (f .0) positive negative ⌝ }
 {
@@ -75,16 +75,16 @@ fn sides_of(
     let low = NodeNo(lows[i]);
     let high = NodeNo(highs[i]);
     if in_word(positive, v) {
-        return Sides { low: high, high };
+        return SidesUnder { low: high, high };
     }
     if in_word(negative, v) {
-        return Sides { low, high: low };
+        return SidesUnder { low, high: low };
     }
-    Sides { low, high }
+    SidesUnder { low, high }
 }
 
-// Whether the node's cofactor by the literals is the constant `one`. Stops at the first leaf that is not.
-pub fn is_constant(
+// Whether the node's cofactor by the literals is 1. Stops at the first leaf that is not.
+pub fn is_one(
     vars: &[u8],
     lows: &[u16],
     highs: &[u16],
@@ -93,19 +93,18 @@ pub fn is_constant(
     f: NodeNo,
     positive: u64,
     negative: u64,
-    one: bool,
 ) -> bool
     requires { ⌜ Readable (now vars) (now lows) (now highs) count × (f .0 < count) × Roomy (now vars) (now memo) ⌝ }
     ensures { λ r. ⌜ (
         let nodes = nodesIn (now (vars .entry)) (now (lows .entry)) (now (highs .entry)) count in
-        r ≡ constantAt nodes positive negative one (f .0)) ⌝ }
+        r ≡ oneAt nodes positive negative (f .0)) ⌝ }
 {
-    clear_memo(memo, count);
-    constant_from(vars, lows, highs, memo, count, f, positive, negative, one)
+    clear_cells(memo, count);
+    one_from(vars, lows, highs, memo, count, f, positive, negative)
 }
 
-// The same where the memo holds nodes already known to be that constant; it stays so.
-pub fn constant_from(
+// The same where the memo holds nodes whose cofactor is known to be 1; it stays so.
+pub fn one_from(
     vars: &[u8],
     lows: &[u16],
     highs: &[u16],
@@ -114,29 +113,28 @@ pub fn constant_from(
     f: NodeNo,
     positive: u64,
     negative: u64,
-    one: bool,
 ) -> bool
     requires { ⌜ Readable (now vars) (now lows) (now highs) count × (f .0 < count) × Roomy (now vars) (now memo) ⌝ }
-    requires { ⌜ ConstantMemo (now memo) (nodesIn (now vars) (now lows) (now highs) count) positive negative one ⌝ }
+    requires { ⌜ OneMemo (now memo) (nodesIn (now vars) (now lows) (now highs) count) positive negative ⌝ }
     ensures { λ r. ⌜ (
         let nodes = nodesIn (now (vars .entry)) (now (lows .entry)) (now (highs .entry)) count in
-        r ≡ constantAt nodes positive negative one (f .0)) ⌝ }
+        r ≡ oneAt nodes positive negative (f .0)) ⌝ }
     ensures { λ _. ⌜ (
         let nodes = nodesIn (now (vars .entry)) (now (lows .entry)) (now (highs .entry)) count in
-        ConstantMemo (now (memo .exit)) nodes positive negative one) ⌝ }
+        OneMemo (now (memo .exit)) nodes positive negative) ⌝ }
 {
     if f.0 == 0 {
-        return !one;
+        return false;
     }
     if f.0 == 1 {
-        return one;
+        return true;
     }
     let i = f.0 as usize;
     if memo[i] == f.0 as u64 {
         return true;
     }
-    let sides = sides_of(vars, lows, highs, count, f, positive, negative);
-    let low = constant_from(
+    let sides = sides_under(vars, lows, highs, count, f, positive, negative);
+    let low = one_from(
         vars,
         lows,
         highs,
@@ -145,12 +143,11 @@ pub fn constant_from(
         sides.low,
         positive,
         negative,
-        one,
     );
     if !low {
         return false;
     }
-    let high = constant_from(
+    let high = one_from(
         vars,
         lows,
         highs,
@@ -159,7 +156,6 @@ pub fn constant_from(
         sides.high,
         positive,
         negative,
-        one,
     );
     if !high {
         return false;

@@ -25,37 +25,37 @@ abbrev μ-loop : tie.MeasureT-loop
 μ-loop vars lows highs heads links memo₀ marks count list words touching i₀ memo i =
     length list - i
 
-clear-memo-requires : tie.Need-clear-memo-requires Inv-loop μ-loop
-clear-memo-requires c κs =
+clear-cells-requires : tie.Need-clear-cells-requires Inv-loop μ-loop
+clear-cells-requires c κs =
     search needs
 
 -- The ways back, written by ways.py: TO-from-FROM leads from the place FROM of the code to the place TO before it.
-module _ (c : tie.After-clear-memo Inv-loop μ-loop) where
-  abbrev start-from-clear-memo : tie.Start Inv-loop μ-loop
-  start-from-clear-memo = c .before .before .before .before .before .before .before .before .before .before .before
+module _ (c : tie.After-clear-cells Inv-loop μ-loop) where
+  abbrev start-from-clear-cells : tie.Start Inv-loop μ-loop
+  start-from-clear-cells = c .before .before .before .before .before .before .before .before .before .before .before
 
 module _ (c : tie.After-slice-known2 Inv-loop μ-loop) where
   abbrev start-from-loop-holds : tie.Start Inv-loop μ-loop
-  start-from-loop-holds = start-from-clear-memo (c .before .before)
+  start-from-loop-holds = start-from-clear-cells (c .before .before)
 
 module _ (c : tie.At-loop Inv-loop μ-loop) where
-  abbrev clear-memo-from-at-loop : tie.After-clear-memo Inv-loop μ-loop
-  clear-memo-from-at-loop = c .before .before .before
+  abbrev clear-cells-from-at-loop : tie.After-clear-cells Inv-loop μ-loop
+  clear-cells-from-at-loop = c .before .before .before
 
 module _ (c : tie.After-loop Inv-loop μ-loop) where
   abbrev start-from-return-2 : tie.Start Inv-loop μ-loop
-  start-from-return-2 = start-from-clear-memo (clear-memo-from-at-loop (c .before))
+  start-from-return-2 = start-from-clear-cells (clear-cells-from-at-loop (c .before))
 
 module _ (c : tie.After-shared-slice-known9 Inv-loop μ-loop) where
   abbrev start-from-shared-slice-read-if1 : tie.Start Inv-loop μ-loop
-  start-from-shared-slice-read-if1 = start-from-clear-memo (clear-memo-from-at-loop (c .before .before))
+  start-from-shared-slice-read-if1 = start-from-clear-cells (clear-cells-from-at-loop (c .before .before))
 
 module _ (c : tie.Joined1 Inv-loop μ-loop) where
   abbrev at-loop-from-loop-again : tie.At-loop Inv-loop μ-loop
   at-loop-from-loop-again = c .before .before .before
 
   abbrev start-from-loop-again : tie.Start Inv-loop μ-loop
-  start-from-loop-again = start-from-clear-memo (clear-memo-from-at-loop at-loop-from-loop-again)
+  start-from-loop-again = start-from-clear-cells (clear-cells-from-at-loop at-loop-from-loop-again)
 
 module _ (c : tie.After-negation-from-arg Inv-loop μ-loop) where
   abbrev in-loop-from-negation-from-call : tie.In-loop Inv-loop μ-loop
@@ -64,11 +64,11 @@ module _ (c : tie.After-negation-from-arg Inv-loop μ-loop) where
   abbrev at-loop-from-negation-from-call : tie.At-loop Inv-loop μ-loop
   at-loop-from-negation-from-call = in-loop-from-negation-from-call .before
 
-  abbrev clear-memo-from-negation-from-call : tie.After-clear-memo Inv-loop μ-loop
-  clear-memo-from-negation-from-call = clear-memo-from-at-loop at-loop-from-negation-from-call
+  abbrev clear-cells-from-negation-from-call : tie.After-clear-cells Inv-loop μ-loop
+  clear-cells-from-negation-from-call = clear-cells-from-at-loop at-loop-from-negation-from-call
 
   abbrev start-from-negation-from-call : tie.Start Inv-loop μ-loop
-  start-from-negation-from-call = start-from-clear-memo clear-memo-from-negation-from-call
+  start-from-negation-from-call = start-from-clear-cells clear-cells-from-negation-from-call
 
 module _ (c : tie.After-negation-from Inv-loop μ-loop) where
   abbrev in-loop-from-negation-from : tie.In-loop Inv-loop μ-loop
@@ -79,7 +79,7 @@ module _ (c : tie.After-slice-known3 Inv-loop μ-loop) where
   at-loop-from-is-marked-call = in-loop-from-negation-from (c .before .before) .before
 
   abbrev start-from-is-marked-call : tie.Start Inv-loop μ-loop
-  start-from-is-marked-call = start-from-clear-memo (clear-memo-from-at-loop at-loop-from-is-marked-call)
+  start-from-is-marked-call = start-from-clear-cells (clear-cells-from-at-loop at-loop-from-is-marked-call)
 
 module _ (c : tie.Then2 Inv-loop μ-loop) where
   abbrev negation-from-from-then2 : tie.After-negation-from Inv-loop μ-loop
@@ -92,12 +92,12 @@ module _ (c : tie.Then2 Inv-loop μ-loop) where
   at-loop-from-then2 = in-loop-from-then2 .before
 
   abbrev start-from-then2 : tie.Start Inv-loop μ-loop
-  start-from-then2 = start-from-clear-memo (clear-memo-from-at-loop at-loop-from-then2)
+  start-from-then2 = start-from-clear-cells (clear-cells-from-at-loop at-loop-from-then2)
 
 loop-holds : tie.Need-loop-holds Inv-loop μ-loop
 loop-holds c =
     let a = start-from-loop-holds c .args in
-    (refl, negations-cleared (tableOf (a .vars .now) (a .lows .now) (a .highs .now) (a .heads .now) (a .links .now) (a .count)) _ (c .before .before .clear-memo .ensures), asked-first (nodesOf (tableOf (a .vars .now) (a .lows .now) (a .highs .now) (a .heads .now) (a .links .now) (a .count))) (a .list .now) (a .words .now) (a .touching))
+    (refl, negations-cleared (tableOf (a .vars .now) (a .lows .now) (a .highs .now) (a .heads .now) (a .links .now) (a .count)) _ (c .before .before .clear-cells .ensures), asked-first (nodesOf (tableOf (a .vars .now) (a .lows .now) (a .highs .now) (a .heads .now) (a .links .now) (a .count))) (a .list .now) (a .words .now) (a .touching))
 
 mul-if1 : tie.Need-mul-if1 Inv-loop μ-loop
 mul-if1 c =
@@ -122,7 +122,7 @@ negation-from-requires c κs =
     record {
       good = r .0 .0 .good;
       inside = r .0 .0 .inside (w .i) (in-loop-from-negation-from-call c .loop-test .taken);
-      room = omega (arith, w .inv .0, clear-memo-from-negation-from-call c .clear-memo .kept .0, r .0 .0 .room);
+      room = omega (arith, w .inv .0, clear-cells-from-negation-from-call c .clear-cells .kept .0, r .0 .0 .room);
       right = w .inv .1;
     }
 
@@ -189,7 +189,7 @@ some-negated-spec =
     (tie.spec
     Inv-loop
     μ-loop
-    clear-memo-requires
+    clear-cells-requires
     loop-holds
     mul-if1
     shared-slice-read-if1

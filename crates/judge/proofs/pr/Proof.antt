@@ -130,17 +130,17 @@ module _ (a : tie.After-support-from) where
   abbrev begun : tie.Start
   begun = start-from-support-from a
 
-  abbrev given₁ : List ℕ
-  given₁ = supports-of-from-support-from a .supports-of .last .1 .1 .1 .1 .1 .1 .0
+  abbrev member-words₁ : List ℕ
+  member-words₁ = supports-of-from-support-from a .supports-of .last .1 .1 .1 .1 .1 .0
 
   abbrev memo₁ : List ℕ
   memo₁ = a .support-from .last .1 .1 .1 .0
 
-  worded : Worded (before begun) (begun .args .members .now) given₁ (begun .args .root .0) (a .support-from .result)
+  worded : Worded (before begun) (begun .args .members .now) member-words₁ (begun .args .root .0) (a .support-from .result)
   unfolding nodesOf
   worded =
       record {
-        lengths = supports-of-from-support-from a .supports-of .kept .1 .1 .1 .1 .1 .1 .0 ∙ begun .pre .1 .0;
+        lengths = supports-of-from-support-from a .supports-of .kept .1 .1 .1 .1 .1 .0 ∙ begun .pre .1 .0;
         have = supports-of-from-support-from a .supports-of .ensures .0;
         has = a .support-from .ensures .0;
       }
@@ -183,14 +183,14 @@ module _ (a : tie.After-by-negation) where
   first-length : length list₁ ≡ length (start .args .members .now)
   first-length = a .by-negation .kept .1 .1 .1 .1 .1 .1 .1 .1 .0 ∙ start .pre .0 .2
 
-  given-kept : a .by-negation .result .full ≡ false → Supports (nodesOf table₁) (start .args .members .now) (given₁ (support-from-from-by-negation a))
-  given-kept e =
+  member-words-kept : a .by-negation .result .full ≡ false → Supports (nodesOf table₁) (start .args .members .now) (member-words₁ (support-from-from-by-negation a))
+  member-words-kept e =
       let R = start .pre .0 .0 .ready in
-      supports-longer (before start) table₁ (extended-longer (before start) table₁ (R .good) (by-negation false e .extended)) (start .args .members .now) (given₁ (support-from-from-by-negation a)) (R .inside) (worded (support-from-from-by-negation a) .have)
+      supports-longer (before start) table₁ (extended-longer (before start) table₁ (R .good) (by-negation false e .extended)) (start .args .members .now) (member-words₁ (support-from-from-by-negation a)) (R .inside) (worded (support-from-from-by-negation a) .have)
 
 -- what the walk over the members by not-g leaves
 module _ (w : tie.After-supports-of2) where
-  first-words : Supports (nodesOf (table₁ (by-negation-from-supports-of2 w))) (list₁ (by-negation-from-supports-of2 w)) (w .supports-of2 .last .1 .1 .1 .1 .1 .1 .0)
+  first-words : Supports (nodesOf (table₁ (by-negation-from-supports-of2 w))) (list₁ (by-negation-from-supports-of2 w)) (w .supports-of2 .last .1 .1 .1 .1 .1 .0)
   unfolding nodesOf
   first-words = w .supports-of2 .ensures .0
 
@@ -238,7 +238,7 @@ same-length-6 c =
 
 same-length-7 : tie.Need-same-length-7
 same-length-7 c =
-    supports-of-from-then1 c .supports-of .kept .1 .1 .1 .1 .1 .1 .0
+    supports-of-from-then1 c .supports-of .kept .1 .1 .1 .1 .1 .0
 
 same-length-8 : tie.Need-same-length-8
 same-length-8 c =
@@ -279,7 +279,7 @@ turns-requires c κs =
       ),
       (
         worded (support-from-from-turns-call c) .lengths,
-        given-kept a e,
+        member-words-kept a e,
         w .kept .1 .1 .1 .1 .1 .1 .0 ∙ a .by-negation .kept .1 .1 .1 .1 .1 .1 .1 .1 .1 .0 ∙ s .pre .1 .1 ∙ sym (first-length a),
         first-words (supports-of2-from-turns-call c),
         s .pre .1 .2 ∙ sym (first-length a),
@@ -316,7 +316,7 @@ same-length-16 c =
 
 same-length-17 : tie.Need-same-length-17
 same-length-17 c =
-    supports-of-from-return-2 c .supports-of .kept .1 .1 .1 .1 .1 .1 .0
+    supports-of-from-return-2 c .supports-of .kept .1 .1 .1 .1 .1 .0
 
 same-length-18 : tie.Need-same-length-18
 same-length-18 c =
@@ -324,7 +324,7 @@ same-length-18 c =
 
 same-length-19 : tie.Need-same-length-19
 same-length-19 c =
-    supports-of2-from-return-2 c .supports-of2 .kept .1 .1 .1 .1 .1 .1 .0 ∙ by-negation-from-return-2 c .by-negation .kept .1 .1 .1 .1 .1 .1 .1 .1 .1 .0
+    supports-of2-from-return-2 c .supports-of2 .kept .1 .1 .1 .1 .1 .0 ∙ by-negation-from-return-2 c .by-negation .kept .1 .1 .1 .1 .1 .1 .1 .1 .1 .0
 
 same-length-20 : tie.Need-same-length-20
 same-length-20 c =

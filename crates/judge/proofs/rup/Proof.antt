@@ -64,17 +64,17 @@ module _ (a : tie.After-support-from) where
   abbrev begun : tie.Start
   begun = start-from-support-from a
 
-  abbrev given₁ : List ℕ
-  given₁ = supports-of-from-support-from a .supports-of .last .1 .1 .1 .1 .1 .1 .0
+  abbrev member-words₁ : List ℕ
+  member-words₁ = supports-of-from-support-from a .supports-of .last .1 .1 .1 .1 .1 .0
 
   abbrev memo₁ : List ℕ
   memo₁ = a .support-from .last .1 .1 .1 .0
 
-  worded : Worded (before begun) (begun .args .members .now) given₁ (begun .args .root .0) (a .support-from .result)
+  worded : Worded (before begun) (begun .args .members .now) member-words₁ (begun .args .root .0) (a .support-from .result)
   unfolding nodesOf
   worded =
       record {
-        lengths = supports-of-from-support-from a .supports-of .kept .1 .1 .1 .1 .1 .1 .0 ∙ begun .pre .1 .0;
+        lengths = supports-of-from-support-from a .supports-of .kept .1 .1 .1 .1 .1 .0 ∙ begun .pre .1 .0;
         have = supports-of-from-support-from a .supports-of .ensures .0;
         has = a .support-from .ensures .0;
       }
@@ -133,7 +133,7 @@ same-length-7 c =
 
 same-length-8 : tie.Need-same-length-8
 same-length-8 c =
-    supports-of-from-return c .supports-of .kept .1 .1 .1 .1 .1 .1 .0
+    supports-of-from-return c .supports-of .kept .1 .1 .1 .1 .1 .0
 
 same-length-9 : tie.Need-same-length-9
 same-length-9 c =

@@ -4,7 +4,7 @@ use native.Mathlib.Omega.{arith}
 use lib.ListN.{length}
 use mathlib.Core.Bool.{Bool, true, false}
 use Rattle.table.specs.Indexed.{Table, tableOf, nodesOf, Outcome, outcomeOf}
-use Rattle.walks.specs.Constant.{constantAt}
+use Rattle.walks.specs.Constant.{oneAt}
 use Rattle.walks.proofs.Here.{good-readable}
 use Rattle.operate.specs.declared.Operation.the-variants.{Literals}
 use Rattle.operate.specs.Inner.{applied}
@@ -18,50 +18,50 @@ module _ (s : tie.Start) where
   before = tableOf (s .args .vars .now) (s .args .lows .now) (s .args .highs .now) (s .args .heads .now) (s .args .links .now) (s .args .count)
 
 -- The ways back, written by ways.py: TO-from-FROM leads from the place FROM of the code to the place TO before it.
-module _ (c : tie.After-is-constant-arg4) where
-  abbrev start-from-is-constant-call : tie.Start
-  start-from-is-constant-call = c .before .before .before .before .before .before .before .before .before .before .before .before .before
+module _ (c : tie.After-is-one-arg4) where
+  abbrev start-from-is-one-call : tie.Start
+  start-from-is-one-call = c .before .before .before .before .before .before .before .before .before .before .before .before .before
       .before .before
 
-module _ (c : tie.After-is-constant) where
-  abbrev start-from-is-constant : tie.Start
-  start-from-is-constant = c .before .before .before .before .before .before .before .before .before .before .before .before .before .before
+module _ (c : tie.After-is-one) where
+  abbrev start-from-is-one : tie.Start
+  start-from-is-one = c .before .before .before .before .before .before .before .before .before .before .before .before .before .before
       .before .before
 
 module _ (c : tie.Else1) where
-  abbrev is-constant-from-else1 : tie.After-is-constant
-  is-constant-from-else1 = c .before .before .before
+  abbrev is-one-from-else1 : tie.After-is-one
+  is-one-from-else1 = c .before .before .before
 
 module _ (c : tie.Then1) where
-  abbrev is-constant-from-then1 : tie.After-is-constant
-  is-constant-from-then1 = c .before .before .before
+  abbrev is-one-from-then1 : tie.After-is-one
+  is-one-from-then1 = c .before .before .before
 
   abbrev start-from-then1 : tie.Start
-  start-from-then1 = start-from-is-constant is-constant-from-then1
+  start-from-then1 = start-from-is-one is-one-from-then1
 
 module _ (c : tie.After-clear-memo-arg) where
-  abbrev is-constant-from-clear-memo-call : tie.After-is-constant
-  is-constant-from-clear-memo-call = is-constant-from-else1 (c .before)
+  abbrev is-one-from-clear-memo-call : tie.After-is-one
+  is-one-from-clear-memo-call = is-one-from-else1 (c .before)
 
   abbrev start-from-clear-memo-call : tie.Start
-  start-from-clear-memo-call = start-from-is-constant is-constant-from-clear-memo-call
+  start-from-clear-memo-call = start-from-is-one is-one-from-clear-memo-call
 
 module _ (c : tie.After-apply-arg6) where
   abbrev clear-memo-from-apply-call : tie.After-clear-memo
   clear-memo-from-apply-call = c .before .before .before .before .before .before .before .before
 
   abbrev start-from-apply-call : tie.Start
-  start-from-apply-call = start-from-is-constant (is-constant-from-else1 (clear-memo-from-apply-call .before .before))
+  start-from-apply-call = start-from-is-one (is-one-from-else1 (clear-memo-from-apply-call .before .before))
 
 module _ (c : tie.After-apply) where
   abbrev clear-memo-from-apply : tie.After-clear-memo
   clear-memo-from-apply = c .before .before .before .before .before .before .before .before .before
 
-  abbrev is-constant-from-apply : tie.After-is-constant
-  is-constant-from-apply = is-constant-from-else1 (clear-memo-from-apply .before .before)
+  abbrev is-one-from-apply : tie.After-is-one
+  is-one-from-apply = is-one-from-else1 (clear-memo-from-apply .before .before)
 
   abbrev start-from-apply : tie.Start
-  start-from-apply = start-from-is-constant is-constant-from-apply
+  start-from-apply = start-from-is-one is-one-from-apply
 
 module _ (c : tie.Else2) where
   abbrev apply-from-else2 : tie.After-apply
@@ -77,8 +77,8 @@ module _ (c : tie.Then2) where
   abbrev else1-from-then2 : tie.Else1
   else1-from-then2 = clear-memo-from-then2 .before .before
 
-  abbrev is-constant-from-then2 : tie.After-is-constant
-  is-constant-from-then2 = is-constant-from-else1 else1-from-then2
+  abbrev is-one-from-then2 : tie.After-is-one
+  is-one-from-then2 = is-one-from-else1 else1-from-then2
 
 module _ (c : tie.After-rup-with-arg9) where
   abbrev else2-from-rup-with-call : tie.Else2
@@ -90,8 +90,8 @@ module _ (c : tie.After-rup-with-arg9) where
   abbrev else1-from-rup-with-call : tie.Else1
   else1-from-rup-with-call = clear-memo-from-apply apply-from-rup-with-call .before .before
 
-  abbrev is-constant-from-rup-with-call : tie.After-is-constant
-  is-constant-from-rup-with-call = is-constant-from-else1 else1-from-rup-with-call
+  abbrev is-one-from-rup-with-call : tie.After-is-one
+  is-one-from-rup-with-call = is-one-from-else1 else1-from-rup-with-call
 
 module _ (c : tie.After-rup-with) where
   abbrev else2-from-rup-with : tie.Else2
@@ -114,17 +114,17 @@ module _ (c : tie.After-slice-known26) where
   abbrev else1-from-return-3 : tie.Else1
   else1-from-return-3 = clear-memo-from-return-3 .before .before
 
-  abbrev is-constant-from-return-3 : tie.After-is-constant
-  is-constant-from-return-3 = is-constant-from-else1 else1-from-return-3
+  abbrev is-one-from-return-3 : tie.After-is-one
+  is-one-from-return-3 = is-one-from-else1 else1-from-return-3
 
 -- whether h is 1
-module _ (a : tie.After-is-constant) where
+module _ (a : tie.After-is-one) where
   abbrev asked : tie.Start
-  asked = start-from-is-constant a
+  asked = start-from-is-one a
 
-  told : (b : Bool) → a .is-constant .result ≡ b → constantAt (nodesOf (before asked)) (asked .args .positive) (asked .args .negative) true (asked .args .f .0) ≡ b
+  told : (b : Bool) → a .is-one .result ≡ b → oneAt (nodesOf (before asked)) (asked .args .positive) (asked .args .negative) (asked .args .f .0) ≡ b
   unfolding nodesOf
-  told b e = sym (a .is-constant .ensures) ∙ e
+  told b e = sym (a .is-one .ensures) ∙ e
 
 -- what making h leaves
 module _ (a : tie.After-apply) where
@@ -138,11 +138,11 @@ module _ (a : tie.After-apply) where
   made-is = a .apply .ensures .0
 
   memo-length : length (a .apply .last .1 .1 .1 .1 .1 .0) ≡ length (start .args .memo .now)
-  memo-length = a .apply .kept .1 .1 .1 .1 .1 .0 ∙ clear-memo-from-apply a .clear-memo .kept .0 ∙ is-constant-from-apply a .is-constant .kept .1 .1 .1 .0
+  memo-length = a .apply .kept .1 .1 .1 .1 .1 .0 ∙ clear-memo-from-apply a .clear-memo .kept .0 ∙ is-one-from-apply a .is-one .kept .1 .1 .1 .0
 
-is-constant-requires : tie.Need-is-constant-requires
-is-constant-requires c κs =
-    let s = start-from-is-constant-call c in
+is-one-requires : tie.Need-is-one-requires
+is-one-requires c κs =
+    let s = start-from-is-one-call c in
     (good-readable (before s) (s .pre .0 .0 .good), s .pre .0 .3, s .pre .0 .0 .room)
 
 same-length : tie.Need-same-length
@@ -159,16 +159,16 @@ same-length-3 c =
 
 same-length-4 : tie.Need-same-length-4
 same-length-4 c =
-    is-constant-from-then1 c .is-constant .kept .1 .1 .1 .0
+    is-one-from-then1 c .is-one .kept .1 .1 .1 .0
 
 returns : tie.Need-returns
 returns c =
     let s = start-from-then1 c in
-    (turn-constant (before s) (s .args .first .now) (s .args .memo .now) (s .pre .0 .0) (s .args .f .0) (s .args .positive) (s .args .negative) (s .pre .0 .3) (told (is-constant-from-then1 c) true (c .if1 .taken)), s .pre .0 .1)
+    (turn-constant (before s) (s .args .first .now) (s .args .memo .now) (s .pre .0 .0) (s .args .f .0) (s .args .positive) (s .args .negative) (s .pre .0 .3) (told (is-one-from-then1 c) true (c .if1 .taken)), s .pre .0 .1)
 
 clear-memo-requires : tie.Need-clear-memo-requires
 clear-memo-requires c κs =
-    omega (arith, start-from-clear-memo-call c .pre .0 .0 .room, is-constant-from-clear-memo-call c .is-constant .kept .1 .1 .1 .0)
+    omega (arith, start-from-clear-memo-call c .pre .0 .0 .room, is-one-from-clear-memo-call c .is-one .kept .1 .1 .1 .0)
 
 apply-requires : tie.Need-apply-requires
 apply-requires c κs =
@@ -198,24 +198,24 @@ same-length-9 c =
 
 same-length-10 : tie.Need-same-length-10
 same-length-10 c =
-    apply-from-then2 c .apply .kept .1 .1 .1 .1 .1 .0 ∙ clear-memo-from-then2 c .clear-memo .kept .0 ∙ is-constant-from-then2 c .is-constant .kept .1 .1 .1 .0
+    apply-from-then2 c .apply .kept .1 .1 .1 .1 .1 .0 ∙ clear-memo-from-then2 c .clear-memo .kept .0 ∙ is-one-from-then2 c .is-one .kept .1 .1 .1 .0
 
 returns-2 : tie.Need-returns-2
 returns-2 c =
     let a = apply-from-then2 c in
     let s = start a in
-    (turn-full (before s) (s .args .first .now) (s .args .memo .now) (s .pre .0 .0) (s .args .f .0) (s .args .positive) (s .args .negative) (s .pre .0 .3) (told (is-constant-from-then2 c) false (else1-from-then2 c .if1 .left)) (made a) (made-is a) (c .if2 .taken) (a .apply .result .count), s .pre .0 .1)
+    (turn-full (before s) (s .args .first .now) (s .args .memo .now) (s .pre .0 .0) (s .args .f .0) (s .args .positive) (s .args .negative) (s .pre .0 .3) (told (is-one-from-then2 c) false (else1-from-then2 c .if1 .left)) (made a) (made-is a) (c .if2 .taken) (a .apply .result .count), s .pre .0 .1)
 
 rup-with-requires : tie.Need-rup-with-requires
 rup-with-requires c κs =
     let a = apply-from-rup-with-call c in
     let s = start a in (
       (
-        turn-ready (before s) (s .args .first .now) (s .args .memo .now) (s .pre .0 .0) (s .args .f .0) (s .args .positive) (s .args .negative) (s .pre .0 .3) (told (is-constant-from-rup-with-call c) false (else1-from-rup-with-call c .if1 .left)) (made a) (made-is a) (else2-from-rup-with-call c .if2 .left) (a .apply .last .1 .1 .1 .1 .1 .0) (memo-length a),
+        turn-ready (before s) (s .args .first .now) (s .args .memo .now) (s .pre .0 .0) (s .args .f .0) (s .args .positive) (s .args .negative) (s .pre .0 .3) (told (is-one-from-rup-with-call c) false (else1-from-rup-with-call c .if1 .left)) (made a) (made-is a) (else2-from-rup-with-call c .if2 .left) (a .apply .last .1 .1 .1 .1 .1 .0) (memo-length a),
         s .pre .0 .1 ∙ ap unmarked (sym (a .apply .kept .0)),
         s .pre .0 .2,
       ),
-      (turn-worded (before s) (s .args .first .now) (s .args .memo .now) (s .pre .0 .0) (s .args .f .0) (s .args .positive) (s .args .negative) (s .pre .0 .3) (told (is-constant-from-rup-with-call c) false (else1-from-rup-with-call c .if1 .left)) (made a) (made-is a) (else2-from-rup-with-call c .if2 .left) (s .args .firsts .now) (s .args .word) (s .pre .1 .0), s .pre .1 .1),
+      (turn-worded (before s) (s .args .first .now) (s .args .memo .now) (s .pre .0 .0) (s .args .f .0) (s .args .positive) (s .args .negative) (s .pre .0 .3) (told (is-one-from-rup-with-call c) false (else1-from-rup-with-call c .if1 .left)) (made a) (made-is a) (else2-from-rup-with-call c .if2 .left) (s .args .first-words .now) (s .args .word) (s .pre .1 .0), s .pre .1 .1),
     )
 
 same-length-11 : tie.Need-same-length-11
@@ -240,7 +240,7 @@ same-length-15 c =
 
 same-length-16 : tie.Need-same-length-16
 same-length-16 c =
-    rup-with-from-return-3 c .rup-with .kept .1 .1 .1 .1 .1 .0 ∙ apply-from-return-3 c .apply .kept .1 .1 .1 .1 .1 .0 ∙ clear-memo-from-return-3 c .clear-memo .kept .0 ∙ is-constant-from-return-3 c .is-constant .kept .1 .1 .1 .0
+    rup-with-from-return-3 c .rup-with .kept .1 .1 .1 .1 .1 .0 ∙ apply-from-return-3 c .apply .kept .1 .1 .1 .1 .1 .0 ∙ clear-memo-from-return-3 c .clear-memo .kept .0 ∙ is-one-from-return-3 c .is-one .kept .1 .1 .1 .0
 
 same-length-17 : tie.Need-same-length-17
 same-length-17 c =
@@ -259,7 +259,7 @@ returns-3 c =
     let a = apply-from-return-3 c in
     let s = start a in
     let r = rup-with-from-return-3 c .rup-with in (
-      turn-judged (before s) (s .args .first .now) (s .args .memo .now) (s .pre .0 .0) (s .args .f .0) (s .args .positive) (s .args .negative) (s .pre .0 .3) (told (is-constant-from-return-3 c) false (else1-from-return-3 c .if1 .left)) (made a) (made-is a) (else2-from-return-3 c .if2 .left) (r .result) (tableOf (r .last .0) (r .last .1 .0) (r .last .1 .1 .0) (r .last .1 .1 .1 .0) (r .last .1 .1 .1 .1 .0) (r .result .count)) (r .ensures .0),
+      turn-judged (before s) (s .args .first .now) (s .args .memo .now) (s .pre .0 .0) (s .args .f .0) (s .args .positive) (s .args .negative) (s .pre .0 .3) (told (is-one-from-return-3 c) false (else1-from-return-3 c .if1 .left)) (made a) (made-is a) (else2-from-return-3 c .if2 .left) (r .result) (tableOf (r .last .0) (r .last .1 .0) (r .last .1 .1 .0) (r .last .1 .1 .1 .0) (r .last .1 .1 .1 .1 .0) (r .result .count)) (r .ensures .0),
       r .ensures .1 ∙ ap unmarked (a .apply .kept .0),
     )
 
@@ -267,7 +267,7 @@ pub turn-spec : {M : Type 1} → statement M
 turn-spec =
     tie.close
     (tie.spec
-    is-constant-requires
+    is-one-requires
     same-length
     same-length-2
     same-length-3

@@ -6,13 +6,13 @@ use Rattle.negate.proofs.Entries.{negations-cleared}
 use Rattle.negate.proofs.negation_in.Statement.{statement}
 use Rattle.negate.proofs.negation_in.Tie as tie
 
-clear-memo-requires : tie.Need-clear-memo-requires
-clear-memo-requires c κs = search needs
+clear-cells-requires : tie.Need-clear-cells-requires
+clear-cells-requires c κs = search needs
 
 negation-from-requires : tie.Need-negation-from-requires
 negation-from-requires c κs =
     let s = c .before .before .before .before .before .before .before .before .before .before .before in
-    let k = c .before .before .before .clear-memo in
+    let k = c .before .before .before .clear-cells in
     record { good = s .pre .0; inside = s .pre .1; room = omega (arith, s .pre .2, k .kept); right = negations-cleared (tableOf (s .args .vars .now) (s .args .lows .now) (s .args .highs .now) (s .args .heads .now) (s .args .links .now) (s .args .count)) _ (k .ensures) }
 
 same-length : tie.Need-same-length
@@ -23,4 +23,4 @@ returns c = search needs
 
 pub negation-in-spec : {M : Type 1} → statement M
 negation-in-spec =
-    tie.close (tie.spec clear-memo-requires negation-from-requires same-length returns)
+    tie.close (tie.spec clear-cells-requires negation-from-requires same-length returns)

@@ -25,35 +25,35 @@ abbrev μ-loop : tie.MeasureT-loop
 μ-loop vars lows highs memo₀ count list place₀ memo place = length list - place
 
 -- src/lib.rt:71:5
-clear-memo-requires : tie.Need-clear-memo-requires Inv-loop μ-loop
-clear-memo-requires c κs = search needs
+clear-cells-requires : tie.Need-clear-cells-requires Inv-loop μ-loop
+clear-cells-requires c κs = search needs
 
 -- The ways back, written by ways.py: TO-from-FROM leads from the place FROM of the code to the place TO before it.
-module _ (c : tie.After-clear-memo Inv-loop μ-loop) where
-  abbrev start-from-clear-memo : tie.Start Inv-loop μ-loop
-  start-from-clear-memo = c .before .before .before .before .before .before .before
+module _ (c : tie.After-clear-cells Inv-loop μ-loop) where
+  abbrev start-from-clear-cells : tie.Start Inv-loop μ-loop
+  start-from-clear-cells = c .before .before .before .before .before .before .before
 
 module _ (c : tie.After-slice-known2 Inv-loop μ-loop) where
   abbrev start-from-loop-holds : tie.Start Inv-loop μ-loop
-  start-from-loop-holds = start-from-clear-memo (c .before .before)
+  start-from-loop-holds = start-from-clear-cells (c .before .before)
 
 module _ (c : tie.At-loop Inv-loop μ-loop) where
-  abbrev clear-memo-from-at-loop : tie.After-clear-memo Inv-loop μ-loop
-  clear-memo-from-at-loop = c .before .before .before
+  abbrev clear-cells-from-at-loop : tie.After-clear-cells Inv-loop μ-loop
+  clear-cells-from-at-loop = c .before .before .before
 
 module _ (c : tie.After-loop Inv-loop μ-loop) where
   abbrev start-from-return-2 : tie.Start Inv-loop μ-loop
-  start-from-return-2 = start-from-clear-memo (clear-memo-from-at-loop (c .before))
+  start-from-return-2 = start-from-clear-cells (clear-cells-from-at-loop (c .before))
 
 module _ (c : tie.After-units-from-arg Inv-loop μ-loop) where
   abbrev at-loop-from-units-from-call : tie.At-loop Inv-loop μ-loop
   at-loop-from-units-from-call = c .before .before .before
 
-  abbrev clear-memo-from-units-from-call : tie.After-clear-memo Inv-loop μ-loop
-  clear-memo-from-units-from-call = clear-memo-from-at-loop at-loop-from-units-from-call
+  abbrev clear-cells-from-units-from-call : tie.After-clear-cells Inv-loop μ-loop
+  clear-cells-from-units-from-call = clear-cells-from-at-loop at-loop-from-units-from-call
 
   abbrev start-from-units-from-call : tie.Start Inv-loop μ-loop
-  start-from-units-from-call = start-from-clear-memo clear-memo-from-units-from-call
+  start-from-units-from-call = start-from-clear-cells clear-cells-from-units-from-call
 
 module _ (c : tie.After-units-from Inv-loop μ-loop) where
   abbrev in-loop-from-units-from : tie.In-loop Inv-loop μ-loop
@@ -70,7 +70,7 @@ module _ (c : tie.Joined1 Inv-loop μ-loop) where
   at-loop-from-return = in-loop-from-return .before
 
   abbrev start-from-return : tie.Start Inv-loop μ-loop
-  start-from-return = start-from-clear-memo (clear-memo-from-at-loop at-loop-from-return)
+  start-from-return = start-from-clear-cells (clear-cells-from-at-loop at-loop-from-return)
 
 module _ (c : tie.Else2 Inv-loop μ-loop) where
   abbrev units-from-from-else2 : tie.After-units-from Inv-loop μ-loop
@@ -83,13 +83,13 @@ module _ (c : tie.Else2 Inv-loop μ-loop) where
   at-loop-from-else2 = in-loop-from-else2 .before
 
   abbrev start-from-else2 : tie.Start Inv-loop μ-loop
-  start-from-else2 = start-from-clear-memo (clear-memo-from-at-loop at-loop-from-else2)
+  start-from-else2 = start-from-clear-cells (clear-cells-from-at-loop at-loop-from-else2)
 
 -- src/lib.rt:73:5
 loop-holds : tie.Need-loop-holds Inv-loop μ-loop
 loop-holds c =
     let a = start-from-loop-holds c .args in
-    (refl, omega arith, λ i p. omega (arith, c .before .before .clear-memo .ensures i p), refl)
+    (refl, omega arith, λ i p. omega (arith, c .before .before .clear-cells .ensures i p), refl)
 
 -- src/lib.rt:74:24
 mul-t14 : tie.Need-mul-t14 Inv-loop μ-loop
@@ -109,7 +109,7 @@ units-from-requires c κs =
     let a = start-from-units-from-call c .args in
     let r = start-from-units-from-call c .pre in
     let w = at-loop-from-units-from-call c .loop in
-    (r .0, r .1 (w .place) (c .before .before .loop-test .taken), omega (arith, w .inv .0, clear-memo-from-units-from-call c .clear-memo .kept .0, r .2), w .inv .2)
+    (r .0, r .1 (w .place) (c .before .before .loop-test .taken), omega (arith, w .inv .0, clear-cells-from-units-from-call c .clear-cells .kept .0, r .2), w .inv .2)
 
 -- src/lib.rt:77:13
 same-length : tie.Need-same-length Inv-loop μ-loop
@@ -166,7 +166,7 @@ first-units-spec =
     (tie.spec
     Inv-loop
     μ-loop
-    clear-memo-requires
+    clear-cells-requires
     loop-holds
     mul-t14
     shared-slice-read-t17

@@ -20,35 +20,35 @@ abbrev μ-loop : tie.MeasureT-loop
     length list - i
 
 -- The ways back, written by ways.py: TO-from-FROM leads from the place FROM of the code to the place TO before it.
-module _ (c : tie.After-clear-memo-arg Inv-loop μ-loop) where
-  abbrev start-from-clear-memo-call : tie.Start Inv-loop μ-loop
-  start-from-clear-memo-call = c .before .before .before .before .before .before .before
+module _ (c : tie.After-clear-cells-arg Inv-loop μ-loop) where
+  abbrev start-from-clear-cells-call : tie.Start Inv-loop μ-loop
+  start-from-clear-cells-call = c .before .before .before .before .before .before .before
 
-module _ (c : tie.After-clear-memo Inv-loop μ-loop) where
-  abbrev start-from-clear-memo : tie.Start Inv-loop μ-loop
-  start-from-clear-memo = c .before .before .before .before .before .before .before .before
+module _ (c : tie.After-clear-cells Inv-loop μ-loop) where
+  abbrev start-from-clear-cells : tie.Start Inv-loop μ-loop
+  start-from-clear-cells = c .before .before .before .before .before .before .before .before
 
 module _ (c : tie.After-slice-known3 Inv-loop μ-loop) where
   abbrev start-from-loop-holds : tie.Start Inv-loop μ-loop
-  start-from-loop-holds = start-from-clear-memo (c .before .before)
+  start-from-loop-holds = start-from-clear-cells (c .before .before)
 
 module _ (c : tie.At-loop Inv-loop μ-loop) where
-  abbrev clear-memo-from-at-loop : tie.After-clear-memo Inv-loop μ-loop
-  clear-memo-from-at-loop = c .before .before .before
+  abbrev clear-cells-from-at-loop : tie.After-clear-cells Inv-loop μ-loop
+  clear-cells-from-at-loop = c .before .before .before
 
 module _ (c : tie.After-loop Inv-loop μ-loop) where
   abbrev start-from-return : tie.Start Inv-loop μ-loop
-  start-from-return = start-from-clear-memo (clear-memo-from-at-loop (c .before))
+  start-from-return = start-from-clear-cells (clear-cells-from-at-loop (c .before))
 
 module _ (c : tie.After-support-from-arg Inv-loop μ-loop) where
   abbrev at-loop-from-support-from-call : tie.At-loop Inv-loop μ-loop
   at-loop-from-support-from-call = c .before .before .before
 
-  abbrev clear-memo-from-support-from-call : tie.After-clear-memo Inv-loop μ-loop
-  clear-memo-from-support-from-call = clear-memo-from-at-loop at-loop-from-support-from-call
+  abbrev clear-cells-from-support-from-call : tie.After-clear-cells Inv-loop μ-loop
+  clear-cells-from-support-from-call = clear-cells-from-at-loop at-loop-from-support-from-call
 
   abbrev start-from-support-from-call : tie.Start Inv-loop μ-loop
-  start-from-support-from-call = start-from-clear-memo clear-memo-from-support-from-call
+  start-from-support-from-call = start-from-clear-cells clear-cells-from-support-from-call
 
 module _ (c : tie.After-slice-known4 Inv-loop μ-loop) where
   abbrev in-loop-from-loop-again : tie.In-loop Inv-loop μ-loop
@@ -58,17 +58,17 @@ module _ (c : tie.After-slice-known4 Inv-loop μ-loop) where
   at-loop-from-loop-again = in-loop-from-loop-again .before
 
   abbrev start-from-loop-again : tie.Start Inv-loop μ-loop
-  start-from-loop-again = start-from-clear-memo (clear-memo-from-at-loop at-loop-from-loop-again)
+  start-from-loop-again = start-from-clear-cells (clear-cells-from-at-loop at-loop-from-loop-again)
 
-clear-memo-requires : tie.Need-clear-memo-requires Inv-loop μ-loop
-clear-memo-requires c κs =
-    omega (arith, start-from-clear-memo-call c .pre .0 .within, start-from-clear-memo-call c .pre .2)
+clear-cells-requires : tie.Need-clear-cells-requires Inv-loop μ-loop
+clear-cells-requires c κs =
+    omega (arith, start-from-clear-cells-call c .pre .0 .within, start-from-clear-cells-call c .pre .2)
 
 loop-holds : tie.Need-loop-holds Inv-loop μ-loop
 loop-holds c =
     let a = start-from-loop-holds c .args in
     let nodes = nodesIn (a .vars .now) (a .lows .now) (a .highs .now) (a .count) in
-    (filled-none nodes (a .list .now) (a .words .now) (start-from-loop-holds c .pre .3), memo-cleared nodes _ (a .count) (length-in (a .vars .now) (a .lows .now) (a .highs .now) (a .count) (start-from-loop-holds c .pre .0)) (c .before .before .clear-memo .ensures), refl, refl)
+    (filled-none nodes (a .list .now) (a .words .now) (start-from-loop-holds c .pre .3), memo-cleared nodes _ (a .count) (length-in (a .vars .now) (a .lows .now) (a .highs .now) (a .count) (start-from-loop-holds c .pre .0)) (c .before .before .clear-cells .ensures), refl, refl)
 
 mul-t13 : tie.Need-mul-t13 Inv-loop μ-loop
 mul-t13 c =
@@ -82,7 +82,7 @@ support-from-requires : tie.Need-support-from-requires Inv-loop μ-loop
 support-from-requires c κs =
     let r = start-from-support-from-call c .pre in
     let w = at-loop-from-support-from-call c .loop in
-    ((r .0, r .1 (w .i) (c .before .before .loop-test .taken), omega (arith, w .inv .2, clear-memo-from-support-from-call c .clear-memo .kept .0, r .2)), w .inv .1)
+    ((r .0, r .1 (w .i) (c .before .before .loop-test .taken), omega (arith, w .inv .2, clear-cells-from-support-from-call c .clear-cells .kept .0, r .2)), w .inv .1)
 
 mul-words : tie.Need-mul-words Inv-loop μ-loop
 mul-words c =
@@ -127,7 +127,7 @@ supports-of-spec =
     (tie.spec
     Inv-loop
     μ-loop
-    clear-memo-requires
+    clear-cells-requires
     loop-holds
     mul-t13
     shared-slice-read-t16

@@ -80,15 +80,15 @@ module _ (c : tie.Then6) where
   abbrev start-from-then6 : tie.Start
   start-from-then6 = start-from-else1 else1-from-then6
 
-module _ (c : tie.After-is-constant-arg) where
-  abbrev entry-node-from-is-constant-call : tie.After-entry-node
-  entry-node-from-is-constant-call = c .before .before .before .before .before .before .before
+module _ (c : tie.After-is-one-arg) where
+  abbrev entry-node-from-is-one-call : tie.After-entry-node
+  entry-node-from-is-one-call = c .before .before .before .before .before .before .before
 
-  abbrev else1-from-is-constant-call : tie.Else1
-  else1-from-is-constant-call = entry-node-from-is-constant-call .before
+  abbrev else1-from-is-one-call : tie.Else1
+  else1-from-is-one-call = entry-node-from-is-one-call .before
 
-  abbrev start-from-is-constant-call : tie.Start
-  start-from-is-constant-call = start-from-else1 else1-from-is-constant-call
+  abbrev start-from-is-one-call : tie.Start
+  start-from-is-one-call = start-from-else1 else1-from-is-one-call
 
 module _ (c : tie.Else4) where
   abbrev else2-from-else4 : tie.Else2
@@ -129,11 +129,11 @@ module _ (c : tie.Then4) where
   start-from-then4 = start-from-else1 else1-from-then4
 
 module _ (c : tie.Else7) where
-  abbrev is-constant-from-else7 : tie.After-is-constant
-  is-constant-from-else7 = c .before .before .before
+  abbrev is-one-from-else7 : tie.After-is-one
+  is-one-from-else7 = c .before .before .before
 
   abbrev else6-from-else7 : tie.Else6
-  else6-from-else7 = is-constant-from-else7 .before .before
+  else6-from-else7 = is-one-from-else7 .before .before
 
   abbrev else5-from-else7 : tie.Else5
   else5-from-else7 = else6-from-else7 .before .before
@@ -151,11 +151,11 @@ module _ (c : tie.Else7) where
   start-from-else7 = start-from-else1 else1-from-else7
 
 module _ (c : tie.Then7) where
-  abbrev is-constant-from-then7 : tie.After-is-constant
-  is-constant-from-then7 = c .before .before .before
+  abbrev is-one-from-then7 : tie.After-is-one
+  is-one-from-then7 = c .before .before .before
 
   abbrev else6-from-then7 : tie.Else6
-  else6-from-then7 = is-constant-from-then7 .before .before
+  else6-from-then7 = is-one-from-then7 .before .before
 
   abbrev else5-from-then7 : tie.Else5
   else5-from-then7 = else6-from-then7 .before .before
@@ -216,14 +216,14 @@ returns-5 c = λ ds ks ms. let s = start-from-then5 c in pr-22 64 _ _ (entry (el
 returns-6 : tie.Need-returns-6
 returns-6 c = λ ds ks ms. let s = start-from-then6 c in pr-17 64 _ _ (entry (else1-from-then6 c) ds ks ms) (lt-leb 1024 _ (c .before .before .if5 .left)) (is-one (lent s ds ks ms) (s .args .st) _ _ (entry-node-from-then6 c .entry-node .ensures) (c .if6 .taken)) ∙ ap (λ (r : Rule). lineRefusal 64 (state s ds ks ms) r (s .args .root .0)) (sym (enum-told2-from-then6 c .enum-told2 .given .1))
 
-is-constant-requires : tie.Need-is-constant-requires
-is-constant-requires c κs = let s = start-from-is-constant-call c in (s .pre .0, subst (λ (x : ℕ). x < s .args .st .count) (sym (entry-node-from-is-constant-call c .entry-node .ensures)) (node-inside (s .args .scratch .now) (s .args .st .entries) (room s [] [] []) (s .args .st .count) (s .pre .0 .least) (s .pre .1) (s .args .root .0) (there (else1-from-is-constant-call c) [] [] [])), omega (arith, s .pre .4))
+is-one-requires : tie.Need-is-one-requires
+is-one-requires c κs = let s = start-from-is-one-call c in (s .pre .0, subst (λ (x : ℕ). x < s .args .st .count) (sym (entry-node-from-is-one-call c .entry-node .ensures)) (node-inside (s .args .scratch .now) (s .args .st .entries) (room s [] [] []) (s .args .st .count) (s .pre .0 .least) (s .pre .1) (s .args .root .0) (there (else1-from-is-one-call c) [] [] [])), omega (arith, s .pre .4))
 
 same-length : tie.Need-same-length
 same-length c = search needs
 
 returns-7 : tie.Need-returns-7
-returns-7 c = λ ds ks ms. let s = start-from-then7 c in pr-18 64 _ _ (entry (else1-from-then7 c) ds ks ms) (lt-leb 1024 _ (else5-from-then7 c .if5 .left)) (not-one (lent s ds ks ms) (s .args .st) _ _ (entry-node-from-then7 c .entry-node .ensures) (else6-from-then7 c .if6 .left)) (shut-is (lent s ds ks ms) (s .args .st) _ _ (entry-node-from-then7 c .entry-node .ensures) _ _ (is-constant-from-then7 c .is-constant .ensures) (not-true _ (c .if7 .taken))) ∙ ap (λ (r : Rule). lineRefusal 64 (state s ds ks ms) r (s .args .root .0)) (sym (enum-told2-from-then7 c .enum-told2 .given .1))
+returns-7 c = λ ds ks ms. let s = start-from-then7 c in pr-18 64 _ _ (entry (else1-from-then7 c) ds ks ms) (lt-leb 1024 _ (else5-from-then7 c .if5 .left)) (not-one (lent s ds ks ms) (s .args .st) _ _ (entry-node-from-then7 c .entry-node .ensures) (else6-from-then7 c .if6 .left)) (shut-is (lent s ds ks ms) (s .args .st) _ _ (entry-node-from-then7 c .entry-node .ensures) _ _ (is-one-from-then7 c .is-one .ensures) (not-true _ (c .if7 .taken))) ∙ ap (λ (r : Rule). lineRefusal 64 (state s ds ks ms) r (s .args .root .0)) (sym (enum-told2-from-then7 c .enum-told2 .given .1))
 
 returns-8 : tie.Need-returns-8
 returns-8 c = λ ds ks ms. let s = start-from-else4 c in rup-0 64 _ _ (entry (else1-from-else4 c) ds ks ms) (waits-is (lent s ds ks ms) (s .args .st) _ _ (waits-from-else4 c .waits .ensures) (else2-from-else4 c .if2 .left)) (lt-leb 1024 _ (c .before .before .if3 .left)) (not-one (lent s ds ks ms) (s .args .st) _ _ (entry-node-from-else4 c .entry-node .ensures) (c .if4 .left)) ∙ ap (λ (r : Rule). lineRefusal 64 (state s ds ks ms) r (s .args .root .0)) (sym (enum-told-from-else4 c .enum-told .given .1))
@@ -232,7 +232,7 @@ same-length-2 : tie.Need-same-length-2
 same-length-2 c = search needs
 
 returns-9 : tie.Need-returns-9
-returns-9 c = λ ds ks ms. let s = start-from-else7 c in pr-0 64 _ _ (entry (else1-from-else7 c) ds ks ms) (lt-leb 1024 _ (else5-from-else7 c .if5 .left)) (not-one (lent s ds ks ms) (s .args .st) _ _ (entry-node-from-else7 c .entry-node .ensures) (else6-from-else7 c .if6 .left)) (shut-is (lent s ds ks ms) (s .args .st) _ _ (entry-node-from-else7 c .entry-node .ensures) _ _ (is-constant-from-else7 c .is-constant .ensures) (not-false _ (c .if7 .left))) ∙ ap (λ (r : Rule). lineRefusal 64 (state s ds ks ms) r (s .args .root .0)) (sym (enum-told2-from-else7 c .enum-told2 .given .1))
+returns-9 c = λ ds ks ms. let s = start-from-else7 c in pr-0 64 _ _ (entry (else1-from-else7 c) ds ks ms) (lt-leb 1024 _ (else5-from-else7 c .if5 .left)) (not-one (lent s ds ks ms) (s .args .st) _ _ (entry-node-from-else7 c .entry-node .ensures) (else6-from-else7 c .if6 .left)) (shut-is (lent s ds ks ms) (s .args .st) _ _ (entry-node-from-else7 c .entry-node .ensures) _ _ (is-one-from-else7 c .is-one .ensures) (not-false _ (c .if7 .left))) ∙ ap (λ (r : Rule). lineRefusal 64 (state s ds ks ms) r (s .args .root .0)) (sym (enum-told2-from-else7 c .enum-told2 .given .1))
 
 pub line-refusal-spec : {M : Type 1} → statement M
-line-refusal-spec = tie.close (tie.spec is-entry-requires returns entry-node-requires enum-told waits-requires returns-2 returns-3 returns-4 enum-told-2 returns-5 returns-6 is-constant-requires same-length returns-7 returns-8 same-length-2 returns-9)
+line-refusal-spec = tie.close (tie.spec is-entry-requires returns entry-node-requires enum-told waits-requires returns-2 returns-3 returns-4 enum-told-2 returns-5 returns-6 is-one-requires same-length returns-7 returns-8 same-length-2 returns-9)

@@ -1,4 +1,4 @@
--- `clear_memo` leaves zeros. The invariant: the first i cells are zeros. Assumes nothing.
+-- `clear_cells` leaves zeros. The invariant: the first i cells are zeros. Assumes nothing.
 use mathlib.Core.Path.{_≡_, refl, _∙_}
 use Prim.Native.Nat.{_+_, _-_, _≤_, _<_}
 use native.Mathlib.Omega.{arith}
@@ -6,8 +6,8 @@ use lib.ListN.{length, length-set}
 use borrow.Author.Needs.{needs}
 use Rattle.walks.specs.Readable.{Cleared}
 use Rattle.walks.proofs.Memo.{stored}
-use Rattle.walks.proofs.clear_memo.Statement.{statement}
-use Rattle.walks.proofs.clear_memo.Tie as tie
+use Rattle.walks.proofs.clear_cells.Statement.{statement}
+use Rattle.walks.proofs.clear_cells.Tie as tie
 
 abbrev Inv-loop : tie.InvT-loop
 Inv-loop memo₀ count i₀ memo i = Cleared i memo × (i ≤ count) × (length memo ≡ length memo₀)
@@ -44,8 +44,8 @@ returns c =
     let l = c .before .loop in
     λ k p. l .inv .0 k (omega (arith, c .loop-test .left))
 
-pub clear-memo-spec : {M : Type 1} → statement M
-clear-memo-spec =
+pub clear-cells-spec : {M : Type 1} → statement M
+clear-cells-spec =
     tie.close
     (tie.spec
     Inv-loop

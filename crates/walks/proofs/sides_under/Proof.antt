@@ -1,12 +1,12 @@
--- `sides_of` gives the two nodes. Assumes nothing.
+-- `sides_under` gives the two nodes. Assumes nothing.
 use mathlib.Core.Path.{sym, _∙_}
 use borrow.Author.Needs.{needs}
 use Rattle.walks.specs.Constant.{sidesUnder}
 use Rattle.walks.proofs.Here.{Here, here}
-use Rattle.walks.proofs.sides_of.Statement.{statement}
-use Rattle.walks.proofs.sides_of.Tie as tie
-use Rattle.walks.proofs.sides_of.Reads as reads
-use Rattle.walks.proofs.sides_of.Lts as lts
+use Rattle.walks.proofs.sides_under.Statement.{statement}
+use Rattle.walks.proofs.sides_under.Tie as tie
+use Rattle.walks.proofs.sides_under.Reads as reads
+use Rattle.walks.proofs.sides_under.Lts as lts
 use Rattle.walks.proofs.in_word.Reads as in-word-reads
 
 -- what good order says of the node
@@ -63,8 +63,8 @@ unfolding sidesUnder
 returns-3 c =
     rw (sym (c .before .before .before .in-word .ensures) ∙ c .before .before .if1 .left, sym (c .before .in-word2 .ensures) ∙ c .if2 .left)
 
-pub sides-of-spec : {M : Type 1} → statement M
-sides-of-spec =
+pub sides-under-spec : {M : Type 1} → statement M
+sides-under-spec =
     tie.close
     (tie.spec
     cast-i
