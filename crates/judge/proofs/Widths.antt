@@ -1,7 +1,7 @@
 -- A line over a table whose nodes use no variable above n is the line at n variables: what is judged at 64 is what 01 asks at the
 -- header's n. Assumes nothing.
 use mathlib.Core.Path.{_≡_, refl}
-use mathlib.Core.Bool.{Bool, true}
+use mathlib.Core.Bool.{Bool}
 use mathlib.Core.List.{List, [], _∷_}
 use Prim.Native.Nat.{ℕ, suc, _≤_, _<_}
 use native.Mathlib.Omega.{arith}

@@ -115,7 +115,7 @@ fn judge_line(
     let mut member_words = [0u64; 2048];
     let mut words = [0u64; 2048];
     match rule {
-        Rule::Rup => judge::rup(
+        Rule::Rup => judge::rup::rup(
             vars,
             lows,
             highs,
@@ -134,7 +134,7 @@ fn judge_line(
             // Two parts of the scratch list cannot be lent at once.
             let mut second = [0u16; 2048];
             let mut second_words = [0u64; 2048];
-            judge::pr(
+            judge::pr::pr(
                 vars,
                 lows,
                 highs,

@@ -10,8 +10,8 @@ use Rattle.operate.specs.declared.Operation.the-variants.{Literals}
 use Rattle.operate.specs.Inner.{applied}
 use Rattle.conflict.specs.Marks.{unmarked}
 use Rattle.judge.proofs.Turning.{turn-constant, literals-ready, turn-full, turn-ready, turn-worded, turn-judged}
-use Rattle.judge.proofs.turn.Statement.{statement}
-use Rattle.judge.proofs.turn.Tie as tie
+use Rattle.judge.proofs.pr.turn.Statement.{statement}
+use Rattle.judge.proofs.pr.turn.Tie as tie
 
 module _ (s : tie.Start) where
   abbrev before : Table

@@ -8,8 +8,8 @@ use Rattle.table.specs.Indexed.{Table, tableOf, nodesOf}
 use Rattle.walks.proofs.Here.{good-readable}
 use Rattle.judge.specs.Lines.{Negatable, Worded}
 use Rattle.judge.proofs.Ready.{memo-again}
-use Rattle.judge.proofs.rup.Statement.{statement}
-use Rattle.judge.proofs.rup.Tie as tie
+use Rattle.judge.proofs.rup.rup.Statement.{statement}
+use Rattle.judge.proofs.rup.rup.Tie as tie
 
 module _ (s : tie.Start) where
   abbrev before : Table

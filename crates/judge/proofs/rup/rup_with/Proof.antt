@@ -13,8 +13,8 @@ use Rattle.conflict.specs.Marks.{unmarked}
 use Rattle.judge.specs.Lines.{ByNegation}
 use Rattle.judge.proofs.Ready.{list-ready}
 use Rattle.judge.proofs.Judging.{rup-full, rup-judged}
-use Rattle.judge.proofs.rup_with.Statement.{statement}
-use Rattle.judge.proofs.rup_with.Tie as tie
+use Rattle.judge.proofs.rup.rup_with.Statement.{statement}
+use Rattle.judge.proofs.rup.rup_with.Tie as tie
 
 module _ (s : tie.Start) where
   abbrev before : Table

@@ -20,8 +20,8 @@ use Rattle.judge.specs.Lines.{Says}
 use Rattle.judge.proofs.Worded.{member-worded, worded-again}
 use Rattle.judge.proofs.Ready.{again-ready}
 use Rattle.judge.proofs.Turning.{judgedAs, Turning, turning-none, turns-done, turns-full, turns-end, turns-on}
-use Rattle.judge.proofs.turns.Statement.{statement}
-use Rattle.judge.proofs.turns.Tie as tie
+use Rattle.judge.proofs.pr.turns.Statement.{statement}
+use Rattle.judge.proofs.pr.turns.Tie as tie
 
 abbrev Inv-loop : tie.InvT-loop
 Inv-loop vars₀ lows₀ highs₀ heads₀ links₀ memo₀ marks₀ members member-words first first-words second₀ second-words₀ count positive negative rounds₀ i₀ vars lows highs heads links memo marks second second-words rounds i =

@@ -19,8 +19,8 @@ use Rattle.judge.specs.Lines.{Negatable, Worded, ByNegation}
 use Rattle.judge.proofs.Worded.{supports-longer}
 use Rattle.judge.proofs.Ready.{list-ready, inside-more, memo-again}
 use Rattle.judge.proofs.Judging.{pr-full, pr-judged}
-use Rattle.judge.proofs.pr.Statement.{statement}
-use Rattle.judge.proofs.pr.Tie as tie
+use Rattle.judge.proofs.pr.pr.Statement.{statement}
+use Rattle.judge.proofs.pr.pr.Tie as tie
 
 module _ (s : tie.Start) where
   abbrev before : Table

@@ -1,0 +1,281 @@
+// A PR line: the members by not-g, and then each member's turn over them.
+use operate::Operation;
+use table::NodeNo;
+ghost use mathlib.Core.Path.{_≡_};
+ghost use mathlib.Core.Bool.{false};
+ghost use mathlib.Core.List.{[], _∷_};
+ghost use Prim.Native.Nat.{_*_, _≤_, _<_};
+ghost use lib.ListN.{length};
+ghost use Rattle.meaning.specs.Rules.{rup, prTurns, pr};
+ghost use Rattle.meaning.specs.Words.{inWord};
+ghost use Rattle.table.specs.Nodes.{diagramAt};
+ghost use Rattle.table.specs.Indexed.{tableOf, nodesOf};
+ghost use Rattle.walks.specs.Readable.{ListReady};
+ghost use Rattle.table.specs.Lists.{diagramsOf, Inside};
+ghost use Rattle.conflict.specs.Marks.{unmarked};
+ghost use Rattle.supports.specs.Supports.{Supports};
+ghost use Rattle.judge.specs.Lines.{Negatable, Worded, Says};
+
+// A member's turn of a PR line, worked out in `second`, where `first` has the members by not-g, `first_words` their variables
+// and `word` the member's own. Its nodes stay.
+fn turn(
+    vars: &mut [u8],
+    lows: &mut [u16],
+    highs: &mut [u16],
+    heads: &mut [u16],
+    links: &mut [u16],
+    memo: &mut [u64],
+    marks: &mut [u8],
+    first: &[u16],
+    first_words: &[u64],
+    second: &mut [u16],
+    second_words: &mut [u64],
+    count: usize,
+    f: NodeNo,
+    word: u64,
+    positive: u64,
+    negative: u64,
+) -> crate::Judged
+    requires { ⌜ (
+        let before = tableOf (now vars) (now lows) (now highs) (now heads) (now links) count in
+        ListReady before (now first) (now memo)
+        × (now marks ≡ unmarked (length (now vars)))
+        × (length (now second) ≡ length (now first))
+        × (f .0 < count)) ⌝ }
+    requires { ⌜ (
+        let before = tableOf (now vars) (now lows) (now highs) (now heads) (now links) count in
+        Worded before (now first) (now first_words) (f .0) word × (length (now second_words) ≡ length (now first))) ⌝ }
+    ensures { λ r. ⌜ (
+        let before = tableOf (now (vars .entry)) (now (lows .entry)) (now (highs .entry)) (now (heads .entry)) (now (links .entry)) count in
+        let after = tableOf (now (vars .exit)) (now (lows .exit)) (now (highs .exit)) (now (heads .exit)) (now (links .exit)) (r .count) in
+        Says before
+        (prTurns 64 (inWord positive) (inWord negative) (diagramsOf (nodesOf before) (now (first .entry)))
+        (diagramAt (nodesOf before) (f .0) ∷ []))
+        64 r after) ⌝ }
+    ensures { λ _. ⌜ now (marks .exit) ≡ unmarked (length (now (vars .entry))) ⌝ }
+{
+    if walks::is_one(vars, lows, highs, memo, count, f, positive, negative) {
+        return crate::Judged {
+            full: false,
+            shown: true,
+            rounds: 0,
+            count,
+        };
+    }
+    operate::memo::clear_memo(memo);
+    let h = operate::apply(
+        vars,
+        lows,
+        highs,
+        heads,
+        links,
+        memo,
+        count,
+        Operation::Literals(positive, negative),
+        f,
+        NodeNo(1),
+    );
+    if h.full {
+        return crate::Judged {
+            full: true,
+            shown: false,
+            rounds: 0,
+            count: h.count,
+        };
+    }
+    crate::rup::rup_with(
+        vars,
+        lows,
+        highs,
+        heads,
+        links,
+        memo,
+        marks,
+        first,
+        first_words,
+        second,
+        second_words,
+        h.count,
+        h.node,
+        word,
+    )
+}
+
+// The turns of all members, by place, up to one that is `full` or does not conflict. Each one's nodes are dropped before the next.
+fn turns(
+    vars: &mut [u8],
+    lows: &mut [u16],
+    highs: &mut [u16],
+    heads: &mut [u16],
+    links: &mut [u16],
+    memo: &mut [u64],
+    marks: &mut [u8],
+    members: &[u16],
+    member_words: &[u64],
+    first: &[u16],
+    first_words: &[u64],
+    second: &mut [u16],
+    second_words: &mut [u64],
+    count: usize,
+    positive: u64,
+    negative: u64,
+) -> crate::Judged
+    requires { ⌜ (
+        let before = tableOf (now vars) (now lows) (now highs) (now heads) (now links) count in
+        ListReady before (now first) (now memo)
+        × (now marks ≡ unmarked (length (now vars)))
+        × (length (now second) ≡ length (now first))
+        × Inside count (now members)
+        × (length (now members) ≤ 65536)) ⌝ }
+    requires { ⌜ (
+        let before = tableOf (now vars) (now lows) (now highs) (now heads) (now links) count in
+        (length (now member_words) ≡ length (now members))
+        × Supports (nodesOf before) (now members) (now member_words)
+        × (length (now first_words) ≡ length (now first))
+        × Supports (nodesOf before) (now first) (now first_words)
+        × (length (now second_words) ≡ length (now first))) ⌝ }
+    ensures { λ r. ⌜ (
+        let before = tableOf (now (vars .entry)) (now (lows .entry)) (now (highs .entry)) (now (heads .entry)) (now (links .entry)) count in
+        let after = tableOf (now (vars .exit)) (now (lows .exit)) (now (highs .exit)) (now (heads .exit)) (now (links .exit)) (r .count) in
+        Says before
+        (prTurns 64 (inWord positive) (inWord negative) (diagramsOf (nodesOf before) (now (first .entry)))
+        (diagramsOf (nodesOf before) (now (members .entry))))
+        (64 * length (now (members .entry))) r after) ⌝ }
+    ensures { λ _. ⌜ now (marks .exit) ≡ unmarked (length (now (vars .entry))) ⌝ }
+{
+    let mut rounds: u64 = 0;
+    let mut i: usize = 0;
+    while i < members.len() {
+        let f = NodeNo(members[i]);
+        let t = turn(
+            vars,
+            lows,
+            highs,
+            heads,
+            links,
+            memo,
+            marks,
+            first,
+            first_words,
+            second,
+            second_words,
+            count,
+            f,
+            member_words[i],
+            positive,
+            negative,
+        );
+        if t.full {
+            return crate::Judged {
+                full: true,
+                shown: false,
+                rounds: 0,
+                count: t.count,
+            };
+        }
+        table::drop_to(vars, lows, highs, heads, links, t.count, count);
+        rounds += t.rounds;
+        if !t.shown {
+            return crate::Judged {
+                full: false,
+                shown: false,
+                rounds,
+                count,
+            };
+        }
+        i += 1;
+    }
+    crate::Judged {
+        full: false,
+        shown: true,
+        rounds,
+        count,
+    }
+}
+
+// The PR line of node `root` with the witness of the two words, worked out in `first` and `second`, with words to
+// work in for the members and for each of the two. Of its nodes those of not-g and of
+// the members by not-g stay; where it is `full`, those of the turn that found no room too.
+pub fn pr(
+    vars: &mut [u8],
+    lows: &mut [u16],
+    highs: &mut [u16],
+    heads: &mut [u16],
+    links: &mut [u16],
+    memo: &mut [u64],
+    marks: &mut [u8],
+    members: &[u16],
+    member_words: &mut [u64],
+    first: &mut [u16],
+    first_words: &mut [u64],
+    second: &mut [u16],
+    second_words: &mut [u64],
+    count: usize,
+    root: NodeNo,
+    positive: u64,
+    negative: u64,
+) -> crate::Judged
+    requires { ⌜ (
+        let before = tableOf (now vars) (now lows) (now highs) (now heads) (now links) count in
+        Negatable before (now members) (now memo) (root .0)
+        × (now marks ≡ unmarked (length (now vars)))
+        × (length (now first) ≡ length (now members))
+        × (length (now second) ≡ length (now members))
+        × (length (now members) ≤ 65536)) ⌝ }
+    requires { ⌜ (length (now member_words) ≡ length (now members))
+        × (length (now first_words) ≡ length (now members))
+        × (length (now second_words) ≡ length (now members)) ⌝ }
+    ensures { λ r. ⌜ (
+        let before = tableOf (now (vars .entry)) (now (lows .entry)) (now (highs .entry)) (now (heads .entry)) (now (links .entry)) count in
+        let after = tableOf (now (vars .exit)) (now (lows .exit)) (now (highs .exit)) (now (heads .exit)) (now (links .exit)) (r .count) in
+        Says before
+        (pr 64 (inWord positive) (inWord negative) (diagramsOf (nodesOf before) (now (members .entry)))
+        (diagramAt (nodesOf before) (root .0)))
+        (64 * length (now (members .entry))) r after) ⌝ }
+    ensures { λ _. ⌜ now (marks .exit) ≡ unmarked (length (now (vars .entry))) ⌝ }
+{
+    supports::supports_of(vars, lows, highs, memo, members, member_words, count);
+    let word = supports::support_from(vars, lows, highs, memo, count, root);
+    let made = crate::by_negation(
+        vars,
+        lows,
+        highs,
+        heads,
+        links,
+        memo,
+        members,
+        member_words,
+        first,
+        first_words,
+        count,
+        root,
+        word,
+    );
+    if made.full {
+        return crate::Judged {
+            full: true,
+            shown: false,
+            rounds: 0,
+            count: made.count,
+        };
+    }
+    supports::supports_of(vars, lows, highs, memo, first, first_words, made.count);
+    turns(
+        vars,
+        lows,
+        highs,
+        heads,
+        links,
+        memo,
+        marks,
+        members,
+        member_words,
+        first,
+        first_words,
+        second,
+        second_words,
+        made.count,
+        positive,
+        negative,
+    )
+}

@@ -1,0 +1,133 @@
+// A RUP line: the members by not-g, propagated.
+use table::NodeNo;
+ghost use mathlib.Core.Path.{_≡_};
+ghost use mathlib.Core.Bool.{false};
+ghost use lib.ListN.{length};
+ghost use Rattle.meaning.specs.Rules.{rup};
+ghost use Rattle.table.specs.Nodes.{diagramAt};
+ghost use Rattle.table.specs.Indexed.{tableOf, nodesOf};
+ghost use Rattle.table.specs.Lists.{diagramsOf};
+ghost use Rattle.conflict.specs.Marks.{unmarked};
+ghost use Rattle.judge.specs.Lines.{Negatable, Worded, Says};
+
+// The RUP line of node `root`, worked out in `list`, where `member_words` has the members' variables and `word` those of the root. Its nodes stay.
+pub fn rup_with(
+    vars: &mut [u8],
+    lows: &mut [u16],
+    highs: &mut [u16],
+    heads: &mut [u16],
+    links: &mut [u16],
+    memo: &mut [u64],
+    marks: &mut [u8],
+    members: &[u16],
+    member_words: &[u64],
+    list: &mut [u16],
+    words: &mut [u64],
+    count: usize,
+    root: NodeNo,
+    word: u64,
+) -> crate::Judged
+    requires { ⌜ (
+        let before = tableOf (now vars) (now lows) (now highs) (now heads) (now links) count in
+        Negatable before (now members) (now memo) (root .0)
+        × (now marks ≡ unmarked (length (now vars)))
+        × (length (now list) ≡ length (now members))) ⌝ }
+    requires { ⌜ (
+        let before = tableOf (now vars) (now lows) (now highs) (now heads) (now links) count in
+        Worded before (now members) (now member_words) (root .0) word × (length (now words) ≡ length (now members))) ⌝ }
+    ensures { λ r. ⌜ (
+        let before = tableOf (now (vars .entry)) (now (lows .entry)) (now (highs .entry)) (now (heads .entry)) (now (links .entry)) count in
+        let after = tableOf (now (vars .exit)) (now (lows .exit)) (now (highs .exit)) (now (heads .exit)) (now (links .exit)) (r .count) in
+        Says before (rup 64 (diagramsOf (nodesOf before) (now (members .entry))) (diagramAt (nodesOf before) (root .0))) 64 r after) ⌝ }
+    ensures { λ _. ⌜ now (marks .exit) ≡ unmarked (length (now (vars .entry))) ⌝ }
+{
+    let made = crate::by_negation(
+        vars,
+        lows,
+        highs,
+        heads,
+        links,
+        memo,
+        members,
+        member_words,
+        list,
+        words,
+        count,
+        root,
+        word,
+    );
+    if made.full {
+        return crate::Judged {
+            full: true,
+            shown: false,
+            rounds: 0,
+            count: made.count,
+        };
+    }
+    let p = propagate::unit_prop(
+        vars,
+        lows,
+        highs,
+        heads,
+        links,
+        memo,
+        marks,
+        list,
+        words,
+        made.count,
+    );
+    crate::Judged {
+        full: p.full,
+        shown: p.conflict,
+        rounds: p.rounds as u64,
+        count: p.count,
+    }
+}
+
+// The RUP line of node `root`, worked out in `list`, with words to work in for the members and for the list. Its nodes stay.
+pub fn rup(
+    vars: &mut [u8],
+    lows: &mut [u16],
+    highs: &mut [u16],
+    heads: &mut [u16],
+    links: &mut [u16],
+    memo: &mut [u64],
+    marks: &mut [u8],
+    members: &[u16],
+    member_words: &mut [u64],
+    list: &mut [u16],
+    words: &mut [u64],
+    count: usize,
+    root: NodeNo,
+) -> crate::Judged
+    requires { ⌜ (
+        let before = tableOf (now vars) (now lows) (now highs) (now heads) (now links) count in
+        Negatable before (now members) (now memo) (root .0)
+        × (now marks ≡ unmarked (length (now vars)))
+        × (length (now list) ≡ length (now members))) ⌝ }
+    requires { ⌜ (length (now member_words) ≡ length (now members)) × (length (now words) ≡ length (now members)) ⌝ }
+    ensures { λ r. ⌜ (
+        let before = tableOf (now (vars .entry)) (now (lows .entry)) (now (highs .entry)) (now (heads .entry)) (now (links .entry)) count in
+        let after = tableOf (now (vars .exit)) (now (lows .exit)) (now (highs .exit)) (now (heads .exit)) (now (links .exit)) (r .count) in
+        Says before (rup 64 (diagramsOf (nodesOf before) (now (members .entry))) (diagramAt (nodesOf before) (root .0))) 64 r after) ⌝ }
+    ensures { λ _. ⌜ now (marks .exit) ≡ unmarked (length (now (vars .entry))) ⌝ }
+{
+    supports::supports_of(vars, lows, highs, memo, members, member_words, count);
+    let word = supports::support_from(vars, lows, highs, memo, count, root);
+    rup_with(
+        vars,
+        lows,
+        highs,
+        heads,
+        links,
+        memo,
+        marks,
+        members,
+        member_words,
+        list,
+        words,
+        count,
+        root,
+        word,
+    )
+}
