@@ -38,10 +38,10 @@ unfolding Supports
 supports-longer T T′ L list words inside S i p = subst (Support (getD words i 0)) (sym (L .kept (getD list i 0) (inside i p))) (S i p)
 
 -- a member's turn over the first list
-pub member-worded : (T : Table) (members words first first-words : List ℕ) (i : ℕ) → i < length members → Supports (nodesOf T) members words → length first-words ≡ length first
-    → Supports (nodesOf T) first first-words → Worded T first first-words (getD members i 0) (getD words i 0)
+pub member-worded : (T : Table) (members words first firstwords : List ℕ) (i : ℕ) → i < length members → Supports (nodesOf T) members words → length firstwords ≡ length first
+    → Supports (nodesOf T) first firstwords → Worded T first firstwords (getD members i 0) (getD words i 0)
 unfolding Supports
-member-worded T members words first first-words i p M len F = record { lengths = len; have = F; has = M i p }
+member-worded T members words first firstwords i p M len F = record { lengths = len; have = F; has = M i p }
 
 pub worded-again : (T T′ : Table) (list words : List ℕ) (g word : ℕ) → T′ ≡ T → Worded T list words g word → Worded T′ list words g word
 worded-again T T′ list words g word e W = subst (λ (t : Table). Worded t list words g word) (sym e) W

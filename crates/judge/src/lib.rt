@@ -47,7 +47,7 @@ fn copy_words(from: &[u64], to: &mut [u64])
 }
 
 // Makes not-g, and fills the list with the members' cofactors by not-g, made in order; or stops at `full`.
-// `member_words` has the members' variables and `word` those of g; `words` then has the list's.
+// `memberwords` has the members' variables and `word` those of g; `words` then has the list's.
 pub fn by_negation(
     vars: &mut [u8],
     lows: &mut [u16],
@@ -56,7 +56,7 @@ pub fn by_negation(
     links: &mut [u16],
     memo: &mut [u64],
     members: &[u16],
-    member_words: &[u64],
+    memberwords: &[u64],
     list: &mut [u16],
     words: &mut [u64],
     count: usize,
@@ -68,7 +68,7 @@ pub fn by_negation(
         Negatable before (now members) (now memo) (g .0) × (length (now list) ≡ length (now members))) ⌝ }
     requires { ⌜ (
         let before = tableOf (now vars) (now lows) (now highs) (now heads) (now links) count in
-        Worded before (now members) (now member_words) (g .0) word × (length (now words) ≡ length (now members))) ⌝ }
+        Worded before (now members) (now memberwords) (g .0) word × (length (now words) ≡ length (now members))) ⌝ }
     ensures { λ r. ⌜ (
         let before = tableOf (now (vars .entry)) (now (lows .entry)) (now (highs .entry)) (now (heads .entry)) (now (links .entry)) count in
         let after = tableOf (now (vars .exit)) (now (lows .exit)) (now (highs .exit)) (now (heads .exit)) (now (links .exit)) (r .count) in
@@ -79,7 +79,7 @@ pub fn by_negation(
         r .full ≡ false → Supports (nodesOf after) (now (list .exit)) (now (words .exit))) ⌝ }
 {
     copy(members, list);
-    copy_words(member_words, words);
+    copy_words(memberwords, words);
     operate::memo::clear_memo(memo);
     let not = operate::apply(
         vars,

@@ -16,7 +16,7 @@ ghost use Rattle.conflict.specs.Marks.{unmarked};
 ghost use Rattle.supports.specs.Supports.{Supports};
 ghost use Rattle.judge.specs.Lines.{Negatable, Worded, Says};
 
-// A member's turn of a PR line, worked out in `second`, where `first` has the members by not-g, `first_words` their variables
+// A member's turn of a PR line, worked out in `second`, where `first` has the members by not-g, `firstwords` their variables
 // and `word` the member's own. Its nodes stay.
 fn turn(
     vars: &mut [u8],
@@ -27,9 +27,9 @@ fn turn(
     memo: &mut [u64],
     marks: &mut [u8],
     first: &[u16],
-    first_words: &[u64],
+    firstwords: &[u64],
     second: &mut [u16],
-    second_words: &mut [u64],
+    secondwords: &mut [u64],
     count: usize,
     f: NodeNo,
     word: u64,
@@ -44,7 +44,7 @@ fn turn(
         × (f .0 < count)) ⌝ }
     requires { ⌜ (
         let before = tableOf (now vars) (now lows) (now highs) (now heads) (now links) count in
-        Worded before (now first) (now first_words) (f .0) word × (length (now second_words) ≡ length (now first))) ⌝ }
+        Worded before (now first) (now firstwords) (f .0) word × (length (now secondwords) ≡ length (now first))) ⌝ }
     ensures { λ r. ⌜ (
         let before = tableOf (now (vars .entry)) (now (lows .entry)) (now (highs .entry)) (now (heads .entry)) (now (links .entry)) count in
         let after = tableOf (now (vars .exit)) (now (lows .exit)) (now (highs .exit)) (now (heads .exit)) (now (links .exit)) (r .count) in
@@ -92,9 +92,9 @@ fn turn(
         memo,
         marks,
         first,
-        first_words,
+        firstwords,
         second,
-        second_words,
+        secondwords,
         h.count,
         h.node,
         word,
@@ -111,11 +111,11 @@ fn turns(
     memo: &mut [u64],
     marks: &mut [u8],
     members: &[u16],
-    member_words: &[u64],
+    memberwords: &[u64],
     first: &[u16],
-    first_words: &[u64],
+    firstwords: &[u64],
     second: &mut [u16],
-    second_words: &mut [u64],
+    secondwords: &mut [u64],
     count: usize,
     positive: u64,
     negative: u64,
@@ -129,11 +129,11 @@ fn turns(
         × (length (now members) ≤ 65536)) ⌝ }
     requires { ⌜ (
         let before = tableOf (now vars) (now lows) (now highs) (now heads) (now links) count in
-        (length (now member_words) ≡ length (now members))
-        × Supports (nodesOf before) (now members) (now member_words)
-        × (length (now first_words) ≡ length (now first))
-        × Supports (nodesOf before) (now first) (now first_words)
-        × (length (now second_words) ≡ length (now first))) ⌝ }
+        (length (now memberwords) ≡ length (now members))
+        × Supports (nodesOf before) (now members) (now memberwords)
+        × (length (now firstwords) ≡ length (now first))
+        × Supports (nodesOf before) (now first) (now firstwords)
+        × (length (now secondwords) ≡ length (now first))) ⌝ }
     ensures { λ r. ⌜ (
         let before = tableOf (now (vars .entry)) (now (lows .entry)) (now (highs .entry)) (now (heads .entry)) (now (links .entry)) count in
         let after = tableOf (now (vars .exit)) (now (lows .exit)) (now (highs .exit)) (now (heads .exit)) (now (links .exit)) (r .count) in
@@ -156,12 +156,12 @@ fn turns(
             memo,
             marks,
             first,
-            first_words,
+            firstwords,
             second,
-            second_words,
+            secondwords,
             count,
             f,
-            member_words[i],
+            memberwords[i],
             positive,
             negative,
         );
@@ -205,11 +205,11 @@ pub fn pr(
     memo: &mut [u64],
     marks: &mut [u8],
     members: &[u16],
-    member_words: &mut [u64],
+    memberwords: &mut [u64],
     first: &mut [u16],
-    first_words: &mut [u64],
+    firstwords: &mut [u64],
     second: &mut [u16],
-    second_words: &mut [u64],
+    secondwords: &mut [u64],
     count: usize,
     root: NodeNo,
     positive: u64,
@@ -222,9 +222,9 @@ pub fn pr(
         × (length (now first) ≡ length (now members))
         × (length (now second) ≡ length (now members))
         × (length (now members) ≤ 65536)) ⌝ }
-    requires { ⌜ (length (now member_words) ≡ length (now members))
-        × (length (now first_words) ≡ length (now members))
-        × (length (now second_words) ≡ length (now members)) ⌝ }
+    requires { ⌜ (length (now memberwords) ≡ length (now members))
+        × (length (now firstwords) ≡ length (now members))
+        × (length (now secondwords) ≡ length (now members)) ⌝ }
     ensures { λ r. ⌜ (
         let before = tableOf (now (vars .entry)) (now (lows .entry)) (now (highs .entry)) (now (heads .entry)) (now (links .entry)) count in
         let after = tableOf (now (vars .exit)) (now (lows .exit)) (now (highs .exit)) (now (heads .exit)) (now (links .exit)) (r .count) in
@@ -234,7 +234,7 @@ pub fn pr(
         (64 * length (now (members .entry))) r after) ⌝ }
     ensures { λ _. ⌜ now (marks .exit) ≡ unmarked (length (now (vars .entry))) ⌝ }
 {
-    supports::supports_of(vars, lows, highs, memo, members, member_words, count);
+    supports::supports_of(vars, lows, highs, memo, members, memberwords, count);
     let word = supports::support_from(vars, lows, highs, memo, count, root);
     let made = crate::by_negation(
         vars,
@@ -244,9 +244,9 @@ pub fn pr(
         links,
         memo,
         members,
-        member_words,
+        memberwords,
         first,
-        first_words,
+        firstwords,
         count,
         root,
         word,
@@ -259,7 +259,7 @@ pub fn pr(
             count: made.count,
         };
     }
-    supports::supports_of(vars, lows, highs, memo, first, first_words, made.count);
+    supports::supports_of(vars, lows, highs, memo, first, firstwords, made.count);
     turns(
         vars,
         lows,
@@ -269,11 +269,11 @@ pub fn pr(
         memo,
         marks,
         members,
-        member_words,
+        memberwords,
         first,
-        first_words,
+        firstwords,
         second,
-        second_words,
+        secondwords,
         made.count,
         positive,
         negative,

@@ -10,7 +10,7 @@ ghost use Rattle.table.specs.Lists.{diagramsOf};
 ghost use Rattle.conflict.specs.Marks.{unmarked};
 ghost use Rattle.judge.specs.Lines.{Negatable, Worded, Says};
 
-// The RUP line of node `root`, worked out in `list`, where `member_words` has the members' variables and `word` those of the root. Its nodes stay.
+// The RUP line of node `root`, worked out in `list`, where `memberwords` has the members' variables and `word` those of the root. Its nodes stay.
 pub fn rup_with(
     vars: &mut [u8],
     lows: &mut [u16],
@@ -20,7 +20,7 @@ pub fn rup_with(
     memo: &mut [u64],
     marks: &mut [u8],
     members: &[u16],
-    member_words: &[u64],
+    memberwords: &[u64],
     list: &mut [u16],
     words: &mut [u64],
     count: usize,
@@ -34,7 +34,7 @@ pub fn rup_with(
         × (length (now list) ≡ length (now members))) ⌝ }
     requires { ⌜ (
         let before = tableOf (now vars) (now lows) (now highs) (now heads) (now links) count in
-        Worded before (now members) (now member_words) (root .0) word × (length (now words) ≡ length (now members))) ⌝ }
+        Worded before (now members) (now memberwords) (root .0) word × (length (now words) ≡ length (now members))) ⌝ }
     ensures { λ r. ⌜ (
         let before = tableOf (now (vars .entry)) (now (lows .entry)) (now (highs .entry)) (now (heads .entry)) (now (links .entry)) count in
         let after = tableOf (now (vars .exit)) (now (lows .exit)) (now (highs .exit)) (now (heads .exit)) (now (links .exit)) (r .count) in
@@ -49,7 +49,7 @@ pub fn rup_with(
         links,
         memo,
         members,
-        member_words,
+        memberwords,
         list,
         words,
         count,
@@ -94,7 +94,7 @@ pub fn rup(
     memo: &mut [u64],
     marks: &mut [u8],
     members: &[u16],
-    member_words: &mut [u64],
+    memberwords: &mut [u64],
     list: &mut [u16],
     words: &mut [u64],
     count: usize,
@@ -105,14 +105,14 @@ pub fn rup(
         Negatable before (now members) (now memo) (root .0)
         × (now marks ≡ unmarked (length (now vars)))
         × (length (now list) ≡ length (now members))) ⌝ }
-    requires { ⌜ (length (now member_words) ≡ length (now members)) × (length (now words) ≡ length (now members)) ⌝ }
+    requires { ⌜ (length (now memberwords) ≡ length (now members)) × (length (now words) ≡ length (now members)) ⌝ }
     ensures { λ r. ⌜ (
         let before = tableOf (now (vars .entry)) (now (lows .entry)) (now (highs .entry)) (now (heads .entry)) (now (links .entry)) count in
         let after = tableOf (now (vars .exit)) (now (lows .exit)) (now (highs .exit)) (now (heads .exit)) (now (links .exit)) (r .count) in
         Says before (rup 64 (diagramsOf (nodesOf before) (now (members .entry))) (diagramAt (nodesOf before) (root .0))) 64 r after) ⌝ }
     ensures { λ _. ⌜ now (marks .exit) ≡ unmarked (length (now (vars .entry))) ⌝ }
 {
-    supports::supports_of(vars, lows, highs, memo, members, member_words, count);
+    supports::supports_of(vars, lows, highs, memo, members, memberwords, count);
     let word = supports::support_from(vars, lows, highs, memo, count, root);
     rup_with(
         vars,
@@ -123,7 +123,7 @@ pub fn rup(
         memo,
         marks,
         members,
-        member_words,
+        memberwords,
         list,
         words,
         count,

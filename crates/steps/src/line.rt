@@ -112,7 +112,7 @@ fn judge_line(
     ensures { λ _. ⌜ now (marks .exit) ≡ unmarked (length (now (vars .entry))) ⌝ }
 {
     let m = st.members;
-    let mut member_words = [0u64; 2048];
+    let mut memberwords = [0u64; 2048];
     let mut words = [0u64; 2048];
     match rule {
         Rule::Rup => judge::rup::rup(
@@ -124,7 +124,7 @@ fn judge_line(
             memo,
             marks,
             &members[..m],
-            &mut member_words[..m],
+            &mut memberwords[..m],
             &mut scratch[..m],
             &mut words[..m],
             st.count,
@@ -133,7 +133,7 @@ fn judge_line(
         Rule::Pr => {
             // Two parts of the scratch list cannot be lent at once.
             let mut second = [0u16; 2048];
-            let mut second_words = [0u64; 2048];
+            let mut secondwords = [0u64; 2048];
             judge::pr::pr(
                 vars,
                 lows,
@@ -143,11 +143,11 @@ fn judge_line(
                 memo,
                 marks,
                 &members[..m],
-                &mut member_words[..m],
+                &mut memberwords[..m],
                 &mut scratch[..m],
                 &mut words[..m],
                 &mut second[..m],
-                &mut second_words[..m],
+                &mut secondwords[..m],
                 st.count,
                 g,
                 st.positive,

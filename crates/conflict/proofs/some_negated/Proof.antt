@@ -18,11 +18,11 @@ use Rattle.conflict.proofs.some_negated.Statement.{statement}
 use Rattle.conflict.proofs.some_negated.Tie as tie
 
 abbrev Inv-loop : tie.InvT-loop
-Inv-loop vars lows highs heads links memo₀ marks count list words touching i₀ memo i =
+Inv-loop vars lows highs heads links memo₀ marks list words count touching i₀ memo i =
     (length memo ≡ length memo₀) × NegationMemo memo (tableOf vars lows highs heads links count) × Asked (nodesOf (tableOf vars lows highs heads links count)) list words touching i
 
 abbrev μ-loop : tie.MeasureT-loop
-μ-loop vars lows highs heads links memo₀ marks count list words touching i₀ memo i =
+μ-loop vars lows highs heads links memo₀ marks list words count touching i₀ memo i =
     length list - i
 
 clear-cells-requires : tie.Need-clear-cells-requires Inv-loop μ-loop

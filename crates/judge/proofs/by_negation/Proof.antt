@@ -191,7 +191,7 @@ all-by-requires c κs =
       subst (λ l. ListReady (made a .table) l (memo₁ a) × (made a .node < made a .table .count) × Allowed Cofactor (made a .node)) (sym (copy-from-all-by-call c .copy .ensures)) (cofactors-ready (before s) (s .args .members .now) (s .args .memo .now) (s .args .g .0) (s .pre .0 .0) (made a) (made-is a) e (memo₁ a) (memo-length a)),
       subst (λ l. (length (copy-words-from-all-by-call c .copy-words .last .1 .0) ≡ length l) × Supports (nodesOf (made a .table)) l (copy-words-from-all-by-call c .copy-words .last .1 .0) × Touches Cofactor (diagramAt (nodesOf (made a .table)) (made a .node)) (s .args .word)) (sym (copy-from-all-by-call c .copy .ensures))
           (subst (λ w. (length w ≡ length (s .args .members .now)) × Supports (nodesOf (made a .table)) (s .args .members .now) w × Touches Cofactor (diagramAt (nodesOf (made a .table)) (made a .node)) (s .args .word)) (sym (copy-words-from-all-by-call c .copy-words .ensures))
-          (negation-words (before s) (s .args .members .now) (s .args .memo .now) (s .args .g .0) (s .pre .0 .0) (made a) (made-is a) e (s .args .member-words .now) (s .args .word) (s .pre .1 .0))),
+          (negation-words (before s) (s .args .members .now) (s .args .memo .now) (s .args .g .0) (s .pre .0 .0) (made a) (made-is a) e (s .args .memberwords .now) (s .args .word) (s .pre .1 .0))),
     )
 
 same-length-9 : tie.Need-same-length-9

@@ -17,12 +17,12 @@ use Rattle.propagate.proofs.first_units.Statement.{statement}
 use Rattle.propagate.proofs.first_units.Tie as tie
 
 abbrev Inv-loop : tie.InvT-loop
-Inv-loop vars lows highs memo₀ count list place₀ memo place =
+Inv-loop vars lows highs memo₀ list count place₀ memo place =
     (length memo ≡ length memo₀) × (place ≤ length list) × MarksBelow count memo (place + 1)
     × (firstWithUnit 64 (diagramsOf (nodesIn vars lows highs count) list) ≡ firstWithUnit 64 (diagramsOf (nodesIn vars lows highs count) (drop place list)))
 
 abbrev μ-loop : tie.MeasureT-loop
-μ-loop vars lows highs memo₀ count list place₀ memo place = length list - place
+μ-loop vars lows highs memo₀ list count place₀ memo place = length list - place
 
 -- src/lib.rt:71:5
 clear-cells-requires : tie.Need-clear-cells-requires Inv-loop μ-loop

@@ -12,11 +12,11 @@ use Rattle.supports.proofs.supports_of.Statement.{statement}
 use Rattle.supports.proofs.supports_of.Tie as tie
 
 abbrev Inv-loop : tie.InvT-loop
-Inv-loop vars lows highs memo₀ count list words₀ i₀ memo words i =
+Inv-loop vars lows highs memo₀ list words₀ count i₀ memo words i =
     Filled (nodesIn vars lows highs count) list words i × SupportMemo memo (nodesIn vars lows highs count) × (length memo ≡ length memo₀) × (length words ≡ length words₀)
 
 abbrev μ-loop : tie.MeasureT-loop
-μ-loop vars lows highs memo₀ count list words₀ i₀ memo words i =
+μ-loop vars lows highs memo₀ list words₀ count i₀ memo words i =
     length list - i
 
 -- The ways back, written by ways.py: TO-from-FROM leads from the place FROM of the code to the place TO before it.

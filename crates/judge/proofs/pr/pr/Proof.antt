@@ -130,13 +130,13 @@ module _ (a : tie.After-support-from) where
   abbrev begun : tie.Start
   begun = start-from-support-from a
 
-  abbrev member-words₁ : List ℕ
-  member-words₁ = supports-of-from-support-from a .supports-of .last .1 .1 .1 .1 .1 .0
+  abbrev memberwords₁ : List ℕ
+  memberwords₁ = supports-of-from-support-from a .supports-of .last .1 .1 .1 .1 .1 .0
 
   abbrev memo₁ : List ℕ
   memo₁ = a .support-from .last .1 .1 .1 .0
 
-  worded : Worded (before begun) (begun .args .members .now) member-words₁ (begun .args .root .0) (a .support-from .result)
+  worded : Worded (before begun) (begun .args .members .now) memberwords₁ (begun .args .root .0) (a .support-from .result)
   unfolding nodesOf
   worded =
       record {
@@ -183,16 +183,16 @@ module _ (a : tie.After-by-negation) where
   first-length : length list₁ ≡ length (start .args .members .now)
   first-length = a .by-negation .kept .1 .1 .1 .1 .1 .1 .1 .1 .0 ∙ start .pre .0 .2
 
-  member-words-kept : a .by-negation .result .full ≡ false → Supports (nodesOf table₁) (start .args .members .now) (member-words₁ (support-from-from-by-negation a))
-  member-words-kept e =
+  memberwords-kept : a .by-negation .result .full ≡ false → Supports (nodesOf table₁) (start .args .members .now) (memberwords₁ (support-from-from-by-negation a))
+  memberwords-kept e =
       let R = start .pre .0 .0 .ready in
-      supports-longer (before start) table₁ (extended-longer (before start) table₁ (R .good) (by-negation false e .extended)) (start .args .members .now) (member-words₁ (support-from-from-by-negation a)) (R .inside) (worded (support-from-from-by-negation a) .have)
+      supports-longer (before start) table₁ (extended-longer (before start) table₁ (R .good) (by-negation false e .extended)) (start .args .members .now) (memberwords₁ (support-from-from-by-negation a)) (R .inside) (worded (support-from-from-by-negation a) .have)
 
 -- what the walk over the members by not-g leaves
 module _ (w : tie.After-supports-of2) where
-  first-words : Supports (nodesOf (table₁ (by-negation-from-supports-of2 w))) (list₁ (by-negation-from-supports-of2 w)) (w .supports-of2 .last .1 .1 .1 .1 .1 .0)
+  firstwords : Supports (nodesOf (table₁ (by-negation-from-supports-of2 w))) (list₁ (by-negation-from-supports-of2 w)) (w .supports-of2 .last .1 .1 .1 .1 .1 .0)
   unfolding nodesOf
-  first-words = w .supports-of2 .ensures .0
+  firstwords = w .supports-of2 .ensures .0
 
 supports-of-requires : tie.Need-supports-of-requires
 supports-of-requires c κs =
@@ -279,9 +279,9 @@ turns-requires c κs =
       ),
       (
         worded (support-from-from-turns-call c) .lengths,
-        member-words-kept a e,
-        w .kept .1 .1 .1 .1 .1 .1 .0 ∙ a .by-negation .kept .1 .1 .1 .1 .1 .1 .1 .1 .1 .0 ∙ s .pre .1 .1 ∙ sym (first-length a),
-        first-words (supports-of2-from-turns-call c),
+        memberwords-kept a e,
+        w .kept .1 .1 .1 .1 .1 .0 ∙ a .by-negation .kept .1 .1 .1 .1 .1 .1 .1 .1 .1 .0 ∙ s .pre .1 .1 ∙ sym (first-length a),
+        firstwords (supports-of2-from-turns-call c),
         s .pre .1 .2 ∙ sym (first-length a),
       ),
     )

@@ -24,16 +24,16 @@ use Rattle.judge.proofs.pr.turns.Statement.{statement}
 use Rattle.judge.proofs.pr.turns.Tie as tie
 
 abbrev Inv-loop : tie.InvT-loop
-Inv-loop vars₀ lows₀ highs₀ heads₀ links₀ memo₀ marks₀ members member-words first first-words second₀ second-words₀ count positive negative rounds₀ i₀ vars lows highs heads links memo marks second second-words rounds i =
+Inv-loop vars₀ lows₀ highs₀ heads₀ links₀ memo₀ marks₀ members memberwords first firstwords second₀ secondwords₀ count positive negative rounds₀ i₀ vars lows highs heads links memo marks second secondwords rounds i =
     (tableOf vars lows highs heads links count ≡ tableOf vars₀ lows₀ highs₀ heads₀ links₀ count)
     × Turning (tableOf vars₀ lows₀ highs₀ heads₀ links₀ count) first members positive negative i rounds
     × (marks ≡ unmarked (length vars₀))
     × (length memo ≡ length memo₀)
     × (length second ≡ length second₀)
-    × (length second-words ≡ length second-words₀)
+    × (length secondwords ≡ length secondwords₀)
 
 abbrev μ-loop : tie.MeasureT-loop
-μ-loop vars₀ lows₀ highs₀ heads₀ links₀ memo₀ marks₀ members member-words first first-words second₀ second-words₀ count positive negative rounds₀ i₀ vars lows highs heads links memo marks second second-words rounds i =
+μ-loop vars₀ lows₀ highs₀ heads₀ links₀ memo₀ marks₀ members memberwords first firstwords second₀ secondwords₀ count positive negative rounds₀ i₀ vars lows highs heads links memo marks second secondwords rounds i =
     length members - i
 
 module _ (s : tie.Start Inv-loop μ-loop) where
@@ -213,8 +213,8 @@ turn-requires c κs =
         s .pre .0 .3 (w .i) more,
       ),
       (
-        worded-again (before s) (tableOf (w .vars) (w .lows) (w .highs) (w .heads) (w .links) (s .args .count)) (s .args .first .now) (s .args .first-words .now) (getD (s .args .members .now) (w .i) 0) (getD (s .args .member-words .now) (w .i) 0) (w .inv .0)
-            (member-worded (before s) (s .args .members .now) (s .args .member-words .now) (s .args .first .now) (s .args .first-words .now) (w .i) more (s .pre .1 .1) (s .pre .1 .2) (s .pre .1 .3)),
+        worded-again (before s) (tableOf (w .vars) (w .lows) (w .highs) (w .heads) (w .links) (s .args .count)) (s .args .first .now) (s .args .firstwords .now) (getD (s .args .members .now) (w .i) 0) (getD (s .args .memberwords .now) (w .i) 0) (w .inv .0)
+            (member-worded (before s) (s .args .members .now) (s .args .memberwords .now) (s .args .first .now) (s .args .firstwords .now) (w .i) more (s .pre .1 .1) (s .pre .1 .2) (s .pre .1 .3)),
         w .inv .5 ∙ s .pre .1 .4,
       ),
     )

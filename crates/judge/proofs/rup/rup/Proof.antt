@@ -64,13 +64,13 @@ module _ (a : tie.After-support-from) where
   abbrev begun : tie.Start
   begun = start-from-support-from a
 
-  abbrev member-words₁ : List ℕ
-  member-words₁ = supports-of-from-support-from a .supports-of .last .1 .1 .1 .1 .1 .0
+  abbrev memberwords₁ : List ℕ
+  memberwords₁ = supports-of-from-support-from a .supports-of .last .1 .1 .1 .1 .1 .0
 
   abbrev memo₁ : List ℕ
   memo₁ = a .support-from .last .1 .1 .1 .0
 
-  worded : Worded (before begun) (begun .args .members .now) member-words₁ (begun .args .root .0) (a .support-from .result)
+  worded : Worded (before begun) (begun .args .members .now) memberwords₁ (begun .args .root .0) (a .support-from .result)
   unfolding nodesOf
   worded =
       record {

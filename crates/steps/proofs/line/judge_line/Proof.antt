@@ -59,14 +59,14 @@ module _ (c : tie.After-rup-arg8) where
   abbrev start-from-slice-aggregate-rup : tie.Start
   start-from-slice-aggregate-rup = start-from-enum-told enum-told-from-slice-aggregate-rup
 
-module _ (c : tie.After-member-words) where
+module _ (c : tie.After-memberwords) where
   abbrev enum-told-from-slice-aggregate-rup-2 : tie.After-enum-told
   enum-told-from-slice-aggregate-rup-2 = c .before .before .before .before .before .before .before .before .before
 
   abbrev start-from-slice-aggregate-rup-2 : tie.Start
   start-from-slice-aggregate-rup-2 = start-from-enum-told enum-told-from-slice-aggregate-rup-2
 
-module _ (c : tie.After-member-words3) where
+module _ (c : tie.After-memberwords3) where
   abbrev enum-told2-from-slice-aggregate-pr-2 : tie.After-enum-told2
   enum-told2-from-slice-aggregate-pr-2 = c .before .before .before .before .before .before .before .before .before
 
@@ -112,7 +112,7 @@ module _ (c : tie.After-second) where
   abbrev start-from-slice-aggregate-pr-5 : tie.Start
   start-from-slice-aggregate-pr-5 = start-from-enum-told2 enum-told2-from-slice-aggregate-pr-5
 
-module _ (c : tie.After-second-words) where
+module _ (c : tie.After-secondwords) where
   abbrev enum-told2-from-pr-call : tie.After-enum-told2
   enum-told2-from-pr-call = c .before .before .before .before .before .before .before .before .before .before .before .before .before
 
@@ -134,7 +134,7 @@ module _ (c : tie.After-words2) where
   abbrev start-from-return : tie.Start
   start-from-return = start-from-enum-told enum-told-from-return
 
-module _ (c : tie.After-second-words2) where
+module _ (c : tie.After-secondwords2) where
   abbrev pr-from-return-2 : tie.After-pr
   pr-from-return-2 = c .before .before .before .before .before .before .before .before .before .before .before .before .before .before
       .before .before .before .before .before .before
@@ -149,8 +149,8 @@ slice-aggregate-rup : tie.Need-slice-aggregate-rup
 slice-aggregate-rup c =
     sym (members-length (start-from-slice-aggregate-rup c))
 
-array-borrow-prefix-member-words : tie.Need-array-borrow-prefix-member-words
-array-borrow-prefix-member-words c =
+array-borrow-prefix-memberwords : tie.Need-array-borrow-prefix-memberwords
+array-borrow-prefix-memberwords c =
     search needs
 
 slice-aggregate-rup-2 : tie.Need-slice-aggregate-rup-2
@@ -185,8 +185,8 @@ slice-aggregate-pr : tie.Need-slice-aggregate-pr
 slice-aggregate-pr c =
     sym (members-length (start-from-slice-aggregate-pr c))
 
-array-borrow-prefix-member-words-2 : tie.Need-array-borrow-prefix-member-words-2
-array-borrow-prefix-member-words-2 c =
+array-borrow-prefix-memberwords-2 : tie.Need-array-borrow-prefix-memberwords-2
+array-borrow-prefix-memberwords-2 c =
     search needs
 
 slice-aggregate-pr-2 : tie.Need-slice-aggregate-pr-2
@@ -217,8 +217,8 @@ slice-aggregate-pr-5 : tie.Need-slice-aggregate-pr-5
 slice-aggregate-pr-5 c =
     sym (own-length (start-from-slice-aggregate-pr-5 c))
 
-array-borrow-prefix-second-words : tie.Need-array-borrow-prefix-second-words
-array-borrow-prefix-second-words c =
+array-borrow-prefix-secondwords : tie.Need-array-borrow-prefix-secondwords
+array-borrow-prefix-secondwords c =
     search needs
 
 slice-aggregate-pr-6 : tie.Need-slice-aggregate-pr-6
@@ -317,7 +317,7 @@ judge-line-spec =
     (tie.spec
     enum-told
     slice-aggregate-rup
-    array-borrow-prefix-member-words
+    array-borrow-prefix-memberwords
     slice-aggregate-rup-2
     slice-relend-prefix-rup
     slice-aggregate-rup-3
@@ -326,7 +326,7 @@ judge-line-spec =
     rup-requires
     enum-told-2
     slice-aggregate-pr
-    array-borrow-prefix-member-words-2
+    array-borrow-prefix-memberwords-2
     slice-aggregate-pr-2
     slice-relend-prefix-pr
     slice-aggregate-pr-3
@@ -334,7 +334,7 @@ judge-line-spec =
     slice-aggregate-pr-4
     array-borrow-prefix-second
     slice-aggregate-pr-5
-    array-borrow-prefix-second-words
+    array-borrow-prefix-secondwords
     slice-aggregate-pr-6
     pr-requires
     same-length
