@@ -1,5 +1,6 @@
 //! What `list` prints of a proof, and the status that it ends with.
 
+use proof::{Entry, Writer};
 use std::process::Command;
 
 fn list(name: &str, proof: &[u8]) -> (Option<i32>, String) {
@@ -31,6 +32,36 @@ fn case_e_with_a_clause() {
     19  45                 end, 1 line
 ";
     assert_eq!(list("case-e", &bytes), (Some(0), wanted.into()));
+}
+
+/// Counts of variables, alone and with literals beside them.
+#[test]
+fn counts() {
+    let told = |name: &str, root: &dyn Fn(&mut Writer) -> Entry| {
+        let mut proof = Writer::new();
+        let root = root(&mut proof);
+        proof.rup(root);
+        let (_, text) = list(name, &proof.finish());
+        let line = text.lines().rev().nth(1).unwrap();
+        line.split_once('(').map_or(String::new(), |(_, words)| words.trim_end_matches(')').to_string())
+    };
+    let four = [1, 2, 3, 5];
+    assert_eq!(told("least", &|proof| proof.at_least(3, &four)), "at least 3 of x1, x2, x3, x5");
+    assert_eq!(told("most", &|proof| proof.at_most(1, &four)), "at most 1 of x1, x2, x3, x5");
+    assert_eq!(told("none", &|proof| proof.at_most(0, &four)), "none of x1, x2, x3, x5");
+    assert_eq!(told("all", &|proof| proof.at_least(4, &four)), "all of x1, x2, x3, x5");
+    assert_eq!(told("odd", &|proof| proof.parity(&four, true)), "an odd number of x1, x2, x3, x5");
+    assert_eq!(told("even", &|proof| proof.parity(&four, false)), "an even number of x1, x2, x3, x5");
+    let beside = |proof: &mut Writer| {
+        let rest = proof.clause(&[-6, 7]);
+        proof.at_least_or(2, &[3, 4, 5], rest)
+    };
+    assert_eq!(told("beside", &beside), "not x6 or x7 or at least 2 of x3, x4, x5");
+    let neither = |proof: &mut Writer| {
+        let (second, third) = (proof.clause(&[2]), proof.clause(&[3]));
+        proof.node(1, second, third)
+    };
+    assert_eq!(told("neither", &neither), "");
 }
 
 /// What can be seen without the formula is told with its number, and the status is 1 where the records do not run to the end.
