@@ -365,4 +365,22 @@ mod tests {
         assert!(!refuted(&cardinality(5, 2, 3)));
         assert!(!refuted(&three_sat(random, 8, 10)));
     }
+
+    /// The recipe of docs/FORMAT.md for "at least k of n" from its clauses, the diagonal sum: no line is refused.
+    #[test]
+    fn diagonal_sums() {
+        for n in 2..=7 {
+            for k in 2..=n {
+                let formula = Formula { variables: n, clauses: subsets(n, n - k + 1) };
+                let mut builder = Builder::new(&formula);
+                for size in n - k + 2..=n {
+                    for set in subsets(n, size) {
+                        let variables: Vec<u8> = set.iter().map(|&variable| variable as u8).collect();
+                        let line = builder.store.at_least(&variables, size + k - n);
+                        assert!(builder.rup(line), "at least {} of {set:?} from at least {k} of {n}", size + k - n);
+                    }
+                }
+            }
+        }
+    }
 }
