@@ -7,7 +7,7 @@ use native.Mathlib.Omega.{arith}
 use Rattle.table.specs.Columns.{Columns}
 use Rattle.operate.specs.declared.Operation.{Operation}
 use Rattle.single.specs.Single.{operation, Made, unchanged}
-use Rattle.verdict.specs.Check.{Outcome, check}
+use Rattle.verdict.specs.Check.{Outcome}
 use Rattle.demands.specs.Calls.{Says, answered, refused}
 use Rattle.demands.specs.Leaving as leaving
 use Rattle.demands.specs.Leaving.{Lent, checked, Fits, seven, Ends, Leaves, emptied, kept, AtEnd}

@@ -12,6 +12,7 @@ use Rattle.meaning.proofs.Nearest as Near
 use Rattle.meaning.proofs.Nearest.{Nearest, Satisfied}
 use Rattle.table.specs.Nodes.{diagramAt}
 use Rattle.table.specs.Columns.{Columns}
+use Rattle.dimacs.specs.Clauses.{formula}
 use Rattle.records.specs.declared.Rule.{Rule}
 use Rattle.records.specs.declared.Record.{Record}
 use Rattle.operate.specs.declared.Operation.{Operation}
@@ -19,7 +20,8 @@ use Rattle.operate.specs.declared.Operation.the-variants.{Negation, Cofactor}
 use Rattle.operate.specs.Operate.{result}
 use Rattle.single.specs.Single.{operation}
 use Rattle.verdict.specs.Check.{State, next, judged, step, check}
-use Rattle.verdict.specs.Run.{Taken, lineOf, Refutation}
+use Rattle.verdict.specs.Run.{Meant, Taken, lineOf, Reached, Refutation}
+use Rattle.verdict.specs.Satisfies.{clausesOf}
 use Rattle.verdict.specs.MetFirst.{metBy, sayMet}
 use Rattle.verdict.specs.Cases.{Gives, GivesAll, checked as row, prints, bytes, A-formula, A-proof, caseTable, numberTable}
 use Rattle.verdict.proofs.Cases as Tables
@@ -27,12 +29,13 @@ use Rattle.verdict.proofs.Steps as Steps
 use Rattle.verdict.proofs.MetFirst as MetFirst
 use Rattle.demands.specs.Calls.{nodesIn}
 use Rattle.demands.specs.Words.{Conflict}
-use Rattle.demands.specs.Leaving.{Lent, checked, Fits, places}
+use Rattle.demands.specs.Leaving.{Lent, checked, Fits, places, ZeroLine}
 use Rattle.demands.specs.Full.{Wants, AtClause, AtRecord}
 use Rattle.demands.proofs.Words as Words
 use Rattle.demands.proofs.Words.{GoesOn}
 use Rattle.demands.proofs.Ending as Ending
 use Rattle.demands.proofs.NoRoom as NoRoom
+use Rattle.demands.proofs.ZeroLines as ZeroLines
 use Rattle.demands.proofs.Rows as Rows
 use Rattle.demands.proofs.Rows.{nodeRecords, rupLines}
 
@@ -46,6 +49,11 @@ check-zero-exactly = Ending.check-zero-exactly
 -- "0: refuted; place of the end record"
 pub check-zero-place : (i : Lent) → Fits i → (F : Refutation (places i) (i .text) (i .proof)) → checked i .place ≡ F .place
 check-zero-place = Ending.check-zero-place
+
+-- "an accepted line is 0": what the refutation's `zero-line` says.
+pub zero-line-exactly : (s : ℕ) (text proof : List ℕ) {n : ℕ} {st : State} {at : ℕ} {m : Meant} → Reached s text proof n st at m
+    → (st .refuted ≡ true) ↔ ZeroLine (length (clausesOf (formula text))) st
+zero-line-exactly = ZeroLines.zero-line-exactly
 
 -- A record leads to a next state exactly where it passes what 01 asks of its kind: `NodeTaken`, `WitnessTaken`, `LineTaken`.
 pub step-exactly : (n s : ℕ) (st : State) (more : Bool) (r : Record) (st′ : State) → (step n s st more r ≡ next st′) ↔ Taken n s st r st′

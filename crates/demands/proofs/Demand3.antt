@@ -1,12 +1,12 @@
 -- Demand 3, values: one theorem a sentence. The idea: proved in the files named. Assumes nothing.
 use mathlib.Core.Path.{_≡_}
 use mathlib.Core.Logic.{_≢_, _↔_}
-use mathlib.Core.Bool.{Bool, true, false, cond}
-use mathlib.Core.List.{List, []}
+use mathlib.Core.Bool.{true, false, cond}
+use mathlib.Core.List.{[]}
 use Prim.Native.Nat.{ℕ, _+_, _≤_, _<_}
 use native.Mathlib.Omega.{arith}
 use lib.ListN.{length, getD}
-use Rattle.meaning.specs.Diagram.{Assignment, Diagram, holds, value}
+use Rattle.meaning.specs.Diagram.{Assignment, holds, value}
 use Rattle.meaning.specs.Operations.{clauseValue, nearest}
 use Rattle.meaning.specs.Words.{assignmentOf}
 use Rattle.meaning.proofs.Nearest.{Nearest}
@@ -15,14 +15,13 @@ use Rattle.table.specs.Columns.{rows, Columns}
 use Rattle.table.proofs.Numbers as Numbers
 use Rattle.operate.specs.declared.Operation.{Operation}
 use Rattle.operate.specs.declared.Operation.the-variants.{Cofactor}
-use Rattle.single.specs.Single.{Made, evaluation, operation}
-use Rattle.verdict.specs.Check.{State, isEntry, entryNode, Outcome, check}
+use Rattle.single.specs.Single.{evaluation, operation}
+use Rattle.verdict.specs.Check.{State, isEntry, entryNode}
 use Rattle.verdict.specs.Run.{Meant, entryMeant, lineFunctions, Reached, Later}
 use Rattle.verdict.specs.Satisfies.{Unsatisfiable}
 use Rattle.verdict.proofs.Refuted as Refuted
 use Rattle.verdict.proofs.Values as Values
 use Rattle.demands.specs.Calls.{nodesIn, inGoodOrder, valueAt, Answers, Says, answered, refused}
-use Rattle.demands.specs.Leaving as leaving
 use Rattle.demands.specs.Leaving.{Lent, checked, Fits, places, clausesRead, Member, Kept, Leaves, unchanged, emptied, kept}
 use Rattle.demands.proofs.Singles as Singles
 use Rattle.demands.proofs.Words as Words

@@ -3,13 +3,12 @@
 use mathlib.Core.Path.{_≡_, refl, sym, ap, _∙_, subst}
 use mathlib.Core.Logic.{_≢_, _↔_}
 use mathlib.Core.Bool.{Bool, true, false, cond}
-use mathlib.Core.List.{List}
-use Prim.Native.Nat.{ℕ, _≤_}
+use Prim.Native.Nat.{ℕ}
 use native.Mathlib.Omega.{arith}
 use lib.ListN.{length}
 use Rattle.meaning.proofs.Booleans.{t≢f}
 use Rattle.verdict.specs.Check.{Verdict, verdict, Outcome, lentFits, outcome, check}
-use Rattle.verdict.specs.Run.{Ended, Refutation}
+use Rattle.verdict.specs.Run.{Refutation}
 use Rattle.verdict.proofs.Ends.{ended}
 use Rattle.verdict.proofs.Exactly.{ended-is, zero-exactly, refutation-said}
 use Rattle.demands.specs.Leaving.{Lent, checked, Fits, places, seven, Ends, wrong-size, at-place}

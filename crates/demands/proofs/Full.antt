@@ -1,33 +1,22 @@
 -- 8 and 23 are given only where a node that is not in the table is to be placed and the count equals the size. The idea: a placing that ends without
 -- room has just looked for a node and not found it; so by induction on the diagram, and along the lists that a line makes. Assumes nothing.
-use mathlib.Core.Path.{_≡_, refl, sym, ap, _∙_, subst}
+use mathlib.Core.Path.{_≡_, sym, _∙_, subst}
 use mathlib.Core.Logic.{_≢_}
-use mathlib.Core.Bool.{Bool, true, false, not, _&&_, _||_, cond}
-use mathlib.Core.List.{List, [], _∷_, _++_, map}
+use mathlib.Core.Bool.{Bool, true, false, cond}
+use mathlib.Core.List.{List, [], _∷_, _++_}
 use mathlib.Core.Option.{Option, none, some}
-use Prim.Native.Nat.{ℕ, zero, suc, _+_, _≤_, _<_}
+use Prim.Native.Nat.{ℕ, suc, _+_, _≤_, _<_}
 use native.Mathlib.Omega.{arith}
-use native.Mathlib.Decide.{decLt}
 use lib.ListN.{length}
-use lib.Dec.{eqb, ltb, leb}
-use borrow.Author.Tests.{eqb-true, eqb-false, ltb-true, ltb-false}
-use Rattle.meaning.specs.Diagram.{Diagram, leaf, node, same, Reduced, branch}
-use Rattle.meaning.specs.Operations as meaning
-use Rattle.meaning.specs.Operations.{negation, cofactorLiterals}
-use Rattle.meaning.specs.Rules.{Line, Propagation, conflicts, firstWithUnit, byUnits, round, still, taking, propagate, unitProp, byDiagram, base, rup, afterTurn, prTurns, pr, witnessed}
-use Rattle.meaning.specs.Words.{inWord}
+use lib.Dec.{eqb, ltb}
+use Rattle.meaning.specs.Diagram.{Diagram, leaf, node, Reduced}
 use Rattle.meaning.proofs.Canonical.{reduced-from}
-use Rattle.meaning.proofs.Values.{reduced-to, diagram-reduced}
-use Rattle.meaning.proofs.Pointwise.{negation-reduced, literals-reduced}
-use Rattle.meaning.proofs.Cofactor.{cofactor-reduced}
-use Rattle.meaning.proofs.Ends.{AllReduced, map-reduced, byUnits-reduced}
 use Rattle.table.specs.Nodes.{Node, nodeOf, at, diagramAt, Placing, full, placed, find, orAppend, put, andThen, place}
-use Rattle.table.specs.Making.{Room, short, all, afterPlacing, placedAll, reached, turnsReach, keptReach, lineReach}
 use Rattle.table.proofs.Order.{same-node, Ordered}
 use Rattle.table.proofs.Numbers.{Kind, is-zero, is-one, from-two, kind, diagramAt-zero, diagramAt-one, diagramAt-node, diagramAt-injective}
 use Rattle.table.proofs.Growth.{extends-length, diagramAt-grown}
-use Rattle.table.proofs.Placing.{Found, found, After, Made, place-after, put-same, put-differ, put-place}
-use Rattle.demands.specs.Full.{Part, whole, in-low, in-high, Wants, ListWants, now, later, TurnWants, this, next, LineWants, in-base, in-turn, RecordWants, AtClause, AtRecord}
+use Rattle.table.proofs.Placing.{Found, found, After, place-after}
+use Rattle.demands.specs.Full.{Part, whole, in-low, in-high, Wants}
 
 -- ---- one diagram
 

@@ -7,6 +7,7 @@ pub mod Full
 pub mod NoRoom
 pub mod Rows
 pub mod Places
+pub mod ZeroLines
 pub mod Demand1
 pub mod Demand2
 pub mod Demand3

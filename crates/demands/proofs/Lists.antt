@@ -2,33 +2,31 @@
 -- fix them. The idea: what a reached state leaves, written into the lent lists and read back. Assumes nothing.
 use mathlib.Core.Path.{_≡_, refl, sym, ap, ap₂, _∙_, subst}
 use mathlib.Core.Logic.{_≢_}
-use mathlib.Core.Bool.{Bool, true, false, _&&_}
+use mathlib.Core.Bool.{Bool, true, false}
 use mathlib.Core.List.{List, [], _∷_, _++_, map}
 use Prim.Native.Nat.{ℕ, zero, suc, _+_, _-_, _≤_, _<_}
 use native.Mathlib.Omega.{arith}
-use lib.ListN.{length, getD, take, replicate, length-append, length-map, length-replicate, List·getD-append, List·getD-map}
+use lib.ListN.{length, getD, take, replicate, length-append, length-map, length-replicate, List·getD-append}
 use lib.Seq.{length-take-le, getD-take}
 use borrow.Author.Tests.{leb-true}
 use Rattle.meaning.specs.Diagram.{Assignment, Diagram, value}
 use Rattle.meaning.specs.Operations.{Literal, clauseValue}
 use Rattle.meaning.proofs.Booleans.{and-both}
 use Rattle.table.specs.Nodes.{Node, blank, diagramAt}
-use Rattle.table.specs.Columns.{sizeFits, padded, Columns, columnsOf}
+use Rattle.table.specs.Columns.{sizeFits, padded, columnsOf}
 use Rattle.table.proofs.Growth.{ordered-dropped}
 use Rattle.table.proofs.IndexOrder.{Sized, sized}
-use Rattle.dimacs.specs.Clauses.{formula}
 use Rattle.verdict.specs.Check as verdict
 use Rattle.verdict.specs.Check.{State, isEntry, entryNode, Verdict, Outcome, lentFits, zeros, outcome, refusedFormula, left}
 use Rattle.verdict.specs.Run.{Function, Meant, entryMeant, lineFunctions, clauseFunctions, standsFor, Valued, Reached}
-use Rattle.verdict.specs.Satisfies.{clausesOf, readToEnd}
 use Rattle.verdict.proofs.Standing.{Standing, valued-at, entry-valued}
 use Rattle.verdict.proofs.Ends.{reached-standing, ended}
 use Rattle.verdict.proofs.Numbers.{Closed, formula-refused, proof-ended, ended-closed}
 use Rattle.verdict.proofs.Refuted.{reached-end}
 use Rattle.verdict.proofs.Members.{lines-there, members-left}
 use Rattle.verdict.proofs.Onward.{reached-onward}
-use Rattle.demands.specs.Calls.{nodesIn, inGoodOrder, valueAt}
-use Rattle.demands.specs.Leaving.{Lent, checked, Fits, places, clausesRead, seven, Emptied, Member, Kept, Leaves, unchanged, emptied, kept}
+use Rattle.demands.specs.Calls.{nodesIn, valueAt}
+use Rattle.demands.specs.Leaving.{Lent, checked, Fits, places, clausesRead, Emptied, Member, Kept, Leaves, unchanged, emptied, kept}
 use Rattle.demands.proofs.Lent.{read-back, left-good}
 use Rattle.demands.proofs.Ending.{done, fits?, checked-fits, checked-seven}
 
@@ -59,7 +57,7 @@ getD-second [] gs j other = let z : 0 + j ≡ j = omega arith in ap (λ (k : ℕ
 getD-second (f ∷ fs) gs j other =
     let z : suc (length fs) + j ≡ suc (length fs + j) = omega arith in ap (λ (k : ℕ). getD (f ∷ (fs ++ gs)) k other) z ∙ getD-second fs gs j other
 
-valued-length : (t : List Node) (b : ℕ) (ks : List ℕ) (fs : List Function) → Valued t b ks fs → length ks ≡ length fs
+pub valued-length : (t : List Node) (b : ℕ) (ks : List ℕ) (fs : List Function) → Valued t b ks fs → length ks ≡ length fs
 valued-length t b [] [] W = refl
 valued-length t b [] (f ∷ fs) W = absurd W
 valued-length t b (k ∷ ks) [] W = absurd W

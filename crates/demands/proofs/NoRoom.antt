@@ -1,6 +1,6 @@
 -- Where the calls give 8 and 23: a clause, a node record, a line or an operation whose making wants a node that is not in the full table. The idea: all
 -- that a line makes is reduced, so that a list that finds no room has a diagram that finds none. Assumes nothing.
-use mathlib.Core.Path.{_≡_, refl, sym, ap, _∙_, subst}
+use mathlib.Core.Path.{_≡_, refl, sym, _∙_, subst}
 use mathlib.Core.Logic.{_≢_}
 use mathlib.Core.Bool.{Bool, true, false, not, _&&_, _||_, cond}
 use mathlib.Core.List.{List, [], _∷_, _++_, map}
@@ -11,10 +11,10 @@ use lib.ListN.{length}
 use lib.Seq.{length-take-le}
 use lib.Dec.{eqb, ltb, leb}
 use borrow.Author.Tests.{eqb-true, leb-true, not-false}
-use Rattle.meaning.specs.Diagram.{Diagram, leaf, same, Reduced, branch}
+use Rattle.meaning.specs.Diagram.{Diagram, leaf, same, Reduced}
 use Rattle.meaning.specs.Operations as meaning
 use Rattle.meaning.specs.Operations.{negation, cofactorLiterals}
-use Rattle.meaning.specs.Rules.{Line, Propagation, conflicts, firstWithUnit, byUnits, round, still, taking, propagate, unitProp, byDiagram, base, rup, afterTurn, prTurns, pr, witnessed}
+use Rattle.meaning.specs.Rules.{Line, Propagation, conflicts, firstWithUnit, byUnits, round, still, taking, propagate, unitProp, byDiagram, rup, prTurns, pr, witnessed}
 use Rattle.meaning.specs.Words.{inWord}
 use Rattle.meaning.proofs.Booleans.{t≢f, and-both}
 use Rattle.meaning.proofs.Values.{reduced-to, diagram-reduced}
@@ -41,8 +41,8 @@ use Rattle.operate.specs.Operate.{result}
 use Rattle.operate.proofs.Results.{result-reduced}
 use Rattle.single.specs.Single as single
 use Rattle.single.specs.Single.{Made, refusal, sharesVariable, operandRefusal, madeBy, operation}
-use Rattle.verdict.specs.Check.{State, Step, next, stop, isEntry, entryNode, isVariable, entered, nodeStep, witnessStep, waiting, accepted, judged, diagramIn, lineStep, endStep, step, Outcome, outcome}
-use Rattle.verdict.specs.Run.{Meant, lineOf, Making, Reached, follows, Ended, no-header, not-read, no-room, stopped}
+use Rattle.verdict.specs.Check.{State, next, stop, isEntry, entryNode, isVariable, entered, nodeStep, witnessStep, waiting, accepted, judged, diagramIn, lineStep, endStep, step, Outcome, outcome}
+use Rattle.verdict.specs.Run.{Meant, lineOf, follows, no-header, not-read, no-room, stopped}
 use Rattle.verdict.proofs.Steps.{stop-other, next-not-stop, past}
 use Rattle.verdict.proofs.Standing.{Standing, entry-valued, over-reduced}
 use Rattle.verdict.proofs.Formula.{NamedHeader, header-named}

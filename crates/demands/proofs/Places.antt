@@ -1,10 +1,9 @@
 -- The place that the check gives for a record: its first byte; for 11 the byte behind it; the proof's length where no record begins. The idea: each
 -- number stands in the definition with its place. Assumes nothing.
 use mathlib.Core.Path.{_≡_, refl, sym, ap, _∙_, subst}
-use mathlib.Core.Logic.{_≢_}
-use mathlib.Core.Bool.{Bool, true, false, not, _&&_, _||_, cond}
+use mathlib.Core.Bool.{Bool, not, _&&_, _||_, cond}
 use mathlib.Core.List.{List, [], _∷_}
-use Prim.Native.Nat.{ℕ, zero, suc, _+_, _-_, _≤_, _<_}
+use Prim.Native.Nat.{ℕ, _+_, _-_, _≤_}
 use native.Mathlib.Omega.{arith}
 use lib.ListN.{length, drop, length-drop}
 use lib.Dec.{eqb, ltb, leb}
@@ -12,14 +11,13 @@ use Rattle.meaning.specs.Rules.{Line, witnessed}
 use Rattle.meaning.specs.Words.{inWord}
 use Rattle.table.specs.Nodes.{above, Placing, full, placed, put}
 use Rattle.table.specs.Making.{lineReach}
-use Rattle.records.specs.declared.NodeBody.{NodeBody}
 use Rattle.records.specs.declared.Rule.{Rule}
 use Rattle.records.specs.declared.Rule.the-variants.{Rup, Pr}
 use Rattle.records.specs.declared.Record.{Record}
 use Rattle.records.specs.declared.Record.the-variants.{NodeEntry, Witness, ProofLine, End, CutShort, UnknownKind, NoRecord}
 use Rattle.records.specs.Records.{nodeIn, witnessIn, lineIn, whole, recordOf, recordIn, recordAt}
 use Rattle.verdict.specs.Check.{State, Step, next, stop, isEntry, entryNode, isVariable, entered, nodeStep, witnessStep, waiting, judged, diagramIn, lineStep, endStep, step, Outcome, outcome}
-use Rattle.verdict.specs.Run.{Meant, lineOf, Reached, follows, no-header, not-read, no-room, stopped}
+use Rattle.verdict.specs.Run.{lineOf, follows, no-header, not-read, no-room, stopped}
 use Rattle.verdict.proofs.Formula.{NamedHeader, header-named, either}
 use Rattle.verdict.proofs.Numbers.{making-refused}
 use Rattle.verdict.proofs.Exactly.{Ahead, reached-ahead}

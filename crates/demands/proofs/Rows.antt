@@ -15,7 +15,6 @@ use Rattle.meaning.specs.Rules.{Line, any, conflicts, propagate, unitProp, byDi
 use Rattle.table.specs.Nodes.{Node, nodeOf, above, goodOrder, diagramAt, placed, put, place}
 use Rattle.table.specs.Columns.{rows, sizeFits}
 use Rattle.table.specs.Making.{all, afterPlacing, placedAll, turnsReach, lineReach}
-use Rattle.dimacs.specs.declared.Header.the-variants.{Proper}
 use Rattle.dimacs.specs.Header.{header}
 use Rattle.dimacs.specs.Clauses.{complete, clausesFrom}
 use Rattle.records.specs.declared.NodeBody.{NodeBody}

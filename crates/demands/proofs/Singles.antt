@@ -4,7 +4,7 @@ use mathlib.Core.Path.{_≡_, refl, sym, ap, _∙_}
 use mathlib.Core.Logic.{_≢_}
 use mathlib.Core.Bool.{Bool, true, false, not, _&&_, cond}
 use mathlib.Core.List.{List}
-use Prim.Native.Nat.{ℕ, _≤_, _<_}
+use Prim.Native.Nat.{ℕ, _<_}
 use native.Mathlib.Omega.{arith}
 use lib.ListN.{length}
 use lib.Seq.{length-take-le}
@@ -31,7 +31,7 @@ use Rattle.operate.specs.Operate.{result}
 use Rattle.operate.proofs.Results.{result-reduced}
 use Rattle.single.specs.Single as single
 use Rattle.single.specs.Single.{refusal, evaluation, operandRefusal, madeBy, operation}
-use Rattle.demands.specs.Calls.{nodesIn, valueAt, valueOf, Answers, Says, answered, refused}
+use Rattle.demands.specs.Calls.{nodesIn, valueAt, valueOf, Says, answered, refused}
 use Rattle.demands.proofs.Lent.{read-back, left-good}
 
 result-value : (op : Operation) (f g : Diagram) (a : Assignment) → length a ≡ 64 → value (result op f g) a ≡ valueOf op (value f) (value g) a

@@ -1,12 +1,12 @@
 -- Definitions that compute in another form than 01's words, brought back to its words: "the negation of another", "go to (a)", a node's value by
 -- its children's. The idea: no diagram is its own negation; n rounds are enough. Assumes nothing.
-use mathlib.Core.Path.{_≡_, refl, sym, ap, _∙_}
+use mathlib.Core.Path.{_≡_, sym, ap, _∙_}
 use mathlib.Core.Logic.{_≢_, _↔_}
 use mathlib.Core.Bool.{Bool, true, false, not, _||_, cond}
 use mathlib.Core.List.{List, [], _∷_}
 use Prim.Native.Nat.{ℕ, zero, suc, _+_, _≤_, _<_}
 use native.Mathlib.Omega.{arith}
-use lib.ListN.{length, getD, replicate, length-replicate}
+use lib.ListN.{length, replicate, length-replicate}
 use lib.Seq.{length-take-le}
 use Rattle.meaning.specs.Diagram.{Assignment, holds, Diagram, leaf, same, value, valueFrom}
 use Rattle.meaning.specs.Operations.{negation}
@@ -16,7 +16,7 @@ use Rattle.meaning.proofs.Units.{same-eq, eq-same}
 use Rattle.meaning.proofs.Pointwise.{negation-value}
 use Rattle.meaning.proofs.Cofactor.{cofactor-reduced}
 use Rattle.meaning.proofs.Ends.{AllReduced, map-reduced, byUnits-reduced, more-rounds}
-use Rattle.table.specs.Nodes.{Node, at, diagramAt}
+use Rattle.table.specs.Nodes.{at}
 use Rattle.table.specs.Columns.{rows, Columns}
 use Rattle.table.proofs.Order.{GoodOrder, good-order}
 use Rattle.table.proofs.Numbers.{diagramAt-zero, diagramAt-one, diagramAt-node}

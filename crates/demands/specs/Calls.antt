@@ -6,7 +6,7 @@ use mathlib.Core.Bool.{Bool, true, not, _&&_}
 use mathlib.Core.List.{List}
 use Prim.Native.Nat.{ℕ, _<_}
 use lib.ListN.{length, take}
-use Rattle.meaning.specs.Diagram.{Assignment, Diagram, value}
+use Rattle.meaning.specs.Diagram.{Assignment, value}
 use Rattle.meaning.specs.Operations.{forced, nearest}
 use Rattle.meaning.specs.Words.{inWord}
 use Rattle.table.specs.Nodes.{Node, goodOrder, diagramAt}

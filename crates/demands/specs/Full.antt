@@ -2,7 +2,7 @@
 -- open to others cites this file.
 use mathlib.Core.Path.{_≡_}
 use mathlib.Core.Logic.{_≢_}
-use mathlib.Core.List.{List, [], _∷_}
+use mathlib.Core.List.{List, _∷_}
 use Prim.Native.Nat.{ℕ, _<_}
 use lib.ListN.{length}
 use Rattle.meaning.specs.Diagram.{Diagram, node, branch}
@@ -11,8 +11,6 @@ use Rattle.meaning.specs.Rules.{Line}
 use Rattle.table.specs.Nodes.{Node, diagramAt, full, placed, place}
 use Rattle.table.specs.Making.{all, placedAll}
 use Rattle.dimacs.specs.Clauses.{Reading, clause}
-use Rattle.records.specs.declared.NodeBody.{NodeBody}
-use Rattle.records.specs.declared.Rule.{Rule}
 use Rattle.records.specs.declared.Record.{Record}
 use Rattle.records.specs.declared.Record.the-variants.{NodeEntry, Witness, ProofLine, End, CutShort, UnknownKind, NoRecord}
 use Rattle.records.specs.Records.{recordAt}

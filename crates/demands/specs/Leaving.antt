@@ -103,3 +103,11 @@ pub record AtEnd (i : Lent) (o : Outcome) : Type 0 where
   pub says : step n (places i) state (follows (i .proof) at) (recordAt (i .proof) at) ≡ stop (o .number) (cond (eqb (o .number) 11) 1 0)
   pub place : o .place ≡ at + cond (eqb (o .number) 11) 1 0
   pub none-begun : recordAt (i .proof) at ≡ NoRecord → o .place ≡ length (i .proof)
+
+-- ---- its 0 line
+
+-- "an accepted line is 0": behind the first c members, the clauses, one is node 0.
+pub record ZeroLine (c : ℕ) (st : State) : Type 0 where
+  pub line : ℕ
+  pub accepted : line < st .lines
+  pub is-zero : getD (st .members) (c + line) 0 ≡ 0
