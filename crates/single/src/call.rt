@@ -2,13 +2,13 @@
 use operate::Operation;
 use table::NodeNo;
 ghost use mathlib.Core.Path.{_≡_};
-ghost use mathlib.Core.Bool.{true, false};
+ghost use mathlib.Core.Bool.{true};
 ghost use Prim.Native.Nat.{_*_, _≤_, _<_};
 ghost use lib.ListN.{length, replicate};
 ghost use Rattle.table.specs.Columns.{sizeFits};
 ghost use Rattle.table.specs.Indexed.{tableOf};
 ghost use Rattle.operate.specs.Inner.{Ready};
-ghost use Rattle.single.specs.Single.{sharesVariable, operandRefusal, madeOf, madeBy, operation};
+ghost use Rattle.single.specs.Single.{operandRefusal, madeOf, madeBy, operation};
 ghost use Rattle.single.specs.Inner.{OneOperand, placingOf};
 
 // What a single call says: 01's number, the node (0 with a refusal) and the count.
@@ -17,20 +17,6 @@ pub struct Single {
     pub number: u8,
     pub node: NodeNo,
     pub count: usize,
-}
-
-// Whether a variable is in both words.
-fn shares_variable(positive: u64, negative: u64) -> bool
-    ensures { λ r. ⌜ r ≡ sharesVariable positive negative ⌝ }
-{
-    let mut i: u64 = 0;
-    while i < 64 {
-        if (positive >> i) % 2 == 1 && (negative >> i) % 2 == 1 {
-            return true;
-        }
-        i += 1;
-    }
-    false
 }
 
 // 27 or 15, or 0 where the operation can have its second operand.
@@ -47,7 +33,7 @@ fn operand_refusal(op: Operation, g: NodeNo) -> u8
             0
         }
         Operation::Literals(positive, negative) => {
-            if shares_variable(positive, negative) {
+            if words::shared(positive, negative) {
                 return 15;
             }
             0

@@ -1,6 +1,7 @@
 -- `operand_refusal` gives 27 or 15 where its definition does. Assumes nothing.
 use mathlib.Core.Path.{sym, _∙_}
 use borrow.Author.Needs.{needs}
+use Rattle.single.proofs.Shares.{shares-is}
 use Rattle.single.proofs.Operands.{conjunction-none, negation-none, cofactor-27, cofactor-none, literals-15, literals-none}
 use Rattle.single.proofs.call.operand_refusal.Statement.{statement}
 use Rattle.single.proofs.call.operand_refusal.Tie as tie
@@ -25,13 +26,13 @@ enum-known-op : tie.Need-enum-known-op
 enum-known-op c =
     search needs
 
-shares-variable-requires : tie.Need-shares-variable-requires
-shares-variable-requires c κs =
+shared-requires : tie.Need-shared-requires
+shared-requires c κs =
     search needs
 
 returns-2 : tie.Need-returns-2
 returns-2 c =
-    literals-15 _ _ _ _ (c .before .before .before .op .given .1) (sym (c .before .shares-variable .ensures) ∙ c .if2 .taken)
+    literals-15 _ _ _ _ (c .before .before .before .op .given .1) (sym (shares-is _ _) ∙ sym (c .before .shared .ensures) ∙ c .if2 .taken)
 
 returns-3 : tie.Need-returns-3
 returns-3 c =
@@ -47,7 +48,7 @@ returns-5 c =
 
 returns-6 : tie.Need-returns-6
 returns-6 c =
-    literals-none _ _ _ _ (c .before .before .before .op .given .1) (sym (c .before .shares-variable .ensures) ∙ c .if2 .left)
+    literals-none _ _ _ _ (c .before .before .before .op .given .1) (sym (shares-is _ _) ∙ sym (c .before .shared .ensures) ∙ c .if2 .left)
 
 pub operand-refusal-spec : {M : Type 1} → statement M
-operand-refusal-spec = tie.close (tie.spec enum-told enum-told-2 enum-told-3 returns enum-known-op shares-variable-requires returns-2 returns-3 returns-4 returns-5 returns-6)
+operand-refusal-spec = tie.close (tie.spec enum-told enum-told-2 enum-told-3 returns enum-known-op shared-requires returns-2 returns-3 returns-4 returns-5 returns-6)
