@@ -8,6 +8,7 @@ ghost use mathlib.Core.Path.{_≡_};
 ghost use Rattle.session.specs.Checked.{outcomeOf};
 ghost use Rattle.single.specs.Single.{evaluation, madeOf, operation};
 ghost use Rattle.verdict.specs.Check.{check};
+ghost use Rattle.verdict.specs.Satisfies.{Unsatisfiable};
 
 // Whether the node is 1 under the word's assignment; or 7, 26, 13.
 pub fn evaluate(
@@ -91,7 +92,8 @@ pub fn cofactor_literals(
     )
 }
 
-// The whole check of a formula and a proof. What it says and leaves is the definition's.
+// The whole check of a formula and a proof. What it says and leaves is the definition's, and number 0 means that no assignment
+// satisfies the formula's bytes.
 pub fn check<'a>(
     vars: &mut [u8],
     lows: &mut [u16],
@@ -105,6 +107,7 @@ pub fn check<'a>(
     ensures { λ r. ⌜ outcomeOf (now (vars .exit)) (now (lows .exit)) (now (highs .exit)) (now (members .exit)) (now (scratch .exit)) r
         ≡ check (now (vars .entry)) (now (lows .entry)) (now (highs .entry)) count (now (members .entry)) (now (scratch .entry))
         (now (formula .entry)) (now (proof .entry)) ⌝ }
+    ensures { λ r. ⌜ (r .number ≡ 0 → Unsatisfiable (now (formula .entry))) ⌝ }
 {
     session::call::call(vars, lows, highs, count, members, scratch, formula, proof)
 }

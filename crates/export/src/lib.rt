@@ -13,6 +13,7 @@ ghost use Rattle.report.specs.Line.{lineBytes};
 ghost use Rattle.session.specs.Checked.{outcomeOf};
 ghost use Rattle.single.specs.Single.{evaluation, madeOf, operation};
 ghost use Rattle.verdict.specs.Check.{check};
+ghost use Rattle.verdict.specs.Satisfies.{Unsatisfiable};
 
 // Whether the node is 1 under the word's assignment; or 7, 26, 13.
 #[no_mangle]
@@ -108,6 +109,7 @@ pub extern "C" fn cablesalak_check<'a>(
     ensures { λ r. ⌜ outcomeOf (now (vars .exit)) (now (lows .exit)) (now (highs .exit)) (now (members .exit)) (now (scratch .exit)) r
         ≡ check (now (vars .entry)) (now (lows .entry)) (now (highs .entry)) count (now (members .entry)) (now (scratch .entry))
         (now (formula .entry)) (now (proof .entry)) ⌝ }
+    ensures { λ r. ⌜ (r .number ≡ 0 → Unsatisfiable (now (formula .entry))) ⌝ }
 {
     checker::check(vars, lows, highs, count, members, scratch, formula, proof)
 }

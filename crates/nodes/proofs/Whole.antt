@@ -15,6 +15,8 @@ use Rattle.single.specs.declared.Evaluated.{Evaluated}
 use Rattle.single.specs.declared.call.Single.{Single}
 use Rattle.single.specs.Single.{Made, madeOf, unchanged, refusal, operation, evaluation}
 use Rattle.verdict.specs.Check.{Outcome, lentFits, check}
+use Rattle.verdict.specs.Satisfies.{Unsatisfiable}
+use Rattle.verdict.proofs.Refuted.{check-refuted}
 use Rattle.session.specs.declared.Checked.{Checked}
 use Rattle.session.specs.Checked.{outcomeOf}
 use Rattle.nodes.specs.declared.Node.{Node}
@@ -143,6 +145,15 @@ module _ (count : ℕ) (ms ss formula proof ms′ ss′ : List ℕ) (r : Checked
   unfolding checkWithin
   check-whole ys m vs₀ ls₀ hs₀ vs ls hs cut e told =
       whole (λ v l h. outcomeOf v l h ms′ ss′ r) (λ v l h. check v l h count ms ss formula proof) seven check-refused check-moved ys vs₀ ls₀ hs₀ vs ls hs e m cut told
+
+  -- The same with what 0 means.
+  pub check-told : (ys : List Node) (m : ℕ) (vs₀ ls₀ hs₀ vs ls hs : List ℕ) → Cut (length ys) m → Sized vs ls hs
+      → outcomeOf (take (length ys) vs) (take (length ys) ls) (take (length ys) hs) ms′ ss′ r ≡ checkWithin (length ys) (column varOf ys vs₀ m) (column lowOf ys ls₀ m) (column highOf ys hs₀ m) count ms ss formula proof
+      → (outcomeOf (varsOf (slice vs ls hs ys m)) (lowsOf (slice vs ls hs ys m)) (highsOf (slice vs ls hs ys m)) ms′ ss′ r ≡ check (varsOf ys) (lowsOf ys) (highsOf ys) count ms ss formula proof)
+      × (r .number ≡ 0 → Unsatisfiable formula)
+  check-told ys m vs₀ ls₀ hs₀ vs ls hs cut e told =
+      let is = check-whole ys m vs₀ ls₀ hs₀ vs ls hs cut e told in
+      (is, λ z. check-refuted (varsOf ys) (lowsOf ys) (highsOf ys) count ms ss formula proof (sym (ap (λ (o : Outcome). o .number) is) ∙ z))
 
 -- ---- conjunction, negation, both cofactors
 module _ (op : Operation) (count f g : ℕ) (r : Single) where

@@ -12,6 +12,7 @@ ghost use mathlib.Core.Path.{_≡_};
 ghost use Rattle.session.specs.Checked.{outcomeOf};
 ghost use Rattle.single.specs.Single.{evaluation, madeOf, operation};
 ghost use Rattle.verdict.specs.Check.{check};
+ghost use Rattle.verdict.specs.Satisfies.{Unsatisfiable};
 ghost use Rattle.nodes.specs.Slice.{varsOf, lowsOf, highsOf, secondOf};
 
 // A place of the table.
@@ -22,7 +23,8 @@ pub struct Node {
     pub high: u16,
 }
 
-// The whole check of a formula and a proof. What it says and leaves is the definition's.
+// The whole check of a formula and a proof. What it says and leaves is the definition's, and number 0 means that no assignment
+// satisfies the formula's bytes.
 #[no_mangle]
 pub extern "C" fn cablesalak_check_nodes<'a>(
     nodes: &mut [Node],
@@ -32,10 +34,11 @@ pub extern "C" fn cablesalak_check_nodes<'a>(
     formula: &'a [u8],
     proof: &'a [u8],
 ) -> Checked
-    ensures { λ r. ⌜ outcomeOf (varsOf (now (nodes .exit))) (lowsOf (now (nodes .exit))) (highsOf (now (nodes .exit))) (now (members .exit))
+    ensures { λ r. ⌜ (outcomeOf (varsOf (now (nodes .exit))) (lowsOf (now (nodes .exit))) (highsOf (now (nodes .exit))) (now (members .exit))
         (now (scratch .exit)) r
         ≡ check (varsOf (now (nodes .entry))) (lowsOf (now (nodes .entry))) (highsOf (now (nodes .entry))) count (now (members .entry))
-        (now (scratch .entry)) (now (formula .entry)) (now (proof .entry)) ⌝ }
+        (now (scratch .entry)) (now (formula .entry)) (now (proof .entry)))
+        × (r .number ≡ 0 → Unsatisfiable (now (formula .entry))) ⌝ }
 {
     let mut vars = [0u8; 65536];
     let mut lows = [0u16; 65536];

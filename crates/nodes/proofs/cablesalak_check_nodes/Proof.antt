@@ -49,7 +49,7 @@ use Rattle.nodes.proofs.Arrays.{typed, made, freed, big-lit}
 use Rattle.nodes.proofs.Lists.{varOf, lowOf, highOf, column}
 use Rattle.nodes.proofs.Opened.{Left, opens, closes}
 use Rattle.nodes.proofs.Setting.{Filled, Cut, Table, loaded, written, written-length}
-use Rattle.nodes.proofs.Whole.{check-whole}
+use Rattle.nodes.proofs.Whole.{check-told}
 use Rattle.nodes.proofs.Clipping as P
 use Rattle.nodes.proofs.Clipping.{Places}
 use Rattle.nodes.proofs.Loading as Lo
@@ -142,7 +142,7 @@ module _ {M : Type 1} (𝓤 : URA M) (H : Heap 𝓤) (A : Atoms 𝓤) (W : Given
     exits w =
         qed W (Had w) ∵
         suffices ! _ (ends-at 𝓤 H A check-fn.ended stayed (check-fn.clauses 𝓤 H A mem run) W bound w (o .0) (ys′, (tt, (o .1 .1 .1 .1 .1 .1 .0, (o .1 .1 .1 .1 .1 .1 .1 .0, (tt, (tt, tt))))))
-        (written-length ys cs₂ m cut, (tt, (told .4, (told .5, (tt, (tt, tt))))))) $ says ! (check-whole count _ _ _ _ _ _ (o .0) ys m vs ls hs _ _ _ cut (told .1, told .2, told .3) (told .0)) $
+        (written-length ys cs₂ m cut, (tt, (told .4, (told .5, (tt, (tt, tt))))))) $ says ! (check-told count _ _ _ _ _ _ (o .0) ys m vs ls hs _ _ _ cut (told .1, told .2, told .3) (told .0)) $
         nothing ! $ move ! (4 ∷ 0 ∷ []) $ join ! $ move ! (3 ∷ 0 ∷ []) $ join ! $ move ! (2 ∷ 0 ∷ []) $ join ! $ move ! (1 ∷ 0 ∷ []) $ join ! $ frame ! $
         nothing ! $ move ! (5 ∷ 0 ∷ []) $ fjoin ! $ move ! (4 ∷ 0 ∷ []) $ fjoin ! $ move ! (3 ∷ 0 ∷ []) $ fjoin ! $ move ! (2 ∷ 0 ∷ []) $ fjoin ! $ owned ! usize (Is usize) (uint-makes 𝓤 H A W w64) count (vint w64 count ∷ []) (refl, g-count) $ fjoin ! $ move ! (1 ∷ 0 ∷ []) $ fjoin ! $ frame ! $ done !
 

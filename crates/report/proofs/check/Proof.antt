@@ -24,7 +24,7 @@ check-requires : tie.Need-check-requires
 check-requires c κs = search needs
 
 returns : tie.Need-returns
-returns c = ap lineOf (c .before .before .before .before .before .check .ensures) ∙ checked _ _
+returns c = ap lineOf (c .before .before .before .before .before .check .ensures .0) ∙ checked _ _
 
 pub check-spec : {M : Type 1} → statement M
 check-spec =
