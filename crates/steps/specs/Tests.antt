@@ -1,5 +1,6 @@
 -- The numbers with which a record is refused before anything is made, 0 where it is not; and the line that is then judged. No call open
 -- to others cites this file.
+use mathlib.Core.Path.{_≡_}
 use mathlib.Core.Bool.{not, _&&_, cond}
 use mathlib.Core.List.{map}
 use Prim.Native.Nat.{ℕ}
@@ -11,6 +12,10 @@ use Rattle.table.specs.Nodes.{above}
 use Rattle.records.specs.declared.NodeBody.{NodeBody}
 use Rattle.records.specs.declared.Rule.{Rule}
 use Rattle.records.specs.declared.Rule.the-variants.{Rup, Pr}
+use Rattle.steps.specs.declared.node.NodeTest.{NodeTest}
+use Rattle.steps.specs.declared.node.NodeTest.the-variants as node
+use Rattle.steps.specs.declared.line.LineTest.{LineTest}
+use Rattle.steps.specs.declared.line.LineTest.the-variants as line
 use Rattle.verdict.specs.Check.{State, isEntry, entryNode, isVariable, waiting, diagramIn}
 
 -- "Node: 10, 21, 12, 13, 14, 23."
@@ -24,6 +29,12 @@ nodeRefusal n st b =
     (cond (not (isEntry st l && isEntry st h)) 13
     (cond (not (above (st .nodes) v (entryNode st l) && above (st .nodes) v (entryNode st h))) 14 0)))
 
+-- What the tests of a node record say: the number that refuses it, or the nodes of its two entries.
+abbrev pub NodeTested : ℕ → State → NodeBody → NodeTest → Type 0
+NodeTested n st b (node.Refused number) = (number ≡ nodeRefusal n st b) × (number ≡ 0 → ⊥)
+NodeTested n st b (node.Fits low high) =
+    (nodeRefusal n st b ≡ 0) × (low .0 ≡ entryNode st (b .low .0)) × (high .0 ≡ entryNode st (b .high .0))
+
 -- "RUP: 10, 13, 16, 22, 17, [..]. PR: 10, 13, 22, 17, 18, [..]."
 unfoldable pub lineRefusal : ℕ → State → Rule → ℕ → ℕ
 lineRefusal n st Rup root =
@@ -32,6 +43,11 @@ lineRefusal n st Pr root =
     let g = diagramIn st (entryNode st root) in
     let shut : ℕ = cond (not (witnessed n (inWord (st .positive)) (inWord (st .negative)) g)) 18 0 in
     cond (not (isEntry st root)) 13 (cond (leb 1024 (st .lines)) 22 (cond (eqb (entryNode st root) 1) 17 shut))
+
+-- What the tests of a line say: the number that refuses it, or its root's node.
+abbrev pub LineTested : ℕ → State → Rule → ℕ → LineTest → Type 0
+LineTested n st rule root (line.Refused number) = (number ≡ lineRefusal n st rule root) × (number ≡ 0 → ⊥)
+LineTested n st rule root (line.Fits g) = (lineRefusal n st rule root ≡ 0) × (g .0 ≡ entryNode st root)
 
 -- The line of node g by its rule.
 abbrev pub lineOf : ℕ → State → Rule → ℕ → Line

@@ -16,10 +16,16 @@ ghost use Rattle.table.specs.Lists.{Inside};
 ghost use Rattle.conflict.specs.Marks.{unmarked};
 ghost use Rattle.judge.specs.Lines.{Negatable, Says};
 ghost use Rattle.steps.specs.States.{lentOf, stateOf, withLine, Held, Stepped};
-ghost use Rattle.steps.specs.Tests.{lineRefusal, lineOf};
+ghost use Rattle.steps.specs.Tests.{LineTested, lineOf};
 
-// 13, 16, 22 or 17 of a RUP line, 13, 22, 17 or 18 of a PR line, or 0 where the line is to be judged.
-fn line_refusal(
+// What the tests of a line come to: 13, 16, 22 or 17 of a RUP line, 13, 22, 17 or 18 of a PR line, or its root's node, to be judged.
+pub enum LineTest {
+    Refused(u8),
+    Fits(NodeNo),
+}
+
+// The tests of a line, in the order of its rule.
+fn line_test(
     vars: &[u8],
     lows: &[u16],
     highs: &[u16],
@@ -28,7 +34,7 @@ fn line_refusal(
     st: crate::State,
     rule: Rule,
     root: EntryNo,
-) -> u8
+) -> LineTest
     requires { ⌜ Readable (now vars) (now lows) (now highs) (st .count)
         × Inside (st .count) (take (st .entries) (now scratch))
         × (st .entries ≤ 4096)
@@ -36,32 +42,32 @@ fn line_refusal(
         × Roomy (now vars) (now memo) ⌝ }
     ensures { λ r. ⌜ ((ds ks ms : List ℕ) → (
         let lent = lentOf (now (vars .entry)) (now (lows .entry)) (now (highs .entry)) ds ks ms (now (scratch .entry)) in
-        r ≡ lineRefusal 64 (stateOf lent st) rule (root .0))) ⌝ }
+        LineTested 64 (stateOf lent st) rule (root .0) r)) ⌝ }
 {
     let entries = st.entries;
     if !crate::node::is_entry(entries, root) {
-        return 13;
+        return LineTest::Refused(13);
     }
     let g = crate::node::entry_node(scratch, entries, root);
     match rule {
         Rule::Rup => {
             if crate::witness::waits(st.positive, st.negative) {
-                return 16;
+                return LineTest::Refused(16);
             }
             if 1024 <= st.lines {
-                return 22;
+                return LineTest::Refused(22);
             }
             if g.0 == 1 {
-                return 17;
+                return LineTest::Refused(17);
             }
-            0
+            LineTest::Fits(g)
         }
         Rule::Pr => {
             if 1024 <= st.lines {
-                return 22;
+                return LineTest::Refused(22);
             }
             if g.0 == 1 {
-                return 17;
+                return LineTest::Refused(17);
             }
             if !walks::is_one(
                 vars,
@@ -73,9 +79,9 @@ fn line_refusal(
                 st.positive,
                 st.negative,
             ) {
-                return 18;
+                return LineTest::Refused(18);
             }
-            0
+            LineTest::Fits(g)
         }
     }
 }
@@ -213,33 +219,33 @@ pub fn line_step(
         Stepped n lent returned st (lineStep n (length (now (vars .entry))) (stateOf lent st) rule (root .0)) r) ⌝ }
     ensures { λ _. ⌜ now (marks .exit) ≡ unmarked (length (now (vars .entry))) ⌝ }
 {
-    let number = line_refusal(vars, lows, highs, memo, scratch, st, rule, root);
-    if number != 0 {
-        return crate::Step::Stop(number, 0);
+    match line_test(vars, lows, highs, memo, scratch, st, rule, root) {
+        LineTest::Refused(number) => crate::Step::Stop(number, 0),
+        LineTest::Fits(g) => {
+            let j = judge_line(
+                vars,
+                lows,
+                highs,
+                heads,
+                links,
+                memo,
+                marks,
+                members,
+                scratch,
+                st,
+                rule,
+                g,
+            );
+            table::drop_to(vars, lows, highs, heads, links, j.count, st.count);
+            if j.full {
+                return crate::Step::Stop(23, 0);
+            }
+            if !j.shown {
+                return crate::Step::Stop(19, 0);
+            }
+            let m = st.members;
+            members[m] = g.0;
+            crate::Step::Next(with_line(st, j.rounds, g))
+        }
     }
-    let g = crate::node::entry_node(scratch, st.entries, root);
-    let j = judge_line(
-        vars,
-        lows,
-        highs,
-        heads,
-        links,
-        memo,
-        marks,
-        members,
-        scratch,
-        st,
-        rule,
-        g,
-    );
-    table::drop_to(vars, lows, highs, heads, links, j.count, st.count);
-    if j.full {
-        return crate::Step::Stop(23, 0);
-    }
-    if !j.shown {
-        return crate::Step::Stop(19, 0);
-    }
-    let m = st.members;
-    members[m] = g.0;
-    crate::Step::Next(with_line(st, j.rounds, g))
 }

@@ -12,7 +12,7 @@ ghost use Rattle.walks.specs.Readable.{Readable};
 ghost use Rattle.verdict.specs.Check.{nodeStep};
 ghost use Rattle.table.specs.Lists.{Inside};
 ghost use Rattle.steps.specs.States.{lentOf, stateOf, withEntry, EntriesHeld, Held, Stepped};
-ghost use Rattle.steps.specs.Tests.{nodeRefusal};
+ghost use Rattle.steps.specs.Tests.{NodeTested};
 
 // Whether there is such an entry: 0, 1 or one of the line's.
 pub fn is_entry(entries: usize, e: EntryNo) -> bool
@@ -35,8 +35,14 @@ pub fn entry_node(scratch: &[u16], entries: usize, e: EntryNo) -> NodeNo
     NodeNo(scratch[k - 2])
 }
 
-// 21, 12, 13 or 14, or 0 where the node can be placed.
-fn node_refusal(
+// What the tests of a node record come to: 21, 12, 13 or 14, or the nodes of its two entries.
+pub enum NodeTest {
+    Refused(u8),
+    Fits { low: NodeNo, high: NodeNo },
+}
+
+// The tests of a node record, in their order.
+fn node_test(
     vars: &[u8],
     lows: &[u16],
     highs: &[u16],
@@ -44,43 +50,41 @@ fn node_refusal(
     st: crate::State,
     variables: u8,
     b: NodeBody,
-) -> u8
+) -> NodeTest
     requires { ⌜ Readable (now vars) (now lows) (now highs) (st .count)
         × Inside (st .count) (take (st .entries) (now scratch))
         × (st .entries ≤ 4096)
         × (4096 ≤ length (now scratch)) ⌝ }
     ensures { λ r. ⌜ ((ds ks ms : List ℕ) → (
         let lent = lentOf (now (vars .entry)) (now (lows .entry)) (now (highs .entry)) ds ks ms (now (scratch .entry)) in
-        r ≡ nodeRefusal variables (stateOf lent st) b)) ⌝ }
+        NodeTested variables (stateOf lent st) b r)) ⌝ }
 {
     let entries = st.entries;
     if 4096 <= entries {
-        return 21;
+        return NodeTest::Refused(21);
     }
     let v = b.variable;
     if v < 1 {
-        return 12;
+        return NodeTest::Refused(12);
     }
     if variables < v {
-        return 12;
+        return NodeTest::Refused(12);
     }
-    let low = b.low;
-    let high = b.high;
-    if !is_entry(entries, low) {
-        return 13;
+    if !is_entry(entries, b.low) {
+        return NodeTest::Refused(13);
     }
-    if !is_entry(entries, high) {
-        return 13;
+    if !is_entry(entries, b.high) {
+        return NodeTest::Refused(13);
     }
-    let l = entry_node(scratch, entries, low);
-    let h = entry_node(scratch, entries, high);
-    if !table::test::stands_above(vars, lows, highs, v, l.0) {
-        return 14;
+    let low = entry_node(scratch, entries, b.low);
+    let high = entry_node(scratch, entries, b.high);
+    if !table::test::stands_above(vars, lows, highs, v, low.0) {
+        return NodeTest::Refused(14);
     }
-    if !table::test::stands_above(vars, lows, highs, v, h.0) {
-        return 14;
+    if !table::test::stands_above(vars, lows, highs, v, high.0) {
+        return NodeTest::Refused(14);
     }
-    0
+    NodeTest::Fits { low, high }
 }
 
 // The state with one entry more.
@@ -124,18 +128,27 @@ pub fn node_step(
         Held variables lent st →
         Stepped variables lent returned st (nodeStep variables (length (now (vars .entry))) (stateOf lent st) b) r)) ⌝ }
 {
-    let number = node_refusal(vars, lows, highs, scratch, st, variables, b);
-    if number != 0 {
-        return crate::Step::Stop(number, 0);
+    match node_test(vars, lows, highs, scratch, st, variables, b) {
+        NodeTest::Refused(number) => crate::Step::Stop(number, 0),
+        NodeTest::Fits { low, high } => {
+            let p = table::put(
+                vars,
+                lows,
+                highs,
+                heads,
+                links,
+                st.count,
+                b.variable,
+                low,
+                high,
+            );
+            if p.full {
+                return crate::Step::Stop(23, 0);
+            }
+            let k = p.node;
+            let entries = st.entries;
+            scratch[entries] = k.0;
+            crate::Step::Next(with_entry(st, p.count))
+        }
     }
-    let entries = st.entries;
-    let l = entry_node(scratch, entries, b.low);
-    let h = entry_node(scratch, entries, b.high);
-    let p = table::put(vars, lows, highs, heads, links, st.count, b.variable, l, h);
-    if p.full {
-        return crate::Step::Stop(23, 0);
-    }
-    let k = p.node;
-    scratch[entries] = k.0;
-    crate::Step::Next(with_entry(st, p.count))
 }

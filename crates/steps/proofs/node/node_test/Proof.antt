@@ -1,4 +1,4 @@
--- `node_refusal`: each way out is one law of Entries. Assumes nothing.
+-- `node_test`: each way out is one law of Entries. Assumes nothing.
 use mathlib.Core.Path.{_≡_, sym, _∙_, subst}
 use mathlib.Core.Bool.{true, false}
 use mathlib.Core.List.{List, [], _∷_}
@@ -11,9 +11,9 @@ use Rattle.verdict.specs.Check as check
 use Rattle.verdict.specs.Check.{isVariable, isEntry}
 use Rattle.steps.specs.States.{Lent, lentOf, stateOf}
 use Rattle.steps.proofs.Witnesses.{is-variable, variable-zero, variable-beyond}
-use Rattle.steps.proofs.Entries.{node-inside, above-is, entry-told, full-entries, few-entries, node-21, node-12, node-13-low, node-13-high, node-14-low, node-14-high, node-0}
-use Rattle.steps.proofs.node.node_refusal.Statement.{statement}
-use Rattle.steps.proofs.node.node_refusal.Tie as tie
+use Rattle.steps.proofs.Entries.{node-inside, node-is-at, above-is, entry-told, full-entries, few-entries, node-21, node-12, node-13-low, node-13-high, node-14-low, node-14-high, node-0}
+use Rattle.steps.proofs.node.node_test.Statement.{statement}
+use Rattle.steps.proofs.node.node_test.Tie as tie
 
 module _ (s : tie.Start) (ds ks ms : List ℕ) where
   abbrev lent : Lent
@@ -42,21 +42,13 @@ module _ (c : tie.Then3) where
   abbrev start-from-then3 : tie.Start
   start-from-then3 = c .before .before .before .before .before .before .before
 
-module _ (c : tie.After-high) where
-  abbrev start-from-is-entry-call : tie.Start
-  start-from-is-entry-call = start-from-else3 (c .before .before)
-
-module _ (c : tie.After-is-entry) where
-  abbrev else3-from-is-entry : tie.Else3
-  else3-from-is-entry = c .before .before .before
-
 module _ (c : tie.Else4) where
   abbrev start-from-else4 : tie.Start
-  start-from-else4 = start-from-else3 (else3-from-is-entry (c .before))
+  start-from-else4 = start-from-else3 (c .before .before)
 
 module _ (c : tie.Then4) where
   abbrev else3-from-then4 : tie.Else3
-  else3-from-then4 = else3-from-is-entry (c .before)
+  else3-from-then4 = c .before .before
 
   abbrev start-from-then4 : tie.Start
   start-from-then4 = start-from-else3 else3-from-then4
@@ -66,14 +58,14 @@ module _ (c : tie.Else5) where
   is-entry-from-else5 = c .before .before .before
 
   abbrev start-from-else5 : tie.Start
-  start-from-else5 = start-from-else3 (else3-from-is-entry is-entry-from-else5)
+  start-from-else5 = start-from-else3 (is-entry-from-else5 .before)
 
 module _ (c : tie.Then5) where
   abbrev is-entry-from-then5 : tie.After-is-entry
   is-entry-from-then5 = c .before .before .before
 
   abbrev else3-from-then5 : tie.Else3
-  else3-from-then5 = else3-from-is-entry is-entry-from-then5
+  else3-from-then5 = is-entry-from-then5 .before
 
   abbrev start-from-then5 : tie.Start
   start-from-then5 = start-from-else3 else3-from-then5
@@ -98,7 +90,7 @@ module _ (c : tie.Then6) where
   else5-from-then6 = entry-node-from-then6 .before
 
   abbrev else3-from-then6 : tie.Else3
-  else3-from-then6 = else3-from-is-entry (is-entry-from-else5 else5-from-then6)
+  else3-from-then6 = is-entry-from-else5 else5-from-then6 .before
 
   abbrev start-from-then6 : tie.Start
   start-from-then6 = start-from-else3 else3-from-then6
@@ -117,7 +109,7 @@ module _ (c : tie.Else7) where
   else5-from-else7 = entry-node-from-else7 .before
 
   abbrev else3-from-else7 : tie.Else3
-  else3-from-else7 = else3-from-is-entry (is-entry-from-else5 else5-from-else7)
+  else3-from-else7 = is-entry-from-else5 else5-from-else7 .before
 
   abbrev start-from-else7 : tie.Start
   start-from-else7 = start-from-else3 else3-from-else7
@@ -133,7 +125,7 @@ module _ (c : tie.Then7) where
   else5-from-then7 = entry-node2-from-then7 .before .before
 
   abbrev else3-from-then7 : tie.Else3
-  else3-from-then7 = else3-from-is-entry (is-entry-from-else5 else5-from-then7)
+  else3-from-then7 = is-entry-from-else5 else5-from-then7 .before
 
   abbrev start-from-then7 : tie.Start
   start-from-then7 = start-from-else3 else3-from-then7
@@ -183,25 +175,25 @@ module _ (c : tie.After-entry-node2) where
   high-inside = inside (read .args .b .high .0) _ (high-there (c .before .before) [] [] []) (c .entry-node2 .ensures)
 
 returns : tie.Need-returns
-returns c = λ ds ks ms. let s = start-from-then1 c in node-21 _ _ _ (full-entries (lent s ds ks ms) (s .args .st) (room s ds ks ms) (c .if1 .taken))
+returns c = λ ds ks ms. let s = start-from-then1 c in (node-21 _ _ _ (full-entries (lent s ds ks ms) (s .args .st) (room s ds ks ms) (c .if1 .taken)), λ e. omega (arith, e))
 
 returns-2 : tie.Need-returns-2
-returns-2 c = λ ds ks ms. let s = start-from-then2 c in node-12 _ _ _ (few-entries (lent s ds ks ms) (s .args .st) (room s ds ks ms) (c .before .if1 .left)) (variable-zero _ _ (c .if2 .taken))
+returns-2 c = λ ds ks ms. let s = start-from-then2 c in (node-12 _ _ _ (few-entries (lent s ds ks ms) (s .args .st) (room s ds ks ms) (c .before .if1 .left)) (variable-zero _ _ (c .if2 .taken)), λ e. omega (arith, e))
 
 returns-3 : tie.Need-returns-3
-returns-3 c = λ ds ks ms. let s = start-from-then3 c in node-12 _ _ _ (few-entries (lent s ds ks ms) (s .args .st) (room s ds ks ms) (c .before .before .if1 .left)) (variable-beyond _ _ (omega (arith, c .before .if2 .left)) (c .if3 .taken))
+returns-3 c = λ ds ks ms. let s = start-from-then3 c in (node-12 _ _ _ (few-entries (lent s ds ks ms) (s .args .st) (room s ds ks ms) (c .before .before .if1 .left)) (variable-beyond _ _ (omega (arith, c .before .if2 .left)) (c .if3 .taken)), λ e. omega (arith, e))
 
 is-entry-requires : tie.Need-is-entry-requires
-is-entry-requires c κs = start-from-is-entry-call c .pre .2
+is-entry-requires c κs = start-from-else3 c .pre .2
 
 returns-4 : tie.Need-returns-4
-returns-4 c = λ ds ks ms. let s = start-from-then4 c in node-13-low _ _ _ (few (else3-from-then4 c) ds ks ms) (variable (else3-from-then4 c) ds ks ms) (entry-told (lent s ds ks ms) (s .args .st) (room s ds ks ms) _ _ _ (c .before .is-entry .ensures) (not-true _ (c .if4 .taken)))
+returns-4 c = λ ds ks ms. let s = start-from-then4 c in (node-13-low _ _ _ (few (else3-from-then4 c) ds ks ms) (variable (else3-from-then4 c) ds ks ms) (entry-told (lent s ds ks ms) (s .args .st) (room s ds ks ms) _ _ _ (c .before .is-entry .ensures) (not-true _ (c .if4 .taken))), λ e. omega (arith, e))
 
 is-entry-requires-2 : tie.Need-is-entry-requires-2
 is-entry-requires-2 c κs = start-from-else4 c .pre .2
 
 returns-5 : tie.Need-returns-5
-returns-5 c = λ ds ks ms. let s = start-from-then5 c in node-13-high _ _ _ (few (else3-from-then5 c) ds ks ms) (variable (else3-from-then5 c) ds ks ms) (entry-told (lent s ds ks ms) (s .args .st) (room s ds ks ms) _ _ _ (c .before .is-entry2 .ensures) (not-true _ (c .if5 .taken)))
+returns-5 c = λ ds ks ms. let s = start-from-then5 c in (node-13-high _ _ _ (few (else3-from-then5 c) ds ks ms) (variable (else3-from-then5 c) ds ks ms) (entry-told (lent s ds ks ms) (s .args .st) (room s ds ks ms) _ _ _ (c .before .is-entry2 .ensures) (not-true _ (c .if5 .taken))), λ e. omega (arith, e))
 
 entry-node-requires : tie.Need-entry-node-requires
 entry-node-requires c κs = (room (start-from-else5 c) [] [] [], low-there (c) [] [] [])
@@ -213,20 +205,30 @@ stands-above-requires : tie.Need-stands-above-requires
 stands-above-requires c κs = let s = start-from-entry-node2 c in (s .pre .0 .lows, s .pre .0 .highs, omega (arith, low-inside (c), s .pre .0 .within))
 
 returns-6 : tie.Need-returns-6
-returns-6 c = λ ds ks ms. let s = start-from-then6 c in node-14-low _ _ _ (few (else3-from-then6 c) ds ks ms) (variable (else3-from-then6 c) ds ks ms) (low (else5-from-then6 c) ds ks ms) (high (else5-from-then6 c) ds ks ms)
-    (above-is (lent s ds ks ms) (s .args .st) _ _ (entry-node-from-then6 c .entry-node .ensures) _ (low-inside (c .before .before)) _ _ (c .before .stands-above .ensures) (not-true _ (c .if6 .taken)))
+returns-6 c = λ ds ks ms. let s = start-from-then6 c in (
+  node-14-low _ _ _ (few (else3-from-then6 c) ds ks ms) (variable (else3-from-then6 c) ds ks ms) (low (else5-from-then6 c) ds ks ms) (high (else5-from-then6 c) ds ks ms)
+      (above-is (lent s ds ks ms) (s .args .st) _ _ (entry-node-from-then6 c .entry-node .ensures) _ (low-inside (c .before .before)) _ _ (c .before .stands-above .ensures) (not-true _ (c .if6 .taken))),
+  λ e. omega (arith, e),
+)
 
 stands-above-requires-2 : tie.Need-stands-above-requires-2
 stands-above-requires-2 c κs = let s = start-from-else6 c in (s .pre .0 .lows, s .pre .0 .highs, omega (arith, high-inside (c .before .before), s .pre .0 .within))
 
 returns-7 : tie.Need-returns-7
-returns-7 c = λ ds ks ms. let s = start-from-then7 c in node-14-high _ _ _ (few (else3-from-then7 c) ds ks ms) (variable (else3-from-then7 c) ds ks ms) (low (else5-from-then7 c) ds ks ms) (high (else5-from-then7 c) ds ks ms)
-    (above-is (lent s ds ks ms) (s .args .st) _ _ (entry-node2-from-then7 c .entry-node2 .ensures) _ (high-inside (entry-node2-from-then7 c)) _ _ (c .before .stands-above2 .ensures) (not-true _ (c .if7 .taken)))
+returns-7 c = λ ds ks ms. let s = start-from-then7 c in (
+  node-14-high _ _ _ (few (else3-from-then7 c) ds ks ms) (variable (else3-from-then7 c) ds ks ms) (low (else5-from-then7 c) ds ks ms) (high (else5-from-then7 c) ds ks ms)
+      (above-is (lent s ds ks ms) (s .args .st) _ _ (entry-node2-from-then7 c .entry-node2 .ensures) _ (high-inside (entry-node2-from-then7 c)) _ _ (c .before .stands-above2 .ensures) (not-true _ (c .if7 .taken))),
+  λ e. omega (arith, e),
+)
 
 returns-8 : tie.Need-returns-8
-returns-8 c = λ ds ks ms. let s = start-from-else7 c in node-0 _ _ _ (few (else3-from-else7 c) ds ks ms) (variable (else3-from-else7 c) ds ks ms) (low (else5-from-else7 c) ds ks ms) (high (else5-from-else7 c) ds ks ms)
-    (above-is (lent s ds ks ms) (s .args .st) _ _ (entry-node-from-else7 c .entry-node .ensures) _ (low-inside (entry-node2-from-else7 c)) _ _ (stands-above-from-else7 c .stands-above .ensures) (not-false _ (c .before .before .if6 .left)))
-    (above-is (lent s ds ks ms) (s .args .st) _ _ (entry-node2-from-else7 c .entry-node2 .ensures) _ (high-inside (entry-node2-from-else7 c)) _ _ (c .before .stands-above2 .ensures) (not-false _ (c .if7 .left)))
+returns-8 c = λ ds ks ms. let s = start-from-else7 c in (
+  sym (node-0 _ _ _ (few (else3-from-else7 c) ds ks ms) (variable (else3-from-else7 c) ds ks ms) (low (else5-from-else7 c) ds ks ms) (high (else5-from-else7 c) ds ks ms)
+      (above-is (lent s ds ks ms) (s .args .st) _ _ (entry-node-from-else7 c .entry-node .ensures) _ (low-inside (entry-node2-from-else7 c)) _ _ (stands-above-from-else7 c .stands-above .ensures) (not-false _ (c .before .before .if6 .left)))
+      (above-is (lent s ds ks ms) (s .args .st) _ _ (entry-node2-from-else7 c .entry-node2 .ensures) _ (high-inside (entry-node2-from-else7 c)) _ _ (c .before .stands-above2 .ensures) (not-false _ (c .if7 .left)))),
+  entry-node-from-else7 c .entry-node .ensures ∙ sym (node-is-at (lent s ds ks ms) (s .args .st) (s .args .b .low .0)),
+  entry-node2-from-else7 c .entry-node2 .ensures ∙ sym (node-is-at (lent s ds ks ms) (s .args .st) (s .args .b .high .0)),
+)
 
-pub node-refusal-spec : {M : Type 1} → statement M
-node-refusal-spec = tie.close (tie.spec returns returns-2 returns-3 is-entry-requires returns-4 is-entry-requires-2 returns-5 entry-node-requires entry-node-requires-2 stands-above-requires returns-6 stands-above-requires-2 returns-7 returns-8)
+pub node-test-spec : {M : Type 1} → statement M
+node-test-spec = tie.close (tie.spec returns returns-2 returns-3 is-entry-requires returns-4 is-entry-requires-2 returns-5 entry-node-requires entry-node-requires-2 stands-above-requires returns-6 stands-above-requires-2 returns-7 returns-8)
