@@ -30,7 +30,7 @@ pub struct Checked {
 }
 
 // The clauses from `from` on, then the proof, with table and member list emptied. The scratch list is then anything.
-fn judge_clauses<'a>(
+fn run_clauses<'a>(
     vars: &mut [u8],
     lows: &mut [u16],
     highs: &mut [u16],
@@ -81,7 +81,7 @@ fn judge_clauses<'a>(
                 count: 2,
             }
         }
-        Start::Begun(count, made) => proof::judge_proof(
+        Start::Begun(count, made) => proof::run_proof(
             vars,
             lows,
             highs,
@@ -100,7 +100,7 @@ fn judge_clauses<'a>(
 }
 
 // The formula and the proof, with table and member list emptied. The scratch list is then anything.
-fn judge<'a>(
+fn run_header<'a>(
     vars: &mut [u8],
     lows: &mut [u16],
     highs: &mut [u16],
@@ -128,7 +128,7 @@ fn judge<'a>(
             rounds: 0,
             count: 2,
         },
-        Header::Proper(variables, wanted, from) => judge_clauses(
+        Header::Proper(variables, wanted, from) => run_clauses(
             vars,
             lows,
             highs,
@@ -171,7 +171,7 @@ pub fn run<'a>(
         (verdict (length (now (vars .entry))) (now (formula .entry)) (now (proof .entry))) ⌝ }
 {
     clear::empty(vars, lows, highs, members);
-    let said = judge(
+    let said = run_header(
         vars,
         lows,
         highs,

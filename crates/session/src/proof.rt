@@ -22,7 +22,7 @@ pub struct Ended {
 }
 
 // Record after record, up to one that ends the proof. The scratch list is then anything.
-pub fn read_records(
+fn read_records(
     vars: &mut [u8],
     lows: &mut [u16],
     highs: &mut [u16],
@@ -92,7 +92,7 @@ pub fn read_records(
 }
 
 // The proof judged once the clauses are made. Nodes of entries after the last accepted line are dropped.
-pub fn judge_proof(
+pub fn run_proof(
     vars: &mut [u8],
     lows: &mut [u16],
     highs: &mut [u16],

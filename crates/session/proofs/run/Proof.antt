@@ -19,34 +19,34 @@ module _ (c : tie.After-empty) where
   start-from-empty = c .before .before .before .before .before .before .before .before .before .before .before .before .before .before
       .before .before
 
-module _ (c : tie.After-judge-arg9) where
-  abbrev empty-from-judge-call : tie.After-empty
-  empty-from-judge-call = c .before .before .before .before .before .before .before .before .before .before .before .before .before .before
+module _ (c : tie.After-run-header-arg9) where
+  abbrev empty-from-run-header-call : tie.After-empty
+  empty-from-run-header-call = c .before .before .before .before .before .before .before .before .before .before .before .before .before .before
       .before .before .before
 
-  abbrev start-from-judge-call : tie.Start
-  start-from-judge-call = start-from-empty empty-from-judge-call
+  abbrev start-from-run-header-call : tie.Start
+  start-from-run-header-call = start-from-empty empty-from-run-header-call
 
-module _ (c : tie.After-judge) where
-  abbrev empty-from-judge : tie.After-empty
-  empty-from-judge = c .before .before .before .before .before .before .before .before .before .before .before .before .before .before
+module _ (c : tie.After-run-header) where
+  abbrev empty-from-run-header : tie.After-empty
+  empty-from-run-header = c .before .before .before .before .before .before .before .before .before .before .before .before .before .before
       .before .before .before .before
 
 module _ (c : tie.After-slice-known23) where
-  abbrev judge-from-return : tie.After-judge
-  judge-from-return = c .before .before .before .before .before .before .before .before .before .before .before .before .before .before
+  abbrev run-header-from-return : tie.After-run-header
+  run-header-from-return = c .before .before .before .before .before .before .before .before .before .before .before .before .before .before
       .before .before .before .before .before .before .before .before
 
   abbrev empty-from-return : tie.After-empty
-  empty-from-return = empty-from-judge judge-from-return
+  empty-from-return = empty-from-run-header run-header-from-return
 
   abbrev start-from-return : tie.Start
   start-from-return = start-from-empty empty-from-return
 
-judge-requires : tie.Need-judge-requires
-judge-requires c κs =
-    let start = start-from-judge-call c in
-    let after-empty = empty-from-judge-call c in
+run-header-requires : tie.Need-run-header-requires
+run-header-requires c κs =
+    let start = start-from-run-header-call c in
+    let after-empty = empty-from-run-header-call c in
     let a = start .args in
     let z = lent-sized _ _ _ _ _ (start .pre .0) in (
       emptied-opened (length (a .vars .now)) (length (a .members .now)) (z .columns .least) (z .columns .most) (z .member-room) _ _ _ _ _ _
@@ -61,60 +61,60 @@ clear-numbers-requires c κs =
 same-length : tie.Need-same-length
 same-length c =
     let after-empty = empty-from-return c in
-    let after-judge = judge-from-return c in
-    after-judge .judge .kept .0 ∙ after-empty .empty .kept .0
+    let after-run-header = run-header-from-return c in
+    after-run-header .run-header .kept .0 ∙ after-empty .empty .kept .0
 
 same-length-2 : tie.Need-same-length-2
 same-length-2 c =
     let after-empty = empty-from-return c in
-    let after-judge = judge-from-return c in
-    after-judge .judge .kept .1 .0 ∙ after-empty .empty .kept .1 .0
+    let after-run-header = run-header-from-return c in
+    after-run-header .run-header .kept .1 .0 ∙ after-empty .empty .kept .1 .0
 
 same-length-3 : tie.Need-same-length-3
 same-length-3 c =
     let after-empty = empty-from-return c in
-    let after-judge = judge-from-return c in
-    after-judge .judge .kept .1 .1 .0 ∙ after-empty .empty .kept .1 .1 .0
+    let after-run-header = run-header-from-return c in
+    after-run-header .run-header .kept .1 .1 .0 ∙ after-empty .empty .kept .1 .1 .0
 
 same-length-4 : tie.Need-same-length-4
 same-length-4 c =
-    let after-judge = judge-from-return c in
-    after-judge .judge .kept .1 .1 .1 .0
+    let after-run-header = run-header-from-return c in
+    after-run-header .run-header .kept .1 .1 .1 .0
 
 same-length-5 : tie.Need-same-length-5
 same-length-5 c =
-    let after-judge = judge-from-return c in
-    after-judge .judge .kept .1 .1 .1 .1 .0
+    let after-run-header = run-header-from-return c in
+    after-run-header .run-header .kept .1 .1 .1 .1 .0
 
 same-length-6 : tie.Need-same-length-6
 same-length-6 c =
-    let after-judge = judge-from-return c in
-    after-judge .judge .kept .1 .1 .1 .1 .1 .0
+    let after-run-header = run-header-from-return c in
+    after-run-header .run-header .kept .1 .1 .1 .1 .1 .0
 
 same-length-7 : tie.Need-same-length-7
 same-length-7 c =
-    let after-judge = judge-from-return c in
-    after-judge .judge .kept .1 .1 .1 .1 .1 .1 .0
+    let after-run-header = run-header-from-return c in
+    after-run-header .run-header .kept .1 .1 .1 .1 .1 .1 .0
 
 same-length-8 : tie.Need-same-length-8
 same-length-8 c =
     let after-empty = empty-from-return c in
-    let after-judge = judge-from-return c in
-    after-judge .judge .kept .1 .1 .1 .1 .1 .1 .1 .0 ∙ after-empty .empty .kept .1 .1 .1 .0
+    let after-run-header = run-header-from-return c in
+    after-run-header .run-header .kept .1 .1 .1 .1 .1 .1 .1 .0 ∙ after-empty .empty .kept .1 .1 .1 .0
 
 same-length-9 : tie.Need-same-length-9
 same-length-9 c =
-    let after-judge = judge-from-return c in
-    c .before .before .clear-numbers .kept .0 ∙ after-judge .judge .kept .1 .1 .1 .1 .1 .1 .1 .1 .0
+    let after-run-header = run-header-from-return c in
+    c .before .before .clear-numbers .kept .0 ∙ after-run-header .run-header .kept .1 .1 .1 .1 .1 .1 .1 .1 .0
 
 returns : tie.Need-returns
 returns c =
     let start = start-from-return c in
     let after-empty = empty-from-return c in
-    let after-judge = judge-from-return c in
+    let after-run-header = run-header-from-return c in
     let a = start .args in
     run-is (length (a .vars .now)) (length (a .members .now)) (length (a .scratch .now)) (a .formula .now) (a .proof .now) _ _ _ _ _ _ _ _ _
-    (after-judge .judge .ensures) (after-empty .empty .kept .0) (after-empty .empty .kept .1 .1 .1 .0) (c .before .before .clear-numbers .ensures) (after-judge .judge .kept .1 .1 .1 .1 .1 .1 .1 .1 .0)
+    (after-run-header .run-header .ensures) (after-empty .empty .kept .0) (after-empty .empty .kept .1 .1 .1 .0) (c .before .before .clear-numbers .ensures) (after-run-header .run-header .kept .1 .1 .1 .1 .1 .1 .1 .1 .0)
 
 pub run-spec : {M : Type 1} → statement M
-run-spec = tie.close (tie.spec empty-requires judge-requires clear-numbers-requires same-length same-length-2 same-length-3 same-length-4 same-length-5 same-length-6 same-length-7 same-length-8 same-length-9 returns)
+run-spec = tie.close (tie.spec empty-requires run-header-requires clear-numbers-requires same-length same-length-2 same-length-3 same-length-4 same-length-5 same-length-6 same-length-7 same-length-8 same-length-9 returns)

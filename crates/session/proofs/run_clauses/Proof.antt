@@ -1,4 +1,4 @@
--- `judge_clauses` leaves the outcome of the clauses: emptied lists where the formula is refused, else what the proof leaves. Assumes nothing.
+-- `run_clauses` leaves the outcome of the clauses: emptied lists where the formula is refused, else what the proof leaves. Assumes nothing.
 use mathlib.Core.Path.{sym, ap, _∙_, subst}
 use native.Mathlib.Omega.{arith}
 use lib.ListN.{length}
@@ -8,8 +8,8 @@ use Rattle.verdict.specs.Check.{zeros}
 use Rattle.session.specs.Formula.{Begins}
 use Rattle.session.proofs.Emptied.{opened-good}
 use Rattle.session.proofs.Finish.{refused-is, begun-is, unbegun-is}
-use Rattle.session.proofs.judge_clauses.Statement.{statement}
-use Rattle.session.proofs.judge_clauses.Tie as tie
+use Rattle.session.proofs.run_clauses.Statement.{statement}
+use Rattle.session.proofs.run_clauses.Tie as tie
 
 -- The ways back, written by ways.py: TO-from-FROM leads from the place FROM of the code to the place TO before it.
 module _ (c : tie.After-read-clauses-arg6) where
@@ -36,19 +36,19 @@ module _ (c : tie.After-empty) where
   abbrev number-from-empty : tie.After-number
   number-from-empty = c .before .before .before .before .before .before
 
-module _ (c : tie.After-judge-proof-arg9) where
-  abbrev count-from-judge-proof-call : tie.After-count
-  count-from-judge-proof-call = c .before .before .before .before .before .before .before .before .before .before
+module _ (c : tie.After-run-proof-arg9) where
+  abbrev count-from-run-proof-call : tie.After-count
+  count-from-run-proof-call = c .before .before .before .before .before .before .before .before .before .before
 
-  abbrev read-clauses-from-judge-proof-call : tie.After-read-clauses
-  read-clauses-from-judge-proof-call = read-clauses-from-count count-from-judge-proof-call
+  abbrev read-clauses-from-run-proof-call : tie.After-read-clauses
+  read-clauses-from-run-proof-call = read-clauses-from-count count-from-run-proof-call
 
-  abbrev start-from-judge-proof-call : tie.Start
-  start-from-judge-proof-call = start-from-read-clauses read-clauses-from-judge-proof-call
+  abbrev start-from-run-proof-call : tie.Start
+  start-from-run-proof-call = start-from-read-clauses read-clauses-from-run-proof-call
 
-module _ (c : tie.After-judge-proof) where
-  abbrev count-from-judge-proof : tie.After-count
-  count-from-judge-proof = c .before .before .before .before .before .before .before .before .before .before .before
+module _ (c : tie.After-run-proof) where
+  abbrev count-from-run-proof : tie.After-count
+  count-from-run-proof = c .before .before .before .before .before .before .before .before .before .before .before
 
 module _ (c : tie.After-slice-known19) where
   abbrev empty-from-return : tie.After-empty
@@ -64,12 +64,12 @@ module _ (c : tie.After-slice-known19) where
   start-from-return = start-from-read-clauses read-clauses-from-return
 
 module _ (c : tie.After-slice-known28) where
-  abbrev judge-proof-from-return-2 : tie.After-judge-proof
-  judge-proof-from-return-2 = c .before .before .before .before .before .before .before .before .before .before .before .before .before
+  abbrev run-proof-from-return-2 : tie.After-run-proof
+  run-proof-from-return-2 = c .before .before .before .before .before .before .before .before .before .before .before .before .before
       .before .before .before .before .before
 
   abbrev count-from-return-2 : tie.After-count
-  count-from-return-2 = count-from-judge-proof judge-proof-from-return-2
+  count-from-return-2 = count-from-run-proof run-proof-from-return-2
 
   abbrev read-clauses-from-return-2 : tie.After-read-clauses
   read-clauses-from-return-2 = read-clauses-from-count count-from-return-2
@@ -94,11 +94,11 @@ enum-known-count : tie.Need-enum-known-count
 enum-known-count c =
     search needs
 
-judge-proof-requires : tie.Need-judge-proof-requires
-judge-proof-requires c κs =
-    let start = start-from-judge-proof-call c in
-    let after-read-clauses = read-clauses-from-judge-proof-call c in
-    let after-count = count-from-judge-proof-call c in
+run-proof-requires : tie.Need-run-proof-requires
+run-proof-requires c κs =
+    let start = start-from-run-proof-call c in
+    let after-read-clauses = read-clauses-from-run-proof-call c in
+    let after-count = count-from-run-proof-call c in
     let x = after-read-clauses .read-clauses .last in (
       subst (Begins (start .args .variables) (x .0) (x .1 .0) (x .1 .1 .0) (x .1 .1 .1 .0) (x .1 .1 .1 .1 .0) (x .1 .1 .1 .1 .1 .0)) (after-count .count .given .1) (after-read-clauses .read-clauses .ensures .1),
       start .pre .1 .0,
@@ -158,63 +158,63 @@ returns c =
 same-length-7 : tie.Need-same-length-7
 same-length-7 c =
     let after-read-clauses = read-clauses-from-return-2 c in
-    let after-judge-proof = judge-proof-from-return-2 c in
-    after-judge-proof .judge-proof .kept .0 ∙ after-read-clauses .read-clauses .kept .0
+    let after-run-proof = run-proof-from-return-2 c in
+    after-run-proof .run-proof .kept .0 ∙ after-read-clauses .read-clauses .kept .0
 
 same-length-8 : tie.Need-same-length-8
 same-length-8 c =
     let after-read-clauses = read-clauses-from-return-2 c in
-    let after-judge-proof = judge-proof-from-return-2 c in
-    after-judge-proof .judge-proof .kept .1 .0 ∙ after-read-clauses .read-clauses .kept .1 .0
+    let after-run-proof = run-proof-from-return-2 c in
+    after-run-proof .run-proof .kept .1 .0 ∙ after-read-clauses .read-clauses .kept .1 .0
 
 same-length-9 : tie.Need-same-length-9
 same-length-9 c =
     let after-read-clauses = read-clauses-from-return-2 c in
-    let after-judge-proof = judge-proof-from-return-2 c in
-    after-judge-proof .judge-proof .kept .1 .1 .0 ∙ after-read-clauses .read-clauses .kept .1 .1 .0
+    let after-run-proof = run-proof-from-return-2 c in
+    after-run-proof .run-proof .kept .1 .1 .0 ∙ after-read-clauses .read-clauses .kept .1 .1 .0
 
 same-length-10 : tie.Need-same-length-10
 same-length-10 c =
     let after-read-clauses = read-clauses-from-return-2 c in
-    let after-judge-proof = judge-proof-from-return-2 c in
-    after-judge-proof .judge-proof .kept .1 .1 .1 .0 ∙ after-read-clauses .read-clauses .kept .1 .1 .1 .0
+    let after-run-proof = run-proof-from-return-2 c in
+    after-run-proof .run-proof .kept .1 .1 .1 .0 ∙ after-read-clauses .read-clauses .kept .1 .1 .1 .0
 
 same-length-11 : tie.Need-same-length-11
 same-length-11 c =
     let after-read-clauses = read-clauses-from-return-2 c in
-    let after-judge-proof = judge-proof-from-return-2 c in
-    after-judge-proof .judge-proof .kept .1 .1 .1 .1 .0 ∙ after-read-clauses .read-clauses .kept .1 .1 .1 .1 .0
+    let after-run-proof = run-proof-from-return-2 c in
+    after-run-proof .run-proof .kept .1 .1 .1 .1 .0 ∙ after-read-clauses .read-clauses .kept .1 .1 .1 .1 .0
 
 same-length-12 : tie.Need-same-length-12
 same-length-12 c =
-    let after-judge-proof = judge-proof-from-return-2 c in
-    after-judge-proof .judge-proof .kept .1 .1 .1 .1 .1 .0
+    let after-run-proof = run-proof-from-return-2 c in
+    after-run-proof .run-proof .kept .1 .1 .1 .1 .1 .0
 
 same-length-13 : tie.Need-same-length-13
 same-length-13 c =
-    let after-judge-proof = judge-proof-from-return-2 c in
-    after-judge-proof .judge-proof .kept .1 .1 .1 .1 .1 .1 .0
+    let after-run-proof = run-proof-from-return-2 c in
+    after-run-proof .run-proof .kept .1 .1 .1 .1 .1 .1 .0
 
 same-length-14 : tie.Need-same-length-14
 same-length-14 c =
     let after-read-clauses = read-clauses-from-return-2 c in
-    let after-judge-proof = judge-proof-from-return-2 c in
-    after-judge-proof .judge-proof .kept .1 .1 .1 .1 .1 .1 .1 .0 ∙ after-read-clauses .read-clauses .kept .1 .1 .1 .1 .1 .0
+    let after-run-proof = run-proof-from-return-2 c in
+    after-run-proof .run-proof .kept .1 .1 .1 .1 .1 .1 .1 .0 ∙ after-read-clauses .read-clauses .kept .1 .1 .1 .1 .1 .0
 
 same-length-15 : tie.Need-same-length-15
 same-length-15 c =
-    let after-judge-proof = judge-proof-from-return-2 c in
-    after-judge-proof .judge-proof .kept .1 .1 .1 .1 .1 .1 .1 .1 .0
+    let after-run-proof = run-proof-from-return-2 c in
+    after-run-proof .run-proof .kept .1 .1 .1 .1 .1 .1 .1 .1 .0
 
 returns-2 : tie.Need-returns-2
 returns-2 c =
     let start = start-from-return-2 c in
     let after-read-clauses = read-clauses-from-return-2 c in
     let after-count = count-from-return-2 c in
-    let after-judge-proof = judge-proof-from-return-2 c in
+    let after-run-proof = run-proof-from-return-2 c in
     let a = start .args in
     let x = after-read-clauses .read-clauses .last in
-    after-judge-proof .judge-proof .ensures ∙ begun-is (a .variables) (a .proof .now) (x .0) (x .1 .0) (x .1 .1 .0) (x .1 .1 .1 .0) (x .1 .1 .1 .1 .0) (x .1 .1 .1 .1 .1 .0) (length (a .vars .now)) (length (a .members .now)) (length (a .scratch .now)) _ _ (after-read-clauses .read-clauses .ensures .0 (a .proof .now)) _ _ (after-count .count .given .1) (after-read-clauses .read-clauses .kept .0) (after-read-clauses .read-clauses .kept .1 .1 .1 .1 .1 .0)
+    after-run-proof .run-proof .ensures ∙ begun-is (a .variables) (a .proof .now) (x .0) (x .1 .0) (x .1 .1 .0) (x .1 .1 .1 .0) (x .1 .1 .1 .1 .0) (x .1 .1 .1 .1 .1 .0) (length (a .vars .now)) (length (a .members .now)) (length (a .scratch .now)) _ _ (after-read-clauses .read-clauses .ensures .0 (a .proof .now)) _ _ (after-count .count .given .1) (after-read-clauses .read-clauses .kept .0) (after-read-clauses .read-clauses .kept .1 .1 .1 .1 .1 .0)
 
-pub judge-clauses-spec : {M : Type 1} → statement M
-judge-clauses-spec = tie.close (tie.spec read-clauses-requires enum-known-number empty-requires enum-known-count judge-proof-requires same-length same-length-2 same-length-3 same-length-4 same-length-5 same-length-6 returns same-length-7 same-length-8 same-length-9 same-length-10 same-length-11 same-length-12 same-length-13 same-length-14 same-length-15 returns-2)
+pub run-clauses-spec : {M : Type 1} → statement M
+run-clauses-spec = tie.close (tie.spec read-clauses-requires enum-known-number empty-requires enum-known-count run-proof-requires same-length same-length-2 same-length-3 same-length-4 same-length-5 same-length-6 returns same-length-7 same-length-8 same-length-9 same-length-10 same-length-11 same-length-12 same-length-13 same-length-14 same-length-15 returns-2)

@@ -1,11 +1,11 @@
--- `judge` leaves the outcome of the formula and the proof, by the header. Assumes nothing.
+-- `run_header` leaves the outcome of the formula and the proof, by the header. Assumes nothing.
 use mathlib.Core.Path.{refl, sym, ap, _∙_}
 use lib.ListN.{length}
 use borrow.Author.Needs.{needs}
 use Rattle.verdict.specs.Check.{outcome}
 use Rattle.session.proofs.Finish.{unopened-is, header-bounds, verdict-proper, verdict-improper}
-use Rattle.session.proofs.judge.Statement.{statement}
-use Rattle.session.proofs.judge.Tie as tie
+use Rattle.session.proofs.run_header.Statement.{statement}
+use Rattle.session.proofs.run_header.Tie as tie
 
 read-header-requires : tie.Need-read-header-requires
 read-header-requires c κs =
@@ -31,27 +31,27 @@ module _ (c : tie.After-known-told) where
   abbrev start-from-return : tie.Start
   start-from-return = start-from-read-header read-header-from-return
 
-module _ (c : tie.After-judge-clauses-arg9) where
-  abbrev variables-from-judge-clauses-call : tie.After-variables
-  variables-from-judge-clauses-call = c .before .before .before .before .before .before .before .before .before .before
+module _ (c : tie.After-run-clauses-arg9) where
+  abbrev variables-from-run-clauses-call : tie.After-variables
+  variables-from-run-clauses-call = c .before .before .before .before .before .before .before .before .before .before
 
-  abbrev read-header-from-judge-clauses-call : tie.After-read-header
-  read-header-from-judge-clauses-call = variables-from-judge-clauses-call .before .before
+  abbrev read-header-from-run-clauses-call : tie.After-read-header
+  read-header-from-run-clauses-call = variables-from-run-clauses-call .before .before
 
-  abbrev start-from-judge-clauses-call : tie.Start
-  start-from-judge-clauses-call = start-from-read-header read-header-from-judge-clauses-call
+  abbrev start-from-run-clauses-call : tie.Start
+  start-from-run-clauses-call = start-from-read-header read-header-from-run-clauses-call
 
-module _ (c : tie.After-judge-clauses) where
-  abbrev variables-from-judge-clauses : tie.After-variables
-  variables-from-judge-clauses = c .before .before .before .before .before .before .before .before .before .before .before
+module _ (c : tie.After-run-clauses) where
+  abbrev variables-from-run-clauses : tie.After-variables
+  variables-from-run-clauses = c .before .before .before .before .before .before .before .before .before .before .before
 
 module _ (c : tie.After-slice-known18) where
-  abbrev judge-clauses-from-return-2 : tie.After-judge-clauses
-  judge-clauses-from-return-2 = c .before .before .before .before .before .before .before .before .before .before .before .before .before
+  abbrev run-clauses-from-return-2 : tie.After-run-clauses
+  run-clauses-from-return-2 = c .before .before .before .before .before .before .before .before .before .before .before .before .before
       .before .before .before .before .before
 
   abbrev variables-from-return-2 : tie.After-variables
-  variables-from-return-2 = variables-from-judge-clauses judge-clauses-from-return-2
+  variables-from-return-2 = variables-from-run-clauses run-clauses-from-return-2
 
   abbrev read-header-from-return-2 : tie.After-read-header
   read-header-from-return-2 = variables-from-return-2 .before .before
@@ -59,11 +59,11 @@ module _ (c : tie.After-slice-known18) where
   abbrev start-from-return-2 : tie.Start
   start-from-return-2 = start-from-read-header read-header-from-return-2
 
-judge-clauses-requires : tie.Need-judge-clauses-requires
-judge-clauses-requires c κs =
-    let start = start-from-judge-clauses-call c in
-    let after-read-header = read-header-from-judge-clauses-call c in
-    let after-variables = variables-from-judge-clauses-call c in
+run-clauses-requires : tie.Need-run-clauses-requires
+run-clauses-requires c κs =
+    let start = start-from-run-clauses-call c in
+    let after-read-header = read-header-from-run-clauses-call c in
+    let after-variables = variables-from-run-clauses-call c in
     let b = header-bounds _ _ _ _ (sym (after-read-header .read-header .ensures) ∙ after-variables .variables .given .1) in
     (start .pre .0, (b .0, b .1, b .2, start .pre .1 .0, start .pre .1 .1, start .pre .1 .2))
 
@@ -76,58 +76,58 @@ returns c =
 
 same-length : tie.Need-same-length
 same-length c =
-    let after-judge-clauses = judge-clauses-from-return-2 c in
-    after-judge-clauses .judge-clauses .kept .0
+    let after-run-clauses = run-clauses-from-return-2 c in
+    after-run-clauses .run-clauses .kept .0
 
 same-length-2 : tie.Need-same-length-2
 same-length-2 c =
-    let after-judge-clauses = judge-clauses-from-return-2 c in
-    after-judge-clauses .judge-clauses .kept .1 .0
+    let after-run-clauses = run-clauses-from-return-2 c in
+    after-run-clauses .run-clauses .kept .1 .0
 
 same-length-3 : tie.Need-same-length-3
 same-length-3 c =
-    let after-judge-clauses = judge-clauses-from-return-2 c in
-    after-judge-clauses .judge-clauses .kept .1 .1 .0
+    let after-run-clauses = run-clauses-from-return-2 c in
+    after-run-clauses .run-clauses .kept .1 .1 .0
 
 same-length-4 : tie.Need-same-length-4
 same-length-4 c =
-    let after-judge-clauses = judge-clauses-from-return-2 c in
-    after-judge-clauses .judge-clauses .kept .1 .1 .1 .0
+    let after-run-clauses = run-clauses-from-return-2 c in
+    after-run-clauses .run-clauses .kept .1 .1 .1 .0
 
 same-length-5 : tie.Need-same-length-5
 same-length-5 c =
-    let after-judge-clauses = judge-clauses-from-return-2 c in
-    after-judge-clauses .judge-clauses .kept .1 .1 .1 .1 .0
+    let after-run-clauses = run-clauses-from-return-2 c in
+    after-run-clauses .run-clauses .kept .1 .1 .1 .1 .0
 
 same-length-6 : tie.Need-same-length-6
 same-length-6 c =
-    let after-judge-clauses = judge-clauses-from-return-2 c in
-    after-judge-clauses .judge-clauses .kept .1 .1 .1 .1 .1 .0
+    let after-run-clauses = run-clauses-from-return-2 c in
+    after-run-clauses .run-clauses .kept .1 .1 .1 .1 .1 .0
 
 same-length-7 : tie.Need-same-length-7
 same-length-7 c =
-    let after-judge-clauses = judge-clauses-from-return-2 c in
-    after-judge-clauses .judge-clauses .kept .1 .1 .1 .1 .1 .1 .0
+    let after-run-clauses = run-clauses-from-return-2 c in
+    after-run-clauses .run-clauses .kept .1 .1 .1 .1 .1 .1 .0
 
 same-length-8 : tie.Need-same-length-8
 same-length-8 c =
-    let after-judge-clauses = judge-clauses-from-return-2 c in
-    after-judge-clauses .judge-clauses .kept .1 .1 .1 .1 .1 .1 .1 .0
+    let after-run-clauses = run-clauses-from-return-2 c in
+    after-run-clauses .run-clauses .kept .1 .1 .1 .1 .1 .1 .1 .0
 
 same-length-9 : tie.Need-same-length-9
 same-length-9 c =
-    let after-judge-clauses = judge-clauses-from-return-2 c in
-    after-judge-clauses .judge-clauses .kept .1 .1 .1 .1 .1 .1 .1 .1 .0
+    let after-run-clauses = run-clauses-from-return-2 c in
+    after-run-clauses .run-clauses .kept .1 .1 .1 .1 .1 .1 .1 .1 .0
 
 returns-2 : tie.Need-returns-2
 returns-2 c =
     let start = start-from-return-2 c in
     let after-read-header = read-header-from-return-2 c in
     let after-variables = variables-from-return-2 c in
-    let after-judge-clauses = judge-clauses-from-return-2 c in
+    let after-run-clauses = run-clauses-from-return-2 c in
     let a = start .args in
-    after-judge-clauses .judge-clauses .ensures
+    after-run-clauses .run-clauses .ensures
     ∙ ap (outcome (length (a .vars .now)) (length (a .members .now)) (length (a .scratch .now))) (sym (verdict-proper (length (a .vars .now)) _ (a .proof .now) _ _ _ (sym (after-read-header .read-header .ensures) ∙ after-variables .variables .given .1)))
 
-pub judge-spec : {M : Type 1} → statement M
-judge-spec = tie.close (tie.spec read-header-requires enum-known-number enum-known-variables judge-clauses-requires returns same-length same-length-2 same-length-3 same-length-4 same-length-5 same-length-6 same-length-7 same-length-8 same-length-9 returns-2)
+pub run-header-spec : {M : Type 1} → statement M
+run-header-spec = tie.close (tie.spec read-header-requires enum-known-number enum-known-variables run-clauses-requires returns same-length same-length-2 same-length-3 same-length-4 same-length-5 same-length-6 same-length-7 same-length-8 same-length-9 returns-2)

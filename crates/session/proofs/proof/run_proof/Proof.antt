@@ -1,4 +1,4 @@
--- `judge_proof` leaves the outcome of the records read, with the nodes that do not stay dropped. Assumes nothing.
+-- `run_proof` leaves the outcome of the records read, with the nodes that do not stay dropped. Assumes nothing.
 use mathlib.Core.Path.{refl, sym, ap, _∙_}
 use Prim.Native.Nat.{suc}
 use lib.ListN.{length}
@@ -7,8 +7,8 @@ use Rattle.verdict.specs.Check as check
 use Rattle.steps.specs.declared.State.{State}
 use Rattle.steps.specs.States.{Lent, lentOf}
 use Rattle.session.proofs.Finish.{judged-is, first-is, first-held}
-use Rattle.session.proofs.proof.judge_proof.Statement.{statement}
-use Rattle.session.proofs.proof.judge_proof.Tie as tie
+use Rattle.session.proofs.proof.run_proof.Statement.{statement}
+use Rattle.session.proofs.proof.run_proof.Tie as tie
 
 -- The ways back, written by ways.py: TO-from-FROM leads from the place FROM of the code to the place TO before it.
 module _ (c : tie.After-read-records-arg9) where
@@ -116,5 +116,5 @@ returns c =
     (ap (λ (first : check.State). check.records (suc (length (a .proof .now))) (a .variables) (length (a .vars .now)) (a .proof .now) first 0)
     (sym (first-is (a .variables) (lentOf (a .vars .now) (a .lows .now) (a .highs .now) (a .heads .now) (a .links .now) (a .members .now) (a .scratch .now)) (a .count) (a .made) (start .pre .0))) ∙ after-read-records .read-records .ensures .0)
 
-pub judge-proof-spec : {M : Type 1} → statement M
-judge-proof-spec = tie.close (tie.spec read-records-requires drop-to-requires same-length same-length-2 same-length-3 same-length-4 same-length-5 same-length-6 same-length-7 same-length-8 same-length-9 returns)
+pub run-proof-spec : {M : Type 1} → statement M
+run-proof-spec = tie.close (tie.spec read-records-requires drop-to-requires same-length same-length-2 same-length-3 same-length-4 same-length-5 same-length-6 same-length-7 same-length-8 same-length-9 returns)
