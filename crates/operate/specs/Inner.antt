@@ -79,8 +79,8 @@ stepOf Negation s = Both s
 stepOf Cofactor s = cond (eqb (s .g0 .0) 0) (One (s .f1) (s .g1)) (cond (eqb (s .g1 .0) 0) (One (s .f0) (s .g0)) (Both s))
 stepOf (Literals p n) s = cond (inWord p (s .x)) (One (s .f1) (s .g1)) (cond (inWord n (s .x)) (One (s .f0) (s .g0)) (Both s))
 
--- ---- the memo: two cells that say how many of the cells behind them are live and how many results were stored; then packed entries, 0 where
--- there is none
+-- ---- the memo: three cells that say how many of the cells behind them are live, how many results were stored in those, and at each how
+-- many-th variable results are held; then packed entries, 0 where there is none
 
 abbrev pub pack : ℕ → ℕ → ℕ → ℕ
 pack f g r = f * 4294967296 + g * 65536 + r
@@ -91,7 +91,7 @@ live memo = getD memo 0 0
 
 -- The live cells are there, and so few that a product of their number with one of 32 bits fits 64.
 pub record Shaped (memo : List ℕ) : Type 0 where
-  pub room : 2 + live memo ≤ length memo
+  pub room : 3 + live memo ≤ length memo
   pub few : live memo ≤ 1048576
 
 -- An entry is right: node r is the operation's result on f and g.
@@ -104,7 +104,7 @@ pub record Right (op : Operation) (t : Table) (f g r : ℕ) : Type 0 where
 -- Each entry in a live cell is right.
 pub record MemoRight (op : Operation) (memo : List ℕ) (t : Table) : Type 0 where
   pub shaped : Shaped memo
-  pub entries : (i f g r : ℕ) → i < live memo → getD memo (2 + i) 0 ≡ pack f g r → 2 ≤ f → g < 65536 → r < 65536 → Right op t f g r
+  pub entries : (i f g r : ℕ) → i < live memo → getD memo (3 + i) 0 ≡ pack f g r → 2 ≤ f → g < 65536 → r < 65536 → Right op t f g r
 
 -- A memo without entries is right for every operation and table.
 abbrev pub Empty : List ℕ → Type 0

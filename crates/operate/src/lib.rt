@@ -196,7 +196,7 @@ pub fn apply(
             node: r,
             count,
         },
-        Found::Nothing => match memo::memo_find(memo, f, g) {
+        Found::Nothing => match memo::memo_find(vars, memo, f, g) {
             Found::At(r) => Placed {
                 full: false,
                 node: r,
@@ -207,7 +207,7 @@ pub fn apply(
                 if p.full {
                     return p;
                 }
-                memo::memo_put(memo, f, g, p.node);
+                memo::memo_put(vars, memo, f, g, p.node);
                 p
             }
         },

@@ -1,18 +1,23 @@
 // The memo of the recursion: a hash table of results in the slice that is lent, in as much of it as there is use for. A result may stand in
 // any of the eight cells from its home on; where all of them hold others, one of those gives way. So no search is long, and what is forgotten
-// is what has not been asked for a while: it is worked out again.
+// is what has not been asked for a while. Where so much is forgotten that work is done again and again, only every step-th variable's results
+// are held, so that the work is bounded by the cells times 2 to the step, and not by the number of paths.
+use crate::top_of;
 use table::Found;
 use table::NodeNo;
 ghost use Prim.Native.Nat.{_+_, _≤_, _<_};
 ghost use lib.ListN.{length};
 ghost use Rattle.operate.specs.Inner.{Shaped, Empty, Tells, Follows, Stores};
 
-// The head: how many cells are live, and how many results were stored in them. Behind it are the cells.
+// The head: how many cells are live, how many results were stored in them, and at each how many-th variable results are held. Behind it are
+// the cells.
 const LIVE: usize = 0;
 
 const STORED: usize = 1;
 
-const HEAD: usize = 2;
+const STEP: usize = 2;
+
+const HEAD: usize = 3;
 
 // The lesser of two numbers.
 fn lesser(a: usize, b: usize) -> usize
@@ -44,7 +49,7 @@ fn home_of(m: usize, f: NodeNo, g: NodeNo) -> usize
 
 // The first cell from `from` on that is empty or has the key; `to` where none before it is.
 fn probe(memo: &[u64], from: usize, to: usize, key: u64) -> usize
-    requires { ⌜ 2 + to ≤ length (now memo) ⌝ }
+    requires { ⌜ 3 + to ≤ length (now memo) ⌝ }
 {
     let mut c = from;
     while c < to {
@@ -59,7 +64,7 @@ fn probe(memo: &[u64], from: usize, to: usize, key: u64) -> usize
 
 // The cell of f and g among n live ones: the first of the eight from their home on that is empty or has their key; n where none is.
 fn cell_of(memo: &[u64], n: usize, f: NodeNo, g: NodeNo) -> usize
-    requires { ⌜ (2 + n ≤ length (now memo)) × (n ≤ 1048576) ⌝ }
+    requires { ⌜ (3 + n ≤ length (now memo)) × (n ≤ 1048576) ⌝ }
 {
     let key = (f.0 as u64) * 65536 + (g.0 as u64);
     let home = home_of(n, f, g);
@@ -71,11 +76,25 @@ fn cell_of(memo: &[u64], n: usize, f: NodeNo, g: NodeNo) -> usize
     n
 }
 
+// Whether results are held for the first variable of f and g.
+fn is_held(vars: &[u8], step: u64, f: NodeNo, g: NodeNo) -> bool
+    requires { ⌜ (f .0 < length (now vars)) × (g .0 < length (now vars)) ⌝ }
+{
+    if step <= 1 {
+        return true;
+    }
+    let x = top_of(vars, f, g) as u64;
+    x % step == 0
+}
+
 // The result stored for f and g.
-pub fn memo_find(memo: &[u64], f: NodeNo, g: NodeNo) -> Found
-    requires { ⌜ Shaped (now memo) ⌝ }
+pub fn memo_find(vars: &[u8], memo: &[u64], f: NodeNo, g: NodeNo) -> Found
+    requires { ⌜ Shaped (now memo) × (f .0 < length (now vars)) × (g .0 < length (now vars)) ⌝ }
     ensures { λ r. ⌜ Tells (now (memo .entry)) (f .0) (g .0) r ⌝ }
 {
+    if !is_held(vars, memo[STEP], f, g) {
+        return Found::Nothing;
+    }
     let n = memo[LIVE] as usize;
     let c = cell_of(memo, n, f, g);
     if n <= c {
@@ -91,8 +110,8 @@ pub fn memo_find(memo: &[u64], f: NodeNo, g: NodeNo) -> Found
 }
 
 // Makes n cells live and empty.
-fn restart(memo: &mut [u64], n: usize)
-    requires { ⌜ (2 + n ≤ length (now memo)) × (n ≤ 1048576) ⌝ }
+fn restart(memo: &mut [u64], n: usize, step: u64)
+    requires { ⌜ (3 + n ≤ length (now memo)) × (n ≤ 1048576) ⌝ }
     ensures { λ _. ⌜ Empty (now (memo .exit)) ⌝ }
 {
     let end = HEAD + n;
@@ -102,28 +121,36 @@ fn restart(memo: &mut [u64], n: usize)
         i += 1;
     }
     memo[LIVE] = n as u64;
+    memo[STEP] = step;
 }
 
 // Where half of the cells may be used and there are more: begins anew with eight times as many, so that what is lost costs less than what
-// comes.
+// comes. With all of the slice in use, and four times as many results stored as there are cells: begins anew with the next step.
 fn make_room(memo: &mut [u64])
     requires { ⌜ Shaped (now memo) ⌝ }
     ensures { λ _. ⌜ Follows (now (memo .entry)) (now (memo .exit)) ⌝ }
 {
     let n = memo[LIVE] as usize;
-    if memo[STORED] < (n / 2) as u64 {
+    let stored = memo[STORED];
+    if stored < (n / 2) as u64 {
         return;
     }
     let all = lesser(memo.len() - HEAD, 1048576);
     if n < all {
         let more = lesser(8 * n + 512, all);
-        restart(memo, more);
+        restart(memo, more, 1);
+        return;
     }
+    if stored < (4 * n) as u64 {
+        return;
+    }
+    let step = memo[STEP] % 64 + 1;
+    restart(memo, n, step);
 }
 
 // The cell for a new result among n live ones: that of f and g, else one of the eight in turn.
 fn cell_for(memo: &[u64], n: usize, f: NodeNo, g: NodeNo) -> usize
-    requires { ⌜ (2 + n ≤ length (now memo)) × (n ≤ 1048576) ⌝ }
+    requires { ⌜ (3 + n ≤ length (now memo)) × (n ≤ 1048576) ⌝ }
 {
     let c = cell_of(memo, n, f, g);
     if c < n {
@@ -133,10 +160,13 @@ fn cell_for(memo: &[u64], n: usize, f: NodeNo, g: NodeNo) -> usize
 }
 
 // Stores the result for f and g.
-pub fn memo_put(memo: &mut [u64], f: NodeNo, g: NodeNo, r: NodeNo)
-    requires { ⌜ Shaped (now memo) ⌝ }
+pub fn memo_put(vars: &[u8], memo: &mut [u64], f: NodeNo, g: NodeNo, r: NodeNo)
+    requires { ⌜ Shaped (now memo) × (f .0 < length (now vars)) × (g .0 < length (now vars)) ⌝ }
     ensures { λ _. ⌜ Stores (now (memo .entry)) (f .0) (g .0) (r .0) (now (memo .exit)) ⌝ }
 {
+    if !is_held(vars, memo[STEP], f, g) {
+        return;
+    }
     make_room(memo);
     let n = memo[LIVE] as usize;
     let c = cell_for(memo, n, f, g);
@@ -152,8 +182,19 @@ pub fn memo_put(memo: &mut [u64], f: NodeNo, g: NodeNo, r: NodeNo)
 
 // Empties the memo: no cell is live.
 pub fn clear_memo(memo: &mut [u64])
-    requires { ⌜ 2 ≤ length (now memo) ⌝ }
+    requires { ⌜ 3 ≤ length (now memo) ⌝ }
     ensures { λ _. ⌜ Empty (now (memo .exit)) ⌝ }
 {
+    memo[STEP] = 1;
     memo[LIVE] = 0;
+}
+
+// For the next operation: empties a memo that has forgotten results, so that what one operation asked for is no burden to the next.
+pub fn clear_forgetful(memo: &mut [u64])
+    requires { ⌜ Shaped (now memo) ⌝ }
+    ensures { λ _. ⌜ Follows (now (memo .entry)) (now (memo .exit)) ⌝ }
+{
+    if 1 < memo[STEP] || memo[LIVE] < memo[STORED] {
+        clear_memo(memo);
+    }
 }

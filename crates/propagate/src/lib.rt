@@ -63,6 +63,7 @@ fn apply_touching(
             count,
         };
     }
+    operate::memo::clear_forgetful(memo);
     operate::apply(vars, lows, highs, heads, links, memo, count, op, f, g)
 }
 

@@ -94,7 +94,7 @@ fn judged(
         × (now heads ≡ replicate (2 * length (now vars)) 0)
         × (now links ≡ replicate (length (now vars)) 0)
         × (now memo ≡ replicate (length (now memo)) 0)
-        × (2 ≤ length (now memo))
+        × (3 ≤ length (now memo))
         × OneOperand op (g .0) ⌝ }
     ensures { λ r. ⌜ madeOf (now (vars .exit)) (now (lows .exit)) (now (highs .exit)) r
         ≡ operation op (now (vars .entry)) (now (lows .entry)) (now (highs .entry)) count (f .0) (g .0) ⌝ }

@@ -112,16 +112,20 @@ module _ {t : ℕ} (c : apply-lts.After-known-told (apply-callees t) (apply-at t
   abbrev start-from-apply-return-2 : apply-lts.Start (apply-callees t) (apply-at t) apply.Post
   start-from-apply-return-2 = start-from-apply-terminal terminal-from-apply-return-2
 
-module _ {t : ℕ} (c : apply-lts.After-memo-find-arg (apply-callees t) (apply-at t) apply.Post) where
+module _ {t : ℕ} (c : apply-lts.After-memo-find-arg2 (apply-callees t) (apply-at t) apply.Post) where
   abbrev start-from-apply-memo-find-call : apply-lts.Start (apply-callees t) (apply-at t) apply.Post
-  start-from-apply-memo-find-call = start-from-apply-enum-told (c .before)
+  start-from-apply-memo-find-call = start-from-apply-enum-told (c .before .before)
+
+module _ {t : ℕ} (c : apply-lts.After-memo-find (apply-callees t) (apply-at t) apply.Post) where
+  abbrev enum-told-from-apply-memo-find : apply-lts.After-enum-told (apply-callees t) (apply-at t) apply.Post
+  enum-told-from-apply-memo-find = c .before .before .before
 
 module _ {t : ℕ} (c : apply-lts.After-known-told2 (apply-callees t) (apply-at t) apply.Post) where
   abbrev memo-find-from-apply-return-3 : apply-lts.After-memo-find (apply-callees t) (apply-at t) apply.Post
   memo-find-from-apply-return-3 = c .before .before .before
 
   abbrev enum-told-from-apply-return-3 : apply-lts.After-enum-told (apply-callees t) (apply-at t) apply.Post
-  enum-told-from-apply-return-3 = memo-find-from-apply-return-3 .before .before
+  enum-told-from-apply-return-3 = enum-told-from-apply-memo-find memo-find-from-apply-return-3
 
   abbrev start-from-apply-return-3 : apply-lts.Start (apply-callees t) (apply-at t) apply.Post
   start-from-apply-return-3 = start-from-apply-enum-told enum-told-from-apply-return-3
@@ -131,7 +135,7 @@ module _ {t : ℕ} (c : apply-lts.After-descend-arg6 (apply-callees t) (apply-at
   memo-find-from-apply-descend-call = c .before .before .before .before .before .before .before .before
 
   abbrev enum-told-from-apply-descend-call : apply-lts.After-enum-told (apply-callees t) (apply-at t) apply.Post
-  enum-told-from-apply-descend-call = memo-find-from-apply-descend-call .before .before
+  enum-told-from-apply-descend-call = enum-told-from-apply-memo-find memo-find-from-apply-descend-call
 
   abbrev start-from-apply-descend-call : apply-lts.Start (apply-callees t) (apply-at t) apply.Post
   start-from-apply-descend-call = start-from-apply-enum-told enum-told-from-apply-descend-call
@@ -141,7 +145,7 @@ module _ {t : ℕ} (c : apply-lts.After-descend (apply-callees t) (apply-at t) a
   memo-find-from-apply-descend = c .before .before .before .before .before .before .before .before .before
 
   abbrev start-from-apply-descend : apply-lts.Start (apply-callees t) (apply-at t) apply.Post
-  start-from-apply-descend = start-from-apply-enum-told (memo-find-from-apply-descend .before .before)
+  start-from-apply-descend = start-from-apply-enum-told (enum-told-from-apply-memo-find memo-find-from-apply-descend)
 
 module _ {t : ℕ} (c : apply-lts.Else1 (apply-callees t) (apply-at t) apply.Post) where
   abbrev descend-from-apply-else1 : apply-lts.After-descend (apply-callees t) (apply-at t) apply.Post
@@ -151,13 +155,13 @@ module _ {t : ℕ} (c : apply-lts.Then1 (apply-callees t) (apply-at t) apply.Pos
   abbrev descend-from-apply-then1 : apply-lts.After-descend (apply-callees t) (apply-at t) apply.Post
   descend-from-apply-then1 = c .before .before .before .before .before .before .before .before .before .before .before .before .before
 
-module _ {t : ℕ} (c : apply-lts.After-memo-put-arg (apply-callees t) (apply-at t) apply.Post) where
+module _ {t : ℕ} (c : apply-lts.After-memo-put-arg2 (apply-callees t) (apply-at t) apply.Post) where
   abbrev descend-from-apply-memo-put-call : apply-lts.After-descend (apply-callees t) (apply-at t) apply.Post
-  descend-from-apply-memo-put-call = descend-from-apply-else1 (c .before)
+  descend-from-apply-memo-put-call = descend-from-apply-else1 (c .before .before)
 
 module _ {t : ℕ} (c : apply-lts.After-slice-known13 (apply-callees t) (apply-at t) apply.Post) where
   abbrev else1-from-apply-return-4 : apply-lts.Else1 (apply-callees t) (apply-at t) apply.Post
-  else1-from-apply-return-4 = c .before .before .before .before
+  else1-from-apply-return-4 = c .before .before .before .before .before
 
   abbrev descend-from-apply-return-4 : apply-lts.After-descend (apply-callees t) (apply-at t) apply.Post
   descend-from-apply-return-4 = descend-from-apply-else1 else1-from-apply-return-4
@@ -335,6 +339,12 @@ module _ {t : ℕ} (a : apply-lts.After-descend (apply-callees t) (apply-at t) a
   a-is : a-out ≡ applied (a-table a-start) (a-op a-start) (a-f a-start) (a-g a-start)
   a-is = a .descend .ensures .0
 
+  a-asks : Shaped a-memo₁ × (a-f a-start < length (a .descend .last .0)) × (a-g a-start < length (a .descend .last .0))
+  a-asks =
+      let k : length (a .descend .last .0) ≡ length (a-table a-start .vars) = a .descend .kept .0 in
+      let h = columns-hold (a-op a-start) (a-memo a-start) (a-table a-start) (a-f a-start) (a-g a-start) (a-ready a-start) in
+      (a .descend .ensures .1 .shaped, omega (arith, k, h .0), omega (arith, k, h .1))
+
 -- where descend starts
 module _ {t : ℕ} (s : descend-lts.Start (descend-callees t) (descend-at t) descend.Post) where
   abbrev d-table : Table
@@ -456,7 +466,9 @@ apply-enum-told t c =
 
 apply-memo-find-requires : (t : ℕ) → apply-lts.Need-memo-find-requires (apply-callees t) (apply-at t) apply.Post
 apply-memo-find-requires t c κs =
-    let s = start-from-apply-memo-find-call c in a-ready s .right .shaped
+    let s = start-from-apply-memo-find-call c in
+    let h = columns-hold (a-op s) (a-memo s) (a-table s) (a-f s) (a-g s) (a-ready s) in
+    (a-ready s .right .shaped, h .0, h .1)
 
 apply-enum-known-r-2 : (t : ℕ) → apply-lts.Need-enum-known-r-2 (apply-callees t) (apply-at t) apply.Post
 apply-enum-known-r-2 t c =
@@ -502,7 +514,7 @@ apply-returns t c =
 
 apply-memo-put-requires : (t : ℕ) → apply-lts.Need-memo-put-requires (apply-callees t) (apply-at t) apply.Post
 apply-memo-put-requires t c κs =
-    descend-from-apply-memo-put-call c .descend .ensures .1 .shaped
+    a-asks (descend-from-apply-memo-put-call c)
 
 apply-returns-2 : (t : ℕ) → apply-lts.Need-returns-2 (apply-callees t) (apply-at t) apply.Post
 apply-returns-2 t c =
@@ -513,35 +525,39 @@ apply-same-length-7 : (t : ℕ) → apply-lts.Need-same-length-7 (apply-callees 
 apply-same-length-7 t c =
     search needs
 
+apply-same-length-8 : (t : ℕ) → apply-lts.Need-same-length-8 (apply-callees t) (apply-at t) apply.Post
+apply-same-length-8 t c =
+    search needs
+
 apply-returns-3 : (t : ℕ) → apply-lts.Need-returns-3 (apply-callees t) (apply-at t) apply.Post
 apply-returns-3 t c =
     let s = start-from-apply-return-3 c in
     let told = subst (Tells (a-memo s) (a-f s) (a-g s)) (c .before .r2 .given .1) (memo-find-from-apply-return-3 c .memo-find .ensures) in
     (known-outcome (a-op s) (a-memo s) (a-table s) (a-f s) (a-g s) (a-ready s) _ (told (a-op s) (a-table s) (a-ready s .right) (a-two s (nothing (enum-told-from-apply-return-3 c)))), a-ready s .right)
 
-apply-same-length-8 : (t : ℕ) → apply-lts.Need-same-length-8 (apply-callees t) (apply-at t) apply.Post
-apply-same-length-8 t c =
-    descend-from-apply-return-4 c .descend .kept .0
-
 apply-same-length-9 : (t : ℕ) → apply-lts.Need-same-length-9 (apply-callees t) (apply-at t) apply.Post
 apply-same-length-9 t c =
-    descend-from-apply-return-4 c .descend .kept .1 .0
+    descend-from-apply-return-4 c .descend .kept .0
 
 apply-same-length-10 : (t : ℕ) → apply-lts.Need-same-length-10 (apply-callees t) (apply-at t) apply.Post
 apply-same-length-10 t c =
-    descend-from-apply-return-4 c .descend .kept .1 .1 .0
+    descend-from-apply-return-4 c .descend .kept .1 .0
 
 apply-same-length-11 : (t : ℕ) → apply-lts.Need-same-length-11 (apply-callees t) (apply-at t) apply.Post
 apply-same-length-11 t c =
-    descend-from-apply-return-4 c .descend .kept .1 .1 .1 .0
+    descend-from-apply-return-4 c .descend .kept .1 .1 .0
 
 apply-same-length-12 : (t : ℕ) → apply-lts.Need-same-length-12 (apply-callees t) (apply-at t) apply.Post
 apply-same-length-12 t c =
-    descend-from-apply-return-4 c .descend .kept .1 .1 .1 .1 .0
+    descend-from-apply-return-4 c .descend .kept .1 .1 .1 .0
 
 apply-same-length-13 : (t : ℕ) → apply-lts.Need-same-length-13 (apply-callees t) (apply-at t) apply.Post
 apply-same-length-13 t c =
-    c .before .before .memo-put .kept .0 ∙ descend-from-apply-return-4 c .descend .kept .1 .1 .1 .1 .1 .0
+    descend-from-apply-return-4 c .descend .kept .1 .1 .1 .1 .0
+
+apply-same-length-14 : (t : ℕ) → apply-lts.Need-same-length-14 (apply-callees t) (apply-at t) apply.Post
+apply-same-length-14 t c =
+    c .before .before .memo-put .kept .1 .0 ∙ descend-from-apply-return-4 c .descend .kept .1 .1 .1 .1 .1 .0
 
 apply-returns-4 : (t : ℕ) → apply-lts.Need-returns-4 (apply-callees t) (apply-at t) apply.Post
 apply-returns-4 t c =
@@ -767,13 +783,14 @@ pub +apply+descend+join-spec : {M : Type 1} → statement M
     (apply-memo-put-requires t)
     (apply-returns-2 t)
     (apply-same-length-7 t)
-    (apply-returns-3 t)
     (apply-same-length-8 t)
+    (apply-returns-3 t)
     (apply-same-length-9 t)
     (apply-same-length-10 t)
     (apply-same-length-11 t)
     (apply-same-length-12 t)
     (apply-same-length-13 t)
+    (apply-same-length-14 t)
     (apply-returns-4 t))
     (λ t. descend-lts.spec (descend-callees t)
     (descend-at t)

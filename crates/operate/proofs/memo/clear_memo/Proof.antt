@@ -10,13 +10,16 @@ use Rattle.operate.proofs.memo.clear_memo.Tie as tie
 slice-write-memo : tie.Need-slice-write-memo
 slice-write-memo c = search needs
 
+slice-write-memo-2 : tie.Need-slice-write-memo-2
+slice-write-memo-2 c = omega (arith, length-set (c .args .memo .now) 2 1, c .pre)
+
 same-length : tie.Need-same-length
 same-length c = search needs
 
 returns : tie.Need-returns
 returns c =
-    let memo = c .args .memo .now in
-    memo-none (set memo 0 0) (omega (arith, length-set memo 0 0, c .pre)) (getD-set-same memo 0 0 0 (omega (arith, c .pre)))
+    let memo = set (c .args .memo .now) 2 1 in
+    memo-none (set memo 0 0) (omega (arith, length-set memo 0 0, length-set (c .args .memo .now) 2 1, c .pre)) (getD-set-same memo 0 0 0 (omega (arith, length-set (c .args .memo .now) 2 1, c .pre)))
 
 pub clear-memo-spec : {M : Type 1} → statement M
-clear-memo-spec = tie.close (tie.spec slice-write-memo same-length returns)
+clear-memo-spec = tie.close (tie.spec slice-write-memo slice-write-memo-2 same-length returns)

@@ -7,8 +7,8 @@ use Rattle.operate.proofs.memo.make_room.Tie as tie
 slice-read-n : tie.Need-slice-read-n
 slice-read-n c = search needs
 
-slice-read-if1 : tie.Need-slice-read-if1
-slice-read-if1 c = search needs
+slice-read-stored : tie.Need-slice-read-stored
+slice-read-stored c = search needs
 
 returns : tie.Need-returns
 returns c = search needs
@@ -37,15 +37,33 @@ same-length c = search needs
 returns-2 : tie.Need-returns-2
 returns-2 c = empty-follows _ _ (c .before .before .restart .ensures)
 
+mul-if3 : tie.Need-mul-if3
+mul-if3 c = search needs
+
 returns-3 : tie.Need-returns-3
 returns-3 c = search needs
+
+slice-read-step : tie.Need-slice-read-step
+slice-read-step c = search needs
+
+add-step : tie.Need-add-step
+add-step c = search needs
+
+restart-requires-2 : tie.Need-restart-requires-2
+restart-requires-2 c κs = search needs
+
+same-length-2 : tie.Need-same-length-2
+same-length-2 c = search needs
+
+returns-4 : tie.Need-returns-4
+returns-4 c = empty-follows _ _ (c .before .before .restart2 .ensures)
 
 pub make-room-spec : {M : Type 1} → statement M
 make-room-spec =
     tie.close
     (tie.spec
     slice-read-n
-    slice-read-if1
+    slice-read-stored
     returns
     sub-lesser
     lesser-requires
@@ -55,4 +73,10 @@ make-room-spec =
     restart-requires
     same-length
     returns-2
-    returns-3)
+    mul-if3
+    returns-3
+    slice-read-step
+    add-step
+    restart-requires-2
+    same-length-2
+    returns-4)

@@ -6,6 +6,15 @@ use Rattle.operate.proofs.RightMemo.{memo-stored}
 use Rattle.operate.proofs.memo.memo_put.Statement.{statement}
 use Rattle.operate.proofs.memo.memo_put.Tie as tie
 
+slice-read-is-held : tie.Need-slice-read-is-held
+slice-read-is-held c = search needs
+
+is-held-requires : tie.Need-is-held-requires
+is-held-requires c κs = search needs
+
+returns : tie.Need-returns
+returns c = λ op t right _. right
+
 make-room-requires : tie.Need-make-room-requires
 make-room-requires c κs = search needs
 
@@ -21,34 +30,34 @@ same-length c = search needs
 -- The ways back, written by ways.py: TO-from-FROM leads from the place FROM of the code to the place TO before it.
 module _ (c : tie.After-make-room) where
   abbrev start-from-make-room : tie.Start
-  start-from-make-room = c .before .before .before
+  start-from-make-room = c .before .before .before .before .before .before .before
 
 module _ (c : tie.After-cell-for) where
   abbrev make-room-from-cell-for : tie.After-make-room
   make-room-from-cell-for = c .before .before .before .before .before
 
-module _ (c : tie.Then1) where
-  abbrev make-room-from-then1 : tie.After-make-room
-  make-room-from-then1 = make-room-from-cell-for (c .before)
+module _ (c : tie.Then2) where
+  abbrev make-room-from-then2 : tie.After-make-room
+  make-room-from-then2 = make-room-from-cell-for (c .before)
 
 module _ (c : tie.After-struct-known3) where
-  abbrev wrapping-add-u64-from-return-2 : tie.After-wrapping-add-u64
-  wrapping-add-u64-from-return-2 = c .before .before .before
+  abbrev wrapping-add-u64-from-return-3 : tie.After-wrapping-add-u64
+  wrapping-add-u64-from-return-3 = c .before .before .before
 
-  abbrev else1-from-return-2 : tie.Else1
-  else1-from-return-2 = wrapping-add-u64-from-return-2 .before .before
+  abbrev else2-from-return-3 : tie.Else2
+  else2-from-return-3 = wrapping-add-u64-from-return-3 .before .before
 
-  abbrev cell-for-from-return-2 : tie.After-cell-for
-  cell-for-from-return-2 = else1-from-return-2 .before
+  abbrev cell-for-from-return-3 : tie.After-cell-for
+  cell-for-from-return-3 = else2-from-return-3 .before
 
-  abbrev make-room-from-return-2 : tie.After-make-room
-  make-room-from-return-2 = make-room-from-cell-for cell-for-from-return-2
+  abbrev make-room-from-return-3 : tie.After-make-room
+  make-room-from-return-3 = make-room-from-cell-for cell-for-from-return-3
 
-  abbrev start-from-return-2 : tie.Start
-  start-from-return-2 = start-from-make-room make-room-from-return-2
+  abbrev start-from-return-3 : tie.Start
+  start-from-return-3 = start-from-make-room make-room-from-return-3
 
-returns : tie.Need-returns
-returns c = λ op t right _. make-room-from-then1 c .make-room .ensures .right op t right
+returns-2 : tie.Need-returns-2
+returns-2 c = λ op t right _. make-room-from-then2 c .make-room .ensures .right op t right
 
 slice-read-wrapping-add-u64 : tie.Need-slice-read-wrapping-add-u64
 slice-read-wrapping-add-u64 c = search needs
@@ -88,27 +97,30 @@ mul-memo-3 c = search needs
 
 slice-write-memo-2 : tie.Need-slice-write-memo-2
 slice-write-memo-2 c =
-    let m = make-room-from-return-2 c .make-room in
-    omega (arith, length-set (m .last .0) 1 (wrapping-add-u64-from-return-2 c .wrapping-add-u64 .result), m .ensures .shaped .room, else1-from-return-2 c .if1 .left)
+    let m = make-room-from-return-3 c .make-room in
+    omega (arith, length-set (m .last .0) 1 (wrapping-add-u64-from-return-3 c .wrapping-add-u64 .result), m .ensures .shaped .room, else2-from-return-3 c .if2 .left)
 
 same-length-2 : tie.Need-same-length-2
 same-length-2 c = search needs
 
-returns-2 : tie.Need-returns-2
-returns-2 c =
-    let s = start-from-return-2 c in
-    let m = make-room-from-return-2 c .make-room in
-    λ op t right entry. memo-stored op (m .last .0) t (m .ensures .right op t right) (wrapping-add-u64-from-return-2 c .wrapping-add-u64 .result) (cell-for-from-return-2 c .cell-for .result) (s .args .f .0) (s .args .g .0) (s .args .r .0) (else1-from-return-2 c .if1 .left) (omega (arith, c .before .struct-known2 .given)) (omega (arith, c .struct-known3 .given)) entry
+returns-3 : tie.Need-returns-3
+returns-3 c =
+    let s = start-from-return-3 c in
+    let m = make-room-from-return-3 c .make-room in
+    λ op t right entry. memo-stored op (m .last .0) t (m .ensures .right op t right) (wrapping-add-u64-from-return-3 c .wrapping-add-u64 .result) (cell-for-from-return-3 c .cell-for .result) (s .args .f .0) (s .args .g .0) (s .args .r .0) (else2-from-return-3 c .if2 .left) (omega (arith, c .before .struct-known2 .given)) (omega (arith, c .struct-known3 .given)) entry
 
 pub memo-put-spec : {M : Type 1} → statement M
 memo-put-spec =
     tie.close
     (tie.spec
+    slice-read-is-held
+    is-held-requires
+    returns
     make-room-requires
     slice-read-n
     cell-for-requires
     same-length
-    returns
+    returns-2
     slice-read-wrapping-add-u64
     wrapping-add-u64-requires
     slice-write-memo
@@ -123,4 +135,4 @@ memo-put-spec =
     mul-memo-3
     slice-write-memo-2
     same-length-2
-    returns-2)
+    returns-3)

@@ -10,10 +10,10 @@ use Rattle.operate.proofs.memo.restart.Statement.{statement}
 use Rattle.operate.proofs.memo.restart.Tie as tie
 
 abbrev Inv-loop : tie.InvT-loop
-Inv-loop memo₀ n end i₀ memo i = (length memo ≡ length memo₀) × Cleared memo i
+Inv-loop memo₀ n step end i₀ memo i = (length memo ≡ length memo₀) × Cleared memo i
 
 abbrev μ-loop : tie.MeasureT-loop
-μ-loop memo₀ n end i₀ memo i = end - i
+μ-loop memo₀ n step end i₀ memo i = end - i
 
 add-end : tie.Need-add-end Inv-loop μ-loop
 add-end c = search needs
@@ -42,6 +42,10 @@ loop-again c =
 slice-write-memo-2 : tie.Need-slice-write-memo-2 Inv-loop μ-loop
 slice-write-memo-2 c = search needs
 
+slice-write-memo-3 : tie.Need-slice-write-memo-3 Inv-loop μ-loop
+slice-write-memo-3 c =
+    let w = c .before .loop in let s = c .before .before in omega (arith, length-set (w .memo) 0 (s .args .n), w .inv .0, s .pre .0)
+
 same-length : tie.Need-same-length Inv-loop μ-loop
 same-length c = search needs
 
@@ -49,7 +53,7 @@ returns : tie.Need-returns Inv-loop μ-loop
 returns c =
     let w = c .before .loop in
     let s = c .before .before in
-    memo-zeros (w .memo) (s .args .n) (omega (arith, w .inv .0, s .pre .0)) (s .pre .1) (λ k p. w .inv .1 k (omega (arith, c .loop-test .left)))
+    memo-zeros (w .memo) (s .args .n) (s .args .step) (omega (arith, w .inv .0, s .pre .0)) (s .pre .1) (λ k p. w .inv .1 k (omega (arith, c .loop-test .left)))
 
 pub restart-spec : {M : Type 1} → statement M
 restart-spec =
@@ -65,5 +69,6 @@ restart-spec =
     loop-less
     loop-again
     slice-write-memo-2
+    slice-write-memo-3
     same-length
     returns)
