@@ -22,20 +22,21 @@ use Rattle.single.specs.Single.{operation}
 use Rattle.verdict.specs.Check.{State, next, judged, step, check}
 use Rattle.verdict.specs.Run.{Meant, Taken, lineOf, Reached, Refutation}
 use Rattle.verdict.specs.Satisfies.{clausesOf}
-use Rattle.verdict.specs.MetFirst.{metBy, sayMet}
+use Rattle.verdict.specs.MetFirst.{no-conflict, metBy, sayMet}
 use Rattle.verdict.specs.Cases.{Gives, GivesAll, checked as row, prints, bytes, A-formula, A-proof, caseTable, numberTable}
 use Rattle.verdict.proofs.Cases as Tables
 use Rattle.verdict.proofs.Steps as Steps
 use Rattle.verdict.proofs.MetFirst as MetFirst
 use Rattle.demands.specs.Calls.{nodesIn}
 use Rattle.demands.specs.Words.{Conflict}
-use Rattle.demands.specs.Leaving.{Lent, checked, Fits, places, ZeroLine}
+use Rattle.demands.specs.Leaving.{Lent, checked, Fits, places, ZeroLine, AtLine}
 use Rattle.demands.specs.Full.{Wants, AtClause, AtRecord}
 use Rattle.demands.proofs.Words as Words
 use Rattle.demands.proofs.Words.{GoesOn}
 use Rattle.demands.proofs.Ending as Ending
 use Rattle.demands.proofs.NoRoom as NoRoom
 use Rattle.demands.proofs.ZeroLines as ZeroLines
+use Rattle.demands.proofs.NotShown as NotShown
 use Rattle.demands.proofs.Rows as Rows
 use Rattle.demands.proofs.Rows.{nodeRecords, rupLines}
 
@@ -62,6 +63,10 @@ step-exactly = Steps.step-exactly
 -- "then 19 or 23, the one met first": a line is judged as its diagrams are made, in 01's making order.
 pub met-first : (n s : ℕ) (st : State) (rule : Rule) (g : ℕ) → judged s st g (lineOf n st rule g) ≡ sayMet st g (lineOf n st rule g) (metBy n s st rule g)
 met-first = MetFirst.met-first
+
+-- "19: not shown: no conflict": of the call, the line at the place given; its propagation ends without conflict before a diagram finds no room.
+pub nineteen-only : (i : Lent) → checked i .number ≡ 19 → AtLine i (checked i) no-conflict
+nineteen-only = NotShown.nineteen-only
 
 -- "8 and 23 are given only where a node not in the table is to be placed and the count equals the size."
 pub eight-only : (i : Lent) → checked i .number ≡ 8 → AtClause (places i) (i .text) (checked i .place)

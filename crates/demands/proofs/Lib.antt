@@ -8,6 +8,7 @@ pub mod NoRoom
 pub mod Rows
 pub mod Places
 pub mod ZeroLines
+pub mod NotShown
 pub mod Demand1
 pub mod Demand2
 pub mod Demand3

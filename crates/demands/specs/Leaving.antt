@@ -10,10 +10,13 @@ use Rattle.meaning.specs.Diagram.{Assignment}
 use Rattle.meaning.specs.Operations.{Literal, clauseValue}
 use Rattle.table.specs.Columns.{Columns}
 use Rattle.dimacs.specs.Clauses.{formula}
-use Rattle.records.specs.declared.Record.the-variants.{NoRecord}
+use Rattle.records.specs.declared.EntryNo.{EntryNo}
+use Rattle.records.specs.declared.Rule.{Rule}
+use Rattle.records.specs.declared.Record.the-variants.{ProofLine, NoRecord}
 use Rattle.records.specs.Records.{recordAt}
-use Rattle.verdict.specs.Check.{State, stop, step, Verdict, Outcome, lentFits, zeros, outcome, check}
+use Rattle.verdict.specs.Check.{State, stop, entryNode, step, Verdict, Outcome, lentFits, zeros, outcome, check}
 use Rattle.verdict.specs.Run.{Function, Meant, lineFunctions, follows, Reached, Ended}
+use Rattle.verdict.specs.MetFirst.{Met, metBy}
 use Rattle.verdict.specs.Satisfies.{clausesOf, readToEnd}
 use Rattle.demands.specs.Calls.{valueAt, inGoodOrder}
 
@@ -111,3 +114,18 @@ pub record ZeroLine (c : ℕ) (st : State) : Type 0 where
   pub line : ℕ
   pub accepted : line < st .lines
   pub is-zero : getD (st .members) (c + line) 0 ≡ 0
+
+-- ---- a line that is not shown
+
+-- The line at which the run ends, all records before it taken, and what is met first as its diagrams are made.
+pub record AtLine (i : Lent) (o : Outcome) (what : Met) : Type 0 where
+  pub n : ℕ
+  pub state : State
+  pub at : ℕ
+  pub meant : Meant
+  pub reached : Reached (places i) (i .text) (i .proof) n state at meant
+  pub rule : Rule
+  pub root : EntryNo
+  pub here : recordAt (i .proof) at ≡ ProofLine rule root
+  pub meets : metBy n (places i) state rule (entryNode state (root .0)) ≡ what
+  pub place : o .place ≡ at
