@@ -1,4 +1,4 @@
-//! A call fits a thread of 1.25 MiB, and threads may call at the same time.
+//! A check fits a thread of 1.75 MiB, a single call one of 1.25 MiB, and threads may call at the same time.
 
 use cablesalak::{check, report, Node, NodeNo, Table, Variables, Workspace};
 use std::thread;
@@ -6,8 +6,8 @@ use std::thread;
 const FORMULA: &[u8] = b"p cnf 2 4\n1 2 0\n-1 2 0\n1 -2 0\n-1 -2 0\n";
 const PROOF: &[u8] = b"\x4E\x02\0\0\x01\0\x52\x02\0\x52\0\0\x45";
 
-/// Parity over 64 variables, the deepest diagram: its negation and a cofactor of it by itself; then a check.
-fn calls() {
+/// Parity over 64 variables, the deepest diagram: its negation and a cofactor of it by itself.
+fn single_calls() {
     let mut table = parity();
     let odd = NodeNo(table.count() as u16 - 1);
     let even = table.negation(odd).unwrap();
@@ -15,9 +15,17 @@ fn calls() {
     assert_eq!(table.cofactor(odd, odd), Ok(NodeNo::ONE));
     assert_eq!(table.evaluate(even, Variables::of(&[1, 64]).unwrap()), Ok(true));
     assert_eq!(table.cofactor_literals(odd, Variables::NONE, Variables(u64::MAX)), Ok(NodeNo::ZERO));
+}
+
+/// The check with the largest table, with the program's and a proof that is long for it, and the report.
+fn checks() {
     let mut workspace = Workspace::new(65_536).unwrap();
     assert_eq!(check(&mut workspace, FORMULA, PROOF).to_string(), "0 12 2 1");
-    assert_eq!(report(Some(FORMULA), Some(PROOF)).status(), 0);
+    let (line, last) = PROOF.split_at(9);
+    let long = [&line.repeat(1_000), last].concat();
+    let mut workspace = Workspace::new(4_096).unwrap();
+    assert_eq!(check(&mut workspace, FORMULA, &long).lines, 1_001);
+    assert_eq!(report(Some(FORMULA), Some(&long)).status(), 0);
 }
 
 /// Whether an odd number of variables is true, as the last node.
@@ -33,8 +41,9 @@ fn parity() -> Table {
 }
 
 #[test]
-fn threads_of_a_mebibyte() {
-    let threads = [(); 4].map(|()| thread::Builder::new().stack_size(5 << 18).spawn(calls).unwrap());
+fn threads_of_that_size() {
+    let run = |calls: fn(), size| thread::Builder::new().stack_size(size).spawn(calls).unwrap();
+    let threads = [run(single_calls, 5 << 18), run(single_calls, 5 << 18), run(checks, 7 << 18), run(checks, 7 << 18)];
     assert!(threads.map(|thread| thread.join()).iter().all(Result::is_ok));
 }
 
