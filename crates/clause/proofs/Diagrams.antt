@@ -10,6 +10,7 @@ use Rattle.meaning.specs.Words.{inWord}
 use Rattle.meaning.proofs.Booleans.{t≢f, both-ways, or-cases, or-left, or-right, and-commutes}
 use Rattle.meaning.proofs.Values.{diagram-is}
 use Rattle.meaning.proofs.Clauses.{clauseFrom, clauseFrom-reduced, clauseFrom-true, true-clauseFrom, clause-tautology}
+use Rattle.words.specs.declared.Literals.{Literals}
 use Rattle.words.specs.Sets.{shares}
 use Rattle.words.proofs.Variables.{shares-found, shares-apart}
 use Rattle.clause.specs.Words.{wordsValue, clauseOfWords}
@@ -25,43 +26,49 @@ literal-is true false false = refl
 literal-is false true false = refl
 literal-is false false false = refl
 
-module _ (p n : ℕ) where
+module _ (u : Literals) where
+  abbrev p : ℕ
+  p = u .positive
+
+  abbrev n : ℕ
+  n = u .negative
+
   -- the clause of the variables from i on, k of them
   abbrev pub clauseWords : ℕ → ℕ → Diagram
   clauseWords k i = clauseFrom (inWord p) (inWord n) k i
 
   module _ (a : Assignment) where
-    words-step : (k : ℕ) → wordsValue p n (suc k) a ≡ (cond (holds a (suc k)) (inWord p (suc k)) (inWord n (suc k)) || wordsValue p n k a)
+    words-step : (k : ℕ) → wordsValue u (suc k) a ≡ (cond (holds a (suc k)) (inWord p (suc k)) (inWord n (suc k)) || wordsValue u k a)
     unfolding wordsValue
     words-step k = rw (literal-is (inWord p (suc k)) (inWord n (suc k)) (holds a (suc k)))
 
-    words-true : (k v : ℕ) → 1 ≤ v → v ≤ k → cond (holds a v) (inWord p v) (inWord n v) ≡ true → wordsValue p n k a ≡ true
+    words-true : (k v : ℕ) → 1 ≤ v → v ≤ k → cond (holds a v) (inWord p v) (inWord n v) ≡ true → wordsValue u k a ≡ true
     words-true zero v x y e = absurd (omega arith)
     words-true (suc k) v x y e = words-step k ∙ go (ℕ-discrete v (suc k)) (λ ne. words-true k v x (omega arith) e)
       where
-        go : Dec (v ≡ suc k) → ((v ≡ suc k → ⊥) → wordsValue p n k a ≡ true) → (cond (holds a (suc k)) (inWord p (suc k)) (inWord n (suc k)) || wordsValue p n k a) ≡ true
-        go (yes q) ih = or-left (cond (holds a (suc k)) (inWord p (suc k)) (inWord n (suc k))) (wordsValue p n k a) (rw (← q) e)
-        go (no ne) ih = or-right (cond (holds a (suc k)) (inWord p (suc k)) (inWord n (suc k))) (wordsValue p n k a) (ih ne)
+        go : Dec (v ≡ suc k) → ((v ≡ suc k → ⊥) → wordsValue u k a ≡ true) → (cond (holds a (suc k)) (inWord p (suc k)) (inWord n (suc k)) || wordsValue u k a) ≡ true
+        go (yes q) ih = or-left (cond (holds a (suc k)) (inWord p (suc k)) (inWord n (suc k))) (wordsValue u k a) (rw (← q) e)
+        go (no ne) ih = or-right (cond (holds a (suc k)) (inWord p (suc k)) (inWord n (suc k))) (wordsValue u k a) (ih ne)
 
-    true-words : {A : Type 0} (k : ℕ) → wordsValue p n k a ≡ true → ((v : ℕ) → 1 ≤ v → v ≤ k → cond (holds a v) (inWord p v) (inWord n v) ≡ true → A) → A
+    true-words : {A : Type 0} (k : ℕ) → wordsValue u k a ≡ true → ((v : ℕ) → 1 ≤ v → v ≤ k → cond (holds a v) (inWord p v) (inWord n v) ≡ true → A) → A
     unfolding wordsValue
     true-words zero e f = t≢f (sym e)
     true-words (suc k) e f =
-        or-cases (cond (holds a (suc k)) (inWord p (suc k)) (inWord n (suc k))) (wordsValue p n k a) (sym (words-step k) ∙ e)
+        or-cases (cond (holds a (suc k)) (inWord p (suc k)) (inWord n (suc k))) (wordsValue u k a) (sym (words-step k) ∙ e)
         (λ t. f (suc k) (omega arith) (omega arith) t) (λ t. true-words k t (λ v x y. f v x (omega arith)))
 
   pub words-reduced : (k i : ℕ) → i + k ≡ 65 → Reduced i 65 (clauseWords k i)
   words-reduced k i e = clauseFrom-reduced (inWord p) (inWord n) k i 65 (sym e)
 
-  pub words-are : clauseOfWords p n ≡ clauseWords 64 1
+  pub words-are : clauseOfWords u ≡ clauseWords 64 1
   unfolding clauseOfWords
-  words-are = diagram-is 64 (wordsValue p n 64) (clauseWords 64 1) (words-reduced 64 1 refl) λ a len.
-      both-ways (wordsValue p n 64 a) (value (clauseWords 64 1) a)
+  words-are = diagram-is 64 (wordsValue u 64) (clauseWords 64 1) (words-reduced 64 1 refl) λ a len.
+      both-ways (wordsValue u 64 a) (value (clauseWords 64 1) a)
       (λ t. true-words a 64 t (λ v x y e. clauseFrom-true (inWord p) (inWord n) a 64 1 v x (omega arith) e))
       (λ t. true-clauseFrom (inWord p) (inWord n) a 64 1 t (λ v x y e. words-true a 64 v x (omega arith) e))
 
   -- "a clause with both signs is the diagram 1" (01, The formula)
-  pub both-signs : shares 64 p n ≡ true → clauseOfWords p n ≡ leaf true
+  pub both-signs : shares 64 p n ≡ true → clauseOfWords u ≡ leaf true
   both-signs e = words-are ∙ shares-found 64 p n e λ v x y a b. clause-tautology (inWord p) (inWord n) 64 1 v x (omega arith) a b
 
   -- no variable has both

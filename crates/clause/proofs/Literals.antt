@@ -39,11 +39,11 @@ clause-width n m le ls i = diagram-width n m (clauseValue ls) (clauseValue ls) l
 
 -- of any set that has just the literals
 pub words-clause : (n : ℕ) → n ≤ 64 → (ls : List Literal) → Within n ls → (u : Literals) → ((v : ℕ) (s : Bool) → 1 ≤ v → v ≤ 64 → has u v s ≡ occurs ls v s)
-    → clauseOfWords (u .positive) (u .negative) ≡ clause n ls
+    → clauseOfWords u ≡ clause n ls
 unfolding has
 words-clause n le ls i u is =
-    words-are (u .positive) (u .negative) ∙ sym (clause-is 64 ls (inWord (u .positive)) (inWord (u .negative)) (within-more n 64 le ls i) (λ v. is v true) (λ v. is v false)) ∙ clause-width n 64 le ls i
+    words-are u ∙ sym (clause-is 64 ls (inWord (u .positive)) (inWord (u .negative)) (within-more n 64 le ls i) (λ v. is v true) (λ v. is v false)) ∙ clause-width n 64 le ls i
 
 -- of the set that the reader gives
-pub clause-of-words : (n : ℕ) → n ≤ 64 → (ls : List Literal) → Within n ls → clauseOfWords (literalsOf ls .positive) (literalsOf ls .negative) ≡ clause n ls
+pub clause-of-words : (n : ℕ) → n ≤ 64 → (ls : List Literal) → Within n ls → clauseOfWords (literalsOf ls) ≡ clause n ls
 clause-of-words n le ls i = words-clause n le ls i (literalsOf ls) (λ v s x y. in-set n ls v s i x)

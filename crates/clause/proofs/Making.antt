@@ -12,6 +12,7 @@ use Rattle.meaning.proofs.Clauses.{clauseFrom}
 use Rattle.table.specs.Nodes.{diagramAt}
 use Rattle.table.specs.Indexed.{Table, size, Good, Outcome}
 use Rattle.table.proofs.Outcomes.{placeIn, putIn, Grown, grown, there, low-full, high-full, joined}
+use Rattle.words.specs.declared.Literals.{Literals}
 use Rattle.words.specs.Sets.{shares}
 use Rattle.clause.specs.Words.{clauseOfWords}
 use Rattle.clause.proofs.Diagrams.{clauseWords, words-reduced, words-are, both-signs, one-sign}
@@ -55,64 +56,70 @@ module _ (T : Table) (G : Good T) (v : ℕ) (rest : Diagram) (r : Reduced 1 65 r
 -- ---- the turns
 
 -- What is left at the start of the turn of variable v: the clause of the variables above v is placed.
-pub record Making (T : Table) (p n v : ℕ) (o : Outcome) : Type 0 where
+pub record Making (T : Table) (u : Literals) (v : ℕ) (o : Outcome) : Type 0 where
   pub most : v ≤ 64
   pub going : o .full ≡ false
   pub good : Good (o .table)
   pub same-size : size (o .table) ≡ size T
-  pub is : o ≡ placeIn T (clauseWords p n (64 - v) (suc v))
+  pub is : o ≡ placeIn T (clauseWords u (64 - v) (suc v))
 
 -- What the turn of variable v comes to.
-pub record Turn (T : Table) (p n v : ℕ) (o : Outcome) : Type 0 where
-  pub next : o .full ≡ false → Making T p n (v - 1) o
-  pub last : o .full ≡ true → o ≡ placeIn T (clauseOfWords p n)
+pub record Turn (T : Table) (u : Literals) (v : ℕ) (o : Outcome) : Type 0 where
+  pub next : o .full ≡ false → Making T u (v - 1) o
+  pub last : o .full ≡ true → o ≡ placeIn T (clauseOfWords u)
 
-module _ (T : Table) (G : Good T) (p n : ℕ) where
+module _ (T : Table) (G : Good T) (u : Literals) where
+  abbrev p : ℕ
+  p = u .positive
+
+  abbrev n : ℕ
+  n = u .negative
+
   -- variable 1 comes first, so that a clause of later variables is one over all
-  from-one : (k i : ℕ) → suc i + k ≡ 65 → Reduced 1 65 (clauseWords p n k (suc i))
-  from-one k i e = reduced-from 1 (suc i) 65 (clauseWords p n k (suc i)) (omega arith) (words-reduced p n k (suc i) e)
+  from-one : (k i : ℕ) → suc i + k ≡ 65 → Reduced 1 65 (clauseWords u k (suc i))
+  from-one k i e = reduced-from 1 (suc i) 65 (clauseWords u k (suc i)) (omega arith) (words-reduced u k (suc i) e)
 
-  made-so-far : (v : ℕ) → v ≤ 64 → (o : Outcome) → o .full ≡ false → o ≡ placeIn T (clauseWords p n (64 - v) (suc v)) → Making T p n v o
+  made-so-far : (v : ℕ) → v ≤ 64 → (o : Outcome) → o .full ≡ false → o ≡ placeIn T (clauseWords u (64 - v) (suc v)) → Making T u v o
   made-so-far v most o f e =
-      let W : Grown T (clauseWords p n (64 - v) (suc v)) o = grown T G (clauseWords p n (64 - v) (suc v)) (from-one (64 - v) v (omega arith)) o e in
+      let W : Grown T (clauseWords u (64 - v) (suc v)) o = grown T G (clauseWords u (64 - v) (suc v)) (from-one (64 - v) v (omega arith)) o e in
       record { most = most; going = f; good = W .good; same-size = W .same-size; is = e }
 
-  pub make-start : Making T p n 64 (stay T 0)
+  pub make-start : Making T u 64 (stay T 0)
   unfolding clauseFrom
   make-start = made-so-far 64 (omega arith) (stay T 0) refl (zero-there T G)
 
-  pub make-end : (v : ℕ) → v ≤ 0 → (o : Outcome) → Making T p n v o → o ≡ placeIn T (clauseOfWords p n)
+  pub make-end : (v : ℕ) → v ≤ 0 → (o : Outcome) → Making T u v o → o ≡ placeIn T (clauseOfWords u)
   make-end v le o M =
       let z : v ≡ 0 = omega arith in
-      M .is ∙ ap (λ (x : ℕ). placeIn T (clauseWords p n (64 - x) (suc x))) z ∙ ap (placeIn T) (sym (words-are p n))
+      M .is ∙ ap (λ (x : ℕ). placeIn T (clauseWords u (64 - x) (suc x))) z ∙ ap (placeIn T) (sym (words-are u))
 
-  pub make-both : shares 64 p n ≡ true → stay T 1 ≡ placeIn T (clauseOfWords p n)
-  make-both e = one-there T G ∙ ap (placeIn T) (sym (both-signs p n e))
+  pub make-both : shares 64 p n ≡ true → stay T 1 ≡ placeIn T (clauseOfWords u)
+  make-both e = one-there T G ∙ ap (placeIn T) (sym (both-signs u e))
 
   module _ (apart : shares 64 p n ≡ false) where
     -- without room once, without room to the end
-    full-on : (i k : ℕ) → suc i + k ≡ 65 → (o : Outcome) → o .full ≡ true → o ≡ placeIn T (clauseWords p n k (suc i)) → o ≡ placeIn T (clauseWords p n 64 1)
+    full-on : (i k : ℕ) → suc i + k ≡ 65 → (o : Outcome) → o .full ≡ true → o ≡ placeIn T (clauseWords u k (suc i)) → o ≡ placeIn T (clauseWords u 64 1)
     unfolding clauseFrom
-    full-on zero k q o f e = let z : k ≡ 64 = omega arith in e ∙ ap (λ (x : ℕ). placeIn T (clauseWords p n x 1)) z
+    full-on zero k q o f e = let z : k ≡ 64 = omega arith in e ∙ ap (λ (x : ℕ). placeIn T (clauseWords u x 1)) z
     full-on (suc i) k q o f e =
         full-on i (suc k) (omega arith) o f
-        (no-room-yet T G (suc i) (clauseWords p n k (suc (suc i))) (from-one k (suc i) q) o e (inWord n (suc i)) (inWord p (suc i)) (one-sign p n apart (suc i) (omega arith) (omega arith)) f)
+        (no-room-yet T G (suc i) (clauseWords u k (suc (suc i))) (from-one k (suc i) q) o e (inWord n (suc i)) (inWord p (suc i)) (one-sign u apart (suc i) (omega arith) (omega arith)) f)
 
-    module _ (v : ℕ) (some : 0 < v) (o : Outcome) (M : Making T p n v o) (l h : ℕ) (low : l ≡ cond (inWord n v) 1 (o .node)) (high : h ≡ cond (inWord p v) 1 (o .node))
+    module _ (v : ℕ) (some : 0 < v) (o : Outcome) (M : Making T u v o) (l h : ℕ) (low : l ≡ cond (inWord n v) 1 (o .node)) (high : h ≡ cond (inWord p v) 1 (o .node))
         (o′ : Outcome) (put : o′ ≡ putIn (o .table) v l h) where
-      next-is : o′ ≡ placeIn T (clauseWords p n (64 - (v - 1)) (suc (v - 1)))
+      next-is : o′ ≡ placeIn T (clauseWords u (64 - (v - 1)) (suc (v - 1)))
       unfolding clauseFrom
       next-is =
           let z : 64 - (v - 1) ≡ suc (64 - v) = omega (arith, M .most) in
           let y : suc (v - 1) ≡ v = omega arith in
           rw (z, y)
-          (one-more T G v (clauseWords p n (64 - v) (suc v)) (from-one (64 - v) v (omega (arith, M .most))) o (M .is) (inWord n v) (inWord p v) (one-sign p n apart v (omega arith) (M .most))
+          (one-more T G v (clauseWords u (64 - v) (suc v)) (from-one (64 - v) v (omega (arith, M .most))) o (M .is) (inWord n v) (inWord p v) (one-sign u apart v (omega arith) (M .most))
           (M .going) o′ (rw (low, high) at put))
 
       -- with room the next turn starts, without it the clause finds none
-      pub make-turn : Turn T p n v o′
+      pub make-turn : Turn T u v o′
       make-turn =
           record {
             next = λ f. made-so-far (v - 1) (omega (arith, M .most)) o′ f next-is;
-            last = λ f. full-on (v - 1) (64 - (v - 1)) (omega (arith, M .most)) o′ f next-is ∙ ap (placeIn T) (sym (words-are p n));
+            last = λ f. full-on (v - 1) (64 - (v - 1)) (omega (arith, M .most)) o′ f next-is ∙ ap (placeIn T) (sym (words-are u));
           }

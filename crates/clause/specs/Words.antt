@@ -4,14 +4,15 @@ use mathlib.Core.Bool.{Bool, false, not, _&&_, _||_}
 use Prim.Native.Nat.{ℕ, zero, suc}
 use Rattle.meaning.specs.Diagram.{Assignment, holds, Diagram, diagram}
 use Rattle.meaning.specs.Words.{inWord}
+use Rattle.words.specs.declared.Literals.{Literals}
 
 -- Whether a literal of the variables 1 to k is true. "A clause is 1 where one of its literals is true, else 0." (01, Values)
-unfoldable pub wordsValue : ℕ → ℕ → ℕ → Assignment → Bool
-wordsValue positive negative zero a = false
-wordsValue positive negative (suc k) a =
-    ((inWord positive (suc k) && holds a (suc k)) || (inWord negative (suc k) && not (holds a (suc k)))) || wordsValue positive negative k a
+unfoldable pub wordsValue : Literals → ℕ → Assignment → Bool
+wordsValue literals zero a = false
+wordsValue literals (suc k) a =
+    ((inWord (literals .positive) (suc k) && holds a (suc k)) || (inWord (literals .negative) (suc k) && not (holds a (suc k)))) || wordsValue literals k a
 
 -- The clause's diagram. Each clause that the reader gives is this one of its words: `clause-of-words` in proofs/Literals.
-unfoldable pub clauseOfWords : ℕ → ℕ → Diagram
+unfoldable pub clauseOfWords : Literals → Diagram
 unfolding wordsValue
-clauseOfWords positive negative = diagram 64 (wordsValue positive negative 64)
+clauseOfWords literals = diagram 64 (wordsValue literals 64)

@@ -1,6 +1,7 @@
-// A clause's diagram made in the table from the words of its positive and of its negative variables.
+// A clause's diagram made in the table from the set of its literals.
 use table::NodeNo;
 use table::Placed;
+use words::Literals;
 ghost use mathlib.Core.Path.{_≡_};
 ghost use mathlib.Core.Bool.{cond};
 ghost use Prim.Native.Nat.{_≤_};
@@ -30,15 +31,16 @@ pub fn make(
     heads: &mut [u16],
     links: &mut [u16],
     count: usize,
-    positive: u64,
-    negative: u64,
+    literals: Literals,
 ) -> Placed
     requires { ⌜ Good (tableOf (now vars) (now lows) (now highs) (now heads) (now links) count) ⌝ }
     ensures { λ r. ⌜ (
         let before = tableOf (now (vars .entry)) (now (lows .entry)) (now (highs .entry)) (now (heads .entry)) (now (links .entry)) count in
         outcomeOf (now (vars .exit)) (now (lows .exit)) (now (highs .exit)) (now (heads .exit)) (now (links .exit)) r
-        ≡ written (length (now (vars .entry))) (place (length (now (vars .entry))) (nodesOf before) (clauseOfWords positive negative))) ⌝ }
+        ≡ written (length (now (vars .entry))) (place (length (now (vars .entry))) (nodesOf before) (clauseOfWords literals))) ⌝ }
 {
+    let positive = literals.positive;
+    let negative = literals.negative;
     if words::shared(positive, negative) {
         return Placed {
             full: false,

@@ -20,20 +20,18 @@ use Rattle.dimacs.specs.Inner.{clauseAfter, clauseOf}
 
 -- The next clause x closes, and w holds its literals and places.
 pub record IsClosed (x : Next) (w : ClosedClause) : Type 0 where
-  pub literals : List meaning.Literal
-  pub is : x ≡ closed literals (w .first) (w .next)
-  pub positive : w .positive ≡ literalsOf literals .positive
-  pub negative : w .negative ≡ literalsOf literals .negative
+  pub list : List meaning.Literal
+  pub is : x ≡ closed list (w .first) (w .next)
+  pub literals : w .literals ≡ literalsOf list
 
 pub closed-is : (x : Next) (w : ClosedClause) → clauseOf x ≡ Closed w → IsClosed x w
 unfolding clauseAfter
 closed-is (closed ls first next) w e =
-    let q : record { positive = literalsOf ls .positive; negative = literalsOf ls .negative; first = first; next = next } ≡ w = cc in
+    let q : record { literals = literalsOf ls; first = first; next = next } ≡ w = cc in
     record {
-      literals = ls;
+      list = ls;
       is = rw (sym q);
-      positive = sym (ap (λ (z : ClosedClause). z .positive) q);
-      negative = sym (ap (λ (z : ClosedClause). z .negative) q);
+      literals = sym (ap (λ (z : ClosedClause). z .literals) q);
     }
 closed-is ended w e = let z : _≡_ {A = ℕ} 0 1 = cc in absurd (omega arith)
 closed-is (refused number place) w e = let z : _≡_ {A = ℕ} 0 1 = cc in absurd (omega arith)

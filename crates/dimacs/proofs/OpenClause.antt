@@ -98,7 +98,7 @@ module _ (s : List ℕ) (n first : ℕ) (u : Literals) (at : ℕ) where
 
     module _ (end : ℕ) (is : end ≡ tokenEnd s at) where
       pub rest-closing : tokenOf n (slice at end s) ≡ Closing
-          → restOf s n first u at ≡ Closed (record { positive = u .positive; negative = u .negative; first = first; next = end })
+          → restOf s n first u at ≡ Closed (record { literals = u; first = first; next = end })
       unfolding clauseAfter withAll
       rest-closing e = here ∙ rw (sym is, e)
 

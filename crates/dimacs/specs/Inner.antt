@@ -49,9 +49,7 @@ signedToken n positive (Value v) =
 -- What the code gives of what comes next, with the literals read before.
 unfoldable pub clauseAfter : Literals → Next → Clause
 unfolding withAll
-clauseAfter before (closed ls first next) =
-    let all = withAll before ls in
-    Closed (record { positive = all .positive; negative = all .negative; first = first; next = next })
+clauseAfter before (closed ls first next) = Closed (record { literals = withAll before ls; first = first; next = next })
 clauseAfter before ended = End
 clauseAfter before (refused number place) = Refused number place
 

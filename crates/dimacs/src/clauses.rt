@@ -27,14 +27,13 @@ fn open_clause(s: &[u8], first: usize, variables: u8) -> Clause
         match numbers::read_token(s, at, end, variables) {
             Token::Closing => {
                 return Clause::Closed(ClosedClause {
-                    positive: literals.positive,
-                    negative: literals.negative,
+                    literals,
                     first,
                     next: end,
                 });
             }
             Token::Wrong(number) => {
-                return Clause::Refused(number, at);
+                return Clause::Refused { number, place: at };
             }
             Token::Literal { variable, positive } => {
                 literals = words::with_literal(literals, variable, positive);
@@ -42,7 +41,10 @@ fn open_clause(s: &[u8], first: usize, variables: u8) -> Clause
             }
         }
     }
-    Clause::Refused(6, first)
+    Clause::Refused {
+        number: 6,
+        place: first,
+    }
 }
 
 // What comes next from `at` on, where `left` clauses are wanted yet.
@@ -53,12 +55,18 @@ pub fn next_clause(formula: &[u8], at: usize, variables: u8, left: usize) -> Cla
     let first = text::skip_between(formula, at);
     if first < formula.len() {
         if left == 0 {
-            return Clause::Refused(5, first);
+            return Clause::Refused {
+                number: 5,
+                place: first,
+            };
         }
         return open_clause(formula, first, variables);
     }
     if left == 0 {
         return Clause::End;
     }
-    Clause::Refused(5, first)
+    Clause::Refused {
+        number: 5,
+        place: first,
+    }
 }

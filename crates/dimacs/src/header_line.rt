@@ -106,31 +106,52 @@ fn header_at(s: &[u8], at: usize) -> Header
     let variables = next_word(s, cnf);
     let clauses = next_word(s, variables);
     if !is_p(s, at) {
-        return Header::Improper(1, at);
+        return Header::Improper {
+            number: 1,
+            place: at,
+        };
     }
     if !is_cnf(s, cnf) {
-        return Header::Improper(1, at);
+        return Header::Improper {
+            number: 1,
+            place: at,
+        };
     }
     let Natural::Value(v) = word_number(s, variables) else {
-        return Header::Improper(1, at);
+        return Header::Improper {
+            number: 1,
+            place: at,
+        };
     };
     let Natural::Value(c) = word_number(s, clauses) else {
-        return Header::Improper(1, at);
+        return Header::Improper {
+            number: 1,
+            place: at,
+        };
     };
     if !ends_line(s, clauses) {
-        return Header::Improper(1, at);
+        return Header::Improper {
+            number: 1,
+            place: at,
+        };
     }
     if 64 < v {
-        return Header::Improper(2, at);
+        return Header::Improper {
+            number: 2,
+            place: at,
+        };
     }
     if 1024 < c {
-        return Header::Improper(2, at);
+        return Header::Improper {
+            number: 2,
+            place: at,
+        };
     }
-    Header::Proper(
-        v as u8,
-        c as usize,
-        text::past_class(s, clauses, Class::Line),
-    )
+    Header::Proper {
+        variables: v as u8,
+        clauses: c as usize,
+        end: text::past_class(s, clauses, Class::Line),
+    }
 }
 
 // The header: the first line that is neither blank nor a comment.
@@ -141,5 +162,8 @@ pub fn read_header(formula: &[u8]) -> Header
     if at < formula.len() {
         return header_at(formula, at);
     }
-    Header::Improper(1, at)
+    Header::Improper {
+        number: 1,
+        place: at,
+    }
 }

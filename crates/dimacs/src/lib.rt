@@ -6,6 +6,7 @@ mod text;
 
 pub use clauses::next_clause;
 pub use header_line::read_header;
+use words::Literals;
 
 // A closing 0; a literal's variable and sign; or the number of the token's fault.
 pub enum Token {
@@ -16,15 +17,20 @@ pub enum Token {
 
 // The variables, the clauses and the end of the header's line; or a number and a place.
 pub enum Header {
-    Proper(u8, usize, usize),
-    Improper(u8, usize),
+    Proper {
+        variables: u8,
+        clauses: usize,
+        end: usize,
+    },
+    Improper {
+        number: u8,
+        place: usize,
+    },
 }
 
-// The variables that occur positively and negatively, bit v - 1 for variable v; the place of the first token, and that behind the
-// closing 0.
+// The clause's literals, the place of its first token, and that behind the closing 0.
 pub struct ClosedClause {
-    pub positive: u64,
-    pub negative: u64,
+    pub literals: Literals,
     pub first: usize,
     pub next: usize,
 }
@@ -33,5 +39,5 @@ pub struct ClosedClause {
 pub enum Clause {
     Closed(ClosedClause),
     End,
-    Refused(u8, usize),
+    Refused { number: u8, place: usize },
 }

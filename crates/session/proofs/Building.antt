@@ -117,7 +117,7 @@ module _ (n wanted from : ℕ) (formula : List ℕ) (s : ℕ) where
       closes = closed-is (nextClause formula n remaining at) c e
 
       abbrev ls : List meaning.Literal
-      ls = closes .literals
+      ls = closes .list
 
       pub building-more : made < wanted
       building-more = omega (arith, closed-wanted formula n remaining at ls (c .first) (c .next) (closes .is))
@@ -125,10 +125,10 @@ module _ (n wanted from : ℕ) (formula : List ℕ) (s : ℕ) where
       inside-text : NextIn formula n (nextClause formula n remaining at)
       inside-text = next-in formula n remaining at (B .within)
 
-      module _ (o : Outcome) (q : o ≡ placeIn T (clauseOfWords (c .positive) (c .negative))) where
-        is-clause : clauseOfWords (c .positive) (c .negative) ≡ meaning.clause n ls
+      module _ (o : Outcome) (q : o ≡ placeIn T (clauseOfWords (c .literals))) where
+        is-clause : clauseOfWords (c .literals) ≡ meaning.clause n ls
         is-clause =
-            ap₂ clauseOfWords (closes .positive) (closes .negative)
+            ap clauseOfWords (closes .literals)
             ∙ clause-of-words n (B .narrow) ls (subst (NextIn formula n) (closes .is) inside-text .2)
 
         placed-is : o ≡ placeIn T (meaning.clause n ls)

@@ -11,8 +11,8 @@ ghost use Rattle.session.specs.Formula.{Opened, saidFrom, Begins};
 
 // What the formula comes to: how many nodes and how many members there are before the first record, or a number and a place.
 pub enum Start {
-    Begun(usize, usize),
-    Refused(u8, usize),
+    Begun { count: usize, made: usize },
+    Refused { number: u8, place: usize },
 }
 
 // The clauses from `from` on, each made as it closes. What a refused formula leaves is not said.
@@ -43,24 +43,18 @@ pub fn read_clauses(
     loop {
         match dimacs::next_clause(formula, at, variables, wanted - made) {
             Clause::End => {
-                return Start::Begun(count, made);
+                return Start::Begun { count, made };
             }
-            Clause::Refused(number, place) => {
-                return Start::Refused(number, place);
+            Clause::Refused { number, place } => {
+                return Start::Refused { number, place };
             }
             Clause::Closed(c) => {
-                let p = clause::make(
-                    vars,
-                    lows,
-                    highs,
-                    heads,
-                    links,
-                    count,
-                    c.positive,
-                    c.negative,
-                );
+                let p = clause::make(vars, lows, highs, heads, links, count, c.literals);
                 if p.full {
-                    return Start::Refused(8, c.first);
+                    return Start::Refused {
+                        number: 8,
+                        place: c.first,
+                    };
                 }
                 let node = p.node;
                 members[made] = node.0;

@@ -71,7 +71,7 @@ fn run_clauses<'a>(
         wanted,
         from,
     ) {
-        Start::Refused(number, place) => {
+        Start::Refused { number, place } => {
             clear::empty(vars, lows, highs, members);
             Checked {
                 number,
@@ -81,7 +81,7 @@ fn run_clauses<'a>(
                 count: 2,
             }
         }
-        Start::Begun(count, made) => proof::run_proof(
+        Start::Begun { count, made } => proof::run_proof(
             vars,
             lows,
             highs,
@@ -121,14 +121,18 @@ fn run_header<'a>(
         (verdict (length (now (vars .entry))) (now (formula .entry)) (now (proof .entry))) ⌝ }
 {
     match dimacs::read_header(formula) {
-        Header::Improper(number, place) => Checked {
+        Header::Improper { number, place } => Checked {
             number,
             place,
             lines: 0,
             rounds: 0,
             count: 2,
         },
-        Header::Proper(variables, wanted, from) => run_clauses(
+        Header::Proper {
+            variables,
+            clauses,
+            end,
+        } => run_clauses(
             vars,
             lows,
             highs,
@@ -139,8 +143,8 @@ fn run_header<'a>(
             members,
             scratch,
             variables,
-            wanted,
-            from,
+            clauses,
+            end,
             formula,
             proof,
         ),

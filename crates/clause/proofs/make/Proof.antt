@@ -9,7 +9,7 @@ use Rattle.clause.proofs.make.Tie as tie
 
 abbrev Inv-loop : tie.InvT-loop
 Inv-loop vars₀ lows₀ highs₀ heads₀ links₀ count positive negative made₀ v₀ vars lows highs heads links made v =
-    Making (tableOf vars₀ lows₀ highs₀ heads₀ links₀ count) positive negative v (outcomeOf vars lows highs heads links made)
+    Making (tableOf vars₀ lows₀ highs₀ heads₀ links₀ count) (record { positive = positive; negative = negative }) v (outcomeOf vars lows highs heads links made)
 
 abbrev μ-loop : tie.MeasureT-loop
 μ-loop vars₀ lows₀ highs₀ heads₀ links₀ count positive negative made₀ v₀ vars lows highs heads links made v =
@@ -67,9 +67,9 @@ module _ (a : tie.After-put Inv-loop μ-loop) where
       let x = a .put .last in
       outcomeOf (x .0) (x .1 .0) (x .1 .1 .0) (x .1 .1 .1 .0) (x .1 .1 .1 .1 .0) (a .put .result)
 
-  turn : Turn lent (start-from-put a .args .positive) (start-from-put a .args .negative) (at-loop-from-put a .loop .v) left
+  turn : Turn lent (start-from-put a .args .literals) (at-loop-from-put a .loop .v) left
   turn =
-      make-turn _ (start-from-put a .pre) _ _ (sym (else1-from-put a .before .shared .ensures) ∙ else1-from-put a .if1 .left) _ (in-loop-from-put a .loop-test .taken) _ (at-loop-from-put a .loop .inv) _ _
+      make-turn _ (start-from-put a .pre) _ (sym (else1-from-put a .before .shared .ensures) ∙ else1-from-put a .if1 .left) _ (in-loop-from-put a .loop-test .taken) _ (at-loop-from-put a .loop .inv) _ _
       (side-from-put a .side .ensures) (side2-from-put a .side2 .ensures) _ (a .put .ensures)
 
 shared-requires : tie.Need-shared-requires Inv-loop μ-loop
@@ -77,11 +77,11 @@ shared-requires c κs = search needs
 
 returns : tie.Need-returns Inv-loop μ-loop
 returns c =
-    make-both _ (start-from-then1 c .pre) _ _ (sym (c .before .shared .ensures) ∙ c .if1 .taken)
+    make-both _ (start-from-then1 c .pre) _ (sym (c .before .shared .ensures) ∙ c .if1 .taken)
 
 loop-holds : tie.Need-loop-holds Inv-loop μ-loop
 loop-holds c =
-    make-start _ (start-from-else1 c .pre) _ _
+    make-start _ (start-from-else1 c .pre) _
 
 side-requires : tie.Need-side-requires Inv-loop μ-loop
 side-requires c κs = search needs
@@ -136,7 +136,7 @@ same-length-10 c = search needs
 
 returns-3 : tie.Need-returns-3 Inv-loop μ-loop
 returns-3 c =
-    make-end _ (start-from-return-3 c .pre) _ _ _ (c .loop-test .left) _ (c .before .loop .inv)
+    make-end _ (start-from-return-3 c .pre) _ _ (c .loop-test .left) _ (c .before .loop .inv)
 
 pub make-spec : {M : Type 1} → statement M
 make-spec =
