@@ -100,9 +100,6 @@ module _ (s : List ℕ) where
 -- ---- the test of a comment, byte by byte
 
 module _ (s : List ℕ) (at : ℕ) where
-  pub no-comment : isComment s at ≡ false → false ≡ isComment s at
-  no-comment e = sym e
-
   pub at-end : at ≡ length s → false ≡ isComment s at
   at-end e = sym (not-true (isComment s at) (λ t. absurd (omega (arith, comment-inside s at t))))
 

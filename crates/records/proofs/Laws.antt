@@ -1,12 +1,11 @@
 -- What a loop over the records wants: a record of right form takes at least one byte and lies within the bytes, so that the next place is
--- nearer to the end; and its fields fit their types. The idea: each law is a predicate, shown for every kind at once. Assumes nothing.
+-- nearer to the end. The idea: each law is a predicate, shown for every kind at once. Assumes nothing.
 use mathlib.Core.Path.{_≡_, refl, sym, subst}
 use mathlib.Core.Bool.{Bool, true, false, cond}
 use mathlib.Core.List.{List}
 use Prim.Native.Nat.{ℕ, _+_, _-_, _≤_, _<_}
 use native.Mathlib.Omega.{arith}
 use lib.ListN.{length, getD, drop, length-drop}
-use lib.Seq.{getD-drop}
 use lib.Dec.{eqb, ltb}
 use borrow.Author.Tests.{ltb-true, ltb-false}
 use Rattle.records.specs.declared.Rule.{Rule}
@@ -14,7 +13,7 @@ use Rattle.records.specs.declared.Rule.the-variants.{Rup, Pr}
 use Rattle.records.specs.declared.Record.{Record}
 use Rattle.records.specs.declared.Record.the-variants.{NodeEntry, Witness, ProofLine, End, CutShort, UnknownKind, NoRecord}
 use Rattle.records.specs.Records.{field, entryIn, whole, recordOf, recordAt, lengthOf, numberOf}
-use Rattle.records.proofs.Reading.{field-one, field-two, record-none, record-here}
+use Rattle.records.proofs.Reading.{record-none, record-here}
 
 -- ---- a predicate of every record
 
@@ -84,36 +83,3 @@ record-within proof at e =
   where
     Within : Record → Type 0
     Within r = numberOf r ≡ 0 → at + lengthOf r ≤ length proof
-
--- ---- fields
-
-abbrev pub Fits : Record → Type 0
-Fits (NodeEntry n) = (n .variable < 256) × (n .low .0 < 65536) × (n .high .0 < 65536)
-Fits (Witness v value) = v < 256
-Fits (ProofLine rule root) = root .0 < 65536
-Fits End = Unit {0}
-Fits CutShort = Unit {0}
-Fits UnknownKind = Unit {0}
-Fits NoRecord = Unit {0}
-
-module _ (body : List ℕ) (bytes : (i : ℕ) → getD body i 0 < 256) where
-  one-fits : (i : ℕ) → field i 1 body < 256
-  one-fits i = rw (field-one i body) (bytes i)
-
-  two-fits : (i : ℕ) → field i 2 body < 65536
-  two-fits i = rw (field-two i body) (omega (arith, bytes i, bytes (i + 1)))
-
-  every-fits : Every Fits body
-  every-fits = record {
-    node = λ l. (one-fits 0, two-fits 1, two-fits 3);
-    witness = λ value l. one-fits 0;
-    line = λ rule l. two-fits 0;
-    end = tt;
-    cut = tt;
-    unknown = tt;
-  }
-
-pub record-fits : (proof : List ℕ) → ((i : ℕ) → getD proof i 0 < 256) → (at : ℕ) {r : Record} → recordAt proof at ≡ r → Fits r
-record-fits proof bytes at e =
-    subst Fits e
-    (record-every Fits proof at tt (λ lt. every-fits (drop (at + 1) proof) (λ i. rw (getD-drop (at + 1) proof i 0) (bytes (at + 1 + i)))))

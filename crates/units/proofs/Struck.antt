@@ -11,7 +11,7 @@ use lib.Bits.{bitOr}
 use borrow.Author.Tests.{ltb-true, leb-true, le-ltb, lt-leb, lt-ltb}
 use Rattle.meaning.specs.Operations.{isUnit}
 use Rattle.meaning.specs.Words.{inWord}
-use Rattle.meaning.proofs.Booleans.{t≢f, and-both, and-true, or-right, or-neither}
+use Rattle.meaning.proofs.Booleans.{t≢f, and-both, and-true, or-right}
 use Rattle.table.specs.Nodes.{Node, at, diagramAt}
 use Rattle.table.proofs.Order.{Fits}
 use Rattle.walks.specs.Readable.{Readable, nodesIn}

@@ -1,7 +1,7 @@
 -- The variables of the words of all and of those below or from a variable on, for every variable count; a word with none is 0, and what
 -- two words share. The idea: 2^(j+k) − 1 is (2^j − 1)·2^k + (2^k − 1), so that a shift leaves a word of the same kind. Assumes nothing.
 use mathlib.Core.Path.{_≡_, refl, sym, ap, ap₂, _∙_}
-use mathlib.Core.Bool.{Bool, true, false, _&&_, _||_}
+use mathlib.Core.Bool.{true, false, _&&_, _||_}
 use Prim.Native.Nat.{ℕ, zero, suc, _+_, _-_, _*_, _/_, _%_, _^_, _≤_, _<_}
 use native.Mathlib.Nat.{div-eq-of-lt, pow-suc, pow-succ', mul-assoc, mul-mod-left}
 use native.Mathlib.Omega.{arith}

@@ -32,7 +32,7 @@ pub fn with_variable(word: u64, v: u8) -> u64
 }
 
 // The word of the variables below v.
-pub fn below(v: u8) -> u64
+fn below(v: u8) -> u64
     requires { ⌜ (1 ≤ v) × (v ≤ 65) ⌝ }
     ensures { λ r. ⌜ r ≡ belowWord v ⌝ }
 {

@@ -3,7 +3,6 @@ use mathlib.Core.Path.{_≡_}
 use mathlib.Core.Bool.{Bool, true, false}
 use Prim.Native.Nat.{ℕ}
 use borrow.Author.Needs.{needs}
-use borrow.Author.Tests.{not-false}
 use Rattle.words.specs.declared.Literals.{Literals}
 use Rattle.words.specs.Sets.{withVariable, withLiteral}
 use Rattle.words.proofs.with_literal.Statement.{statement}
