@@ -135,7 +135,7 @@ fn check_4096_long<'a>(
         ≡ outcome (length (now (vars .entry))) (length (now (members .entry))) (length (now (scratch .entry)))
         (verdict (length (now (vars .entry))) (now (formula .entry)) (now (proof .entry))) ⌝ }
 {
-    let mut memo = [0u64; 131072];
+    let mut memo = [0u64; 90112];
     check_4096(
         vars,
         lows,
