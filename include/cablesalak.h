@@ -59,6 +59,7 @@ typedef struct {
     size_t lines;    /* the accepted lines */
     uint64_t rounds; /* their rounds of unit propagation */
     size_t count;    /* the table's count after the call; as lent with 7 */
+    size_t peak;     /* the greatest count that the check reached, dropped nodes included; 0 with 7 */
 } cablesalak_checked;
 
 /* ---- Single calls, on a table in good order.
@@ -134,11 +135,11 @@ cablesalak_checked cablesalak_check(
 
 /* ---- The program's line.
  *
- * What bin/refute prints of two files, with a table of 4,096 places of its own: `number place lines rounds` and LF at the start of
+ * What bin/refute prints of two files, with a table of 4,096 places of its own: `number place lines rounds peak` and LF at the start of
  * `line`; the places behind it stay as they are. `formula_read` and `proof_read` tell whether the files could be read (25 where not); a text
  * of over 65,536 bytes gives 24, so that of a longer file the first 65,537 bytes are enough. The status is 0 for number 0 alone, 2 for 24
  * and 25, 1 for every other number. Takes less than 1.75 MiB of stack. */
-#define CABLESALAK_LINE 84
+#define CABLESALAK_LINE 105
 
 typedef struct {
     size_t length;  /* of the line, its LF included */
@@ -193,9 +194,10 @@ CABLESALAK_LAYOUT(sizeof(cablesalak_single) == 16 && offsetof(cablesalak_single,
 CABLESALAK_LAYOUT(offsetof(cablesalak_single, number) == 0 && offsetof(cablesalak_single, count) == 8);
 CABLESALAK_LAYOUT(sizeof(cablesalak_node) == 6 && offsetof(cablesalak_node, var) == 0);
 CABLESALAK_LAYOUT(offsetof(cablesalak_node, low) == 2 && offsetof(cablesalak_node, high) == 4);
-CABLESALAK_LAYOUT(sizeof(cablesalak_checked) == 40 && offsetof(cablesalak_checked, number) == 0);
+CABLESALAK_LAYOUT(sizeof(cablesalak_checked) == 48 && offsetof(cablesalak_checked, number) == 0);
 CABLESALAK_LAYOUT(offsetof(cablesalak_checked, place) == 8 && offsetof(cablesalak_checked, lines) == 16);
 CABLESALAK_LAYOUT(offsetof(cablesalak_checked, rounds) == 24 && offsetof(cablesalak_checked, count) == 32);
+CABLESALAK_LAYOUT(offsetof(cablesalak_checked, peak) == 40);
 #undef CABLESALAK_LAYOUT
 #endif
 

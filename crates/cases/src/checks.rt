@@ -1,4 +1,4 @@
-// The examples that check a formula and a proof. Their lines: label, number, place, accepted lines, rounds, count.
+// The examples that check a formula and a proof. Their lines: label, number, place, accepted lines, rounds, count, peak.
 use crate::print;
 use session::Checked;
 ghost use Prim.Native.Nat.{_<_};
@@ -11,6 +11,7 @@ fn print_checked(label: &[u8], r: Checked) {
     print::number(r.lines as u64);
     print::number(r.rounds);
     print::number(r.count as u64);
+    print::number(r.peak as u64);
     print::end();
 }
 

@@ -20,7 +20,7 @@ use Rattle.operate.specs.declared.Operation.the-variants.{Negation, Cofactor}
 use Rattle.operate.specs.Operate.{result}
 use Rattle.single.specs.Single.{operation}
 use Rattle.verdict.specs.Check.{State, next, judged, step, check}
-use Rattle.verdict.specs.Run.{Meant, Taken, lineOf, Reached, Refutation}
+use Rattle.verdict.specs.Run.{Meant, Taken, lineOf, peakWith, Reached, Refutation}
 use Rattle.verdict.specs.Satisfies.{clausesOf}
 use Rattle.verdict.specs.MetFirst.{no-conflict, metBy, sayMet}
 use Rattle.verdict.specs.Cases.{Gives, GivesAll, checked as row, prints, bytes, A-formula, A-proof, caseTable, numberTable}
@@ -61,7 +61,7 @@ pub step-exactly : (n s : ℕ) (st : State) (more : Bool) (r : Record) (st′ : 
 step-exactly = Steps.step-exactly
 
 -- "then 19 or 23, the one met first": a line is judged as its diagrams are made, in 01's making order.
-pub met-first : (n s : ℕ) (st : State) (rule : Rule) (g : ℕ) → judged s st g (lineOf n st rule g) ≡ sayMet st g (lineOf n st rule g) (metBy n s st rule g)
+pub met-first : (n s : ℕ) (st : State) (rule : Rule) (g : ℕ) → judged s st g (lineOf n st rule g) ≡ sayMet st g (lineOf n st rule g) (peakWith s st (lineOf n st rule g)) (metBy n s st rule g)
 met-first = MetFirst.met-first
 
 -- "19: not shown: no conflict": of the call, the line at the place given; its propagation ends without conflict before a diagram finds no room.
@@ -114,10 +114,10 @@ numbers = Tables.numbers
 pub seven : check (0 ∷ []) (0 ∷ []) (0 ∷ []) 1 (replicate 2048 0) (replicate 4096 0) (bytes A-formula) A-proof .number ≡ 7
 seven = Tables.seven
 
-pub twenty-one : Gives (row 4096 "p cnf 1 0\n" (nodeRecords 4097) (prints 21 24576 0 0))
+pub twenty-one : Gives (row 4096 "p cnf 1 0\n" (nodeRecords 4097) (prints 21 24576 0 0 3))
 twenty-one = Rows.twenty-one
 
-pub twenty-two : Gives (row 4096 "p cnf 0 1\n0\n" (rupLines 1025) (prints 22 3072 1024 0))
+pub twenty-two : Gives (row 4096 "p cnf 0 1\n0\n" (rupLines 1025) (prints 22 3072 1024 0 2))
 twenty-two = Rows.twenty-two
 
 pub twenty-six : operation Negation (0 ∷ 0 ∷ 1 ∷ []) (0 ∷ 0 ∷ 0 ∷ []) (0 ∷ 0 ∷ 0 ∷ []) 3 2 1 .number ≡ 26

@@ -21,10 +21,11 @@ use Rattle.verdict.specs.Check.{State, isEntry, entryNode, Verdict, Outcome, le
 use Rattle.verdict.specs.Run.{Function, Meant, entryMeant, lineFunctions, clauseFunctions, standsFor, Valued, Reached}
 use Rattle.verdict.proofs.Standing.{Standing, valued-at, entry-valued}
 use Rattle.verdict.proofs.Ends.{reached-standing, ended}
-use Rattle.verdict.proofs.Numbers.{Closed, formula-refused, proof-ended, ended-closed}
+use Rattle.verdict.proofs.Numbers.{Closed, formula-refused, proof-ended, proof-tried, ended-closed}
 use Rattle.verdict.proofs.Refuted.{reached-end}
 use Rattle.verdict.proofs.Members.{lines-there, members-left}
 use Rattle.verdict.proofs.Onward.{reached-onward}
+use Rattle.verdict.proofs.Peak.{Reported, peak-reported}
 use Rattle.demands.specs.Calls.{nodesIn, valueAt}
 use Rattle.demands.specs.Leaving.{Lent, checked, Fits, places, clausesRead, Emptied, Member, Kept, Leaves, unchanged, emptied, kept}
 use Rattle.demands.proofs.Lent.{read-back, left-good}
@@ -83,13 +84,16 @@ sizes i e =
 -- ---- a refused formula
 
 module _ (i : Lent) (S : Sizes i) where
-  refused-emptied : (number place : ℕ) → (1 ≤ number) × (number ≤ 8) × (number ≢ 7) → Emptied i (done i (refusedFormula number place))
+  refused-emptied : (number place peak : ℕ) → (1 ≤ number) × (number ≤ 8) × (number ≢ 7)
+      → Reported (places i) (S .columns .least) (i .text) (i .proof) (refusedFormula number place peak) → Emptied i (done i (refusedFormula number place peak))
   unfolding outcome columnsOf
-  refused-emptied number place named = record {
+  refused-emptied number place peak named P = record {
     number = named;
     lines = refl;
     rounds = refl;
     count = refl;
+    peak = (P .least, P .most);
+    filled = P .clause-full;
     vars = two-blanks (λ x. x .var) (places i) (S .columns .least) refl;
     lows = two-blanks (λ x. x .low) (places i) (S .columns .least) refl ∙ ap zeros (sym (S .columns .lows));
     highs = two-blanks (λ x. x .high) (places i) (S .columns .least) refl ∙ ap zeros (sym (S .columns .highs));
@@ -99,12 +103,12 @@ module _ (i : Lent) (S : Sizes i) where
 
 -- ---- a proof that was judged
 
-module _ (i : Lent) (S : Sizes i) {n : ℕ} {st : State} {at : ℕ} {m : Meant} (R : Reached (places i) (i .text) (i .proof) n st at m) (number place : ℕ) where
+module _ (i : Lent) (S : Sizes i) {n : ℕ} {st : State} {at : ℕ} {m : Meant} (R : Reached (places i) (i .text) (i .proof) n st at m) (number place peak : ℕ) where
   abbrev t : List Node
   t = take (st .kept) (st .nodes)
 
   abbrev o : Outcome
-  o = done i (left number place st)
+  o = done i (left number place peak st)
 
   stands : Standing (places i) n m st
   stands = reached-standing (places i) (i .text) (i .proof) R .1
@@ -149,10 +153,12 @@ module _ (i : Lent) (S : Sizes i) {n : ℕ} {st : State} {at : ℕ} {m : Meant} 
       ap (λ (k : ℕ). getD (standsFor (i .text) (i .proof) (st .lines)) (k + j) (λ a. false)) (sym (length-map (clausesRead i) clauseValue))
       ∙ getD-second (clauseFunctions (i .text)) (take (st .lines) (lineFunctions (i .proof))) j (λ a. false) ∙ getD-take (st .lines) (lineFunctions (i .proof)) j (λ a. false) p
 
-  judged-kept : (number ≤ 23) × (number ≢ 0 → 9 ≤ number) → Kept i o
+  judged-kept : (number ≤ 23) × (number ≢ 0 → 9 ≤ number) → Reported (places i) (S .columns .least) (i .text) (i .proof) (left number place peak st) → Kept i o
   unfolding outcome
-  judged-kept named = record {
+  judged-kept named P = record {
     number = named;
+    peak = (P .left, P .most);
+    filled = P .proof-full;
     read = reached-end (places i) (i .text) (i .proof) R;
     good = left-good (places i) t (ordered-dropped (st .nodes) (stands .ordered) (st .kept) (stands .least) (stands .kept)) room;
     clauses = λ k p. subst (Member o k) (clause-there k p) (member k (omega (arith, many)));
@@ -170,12 +176,16 @@ check-leaves i = fits? i (Leaves i (checked i)) fit (λ other. unchanged other (
     v : Verdict
     v = verdict.verdict (places i) (i .text) (i .proof)
 
-    go : Fits i → Sizes i → (v : Verdict) → Closed (places i) (i .text) (i .proof) v → Leaves i (done i v)
-    go e S _ (formula-refused {number} {place} named) = emptied e (refused-emptied i S number place named)
-    go e S _ (proof-ended {n} {number} {offset} {at} named R _) = kept e (judged-kept i S R number (at + offset) named)
+    go : Fits i → (S : Sizes i) (v : Verdict) → Reported (places i) (S .columns .least) (i .text) (i .proof) v → Closed (places i) (i .text) (i .proof) v → Leaves i (done i v)
+    go e S _ P (formula-refused {number} {place} {peak} named) = emptied e (refused-emptied i S number place peak named P)
+    go e S _ P (proof-ended {n} {number} {offset} {at} {st} named R _) = kept e (judged-kept i S R number (at + offset) (st .peak) named P)
+    go e S _ P (proof-tried {n} {number} {peak} {at} named R _) = kept e (judged-kept i S R number at peak (named .1, λ _. omega (arith, named .0)) P)
 
     fit : Fits i → Leaves i (checked i)
-    fit e = subst (Leaves i) (sym (checked-fits i e)) (go e (sizes i e) v (ended-closed (places i) (i .text) (i .proof) v (ended (places i) (i .text) (i .proof))))
+    fit e =
+        let S : Sizes i = sizes i e in
+        subst (Leaves i) (sym (checked-fits i e))
+        (go e S v (peak-reported (places i) (S .columns .least) (i .text) (i .proof)) (ended-closed (places i) (i .text) (i .proof) v (ended (places i) (i .text) (i .proof))))
 
 -- ---- entries
 

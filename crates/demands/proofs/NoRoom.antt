@@ -41,9 +41,9 @@ use Rattle.operate.specs.Operate.{result}
 use Rattle.operate.proofs.Results.{result-reduced}
 use Rattle.single.specs.Single as single
 use Rattle.single.specs.Single.{Made, refusal, sharesVariable, operandRefusal, madeBy, operation}
-use Rattle.verdict.specs.Check.{State, next, stop, isEntry, entryNode, isVariable, entered, nodeStep, witnessStep, waiting, accepted, judged, diagramIn, lineStep, endStep, step, Outcome, outcome}
-use Rattle.verdict.specs.Run.{Meant, lineOf, follows, no-header, not-read, no-room, stopped}
-use Rattle.verdict.proofs.Steps.{stop-other, next-not-stop, past}
+use Rattle.verdict.specs.Check.{State, next, spent, isEntry, entryNode, isVariable, entered, nodeStep, witnessStep, waiting, accepted, judged, diagramIn, lineStep, endStep, step, Outcome, outcome}
+use Rattle.verdict.specs.Run.{Meant, lineOf, peakWith, follows, no-header, not-read, no-room, stopped, tried}
+use Rattle.verdict.proofs.Steps.{spent-other, next-not-spent, stop-not-spent, past-early}
 use Rattle.verdict.proofs.Standing.{Standing, entry-valued, over-reduced}
 use Rattle.verdict.proofs.Formula.{NamedHeader, header-named}
 use Rattle.verdict.proofs.Clauses.{underway}
@@ -177,76 +177,80 @@ module _ (s n : ℕ) (narrow : n ≤ 64) where
 
 -- ---- a record with 23
 
-module _ {s n : ℕ} {m : Meant} {st : State} (S : Standing s n m st) (narrow : n ≤ 64) (two : 2 ≤ s) {offset : ℕ} where
-  entered-full : (p : Placing) → entered st p ≡ stop 23 offset → (t′ : List Node) × (p ≡ full t′) × (offset ≡ 0)
+module _ {s n : ℕ} {m : Meant} {st : State} (S : Standing s n m st) (narrow : n ≤ 64) (two : 2 ≤ s) {peak : ℕ} where
+  entered-full : (p : Placing) → entered st p ≡ spent 23 peak → (t′ : List Node) × (p ≡ full t′)
   unfolding entered
-  entered-full (full t) e = (t, refl, cc)
-  entered-full (placed t k) e = next-not-stop _ e
+  entered-full (full t) e = (t, refl)
+  entered-full (placed t k) e = next-not-spent _ e
 
-  node-wants : (b : NodeBody) → nodeStep n s st b ≡ stop 23 offset → (offset ≡ 0) × RecordWants n s st (NodeEntry b)
+  node-wants : (b : NodeBody) → nodeStep n s st b ≡ spent 23 peak → RecordWants n s st (NodeEntry b)
   unfolding nodeStep
   node-wants b e =
       let l : ℕ = entryNode st (b .low .0) in
       let h : ℕ = entryNode st (b .high .0) in
-      let (p₁, e₁) = past (leb 4096 (length (st .entries))) 21 0 _ refl e in
-      let (p₂, e₂) = past (not (isVariable n (b .variable))) 12 0 _ refl e₁ in
-      let (p₃, e₃) = past (not (isEntry st (b .low .0) && isEntry st (b .high .0))) 13 0 _ refl e₂ in
-      let (p₄, e₄) = past (not (above (st .nodes) (b .variable) l && above (st .nodes) (b .variable) h)) 14 0 _ refl e₃ in
+      let (p₁, e₁) = past-early (leb 4096 (length (st .entries))) 21 0 _ e in
+      let (p₂, e₂) = past-early (not (isVariable n (b .variable))) 12 0 _ e₁ in
+      let (p₃, e₃) = past-early (not (isEntry st (b .low .0) && isEntry st (b .high .0))) 13 0 _ e₂ in
+      let (p₄, e₄) = past-early (not (above (st .nodes) (b .variable) l && above (st .nodes) (b .variable) h)) 14 0 _ e₃ in
       let (least, most) = and-both (leb 1 (b .variable)) (leb (b .variable) n) (not-false (isVariable n (b .variable)) p₂) in
       let (low, high) = and-both (isEntry st (b .low .0)) (isEntry st (b .high .0)) (not-false _ p₃) in
       let (over-low, over-high) = and-both (above (st .nodes) (b .variable) l) (above (st .nodes) (b .variable) h) (not-false _ p₄) in
       let low-in : l < length (st .nodes) = entry-valued S (b .low .0) low .0 in
       let high-in : h < length (st .nodes) = entry-valued S (b .high .0) high .0 in
-      let (t′, is, here) = entered-full (put s (st .nodes) (b .variable) l h) e₄ in
+      let (t′, is) = entered-full (put s (st .nodes) (b .variable) l h) e₄ in
       let o = over-reduced S (b .variable) l h low-in high-in (leb-true 1 (b .variable) least) (above-true (st .nodes) (b .variable) l over-low) (above-true (st .nodes) (b .variable) h over-high) 64
       (uses-64 (st .nodes) (S .ordered)) (omega (arith, leb-true (b .variable) n most)) in
-      (here, place-wants s (st .nodes) (S .ordered) (S .room two) _ o t′ (sym (put-place s (st .nodes) (S .ordered) (b .variable) l h low-in high-in) ∙ is))
+      place-wants s (st .nodes) (S .ordered) (S .room two) _ o t′ (sym (put-place s (st .nodes) (S .ordered) (b .variable) l h low-in high-in) ∙ is)
 
-  judged-wants : (rule : Rule) (g : ℕ) → judged s st g (lineOf n st rule g) ≡ stop 23 offset → (offset ≡ 0) × LineWants s (st .nodes) (lineOf n st rule g)
+  judged-wants : (rule : Rule) (g : ℕ) → judged s st g (lineOf n st rule g) ≡ spent 23 peak → LineWants s (st .nodes) (lineOf n st rule g)
   unfolding judged
   judged-wants rule g e = go (lineReach s (st .nodes) line .fits) refl e
     where
       line : Line
       line = lineOf n st rule g
 
-      go : (c : Bool) → lineReach s (st .nodes) line .fits ≡ c → cond (not c) (stop 23 0) (cond (not (line .shown)) (stop 19 0) (next (accepted st g line))) ≡ stop 23 offset
-          → (offset ≡ 0) × LineWants s (st .nodes) line
-      go false q e = (cc, line-wants s n narrow (st .nodes) (S .ordered) (S .room two) line (line-reduced n st rule g) q)
-      go true q e = let (_, f) = past (not (line .shown)) 19 0 _ refl e in next-not-stop _ f
+      go : (c : Bool) → lineReach s (st .nodes) line .fits ≡ c → cond (not c) (spent 23 (peakWith s st line)) (cond (not (line .shown)) (spent 19 (peakWith s st line)) (next (accepted st g line (peakWith s st line)))) ≡ spent 23 peak
+          → LineWants s (st .nodes) line
+      go false q e = line-wants s n narrow (st .nodes) (S .ordered) (S .room two) line (line-reduced n st rule g) q
+      go true q e = late (line .shown) e
+        where
+          late : (shown : Bool) → cond (not shown) (spent 19 (peakWith s st line)) (next (accepted st g line (peakWith s st line))) ≡ spent 23 peak → LineWants s (st .nodes) line
+          late true e = next-not-spent _ e
+          late false e = spent-other 19 _ refl e
 
-  line-record : (rule : Rule) (root : ℕ) → lineStep n s st rule root ≡ stop 23 offset → (offset ≡ 0) × LineWants s (st .nodes) (lineOf n st rule (entryNode st root))
+  line-record : (rule : Rule) (root : ℕ) → lineStep n s st rule root ≡ spent 23 peak → LineWants s (st .nodes) (lineOf n st rule (entryNode st root))
   unfolding lineStep
   line-record Rup root e =
       let g : ℕ = entryNode st root in
-      let (p₁, e₁) = past (not (isEntry st root)) 13 0 _ refl e in
-      let (p₂, e₂) = past (waiting st) 16 0 _ refl e₁ in
-      let (p₃, e₃) = past (leb 1024 (st .lines)) 22 0 _ refl e₂ in
-      let (p₄, e₄) = past (eqb g 1) 17 0 _ refl e₃ in
+      let (p₁, e₁) = past-early (not (isEntry st root)) 13 0 _ e in
+      let (p₂, e₂) = past-early (waiting st) 16 0 _ e₁ in
+      let (p₃, e₃) = past-early (leb 1024 (st .lines)) 22 0 _ e₂ in
+      let (p₄, e₄) = past-early (eqb g 1) 17 0 _ e₃ in
       judged-wants Rup g e₄
   line-record Pr root e =
       let g : ℕ = entryNode st root in
-      let (p₁, e₁) = past (not (isEntry st root)) 13 0 _ refl e in
-      let (p₂, e₂) = past (leb 1024 (st .lines)) 22 0 _ refl e₁ in
-      let (p₃, e₃) = past (eqb g 1) 17 0 _ refl e₂ in
-      let (p₄, e₄) = past (not (witnessed n (inWord (st .positive)) (inWord (st .negative)) (diagramIn st g))) 18 0 _ refl e₃ in
+      let (p₁, e₁) = past-early (not (isEntry st root)) 13 0 _ e in
+      let (p₂, e₂) = past-early (leb 1024 (st .lines)) 22 0 _ e₁ in
+      let (p₃, e₃) = past-early (eqb g 1) 17 0 _ e₂ in
+      let (p₄, e₄) = past-early (not (witnessed n (inWord (st .positive)) (inWord (st .negative)) (diagramIn st g))) 18 0 _ e₃ in
       judged-wants Pr g e₄
 
-  record-wants : (more : Bool) (r : Record) → step n s st more r ≡ stop 23 offset → (offset ≡ 0) × RecordWants n s st r
+  record-wants : (more : Bool) (r : Record) → step n s st more r ≡ spent 23 peak → RecordWants n s st r
   unfolding step witnessStep endStep
   record-wants more (NodeEntry b) e = node-wants b e
   record-wants more (ProofLine rule root) e = line-record rule (root .0) e
   record-wants more (Witness v b) e =
-      let (p₁, e₁) = past (not (isVariable n v)) 12 0 _ refl e in
-      let (p₂, e₂) = past (inWord (st .positive) v || inWord (st .negative) v) 15 0 _ refl e₁ in
-      next-not-stop _ e₂
+      let (p₁, e₁) = past-early (not (isVariable n v)) 12 0 _ e in
+      let (p₂, e₂) = past-early (inWord (st .positive) v || inWord (st .negative) v) 15 0 _ e₁ in
+      next-not-spent _ e₂
   record-wants more End e =
-      let (p₁, e₁) = past (waiting st) 16 0 _ refl e in
-      let (p₂, e₂) = past more 11 1 _ refl e₁ in
-      let (p₃, e₃) = past (st .refuted) 0 0 _ refl e₂ in
-      stop-other 20 0 refl e₃
-  record-wants more CutShort e = stop-other 10 0 refl e
-  record-wants more UnknownKind e = stop-other 9 0 refl e
-  record-wants more NoRecord e = stop-other 10 0 refl e
+      let (p₁, e₁) = past-early (waiting st) 16 0 _ e in
+      let (p₂, e₂) = past-early more 11 1 _ e₁ in
+      let (p₃, e₃) = past-early (st .refuted) 0 0 _ e₂ in
+      stop-not-spent 20 0 e₃
+  record-wants more CutShort e = stop-not-spent 10 0 e
+  record-wants more UnknownKind e = stop-not-spent 9 0 e
+  record-wants more NoRecord e = stop-not-spent 10 0 e
 
 -- ---- the calls
 
@@ -304,8 +308,10 @@ eight-only i z = go (checked i) (check-ends i) z
           wants = place-wants (places i) t (Y .standing .ordered) (Y .standing .room (at-least-two i e)) (meaning.clause n ls) (clause-to n ls (Y .narrow)) t₁ full-there;
         }
     go _ (at-place e (stopped {n} {number} {offset} {at} {st} R q)) z =
-        let (most, other) : (number ≤ 23) × (number ≢ 0 → 9 ≤ number) = subst Numbered q (step-numbered n (places i) st (follows (i .proof) at) (recordAt (i .proof) at)) in
+        let (most, other, _) : (number ≤ 22) × (number ≢ 0 → 9 ≤ number) × (number ≢ 19) = subst Numbered q (step-numbered n (places i) st (follows (i .proof) at) (recordAt (i .proof) at)) in
         let nine : 9 ≤ number = other (λ y. omega arith) in absurd (omega arith)
+    go _ (at-place e (tried {n} {number} {peak} {at} {st} R q)) z =
+        let (least, most) : (19 ≤ number) × (number ≤ 23) = subst Numbered q (step-numbered n (places i) st (follows (i .proof) at) (recordAt (i .proof) at)) in absurd (omega arith)
 
 -- 23 of the check: the record at the place.
 pub twenty-three-only : (i : Lent) → checked i .number ≡ 23 → AtRecord (places i) (i .text) (i .proof) (checked i .place)
@@ -320,10 +326,10 @@ twenty-three-only i z = go (checked i) (check-ends i) z
         let early : (1 ≤ number) × (number ≤ 6) = making-refused (places i) (i .text) M in absurd (omega arith)
     go _ (at-place e (no-room M full-there)) z = absurd (omega arith)
     go _ (at-place e (stopped {n} {number} {offset} {at} {st} {m} R q)) z =
+        let (most, other, _) : (number ≤ 22) × (number ≢ 0 → 9 ≤ number) × (number ≢ 19) = subst Numbered q (step-numbered n (places i) st (follows (i .proof) at) (recordAt (i .proof) at)) in absurd (omega arith)
+    go _ (at-place e (tried {n} {number} {peak} {at} {st} {m} R q)) z =
         let (narrow, S) = reached-standing (places i) (i .text) (i .proof) R in
-        let (here, W) = record-wants S narrow (at-least-two i e) (follows (i .proof) at) (recordAt (i .proof) at) (rw z at q) in
-        let same : at + offset ≡ at = omega arith in
-        rw same (record { n = n; state = st; meant = m; reached = R; wants = W })
+        record { n = n; state = st; meant = m; reached = R; wants = record-wants S narrow (at-least-two i e) (follows (i .proof) at) (recordAt (i .proof) at) (rw z at q) }
 
 -- 23 of a single call.
 pub operation-full : (op : Operation) (c : Columns) (count f g : ℕ) → operation op (c .vars) (c .lows) (c .highs) count f g .number ≡ 23

@@ -1,12 +1,13 @@
 -- The place that the check gives for a record: its first byte; for 11 the byte behind it; the proof's length where no record begins. The idea: each
 -- number stands in the definition with its place. Assumes nothing.
 use mathlib.Core.Path.{_≡_, refl, sym, ap, _∙_, subst}
-use mathlib.Core.Bool.{Bool, not, _&&_, _||_, cond}
+use mathlib.Core.Bool.{Bool, false, not, _&&_, _||_, cond}
 use mathlib.Core.List.{List, [], _∷_}
 use Prim.Native.Nat.{ℕ, _+_, _-_, _≤_}
 use native.Mathlib.Omega.{arith}
 use lib.ListN.{length, drop, length-drop}
 use lib.Dec.{eqb, ltb, leb}
+use borrow.Author.Tests.{ne-eqb}
 use Rattle.meaning.specs.Rules.{Line, witnessed}
 use Rattle.meaning.specs.Words.{inWord}
 use Rattle.table.specs.Nodes.{above, Placing, full, placed, put}
@@ -16,12 +17,13 @@ use Rattle.records.specs.declared.Rule.the-variants.{Rup, Pr}
 use Rattle.records.specs.declared.Record.{Record}
 use Rattle.records.specs.declared.Record.the-variants.{NodeEntry, Witness, ProofLine, End, CutShort, UnknownKind, NoRecord}
 use Rattle.records.specs.Records.{nodeIn, witnessIn, lineIn, whole, recordOf, recordIn, recordAt}
-use Rattle.verdict.specs.Check.{State, Step, next, stop, isEntry, entryNode, isVariable, entered, nodeStep, witnessStep, waiting, judged, diagramIn, lineStep, endStep, step, Outcome, outcome}
-use Rattle.verdict.specs.Run.{lineOf, follows, no-header, not-read, no-room, stopped}
+use Rattle.verdict.specs.Check.{State, Step, next, stop, spent, isEntry, entryNode, isVariable, entered, nodeStep, witnessStep, waiting, judged, diagramIn, lineStep, endStep, step, Outcome, outcome}
+use Rattle.verdict.specs.Run.{lineOf, follows, no-header, not-read, no-room, stopped, tried}
 use Rattle.verdict.proofs.Formula.{NamedHeader, header-named, either}
-use Rattle.verdict.proofs.Numbers.{making-refused}
+use Rattle.verdict.proofs.Numbers.{making-refused, Numbered, step-numbered}
+use Rattle.verdict.proofs.Steps.{stop-not-spent}
 use Rattle.verdict.proofs.Exactly.{Ahead, reached-ahead}
-use Rattle.demands.specs.Leaving.{Lent, checked, places, Ends, wrong-size, at-place, AtEnd}
+use Rattle.demands.specs.Leaving.{Lent, checked, places, Ends, wrong-size, at-place, EndsWith, AtEnd}
 use Rattle.demands.proofs.Ending.{check-ends}
 
 -- ---- the offset of a number
@@ -32,18 +34,19 @@ offsetOf number = cond (eqb number 11) 1 0
 abbrev Placed : Step → Type 0
 Placed (next st) = Unit {0}
 Placed (stop number offset) = offset ≡ offsetOf number
+Placed (spent number peak) = Unit {0}
 
 refuses : (c : Bool) (number offset : ℕ) (r : Step) → offset ≡ offsetOf number → Placed r → Placed (cond c (stop number offset) r)
 refuses c number offset r p q = either Placed c (stop number offset) r p q
 
 entered-placed : (st : State) (p : Placing) → Placed (entered st p)
 unfolding entered
-entered-placed st (full t) = refl
+entered-placed st (full t) = tt
 entered-placed st (placed t k) = tt
 
 judged-placed : (s : ℕ) (st : State) (g : ℕ) (line : Line) → Placed (judged s st g line)
 unfolding judged
-judged-placed s st g line = refuses (not (lineReach s (st .nodes) line .fits)) _ _ _ refl (refuses (not (line .shown)) _ _ _ refl tt)
+judged-placed s st g line = either Placed (not (lineReach s (st .nodes) line .fits)) _ _ tt (either Placed (not (line .shown)) _ _ tt tt)
 
 line-placed : (n s : ℕ) (st : State) (rule : Rule) (root : ℕ) → Placed (lineStep n s st rule root)
 unfolding lineStep
@@ -140,7 +143,20 @@ check-place i late = go (checked i) (check-ends i) late
           at = at;
           meant = m;
           reached = R;
-          says = q ∙ ap (stop number) is;
+          says = subst (λ (x : Step). EndsWith x number) (sym q) (refl, is);
           place = ap (λ (k : ℕ). at + k) is;
           none-begun = λ none. length-at n st at number offset q none (none-begun (i .proof) at none) (A .within);
+        }
+    go _ (at-place e (tried {n} {number} {peak} {at} {st} {m} R q)) late =
+        let N : (19 ≤ number) × (number ≤ 23) = subst Numbered q (step-numbered n (places i) st (follows (i .proof) at) (recordAt (i .proof) at)) in
+        let other : eqb number 11 ≡ false = ne-eqb number 11 (λ z. omega (arith, N .0)) in
+        record {
+          n = n;
+          state = st;
+          at = at;
+          meant = m;
+          reached = R;
+          says = subst (λ (x : Step). EndsWith x number) (sym q) (refl, other);
+          place = rw other (let z : at ≡ at + 0 = omega arith in z);
+          none-begun = λ none. stop-not-spent _ _ (sym (ap (step n (places i) st (follows (i .proof) at)) none) ∙ q);
         }

@@ -25,7 +25,7 @@ use Rattle.records.specs.Records.{lowByteFirst, recordIn, recordAt, lengthOf}
 use Rattle.operate.specs.declared.Operation.the-variants.{Negation, Cofactor}
 use Rattle.single.specs.Single.{operation}
 use Rattle.verdict.specs.Check.{State, emptied, begun, isEntry, entryNode, nodeStep, waiting, accepted, lineStep, step}
-use Rattle.verdict.specs.Run.{Meant, afterRecord, withEntry, NodeTaken, lineOf, LineTaken, Taken, Making, opened, made, Reached, begins, goes}
+use Rattle.verdict.specs.Run.{Meant, afterRecord, withEntry, NodeTaken, lineOf, peakWith, LineTaken, Taken, Making, opened, made, Reached, begins, goes}
 use Rattle.verdict.specs.Cases.{Gives, checked, prints, printed, bytes, over, rupLine}
 use Rattle.verdict.proofs.Exactly.{reached-stops}
 
@@ -79,6 +79,8 @@ record Entered (j : ℕ) (st : State) : Type 0 where
   lines : st .lines ≡ 0
   rounds : st .rounds ≡ 0
   there : put 4096 (st .nodes) 1 0 1 ≡ placed one-node 2
+  most : st .peak ≤ 3
+  peak : 1 ≤ j → st .peak ≡ 3
 
 entered-next : (j : ℕ) → j < 4096 → (st : State) → Entered j st → NodeTaken 1 4096 st body (withEntry st one-node 2) × Entered (suc j) (withEntry st one-node 2)
 unfolding isEntry entryNode above
@@ -96,7 +98,14 @@ entered-next j few st E = (
     room = E .there;
     is = refl;
   },
-  record { entries = length-append (st .entries) (2 ∷ []) ∙ omega (arith, E .entries); lines = E .lines; rounds = E .rounds; there = next-put },
+  record {
+    entries = length-append (st .entries) (2 ∷ []) ∙ omega (arith, E .entries);
+    lines = E .lines;
+    rounds = E .rounds;
+    there = next-put;
+    most = let three : length one-node ≡ 3 = refl in omega (arith, E .most);
+    peak = λ _. let three : length one-node ≡ 3 = refl in omega (arith, E .most);
+  },
 )
 
 -- the state before record j of so many
@@ -108,7 +117,7 @@ record Before (proof : List ℕ) (j : ℕ) : Type 0 where
 
 before : (k : ℕ) → k ≤ 4097 → (j : ℕ) → j < k → Before (nodeRecords k) j
 before k most zero p =
-    record { state = begun emptied []; meant = _; reached = begins begun-21; entered = record { entries = refl; lines = refl; rounds = refl; there = first-put } }
+    record { state = begun emptied []; meant = _; reached = begins begun-21; entered = record { entries = refl; lines = refl; rounds = refl; there = first-put; most = omega arith; peak = λ one. absurd (omega arith) } }
 before k most (suc j) p =
     let B : Before (nodeRecords k) j = before k most j (omega arith) in
     let rest : k ≡ j + suc (k - suc j) = omega arith in
@@ -125,13 +134,13 @@ before k most (suc j) p =
     }
 
 -- "21: over 4,096 entries: node record 4,097 of a line"
-pub twenty-one : Gives (checked 4096 "p cnf 1 0\n" (nodeRecords 4097) (prints 21 24576 0 0))
+pub twenty-one : Gives (checked 4096 "p cnf 1 0\n" (nodeRecords 4097) (prints 21 24576 0 0 3))
 unfolding step nodeStep
 twenty-one =
     let B : Before (nodeRecords 4097) 4096 = before 4097 (omega arith) 4096 (omega arith) in
     let here : recordAt (nodeRecords 4097) 24576 ≡ NodeEntry body = record-there 4096 0 in
     let over : leb 4096 (length (B .state .entries)) ≡ true = le-leb 4096 (length (B .state .entries)) (omega (arith, B .entered .entries)) in
-    ap printed (reached-stops 4096 text-21 (nodeRecords 4097) (B .reached) 21 0 (rw (here, over))) ∙ rw (B .entered .lines, B .entered .rounds)
+    ap printed (reached-stops 4096 text-21 (nodeRecords 4097) (B .reached) 21 0 (rw (here, over))) ∙ rw (B .entered .lines, B .entered .rounds, B .entered .peak (omega arith))
 
 -- ---- line 1,025
 
@@ -189,6 +198,10 @@ module _ (ms : List Diagram) where
   unfolding rup unitProp propagate lineReach turnsReach placedAll place meaning.negation meaning.cofactor meaning.nearest valueFrom diagramFrom
   zero-fits = rw (constants-fit emptied (negation 0 (leaf false)) ms)
 
+  zero-peak : lineReach 4096 emptied line .peak ≡ 2
+  unfolding rup unitProp propagate lineReach turnsReach placedAll place meaning.negation meaning.cofactor meaning.nearest valueFrom diagramFrom
+  zero-peak = rw (constants-fit emptied (negation 0 (leaf false)) ms)
+
 -- after so many of them
 record Accepted (j : ℕ) (st : State) : Type 0 where
   nodes : st .nodes ≡ emptied
@@ -197,6 +210,11 @@ record Accepted (j : ℕ) (st : State) : Type 0 where
   none-waits : waiting st ≡ false
   lines : st .lines ≡ j
   rounds : st .rounds ≡ 0
+  peak : st .peak ≡ 2
+
+-- the state after one more
+abbrev afterLine : State → State
+afterLine st = accepted st 0 (lineOf 0 st Rup 0) (peakWith 4096 st (lineOf 0 st Rup 0))
 
 -- such a state has the line of above
 same-line : (st : State) (rest : List ℕ) → st .nodes ≡ emptied → st .members ≡ 0 ∷ rest → lineOf 0 st Rup 0 ≡ rup 0 (leaf false ∷ map (diagramAt emptied) rest) (leaf false)
@@ -204,7 +222,7 @@ unfolding diagramAt
 same-line st rest nodes members = rw (nodes, members)
 
 accepted-next : (j : ℕ) → j < 1024 → (st : State) → Accepted j st
-    → LineTaken 0 4096 st Rup 0 (accepted st 0 (lineOf 0 st Rup 0)) × Accepted (suc j) (accepted st 0 (lineOf 0 st Rup 0))
+    → LineTaken 0 4096 st Rup 0 (afterLine st) × Accepted (suc j) (afterLine st)
 unfolding isEntry entryNode waiting
 accepted-next j few st A =
     let is : lineOf 0 st Rup 0 ≡ line (map (diagramAt emptied) (A .rest)) = same-line st (A .rest) (A .nodes) (A .members) in (
@@ -224,6 +242,12 @@ accepted-next j few st A =
         none-waits = refl;
         lines = ap suc (A .lines);
         rounds = omega (arith, A .rounds, ap (λ (x : Line). x .rounds) is ∙ zero-rounds (map (diagramAt emptied) (A .rest)));
+        peak = omega (
+          arith,
+          A .peak,
+          ap (λ (x : Line). lineReach 4096 (st .nodes) x .peak) is
+              ∙ ap (λ (t : List Node). lineReach 4096 t (line (map (diagramAt emptied) (A .rest))) .peak) (A .nodes) ∙ zero-peak (map (diagramAt emptied) (A .rest)),
+        );
       },
     )
 
@@ -236,12 +260,12 @@ record Before-22 (proof : List ℕ) (j : ℕ) : Type 0 where
 before-22 : (k : ℕ) → k ≤ 1025 → (j : ℕ) → j < k → Before-22 (rupLines k) j
 unfolding waiting
 before-22 k most zero p =
-    record { state = begun emptied (0 ∷ []); meant = _; reached = begins begun-22; accepted = record { nodes = refl; rest = []; members = refl; none-waits = refl; lines = refl; rounds = refl } }
+    record { state = begun emptied (0 ∷ []); meant = _; reached = begins begun-22; accepted = record { nodes = refl; rest = []; members = refl; none-waits = refl; lines = refl; rounds = refl; peak = refl } }
 before-22 k most (suc j) p =
     let B : Before-22 (rupLines k) j = before-22 k most j (omega arith) in
     let rest : k ≡ j + suc (k - suc j) = omega arith in
     let here : recordAt (rupLines k) (3 * j) ≡ ProofLine Rup (record { 0 = 0 }) = ap (λ (x : ℕ). recordAt (rupLines x) (3 * j)) rest ∙ line-there j (k - suc j) in
-    let st : State = accepted (B .state) 0 (lineOf 0 (B .state) Rup 0) in
+    let st : State = afterLine (B .state) in
     let (T, A) = accepted-next j (omega arith) (B .state) (B .accepted) in
     let three : 3 * j + 3 ≡ 3 * suc j = omega arith in
     let R = goes (B .reached) (subst (λ (r : Record). Taken 0 4096 (B .state) r st) (sym here) T) in
@@ -254,7 +278,7 @@ before-22 k most (suc j) p =
     }
 
 -- "22: over 1,024 lines: line 1,025"
-pub twenty-two : Gives (checked 4096 "p cnf 0 1\n0\n" (rupLines 1025) (prints 22 3072 1024 0))
+pub twenty-two : Gives (checked 4096 "p cnf 0 1\n0\n" (rupLines 1025) (prints 22 3072 1024 0 2))
 unfolding step lineStep isEntry
 twenty-two =
     let B : Before-22 (rupLines 1025) 1024 = before-22 1025 (omega arith) 1024 (omega arith) in
@@ -262,7 +286,7 @@ twenty-two =
     let here : recordAt (rupLines 1025) 3072 ≡ ProofLine Rup (record { 0 = 0 }) = line-there 1024 0 in
     let entry : ltb 0 (suc (suc (length (B .state .entries)))) ≡ true = lt-ltb 0 (suc (suc (length (B .state .entries)))) (omega arith) in
     let over : leb 1024 (B .state .lines) ≡ true = le-leb 1024 (B .state .lines) (omega (arith, A .lines)) in
-    ap printed (reached-stops 4096 text-22 (rupLines 1025) (B .reached) 22 0 (rw (here, entry, A .none-waits, over))) ∙ rw (A .lines, A .rounds)
+    ap printed (reached-stops 4096 text-22 (rupLines 1025) (B .reached) 22 0 (rw (here, entry, A .none-waits, over))) ∙ rw (A .lines, A .rounds, A .peak)
 
 -- ---- the single calls
 

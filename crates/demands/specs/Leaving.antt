@@ -14,7 +14,7 @@ use Rattle.records.specs.declared.EntryNo.{EntryNo}
 use Rattle.records.specs.declared.Rule.{Rule}
 use Rattle.records.specs.declared.Record.the-variants.{ProofLine, NoRecord}
 use Rattle.records.specs.Records.{recordAt}
-use Rattle.verdict.specs.Check.{State, stop, entryNode, step, Verdict, Outcome, lentFits, zeros, outcome, check}
+use Rattle.verdict.specs.Check.{State, Step, next, stop, spent, entryNode, step, Verdict, Outcome, lentFits, zeros, outcome, check}
 use Rattle.verdict.specs.Run.{Function, Meant, lineFunctions, follows, Reached, Ended}
 use Rattle.verdict.specs.MetFirst.{Met, metBy}
 use Rattle.verdict.specs.Satisfies.{clausesOf, readToEnd}
@@ -47,9 +47,9 @@ clausesRead i = clausesOf (formula (i .text))
 
 -- ---- where it ends
 
--- "Number 7 changes nothing": "place 0, no lines, no rounds and the count as lent".
+-- "Number 7 changes nothing": "place 0, no lines, no rounds and the count as lent". "with 7, 24 and 25 it is 0" (02, 2/14)
 abbrev pub seven : Lent → Outcome
-seven i = record { number = 7; place = 0; lines = 0; rounds = 0; count = i .count; columns = i .columns; members = i .members; scratch = i .scratch }
+seven i = record { number = 7; place = 0; lines = 0; rounds = 0; count = i .count; peak = 0; columns = i .columns; members = i .members; scratch = i .scratch }
 
 -- "Order: 7, formula [..], proof": the call ends at the first place that is refused, or at the end record, and says what that place says.
 pub data Ends (i : Lent) : Outcome → Type 0 where
@@ -58,12 +58,14 @@ pub data Ends (i : Lent) : Outcome → Type 0 where
 
 -- ---- what it leaves
 
--- "A refused formula leaves table and lists all zero, count 2. [..] Scratch ends as zeros."
+-- "A refused formula leaves table and lists all zero, count 2. [..] Scratch ends as zeros." The peak is within the table; with 8 it is the size.
 pub record Emptied (i : Lent) (o : Outcome) : Type 0 where
   pub number : (1 ≤ o .number) × (o .number ≤ 8) × (o .number ≢ 7)
   pub lines : o .lines ≡ 0
   pub rounds : o .rounds ≡ 0
   pub count : o .count ≡ 2
+  pub peak : (2 ≤ o .peak) × (o .peak ≤ places i)
+  pub filled : o .number ≡ 8 → o .peak ≡ places i
   pub vars : o .columns .vars ≡ zeros (length (i .columns .vars))
   pub lows : o .columns .lows ≡ zeros (length (i .columns .lows))
   pub highs : o .columns .highs ≡ zeros (length (i .columns .highs))
@@ -76,9 +78,11 @@ Member o k f = (getD (o .members) k 0 < o .count) × ((a : Assignment) → value
 
 -- "A refused proof leaves the clauses and accepted lines with their nodes (those of all their entries), zeros above. Number 0 leaves the same":
 -- the member list holds the clauses, in file order, and then the roots of the accepted lines, in theirs, each with its value; the table is in
--- good order.
+-- good order. The peak covers the count and is within the table; with 23 it is the size.
 pub record Kept (i : Lent) (o : Outcome) : Type 0 where
   pub number : (o .number ≤ 23) × (o .number ≢ 0 → 9 ≤ o .number)
+  pub peak : (o .count ≤ o .peak) × (o .peak ≤ places i)
+  pub filled : o .number ≡ 23 → o .peak ≡ places i
   pub read : readToEnd (formula (i .text)) ≡ true
   pub good : inGoodOrder (o .columns) (o .count) ≡ true
   pub clauses : (k : ℕ) → k < length (clausesRead i) → Member o k (clauseValue (getD (clausesRead i) k []))
@@ -95,6 +99,12 @@ pub data Leaves (i : Lent) (o : Outcome) : Type 0 where
 
 -- ---- its place
 
+-- The number that a record ends the run with, and its place from the record's first byte on.
+abbrev pub EndsWith : Step → ℕ → Type 0
+EndsWith (next st) number = ⊥
+EndsWith (stop k offset) number = (k ≡ number) × (offset ≡ cond (eqb number 11) 1 0)
+EndsWith (spent k peak) number = (k ≡ number) × (eqb number 11 ≡ false)
+
 -- "9 to 23 [..] the record's first byte (10 with no record begun: the length; 11: the byte after the end record)": the record at which the run ends, all
 -- records before it taken, and where the place given is.
 pub record AtEnd (i : Lent) (o : Outcome) : Type 0 where
@@ -103,7 +113,7 @@ pub record AtEnd (i : Lent) (o : Outcome) : Type 0 where
   pub at : ℕ
   pub meant : Meant
   pub reached : Reached (places i) (i .text) (i .proof) n state at meant
-  pub says : step n (places i) state (follows (i .proof) at) (recordAt (i .proof) at) ≡ stop (o .number) (cond (eqb (o .number) 11) 1 0)
+  pub says : EndsWith (step n (places i) state (follows (i .proof) at) (recordAt (i .proof) at)) (o .number)
   pub place : o .place ≡ at + cond (eqb (o .number) 11) 1 0
   pub none-begun : recordAt (i .proof) at ≡ NoRecord → o .place ≡ length (i .proof)
 

@@ -122,7 +122,7 @@ pub extern "C" fn cablesalak_report<'a>(
     formula: &'a [u8],
     second: bool,
     proof: &'a [u8],
-    line: &mut [u8; 84],
+    line: &mut [u8; 105],
 ) -> Told
     ensures { λ r. ⌜ take (r .length) (now (line .exit)) ≡ lineBytes (said first (now (formula .entry)) second (now (proof .entry))) ⌝ }
     ensures { λ r. ⌜ drop (r .length) (now (line .exit)) ≡ drop (r .length) (now (line .entry)) ⌝ }

@@ -11,12 +11,12 @@ use Rattle.meaning.proofs.Booleans.{t≢f}
 use Rattle.dimacs.specs.Clauses.{Reading, clause, complete, refusal, formula}
 use Rattle.dimacs.proofs.Formula.{formula-improper}
 use Rattle.records.specs.Records.{recordAt}
-use Rattle.verdict.specs.Check.{State, stop, step, Verdict, verdict, check}
-use Rattle.verdict.specs.Run.{Meant, follows, Reached, Ended, no-header, not-read, no-room, stopped}
+use Rattle.verdict.specs.Check.{State, stop, spent, step, Verdict, verdict, check}
+use Rattle.verdict.specs.Run.{Meant, follows, Reached, Ended, no-header, not-read, no-room, stopped, tried}
 use Rattle.verdict.specs.Satisfies.{clausesOf, readToEnd, satisfies}
 use Rattle.verdict.proofs.Clauses.{underway}
 use Rattle.verdict.proofs.Ends.{ended}
-use Rattle.verdict.proofs.Numbers.{FormulaNumber, Closed, formula-refused, proof-ended, ended-closed}
+use Rattle.verdict.proofs.Numbers.{FormulaNumber, Closed, formula-refused, proof-ended, proof-tried, ended-closed}
 use Rattle.verdict.proofs.Refuted.{reached-end, check-refuted}
 use Rattle.grammar.specs.Formula.{Dimacs}
 use Rattle.grammar.specs.Reads.{Gives}
@@ -72,12 +72,15 @@ module _ (s : ℕ) (text proof : List ℕ) where
       go : (v : Verdict) → Closed s text proof v → FormulaNumber (v .number)
       go _ (formula-refused named) = named
       go _ (proof-ended p R e) = absurd (no-text (reads-to-end text .0 (reached-end s text proof R)))
+      go _ (proof-tried p R e) = absurd (no-text (reads-to-end text .0 (reached-end s text proof R)))
 
   -- Of a DIMACS text the table is full at a clause, or the check comes to the proof's records.
   pub data Judged (v : Verdict) : Type 0 where
     full-at-clause : v .number ≡ 8 → Judged v
     at-record : {n at : ℕ} {st : State} {m : Meant} → Reached s text proof n st at m → (offset : ℕ)
         → step n s st (follows proof at) (recordAt proof at) ≡ stop (v .number) offset → Judged v
+    at-record-tried : {n at : ℕ} {st : State} {m : Meant} → Reached s text proof n st at m → (peak : ℕ)
+        → step n s st (follows proof at) (recordAt proof at) ≡ spent (v .number) peak → Judged v
 
   pub dimacs-judged : Says text → Judged (verdict s text proof)
   dimacs-judged d = go (verdict s text proof) (ended s text proof)
@@ -90,3 +93,4 @@ module _ (s : ℕ) (text proof : List ℕ) where
       go _ (not-read {n} {many} {number} {place} M) = t≢f (sym whole ∙ sym (underway s text n many M .end) ∙ refusal-ends number place (refusal number place) refl)
       go _ (no-room M e) = full-at-clause refl
       go _ (stopped {n} {number} {offset} R e) = at-record R offset e
+      go _ (tried {n} {number} {peak} R e) = at-record-tried R peak e

@@ -1,9 +1,10 @@
 -- A PR line's turns: one member's, and those of all, over a table that is the same before each. The idea: what is to be shown is what is
--- left to be shown, and the rounds are those counted and those to come. Assumes nothing.
+-- left to be shown, the rounds are those counted and those to come, and the peak is the greater of the one so far and the one to come.
+-- Assumes nothing.
 use mathlib.Core.Path.{_≡_, refl, sym, ap, ap₂, _∙_, subst}
-use mathlib.Core.Bool.{Bool, true, false, not, _&&_}
+use mathlib.Core.Bool.{Bool, true, false, not}
 use mathlib.Core.List.{List, [], _∷_, _++_}
-use Prim.Native.Nat.{ℕ, suc, _+_, _*_, _≤_, _<_}
+use Prim.Native.Nat.{ℕ, suc, _+_, _*_, _≤_, _<_, max}
 use native.Mathlib.Omega.{arith}
 use native.Mathlib.Numerals.{add-one}
 use lib.ListN.{length, getD, drop, drop-of-length-le}
@@ -16,6 +17,7 @@ use Rattle.meaning.proofs.Booleans.{t≢f}
 use Rattle.meaning.proofs.Units.{eq-same}
 use Rattle.table.specs.Nodes.{diagramAt}
 use Rattle.table.specs.Indexed.{Table, size, nodesOf, Good, Outcome}
+use Rattle.table.proofs.Written.{length-nodes}
 use Rattle.table.proofs.Numbers.{diagramAt-one}
 use Rattle.table.proofs.Outcomes.{Longer, longer, Grown, grown}
 use Rattle.walks.specs.Constant.{oneAt}
@@ -23,19 +25,19 @@ use Rattle.operate.specs.declared.Operation.the-variants.{Literals}
 use Rattle.operate.specs.Operate.{result}
 use Rattle.operate.specs.Inner.{applied, MemoRight, Ready}
 use Rattle.operate.proofs.Results.{result-reduced}
-use Rattle.table.specs.Making.{placedAll, Reach, reached, turnsReach, lineReach}
+use Rattle.table.specs.Making.{placedAll, Reach, reach, reached, thenReach, turnsReach, lineReach}
 use Rattle.supports.specs.Supports.{Support}
 use Rattle.walks.specs.Readable.{ListReady}
 use Rattle.table.specs.Lists.{diagramsOf}
-use Rattle.table.proofs.PlacedAll.{first-full, first-placed}
+use Rattle.table.proofs.PlacedAll.{first-full, first-placed, turns-peak}
 use Rattle.table.proofs.Extended.{longer-extended, extended-same, extended-trans, diagrams-kept}
 use Rattle.judge.specs.declared.Judged.{Judged}
 use Rattle.judge.specs.Lines.{Negatable, Worded, Says}
 use Rattle.judge.proofs.Worded.{literals-has, supports-longer}
 use Rattle.judge.proofs.Fits.{propagation, rup-reach, turns-reach, constant-turn, turn-shown, turn-rounds, turn-reach, GoesOn, Stops, goes-on, stops}
 
-abbrev pub judgedAs : Bool → Bool → ℕ → ℕ → Judged
-judgedAs full shown rounds count = record { full = full; shown = shown; rounds = rounds; count = count }
+abbrev pub judgedAs : Bool → Bool → ℕ → ℕ → ℕ → Judged
+judgedAs full shown rounds count peak = record { full = full; shown = shown; rounds = rounds; count = count; peak = peak }
 
 -- ---- one member
 
@@ -44,13 +46,13 @@ module _ (T : Table) (list memo : List ℕ) (R : ListReady T list memo) (f p n :
   One = prTurns 64 (inWord p) (inWord n) (diagramsOf (nodesOf T) list) (diagramAt (nodesOf T) f ∷ [])
 
   -- h is 1: nothing is made
-  pub turn-constant : oneAt (nodesOf T) p n f ≡ true → Says T One 64 (judgedAs false true 0 (T .count)) T
+  pub turn-constant : oneAt (nodesOf T) p n f ≡ true → Says T One 64 (judgedAs false true 0 (T .count) (T .count)) T
   unfolding oneAt lineReach turnsReach placedAll
   turn-constant e =
       let q : One ≡ _ = constant-turn 64 (inWord p) (inWord n) (diagramsOf (nodesOf T) list) (diagramAt (nodesOf T) f) e in
       record {
         extended = extended-same T (R .good);
-        fits = ap (λ (L : Line). lineReach (size T) (nodesOf T) L .fits) q;
+        reaches = ap (lineReach (size T) (nodesOf T)) q ∙ ap (reach true) (length-nodes T (R .good));
         shown = λ _. sym (ap (λ (L : Line). L .shown) q);
         rounds = λ _. sym (ap (λ (L : Line). L .rounds) q);
         most = omega arith;
@@ -85,12 +87,15 @@ module _ (T : Table) (list memo : List ℕ) (R : ListReady T list memo) (f p n :
     reach-is = turn-reach 64 (inWord p) (inWord n) ms (diagramAt (nodesOf T) f) other (size T) (nodesOf T)
 
     -- h found no room
-    pub turn-full : o .full ≡ true → (count : ℕ) → Says T One 64 (judgedAs true false 0 count) (o .table)
+    pub turn-full : o .full ≡ true → Says T One 64 (judgedAs true false 0 (o .table .count) (o .table .count)) (o .table)
     unfolding result
-    turn-full q count =
+    turn-full q =
         record {
           extended = longer-extended T (o .table) long;
-          fits = ap (λ (x : Reach). x .fits) (reach-is ∙ ap reached (first-full (size T) (nodesOf T) h (base 64 ms h ++ propagation 64 ms h .made) o e q));
+          reaches =
+              reach-is
+              ∙ ap reached (first-full (size T) (nodesOf T) h (base 64 ms h ++ propagation 64 ms h .made) o e q)
+              ∙ ap (reach false) (length-nodes (o .table) (made .good));
           shown = λ z. t≢f z;
           rounds = λ z. t≢f z;
           most = omega arith;
@@ -143,7 +148,7 @@ module _ (T : Table) (list memo : List ℕ) (R : ListReady T list memo) (f p n :
       turn-judged r T′ S =
           record {
             extended = extended-trans T (o .table) T′ (R .good) (longer-extended T (o .table) long) (S .extended);
-            fits = ap (λ (x : Reach). x .fits) reach-both ∙ S .fits;
+            reaches = reach-both ∙ S .reaches;
             shown = λ z. S .shown z ∙ ap (λ (L : Line). L .shown) rup-is ∙ sym (turn-shown 64 (inWord p) (inWord n) ms (diagramAt (nodesOf T) f) other);
             rounds = λ z. S .rounds z ∙ ap (λ (L : Line). L .rounds) rup-is ∙ sym (turn-rounds 64 (inWord p) (inWord n) ms (diagramAt (nodesOf T) f) other);
             most = S .most;
@@ -156,32 +161,47 @@ module _ (T : Table) (list members : List ℕ) (p n : ℕ) where
   abbrev lineOf : List ℕ → Line
   lineOf ks = prTurns 64 (inWord p) (inWord n) (diagramsOf (nodesOf T) list) (diagramsOf (nodesOf T) ks)
 
-  abbrev fit : List ℕ → Bool
-  fit ks = turnsReach (size T) (lineOf ks .turns) (nodesOf T) .fits
+  abbrev reachOf : List ℕ → Reach
+  reachOf ks = turnsReach (size T) (lineOf ks .turns) (nodesOf T)
 
-  line-fit : (ks : List ℕ) → lineReach (size T) (nodesOf T) (lineOf ks) .fits ≡ fit ks
-  line-fit ks = ap (λ (x : Reach). x .fits) (turns-reach 64 (inWord p) (inWord n) (diagramsOf (nodesOf T) list) (size T) (nodesOf T) (diagramsOf (nodesOf T) ks))
+  line-reach : (ks : List ℕ) → lineReach (size T) (nodesOf T) (lineOf ks) ≡ reachOf ks
+  line-reach ks = turns-reach 64 (inWord p) (inWord n) (diagramsOf (nodesOf T) list) (size T) (nodesOf T) (diagramsOf (nodesOf T) ks)
 
-  -- The turns of the first i members conflicted, in so many rounds.
-  pub record Turning (i rounds : ℕ) : Type 0 where
+  -- what is reached, where so much was reached before
+  abbrev raised : ℕ → Reach → Reach
+  raised peak r = reach (r .fits) (max peak (r .peak))
+
+  -- The turns of the first i members conflicted, in so many rounds, and reached so much.
+  pub record Turning (i rounds peak : ℕ) : Type 0 where
     pub so-far : i ≤ length members
     pub most : rounds ≤ 64 * i
+    pub least : length (nodesOf T) ≤ peak
     pub shown-left : lineOf members .shown ≡ lineOf (drop i members) .shown
     pub rounds-left : lineOf members .rounds ≡ rounds + lineOf (drop i members) .rounds
-    pub fits-left : fit members ≡ fit (drop i members)
+    pub reach-left : reachOf members ≡ raised peak (reachOf (drop i members))
 
-  pub turning-none : Turning 0 0
-  turning-none = record { so-far = omega arith; most = omega arith; shown-left = refl; rounds-left = omega arith; fits-left = refl }
+  pub turning-none : Good T → Turning 0 0 (T .count)
+  turning-none good =
+      let len : length (nodesOf T) ≡ T .count = length-nodes T good in
+      record {
+        so-far = omega arith;
+        most = omega arith;
+        least = omega arith;
+        shown-left = refl;
+        rounds-left = omega arith;
+        reach-left = ap (reach (reachOf members .fits)) (omega (arith, turns-peak (size T) (lineOf members .turns) (nodesOf T)));
+      }
 
   module _ (good : Good T) where
     -- all are passed
-    pub turns-done : (i rounds : ℕ) → Turning i rounds → length members ≤ i → Says T (lineOf members) (64 * length members) (judgedAs false true rounds (T .count)) T
+    pub turns-done : (i rounds peak : ℕ) → Turning i rounds peak → length members ≤ i
+        → Says T (lineOf members) (64 * length members) (judgedAs false true rounds (T .count) peak) T
     unfolding prTurns turnsReach
-    turns-done i rounds W end =
+    turns-done i rounds peak W end =
         let none : drop i members ≡ [] = drop-of-length-le members {i = i} end in
         record {
           extended = extended-same T good;
-          fits = line-fit members ∙ W .fits-left ∙ ap fit none;
+          reaches = line-reach members ∙ W .reach-left ∙ ap (λ (ks : List ℕ). raised peak (reachOf ks)) none ∙ ap (reach true) (omega (arith, W .least));
           shown = λ _. sym (W .shown-left ∙ ap (λ (ks : List ℕ). lineOf ks .shown) none);
           rounds = λ _. sym (W .rounds-left ∙ ap (λ (ks : List ℕ). rounds + lineOf ks .rounds) none ∙ plus-zero rounds);
           most = omega (arith, W .most, W .so-far);
@@ -190,18 +210,18 @@ module _ (T : Table) (list members : List ℕ) (p n : ℕ) where
         plus-zero : (m : ℕ) → m + 0 ≡ m
         plus-zero m = omega arith
 
-    module _ (i rounds : ℕ) (W : Turning i rounds) (more : i < length members) (r : Judged) (T′ : Table) (S : Says T (lineOf (getD members i 0 ∷ [])) 64 r T′) where
+    module _ (i rounds peak : ℕ) (W : Turning i rounds peak) (more : i < length members) (r : Judged) (T′ : Table) (S : Says T (lineOf (getD members i 0 ∷ [])) 64 r T′) where
       abbrev one : Line
       one = lineOf (getD members i 0 ∷ [])
 
       next : drop i members ≡ getD members i 0 ∷ drop (suc i) members
       next = drop-cons members i 0 more
 
-      one-fits : fit (getD members i 0 ∷ []) ≡ not (r .full)
-      one-fits = sym (line-fit (getD members i 0 ∷ [])) ∙ S .fits
+      one-reach : reachOf (getD members i 0 ∷ []) ≡ reach (not (r .full)) (r .peak)
+      one-reach = sym (line-reach (getD members i 0 ∷ [])) ∙ S .reaches
 
-      all-fit : lineReach (size T) (nodesOf T) (lineOf members) .fits ≡ fit (getD members i 0 ∷ drop (suc i) members)
-      all-fit = line-fit members ∙ W .fits-left ∙ ap fit next
+      all-reach : lineReach (size T) (nodesOf T) (lineOf members) ≡ raised peak (reachOf (getD members i 0 ∷ drop (suc i) members))
+      all-reach = line-reach members ∙ W .reach-left ∙ ap (λ (ks : List ℕ). raised peak (reachOf ks)) next
 
       onward : one .shown ≡ true → GoesOn (size T) (nodesOf T) one (lineOf (drop (suc i) members)) (lineOf (getD members i 0 ∷ drop (suc i) members))
       onward =
@@ -212,57 +232,63 @@ module _ (T : Table) (list members : List ℕ) (p n : ℕ) where
           stops (size T) (nodesOf T) 64 (inWord p) (inWord n) (diagramsOf (nodesOf T) list) (diagramAt (nodesOf T) (getD members i 0)) (diagramsOf (nodesOf T) (drop (suc i) members))
 
       -- a turn that found no room
-      pub turns-full : r .full ≡ true → (count : ℕ) → Says T (lineOf members) (64 * length members) (judgedAs true false 0 count) T′
+      pub turns-full : r .full ≡ true → (count : ℕ) → Says T (lineOf members) (64 * length members) (judgedAs true false 0 count (max peak (r .peak))) T′
       turns-full q count =
           record {
             extended = S .extended;
-            fits = all-fit ∙ go (one .shown) refl;
+            reaches = all-reach ∙ ap (raised peak) (go (one .shown) refl);
             shown = λ z. t≢f z;
             rounds = λ z. t≢f z;
             most = omega arith;
           }
         where
-          no-room : fit (getD members i 0 ∷ []) ≡ false
-          no-room = one-fits ∙ ap not q
+          no-room : reachOf (getD members i 0 ∷ []) ≡ reach false (r .peak)
+          no-room = one-reach ∙ ap (λ (b : Bool). reach (not b) (r .peak)) q
 
-          go : (b : Bool) → one .shown ≡ b → fit (getD members i 0 ∷ drop (suc i) members) ≡ false
-          go true e = ap (λ (x : Reach). x .fits) (onward e .reach) ∙ ap (λ (x : Bool). x && fit (drop (suc i) members)) no-room
-          go false e = ap (λ (x : Reach). x .fits) (last e .reach) ∙ no-room
+          go : (b : Bool) → one .shown ≡ b → reachOf (getD members i 0 ∷ drop (suc i) members) ≡ reach false (r .peak)
+          go true e = onward e .reach ∙ ap (λ (x : Reach). thenReach x (reachOf (drop (suc i) members))) no-room
+          go false e = last e .reach ∙ no-room
 
       module _ (q : r .full ≡ false) where
-        has-room : fit (getD members i 0 ∷ []) ≡ true
-        has-room = one-fits ∙ ap not q
+        has-room : reachOf (getD members i 0 ∷ []) ≡ reach true (r .peak)
+        has-room = one-reach ∙ ap (λ (b : Bool). reach (not b) (r .peak)) q
 
         -- a turn that does not conflict
-        pub turns-end : r .shown ≡ false → Says T (lineOf members) (64 * length members) (judgedAs false false (rounds + r .rounds) (T .count)) T
+        pub turns-end : r .shown ≡ false → Says T (lineOf members) (64 * length members) (judgedAs false false (rounds + r .rounds) (T .count) (max peak (r .peak))) T
         turns-end z =
             let e : one .shown ≡ false = sym (S .shown q) ∙ z in
             record {
               extended = extended-same T good;
-              fits = all-fit ∙ ap (λ (x : Reach). x .fits) (last e .reach) ∙ has-room;
+              reaches = all-reach ∙ ap (raised peak) (last e .reach ∙ has-room);
               shown = λ _. sym (W .shown-left ∙ ap (λ (ks : List ℕ). lineOf ks .shown) next ∙ last e .shown);
               rounds = λ _. sym (W .rounds-left ∙ ap (λ (ks : List ℕ). rounds + lineOf ks .rounds) next ∙ ap (λ (m : ℕ). rounds + m) (last e .rounds ∙ sym (S .rounds q)));
               most = omega (arith, W .most, S .most);
             }
 
         -- a turn that conflicts
-        pub turns-on : r .shown ≡ true → Turning (i + 1) (rounds + r .rounds)
+        pub turns-on : r .shown ≡ true → Turning (i + 1) (rounds + r .rounds) (max peak (r .peak))
         turns-on z =
             let e : one .shown ≡ true = sym (S .shown q) ∙ z in
             let g = onward e in
             record {
               so-far = omega arith;
               most = omega (arith, W .most, S .most);
+              least = omega (arith, W .least);
               shown-left = W .shown-left ∙ ap (λ (ks : List ℕ). lineOf ks .shown) next ∙ g .shown ∙ ap (λ (k : ℕ). lineOf (drop k members) .shown) (sym (add-one i));
               rounds-left =
                   W .rounds-left ∙ ap (λ (ks : List ℕ). rounds + lineOf ks .rounds) next ∙ ap (λ (m : ℕ). rounds + m) (g .rounds)
                   ∙ ap (λ (m : ℕ). rounds + (m + lineOf (drop (suc i) members) .rounds)) (sym (S .rounds q))
                   ∙ ap (λ (k : ℕ). rounds + (r .rounds + lineOf (drop k members) .rounds)) (sym (add-one i))
                   ∙ grouped rounds (r .rounds) (lineOf (drop (i + 1) members) .rounds);
-              fits-left =
-                  W .fits-left ∙ ap fit next ∙ ap (λ (x : Reach). x .fits) (g .reach) ∙ ap (λ (x : Bool). x && fit (drop (suc i) members)) has-room
-                  ∙ ap (λ (k : ℕ). fit (drop k members)) (sym (add-one i));
+              reach-left =
+                  W .reach-left ∙ ap (λ (ks : List ℕ). raised peak (reachOf ks)) next
+                  ∙ ap (raised peak) (g .reach ∙ ap (λ (x : Reach). thenReach x (reachOf (drop (suc i) members))) has-room)
+                  ∙ ap (reach (reachOf (drop (suc i) members) .fits)) (greatest peak (r .peak) (reachOf (drop (suc i) members) .peak))
+                  ∙ ap (λ (k : ℕ). raised (max peak (r .peak)) (reachOf (drop k members))) (sym (add-one i));
             }
           where
             grouped : (a b c : ℕ) → a + (b + c) ≡ (a + b) + c
             grouped a b c = omega arith
+
+            greatest : (a b c : ℕ) → max a (max b c) ≡ max (max a b) c
+            greatest a b c = omega arith

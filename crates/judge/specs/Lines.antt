@@ -9,7 +9,7 @@ use Rattle.meaning.specs.Operations.{negation}
 use Rattle.meaning.specs.Rules.{Line, byDiagram, base}
 use Rattle.table.specs.Nodes.{diagramAt}
 use Rattle.table.specs.Indexed.{Table, size, nodesOf}
-use Rattle.table.specs.Making.{placedAll, lineReach}
+use Rattle.table.specs.Making.{placedAll, reach, lineReach}
 use Rattle.supports.specs.Supports.{Support, Supports}
 use Rattle.walks.specs.Readable.{ListReady}
 use Rattle.table.specs.Lists.{room, diagramsOf, Inside, Extended}
@@ -35,11 +35,11 @@ pub record ByNegation (t : Table) (ms : List Diagram) (g : Diagram) (full : Bool
   pub inside : full ≡ false → Inside (t′ .count) list
   pub are : full ≡ false → diagramsOf (nodesOf t′) list ≡ byDiagram 64 (negation 64 g) ms
 
--- The line over the table t: `full` exactly where what it makes finds no room, else whether it is shown, and its rounds, at most so
--- many; the table is then t′.
+-- The line over the table t: `full` exactly where what it makes finds no room, and the greatest count reached; where all finds room whether it
+-- is shown, and its rounds, at most so many; the table is then t′.
 pub record Says (t : Table) (line : Line) (bound : ℕ) (r : Judged) (t′ : Table) : Type 0 where
   pub extended : Extended t t′
-  pub fits : lineReach (size t) (nodesOf t) line .fits ≡ not (r .full)
+  pub reaches : lineReach (size t) (nodesOf t) line ≡ reach (not (r .full)) (r .peak)
   pub shown : r .full ≡ false → r .shown ≡ line .shown
   pub rounds : r .full ≡ false → r .rounds ≡ line .rounds
   pub most : r .rounds ≤ bound

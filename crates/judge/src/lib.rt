@@ -4,7 +4,7 @@ use propagate::Made;
 use table::NodeNo;
 ghost use mathlib.Core.Path.{_≡_};
 ghost use mathlib.Core.Bool.{false};
-ghost use Prim.Native.Nat.{_<_};
+ghost use Prim.Native.Nat.{_<_, max};
 ghost use lib.ListN.{length};
 ghost use Rattle.table.specs.Nodes.{diagramAt};
 ghost use Rattle.table.specs.Indexed.{tableOf, nodesOf};
@@ -15,12 +15,24 @@ ghost use Rattle.judge.specs.Lines.{Negatable, Worded, ByNegation};
 pub mod pr;
 pub mod rup;
 
-// What judging says: `full` where a node found no room, else whether the line is shown, and its rounds; and the count.
+// What judging says: `full` where a node found no room, else whether the line is shown, and its rounds; the count, and the greatest
+// count reached, dropped nodes included.
 pub struct Judged {
     pub full: bool,
     pub shown: bool,
     pub rounds: u64,
     pub count: usize,
+    pub peak: usize,
+}
+
+// The greater of two counts.
+pub fn greater(a: usize, b: usize) -> usize
+    ensures { λ r. ⌜ r ≡ max a b ⌝ }
+{
+    if a < b {
+        return b;
+    }
+    a
 }
 
 // Fills a list with another of its length.

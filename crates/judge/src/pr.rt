@@ -60,6 +60,7 @@ fn turn(
             shown: true,
             rounds: 0,
             count,
+            peak: count,
         };
     }
     operate::memo::clear_memo(memo);
@@ -81,6 +82,7 @@ fn turn(
             shown: false,
             rounds: 0,
             count: h.count,
+            peak: h.count,
         };
     }
     crate::rup::rup_with(
@@ -144,6 +146,7 @@ fn turns(
     ensures { λ _. ⌜ now (marks .exit) ≡ unmarked (length (now (vars .entry))) ⌝ }
 {
     let mut rounds: u64 = 0;
+    let mut peak: usize = count;
     let mut i: usize = 0;
     while i < members.len() {
         let f = NodeNo(members[i]);
@@ -165,12 +168,14 @@ fn turns(
             positive,
             negative,
         );
+        peak = crate::greater(peak, t.peak);
         if t.full {
             return crate::Judged {
                 full: true,
                 shown: false,
                 rounds: 0,
                 count: t.count,
+                peak,
             };
         }
         table::drop_to(vars, lows, highs, heads, links, t.count, count);
@@ -181,6 +186,7 @@ fn turns(
                 shown: false,
                 rounds,
                 count,
+                peak,
             };
         }
         i += 1;
@@ -190,6 +196,7 @@ fn turns(
         shown: true,
         rounds,
         count,
+        peak,
     }
 }
 
@@ -257,6 +264,7 @@ pub fn pr(
             shown: false,
             rounds: 0,
             count: made.count,
+            peak: made.count,
         };
     }
     supports::supports_of(vars, lows, highs, memo, first, firstwords, made.count);

@@ -62,6 +62,7 @@ pub fn rup_with(
             shown: false,
             rounds: 0,
             count: made.count,
+            peak: made.count,
         };
     }
     let p = propagate::unit_prop(
@@ -81,6 +82,7 @@ pub fn rup_with(
         shown: p.conflict,
         rounds: p.rounds as u64,
         count: p.count,
+        peak: p.count,
     }
 }
 

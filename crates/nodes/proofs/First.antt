@@ -30,7 +30,7 @@ pub first-all : (n : ℕ) (xs : List ℕ) → 65536 < n → length xs ≡ 65536 
 first-all n xs h e = take-all n xs (omega (arith, h, e))
 
 pub check-past : (n : ℕ) (vs ls hs : List ℕ) (count : ℕ) (ms ss formula proof : List ℕ) → 65536 < n → length vs ≡ 65536 → length ls ≡ 65536 → length hs ≡ 65536
-    → outcomeOf (take n vs) (take n ls) (take n hs) ms ss (record { number = 7; place = 0; lines = 0; rounds = 0; count = count }) ≡ checkWithin n vs ls hs count ms ss formula proof
+    → outcomeOf (take n vs) (take n ls) (take n hs) ms ss (record { number = 7; place = 0; lines = 0; rounds = 0; count = count; peak = 0 }) ≡ checkWithin n vs ls hs count ms ss formula proof
 unfolding checkWithin
 check-past n vs ls hs count ms ss formula proof h a b c = rw (first-all n vs h a, first-all n ls h b, first-all n hs h c, lt-leb n 65536 h)
 

@@ -127,7 +127,7 @@ module _ {X : Type 0} (out call stay : List ℕ → List ℕ → List ℕ → X)
 -- ---- the check
 module _ (count : ℕ) (ms ss formula proof ms′ ss′ : List ℕ) (r : Checked) where
   abbrev seven : List ℕ → List ℕ → List ℕ → Outcome
-  seven v l h = record { number = 7; place = 0; lines = 0; rounds = 0; count = count; columns = record { vars = v; lows = l; highs = h }; members = ms; scratch = ss }
+  seven v l h = record { number = 7; place = 0; lines = 0; rounds = 0; count = count; peak = 0; columns = record { vars = v; lows = l; highs = h }; members = ms; scratch = ss }
 
   check-refused : (v l h : List ℕ) → sizeFits v l h ≡ false → check v l h count ms ss formula proof ≡ seven v l h
   unfolding check lentFits
@@ -136,7 +136,7 @@ module _ (count : ℕ) (ms ss formula proof ms′ ss′ : List ℕ) (r : Checked
   check-moved : (a b c v l h : List ℕ) → outcomeOf a b c ms′ ss′ r ≡ seven v l h → ((a ≡ v) × (b ≡ l) × (c ≡ h)) × ((v l h : List ℕ) → outcomeOf v l h ms′ ss′ r ≡ seven v l h)
   check-moved a b c v l h e = (
     (ap (λ (o : Outcome). o .columns .vars) e, ap (λ (o : Outcome). o .columns .lows) e, ap (λ (o : Outcome). o .columns .highs) e),
-    (λ v l h. ap (λ (o : Outcome). record { number = o .number; place = o .place; lines = o .lines; rounds = o .rounds; count = o .count; columns = record { vars = v; lows = l; highs = h }; members = o .members; scratch = o .scratch }) e),
+    (λ v l h. ap (λ (o : Outcome). record { number = o .number; place = o .place; lines = o .lines; rounds = o .rounds; count = o .count; peak = o .peak; columns = record { vars = v; lows = l; highs = h }; members = o .members; scratch = o .scratch }) e),
   )
 
   pub check-whole : (ys : List Node) (m : ℕ) (vs₀ ls₀ hs₀ vs ls hs : List ℕ) → Cut (length ys) m → Sized vs ls hs

@@ -27,6 +27,7 @@ checkWithin n vars lows highs count members scratch formula proof =
       lines = 0;
       rounds = 0;
       count = count;
+      peak = 0;
       columns = record { vars = vars; lows = lows; highs = highs };
       members = members;
       scratch = scratch;

@@ -37,6 +37,7 @@ pub fn check_within<'a>(
             lines: 0,
             rounds: 0,
             count,
+            peak: 0,
         };
     }
     checker::check(

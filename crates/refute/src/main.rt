@@ -102,7 +102,7 @@ fn deliver<'a>(
 
 // The line for what was read.
 fn answer<'a>(first: bool, formula: &'a [u8], second: bool, proof: &'a [u8]) -> bool {
-    let mut line = [0u8; 84];
+    let mut line = [0u8; 105];
     let told = report::report(first, formula, second, proof, &mut line);
     let length = told.length;
     deliver(&line[..length], first, formula, second, proof)

@@ -39,11 +39,12 @@ put-small {xs} {ys} {at} {n} {r} h f = subst (λ (bs : List ℕ). Put xs at bs y
 pub put-more : {xs ys zs : List ℕ} {at p n r : ℕ} → 10 ≤ n → Put xs at (decimal (n / 10)) ys p → Put ys p ((48 + n % 10) ∷ []) zs r → Put xs at (decimal n) zs r
 put-more {xs} {ys} {zs} {at} {p} {n} {r} h f g = subst (λ (bs : List ℕ). Put xs at bs zs r) (sym (decimal-more n h)) (put-then f g)
 
-pub put-whole : {xs ws bs cs ds : List ℕ} {a b c d : ℕ} (l : Line)
+pub put-whole : {xs ws bs cs ds es : List ℕ} {a b c d e : ℕ} (l : Line)
     → Put xs 0 (field (l .number) 32) ws a
     → Put ws a (field (l .place) 32) bs b
     → Put bs b (field (l .lines) 32) cs c
-    → Put cs c (field (l .rounds) 10) ds d
-    → Put xs 0 (lineBytes l) ds d
+    → Put cs c (field (l .rounds) 32) ds d
+    → Put ds d (field (l .peak) 10) es e
+    → Put xs 0 (lineBytes l) es e
 unfolding lineBytes
-put-whole l f g h i = put-then f (put-then g (put-then h i))
+put-whole l f g h i j = put-then f (put-then g (put-then h (put-then i j)))

@@ -1,5 +1,5 @@
--- The line read back gives its four numbers, so a line that begins with the number 0 is said only of a formula that nothing satisfies.
--- 01's case A by computation. Assumes nothing.
+-- The line read back gives its five numbers, so a line that begins with the number 0 is said only of a formula that nothing satisfies.
+-- Case A by computation. Assumes nothing.
 use mathlib.Core.Path.{_≡_, refl, sym, ap, _∙_, subst}
 use mathlib.Core.Bool.{Bool, true, false, cond}
 use mathlib.Core.List.{List, [], _∷_, _++_, append-assoc, append-nil}
@@ -61,15 +61,17 @@ last-read : (n b : ℕ) → b < 48 → numbersAfter 0 (field n b) ≡ n ∷ []
 unfolding numbersAfter
 last-read n b h = number-read (suc n) n (b ∷ []) (omega arith) ∙ parting-read n b [] h
 
--- The four numbers come back.
-pub line-read : (l : Line) → numbersOf (lineBytes l) ≡ l .number ∷ l .place ∷ l .lines ∷ l .rounds ∷ []
+-- The five numbers come back.
+pub line-read : (l : Line) → numbersOf (lineBytes l) ≡ l .number ∷ l .place ∷ l .lines ∷ l .rounds ∷ l .peak ∷ []
 unfolding lineBytes
 line-read l =
     field-read (l .number) 32 _ (omega arith)
     ∙ ap {B = List ℕ} (λ ns. l .number ∷ ns)
     (field-read (l .place) 32 _ (omega arith)
     ∙ ap {B = List ℕ} (λ ns. l .place ∷ ns)
-    (field-read (l .lines) 32 _ (omega arith) ∙ ap {B = List ℕ} (λ ns. l .lines ∷ ns) (last-read (l .rounds) 10 (omega arith))))
+    (field-read (l .lines) 32 _ (omega arith)
+    ∙ ap {B = List ℕ} (λ ns. l .lines ∷ ns)
+    (field-read (l .rounds) 32 _ (omega arith) ∙ ap {B = List ℕ} (λ ns. l .rounds ∷ ns) (last-read (l .peak) 10 (omega arith)))))
 
 -- Whoever reads the number 0 from the line knows that nothing satisfies the formula that was read.
 pub line-refuted : (f p : Bool) (formula proof rest : List ℕ) → numbersOf (lineBytes (said f formula p proof)) ≡ 0 ∷ rest
@@ -77,7 +79,7 @@ pub line-refuted : (f p : Bool) (formula proof rest : List ℕ) → numbersOf (l
 line-refuted f p formula proof rest e =
     said-refuted f p formula proof (ap (λ (ns : List ℕ). getD ns 0 0) (sym (line-read (said f formula p proof)) ∙ e))
 
--- "A. [..] prints `0 12 2 1`."
-pub case-A : lineBytes (said true (bytes A-formula) true A-proof) ≡ bytes "0 12 2 1\n"
+-- "case A now prints `0 12 2 1 10`" (02, 2/14)
+pub case-A : lineBytes (said true (bytes A-formula) true A-proof) ≡ bytes "0 12 2 1 10\n"
 unfolding lineBytes decimalBy said verdict clausesFrom place clause diagramFrom same? recordAt above rup valueFrom diagramAt ℕ-discrete conjunction cofactor unitsTo
 case-A = refl

@@ -20,7 +20,7 @@ use Rattle.report.proofs.Digits.{by}
 -- ---- the call with lists of zeros
 
 abbrev pub lineOf : Outcome → Line
-lineOf o = record { number = o .number; place = o .place; lines = o .lines; rounds = o .rounds }
+lineOf o = record { number = o .number; place = o .place; lines = o .lines; rounds = o .rounds; peak = o .peak }
 
 fits : lentFits (zeros 4096) (zeros 4096) (zeros 4096) (zeros 2048) (zeros 4096) ≡ true
 unfolding lentFits sizeFits

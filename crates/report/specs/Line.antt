@@ -22,9 +22,9 @@ decimal n = decimalBy (suc n) n
 abbrev pub field : ℕ → ℕ → List ℕ
 field n parting = decimal n ++ parting ∷ []
 
--- "prints one line: number, place, accepted lines, rounds": parted by a space each, and LF at the end.
+-- "prints one line: number, place, accepted lines, rounds", and the peak "as a fifth field" (02, 2/14): parted by a space each, LF at the end.
 unfoldable pub lineBytes : Line → List ℕ
-lineBytes l = field (l .number) 32 ++ (field (l .place) 32 ++ (field (l .lines) 32 ++ field (l .rounds) 10))
+lineBytes l = field (l .number) 32 ++ (field (l .place) 32 ++ (field (l .lines) 32 ++ (field (l .rounds) 32 ++ field (l .peak) 10)))
 
 -- The bytes put into a line at a place: what stood before and behind them stays, and `next` is the place after them.
 pub record Put (before : List ℕ) (at : ℕ) (bytes after : List ℕ) (next : ℕ) : Type 0 where

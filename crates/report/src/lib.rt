@@ -10,12 +10,13 @@ ghost use Rattle.verdict.specs.Check.{verdict};
 ghost use Rattle.report.specs.Files.{said, fileRefused, ofVerdict, statusOf};
 ghost use Rattle.report.specs.Line.{lineBytes};
 
-// 01's number and its place, the accepted lines and their rounds.
+// 01's number and its place, the accepted lines, their rounds and the greatest count of the table.
 pub struct Line {
     pub number: u8,
     pub place: usize,
     pub lines: usize,
     pub rounds: u64,
+    pub peak: usize,
 }
 
 // How many bytes the line has, and the status to end with.
@@ -49,6 +50,7 @@ pub fn check<'a>(formula: &'a [u8], proof: &'a [u8]) -> Line
         place: r.place,
         lines: r.lines,
         rounds: r.rounds,
+        peak: r.peak,
     }
 }
 
@@ -61,6 +63,7 @@ fn refused(number: u8, place: usize) -> Line
         place,
         lines: 0,
         rounds: 0,
+        peak: 0,
     }
 }
 
@@ -106,7 +109,7 @@ pub fn report<'a>(
     formula: &'a [u8],
     second: bool,
     proof: &'a [u8],
-    line: &mut [u8; 84],
+    line: &mut [u8; 105],
 ) -> Told
     ensures { λ r. ⌜ take (r .length) (now (line .exit)) ≡ lineBytes (said first (now (formula .entry)) second (now (proof .entry))) ⌝ }
     ensures { λ r. ⌜ drop (r .length) (now (line .exit)) ≡ drop (r .length) (now (line .entry)) ⌝ }

@@ -38,7 +38,7 @@ fn put_field(n: u64, parting: u8, line: &mut [u8], at: usize) -> usize
 }
 
 // The line at the start of the array.
-pub fn put_line(told: Line, line: &mut [u8; 84]) -> usize
+pub fn put_line(told: Line, line: &mut [u8; 105]) -> usize
     ensures { λ r. ⌜ take r (now (line .exit)) ≡ lineBytes told ⌝ }
     ensures { λ r. ⌜ drop r (now (line .exit)) ≡ drop r (now (line .entry)) ⌝ }
     ensures { λ r. ⌜ Counts r (now (line .exit)) ⌝ }
@@ -47,7 +47,7 @@ pub fn put_line(told: Line, line: &mut [u8; 84]) -> usize
 }
 
 fn put_fields(told: Line, line: &mut [u8]) -> usize
-    requires { ⌜ 84 ≤ length (now line) ⌝ }
+    requires { ⌜ 105 ≤ length (now line) ⌝ }
     ensures { λ r. ⌜ take r (now (line .exit)) ≡ lineBytes told ⌝ }
     ensures { λ r. ⌜ drop r (now (line .exit)) ≡ drop r (now (line .entry)) ⌝ }
     ensures { λ r. ⌜ Counts r (now (line .exit)) ⌝ }
@@ -55,5 +55,6 @@ fn put_fields(told: Line, line: &mut [u8]) -> usize
     let after_number = put_field(told.number as u64, b' ', line, 0);
     let after_place = put_field(told.place as u64, b' ', line, after_number);
     let after_lines = put_field(told.lines as u64, b' ', line, after_place);
-    put_field(told.rounds, b'\n', line, after_lines)
+    let after_rounds = put_field(told.rounds, b' ', line, after_lines);
+    put_field(told.peak as u64, b'\n', line, after_rounds)
 }

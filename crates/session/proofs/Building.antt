@@ -15,7 +15,7 @@ use Rattle.table.specs.Nodes.{Node, Placing, full, placed, place}
 use Rattle.table.specs.Indexed.{Table, size, nodesOf, Outcome, written}
 use Rattle.meaning.proofs.Booleans.{t≢f}
 use Rattle.table.proofs.Numbers.{UsesTo}
-use Rattle.table.proofs.Written.{nodes-indexed}
+use Rattle.table.proofs.Written.{nodes-indexed, length-nodes}
 use Rattle.table.proofs.Outcomes.{placeIn, Grown, grown}
 use Rattle.dimacs.specs.declared.ClosedClause.{ClosedClause}
 use Rattle.dimacs.specs.declared.Clause.the-variants.{Closed, End, Refused}
@@ -35,9 +35,9 @@ use Rattle.table.proofs.Zeros.{zeros-at}
 
 module _ (n s : ℕ) (proof : List ℕ) (t : List Node) (ms : List ℕ) (ls : List meaning.Literal) (first : ℕ) (rest : Reading) where
   clause-full : (p : Placing) → place s t (meaning.clause n ls) ≡ p → written s p .full ≡ true
-      → clauses n s proof t ms (clause ls first rest) ≡ refusedFormula 8 first
+      → clauses n s proof t ms (clause ls first rest) ≡ refusedFormula 8 first (length (nodesOf (written s p .table)))
   unfolding clauses written
-  clause-full (full t₁) e f = rw e
+  clause-full (full t₁) e f = rw (e, nodes-indexed s t₁)
   clause-full (placed t₁ k) e f = t≢f (sym f)
 
   clause-placed : (p : Placing) → place s t (meaning.clause n ls) ≡ p → written s p .full ≡ false
@@ -106,11 +106,12 @@ module _ (n wanted from : ℕ) (formula : List ℕ) (s : ℕ) where
         ∙ ap (λ (k : ℕ). records (suc (length proof)) n k proof (begun (nodesOf T) (take made members)) 0) (sym (B .same-size))
 
     pub building-refused : (number place : ℕ) → clauseOf (nextClause formula n remaining at) ≡ Refused number place → (proof : List ℕ)
-        → Whole proof ≡ refusedFormula number place
+        → Whole proof ≡ refusedFormula number place (T .count)
     unfolding clauses
     building-refused number place e proof =
         B .left proof ∙ ap (clauses n s proof (nodesOf T) (take made members))
         (clauses-refused formula n remaining at number place (refused-is (nextClause formula n remaining at) number place e))
+        ∙ ap (refusedFormula number place) (length-nodes T (B .built .good))
 
     module _ (c : ClosedClause) (e : clauseOf (nextClause formula n remaining at) ≡ Closed c) where
       closes : IsClosed (nextClause formula n remaining at) c
@@ -144,14 +145,15 @@ module _ (n wanted from : ℕ) (formula : List ℕ) (s : ℕ) where
         before proof =
             B .left proof ∙ ap (clauses n s proof (nodesOf T) (take made members)) (clauses-closed formula n remaining at ls (c .first) (c .next) (closes .is))
 
-        pub building-full : o .full ≡ true → (proof : List ℕ) → Whole proof ≡ refusedFormula 8 (c .first)
+        grown-so : Grown T (meaning.clause n ls) o
+        grown-so = grown T (B .built .good) (meaning.clause n ls) (reduced-to 1 (suc n) 65 (meaning.clause n ls) (omega (arith, B .narrow)) (clause-reduced n ls)) o placed-is
+
+        pub building-full : o .full ≡ true → (proof : List ℕ) → Whole proof ≡ refusedFormula 8 (c .first) (o .table .count)
         building-full f proof =
             before proof
             ∙ clause-full n s proof (nodesOf T) (take made members) ls (c .first) rest (place s (nodesOf T) (meaning.clause n ls)) refl
             (sym (ap (λ (x : Outcome). x .full) placed-s) ∙ f)
-
-        grown-so : Grown T (meaning.clause n ls) o
-        grown-so = grown T (B .built .good) (meaning.clause n ls) (reduced-to 1 (suc n) 65 (meaning.clause n ls) (omega (arith, B .narrow)) (clause-reduced n ls)) o placed-is
+            ∙ ap (λ (x : Outcome). refusedFormula 8 (c .first) (length (nodesOf (x .table)))) (sym placed-s) ∙ ap (refusedFormula 8 (c .first)) (length-nodes (o .table) (grown-so .good))
 
         pub building-next : o .full ≡ false → Building (o .table) (set members made (o .node)) (made + 1) (c .next)
         building-next f =

@@ -34,18 +34,18 @@ use Rattle.table.proofs.Zeros.{zeros-at}
 
 -- ---- an outcome from its parts
 
-abbrev pub answer : ℕ → ℕ → ℕ → ℕ → ℕ → Checked
-answer number place lines rounds count = record { number = number; place = place; lines = lines; rounds = rounds; count = count }
+abbrev pub answer : ℕ → ℕ → ℕ → ℕ → ℕ → ℕ → Checked
+answer number place lines rounds count peak = record { number = number; place = place; lines = lines; rounds = rounds; count = count; peak = peak }
 
-outcome-is : (s m c number place lines rounds count : ℕ) (vs ls hs ms : List ℕ) (t : List Node) (ks : List ℕ)
+outcome-is : (s m c number place lines rounds count peak : ℕ) (vs ls hs ms : List ℕ) (t : List Node) (ks : List ℕ)
     → count ≡ length t → columnsMade vs ls hs ≡ columnsOf (padded s t) → ms ≡ ks ++ zeros (m - length ks)
-    → outcomeOf vs ls hs ms (zeros c) (answer number place lines rounds count)
-    ≡ outcome s m c (record { number = number; place = place; lines = lines; rounds = rounds; nodes = t; members = ks })
+    → outcomeOf vs ls hs ms (zeros c) (answer number place lines rounds count peak)
+    ≡ outcome s m c (record { number = number; place = place; lines = lines; rounds = rounds; peak = peak; nodes = t; members = ks })
 unfolding outcome
-outcome-is s m c number place lines rounds count vs ls hs ms t ks e f g = ap₂ (λ (k : ℕ) (d : Columns). made k d ms) e f ∙ ap (made (length t) (columnsOf (padded s t))) g
+outcome-is s m c number place lines rounds count peak vs ls hs ms t ks e f g = ap₂ (λ (k : ℕ) (d : Columns). made k d ms) e f ∙ ap (made (length t) (columnsOf (padded s t))) g
   where
     made : ℕ → Columns → List ℕ → Outcome
-    made k d xs = record { number = number; place = place; lines = lines; rounds = rounds; count = k; columns = d; members = xs; scratch = zeros c }
+    made k d xs = record { number = number; place = place; lines = lines; rounds = rounds; count = k; peak = peak; columns = d; members = xs; scratch = zeros c }
 
 -- a table written out
 written-columns : (T : Table) (s : ℕ) (t : List Node) → T ≡ indexed s t → columnsMade (T .vars) (T .lows) (T .highs) ≡ columnsOf (padded s t)
@@ -58,17 +58,17 @@ no-members : (m : ℕ) → zeros m ≡ [] ++ zeros (m - 0)
 no-members m = let e : m ≡ m - 0 = omega arith in ap zeros e
 
 -- the lists once they are emptied again
-pub refused-is : (s m c number place : ℕ) → 2 ≤ s → (vs ls hs ms : List ℕ) → vs ≡ zeros s → ls ≡ zeros s → hs ≡ zeros s → ms ≡ zeros m
-    → outcomeOf vs ls hs ms (zeros c) (answer number place 0 0 2) ≡ outcome s m c (refusedFormula number place)
-refused-is s m c number place two vs ls hs ms a b d e =
-    outcome-is s m c number place 0 0 2 vs ls hs ms emptied [] refl (ap₂ (λ (x y : List ℕ). columnsMade x y hs) a b ∙ ap (columnsMade (zeros s) (zeros s)) d ∙ sym (columns-emptied s two))
+pub refused-is : (s m c number place peak : ℕ) → 2 ≤ s → (vs ls hs ms : List ℕ) → vs ≡ zeros s → ls ≡ zeros s → hs ≡ zeros s → ms ≡ zeros m
+    → outcomeOf vs ls hs ms (zeros c) (answer number place 0 0 2 peak) ≡ outcome s m c (refusedFormula number place peak)
+refused-is s m c number place peak two vs ls hs ms a b d e =
+    outcome-is s m c number place 0 0 2 peak vs ls hs ms emptied [] refl (ap₂ (λ (x y : List ℕ). columnsMade x y hs) a b ∙ ap (columnsMade (zeros s) (zeros s)) d ∙ sym (columns-emptied s two))
     (e ∙ no-members m)
 
 -- the lists as they were opened
 pub unopened-is : (T : Table) (members : List ℕ) → Opened T members → T .count ≡ 2 → (c number place : ℕ)
-    → outcomeOf (T .vars) (T .lows) (T .highs) members (zeros c) (answer number place 0 0 2) ≡ outcome (size T) (length members) c (refusedFormula number place)
+    → outcomeOf (T .vars) (T .lows) (T .highs) members (zeros c) (answer number place 0 0 2 2) ≡ outcome (size T) (length members) c (refusedFormula number place 2)
 unopened-is T members O two c number place =
-    outcome-is (size T) (length members) c number place 0 0 2 (T .vars) (T .lows) (T .highs) members emptied [] refl
+    outcome-is (size T) (length members) c number place 0 0 2 2 (T .vars) (T .lows) (T .highs) members emptied [] refl
     (written-columns T (size T) emptied (O .written)) (O .none ∙ no-members (length members))
 
 -- ---- the proof
@@ -84,14 +84,14 @@ rest-zeros ms k within rest =
 -- the table once the nodes that do not stay are dropped
 pub judged-is : (l : Lent) (st : State) → Ends l st → (T : Table) → T .count ≡ st .kept
     → T ≡ indexed (length (l .vars)) (take (st .kept) (nodesOf (tableIn l (st .count)))) → (s m : ℕ) → length (l .vars) ≡ s → length (l .members) ≡ m
-    → (c number place : ℕ) (whole : Verdict) → whole ≡ left number place (stateOf l st)
-    → outcomeOf (T .vars) (T .lows) (T .highs) (l .members) (zeros c) (answer number place (st .lines) (st .rounds) (st .kept)) ≡ outcome s m c whole
-judged-is l st E T count e s m same same′ c number place whole v =
+    → (c number place peak : ℕ) (whole : Verdict) → whole ≡ left number place peak (stateOf l st)
+    → outcomeOf (T .vars) (T .lows) (T .highs) (l .members) (zeros c) (answer number place (st .lines) (st .rounds) (st .kept) peak) ≡ outcome s m c whole
+judged-is l st E T count e s m same same′ c number place peak whole v =
     let t : List Node = take (st .kept) (nodesOf (tableIn l (st .count))) in
-    outcome-is (length (l .vars)) (length (l .members)) c number place (st .lines) (st .rounds) (st .kept) (T .vars) (T .lows) (T .highs) (l .members) t (take (st .members) (l .members))
+    outcome-is (length (l .vars)) (length (l .members)) c number place (st .lines) (st .rounds) (st .kept) peak (T .vars) (T .lows) (T .highs) (l .members) t (take (st .members) (l .members))
     (sym count ∙ ap (λ (u : Table). u .count) e ∙ count-indexed (length (l .vars)) t)
     (written-columns T (length (l .vars)) t e) (rest-zeros (l .members) (st .members) (E .room) (E .rest))
-    ∙ ap₂ (λ (a b : ℕ). outcome a b c (left number place (stateOf l st))) same same′ ∙ ap (outcome s m c) (sym v)
+    ∙ ap₂ (λ (a b : ℕ). outcome a b c (left number place peak (stateOf l st))) same same′ ∙ ap (outcome s m c) (sym v)
 
 -- the state before the first record
 abbrev pub firstOf : ℕ → ℕ → State
@@ -104,6 +104,7 @@ firstOf count made = record {
   negative = 0;
   lines = 0;
   rounds = 0;
+  peak = count;
   refuted = false;
 }
 
@@ -121,6 +122,7 @@ module _ (n : ℕ) (l : Lent) (count made : ℕ) (B : Built n (tableIn l count) 
         negative = 0;
         lines = 0;
         rounds = 0;
+        peak = k;
         refuted = false;
       }
 
@@ -146,7 +148,7 @@ module _ (s : ℕ) (formula proof : List ℕ) where
   unfolding verdict
   verdict-proper n wanted from e = rw e
 
-  pub verdict-improper : (number place : ℕ) → header formula ≡ Improper number place → verdict s formula proof ≡ refusedFormula number place
+  pub verdict-improper : (number place : ℕ) → header formula ≡ Improper number place → verdict s formula proof ≡ refusedFormula number place 2
   unfolding verdict
   verdict-improper number place e = rw e
 
@@ -161,8 +163,8 @@ module _ (n : ℕ) (proof vs ls hs ds ks ms : List ℕ) (s m c : ℕ) (whole : V
       ap₂ (λ (a b : ℕ). outcome a b c (saidFrom n proof vs ls hs ds ks ms (Begun count made))) same same′
       ∙ ap (outcome s m c) (sym (w ∙ ap (saidFrom n proof vs ls hs ds ks ms) e))
 
-  pub unbegun-is : (number place : ℕ) → r ≡ Refused number place → outcome s m c (refusedFormula number place) ≡ outcome s m c whole
-  unbegun-is number place e = ap (outcome s m c) (sym (w ∙ ap (saidFrom n proof vs ls hs ds ks ms) e))
+  pub unbegun-is : (number place peak : ℕ) → r ≡ Refused number place peak → outcome s m c (refusedFormula number place peak) ≡ outcome s m c whole
+  unbegun-is number place peak e = ap (outcome s m c) (sym (w ∙ ap (saidFrom n proof vs ls hs ds ks ms) e))
 
 -- ---- the lists lent
 

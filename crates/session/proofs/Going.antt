@@ -18,8 +18,8 @@ use Rattle.verdict.specs.Check as check
 use Rattle.verdict.proofs.Steps.{next-form}
 use Rattle.steps.specs.declared.State.{State}
 use Rattle.steps.specs.declared.Step.{Step}
-use Rattle.steps.specs.declared.Step.the-variants.{Next, Stop}
-use Rattle.steps.specs.States.{Lent, stateOf, stepOf, Held, HeldAfter, Stepped}
+use Rattle.steps.specs.declared.Step.the-variants.{Next, Stop, Spent}
+use Rattle.steps.specs.States.{Lent, tableIn, stateOf, stepOf, Held, HeldAfter, Stepped}
 use Rattle.session.specs.Records.{Ends}
 use Rattle.session.proofs.Near.{Near, step-near}
 
@@ -36,10 +36,16 @@ module _ (n s : ℕ) (proof : List ℕ) (whole : check.Verdict) (st : check.Stat
   said = check.step n s st (ltb (at + lengthOf (recordAt proof at)) (length proof)) (recordAt proof at)
 
   stops-with : (k : ℕ) → length proof - at < k → (number offset : ℕ) → said ≡ check.stop number offset → whole ≡ check.records k n s proof st at
-      → whole ≡ check.left number (at + offset) st
+      → whole ≡ check.left number (at + offset) (st .peak) st
   unfolding check.records
   stops-with zero enough number offset e left = absurd (omega arith)
   stops-with (suc k) enough number offset e left = left ∙ rw e
+
+  spends-with : (k : ℕ) → length proof - at < k → (number peak : ℕ) → said ≡ check.spent number peak → whole ≡ check.records k n s proof st at
+      → whole ≡ check.left number at peak st
+  unfolding check.records
+  spends-with zero enough number peak e left = absurd (omega arith)
+  spends-with (suc k) enough number peak e left = left ∙ rw e
 
   goes-with : (k : ℕ) → length proof - at < k → (st′ : check.State) → said ≡ check.next st′ → whole ≡ check.records k n s proof st at
       → at ≤ length proof → Remains n s proof whole st′ (at + lengthOf (recordAt proof at))
@@ -54,18 +60,21 @@ module _ (n s : ℕ) (proof : List ℕ) (whole : check.Verdict) (st : check.Stat
       }
 
   module _ (R : Remains n s proof whole st at) where
-    remains-stop : (number offset : ℕ) → said ≡ check.stop number offset → whole ≡ check.left number (at + offset) st
+    remains-stop : (number offset : ℕ) → said ≡ check.stop number offset → whole ≡ check.left number (at + offset) (st .peak) st
     remains-stop number offset e = stops-with (R .steps) (R .enough) number offset e (R .left)
+
+    remains-spent : (number peak : ℕ) → said ≡ check.spent number peak → whole ≡ check.left number at peak st
+    remains-spent number peak e = spends-with (R .steps) (R .enough) number peak e (R .left)
 
     remains-next : (st′ : check.State) → said ≡ check.next st′ → at ≤ length proof → Remains n s proof whole st′ (at + lengthOf (recordAt proof at))
     remains-next st′ e = goes-with (R .steps) (R .enough) st′ e (R .left)
 
-    remains-end : length proof ≤ at → whole ≡ check.left 10 at st
+    remains-end : length proof ≤ at → whole ≡ check.left 10 at (st .peak) st
     unfolding check.step
     remains-end h =
         let none : recordAt proof at ≡ NoRecord = record-none proof at h in
         remains-stop 10 0 (ap (λ (r : Record). check.step n s st (ltb (at + lengthOf r) (length proof)) r) none)
-        ∙ ap (λ (k : ℕ). check.left 10 k st) (omega arith)
+        ∙ ap (λ (k : ℕ). check.left 10 k (st .peak) st) (omega arith)
 
 pub record-short : (r : Record) → lengthOf r ≤ 6
 record-short (NodeEntry b) = omega arith
@@ -102,7 +111,7 @@ module _ (n s : ℕ) (proof : List ℕ) (whole : check.Verdict) where
     going-asks = (G .held, G .none-marked ∙ ap unmarked (sym (G .same-size)), G .room)
 
     -- no byte is left
-    pub going-end : length proof ≤ at → (whole ≡ check.left 10 at (stateOf l st)) × Ends l st
+    pub going-end : length proof ≤ at → (whole ≡ check.left 10 at (st .peak) (stateOf l st)) × Ends l st
     going-end h = (remains-end n s proof whole (stateOf l st) at (G .remains) h, held-ends)
 
     -- the record r, which takes `len` bytes, comes to x and leaves l′
@@ -120,33 +129,50 @@ module _ (n s : ℕ) (proof : List ℕ) (whole : check.Verdict) where
       leaves : (y : Step) → x ≡ y → HeldAfter n l l′ st y
       leaves y e = subst (HeldAfter n l l′ st) e (X .leaves)
 
+      -- a refused record leaves table and members as they were
+      abbrev Same : Type 0
+      Same = (tableIn l′ (st .count) ≡ tableIn l (st .count)) × (l′ .members ≡ l .members)
+
+      left-same : (number place peak : ℕ) → Same → check.left number place peak (stateOf l st) ≡ check.left number place peak (stateOf l′ st)
+      left-same number place peak (table, members) = ap₂ (λ (t : Table) (ms : List ℕ). leftOf t ms) (sym table) (sym members)
+        where
+          leftOf : Table → List ℕ → check.Verdict
+          leftOf t ms = record {
+            number = number;
+            place = place;
+            lines = st .lines;
+            rounds = st .rounds;
+            peak = peak;
+            nodes = take (st .kept) (nodesOf t);
+            members = take (st .members) ms;
+          }
+
+      ends-same : Same → Ends l′ st
+      ends-same (table, members) = record {
+        good = subst Good (sym table) (held-ends .good);
+        least = held-ends .least;
+        kept = held-ends .kept;
+        room = subst (λ (ms : List ℕ). st .members ≤ length ms) (sym members) (held-ends .room);
+        rest = subst (λ (ms : List ℕ). (i : ℕ) → st .members ≤ i → _≡_ {A = ℕ} (getD ms i 0) 0) (sym members) (held-ends .rest);
+      }
+
       module _ (number offset : ℕ) (e : x ≡ Stop number offset) where
         pub stop-near : offset ≤ 1
         stop-near = subst Near (says (Stop number offset) e) (step-near n s (stateOf l st) (ltb (at + lengthOf (recordAt proof at)) (length proof)) (recordAt proof at))
 
-        pub going-stop : (whole ≡ check.left number (at + offset) (stateOf l′ st)) × Ends l′ st
+        pub going-stop : (whole ≡ check.left number (at + offset) (st .peak) (stateOf l′ st)) × Ends l′ st
         going-stop =
-            let (table, members) = leaves (Stop number offset) e in (
-              remains-stop n s proof whole (stateOf l st) at (G .remains) number offset (says (Stop number offset) e)
-                  ∙ ap₂ (λ (t : Table) (ms : List ℕ). leftOf t ms) (sym table) (sym members),
-              record {
-                good = subst Good (sym table) (held-ends .good);
-                least = held-ends .least;
-                kept = held-ends .kept;
-                room = subst (λ (ms : List ℕ). st .members ≤ length ms) (sym members) (held-ends .room);
-                rest = subst (λ (ms : List ℕ). (i : ℕ) → st .members ≤ i → _≡_ {A = ℕ} (getD ms i 0) 0) (sym members) (held-ends .rest);
-              },
+            let same = leaves (Stop number offset) e in (
+              remains-stop n s proof whole (stateOf l st) at (G .remains) number offset (says (Stop number offset) e) ∙ left-same number (at + offset) (st .peak) same,
+              ends-same same,
             )
-          where
-            leftOf : Table → List ℕ → check.Verdict
-            leftOf t ms = record {
-              number = number;
-              place = at + offset;
-              lines = st .lines;
-              rounds = st .rounds;
-              nodes = take (st .kept) (nodesOf t);
-              members = take (st .members) ms;
-            }
+
+      pub going-spent : (number peak : ℕ) → x ≡ Spent number peak → (whole ≡ check.left number at peak (stateOf l′ st)) × Ends l′ st
+      going-spent number peak e =
+          let same = leaves (Spent number peak) e in (
+            remains-spent n s proof whole (stateOf l st) at (G .remains) number peak (says (Spent number peak) e) ∙ left-same number at peak same,
+            ends-same same,
+          )
 
       module _ (st′ : State) (e : x ≡ Next st′) where
         form : numberOf (recordAt proof at) ≡ 0

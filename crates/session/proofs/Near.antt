@@ -2,7 +2,7 @@
 -- definition. Assumes nothing.
 use mathlib.Core.Bool.{Bool, true, false, not, _&&_, _||_, cond}
 use mathlib.Core.List.{map}
-use Prim.Native.Nat.{ℕ, _≤_}
+use Prim.Native.Nat.{ℕ, _≤_, max}
 use native.Mathlib.Omega.{arith}
 use lib.ListN.{length}
 use lib.Dec.{eqb, leb}
@@ -20,6 +20,7 @@ use Rattle.verdict.specs.Check as check
 abbrev pub Near : check.Step → Type 0
 Near (check.next st) = Unit {0}
 Near (check.stop number offset) = offset ≤ 1
+Near (check.spent number peak) = Unit {0}
 
 either : (c : Bool) (x y : check.Step) → Near x → Near y → Near (cond c x y)
 either true x y p q = p
@@ -27,7 +28,7 @@ either false x y p q = q
 
 entered-near : (st : check.State) (p : Placing) → Near (check.entered st p)
 unfolding check.entered
-entered-near st (full t) = omega arith
+entered-near st (full t) = tt
 entered-near st (placed t k) = tt
 
 node-near : (n s : ℕ) (st : check.State) (b : NodeBody) → Near (check.nodeStep n s st b)
@@ -51,8 +52,8 @@ witness-near n st v b =
 judged-near : (s : ℕ) (st : check.State) (g : ℕ) (line : Line) → Near (check.judged s st g line)
 unfolding check.judged
 judged-near s st g line =
-    either (not (lineReach s (st .nodes) line .fits)) (check.stop 23 0) _ (omega arith)
-    (either (not (line .shown)) (check.stop 19 0) _ (omega arith) tt)
+    let peak : ℕ = max (st .peak) (lineReach s (st .nodes) line .peak) in
+    either (not (lineReach s (st .nodes) line .fits)) (check.spent 23 peak) _ tt (either (not (line .shown)) (check.spent 19 peak) _ tt tt)
 
 line-near : (n s : ℕ) (st : check.State) (rule : Rule) (root : ℕ) → Near (check.lineStep n s st rule root)
 unfolding check.lineStep

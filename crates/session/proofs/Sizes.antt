@@ -21,7 +21,7 @@ module _ (vars lows highs members scratch : List ℕ) where
 
   module _ (count : ℕ) (formula proof : List ℕ) where
     pub called-7 : lentFits vars lows highs members scratch ≡ false
-        → outcomeOf vars lows highs members scratch (answer 7 0 0 0 count) ≡ check vars lows highs count members scratch formula proof
+        → outcomeOf vars lows highs members scratch (answer 7 0 0 0 count 0) ≡ check vars lows highs count members scratch formula proof
     unfolding check
     called-7 e = rw e
 

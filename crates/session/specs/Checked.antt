@@ -11,6 +11,7 @@ outcomeOf vars lows highs members scratch r = record {
   lines = r .lines;
   rounds = r .rounds;
   count = r .count;
+  peak = r .peak;
   columns = record { vars = vars; lows = lows; highs = highs };
   members = members;
   scratch = scratch;

@@ -21,7 +21,7 @@ pub record Opened (T : Table) (members : List ℕ) : Type 0 where
 abbrev pub saidFrom : ℕ → List ℕ → List ℕ → List ℕ → List ℕ → List ℕ → List ℕ → List ℕ → Start → Verdict
 saidFrom n proof vars lows highs heads links members (Begun count made) =
     records (suc (length proof)) n (length vars) proof (begun (nodesOf (tableOf vars lows highs heads links count)) (take made members)) 0
-saidFrom n proof vars lows highs heads links members (Refused number place) = refusedFormula number place
+saidFrom n proof vars lows highs heads links members (Refused number place peak) = refusedFormula number place peak
 
 -- The clauses made: a good table with no variable beyond n, the members' nodes in it, and zeros behind the members.
 pub record Built (n : ℕ) (T : Table) (members : List ℕ) (made : ℕ) : Type 0 where
@@ -34,4 +34,4 @@ pub record Built (n : ℕ) (T : Table) (members : List ℕ) (made : ℕ) : Type 
 -- What the check of the proof begins with.
 abbrev pub Begins : ℕ → List ℕ → List ℕ → List ℕ → List ℕ → List ℕ → List ℕ → Start → Type 0
 Begins n vars lows highs heads links members (Begun count made) = Built n (tableOf vars lows highs heads links count) members made
-Begins n vars lows highs heads links members (Refused number place) = Unit {0}
+Begins n vars lows highs heads links members (Refused number place peak) = Unit {0}

@@ -206,6 +206,7 @@ pub fn call<'a>(
             lines: 0,
             rounds: 0,
             count,
+            peak: 0,
         };
     }
     if vars.len() <= 64 {

@@ -9,10 +9,18 @@ ghost use Rattle.table.specs.Indexed.{tableOf};
 ghost use Rattle.verdict.specs.Check.{emptied, clauses};
 ghost use Rattle.session.specs.Formula.{Opened, saidFrom, Begins};
 
-// What the formula comes to: how many nodes and how many members there are before the first record, or a number and a place.
+// What the formula comes to: how many nodes and how many members there are before the first record; or a number, a place and the greatest
+// count reached.
 pub enum Start {
-    Begun { count: usize, made: usize },
-    Refused { number: u8, place: usize },
+    Begun {
+        count: usize,
+        made: usize,
+    },
+    Refused {
+        number: u8,
+        place: usize,
+        peak: usize,
+    },
 }
 
 // The clauses from `from` on, each made as it closes. What a refused formula leaves is not said.
@@ -46,7 +54,11 @@ pub fn read_clauses(
                 return Start::Begun { count, made };
             }
             Clause::Refused { number, place } => {
-                return Start::Refused { number, place };
+                return Start::Refused {
+                    number,
+                    place,
+                    peak: count,
+                };
             }
             Clause::Closed(c) => {
                 let p = clause::make(vars, lows, highs, heads, links, count, c.literals);
@@ -54,6 +66,7 @@ pub fn read_clauses(
                     return Start::Refused {
                         number: 8,
                         place: c.first,
+                        peak: p.count,
                     };
                 }
                 let node = p.node;

@@ -19,7 +19,7 @@ pub mod clear;
 pub mod formula;
 pub mod proof;
 
-// What the check says: 01's number and its place, the accepted lines, their rounds, and the table's count.
+// What the check says: 01's number and its place, the accepted lines, their rounds, the table's count, and the greatest count reached.
 #[repr(C)]
 pub struct Checked {
     pub number: u8,
@@ -27,6 +27,7 @@ pub struct Checked {
     pub lines: usize,
     pub rounds: u64,
     pub count: usize,
+    pub peak: usize,
 }
 
 // The clauses from `from` on, then the proof, with table and member list emptied. The scratch list is then anything.
@@ -71,7 +72,11 @@ fn run_clauses<'a>(
         wanted,
         from,
     ) {
-        Start::Refused { number, place } => {
+        Start::Refused {
+            number,
+            place,
+            peak,
+        } => {
             clear::empty(vars, lows, highs, members);
             Checked {
                 number,
@@ -79,6 +84,7 @@ fn run_clauses<'a>(
                 lines: 0,
                 rounds: 0,
                 count: 2,
+                peak,
             }
         }
         Start::Begun { count, made } => proof::run_proof(
@@ -127,6 +133,7 @@ fn run_header<'a>(
             lines: 0,
             rounds: 0,
             count: 2,
+            peak: 2,
         },
         Header::Proper {
             variables,

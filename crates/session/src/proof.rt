@@ -14,10 +14,11 @@ ghost use Rattle.session.specs.Checked.{outcomeOf};
 ghost use Rattle.session.specs.Formula.{Built};
 ghost use Rattle.session.specs.Records.{Ends};
 
-// How the records end: 01's number, its place, and the state before the record that ended them.
+// How the records end: 01's number, its place, the greatest count reached, and the state before the record that ended them.
 pub struct Ended {
     pub number: u8,
     pub place: usize,
+    pub peak: usize,
     pub state: State,
 }
 
@@ -45,7 +46,7 @@ fn read_records(
         let returned = lentOf (now (vars .exit)) (now (lows .exit)) (now (highs .exit)) (now (heads .exit)) (now (links .exit))
         (now (members .exit)) (now (scratch .exit)) in
         records (suc (length (now (proof .entry)))) variables (length (now (vars .entry))) (now (proof .entry)) (stateOf lent first) 0
-        ≡ left (r .number) (r .place) (stateOf returned (r .state))) ⌝ }
+        ≡ left (r .number) (r .place) (r .peak) (stateOf returned (r .state))) ⌝ }
     ensures { λ r. ⌜ (
         let returned = lentOf (now (vars .exit)) (now (lows .exit)) (now (highs .exit)) (now (heads .exit)) (now (links .exit))
         (now (members .exit)) (now (scratch .exit)) in
@@ -75,6 +76,15 @@ fn read_records(
                 return Ended {
                     number,
                     place: at + offset,
+                    peak: state.peak,
+                    state,
+                };
+            }
+            Step::Spent(number, peak) => {
+                return Ended {
+                    number,
+                    place: at,
+                    peak,
                     state,
                 };
             }
@@ -87,6 +97,7 @@ fn read_records(
     Ended {
         number: 10,
         place: at,
+        peak: state.peak,
         state,
     }
 }
@@ -131,6 +142,7 @@ pub fn run_proof(
         negative: 0,
         lines: 0,
         rounds: 0,
+        peak: count,
         refuted: false,
     };
     let ended = read_records(
@@ -155,5 +167,6 @@ pub fn run_proof(
         lines: last.lines,
         rounds: last.rounds,
         count: last.kept,
+        peak: ended.peak,
     }
 }

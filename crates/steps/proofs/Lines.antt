@@ -3,7 +3,7 @@
 use mathlib.Core.Path.{_≡_, refl, sym, ap, ap₂, _∙_, subst}
 use mathlib.Core.Bool.{Bool, true, false, not, _||_, cond}
 use mathlib.Core.List.{List, [], _∷_, _++_}
-use Prim.Native.Nat.{ℕ, suc, _+_, _≤_, _<_}
+use Prim.Native.Nat.{ℕ, suc, _+_, _≤_, _<_, max}
 use native.Mathlib.Omega.{arith}
 use lib.ListN.{length, getD, take, set, length-set}
 use lib.Dec.{eqb, leb}
@@ -12,20 +12,20 @@ use Rattle.meaning.specs.Rules.{Line, witnessed}
 use Rattle.meaning.specs.Words.{inWord}
 use Rattle.table.specs.Indexed.{Table, size, nodesOf}
 use Rattle.walks.specs.Readable.{Roomy}
-use Rattle.table.specs.Making.{lineReach}
+use Rattle.table.specs.Making.{Reach, reach, lineReach}
 use Rattle.table.proofs.Written.{length-nodes}
 use Rattle.table.proofs.Outcomes.{droppedTo, undone}
 use Rattle.records.specs.declared.Rule.{Rule}
 use Rattle.records.specs.declared.Rule.the-variants.{Rup, Pr}
 use Rattle.verdict.specs.Check as check
-use Rattle.verdict.specs.Check.{next, stop, isEntry, entryNode, waiting, accepted, judged, diagramIn, lineStep}
+use Rattle.verdict.specs.Check.{next, spent, isEntry, entryNode, waiting, accepted, judged, diagramIn, lineStep}
 use Rattle.table.specs.Lists.{Inside}
 use Rattle.table.proofs.Extended.{extended-longer}
 use Rattle.judge.specs.declared.Judged.{Judged}
 use Rattle.judge.specs.Lines.{Negatable, Says}
 use Rattle.judge.proofs.Widths.{witnessed-at, rup-at, pr-at}
 use Rattle.steps.specs.declared.State.{State}
-use Rattle.steps.specs.declared.Step.the-variants.{Next, Stop}
+use Rattle.steps.specs.declared.Step.the-variants.{Next, Stop, Spent}
 use Rattle.steps.specs.States.{Lent, tableIn, stateOf, withLine, Held, Stepped}
 use Rattle.steps.specs.Tests.{lineRefusal, lineOf}
 use Rattle.steps.proofs.Stops.{unless, unless-refused, unless-none, line-is, LineFits, line-fits, stopped}
@@ -81,23 +81,23 @@ module _ (n : ℕ) (st : check.State) (root : ℕ) where
 
 -- ---- what judging says
 
-module _ (s : ℕ) (st : check.State) (g : ℕ) (line : Line) where
-  judged-23 : lineReach s (st .nodes) line .fits ≡ false → judged s st g line ≡ stop 23 0
+module _ (s : ℕ) (st : check.State) (g : ℕ) (line : Line) (peak : ℕ) where
+  judged-23 : lineReach s (st .nodes) line ≡ reach false peak → judged s st g line ≡ spent 23 (max (st .peak) peak)
   unfolding judged
   judged-23 e = rw e
 
-  module _ (fits : lineReach s (st .nodes) line .fits ≡ true) where
-    judged-19 : line .shown ≡ false → judged s st g line ≡ stop 19 0
+  module _ (fits : lineReach s (st .nodes) line ≡ reach true peak) where
+    judged-19 : line .shown ≡ false → judged s st g line ≡ spent 19 (max (st .peak) peak)
     unfolding judged
     judged-19 e = rw (fits, e)
 
-    judged-next : line .shown ≡ true → judged s st g line ≡ next (accepted st g line)
+    judged-next : line .shown ≡ true → judged s st g line ≡ next (accepted st g line (max (st .peak) peak))
     unfolding judged
     judged-next e = rw (fits, e)
 
 -- A line judged with fewer rounds at most.
 pub says-most : (t : Table) (line : Line) (a b : ℕ) (r : Judged) (t′ : Table) → a ≤ b → Says t line a r t′ → Says t line b r t′
-says-most t line a b r t′ le J = record { extended = J .extended; fits = J .fits; shown = J .shown; rounds = J .rounds; most = omega (arith, J .most) }
+says-most t line a b r t′ le J = record { extended = J .extended; reaches = J .reaches; shown = J .shown; rounds = J .rounds; most = omega (arith, J .most) }
 
 -- ---- the header's variables
 
@@ -206,21 +206,25 @@ module _ (n : ℕ) (L : Lent) (st : State) (H : Held n L st) (rule : Rule) (root
       same-table : (ms cs : List ℕ) → tableIn (lentWith T₂ ms cs) (st .count) ≡ tableIn L (st .count)
       same-table ms cs = ap (λ (t : Table). tableIn (lentWith t ms cs) (st .count)) back
 
-      pub line-23 : (cs : List ℕ) → j .full ≡ true → Stepped n L (lentWith T₂ (L .members) cs) st said (Stop 23 0)
-      line-23 cs f = record {
-        says = sym (said-is ∙ judged-23 (size T) S k (lineOf 64 S rule k) (J .fits ∙ ap not f));
-        leaves = (same-table (L .members) cs, refl);
-      }
+      reaches : (b : Bool) → j .full ≡ b → lineReach (size T) (nodesOf T) (lineOf 64 S rule k) ≡ reach (not b) (j .peak)
+      reaches b f = J .reaches ∙ ap (λ (x : Bool). reach (not x) (j .peak)) f
 
-      pub line-19 : (cs : List ℕ) → j .full ≡ false → j .shown ≡ false → Stepped n L (lentWith T₂ (L .members) cs) st said (Stop 19 0)
-      line-19 cs f e = record {
-        says = sym (said-is ∙ judged-19 (size T) S k (lineOf 64 S rule k) (J .fits ∙ ap not f) (sym (J .shown f) ∙ e));
-        leaves = (same-table (L .members) cs, refl);
-      }
+      module _ (peak : ℕ) (greatest : peak ≡ max (st .peak) (j .peak)) where
+        pub line-23 : (cs : List ℕ) → j .full ≡ true → Stepped n L (lentWith T₂ (L .members) cs) st said (Spent 23 peak)
+        line-23 cs f = record {
+          says = ap (spent 23) greatest ∙ sym (said-is ∙ judged-23 (size T) S k (lineOf 64 S rule k) (j .peak) (reaches true f));
+          leaves = (same-table (L .members) cs, refl);
+        }
+
+        pub line-19 : (cs : List ℕ) → j .full ≡ false → j .shown ≡ false → Stepped n L (lentWith T₂ (L .members) cs) st said (Spent 19 peak)
+        line-19 cs f e = record {
+          says = ap (spent 19) greatest ∙ sym (said-is ∙ judged-19 (size T) S k (lineOf 64 S rule k) (j .peak) (reaches false f) (sym (J .shown f) ∙ e));
+          leaves = (same-table (L .members) cs, refl);
+        }
 
       module _ (cs : List ℕ) (room : 4096 ≤ length cs) (f : j .full ≡ false) (shown : j .shown ≡ true) where
         abbrev st′ : State
-        st′ = withLine st (j .rounds) k
+        st′ = withLine st (j .rounds) (max (st .peak) (j .peak)) k
 
         abbrev L′ : Lent
         L′ = lentWith T (set (L .members) (st .members) k) cs
@@ -235,6 +239,7 @@ module _ (n : ℕ) (L : Lent) (st : State) (H : Held n L st) (rule : Rule) (root
           negative = 0;
           lines = lines;
           rounds = rounds;
+          peak = max (st .peak) (j .peak);
           refuted = st .refuted || eqb k 0;
         }
 
@@ -246,7 +251,7 @@ module _ (n : ℕ) (L : Lent) (st : State) (H : Held n L st) (rule : Rule) (root
             let one : st .lines + 1 ≡ suc (st .lines) = omega arith in
             ap₂ (λ (kept : ℕ) (ms : List ℕ). next (stateWith kept ms (st .lines + 1) (st .rounds + j .rounds))) (sym (length-nodes T (H .entries .good))) (one-more (L .members) (st .members) k member-room)
             ∙ ap₂ (λ (lines rounds : ℕ). next (stateWith (length (nodesOf T)) (take (st .members) (L .members) ++ k ∷ []) lines (st .rounds + rounds))) one (J .rounds f)
-            ∙ sym (said-is ∙ judged-next (size T) S k (lineOf 64 S rule k) (J .fits ∙ ap not f) (sym (J .shown f) ∙ shown))
+            ∙ sym (said-is ∙ judged-next (size T) S k (lineOf 64 S rule k) (j .peak) (reaches false f) (sym (J .shown f) ∙ shown))
 
         held : Held n L′ st′
         held = record {

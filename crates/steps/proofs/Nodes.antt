@@ -1,10 +1,10 @@
 -- Node records: a node without room leaves the table as it was; one that is placed is the next entry, and all that is held stays held.
 -- Assumes nothing.
-use mathlib.Core.Path.{_≡_, refl, sym, ap, _∙_, subst}
+use mathlib.Core.Path.{_≡_, refl, sym, ap, ap₂, _∙_, subst}
 use mathlib.Core.Bool.{Bool, true, false, cond}
 use mathlib.Core.List.{List, [], _∷_, _++_}
 use mathlib.Core.Option.{Option, none, some}
-use Prim.Native.Nat.{ℕ, suc, _+_, _≤_, _<_}
+use Prim.Native.Nat.{ℕ, suc, _+_, _≤_, _<_, max}
 use native.Mathlib.Omega.{arith}
 use native.Mathlib.Decide.{decLt}
 use lib.ListN.{length, getD, take, set, length-set}
@@ -23,11 +23,11 @@ use Rattle.table.proofs.Placing.{put-place}
 use Rattle.table.proofs.Outcomes.{Grown, put-grown}
 use Rattle.records.specs.declared.NodeBody.{NodeBody}
 use Rattle.verdict.specs.Check as check
-use Rattle.verdict.specs.Check.{next, stop, isEntry, entryNode, entered, nodeStep}
+use Rattle.verdict.specs.Check.{next, spent, isEntry, entryNode, entered, nodeStep}
 use Rattle.verdict.proofs.Uses.{UsesAfter, place-uses}
 use Rattle.table.specs.Lists.{Inside}
 use Rattle.steps.specs.declared.State.{State}
-use Rattle.steps.specs.declared.Step.the-variants.{Next, Stop}
+use Rattle.steps.specs.declared.Step.the-variants.{Next, Stop, Spent}
 use Rattle.steps.specs.States.{Lent, lentOf, tableIn, stateOf, withEntry, Held, Stepped}
 use Rattle.steps.specs.Tests.{nodeRefusal}
 use Rattle.steps.proofs.Stops.{unless, unless-refused, unless-none, node-is, NodeFits, node-fits, stopped}
@@ -79,9 +79,9 @@ put-full s t v l h = go (eqb l h) (find t (nodeOf v l h))
     go false (some k) = tt
 
 full-stops : (st : check.State) (s : ℕ) (p : Placing) → FullSame (st .nodes) p → written s p .full ≡ true
-    → (written s p .table ≡ indexed s (st .nodes)) × (entered st p ≡ stop 23 0)
+    → (written s p .table ≡ indexed s (st .nodes)) × (entered st p ≡ spent 23 (max (st .peak) (length (nodesOf (written s p .table)))))
 unfolding written entered
-full-stops st s (full t) same f = (ap (indexed s) same, refl)
+full-stops st s (full t) same f = (ap (indexed s) same, ap (λ (x : List Node). spent 23 (max (st .peak) (length x))) (sym (nodes-indexed s t)))
 full-stops st s (placed t k) same f = t≢f (sym f)
 
 abbrev entryMade : check.State → Outcome → check.State
@@ -94,6 +94,7 @@ entryMade st o = record {
   negative = st .negative;
   lines = st .lines;
   rounds = st .rounds;
+  peak = max (st .peak) (length (nodesOf (o .table)));
   refuted = st .refuted;
 }
 
@@ -111,6 +112,7 @@ placed-goes st n s (placed t k) u f = (
     negative = st .negative;
     lines = st .lines;
     rounds = st .rounds;
+    peak = max (st .peak) (length x);
     refuted = st .refuted;
   })) (sym (nodes-indexed s t)),
   subst (UsesTo n) (sym (nodes-indexed s t)) u,
@@ -174,12 +176,17 @@ module _ (n : ℕ) (L : Lent) (st : State) (b : NodeBody) (H : Held n L st) wher
         (reduced-from-to n (nodesOf T) O (H .entries .uses) l (omega (arith, low-in)) (suc (b .variable)) over-low)
         (reduced-from-to n (nodesOf T) O (H .entries .uses) h (omega (arith, high-in)) (suc (b .variable)) over-high))))
 
-    pub node-full : o .full ≡ true → Stepped n L (lentWith (o .table) (L .members) (L .scratch)) st said (Stop 23 0)
-    node-full f =
+    -- the count of the table as left
+    counted : length (nodesOf (o .table)) ≡ o .table .count
+    counted = length-nodes (o .table) (grown .good)
+
+    pub node-full : (peak : ℕ) → peak ≡ max (st .peak) (o .table .count) → o .full ≡ true
+        → Stepped n L (lentWith (o .table) (L .members) (L .scratch)) st said (Spent 23 peak)
+    node-full peak greatest f =
         let (table, stops) = full-stops S (size T) (put (size T) (nodesOf T) (b .variable) l h) (put-full (size T) (nodesOf T) (b .variable) l h) (sym (ap (λ (x : Outcome). x .full) made) ∙ f) in
         let same : o .table ≡ T = ap (λ (x : Outcome). x .table) made ∙ table ∙ sym (H .entries .good .written) in
         record {
-          says = sym (said-is ∙ stops);
+          says = ap (spent 23) (greatest ∙ ap (max (st .peak)) (sym counted ∙ ap (λ (x : Outcome). length (nodesOf (x .table))) made)) ∙ sym (said-is ∙ stops);
           leaves = (ap (λ (t : Table). tableIn (lentWith t (L .members) (L .scratch)) (st .count)) same, refl);
         }
 
@@ -197,7 +204,7 @@ module _ (n : ℕ) (L : Lent) (st : State) (b : NodeBody) (H : Held n L st) wher
       abbrev L′ : Lent
       L′ = lentWith (o .table) (L .members) (set (L .scratch) (st .entries) (o .node))
 
-      held : Held n L′ (withEntry st (o .table .count))
+      held : Held n L′ (withEntry st (o .table .count) (max (st .peak) (o .table .count)))
       held =
           let len : length (take (st .entries) (L .scratch)) ≡ st .entries = length-take-le (st .entries) (L .scratch) (omega arith) in
           record {
@@ -219,9 +226,9 @@ module _ (n : ℕ) (L : Lent) (st : State) (b : NodeBody) (H : Held n L st) wher
             rounds = H .rounds;
           }
 
-      says : next (stateOf L′ (withEntry st (o .table .count))) ≡ said
+      says : next (stateOf L′ (withEntry st (o .table .count) (max (st .peak) (o .table .count)))) ≡ said
       says =
-          ap (λ (es : List ℕ). next (record {
+          ap₂ (λ (es : List ℕ) (count : ℕ). next (record {
             nodes = nodesOf (o .table);
             kept = st .kept;
             members = take (st .members) (L .members);
@@ -230,9 +237,10 @@ module _ (n : ℕ) (L : Lent) (st : State) (b : NodeBody) (H : Held n L st) wher
             negative = st .negative;
             lines = st .lines;
             rounds = st .rounds;
+            peak = max (st .peak) count;
             refuted = st .refuted;
-          })) (one-more (L .scratch) (st .entries) (o .node) room)
+          })) (one-more (L .scratch) (st .entries) (o .node) room) (sym counted)
           ∙ sym (said-is ∙ goes .0)
 
-      pub node-made : (st′ : State) → st′ ≡ withEntry st (o .table .count) → Stepped n L L′ st said (Next st′)
+      pub node-made : (st′ : State) → st′ ≡ withEntry st (o .table .count) (max (st .peak) (o .table .count)) → Stepped n L L′ st said (Next st′)
       node-made st′ e = subst (λ (x : State). Stepped n L L′ st said (Next x)) (sym e) (record { says = says; leaves = held })

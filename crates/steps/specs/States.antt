@@ -11,7 +11,7 @@ use Rattle.verdict.specs.Check as check
 use Rattle.table.specs.Lists.{Inside}
 use Rattle.steps.specs.declared.State.{State}
 use Rattle.steps.specs.declared.Step.{Step}
-use Rattle.steps.specs.declared.Step.the-variants.{Next, Stop}
+use Rattle.steps.specs.declared.Step.the-variants.{Next, Stop, Spent}
 
 -- ---- the definition's state
 
@@ -43,12 +43,14 @@ stateOf l st = record {
   negative = st .negative;
   lines = st .lines;
   rounds = st .rounds;
+  peak = st .peak;
   refuted = st .refuted;
 }
 
 abbrev pub stepOf : Lent → Step → check.Step
 stepOf l (Next st) = check.next (stateOf l st)
 stepOf l (Stop number offset) = check.stop number offset
+stepOf l (Spent number peak) = check.spent number peak
 
 -- ---- the next state
 
@@ -63,12 +65,13 @@ withWitness st positive negative = record {
   negative = negative;
   lines = st .lines;
   rounds = st .rounds;
+  peak = st .peak;
   refuted = st .refuted;
 }
 
--- The state with one entry more, and the table's count.
-abbrev pub withEntry : State → ℕ → State
-withEntry st count = record {
+-- The state with one entry more, the table's count, and the greatest so far.
+abbrev pub withEntry : State → ℕ → ℕ → State
+withEntry st count peak = record {
   count = count;
   kept = st .kept;
   members = st .members;
@@ -77,12 +80,13 @@ withEntry st count = record {
   negative = st .negative;
   lines = st .lines;
   rounds = st .rounds;
+  peak = peak;
   refuted = st .refuted;
 }
 
--- The state after a line of so many rounds whose root is node g.
-abbrev pub withLine : State → ℕ → ℕ → State
-withLine st rounds g = record {
+-- The state after a line of so many rounds whose root is node g, with the greatest count so far.
+abbrev pub withLine : State → ℕ → ℕ → ℕ → State
+withLine st rounds peak g = record {
   count = st .count;
   kept = st .count;
   members = st .members + 1;
@@ -91,6 +95,7 @@ withLine st rounds g = record {
   negative = 0;
   lines = st .lines + 1;
   rounds = st .rounds + rounds;
+  peak = peak;
   refuted = st .refuted || eqb g 0;
 }
 
@@ -121,6 +126,7 @@ pub record Held (n : ℕ) (l : Lent) (st : State) : Type 0 where
 abbrev pub HeldAfter : ℕ → Lent → Lent → State → Step → Type 0
 HeldAfter n l l′ st (Next st′) = Held n l′ st′
 HeldAfter n l l′ st (Stop number offset) = (tableIn l′ (st .count) ≡ tableIn l (st .count)) × (l′ .members ≡ l .members)
+HeldAfter n l l′ st (Spent number peak) = (tableIn l′ (st .count) ≡ tableIn l (st .count)) × (l′ .members ≡ l .members)
 
 -- A step comes to what the definition says, and leaves l′ of l.
 pub record Stepped (n : ℕ) (l l′ : Lent) (st : State) (said : check.Step) (r : Step) : Type 0 where

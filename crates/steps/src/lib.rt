@@ -13,7 +13,8 @@ mod node;
 mod witness;
 
 // The state between records: the table's count, how many nodes stay if the line is not accepted, the numbers of members and of the
-// line's entries, the witness as two words, the accepted lines, their rounds, and whether one of them is the 0 diagram.
+// line's entries, the witness as two words, the accepted lines, their rounds, the greatest count so far, and whether a line is the 0
+// diagram.
 pub struct State {
     pub count: usize,
     pub kept: usize,
@@ -23,13 +24,16 @@ pub struct State {
     pub negative: u64,
     pub lines: usize,
     pub rounds: u64,
+    pub peak: usize,
     pub refuted: bool,
 }
 
-// What a record comes to: the next state; or 01's number and the place, counted from the record's first byte.
+// What a record comes to: the next state; or 01's number and the place, counted from the record's first byte, where no node was made; or
+// 01's number at the record's first byte and the greatest count so far.
 pub enum Step {
     Next(State),
     Stop(u8, usize),
+    Spent(u8, usize),
 }
 
 // The end record; `more` tells whether a byte follows it.

@@ -174,9 +174,9 @@ fn refutes(before: bool, g: NodeNo) -> bool
 }
 
 // The state after a line that is shown.
-fn with_line(st: crate::State, rounds: u64, g: NodeNo) -> crate::State
+fn with_line(st: crate::State, rounds: u64, peak: usize, g: NodeNo) -> crate::State
     requires { ⌜ (st .members ≤ 2048) × (st .lines ≤ 1024) × (st .rounds + rounds ≤ 1025 * 131072) ⌝ }
-    ensures { λ r. ⌜ r ≡ withLine st rounds (g .0) ⌝ }
+    ensures { λ r. ⌜ r ≡ withLine st rounds peak (g .0) ⌝ }
 {
     let refuted = refutes(st.refuted, g);
     crate::State {
@@ -188,6 +188,7 @@ fn with_line(st: crate::State, rounds: u64, g: NodeNo) -> crate::State
         negative: 0,
         lines: st.lines + 1,
         rounds: st.rounds + rounds,
+        peak,
         refuted,
     }
 }
@@ -237,15 +238,16 @@ pub fn line_step(
                 g,
             );
             table::drop_to(vars, lows, highs, heads, links, j.count, st.count);
+            let peak = judge::greater(st.peak, j.peak);
             if j.full {
-                return crate::Step::Stop(23, 0);
+                return crate::Step::Spent(23, peak);
             }
             if !j.shown {
-                return crate::Step::Stop(19, 0);
+                return crate::Step::Spent(19, peak);
             }
             let m = st.members;
             members[m] = g.0;
-            crate::Step::Next(with_line(st, j.rounds, g))
+            crate::Step::Next(with_line(st, j.rounds, peak, g))
         }
     }
 }

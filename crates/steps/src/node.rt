@@ -88,9 +88,9 @@ fn node_test(
 }
 
 // The state with one entry more.
-fn with_entry(st: crate::State, count: usize) -> crate::State
+fn with_entry(st: crate::State, count: usize, peak: usize) -> crate::State
     requires { ⌜ st .entries ≤ 4096 ⌝ }
-    ensures { λ r. ⌜ r ≡ withEntry st count ⌝ }
+    ensures { λ r. ⌜ r ≡ withEntry st count peak ⌝ }
 {
     crate::State {
         count,
@@ -101,6 +101,7 @@ fn with_entry(st: crate::State, count: usize) -> crate::State
         negative: st.negative,
         lines: st.lines,
         rounds: st.rounds,
+        peak,
         refuted: st.refuted,
     }
 }
@@ -142,13 +143,14 @@ pub fn node_step(
                 low,
                 high,
             );
+            let peak = judge::greater(st.peak, p.count);
             if p.full {
-                return crate::Step::Stop(23, 0);
+                return crate::Step::Spent(23, peak);
             }
             let k = p.node;
             let entries = st.entries;
             scratch[entries] = k.0;
-            crate::Step::Next(with_entry(st, p.count))
+            crate::Step::Next(with_entry(st, p.count, peak))
         }
     }
 }

@@ -39,6 +39,7 @@ fn with_witness(st: crate::State, positive: u64, negative: u64) -> crate::State
         negative,
         lines: st.lines,
         rounds: st.rounds,
+        peak: st.peak,
         refuted: st.refuted,
     }
 }

@@ -13,8 +13,8 @@ use Rattle.dimacs.specs.Header.{header}
 use Rattle.dimacs.specs.Clauses.{Reading, clause, complete, refusal, clausesFrom}
 use Rattle.records.specs.Records.{recordAt, lengthOf, numberOf}
 use Rattle.records.proofs.Laws.{record-takes, record-within}
-use Rattle.verdict.specs.Check.{State, emptied, begun, Step, next, stop, step, left, afterStep, records, afterClause, clauses, afterHeader, verdict}
-use Rattle.verdict.specs.Run.{Function, Meant, Making, opened, made, follows, Reached, begins, goes, Ended, no-header, not-read, no-room, stopped}
+use Rattle.verdict.specs.Check.{State, emptied, begun, Step, next, stop, spent, step, left, afterStep, records, afterClause, clauses, afterHeader, verdict}
+use Rattle.verdict.specs.Run.{Function, Meant, Making, opened, made, follows, Reached, begins, goes, Ended, no-header, not-read, no-room, stopped, tried}
 use Rattle.verdict.proofs.Steps.{next-form, step-taken}
 use Rattle.verdict.proofs.Standing.{Standing, step-standing}
 use Rattle.verdict.proofs.Clauses.{underway}
@@ -40,6 +40,7 @@ module _ (s : ℕ) (text proof : List ℕ) where
           → ((st′ : State) (at′ : ℕ) (m′ : Meant) → Reached s text proof n st′ at′ m′ → at′ ≤ length proof → length proof - at′ < steps → Ended s text proof (records steps n s proof st′ at′))
           → Ended s text proof (afterStep x st at (λ st′. records steps n s proof st′ next-at))
       go (stop number offset) e rec = stopped R e
+      go (spent number peak) e rec = tried R e
       go (next st′) e rec =
           let form : numberOf (recordAt proof at) ≡ 0 = next-form n s st (follows proof at) (recordAt proof at) st′ e in
           let takes : 1 ≤ lengthOf (recordAt proof at) = record-takes (recordAt proof at) form in

@@ -12,3 +12,4 @@ pub mod Values
 pub mod Members
 pub mod Onward
 pub mod MetFirst
+pub mod Peak

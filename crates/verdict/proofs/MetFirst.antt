@@ -13,8 +13,8 @@ use Rattle.table.specs.Nodes.{Node, Placing, full, placed, place}
 use Rattle.table.specs.Making.{Room, short, all, afterPlacing, placedAll, reached, turnsReach, keptReach, lineReach}
 use Rattle.records.specs.declared.Rule.{Rule}
 use Rattle.records.specs.declared.Rule.the-variants.{Rup, Pr}
-use Rattle.verdict.specs.Check.{State, Step, next, stop, accepted, judged, diagramIn}
-use Rattle.verdict.specs.Run.{lineOf}
+use Rattle.verdict.specs.Check.{State, Step, next, spent, accepted, judged, diagramIn}
+use Rattle.verdict.specs.Run.{lineOf, peakWith}
 use Rattle.verdict.specs.MetFirst.{Met, all-shown, no-conflict, no-place, afterMade, making, inRound, propagating, andThen, turning, metBy, sayMet}
 
 -- ---- making a list
@@ -159,15 +159,18 @@ met-line n s st Pr g =
     (λ t. turning-is s n (inWord (st .positive)) (inWord (st .negative)) t (byDiagram n (negation n (diagramIn st g)) ms) ms)
 
 -- "then 19 or 23, the one met first": for every state, rule and root.
-pub met-first : (n s : ℕ) (st : State) (rule : Rule) (g : ℕ) → judged s st g (lineOf n st rule g) ≡ sayMet st g (lineOf n st rule g) (metBy n s st rule g)
+pub met-first : (n s : ℕ) (st : State) (rule : Rule) (g : ℕ) → judged s st g (lineOf n st rule g) ≡ sayMet st g (lineOf n st rule g) (peakWith s st (lineOf n st rule g)) (metBy n s st rule g)
 unfolding judged
 met-first n s st rule g =
-    by (lineReach s (st .nodes) line .fits) (line .shown) ∙ sym (ap (sayMet st g line) (met-line n s st rule g))
+    by (lineReach s (st .nodes) line .fits) (line .shown) ∙ sym (ap (sayMet st g line (peakWith s st line)) (met-line n s st rule g))
   where
     line : Line
     line = lineOf n st rule g
 
-    by : (fits shown : Bool) → cond (not fits) (stop 23 0) (cond (not shown) (stop 19 0) (next (accepted st g line))) ≡ sayMet st g line (metTurns fits shown)
+    peak : ℕ
+    peak = peakWith s st line
+
+    by : (fits shown : Bool) → cond (not fits) (spent 23 peak) (cond (not shown) (spent 19 peak) (next (accepted st g line peak))) ≡ sayMet st g line peak (metTurns fits shown)
     by true true = refl
     by true false = refl
     by false shown = refl

@@ -13,7 +13,7 @@ use Rattle.records.specs.declared.Record.{Record}
 use Rattle.records.specs.declared.Record.the-variants.{NodeEntry, Witness, ProofLine, End, CutShort, UnknownKind, NoRecord}
 use Rattle.records.specs.Records.{recordAt, lengthOf}
 use Rattle.records.proofs.Laws.{record-takes, record-within}
-use Rattle.verdict.specs.Check.{State, Step, next, stop, step, Verdict, left, afterStep, records, verdict}
+use Rattle.verdict.specs.Check.{State, Step, next, stop, spent, step, Verdict, left, afterStep, records, verdict}
 use Rattle.verdict.specs.Run.{Meant, afterRecord, Taken, follows, Reached}
 use Rattle.verdict.proofs.Steps.{next-form, step-taken}
 use Rattle.verdict.proofs.Standing.{Standing, step-standing, step-extends}
@@ -55,8 +55,8 @@ module _ {s n : ℕ} (narrow : n ≤ 64) where
         ];
       }
 
-  left-onward : {m : Meant} {st : State} → Standing s n m st → (number place : ℕ) → Onward st (left number place st)
-  left-onward {m} {st} S number place =
+  left-onward : {m : Meant} {st : State} → Standing s n m st → (number place peak : ℕ) → Onward st (left number place peak st)
+  left-onward {m} {st} S number place peak =
       let len : length (take (st .kept) (st .nodes)) ≡ st .kept = length-take-le (st .kept) (st .nodes) (S .kept) in
       record {
         least = omega arith;
@@ -66,7 +66,7 @@ module _ {s n : ℕ} (narrow : n ≤ 64) where
 
   records-onward : (proof : List ℕ) (steps : ℕ) (m : Meant) (st : State) (at : ℕ) → Standing s n m st → Onward st (records steps n s proof st at)
   unfolding records
-  records-onward proof zero m st at S = left-onward S 10 at
+  records-onward proof zero m st at S = left-onward S 10 at (st .peak)
   records-onward proof (suc steps) m st at S = go (step n s st (follows proof at) (recordAt proof at)) refl (records-onward proof steps)
     where
       next-at : ℕ
@@ -75,7 +75,8 @@ module _ {s n : ℕ} (narrow : n ≤ 64) where
       go : (x : Step) → step n s st (follows proof at) (recordAt proof at) ≡ x
           → ((m′ : Meant) (st′ : State) (at′ : ℕ) → Standing s n m′ st′ → Onward st′ (records steps n s proof st′ at′))
           → Onward st (afterStep x st at (λ st′. records steps n s proof st′ next-at))
-      go (stop number offset) e rec = left-onward S number (at + offset)
+      go (stop number offset) e rec = left-onward S number (at + offset) (st .peak)
+      go (spent number peak) e rec = left-onward S number at peak
       go (next st′) e rec =
           let T : Taken n s st (recordAt proof at) st′ = step-taken n s st (follows proof at) (recordAt proof at) st′ e in
           step-onward S (recordAt proof at) st′ T (records steps n s proof st′ next-at) (rec _ st′ next-at (step-standing S narrow (recordAt proof at) st′ T))

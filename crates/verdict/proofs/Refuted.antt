@@ -32,7 +32,7 @@ use Rattle.verdict.proofs.Standing.{Standing, entry-valued}
 use Rattle.verdict.proofs.Formula.{Read, clauses-read}
 use Rattle.verdict.proofs.Clauses.{fitted, fitted-length, clause-fitted, underway}
 use Rattle.verdict.proofs.Ends.{reached-standing, ended}
-use Rattle.verdict.proofs.Numbers.{Closed, formula-refused, proof-ended, ended-closed}
+use Rattle.verdict.proofs.Numbers.{Closed, formula-refused, proof-ended, proof-tried, ended-closed}
 
 -- ---- functions that are 1 under an assignment
 
@@ -178,6 +178,7 @@ module _ (s : ℕ) (text proof : List ℕ) where
     where
       go : (v : Verdict) → Closed s text proof v → v .number ≡ 0 → Unsatisfiable text
       go _ (formula-refused named) z = absurd (omega arith)
+      go _ (proof-tried late R e) z = absurd (omega arith)
       go _ (proof-ended {n} {number} {offset} {at} {st} {m} _ R e) z = (
         reached-end R,
         (λ a. not-true (satisfies a (clausesOf (formula text))) (λ sat.

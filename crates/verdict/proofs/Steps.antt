@@ -1,5 +1,5 @@
 -- A record gives a next state exactly where it passes what 01 asks of its kind, and the number 0 exactly where it ends a refutation. The idea: each
--- test that refuses gives `stop`, so that `next` lies behind all of them. Assumes nothing.
+-- test that refuses gives `stop` or `spent`, so that `next` lies behind all of them. Assumes nothing.
 use mathlib.Core.Path.{_≡_, refl, sym, ap}
 use mathlib.Core.Logic.{_↔_}
 use mathlib.Core.Bool.{Bool, true, false, not, _&&_, _||_, cond}
@@ -20,11 +20,14 @@ use Rattle.records.specs.declared.Record.the-variants.{NodeEntry, Witness, Proo
 use Rattle.records.specs.declared.Rule.{Rule}
 use Rattle.records.specs.declared.Rule.the-variants.{Rup, Pr}
 use Rattle.records.specs.Records.{numberOf}
-use Rattle.verdict.specs.Check.{State, Step, next, stop, isEntry, entryNode, isVariable, entered, nodeStep, witnessStep, waiting, accepted, judged, diagramIn, lineStep, endStep, step}
-use Rattle.verdict.specs.Run.{withEntry, NodeTaken, WitnessTaken, lineOf, LineTaken, Taken}
+use Rattle.verdict.specs.Check.{State, Step, next, stop, spent, isEntry, entryNode, isVariable, entered, nodeStep, witnessStep, waiting, accepted, judged, diagramIn, lineStep, endStep, step}
+use Rattle.verdict.specs.Run.{withEntry, NodeTaken, WitnessTaken, lineOf, peakWith, LineTaken, Taken}
 
 pub stop-not-next : {A : Type 0} (number offset : ℕ) (st : State) → stop number offset ≡ next st → A
 stop-not-next number offset st e = let z : _≡_ {A = ℕ} 0 1 = cc in absurd (omega arith)
+
+pub spent-not-next : {A : Type 0} (number peak : ℕ) (st : State) → spent number peak ≡ next st → A
+spent-not-next number peak st e = let z : _≡_ {A = ℕ} 0 1 = cc in absurd (omega arith)
 
 module _ {st′ : State} where
   -- a test that refuses was passed
@@ -36,11 +39,16 @@ module _ {st′ : State} where
   pub met : (c : Bool) (number : ℕ) (r : Step) → cond (not c) (stop number 0) r ≡ next st′ → (c ≡ true) × (r ≡ next st′)
   met c number r e = let (p, q) = passed (not c) number r e in (not-false c p, q)
 
+  -- one that asks for a fact once nodes were made
+  pub met-late : (c : Bool) (number peak : ℕ) (r : Step) → cond (not c) (spent number peak) r ≡ next st′ → (c ≡ true) × (r ≡ next st′)
+  met-late true number peak r e = (refl, e)
+  met-late false number peak r e = spent-not-next number peak st′ e
+
 -- ---- node records
 
 entered-taken : (st : State) (p : Placing) (st′ : State) → entered st p ≡ next st′ → (t : List Node) × (k : ℕ) × (p ≡ placed t k) × (withEntry st t k ≡ st′)
 unfolding entered
-entered-taken st (full t) st′ e = stop-not-next 23 0 st′ e
+entered-taken st (full t) st′ e = spent-not-next 23 _ st′ e
 entered-taken st (placed t k) st′ e = (t, k, refl, cc)
 
 pub node-taken : (n s : ℕ) (st : State) (b : NodeBody) (st′ : State) → nodeStep n s st b ≡ next st′ → NodeTaken n s st b st′
@@ -110,11 +118,11 @@ taken-witness n st v b st′ T = rw (le-leb 1 v (T .least), le-leb v n (T .most)
 -- ---- lines
 
 judged-taken : (s : ℕ) (st : State) (g : ℕ) (line : Line) (st′ : State) → judged s st g line ≡ next st′
-    → (lineReach s (st .nodes) line .fits ≡ true) × (line .shown ≡ true) × (accepted st g line ≡ st′)
+    → (lineReach s (st .nodes) line .fits ≡ true) × (line .shown ≡ true) × (accepted st g line (peakWith s st line) ≡ st′)
 unfolding judged
 judged-taken s st g line st′ e =
-    let (fits, e₁) = met (lineReach s (st .nodes) line .fits) _ _ e in
-    let (shown, e₂) = met (line .shown) _ _ e₁ in
+    let (fits, e₁) = met-late (lineReach s (st .nodes) line .fits) 23 (peakWith s st line) _ e in
+    let (shown, e₂) = met-late (line .shown) 19 (peakWith s st line) _ e₁ in
     (fits, shown, cc)
 
 pub line-taken : (n s : ℕ) (st : State) (rule : Rule) (root : ℕ) (st′ : State) → lineStep n s st rule root ≡ next st′ → LineTaken n s st rule root st′
@@ -201,15 +209,37 @@ module _ {wanted offset : ℕ} where
   pub next-not-stop : {A : Type 0} (st : State) → next st ≡ stop wanted offset → A
   next-not-stop st e = stop-not-next wanted offset st (sym e)
 
+  spent-not-stop : {A : Type 0} (number peak : ℕ) → spent number peak ≡ stop wanted offset → A
+  spent-not-stop number peak e = let z : _≡_ {A = ℕ} 0 1 = cc in absurd (omega arith)
+
   -- A test that refuses with another number was passed.
   pub past : (c : Bool) (number at : ℕ) (r : Step) → eqb number wanted ≡ false → cond c (stop number at) r ≡ stop wanted offset → (c ≡ false) × (r ≡ stop wanted offset)
   past true number at r other e = stop-other number at other e
   past false number at r other e = (refl, e)
 
+  past-late : (c : Bool) (number peak : ℕ) (r : Step) → cond c (spent number peak) r ≡ stop wanted offset → (c ≡ false) × (r ≡ stop wanted offset)
+  past-late true number peak r e = spent-not-stop number peak e
+  past-late false number peak r e = (refl, e)
+
+-- The same of a refusal once nodes were made.
+module _ {wanted peak : ℕ} where
+  pub spent-other : {A : Type 0} (number p : ℕ) → eqb number wanted ≡ false → spent number p ≡ spent wanted peak → A
+  spent-other number p other e = let z : number ≡ wanted = cc in absurd (eqb-false number wanted other z)
+
+  pub next-not-spent : {A : Type 0} (st : State) → next st ≡ spent wanted peak → A
+  next-not-spent st e = spent-not-next wanted peak st (sym e)
+
+  pub stop-not-spent : {A : Type 0} (number at : ℕ) → stop number at ≡ spent wanted peak → A
+  stop-not-spent number at e = let z : _≡_ {A = ℕ} 0 1 = cc in absurd (omega arith)
+
+  pub past-early : (c : Bool) (number at : ℕ) (r : Step) → cond c (stop number at) r ≡ spent wanted peak → (c ≡ false) × (r ≡ spent wanted peak)
+  past-early true number at r e = stop-not-spent number at e
+  past-early false number at r e = (refl, e)
+
 module _ {offset : ℕ} where
   entered-not-zero : {A : Type 0} (st : State) (p : Placing) → entered st p ≡ stop 0 offset → A
   unfolding entered
-  entered-not-zero st (full t) e = stop-other 23 0 refl e
+  entered-not-zero st (full t) e = spent-not-stop 23 _ e
   entered-not-zero st (placed t k) e = next-not-stop _ e
 
   node-not-zero : {A : Type 0} (n s : ℕ) (st : State) (b : NodeBody) → nodeStep n s st b ≡ stop 0 offset → A
@@ -233,8 +263,8 @@ module _ {offset : ℕ} where
   judged-not-zero : {A : Type 0} (s : ℕ) (st : State) (g : ℕ) (line : Line) → judged s st g line ≡ stop 0 offset → A
   unfolding judged
   judged-not-zero s st g line e =
-      let (p₁, e₁) = past (not (lineReach s (st .nodes) line .fits)) _ _ _ refl e in
-      let (p₂, e₂) = past (not (line .shown)) _ _ _ refl e₁ in
+      let (p₁, e₁) = past-late (not (lineReach s (st .nodes) line .fits)) 23 (peakWith s st line) _ e in
+      let (p₂, e₂) = past-late (not (line .shown)) 19 (peakWith s st line) _ e₁ in
       next-not-stop _ e₂
 
   line-not-zero : {A : Type 0} (n s : ℕ) (st : State) (rule : Rule) (root : ℕ) → lineStep n s st rule root ≡ stop 0 offset → A

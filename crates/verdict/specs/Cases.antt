@@ -12,15 +12,16 @@ use Rattle.verdict.specs.Check.{Verdict, verdict}
 
 -- ---- rows
 
--- The four numbers of the program's line: "number, place, accepted lines, rounds".
+-- The numbers of the program's line: "number, place, accepted lines, rounds" (01), and "it as a fifth field" (02, 2/14): the peak.
 pub record Printed : Type 0 where
   pub number : ℕ
   pub place : ℕ
   pub lines : ℕ
   pub rounds : ℕ
+  pub peak : ℕ
 
-abbrev pub prints : ℕ → ℕ → ℕ → ℕ → Printed
-prints number place lines rounds = record { number = number; place = place; lines = lines; rounds = rounds }
+abbrev pub prints : ℕ → ℕ → ℕ → ℕ → ℕ → Printed
+prints number place lines rounds peak = record { number = number; place = place; lines = lines; rounds = rounds; peak = peak }
 
 -- A row: what is printed of a formula and a proof with a table of s places; what f cofactored by g is; what U(f) is.
 pub data Row : Type 0 where
@@ -34,7 +35,7 @@ bytes [] = []ᴸ
 bytes (c ∷ s) = code c ∷ᴸ bytes s
 
 abbrev pub printed : Verdict → Printed
-printed v = prints (v .number) (v .place) (v .lines) (v .rounds)
+printed v = prints (v .number) (v .place) (v .lines) (v .rounds) (v .peak)
 
 abbrev pub plus : ℕ → Literal
 plus v = record { variable = v; positive = true }
@@ -106,40 +107,40 @@ I-proof = over 3 0 1 (over 2 0 2 (over 2 2 1 (over 1 3 4 (rupLine 5 end))))
 -- Cases A to J, with the program's table of 4,096 places. The end after I's accepted line gives 20.
 abbrev pub caseTable : List Row
 caseTable =
-    checked 4096 A-formula A-proof (prints 0 12 2 1)
-    ∷ᴸ checked 4096 A-formula (rupLine 0 end) (prints 19 0 0 0)
-    ∷ᴸ checked 4096 "p cnf 2 2\n1 2 0\n-1 2 0\n" A-proof (prints 19 9 1 0)
-    ∷ᴸ checked 4096 D-formula (over 1 0 1 (0x46 ∷ᴸ 1 ∷ᴸ prLine 2 end)) (prints 18 8 0 0)
-    ∷ᴸ checked 4096 D-formula (over 1 0 1 (0x54 ∷ᴸ 1 ∷ᴸ prLine 2 end)) (prints 20 11 1 0)
-    ∷ᴸ checked 4096 D-formula (over 1 0 1 (rupLine 2 end)) (prints 19 6 0 0)
+    checked 4096 A-formula A-proof (prints 0 12 2 1 10)
+    ∷ᴸ checked 4096 A-formula (rupLine 0 end) (prints 19 0 0 0 8)
+    ∷ᴸ checked 4096 "p cnf 2 2\n1 2 0\n-1 2 0\n" A-proof (prints 19 9 1 0 8)
+    ∷ᴸ checked 4096 D-formula (over 1 0 1 (0x46 ∷ᴸ 1 ∷ᴸ prLine 2 end)) (prints 18 8 0 0 5)
+    ∷ᴸ checked 4096 D-formula (over 1 0 1 (0x54 ∷ᴸ 1 ∷ᴸ prLine 2 end)) (prints 20 11 1 0 6)
+    ∷ᴸ checked 4096 D-formula (over 1 0 1 (rupLine 2 end)) (prints 19 6 0 0 6)
     ∷ᴸ cofactored 2 (variable 2) xor12 (negated 1)
     ∷ᴸ cofactored 2 (variable 1) xor12 (variable 1)
     ∷ᴸ units 3 H-diagram (plus 2 ∷ᴸ []ᴸ)
-    ∷ᴸ checked 4096 "p cnf 3 3\n2 3 0\n1 3 0\n1 2 0\n" I-proof (prints 20 27 1 2)
-    ∷ᴸ checked 4096 "p cnf 0 0\n" (rupLine 0 end) (prints 19 0 0 0)
+    ∷ᴸ checked 4096 "p cnf 3 3\n2 3 0\n1 3 0\n1 2 0\n" I-proof (prints 20 27 1 2 16)
+    ∷ᴸ checked 4096 "p cnf 0 0\n" (rupLine 0 end) (prints 19 0 0 0 2)
     ∷ᴸ []ᴸ
 
 -- Numbers 1 to 6, 8 to 17, 20 and 23 with 01's examples; 0, 18 and 19 are cases A, D and B. The last row is 19 for "a PR line because the
 -- line follows under ω while some member does not". (01, Where builders go astray)
 abbrev pub numberTable : List Row
 numberTable =
-    checked 4096 "p cnf 2" []ᴸ (prints 1 0 0 0)
-    ∷ᴸ checked 4096 "p cnf 65 1" []ᴸ (prints 2 0 0 0)
-    ∷ᴸ checked 4096 "p cnf 1 1\n-0 0\n" []ᴸ (prints 3 10 0 0)
-    ∷ᴸ checked 4096 "p cnf 2 1\n3 0\n" []ᴸ (prints 4 10 0 0)
-    ∷ᴸ checked 4096 "p cnf 1 2\n1 0\n" []ᴸ (prints 5 14 0 0)
-    ∷ᴸ checked 4096 "p cnf 1 1\n1\n" []ᴸ (prints 6 10 0 0)
-    ∷ᴸ checked 2 "p cnf 1 1\n1 0\n" []ᴸ (prints 8 10 0 0)
-    ∷ᴸ checked 4096 D-formula (0x00 ∷ᴸ []ᴸ) (prints 9 0 0 0)
-    ∷ᴸ checked 4096 D-formula []ᴸ (prints 10 0 0 0)
-    ∷ᴸ checked 4096 D-formula (0x45 ∷ᴸ end) (prints 11 1 0 0)
-    ∷ᴸ checked 4096 D-formula (0x54 ∷ᴸ 0 ∷ᴸ []ᴸ) (prints 12 0 0 0)
-    ∷ᴸ checked 4096 D-formula (rupLine 2 []ᴸ) (prints 13 0 0 0)
-    ∷ᴸ checked 4096 D-formula (over 2 0 1 (over 2 0 2 []ᴸ)) (prints 14 6 0 0)
-    ∷ᴸ checked 4096 D-formula (0x54 ∷ᴸ 1 ∷ᴸ 0x46 ∷ᴸ 1 ∷ᴸ []ᴸ) (prints 15 2 0 0)
-    ∷ᴸ checked 4096 D-formula (0x54 ∷ᴸ 1 ∷ᴸ end) (prints 16 2 0 0)
-    ∷ᴸ checked 4096 D-formula (rupLine 1 []ᴸ) (prints 17 0 0 0)
-    ∷ᴸ checked 4096 D-formula end (prints 20 0 0 0)
-    ∷ᴸ checked 3 "p cnf 2 1\n1 0\n" (over 2 0 1 []ᴸ) (prints 23 0 0 0)
-    ∷ᴸ checked 4096 "p cnf 2 1\n-1 2 0\n" (over 1 0 1 (0x54 ∷ᴸ 1 ∷ᴸ prLine 2 end)) (prints 19 8 0 0)
+    checked 4096 "p cnf 2" []ᴸ (prints 1 0 0 0 2)
+    ∷ᴸ checked 4096 "p cnf 65 1" []ᴸ (prints 2 0 0 0 2)
+    ∷ᴸ checked 4096 "p cnf 1 1\n-0 0\n" []ᴸ (prints 3 10 0 0 2)
+    ∷ᴸ checked 4096 "p cnf 2 1\n3 0\n" []ᴸ (prints 4 10 0 0 2)
+    ∷ᴸ checked 4096 "p cnf 1 2\n1 0\n" []ᴸ (prints 5 14 0 0 3)
+    ∷ᴸ checked 4096 "p cnf 1 1\n1\n" []ᴸ (prints 6 10 0 0 2)
+    ∷ᴸ checked 2 "p cnf 1 1\n1 0\n" []ᴸ (prints 8 10 0 0 2)
+    ∷ᴸ checked 4096 D-formula (0x00 ∷ᴸ []ᴸ) (prints 9 0 0 0 4)
+    ∷ᴸ checked 4096 D-formula []ᴸ (prints 10 0 0 0 4)
+    ∷ᴸ checked 4096 D-formula (0x45 ∷ᴸ end) (prints 11 1 0 0 4)
+    ∷ᴸ checked 4096 D-formula (0x54 ∷ᴸ 0 ∷ᴸ []ᴸ) (prints 12 0 0 0 4)
+    ∷ᴸ checked 4096 D-formula (rupLine 2 []ᴸ) (prints 13 0 0 0 4)
+    ∷ᴸ checked 4096 D-formula (over 2 0 1 (over 2 0 2 []ᴸ)) (prints 14 6 0 0 4)
+    ∷ᴸ checked 4096 D-formula (0x54 ∷ᴸ 1 ∷ᴸ 0x46 ∷ᴸ 1 ∷ᴸ []ᴸ) (prints 15 2 0 0 4)
+    ∷ᴸ checked 4096 D-formula (0x54 ∷ᴸ 1 ∷ᴸ end) (prints 16 2 0 0 4)
+    ∷ᴸ checked 4096 D-formula (rupLine 1 []ᴸ) (prints 17 0 0 0 4)
+    ∷ᴸ checked 4096 D-formula end (prints 20 0 0 0 4)
+    ∷ᴸ checked 3 "p cnf 2 1\n1 0\n" (over 2 0 1 []ᴸ) (prints 23 0 0 0 3)
+    ∷ᴸ checked 4096 "p cnf 2 1\n-1 2 0\n" (over 1 0 1 (0x54 ∷ᴸ 1 ∷ᴸ prLine 2 end)) (prints 19 8 0 0 7)
     ∷ᴸ []ᴸ

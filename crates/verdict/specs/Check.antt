@@ -3,7 +3,7 @@
 use mathlib.Core.Bool.{Bool, true, false, not, _&&_, _||_, cond}
 use mathlib.Core.List.{List, [], _∷_, _++_, map}
 use mathlib.Core.Option.{Option, none, some}
-use Prim.Native.Nat.{ℕ, zero, suc, _+_, _-_, _^_}
+use Prim.Native.Nat.{ℕ, zero, suc, _+_, _-_, _^_, max}
 use lib.ListN.{length, getD, take, replicate}
 use lib.Dec.{eqb, ltb, leb}
 use Rattle.meaning.specs.Diagram.{Diagram}
@@ -28,7 +28,7 @@ use Rattle.records.specs.Records.{recordAt, lengthOf, numberOf}
 
 -- The table's nodes, those of the line's entries included; how many of them stay if the line is not accepted; the members (clauses
 -- and accepted lines) and the line's entries from entry 2 on, as node numbers; the witness, the variables that it sets true and
--- those that it sets false as two words; the accepted lines, their rounds, and whether one of them is the 0 diagram.
+-- those that it sets false as two words; the accepted lines, their rounds, the greatest count so far, and whether a line is the 0 diagram.
 pub record State : Type 0 where
   pub nodes : List Node
   pub kept : ℕ
@@ -38,6 +38,7 @@ pub record State : Type 0 where
   pub negative : ℕ
   pub lines : ℕ
   pub rounds : ℕ
+  pub peak : ℕ
   pub refuted : Bool
 
 -- "The whole check starts by emptying the table and lists": the constants alone.
@@ -55,13 +56,17 @@ begun nodes members = record {
   negative = 0;
   lines = 0;
   rounds = 0;
+  peak = length nodes;
   refuted = false;
 }
 
--- What a record comes to: the next state, or the end with a number and the place, counted from the record's first byte.
+-- What a record comes to: the next state; the end with a number and the place, counted from the record's first byte, where it made no
+-- node; or the end with 23 or 19 at its first byte and the greatest count so far, once it made nodes: "On a refusal that count covers all
+-- that was placed before". (02, 2/14)
 pub data Step : Type 0 where
   next : State → Step
   stop : (number offset : ℕ) → Step
+  spent : (number peak : ℕ) → Step
 
 -- ---- node and witness records
 
@@ -82,7 +87,7 @@ isVariable n v = leb 1 v && leb v n
 
 -- The entry made, or 23.
 unfoldable pub entered : State → Placing → Step
-entered st (full t) = stop 23 0
+entered st (full t) = spent 23 (max (st .peak) (length t))
 entered st (placed t k) = next (record {
   nodes = t;
   kept = st .kept;
@@ -92,6 +97,7 @@ entered st (placed t k) = next (record {
   negative = st .negative;
   lines = st .lines;
   rounds = st .rounds;
+  peak = max (st .peak) (length t);
   refuted = st .refuted;
 })
 
@@ -126,6 +132,7 @@ witnessStep n st v b =
       negative = withVariable (not b) (st .negative) v;
       lines = st .lines;
       rounds = st .rounds;
+      peak = st .peak;
       refuted = st .refuted;
     })))
 
@@ -136,8 +143,8 @@ waiting st = not (eqb (st .positive) 0 && eqb (st .negative) 0)
 -- ---- lines
 
 -- "After an accepted line its root is the next member and entries and witness start anew." (01, The proof)
-abbrev pub accepted : State → ℕ → Line → State
-accepted st g line = record {
+abbrev pub accepted : State → ℕ → Line → ℕ → State
+accepted st g line greatest = record {
   nodes = st .nodes;
   kept = length (st .nodes);
   members = st .members ++ g ∷ [];
@@ -146,12 +153,16 @@ accepted st g line = record {
   negative = 0;
   lines = suc (st .lines);
   rounds = st .rounds + line .rounds;
+  peak = greatest;
   refuted = st .refuted || eqb g 0;
 }
 
 unfoldable pub judged : ℕ → State → ℕ → Line → Step
 unfolding lineReach
-judged s st g line = cond (not (lineReach s (st .nodes) line .fits)) (stop 23 0) (cond (not (line .shown)) (stop 19 0) (next (accepted st g line)))
+judged s st g line =
+    let r = lineReach s (st .nodes) line in
+    let peak = max (st .peak) (r .peak) in
+    cond (not (r .fits)) (spent 23 peak) (cond (not (line .shown)) (spent 19 peak) (next (accepted st g line peak)))
 
 abbrev pub diagramIn : State → ℕ → Diagram
 diagramIn st k = diagramAt (st .nodes) k
@@ -191,35 +202,39 @@ step n s st more CutShort = stop (numberOf CutShort) 0
 step n s st more UnknownKind = stop (numberOf UnknownKind) 0
 step n s st more NoRecord = stop (numberOf NoRecord) 0
 
--- What the check says, and the nodes and members that it leaves.
+-- What the check says, and the nodes and members that it leaves. "the check shall report the greatest count reached, dropped nodes
+-- included" (02, 2/14)
 pub record Verdict : Type 0 where
   pub number : ℕ
   pub place : ℕ
   pub lines : ℕ
   pub rounds : ℕ
+  pub peak : ℕ
   pub nodes : List Node
   pub members : List ℕ
 
 -- "A refused proof leaves the clauses and accepted lines with their nodes (those of all their entries) [..]. Number 0 leaves the same;
 -- nodes of entries after the last accepted line are dropped in both."
-abbrev pub left : ℕ → ℕ → State → Verdict
-left number place st = record {
+abbrev pub left : ℕ → ℕ → ℕ → State → Verdict
+left number place peak st = record {
   number = number;
   place = place;
   lines = st .lines;
   rounds = st .rounds;
+  peak = peak;
   nodes = take (st .kept) (st .nodes);
   members = st .members;
 }
 
 abbrev pub afterStep : Step → State → ℕ → (State → Verdict) → Verdict
-afterStep (stop number offset) st at rest = left number (at + offset) st
+afterStep (stop number offset) st at rest = left number (at + offset) (st .peak) st
+afterStep (spent number peak) st at rest = left number at peak st
 afterStep (next st′) st at rest = rest st′
 
 -- The records from a place on. A record has at least one byte, so that one step more than there are bytes is enough.
 unfoldable pub records : ℕ → ℕ → ℕ → List ℕ → State → ℕ → Verdict
 unfolding step
-records zero n s proof st at = left 10 at st
+records zero n s proof st at = left 10 at (st .peak) st
 records (suc steps) n s proof st at =
     let r = recordAt proof at in
     afterStep (step n s st (ltb (at + lengthOf r) (length proof)) r) st at (λ st′. records steps n s proof st′ (at + lengthOf r))
@@ -227,11 +242,11 @@ records (suc steps) n s proof st at =
 -- ---- the formula
 
 -- "A refused formula leaves table and lists all zero, count 2."
-abbrev pub refusedFormula : ℕ → ℕ → Verdict
-refusedFormula number place = record { number = number; place = place; lines = 0; rounds = 0; nodes = emptied; members = [] }
+abbrev pub refusedFormula : ℕ → ℕ → ℕ → Verdict
+refusedFormula number place peak = record { number = number; place = place; lines = 0; rounds = 0; peak = peak; nodes = emptied; members = [] }
 
 abbrev pub afterClause : Placing → (List Node → ℕ → Verdict) → ℕ → Verdict
-afterClause (full t) rest first = refusedFormula 8 first
+afterClause (full t) rest first = refusedFormula 8 first (length t)
 afterClause (placed t k) rest first = rest t k
 
 -- "Clauses become members 0, 1, 2 and so on. Tokens are judged in file order, and a clause is made as it closes." Then the proof.
@@ -240,11 +255,11 @@ unfolding records
 clauses n s proof t ms (clause ls first rest) =
     afterClause (place s t (meaning.clause n ls)) (λ t₁ k. clauses n s proof t₁ (ms ++ k ∷ []) rest) first
 clauses n s proof t ms complete = records (suc (length proof)) n s proof (begun t ms) 0
-clauses n s proof t ms (refusal number place) = refusedFormula number place
+clauses n s proof t ms (refusal number place) = refusedFormula number place (length t)
 
 abbrev pub afterHeader : ℕ → List ℕ → List ℕ → Header → Verdict
 afterHeader s formula proof (Proper n many at) = clauses n s proof emptied [] (clausesFrom formula n many at)
-afterHeader s formula proof (Improper number place) = refusedFormula number place
+afterHeader s formula proof (Improper number place) = refusedFormula number place (length emptied)
 
 -- The check of a formula and a proof with a table of s places.
 unfoldable pub verdict : ℕ → List ℕ → List ℕ → Verdict
@@ -260,6 +275,7 @@ pub record Outcome : Type 0 where
   pub lines : ℕ
   pub rounds : ℕ
   pub count : ℕ
+  pub peak : ℕ
   pub columns : Columns
   pub members : List ℕ
   pub scratch : List ℕ
@@ -279,12 +295,13 @@ outcome s m c v = record {
   lines = v .lines;
   rounds = v .rounds;
   count = length (v .nodes);
+  peak = v .peak;
   columns = columnsOf (padded s (v .nodes));
   members = v .members ++ zeros (m - length (v .members));
   scratch = zeros c;
 }
 
--- "Number 7 changes nothing": "place 0, no lines, no rounds and the count as lent".
+-- "Number 7 changes nothing": "place 0, no lines, no rounds and the count as lent". "with 7, 24 and 25 it is 0": the peak. (02, 2/14)
 unfoldable pub check : List ℕ → List ℕ → List ℕ → ℕ → List ℕ → List ℕ → List ℕ → List ℕ → Outcome
 unfolding lentFits outcome verdict
 check vars lows highs count members scratch formula proof =
@@ -295,6 +312,7 @@ check vars lows highs count members scratch formula proof =
       lines = 0;
       rounds = 0;
       count = count;
+      peak = 0;
       columns = record { vars = vars; lows = lows; highs = highs };
       members = members;
       scratch = scratch;

@@ -12,7 +12,7 @@ use Rattle.meaning.specs.Words.{inWord}
 use Rattle.table.specs.Nodes.{Node, Placing, full, placed, place}
 use Rattle.records.specs.declared.Rule.{Rule}
 use Rattle.records.specs.declared.Rule.the-variants.{Rup, Pr}
-use Rattle.verdict.specs.Check.{State, Step, next, stop, accepted, diagramIn}
+use Rattle.verdict.specs.Check.{State, Step, next, spent, accepted, diagramIn}
 
 -- What is met: a conflict in every propagation; a propagation that ends without one; a diagram that finds no room.
 pub data Met : Type 0 where
@@ -70,8 +70,8 @@ metBy n s st Pr g =
     making s (st .nodes) (base n ms (diagramIn st g))
     (λ t. turning s n (inWord (st .positive)) (inWord (st .negative)) t (byDiagram n (negation n (diagramIn st g)) ms) ms)
 
--- What each says: the line accepted, 19, 23.
-abbrev pub sayMet : State → ℕ → Line → Met → Step
-sayMet st g line all-shown = next (accepted st g line)
-sayMet st g line no-conflict = stop 19 0
-sayMet st g line no-place = stop 23 0
+-- What each says: the line accepted, 19, 23; the greatest count is then `peak`.
+abbrev pub sayMet : State → ℕ → Line → ℕ → Met → Step
+sayMet st g line peak all-shown = next (accepted st g line peak)
+sayMet st g line peak no-conflict = spent 19 peak
+sayMet st g line peak no-place = spent 23 peak

@@ -4,7 +4,7 @@ use mathlib.Core.Path.{_≡_}
 use mathlib.Core.Logic.{_≢_}
 use mathlib.Core.Bool.{Bool, true, false, not, cond}
 use mathlib.Core.List.{List, [], _∷_, _++_, map}
-use Prim.Native.Nat.{ℕ, zero, suc, _+_, _≤_, _<_}
+use Prim.Native.Nat.{ℕ, zero, suc, _+_, _≤_, _<_, max}
 use lib.ListN.{length, getD, take}
 use lib.Dec.{ltb}
 use Rattle.meaning.specs.Diagram.{Assignment, holds, value}
@@ -22,7 +22,7 @@ use Rattle.records.specs.declared.Rule.the-variants.{Rup, Pr}
 use Rattle.records.specs.declared.Record.{Record}
 use Rattle.records.specs.declared.Record.the-variants.{NodeEntry, Witness, ProofLine, End, CutShort, UnknownKind, NoRecord}
 use Rattle.records.specs.Records.{recordAt, lengthOf}
-use Rattle.verdict.specs.Check.{State, emptied, begun, stop, isEntry, entryNode, withVariable, waiting, accepted, diagramIn, step, Verdict, left, refusedFormula}
+use Rattle.verdict.specs.Check.{State, emptied, begun, stop, spent, isEntry, entryNode, withVariable, waiting, accepted, diagramIn, step, Verdict, left, refusedFormula}
 use Rattle.verdict.specs.Satisfies.{clausesOf}
 
 -- ---- what members and entries stand for
@@ -97,6 +97,7 @@ withEntry st t k = record {
   negative = st .negative;
   lines = st .lines;
   rounds = st .rounds;
+  peak = max (st .peak) (length t);
   refuted = st .refuted;
 }
 
@@ -111,6 +112,7 @@ withWitness st positive negative = record {
   negative = negative;
   lines = st .lines;
   rounds = st .rounds;
+  peak = st .peak;
   refuted = st .refuted;
 }
 
@@ -146,6 +148,10 @@ abbrev pub Witnessed : ℕ → State → Rule → ℕ → Type 0
 Witnessed n st Rup g = waiting st ≡ false
 Witnessed n st Pr g = witnessed n (inWord (st .positive)) (inWord (st .negative)) (diagramIn st g) ≡ true
 
+-- The greatest count once a line is tried: what was reached before, or what the line reaches.
+abbrev pub peakWith : ℕ → State → Line → ℕ
+peakWith s st line = max (st .peak) (lineReach s (st .nodes) line .peak)
+
 -- "RUP: 10, 13, 16, 22, 17, then 19 or 23 [..]. PR: 10, 13, 22, 17, 18, then the same": none of them holds: its rule shows the line, and all
 -- that it makes finds room.
 pub record LineTaken (n s : ℕ) (st : State) (rule : Rule) (root : ℕ) (st′ : State) : Type 0 where
@@ -155,7 +161,7 @@ pub record LineTaken (n s : ℕ) (st : State) (rule : Rule) (root : ℕ) (st′ 
   pub witness : Witnessed n st rule (entryNode st root)
   pub fits : lineReach s (st .nodes) (lineOf n st rule (entryNode st root)) .fits ≡ true
   pub shown : lineOf n st rule (entryNode st root) .shown ≡ true
-  pub is : accepted st (entryNode st root) (lineOf n st rule (entryNode st root)) ≡ st′
+  pub is : accepted st (entryNode st root) (lineOf n st rule (entryNode st root)) (peakWith s st (lineOf n st rule (entryNode st root))) ≡ st′
 
 -- What a record has to pass, by its kind, and the state that it leads to. No other record is followed by a state.
 abbrev pub Taken : ℕ → ℕ → State → Record → State → Type 0
@@ -196,16 +202,21 @@ pub data Later (s : ℕ) (proof : List ℕ) (n : ℕ) (st : State) (at : ℕ) : 
       → Later s proof n st at st₂ (at₁ + lengthOf (recordAt proof at₁))
 
 -- How a check ends, with what it says and leaves: there is no proper header; a token of the formula is refused, all clauses before it made; a
--- clause finds no room; or a record is refused or ends the proof, all records before it taken. Each gives its number and its place.
+-- clause finds no room; a record is refused before it makes a node, or ends the proof; or it is refused once it made some; all records before it
+-- taken. Each gives its number, its place and the greatest count.
 pub data Ended (s : ℕ) (text proof : List ℕ) : Verdict → Type 0 where
-  no-header : {number place : ℕ} → header text ≡ Improper number place → Ended s text proof (refusedFormula number place)
+  no-header : {number place : ℕ} → header text ≡ Improper number place → Ended s text proof (refusedFormula number place (length emptied))
   not-read : {n many number place : ℕ} {t : List Node} {ms : List ℕ} {fs : List Function}
-      → Making s text n many t ms fs (refusal number place) → Ended s text proof (refusedFormula number place)
+      → Making s text n many t ms fs (refusal number place) → Ended s text proof (refusedFormula number place (length t))
   no-room : {n many first : ℕ} {t t₁ : List Node} {ms : List ℕ} {fs : List Function} {ls : List meaning.Literal} {rest : Reading}
-      → Making s text n many t ms fs (clause ls first rest) → place s t (meaning.clause n ls) ≡ full t₁ → Ended s text proof (refusedFormula 8 first)
+      → Making s text n many t ms fs (clause ls first rest) → place s t (meaning.clause n ls) ≡ full t₁
+      → Ended s text proof (refusedFormula 8 first (length t₁))
   stopped : {n number offset at : ℕ} {st : State} {m : Meant}
       → Reached s text proof n st at m → step n s st (follows proof at) (recordAt proof at) ≡ stop number offset
-      → Ended s text proof (left number (at + offset) st)
+      → Ended s text proof (left number (at + offset) (st .peak) st)
+  tried : {n number peak at : ℕ} {st : State} {m : Meant}
+      → Reached s text proof n st at m → step n s st (follows proof at) (recordAt proof at) ≡ spent number peak
+      → Ended s text proof (left number at peak st)
 
 -- A refutation: the check reaches an end record with no witness waiting, no byte behind it, and a 0 line among the accepted ones.
 pub record Refutation (s : ℕ) (text proof : List ℕ) : Type 0 where

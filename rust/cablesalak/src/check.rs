@@ -8,7 +8,7 @@ pub const MEMBERS: usize = 2_048;
 /// The least length of the scratch list.
 pub const SCRATCH: usize = 4_096;
 
-/// What a check says. Written out with `{}` it is the program's line: number, place, lines, rounds.
+/// What a check says. Written out with `{}` it is the program's line: number, place, lines, rounds, peak.
 #[derive(Clone, Copy, Debug, PartialEq, Eq)]
 #[non_exhaustive]
 pub struct Verdict {
@@ -22,6 +22,8 @@ pub struct Verdict {
     pub rounds: u64,
     /// The table's count.
     pub count: usize,
+    /// The greatest count that the check reached, dropped nodes included: what a table must hold for it. 0 with [`Number::WrongSize`].
+    pub peak: usize,
 }
 
 impl Verdict {
@@ -33,7 +35,7 @@ impl Verdict {
 
 impl fmt::Display for Verdict {
     fn fmt(&self, out: &mut fmt::Formatter<'_>) -> fmt::Result {
-        write!(out, "{} {} {} {}", self.number.code(), self.place, self.lines, self.rounds)
+        write!(out, "{} {} {} {} {}", self.number.code(), self.place, self.lines, self.rounds, self.peak)
     }
 }
 
@@ -115,6 +117,6 @@ pub fn check_lent(
     let count = *table.count;
     let said = raw::check(table.vars, table.lows, table.highs, count, members, scratch, formula, proof);
     *table.count = said.count;
-    let raw::Checked { number, place, lines, rounds, count } = said;
-    Verdict { number: Number::said(number), place, lines, rounds, count }
+    let raw::Checked { number, place, lines, rounds, count, peak } = said;
+    Verdict { number: Number::said(number), place, lines, rounds, count, peak }
 }

@@ -16,12 +16,12 @@
 //! let mut workspace = Workspace::new(4_096)?;
 //! let verdict = check(&mut workspace, formula, proof);
 //! assert!(verdict.refuted());
-//! assert_eq!(verdict.to_string(), "0 12 2 1");
+//! assert_eq!(verdict.to_string(), "0 12 2 1 10");
 //!
 //! // Without its first line the proof is refused at its first byte.
 //! let verdict = check(&mut workspace, formula, &proof[9..]);
 //! assert_eq!(verdict.number, Number::NotShown);
-//! assert_eq!(format!("{verdict}: {}", verdict.number), "19 0 0 0: not shown: no conflict");
+//! assert_eq!(format!("{verdict}: {}", verdict.number), "19 0 0 0 8: not shown: no conflict");
 //! # Ok::<(), Number>(())
 //! ```
 //!
@@ -33,11 +33,11 @@
 //! use cablesalak::report;
 //!
 //! let said = report(Some(b"p cnf 1 2\n1 0\n-1 0\n"), Some(b"\x52\0\0\x45"));
-//! assert_eq!((said.line(), said.status()), ("0 3 1 0\n", 0));
+//! assert_eq!((said.line(), said.status()), ("0 3 1 0 4\n", 0));
 //!
 //! // A proof that could not be read.
 //! let said = report(Some(b"p cnf 1 2\n1 0\n-1 0\n"), None);
-//! assert_eq!((said.line(), said.status()), ("25 0 0 0\n", 2));
+//! assert_eq!((said.line(), said.status()), ("25 0 0 0 0\n", 2));
 //! ```
 //!
 //! # Single calls

@@ -33,10 +33,11 @@ pub struct Checked {
     pub lines: usize,
     pub rounds: u64,
     pub count: usize,
+    pub peak: usize,
 }
 
 /// How many bytes a line can have: see [`report`].
-pub const LINE: usize = 84;
+pub const LINE: usize = 105;
 
 /// The answer of the report on two files.
 #[repr(C)]
@@ -51,8 +52,8 @@ const _: () = {
     assert!(size_of::<usize>() == 8);
     assert!(size_of::<Evaluated>() == 16 && offset_of!(Evaluated, yes) == 1 && offset_of!(Evaluated, count) == 8);
     assert!(size_of::<Single>() == 16 && offset_of!(Single, node) == 2 && offset_of!(Single, count) == 8);
-    assert!(size_of::<Checked>() == 40 && offset_of!(Checked, place) == 8 && offset_of!(Checked, lines) == 16);
-    assert!(offset_of!(Checked, rounds) == 24 && offset_of!(Checked, count) == 32);
+    assert!(size_of::<Checked>() == 48 && offset_of!(Checked, place) == 8 && offset_of!(Checked, lines) == 16);
+    assert!(offset_of!(Checked, rounds) == 24 && offset_of!(Checked, count) == 32 && offset_of!(Checked, peak) == 40);
     assert!(size_of::<Told>() == 16 && offset_of!(Told, status) == 8);
 };
 

@@ -93,8 +93,8 @@ fn check(asked: &Check, dirt: &mut Dirt) -> Answered {
         Some(kept) => (shown(&parts.columns), numbers(&parts.members.places()[..kept])),
         None => ("-".into(), "-".into()),
     };
-    let Checked { number, place, lines, rounds, count } = said;
-    Ok(format!("{number} {place} {lines} {rounds} {count} | {nodes} | {list}"))
+    let Checked { number, place, lines, rounds, count, peak } = said;
+    Ok(format!("{number} {place} {lines} {rounds} {count} {peak} | {nodes} | {list}"))
 }
 
 /// Parts that hold anything: the same for the same seed.

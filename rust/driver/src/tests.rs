@@ -72,7 +72,7 @@ fn check_on_unequal(mut vars: Vec<u8>, mut lows: Vec<u16>, mut highs: Vec<u16>) 
     let (mut members, mut scratch) = (vec![5u16; 2048], vec![6u16; 4096]);
     vars.fill(7);
     let said = raw::check(&mut vars, &mut lows, &mut highs, 9, &mut members, &mut scratch, b"p cnf 0 0", &[0x45]);
-    assert_eq!((said.number, said.place, said.lines, said.rounds, said.count), (7, 0, 0, 0, 9));
+    assert_eq!((said.number, said.place, said.lines, said.rounds, said.count, said.peak), (7, 0, 0, 0, 9, 0));
     assert!(vars.iter().all(|place| *place == 7) && lows.iter().chain(&highs).all(|place| *place == 0));
     assert!(members.iter().all(|place| *place == 5) && scratch.iter().all(|place| *place == 6));
 }

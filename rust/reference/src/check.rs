@@ -24,6 +24,9 @@ pub struct Verdict {
     pub place: usize,
     pub lines: usize,
     pub rounds: u64,
+    /// "The greatest count reached, dropped nodes included. On a refusal that count covers all that was
+    /// placed before; with 7 [..] it is 0."
+    pub peak: usize,
     pub members: Vec<NodeId>,
 }
 
@@ -36,20 +39,20 @@ pub fn check(d: &mut Diagrams, lent: &Lent, formula: &[u8], proof: &[u8]) -> Ver
     let sizes = table_size_is_right(lent.table) && lent.members >= MEMBERS && lent.scratch >= SCRATCH;
     d.reset(if sizes { lent.table as usize } else { SMALLEST as usize });
     if !sizes {
-        return refused_early(Refusal { number: 7, place: 0 });
+        return refused_early(Refusal { number: 7, place: 0 }, 0);
     }
     match read_formula(d, formula) {
         Err(refusal) => {
             // "A refused formula leaves table and lists all zero, count 2."
             d.drop_to(2);
-            refused_early(refusal)
+            refused_early(refusal, d.table.peak())
         }
         Ok((variables, members)) => Checker::new(d, variables, members).run(proof),
     }
 }
 
-fn refused_early(refusal: Refusal) -> Verdict {
-    Verdict { number: refusal.number, place: refusal.place, lines: 0, rounds: 0, members: Vec::new() }
+fn refused_early(refusal: Refusal, peak: usize) -> Verdict {
+    Verdict { number: refusal.number, place: refusal.place, lines: 0, rounds: 0, peak, members: Vec::new() }
 }
 
 /// The number of variables and the members; "a clause is made as it closes".
@@ -99,7 +102,8 @@ impl<'a> Checker<'a> {
         let (number, place) = self.records(proof);
         // "Nodes of entries after the last accepted line are dropped in both."
         self.d.drop_to(self.kept);
-        Verdict { number, place, lines: self.lines, rounds: self.rounds, members: self.members }
+        let peak = self.d.table.peak();
+        Verdict { number, place, lines: self.lines, rounds: self.rounds, peak, members: self.members }
     }
 
     /// Takes records up to the end record or a refusal: its number and place.

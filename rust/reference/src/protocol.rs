@@ -64,7 +64,8 @@ fn check_command<'a>(d: &mut Diagrams, mut words: impl Iterator<Item = &'a [u8]>
     }
     let verdict = check(d, &lent, &formula, &proof);
     push_number(out, verdict.number.into());
-    for value in [verdict.place as u64, verdict.lines as u64, verdict.rounds, d.table.count() as u64] {
+    let (count, peak) = (d.table.count() as u64, verdict.peak as u64);
+    for value in [verdict.place as u64, verdict.lines as u64, verdict.rounds, count, peak] {
         out.push(b' ');
         push_number(out, value);
     }

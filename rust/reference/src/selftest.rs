@@ -74,6 +74,7 @@ fn units(f: Function) -> Literals {
 #[derive(Clone, PartialEq, Debug)]
 struct Plain {
     size: usize,
+    peak: usize,
     nodes: Vec<[u32; 3]>,
 }
 
@@ -81,7 +82,7 @@ struct NoRoom;
 
 impl Plain {
     fn new(size: usize) -> Plain {
-        Plain { size, nodes: vec![[0; 3]; 2] }
+        Plain { size, peak: 2, nodes: vec![[0; 3]; 2] }
     }
 
     fn place(&mut self, v: u32, low: u32, high: u32) -> Result<u32, NoRoom> {
@@ -93,6 +94,7 @@ impl Plain {
             return Err(NoRoom);
         }
         self.nodes.push(node);
+        self.peak = self.peak.max(self.nodes.len());
         Ok(self.nodes.len() as u32 - 1)
     }
 
@@ -223,7 +225,7 @@ struct Model {
     members: Vec<Function>,
     entries: Vec<Function>,
     witness: Literals,
-    kept: Plain,
+    kept: usize,
     lines: u64,
     rounds: u64,
     line_rounds: u64,
@@ -276,13 +278,13 @@ impl Model {
                 if pr && under(g, self.witness) != ALL {
                     return Err(18);
                 }
-                let before = self.table.clone();
+                let last_entry = self.table.nodes.len();
                 self.line_rounds = 0;
                 if !self.shown(g, pr)? {
                     return Err(19);
                 }
-                self.table = before;
-                self.kept = self.table.clone();
+                self.table.nodes.truncate(last_entry);
+                self.kept = last_entry;
                 self.members.push(g);
                 self.entries = vec![0, ALL];
                 self.witness = Literals::default();
@@ -303,7 +305,7 @@ impl Model {
         if !pr {
             return self.conflicts(first);
         }
-        let before = self.table.clone();
+        let before = self.table.nodes.len();
         for f in members {
             let h = under(f, self.witness);
             if h != ALL {
@@ -314,7 +316,7 @@ impl Model {
                     return Ok(false);
                 }
             }
-            self.table = before.clone();
+            self.table.nodes.truncate(before);
         }
         Ok(true)
     }
@@ -426,7 +428,7 @@ fn judged(variables: u32, size: usize, clauses: &[Function], steps: &[Step]) -> 
     }
     let mut model = Model {
         variables,
-        kept: table.clone(),
+        kept: table.nodes.len(),
         table,
         members: clauses.to_vec(),
         entries: vec![0, ALL],
@@ -446,11 +448,13 @@ fn judged(variables: u32, size: usize, clauses: &[Function], steps: &[Step]) -> 
     unreachable!("every proof has an end record")
 }
 
-fn report(number: u32, place: usize, mut model: Model) -> String {
-    let count = model.kept.nodes.len();
-    let members: Vec<String> = model.members.iter().map(|&f| model.kept.build(f).ok().unwrap().to_string()).collect();
+fn report(number: u32, place: usize, model: Model) -> String {
+    let (mut table, count) = (model.table, model.kept);
+    table.nodes.truncate(count);
+    let members: Vec<String> = model.members.iter().map(|&f| table.build(f).ok().unwrap().to_string()).collect();
     let members = if members.is_empty() { "-".into() } else { members.join(",") };
-    format!("{number} {place} {} {} {count} | {} | {members}", model.lines, model.rounds, model.kept.text())
+    let counts = format!("{} {} {count} {}", model.lines, model.rounds, table.peak);
+    format!("{number} {place} {counts} | {} | {members}", table.text())
 }
 
 #[test]
@@ -476,7 +480,7 @@ fn checks_are_what_the_rules_say_and_0_is_said_of_nothing_satisfiable() {
         let said = ask(&mut d, &line);
         match judged(variables, size, &clauses, &steps) {
             Some(judged) => assert_eq!(said, judged, "{line}"),
-            None => assert!(said.starts_with("8 "), "{line}"),
+            None => assert!(said.starts_with("8 ") && said.ends_with(&format!("0 0 2 {size} | - | -")), "{line}"),
         }
         let number: usize = said.split(' ').next().unwrap().parse().unwrap();
         seen[number] += 1;

@@ -71,6 +71,8 @@ struct Facts {
 
 pub struct Table {
     size: usize,
+    /// The greatest count that nodes were dropped from.
+    peak: usize,
     nodes: Vec<Node>,
     facts: Vec<Facts>,
     /// For each node its negation, NONE where that is not in the table.
@@ -84,6 +86,7 @@ impl Table {
         let all = Literals { yes: u64::MAX, no: u64::MAX };
         Table {
             size: SMALLEST as usize,
+            peak: 0,
             nodes: vec![constant; 2],
             facts: vec![Facts { support: 0, units: all }, Facts { support: 0, units: Literals::default() }],
             negations: vec![ONE.0, ZERO.0],
@@ -95,10 +98,16 @@ impl Table {
     pub fn reset(&mut self, size: usize) {
         self.drop_to(2);
         self.size = size;
+        self.peak = 0;
     }
 
     pub fn count(&self) -> usize {
         self.nodes.len()
+    }
+
+    /// "The greatest count reached, dropped nodes included", since the table was emptied.
+    pub fn peak(&self) -> usize {
+        self.peak.max(self.count())
     }
 
     pub fn has(&self, id: u64) -> bool {
@@ -190,6 +199,7 @@ impl Table {
 
     /// Drops every node from the given count on.
     pub fn drop_to(&mut self, count: usize) {
+        self.peak = self.peak();
         while self.nodes.len() > count {
             let node = self.nodes[self.nodes.len() - 1];
             let bucket = self.bucket(node.level, node.low, node.high);

@@ -151,9 +151,9 @@ returns c =
     let a = start .args in
     let x = after-read-clauses .read-clauses .last in
     let G = opened-good _ _ (start .pre .0) in
-    refused-is (length (a .vars .now)) (length (a .members .now)) (length (a .scratch .now)) _ _ (start .pre .0 .least) _ _ _ _
+    refused-is (length (a .vars .now)) (length (a .members .now)) (length (a .scratch .now)) _ _ _ (start .pre .0 .least) _ _ _ _
     (after-empty .empty .ensures .0 ∙ ap zeros (after-read-clauses .read-clauses .kept .0)) (after-empty .empty .ensures .1 .0 ∙ ap zeros (after-read-clauses .read-clauses .kept .1 .0 ∙ G .lows)) (after-empty .empty .ensures .1 .1 .0 ∙ ap zeros (after-read-clauses .read-clauses .kept .1 .1 .0 ∙ G .highs)) (after-empty .empty .ensures .1 .1 .1 ∙ ap zeros (after-read-clauses .read-clauses .kept .1 .1 .1 .1 .1 .0))
-    ∙ unbegun-is (a .variables) (a .proof .now) (x .0) (x .1 .0) (x .1 .1 .0) (x .1 .1 .1 .0) (x .1 .1 .1 .1 .0) (x .1 .1 .1 .1 .1 .0) (length (a .vars .now)) (length (a .members .now)) (length (a .scratch .now)) _ _ (after-read-clauses .read-clauses .ensures .0 (a .proof .now)) _ _ (after-number .number .given .1)
+    ∙ unbegun-is (a .variables) (a .proof .now) (x .0) (x .1 .0) (x .1 .1 .0) (x .1 .1 .1 .0) (x .1 .1 .1 .1 .0) (x .1 .1 .1 .1 .1 .0) (length (a .vars .now)) (length (a .members .now)) (length (a .scratch .now)) _ _ (after-read-clauses .read-clauses .ensures .0 (a .proof .now)) _ _ _ (after-number .number .given .1)
 
 same-length-7 : tie.Need-same-length-7
 same-length-7 c =

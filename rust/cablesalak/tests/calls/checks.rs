@@ -111,12 +111,12 @@ fn zero_is_a_member() {
 fn files_not_taken() {
     let (long, longest) = (vec![0; 65_537], vec![0; 65_536]);
     for (formula, proof, line, status) in [
-        (None, Some(&long[..]), "25 0 0 0", 2),
-        (Some(&long[..]), None, "24 65536 0 0", 2),
-        (Some(A), None, "25 0 0 0", 2),
-        (Some(A), Some(&long[..]), "24 65536 0 0", 2),
-        (Some(&longest[..]), Some(&longest[..]), "1 0 0 0", 1),
-        (Some(A), Some(A_PROOF), "0 12 2 1", 0),
+        (None, Some(&long[..]), "25 0 0 0 0", 2),
+        (Some(&long[..]), None, "24 65536 0 0 0", 2),
+        (Some(A), None, "25 0 0 0 0", 2),
+        (Some(A), Some(&long[..]), "24 65536 0 0 0", 2),
+        (Some(&longest[..]), Some(&longest[..]), "1 0 0 0 2", 1),
+        (Some(A), Some(A_PROOF), "0 12 2 1 10", 0),
     ] {
         let said = report(formula, proof);
         assert_eq!((said.to_string().as_str(), said.status()), (line, status));

@@ -31,7 +31,7 @@ fn member_and_scratch_lists() {
         let mut lists = Lists::dirty(16, members, scratch);
         let before = lists.clone();
         let verdict = lists.check(b"p cnf 0 1\n0\n", b"\x52\0\0\x45");
-        assert_eq!((verdict.number, verdict.to_string(), verdict.count), (Number::WrongSize, "7 0 0 0".into(), 9));
+        assert_eq!((verdict.number, verdict.to_string(), verdict.count), (Number::WrongSize, "7 0 0 0 0".into(), 9));
         assert_eq!(lists, before);
     }
 }

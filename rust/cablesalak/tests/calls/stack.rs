@@ -20,7 +20,7 @@ fn single_calls() {
 /// The check with the largest table, with the program's and a proof that is long for it, and the report.
 fn checks() {
     let mut workspace = Workspace::new(65_536).unwrap();
-    assert_eq!(check(&mut workspace, FORMULA, PROOF).to_string(), "0 12 2 1");
+    assert_eq!(check(&mut workspace, FORMULA, PROOF).to_string(), "0 12 2 1 10");
     let (line, last) = PROOF.split_at(9);
     let long = [&line.repeat(1_000), last].concat();
     let mut workspace = Workspace::new(4_096).unwrap();

@@ -252,7 +252,7 @@ returns : tie.Need-returns
 returns c =
     let a = by-negation-from-then1 c in
     let s = start a in (
-      pr-full (before s) (s .pre .0 .0 .ready .good) (members s) (root s) (table₁ a) (list₁ a) (by-negation a true (c .if1 .taken)) (64 * length (s .args .members .now)) (a .by-negation .result .count)
+      pr-full (before s) (s .pre .0 .0 .ready .good) (members s) (root s) (table₁ a) (list₁ a) (by-negation a true (c .if1 .taken)) (64 * length (s .args .members .now))
           (inWord (s .args .positive)) (inWord (s .args .negative)),
       s .pre .0 .1,
     )

@@ -20,8 +20,8 @@ module _ (s : tie.Start) where
 -- The ways back, written by ways.py: TO-from-FROM leads from the place FROM of the code to the place TO before it.
 module _ (c : tie.After-is-one-arg4) where
   abbrev start-from-is-one-call : tie.Start
-  start-from-is-one-call = c .before .before .before .before .before .before .before .before .before .before .before .before .before
-      .before .before
+  start-from-is-one-call = c .before .before .before .before .before .before .before .before .before .before .before .before .before .before
+      .before
 
 module _ (c : tie.After-is-one) where
   abbrev start-from-is-one : tie.Start
@@ -204,7 +204,7 @@ returns-2 : tie.Need-returns-2
 returns-2 c =
     let a = apply-from-then2 c in
     let s = start a in
-    (turn-full (before s) (s .args .first .now) (s .args .memo .now) (s .pre .0 .0) (s .args .f .0) (s .args .positive) (s .args .negative) (s .pre .0 .3) (told (is-one-from-then2 c) false (else1-from-then2 c .if1 .left)) (made a) (made-is a) (c .if2 .taken) (a .apply .result .count), s .pre .0 .1)
+    (turn-full (before s) (s .args .first .now) (s .args .memo .now) (s .pre .0 .0) (s .args .f .0) (s .args .positive) (s .args .negative) (s .pre .0 .3) (told (is-one-from-then2 c) false (else1-from-then2 c .if1 .left)) (made a) (made-is a) (c .if2 .taken), s .pre .0 .1)
 
 rup-with-requires : tie.Need-rup-with-requires
 rup-with-requires c κs =

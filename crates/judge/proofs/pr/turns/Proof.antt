@@ -24,16 +24,16 @@ use Rattle.judge.proofs.pr.turns.Statement.{statement}
 use Rattle.judge.proofs.pr.turns.Tie as tie
 
 abbrev Inv-loop : tie.InvT-loop
-Inv-loop vars₀ lows₀ highs₀ heads₀ links₀ memo₀ marks₀ members memberwords first firstwords second₀ secondwords₀ count positive negative rounds₀ i₀ vars lows highs heads links memo marks second secondwords rounds i =
+Inv-loop vars₀ lows₀ highs₀ heads₀ links₀ memo₀ marks₀ members memberwords first firstwords second₀ secondwords₀ count positive negative rounds₀ peak₀ i₀ vars lows highs heads links memo marks second secondwords rounds peak i =
     (tableOf vars lows highs heads links count ≡ tableOf vars₀ lows₀ highs₀ heads₀ links₀ count)
-    × Turning (tableOf vars₀ lows₀ highs₀ heads₀ links₀ count) first members positive negative i rounds
+    × Turning (tableOf vars₀ lows₀ highs₀ heads₀ links₀ count) first members positive negative i rounds peak
     × (marks ≡ unmarked (length vars₀))
     × (length memo ≡ length memo₀)
     × (length second ≡ length second₀)
     × (length secondwords ≡ length secondwords₀)
 
 abbrev μ-loop : tie.MeasureT-loop
-μ-loop vars₀ lows₀ highs₀ heads₀ links₀ memo₀ marks₀ members memberwords first firstwords second₀ secondwords₀ count positive negative rounds₀ i₀ vars lows highs heads links memo marks second secondwords rounds i =
+μ-loop vars₀ lows₀ highs₀ heads₀ links₀ memo₀ marks₀ members memberwords first firstwords second₀ secondwords₀ count positive negative rounds₀ peak₀ i₀ vars lows highs heads links memo marks second secondwords rounds peak i =
     length members - i
 
 module _ (s : tie.Start Inv-loop μ-loop) where
@@ -79,15 +79,17 @@ module _ (c : tie.After-turn Inv-loop μ-loop) where
   abbrev start-from-turn : tie.Start Inv-loop μ-loop
   start-from-turn = start-from-at-loop at-loop-from-turn
 
-module _ (c : tie.Else1 Inv-loop μ-loop) where
-  abbrev turn-from-else1 : tie.After-turn Inv-loop μ-loop
-  turn-from-else1 = c .before .before .before .before .before .before .before .before .before .before .before .before .before .before
+module _ (c : tie.After-greater Inv-loop μ-loop) where
+  abbrev turn-from-greater : tie.After-turn Inv-loop μ-loop
+  turn-from-greater = c .before .before .before .before .before .before .before .before .before .before .before .before .before .before
       .before .before .before .before .before
 
 module _ (c : tie.Then1 Inv-loop μ-loop) where
+  abbrev greater-from-then1 : tie.After-greater Inv-loop μ-loop
+  greater-from-then1 = c .before
+
   abbrev turn-from-then1 : tie.After-turn Inv-loop μ-loop
-  turn-from-then1 = c .before .before .before .before .before .before .before .before .before .before .before .before .before .before
-      .before .before .before .before .before
+  turn-from-then1 = turn-from-greater greater-from-then1
 
   abbrev at-loop-from-then1 : tie.At-loop Inv-loop μ-loop
   at-loop-from-then1 = at-loop-from-turn turn-from-then1
@@ -100,14 +102,14 @@ module _ (c : tie.After-drop-to-arg5 Inv-loop μ-loop) where
   else1-from-drop-to-call = c .before .before .before .before .before
 
   abbrev turn-from-drop-to-call : tie.After-turn Inv-loop μ-loop
-  turn-from-drop-to-call = turn-from-else1 else1-from-drop-to-call
+  turn-from-drop-to-call = turn-from-greater (else1-from-drop-to-call .before)
 
 module _ (c : tie.After-drop-to Inv-loop μ-loop) where
   abbrev else1-from-drop-to : tie.Else1 Inv-loop μ-loop
   else1-from-drop-to = c .before .before .before .before .before .before
 
   abbrev turn-from-drop-to : tie.After-turn Inv-loop μ-loop
-  turn-from-drop-to = turn-from-else1 else1-from-drop-to
+  turn-from-drop-to = turn-from-greater (else1-from-drop-to .before)
 
   abbrev start-from-drop-to : tie.Start Inv-loop μ-loop
   start-from-drop-to = start-from-turn turn-from-drop-to
@@ -126,8 +128,11 @@ module _ (c : tie.Else2 Inv-loop μ-loop) where
   abbrev else1-from-else2 : tie.Else1 Inv-loop μ-loop
   else1-from-else2 = else1-from-drop-to drop-to-from-else2
 
+  abbrev greater-from-else2 : tie.After-greater Inv-loop μ-loop
+  greater-from-else2 = else1-from-else2 .before
+
   abbrev turn-from-else2 : tie.After-turn Inv-loop μ-loop
-  turn-from-else2 = turn-from-else1 else1-from-else2
+  turn-from-else2 = turn-from-greater greater-from-else2
 
 module _ (c : tie.Then2 Inv-loop μ-loop) where
   abbrev drop-to-from-then2 : tie.After-drop-to Inv-loop μ-loop
@@ -136,8 +141,11 @@ module _ (c : tie.Then2 Inv-loop μ-loop) where
   abbrev else1-from-then2 : tie.Else1 Inv-loop μ-loop
   else1-from-then2 = else1-from-drop-to drop-to-from-then2
 
+  abbrev greater-from-then2 : tie.After-greater Inv-loop μ-loop
+  greater-from-then2 = else1-from-then2 .before
+
   abbrev turn-from-then2 : tie.After-turn Inv-loop μ-loop
-  turn-from-then2 = turn-from-else1 else1-from-then2
+  turn-from-then2 = turn-from-greater greater-from-then2
 
   abbrev at-loop-from-then2 : tie.At-loop Inv-loop μ-loop
   at-loop-from-then2 = at-loop-from-turn turn-from-then2
@@ -183,14 +191,14 @@ module _ (d : tie.After-drop-to Inv-loop μ-loop) where
 
 loop-holds : tie.Need-loop-holds Inv-loop μ-loop
 loop-holds c =
-    let s = start-from-loop-holds c in (refl, turning-none (before s) (s .args .first .now) (s .args .members .now) (s .args .positive) (s .args .negative), s .pre .0 .1, refl, refl, refl)
+    let s = start-from-loop-holds c in (refl, turning-none (before s) (s .args .first .now) (s .args .members .now) (s .args .positive) (s .args .negative) (good s), s .pre .0 .1, refl, refl, refl)
 
-mul-t21 : tie.Need-mul-t21 Inv-loop μ-loop
-mul-t21 c =
+mul-t22 : tie.Need-mul-t22 Inv-loop μ-loop
+mul-t22 c =
     search needs
 
-shared-slice-read-t24 : tie.Need-shared-slice-read-t24 Inv-loop μ-loop
-shared-slice-read-t24 c =
+shared-slice-read-t25 : tie.Need-shared-slice-read-t25 Inv-loop μ-loop
+shared-slice-read-t25 c =
     search needs
 
 mul-turn : tie.Need-mul-turn Inv-loop μ-loop
@@ -218,6 +226,10 @@ turn-requires c κs =
         w .inv .5 ∙ s .pre .1 .4,
       ),
     )
+
+greater-requires : tie.Need-greater-requires Inv-loop μ-loop
+greater-requires c κs =
+    search needs
 
 same-length : tie.Need-same-length Inv-loop μ-loop
 same-length c =
@@ -260,7 +272,8 @@ returns c =
     let a = turn-from-then1 c in
     let s = start a in
     let w = reached a .loop in (
-      turns-full (before s) (s .args .first .now) (s .args .members .now) (s .args .positive) (s .args .negative) (good s) (w .i) (w .rounds) (w .inv .1) (more a) (a .turn .result) (table₁ a) (said a) (c .if1 .taken) (a .turn .result .count),
+      subst (λ (m : ℕ). Says (before s) (line s (s .args .members .now)) (64 * length (s .args .members .now)) (judgedAs true false 0 (a .turn .result .count) m) (table₁ a)) (sym (greater-from-then1 c .greater .ensures))
+          (turns-full (before s) (s .args .first .now) (s .args .members .now) (s .args .positive) (s .args .negative) (good s) (w .i) (w .rounds) (w .peak) (w .inv .1) (more a) (a .turn .result) (table₁ a) (said a) (c .if1 .taken) (a .turn .result .count)),
       unmarked-again a,
     )
 
@@ -316,8 +329,9 @@ returns-2 c =
     let a = turned d in
     let s = start a in
     let w = reached a .loop in (
-      subst (λ (t : Table). Says (before s) (line s (s .args .members .now)) (64 * length (s .args .members .now)) (judgedAs false false (w .rounds + a .turn .result .rounds) (s .args .count)) t) (sym (as-before d))
-          (turns-end (before s) (s .args .first .now) (s .args .members .now) (s .args .positive) (s .args .negative) (good s) (w .i) (w .rounds) (w .inv .1) (more a) (a .turn .result) (table₁ a) (said a) (else1-from-then2 c .if1 .left) (sym (not-not (a .turn .result .shown)) ∙ ap not (c .if2 .taken))),
+      subst (λ (t : Table). Says (before s) (line s (s .args .members .now)) (64 * length (s .args .members .now)) (judgedAs false false (w .rounds + a .turn .result .rounds) (s .args .count) (greater-from-then2 c .greater .result)) t) (sym (as-before d))
+          (subst (λ (m : ℕ). Says (before s) (line s (s .args .members .now)) (64 * length (s .args .members .now)) (judgedAs false false (w .rounds + a .turn .result .rounds) (s .args .count) m) (before s)) (sym (greater-from-then2 c .greater .ensures))
+          (turns-end (before s) (s .args .first .now) (s .args .members .now) (s .args .positive) (s .args .negative) (good s) (w .i) (w .rounds) (w .peak) (w .inv .1) (more a) (a .turn .result) (table₁ a) (said a) (else1-from-then2 c .if1 .left) (sym (not-not (a .turn .result .shown)) ∙ ap not (c .if2 .taken)))),
       unmarked-again a,
     )
 
@@ -336,7 +350,8 @@ loop-again c =
     let s = start a in
     let w = reached a .loop in (
       as-before d,
-      turns-on (before s) (s .args .first .now) (s .args .members .now) (s .args .positive) (s .args .negative) (good s) (w .i) (w .rounds) (w .inv .1) (more a) (a .turn .result) (table₁ a) (said a) (else1-from-else2 c .if1 .left) (sym (not-not (a .turn .result .shown)) ∙ ap not (c .if2 .left)),
+      subst (Turning (before s) (s .args .first .now) (s .args .members .now) (s .args .positive) (s .args .negative) (w .i + 1) (w .rounds + a .turn .result .rounds)) (sym (greater-from-else2 c .greater .ensures))
+          (turns-on (before s) (s .args .first .now) (s .args .members .now) (s .args .positive) (s .args .negative) (good s) (w .i) (w .rounds) (w .peak) (w .inv .1) (more a) (a .turn .result) (table₁ a) (said a) (else1-from-else2 c .if1 .left) (sym (not-not (a .turn .result .shown)) ∙ ap not (c .if2 .left))),
       unmarked-again a,
       a .turn .kept .1 .1 .1 .1 .1 .0 ∙ w .inv .3,
       a .turn .kept .1 .1 .1 .1 .1 .1 .1 .1 .1 .0 ∙ w .inv .4,
@@ -383,8 +398,8 @@ returns-3 : tie.Need-returns-3 Inv-loop μ-loop
 returns-3 c =
     let s = start-from-return-3 c in
     let w = c .before .loop in (
-      subst (λ (t : Table). Says (before s) (line s (s .args .members .now)) (64 * length (s .args .members .now)) (judgedAs false true (w .rounds) (s .args .count)) t) (sym (w .inv .0))
-          (turns-done (before s) (s .args .first .now) (s .args .members .now) (s .args .positive) (s .args .negative) (good s) (w .i) (w .rounds) (w .inv .1) (omega (arith, c .loop-test .left))),
+      subst (λ (t : Table). Says (before s) (line s (s .args .members .now)) (64 * length (s .args .members .now)) (judgedAs false true (w .rounds) (s .args .count) (w .peak)) t) (sym (w .inv .0))
+          (turns-done (before s) (s .args .first .now) (s .args .members .now) (s .args .positive) (s .args .negative) (good s) (w .i) (w .rounds) (w .peak) (w .inv .1) (omega (arith, c .loop-test .left))),
       w .inv .2,
     )
 
@@ -395,11 +410,12 @@ turns-spec =
     Inv-loop
     μ-loop
     loop-holds
-    mul-t21
-    shared-slice-read-t24
+    mul-t22
+    shared-slice-read-t25
     mul-turn
     shared-slice-read-turn
     turn-requires
+    greater-requires
     same-length
     same-length-2
     same-length-3

@@ -1,5 +1,5 @@
 -- `rup_with` judges the RUP line. Each place of the code is one law of Judging. Assumes nothing.
-use mathlib.Core.Path.{_≡_, sym, ap, _∙_, subst}
+use mathlib.Core.Path.{_≡_, refl, sym, ap, _∙_, subst}
 use mathlib.Core.Bool.{Bool, true, false}
 use mathlib.Core.List.{List}
 use Prim.Native.Nat.{ℕ}
@@ -127,7 +127,7 @@ returns : tie.Need-returns
 returns c =
     let a = by-negation-from-then1 c in
     let s = start a in
-    (rup-full (before s) (s .pre .0 .0 .ready .good) (members s) (root s) (table₁ a) (list₁ a) (by-negation a true (c .if1 .taken)) 64 (a .by-negation .result .count), s .pre .0 .1)
+    (rup-full (before s) (s .pre .0 .0 .ready .good) (members s) (root s) (table₁ a) (list₁ a) (by-negation a true (c .if1 .taken)) 64, s .pre .0 .1)
 
 unit-prop-requires : tie.Need-unit-prop-requires
 unit-prop-requires c κs =
@@ -186,7 +186,7 @@ returns-2 c =
     let a = by-negation-from-return-2 c in
     let s = start a in
     let p = unit-prop-from-return-2 c .unit-prop in (
-      rup-judged (before s) (s .pre .0 .0 .ready .good) (members s) (root s) (table₁ a) (list₁ a) (by-negation a false (else1-from-return-2 c .if1 .left)) (p .result) (tableOf (p .last .0) (p .last .1 .0) (p .last .1 .1 .0) (p .last .1 .1 .1 .0) (p .last .1 .1 .1 .1 .0) (p .result .count)) (p .ensures .0),
+      rup-judged (before s) (s .pre .0 .0 .ready .good) (members s) (root s) (table₁ a) (list₁ a) (by-negation a false (else1-from-return-2 c .if1 .left)) (p .result) (tableOf (p .last .0) (p .last .1 .0) (p .last .1 .1 .0) (p .last .1 .1 .1 .0) (p .last .1 .1 .1 .1 .0) (p .result .count)) (p .ensures .0) refl,
       p .ensures .1 ∙ ap unmarked (a .by-negation .kept .0),
     )
 

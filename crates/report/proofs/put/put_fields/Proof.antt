@@ -1,4 +1,4 @@
--- The four fields, one after the other. Assumes nothing.
+-- The five fields, one after the other. Assumes nothing.
 use mathlib.Core.Path.{sym}
 use Prim.Native.Nat.{_≤_}
 use lib.ListN.{length}
@@ -24,29 +24,36 @@ put-field-requires-3 c κs = search needs
 put-field-requires-4 : tie.Need-put-field-requires-4
 put-field-requires-4 c κs = search needs
 
+put-field-requires-5 : tie.Need-put-field-requires-5
+put-field-requires-5 c κs = search needs
+
 same-length : tie.Need-same-length
 same-length c = search needs
 
 returns : tie.Need-returns
 returns c =
-    let first = c .before .before .before .before .before .before .before .before .before .before .before .before .before .before in
-    let second = c .before .before .before .before .before .before .before .before .before .before in
-    let third = c .before .before .before .before .before .before in
+    let first = c .before .before .before .before .before .before .before .before .before .before .before .before .before .before .before .before .before .before in
+    let second = c .before .before .before .before .before .before .before .before .before .before .before .before .before .before in
+    let third = c .before .before .before .before .before .before .before .before .before .before in
+    let fourth = c .before .before .before .before .before .before in
     let last = c .before .before in
-    let within : last .put-field4 .result ≤ length (last .put-field4 .last .1 .1 .0) =
+    let within : last .put-field5 .result ≤ length (last .put-field5 .last .1 .1 .0) =
     omega (
       arith,
       first .put-field .ensures .1,
       second .put-field2 .ensures .1,
       third .put-field3 .ensures .1,
-      last .put-field4 .ensures .1,
+      fourth .put-field4 .ensures .1,
+      last .put-field5 .ensures .1,
       first .put-field .kept .1 .1 .0,
       second .put-field2 .kept .1 .1 .0,
       third .put-field3 .kept .1 .1 .0,
-      last .put-field4 .kept .1 .1 .0,
-      c .before .before .before .before .before .before .before .before .before .before .before .before .before .before .before .before .before .before .pre,
+      fourth .put-field4 .kept .1 .1 .0,
+      last .put-field5 .kept .1 .1 .0,
+      c .before .before .before .before .before .before .before .before .before .before .before .before .before .before .before .before .before .before .before .before .before .before .pre,
     ) in
-    let all = put-whole _ (first .put-field .ensures .0) (second .put-field2 .ensures .0) (third .put-field3 .ensures .0) (last .put-field4 .ensures .0) in
+    let all =
+    put-whole _ (first .put-field .ensures .0) (second .put-field2 .ensures .0) (third .put-field3 .ensures .0) (fourth .put-field4 .ensures .0) (last .put-field5 .ensures .0) in
     (all .held, (all .rest, (within, sym (length-take-le _ _ within))))
 
 pub put-fields-spec : {M : Type 1} → statement M
@@ -58,5 +65,6 @@ put-fields-spec =
     put-field-requires-2
     put-field-requires-3
     put-field-requires-4
+    put-field-requires-5
     same-length
     returns)

@@ -7,7 +7,7 @@ use lib.ListN.{length}
 use borrow.Author.Needs.{needs}
 use Rattle.verdict.specs.Check.{records}
 use Rattle.steps.specs.States.{Lent, lentOf, stateOf}
-use Rattle.session.proofs.Going.{Going, record-short, going-start, going-asks, going-end, stop-near, going-stop, next-within, next-takes, going-next}
+use Rattle.session.proofs.Going.{Going, record-short, going-start, going-asks, going-end, stop-near, going-stop, going-spent, next-within, next-takes, going-next}
 use Rattle.session.proofs.proof.read_records.Statement.{statement}
 use Rattle.session.proofs.proof.read_records.Tie as tie
 
@@ -66,6 +66,20 @@ module _ (c : tie.After-known-told Inv-loop μ-loop) where
   at-loop-from-return = in-loop-from-return .before
 
 module _ (c : tie.After-known-told2 Inv-loop μ-loop) where
+  abbrev record-step-from-return-2 : tie.After-record-step Inv-loop μ-loop
+  record-step-from-return-2 = c .before .before .before .before .before .before .before .before .before .before .before .before .before
+      .before .before .before .before .before .before .before .before
+
+  abbrev record-length-from-return-2 : tie.After-record-length Inv-loop μ-loop
+  record-length-from-return-2 = record-length-from-record-step record-step-from-return-2
+
+  abbrev record-from-from-return-2 : tie.After-record-from Inv-loop μ-loop
+  record-from-from-return-2 = record-length-from-return-2 .before
+
+  abbrev at-loop-from-return-2 : tie.At-loop Inv-loop μ-loop
+  at-loop-from-return-2 = record-from-from-return-2 .before .before
+
+module _ (c : tie.After-known-told3 Inv-loop μ-loop) where
   abbrev record-step-from-loop-again : tie.After-record-step Inv-loop μ-loop
   record-step-from-loop-again = c .before .before .before .before .before .before .before .before .before .before .before .before .before
       .before .before .before .before .before .before .before .before
@@ -108,8 +122,8 @@ enum-known-number : tie.Need-enum-known-number Inv-loop μ-loop
 enum-known-number c =
     search needs
 
-add-t41 : tie.Need-add-t41 Inv-loop μ-loop
-add-t41 c =
+add-t43 : tie.Need-add-t43 Inv-loop μ-loop
+add-t43 c =
     let at-loop = at-loop-from-return c in
     let in-loop = in-loop-from-return c in
     let after-record-from = record-from-from-return c in
@@ -179,6 +193,72 @@ returns c =
     let after-record-step = record-step-from-return c in
     going-stop _ _ _ _ _ _ _ _ _ (at-loop .loop .inv .0) _ (after-record-from .record-from .ensures) _ (after-record-length .record-length .ensures) (lent after-record-step) _ (after-record-step .record-step .ensures .0) _ _ (c .before .number .given .1)
 
+enum-known-number-2 : tie.Need-enum-known-number-2 Inv-loop μ-loop
+enum-known-number-2 c =
+    search needs
+
+same-length-10 : tie.Need-same-length-10 Inv-loop μ-loop
+same-length-10 c =
+    let at-loop = at-loop-from-return-2 c in
+    let after-record-step = record-step-from-return-2 c in
+    after-record-step .record-step .kept .0 ∙ at-loop .loop .inv .1
+
+same-length-11 : tie.Need-same-length-11 Inv-loop μ-loop
+same-length-11 c =
+    let at-loop = at-loop-from-return-2 c in
+    let after-record-step = record-step-from-return-2 c in
+    after-record-step .record-step .kept .1 .0 ∙ at-loop .loop .inv .2
+
+same-length-12 : tie.Need-same-length-12 Inv-loop μ-loop
+same-length-12 c =
+    let at-loop = at-loop-from-return-2 c in
+    let after-record-step = record-step-from-return-2 c in
+    after-record-step .record-step .kept .1 .1 .0 ∙ at-loop .loop .inv .3
+
+same-length-13 : tie.Need-same-length-13 Inv-loop μ-loop
+same-length-13 c =
+    let at-loop = at-loop-from-return-2 c in
+    let after-record-step = record-step-from-return-2 c in
+    after-record-step .record-step .kept .1 .1 .1 .0 ∙ at-loop .loop .inv .4
+
+same-length-14 : tie.Need-same-length-14 Inv-loop μ-loop
+same-length-14 c =
+    let at-loop = at-loop-from-return-2 c in
+    let after-record-step = record-step-from-return-2 c in
+    after-record-step .record-step .kept .1 .1 .1 .1 .0 ∙ at-loop .loop .inv .5
+
+same-length-15 : tie.Need-same-length-15 Inv-loop μ-loop
+same-length-15 c =
+    let at-loop = at-loop-from-return-2 c in
+    let after-record-step = record-step-from-return-2 c in
+    after-record-step .record-step .kept .1 .1 .1 .1 .1 .0 ∙ at-loop .loop .inv .6
+
+same-length-16 : tie.Need-same-length-16 Inv-loop μ-loop
+same-length-16 c =
+    let at-loop = at-loop-from-return-2 c in
+    let after-record-step = record-step-from-return-2 c in
+    after-record-step .record-step .kept .1 .1 .1 .1 .1 .1 .0 ∙ at-loop .loop .inv .7
+
+same-length-17 : tie.Need-same-length-17 Inv-loop μ-loop
+same-length-17 c =
+    let at-loop = at-loop-from-return-2 c in
+    let after-record-step = record-step-from-return-2 c in
+    after-record-step .record-step .kept .1 .1 .1 .1 .1 .1 .1 .0 ∙ at-loop .loop .inv .8
+
+same-length-18 : tie.Need-same-length-18 Inv-loop μ-loop
+same-length-18 c =
+    let at-loop = at-loop-from-return-2 c in
+    let after-record-step = record-step-from-return-2 c in
+    after-record-step .record-step .kept .1 .1 .1 .1 .1 .1 .1 .1 .0 ∙ at-loop .loop .inv .9
+
+returns-2 : tie.Need-returns-2 Inv-loop μ-loop
+returns-2 c =
+    let at-loop = at-loop-from-return-2 c in
+    let after-record-from = record-from-from-return-2 c in
+    let after-record-length = record-length-from-return-2 c in
+    let after-record-step = record-step-from-return-2 c in
+    going-spent _ _ _ _ _ _ _ _ _ (at-loop .loop .inv .0) _ (after-record-from .record-from .ensures) _ (after-record-length .record-length .ensures) (lent after-record-step) _ (after-record-step .record-step .ensures .0) _ _ (c .before .number2 .given .1)
+
 enum-known-s : tie.Need-enum-known-s Inv-loop μ-loop
 enum-known-s c =
     search needs
@@ -200,44 +280,44 @@ loop-again c =
     let after-record-step = record-step-from-loop-again c in
     (going-next _ _ _ _ _ _ _ _ _ (at-loop .loop .inv .0) _ (after-record-from .record-from .ensures) _ (after-record-length .record-length .ensures) (lent after-record-step) _ (after-record-step .record-step .ensures .0) _ (c .before .s .given .1) _ _ (after-record-step .record-step .kept .0) (after-record-step .record-step .ensures .1) (after-record-step .record-step .kept .1 .1 .1 .1 .1 .0), after-record-step .record-step .kept .0 ∙ at-loop .loop .inv .1, after-record-step .record-step .kept .1 .0 ∙ at-loop .loop .inv .2, after-record-step .record-step .kept .1 .1 .0 ∙ at-loop .loop .inv .3, after-record-step .record-step .kept .1 .1 .1 .0 ∙ at-loop .loop .inv .4, after-record-step .record-step .kept .1 .1 .1 .1 .0 ∙ at-loop .loop .inv .5, after-record-step .record-step .kept .1 .1 .1 .1 .1 .0 ∙ at-loop .loop .inv .6, after-record-step .record-step .kept .1 .1 .1 .1 .1 .1 .0 ∙ at-loop .loop .inv .7, after-record-step .record-step .kept .1 .1 .1 .1 .1 .1 .1 .0 ∙ at-loop .loop .inv .8, after-record-step .record-step .kept .1 .1 .1 .1 .1 .1 .1 .1 .0 ∙ at-loop .loop .inv .9)
 
-same-length-10 : tie.Need-same-length-10 Inv-loop μ-loop
-same-length-10 c =
+same-length-19 : tie.Need-same-length-19 Inv-loop μ-loop
+same-length-19 c =
     c .before .loop .inv .1
 
-same-length-11 : tie.Need-same-length-11 Inv-loop μ-loop
-same-length-11 c =
+same-length-20 : tie.Need-same-length-20 Inv-loop μ-loop
+same-length-20 c =
     c .before .loop .inv .2
 
-same-length-12 : tie.Need-same-length-12 Inv-loop μ-loop
-same-length-12 c =
+same-length-21 : tie.Need-same-length-21 Inv-loop μ-loop
+same-length-21 c =
     c .before .loop .inv .3
 
-same-length-13 : tie.Need-same-length-13 Inv-loop μ-loop
-same-length-13 c =
+same-length-22 : tie.Need-same-length-22 Inv-loop μ-loop
+same-length-22 c =
     c .before .loop .inv .4
 
-same-length-14 : tie.Need-same-length-14 Inv-loop μ-loop
-same-length-14 c =
+same-length-23 : tie.Need-same-length-23 Inv-loop μ-loop
+same-length-23 c =
     c .before .loop .inv .5
 
-same-length-15 : tie.Need-same-length-15 Inv-loop μ-loop
-same-length-15 c =
+same-length-24 : tie.Need-same-length-24 Inv-loop μ-loop
+same-length-24 c =
     c .before .loop .inv .6
 
-same-length-16 : tie.Need-same-length-16 Inv-loop μ-loop
-same-length-16 c =
+same-length-25 : tie.Need-same-length-25 Inv-loop μ-loop
+same-length-25 c =
     c .before .loop .inv .7
 
-same-length-17 : tie.Need-same-length-17 Inv-loop μ-loop
-same-length-17 c =
+same-length-26 : tie.Need-same-length-26 Inv-loop μ-loop
+same-length-26 c =
     c .before .loop .inv .8
 
-same-length-18 : tie.Need-same-length-18 Inv-loop μ-loop
-same-length-18 c =
+same-length-27 : tie.Need-same-length-27 Inv-loop μ-loop
+same-length-27 c =
     c .before .loop .inv .9
 
-returns-2 : tie.Need-returns-2 Inv-loop μ-loop
-returns-2 c =
+returns-3 : tie.Need-returns-3 Inv-loop μ-loop
+returns-3 c =
     going-end _ _ _ _ _ _ _ _ _ (c .before .loop .inv .0) (omega (arith, c .loop-test .left))
 
 pub read-records-spec : {M : Type 1} → statement M
@@ -252,7 +332,7 @@ read-records-spec =
     add-next
     record-step-requires
     enum-known-number
-    add-t41
+    add-t43
     same-length
     same-length-2
     same-length-3
@@ -263,9 +343,7 @@ read-records-spec =
     same-length-8
     same-length-9
     returns
-    enum-known-s
-    loop-less
-    loop-again
+    enum-known-number-2
     same-length-10
     same-length-11
     same-length-12
@@ -275,4 +353,17 @@ read-records-spec =
     same-length-16
     same-length-17
     same-length-18
-    returns-2)
+    returns-2
+    enum-known-s
+    loop-less
+    loop-again
+    same-length-19
+    same-length-20
+    same-length-21
+    same-length-22
+    same-length-23
+    same-length-24
+    same-length-25
+    same-length-26
+    same-length-27
+    returns-3)

@@ -112,7 +112,7 @@ returns c =
     let l : Lent = lentOf (x .0) (x .1 .0) (x .1 .1 .0) (x .1 .1 .1 .0) (x .1 .1 .1 .1 .0) (x .1 .1 .1 .1 .1 .1 .1 .0) (x .1 .1 .1 .1 .1 .1 .1 .1 .0) in
     let st : State = after-read-records .read-records .result .state in
     let d = after-drop-to .drop-to .last in
-    judged-is l st (after-read-records .read-records .ensures .1) (tableOf (d .0) (d .1 .0) (d .1 .1 .0) (d .1 .1 .1 .0) (d .1 .1 .1 .1 .0) (st .kept)) refl (after-drop-to .drop-to .ensures) _ _ (after-read-records .read-records .kept .0) (after-read-records .read-records .kept .1 .1 .1 .1 .1 .1 .1 .0) _ _ _ _
+    judged-is l st (after-read-records .read-records .ensures .1) (tableOf (d .0) (d .1 .0) (d .1 .1 .0) (d .1 .1 .1 .0) (d .1 .1 .1 .1 .0) (st .kept)) refl (after-drop-to .drop-to .ensures) _ _ (after-read-records .read-records .kept .0) (after-read-records .read-records .kept .1 .1 .1 .1 .1 .1 .1 .0) _ _ _ _ _
     (ap (λ (first : check.State). check.records (suc (length (a .proof .now))) (a .variables) (length (a .vars .now)) (a .proof .now) first 0)
     (sym (first-is (a .variables) (lentOf (a .vars .now) (a .lows .now) (a .highs .now) (a .heads .now) (a .links .now) (a .members .now) (a .scratch .now)) (a .count) (a .made) (start .pre .0))) ∙ after-read-records .read-records .ensures .0)
 

@@ -1,5 +1,5 @@
 -- `line_step`: the ways out are laws of Lines. Assumes nothing.
-use mathlib.Core.Path.{_≡_, refl, _∙_, subst}
+use mathlib.Core.Path.{_≡_, refl, ap, _∙_, subst}
 use mathlib.Core.List.{List}
 use Prim.Native.Nat.{ℕ, _≤_}
 use borrow.Author.Needs.{needs}
@@ -14,7 +14,7 @@ use Rattle.verdict.specs.Check.{entryNode}
 use Rattle.conflict.specs.Marks.{unmarked}
 use Rattle.judge.specs.Lines.{Says}
 use Rattle.steps.specs.declared.line.LineTest.the-variants.{Fits}
-use Rattle.steps.specs.States.{Lent, lentOf, stateOf, Held}
+use Rattle.steps.specs.States.{Lent, lentOf, stateOf, withLine, Held}
 use Rattle.steps.specs.Tests.{lineRefusal, LineTested, lineOf}
 use Rattle.steps.proofs.Lines.{line-refused, line-ready, few-members, line-23, line-19, line-next}
 use Rattle.steps.proofs.line.line_step.Statement.{statement}
@@ -98,13 +98,16 @@ module _ (c : tie.After-drop-to) where
   abbrev start-from-drop-to : tie.Start
   start-from-drop-to = start-from-judge-line judge-line-from-drop-to
 
-module _ (c : tie.Else1) where
-  abbrev drop-to-from-else1 : tie.After-drop-to
-  drop-to-from-else1 = c .before .before .before .before .before .before .before .before .before .before .before
+module _ (c : tie.After-greater) where
+  abbrev drop-to-from-greater : tie.After-drop-to
+  drop-to-from-greater = c .before .before .before .before .before .before .before .before .before .before .before
 
 module _ (c : tie.Then1) where
+  abbrev greater-from-then1 : tie.After-greater
+  greater-from-then1 = c .before
+
   abbrev drop-to-from-then1 : tie.After-drop-to
-  drop-to-from-then1 = c .before .before .before .before .before .before .before .before .before .before .before
+  drop-to-from-then1 = drop-to-from-greater greater-from-then1
 
   abbrev judge-line-from-then1 : tie.After-judge-line
   judge-line-from-then1 = judge-line-from-drop-to drop-to-from-then1
@@ -117,7 +120,7 @@ module _ (c : tie.Then1) where
 
 module _ (c : tie.Else2) where
   abbrev judge-line-from-else2 : tie.After-judge-line
-  judge-line-from-else2 = judge-line-from-drop-to (drop-to-from-else1 (c .before .before))
+  judge-line-from-else2 = judge-line-from-drop-to (drop-to-from-greater (c .before .before .before))
 
   abbrev g-from-else2 : tie.After-g
   g-from-else2 = g-from-judge-line judge-line-from-else2
@@ -126,8 +129,11 @@ module _ (c : tie.Else2) where
   start-from-else2 = start-from-g g-from-else2
 
 module _ (c : tie.Then2) where
+  abbrev greater-from-then2 : tie.After-greater
+  greater-from-then2 = c .before .before .before
+
   abbrev drop-to-from-then2 : tie.After-drop-to
-  drop-to-from-then2 = drop-to-from-else1 (c .before .before)
+  drop-to-from-then2 = drop-to-from-greater greater-from-then2
 
   abbrev judge-line-from-then2 : tie.After-judge-line
   judge-line-from-then2 = judge-line-from-drop-to drop-to-from-then2
@@ -142,8 +148,11 @@ module _ (c : tie.After-with-line) where
   abbrev else1-from-return-4 : tie.Else1
   else1-from-return-4 = c .before .before .before
 
+  abbrev greater-from-return-4 : tie.After-greater
+  greater-from-return-4 = else1-from-return-4 .before
+
   abbrev drop-to-from-return-4 : tie.After-drop-to
-  drop-to-from-return-4 = drop-to-from-else1 else1-from-return-4
+  drop-to-from-return-4 = drop-to-from-greater greater-from-return-4
 
   abbrev judge-line-from-return-4 : tie.After-judge-line
   judge-line-from-return-4 = judge-line-from-drop-to drop-to-from-return-4
@@ -261,13 +270,17 @@ same-length-8 c = refl
 same-length-9 : tie.Need-same-length-9
 same-length-9 c = judge-line-from-then1 c .judge-line .kept .1 .1 .1 .1 .1 .1 .1 .1 .0
 
+greater-requires : tie.Need-greater-requires
+greater-requires c κs =
+    search needs
+
 returns : tie.Need-returns
 returns c =
     let d = drop-to-from-then1 c in
     let j = judged d in
     let s = dropping d in
     let e = g-from-then1 c in
-    ((λ n H. line-23 n (lent s) (s .args .st) H (s .args .rule) (s .args .root .0) (none (g-from-then1 c)) (root e) (root-is e) (j .judge-line .result) (table₁ j) (table₂ d) (said j) (dropped d) (scratch₁ j) (c .if1 .taken)), marks d)
+    ((λ n H. line-23 n (lent s) (s .args .st) H (s .args .rule) (s .args .root .0) (none (g-from-then1 c)) (root e) (root-is e) (j .judge-line .result) (table₁ j) (table₂ d) (said j) (dropped d) _ (greater-from-then1 c .greater .ensures) (scratch₁ j) (c .if1 .taken)), marks d)
 
 same-length-10 : tie.Need-same-length-10
 same-length-10 c = drop-to-from-then2 c .drop-to .kept .0 ∙ judge-line-from-then2 c .judge-line .kept .0
@@ -302,7 +315,7 @@ returns-2 c =
     let j = judged d in
     let s = dropping d in
     let e = g-from-then2 c in
-    ((λ n H. line-19 n (lent s) (s .args .st) H (s .args .rule) (s .args .root .0) (none (g-from-then2 c)) (root e) (root-is e) (j .judge-line .result) (table₁ j) (table₂ d) (said j) (dropped d) (scratch₁ j) (c .before .before .if1 .left) (not-true _ (c .if2 .taken))), marks d)
+    ((λ n H. line-19 n (lent s) (s .args .st) H (s .args .rule) (s .args .root .0) (none (g-from-then2 c)) (root e) (root-is e) (j .judge-line .result) (table₁ j) (table₂ d) (said j) (dropped d) _ (greater-from-then2 c .greater .ensures) (scratch₁ j) (c .before .before .if1 .left) (not-true _ (c .if2 .taken))), marks d)
 
 mul-members : tie.Need-mul-members
 mul-members c = omega (arith, few-members 64 (lent (start-from-else2 c)) (start-from-else2 c .args .st) (held (start-from-else2 c)) (start-from-else2 c .args .rule) (start-from-else2 c .args .root .0) (none (g-from-else2 c)) (root (g-from-else2 c)) (root-is (g-from-else2 c)))
@@ -370,9 +383,12 @@ returns-4 c =
     let d = drop-to-from-return-4 c in
     let j = judged d in
     let s = dropping d in
-    let e = g-from-return-4 c in
-    ((λ n H. line-next n (lent s) (s .args .st) H (s .args .rule) (s .args .root .0) (none (g-from-return-4 c)) (root e) (root-is e) (j .judge-line .result) (table₁ j) (table₂ d) (said j) (dropped d) (scratch₁ j) (scratch-room j) (else1-from-return-4 c .if1 .left) (not-false _ (c .before .if2 .left)) (c .with-line .result) (c .with-line .ensures)), marks d)
+    let e = g-from-return-4 c in (
+      (λ n H. line-next n (lent s) (s .args .st) H (s .args .rule) (s .args .root .0) (none (g-from-return-4 c)) (root e) (root-is e) (j .judge-line .result) (table₁ j) (table₂ d) (said j) (dropped d) (scratch₁ j) (scratch-room j) (else1-from-return-4 c .if1 .left) (not-false _ (c .before .if2 .left)) (c .with-line .result)
+          (c .with-line .ensures ∙ ap (λ (m : ℕ). withLine (s .args .st) (j .judge-line .result .rounds) m (root e)) (greater-from-return-4 c .greater .ensures))),
+      marks d,
+    )
 
 pub line-step-spec : {M : Type 1} → statement M
 line-step-spec =
-    tie.close (tie.spec line-test-requires enum-known-number enum-known-g judge-line-requires drop-to-requires same-length same-length-2 same-length-3 same-length-4 same-length-5 same-length-6 same-length-7 same-length-8 same-length-9 returns same-length-10 same-length-11 same-length-12 same-length-13 same-length-14 same-length-15 same-length-16 same-length-17 same-length-18 returns-2 mul-members slice-write-members with-line-requires same-length-19 same-length-20 same-length-21 same-length-22 same-length-23 returns-3 same-length-24 same-length-25 same-length-26 same-length-27 same-length-28 same-length-29 same-length-30 same-length-31 same-length-32 returns-4)
+    tie.close (tie.spec line-test-requires enum-known-number enum-known-g judge-line-requires drop-to-requires greater-requires same-length same-length-2 same-length-3 same-length-4 same-length-5 same-length-6 same-length-7 same-length-8 same-length-9 returns same-length-10 same-length-11 same-length-12 same-length-13 same-length-14 same-length-15 same-length-16 same-length-17 same-length-18 returns-2 mul-members slice-write-members with-line-requires same-length-19 same-length-20 same-length-21 same-length-22 same-length-23 returns-3 same-length-24 same-length-25 same-length-26 same-length-27 same-length-28 same-length-29 same-length-30 same-length-31 same-length-32 returns-4)

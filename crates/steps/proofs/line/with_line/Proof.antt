@@ -9,14 +9,14 @@ use Rattle.steps.proofs.line.with_line.Tie as tie
 refutes-requires : tie.Need-refutes-requires
 refutes-requires c κs = search needs
 
-add-t5 : tie.Need-add-t5
-add-t5 c = search needs
-
 add-t6 : tie.Need-add-t6
 add-t6 c = search needs
 
 add-t7 : tie.Need-add-t7
 add-t7 c = search needs
+
+add-t8 : tie.Need-add-t8
+add-t8 c = search needs
 
 -- The ways back, written by ways.py: TO-from-FROM leads from the place FROM of the code to the place TO before it.
 module _ (c : tie.After-struct-known3) where
@@ -38,8 +38,9 @@ returns c =
       negative = 0;
       lines = s .st .lines + 1;
       rounds = s .st .rounds + s .rounds;
+      peak = s .peak;
       refuted = b;
     }) (refutes-from-return c .refutes .ensures)
 
 pub with-line-spec : {M : Type 1} → statement M
-with-line-spec = tie.close (tie.spec refutes-requires add-t5 add-t6 add-t7 returns)
+with-line-spec = tie.close (tie.spec refutes-requires add-t6 add-t7 add-t8 returns)

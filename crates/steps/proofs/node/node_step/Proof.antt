@@ -1,5 +1,5 @@
 -- `node_step`: the ways out are laws of Nodes. Assumes nothing.
-use mathlib.Core.Path.{_≡_, refl, ap₂, _∙_, subst}
+use mathlib.Core.Path.{_≡_, refl, ap, ap₂, _∙_, subst}
 use mathlib.Core.List.{List, []}
 use Prim.Native.Nat.{ℕ, _≤_, _<_}
 use borrow.Author.Needs.{needs}
@@ -11,7 +11,7 @@ use Rattle.walks.proofs.Here.{good-readable}
 use Rattle.verdict.specs.Check as check
 use Rattle.verdict.specs.Check.{entryNode}
 use Rattle.steps.specs.declared.node.NodeTest.the-variants.{Fits}
-use Rattle.steps.specs.States.{Lent, lentOf, stateOf}
+use Rattle.steps.specs.States.{Lent, lentOf, stateOf, withEntry}
 use Rattle.steps.specs.Tests.{NodeTested}
 use Rattle.steps.proofs.Stops.{node-fits}
 use Rattle.steps.proofs.Nodes.{few-there, node-refused, node-full, node-made}
@@ -71,9 +71,16 @@ module _ (c : tie.After-put) where
   abbrev start-from-put : tie.Start
   start-from-put = start-from-low low-from-put
 
+module _ (c : tie.After-greater) where
+  abbrev put-from-greater : tie.After-put
+  put-from-greater = c .before .before .before .before .before .before .before .before .before .before .before
+
 module _ (c : tie.Then1) where
+  abbrev greater-from-then1 : tie.After-greater
+  greater-from-then1 = c .before
+
   abbrev put-from-then1 : tie.After-put
-  put-from-then1 = c .before .before .before .before .before .before .before .before .before .before .before
+  put-from-then1 = put-from-greater greater-from-then1
 
   abbrev low-from-then1 : tie.After-low
   low-from-then1 = low-from-put put-from-then1
@@ -82,18 +89,18 @@ module _ (c : tie.Then1) where
   start-from-then1 = start-from-low low-from-then1
 
 module _ (c : tie.After-k) where
-  abbrev put-from-with-entry-call : tie.After-put
-  put-from-with-entry-call = c .before .before .before .before .before .before .before .before .before .before .before .before
-
   abbrev low-from-with-entry-call : tie.After-low
-  low-from-with-entry-call = low-from-put put-from-with-entry-call
+  low-from-with-entry-call = low-from-put (put-from-greater (c .before .before))
 
   abbrev start-from-with-entry-call : tie.Start
   start-from-with-entry-call = start-from-low low-from-with-entry-call
 
 module _ (c : tie.After-with-entry) where
+  abbrev greater-from-return-3 : tie.After-greater
+  greater-from-return-3 = c .before .before .before
+
   abbrev put-from-return-3 : tie.After-put
-  put-from-return-3 = c .before .before .before .before .before .before .before .before .before .before .before .before .before
+  put-from-return-3 = put-from-greater greater-from-return-3
 
   abbrev low-from-return-3 : tie.After-low
   low-from-return-3 = low-from-put put-from-return-3
@@ -158,8 +165,12 @@ same-length-5 c = put-from-then1 c .put .kept .1 .1 .1 .1 .0
 same-length-6 : tie.Need-same-length-6
 same-length-6 c = refl
 
+greater-requires : tie.Need-greater-requires
+greater-requires c κs =
+    search needs
+
 returns : tie.Need-returns
-returns c = λ ms H. let s = start-from-then1 c in node-full _ (lent s ms) (s .args .st) (s .args .b) H (tested (low-from-then1 c) ms .0) (outcome (put-from-then1 c) ms) (made (put-from-then1 c) ms) (c .if1 .taken)
+returns c = λ ms H. let s = start-from-then1 c in node-full _ (lent s ms) (s .args .st) (s .args .b) H (tested (low-from-then1 c) ms .0) (outcome (put-from-then1 c) ms) (made (put-from-then1 c) ms) _ (greater-from-then1 c .greater .ensures) (c .if1 .taken)
 
 mul-scratch : tie.Need-mul-scratch
 mul-scratch c = omega (arith, few (low-from-with-entry-call c) [])
@@ -207,8 +218,8 @@ same-length-16 : tie.Need-same-length-16
 same-length-16 c = length-set (start-from-return-3 c .args .scratch .now) (start-from-return-3 c .args .st .entries) (put-from-return-3 c .put .result .node .0)
 
 returns-3 : tie.Need-returns-3
-returns-3 c = λ ms H. let s = start-from-return-3 c in node-made _ (lent s ms) (s .args .st) (s .args .b) H (tested (low-from-return-3 c) ms .0) (outcome (put-from-return-3 c) ms) (made (put-from-return-3 c) ms) (c .before .before .if1 .left) (c .with-entry .result) (c .with-entry .ensures)
+returns-3 c = λ ms H. let s = start-from-return-3 c in node-made _ (lent s ms) (s .args .st) (s .args .b) H (tested (low-from-return-3 c) ms .0) (outcome (put-from-return-3 c) ms) (made (put-from-return-3 c) ms) (c .before .before .if1 .left) (c .with-entry .result) (c .with-entry .ensures ∙ ap (withEntry (s .args .st) (outcome (put-from-return-3 c) ms .table .count)) (greater-from-return-3 c .greater .ensures))
 
 pub node-step-spec : {M : Type 1} → statement M
 node-step-spec =
-    tie.close (tie.spec node-test-requires enum-known-number enum-known-low put-requires same-length same-length-2 same-length-3 same-length-4 same-length-5 same-length-6 returns mul-scratch slice-write-scratch with-entry-requires same-length-7 same-length-8 same-length-9 same-length-10 returns-2 same-length-11 same-length-12 same-length-13 same-length-14 same-length-15 same-length-16 returns-3)
+    tie.close (tie.spec node-test-requires enum-known-number enum-known-low put-requires greater-requires same-length same-length-2 same-length-3 same-length-4 same-length-5 same-length-6 returns mul-scratch slice-write-scratch with-entry-requires same-length-7 same-length-8 same-length-9 same-length-10 returns-2 same-length-11 same-length-12 same-length-13 same-length-14 same-length-15 same-length-16 returns-3)

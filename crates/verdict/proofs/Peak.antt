@@ -1,0 +1,287 @@
+-- The peak is the greatest count reached: no reached state has more nodes, the table is never exceeded, and with 8 and 23 every place is taken. The
+-- idea: a placing leaves at most as many nodes as the table has places, and just as many where it finds no room. Assumes nothing.
+use mathlib.Core.Path.{_≡_, refl, subst}
+use mathlib.Core.Logic.{_≢_}
+use mathlib.Core.Bool.{Bool, true, false, not, _&&_, _||_, cond}
+use mathlib.Core.List.{List, [], _∷_, _++_}
+use mathlib.Core.Option.{Option, none, some}
+use Prim.Native.Nat.{ℕ, zero, suc, _+_, _≤_, max}
+use native.Mathlib.Omega.{arith}
+use lib.ListN.{length, take}
+use lib.Seq.{length-take-le}
+use lib.Dec.{eqb, ltb, leb}
+use borrow.Author.Tests.{ltb-true, ltb-false}
+use Rattle.meaning.specs.Diagram.{Diagram, leaf, node}
+use Rattle.meaning.specs.Operations as meaning
+use Rattle.meaning.specs.Rules.{Line, witnessed}
+use Rattle.meaning.specs.Words.{inWord}
+use Rattle.meaning.proofs.Booleans.{t≢f}
+use Rattle.table.specs.Nodes.{Node, nodeOf, above, Placing, full, placed, find, orAppend, put, andThen, place}
+use Rattle.table.specs.Making.{Room, short, all, afterPlacing, placedAll, Reach, reached, thenReach, turnsReach, keptReach, lineReach}
+use Rattle.table.proofs.Growth.{length-new}
+use Rattle.dimacs.specs.Clauses.{Reading, clause}
+use Rattle.records.specs.declared.NodeBody.{NodeBody}
+use Rattle.records.specs.declared.Rule.{Rule}
+use Rattle.records.specs.declared.Rule.the-variants.{Rup, Pr}
+use Rattle.records.specs.declared.Record.{Record}
+use Rattle.records.specs.declared.Record.the-variants.{NodeEntry, Witness, ProofLine, End, CutShort, UnknownKind, NoRecord}
+use Rattle.records.specs.Records.{recordAt, lengthOf}
+use Rattle.verdict.specs.Check.{State, begun, Step, next, stop, spent, isEntry, entryNode, isVariable, entered, nodeStep, witnessStep, waiting, accepted, judged, diagramIn, lineStep, endStep, step, Verdict, left, afterStep, records, verdict}
+use Rattle.verdict.specs.Run.{Function, Meant, lineOf, peakWith, Taken, Making, follows, Reached, begins, goes, Ended, no-header, not-read, no-room, stopped, tried}
+use Rattle.verdict.proofs.Formula.{Early, NamedHeader, header-named, either}
+use Rattle.verdict.proofs.Steps.{taken-step}
+use Rattle.verdict.proofs.Standing.{Standing}
+use Rattle.verdict.proofs.Clauses.{underway}
+use Rattle.verdict.proofs.Ends.{reached-standing, ended}
+use Rattle.verdict.proofs.Numbers.{making-refused, Numbered, step-numbered}
+use Rattle.verdict.proofs.Exactly.{Ahead, reached-ahead}
+
+-- ---- placing
+
+module _ (s : ℕ) where
+  -- The nodes that a placing leaves, in a table of s places.
+  abbrev Within : Placing → Type 0
+  Within (full t) = length t ≡ s
+  Within (placed t k) = length t ≤ s
+
+  put-within : (t : List Node) (v l h : ℕ) → length t ≤ s → Within (put s t v l h)
+  unfolding put orAppend
+  put-within t v l h p = go (eqb l h) (find t (nodeOf v l h))
+    where
+      appended : (c : Bool) → ltb (length t) s ≡ c → Within (cond c (placed (t ++ nodeOf v l h ∷ []) (length t)) (full t))
+      appended true e = omega (arith, length-new t (nodeOf v l h), ltb-true (length t) s e)
+      appended false e = omega (arith, ltb-false (length t) s e)
+
+      go : (c : Bool) (o : Option ℕ) → Within (cond c (placed t l) (orAppend s t (nodeOf v l h) o))
+      go true o = p
+      go false none = appended (ltb (length t) s) refl
+      go false (some k) = p
+
+  then-within : (p : Placing) (rest : List Node → ℕ → Placing) → Within p → ((t : List Node) (k : ℕ) → length t ≤ s → Within (rest t k)) → Within (andThen p rest)
+  unfolding andThen
+  then-within (full t) rest w h = w
+  then-within (placed t k) rest w h = h t k w
+
+  place-within : (t : List Node) (D : Diagram) → length t ≤ s → Within (place s t D)
+  unfolding place
+  place-within t (leaf false) p = p
+  place-within t (leaf true) p = p
+  place-within t (node v l h) p =
+      then-within (place s t l) (λ t₁ a. andThen (place s t₁ h) (λ t₂ b. put s t₂ v a b)) (place-within t l p)
+      (λ t₁ a p₁. then-within (place s t₁ h) (λ t₂ b. put s t₂ v a b) (place-within t₁ h p₁) (λ t₂ b p₂. put-within t₂ v a b p₂))
+
+  -- ---- a line
+
+  -- What is reached, in a table of s places.
+  record ReachWithin (r : Reach) : Type 0 where
+    most : r .peak ≤ s
+    none-left : r .fits ≡ false → r .peak ≡ s
+
+  abbrev RoomWithin : Room → Type 0
+  RoomWithin (short t) = length t ≡ s
+  RoomWithin (all t) = length t ≤ s
+
+  all-within : (t : List Node) (Ds : List Diagram) → length t ≤ s → RoomWithin (placedAll s t Ds)
+  unfolding placedAll
+  all-within t [] p = p
+  all-within t (D ∷ Ds) p = go (place s t D) (place-within t D p) (λ t₁. all-within t₁ Ds)
+    where
+      go : (x : Placing) → Within x → ((t₁ : List Node) → length t₁ ≤ s → RoomWithin (placedAll s t₁ Ds)) → RoomWithin (afterPlacing x (λ t₁. placedAll s t₁ Ds))
+      go (full t₁) w rest = w
+      go (placed t₁ k) w rest = rest t₁ w
+
+  reached-within : (r : Room) → RoomWithin r → ReachWithin (reached r)
+  reached-within (short t) w = record { most = omega arith; none-left = λ _. w }
+  reached-within (all t) w = record { most = w; none-left = λ e. t≢f e }
+
+  then-reach-within : (x y : Reach) → ReachWithin x → ReachWithin y → ReachWithin (thenReach x y)
+  then-reach-within x y X Y = go (x .fits) (X .none-left)
+    where
+      go : (c : Bool) → (c ≡ false → x .peak ≡ s) → ReachWithin (record { fits = c && y .fits; peak = cond c (max (x .peak) (y .peak)) (x .peak) })
+      go true e = record { most = omega (arith, X .most, Y .most); none-left = λ f. omega (arith, X .most, Y .none-left f) }
+      go false e = record { most = X .most; none-left = λ _. e refl }
+
+  turns-within : (turns : List (List Diagram)) (t : List Node) → length t ≤ s → ReachWithin (turnsReach s turns t)
+  unfolding turnsReach
+  turns-within [] t p = record { most = p; none-left = λ e. t≢f e }
+  turns-within (made ∷ later) t p =
+      then-reach-within (reached (placedAll s t made)) (turnsReach s later t) (reached-within (placedAll s t made) (all-within t made p)) (turns-within later t p)
+
+  line-within : (t : List Node) (line : Line) → length t ≤ s → ReachWithin (lineReach s t line)
+  unfolding lineReach
+  line-within t line p = go (placedAll s t (line .kept)) (all-within t (line .kept) p)
+    where
+      go : (r : Room) → RoomWithin r → ReachWithin (keptReach s (line .turns) r)
+      go (short t₁) w = record { most = omega arith; none-left = λ _. w }
+      go (all t₁) w = turns-within (line .turns) t₁ w
+
+  -- ---- one record
+
+  -- A state's peak covers its count and is no more than the places of the table.
+  record Peaked (st : State) : Type 0 where
+    covers : length (st .nodes) ≤ st .peak
+    within : st .peak ≤ s
+
+  -- What a record comes to: the peak only grows, 23 is given with every place taken, and never where no node was made.
+  abbrev Peaks : State → Step → Type 0
+  Peaks st (next st′) = Peaked st′ × (st .peak ≤ st′ .peak)
+  Peaks st (stop number offset) = number ≢ 23
+  Peaks st (spent number peak) = (st .peak ≤ peak) × (peak ≤ s) × (number ≡ 23 → peak ≡ s)
+
+  module _ (n : ℕ) (st : State) (X : Peaked st) where
+    -- a test that refuses before a node is made
+    refuses : (c : Bool) (number offset : ℕ) (r : Step) → number ≢ 23 → Peaks st r → Peaks st (cond c (stop number offset) r)
+    refuses c number offset r p q = either (Peaks st) c (stop number offset) r p q
+
+    entered-peaks : (p : Placing) → Within p → Peaks st (entered st p)
+    unfolding entered
+    entered-peaks (full t) w = (omega arith, omega (arith, X .within), λ _. omega (arith, X .within))
+    entered-peaks (placed t k) w = (record { covers = omega arith; within = omega (arith, X .within) }, omega arith)
+
+    node-peaks : (b : NodeBody) → Peaks st (nodeStep n s st b)
+    unfolding nodeStep
+    node-peaks b =
+        let l : ℕ = entryNode st (b .low .0) in
+        let h : ℕ = entryNode st (b .high .0) in
+        refuses (leb 4096 (length (st .entries))) 21 0 _ (λ q. omega arith)
+        (refuses (not (isVariable n (b .variable))) 12 0 _ (λ q. omega arith)
+        (refuses (not (isEntry st (b .low .0) && isEntry st (b .high .0))) 13 0 _ (λ q. omega arith)
+        (refuses (not (above (st .nodes) (b .variable) l && above (st .nodes) (b .variable) h)) 14 0 _ (λ q. omega arith)
+        (entered-peaks (put s (st .nodes) (b .variable) l h) (put-within (st .nodes) (b .variable) l h (omega (arith, X .covers, X .within)))))))
+
+    witness-peaks : (v : ℕ) (b : Bool) → Peaks st (witnessStep n st v b)
+    unfolding witnessStep
+    witness-peaks v b =
+        refuses (not (isVariable n v)) 12 0 _ (λ q. omega arith)
+        (refuses (inWord (st .positive) v || inWord (st .negative) v) 15 0 _ (λ q. omega arith) (record { covers = X .covers; within = X .within }, omega arith))
+
+    judged-peaks : (g : ℕ) (line : Line) → Peaks st (judged s st g line)
+    unfolding judged
+    judged-peaks g line = go (lineReach s (st .nodes) line .fits) (line .shown) (R .none-left)
+      where
+        R : ReachWithin (lineReach s (st .nodes) line)
+        R = line-within (st .nodes) line (omega (arith, X .covers, X .within))
+
+        go : (fits shown : Bool) → (fits ≡ false → lineReach s (st .nodes) line .peak ≡ s)
+            → Peaks st (cond (not fits) (spent 23 (peakWith s st line)) (cond (not shown) (spent 19 (peakWith s st line)) (next (accepted st g line (peakWith s st line)))))
+        go false shown e = (omega arith, omega (arith, X .within, R .most), λ _. omega (arith, X .within, e refl))
+        go true false e = (omega arith, omega (arith, X .within, R .most), λ q. absurd (omega arith))
+        go true true e = (record { covers = omega (arith, X .covers); within = omega (arith, X .within, R .most) }, omega arith)
+
+    line-peaks : (rule : Rule) (root : ℕ) → Peaks st (lineStep n s st rule root)
+    unfolding lineStep
+    line-peaks Rup root =
+        let g : ℕ = entryNode st root in
+        refuses (not (isEntry st root)) 13 0 _ (λ q. omega arith)
+        (refuses (waiting st) 16 0 _ (λ q. omega arith)
+        (refuses (leb 1024 (st .lines)) 22 0 _ (λ q. omega arith) (refuses (eqb g 1) 17 0 _ (λ q. omega arith) (judged-peaks g (lineOf n st Rup g)))))
+    line-peaks Pr root =
+        let g : ℕ = entryNode st root in
+        refuses (not (isEntry st root)) 13 0 _ (λ q. omega arith)
+        (refuses (leb 1024 (st .lines)) 22 0 _ (λ q. omega arith)
+        (refuses (eqb g 1) 17 0 _ (λ q. omega arith)
+        (refuses (not (witnessed n (inWord (st .positive)) (inWord (st .negative)) (diagramIn st g))) 18 0 _ (λ q. omega arith) (judged-peaks g (lineOf n st Pr g)))))
+
+    end-peaks : (more : Bool) → Peaks st (endStep st more)
+    unfolding endStep
+    end-peaks more =
+        refuses (waiting st) 16 0 _ (λ q. omega arith)
+        (refuses more 11 1 _ (λ q. omega arith) (refuses (st .refuted) 0 0 _ (λ q. omega arith) (λ q. omega arith)))
+
+    step-peaks : (more : Bool) (r : Record) → Peaks st (step n s st more r)
+    unfolding step
+    step-peaks more (NodeEntry b) = node-peaks b
+    step-peaks more (Witness v b) = witness-peaks v b
+    step-peaks more (ProofLine rule root) = line-peaks rule (root .0)
+    step-peaks more End = end-peaks more
+    step-peaks more CutShort = λ q. omega arith
+    step-peaks more UnknownKind = λ q. omega arith
+    step-peaks more NoRecord = λ q. omega arith
+
+  -- ---- the whole check
+
+  -- The peak only grows to the end.
+  records-peak : (n : ℕ) (proof : List ℕ) (steps : ℕ) (st : State) (at : ℕ) → Peaked st → st .peak ≤ records steps n s proof st at .peak
+  unfolding records
+  records-peak n proof zero st at X = omega arith
+  records-peak n proof (suc steps) st at X = go (step n s st (follows proof at) (recordAt proof at)) (step-peaks n st X (follows proof at) (recordAt proof at)) (records-peak n proof steps)
+    where
+      next-at : ℕ
+      next-at = at + lengthOf (recordAt proof at)
+
+      go : (x : Step) → Peaks st x → ((st′ : State) (at′ : ℕ) → Peaked st′ → st′ .peak ≤ records steps n s proof st′ at′ .peak)
+          → st .peak ≤ afterStep x st at (λ st′. records steps n s proof st′ next-at) .peak
+      go (stop number offset) p rec = omega arith
+      go (spent number peak) p rec = p .0
+      go (next st′) p rec = omega (arith, p .1, rec st′ next-at (p .0))
+
+  module _ (two : 2 ≤ s) (text proof : List ℕ) where
+    making-count : {n many : ℕ} {t : List Node} {ms : List ℕ} {fs : List Function} {r : Reading} → Making s text n many t ms fs r → (2 ≤ length t) × (length t ≤ s)
+    making-count {n} {many} M = let S = underway s text n many M .standing in (S .ordered .two, S .room two)
+
+    reached-peaked : {n : ℕ} {st : State} {at : ℕ} {m : Meant} → Reached s text proof n st at m → Peaked st
+    reached-peaked (begins M) = record { covers = omega arith; within = making-count M .1 }
+    reached-peaked {n} (goes {st} {st′} {at} R T) =
+        subst (Peaks st) (taken-step n s st (follows proof at) (recordAt proof at) st′ T) (step-peaks n st (reached-peaked R) (follows proof at) (recordAt proof at)) .0
+
+    -- In every state that the check reaches the peak covers the count.
+    pub peak-covers : {n : ℕ} {st : State} {at : ℕ} {m : Meant} → Reached s text proof n st at m → length (st .nodes) ≤ st .peak
+    peak-covers R = reached-peaked R .covers
+
+    -- "the greatest count reached, dropped nodes included": what the check reports covers every state that it reaches.
+    pub peak-greatest : {n : ℕ} {st : State} {at : ℕ} {m : Meant} → Reached s text proof n st at m → length (st .nodes) ≤ verdict s text proof .peak
+    peak-greatest {n} {st} {at} R =
+        let X : Peaked st = reached-peaked R in
+        let A : Ahead s text proof n st at = reached-ahead s text proof R in
+        rw (A .is) (omega (arith, X .covers, records-peak n proof (A .steps) st at X))
+
+    -- What the check reports: at least the constants and the count that it leaves, at most the table's places, and all of them with 8 and 23.
+    pub record Reported (v : Verdict) : Type 0 where
+      pub least : 2 ≤ v .peak
+      pub most : v .peak ≤ s
+      pub left : length (v .nodes) ≤ v .peak
+      pub clause-full : v .number ≡ 8 → v .peak ≡ s
+      pub proof-full : v .number ≡ 23 → v .peak ≡ s
+
+    reached-reported : {n : ℕ} {st : State} {at : ℕ} {m : Meant} → Reached s text proof n st at m → (number place peak : ℕ) → st .peak ≤ peak → peak ≤ s
+        → number ≢ 8 → (number ≡ 23 → peak ≡ s) → Reported (left number place peak st)
+    reached-reported {n} {st} {at} {m} R number place peak more most other filled =
+        let S : Standing s n m st = reached-standing s text proof R .1 in
+        let X : Peaked st = reached-peaked R in
+        record {
+          least = omega (arith, S .ordered .two, X .covers);
+          most = most;
+          left = omega (arith, length-take-le (st .kept) (st .nodes) (S .kept), S .kept, X .covers);
+          clause-full = λ e. absurd (other e);
+          proof-full = filled;
+        }
+
+    early-reported : (v : Verdict) → Early (v .number) → length (v .nodes) ≡ 2 → 2 ≤ v .peak → v .peak ≤ s → Reported v
+    early-reported v named emptied least most =
+        record { least = least; most = most; left = omega arith; clause-full = λ e. absurd (omega arith); proof-full = λ e. absurd (omega arith) }
+
+    ended-reported : (v : Verdict) → Ended s text proof v → Reported v
+    ended-reported _ (no-header e) = early-reported _ (subst NamedHeader e (header-named text)) refl (omega arith) two
+    ended-reported _ (not-read M) = early-reported _ (making-refused s text M) refl (making-count M .0) (making-count M .1)
+    ended-reported _ (no-room {n} {many} {first} {t} {t₁} {ms} {fs} {ls} {rest} M e) =
+        let filled : length t₁ ≡ s = subst Within e (place-within t (meaning.clause n ls) (making-count M .1)) in
+        record { least = omega arith; most = omega arith; left = omega arith; clause-full = λ _. filled; proof-full = λ q. absurd (omega arith) }
+    ended-reported _ (stopped {n} {number} {offset} {at} {st} R e) =
+        let P : number ≢ 23 = subst (Peaks st) e (step-peaks n st (reached-peaked R) (follows proof at) (recordAt proof at)) in
+        let N : Numbered (stop number offset) = subst Numbered e (step-numbered n s st (follows proof at) (recordAt proof at)) in
+        reached-reported R number (at + offset) (st .peak) (omega arith) (reached-peaked R .within) (λ q. omega (arith, N .1 (λ z. omega arith))) (λ q. absurd (P q))
+    ended-reported _ (tried {n} {number} {peak} {at} {st} R e) =
+        let P : Peaks st (spent number peak) = subst (Peaks st) e (step-peaks n st (reached-peaked R) (follows proof at) (recordAt proof at)) in
+        let N : Numbered (spent number peak) = subst Numbered e (step-numbered n s st (follows proof at) (recordAt proof at)) in
+        reached-reported R number at peak (P .0) (P .1) (λ q. omega (arith, N .0)) (P .2)
+
+    pub peak-reported : Reported (verdict s text proof)
+    peak-reported = ended-reported (verdict s text proof) (ended s text proof)
+
+    -- The table is never exceeded.
+    pub peak-within : (2 ≤ verdict s text proof .peak) × (verdict s text proof .peak ≤ s)
+    peak-within = (peak-reported .least, peak-reported .most)
+
+    -- With 8 and with 23 every place was taken.
+    pub peak-full : (verdict s text proof .number ≡ 8 → verdict s text proof .peak ≡ s) × (verdict s text proof .number ≡ 23 → verdict s text proof .peak ≡ s)
+    peak-full = (peak-reported .clause-full, peak-reported .proof-full)
