@@ -10,7 +10,8 @@ ghost use Rattle.table.specs.Lists.{diagramsOf};
 ghost use Rattle.conflict.specs.Marks.{unmarked};
 ghost use Rattle.judge.specs.Lines.{Negatable, Worded, Says};
 
-// The RUP line of node `root`, worked out in `list`, where `memberwords` has the members' variables and `word` those of the root. Its nodes stay.
+// The RUP line of node `root`, worked out in `list`, where `memberwords` has the members' variables and `word` those of the root.
+// Its nodes stay.
 pub fn rup_with(
     vars: &mut [u8],
     lows: &mut [u16],

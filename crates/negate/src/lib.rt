@@ -2,34 +2,11 @@
 use table::Found;
 use table::NodeNo;
 ghost use mathlib.Core.Path.{_≡_};
-ghost use Prim.Native.Nat.{_≤_, _<_};
-ghost use Rattle.table.specs.Indexed.{tableOf, Good};
-ghost use Rattle.walks.specs.Readable.{Roomy};
+ghost use Prim.Native.Nat.{_≤_};
+ghost use Rattle.table.specs.Indexed.{tableOf};
 ghost use Rattle.negate.specs.Negations.{Negates, entryOf, foundIn, NegationMemo, NegationReady};
 
-// The node that is f's negation, if the table has it.
-pub fn negation_in(
-    vars: &[u8],
-    lows: &[u16],
-    highs: &[u16],
-    heads: &[u16],
-    links: &[u16],
-    memo: &mut [u64],
-    count: usize,
-    f: NodeNo,
-) -> Found
-    requires { ⌜ (
-        let before = tableOf (now vars) (now lows) (now highs) (now heads) (now links) count in
-        Good before × (f .0 < count) × Roomy (now vars) (now memo)) ⌝ }
-    ensures { λ r. ⌜ (
-        let before = tableOf (now (vars .entry)) (now (lows .entry)) (now (highs .entry)) (now (heads .entry)) (now (links .entry)) count in
-        Negates before (f .0) r) ⌝ }
-{
-    walks::clear_cells(memo, count);
-    negation_from(vars, lows, highs, heads, links, memo, count, f)
-}
-
-// The same where the memo holds what is already known of nodes of this table; it stays so.
+// The node that is f's negation, if the table has it, where the memo holds what is already known of nodes of this table; it stays so.
 pub fn negation_from(
     vars: &[u8],
     lows: &[u16],

@@ -155,7 +155,7 @@ pub enum FirstUnits {
 }
 
 // The units of the first listed node that has any. Clears the memo.
-pub fn first_units(
+fn first_units(
     vars: &[u8],
     lows: &[u16],
     highs: &[u16],

@@ -10,7 +10,6 @@ use native.Mathlib.Decide.{decLt}
 use lib.ListN.{length, getD, take, set, length-set}
 use lib.Dec.{eqb, ltb}
 use lib.Seq.{take-suc-set, length-take-le, getD-set-same, getD-set-other, getD-take}
-use borrow.Author.Tests.{ltb-true}
 use Rattle.meaning.specs.Diagram.{Diagram, branch}
 use Rattle.meaning.proofs.Canonical.{reduced-from, branch-reduced}
 use Rattle.table.specs.Nodes.{Node, nodeOf, at, diagramAt, Placing, full, placed, find, orAppend, put}
@@ -23,7 +22,7 @@ use Rattle.table.proofs.Placing.{put-place}
 use Rattle.table.proofs.Outcomes.{Grown, put-grown}
 use Rattle.records.specs.declared.NodeBody.{NodeBody}
 use Rattle.verdict.specs.Check as check
-use Rattle.verdict.specs.Check.{next, spent, isEntry, entryNode, entered, nodeStep}
+use Rattle.verdict.specs.Check.{next, spent, entryNode, entered, nodeStep}
 use Rattle.verdict.proofs.Uses.{UsesAfter, place-uses}
 use Rattle.table.specs.Lists.{Inside}
 use Rattle.steps.specs.declared.State.{State}
@@ -31,7 +30,7 @@ use Rattle.steps.specs.declared.Step.the-variants.{Next, Stop, Spent}
 use Rattle.steps.specs.States.{Lent, lentOf, tableIn, stateOf, withEntry, Held, Stepped}
 use Rattle.steps.specs.Tests.{nodeRefusal}
 use Rattle.steps.proofs.Stops.{unless, unless-refused, unless-none, node-is, NodeFits, node-fits, stopped}
-use Rattle.steps.proofs.Entries.{entry-is, entry-in}
+use Rattle.steps.proofs.Entries.{entry-in}
 
 -- Other lists lent with a table.
 abbrev pub lentWith : Table → List ℕ → List ℕ → Lent
@@ -51,10 +50,6 @@ pub one-more : (list : List ℕ) (m k : ℕ) → m < length list → take (m + 1
 one-more list m k p = let e : m + 1 ≡ suc m = omega arith in ap (λ (j : ℕ). take j (set list m k)) e ∙ take-suc-set list m k p
 
 -- ---- a record that is not refused
-
--- its entries are there
-pub entry-there : (L : Lent) (st : State) → st .entries ≤ length (L .scratch) → (e : ℕ) → isEntry (stateOf L st) e ≡ true → e < st .entries + 2
-entry-there L st room e there = ltb-true e (st .entries + 2) (sym (entry-is L st room e) ∙ there)
 
 pub few-there : (L : Lent) (st : State) → st .entries ≤ length (L .scratch) → length (stateOf L st .entries) < 4096 → st .entries < 4096
 few-there L st room p = omega (arith, length-take-le (st .entries) (L .scratch) room)

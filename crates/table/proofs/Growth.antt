@@ -7,7 +7,7 @@ use Prim.Native.Nat.{ℕ, zero, suc, _≤_, _<_}
 use native.Mathlib.Omega.{arith}
 use native.Mathlib.Decide.{decLt}
 use lib.ListN.{length, take, drop, length-append, take-append-drop, List·getD-append}
-use lib.Seq.{getD-append-seam, getD-take, length-take-le, take-all, take-append-seam}
+use lib.Seq.{getD-append-seam, getD-take, length-take-le, take-append-seam}
 use Rattle.table.specs.Nodes.{Node, blank, at, diagramWithin, diagramAt}
 use Rattle.table.proofs.Order.{Fits, Ordered}
 
@@ -30,10 +30,6 @@ extends-length t t′ E = rw (E .1, length-append) (omega arith)
 -- Dropping what was added gives back what was there.
 pub dropped-back : (t t′ : List Node) → Extends t t′ → take (length t) t′ ≡ t
 dropped-back t t′ E = ap (take (length t)) (E .1) ∙ take-append-seam t (E .0)
-
--- Nodes of equal number: nothing was added.
-pub extends-equal : (t t′ : List Node) → Extends t t′ → length t′ ≡ length t → t′ ≡ t
-extends-equal t t′ E e = sym (take-all (length t) t′ (omega arith)) ∙ dropped-back t t′ E
 
 -- ---- numbers keep their diagrams
 

@@ -6,7 +6,7 @@ use mathlib.Core.List.{List}
 use Prim.Native.Nat.{ℕ, suc, _≤_, _<_}
 use native.Mathlib.Omega.{arith}
 use lib.ListN.{length, take}
-use lib.Seq.{take-take, take-length, length-take-le}
+use lib.Seq.{take-take, take-length}
 use Rattle.meaning.specs.Diagram.{Diagram, Reduced, branch}
 use Rattle.meaning.proofs.Canonical.{reduced-from, branch-reduced}
 use Rattle.table.specs.Nodes.{Node, at, diagramAt, Placing, full, placed, put, andThen, place}
@@ -15,7 +15,7 @@ use Rattle.table.proofs.Order.{Ordered}
 use Rattle.meaning.proofs.Booleans.{t≢f}
 use Rattle.table.proofs.Written.{nodes-indexed, size-indexed, count-indexed, good-indexed, length-nodes, good-ordered}
 use Rattle.table.proofs.Numbers.{diagramAt-reduced-from}
-use Rattle.table.proofs.Growth.{dropped-back, extends-length, diagramAt-grown, ordered-dropped, diagramAt-dropped}
+use Rattle.table.proofs.Growth.{dropped-back, extends-length, diagramAt-grown, diagramAt-dropped}
 use Rattle.table.proofs.Placing.{Kept, After, place-after, place-there, put-place}
 use Rattle.table.proofs.Joining.{place-branch}
 
@@ -192,19 +192,6 @@ module _ (T : Table) (G : Good T) (v : ℕ) (l h : Diagram) (rl : Reduced 1 65 l
 -- ---- dropping
 
 module _ (T : Table) (G : Good T) (m : ℕ) (two : 2 ≤ m) (within : m ≤ T .count) where
-  dropped-length : length (take m (nodesOf T)) ≡ m
-  dropped-length = length-take-le m (nodesOf T) (omega (arith, length-nodes T G))
-
-  pub good-dropped : Good (droppedTo m T)
-  good-dropped =
-      good-indexed (size T) (take m (nodesOf T)) (ordered-dropped (nodesOf T) (good-ordered T G) m two (omega (arith, length-nodes T G))) (omega (arith, dropped-length, G .within)) (G .most)
-
-  pub count-dropped : droppedTo m T .count ≡ m
-  count-dropped = count-indexed (size T) (take m (nodesOf T)) ∙ dropped-length
-
-  pub size-dropped : size (droppedTo m T) ≡ size T
-  size-dropped = size-indexed (size T) (take m (nodesOf T)) (omega (arith, dropped-length, G .within))
-
   pub nodes-dropped : nodesOf (droppedTo m T) ≡ take m (nodesOf T)
   nodes-dropped = nodes-indexed (size T) (take m (nodesOf T))
 

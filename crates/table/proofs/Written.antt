@@ -5,12 +5,12 @@ use mathlib.Core.Path.{_≡_, refl, sym, ap, ap₂, _∙_, subst}
 use mathlib.Core.List.{List, [], _∷_, _++_, map}
 use Prim.Native.Nat.{ℕ, zero, suc, _+_, _-_, _*_, _≤_}
 use native.Mathlib.Omega.{arith}
-use lib.ListN.{length, getD, take, drop, replicate, length-append, length-replicate, length-set, length-map, take-append-drop, length-drop, List·getD-map, List·getD-eq-default}
-use lib.Seq.{take-append-seam, length-take-le, getD-drop, ext-getD}
+use lib.ListN.{length, getD, take, drop, replicate, length-append, length-replicate, length-set, length-map, take-append-drop, length-drop, List·getD-map}
+use lib.Seq.{take-append-seam, length-take-le, ext-getD}
 use Rattle.table.specs.Nodes.{Node, blank, at, nodesInOrder}
 use Rattle.table.specs.Columns.{rows, padded, Columns, columnsOf}
 use Rattle.table.specs.Indexed.{indexFrom, indexOf, Table, tableOf, size, nodesOf, indexed, Good}
-use Rattle.table.proofs.Order.{all-blank, every-blank, Ordered, ordered, in-order, GoodOrder}
+use Rattle.table.proofs.Order.{all-blank, Ordered, ordered, in-order, GoodOrder}
 
 -- ---- padding
 
@@ -146,24 +146,6 @@ module _ (T : Table) (G : Good T) where
   pub high-at : (k : ℕ) → getD (T .highs) k 0 ≡ at (nodesOf T) k .high
   unfolding indexed columnsOf
   high-at k = ap (λ (t : Table). getD (t .highs) k 0) (G .written) ∙ column-at (λ x. x .high) refl k
-
-  pub rows-good : rows (T .vars) (T .lows) (T .highs) ≡ padded (size T) (nodesOf T)
-  unfolding indexed
-  rows-good = ap (λ (t : Table). rows (t .vars) (t .lows) (t .highs)) (G .written) ∙ rows-columns (padded (size T) (nodesOf T))
-
-  -- a good table's columns are in good order, and past the count there are zeros
-  pub good-lent : GoodOrder (rows (T .vars) (T .lows) (T .highs)) (T .count)
-  unfolding nodesOf
-  good-lent =
-      let len : length (padded (size T) (nodesOf T)) ≡ size T = length-padded (size T) (nodesOf T) (omega (arith, length-nodes, G .within)) in
-      record {
-        least = G .least;
-        within = omega (arith, ap length rows-good, G .within);
-        ordered = good-ordered;
-        rest = every-blank (drop (T .count) (rows (T .vars) (T .lows) (T .highs))) (λ k _.
-            getD-drop (T .count) (rows (T .vars) (T .lows) (T .highs)) k blank ∙ ap (λ (u : List Node). at u (T .count + k)) rows-good ∙ at-padded (size T) (nodesOf T) (T .count + k)
-            ∙ List·getD-eq-default (nodesOf T) blank (omega (arith, length-nodes)));
-      }
 
 -- ---- a table lent with the index of its nodes
 

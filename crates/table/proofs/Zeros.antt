@@ -23,9 +23,6 @@ module _ (n : ℕ) where
   pub whole-zeros : _≡_ {A = List ℕ} (replicate n 0) (replicate (length {A = ℕ} (replicate n 0)) 0)
   whole-zeros = ap {A = ℕ} {B = List ℕ} (λ k. replicate k 0) length-whole
 
-  pub whole-room : 3 ≤ n → 3 ≤ length {A = ℕ} (replicate n 0)
-  whole-room h = omega (arith, length-whole)
-
 pub zeros-at : (n i : ℕ) → _≡_ {A = ℕ} (getD (replicate n 0) i 0) 0
 zeros-at zero i = refl
 zeros-at (suc n) zero = refl

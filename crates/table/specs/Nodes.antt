@@ -1,4 +1,4 @@
--- The node table as a list of records: good order, the diagram of a node number, placing and dropping. (01, The table)
+-- The node table as a list of records: good order, the diagram of a node number, placing. (01, The table)
 use mathlib.Core.Bool.{Bool, true, false, not, _&&_, _||_, cond}
 use mathlib.Core.List.{List, [], _∷_, _++_}
 use mathlib.Core.Option.{Option, none, some}
@@ -120,7 +120,3 @@ unfolding andThen put
 place s t (leaf false) = placed t 0
 place s t (leaf true) = placed t 1
 place s t (node v l h) = andThen (place s t l) (λ t₁ a. andThen (place s t₁ h) (λ t₂ b. put s t₂ v a b))
-
--- Nodes dropped: only those below m are left.
-abbrev pub dropTo : ℕ → List Node → List Node
-dropTo m t = take m t

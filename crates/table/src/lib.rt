@@ -34,7 +34,7 @@ fn wrapping_product(a: u32, b: u32) -> u32
 }
 
 // The chain of a node among `heads`.
-pub fn bucket_of(heads: usize, v: u8, l: u16, h: u16) -> usize
+fn bucket_of(heads: usize, v: u8, l: u16, h: u16) -> usize
     requires { ⌜ 0 < heads ⌝ }
     ensures { λ r. ⌜ r ≡ bucket heads v l h ⌝ }
     ensures { λ r. ⌜ r < heads ⌝ }

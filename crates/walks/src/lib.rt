@@ -104,7 +104,7 @@ pub fn is_one(
 }
 
 // The same where the memo holds nodes whose cofactor is known to be 1; it stays so.
-pub fn one_from(
+fn one_from(
     vars: &[u8],
     lows: &[u16],
     highs: &[u16],
