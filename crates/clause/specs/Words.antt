@@ -10,7 +10,8 @@ use Rattle.words.specs.declared.Literals.{Literals}
 unfoldable pub wordsValue : Literals → ℕ → Assignment → Bool
 wordsValue literals zero a = false
 wordsValue literals (suc k) a =
-    ((inWord (literals .positive) (suc k) && holds a (suc k)) || (inWord (literals .negative) (suc k) && not (holds a (suc k)))) || wordsValue literals k a
+    ((inWord (literals .positive) (suc k) && holds a (suc k)) || (inWord (literals .negative) (suc k) && not (holds a (suc k))))
+    || wordsValue literals k a
 
 -- The clause's diagram. Each clause that the reader gives is this one of its words: `clause-of-words` in proofs/Literals.
 unfoldable pub clauseOfWords : Literals → Diagram

@@ -1,5 +1,5 @@
--- What the theorems on the single calls speak of: the nodes that lent columns hold, 01's value of each operation, and what a call that is not
--- refused has done. No call open to others cites this file.
+-- What the theorems on the single calls speak of: the nodes that lent columns hold, 01's value of each operation, and what a call
+-- that is not refused has done. No call open to others cites this file.
 use mathlib.Core.Path.{_≡_}
 use mathlib.Core.Logic.{_≢_}
 use mathlib.Core.Bool.{Bool, true, not, _&&_}
@@ -40,8 +40,9 @@ valueOf Negation f g a = not (f a)
 valueOf Cofactor f g a = f (nearest 64 g a)
 valueOf (Literals p n) f g a = f (forced (inWord p) (inWord n) 1 a)
 
--- What holds of a call that is not refused: its node is in the table as left, which is in good order; every old number keeps its diagram; and
--- the node has 01's value of the operation under every assignment, "operands in the table as handed in, a single call's node in the table as left".
+-- What holds of a call that is not refused: its node is in the table as left, which is in good order; every old number keeps its
+-- diagram; and the node has 01's value of the operation under every assignment, "operands in the table as handed in, a single
+-- call's node in the table as left".
 pub record Answers (op : Operation) (c : Columns) (count f g : ℕ) (o : Made) : Type 0 where
   pub below : o .node < o .count
   pub good : inGoodOrder (o .columns) (o .count) ≡ true

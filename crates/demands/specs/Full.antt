@@ -1,5 +1,5 @@
--- "8 and 23 are given only where a node not in the table is to be placed and the count equals the size." (01, What the call says and leaves) No call
--- open to others cites this file.
+-- "8 and 23 are given only where a node not in the table is to be placed and the count equals the size." (01, What the call says
+-- and leaves) No call open to others cites this file.
 use mathlib.Core.Path.{_≡_}
 use mathlib.Core.Logic.{_≢_}
 use mathlib.Core.List.{List, _∷_}
@@ -35,7 +35,8 @@ pub record Wants (s : ℕ) (t : List Node) (D : Diagram) : Type 0 where
 -- The same of one of the diagrams that are made one after the other.
 pub data ListWants (s : ℕ) : List Node → List Diagram → Type 0 where
   now : {t : List Node} {f : Diagram} {fs : List Diagram} → Wants s t f → ListWants s t (f ∷ fs)
-  later : {t t₁ : List Node} {k : ℕ} {f : Diagram} {fs : List Diagram} → place s t f ≡ placed t₁ k → ListWants s t₁ fs → ListWants s t (f ∷ fs)
+  later : {t t₁ : List Node} {k : ℕ} {f : Diagram} {fs : List Diagram}
+      → place s t f ≡ placed t₁ k → ListWants s t₁ fs → ListWants s t (f ∷ fs)
 
 -- The same of a turn.
 pub data TurnWants (s : ℕ) (t : List Node) : List (List Diagram) → Type 0 where
@@ -49,7 +50,8 @@ pub data LineWants (s : ℕ) (t : List Node) (line : Line) : Type 0 where
 
 -- What a record wants: the node of a node record, what a line makes.
 abbrev pub RecordWants : ℕ → ℕ → State → Record → Type 0
-RecordWants n s st (NodeEntry b) = Wants s (st .nodes) (branch (b .variable) (diagramIn st (entryNode st (b .low .0))) (diagramIn st (entryNode st (b .high .0))))
+RecordWants n s st (NodeEntry b) =
+    Wants s (st .nodes) (branch (b .variable) (diagramIn st (entryNode st (b .low .0))) (diagramIn st (entryNode st (b .high .0))))
 RecordWants n s st (ProofLine rule root) = LineWants s (st .nodes) (lineOf n st rule (entryNode st (root .0)))
 RecordWants n s st (Witness v b) = ⊥
 RecordWants n s st End = ⊥

@@ -1,4 +1,5 @@
--- What the theorems on the whole check speak of: where it ends, and what every lent place holds after it. No call open to others cites this file.
+-- What the theorems on the whole check speak of: where it ends, and what every lent place holds after it. No call open to others
+-- cites this file.
 use mathlib.Core.Path.{_≡_}
 use mathlib.Core.Logic.{_≢_}
 use mathlib.Core.Bool.{true, false, cond}
@@ -49,16 +50,28 @@ clausesRead i = clausesOf (formula (i .text))
 
 -- "Number 7 changes nothing": "place 0, no lines, no rounds and the count as lent". "with 7, 24 and 25 it is 0" (02, 2/14)
 abbrev pub seven : Lent → Outcome
-seven i = record { number = 7; place = 0; lines = 0; rounds = 0; count = i .count; peak = 0; columns = i .columns; members = i .members; scratch = i .scratch }
+seven i = record {
+  number = 7;
+  place = 0;
+  lines = 0;
+  rounds = 0;
+  count = i .count;
+  peak = 0;
+  columns = i .columns;
+  members = i .members;
+  scratch = i .scratch;
+}
 
 -- "Order: 7, formula [..], proof": the call ends at the first place that is refused, or at the end record, and says what that place says.
 pub data Ends (i : Lent) : Outcome → Type 0 where
   wrong-size : (Fits i → ⊥) → Ends i (seven i)
-  at-place : {v : Verdict} → Fits i → Ended (places i) (i .text) (i .proof) v → Ends i (outcome (places i) (length (i .members)) (length (i .scratch)) v)
+  at-place : {v : Verdict} → Fits i → Ended (places i) (i .text) (i .proof) v
+      → Ends i (outcome (places i) (length (i .members)) (length (i .scratch)) v)
 
 -- ---- what it leaves
 
--- "A refused formula leaves table and lists all zero, count 2. [..] Scratch ends as zeros." The peak is within the table; with 8 it is the size.
+-- "A refused formula leaves table and lists all zero, count 2. [..] Scratch ends as zeros." The peak is within the table; with 8 it
+-- is the size.
 pub record Emptied (i : Lent) (o : Outcome) : Type 0 where
   pub number : (1 ≤ o .number) × (o .number ≤ 8) × (o .number ≢ 7)
   pub lines : o .lines ≡ 0
@@ -76,9 +89,9 @@ pub record Emptied (i : Lent) (o : Outcome) : Type 0 where
 abbrev pub Member : Outcome → ℕ → Function → Type 0
 Member o k f = (getD (o .members) k 0 < o .count) × ((a : Assignment) → valueAt (o .columns) (o .count) (getD (o .members) k 0) a ≡ f a)
 
--- "A refused proof leaves the clauses and accepted lines with their nodes (those of all their entries), zeros above. Number 0 leaves the same":
--- the member list holds the clauses, in file order, and then the roots of the accepted lines, in theirs, each with its value; the table is in
--- good order. The peak covers the count and is within the table; with 23 it is the size.
+-- "A refused proof leaves the clauses and accepted lines with their nodes (those of all their entries), zeros above. Number 0
+-- leaves the same": the member list holds the clauses, in file order, and then the roots of the accepted lines, in theirs, each
+-- with its value; the table is in good order. The peak covers the count and is within the table; with 23 it is the size.
 pub record Kept (i : Lent) (o : Outcome) : Type 0 where
   pub number : (o .number ≤ 23) × (o .number ≢ 0 → 9 ≤ o .number)
   pub peak : (o .count ≤ o .peak) × (o .peak ≤ places i)
@@ -105,8 +118,8 @@ EndsWith (next st) number = ⊥
 EndsWith (stop k offset) number = (k ≡ number) × (offset ≡ cond (eqb number 11) 1 0)
 EndsWith (spent k peak) number = (k ≡ number) × (eqb number 11 ≡ false)
 
--- "9 to 23 [..] the record's first byte (10 with no record begun: the length; 11: the byte after the end record)": the record at which the run ends, all
--- records before it taken, and where the place given is.
+-- "9 to 23 [..] the record's first byte (10 with no record begun: the length; 11: the byte after the end record)": the record at
+-- which the run ends, all records before it taken, and where the place given is.
 pub record AtEnd (i : Lent) (o : Outcome) : Type 0 where
   pub n : ℕ
   pub state : State

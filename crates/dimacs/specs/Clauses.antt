@@ -49,7 +49,8 @@ clauseFrom s n (suc k) first at =
 unfoldable pub clauseAt : List ℕ → ℕ → ℕ → ℕ → Next
 unfolding clauseFrom
 clauseAt s n zero first = cond (ltb first (length s)) (refused 5 first) ended
-clauseAt s n (suc left) first = let here = clauseFrom s n (length s - first) first first in cond (ltb first (length s)) here (refused 5 (length s))
+clauseAt s n (suc left) first =
+    let here = clauseFrom s n (length s - first) first first in cond (ltb first (length s)) here (refused 5 (length s))
 
 -- The next clause from `at` on, in a formula of n variables, where `left` clauses are wanted yet.
 unfoldable pub nextClause : List ℕ → ℕ → ℕ → ℕ → Next

@@ -48,7 +48,8 @@ endsLine s at = eqb (past isBlank s (tokenEnd s at)) (lineEnd s at)
 unfoldable pub isHeader : List ℕ → ℕ → ℕ → ℕ → ℕ → Bool
 unfolding isWord isNatural endsLine
 isHeader s p cnf variables clauses =
-    isWord s p (112 ∷ []) && (isWord s cnf (99 ∷ 110 ∷ 102 ∷ []) && (isNatural (word s variables) && (isNatural (word s clauses) && endsLine s clauses)))
+    isWord s p (112 ∷ [])
+    && (isWord s cnf (99 ∷ 110 ∷ 102 ∷ []) && (isNatural (word s variables) && (isNatural (word s clauses) && endsLine s clauses)))
 
 -- A line judged as the header: the variables, the clauses and where the line ends; else 1 "no proper header" or
 -- 2 "over 64 variables or 1,024 clauses", at the line's start.
@@ -60,7 +61,8 @@ headerAt s at =
     let clauses = nextWord s variables in
     let v = value (word s variables) in
     let c = value (word s clauses) in
-    cond (isHeader s at cnf variables clauses) (cond (leb v 64 && leb c 1024) (Proper v c (lineEnd s clauses)) (Improper 2 at)) (Improper 1 at)
+    let within = cond (leb v 64 && leb c 1024) (Proper v c (lineEnd s clauses)) (Improper 2 at) in
+    cond (isHeader s at cnf variables clauses) within (Improper 1 at)
 
 -- "Place: 1 and 2, start of the line at fault, or the length if there is none"
 unfoldable pub header : List ℕ → Header

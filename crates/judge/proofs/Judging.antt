@@ -11,7 +11,7 @@ use Rattle.meaning.specs.Rules.{Propagation, Line, unitProp, byDiagram, rup, pr
 use Rattle.meaning.specs.Words.{inWord}
 use Rattle.meaning.proofs.Booleans.{t≢f}
 use Rattle.table.specs.Indexed.{Table, size, nodesOf, Good}
-use Rattle.table.specs.Making.{placedAll, Reach, reach, reached, keptReach, lineReach}
+use Rattle.table.specs.Making.{placedAll, reach, reached, keptReach, lineReach}
 use Rattle.table.proofs.Written.{length-nodes}
 use Rattle.table.proofs.PlacedAll.{one-reach, room-reached}
 use Rattle.table.specs.Lists.{diagramsOf, Inside}

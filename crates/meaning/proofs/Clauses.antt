@@ -25,20 +25,7 @@ unfolding branch
 clauseFrom P N zero i = leaf false
 clauseFrom P N (suc k) i = branch i (cond (N i) (leaf true) (clauseFrom P N k (suc i))) (cond (P i) (leaf true) (clauseFrom P N k (suc i)))
 
--- ---- its steps
-
-module _ (P N : ℕ → Bool) (k i : ℕ) where
-  pub clause-skip : P i ≡ false → N i ≡ false → clauseFrom P N (suc k) i ≡ clauseFrom P N k (suc i)
-  unfolding clauseFrom
-  clause-skip p q = rw (p, q) (branch-same i (clauseFrom P N k (suc i)) (clauseFrom P N k (suc i)) refl)
-
-  pub clause-positive : P i ≡ true → N i ≡ false → clauseFrom P N (suc k) i ≡ branch i (clauseFrom P N k (suc i)) (leaf true)
-  unfolding clauseFrom
-  clause-positive p q = rw (p, q)
-
-  pub clause-negative : P i ≡ false → N i ≡ true → clauseFrom P N (suc k) i ≡ branch i (leaf true) (clauseFrom P N k (suc i))
-  unfolding clauseFrom
-  clause-negative p q = rw (p, q)
+-- ---- both signs of a variable
 
 pub clause-tautology : (P N : ℕ → Bool) (k i v : ℕ) → i ≤ v → v < i + k → P v ≡ true → N v ≡ true → clauseFrom P N k i ≡ leaf true
 unfolding clauseFrom
@@ -52,17 +39,6 @@ clause-tautology P N (suc k) i v lo hi p q = go (ℕ-discrete i v) (λ ne. claus
     go : Dec (i ≡ v) → (i ≢ v → clauseFrom P N k (suc i) ≡ leaf true) → clauseFrom P N (suc k) i ≡ leaf true
     go (yes e) ih = rw (e, p, q) (branch-same v (leaf true) (leaf true) refl)
     go (no ne) ih = rw (ih ne, one (N i), one (P i)) (branch-same i (leaf true) (leaf true) refl)
-
-pub clauseFrom-cong : (P N P′ N′ : ℕ → Bool) (k i : ℕ) → ((v : ℕ) → i ≤ v → v < i + k → P v ≡ P′ v) → ((v : ℕ) → i ≤ v → v < i + k → N v ≡ N′ v)
-    → clauseFrom P N k i ≡ clauseFrom P′ N′ k i
-unfolding clauseFrom
-clauseFrom-cong P N P′ N′ zero i p q = refl
-clauseFrom-cong P N P′ N′ (suc k) i p q =
-    rw (
-      p i (omega arith) (omega arith),
-      q i (omega arith) (omega arith),
-      clauseFrom-cong P N P′ N′ k (suc i) (λ v x y. p v (omega arith) (omega arith)) (λ v x y. q v (omega arith) (omega arith)),
-    )
 
 -- ---- reduced, with the clause's values
 

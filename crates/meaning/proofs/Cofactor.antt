@@ -34,15 +34,6 @@ cofactor-where n f g a p e = cofactor-value n f g a p ∙ ap (value f) (nearest-
 unfoldable pub cofactorFrom : ℕ → ℕ → Diagram → Diagram → Diagram
 cofactorFrom k i f g = diagramFrom k i (λ a. valueFrom i f (nearest k (valueFrom i g) a))
 
--- the sides of a diagram with variable i at its root
-pub side-root : (i : ℕ) (b : Bool) (l h : Diagram) → side i b (node i l h) ≡ cond b h l
-unfolding side
-side-root i b l h = go (ℕ-discrete i i)
-  where
-    go : (d : Dec (i ≡ i)) → _≡_ {A = Diagram} (elim d [ yes e ↦ cond b h l | no n ↦ node i l h ]) (cond b h l)
-    go (yes p) = refl
-    go (no n) = absurd (n refl)
-
 -- and of one without it
 pub side-below : (i e : ℕ) (b : Bool) (t : Diagram) → Reduced (suc i) e t → side i b t ≡ t
 unfolding side

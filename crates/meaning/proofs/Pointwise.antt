@@ -68,10 +68,6 @@ module _ (n : ℕ) where
   unfolding clause
   clause-reduced ls = diagram-reduced n _
 
-  pub entry-reduced : (v : ℕ) (l h : Diagram) → Reduced 1 (suc n) (entry n v l h)
-  unfolding entry
-  entry-reduced v l h = diagram-reduced n _
-
   pub conjunction-reduced : (f g : Diagram) → Reduced 1 (suc n) (conjunction n f g)
   unfolding conjunction
   conjunction-reduced f g = diagram-reduced n _

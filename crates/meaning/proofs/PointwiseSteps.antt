@@ -8,7 +8,7 @@ use native.Mathlib.Omega.{arith}
 use lib.ListN.{length, take}
 use lib.Seq.{getD-take, length-take-le}
 use Rattle.meaning.specs.Diagram.{Assignment, holds, Diagram, leaf, node, valueFrom, value, Reduced, branch}
-use Rattle.meaning.specs.Operations.{entry, conjunction, negation, forced, cofactorLiterals}
+use Rattle.meaning.specs.Operations.{conjunction, negation, forced, cofactorLiterals}
 use Rattle.meaning.proofs.Canonical.{reduced-from, branch-reduced, side, side-reduced}
 use Rattle.meaning.proofs.Booleans.{not-not, not-cond, and-cond, and-same, and-commutes}
 use Rattle.meaning.proofs.Values.{value-agree, value-take, branch-at, side-at, diagram-cong, diagram-is, diagram-width}
@@ -82,10 +82,6 @@ module _ (n : ℕ) where
       both-from b = conjunction-from n (suc x) (side x b f) (side x b g) (side-reduced x (suc n) b f of) (side-reduced x (suc n) b g og)
 
 -- ---- entries
-
-pub entry-branch : (n v : ℕ) (l h : Diagram) → 1 ≤ v → v ≤ n → Reduced (suc v) (suc n) l → Reduced (suc v) (suc n) h → entry n v l h ≡ branch v l h
-unfolding entry
-entry-branch n v l h lo hi ol oh = diagram-is n _ (branch v l h) (reduced-branch n v l h lo hi ol oh) (λ a len. sym (branch-at 1 v l h a))
 
 -- ---- the cofactor by literals
 

@@ -7,18 +7,13 @@ use native.Mathlib.Nat.{one-mul, div-eq-of-lt, div-self, zero-div, pow-suc, mul-
 use native.Mathlib.Omega.{arith}
 use native.Mathlib.Decide.{ℕ-discrete, decLt}
 use lib.Dec.{eqb}
-use lib.ListN.{length, getD}
+use lib.ListN.{getD}
 use lib.Bits.{bitAnd, bitOr, and-shr, and-mod, or-shr, or-mod}
 use lib.Pow.{pow-pos, pow-lt, pow-add, shl-exact, shl-shr}
 use borrow.Author.Tests.{eq-eqb, ne-eqb}
 use Rattle.meaning.specs.Words.{inWord, truthFrom}
 
 -- ---- the assignment
-
-pub length-truth : (i k w : ℕ) → length (truthFrom i k w) ≡ k
-unfolding truthFrom
-length-truth i zero w = refl
-length-truth i (suc k) w = ap suc (length-truth (suc i) k w)
 
 pub truth-at : (i k w j : ℕ) → j < k → getD (truthFrom i k w) j false ≡ inWord w (i + j)
 unfolding truthFrom

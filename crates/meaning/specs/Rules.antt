@@ -1,4 +1,5 @@
--- UnitProp, RUP and PR over diagrams, each with its rounds and with the diagrams that it makes, in 01's making order. (01, The rules; 002, sections 3 and 4)
+-- UnitProp, RUP and PR over diagrams, each with its rounds and with the diagrams that it makes, in 01's making order. (01, The
+-- rules; 002, sections 3 and 4)
 use mathlib.Core.Bool.{Bool, true, false, _&&_, _||_, cond}
 use mathlib.Core.List.{List, [], _∷_, _++_, map}
 use mathlib.Core.Option.{Option, none, some}

@@ -1,4 +1,5 @@
--- The slice that three columns give, and what the inner calls say of arrays whose first n places are the columns. No call open to others cites this file.
+-- The slice that three columns give, and what the inner calls say of arrays whose first n places are the columns. No call open to
+-- others cites this file.
 use mathlib.Core.Bool.{cond, false}
 use mathlib.Core.List.{List, [], _∷_}
 use Prim.Native.Nat.{ℕ}
@@ -35,7 +36,11 @@ checkWithin n vars lows highs count members scratch formula proof =
     cond (leb n 65536) (check (take n vars) (take n lows) (take n highs) count members scratch formula proof) seven
 
 unfoldable pub operationWithin : Operation → ℕ → List ℕ → List ℕ → List ℕ → ℕ → ℕ → ℕ → Made
-operationWithin op n vars lows highs count f g = cond (leb n 65536) (operation op (take n vars) (take n lows) (take n highs) count f (secondOf op g)) (unchanged vars lows highs count 7)
+operationWithin op n vars lows highs count f g =
+    cond (leb n 65536) (operation op (take n vars) (take n lows) (take n highs) count f (secondOf op g))
+    (unchanged vars lows highs count 7)
 
 unfoldable pub evaluationWithin : ℕ → List ℕ → List ℕ → List ℕ → ℕ → ℕ → ℕ → Evaluated
-evaluationWithin n vars lows highs count f word = cond (leb n 65536) (evaluation (take n vars) (take n lows) (take n highs) count f word) (record { number = 7; yes = false; count = count })
+evaluationWithin n vars lows highs count f word =
+    cond (leb n 65536) (evaluation (take n vars) (take n lows) (take n highs) count f word)
+    (record { number = 7; yes = false; count = count })

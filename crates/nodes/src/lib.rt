@@ -34,8 +34,8 @@ pub extern "C" fn cablesalak_check_nodes<'a>(
     formula: &'a [u8],
     proof: &'a [u8],
 ) -> Checked
-    ensures { λ r. ⌜ (outcomeOf (varsOf (now (nodes .exit))) (lowsOf (now (nodes .exit))) (highsOf (now (nodes .exit))) (now (members .exit))
-        (now (scratch .exit)) r
+    ensures { λ r. ⌜ (outcomeOf (varsOf (now (nodes .exit))) (lowsOf (now (nodes .exit))) (highsOf (now (nodes .exit)))
+        (now (members .exit)) (now (scratch .exit)) r
         ≡ check (varsOf (now (nodes .entry))) (lowsOf (now (nodes .entry))) (highsOf (now (nodes .entry))) count (now (members .entry))
         (now (scratch .entry)) (now (formula .entry)) (now (proof .entry)))
         × (r .number ≡ 0 → Unsatisfiable (now (formula .entry))) ⌝ }

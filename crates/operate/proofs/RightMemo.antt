@@ -1,12 +1,12 @@
 -- The memo: what a cell tells is right, and it stays right as the table grows and as a right result is stored; an empty one is right.
 -- The idea: an entry speaks of diagrams, which old numbers keep, and a packed entry has one reading. Assumes nothing.
-use mathlib.Core.Path.{_≡_, refl, sym, ap, ap₂, _∙_, subst}
+use mathlib.Core.Path.{_≡_, sym, ap, ap₂, _∙_, subst}
 use mathlib.Core.List.{List, []}
-use Prim.Native.Nat.{ℕ, zero, suc, _+_, _*_, _/_, _%_, _≤_, _<_}
+use Prim.Native.Nat.{ℕ, _+_, _*_, _/_, _%_, _≤_, _<_}
 use native.Mathlib.Omega.{arith}
 use native.Mathlib.Decide.{ℕ-discrete}
-use lib.ListN.{length, getD, set, replicate, length-set, length-replicate}
-use lib.Seq.{getD-set-same, getD-set-other, ext-getD}
+use lib.ListN.{length, getD, set, replicate, length-set}
+use lib.Seq.{getD-set-same, getD-set-other}
 use Rattle.table.specs.Indexed.{Table, tableOf}
 use Rattle.table.proofs.Zeros.{zeros-at, Cleared}
 use Rattle.table.proofs.Outcomes.{Longer}

@@ -1,7 +1,8 @@
 // The memo of the recursion: a hash table of results in the slice that is lent, in as much of it as there is use for. A result may stand in
-// any of the eight cells from its home on; where all of them hold others, one of those gives way. So no search is long, and what is forgotten
-// is what has not been asked for a while. Where so much is forgotten that work is done again and again, only every step-th variable's results
-// are held, so that the work is bounded by the cells times 2 to the step, and not by the number of paths.
+// any of the eight cells from its home on; where all of them hold others, one of those gives way. So no search is long, and what is
+// forgotten is what has not been asked for a while. Where so much is forgotten that work is done again and again, only every
+// step-th variable's results are held, so that the work is bounded by the cells times 2 to the step, and not by the number of
+// paths.
 use crate::top_of;
 use table::Found;
 use table::NodeNo;

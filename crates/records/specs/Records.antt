@@ -1,4 +1,5 @@
--- The records of a proof: which one stands at a place of the bytes, its length, and the number of each case that is refused. (01, The proof)
+-- The records of a proof: which one stands at a place of the bytes, its length, and the number of each case that is refused. (01,
+-- The proof)
 use mathlib.Core.Bool.{Bool, true, false, cond}
 use mathlib.Core.List.{List, [], _∷_}
 use Prim.Native.Nat.{ℕ, _+_, _*_}

@@ -1,13 +1,13 @@
 -- The line read back gives its five numbers, so a line that begins with the number 0 is said only of a formula that nothing satisfies.
 -- Case A by computation. Assumes nothing.
-use mathlib.Core.Path.{_≡_, refl, sym, ap, _∙_, subst}
-use mathlib.Core.Bool.{Bool, true, false, cond}
-use mathlib.Core.List.{List, [], _∷_, _++_, append-assoc, append-nil}
+use mathlib.Core.Path.{_≡_, refl, sym, ap, _∙_}
+use mathlib.Core.Bool.{Bool, true, false}
+use mathlib.Core.List.{List, [], _∷_, _++_, append-assoc}
 use Prim.Native.Nat.{ℕ, zero, suc, _+_, _-_, _*_, _/_, _%_, _≤_, _<_}
 use native.Mathlib.Omega.{arith}
 use native.Mathlib.Decide.{ℕ-discrete}
-use lib.ListN.{length, getD}
-use lib.Dec.{ltb, leb}
+use lib.ListN.{getD}
+use lib.Dec.{ltb}
 use borrow.Author.Tests.{ltb-true, ltb-false, le-leb, lt-leb}
 use Rattle.meaning.specs.Diagram.{Assignment, diagramFrom, same?, valueFrom}
 use Rattle.meaning.specs.Operations.{clause, conjunction, cofactor}
@@ -20,7 +20,7 @@ use Rattle.verdict.specs.Check.{verdict}
 use Rattle.verdict.specs.Cases.{bytes, unitsTo, A-formula, A-proof}
 use Rattle.verdict.specs.Satisfies.{clausesOf, readToEnd, satisfies}
 use Rattle.report.specs.declared.Line.{Line}
-use Rattle.report.specs.Line.{decimalBy, decimal, field, lineBytes, isDigit, numbersAfter, numbersOf}
+use Rattle.report.specs.Line.{decimalBy, decimal, field, lineBytes, numbersAfter, numbersOf}
 use Rattle.report.specs.Files.{said}
 use Rattle.report.proofs.Digits.{by, decimal-small, decimal-more}
 use Rattle.report.proofs.Saying.{said-refuted}

@@ -1,16 +1,16 @@
 -- What is said of two files, case by case, and what a 0 said of them means. Assumes nothing.
-use mathlib.Core.Path.{_≡_, refl, sym, ap, _∙_, subst}
-use mathlib.Core.Bool.{Bool, true, false, cond, not}
-use mathlib.Core.List.{List, [], _∷_}
-use Prim.Native.Nat.{ℕ, zero, suc, _+_, _≤_, _<_}
+use mathlib.Core.Path.{_≡_, refl, sym, _∙_}
+use mathlib.Core.Bool.{Bool, true, false}
+use mathlib.Core.List.{List}
+use Prim.Native.Nat.{ℕ, _≤_, _<_}
 use native.Mathlib.Omega.{arith}
-use lib.ListN.{length, replicate}
+use lib.ListN.{length}
 use lib.Dec.{ltb, eqb}
 use borrow.Author.Tests.{lt-ltb, le-ltb, eq-eqb, ne-eqb, eqb-true}
 use Rattle.meaning.specs.Diagram.{Assignment}
 use Rattle.table.specs.Columns.{sizeFits}
 use Rattle.dimacs.specs.Clauses as dimacs
-use Rattle.verdict.specs.Check.{Verdict, verdict, Outcome, lentFits, outcome, check, zeros}
+use Rattle.verdict.specs.Check.{verdict, Outcome, lentFits, outcome, check, zeros}
 use Rattle.verdict.specs.Satisfies.{clausesOf, readToEnd, satisfies}
 use Rattle.verdict.proofs.Refuted.{refuted}
 use Rattle.report.specs.declared.Line.{Line}

@@ -22,7 +22,8 @@ decimal n = decimalBy (suc n) n
 abbrev pub field : ℕ → ℕ → List ℕ
 field n parting = decimal n ++ parting ∷ []
 
--- "prints one line: number, place, accepted lines, rounds", and the peak "as a fifth field" (02, 2/14): parted by a space each, LF at the end.
+-- "prints one line: number, place, accepted lines, rounds", and the peak "as a fifth field" (02, 2/14): parted by a space each, LF
+-- at the end.
 unfoldable pub lineBytes : Line → List ℕ
 lineBytes l = field (l .number) 32 ++ (field (l .place) 32 ++ (field (l .lines) 32 ++ (field (l .rounds) 32 ++ field (l .peak) 10)))
 

@@ -67,8 +67,8 @@ fn refused(number: u8, place: usize) -> Line
     }
 }
 
-// The line on two files: 25 and 24 of the formula, then of the proof, then the check's. `first` and `second` tell whether the formula and the
-// proof could be read.
+// The line on two files: 25 and 24 of the formula, then of the proof, then the check's. `first` and `second` tell whether the
+// formula and the proof could be read.
 pub fn line_on<'a>(first: bool, formula: &'a [u8], second: bool, proof: &'a [u8]) -> Line
     ensures { λ r. ⌜ r ≡ said first (now (formula .entry)) second (now (proof .entry)) ⌝ }
 {

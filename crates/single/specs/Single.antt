@@ -1,5 +1,5 @@
--- What the five single calls say and leave. (01, What the call says and leaves: "Single calls: 7, 26, 13, then 27 [..] or 15 [..], then 23";
--- "A refused single call changes nothing"; "with a refusal the node is 0 (evaluation: no)")
+-- What the five single calls say and leave. (01, What the call says and leaves: "Single calls: 7, 26, 13, then 27 [..] or 15 [..],
+-- then 23"; "A refused single call changes nothing"; "with a refusal the node is 0 (evaluation: no)")
 use mathlib.Core.Bool.{Bool, not, _&&_, cond}
 use mathlib.Core.List.{List}
 use Prim.Native.Nat.{ℕ, suc}
@@ -18,7 +18,8 @@ use Rattle.single.specs.declared.call.Single.{Single}
 -- 7, 26 and 13 in their order for the nodes f and g; 0 where none is given.
 unfoldable pub refusal : List ℕ → List ℕ → List ℕ → ℕ → ℕ → ℕ → ℕ
 refusal vars lows highs count f g =
-    cond (not (sizeFits vars lows highs)) 7 (cond (not (goodOrder (rows vars lows highs) count)) 26 (cond (ltb f count && ltb g count) 0 13))
+    cond (not (sizeFits vars lows highs)) 7
+    (cond (not (goodOrder (rows vars lows highs) count)) 26 (cond (ltb f count && ltb g count) 0 13))
 
 -- "Evaluation, where it does not refuse, says yes exactly when the node's value under the word's assignment is 1." (01, Values)
 unfoldable pub evaluation : List ℕ → List ℕ → List ℕ → ℕ → ℕ → ℕ → Evaluated
@@ -38,10 +39,12 @@ pub record Made : Type 0 where
   pub columns : Columns
 
 abbrev pub madeOf : List ℕ → List ℕ → List ℕ → Single → Made
-madeOf vars lows highs r = record { number = r .number; node = r .node .0; count = r .count; columns = record { vars = vars; lows = lows; highs = highs } }
+madeOf vars lows highs r =
+    record { number = r .number; node = r .node .0; count = r .count; columns = record { vars = vars; lows = lows; highs = highs } }
 
 abbrev pub unchanged : List ℕ → List ℕ → List ℕ → ℕ → ℕ → Made
-unchanged vars lows highs count number = record { number = number; node = 0; count = count; columns = record { vars = vars; lows = lows; highs = highs } }
+unchanged vars lows highs count number =
+    record { number = number; node = 0; count = count; columns = record { vars = vars; lows = lows; highs = highs } }
 
 -- "15 (cofactor by literals, a variable in both sets)"
 unfoldable pub sharesVariable : ℕ → ℕ → Bool

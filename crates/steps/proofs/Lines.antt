@@ -12,7 +12,7 @@ use Rattle.meaning.specs.Rules.{Line, witnessed}
 use Rattle.meaning.specs.Words.{inWord}
 use Rattle.table.specs.Indexed.{Table, size, nodesOf}
 use Rattle.walks.specs.Readable.{Roomy}
-use Rattle.table.specs.Making.{Reach, reach, lineReach}
+use Rattle.table.specs.Making.{reach, lineReach}
 use Rattle.table.proofs.Written.{length-nodes}
 use Rattle.table.proofs.Outcomes.{droppedTo, undone}
 use Rattle.records.specs.declared.Rule.{Rule}

@@ -13,7 +13,7 @@ use Rattle.dimacs.specs.Header.{header}
 use Rattle.dimacs.specs.Clauses.{Reading, clause, complete, refusal, clausesFrom}
 use Rattle.records.specs.Records.{recordAt, lengthOf, numberOf}
 use Rattle.records.proofs.Laws.{record-takes, record-within}
-use Rattle.verdict.specs.Check.{State, emptied, begun, Step, next, stop, spent, step, left, afterStep, records, afterClause, clauses, afterHeader, verdict}
+use Rattle.verdict.specs.Check.{State, emptied, begun, Step, next, stop, spent, step, afterStep, records, afterClause, clauses, afterHeader, verdict}
 use Rattle.verdict.specs.Run.{Function, Meant, Making, opened, made, follows, Reached, begins, goes, Ended, no-header, not-read, no-room, stopped, tried}
 use Rattle.verdict.proofs.Steps.{next-form, step-taken}
 use Rattle.verdict.proofs.Standing.{Standing, step-standing}

@@ -1,14 +1,11 @@
 -- What the members stand for is fixed by the bytes: the formula's clauses, and then the roots of the accepted lines, as the proof's records give
 -- them. The idea: the run's functions and those of the records read on from there are the same. Assumes nothing.
 use mathlib.Core.Path.{_≡_, refl, sym, ap, _∙_}
-use mathlib.Core.Bool.{Bool}
 use mathlib.Core.List.{List, [], _∷_, _++_, append-assoc, append-nil}
 use Prim.Native.Nat.{ℕ, zero, suc, _+_, _-_, _≤_}
 use native.Mathlib.Omega.{arith}
 use lib.ListN.{length, take, length-append}
 use lib.Seq.{take-append-seam, length-take-le}
-use Rattle.table.proofs.Growth.{ordered-dropped}
-use Rattle.table.proofs.Order.{Ordered}
 use Rattle.records.specs.declared.Record.{Record}
 use Rattle.records.specs.declared.Record.the-variants.{NodeEntry, Witness, ProofLine, End, CutShort, UnknownKind, NoRecord}
 use Rattle.records.specs.Records.{recordAt, lengthOf}

@@ -2,7 +2,7 @@
 -- where it is given. Assumes nothing.
 use mathlib.Core.Path.{_≡_, refl, subst}
 use mathlib.Core.Logic.{_≢_}
-use mathlib.Core.Bool.{Bool, true, false, not, _&&_, _||_, cond}
+use mathlib.Core.Bool.{Bool, not, _&&_, _||_, cond}
 use mathlib.Core.List.{List}
 use Prim.Native.Nat.{ℕ, zero, suc, _+_, _≤_}
 use native.Mathlib.Omega.{arith}
@@ -12,7 +12,6 @@ use Rattle.meaning.specs.Rules.{Line, witnessed}
 use Rattle.meaning.specs.Words.{inWord}
 use Rattle.table.specs.Nodes.{Node, above, Placing, full, placed, put}
 use Rattle.table.specs.Making.{lineReach}
-use Rattle.dimacs.specs.declared.Header.the-variants.{Improper}
 use Rattle.dimacs.specs.Clauses.{refusal}
 use Rattle.records.specs.declared.NodeBody.{NodeBody}
 use Rattle.records.specs.declared.Rule.{Rule}
@@ -20,7 +19,7 @@ use Rattle.records.specs.declared.Rule.the-variants.{Rup, Pr}
 use Rattle.records.specs.declared.Record.{Record}
 use Rattle.records.specs.declared.Record.the-variants.{NodeEntry, Witness, ProofLine, End, CutShort, UnknownKind, NoRecord}
 use Rattle.records.specs.Records.{recordAt}
-use Rattle.verdict.specs.Check.{State, Step, next, stop, spent, isEntry, entryNode, isVariable, entered, nodeStep, witnessStep, waiting, accepted, judged, diagramIn, lineStep, endStep, step, Verdict, left, refusedFormula}
+use Rattle.verdict.specs.Check.{State, Step, next, stop, spent, isEntry, entryNode, isVariable, entered, nodeStep, witnessStep, waiting, judged, diagramIn, lineStep, endStep, step, Verdict, left, refusedFormula}
 use Rattle.verdict.specs.Run.{Function, Meant, Making, follows, Reached, lineOf, peakWith, Ended, no-header, not-read, no-room, stopped, tried}
 use Rattle.verdict.proofs.Formula.{Early, NamedHeader, header-named, Read, either}
 use Rattle.verdict.proofs.Clauses.{Underway, underway}

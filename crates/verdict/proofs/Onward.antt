@@ -1,21 +1,20 @@
 -- From a reached state to what the check leaves: numbers that are not dropped keep their diagrams, and no node of an accepted line is dropped. The
 -- idea: by the steps that are left; the nodes are extended until the last ones are dropped. Assumes nothing.
-use mathlib.Core.Path.{_≡_, refl, ap, _∙_, subst}
+use mathlib.Core.Path.{_≡_, refl, _∙_, subst}
 use mathlib.Core.List.{List}
 use Prim.Native.Nat.{ℕ, zero, suc, _+_, _-_, _≤_, _<_}
 use native.Mathlib.Omega.{arith}
 use native.Mathlib.Decide.{decLt}
 use lib.ListN.{length, take}
 use lib.Seq.{length-take-le}
-use Rattle.table.specs.Nodes.{Node, diagramAt}
+use Rattle.table.specs.Nodes.{diagramAt}
 use Rattle.table.proofs.Growth.{Extends, extends-length, diagramAt-grown, diagramAt-dropped}
 use Rattle.records.specs.declared.Record.{Record}
 use Rattle.records.specs.declared.Record.the-variants.{NodeEntry, Witness, ProofLine, End, CutShort, UnknownKind, NoRecord}
 use Rattle.records.specs.Records.{recordAt, lengthOf}
-use Rattle.records.proofs.Laws.{record-takes, record-within}
 use Rattle.verdict.specs.Check.{State, Step, next, stop, spent, step, Verdict, left, afterStep, records, verdict}
-use Rattle.verdict.specs.Run.{Meant, afterRecord, Taken, follows, Reached}
-use Rattle.verdict.proofs.Steps.{next-form, step-taken}
+use Rattle.verdict.specs.Run.{Meant, Taken, follows, Reached}
+use Rattle.verdict.proofs.Steps.{step-taken}
 use Rattle.verdict.proofs.Standing.{Standing, step-standing, step-extends}
 use Rattle.verdict.proofs.Ends.{reached-standing}
 use Rattle.verdict.proofs.Exactly.{Ahead, reached-ahead}

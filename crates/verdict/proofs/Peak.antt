@@ -7,7 +7,7 @@ use mathlib.Core.List.{List, [], _∷_, _++_}
 use mathlib.Core.Option.{Option, none, some}
 use Prim.Native.Nat.{ℕ, zero, suc, _+_, _≤_, max}
 use native.Mathlib.Omega.{arith}
-use lib.ListN.{length, take}
+use lib.ListN.{length}
 use lib.Seq.{length-take-le}
 use lib.Dec.{eqb, ltb, leb}
 use borrow.Author.Tests.{ltb-true, ltb-false}
@@ -26,8 +26,8 @@ use Rattle.records.specs.declared.Rule.the-variants.{Rup, Pr}
 use Rattle.records.specs.declared.Record.{Record}
 use Rattle.records.specs.declared.Record.the-variants.{NodeEntry, Witness, ProofLine, End, CutShort, UnknownKind, NoRecord}
 use Rattle.records.specs.Records.{recordAt, lengthOf}
-use Rattle.verdict.specs.Check.{State, begun, Step, next, stop, spent, isEntry, entryNode, isVariable, entered, nodeStep, witnessStep, waiting, accepted, judged, diagramIn, lineStep, endStep, step, Verdict, left, afterStep, records, verdict}
-use Rattle.verdict.specs.Run.{Function, Meant, lineOf, peakWith, Taken, Making, follows, Reached, begins, goes, Ended, no-header, not-read, no-room, stopped, tried}
+use Rattle.verdict.specs.Check.{State, Step, next, stop, spent, isEntry, entryNode, isVariable, entered, nodeStep, witnessStep, waiting, accepted, judged, diagramIn, lineStep, endStep, step, Verdict, left, afterStep, records, verdict}
+use Rattle.verdict.specs.Run.{Function, Meant, lineOf, peakWith, Making, follows, Reached, begins, goes, Ended, no-header, not-read, no-room, stopped, tried}
 use Rattle.verdict.proofs.Formula.{Early, NamedHeader, header-named, either}
 use Rattle.verdict.proofs.Steps.{taken-step}
 use Rattle.verdict.proofs.Standing.{Standing}

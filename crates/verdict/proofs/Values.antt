@@ -3,7 +3,7 @@
 -- nodes. Assumes nothing.
 use mathlib.Core.Path.{_≡_, sym, ap, _∙_}
 use mathlib.Core.Bool.{true, false}
-use mathlib.Core.List.{List, [], map, append-nil}
+use mathlib.Core.List.{List, map, append-nil}
 use Prim.Native.Nat.{ℕ, _≤_, _<_}
 use lib.ListN.{length, getD, take}
 use Rattle.meaning.specs.Diagram.{Assignment, Diagram, value}

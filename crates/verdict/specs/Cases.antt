@@ -48,7 +48,8 @@ unfoldable pub unitsTo : ℕ → ℕ → Diagram → List Literal
 unfolding isUnit
 unitsTo n zero f = []ᴸ
 unitsTo n (suc v) f =
-    unitsTo n v f ++ᴸ (cond (isUnit n f (suc v) true) (plus (suc v) ∷ᴸ []ᴸ) []ᴸ ++ᴸ cond (isUnit n f (suc v) false) (minus (suc v) ∷ᴸ []ᴸ) []ᴸ)
+    unitsTo n v f
+    ++ᴸ (cond (isUnit n f (suc v) true) (plus (suc v) ∷ᴸ []ᴸ) []ᴸ ++ᴸ cond (isUnit n f (suc v) false) (minus (suc v) ∷ᴸ []ᴸ) []ᴸ)
 
 -- The rules give the row.
 abbrev pub Gives : Row → Type 0

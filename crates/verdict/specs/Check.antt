@@ -1,8 +1,7 @@
 -- What the check of a formula and a proof says and leaves. Clauses become members; then record after record is judged; a line is
 -- judged by the rules over the members' diagrams, and what it makes must find room. (01)
-use mathlib.Core.Bool.{Bool, true, false, not, _&&_, _||_, cond}
+use mathlib.Core.Bool.{Bool, false, not, _&&_, _||_, cond}
 use mathlib.Core.List.{List, [], _∷_, _++_, map}
-use mathlib.Core.Option.{Option, none, some}
 use Prim.Native.Nat.{ℕ, zero, suc, _+_, _-_, _^_, max}
 use lib.ListN.{length, getD, take, replicate}
 use lib.Dec.{eqb, ltb, leb}
@@ -243,7 +242,8 @@ records (suc steps) n s proof st at =
 
 -- "A refused formula leaves table and lists all zero, count 2."
 abbrev pub refusedFormula : ℕ → ℕ → ℕ → Verdict
-refusedFormula number place peak = record { number = number; place = place; lines = 0; rounds = 0; peak = peak; nodes = emptied; members = [] }
+refusedFormula number place peak =
+    record { number = number; place = place; lines = 0; rounds = 0; peak = peak; nodes = emptied; members = [] }
 
 abbrev pub afterClause : Placing → (List Node → ℕ → Verdict) → ℕ → Verdict
 afterClause (full t) rest first = refusedFormula 8 first (length t)

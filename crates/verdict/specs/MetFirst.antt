@@ -1,9 +1,9 @@
--- A line judged as its diagrams are made, one after the other: "19 or 23, the one met first". (01, What the call says and leaves) No call open to
--- others cites this file: `met-first` says that the definition of the check judges so.
+-- A line judged as its diagrams are made, one after the other: "19 or 23, the one met first". (01, What the call says and leaves)
+-- No call open to others cites this file: `met-first` says that the definition of the check judges so.
 use mathlib.Core.Bool.{Bool, cond}
 use mathlib.Core.List.{List, [], _∷_, map}
 use mathlib.Core.Option.{Option, none, some}
-use mathlib.Core.Bool.{true, false}
+use mathlib.Core.Bool.{true}
 use Prim.Native.Nat.{ℕ, zero, suc}
 use Rattle.meaning.specs.Diagram.{Diagram, leaf, same}
 use Rattle.meaning.specs.Operations.{negation, cofactorLiterals}
@@ -33,8 +33,8 @@ abbrev pub inRound : Option Diagram → (Diagram → Met) → Met
 inRound none go = no-conflict
 inRound (some u) go = go u
 
--- "(a) a member is 0 or the negation of another: conflict; (b) else, if some U is not empty, [..] cofactor all members by its U, [..] go to (a);
--- (c) else no conflict"; "in each round all members by place". With at most so many rounds to come: n are enough.
+-- "(a) a member is 0 or the negation of another: conflict; (b) else, if some U is not empty, [..] cofactor all members by its U,
+-- [..] go to (a); (c) else no conflict"; "in each round all members by place". With at most so many rounds to come: n are enough.
 unfoldable pub propagating : ℕ → ℕ → ℕ → List Node → List Diagram → Met
 unfolding conflicts firstWithUnit byUnits making
 propagating s zero n t ms = cond (conflicts n ms) all-shown no-conflict
@@ -47,8 +47,9 @@ andThen all-shown later = later
 andThen no-conflict later = no-conflict
 andThen no-place later = no-place
 
--- "for each member f, by place, with h = f under ω: h is 1, or UnitProp of the members cofactored by not-g and then by not-h conflicts"; "in PR, per
--- member, h, not-h, the second cofactors; in each round all members by place. In PR the nodes of one member's turn are dropped before the next."
+-- "for each member f, by place, with h = f under ω: h is 1, or UnitProp of the members cofactored by not-g and then by not-h
+-- conflicts"; "in PR, per member, h, not-h, the second cofactors; in each round all members by place. In PR the nodes of one
+-- member's turn are dropped before the next."
 unfoldable pub turning : ℕ → ℕ → (ℕ → Bool) → (ℕ → Bool) → List Node → List Diagram → List Diagram → Met
 unfolding making propagating
 turning s n P N t ms′ [] = all-shown

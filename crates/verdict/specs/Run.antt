@@ -1,5 +1,5 @@
--- The run of a check as 01 tells it: the functions that members and entries stand for, what a record has to pass to be taken, the states between
--- records, and where the run ends. No call open to others cites this file: the theorems on what `check` says do.
+-- The run of a check as 01 tells it: the functions that members and entries stand for, what a record has to pass to be taken, the
+-- states between records, and where the run ends. No call open to others cites this file: the theorems on what `check` says do.
 use mathlib.Core.Path.{_≡_}
 use mathlib.Core.Logic.{_≢_}
 use mathlib.Core.Bool.{Bool, true, false, not, cond}
@@ -22,7 +22,8 @@ use Rattle.records.specs.declared.Rule.the-variants.{Rup, Pr}
 use Rattle.records.specs.declared.Record.{Record}
 use Rattle.records.specs.declared.Record.the-variants.{NodeEntry, Witness, ProofLine, End, CutShort, UnknownKind, NoRecord}
 use Rattle.records.specs.Records.{recordAt, lengthOf}
-use Rattle.verdict.specs.Check.{State, emptied, begun, stop, spent, isEntry, entryNode, withVariable, waiting, accepted, diagramIn, step, Verdict, left, refusedFormula}
+use Rattle.verdict.specs.Check.{State, emptied, begun, stop, spent, isEntry, entryNode, withVariable, waiting, accepted}
+use Rattle.verdict.specs.Check.{diagramIn, step, Verdict, left, refusedFormula}
 use Rattle.verdict.specs.Satisfies.{clausesOf}
 
 -- ---- what members and entries stand for
@@ -47,7 +48,8 @@ entryMeant m e = getD (numberedMeant m) e (λ a. false)
 abbrev pub nodeMeant : Meant → NodeBody → Function
 nodeMeant m b a = cond (holds a (b .variable)) (entryMeant m (b .high .0) a) (entryMeant m (b .low .0) a)
 
--- After a record that is not refused: "Makes the next entry"; "After an accepted line its root is the next member and entries [..] start anew."
+-- After a record that is not refused: "Makes the next entry"; "After an accepted line its root is the next member and entries [..]
+-- start anew."
 unfoldable pub afterRecord : Meant → Record → Meant
 unfolding entryMeant
 afterRecord m (NodeEntry b) = record { members = m .members; entries = m .entries ++ nodeMeant m b ∷ [] }
@@ -152,8 +154,8 @@ Witnessed n st Pr g = witnessed n (inWord (st .positive)) (inWord (st .negative)
 abbrev pub peakWith : ℕ → State → Line → ℕ
 peakWith s st line = max (st .peak) (lineReach s (st .nodes) line .peak)
 
--- "RUP: 10, 13, 16, 22, 17, then 19 or 23 [..]. PR: 10, 13, 22, 17, 18, then the same": none of them holds: its rule shows the line, and all
--- that it makes finds room.
+-- "RUP: 10, 13, 16, 22, 17, then 19 or 23 [..]. PR: 10, 13, 22, 17, 18, then the same": none of them holds: its rule shows the
+-- line, and all that it makes finds room.
 pub record LineTaken (n s : ℕ) (st : State) (rule : Rule) (root : ℕ) (st′ : State) : Type 0 where
   pub entry : isEntry st root ≡ true
   pub few : st .lines < 1024
@@ -161,7 +163,7 @@ pub record LineTaken (n s : ℕ) (st : State) (rule : Rule) (root : ℕ) (st′ 
   pub witness : Witnessed n st rule (entryNode st root)
   pub fits : lineReach s (st .nodes) (lineOf n st rule (entryNode st root)) .fits ≡ true
   pub shown : lineOf n st rule (entryNode st root) .shown ≡ true
-  pub is : accepted st (entryNode st root) (lineOf n st rule (entryNode st root)) (peakWith s st (lineOf n st rule (entryNode st root))) ≡ st′
+  pub is : (let line = lineOf n st rule (entryNode st root) in accepted st (entryNode st root) line (peakWith s st line) ≡ st′)
 
 -- What a record has to pass, by its kind, and the state that it leads to. No other record is followed by a state.
 abbrev pub Taken : ℕ → ℕ → State → Record → State → Type 0
@@ -201,9 +203,9 @@ pub data Later (s : ℕ) (proof : List ℕ) (n : ℕ) (st : State) (at : ℕ) : 
   after : {st₁ st₂ : State} {at₁ : ℕ} → Later s proof n st at st₁ at₁ → Taken n s st₁ (recordAt proof at₁) st₂
       → Later s proof n st at st₂ (at₁ + lengthOf (recordAt proof at₁))
 
--- How a check ends, with what it says and leaves: there is no proper header; a token of the formula is refused, all clauses before it made; a
--- clause finds no room; a record is refused before it makes a node, or ends the proof; or it is refused once it made some; all records before it
--- taken. Each gives its number, its place and the greatest count.
+-- How a check ends, with what it says and leaves: there is no proper header; a token of the formula is refused, all clauses before
+-- it made; a clause finds no room; a record is refused before it makes a node, or ends the proof; or it is refused once it made
+-- some; all records before it taken. Each gives its number, its place and the greatest count.
 pub data Ended (s : ℕ) (text proof : List ℕ) : Verdict → Type 0 where
   no-header : {number place : ℕ} → header text ≡ Improper number place → Ended s text proof (refusedFormula number place (length emptied))
   not-read : {n many number place : ℕ} {t : List Node} {ms : List ℕ} {fs : List Function}

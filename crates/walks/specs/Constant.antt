@@ -25,7 +25,8 @@ sidesBy positive negative l h = cond positive (sides h h) (cond negative (sides 
 -- The same of node k under the words' literals.
 unfoldable pub sidesUnder : List ℕ → List ℕ → List ℕ → ℕ → ℕ → ℕ → SidesUnder
 unfolding inWord
-sidesUnder vs ls hs k positive negative = sidesBy (inWord positive (getD vs k 0)) (inWord negative (getD vs k 0)) (getD ls k 0) (getD hs k 0)
+sidesUnder vs ls hs k positive negative =
+    sidesBy (inWord positive (getD vs k 0)) (inWord negative (getD vs k 0)) (getD ls k 0) (getD hs k 0)
 
 -- The cofactor of every node that a cell of the memo names is known to be 1.
 unfoldable pub OneMemo : List ℕ → List Node → ℕ → ℕ → Type 0

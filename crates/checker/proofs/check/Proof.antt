@@ -1,6 +1,6 @@
 -- `checker::check` meets its contract: the equation is the inner call's, and that 0 means unsatisfiable is the definition's. The idea:
 -- `check-refuted`. Assumes nothing.
-use mathlib.Core.Path.{_≡_, sym, ap, _∙_}
+use mathlib.Core.Path.{sym, ap, _∙_}
 use borrow.Author.Needs.{needs}
 use Rattle.checker.proofs.check.Statement.{statement}
 use Rattle.checker.proofs.check.Tie as tie

@@ -1,5 +1,4 @@
 -- A number's digits: one below 10, else those of its tenth and one more. The number falls. Assumes nothing.
-use mathlib.Core.List.{List}
 use Prim.Native.Nat.{ℕ, _<_}
 use native.Mathlib.Omega.{arith}
 use borrow.Author.Needs.{needs}
