@@ -98,7 +98,8 @@ nineteen-only i z = go (check-place i (λ _. omega arith))
 
     go : AtEnd i (checked i) → AtLine i (checked i) no-conflict
     go E =
-        let (rule, root, here, meets) = tried (E .n) (E .state) (E .at) (step (E .n) (places i) (E .state) (follows (i .proof) (E .at)) (recordAt (i .proof) (E .at))) refl (subst (EndsWith _) z (E .says)) in
+        let x : Step = step (E .n) (places i) (E .state) (follows (i .proof) (E .at)) (recordAt (i .proof) (E .at)) in
+        let (rule, root, here, meets) = tried (E .n) (E .state) (E .at) x refl (subst (EndsWith x) z (E .says)) in
         let offset : E .at + 0 ≡ E .at = omega arith in
         record {
           n = E .n;
