@@ -12,10 +12,11 @@ use lib.Seq.{take-suc, getD-take, length-take-le, take-take, take-length, take-a
 use borrow.Author.Tests.{lt-ltb, le-ltb}
 use Rattle.table.specs.declared.NodeNo.{NodeNo}
 use Rattle.table.specs.declared.Found.the-variants.{At, Nothing}
-use Rattle.table.specs.Nodes.{Node, nodeOf, blank, at, find, put, orAppend, placed, full}
+use Rattle.table.specs.Nodes.{Node, nodeOf, blank, at, find, put, orAppend, placed, full, tookPlace}
 use Rattle.table.specs.Columns.{padded, Columns, columnsOf}
 use Rattle.table.specs.Indexed.{bucket, bucketAt, Index, indexMade, insert, indexFrom, indexOf, Table, tableOf, size, nodesOf, indexed, Good, Outcome, written, foundOf}
 use Rattle.table.proofs.Written.{at-padded, rows-columns, length-nodes, size-indexed, lows-indexed, highs-indexed}
+use Rattle.table.proofs.Growth.{length-new}
 use Rattle.table.proofs.Placing.{put-same, put-differ}
 use Rattle.table.proofs.Index.{index-last, index-same, remove, index-remove}
 use Rattle.table.proofs.Chain.{rows-at}
@@ -148,6 +149,37 @@ module _ (T : Table) (G : Good T) (v l h : ℕ) where
         let len : length (nodesOf T) ≡ T .count = length-nodes T G in
         ap (λ (w : Table). outcome w true 0) (G .written)
         ∙ ap (written (size T)) (sym (put-differ (size T) (nodesOf T) v l h ne ∙ ap (orAppend (size T) (nodesOf T) (nodeOf v l h)) e ∙ append-full (size T) (nodesOf T) (nodeOf v l h) (omega arith)))
+
+  -- ---- whether the place is new
+
+  abbrev took : Bool
+  took = tookPlace (nodesOf T) (put (size T) (nodesOf T) v l h)
+
+  none-taken : (k : ℕ) → put (size T) (nodesOf T) v l h ≡ placed (nodesOf T) k → false ≡ took
+  unfolding tookPlace
+  none-taken k e = rw e (sym (le-ltb (length (nodesOf T)) (length (nodesOf T)) (omega arith)))
+
+  pub took-equal : l ≡ h → false ≡ took
+  took-equal e = none-taken l (put-same (size T) (nodesOf T) v l h e)
+
+  module _ (ne : l ≡ h → ⊥) where
+    pub took-found : (k : ℕ) → find (nodesOf T) (nodeOf v l h) ≡ some k → false ≡ took
+    unfolding orAppend
+    took-found k e = none-taken k (put-differ (size T) (nodesOf T) v l h ne ∙ ap (orAppend (size T) (nodesOf T) (nodeOf v l h)) e)
+
+    pub took-new : find (nodesOf T) (nodeOf v l h) ≡ none → T .count < size T → true ≡ took
+    unfolding tookPlace
+    took-new e lt =
+        let len : length (nodesOf T) ≡ T .count = length-nodes T G in
+        let is : put (size T) (nodesOf T) v l h ≡ placed (nodesOf T ++ nodeOf v l h ∷ []) (length (nodesOf T)) =
+        put-differ (size T) (nodesOf T) v l h ne ∙ ap (orAppend (size T) (nodesOf T) (nodeOf v l h)) e ∙ append-room (size T) (nodesOf T) (nodeOf v l h) (omega arith) in
+        rw is (sym (lt-ltb (length (nodesOf T)) (length (nodesOf T ++ nodeOf v l h ∷ [])) (omega (arith, length-new (nodesOf T) (nodeOf v l h)))))
+
+    pub took-full : find (nodesOf T) (nodeOf v l h) ≡ none → size T ≤ T .count → false ≡ took
+    unfolding tookPlace
+    took-full e le =
+        let len : length (nodesOf T) ≡ T .count = length-nodes T G in
+        rw (put-differ (size T) (nodesOf T) v l h ne ∙ ap (orAppend (size T) (nodesOf T) (nodeOf v l h)) e ∙ append-full (size T) (nodesOf T) (nodeOf v l h) (omega arith)) refl
 
 -- ---- dropping
 

@@ -6,6 +6,7 @@ use Prim.Native.Nat.{ℕ, zero, suc, _+_, _-_, _*_, _%_, _≤_}
 use lib.ListN.{length, getD, set, take, replicate}
 use mathlib.Core.Option.{Option, none, some}
 use Rattle.table.specs.declared.Placed.{Placed}
+use Rattle.table.specs.declared.NodePlaced.{NodePlaced}
 use Rattle.table.specs.declared.Found.{Found}
 use Rattle.table.specs.declared.Found.the-variants.{At, Nothing}
 use Rattle.table.specs.Nodes.{Node, at, nodesInOrder, Placing, full, placed}
@@ -103,6 +104,9 @@ pub record Outcome : Type 0 where
 
 abbrev pub outcomeOf : List ℕ → List ℕ → List ℕ → List ℕ → List ℕ → Placed → Outcome
 outcomeOf vs ls hs ds ks p = record { table = tableOf vs ls hs ds ks (p .count); full = p .full; node = p .node .0 }
+
+abbrev pub nodeOutcomeOf : List ℕ → List ℕ → List ℕ → List ℕ → List ℕ → NodePlaced → Outcome
+nodeOutcomeOf vs ls hs ds ks p = record { table = tableOf vs ls hs ds ks (p .count); full = p .full; node = p .node .0 }
 
 -- A placing written into a table of s places.
 unfoldable pub written : ℕ → Placing → Outcome

@@ -3,9 +3,9 @@ ghost use mathlib.Core.Path.{_≡_};
 ghost use mathlib.Core.List.{[], _∷_, _++_};
 ghost use Prim.Native.Nat.{_+_, _*_, _%_, _≤_, _<_};
 ghost use lib.ListN.{length, take};
-ghost use Rattle.table.specs.Nodes.{nodeOf, find, put};
+ghost use Rattle.table.specs.Nodes.{nodeOf, find, put, tookPlace};
 ghost use Rattle.table.specs.Indexed.{bucket, insert, indexMade, tableOf, nodesOf, indexed, Good, Linked};
-ghost use Rattle.table.specs.Indexed.{foundOf, outcomeOf, written};
+ghost use Rattle.table.specs.Indexed.{foundOf, outcomeOf, nodeOutcomeOf, written};
 
 pub mod test;
 
@@ -22,6 +22,14 @@ pub enum Found {
 // What placing gives: `full` where a new node was wanted and there was no room (`node` is then 0), the node, and the count.
 pub struct Placed {
     pub full: bool,
+    pub node: NodeNo,
+    pub count: usize,
+}
+
+// The same of one node, and whether it took a new place.
+pub struct NodePlaced {
+    pub full: bool,
+    pub new: bool,
     pub node: NodeNo,
     pub count: usize,
 }
@@ -109,7 +117,63 @@ fn append(
     highs[count] = h;
 }
 
-// The node with these children: the child where they are equal, the place that holds it, or a new place.
+// The node with these children: the child where they are equal, the place that holds it, or a new place; and whether the place is new.
+pub fn place_node(
+    vars: &mut [u8],
+    lows: &mut [u16],
+    highs: &mut [u16],
+    heads: &mut [u16],
+    links: &mut [u16],
+    count: usize,
+    v: u8,
+    l: NodeNo,
+    h: NodeNo,
+) -> NodePlaced
+    requires { ⌜ Good (tableOf (now vars) (now lows) (now highs) (now heads) (now links) count) ⌝ }
+    ensures { λ r. ⌜ (
+        let before = tableOf (now (vars .entry)) (now (lows .entry)) (now (highs .entry)) (now (heads .entry)) (now (links .entry)) count in
+        let wanted = put (length (now (vars .entry))) (nodesOf before) v (l .0) (h .0) in
+        (nodeOutcomeOf (now (vars .exit)) (now (lows .exit)) (now (highs .exit)) (now (heads .exit)) (now (links .exit)) r
+        ≡ written (length (now (vars .entry))) wanted)
+        × (r .new ≡ tookPlace (nodesOf before) wanted)) ⌝ }
+{
+    if l.0 == h.0 {
+        return NodePlaced {
+            full: false,
+            new: false,
+            node: l,
+            count,
+        };
+    }
+    match lookup(vars, lows, highs, heads, links, count, v, l, h) {
+        Found::At(k) => NodePlaced {
+            full: false,
+            new: false,
+            node: k,
+            count,
+        },
+        Found::Nothing => {
+            if count < vars.len() {
+                append(vars, lows, highs, heads, links, count, v, l.0, h.0);
+                NodePlaced {
+                    full: false,
+                    new: true,
+                    node: NodeNo(count as u16),
+                    count: count + 1,
+                }
+            } else {
+                NodePlaced {
+                    full: true,
+                    new: false,
+                    node: NodeNo(0),
+                    count,
+                }
+            }
+        }
+    }
+}
+
+// The same where the number alone is asked for.
 pub fn put(
     vars: &mut [u8],
     lows: &mut [u16],
@@ -127,35 +191,12 @@ pub fn put(
         outcomeOf (now (vars .exit)) (now (lows .exit)) (now (highs .exit)) (now (heads .exit)) (now (links .exit)) r
         ≡ written (length (now (vars .entry))) (put (length (now (vars .entry))) (nodesOf before) v (l .0) (h .0))) ⌝ }
 {
-    if l.0 == h.0 {
-        return Placed {
-            full: false,
-            node: l,
-            count,
-        };
-    }
-    match lookup(vars, lows, highs, heads, links, count, v, l, h) {
-        Found::At(k) => Placed {
-            full: false,
-            node: k,
-            count,
-        },
-        Found::Nothing => {
-            if count < vars.len() {
-                append(vars, lows, highs, heads, links, count, v, l.0, h.0);
-                Placed {
-                    full: false,
-                    node: NodeNo(count as u16),
-                    count: count + 1,
-                }
-            } else {
-                Placed {
-                    full: true,
-                    node: NodeNo(0),
-                    count,
-                }
-            }
-        }
+    let p = place_node(vars, lows, highs, heads, links, count, v, l, h);
+    let node = p.node;
+    Placed {
+        full: p.full,
+        node,
+        count: p.count,
     }
 }
 

@@ -1,11 +1,11 @@
--- `put` gives the child, the place found, a new place, or `full`, as the definition does. Assumes nothing.
+-- `place_node` gives the child, the place found, a new place, or `full`, as the definition does, and tells which. Assumes nothing.
 use mathlib.Core.Path.{sym, _∙_}
 use native.Mathlib.Omega.{arith}
 use Rattle.table.proofs.Chain.{good-linked}
-use Rattle.table.proofs.IndexStores.{found-some, found-none, put-equal, put-found, put-new, put-full}
+use Rattle.table.proofs.IndexStores.{found-some, found-none, put-equal, put-found, put-new, put-full, took-equal, took-found, took-new, took-full}
 use borrow.Author.Needs.{needs}
-use Rattle.table.proofs.put.Statement.{statement}
-use Rattle.table.proofs.put.Tie as tie
+use Rattle.table.proofs.place_node.Statement.{statement}
+use Rattle.table.proofs.place_node.Tie as tie
 
 -- The ways back, written by ways.py: TO-from-FROM leads from the place FROM of the code to the place TO before it.
 module _ (c : tie.Else1) where
@@ -72,7 +72,7 @@ module _ (c : tie.After-slice-known10) where
 
 returns : tie.Need-returns
 returns c =
-    put-equal _ (start-from-then1 c .pre) _ _ _ (c .if1 .taken)
+    let G = start-from-then1 c .pre in (put-equal _ G _ _ _ (c .if1 .taken), took-equal _ G _ _ _ (c .if1 .taken))
 
 lookup-requires : tie.Need-lookup-requires
 lookup-requires c κs =
@@ -111,7 +111,10 @@ same-length-5 c = search needs
 
 returns-2 : tie.Need-returns-2
 returns-2 c =
-    put-found _ (start-from-return-2 c .pre) _ _ _ (else1-from-return-2 c .if1 .left) _ (found-some _ _ (sym (lookup-from-return-2 c .lookup .ensures) ∙ c .before .k .given .1))
+    let G = start-from-return-2 c .pre in
+    let ne = else1-from-return-2 c .if1 .left in
+    let e = found-some _ _ (sym (lookup-from-return-2 c .lookup .ensures) ∙ c .before .k .given .1) in
+    (put-found _ G _ _ _ ne _ e, took-found _ G _ _ _ ne _ e)
 
 same-length-6 : tie.Need-same-length-6
 same-length-6 c = search needs
@@ -130,7 +133,11 @@ same-length-10 c = search needs
 
 returns-3 : tie.Need-returns-3
 returns-3 c =
-    put-new _ (start-from-return-3 c .pre) _ _ _ (else1-from-return-3 c .if1 .left) _ (found-none _ (sym (lookup-from-return-3 c .lookup .ensures) ∙ enum-told-from-return-3 c .enum-told .given .1)) (then2-from-return-3 c .if2 .taken) (append-from-return-3 c .append .ensures)
+    let G = start-from-return-3 c .pre in
+    let ne = else1-from-return-3 c .if1 .left in
+    let e = found-none _ (sym (lookup-from-return-3 c .lookup .ensures) ∙ enum-told-from-return-3 c .enum-told .given .1) in
+    let lt = then2-from-return-3 c .if2 .taken in
+    (put-new _ G _ _ _ ne _ e lt (append-from-return-3 c .append .ensures), took-new _ G _ _ _ ne e lt)
 
 same-length-11 : tie.Need-same-length-11
 same-length-11 c = search needs
@@ -149,10 +156,13 @@ same-length-15 c = search needs
 
 returns-4 : tie.Need-returns-4
 returns-4 c =
-    put-full _ (start-from-else2 c .pre) _ _ _ (else1-from-else2 c .if1 .left) (found-none _ (sym (lookup-from-else2 c .lookup .ensures) ∙ c .before .enum-told .given .1)) (c .if2 .left)
+    let G = start-from-else2 c .pre in
+    let ne = else1-from-else2 c .if1 .left in
+    let e = found-none _ (sym (lookup-from-else2 c .lookup .ensures) ∙ c .before .enum-told .given .1) in
+    (put-full _ G _ _ _ ne e (c .if2 .left), took-full _ G _ _ _ ne e (c .if2 .left))
 
-pub put-spec : {M : Type 1} → statement M
-put-spec =
+pub place-node-spec : {M : Type 1} → statement M
+place-node-spec =
     tie.close
     (tie.spec
     returns
