@@ -1,6 +1,7 @@
-/* refute FORMULA PROOF: prints the proved library's line on two files, `number place lines rounds`, and ends with its status: 0 refuted (number
- * 0), 1 refused, 2 a file was not taken; 3 where the line could not be written. A refusal's meaning goes to standard error. The line's bytes
- * and the status are cablesalak_report's, whose contract settles both; here are the two reads and the write. */
+/* refute FORMULA PROOF: prints the proved library's line on two files, `number place lines rounds peak`, and ends with its
+ * status: 0 refuted (number 0), 1 refused, 2 a file was not taken; 3 where the line could not be written. A refusal's meaning
+ * goes to standard error. The line's bytes and the status are cablesalak_report's, whose contract settles both; here are the two
+ * reads and the write. */
 #include "cablesalak.h"
 #include <stdio.h>
 #include <stdlib.h>

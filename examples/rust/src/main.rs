@@ -1,4 +1,4 @@
-//! `refute FORMULA PROOF`: prints the proved library's line on two files, `number place lines rounds`, and ends with its status: 0 refuted
+//! `refute FORMULA PROOF`: prints the proved library's line on two files, `number place lines rounds peak`, and ends with its status: 0 refuted
 //! (number 0), 1 refused, 2 a file was not taken; 3 where the line could not be written. A refusal's meaning goes to standard error.
 
 use cablesalak::{report, LONGEST};

@@ -162,6 +162,22 @@ fn nearly_full(random: &mut Random) -> Vec<String> {
     (first..first + random.between(1, 8)).map(|size| command(random, size, &text, &proof)).collect()
 }
 
+/// The same check in tables of its peak, one place more, one fewer and some sizes below: those above the formula's own peak fill in the proof,
+/// each at another making. None where the answer tells no peak, or the peak of an empty table.
+pub fn around_peak(random: &mut Random, command: &str, answer: &str) -> Vec<String> {
+    let peak = answer.split(' ').nth(5).and_then(|word| word.parse::<usize>().ok()).unwrap_or(0);
+    let mut words = command.splitn(3, ' ');
+    let (Some("check"), Some(_), Some(rest), true) = (words.next(), words.next(), words.next(), peak > 2) else {
+        return Vec::new();
+    };
+    let mut sizes = vec![peak - 1, peak, (peak + 1).min(65_536)];
+    sizes.extend((0..3).map(|_| random.between(2, peak - 1)));
+    sizes.extend((2..peak - 1).rev().take(if random.percent(20) { 20 } else { 2 }));
+    sizes.sort_unstable();
+    sizes.dedup();
+    sizes.iter().map(|size| format!("check {size} {rest}")).collect()
+}
+
 /// A few bytes of the formula or of the proof changed, taken away or put in.
 fn mutated(random: &mut Random) -> Vec<String> {
     let problem = if random.percent(80) { small(random) } else { families::any(random) };
@@ -396,5 +412,38 @@ fn lines(random: &mut Random, writer: &mut Writer) {
     for _ in 0..random.pick(&[1023, 1024, 1025, 1026]) {
         let root = writer.node(2, 1, 0);
         writer.line(0x52, root);
+    }
+}
+
+#[cfg(test)]
+mod tests {
+    use super::*;
+
+    fn sizes(commands: &[String]) -> Vec<usize> {
+        commands.iter().map(|command| command.split(' ').nth(1).unwrap().parse().unwrap()).collect()
+    }
+
+    #[test]
+    fn sizes_around_the_peak() {
+        let mut random = Random::new(1);
+        for peak in [3, 4, 10, 500, 65_536] {
+            let answer = format!("0 12 2 1 3 {peak} | - | -");
+            let commands = around_peak(&mut random, "check 4096 2048 4096 70 45", &answer);
+            assert!(commands.iter().all(|command| command.ends_with(" 2048 4096 70 45")));
+            let sizes = sizes(&commands);
+            assert!([peak - 1, peak].iter().all(|size| sizes.contains(size)), "{sizes:?}");
+            assert!(peak == 65_536 || sizes.contains(&(peak + 1)), "{sizes:?}");
+            assert!(sizes.iter().all(|size| (2..=65_536).contains(size)), "{sizes:?}");
+            assert!(peak < 5 || sizes.contains(&(peak - 2)), "{sizes:?}");
+        }
+    }
+
+    #[test]
+    fn nothing_around_no_peak() {
+        let mut random = Random::new(1);
+        for answer in ["7 0 0 0 2 0 | - | -", "1 0 0 0 2 2 | - | -", "error: not a command", ""] {
+            assert!(around_peak(&mut random, "check 4096 2048 4096 - -", answer).is_empty());
+        }
+        assert!(around_peak(&mut random, "and 4 4 1,0,1;1,1,0 2 3", "0 0 4 | 1,0,1;1,1,0").is_empty());
     }
 }

@@ -1,7 +1,7 @@
 //! `compare [COUNT] [SEED] [--left COMMAND] [--right COMMAND] [--only WORD,WORD,..]`
 //!
-//! Asks two filters the same random commands. Says how often each number came; ends with status 1 and shows the command
-//! where the answers differ. The filters are `driver` and `reference` beside this program where none are named.
+//! Asks two filters the same random commands, COUNT of them, and some of the checks again in tables around their peak. Says how
+//! often each number came; ends with status 1 and shows the command where the answers differ. The filters are `driver` and `reference` beside this program where none are named.
 
 use compare::filter::Filter;
 use compare::random::Random;
@@ -21,16 +21,14 @@ fn main() {
     let mut random = Random::new(options.seed);
     let mut filters = options.filters.each_ref().map(|command| Filter::start(command));
     let mut tally = Tally::default();
-    while tally.asked < options.count {
-        let commands = batch(&mut random, &options.words, options.count - tally.asked);
-        let [left, right] = ask(&mut filters, &commands);
-        for (at, command) in commands.iter().enumerate() {
-            let (left, right) = (left.get(at), right.get(at));
-            if left.is_none() || left != right {
-                differ(&options, command, [left, right]);
-            }
-            tally.add(command, left.unwrap());
-        }
+    let mut sizes = Random::new(options.seed);
+    let mut drawn = 0;
+    while drawn < options.count {
+        let commands = batch(&mut random, &options.words, options.count - drawn);
+        drawn += commands.len();
+        let answers = agreed(&options, &mut filters, &commands, &mut tally);
+        let again = refilled(&mut sizes, &commands, &answers);
+        agreed(&options, &mut filters, &again, &mut tally);
     }
     print!("{}", tally.text());
     if !filters.into_iter().all(Filter::end) {
@@ -38,6 +36,30 @@ fn main() {
         exit(1);
     }
     println!("compare: {} commands from seed {}, no difference", tally.asked, options.seed);
+}
+
+/// The answers that both filters give to the commands; ends where they differ.
+fn agreed(options: &Options, filters: &mut [Filter; 2], commands: &[String], tally: &mut Tally) -> Vec<String> {
+    let [left, right] = ask(filters, commands);
+    for (at, command) in commands.iter().enumerate() {
+        let (left, right) = (left.get(at), right.get(at));
+        if left.is_none() || left != right {
+            differ(options, command, [left, right]);
+        }
+        tally.add(command, left.unwrap());
+    }
+    left
+}
+
+/// Some of the checks again, in tables that are just large enough or fill.
+fn refilled(random: &mut Random, commands: &[String], answers: &[String]) -> Vec<String> {
+    let mut again = Vec::new();
+    for (command, answer) in commands.iter().zip(answers) {
+        if command.starts_with("check ") && random.percent(5) {
+            again.extend(check::around_peak(random, command, answer));
+        }
+    }
+    again
 }
 
 fn options() -> Options {

@@ -96,20 +96,21 @@ static cablesalak_checked check(size_t scratch_length, const uint8_t *lines, siz
                             (const uint8_t *)FORMULA, strlen(FORMULA), lines, length);
 }
 
-static bool says(cablesalak_checked said, unsigned number, size_t place, size_t lines, uint64_t rounds, size_t count)
+static bool says(cablesalak_checked said, unsigned number, size_t place, size_t lines, uint64_t rounds, size_t count,
+                 size_t peak)
 {
     return said.number == number && said.place == place && said.lines == lines && said.rounds == rounds &&
-           said.count == count;
+           said.count == count && said.peak == peak;
 }
 
 static void checks(void)
 {
-    EXPECT(says(check(4096, proof, sizeof proof), CABLESALAK_REFUTED, 12, 2, 1, 8));
+    EXPECT(says(check(4096, proof, sizeof proof), CABLESALAK_REFUTED, 12, 2, 1, 8, 10));
     EXPECT(vars[7] == 1 && lows[7] == 1 && highs[7] == 5 && vars[8] == 0 && lows[63] == 0);
     EXPECT(members[0] == 3 && members[3] == 7 && members[4] == 2 && members[5] == 0 && members[2047] == 0);
     EXPECT(scratch[0] == 0 && scratch[4095] == 0);
-    EXPECT(says(check(4096, proof + 9, 4), CABLESALAK_NOT_SHOWN, 0, 0, 0, 8));
-    EXPECT(says(check(4095, proof, sizeof proof), CABLESALAK_WRONG_SIZE, 0, 0, 0, 9));
+    EXPECT(says(check(4096, proof + 9, 4), CABLESALAK_NOT_SHOWN, 0, 0, 0, 8, 8));
+    EXPECT(says(check(4095, proof, sizeof proof), CABLESALAK_WRONG_SIZE, 0, 0, 0, 9, 0));
     EXPECT(vars[0] == 0xA5 && members[2047] == 0xA5A5 && scratch[0] == 0xA5A5);
 }
 
@@ -128,10 +129,10 @@ static bool tells(bool formula_read, bool proof_read, const uint8_t *lines, size
 
 static void reports(void)
 {
-    EXPECT(tells(true, true, proof, sizeof proof, "0 12 2 1\n", 0));
-    EXPECT(tells(true, true, proof + 9, 4, "19 0 0 0\n", 1));
-    EXPECT(tells(true, false, proof, sizeof proof, "25 0 0 0\n", 2));
-    EXPECT(tells(false, true, proof, sizeof proof, "25 0 0 0\n", 2));
+    EXPECT(tells(true, true, proof, sizeof proof, "0 12 2 1 10\n", 0));
+    EXPECT(tells(true, true, proof + 9, 4, "19 0 0 0 8\n", 1));
+    EXPECT(tells(true, false, proof, sizeof proof, "25 0 0 0 0\n", 2));
+    EXPECT(tells(false, true, proof, sizeof proof, "25 0 0 0 0\n", 2));
 }
 
 int main(void)

@@ -51,7 +51,8 @@ static void check(size_t places, const char *formula, const char *proof, size_t 
     cablesalak_checked b = cablesalak_check_nodes(nodes, places, 9, members[1], MEMBERS, scratch[1], SCRATCH, text,
                                                   strlen(formula), bytes, length);
     EXPECT(a.number == number && b.number == number);
-    EXPECT(a.place == b.place && a.lines == b.lines && a.rounds == b.rounds && a.count == b.count && a.peak == b.peak);
+    EXPECT(a.place == b.place && a.lines == b.lines && a.rounds == b.rounds && a.count == b.count &&
+           a.peak == b.peak);
     same_places();
     for (unsigned node = 0; number != 7 && node < 4; node++)
         for (uint64_t word = 0; word < 4; word++) {

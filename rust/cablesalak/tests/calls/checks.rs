@@ -1,7 +1,7 @@
 //! Every number that a check gives: document 01's examples through the wrapper, over dirty lists.
 
 use crate::lent::Lists;
-use cablesalak::{check, report, NodeNo, Number, Text, Variables, Workspace};
+use cablesalak::{check, report, NodeNo, Number, Text, Variables, Verdict, Workspace};
 
 const A: &[u8] = b"p cnf 2 4\n1 2 0\n-1 2 0\n1 -2 0\n-1 -2 0\n";
 const A_PROOF: &[u8] = b"\x4E\x02\0\0\x01\0\x52\x02\0\x52\0\0\x45";
@@ -13,8 +13,8 @@ const F_PROOF: &[u8] = b"\x4E\x01\0\0\x01\0\x52\x02\0\x45";
 /// The line "at least two of 1, 2, 3".
 const I_PROOF: &[u8] = b"\x4E\x03\0\0\x01\0\x4E\x02\0\0\x02\0\x4E\x02\x02\0\x01\0\x4E\x01\x03\0\x04\0\x52\x05\0\x45";
 
-/// Places of the table, formula, proof; number, place, lines, rounds, count; the clauses that are left as members.
-type Row<'a> = (usize, &'a [u8], &'a [u8], (u8, usize, usize, u64, usize), usize);
+/// Places of the table, formula, proof; number, place, lines, rounds, count, peak; the clauses that are left as members.
+type Row<'a> = (usize, &'a [u8], &'a [u8], (u8, usize, usize, u64, usize, usize), usize);
 
 /// Runs the row over dirty lists and over a workspace that other rows have used.
 fn run(row: &Row, workspace: &mut Workspace) {
@@ -22,7 +22,8 @@ fn run(row: &Row, workspace: &mut Workspace) {
     let mut lists = Lists::of_size(size);
     let verdict = lists.check(formula, proof);
     let number = verdict.number;
-    assert_eq!((number.code(), verdict.place, verdict.lines, verdict.rounds, verdict.count), said, "{number}");
+    let Verdict { place, lines, rounds, count, peak, .. } = verdict;
+    assert_eq!((number.code(), place, lines, rounds, count, peak), said, "{number}");
     assert_eq!(verdict.refuted(), number.code() == 0);
     assert_eq!(lists.count, verdict.count);
     assert!(lists.zero_above(clauses + verdict.lines), "{number}");
@@ -59,27 +60,27 @@ fn run_all(rows: &[Row]) {
 #[test]
 fn lettered_cases() {
     run_all(&[
-        (4_096, A, A_PROOF, (0, 12, 2, 1, 8), 4),
-        (4_096, A, b"\x52\0\0\x45", (19, 0, 0, 0, 8), 4),
-        (4_096, b"p cnf 2 2\n1 2 0\n-1 2 0\n", A_PROOF, (19, 9, 1, 0, 5), 2),
-        (4_096, D, D_PROOF, (18, 8, 0, 0, 4), 1),
-        (4_096, D, E_PROOF, (20, 11, 1, 0, 5), 1),
-        (4_096, D, F_PROOF, (19, 6, 0, 0, 4), 1),
-        (4_096, b"p cnf 3 3\n2 3 0\n1 3 0\n1 2 0\n", I_PROOF, (20, 27, 1, 2, 9), 3),
-        (4_096, b"p cnf 0 0\n", b"\x52\0\0\x45", (19, 0, 0, 0, 2), 0),
+        (4_096, A, A_PROOF, (0, 12, 2, 1, 8, 10), 4),
+        (4_096, A, b"\x52\0\0\x45", (19, 0, 0, 0, 8, 8), 4),
+        (4_096, b"p cnf 2 2\n1 2 0\n-1 2 0\n", A_PROOF, (19, 9, 1, 0, 5, 8), 2),
+        (4_096, D, D_PROOF, (18, 8, 0, 0, 4, 5), 1),
+        (4_096, D, E_PROOF, (20, 11, 1, 0, 5, 6), 1),
+        (4_096, D, F_PROOF, (19, 6, 0, 0, 4, 6), 1),
+        (4_096, b"p cnf 3 3\n2 3 0\n1 3 0\n1 2 0\n", I_PROOF, (20, 27, 1, 2, 9, 16), 3),
+        (4_096, b"p cnf 0 0\n", b"\x52\0\0\x45", (19, 0, 0, 0, 2, 2), 0),
     ]);
 }
 
 #[test]
 fn formulas() {
     run_all(&[
-        (4_096, b"p cnf 2", b"", (1, 0, 0, 0, 2), 0),
-        (4_096, b"p cnf 65 1", b"", (2, 0, 0, 0, 2), 0),
-        (4_096, b"p cnf 1 1\n-0 0\n", b"", (3, 10, 0, 0, 2), 0),
-        (4_096, b"p cnf 2 1\n3 0\n", b"", (4, 10, 0, 0, 2), 0),
-        (4_096, b"p cnf 1 2\n1 0\n", b"", (5, 14, 0, 0, 2), 0),
-        (4_096, b"p cnf 1 1\n1\n", b"", (6, 10, 0, 0, 2), 0),
-        (2, b"p cnf 1 1\n1 0\n", b"", (8, 10, 0, 0, 2), 0),
+        (4_096, b"p cnf 2", b"", (1, 0, 0, 0, 2, 2), 0),
+        (4_096, b"p cnf 65 1", b"", (2, 0, 0, 0, 2, 2), 0),
+        (4_096, b"p cnf 1 1\n-0 0\n", b"", (3, 10, 0, 0, 2, 2), 0),
+        (4_096, b"p cnf 2 1\n3 0\n", b"", (4, 10, 0, 0, 2, 2), 0),
+        (4_096, b"p cnf 1 2\n1 0\n", b"", (5, 14, 0, 0, 2, 3), 0),
+        (4_096, b"p cnf 1 1\n1\n", b"", (6, 10, 0, 0, 2, 2), 0),
+        (2, b"p cnf 1 1\n1 0\n", b"", (8, 10, 0, 0, 2, 2), 0),
     ]);
 }
 
@@ -87,10 +88,10 @@ fn formulas() {
 #[test]
 fn comments() {
     run_all(&[
-        (4_096, b"c\np cnf 1 2\nc 1 0\n1\nc 0\n0\nc\n-1 0\nc", b"\x52\0\0\x45", (0, 3, 1, 0, 4), 2),
-        (4_096, b"p cnf 1 1\n c\n1 0\n", b"", (3, 11, 0, 0, 2), 0),
-        (4_096, b"p cnf 1 1\n1 0\n\rc\n", b"", (5, 15, 0, 0, 2), 0),
-        (4_096, b"p cnf 1 1\rc\n1 0\n", b"", (1, 0, 0, 0, 2), 0),
+        (4_096, b"c\np cnf 1 2\nc 1 0\n1\nc 0\n0\nc\n-1 0\nc", b"\x52\0\0\x45", (0, 3, 1, 0, 4, 4), 2),
+        (4_096, b"p cnf 1 1\n c\n1 0\n", b"", (3, 11, 0, 0, 2, 2), 0),
+        (4_096, b"p cnf 1 1\n1 0\n\rc\n", b"", (5, 15, 0, 0, 2, 3), 0),
+        (4_096, b"p cnf 1 1\rc\n1 0\n", b"", (1, 0, 0, 0, 2, 2), 0),
     ]);
 }
 
@@ -126,17 +127,17 @@ fn files_not_taken() {
 #[test]
 fn records() {
     run_all(&[
-        (4_096, D, b"\0", (9, 0, 0, 0, 4), 1),
-        (4_096, D, b"", (10, 0, 0, 0, 4), 1),
-        (4_096, D, b"\x45\x45", (11, 1, 0, 0, 4), 1),
-        (4_096, D, b"\x54\0", (12, 0, 0, 0, 4), 1),
-        (4_096, D, b"\x52\x02\0", (13, 0, 0, 0, 4), 1),
-        (4_096, D, b"\x4E\x02\0\0\x01\0\x4E\x02\x02\0\x01\0", (14, 6, 0, 0, 4), 1),
-        (4_096, D, b"\x54\x01\x46\x01", (15, 2, 0, 0, 4), 1),
-        (4_096, D, b"\x54\x01\x45", (16, 2, 0, 0, 4), 1),
-        (4_096, D, b"\x52\x01\0", (17, 0, 0, 0, 4), 1),
-        (4_096, D, b"\x45", (20, 0, 0, 0, 4), 1),
-        (3, b"p cnf 2 1\n1 0\n", b"\x4E\x02\0\0\x01\0", (23, 0, 0, 0, 3), 1),
+        (4_096, D, b"\0", (9, 0, 0, 0, 4, 4), 1),
+        (4_096, D, b"", (10, 0, 0, 0, 4, 4), 1),
+        (4_096, D, b"\x45\x45", (11, 1, 0, 0, 4, 4), 1),
+        (4_096, D, b"\x54\0", (12, 0, 0, 0, 4, 4), 1),
+        (4_096, D, b"\x52\x02\0", (13, 0, 0, 0, 4, 4), 1),
+        (4_096, D, b"\x4E\x02\0\0\x01\0\x4E\x02\x02\0\x01\0", (14, 6, 0, 0, 4, 4), 1),
+        (4_096, D, b"\x54\x01\x46\x01", (15, 2, 0, 0, 4, 4), 1),
+        (4_096, D, b"\x54\x01\x45", (16, 2, 0, 0, 4, 4), 1),
+        (4_096, D, b"\x52\x01\0", (17, 0, 0, 0, 4, 4), 1),
+        (4_096, D, b"\x45", (20, 0, 0, 0, 4, 4), 1),
+        (3, b"p cnf 2 1\n1 0\n", b"\x4E\x02\0\0\x01\0", (23, 0, 0, 0, 3, 3), 1),
     ]);
 }
 
@@ -145,8 +146,8 @@ fn too_many() {
     let entries = b"\x4E\x02\0\0\x01\0".repeat(4_097);
     let lines = b"\x52\0\0".repeat(1_025);
     run_all(&[
-        (4_096, D, &entries, (21, 24_576, 0, 0, 4), 1),
-        (4_096, b"p cnf 0 1\n0\n", &lines, (22, 3_072, 1_024, 0, 2), 1),
+        (4_096, D, &entries, (21, 24_576, 0, 0, 4, 4), 1),
+        (4_096, b"p cnf 0 1\n0\n", &lines, (22, 3_072, 1_024, 0, 2, 2), 1),
     ]);
 }
 
