@@ -17,8 +17,7 @@
  * A node has the value of its high where its variable is true, else of its low. In a table in good order two node numbers
  * are equal exactly when they have the same value under every assignment.
  *
- * Stack: the check takes less than 1.75 MiB and a single call less than 1.25 MiB, whatever the table (docs/BENCH.md has the measured
- * figures).
+ * Stack: a call takes less than 1.25 MiB, whatever the table (docs/BENCH.md has the measured figures).
  * Threads: calls at the same time are fine where no list that one of them writes to is lent to another. */
 #ifndef CABLESALAK_H
 #define CABLESALAK_H
@@ -138,7 +137,7 @@ cablesalak_checked cablesalak_check(
  * What bin/refute prints of two files, with a table of 4,096 places of its own: `number place lines rounds peak` and LF at the start of
  * `line`; the places behind it stay as they are. `formula_read` and `proof_read` tell whether the files could be read (25 where not); a text
  * of over 65,536 bytes gives 24, so that of a longer file the first 65,537 bytes are enough. The status is 0 for number 0 alone, 2 for 24
- * and 25, 1 for every other number. Takes less than 1.75 MiB of stack. */
+ * and 25, 1 for every other number. Takes less than 1.375 MiB of stack. */
 #define CABLESALAK_LINE 105
 
 typedef struct {

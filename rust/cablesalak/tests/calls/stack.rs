@@ -1,4 +1,4 @@
-//! A check fits a thread of 1.75 MiB, a single call one of 1.25 MiB, and threads may call at the same time.
+//! Every call fits a thread of 1.25 MiB, the report one of 1.375 MiB, and threads may call at the same time.
 
 use cablesalak::{check, report, Node, NodeNo, Table, Variables, Workspace};
 use std::thread;
@@ -17,15 +17,23 @@ fn single_calls() {
     assert_eq!(table.cofactor_literals(odd, Variables::NONE, Variables(u64::MAX)), Ok(NodeNo::ZERO));
 }
 
-/// The check with the largest table, with the program's and a proof that is long for it, and the report.
+/// Case A's proof with its first line a thousand times: long for the program's table.
+fn long_proof() -> Vec<u8> {
+    let (line, last) = PROOF.split_at(9);
+    [&line.repeat(1_000), last].concat()
+}
+
+/// The check with the largest table, and with the program's and a long proof.
 fn checks() {
     let mut workspace = Workspace::new(65_536).unwrap();
     assert_eq!(check(&mut workspace, FORMULA, PROOF).to_string(), "0 12 2 1 10");
-    let (line, last) = PROOF.split_at(9);
-    let long = [&line.repeat(1_000), last].concat();
     let mut workspace = Workspace::new(4_096).unwrap();
-    assert_eq!(check(&mut workspace, FORMULA, &long).lines, 1_001);
-    assert_eq!(report(Some(FORMULA), Some(&long)).status(), 0);
+    assert_eq!(check(&mut workspace, FORMULA, &long_proof()).lines, 1_001);
+}
+
+/// The report has a table of its own on the stack.
+fn reports() {
+    assert_eq!(report(Some(FORMULA), Some(&long_proof())).status(), 0);
 }
 
 /// Whether an odd number of variables is true, as the last node.
@@ -43,7 +51,7 @@ fn parity() -> Table {
 #[test]
 fn threads_of_that_size() {
     let run = |calls: fn(), size| thread::Builder::new().stack_size(size).spawn(calls).unwrap();
-    let threads = [run(single_calls, 5 << 18), run(single_calls, 5 << 18), run(checks, 7 << 18), run(checks, 7 << 18)];
+    let threads = [run(single_calls, 5 << 18), run(checks, 5 << 18), run(checks, 5 << 18), run(reports, 11 << 17)];
     assert!(threads.map(|thread| thread.join()).iter().all(Result::is_ok));
 }
 
