@@ -22,7 +22,7 @@ use Rattle.dimacs.proofs.Formula.{formula-proper}
 use Rattle.records.specs.declared.Rule.{Rule}
 use Rattle.records.specs.declared.Rule.the-variants.{Rup, Pr}
 use Rattle.records.specs.declared.Record.{Record}
-use Rattle.records.specs.declared.Record.the-variants.{NodeEntry, Witness, ProofLine, End, CutShort, UnknownKind, NoRecord}
+use Rattle.records.specs.declared.Record.the-variants.{NodeEntry, Witness, ProofLine, Strike, End, CutShort, UnknownKind, NoRecord}
 use Rattle.records.specs.Records.{recordAt}
 use Rattle.verdict.specs.Check.{State, begun, entryNode, diagramIn, Verdict, verdict, Outcome, lentFits, outcome, check}
 use Rattle.verdict.specs.Run.{Function, Meant, entryMeant, afterRecord, Valued, LineTaken, Taken, Making, opened, made, follows, Reached, begins, goes}
