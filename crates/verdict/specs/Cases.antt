@@ -167,12 +167,12 @@ strikeTable =
     ∷ᴸ marked 4096 A-formula (strike 3 (strike 3 []ᴸ)) (prints 28 3 0 0 8) (0 ∷ᴸ 0 ∷ᴸ 0 ∷ᴸ 1 ∷ᴸ []ᴸ)
     ∷ᴸ marked 4096 A-formula (0x44 ∷ᴸ 0 ∷ᴸ []ᴸ) (prints 10 0 0 0 8) noneOf4
     ∷ᴸ marked 4096 A-formula (over 2 0 1 (rupLine 2 (rupLine 0 (strike 5 end)))) (prints 0 15 2 1 10)
-        (0 ∷ᴸ 0 ∷ᴸ 0 ∷ᴸ 0 ∷ᴸ 0 ∷ᴸ 1 ∷ᴸ []ᴸ)
+    (0 ∷ᴸ 0 ∷ᴸ 0 ∷ᴸ 0 ∷ᴸ 0 ∷ᴸ 1 ∷ᴸ []ᴸ)
     ∷ᴸ marked 4096 A-formula (over 2 0 1 (strike 4 []ᴸ)) (prints 28 6 0 0 8) noneOf4
     ∷ᴸ marked 4096 A-formula (over 2 0 1 (rupLine 2 (strike 4 (rupLine 0 end)))) (prints 19 12 1 0 10)
-        (0 ∷ᴸ 0 ∷ᴸ 0 ∷ᴸ 0 ∷ᴸ 1 ∷ᴸ []ᴸ)
+    (0 ∷ᴸ 0 ∷ᴸ 0 ∷ᴸ 0 ∷ᴸ 1 ∷ᴸ []ᴸ)
     ∷ᴸ marked 4096 A-formula (over 2 0 1 (strike 2 (strike 3 (rupLine 2 end)))) (prints 20 15 1 0 10)
-        (0 ∷ᴸ 0 ∷ᴸ 1 ∷ᴸ 1 ∷ᴸ 0 ∷ᴸ []ᴸ)
+    (0 ∷ᴸ 0 ∷ᴸ 1 ∷ᴸ 1 ∷ᴸ 0 ∷ᴸ []ᴸ)
     ∷ᴸ marked 4096 "p cnf 2 1\n-1 2 0\n" (over 1 0 1 (strike 0 (0x54 ∷ᴸ 1 ∷ᴸ prLine 2 end))) (prints 20 14 1 0 6) (1 ∷ᴸ 0 ∷ᴸ []ᴸ)
     ∷ᴸ marked 4096 "p cnf 1 1\n0\n" (strike 0 (rupLine 0 end)) (prints 19 3 0 0 2) (1 ∷ᴸ []ᴸ)
     ∷ᴸ []ᴸ
