@@ -2,6 +2,7 @@ pub mod Cases
 pub mod Uses
 pub mod Steps
 pub mod Standing
+pub mod Live
 pub mod Formula
 pub mod Clauses
 pub mod Ends

@@ -56,6 +56,12 @@ valued-at t b (k ∷ ks) [] W i p other = absurd W
 valued-at t b (k ∷ ks) (f ∷ fs) W zero p other = (W .0, W .1)
 valued-at t b (k ∷ ks) (f ∷ fs) W (suc i) p other = valued-at t b ks fs (W .2) i (omega arith) other
 
+pub valued-length : (t : List Node) (b : ℕ) (ks : List ℕ) (fs : List Function) → Valued t b ks fs → length ks ≡ length fs
+valued-length t b [] [] W = refl
+valued-length t b [] (f ∷ fs) W = absurd W
+valued-length t b (k ∷ ks) [] W = absurd W
+valued-length t b (k ∷ ks) (f ∷ fs) W = ap suc (valued-length t b ks fs (W .2))
+
 -- ---- states
 
 -- With n variables, a table of s places, and the functions that members and entries stand for.
