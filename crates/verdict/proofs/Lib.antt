@@ -12,5 +12,7 @@ pub mod Exactly
 pub mod Values
 pub mod Members
 pub mod Onward
+pub mod Offsets
+pub mod Marks
 pub mod MetFirst
 pub mod Peak
