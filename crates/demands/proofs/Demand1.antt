@@ -43,14 +43,14 @@ seven-exactly i = ((λ z fits. not-seven (check-leaves i) fits z), (λ other. ap
 pub seven-changes-nothing : (i : Lent) → (Fits i → ⊥) → checked i ≡ seven i
 seven-changes-nothing = Ending.checked-seven
 
--- "The whole check [..] never gives 26 or 27", nor the program's 24 and 25.
-pub check-number : (i : Lent) → checked i .number ≤ 23
+-- "The whole check [..] never gives 26 or 27", nor the program's 24 and 25: 23 at most, or 28. (02, 3/14)
+pub check-number : (i : Lent) → checked i .number ≢ 28 → checked i .number ≤ 23
 check-number i = go (checked i) (check-leaves i)
   where
-    go : (o : Outcome) → Leaves i o → o .number ≤ 23
-    go o (leaving.unchanged other is) = let z : o .number ≡ 7 = ap (λ (x : Outcome). x .number) is in omega arith
-    go o (emptied _ E) = omega (arith, E .number .1)
-    go o (kept _ K) = K .number .0
+    go : (o : Outcome) → Leaves i o → o .number ≢ 28 → o .number ≤ 23
+    go o (leaving.unchanged other is) _ = let z : o .number ≡ 7 = ap (λ (x : Outcome). x .number) is in omega arith
+    go o (emptied _ E) _ = omega (arith, E .number .1)
+    go o (kept _ K) other = K .number .0 other
 
 -- "A refused single call changes nothing"; "with a refusal the node is 0".
 pub refused-changes-nothing : (op : Operation) (c : Columns) (count f g : ℕ) → operation op (c .vars) (c .lows) (c .highs) count f g .number ≢ 0

@@ -123,4 +123,4 @@ module _ (i : Lent) {n : ℕ} {st : State} {at : ℕ} {m : Meant} (R : Reached (
 
 -- Where 0 is said no assignment satisfies the formula's bytes, whatever the proof's bytes and whatever the lent places held.
 pub check-refuted : (i : Lent) → checked i .number ≡ 0 → Unsatisfiable (i .text)
-check-refuted i = Refuted.check-refuted (i .columns .vars) (i .columns .lows) (i .columns .highs) (i .count) (i .members) (i .scratch) (i .text) (i .proof)
+check-refuted i = Refuted.check-refuted (i .columns .vars) (i .columns .lows) (i .columns .highs) (i .count) (i .members) (i .struck) (i .scratch) (i .text) (i .proof)
