@@ -210,6 +210,17 @@ check-leaves i = fits? i (Leaves i (checked i)) fit (λ other. unchanged other (
         subst (Leaves i) (sym (checked-fits i e))
         (go e S v (peak-reported (places i) (S .columns .least) (i .text) (i .proof)) (ended-closed (places i) (i .text) (i .proof) v (ended (places i) (i .text) (i .proof))))
 
+-- Where the formula was read and the proof judged: number 0, or 9 and more.
+pub check-kept : (i : Lent) → Fits i → (checked i .number ≢ 0 → 9 ≤ checked i .number) → Kept i (checked i)
+check-kept i fits late = go (check-leaves i)
+  where
+    go : Leaves i (checked i) → Kept i (checked i)
+    go (unchanged other is) = absurd (other fits)
+    go (emptied _ E) =
+        let most : checked i .number ≤ 8 = E .number .1 in
+        let nine : 9 ≤ checked i .number = late (λ z. omega (arith, E .number .0)) in absurd (omega arith)
+    go (kept _ K) = K
+
 -- ---- entries
 
 module _ (i : Lent) (e : Fits i) {n : ℕ} {st : State} {at : ℕ} {m : Meant} (R : Reached (places i) (i .text) (i .proof) n st at m) where

@@ -16,16 +16,17 @@ use Rattle.verdict.specs.Run.{follows, no-header, not-read, no-room, stopped, t
 use Rattle.verdict.proofs.Formula.{NamedHeader, header-named, either}
 use Rattle.verdict.proofs.Numbers.{making-refused, Numbered, step-numbered}
 use Rattle.verdict.proofs.Steps.{stop-not-spent}
-use Rattle.verdict.proofs.Offsets.{Offset, at-record, behind-end, Placed, step-placed}
+use Rattle.verdict.proofs.Offsets.{Offset, at-record, at-striking, behind-end, Placed, step-placed}
 use Rattle.verdict.proofs.Exactly.{Ahead, reached-ahead}
 use Rattle.demands.specs.Leaving.{Lent, checked, places, Ends, wrong-size, at-place, EndsWith, AtEnd}
 use Rattle.demands.proofs.Ending.{check-ends}
 
 -- ---- the offset of a number
 
-offset-of : (r : Record) (number offset : ℕ) → Offset r number offset → offset ≡ cond (eqb number 11) 1 0
-offset-of r number offset (at-record here other) = rw (here, other)
-offset-of r number offset (behind-end _ eleven behind) = rw (behind, eleven)
+offset-of : (st : State) (r : Record) (number offset : ℕ) → Offset st r number offset → offset ≡ cond (eqb number 11) 1 0
+offset-of st r number offset (at-record here other _) = rw (here, other)
+offset-of st r number offset (at-striking here number-is _ _ _) = rw (here, number-is)
+offset-of st r number offset (behind-end behind number-is _) = rw (behind, number-is)
 
 -- ---- no record begun
 
@@ -86,7 +87,7 @@ check-place i late = go (checked i) (check-ends i) late
     go _ (at-place e (no-room M full-there)) late = let nine : 9 ≤ 8 = late (omega arith) in absurd (omega arith)
     go _ (at-place e (stopped {n} {number} {offset} {at} {st} {m} R q)) late =
         let r : Record = recordAt (i .proof) at in
-        let is : offset ≡ cond (eqb number 11) 1 0 = offset-of r number offset (subst (Placed r) q (step-placed n (places i) st (follows (i .proof) at) r)) in
+        let is : offset ≡ cond (eqb number 11) 1 0 = offset-of st r number offset (subst (Placed st r) q (step-placed n (places i) st (follows (i .proof) at) r)) in
         let A : Ahead (places i) (i .text) (i .proof) n st at = reached-ahead (places i) (i .text) (i .proof) R in
         record {
           n = n;

@@ -12,10 +12,11 @@ use Rattle.meaning.specs.Operations.{Literal, clauseValue}
 use Rattle.table.specs.Columns.{Columns}
 use Rattle.dimacs.specs.Clauses.{formula}
 use Rattle.records.specs.declared.EntryNo.{EntryNo}
+use Rattle.records.specs.declared.MemberNo.{MemberNo}
 use Rattle.records.specs.declared.Rule.{Rule}
-use Rattle.records.specs.declared.Record.the-variants.{ProofLine, NoRecord}
+use Rattle.records.specs.declared.Record.the-variants.{ProofLine, Strike, NoRecord}
 use Rattle.records.specs.Records.{recordAt}
-use Rattle.verdict.specs.Check.{State, Step, next, stop, spent, entryNode, step, Verdict, Outcome, lentFits, zeros, outcome, check}
+use Rattle.verdict.specs.Check.{State, Step, next, stop, spent, entryNode, waiting, step, Verdict, Outcome, lentFits, zeros, outcome, check}
 use Rattle.verdict.specs.Run.{Function, Meant, lineFunctions, follows, Reached, Ended}
 use Rattle.verdict.specs.Marks.{strikingsBefore, markOf}
 use Rattle.verdict.specs.MetFirst.{Met, metBy}
@@ -146,6 +147,24 @@ pub record ZeroLine (c : ℕ) (st : State) : Type 0 where
   pub line : ℕ
   pub accepted : line < st .lines
   pub is-zero : getD (st .members) (c + line) 0 ≡ 0
+
+-- ---- a striking that is refused
+
+-- "a member that does not exist or is struck already" (02, 3/14)
+pub data NotLive (st : State) (k : ℕ) : Type 0 where
+  not-there : length (st .members) ≤ k → NotLive st k
+  struck-already : getD (st .struck) k 0 ≡ 1 → NotLive st k
+
+-- A striking at the place, all records before it taken and no witness waiting, of a member that is not live.
+pub record AtStriking (s : ℕ) (text proof : List ℕ) (at : ℕ) : Type 0 where
+  pub n : ℕ
+  pub state : State
+  pub meant : Meant
+  pub reached : Reached s text proof n state at meant
+  pub member : MemberNo
+  pub here : recordAt proof at ≡ Strike member
+  pub none-waits : waiting state ≡ false
+  pub not-live : NotLive state (member .0)
 
 -- ---- a line that is not shown
 

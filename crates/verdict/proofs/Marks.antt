@@ -21,7 +21,7 @@ use Rattle.verdict.specs.Check.{State, begun, stop, entryNode, isLive, s
 use Rattle.verdict.specs.Run.{Meant, StrikeTaken, Taken, follows, Reached, begins, goes, Later, here, after}
 use Rattle.verdict.specs.Marks.{struckBy, strikingsFrom, strikingsBefore, isIn, markOf}
 use Rattle.verdict.proofs.Steps.{next-form, taken-step}
-use Rattle.verdict.proofs.Offsets.{Offset, at-record, behind-end, Placed, step-placed}
+use Rattle.verdict.proofs.Offsets.{Offset, at-record, at-striking, behind-end, Placed, step-placed}
 
 -- ---- lists
 
@@ -198,11 +198,15 @@ module _ (s : ℕ) (text proof : List ℕ) where
   -- The same at the place where a record is refused or ends the proof, which for 11 is behind it.
   pub marks-stopped : {n : ℕ} {st : State} {at : ℕ} {m : Meant} → Reached s text proof n st at m → (number offset : ℕ)
       → step n s st (follows proof at) (recordAt proof at) ≡ stop number offset → (k : ℕ) → getD (st .struck) k 0 ≡ markOf (strikingsBefore proof (at + offset)) k
-  marks-stopped {n} {st} {at} R number offset e k = go (subst (Placed (recordAt proof at)) e (step-placed n s st (follows proof at) (recordAt proof at)))
+  marks-stopped {n} {st} {at} R number offset e k = go (subst (Placed st (recordAt proof at)) e (step-placed n s st (follows proof at) (recordAt proof at)))
     where
-      go : Offset (recordAt proof at) number offset → getD (st .struck) k 0 ≡ markOf (strikingsBefore proof (at + offset)) k
-      go (at-record z _) = let same : at ≡ at + offset = omega arith in marks-are R k ∙ ap (λ (p : ℕ). markOf (strikingsBefore proof p) k) same
-      go (behind-end is _ z) = rw z (marks-at R (at + 1) (omega arith) (none-at-end at is) k)
+      here-are : offset ≡ 0 → getD (st .struck) k 0 ≡ markOf (strikingsBefore proof (at + offset)) k
+      here-are z = let same : at ≡ at + offset = omega arith in marks-are R k ∙ ap (λ (p : ℕ). markOf (strikingsBefore proof p) k) same
+
+      go : Offset st (recordAt proof at) number offset → getD (st .struck) k 0 ≡ markOf (strikingsBefore proof (at + offset)) k
+      go (at-record z _ _) = here-are z
+      go (at-striking z _ _ _ _) = here-are z
+      go (behind-end z _ is) = rw z (marks-at R (at + 1) (omega arith) (none-at-end at is) k)
 
 -- ---- what stays
 
