@@ -7,7 +7,7 @@ use mathlib.Core.List.{List, [], _∷_, _++_, map}
 use Prim.Native.Nat.{ℕ, zero, suc, _+_, _≤_, _<_, max}
 use lib.ListN.{length, getD, set, take}
 use lib.Dec.{ltb}
-use Rattle.meaning.specs.Diagram.{Assignment, holds, value}
+use Rattle.meaning.specs.Diagram.{Assignment, Diagram, holds, value}
 use Rattle.meaning.specs.Operations as meaning
 use Rattle.meaning.specs.Rules.{Line, rup, pr, witnessed}
 use Rattle.meaning.specs.Words.{inWord}
@@ -159,10 +159,14 @@ pub record WitnessTaken (n : ℕ) (st : State) (v : ℕ) (b : Bool) (st′ : Sta
   pub new-negative : inWord (st .negative) v ≡ false
   pub is : withWitness st (withVariable b (st .positive) v) (withVariable (not b) (st .negative) v) ≡ st′
 
--- A line by its rule: RUP, or PR with the witness, of the live members' diagrams and the root's.
+-- A line by its rule: RUP, or PR with the witness of two words, of the members ms and the root g.
+abbrev pub lineBy : ℕ → Rule → ℕ → ℕ → List Diagram → Diagram → Line
+lineBy n Rup positive negative ms g = rup n ms g
+lineBy n Pr positive negative ms g = pr n (inWord positive) (inWord negative) ms g
+
+-- The line whose root is node g, over the live members.
 abbrev pub lineOf : ℕ → State → Rule → ℕ → Line
-lineOf n st Rup g = rup n (liveMembers st) (diagramIn st g)
-lineOf n st Pr g = pr n (inWord (st .positive)) (inWord (st .negative)) (liveMembers st) (diagramIn st g)
+lineOf n st rule g = lineBy n rule (st .positive) (st .negative) (liveMembers st) (diagramIn st g)
 
 -- What its rule asks of the witness: none is left at a RUP line; "g under ω is 1" at a PR line.
 abbrev pub Witnessed : ℕ → State → Rule → ℕ → Type 0
