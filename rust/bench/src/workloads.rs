@@ -84,7 +84,7 @@ pub fn proof(name: &str, problem: &families::Problem, places: usize) -> Workload
     writer.end();
     let hex = |bytes: &[u8]| bytes.iter().map(|byte| format!("{byte:02x}")).collect::<String>();
     let (formula, proof) = (hex(&problem.formula.text()), hex(&writer.bytes));
-    let lines = problem.builder.lines;
+    let lines = problem.builder.lines.len();
     Workload {
         name: format!("{name} ({lines} lines, {places} places)"),
         command: format!("check {places} 2048 4096 {formula} {proof}"),

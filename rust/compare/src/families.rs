@@ -203,7 +203,7 @@ pub fn chain(random: &mut Random, length: usize, clauses: usize, lines: usize) -
     random.shuffle(&mut all);
     let formula = Formula { variables: 64, clauses: all };
     let mut builder = Builder::new(&formula);
-    while builder.lines < lines {
+    while builder.lines.len() < lines {
         let line = builder.store.clause(&followed(random, length));
         if line != 1 {
             builder.write_line(0x52, line, Literals::default());
@@ -231,7 +231,7 @@ pub fn pure(random: &mut Random, clauses: usize, lines: usize) -> Problem {
     }
     formula.variables = 64;
     let mut builder = Builder::new(&formula);
-    while builder.lines < lines {
+    while builder.lines.len() < lines {
         let (first, second) = (random.between(1, 32) as i32, random.between(33, 63) as i32);
         let line = builder.store.clause(&[first, -second, 64]);
         let mut witness = Literals::default();
