@@ -1,6 +1,7 @@
 // Document 01's examples through the face, and 02's as they land: a line for each, its label and then the numbers that came.
 mod checks;
 mod comments;
+mod orders;
 mod print;
 mod singles;
 
@@ -25,4 +26,7 @@ fn main() {
     comments::whole_line();
     comments::tokens();
     comments::places();
+    orders::rounds();
+    orders::little_room();
+    orders::pr_with_more();
 }
