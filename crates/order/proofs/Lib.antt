@@ -5,6 +5,7 @@ pub mod AnyChoice
 pub mod UnitProp
 pub mod Rules
 pub mod Room
+pub mod Marks
 pub mod Steps
 pub mod Examples
 pub mod Order

@@ -9,14 +9,15 @@ use Rattle.meaning.specs.Rules.{conflicts, hasUnit, byUnits, unitProp, byDiagra
 use Rattle.meaning.specs.Words.{inWord}
 use Rattle.meaning.proofs.Ends.{AllReduced, inUse}
 use Rattle.records.specs.declared.EntryNo.{EntryNo}
+use Rattle.records.specs.declared.MemberNo.{MemberNo}
 use Rattle.records.specs.declared.Rule.{Rule}
 use Rattle.records.specs.declared.Rule.the-variants.{Rup}
-use Rattle.records.specs.declared.Record.the-variants.{ProofLine}
-use Rattle.verdict.specs.Check.{State, entryNode, diagramIn, step}
+use Rattle.records.specs.declared.Record.the-variants.{ProofLine, Strike}
+use Rattle.verdict.specs.Check.{State, next, entryNode, diagramIn, unstruck, liveMembers, step}
 use Rattle.verdict.specs.Run.{lineOf}
 use Rattle.verdict.specs.Cases.{GivesAll}
 use Rattle.order.specs.Choices.{Among, Within, Reordered, Propagates}
-use Rattle.order.specs.Lines.{liveMembers, Room, Judged, byRule, SameLine, Accepted, Alike, withMembers}
+use Rattle.order.specs.Lines.{Room, Judged, byRule, SameLine, Accepted, Alike, withMembers, beside}
 use Rattle.order.specs.Examples.{x1, three, threeOtherwise, orderTable}
 use Rattle.order.proofs.Members.{reordered-within, reordered-back}
 use Rattle.order.proofs.UnitProp as UnitProp
@@ -71,16 +72,22 @@ pub step-any-choice : (n s : ℕ) (st : State) (more : Bool) (root : EntryNo) �
     → step n s st more (ProofLine Rup root) ≡ byRule s st (entryNode st (root .0)) (lineOf n st Rup (entryNode st (root .0))) b
 step-any-choice = Steps.step-any-choice
 
--- "however members are ordered": RUP and PR lines, accepted in one order as in the other, or refused with the same number.
-pub step-any-order : (n s : ℕ) (st : State) (members : List ℕ) (more : Bool) (rule : Rule) (root : EntryNo)
-    → Reordered (st .members) members → Room n s st rule (root .0) → Room n s (withMembers st members) rule (root .0)
-    → Alike (step n s st more (ProofLine rule root)) (step n s (withMembers st members) more (ProofLine rule root))
+-- "however members are ordered": with their marks. RUP and PR lines are accepted in one order as in the other, or refused with the same number.
+pub step-any-order : (n s : ℕ) (st : State) (members marks : List ℕ) (more : Bool) (rule : Rule) (root : EntryNo)
+    → Reordered (beside (st .struck) (st .members)) (beside marks members) → Room n s st rule (root .0) → Room n s (withMembers st members marks) rule (root .0)
+    → Alike (step n s st more (ProofLine rule root)) (step n s (withMembers st members marks) more (ProofLine rule root))
 step-any-order = Steps.step-any-order
 
 -- "adding live members never turns an accepted line into a refused one"
-pub step-more : (n s : ℕ) (st : State) (members : List ℕ) (more : Bool) (root : EntryNo) → Within (st .members) members → Room n s (withMembers st members) Rup (root .0)
-    → Accepted (step n s st more (ProofLine Rup root)) → Accepted (step n s (withMembers st members) more (ProofLine Rup root))
+pub step-more : (n s : ℕ) (st : State) (members marks : List ℕ) (more : Bool) (root : EntryNo) → Within (unstruck (st .struck) (st .members)) (unstruck marks members)
+    → Room n s (withMembers st members marks) Rup (root .0) → Accepted (step n s st more (ProofLine Rup root))
+    → Accepted (step n s (withMembers st members marks) more (ProofLine Rup root))
 step-more = Steps.step-more
+
+-- So a RUP line that is accepted after a striking is accepted without it.
+pub step-unstruck : (n s : ℕ) (st st₁ : State) (more more′ : Bool) (k : MemberNo) (root : EntryNo) → step n s st more (Strike k) ≡ next st₁ → Room n s st Rup (root .0)
+    → Accepted (step n s st₁ more′ (ProofLine Rup root)) → Accepted (step n s st more′ (ProofLine Rup root))
+step-unstruck = Steps.step-unstruck
 
 -- The same of two checks with tables of their own, so that clauses may come in another order, or be more.
 pub lines-alike : (n s s′ : ℕ) (st st′ : State) (more more′ : Bool) (root root′ : EntryNo) → SameLine st (root .0) st′ (root′ .0) → (rule : Rule)

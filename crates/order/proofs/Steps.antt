@@ -1,11 +1,11 @@
 -- The same of the check's own step: a line's record comes to the same whatever the order of the live members, and an accepted RUP line stays
 -- accepted with more of them, where there is room. The idea: behind the tests that do not look at members a step says 23, 19 or goes on,
 -- by room and by what its rule shows. Assumes nothing.
-use mathlib.Core.Path.{_≡_, refl, sym, ap, _∙_}
+use mathlib.Core.Path.{_≡_, refl, sym, ap, _∙_, subst}
 use mathlib.Core.Bool.{Bool, true, false, not, cond}
 use mathlib.Core.List.{List}
 use Prim.Native.Nat.{ℕ, _+_, _≤_}
-use lib.ListN.{length}
+use lib.ListN.{length, set}
 use lib.Dec.{eqb, leb}
 use borrow.Author.Tests.{lt-leb, ne-eqb}
 use Rattle.meaning.specs.Diagram.{Diagram}
@@ -15,15 +15,17 @@ use Rattle.meaning.specs.Words.{inWord}
 use Rattle.meaning.proofs.Booleans.{t≢f}
 use Rattle.table.specs.Making.{lineReach}
 use Rattle.records.specs.declared.EntryNo.{EntryNo}
+use Rattle.records.specs.declared.MemberNo.{MemberNo}
 use Rattle.records.specs.declared.Rule.{Rule}
 use Rattle.records.specs.declared.Rule.the-variants.{Rup, Pr}
-use Rattle.records.specs.declared.Record.the-variants.{ProofLine}
-use Rattle.verdict.specs.Check.{State, Step, next, stop, spent, isEntry, entryNode, waiting, accepted, judged, diagramIn, lineStep, step}
-use Rattle.verdict.specs.Run.{lineOf, peakWith, LineTaken}
+use Rattle.records.specs.declared.Record.the-variants.{ProofLine, Strike}
+use Rattle.verdict.specs.Check.{State, Step, next, stop, spent, isEntry, entryNode, waiting, accepted, judged, diagramIn, unstruck, liveMembers, lineStep, step}
+use Rattle.verdict.specs.Run.{lineOf, peakWith, LineTaken, StrikeTaken, withMarks}
 use Rattle.verdict.proofs.Steps.{step-taken}
 use Rattle.order.specs.Choices.{Within, Reordered, Propagates}
-use Rattle.order.specs.Lines.{liveMembers, Room, Judged, byRule, SameLine, Accepted, Alike, withMembers}
+use Rattle.order.specs.Lines.{Room, Judged, byRule, SameLine, Accepted, Alike, withMembers, beside}
 use Rattle.order.proofs.Members.{within-map, reordered-within, reordered-back}
+use Rattle.order.proofs.Marks.{reordered-live, struck-within}
 use Rattle.order.proofs.Rules.{rup-any-choice, rup-more, rup-same, pr-same}
 use Rattle.order.proofs.Room.{lineSize, line-fits}
 
@@ -115,24 +117,28 @@ alike-tested false false true d i j k l x y e = (refl, refl)
 alike-tested false false false true i j k l x y e = (refl, refl)
 alike-tested false false false false i j k l x y e = e
 
-module _ (n s : ℕ) (st : State) (members : List ℕ) where
+module _ (n s : ℕ) (st : State) (members marks : List ℕ) where
   abbrev st′ : State
-  st′ = withMembers st members
+  st′ = withMembers st members marks
 
   same-line : (root : ℕ) → SameLine st root st′ root
   unfolding entryNode
   same-line root = record { line = refl; positive = refl; negative = refl }
+
+  live-within : Within (unstruck (st .struck) (st .members)) (unstruck marks members) → Within (liveMembers st) (liveMembers st′)
+  live-within w = within-map (diagramIn st) (unstruck (st .struck) (st .members)) (unstruck marks members) w
 
   -- what is asked before the rule does not look at members
   still : (root : ℕ) (st₁ : State) → LineTaken n s st Rup root st₁ → Judged n st′ Rup root
   unfolding isEntry entryNode waiting
   still root st₁ T = record { entry = T .entry; few = T .few; not-one = T .not-one; witness = T .witness }
 
-  judged-alike : (rule : Rule) (root : ℕ) → Reordered (st .members) members → Room n s st rule root → Room n s st′ rule root
+  judged-alike : (rule : Rule) (root : ℕ) → Reordered (beside (st .struck) (st .members)) (beside marks members) → Room n s st rule root → Room n s st′ rule root
       → Alike (judged s st (entryNode st root) (lineOf n st rule (entryNode st root))) (judged s st′ (entryNode st′ root) (lineOf n st′ rule (entryNode st′ root)))
   judged-alike rule root r fits fits′ =
-      let w : Within (liveMembers st) (liveMembers st′) = within-map (diagramIn st) (st .members) members (reordered-within r) in
-      let w′ : Within (liveMembers st′) (liveMembers st) = within-map (diagramIn st) members (st .members) (reordered-within (reordered-back r)) in
+      let r′ : Reordered (unstruck (st .struck) (st .members)) (unstruck marks members) = reordered-live (st .struck) marks (st .members) members r in
+      let w : Within (liveMembers st) (liveMembers st′) = live-within (reordered-within r′) in
+      let w′ : Within (liveMembers st′) (liveMembers st) = within-map (diagramIn st) (unstruck marks members) (unstruck (st .struck) (st .members)) (reordered-within (reordered-back r′)) in
       rw (
         judged-fits n s st (entryNode st root) (lineOf n st rule (entryNode st root)) fits,
         judged-fits n s st′ (entryNode st′ root) (lineOf n st′ rule (entryNode st′ root)) fits′,
@@ -140,7 +146,7 @@ module _ (n s : ℕ) (st : State) (members : List ℕ) where
       )
       (alike-rule s s st st′ _ _ _ _ (lineOf n st′ rule (entryNode st′ root) .shown))
 
-  pub step-any-order : (more : Bool) (rule : Rule) (root : EntryNo) → Reordered (st .members) members → Room n s st rule (root .0) → Room n s st′ rule (root .0)
+  pub step-any-order : (more : Bool) (rule : Rule) (root : EntryNo) → Reordered (beside (st .struck) (st .members)) (beside marks members) → Room n s st rule (root .0) → Room n s st′ rule (root .0)
       → Alike (step n s st more (ProofLine rule root)) (step n s st′ more (ProofLine rule root))
   unfolding step lineStep isEntry entryNode waiting
   step-any-order more Rup root r fits fits′ =
@@ -152,12 +158,20 @@ module _ (n s : ℕ) (st : State) (members : List ℕ) where
       alike-tested (not (isEntry st (root .0))) (leb 1024 (st .lines)) (eqb g 1) (not (witnessed n (inWord (st .positive)) (inWord (st .negative)) (diagramIn st g))) 13 22 17 18
       (judged s st g (lineOf n st Pr g)) (judged s st′ g (lineOf n st′ Pr g)) (judged-alike Pr (root .0) r fits fits′)
 
-  pub step-more : (more : Bool) (root : EntryNo) → Within (st .members) members → Room n s st′ Rup (root .0)
+  pub step-more : (more : Bool) (root : EntryNo) → Within (unstruck (st .struck) (st .members)) (unstruck marks members) → Room n s st′ Rup (root .0)
       → Accepted (step n s st more (ProofLine Rup root)) → Accepted (step n s st′ more (ProofLine Rup root))
   step-more more root w fits′ a =
       let (st₁, e) = accepted-next (step n s st more (ProofLine Rup root)) a in
       let T : LineTaken n s st Rup (root .0) st₁ = step-taken n s st more (ProofLine Rup root) st₁ e in
-      lines-more n s s st st′ more more root root (same-line (root .0)) (within-map (diagramIn st) (st .members) members w) (still (root .0) st₁ T) fits′ a
+      lines-more n s s st st′ more more root root (same-line (root .0)) (live-within w) (still (root .0) st₁ T) fits′ a
+
+-- A RUP line that is accepted once a member is struck is accepted without the striking.
+pub step-unstruck : (n s : ℕ) (st st₁ : State) (more more′ : Bool) (k : MemberNo) (root : EntryNo) → step n s st more (Strike k) ≡ next st₁ → Room n s st Rup (root .0)
+    → Accepted (step n s st₁ more′ (ProofLine Rup root)) → Accepted (step n s st more′ (ProofLine Rup root))
+step-unstruck n s st st₁ more more′ k root e fits a =
+    let T : StrikeTaken st (k .0) st₁ = step-taken n s st more (Strike k) st₁ e in
+    let a′ : Accepted (step n s (withMarks st (set (st .struck) (k .0) 1)) more′ (ProofLine Rup root)) = subst (λ (x : State). Accepted (step n s x more′ (ProofLine Rup root))) (sym (T .is)) a in
+    step-more n s (withMarks st (set (st .struck) (k .0) 1)) (st .members) (st .struck) more′ root (struck-within (st .struck) (k .0) (st .members)) fits a′
 
 -- ---- room
 

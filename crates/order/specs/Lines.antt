@@ -3,17 +3,13 @@
 use mathlib.Core.Path.{_≡_}
 use mathlib.Core.Logic.{_≢_}
 use mathlib.Core.Bool.{Bool, true, cond}
-use mathlib.Core.List.{List, map}
+use mathlib.Core.List.{List, [], _∷_}
 use Prim.Native.Nat.{ℕ, _<_}
-use Rattle.meaning.specs.Diagram.{Diagram}
 use Rattle.meaning.specs.Rules.{Line}
 use Rattle.table.specs.Making.{lineReach}
 use Rattle.records.specs.declared.Rule.{Rule}
 use Rattle.verdict.specs.Check.{State, Step, next, stop, spent, isEntry, entryNode, accepted, diagramIn}
 use Rattle.verdict.specs.Run.{lineOf, Witnessed, peakWith}
-
-abbrev pub liveMembers : State → List Diagram
-liveMembers st = map (diagramIn st) (st .members)
 
 -- "with enough room": all that the line makes finds a place in a table of s places.
 abbrev pub Room : ℕ → ℕ → State → Rule → ℕ → Type 0
@@ -54,12 +50,15 @@ Alike (stop number offset) (spent number′ peak) = ⊥
 Alike (spent number peak) (next st) = ⊥
 Alike (spent number peak) (stop number′ offset) = ⊥
 
--- The state with other members.
-abbrev pub withMembers : State → List ℕ → State
-withMembers st members = record {
+-- ---- other members
+
+-- The state with other members and other marks.
+abbrev pub withMembers : State → List ℕ → List ℕ → State
+withMembers st members marks = record {
   nodes = st .nodes;
   kept = st .kept;
   members = members;
+  struck = marks;
   entries = st .entries;
   positive = st .positive;
   negative = st .negative;
@@ -68,3 +67,9 @@ withMembers st members = record {
   peak = st .peak;
   refuted = st .refuted;
 }
+
+-- Each thing with its mark, by place; one without a mark is not struck.
+abbrev pub beside : {A : Type 0} → List ℕ → List A → List (ℕ × A)
+beside marks [] = []
+beside [] (x ∷ xs) = (0, x) ∷ beside [] xs
+beside (m ∷ marks) (x ∷ xs) = (m, x) ∷ beside marks xs
