@@ -1,8 +1,8 @@
 // The order of members (02, 13/14): the same clauses in two orders, and a PR line with a clause more. The lines are those of `checks`.
 use crate::checks;
 
-// x2, x3, "x3 gives x4", "x3 gives not x4", "x2 gives x1" and the line 0. The first round takes x2, which helps nothing, the second x3; with
-// the first two clauses exchanged one round is enough.
+// x2, x3, "x3 gives x4", "x3 gives not x4", "x2 gives x1" and the line 0. The first round takes x2, which helps nothing, the second
+// x3; with the first two clauses exchanged one round is enough.
 pub fn rounds() {
     let proof = b"\x52\x00\x00\x45";
     checks::run(
