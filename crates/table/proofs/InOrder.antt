@@ -11,9 +11,9 @@ use Rattle.meaning.proofs.Booleans.{and-both}
 use Rattle.table.specs.Nodes.{Node, blank, find, goodPlaces}
 use Rattle.table.specs.Index.{headsOf, linksOf, sameNumbers, goodOrder, findByIndex}
 use Rattle.table.specs.Columns.{rows, sizeFits, padded, columnsMade, columnsOf, storedAs}
-use Rattle.table.specs.Indexed.{indexed, Table, tableOf, listsOf, nodesOf, Good}
+use Rattle.table.specs.Indexed.{indexed, Table, tableOf, listsOf, size, nodesOf, Good}
 use Rattle.table.proofs.Order.{both-true, every-blank, Ordered, GoodPlaces, good-places, in-good-places}
-use Rattle.table.proofs.Written.{length-padded, at-padded, rows-columns, length-rows, good-table}
+use Rattle.table.proofs.Written.{length-padded, at-padded, rows-columns, length-rows, length-nodes, good-table}
 use Rattle.table.proofs.Sizes.{Sized, sized}
 use Rattle.table.proofs.Literal.{same-true, true-same, heads-literal, links-literal, lookup-agrees}
 
@@ -90,3 +90,9 @@ module _ (s : ℕ) (t : List Node) where
       (both-true (sameNumbers (headsOf s t) (headsOf (length (padded s t)) (take (length t) (padded s t)))) (sameNumbers (linksOf s t) (linksOf (length (padded s t)) (take (length t) (padded s t))))
       (true-same (headsOf s t) (headsOf (length (padded s t)) (take (length t) (padded s t))) (sym (ap₂ headsOf many padded-take)))
       (true-same (linksOf s t) (linksOf (length (padded s t)) (take (length t) (padded s t))) (sym (ap₂ linksOf many padded-take))))
+
+-- the table that an inner function leaves, in the open words
+pub good-stored : (T : Table) → Good T → listsOf T ≡ storedAs (size T) (nodesOf T)
+good-stored T G =
+    ap listsOf (G .written)
+    ∙ left-stored (size T) (nodesOf T) (omega (arith, length-nodes T G, G .least)) (omega (arith, length-nodes T G, G .within))
