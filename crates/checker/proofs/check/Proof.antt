@@ -33,10 +33,16 @@ same-length-5 c = search needs
 same-length-6 : tie.Need-same-length-6
 same-length-6 c = search needs
 
+same-length-7 : tie.Need-same-length-7
+same-length-7 c = search needs
+
+same-length-8 : tie.Need-same-length-8
+same-length-8 c = search needs
+
 returns : tie.Need-returns
 returns c =
     let said = call-from-return c .call .ensures in
-    (said, λ z. check-refuted _ _ _ _ _ _ _ _ _ (sym (ap (λ (o : Outcome). o .number) said) ∙ z))
+    (said, λ z. check-refuted _ _ _ _ _ _ _ (sym (ap (λ (o : Outcome). o .number) said) ∙ z))
 
 pub check-spec : {M : Type 1} → statement M
 check-spec =
@@ -49,4 +55,6 @@ check-spec =
     same-length-4
     same-length-5
     same-length-6
+    same-length-7
+    same-length-8
     returns)

@@ -53,7 +53,7 @@ module _ (c : tie.After-slice-known6) where
   start-from-return-2 = start-from-else1 else1-from-return-2
 
 returns : tie.Need-returns
-returns c = operation-past _ _ _ _ _ _ _ _ (c .if1 .taken) (start-from-then1 c .pre .0) (start-from-then1 c .pre .1) (start-from-then1 c .pre .2)
+returns c = operation-past _ _ _ _ _ _ _ _ _ _ (c .if1 .taken) (start-from-then1 c .pre .0) (start-from-then1 c .pre .1) (start-from-then1 c .pre .2)
 
 second-requires : tie.Need-second-requires
 second-requires c κs = search needs
@@ -88,11 +88,17 @@ same-length-2 c = search needs
 same-length-3 : tie.Need-same-length-3
 same-length-3 c = search needs
 
+same-length-4 : tie.Need-same-length-4
+same-length-4 c = search needs
+
+same-length-5 : tie.Need-same-length-5
+same-length-5 c = search needs
+
 returns-2 : tie.Need-returns-2
 returns-2 c =
     let start = start-from-return-2 c in
     let after-call = call-from-return-2 c in
-    operation-first _ _ _ _ _ _ _ _ _ _ _ _ _ (omega (arith, else1-from-return-2 c .if1 .left)) (start .pre) (after-call .call .kept .0) (after-call .call .kept .1 .0) (after-call .call .kept .1 .1 .0) (second-from-return-2 c .second .ensures .0) (after-call .call .ensures)
+    operation-first _ _ _ _ _ _ _ _ _ _ _ _ _ _ _ _ _ (omega (arith, else1-from-return-2 c .if1 .left)) (start .pre) (after-call .call .kept .0) (after-call .call .kept .1 .0) (after-call .call .kept .1 .1 .0) (second-from-return-2 c .second .ensures .0) (after-call .call .ensures)
 
 pub operation-within-spec : {M : Type 1} → statement M
 operation-within-spec =
@@ -110,4 +116,6 @@ operation-within-spec =
     same-length
     same-length-2
     same-length-3
+    same-length-4
+    same-length-5
     returns-2)
