@@ -45,7 +45,17 @@ pub fn conjunction(
         let left = columnsMade (now (vars .exit)) (now (lows .exit)) (now (highs .exit)) (now (heads .exit)) (now (links .exit)) in
         madeOf left r ≡ operation Operation.Conjunction lent count (f .0) (g .0)) ⌝ }
 {
-    single::call::call(vars, lows, highs, heads, links, count, Operation::Conjunction, f, g)
+    single::call::call(
+        vars,
+        lows,
+        highs,
+        heads,
+        links,
+        count,
+        Operation::Conjunction,
+        f,
+        g,
+    )
 }
 
 // The negation of f; or 7, 26, 13, 23.
@@ -63,7 +73,17 @@ pub fn negation(
         let left = columnsMade (now (vars .exit)) (now (lows .exit)) (now (highs .exit)) (now (heads .exit)) (now (links .exit)) in
         madeOf left r ≡ operation Operation.Negation lent count (f .0) 1) ⌝ }
 {
-    single::call::call(vars, lows, highs, heads, links, count, Operation::Negation, f, NodeNo(1))
+    single::call::call(
+        vars,
+        lows,
+        highs,
+        heads,
+        links,
+        count,
+        Operation::Negation,
+        f,
+        NodeNo(1),
+    )
 }
 
 // f cofactored by the diagram g; or 7, 26, 13, 27, 23.
@@ -82,7 +102,17 @@ pub fn cofactor(
         let left = columnsMade (now (vars .exit)) (now (lows .exit)) (now (highs .exit)) (now (heads .exit)) (now (links .exit)) in
         madeOf left r ≡ operation Operation.Cofactor lent count (f .0) (g .0)) ⌝ }
 {
-    single::call::call(vars, lows, highs, heads, links, count, Operation::Cofactor, f, g)
+    single::call::call(
+        vars,
+        lows,
+        highs,
+        heads,
+        links,
+        count,
+        Operation::Cofactor,
+        f,
+        g,
+    )
 }
 
 // f with the variables of `positive` made true and those of `negative` false; or 7, 26, 13, 15, 23.

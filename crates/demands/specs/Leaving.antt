@@ -23,8 +23,8 @@ use Rattle.verdict.specs.MetFirst.{Met, metBy}
 use Rattle.verdict.specs.Satisfies.{clausesOf, readToEnd}
 use Rattle.demands.specs.Calls.{valueAt, inGoodOrder}
 
--- What is handed to the check: the columns with their index and count, the member list and its marks, the scratch list, the bytes of formula and
--- proof.
+-- What is handed to the check: the columns with their index and count, the member list and its marks, the scratch list, the bytes of
+-- formula and proof.
 pub record Lent : Type 0 where
   pub columns : Columns
   pub count : ℕ

@@ -112,7 +112,17 @@ pub extern "C" fn cablesalak_cofactor_literals(
         let left = columnsMade (now (vars .exit)) (now (lows .exit)) (now (highs .exit)) (now (heads .exit)) (now (links .exit)) in
         madeOf left r ≡ operation (Operation.Literals positive negative) lent count f 1) ⌝ }
 {
-    checker::cofactor_literals(vars, lows, highs, heads, links, count, NodeNo(f), positive, negative)
+    checker::cofactor_literals(
+        vars,
+        lows,
+        highs,
+        heads,
+        links,
+        count,
+        NodeNo(f),
+        positive,
+        negative,
+    )
 }
 
 // The check of a formula and a proof. Number 0: no assignment satisfies the formula.

@@ -264,13 +264,57 @@ pub fn call<'a>(
         };
     }
     if vars.len() <= 64 {
-        return check_64(vars, lows, highs, heads, links, members, scratch, struck, formula, proof);
+        return check_64(
+            vars,
+            lows,
+            highs,
+            heads,
+            links,
+            members,
+            scratch,
+            struck,
+            formula,
+            proof,
+        );
     }
     if vars.len() <= 4096 {
         if proof.len() <= 2048 {
-            return check_4096_short(vars, lows, highs, heads, links, members, scratch, struck, formula, proof);
+            return check_4096_short(
+                vars,
+                lows,
+                highs,
+                heads,
+                links,
+                members,
+                scratch,
+                struck,
+                formula,
+                proof,
+            );
         }
-        return check_4096_long(vars, lows, highs, heads, links, members, scratch, struck, formula, proof);
+        return check_4096_long(
+            vars,
+            lows,
+            highs,
+            heads,
+            links,
+            members,
+            scratch,
+            struck,
+            formula,
+            proof,
+        );
     }
-    check_65536(vars, lows, highs, heads, links, members, scratch, struck, formula, proof)
+    check_65536(
+        vars,
+        lows,
+        highs,
+        heads,
+        links,
+        members,
+        scratch,
+        struck,
+        formula,
+        proof,
+    )
 }

@@ -21,11 +21,11 @@ clear-bytes-requires c κs =
 module _ (c : tie.After-empty) where
   abbrev start-from-empty : tie.Start
   start-from-empty = c .before .before .before .before .before .before .before .before .before .before .before .before .before .before
-      .before .before .before
+      .before .before .before .before .before
 
 module _ (c : tie.After-clear-bytes) where
   abbrev empty-from-clear-bytes : tie.After-empty
-  empty-from-clear-bytes = c .before .before .before .before .before .before .before .before .before .before
+  empty-from-clear-bytes = c .before .before .before .before .before .before .before .before .before .before .before .before .before .before
 
 module _ (c : tie.After-run-header-arg10) where
   abbrev clear-bytes-from-run-header-call : tie.After-clear-bytes
@@ -41,7 +41,7 @@ module _ (c : tie.After-run-header) where
   abbrev clear-bytes-from-run-header : tie.After-clear-bytes
   clear-bytes-from-run-header = c .before .before .before .before .before .before .before .before .before .before .before .before .before
 
-module _ (c : tie.After-slice-known26) where
+module _ (c : tie.After-slice-known28) where
   abbrev run-header-from-return : tie.After-run-header
   run-header-from-return = c .before .before .before .before .before .before .before .before .before .before .before .before .before .before
       .before .before .before .before .before .before .before .before .before .before

@@ -34,7 +34,7 @@ module _ (c : tie.After-number) where
 
 module _ (c : tie.After-empty) where
   abbrev number-from-empty : tie.After-number
-  number-from-empty = c .before .before .before .before .before .before
+  number-from-empty = c .before .before .before .before .before .before .before .before
 
 module _ (c : tie.After-run-proof-arg10) where
   abbrev count-from-run-proof-call : tie.After-count
@@ -50,9 +50,9 @@ module _ (c : tie.After-run-proof) where
   abbrev count-from-run-proof : tie.After-count
   count-from-run-proof = c .before .before .before .before .before .before .before .before .before .before .before .before
 
-module _ (c : tie.After-slice-known20) where
+module _ (c : tie.After-slice-known22) where
   abbrev empty-from-return : tie.After-empty
-  empty-from-return = c .before .before .before .before .before .before .before .before
+  empty-from-return = c .before .before .before .before .before .before .before .before .before .before .before .before
 
   abbrev number-from-return : tie.After-number
   number-from-return = number-from-empty empty-from-return
@@ -63,7 +63,7 @@ module _ (c : tie.After-slice-known20) where
   abbrev start-from-return : tie.Start
   start-from-return = start-from-read-clauses read-clauses-from-return
 
-module _ (c : tie.After-slice-known30) where
+module _ (c : tie.After-slice-known32) where
   abbrev run-proof-from-return-2 : tie.After-run-proof
   run-proof-from-return-2 = c .before .before .before .before .before .before .before .before .before .before .before .before .before
       .before .before .before .before .before .before .before

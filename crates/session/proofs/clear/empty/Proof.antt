@@ -3,7 +3,6 @@ use borrow.Author.Needs.{needs}
 use Rattle.session.proofs.clear.empty.Statement.{statement}
 use Rattle.session.proofs.clear.empty.Tie as tie
 
--- The ways back, written by ways.py: TO-from-FROM leads from the place FROM of the code to the place TO before it.
 clear-bytes-requires : tie.Need-clear-bytes-requires
 clear-bytes-requires c κs = search needs
 
@@ -39,6 +38,39 @@ same-length-5 c = search needs
 
 same-length-6 : tie.Need-same-length-6
 same-length-6 c = search needs
+
+-- The ways back, written by ways.py: TO-from-FROM leads from the place FROM of the code to the place TO before it.
+module _ (c : tie.After-clear-numbers) where
+  abbrev clear-bytes-from-clear-numbers : tie.After-clear-bytes
+  clear-bytes-from-clear-numbers = c .before .before .before .before
+
+module _ (c : tie.After-clear-numbers2) where
+  abbrev clear-numbers-from-clear-numbers2 : tie.After-clear-numbers
+  clear-numbers-from-clear-numbers2 = c .before .before .before .before
+
+module _ (c : tie.After-clear-numbers3) where
+  abbrev clear-numbers2-from-clear-numbers3 : tie.After-clear-numbers2
+  clear-numbers2-from-clear-numbers3 = c .before .before .before .before
+
+module _ (c : tie.After-clear-numbers4) where
+  abbrev clear-numbers3-from-clear-numbers4 : tie.After-clear-numbers3
+  clear-numbers3-from-clear-numbers4 = c .before .before .before .before
+
+module _ (c : tie.After-slice-known12) where
+  abbrev clear-numbers4-from-return : tie.After-clear-numbers4
+  clear-numbers4-from-return = c .before .before .before .before .before .before
+
+  abbrev clear-numbers3-from-return : tie.After-clear-numbers3
+  clear-numbers3-from-return = clear-numbers3-from-clear-numbers4 clear-numbers4-from-return
+
+  abbrev clear-numbers2-from-return : tie.After-clear-numbers2
+  clear-numbers2-from-return = clear-numbers2-from-clear-numbers3 clear-numbers3-from-return
+
+  abbrev clear-numbers-from-return : tie.After-clear-numbers
+  clear-numbers-from-return = clear-numbers-from-clear-numbers2 clear-numbers2-from-return
+
+  abbrev clear-bytes-from-return : tie.After-clear-bytes
+  clear-bytes-from-return = clear-bytes-from-clear-numbers clear-numbers-from-return
 
 returns : tie.Need-returns
 returns c =
