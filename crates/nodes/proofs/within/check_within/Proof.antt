@@ -8,11 +8,11 @@ use Rattle.nodes.proofs.within.check_within.Tie as tie
 -- The ways back, written by ways.py: TO-from-FROM leads from the place FROM of the code to the place TO before it.
 module _ (c : tie.Else1) where
   abbrev start-from-else1 : tie.Start
-  start-from-else1 = c .before .before .before .before .before .before .before .before .before
+  start-from-else1 = c .before .before .before .before .before .before .before .before .before .before .before
 
 module _ (c : tie.Then1) where
   abbrev start-from-then1 : tie.Start
-  start-from-then1 = c .before .before .before .before .before .before .before .before .before
+  start-from-then1 = c .before .before .before .before .before .before .before .before .before .before .before
 
 module _ (c : tie.After-check-arg) where
   abbrev start-from-slice-aggregate-check : tie.Start
@@ -31,11 +31,12 @@ module _ (c : tie.After-check-arg3) where
 
 module _ (c : tie.After-check) where
   abbrev else1-from-check : tie.Else1
-  else1-from-check = c .before .before .before .before .before .before .before
+  else1-from-check = c .before .before .before .before .before .before .before .before .before
 
-module _ (c : tie.After-slice-known12) where
+module _ (c : tie.After-slice-known16) where
   abbrev check-from-return-2 : tie.After-check
-  check-from-return-2 = c .before .before .before .before .before .before .before .before .before .before .before .before
+  check-from-return-2 = c .before .before .before .before .before .before .before .before .before .before .before .before .before .before
+      .before .before
 
   abbrev else1-from-return-2 : tie.Else1
   else1-from-return-2 = else1-from-check check-from-return-2

@@ -11,7 +11,7 @@ returns c = evaluation-past _ _ _ _ _ _ _ _ _ (c .if1 .taken)
 -- The ways back, written by ways.py: TO-from-FROM leads from the place FROM of the code to the place TO before it.
 module _ (c : tie.Else1) where
   abbrev start-from-else1 : tie.Start
-  start-from-else1 = c .before .before .before .before
+  start-from-else1 = c .before .before .before .before .before .before
 
 module _ (c : tie.After-evaluate-arg) where
   abbrev start-from-slice-aggregate-evaluate : tie.Start

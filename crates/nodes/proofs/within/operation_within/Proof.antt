@@ -8,11 +8,11 @@ use Rattle.nodes.proofs.within.operation_within.Tie as tie
 -- The ways back, written by ways.py: TO-from-FROM leads from the place FROM of the code to the place TO before it.
 module _ (c : tie.Else1) where
   abbrev start-from-else1 : tie.Start
-  start-from-else1 = c .before .before .before .before
+  start-from-else1 = c .before .before .before .before .before .before
 
 module _ (c : tie.Then1) where
   abbrev start-from-then1 : tie.Start
-  start-from-then1 = c .before .before .before .before
+  start-from-then1 = c .before .before .before .before .before .before
 
 module _ (c : tie.After-call-arg) where
   abbrev start-from-slice-aggregate-call : tie.Start
@@ -26,22 +26,22 @@ module _ (c : tie.After-call-arg2) where
   start-from-slice-aggregate-call-2 = start-from-else1 else1-from-slice-aggregate-call-2
 
 module _ (c : tie.After-call-arg3) where
-  abbrev second-from-call-call : tie.After-second
-  second-from-call-call = c .before .before .before
+  abbrev second-from-slice-aggregate-call-3 : tie.After-second
+  second-from-slice-aggregate-call-3 = c .before .before .before
 
-  abbrev else1-from-call-call : tie.Else1
-  else1-from-call-call = second-from-call-call .before
+  abbrev else1-from-slice-aggregate-call-3 : tie.Else1
+  else1-from-slice-aggregate-call-3 = second-from-slice-aggregate-call-3 .before
 
-  abbrev start-from-call-call : tie.Start
-  start-from-call-call = start-from-else1 else1-from-call-call
+  abbrev start-from-slice-aggregate-call-3 : tie.Start
+  start-from-slice-aggregate-call-3 = start-from-else1 else1-from-slice-aggregate-call-3
 
 module _ (c : tie.After-call) where
   abbrev second-from-call : tie.After-second
-  second-from-call = c .before .before .before .before
+  second-from-call = c .before .before .before .before .before .before
 
-module _ (c : tie.After-slice-known6) where
+module _ (c : tie.After-slice-known10) where
   abbrev call-from-return-2 : tie.After-call
-  call-from-return-2 = c .before .before .before .before .before .before
+  call-from-return-2 = c .before .before .before .before .before .before .before .before .before .before
 
   abbrev second-from-return-2 : tie.After-second
   second-from-return-2 = second-from-call call-from-return-2
@@ -74,7 +74,7 @@ slice-relend-prefix-call-3 : tie.Need-slice-relend-prefix-call-3
 slice-relend-prefix-call-3 c = search needs
 
 slice-aggregate-call-3 : tie.Need-slice-aggregate-call-3
-slice-aggregate-call-3 c = first-length _ _ (omega (arith, else1-from-call-call c .if1 .left)) (start-from-call-call c .pre .2)
+slice-aggregate-call-3 c = first-length _ _ (omega (arith, else1-from-slice-aggregate-call-3 c .if1 .left)) (start-from-slice-aggregate-call-3 c .pre .2)
 
 call-requires : tie.Need-call-requires
 call-requires c κs = search needs
