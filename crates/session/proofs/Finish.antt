@@ -27,10 +27,10 @@ use Rattle.steps.specs.declared.State.{State}
 use Rattle.steps.specs.States.{Lent, tableIn, stateOf, Held}
 use Rattle.session.specs.declared.Checked.{Checked}
 use Rattle.session.specs.Checked.{outcomeOf}
-use Rattle.session.specs.declared.formula.Start.{Start}
-use Rattle.session.specs.declared.formula.Start.the-variants.{Begun, Refused}
-use Rattle.session.specs.Formula.{Opened, saidFrom, Built}
-use Rattle.session.specs.Records.{Ends}
+use Rattle.formula.specs.declared.Start.{Start}
+use Rattle.formula.specs.declared.Start.the-variants.{Begun, Refused}
+use Rattle.formula.specs.Formula.{Opened, saidFrom, Built}
+use Rattle.replay.specs.Records.{Ends}
 use Rattle.table.proofs.Zeros.{part-zeros, zeros-at}
 
 -- ---- an outcome from its parts

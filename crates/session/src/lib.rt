@@ -13,11 +13,10 @@ ghost use Rattle.walks.specs.Readable.{Roomy};
 ghost use Rattle.conflict.specs.Marks.{unmarked};
 ghost use Rattle.verdict.specs.Check.{emptied, clauses, verdict, zeros, lentFits, outcome};
 ghost use Rattle.session.specs.Checked.{outcomeOf};
-ghost use Rattle.session.specs.Formula.{Opened};
+ghost use Rattle.formula.specs.Formula.{Opened};
 
 pub mod call;
 pub mod clear;
-pub mod formula;
 pub mod proof;
 
 // What the check says: 01's number and its place, the accepted lines, their rounds, the table's count, and the greatest count reached.

@@ -5,8 +5,8 @@ use lib.ListN.{length}
 use borrow.Author.Needs.{needs}
 use Rattle.conflict.specs.Marks.{unmarked}
 use Rattle.verdict.specs.Check.{zeros}
-use Rattle.session.specs.Formula.{Begins}
-use Rattle.session.proofs.Emptied.{opened-good}
+use Rattle.formula.specs.Formula.{Begins}
+use Rattle.formula.proofs.Emptied.{opened-good}
 use Rattle.session.proofs.Finish.{refused-is, begun-is, unbegun-is}
 use Rattle.session.proofs.run_clauses.Statement.{statement}
 use Rattle.session.proofs.run_clauses.Tie as tie

@@ -7,7 +7,7 @@ ghost use lib.ListN.{length};
 ghost use Rattle.dimacs.specs.Clauses.{clausesFrom};
 ghost use Rattle.table.specs.Indexed.{tableOf};
 ghost use Rattle.verdict.specs.Check.{emptied, clauses};
-ghost use Rattle.session.specs.Formula.{Opened, saidFrom, Begins};
+ghost use Rattle.formula.specs.Formula.{Opened, saidFrom, Begins};
 
 // What the formula comes to: how many nodes and how many members there are before the first record; or a number, a place and the greatest
 // count reached.

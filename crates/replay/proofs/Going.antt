@@ -20,8 +20,8 @@ use Rattle.steps.specs.declared.State.{State}
 use Rattle.steps.specs.declared.Step.{Step}
 use Rattle.steps.specs.declared.Step.the-variants.{Next, Stop, Spent}
 use Rattle.steps.specs.States.{Lent, tableIn, stateOf, stepOf, Held, HeldAfter, Unmoved, Stepped}
-use Rattle.session.specs.Records.{Ends}
-use Rattle.session.proofs.Near.{Near, step-near}
+use Rattle.replay.specs.Records.{Ends}
+use Rattle.replay.proofs.Near.{Near, step-near}
 
 -- ---- one step of the definition
 

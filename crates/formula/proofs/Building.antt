@@ -27,8 +27,8 @@ use Rattle.clause.specs.Words.{clauseOfWords}
 use Rattle.clause.proofs.Literals.{clause-of-words}
 use Rattle.verdict.specs.Check.{emptied, begun, Verdict, records, refusedFormula, clauses}
 use Rattle.verdict.proofs.Uses.{UsesAfter, place-uses}
-use Rattle.session.specs.Formula.{Opened, Built}
-use Rattle.session.proofs.Emptied.{opened-good}
+use Rattle.formula.specs.Formula.{Opened, Built}
+use Rattle.formula.proofs.Emptied.{opened-good}
 use Rattle.table.proofs.Zeros.{zeros-at}
 
 -- ---- one clause of the definition, by the outcome of its placing

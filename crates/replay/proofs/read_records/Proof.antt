@@ -7,9 +7,9 @@ use lib.ListN.{length}
 use borrow.Author.Needs.{needs}
 use Rattle.verdict.specs.Check.{records}
 use Rattle.steps.specs.States.{Lent, lentOf, stateOf}
-use Rattle.session.proofs.Going.{Going, record-short, going-start, going-asks, going-end, stop-near, going-stop, going-spent, next-within, next-takes, going-next}
-use Rattle.session.proofs.proof.read_records.Statement.{statement}
-use Rattle.session.proofs.proof.read_records.Tie as tie
+use Rattle.replay.proofs.Going.{Going, record-short, going-start, going-asks, going-end, stop-near, going-stop, going-spent, next-within, next-takes, going-next}
+use Rattle.replay.proofs.read_records.Statement.{statement}
+use Rattle.replay.proofs.read_records.Tie as tie
 
 abbrev Inv-loop : tie.InvT-loop
 Inv-loop vars₀ lows₀ highs₀ heads₀ links₀ memo₀ marks₀ members₀ scratch₀ struck₀ variables proof state₀ at₀ vars lows highs heads links memo marks members scratch struck state at =

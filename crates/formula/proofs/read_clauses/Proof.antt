@@ -6,9 +6,9 @@ use native.Mathlib.Omega.{arith}
 use lib.ListN.{length, length-set}
 use borrow.Author.Needs.{needs}
 use Rattle.table.specs.Indexed.{tableOf, Outcome, outcomeOf}
-use Rattle.session.proofs.Building.{Building, building-start, building-end, building-refused, building-more, building-full, building-next}
-use Rattle.session.proofs.formula.read_clauses.Statement.{statement}
-use Rattle.session.proofs.formula.read_clauses.Tie as tie
+use Rattle.formula.proofs.Building.{Building, building-start, building-end, building-refused, building-more, building-full, building-next}
+use Rattle.formula.proofs.read_clauses.Statement.{statement}
+use Rattle.formula.proofs.read_clauses.Tie as tie
 
 abbrev Inv-loop : tie.InvT-loop
 Inv-loop vars₀ lows₀ highs₀ heads₀ links₀ members₀ formula variables wanted from count₀ made₀ at₀ vars lows highs heads links members count made at =

@@ -6,8 +6,8 @@ use lib.ListN.{length, getD, take}
 use Rattle.table.specs.Nodes.{at}
 use Rattle.table.specs.Indexed.{Table, tableOf, size, nodesOf, indexed, Good}
 use Rattle.verdict.specs.Check.{emptied, zeros, begun, Verdict, records, refusedFormula}
-use Rattle.session.specs.declared.formula.Start.{Start}
-use Rattle.session.specs.declared.formula.Start.the-variants.{Begun, Refused}
+use Rattle.formula.specs.declared.Start.{Start}
+use Rattle.formula.specs.declared.Start.the-variants.{Begun, Refused}
 
 -- The emptied table with its index, and the emptied member list.
 pub record Opened (T : Table) (members : List ℕ) : Type 0 where

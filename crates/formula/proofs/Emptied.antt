@@ -6,7 +6,7 @@ use Rattle.table.specs.Indexed.{Table, size, Good}
 use Rattle.table.proofs.Written.{good-indexed}
 use Rattle.verdict.specs.Check.{emptied}
 use Rattle.verdict.proofs.Clauses.{emptied-ordered}
-use Rattle.session.specs.Formula.{Opened}
+use Rattle.formula.specs.Formula.{Opened}
 
 pub opened-good : (T : Table) (members : List ℕ) → Opened T members → Good T
 opened-good T members O = subst Good (sym (O .written)) (good-indexed (size T) emptied emptied-ordered (O .least) (O .most))
