@@ -15,6 +15,7 @@ ghost use Rattle.table.specs.Nodes.{diagramAt};
 ghost use Rattle.table.specs.Indexed.{tableOf, nodesOf, outcomeOf};
 ghost use Rattle.walks.specs.Readable.{Readable, Roomy, nodesIn, ListReady};
 ghost use Rattle.operate.specs.Inner.{applied, Allowed, MemoRight, Ready};
+ghost use Rattle.operate.specs.Thin.{SomeTable};
 ghost use Rattle.supports.specs.Supports.{Support, Supports};
 ghost use Rattle.conflict.specs.Members.{Quiet};
 ghost use Rattle.table.specs.Lists.{diagramsOf, Inside};
@@ -32,8 +33,18 @@ pub struct Made {
     pub count: usize,
 }
 
+// Whether f is thin, where it is asked for.
+fn is_quick(thin: bool, lows: &[u16], highs: &[u16], f: NodeNo) -> bool
+    requires { ⌜ SomeTable (now lows) (now highs) (f .0) ⌝ }
+{
+    if thin {
+        return operate::thin::is_thin(lows, highs, f);
+    }
+    false
+}
+
 // The operation on the nodes f and g, where `word` has f's variables and `touching` those that the cofactor is by: f itself, at once, where
-// none is in both.
+// none is in both. Where g is thin a thin f has no use for the memo.
 fn apply_touching(
     vars: &mut [u8],
     lows: &mut [u16],
@@ -47,6 +58,7 @@ fn apply_touching(
     g: NodeNo,
     word: u64,
     touching: u64,
+    thin: bool,
 ) -> Placed
     requires { ⌜ (
         let before = tableOf (now vars) (now lows) (now highs) (now heads) (now links) count in
@@ -67,6 +79,9 @@ fn apply_touching(
             node: f,
             count,
         };
+    }
+    if is_quick(thin, lows, highs, f) {
+        return operate::thin::apply_thin(vars, lows, highs, heads, links, count, op, f, g);
     }
     operate::memo::clear_forgetful(memo);
     operate::apply(vars, lows, highs, heads, links, memo, count, op, f, g)
@@ -95,6 +110,7 @@ fn member_by(
     op: Operation,
     g: NodeNo,
     touching: u64,
+    thin: bool,
     i: usize,
 ) -> Replaced
     requires { ⌜ (
@@ -127,6 +143,7 @@ fn member_by(
         g,
         word,
         touching,
+        thin,
     );
     let k = p.node;
     if p.full || k.0 == f.0 {
@@ -185,6 +202,7 @@ pub fn all_by(
         r .written ≡ differing (diagramsOf (nodesOf before) (now (list .entry))) (results op before (now (list .entry)) (g .0))) ⌝ }
 {
     operate::memo::clear_memo(memo);
+    let thin = operate::thin::is_thin(lows, highs, g);
     let mut n = count;
     let mut written: usize = 0;
     let mut i: usize = 0;
@@ -202,6 +220,7 @@ pub fn all_by(
             op,
             g,
             touching,
+            thin,
             i,
         );
         n = r.count;
