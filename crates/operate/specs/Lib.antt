@@ -1,2 +1,3 @@
 pub mod Operate
 pub mod Inner
+pub mod Thin

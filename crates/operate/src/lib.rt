@@ -11,6 +11,7 @@ ghost use Rattle.operate.specs.Inner.{applied, terminalOf, level, top, c
 ghost use Rattle.operate.specs.Inner.{Ready, SidesReady, joinedOf};
 
 pub mod memo;
+pub mod thin;
 
 // An operation; an operation of one diagram has node 1 for its second operand.
 pub enum Operation {

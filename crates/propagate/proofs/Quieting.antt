@@ -6,13 +6,13 @@ use mathlib.Core.List.{List}
 use Prim.Native.Nat.{ℕ, _+_, _≤_, _<_}
 use native.Mathlib.Omega.{arith}
 use native.Mathlib.Decide.{ℕ-discrete}
-use lib.ListN.{length, getD, set, length-set}
+use lib.ListN.{length, getD, set, length-set, length-map}
 use lib.Seq.{getD-set-same, getD-set-other}
 use lib.Dec.{eqb}
 use lib.Bits.{bitAnd, bitOr}
 use Rattle.meaning.specs.Diagram.{Diagram, leaf, node, Reduced}
 use Rattle.meaning.specs.Operations.{negation}
-use Rattle.meaning.specs.Rules.{conflicts}
+use Rattle.meaning.specs.Rules.{conflicts, hasUnit}
 use Rattle.meaning.specs.Words.{inWord}
 use Rattle.meaning.proofs.Booleans.{t≢f}
 use Rattle.meaning.proofs.PointwiseSteps.{negation-leaf}
@@ -32,6 +32,7 @@ use Rattle.walks.specs.Readable.{ListReady}
 use Rattle.table.specs.Lists.{diagramsOf}
 use Rattle.conflict.proofs.Asked.{no-conflict}
 use Rattle.propagate.specs.Made.{results, AllMade}
+use Rattle.propagate.specs.Units.{Unitless, Asked}
 use Rattle.propagate.specs.Touching.{reworded, Apart, AllTouched}
 use Rattle.propagate.proofs.Touching.{words-apart, stays}
 use Rattle.propagate.proofs.Replacing.{getD-map, result-at}
@@ -115,3 +116,11 @@ module _ (T : Table) (list memo words : List ℕ) (R : ListReady T list memo) (l
   quiet-next c i j p q x y ni nj e =
       no-conflict (nodesOf T) list c i j (omega arith) (omega arith)
       (sym (unchanged j (omega arith) y) ∙ e ∙ ap (negation 64) (unchanged i (omega arith) x))
+
+  -- a member that the round did not change has the units that it had
+  pub asked-next : (place : ℕ) → place ≤ length list → Unitless (diagramsOf (nodesOf T) list) place → Asked (diagramsOf (nodesOf T′) list′) words′ (bitOr (u .positive) (u .negative)) place
+  asked-next place p U = (
+    omega (arith, length-map list′ (diagramAt (nodesOf T′))),
+    λ k q e.
+        ap (hasUnit 64 64) (getD-map (diagramAt (nodesOf T′)) list′ k 0 (leaf false) (omega arith) ∙ unchanged k (omega arith) e ∙ sym (getD-map (diagramAt (nodesOf T)) list k 0 (leaf false) (omega arith))) ∙ U k q,
+  )

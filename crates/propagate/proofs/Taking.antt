@@ -7,10 +7,11 @@ use mathlib.Core.Option.{none, some}
 use Prim.Native.Nat.{ℕ, zero, suc, _+_, _-_, _^_, _≤_, _<_}
 use native.Mathlib.Omega.{arith}
 use native.Mathlib.Numerals.{add-one}
-use native.Mathlib.Decide.{ℕ-discrete}
+use native.Mathlib.Decide.{ℕ-discrete, decLt}
 use lib.ListN.{length, getD, drop, drop-of-length-le}
 use lib.Seq.{drop-cons}
-use Rattle.meaning.specs.Diagram.{Diagram}
+use lib.Bits.{bitAnd}
+use Rattle.meaning.specs.Diagram.{Diagram, leaf}
 use Rattle.meaning.specs.Operations.{isUnit}
 use Rattle.meaning.specs.Rules.{hasUnit, firstWithUnit}
 use Rattle.meaning.specs.Words.{inWord}
@@ -22,7 +23,8 @@ use Rattle.words.specs.Sets.{has}
 use Rattle.words.proofs.Variables.{word-zero}
 use Rattle.units.specs.Units.{UnitsAt}
 use Rattle.table.specs.Lists.{diagramsOf}
-use Rattle.propagate.specs.Units.{Taken}
+use Rattle.propagate.specs.Units.{Taken, Unitless, Asked, Skips}
+use Rattle.propagate.proofs.Replacing.{getD-map}
 
 -- ---- units
 
@@ -112,3 +114,42 @@ module _ (n : ℕ) (t : List Node) (list : List ℕ) (i : ℕ) where
 
   pub first-none : length list ≤ i → firstWithUnit n (diagramsOf t (drop i list)) ≡ none
   first-none h = ap (λ (l : List ℕ). firstWithUnit n (diagramsOf t l)) (drop-of-length-le list {i = i} h) ∙ first-nil n
+
+-- ---- members that are passed over
+
+pub unitless-next : (ms : List Diagram) (i : ℕ) → Unitless ms i → hasUnit 64 64 (getD ms i (leaf false)) ≡ false → Unitless ms (i + 1)
+unitless-next ms i U e k p = go (ℕ-discrete k i)
+  where
+    go : Dec (k ≡ i) → hasUnit 64 64 (getD ms k (leaf false)) ≡ false
+    go (yes z) = ap (λ (j : ℕ). hasUnit 64 64 (getD ms j (leaf false))) z ∙ e
+    go (no z) = U k (omega arith)
+
+pub unitless-skip : (ms : List Diagram) (words : List ℕ) (touching asked i r : ℕ) → Asked ms words touching asked → Skips words touching asked i r → Unitless ms i → Unitless ms r
+unitless-skip ms words touching asked i r A S U k p = go (decLt k i)
+  where
+    go : Dec (k < i) → hasUnit 64 64 (getD ms k (leaf false)) ≡ false
+    go (yes q) = U k q
+    go (no q) = let s = S .passed k (omega (arith, q)) p in A .1 k (s .0) (s .1)
+
+pub skips-none : (words : List ℕ) (touching asked from : ℕ) → from ≤ length words → Skips words touching asked from from
+skips-none words touching asked from h = record { from-on = omega arith; most = h; passed = λ k p q. absurd (omega arith) }
+
+pub skips-next : (words : List ℕ) (touching asked from i : ℕ) → asked ≤ length words → Skips words touching asked from i → i < asked → bitAnd (getD words i 0) touching ≡ 0
+    → Skips words touching asked from (i + 1)
+skips-next words touching asked from i h S less e =
+    record { from-on = omega (arith, S .from-on); most = omega (arith, h); passed = λ k p q. go k p q (ℕ-discrete k i) }
+  where
+    go : (k : ℕ) → from ≤ k → k < i + 1 → Dec (k ≡ i) → (k < asked) × (bitAnd (getD words k 0) touching ≡ 0)
+    go k p q (yes z) = (omega arith, ap (λ (j : ℕ). bitAnd (getD words j 0) touching) z ∙ e)
+    go k p q (no z) = S .passed k p (omega arith)
+
+module _ (t : List Node) (list : List ℕ) where
+  pub member-is : (i : ℕ) → i < length list → getD (diagramsOf t list) i (leaf false) ≡ diagramAt t (getD list i 0)
+  member-is i p = getD-map (diagramAt t) list i 0 (leaf false) p
+
+  pub first-passed : (i : ℕ) → i ≤ length list → Unitless (diagramsOf t list) i → firstWithUnit 64 (diagramsOf t list) ≡ firstWithUnit 64 (diagramsOf t (drop i list))
+  first-passed zero h U = refl
+  first-passed (suc i) h U =
+      first-passed i (omega arith) (λ k p. U k (omega arith))
+      ∙ first-later 64 t list i (omega arith) (ap (hasUnit 64 64) (sym (member-is i (omega arith))) ∙ U i (omega arith))
+      ∙ ap (λ (j : ℕ). firstWithUnit 64 (diagramsOf t (drop j list))) (add-one i)

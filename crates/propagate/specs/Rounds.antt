@@ -3,6 +3,7 @@ use mathlib.Core.Path.{_≡_}
 use mathlib.Core.Bool.{false}
 use mathlib.Core.List.{List}
 use Prim.Native.Nat.{ℕ, _-_, _≤_, _<_}
+use lib.ListN.{length}
 use Rattle.meaning.specs.Diagram.{Diagram}
 use Rattle.meaning.specs.Rules.{conflicts, Propagation, still, propagate}
 use Rattle.table.specs.Indexed.{Table, size, nodesOf}
@@ -10,17 +11,18 @@ use Rattle.table.specs.Making.{placedAll}
 use Rattle.propagate.specs.declared.Propagated.{Propagated}
 use Rattle.propagate.specs.declared.Next.{Next}
 use Rattle.propagate.specs.declared.Next.the-variants.{End, By}
-use Rattle.propagate.specs.Units.{Taken}
+use Rattle.propagate.specs.Units.{Taken, Unitless}
 use Rattle.table.specs.Lists.{Extended, room}
 
 -- The rounds that may still come after so many.
 abbrev pub roundsLeft : ℕ → ℕ
 roundsLeft rounds = 64 - rounds
 
--- What comes after so many rounds: the end, with or without a conflict, or a round by the units given.
+-- What comes after so many rounds: the end, with or without a conflict, or a round by the units given, of
+-- the member at the place.
 abbrev pub Comes : List Diagram → ℕ → Next → Type 0
 Comes ms rounds (End conflict) = propagate (roundsLeft rounds) 64 ms ≡ still conflict
-Comes ms rounds (By u) = (rounds < 64) × (conflicts 64 ms ≡ false) × Taken 64 ms u
+Comes ms rounds (By u place) = (rounds < 64) × (conflicts 64 ms ≡ false) × Taken 64 ms u × (place ≤ length ms) × Unitless ms place
 
 -- The propagation p over the table t: `full` exactly where what it makes finds no room, else its conflict and its rounds.
 pub record Said (t : Table) (p : Propagation) (r : Propagated) (t′ : Table) : Type 0 where

@@ -1,4 +1,5 @@
 // Unit propagation over a list of nodes.
+use crate::first::FirstUnits;
 use operate::Operation;
 use table::NodeNo;
 use table::Placed;
@@ -13,16 +14,19 @@ ghost use Rattle.meaning.specs.Rules.{firstWithUnit, byUnits, unitProp};
 ghost use mathlib.Core.Bool.{false};
 ghost use Rattle.table.specs.Nodes.{diagramAt};
 ghost use Rattle.table.specs.Indexed.{tableOf, nodesOf, outcomeOf};
-ghost use Rattle.walks.specs.Readable.{Readable, Roomy, nodesIn, ListReady};
+ghost use Rattle.walks.specs.Readable.{ListReady};
 ghost use Rattle.operate.specs.Inner.{applied, Allowed, MemoRight, Ready};
+ghost use Rattle.operate.specs.Thin.{SomeTable};
 ghost use Rattle.supports.specs.Supports.{Support, Supports};
 ghost use Rattle.conflict.specs.Members.{Quiet};
-ghost use Rattle.table.specs.Lists.{diagramsOf, Inside};
+ghost use Rattle.table.specs.Lists.{diagramsOf};
 ghost use Rattle.conflict.specs.Marks.{unmarked};
 ghost use Rattle.propagate.specs.Made.{results, unitResults, AllMade, differing};
 ghost use Rattle.propagate.specs.Touching.{Touches, AllTouched, OneMade};
-ghost use Rattle.propagate.specs.Units.{AreFirst, Taken};
+ghost use Rattle.propagate.specs.Units.{Taken, Asked};
 ghost use Rattle.propagate.specs.Rounds.{Comes, Said};
+
+pub mod first;
 
 // What making diagrams in their order gives: `full` where one of them found no room; how many members of the list were written, which are
 // those that changed; and the count.
@@ -32,8 +36,18 @@ pub struct Made {
     pub count: usize,
 }
 
+// Whether f is thin, where it is asked for.
+fn is_quick(thin: bool, lows: &[u16], highs: &[u16], f: NodeNo) -> bool
+    requires { ⌜ SomeTable (now lows) (now highs) (f .0) ⌝ }
+{
+    if thin {
+        return operate::thin::is_thin(lows, highs, f);
+    }
+    false
+}
+
 // The operation on the nodes f and g, where `word` has f's variables and `touching` those that the cofactor is by: f itself, at once, where
-// none is in both.
+// none is in both. Where g is thin a thin f has no use for the memo.
 fn apply_touching(
     vars: &mut [u8],
     lows: &mut [u16],
@@ -47,6 +61,7 @@ fn apply_touching(
     g: NodeNo,
     word: u64,
     touching: u64,
+    thin: bool,
 ) -> Placed
     requires { ⌜ (
         let before = tableOf (now vars) (now lows) (now highs) (now heads) (now links) count in
@@ -67,6 +82,9 @@ fn apply_touching(
             node: f,
             count,
         };
+    }
+    if is_quick(thin, lows, highs, f) {
+        return operate::thin::apply_thin(vars, lows, highs, heads, links, count, op, f, g);
     }
     operate::memo::clear_forgetful(memo);
     operate::apply(vars, lows, highs, heads, links, memo, count, op, f, g)
@@ -95,6 +113,7 @@ fn member_by(
     op: Operation,
     g: NodeNo,
     touching: u64,
+    thin: bool,
     i: usize,
 ) -> Replaced
     requires { ⌜ (
@@ -127,6 +146,7 @@ fn member_by(
         g,
         word,
         touching,
+        thin,
     );
     let k = p.node;
     if p.full || k.0 == f.0 {
@@ -185,6 +205,7 @@ pub fn all_by(
         r .written ≡ differing (diagramsOf (nodesOf before) (now (list .entry))) (results op before (now (list .entry)) (g .0))) ⌝ }
 {
     operate::memo::clear_memo(memo);
+    let thin = operate::thin::is_thin(lows, highs, g);
     let mut n = count;
     let mut written: usize = 0;
     let mut i: usize = 0;
@@ -202,6 +223,7 @@ pub fn all_by(
             op,
             g,
             touching,
+            thin,
             i,
         );
         n = r.count;
@@ -222,40 +244,6 @@ pub fn all_by(
     }
 }
 
-// The units by which a round cofactors, if there are any.
-pub enum FirstUnits {
-    Of(Literals),
-    Nothing,
-}
-
-// The units of the first listed node that has any. Clears the memo.
-fn first_units(
-    vars: &[u8],
-    lows: &[u16],
-    highs: &[u16],
-    memo: &mut [u64],
-    list: &[u16],
-    count: usize,
-) -> FirstUnits
-    requires { ⌜ Readable (now vars) (now lows) (now highs) count × Inside count (now list) × Roomy (now vars) (now memo) ⌝ }
-    ensures { λ r. ⌜ (
-        let nodes = nodesIn (now (vars .entry)) (now (lows .entry)) (now (highs .entry)) count in
-        AreFirst 64 (diagramsOf nodes (now (list .entry))) r) ⌝ }
-{
-    walks::clear_cells(memo, count);
-    let mut place: usize = 0;
-    while place < list.len() {
-        let member = NodeNo(list[place]);
-        let stamp = (place + 1) as u64;
-        let u = units::units_from(vars, lows, highs, memo, count, member, stamp);
-        if u.positive != 0 || u.negative != 0 {
-            return FirstUnits::Of(u);
-        }
-        place += 1;
-    }
-    FirstUnits::Nothing
-}
-
 // What a propagation says: `full` where a node found no room, else whether it conflicts, and its rounds; and the count.
 pub struct Propagated {
     pub full: bool,
@@ -264,13 +252,14 @@ pub struct Propagated {
     pub count: usize,
 }
 
-// What comes next in a propagation: its end, or a round by the units.
+// What comes next in a propagation: its end, or a round by the units of the member at the place.
 pub enum Next {
     End(bool),
-    By(Literals),
+    By(Literals, usize),
 }
 
-// What comes after so many rounds, the last of them by the variables of `touching`.
+// What comes after so many rounds, the last of them by the variables of `touching`, where before `asked` only members that have one of
+// them may have a unit.
 fn next_round(
     vars: &[u8],
     lows: &[u16],
@@ -283,6 +272,7 @@ fn next_round(
     words: &[u64],
     count: usize,
     touching: u64,
+    asked: usize,
     rounds: u32,
 ) -> Next
     requires { ⌜ (
@@ -290,7 +280,9 @@ fn next_round(
         ListReady before (now list) (now memo) × (now marks ≡ unmarked (length (now vars))) × (rounds ≤ 64)) ⌝ }
     requires { ⌜ (
         let before = tableOf (now vars) (now lows) (now highs) (now heads) (now links) count in
-        (length (now words) ≡ length (now list)) × Quiet (nodesOf before) (now list) (now words) touching) ⌝ }
+        (length (now words) ≡ length (now list))
+        × Quiet (nodesOf before) (now list) (now words) touching
+        × Asked (diagramsOf (nodesOf before) (now list)) (now words) touching asked) ⌝ }
     ensures { λ r. ⌜ (
         let before = tableOf (now (vars .entry)) (now (lows .entry)) (now (highs .entry)) (now (heads .entry)) (now (links .entry)) count in
         Comes (diagramsOf (nodesOf before) (now (list .entry))) rounds r) ⌝ }
@@ -314,8 +306,8 @@ fn next_round(
     if rounds == 64 {
         return Next::End(false);
     }
-    match first_units(vars, lows, highs, memo, list, count) {
-        FirstUnits::Of(u) => Next::By(u),
+    match first::first_units(vars, lows, highs, memo, list, words, count, touching, asked) {
+        FirstUnits::Of(u, place) => Next::By(u, place),
         FirstUnits::Nothing => Next::End(false),
     }
 }
@@ -400,6 +392,7 @@ pub fn unit_prop(
     let mut n = count;
     let mut rounds: u32 = 0;
     let mut touching: u64 = words::ALL;
+    let mut asked: usize = 0;
     loop {
         match next_round(
             vars,
@@ -413,6 +406,7 @@ pub fn unit_prop(
             words,
             n,
             touching,
+            asked,
             rounds,
         ) {
             Next::End(conflict) => {
@@ -423,7 +417,8 @@ pub fn unit_prop(
                     count: n,
                 };
             }
-            Next::By(u) => {
+            Next::By(u, place) => {
+                asked = place;
                 touching = u.positive | u.negative;
                 let made = round(vars, lows, highs, heads, links, memo, list, words, n, u);
                 n = made.count;

@@ -10,6 +10,7 @@ use Rattle.meaning.proofs.Booleans.{t≢f}
 use Rattle.table.specs.Indexed.{Table, Outcome, tableOf, nodesOf}
 use Rattle.table.specs.Lists.{diagramsOf}
 use Rattle.supports.specs.Supports.{Supports}
+use Rattle.operate.proofs.Passing.{some-table}
 use Rattle.propagate.specs.Made.{results}
 use Rattle.propagate.proofs.Counting.{Counting, counting-none}
 use Rattle.propagate.proofs.Quieting.{Rewording, rewording-none, rewording-next, rewording-all}
@@ -19,7 +20,7 @@ use Rattle.propagate.proofs.all_by.Statement.{statement}
 use Rattle.propagate.proofs.all_by.Tie as tie
 
 abbrev Inv-loop : tie.InvT-loop
-Inv-loop vars₀ lows₀ highs₀ heads₀ links₀ memo₀ list₀ words₀ count op g touching n₀ written₀ i₀ vars lows highs heads links memo list words n written i =
+Inv-loop vars₀ lows₀ highs₀ heads₀ links₀ memo₀ list₀ words₀ count op g touching thin n₀ written₀ i₀ vars lows highs heads links memo list words n written i =
     Replacing op (g .0) (tableOf vars₀ lows₀ highs₀ heads₀ links₀ count) list₀ (tableOf vars lows highs heads links n) list memo i
     × Supports (nodesOf (tableOf vars lows highs heads links n)) list words
     × Rewording words₀ words touching i
@@ -28,7 +29,7 @@ Inv-loop vars₀ lows₀ highs₀ heads₀ links₀ memo₀ list₀ words₀ cou
     × (length memo ≡ length memo₀)
 
 abbrev μ-loop : tie.MeasureT-loop
-μ-loop vars₀ lows₀ highs₀ heads₀ links₀ memo₀ list₀ words₀ count op g touching n₀ written₀ i₀ vars lows highs heads links memo list words n written i =
+μ-loop vars₀ lows₀ highs₀ heads₀ links₀ memo₀ list₀ words₀ count op g touching thin n₀ written₀ i₀ vars lows highs heads links memo list words n written i =
     length list₀ - i
 
 abbrev entry : tie.Start Inv-loop μ-loop → Table
@@ -55,16 +56,23 @@ module _ (c : tie.After-clear-memo Inv-loop μ-loop) where
   abbrev start-from-clear-memo : tie.Start Inv-loop μ-loop
   start-from-clear-memo = c .before .before .before .before .before .before .before .before .before .before
 
-module _ (c : tie.After-slice-known9 Inv-loop μ-loop) where
+module _ (c : tie.After-is-thin-arg2 Inv-loop μ-loop) where
+  abbrev clear-memo-from-is-thin-call : tie.After-clear-memo Inv-loop μ-loop
+  clear-memo-from-is-thin-call = c .before .before .before .before
+
+  abbrev start-from-is-thin-call : tie.Start Inv-loop μ-loop
+  start-from-is-thin-call = start-from-clear-memo clear-memo-from-is-thin-call
+
+module _ (c : tie.After-is-thin Inv-loop μ-loop) where
   abbrev clear-memo-from-loop-holds : tie.After-clear-memo Inv-loop μ-loop
-  clear-memo-from-loop-holds = c .before .before
+  clear-memo-from-loop-holds = c .before .before .before .before .before
 
   abbrev start-from-loop-holds : tie.Start Inv-loop μ-loop
   start-from-loop-holds = start-from-clear-memo clear-memo-from-loop-holds
 
 module _ (c : tie.At-loop Inv-loop μ-loop) where
   abbrev clear-memo-from-at-loop : tie.After-clear-memo Inv-loop μ-loop
-  clear-memo-from-at-loop = c .before .before .before
+  clear-memo-from-at-loop = c .before .before .before .before .before .before
 
 module _ (c : tie.After-loop Inv-loop μ-loop) where
   abbrev at-loop-from-return-2 : tie.At-loop Inv-loop μ-loop
@@ -126,12 +134,19 @@ module _ (c : tie.Then1 Inv-loop μ-loop) where
   abbrev at-loop-from-then1 : tie.At-loop Inv-loop μ-loop
   at-loop-from-then1 = in-loop-from-then1 .before
 
+  abbrev clear-memo-from-then1 : tie.After-clear-memo Inv-loop μ-loop
+  clear-memo-from-then1 = clear-memo-from-at-loop at-loop-from-then1
+
   abbrev start-from-then1 : tie.Start Inv-loop μ-loop
-  start-from-then1 = start-from-clear-memo (clear-memo-from-at-loop at-loop-from-then1)
+  start-from-then1 = start-from-clear-memo clear-memo-from-then1
 
 clear-memo-requires : tie.Need-clear-memo-requires Inv-loop μ-loop
 clear-memo-requires c κs =
     omega (arith, start-from-clear-memo-call c .pre .0 .0 .room)
+
+is-thin-requires : tie.Need-is-thin-requires Inv-loop μ-loop
+is-thin-requires c κs =
+    let s = start-from-is-thin-call c in some-table (entry s) (s .pre .0 .0 .good) (s .args .g .0) (s .pre .0 .1)
 
 loop-holds : tie.Need-loop-holds Inv-loop μ-loop
 loop-holds c =
@@ -174,35 +189,35 @@ add-written c =
 
 same-length : tie.Need-same-length Inv-loop μ-loop
 same-length c =
-    search needs
+    member-by-from-then1 c .member-by .kept .0 ∙ at-loop-from-then1 c .loop .inv .4
 
 same-length-2 : tie.Need-same-length-2 Inv-loop μ-loop
 same-length-2 c =
-    search needs
+    member-by-from-then1 c .member-by .kept .1 .0 ∙ at-loop-from-then1 c .loop .inv .5
 
 same-length-3 : tie.Need-same-length-3 Inv-loop μ-loop
 same-length-3 c =
-    search needs
+    member-by-from-then1 c .member-by .kept .1 .1 .0 ∙ at-loop-from-then1 c .loop .inv .6
 
 same-length-4 : tie.Need-same-length-4 Inv-loop μ-loop
 same-length-4 c =
-    search needs
+    member-by-from-then1 c .member-by .kept .1 .1 .1 .0 ∙ at-loop-from-then1 c .loop .inv .7
 
 same-length-5 : tie.Need-same-length-5 Inv-loop μ-loop
 same-length-5 c =
-    search needs
+    member-by-from-then1 c .member-by .kept .1 .1 .1 .1 .0 ∙ at-loop-from-then1 c .loop .inv .8
 
 same-length-6 : tie.Need-same-length-6 Inv-loop μ-loop
 same-length-6 c =
-    search needs
+    member-by-from-then1 c .member-by .kept .1 .1 .1 .1 .1 .0 ∙ at-loop-from-then1 c .loop .inv .9 ∙ clear-memo-from-then1 c .clear-memo .kept .0
 
 same-length-7 : tie.Need-same-length-7 Inv-loop μ-loop
 same-length-7 c =
-    search needs
+    member-by-from-then1 c .member-by .kept .1 .1 .1 .1 .1 .1 .0 ∙ at-loop-from-then1 c .loop .inv .0 .members
 
 same-length-8 : tie.Need-same-length-8 Inv-loop μ-loop
 same-length-8 c =
-    search needs
+    member-by-from-then1 c .member-by .kept .1 .1 .1 .1 .1 .1 .1 .0 ∙ at-loop-from-then1 c .loop .inv .2 .lengths
 
 returns : tie.Need-returns Inv-loop μ-loop
 returns c =
@@ -226,7 +241,7 @@ add-i c =
 
 loop-less : tie.Need-loop-less Inv-loop μ-loop
 loop-less c =
-    search needs
+    omega (arith, in-loop-from-else1 c .loop-test .taken, at-loop-from-else1 c .loop .inv .0 .members)
 
 loop-again : tie.Need-loop-again Inv-loop μ-loop
 loop-again c =
@@ -313,6 +328,7 @@ all-by-spec =
     Inv-loop
     μ-loop
     clear-memo-requires
+    is-thin-requires
     loop-holds
     member-by-requires
     add-written

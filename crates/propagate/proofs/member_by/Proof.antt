@@ -7,11 +7,11 @@ use Rattle.propagate.proofs.Written.{one-kept, one-written}
 use Rattle.propagate.proofs.member_by.Statement.{statement}
 use Rattle.propagate.proofs.member_by.Tie as tie
 
-mul-t18 : tie.Need-mul-t18
-mul-t18 c = search needs
+mul-t19 : tie.Need-mul-t19
+mul-t19 c = search needs
 
-slice-read-t20 : tie.Need-slice-read-t20
-slice-read-t20 c = search needs
+slice-read-t21 : tie.Need-slice-read-t21
+slice-read-t21 c = search needs
 
 mul-word : tie.Need-mul-word
 mul-word c = search needs
@@ -69,11 +69,11 @@ module _ (c : tie.Else2) where
   abbrev apply-touching-from-else2 : tie.After-apply-touching
   apply-touching-from-else2 = apply-touching-from-else1 else1-from-else2
 
-  abbrev slice-read-t20-from-else2 : tie.After-slice-known9
-  slice-read-t20-from-else2 = slice-known9-from-apply-touching apply-touching-from-else2
+  abbrev slice-read-t21-from-else2 : tie.After-slice-known9
+  slice-read-t21-from-else2 = slice-known9-from-apply-touching apply-touching-from-else2
 
   abbrev slice-known8-from-else2 : tie.After-slice-known8
-  slice-known8-from-else2 = slice-read-t20-from-else2 .before
+  slice-known8-from-else2 = slice-read-t21-from-else2 .before
 
   abbrev start-from-else2 : tie.Start
   start-from-else2 = start-from-slice-known8 slice-known8-from-else2
@@ -86,17 +86,19 @@ returns c =
 
 mul-list : tie.Need-mul-list
 mul-list c =
-    mul-t18 (slice-known8-from-else2 c)
+    mul-t19 (slice-known8-from-else2 c)
 
 slice-write-list : tie.Need-slice-write-list
-slice-write-list c = search needs
+slice-write-list c =
+    start-from-else2 c .pre .0
 
 mul-words : tie.Need-mul-words
 mul-words c =
-    mul-word (slice-read-t20-from-else2 c)
+    mul-word (slice-read-t21-from-else2 c)
 
 slice-write-words : tie.Need-slice-write-words
-slice-write-words c = search needs
+slice-write-words c =
+    start-from-else2 c .pre .1
 
 same-length-7 : tie.Need-same-length-7
 same-length-7 c = search needs
@@ -132,8 +134,8 @@ pub member-by-spec : {M : Type 1} → statement M
 member-by-spec =
     tie.close
     (tie.spec
-    mul-t18
-    slice-read-t20
+    mul-t19
+    slice-read-t21
     mul-word
     slice-read-word
     apply-touching-requires

@@ -58,9 +58,16 @@ module _ (c : tie.After-enum-told) where
   abbrev start-from-return-4 : tie.Start
   start-from-return-4 = start-from-conflicts conflicts-from-return-4
 
+module _ (c : tie.After-u) where
+  abbrev first-units-from-u : tie.After-first-units
+  first-units-from-u = c .before .before .before .before
+
 module _ (c : tie.After-known-told) where
+  abbrev u-from-return-3 : tie.After-u
+  u-from-return-3 = c .before
+
   abbrev first-units-from-return-3 : tie.After-first-units
-  first-units-from-return-3 = c .before .before .before .before .before
+  first-units-from-return-3 = first-units-from-u u-from-return-3
 
   abbrev else2-from-return-3 : tie.Else2
   else2-from-return-3 = first-units-from-return-3 .before .before
@@ -76,7 +83,7 @@ module _ (c : tie.After-known-told) where
 
 conflicts-requires : tie.Need-conflicts-requires
 conflicts-requires c κs =
-    let r = start-from-conflicts-call c .pre in ((r .0 .0, r .0 .1), r .1)
+    let r = start-from-conflicts-call c .pre in ((r .0 .0, r .0 .1), (r .1 .0, r .1 .1))
 
 same-length : tie.Need-same-length
 same-length c =
@@ -109,11 +116,12 @@ returns-2 c =
     (ends-last (64 - a .rounds) (diagramsOf (nodesOf (tableOf (a .vars .now) (a .lows .now) (a .highs .now) (a .heads .now) (a .links .now) (a .count))) (a .list .now)) (omega (arith, c .if2 .taken)) (sym (y .ensures .0) ∙ c .before .if1 .left), y .ensures .1)
 
 first-units-requires : tie.Need-first-units-requires
+unfolding nodesOf
 first-units-requires c κs =
     let a = start-from-first-units-call c .args in
     let r = start-from-first-units-call c .pre in
     let y = conflicts-from-first-units-call c .conflicts in
-    (good-readable (tableOf (a .vars .now) (a .lows .now) (a .highs .now) (a .heads .now) (a .links .now) (a .count)) (r .0 .0 .good), r .0 .0 .inside, omega (arith, y .kept .1 .1 .1 .1 .1 .0, r .0 .0 .room))
+    ((good-readable (tableOf (a .vars .now) (a .lows .now) (a .highs .now) (a .heads .now) (a .links .now) (a .count)) (r .0 .0 .good), r .0 .0 .inside, omega (arith, y .kept .1 .1 .1 .1 .1 .0, r .0 .0 .room)), (r .1 .0, r .1 .2))
 
 enum-known-u : tie.Need-enum-known-u
 enum-known-u c =
@@ -137,7 +145,8 @@ returns-3 c =
     let a = start-from-return-3 c .args in
     let r = start-from-return-3 c .pre in
     let y = conflicts-from-return-3 c .conflicts in
-    ((omega (arith, r .0 .2, else2-from-return-3 c .if2 .left), (sym (y .ensures .0) ∙ else1-from-return-3 c .if1 .left), subst (AreFirst 64 (diagramsOf (nodesOf (tableOf (a .vars .now) (a .lows .now) (a .highs .now) (a .heads .now) (a .links .now) (a .count))) (a .list .now))) (c .before .u .given .1) (first-units-from-return-3 c .first-units .ensures)), y .ensures .1)
+    let f = subst (AreFirst 64 (diagramsOf (nodesOf (tableOf (a .vars .now) (a .lows .now) (a .highs .now) (a .heads .now) (a .links .now) (a .count))) (a .list .now))) (u-from-return-3 c .u .given .1) (first-units-from-return-3 c .first-units .ensures) in
+    ((omega (arith, r .0 .2, else2-from-return-3 c .if2 .left), (sym (y .ensures .0) ∙ else1-from-return-3 c .if1 .left), f .0, f .1, f .2), y .ensures .1)
 
 same-length-7 : tie.Need-same-length-7
 same-length-7 c =

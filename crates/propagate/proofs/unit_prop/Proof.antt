@@ -3,8 +3,9 @@ use mathlib.Core.Path.{_≡_, refl, sym, ap, _∙_, subst}
 use mathlib.Core.Bool.{false}
 use Prim.Native.Nat.{_-_}
 use native.Mathlib.Omega.{arith}
-use lib.ListN.{length}
+use lib.ListN.{length, length-map}
 use borrow.Author.Needs.{needs}
+use Rattle.table.specs.Nodes.{diagramAt}
 use Rattle.table.specs.Indexed.{tableOf, nodesOf}
 use Rattle.supports.specs.Supports.{Supports}
 use Rattle.operate.specs.declared.Operation.the-variants.{Literals}
@@ -12,21 +13,23 @@ use Rattle.conflict.specs.Members.{Quiet}
 use Rattle.table.specs.Lists.{diagramsOf}
 use Rattle.conflict.specs.Marks.{unmarked}
 use Rattle.propagate.specs.Made.{results, AllMade}
+use Rattle.propagate.specs.Units.{Asked}
 use Rattle.propagate.specs.Rounds.{Comes}
-use Rattle.propagate.proofs.Quieting.{quiet-all, quiet-next}
+use Rattle.propagate.proofs.Quieting.{quiet-all, quiet-next, asked-next}
 use Rattle.propagate.proofs.Rounds.{Going, going-first, going-ready, going-ends, going-full, going-on}
 use Rattle.propagate.proofs.unit_prop.Statement.{statement}
 use Rattle.propagate.proofs.unit_prop.Tie as tie
 
 abbrev Inv-loop : tie.InvT-loop
-Inv-loop vars₀ lows₀ highs₀ heads₀ links₀ memo₀ marks₀ list₀ words₀ count n₀ rounds₀ touching₀ vars lows highs heads links memo marks list words n rounds touching =
+Inv-loop vars₀ lows₀ highs₀ heads₀ links₀ memo₀ marks₀ list₀ words₀ count n₀ rounds₀ touching₀ asked₀ vars lows highs heads links memo marks list words n rounds touching asked =
     Going (tableOf vars₀ lows₀ highs₀ heads₀ links₀ count) (diagramsOf (nodesOf (tableOf vars₀ lows₀ highs₀ heads₀ links₀ count)) list₀) (tableOf vars lows highs heads links n) list memo marks rounds
     × Supports (nodesOf (tableOf vars lows highs heads links n)) list words
     × Quiet (nodesOf (tableOf vars lows highs heads links n)) list words touching
     × (length vars ≡ length vars₀) × (length lows ≡ length lows₀) × (length highs ≡ length highs₀) × (length heads ≡ length heads₀) × (length links ≡ length links₀) × (length memo ≡ length memo₀) × (length marks ≡ length marks₀) × (length list ≡ length list₀) × (length words ≡ length words₀)
+    × Asked (diagramsOf (nodesOf (tableOf vars lows highs heads links n)) list) words touching asked
 
 abbrev μ-loop : tie.MeasureT-loop
-μ-loop vars₀ lows₀ highs₀ heads₀ links₀ memo₀ marks₀ list₀ words₀ count n₀ rounds₀ touching₀ vars lows highs heads links memo marks list words n rounds touching =
+μ-loop vars₀ lows₀ highs₀ heads₀ links₀ memo₀ marks₀ list₀ words₀ count n₀ rounds₀ touching₀ asked₀ vars lows highs heads links memo marks list words n rounds touching asked =
     64 - rounds
 
 -- The ways back, written by ways.py: TO-from-FROM leads from the place FROM of the code to the place TO before it.
@@ -118,14 +121,14 @@ loop-holds : tie.Need-loop-holds Inv-loop μ-loop
 loop-holds c =
     let a = start-from-loop-holds c .args in
     let r = start-from-loop-holds c .pre in
-    (going-first (tableOf (a .vars .now) (a .lows .now) (a .highs .now) (a .heads .now) (a .links .now) (a .count)) (a .list .now) (a .memo .now) (a .marks .now) (r .0 .0) (r .0 .1), r .1 .1, quiet-all (tableOf (a .vars .now) (a .lows .now) (a .highs .now) (a .heads .now) (a .links .now) (a .count)) (a .list .now) (a .memo .now) (a .words .now) (r .0 .0) (r .1 .1), refl, refl, refl, refl, refl, refl, refl, refl, refl)
+    (going-first (tableOf (a .vars .now) (a .lows .now) (a .highs .now) (a .heads .now) (a .links .now) (a .count)) (a .list .now) (a .memo .now) (a .marks .now) (r .0 .0) (r .0 .1), r .1 .1, quiet-all (tableOf (a .vars .now) (a .lows .now) (a .highs .now) (a .heads .now) (a .links .now) (a .count)) (a .list .now) (a .memo .now) (a .words .now) (r .0 .0) (r .1 .1), refl, refl, refl, refl, refl, refl, refl, refl, refl, (omega arith, λ k p e. absurd (omega arith)))
 
 next-round-requires : tie.Need-next-round-requires Inv-loop μ-loop
 next-round-requires c κs =
     let a = start-from-next-round-call c .args in
     let r = start-from-next-round-call c .pre in
     let w = at-loop-from-next-round-call c .loop in
-    ((going-ready (tableOf (a .vars .now) (a .lows .now) (a .highs .now) (a .heads .now) (a .links .now) (a .count)) (r .0 .0 .good) (diagramsOf (nodesOf (tableOf (a .vars .now) (a .lows .now) (a .highs .now) (a .heads .now) (a .links .now) (a .count))) (a .list .now)) (tableOf (w .vars) (w .lows) (w .highs) (w .heads) (w .links) (w .n)) (w .list) (w .memo) (w .marks) (w .rounds) (w .inv .0), w .inv .0 .clear ∙ ap unmarked (sym (w .inv .3)), w .inv .0 .most), (w .inv .11 ∙ r .1 .0 ∙ sym (w .inv .10), w .inv .2))
+    ((going-ready (tableOf (a .vars .now) (a .lows .now) (a .highs .now) (a .heads .now) (a .links .now) (a .count)) (r .0 .0 .good) (diagramsOf (nodesOf (tableOf (a .vars .now) (a .lows .now) (a .highs .now) (a .heads .now) (a .links .now) (a .count))) (a .list .now)) (tableOf (w .vars) (w .lows) (w .highs) (w .heads) (w .links) (w .n)) (w .list) (w .memo) (w .marks) (w .rounds) (w .inv .0), w .inv .0 .clear ∙ ap unmarked (sym (w .inv .3)), w .inv .0 .most), (w .inv .11 ∙ r .1 .0 ∙ sym (w .inv .10), w .inv .2, w .inv .12))
 
 enum-known-conflict : tie.Need-enum-known-conflict Inv-loop μ-loop
 enum-known-conflict c =
@@ -274,6 +277,8 @@ loop-again c =
       y .kept .1 .1 .1 .1 .1 .1 .0 ∙ w .inv .9,
       z .kept .1 .1 .1 .1 .1 .1 .0 ∙ w .inv .10,
       z .kept .1 .1 .1 .1 .1 .1 .1 .0 ∙ w .inv .11,
+      asked-next (tableOf (w .vars) (w .lows) (w .highs) (w .heads) (w .links) (w .n)) (w .list) (w .memo) (w .words) (going-ready (tableOf (a .vars .now) (a .lows .now) (a .highs .now) (a .heads .now) (a .links .now) (a .count)) (r .0 .0 .good) (diagramsOf (nodesOf (tableOf (a .vars .now) (a .lows .now) (a .highs .now) (a .heads .now) (a .links .now) (a .count))) (a .list .now)) (tableOf (w .vars) (w .lows) (w .highs) (w .heads) (w .links) (w .n)) (w .list) (w .memo) (w .marks) (w .rounds) (w .inv .0)) (w .inv .11 ∙ r .1 .0 ∙ sym (w .inv .10)) (w .inv .1) (u-from-else1 c .u .given .0 .0) (tableOf (z .last .0) (z .last .1 .0) (z .last .1 .1 .0) (z .last .1 .1 .1 .0) (z .last .1 .1 .1 .1 .0) (z .result .count)) (z .last .1 .1 .1 .1 .1 .1 .0)
+          (subst (λ b. AllMade (tableOf (w .vars) (w .lows) (w .highs) (w .heads) (w .links) (w .n)) (results (Literals (u-from-else1 c .u .given .0 .0 .positive) (u-from-else1 c .u .given .0 .0 .negative)) (tableOf (w .vars) (w .lows) (w .highs) (w .heads) (w .links) (w .n)) (w .list) 1) b (tableOf (z .last .0) (z .last .1 .0) (z .last .1 .1 .0) (z .last .1 .1 .1 .0) (z .last .1 .1 .1 .1 .0) (z .result .count)) (z .last .1 .1 .1 .1 .1 .1 .0)) (c .if1 .left) (z .ensures .0)) (z .kept .1 .1 .1 .1 .1 .1 .0) (z .last .1 .1 .1 .1 .1 .1 .1 .0) (z .ensures .1 .1 .0 (c .if1 .left)) (u-from-else1 c .u .given .0 .1 .0) (omega (arith, comes .3, length-map (w .list) (diagramAt (nodesOf (tableOf (w .vars) (w .lows) (w .highs) (w .heads) (w .links) (w .n)))))) (comes .4),
     )
 
 pub unit-prop-spec : {M : Type 1} → statement M
