@@ -135,11 +135,11 @@ impl Lists {
     /// node's link the highest lower one of its chain; all others are 0.
     fn right_index(&self, count: usize) -> (Vec<u16>, Vec<u16>) {
         let (mut heads, mut links) = (vec![0u16; 2 * self.size()], vec![0u16; self.size()]);
-        for place in 2..count.min(self.size()) {
+        for (place, link) in links.iter_mut().enumerate().take(count).skip(2) {
             let (variable, low, high) = self.node(place);
             let sum = u64::from(variable) + u64::from(low) * 12_582_917 + u64::from(high) * 4_256_249;
             let chain = (sum % (1 << 32)) as usize % heads.len();
-            links[place] = heads[chain];
+            *link = heads[chain];
             heads[chain] = place as u16;
         }
         (heads, links)
