@@ -13,7 +13,15 @@
  * them. The table is in good order when
  *   - places 0 and 1 and the places from the count on hold zeros, and 2 <= count <= size;
  *   - each node's variable is 1 to 64 and smaller than those of its children that are not constants;
- *   - children have smaller numbers than their parent; low differs from high; no two nodes are alike.
+ *   - children have smaller numbers than their parent; low differs from high; no two nodes are alike;
+ *   - its index is right.
+ *
+ * The index is lent with the table: `heads`, twice as many as the table's places, and `links`, one for each place. A node's key
+ * is its variable plus low times 12,582,917 plus high times 4,256,249, in 32 bits; its remainder by the number of heads picks
+ * one of as many chains (cablesalak_chain). The index is right when each chain runs through its nodes from the highest number
+ * down to a 0: its head is the highest, and a node's link the next lower; all other heads and links are 0. Every call leaves it
+ * right, but for 7 and 26, which leave it as it was. A table of the constants alone has an index of zeros.
+ *
  * A node has the value of its high where its variable is true, else of its low. In a table in good order two node numbers
  * are equal exactly when they have the same value under every assignment.
  *
@@ -30,6 +38,8 @@
 /* Sizes of what is lent. Member list and scratch list may be longer; the marks are as many as the member list's places. */
 #define CABLESALAK_LEAST_PLACES 2
 #define CABLESALAK_MOST_PLACES 65536
+#define CABLESALAK_HEADS(places) (2 * (size_t)(places))
+#define CABLESALAK_LINKS(places) ((size_t)(places))
 #define CABLESALAK_LEAST_MEMBERS 2048
 #define CABLESALAK_LEAST_SCRATCH 4096
 
@@ -61,13 +71,22 @@ typedef struct {
     size_t peak;     /* the greatest count that the check reached, dropped nodes included; 0 with 7 */
 } cablesalak_checked;
 
+/* The chain of a node in an index with so many heads, which are not none. Who writes rows himself puts node after node into its
+ * chain, in the order of their numbers: links[k] = heads[chain], heads[chain] = k. */
+static inline size_t cablesalak_chain(uint8_t var, uint16_t low, uint16_t high, size_t heads)
+{
+    return ((uint32_t)var + (uint32_t)low * 12582917u + (uint32_t)high * 4256249u) % heads;
+}
+
 /* ---- Single calls, on a table in good order.
  *
- * Each tests, in this order: 7, the columns are of one length, 2 to 65,536; 26, the table is in good order; 13, its node
- * numbers are below the count; then what is told with it; then 23, there is room for the nodes to be made.
+ * Each tests, in this order: 7, the columns are of one length, 2 to 65,536, with twice as many heads and as many links; 26, the
+ * table is in good order, its index included; 13, its node numbers are below the count; then what is told with it; then 23,
+ * there is room for the nodes to be made.
  * A refused call changes nothing. Else the nodes below the old count stay as they are, the new ones follow them, low side's
- * before high side's and children before their parent, and zeros follow those. Only nodes of the diagram asked for are
- * placed, and one that is there already is found again: a full table refuses only what it does not hold. */
+ * before high side's and children before their parent, and zeros follow those; the index is that of all of them. Only nodes of
+ * the diagram asked for are placed, and one that is there already is found again: a full table refuses only what it does not
+ * hold. */
 
 /* Whether the node is 1 under the assignment that makes variable i true where bit i - 1 of the word is set.
  * Gives 0, 7, 26, 13. Writes to nothing. */
@@ -75,6 +94,8 @@ cablesalak_evaluated cablesalak_evaluate(
     const uint8_t *vars, size_t vars_length,
     const uint16_t *lows, size_t lows_length,
     const uint16_t *highs, size_t highs_length,
+    const uint16_t *heads, size_t heads_length,
+    const uint16_t *links, size_t links_length,
     size_t count, uint16_t node, uint64_t word);
 
 /* The conjunction of f and g: 1 where both are. Gives 0, 7, 26, 13, 23. */
@@ -82,6 +103,8 @@ cablesalak_single cablesalak_conjunction(
     uint8_t *vars, size_t vars_length,
     uint16_t *lows, size_t lows_length,
     uint16_t *highs, size_t highs_length,
+    uint16_t *heads, size_t heads_length,
+    uint16_t *links, size_t links_length,
     size_t count, uint16_t f, uint16_t g);
 
 /* The negation of f: 1 where f is 0. Gives 0, 7, 26, 13, 23. */
@@ -89,6 +112,8 @@ cablesalak_single cablesalak_negation(
     uint8_t *vars, size_t vars_length,
     uint16_t *lows, size_t lows_length,
     uint16_t *highs, size_t highs_length,
+    uint16_t *heads, size_t heads_length,
+    uint16_t *links, size_t links_length,
     size_t count, uint16_t f);
 
 /* f cofactored by the diagram g: at each assignment f's value at the nearest one that satisfies g. The distance of two
@@ -98,6 +123,8 @@ cablesalak_single cablesalak_cofactor(
     uint8_t *vars, size_t vars_length,
     uint16_t *lows, size_t lows_length,
     uint16_t *highs, size_t highs_length,
+    uint16_t *heads, size_t heads_length,
+    uint16_t *links, size_t links_length,
     size_t count, uint16_t f, uint16_t g);
 
 /* f with the variables of `positive` made true and those of `negative` made false, bit i - 1 for variable i.
@@ -106,27 +133,32 @@ cablesalak_single cablesalak_cofactor_literals(
     uint8_t *vars, size_t vars_length,
     uint16_t *lows, size_t lows_length,
     uint16_t *highs, size_t highs_length,
+    uint16_t *heads, size_t heads_length,
+    uint16_t *links, size_t links_length,
     size_t count, uint16_t f, uint64_t positive, uint64_t negative);
 
 /* ---- The check of a formula (the bytes of a DIMACS CNF file) and a proof (the bytes of a proof file).
  *
  * Number 0: no assignment satisfies the formula, whatever the proof's bytes and whatever the lent lists held before.
- * Gives 0 to 23 and 28. Tests 7 first: the columns are of one length, 2 to 65,536, the member list has 2,048 places or more
- * and `struck` just as many, the scratch list has 4,096 or more. Then the formula is read in its order, then the proof record
- * by record, until a refusal or the end. At most 64 variables, 1,024 clauses, 1,024 lines, and 4,096 entries in a line. The
- * lent count is not judged: the check empties the table and the lists first.
+ * Gives 0 to 23 and 28. Tests 7 first: the columns are of one length, 2 to 65,536, with twice as many heads and as many links,
+ * the member list has 2,048 places or more and `struck` just as many, the scratch list has 4,096 or more. Then the formula is
+ * read in its order, then the proof record by record, until a refusal or the end. At most 64 variables, 1,024 clauses, 1,024
+ * lines, and 4,096 entries in a line. Neither the lent count nor what the lists hold is judged: the check empties the table, its
+ * index and the lists first.
  *
  * What the lists hold afterwards:
  *   7               what they held before.
  *   1 to 6, 8       zeros everywhere; the count is 2.
  *   0, 9 to 23, 28  the table, in good order: the nodes of the clauses and of all entries of the accepted lines, in the order in
- *                   which they were made; zeros from the count on. The member list: the clauses' nodes in the formula's order,
- *                   then the accepted lines' nodes, struck out or not; zeros above. `struck`: at each member's place its mark,
- *                   1 once the proof struck it out, else 0; zeros above. The scratch list: zeros. */
+ *                   which they were made; zeros from the count on; its index. The member list: the clauses' nodes in the
+ *                   formula's order, then the accepted lines' nodes, struck out or not; zeros above. `struck`: at each member's
+ *                   place its mark, 1 once the proof struck it out, else 0; zeros above. The scratch list: zeros. */
 cablesalak_checked cablesalak_check(
     uint8_t *vars, size_t vars_length,
     uint16_t *lows, size_t lows_length,
     uint16_t *highs, size_t highs_length,
+    uint16_t *heads, size_t heads_length,
+    uint16_t *links, size_t links_length,
     size_t count,
     uint16_t *members, size_t members_length,
     uint8_t *struck, size_t struck_length,
@@ -155,9 +187,9 @@ cablesalak_told cablesalak_report(
 /* ---- The table as one list of records. These two are in target/staticlib/libnodes.a (`rt staticlib nodes`), which can be linked
  * beside the other archive.
  *
- * Each is the call of the same name over the list's three columns: numbers, places, counts and what the list holds
- * afterwards are those told there. A list of fewer than 2 or more than 65,536 places is refused with 7 and stays as it is. They
- * copy the list into columns and back, which takes 320 KiB of stack more. */
+ * Each is the call of the same name over the list's three columns, with the index lent beside it: numbers, places, counts and
+ * what the lists hold afterwards are those told there. A list of fewer than 2 or more than 65,536 places is refused with 7 and
+ * stays as it is. They copy the list into columns and back, which takes 320 KiB of stack more. */
 typedef struct {
     uint8_t var;
     uint16_t low;
@@ -166,11 +198,16 @@ typedef struct {
 
 /* As cablesalak_evaluate. */
 cablesalak_evaluated cablesalak_evaluate_nodes(
-    const cablesalak_node *nodes, size_t nodes_length, size_t count, uint16_t node, uint64_t word);
+    const cablesalak_node *nodes, size_t nodes_length,
+    const uint16_t *heads, size_t heads_length,
+    const uint16_t *links, size_t links_length,
+    size_t count, uint16_t node, uint64_t word);
 
 /* As cablesalak_check. */
 cablesalak_checked cablesalak_check_nodes(
     cablesalak_node *nodes, size_t nodes_length,
+    uint16_t *heads, size_t heads_length,
+    uint16_t *links, size_t links_length,
     size_t count,
     uint16_t *members, size_t members_length,
     uint8_t *struck, size_t struck_length,

@@ -56,7 +56,7 @@ enum cablesalak_number {
     CABLESALAK_FILE_TOO_LONG = 24,
     /* Of a program: a file cannot be read. */
     CABLESALAK_FILE_UNREADABLE = 25,
-    /* Of a single call: the lent table is not in good order. */
+    /* Of a single call: the lent table is not in good order, or its index is not right. */
     CABLESALAK_NOT_IN_ORDER = 26,
     /* Of a single call: a cofactor by the diagram 0 has no value. */
     CABLESALAK_COFACTOR_BY_ZERO = 27,

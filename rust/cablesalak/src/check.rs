@@ -129,7 +129,7 @@ pub fn check_lent(
     proof: &[u8],
 ) -> Verdict {
     let count = *table.count;
-    let said = raw::check(table.vars, table.lows, table.highs, count, members, struck, scratch, formula, proof);
+    let said = raw::check(&mut table.lists, count, members, struck, scratch, formula, proof);
     *table.count = said.count;
     let raw::Checked { number, place, lines, rounds, count, peak } = said;
     Verdict { number: Number::said(number), place, lines, rounds, count, peak }

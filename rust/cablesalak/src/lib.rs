@@ -69,6 +69,7 @@
 //! library keeps nothing between calls, so that threads may call it at the same time, each with its own places.
 
 mod check;
+mod index;
 mod lent;
 mod node;
 mod number;
@@ -78,9 +79,11 @@ mod table;
 mod view;
 
 pub use check::{check, check_lent, Verdict, Workspace, MEMBERS, SCRATCH};
+pub use index::chain;
 pub use lent::{TableMut, PLACES};
 pub use node::{Node, NodeNo, Variables};
 pub use number::{NoSuchNumber, Number, Text};
+pub use raw::{Columns, ColumnsMut};
 pub use report::{report, Report, LONGEST};
 pub use table::Table;
 

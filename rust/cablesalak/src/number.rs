@@ -62,7 +62,7 @@ pub enum Number {
     FileTooLong = 24,
     /// Of a program: a file cannot be read.
     FileUnreadable = 25,
-    /// Of a single call: the lent table is not in good order.
+    /// Of a single call: the lent table is not in good order, or its index is not right.
     NotInOrder = 26,
     /// Of a single call: a cofactor by the diagram 0 has no value.
     CofactorByZero = 27,

@@ -70,6 +70,10 @@ mod archive {
             lows_length: usize,
             highs: *const u16,
             highs_length: usize,
+            heads: *const u16,
+            heads_length: usize,
+            links: *const u16,
+            links_length: usize,
             count: usize,
             node: u16,
             word: u64,
@@ -82,6 +86,10 @@ mod archive {
             lows_length: usize,
             highs: *mut u16,
             highs_length: usize,
+            heads: *mut u16,
+            heads_length: usize,
+            links: *mut u16,
+            links_length: usize,
             count: usize,
             f: u16,
             g: u16,
@@ -94,6 +102,10 @@ mod archive {
             lows_length: usize,
             highs: *mut u16,
             highs_length: usize,
+            heads: *mut u16,
+            heads_length: usize,
+            links: *mut u16,
+            links_length: usize,
             count: usize,
             f: u16,
         ) -> Single;
@@ -105,6 +117,10 @@ mod archive {
             lows_length: usize,
             highs: *mut u16,
             highs_length: usize,
+            heads: *mut u16,
+            heads_length: usize,
+            links: *mut u16,
+            links_length: usize,
             count: usize,
             f: u16,
             g: u16,
@@ -117,6 +133,10 @@ mod archive {
             lows_length: usize,
             highs: *mut u16,
             highs_length: usize,
+            heads: *mut u16,
+            heads_length: usize,
+            links: *mut u16,
+            links_length: usize,
             count: usize,
             f: u16,
             positive: u64,
@@ -130,6 +150,10 @@ mod archive {
             lows_length: usize,
             highs: *mut u16,
             highs_length: usize,
+            heads: *mut u16,
+            heads_length: usize,
+            links: *mut u16,
+            links_length: usize,
             count: usize,
             members: *mut u16,
             members_length: usize,
@@ -155,58 +179,81 @@ mod archive {
     }
 }
 
-/// Calls a function of the archive with each slice as its address and its length, then the plain arguments.
+/// The lists of a table, to read: three columns and the index.
+#[derive(Clone, Copy, Debug)]
+pub struct Columns<'a> {
+    pub vars: &'a [u8],
+    pub lows: &'a [u16],
+    pub highs: &'a [u16],
+    /// Twice as many as places: for each chain its node of highest number.
+    pub heads: &'a [u16],
+    /// As many as places: for each node the next lower one of its chain.
+    pub links: &'a [u16],
+}
+
+/// The lists of a table, to write to.
+#[derive(Debug)]
+pub struct ColumnsMut<'a> {
+    pub vars: &'a mut [u8],
+    pub lows: &'a mut [u16],
+    pub highs: &'a mut [u16],
+    /// Twice as many as places: for each chain its node of highest number.
+    pub heads: &'a mut [u16],
+    /// As many as places: for each node the next lower one of its chain.
+    pub links: &'a mut [u16],
+}
+
+/// Calls a function of the archive with each list of a table as its address and its length, then the plain arguments.
 ///
 /// SAFETY: a slice is valid for its length, and one that is `&mut` overlaps no other; the calls ask for nothing more.
 macro_rules! call {
-    ($name:ident, $vars:ident.$of:ident, $lows:ident, $highs:ident $(, $plain:ident)*) => {
+    ($name:ident, $table:ident.$of:ident $(, $plain:ident)*) => {
         unsafe {
             archive::$name(
-                $vars.$of(), $vars.len(), $lows.$of(), $lows.len(), $highs.$of(), $highs.len() $(, $plain)*
+                $table.vars.$of(),
+                $table.vars.len(),
+                $table.lows.$of(),
+                $table.lows.len(),
+                $table.highs.$of(),
+                $table.highs.len(),
+                $table.heads.$of(),
+                $table.heads.len(),
+                $table.links.$of(),
+                $table.links.len()
+                $(, $plain)*
             )
         }
     };
 }
 
 /// Whether the node is 1 under the word's assignment; or 7, 26, 13.
-pub fn evaluate(vars: &[u8], lows: &[u16], highs: &[u16], count: usize, node: u16, word: u64) -> Evaluated {
-    call!(cablesalak_evaluate, vars.as_ptr, lows, highs, count, node, word)
+pub fn evaluate(table: Columns<'_>, count: usize, node: u16, word: u64) -> Evaluated {
+    call!(cablesalak_evaluate, table.as_ptr, count, node, word)
 }
 
 /// The conjunction of f and g; or 7, 26, 13, 23.
-pub fn conjunction(vars: &mut [u8], lows: &mut [u16], highs: &mut [u16], count: usize, f: u16, g: u16) -> Single {
-    call!(cablesalak_conjunction, vars.as_mut_ptr, lows, highs, count, f, g)
+pub fn conjunction(table: &mut ColumnsMut<'_>, count: usize, f: u16, g: u16) -> Single {
+    call!(cablesalak_conjunction, table.as_mut_ptr, count, f, g)
 }
 
 /// The negation of f; or 7, 26, 13, 23.
-pub fn negation(vars: &mut [u8], lows: &mut [u16], highs: &mut [u16], count: usize, f: u16) -> Single {
-    call!(cablesalak_negation, vars.as_mut_ptr, lows, highs, count, f)
+pub fn negation(table: &mut ColumnsMut<'_>, count: usize, f: u16) -> Single {
+    call!(cablesalak_negation, table.as_mut_ptr, count, f)
 }
 
 /// f cofactored by the diagram g; or 7, 26, 13, 27, 23.
-pub fn cofactor(vars: &mut [u8], lows: &mut [u16], highs: &mut [u16], count: usize, f: u16, g: u16) -> Single {
-    call!(cablesalak_cofactor, vars.as_mut_ptr, lows, highs, count, f, g)
+pub fn cofactor(table: &mut ColumnsMut<'_>, count: usize, f: u16, g: u16) -> Single {
+    call!(cablesalak_cofactor, table.as_mut_ptr, count, f, g)
 }
 
 /// f with the variables of `positive` made true and those of `negative` false; or 7, 26, 13, 15, 23.
-pub fn cofactor_literals(
-    vars: &mut [u8],
-    lows: &mut [u16],
-    highs: &mut [u16],
-    count: usize,
-    f: u16,
-    positive: u64,
-    negative: u64,
-) -> Single {
-    call!(cablesalak_cofactor_literals, vars.as_mut_ptr, lows, highs, count, f, positive, negative)
+pub fn cofactor_literals(table: &mut ColumnsMut<'_>, count: usize, f: u16, positive: u64, negative: u64) -> Single {
+    call!(cablesalak_cofactor_literals, table.as_mut_ptr, count, f, positive, negative)
 }
 
 /// The check of a formula and a proof. Number 0: no assignment satisfies the formula.
-#[allow(clippy::too_many_arguments)]
 pub fn check(
-    vars: &mut [u8],
-    lows: &mut [u16],
-    highs: &mut [u16],
+    table: &mut ColumnsMut<'_>,
     count: usize,
     members: &mut [u16],
     struck: &mut [u8],
@@ -221,9 +268,7 @@ pub fn check(
     let (proof, proof_length) = (proof.as_ptr(), proof.len());
     call!(
         cablesalak_check,
-        vars.as_mut_ptr,
-        lows,
-        highs,
+        table.as_mut_ptr,
         count,
         members,
         members_length,

@@ -1,10 +1,11 @@
-//! A table that owns its columns.
+//! A table that owns its columns and its index.
 
 use crate::lent::{TableMut, PLACES};
+use crate::raw::{Columns, ColumnsMut};
 use crate::view::View;
 use crate::{Node, NodeNo, Number, Variables};
 
-/// A table that owns its columns. Its rows are always in good order, so that its calls never give 26.
+/// A table that owns its columns and keeps its index by itself. It is always in good order, so that its calls never give 26.
 ///
 /// The calls make nodes from nodes; the first ones are rows of the caller's ([`Table::push`], [`Table::with_nodes`]) or what a
 /// check leaves.
@@ -13,17 +14,26 @@ pub struct Table {
     vars: Vec<u8>,
     lows: Vec<u16>,
     highs: Vec<u16>,
+    heads: Vec<u16>,
+    links: Vec<u16>,
     count: usize,
 }
 
 impl Table {
     /// A table of so many places with the constants alone; 7 where the size is not 2 to 65,536.
     pub fn new(size: usize) -> Result<Table, Number> {
-        if PLACES.contains(&size) {
-            Ok(Table { vars: vec![0; size], lows: vec![0; size], highs: vec![0; size], count: 2 })
-        } else {
-            Err(Number::WrongSize)
+        if !PLACES.contains(&size) {
+            return Err(Number::WrongSize);
         }
+        let places = || vec![0; size];
+        Ok(Table {
+            vars: vec![0; size],
+            lows: places(),
+            highs: places(),
+            heads: vec![0; 2 * size],
+            links: places(),
+            count: 2,
+        })
     }
 
     /// A table of so many places with these rows from place 2 on: 7 as above, 23 where there are more rows than places, 26
@@ -34,7 +44,7 @@ impl Table {
             return Err(Number::TableFull);
         }
         for node in nodes {
-            table.write(table.count, *node);
+            table.put(table.count, *node);
             table.count += 1;
         }
         table.in_order()?;
@@ -48,20 +58,23 @@ impl Table {
         if place == self.size() {
             return Err(Number::TableFull);
         }
-        self.write(place, node);
+        self.put(place, node);
         self.count += 1;
         if let Err(refusal) = self.in_order() {
-            self.write(place, Node::new(0, NodeNo::ZERO, NodeNo::ZERO));
             self.count = place;
+            self.lend().lists.unlink(place);
+            (self.vars[place], self.lows[place], self.highs[place]) = (0, 0, 0);
             return Err(refusal);
         }
         Ok(NodeNo(place as u16))
     }
 
-    fn write(&mut self, place: usize, node: Node) {
+    /// Writes a row to a place and puts it into its chain.
+    fn put(&mut self, place: usize, node: Node) {
         self.vars[place] = node.variable;
         self.lows[place] = node.low.0;
         self.highs[place] = node.high.0;
+        self.lend().lists.link(place);
     }
 
     /// Asked of the library: it evaluates a constant in no table that is not in good order.
@@ -71,12 +84,13 @@ impl Table {
 
     /// The same table, lent.
     pub fn lend(&mut self) -> TableMut<'_> {
-        let Table { vars, lows, highs, count } = self;
-        TableMut { vars, lows, highs, count }
+        let Table { vars, lows, highs, heads, links, count } = self;
+        TableMut { lists: ColumnsMut { vars, lows, highs, heads, links }, count }
     }
 
     fn view(&self) -> View<'_> {
-        View { vars: &self.vars, lows: &self.lows, highs: &self.highs, count: self.count }
+        let Table { vars, lows, highs, heads, links, count } = self;
+        View { lists: Columns { vars, lows, highs, heads, links }, count: *count }
     }
 
     /// The number of places.

@@ -1,12 +1,11 @@
 //! What is read of a table and changes nothing.
 
-use crate::{raw, Node, NodeNo, Number, Variables};
+use crate::raw::{self, Columns};
+use crate::{Node, NodeNo, Number, Variables};
 
-/// The columns of a table and its count, to read.
+/// The lists of a table and its count, to read.
 pub struct View<'a> {
-    pub vars: &'a [u8],
-    pub lows: &'a [u16],
-    pub highs: &'a [u16],
+    pub lists: Columns<'a>,
     pub count: usize,
 }
 
@@ -17,12 +16,12 @@ impl View<'_> {
         if place < 2 || self.count <= place {
             return None;
         }
-        let variable = *self.vars.get(place)?;
-        Some(Node::new(variable, NodeNo(self.lows[place]), NodeNo(self.highs[place])))
+        let Columns { vars, lows, highs, .. } = self.lists;
+        Some(Node::new(*vars.get(place)?, NodeNo(lows[place]), NodeNo(highs[place])))
     }
 
     pub fn evaluate(&self, node: NodeNo, assignment: Variables) -> Result<bool, Number> {
-        let said = raw::evaluate(self.vars, self.lows, self.highs, self.count, node.0, assignment.0);
+        let said = raw::evaluate(self.lists, self.count, node.0, assignment.0);
         granted(said.number).map(|()| said.yes)
     }
 }

@@ -4,6 +4,7 @@ use crate::diagram::Literals;
 use crate::families::{self, Problem};
 use crate::fault;
 use crate::formula::Formula;
+use crate::index;
 use crate::proof::{strewn, Builder, Writer};
 use crate::random::Random;
 use crate::strike;
@@ -164,13 +165,19 @@ pub fn witness(random: &mut Random, variables: usize) -> Literals {
 
 fn wrong_sizes(random: &mut Random) -> Vec<String> {
     let problem = small(random);
-    let (mut size, mut members, mut scratch) = (4096, 2048, 4096);
-    match random.below(3) {
+    let (mut size, mut members, mut scratch, mut index) = (4096, 2048, 4096, String::new());
+    match random.below(5) {
         0 => size = random.pick(&[0, 1, 65_537, 70_000]),
         1 => members = random.pick(&[0, 1, 1024, 2047]),
-        _ => scratch = random.pick(&[0, 1, 2048, 4095]),
+        2 => scratch = random.pick(&[0, 1, 2048, 4095]),
+        3 => index = index::wrong_size(random, size),
+        _ => {
+            size = random.pick(&[2, 3, 64, 1000, 65_536]);
+            index = index::wrong_size(random, size);
+        }
     }
-    vec![format!("check {size} {members} {scratch} {} {}", hex(&problem.formula.text()), hex(&finished(&problem)))]
+    let (text, proof) = (hex(&problem.formula.text()), hex(&finished(&problem)));
+    vec![format!("check {size} {members} {scratch} {text} {proof}{index}")]
 }
 
 /// The same formula and proof in tables of one place, one more and so on: full at each making.

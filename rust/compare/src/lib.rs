@@ -6,6 +6,7 @@ pub mod families;
 mod fault;
 pub mod filter;
 pub mod formula;
+mod index;
 pub mod proof;
 pub mod random;
 pub mod single;

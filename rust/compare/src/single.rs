@@ -1,5 +1,6 @@
 //! Commands of the single calls.
 
+use crate::index;
 use crate::random::Random;
 use crate::table::{self, Table};
 
@@ -7,12 +8,13 @@ pub const WORDS: [&str; 5] = ["and", "not", "cof", "lits", "eval"];
 
 /// A few commands over one table, the words among those given.
 pub fn commands(random: &mut Random, words: &[&str]) -> Vec<String> {
-    let mut table = good(random);
-    // More than a third is refused: a table nearly full gives several commands, the other kinds give one to three.
-    match random.below(20) {
+    let mut table = if random.percent(10) { table::one_chain(random) } else { good(random) };
+    // More than a third is refused: a table nearly full gives several commands, a wrong index one for each call, the other kinds one to three.
+    match random.below(24) {
         0..=9 => damaged(random, words, &mut table),
         10..=11 => wrong_size(random, words, &mut table),
         12..=16 => nearly_full(random, words, &table),
+        17..=20 => wrong_index(random, words, &mut table),
         _ => roomy(random, words, &mut table),
     }
 }
@@ -20,7 +22,7 @@ pub fn commands(random: &mut Random, words: &[&str]) -> Vec<String> {
 fn good(random: &mut Random) -> Table {
     let variables = table::variables(random);
     let nodes = match random.below(200) {
-        0 => 65_536,
+        0 => return table::largest(random),
         1 => random.between(4_000, 65_536),
         2..=9 => random.between(200, 4_000),
         10..=59 => random.between(40, 200),
@@ -40,12 +42,30 @@ fn damaged(random: &mut Random, words: &[&str], table: &mut Table) -> Vec<String
     if random.percent(50) {
         table.size += random.below(500);
     }
+    let mut spoilt = String::new();
+    if random.percent(5) {
+        spoilt = index::damage(random, table);
+    }
     table::damage(random, table);
     let word = random.pick(words);
-    vec![command(random, word, table)]
+    vec![command(random, word, table) + &spoilt]
+}
+
+/// A table in good order with a wrong index: each of the calls refuses it.
+fn wrong_index(random: &mut Random, words: &[&str], table: &mut Table) -> Vec<String> {
+    if random.percent(50) {
+        table.size = (table.size + random.below(20)).min(65_536);
+    }
+    let spoilt = index::damage(random, table);
+    let asked: Vec<&str> = if table.count > 300 { vec![random.pick(words)] } else { words.to_vec() };
+    asked.into_iter().map(|word| command(random, word, table) + &spoilt).collect()
 }
 
 fn wrong_size(random: &mut Random, words: &[&str], table: &mut Table) -> Vec<String> {
+    if random.percent(50) {
+        let word = random.pick(words);
+        return vec![command(random, word, table) + &index::wrong_size(random, table.size)];
+    }
     table.size = random.pick(&[0, 1, 65_537, 65_538, 70_000]);
     if random.percent(30) {
         table::damage(random, table);

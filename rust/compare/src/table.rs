@@ -1,6 +1,7 @@
 //! Tables to lend to single calls: in good order, or with one clause of good order broken.
 
 use crate::diagram::Diagrams;
+use crate::index::chain;
 use crate::random::Random;
 
 pub type Place = (u8, u16, u16);
@@ -32,6 +33,35 @@ impl Table {
         let nodes = if listed.is_empty() { "-".into() } else { listed.join(";") };
         format!("{} {} {mark}{nodes}", self.size, self.count)
     }
+}
+
+/// A table in which a chain of the index has many nodes, with some free places.
+pub fn one_chain(random: &mut Random) -> Table {
+    let size = random.between(6, 40);
+    let mut store = Diagrams::default();
+    let first = random.between(1, 64) as u8;
+    store.node(first, 0, 1);
+    let wanted = chain((first, 0, 1), 2 * size);
+    for _ in 0..3_000 {
+        let variable = random.between(1, 64) as u8;
+        let (low, high) = (child(random, &store, variable), child(random, &store, variable));
+        let there = chain((variable, low as u16, high as u16), 2 * size) == wanted;
+        if (there || random.percent(1)) && store.nodes.len() + 2 < size {
+            store.node(variable, low, high);
+        }
+    }
+    Table { size, ..Table::of(&store) }
+}
+
+/// A table of 65,536 places, all taken. Its last node stands over the one before, so that its key runs far over the top.
+pub fn largest(random: &mut Random) -> Table {
+    let variables: Vec<u8> = (2..=64).collect();
+    let mut store = store(random, &variables, 65_535);
+    store.nodes.truncate(65_535);
+    let mut table = Table::of(&store);
+    let last = table.places.len() as u16 - 1;
+    add(&mut table, if random.percent(50) { (1, last, 0) } else { (1, 1, last) });
+    table
 }
 
 /// Some of the variables 1 to 64, rising: all up to a number, or strewn.

@@ -1,7 +1,7 @@
 //! Makes the calls, compares every lent place with what documents 01 and 02 say, and writes the answer.
 
 use crate::command::{Call, Check, Command, Node, Table};
-use crate::lent::{Columns, Dirt, Lent};
+use crate::lent::{Dirt, Lent, Lists};
 use cablesalak::raw::{self, Checked, Single};
 use std::fmt::Write;
 
@@ -27,43 +27,42 @@ fn expect(holds: bool, what: &str) -> Result<(), String> {
 }
 
 fn evaluate(table: &Table, node: u16, word: u64) -> Answered {
-    let columns = Columns::holding(table.size, &table.nodes);
-    let (vars, lows, highs) = (&columns.vars, &columns.lows, &columns.highs);
-    let said = raw::evaluate(vars.places(), lows.places(), highs.places(), table.count, node, word);
-    expect(columns.guarded(), "written outside the table")?;
-    expect(columns.nodes() == Columns::holding(table.size, &table.nodes).nodes(), "evaluation wrote to the table")?;
+    let lists = Lists::holding(table);
+    let said = raw::evaluate(lists.places(), table.count, node, word);
+    expect(lists.guarded(), "written outside the table")?;
+    expect(lists.same(&Lists::holding(table)), "evaluation wrote to the table or its index")?;
     Ok(format!("{} {} {}", said.number, u8::from(said.yes), said.count))
 }
 
 fn single(table: &Table, call: &Call) -> Answered {
-    let mut columns = Columns::holding(table.size, &table.nodes);
-    let said = operate(&mut columns, table.count, call);
-    expect(columns.guarded(), "written outside the table")?;
+    let mut lists = Lists::holding(table);
+    let said = operate(&mut lists, table.count, call);
+    expect(lists.guarded(), "written outside the table")?;
     if said.number == 0 {
         expect(said.count <= table.size, "the count is above the size")?;
-        expect((0..2).all(|place| columns.node(place) == (0, 0, 0)), "place 0 or 1 is not zero")?;
-        expect(columns.zero_from(said.count), "a place past the count is not zero")?;
+        expect((0..2).all(|place| lists.node(place) == (0, 0, 0)), "place 0 or 1 is not zero")?;
+        expect(lists.zero_from(said.count), "a place past the count is not zero")?;
+        expect(lists.indexed(said.count), "the index is not that of the nodes")?;
+    } else {
+        expect(lists.same_index(&Lists::holding(table)), "a refused call changed the index")?;
     }
-    Ok(format!("{} {} {} | {}", said.number, said.node, said.count, shown(&columns)))
+    Ok(format!("{} {} {} | {}", said.number, said.node, said.count, shown(&lists)))
 }
 
-fn operate(columns: &mut Columns, count: usize, call: &Call) -> Single {
-    let Columns { vars, lows, highs } = columns;
-    let (vars, lows, highs) = (vars.lend(), lows.lend(), highs.lend());
+fn operate(lists: &mut Lists, count: usize, call: &Call) -> Single {
+    let table = &mut lists.lend();
     match *call {
-        Call::And(f, g) => raw::conjunction(vars, lows, highs, count, f, g),
-        Call::Not(f) => raw::negation(vars, lows, highs, count, f),
-        Call::Cofactor(f, g) => raw::cofactor(vars, lows, highs, count, f, g),
-        Call::Literals(f, positive, negative) => {
-            raw::cofactor_literals(vars, lows, highs, count, f, positive, negative)
-        }
+        Call::And(f, g) => raw::conjunction(table, count, f, g),
+        Call::Not(f) => raw::negation(table, count, f),
+        Call::Cofactor(f, g) => raw::cofactor(table, count, f, g),
+        Call::Literals(f, positive, negative) => raw::cofactor_literals(table, count, f, positive, negative),
         Call::Evaluate(..) => unreachable!(),
     }
 }
 
 /// The lent parts of a whole check.
 struct Parts {
-    columns: Columns,
+    table: Lists,
     members: Lent<u16>,
     /// A mark for each place of the member list.
     struck: Lent<u8>,
@@ -77,7 +76,7 @@ fn check(asked: &Check, dirt: &mut Dirt) -> Answered {
     let seed = dirt.next();
     let mut parts = dirty_parts(asked, seed);
     let said = judge(&mut parts, asked);
-    expect(parts.columns.guarded(), "written outside the table")?;
+    expect(parts.table.guarded(), "written outside the table")?;
     expect(parts.members.guarded(), "written outside the member list")?;
     expect(parts.struck.guarded(), "written outside the marks")?;
     expect(parts.scratch.guarded(), "written outside the scratch list")?;
@@ -92,7 +91,7 @@ fn check(asked: &Check, dirt: &mut Dirt) -> Answered {
     if let Some(kept) = kept {
         left(&parts, said.count, kept)?;
     }
-    let nodes = kept.map_or("-".into(), |_| shown(&parts.columns));
+    let nodes = kept.map_or("-".into(), |_| shown(&parts.table));
     let kept = kept.unwrap_or(0);
     let (list, marks) = (numbers(&parts.members.places()[..kept]), digits(&parts.struck.places()[..kept]));
     let Checked { number, place, lines, rounds, count, peak } = said;
@@ -103,7 +102,7 @@ fn check(asked: &Check, dirt: &mut Dirt) -> Answered {
 fn dirty_parts(asked: &Check, seed: u64) -> Parts {
     let mut dirt = Dirt(seed);
     Parts {
-        columns: Columns::dirty(asked.size, &mut dirt),
+        table: Lists::dirty(asked.size, &asked.index, &mut dirt),
         members: Lent::filled(asked.members, 0xa5a5, || dirt.next() as u16),
         struck: Lent::filled(asked.members, 0xa5, || dirt.next() as u8),
         scratch: Lent::filled(asked.scratch, 0x5a5a, || dirt.next() as u16),
@@ -111,11 +110,9 @@ fn dirty_parts(asked: &Check, seed: u64) -> Parts {
 }
 
 fn judge(parts: &mut Parts, asked: &Check) -> Checked {
-    let Parts { columns, members, struck, scratch } = parts;
+    let Parts { table, members, struck, scratch } = parts;
     raw::check(
-        columns.vars.lend(),
-        columns.lows.lend(),
-        columns.highs.lend(),
+        &mut table.lend(),
         LENT_COUNT,
         members.lend(),
         struck.lend(),
@@ -127,18 +124,20 @@ fn judge(parts: &mut Parts, asked: &Check) -> Checked {
 
 /// "Number 7 changes nothing."
 fn unchanged(parts: &Parts, before: &Parts) -> Result<(), String> {
-    expect(parts.columns.nodes() == before.columns.nodes(), "7 changed the table")?;
+    expect(parts.table.same(&before.table), "7 changed the table or its index")?;
     expect(parts.members.places() == before.members.places(), "7 changed the member list")?;
     expect(parts.struck.places() == before.struck.places(), "7 changed the marks")?;
     expect(parts.scratch.places() == before.scratch.places(), "7 changed the scratch list")
 }
 
-/// What every other number leaves: zeros past the count, past the members kept and their marks, and in the scratch list.
+/// What every other number leaves: the index of the nodes; zeros past the count, past the members kept and their marks, and in the scratch
+/// list.
 fn left(parts: &Parts, count: usize, kept: usize) -> Result<(), String> {
-    let Parts { columns, members, struck, scratch } = parts;
-    expect(2 <= count && count <= columns.size(), "the count is out of range")?;
-    expect((0..2).all(|place| columns.node(place) == (0, 0, 0)), "place 0 or 1 is not zero")?;
-    expect(columns.zero_from(count), "a place past the count is not zero")?;
+    let Parts { table, members, struck, scratch } = parts;
+    expect(2 <= count && count <= table.size(), "the count is out of range")?;
+    expect((0..2).all(|place| table.node(place) == (0, 0, 0)), "place 0 or 1 is not zero")?;
+    expect(table.zero_from(count), "a place past the count is not zero")?;
+    expect(table.indexed(count), "the index is not that of the nodes")?;
     expect(kept <= members.places().len(), "more members than the list has places")?;
     expect(members.zero_from(kept), "a place past the members is not zero")?;
     expect(struck.places().iter().all(|mark| *mark <= 1), "a mark is neither 0 nor 1")?;
@@ -154,13 +153,13 @@ fn clauses(formula: &[u8]) -> usize {
 }
 
 /// A table as the protocol shows it: to the last place that is not zero, from place 0 where 0 or 1 is dirty.
-fn shown(columns: &Columns) -> String {
-    let zero = |place: &usize| columns.node(*place) == (0, 0, 0);
-    let size = columns.size();
+fn shown(lists: &Lists) -> String {
+    let zero = |place: &usize| lists.node(*place) == (0, 0, 0);
+    let size = lists.size();
     let dirty = !(0..size.min(2)).all(|place| zero(&place));
     let start = if dirty { 0 } else { 2 };
     let end = (start..size).rev().find(|place| !zero(place)).map_or(start, |last| last + 1);
-    let nodes: Vec<Node> = (start..end).map(|place| columns.node(place)).collect();
+    let nodes: Vec<Node> = (start..end).map(|place| lists.node(place)).collect();
     let mut text = String::from(if dirty { "@" } else { "" });
     if nodes.is_empty() {
         text.push('-');

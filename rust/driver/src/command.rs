@@ -7,6 +7,21 @@ pub struct Table {
     pub size: usize,
     pub count: usize,
     pub nodes: Vec<Node>,
+    pub index: Index,
+}
+
+/// In what a lent index differs from the right one: how many heads and links it has, and what some of them hold.
+#[derive(Default)]
+pub struct Index {
+    pub heads: Option<usize>,
+    pub links: Option<usize>,
+    pub changes: Vec<Change>,
+}
+
+/// The place of a head or a link, and its value.
+pub enum Change {
+    Head(usize, u16),
+    Link(usize, u16),
 }
 
 /// What a single call asks of a table.
@@ -21,6 +36,8 @@ pub enum Call {
 /// Sizes and bytes of a whole check.
 pub struct Check {
     pub size: usize,
+    /// Without changes: the check may find anything in it.
+    pub index: Index,
     pub members: usize,
     pub scratch: usize,
     pub formula: Vec<u8>,
@@ -38,9 +55,13 @@ const LARGEST: usize = 1 << 20;
 /// The command in a line, if it is one.
 pub fn read(line: &str) -> Option<Command> {
     let words: Vec<&str> = line.split(' ').collect();
-    match words[..] {
+    let told = words.iter().position(|word| word.starts_with('!')).unwrap_or(words.len());
+    let index = index(&words[told..])?;
+    match words[..told] {
+        ["check", ..] if !index.changes.is_empty() => None,
         ["check", size, members, scratch, formula, proof] => Some(Command::Check(Check {
             size: places(size)?,
+            index,
             members: places(members)?,
             scratch: places(scratch)?,
             formula: bytes(formula)?,
@@ -48,7 +69,7 @@ pub fn read(line: &str) -> Option<Command> {
         })),
         [word, size, count, nodes, ref operands @ ..] => {
             let call = call(word, operands)?;
-            let table = Table { size: places(size)?, count: number(count)?, nodes: table(nodes)? };
+            let table = Table { size: places(size)?, count: number(count)?, nodes: table(nodes)?, index };
             Some(Command::Single(table, call))
         }
         _ => None,
@@ -64,6 +85,22 @@ fn call(word: &str, operands: &[&str]) -> Option<Call> {
         ("eval", [f, word]) => Call::Evaluate(number(f)?, number(word)?),
         _ => return None,
     })
+}
+
+/// The words behind all others: `!HS=n`, `!LS=n`, `!H:i=v`, `!L:i=v`.
+fn index(words: &[&str]) -> Option<Index> {
+    let mut index = Index::default();
+    for word in words {
+        let (what, value) = word.split_once('=')?;
+        match what.split_once(':') {
+            None if what == "!HS" => index.heads = Some(places(value)?),
+            None if what == "!LS" => index.links = Some(places(value)?),
+            Some(("!H", place)) => index.changes.push(Change::Head(number(place)?, number(value)?)),
+            Some(("!L", place)) => index.changes.push(Change::Link(number(place)?, number(value)?)),
+            _ => return None,
+        }
+    }
+    Some(index)
 }
 
 /// A number in decimal digits that its type can hold.

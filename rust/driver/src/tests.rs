@@ -1,7 +1,8 @@
 //! What the line protocol cannot ask, and the driver's own reading.
 
-use crate::command;
-use cablesalak::raw;
+use crate::command::{self, Change, Index, Table};
+use crate::lent::Lists;
+use cablesalak::raw::{self, Columns, ColumnsMut};
 
 #[test]
 fn what_is_no_command() {
@@ -23,6 +24,18 @@ fn what_is_no_command() {
         "check 4 2048 4096 - --",
         "check 4 2048 4096 -",
         "not 4 3 @ 2",
+        "not 4 3 - 2 !",
+        "not 4 3 - 2 !H",
+        "not 4 3 - 2 !HS",
+        "not 4 3 - 2 !HS=",
+        "not 4 3 - 2 !HS=-1",
+        "not 4 3 - 2 !H=1",
+        "not 4 3 - 2 !H:1",
+        "not 4 3 - 2 !H:=1",
+        "not 4 3 - 2 !L:1=65536",
+        "not 4 3 - 2 !LS:1=1",
+        "not 4 3 - !HS=8 2",
+        "check 4 2048 4096 - - !H:1=1",
     ];
     for line in lines {
         assert!(command::read(line).is_none(), "{line}");
@@ -36,56 +49,99 @@ fn what_is_a_command() {
         "not 4 3 @- 2",
         "lits 4 3 @1,0,0;0,0,0;1,0,1 2 1 18446744073709551615",
         "check 0 0 0 - 4e0a",
+        "not 4 3 - 2 !H:1=65535 !L:99=0 !HS=0 !LS=9 !H:1=2",
+        "check 4 2048 4096 - - !LS=3 !HS=9",
     ];
     for line in lines {
         assert!(command::read(line).is_some(), "{line}");
     }
 }
 
-/// Columns of unequal length are of wrong size, whatever they hold: 7, and nothing else is said or changed.
+/// Columns of unequal length, and heads and links that do not go with them, are of wrong size, whatever they hold: 7, and nothing else is
+/// said or changed.
 #[test]
-fn unequal_columns() {
-    for lengths in
-        [[4, 4, 3], [4, 3, 4], [3, 4, 4], [4, 5, 5], [0, 4, 4], [4, 0, 4], [4, 4, 0], [65_536, 65_536, 65_537]]
-    {
-        let vars: Vec<u8> = vec![0; lengths[0]];
-        let (lows, highs) = (vec![0u16; lengths[1]], vec![0u16; lengths[2]]);
-        let said = raw::evaluate(&vars, &lows, &highs, 2, 1, 0);
-        assert_eq!((said.number, said.yes, said.count), (7, false, 2), "{lengths:?}");
-        single_on_unequal(vars.clone(), lows.clone(), highs.clone());
-        check_on_unequal(vars, lows, highs);
+fn unequal_lists() {
+    let columns =
+        [[4, 4, 3], [4, 3, 4], [3, 4, 4], [4, 5, 5], [0, 4, 4], [4, 0, 4], [4, 4, 0], [65_536, 65_536, 65_537]];
+    for [vars, lows, highs] in columns {
+        refused_by_all(Sizes { vars, lows, highs, heads: 2 * vars, links: vars });
     }
+    let right = Sizes { vars: 4, lows: 4, highs: 4, heads: 8, links: 4 };
+    for heads in [0, 1, 4, 7, 9, 16] {
+        refused_by_all(Sizes { heads, ..right });
+    }
+    for links in [0, 3, 5, 8] {
+        refused_by_all(Sizes { links, ..right });
+    }
+    refused_by_all(Sizes { heads: 4, links: 8, ..right });
 }
 
-fn single_on_unequal(mut vars: Vec<u8>, mut lows: Vec<u16>, mut highs: Vec<u16>) {
+#[derive(Clone, Copy)]
+struct Sizes {
+    vars: usize,
+    lows: usize,
+    highs: usize,
+    heads: usize,
+    links: usize,
+}
+
+fn refused_by_all(sizes: Sizes) {
+    let Sizes { vars, lows, highs, heads, links } = sizes;
+    let mut vars = vec![7u8; vars];
+    let [mut lows, mut highs, mut heads, mut links] = [lows, highs, heads, links].map(|length| vec![8u16; length]);
+    let said =
+        raw::evaluate(Columns { vars: &vars, lows: &lows, highs: &highs, heads: &heads, links: &links }, 2, 1, 0);
+    assert_eq!((said.number, said.yes, said.count), (7, false, 2));
+    let (vars, lows, highs, heads, links) =
+        (&mut vars[..], &mut lows[..], &mut highs[..], &mut heads[..], &mut links[..]);
+    let mut table = ColumnsMut { vars, lows, highs, heads, links };
     let said = [
-        raw::conjunction(&mut vars, &mut lows, &mut highs, 2, 1, 1),
-        raw::negation(&mut vars, &mut lows, &mut highs, 2, 1),
-        raw::cofactor(&mut vars, &mut lows, &mut highs, 2, 1, 0),
-        raw::cofactor_literals(&mut vars, &mut lows, &mut highs, 2, 1, 1, 1),
+        raw::conjunction(&mut table, 2, 1, 1),
+        raw::negation(&mut table, 2, 1),
+        raw::cofactor(&mut table, 2, 1, 0),
+        raw::cofactor_literals(&mut table, 2, 1, 1, 1),
     ];
     assert!(said.iter().all(|said| (said.number, said.node, said.count) == (7, 0, 2)));
-    assert!(vars.iter().all(|place| *place == 0) && lows.iter().chain(&highs).all(|place| *place == 0));
-}
-
-fn check_on_unequal(mut vars: Vec<u8>, mut lows: Vec<u16>, mut highs: Vec<u16>) {
-    vars.fill(7);
-    refused_for_size(&mut vars, &mut lows, &mut highs, 2048);
-    assert!(vars.iter().all(|place| *place == 7) && lows.iter().chain(&highs).all(|place| *place == 0));
+    refused_for_size(&mut table, 2048);
+    assert!(table.vars.iter().all(|place| *place == 7));
+    for list in [table.lows, table.highs, table.heads, table.links] {
+        assert!(list.iter().all(|place| *place == 8));
+    }
 }
 
 /// Nor has the member list a column of marks that is shorter or longer.
 #[test]
 fn unequal_marks() {
     for marks in [0, 1, 2047, 2049, 4096] {
-        refused_for_size(&mut [0; 4], &mut [0; 4], &mut [0; 4], marks);
+        let (vars, lows, highs, heads, links) = (&mut [0; 4], &mut [0; 4], &mut [0; 4], &mut [0; 8], &mut [0; 4]);
+        refused_for_size(&mut ColumnsMut { vars, lows, highs, heads, links }, marks);
     }
 }
 
-fn refused_for_size(vars: &mut [u8], lows: &mut [u16], highs: &mut [u16], marks: usize) {
+fn refused_for_size(table: &mut ColumnsMut<'_>, marks: usize) {
     let (mut members, mut struck, mut scratch) = (vec![5u16; 2048], vec![4u8; marks], vec![6u16; 4096]);
-    let said = raw::check(vars, lows, highs, 9, &mut members, &mut struck, &mut scratch, b"p cnf 0 0", &[0x45]);
+    let said = raw::check(table, 9, &mut members, &mut struck, &mut scratch, b"p cnf 0 0", &[0x45]);
     assert_eq!((said.number, said.place, said.lines, said.rounds, said.count, said.peak), (7, 0, 0, 0, 9, 0));
     assert!(members.iter().all(|place| *place == 5) && scratch.iter().all(|place| *place == 6));
     assert!(struck.iter().all(|mark| *mark == 4));
+}
+
+/// What the driver takes for the right index: three nodes of one chain, one alone, and a key that runs over the top.
+#[test]
+fn right_index() {
+    let nodes = vec![(0, 0, 0), (0, 0, 0), (3, 0, 1), (19, 0, 1), (35, 0, 1), (2, 0, 1)];
+    let mut table = Table { size: 8, count: 6, nodes, index: Index::default() };
+    let lists = Lists::holding(&table);
+    // 3 + 4,256,249 = 4,256,252, and by 16 heads the remainder is 12; so are those of 19 and 35; that of 2 is 11.
+    let mut heads = [0; 16];
+    (heads[12], heads[11]) = (4, 5);
+    assert_eq!((lists.places().heads, lists.places().links), (&heads[..], &[0, 0, 0, 2, 3, 0, 0, 0][..]));
+    assert!(lists.indexed(6) && !lists.indexed(5));
+    table.index.changes = vec![Change::Head(12, 4), Change::Link(99, 1)];
+    assert!(Lists::holding(&table).indexed(6));
+    table.index.changes = vec![Change::Link(7, 2)];
+    assert!(!Lists::holding(&table).indexed(6));
+    // 1 + 342 times 12,582,917 = 4,303,357,615 is 8,390,319 over the top, with the remainder 15.
+    let over = Table { size: 8, count: 3, nodes: vec![(0, 0, 0), (0, 0, 0), (1, 342, 0)], index: Index::default() };
+    assert_eq!(Lists::holding(&over).places().heads[15], 2);
 }

@@ -1,10 +1,11 @@
 //! The check of a formula and a proof.
 
 use crate::dimacs::{Formula, Refusal};
+use crate::index::Sizes;
 use crate::operate::Diagrams;
 use crate::records::{EntryId, MemberId, Reader, Record};
 use crate::rules;
-use crate::table::{bit, Full, Literals, NodeId, LARGEST, ONE, SMALLEST, ZERO};
+use crate::table::{bit, Full, Literals, NodeId, ONE, SMALLEST, ZERO};
 
 const MEMBERS: u64 = 2_048;
 const SCRATCH: u64 = 4_096;
@@ -13,7 +14,7 @@ const LINES: usize = 1_024;
 
 /// The sizes of the lent parts.
 pub struct Lent {
-    pub table: u64,
+    pub table: Sizes,
     pub members: u64,
     pub scratch: u64,
 }
@@ -43,14 +44,10 @@ pub struct Verdict {
     pub members: Vec<Member>,
 }
 
-pub fn table_size_is_right(size: u64) -> bool {
-    (SMALLEST..=LARGEST).contains(&size)
-}
-
 /// "Order: 7, formula, proof."
 pub fn check(d: &mut Diagrams, lent: &Lent, formula: &[u8], proof: &[u8]) -> Verdict {
-    let sizes = table_size_is_right(lent.table) && lent.members >= MEMBERS && lent.scratch >= SCRATCH;
-    d.reset(if sizes { lent.table as usize } else { SMALLEST as usize });
+    let sizes = lent.table.are_right() && lent.members >= MEMBERS && lent.scratch >= SCRATCH;
+    d.reset(if sizes { lent.table.places as usize } else { SMALLEST as usize });
     if !sizes {
         return refused_early(Refusal { number: 7, place: 0 }, 0);
     }

@@ -3,6 +3,7 @@
 
 mod check;
 mod dimacs;
+mod index;
 mod operate;
 mod protocol;
 mod records;

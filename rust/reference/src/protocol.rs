@@ -1,6 +1,7 @@
 //! The line protocol: a command line in, an answer line out.
 
-use crate::check::{check, table_size_is_right, Lent, Member};
+use crate::check::{check, Lent, Member};
+use crate::index::{Change, Index, Sizes};
 use crate::operate::Diagrams;
 use crate::table::{Full, Literals, NodeId, Table, VARIABLES, ZERO};
 
@@ -14,12 +15,27 @@ struct LentTable {
     places: Vec<Place>,
 }
 
+/// A lent index as written: in what it differs from the right one.
+#[derive(Default)]
+struct LentIndex {
+    heads: Option<u64>,
+    links: Option<u64>,
+    changes: Vec<Change>,
+}
+
+impl LentIndex {
+    fn sizes(&self, places: u64) -> Sizes {
+        let heads = self.heads.unwrap_or(places.saturating_mul(2));
+        Sizes { places, heads, links: self.links.unwrap_or(places) }
+    }
+}
+
 enum Call {
-    And(u64, u64),
-    Not(u64),
-    Cofactor(u64, u64),
-    Restrict(u64, Literals),
-    Evaluate(u64, u64),
+    And(u32, u32),
+    Not(u32),
+    Cofactor(u32, u32),
+    Restrict(u32, Literals),
+    Evaluate(u32, u64),
 }
 
 /// Writes the answer to a command, without the line's end.
@@ -38,30 +54,32 @@ fn command(d: &mut Diagrams, line: &[u8], out: &mut Vec<u8>) -> Option<()> {
         return check_command(d, words, out);
     }
     let lent = lent_table(&mut words)?;
-    let mut operand = || decimal(words.next()?);
     let call = match name {
-        b"and" => Call::And(operand()?, operand()?),
-        b"not" => Call::Not(operand()?),
-        b"cof" => Call::Cofactor(operand()?, operand()?),
-        b"lits" => Call::Restrict(operand()?, Literals { yes: operand()?, no: operand()? }),
-        b"eval" => Call::Evaluate(operand()?, operand()?),
+        b"and" => Call::And(node_number(words.next()?)?, node_number(words.next()?)?),
+        b"not" => Call::Not(node_number(words.next()?)?),
+        b"cof" => Call::Cofactor(node_number(words.next()?)?, node_number(words.next()?)?),
+        b"lits" => {
+            let f = node_number(words.next()?)?;
+            Call::Restrict(f, Literals { yes: decimal(words.next()?)?, no: decimal(words.next()?)? })
+        }
+        b"eval" => Call::Evaluate(node_number(words.next()?)?, decimal(words.next()?)?),
         _ => return None,
     };
-    if words.next().is_some() {
-        return None;
-    }
-    single(d, &lent, &call, out);
+    single(d, &lent, &lent_index(words)?, &call, out);
     Some(())
 }
 
 fn check_command<'a>(d: &mut Diagrams, mut words: impl Iterator<Item = &'a [u8]>, out: &mut Vec<u8>) -> Option<()> {
     let mut size = || decimal(words.next()?);
-    let lent = Lent { table: size()?, members: size()?, scratch: size()? };
+    let (places, members, scratch) = (size()?, size()?, size()?);
     let formula = hex(words.next()?)?;
     let proof = hex(words.next()?)?;
-    if words.next().is_some() {
+    let index = lent_index(words)?;
+    // The check empties the index, so only its sizes can be named.
+    if !index.changes.is_empty() {
         return None;
     }
+    let lent = Lent { table: index.sizes(places), members, scratch };
     let verdict = check(d, &lent, &formula, &proof);
     push_number(out, verdict.number.into());
     let (count, peak) = (d.table.count() as u64, verdict.peak as u64);
@@ -80,9 +98,8 @@ fn check_command<'a>(d: &mut Diagrams, mut words: impl Iterator<Item = &'a [u8]>
 
 /// A single call: "7, 26, 13, then 27 or 15, then 23 where nodes are made". "A refused single call
 /// changes nothing", so its answer shows the table as lent.
-fn single(d: &mut Diagrams, lent: &LentTable, call: &Call, out: &mut Vec<u8>) {
-    let outcome = run(d, lent, call);
-    let (number, value) = match outcome {
+fn single(d: &mut Diagrams, lent: &LentTable, index: &LentIndex, call: &Call, out: &mut Vec<u8>) {
+    let (number, value) = match run(d, lent, index, call) {
         Ok(value) => (0, value),
         Err(number) => (number, 0),
     };
@@ -103,12 +120,12 @@ fn single(d: &mut Diagrams, lent: &LentTable, call: &Call, out: &mut Vec<u8>) {
     }
 }
 
-fn run(d: &mut Diagrams, lent: &LentTable, call: &Call) -> Result<u32, u32> {
-    if !table_size_is_right(lent.size) {
+fn run(d: &mut Diagrams, lent: &LentTable, index: &LentIndex, call: &Call) -> Result<u32, u32> {
+    if !index.sizes(lent.size).are_right() {
         return Err(7);
     }
     d.reset(lent.size as usize);
-    if !load(&mut d.table, lent) {
+    if !load(&mut d.table, lent) || !index_is_right(&d.table, lent.size as usize, &index.changes) {
         return Err(26);
     }
     let made = match *call {
@@ -139,12 +156,17 @@ fn run(d: &mut Diagrams, lent: &LentTable, call: &Call) -> Result<u32, u32> {
     made.map(|node| node.0).map_err(|Full| 23)
 }
 
-fn node(d: &Diagrams, number: u64) -> Result<NodeId, u32> {
-    if d.table.has(number) {
-        Ok(NodeId(number as u32))
+fn node(d: &Diagrams, number: u32) -> Result<NodeId, u32> {
+    if d.table.has(number.into()) {
+        Ok(NodeId(number))
     } else {
         Err(13)
     }
+}
+
+/// "It refuses [..], in single calls, a wrong one with 26." What is not changed is right.
+fn index_is_right(table: &Table, size: usize, changes: &[Change]) -> bool {
+    changes.is_empty() || Index::of(table, size).stays_with(changes)
 }
 
 /// Takes a lent table into an empty one; false where it is not in "good order".
@@ -182,6 +204,23 @@ fn lent_table<'a>(words: &mut impl Iterator<Item = &'a [u8]>) -> Option<LentTabl
     Some(LentTable { size, count, places })
 }
 
+/// The words after all others that name what is wrong in the lent index.
+fn lent_index<'a>(words: impl Iterator<Item = &'a [u8]>) -> Option<LentIndex> {
+    let mut index = LentIndex::default();
+    for word in words {
+        let equals = word.iter().position(|&b| b == b'=')?;
+        let (name, value) = (&word[..equals], &word[equals + 1..]);
+        match name {
+            b"!HS" => index.heads = Some(decimal(value)?),
+            b"!LS" => index.links = Some(decimal(value)?),
+            [b'!', b'H', b':', at @ ..] => index.changes.push(Change::Head(decimal(at)?, node_number(value)?)),
+            [b'!', b'L', b':', at @ ..] => index.changes.push(Change::Link(decimal(at)?, node_number(value)?)),
+            _ => return None,
+        }
+    }
+    Some(index)
+}
+
 fn lent_places(text: &[u8]) -> Option<Vec<Place>> {
     let (mut rest, mut places) = match text {
         [b'@', rest @ ..] => (rest, Vec::new()),
@@ -191,16 +230,17 @@ fn lent_places(text: &[u8]) -> Option<Vec<Place>> {
         return Some(places);
     }
     loop {
-        let place = [field(&mut rest, b',')?, field(&mut rest, b',')?, field(&mut rest, b';')?];
-        places.push(place);
+        let variable = u32::try_from(decimal(field(&mut rest, b',')?)?).ok()?;
+        let (low, high) = (field(&mut rest, b',')?, field(&mut rest, b';')?);
+        places.push([variable, node_number(low)?, node_number(high)?]);
         if rest.is_empty() {
             return Some(places);
         }
     }
 }
 
-/// A number up to the given sign, which is passed over; the last one ends with the text.
-fn field(rest: &mut &[u8], end: u8) -> Option<u32> {
+/// The digits up to the given sign, which is passed over; the last ones end with the text.
+fn field<'a>(rest: &mut &'a [u8], end: u8) -> Option<&'a [u8]> {
     let length = rest.iter().position(|b| !b.is_ascii_digit()).unwrap_or(rest.len());
     let (digits, after) = rest.split_at(length);
     *rest = match after {
@@ -208,7 +248,12 @@ fn field(rest: &mut &[u8], end: u8) -> Option<u32> {
         [] if end == b';' => after,
         _ => return None,
     };
-    u32::try_from(decimal(digits)?).ok()
+    Some(digits)
+}
+
+/// "A number that its column or parameter cannot hold (a node number over 65,535) is no command."
+fn node_number(digits: &[u8]) -> Option<u32> {
+    u16::try_from(decimal(digits)?).ok().map(u32::from)
 }
 
 fn decimal(digits: &[u8]) -> Option<u64> {

@@ -5,7 +5,8 @@
 #include <string.h>
 
 #define PLACES 7
-#define COLUMNS(t) (t)->vars, PLACES, (t)->lows, PLACES, (t)->highs, PLACES
+#define OF_SIZE(t, n) (t)->vars, n, (t)->lows, n, (t)->highs, n, (t)->heads, 2 * n, (t)->links, n
+#define LISTS(t) OF_SIZE(t, PLACES)
 
 /* Also where NDEBUG is set. */
 #define EXPECT(holds) ((holds) ? (void)0 : fail(__LINE__, #holds))
@@ -18,20 +19,42 @@ static void fail(int line, const char *what)
 
 typedef struct {
     uint8_t vars[PLACES];
-    uint16_t lows[PLACES], highs[PLACES];
+    uint16_t lows[PLACES], highs[PLACES], heads[CABLESALAK_HEADS(PLACES)], links[CABLESALAK_LINKS(PLACES)];
 } table;
+
+/* The index of the nodes below the count, in a table of so many places. */
+static void make_index(table *t, size_t places, size_t count)
+{
+    memset(t->heads, 0, sizeof t->heads);
+    memset(t->links, 0, sizeof t->links);
+    for (size_t k = 2; k < count; k++) {
+        size_t chain = cablesalak_chain(t->vars[k], t->lows[k], t->highs[k], CABLESALAK_HEADS(places));
+        t->links[k] = t->heads[chain];
+        t->heads[chain] = (uint16_t)k;
+    }
+}
 
 /* x2, not-x2, x1 xor x2 and x1 as nodes 2 to 5, and one free place. */
 static table case_g(void)
 {
-    table t = {{0, 0, 2, 2, 1, 1, 0}, {0, 0, 0, 1, 2, 0, 0}, {0, 0, 1, 0, 3, 1, 0}};
+    table t = {{0, 0, 2, 2, 1, 1, 0}, {0, 0, 0, 1, 2, 0, 0}, {0, 0, 1, 0, 3, 1, 0}, {0}, {0}};
+    make_index(&t, PLACES, 6);
     return t;
 }
 
 static bool same(const table *t, const table *u)
 {
     return memcmp(t->vars, u->vars, sizeof t->vars) == 0 && memcmp(t->lows, u->lows, sizeof t->lows) == 0 &&
-           memcmp(t->highs, u->highs, sizeof t->highs) == 0;
+           memcmp(t->highs, u->highs, sizeof t->highs) == 0 && memcmp(t->heads, u->heads, sizeof t->heads) == 0 &&
+           memcmp(t->links, u->links, sizeof t->links) == 0;
+}
+
+/* Whether the index is that of the nodes below the count. */
+static bool is_indexed(const table *t, size_t count)
+{
+    table u = *t;
+    make_index(&u, PLACES, count);
+    return same(t, &u);
 }
 
 static void is(cablesalak_single said, unsigned number, unsigned node, size_t count)
@@ -44,39 +67,69 @@ static void is(cablesalak_single said, unsigned number, unsigned node, size_t co
 static void evaluations(void)
 {
     table t = case_g();
-    cablesalak_evaluated said = cablesalak_evaluate(COLUMNS(&t), 6, 4, 1);
+    cablesalak_evaluated said = cablesalak_evaluate(LISTS(&t), 6, 4, 1);
     EXPECT(said.number == 0 && said.yes && said.count == 6);
-    said = cablesalak_evaluate(COLUMNS(&t), 6, 4, 0xFFFFFFFFFFFFFFFFu);
+    said = cablesalak_evaluate(LISTS(&t), 6, 4, 0xFFFFFFFFFFFFFFFFu);
     EXPECT(said.number == 0 && !said.yes && said.count == 6);
-    said = cablesalak_evaluate(COLUMNS(&t), 6, 6, 1);
+    said = cablesalak_evaluate(LISTS(&t), 6, 6, 1);
     EXPECT(said.number == CABLESALAK_NO_SUCH_NODE && !said.yes && said.count == 6);
-    said = cablesalak_evaluate(COLUMNS(&t), 5, 1, 1);
+    said = cablesalak_evaluate(LISTS(&t), 5, 1, 1);
     EXPECT(said.number == CABLESALAK_NOT_IN_ORDER && !said.yes && said.count == 5);
-    said = cablesalak_evaluate(t.vars, PLACES, t.lows, PLACES - 1, t.highs, PLACES, SIZE_MAX, 1, 1);
+    said = cablesalak_evaluate(t.vars, PLACES, t.lows, PLACES - 1, t.highs, PLACES, t.heads, 2 * PLACES, t.links, PLACES, SIZE_MAX, 1, 1);
     EXPECT(said.number == CABLESALAK_WRONG_SIZE && !said.yes && said.count == SIZE_MAX);
+    said = cablesalak_evaluate(t.vars, PLACES, t.lows, PLACES, t.highs, PLACES, t.heads, 2 * PLACES - 1, t.links, PLACES, 6, 1, 1);
+    EXPECT(said.number == CABLESALAK_WRONG_SIZE && !said.yes && said.count == 6);
+    t.links[6] = 2;
+    said = cablesalak_evaluate(LISTS(&t), 6, 4, 1);
+    EXPECT(said.number == CABLESALAK_NOT_IN_ORDER && !said.yes && said.count == 6);
 }
 
 static void granted(void)
 {
     table t = case_g();
-    is(cablesalak_conjunction(COLUMNS(&t), 6, 2, 3), 0, 0, 6);
-    is(cablesalak_negation(COLUMNS(&t), 6, 2), 0, 3, 6);
-    is(cablesalak_cofactor(COLUMNS(&t), 6, 5, 4), 0, 5, 6);
-    is(cablesalak_cofactor_literals(COLUMNS(&t), 6, 4, 1, 0), 0, 3, 6);
-    is(cablesalak_cofactor_literals(COLUMNS(&t), 6, 4, 0, 1), 0, 2, 6);
-    is(cablesalak_cofactor(COLUMNS(&t), 6, 2, 4), 0, 6, 7);
-    EXPECT(t.vars[6] == 1 && t.lows[6] == 1 && t.highs[6] == 0);
+    is(cablesalak_conjunction(LISTS(&t), 6, 2, 3), 0, 0, 6);
+    is(cablesalak_negation(LISTS(&t), 6, 2), 0, 3, 6);
+    is(cablesalak_cofactor(LISTS(&t), 6, 5, 4), 0, 5, 6);
+    is(cablesalak_cofactor_literals(LISTS(&t), 6, 4, 1, 0), 0, 3, 6);
+    is(cablesalak_cofactor_literals(LISTS(&t), 6, 4, 0, 1), 0, 2, 6);
+    is(cablesalak_cofactor(LISTS(&t), 6, 2, 4), 0, 6, 7);
+    EXPECT(t.vars[6] == 1 && t.lows[6] == 1 && t.highs[6] == 0 && is_indexed(&t, 7));
 }
 
 static void refused(void)
 {
     table t = case_g(), before = t;
-    is(cablesalak_conjunction(COLUMNS(&t), 6, 6, 2), CABLESALAK_NO_SUCH_NODE, 0, 6);
-    is(cablesalak_negation(COLUMNS(&t), 7, 2), CABLESALAK_NOT_IN_ORDER, 0, 7);
-    is(cablesalak_cofactor(COLUMNS(&t), 6, 2, 0), CABLESALAK_COFACTOR_BY_ZERO, 0, 6);
-    is(cablesalak_cofactor_literals(COLUMNS(&t), 6, 2, 3, 2), CABLESALAK_VARIABLE_TWICE, 0, 6);
-    is(cablesalak_negation(t.vars, 6, t.lows, 6, t.highs, 6, 6, 4), CABLESALAK_TABLE_FULL, 0, 6);
-    is(cablesalak_negation(t.vars, 1, t.lows, 1, t.highs, 1, 9, 4), CABLESALAK_WRONG_SIZE, 0, 9);
+    is(cablesalak_conjunction(LISTS(&t), 6, 6, 2), CABLESALAK_NO_SUCH_NODE, 0, 6);
+    is(cablesalak_negation(LISTS(&t), 7, 2), CABLESALAK_NOT_IN_ORDER, 0, 7);
+    is(cablesalak_cofactor(LISTS(&t), 6, 2, 0), CABLESALAK_COFACTOR_BY_ZERO, 0, 6);
+    is(cablesalak_cofactor_literals(LISTS(&t), 6, 2, 3, 2), CABLESALAK_VARIABLE_TWICE, 0, 6);
+    is(cablesalak_negation(OF_SIZE(&t, 1), 9, 4), CABLESALAK_WRONG_SIZE, 0, 9);
+    EXPECT(same(&t, &before));
+    /* A table of six places has other chains. */
+    is(cablesalak_negation(OF_SIZE(&t, 6), 6, 4), CABLESALAK_NOT_IN_ORDER, 0, 6);
+    EXPECT(same(&t, &before));
+    make_index(&t, 6, 6);
+    before = t;
+    is(cablesalak_negation(OF_SIZE(&t, 6), 6, 4), CABLESALAK_TABLE_FULL, 0, 6);
+    EXPECT(same(&t, &before));
+}
+
+/* Wrong sizes and a wrong index, of each call that makes nodes. */
+static void wrong_index(void)
+{
+    table t = case_g();
+    t.heads[cablesalak_chain(1, 2, 3, CABLESALAK_HEADS(PLACES))] = 0;
+    table before = t;
+    is(cablesalak_conjunction(LISTS(&t), 6, 2, 3), CABLESALAK_NOT_IN_ORDER, 0, 6);
+    is(cablesalak_negation(LISTS(&t), 6, 2), CABLESALAK_NOT_IN_ORDER, 0, 6);
+    is(cablesalak_cofactor(LISTS(&t), 6, 2, 0), CABLESALAK_NOT_IN_ORDER, 0, 6);
+    is(cablesalak_cofactor_literals(LISTS(&t), 6, 2, 3, 2), CABLESALAK_NOT_IN_ORDER, 0, 6);
+    EXPECT(same(&t, &before));
+#define SHORT_LINKS (t.vars), PLACES, t.lows, PLACES, t.highs, PLACES, t.heads, 2 * PLACES, t.links, PLACES - 1
+    is(cablesalak_conjunction(SHORT_LINKS, 6, 2, 3), CABLESALAK_WRONG_SIZE, 0, 6);
+    is(cablesalak_negation(SHORT_LINKS, 6, 2), CABLESALAK_WRONG_SIZE, 0, 6);
+    is(cablesalak_cofactor(SHORT_LINKS, 6, 2, 0), CABLESALAK_WRONG_SIZE, 0, 6);
+    is(cablesalak_cofactor_literals(SHORT_LINKS, 6, 2, 3, 2), CABLESALAK_WRONG_SIZE, 0, 6);
     EXPECT(same(&t, &before));
 }
 
@@ -86,18 +139,42 @@ static const uint8_t proof[] = {0x4E, 2, 0, 0, 1, 0, 0x52, 2, 0, 0x52, 0, 0, 0x4
 static const uint8_t strikings[] = {0x4E, 2, 0, 0, 1, 0, 0x52, 2, 0, 0x44, 0, 0, 0x44, 1, 0, 0x52, 0, 0, 0x45};
 static const uint8_t twice[] = {0x44, 1, 0, 0x44, 1, 0};
 static uint8_t vars[64], struck[2049];
-static uint16_t lows[64], highs[64], members[2048], scratch[4096];
+static uint16_t lows[64], highs[64], heads[128], links[64], members[2048], scratch[4096];
 
-static cablesalak_checked check(size_t struck_length, size_t scratch_length, const uint8_t *lines, size_t length)
+static cablesalak_checked check_indexed(size_t heads_length, size_t links_length, size_t struck_length, size_t scratch_length,
+                                        const uint8_t *lines, size_t length)
 {
     memset(vars, 0xA5, sizeof vars);
     memset(lows, 0xA5, sizeof lows);
     memset(highs, 0xA5, sizeof highs);
+    memset(heads, 0xA5, sizeof heads);
+    memset(links, 0xA5, sizeof links);
     memset(members, 0xA5, sizeof members);
     memset(struck, 0xA5, sizeof struck);
     memset(scratch, 0xA5, sizeof scratch);
-    return cablesalak_check(vars, 64, lows, 64, highs, 64, 9, members, 2048, struck, struck_length, scratch, scratch_length,
-                            (const uint8_t *)FORMULA, strlen(FORMULA), lines, length);
+    return cablesalak_check(vars, 64, lows, 64, highs, 64, heads, heads_length, links, links_length, 9, members, 2048,
+                            struck, struck_length, scratch, scratch_length, (const uint8_t *)FORMULA, strlen(FORMULA),
+                            lines, length);
+}
+
+static cablesalak_checked check(size_t struck_length, size_t scratch_length, const uint8_t *lines, size_t length)
+{
+    return check_indexed(128, 64, struck_length, scratch_length, lines, length);
+}
+
+/* Whether the index that a check leaves is that of the nodes below the count. */
+static bool left_indexed(size_t count)
+{
+    uint16_t right[128] = {0};
+    bool is = true;
+    for (size_t k = 0; k < 64; k++) {
+        bool node = 2 <= k && k < count;
+        size_t chain = node ? cablesalak_chain(vars[k], lows[k], highs[k], 128) : 0;
+        is = is && links[k] == (node ? right[chain] : 0);
+        if (node)
+            right[chain] = (uint16_t)k;
+    }
+    return is && memcmp(heads, right, sizeof heads) == 0;
 }
 
 static bool says(cablesalak_checked said, unsigned number, size_t place, size_t lines, uint64_t rounds, size_t count,
@@ -120,7 +197,7 @@ static bool marked(const char *marks)
 static bool refused_for_size(cablesalak_checked said)
 {
     return says(said, CABLESALAK_WRONG_SIZE, 0, 0, 0, 9, 0) && vars[0] == 0xA5 && members[2047] == 0xA5A5 &&
-           struck[0] == 0xA5 && struck[2047] == 0xA5 && scratch[0] == 0xA5A5;
+           struck[0] == 0xA5 && struck[2047] == 0xA5 && scratch[0] == 0xA5A5 && heads[127] == 0xA5A5 && links[63] == 0xA5A5;
 }
 
 static void checks(void)
@@ -128,13 +205,15 @@ static void checks(void)
     EXPECT(says(check(2048, 4096, proof, sizeof proof), CABLESALAK_REFUTED, 12, 2, 1, 8, 10));
     EXPECT(vars[7] == 1 && lows[7] == 1 && highs[7] == 5 && vars[8] == 0 && lows[63] == 0);
     EXPECT(members[0] == 3 && members[3] == 7 && members[4] == 2 && members[5] == 0 && members[2047] == 0);
-    EXPECT(scratch[0] == 0 && scratch[4095] == 0 && marked(""));
+    EXPECT(scratch[0] == 0 && scratch[4095] == 0 && marked("") && left_indexed(8));
     EXPECT(says(check(2048, 4096, proof + 9, 4), CABLESALAK_NOT_SHOWN, 0, 0, 0, 8, 8));
     EXPECT(says(check(2048, 4096, strikings, sizeof strikings), CABLESALAK_REFUTED, 18, 2, 1, 8, 10) && marked("11"));
     EXPECT(says(check(2048, 4096, twice, sizeof twice), CABLESALAK_NO_SUCH_MEMBER, 3, 0, 0, 8, 8) && marked("01"));
     EXPECT(refused_for_size(check(2048, 4095, proof, sizeof proof)));
     EXPECT(refused_for_size(check(2047, 4096, proof, sizeof proof)));
     EXPECT(refused_for_size(check(2049, 4096, proof, sizeof proof)));
+    EXPECT(refused_for_size(check_indexed(127, 64, 2048, 4096, proof, sizeof proof)));
+    EXPECT(refused_for_size(check_indexed(128, 63, 2048, 4096, proof, sizeof proof)));
 }
 
 /* The line at the start, what lies behind it as it was, and the status. */
@@ -163,6 +242,7 @@ int main(void)
     evaluations();
     granted();
     refused();
+    wrong_index();
     checks();
     reports();
     for (unsigned number = 0; cablesalak_meaning(number) != 0; number++)

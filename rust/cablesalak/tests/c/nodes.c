@@ -19,7 +19,7 @@ static void fail(int line, const char *what)
 
 static uint8_t vars[PLACES];
 static uint16_t lows[PLACES], highs[PLACES];
-static uint16_t members[2][MEMBERS], scratch[2][SCRATCH];
+static uint16_t heads[2][2 * PLACES], links[2][PLACES], members[2][MEMBERS], scratch[2][SCRATCH];
 static uint8_t struck[2][MEMBERS];
 static cablesalak_node nodes[PLACES];
 
@@ -29,6 +29,8 @@ static void dirty(void)
     memset(vars, 0x5A, sizeof vars);
     memset(lows, 0x5A, sizeof lows);
     memset(highs, 0x5A, sizeof highs);
+    memset(heads, 0x5A, sizeof heads);
+    memset(links, 0x5A, sizeof links);
     memset(members, 0x5A, sizeof members);
     memset(struck, 0x5A, sizeof struck);
     memset(scratch, 0x5A, sizeof scratch);
@@ -39,6 +41,7 @@ static void same_places(void)
 {
     for (size_t i = 0; i < PLACES; i++)
         EXPECT(nodes[i].var == vars[i] && nodes[i].low == lows[i] && nodes[i].high == highs[i]);
+    EXPECT(memcmp(heads[0], heads[1], sizeof heads[0]) == 0 && memcmp(links[0], links[1], sizeof links[0]) == 0);
     EXPECT(memcmp(members[0], members[1], sizeof members[0]) == 0);
     EXPECT(memcmp(struck[0], struck[1], sizeof struck[0]) == 0);
     EXPECT(memcmp(scratch[0], scratch[1], sizeof scratch[0]) == 0);
@@ -49,20 +52,34 @@ static void check(size_t places, size_t marks, const char *formula, const char *
 {
     dirty();
     const uint8_t *text = (const uint8_t *)formula, *bytes = (const uint8_t *)proof;
-    cablesalak_checked a = cablesalak_check(vars, places, lows, places, highs, places, 9, members[0], MEMBERS, struck[0],
-                                            marks, scratch[0], SCRATCH, text, strlen(formula), bytes, length);
-    cablesalak_checked b = cablesalak_check_nodes(nodes, places, 9, members[1], MEMBERS, struck[1], marks, scratch[1],
-                                                  SCRATCH, text, strlen(formula), bytes, length);
+    size_t chains = CABLESALAK_HEADS(places);
+    cablesalak_checked a = cablesalak_check(vars, places, lows, places, highs, places, heads[0], chains, links[0], places, 9,
+                                            members[0], MEMBERS, struck[0], marks, scratch[0], SCRATCH, text,
+                                            strlen(formula), bytes, length);
+    cablesalak_checked b = cablesalak_check_nodes(nodes, places, heads[1], chains, links[1], places, 9, members[1], MEMBERS,
+                                                  struck[1], marks, scratch[1], SCRATCH, text, strlen(formula), bytes, length);
     EXPECT(a.number == number && b.number == number);
     EXPECT(a.place == b.place && a.lines == b.lines && a.rounds == b.rounds && a.count == b.count &&
            a.peak == b.peak);
     same_places();
     for (unsigned node = 0; number != 7 && node < 4; node++)
         for (uint64_t word = 0; word < 4; word++) {
-            cablesalak_evaluated x = cablesalak_evaluate(vars, places, lows, places, highs, places, a.count, (uint16_t)node, word);
-            cablesalak_evaluated y = cablesalak_evaluate_nodes(nodes, places, b.count, (uint16_t)node, word);
+            cablesalak_evaluated x = cablesalak_evaluate(vars, places, lows, places, highs, places, heads[0], chains, links[0],
+                                                         places, a.count, (uint16_t)node, word);
+            cablesalak_evaluated y = cablesalak_evaluate_nodes(nodes, places, heads[1], chains, links[1], places, b.count,
+                                                               (uint16_t)node, word);
             EXPECT(x.number == y.number && x.yes == y.yes && x.count == y.count);
         }
+}
+
+/* After a check with this index: sizes that do not go with the table, and a wrong link. */
+static void wrong_index(void)
+{
+    EXPECT(cablesalak_evaluate_nodes(nodes, PLACES, heads[1], 2 * PLACES, links[1], PLACES, 8, 1, 0).number == 0);
+    EXPECT(cablesalak_evaluate_nodes(nodes, PLACES, heads[1], 2 * PLACES - 1, links[1], PLACES, 8, 1, 0).number == 7);
+    EXPECT(cablesalak_evaluate_nodes(nodes, PLACES, heads[1], 2 * PLACES, links[1], PLACES - 1, 8, 1, 0).number == 7);
+    links[1][PLACES - 1] = 2;
+    EXPECT(cablesalak_evaluate_nodes(nodes, PLACES, heads[1], 2 * PLACES, links[1], PLACES, 8, 1, 0).number == 26);
 }
 
 int main(void)
@@ -71,6 +88,7 @@ int main(void)
     const char case_a[] = "\x4E\x02\x00\x00\x01\x00\x52\x02\x00\x52\x00\x00\x45";
     const char strikings[] = "\x4E\x02\x00\x00\x01\x00\x52\x02\x00\x44\x00\x00\x44\x01\x00\x52\x00\x00\x45";
     check(PLACES, MEMBERS, all, case_a, 13, 0);
+    wrong_index();
     check(PLACES, MEMBERS, "p cnf 2 2\n1 2 0\n-1 2 0\n", case_a, 13, 19);
     check(PLACES, MEMBERS, "p cnf 2\n", case_a, 13, 1);
     check(PLACES, MEMBERS, all, case_a, 12, 10);

@@ -27,7 +27,7 @@ fn run(row: &Row, marks: &str, workspace: &mut Workspace) {
     assert_eq!(verdict.refuted(), number.code() == 0);
     assert_eq!(lists.count, verdict.count);
     let members = clauses + verdict.lines;
-    assert!(lists.zero_above(members), "{number}");
+    assert!(lists.zero_above(members) && lists.indexed(), "{number}");
     assert_eq!(lists.marks(members), marks, "{number}");
     if number.text() == Some(Text::Formula) {
         assert!(lists.count == 2 && lists.zero_above(0), "{number}");

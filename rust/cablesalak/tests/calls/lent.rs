@@ -1,6 +1,6 @@
 //! Lists to lend that hold anything, and what they hold after a call.
 
-use cablesalak::{check_lent, TableMut, Verdict, MEMBERS, SCRATCH};
+use cablesalak::{chain, check_lent, ColumnsMut, Node, NodeNo, TableMut, Verdict, MEMBERS, SCRATCH};
 
 /// The lists of a check, the count beside them.
 #[derive(Clone, Debug, PartialEq, Eq)]
@@ -8,6 +8,8 @@ pub struct Lists {
     pub vars: Vec<u8>,
     pub lows: Vec<u16>,
     pub highs: Vec<u16>,
+    pub heads: Vec<u16>,
+    pub links: Vec<u16>,
     pub count: usize,
     pub members: Vec<u16>,
     pub struck: Vec<u8>,
@@ -24,6 +26,8 @@ impl Lists {
             vars: bytes(size),
             lows: words(size),
             highs: words(size),
+            heads: words(2 * size),
+            links: words(size),
             count: 9,
             members: words(members),
             struck: bytes(members),
@@ -37,18 +41,36 @@ impl Lists {
     }
 
     pub fn table(&mut self) -> TableMut<'_> {
-        TableMut::new(&mut self.vars, &mut self.lows, &mut self.highs, &mut self.count).expect("columns of proper size")
+        let Lists { vars, lows, highs, heads, links, count, .. } = self;
+        TableMut::new(ColumnsMut { vars, lows, highs, heads, links }, count).expect("lists of proper size")
     }
 
     pub fn check(&mut self, formula: &[u8], proof: &[u8]) -> Verdict {
-        let Lists { vars, lows, highs, count, members, struck, scratch } = self;
-        let mut table = TableMut::new(vars, lows, highs, count).expect("columns of proper size");
+        let Lists { vars, lows, highs, heads, links, count, members, struck, scratch } = self;
+        let mut table = TableMut::new(ColumnsMut { vars, lows, highs, heads, links }, count).expect("proper size");
         check_lent(&mut table, members, struck, scratch, formula, proof)
     }
 
     /// The rows of the table from place 2 to its count, as variable, low, high.
     pub fn rows(&self) -> Vec<(u8, u16, u16)> {
         (2..self.count).map(|place| (self.vars[place], self.lows[place], self.highs[place])).collect()
+    }
+
+    /// Whether head and links are those of the rows: each chain runs through its nodes from the highest number down to a 0.
+    pub fn indexed(&self) -> bool {
+        let chain_of = |(variable, low, high)| chain(Node::new(variable, NodeNo(low), NodeNo(high)), self.heads.len());
+        let mut below: Vec<Vec<usize>> = vec![Vec::new(); self.heads.len()];
+        for (place, row) in self.rows().into_iter().enumerate() {
+            below[chain_of(row)].push(place + 2);
+        }
+        let mut links = vec![0; self.links.len()];
+        for nodes in &below {
+            for pair in nodes.windows(2) {
+                links[pair[1]] = pair[0] as u16;
+            }
+        }
+        let heads = below.iter().map(|nodes| nodes.last().copied().unwrap_or(0) as u16);
+        heads.eq(self.heads.iter().copied()) && links == self.links
     }
 
     /// The first so many marks, a digit each.

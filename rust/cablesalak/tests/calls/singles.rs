@@ -1,6 +1,7 @@
 //! Every number that a single call gives, over lent columns and over a table of its own.
 
-use cablesalak::{Node, NodeNo, Number, Table, TableMut, Variables};
+use crate::lent::Lists;
+use cablesalak::{chain, Node, NodeNo, Number, Table, Variables};
 
 const X1: Variables = Variables(1);
 
@@ -47,28 +48,125 @@ fn refused_and_nothing_changed() {
     assert_eq!(table, before);
 }
 
-/// Columns of the caller's may hold anything: 26, whatever the count, and they stay as they are.
+/// Lists of these rows from place 0 on, with an index that goes with them.
+fn lists(rows: &[(u8, u16, u16)], count: usize) -> Lists {
+    let mut lists = Lists::dirty(rows.len(), 0, 0);
+    lists.count = count;
+    for (place, row) in rows.iter().enumerate() {
+        (lists.vars[place], lists.lows[place], lists.highs[place]) = *row;
+    }
+    lists.table().index();
+    lists
+}
+
+/// Every call refuses the lists with 26, whatever it is asked, and leaves them as they are.
+fn refused_by_all(lists: &mut Lists, what: &str) {
+    let before = lists.clone();
+    let mut table = lists.table();
+    assert_eq!(table.evaluate(NodeNo::ONE, X1), Err(Number::NotInOrder), "{what}");
+    assert_eq!(table.negation(NodeNo::ONE), Err(Number::NotInOrder), "{what}");
+    assert_eq!(table.conjunction(NodeNo::ONE, NodeNo(9)), Err(Number::NotInOrder), "{what}");
+    assert_eq!(table.cofactor(NodeNo::ONE, NodeNo::ZERO), Err(Number::NotInOrder), "{what}");
+    assert_eq!(table.cofactor_literals(NodeNo::ONE, X1, X1), Err(Number::NotInOrder), "{what}");
+    assert_eq!(*lists, before, "{what}");
+}
+
+/// Columns of the caller's may hold anything: 26, whatever the count.
 #[test]
 fn not_in_good_order() {
-    let tables = [
-        ([0, 0, 1, 0], [0, 0, 0, 0], [0, 0, 0, 0], 3),
-        ([0, 0, 1, 0], [0, 0, 0, 0], [0, 0, 1, 0], 2),
-        ([0, 0, 0, 0], [0, 0, 0, 0], [0, 0, 0, 0], 1),
-        ([0, 0, 0, 0], [0, 0, 0, 0], [0, 0, 0, 0], 5),
-        ([0, 0, 0, 0], [0, 0, 0, 0], [0, 0, 0, 0], usize::MAX),
-        ([7, 7, 7, 7], [9, 9, 9, 9], [9, 9, 9, 9], 4),
-        ([0, 0, 65, 0], [0, 0, 0, 0], [0, 0, 1, 0], 3),
-        ([0, 0, 1, 1], [0, 0, 0, 0], [0, 0, 1, 1], 4),
+    const NONE: (u8, u16, u16) = (0, 0, 0);
+    for (rows, count) in [
+        ([NONE, NONE, (1, 0, 0), NONE], 3),
+        ([NONE, NONE, (1, 0, 1), NONE], 2),
+        ([NONE; 4], 1),
+        ([NONE; 4], 5),
+        ([NONE; 4], usize::MAX),
+        ([(7, 9, 9); 4], 4),
+        ([NONE, NONE, (65, 0, 1), NONE], 3),
+        ([NONE, NONE, (1, 0, 1), (1, 0, 1)], 4),
+    ] {
+        refused_by_all(&mut lists(&rows, count), &format!("{rows:?}"));
+    }
+}
+
+/// The nodes 2 to 4 share a chain of a table of 8 places, nodes 5 and 6 stand alone in theirs; place 7 is free.
+fn one_chain() -> Lists {
+    let rows = [(0, 0, 0), (0, 0, 0), (3, 0, 1), (19, 0, 1), (35, 0, 1), (2, 0, 1), (4, 0, 1), (0, 0, 0)];
+    let lists = lists(&rows, 7);
+    assert!(lists.indexed() && lists.links == [0, 0, 0, 2, 3, 0, 0, 0]);
+    lists
+}
+
+/// Every kind of wrong index is 26 in every call.
+#[test]
+fn wrong_index() {
+    let at = |variable| chain(node(variable, 0, 1), 16);
+    let (shared, alone, other) = (at(3), at(2), at(4));
+    let empty = (0..16).find(|head| ![shared, alone, other].contains(head)).unwrap();
+    let heads: [(&str, usize, u16); 7] = [
+        ("a head that is 0", shared, 0),
+        ("a head that is lower in its chain", shared, 3),
+        ("a head of another chain", shared, 5),
+        ("a head at the count", alone, 7),
+        ("a head past the table", alone, 65_535),
+        ("a constant as head", alone, 1),
+        ("a head of an empty chain", empty, 2),
     ];
-    for (vars, lows, highs, count) in tables {
-        let (mut v, mut l, mut h, mut c) = (vars, lows, highs, count);
-        let mut table = TableMut::new(&mut v, &mut l, &mut h, &mut c).unwrap();
-        assert_eq!(table.evaluate(NodeNo::ONE, X1), Err(Number::NotInOrder));
-        assert_eq!(table.negation(NodeNo::ONE), Err(Number::NotInOrder));
-        assert_eq!(table.conjunction(NodeNo::ONE, NodeNo(9)), Err(Number::NotInOrder));
-        assert_eq!(table.cofactor(NodeNo::ONE, NodeNo::ZERO), Err(Number::NotInOrder));
-        assert_eq!(table.cofactor_literals(NodeNo::ONE, X1, X1), Err(Number::NotInOrder));
-        assert_eq!((v, l, h, c), (vars, lows, highs, count));
+    for (what, head, value) in heads {
+        let mut lists = one_chain();
+        lists.heads[head] = value;
+        refused_by_all(&mut lists, what);
+    }
+    let links: [(&str, usize, u16); 9] = [
+        ("a link that skips a node", 4, 2),
+        ("a chain cut short", 4, 0),
+        ("a link to itself", 4, 4),
+        ("a link upwards", 2, 4),
+        ("a link into another chain", 6, 5),
+        ("a link to a constant", 2, 1),
+        ("a link of a constant", 1, 2),
+        ("a link at the count", 7, 2),
+        ("a link past the table", 3, 65_535),
+    ];
+    for (what, link, value) in links {
+        let mut lists = one_chain();
+        lists.links[link] = value;
+        refused_by_all(&mut lists, what);
+    }
+    let mut turned = one_chain();
+    turned.heads[shared] = 3;
+    (turned.links[3], turned.links[4], turned.links[2]) = (4, 2, 0);
+    refused_by_all(&mut turned, "a chain in another order");
+    let mut zeros = one_chain();
+    zeros.heads.fill(0);
+    zeros.links.fill(0);
+    refused_by_all(&mut zeros, "no index");
+}
+
+/// A granted call leaves the index of what the table then holds, and one that is full leaves it as it was.
+#[test]
+fn the_index_is_kept() {
+    let mut lists = one_chain();
+    assert_eq!(lists.table().negation(NodeNo(2)), Ok(NodeNo(7)));
+    assert!(lists.count == 8 && lists.indexed());
+    let before = lists.clone();
+    assert_eq!(lists.table().negation(NodeNo(3)), Err(Number::TableFull));
+    assert_eq!(lists, before);
+    lists.count = 7;
+    refused_by_all(&mut lists, "a node past the count");
+}
+
+/// Keys run over the top of 32 bits, also where a child has the highest number of all.
+#[test]
+fn keys_over_the_top() {
+    let wide = |n: u64, variable: u64, low: u64, high: u64| {
+        ((variable + low * 12_582_917 + high * 4_256_249) % (1 << 32) % n) as usize
+    };
+    for (variable, low, high) in [(1, 0, 1), (64, 65_535, 65_534), (7, 341, 0), (7, 342, 0), (3, 1, 65_535)] {
+        for heads in [4, 14, 8_192, 131_072] {
+            let expected = wide(heads as u64, variable.into(), low.into(), high.into());
+            assert_eq!(chain(node(variable, low, high), heads), expected);
+        }
     }
 }
 

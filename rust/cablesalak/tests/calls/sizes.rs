@@ -1,7 +1,7 @@
 //! Wrong lengths are refused with 7 and change nothing.
 
 use crate::lent::Lists;
-use cablesalak::{Number, Table, TableMut, Variables, Workspace, MEMBERS, SCRATCH};
+use cablesalak::{ColumnsMut, Number, Table, TableMut, Variables, Workspace, MEMBERS, SCRATCH};
 
 #[test]
 fn tables() {
@@ -14,13 +14,29 @@ fn tables() {
     }
 }
 
+/// Variables, lows, highs, heads, links.
 #[test]
-fn columns() {
-    for lengths in [[4, 4, 3], [4, 3, 4], [3, 4, 4], [0, 0, 0], [1, 1, 1], [65_537; 3], [65_536, 65_536, 65_537]] {
+fn columns_and_index() {
+    for lengths in [
+        [4, 4, 3, 8, 4],
+        [4, 3, 4, 8, 4],
+        [3, 4, 4, 8, 4],
+        [4, 4, 4, 7, 4],
+        [4, 4, 4, 9, 4],
+        [4, 4, 4, 0, 4],
+        [4, 4, 4, 8, 3],
+        [4, 4, 4, 8, 5],
+        [4, 4, 4, 4, 8],
+        [0, 0, 0, 0, 0],
+        [1, 1, 1, 2, 1],
+        [65_537, 65_537, 65_537, 131_074, 65_537],
+        [65_536, 65_536, 65_537, 131_072, 65_536],
+    ] {
         let mut vars = vec![0u8; lengths[0]];
-        let [mut lows, mut highs] = [lengths[1], lengths[2]].map(|length| vec![0u16; length]);
-        let refused = TableMut::new(&mut vars, &mut lows, &mut highs, &mut 2).map(|_| ());
-        assert_eq!(refused, Err(Number::WrongSize), "{lengths:?}");
+        let [mut lows, mut highs, mut heads, mut links] = [1, 2, 3, 4].map(|list: usize| vec![0u16; lengths[list]]);
+        let lists =
+            ColumnsMut { vars: &mut vars, lows: &mut lows, highs: &mut highs, heads: &mut heads, links: &mut links };
+        assert_eq!(TableMut::new(lists, &mut 2).map(|_| ()), Err(Number::WrongSize), "{lengths:?}");
     }
 }
 
