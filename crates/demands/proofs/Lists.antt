@@ -1,20 +1,20 @@
 -- What the check leaves in every lent place: nothing changed, all zero, or the table in good order with the members' values as formula and proof
 -- fix them. The idea: what a reached state leaves, written into the lent lists and read back. Assumes nothing.
-use mathlib.Core.Path.{_≡_, refl, sym, ap, ap₂, _∙_, subst}
+use mathlib.Core.Path.{_≡_, refl, sym, ap, _∙_, subst}
 use mathlib.Core.Logic.{_≢_}
 use mathlib.Core.Bool.{Bool, true, false}
 use mathlib.Core.List.{List, [], _∷_, _++_, map}
 use Prim.Native.Nat.{ℕ, zero, suc, _+_, _-_, _*_, _≤_, _<_}
 use native.Mathlib.Omega.{arith}
 use native.Mathlib.Decide.{decLt}
-use lib.ListN.{length, getD, take, replicate, length-append, length-map, length-replicate, List·getD-append, List·getD-eq-default}
+use lib.ListN.{length, getD, take, length-append, length-map, length-replicate, List·getD-append, List·getD-eq-default}
 use lib.Seq.{length-take-le, getD-take}
 use lib.Dec.{eqb, leb}
 use borrow.Author.Tests.{eqb-true, leb-true}
 use Rattle.meaning.specs.Diagram.{Assignment, Diagram, value}
 use Rattle.meaning.specs.Operations.{Literal, clauseValue}
 use Rattle.meaning.proofs.Booleans.{and-both}
-use Rattle.table.specs.Nodes.{Node, blank, diagramAt}
+use Rattle.table.specs.Nodes.{Node, diagramAt}
 use Rattle.table.specs.Columns.{sizeFits, Columns, columnsMade, storedAs}
 use Rattle.table.proofs.Growth.{ordered-dropped}
 use Rattle.table.proofs.Sizes.{Sized, sized}

@@ -17,7 +17,7 @@ use prog.Wp.{Heap}
 use ghost.Atoms.{Atoms, sem}
 use contract.Lifetimes.{Lfts}
 use contract.Monad.{Fun, fact}
-use types.Kit.{Given, Item, ‵, raw, _⊛_, some, later, ⋆, _$_, _∵_, !, qed, move, keep, use1, use2, split, split3, join, pick, group, check, fsplit3, fjoin, frame, await, updating, now as at-once, show, done, fsplit}
+use types.Kit.{Given, Item, ‵, raw, _⊛_, some, later, ⋆, _$_, _∵_, !, qed, move, keep, use1, use2, split, split3, join, pick, group, check, fsplit3, fjoin, frame, await, updating, now as at-once, show, done}
 use denote.Laws.{Is}
 use denote.Plain.{uint-makes}
 use denote.Builtin.{u8, u16, usize}

@@ -3,18 +3,17 @@
 use mathlib.Core.Path.{_≡_, refl, sym, ap, ap₂, _∙_}
 use mathlib.Core.Bool.{true, false, _&&_}
 use Prim.Native.Nat.{ℕ, _≤_, _<_}
-use lib.ListN.{length, take}
+use lib.ListN.{length}
 use lib.Dec.{ltb}
 use borrow.Author.Tests.{ne-eqb, lt-ltb, le-ltb}
-use Rattle.table.specs.Nodes.{diagramAt, Placing, full, placed, place}
-use Rattle.table.specs.Columns.{rows, Columns, storedAs}
+use Rattle.table.specs.Nodes.{Placing, full, placed}
+use Rattle.table.specs.Columns.{Columns, storedAs}
 use Rattle.table.specs.Indexed.{Table, tableOf, listsOf, nodesOf, indexed, Good, Outcome, written}
 use Rattle.table.proofs.Written.{nodes-indexed}
 use Rattle.table.proofs.Outcomes.{Longer, droppedTo, undone}
 use Rattle.table.proofs.InOrder.{good-stored}
 use Rattle.meaning.proofs.Booleans.{t≢f}
 use Rattle.operate.specs.declared.Operation.{Operation}
-use Rattle.operate.specs.Operate.{result}
 use Rattle.single.specs.Single.{Made, unchanged, operandRefusal, madeBy, operation}
 use Rattle.single.specs.Inner.{placingOf}
 use Rattle.single.proofs.Refusals.{fits, ordered, refused-7, refused-26, refused-13, accepted-0}

@@ -6,8 +6,8 @@ use Prim.Native.Nat.{ℕ, zero, suc, _-_, _*_, _≤_}
 use native.Mathlib.Omega.{arith}
 use lib.ListN.{replicate}
 use Rattle.table.specs.Nodes.{Node, blank}
-use Rattle.table.specs.Columns.{padded, NodeColumns, columnsOf, Columns, columnsMade, storedAs}
-use Rattle.table.specs.Indexed.{Table, tableOf, listsOf, indexed, indexFrom}
+use Rattle.table.specs.Columns.{padded, NodeColumns, columnsOf, columnsMade, storedAs}
+use Rattle.table.specs.Indexed.{tableOf, listsOf, indexed, indexFrom}
 use Rattle.table.proofs.InOrder.{left-stored}
 
 -- Places 0 and 1 alone.

@@ -1,5 +1,5 @@
 -- `run_header` leaves the outcome of the formula and the proof, by the header. Assumes nothing.
-use mathlib.Core.Path.{refl, sym, ap, _∙_}
+use mathlib.Core.Path.{sym, ap, _∙_}
 use lib.ListN.{length}
 use borrow.Author.Needs.{needs}
 use Rattle.verdict.specs.Check.{outcome}

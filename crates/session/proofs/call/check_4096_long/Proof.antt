@@ -1,6 +1,5 @@
 -- The check over a memo of 90,112 cells. Assumes nothing.
 use native.Mathlib.Omega.{arith}
-use borrow.Author.Needs.{needs}
 use Rattle.table.proofs.Zeros.{length-whole}
 use Rattle.session.proofs.call.check_4096_long.Statement.{statement}
 use Rattle.session.proofs.call.check_4096_long.Tie as tie

@@ -1,6 +1,5 @@
 -- The check over a memo of 8,192 cells. Assumes nothing.
 use native.Mathlib.Omega.{arith}
-use borrow.Author.Needs.{needs}
 use Rattle.table.proofs.Zeros.{length-whole}
 use Rattle.session.proofs.call.check_4096_short.Statement.{statement}
 use Rattle.session.proofs.call.check_4096_short.Tie as tie
