@@ -12,7 +12,7 @@ use borrow.Author.Tests.{le-leb, lt-leb, eq-eqb, ne-eqb}
 use Rattle.meaning.specs.Diagram.{Assignment, Diagram, leaf, node, Reduced, branch, diagramFrom}
 use Rattle.meaning.specs.Sets.{truesFrom, isOdd, parityValue, parity, atLeastValue, atLeast}
 use Rattle.meaning.specs.Tallies.{tallyFrom, parityFrom, atLeastFrom}
-use Rattle.meaning.proofs.Booleans.{t≢f}
+use Rattle.meaning.proofs.Booleans.{t≢f, not-not}
 use Rattle.meaning.proofs.Canonical.{reduced-from, branch-same, branch-differ, branch-reduced, diagramFrom-cong}
 
 module _ {A : Type 0} (met : A → Bool) (less : A → A) (S : ℕ → Bool) where
@@ -121,10 +121,6 @@ module _ (S : ℕ → Bool) where
   pub parity-is : (n : ℕ) (odd : Bool) → parity n S odd ≡ parityFrom S n 1 odd
   unfolding parity parityValue
   parity-is n odd = tally-is not not S oddness none-odd odd-in odd-out n 1 odd
-
-  not-not : (b : Bool) → not (not b) ≡ b
-  not-not true = refl
-  not-not false = refl
 
   leaves-differ : (i : ℕ) (odd : Bool) → parityFrom S 0 i odd ≢ parityFrom S 0 i (not odd)
   unfolding tallyFrom

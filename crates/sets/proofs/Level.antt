@@ -8,6 +8,7 @@ use native.Mathlib.Omega.{arith}
 use native.Mathlib.Numerals.{add-one}
 use lib.ListN.{getD}
 use Rattle.meaning.specs.Diagram.{Diagram, leaf, node, Reduced, branch}
+use Rattle.meaning.proofs.Booleans.{not-not}
 use Rattle.meaning.proofs.Canonical.{reduced-from, branch-differ}
 use Rattle.table.specs.Nodes.{at, diagramAt}
 use Rattle.table.specs.Indexed.{Table, nodesOf, Good, Outcome}
@@ -20,10 +21,6 @@ use Rattle.meaning.specs.Sets.{parity}
 use Rattle.meaning.proofs.Tallies.{tally-end, tally-reduced, tally-skipped, tally-here, parity-is, parity-differ}
 use Rattle.sets.specs.Variables.{NextIn}
 use Rattle.sets.specs.Building.{placedIn, remaining, Buildable}
-
-not-not : (b : Bool) → not (not b) ≡ b
-not-not true = refl
-not-not false = refl
 
 -- ---- the word's variables from v on
 

@@ -12,9 +12,9 @@ use Rattle.sets.proofs.diagonals.diagonal.Tie as tie
 
 abbrev Inv-loop : tie.InvT-loop
 Inv-loop vars₀ lows₀ highs₀ heads₀ links₀ row₀ count set d from k n₀ v₀ j₀ node₀ vars lows highs heads links row n v j node =
-    Along (tableOf vars₀ lows₀ highs₀ heads₀ links₀ count) set d k row₀ (tableOf vars lows highs heads links n) row (node .0) j v × (length
-    vars ≡ length vars₀) × (length lows ≡ length lows₀) × (length highs ≡ length highs₀) × (length heads ≡ length heads₀) × (length links ≡
-    length links₀) × (length row ≡ length row₀)
+    Along (tableOf vars₀ lows₀ highs₀ heads₀ links₀ count) set d k row₀ (tableOf vars lows highs heads links n) row (node .0) j v
+    × (length vars ≡ length vars₀) × (length lows ≡ length lows₀) × (length highs ≡ length highs₀)
+    × (length heads ≡ length heads₀) × (length links ≡ length links₀) × (length row ≡ length row₀)
 
 abbrev μ-loop : tie.MeasureT-loop
 μ-loop vars₀ lows₀ highs₀ heads₀ links₀ row₀ count set d from k n₀ v₀ j₀ node₀ vars lows highs heads links row n v j node = k + 1 - j

@@ -11,9 +11,9 @@ use Rattle.sets.proofs.diagonals.diagonals.Tie as tie
 
 abbrev Inv-loop : tie.InvT-loop
 Inv-loop vars₀ lows₀ highs₀ heads₀ links₀ row₀ count set k m n₀ v₀ d₀ node₀ vars lows highs heads links row n v d node =
-    Before (tableOf vars₀ lows₀ highs₀ heads₀ links₀ count) set k m (tableOf vars lows highs heads links n) row (node .0) d v × (length
-    vars ≡ length vars₀) × (length lows ≡ length lows₀) × (length highs ≡ length highs₀) × (length heads ≡ length heads₀) × (length links ≡
-    length links₀) × (length row ≡ length row₀)
+    Before (tableOf vars₀ lows₀ highs₀ heads₀ links₀ count) set k m (tableOf vars lows highs heads links n) row (node .0) d v
+    × (length vars ≡ length vars₀) × (length lows ≡ length lows₀) × (length highs ≡ length highs₀)
+    × (length heads ≡ length heads₀) × (length links ≡ length links₀) × (length row ≡ length row₀)
 
 abbrev μ-loop : tie.MeasureT-loop
 μ-loop vars₀ lows₀ highs₀ heads₀ links₀ row₀ count set k m n₀ v₀ d₀ node₀ vars lows highs heads links row n v d node = m + 1 - d
