@@ -1,6 +1,6 @@
 -- One level of a parity diagram made in the table: no variable left, the other parity's node turned round, or both sides made and joined.
 -- The idea: the outcome is a placing, and what is there is not placed again. Assumes nothing.
-use mathlib.Core.Path.{_≡_, refl, sym, ap, ap₂, _∙_}
+use mathlib.Core.Path.{_≡_, sym, ap, ap₂, _∙_}
 use mathlib.Core.Logic.{_≢_}
 use mathlib.Core.Bool.{Bool, true, false, not}
 use Prim.Native.Nat.{ℕ, suc, _+_, _-_, _≤_, _<_}
