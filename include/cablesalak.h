@@ -27,7 +27,7 @@
 #include <stddef.h>
 #include <stdint.h>
 
-/* Sizes of what is lent. Member list and scratch list may be longer. */
+/* Sizes of what is lent. Member list and scratch list may be longer; the marks are as many as the member list's places. */
 #define CABLESALAK_LEAST_PLACES 2
 #define CABLESALAK_MOST_PLACES 65536
 #define CABLESALAK_LEAST_MEMBERS 2048
@@ -54,7 +54,7 @@ typedef struct {
 /* The answer of the check. */
 typedef struct {
     uint8_t number;  /* 0: refuted; else why not */
-    size_t place;    /* byte offset: in the formula for 1 to 6 and 8, in the proof for 0 and 9 to 23; 0 for 7 */
+    size_t place;    /* byte offset: in the formula for 1 to 6 and 8, in the proof for 0, 9 to 23 and 28; 0 for 7 */
     size_t lines;    /* the accepted lines */
     uint64_t rounds; /* their rounds of unit propagation */
     size_t count;    /* the table's count after the call; as lent with 7 */
@@ -111,23 +111,25 @@ cablesalak_single cablesalak_cofactor_literals(
 /* ---- The check of a formula (the bytes of a DIMACS CNF file) and a proof (the bytes of a proof file).
  *
  * Number 0: no assignment satisfies the formula, whatever the proof's bytes and whatever the lent lists held before.
- * Gives 0 to 23. Tests 7 first: the columns are of one length, 2 to 65,536, the member list has 2,048 places or more, the
- * scratch list 4,096 or more. Then the formula is read in its order, then the proof record by record, until a refusal or
- * the end. At most 64 variables, 1,024 clauses, 1,024 lines, and 4,096 entries in a line. The lent count is not judged:
- * the check empties the table and the lists first.
+ * Gives 0 to 23 and 28. Tests 7 first: the columns are of one length, 2 to 65,536, the member list has 2,048 places or more
+ * and `struck` just as many, the scratch list has 4,096 or more. Then the formula is read in its order, then the proof record
+ * by record, until a refusal or the end. At most 64 variables, 1,024 clauses, 1,024 lines, and 4,096 entries in a line. The
+ * lent count is not judged: the check empties the table and the lists first.
  *
  * What the lists hold afterwards:
- *   7             what they held before.
- *   1 to 6, 8     zeros everywhere; the count is 2.
- *   0, 9 to 23    the table, in good order: the nodes of the clauses and of all entries of the accepted lines, in the order in
- *                 which they were made; zeros from the count on. The member list: the clauses' nodes in the formula's order,
- *                 then the accepted lines' nodes; zeros above. The scratch list: zeros. */
+ *   7               what they held before.
+ *   1 to 6, 8       zeros everywhere; the count is 2.
+ *   0, 9 to 23, 28  the table, in good order: the nodes of the clauses and of all entries of the accepted lines, in the order in
+ *                   which they were made; zeros from the count on. The member list: the clauses' nodes in the formula's order,
+ *                   then the accepted lines' nodes, struck out or not; zeros above. `struck`: at each member's place its mark,
+ *                   1 once the proof struck it out, else 0; zeros above. The scratch list: zeros. */
 cablesalak_checked cablesalak_check(
     uint8_t *vars, size_t vars_length,
     uint16_t *lows, size_t lows_length,
     uint16_t *highs, size_t highs_length,
     size_t count,
     uint16_t *members, size_t members_length,
+    uint8_t *struck, size_t struck_length,
     uint16_t *scratch, size_t scratch_length,
     const uint8_t *formula, size_t formula_length,
     const uint8_t *proof, size_t proof_length);
@@ -171,6 +173,7 @@ cablesalak_checked cablesalak_check_nodes(
     cablesalak_node *nodes, size_t nodes_length,
     size_t count,
     uint16_t *members, size_t members_length,
+    uint8_t *struck, size_t struck_length,
     uint16_t *scratch, size_t scratch_length,
     const uint8_t *formula, size_t formula_length,
     const uint8_t *proof, size_t proof_length);

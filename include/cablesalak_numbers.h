@@ -1,4 +1,4 @@
-/* The numbers that the calls and the programs give, with the meanings of document 01. */
+/* The numbers that the calls and the programs give, with the meanings of documents 01 and 02. */
 #ifndef CABLESALAK_NUMBERS_H
 #define CABLESALAK_NUMBERS_H
 
@@ -18,11 +18,11 @@ enum cablesalak_number {
     CABLESALAK_CLAUSE_COUNT = 5,
     /* The formula ends within a clause. */
     CABLESALAK_CLAUSE_OPEN = 6,
-    /* A lent part is too short or too long, or the columns differ in length. */
+    /* A lent part is too short or too long, or columns that belong together differ in length. */
     CABLESALAK_WRONG_SIZE = 7,
     /* A clause wants a new node and every place of the table is taken. */
     CABLESALAK_FULL_AT_CLAUSE = 8,
-    /* A record's first byte is none of 4E, 54, 46, 52, 50, 45. */
+    /* A record's first byte is none of 4E, 54, 46, 52, 50, 44, 45. */
     CABLESALAK_UNKNOWN_KIND = 9,
     /* The proof ends within a record, or without an end record. */
     CABLESALAK_CUT_SHORT = 10,
@@ -36,7 +36,7 @@ enum cablesalak_number {
     CABLESALAK_VARIABLE_ORDER = 14,
     /* A witness names a variable twice; the two sets of a cofactor by literals share a variable. */
     CABLESALAK_VARIABLE_TWICE = 15,
-    /* A witness stands before a RUP line or before the end record, where none may. */
+    /* A witness stands before a RUP line, a striking or the end record, where none may. */
     CABLESALAK_WITNESS_LEFT = 16,
     /* The line's diagram is 1, so that the line says nothing. */
     CABLESALAK_ALWAYS_TRUE = 17,
@@ -59,7 +59,9 @@ enum cablesalak_number {
     /* Of a single call: the lent table is not in good order. */
     CABLESALAK_NOT_IN_ORDER = 26,
     /* Of a single call: a cofactor by the diagram 0 has no value. */
-    CABLESALAK_COFACTOR_BY_ZERO = 27
+    CABLESALAK_COFACTOR_BY_ZERO = 27,
+    /* A record strikes out a member that does not exist or is struck out already. */
+    CABLESALAK_NO_SUCH_MEMBER = 28
 };
 
 /* A number's meaning in a few words; null for what is no number. */
@@ -82,7 +84,7 @@ static inline const char *cablesalak_meaning(unsigned number)
     case CABLESALAK_NO_SUCH_NODE: return "no such entry or node";
     case CABLESALAK_VARIABLE_ORDER: return "variable not before its children's";
     case CABLESALAK_VARIABLE_TWICE: return "witness names a variable twice";
-    case CABLESALAK_WITNESS_LEFT: return "witness left at a RUP line or the end";
+    case CABLESALAK_WITNESS_LEFT: return "witness left at a RUP line, a striking or the end";
     case CABLESALAK_ALWAYS_TRUE: return "line is always true";
     case CABLESALAK_WITNESS_FAILS: return "witness does not make the line 1";
     case CABLESALAK_NOT_SHOWN: return "not shown: no conflict";
@@ -94,6 +96,7 @@ static inline const char *cablesalak_meaning(unsigned number)
     case CABLESALAK_FILE_UNREADABLE: return "a file cannot be read";
     case CABLESALAK_NOT_IN_ORDER: return "table not in good order";
     case CABLESALAK_COFACTOR_BY_ZERO: return "cofactor by 0";
+    case CABLESALAK_NO_SUCH_MEMBER: return "no such member, or struck already";
     default: return 0;
     }
 }

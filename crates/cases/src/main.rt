@@ -3,6 +3,7 @@ mod checks;
 mod comments;
 mod print;
 mod singles;
+mod strikes;
 
 fn main() {
     checks::cases_a_to_c();
@@ -25,4 +26,9 @@ fn main() {
     comments::whole_line();
     comments::tokens();
     comments::places();
+    strikes::refused();
+    strikes::case_a();
+    strikes::others();
+    strikes::no_proof();
+    strikes::too_few_marks();
 }

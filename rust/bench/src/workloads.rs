@@ -71,8 +71,9 @@ pub fn call(name: &str, word: &str, store: &Diagrams, size: usize, f: Node, g: N
 /// Whole checks.
 pub fn check() -> Vec<Workload> {
     vec![
-        proof("parity sums of 60", &parity_sums(60), 65_536),
-        proof("parity sums of 64", &parity_sums(64), 65_536),
+        proof("parity sums of 60", &parity_sums(60, false), 65_536),
+        proof("parity sums of 64", &parity_sums(64, false), 65_536),
+        proof("parity sums of 64, struck out", &parity_sums(64, true), 65_536),
         proof("pigeonhole 7", &families::pigeonhole(8, 7), 65_536),
         proof("rounds: 1,000 clauses, 500 RUP lines", &families::chain(&mut Random::new(1), 40, 1_000, 500), 65_536),
         proof("1,000 clauses, 200 PR lines", &families::pure(&mut Random::new(2), 1_000, 200), 65_536),
@@ -84,7 +85,7 @@ pub fn proof(name: &str, problem: &families::Problem, places: usize) -> Workload
     writer.end();
     let hex = |bytes: &[u8]| bytes.iter().map(|byte| format!("{byte:02x}")).collect::<String>();
     let (formula, proof) = (hex(&problem.formula.text()), hex(&writer.bytes));
-    let lines = problem.builder.lines;
+    let lines = problem.builder.lines.len();
     Workload {
         name: format!("{name} ({lines} lines, {places} places)"),
         command: format!("check {places} 2048 4096 {formula} {proof}"),
@@ -93,8 +94,8 @@ pub fn proof(name: &str, problem: &families::Problem, places: usize) -> Workload
     }
 }
 
-/// Parity constraints of three variables, summed: about 250 lines.
-fn parity_sums(variables: usize) -> families::Problem {
+/// Parity constraints of three variables, summed: about 250 lines, with what went into a sum struck out or not.
+fn parity_sums(variables: usize, striking: bool) -> families::Problem {
     let random = &mut Random::new(variables as u64);
     let mut constraints: Vec<Parity> = Vec::new();
     while constraints.len() < 62 {
@@ -105,5 +106,5 @@ fn parity_sums(variables: usize) -> families::Problem {
             constraints.push((chosen, random.percent(50)));
         }
     }
-    families::parities(variables, &constraints)
+    families::parities(variables, &constraints, striking)
 }

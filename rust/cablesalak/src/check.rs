@@ -3,7 +3,7 @@
 use crate::{raw, NodeNo, Number, Table, TableMut, Text};
 use std::fmt;
 
-/// The least length of the member list.
+/// The least length of the member list, and of the marks beside it.
 pub const MEMBERS: usize = 2_048;
 /// The least length of the scratch list.
 pub const SCRATCH: usize = 4_096;
@@ -39,12 +39,14 @@ impl fmt::Display for Verdict {
     }
 }
 
-/// The places that a check works on: a table, the member list and the scratch list. It can be used again and again: a check
-/// empties it first.
+/// The places that a check works on: a table, the member list with its marks, and the scratch list. It can be used again and
+/// again: a check empties it first.
 #[derive(Clone, Debug)]
 pub struct Workspace {
     table: Table,
     members: Vec<u16>,
+    /// A mark for each member: 1 once it is struck out.
+    struck: Vec<u8>,
     /// How many of them the last check left: one for each clause and for each accepted line.
     member_count: usize,
     scratch: Vec<u16>,
@@ -56,6 +58,7 @@ impl Workspace {
         Ok(Workspace {
             table: Table::new(size)?,
             members: vec![0; MEMBERS],
+            struck: vec![0; MEMBERS],
             member_count: 0,
             scratch: vec![0; SCRATCH],
         })
@@ -72,8 +75,8 @@ impl Workspace {
         &mut self.table
     }
 
-    /// The members as the last check left them: the clauses in their order, then the accepted lines. There are none where the formula was
-    /// refused.
+    /// The members as the last check left them: the clauses in their order, then the accepted lines, struck out or not. There are none where
+    /// the formula was refused.
     pub fn members(&self) -> impl ExactSizeIterator<Item = NodeNo> + '_ {
         self.members[..self.member_count].iter().copied().map(NodeNo)
     }
@@ -82,13 +85,23 @@ impl Workspace {
     pub fn member(&self, place: usize) -> Option<NodeNo> {
         self.members().nth(place)
     }
+
+    /// Whether the proof struck out the member of this place; `None` where there is none.
+    pub fn is_struck(&self, place: usize) -> Option<bool> {
+        self.member(place).map(|_| self.struck[place] != 0)
+    }
+
+    /// The members that no record struck out, each with its place: what the next line would be judged by.
+    pub fn live_members(&self) -> impl Iterator<Item = (usize, NodeNo)> + '_ {
+        self.members().enumerate().filter(|(place, _)| self.struck[*place] == 0)
+    }
 }
 
 /// Checks a proof of a formula. Refuted: no assignment satisfies the formula, whatever the proof's bytes and whatever the
 /// workspace held before.
 pub fn check(workspace: &mut Workspace, formula: &[u8], proof: &[u8]) -> Verdict {
-    let Workspace { table, members, member_count, scratch } = workspace;
-    let verdict = check_lent(&mut table.lend(), members, scratch, formula, proof);
+    let Workspace { table, members, struck, member_count, scratch } = workspace;
+    let verdict = check_lent(&mut table.lend(), members, struck, scratch, formula, proof);
     *member_count = match verdict.number.text() {
         Some(Text::Proof) => (clause_count(formula) + verdict.lines).min(members.len()),
         _ => 0,
@@ -105,17 +118,18 @@ fn clause_count(formula: &[u8]) -> usize {
 }
 
 /// The same over lists of the caller's, whatever they hold. 7, and nothing is changed, where the member list has fewer than
-/// 2,048 places or the scratch list fewer than 4,096. Else the scratch list ends as zeros, and the table and the member
-/// list hold what [`Workspace`] tells, the member list zeros above the members.
+/// 2,048 places, `struck` has more or fewer than the member list, or the scratch list has fewer than 4,096. Else the scratch
+/// list ends as zeros, and the table, the member list and the marks hold what [`Workspace`] tells, with zeros above the members.
 pub fn check_lent(
     table: &mut TableMut<'_>,
     members: &mut [u16],
+    struck: &mut [u8],
     scratch: &mut [u16],
     formula: &[u8],
     proof: &[u8],
 ) -> Verdict {
     let count = *table.count;
-    let said = raw::check(table.vars, table.lows, table.highs, count, members, scratch, formula, proof);
+    let said = raw::check(table.vars, table.lows, table.highs, count, members, struck, scratch, formula, proof);
     *table.count = said.count;
     let raw::Checked { number, place, lines, rounds, count, peak } = said;
     Verdict { number: Number::said(number), place, lines, rounds, count, peak }

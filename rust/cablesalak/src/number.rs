@@ -3,7 +3,7 @@
 use std::error::Error;
 use std::fmt;
 
-/// What is said of a call, numbered and worded as in document 01. Written out with `{}` it is its meaning in words.
+/// What is said of a call, numbered and worded as in documents 01 and 02. Written out with `{}` it is its meaning in words.
 /// Later versions of the library have more of them.
 #[derive(Clone, Copy, Debug, PartialEq, Eq, PartialOrd, Ord, Hash)]
 #[repr(u8)]
@@ -24,11 +24,11 @@ pub enum Number {
     ClauseCount = 5,
     /// The formula ends within a clause.
     ClauseOpen = 6,
-    /// A lent part is too short or too long, or the columns differ in length.
+    /// A lent part is too short or too long, or columns that belong together differ in length.
     WrongSize = 7,
     /// A clause wants a new node and every place of the table is taken.
     FullAtClause = 8,
-    /// A record's first byte is none of `4E`, `54`, `46`, `52`, `50`, `45`.
+    /// A record's first byte is none of `4E`, `54`, `46`, `52`, `50`, `44`, `45`.
     UnknownKind = 9,
     /// The proof ends within a record, or without an end record.
     CutShort = 10,
@@ -42,7 +42,7 @@ pub enum Number {
     VariableOrder = 14,
     /// A witness names a variable twice; the two sets of a cofactor by literals share a variable.
     VariableTwice = 15,
-    /// A witness stands before a RUP line or before the end record, where none may.
+    /// A witness stands before a RUP line, a striking or the end record, where none may.
     WitnessLeft = 16,
     /// The line's diagram is 1, so that the line says nothing.
     AlwaysTrue = 17,
@@ -66,12 +66,14 @@ pub enum Number {
     NotInOrder = 26,
     /// Of a single call: a cofactor by the diagram 0 has no value.
     CofactorByZero = 27,
+    /// A record strikes out a member that does not exist or is struck out already.
+    NoSuchMember = 28,
 }
 
 use Number::*;
 
-/// Each number at its own place, with document 01's words for it.
-const NUMBERS: [(Number, &str); 28] = [
+/// Each number at its own place, with the documents' words for it.
+const NUMBERS: [(Number, &str); 29] = [
     (Refuted, "refuted"),
     (NoHeader, "no proper header"),
     (HeaderTooLarge, "over 64 variables or 1,024 clauses"),
@@ -88,7 +90,7 @@ const NUMBERS: [(Number, &str); 28] = [
     (NoSuchNode, "no such entry or node"),
     (VariableOrder, "variable not before its children's"),
     (VariableTwice, "witness names a variable twice"),
-    (WitnessLeft, "witness left at a RUP line or the end"),
+    (WitnessLeft, "witness left at a RUP line, a striking or the end"),
     (AlwaysTrue, "line is always true"),
     (WitnessFails, "witness does not make the line 1"),
     (NotShown, "not shown: no conflict"),
@@ -100,6 +102,7 @@ const NUMBERS: [(Number, &str); 28] = [
     (FileUnreadable, "a file cannot be read"),
     (NotInOrder, "table not in good order"),
     (CofactorByZero, "cofactor by 0"),
+    (NoSuchMember, "no such member, or struck already"),
 ];
 
 /// The text that a place is a byte offset in.
@@ -130,7 +133,7 @@ impl Number {
         }
     }
 
-    /// What the library said. Its contracts give no number above 27.
+    /// What the library said. Its contracts give no number above 28.
     pub(crate) fn said(code: u8) -> Number {
         Number::try_from(code).expect("the library gives no such number")
     }

@@ -133,6 +133,8 @@ mod archive {
             count: usize,
             members: *mut u16,
             members_length: usize,
+            struck: *mut u8,
+            struck_length: usize,
             scratch: *mut u16,
             scratch_length: usize,
             formula: *const u8,
@@ -207,11 +209,13 @@ pub fn check(
     highs: &mut [u16],
     count: usize,
     members: &mut [u16],
+    struck: &mut [u8],
     scratch: &mut [u16],
     formula: &[u8],
     proof: &[u8],
 ) -> Checked {
     let (members, members_length) = (members.as_mut_ptr(), members.len());
+    let (struck, struck_length) = (struck.as_mut_ptr(), struck.len());
     let (scratch, scratch_length) = (scratch.as_mut_ptr(), scratch.len());
     let (formula, formula_length) = (formula.as_ptr(), formula.len());
     let (proof, proof_length) = (proof.as_ptr(), proof.len());
@@ -223,6 +227,8 @@ pub fn check(
         count,
         members,
         members_length,
+        struck,
+        struck_length,
         scratch,
         scratch_length,
         formula,

@@ -2,9 +2,11 @@
 
 use crate::diagram::Literals;
 use crate::families::{self, Problem};
+use crate::fault;
 use crate::formula::Formula;
 use crate::proof::{strewn, Builder, Writer};
 use crate::random::Random;
+use crate::strike;
 use crate::table;
 
 /// A few commands over one formula and one proof.
@@ -17,14 +19,15 @@ pub fn commands(random: &mut Random) -> Vec<String> {
         }
         14..=17 => wrong_sizes(random),
         18..=52 => faulty_proof(random),
-        53..=62 => mutated(random),
-        63..=74 => nearly_full(random),
-        75..=87 => {
+        53..=61 => mutated(random),
+        62..=65 => renumbered(random),
+        66..=75 => nearly_full(random),
+        76..=87 => {
             let problem = small(random);
             vec![plain(random, &problem)]
         }
         88..=96 => {
-            let problem = families::any(random);
+            let problem = family(random);
             vec![plain(random, &problem)]
         }
         _ => long(random),
@@ -57,21 +60,38 @@ fn plain(random: &mut Random, problem: &Problem) -> String {
     command(random, size, &text, &finished(problem))
 }
 
-/// A random formula of few variables with a proof of random lines, which often ends in a 0 line.
+/// A problem of a family, some of them with strikings.
+fn family(random: &mut Random) -> Problem {
+    let problem = families::any(random);
+    some_struck(random, problem, 30)
+}
+
+fn some_struck(random: &mut Random, problem: Problem, often: usize) -> Problem {
+    if random.percent(often) {
+        strike::strewn(random, &problem)
+    } else {
+        problem
+    }
+}
+
+/// A random formula of few variables with a proof of random lines, which often ends in a 0 line, and of strikings.
 fn small(random: &mut Random) -> Problem {
     let formula = small_formula(random);
     let mut builder = Builder::new(&formula);
-    let refutable = builder.whole() == 0;
+    let striking = random.pick(&[0, 0, 20, 60]);
     for _ in 0..random.below(6) {
         line(random, &mut builder, formula.variables);
+        if random.percent(striking) {
+            strike::one(random, &mut builder);
+        }
     }
-    if refutable && random.percent(85) {
+    if builder.whole() == 0 && random.percent(85) {
         builder.derive(0, 60);
     }
     if random.percent(10) {
         line(random, &mut builder, formula.variables);
     }
-    Problem { formula, builder }
+    some_struck(random, Problem { formula, builder }, 25)
 }
 
 fn small_formula(random: &mut Random) -> Formula {
@@ -117,7 +137,7 @@ fn line(random: &mut Random, builder: &mut Builder, variables: usize) {
             }
             1 => {
                 let implied = builder.store.or(whole, any);
-                builder.derive(implied, builder.lines + 12)
+                builder.derive(implied, builder.lines.len() + 12)
             }
             2 if builder.members.len() > 1 => {
                 let (f, g) = (random.pick(&builder.members), random.pick(&builder.members));
@@ -131,7 +151,7 @@ fn line(random: &mut Random, builder: &mut Builder, variables: usize) {
     }
 }
 
-fn witness(random: &mut Random, variables: usize) -> Literals {
+pub fn witness(random: &mut Random, variables: usize) -> Literals {
     let mut literals = Literals::default();
     let set = random.pick(&[20, 50, 90]);
     for variable in 1..=variables as i32 {
@@ -155,7 +175,7 @@ fn wrong_sizes(random: &mut Random) -> Vec<String> {
 
 /// The same formula and proof in tables of one place, one more and so on: full at each making.
 fn nearly_full(random: &mut Random) -> Vec<String> {
-    let problem = if random.percent(80) { small(random) } else { families::any(random) };
+    let problem = if random.percent(80) { small(random) } else { family(random) };
     let (text, proof) = (problem.formula.strewn(random), finished(&problem));
     let first = random.pick(&[2, 4, 8, 15, 25, 40, 70, 150, 300]);
     let first = first + random.below(first);
@@ -180,13 +200,13 @@ pub fn around_peak(random: &mut Random, command: &str, answer: &str) -> Vec<Stri
 
 /// A few bytes of the formula or of the proof changed, taken away or put in.
 fn mutated(random: &mut Random) -> Vec<String> {
-    let problem = if random.percent(80) { small(random) } else { families::any(random) };
+    let problem = if random.percent(80) { small(random) } else { family(random) };
     let (mut text, mut proof) = (problem.formula.strewn(random), finished(&problem));
     for _ in 0..random.between(1, 3) {
         if random.percent(30) {
             mutate(random, &mut text, b" \n\t\r0123456789-cpx");
         } else {
-            mutate(random, &mut proof, &[0x4e, 0x54, 0x46, 0x52, 0x50, 0x45, 0, 1, 2, 3, 4, 5, 6, 7, 64, 255]);
+            mutate(random, &mut proof, &[0x4e, 0x54, 0x46, 0x52, 0x50, 0x44, 0x45, 0, 1, 2, 3, 4, 5, 6, 7, 64, 255]);
         }
     }
     vec![command(random, 4096, &text, &proof)]
@@ -206,13 +226,32 @@ fn mutate(random: &mut Random, bytes: &mut Vec<u8>, alphabet: &[u8]) {
     }
 }
 
-/// A proof that is fine up to a line, where one fault of the numbers 9 to 21 follows.
+/// A proof with strikings, one of them of another member: struck already, not there yet, or wanted still.
+fn renumbered(random: &mut Random) -> Vec<String> {
+    let problem = small(random);
+    let problem = strike::strewn(random, &problem);
+    let mut proof = finished(&problem);
+    let starts = problem.builder.writer.records.iter().filter(|start| proof[**start] == 0x44);
+    let starts: Vec<usize> = starts.copied().collect();
+    if !starts.is_empty() {
+        let start = random.pick(&starts);
+        let (members, own) = (problem.builder.members.len(), usize::from(proof[start + 1]));
+        let others = [0, 1, own + 1, own.saturating_sub(1), own + 256, members - 1, members, members + 1, 65_535];
+        let other = random.pick(&others) as u16;
+        proof[start + 1..start + 3].copy_from_slice(&other.to_le_bytes());
+    }
+    let text = problem.formula.strewn(random);
+    vec![command(random, 4096, &text, &proof)]
+}
+
+/// A proof that is fine up to a line, where one fault of the numbers 9 to 21 or 28 follows.
 fn faulty_proof(random: &mut Random) -> Vec<String> {
     let problem = small(random);
     let whole = &problem.builder.writer;
-    let cut = if whole.lines.is_empty() { 0 } else { random.pick(&whole.lines) };
+    let lines = random.below(whole.lines.len().max(1));
+    let cut = whole.lines.get(lines).copied().unwrap_or(0);
     let mut writer = Writer::default();
-    fault(random, &mut writer, &problem);
+    fault::write(random, &mut writer, &problem, lines);
     let mut proof = whole.bytes[..cut].to_vec();
     proof.extend(&writer.bytes);
     if random.percent(70) {
@@ -221,150 +260,6 @@ fn faulty_proof(random: &mut Random) -> Vec<String> {
     }
     let text = problem.formula.strewn(random);
     vec![command(random, 4096, &text, &proof)]
-}
-
-fn fault(random: &mut Random, writer: &mut Writer, problem: &Problem) {
-    let variables = problem.formula.variables;
-    let some = random.between(1, variables.max(1)) as u8;
-    match random.below(16) {
-        0 => writer.bytes.push(random.pick(&[0, 1, 0x44, 0x4d, 0x4f, 0x51, 0x53, 0x55, 0xff])),
-        1 => cut_short(random, writer, some),
-        2 => after_end(random, writer),
-        3 => wrong_variable(random, writer, variables),
-        4 => no_entry(random, writer, some),
-        5 | 13 => wrong_order(random, writer, variables),
-        6 => twice(random, writer, variables, some),
-        7 => left_over(random, writer, some),
-        8 => always_true(random, writer, some),
-        9 => not_made_true(random, writer, problem),
-        10 => writer.end(),
-        11 | 14 | 15 => not_shown(random, writer, problem),
-        _ => zero_lines(random, writer),
-    }
-}
-
-/// 10: a record cut short. Nothing may follow it, so what follows makes of it another record or another fault.
-fn cut_short(random: &mut Random, writer: &mut Writer, some: u8) {
-    match random.below(4) {
-        0 => drop(writer.node(some, 0, 1)),
-        1 => writer.line(0x52, 0),
-        2 => writer.line(0x50, 0),
-        _ => writer.witness(Literals { positive: 1 << (some - 1), negative: 0 }),
-    }
-    writer.bytes.truncate(random.between(1, writer.bytes.len() - 1));
-}
-
-/// 11 and 16 before 20: what follows the end record.
-fn after_end(random: &mut Random, writer: &mut Writer) {
-    if random.percent(30) {
-        writer.witness(Literals { positive: 1, negative: 0 });
-    }
-    writer.end();
-    for _ in 0..random.between(1, 3) {
-        writer.bytes.push(random.pick(&[0x45, 0, 0x4e, 0xff]));
-    }
-}
-
-fn wrong_variable(random: &mut Random, writer: &mut Writer, variables: usize) {
-    let variable = random.pick(&[0, 0, variables + 1, variables + 2, 65, 200, 255]) as u8;
-    match random.below(3) {
-        0 => drop(writer.node(variable, random.below(3) as u16, 1)),
-        kind => writer.bytes.extend([[0x54, 0x46][kind - 1], variable]),
-    }
-}
-
-fn no_entry(random: &mut Random, writer: &mut Writer, some: u8) {
-    for _ in 0..random.below(3) {
-        writer.node(some, 0, 1);
-    }
-    let entry = random.pick(&[2, 3, 4, 5, 256, 4097, 4098, 65_535]);
-    match random.below(4) {
-        0 => drop(writer.node(some, entry, 1)),
-        1 => drop(writer.node(some, 0, entry)),
-        2 => writer.line(0x52, entry),
-        _ => writer.line(0x50, entry),
-    }
-}
-
-/// 14: a variable that is not before its child's, or is, for the child's node counts and not its record.
-fn wrong_order(random: &mut Random, writer: &mut Writer, variables: usize) {
-    let below = random.between(1, variables.max(1)) as u8;
-    let above = if random.percent(70) {
-        random.between(below.into(), variables.max(1))
-    } else {
-        random.between(1, below.into())
-    } as u8;
-    let child = if random.percent(20) { writer.node(below, 1, 1) } else { writer.node(below, 0, 1) };
-    match random.below(3) {
-        0 => writer.node(above, child, 1),
-        1 => writer.node(above, 0, child),
-        _ => writer.node(above, child, child),
-    };
-    writer.line(0x52, child + 1);
-}
-
-fn twice(random: &mut Random, writer: &mut Writer, variables: usize, some: u8) {
-    if variables > 1 && random.percent(50) {
-        let other = random.between(1, variables) as u8;
-        writer.bytes.extend([0x54, other]);
-    }
-    writer.bytes.extend([random.pick(&[0x54, 0x46]), some]);
-    if random.percent(30) {
-        writer.node(some, 0, 1);
-    }
-    writer.bytes.extend([random.pick(&[0x54, 0x46]), some]);
-}
-
-fn left_over(random: &mut Random, writer: &mut Writer, some: u8) {
-    writer.bytes.extend([random.pick(&[0x54, 0x46]), some]);
-    if random.percent(40) {
-        writer.end();
-        return;
-    }
-    let root = if random.percent(50) { writer.node(some, 0, 1) } else { random.below(2) as u16 };
-    writer.line(0x52, root);
-}
-
-fn always_true(random: &mut Random, writer: &mut Writer, some: u8) {
-    let root = if random.percent(50) { writer.node(some, 1, 1) } else { 1 };
-    if random.percent(30) {
-        writer.witness(Literals { positive: 1 << (some - 1), negative: 0 });
-        return writer.line(0x50, root);
-    }
-    writer.line(random.pick(&[0x50, 0x52]), root);
-}
-
-/// 18, mostly: a random diagram under a random witness.
-fn not_made_true(random: &mut Random, writer: &mut Writer, problem: &Problem) {
-    let mut store = problem.builder.store.clone();
-    let g = strewn(random, &mut store, problem.formula.variables);
-    let root = writer.entry(&store, g);
-    writer.witness(witness(random, problem.formula.variables));
-    writer.line(0x50, root);
-}
-
-/// 19, mostly: a random diagram as a line; in a PR line with a witness that makes it 1.
-fn not_shown(random: &mut Random, writer: &mut Writer, problem: &Problem) {
-    let mut store = problem.builder.store.clone();
-    for _ in 0..5 {
-        let g = strewn(random, &mut store, problem.formula.variables);
-        let literals = witness(random, problem.formula.variables);
-        let pr = store.restrict(g, literals) == 1;
-        if g != 1 && (pr || random.percent(50)) {
-            let root = writer.entry(&store, g);
-            if pr {
-                writer.witness(literals);
-            }
-            return writer.line(if pr { 0x50 } else { 0x52 }, root);
-        }
-    }
-    writer.line(0x52, 0);
-}
-
-/// Lines 0 of both kinds: 18, 19, or accepted.
-fn zero_lines(random: &mut Random, writer: &mut Writer) {
-    writer.line(random.pick(&[0x52, 0x50]), 0);
-    writer.line(0x52, 0);
 }
 
 /// The limits: 4,096 entries, 1,024 lines, 1,024 clauses, a full member list.
@@ -378,7 +273,7 @@ fn long(random: &mut Random) -> Vec<String> {
     match random.below(5) {
         0 | 1 => same_entries(random, &mut writer),
         2 => entries(random, &mut writer),
-        _ => lines(random, &mut writer),
+        _ => lines(random, &mut writer, formula.clauses.len()),
     }
     writer.line(0x52, 0);
     writer.end();
@@ -407,11 +302,19 @@ fn entries(random: &mut Random, writer: &mut Writer) {
     writer.line(random.pick(&[0x52, 0x50]), random.between(2, many + 1) as u16);
 }
 
-/// About 1,024 lines that repeat a member.
-fn lines(random: &mut Random, writer: &mut Writer) {
-    for _ in 0..random.pick(&[1023, 1024, 1025, 1026]) {
+/// About 1,024 lines that repeat a member. Some strike out the line before each time, some the last of all members.
+fn lines(random: &mut Random, writer: &mut Writer, clauses: usize) {
+    let lines = random.pick(&[1023, 1024, 1025, 1026]);
+    let striking = random.percent(50);
+    for line in 0..lines {
         let root = writer.node(2, 1, 0);
         writer.line(0x52, root);
+        if striking && line > 0 {
+            writer.strike(clauses + line - 1);
+        }
+    }
+    if random.percent(50) {
+        writer.strike(clauses + lines - random.below(2));
     }
 }
 

@@ -70,20 +70,27 @@ fn parity_clauses((variables, odd): &Parity) -> Vec<Vec<i32>> {
     (0..1 << variables.len()).filter(wrong).map(clause).collect()
 }
 
-/// Parity constraints by their clauses. The proof makes each of them a line and then sums them one by one.
-pub fn parities(variables: usize, constraints: &[Parity]) -> Problem {
+/// Parity constraints by their clauses. The proof makes each of them a line and then sums them one by one; it may strike out what went into a
+/// sum once that stands, so that members do not pile up.
+pub fn parities(variables: usize, constraints: &[Parity], striking: bool) -> Problem {
     let clauses = constraints.iter().flat_map(parity_clauses).collect();
     let formula = Formula { variables, clauses };
     let mut builder = Builder::new(&formula);
     let mut sum: Parity = (Vec::new(), false);
+    let (mut next_clause, mut served) = (0, Vec::new());
     for constraint in constraints {
+        let first = next_clause;
+        next_clause += parity_clauses(constraint).len();
+        let lines = builder.members.len();
         if !one_parity(&mut builder, constraint) {
             break;
         }
+        served.extend((first..next_clause).chain(lines..builder.members.len()));
         sum = added(&sum, constraint);
         let line = builder.store.parity(&sum.0, sum.1);
-        if line != 1 {
-            builder.rup(line);
+        if line != 1 && builder.rup(line) && striking {
+            served.drain(..).for_each(|member| builder.strike(member));
+            served.push(builder.members.len() - 1);
         }
     }
     Problem { formula, builder }
@@ -137,7 +144,7 @@ pub fn tseitin(random: &mut Random, vertices: usize, satisfiable: bool) -> Probl
     }
     let odd = constraints.iter().filter(|constraint| constraint.1).count() % 2 == 1;
     constraints[0].1 ^= odd == satisfiable;
-    parities(edges.len(), &constraints)
+    parities(edges.len(), &constraints, random.percent(40))
 }
 
 /// At least `least` and at most `most` of the variables, each by its clauses.
@@ -203,7 +210,7 @@ pub fn chain(random: &mut Random, length: usize, clauses: usize, lines: usize) -
     random.shuffle(&mut all);
     let formula = Formula { variables: 64, clauses: all };
     let mut builder = Builder::new(&formula);
-    while builder.lines < lines {
+    while builder.lines.len() < lines {
         let line = builder.store.clause(&followed(random, length));
         if line != 1 {
             builder.write_line(0x52, line, Literals::default());
@@ -231,7 +238,7 @@ pub fn pure(random: &mut Random, clauses: usize, lines: usize) -> Problem {
     }
     formula.variables = 64;
     let mut builder = Builder::new(&formula);
-    while builder.lines < lines {
+    while builder.lines.len() < lines {
         let (first, second) = (random.between(1, 32) as i32, random.between(33, 63) as i32);
         let line = builder.store.clause(&[first, -second, 64]);
         let mut witness = Literals::default();
@@ -323,7 +330,7 @@ fn wide_parities(random: &mut Random) -> Problem {
         chosen.dedup();
         constraints.push((chosen, random.percent(50)));
     }
-    parities(variables, &constraints)
+    parities(variables, &constraints, random.percent(40))
 }
 
 /// A line that says that two members hold.

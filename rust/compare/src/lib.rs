@@ -3,9 +3,11 @@
 pub mod check;
 pub mod diagram;
 pub mod families;
+mod fault;
 pub mod filter;
 pub mod formula;
 pub mod proof;
 pub mod random;
 pub mod single;
+mod strike;
 pub mod table;

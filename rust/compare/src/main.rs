@@ -146,7 +146,12 @@ impl Tally {
         self.asked += 1;
         let first = |line: &str| line.split(' ').next().unwrap_or("").to_string();
         let number = first(answer).parse().unwrap_or(99);
-        *self.numbers.entry(first(command)).or_default().entry(number).or_default() += 1;
+        let mut add = |what: String| *self.numbers.entry(what).or_default().entry(number).or_default() += 1;
+        add(first(command));
+        // The checks that struck out a member, once more.
+        if answer.split(" | ").nth(3).is_some_and(|marks| marks.contains('1')) {
+            add("check, struck".into());
+        }
     }
 
     fn text(&self) -> String {

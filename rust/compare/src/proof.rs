@@ -47,6 +47,28 @@ impl Writer {
         }
     }
 
+    /// A striking.
+    pub fn strike(&mut self, member: usize) {
+        self.record(0x44, &number(member));
+    }
+
+    /// A striking before the record of this place in `records`, or behind the last one. `lines` is kept for a place in the open line.
+    fn strike_at(&mut self, at: usize, member: usize) {
+        let Some(&start) = self.records.get(at) else { return self.strike(member) };
+        let [low, high] = number(member);
+        self.bytes.splice(start..start, [0x44, low, high]);
+        for later in &mut self.records[at..] {
+            *later += 3;
+        }
+        self.records.insert(at, start);
+    }
+
+    /// A striking somewhere among the records, be it behind a witness.
+    pub fn strike_within(&mut self, random: &mut Random, member: usize) {
+        let at = random.below(self.records.len() + 1);
+        self.strike_at(at, member);
+    }
+
     /// A line of kind `52` or `50`.
     pub fn line(&mut self, kind: u8, root: u16) {
         self.record(kind, &root.to_le_bytes());
@@ -75,34 +97,96 @@ impl Writer {
     }
 }
 
-/// A proof in the making: the members so far and the lines written.
+/// A member's number in two bytes.
+fn number(member: usize) -> [u8; 2] {
+    u16::try_from(member).expect("a member's number has two bytes").to_le_bytes()
+}
+
+/// A line as it was written.
+#[derive(Clone, Copy)]
+pub struct Line {
+    pub kind: u8,
+    pub g: Node,
+    pub witness: Literals,
+}
+
+/// A striking: how many lines stand before it, and the member.
+pub type Striking = (usize, usize);
+
+/// A proof in the making: the members so far with their marks, and the lines and strikings written.
 #[derive(Clone)]
 pub struct Builder {
     pub store: Diagrams,
     pub members: Vec<Node>,
+    pub struck: Vec<bool>,
     pub writer: Writer,
-    pub lines: usize,
+    pub lines: Vec<Line>,
+    pub strikings: Vec<Striking>,
 }
 
 impl Builder {
     pub fn new(formula: &Formula) -> Self {
         let mut store = Diagrams::default();
-        let members = formula.clauses.iter().map(|clause| store.clause(clause)).collect();
-        Builder { store, members, writer: Writer::default(), lines: 0 }
+        let members: Vec<Node> = formula.clauses.iter().map(|clause| store.clause(clause)).collect();
+        let struck = vec![false; members.len()];
+        Builder { store, members, struck, writer: Writer::default(), lines: Vec::new(), strikings: Vec::new() }
     }
 
     /// Writes g as a line, whether it is accepted or not.
     pub fn write_line(&mut self, kind: u8, g: Node, witness: Literals) {
         let root = self.writer.entry(&self.store, g);
-        self.writer.witness(witness);
-        self.writer.line(kind, root);
-        self.members.push(g);
-        self.lines += 1;
+        self.close(Line { kind, g, witness }, root);
+    }
+
+    /// Writes a line with strikings strewn among its entries. They come before the witness, behind which they would be refused.
+    pub fn write_striking(&mut self, random: &mut Random, line: Line, strikings: &[usize]) {
+        let first = self.writer.records.len();
+        let root = self.writer.entry(&self.store, line.g);
+        for &member in strikings {
+            let at = random.between(first, self.writer.records.len());
+            self.writer.strike_at(at, member);
+            self.mark(member);
+        }
+        self.close(line, root);
+    }
+
+    fn close(&mut self, line: Line, root: u16) {
+        self.writer.witness(line.witness);
+        self.writer.line(line.kind, root);
+        self.members.push(line.g);
+        self.struck.push(false);
+        self.lines.push(line);
+    }
+
+    /// Strikes out a member that is there and live.
+    pub fn strike(&mut self, member: usize) {
+        self.writer.strike(member);
+        self.mark(member);
+    }
+
+    fn mark(&mut self, member: usize) {
+        self.struck[member] = true;
+        self.strikings.push((self.lines.len(), member));
+    }
+
+    /// The members that are not struck out.
+    pub fn live(&self) -> Vec<Node> {
+        let all = self.members.iter().zip(&self.struck);
+        all.filter(|(_, struck)| !**struck).map(|(member, _)| *member).collect()
+    }
+
+    /// Whether the live members accept a line.
+    pub fn accepts(&mut self, line: Line) -> bool {
+        let live = self.live();
+        match line.kind {
+            0x52 => self.store.rup(&live, line.g),
+            _ => self.store.pr(&live, line.g, line.witness),
+        }
     }
 
     /// Writes g as a RUP line if it is accepted as one.
     pub fn rup(&mut self, g: Node) -> bool {
-        let holds = self.store.rup(&self.members, g);
+        let holds = self.accepts(Line { kind: 0x52, g, witness: Literals::default() });
         if holds {
             self.write_line(0x52, g, Literals::default());
         }
@@ -111,7 +195,7 @@ impl Builder {
 
     /// Writes g as a PR line with this witness if it is accepted as one.
     pub fn pr(&mut self, g: Node, witness: Literals) -> bool {
-        let holds = self.store.pr(&self.members, g, witness);
+        let holds = self.accepts(Line { kind: 0x50, g, witness });
         if holds {
             self.write_line(0x50, g, witness);
         }
@@ -121,7 +205,7 @@ impl Builder {
     /// Writes g and the lines that it needs, of at most so many in all: where g alone is not accepted, first "g or x" and
     /// "g or not x", whose negations under not-g are each other's.
     pub fn derive(&mut self, g: Node, most: usize) -> bool {
-        if self.lines >= most || g == 1 {
+        if self.lines.len() >= most || g == 1 {
             return false;
         }
         if self.rup(g) {
@@ -135,15 +219,15 @@ impl Builder {
                 return false;
             }
         }
-        self.lines < most && self.rup(g)
+        self.lines.len() < most && self.rup(g)
     }
 
-    /// The first variable of a member that not-g leaves open.
+    /// The first variable of a live member that not-g leaves open.
     fn splitting(&mut self, g: Node) -> Option<i32> {
         let not_g = self.store.not(g);
         let units = self.store.units(not_g);
         let fixed = units.positive | units.negative;
-        let members = self.members.clone();
+        let members = self.live();
         let open = members.iter().map(|member| {
             let under = self.store.restrict(*member, units);
             self.store.variable(under)
@@ -153,9 +237,9 @@ impl Builder {
         open.then_some(i32::from(first))
     }
 
-    /// The conjunction of all members.
+    /// The conjunction of all live members.
     pub fn whole(&mut self) -> Node {
-        let members = self.members.clone();
+        let members = self.live();
         members.iter().fold(1, |whole, member| self.store.and(whole, *member))
     }
 }

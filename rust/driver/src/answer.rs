@@ -1,4 +1,4 @@
-//! Makes the calls, compares every lent place with what document 01 says, and writes the answer.
+//! Makes the calls, compares every lent place with what documents 01 and 02 say, and writes the answer.
 
 use crate::command::{Call, Check, Command, Node, Table};
 use crate::lent::{Columns, Dirt, Lent};
@@ -65,6 +65,8 @@ fn operate(columns: &mut Columns, count: usize, call: &Call) -> Single {
 struct Parts {
     columns: Columns,
     members: Lent<u16>,
+    /// A mark for each place of the member list.
+    struck: Lent<u8>,
     scratch: Lent<u16>,
 }
 
@@ -77,6 +79,7 @@ fn check(asked: &Check, dirt: &mut Dirt) -> Answered {
     let said = judge(&mut parts, asked);
     expect(parts.columns.guarded(), "written outside the table")?;
     expect(parts.members.guarded(), "written outside the member list")?;
+    expect(parts.struck.guarded(), "written outside the marks")?;
     expect(parts.scratch.guarded(), "written outside the scratch list")?;
     let kept = match said.number {
         7 => {
@@ -89,12 +92,11 @@ fn check(asked: &Check, dirt: &mut Dirt) -> Answered {
     if let Some(kept) = kept {
         left(&parts, said.count, kept)?;
     }
-    let (nodes, list) = match kept {
-        Some(kept) => (shown(&parts.columns), numbers(&parts.members.places()[..kept])),
-        None => ("-".into(), "-".into()),
-    };
+    let nodes = kept.map_or("-".into(), |_| shown(&parts.columns));
+    let kept = kept.unwrap_or(0);
+    let (list, marks) = (numbers(&parts.members.places()[..kept]), digits(&parts.struck.places()[..kept]));
     let Checked { number, place, lines, rounds, count, peak } = said;
-    Ok(format!("{number} {place} {lines} {rounds} {count} {peak} | {nodes} | {list}"))
+    Ok(format!("{number} {place} {lines} {rounds} {count} {peak} | {nodes} | {list} | {marks}"))
 }
 
 /// Parts that hold anything: the same for the same seed.
@@ -103,18 +105,20 @@ fn dirty_parts(asked: &Check, seed: u64) -> Parts {
     Parts {
         columns: Columns::dirty(asked.size, &mut dirt),
         members: Lent::filled(asked.members, 0xa5a5, || dirt.next() as u16),
+        struck: Lent::filled(asked.members, 0xa5, || dirt.next() as u8),
         scratch: Lent::filled(asked.scratch, 0x5a5a, || dirt.next() as u16),
     }
 }
 
 fn judge(parts: &mut Parts, asked: &Check) -> Checked {
-    let Parts { columns, members, scratch } = parts;
+    let Parts { columns, members, struck, scratch } = parts;
     raw::check(
         columns.vars.lend(),
         columns.lows.lend(),
         columns.highs.lend(),
         LENT_COUNT,
         members.lend(),
+        struck.lend(),
         scratch.lend(),
         &asked.formula,
         &asked.proof,
@@ -125,17 +129,20 @@ fn judge(parts: &mut Parts, asked: &Check) -> Checked {
 fn unchanged(parts: &Parts, before: &Parts) -> Result<(), String> {
     expect(parts.columns.nodes() == before.columns.nodes(), "7 changed the table")?;
     expect(parts.members.places() == before.members.places(), "7 changed the member list")?;
+    expect(parts.struck.places() == before.struck.places(), "7 changed the marks")?;
     expect(parts.scratch.places() == before.scratch.places(), "7 changed the scratch list")
 }
 
-/// What every other number leaves: zeros past the count, past the members kept, and in the scratch list.
+/// What every other number leaves: zeros past the count, past the members kept and their marks, and in the scratch list.
 fn left(parts: &Parts, count: usize, kept: usize) -> Result<(), String> {
-    let Parts { columns, members, scratch } = parts;
+    let Parts { columns, members, struck, scratch } = parts;
     expect(2 <= count && count <= columns.size(), "the count is out of range")?;
     expect((0..2).all(|place| columns.node(place) == (0, 0, 0)), "place 0 or 1 is not zero")?;
     expect(columns.zero_from(count), "a place past the count is not zero")?;
     expect(kept <= members.places().len(), "more members than the list has places")?;
     expect(members.zero_from(kept), "a place past the members is not zero")?;
+    expect(struck.places().iter().all(|mark| *mark <= 1), "a mark is neither 0 nor 1")?;
+    expect(struck.zero_from(kept), "a mark past the members is not zero")?;
     expect(scratch.zero_from(0), "the scratch list is not zero")
 }
 
@@ -163,6 +170,14 @@ fn shown(columns: &Columns) -> String {
         let _ = write!(text, "{parted}{variable},{low},{high}");
     }
     text
+}
+
+/// Marks as digits, `-` for none.
+fn digits(marks: &[u8]) -> String {
+    if marks.is_empty() {
+        return "-".into();
+    }
+    marks.iter().map(u8::to_string).collect()
 }
 
 /// Numbers joined by commas, `-` for none.

@@ -69,10 +69,23 @@ fn single_on_unequal(mut vars: Vec<u8>, mut lows: Vec<u16>, mut highs: Vec<u16>)
 }
 
 fn check_on_unequal(mut vars: Vec<u8>, mut lows: Vec<u16>, mut highs: Vec<u16>) {
-    let (mut members, mut scratch) = (vec![5u16; 2048], vec![6u16; 4096]);
     vars.fill(7);
-    let said = raw::check(&mut vars, &mut lows, &mut highs, 9, &mut members, &mut scratch, b"p cnf 0 0", &[0x45]);
-    assert_eq!((said.number, said.place, said.lines, said.rounds, said.count, said.peak), (7, 0, 0, 0, 9, 0));
+    refused_for_size(&mut vars, &mut lows, &mut highs, 2048);
     assert!(vars.iter().all(|place| *place == 7) && lows.iter().chain(&highs).all(|place| *place == 0));
+}
+
+/// Nor has the member list a column of marks that is shorter or longer.
+#[test]
+fn unequal_marks() {
+    for marks in [0, 1, 2047, 2049, 4096] {
+        refused_for_size(&mut [0; 4], &mut [0; 4], &mut [0; 4], marks);
+    }
+}
+
+fn refused_for_size(vars: &mut [u8], lows: &mut [u16], highs: &mut [u16], marks: usize) {
+    let (mut members, mut struck, mut scratch) = (vec![5u16; 2048], vec![4u8; marks], vec![6u16; 4096]);
+    let said = raw::check(vars, lows, highs, 9, &mut members, &mut struck, &mut scratch, b"p cnf 0 0", &[0x45]);
+    assert_eq!((said.number, said.place, said.lines, said.rounds, said.count, said.peak), (7, 0, 0, 0, 9, 0));
     assert!(members.iter().all(|place| *place == 5) && scratch.iter().all(|place| *place == 6));
+    assert!(struck.iter().all(|mark| *mark == 4));
 }

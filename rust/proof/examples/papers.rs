@@ -1,13 +1,16 @@
 //! `papers FILE`: writes the proof of examples/papers.cnf, "at least three of these four papers", to the file.
 //!
 //! Papers are facts 1 to 4, 5 is a newcomer, 6 in the express lane, 7 paid already. The clauses say that who is in the express lane has one
-//! of any two of the papers. The proof makes one rule of them, and another one of the rules that shut papers out.
+//! of any two of the papers. The proof makes one rule of them, strikes them out, and makes another one of the rules that shut papers out.
 
 use proof::{Entry, Writer};
 use std::process::ExitCode;
 
 const PAPERS: [u8; 4] = [1, 2, 3, 4];
 const EXPRESS: i8 = 6;
+/// The formula's clauses are members 0 to 10, of which the first six are about the papers; the proof's lines go on from 11.
+const CLAUSES: u16 = 11;
+const ABOUT_PAPERS: u16 = 6;
 
 fn proof() -> Vec<u8> {
     let mut proof = Writer::new();
@@ -21,6 +24,10 @@ fn proof() -> Vec<u8> {
     let outside = proof.clause(&[-EXPRESS]);
     let line = proof.at_least_or(3, &PAPERS, outside);
     proof.rup(line);
+    // That line says what the six clauses and the three lines say: no later one needs them.
+    for member in (0..ABOUT_PAPERS).chain(CLAUSES..CLAUSES + 3) {
+        proof.strike(member);
+    }
     // A newcomer has at most two of them.
     let line = proof.at_most(2, &PAPERS);
     proof.rup(line);

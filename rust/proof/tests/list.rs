@@ -34,6 +34,22 @@ fn case_e_with_a_clause() {
     assert_eq!(list("case-e", &bytes), (Some(0), wanted.into()));
 }
 
+/// A striking is of no line; entries go on over it.
+#[test]
+fn strikings() {
+    let bytes = [0x4e, 2, 0, 0, 1, 0, 0x44, 3, 1, 0x52, 2, 0, 0x44, 4, 0, 0x44, 3, 1, 0x54, 1, 0x44, 5, 0, 0x45];
+    let wanted = "     0  4E 02 00 00 01 00  line 1: entry 2 = x2
+     6  44 03 01           strike out member 259
+     9  52 02 00           line 1: RUP entry 2 (x2)
+    12  44 04 00           strike out member 4
+    15  44 03 01           strike out member 259, STRUCK ALREADY (28)
+    18  54 01              line 2: witness: x1
+    20  44 05 00           strike out member 5, A WITNESS IS LEFT (16)
+    23  45                 end, 1 line
+";
+    assert_eq!(list("strikings", &bytes), (Some(0), wanted.into()));
+}
+
 /// Counts of variables, alone and with literals beside them.
 #[test]
 fn counts() {
@@ -70,6 +86,7 @@ fn faults() {
     for (name, proof, status, told) in [
         ("9", &[0x4e, 1, 0, 0, 1, 0, 0x00][..], 1, "     6                     UNKNOWN KIND 00 (9)"),
         ("10", &[0x52, 0], 1, "     0                     RECORD 52 CUT SHORT (10)"),
+        ("10-strike", &[0x44, 0], 1, "     0                     RECORD 44 CUT SHORT (10)"),
         ("10-end", &[0x52, 0, 0], 1, "     3                     NO END RECORD (10)"),
         ("11", &[0x45, 0x45], 1, "     1  AFTER THE END: 1 byte (11)"),
         ("13", &[0x52, 2, 0, 0x45], 0, "     0  52 02 00           line 1: RUP entry 2, WHICH DOES NOT EXIST (13)"),

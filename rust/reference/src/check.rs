@@ -2,7 +2,7 @@
 
 use crate::dimacs::{Formula, Refusal};
 use crate::operate::Diagrams;
-use crate::records::{EntryId, Reader, Record};
+use crate::records::{EntryId, MemberId, Reader, Record};
 use crate::rules;
 use crate::table::{bit, Full, Literals, NodeId, LARGEST, ONE, SMALLEST, ZERO};
 
@@ -18,6 +18,19 @@ pub struct Lent {
     pub scratch: u64,
 }
 
+/// A clause or an accepted line: "each member gains a mark in the list, 1 once struck, else 0".
+#[derive(Clone, Copy, PartialEq, Eq, Debug)]
+pub struct Member {
+    pub node: NodeId,
+    pub struck: bool,
+}
+
+impl Member {
+    fn live(node: NodeId) -> Member {
+        Member { node, struck: false }
+    }
+}
+
 /// What the call says, and the member list as it leaves it; the table is left in the diagrams.
 pub struct Verdict {
     pub number: u32,
@@ -27,7 +40,7 @@ pub struct Verdict {
     /// "The greatest count reached, dropped nodes included. On a refusal that count covers all that was
     /// placed before; with 7 [..] it is 0."
     pub peak: usize,
-    pub members: Vec<NodeId>,
+    pub members: Vec<Member>,
 }
 
 pub fn table_size_is_right(size: u64) -> bool {
@@ -56,12 +69,12 @@ fn refused_early(refusal: Refusal, peak: usize) -> Verdict {
 }
 
 /// The number of variables and the members; "a clause is made as it closes".
-fn read_formula(d: &mut Diagrams, bytes: &[u8]) -> Result<(u32, Vec<NodeId>), Refusal> {
+fn read_formula(d: &mut Diagrams, bytes: &[u8]) -> Result<(u32, Vec<Member>), Refusal> {
     let mut formula = Formula::open(bytes)?;
     let mut members = Vec::new();
     while let Some(clause) = formula.next_clause()? {
-        let node = d.clause(clause.literals);
-        members.push(node.map_err(|Full| Refusal { number: 8, place: clause.place })?);
+        let node = d.clause(clause.literals).map_err(|Full| Refusal { number: 8, place: clause.place })?;
+        members.push(Member::live(node));
     }
     Ok((formula.variables(), members))
 }
@@ -69,8 +82,8 @@ fn read_formula(d: &mut Diagrams, bytes: &[u8]) -> Result<(u32, Vec<NodeId>), Re
 struct Checker<'a> {
     d: &'a mut Diagrams,
     variables: u32,
-    /// Clauses and accepted lines.
-    members: Vec<NodeId>,
+    /// Clauses and accepted lines; "numbers are not reused", so struck ones keep their places.
+    members: Vec<Member>,
     /// The nodes of the entries since the last accepted line, the constants first.
     entries: Vec<NodeId>,
     witness: Literals,
@@ -78,12 +91,12 @@ struct Checker<'a> {
     kept: usize,
     lines: usize,
     rounds: u64,
-    /// Whether an accepted line is 0.
+    /// Whether an accepted line is 0, struck later or not.
     refuted: bool,
 }
 
 impl<'a> Checker<'a> {
-    fn new(d: &'a mut Diagrams, variables: u32, members: Vec<NodeId>) -> Checker<'a> {
+    fn new(d: &'a mut Diagrams, variables: u32, members: Vec<Member>) -> Checker<'a> {
         let kept = d.table.count();
         Checker {
             d,
@@ -118,6 +131,7 @@ impl<'a> Checker<'a> {
                 Ok(Record::Witness { variable, value }) => self.witness(variable.into(), value),
                 Ok(Record::Rup { root }) => self.rup(root),
                 Ok(Record::Pr { root }) => self.pr(root),
+                Ok(Record::Strike { member }) => self.strike(member),
             };
             if let Err(number) = taken {
                 return (number, start);
@@ -159,7 +173,8 @@ impl<'a> Checker<'a> {
         }
         self.may_be_line(g)?;
         let kept = self.d.table.count();
-        let shown = rules::rup(self.d, &self.members, g);
+        let live = self.live();
+        let shown = rules::rup(self.d, &live, g);
         self.close(g, kept, shown)
     }
 
@@ -171,8 +186,20 @@ impl<'a> Checker<'a> {
             return Err(18);
         }
         let kept = self.d.table.count();
-        let shown = rules::pr(self.d, &self.members, g, self.witness);
+        let live = self.live();
+        let shown = rules::pr(self.d, &live, g, self.witness);
         self.close(g, kept, shown)
+    }
+
+    /// "It refuses with 28 a member that does not exist or is struck already, after 10 and then 16 for a
+    /// waiting witness." It is no line: entries go on and nodes stay.
+    fn strike(&mut self, member: MemberId) -> Result<(), u32> {
+        if !self.witness.is_empty() {
+            return Err(16);
+        }
+        let member = self.members.get_mut(member.0 as usize).filter(|member| !member.struck).ok_or(28u32)?;
+        member.struck = true;
+        Ok(())
     }
 
     /// "End: 16, 11, 20."
@@ -186,6 +213,11 @@ impl<'a> Checker<'a> {
         } else {
             (0, start)
         }
+    }
+
+    /// "Making, propagation and PR pass over struck members."
+    fn live(&self) -> Vec<NodeId> {
+        self.members.iter().filter(|member| !member.struck).map(|member| member.node).collect()
     }
 
     fn known_variable(&self, variable: u32) -> Result<(), u32> {
@@ -218,7 +250,7 @@ impl<'a> Checker<'a> {
         self.lines += 1;
         self.rounds += rounds;
         self.refuted |= g == ZERO;
-        self.members.push(g);
+        self.members.push(Member::live(g));
         self.entries.truncate(2);
         self.witness = Literals::default();
         Ok(())

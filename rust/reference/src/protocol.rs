@@ -1,6 +1,6 @@
 //! The line protocol: a command line in, an answer line out.
 
-use crate::check::{check, table_size_is_right, Lent};
+use crate::check::{check, table_size_is_right, Lent, Member};
 use crate::operate::Diagrams;
 use crate::table::{Full, Literals, NodeId, Table, VARIABLES, ZERO};
 
@@ -72,7 +72,9 @@ fn check_command<'a>(d: &mut Diagrams, mut words: impl Iterator<Item = &'a [u8]>
     out.extend(b" | ");
     push_table(out, &d.table);
     out.extend(b" | ");
-    push_list(out, b',', &verdict.members, |out, member| push_number(out, member.0.into()));
+    push_list(out, b',', &verdict.members, |out, member| push_number(out, member.node.0.into()));
+    out.extend(b" | ");
+    push_marks(out, &verdict.members);
     Some(())
 }
 
@@ -263,6 +265,13 @@ fn push_place(out: &mut Vec<u8>, place: &Place) {
         }
         push_number(out, field.into());
     }
+}
+
+fn push_marks(out: &mut Vec<u8>, members: &[Member]) {
+    if members.is_empty() {
+        out.push(b'-');
+    }
+    out.extend(members.iter().map(|member| b'0' + member.struck as u8));
 }
 
 fn push_list<T>(out: &mut Vec<u8>, between: u8, items: &[T], push: impl Fn(&mut Vec<u8>, &T)) {

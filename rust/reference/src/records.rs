@@ -3,12 +3,17 @@
 #[derive(Clone, Copy, PartialEq, Eq, Debug)]
 pub struct EntryId(pub u16);
 
+/// A number of the member list.
+#[derive(Clone, Copy, PartialEq, Eq, Debug)]
+pub struct MemberId(pub u16);
+
 #[derive(Clone, Copy, PartialEq, Eq, Debug)]
 pub enum Record {
     Node { variable: u8, low: EntryId, high: EntryId },
     Witness { variable: u8, value: bool },
     Rup { root: EntryId },
     Pr { root: EntryId },
+    Strike { member: MemberId },
     End,
 }
 
@@ -41,6 +46,7 @@ impl<'a> Reader<'a> {
             0x54 | 0x46 => Record::Witness { value: kind == 0x54, variable: self.body::<1>()?[0] },
             0x52 => Record::Rup { root: entry(self.body()?) },
             0x50 => Record::Pr { root: entry(self.body()?) },
+            0x44 => Record::Strike { member: MemberId(u16::from_le_bytes(self.body()?)) },
             0x45 => Record::End,
             _ => return Err(9),
         })

@@ -205,6 +205,7 @@ enum Step {
     Node(u32, u16, u16),
     Witness(u32, bool),
     Line(u16, bool),
+    Strike(u16),
     End,
 }
 
@@ -214,15 +215,18 @@ fn bytes(step: Step) -> Vec<u8> {
         Step::Node(v, l, h) => vec![0x4E, v as u8, two(l)[0], two(l)[1], two(h)[0], two(h)[1]],
         Step::Witness(v, value) => vec![if value { 0x54 } else { 0x46 }, v as u8],
         Step::Line(root, pr) => vec![if pr { 0x50 } else { 0x52 }, two(root)[0], two(root)[1]],
+        Step::Strike(member) => vec![0x44, two(member)[0], two(member)[1]],
         Step::End => vec![0x45],
     }
 }
 
-/// The proof's part of document 01, word for word, on functions.
+/// The proof's part of document 01, word for word, on functions, with the records of document 02.
 struct Model {
     variables: u32,
     table: Plain,
     members: Vec<Function>,
+    /// The numbers of the struck members.
+    struck: Vec<usize>,
     entries: Vec<Function>,
     witness: Literals,
     kept: usize,
@@ -292,15 +296,27 @@ impl Model {
                 self.rounds += self.line_rounds;
                 self.refuted |= g == 0;
             }
+            Step::Strike(_) if self.witness != Literals::default() => return Err(16),
+            Step::Strike(member) => {
+                let member = member as usize;
+                if member >= self.members.len() || self.struck.contains(&member) {
+                    return Err(28);
+                }
+                self.struck.push(member);
+            }
             Step::End if self.witness != Literals::default() => return Err(16),
             Step::End => return Err(if self.refuted { 0 } else { 20 }),
         }
         Ok(())
     }
 
+    fn live(&self) -> Vec<Function> {
+        (0..self.members.len()).filter(|at| !self.struck.contains(at)).map(|at| self.members[at]).collect()
+    }
+
     fn shown(&mut self, g: Function, pr: bool) -> Result<bool, NoRoom> {
         self.table.build(!g)?;
-        let members = self.members.clone();
+        let members = self.live();
         let first = self.each(&members, |f| nearest(f, !g))?;
         if !pr {
             return self.conflicts(first);
@@ -378,6 +394,9 @@ fn proof(random: &mut Random, variables: u32, clauses: &[Function]) -> Vec<Step>
         }
         steps.push(Step::Line(root, pr));
         members.push(g);
+        if random.one_in(3) {
+            steps.push(Step::Strike(random.below(members.len() as u64) as u16));
+        }
     }
     if !random.one_in(3) {
         steps.push(Step::Line(0, false));
@@ -388,9 +407,10 @@ fn proof(random: &mut Random, variables: u32, clauses: &[Function]) -> Vec<Step>
 
 fn noise(random: &mut Random) -> Step {
     let entry = |random: &mut Random| random.below(8) as u16;
-    match random.below(4) {
+    match random.below(5) {
         0 => Step::Witness(random.below(6) as u32, random.one_in(2)),
         1 => Step::Line(entry(random), random.one_in(2)),
+        2 => Step::Strike(random.below(12) as u16),
         _ => Step::Node(random.below(6) as u32, entry(random), entry(random)),
     }
 }
@@ -431,6 +451,7 @@ fn judged(variables: u32, size: usize, clauses: &[Function], steps: &[Step]) -> 
         kept: table.nodes.len(),
         table,
         members: clauses.to_vec(),
+        struck: Vec::new(),
         entries: vec![0, ALL],
         witness: Literals::default(),
         lines: 0,
@@ -452,9 +473,10 @@ fn report(number: u32, place: usize, model: Model) -> String {
     let (mut table, count) = (model.table, model.kept);
     table.nodes.truncate(count);
     let members: Vec<String> = model.members.iter().map(|&f| table.build(f).ok().unwrap().to_string()).collect();
-    let members = if members.is_empty() { "-".into() } else { members.join(",") };
+    let marks: String = (0..members.len()).map(|at| if model.struck.contains(&at) { '1' } else { '0' }).collect();
+    let (members, marks) = if members.is_empty() { ("-".into(), "-".into()) } else { (members.join(","), marks) };
     let counts = format!("{} {} {count} {}", model.lines, model.rounds, table.peak);
-    format!("{number} {place} {counts} | {} | {members}", table.text())
+    format!("{number} {place} {counts} | {} | {members} | {marks}", table.text())
 }
 
 #[test]
@@ -462,7 +484,7 @@ fn checks_are_what_the_rules_say_and_0_is_said_of_nothing_satisfiable() {
     let mut random = Random(0xC0FFEE);
     let mut d = Diagrams::new();
     let mut seen = [0u32; 32];
-    let mut accepted_pr = 0;
+    let (mut accepted_pr, mut refuted_struck) = (0, 0);
     for _ in 0..40_000 {
         let variables = 1 + random.below(N as u64) as u32;
         let made: Vec<_> = (0..random.below(9)).map(|_| random_clause(&mut random, variables)).collect();
@@ -480,18 +502,20 @@ fn checks_are_what_the_rules_say_and_0_is_said_of_nothing_satisfiable() {
         let said = ask(&mut d, &line);
         match judged(variables, size, &clauses, &steps) {
             Some(judged) => assert_eq!(said, judged, "{line}"),
-            None => assert!(said.starts_with("8 ") && said.ends_with(&format!("0 0 2 {size} | - | -")), "{line}"),
+            None => assert!(said.starts_with("8 ") && said.ends_with(&format!("0 0 2 {size} | - | - | -")), "{line}"),
         }
         let number: usize = said.split(' ').next().unwrap().parse().unwrap();
         seen[number] += 1;
         accepted_pr += (number == 0 && proof.contains(&0x50)) as u32;
+        refuted_struck += (number == 0 && proof.contains(&0x44)) as u32;
         let models = clauses.iter().fold(ALL, |all, clause| all & clause);
         assert!(number != 0 || models == 0, "0 said of a satisfiable formula: {line}");
     }
-    for number in [0, 8, 12, 13, 14, 15, 16, 17, 18, 19, 20, 23] {
+    for number in [0, 8, 12, 13, 14, 15, 16, 17, 18, 19, 20, 23, 28] {
         assert!(seen[number] > 20, "{number} seen {} times only", seen[number]);
     }
     assert!(accepted_pr > 50, "{accepted_pr}");
+    assert!(refuted_struck > 50, "{refuted_struck}");
 }
 
 #[test]

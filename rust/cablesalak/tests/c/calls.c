@@ -82,17 +82,21 @@ static void refused(void)
 
 #define FORMULA "p cnf 2 4\n1 2 0\n-1 2 0\n1 -2 0\n-1 -2 0\n"
 static const uint8_t proof[] = {0x4E, 2, 0, 0, 1, 0, 0x52, 2, 0, 0x52, 0, 0, 0x45};
-static uint8_t vars[64];
+/* Clauses 0 and 1 struck out once the first line has used them; then clause 1 again. */
+static const uint8_t strikings[] = {0x4E, 2, 0, 0, 1, 0, 0x52, 2, 0, 0x44, 0, 0, 0x44, 1, 0, 0x52, 0, 0, 0x45};
+static const uint8_t twice[] = {0x44, 1, 0, 0x44, 1, 0};
+static uint8_t vars[64], struck[2049];
 static uint16_t lows[64], highs[64], members[2048], scratch[4096];
 
-static cablesalak_checked check(size_t scratch_length, const uint8_t *lines, size_t length)
+static cablesalak_checked check(size_t struck_length, size_t scratch_length, const uint8_t *lines, size_t length)
 {
     memset(vars, 0xA5, sizeof vars);
     memset(lows, 0xA5, sizeof lows);
     memset(highs, 0xA5, sizeof highs);
     memset(members, 0xA5, sizeof members);
+    memset(struck, 0xA5, sizeof struck);
     memset(scratch, 0xA5, sizeof scratch);
-    return cablesalak_check(vars, 64, lows, 64, highs, 64, 9, members, 2048, scratch, scratch_length,
+    return cablesalak_check(vars, 64, lows, 64, highs, 64, 9, members, 2048, struck, struck_length, scratch, scratch_length,
                             (const uint8_t *)FORMULA, strlen(FORMULA), lines, length);
 }
 
@@ -103,15 +107,34 @@ static bool says(cablesalak_checked said, unsigned number, size_t place, size_t 
            said.count == count && said.peak == peak;
 }
 
+/* Whether just these marks are 1, a digit each, and the others 0. */
+static bool marked(const char *marks)
+{
+    bool right = struck[2048] == 0xA5;
+    for (size_t at = 0; at < 2048; at++)
+        right = right && struck[at] == (at < strlen(marks) && marks[at] == '1' ? 1 : 0);
+    return right;
+}
+
+/* A refusal with 7 changes nothing. */
+static bool refused_for_size(cablesalak_checked said)
+{
+    return says(said, CABLESALAK_WRONG_SIZE, 0, 0, 0, 9, 0) && vars[0] == 0xA5 && members[2047] == 0xA5A5 &&
+           struck[0] == 0xA5 && struck[2047] == 0xA5 && scratch[0] == 0xA5A5;
+}
+
 static void checks(void)
 {
-    EXPECT(says(check(4096, proof, sizeof proof), CABLESALAK_REFUTED, 12, 2, 1, 8, 10));
+    EXPECT(says(check(2048, 4096, proof, sizeof proof), CABLESALAK_REFUTED, 12, 2, 1, 8, 10));
     EXPECT(vars[7] == 1 && lows[7] == 1 && highs[7] == 5 && vars[8] == 0 && lows[63] == 0);
     EXPECT(members[0] == 3 && members[3] == 7 && members[4] == 2 && members[5] == 0 && members[2047] == 0);
-    EXPECT(scratch[0] == 0 && scratch[4095] == 0);
-    EXPECT(says(check(4096, proof + 9, 4), CABLESALAK_NOT_SHOWN, 0, 0, 0, 8, 8));
-    EXPECT(says(check(4095, proof, sizeof proof), CABLESALAK_WRONG_SIZE, 0, 0, 0, 9, 0));
-    EXPECT(vars[0] == 0xA5 && members[2047] == 0xA5A5 && scratch[0] == 0xA5A5);
+    EXPECT(scratch[0] == 0 && scratch[4095] == 0 && marked(""));
+    EXPECT(says(check(2048, 4096, proof + 9, 4), CABLESALAK_NOT_SHOWN, 0, 0, 0, 8, 8));
+    EXPECT(says(check(2048, 4096, strikings, sizeof strikings), CABLESALAK_REFUTED, 18, 2, 1, 8, 10) && marked("11"));
+    EXPECT(says(check(2048, 4096, twice, sizeof twice), CABLESALAK_NO_SUCH_MEMBER, 3, 0, 0, 8, 8) && marked("01"));
+    EXPECT(refused_for_size(check(2048, 4095, proof, sizeof proof)));
+    EXPECT(refused_for_size(check(2047, 4096, proof, sizeof proof)));
+    EXPECT(refused_for_size(check(2049, 4096, proof, sizeof proof)));
 }
 
 /* The line at the start, what lies behind it as it was, and the status. */

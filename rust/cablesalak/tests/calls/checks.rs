@@ -16,8 +16,8 @@ const I_PROOF: &[u8] = b"\x4E\x03\0\0\x01\0\x4E\x02\0\0\x02\0\x4E\x02\x02\0\x01\
 /// Places of the table, formula, proof; number, place, lines, rounds, count, peak; the clauses that are left as members.
 type Row<'a> = (usize, &'a [u8], &'a [u8], (u8, usize, usize, u64, usize, usize), usize);
 
-/// Runs the row over dirty lists and over a workspace that other rows have used.
-fn run(row: &Row, workspace: &mut Workspace) {
+/// Runs the row over dirty lists and over a workspace that other rows have used. The marks are a digit for each member.
+fn run(row: &Row, marks: &str, workspace: &mut Workspace) {
     let (size, formula, proof, said, clauses) = *row;
     let mut lists = Lists::of_size(size);
     let verdict = lists.check(formula, proof);
@@ -26,7 +26,9 @@ fn run(row: &Row, workspace: &mut Workspace) {
     assert_eq!((number.code(), place, lines, rounds, count, peak), said, "{number}");
     assert_eq!(verdict.refuted(), number.code() == 0);
     assert_eq!(lists.count, verdict.count);
-    assert!(lists.zero_above(clauses + verdict.lines), "{number}");
+    let members = clauses + verdict.lines;
+    assert!(lists.zero_above(members), "{number}");
+    assert_eq!(lists.marks(members), marks, "{number}");
     if number.text() == Some(Text::Formula) {
         assert!(lists.count == 2 && lists.zero_above(0), "{number}");
     }
@@ -36,11 +38,11 @@ fn run(row: &Row, workspace: &mut Workspace) {
     if size == workspace.table().size() {
         assert_eq!(check(workspace, formula, proof), verdict);
         assert_eq!(workspace.table().count(), verdict.count);
-        assert!(
-            workspace.members().eq(lists.members[..clauses + verdict.lines].iter().copied().map(NodeNo)),
-            "{number}"
-        );
-        assert_eq!(workspace.member(clauses + verdict.lines), None);
+        assert!(workspace.members().eq(lists.members[..members].iter().copied().map(NodeNo)), "{number}");
+        assert_eq!((workspace.member(members), workspace.is_struck(members)), (None, None));
+        assert!(marks.bytes().enumerate().all(|(place, mark)| workspace.is_struck(place) == Some(mark == b'1')));
+        let live = (0..members).filter(|place| lists.struck[*place] == 0);
+        assert!(workspace.live_members().eq(live.map(|place| (place, NodeNo(lists.members[place])))), "{number}");
     }
     // The program's table has 4,096 places.
     if size == 4_096 {
@@ -50,10 +52,11 @@ fn run(row: &Row, workspace: &mut Workspace) {
     }
 }
 
+/// Rows that strike out nothing.
 fn run_all(rows: &[Row]) {
     let mut workspace = Workspace::new(4_096).unwrap();
     for row in rows {
-        run(row, &mut workspace);
+        run(row, &"0".repeat(row.4 + row.3 .2), &mut workspace);
     }
 }
 
@@ -139,6 +142,34 @@ fn records() {
         (4_096, D, b"\x45", (20, 0, 0, 0, 4, 4), 1),
         (3, b"p cnf 2 1\n1 0\n", b"\x4E\x02\0\0\x01\0", (23, 0, 0, 0, 3, 3), 1),
     ]);
+}
+
+/// A striking takes a member out of what later lines are judged by, and its mark stays, whatever refuses the proof.
+#[test]
+fn strikings() {
+    let mut workspace = Workspace::new(4_096).unwrap();
+    let twice: &[u8] = b"p cnf 1 2\n1 0 1 0\n";
+    let zero: &[u8] = b"p cnf 0 1\n0\n";
+    let rows: [(Row, &str); 11] = [
+        // Case A with clauses 0 and 1 struck once its first line has used them, and with a clause struck that is still wanted.
+        ((4_096, A, b"\x4E\x02\0\0\x01\0\x52\x02\0\x44\0\0\x44\x01\0\x52\0\0\x45", (0, 18, 2, 1, 8, 10), 4), "110000"),
+        ((4_096, A, b"\x44\0\0\x4E\x02\0\0\x01\0\x52\x02\0", (19, 9, 0, 0, 8, 9), 4), "1000"),
+        // In the middle of a line's entries; a 0 line counts though it be struck.
+        ((4_096, D, b"\x4E\x02\0\0\x01\0\x44\0\0\x52\x02\0", (19, 9, 0, 0, 4, 5), 1), "1"),
+        ((4_096, zero, b"\x52\0\0\x44\x01\0\x45", (0, 6, 1, 0, 2, 2), 1), "01"),
+        // 28 and what comes before it: 10, 16.
+        ((4_096, twice, b"\x44\x02\0", (28, 0, 0, 0, 3, 3), 2), "00"),
+        ((4_096, twice, b"\x44\xFF\xFF", (28, 0, 0, 0, 3, 3), 2), "00"),
+        ((4_096, twice, b"\x44\x01\0\x44\x01\0", (28, 3, 0, 0, 3, 3), 2), "01"),
+        ((4_096, twice, b"\x54\x01\x44\x09\0", (16, 2, 0, 0, 3, 3), 2), "00"),
+        ((4_096, twice, b"\x44\0\0\x44\x01", (10, 3, 0, 0, 3, 3), 2), "10"),
+        // All struck: no member, no conflict. Then a refused formula leaves no mark.
+        ((4_096, zero, b"\x44\0\0\x52\0\0\x45", (19, 3, 0, 0, 2, 2), 1), "1"),
+        ((4_096, b"p cnf 1 2\n1 0", b"\x44\0\0", (5, 13, 0, 0, 2, 3), 0), ""),
+    ];
+    for (row, marks) in &rows {
+        run(row, marks, &mut workspace);
+    }
 }
 
 #[test]

@@ -10,21 +10,23 @@ pub struct Lists {
     pub highs: Vec<u16>,
     pub count: usize,
     pub members: Vec<u16>,
+    pub struck: Vec<u8>,
     pub scratch: Vec<u16>,
 }
 
 impl Lists {
-    /// Lists of these lengths without a zero place.
+    /// Lists of these lengths, as many marks as members, without a zero place.
     pub fn dirty(size: usize, members: usize, scratch: usize) -> Lists {
         let word = |place: usize| (place as u16).wrapping_mul(40_503) | 1;
         let words = |length| (0..length).map(word).collect::<Vec<u16>>();
-        let vars = (0..size).map(|place| word(place) as u8).collect();
+        let bytes = |length| (0..length).map(|place| word(place) as u8).collect();
         Lists {
-            vars,
+            vars: bytes(size),
             lows: words(size),
             highs: words(size),
             count: 9,
             members: words(members),
+            struck: bytes(members),
             scratch: words(scratch),
         }
     }
@@ -39,9 +41,9 @@ impl Lists {
     }
 
     pub fn check(&mut self, formula: &[u8], proof: &[u8]) -> Verdict {
-        let Lists { vars, lows, highs, count, members, scratch } = self;
+        let Lists { vars, lows, highs, count, members, struck, scratch } = self;
         let mut table = TableMut::new(vars, lows, highs, count).expect("columns of proper size");
-        check_lent(&mut table, members, scratch, formula, proof)
+        check_lent(&mut table, members, struck, scratch, formula, proof)
     }
 
     /// The rows of the table from place 2 to its count, as variable, low, high.
@@ -49,12 +51,20 @@ impl Lists {
         (2..self.count).map(|place| (self.vars[place], self.lows[place], self.highs[place])).collect()
     }
 
-    /// Whether places 0 and 1, the places from the count on, the members past the first `members`, and the scratch list
-    /// are zero.
+    /// The first so many marks, a digit each.
+    pub fn marks(&self, members: usize) -> String {
+        self.struck[..members].iter().map(u8::to_string).collect()
+    }
+
+    /// Whether places 0 and 1, the places from the count on, the members and marks past the first `members`, and the scratch
+    /// list are zero.
     pub fn zero_above(&self, members: usize) -> bool {
         let outside = |place: &usize| *place < 2 || self.count <= *place;
         let blank = |place: usize| (self.vars[place], self.lows[place], self.highs[place]) == (0, 0, 0);
         let lists = self.members.iter().skip(members).chain(&self.scratch);
-        (0..self.vars.len()).filter(outside).all(blank) && lists.into_iter().all(|place| *place == 0)
+        let marks = self.struck.iter().skip(members);
+        (0..self.vars.len()).filter(outside).all(blank)
+            && lists.into_iter().all(|place| *place == 0)
+            && marks.into_iter().all(|mark| *mark == 0)
     }
 }

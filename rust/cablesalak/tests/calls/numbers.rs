@@ -8,17 +8,17 @@ fn each_has_its_code() {
     for (code, number) in (0..).zip(Number::all()) {
         assert_eq!((number.code(), Number::try_from(code)), (code, Ok(number)));
     }
-    assert_eq!(Number::all().count(), 28);
-    assert_eq!(Number::try_from(28), Err(NoSuchNumber(28)));
+    assert_eq!(Number::all().count(), 29);
+    assert_eq!(Number::try_from(29), Err(NoSuchNumber(29)));
 }
 
-/// "1 to 6 and 8: in the formula; 0 and 9 to 23: in the proof."
+/// "1 to 6 and 8: in the formula; 0, 9 to 23 and 28: in the proof."
 #[test]
 fn each_has_its_text() {
     for number in Number::all() {
         let text = match number.code() {
             1..=6 | 8 => Some(Text::Formula),
-            0 | 9..=23 => Some(Text::Proof),
+            0 | 9..=23 | 28 => Some(Text::Proof),
             _ => None,
         };
         assert_eq!(number.text(), text, "{number}");

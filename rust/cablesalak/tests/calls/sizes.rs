@@ -36,6 +36,27 @@ fn member_and_scratch_lists() {
     }
 }
 
+/// The marks are as many as the member list's places, neither fewer nor more, however long that list is.
+#[test]
+fn marks() {
+    for (members, marks) in [
+        (MEMBERS, 0),
+        (MEMBERS, MEMBERS - 1),
+        (MEMBERS, MEMBERS + 1),
+        (MEMBERS + 1, MEMBERS),
+        (MEMBERS + 700, MEMBERS),
+        (MEMBERS - 1, MEMBERS),
+        (0, 0),
+    ] {
+        let mut lists = Lists::dirty(16, members, SCRATCH);
+        lists.struck.resize(marks, 3);
+        let before = lists.clone();
+        let verdict = lists.check(b"p cnf 0 1\n0\n", b"\x44\0\0\x52\0\0\x45");
+        assert_eq!((verdict.number, verdict.to_string(), verdict.count), (Number::WrongSize, "7 0 0 0 0".into(), 9));
+        assert_eq!(lists, before, "{members} members, {marks} marks");
+    }
+}
+
 /// Lists that are longer than they need be are taken, and emptied to their end.
 #[test]
 fn longer_lists() {

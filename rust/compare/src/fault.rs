@@ -1,0 +1,193 @@
+//! Faults of a proof, one of them at a time.
+
+use crate::check::witness;
+use crate::diagram::Literals;
+use crate::families::Problem;
+use crate::proof::{strewn, Writer};
+use crate::random::Random;
+
+/// Records with a fault, for a place where so many lines of the problem's proof are accepted.
+pub fn write(random: &mut Random, writer: &mut Writer, problem: &Problem, lines: usize) {
+    let variables = problem.formula.variables;
+    let some = random.between(1, variables.max(1)) as u8;
+    match random.below(20) {
+        0 => writer.bytes.push(random.pick(&[0, 1, 0x43, 0x4d, 0x4f, 0x51, 0x53, 0x55, 0xff])),
+        1 => cut_short(random, writer, some),
+        2 => after_end(random, writer),
+        3 => wrong_variable(random, writer, variables),
+        4 => no_entry(random, writer, some),
+        5 | 13 => wrong_order(random, writer, variables),
+        6 => twice(random, writer, variables, some),
+        7 => left_over(random, writer, some),
+        8 => always_true(random, writer, some),
+        9 => not_made_true(random, writer, problem),
+        10 => writer.end(),
+        11 | 14 | 15 => not_shown(random, writer, problem),
+        12 => zero_lines(random, writer),
+        _ => strikings(random, writer, problem, problem.formula.clauses.len() + lines),
+    }
+}
+
+/// 10: a record cut short. Nothing may follow it, so what follows makes of it another record or another fault.
+fn cut_short(random: &mut Random, writer: &mut Writer, some: u8) {
+    match random.below(5) {
+        0 => drop(writer.node(some, 0, 1)),
+        1 => writer.line(0x52, 0),
+        2 => writer.line(0x50, 0),
+        3 => writer.strike(0),
+        _ => writer.witness(Literals { positive: 1 << (some - 1), negative: 0 }),
+    }
+    writer.bytes.truncate(random.between(1, writer.bytes.len() - 1));
+}
+
+/// 11 and 16 before 20: what follows the end record.
+fn after_end(random: &mut Random, writer: &mut Writer) {
+    if random.percent(30) {
+        writer.witness(Literals { positive: 1, negative: 0 });
+    }
+    writer.end();
+    for _ in 0..random.between(1, 3) {
+        writer.bytes.push(random.pick(&[0x45, 0, 0x4e, 0xff]));
+    }
+}
+
+fn wrong_variable(random: &mut Random, writer: &mut Writer, variables: usize) {
+    let variable = random.pick(&[0, 0, variables + 1, variables + 2, 65, 200, 255]) as u8;
+    match random.below(3) {
+        0 => drop(writer.node(variable, random.below(3) as u16, 1)),
+        kind => writer.bytes.extend([[0x54, 0x46][kind - 1], variable]),
+    }
+}
+
+fn no_entry(random: &mut Random, writer: &mut Writer, some: u8) {
+    for _ in 0..random.below(3) {
+        writer.node(some, 0, 1);
+    }
+    let entry = random.pick(&[2, 3, 4, 5, 256, 4097, 4098, 65_535]);
+    match random.below(4) {
+        0 => drop(writer.node(some, entry, 1)),
+        1 => drop(writer.node(some, 0, entry)),
+        2 => writer.line(0x52, entry),
+        _ => writer.line(0x50, entry),
+    }
+}
+
+/// 14: a variable that is not before its child's, or is, for the child's node counts and not its record.
+fn wrong_order(random: &mut Random, writer: &mut Writer, variables: usize) {
+    let below = random.between(1, variables.max(1)) as u8;
+    let above = if random.percent(70) {
+        random.between(below.into(), variables.max(1))
+    } else {
+        random.between(1, below.into())
+    } as u8;
+    let child = if random.percent(20) { writer.node(below, 1, 1) } else { writer.node(below, 0, 1) };
+    match random.below(3) {
+        0 => writer.node(above, child, 1),
+        1 => writer.node(above, 0, child),
+        _ => writer.node(above, child, child),
+    };
+    writer.line(0x52, child + 1);
+}
+
+fn twice(random: &mut Random, writer: &mut Writer, variables: usize, some: u8) {
+    if variables > 1 && random.percent(50) {
+        let other = random.between(1, variables) as u8;
+        writer.bytes.extend([0x54, other]);
+    }
+    writer.bytes.extend([random.pick(&[0x54, 0x46]), some]);
+    if random.percent(30) {
+        writer.node(some, 0, 1);
+    }
+    writer.bytes.extend([random.pick(&[0x54, 0x46]), some]);
+}
+
+fn left_over(random: &mut Random, writer: &mut Writer, some: u8) {
+    writer.bytes.extend([random.pick(&[0x54, 0x46]), some]);
+    match random.below(10) {
+        0..=3 => return writer.end(),
+        4..=5 => return writer.strike(random.below(4)),
+        _ => {}
+    }
+    let root = if random.percent(50) { writer.node(some, 0, 1) } else { random.below(2) as u16 };
+    writer.line(0x52, root);
+}
+
+fn always_true(random: &mut Random, writer: &mut Writer, some: u8) {
+    let root = if random.percent(50) { writer.node(some, 1, 1) } else { 1 };
+    if random.percent(30) {
+        writer.witness(Literals { positive: 1 << (some - 1), negative: 0 });
+        return writer.line(0x50, root);
+    }
+    writer.line(random.pick(&[0x50, 0x52]), root);
+}
+
+/// 18, mostly: a random diagram under a random witness.
+fn not_made_true(random: &mut Random, writer: &mut Writer, problem: &Problem) {
+    let mut store = problem.builder.store.clone();
+    let g = strewn(random, &mut store, problem.formula.variables);
+    let root = writer.entry(&store, g);
+    writer.witness(witness(random, problem.formula.variables));
+    writer.line(0x50, root);
+}
+
+/// 19, mostly: a random diagram as a line; in a PR line with a witness that makes it 1.
+fn not_shown(random: &mut Random, writer: &mut Writer, problem: &Problem) {
+    let mut store = problem.builder.store.clone();
+    for _ in 0..5 {
+        let g = strewn(random, &mut store, problem.formula.variables);
+        let literals = witness(random, problem.formula.variables);
+        let pr = store.restrict(g, literals) == 1;
+        if g != 1 && (pr || random.percent(50)) {
+            let root = writer.entry(&store, g);
+            if pr {
+                writer.witness(literals);
+            }
+            return writer.line(if pr { 0x50 } else { 0x52 }, root);
+        }
+    }
+    writer.line(0x52, 0);
+}
+
+/// Lines 0 of both kinds: 18, 19, or accepted.
+fn zero_lines(random: &mut Random, writer: &mut Writer) {
+    writer.line(random.pick(&[0x52, 0x50]), 0);
+    writer.line(0x52, 0);
+}
+
+/// 28, or a striking that is fine: twice, beyond the members, within a line, all members, the last one.
+fn strikings(random: &mut Random, writer: &mut Writer, problem: &Problem, members: usize) {
+    let some = random.below(members.max(1));
+    match random.below(8) {
+        0 => {
+            writer.strike(some);
+            for _ in 0..random.below(2) {
+                writer.line(0x52, 0);
+            }
+            writer.strike(some);
+        }
+        1 => writer.strike(members + random.pick(&[0, 0, 1, 2, 256])),
+        2 => writer.strike(random.pick(&[1024, 2047, 2048, 4096, 65_535])),
+        3 => {
+            not_shown(random, writer, problem);
+            writer.strike_within(random, some);
+        }
+        4 => all_struck(random, writer, problem, members),
+        5 => writer.strike(members.saturating_sub(1)),
+        _ => writer.strike(some),
+    }
+}
+
+/// Every member struck: no line by RUP, and a PR line for the asking.
+fn all_struck(random: &mut Random, writer: &mut Writer, problem: &Problem, members: usize) {
+    let mut order: Vec<usize> = (0..members).collect();
+    if random.percent(50) {
+        random.shuffle(&mut order);
+    }
+    if random.percent(10) {
+        order.pop();
+    }
+    for member in order {
+        writer.strike(member);
+    }
+    not_shown(random, writer, problem);
+}
