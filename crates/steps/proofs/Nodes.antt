@@ -1,33 +1,30 @@
 -- Node records: a node without room leaves the table as it was; one that is placed is the next entry, and all that is held stays held.
 -- Assumes nothing.
-use mathlib.Core.Path.{_≡_, refl, sym, ap, ap₂, _∙_, subst}
+use mathlib.Core.Path.{_≡_, refl, sym, ap, _∙_}
 use mathlib.Core.Bool.{Bool, true, false, cond}
 use mathlib.Core.List.{List, [], _∷_, _++_}
 use mathlib.Core.Option.{Option, none, some}
 use Prim.Native.Nat.{ℕ, suc, _+_, _≤_, _<_, max}
 use native.Mathlib.Omega.{arith}
-use native.Mathlib.Decide.{decLt}
-use lib.ListN.{length, getD, take, set, length-set}
+use lib.ListN.{length, set}
 use lib.Dec.{eqb, ltb}
-use lib.Seq.{take-suc-set, length-take-le, getD-set-same, getD-set-other, getD-take}
 use Rattle.meaning.specs.Diagram.{Diagram, branch}
 use Rattle.meaning.proofs.Canonical.{reduced-from, branch-reduced}
 use Rattle.table.specs.Nodes.{Node, nodeOf, at, diagramAt, Placing, full, placed, find, orAppend, put}
 use Rattle.table.specs.Indexed.{Table, size, nodesOf, indexed, Outcome, written}
 use Rattle.table.proofs.Order.{above-true, Ordered}
 use Rattle.meaning.proofs.Booleans.{t≢f}
-use Rattle.table.proofs.Numbers.{UsesTo, reduced-from-to}
+use Rattle.table.proofs.Numbers.{reduced-from-to}
 use Rattle.table.proofs.Written.{nodes-indexed, length-nodes, good-ordered}
 use Rattle.table.proofs.Placing.{put-place}
 use Rattle.table.proofs.Outcomes.{Grown, put-grown}
 use Rattle.records.specs.declared.NodeBody.{NodeBody}
 use Rattle.verdict.specs.Check as check
-use Rattle.verdict.specs.Check.{next, spent, entryNode, entered, nodeStep}
+use Rattle.verdict.specs.Check.{spent, entryNode, entered, nodeStep}
 use Rattle.verdict.proofs.Uses.{UsesAfter, place-uses}
-use Rattle.table.specs.Lists.{Inside}
 use Rattle.steps.specs.declared.State.{State}
 use Rattle.steps.specs.declared.Step.the-variants.{Next, Stop, Spent}
-use Rattle.steps.specs.States.{Lent, lentOf, tableIn, stateOf, withEntry, Held, Stepped}
+use Rattle.steps.specs.States.{Lent, tableIn, stateOf, withEntry, Held, Stepped}
 use Rattle.steps.specs.Tests.{nodeRefusal}
 use Rattle.steps.proofs.Stops.{unless, unless-refused, unless-none, node-is, NodeFits, node-fits, stopped}
 use Rattle.steps.proofs.Entries.{entry-in}

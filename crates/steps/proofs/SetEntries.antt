@@ -1,21 +1,20 @@
 -- Records of sets: their tests as one number; a diagram without room is dropped, so that the table is as it was; one that is placed is the next
 -- entry. The idea: the header's variables and 64 give one diagram where no set bit is beyond the header. Assumes nothing.
-use mathlib.Core.Path.{_≡_, refl, sym, ap, _∙_, subst}
+use mathlib.Core.Path.{_≡_, refl, sym, ap, _∙_}
 use mathlib.Core.Bool.{Bool, true, false, cond}
 use Prim.Native.Nat.{ℕ, suc, _-_, _*_, _%_, _^_, _≤_, _<_, max}
 use native.Mathlib.Omega.{arith}
-use lib.ListN.{length, take, set}
+use lib.ListN.{length, set}
 use lib.Dec.{eqb, leb}
 use lib.Seq.{length-take-le}
-use borrow.Author.Tests.{leb-false, lt-leb}
+use borrow.Author.Tests.{leb-false, lt-leb, le-leb, lt-ltb, le-ltb}
 use Rattle.meaning.specs.Diagram.{Diagram, Reduced}
-use Rattle.meaning.specs.Words.{inWord}
 use Rattle.meaning.proofs.Booleans.{t≢f}
 use Rattle.meaning.proofs.Values.{reduced-to}
 use Rattle.meaning.proofs.Words.{one-shifted}
 use Rattle.meaning.proofs.Sets.{parity-of-word, atLeast-of-word}
-use Rattle.table.specs.Nodes.{Node, Placing, full, placed, place}
-use Rattle.table.specs.Indexed.{Table, size, nodesOf, Outcome, written}
+use Rattle.table.specs.Nodes.{Placing, full, placed, place}
+use Rattle.table.specs.Indexed.{Table, size, nodesOf, Good, Outcome, written}
 use Rattle.table.proofs.Written.{nodes-indexed, length-nodes}
 use Rattle.table.proofs.Outcomes as outcomes
 use Rattle.table.proofs.Outcomes.{placeIn, droppedTo, Grown, longer, undone}
@@ -25,7 +24,7 @@ use Rattle.records.specs.declared.SetBody.{SetBody}
 use Rattle.verdict.specs.Check as check
 use Rattle.verdict.specs.Check.{stop, spent, entered, beyond, noParity, setDiagram, setStep}
 use Rattle.verdict.proofs.SetValues.{set-reduced}
-use Rattle.verdict.proofs.Uses.{UsesAfter, place-uses}
+use Rattle.verdict.proofs.Uses.{place-uses}
 use Rattle.steps.specs.declared.State.{State}
 use Rattle.steps.specs.declared.Step.the-variants.{Next, Stop, Spent}
 use Rattle.steps.specs.States.{Lent, tableIn, stateOf, withEntry, Held, Stepped}
@@ -57,15 +56,45 @@ pub set-fits : (n entries : ℕ) (kind : SetKind) (b : SetBody) → setRefusal n
 unfolding setRefusal beyond
 set-fits n entries kind b e = go (leb 4096 entries) (leb (2 ^ n) (b .set)) refl refl (noParity kind (b .byte)) e
   where
-    go : (x y : Bool) → leb 4096 entries ≡ x → leb (2 ^ n) (b .set) ≡ y → (z : Bool) → cond x 21 (cond y 12 (cond z 29 0)) ≡ 0 → SetFits n entries b
+    go : (x y : Bool) → leb 4096 entries ≡ x → leb (2 ^ n) (b .set) ≡ y → (z : Bool) → _≡_ {A = ℕ} (cond x 21 (cond y 12 (cond z 29 0))) 0 → SetFits n entries b
     go true y p q z e = absurd (omega arith)
     go false true p q z e = absurd (omega arith)
     go false false p q z e = record { few = leb-false 4096 entries p; within = leb-false (2 ^ n) (b .set) q }
+
+module _ (n entries : ℕ) (kind : SetKind) (b : SetBody) where
+  pub refuse-21 : 4096 ≤ entries → 21 ≡ setRefusal n entries kind b
+  unfolding setRefusal
+  refuse-21 h = rw (le-leb 4096 entries h)
+
+  module _ (few : entries < 4096) where
+    pub refuse-12 : beyond n (b .set) ≡ true → 12 ≡ setRefusal n entries kind b
+    unfolding setRefusal
+    refuse-12 e = rw (lt-leb 4096 entries few, e)
+
+    module _ (within : beyond n (b .set) ≡ false) where
+      pub refuse-29 : kind ≡ Parity → 1 < b .byte → 29 ≡ setRefusal n entries kind b
+      unfolding setRefusal
+      refuse-29 k h = rw (lt-leb 4096 entries few, within, k, lt-ltb 1 (b .byte) h)
+
+      pub refuse-none : kind ≡ Parity → b .byte ≤ 1 → 0 ≡ setRefusal n entries kind b
+      unfolding setRefusal
+      refuse-none k h = rw (lt-leb 4096 entries few, within, k, le-ltb 1 (b .byte) h)
+
+      pub any-byte : kind ≡ AtLeast → 0 ≡ setRefusal n entries kind b
+      unfolding setRefusal
+      any-byte k = rw (lt-leb 4096 entries few, within, k)
 
 -- no set bit beyond the header: 64 variables give the diagram of the header's
 set-64 : (n : ℕ) (kind : SetKind) (b : SetBody) → n ≤ 64 → b .set < 2 ^ n → setDiagram 64 kind b ≡ setDiagram n kind b
 set-64 n Parity b narrow within = parity-of-word n 64 (b .set) (eqb (b .byte) 1) narrow within
 set-64 n AtLeast b narrow within = atLeast-of-word n 64 (b .set) (b .byte) narrow within
+
+-- the diagram of a record's kind, made in the table
+pub kind-made : (T : Table) (kind kind′ : SetKind) (b : SetBody) → kind ≡ kind′ → (o : Outcome) → o ≡ placeIn T (setDiagram 64 kind′ b) → o ≡ placeIn T (setDiagram 64 kind b)
+kind-made T kind kind′ b e o made = made ∙ ap (λ (k : SetKind). placeIn T (setDiagram 64 k b)) (sym e)
+
+pub made-grown : (T : Table) → Good T → (kind : SetKind) (b : SetBody) (o : Outcome) → o ≡ placeIn T (setDiagram 64 kind b) → Grown T (setDiagram 64 kind b) o
+made-grown T G kind b o made = outcomes.grown T G (setDiagram 64 kind b) (set-reduced 64 kind b) o made
 
 -- no room: 23, with the count that was reached
 entered-full : (st : check.State) (s : ℕ) (p : Placing) → written s p .full ≡ true
@@ -128,9 +157,6 @@ module _ (n : ℕ) (L : Lent) (st : State) (kind : SetKind) (b : SetBody) (H : H
 
     grown : Grown T D o
     grown = outcomes.grown T (H .entries .good) D reduced o placed-is
-
-    pub set-grown : Grown T D o
-    set-grown = grown
 
     pub set-full : (T₂ : Table) → T₂ ≡ droppedTo (st .count) (o .table) → (peak : ℕ) → peak ≡ max (st .peak) (o .table .count) → o .full ≡ true
         → Stepped n L (lentWith T₂ (L .members) (L .scratch) (L .struck)) st said (Spent 23 peak)

@@ -1,16 +1,15 @@
 -- What holds while the clauses are made: the state is standing, the members are the clauses read so far, and what is left to be read is
 -- within the header. The idea: a clause looks at the variables of the header alone, so that its node has its values under every
 -- assignment, whatever its length. Assumes nothing.
-use mathlib.Core.Path.{_≡_, refl, sym, ap, ap₂, _∙_, subst}
-use mathlib.Core.Bool.{Bool, false, _||_, Bool·beq}
+use mathlib.Core.Path.{_≡_, refl, ap, ap₂, _∙_, subst}
+use mathlib.Core.Bool.{Bool, _||_, Bool·beq}
 use mathlib.Core.List.{List, [], _∷_, _++_, map, append-assoc}
 use Prim.Native.Nat.{ℕ, zero, suc, _+_, _-_, _≤_, _<_}
 use native.Mathlib.Omega.{arith}
-use lib.ListN.{length, getD, take, replicate, length-append, length-replicate}
-use lib.Seq.{getD-take, length-take-le}
+use lib.ListN.{length, length-append, length-replicate}
 use Rattle.meaning.specs.Diagram.{Assignment, holds, Diagram, value, Reduced}
 use Rattle.meaning.specs.Operations as meaning
-use Rattle.meaning.proofs.Values.{value-agree, diagram-reduced, diagram-value, reduced-to}
+use Rattle.meaning.proofs.Values.{diagram-reduced, reduced-to}
 use Rattle.meaning.proofs.Clauses.{Within}
 use Rattle.table.specs.Nodes.{Node, placed, place}
 use Rattle.table.proofs.Order.{Ordered}

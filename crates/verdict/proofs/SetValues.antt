@@ -1,8 +1,8 @@
 -- The diagram of a set's entry: reduced, with the header's variables alone, and with the value that 02 gives it under every assignment, whatever its
 -- length. The idea: variables beyond the set, and those that are missing, add no true one. Assumes nothing.
 use mathlib.Core.Path.{_≡_, refl, sym, ap, _∙_}
-use mathlib.Core.Bool.{Bool, true, false, _&&_, cond, Bool·beq, and-false}
-use mathlib.Core.List.{List, [], _∷_, _++_}
+use mathlib.Core.Bool.{Bool, false, _&&_, cond, Bool·beq, and-false}
+use mathlib.Core.List.{[], _∷_, _++_}
 use Prim.Native.Nat.{ℕ, zero, suc, _^_, _<_}
 use native.Mathlib.Omega.{arith}
 use lib.ListN.{replicate}

@@ -40,6 +40,10 @@ module _ (c : tie.After-r4) where
   abbrev start-from-r4 : tie.Start
   start-from-r4 = c .before .before .before .before .before .before .before .before .before .before .before .before
 
+module _ (c : tie.After-r5) where
+  abbrev start-from-r5 : tie.Start
+  start-from-r5 = c .before .before .before .before .before .before .before .before .before .before .before .before
+
 module _ (c : tie.After-end-step) where
   abbrev start-from-return-6 : tie.Start
   start-from-return-6 = c .before .before .before .before .before .before .before .before .before .before .before .before .before
@@ -77,9 +81,20 @@ module _ (c : tie.After-node-step-arg6) where
   abbrev start-from-node-step-call : tie.Start
   start-from-node-step-call = start-from-r r-from-node-step-call
 
+module _ (c : tie.After-set-step-arg6) where
+  abbrev r5-from-set-step-call : tie.After-r5
+  r5-from-set-step-call = c .before .before .before .before .before .before .before
+
+  abbrev start-from-set-step-call : tie.Start
+  start-from-set-step-call = start-from-r5 r5-from-set-step-call
+
 module _ (c : tie.After-node-step) where
   abbrev r-from-node-step : tie.After-r
   r-from-node-step = c .before .before .before .before .before .before .before .before
+
+module _ (c : tie.After-set-step) where
+  abbrev r5-from-set-step : tie.After-r5
+  r5-from-set-step = c .before .before .before .before .before .before .before .before
 
 module _ (c : tie.After-line-step-arg10) where
   abbrev r3-from-line-step-call : tie.After-r3
@@ -101,6 +116,16 @@ module _ (c : tie.After-slice-known16) where
 
   abbrev start-from-return : tie.Start
   start-from-return = start-from-r r-from-return
+
+module _ (c : tie.After-slice-known32) where
+  abbrev set-step-from-return-5 : tie.After-set-step
+  set-step-from-return-5 = c .before .before .before .before .before .before .before .before .before .before .before .before
+
+  abbrev r5-from-return-5 : tie.After-r5
+  r5-from-return-5 = r5-from-set-step set-step-from-return-5
+
+  abbrev start-from-return-5 : tie.Start
+  start-from-return-5 = start-from-r5 r5-from-return-5
 
 module _ (c : tie.After-slice-known25) where
   abbrev line-step-from-return-3 : tie.After-line-step
