@@ -1,6 +1,7 @@
 // Document 01's examples through the face, and 02's as they land: a line for each, its label and then the numbers that came.
 mod checks;
 mod comments;
+mod orders;
 mod print;
 mod singles;
 mod strikes;
@@ -31,4 +32,7 @@ fn main() {
     strikes::others();
     strikes::no_proof();
     strikes::too_few_marks();
+    orders::rounds();
+    orders::little_room();
+    orders::pr_with_more();
 }
