@@ -21,6 +21,8 @@ pub fn run_in<'a>(
     vars: &mut [u8],
     lows: &mut [u16],
     highs: &mut [u16],
+    heads: &mut [u16],
+    links: &mut [u16],
     formula: &'a [u8],
     proof: &'a [u8],
 ) {
@@ -31,6 +33,8 @@ pub fn run_in<'a>(
         vars,
         lows,
         highs,
+        heads,
+        links,
         9,
         &mut members,
         &mut struck,
@@ -47,7 +51,18 @@ pub fn run<'a>(label: &[u8], formula: &'a [u8], proof: &'a [u8]) {
     let mut vars = [0u8; 4096];
     let mut lows = [0u16; 4096];
     let mut highs = [0u16; 4096];
-    run_in(label, &mut vars, &mut lows, &mut highs, formula, proof);
+    let mut heads = [0u16; 8192];
+    let mut links = [0u16; 4096];
+    run_in(
+        label,
+        &mut vars,
+        &mut lows,
+        &mut highs,
+        &mut heads,
+        &mut links,
+        formula,
+        proof,
+    );
 }
 
 pub fn cases_a_to_c() {
@@ -95,11 +110,15 @@ pub fn one_place() {
     let mut vars = [0u8; 1];
     let mut lows = [0u16; 1];
     let mut highs = [0u16; 1];
+    let mut heads = [0u16; 2];
+    let mut links = [0u16; 1];
     run_in(
         b"7",
         &mut vars,
         &mut lows,
         &mut highs,
+        &mut heads,
+        &mut links,
         b"p cnf 0 0\n",
         b"\x45",
     );
@@ -109,11 +128,15 @@ pub fn two_places() {
     let mut vars = [0u8; 2];
     let mut lows = [0u16; 2];
     let mut highs = [0u16; 2];
+    let mut heads = [0u16; 4];
+    let mut links = [0u16; 2];
     run_in(
         b"8",
         &mut vars,
         &mut lows,
         &mut highs,
+        &mut heads,
+        &mut links,
         b"p cnf 1 1\n1 0\n",
         b"",
     );
@@ -123,12 +146,16 @@ pub fn three_places() {
     let mut vars = [0u8; 3];
     let mut lows = [0u16; 3];
     let mut highs = [0u16; 3];
+    let mut heads = [0u16; 6];
+    let mut links = [0u16; 3];
     let proof = b"\x4E\x02\x00\x00\x01\x00";
     run_in(
         b"23",
         &mut vars,
         &mut lows,
         &mut highs,
+        &mut heads,
+        &mut links,
         b"p cnf 2 1\n1 0\n",
         proof,
     );

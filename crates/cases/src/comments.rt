@@ -33,11 +33,15 @@ pub fn places() {
     let mut vars = [0u8; 2];
     let mut lows = [0u16; 2];
     let mut highs = [0u16; 2];
+    let mut heads = [0u16; 4];
+    let mut links = [0u16; 2];
     checks::run_in(
         b"8 c",
         &mut vars,
         &mut lows,
         &mut highs,
+        &mut heads,
+        &mut links,
         b"p cnf 1 1\nc\n1\nc\n0\n",
         b"",
     );

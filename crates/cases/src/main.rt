@@ -1,6 +1,7 @@
 // Document 01's examples through the face, and 02's as they land: a line for each, its label and then the numbers that came.
 mod checks;
 mod comments;
+mod indexes;
 mod orders;
 mod print;
 mod singles;
@@ -35,4 +36,8 @@ fn main() {
     orders::rounds();
     orders::little_room();
     orders::pr_with_more();
+    indexes::wrong_heads();
+    indexes::wrong_links();
+    indexes::single_calls();
+    indexes::checked();
 }

@@ -22,7 +22,18 @@ fn in_ten_places<'a>(label: &[u8], formula: &'a [u8], proof: &'a [u8]) {
     let mut vars = [0u8; 10];
     let mut lows = [0u16; 10];
     let mut highs = [0u16; 10];
-    checks::run_in(label, &mut vars, &mut lows, &mut highs, formula, proof);
+    let mut heads = [0u16; 20];
+    let mut links = [0u16; 10];
+    checks::run_in(
+        label,
+        &mut vars,
+        &mut lows,
+        &mut highs,
+        &mut heads,
+        &mut links,
+        formula,
+        proof,
+    );
 }
 
 pub fn little_room() {

@@ -4,7 +4,7 @@ use single::Evaluated;
 use single::call::Single;
 use table::NodeNo;
 
-fn print_single(label: &[u8], r: Single) {
+pub fn print_single(label: &[u8], r: Single) {
     let node = r.node;
     print::label(label);
     print::number(r.number as u64);
@@ -13,7 +13,7 @@ fn print_single(label: &[u8], r: Single) {
     print::end();
 }
 
-fn print_evaluated(label: &[u8], r: Evaluated) {
+pub fn print_evaluated(label: &[u8], r: Evaluated) {
     print::label(label);
     print::number(r.number as u64);
     print::number(r.yes as u64);
@@ -35,10 +35,30 @@ pub fn case_g() {
     let mut vars = [0u8, 0, 2, 2, 1, 1, 0];
     let mut lows = [0u16, 0, 0, 1, 2, 0, 0];
     let mut highs = [0u16, 0, 1, 0, 3, 1, 0];
-    let r = checker::cofactor(&mut vars, &mut lows, &mut highs, 6, NodeNo(2), NodeNo(4));
+    let mut heads = [4u16, 0, 0, 0, 0, 0, 0, 0, 0, 0, 0, 0, 5, 3];
+    let mut links = [0u16, 0, 0, 2, 0, 0, 0];
+    let r = checker::cofactor(
+        &mut vars,
+        &mut lows,
+        &mut highs,
+        &mut heads,
+        &mut links,
+        6,
+        NodeNo(2),
+        NodeNo(4),
+    );
     print_single(b"G", r);
     print_node(b"G node 6", &vars, &lows, &highs);
-    let s = checker::cofactor(&mut vars, &mut lows, &mut highs, 7, NodeNo(5), NodeNo(4));
+    let s = checker::cofactor(
+        &mut vars,
+        &mut lows,
+        &mut highs,
+        &mut heads,
+        &mut links,
+        7,
+        NodeNo(5),
+        NodeNo(4),
+    );
     print_single(b"G", s);
 }
 
@@ -46,13 +66,23 @@ pub fn wrong_size() {
     let mut vars = [0u8; 1];
     let mut lows = [0u16; 1];
     let mut highs = [0u16; 1];
+    let mut heads = [0u16; 2];
+    let mut links = [0u16; 1];
     print_evaluated(
         b"7 evaluate",
-        checker::evaluate(&vars, &lows, &highs, 2, NodeNo(1), 0),
+        checker::evaluate(&vars, &lows, &highs, &heads, &links, 2, NodeNo(1), 0),
     );
     print_single(
         b"7 negation",
-        checker::negation(&mut vars, &mut lows, &mut highs, 2, NodeNo(1)),
+        checker::negation(
+            &mut vars,
+            &mut lows,
+            &mut highs,
+            &mut heads,
+            &mut links,
+            2,
+            NodeNo(1),
+        ),
     );
 }
 
@@ -61,11 +91,22 @@ pub fn not_in_order() {
     let mut vars = [0u8, 0, 1];
     let mut lows = [0u16; 3];
     let mut highs = [0u16; 3];
+    let mut heads = [0u16, 2, 0, 0, 0, 0];
+    let mut links = [0u16; 3];
     print_evaluated(
         b"26 evaluate",
-        checker::evaluate(&vars, &lows, &highs, 3, NodeNo(1), 0),
+        checker::evaluate(&vars, &lows, &highs, &heads, &links, 3, NodeNo(1), 0),
     );
-    let r = checker::conjunction(&mut vars, &mut lows, &mut highs, 3, NodeNo(1), NodeNo(1));
+    let r = checker::conjunction(
+        &mut vars,
+        &mut lows,
+        &mut highs,
+        &mut heads,
+        &mut links,
+        3,
+        NodeNo(1),
+        NodeNo(1),
+    );
     print_single(b"26 conjunction", r);
 }
 
@@ -74,15 +115,45 @@ pub fn wrong_operands() {
     let mut vars = [0u8; 2];
     let mut lows = [0u16; 2];
     let mut highs = [0u16; 2];
+    let mut heads = [0u16; 4];
+    let mut links = [0u16; 2];
     print_evaluated(
         b"13 evaluate",
-        checker::evaluate(&vars, &lows, &highs, 2, NodeNo(2), 0),
+        checker::evaluate(&vars, &lows, &highs, &heads, &links, 2, NodeNo(2), 0),
     );
-    let r = checker::conjunction(&mut vars, &mut lows, &mut highs, 2, NodeNo(1), NodeNo(2));
+    let r = checker::conjunction(
+        &mut vars,
+        &mut lows,
+        &mut highs,
+        &mut heads,
+        &mut links,
+        2,
+        NodeNo(1),
+        NodeNo(2),
+    );
     print_single(b"13 conjunction", r);
-    let s = checker::cofactor(&mut vars, &mut lows, &mut highs, 2, NodeNo(1), NodeNo(0));
+    let s = checker::cofactor(
+        &mut vars,
+        &mut lows,
+        &mut highs,
+        &mut heads,
+        &mut links,
+        2,
+        NodeNo(1),
+        NodeNo(0),
+    );
     print_single(b"27 cofactor", s);
-    let t = checker::cofactor_literals(&mut vars, &mut lows, &mut highs, 2, NodeNo(1), 1, 1);
+    let t = checker::cofactor_literals(
+        &mut vars,
+        &mut lows,
+        &mut highs,
+        &mut heads,
+        &mut links,
+        2,
+        NodeNo(1),
+        1,
+        1,
+    );
     print_single(b"15 literals", t);
 }
 
@@ -91,6 +162,16 @@ pub fn full() {
     let mut vars = [0u8, 0, 1];
     let mut lows = [0u16; 3];
     let mut highs = [0u16, 0, 1];
-    let r = checker::negation(&mut vars, &mut lows, &mut highs, 3, NodeNo(2));
+    let mut heads = [2u16, 0, 0, 0, 0, 0];
+    let mut links = [0u16; 3];
+    let r = checker::negation(
+        &mut vars,
+        &mut lows,
+        &mut highs,
+        &mut heads,
+        &mut links,
+        3,
+        NodeNo(2),
+    );
     print_single(b"23 negation", r);
 }

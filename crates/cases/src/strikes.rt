@@ -20,6 +20,8 @@ fn run<'a>(label: &[u8], formula: &'a [u8], proof: &'a [u8]) {
     let mut vars = [0u8; 4096];
     let mut lows = [0u16; 4096];
     let mut highs = [0u16; 4096];
+    let mut heads = [0u16; 8192];
+    let mut links = [0u16; 4096];
     let mut members = [0u16; 2048];
     let mut struck = [1u8; 2048];
     let mut scratch = [0u16; 4096];
@@ -27,6 +29,8 @@ fn run<'a>(label: &[u8], formula: &'a [u8], proof: &'a [u8]) {
         &mut vars,
         &mut lows,
         &mut highs,
+        &mut heads,
+        &mut links,
         9,
         &mut members,
         &mut struck,
@@ -97,6 +101,8 @@ pub fn too_few_marks() {
     let mut vars = [0u8; 2];
     let mut lows = [0u16; 2];
     let mut highs = [0u16; 2];
+    let mut heads = [0u16; 4];
+    let mut links = [0u16; 2];
     let mut members = [0u16; 2048];
     let mut struck = [1u8; 2047];
     let mut scratch = [0u16; 4096];
@@ -104,6 +110,8 @@ pub fn too_few_marks() {
         &mut vars,
         &mut lows,
         &mut highs,
+        &mut heads,
+        &mut links,
         9,
         &mut members,
         &mut struck,

@@ -7,6 +7,7 @@ use table::NodeNo;
 ghost use mathlib.Core.Path.{_≡_};
 ghost use Rattle.session.specs.Checked.{outcomeOf};
 ghost use Rattle.single.specs.Single.{evaluation, madeOf, operation};
+ghost use Rattle.table.specs.Columns.{columnsMade};
 ghost use Rattle.verdict.specs.Check.{check};
 ghost use Rattle.verdict.specs.Satisfies.{Unsatisfiable};
 
@@ -15,13 +16,17 @@ pub fn evaluate(
     vars: &[u8],
     lows: &[u16],
     highs: &[u16],
+    heads: &[u16],
+    links: &[u16],
     count: usize,
     node: NodeNo,
     word: u64,
 ) -> Evaluated
-    ensures { λ r. ⌜ r ≡ evaluation (now (vars .entry)) (now (lows .entry)) (now (highs .entry)) count (node .0) word ⌝ }
+    ensures { λ r. ⌜ (
+        let lent = columnsMade (now (vars .entry)) (now (lows .entry)) (now (highs .entry)) (now (heads .entry)) (now (links .entry)) in
+        r ≡ evaluation lent count (node .0) word) ⌝ }
 {
-    single::evaluate(vars, lows, highs, count, node, word)
+    single::evaluate(vars, lows, highs, heads, links, count, node, word)
 }
 
 // The conjunction of f and g; or 7, 26, 13, 23.
@@ -29,14 +34,28 @@ pub fn conjunction(
     vars: &mut [u8],
     lows: &mut [u16],
     highs: &mut [u16],
+    heads: &mut [u16],
+    links: &mut [u16],
     count: usize,
     f: NodeNo,
     g: NodeNo,
 ) -> Single
-    ensures { λ r. ⌜ madeOf (now (vars .exit)) (now (lows .exit)) (now (highs .exit)) r
-        ≡ operation Operation.Conjunction (now (vars .entry)) (now (lows .entry)) (now (highs .entry)) count (f .0) (g .0) ⌝ }
+    ensures { λ r. ⌜ (
+        let lent = columnsMade (now (vars .entry)) (now (lows .entry)) (now (highs .entry)) (now (heads .entry)) (now (links .entry)) in
+        let left = columnsMade (now (vars .exit)) (now (lows .exit)) (now (highs .exit)) (now (heads .exit)) (now (links .exit)) in
+        madeOf left r ≡ operation Operation.Conjunction lent count (f .0) (g .0)) ⌝ }
 {
-    single::call::call(vars, lows, highs, count, Operation::Conjunction, f, g)
+    single::call::call(
+        vars,
+        lows,
+        highs,
+        heads,
+        links,
+        count,
+        Operation::Conjunction,
+        f,
+        g,
+    )
 }
 
 // The negation of f; or 7, 26, 13, 23.
@@ -44,13 +63,27 @@ pub fn negation(
     vars: &mut [u8],
     lows: &mut [u16],
     highs: &mut [u16],
+    heads: &mut [u16],
+    links: &mut [u16],
     count: usize,
     f: NodeNo,
 ) -> Single
-    ensures { λ r. ⌜ madeOf (now (vars .exit)) (now (lows .exit)) (now (highs .exit)) r
-        ≡ operation Operation.Negation (now (vars .entry)) (now (lows .entry)) (now (highs .entry)) count (f .0) 1 ⌝ }
+    ensures { λ r. ⌜ (
+        let lent = columnsMade (now (vars .entry)) (now (lows .entry)) (now (highs .entry)) (now (heads .entry)) (now (links .entry)) in
+        let left = columnsMade (now (vars .exit)) (now (lows .exit)) (now (highs .exit)) (now (heads .exit)) (now (links .exit)) in
+        madeOf left r ≡ operation Operation.Negation lent count (f .0) 1) ⌝ }
 {
-    single::call::call(vars, lows, highs, count, Operation::Negation, f, NodeNo(1))
+    single::call::call(
+        vars,
+        lows,
+        highs,
+        heads,
+        links,
+        count,
+        Operation::Negation,
+        f,
+        NodeNo(1),
+    )
 }
 
 // f cofactored by the diagram g; or 7, 26, 13, 27, 23.
@@ -58,14 +91,28 @@ pub fn cofactor(
     vars: &mut [u8],
     lows: &mut [u16],
     highs: &mut [u16],
+    heads: &mut [u16],
+    links: &mut [u16],
     count: usize,
     f: NodeNo,
     g: NodeNo,
 ) -> Single
-    ensures { λ r. ⌜ madeOf (now (vars .exit)) (now (lows .exit)) (now (highs .exit)) r
-        ≡ operation Operation.Cofactor (now (vars .entry)) (now (lows .entry)) (now (highs .entry)) count (f .0) (g .0) ⌝ }
+    ensures { λ r. ⌜ (
+        let lent = columnsMade (now (vars .entry)) (now (lows .entry)) (now (highs .entry)) (now (heads .entry)) (now (links .entry)) in
+        let left = columnsMade (now (vars .exit)) (now (lows .exit)) (now (highs .exit)) (now (heads .exit)) (now (links .exit)) in
+        madeOf left r ≡ operation Operation.Cofactor lent count (f .0) (g .0)) ⌝ }
 {
-    single::call::call(vars, lows, highs, count, Operation::Cofactor, f, g)
+    single::call::call(
+        vars,
+        lows,
+        highs,
+        heads,
+        links,
+        count,
+        Operation::Cofactor,
+        f,
+        g,
+    )
 }
 
 // f with the variables of `positive` made true and those of `negative` false; or 7, 26, 13, 15, 23.
@@ -73,18 +120,24 @@ pub fn cofactor_literals(
     vars: &mut [u8],
     lows: &mut [u16],
     highs: &mut [u16],
+    heads: &mut [u16],
+    links: &mut [u16],
     count: usize,
     f: NodeNo,
     positive: u64,
     negative: u64,
 ) -> Single
-    ensures { λ r. ⌜ madeOf (now (vars .exit)) (now (lows .exit)) (now (highs .exit)) r
-        ≡ operation (Operation.Literals positive negative) (now (vars .entry)) (now (lows .entry)) (now (highs .entry)) count (f .0) 1 ⌝ }
+    ensures { λ r. ⌜ (
+        let lent = columnsMade (now (vars .entry)) (now (lows .entry)) (now (highs .entry)) (now (heads .entry)) (now (links .entry)) in
+        let left = columnsMade (now (vars .exit)) (now (lows .exit)) (now (highs .exit)) (now (heads .exit)) (now (links .exit)) in
+        madeOf left r ≡ operation (Operation.Literals positive negative) lent count (f .0) 1) ⌝ }
 {
     single::call::call(
         vars,
         lows,
         highs,
+        heads,
+        links,
         count,
         Operation::Literals(positive, negative),
         f,
@@ -98,6 +151,8 @@ pub fn check<'a>(
     vars: &mut [u8],
     lows: &mut [u16],
     highs: &mut [u16],
+    heads: &mut [u16],
+    links: &mut [u16],
     count: usize,
     members: &mut [u16],
     struck: &mut [u8],
@@ -105,16 +160,20 @@ pub fn check<'a>(
     formula: &'a [u8],
     proof: &'a [u8],
 ) -> Checked
-    ensures { λ r. ⌜ outcomeOf (now (vars .exit)) (now (lows .exit)) (now (highs .exit)) (now (members .exit)) (now (struck .exit))
-        (now (scratch .exit)) r
-        ≡ check (now (vars .entry)) (now (lows .entry)) (now (highs .entry)) count (now (members .entry)) (now (struck .entry))
-        (now (scratch .entry)) (now (formula .entry)) (now (proof .entry)) ⌝ }
+    ensures { λ r. ⌜ (
+        let lent = columnsMade (now (vars .entry)) (now (lows .entry)) (now (highs .entry)) (now (heads .entry)) (now (links .entry)) in
+        let left = columnsMade (now (vars .exit)) (now (lows .exit)) (now (highs .exit)) (now (heads .exit)) (now (links .exit)) in
+        outcomeOf left (now (members .exit)) (now (struck .exit)) (now (scratch .exit)) r
+        ≡ check lent count (now (members .entry)) (now (struck .entry)) (now (scratch .entry))
+        (now (formula .entry)) (now (proof .entry))) ⌝ }
     ensures { λ r. ⌜ (r .number ≡ 0 → Unsatisfiable (now (formula .entry))) ⌝ }
 {
     session::call::call(
         vars,
         lows,
         highs,
+        heads,
+        links,
         count,
         members,
         scratch,

@@ -61,13 +61,13 @@ check-number i = go (checked i) (check-leaves i)
     go o (kept _ K) other another = K .number .0 other another
 
 -- "A refused single call changes nothing"; "with a refusal the node is 0".
-pub refused-changes-nothing : (op : Operation) (c : Columns) (count f g : ℕ) → operation op (c .vars) (c .lows) (c .highs) count f g .number ≢ 0
-    → operation op (c .vars) (c .lows) (c .highs) count f g ≡ unchanged (c .vars) (c .lows) (c .highs) count (operation op (c .vars) (c .lows) (c .highs) count f g .number)
+pub refused-changes-nothing : (op : Operation) (c : Columns) (count f g : ℕ) → operation op c count f g .number ≢ 0
+    → operation op c count f g ≡ unchanged c count (operation op c count f g .number)
 refused-changes-nothing op c count f g other = go (Singles.operation-says op c count f g)
   where
     o : Made
-    o = operation op (c .vars) (c .lows) (c .highs) count f g
+    o = operation op c count f g
 
-    go : Says op c count f g o → o ≡ unchanged (c .vars) (c .lows) (c .highs) count (o .number)
+    go : Says op c count f g o → o ≡ unchanged c count (o .number)
     go (answered z A) = absurd (other z)
     go (refused _ same) = same

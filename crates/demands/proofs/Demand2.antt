@@ -11,7 +11,7 @@ use Rattle.meaning.specs.Rules.{conflicts, byUnits, byDiagram}
 use Rattle.meaning.proofs.Nearest as Near
 use Rattle.meaning.proofs.Nearest.{Nearest, Satisfied}
 use Rattle.table.specs.Nodes.{diagramAt}
-use Rattle.table.specs.Columns.{Columns}
+use Rattle.table.specs.Columns.{Columns, columnsMade}
 use Rattle.dimacs.specs.Clauses.{formula}
 use Rattle.records.specs.declared.Rule.{Rule}
 use Rattle.records.specs.declared.Record.{Record}
@@ -81,7 +81,7 @@ eight-only = NoRoom.eight-only
 pub twenty-three-only : (i : Lent) → checked i .number ≡ 23 → AtRecord (places i) (i .text) (i .proof) (checked i .place)
 twenty-three-only = NoRoom.twenty-three-only
 
-pub operation-full : (op : Operation) (c : Columns) (count f g : ℕ) → operation op (c .vars) (c .lows) (c .highs) count f g .number ≡ 23
+pub operation-full : (op : Operation) (c : Columns) (count f g : ℕ) → operation op c count f g .number ≡ 23
     → Wants (length (c .vars)) (nodesIn c count) (result op (diagramAt (nodesIn c count) f) (diagramAt (nodesIn c count) g))
 operation-full = NoRoom.operation-full
 
@@ -129,7 +129,12 @@ set-entries = Tables.set-entries
 
 -- "7: table of 1 place"; "21: node record 4,097 of a line"; "22: line 1,025"; "26: node 2 = 1, 0, 0"; "27: f = 1, g = 0". 24 and 25 are the program's
 -- (report/proofs/Saying: `long-formula`, `long-proof`, `no-formula`, `no-proof`).
-pub seven : check (0 ∷ []) (0 ∷ []) (0 ∷ []) 1 (replicate 2048 0) (replicate 2048 0) (replicate 4096 0) (bytes A-formula) A-proof .number ≡ 7
+abbrev sized : Columns → ℕ
+sized c = check c 2 (replicate 2048 0) (replicate 2048 0) (replicate 4096 0) (bytes A-formula) A-proof .number
+
+pub seven : (sized (columnsMade (0 ∷ []) (0 ∷ []) (0 ∷ []) (0 ∷ 0 ∷ []) (0 ∷ [])) ≡ 7)
+    × (sized (columnsMade (0 ∷ 0 ∷ []) (0 ∷ 0 ∷ []) (0 ∷ 0 ∷ []) (0 ∷ 0 ∷ 0 ∷ []) (0 ∷ 0 ∷ [])) ≡ 7)
+    × (sized (columnsMade (0 ∷ 0 ∷ []) (0 ∷ 0 ∷ []) (0 ∷ 0 ∷ []) (0 ∷ 0 ∷ 0 ∷ 0 ∷ []) (0 ∷ 0 ∷ 0 ∷ [])) ≡ 7)
 seven = Tables.seven
 
 pub twenty-one : Gives (row 4096 "p cnf 1 0\n" (nodeRecords 4097) (prints 21 24576 0 0 3))
@@ -138,8 +143,15 @@ twenty-one = Rows.twenty-one
 pub twenty-two : Gives (row 4096 "p cnf 0 1\n0\n" (rupLines 1025) (prints 22 3072 1024 0 2))
 twenty-two = Rows.twenty-two
 
-pub twenty-six : operation Negation (0 ∷ 0 ∷ 1 ∷ []) (0 ∷ 0 ∷ 0 ∷ []) (0 ∷ 0 ∷ 0 ∷ []) 3 2 1 .number ≡ 26
+pub twenty-six : operation Negation (columnsMade (0 ∷ 0 ∷ 1 ∷ []) (0 ∷ 0 ∷ 0 ∷ []) (0 ∷ 0 ∷ 0 ∷ []) (0 ∷ 2 ∷ 0 ∷ 0 ∷ 0 ∷ 0 ∷ []) (0 ∷ 0 ∷ 0 ∷ [])) 3 2 1 .number ≡ 26
 twenty-six = Rows.twenty-six
 
-pub twenty-seven : operation Cofactor (0 ∷ 0 ∷ []) (0 ∷ 0 ∷ []) (0 ∷ 0 ∷ []) 2 1 0 .number ≡ 27
+pub twenty-seven : operation Cofactor (columnsMade (0 ∷ 0 ∷ []) (0 ∷ 0 ∷ []) (0 ∷ 0 ∷ []) (0 ∷ 0 ∷ 0 ∷ 0 ∷ []) (0 ∷ 0 ∷ [])) 2 1 0 .number ≡ 27
 twenty-seven = Rows.twenty-seven
+
+-- "It refuses [..] in single calls, a wrong one with 26": the index of one node, right and wrong. (02, 7/14)
+pub index-judged : (Rows.evaluatedWith (2 ∷ 0 ∷ 0 ∷ 0 ∷ 0 ∷ 0 ∷ []) (0 ∷ 0 ∷ 0 ∷ []) ≡ 0)
+    × (Rows.evaluatedWith (0 ∷ 0 ∷ 0 ∷ 0 ∷ 0 ∷ 0 ∷ []) (0 ∷ 0 ∷ 0 ∷ []) ≡ 26)
+    × (Rows.evaluatedWith (0 ∷ 2 ∷ 0 ∷ 0 ∷ 0 ∷ 0 ∷ []) (0 ∷ 0 ∷ 0 ∷ []) ≡ 26)
+    × (Rows.evaluatedWith (2 ∷ 0 ∷ 0 ∷ 0 ∷ 0 ∷ 0 ∷ []) (0 ∷ 0 ∷ 2 ∷ []) ≡ 26)
+index-judged = Rows.index-judged

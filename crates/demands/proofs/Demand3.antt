@@ -12,6 +12,7 @@ use Rattle.meaning.proofs.Nearest.{Nearest}
 use Rattle.table.specs.Nodes.{at, diagramAt}
 use Rattle.table.specs.Columns.{rows, Columns}
 use Rattle.table.proofs.Numbers as Numbers
+use Rattle.table.proofs.InOrder.{good-order}
 use Rattle.operate.specs.declared.Operation.{Operation}
 use Rattle.operate.specs.declared.Operation.the-variants.{Cofactor}
 use Rattle.single.specs.Single.{evaluation, operation}
@@ -31,13 +32,15 @@ use Rattle.demands.proofs.Lists as Lists
 -- Two node numbers are equal exactly when their values are equal under every assignment.
 pub numbers-equal : (c : Columns) (count : ℕ) → inGoodOrder c count ≡ true → (j k : ℕ) → j < count → k < count
     → (j ≡ k) ↔ ((a : Assignment) → length a ≡ 64 → valueAt c count j a ≡ valueAt c count k a)
-numbers-equal c count = Numbers.numbers-equal (rows (c .vars) (c .lows) (c .highs)) count
+numbers-equal c count order =
+    Numbers.numbers-equal (rows (c .vars) (c .lows) (c .highs)) count (good-order (rows (c .vars) (c .lows) (c .highs)) count (c .heads) (c .links) order)
 
 -- "any smaller n that no variable in use exceeds gives the same values"
 pub numbers-equal-to : (n : ℕ) (c : Columns) (count : ℕ) → inGoodOrder c count ≡ true
     → ((i : ℕ) → 2 ≤ i → i < count → at (rows (c .vars) (c .lows) (c .highs)) i .var ≤ n) → (j k : ℕ) → j < count → k < count
     → (j ≡ k) ↔ ((a : Assignment) → length a ≡ n → valueAt c count j a ≡ valueAt c count k a)
-numbers-equal-to n c count = Numbers.numbers-equal-to n (rows (c .vars) (c .lows) (c .highs)) count
+numbers-equal-to n c count order =
+    Numbers.numbers-equal-to n (rows (c .vars) (c .lows) (c .highs)) count (good-order (rows (c .vars) (c .lows) (c .highs)) count (c .heads) (c .links) order)
 
 -- "Node 0 has the value 0, node 1 the value 1; any other node has the value of its high where its variable is true, of its low where it is false."
 pub zero-value : (c : Columns) (count : ℕ) (a : Assignment) → valueAt c count 0 a ≡ false
@@ -54,27 +57,27 @@ node-value = Words.node-value
 
 -- For every table, count and operand: the call is refused, changes nothing and gives node 0; or it answers with a node of the table as left that has
 -- exactly 01's value of the operation under every assignment, the table as left is in good order, and every old number keeps its diagram.
-pub operation-says : (op : Operation) (c : Columns) (count f g : ℕ) → Says op c count f g (operation op (c .vars) (c .lows) (c .highs) count f g)
+pub operation-says : (op : Operation) (c : Columns) (count f g : ℕ) → Says op c count f g (operation op c count f g)
 operation-says = Singles.operation-says
 
 -- The same where number 0 is at hand.
-pub operation-answers : (op : Operation) (c : Columns) (count f g : ℕ) → operation op (c .vars) (c .lows) (c .highs) count f g .number ≡ 0
-    → Answers op c count f g (operation op (c .vars) (c .lows) (c .highs) count f g)
+pub operation-answers : (op : Operation) (c : Columns) (count f g : ℕ) → operation op c count f g .number ≡ 0
+    → Answers op c count f g (operation op c count f g)
 operation-answers op c count f g z = go (operation-says op c count f g)
   where
-    go : Says op c count f g (operation op (c .vars) (c .lows) (c .highs) count f g) → Answers op c count f g (operation op (c .vars) (c .lows) (c .highs) count f g)
+    go : Says op c count f g (operation op c count f g) → Answers op c count f g (operation op c count f g)
     go (answered _ A) = A
     go (refused other _) = absurd (other z)
 
 -- A cofactor's value is taken at an assignment that satisfies g, and none that does is nearer.
-pub cofactor-nearest : (c : Columns) (count f g : ℕ) → operation Cofactor (c .vars) (c .lows) (c .highs) count f g .number ≡ 0
+pub cofactor-nearest : (c : Columns) (count f g : ℕ) → operation Cofactor c count f g .number ≡ 0
     → (a : Assignment) → Nearest 64 (valueAt c count g) a (nearest 64 (valueAt c count g) a)
 cofactor-nearest = Singles.cofactor-nearest
 
 -- "Evaluation, where it does not refuse, says yes exactly when the node's value under the word's assignment is 1."
 pub evaluation-says : (c : Columns) (count f word : ℕ)
-    → (evaluation (c .vars) (c .lows) (c .highs) count f word .number ≡ 0 → evaluation (c .vars) (c .lows) (c .highs) count f word .yes ≡ valueAt c count f (assignmentOf 64 word))
-    × (evaluation (c .vars) (c .lows) (c .highs) count f word .number ≢ 0 → evaluation (c .vars) (c .lows) (c .highs) count f word .yes ≡ false)
+    → (evaluation c count f word .number ≡ 0 → evaluation c count f word .yes ≡ valueAt c count f (assignmentOf 64 word))
+    × (evaluation c count f word .number ≢ 0 → evaluation c count f word .yes ≡ false)
 evaluation-says = Singles.evaluation-says
 
 -- ---- the check
@@ -111,4 +114,4 @@ module _ (i : Lent) {n : ℕ} {st : State} {at : ℕ} {m : Meant} (R : Reached (
 
 -- Where 0 is said no assignment satisfies the formula's bytes, whatever the proof's bytes and whatever the lent places held.
 pub check-refuted : (i : Lent) → checked i .number ≡ 0 → Unsatisfiable (i .text)
-check-refuted i = Refuted.check-refuted (i .columns .vars) (i .columns .lows) (i .columns .highs) (i .count) (i .members) (i .struck) (i .scratch) (i .text) (i .proof)
+check-refuted i = Refuted.check-refuted (i .columns) (i .count) (i .members) (i .struck) (i .scratch) (i .text) (i .proof)

@@ -4,7 +4,7 @@ use mathlib.Core.Path.{_≡_, refl, sym, ap, ap₂, _∙_, subst}
 use mathlib.Core.Logic.{_≢_}
 use mathlib.Core.Bool.{Bool, true, false}
 use mathlib.Core.List.{List, [], _∷_, _++_, map}
-use Prim.Native.Nat.{ℕ, zero, suc, _+_, _-_, _≤_, _<_}
+use Prim.Native.Nat.{ℕ, zero, suc, _+_, _-_, _*_, _≤_, _<_}
 use native.Mathlib.Omega.{arith}
 use native.Mathlib.Decide.{decLt}
 use lib.ListN.{length, getD, take, replicate, length-append, length-map, length-replicate, List·getD-append, List·getD-eq-default}
@@ -15,9 +15,10 @@ use Rattle.meaning.specs.Diagram.{Assignment, Diagram, value}
 use Rattle.meaning.specs.Operations.{Literal, clauseValue}
 use Rattle.meaning.proofs.Booleans.{and-both}
 use Rattle.table.specs.Nodes.{Node, blank, diagramAt}
-use Rattle.table.specs.Columns.{sizeFits, padded, columnsOf}
+use Rattle.table.specs.Columns.{sizeFits, Columns, columnsMade, storedAs}
 use Rattle.table.proofs.Growth.{ordered-dropped}
-use Rattle.table.proofs.IndexOrder.{Sized, sized}
+use Rattle.table.proofs.Sizes.{Sized, sized}
+use Rattle.table.proofs.Emptied.{stored-emptied}
 use Rattle.verdict.specs.Check as verdict
 use Rattle.verdict.specs.Check.{State, isEntry, entryNode, Verdict, Outcome, lentFits, zeros, outcome, refusedFormula, left}
 use Rattle.verdict.specs.Run.{Function, Meant, entryMeant, lineFunctions, clauseFunctions, standsFor, Valued, Reached}
@@ -36,16 +37,6 @@ use Rattle.demands.proofs.Lent.{read-back, left-good}
 use Rattle.demands.proofs.Ending.{done, fits?, checked-fits, checked-seven}
 
 -- ---- lists
-
-map-blanks : (f : Node → ℕ) (k : ℕ) → f blank ≡ 0 → map f (replicate k blank) ≡ zeros k
-map-blanks f zero e = refl
-map-blanks f (suc k) e = ap₂ _∷_ e (map-blanks f k e)
-
-two-blanks : (f : Node → ℕ) (s : ℕ) → 2 ≤ s → f blank ≡ 0 → map f (padded s verdict.emptied) ≡ zeros s
-unfolding padded
-two-blanks f (suc (suc s)) two e = let z : suc (suc s) - 2 ≡ s = omega arith in rw z (ap₂ _∷_ e (ap₂ _∷_ e (map-blanks f s e)))
-two-blanks f (suc zero) two e = absurd (omega arith)
-two-blanks f zero two e = absurd (omega arith)
 
 zero-at : (k i : ℕ) → _≡_ {A = ℕ} (getD (zeros k) i 0) 0
 zero-at zero i = refl
@@ -70,17 +61,17 @@ clause-at (c ∷ cs) (suc k) p other = clause-at cs k (omega arith) other
 -- ---- sizes
 
 pub record Sizes (i : Lent) : Type 0 where
-  pub columns : Sized (i .columns .vars) (i .columns .lows) (i .columns .highs)
+  pub columns : Sized (i .columns .vars) (i .columns .lows) (i .columns .highs) (i .columns .heads) (i .columns .links)
   pub members : 2048 ≤ length (i .members)
   pub struck : length (i .struck) ≡ length (i .members)
 
 pub sizes : (i : Lent) → Fits i → Sizes i
 unfolding lentFits
 sizes i e =
-    let (size, lists) = and-both (sizeFits (i .columns .vars) (i .columns .lows) (i .columns .highs)) _ e in
+    let (size, lists) = and-both (sizeFits (i .columns .vars) (i .columns .lows) (i .columns .highs) (i .columns .heads) (i .columns .links)) _ e in
     let (members, marks) = and-both (leb 2048 (length (i .members))) _ lists in
     record {
-      columns = sized (i .columns .vars) (i .columns .lows) (i .columns .highs) size;
+      columns = sized (i .columns .vars) (i .columns .lows) (i .columns .highs) (i .columns .heads) (i .columns .links) size;
       members = leb-true 2048 (length (i .members)) members;
       struck = eqb-true (length (i .struck)) (length (i .members)) (and-both (eqb (length (i .struck)) (length (i .members))) _ marks .0);
     }
@@ -88,9 +79,12 @@ sizes i e =
 -- ---- a refused formula
 
 module _ (i : Lent) (S : Sizes i) where
+  zeroed : storedAs (places i) verdict.emptied ≡ columnsMade (zeros (places i)) (zeros (places i)) (zeros (places i)) (zeros (2 * places i)) (zeros (places i))
+  zeroed = stored-emptied (places i) (S .columns .least)
+
   refused-emptied : (number place peak : ℕ) → (1 ≤ number) × (number ≤ 8) × (number ≢ 7)
       → Reported (places i) (S .columns .least) (i .text) (i .proof) (refusedFormula number place peak) → Emptied i (done i (refusedFormula number place peak))
-  unfolding outcome columnsOf
+  unfolding outcome
   refused-emptied number place peak named P = record {
     number = named;
     lines = refl;
@@ -98,9 +92,11 @@ module _ (i : Lent) (S : Sizes i) where
     count = refl;
     peak = (P .least, P .most);
     filled = P .clause-full;
-    vars = two-blanks (λ x. x .var) (places i) (S .columns .least) refl;
-    lows = two-blanks (λ x. x .low) (places i) (S .columns .least) refl ∙ ap zeros (sym (S .columns .lows));
-    highs = two-blanks (λ x. x .high) (places i) (S .columns .least) refl ∙ ap zeros (sym (S .columns .highs));
+    vars = ap (λ (c : Columns). c .vars) zeroed;
+    lows = ap (λ (c : Columns). c .lows) zeroed ∙ ap zeros (sym (S .columns .lows));
+    highs = ap (λ (c : Columns). c .highs) zeroed ∙ ap zeros (sym (S .columns .highs));
+    heads = ap (λ (c : Columns). c .heads) zeroed ∙ ap zeros (sym (S .columns .heads));
+    links = ap (λ (c : Columns). c .links) zeroed ∙ ap zeros (sym (S .columns .links));
     members = let z : length (i .members) - 0 ≡ length (i .members) = omega arith in ap zeros z;
     struck = let z : length (i .members) - 0 ≡ length (i .struck) = omega (arith, S .struck) in ap zeros z;
     scratch = refl;
@@ -127,7 +123,7 @@ module _ (i : Lent) (S : Sizes i) {n : ℕ} {st : State} {at : ℕ} {m : Meant} 
   room : length t ≤ places i
   room = omega (arith, len, stands .room (S .columns .least), stands .kept)
 
-  back : nodesIn (columnsOf (padded (places i) t)) (length t) ≡ t
+  back : nodesIn (storedAs (places i) t) (length t) ≡ t
   back = read-back (places i) t
 
   few : length (take (st .lines) (lineFunctions (i .proof))) ≡ st .lines

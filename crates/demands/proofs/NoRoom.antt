@@ -21,14 +21,15 @@ use Rattle.meaning.proofs.Values.{reduced-to, diagram-reduced}
 use Rattle.meaning.proofs.Pointwise.{negation-reduced, literals-reduced}
 use Rattle.meaning.proofs.Cofactor.{cofactor-reduced}
 use Rattle.meaning.proofs.Ends.{AllReduced, map-reduced, byUnits-reduced}
-use Rattle.table.specs.Nodes.{Node, above, goodOrder, diagramAt, Placing, full, placed, put, place}
+use Rattle.table.specs.Nodes.{Node, above, diagramAt, Placing, full, placed, put, place}
 use Rattle.table.specs.Columns.{rows, sizeFits, Columns}
 use Rattle.table.specs.Making.{Room, short, all, afterPlacing, placedAll, reached, turnsReach, keptReach, lineReach}
-use Rattle.table.proofs.Order.{Ordered, above-true, GoodOrder, good-order}
+use Rattle.table.proofs.Order.{Ordered, above-true, GoodPlaces}
 use Rattle.table.proofs.Numbers.{uses-64}
 use Rattle.table.proofs.Placing.{After, place-after, put-place}
 use Rattle.table.proofs.Written.{length-rows}
-use Rattle.table.proofs.IndexOrder.{Sized, sized}
+use Rattle.table.proofs.Sizes.{Sized, sized}
+use Rattle.table.proofs.InOrder.{good-order}
 use Rattle.records.specs.declared.NodeBody.{NodeBody}
 use Rattle.records.specs.declared.Rule.{Rule}
 use Rattle.records.specs.declared.Rule.the-variants.{Rup, Pr}
@@ -50,7 +51,7 @@ use Rattle.verdict.proofs.Formula.{NamedHeader, header-named}
 use Rattle.verdict.proofs.Clauses.{underway}
 use Rattle.verdict.proofs.Ends.{reached-standing}
 use Rattle.verdict.proofs.Numbers.{making-refused, Numbered, step-numbered}
-use Rattle.demands.specs.Calls.{nodesIn}
+use Rattle.demands.specs.Calls.{nodesIn, inGoodOrder}
 use Rattle.demands.specs.Leaving.{Lent, checked, Fits, places, Ends, wrong-size, at-place}
 use Rattle.demands.specs.Full.{Wants, ListWants, now, later, TurnWants, this, next as next-turn, LineWants, in-base, in-turn, RecordWants, AtClause, AtRecord}
 use Rattle.demands.proofs.Singles.{not-refused}
@@ -344,13 +345,13 @@ twenty-three-only i z = go (checked i) (check-ends i) z
         record { n = n; state = st; meant = m; reached = R; wants = record-wants S narrow (at-least-two i e) (follows (i .proof) at) (recordAt (i .proof) at) (rw z at q) }
 
 -- 23 of a single call.
-pub operation-full : (op : Operation) (c : Columns) (count f g : ℕ) → operation op (c .vars) (c .lows) (c .highs) count f g .number ≡ 23
+pub operation-full : (op : Operation) (c : Columns) (count f g : ℕ) → operation op c count f g .number ≡ 23
     → Wants (length (c .vars)) (nodesIn c count) (result op (diagramAt (nodesIn c count) f) (diagramAt (nodesIn c count) g))
 unfolding operation refusal
 operation-full op c count f g z = go (eqb n 0) refl (eqb m 0) refl z
   where
     n : ℕ
-    n = refusal (c .vars) (c .lows) (c .highs) count f g
+    n = refusal c count f g
 
     m : ℕ
     m = operandRefusal op g
@@ -365,20 +366,20 @@ operation-full op c count f g z = go (eqb n 0) refl (eqb m 0) refl z
     s = length (c .vars)
 
     unchanged : ℕ → Made
-    unchanged = single.unchanged (c .vars) (c .lows) (c .highs) count
+    unchanged = single.unchanged c count
 
-    placing : Ordered t₀ → length t₀ ≤ s → (p : Placing) → place s t₀ D ≡ p → madeBy (c .vars) (c .lows) (c .highs) count p .number ≡ 23 → Wants s t₀ D
+    placing : Ordered t₀ → length t₀ ≤ s → (p : Placing) → place s t₀ D ≡ p → madeBy c count p .number ≡ 23 → Wants s t₀ D
     placing O room (full t′) q z = place-wants s t₀ O room D (result-reduced op (diagramAt t₀ f) (diagramAt t₀ g)) t′ q
     placing O room (placed t′ k) q z = absurd (omega arith)
 
     go : (a : Bool) → eqb n 0 ≡ a → (b : Bool) → eqb m 0 ≡ b
-        → cond a (cond b (madeBy (c .vars) (c .lows) (c .highs) count (place s t₀ D)) (unchanged m)) (unchanged n) .number ≡ 23 → Wants s t₀ D
+        → cond a (cond b (madeBy c count (place s t₀ D)) (unchanged m)) (unchanged n) .number ≡ 23 → Wants s t₀ D
     go true e true h z =
-        let (fits, order, _) = not-refused (sizeFits (c .vars) (c .lows) (c .highs)) (goodOrder (rows (c .vars) (c .lows) (c .highs)) count) (ltb f count && ltb g count) (eqb-true n 0 e) in
-        let G : GoodOrder (rows (c .vars) (c .lows) (c .highs)) count = good-order (rows (c .vars) (c .lows) (c .highs)) count order in
-        let S : Sized (c .vars) (c .lows) (c .highs) = sized (c .vars) (c .lows) (c .highs) fits in
+        let (fits, order, _) = not-refused (sizeFits (c .vars) (c .lows) (c .highs) (c .heads) (c .links)) (inGoodOrder c count) (ltb f count && ltb g count) (eqb-true n 0 e) in
+        let G : GoodPlaces (rows (c .vars) (c .lows) (c .highs)) count = good-order (rows (c .vars) (c .lows) (c .highs)) count (c .heads) (c .links) order in
+        let S : Sized (c .vars) (c .lows) (c .highs) (c .heads) (c .links) = sized (c .vars) (c .lows) (c .highs) (c .heads) (c .links) fits in
         let len : length t₀ ≡ count = length-take-le count (rows (c .vars) (c .lows) (c .highs)) (G .within) in
         let size : length (rows (c .vars) (c .lows) (c .highs)) ≡ s = length-rows (c .vars) (c .lows) (c .highs) (S .lows) (S .highs) in
         placing (G .ordered) (omega (arith, G .within)) (place s t₀ D) refl z
     go true e false h z = absurd (operand-other op g z)
-    go false e b h z = absurd (refusal-other (sizeFits (c .vars) (c .lows) (c .highs)) (goodOrder (rows (c .vars) (c .lows) (c .highs)) count) (ltb f count && ltb g count) z)
+    go false e b h z = absurd (refusal-other (sizeFits (c .vars) (c .lows) (c .highs) (c .heads) (c .links)) (inGoodOrder c count) (ltb f count && ltb g count) z)

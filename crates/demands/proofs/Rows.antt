@@ -12,8 +12,9 @@ use Rattle.meaning.specs.Diagram.{Diagram, leaf, same, value, valueFrom, diagra
 use Rattle.meaning.specs.Operations as meaning
 use Rattle.meaning.specs.Operations.{negation}
 use Rattle.meaning.specs.Rules.{Line, any, conflicts, propagate, unitProp, byDiagram, rup}
-use Rattle.table.specs.Nodes.{Node, nodeOf, above, goodOrder, diagramAt, placed, put, place}
-use Rattle.table.specs.Columns.{rows, sizeFits}
+use Rattle.table.specs.Nodes.{Node, nodeOf, above, diagramAt, placed, put, place}
+use Rattle.table.specs.Index.{bucket, goodOrder}
+use Rattle.table.specs.Columns.{rows, sizeFits, columnsMade}
 use Rattle.table.specs.Making.{all, afterPlacing, placedAll, turnsReach, lineReach}
 use Rattle.dimacs.specs.Header.{header}
 use Rattle.dimacs.specs.Clauses.{complete, clausesFrom}
@@ -23,7 +24,7 @@ use Rattle.records.specs.declared.Record.{Record}
 use Rattle.records.specs.declared.Record.the-variants.{NodeEntry, ProofLine, CutShort}
 use Rattle.records.specs.Records.{lowByteFirst, recordIn, recordAt, lengthOf}
 use Rattle.operate.specs.declared.Operation.the-variants.{Negation, Cofactor}
-use Rattle.single.specs.Single.{operation}
+use Rattle.single.specs.Single.{evaluation, operation}
 use Rattle.verdict.specs.Check.{State, emptied, begun, isEntry, entryNode, nodeStep, waiting, accepted, unstruck, lineStep, step}
 use Rattle.verdict.specs.Run.{Meant, afterRecord, withEntry, NodeTaken, lineOf, peakWith, LineTaken, Taken, Making, opened, made, Reached, begins, goes}
 use Rattle.verdict.specs.Cases.{Gives, checked, prints, printed, bytes, over, rupLine}
@@ -297,11 +298,23 @@ twenty-two =
 -- ---- the single calls
 
 -- "26: table not in good order: node 2 = 1, 0, 0"
-pub twenty-six : operation Negation (0 ∷ 0 ∷ 1 ∷ []) (0 ∷ 0 ∷ 0 ∷ []) (0 ∷ 0 ∷ 0 ∷ []) 3 2 1 .number ≡ 26
-unfolding operation sizeFits goodOrder rows
+pub twenty-six : operation Negation (columnsMade (0 ∷ 0 ∷ 1 ∷ []) (0 ∷ 0 ∷ 0 ∷ []) (0 ∷ 0 ∷ 0 ∷ []) (0 ∷ 2 ∷ 0 ∷ 0 ∷ 0 ∷ 0 ∷ []) (0 ∷ 0 ∷ 0 ∷ [])) 3 2 1 .number ≡ 26
+unfolding operation sizeFits goodOrder rows bucket
 twenty-six = refl
 
 -- "27: cofactor by 0: f = 1, g = 0"
-pub twenty-seven : operation Cofactor (0 ∷ 0 ∷ []) (0 ∷ 0 ∷ []) (0 ∷ 0 ∷ []) 2 1 0 .number ≡ 27
-unfolding operation sizeFits goodOrder rows
+pub twenty-seven : operation Cofactor (columnsMade (0 ∷ 0 ∷ []) (0 ∷ 0 ∷ []) (0 ∷ 0 ∷ []) (0 ∷ 0 ∷ 0 ∷ 0 ∷ []) (0 ∷ 0 ∷ [])) 2 1 0 .number ≡ 27
+unfolding operation sizeFits goodOrder rows bucket
 twenty-seven = refl
+
+-- "and, in single calls, a wrong one with 26": node 2 is variable 1, of chain 0 among 6; with its own head, with none, with that of chain 1, with a link
+-- past the count. (02, 7/14)
+abbrev pub evaluatedWith : List ℕ → List ℕ → ℕ
+evaluatedWith heads links = evaluation (columnsMade (0 ∷ 0 ∷ 1 ∷ []) (0 ∷ 0 ∷ 0 ∷ []) (0 ∷ 0 ∷ 1 ∷ []) heads links) 3 2 0 .number
+
+pub index-judged : (evaluatedWith (2 ∷ 0 ∷ 0 ∷ 0 ∷ 0 ∷ 0 ∷ []) (0 ∷ 0 ∷ 0 ∷ []) ≡ 0)
+    × (evaluatedWith (0 ∷ 0 ∷ 0 ∷ 0 ∷ 0 ∷ 0 ∷ []) (0 ∷ 0 ∷ 0 ∷ []) ≡ 26)
+    × (evaluatedWith (0 ∷ 2 ∷ 0 ∷ 0 ∷ 0 ∷ 0 ∷ []) (0 ∷ 0 ∷ 0 ∷ []) ≡ 26)
+    × (evaluatedWith (2 ∷ 0 ∷ 0 ∷ 0 ∷ 0 ∷ 0 ∷ []) (0 ∷ 0 ∷ 2 ∷ []) ≡ 26)
+unfolding evaluation sizeFits goodOrder rows bucket
+index-judged = (refl, refl, refl, refl)

@@ -18,7 +18,8 @@ use Rattle.meaning.proofs.Cofactor.{cofactor-reduced}
 use Rattle.meaning.proofs.Ends.{AllReduced, map-reduced, byUnits-reduced, more-rounds}
 use Rattle.table.specs.Nodes.{at}
 use Rattle.table.specs.Columns.{rows, Columns}
-use Rattle.table.proofs.Order.{GoodOrder, good-order}
+use Rattle.table.proofs.Order.{GoodPlaces}
+use Rattle.table.proofs.InOrder.{good-order}
 use Rattle.table.proofs.Numbers.{diagramAt-zero, diagramAt-one, diagramAt-node}
 use Rattle.demands.specs.Calls.{nodesIn, inGoodOrder, valueAt}
 use Rattle.demands.specs.Words.{memberAt, Conflict, is-zero, negated}
@@ -106,6 +107,6 @@ pub node-value : (c : Columns) (count : ℕ) → inGoodOrder c count ≡ true �
     → valueAt c count k a ≡ cond (holds a (at (nodesIn c count) k .var)) (valueAt c count (at (nodesIn c count) k .high) a) (valueAt c count (at (nodesIn c count) k .low) a)
 unfolding valueFrom
 node-value c count order k two inside a =
-    let G : GoodOrder (rows (c .vars) (c .lows) (c .highs)) count = good-order (rows (c .vars) (c .lows) (c .highs)) count order in
+    let G : GoodPlaces (rows (c .vars) (c .lows) (c .highs)) count = good-order (rows (c .vars) (c .lows) (c .highs)) count (c .heads) (c .links) order in
     let len : length (nodesIn c count) ≡ count = length-take-le count (rows (c .vars) (c .lows) (c .highs)) (G .within) in
     ap (λ (D : Diagram). value D a) (diagramAt-node (nodesIn c count) (G .ordered) k two (omega arith))

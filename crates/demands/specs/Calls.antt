@@ -9,7 +9,8 @@ use lib.ListN.{length, take}
 use Rattle.meaning.specs.Diagram.{Assignment, value}
 use Rattle.meaning.specs.Operations.{forced, nearest}
 use Rattle.meaning.specs.Words.{inWord}
-use Rattle.table.specs.Nodes.{Node, goodOrder, diagramAt}
+use Rattle.table.specs.Nodes.{Node, diagramAt}
+use Rattle.table.specs.Index.{goodOrder}
 use Rattle.table.specs.Columns.{rows, Columns}
 use Rattle.operate.specs.declared.Operation.{Operation}
 use Rattle.operate.specs.declared.Operation.the-variants.{Conjunction, Negation, Cofactor, Literals}
@@ -17,13 +18,13 @@ use Rattle.single.specs.Single.{Made, unchanged}
 
 -- ---- lent columns
 
--- The nodes that three columns hold below a count.
+-- The nodes that the columns hold below a count.
 abbrev pub nodesIn : Columns → ℕ → List Node
 nodesIn c count = take count (rows (c .vars) (c .lows) (c .highs))
 
--- Three columns with a count are in good order, every place of them. (01, The table)
+-- The columns with a count are in good order, every place of them, and so is the index. (01, The table; 02, 7/14)
 abbrev pub inGoodOrder : Columns → ℕ → Bool
-inGoodOrder c count = goodOrder (rows (c .vars) (c .lows) (c .highs)) count
+inGoodOrder c count = goodOrder (rows (c .vars) (c .lows) (c .highs)) count (c .heads) (c .links)
 
 -- "Node 0 has the value 0, node 1 the value 1; any other node has the value of its high where its variable is true, of its low
 -- where it is false." (01, Values; `node-value` is that sentence)
@@ -53,4 +54,4 @@ pub record Answers (op : Operation) (c : Columns) (count f g : ℕ) (o : Made) :
 -- "A refused single call changes nothing"; "with a refusal the node is 0". (01, What the call says and leaves)
 pub data Says (op : Operation) (c : Columns) (count f g : ℕ) (o : Made) : Type 0 where
   answered : o .number ≡ 0 → Answers op c count f g o → Says op c count f g o
-  refused : o .number ≢ 0 → o ≡ unchanged (c .vars) (c .lows) (c .highs) count (o .number) → Says op c count f g o
+  refused : o .number ≢ 0 → o ≡ unchanged c count (o .number) → Says op c count f g o

@@ -23,8 +23,8 @@ use Rattle.verdict.specs.MetFirst.{Met, metBy}
 use Rattle.verdict.specs.Satisfies.{clausesOf, readToEnd}
 use Rattle.demands.specs.Calls.{valueAt, inGoodOrder}
 
--- What is handed to the check: the columns with their count, the member list and its marks, the scratch list, the bytes of formula and
--- proof.
+-- What is handed to the check: the columns with their index and count, the member list and its marks, the scratch list, the bytes of
+-- formula and proof.
 pub record Lent : Type 0 where
   pub columns : Columns
   pub count : ℕ
@@ -36,12 +36,11 @@ pub record Lent : Type 0 where
 
 -- What the call says and leaves: the definition that the contracts of `checker`, `nodes` and `export` cite.
 abbrev pub checked : Lent → Outcome
-checked i =
-    check (i .columns .vars) (i .columns .lows) (i .columns .highs) (i .count) (i .members) (i .struck) (i .scratch) (i .text) (i .proof)
+checked i = check (i .columns) (i .count) (i .members) (i .struck) (i .scratch) (i .text) (i .proof)
 
--- The sizes that are asked of what is lent. (01, What is checked; 02, 3/14)
+-- The sizes that are asked of what is lent. (01, What is checked; 02, 3/14 and 7/14)
 abbrev pub Fits : Lent → Type 0
-Fits i = lentFits (i .columns .vars) (i .columns .lows) (i .columns .highs) (i .members) (i .struck) (i .scratch) ≡ true
+Fits i = lentFits (i .columns) (i .members) (i .struck) (i .scratch) ≡ true
 
 -- The size of the table.
 abbrev pub places : Lent → ℕ
@@ -88,6 +87,8 @@ pub record Emptied (i : Lent) (o : Outcome) : Type 0 where
   pub vars : o .columns .vars ≡ zeros (length (i .columns .vars))
   pub lows : o .columns .lows ≡ zeros (length (i .columns .lows))
   pub highs : o .columns .highs ≡ zeros (length (i .columns .highs))
+  pub heads : o .columns .heads ≡ zeros (length (i .columns .heads))
+  pub links : o .columns .links ≡ zeros (length (i .columns .links))
   pub members : o .members ≡ zeros (length (i .members))
   pub struck : o .struck ≡ zeros (length (i .struck))
   pub scratch : o .scratch ≡ zeros (length (i .scratch))

@@ -12,6 +12,7 @@ ghost use Rattle.report.specs.Files.{said, statusOf};
 ghost use Rattle.report.specs.Line.{lineBytes};
 ghost use Rattle.session.specs.Checked.{outcomeOf};
 ghost use Rattle.single.specs.Single.{evaluation, madeOf, operation};
+ghost use Rattle.table.specs.Columns.{columnsMade};
 ghost use Rattle.verdict.specs.Check.{check};
 ghost use Rattle.verdict.specs.Satisfies.{Unsatisfiable};
 
@@ -21,13 +22,17 @@ pub extern "C" fn cablesalak_evaluate(
     vars: &[u8],
     lows: &[u16],
     highs: &[u16],
+    heads: &[u16],
+    links: &[u16],
     count: usize,
     node: u16,
     word: u64,
 ) -> Evaluated
-    ensures { λ r. ⌜ r ≡ evaluation (now (vars .entry)) (now (lows .entry)) (now (highs .entry)) count node word ⌝ }
+    ensures { λ r. ⌜ (
+        let lent = columnsMade (now (vars .entry)) (now (lows .entry)) (now (highs .entry)) (now (heads .entry)) (now (links .entry)) in
+        r ≡ evaluation lent count node word) ⌝ }
 {
-    checker::evaluate(vars, lows, highs, count, NodeNo(node), word)
+    checker::evaluate(vars, lows, highs, heads, links, count, NodeNo(node), word)
 }
 
 // The conjunction of f and g; or 7, 26, 13, 23.
@@ -36,14 +41,18 @@ pub extern "C" fn cablesalak_conjunction(
     vars: &mut [u8],
     lows: &mut [u16],
     highs: &mut [u16],
+    heads: &mut [u16],
+    links: &mut [u16],
     count: usize,
     f: u16,
     g: u16,
 ) -> Single
-    ensures { λ r. ⌜ madeOf (now (vars .exit)) (now (lows .exit)) (now (highs .exit)) r
-        ≡ operation Operation.Conjunction (now (vars .entry)) (now (lows .entry)) (now (highs .entry)) count f g ⌝ }
+    ensures { λ r. ⌜ (
+        let lent = columnsMade (now (vars .entry)) (now (lows .entry)) (now (highs .entry)) (now (heads .entry)) (now (links .entry)) in
+        let left = columnsMade (now (vars .exit)) (now (lows .exit)) (now (highs .exit)) (now (heads .exit)) (now (links .exit)) in
+        madeOf left r ≡ operation Operation.Conjunction lent count f g) ⌝ }
 {
-    checker::conjunction(vars, lows, highs, count, NodeNo(f), NodeNo(g))
+    checker::conjunction(vars, lows, highs, heads, links, count, NodeNo(f), NodeNo(g))
 }
 
 // The negation of f; or 7, 26, 13, 23.
@@ -52,13 +61,17 @@ pub extern "C" fn cablesalak_negation(
     vars: &mut [u8],
     lows: &mut [u16],
     highs: &mut [u16],
+    heads: &mut [u16],
+    links: &mut [u16],
     count: usize,
     f: u16,
 ) -> Single
-    ensures { λ r. ⌜ madeOf (now (vars .exit)) (now (lows .exit)) (now (highs .exit)) r
-        ≡ operation Operation.Negation (now (vars .entry)) (now (lows .entry)) (now (highs .entry)) count f 1 ⌝ }
+    ensures { λ r. ⌜ (
+        let lent = columnsMade (now (vars .entry)) (now (lows .entry)) (now (highs .entry)) (now (heads .entry)) (now (links .entry)) in
+        let left = columnsMade (now (vars .exit)) (now (lows .exit)) (now (highs .exit)) (now (heads .exit)) (now (links .exit)) in
+        madeOf left r ≡ operation Operation.Negation lent count f 1) ⌝ }
 {
-    checker::negation(vars, lows, highs, count, NodeNo(f))
+    checker::negation(vars, lows, highs, heads, links, count, NodeNo(f))
 }
 
 // f cofactored by the diagram g; or 7, 26, 13, 27, 23.
@@ -67,14 +80,18 @@ pub extern "C" fn cablesalak_cofactor(
     vars: &mut [u8],
     lows: &mut [u16],
     highs: &mut [u16],
+    heads: &mut [u16],
+    links: &mut [u16],
     count: usize,
     f: u16,
     g: u16,
 ) -> Single
-    ensures { λ r. ⌜ madeOf (now (vars .exit)) (now (lows .exit)) (now (highs .exit)) r
-        ≡ operation Operation.Cofactor (now (vars .entry)) (now (lows .entry)) (now (highs .entry)) count f g ⌝ }
+    ensures { λ r. ⌜ (
+        let lent = columnsMade (now (vars .entry)) (now (lows .entry)) (now (highs .entry)) (now (heads .entry)) (now (links .entry)) in
+        let left = columnsMade (now (vars .exit)) (now (lows .exit)) (now (highs .exit)) (now (heads .exit)) (now (links .exit)) in
+        madeOf left r ≡ operation Operation.Cofactor lent count f g) ⌝ }
 {
-    checker::cofactor(vars, lows, highs, count, NodeNo(f), NodeNo(g))
+    checker::cofactor(vars, lows, highs, heads, links, count, NodeNo(f), NodeNo(g))
 }
 
 // f with the variables of `positive` made true and those of `negative` false; or 7, 26, 13, 15, 23.
@@ -83,15 +100,29 @@ pub extern "C" fn cablesalak_cofactor_literals(
     vars: &mut [u8],
     lows: &mut [u16],
     highs: &mut [u16],
+    heads: &mut [u16],
+    links: &mut [u16],
     count: usize,
     f: u16,
     positive: u64,
     negative: u64,
 ) -> Single
-    ensures { λ r. ⌜ madeOf (now (vars .exit)) (now (lows .exit)) (now (highs .exit)) r
-        ≡ operation (Operation.Literals positive negative) (now (vars .entry)) (now (lows .entry)) (now (highs .entry)) count f 1 ⌝ }
+    ensures { λ r. ⌜ (
+        let lent = columnsMade (now (vars .entry)) (now (lows .entry)) (now (highs .entry)) (now (heads .entry)) (now (links .entry)) in
+        let left = columnsMade (now (vars .exit)) (now (lows .exit)) (now (highs .exit)) (now (heads .exit)) (now (links .exit)) in
+        madeOf left r ≡ operation (Operation.Literals positive negative) lent count f 1) ⌝ }
 {
-    checker::cofactor_literals(vars, lows, highs, count, NodeNo(f), positive, negative)
+    checker::cofactor_literals(
+        vars,
+        lows,
+        highs,
+        heads,
+        links,
+        count,
+        NodeNo(f),
+        positive,
+        negative,
+    )
 }
 
 // The check of a formula and a proof. Number 0: no assignment satisfies the formula.
@@ -100,6 +131,8 @@ pub extern "C" fn cablesalak_check<'a>(
     vars: &mut [u8],
     lows: &mut [u16],
     highs: &mut [u16],
+    heads: &mut [u16],
+    links: &mut [u16],
     count: usize,
     members: &mut [u16],
     struck: &mut [u8],
@@ -107,16 +140,20 @@ pub extern "C" fn cablesalak_check<'a>(
     formula: &'a [u8],
     proof: &'a [u8],
 ) -> Checked
-    ensures { λ r. ⌜ outcomeOf (now (vars .exit)) (now (lows .exit)) (now (highs .exit)) (now (members .exit)) (now (struck .exit))
-        (now (scratch .exit)) r
-        ≡ check (now (vars .entry)) (now (lows .entry)) (now (highs .entry)) count (now (members .entry)) (now (struck .entry))
-        (now (scratch .entry)) (now (formula .entry)) (now (proof .entry)) ⌝ }
+    ensures { λ r. ⌜ (
+        let lent = columnsMade (now (vars .entry)) (now (lows .entry)) (now (highs .entry)) (now (heads .entry)) (now (links .entry)) in
+        let left = columnsMade (now (vars .exit)) (now (lows .exit)) (now (highs .exit)) (now (heads .exit)) (now (links .exit)) in
+        outcomeOf left (now (members .exit)) (now (struck .exit)) (now (scratch .exit)) r
+        ≡ check lent count (now (members .entry)) (now (struck .entry)) (now (scratch .entry))
+        (now (formula .entry)) (now (proof .entry))) ⌝ }
     ensures { λ r. ⌜ (r .number ≡ 0 → Unsatisfiable (now (formula .entry))) ⌝ }
 {
     checker::check(
         vars,
         lows,
         highs,
+        heads,
+        links,
         count,
         members,
         struck,

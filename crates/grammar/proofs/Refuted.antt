@@ -11,6 +11,7 @@ use Rattle.meaning.proofs.Booleans.{t≢f}
 use Rattle.dimacs.specs.Clauses.{Reading, clause, complete, refusal, formula}
 use Rattle.dimacs.proofs.Formula.{formula-improper}
 use Rattle.records.specs.Records.{recordAt}
+use Rattle.table.specs.Columns.{Columns}
 use Rattle.verdict.specs.Check.{State, stop, spent, step, Verdict, verdict, check}
 use Rattle.verdict.specs.Run.{Meant, follows, Reached, Ended, no-header, not-read, no-room, stopped, tried}
 use Rattle.verdict.specs.Satisfies.{clausesOf, readToEnd, satisfies}
@@ -50,11 +51,11 @@ reads-to-end text = (
 )
 
 -- The call says 0 only of a DIMACS text whose formula no assignment satisfies, whatever the proof's bytes and whatever the lent places held.
-pub refuted-dimacs : (vars lows highs : List ℕ) (count : ℕ) (members struck scratch text proof : List ℕ)
-    → check vars lows highs count members struck scratch text proof .number ≡ 0
+pub refuted-dimacs : (c : Columns) (count : ℕ) (members struck scratch text proof : List ℕ)
+    → check c count members struck scratch text proof .number ≡ 0
     → (cs : List (List meaning.Literal)) × (n : ℕ) × Dimacs text n cs × ((a : Assignment) → satisfies a cs ≡ false)
-refuted-dimacs vars lows highs count members struck scratch text proof e =
-    let R = check-refuted vars lows highs count members struck scratch text proof e in
+refuted-dimacs c count members struck scratch text proof e =
+    let R = check-refuted c count members struck scratch text proof e in
     let D = formula-exactly text (clausesOf (formula text)) .0 (end-gives (formula text) (R .0)) in
     (clausesOf (formula text), D .0, D .1, R .1)
 

@@ -9,7 +9,7 @@ use lib.ListN.{length, take, drop, length-map, take-append-drop}
 use lib.Seq.{length-take-le, take-all, take-at, take-length, drop-length}
 use lib.Dec.{eqb, leb}
 use borrow.Author.Tests.{le-leb, lt-leb, leb-true, leb-false}
-use Rattle.table.specs.Columns.{sizeFits}
+use Rattle.table.specs.Columns.{sizeFits, columnsMade}
 use Rattle.operate.specs.declared.Operation.{Operation}
 use Rattle.single.specs.declared.Evaluated.{Evaluated}
 use Rattle.single.specs.declared.call.Single.{Single}
@@ -82,9 +82,9 @@ and-false : (t : Bool) → (t && false) ≡ false
 and-false true = refl
 and-false false = refl
 
-pub unfit : (vs ls hs : List ℕ) → 65536 < length vs → sizeFits vs ls hs ≡ false
+pub unfit : (vs ls hs ds js : List ℕ) → 65536 < length vs → sizeFits vs ls hs ds js ≡ false
 unfolding sizeFits
-unfit vs ls hs h = rw (lt-leb (length vs) 65536 h, and-false (leb 2 (length vs)), and-false (eqb (length ls) (length vs) && eqb (length hs) (length vs)))
+unfit vs ls hs ds js h = rw (lt-leb (length vs) 65536 h, and-false (leb 2 (length vs)), and-false (eqb (length ls) (length vs) && eqb (length hs) (length vs)))
 
 vars-past : (ys : List Node) → 65536 < length ys → 65536 < length (varsOf ys)
 unfolding varsOf
@@ -92,7 +92,7 @@ vars-past ys h = omega (arith, h, length-map ys varOf)
 
 -- ---- a call over the arrays and over the slice
 -- `out` is what is said and left, as the three columns are left; `call` is the definition of the call, and `stay` what it says where the columns are of wrong size: they stay
-module _ {X : Type 0} (out call stay : List ℕ → List ℕ → List ℕ → X) (refused : (v l h : List ℕ) → sizeFits v l h ≡ false → call v l h ≡ stay v l h)
+module _ {X : Type 0} (ds js : List ℕ) (out call stay : List ℕ → List ℕ → List ℕ → X) (refused : (v l h : List ℕ) → sizeFits v l h ds js ≡ false → call v l h ≡ stay v l h)
     (moved : (a b c v l h : List ℕ) → out a b c ≡ stay v l h → ((a ≡ v) × (b ≡ l) × (c ≡ h)) × ((v l h : List ℕ) → out v l h ≡ stay v l h)) (ys : List Node) (vs₀ ls₀ hs₀ vs ls hs : List ℕ) (e : Sized vs ls hs) where
   abbrev n : ℕ
   n = length ys
@@ -115,7 +115,7 @@ module _ {X : Type 0} (out call stay : List ℕ → List ℕ → List ℕ → X)
       let all : (xs : List ℕ) → length xs ≡ 65536 → xs ≡ take n xs = λ xs s. sym (take-all n xs (omega (arith, h, s))) in
       let stayed = moved (take n vs) (take n ls) (take n hs) (column varOf ys vs₀ m) (column lowOf ys ls₀ m) (column highOf ys hs₀ m) (told ∙ rw (lt-leb n 65536 h)) in
       let back : slice vs ls hs ys m ≡ ys = written-back ys m vs ls hs vs₀ ls₀ hs₀ i (all vs (e .0) ∙ stayed .0 .0) (all ls (e .1) ∙ stayed .0 .1) (all hs (e .2) ∙ stayed .0 .2) in
-      rw back (stayed .1 (varsOf ys) (lowsOf ys) (highsOf ys) ∙ sym (refused (varsOf ys) (lowsOf ys) (highsOf ys) (unfit (varsOf ys) (lowsOf ys) (highsOf ys) (vars-past ys h))))
+      rw back (stayed .1 (varsOf ys) (lowsOf ys) (highsOf ys) ∙ sym (refused (varsOf ys) (lowsOf ys) (highsOf ys) (unfit (varsOf ys) (lowsOf ys) (highsOf ys) ds js (vars-past ys h))))
 
   whole : (m : ℕ) → Cut n m → Arrays-say m → Slice-says m
   whole m cut told = by-test (leb n 65536)
@@ -125,62 +125,72 @@ module _ {X : Type 0} (out call stay : List ℕ → List ℕ → List ℕ → X)
       (λ t. past-case m (cut .0) (leb-false _ _ t) told)
 
 -- ---- the check
-module _ (count : ℕ) (ms ks ss formula proof ms′ ks′ ss′ : List ℕ) (r : Checked) where
+module _ (ds js : List ℕ) (count : ℕ) (ms ks ss formula proof ds′ js′ ms′ ks′ ss′ : List ℕ) (r : Checked) where
   abbrev seven : List ℕ → List ℕ → List ℕ → Outcome
-  seven v l h = record { number = 7; place = 0; lines = 0; rounds = 0; count = count; peak = 0; columns = record { vars = v; lows = l; highs = h }; members = ms; struck = ks; scratch = ss }
+  seven v l h = record { number = 7; place = 0; lines = 0; rounds = 0; count = count; peak = 0; columns = columnsMade v l h ds js; members = ms; struck = ks; scratch = ss }
 
-  check-refused : (v l h : List ℕ) → sizeFits v l h ≡ false → check v l h count ms ks ss formula proof ≡ seven v l h
+  abbrev out : List ℕ → List ℕ → List ℕ → Outcome
+  out v l h = outcomeOf (columnsMade v l h ds′ js′) ms′ ks′ ss′ r
+
+  check-refused : (v l h : List ℕ) → sizeFits v l h ds js ≡ false → check (columnsMade v l h ds js) count ms ks ss formula proof ≡ seven v l h
   unfolding check lentFits
   check-refused v l h e = rw e
 
-  check-moved : (a b c v l h : List ℕ) → outcomeOf a b c ms′ ks′ ss′ r ≡ seven v l h → ((a ≡ v) × (b ≡ l) × (c ≡ h)) × ((v l h : List ℕ) → outcomeOf v l h ms′ ks′ ss′ r ≡ seven v l h)
+  check-moved : (a b c v l h : List ℕ) → out a b c ≡ seven v l h → ((a ≡ v) × (b ≡ l) × (c ≡ h)) × ((v l h : List ℕ) → out v l h ≡ seven v l h)
   check-moved a b c v l h e = (
     (ap (λ (o : Outcome). o .columns .vars) e, ap (λ (o : Outcome). o .columns .lows) e, ap (λ (o : Outcome). o .columns .highs) e),
-    (λ v l h. ap (λ (o : Outcome). record { number = o .number; place = o .place; lines = o .lines; rounds = o .rounds; count = o .count; peak = o .peak; columns = record { vars = v; lows = l; highs = h }; members = o .members; struck = o .struck; scratch = o .scratch }) e),
+    (λ v l h. ap (λ (o : Outcome). record { number = o .number; place = o .place; lines = o .lines; rounds = o .rounds; count = o .count; peak = o .peak; columns = columnsMade v l h (o .columns .heads) (o .columns .links); members = o .members; struck = o .struck; scratch = o .scratch }) e),
   )
 
   pub check-whole : (ys : List Node) (m : ℕ) (vs₀ ls₀ hs₀ vs ls hs : List ℕ) → Cut (length ys) m → Sized vs ls hs
-      → outcomeOf (take (length ys) vs) (take (length ys) ls) (take (length ys) hs) ms′ ks′ ss′ r ≡ checkWithin (length ys) (column varOf ys vs₀ m) (column lowOf ys ls₀ m) (column highOf ys hs₀ m) count ms ks ss formula proof
-      → outcomeOf (varsOf (slice vs ls hs ys m)) (lowsOf (slice vs ls hs ys m)) (highsOf (slice vs ls hs ys m)) ms′ ks′ ss′ r ≡ check (varsOf ys) (lowsOf ys) (highsOf ys) count ms ks ss formula proof
+      → out (take (length ys) vs) (take (length ys) ls) (take (length ys) hs) ≡ checkWithin (length ys) (column varOf ys vs₀ m) (column lowOf ys ls₀ m) (column highOf ys hs₀ m) ds js count ms ks ss formula proof
+      → out (varsOf (slice vs ls hs ys m)) (lowsOf (slice vs ls hs ys m)) (highsOf (slice vs ls hs ys m)) ≡ check (columnsMade (varsOf ys) (lowsOf ys) (highsOf ys) ds js) count ms ks ss formula proof
   unfolding checkWithin
   check-whole ys m vs₀ ls₀ hs₀ vs ls hs cut e told =
-      whole (λ v l h. outcomeOf v l h ms′ ks′ ss′ r) (λ v l h. check v l h count ms ks ss formula proof) seven check-refused check-moved ys vs₀ ls₀ hs₀ vs ls hs e m cut told
+      whole ds js out (λ v l h. check (columnsMade v l h ds js) count ms ks ss formula proof) seven check-refused check-moved ys vs₀ ls₀ hs₀ vs ls hs e m cut told
 
   -- The same with what 0 means.
   pub check-told : (ys : List Node) (m : ℕ) (vs₀ ls₀ hs₀ vs ls hs : List ℕ) → Cut (length ys) m → Sized vs ls hs
-      → outcomeOf (take (length ys) vs) (take (length ys) ls) (take (length ys) hs) ms′ ks′ ss′ r ≡ checkWithin (length ys) (column varOf ys vs₀ m) (column lowOf ys ls₀ m) (column highOf ys hs₀ m) count ms ks ss formula proof
-      → (outcomeOf (varsOf (slice vs ls hs ys m)) (lowsOf (slice vs ls hs ys m)) (highsOf (slice vs ls hs ys m)) ms′ ks′ ss′ r ≡ check (varsOf ys) (lowsOf ys) (highsOf ys) count ms ks ss formula proof)
+      → out (take (length ys) vs) (take (length ys) ls) (take (length ys) hs) ≡ checkWithin (length ys) (column varOf ys vs₀ m) (column lowOf ys ls₀ m) (column highOf ys hs₀ m) ds js count ms ks ss formula proof
+      → (out (varsOf (slice vs ls hs ys m)) (lowsOf (slice vs ls hs ys m)) (highsOf (slice vs ls hs ys m)) ≡ check (columnsMade (varsOf ys) (lowsOf ys) (highsOf ys) ds js) count ms ks ss formula proof)
       × (r .number ≡ 0 → Unsatisfiable formula)
   check-told ys m vs₀ ls₀ hs₀ vs ls hs cut e told =
       let is = check-whole ys m vs₀ ls₀ hs₀ vs ls hs cut e told in
-      (is, λ z. check-refuted (varsOf ys) (lowsOf ys) (highsOf ys) count ms ks ss formula proof (sym (ap (λ (o : Outcome). o .number) is) ∙ z))
+      (is, λ z. check-refuted (columnsMade (varsOf ys) (lowsOf ys) (highsOf ys) ds js) count ms ks ss formula proof (sym (ap (λ (o : Outcome). o .number) is) ∙ z))
 
 -- ---- conjunction, negation, both cofactors
-module _ (op : Operation) (count f g : ℕ) (r : Single) where
-  operation-refused : (v l h : List ℕ) → sizeFits v l h ≡ false → operation op v l h count f (secondOf op g) ≡ unchanged v l h count 7
+module _ (op : Operation) (ds js : List ℕ) (count f g : ℕ) (ds′ js′ : List ℕ) (r : Single) where
+  abbrev said : List ℕ → List ℕ → List ℕ → Made
+  said v l h = madeOf (columnsMade v l h ds′ js′) r
+
+  abbrev kept : List ℕ → List ℕ → List ℕ → Made
+  kept v l h = unchanged (columnsMade v l h ds js) count 7
+
+  operation-refused : (v l h : List ℕ) → sizeFits v l h ds js ≡ false → operation op (columnsMade v l h ds js) count f (secondOf op g) ≡ kept v l h
   unfolding operation refusal
   operation-refused v l h e = rw e
 
-  operation-moved : (a b c v l h : List ℕ) → madeOf a b c r ≡ unchanged v l h count 7 → ((a ≡ v) × (b ≡ l) × (c ≡ h)) × ((v l h : List ℕ) → madeOf v l h r ≡ unchanged v l h count 7)
+  operation-moved : (a b c v l h : List ℕ) → said a b c ≡ kept v l h → ((a ≡ v) × (b ≡ l) × (c ≡ h)) × ((v l h : List ℕ) → said v l h ≡ kept v l h)
   operation-moved a b c v l h e = (
     (ap (λ (o : Made). o .columns .vars) e, ap (λ (o : Made). o .columns .lows) e, ap (λ (o : Made). o .columns .highs) e),
-    (λ v l h. ap (λ (o : Made). record { number = o .number; node = o .node; count = o .count; columns = record { vars = v; lows = l; highs = h } }) e),
+    (λ v l h. ap (λ (o : Made). record { number = o .number; node = o .node; count = o .count; columns = columnsMade v l h (o .columns .heads) (o .columns .links) }) e),
   )
 
   pub operation-whole : (ys : List Node) (m : ℕ) (vs₀ ls₀ hs₀ vs ls hs : List ℕ) → Cut (length ys) m → Sized vs ls hs
-      → madeOf (take (length ys) vs) (take (length ys) ls) (take (length ys) hs) r ≡ operationWithin op (length ys) (column varOf ys vs₀ m) (column lowOf ys ls₀ m) (column highOf ys hs₀ m) count f g
-      → madeOf (varsOf (slice vs ls hs ys m)) (lowsOf (slice vs ls hs ys m)) (highsOf (slice vs ls hs ys m)) r ≡ operation op (varsOf ys) (lowsOf ys) (highsOf ys) count f (secondOf op g)
+      → said (take (length ys) vs) (take (length ys) ls) (take (length ys) hs) ≡ operationWithin op (length ys) (column varOf ys vs₀ m) (column lowOf ys ls₀ m) (column highOf ys hs₀ m) ds js count f g
+      → said (varsOf (slice vs ls hs ys m)) (lowsOf (slice vs ls hs ys m)) (highsOf (slice vs ls hs ys m)) ≡ operation op (columnsMade (varsOf ys) (lowsOf ys) (highsOf ys) ds js) count f (secondOf op g)
   unfolding operationWithin
   operation-whole ys m vs₀ ls₀ hs₀ vs ls hs cut e told =
-      whole (λ v l h. madeOf v l h r) (λ v l h. operation op v l h count f (secondOf op g)) (λ v l h. unchanged v l h count 7) operation-refused operation-moved ys vs₀ ls₀ hs₀ vs ls hs e m cut told
+      whole ds js said (λ v l h. operation op (columnsMade v l h ds js) count f (secondOf op g)) kept operation-refused operation-moved ys vs₀ ls₀ hs₀ vs ls hs e m cut told
 
 -- ---- evaluation, which leaves the columns
-pub evaluation-whole : (ys : List Node) (m count f word : ℕ) (vs₀ ls₀ hs₀ : List ℕ) (r : Evaluated) → Cut (length ys) m
-    → r ≡ evaluationWithin (length ys) (column varOf ys vs₀ m) (column lowOf ys ls₀ m) (column highOf ys hs₀ m) count f word → r ≡ evaluation (varsOf ys) (lowsOf ys) (highsOf ys) count f word
+pub evaluation-whole : (ys : List Node) (m : ℕ) (ds js : List ℕ) (count f word : ℕ) (vs₀ ls₀ hs₀ : List ℕ) (r : Evaluated) → Cut (length ys) m
+    → r ≡ evaluationWithin (length ys) (column varOf ys vs₀ m) (column lowOf ys ls₀ m) (column highOf ys hs₀ m) ds js count f word
+    → r ≡ evaluation (columnsMade (varsOf ys) (lowsOf ys) (highsOf ys) ds js) count f word
 unfolding evaluationWithin evaluation refusal
-evaluation-whole ys m count f word vs₀ ls₀ hs₀ r cut told = by-test (leb (length ys) 65536)
+evaluation-whole ys m ds js count f word vs₀ ls₀ hs₀ r cut told = by-test (leb (length ys) 65536)
     (λ t. let h : length ys ≤ 65536 = leb-true _ _ t in
     let same : m ≡ length ys = omega (arith, cut .0, cut .2 h) in
     let b = columns-before ys vs₀ ls₀ hs₀ in
     told ∙ rw (t, same, b .0, b .1, b .2))
-    (λ t. told ∙ rw (t, unfit (varsOf ys) (lowsOf ys) (highsOf ys) (vars-past ys (leb-false _ _ t))))
+    (λ t. told ∙ rw (t, unfit (varsOf ys) (lowsOf ys) (highsOf ys) ds js (vars-past ys (leb-false _ _ t))))

@@ -5,6 +5,7 @@ use mathlib.Core.List.{List, [], _∷_}
 use Prim.Native.Nat.{ℕ}
 use lib.ListN.{take}
 use lib.Dec.{leb}
+use Rattle.table.specs.Columns.{columnsMade}
 use Rattle.operate.specs.declared.Operation.{Operation}
 use Rattle.single.specs.declared.Evaluated.{Evaluated}
 use Rattle.single.specs.Single.{Made, unchanged, operation, evaluation}
@@ -20,8 +21,9 @@ nodesOf (v ∷ vs) (l ∷ ls) [] = []
 nodesOf (v ∷ vs) (l ∷ ls) (h ∷ hs) = record { var = v; low = l; high = h } ∷ nodesOf vs ls hs
 
 -- "The table has 2 to 65,536 places": 7 where the slice has more, and the arrays stay.
-unfoldable pub checkWithin : ℕ → List ℕ → List ℕ → List ℕ → ℕ → List ℕ → List ℕ → List ℕ → List ℕ → List ℕ → Outcome
-checkWithin n vars lows highs count members struck scratch formula proof =
+unfoldable pub checkWithin : ℕ → List ℕ → List ℕ → List ℕ → List ℕ → List ℕ → ℕ → List ℕ → List ℕ → List ℕ → List ℕ → List ℕ → Outcome
+checkWithin n vars lows highs heads links count members struck scratch formula proof =
+    let first = columnsMade (take n vars) (take n lows) (take n highs) heads links in
     let seven : Outcome = record {
       number = 7;
       place = 0;
@@ -29,19 +31,19 @@ checkWithin n vars lows highs count members struck scratch formula proof =
       rounds = 0;
       count = count;
       peak = 0;
-      columns = record { vars = vars; lows = lows; highs = highs };
+      columns = columnsMade vars lows highs heads links;
       members = members;
       struck = struck;
       scratch = scratch;
     } in
-    cond (leb n 65536) (check (take n vars) (take n lows) (take n highs) count members struck scratch formula proof) seven
+    cond (leb n 65536) (check first count members struck scratch formula proof) seven
 
-unfoldable pub operationWithin : Operation → ℕ → List ℕ → List ℕ → List ℕ → ℕ → ℕ → ℕ → Made
-operationWithin op n vars lows highs count f g =
-    cond (leb n 65536) (operation op (take n vars) (take n lows) (take n highs) count f (secondOf op g))
-    (unchanged vars lows highs count 7)
+unfoldable pub operationWithin : Operation → ℕ → List ℕ → List ℕ → List ℕ → List ℕ → List ℕ → ℕ → ℕ → ℕ → Made
+operationWithin op n vars lows highs heads links count f g =
+    let first = columnsMade (take n vars) (take n lows) (take n highs) heads links in
+    cond (leb n 65536) (operation op first count f (secondOf op g)) (unchanged (columnsMade vars lows highs heads links) count 7)
 
-unfoldable pub evaluationWithin : ℕ → List ℕ → List ℕ → List ℕ → ℕ → ℕ → ℕ → Evaluated
-evaluationWithin n vars lows highs count f word =
-    cond (leb n 65536) (evaluation (take n vars) (take n lows) (take n highs) count f word)
-    (record { number = 7; yes = false; count = count })
+unfoldable pub evaluationWithin : ℕ → List ℕ → List ℕ → List ℕ → List ℕ → List ℕ → ℕ → ℕ → ℕ → Evaluated
+evaluationWithin n vars lows highs heads links count f word =
+    let first = columnsMade (take n vars) (take n lows) (take n highs) heads links in
+    cond (leb n 65536) (evaluation first count f word) (record { number = 7; yes = false; count = count })

@@ -1,4 +1,4 @@
-// The calls of the face over the node table as one lent slice of node structs. Each tests for itself all that it needs,
+// The calls of the face over the node table as one lent slice of node structs, with its index. Each tests for itself all that it needs,
 // and none has a `requires`.
 mod columns;
 mod within;
@@ -9,6 +9,7 @@ use single::Evaluated;
 use single::call::Single;
 use table::NodeNo;
 ghost use mathlib.Core.Path.{_≡_};
+ghost use Rattle.table.specs.Columns.{columnsMade};
 ghost use Rattle.session.specs.Checked.{outcomeOf};
 ghost use Rattle.single.specs.Single.{evaluation, madeOf, operation};
 ghost use Rattle.verdict.specs.Check.{check};
@@ -28,6 +29,8 @@ pub struct Node {
 #[no_mangle]
 pub extern "C" fn cablesalak_check_nodes<'a>(
     nodes: &mut [Node],
+    heads: &mut [u16],
+    links: &mut [u16],
     count: usize,
     members: &mut [u16],
     struck: &mut [u8],
@@ -35,11 +38,15 @@ pub extern "C" fn cablesalak_check_nodes<'a>(
     formula: &'a [u8],
     proof: &'a [u8],
 ) -> Checked
-    ensures { λ r. ⌜ (outcomeOf (varsOf (now (nodes .exit))) (lowsOf (now (nodes .exit))) (highsOf (now (nodes .exit)))
-        (now (members .exit)) (now (struck .exit)) (now (scratch .exit)) r
-        ≡ check (varsOf (now (nodes .entry))) (lowsOf (now (nodes .entry))) (highsOf (now (nodes .entry))) count (now (members .entry))
-        (now (struck .entry)) (now (scratch .entry)) (now (formula .entry)) (now (proof .entry)))
-        × (r .number ≡ 0 → Unsatisfiable (now (formula .entry))) ⌝ }
+    ensures { λ r. ⌜ (
+        let lent = columnsMade (varsOf (now (nodes .entry))) (lowsOf (now (nodes .entry))) (highsOf (now (nodes .entry)))
+        (now (heads .entry)) (now (links .entry)) in
+        let left = columnsMade (varsOf (now (nodes .exit))) (lowsOf (now (nodes .exit))) (highsOf (now (nodes .exit)))
+        (now (heads .exit)) (now (links .exit)) in
+        (outcomeOf left (now (members .exit)) (now (struck .exit)) (now (scratch .exit)) r
+        ≡ check lent count (now (members .entry)) (now (struck .entry)) (now (scratch .entry))
+        (now (formula .entry)) (now (proof .entry)))
+        × (r .number ≡ 0 → Unsatisfiable (now (formula .entry)))) ⌝ }
 {
     let mut vars = [0u8; 65536];
     let mut lows = [0u16; 65536];
@@ -50,6 +57,8 @@ pub extern "C" fn cablesalak_check_nodes<'a>(
         &mut vars,
         &mut lows,
         &mut highs,
+        heads,
+        links,
         nodes.len(),
         count,
         members,
@@ -63,10 +72,21 @@ pub extern "C" fn cablesalak_check_nodes<'a>(
 }
 
 // Conjunction, negation and the two cofactors; an operation of one diagram looks at f alone. Or 7, 26, 13, 27, 15, 23.
-pub fn operation(nodes: &mut [Node], count: usize, op: Operation, f: NodeNo, g: NodeNo) -> Single
-    ensures { λ r. ⌜ madeOf (varsOf (now (nodes .exit))) (lowsOf (now (nodes .exit))) (highsOf (now (nodes .exit))) r
-        ≡ operation op (varsOf (now (nodes .entry))) (lowsOf (now (nodes .entry))) (highsOf (now (nodes .entry))) count (f .0)
-        (secondOf op (g .0)) ⌝ }
+pub fn operation(
+    nodes: &mut [Node],
+    heads: &mut [u16],
+    links: &mut [u16],
+    count: usize,
+    op: Operation,
+    f: NodeNo,
+    g: NodeNo,
+) -> Single
+    ensures { λ r. ⌜ (
+        let lent = columnsMade (varsOf (now (nodes .entry))) (lowsOf (now (nodes .entry))) (highsOf (now (nodes .entry)))
+        (now (heads .entry)) (now (links .entry)) in
+        let left = columnsMade (varsOf (now (nodes .exit))) (lowsOf (now (nodes .exit))) (highsOf (now (nodes .exit)))
+        (now (heads .exit)) (now (links .exit)) in
+        madeOf left r ≡ operation op lent count (f .0) (secondOf op (g .0))) ⌝ }
 {
     let mut vars = [0u8; 65536];
     let mut lows = [0u16; 65536];
@@ -77,6 +97,8 @@ pub fn operation(nodes: &mut [Node], count: usize, op: Operation, f: NodeNo, g: 
         &mut vars,
         &mut lows,
         &mut highs,
+        heads,
+        links,
         nodes.len(),
         count,
         op,
@@ -91,17 +113,31 @@ pub fn operation(nodes: &mut [Node], count: usize, op: Operation, f: NodeNo, g: 
 #[no_mangle]
 pub extern "C" fn cablesalak_evaluate_nodes(
     nodes: &[Node],
+    heads: &[u16],
+    links: &[u16],
     count: usize,
     node: NodeNo,
     word: u64,
 ) -> Evaluated
-    ensures { λ r. ⌜ r
-        ≡ evaluation (varsOf (now (nodes .entry))) (lowsOf (now (nodes .entry))) (highsOf (now (nodes .entry))) count (node .0) word ⌝ }
+    ensures { λ r. ⌜ (
+        let lent = columnsMade (varsOf (now (nodes .entry))) (lowsOf (now (nodes .entry))) (highsOf (now (nodes .entry)))
+        (now (heads .entry)) (now (links .entry)) in
+        r ≡ evaluation lent count (node .0) word) ⌝ }
 {
     let mut vars = [0u8; 65536];
     let mut lows = [0u16; 65536];
     let mut highs = [0u16; 65536];
     let n = columns::places(nodes.len());
     columns::load(nodes, n, &mut vars, &mut lows, &mut highs);
-    within::evaluate_within(&vars, &lows, &highs, nodes.len(), count, node, word)
+    within::evaluate_within(
+        &vars,
+        &lows,
+        &highs,
+        heads,
+        links,
+        nodes.len(),
+        count,
+        node,
+        word,
+    )
 }

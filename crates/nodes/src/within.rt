@@ -6,6 +6,7 @@ use single::call::Single;
 use table::NodeNo;
 ghost use mathlib.Core.Path.{_≡_};
 ghost use lib.ListN.{length, take};
+ghost use Rattle.table.specs.Columns.{columnsMade};
 ghost use Rattle.session.specs.Checked.{outcomeOf};
 ghost use Rattle.single.specs.Single.{madeOf};
 ghost use Rattle.single.specs.Inner.{OneOperand};
@@ -17,6 +18,8 @@ pub fn check_within<'a>(
     vars: &mut [u8],
     lows: &mut [u16],
     highs: &mut [u16],
+    heads: &mut [u16],
+    links: &mut [u16],
     n: usize,
     count: usize,
     members: &mut [u16],
@@ -26,10 +29,12 @@ pub fn check_within<'a>(
     proof: &'a [u8],
 ) -> Checked
     requires { ⌜ (length (now vars) ≡ 65536) × (length (now lows) ≡ 65536) × (length (now highs) ≡ 65536) ⌝ }
-    ensures { λ r. ⌜ outcomeOf (take n (now (vars .exit))) (take n (now (lows .exit))) (take n (now (highs .exit))) (now (members .exit))
-        (now (struck .exit)) (now (scratch .exit)) r
-        ≡ checkWithin n (now (vars .entry)) (now (lows .entry)) (now (highs .entry)) count (now (members .entry)) (now (struck .entry))
-        (now (scratch .entry)) (now (formula .entry)) (now (proof .entry)) ⌝ }
+    ensures { λ r. ⌜ (
+        let left = columnsMade (take n (now (vars .exit))) (take n (now (lows .exit))) (take n (now (highs .exit)))
+        (now (heads .exit)) (now (links .exit)) in
+        outcomeOf left (now (members .exit)) (now (struck .exit)) (now (scratch .exit)) r
+        ≡ checkWithin n (now (vars .entry)) (now (lows .entry)) (now (highs .entry)) (now (heads .entry)) (now (links .entry)) count
+        (now (members .entry)) (now (struck .entry)) (now (scratch .entry)) (now (formula .entry)) (now (proof .entry))) ⌝ }
 {
     if 65536 < n {
         return Checked {
@@ -45,6 +50,8 @@ pub fn check_within<'a>(
         &mut vars[..n],
         &mut lows[..n],
         &mut highs[..n],
+        heads,
+        links,
         count,
         members,
         struck,
@@ -71,6 +78,8 @@ pub fn operation_within(
     vars: &mut [u8],
     lows: &mut [u16],
     highs: &mut [u16],
+    heads: &mut [u16],
+    links: &mut [u16],
     n: usize,
     count: usize,
     op: Operation,
@@ -78,8 +87,12 @@ pub fn operation_within(
     g: NodeNo,
 ) -> Single
     requires { ⌜ (length (now vars) ≡ 65536) × (length (now lows) ≡ 65536) × (length (now highs) ≡ 65536) ⌝ }
-    ensures { λ r. ⌜ madeOf (take n (now (vars .exit))) (take n (now (lows .exit))) (take n (now (highs .exit))) r
-        ≡ operationWithin op n (now (vars .entry)) (now (lows .entry)) (now (highs .entry)) count (f .0) (g .0) ⌝ }
+    ensures { λ r. ⌜ (
+        let left = columnsMade (take n (now (vars .exit))) (take n (now (lows .exit))) (take n (now (highs .exit)))
+        (now (heads .exit)) (now (links .exit)) in
+        madeOf left r
+        ≡ operationWithin op n (now (vars .entry)) (now (lows .entry)) (now (highs .entry)) (now (heads .entry)) (now (links .entry)) count
+        (f .0) (g .0)) ⌝ }
 {
     if 65536 < n {
         return Single {
@@ -93,6 +106,8 @@ pub fn operation_within(
         &mut vars[..n],
         &mut lows[..n],
         &mut highs[..n],
+        heads,
+        links,
         count,
         op,
         f,
@@ -105,13 +120,17 @@ pub fn evaluate_within(
     vars: &[u8],
     lows: &[u16],
     highs: &[u16],
+    heads: &[u16],
+    links: &[u16],
     n: usize,
     count: usize,
     node: NodeNo,
     word: u64,
 ) -> Evaluated
     requires { ⌜ (length (now vars) ≡ 65536) × (length (now lows) ≡ 65536) × (length (now highs) ≡ 65536) ⌝ }
-    ensures { λ r. ⌜ r ≡ evaluationWithin n (now (vars .entry)) (now (lows .entry)) (now (highs .entry)) count (node .0) word ⌝ }
+    ensures { λ r. ⌜ r
+        ≡ evaluationWithin n (now (vars .entry)) (now (lows .entry)) (now (highs .entry)) (now (heads .entry)) (now (links .entry)) count
+        (node .0) word ⌝ }
 {
     if 65536 < n {
         return Evaluated {
@@ -120,5 +139,14 @@ pub fn evaluate_within(
             count,
         };
     }
-    checker::evaluate(&vars[..n], &lows[..n], &highs[..n], count, node, word)
+    checker::evaluate(
+        &vars[..n],
+        &lows[..n],
+        &highs[..n],
+        heads,
+        links,
+        count,
+        node,
+        word,
+    )
 }

@@ -8,7 +8,7 @@ use lib.ListN.{length}
 use lib.Dec.{ltb, eqb}
 use borrow.Author.Tests.{lt-ltb, le-ltb, eq-eqb, ne-eqb, eqb-true}
 use Rattle.meaning.specs.Diagram.{Assignment}
-use Rattle.table.specs.Columns.{sizeFits}
+use Rattle.table.specs.Columns.{sizeFits, Columns, columnsMade}
 use Rattle.dimacs.specs.Clauses as dimacs
 use Rattle.verdict.specs.Check.{verdict, Outcome, lentFits, outcome, check, zeros}
 use Rattle.verdict.specs.Satisfies.{clausesOf, readToEnd, satisfies}
@@ -22,12 +22,15 @@ use Rattle.report.proofs.Digits.{by}
 abbrev pub lineOf : Outcome → Line
 lineOf o = record { number = o .number; place = o .place; lines = o .lines; rounds = o .rounds; peak = o .peak }
 
-fits : lentFits (zeros 4096) (zeros 4096) (zeros 4096) (zeros 2048) (zeros 2048) (zeros 4096) ≡ true
+abbrev lists : Columns
+lists = columnsMade (zeros 4096) (zeros 4096) (zeros 4096) (zeros 8192) (zeros 4096)
+
+fits : lentFits lists (zeros 2048) (zeros 2048) (zeros 4096) ≡ true
 unfolding lentFits sizeFits
 fits = refl
 
 pub checked : (formula proof : List ℕ)
-    → lineOf (check (zeros 4096) (zeros 4096) (zeros 4096) 2 (zeros 2048) (zeros 2048) (zeros 4096) formula proof) ≡ ofVerdict (verdict 4096 formula proof)
+    → lineOf (check lists 2 (zeros 2048) (zeros 2048) (zeros 4096) formula proof) ≡ ofVerdict (verdict 4096 formula proof)
 unfolding check outcome
 checked formula proof = rw fits
 

@@ -33,6 +33,8 @@ pub fn check<'a>(formula: &'a [u8], proof: &'a [u8]) -> Line
     let mut vars = [0u8; 4096];
     let mut lows = [0u16; 4096];
     let mut highs = [0u16; 4096];
+    let mut heads = [0u16; 8192];
+    let mut links = [0u16; 4096];
     let mut members = [0u16; 2048];
     let mut struck = [0u8; 2048];
     let mut scratch = [0u16; 4096];
@@ -40,6 +42,8 @@ pub fn check<'a>(formula: &'a [u8], proof: &'a [u8]) -> Line
         &mut vars,
         &mut lows,
         &mut highs,
+        &mut heads,
+        &mut links,
         2,
         &mut members,
         &mut struck,

@@ -10,11 +10,13 @@ use lib.Seq.{length-take-le, getD-take, getD-drop, ext-getD}
 use lib.Dec.{eqb, leb}
 use borrow.Author.Tests.{leb-true, eqb-true}
 use Rattle.table.specs.Nodes.{Node}
-use Rattle.table.specs.Columns.{sizeFits, padded, Columns, columnsOf}
-use Rattle.table.specs.Indexed.{Table, tableOf, size, nodesOf, indexed}
+use Rattle.table.specs.Columns.{sizeFits, Columns, columnsMade, storedAs}
+use Rattle.table.specs.Indexed.{Table, tableOf, listsOf, size, nodesOf, indexed}
 use Rattle.meaning.proofs.Booleans.{and-both}
 use Rattle.table.proofs.Written.{count-indexed, length-nodes}
-use Rattle.table.proofs.IndexOrder.{Sized, sized}
+use Rattle.table.proofs.Sizes.{Sized, sized}
+use Rattle.table.proofs.InOrder.{left-stored}
+use Rattle.table.proofs.Emptied.{table-emptied, stored-emptied}
 use Rattle.dimacs.specs.declared.Header.the-variants.{Proper, Improper}
 use Rattle.dimacs.specs.Header.{header}
 use Rattle.dimacs.specs.Clauses.{clausesFrom}
@@ -29,7 +31,6 @@ use Rattle.session.specs.declared.formula.Start.{Start}
 use Rattle.session.specs.declared.formula.Start.the-variants.{Begun, Refused}
 use Rattle.session.specs.Formula.{Opened, saidFrom, Built}
 use Rattle.session.specs.Records.{Ends}
-use Rattle.session.proofs.Emptied.{columnsMade, columns-emptied, table-emptied}
 use Rattle.table.proofs.Zeros.{part-zeros, zeros-at}
 
 -- ---- an outcome from its parts
@@ -37,13 +38,13 @@ use Rattle.table.proofs.Zeros.{part-zeros, zeros-at}
 abbrev pub answer : ℕ → ℕ → ℕ → ℕ → ℕ → ℕ → Checked
 answer number place lines rounds count peak = record { number = number; place = place; lines = lines; rounds = rounds; count = count; peak = peak }
 
-outcome-is : (s m c number place lines rounds count peak : ℕ) (vs ls hs ms ss : List ℕ) (t : List Node) (ks ps : List ℕ)
-    → count ≡ length t → columnsMade vs ls hs ≡ columnsOf (padded s t) → ms ≡ ks ++ zeros (m - length ks) → ss ≡ ps ++ zeros (m - length ps)
-    → outcomeOf vs ls hs ms ss (zeros c) (answer number place lines rounds count peak)
+outcome-is : (s m c number place lines rounds count peak : ℕ) (d : Columns) (ms ss : List ℕ) (t : List Node) (ks ps : List ℕ)
+    → count ≡ length t → d ≡ storedAs s t → ms ≡ ks ++ zeros (m - length ks) → ss ≡ ps ++ zeros (m - length ps)
+    → outcomeOf d ms ss (zeros c) (answer number place lines rounds count peak)
     ≡ outcome s m c (record { number = number; place = place; lines = lines; rounds = rounds; peak = peak; nodes = t; members = ks; struck = ps })
 unfolding outcome
-outcome-is s m c number place lines rounds count peak vs ls hs ms ss t ks ps e f g h =
-    ap₂ (λ (k : ℕ) (d : Columns). made k d ms ss) e f ∙ ap₂ (made (length t) (columnsOf (padded s t))) g h
+outcome-is s m c number place lines rounds count peak d ms ss t ks ps e f g h =
+    ap₂ (λ (k : ℕ) (d : Columns). made k d ms ss) e f ∙ ap₂ (made (length t) (storedAs s t)) g h
   where
     made : ℕ → Columns → List ℕ → List ℕ → Outcome
     made k d xs ys = record {
@@ -60,9 +61,8 @@ outcome-is s m c number place lines rounds count peak vs ls hs ms ss t ks ps e f
     }
 
 -- a table written out
-written-columns : (T : Table) (s : ℕ) (t : List Node) → T ≡ indexed s t → columnsMade (T .vars) (T .lows) (T .highs) ≡ columnsOf (padded s t)
-unfolding indexed
-written-columns T s t e = ap (λ (u : Table). columnsMade (u .vars) (u .lows) (u .highs)) e
+written-lists : (T : Table) (s : ℕ) (t : List Node) → T ≡ indexed s t → 2 ≤ length t → length t ≤ s → listsOf T ≡ storedAs s t
+written-lists T s t e two room = ap listsOf e ∙ left-stored s t two room
 
 -- ---- a refused formula
 
@@ -70,18 +70,28 @@ no-members : (m : ℕ) → zeros m ≡ [] ++ zeros (m - 0)
 no-members m = let e : m ≡ m - 0 = omega arith in ap zeros e
 
 -- the lists once they are emptied again
-pub refused-is : (s m c number place peak : ℕ) → 2 ≤ s → (vs ls hs ms ss : List ℕ) → vs ≡ zeros s → ls ≡ zeros s → hs ≡ zeros s → ms ≡ zeros m → ss ≡ zeros m
-    → outcomeOf vs ls hs ms ss (zeros c) (answer number place 0 0 2 peak) ≡ outcome s m c (refusedFormula number place peak)
-refused-is s m c number place peak two vs ls hs ms ss a b d e f =
-    outcome-is s m c number place 0 0 2 peak vs ls hs ms ss emptied [] [] refl (ap₂ (λ (x y : List ℕ). columnsMade x y hs) a b ∙ ap (columnsMade (zeros s) (zeros s)) d ∙ sym (columns-emptied s two))
-    (e ∙ no-members m) (f ∙ no-members m)
+module _ (s : ℕ) (two : 2 ≤ s) (vs ls hs ds ks : List ℕ) (a : vs ≡ zeros s) (b : ls ≡ zeros s) (d : hs ≡ zeros s) (e : ds ≡ zeros (2 * s)) (f : ks ≡ zeros s) where
+  emptied-lists : columnsMade vs ls hs ds ks ≡ storedAs s emptied
+  emptied-lists =
+      ap₂ (λ (x y : List ℕ). columnsMade x y hs ds ks) a b ∙ ap₂ (λ (x y : List ℕ). columnsMade (zeros s) (zeros s) x y ks) d e
+      ∙ ap (columnsMade (zeros s) (zeros s) (zeros s) (zeros (2 * s))) f ∙ sym (stored-emptied s two)
+
+  emptied-table : tableOf vs ls hs ds ks 2 ≡ indexed s emptied
+  emptied-table =
+      ap₂ (λ (x y : List ℕ). tableOf x y hs ds ks 2) a b ∙ ap₂ (λ (x y : List ℕ). tableOf (zeros s) (zeros s) x y ks 2) d e
+      ∙ ap (λ (x : List ℕ). tableOf (zeros s) (zeros s) (zeros s) (zeros (2 * s)) x 2) f ∙ table-emptied s two
+
+  pub refused-is : (m c number place peak : ℕ) (ms ss : List ℕ) → ms ≡ zeros m → ss ≡ zeros m
+      → outcomeOf (columnsMade vs ls hs ds ks) ms ss (zeros c) (answer number place 0 0 2 peak) ≡ outcome s m c (refusedFormula number place peak)
+  refused-is m c number place peak ms ss g h =
+      outcome-is s m c number place 0 0 2 peak (columnsMade vs ls hs ds ks) ms ss emptied [] [] refl emptied-lists (g ∙ no-members m) (h ∙ no-members m)
 
 -- the lists as they were opened
-pub unopened-is : (T : Table) (members struck : List ℕ) → Opened T members → struck ≡ zeros (length members) → T .count ≡ 2 → (c number place : ℕ)
-    → outcomeOf (T .vars) (T .lows) (T .highs) members struck (zeros c) (answer number place 0 0 2 2) ≡ outcome (size T) (length members) c (refusedFormula number place 2)
-unopened-is T members struck O none two c number place =
-    outcome-is (size T) (length members) c number place 0 0 2 2 (T .vars) (T .lows) (T .highs) members struck emptied [] [] refl
-    (written-columns T (size T) emptied (O .written)) (O .none ∙ no-members (length members)) (none ∙ no-members (length members))
+pub unopened-is : (T : Table) (members struck : List ℕ) → Opened T members → struck ≡ zeros (length members) → (c number place : ℕ)
+    → outcomeOf (listsOf T) members struck (zeros c) (answer number place 0 0 2 2) ≡ outcome (size T) (length members) c (refusedFormula number place 2)
+unopened-is T members struck O none c number place =
+    outcome-is (size T) (length members) c number place 0 0 2 2 (listsOf T) members struck emptied [] [] refl
+    (written-lists T (size T) emptied (O .written) (omega arith) (O .least)) (O .none ∙ no-members (length members)) (none ∙ no-members (length members))
 
 -- ---- the proof
 
@@ -97,13 +107,13 @@ rest-zeros ms k within rest =
 pub judged-is : (l : Lent) (st : State) → Ends l st → (T : Table) → T .count ≡ st .kept
     → T ≡ indexed (length (l .vars)) (take (st .kept) (nodesOf (tableIn l (st .count)))) → (s m : ℕ) → length (l .vars) ≡ s → length (l .members) ≡ m
     → (c number place peak : ℕ) (whole : Verdict) → whole ≡ left number place peak (stateOf l st)
-    → outcomeOf (T .vars) (T .lows) (T .highs) (l .members) (l .struck) (zeros c) (answer number place (st .lines) (st .rounds) (st .kept) peak) ≡ outcome s m c whole
+    → outcomeOf (listsOf T) (l .members) (l .struck) (zeros c) (answer number place (st .lines) (st .rounds) (st .kept) peak) ≡ outcome s m c whole
 judged-is l st E T count e s m same same′ c number place peak whole v =
     let t : List Node = take (st .kept) (nodesOf (tableIn l (st .count))) in
     let marks : List ℕ = take (st .members) (l .struck) in
-    outcome-is (length (l .vars)) (length (l .members)) c number place (st .lines) (st .rounds) (st .kept) peak (T .vars) (T .lows) (T .highs) (l .members) (l .struck) t (take (st .members) (l .members)) marks
-    (sym count ∙ ap (λ (u : Table). u .count) e ∙ count-indexed (length (l .vars)) t)
-    (written-columns T (length (l .vars)) t e) (rest-zeros (l .members) (st .members) (E .room) (E .rest))
+    let many : st .kept ≡ length t = sym count ∙ ap (λ (u : Table). u .count) e ∙ count-indexed (length (l .vars)) t in
+    outcome-is (length (l .vars)) (length (l .members)) c number place (st .lines) (st .rounds) (st .kept) peak (listsOf T) (l .members) (l .struck) t (take (st .members) (l .members)) marks
+    many (written-lists T (length (l .vars)) t e (omega (arith, E .least)) (omega (arith, E .kept, E .good .within))) (rest-zeros (l .members) (st .members) (E .room) (E .rest))
     (subst (λ (k : ℕ). l .struck ≡ marks ++ zeros (k - length marks)) (E .marked)
     (rest-zeros (l .struck) (st .members) (omega (arith, E .room, E .marked)) (E .unmarked)))
     ∙ ap₂ (λ (a b : ℕ). outcome a b c (left number place peak (stateOf l st))) same same′ ∙ ap (outcome s m c) (sym v)
@@ -196,23 +206,23 @@ module _ (n : ℕ) (proof vs ls hs ds ks ms : List ℕ) (s m c : ℕ) (whole : V
 
 -- ---- the lists lent
 
-pub record LentSized (vars lows highs members struck scratch : List ℕ) : Type 0 where
-  pub columns : Sized vars lows highs
+pub record LentSized (c : Columns) (members struck scratch : List ℕ) : Type 0 where
+  pub columns : Sized (c .vars) (c .lows) (c .highs) (c .heads) (c .links)
   pub member-room : 2048 ≤ length members
   pub marks : length struck ≡ length members
   pub scratch-room : 4096 ≤ length scratch
 
-pub lent-sized : (vars lows highs members struck scratch : List ℕ) → lentFits vars lows highs members struck scratch ≡ true → LentSized vars lows highs members struck scratch
+pub lent-sized : (c : Columns) (members struck scratch : List ℕ) → lentFits c members struck scratch ≡ true → LentSized c members struck scratch
 unfolding lentFits
-lent-sized vars lows highs members struck scratch e =
-    let (columns, lists) = and-both (sizeFits vars lows highs) (leb 2048 (length members) && (eqb (length struck) (length members) && leb 4096 (length scratch))) e in
+lent-sized c members struck scratch e =
+    let (columns, lists) = and-both (sizeFits (c .vars) (c .lows) (c .highs) (c .heads) (c .links)) (leb 2048 (length members) && (eqb (length struck) (length members) && leb 4096 (length scratch))) e in
     let (m, rest) = and-both (leb 2048 (length members)) (eqb (length struck) (length members) && leb 4096 (length scratch)) lists in
-    let (k, c) = and-both (eqb (length struck) (length members)) (leb 4096 (length scratch)) rest in
+    let (k, last) = and-both (eqb (length struck) (length members)) (leb 4096 (length scratch)) rest in
     record {
-      columns = sized vars lows highs columns;
+      columns = sized (c .vars) (c .lows) (c .highs) (c .heads) (c .links) columns;
       member-room = leb-true 2048 (length members) m;
       marks = eqb-true (length struck) (length members) k;
-      scratch-room = leb-true 4096 (length scratch) c;
+      scratch-room = leb-true 4096 (length scratch) last;
     }
 
 -- columns, index and member list once they are emptied
@@ -224,15 +234,14 @@ emptied-opened s m two most room vs ls hs ds ks ms a b d e f g =
     record {
       least = omega arith;
       most = omega arith;
-      written = ap₂ (λ (x y : List ℕ). tableOf x y hs ds ks 2) a b ∙ ap₂ (λ (x y : List ℕ). tableOf (zeros s) (zeros s) x y ks 2) d e
-          ∙ ap (λ (x : List ℕ). tableOf (zeros s) (zeros s) (zeros s) (zeros (2 * s)) x 2) f ∙ table-emptied s two ∙ ap (λ (k : ℕ). indexed k emptied) (sym len);
+      written = emptied-table s two vs ls hs ds ks a b d e f ∙ ap (λ (k : ℕ). indexed k emptied) (sym len);
       room = omega arith;
       none = g ∙ ap zeros (sym long);
     }
 
 -- the whole, once the scratch list is zeros
-pub run-is : (s m c : ℕ) (formula proof : List ℕ) (vs ls hs ms ss : List ℕ) (r : Checked) (s′ m′ c′ : ℕ) (cs : List ℕ)
-    → outcomeOf vs ls hs ms ss (zeros c) r ≡ outcome s′ m′ c (verdict s′ formula proof) → s′ ≡ s → m′ ≡ m → cs ≡ zeros c′ → c′ ≡ c
-    → outcomeOf vs ls hs ms ss cs r ≡ outcome s m c (verdict s formula proof)
-run-is s m c formula proof vs ls hs ms ss r s′ m′ c′ cs e same same′ none same″ =
-    ap (λ (x : List ℕ). outcomeOf vs ls hs ms ss x r) (none ∙ ap zeros same″) ∙ e ∙ ap₂ (λ (a b : ℕ). outcome a b c (verdict a formula proof)) same same′
+pub run-is : (s m c : ℕ) (formula proof : List ℕ) (d : Columns) (ms ss : List ℕ) (r : Checked) (s′ m′ c′ : ℕ) (cs : List ℕ)
+    → outcomeOf d ms ss (zeros c) r ≡ outcome s′ m′ c (verdict s′ formula proof) → s′ ≡ s → m′ ≡ m → cs ≡ zeros c′ → c′ ≡ c
+    → outcomeOf d ms ss cs r ≡ outcome s m c (verdict s formula proof)
+run-is s m c formula proof d ms ss r s′ m′ c′ cs e same same′ none same″ =
+    ap (λ (x : List ℕ). outcomeOf d ms ss x r) (none ∙ ap zeros same″) ∙ e ∙ ap₂ (λ (a b : ℕ). outcome a b c (verdict a formula proof)) same same′

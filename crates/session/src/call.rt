@@ -4,24 +4,27 @@ ghost use mathlib.Core.Path.{_≡_};
 ghost use mathlib.Core.Bool.{true};
 ghost use Prim.Native.Nat.{_≤_};
 ghost use lib.ListN.{length};
+ghost use Rattle.table.specs.Columns.{columnsMade};
 ghost use Rattle.walks.specs.Readable.{Roomy};
 ghost use Rattle.verdict.specs.Check.{verdict, lentFits, outcome, check};
 ghost use Rattle.session.specs.Checked.{outcomeOf};
 
-// Whether columns, member list with its marks and scratch list are of proper size.
+// Whether columns, index, member list with its marks and scratch list are of proper size.
 fn lent_fits(
     vars: &[u8],
     lows: &[u16],
     highs: &[u16],
+    heads: &[u16],
+    links: &[u16],
     members: &[u16],
     scratch: &[u16],
     struck: &[u8],
 ) -> bool
-    ensures { λ r. ⌜ r
-        ≡ lentFits (now (vars .entry)) (now (lows .entry)) (now (highs .entry)) (now (members .entry)) (now (struck .entry))
-        (now (scratch .entry)) ⌝ }
+    ensures { λ r. ⌜ (
+        let lent = columnsMade (now (vars .entry)) (now (lows .entry)) (now (highs .entry)) (now (heads .entry)) (now (links .entry)) in
+        r ≡ lentFits lent (now (members .entry)) (now (struck .entry)) (now (scratch .entry))) ⌝ }
 {
-    if !table::test::size_fits(vars, lows, highs) {
+    if !table::test::size_fits(vars, lows, highs, heads, links) {
         return false;
     }
     if members.len() < 2048 {
@@ -35,31 +38,32 @@ fn check_64<'a>(
     vars: &mut [u8],
     lows: &mut [u16],
     highs: &mut [u16],
+    heads: &mut [u16],
+    links: &mut [u16],
     members: &mut [u16],
     scratch: &mut [u16],
     struck: &mut [u8],
     formula: &'a [u8],
     proof: &'a [u8],
 ) -> Checked
-    requires { ⌜ (lentFits (now vars) (now lows) (now highs) (now members) (now struck) (now scratch) ≡ true)
-        × (length (now vars) ≤ 64) ⌝ }
-    ensures { λ r. ⌜ outcomeOf (now (vars .exit)) (now (lows .exit)) (now (highs .exit)) (now (members .exit)) (now (struck .exit))
-        (now (scratch .exit)) r
+    requires { ⌜ (
+        let lent = columnsMade (now vars) (now lows) (now highs) (now heads) (now links) in
+        (lentFits lent (now members) (now struck) (now scratch) ≡ true) × (length (now vars) ≤ 64)) ⌝ }
+    ensures { λ r. ⌜ (
+        let left = columnsMade (now (vars .exit)) (now (lows .exit)) (now (highs .exit)) (now (heads .exit)) (now (links .exit)) in
+        outcomeOf left (now (members .exit)) (now (struck .exit)) (now (scratch .exit)) r
         ≡ outcome (length (now (vars .entry))) (length (now (members .entry))) (length (now (scratch .entry)))
-        (verdict (length (now (vars .entry))) (now (formula .entry)) (now (proof .entry))) ⌝ }
+        (verdict (length (now (vars .entry))) (now (formula .entry)) (now (proof .entry)))) ⌝ }
 {
-    let mut heads = [0u16; 128];
-    let mut links = [0u16; 64];
     let mut memo = [0u64; 1024];
     let mut marks = [0u8; 64];
     let places = vars.len();
-    let ends = 2 * places;
     crate::run(
         vars,
         lows,
         highs,
-        &mut heads[..ends],
-        &mut links[..places],
+        heads,
+        links,
         &mut memo,
         &mut marks[..places],
         members,
@@ -75,6 +79,8 @@ fn check_4096<'a>(
     vars: &mut [u8],
     lows: &mut [u16],
     highs: &mut [u16],
+    heads: &mut [u16],
+    links: &mut [u16],
     members: &mut [u16],
     scratch: &mut [u16],
     struck: &mut [u8],
@@ -82,25 +88,23 @@ fn check_4096<'a>(
     formula: &'a [u8],
     proof: &'a [u8],
 ) -> Checked
-    requires { ⌜ (lentFits (now vars) (now lows) (now highs) (now members) (now struck) (now scratch) ≡ true)
-        × (length (now vars) ≤ 4096)
-        × Roomy (now vars) (now memo) ⌝ }
-    ensures { λ r. ⌜ outcomeOf (now (vars .exit)) (now (lows .exit)) (now (highs .exit)) (now (members .exit)) (now (struck .exit))
-        (now (scratch .exit)) r
+    requires { ⌜ (
+        let lent = columnsMade (now vars) (now lows) (now highs) (now heads) (now links) in
+        (lentFits lent (now members) (now struck) (now scratch) ≡ true) × (length (now vars) ≤ 4096) × Roomy (now vars) (now memo)) ⌝ }
+    ensures { λ r. ⌜ (
+        let left = columnsMade (now (vars .exit)) (now (lows .exit)) (now (highs .exit)) (now (heads .exit)) (now (links .exit)) in
+        outcomeOf left (now (members .exit)) (now (struck .exit)) (now (scratch .exit)) r
         ≡ outcome (length (now (vars .entry))) (length (now (members .entry))) (length (now (scratch .entry)))
-        (verdict (length (now (vars .entry))) (now (formula .entry)) (now (proof .entry))) ⌝ }
+        (verdict (length (now (vars .entry))) (now (formula .entry)) (now (proof .entry)))) ⌝ }
 {
-    let mut heads = [0u16; 8192];
-    let mut links = [0u16; 4096];
     let mut marks = [0u8; 4096];
     let places = vars.len();
-    let ends = 2 * places;
     crate::run(
         vars,
         lows,
         highs,
-        &mut heads[..ends],
-        &mut links[..places],
+        heads,
+        links,
         memo,
         &mut marks[..places],
         members,
@@ -116,24 +120,30 @@ fn check_4096_short<'a>(
     vars: &mut [u8],
     lows: &mut [u16],
     highs: &mut [u16],
+    heads: &mut [u16],
+    links: &mut [u16],
     members: &mut [u16],
     scratch: &mut [u16],
     struck: &mut [u8],
     formula: &'a [u8],
     proof: &'a [u8],
 ) -> Checked
-    requires { ⌜ (lentFits (now vars) (now lows) (now highs) (now members) (now struck) (now scratch) ≡ true)
-        × (length (now vars) ≤ 4096) ⌝ }
-    ensures { λ r. ⌜ outcomeOf (now (vars .exit)) (now (lows .exit)) (now (highs .exit)) (now (members .exit)) (now (struck .exit))
-        (now (scratch .exit)) r
+    requires { ⌜ (
+        let lent = columnsMade (now vars) (now lows) (now highs) (now heads) (now links) in
+        (lentFits lent (now members) (now struck) (now scratch) ≡ true) × (length (now vars) ≤ 4096)) ⌝ }
+    ensures { λ r. ⌜ (
+        let left = columnsMade (now (vars .exit)) (now (lows .exit)) (now (highs .exit)) (now (heads .exit)) (now (links .exit)) in
+        outcomeOf left (now (members .exit)) (now (struck .exit)) (now (scratch .exit)) r
         ≡ outcome (length (now (vars .entry))) (length (now (members .entry))) (length (now (scratch .entry)))
-        (verdict (length (now (vars .entry))) (now (formula .entry)) (now (proof .entry))) ⌝ }
+        (verdict (length (now (vars .entry))) (now (formula .entry)) (now (proof .entry)))) ⌝ }
 {
     let mut memo = [0u64; 8192];
     check_4096(
         vars,
         lows,
         highs,
+        heads,
+        links,
         members,
         scratch,
         struck,
@@ -148,24 +158,30 @@ fn check_4096_long<'a>(
     vars: &mut [u8],
     lows: &mut [u16],
     highs: &mut [u16],
+    heads: &mut [u16],
+    links: &mut [u16],
     members: &mut [u16],
     scratch: &mut [u16],
     struck: &mut [u8],
     formula: &'a [u8],
     proof: &'a [u8],
 ) -> Checked
-    requires { ⌜ (lentFits (now vars) (now lows) (now highs) (now members) (now struck) (now scratch) ≡ true)
-        × (length (now vars) ≤ 4096) ⌝ }
-    ensures { λ r. ⌜ outcomeOf (now (vars .exit)) (now (lows .exit)) (now (highs .exit)) (now (members .exit)) (now (struck .exit))
-        (now (scratch .exit)) r
+    requires { ⌜ (
+        let lent = columnsMade (now vars) (now lows) (now highs) (now heads) (now links) in
+        (lentFits lent (now members) (now struck) (now scratch) ≡ true) × (length (now vars) ≤ 4096)) ⌝ }
+    ensures { λ r. ⌜ (
+        let left = columnsMade (now (vars .exit)) (now (lows .exit)) (now (highs .exit)) (now (heads .exit)) (now (links .exit)) in
+        outcomeOf left (now (members .exit)) (now (struck .exit)) (now (scratch .exit)) r
         ≡ outcome (length (now (vars .entry))) (length (now (members .entry))) (length (now (scratch .entry)))
-        (verdict (length (now (vars .entry))) (now (formula .entry)) (now (proof .entry))) ⌝ }
+        (verdict (length (now (vars .entry))) (now (formula .entry)) (now (proof .entry)))) ⌝ }
 {
     let mut memo = [0u64; 90112];
     check_4096(
         vars,
         lows,
         highs,
+        heads,
+        links,
         members,
         scratch,
         struck,
@@ -180,31 +196,32 @@ fn check_65536<'a>(
     vars: &mut [u8],
     lows: &mut [u16],
     highs: &mut [u16],
+    heads: &mut [u16],
+    links: &mut [u16],
     members: &mut [u16],
     scratch: &mut [u16],
     struck: &mut [u8],
     formula: &'a [u8],
     proof: &'a [u8],
 ) -> Checked
-    requires { ⌜ (lentFits (now vars) (now lows) (now highs) (now members) (now struck) (now scratch) ≡ true)
-        × (length (now vars) ≤ 65536) ⌝ }
-    ensures { λ r. ⌜ outcomeOf (now (vars .exit)) (now (lows .exit)) (now (highs .exit)) (now (members .exit)) (now (struck .exit))
-        (now (scratch .exit)) r
+    requires { ⌜ (
+        let lent = columnsMade (now vars) (now lows) (now highs) (now heads) (now links) in
+        (lentFits lent (now members) (now struck) (now scratch) ≡ true) × (length (now vars) ≤ 65536)) ⌝ }
+    ensures { λ r. ⌜ (
+        let left = columnsMade (now (vars .exit)) (now (lows .exit)) (now (highs .exit)) (now (heads .exit)) (now (links .exit)) in
+        outcomeOf left (now (members .exit)) (now (struck .exit)) (now (scratch .exit)) r
         ≡ outcome (length (now (vars .entry))) (length (now (members .entry))) (length (now (scratch .entry)))
-        (verdict (length (now (vars .entry))) (now (formula .entry)) (now (proof .entry))) ⌝ }
+        (verdict (length (now (vars .entry))) (now (formula .entry)) (now (proof .entry)))) ⌝ }
 {
-    let mut heads = [0u16; 131072];
-    let mut links = [0u16; 65536];
     let mut memo = [0u64; 90112];
     let mut marks = [0u8; 65536];
     let places = vars.len();
-    let ends = 2 * places;
     crate::run(
         vars,
         lows,
         highs,
-        &mut heads[..ends],
-        &mut links[..places],
+        heads,
+        links,
         &mut memo,
         &mut marks[..places],
         members,
@@ -220,6 +237,8 @@ pub fn call<'a>(
     vars: &mut [u8],
     lows: &mut [u16],
     highs: &mut [u16],
+    heads: &mut [u16],
+    links: &mut [u16],
     count: usize,
     members: &mut [u16],
     scratch: &mut [u16],
@@ -227,12 +246,14 @@ pub fn call<'a>(
     formula: &'a [u8],
     proof: &'a [u8],
 ) -> Checked
-    ensures { λ r. ⌜ outcomeOf (now (vars .exit)) (now (lows .exit)) (now (highs .exit)) (now (members .exit)) (now (struck .exit))
-        (now (scratch .exit)) r
-        ≡ check (now (vars .entry)) (now (lows .entry)) (now (highs .entry)) count (now (members .entry)) (now (struck .entry))
-        (now (scratch .entry)) (now (formula .entry)) (now (proof .entry)) ⌝ }
+    ensures { λ r. ⌜ (
+        let lent = columnsMade (now (vars .entry)) (now (lows .entry)) (now (highs .entry)) (now (heads .entry)) (now (links .entry)) in
+        let left = columnsMade (now (vars .exit)) (now (lows .exit)) (now (highs .exit)) (now (heads .exit)) (now (links .exit)) in
+        outcomeOf left (now (members .exit)) (now (struck .exit)) (now (scratch .exit)) r
+        ≡ check lent count (now (members .entry)) (now (struck .entry)) (now (scratch .entry))
+        (now (formula .entry)) (now (proof .entry))) ⌝ }
 {
-    if !lent_fits(vars, lows, highs, members, scratch, struck) {
+    if !lent_fits(vars, lows, highs, heads, links, members, scratch, struck) {
         return Checked {
             number: 7,
             place: 0,
@@ -243,13 +264,57 @@ pub fn call<'a>(
         };
     }
     if vars.len() <= 64 {
-        return check_64(vars, lows, highs, members, scratch, struck, formula, proof);
+        return check_64(
+            vars,
+            lows,
+            highs,
+            heads,
+            links,
+            members,
+            scratch,
+            struck,
+            formula,
+            proof,
+        );
     }
     if vars.len() <= 4096 {
         if proof.len() <= 2048 {
-            return check_4096_short(vars, lows, highs, members, scratch, struck, formula, proof);
+            return check_4096_short(
+                vars,
+                lows,
+                highs,
+                heads,
+                links,
+                members,
+                scratch,
+                struck,
+                formula,
+                proof,
+            );
         }
-        return check_4096_long(vars, lows, highs, members, scratch, struck, formula, proof);
+        return check_4096_long(
+            vars,
+            lows,
+            highs,
+            heads,
+            links,
+            members,
+            scratch,
+            struck,
+            formula,
+            proof,
+        );
     }
-    check_65536(vars, lows, highs, members, scratch, struck, formula, proof)
+    check_65536(
+        vars,
+        lows,
+        highs,
+        heads,
+        links,
+        members,
+        scratch,
+        struck,
+        formula,
+        proof,
+    )
 }

@@ -23,15 +23,26 @@ pub fn clear_numbers(numbers: &mut [u16])
     }
 }
 
-// The columns and the member list, all zero.
-pub fn empty(vars: &mut [u8], lows: &mut [u16], highs: &mut [u16], members: &mut [u16])
+// The columns, their index and the member list, all zero.
+pub fn empty(
+    vars: &mut [u8],
+    lows: &mut [u16],
+    highs: &mut [u16],
+    heads: &mut [u16],
+    links: &mut [u16],
+    members: &mut [u16],
+)
     ensures { λ _. ⌜ now (vars .exit) ≡ zeros (length (now (vars .entry))) ⌝ }
     ensures { λ _. ⌜ now (lows .exit) ≡ zeros (length (now (lows .entry))) ⌝ }
     ensures { λ _. ⌜ now (highs .exit) ≡ zeros (length (now (highs .entry))) ⌝ }
+    ensures { λ _. ⌜ now (heads .exit) ≡ zeros (length (now (heads .entry))) ⌝ }
+    ensures { λ _. ⌜ now (links .exit) ≡ zeros (length (now (links .entry))) ⌝ }
     ensures { λ _. ⌜ now (members .exit) ≡ zeros (length (now (members .entry))) ⌝ }
 {
     clear_bytes(vars);
     clear_numbers(lows);
     clear_numbers(highs);
+    clear_numbers(heads);
+    clear_numbers(links);
     clear_numbers(members);
 }

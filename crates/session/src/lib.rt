@@ -4,9 +4,10 @@ use formula::Start;
 ghost use mathlib.Core.Path.{_≡_};
 ghost use mathlib.Core.Bool.{true};
 ghost use mathlib.Core.List.{[]};
-ghost use Prim.Native.Nat.{_*_, _≤_};
+ghost use Prim.Native.Nat.{_≤_};
 ghost use lib.ListN.{length};
 ghost use Rattle.dimacs.specs.Clauses.{clausesFrom};
+ghost use Rattle.table.specs.Columns.{columnsMade};
 ghost use Rattle.table.specs.Indexed.{tableOf};
 ghost use Rattle.walks.specs.Readable.{Roomy};
 ghost use Rattle.conflict.specs.Marks.{unmarked};
@@ -56,11 +57,12 @@ fn run_clauses<'a>(
         × (now marks ≡ unmarked (length (now vars)))
         × Roomy (now vars) (now memo)
         × (now struck ≡ zeros (length (now members))) ⌝ }
-    ensures { λ r. ⌜ outcomeOf (now (vars .exit)) (now (lows .exit)) (now (highs .exit)) (now (members .exit))
-        (now (struck .exit)) (zeros (length (now (scratch .entry)))) r
+    ensures { λ r. ⌜ (
+        let left = columnsMade (now (vars .exit)) (now (lows .exit)) (now (highs .exit)) (now (heads .exit)) (now (links .exit)) in
+        outcomeOf left (now (members .exit)) (now (struck .exit)) (zeros (length (now (scratch .entry)))) r
         ≡ outcome (length (now (vars .entry))) (length (now (members .entry))) (length (now (scratch .entry)))
         (clauses variables (length (now (vars .entry))) (now (proof .entry)) emptied []
-        (clausesFrom (now (formula .entry)) variables wanted from)) ⌝ }
+        (clausesFrom (now (formula .entry)) variables wanted from))) ⌝ }
 {
     match formula::read_clauses(
         vars,
@@ -79,7 +81,7 @@ fn run_clauses<'a>(
             place,
             peak,
         } => {
-            clear::empty(vars, lows, highs, members);
+            clear::empty(vars, lows, highs, heads, links, members);
             Checked {
                 number,
                 place,
@@ -128,10 +130,11 @@ fn run_header<'a>(
         × (now marks ≡ unmarked (length (now vars)))
         × Roomy (now vars) (now memo)
         × (now struck ≡ zeros (length (now members))) ⌝ }
-    ensures { λ r. ⌜ outcomeOf (now (vars .exit)) (now (lows .exit)) (now (highs .exit)) (now (members .exit))
-        (now (struck .exit)) (zeros (length (now (scratch .entry)))) r
+    ensures { λ r. ⌜ (
+        let left = columnsMade (now (vars .exit)) (now (lows .exit)) (now (highs .exit)) (now (heads .exit)) (now (links .exit)) in
+        outcomeOf left (now (members .exit)) (now (struck .exit)) (zeros (length (now (scratch .entry)))) r
         ≡ outcome (length (now (vars .entry))) (length (now (members .entry))) (length (now (scratch .entry)))
-        (verdict (length (now (vars .entry))) (now (formula .entry)) (now (proof .entry))) ⌝ }
+        (verdict (length (now (vars .entry))) (now (formula .entry)) (now (proof .entry)))) ⌝ }
 {
     match dimacs::read_header(formula) {
         Header::Improper { number, place } => Checked {
@@ -166,7 +169,7 @@ fn run_header<'a>(
     }
 }
 
-// The whole check, with index and the conflict's marks all zero. What it leaves in index, memo and those marks is not said.
+// The whole check, with the conflict's marks all zero. What it leaves in memo and those marks is not said.
 pub fn run<'a>(
     vars: &mut [u8],
     lows: &mut [u16],
@@ -181,17 +184,17 @@ pub fn run<'a>(
     formula: &'a [u8],
     proof: &'a [u8],
 ) -> Checked
-    requires { ⌜ lentFits (now vars) (now lows) (now highs) (now members) (now struck) (now scratch) ≡ true ⌝ }
-    requires { ⌜ (now heads ≡ zeros (2 * length (now vars)))
-        × (now links ≡ zeros (length (now vars)))
-        × (now marks ≡ unmarked (length (now vars)))
-        × Roomy (now vars) (now memo) ⌝ }
-    ensures { λ r. ⌜ outcomeOf (now (vars .exit)) (now (lows .exit)) (now (highs .exit)) (now (members .exit)) (now (struck .exit))
-        (now (scratch .exit)) r
+    requires { ⌜ (
+        let lent = columnsMade (now vars) (now lows) (now highs) (now heads) (now links) in
+        lentFits lent (now members) (now struck) (now scratch) ≡ true) ⌝ }
+    requires { ⌜ (now marks ≡ unmarked (length (now vars))) × Roomy (now vars) (now memo) ⌝ }
+    ensures { λ r. ⌜ (
+        let left = columnsMade (now (vars .exit)) (now (lows .exit)) (now (highs .exit)) (now (heads .exit)) (now (links .exit)) in
+        outcomeOf left (now (members .exit)) (now (struck .exit)) (now (scratch .exit)) r
         ≡ outcome (length (now (vars .entry))) (length (now (members .entry))) (length (now (scratch .entry)))
-        (verdict (length (now (vars .entry))) (now (formula .entry)) (now (proof .entry))) ⌝ }
+        (verdict (length (now (vars .entry))) (now (formula .entry)) (now (proof .entry)))) ⌝ }
 {
-    clear::empty(vars, lows, highs, members);
+    clear::empty(vars, lows, highs, heads, links, members);
     clear::clear_bytes(struck);
     let said = run_header(
         vars,

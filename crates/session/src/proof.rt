@@ -5,6 +5,7 @@ use steps::Step;
 ghost use mathlib.Core.Path.{_≡_};
 ghost use Prim.Native.Nat.{suc, _≤_};
 ghost use lib.ListN.{length, take};
+ghost use Rattle.table.specs.Columns.{columnsMade};
 ghost use Rattle.table.specs.Indexed.{tableOf, nodesOf};
 ghost use Rattle.walks.specs.Readable.{Roomy};
 ghost use Rattle.conflict.specs.Marks.{unmarked};
@@ -132,8 +133,8 @@ pub fn run_proof(
         × (now struck ≡ zeros (length (now members)))) ⌝ }
     ensures { λ r. ⌜ (
         let before = tableOf (now (vars .entry)) (now (lows .entry)) (now (highs .entry)) (now (heads .entry)) (now (links .entry)) count in
-        outcomeOf (now (vars .exit)) (now (lows .exit)) (now (highs .exit)) (now (members .exit)) (now (struck .exit))
-        (zeros (length (now (scratch .entry)))) r
+        let left = columnsMade (now (vars .exit)) (now (lows .exit)) (now (highs .exit)) (now (heads .exit)) (now (links .exit)) in
+        outcomeOf left (now (members .exit)) (now (struck .exit)) (zeros (length (now (scratch .entry)))) r
         ≡ outcome (length (now (vars .entry))) (length (now (members .entry))) (length (now (scratch .entry)))
         (records (suc (length (now (proof .entry)))) variables (length (now (vars .entry))) (now (proof .entry))
         (begun (nodesOf before) (take made (now (members .entry)))) 0)) ⌝ }

@@ -1,12 +1,12 @@
-// Conjunction, negation and the two cofactors: one frame for the four, with working arrays as large as the table asks for.
+// Conjunction, negation and the two cofactors: one frame for the four, with a memo as large as the table asks for.
 use operate::Operation;
 use table::NodeNo;
 ghost use mathlib.Core.Path.{_≡_};
 ghost use mathlib.Core.Bool.{true};
-ghost use Prim.Native.Nat.{_*_, _≤_, _<_};
+ghost use Prim.Native.Nat.{_≤_};
 ghost use lib.ListN.{length, replicate};
-ghost use Rattle.table.specs.Columns.{sizeFits};
-ghost use Rattle.table.specs.Indexed.{tableOf};
+ghost use Rattle.table.specs.Columns.{sizeFits, columnsMade};
+ghost use Rattle.table.specs.Indexed.{tableOf, listsOf};
 ghost use Rattle.operate.specs.Inner.{Ready};
 ghost use Rattle.single.specs.Single.{operandRefusal, madeOf, madeBy, operation};
 ghost use Rattle.single.specs.Inner.{OneOperand, placingOf};
@@ -56,9 +56,9 @@ fn made(
 ) -> Single
     requires { ⌜ Ready op (now memo) (tableOf (now vars) (now lows) (now highs) (now heads) (now links) count) (f .0) (g .0) ⌝ }
     ensures { λ r. ⌜ (
-        let before = tableOf (now (vars .entry)) (now (lows .entry)) (now (highs .entry)) (now (heads .entry)) (now (links .entry)) count in
-        madeOf (now (vars .exit)) (now (lows .exit)) (now (highs .exit)) r
-        ≡ madeBy (now (vars .entry)) (now (lows .entry)) (now (highs .entry)) count (placingOf op before (f .0) (g .0))) ⌝ }
+        let t = tableOf (now (vars .entry)) (now (lows .entry)) (now (highs .entry)) (now (heads .entry)) (now (links .entry)) count in
+        let after = columnsMade (now (vars .exit)) (now (lows .exit)) (now (highs .exit)) (now (heads .exit)) (now (links .exit)) in
+        madeOf after r ≡ madeBy (listsOf t) count (placingOf op t (f .0) (g .0))) ⌝ }
 {
     let p = operate::apply(vars, lows, highs, heads, links, memo, count, op, f, g);
     if p.full {
@@ -77,7 +77,7 @@ fn made(
     }
 }
 
-// The call over working arrays that are all zero: 26, 13, 27 or 15, then the operation.
+// The call with an empty memo: 26, 13, 27 or 15, then the operation.
 fn judged(
     vars: &mut [u8],
     lows: &mut [u16],
@@ -90,16 +90,16 @@ fn judged(
     f: NodeNo,
     g: NodeNo,
 ) -> Single
-    requires { ⌜ (sizeFits (now vars) (now lows) (now highs) ≡ true)
-        × (now heads ≡ replicate (2 * length (now vars)) 0)
-        × (now links ≡ replicate (length (now vars)) 0)
+    requires { ⌜ (sizeFits (now vars) (now lows) (now highs) (now heads) (now links) ≡ true)
         × (now memo ≡ replicate (length (now memo)) 0)
         × (3 ≤ length (now memo))
         × OneOperand op (g .0) ⌝ }
-    ensures { λ r. ⌜ madeOf (now (vars .exit)) (now (lows .exit)) (now (highs .exit)) r
-        ≡ operation op (now (vars .entry)) (now (lows .entry)) (now (highs .entry)) count (f .0) (g .0) ⌝ }
+    ensures { λ r. ⌜ (
+        let before = columnsMade (now (vars .entry)) (now (lows .entry)) (now (highs .entry)) (now (heads .entry)) (now (links .entry)) in
+        let after = columnsMade (now (vars .exit)) (now (lows .exit)) (now (highs .exit)) (now (heads .exit)) (now (links .exit)) in
+        madeOf after r ≡ operation op before count (f .0) (g .0)) ⌝ }
 {
-    if !table::test::in_order(vars, lows, highs, heads, links, count) {
+    if !table::test::order_fits(vars, lows, highs, heads, links, count) {
         return Single {
             number: 26,
             node: NodeNo(0),
@@ -131,103 +131,70 @@ fn judged(
     made(vars, lows, highs, heads, links, memo, count, op, f, g)
 }
 
-// For up to 64 places.
+// With a memo for up to 64 places.
 fn judged_64(
     vars: &mut [u8],
     lows: &mut [u16],
     highs: &mut [u16],
+    heads: &mut [u16],
+    links: &mut [u16],
     count: usize,
     op: Operation,
     f: NodeNo,
     g: NodeNo,
 ) -> Single
-    requires { ⌜ (sizeFits (now vars) (now lows) (now highs) ≡ true) × (length (now vars) ≤ 64) × OneOperand op (g .0) ⌝ }
-    ensures { λ r. ⌜ madeOf (now (vars .exit)) (now (lows .exit)) (now (highs .exit)) r
-        ≡ operation op (now (vars .entry)) (now (lows .entry)) (now (highs .entry)) count (f .0) (g .0) ⌝ }
+    requires { ⌜ (sizeFits (now vars) (now lows) (now highs) (now heads) (now links) ≡ true) × OneOperand op (g .0) ⌝ }
+    ensures { λ r. ⌜ (
+        let before = columnsMade (now (vars .entry)) (now (lows .entry)) (now (highs .entry)) (now (heads .entry)) (now (links .entry)) in
+        let after = columnsMade (now (vars .exit)) (now (lows .exit)) (now (highs .exit)) (now (heads .exit)) (now (links .exit)) in
+        madeOf after r ≡ operation op before count (f .0) (g .0)) ⌝ }
 {
-    let mut heads = [0u16; 128];
-    let mut links = [0u16; 64];
     let mut memo = [0u64; 1024];
-    let places = vars.len();
-    let ends = 2 * places;
-    judged(
-        vars,
-        lows,
-        highs,
-        &mut heads[..ends],
-        &mut links[..places],
-        &mut memo,
-        count,
-        op,
-        f,
-        g,
-    )
+    judged(vars, lows, highs, heads, links, &mut memo, count, op, f, g)
 }
 
-// For up to 4,096 places.
+// With a memo for up to 4,096 places.
 fn judged_4096(
     vars: &mut [u8],
     lows: &mut [u16],
     highs: &mut [u16],
+    heads: &mut [u16],
+    links: &mut [u16],
     count: usize,
     op: Operation,
     f: NodeNo,
     g: NodeNo,
 ) -> Single
-    requires { ⌜ (sizeFits (now vars) (now lows) (now highs) ≡ true) × (length (now vars) ≤ 4096) × OneOperand op (g .0) ⌝ }
-    ensures { λ r. ⌜ madeOf (now (vars .exit)) (now (lows .exit)) (now (highs .exit)) r
-        ≡ operation op (now (vars .entry)) (now (lows .entry)) (now (highs .entry)) count (f .0) (g .0) ⌝ }
+    requires { ⌜ (sizeFits (now vars) (now lows) (now highs) (now heads) (now links) ≡ true) × OneOperand op (g .0) ⌝ }
+    ensures { λ r. ⌜ (
+        let before = columnsMade (now (vars .entry)) (now (lows .entry)) (now (highs .entry)) (now (heads .entry)) (now (links .entry)) in
+        let after = columnsMade (now (vars .exit)) (now (lows .exit)) (now (highs .exit)) (now (heads .exit)) (now (links .exit)) in
+        madeOf after r ≡ operation op before count (f .0) (g .0)) ⌝ }
 {
-    let mut heads = [0u16; 8192];
-    let mut links = [0u16; 4096];
     let mut memo = [0u64; 8192];
-    let places = vars.len();
-    let ends = 2 * places;
-    judged(
-        vars,
-        lows,
-        highs,
-        &mut heads[..ends],
-        &mut links[..places],
-        &mut memo,
-        count,
-        op,
-        f,
-        g,
-    )
+    judged(vars, lows, highs, heads, links, &mut memo, count, op, f, g)
 }
 
-// For up to 65,536 places.
+// With a memo for up to 65,536 places.
 fn judged_65536(
     vars: &mut [u8],
     lows: &mut [u16],
     highs: &mut [u16],
+    heads: &mut [u16],
+    links: &mut [u16],
     count: usize,
     op: Operation,
     f: NodeNo,
     g: NodeNo,
 ) -> Single
-    requires { ⌜ (sizeFits (now vars) (now lows) (now highs) ≡ true) × (length (now vars) ≤ 65536) × OneOperand op (g .0) ⌝ }
-    ensures { λ r. ⌜ madeOf (now (vars .exit)) (now (lows .exit)) (now (highs .exit)) r
-        ≡ operation op (now (vars .entry)) (now (lows .entry)) (now (highs .entry)) count (f .0) (g .0) ⌝ }
+    requires { ⌜ (sizeFits (now vars) (now lows) (now highs) (now heads) (now links) ≡ true) × OneOperand op (g .0) ⌝ }
+    ensures { λ r. ⌜ (
+        let before = columnsMade (now (vars .entry)) (now (lows .entry)) (now (highs .entry)) (now (heads .entry)) (now (links .entry)) in
+        let after = columnsMade (now (vars .exit)) (now (lows .exit)) (now (highs .exit)) (now (heads .exit)) (now (links .exit)) in
+        madeOf after r ≡ operation op before count (f .0) (g .0)) ⌝ }
 {
-    let mut heads = [0u16; 131072];
-    let mut links = [0u16; 65536];
     let mut memo = [0u64; 65536];
-    let places = vars.len();
-    let ends = 2 * places;
-    judged(
-        vars,
-        lows,
-        highs,
-        &mut heads[..ends],
-        &mut links[..places],
-        &mut memo,
-        count,
-        op,
-        f,
-        g,
-    )
+    judged(vars, lows, highs, heads, links, &mut memo, count, op, f, g)
 }
 
 // The call: 7, then what the other numbers ask.
@@ -235,16 +202,20 @@ pub fn call(
     vars: &mut [u8],
     lows: &mut [u16],
     highs: &mut [u16],
+    heads: &mut [u16],
+    links: &mut [u16],
     count: usize,
     op: Operation,
     f: NodeNo,
     g: NodeNo,
 ) -> Single
     requires { ⌜ OneOperand op (g .0) ⌝ }
-    ensures { λ r. ⌜ madeOf (now (vars .exit)) (now (lows .exit)) (now (highs .exit)) r
-        ≡ operation op (now (vars .entry)) (now (lows .entry)) (now (highs .entry)) count (f .0) (g .0) ⌝ }
+    ensures { λ r. ⌜ (
+        let before = columnsMade (now (vars .entry)) (now (lows .entry)) (now (highs .entry)) (now (heads .entry)) (now (links .entry)) in
+        let after = columnsMade (now (vars .exit)) (now (lows .exit)) (now (highs .exit)) (now (heads .exit)) (now (links .exit)) in
+        madeOf after r ≡ operation op before count (f .0) (g .0)) ⌝ }
 {
-    if !table::test::size_fits(vars, lows, highs) {
+    if !table::test::size_fits(vars, lows, highs, heads, links) {
         return Single {
             number: 7,
             node: NodeNo(0),
@@ -252,10 +223,10 @@ pub fn call(
         };
     }
     if vars.len() <= 64 {
-        return judged_64(vars, lows, highs, count, op, f, g);
+        return judged_64(vars, lows, highs, heads, links, count, op, f, g);
     }
     if vars.len() <= 4096 {
-        return judged_4096(vars, lows, highs, count, op, f, g);
+        return judged_4096(vars, lows, highs, heads, links, count, op, f, g);
     }
-    judged_65536(vars, lows, highs, count, op, f, g)
+    judged_65536(vars, lows, highs, heads, links, count, op, f, g)
 }

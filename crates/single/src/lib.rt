@@ -1,9 +1,9 @@
-// The five single calls, with the table alone lent.
+// The five single calls, with the table and its index alone lent.
 pub mod call;
-pub mod order;
 
 use table::NodeNo;
 ghost use mathlib.Core.Path.{_≡_};
+ghost use Rattle.table.specs.Columns.{columnsMade};
 ghost use Rattle.single.specs.Single.{evaluation};
 
 // What evaluation says: 01's number, yes or no, and the count as lent.
@@ -19,20 +19,24 @@ pub fn evaluate(
     vars: &[u8],
     lows: &[u16],
     highs: &[u16],
+    heads: &[u16],
+    links: &[u16],
     count: usize,
     node: NodeNo,
     word: u64,
 ) -> Evaluated
-    ensures { λ r. ⌜ r ≡ evaluation (now (vars .entry)) (now (lows .entry)) (now (highs .entry)) count (node .0) word ⌝ }
+    ensures { λ r. ⌜ (
+        let before = columnsMade (now (vars .entry)) (now (lows .entry)) (now (highs .entry)) (now (heads .entry)) (now (links .entry)) in
+        r ≡ evaluation before count (node .0) word) ⌝ }
 {
-    if !table::test::size_fits(vars, lows, highs) {
+    if !table::test::size_fits(vars, lows, highs, heads, links) {
         return Evaluated {
             number: 7,
             yes: false,
             count,
         };
     }
-    if !order::good_order(vars, lows, highs, count) {
+    if !table::test::order_fits(vars, lows, highs, heads, links, count) {
         return Evaluated {
             number: 26,
             yes: false,

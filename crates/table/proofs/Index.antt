@@ -14,7 +14,8 @@ use lib.Seq.{getD-set-same, getD-set-other, set-set, set-getD}
 use lib.Dec.{eqb}
 use borrow.Author.Tests.{eq-eqb, ne-eqb}
 use Rattle.table.specs.Nodes.{Node, at, alike, findFrom, find}
-use Rattle.table.specs.Indexed.{bucket, bucketAt, Index, indexMade, insert, indexFrom}
+use Rattle.table.specs.Index.{bucket, bucketAt}
+use Rattle.table.specs.Indexed.{Index, indexMade, insert, indexFrom}
 use Rattle.table.proofs.Written.{length-indexFrom}
 
 pub bucket-less : (n v l h : ℕ) → 0 < n → bucket n v l h < n

@@ -13,8 +13,9 @@ use borrow.Author.Tests.{lt-ltb, le-ltb}
 use Rattle.table.specs.declared.NodeNo.{NodeNo}
 use Rattle.table.specs.declared.Found.the-variants.{At, Nothing}
 use Rattle.table.specs.Nodes.{Node, nodeOf, blank, at, find, put, orAppend, placed, full, tookPlace}
-use Rattle.table.specs.Columns.{padded, Columns, columnsOf}
-use Rattle.table.specs.Indexed.{bucket, bucketAt, Index, indexMade, insert, indexFrom, indexOf, Table, tableOf, size, nodesOf, indexed, Good, Outcome, written, foundOf}
+use Rattle.table.specs.Columns.{padded, NodeColumns, columnsOf}
+use Rattle.table.specs.Index.{bucket, bucketAt}
+use Rattle.table.specs.Indexed.{Index, indexMade, insert, indexFrom, indexOf, Table, tableOf, size, nodesOf, indexed, Good, Outcome, written, foundOf}
 use Rattle.table.proofs.Written.{at-padded, rows-columns, length-nodes, size-indexed, lows-indexed, highs-indexed}
 use Rattle.table.proofs.Growth.{length-new}
 use Rattle.table.proofs.Placing.{put-same, put-differ}
@@ -28,7 +29,7 @@ map-set part [] k x = refl
 map-set part (y ∷ ys) zero x = refl
 map-set part (y ∷ ys) (suc k) x = ap (λ (r : List ℕ). part y ∷ r) (map-set part ys k x)
 
-abbrev storedAt : Columns → ℕ → Node → Columns
+abbrev storedAt : NodeColumns → ℕ → Node → NodeColumns
 storedAt c k x = record { vars = set (c .vars) k (x .var); lows = set (c .lows) k (x .low); highs = set (c .highs) k (x .high) }
 
 columns-set : (xs : List Node) (k : ℕ) (x : Node) → columnsOf (set xs k x) ≡ storedAt (columnsOf xs) k x
@@ -94,7 +95,7 @@ module _ (T : Table) (G : Good T) where
       ∙ ap (insert (indexOf (size T) (nodesOf T)) (bucket (2 * size T) v l h)) (sym len)
       ∙ sym (index-more (size T) (nodesOf T) (nodeOf v l h) (omega (arith, G .least))) in
       ap (λ (w : Table). tableOf (set (w .vars) (w .count) v) (set (w .lows) (w .count) l) (set (w .highs) (w .count) h) ds ks (w .count + 1)) (G .written)
-      ∙ ap (λ (c : Columns). tableOf (c .vars) (c .lows) (c .highs) ds ks (length (nodesOf T) + 1)) columns
+      ∙ ap (λ (c : NodeColumns). tableOf (c .vars) (c .lows) (c .highs) ds ks (length (nodesOf T) + 1)) columns
       ∙ ap (λ (x : Index). tableOf (columnsOf (padded (size T) (nodesOf T ++ nodeOf v l h ∷ [])) .vars) (columnsOf (padded (size T) (nodesOf T ++ nodeOf v l h ∷ [])) .lows) (columnsOf (padded (size T) (nodesOf T ++ nodeOf v l h ∷ [])) .highs) (x .heads) (x .links) (length (nodesOf T) + 1)) index
       ∙ ap (tableOf (columnsOf (padded (size T) (nodesOf T ++ nodeOf v l h ∷ [])) .vars) (columnsOf (padded (size T) (nodesOf T ++ nodeOf v l h ∷ [])) .lows) (columnsOf (padded (size T) (nodesOf T ++ nodeOf v l h ∷ [])) .highs) (indexOf (size T) (nodesOf T ++ nodeOf v l h ∷ []) .heads) (indexOf (size T) (nodesOf T ++ nodeOf v l h ∷ []) .links))
       (sym (length-append (nodesOf T) (nodeOf v l h ∷ [])))
@@ -223,7 +224,7 @@ module _ (s : ℕ) (u : List Node) (k : ℕ) (e : length u ≡ suc k) (two : 2 �
   popped-is =
       let columns : storedAt (columnsOf (padded s u)) k blank ≡ columnsOf (padded s (take k u)) =
       sym (columns-set (padded s u) k blank) ∙ ap columnsOf (padded-less s u k e lt) in
-      ap (λ (c : Columns). tableOf (c .vars) (c .lows) (c .highs) (remove (indexOf s u) (bucketAt (2 * s) u k) k .heads) (remove (indexOf s u) (bucketAt (2 * s) u k) k .links) k) columns
+      ap (λ (c : NodeColumns). tableOf (c .vars) (c .lows) (c .highs) (remove (indexOf s u) (bucketAt (2 * s) u k) k .heads) (remove (indexOf s u) (bucketAt (2 * s) u k) k .links) k) columns
       ∙ ap (λ (x : Index). tableOf (columnsOf (padded s (take k u)) .vars) (columnsOf (padded s (take k u)) .lows) (columnsOf (padded s (take k u)) .highs) (x .heads) (x .links) k) (index-less s u k e two lt)
       ∙ ap (tableOf (columnsOf (padded s (take k u)) .vars) (columnsOf (padded s (take k u)) .lows) (columnsOf (padded s (take k u)) .highs) (indexOf s (take k u) .heads) (indexOf s (take k u) .links))
       (sym (length-take-le k u (omega arith)))

@@ -10,8 +10,8 @@ use lib.ListN.{length, take}
 use lib.Seq.{length-take-le, getD-take}
 use Rattle.meaning.specs.Diagram.{Assignment, leaf, node, value, Reduced}
 use Rattle.meaning.proofs.Canonical.{unique}
-use Rattle.table.specs.Nodes.{Node, blank, at, diagramWithin, diagramAt, goodOrder}
-use Rattle.table.proofs.Order.{same-node, Fits, Ordered, GoodOrder, good-order}
+use Rattle.table.specs.Nodes.{Node, blank, at, diagramWithin, diagramAt}
+use Rattle.table.proofs.Order.{same-node, Fits, Ordered, GoodPlaces}
 
 -- ---- induction
 
@@ -149,11 +149,10 @@ same-values n t O uses j k p q h =
     diagramAt-injective t O j k p q (unique n 1 (suc n) (diagramAt t j) (diagramAt t k) (omega arith) (reduced-to n t O uses j p) (reduced-to n t O uses k q) h)
 
 -- For any n that no variable in use exceeds.
-pub numbers-equal-to : (n : ℕ) (rows : List Node) (count : ℕ) → goodOrder rows count ≡ true → ((i : ℕ) → 2 ≤ i → i < count → at rows i .var ≤ n)
+pub numbers-equal-to : (n : ℕ) (rows : List Node) (count : ℕ) → GoodPlaces rows count → ((i : ℕ) → 2 ≤ i → i < count → at rows i .var ≤ n)
     → (j k : ℕ) → j < count → k < count
     → (j ≡ k) ↔ ((a : Assignment) → length a ≡ n → value (diagramAt (take count rows) j) a ≡ value (diagramAt (take count rows) k) a)
-numbers-equal-to n rows count e uses j k p q =
-    let G : GoodOrder rows count = good-order rows count e in
+numbers-equal-to n rows count G uses j k p q =
     let len : length (take count rows) ≡ count = length-take-le count rows (G .within) in (
       (λ same a _. ap (λ (i : ℕ). value (diagramAt (take count rows) i) a) same),
       same-values n (take count rows) (G .ordered) (λ i h l. rw (getD-take count rows i blank (omega arith)) (uses i h (omega arith))) j k (omega arith) (omega arith),
@@ -161,10 +160,9 @@ numbers-equal-to n rows count e uses j k p q =
 
 -- Demand 3, first part: in a table in good order two node numbers are equal exactly where their values are equal under every
 -- assignment of the 64 variables.
-pub numbers-equal : (rows : List Node) (count : ℕ) → goodOrder rows count ≡ true → (j k : ℕ) → j < count → k < count
+pub numbers-equal : (rows : List Node) (count : ℕ) → GoodPlaces rows count → (j k : ℕ) → j < count → k < count
     → (j ≡ k) ↔ ((a : Assignment) → length a ≡ 64 → value (diagramAt (take count rows) j) a ≡ value (diagramAt (take count rows) k) a)
-numbers-equal rows count e =
-    numbers-equal-to 64 rows count e (λ i h l.
-    let G : GoodOrder rows count = good-order rows count e in
+numbers-equal rows count G =
+    numbers-equal-to 64 rows count G (λ i h l.
     let len : length (take count rows) ≡ count = length-take-le count rows (G .within) in
     rw (getD-take count rows i blank (omega arith)) at (uses-64 (take count rows) (G .ordered) i h (omega arith)))

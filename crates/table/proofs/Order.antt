@@ -12,7 +12,7 @@ use lib.Seq.{getD-take, length-take-le}
 use lib.Dec.{eqb, ltb, leb}
 use borrow.Author.Tests.{ltb-true, ltb-false, leb-true, eqb-true, eqb-false, not-true, lt-ltb, le-ltb, le-leb, eq-eqb, ne-eqb}
 use Rattle.meaning.proofs.Booleans.{t≢f, and-both}
-use Rattle.table.specs.Nodes.{Node, nodeOf, blank, at, alike, allBlank, allBelow, above, fits, isNew, nodesInOrder, goodOrder}
+use Rattle.table.specs.Nodes.{Node, nodeOf, blank, at, alike, allBlank, allBelow, above, fits, isNew, nodesInOrder, goodPlaces}
 
 -- ---- truth values
 
@@ -200,15 +200,15 @@ in-order t O =
 
 -- ---- a table lent in full
 
-pub record GoodOrder (rows : List Node) (count : ℕ) : Type 0 where
+pub record GoodPlaces (rows : List Node) (count : ℕ) : Type 0 where
   pub least : 2 ≤ count
   pub within : count ≤ length rows
   pub ordered : Ordered (take count rows)
   pub rest : allBlank (drop count rows) ≡ true
 
-pub good-order : (rows : List Node) (count : ℕ) → goodOrder rows count ≡ true → GoodOrder rows count
-unfolding goodOrder
-good-order rows count e =
+pub good-places : (rows : List Node) (count : ℕ) → goodPlaces rows count ≡ true → GoodPlaces rows count
+unfolding goodPlaces
+good-places rows count e =
     let p = and-both (leb 2 count && leb count (length rows)) (nodesInOrder (take count rows) && allBlank (drop count rows)) e in
     let n = and-both (leb 2 count) (leb count (length rows)) (p .0) in
     let q = and-both (nodesInOrder (take count rows)) (allBlank (drop count rows)) (p .1) in
@@ -221,7 +221,7 @@ good-order rows count e =
       rest = q .1;
     }
 
-pub in-good-order : (rows : List Node) (count : ℕ) → GoodOrder rows count → goodOrder rows count ≡ true
-unfolding goodOrder
-in-good-order rows count G =
+pub in-good-places : (rows : List Node) (count : ℕ) → GoodPlaces rows count → goodPlaces rows count ≡ true
+unfolding goodPlaces
+in-good-places rows count G =
     rw (le-leb 2 count (G .least), le-leb count (length rows) (G .within), in-order (take count rows) (G .ordered), G .rest)

@@ -8,9 +8,9 @@ use native.Mathlib.Omega.{arith}
 use lib.ListN.{length, getD, take, drop, replicate, length-append, length-replicate, length-set, length-map, take-append-drop, length-drop, List·getD-map}
 use lib.Seq.{take-append-seam, length-take-le, ext-getD}
 use Rattle.table.specs.Nodes.{Node, blank, at, nodesInOrder}
-use Rattle.table.specs.Columns.{rows, padded, Columns, columnsOf}
+use Rattle.table.specs.Columns.{rows, padded, NodeColumns, columnsOf}
 use Rattle.table.specs.Indexed.{indexFrom, indexOf, Table, tableOf, size, nodesOf, indexed, Good}
-use Rattle.table.proofs.Order.{all-blank, Ordered, ordered, in-order, GoodOrder}
+use Rattle.table.proofs.Order.{all-blank, Ordered, ordered, in-order, GoodPlaces}
 
 -- ---- padding
 
@@ -48,14 +48,14 @@ columns-rows [] [] (h ∷ hs) p q = absurd (omega arith)
 columns-rows (v ∷ vs) [] hs p q = absurd (omega arith)
 columns-rows (v ∷ vs) (l ∷ ls) [] p q = absurd (omega arith)
 columns-rows (v ∷ vs) (l ∷ ls) (h ∷ hs) p q =
-    ap (λ (c : Columns). record { vars = v ∷ c .vars; lows = l ∷ c .lows; highs = h ∷ c .highs }) (columns-rows vs ls hs (omega arith) (omega arith))
+    ap (λ (c : NodeColumns). record { vars = v ∷ c .vars; lows = l ∷ c .lows; highs = h ∷ c .highs }) (columns-rows vs ls hs (omega arith) (omega arith))
 
 pub length-rows : (vs ls hs : List ℕ) → length ls ≡ length vs → length hs ≡ length vs → length (rows vs ls hs) ≡ length vs
 unfolding columnsOf
-length-rows vs ls hs p q = sym (length-map (rows vs ls hs) (λ x. x .var)) ∙ ap (λ (c : Columns). length (c .vars)) (columns-rows vs ls hs p q)
+length-rows vs ls hs p q = sym (length-map (rows vs ls hs) (λ x. x .var)) ∙ ap (λ (c : NodeColumns). length (c .vars)) (columns-rows vs ls hs p q)
 
 -- a table lent in good order is its nodes and zeros
-pub rows-padded : (places : List Node) (count : ℕ) → GoodOrder places count → places ≡ padded (length places) (take count places)
+pub rows-padded : (places : List Node) (count : ℕ) → GoodPlaces places count → places ≡ padded (length places) (take count places)
 unfolding padded
 rows-padded places count G =
     let len : length (take count places) ≡ count = length-take-le count places (G .within) in
@@ -150,7 +150,7 @@ module _ (T : Table) (G : Good T) where
 -- ---- a table lent with the index of its nodes
 
 module _ (T : Table) (p : length (T .lows) ≡ size T) (q : length (T .highs) ≡ size T) (most : size T ≤ 65536)
-    (O : GoodOrder (rows (T .vars) (T .lows) (T .highs)) (T .count)) where
+    (O : GoodPlaces (rows (T .vars) (T .lows) (T .highs)) (T .count)) where
   abbrev places : List Node
   places = rows (T .vars) (T .lows) (T .highs)
 
@@ -175,7 +175,7 @@ module _ (T : Table) (p : length (T .lows) ≡ size T) (q : length (T .highs) �
     lent-written =
         ap₂ (λ (a b : List ℕ). tableOf (T .vars) (T .lows) (T .highs) a b (T .count)) ds ks
         ∙ ap (tableOf (T .vars) (T .lows) (T .highs) (indexOf (size T) (nodesOf T) .heads) (indexOf (size T) (nodesOf T) .links)) (sym lent-count)
-        ∙ ap (λ (c : Columns). tableOf (c .vars) (c .lows) (c .highs) (indexOf (size T) (nodesOf T) .heads) (indexOf (size T) (nodesOf T) .links) (length (nodesOf T)))
+        ∙ ap (λ (c : NodeColumns). tableOf (c .vars) (c .lows) (c .highs) (indexOf (size T) (nodesOf T) .heads) (indexOf (size T) (nodesOf T) .links) (length (nodesOf T)))
         (sym (ap columnsOf lent-padded ∙ columns-rows (T .vars) (T .lows) (T .highs) p q))
 
     -- Columns in good order with the index of their nodes are a good table.

@@ -2,25 +2,18 @@
 use mathlib.Core.Path.{_≡_}
 use mathlib.Core.Bool.{Bool, true, false}
 use mathlib.Core.List.{List}
-use Prim.Native.Nat.{ℕ, zero, suc, _+_, _-_, _*_, _%_, _≤_}
+use Prim.Native.Nat.{ℕ, zero, suc, _-_, _*_, _≤_}
 use lib.ListN.{length, getD, set, take, replicate}
 use mathlib.Core.Option.{Option, none, some}
 use Rattle.table.specs.declared.Placed.{Placed}
 use Rattle.table.specs.declared.NodePlaced.{NodePlaced}
 use Rattle.table.specs.declared.Found.{Found}
 use Rattle.table.specs.declared.Found.the-variants.{At, Nothing}
-use Rattle.table.specs.Nodes.{Node, at, nodesInOrder, Placing, full, placed}
-use Rattle.table.specs.Columns.{rows, padded, columnsOf}
+use Rattle.table.specs.Nodes.{Node, nodesInOrder, Placing, full, placed}
+use Rattle.table.specs.Index.{bucketAt}
+use Rattle.table.specs.Columns.{rows, padded, columnsOf, Columns, columnsMade}
 
--- ---- the index: a head for each chain, and for each place the next lower one of its chain
-
--- The chain of a node among n: "The key is variable plus low times 12,582,917 plus high times 4,256,249, in 32 bits, running over the
--- top on purpose; its remainder by the number of heads picks the chain." (02, 7/14)
-unfoldable pub bucket : ℕ → ℕ → ℕ → ℕ → ℕ
-bucket n v l h = (v + l * 12582917 + h * 4256249) % 4294967296 % n
-
-abbrev pub bucketAt : ℕ → List Node → ℕ → ℕ
-bucketAt n t k = bucket n (at t k .var) (at t k .low) (at t k .high)
+-- ---- the index, made by insertion: a head for each chain, and for each place the next lower one of its chain
 
 pub record Index : Type 0 where
   pub heads : List ℕ
@@ -55,6 +48,10 @@ pub record Table : Type 0 where
 abbrev pub tableOf : List ℕ → List ℕ → List ℕ → List ℕ → List ℕ → ℕ → Table
 tableOf vs ls hs ds ks n = record { vars = vs; lows = ls; highs = hs; heads = ds; links = ks; count = n }
 
+-- The five lists of a table.
+abbrev pub listsOf : Table → Columns
+listsOf t = columnsMade (t .vars) (t .lows) (t .highs) (t .heads) (t .links)
+
 abbrev pub size : Table → ℕ
 size t = length (t .vars)
 
@@ -78,18 +75,6 @@ pub record Good (t : Table) : Type 0 where
   pub heads : length (t .heads) ≡ 2 * size t
   pub ordered : nodesInOrder (nodesOf t) ≡ true
   pub written : t ≡ indexed (size t) (nodesOf t)
-
--- The same while the nodes are tested: their index is made, and what stands past them is not looked at.
-pub record Linked (t : Table) : Type 0 where
-  pub least : 2 ≤ t .count
-  pub within : t .count ≤ size t
-  pub most : size t ≤ 65536
-  pub lows : length (t .lows) ≡ size t
-  pub highs : length (t .highs) ≡ size t
-  pub links : length (t .links) ≡ size t
-  pub heads : length (t .heads) ≡ 2 * size t
-  pub ordered : nodesInOrder (nodesOf t) ≡ true
-  pub index : indexMade (t .heads) (t .links) ≡ indexOf (size t) (nodesOf t)
 
 -- ---- what an inner function leaves
 

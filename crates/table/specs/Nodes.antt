@@ -60,10 +60,10 @@ unfolding allBlank allBelow fits isNew
 nodesInOrder t = allBlank (take 2 t) && allBelow (length t) (λ k. ltb k 2 || (fits t k (at t k) && isNew t k))
 
 -- "Good order: places 0 and 1 hold zeros; 2 ≤ count ≤ size; each node's variable is 1 to 64 [..]; no two nodes are alike; places from
--- the count on are zero." The table's places are `rows`, all of them.
-unfoldable pub goodOrder : List Node → ℕ → Bool
+-- the count on are zero." The table's places are `rows`, all of them; `goodOrder` (Index) asks the index too.
+unfoldable pub goodPlaces : List Node → ℕ → Bool
 unfolding nodesInOrder allBlank
-goodOrder rows count = (leb 2 count && leb count (length rows)) && (nodesInOrder (take count rows) && allBlank (drop count rows))
+goodPlaces rows count = (leb 2 count && leb count (length rows)) && (nodesInOrder (take count rows) && allBlank (drop count rows))
 
 -- ---- the diagram of a node number
 

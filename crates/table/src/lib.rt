@@ -4,7 +4,8 @@ ghost use mathlib.Core.List.{[], _∷_, _++_};
 ghost use Prim.Native.Nat.{_+_, _*_, _%_, _≤_, _<_};
 ghost use lib.ListN.{length, take};
 ghost use Rattle.table.specs.Nodes.{nodeOf, find, put, tookPlace};
-ghost use Rattle.table.specs.Indexed.{bucket, insert, indexMade, tableOf, nodesOf, indexed, Good, Linked};
+ghost use Rattle.table.specs.Index.{bucket};
+ghost use Rattle.table.specs.Indexed.{insert, indexMade, tableOf, nodesOf, indexed, Good};
 ghost use Rattle.table.specs.Indexed.{foundOf, outcomeOf, nodeOutcomeOf, written};
 
 pub mod test;
@@ -65,7 +66,7 @@ pub fn lookup(
     l: NodeNo,
     h: NodeNo,
 ) -> Found
-    requires { ⌜ Linked (tableOf (now vars) (now lows) (now highs) (now heads) (now links) count) ⌝ }
+    requires { ⌜ Good (tableOf (now vars) (now lows) (now highs) (now heads) (now links) count) ⌝ }
     ensures { λ r. ⌜ (
         let before = tableOf (now (vars .entry)) (now (lows .entry)) (now (highs .entry)) (now (heads .entry)) (now (links .entry)) count in
         r ≡ foundOf (find (nodesOf before) (nodeOf v (l .0) (h .0)))) ⌝ }
@@ -83,7 +84,7 @@ pub fn lookup(
 }
 
 // Puts place k to the front of its chain.
-pub fn link(heads: &mut [u16], links: &mut [u16], k: usize, v: u8, l: u16, h: u16)
+fn link(heads: &mut [u16], links: &mut [u16], k: usize, v: u8, l: u16, h: u16)
     requires { ⌜ (0 < length (now heads)) × (k < length (now links)) × (length (now links) ≤ 65536) ⌝ }
     ensures { λ _. ⌜ indexMade (now (heads .exit)) (now (links .exit))
         ≡ insert (indexMade (now (heads .entry)) (now (links .entry))) (bucket (length (now (heads .entry))) v l h) k ⌝ }

@@ -1,15 +1,17 @@
-// Tests of lent columns: their size, and good order with the index made on the way.
+// Tests of a lent table: its size, and good order with its index. Nothing is written, and there is no working array.
 ghost use mathlib.Core.Path.{_≡_};
 ghost use mathlib.Core.Bool.{true};
-ghost use Prim.Native.Nat.{_+_, _-_, _*_, _≤_, _<_};
-ghost use lib.ListN.{length, take, drop, replicate};
-ghost use Rattle.table.specs.Nodes.{at, above, allBlank, fits, nodesInOrder, goodOrder};
+ghost use Prim.Native.Nat.{_-_, _≤_, _<_};
+ghost use lib.ListN.{length, take, drop};
+ghost use Rattle.table.specs.Nodes.{at, above, allBlank, fits};
+ghost use Rattle.table.specs.Index.{goodOrder};
 ghost use Rattle.table.specs.Columns.{rows, sizeFits};
-ghost use Rattle.table.specs.Indexed.{tableOf, Good, Linked};
+ghost use Rattle.table.specs.Indexed.{tableOf};
+ghost use Rattle.table.specs.Tested.{Decides, Lent, OfChain, NodeFits, Reached, Empty, NodesFit, HeadsFit, AllReached, Walkable};
 
-// Whether the columns are of one length, 2 to 65,536.
-pub fn size_fits(vars: &[u8], lows: &[u16], highs: &[u16]) -> bool
-    ensures { λ r. ⌜ r ≡ sizeFits (now (vars .entry)) (now (lows .entry)) (now (highs .entry)) ⌝ }
+// Whether the columns are of one length, 2 to 65,536, with twice as many heads and as many links.
+pub fn size_fits(vars: &[u8], lows: &[u16], highs: &[u16], heads: &[u16], links: &[u16]) -> bool
+    ensures { λ r. ⌜ r ≡ sizeFits (now (vars .entry)) (now (lows .entry)) (now (highs .entry)) (now (heads .entry)) (now (links .entry)) ⌝ }
 {
     if lows.len() != vars.len() {
         return false;
@@ -17,7 +19,13 @@ pub fn size_fits(vars: &[u8], lows: &[u16], highs: &[u16]) -> bool
     if highs.len() != vars.len() {
         return false;
     }
-    2 <= vars.len() && vars.len() <= 65536
+    if vars.len() < 2 {
+        return false;
+    }
+    if 65536 < vars.len() {
+        return false;
+    }
+    heads.len() == 2 * vars.len() && links.len() == vars.len()
 }
 
 // Whether the places from `from` up to `to` hold zeros.
@@ -83,66 +91,91 @@ fn fits_at(vars: &[u8], lows: &[u16], highs: &[u16], k: usize) -> bool
     stands_above(vars, lows, highs, v, h)
 }
 
-// Whether the nodes up to place k are in good order, where those before it are; place k is then in the index too.
-fn admit(
+// Whether the places from `from` up to `to` have no link.
+fn links_empty(links: &[u16], from: usize, to: usize) -> bool
+    requires { ⌜ (from ≤ to) × (to ≤ length (now links)) ⌝ }
+    ensures { λ r. ⌜ Decides r (Empty (now (links .entry)) from to) ⌝ }
+{
+    let mut i = from;
+    while i < to {
+        if links[i] != 0 {
+            return false;
+        }
+        i += 1;
+    }
+    true
+}
+
+// Whether j is 0, or a node of chain b below `top`.
+fn of_chain(
     vars: &[u8],
     lows: &[u16],
     highs: &[u16],
-    heads: &mut [u16],
-    links: &mut [u16],
+    heads: &[u16],
+    links: &[u16],
+    count: usize,
+    top: usize,
+    b: usize,
+    j: u16,
+) -> bool
+    requires { ⌜ Lent (tableOf (now vars) (now lows) (now highs) (now heads) (now links) count) × (top ≤ count) ⌝ }
+    ensures { λ r. ⌜ (
+        let lent = tableOf (now (vars .entry)) (now (lows .entry)) (now (highs .entry)) (now (heads .entry)) (now (links .entry)) count in
+        Decides r (OfChain lent top b j)) ⌝ }
+{
+    if j == 0 {
+        return true;
+    }
+    let i = j as usize;
+    if i < 2 {
+        return false;
+    }
+    if top <= i {
+        return false;
+    }
+    let own = crate::bucket_of(heads.len(), vars[i], lows[i], highs[i]);
+    own == b
+}
+
+// Whether the node at place k is as good order asks, and its link 0 or a lower node of its chain.
+fn node_fits(
+    vars: &[u8],
+    lows: &[u16],
+    highs: &[u16],
+    heads: &[u16],
+    links: &[u16],
+    count: usize,
     k: usize,
 ) -> bool
-    requires { ⌜ Linked (tableOf (now vars) (now lows) (now highs) (now heads) (now links) k) × (k < length (now vars)) ⌝ }
-    ensures { λ r. ⌜ r ≡ nodesInOrder (take (k + 1) (rows (now (vars .entry)) (now (lows .entry)) (now (highs .entry)))) ⌝ }
+    requires { ⌜ Lent (tableOf (now vars) (now lows) (now highs) (now heads) (now links) count) × (k < count) ⌝ }
     ensures { λ r. ⌜ (
-        let after = tableOf (now (vars .entry)) (now (lows .entry)) (now (highs .entry)) (now (heads .exit)) (now (links .exit)) (k + 1) in
-        r ≡ true → Linked after) ⌝ }
+        let lent = tableOf (now (vars .entry)) (now (lows .entry)) (now (highs .entry)) (now (heads .entry)) (now (links .entry)) count in
+        Decides r (NodeFits lent k)) ⌝ }
 {
     if !fits_at(vars, lows, highs, k) {
         return false;
     }
-    let v = vars[k];
-    let l = lows[k];
-    let h = highs[k];
-    match crate::lookup(
-        vars,
-        lows,
-        highs,
-        heads,
-        links,
-        k,
-        v,
-        crate::NodeNo(l),
-        crate::NodeNo(h),
-    ) {
-        crate::Found::At(_) => false,
-        crate::Found::Nothing => {
-            crate::link(heads, links, k, v, l, h);
-            true
-        }
-    }
+    let b = crate::bucket_of(heads.len(), vars[k], lows[k], highs[k]);
+    of_chain(vars, lows, highs, heads, links, count, k, b, links[k])
 }
 
-// Whether the nodes below the count are in good order; the index, empty before, is then theirs.
-fn index_nodes(
+// Whether each node and its link are so.
+fn nodes_fit(
     vars: &[u8],
     lows: &[u16],
     highs: &[u16],
-    heads: &mut [u16],
-    links: &mut [u16],
+    heads: &[u16],
+    links: &[u16],
     count: usize,
 ) -> bool
-    requires { ⌜ (
-        let before = tableOf (now vars) (now lows) (now highs) (now heads) (now links) 2 in
-        Linked before × (2 ≤ count) × (count ≤ length (now vars))) ⌝ }
-    ensures { λ r. ⌜ r ≡ nodesInOrder (take count (rows (now (vars .entry)) (now (lows .entry)) (now (highs .entry)))) ⌝ }
+    requires { ⌜ Lent (tableOf (now vars) (now lows) (now highs) (now heads) (now links) count) ⌝ }
     ensures { λ r. ⌜ (
-        let after = tableOf (now (vars .entry)) (now (lows .entry)) (now (highs .entry)) (now (heads .exit)) (now (links .exit)) count in
-        r ≡ true → Linked after) ⌝ }
+        let lent = tableOf (now (vars .entry)) (now (lows .entry)) (now (highs .entry)) (now (heads .entry)) (now (links .entry)) count in
+        Decides r (NodesFit lent count)) ⌝ }
 {
     let mut k: usize = 2;
     while k < count {
-        if !admit(vars, lows, highs, heads, links, k) {
+        if !node_fits(vars, lows, highs, heads, links, count, k) {
             return false;
         }
         k += 1;
@@ -150,21 +183,98 @@ fn index_nodes(
     true
 }
 
-// Whether columns of proper size are in good order with this count; heads and links, all zero before, are then their index.
-pub fn in_order(
+// Whether each head is 0 or a node of its chain.
+fn heads_fit(
     vars: &[u8],
     lows: &[u16],
     highs: &[u16],
-    heads: &mut [u16],
-    links: &mut [u16],
+    heads: &[u16],
+    links: &[u16],
     count: usize,
 ) -> bool
-    requires { ⌜ sizeFits (now vars) (now lows) (now highs) ≡ true ⌝ }
-    requires { ⌜ (now heads ≡ replicate (2 * length (now vars)) 0) × (now links ≡ replicate (length (now vars)) 0) ⌝ }
-    ensures { λ r. ⌜ r ≡ goodOrder (rows (now (vars .entry)) (now (lows .entry)) (now (highs .entry))) count ⌝ }
+    requires { ⌜ Lent (tableOf (now vars) (now lows) (now highs) (now heads) (now links) count) ⌝ }
     ensures { λ r. ⌜ (
-        let after = tableOf (now (vars .entry)) (now (lows .entry)) (now (highs .entry)) (now (heads .exit)) (now (links .exit)) count in
-        r ≡ true → Good after) ⌝ }
+        let lent = tableOf (now (vars .entry)) (now (lows .entry)) (now (highs .entry)) (now (heads .entry)) (now (links .entry)) count in
+        Decides r (HeadsFit lent (length (now (heads .entry))))) ⌝ }
+{
+    let mut b: usize = 0;
+    while b < heads.len() {
+        if !of_chain(vars, lows, highs, heads, links, count, count, b, heads[b]) {
+            return false;
+        }
+        b += 1;
+    }
+    true
+}
+
+// Whether the walk down the chain of place k comes to it and meets no node like it before.
+fn reached(
+    vars: &[u8],
+    lows: &[u16],
+    highs: &[u16],
+    heads: &[u16],
+    links: &[u16],
+    count: usize,
+    k: usize,
+) -> bool
+    requires { ⌜ Lent (tableOf (now vars) (now lows) (now highs) (now heads) (now links) count) × (2 ≤ k) × (k < count) ⌝ }
+    requires { ⌜ Walkable (tableOf (now vars) (now lows) (now highs) (now heads) (now links) count) ⌝ }
+    ensures { λ r. ⌜ (
+        let lent = tableOf (now (vars .entry)) (now (lows .entry)) (now (highs .entry)) (now (heads .entry)) (now (links .entry)) count in
+        Decides r (Reached lent k)) ⌝ }
+{
+    let v = vars[k];
+    let l = lows[k];
+    let h = highs[k];
+    let b = crate::bucket_of(heads.len(), v, l, h);
+    let mut j = heads[b] as usize;
+    while k < j {
+        if vars[j] == v && lows[j] == l && highs[j] == h {
+            return false;
+        }
+        j = links[j] as usize;
+    }
+    j == k
+}
+
+// Whether each node is on its chain, and none is met on the way that is like it: every two of a chain are compared once.
+fn all_reached(
+    vars: &[u8],
+    lows: &[u16],
+    highs: &[u16],
+    heads: &[u16],
+    links: &[u16],
+    count: usize,
+) -> bool
+    requires { ⌜ Lent (tableOf (now vars) (now lows) (now highs) (now heads) (now links) count) ⌝ }
+    requires { ⌜ Walkable (tableOf (now vars) (now lows) (now highs) (now heads) (now links) count) ⌝ }
+    ensures { λ r. ⌜ (
+        let lent = tableOf (now (vars .entry)) (now (lows .entry)) (now (highs .entry)) (now (heads .entry)) (now (links .entry)) count in
+        Decides r (AllReached lent count)) ⌝ }
+{
+    let mut k: usize = 2;
+    while k < count {
+        if !reached(vars, lows, highs, heads, links, count, k) {
+            return false;
+        }
+        k += 1;
+    }
+    true
+}
+
+// Whether columns and index of proper size are in good order with this count.
+pub fn order_fits(
+    vars: &[u8],
+    lows: &[u16],
+    highs: &[u16],
+    heads: &[u16],
+    links: &[u16],
+    count: usize,
+) -> bool
+    requires { ⌜ sizeFits (now vars) (now lows) (now highs) (now heads) (now links) ≡ true ⌝ }
+    ensures { λ r. ⌜ (
+        let nodes = rows (now (vars .entry)) (now (lows .entry)) (now (highs .entry)) in
+        r ≡ goodOrder nodes count (now (heads .entry)) (now (links .entry))) ⌝ }
 {
     if count < 2 {
         return false;
@@ -178,5 +288,17 @@ pub fn in_order(
     if !blank_between(vars, lows, highs, count, vars.len()) {
         return false;
     }
-    index_nodes(vars, lows, highs, heads, links, count)
+    if !links_empty(links, 0, 2) {
+        return false;
+    }
+    if !links_empty(links, count, links.len()) {
+        return false;
+    }
+    if !nodes_fit(vars, lows, highs, heads, links, count) {
+        return false;
+    }
+    if !heads_fit(vars, lows, highs, heads, links, count) {
+        return false;
+    }
+    all_reached(vars, lows, highs, heads, links, count)
 }

@@ -1,8 +1,10 @@
 -- 01's cases A to J, the examples of its table of numbers, and 02's strikings and sets, by computation from the definitions that the contracts cite.
 -- Assumes nothing.
 use mathlib.Core.Path.{_≡_, refl}
+use mathlib.Core.Bool.{true}
 use mathlib.Core.List.{[], _∷_}
 use native.Mathlib.Decide.{ℕ-discrete}
+use Prim.Native.Nat.{ℕ}
 use lib.ListN.{replicate}
 use Rattle.meaning.specs.Diagram.{diagramFrom, same?, valueFrom}
 use Rattle.meaning.specs.Operations.{clause, conjunction, cofactor}
@@ -10,10 +12,11 @@ use Rattle.meaning.specs.Rules.{rup, pr, witnessed}
 use Rattle.meaning.specs.Sets.{parity, atLeast}
 use Rattle.meaning.specs.Words.{inWord}
 use Rattle.table.specs.Nodes.{place, above, diagramAt}
-use Rattle.table.specs.Columns.{sizeFits}
+use Rattle.table.specs.Index.{bucket, goodOrder}
+use Rattle.table.specs.Columns.{rows, sizeFits, Columns, columnsMade, storedAs}
 use Rattle.dimacs.specs.Clauses.{clausesFrom}
 use Rattle.records.specs.Records.{recordAt}
-use Rattle.verdict.specs.Check.{verdict, check}
+use Rattle.verdict.specs.Check.{verdict, Outcome, outcome, check}
 use Rattle.verdict.specs.Cases.{GivesAll, caseTable, numberTable, strikeTable, setTable, unitsTo, bytes, A-formula, A-proof}
 
 -- "A to J form one table, and one theorem says that the rules give each row." (01, Conditions of acceptance)
@@ -35,7 +38,22 @@ pub set-entries : GivesAll setTable
 unfolding verdict clausesFrom place clause diagramFrom same? recordAt above rup pr witnessed valueFrom diagramAt ℕ-discrete inWord parity atLeast
 set-entries = (refl, (refl, (refl, (refl, (refl, (refl, (refl, (refl, (refl, (refl, (refl, (refl, (refl, (refl, (refl, (refl, (refl, (refl, tt))))))))))))))))))
 
--- "7: a lent part of wrong size: table of 1 place"
-pub seven : check (0 ∷ []) (0 ∷ []) (0 ∷ []) 1 (replicate 2048 0) (replicate 2048 0) (replicate 4096 0) (bytes A-formula) A-proof .number ≡ 7
+-- "7: a lent part of wrong size: table of 1 place"; "It refuses an index of the wrong size with 7": one head too few, one link too many (02, 7/14)
+abbrev sized : Columns → ℕ
+sized c = check c 2 (replicate 2048 0) (replicate 2048 0) (replicate 4096 0) (bytes A-formula) A-proof .number
+
+pub seven : (sized (columnsMade (0 ∷ []) (0 ∷ []) (0 ∷ []) (0 ∷ 0 ∷ []) (0 ∷ [])) ≡ 7)
+    × (sized (columnsMade (0 ∷ 0 ∷ []) (0 ∷ 0 ∷ []) (0 ∷ 0 ∷ []) (0 ∷ 0 ∷ 0 ∷ []) (0 ∷ 0 ∷ [])) ≡ 7)
+    × (sized (columnsMade (0 ∷ 0 ∷ []) (0 ∷ 0 ∷ []) (0 ∷ 0 ∷ []) (0 ∷ 0 ∷ 0 ∷ 0 ∷ []) (0 ∷ 0 ∷ 0 ∷ [])) ≡ 7)
 unfolding check sizeFits
-seven = refl
+seven = (refl, refl, refl)
+
+-- "each call leaves them so": what case A leaves in a table of 16 places is in good order, its index too. (02, 7/14)
+abbrev left-A : Outcome
+left-A = outcome 16 2048 4096 (verdict 16 (bytes A-formula) A-proof)
+
+pub index-left : (left-A .count ≡ 8)
+    × (goodOrder (rows (left-A .columns .vars) (left-A .columns .lows) (left-A .columns .highs)) (left-A .count) (left-A .columns .heads) (left-A .columns .links) ≡ true)
+unfolding verdict clausesFrom place clause diagramFrom same? recordAt above rup valueFrom diagramAt ℕ-discrete conjunction cofactor unitsTo pr witnessed inWord
+    outcome storedAs rows goodOrder bucket
+index-left = (refl, refl)

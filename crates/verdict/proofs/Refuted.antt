@@ -24,6 +24,7 @@ use Rattle.records.specs.declared.Rule.the-variants.{Rup, Pr}
 use Rattle.records.specs.declared.Record.{Record}
 use Rattle.records.specs.declared.Record.the-variants.{NodeEntry, Witness, ProofLine, Strike, SetEntry, End, CutShort, UnknownKind, NoRecord}
 use Rattle.records.specs.Records.{recordAt}
+use Rattle.table.specs.Columns.{Columns}
 use Rattle.verdict.specs.Check.{State, begun, entryNode, diagramIn, unstruck, liveMembers, Verdict, verdict, Outcome, lentFits, outcome, check}
 use Rattle.verdict.specs.Run.{Function, Meant, entryMeant, afterRecord, Valued, LineTaken, Taken, Making, opened, made, follows, Reached, begins, goes}
 use Rattle.verdict.specs.Satisfies.{clausesOf, readToEnd, satisfies, Unsatisfiable}
@@ -232,10 +233,10 @@ said-zero true x y seven e = e
 said-zero false x y seven e = absurd (omega arith)
 
 -- The same of the call, whatever the lent places held.
-pub check-refuted : (vars lows highs : List ℕ) (count : ℕ) (members struck scratch text proof : List ℕ)
-    → check vars lows highs count members struck scratch text proof .number ≡ 0
+pub check-refuted : (c : Columns) (count : ℕ) (members struck scratch text proof : List ℕ)
+    → check c count members struck scratch text proof .number ≡ 0
     → Unsatisfiable text
 unfolding check outcome
-check-refuted vars lows highs count members struck scratch text proof e =
-    refuted (length vars) text proof
-    (said-zero (lentFits vars lows highs members struck scratch) (outcome (length vars) (length members) (length scratch) (verdict (length vars) text proof)) _ refl e)
+check-refuted c count members struck scratch text proof e =
+    refuted (length (c .vars)) text proof
+    (said-zero (lentFits c members struck scratch) (outcome (length (c .vars)) (length members) (length scratch) (verdict (length (c .vars)) text proof)) _ refl e)

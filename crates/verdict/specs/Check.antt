@@ -12,7 +12,7 @@ use Rattle.meaning.specs.Sets.{parity, atLeast}
 use Rattle.meaning.specs.Words.{inWord}
 use Rattle.table.specs.Nodes.{Node, blank, above, diagramAt, Placing, full, placed, put, place}
 use Rattle.table.specs.Making.{lineReach}
-use Rattle.table.specs.Columns.{sizeFits, padded, Columns, columnsOf}
+use Rattle.table.specs.Columns.{sizeFits, Columns, storedAs}
 use Rattle.dimacs.specs.declared.Header.{Header}
 use Rattle.dimacs.specs.declared.Header.the-variants.{Proper, Improper}
 use Rattle.dimacs.specs.Header.{header}
@@ -359,9 +359,9 @@ pub record Outcome : Type 0 where
 
 -- "the member list has 2,048 or more, the scratch list 4,096 or more; columns of unequal length are of wrong size" (01, What is
 -- checked). "Each member gains a mark in the list": nodes and marks are its two columns. (02, 3/14)
-unfoldable pub lentFits : List ℕ → List ℕ → List ℕ → List ℕ → List ℕ → List ℕ → Bool
-lentFits vars lows highs members struck scratch =
-    sizeFits vars lows highs
+unfoldable pub lentFits : Columns → List ℕ → List ℕ → List ℕ → Bool
+lentFits c members struck scratch =
+    sizeFits (c .vars) (c .lows) (c .highs) (c .heads) (c .links)
     && (leb 2048 (length members) && (eqb (length struck) (length members) && leb 4096 (length scratch)))
 
 abbrev pub zeros : ℕ → List ℕ
@@ -376,17 +376,18 @@ outcome s m c v = record {
   rounds = v .rounds;
   count = length (v .nodes);
   peak = v .peak;
-  columns = columnsOf (padded s (v .nodes));
+  columns = storedAs s (v .nodes);
   members = v .members ++ zeros (m - length (v .members));
   struck = v .struck ++ zeros (m - length (v .struck));
   scratch = zeros c;
 }
 
 -- "Number 7 changes nothing": "place 0, no lines, no rounds and the count as lent". "with 7, 24 and 25 it is 0": the peak. (02, 2/14)
-unfoldable pub check : List ℕ → List ℕ → List ℕ → ℕ → List ℕ → List ℕ → List ℕ → List ℕ → List ℕ → Outcome
+unfoldable pub check : Columns → ℕ → List ℕ → List ℕ → List ℕ → List ℕ → List ℕ → Outcome
 unfolding lentFits outcome verdict
-check vars lows highs count members struck scratch formula proof =
-    let done = outcome (length vars) (length members) (length scratch) (verdict (length vars) formula proof) in
+check c count members struck scratch formula proof =
+    let s = length (c .vars) in
+    let done = outcome s (length members) (length scratch) (verdict s formula proof) in
     let seven : Outcome = record {
       number = 7;
       place = 0;
@@ -394,9 +395,9 @@ check vars lows highs count members struck scratch formula proof =
       rounds = 0;
       count = count;
       peak = 0;
-      columns = record { vars = vars; lows = lows; highs = highs };
+      columns = c;
       members = members;
       struck = struck;
       scratch = scratch;
     } in
-    cond (lentFits vars lows highs members struck scratch) done seven
+    cond (lentFits c members struck scratch) done seven

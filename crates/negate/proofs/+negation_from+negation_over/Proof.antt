@@ -7,7 +7,6 @@ use lib.ListN.{length, set, length-set}
 use borrow.Author.Needs.{needs}
 use Rattle.table.specs.declared.Found.the-variants.{At}
 use Rattle.table.specs.Indexed.{Table, tableOf}
-use Rattle.table.proofs.Chain.{good-linked}
 use Rattle.walks.proofs.Here.{Here, here, good-readable}
 use Rattle.negate.specs.Negations.{Negates, NegationMemo, NegationReady}
 use Rattle.negate.proofs.Branches.{negates-zero, negates-one, negates-low, negates-high, negates-lookup}
@@ -318,7 +317,7 @@ negation-over-enum-known-h t c = search needs
 
 negation-over-lookup-requires : (t : ℕ) → negation-over-lts.Need-lookup-requires (negation-over-callees t) (negation-over-at t) negation-over.Post
 negation-over-lookup-requires t c κs =
-    good-linked (over-table (start-from-negation-over-lookup-call c)) (over-ready (start-from-negation-over-lookup-call c) .good)
+    over-ready (start-from-negation-over-lookup-call c) .good
 
 negation-over-enum-told : (t : ℕ) → negation-over-lts.Need-enum-told (negation-over-callees t) (negation-over-at t) negation-over.Post
 negation-over-enum-told t c = search needs

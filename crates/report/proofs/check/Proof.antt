@@ -23,11 +23,17 @@ slice-aggregate-check-5 c = search needs
 slice-aggregate-check-6 : tie.Need-slice-aggregate-check-6
 slice-aggregate-check-6 c = search needs
 
+slice-aggregate-check-7 : tie.Need-slice-aggregate-check-7
+slice-aggregate-check-7 c = search needs
+
+slice-aggregate-check-8 : tie.Need-slice-aggregate-check-8
+slice-aggregate-check-8 c = search needs
+
 check-requires : tie.Need-check-requires
 check-requires c κs = search needs
 
 returns : tie.Need-returns
-returns c = ap lineOf (c .before .before .before .before .before .before .check .ensures .0) ∙ checked _ _
+returns c = ap lineOf (c .before .before .before .before .before .before .before .before .check .ensures .0) ∙ checked _ _
 
 pub check-spec : {M : Type 1} → statement M
 check-spec =
@@ -39,5 +45,7 @@ check-spec =
     slice-aggregate-check-4
     slice-aggregate-check-5
     slice-aggregate-check-6
+    slice-aggregate-check-7
+    slice-aggregate-check-8
     check-requires
     returns)

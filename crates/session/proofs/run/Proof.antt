@@ -21,11 +21,11 @@ clear-bytes-requires c κs =
 module _ (c : tie.After-empty) where
   abbrev start-from-empty : tie.Start
   start-from-empty = c .before .before .before .before .before .before .before .before .before .before .before .before .before .before
-      .before .before .before
+      .before .before .before .before .before
 
 module _ (c : tie.After-clear-bytes) where
   abbrev empty-from-clear-bytes : tie.After-empty
-  empty-from-clear-bytes = c .before .before .before .before .before .before .before .before .before .before
+  empty-from-clear-bytes = c .before .before .before .before .before .before .before .before .before .before .before .before .before .before
 
 module _ (c : tie.After-run-header-arg10) where
   abbrev clear-bytes-from-run-header-call : tie.After-clear-bytes
@@ -41,7 +41,7 @@ module _ (c : tie.After-run-header) where
   abbrev clear-bytes-from-run-header : tie.After-clear-bytes
   clear-bytes-from-run-header = c .before .before .before .before .before .before .before .before .before .before .before .before .before
 
-module _ (c : tie.After-slice-known26) where
+module _ (c : tie.After-slice-known28) where
   abbrev run-header-from-return : tie.After-run-header
   run-header-from-return = c .before .before .before .before .before .before .before .before .before .before .before .before .before .before
       .before .before .before .before .before .before .before .before .before .before
@@ -61,14 +61,14 @@ run-header-requires c κs =
     let after-empty = empty-from-run-header-call c in
     let after-clear-bytes = clear-bytes-from-run-header-call c in
     let a = start .args in
-    let z = lent-sized _ _ _ _ _ _ (start .pre .0) in (
+    let z = lent-sized _ _ _ _ (start .pre .0) in (
       emptied-opened (length (a .vars .now)) (length (a .members .now)) (z .columns .least) (z .columns .most) (z .member-room) _ _ _ _ _ _
-          (after-empty .empty .ensures .0) (after-empty .empty .ensures .1 .0 ∙ ap zeros (z .columns .lows)) (after-empty .empty .ensures .1 .1 .0 ∙ ap zeros (z .columns .highs)) (start .pre .1 .0) (start .pre .1 .1) (after-empty .empty .ensures .1 .1 .1),
+          (after-empty .empty .ensures .0) (after-empty .empty .ensures .1 .0 ∙ ap zeros (z .columns .lows)) (after-empty .empty .ensures .1 .1 .0 ∙ ap zeros (z .columns .highs)) (after-empty .empty .ensures .1 .1 .1 .0 ∙ ap zeros (z .columns .heads)) (after-empty .empty .ensures .1 .1 .1 .1 .0 ∙ ap zeros (z .columns .links)) (after-empty .empty .ensures .1 .1 .1 .1 .1),
       (
         z .scratch-room,
-        start .pre .1 .2 ∙ ap unmarked (sym (after-empty .empty .kept .0)),
-        omega (arith, start .pre .1 .3, after-empty .empty .kept .0),
-        after-clear-bytes .clear-bytes .ensures ∙ ap zeros (z .marks ∙ sym (after-empty .empty .kept .1 .1 .1 .0)),
+        start .pre .1 .0 ∙ ap unmarked (sym (after-empty .empty .kept .0)),
+        omega (arith, start .pre .1 .1, after-empty .empty .kept .0),
+        after-clear-bytes .clear-bytes .ensures ∙ ap zeros (z .marks ∙ sym (after-empty .empty .kept .1 .1 .1 .1 .1 .0)),
       ),
     )
 
@@ -96,13 +96,15 @@ same-length-3 c =
 
 same-length-4 : tie.Need-same-length-4
 same-length-4 c =
+    let after-empty = empty-from-return c in
     let after-run-header = run-header-from-return c in
-    after-run-header .run-header .kept .1 .1 .1 .0
+    after-run-header .run-header .kept .1 .1 .1 .0 ∙ after-empty .empty .kept .1 .1 .1 .0
 
 same-length-5 : tie.Need-same-length-5
 same-length-5 c =
+    let after-empty = empty-from-return c in
     let after-run-header = run-header-from-return c in
-    after-run-header .run-header .kept .1 .1 .1 .1 .0
+    after-run-header .run-header .kept .1 .1 .1 .1 .0 ∙ after-empty .empty .kept .1 .1 .1 .1 .0
 
 same-length-6 : tie.Need-same-length-6
 same-length-6 c =
@@ -118,7 +120,7 @@ same-length-8 : tie.Need-same-length-8
 same-length-8 c =
     let after-empty = empty-from-return c in
     let after-run-header = run-header-from-return c in
-    after-run-header .run-header .kept .1 .1 .1 .1 .1 .1 .1 .0 ∙ after-empty .empty .kept .1 .1 .1 .0
+    after-run-header .run-header .kept .1 .1 .1 .1 .1 .1 .1 .0 ∙ after-empty .empty .kept .1 .1 .1 .1 .1 .0
 
 same-length-9 : tie.Need-same-length-9
 same-length-9 c =
@@ -137,8 +139,8 @@ returns c =
     let after-empty = empty-from-return c in
     let after-run-header = run-header-from-return c in
     let a = start .args in
-    run-is (length (a .vars .now)) (length (a .members .now)) (length (a .scratch .now)) (a .formula .now) (a .proof .now) _ _ _ _ _ _ _ _ _ _
-    (after-run-header .run-header .ensures) (after-empty .empty .kept .0) (after-empty .empty .kept .1 .1 .1 .0) (c .before .before .clear-numbers .ensures) (after-run-header .run-header .kept .1 .1 .1 .1 .1 .1 .1 .1 .0)
+    run-is (length (a .vars .now)) (length (a .members .now)) (length (a .scratch .now)) (a .formula .now) (a .proof .now) _ _ _ _ _ _ _ _
+    (after-run-header .run-header .ensures) (after-empty .empty .kept .0) (after-empty .empty .kept .1 .1 .1 .1 .1 .0) (c .before .before .clear-numbers .ensures) (after-run-header .run-header .kept .1 .1 .1 .1 .1 .1 .1 .1 .0)
 
 pub run-spec : {M : Type 1} → statement M
 run-spec = tie.close (tie.spec empty-requires clear-bytes-requires run-header-requires clear-numbers-requires same-length same-length-2 same-length-3 same-length-4 same-length-5 same-length-6 same-length-7 same-length-8 same-length-9 same-length-10 returns)

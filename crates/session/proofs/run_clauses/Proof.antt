@@ -34,7 +34,7 @@ module _ (c : tie.After-number) where
 
 module _ (c : tie.After-empty) where
   abbrev number-from-empty : tie.After-number
-  number-from-empty = c .before .before .before .before .before .before
+  number-from-empty = c .before .before .before .before .before .before .before .before
 
 module _ (c : tie.After-run-proof-arg10) where
   abbrev count-from-run-proof-call : tie.After-count
@@ -50,9 +50,9 @@ module _ (c : tie.After-run-proof) where
   abbrev count-from-run-proof : tie.After-count
   count-from-run-proof = c .before .before .before .before .before .before .before .before .before .before .before .before
 
-module _ (c : tie.After-slice-known20) where
+module _ (c : tie.After-slice-known22) where
   abbrev empty-from-return : tie.After-empty
-  empty-from-return = c .before .before .before .before .before .before .before .before
+  empty-from-return = c .before .before .before .before .before .before .before .before .before .before .before .before
 
   abbrev number-from-return : tie.After-number
   number-from-return = number-from-empty empty-from-return
@@ -63,7 +63,7 @@ module _ (c : tie.After-slice-known20) where
   abbrev start-from-return : tie.Start
   start-from-return = start-from-read-clauses read-clauses-from-return
 
-module _ (c : tie.After-slice-known30) where
+module _ (c : tie.After-slice-known32) where
   abbrev run-proof-from-return-2 : tie.After-run-proof
   run-proof-from-return-2 = c .before .before .before .before .before .before .before .before .before .before .before .before .before
       .before .before .before .before .before .before .before
@@ -130,18 +130,20 @@ same-length-3 c =
 same-length-4 : tie.Need-same-length-4
 same-length-4 c =
     let after-read-clauses = read-clauses-from-return c in
-    after-read-clauses .read-clauses .kept .1 .1 .1 .0
+    let after-empty = empty-from-return c in
+    after-empty .empty .kept .1 .1 .1 .0 ∙ after-read-clauses .read-clauses .kept .1 .1 .1 .0
 
 same-length-5 : tie.Need-same-length-5
 same-length-5 c =
     let after-read-clauses = read-clauses-from-return c in
-    after-read-clauses .read-clauses .kept .1 .1 .1 .1 .0
+    let after-empty = empty-from-return c in
+    after-empty .empty .kept .1 .1 .1 .1 .0 ∙ after-read-clauses .read-clauses .kept .1 .1 .1 .1 .0
 
 same-length-6 : tie.Need-same-length-6
 same-length-6 c =
     let after-read-clauses = read-clauses-from-return c in
     let after-empty = empty-from-return c in
-    after-empty .empty .kept .1 .1 .1 .0 ∙ after-read-clauses .read-clauses .kept .1 .1 .1 .1 .1 .0
+    after-empty .empty .kept .1 .1 .1 .1 .1 .0 ∙ after-read-clauses .read-clauses .kept .1 .1 .1 .1 .1 .0
 
 returns : tie.Need-returns
 returns c =
@@ -152,8 +154,14 @@ returns c =
     let a = start .args in
     let x = after-read-clauses .read-clauses .last in
     let G = opened-good _ _ (start .pre .0) in
-    refused-is (length (a .vars .now)) (length (a .members .now)) (length (a .scratch .now)) _ _ _ (start .pre .0 .least) _ _ _ _ _
-    (after-empty .empty .ensures .0 ∙ ap zeros (after-read-clauses .read-clauses .kept .0)) (after-empty .empty .ensures .1 .0 ∙ ap zeros (after-read-clauses .read-clauses .kept .1 .0 ∙ G .lows)) (after-empty .empty .ensures .1 .1 .0 ∙ ap zeros (after-read-clauses .read-clauses .kept .1 .1 .0 ∙ G .highs)) (after-empty .empty .ensures .1 .1 .1 ∙ ap zeros (after-read-clauses .read-clauses .kept .1 .1 .1 .1 .1 .0)) (start .pre .1 .6)
+    refused-is (length (a .vars .now)) (start .pre .0 .least) _ _ _ _ _
+    (after-empty .empty .ensures .0 ∙ ap zeros (after-read-clauses .read-clauses .kept .0))
+    (after-empty .empty .ensures .1 .0 ∙ ap zeros (after-read-clauses .read-clauses .kept .1 .0 ∙ G .lows))
+    (after-empty .empty .ensures .1 .1 .0 ∙ ap zeros (after-read-clauses .read-clauses .kept .1 .1 .0 ∙ G .highs))
+    (after-empty .empty .ensures .1 .1 .1 .0 ∙ ap zeros (after-read-clauses .read-clauses .kept .1 .1 .1 .0 ∙ G .heads))
+    (after-empty .empty .ensures .1 .1 .1 .1 .0 ∙ ap zeros (after-read-clauses .read-clauses .kept .1 .1 .1 .1 .0 ∙ G .links))
+    (length (a .members .now)) (length (a .scratch .now)) _ _ _ _ _
+    (after-empty .empty .ensures .1 .1 .1 .1 .1 ∙ ap zeros (after-read-clauses .read-clauses .kept .1 .1 .1 .1 .1 .0)) (start .pre .1 .6)
     ∙ unbegun-is (a .variables) (a .proof .now) (x .0) (x .1 .0) (x .1 .1 .0) (x .1 .1 .1 .0) (x .1 .1 .1 .1 .0) (x .1 .1 .1 .1 .1 .0) (length (a .vars .now)) (length (a .members .now)) (length (a .scratch .now)) _ _ (after-read-clauses .read-clauses .ensures .0 (a .proof .now)) _ _ _ (after-number .number .given .1)
 
 same-length-7 : tie.Need-same-length-7

@@ -71,7 +71,7 @@ returns : tie.Need-returns
 returns c =
     let start = start-from-return c in
     let a = start .args in
-    unopened-is _ _ _ (start .pre .0) (start .pre .1 .3) refl (length (a .scratch .now)) _ _
+    unopened-is _ _ _ (start .pre .0) (start .pre .1 .3) (length (a .scratch .now)) _ _
     ∙ ap (outcome (length (a .vars .now)) (length (a .members .now)) (length (a .scratch .now))) (sym (verdict-improper (length (a .vars .now)) _ (a .proof .now) _ _ (sym (read-header-from-return c .read-header .ensures) ∙ c .before .number .given .1)))
 
 same-length : tie.Need-same-length

@@ -2,6 +2,7 @@
 use mathlib.Core.Path.{sym, ap, _∙_}
 use mathlib.Core.Bool.{Bool}
 use borrow.Author.Tests.{not-true, not-false}
+use Rattle.table.specs.Columns.{columnsMade}
 use Rattle.single.proofs.Refusals.{evaluated-7, evaluated-26, evaluated-13, evaluated-0, readable}
 use borrow.Author.Needs.{needs}
 use Rattle.single.proofs.evaluate.Statement.{statement}
@@ -12,37 +13,40 @@ size-fits-requires c κs = search needs
 
 returns : tie.Need-returns
 returns c =
-    evaluated-7 _ _ _ _ _ _ (sym (c .before .size-fits .ensures) ∙ not-true _ (c .if1 .taken))
+    evaluated-7 _ _ _ _ (sym (c .before .size-fits .ensures) ∙ not-true _ (c .if1 .taken))
 
-good-order-requires : tie.Need-good-order-requires
-good-order-requires c κs =
+order-fits-requires : tie.Need-order-fits-requires
+order-fits-requires c κs =
     (sym (c .before .size-fits .ensures) ∙ not-false _ (c .if1 .left))
 
 -- The ways back, written by ways.py: TO-from-FROM leads from the place FROM of the code to the place TO before it.
 module _ (c : tie.After-size-fits) where
   abbrev start-from-size-fits : tie.Start
-  start-from-size-fits = c .before .before .before .before
+  start-from-size-fits = c .before .before .before .before .before .before
 
 module _ (c : tie.Then2) where
   abbrev size-fits-from-then2 : tie.After-size-fits
   size-fits-from-then2 = c .before .before .before
 
 module _ (c : tie.Else3) where
-  abbrev good-order-from-else3 : tie.After-good-order
-  good-order-from-else3 = c .before .before .before
+  abbrev order-fits-from-else3 : tie.After-order-fits
+  order-fits-from-else3 = c .before .before .before
 
   abbrev else1-from-else3 : tie.Else1
-  else1-from-else3 = good-order-from-else3 .before
+  else1-from-else3 = order-fits-from-else3 .before
 
   abbrev size-fits-from-else3 : tie.After-size-fits
   size-fits-from-else3 = else1-from-else3 .before
 
+  abbrev start-from-else3 : tie.Start
+  start-from-else3 = start-from-size-fits size-fits-from-else3
+
 module _ (c : tie.Then3) where
-  abbrev good-order-from-then3 : tie.After-good-order
-  good-order-from-then3 = c .before .before .before
+  abbrev order-fits-from-then3 : tie.After-order-fits
+  order-fits-from-then3 = c .before .before .before
 
   abbrev else1-from-then3 : tie.Else1
-  else1-from-then3 = good-order-from-then3 .before
+  else1-from-then3 = order-fits-from-then3 .before
 
   abbrev size-fits-from-then3 : tie.After-size-fits
   size-fits-from-then3 = else1-from-then3 .before
@@ -51,11 +55,11 @@ module _ (c : tie.After-value-of) where
   abbrev else2-from-return-4 : tie.Else2
   else2-from-return-4 = c .before .before .before
 
-  abbrev good-order-from-return-4 : tie.After-good-order
-  good-order-from-return-4 = else2-from-return-4 .before
+  abbrev order-fits-from-return-4 : tie.After-order-fits
+  order-fits-from-return-4 = else2-from-return-4 .before
 
   abbrev else1-from-return-4 : tie.Else1
-  else1-from-return-4 = good-order-from-return-4 .before
+  else1-from-return-4 = order-fits-from-return-4 .before
 
   abbrev size-fits-from-return-4 : tie.After-size-fits
   size-fits-from-return-4 = else1-from-return-4 .before
@@ -65,22 +69,22 @@ module _ (c : tie.After-value-of) where
 
 returns-2 : tie.Need-returns-2
 returns-2 c =
-    evaluated-26 _ _ _ _ _ _ (sym (size-fits-from-then2 c .size-fits .ensures) ∙ not-false _ (c .before .before .if1 .left)) (sym (c .before .good-order .ensures) ∙ not-true _ (c .if2 .taken))
+    evaluated-26 _ _ _ _ (sym (size-fits-from-then2 c .size-fits .ensures) ∙ not-false _ (c .before .before .if1 .left)) (sym (c .before .order-fits .ensures) ∙ not-true _ (c .if2 .taken))
 
 cast-if3 : tie.Need-cast-if3
 cast-if3 c = search needs
 
 returns-3 : tie.Need-returns-3
 returns-3 c =
-    evaluated-13 _ _ _ _ _ _ (sym (size-fits-from-then3 c .size-fits .ensures) ∙ not-false _ (else1-from-then3 c .if1 .left)) (sym (good-order-from-then3 c .good-order .ensures) ∙ not-false _ (c .before .before .if2 .left)) (c .if3 .taken)
+    evaluated-13 _ _ _ _ (sym (size-fits-from-then3 c .size-fits .ensures) ∙ not-false _ (else1-from-then3 c .if1 .left)) (sym (order-fits-from-then3 c .order-fits .ensures) ∙ not-false _ (c .before .before .if2 .left)) (c .if3 .taken)
 
 value-of-requires : tie.Need-value-of-requires
 value-of-requires c κs =
-    (readable _ _ _ _ (sym (size-fits-from-else3 c .size-fits .ensures) ∙ not-false _ (else1-from-else3 c .if1 .left)) (sym (good-order-from-else3 c .good-order .ensures) ∙ not-false _ (c .before .before .if2 .left)), c .if3 .left)
+    (readable (columnsMade (start-from-else3 c .args .vars .now) (start-from-else3 c .args .lows .now) (start-from-else3 c .args .highs .now) (start-from-else3 c .args .heads .now) (start-from-else3 c .args .links .now)) _ (sym (size-fits-from-else3 c .size-fits .ensures) ∙ not-false _ (else1-from-else3 c .if1 .left)) (sym (order-fits-from-else3 c .order-fits .ensures) ∙ not-false _ (c .before .before .if2 .left)), c .if3 .left)
 
 returns-4 : tie.Need-returns-4
 returns-4 c =
-    ap (λ (b : Bool). record { number = 0; yes = b; count = start-from-return-4 c .args .count }) (c .value-of .ensures) ∙ evaluated-0 _ _ _ _ _ _ (sym (size-fits-from-return-4 c .size-fits .ensures) ∙ not-false _ (else1-from-return-4 c .if1 .left)) (sym (good-order-from-return-4 c .good-order .ensures) ∙ not-false _ (else2-from-return-4 c .if2 .left)) (c .before .if3 .left)
+    ap (λ (b : Bool). record { number = 0; yes = b; count = start-from-return-4 c .args .count }) (c .value-of .ensures) ∙ evaluated-0 _ _ _ _ (sym (size-fits-from-return-4 c .size-fits .ensures) ∙ not-false _ (else1-from-return-4 c .if1 .left)) (sym (order-fits-from-return-4 c .order-fits .ensures) ∙ not-false _ (else2-from-return-4 c .if2 .left)) (c .before .if3 .left)
 
 pub evaluate-spec : {M : Type 1} → statement M
 evaluate-spec =
@@ -88,7 +92,7 @@ evaluate-spec =
     (tie.spec
     size-fits-requires
     returns
-    good-order-requires
+    order-fits-requires
     returns-2
     cast-if3
     returns-3

@@ -2,7 +2,7 @@
 use Prim.Native.Nat.{ℕ, _+_, _*_, _%_, _^_}
 use mathlib.Core.Path.{_≡_, ap, _∙_}
 use native.Mathlib.Nat.{mod-lt, add-mod-mod, mod-add-mod}
-use Rattle.table.specs.Indexed.{bucket}
+use Rattle.table.specs.Index.{bucket}
 use borrow.Author.Needs.{needs}
 use Rattle.table.proofs.bucket_of.Statement.{statement}
 use Rattle.table.proofs.bucket_of.Tie as tie

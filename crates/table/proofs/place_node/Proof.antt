@@ -1,7 +1,6 @@
 -- `place_node` gives the child, the place found, a new place, or `full`, as the definition does, and tells which. Assumes nothing.
 use mathlib.Core.Path.{sym, _∙_}
 use native.Mathlib.Omega.{arith}
-use Rattle.table.proofs.Chain.{good-linked}
 use Rattle.table.proofs.IndexStores.{found-some, found-none, put-equal, put-found, put-new, put-full, took-equal, took-found, took-new, took-full}
 use borrow.Author.Needs.{needs}
 use Rattle.table.proofs.place_node.Statement.{statement}
@@ -76,7 +75,7 @@ returns c =
 
 lookup-requires : tie.Need-lookup-requires
 lookup-requires c κs =
-    good-linked _ (start-from-lookup-call c .pre)
+    start-from-lookup-call c .pre
 
 enum-known-k : tie.Need-enum-known-k
 enum-known-k c = search needs

@@ -6,12 +6,12 @@ use Rattle.nodes.proofs.within.evaluate_within.Statement.{statement}
 use Rattle.nodes.proofs.within.evaluate_within.Tie as tie
 
 returns : tie.Need-returns
-returns c = evaluation-past _ _ _ _ _ _ _ (c .if1 .taken)
+returns c = evaluation-past _ _ _ _ _ _ _ _ _ (c .if1 .taken)
 
 -- The ways back, written by ways.py: TO-from-FROM leads from the place FROM of the code to the place TO before it.
 module _ (c : tie.Else1) where
   abbrev start-from-else1 : tie.Start
-  start-from-else1 = c .before .before .before .before
+  start-from-else1 = c .before .before .before .before .before .before
 
 module _ (c : tie.After-evaluate-arg) where
   abbrev start-from-slice-aggregate-evaluate : tie.Start
@@ -45,7 +45,7 @@ evaluate-requires : tie.Need-evaluate-requires
 evaluate-requires c κs = search needs
 
 returns-2 : tie.Need-returns-2
-returns-2 c = evaluation-first _ _ _ _ _ _ _ _ (omega (arith, else1-from-return-2 c .if1 .left)) (c .evaluate .ensures)
+returns-2 c = evaluation-first _ _ _ _ _ _ _ _ _ _ (omega (arith, else1-from-return-2 c .if1 .left)) (c .evaluate .ensures)
 
 pub evaluate-within-spec : {M : Type 1} → statement M
 evaluate-within-spec =

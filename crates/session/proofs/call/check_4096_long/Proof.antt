@@ -12,7 +12,12 @@ slice-aggregate-check-4096 c = length-whole 90112
 module _ (c : tie.After-memo) where
   abbrev start-from-check-4096-call : tie.Start
   start-from-check-4096-call = c .before .before .before .before .before .before .before .before .before .before .before .before .before
-      .before .before
+      .before .before .before .before .before .before
+
+module _ (c : tie.After-memo2) where
+  abbrev check-4096-from-return : tie.After-check-4096
+  check-4096-from-return = c .before .before .before .before .before .before .before .before .before .before .before .before .before .before
+      .before .before .before
 
 check-4096-requires : tie.Need-check-4096-requires
 check-4096-requires c κs =
@@ -20,25 +25,40 @@ check-4096-requires c κs =
     (start .pre .0, start .pre .1, omega (arith, length-whole 90112, start .pre .1))
 
 same-length : tie.Need-same-length
-same-length c = search needs
+same-length c =
+    check-4096-from-return c .check-4096 .kept .0
 
 same-length-2 : tie.Need-same-length-2
-same-length-2 c = search needs
+same-length-2 c =
+    check-4096-from-return c .check-4096 .kept .1 .0
 
 same-length-3 : tie.Need-same-length-3
-same-length-3 c = search needs
+same-length-3 c =
+    check-4096-from-return c .check-4096 .kept .1 .1 .0
 
 same-length-4 : tie.Need-same-length-4
-same-length-4 c = search needs
+same-length-4 c =
+    check-4096-from-return c .check-4096 .kept .1 .1 .1 .0
 
 same-length-5 : tie.Need-same-length-5
-same-length-5 c = search needs
+same-length-5 c =
+    check-4096-from-return c .check-4096 .kept .1 .1 .1 .1 .0
 
 same-length-6 : tie.Need-same-length-6
-same-length-6 c = search needs
+same-length-6 c =
+    check-4096-from-return c .check-4096 .kept .1 .1 .1 .1 .1 .0
+
+same-length-7 : tie.Need-same-length-7
+same-length-7 c =
+    check-4096-from-return c .check-4096 .kept .1 .1 .1 .1 .1 .1 .0
+
+same-length-8 : tie.Need-same-length-8
+same-length-8 c =
+    check-4096-from-return c .check-4096 .kept .1 .1 .1 .1 .1 .1 .1 .0
 
 returns : tie.Need-returns
-returns c = search needs
+returns c =
+    check-4096-from-return c .check-4096 .ensures
 
 pub check-4096-long-spec : {M : Type 1} → statement M
 check-4096-long-spec =
@@ -52,4 +72,6 @@ check-4096-long-spec =
     same-length-4
     same-length-5
     same-length-6
+    same-length-7
+    same-length-8
     returns)

@@ -12,20 +12,20 @@ size-fits-requires c κs =
 
 returns : tie.Need-returns
 returns c =
-    sym (unfit-columns _ _ _ _ _ _ (sym (c .before .size-fits .ensures) ∙ not-true _ (c .if1 .taken)))
+    sym (unfit-columns _ _ _ _ (sym (c .before .size-fits .ensures) ∙ not-true _ (c .if1 .taken)))
 
 returns-2 : tie.Need-returns-2
 returns-2 c =
-    sym (fit-columns _ _ _ _ _ _ (sym (c .before .before .size-fits .ensures) ∙ not-false _ (c .before .if1 .left)) ∙ rw (lt-leb _ _ (c .if2 .taken)))
+    sym (fit-columns _ _ _ _ (sym (c .before .before .size-fits .ensures) ∙ not-false _ (c .before .if1 .left)) ∙ rw (lt-leb _ _ (c .if2 .taken)))
 
 returns-3 : tie.Need-returns-3
 returns-3 c =
-    sym (fit-columns _ _ _ _ _ _ (sym (c .before .before .before .size-fits .ensures) ∙ not-false _ (c .before .before .if1 .left))
+    sym (fit-columns _ _ _ _ (sym (c .before .before .before .size-fits .ensures) ∙ not-false _ (c .before .before .if1 .left))
     ∙ rw (le-leb _ _ (c .before .if2 .left), eq-eqb _ _ (c .if3 .taken)))
 
 returns-4 : tie.Need-returns-4
 returns-4 c =
-    sym (fit-columns _ _ _ _ _ _ (sym (c .before .before .before .size-fits .ensures) ∙ not-false _ (c .before .before .if1 .left))
+    sym (fit-columns _ _ _ _ (sym (c .before .before .before .size-fits .ensures) ∙ not-false _ (c .before .before .if1 .left))
     ∙ rw (le-leb _ _ (c .before .if2 .left), ne-eqb _ _ (c .if3 .left)))
 
 pub lent-fits-spec : {M : Type 1} → statement M

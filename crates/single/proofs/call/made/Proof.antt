@@ -1,6 +1,6 @@
 -- `made` leaves the operation's result placed, or the table as lent and 23. Assumes nothing.
 use mathlib.Core.Path.{_∙_}
-use Rattle.table.specs.Indexed.{Table, tableOf, Outcome, outcomeOf}
+use Rattle.table.specs.Indexed.{Table, tableOf, listsOf, Outcome, outcomeOf}
 use Rattle.operate.proofs.Results.{applied-grown, applied-longer}
 use Rattle.single.proofs.Calls.{done-is, full-is, dropped-is}
 use Rattle.single.proofs.call.made.Statement.{statement}
@@ -107,7 +107,7 @@ returns c =
     let a = apply-from-return c in
     let L = applied-longer _ _ _ _ _ (s .pre) (o-of a) (a .apply .ensures .0) in
     dropped-is (t-of s) (o-of a .table) (tableOf (drop-to-from-return c .drop-to .last .0) (drop-to-from-return c .drop-to .last .1 .0) (drop-to-from-return c .drop-to .last .1 .1 .0) (drop-to-from-return c .drop-to .last .1 .1 .1 .0) (drop-to-from-return c .drop-to .last .1 .1 .1 .1 .0) (s .args .count)) (s .pre .good) L (drop-to-from-return c .drop-to .ensures)
-    ∙ full-is (s .args .vars .now) (s .args .lows .now) (s .args .highs .now) (s .args .count) (o-of a) _ (a .apply .ensures .0) (then1-from-return c .if1 .taken)
+    ∙ full-is (listsOf (t-of s)) (s .args .count) (o-of a) _ (a .apply .ensures .0) (then1-from-return c .if1 .taken)
 
 same-length-7 : tie.Need-same-length-7
 same-length-7 c =
@@ -137,7 +137,7 @@ returns-2 : tie.Need-returns-2
 returns-2 c =
     let s = start-from-return-2 c in
     let a = apply-from-return-2 c in
-    done-is (s .args .vars .now) (s .args .lows .now) (s .args .highs .now) (s .args .count) (o-of a) _ (a .apply .ensures .0) (c .before .if1 .left)
+    done-is (listsOf (t-of s)) (s .args .count) (o-of a) _ (a .apply .ensures .0) (applied-longer _ _ _ _ _ (s .pre) (o-of a) (a .apply .ensures .0)) (c .before .if1 .left)
 
 pub made-spec : {M : Type 1} → statement M
 made-spec = tie.close (tie.spec apply-requires drop-to-requires same-length same-length-2 same-length-3 same-length-4 same-length-5 same-length-6 returns same-length-7 same-length-8 same-length-9 same-length-10 same-length-11 same-length-12 returns-2)

@@ -6,7 +6,7 @@ use lib.ListN.{take, drop}
 use borrow.Author.Tests.{eq-eqb, ne-eqb}
 use Rattle.table.specs.Nodes.{allBlank}
 use Rattle.table.specs.Columns.{rows}
-use Rattle.table.proofs.IndexOrder.{blank-step, blank-end}
+use Rattle.table.proofs.Places.{blank-step, blank-end}
 use borrow.Author.Needs.{needs}
 use Rattle.table.proofs.test.blank_between.Statement.{statement}
 use Rattle.table.proofs.test.blank_between.Tie as tie

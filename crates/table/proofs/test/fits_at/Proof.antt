@@ -2,7 +2,7 @@
 use mathlib.Core.Path.{sym, _∙_}
 use native.Mathlib.Omega.{arith}
 use borrow.Author.Tests.{not-true, not-false}
-use Rattle.table.proofs.IndexOrder.{fits-read, unfit-zero, unfit-great, unfit-low, unfit-high, unfit-equal, unfit-above, fit-above}
+use Rattle.table.proofs.Places.{fits-read, unfit-zero, unfit-great, unfit-low, unfit-high, unfit-equal, unfit-above, fit-above}
 use borrow.Author.Needs.{needs}
 use Rattle.table.proofs.test.fits_at.Statement.{statement}
 use Rattle.table.proofs.test.fits_at.Tie as tie

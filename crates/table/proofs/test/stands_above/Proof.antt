@@ -1,6 +1,6 @@
 -- `stands_above` is the definition's test. Assumes nothing.
 use mathlib.Core.Path.{sym}
-use Rattle.table.proofs.IndexOrder.{above-constant, above-node}
+use Rattle.table.proofs.Places.{above-constant, above-node}
 use borrow.Author.Needs.{needs}
 use Rattle.table.proofs.test.stands_above.Statement.{statement}
 use Rattle.table.proofs.test.stands_above.Tie as tie

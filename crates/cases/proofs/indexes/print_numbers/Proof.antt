@@ -1,0 +1,59 @@
+-- Printing the numbers stays within them and ends: the place goes up by one each turn. Assumes nothing.
+use Prim.Native.Nat.{_-_}
+use borrow.Author.Needs.{needs}
+use lib.ListN.{length}
+use Rattle.cases.proofs.indexes.print_numbers.Statement.{statement}
+use Rattle.cases.proofs.indexes.print_numbers.Tie as tie
+
+abbrev Inv-loop : tie.InvT-loop
+Inv-loop label numbers i₀ i = Unit {0}
+
+abbrev μ-loop : tie.MeasureT-loop
+μ-loop label numbers i₀ i = length numbers - i
+
+label-requires : tie.Need-label-requires Inv-loop μ-loop
+label-requires c κs = search needs
+
+loop-holds : tie.Need-loop-holds Inv-loop μ-loop
+loop-holds c = search needs
+
+mul-short : tie.Need-mul-short Inv-loop μ-loop
+mul-short c = search needs
+
+shared-slice-read-short : tie.Need-shared-slice-read-short Inv-loop μ-loop
+shared-slice-read-short c = search needs
+
+short-requires : tie.Need-short-requires Inv-loop μ-loop
+short-requires c κs = search needs
+
+add-i : tie.Need-add-i Inv-loop μ-loop
+add-i c = search needs
+
+loop-less : tie.Need-loop-less Inv-loop μ-loop
+loop-less c = search needs
+
+loop-again : tie.Need-loop-again Inv-loop μ-loop
+loop-again c = search needs
+
+end-requires : tie.Need-end-requires Inv-loop μ-loop
+end-requires c κs = search needs
+
+returns : tie.Need-returns Inv-loop μ-loop
+returns c = search needs
+
+pub print-numbers-spec : {M : Type 1} → statement M
+print-numbers-spec =
+    tie.close
+    (tie.spec
+    Inv-loop
+    μ-loop
+    label-requires
+    loop-holds
+    mul-short
+    shared-slice-read-short
+    short-requires
+    add-i
+    loop-less
+    loop-again
+    end-requires
+    returns)
