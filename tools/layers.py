@@ -18,6 +18,7 @@ WORDS = {
     "replay": "record after record", "session": "the whole check", "checker": "calls with no requires",
     "demands": "the demands' theorems", "order": "members in any order", "nodes": "over node structs", "report": "line and status",
     "export": "the archive for C, Rust", "refute": "the program of two files", "cases": "runs 01's examples",
+    "sets": "parity, at least", "binomial": "C(n, k), stored",
 }
 OPEN = {"checker", "nodes", "export", "refute", "cases"}
 WIDTH, HEIGHT, ACROSS, UP, TOP = 158, 44, 190, 78, 64

@@ -23,8 +23,8 @@ use Rattle.demands.proofs.Places as Places
 pub check-exactly : (i : Lent) (o : Outcome) → (checked i ≡ o) ↔ Ends i o
 check-exactly = Ending.check-exactly
 
--- "Place: [..] 9 to 23 [..] the record's first byte (10 with no record begun: the length; 11: the byte after the end record)", and that of 0 and of 28: where the number
--- is one of the proof's, the run ends at a record there, all records before it taken.
+-- "Place: [..] 9 to 23 [..] the record's first byte (10 with no record begun: the length; 11: the byte after the end record)", and that of 0, 28 and 29: where the
+-- number is one of the proof's, the run ends at a record there, all records before it taken.
 pub check-place : (i : Lent) → (1 ≤ checked i .number → 9 ≤ checked i .number) → AtEnd i (checked i)
 check-place = Places.check-place
 
@@ -51,14 +51,14 @@ seven-exactly i = ((λ z fits. not-seven (check-leaves i) fits z), (λ other. ap
 pub seven-changes-nothing : (i : Lent) → (Fits i → ⊥) → checked i ≡ seven i
 seven-changes-nothing = Ending.checked-seven
 
--- "The whole check [..] never gives 26 or 27", nor the program's 24 and 25: 23 at most, or 28. (02, 3/14)
-pub check-number : (i : Lent) → checked i .number ≢ 28 → checked i .number ≤ 23
+-- "The whole check [..] never gives 26 or 27", nor the program's 24 and 25: 23 at most, or 28 or 29. (02, 3/14 and 5/14)
+pub check-number : (i : Lent) → checked i .number ≢ 28 → checked i .number ≢ 29 → checked i .number ≤ 23
 check-number i = go (checked i) (check-leaves i)
   where
-    go : (o : Outcome) → Leaves i o → o .number ≢ 28 → o .number ≤ 23
-    go o (leaving.unchanged other is) _ = let z : o .number ≡ 7 = ap (λ (x : Outcome). x .number) is in omega arith
-    go o (emptied _ E) _ = omega (arith, E .number .1)
-    go o (kept _ K) other = K .number .0 other
+    go : (o : Outcome) → Leaves i o → o .number ≢ 28 → o .number ≢ 29 → o .number ≤ 23
+    go o (leaving.unchanged other is) _ _ = let z : o .number ≡ 7 = ap (λ (x : Outcome). x .number) is in omega arith
+    go o (emptied _ E) _ _ = omega (arith, E .number .1)
+    go o (kept _ K) other another = K .number .0 other another
 
 -- "A refused single call changes nothing"; "with a refusal the node is 0".
 pub refused-changes-nothing : (op : Operation) (c : Columns) (count f g : ℕ) → operation op c count f g .number ≢ 0

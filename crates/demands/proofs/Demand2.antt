@@ -23,7 +23,7 @@ use Rattle.verdict.specs.Check.{State, next, judged, liveMembers, step, check}
 use Rattle.verdict.specs.Run.{Meant, Taken, lineOf, peakWith, Reached, Refutation}
 use Rattle.verdict.specs.Satisfies.{clausesOf}
 use Rattle.verdict.specs.MetFirst.{no-conflict, metBy, sayMet}
-use Rattle.verdict.specs.Cases.{Gives, GivesAll, checked as row, prints, bytes, A-formula, A-proof, caseTable, numberTable, strikeTable}
+use Rattle.verdict.specs.Cases.{Gives, GivesAll, checked as row, prints, bytes, A-formula, A-proof, caseTable, numberTable, strikeTable, setTable}
 use Rattle.verdict.proofs.Cases as Tables
 use Rattle.verdict.proofs.Steps as Steps
 use Rattle.verdict.proofs.MetFirst as MetFirst
@@ -57,7 +57,8 @@ pub zero-line-exactly : (s : ℕ) (text proof : List ℕ) {n : ℕ} {st : State}
     → (st .refuted ≡ true) ↔ ZeroLine (length (clausesOf (formula text))) st
 zero-line-exactly = ZeroLines.zero-line-exactly
 
--- A record leads to a next state exactly where it passes what 01 and 02 ask of its kind: `NodeTaken`, `WitnessTaken`, `LineTaken`, `StrikeTaken`.
+-- A record leads to a next state exactly where it passes what 01 and 02 ask of its kind: `NodeTaken`, `WitnessTaken`, `LineTaken`, `StrikeTaken`,
+-- `SetTaken`.
 pub step-exactly : (n s : ℕ) (st : State) (more : Bool) (r : Record) (st′ : State) → (step n s st more r ≡ next st′) ↔ Taken n s st r st′
 step-exactly = Steps.step-exactly
 
@@ -121,6 +122,10 @@ numbers = Tables.numbers
 -- 02's strikings: 28, its order with 10 and 16, the marks that are left.
 pub strikings : GivesAll strikeTable
 strikings = Tables.strikings
+
+-- 02's sets: odd and even, at least k; 10, 12, 29 and 23 in their order, and the edges.
+pub set-entries : GivesAll setTable
+set-entries = Tables.set-entries
 
 -- "7: table of 1 place"; "21: node record 4,097 of a line"; "22: line 1,025"; "26: node 2 = 1, 0, 0"; "27: f = 1, g = 0". 24 and 25 are the program's
 -- (report/proofs/Saying: `long-formula`, `long-proof`, `no-formula`, `no-proof`).

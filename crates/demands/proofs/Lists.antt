@@ -161,7 +161,7 @@ module _ (i : Lent) (S : Sizes i) {n : ℕ} {st : State} {at : ℕ} {m : Meant} 
     | no p ↦ getD-past (st .struck) (length (i .members) - length (st .struck)) k (omega arith) ∙ sym (List·getD-eq-default (st .struck) 0 (omega arith))
   ]
 
-  judged-kept : (number ≢ 28 → number ≤ 23) × (number ≢ 0 → 9 ≤ number) → ((k : ℕ) → getD (st .struck) k 0 ≡ markOf (strikingsBefore (i .proof) place) k)
+  judged-kept : (number ≢ 28 → number ≢ 29 → number ≤ 23) × (number ≢ 0 → 9 ≤ number) → ((k : ℕ) → getD (st .struck) k 0 ≡ markOf (strikingsBefore (i .proof) place) k)
       → Reported (places i) (S .columns .least) (i .text) (i .proof) (left number place peak st) → Kept i o
   unfolding outcome
   judged-kept named marks P = record {

@@ -34,7 +34,7 @@ use Rattle.records.specs.declared.NodeBody.{NodeBody}
 use Rattle.records.specs.declared.Rule.{Rule}
 use Rattle.records.specs.declared.Rule.the-variants.{Rup, Pr}
 use Rattle.records.specs.declared.Record.{Record}
-use Rattle.records.specs.declared.Record.the-variants.{NodeEntry, Witness, ProofLine, Strike, End, CutShort, UnknownKind, NoRecord}
+use Rattle.records.specs.declared.Record.the-variants.{NodeEntry, Witness, ProofLine, Strike, SetEntry, End, CutShort, UnknownKind, NoRecord}
 use Rattle.records.specs.Records.{recordAt}
 use Rattle.operate.specs.declared.Operation.{Operation}
 use Rattle.operate.specs.declared.Operation.the-variants.{Conjunction, Negation, Cofactor, Literals}
@@ -42,9 +42,10 @@ use Rattle.operate.specs.Operate.{result}
 use Rattle.operate.proofs.Results.{result-reduced}
 use Rattle.single.specs.Single as single
 use Rattle.single.specs.Single.{Made, refusal, sharesVariable, operandRefusal, madeBy, operation}
-use Rattle.verdict.specs.Check.{State, next, spent, isEntry, entryNode, isVariable, entered, nodeStep, witnessStep, waiting, accepted, judged, diagramIn, liveMembers, lineStep, isLive, strikeStep, endStep, step, Outcome, outcome}
+use Rattle.verdict.specs.Check.{State, next, spent, isEntry, entryNode, isVariable, entered, nodeStep, witnessStep, waiting, accepted, judged, diagramIn, liveMembers, lineStep, isLive, strikeStep, beyond, noParity, setDiagram, setStep, endStep, step, Outcome, outcome}
 use Rattle.verdict.specs.Run.{Meant, lineOf, peakWith, follows, no-header, not-read, no-room, stopped, tried}
 use Rattle.verdict.proofs.Steps.{spent-other, next-not-spent, stop-not-spent, past-early}
+use Rattle.verdict.proofs.SetValues.{set-reduced}
 use Rattle.verdict.proofs.Standing.{Standing, entry-valued, over-reduced}
 use Rattle.verdict.proofs.Formula.{NamedHeader, header-named}
 use Rattle.verdict.proofs.Clauses.{underway}
@@ -237,7 +238,7 @@ module _ {s n : ℕ} {m : Meant} {st : State} (S : Standing s n m st) (narrow : 
       judged-wants Pr g e₄
 
   record-wants : (more : Bool) (r : Record) → step n s st more r ≡ spent 23 peak → RecordWants n s st r
-  unfolding step witnessStep strikeStep endStep
+  unfolding step witnessStep strikeStep setStep endStep
   record-wants more (NodeEntry b) e = node-wants b e
   record-wants more (ProofLine rule root) e = line-record rule (root .0) e
   record-wants more (Witness v b) e =
@@ -248,6 +249,12 @@ module _ {s n : ℕ} {m : Meant} {st : State} (S : Standing s n m st) (narrow : 
       let (p₁, e₁) = past-early (waiting st) 16 0 _ e in
       let (p₂, e₂) = past-early (not (isLive st (k .0))) 28 0 _ e₁ in
       next-not-spent _ e₂
+  record-wants more (SetEntry kind b) e =
+      let (p₁, e₁) = past-early (leb 4096 (length (st .entries))) 21 0 _ e in
+      let (p₂, e₂) = past-early (beyond n (b .set)) 12 0 _ e₁ in
+      let (p₃, e₃) = past-early (noParity kind (b .byte)) 29 0 _ e₂ in
+      let (t′, is) = entered-full (place s (st .nodes) (setDiagram n kind b)) e₃ in
+      place-wants s (st .nodes) (S .ordered) (S .room two) (setDiagram n kind b) (reduced-to 1 (suc n) 65 (setDiagram n kind b) (omega arith) (set-reduced n kind b)) t′ is
   record-wants more End e =
       let (p₁, e₁) = past-early (waiting st) 16 0 _ e in
       let (p₂, e₂) = past-early more 11 1 _ e₁ in
@@ -313,7 +320,7 @@ eight-only i z = go (checked i) (check-ends i) z
           wants = place-wants (places i) t (Y .standing .ordered) (Y .standing .room (at-least-two i e)) (meaning.clause n ls) (clause-to n ls (Y .narrow)) t₁ full-there;
         }
     go _ (at-place e (stopped {n} {number} {offset} {at} {st} R q)) z =
-        let (most, other, _) : (number ≢ 28 → number ≤ 22) × (number ≢ 0 → 9 ≤ number) × (number ≢ 19) = subst Numbered q (step-numbered n (places i) st (follows (i .proof) at) (recordAt (i .proof) at)) in
+        let (most, other, _) : (number ≢ 28 → number ≢ 29 → number ≤ 22) × (number ≢ 0 → 9 ≤ number) × (number ≢ 19) = subst Numbered q (step-numbered n (places i) st (follows (i .proof) at) (recordAt (i .proof) at)) in
         let nine : 9 ≤ number = other (λ y. omega arith) in absurd (omega arith)
     go _ (at-place e (tried {n} {number} {peak} {at} {st} R q)) z =
         let (least, most) : (19 ≤ number) × (number ≤ 23) = subst Numbered q (step-numbered n (places i) st (follows (i .proof) at) (recordAt (i .proof) at)) in absurd (omega arith)
@@ -331,8 +338,8 @@ twenty-three-only i z = go (checked i) (check-ends i) z
         let early : (1 ≤ number) × (number ≤ 6) = making-refused (places i) (i .text) M in absurd (omega arith)
     go _ (at-place e (no-room M full-there)) z = absurd (omega arith)
     go _ (at-place e (stopped {n} {number} {offset} {at} {st} {m} R q)) z =
-        let (most, other, _) : (number ≢ 28 → number ≤ 22) × (number ≢ 0 → 9 ≤ number) × (number ≢ 19) = subst Numbered q (step-numbered n (places i) st (follows (i .proof) at) (recordAt (i .proof) at)) in
-        absurd (omega (arith, most (λ y. omega arith)))
+        let (most, other, _) : (number ≢ 28 → number ≢ 29 → number ≤ 22) × (number ≢ 0 → 9 ≤ number) × (number ≢ 19) = subst Numbered q (step-numbered n (places i) st (follows (i .proof) at) (recordAt (i .proof) at)) in
+        absurd (omega (arith, most (λ y. omega arith) (λ y. omega arith)))
     go _ (at-place e (tried {n} {number} {peak} {at} {st} {m} R q)) z =
         let (narrow, S) = reached-standing (places i) (i .text) (i .proof) R in
         record { n = n; state = st; meant = m; reached = R; wants = record-wants S narrow (at-least-two i e) (follows (i .proof) at) (recordAt (i .proof) at) (rw z at q) }

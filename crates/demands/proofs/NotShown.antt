@@ -8,15 +8,15 @@ use lib.ListN.{length}
 use lib.Dec.{eqb, leb}
 use Rattle.meaning.specs.Rules.{witnessed}
 use Rattle.meaning.specs.Words.{inWord}
-use Rattle.table.specs.Nodes.{above, Placing, full, placed, put}
+use Rattle.table.specs.Nodes.{above, Placing, full, placed, put, place}
 use Rattle.records.specs.declared.EntryNo.{EntryNo}
 use Rattle.records.specs.declared.NodeBody.{NodeBody}
 use Rattle.records.specs.declared.Rule.{Rule}
 use Rattle.records.specs.declared.Rule.the-variants.{Rup, Pr}
 use Rattle.records.specs.declared.Record.{Record}
-use Rattle.records.specs.declared.Record.the-variants.{NodeEntry, Witness, ProofLine, Strike, End, CutShort, UnknownKind, NoRecord}
+use Rattle.records.specs.declared.Record.the-variants.{NodeEntry, Witness, ProofLine, Strike, SetEntry, End, CutShort, UnknownKind, NoRecord}
 use Rattle.records.specs.Records.{recordAt}
-use Rattle.verdict.specs.Check.{State, Step, next, stop, spent, isEntry, entryNode, isVariable, entered, nodeStep, witnessStep, waiting, judged, diagramIn, lineStep, isLive, strikeStep, endStep, step}
+use Rattle.verdict.specs.Check.{State, Step, next, stop, spent, isEntry, entryNode, isVariable, entered, nodeStep, witnessStep, waiting, judged, diagramIn, lineStep, isLive, strikeStep, beyond, noParity, setDiagram, setStep, endStep, step}
 use Rattle.verdict.specs.Run.{lineOf, peakWith, follows}
 use Rattle.verdict.specs.MetFirst.{Met, all-shown, no-conflict, no-place, metBy, sayMet}
 use Rattle.verdict.proofs.Steps.{spent-other, next-not-spent, stop-not-spent, past-early}
@@ -69,7 +69,7 @@ module _ (n s : ℕ) (st : State) {peak : ℕ} where
 
   record-met : (more : Bool) (r : Record) → step n s st more r ≡ spent 19 peak
       → (rule : Rule) × (root : EntryNo) × (r ≡ ProofLine rule root) × (metBy n s st rule (entryNode st (root .0)) ≡ no-conflict)
-  unfolding step witnessStep strikeStep endStep
+  unfolding step witnessStep strikeStep setStep endStep
   record-met more (NodeEntry b) e = node-other b e
   record-met more (ProofLine rule root) e = (rule, root, refl, line-met rule (root .0) e)
   record-met more (Witness v b) e =
@@ -80,6 +80,11 @@ module _ (n s : ℕ) (st : State) {peak : ℕ} where
       let (p₁, e₁) = past-early (waiting st) 16 0 _ e in
       let (p₂, e₂) = past-early (not (isLive st (k .0))) 28 0 _ e₁ in
       next-not-spent _ e₂
+  record-met more (SetEntry kind b) e =
+      let (p₁, e₁) = past-early (leb 4096 (length (st .entries))) 21 0 _ e in
+      let (p₂, e₂) = past-early (beyond n (b .set)) 12 0 _ e₁ in
+      let (p₃, e₃) = past-early (noParity kind (b .byte)) 29 0 _ e₂ in
+      entered-other (place s (st .nodes) (setDiagram n kind b)) e₃
   record-met more End e =
       let (p₁, e₁) = past-early (waiting st) 16 0 _ e in
       let (p₂, e₂) = past-early more 11 1 _ e₁ in

@@ -9,8 +9,8 @@ use lib.ListN.{length, drop, length-drop}
 use lib.Dec.{eqb, ltb}
 use borrow.Author.Tests.{ne-eqb}
 use Rattle.records.specs.declared.Record.{Record}
-use Rattle.records.specs.declared.Record.the-variants.{NodeEntry, Witness, ProofLine, Strike, End, CutShort, UnknownKind, NoRecord}
-use Rattle.records.specs.Records.{nodeIn, witnessIn, lineIn, strikeIn, whole, recordOf, recordIn, recordAt}
+use Rattle.records.specs.declared.Record.the-variants.{NodeEntry, Witness, ProofLine, Strike, SetEntry, End, CutShort, UnknownKind, NoRecord}
+use Rattle.records.specs.Records.{nodeIn, witnessIn, lineIn, strikeIn, setIn, whole, recordOf, recordIn, recordAt}
 use Rattle.verdict.specs.Check.{State, Step, stop, step, Outcome, outcome}
 use Rattle.verdict.specs.Run.{follows, no-header, not-read, no-room, stopped, tried}
 use Rattle.verdict.proofs.Formula.{NamedHeader, header-named, either}
@@ -35,6 +35,7 @@ Begun (NodeEntry b) = Unit {0}
 Begun (Witness v b) = Unit {0}
 Begun (ProofLine rule root) = Unit {0}
 Begun (Strike k) = Unit {0}
+Begun (SetEntry kind b) = Unit {0}
 Begun End = Unit {0}
 Begun CutShort = Unit {0}
 Begun UnknownKind = Unit {0}
@@ -46,14 +47,16 @@ whole-begun n body r b = either Begun (ltb (length body) n) CutShort r tt b
 
 -- a kind byte begins a record
 kind-begun : (kind : ℕ) (body : List ℕ) → Begun (recordOf kind body)
-unfolding recordOf nodeIn witnessIn lineIn strikeIn
+unfolding recordOf nodeIn witnessIn lineIn strikeIn setIn
 kind-begun kind body =
     either Begun (eqb kind 0x4E) _ _ (whole-begun 5 body _ tt)
     (either Begun (eqb kind 0x54) _ _ (whole-begun 1 body _ tt)
     (either Begun (eqb kind 0x46) _ _ (whole-begun 1 body _ tt)
     (either Begun (eqb kind 0x52) _ _ (whole-begun 2 body _ tt)
     (either Begun (eqb kind 0x50) _ _ (whole-begun 2 body _ tt)
-    (either Begun (eqb kind 0x44) _ _ (whole-begun 2 body _ tt) (either Begun (eqb kind 0x45) End UnknownKind tt tt))))))
+    (either Begun (eqb kind 0x44) _ _ (whole-begun 2 body _ tt)
+    (either Begun (eqb kind 0x58) _ _ (whole-begun 9 body _ tt)
+    (either Begun (eqb kind 0x4B) _ _ (whole-begun 9 body _ tt) (either Begun (eqb kind 0x45) End UnknownKind tt tt))))))))
 
 none-begun : (proof : List ℕ) (at : ℕ) → recordAt proof at ≡ NoRecord → length proof ≤ at
 unfolding recordAt recordIn
@@ -65,7 +68,7 @@ none-begun proof at e = go (drop at proof) (length-drop at proof) e
 
 -- ---- the call
 
--- The place of a number of the proof: 0, 9 to 23, and 28.
+-- The place of a number of the proof: 0, 9 to 23, 28 and 29.
 pub check-place : (i : Lent) → (1 ≤ checked i .number → 9 ≤ checked i .number) → AtEnd i (checked i)
 unfolding outcome step
 check-place i late = go (checked i) (check-ends i) late

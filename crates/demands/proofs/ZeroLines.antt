@@ -14,7 +14,7 @@ use Rattle.meaning.specs.Operations.{clauseValue}
 use Rattle.meaning.proofs.Booleans.{t≢f, or-cases, or-left, or-right}
 use Rattle.dimacs.specs.Clauses.{formula}
 use Rattle.records.specs.declared.Record.{Record}
-use Rattle.records.specs.declared.Record.the-variants.{NodeEntry, Witness, ProofLine, Strike, End, CutShort, UnknownKind, NoRecord}
+use Rattle.records.specs.declared.Record.the-variants.{NodeEntry, Witness, ProofLine, Strike, SetEntry, End, CutShort, UnknownKind, NoRecord}
 use Rattle.records.specs.Records.{recordAt}
 use Rattle.verdict.specs.Check.{State, entryNode}
 use Rattle.verdict.specs.Run.{Meant, Taken, Reached, begins, goes}
@@ -71,6 +71,8 @@ module _ (s n c : ℕ) (st : State) (F : Flagged c st) where
         ];
       })
   step-flagged (Strike k) st′ T =
+      same-flagged c st st′ (ap (λ (x : State). x .members) (T .is)) (ap (λ (x : State). x .lines) (T .is)) (ap (λ (x : State). x .refuted) (T .is)) F
+  step-flagged (SetEntry kind b) st′ T =
       same-flagged c st st′ (ap (λ (x : State). x .members) (T .is)) (ap (λ (x : State). x .lines) (T .is)) (ap (λ (x : State). x .refuted) (T .is)) F
   step-flagged End st′ T = absurd T
   step-flagged CutShort st′ T = absurd T

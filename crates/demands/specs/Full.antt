@@ -12,9 +12,9 @@ use Rattle.table.specs.Nodes.{Node, diagramAt, full, placed, place}
 use Rattle.table.specs.Making.{all, placedAll}
 use Rattle.dimacs.specs.Clauses.{Reading, clause}
 use Rattle.records.specs.declared.Record.{Record}
-use Rattle.records.specs.declared.Record.the-variants.{NodeEntry, Witness, ProofLine, Strike, End, CutShort, UnknownKind, NoRecord}
+use Rattle.records.specs.declared.Record.the-variants.{NodeEntry, Witness, ProofLine, Strike, SetEntry, End, CutShort, UnknownKind, NoRecord}
 use Rattle.records.specs.Records.{recordAt}
-use Rattle.verdict.specs.Check.{State, entryNode, diagramIn}
+use Rattle.verdict.specs.Check.{State, entryNode, diagramIn, setDiagram}
 use Rattle.verdict.specs.Run.{Function, Meant, lineOf, Making, Reached}
 
 -- A diagram beneath another, or the other itself.
@@ -48,13 +48,14 @@ pub data LineWants (s : ℕ) (t : List Node) (line : Line) : Type 0 where
   in-base : ListWants s t (line .kept) → LineWants s t line
   in-turn : {t₁ : List Node} → placedAll s t (line .kept) ≡ all t₁ → TurnWants s t₁ (line .turns) → LineWants s t line
 
--- What a record wants: the node of a node record, what a line makes.
+-- What a record wants: the node of a node record, the diagram of a set's entry, what a line makes.
 abbrev pub RecordWants : ℕ → ℕ → State → Record → Type 0
 RecordWants n s st (NodeEntry b) =
     Wants s (st .nodes) (branch (b .variable) (diagramIn st (entryNode st (b .low .0))) (diagramIn st (entryNode st (b .high .0))))
 RecordWants n s st (ProofLine rule root) = LineWants s (st .nodes) (lineOf n st rule (entryNode st (root .0)))
 RecordWants n s st (Witness v b) = ⊥
 RecordWants n s st (Strike k) = ⊥
+RecordWants n s st (SetEntry kind b) = Wants s (st .nodes) (setDiagram n kind b)
 RecordWants n s st End = ⊥
 RecordWants n s st CutShort = ⊥
 RecordWants n s st UnknownKind = ⊥

@@ -103,7 +103,7 @@ Member o k f = (getD (o .members) k 0 < o .count) × ((a : Assignment) → value
 -- refused proof too": 1 exactly for the numbers in the strikings before the place where the run ends (`AtEnd`: all of them taken). The
 -- peak covers the count and is within the table; with 23 it is the size.
 pub record Kept (i : Lent) (o : Outcome) : Type 0 where
-  pub number : (o .number ≢ 28 → o .number ≤ 23) × (o .number ≢ 0 → 9 ≤ o .number)
+  pub number : (o .number ≢ 28 → o .number ≢ 29 → o .number ≤ 23) × (o .number ≢ 0 → 9 ≤ o .number)
   pub peak : (o .count ≤ o .peak) × (o .peak ≤ places i)
   pub filled : o .number ≡ 23 → o .peak ≡ places i
   pub read : readToEnd (formula (i .text)) ≡ true

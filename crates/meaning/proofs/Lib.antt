@@ -14,4 +14,7 @@ pub mod Ends
 pub mod Widths
 pub mod LineWidths
 pub mod Words
+pub mod Sets
+pub mod Tallies
+pub mod SetRows
 pub mod Examples

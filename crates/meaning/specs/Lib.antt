@@ -3,3 +3,5 @@ pub mod Operations
 pub mod Rules
 pub mod Branchwise
 pub mod Words
+pub mod Sets
+pub mod Tallies

@@ -4,8 +4,9 @@ use mathlib.Core.Bool.{true, false}
 use mathlib.Core.List.{List, [], _∷_}
 use Prim.Native.Nat.{ℕ}
 use Rattle.records.specs.declared.EntryNo.{EntryNo}
-use Rattle.records.specs.declared.Record.the-variants.{NodeEntry, Witness, ProofLine, Strike, End, CutShort, NoRecord}
+use Rattle.records.specs.declared.Record.the-variants.{NodeEntry, Witness, ProofLine, Strike, SetEntry, End, CutShort, NoRecord}
 use Rattle.records.specs.declared.Rule.the-variants.{Rup, Pr}
+use Rattle.records.specs.declared.SetKind.the-variants.{Parity, AtLeast}
 use Rattle.records.specs.Records.{recordAt, numberOf}
 
 abbrev entry : ℕ → EntryNo
@@ -71,6 +72,15 @@ striking : recordAt (0x44 ∷ 0x05 ∷ 0x01 ∷ []) 0 ≡ Strike (record { 0 = 2
 unfolding recordAt
 striking = refl
 
+-- "eight bytes of variable set (bit i−1 for variable i) and one byte": variables 1, 2, 9 and 64 (02, 5/14)
+set-parity : recordAt (0x58 ∷ 0x03 ∷ 0x01 ∷ 0 ∷ 0 ∷ 0 ∷ 0 ∷ 0 ∷ 0x80 ∷ 0x01 ∷ []) 0 ≡ SetEntry Parity (record { set = 9223372036854776067; byte = 1 })
+unfolding recordAt
+set-parity = refl
+
+set-at-least : recordAt (0x4B ∷ 0x03 ∷ 0x01 ∷ 0 ∷ 0 ∷ 0 ∷ 0 ∷ 0 ∷ 0x80 ∷ 0x07 ∷ []) 0 ≡ SetEntry AtLeast (record { set = 9223372036854776067; byte = 7 })
+unfolding recordAt
+set-at-least = refl
+
 -- a byte too few of each length of body
 cut-node : recordAt (0x4E ∷ 0x02 ∷ 0x00 ∷ 0x00 ∷ 0x01 ∷ []) 0 ≡ CutShort
 unfolding recordAt
@@ -87,3 +97,7 @@ cut-line = refl
 cut-striking : recordAt (0x44 ∷ 0x05 ∷ []) 0 ≡ CutShort
 unfolding recordAt
 cut-striking = refl
+
+cut-set : recordAt (0x4B ∷ 0x03 ∷ 0x01 ∷ 0 ∷ 0 ∷ 0 ∷ 0 ∷ 0 ∷ 0x80 ∷ []) 0 ≡ CutShort
+unfolding recordAt
+cut-set = refl

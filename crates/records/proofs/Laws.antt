@@ -10,8 +10,10 @@ use lib.Dec.{eqb, ltb}
 use borrow.Author.Tests.{ltb-true, ltb-false}
 use Rattle.records.specs.declared.Rule.{Rule}
 use Rattle.records.specs.declared.Rule.the-variants.{Rup, Pr}
+use Rattle.records.specs.declared.SetKind.{SetKind}
+use Rattle.records.specs.declared.SetKind.the-variants.{Parity, AtLeast}
 use Rattle.records.specs.declared.Record.{Record}
-use Rattle.records.specs.declared.Record.the-variants.{NodeEntry, Witness, ProofLine, Strike, End, CutShort, UnknownKind, NoRecord}
+use Rattle.records.specs.declared.Record.the-variants.{NodeEntry, Witness, ProofLine, Strike, SetEntry, End, CutShort, UnknownKind, NoRecord}
 use Rattle.records.specs.Records.{field, entryIn, memberIn, whole, recordOf, recordAt, lengthOf, numberOf}
 use Rattle.records.proofs.Reading.{record-none, record-here}
 
@@ -23,6 +25,7 @@ pub record Every (P : Record → Type 0) (body : List ℕ) : Type 0 where
   pub witness : (value : Bool) → 1 ≤ length body → P (Witness (field 0 1 body) value)
   pub line : (rule : Rule) → 2 ≤ length body → P (ProofLine rule (entryIn body 0))
   pub strike : 2 ≤ length body → P (Strike (memberIn body 0))
+  pub set : (kind : SetKind) → 9 ≤ length body → P (SetEntry kind (record { set = field 0 8 body; byte = field 8 1 body }))
   pub end : P End
   pub cut : P CutShort
   pub unknown : P UnknownKind
@@ -49,7 +52,9 @@ module _ (P : Record → Type 0) where
       (either (eqb kind 0x52) (of-whole 2 body _ (e .cut) (e .line Rup))
       (either (eqb kind 0x50) (of-whole 2 body _ (e .cut) (e .line Pr))
       (either (eqb kind 0x44) (of-whole 2 body _ (e .cut) (e .strike))
-      (either (eqb kind 0x45) (e .end) (e .unknown)))))))
+      (either (eqb kind 0x58) (of-whole 9 body _ (e .cut) (e .set Parity))
+      (either (eqb kind 0x4B) (of-whole 9 body _ (e .cut) (e .set AtLeast))
+      (either (eqb kind 0x45) (e .end) (e .unknown)))))))))
 
   pub record-every : (proof : List ℕ) (at : ℕ) → P NoRecord → (at < length proof → Every P (drop (at + 1) proof)) → P (recordAt proof at)
   record-every proof at none here = go (ltb at (length proof)) (ltb-true at (length proof)) (ltb-false at (length proof))
@@ -65,6 +70,7 @@ record-takes (NodeEntry n) h = omega arith
 record-takes (Witness v value) h = omega arith
 record-takes (ProofLine rule root) h = omega arith
 record-takes (Strike k) h = omega arith
+record-takes (SetEntry kind b) h = omega arith
 record-takes End h = omega arith
 record-takes CutShort h = omega arith
 record-takes UnknownKind h = omega arith
@@ -80,6 +86,7 @@ record-within proof at e =
       witness = λ value l h. omega arith;
       line = λ rule l h. omega arith;
       strike = λ l h. omega arith;
+      set = λ kind l h. omega arith;
       end = λ h. omega arith;
       cut = λ h. omega arith;
       unknown = λ h. omega arith;

@@ -24,6 +24,20 @@ first-two [] = refl
 first-two (b ∷ []) = omega arith
 first-two (b ∷ b′ ∷ bs) = omega arith
 
+-- eight bytes, two by two
+pub field-eight : (body : List ℕ) → field 0 8 body
+    ≡ field 0 2 body + 65536 * field 2 2 body + 4294967296 * field 4 2 body + 281474976710656 * field 6 2 body
+unfolding lowByteFirst
+field-eight [] = omega arith
+field-eight (a ∷ []) = omega arith
+field-eight (a ∷ b ∷ []) = omega arith
+field-eight (a ∷ b ∷ c ∷ []) = omega arith
+field-eight (a ∷ b ∷ c ∷ d ∷ []) = omega arith
+field-eight (a ∷ b ∷ c ∷ d ∷ e ∷ []) = omega arith
+field-eight (a ∷ b ∷ c ∷ d ∷ e ∷ f ∷ []) = omega arith
+field-eight (a ∷ b ∷ c ∷ d ∷ e ∷ f ∷ g ∷ []) = omega arith
+field-eight (a ∷ b ∷ c ∷ d ∷ e ∷ f ∷ g ∷ h ∷ rest) = omega arith
+
 pub field-one : (i : ℕ) (body : List ℕ) → field i 1 body ≡ getD body i 0
 field-one i body = let z : i + 0 ≡ i = omega arith in rw (first-one, getD-drop, z)
 
@@ -51,7 +65,7 @@ module _ (proof : List ℕ) (at : ℕ) where
 -- ---- kinds
 
 pub record-unknown : (kind : ℕ) (body : List ℕ) → (kind ≡ 0x4E → ⊥) → (kind ≡ 0x54 → ⊥) → (kind ≡ 0x46 → ⊥) → (kind ≡ 0x52 → ⊥) → (kind ≡ 0x50 → ⊥)
-    → (kind ≡ 0x44 → ⊥) → (kind ≡ 0x45 → ⊥) → recordOf kind body ≡ UnknownKind
+    → (kind ≡ 0x44 → ⊥) → (kind ≡ 0x58 → ⊥) → (kind ≡ 0x4B → ⊥) → (kind ≡ 0x45 → ⊥) → recordOf kind body ≡ UnknownKind
 unfolding recordOf
-record-unknown kind body n t f r p d e =
-    rw (ne-eqb _ _ n, ne-eqb _ _ t, ne-eqb _ _ f, ne-eqb _ _ r, ne-eqb _ _ p, ne-eqb _ _ d, ne-eqb _ _ e)
+record-unknown kind body n t f r p d x k e =
+    rw (ne-eqb _ _ n, ne-eqb _ _ t, ne-eqb _ _ f, ne-eqb _ _ r, ne-eqb _ _ p, ne-eqb _ _ d, ne-eqb _ _ x, ne-eqb _ _ k, ne-eqb _ _ e)

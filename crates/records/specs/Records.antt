@@ -9,8 +9,10 @@ use Rattle.records.specs.declared.EntryNo.{EntryNo}
 use Rattle.records.specs.declared.MemberNo.{MemberNo}
 use Rattle.records.specs.declared.Rule.{Rule}
 use Rattle.records.specs.declared.Rule.the-variants.{Rup, Pr}
+use Rattle.records.specs.declared.SetKind.{SetKind}
+use Rattle.records.specs.declared.SetKind.the-variants.{Parity, AtLeast}
 use Rattle.records.specs.declared.Record.{Record}
-use Rattle.records.specs.declared.Record.the-variants.{NodeEntry, Witness, ProofLine, Strike, End, CutShort, UnknownKind, NoRecord}
+use Rattle.records.specs.declared.Record.the-variants.{NodeEntry, Witness, ProofLine, Strike, SetEntry, End, CutShort, UnknownKind, NoRecord}
 
 -- "numbers low byte first"
 unfoldable pub lowByteFirst : List ℕ → ℕ
@@ -53,10 +55,15 @@ unfoldable pub strikeIn : List ℕ → Record
 unfolding whole lowByteFirst
 strikeIn body = whole 2 body (Strike (memberIn body 0))
 
+-- "Kind `58` has eight bytes of variable set (bit i−1 for variable i) and one byte, [..] kind `4B` has the set and one byte k." (02, 5/14)
+unfoldable pub setIn : SetKind → List ℕ → Record
+unfolding whole lowByteFirst
+setIn kind body = whole 9 body (SetEntry kind (record { set = field 0 8 body; byte = field 8 1 body }))
+
 -- The record of a kind byte with the bytes behind it: "each record's kind (9) before all else", so also where no byte follows.
 -- "`45` end, no body."
 unfoldable pub recordOf : ℕ → List ℕ → Record
-unfolding nodeIn witnessIn lineIn strikeIn
+unfolding nodeIn witnessIn lineIn strikeIn setIn
 recordOf kind body =
     cond (eqb kind 0x4E) (nodeIn body)
     (cond (eqb kind 0x54) (witnessIn true body)
@@ -64,7 +71,9 @@ recordOf kind body =
     (cond (eqb kind 0x52) (lineIn Rup body)
     (cond (eqb kind 0x50) (lineIn Pr body)
     (cond (eqb kind 0x44) (strikeIn body)
-    (cond (eqb kind 0x45) End UnknownKind))))))
+    (cond (eqb kind 0x58) (setIn Parity body)
+    (cond (eqb kind 0x4B) (setIn AtLeast body)
+    (cond (eqb kind 0x45) End UnknownKind))))))))
 
 -- The record at the front of the bytes; "10 with no record begun", where there are none.
 unfoldable pub recordIn : List ℕ → Record
@@ -83,6 +92,7 @@ lengthOf (NodeEntry n) = 6
 lengthOf (Witness v value) = 2
 lengthOf (ProofLine rule root) = 3
 lengthOf (Strike k) = 3
+lengthOf (SetEntry kind b) = 10
 lengthOf End = 1
 lengthOf CutShort = 0
 lengthOf UnknownKind = 0
@@ -94,6 +104,7 @@ numberOf (NodeEntry n) = 0
 numberOf (Witness v value) = 0
 numberOf (ProofLine rule root) = 0
 numberOf (Strike k) = 0
+numberOf (SetEntry kind b) = 0
 numberOf End = 0
 numberOf CutShort = 10
 numberOf UnknownKind = 9

@@ -2,7 +2,7 @@
 ghost use mathlib.Core.Path.{_≡_};
 ghost use Prim.Native.Nat.{_+_, _*_, _≤_};
 ghost use lib.ListN.{length};
-ghost use Rattle.records.specs.Records.{field, entryIn, nodeIn, witnessIn, lineIn, strikeIn, recordAt, lengthOf};
+ghost use Rattle.records.specs.Records.{field, entryIn, nodeIn, witnessIn, lineIn, strikeIn, setIn, recordAt, lengthOf};
 
 // An entry's number in the proof file. Node numbers of the table are another kind.
 pub struct EntryNo(pub u16);
@@ -22,6 +22,20 @@ pub enum Rule {
     Pr,
 }
 
+// What a set's entry wants of the set's true variables.
+pub enum SetKind {
+    // An odd number of them where the byte is 1, an even one where it is 0.
+    Parity,
+    // At least as many as the byte says.
+    AtLeast,
+}
+
+// A set of variables, bit i - 1 for variable i, and the byte behind it.
+pub struct SetBody {
+    pub set: u64,
+    pub byte: u8,
+}
+
 pub enum Record {
     NodeEntry(NodeBody),
     // The variable, and what the witness sets it to.
@@ -30,6 +44,8 @@ pub enum Record {
     ProofLine(Rule, EntryNo),
     // The member that is struck out.
     Strike(MemberNo),
+    // An entry of a set's diagram.
+    SetEntry(SetKind, SetBody),
     End,
     // The kind byte is there, not its whole body.
     CutShort,
@@ -105,6 +121,30 @@ fn strike_in(body: &[u8]) -> Record
     Record::Strike(MemberNo(field_in(body, 0)))
 }
 
+// The word in the first eight bytes of a body.
+fn word_in(body: &[u8]) -> u64
+    requires { ⌜ 8 ≤ length (now body) ⌝ }
+    ensures { λ r. ⌜ r ≡ field 0 8 (now (body .entry)) ⌝ }
+{
+    let a = field_in(body, 0) as u64;
+    let b = field_in(body, 2) as u64;
+    let c = field_in(body, 4) as u64;
+    let d = field_in(body, 6) as u64;
+    a + 65536 * b + 4294967296 * c + 281474976710656 * d
+}
+
+// The set's entry of a body, of a kind.
+fn set_in(body: &[u8], kind: SetKind) -> Record
+    ensures { λ r. ⌜ r ≡ setIn kind (now (body .entry)) ⌝ }
+{
+    if body.len() < 9 {
+        return Record::CutShort;
+    }
+    let set = word_in(body);
+    let byte = body[8];
+    Record::SetEntry(kind, SetBody { set, byte })
+}
+
 // The record whose first byte is at the place; a place at or past the end has none.
 pub fn record_at(proof: &[u8], at: usize) -> Record
     ensures { λ r. ⌜ r ≡ recordAt (now (proof .entry)) at ⌝ }
@@ -122,6 +162,8 @@ pub fn record_at(proof: &[u8], at: usize) -> Record
         0x52 => line_in(body, Rule::Rup),
         0x50 => line_in(body, Rule::Pr),
         0x44 => strike_in(body),
+        0x58 => set_in(body, SetKind::Parity),
+        0x4B => set_in(body, SetKind::AtLeast),
         0x45 => Record::End,
         _ => Record::UnknownKind,
     }
@@ -136,6 +178,7 @@ pub fn record_length(r: Record) -> usize
         Record::Witness(_, _) => 2,
         Record::ProofLine(_, _) => 3,
         Record::Strike(_) => 3,
+        Record::SetEntry(_, _) => 10,
         Record::End => 1,
         Record::CutShort => 0,
         Record::UnknownKind => 0,

@@ -9,7 +9,7 @@ use lib.Dec.{ltb}
 use Rattle.table.specs.Indexed.{Table, nodesOf, Good}
 use Rattle.walks.specs.Readable.{Roomy}
 use Rattle.records.specs.declared.Record.{Record}
-use Rattle.records.specs.declared.Record.the-variants.{NodeEntry, Witness, ProofLine, Strike, End, CutShort, UnknownKind, NoRecord}
+use Rattle.records.specs.declared.Record.the-variants.{NodeEntry, Witness, ProofLine, Strike, SetEntry, End, CutShort, UnknownKind, NoRecord}
 use Rattle.records.specs.Records.{recordAt, lengthOf, numberOf}
 use Rattle.records.proofs.Laws.{record-takes, record-within}
 use Rattle.records.proofs.Reading.{record-none}
@@ -76,11 +76,12 @@ module _ (n s : ℕ) (proof : List ℕ) (whole : check.Verdict) (st : check.Stat
         remains-stop 10 0 (ap (λ (r : Record). check.step n s st (ltb (at + lengthOf r) (length proof)) r) none)
         ∙ ap (λ (k : ℕ). check.left 10 k (st .peak) st) (omega arith)
 
-pub record-short : (r : Record) → lengthOf r ≤ 6
+pub record-short : (r : Record) → lengthOf r ≤ 10
 record-short (NodeEntry b) = omega arith
 record-short (Witness v b) = omega arith
 record-short (ProofLine rule root) = omega arith
 record-short (Strike k) = omega arith
+record-short (SetEntry kind b) = omega arith
 record-short End = omega arith
 record-short CutShort = omega arith
 record-short UnknownKind = omega arith

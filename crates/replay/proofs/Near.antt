@@ -7,13 +7,15 @@ use lib.ListN.{length}
 use lib.Dec.{eqb, leb}
 use Rattle.meaning.specs.Rules.{Line, rup, pr, witnessed}
 use Rattle.meaning.specs.Words.{inWord}
-use Rattle.table.specs.Nodes.{Placing, full, placed, above, put}
+use Rattle.table.specs.Nodes.{Placing, full, placed, above, put, place}
 use Rattle.table.specs.Making.{lineReach}
 use Rattle.records.specs.declared.NodeBody.{NodeBody}
 use Rattle.records.specs.declared.Rule.{Rule}
 use Rattle.records.specs.declared.Rule.the-variants.{Rup, Pr}
+use Rattle.records.specs.declared.SetKind.{SetKind}
+use Rattle.records.specs.declared.SetBody.{SetBody}
 use Rattle.records.specs.declared.Record.{Record}
-use Rattle.records.specs.declared.Record.the-variants.{NodeEntry, Witness, ProofLine, Strike, End, CutShort, UnknownKind, NoRecord}
+use Rattle.records.specs.declared.Record.the-variants.{NodeEntry, Witness, ProofLine, Strike, SetEntry, End, CutShort, UnknownKind, NoRecord}
 use Rattle.verdict.specs.Check as check
 
 abbrev pub Near : check.Step → Type 0
@@ -80,6 +82,13 @@ unfolding check.strikeStep
 strike-near st k =
     either (check.waiting st) (check.stop 16 0) _ (omega arith) (either (not (check.isLive st k)) (check.stop 28 0) _ (omega arith) tt)
 
+set-near : (n s : ℕ) (st : check.State) (kind : SetKind) (b : SetBody) → Near (check.setStep n s st kind b)
+unfolding check.setStep
+set-near n s st kind b =
+    either (leb 4096 (length (st .entries))) (check.stop 21 0) _ (omega arith)
+    (either (check.beyond n (b .set)) (check.stop 12 0) _ (omega arith)
+    (either (check.noParity kind (b .byte)) (check.stop 29 0) _ (omega arith) (entered-near st (place s (st .nodes) (check.setDiagram n kind b)))))
+
 end-near : (st : check.State) (more : Bool) → Near (check.endStep st more)
 unfolding check.endStep
 end-near st more =
@@ -92,6 +101,7 @@ step-near n s st more (NodeEntry b) = node-near n s st b
 step-near n s st more (Witness v b) = witness-near n st v b
 step-near n s st more (ProofLine rule root) = line-near n s st rule (root .0)
 step-near n s st more (Strike k) = strike-near st (k .0)
+step-near n s st more (SetEntry kind b) = set-near n s st kind b
 step-near n s st more End = end-near st more
 step-near n s st more CutShort = omega arith
 step-near n s st more UnknownKind = omega arith

@@ -1,5 +1,6 @@
 // The five single calls, with the table and its index alone lent.
 pub mod call;
+pub mod least;
 
 use table::NodeNo;
 ghost use mathlib.Core.Path.{_≡_};

@@ -32,7 +32,7 @@ use Rattle.steps.specs.Tests.{lineRefusal}
 use Rattle.steps.proofs.Stops.{unless, unless-refused, unless-none, line-is, LineFits, line-fits, stopped}
 use Rattle.steps.proofs.Entries.{entry-in}
 use Rattle.steps.proofs.Strikings.{unstruck-inside}
-use Rattle.steps.proofs.Nodes.{lentWith, inside-more, one-more}
+use Rattle.steps.proofs.Entering.{lentWith, inside-more, one-more}
 
 -- ---- the tests of a line
 

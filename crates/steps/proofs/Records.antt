@@ -6,10 +6,12 @@ use Rattle.records.specs.declared.NodeBody.{NodeBody}
 use Rattle.records.specs.declared.Rule.{Rule}
 use Rattle.records.specs.declared.EntryNo.{EntryNo}
 use Rattle.records.specs.declared.MemberNo.{MemberNo}
+use Rattle.records.specs.declared.SetKind.{SetKind}
+use Rattle.records.specs.declared.SetBody.{SetBody}
 use Rattle.records.specs.declared.Record.{Record}
-use Rattle.records.specs.declared.Record.the-variants.{NodeEntry, Witness, ProofLine, Strike, End, CutShort, UnknownKind, NoRecord}
+use Rattle.records.specs.declared.Record.the-variants.{NodeEntry, Witness, ProofLine, Strike, SetEntry, End, CutShort, UnknownKind, NoRecord}
 use Rattle.verdict.specs.Check as check
-use Rattle.verdict.specs.Check.{stop, nodeStep, witnessStep, lineStep, strikeStep, endStep, step}
+use Rattle.verdict.specs.Check.{stop, nodeStep, witnessStep, lineStep, strikeStep, setStep, endStep, step}
 use Rattle.steps.specs.declared.State.{State}
 use Rattle.steps.specs.declared.Step.{Step}
 use Rattle.steps.specs.declared.Step.the-variants.{Stop}
@@ -32,6 +34,10 @@ module _ (n s : ℕ) (S : check.State) (more : Bool) where
   step-strike : (k : MemberNo) → step n s S more (Strike k) ≡ strikeStep S (k .0)
   unfolding step
   step-strike k = refl
+
+  step-set : (kind : SetKind) (b : SetBody) → step n s S more (SetEntry kind b) ≡ setStep n s S kind b
+  unfolding step
+  step-set kind b = refl
 
   step-end : step n s S more End ≡ endStep S more
   unfolding step
@@ -67,6 +73,9 @@ module _ (n s : ℕ) (l l′ : Lent) (st : State) (more : Bool) (r : Record) (re
 
   pub as-strike : (k : MemberNo) → r ≡ Strike k → Stepped n l l′ st (strikeStep S (k .0)) res → Stepped n l l′ st (step n s S more r) res
   as-strike k e = as-said (Strike k) (strikeStep S (k .0)) e (step-strike n s S more k)
+
+  pub as-set : (kind : SetKind) (b : SetBody) → r ≡ SetEntry kind b → Stepped n l l′ st (setStep n s S kind b) res → Stepped n l l′ st (step n s S more r) res
+  as-set kind b e = as-said (SetEntry kind b) (setStep n s S kind b) e (step-set n s S more kind b)
 
   pub as-end : r ≡ End → Stepped n l l′ st (endStep S more) res → Stepped n l l′ st (step n s S more r) res
   as-end e = as-said End (endStep S more) e (step-end n s S more)

@@ -1,7 +1,7 @@
 -- Strikings and the members that are not struck: what one place more adds to them, and the ways out of a striking. Assumes nothing.
 use mathlib.Core.Path.{_≡_, refl, sym, ap, _∙_}
 use mathlib.Core.Logic.{_≢_}
-use mathlib.Core.Bool.{Bool, true, false, not, cond}
+use mathlib.Core.Bool.{Bool, true, false, cond}
 use mathlib.Core.List.{List, [], _∷_, _++_, append-nil}
 use Prim.Native.Nat.{ℕ, zero, suc, _+_, _≤_, _<_}
 use native.Mathlib.Omega.{arith}
@@ -11,7 +11,7 @@ use lib.Seq.{length-take-le, getD-take, take-set-lt, take-suc-set, getD-set-othe
 use borrow.Author.Tests.{eq-eqb, ne-eqb, lt-ltb, le-ltb}
 use Rattle.table.specs.Lists.{Inside}
 use Rattle.verdict.specs.Check as check
-use Rattle.verdict.specs.Check.{next, stop, unstruck, waiting, isLive, strikeStep}
+use Rattle.verdict.specs.Check.{next, unstruck, waiting, isLive, strikeStep}
 use Rattle.steps.specs.declared.State.{State}
 use Rattle.steps.specs.declared.Step.the-variants.{Next, Stop}
 use Rattle.steps.specs.States.{Lent, lentOf, stateOf, Held, Stepped}

@@ -8,13 +8,15 @@ use Rattle.meaning.specs.Rules.{witnessed}
 use Rattle.meaning.specs.Words.{inWord}
 use Rattle.table.specs.Nodes.{above}
 use Rattle.records.specs.declared.NodeBody.{NodeBody}
+use Rattle.records.specs.declared.SetKind.{SetKind}
+use Rattle.records.specs.declared.SetBody.{SetBody}
 use Rattle.records.specs.declared.Rule.{Rule}
 use Rattle.records.specs.declared.Rule.the-variants.{Rup, Pr}
 use Rattle.steps.specs.declared.node.NodeTest.{NodeTest}
 use Rattle.steps.specs.declared.node.NodeTest.the-variants as node
 use Rattle.steps.specs.declared.line.LineTest.{LineTest}
 use Rattle.steps.specs.declared.line.LineTest.the-variants as line
-use Rattle.verdict.specs.Check.{State, isEntry, entryNode, isVariable, waiting, diagramIn}
+use Rattle.verdict.specs.Check.{State, isEntry, entryNode, isVariable, waiting, diagramIn, beyond, noParity}
 
 -- "Node: 10, 21, 12, 13, 14, 23."
 unfoldable pub nodeRefusal : ℕ → State → NodeBody → ℕ
@@ -46,3 +48,7 @@ lineRefusal n st Pr root =
 abbrev pub LineTested : ℕ → State → Rule → ℕ → LineTest → Type 0
 LineTested n st rule root (line.Refused number) = (number ≡ lineRefusal n st rule root) × (number ≡ 0 → ⊥)
 LineTested n st rule root (line.Fits g) = (lineRefusal n st rule root ≡ 0) × (g .0 ≡ entryNode st root)
+
+-- "after 10 and 21, a set bit beyond the header with 12, a parity byte above 1 with 29" (02, 5/14), for a line with so many entries
+unfoldable pub setRefusal : ℕ → ℕ → SetKind → SetBody → ℕ
+setRefusal n entries kind b = cond (leb 4096 entries) 21 (cond (beyond n (b .set)) 12 (cond (noParity kind (b .byte)) 29 0))

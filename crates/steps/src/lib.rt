@@ -10,6 +10,7 @@ ghost use Rattle.steps.specs.States.{Lent, lentOf, stateOf, Held, Steppe
 
 mod line;
 mod node;
+mod set;
 mod strike;
 mod witness;
 
@@ -113,6 +114,18 @@ pub fn record_step(
             root,
         ),
         Record::Strike(k) => strike::strike_step(struck, st, k),
+        Record::SetEntry(kind, b) => set::set_step(
+            vars,
+            lows,
+            highs,
+            heads,
+            links,
+            scratch,
+            st,
+            variables,
+            kind,
+            b,
+        ),
         Record::End => end_step(st, more),
         Record::CutShort => Step::Stop(10, 0),
         Record::UnknownKind => Step::Stop(9, 0),

@@ -88,7 +88,7 @@ fn node_test(
 }
 
 // The state with one entry more.
-fn with_entry(st: crate::State, count: usize, peak: usize) -> crate::State
+pub fn with_entry(st: crate::State, count: usize, peak: usize) -> crate::State
     requires { ⌜ st .entries ≤ 4096 ⌝ }
     ensures { λ r. ⌜ r ≡ withEntry st count peak ⌝ }
 {

@@ -1,4 +1,4 @@
--- 01's cases A to J, the examples of its table of numbers, and 02's strikings, by computation from the definitions that the contracts cite.
+-- 01's cases A to J, the examples of its table of numbers, and 02's strikings and sets, by computation from the definitions that the contracts cite.
 -- Assumes nothing.
 use mathlib.Core.Path.{_≡_, refl}
 use mathlib.Core.Bool.{true}
@@ -9,6 +9,7 @@ use lib.ListN.{replicate}
 use Rattle.meaning.specs.Diagram.{diagramFrom, same?, valueFrom}
 use Rattle.meaning.specs.Operations.{clause, conjunction, cofactor}
 use Rattle.meaning.specs.Rules.{rup, pr, witnessed}
+use Rattle.meaning.specs.Sets.{parity, atLeast}
 use Rattle.meaning.specs.Words.{inWord}
 use Rattle.table.specs.Nodes.{place, above, diagramAt}
 use Rattle.table.specs.Index.{bucket, goodOrder}
@@ -16,7 +17,7 @@ use Rattle.table.specs.Columns.{rows, sizeFits, Columns, columnsMade, storedAs}
 use Rattle.dimacs.specs.Clauses.{clausesFrom}
 use Rattle.records.specs.Records.{recordAt}
 use Rattle.verdict.specs.Check.{verdict, Outcome, outcome, check}
-use Rattle.verdict.specs.Cases.{GivesAll, caseTable, numberTable, strikeTable, unitsTo, bytes, A-formula, A-proof}
+use Rattle.verdict.specs.Cases.{GivesAll, caseTable, numberTable, strikeTable, setTable, unitsTo, bytes, A-formula, A-proof}
 
 -- "A to J form one table, and one theorem says that the rules give each row." (01, Conditions of acceptance)
 pub cases : GivesAll caseTable
@@ -31,6 +32,11 @@ numbers = (refl, (refl, (refl, (refl, (refl, (refl, (refl, (refl, (refl, (refl, 
 pub strikings : GivesAll strikeTable
 unfolding verdict clausesFrom place clause diagramFrom same? recordAt above rup pr witnessed valueFrom diagramAt ℕ-discrete inWord
 strikings = ((refl, refl), ((refl, refl), ((refl, refl), ((refl, refl), ((refl, refl), ((refl, refl), ((refl, refl), ((refl, refl), ((refl, refl), ((refl, refl), ((refl, refl), tt)))))))))))
+
+-- 02's 5/14: the number, the place, the counts and the peak.
+pub set-entries : GivesAll setTable
+unfolding verdict clausesFrom place clause diagramFrom same? recordAt above rup pr witnessed valueFrom diagramAt ℕ-discrete inWord parity atLeast
+set-entries = (refl, (refl, (refl, (refl, (refl, (refl, (refl, (refl, (refl, (refl, (refl, (refl, (refl, (refl, (refl, (refl, (refl, (refl, tt))))))))))))))))))
 
 -- "7: a lent part of wrong size: table of 1 place"; "It refuses an index of the wrong size with 7": one head too few, one link too many (02, 7/14)
 abbrev sized : Columns → ℕ

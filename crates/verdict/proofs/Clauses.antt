@@ -1,16 +1,15 @@
 -- What holds while the clauses are made: the state is standing, the members are the clauses read so far, and what is left to be read is
 -- within the header. The idea: a clause looks at the variables of the header alone, so that its node has its values under every
 -- assignment, whatever its length. Assumes nothing.
-use mathlib.Core.Path.{_≡_, refl, sym, ap, ap₂, _∙_, subst}
-use mathlib.Core.Bool.{Bool, false, _||_, Bool·beq}
+use mathlib.Core.Path.{_≡_, refl, ap, ap₂, _∙_, subst}
+use mathlib.Core.Bool.{Bool, _||_, Bool·beq}
 use mathlib.Core.List.{List, [], _∷_, _++_, map, append-assoc}
 use Prim.Native.Nat.{ℕ, zero, suc, _+_, _-_, _≤_, _<_}
 use native.Mathlib.Omega.{arith}
-use lib.ListN.{length, getD, take, replicate, length-append, length-replicate}
-use lib.Seq.{getD-take, length-take-le}
+use lib.ListN.{length, length-append, length-replicate}
 use Rattle.meaning.specs.Diagram.{Assignment, holds, Diagram, value, Reduced}
 use Rattle.meaning.specs.Operations as meaning
-use Rattle.meaning.proofs.Values.{value-agree, diagram-reduced, diagram-value, reduced-to}
+use Rattle.meaning.proofs.Values.{diagram-reduced, reduced-to}
 use Rattle.meaning.proofs.Clauses.{Within}
 use Rattle.table.specs.Nodes.{Node, placed, place}
 use Rattle.table.proofs.Order.{Ordered}
@@ -23,28 +22,12 @@ use Rattle.dimacs.proofs.Bounds.{HeaderIn, header-in}
 use Rattle.verdict.specs.Check.{emptied, begun}
 use Rattle.verdict.specs.Run.{Function, Meant, Making, opened, made}
 use Rattle.verdict.specs.Satisfies.{clausesOf, readToEnd}
+use Rattle.verdict.proofs.Fitted.{fitted, fitted-holds, diagram-fitted}
 use Rattle.verdict.proofs.Uses.{UsesAfter, place-uses}
 use Rattle.verdict.proofs.Standing.{Standing, valued-append, valued-grown}
 use Rattle.verdict.proofs.Formula.{Read, clauses-read}
 
--- ---- assignments of any length
-
--- The assignment cut off, or filled up with false, to n variables.
-abbrev pub fitted : ℕ → Assignment → Assignment
-fitted n a = take n (a ++ replicate n false)
-
-pub fitted-length : (n : ℕ) (a : Assignment) → length (fitted n a) ≡ n
-fitted-length n a = length-take-le n (a ++ replicate n false) (omega (arith, length-append a (replicate n false), length-replicate n false))
-
-filled : (k : ℕ) (a : Assignment) (i : ℕ) → getD (a ++ replicate k false) i false ≡ getD a i false
-filled zero [] i = refl
-filled (suc k) [] zero = refl
-filled (suc k) [] (suc i) = filled k [] i
-filled k (b ∷ a) zero = refl
-filled k (b ∷ a) (suc i) = filled k a i
-
-pub fitted-holds : (n : ℕ) (a : Assignment) (v : ℕ) → 1 ≤ v → v ≤ n → holds (fitted n a) v ≡ holds a v
-fitted-holds n a v p q = getD-take n (a ++ replicate n false) (v - 1) false (omega arith) ∙ filled n a (v - 1)
+-- ---- clauses under assignments of any length
 
 -- a clause looks at the variables of its literals alone
 clause-agree : (n : ℕ) (ls : List meaning.Literal) → Within n ls → (a b : Assignment) → ((v : ℕ) → 1 ≤ v → v ≤ n → holds a v ≡ holds b v)
@@ -65,9 +48,7 @@ module _ (n : ℕ) (ls : List meaning.Literal) where
   -- Its diagram has its values, whatever the assignment's length.
   pub clause-valued : Within n ls → (a : Assignment) → value (meaning.clause n ls) a ≡ meaning.clauseValue ls a
   unfolding meaning.clause
-  clause-valued w a =
-      value-agree 1 1 (suc n) (meaning.clause n ls) a (fitted n a) clause-reduced (λ v p q. sym (fitted-holds n a v p (omega arith)))
-      ∙ diagram-value n (meaning.clauseValue ls) (fitted n a) (fitted-length n a) ∙ clause-fitted n ls w a
+  clause-valued w a = diagram-fitted n (meaning.clauseValue ls) a ∙ clause-fitted n ls w a
 
 -- ---- while the clauses are made
 

@@ -1,6 +1,8 @@
 pub mod Cases
 pub mod Uses
 pub mod Steps
+pub mod Fitted
+pub mod SetValues
 pub mod Standing
 pub mod Live
 pub mod Formula

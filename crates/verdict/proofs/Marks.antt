@@ -14,7 +14,7 @@ use borrow.Author.Tests.{lt-ltb, le-ltb, ltb-true, eq-eqb, ne-eqb}
 use Rattle.meaning.proofs.Booleans.{and-both}
 use Rattle.table.specs.Nodes.{Node}
 use Rattle.records.specs.declared.Record.{Record}
-use Rattle.records.specs.declared.Record.the-variants.{NodeEntry, Witness, ProofLine, Strike, End, CutShort, UnknownKind, NoRecord}
+use Rattle.records.specs.declared.Record.the-variants.{NodeEntry, Witness, ProofLine, Strike, SetEntry, End, CutShort, UnknownKind, NoRecord}
 use Rattle.records.specs.Records.{recordAt, lengthOf}
 use Rattle.records.proofs.Laws.{record-takes, record-within}
 use Rattle.verdict.specs.Check.{State, begun, stop, entryNode, isLive, step}
@@ -110,6 +110,7 @@ module _ (n s : ℕ) (st : State) (ks : List ℕ) (M : Marked (length (st .membe
       let (inside, _) = and-both (ltb (k .0) (length (st .members))) _ (T .live) in
       subst (λ (x : State). Marked (length (x .members)) (ks ++ k .0 ∷ []) (x .struck)) (T .is)
       (strike-marked (length (st .members)) ks (st .struck) (k .0) (ltb-true (k .0) (length (st .members)) inside) M)
+  step-marked (SetEntry kind b) st′ T = same-marked _ st′ (T .is) refl refl
   step-marked End st′ T = absurd T
   step-marked CutShort st′ T = absurd T
   step-marked UnknownKind st′ T = absurd T
@@ -245,6 +246,7 @@ module _ (n s : ℕ) (k : ℕ) where
     ];
     member = λ p. (p, refl);
   })
+  step-stays st (SetEntry kind b) st′ T = same-stays st _ st′ (T .is) refl refl
   step-stays st End st′ T = absurd T
   step-stays st CutShort st′ T = absurd T
   step-stays st UnknownKind st′ T = absurd T

@@ -23,10 +23,12 @@ use Rattle.dimacs.specs.Clauses.{Reading, clause}
 use Rattle.records.specs.declared.NodeBody.{NodeBody}
 use Rattle.records.specs.declared.Rule.{Rule}
 use Rattle.records.specs.declared.Rule.the-variants.{Rup, Pr}
+use Rattle.records.specs.declared.SetKind.{SetKind}
+use Rattle.records.specs.declared.SetBody.{SetBody}
 use Rattle.records.specs.declared.Record.{Record}
-use Rattle.records.specs.declared.Record.the-variants.{NodeEntry, Witness, ProofLine, Strike, End, CutShort, UnknownKind, NoRecord}
+use Rattle.records.specs.declared.Record.the-variants.{NodeEntry, Witness, ProofLine, Strike, SetEntry, End, CutShort, UnknownKind, NoRecord}
 use Rattle.records.specs.Records.{recordAt, lengthOf}
-use Rattle.verdict.specs.Check.{State, Step, next, stop, spent, isEntry, entryNode, isVariable, entered, nodeStep, witnessStep, waiting, accepted, judged, diagramIn, lineStep, isLive, strikeStep, endStep, step, Verdict, left, afterStep, records, verdict}
+use Rattle.verdict.specs.Check.{State, Step, next, stop, spent, isEntry, entryNode, isVariable, entered, nodeStep, witnessStep, waiting, accepted, judged, diagramIn, lineStep, isLive, strikeStep, beyond, noParity, setDiagram, setStep, endStep, step, Verdict, left, afterStep, records, verdict}
 use Rattle.verdict.specs.Run.{Function, Meant, lineOf, peakWith, Making, follows, Reached, begins, goes, Ended, no-header, not-read, no-room, stopped, tried}
 use Rattle.verdict.proofs.Formula.{Early, NamedHeader, header-named, either}
 use Rattle.verdict.proofs.Steps.{taken-step}
@@ -188,6 +190,14 @@ module _ (s : ℕ) where
         refuses (waiting st) 16 0 _ (λ q. omega arith)
         (refuses (not (isLive st k)) 28 0 _ (λ q. omega arith) (record { covers = X .covers; within = X .within }, omega arith))
 
+    set-peaks : (kind : SetKind) (b : SetBody) → Peaks st (setStep n s st kind b)
+    unfolding setStep
+    set-peaks kind b =
+        refuses (leb 4096 (length (st .entries))) 21 0 _ (λ q. omega arith)
+        (refuses (beyond n (b .set)) 12 0 _ (λ q. omega arith)
+        (refuses (noParity kind (b .byte)) 29 0 _ (λ q. omega arith)
+        (entered-peaks (place s (st .nodes) (setDiagram n kind b)) (place-within (st .nodes) (setDiagram n kind b) (omega (arith, X .covers, X .within))))))
+
     end-peaks : (more : Bool) → Peaks st (endStep st more)
     unfolding endStep
     end-peaks more =
@@ -200,6 +210,7 @@ module _ (s : ℕ) where
     step-peaks more (Witness v b) = witness-peaks v b
     step-peaks more (ProofLine rule root) = line-peaks rule (root .0)
     step-peaks more (Strike k) = strike-peaks (k .0)
+    step-peaks more (SetEntry kind b) = set-peaks kind b
     step-peaks more End = end-peaks more
     step-peaks more CutShort = λ q. omega arith
     step-peaks more UnknownKind = λ q. omega arith

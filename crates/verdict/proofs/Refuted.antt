@@ -22,7 +22,7 @@ use Rattle.dimacs.proofs.Formula.{formula-proper}
 use Rattle.records.specs.declared.Rule.{Rule}
 use Rattle.records.specs.declared.Rule.the-variants.{Rup, Pr}
 use Rattle.records.specs.declared.Record.{Record}
-use Rattle.records.specs.declared.Record.the-variants.{NodeEntry, Witness, ProofLine, Strike, End, CutShort, UnknownKind, NoRecord}
+use Rattle.records.specs.declared.Record.the-variants.{NodeEntry, Witness, ProofLine, Strike, SetEntry, End, CutShort, UnknownKind, NoRecord}
 use Rattle.records.specs.Records.{recordAt}
 use Rattle.table.specs.Columns.{Columns}
 use Rattle.verdict.specs.Check.{State, begun, entryNode, diagramIn, unstruck, liveMembers, Verdict, verdict, Outcome, lentFits, outcome, check}
@@ -32,7 +32,8 @@ use Rattle.verdict.proofs.Steps.{step-refutes}
 use Rattle.verdict.proofs.Standing.{Standing, valued-length, entry-valued}
 use Rattle.verdict.proofs.Live.{unstruck-append, unstruck-none, valued-unstruck}
 use Rattle.verdict.proofs.Formula.{Read, clauses-read}
-use Rattle.verdict.proofs.Clauses.{fitted, fitted-length, clause-fitted, underway}
+use Rattle.verdict.proofs.Fitted.{fitted, fitted-length}
+use Rattle.verdict.proofs.Clauses.{clause-fitted, underway}
 use Rattle.verdict.proofs.Ends.{reached-standing, ended}
 use Rattle.verdict.proofs.Numbers.{Closed, formula-refused, proof-ended, proof-tried, ended-closed}
 
@@ -171,6 +172,7 @@ module _ {s n : ℕ} {m : Meant} {st : State} (S : Standing s n m st) where
     step-sound (ProofLine rule root) st′ T = line-sound rule (root .0) st′ T
     step-sound (Strike k) st′ T =
         same-sound m st′ (λ b all. struck-are _ st′ (T .is) b (all-fewer b (st .struck) (k .0) (m .members) all)) (ap (λ (x : State). x .refuted) (T .is))
+    step-sound (SetEntry kind b) st′ T = same-sound (afterRecord m (SetEntry kind b)) st′ (struck-are _ st′ (T .is)) (ap (λ (x : State). x .refuted) (T .is))
     step-sound End st′ T = absurd T
     step-sound CutShort st′ T = absurd T
     step-sound UnknownKind st′ T = absurd T

@@ -10,18 +10,21 @@ use lib.ListN.{length, getD, take, length-append, length-set}
 use borrow.Author.Tests.{ltb-true}
 use Rattle.meaning.specs.Diagram.{Assignment, Diagram, value, valueFrom, Reduced, branch}
 use Rattle.meaning.proofs.Canonical.{reduced-from, branch-reduced}
-use Rattle.meaning.proofs.Values.{branch-at}
+use Rattle.meaning.proofs.Values.{reduced-to, branch-at}
 use Rattle.table.specs.Nodes.{Node, at, diagramAt, placed, put}
 use Rattle.table.proofs.Order.{Ordered, above-true}
 use Rattle.table.proofs.Numbers.{diagramAt-zero, diagramAt-one, UsesTo, uses-64, reduced-from-to}
 use Rattle.table.proofs.Growth.{Extends, extends-same, extends-length, diagramAt-grown, diagramAt-dropped}
 use Rattle.table.proofs.Placing.{After, place-after, put-place}
 use Rattle.records.specs.declared.NodeBody.{NodeBody}
+use Rattle.records.specs.declared.SetKind.{SetKind}
+use Rattle.records.specs.declared.SetBody.{SetBody}
 use Rattle.records.specs.declared.Rule.{Rule}
 use Rattle.records.specs.declared.Record.{Record}
-use Rattle.records.specs.declared.Record.the-variants.{NodeEntry, Witness, ProofLine, Strike, End, CutShort, UnknownKind, NoRecord}
-use Rattle.verdict.specs.Check.{State, numbered, isEntry, entryNode}
-use Rattle.verdict.specs.Run.{Function, Meant, numberedMeant, entryMeant, nodeMeant, afterRecord, Valued, withEntry, NodeTaken, WitnessTaken, LineTaken, StrikeTaken, Taken}
+use Rattle.records.specs.declared.Record.the-variants.{NodeEntry, Witness, ProofLine, Strike, SetEntry, End, CutShort, UnknownKind, NoRecord}
+use Rattle.verdict.specs.Check.{State, numbered, isEntry, entryNode, setDiagram}
+use Rattle.verdict.specs.Run.{Function, Meant, numberedMeant, entryMeant, nodeMeant, setMeant, afterRecord, Valued, withEntry, NodeTaken, WitnessTaken, LineTaken, StrikeTaken, SetTaken, Taken}
+use Rattle.verdict.proofs.SetValues.{set-reduced, set-valued}
 use Rattle.verdict.proofs.Uses.{UsesAfter, place-uses}
 
 -- ---- numbers with their functions
@@ -93,6 +96,31 @@ module _ {s n : ℕ} {m : Meant} {st : State} (S : Standing s n m st) where
   unfolding isEntry entryNode entryMeant
   entry-valued e there = valued-at (st .nodes) (length (st .nodes)) (numbered st) (numberedMeant m) numbered-valued e (ltb-true e (length (numbered st)) there) (λ a. false)
 
+-- ---- one entry more
+
+-- An entry whose diagram D is placed, and has the values of f.
+module _ {s n : ℕ} {m : Meant} {st : State} (S : Standing s n m st) (D : Diagram) where
+  entered-standing : (f : Function) → ((a : Assignment) → value D a ≡ f a) → length (st .entries) < 4096
+      → (t : List Node) (k : ℕ) → After s (st .nodes) D (placed t k) → UsesAfter n (placed t k) → (st′ : State) → withEntry st t k ≡ st′
+      → Standing s n (record { members = m .members; entries = m .entries ++ f ∷ [] }) st′
+  entered-standing f values few t k A u st′ is =
+      let longer : length (st .nodes) ≤ length t = extends-length (st .nodes) t (A .kept .extends) in
+      subst (Standing s n (record { members = m .members; entries = m .entries ++ f ∷ [] })) is (record {
+        ordered = A .kept .ordered;
+        uses = u;
+        room = λ two. A .kept .room (S .room two);
+        least = S .least;
+        kept = omega (arith, S .kept);
+        members = valued-grown (st .nodes) t (st .kept) (st .kept) (S .ordered) (A .kept .extends) (S .kept) (omega arith) (st .members) (m .members) (S .members);
+        marks = S .marks;
+        entries = valued-append t (length t) (st .entries) (m .entries) k f
+            (valued-grown (st .nodes) t (length (st .nodes)) (length t) (S .ordered) (A .kept .extends) (omega arith) longer (st .entries) (m .entries) (S .entries))
+            (A .inside) (λ a. ap (λ (D : Diagram). value D a) (A .is) ∙ values a);
+        few = omega (arith, length-append (st .entries) (k ∷ []));
+        lines = S .lines;
+        many = S .many;
+      })
+
 -- ---- node records
 
 module _ {s n : ℕ} {m : Meant} {st : State} (S : Standing s n m st) (v l h : ℕ) (low-in : l < length (st .nodes)) (high-in : h < length (st .nodes))
@@ -117,27 +145,6 @@ module _ {s n : ℕ} {m : Meant} {st : State} (S : Standing s n m st) (v l h : �
     put-uses =
         rw (put-place s (st .nodes) (S .ordered) v l h low-in high-in)
         (place-uses n s (st .nodes) over (S .uses) (over-reduced n (S .uses) most))
-
-    entered-standing : (f : Function) → ((a : Assignment) → value over a ≡ f a) → length (st .entries) < 4096
-        → (t : List Node) (k : ℕ) → After s (st .nodes) over (placed t k) → UsesAfter n (placed t k) → (st′ : State) → withEntry st t k ≡ st′
-        → Standing s n (record { members = m .members; entries = m .entries ++ f ∷ [] }) st′
-    entered-standing f values few t k A u st′ is =
-        let longer : length (st .nodes) ≤ length t = extends-length (st .nodes) t (A .kept .extends) in
-        subst (Standing s n (record { members = m .members; entries = m .entries ++ f ∷ [] })) is (record {
-          ordered = A .kept .ordered;
-          uses = u;
-          room = λ two. A .kept .room (S .room two);
-          least = S .least;
-          kept = omega (arith, S .kept);
-          members = valued-grown (st .nodes) t (st .kept) (st .kept) (S .ordered) (A .kept .extends) (S .kept) (omega arith) (st .members) (m .members) (S .members);
-          marks = S .marks;
-          entries = valued-append t (length t) (st .entries) (m .entries) k f
-              (valued-grown (st .nodes) t (length (st .nodes)) (length t) (S .ordered) (A .kept .extends) (omega arith) longer (st .entries) (m .entries) (S .entries))
-              (A .inside) (λ a. ap (λ (D : Diagram). value D a) (A .is) ∙ values a);
-          few = omega (arith, length-append (st .entries) (k ∷ []));
-          lines = S .lines;
-          many = S .many;
-        })
 
 -- ---- every record
 
@@ -168,7 +175,7 @@ module _ {s n : ℕ} {m : Meant} {st : State} (S : Standing s n m st) (narrow : 
     node-standing : Standing s n (afterRecord m (NodeEntry b)) st′
     unfolding afterRecord
     node-standing =
-        entered-standing S (b .variable) l h low-in high-in (T .least) over-low over-high (T .most) narrow (nodeMeant m b)
+        entered-standing S (branch (b .variable) (diagramAt (st .nodes) l) (diagramAt (st .nodes) h)) (nodeMeant m b)
         (λ a. branch-at 1 (b .variable) (diagramAt (st .nodes) l) (diagramAt (st .nodes) h) a
         ∙ rw (entry-valued S (b .low .0) (T .low) .1 a, entry-valued S (b .high .0) (T .high) .1 a))
         (T .few) (T .nodes) (T .entry) node-after
@@ -176,6 +183,21 @@ module _ {s n : ℕ} {m : Meant} {st : State} (S : Standing s n m st) (narrow : 
 
     node-extends : Extends (st .nodes) (st′ .nodes)
     node-extends = subst (λ (x : State). Extends (st .nodes) (x .nodes)) (T .is) (node-after .kept .extends)
+
+  module _ (kind : SetKind) (b : SetBody) (st′ : State) (T : SetTaken n s st kind b st′) where
+    set-after : After s (st .nodes) (setDiagram n kind b) (placed (T .nodes) (T .entry))
+    set-after =
+        subst (After s (st .nodes) _) (T .room)
+        (place-after s (st .nodes) (S .ordered) (setDiagram n kind b) (reduced-to 1 (suc n) 65 (setDiagram n kind b) (omega arith) (set-reduced n kind b)))
+
+    set-standing : Standing s n (afterRecord m (SetEntry kind b)) st′
+    unfolding afterRecord
+    set-standing =
+        entered-standing S (setDiagram n kind b) (setMeant kind b) (set-valued n kind b (T .within)) (T .few) (T .nodes) (T .entry) set-after
+        (subst (UsesAfter n) (T .room) (place-uses n s (st .nodes) (setDiagram n kind b) (S .uses) (set-reduced n kind b))) st′ (T .is)
+
+    set-extends : Extends (st .nodes) (st′ .nodes)
+    set-extends = subst (λ (x : State). Extends (st .nodes) (x .nodes)) (T .is) (set-after .kept .extends)
 
   witness-standing : (v : ℕ) (b : Bool) (st′ : State) → WitnessTaken n st v b st′ → Standing s n m st′
   witness-standing v b st′ T = subst (Standing s n m) (T .is) (record {
@@ -232,6 +254,7 @@ module _ {s n : ℕ} {m : Meant} {st : State} (S : Standing s n m st) (narrow : 
   step-standing (Witness v b) st′ T = witness-standing v b st′ T
   step-standing (ProofLine rule root) st′ T = line-standing rule (root .0) st′ T
   step-standing (Strike k) st′ T = strike-standing (k .0) st′ T
+  step-standing (SetEntry kind b) st′ T = set-standing kind b st′ T
   step-standing End st′ T = absurd T
   step-standing CutShort st′ T = absurd T
   step-standing UnknownKind st′ T = absurd T
@@ -242,6 +265,7 @@ module _ {s n : ℕ} {m : Meant} {st : State} (S : Standing s n m st) (narrow : 
   step-extends (Witness v b) st′ T = subst (λ (x : State). Extends (st .nodes) (x .nodes)) (T .is) (extends-same (st .nodes))
   step-extends (ProofLine rule root) st′ T = subst (λ (x : State). Extends (st .nodes) (x .nodes)) (T .is) (extends-same (st .nodes))
   step-extends (Strike k) st′ T = subst (λ (x : State). Extends (st .nodes) (x .nodes)) (T .is) (extends-same (st .nodes))
+  step-extends (SetEntry kind b) st′ T = set-extends kind b st′ T
   step-extends End st′ T = absurd T
   step-extends CutShort st′ T = absurd T
   step-extends UnknownKind st′ T = absurd T

@@ -4,7 +4,7 @@ use mathlib.Core.Path.{_≡_, refl, sym, ap}
 use mathlib.Core.Logic.{_↔_}
 use mathlib.Core.Bool.{Bool, true, false, not, _&&_, _||_, cond}
 use mathlib.Core.List.{List}
-use Prim.Native.Nat.{ℕ}
+use Prim.Native.Nat.{ℕ, _^_}
 use native.Mathlib.Omega.{arith}
 use lib.ListN.{length}
 use lib.Dec.{eqb, leb}
@@ -12,16 +12,18 @@ use borrow.Author.Tests.{leb-true, leb-false, le-leb, lt-leb, eqb-false, ne-eqb,
 use Rattle.meaning.specs.Rules.{Line, witnessed}
 use Rattle.meaning.specs.Words.{inWord}
 use Rattle.meaning.proofs.Booleans.{and-both, or-neither}
-use Rattle.table.specs.Nodes.{Node, above, Placing, full, placed, put}
+use Rattle.table.specs.Nodes.{Node, above, Placing, full, placed, put, place}
 use Rattle.table.specs.Making.{lineReach}
 use Rattle.records.specs.declared.NodeBody.{NodeBody}
 use Rattle.records.specs.declared.Record.{Record}
-use Rattle.records.specs.declared.Record.the-variants.{NodeEntry, Witness, ProofLine, Strike, End, CutShort, UnknownKind, NoRecord}
+use Rattle.records.specs.declared.Record.the-variants.{NodeEntry, Witness, ProofLine, Strike, SetEntry, End, CutShort, UnknownKind, NoRecord}
+use Rattle.records.specs.declared.SetKind.{SetKind}
+use Rattle.records.specs.declared.SetBody.{SetBody}
 use Rattle.records.specs.declared.Rule.{Rule}
 use Rattle.records.specs.declared.Rule.the-variants.{Rup, Pr}
 use Rattle.records.specs.Records.{numberOf}
-use Rattle.verdict.specs.Check.{State, Step, next, stop, spent, isEntry, entryNode, isVariable, entered, nodeStep, witnessStep, waiting, accepted, judged, diagramIn, lineStep, isLive, strikeStep, endStep, step}
-use Rattle.verdict.specs.Run.{withEntry, NodeTaken, WitnessTaken, lineOf, peakWith, LineTaken, StrikeTaken, Taken}
+use Rattle.verdict.specs.Check.{State, Step, next, stop, spent, isEntry, entryNode, isVariable, entered, nodeStep, witnessStep, waiting, accepted, judged, diagramIn, lineStep, isLive, strikeStep, beyond, noParity, setDiagram, setStep, endStep, step}
+use Rattle.verdict.specs.Run.{withEntry, NodeTaken, WitnessTaken, lineOf, peakWith, LineTaken, StrikeTaken, SetTaken, Taken}
 
 pub stop-not-next : {A : Type 0} (number offset : ℕ) (st : State) → stop number offset ≡ next st → A
 stop-not-next number offset st e = let z : _≡_ {A = ℕ} 0 1 = cc in absurd (omega arith)
@@ -164,6 +166,30 @@ taken-strike : (st : State) (k : ℕ) (st′ : State) → StrikeTaken st k st′
 unfolding strikeStep
 taken-strike st k st′ T = rw (T .none-waits, T .live) (ap next (T .is))
 
+-- ---- entries of sets
+
+set-taken : (n s : ℕ) (st : State) (kind : SetKind) (b : SetBody) (st′ : State) → setStep n s st kind b ≡ next st′ → SetTaken n s st kind b st′
+unfolding setStep beyond
+set-taken n s st kind b st′ e =
+    let (few, e₁) = passed (leb 4096 (length (st .entries))) 21 _ e in
+    let (within, e₂) = passed (leb (2 ^ n) (b .set)) 12 _ e₁ in
+    let (byte, e₃) = passed (noParity kind (b .byte)) 29 _ e₂ in
+    let (nodes, entry, room, is) = entered-taken st (place s (st .nodes) (setDiagram n kind b)) st′ e₃ in
+    record {
+      few = leb-false 4096 (length (st .entries)) few;
+      within = leb-false (2 ^ n) (b .set) within;
+      byte = byte;
+      nodes = nodes;
+      entry = entry;
+      room = room;
+      is = is;
+    }
+
+taken-set : (n s : ℕ) (st : State) (kind : SetKind) (b : SetBody) (st′ : State) → SetTaken n s st kind b st′ → setStep n s st kind b ≡ next st′
+unfolding setStep beyond entered
+taken-set n s st kind b st′ T =
+    rw (lt-leb 4096 (length (st .entries)) (T .few), lt-leb (2 ^ n) (b .set) (T .within), T .byte, T .room) (ap next (T .is))
+
 -- ---- the end record
 
 pub end-not-next : (st : State) (more : Bool) (st′ : State) {A : Type 0} → endStep st more ≡ next st′ → A
@@ -185,6 +211,7 @@ step-taken n s st more (NodeEntry b) st′ e = node-taken n s st b st′ e
 step-taken n s st more (Witness v b) st′ e = witness-taken n st v b st′ e
 step-taken n s st more (ProofLine rule root) st′ e = line-taken n s st rule (root .0) st′ e
 step-taken n s st more (Strike k) st′ e = strike-taken st (k .0) st′ e
+step-taken n s st more (SetEntry kind b) st′ e = set-taken n s st kind b st′ e
 step-taken n s st more End st′ e = end-not-next st more st′ e
 step-taken n s st more CutShort st′ e = stop-not-next 10 0 st′ e
 step-taken n s st more UnknownKind st′ e = stop-not-next 9 0 st′ e
@@ -196,6 +223,7 @@ taken-step n s st more (NodeEntry b) st′ T = taken-node n s st b st′ T
 taken-step n s st more (Witness v b) st′ T = taken-witness n st v b st′ T
 taken-step n s st more (ProofLine rule root) st′ T = taken-line n s st rule (root .0) st′ T
 taken-step n s st more (Strike k) st′ T = taken-strike st (k .0) st′ T
+taken-step n s st more (SetEntry kind b) st′ T = taken-set n s st kind b st′ T
 taken-step n s st more End st′ T = absurd T
 taken-step n s st more CutShort st′ T = absurd T
 taken-step n s st more UnknownKind st′ T = absurd T
@@ -211,6 +239,7 @@ next-form n s st more (NodeEntry b) st′ e = refl
 next-form n s st more (Witness v b) st′ e = refl
 next-form n s st more (ProofLine rule root) st′ e = refl
 next-form n s st more (Strike k) st′ e = refl
+next-form n s st more (SetEntry kind b) st′ e = refl
 next-form n s st more End st′ e = refl
 next-form n s st more CutShort st′ e = stop-not-next 10 0 st′ e
 next-form n s st more UnknownKind st′ e = stop-not-next 9 0 st′ e
@@ -307,6 +336,14 @@ module _ {offset : ℕ} where
       let (p₂, e₂) = past (not (isLive st k)) 28 0 _ refl e₁ in
       next-not-stop _ e₂
 
+  set-not-zero : {A : Type 0} (n s : ℕ) (st : State) (kind : SetKind) (b : SetBody) → setStep n s st kind b ≡ stop 0 offset → A
+  unfolding setStep
+  set-not-zero n s st kind b e =
+      let (p₁, e₁) = past (leb 4096 (length (st .entries))) 21 0 _ refl e in
+      let (p₂, e₂) = past (beyond n (b .set)) 12 0 _ refl e₁ in
+      let (p₃, e₃) = past (noParity kind (b .byte)) 29 0 _ refl e₂ in
+      entered-not-zero st (place s (st .nodes) (setDiagram n kind b)) e₃
+
 -- The record that ends the proof with 0.
 pub record Refutes (st : State) (more : Bool) (r : Record) (offset : ℕ) : Type 0 where
   pub end : r ≡ End
@@ -333,6 +370,7 @@ step-refutes n s st more (NodeEntry b) offset e = node-not-zero n s st b e
 step-refutes n s st more (Witness v b) offset e = witness-not-zero n st v b e
 step-refutes n s st more (ProofLine rule root) offset e = line-not-zero n s st rule (root .0) e
 step-refutes n s st more (Strike k) offset e = strike-not-zero st (k .0) e
+step-refutes n s st more (SetEntry kind b) offset e = set-not-zero n s st kind b e
 step-refutes n s st more End offset e = end-refutes st more offset e
 step-refutes n s st more CutShort offset e = stop-other 10 0 refl e
 step-refutes n s st more UnknownKind offset e = stop-other 9 0 refl e

@@ -100,6 +100,14 @@ prLine root rest = 0x50 ∷ᴸ root ∷ᴸ 0 ∷ᴸ rest
 abbrev pub strike : ℕ → List ℕ → List ℕ
 strike k rest = 0x44 ∷ᴸ k ∷ᴸ 0 ∷ᴸ rest
 
+-- "Kind `58` has eight bytes of variable set (bit i−1 for variable i) and one byte, 1 for odd and 0 for even": a set of variables 1 to 8.
+abbrev pub oddEven : ℕ → ℕ → List ℕ → List ℕ
+oddEven set byte rest = 0x58 ∷ᴸ set ∷ᴸ 0 ∷ᴸ 0 ∷ᴸ 0 ∷ᴸ 0 ∷ᴸ 0 ∷ᴸ 0 ∷ᴸ 0 ∷ᴸ byte ∷ᴸ rest
+
+-- "kind `4B` has the set and one byte k"
+abbrev pub atLeastOf : ℕ → ℕ → List ℕ → List ℕ
+atLeastOf set k rest = 0x4B ∷ᴸ set ∷ᴸ 0 ∷ᴸ 0 ∷ᴸ 0 ∷ᴸ 0 ∷ᴸ 0 ∷ᴸ 0 ∷ᴸ 0 ∷ᴸ k ∷ᴸ rest
+
 abbrev pub end : List ℕ
 end = 0x45 ∷ᴸ []ᴸ
 
@@ -175,4 +183,28 @@ strikeTable =
     (0 ∷ᴸ 0 ∷ᴸ 1 ∷ᴸ 1 ∷ᴸ 0 ∷ᴸ []ᴸ)
     ∷ᴸ marked 4096 "p cnf 2 1\n-1 2 0\n" (over 1 0 1 (strike 0 (0x54 ∷ᴸ 1 ∷ᴸ prLine 2 end))) (prints 20 14 1 0 6) (1 ∷ᴸ 0 ∷ᴸ []ᴸ)
     ∷ᴸ marked 4096 "p cnf 1 1\n0\n" (strike 0 (rupLine 0 end)) (prints 19 3 0 0 2) (1 ∷ᴸ []ᴸ)
+    ∷ᴸ []ᴸ
+
+-- 02's 5/14: odd and even of a set; a set bit beyond the header, a byte above 1, a record cut short; the empty set; at least one, two, none, three
+-- of two; a set bit of variable 64; at least two of three as in case I; full tables, with every place taken; entries of both kinds under a node record.
+abbrev pub setTable : List Row
+setTable =
+    checked 4096 D-formula (oddEven 3 1 (rupLine 2 end)) (prints 19 10 0 0 8)
+    ∷ᴸ checked 4096 D-formula (oddEven 4 1 []ᴸ) (prints 12 0 0 0 4)
+    ∷ᴸ checked 4096 D-formula (oddEven 3 2 []ᴸ) (prints 29 0 0 0 4)
+    ∷ᴸ checked 4096 D-formula (oddEven 4 2 []ᴸ) (prints 12 0 0 0 4)
+    ∷ᴸ checked 4096 D-formula (0x58 ∷ᴸ 1 ∷ᴸ 0 ∷ᴸ 0 ∷ᴸ 0 ∷ᴸ 0 ∷ᴸ 0 ∷ᴸ 0 ∷ᴸ 0 ∷ᴸ []ᴸ) (prints 10 0 0 0 4)
+    ∷ᴸ checked 4096 D-formula (oddEven 0 0 (rupLine 2 []ᴸ)) (prints 17 10 0 0 4)
+    ∷ᴸ checked 4096 D-formula (oddEven 0 1 (rupLine 2 []ᴸ)) (prints 19 10 0 0 4)
+    ∷ᴸ checked 4096 D-formula (atLeastOf 3 1 (rupLine 2 end)) (prints 20 13 1 0 6)
+    ∷ᴸ checked 4096 D-formula (atLeastOf 3 2 (rupLine 2 end)) (prints 19 10 0 0 7)
+    ∷ᴸ checked 4096 D-formula (atLeastOf 3 0 (rupLine 2 []ᴸ)) (prints 17 10 0 0 4)
+    ∷ᴸ checked 4096 D-formula (atLeastOf 3 3 (rupLine 2 []ᴸ)) (prints 19 10 0 0 4)
+    ∷ᴸ checked 4096 D-formula (0x4B ∷ᴸ 0 ∷ᴸ 0 ∷ᴸ 0 ∷ᴸ 0 ∷ᴸ 0 ∷ᴸ 0 ∷ᴸ 0 ∷ᴸ 128 ∷ᴸ 1 ∷ᴸ []ᴸ) (prints 12 0 0 0 4)
+    ∷ᴸ checked 4096 "p cnf 3 3\n2 3 0\n1 3 0\n1 2 0\n" (atLeastOf 7 2 (rupLine 2 end)) (prints 20 13 1 2 16)
+    ∷ᴸ checked 6 D-formula (oddEven 3 1 []ᴸ) (prints 10 10 0 0 6)
+    ∷ᴸ checked 5 D-formula (oddEven 3 1 []ᴸ) (prints 23 0 0 0 5)
+    ∷ᴸ checked 5 D-formula (atLeastOf 3 1 []ᴸ) (prints 10 10 0 0 4)
+    ∷ᴸ checked 4096 "p cnf 3 3\n2 3 0\n1 3 0\n1 2 0\n" (atLeastOf 7 1 (oddEven 7 1 (over 1 2 3 []ᴸ))) (prints 14 20 0 0 12)
+    ∷ᴸ checked 4096 D-formula (oddEven 3 1 (0x54 ∷ᴸ 1 ∷ᴸ prLine 2 end)) (prints 18 12 0 0 6)
     ∷ᴸ []ᴸ

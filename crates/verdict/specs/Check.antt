@@ -8,6 +8,7 @@ use lib.Dec.{eqb, ltb, leb}
 use Rattle.meaning.specs.Diagram.{Diagram}
 use Rattle.meaning.specs.Operations as meaning
 use Rattle.meaning.specs.Rules.{Line, rup, pr, witnessed}
+use Rattle.meaning.specs.Sets.{parity, atLeast}
 use Rattle.meaning.specs.Words.{inWord}
 use Rattle.table.specs.Nodes.{Node, blank, above, diagramAt, Placing, full, placed, put, place}
 use Rattle.table.specs.Making.{lineReach}
@@ -19,8 +20,11 @@ use Rattle.dimacs.specs.Clauses.{Reading, clause, complete, refusal, clausesFro
 use Rattle.records.specs.declared.NodeBody.{NodeBody}
 use Rattle.records.specs.declared.Rule.{Rule}
 use Rattle.records.specs.declared.Rule.the-variants.{Rup, Pr}
+use Rattle.records.specs.declared.SetKind.{SetKind}
+use Rattle.records.specs.declared.SetKind.the-variants.{Parity, AtLeast}
+use Rattle.records.specs.declared.SetBody.{SetBody}
 use Rattle.records.specs.declared.Record.{Record}
-use Rattle.records.specs.declared.Record.the-variants.{NodeEntry, Witness, ProofLine, Strike, End, CutShort, UnknownKind, NoRecord}
+use Rattle.records.specs.declared.Record.the-variants.{NodeEntry, Witness, ProofLine, Strike, SetEntry, End, CutShort, UnknownKind, NoRecord}
 use Rattle.records.specs.Records.{recordAt, lengthOf, numberOf}
 
 -- ---- the state between records
@@ -226,6 +230,31 @@ strikeStep st k =
       refuted = st .refuted;
     })))
 
+-- ---- either-or and at-least entries
+
+-- "a set bit beyond the header": the word has a variable above n.
+unfoldable pub beyond : ℕ → ℕ → Bool
+beyond n set = leb (2 ^ n) set
+
+-- "a parity byte above 1"
+abbrev pub noParity : SetKind → ℕ → Bool
+noParity Parity byte = ltb 1 byte
+noParity AtLeast byte = false
+
+-- "one byte, 1 for odd and 0 for even"; "one byte k"
+abbrev pub setDiagram : ℕ → SetKind → SetBody → Diagram
+setDiagram n Parity b = parity n (inWord (b .set)) (eqb (b .byte) 1)
+setDiagram n AtLeast b = atLeast n (inWord (b .set)) (b .byte)
+
+-- "Each makes the next entry. [..] It refuses, after 10 and 21, a set bit beyond the header with 12, a parity byte above 1 with 29, then 23."
+-- (02, 5/14)
+unfoldable pub setStep : ℕ → ℕ → State → SetKind → SetBody → Step
+unfolding beyond entered
+setStep n s st kind b =
+    let made = entered st (place s (st .nodes) (setDiagram n kind b)) in
+    cond (leb 4096 (length (st .entries))) (stop 21 0)
+    (cond (beyond n (b .set)) (stop 12 0) (cond (noParity kind (b .byte)) (stop 29 0) made))
+
 -- ---- the proof
 
 -- "End: 16, 11, 20." "11: the byte after the end record"
@@ -235,11 +264,12 @@ endStep st more = cond (waiting st) (stop 16 0) (cond more (stop 11 1) (cond (st
 
 -- A record; `more` tells whether a byte follows it. "each record's kind (9) before all else"; 10: `numberOf`.
 unfoldable pub step : ℕ → ℕ → State → Bool → Record → Step
-unfolding nodeStep witnessStep lineStep strikeStep endStep
+unfolding nodeStep witnessStep lineStep strikeStep setStep endStep
 step n s st more (NodeEntry b) = nodeStep n s st b
 step n s st more (Witness v b) = witnessStep n st v b
 step n s st more (ProofLine rule root) = lineStep n s st rule (root .0)
 step n s st more (Strike k) = strikeStep st (k .0)
+step n s st more (SetEntry kind b) = setStep n s st kind b
 step n s st more End = endStep st more
 step n s st more CutShort = stop (numberOf CutShort) 0
 step n s st more UnknownKind = stop (numberOf UnknownKind) 0

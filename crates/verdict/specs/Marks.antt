@@ -5,7 +5,7 @@ use Prim.Native.Nat.{ℕ, zero, suc, _+_}
 use lib.ListN.{length}
 use lib.Dec.{eqb, ltb}
 use Rattle.records.specs.declared.Record.{Record}
-use Rattle.records.specs.declared.Record.the-variants.{NodeEntry, Witness, ProofLine, Strike, End, CutShort, UnknownKind, NoRecord}
+use Rattle.records.specs.declared.Record.the-variants.{NodeEntry, Witness, ProofLine, Strike, SetEntry, End, CutShort, UnknownKind, NoRecord}
 use Rattle.records.specs.Records.{recordAt, lengthOf}
 
 -- "strikes out the member of that number": the number, where the record is a striking.
@@ -14,6 +14,7 @@ struckBy (Strike k) = k .0 ∷ []
 struckBy (NodeEntry b) = []
 struckBy (Witness v b) = []
 struckBy (ProofLine rule root) = []
+struckBy (SetEntry kind b) = []
 struckBy End = []
 struckBy CutShort = []
 struckBy UnknownKind = []

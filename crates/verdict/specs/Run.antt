@@ -4,11 +4,12 @@ use mathlib.Core.Path.{_≡_}
 use mathlib.Core.Logic.{_≢_}
 use mathlib.Core.Bool.{Bool, true, false, not, cond}
 use mathlib.Core.List.{List, [], _∷_, _++_, map}
-use Prim.Native.Nat.{ℕ, zero, suc, _+_, _≤_, _<_, max}
+use Prim.Native.Nat.{ℕ, zero, suc, _+_, _^_, _≤_, _<_, max}
 use lib.ListN.{length, getD, set, take}
-use lib.Dec.{ltb}
+use lib.Dec.{eqb, ltb}
 use Rattle.meaning.specs.Diagram.{Assignment, Diagram, holds, value}
 use Rattle.meaning.specs.Operations as meaning
+use Rattle.meaning.specs.Sets.{parityValue, atLeastValue}
 use Rattle.meaning.specs.Rules.{Line, rup, pr, witnessed}
 use Rattle.meaning.specs.Words.{inWord}
 use Rattle.table.specs.Nodes.{Node, above, diagramAt, full, placed, put, place}
@@ -19,11 +20,14 @@ use Rattle.dimacs.specs.Clauses.{Reading, clause, complete, refusal, clausesFro
 use Rattle.records.specs.declared.NodeBody.{NodeBody}
 use Rattle.records.specs.declared.Rule.{Rule}
 use Rattle.records.specs.declared.Rule.the-variants.{Rup, Pr}
+use Rattle.records.specs.declared.SetKind.{SetKind}
+use Rattle.records.specs.declared.SetKind.the-variants.{Parity, AtLeast}
+use Rattle.records.specs.declared.SetBody.{SetBody}
 use Rattle.records.specs.declared.Record.{Record}
-use Rattle.records.specs.declared.Record.the-variants.{NodeEntry, Witness, ProofLine, Strike, End, CutShort, UnknownKind, NoRecord}
+use Rattle.records.specs.declared.Record.the-variants.{NodeEntry, Witness, ProofLine, Strike, SetEntry, End, CutShort, UnknownKind, NoRecord}
 use Rattle.records.specs.Records.{recordAt, lengthOf}
 use Rattle.verdict.specs.Check.{State, emptied, begun, stop, spent, isEntry, entryNode, withVariable, waiting, accepted, isLive}
-use Rattle.verdict.specs.Check.{diagramIn, liveMembers, step, Verdict, left, refusedFormula}
+use Rattle.verdict.specs.Check.{diagramIn, liveMembers, noParity, setDiagram, step, Verdict, left, refusedFormula}
 use Rattle.verdict.specs.Satisfies.{clausesOf}
 
 -- ---- what members and entries stand for
@@ -48,6 +52,11 @@ entryMeant m e = getD (numberedMeant m) e (λ a. false)
 abbrev pub nodeMeant : Meant → NodeBody → Function
 nodeMeant m b a = cond (holds a (b .variable)) (entryMeant m (b .high .0) a) (entryMeant m (b .low .0) a)
 
+-- "its value [..] is 1 where the number of the set's true variables is odd or even, as the byte says, or at least k; else 0" (02, 5/14)
+abbrev pub setMeant : SetKind → SetBody → Function
+setMeant Parity b = parityValue (inWord (b .set)) (eqb (b .byte) 1)
+setMeant AtLeast b = atLeastValue (inWord (b .set)) (b .byte)
+
 -- After a record that is not refused: "Makes the next entry"; "After an accepted line its root is the next member and entries [..]
 -- start anew."
 unfoldable pub afterRecord : Meant → Record → Meant
@@ -56,6 +65,7 @@ afterRecord m (NodeEntry b) = record { members = m .members; entries = m .entrie
 afterRecord m (ProofLine rule root) = record { members = m .members ++ entryMeant m (root .0) ∷ []; entries = [] }
 afterRecord m (Witness v b) = m
 afterRecord m (Strike k) = m
+afterRecord m (SetEntry kind b) = record { members = m .members; entries = m .entries ++ setMeant kind b ∷ [] }
 afterRecord m End = m
 afterRecord m CutShort = m
 afterRecord m UnknownKind = m
@@ -194,12 +204,24 @@ pub record StrikeTaken (st : State) (k : ℕ) (st′ : State) : Type 0 where
   pub live : isLive st k ≡ true
   pub is : withMarks st (set (st .struck) k 1) ≡ st′
 
+-- "after 10 and 21, a set bit beyond the header with 12, a parity byte above 1 with 29, then 23" (02, 5/14): none of them holds, and the set's
+-- diagram has its places.
+pub record SetTaken (n s : ℕ) (st : State) (kind : SetKind) (b : SetBody) (st′ : State) : Type 0 where
+  pub few : length (st .entries) < 4096
+  pub within : b .set < 2 ^ n
+  pub byte : noParity kind (b .byte) ≡ false
+  pub nodes : List Node
+  pub entry : ℕ
+  pub room : place s (st .nodes) (setDiagram n kind b) ≡ placed nodes entry
+  pub is : withEntry st nodes entry ≡ st′
+
 -- What a record has to pass, by its kind, and the state that it leads to. No other record is followed by a state.
 abbrev pub Taken : ℕ → ℕ → State → Record → State → Type 0
 Taken n s st (NodeEntry b) st′ = NodeTaken n s st b st′
 Taken n s st (Witness v b) st′ = WitnessTaken n st v b st′
 Taken n s st (ProofLine rule root) st′ = LineTaken n s st rule (root .0) st′
 Taken n s st (Strike k) st′ = StrikeTaken st (k .0) st′
+Taken n s st (SetEntry kind b) st′ = SetTaken n s st kind b st′
 Taken n s st End st′ = ⊥
 Taken n s st CutShort st′ = ⊥
 Taken n s st UnknownKind st′ = ⊥

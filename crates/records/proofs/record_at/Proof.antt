@@ -43,6 +43,12 @@ line-in-requires-2 c κs = search needs
 strike-in-requires : tie.Need-strike-in-requires
 strike-in-requires c κs = search needs
 
+set-in-requires : tie.Need-set-in-requires
+set-in-requires c κs = search needs
+
+set-in-requires-2 : tie.Need-set-in-requires-2
+set-in-requires-2 c κs = search needs
+
 returns-2 : tie.Need-returns-2
 unfolding recordOf
 returns-2 c = c .node-in .ensures ∙ sym (record-part _ _ 0x4E (c .before .before .before .before .if1 .left) (c .before .match .keys1))
@@ -69,12 +75,22 @@ returns-7 c = c .strike-in .ensures ∙ sym (record-part _ _ 0x44 (c .before .be
 
 returns-8 : tie.Need-returns-8
 unfolding recordOf
-returns-8 c = sym (record-part _ _ 0x45 (c .before .before .before .if1 .left) (c .match .keys7))
+returns-8 c = c .set-in .ensures ∙ sym (record-part _ _ 0x58 (c .before .before .before .before .if1 .left) (c .before .match .keys7))
 
 returns-9 : tie.Need-returns-9
-returns-9 c =
+unfolding recordOf
+returns-9 c = c .set-in2 .ensures ∙ sym (record-part _ _ 0x4B (c .before .before .before .before .if1 .left) (c .before .match .keys8))
+
+returns-10 : tie.Need-returns-10
+unfolding recordOf
+returns-10 c = sym (record-part _ _ 0x45 (c .before .before .before .if1 .left) (c .match .keys9))
+
+returns-11 : tie.Need-returns-11
+returns-11 c =
     let none = c .match .rest in
-    sym (record-part _ _ _ (c .before .before .before .if1 .left) refl ∙ record-unknown _ _ (none .0 .0 .0 .0 .0 .0 .1) (none .0 .0 .0 .0 .0 .1) (none .0 .0 .0 .0 .1) (none .0 .0 .0 .1) (none .0 .0 .1) (none .0 .1) (none .1))
+    sym (record-part _ _ _ (c .before .before .before .if1 .left) refl
+    ∙ record-unknown _ _ (none .0 .0 .0 .0 .0 .0 .0 .0 .1) (none .0 .0 .0 .0 .0 .0 .0 .1) (none .0 .0 .0 .0 .0 .0 .1) (none .0 .0 .0 .0 .0 .1)
+    (none .0 .0 .0 .0 .1) (none .0 .0 .0 .1) (none .0 .0 .1) (none .0 .1) (none .1))
 
 pub record-at-spec : {M : Type 1} → statement M
 record-at-spec =
@@ -92,6 +108,8 @@ record-at-spec =
     line-in-requires
     line-in-requires-2
     strike-in-requires
+    set-in-requires
+    set-in-requires-2
     returns-2
     returns-3
     returns-4
@@ -99,4 +117,6 @@ record-at-spec =
     returns-6
     returns-7
     returns-8
-    returns-9)
+    returns-9
+    returns-10
+    returns-11)

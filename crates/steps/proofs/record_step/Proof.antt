@@ -4,7 +4,7 @@ use borrow.Author.Needs.{needs}
 use native.Mathlib.Omega.{arith}
 use Rattle.steps.specs.States.{Lent, lentOf}
 use Rattle.steps.proofs.Lines.{held-64}
-use Rattle.steps.proofs.Records.{as-node, as-witness, as-line, as-strike, as-end, cut-short, unknown-kind, no-record}
+use Rattle.steps.proofs.Records.{as-node, as-witness, as-line, as-strike, as-set, as-end, cut-short, unknown-kind, no-record}
 use Rattle.steps.proofs.record_step.Statement.{statement}
 use Rattle.steps.proofs.record_step.Tie as tie
 
@@ -17,16 +17,16 @@ enum-known-r c = search needs
 
 -- The ways back, written by ways.py: TO-from-FROM leads from the place FROM of the code to the place TO before it.
 module _ (c : tie.After-enum-told2) where
-  abbrev start-from-return-6 : tie.Start
-  start-from-return-6 = c .before .before .before .before .before .before .before .before .before .before .before .before
-
-module _ (c : tie.After-enum-told3) where
   abbrev start-from-return-7 : tie.Start
   start-from-return-7 = c .before .before .before .before .before .before .before .before .before .before .before .before
 
-module _ (c : tie.After-enum-told4) where
+module _ (c : tie.After-enum-told3) where
   abbrev start-from-return-8 : tie.Start
   start-from-return-8 = c .before .before .before .before .before .before .before .before .before .before .before .before
+
+module _ (c : tie.After-enum-told4) where
+  abbrev start-from-return-9 : tie.Start
+  start-from-return-9 = c .before .before .before .before .before .before .before .before .before .before .before .before
 
 module _ (c : tie.After-r) where
   abbrev start-from-r : tie.Start
@@ -40,9 +40,13 @@ module _ (c : tie.After-r4) where
   abbrev start-from-r4 : tie.Start
   start-from-r4 = c .before .before .before .before .before .before .before .before .before .before .before .before
 
+module _ (c : tie.After-r5) where
+  abbrev start-from-r5 : tie.Start
+  start-from-r5 = c .before .before .before .before .before .before .before .before .before .before .before .before
+
 module _ (c : tie.After-end-step) where
-  abbrev start-from-return-5 : tie.Start
-  start-from-return-5 = c .before .before .before .before .before .before .before .before .before .before .before .before .before
+  abbrev start-from-return-6 : tie.Start
+  start-from-return-6 = c .before .before .before .before .before .before .before .before .before .before .before .before .before
 
 module _ (c : tie.After-known-told2) where
   abbrev start-from-witness-step-call : tie.Start
@@ -77,9 +81,20 @@ module _ (c : tie.After-node-step-arg6) where
   abbrev start-from-node-step-call : tie.Start
   start-from-node-step-call = start-from-r r-from-node-step-call
 
+module _ (c : tie.After-set-step-arg6) where
+  abbrev r5-from-set-step-call : tie.After-r5
+  r5-from-set-step-call = c .before .before .before .before .before .before .before
+
+  abbrev start-from-set-step-call : tie.Start
+  start-from-set-step-call = start-from-r5 r5-from-set-step-call
+
 module _ (c : tie.After-node-step) where
   abbrev r-from-node-step : tie.After-r
   r-from-node-step = c .before .before .before .before .before .before .before .before
+
+module _ (c : tie.After-set-step) where
+  abbrev r5-from-set-step : tie.After-r5
+  r5-from-set-step = c .before .before .before .before .before .before .before .before
 
 module _ (c : tie.After-line-step-arg10) where
   abbrev r3-from-line-step-call : tie.After-r3
@@ -101,6 +116,16 @@ module _ (c : tie.After-slice-known16) where
 
   abbrev start-from-return : tie.Start
   start-from-return = start-from-r r-from-return
+
+module _ (c : tie.After-slice-known32) where
+  abbrev set-step-from-return-5 : tie.After-set-step
+  set-step-from-return-5 = c .before .before .before .before .before .before .before .before .before .before .before .before
+
+  abbrev r5-from-return-5 : tie.After-r5
+  r5-from-return-5 = r5-from-set-step set-step-from-return-5
+
+  abbrev start-from-return-5 : tie.Start
+  start-from-return-5 = start-from-r5 r5-from-return-5
 
 module _ (c : tie.After-slice-known25) where
   abbrev line-step-from-return-3 : tie.After-line-step
@@ -133,6 +158,12 @@ enum-known-r-4 c = search needs
 
 strike-step-requires : tie.Need-strike-step-requires
 strike-step-requires c κs = let s = start-from-strike-step-call c in omega (arith, s .pre .0 .many, s .pre .0 .lines, s .pre .0 .room, s .pre .0 .marked)
+
+enum-known-r-5 : tie.Need-enum-known-r-5
+enum-known-r-5 c = search needs
+
+set-step-requires : tie.Need-set-step-requires
+set-step-requires c κs = start-from-set-step-call c .pre .0 .entries
 
 enum-told : tie.Need-enum-told
 enum-told c = search needs
@@ -217,17 +248,40 @@ returns-4 c =
       s .pre .1,
     )
 
+same-length-18 : tie.Need-same-length-18
+same-length-18 c = set-step-from-return-5 c .set-step .kept .0
+
+same-length-19 : tie.Need-same-length-19
+same-length-19 c = set-step-from-return-5 c .set-step .kept .1 .0
+
+same-length-20 : tie.Need-same-length-20
+same-length-20 c = set-step-from-return-5 c .set-step .kept .1 .1 .0
+
+same-length-21 : tie.Need-same-length-21
+same-length-21 c = set-step-from-return-5 c .set-step .kept .1 .1 .1 .0
+
+same-length-22 : tie.Need-same-length-22
+same-length-22 c = set-step-from-return-5 c .set-step .kept .1 .1 .1 .1 .0
+
+same-length-23 : tie.Need-same-length-23
+same-length-23 c = set-step-from-return-5 c .set-step .kept .1 .1 .1 .1 .1 .0
+
 returns-5 : tie.Need-returns-5
-returns-5 c = let s = start-from-return-5 c in (as-end _ _ _ _ _ _ _ _ (c .before .enum-told .given .1) (c .end-step .ensures (s .args .variables) (lent s)), s .pre .1)
+returns-5 c =
+    let s = start-from-return-5 c in
+    (as-set _ _ _ _ _ _ _ _ _ _ (r5-from-return-5 c .r5 .given .1) (set-step-from-return-5 c .set-step .ensures (s .args .members .now) (s .args .struck .now) (s .pre .0)), s .pre .1)
 
 returns-6 : tie.Need-returns-6
-returns-6 c = let s = start-from-return-6 c in (cut-short _ _ _ _ _ _ (c .enum-told2 .given .1), s .pre .1)
+returns-6 c = let s = start-from-return-6 c in (as-end _ _ _ _ _ _ _ _ (c .before .enum-told .given .1) (c .end-step .ensures (s .args .variables) (lent s)), s .pre .1)
 
 returns-7 : tie.Need-returns-7
-returns-7 c = let s = start-from-return-7 c in (unknown-kind _ _ _ _ _ _ (c .enum-told3 .given .1), s .pre .1)
+returns-7 c = let s = start-from-return-7 c in (cut-short _ _ _ _ _ _ (c .enum-told2 .given .1), s .pre .1)
 
 returns-8 : tie.Need-returns-8
-returns-8 c = let s = start-from-return-8 c in (no-record _ _ _ _ _ _ (c .enum-told4 .given .1), s .pre .1)
+returns-8 c = let s = start-from-return-8 c in (unknown-kind _ _ _ _ _ _ (c .enum-told3 .given .1), s .pre .1)
+
+returns-9 : tie.Need-returns-9
+returns-9 c = let s = start-from-return-9 c in (no-record _ _ _ _ _ _ (c .enum-told4 .given .1), s .pre .1)
 
 pub record-step-spec : {M : Type 1} → statement M
 record-step-spec =
@@ -241,6 +295,8 @@ record-step-spec =
     line-step-requires
     enum-known-r-4
     strike-step-requires
+    enum-known-r-5
+    set-step-requires
     enum-told
     end-step-requires
     enum-told-2
@@ -267,7 +323,14 @@ record-step-spec =
     returns-3
     same-length-17
     returns-4
+    same-length-18
+    same-length-19
+    same-length-20
+    same-length-21
+    same-length-22
+    same-length-23
     returns-5
     returns-6
     returns-7
-    returns-8)
+    returns-8
+    returns-9)

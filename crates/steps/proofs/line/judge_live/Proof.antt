@@ -1,15 +1,15 @@
 -- `judge_live` judges over the members that are not struck: they are gathered, and the line is judged over them. Assumes nothing.
-use mathlib.Core.Path.{_≡_, sym, ap, _∙_, subst}
+use mathlib.Core.Path.{_≡_, sym, subst}
 use mathlib.Core.List.{List}
 use Prim.Native.Nat.{ℕ, _≤_}
 use native.Mathlib.Omega.{arith}
-use lib.ListN.{length, take, length-replicate}
+use lib.ListN.{length, take}
 use lib.Seq.{length-take-le}
 use borrow.Author.Needs.{needs}
 use Rattle.meaning.specs.Rules.{Line}
 use Rattle.table.specs.Nodes.{diagramAt}
 use Rattle.table.specs.Indexed.{Table, tableOf, nodesOf}
-use Rattle.table.specs.Lists.{Inside, diagramsOf}
+use Rattle.table.specs.Lists.{diagramsOf}
 use Rattle.verdict.specs.Check.{unstruck}
 use Rattle.verdict.specs.Run.{lineBy}
 use Rattle.judge.specs.Lines.{Negatable, Says}

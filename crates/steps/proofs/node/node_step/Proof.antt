@@ -14,7 +14,8 @@ use Rattle.steps.specs.declared.node.NodeTest.the-variants.{Fits}
 use Rattle.steps.specs.States.{Lent, lentOf, stateOf, withEntry}
 use Rattle.steps.specs.Tests.{NodeTested}
 use Rattle.steps.proofs.Stops.{node-fits}
-use Rattle.steps.proofs.Nodes.{few-there, node-refused, node-full, node-made}
+use Rattle.steps.proofs.Entering.{few-there}
+use Rattle.steps.proofs.Nodes.{node-refused, node-full, node-made}
 use Rattle.steps.proofs.node.node_step.Statement.{statement}
 use Rattle.steps.proofs.node.node_step.Tie as tie
 

@@ -4,12 +4,9 @@ use mathlib.Core.Logic.{⊎-elim}
 use mathlib.Core.List.{List}
 use Prim.Native.Nat.{ℕ, _+_, _-_}
 use borrow.Author.Needs.{needs}
-use native.Mathlib.Omega.{arith}
 use Rattle.steps.proofs.Strikings.{Gathered, gathered-none, gathered-live, gathered-struck, gathered-all}
 use Rattle.steps.proofs.strike.live_members.Statement.{statement}
 use Rattle.steps.proofs.strike.live_members.Tie as tie
-use Rattle.steps.proofs.strike.live_members.Reads as reads
-use Rattle.steps.proofs.strike.live_members.Lts as lts
 
 abbrev Inv-loop : tie.InvT-loop
 Inv-loop members struck m live₀ i₀ count₀ live i count = Gathered struck members m live₀ live i count

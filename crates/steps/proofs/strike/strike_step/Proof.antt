@@ -6,9 +6,6 @@ use Rattle.steps.proofs.Entries.{waits-is}
 use Rattle.steps.proofs.Strikings.{live-beyond, live-struck, live-there, strike-16, strike-28, strike-next}
 use Rattle.steps.proofs.strike.strike_step.Statement.{statement}
 use Rattle.steps.proofs.strike.strike_step.Tie as tie
-use Rattle.steps.proofs.strike.strike_step.Reads as reads
-use Rattle.steps.proofs.strike.strike_step.Lts as lts
-use Rattle.steps.proofs.witness.waits.Reads as waits-reads
 
 waits-requires : tie.Need-waits-requires
 waits-requires c κs = search needs

@@ -1,0 +1,4 @@
+pub mod Level
+pub mod Lower
+pub mod Rows
+pub mod Counting
