@@ -15,8 +15,8 @@ WORDS = {
     "verdict": "the check, defined", "operate": "the four operations", "units": "U of a diagram", "negate": "negations found",
     "conflict": "rule (a)", "supports": "a node's variables", "single": "the single calls", "propagate": "unit propagation",
     "judge": "RUP and PR lines", "steps": "a record's step", "session": "the whole check", "checker": "calls with no requires",
-    "demands": "the demands' theorems", "nodes": "over node structs", "report": "line and status", "export": "the archive for C, Rust",
-    "refute": "the program of two files", "cases": "runs 01's examples",
+    "demands": "the demands' theorems", "order": "members in any order", "nodes": "over node structs", "report": "line and status",
+    "export": "the archive for C, Rust", "refute": "the program of two files", "cases": "runs 01's examples",
 }
 OPEN = {"checker", "nodes", "export", "refute", "cases"}
 WIDTH, HEIGHT, ACROSS, UP, TOP = 158, 44, 190, 78, 64

@@ -4,7 +4,8 @@ use session::Checked;
 ghost use Prim.Native.Nat.{_<_};
 ghost use lib.ListN.{length};
 
-fn print_checked(label: &[u8], r: Checked) {
+// The line but for its end.
+pub fn print_said(label: &[u8], r: Checked) {
     print::label(label);
     print::number(r.number as u64);
     print::number(r.place as u64);
@@ -12,7 +13,6 @@ fn print_checked(label: &[u8], r: Checked) {
     print::number(r.rounds);
     print::number(r.count as u64);
     print::number(r.peak as u64);
-    print::end();
 }
 
 // The count lent is 9, which only number 7 hands back.
@@ -25,6 +25,7 @@ pub fn run_in<'a>(
     proof: &'a [u8],
 ) {
     let mut members = [0u16; 2048];
+    let mut struck = [0u8; 2048];
     let mut scratch = [0u16; 4096];
     let r = checker::check(
         vars,
@@ -32,11 +33,13 @@ pub fn run_in<'a>(
         highs,
         9,
         &mut members,
+        &mut struck,
         &mut scratch,
         formula,
         proof,
     );
-    print_checked(label, r);
+    print_said(label, r);
+    print::end();
 }
 
 // The check with a table of 4,096 places.

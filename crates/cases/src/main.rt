@@ -1,8 +1,10 @@
 // Document 01's examples through the face, and 02's as they land: a line for each, its label and then the numbers that came.
 mod checks;
 mod comments;
+mod orders;
 mod print;
 mod singles;
+mod strikes;
 
 fn main() {
     checks::cases_a_to_c();
@@ -25,4 +27,12 @@ fn main() {
     comments::whole_line();
     comments::tokens();
     comments::places();
+    strikes::refused();
+    strikes::case_a();
+    strikes::others();
+    strikes::no_proof();
+    strikes::too_few_marks();
+    orders::rounds();
+    orders::little_room();
+    orders::pr_with_more();
 }

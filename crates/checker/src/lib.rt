@@ -100,14 +100,26 @@ pub fn check<'a>(
     highs: &mut [u16],
     count: usize,
     members: &mut [u16],
+    struck: &mut [u8],
     scratch: &mut [u16],
     formula: &'a [u8],
     proof: &'a [u8],
 ) -> Checked
-    ensures { λ r. ⌜ outcomeOf (now (vars .exit)) (now (lows .exit)) (now (highs .exit)) (now (members .exit)) (now (scratch .exit)) r
-        ≡ check (now (vars .entry)) (now (lows .entry)) (now (highs .entry)) count (now (members .entry)) (now (scratch .entry))
-        (now (formula .entry)) (now (proof .entry)) ⌝ }
+    ensures { λ r. ⌜ outcomeOf (now (vars .exit)) (now (lows .exit)) (now (highs .exit)) (now (members .exit)) (now (struck .exit))
+        (now (scratch .exit)) r
+        ≡ check (now (vars .entry)) (now (lows .entry)) (now (highs .entry)) count (now (members .entry)) (now (struck .entry))
+        (now (scratch .entry)) (now (formula .entry)) (now (proof .entry)) ⌝ }
     ensures { λ r. ⌜ (r .number ≡ 0 → Unsatisfiable (now (formula .entry))) ⌝ }
 {
-    session::call::call(vars, lows, highs, count, members, scratch, formula, proof)
+    session::call::call(
+        vars,
+        lows,
+        highs,
+        count,
+        members,
+        scratch,
+        struck,
+        formula,
+        proof,
+    )
 }

@@ -4,10 +4,12 @@ use mathlib.Core.Path.{_≡_, ap}
 use mathlib.Core.Logic.{_≢_, _↔_}
 use Prim.Native.Nat.{ℕ, _≤_}
 use native.Mathlib.Omega.{arith}
+use lib.ListN.{getD}
 use Rattle.table.specs.Columns.{Columns}
 use Rattle.operate.specs.declared.Operation.{Operation}
 use Rattle.single.specs.Single.{operation, Made, unchanged}
 use Rattle.verdict.specs.Check.{Outcome}
+use Rattle.verdict.specs.Marks.{strikingsBefore, markOf}
 use Rattle.demands.specs.Calls.{Says, answered, refused}
 use Rattle.demands.specs.Leaving as leaving
 use Rattle.demands.specs.Leaving.{Lent, checked, Fits, seven, Ends, Leaves, emptied, kept, AtEnd}
@@ -21,7 +23,7 @@ use Rattle.demands.proofs.Places as Places
 pub check-exactly : (i : Lent) (o : Outcome) → (checked i ≡ o) ↔ Ends i o
 check-exactly = Ending.check-exactly
 
--- "Place: [..] 9 to 23 [..] the record's first byte (10 with no record begun: the length; 11: the byte after the end record)", and that of 0: where the number
+-- "Place: [..] 9 to 23 [..] the record's first byte (10 with no record begun: the length; 11: the byte after the end record)", and that of 0 and of 28: where the number
 -- is one of the proof's, the run ends at a record there, all records before it taken.
 pub check-place : (i : Lent) → (1 ≤ checked i .number → 9 ≤ checked i .number) → AtEnd i (checked i)
 check-place = Places.check-place
@@ -30,6 +32,12 @@ check-place = Places.check-place
 -- nodes [..], zeros above. Number 0 leaves the same [..]. Scratch ends as zeros."
 pub check-leaves : (i : Lent) → Leaves i (checked i)
 check-leaves = Lists.check-leaves
+
+-- "Each member gains a mark in the list, 1 once struck, else 0, which stays, after a refused proof too": the mark of member k is 1 exactly where a striking
+-- before the place where the run ends has the number k. (02, 3/14)
+pub marks-left : (i : Lent) → Fits i → (checked i .number ≢ 0 → 9 ≤ checked i .number) → (k : ℕ)
+    → getD (checked i .struck) k 0 ≡ markOf (strikingsBefore (i .proof) (checked i .place)) k
+marks-left i fits late = Lists.check-kept i fits late .marks
 
 -- "7: a lent part of wrong size": given exactly where one is, and nothing is changed.
 pub seven-exactly : (i : Lent) → (checked i .number ≡ 7) ↔ (Fits i → ⊥)
@@ -43,14 +51,14 @@ seven-exactly i = ((λ z fits. not-seven (check-leaves i) fits z), (λ other. ap
 pub seven-changes-nothing : (i : Lent) → (Fits i → ⊥) → checked i ≡ seven i
 seven-changes-nothing = Ending.checked-seven
 
--- "The whole check [..] never gives 26 or 27", nor the program's 24 and 25.
-pub check-number : (i : Lent) → checked i .number ≤ 23
+-- "The whole check [..] never gives 26 or 27", nor the program's 24 and 25: 23 at most, or 28. (02, 3/14)
+pub check-number : (i : Lent) → checked i .number ≢ 28 → checked i .number ≤ 23
 check-number i = go (checked i) (check-leaves i)
   where
-    go : (o : Outcome) → Leaves i o → o .number ≤ 23
-    go o (leaving.unchanged other is) = let z : o .number ≡ 7 = ap (λ (x : Outcome). x .number) is in omega arith
-    go o (emptied _ E) = omega (arith, E .number .1)
-    go o (kept _ K) = K .number .0
+    go : (o : Outcome) → Leaves i o → o .number ≢ 28 → o .number ≤ 23
+    go o (leaving.unchanged other is) _ = let z : o .number ≡ 7 = ap (λ (x : Outcome). x .number) is in omega arith
+    go o (emptied _ E) _ = omega (arith, E .number .1)
+    go o (kept _ K) other = K .number .0 other
 
 -- "A refused single call changes nothing"; "with a refusal the node is 0".
 pub refused-changes-nothing : (op : Operation) (c : Columns) (count f g : ℕ) → operation op (c .vars) (c .lows) (c .highs) count f g .number ≢ 0

@@ -19,17 +19,17 @@ use Rattle.operate.specs.declared.Operation.{Operation}
 use Rattle.operate.specs.declared.Operation.the-variants.{Negation, Cofactor}
 use Rattle.operate.specs.Operate.{result}
 use Rattle.single.specs.Single.{operation}
-use Rattle.verdict.specs.Check.{State, next, judged, step, check}
+use Rattle.verdict.specs.Check.{State, next, judged, liveMembers, step, check}
 use Rattle.verdict.specs.Run.{Meant, Taken, lineOf, peakWith, Reached, Refutation}
 use Rattle.verdict.specs.Satisfies.{clausesOf}
 use Rattle.verdict.specs.MetFirst.{no-conflict, metBy, sayMet}
-use Rattle.verdict.specs.Cases.{Gives, GivesAll, checked as row, prints, bytes, A-formula, A-proof, caseTable, numberTable}
+use Rattle.verdict.specs.Cases.{Gives, GivesAll, checked as row, prints, bytes, A-formula, A-proof, caseTable, numberTable, strikeTable}
 use Rattle.verdict.proofs.Cases as Tables
 use Rattle.verdict.proofs.Steps as Steps
 use Rattle.verdict.proofs.MetFirst as MetFirst
 use Rattle.demands.specs.Calls.{nodesIn}
-use Rattle.demands.specs.Words.{Conflict}
-use Rattle.demands.specs.Leaving.{Lent, checked, Fits, places, ZeroLine, AtLine}
+use Rattle.demands.specs.Words.{Conflict, Among, AmongLive}
+use Rattle.demands.specs.Leaving.{Lent, checked, Fits, places, ZeroLine, AtStriking, AtLine}
 use Rattle.demands.specs.Full.{Wants, AtClause, AtRecord}
 use Rattle.demands.proofs.Words as Words
 use Rattle.demands.proofs.Words.{GoesOn}
@@ -37,6 +37,7 @@ use Rattle.demands.proofs.Ending as Ending
 use Rattle.demands.proofs.NoRoom as NoRoom
 use Rattle.demands.proofs.ZeroLines as ZeroLines
 use Rattle.demands.proofs.NotShown as NotShown
+use Rattle.demands.proofs.Strikings as Strikings
 use Rattle.demands.proofs.Rows as Rows
 use Rattle.demands.proofs.Rows.{nodeRecords, rupLines}
 
@@ -56,7 +57,7 @@ pub zero-line-exactly : (s : ℕ) (text proof : List ℕ) {n : ℕ} {st : State}
     → (st .refuted ≡ true) ↔ ZeroLine (length (clausesOf (formula text))) st
 zero-line-exactly = ZeroLines.zero-line-exactly
 
--- A record leads to a next state exactly where it passes what 01 asks of its kind: `NodeTaken`, `WitnessTaken`, `LineTaken`.
+-- A record leads to a next state exactly where it passes what 01 and 02 ask of its kind: `NodeTaken`, `WitnessTaken`, `LineTaken`, `StrikeTaken`.
 pub step-exactly : (n s : ℕ) (st : State) (more : Bool) (r : Record) (st′ : State) → (step n s st more r ≡ next st′) ↔ Taken n s st r st′
 step-exactly = Steps.step-exactly
 
@@ -67,6 +68,10 @@ met-first = MetFirst.met-first
 -- "19: not shown: no conflict": of the call, the line at the place given; its propagation ends without conflict before a diagram finds no room.
 pub nineteen-only : (i : Lent) → checked i .number ≡ 19 → AtLine i (checked i) no-conflict
 nineteen-only = NotShown.nineteen-only
+
+-- "It refuses with 28 a member that does not exist or is struck already, after 10 and then 16 for a waiting witness": at the record. (02, 3/14)
+pub twenty-eight-exactly : (i : Lent) → Fits i → (at : ℕ) → ((checked i .number ≡ 28) × (checked i .place ≡ at)) ↔ AtStriking (places i) (i .text) (i .proof) at
+twenty-eight-exactly = Strikings.twenty-eight-exactly
 
 -- "8 and 23 are given only where a node not in the table is to be placed and the count equals the size."
 pub eight-only : (i : Lent) → checked i .number ≡ 8 → AtClause (places i) (i .text) (checked i .place)
@@ -80,6 +85,10 @@ pub operation-full : (op : Operation) (c : Columns) (count f g : ℕ) → operat
 operation-full = NoRoom.operation-full
 
 -- ---- the rules' words
+
+-- "Making, propagation and PR pass over struck members": a diagram is among those that a line looks at exactly where a member that is not struck has it.
+pub live-exactly : (st : State) (D : Diagram) → Among (liveMembers st) D ↔ AmongLive st D
+live-exactly = Strikings.live-exactly
 
 -- "the nearest one that satisfies g": there is one where g is satisfied at all, and only one.
 pub nearest-is : (n : ℕ) (g : Assignment → Bool) (a : Assignment) → Satisfied n g → Nearest n g a (nearest n g a)
@@ -109,9 +118,13 @@ cases = Tables.cases
 pub numbers : GivesAll numberTable
 numbers = Tables.numbers
 
+-- 02's strikings: 28, its order with 10 and 16, the marks that are left.
+pub strikings : GivesAll strikeTable
+strikings = Tables.strikings
+
 -- "7: table of 1 place"; "21: node record 4,097 of a line"; "22: line 1,025"; "26: node 2 = 1, 0, 0"; "27: f = 1, g = 0". 24 and 25 are the program's
 -- (report/proofs/Saying: `long-formula`, `long-proof`, `no-formula`, `no-proof`).
-pub seven : check (0 ∷ []) (0 ∷ []) (0 ∷ []) 1 (replicate 2048 0) (replicate 4096 0) (bytes A-formula) A-proof .number ≡ 7
+pub seven : check (0 ∷ []) (0 ∷ []) (0 ∷ []) 1 (replicate 2048 0) (replicate 2048 0) (replicate 4096 0) (bytes A-formula) A-proof .number ≡ 7
 seven = Tables.seven
 
 pub twenty-one : Gives (row 4096 "p cnf 1 0\n" (nodeRecords 4097) (prints 21 24576 0 0 3))

@@ -4,7 +4,6 @@ use mathlib.Core.Logic.{_≢_, _↔_}
 use mathlib.Core.Bool.{true, false, cond}
 use mathlib.Core.List.{[]}
 use Prim.Native.Nat.{ℕ, _+_, _≤_, _<_}
-use native.Mathlib.Omega.{arith}
 use lib.ListN.{length, getD}
 use Rattle.meaning.specs.Diagram.{Assignment, holds, value}
 use Rattle.meaning.specs.Operations.{clauseValue, nearest}
@@ -22,7 +21,7 @@ use Rattle.verdict.specs.Satisfies.{Unsatisfiable}
 use Rattle.verdict.proofs.Refuted as Refuted
 use Rattle.verdict.proofs.Values as Values
 use Rattle.demands.specs.Calls.{nodesIn, inGoodOrder, valueAt, Answers, Says, answered, refused}
-use Rattle.demands.specs.Leaving.{Lent, checked, Fits, places, clausesRead, Member, Kept, Leaves, unchanged, emptied, kept}
+use Rattle.demands.specs.Leaving.{Lent, checked, Fits, places, clausesRead, Member}
 use Rattle.demands.proofs.Singles as Singles
 use Rattle.demands.proofs.Words as Words
 use Rattle.demands.proofs.Lists as Lists
@@ -80,31 +79,20 @@ evaluation-says = Singles.evaluation-says
 
 -- ---- the check
 
--- where the formula was read and the proof judged: number 0, or 9 and more
-judged-kept : (i : Lent) → Fits i → (checked i .number ≢ 0 → 9 ≤ checked i .number) → Kept i (checked i)
-judged-kept i fits late = go (Lists.check-leaves i)
-  where
-    go : Leaves i (checked i) → Kept i (checked i)
-    go (unchanged other is) = absurd (other fits)
-    go (emptied _ E) =
-        let most : checked i .number ≤ 8 = E .number .1 in
-        let nine : 9 ≤ checked i .number = late (λ z. omega (arith, E .number .0)) in absurd (omega arith)
-    go (kept _ K) = K
-
 -- "a clause's [..] node from its making until it is dropped": in every state that the check reaches (`Values.clause-values`, `Values.member-value`), and in
 -- what it leaves: place k of the member list is a node with clause k's value.
 pub clause-left : (i : Lent) → Fits i → (checked i .number ≢ 0 → 9 ≤ checked i .number) → (k : ℕ) → k < length (clausesRead i)
     → Member (checked i) k (clauseValue (getD (clausesRead i) k []))
-clause-left i fits late = judged-kept i fits late .clauses
+clause-left i fits late = Lists.check-kept i fits late .clauses
 
 -- Then the accepted lines in order, each with its root's value as the proof's bytes fix it.
 pub line-left : (i : Lent) → Fits i → (checked i .number ≢ 0 → 9 ≤ checked i .number) → (j : ℕ) → j < checked i .lines
     → Member (checked i) (length (clausesRead i) + j) (getD (lineFunctions (i .proof)) j (λ a. false))
-line-left i fits late = judged-kept i fits late .lines
+line-left i fits late = Lists.check-kept i fits late .lines
 
 -- The table as left is in good order.
 pub left-in-order : (i : Lent) → Fits i → (checked i .number ≢ 0 → 9 ≤ checked i .number) → inGoodOrder (checked i .columns) (checked i .count) ≡ true
-left-in-order i fits late = judged-kept i fits late .good
+left-in-order i fits late = Lists.check-kept i fits late .good
 
 module _ (i : Lent) {n : ℕ} {st : State} {at : ℕ} {m : Meant} (R : Reached (places i) (i .text) (i .proof) n st at m) where
   -- "an entry's node [has its value] from its making until it is dropped, though the proof be refused later": in every state reached later,
@@ -123,4 +111,4 @@ module _ (i : Lent) {n : ℕ} {st : State} {at : ℕ} {m : Meant} (R : Reached (
 
 -- Where 0 is said no assignment satisfies the formula's bytes, whatever the proof's bytes and whatever the lent places held.
 pub check-refuted : (i : Lent) → checked i .number ≡ 0 → Unsatisfiable (i .text)
-check-refuted i = Refuted.check-refuted (i .columns .vars) (i .columns .lows) (i .columns .highs) (i .count) (i .members) (i .scratch) (i .text) (i .proof)
+check-refuted i = Refuted.check-refuted (i .columns .vars) (i .columns .lows) (i .columns .highs) (i .count) (i .members) (i .struck) (i .scratch) (i .text) (i .proof)

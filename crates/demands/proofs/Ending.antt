@@ -18,7 +18,7 @@ module _ (i : Lent) where
   done = outcome (places i) (length (i .members)) (length (i .scratch))
 
   abbrev fits : Bool
-  fits = lentFits (i .columns .vars) (i .columns .lows) (i .columns .highs) (i .members) (i .scratch)
+  fits = lentFits (i .columns .vars) (i .columns .lows) (i .columns .highs) (i .members) (i .struck) (i .scratch)
 
   -- where the sizes fit the call is the verdict's, else 7
   pub checked-fits : Fits i → checked i ≡ done (verdict (places i) (i .text) (i .proof))

@@ -9,6 +9,7 @@ pub mod Rows
 pub mod Places
 pub mod ZeroLines
 pub mod NotShown
+pub mod Strikings
 pub mod Demand1
 pub mod Demand2
 pub mod Demand3

@@ -6,9 +6,11 @@ use mathlib.Core.Bool.{Bool, true, false}
 use mathlib.Core.List.{List, [], _∷_, _++_, map}
 use Prim.Native.Nat.{ℕ, zero, suc, _+_, _-_, _≤_, _<_}
 use native.Mathlib.Omega.{arith}
-use lib.ListN.{length, getD, take, replicate, length-append, length-map, length-replicate, List·getD-append}
+use native.Mathlib.Decide.{decLt}
+use lib.ListN.{length, getD, take, replicate, length-append, length-map, length-replicate, List·getD-append, List·getD-eq-default}
 use lib.Seq.{length-take-le, getD-take}
-use borrow.Author.Tests.{leb-true}
+use lib.Dec.{eqb, leb}
+use borrow.Author.Tests.{eqb-true, leb-true}
 use Rattle.meaning.specs.Diagram.{Assignment, Diagram, value}
 use Rattle.meaning.specs.Operations.{Literal, clauseValue}
 use Rattle.meaning.proofs.Booleans.{and-both}
@@ -19,11 +21,13 @@ use Rattle.table.proofs.IndexOrder.{Sized, sized}
 use Rattle.verdict.specs.Check as verdict
 use Rattle.verdict.specs.Check.{State, isEntry, entryNode, Verdict, Outcome, lentFits, zeros, outcome, refusedFormula, left}
 use Rattle.verdict.specs.Run.{Function, Meant, entryMeant, lineFunctions, clauseFunctions, standsFor, Valued, Reached}
-use Rattle.verdict.proofs.Standing.{Standing, valued-at, entry-valued}
+use Rattle.verdict.specs.Marks.{strikingsBefore, markOf}
+use Rattle.verdict.proofs.Standing.{Standing, valued-length, valued-at, entry-valued}
 use Rattle.verdict.proofs.Ends.{reached-standing, ended}
 use Rattle.verdict.proofs.Numbers.{Closed, formula-refused, proof-ended, proof-tried, ended-closed}
 use Rattle.verdict.proofs.Refuted.{reached-end}
 use Rattle.verdict.proofs.Members.{lines-there, members-left}
+use Rattle.verdict.proofs.Marks.{marks-above, marks-are, marks-stopped}
 use Rattle.verdict.proofs.Onward.{reached-onward}
 use Rattle.verdict.proofs.Peak.{Reported, peak-reported}
 use Rattle.demands.specs.Calls.{nodesIn, valueAt}
@@ -58,12 +62,6 @@ getD-second [] gs j other = let z : 0 + j ≡ j = omega arith in ap (λ (k : ℕ
 getD-second (f ∷ fs) gs j other =
     let z : suc (length fs) + j ≡ suc (length fs + j) = omega arith in ap (λ (k : ℕ). getD (f ∷ (fs ++ gs)) k other) z ∙ getD-second fs gs j other
 
-pub valued-length : (t : List Node) (b : ℕ) (ks : List ℕ) (fs : List Function) → Valued t b ks fs → length ks ≡ length fs
-valued-length t b [] [] W = refl
-valued-length t b [] (f ∷ fs) W = absurd W
-valued-length t b (k ∷ ks) [] W = absurd W
-valued-length t b (k ∷ ks) (f ∷ fs) W = ap suc (valued-length t b ks fs (W .2))
-
 clause-at : (cs : List (List Literal)) (k : ℕ) → k < length cs → (other : Function) → getD (map clauseValue cs) k other ≡ clauseValue (getD cs k [])
 clause-at [] k p other = absurd (omega arith)
 clause-at (c ∷ cs) zero p other = refl
@@ -74,12 +72,18 @@ clause-at (c ∷ cs) (suc k) p other = clause-at cs k (omega arith) other
 pub record Sizes (i : Lent) : Type 0 where
   pub columns : Sized (i .columns .vars) (i .columns .lows) (i .columns .highs)
   pub members : 2048 ≤ length (i .members)
+  pub struck : length (i .struck) ≡ length (i .members)
 
 pub sizes : (i : Lent) → Fits i → Sizes i
 unfolding lentFits
 sizes i e =
     let (size, lists) = and-both (sizeFits (i .columns .vars) (i .columns .lows) (i .columns .highs)) _ e in
-    record { columns = sized (i .columns .vars) (i .columns .lows) (i .columns .highs) size; members = leb-true 2048 (length (i .members)) (and-both _ _ lists .0) }
+    let (members, marks) = and-both (leb 2048 (length (i .members))) _ lists in
+    record {
+      columns = sized (i .columns .vars) (i .columns .lows) (i .columns .highs) size;
+      members = leb-true 2048 (length (i .members)) members;
+      struck = eqb-true (length (i .struck)) (length (i .members)) (and-both (eqb (length (i .struck)) (length (i .members))) _ marks .0);
+    }
 
 -- ---- a refused formula
 
@@ -98,6 +102,7 @@ module _ (i : Lent) (S : Sizes i) where
     lows = two-blanks (λ x. x .low) (places i) (S .columns .least) refl ∙ ap zeros (sym (S .columns .lows));
     highs = two-blanks (λ x. x .high) (places i) (S .columns .least) refl ∙ ap zeros (sym (S .columns .highs));
     members = let z : length (i .members) - 0 ≡ length (i .members) = omega arith in ap zeros z;
+    struck = let z : length (i .members) - 0 ≡ length (i .struck) = omega (arith, S .struck) in ap zeros z;
     scratch = refl;
   }
 
@@ -153,9 +158,17 @@ module _ (i : Lent) (S : Sizes i) {n : ℕ} {st : State} {at : ℕ} {m : Meant} 
       ap (λ (k : ℕ). getD (standsFor (i .text) (i .proof) (st .lines)) (k + j) (λ a. false)) (sym (length-map (clausesRead i) clauseValue))
       ∙ getD-second (clauseFunctions (i .text)) (take (st .lines) (lineFunctions (i .proof))) j (λ a. false) ∙ getD-take (st .lines) (lineFunctions (i .proof)) j (λ a. false) p
 
-  judged-kept : (number ≤ 23) × (number ≢ 0 → 9 ≤ number) → Reported (places i) (S .columns .least) (i .text) (i .proof) (left number place peak st) → Kept i o
+  -- the marks with zeros above
+  marked : (k : ℕ) → getD (st .struck ++ zeros (length (i .members) - length (st .struck))) k 0 ≡ getD (st .struck) k 0
+  marked k = elim (decLt k (length (st .struck))) [
+    | yes p ↦ List·getD-append (st .struck) _ 0 k p
+    | no p ↦ getD-past (st .struck) (length (i .members) - length (st .struck)) k (omega arith) ∙ sym (List·getD-eq-default (st .struck) 0 (omega arith))
+  ]
+
+  judged-kept : (number ≢ 28 → number ≤ 23) × (number ≢ 0 → 9 ≤ number) → ((k : ℕ) → getD (st .struck) k 0 ≡ markOf (strikingsBefore (i .proof) place) k)
+      → Reported (places i) (S .columns .least) (i .text) (i .proof) (left number place peak st) → Kept i o
   unfolding outcome
-  judged-kept named P = record {
+  judged-kept named marks P = record {
     number = named;
     peak = (P .left, P .most);
     filled = P .proof-full;
@@ -163,9 +176,17 @@ module _ (i : Lent) (S : Sizes i) {n : ℕ} {st : State} {at : ℕ} {m : Meant} 
     good = left-good (places i) t (ordered-dropped (st .nodes) (stands .ordered) (st .kept) (stands .least) (stands .kept)) room;
     clauses = λ k p. subst (Member o k) (clause-there k p) (member k (omega (arith, many)));
     lines = λ j p. subst (Member o (length (clausesRead i) + j)) (line-there j p) (member (length (clausesRead i) + j) (omega (arith, many)));
-    above = λ k p. getD-past (st .members) (length (i .members) - length (st .members)) k (omega (arith, many));
-    long = length-append (st .members) (zeros (length (i .members) - length (st .members)))
-        ∙ omega (arith, length-replicate {A = ℕ} (length (i .members) - length (st .members)) 0, stands .many, stands .lines, S .members);
+    marks = λ k. marked k ∙ marks k;
+    above = λ k p. (
+      getD-past (st .members) (length (i .members) - length (st .members)) k (omega (arith, many)),
+      marked k ∙ marks-above (places i) (i .text) (i .proof) R k (omega (arith, many)),
+    );
+    long = (
+      length-append (st .members) (zeros (length (i .members) - length (st .members)))
+          ∙ omega (arith, length-replicate {A = ℕ} (length (i .members) - length (st .members)) 0, stands .many, stands .lines, S .members),
+      length-append (st .struck) (zeros (length (i .members) - length (st .struck)))
+          ∙ omega (arith, length-replicate {A = ℕ} (length (i .members) - length (st .struck)) 0, stands .marks, stands .many, stands .lines, S .members, S .struck),
+    );
     scratch = refl;
   }
 
@@ -178,14 +199,27 @@ check-leaves i = fits? i (Leaves i (checked i)) fit (λ other. unchanged other (
 
     go : Fits i → (S : Sizes i) (v : Verdict) → Reported (places i) (S .columns .least) (i .text) (i .proof) v → Closed (places i) (i .text) (i .proof) v → Leaves i (done i v)
     go e S _ P (formula-refused {number} {place} {peak} named) = emptied e (refused-emptied i S number place peak named P)
-    go e S _ P (proof-ended {n} {number} {offset} {at} {st} named R _) = kept e (judged-kept i S R number (at + offset) (st .peak) named P)
-    go e S _ P (proof-tried {n} {number} {peak} {at} named R _) = kept e (judged-kept i S R number at peak (named .1, λ _. omega (arith, named .0)) P)
+    go e S _ P (proof-ended {n} {number} {offset} {at} {st} named R q) =
+        kept e (judged-kept i S R number (at + offset) (st .peak) named (marks-stopped (places i) (i .text) (i .proof) R number offset q) P)
+    go e S _ P (proof-tried {n} {number} {peak} {at} named R _) =
+        kept e (judged-kept i S R number at peak ((λ _. named .1), λ _. omega (arith, named .0)) (marks-are (places i) (i .text) (i .proof) R) P)
 
     fit : Fits i → Leaves i (checked i)
     fit e =
         let S : Sizes i = sizes i e in
         subst (Leaves i) (sym (checked-fits i e))
         (go e S v (peak-reported (places i) (S .columns .least) (i .text) (i .proof)) (ended-closed (places i) (i .text) (i .proof) v (ended (places i) (i .text) (i .proof))))
+
+-- Where the formula was read and the proof judged: number 0, or 9 and more.
+pub check-kept : (i : Lent) → Fits i → (checked i .number ≢ 0 → 9 ≤ checked i .number) → Kept i (checked i)
+check-kept i fits late = go (check-leaves i)
+  where
+    go : Leaves i (checked i) → Kept i (checked i)
+    go (unchanged other is) = absurd (other fits)
+    go (emptied _ E) =
+        let most : checked i .number ≤ 8 = E .number .1 in
+        let nine : 9 ≤ checked i .number = late (λ z. omega (arith, E .number .0)) in absurd (omega arith)
+    go (kept _ K) = K
 
 -- ---- entries
 

@@ -3,7 +3,7 @@
 use mathlib.Core.Path.{_≡_, refl, sym, _∙_, subst}
 use mathlib.Core.Logic.{_≢_}
 use mathlib.Core.Bool.{Bool, true, false, not, _&&_, _||_, cond}
-use mathlib.Core.List.{List, [], _∷_, _++_, map}
+use mathlib.Core.List.{List, [], _∷_, _++_}
 use mathlib.Core.Option.{Option, none, some}
 use Prim.Native.Nat.{ℕ, zero, suc, _+_, _≤_, _<_}
 use native.Mathlib.Omega.{arith}
@@ -33,7 +33,7 @@ use Rattle.records.specs.declared.NodeBody.{NodeBody}
 use Rattle.records.specs.declared.Rule.{Rule}
 use Rattle.records.specs.declared.Rule.the-variants.{Rup, Pr}
 use Rattle.records.specs.declared.Record.{Record}
-use Rattle.records.specs.declared.Record.the-variants.{NodeEntry, Witness, ProofLine, End, CutShort, UnknownKind, NoRecord}
+use Rattle.records.specs.declared.Record.the-variants.{NodeEntry, Witness, ProofLine, Strike, End, CutShort, UnknownKind, NoRecord}
 use Rattle.records.specs.Records.{recordAt}
 use Rattle.operate.specs.declared.Operation.{Operation}
 use Rattle.operate.specs.declared.Operation.the-variants.{Conjunction, Negation, Cofactor, Literals}
@@ -41,7 +41,7 @@ use Rattle.operate.specs.Operate.{result}
 use Rattle.operate.proofs.Results.{result-reduced}
 use Rattle.single.specs.Single as single
 use Rattle.single.specs.Single.{Made, refusal, sharesVariable, operandRefusal, madeBy, operation}
-use Rattle.verdict.specs.Check.{State, next, spent, isEntry, entryNode, isVariable, entered, nodeStep, witnessStep, waiting, accepted, judged, diagramIn, lineStep, endStep, step, Outcome, outcome}
+use Rattle.verdict.specs.Check.{State, next, spent, isEntry, entryNode, isVariable, entered, nodeStep, witnessStep, waiting, accepted, judged, diagramIn, liveMembers, lineStep, isLive, strikeStep, endStep, step, Outcome, outcome}
 use Rattle.verdict.specs.Run.{Meant, lineOf, peakWith, follows, no-header, not-read, no-room, stopped, tried}
 use Rattle.verdict.proofs.Steps.{spent-other, next-not-spent, stop-not-spent, past-early}
 use Rattle.verdict.proofs.Standing.{Standing, entry-valued, over-reduced}
@@ -148,11 +148,11 @@ turns-reduced n P N ms′ (f ∷ fs) = go (same h (leaf true)) (p .conflict) (tu
 line-reduced : (n : ℕ) (st : State) (rule : Rule) (g : ℕ) → AllReduced n (lineOf n st rule g .kept) × AllTurns n (lineOf n st rule g .turns)
 unfolding rup pr unitProp
 line-reduced n st Rup g =
-    let ms : List Diagram = map (diagramIn st) (st .members) in
+    let ms : List Diagram = liveMembers st in
     let G : Diagram = diagramIn st g in
     ((negation-reduced n G, by-reduced n (negation n G) ms), (propagate-reduced n n (byDiagram n (negation n G) ms), tt))
 line-reduced n st Pr g =
-    let ms : List Diagram = map (diagramIn st) (st .members) in
+    let ms : List Diagram = liveMembers st in
     let G : Diagram = diagramIn st g in
     ((negation-reduced n G, by-reduced n (negation n G) ms), turns-reduced n (inWord (st .positive)) (inWord (st .negative)) (byDiagram n (negation n G) ms) ms)
 
@@ -236,12 +236,16 @@ module _ {s n : ℕ} {m : Meant} {st : State} (S : Standing s n m st) (narrow : 
       judged-wants Pr g e₄
 
   record-wants : (more : Bool) (r : Record) → step n s st more r ≡ spent 23 peak → RecordWants n s st r
-  unfolding step witnessStep endStep
+  unfolding step witnessStep strikeStep endStep
   record-wants more (NodeEntry b) e = node-wants b e
   record-wants more (ProofLine rule root) e = line-record rule (root .0) e
   record-wants more (Witness v b) e =
       let (p₁, e₁) = past-early (not (isVariable n v)) 12 0 _ e in
       let (p₂, e₂) = past-early (inWord (st .positive) v || inWord (st .negative) v) 15 0 _ e₁ in
+      next-not-spent _ e₂
+  record-wants more (Strike k) e =
+      let (p₁, e₁) = past-early (waiting st) 16 0 _ e in
+      let (p₂, e₂) = past-early (not (isLive st (k .0))) 28 0 _ e₁ in
       next-not-spent _ e₂
   record-wants more End e =
       let (p₁, e₁) = past-early (waiting st) 16 0 _ e in
@@ -308,7 +312,7 @@ eight-only i z = go (checked i) (check-ends i) z
           wants = place-wants (places i) t (Y .standing .ordered) (Y .standing .room (at-least-two i e)) (meaning.clause n ls) (clause-to n ls (Y .narrow)) t₁ full-there;
         }
     go _ (at-place e (stopped {n} {number} {offset} {at} {st} R q)) z =
-        let (most, other, _) : (number ≤ 22) × (number ≢ 0 → 9 ≤ number) × (number ≢ 19) = subst Numbered q (step-numbered n (places i) st (follows (i .proof) at) (recordAt (i .proof) at)) in
+        let (most, other, _) : (number ≢ 28 → number ≤ 22) × (number ≢ 0 → 9 ≤ number) × (number ≢ 19) = subst Numbered q (step-numbered n (places i) st (follows (i .proof) at) (recordAt (i .proof) at)) in
         let nine : 9 ≤ number = other (λ y. omega arith) in absurd (omega arith)
     go _ (at-place e (tried {n} {number} {peak} {at} {st} R q)) z =
         let (least, most) : (19 ≤ number) × (number ≤ 23) = subst Numbered q (step-numbered n (places i) st (follows (i .proof) at) (recordAt (i .proof) at)) in absurd (omega arith)
@@ -326,7 +330,8 @@ twenty-three-only i z = go (checked i) (check-ends i) z
         let early : (1 ≤ number) × (number ≤ 6) = making-refused (places i) (i .text) M in absurd (omega arith)
     go _ (at-place e (no-room M full-there)) z = absurd (omega arith)
     go _ (at-place e (stopped {n} {number} {offset} {at} {st} {m} R q)) z =
-        let (most, other, _) : (number ≤ 22) × (number ≢ 0 → 9 ≤ number) × (number ≢ 19) = subst Numbered q (step-numbered n (places i) st (follows (i .proof) at) (recordAt (i .proof) at)) in absurd (omega arith)
+        let (most, other, _) : (number ≢ 28 → number ≤ 22) × (number ≢ 0 → 9 ≤ number) × (number ≢ 19) = subst Numbered q (step-numbered n (places i) st (follows (i .proof) at) (recordAt (i .proof) at)) in
+        absurd (omega (arith, most (λ y. omega arith)))
     go _ (at-place e (tried {n} {number} {peak} {at} {st} {m} R q)) z =
         let (narrow, S) = reached-standing (places i) (i .text) (i .proof) R in
         record { n = n; state = st; meant = m; reached = R; wants = record-wants S narrow (at-least-two i e) (follows (i .proof) at) (recordAt (i .proof) at) (rw z at q) }

@@ -14,9 +14,9 @@ use Rattle.records.specs.declared.NodeBody.{NodeBody}
 use Rattle.records.specs.declared.Rule.{Rule}
 use Rattle.records.specs.declared.Rule.the-variants.{Rup, Pr}
 use Rattle.records.specs.declared.Record.{Record}
-use Rattle.records.specs.declared.Record.the-variants.{NodeEntry, Witness, ProofLine, End, CutShort, UnknownKind, NoRecord}
+use Rattle.records.specs.declared.Record.the-variants.{NodeEntry, Witness, ProofLine, Strike, End, CutShort, UnknownKind, NoRecord}
 use Rattle.records.specs.Records.{recordAt}
-use Rattle.verdict.specs.Check.{State, Step, next, stop, spent, isEntry, entryNode, isVariable, entered, nodeStep, witnessStep, waiting, judged, diagramIn, lineStep, endStep, step}
+use Rattle.verdict.specs.Check.{State, Step, next, stop, spent, isEntry, entryNode, isVariable, entered, nodeStep, witnessStep, waiting, judged, diagramIn, lineStep, isLive, strikeStep, endStep, step}
 use Rattle.verdict.specs.Run.{lineOf, peakWith, follows}
 use Rattle.verdict.specs.MetFirst.{Met, all-shown, no-conflict, no-place, metBy, sayMet}
 use Rattle.verdict.proofs.Steps.{spent-other, next-not-spent, stop-not-spent, past-early}
@@ -69,12 +69,16 @@ module _ (n s : ℕ) (st : State) {peak : ℕ} where
 
   record-met : (more : Bool) (r : Record) → step n s st more r ≡ spent 19 peak
       → (rule : Rule) × (root : EntryNo) × (r ≡ ProofLine rule root) × (metBy n s st rule (entryNode st (root .0)) ≡ no-conflict)
-  unfolding step witnessStep endStep
+  unfolding step witnessStep strikeStep endStep
   record-met more (NodeEntry b) e = node-other b e
   record-met more (ProofLine rule root) e = (rule, root, refl, line-met rule (root .0) e)
   record-met more (Witness v b) e =
       let (p₁, e₁) = past-early (not (isVariable n v)) 12 0 _ e in
       let (p₂, e₂) = past-early (inWord (st .positive) v || inWord (st .negative) v) 15 0 _ e₁ in
+      next-not-spent _ e₂
+  record-met more (Strike k) e =
+      let (p₁, e₁) = past-early (waiting st) 16 0 _ e in
+      let (p₂, e₂) = past-early (not (isLive st (k .0))) 28 0 _ e₁ in
       next-not-spent _ e₂
   record-met more End e =
       let (p₁, e₁) = past-early (waiting st) 16 0 _ e in

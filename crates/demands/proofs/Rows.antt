@@ -24,7 +24,7 @@ use Rattle.records.specs.declared.Record.the-variants.{NodeEntry, ProofLine, Cu
 use Rattle.records.specs.Records.{lowByteFirst, recordIn, recordAt, lengthOf}
 use Rattle.operate.specs.declared.Operation.the-variants.{Negation, Cofactor}
 use Rattle.single.specs.Single.{operation}
-use Rattle.verdict.specs.Check.{State, emptied, begun, isEntry, entryNode, nodeStep, waiting, accepted, lineStep, step}
+use Rattle.verdict.specs.Check.{State, emptied, begun, isEntry, entryNode, nodeStep, waiting, accepted, unstruck, lineStep, step}
 use Rattle.verdict.specs.Run.{Meant, afterRecord, withEntry, NodeTaken, lineOf, peakWith, LineTaken, Taken, Making, opened, made, Reached, begins, goes}
 use Rattle.verdict.specs.Cases.{Gives, checked, prints, printed, bytes, over, rupLine}
 use Rattle.verdict.proofs.Exactly.{reached-stops}
@@ -207,6 +207,8 @@ record Accepted (j : ℕ) (st : State) : Type 0 where
   nodes : st .nodes ≡ emptied
   rest : List ℕ
   members : st .members ≡ 0 ∷ rest
+  marks : List ℕ
+  struck : st .struck ≡ 0 ∷ marks
   none-waits : waiting st ≡ false
   lines : st .lines ≡ j
   rounds : st .rounds ≡ 0
@@ -217,36 +219,40 @@ abbrev afterLine : State → State
 afterLine st = accepted st 0 (lineOf 0 st Rup 0) (peakWith 4096 st (lineOf 0 st Rup 0))
 
 -- such a state has the line of above
-same-line : (st : State) (rest : List ℕ) → st .nodes ≡ emptied → st .members ≡ 0 ∷ rest → lineOf 0 st Rup 0 ≡ rup 0 (leaf false ∷ map (diagramAt emptied) rest) (leaf false)
-unfolding diagramAt
-same-line st rest nodes members = rw (nodes, members)
+same-line : (st : State) (rest marks : List ℕ) → st .nodes ≡ emptied → st .members ≡ 0 ∷ rest → st .struck ≡ 0 ∷ marks
+    → lineOf 0 st Rup 0 ≡ rup 0 (leaf false ∷ map (diagramAt emptied) (unstruck marks rest)) (leaf false)
+unfolding diagramAt unstruck
+same-line st rest marks nodes members struck = rw (nodes, members, struck)
 
 accepted-next : (j : ℕ) → j < 1024 → (st : State) → Accepted j st
     → LineTaken 0 4096 st Rup 0 (afterLine st) × Accepted (suc j) (afterLine st)
 unfolding isEntry entryNode waiting
 accepted-next j few st A =
-    let is : lineOf 0 st Rup 0 ≡ line (map (diagramAt emptied) (A .rest)) = same-line st (A .rest) (A .nodes) (A .members) in (
+    let live : List Diagram = map (diagramAt emptied) (unstruck (A .marks) (A .rest)) in
+    let is : lineOf 0 st Rup 0 ≡ line live = same-line st (A .rest) (A .marks) (A .nodes) (A .members) (A .struck) in (
       record {
         entry = lt-ltb 0 (suc (suc (length (st .entries)))) (omega arith);
         few = omega (arith, A .lines);
         not-one = λ e. omega arith;
         witness = A .none-waits;
-        fits = ap (λ (x : Line). lineReach 4096 (st .nodes) x .fits) is ∙ ap (λ (t : List Node). lineReach 4096 t (line (map (diagramAt emptied) (A .rest))) .fits) (A .nodes) ∙ zero-fits (map (diagramAt emptied) (A .rest));
-        shown = ap (λ (x : Line). x .shown) is ∙ zero-shown (map (diagramAt emptied) (A .rest));
+        fits = ap (λ (x : Line). lineReach 4096 (st .nodes) x .fits) is ∙ ap (λ (t : List Node). lineReach 4096 t (line live) .fits) (A .nodes) ∙ zero-fits live;
+        shown = ap (λ (x : Line). x .shown) is ∙ zero-shown live;
         is = refl;
       },
       record {
         nodes = A .nodes;
         rest = A .rest ++ 0 ∷ [];
         members = ap (λ (x : List ℕ). x ++ 0 ∷ []) (A .members);
+        marks = A .marks ++ 0 ∷ [];
+        struck = ap (λ (x : List ℕ). x ++ 0 ∷ []) (A .struck);
         none-waits = refl;
         lines = ap suc (A .lines);
-        rounds = omega (arith, A .rounds, ap (λ (x : Line). x .rounds) is ∙ zero-rounds (map (diagramAt emptied) (A .rest)));
+        rounds = omega (arith, A .rounds, ap (λ (x : Line). x .rounds) is ∙ zero-rounds live);
         peak = omega (
           arith,
           A .peak,
           ap (λ (x : Line). lineReach 4096 (st .nodes) x .peak) is
-              ∙ ap (λ (t : List Node). lineReach 4096 t (line (map (diagramAt emptied) (A .rest))) .peak) (A .nodes) ∙ zero-peak (map (diagramAt emptied) (A .rest)),
+              ∙ ap (λ (t : List Node). lineReach 4096 t (line live) .peak) (A .nodes) ∙ zero-peak live,
         );
       },
     )
@@ -260,7 +266,7 @@ record Before-22 (proof : List ℕ) (j : ℕ) : Type 0 where
 before-22 : (k : ℕ) → k ≤ 1025 → (j : ℕ) → j < k → Before-22 (rupLines k) j
 unfolding waiting
 before-22 k most zero p =
-    record { state = begun emptied (0 ∷ []); meant = _; reached = begins begun-22; accepted = record { nodes = refl; rest = []; members = refl; none-waits = refl; lines = refl; rounds = refl; peak = refl } }
+    record { state = begun emptied (0 ∷ []); meant = _; reached = begins begun-22; accepted = record { nodes = refl; rest = []; members = refl; marks = []; struck = refl; none-waits = refl; lines = refl; rounds = refl; peak = refl } }
 before-22 k most (suc j) p =
     let B : Before-22 (rupLines k) j = before-22 k most j (omega arith) in
     let rest : k ≡ j + suc (k - suc j) = omega arith in

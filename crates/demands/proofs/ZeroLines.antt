@@ -14,14 +14,14 @@ use Rattle.meaning.specs.Operations.{clauseValue}
 use Rattle.meaning.proofs.Booleans.{t≢f, or-cases, or-left, or-right}
 use Rattle.dimacs.specs.Clauses.{formula}
 use Rattle.records.specs.declared.Record.{Record}
-use Rattle.records.specs.declared.Record.the-variants.{NodeEntry, Witness, ProofLine, End, CutShort, UnknownKind, NoRecord}
+use Rattle.records.specs.declared.Record.the-variants.{NodeEntry, Witness, ProofLine, Strike, End, CutShort, UnknownKind, NoRecord}
 use Rattle.records.specs.Records.{recordAt}
 use Rattle.verdict.specs.Check.{State, entryNode}
 use Rattle.verdict.specs.Run.{Meant, Taken, Reached, begins, goes}
 use Rattle.verdict.specs.Satisfies.{clausesOf}
+use Rattle.verdict.proofs.Standing.{valued-length}
 use Rattle.verdict.proofs.Values.{clause-values, clause-members}
 use Rattle.demands.specs.Leaving.{ZeroLine}
-use Rattle.demands.proofs.Lists.{valued-length}
 
 last-at : (xs : List ℕ) (x : ℕ) → getD (xs ++ x ∷ []) (length xs) 0 ≡ x
 last-at [] x = refl
@@ -70,6 +70,8 @@ module _ (s n c : ℕ) (st : State) (F : Flagged c st) where
               or-right (st .refuted) (eqb g 0) (eq-eqb g 0 (sym (last-at ms g) ∙ ap (λ (k : ℕ). getD (ms ++ g ∷ []) k 0) here ∙ Z .is-zero))
         ];
       })
+  step-flagged (Strike k) st′ T =
+      same-flagged c st st′ (ap (λ (x : State). x .members) (T .is)) (ap (λ (x : State). x .lines) (T .is)) (ap (λ (x : State). x .refuted) (T .is)) F
   step-flagged End st′ T = absurd T
   step-flagged CutShort st′ T = absurd T
   step-flagged UnknownKind st′ T = absurd T

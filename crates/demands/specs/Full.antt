@@ -12,7 +12,7 @@ use Rattle.table.specs.Nodes.{Node, diagramAt, full, placed, place}
 use Rattle.table.specs.Making.{all, placedAll}
 use Rattle.dimacs.specs.Clauses.{Reading, clause}
 use Rattle.records.specs.declared.Record.{Record}
-use Rattle.records.specs.declared.Record.the-variants.{NodeEntry, Witness, ProofLine, End, CutShort, UnknownKind, NoRecord}
+use Rattle.records.specs.declared.Record.the-variants.{NodeEntry, Witness, ProofLine, Strike, End, CutShort, UnknownKind, NoRecord}
 use Rattle.records.specs.Records.{recordAt}
 use Rattle.verdict.specs.Check.{State, entryNode, diagramIn}
 use Rattle.verdict.specs.Run.{Function, Meant, lineOf, Making, Reached}
@@ -43,7 +43,7 @@ pub data TurnWants (s : ℕ) (t : List Node) : List (List Diagram) → Type 0 wh
   this : {made : List Diagram} {rest : List (List Diagram)} → ListWants s t made → TurnWants s t (made ∷ rest)
   next : {made : List Diagram} {rest : List (List Diagram)} → TurnWants s t rest → TurnWants s t (made ∷ rest)
 
--- The same of what a line makes: not-g and the members by not-g, or a turn over them.
+-- The same of what a line makes: not-g and the live members by not-g, or a turn over them.
 pub data LineWants (s : ℕ) (t : List Node) (line : Line) : Type 0 where
   in-base : ListWants s t (line .kept) → LineWants s t line
   in-turn : {t₁ : List Node} → placedAll s t (line .kept) ≡ all t₁ → TurnWants s t₁ (line .turns) → LineWants s t line
@@ -54,6 +54,7 @@ RecordWants n s st (NodeEntry b) =
     Wants s (st .nodes) (branch (b .variable) (diagramIn st (entryNode st (b .low .0))) (diagramIn st (entryNode st (b .high .0))))
 RecordWants n s st (ProofLine rule root) = LineWants s (st .nodes) (lineOf n st rule (entryNode st (root .0)))
 RecordWants n s st (Witness v b) = ⊥
+RecordWants n s st (Strike k) = ⊥
 RecordWants n s st End = ⊥
 RecordWants n s st CutShort = ⊥
 RecordWants n s st UnknownKind = ⊥

@@ -12,31 +12,36 @@ use Rattle.meaning.specs.Operations.{Literal, clauseValue}
 use Rattle.table.specs.Columns.{Columns}
 use Rattle.dimacs.specs.Clauses.{formula}
 use Rattle.records.specs.declared.EntryNo.{EntryNo}
+use Rattle.records.specs.declared.MemberNo.{MemberNo}
 use Rattle.records.specs.declared.Rule.{Rule}
-use Rattle.records.specs.declared.Record.the-variants.{ProofLine, NoRecord}
+use Rattle.records.specs.declared.Record.the-variants.{ProofLine, Strike, NoRecord}
 use Rattle.records.specs.Records.{recordAt}
-use Rattle.verdict.specs.Check.{State, Step, next, stop, spent, entryNode, step, Verdict, Outcome, lentFits, zeros, outcome, check}
+use Rattle.verdict.specs.Check.{State, Step, next, stop, spent, entryNode, waiting, step, Verdict, Outcome, lentFits, zeros, outcome, check}
 use Rattle.verdict.specs.Run.{Function, Meant, lineFunctions, follows, Reached, Ended}
+use Rattle.verdict.specs.Marks.{strikingsBefore, markOf}
 use Rattle.verdict.specs.MetFirst.{Met, metBy}
 use Rattle.verdict.specs.Satisfies.{clausesOf, readToEnd}
 use Rattle.demands.specs.Calls.{valueAt, inGoodOrder}
 
--- What is handed to the check: the columns with their count, the member list and the scratch list, the bytes of formula and proof.
+-- What is handed to the check: the columns with their count, the member list and its marks, the scratch list, the bytes of formula and
+-- proof.
 pub record Lent : Type 0 where
   pub columns : Columns
   pub count : ℕ
   pub members : List ℕ
+  pub struck : List ℕ
   pub scratch : List ℕ
   pub text : List ℕ
   pub proof : List ℕ
 
 -- What the call says and leaves: the definition that the contracts of `checker`, `nodes` and `export` cite.
 abbrev pub checked : Lent → Outcome
-checked i = check (i .columns .vars) (i .columns .lows) (i .columns .highs) (i .count) (i .members) (i .scratch) (i .text) (i .proof)
+checked i =
+    check (i .columns .vars) (i .columns .lows) (i .columns .highs) (i .count) (i .members) (i .struck) (i .scratch) (i .text) (i .proof)
 
--- The sizes that are asked of what is lent. (01, What is checked)
+-- The sizes that are asked of what is lent. (01, What is checked; 02, 3/14)
 abbrev pub Fits : Lent → Type 0
-Fits i = lentFits (i .columns .vars) (i .columns .lows) (i .columns .highs) (i .members) (i .scratch) ≡ true
+Fits i = lentFits (i .columns .vars) (i .columns .lows) (i .columns .highs) (i .members) (i .struck) (i .scratch) ≡ true
 
 -- The size of the table.
 abbrev pub places : Lent → ℕ
@@ -59,6 +64,7 @@ seven i = record {
   peak = 0;
   columns = i .columns;
   members = i .members;
+  struck = i .struck;
   scratch = i .scratch;
 }
 
@@ -83,6 +89,7 @@ pub record Emptied (i : Lent) (o : Outcome) : Type 0 where
   pub lows : o .columns .lows ≡ zeros (length (i .columns .lows))
   pub highs : o .columns .highs ≡ zeros (length (i .columns .highs))
   pub members : o .members ≡ zeros (length (i .members))
+  pub struck : o .struck ≡ zeros (length (i .struck))
   pub scratch : o .scratch ≡ zeros (length (i .scratch))
 
 -- Member k is a node of the table as left, and has under every assignment the value of the function.
@@ -91,17 +98,20 @@ Member o k f = (getD (o .members) k 0 < o .count) × ((a : Assignment) → value
 
 -- "A refused proof leaves the clauses and accepted lines with their nodes (those of all their entries), zeros above. Number 0
 -- leaves the same": the member list holds the clauses, in file order, and then the roots of the accepted lines, in theirs, each
--- with its value; the table is in good order. The peak covers the count and is within the table; with 23 it is the size.
+-- with its value, the struck ones too ("nodes stay"); the table is in good order. A mark is "1 once struck, else 0, which stays, after a
+-- refused proof too": 1 exactly for the numbers in the strikings before the place where the run ends (`AtEnd`: all of them taken). The
+-- peak covers the count and is within the table; with 23 it is the size.
 pub record Kept (i : Lent) (o : Outcome) : Type 0 where
-  pub number : (o .number ≤ 23) × (o .number ≢ 0 → 9 ≤ o .number)
+  pub number : (o .number ≢ 28 → o .number ≤ 23) × (o .number ≢ 0 → 9 ≤ o .number)
   pub peak : (o .count ≤ o .peak) × (o .peak ≤ places i)
   pub filled : o .number ≡ 23 → o .peak ≡ places i
   pub read : readToEnd (formula (i .text)) ≡ true
   pub good : inGoodOrder (o .columns) (o .count) ≡ true
   pub clauses : (k : ℕ) → k < length (clausesRead i) → Member o k (clauseValue (getD (clausesRead i) k []))
   pub lines : (j : ℕ) → j < o .lines → Member o (length (clausesRead i) + j) (getD (lineFunctions (i .proof)) j (λ a. false))
-  pub above : (k : ℕ) → length (clausesRead i) + o .lines ≤ k → getD (o .members) k 0 ≡ 0
-  pub long : length (o .members) ≡ length (i .members)
+  pub marks : (k : ℕ) → getD (o .struck) k 0 ≡ markOf (strikingsBefore (i .proof) (o .place)) k
+  pub above : (k : ℕ) → length (clausesRead i) + o .lines ≤ k → (getD (o .members) k 0 ≡ 0) × (getD (o .struck) k 0 ≡ 0)
+  pub long : (length (o .members) ≡ length (i .members)) × (length (o .struck) ≡ length (i .struck))
   pub scratch : o .scratch ≡ zeros (length (i .scratch))
 
 -- What every lent place holds after the call, for every input.
@@ -137,6 +147,24 @@ pub record ZeroLine (c : ℕ) (st : State) : Type 0 where
   pub line : ℕ
   pub accepted : line < st .lines
   pub is-zero : getD (st .members) (c + line) 0 ≡ 0
+
+-- ---- a striking that is refused
+
+-- "a member that does not exist or is struck already" (02, 3/14)
+pub data NotLive (st : State) (k : ℕ) : Type 0 where
+  not-there : length (st .members) ≤ k → NotLive st k
+  struck-already : getD (st .struck) k 0 ≡ 1 → NotLive st k
+
+-- A striking at the place, all records before it taken and no witness waiting, of a member that is not live.
+pub record AtStriking (s : ℕ) (text proof : List ℕ) (at : ℕ) : Type 0 where
+  pub n : ℕ
+  pub state : State
+  pub meant : Meant
+  pub reached : Reached s text proof n state at meant
+  pub member : MemberNo
+  pub here : recordAt proof at ≡ Strike member
+  pub none-waits : waiting state ≡ false
+  pub not-live : NotLive state (member .0)
 
 -- ---- a line that is not shown
 

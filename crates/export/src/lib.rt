@@ -102,16 +102,28 @@ pub extern "C" fn cablesalak_check<'a>(
     highs: &mut [u16],
     count: usize,
     members: &mut [u16],
+    struck: &mut [u8],
     scratch: &mut [u16],
     formula: &'a [u8],
     proof: &'a [u8],
 ) -> Checked
-    ensures { λ r. ⌜ outcomeOf (now (vars .exit)) (now (lows .exit)) (now (highs .exit)) (now (members .exit)) (now (scratch .exit)) r
-        ≡ check (now (vars .entry)) (now (lows .entry)) (now (highs .entry)) count (now (members .entry)) (now (scratch .entry))
-        (now (formula .entry)) (now (proof .entry)) ⌝ }
+    ensures { λ r. ⌜ outcomeOf (now (vars .exit)) (now (lows .exit)) (now (highs .exit)) (now (members .exit)) (now (struck .exit))
+        (now (scratch .exit)) r
+        ≡ check (now (vars .entry)) (now (lows .entry)) (now (highs .entry)) count (now (members .entry)) (now (struck .entry))
+        (now (scratch .entry)) (now (formula .entry)) (now (proof .entry)) ⌝ }
     ensures { λ r. ⌜ (r .number ≡ 0 → Unsatisfiable (now (formula .entry))) ⌝ }
 {
-    checker::check(vars, lows, highs, count, members, scratch, formula, proof)
+    checker::check(
+        vars,
+        lows,
+        highs,
+        count,
+        members,
+        struck,
+        scratch,
+        formula,
+        proof,
+    )
 }
 
 // The program's line on two files, put at the start of `line`, and the status to end with: 0 for refuted alone, 2 where a file was not

@@ -50,11 +50,11 @@ reads-to-end text = (
 )
 
 -- The call says 0 only of a DIMACS text whose formula no assignment satisfies, whatever the proof's bytes and whatever the lent places held.
-pub refuted-dimacs : (vars lows highs : List ℕ) (count : ℕ) (members scratch text proof : List ℕ)
-    → check vars lows highs count members scratch text proof .number ≡ 0
+pub refuted-dimacs : (vars lows highs : List ℕ) (count : ℕ) (members struck scratch text proof : List ℕ)
+    → check vars lows highs count members struck scratch text proof .number ≡ 0
     → (cs : List (List meaning.Literal)) × (n : ℕ) × Dimacs text n cs × ((a : Assignment) → satisfies a cs ≡ false)
-refuted-dimacs vars lows highs count members scratch text proof e =
-    let R = check-refuted vars lows highs count members scratch text proof e in
+refuted-dimacs vars lows highs count members struck scratch text proof e =
+    let R = check-refuted vars lows highs count members struck scratch text proof e in
     let D = formula-exactly text (clausesOf (formula text)) .0 (end-gives (formula text) (R .0)) in
     (clausesOf (formula text), D .0, D .1, R .1)
 

@@ -1,4 +1,4 @@
--- The call of `check_within` by a function that has the three arrays in memory: they are lent for the call, and come back as it leaves them. The member list and the scratch list are passed on, and their last lists are said; formula and proof are copied.
+-- The call of `check_within` by a function that has the three arrays in memory: they are lent for the call, and come back as it leaves them. Member list, scratch list and marks are passed on, and their last lists are said; formula and proof are copied.
 --     before       what `check_within` asks is had, beside what the lender keeps.        after        what it leaves is had again
 -- All that is known of `check_within` is its contract.
 -- Assumes `Given`.
@@ -47,36 +47,36 @@ Loans = Loan × (Loan × Loan)
 
 -- what is bound for the parameters' last values
 abbrev pub Last : Type 0
-Last = List ℕ × (List ℕ × (List ℕ × (Unit {0} × (Unit {0} × (List ℕ × (List ℕ × (Unit {0} × (Unit {0} × Unit {0}))))))))
+Last = List ℕ × (List ℕ × (List ℕ × (Unit {0} × (Unit {0} × (List ℕ × (List ℕ × (List ℕ × (Unit {0} × (Unit {0} × Unit {0})))))))))
 
-module _ {M : Type 1} (𝓤 : URA M) (H : Heap 𝓤) (A : Atoms 𝓤) (W : Given 𝓤 H A) (mem : Memory → SProp 𝓤) (run : Routine → Fun 𝓤) (κM κS κT : Lft) (qM qS qT : Share) (sp : Spot) (cs : Filled) (n count : ℕ)
-    (xM xS xF xP : RefT (List ℕ)) (g-n : n < 2 ^ 64) (g-count : count < 2 ^ 64) where
-  abbrev lfts : Loans → Lfts 6
-  lfts p = (lifetime (p .0), (lifetime (p .1 .0), (lifetime (p .1 .1), (κM, (κS, (κT, tt))))))
+module _ {M : Type 1} (𝓤 : URA M) (H : Heap 𝓤) (A : Atoms 𝓤) (W : Given 𝓤 H A) (mem : Memory → SProp 𝓤) (run : Routine → Fun 𝓤) (κM κS κK κT : Lft) (qM qS qK qT : Share) (sp : Spot) (cs : Filled) (n count : ℕ)
+    (xM xS xK xF xP : RefT (List ℕ)) (g-n : n < 2 ^ 64) (g-count : count < 2 ^ 64) where
+  abbrev lfts : Loans → Lfts 7
+  lfts p = (lifetime (p .0), (lifetime (p .1 .0), (lifetime (p .1 .1), (κM, (κS, (κK, (κT, tt)))))))
 
   abbrev x : (p : Loans) → Args check-fn.signature (lfts p)
-  x p = (lent-as u8 (sp .bV) 0 (p .0) (cs .vs), (lent-as u16 (sp .bL) 0 (p .1 .0) (cs .ls), (lent-as u16 (sp .bH) 0 (p .1 .1) (cs .hs), (n, (count, (xM, (xS, (xF, (xP, tt)))))))))
+  x p = (lent-as u8 (sp .bV) 0 (p .0) (cs .vs), (lent-as u16 (sp .bL) 0 (p .1 .0) (cs .ls), (lent-as u16 (sp .bH) 0 (p .1 .1) (cs .hs), (n, (count, (xM, (xS, (xK, (xF, (xP, tt))))))))))
 
   abbrev at : (p : Loans) → Vals check-fn.signature (lfts p)
-  at p = (sliceVal (sp .bV, 0) 65536 ∷ [], (sliceVal (sp .bL, 0) 65536 ∷ [], (sliceVal (sp .bH, 0) 65536 ∷ [], (vint w64 n ∷ [], (vint w64 count ∷ [], (slice-vals xM, (slice-vals xS, (slice-vals xF, (slice-vals xP, tt)))))))))
+  at p = (sliceVal (sp .bV, 0) 65536 ∷ [], (sliceVal (sp .bL, 0) 65536 ∷ [], (sliceVal (sp .bH, 0) 65536 ∷ [], (vint w64 n ∷ [], (vint w64 count ∷ [], (slice-vals xM, (slice-vals xS, (slice-vals xK, (slice-vals xF, (slice-vals xP, tt))))))))))
 
   abbrev pub to : Loans → Check 𝓤 H A mem run .Ghost
-  to p = ((lfts p, (fullShare, (fullShare, (fullShare, (qM, (qS, (qT, tt)))))), tt, x p, at p), tt)
+  to p = ((lfts p, (fullShare, (fullShare, (fullShare, (qM, (qS, (qK, (qT, tt))))))), tt, x p, at p), tt)
 
   abbrev pub Kept : Loans → Fml
   Kept p = fsep (Lender u8 (sp .bV) 0 (p .0) 65536) (fsep (Lender u16 (sp .bL) 0 (p .1 .0) 65536) (Lender u16 (sp .bH) 0 (p .1 .1) 65536))
 
   abbrev Has : Loans → List (Item 𝓤)
-  Has p = ‵ (flft (lifetime (p .0)) fullShare) ∷ ‵ (flft (lifetime (p .1 .0)) fullShare) ∷ ‵ (flft (lifetime (p .1 .1)) fullShare) ∷ ‵ (flft (κM) qM) ∷ ‵ (flft (κS) qS) ∷ ‵ (flft (κT) qT)
-      ∷ ‵ (MutSlice (named 0) (lifetime (p .0)) u8 .own (x p .0) (at p .0)) ∷ ‵ (MutSlice (named 1) (lifetime (p .1 .0)) u16 .own (x p .1 .0) (at p .1 .0)) ∷ ‵ (MutSlice (named 2) (lifetime (p .1 .1)) u16 .own (x p .1 .1 .0) (at p .1 .1 .0)) ∷ ‵ (MutSlice (named 3) (κM) u16 .own (x p .1 .1 .1 .1 .1 .0) (at p .1 .1 .1 .1 .1 .0)) ∷ ‵ (MutSlice (named 4) (κS) u16 .own (x p .1 .1 .1 .1 .1 .1 .0) (at p .1 .1 .1 .1 .1 .1 .0)) ∷ ‵ (ShrSlice (named 5) (κT) u8 .own (x p .1 .1 .1 .1 .1 .1 .1 .0) (at p .1 .1 .1 .1 .1 .1 .1 .0)) ∷ ‵ (ShrSlice (named 5) (κT) u8 .own (x p .1 .1 .1 .1 .1 .1 .1 .1 .0) (at p .1 .1 .1 .1 .1 .1 .1 .1 .0)) ∷ []
+  Has p = ‵ (flft (lifetime (p .0)) fullShare) ∷ ‵ (flft (lifetime (p .1 .0)) fullShare) ∷ ‵ (flft (lifetime (p .1 .1)) fullShare) ∷ ‵ (flft (κM) qM) ∷ ‵ (flft (κS) qS) ∷ ‵ (flft (κK) qK) ∷ ‵ (flft (κT) qT)
+      ∷ ‵ (MutSlice (named 0) (lifetime (p .0)) u8 .own (x p .0) (at p .0)) ∷ ‵ (MutSlice (named 1) (lifetime (p .1 .0)) u16 .own (x p .1 .0) (at p .1 .0)) ∷ ‵ (MutSlice (named 2) (lifetime (p .1 .1)) u16 .own (x p .1 .1 .0) (at p .1 .1 .0)) ∷ ‵ (MutSlice (named 3) (κM) u16 .own (x p .1 .1 .1 .1 .1 .0) (at p .1 .1 .1 .1 .1 .0)) ∷ ‵ (MutSlice (named 4) (κS) u16 .own (x p .1 .1 .1 .1 .1 .1 .0) (at p .1 .1 .1 .1 .1 .1 .0)) ∷ ‵ (MutSlice (named 5) (κK) u8 .own (x p .1 .1 .1 .1 .1 .1 .1 .0) (at p .1 .1 .1 .1 .1 .1 .1 .0)) ∷ ‵ (ShrSlice (named 6) (κT) u8 .own (x p .1 .1 .1 .1 .1 .1 .1 .1 .0) (at p .1 .1 .1 .1 .1 .1 .1 .1 .0)) ∷ ‵ (ShrSlice (named 6) (κT) u8 .own (x p .1 .1 .1 .1 .1 .1 .1 .1 .1 .0) (at p .1 .1 .1 .1 .1 .1 .1 .1 .1 .0)) ∷ []
 
   asks : (p : Loans) → ent 𝓤 (⋆ 𝓤 H A (Has p)) (Check 𝓤 H A mem run .pre (to p))
   asks p =
       qed W (Has p) ∵ says ! (cs .eV, cs .eL, cs .eH) $
-      nothing ! $ move ! (6 ∷ 0 ∷ []) $ join ! $ move ! (5 ∷ 0 ∷ []) $ join ! $ move ! (4 ∷ 0 ∷ []) $ join ! $ move ! (3 ∷ 0 ∷ []) $ join ! $ move ! (2 ∷ 0 ∷ []) $ join ! $ move ! (1 ∷ 0 ∷ []) $ join ! $ frame ! $ nothing ! $ move ! (7 ∷ 0 ∷ []) $ fjoin ! $ move ! (6 ∷ 0 ∷ []) $ fjoin ! $ move ! (5 ∷ 0 ∷ []) $ fjoin ! $ move ! (4 ∷ 0 ∷ []) $ fjoin ! $ owned ! usize (Is usize) (uint-makes 𝓤 H A W w64) count (vint w64 count ∷ []) (refl, g-count) $ fjoin ! $ owned ! usize (Is usize) (uint-makes 𝓤 H A W w64) n (vint w64 n ∷ []) (refl, g-n) $ fjoin ! $ move ! (3 ∷ 0 ∷ []) $ fjoin ! $ move ! (2 ∷ 0 ∷ []) $ fjoin ! $ move ! (1 ∷ 0 ∷ []) $ fjoin ! $ done !
+      nothing ! $ move ! (7 ∷ 0 ∷ []) $ join ! $ move ! (6 ∷ 0 ∷ []) $ join ! $ move ! (5 ∷ 0 ∷ []) $ join ! $ move ! (4 ∷ 0 ∷ []) $ join ! $ move ! (3 ∷ 0 ∷ []) $ join ! $ move ! (2 ∷ 0 ∷ []) $ join ! $ move ! (1 ∷ 0 ∷ []) $ join ! $ frame ! $ nothing ! $ move ! (8 ∷ 0 ∷ []) $ fjoin ! $ move ! (7 ∷ 0 ∷ []) $ fjoin ! $ move ! (6 ∷ 0 ∷ []) $ fjoin ! $ move ! (5 ∷ 0 ∷ []) $ fjoin ! $ move ! (4 ∷ 0 ∷ []) $ fjoin ! $ owned ! usize (Is usize) (uint-makes 𝓤 H A W w64) count (vint w64 count ∷ []) (refl, g-count) $ fjoin ! $ owned ! usize (Is usize) (uint-makes 𝓤 H A W w64) n (vint w64 n ∷ []) (refl, g-n) $ fjoin ! $ move ! (3 ∷ 0 ∷ []) $ fjoin ! $ move ! (2 ∷ 0 ∷ []) $ fjoin ! $ move ! (1 ∷ 0 ∷ []) $ fjoin ! $ done !
 
   abbrev pub Gives : List (Item 𝓤)
-  Gives = ‵ (Columns sp (cs .vs) (cs .ls) (cs .hs)) ∷ ‵ (flft (κM) qM) ∷ ‵ (flft (κS) qS) ∷ ‵ (flft (κT) qT) ∷ ‵ (MutSlice (named 3) (κM) u16 .own xM (slice-vals xM)) ∷ ‵ (MutSlice (named 4) (κS) u16 .own xS (slice-vals xS)) ∷ ‵ (ShrSlice (named 5) (κT) u8 .own xF (slice-vals xF)) ∷ ‵ (ShrSlice (named 5) (κT) u8 .own xP (slice-vals xP)) ∷ []
+  Gives = ‵ (Columns sp (cs .vs) (cs .ls) (cs .hs)) ∷ ‵ (flft (κM) qM) ∷ ‵ (flft (κS) qS) ∷ ‵ (flft (κK) qK) ∷ ‵ (flft (κT) qT) ∷ ‵ (MutSlice (named 3) (κM) u16 .own xM (slice-vals xM)) ∷ ‵ (MutSlice (named 4) (κS) u16 .own xS (slice-vals xS)) ∷ ‵ (MutSlice (named 5) (κK) u8 .own xK (slice-vals xK)) ∷ ‵ (ShrSlice (named 6) (κT) u8 .own xF (slice-vals xF)) ∷ ‵ (ShrSlice (named 6) (κT) u8 .own xP (slice-vals xP)) ∷ []
 
   pub before : ent 𝓤 (⋆ 𝓤 H A Gives) (H .⇛ (ex 𝓤 (λ (p : Loans). sep 𝓤 (Check 𝓤 H A mem run .pre (to p)) (sem 𝓤 H A (Kept p)))))
   before =
@@ -88,26 +88,26 @@ module _ {M : Type 1} (𝓤 : URA M) (H : Heap 𝓤) (A : Atoms 𝓤) (W : Given
       move ! (6 ∷ []) $
       use1 W (later (some (λ (p : Loan). ‵ (flft (lifetime p) fullShare) ⊛ ‵ (MutSlice (named 2) (lifetime p) u16 .own (lent-as u16 (sp .bH) 0 p (cs .hs)) (sliceVal (sp .bH, 0) 65536 ∷ [])) ⊛ ‵ (Lender u16 (sp .bH) 0 p 65536)))) (lends u16 (sp .bH) 0 𝓤 H A W (named 2) (cs .hs) 65536 (cs .eH) room16) $ await ! tt $ pick ! (λ pH. split3 ! $
       at-once ! $ show ! (λ (p : Loans). sep 𝓤 (Check 𝓤 H A mem run .pre (to p)) (sem 𝓤 H A (Kept p))) (pV, (pL, pH)) $
-      move ! (6 ∷ 3 ∷ 0 ∷ 9 ∷ 10 ∷ 11 ∷ 7 ∷ 4 ∷ 1 ∷ 12 ∷ 13 ∷ 14 ∷ 15 ∷ []) $
-      group ! 13 $ use1 W (raw (Check 𝓤 H A mem run .pre (to (pV, (pL, pH))))) (asks (pV, (pL, pH))) $ frame ! $
+      move ! (6 ∷ 3 ∷ 0 ∷ 9 ∷ 10 ∷ 11 ∷ 12 ∷ 7 ∷ 4 ∷ 1 ∷ 13 ∷ 14 ∷ 15 ∷ 16 ∷ 17 ∷ []) $
+      group ! 15 $ use1 W (raw (Check 𝓤 H A mem run .pre (to (pV, (pL, pH))))) (asks (pV, (pL, pH))) $ frame ! $
       move ! (1 ∷ 0 ∷ []) $
       fjoin ! $
       move ! (1 ∷ 0 ∷ []) $
       fjoin ! $ done !)))
 
   abbrev pub Says : Checked → Last → Type 0
-  Says r zs = outcomeOf (take n (zs .0)) (take n (zs .1 .0)) (take n (zs .1 .1 .0)) (zs .1 .1 .1 .1 .1 .0) (zs .1 .1 .1 .1 .1 .1 .0) r ≡ checkWithin n (cs .vs) (cs .ls) (cs .hs) count (xM .now) (xS .now) (xF .now) (xP .now)
+  Says r zs = outcomeOf (take n (zs .0)) (take n (zs .1 .0)) (take n (zs .1 .1 .0)) (zs .1 .1 .1 .1 .1 .0) (zs .1 .1 .1 .1 .1 .1 .1 .0) (zs .1 .1 .1 .1 .1 .1 .0) r ≡ checkWithin n (cs .vs) (cs .ls) (cs .hs) count (xM .now) (xK .now) (xS .now) (xF .now) (xP .now)
 
   abbrev pub Told : Checked × Last → Type 0
-  Told o = Says (o .0) (o .1) × (length (o .1 .0) ≡ 65536) × (length (o .1 .1 .0) ≡ 65536) × (length (o .1 .1 .1 .0) ≡ 65536) × (length (o .1 .1 .1 .1 .1 .1 .0) ≡ length (xM .now)) × (length (o .1 .1 .1 .1 .1 .1 .1 .0) ≡ length (xS .now))
+  Told o = Says (o .0) (o .1) × (length (o .1 .0) ≡ 65536) × (length (o .1 .1 .0) ≡ 65536) × (length (o .1 .1 .1 .0) ≡ 65536) × (length (o .1 .1 .1 .1 .1 .1 .0) ≡ length (xM .now)) × (length (o .1 .1 .1 .1 .1 .1 .1 .0) ≡ length (xS .now)) × (length (o .1 .1 .1 .1 .1 .1 .1 .1 .0) ≡ length (xK .now))
 
   abbrev pub Had : Checked × Last → Val → Fml
-  Had o w = fsep (Columns sp (o .1 .0) (o .1 .1 .0) (o .1 .1 .1 .0)) (fsep (flft κM qM) (fsep (flft κS qS) (fsep (flft κT qT) (fsep (finally u16 (xM .name) (o .1 .1 .1 .1 .1 .1 .0)) (fsep (finally u16 (xS .name) (o .1 .1 .1 .1 .1 .1 .1 .0)) (K.the-row .own (o .0) (w ∷ [])))))))
+  Had o w = fsep (Columns sp (o .1 .0) (o .1 .1 .0) (o .1 .1 .1 .0)) (fsep (flft κM qM) (fsep (flft κS qS) (fsep (flft κK qK) (fsep (flft κT qT) (fsep (finally u16 (xM .name) (o .1 .1 .1 .1 .1 .1 .0)) (fsep (finally u16 (xS .name) (o .1 .1 .1 .1 .1 .1 .1 .0)) (fsep (finally u8 (xK .name) (o .1 .1 .1 .1 .1 .1 .1 .1 .0)) (K.the-row .own (o .0) (w ∷ [])))))))))
 
   pub after : (p : Loans) (w : Val) → ent 𝓤 (sep 𝓤 (Check 𝓤 H A mem run .post (to p) w) (sem 𝓤 H A (Kept p))) (H .⇛ (ex 𝓤 (λ (o : Checked × Last). guard 𝓤 (Told o) (sem 𝓤 H A (Had o w)))))
   after p w =
       qed W (raw (Check 𝓤 H A mem run .post (to p) w) ∷ ‵ (Kept p) ∷ []) ∵ updating ! $
-      use1 W (later (some (λ (r : Checked). ((‵ (flft (lifetime (p .0)) fullShare) ⊛ (‵ (flft (lifetime (p .1 .0)) fullShare) ⊛ (‵ (flft (lifetime (p .1 .1)) fullShare) ⊛ (‵ (flft (κM) qM) ⊛ (‵ (flft (κS) qS) ⊛ (‵ (flft (κT) qT) ⊛ ‵ ftrue)))))) ⊛ ‵ (K.the-row .own r (w ∷ [])))
+      use1 W (later (some (λ (r : Checked). ((‵ (flft (lifetime (p .0)) fullShare) ⊛ (‵ (flft (lifetime (p .1 .0)) fullShare) ⊛ (‵ (flft (lifetime (p .1 .1)) fullShare) ⊛ (‵ (flft (κM) qM) ⊛ (‵ (flft (κS) qS) ⊛ (‵ (flft (κK) qK) ⊛ (‵ (flft (κT) qT) ⊛ ‵ ftrue))))))) ⊛ ‵ (K.the-row .own r (w ∷ [])))
       ⊛ raw (ensured 𝓤 H A check-fn.ended (check-fn.clauses 𝓤 H A mem run) (lfts p) (x p) tt r)))) (id⊢ 𝓤 _) $ await ! tt $ pick ! (λ r.
       split ! $
       move ! (1 ∷ []) $
@@ -132,17 +132,22 @@ module _ {M : Type 1} (𝓤 : URA M) (H : Heap 𝓤) (A : Atoms 𝓤) (W : Given
       move ! (2 ∷ []) $
       fsplit ! $
       fsplit ! $
-      move ! (12 ∷ []) $
+      move ! (2 ∷ []) $
+      fsplit ! $
+      fsplit ! $
+      move ! (14 ∷ []) $
       feqL ! (λ lV.
-      move ! (10 ∷ []) $
+      move ! (12 ∷ []) $
       feqL ! (λ lL.
-      move ! (8 ∷ []) $
+      move ! (10 ∷ []) $
       feqL ! (λ lH.
-      move ! (4 ∷ []) $
+      move ! (6 ∷ []) $
       feqL ! (λ lM.
-      move ! (1 ∷ []) $
+      move ! (4 ∷ []) $
       feqL ! (λ lS.
-      move ! (8 ∷ []) $
+      move ! (1 ∷ []) $
+      feqL ! (λ lK.
+      move ! (9 ∷ []) $
       split ! $
       split ! $
       move ! (1 ∷ []) $
@@ -156,16 +161,22 @@ module _ {M : Type 1} (𝓤 : URA M) (H : Heap 𝓤) (A : Atoms 𝓤) (W : Given
       move ! (1 ∷ []) $
       split ! $
       move ! (1 ∷ []) $
-      move ! (16 ∷ []) $
+      split ! $
+      move ! (1 ∷ []) $
+      move ! (18 ∷ []) $
       fsplit3 ! $
-      move ! (9 ∷ 0 ∷ 18 ∷ []) $
+      move ! (10 ∷ 0 ∷ 20 ∷ []) $
       use3 W (later (‵ (row u8 fullShare (zs .0) (sp .bV) 0))) (back u8 (sp .bV) 0 𝓤 H A W (p .0) 65536 (zs .0)) $ await ! tt $
-      move ! (8 ∷ 1 ∷ 16 ∷ []) $
+      move ! (9 ∷ 1 ∷ 18 ∷ []) $
       use3 W (later (‵ (row u16 fullShare (zs .1 .0) (sp .bL) 0))) (back u16 (sp .bL) 0 𝓤 H A W (p .1 .0) 65536 (zs .1 .0)) $ await ! tt $
-      move ! (7 ∷ 2 ∷ 14 ∷ []) $
+      move ! (8 ∷ 2 ∷ 16 ∷ []) $
       use3 W (later (‵ (row u16 fullShare (zs .1 .1 .0) (sp .bH) 0))) (back u16 (sp .bH) 0 𝓤 H A W (p .1 .1) 65536 (zs .1 .1 .0)) $ await ! tt $
-      at-once ! $ show ! (λ (o : Checked × Last). guard 𝓤 (Told o) (sem 𝓤 H A (Had o w))) (r, zs) $ check ! (told, lV ∙ cs .eV, lL ∙ cs .eL, lH ∙ cs .eH, lM, lS) $
-      keep ! (7 ∷ 8 ∷ 10 ∷ 4 ∷ 5 ∷ 6 ∷ 1 ∷ 0 ∷ 2 ∷ []) $
+      at-once ! $ show ! (λ (o : Checked × Last). guard 𝓤 (Told o) (sem 𝓤 H A (Had o w))) (r, zs) $ check ! (told, lV ∙ cs .eV, lL ∙ cs .eL, lH ∙ cs .eH, lM, lS, lK) $
+      keep ! (8 ∷ 9 ∷ 11 ∷ 12 ∷ 4 ∷ 5 ∷ 6 ∷ 7 ∷ 1 ∷ 0 ∷ 2 ∷ []) $
+      move ! (1 ∷ 0 ∷ []) $
+      fjoin ! $
+      move ! (1 ∷ 0 ∷ []) $
+      fjoin ! $
       move ! (1 ∷ 0 ∷ []) $
       fjoin ! $
       move ! (1 ∷ 0 ∷ []) $
@@ -180,4 +191,4 @@ module _ {M : Type 1} (𝓤 : URA M) (H : Heap 𝓤) (A : Atoms 𝓤) (W : Given
       fjoin ! $
       move ! (2 ∷ 0 ∷ []) $
       fjoin ! $
-      fjoin ! $ done !))))))))
+      fjoin ! $ done !)))))))))

@@ -29,16 +29,16 @@ first-written n xs a h e l = take-at a (drop n xs) n (l ∙ sym (first-length n 
 pub first-all : (n : ℕ) (xs : List ℕ) → 65536 < n → length xs ≡ 65536 → take n xs ≡ xs
 first-all n xs h e = take-all n xs (omega (arith, h, e))
 
-pub check-past : (n : ℕ) (vs ls hs : List ℕ) (count : ℕ) (ms ss formula proof : List ℕ) → 65536 < n → length vs ≡ 65536 → length ls ≡ 65536 → length hs ≡ 65536
-    → outcomeOf (take n vs) (take n ls) (take n hs) ms ss (record { number = 7; place = 0; lines = 0; rounds = 0; count = count; peak = 0 }) ≡ checkWithin n vs ls hs count ms ss formula proof
+pub check-past : (n : ℕ) (vs ls hs : List ℕ) (count : ℕ) (ms ks ss formula proof : List ℕ) → 65536 < n → length vs ≡ 65536 → length ls ≡ 65536 → length hs ≡ 65536
+    → outcomeOf (take n vs) (take n ls) (take n hs) ms ks ss (record { number = 7; place = 0; lines = 0; rounds = 0; count = count; peak = 0 }) ≡ checkWithin n vs ls hs count ms ks ss formula proof
 unfolding checkWithin
-check-past n vs ls hs count ms ss formula proof h a b c = rw (first-all n vs h a, first-all n ls h b, first-all n hs h c, lt-leb n 65536 h)
+check-past n vs ls hs count ms ks ss formula proof h a b c = rw (first-all n vs h a, first-all n ls h b, first-all n hs h c, lt-leb n 65536 h)
 
-pub check-first : (n : ℕ) (vs ls hs a b c : List ℕ) (count : ℕ) (ms ss formula proof ms′ ss′ : List ℕ) (r : Checked) → n ≤ 65536 → (length vs ≡ 65536) × (length ls ≡ 65536) × (length hs ≡ 65536)
-    → length a ≡ length (take n vs) → length b ≡ length (take n ls) → length c ≡ length (take n hs) → outcomeOf a b c ms′ ss′ r ≡ check (take n vs) (take n ls) (take n hs) count ms ss formula proof
-    → outcomeOf (take n (a ++ drop n vs)) (take n (b ++ drop n ls)) (take n (c ++ drop n hs)) ms′ ss′ r ≡ checkWithin n vs ls hs count ms ss formula proof
+pub check-first : (n : ℕ) (vs ls hs a b c : List ℕ) (count : ℕ) (ms ks ss formula proof ms′ ks′ ss′ : List ℕ) (r : Checked) → n ≤ 65536 → (length vs ≡ 65536) × (length ls ≡ 65536) × (length hs ≡ 65536)
+    → length a ≡ length (take n vs) → length b ≡ length (take n ls) → length c ≡ length (take n hs) → outcomeOf a b c ms′ ks′ ss′ r ≡ check (take n vs) (take n ls) (take n hs) count ms ks ss formula proof
+    → outcomeOf (take n (a ++ drop n vs)) (take n (b ++ drop n ls)) (take n (c ++ drop n hs)) ms′ ks′ ss′ r ≡ checkWithin n vs ls hs count ms ks ss formula proof
 unfolding checkWithin
-check-first n vs ls hs a b c count ms ss formula proof ms′ ss′ r h e ea eb ec told = rw (first-written n vs a h (e .0) ea, first-written n ls b h (e .1) eb, first-written n hs c h (e .2) ec, le-leb n 65536 h) told
+check-first n vs ls hs a b c count ms ks ss formula proof ms′ ks′ ss′ r h e ea eb ec told = rw (first-written n vs a h (e .0) ea, first-written n ls b h (e .1) eb, first-written n hs c h (e .2) ec, le-leb n 65536 h) told
 
 pub kind-second : (op o : Operation) (g k : ℕ) → op ≡ o → k ≡ secondOf o g → OneOperand o k → (k ≡ secondOf op g) × OneOperand op k
 kind-second op o g k e s t = subst (λ (x : Operation). (k ≡ secondOf x g) × OneOperand x k) (sym e) (s, t)

@@ -125,35 +125,35 @@ module _ {X : Type 0} (out call stay : List ℕ → List ℕ → List ℕ → X)
       (λ t. past-case m (cut .0) (leb-false _ _ t) told)
 
 -- ---- the check
-module _ (count : ℕ) (ms ss formula proof ms′ ss′ : List ℕ) (r : Checked) where
+module _ (count : ℕ) (ms ks ss formula proof ms′ ks′ ss′ : List ℕ) (r : Checked) where
   abbrev seven : List ℕ → List ℕ → List ℕ → Outcome
-  seven v l h = record { number = 7; place = 0; lines = 0; rounds = 0; count = count; peak = 0; columns = record { vars = v; lows = l; highs = h }; members = ms; scratch = ss }
+  seven v l h = record { number = 7; place = 0; lines = 0; rounds = 0; count = count; peak = 0; columns = record { vars = v; lows = l; highs = h }; members = ms; struck = ks; scratch = ss }
 
-  check-refused : (v l h : List ℕ) → sizeFits v l h ≡ false → check v l h count ms ss formula proof ≡ seven v l h
+  check-refused : (v l h : List ℕ) → sizeFits v l h ≡ false → check v l h count ms ks ss formula proof ≡ seven v l h
   unfolding check lentFits
   check-refused v l h e = rw e
 
-  check-moved : (a b c v l h : List ℕ) → outcomeOf a b c ms′ ss′ r ≡ seven v l h → ((a ≡ v) × (b ≡ l) × (c ≡ h)) × ((v l h : List ℕ) → outcomeOf v l h ms′ ss′ r ≡ seven v l h)
+  check-moved : (a b c v l h : List ℕ) → outcomeOf a b c ms′ ks′ ss′ r ≡ seven v l h → ((a ≡ v) × (b ≡ l) × (c ≡ h)) × ((v l h : List ℕ) → outcomeOf v l h ms′ ks′ ss′ r ≡ seven v l h)
   check-moved a b c v l h e = (
     (ap (λ (o : Outcome). o .columns .vars) e, ap (λ (o : Outcome). o .columns .lows) e, ap (λ (o : Outcome). o .columns .highs) e),
-    (λ v l h. ap (λ (o : Outcome). record { number = o .number; place = o .place; lines = o .lines; rounds = o .rounds; count = o .count; peak = o .peak; columns = record { vars = v; lows = l; highs = h }; members = o .members; scratch = o .scratch }) e),
+    (λ v l h. ap (λ (o : Outcome). record { number = o .number; place = o .place; lines = o .lines; rounds = o .rounds; count = o .count; peak = o .peak; columns = record { vars = v; lows = l; highs = h }; members = o .members; struck = o .struck; scratch = o .scratch }) e),
   )
 
   pub check-whole : (ys : List Node) (m : ℕ) (vs₀ ls₀ hs₀ vs ls hs : List ℕ) → Cut (length ys) m → Sized vs ls hs
-      → outcomeOf (take (length ys) vs) (take (length ys) ls) (take (length ys) hs) ms′ ss′ r ≡ checkWithin (length ys) (column varOf ys vs₀ m) (column lowOf ys ls₀ m) (column highOf ys hs₀ m) count ms ss formula proof
-      → outcomeOf (varsOf (slice vs ls hs ys m)) (lowsOf (slice vs ls hs ys m)) (highsOf (slice vs ls hs ys m)) ms′ ss′ r ≡ check (varsOf ys) (lowsOf ys) (highsOf ys) count ms ss formula proof
+      → outcomeOf (take (length ys) vs) (take (length ys) ls) (take (length ys) hs) ms′ ks′ ss′ r ≡ checkWithin (length ys) (column varOf ys vs₀ m) (column lowOf ys ls₀ m) (column highOf ys hs₀ m) count ms ks ss formula proof
+      → outcomeOf (varsOf (slice vs ls hs ys m)) (lowsOf (slice vs ls hs ys m)) (highsOf (slice vs ls hs ys m)) ms′ ks′ ss′ r ≡ check (varsOf ys) (lowsOf ys) (highsOf ys) count ms ks ss formula proof
   unfolding checkWithin
   check-whole ys m vs₀ ls₀ hs₀ vs ls hs cut e told =
-      whole (λ v l h. outcomeOf v l h ms′ ss′ r) (λ v l h. check v l h count ms ss formula proof) seven check-refused check-moved ys vs₀ ls₀ hs₀ vs ls hs e m cut told
+      whole (λ v l h. outcomeOf v l h ms′ ks′ ss′ r) (λ v l h. check v l h count ms ks ss formula proof) seven check-refused check-moved ys vs₀ ls₀ hs₀ vs ls hs e m cut told
 
   -- The same with what 0 means.
   pub check-told : (ys : List Node) (m : ℕ) (vs₀ ls₀ hs₀ vs ls hs : List ℕ) → Cut (length ys) m → Sized vs ls hs
-      → outcomeOf (take (length ys) vs) (take (length ys) ls) (take (length ys) hs) ms′ ss′ r ≡ checkWithin (length ys) (column varOf ys vs₀ m) (column lowOf ys ls₀ m) (column highOf ys hs₀ m) count ms ss formula proof
-      → (outcomeOf (varsOf (slice vs ls hs ys m)) (lowsOf (slice vs ls hs ys m)) (highsOf (slice vs ls hs ys m)) ms′ ss′ r ≡ check (varsOf ys) (lowsOf ys) (highsOf ys) count ms ss formula proof)
+      → outcomeOf (take (length ys) vs) (take (length ys) ls) (take (length ys) hs) ms′ ks′ ss′ r ≡ checkWithin (length ys) (column varOf ys vs₀ m) (column lowOf ys ls₀ m) (column highOf ys hs₀ m) count ms ks ss formula proof
+      → (outcomeOf (varsOf (slice vs ls hs ys m)) (lowsOf (slice vs ls hs ys m)) (highsOf (slice vs ls hs ys m)) ms′ ks′ ss′ r ≡ check (varsOf ys) (lowsOf ys) (highsOf ys) count ms ks ss formula proof)
       × (r .number ≡ 0 → Unsatisfiable formula)
   check-told ys m vs₀ ls₀ hs₀ vs ls hs cut e told =
       let is = check-whole ys m vs₀ ls₀ hs₀ vs ls hs cut e told in
-      (is, λ z. check-refuted (varsOf ys) (lowsOf ys) (highsOf ys) count ms ss formula proof (sym (ap (λ (o : Outcome). o .number) is) ∙ z))
+      (is, λ z. check-refuted (varsOf ys) (lowsOf ys) (highsOf ys) count ms ks ss formula proof (sym (ap (λ (o : Outcome). o .number) is) ∙ z))
 
 -- ---- conjunction, negation, both cofactors
 module _ (op : Operation) (count f g : ℕ) (r : Single) where

@@ -20,8 +20,8 @@ nodesOf (v ∷ vs) (l ∷ ls) [] = []
 nodesOf (v ∷ vs) (l ∷ ls) (h ∷ hs) = record { var = v; low = l; high = h } ∷ nodesOf vs ls hs
 
 -- "The table has 2 to 65,536 places": 7 where the slice has more, and the arrays stay.
-unfoldable pub checkWithin : ℕ → List ℕ → List ℕ → List ℕ → ℕ → List ℕ → List ℕ → List ℕ → List ℕ → Outcome
-checkWithin n vars lows highs count members scratch formula proof =
+unfoldable pub checkWithin : ℕ → List ℕ → List ℕ → List ℕ → ℕ → List ℕ → List ℕ → List ℕ → List ℕ → List ℕ → Outcome
+checkWithin n vars lows highs count members struck scratch formula proof =
     let seven : Outcome = record {
       number = 7;
       place = 0;
@@ -31,9 +31,10 @@ checkWithin n vars lows highs count members scratch formula proof =
       peak = 0;
       columns = record { vars = vars; lows = lows; highs = highs };
       members = members;
+      struck = struck;
       scratch = scratch;
     } in
-    cond (leb n 65536) (check (take n vars) (take n lows) (take n highs) count members scratch formula proof) seven
+    cond (leb n 65536) (check (take n vars) (take n lows) (take n highs) count members struck scratch formula proof) seven
 
 unfoldable pub operationWithin : Operation → ℕ → List ℕ → List ℕ → List ℕ → ℕ → ℕ → ℕ → Made
 operationWithin op n vars lows highs count f g =

@@ -30,14 +30,15 @@ pub extern "C" fn cablesalak_check_nodes<'a>(
     nodes: &mut [Node],
     count: usize,
     members: &mut [u16],
+    struck: &mut [u8],
     scratch: &mut [u16],
     formula: &'a [u8],
     proof: &'a [u8],
 ) -> Checked
     ensures { λ r. ⌜ (outcomeOf (varsOf (now (nodes .exit))) (lowsOf (now (nodes .exit))) (highsOf (now (nodes .exit)))
-        (now (members .exit)) (now (scratch .exit)) r
+        (now (members .exit)) (now (struck .exit)) (now (scratch .exit)) r
         ≡ check (varsOf (now (nodes .entry))) (lowsOf (now (nodes .entry))) (highsOf (now (nodes .entry))) count (now (members .entry))
-        (now (scratch .entry)) (now (formula .entry)) (now (proof .entry)))
+        (now (struck .entry)) (now (scratch .entry)) (now (formula .entry)) (now (proof .entry)))
         × (r .number ≡ 0 → Unsatisfiable (now (formula .entry))) ⌝ }
 {
     let mut vars = [0u8; 65536];
@@ -53,6 +54,7 @@ pub extern "C" fn cablesalak_check_nodes<'a>(
         count,
         members,
         scratch,
+        struck,
         formula,
         proof,
     );

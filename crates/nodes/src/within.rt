@@ -21,14 +21,15 @@ pub fn check_within<'a>(
     count: usize,
     members: &mut [u16],
     scratch: &mut [u16],
+    struck: &mut [u8],
     formula: &'a [u8],
     proof: &'a [u8],
 ) -> Checked
     requires { ⌜ (length (now vars) ≡ 65536) × (length (now lows) ≡ 65536) × (length (now highs) ≡ 65536) ⌝ }
     ensures { λ r. ⌜ outcomeOf (take n (now (vars .exit))) (take n (now (lows .exit))) (take n (now (highs .exit))) (now (members .exit))
-        (now (scratch .exit)) r
-        ≡ checkWithin n (now (vars .entry)) (now (lows .entry)) (now (highs .entry)) count (now (members .entry)) (now (scratch .entry))
-        (now (formula .entry)) (now (proof .entry)) ⌝ }
+        (now (struck .exit)) (now (scratch .exit)) r
+        ≡ checkWithin n (now (vars .entry)) (now (lows .entry)) (now (highs .entry)) count (now (members .entry)) (now (struck .entry))
+        (now (scratch .entry)) (now (formula .entry)) (now (proof .entry)) ⌝ }
 {
     if 65536 < n {
         return Checked {
@@ -46,6 +47,7 @@ pub fn check_within<'a>(
         &mut highs[..n],
         count,
         members,
+        struck,
         scratch,
         formula,
         proof,

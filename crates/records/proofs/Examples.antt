@@ -4,7 +4,7 @@ use mathlib.Core.Bool.{true, false}
 use mathlib.Core.List.{List, [], _∷_}
 use Prim.Native.Nat.{ℕ}
 use Rattle.records.specs.declared.EntryNo.{EntryNo}
-use Rattle.records.specs.declared.Record.the-variants.{NodeEntry, Witness, ProofLine, End, CutShort, NoRecord}
+use Rattle.records.specs.declared.Record.the-variants.{NodeEntry, Witness, ProofLine, Strike, End, CutShort, NoRecord}
 use Rattle.records.specs.declared.Rule.the-variants.{Rup, Pr}
 use Rattle.records.specs.Records.{recordAt, numberOf}
 
@@ -66,6 +66,11 @@ low-byte-first : recordAt (0x52 ∷ 0x01 ∷ 0x10 ∷ []) 0 ≡ ProofLine Rup (e
 unfolding recordAt
 low-byte-first = refl
 
+-- "kind `44` with two bytes strikes out the member of that number" (02, 3/14)
+striking : recordAt (0x44 ∷ 0x05 ∷ 0x01 ∷ []) 0 ≡ Strike (record { 0 = 261 })
+unfolding recordAt
+striking = refl
+
 -- a byte too few of each length of body
 cut-node : recordAt (0x4E ∷ 0x02 ∷ 0x00 ∷ 0x00 ∷ 0x01 ∷ []) 0 ≡ CutShort
 unfolding recordAt
@@ -78,3 +83,7 @@ cut-witness = refl
 cut-line : recordAt (0x50 ∷ 0x02 ∷ []) 0 ≡ CutShort
 unfolding recordAt
 cut-line = refl
+
+cut-striking : recordAt (0x44 ∷ 0x05 ∷ []) 0 ≡ CutShort
+unfolding recordAt
+cut-striking = refl

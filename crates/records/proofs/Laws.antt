@@ -11,8 +11,8 @@ use borrow.Author.Tests.{ltb-true, ltb-false}
 use Rattle.records.specs.declared.Rule.{Rule}
 use Rattle.records.specs.declared.Rule.the-variants.{Rup, Pr}
 use Rattle.records.specs.declared.Record.{Record}
-use Rattle.records.specs.declared.Record.the-variants.{NodeEntry, Witness, ProofLine, End, CutShort, UnknownKind, NoRecord}
-use Rattle.records.specs.Records.{field, entryIn, whole, recordOf, recordAt, lengthOf, numberOf}
+use Rattle.records.specs.declared.Record.the-variants.{NodeEntry, Witness, ProofLine, Strike, End, CutShort, UnknownKind, NoRecord}
+use Rattle.records.specs.Records.{field, entryIn, memberIn, whole, recordOf, recordAt, lengthOf, numberOf}
 use Rattle.records.proofs.Reading.{record-none, record-here}
 
 -- ---- a predicate of every record
@@ -22,6 +22,7 @@ pub record Every (P : Record → Type 0) (body : List ℕ) : Type 0 where
   pub node : 5 ≤ length body → P (NodeEntry (record { variable = field 0 1 body; low = entryIn body 1; high = entryIn body 3 }))
   pub witness : (value : Bool) → 1 ≤ length body → P (Witness (field 0 1 body) value)
   pub line : (rule : Rule) → 2 ≤ length body → P (ProofLine rule (entryIn body 0))
+  pub strike : 2 ≤ length body → P (Strike (memberIn body 0))
   pub end : P End
   pub cut : P CutShort
   pub unknown : P UnknownKind
@@ -47,7 +48,8 @@ module _ (P : Record → Type 0) where
       (either (eqb kind 0x46) (of-whole 1 body _ (e .cut) (e .witness false))
       (either (eqb kind 0x52) (of-whole 2 body _ (e .cut) (e .line Rup))
       (either (eqb kind 0x50) (of-whole 2 body _ (e .cut) (e .line Pr))
-      (either (eqb kind 0x45) (e .end) (e .unknown))))))
+      (either (eqb kind 0x44) (of-whole 2 body _ (e .cut) (e .strike))
+      (either (eqb kind 0x45) (e .end) (e .unknown)))))))
 
   pub record-every : (proof : List ℕ) (at : ℕ) → P NoRecord → (at < length proof → Every P (drop (at + 1) proof)) → P (recordAt proof at)
   record-every proof at none here = go (ltb at (length proof)) (ltb-true at (length proof)) (ltb-false at (length proof))
@@ -62,6 +64,7 @@ pub record-takes : (r : Record) → numberOf r ≡ 0 → 1 ≤ lengthOf r
 record-takes (NodeEntry n) h = omega arith
 record-takes (Witness v value) h = omega arith
 record-takes (ProofLine rule root) h = omega arith
+record-takes (Strike k) h = omega arith
 record-takes End h = omega arith
 record-takes CutShort h = omega arith
 record-takes UnknownKind h = omega arith
@@ -76,6 +79,7 @@ record-within proof at e =
       node = λ l h. omega arith;
       witness = λ value l h. omega arith;
       line = λ rule l h. omega arith;
+      strike = λ l h. omega arith;
       end = λ h. omega arith;
       cut = λ h. omega arith;
       unknown = λ h. omega arith;

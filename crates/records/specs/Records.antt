@@ -6,10 +6,11 @@ use Prim.Native.Nat.{ℕ, _+_, _*_}
 use lib.ListN.{length, take, drop}
 use lib.Dec.{eqb, ltb}
 use Rattle.records.specs.declared.EntryNo.{EntryNo}
+use Rattle.records.specs.declared.MemberNo.{MemberNo}
 use Rattle.records.specs.declared.Rule.{Rule}
 use Rattle.records.specs.declared.Rule.the-variants.{Rup, Pr}
 use Rattle.records.specs.declared.Record.{Record}
-use Rattle.records.specs.declared.Record.the-variants.{NodeEntry, Witness, ProofLine, End, CutShort, UnknownKind, NoRecord}
+use Rattle.records.specs.declared.Record.the-variants.{NodeEntry, Witness, ProofLine, Strike, End, CutShort, UnknownKind, NoRecord}
 
 -- "numbers low byte first"
 unfoldable pub lowByteFirst : List ℕ → ℕ
@@ -23,6 +24,10 @@ field i n body = lowByteFirst (take n (drop i body))
 -- The entry number at byte i of a body: "entry (2)", two bytes.
 abbrev pub entryIn : List ℕ → ℕ → EntryNo
 entryIn body i = record { 0 = field i 2 body }
+
+-- The member number at byte i of a body, two bytes.
+abbrev pub memberIn : List ℕ → ℕ → MemberNo
+memberIn body i = record { 0 = field i 2 body }
 
 -- "One kind byte, then a body of fixed length": a record with a body of n bytes, where they are there. "10: record cut short"
 unfoldable pub whole : ℕ → List ℕ → Record → Record
@@ -43,17 +48,23 @@ unfoldable pub lineIn : Rule → List ℕ → Record
 unfolding whole lowByteFirst
 lineIn rule body = whole 2 body (ProofLine rule (entryIn body 0))
 
+-- "A record of kind `44` with two bytes strikes out the member of that number." (02, 3/14)
+unfoldable pub strikeIn : List ℕ → Record
+unfolding whole lowByteFirst
+strikeIn body = whole 2 body (Strike (memberIn body 0))
+
 -- The record of a kind byte with the bytes behind it: "each record's kind (9) before all else", so also where no byte follows.
 -- "`45` end, no body."
 unfoldable pub recordOf : ℕ → List ℕ → Record
-unfolding nodeIn witnessIn lineIn
+unfolding nodeIn witnessIn lineIn strikeIn
 recordOf kind body =
     cond (eqb kind 0x4E) (nodeIn body)
     (cond (eqb kind 0x54) (witnessIn true body)
     (cond (eqb kind 0x46) (witnessIn false body)
     (cond (eqb kind 0x52) (lineIn Rup body)
     (cond (eqb kind 0x50) (lineIn Pr body)
-    (cond (eqb kind 0x45) End UnknownKind)))))
+    (cond (eqb kind 0x44) (strikeIn body)
+    (cond (eqb kind 0x45) End UnknownKind))))))
 
 -- The record at the front of the bytes; "10 with no record begun", where there are none.
 unfoldable pub recordIn : List ℕ → Record
@@ -71,6 +82,7 @@ abbrev pub lengthOf : Record → ℕ
 lengthOf (NodeEntry n) = 6
 lengthOf (Witness v value) = 2
 lengthOf (ProofLine rule root) = 3
+lengthOf (Strike k) = 3
 lengthOf End = 1
 lengthOf CutShort = 0
 lengthOf UnknownKind = 0
@@ -81,6 +93,7 @@ abbrev pub numberOf : Record → ℕ
 numberOf (NodeEntry n) = 0
 numberOf (Witness v value) = 0
 numberOf (ProofLine rule root) = 0
+numberOf (Strike k) = 0
 numberOf End = 0
 numberOf CutShort = 10
 numberOf UnknownKind = 9

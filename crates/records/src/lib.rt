@@ -2,10 +2,13 @@
 ghost use mathlib.Core.Path.{_≡_};
 ghost use Prim.Native.Nat.{_+_, _*_, _≤_};
 ghost use lib.ListN.{length};
-ghost use Rattle.records.specs.Records.{entryIn, nodeIn, witnessIn, lineIn, recordAt, lengthOf};
+ghost use Rattle.records.specs.Records.{field, entryIn, nodeIn, witnessIn, lineIn, strikeIn, recordAt, lengthOf};
 
 // An entry's number in the proof file. Node numbers of the table are another kind.
 pub struct EntryNo(pub u16);
+
+// A member's number: clauses from 0 on, then accepted lines. Entries and nodes are numbered apart.
+pub struct MemberNo(pub u16);
 
 pub struct NodeBody {
     pub variable: u8,
@@ -25,6 +28,8 @@ pub enum Record {
     Witness(u8, bool),
     // The rule and the root.
     ProofLine(Rule, EntryNo),
+    // The member that is struck out.
+    Strike(MemberNo),
     End,
     // The kind byte is there, not its whole body.
     CutShort,
@@ -40,12 +45,20 @@ fn low_byte_first(first: u8, second: u8) -> u16
     (first as u16) + 256 * (second as u16)
 }
 
+// The number in two bytes of a body from byte i on.
+fn field_in(body: &[u8], i: usize) -> u16
+    requires { ⌜ i + 2 ≤ length (now body) ⌝ }
+    ensures { λ r. ⌜ r ≡ field i 2 (now (body .entry)) ⌝ }
+{
+    low_byte_first(body[i], body[i + 1])
+}
+
 // The entry number at byte i of a body.
 fn entry_in(body: &[u8], i: usize) -> EntryNo
     requires { ⌜ i + 2 ≤ length (now body) ⌝ }
     ensures { λ r. ⌜ r ≡ entryIn (now (body .entry)) i ⌝ }
 {
-    EntryNo(low_byte_first(body[i], body[i + 1]))
+    EntryNo(field_in(body, i))
 }
 
 // The node record of a body.
@@ -82,6 +95,16 @@ fn line_in(body: &[u8], rule: Rule) -> Record
     Record::ProofLine(rule, entry_in(body, 0))
 }
 
+// The striking of a body.
+fn strike_in(body: &[u8]) -> Record
+    ensures { λ r. ⌜ r ≡ strikeIn (now (body .entry)) ⌝ }
+{
+    if body.len() < 2 {
+        return Record::CutShort;
+    }
+    Record::Strike(MemberNo(field_in(body, 0)))
+}
+
 // The record whose first byte is at the place; a place at or past the end has none.
 pub fn record_at(proof: &[u8], at: usize) -> Record
     ensures { λ r. ⌜ r ≡ recordAt (now (proof .entry)) at ⌝ }
@@ -98,6 +121,7 @@ pub fn record_at(proof: &[u8], at: usize) -> Record
         0x46 => witness_in(body, false),
         0x52 => line_in(body, Rule::Rup),
         0x50 => line_in(body, Rule::Pr),
+        0x44 => strike_in(body),
         0x45 => Record::End,
         _ => Record::UnknownKind,
     }
@@ -111,6 +135,7 @@ pub fn record_length(r: Record) -> usize
         Record::NodeEntry(_) => 6,
         Record::Witness(_, _) => 2,
         Record::ProofLine(_, _) => 3,
+        Record::Strike(_) => 3,
         Record::End => 1,
         Record::CutShort => 0,
         Record::UnknownKind => 0,

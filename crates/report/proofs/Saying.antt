@@ -22,12 +22,12 @@ use Rattle.report.proofs.Digits.{by}
 abbrev pub lineOf : Outcome → Line
 lineOf o = record { number = o .number; place = o .place; lines = o .lines; rounds = o .rounds; peak = o .peak }
 
-fits : lentFits (zeros 4096) (zeros 4096) (zeros 4096) (zeros 2048) (zeros 4096) ≡ true
+fits : lentFits (zeros 4096) (zeros 4096) (zeros 4096) (zeros 2048) (zeros 2048) (zeros 4096) ≡ true
 unfolding lentFits sizeFits
 fits = refl
 
 pub checked : (formula proof : List ℕ)
-    → lineOf (check (zeros 4096) (zeros 4096) (zeros 4096) 2 (zeros 2048) (zeros 4096) formula proof) ≡ ofVerdict (verdict 4096 formula proof)
+    → lineOf (check (zeros 4096) (zeros 4096) (zeros 4096) 2 (zeros 2048) (zeros 2048) (zeros 4096) formula proof) ≡ ofVerdict (verdict 4096 formula proof)
 unfolding check outcome
 checked formula proof = rw fits
 

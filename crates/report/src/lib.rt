@@ -34,6 +34,7 @@ pub fn check<'a>(formula: &'a [u8], proof: &'a [u8]) -> Line
     let mut lows = [0u16; 4096];
     let mut highs = [0u16; 4096];
     let mut members = [0u16; 2048];
+    let mut struck = [0u8; 2048];
     let mut scratch = [0u16; 4096];
     let r = checker::check(
         &mut vars,
@@ -41,6 +42,7 @@ pub fn check<'a>(formula: &'a [u8], proof: &'a [u8]) -> Line
         &mut highs,
         2,
         &mut members,
+        &mut struck,
         &mut scratch,
         formula,
         proof,

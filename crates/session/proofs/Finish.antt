@@ -7,8 +7,8 @@ use Prim.Native.Nat.{ℕ, suc, _+_, _-_, _*_, _≤_}
 use native.Mathlib.Omega.{arith}
 use lib.ListN.{length, getD, take, drop, length-replicate, length-drop, take-append-drop}
 use lib.Seq.{length-take-le, getD-take, getD-drop, ext-getD}
-use lib.Dec.{leb}
-use borrow.Author.Tests.{leb-true}
+use lib.Dec.{eqb, leb}
+use borrow.Author.Tests.{leb-true, eqb-true}
 use Rattle.table.specs.Nodes.{Node}
 use Rattle.table.specs.Columns.{sizeFits, padded, Columns, columnsOf}
 use Rattle.table.specs.Indexed.{Table, tableOf, size, nodesOf, indexed}
@@ -30,22 +30,34 @@ use Rattle.session.specs.declared.formula.Start.the-variants.{Begun, Ref
 use Rattle.session.specs.Formula.{Opened, saidFrom, Built}
 use Rattle.session.specs.Records.{Ends}
 use Rattle.session.proofs.Emptied.{columnsMade, columns-emptied, table-emptied}
-use Rattle.table.proofs.Zeros.{zeros-at}
+use Rattle.table.proofs.Zeros.{part-zeros, zeros-at}
 
 -- ---- an outcome from its parts
 
 abbrev pub answer : ℕ → ℕ → ℕ → ℕ → ℕ → ℕ → Checked
 answer number place lines rounds count peak = record { number = number; place = place; lines = lines; rounds = rounds; count = count; peak = peak }
 
-outcome-is : (s m c number place lines rounds count peak : ℕ) (vs ls hs ms : List ℕ) (t : List Node) (ks : List ℕ)
-    → count ≡ length t → columnsMade vs ls hs ≡ columnsOf (padded s t) → ms ≡ ks ++ zeros (m - length ks)
-    → outcomeOf vs ls hs ms (zeros c) (answer number place lines rounds count peak)
-    ≡ outcome s m c (record { number = number; place = place; lines = lines; rounds = rounds; peak = peak; nodes = t; members = ks })
+outcome-is : (s m c number place lines rounds count peak : ℕ) (vs ls hs ms ss : List ℕ) (t : List Node) (ks ps : List ℕ)
+    → count ≡ length t → columnsMade vs ls hs ≡ columnsOf (padded s t) → ms ≡ ks ++ zeros (m - length ks) → ss ≡ ps ++ zeros (m - length ps)
+    → outcomeOf vs ls hs ms ss (zeros c) (answer number place lines rounds count peak)
+    ≡ outcome s m c (record { number = number; place = place; lines = lines; rounds = rounds; peak = peak; nodes = t; members = ks; struck = ps })
 unfolding outcome
-outcome-is s m c number place lines rounds count peak vs ls hs ms t ks e f g = ap₂ (λ (k : ℕ) (d : Columns). made k d ms) e f ∙ ap (made (length t) (columnsOf (padded s t))) g
+outcome-is s m c number place lines rounds count peak vs ls hs ms ss t ks ps e f g h =
+    ap₂ (λ (k : ℕ) (d : Columns). made k d ms ss) e f ∙ ap₂ (made (length t) (columnsOf (padded s t))) g h
   where
-    made : ℕ → Columns → List ℕ → Outcome
-    made k d xs = record { number = number; place = place; lines = lines; rounds = rounds; count = k; peak = peak; columns = d; members = xs; scratch = zeros c }
+    made : ℕ → Columns → List ℕ → List ℕ → Outcome
+    made k d xs ys = record {
+      number = number;
+      place = place;
+      lines = lines;
+      rounds = rounds;
+      count = k;
+      peak = peak;
+      columns = d;
+      members = xs;
+      struck = ys;
+      scratch = zeros c;
+    }
 
 -- a table written out
 written-columns : (T : Table) (s : ℕ) (t : List Node) → T ≡ indexed s t → columnsMade (T .vars) (T .lows) (T .highs) ≡ columnsOf (padded s t)
@@ -58,18 +70,18 @@ no-members : (m : ℕ) → zeros m ≡ [] ++ zeros (m - 0)
 no-members m = let e : m ≡ m - 0 = omega arith in ap zeros e
 
 -- the lists once they are emptied again
-pub refused-is : (s m c number place peak : ℕ) → 2 ≤ s → (vs ls hs ms : List ℕ) → vs ≡ zeros s → ls ≡ zeros s → hs ≡ zeros s → ms ≡ zeros m
-    → outcomeOf vs ls hs ms (zeros c) (answer number place 0 0 2 peak) ≡ outcome s m c (refusedFormula number place peak)
-refused-is s m c number place peak two vs ls hs ms a b d e =
-    outcome-is s m c number place 0 0 2 peak vs ls hs ms emptied [] refl (ap₂ (λ (x y : List ℕ). columnsMade x y hs) a b ∙ ap (columnsMade (zeros s) (zeros s)) d ∙ sym (columns-emptied s two))
-    (e ∙ no-members m)
+pub refused-is : (s m c number place peak : ℕ) → 2 ≤ s → (vs ls hs ms ss : List ℕ) → vs ≡ zeros s → ls ≡ zeros s → hs ≡ zeros s → ms ≡ zeros m → ss ≡ zeros m
+    → outcomeOf vs ls hs ms ss (zeros c) (answer number place 0 0 2 peak) ≡ outcome s m c (refusedFormula number place peak)
+refused-is s m c number place peak two vs ls hs ms ss a b d e f =
+    outcome-is s m c number place 0 0 2 peak vs ls hs ms ss emptied [] [] refl (ap₂ (λ (x y : List ℕ). columnsMade x y hs) a b ∙ ap (columnsMade (zeros s) (zeros s)) d ∙ sym (columns-emptied s two))
+    (e ∙ no-members m) (f ∙ no-members m)
 
 -- the lists as they were opened
-pub unopened-is : (T : Table) (members : List ℕ) → Opened T members → T .count ≡ 2 → (c number place : ℕ)
-    → outcomeOf (T .vars) (T .lows) (T .highs) members (zeros c) (answer number place 0 0 2 2) ≡ outcome (size T) (length members) c (refusedFormula number place 2)
-unopened-is T members O two c number place =
-    outcome-is (size T) (length members) c number place 0 0 2 2 (T .vars) (T .lows) (T .highs) members emptied [] refl
-    (written-columns T (size T) emptied (O .written)) (O .none ∙ no-members (length members))
+pub unopened-is : (T : Table) (members struck : List ℕ) → Opened T members → struck ≡ zeros (length members) → T .count ≡ 2 → (c number place : ℕ)
+    → outcomeOf (T .vars) (T .lows) (T .highs) members struck (zeros c) (answer number place 0 0 2 2) ≡ outcome (size T) (length members) c (refusedFormula number place 2)
+unopened-is T members struck O none two c number place =
+    outcome-is (size T) (length members) c number place 0 0 2 2 (T .vars) (T .lows) (T .highs) members struck emptied [] [] refl
+    (written-columns T (size T) emptied (O .written)) (O .none ∙ no-members (length members)) (none ∙ no-members (length members))
 
 -- ---- the proof
 
@@ -85,12 +97,15 @@ rest-zeros ms k within rest =
 pub judged-is : (l : Lent) (st : State) → Ends l st → (T : Table) → T .count ≡ st .kept
     → T ≡ indexed (length (l .vars)) (take (st .kept) (nodesOf (tableIn l (st .count)))) → (s m : ℕ) → length (l .vars) ≡ s → length (l .members) ≡ m
     → (c number place peak : ℕ) (whole : Verdict) → whole ≡ left number place peak (stateOf l st)
-    → outcomeOf (T .vars) (T .lows) (T .highs) (l .members) (zeros c) (answer number place (st .lines) (st .rounds) (st .kept) peak) ≡ outcome s m c whole
+    → outcomeOf (T .vars) (T .lows) (T .highs) (l .members) (l .struck) (zeros c) (answer number place (st .lines) (st .rounds) (st .kept) peak) ≡ outcome s m c whole
 judged-is l st E T count e s m same same′ c number place peak whole v =
     let t : List Node = take (st .kept) (nodesOf (tableIn l (st .count))) in
-    outcome-is (length (l .vars)) (length (l .members)) c number place (st .lines) (st .rounds) (st .kept) peak (T .vars) (T .lows) (T .highs) (l .members) t (take (st .members) (l .members))
+    let marks : List ℕ = take (st .members) (l .struck) in
+    outcome-is (length (l .vars)) (length (l .members)) c number place (st .lines) (st .rounds) (st .kept) peak (T .vars) (T .lows) (T .highs) (l .members) (l .struck) t (take (st .members) (l .members)) marks
     (sym count ∙ ap (λ (u : Table). u .count) e ∙ count-indexed (length (l .vars)) t)
     (written-columns T (length (l .vars)) t e) (rest-zeros (l .members) (st .members) (E .room) (E .rest))
+    (subst (λ (k : ℕ). l .struck ≡ marks ++ zeros (k - length marks)) (E .marked)
+    (rest-zeros (l .struck) (st .members) (omega (arith, E .room, E .marked)) (E .unmarked)))
     ∙ ap₂ (λ (a b : ℕ). outcome a b c (left number place peak (stateOf l st))) same same′ ∙ ap (outcome s m c) (sym v)
 
 -- the state before the first record
@@ -108,15 +123,26 @@ firstOf count made = record {
   refuted = false;
 }
 
-module _ (n : ℕ) (l : Lent) (count made : ℕ) (B : Built n (tableIn l count) (l .members) made) where
+module _ (n : ℕ) (l : Lent) (count made : ℕ) (B : Built n (tableIn l count) (l .members) made) (room : 2048 ≤ length (l .members))
+    (none : l .struck ≡ zeros (length (l .members))) where
+  few : made ≤ length (l .members)
+  few = omega (arith, B .few, room)
+
+  first-marks : take made (l .struck) ≡ zeros (length (take made (l .members)))
+  first-marks =
+      ap (take made) none
+      ∙ part-zeros made (length (l .members)) few
+      ∙ ap zeros (sym (length-take-le made (l .members) few))
+
   pub first-is : stateOf l (firstOf count made) ≡ begun (nodesOf (tableIn l count)) (take made (l .members))
-  first-is = ap withKept (sym (length-nodes (tableIn l count) (B .good)))
+  first-is = ap₂ with (sym (length-nodes (tableIn l count) (B .good))) first-marks
     where
-      withKept : ℕ → check.State
-      withKept k = record {
+      with : ℕ → List ℕ → check.State
+      with k marks = record {
         nodes = nodesOf (tableIn l count);
         kept = k;
         members = take made (l .members);
+        struck = marks;
         entries = [];
         positive = 0;
         negative = 0;
@@ -126,9 +152,9 @@ module _ (n : ℕ) (l : Lent) (count made : ℕ) (B : Built n (tableIn l count) 
         refuted = false;
       }
 
-  pub first-held : n ≤ 64 → 2048 ≤ length (l .members) → 4096 ≤ length (l .scratch) → Held n l (firstOf count made)
-  first-held narrow room scratch =
-      let len : length (take made (l .members)) ≡ made = length-take-le made (l .members) (omega (arith, B .few)) in
+  pub first-held : n ≤ 64 → 4096 ≤ length (l .scratch) → Held n l (firstOf count made)
+  first-held narrow scratch =
+      let len : length (take made (l .members)) ≡ made = length-take-le made (l .members) few in
       record {
         entries = record { good = B .good; uses = B .uses; inside = λ i p. absurd (omega arith); few = omega arith; room = scratch; narrow = narrow };
         least = B .good .least;
@@ -138,6 +164,8 @@ module _ (n : ℕ) (l : Lent) (count made : ℕ) (B : Built n (tableIn l count) 
         many = omega (arith, B .few);
         lines = omega arith;
         room = room;
+        marked = ap length none ∙ length-replicate (length (l .members)) 0;
+        unmarked = λ i p. ap (λ (xs : List ℕ). getD xs i 0) none ∙ zeros-at (length (l .members)) i;
         rounds = omega arith;
       }
 
@@ -168,17 +196,24 @@ module _ (n : ℕ) (proof vs ls hs ds ks ms : List ℕ) (s m c : ℕ) (whole : V
 
 -- ---- the lists lent
 
-pub record LentSized (vars lows highs members scratch : List ℕ) : Type 0 where
+pub record LentSized (vars lows highs members struck scratch : List ℕ) : Type 0 where
   pub columns : Sized vars lows highs
   pub member-room : 2048 ≤ length members
+  pub marks : length struck ≡ length members
   pub scratch-room : 4096 ≤ length scratch
 
-pub lent-sized : (vars lows highs members scratch : List ℕ) → lentFits vars lows highs members scratch ≡ true → LentSized vars lows highs members scratch
+pub lent-sized : (vars lows highs members struck scratch : List ℕ) → lentFits vars lows highs members struck scratch ≡ true → LentSized vars lows highs members struck scratch
 unfolding lentFits
-lent-sized vars lows highs members scratch e =
-    let (columns, lists) = and-both (sizeFits vars lows highs) (leb 2048 (length members) && leb 4096 (length scratch)) e in
-    let (m, c) = and-both (leb 2048 (length members)) (leb 4096 (length scratch)) lists in
-    record { columns = sized vars lows highs columns; member-room = leb-true 2048 (length members) m; scratch-room = leb-true 4096 (length scratch) c }
+lent-sized vars lows highs members struck scratch e =
+    let (columns, lists) = and-both (sizeFits vars lows highs) (leb 2048 (length members) && (eqb (length struck) (length members) && leb 4096 (length scratch))) e in
+    let (m, rest) = and-both (leb 2048 (length members)) (eqb (length struck) (length members) && leb 4096 (length scratch)) lists in
+    let (k, c) = and-both (eqb (length struck) (length members)) (leb 4096 (length scratch)) rest in
+    record {
+      columns = sized vars lows highs columns;
+      member-room = leb-true 2048 (length members) m;
+      marks = eqb-true (length struck) (length members) k;
+      scratch-room = leb-true 4096 (length scratch) c;
+    }
 
 -- columns, index and member list once they are emptied
 pub emptied-opened : (s m : ℕ) → 2 ≤ s → s ≤ 65536 → 2048 ≤ m → (vs ls hs ds ks ms : List ℕ) → vs ≡ zeros s → ls ≡ zeros s → hs ≡ zeros s
@@ -196,8 +231,8 @@ emptied-opened s m two most room vs ls hs ds ks ms a b d e f g =
     }
 
 -- the whole, once the scratch list is zeros
-pub run-is : (s m c : ℕ) (formula proof : List ℕ) (vs ls hs ms : List ℕ) (r : Checked) (s′ m′ c′ : ℕ) (cs : List ℕ)
-    → outcomeOf vs ls hs ms (zeros c) r ≡ outcome s′ m′ c (verdict s′ formula proof) → s′ ≡ s → m′ ≡ m → cs ≡ zeros c′ → c′ ≡ c
-    → outcomeOf vs ls hs ms cs r ≡ outcome s m c (verdict s formula proof)
-run-is s m c formula proof vs ls hs ms r s′ m′ c′ cs e same same′ none same″ =
-    ap (λ (x : List ℕ). outcomeOf vs ls hs ms x r) (none ∙ ap zeros same″) ∙ e ∙ ap₂ (λ (a b : ℕ). outcome a b c (verdict a formula proof)) same same′
+pub run-is : (s m c : ℕ) (formula proof : List ℕ) (vs ls hs ms ss : List ℕ) (r : Checked) (s′ m′ c′ : ℕ) (cs : List ℕ)
+    → outcomeOf vs ls hs ms ss (zeros c) r ≡ outcome s′ m′ c (verdict s′ formula proof) → s′ ≡ s → m′ ≡ m → cs ≡ zeros c′ → c′ ≡ c
+    → outcomeOf vs ls hs ms ss cs r ≡ outcome s m c (verdict s formula proof)
+run-is s m c formula proof vs ls hs ms ss r s′ m′ c′ cs e same same′ none same″ =
+    ap (λ (x : List ℕ). outcomeOf vs ls hs ms ss x r) (none ∙ ap zeros same″) ∙ e ∙ ap₂ (λ (a b : ℕ). outcome a b c (verdict a formula proof)) same same′

@@ -9,7 +9,7 @@ use lib.Dec.{ltb}
 use Rattle.table.specs.Indexed.{Table, nodesOf, Good}
 use Rattle.walks.specs.Readable.{Roomy}
 use Rattle.records.specs.declared.Record.{Record}
-use Rattle.records.specs.declared.Record.the-variants.{NodeEntry, Witness, ProofLine, End, CutShort, UnknownKind, NoRecord}
+use Rattle.records.specs.declared.Record.the-variants.{NodeEntry, Witness, ProofLine, Strike, End, CutShort, UnknownKind, NoRecord}
 use Rattle.records.specs.Records.{recordAt, lengthOf, numberOf}
 use Rattle.records.proofs.Laws.{record-takes, record-within}
 use Rattle.records.proofs.Reading.{record-none}
@@ -19,7 +19,7 @@ use Rattle.verdict.proofs.Steps.{next-form}
 use Rattle.steps.specs.declared.State.{State}
 use Rattle.steps.specs.declared.Step.{Step}
 use Rattle.steps.specs.declared.Step.the-variants.{Next, Stop, Spent}
-use Rattle.steps.specs.States.{Lent, tableIn, stateOf, stepOf, Held, HeldAfter, Stepped}
+use Rattle.steps.specs.States.{Lent, tableIn, stateOf, stepOf, Held, HeldAfter, Unmoved, Stepped}
 use Rattle.session.specs.Records.{Ends}
 use Rattle.session.proofs.Near.{Near, step-near}
 
@@ -80,6 +80,7 @@ pub record-short : (r : Record) → lengthOf r ≤ 6
 record-short (NodeEntry b) = omega arith
 record-short (Witness v b) = omega arith
 record-short (ProofLine rule root) = omega arith
+record-short (Strike k) = omega arith
 record-short End = omega arith
 record-short CutShort = omega arith
 record-short UnknownKind = omega arith
@@ -105,6 +106,8 @@ module _ (n s : ℕ) (proof : List ℕ) (whole : check.Verdict) where
       kept = G .held .kept;
       room = omega (arith, G .held .many, G .held .lines, G .held .room);
       rest = G .held .rest;
+      marked = G .held .marked;
+      unmarked = G .held .unmarked;
     }
 
     pub going-asks : Held n l st × (marks ≡ unmarked (length (l .vars))) × Roomy (l .vars) memo
@@ -129,15 +132,14 @@ module _ (n s : ℕ) (proof : List ℕ) (whole : check.Verdict) where
       leaves : (y : Step) → x ≡ y → HeldAfter n l l′ st y
       leaves y e = subst (HeldAfter n l l′ st) e (X .leaves)
 
-      -- a refused record leaves table and members as they were
-      abbrev Same : Type 0
-      Same = (tableIn l′ (st .count) ≡ tableIn l (st .count)) × (l′ .members ≡ l .members)
-
-      left-same : (number place peak : ℕ) → Same → check.left number place peak (stateOf l st) ≡ check.left number place peak (stateOf l′ st)
-      left-same number place peak (table, members) = ap₂ (λ (t : Table) (ms : List ℕ). leftOf t ms) (sym table) (sym members)
+      -- a refused record leaves table, members and marks as they were
+      left-same : (number place peak : ℕ) → Unmoved l l′ st → check.left number place peak (stateOf l st) ≡ check.left number place peak (stateOf l′ st)
+      left-same number place peak same =
+          ap₂ (λ (t : Table) (ms : List ℕ). leftOf t ms (l .struck)) (sym (same .table)) (sym (same .members))
+          ∙ ap (leftOf (tableIn l′ (st .count)) (l′ .members)) (sym (same .struck))
         where
-          leftOf : Table → List ℕ → check.Verdict
-          leftOf t ms = record {
+          leftOf : Table → List ℕ → List ℕ → check.Verdict
+          leftOf t ms ss = record {
             number = number;
             place = place;
             lines = st .lines;
@@ -145,15 +147,22 @@ module _ (n s : ℕ) (proof : List ℕ) (whole : check.Verdict) where
             peak = peak;
             nodes = take (st .kept) (nodesOf t);
             members = take (st .members) ms;
+            struck = take (st .members) ss;
           }
 
-      ends-same : Same → Ends l′ st
-      ends-same (table, members) = record {
-        good = subst Good (sym table) (held-ends .good);
+      -- zeros behind the members
+      abbrev Behind : List ℕ → Type 0
+      Behind xs = (i : ℕ) → st .members ≤ i → _≡_ {A = ℕ} (getD xs i 0) 0
+
+      ends-same : Unmoved l l′ st → Ends l′ st
+      ends-same same = record {
+        good = subst Good (sym (same .table)) (held-ends .good);
         least = held-ends .least;
         kept = held-ends .kept;
-        room = subst (λ (ms : List ℕ). st .members ≤ length ms) (sym members) (held-ends .room);
-        rest = subst (λ (ms : List ℕ). (i : ℕ) → st .members ≤ i → _≡_ {A = ℕ} (getD ms i 0) 0) (sym members) (held-ends .rest);
+        room = subst (λ (ms : List ℕ). st .members ≤ length ms) (sym (same .members)) (held-ends .room);
+        rest = subst Behind (sym (same .members)) (held-ends .rest);
+        marked = ap length (same .struck) ∙ held-ends .marked ∙ ap length (sym (same .members));
+        unmarked = subst Behind (sym (same .struck)) (held-ends .unmarked);
       }
 
       module _ (number offset : ℕ) (e : x ≡ Stop number offset) where

@@ -1,7 +1,6 @@
 -- A record is refused at its first byte or at the one behind it. The idea: a predicate on what a step comes to, through every case of the
 -- definition. Assumes nothing.
 use mathlib.Core.Bool.{Bool, true, false, not, _&&_, _||_, cond}
-use mathlib.Core.List.{map}
 use Prim.Native.Nat.{ℕ, _≤_, max}
 use native.Mathlib.Omega.{arith}
 use lib.ListN.{length}
@@ -14,7 +13,7 @@ use Rattle.records.specs.declared.NodeBody.{NodeBody}
 use Rattle.records.specs.declared.Rule.{Rule}
 use Rattle.records.specs.declared.Rule.the-variants.{Rup, Pr}
 use Rattle.records.specs.declared.Record.{Record}
-use Rattle.records.specs.declared.Record.the-variants.{NodeEntry, Witness, ProofLine, End, CutShort, UnknownKind, NoRecord}
+use Rattle.records.specs.declared.Record.the-variants.{NodeEntry, Witness, ProofLine, Strike, End, CutShort, UnknownKind, NoRecord}
 use Rattle.verdict.specs.Check as check
 
 abbrev pub Near : check.Step → Type 0
@@ -59,22 +58,27 @@ line-near : (n s : ℕ) (st : check.State) (rule : Rule) (root : ℕ) → Near (
 unfolding check.lineStep
 line-near n s st Rup root =
     let g : ℕ = check.entryNode st root in
-    let last : check.Step = check.judged s st g (rup n (map (check.diagramIn st) (st .members)) (check.diagramIn st g)) in
+    let last : check.Step = check.judged s st g (rup n (check.liveMembers st) (check.diagramIn st g)) in
     either (not (check.isEntry st root)) (check.stop 13 0) _ (omega arith)
     (either (check.waiting st) (check.stop 16 0) _ (omega arith)
     (either (leb 1024 (st .lines)) (check.stop 22 0) _ (omega arith)
     (either (eqb g 1) (check.stop 17 0) last (omega arith)
-    (judged-near s st g (rup n (map (check.diagramIn st) (st .members)) (check.diagramIn st g))))))
+    (judged-near s st g (rup n (check.liveMembers st) (check.diagramIn st g))))))
 line-near n s st Pr root =
     let g : ℕ = check.entryNode st root in
     let P : ℕ → Bool = inWord (st .positive) in
     let N : ℕ → Bool = inWord (st .negative) in
-    let last : check.Step = check.judged s st g (pr n P N (map (check.diagramIn st) (st .members)) (check.diagramIn st g)) in
+    let last : check.Step = check.judged s st g (pr n P N (check.liveMembers st) (check.diagramIn st g)) in
     either (not (check.isEntry st root)) (check.stop 13 0) _ (omega arith)
     (either (leb 1024 (st .lines)) (check.stop 22 0) _ (omega arith)
     (either (eqb g 1) (check.stop 17 0) _ (omega arith)
     (either (not (witnessed n P N (check.diagramIn st g))) (check.stop 18 0) last (omega arith)
-    (judged-near s st g (pr n P N (map (check.diagramIn st) (st .members)) (check.diagramIn st g))))))
+    (judged-near s st g (pr n P N (check.liveMembers st) (check.diagramIn st g))))))
+
+strike-near : (st : check.State) (k : ℕ) → Near (check.strikeStep st k)
+unfolding check.strikeStep
+strike-near st k =
+    either (check.waiting st) (check.stop 16 0) _ (omega arith) (either (not (check.isLive st k)) (check.stop 28 0) _ (omega arith) tt)
 
 end-near : (st : check.State) (more : Bool) → Near (check.endStep st more)
 unfolding check.endStep
@@ -87,6 +91,7 @@ unfolding check.step
 step-near n s st more (NodeEntry b) = node-near n s st b
 step-near n s st more (Witness v b) = witness-near n st v b
 step-near n s st more (ProofLine rule root) = line-near n s st rule (root .0)
+step-near n s st more (Strike k) = strike-near st (k .0)
 step-near n s st more End = end-near st more
 step-near n s st more CutShort = omega arith
 step-near n s st more UnknownKind = omega arith

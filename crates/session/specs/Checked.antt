@@ -4,8 +4,8 @@ use Prim.Native.Nat.{ℕ}
 use Rattle.verdict.specs.Check.{Outcome}
 use Rattle.session.specs.declared.Checked.{Checked}
 
-abbrev pub outcomeOf : List ℕ → List ℕ → List ℕ → List ℕ → List ℕ → Checked → Outcome
-outcomeOf vars lows highs members scratch r = record {
+abbrev pub outcomeOf : List ℕ → List ℕ → List ℕ → List ℕ → List ℕ → List ℕ → Checked → Outcome
+outcomeOf vars lows highs members struck scratch r = record {
   number = r .number;
   place = r .place;
   lines = r .lines;
@@ -14,5 +14,6 @@ outcomeOf vars lows highs members scratch r = record {
   peak = r .peak;
   columns = record { vars = vars; lows = lows; highs = highs };
   members = members;
+  struck = struck;
   scratch = scratch;
 }

@@ -6,10 +6,12 @@ use Rattle.table.specs.Indexed.{Good}
 use Rattle.steps.specs.declared.State.{State}
 use Rattle.steps.specs.States.{Lent, tableIn}
 
--- What the last record leaves: a good table with the nodes that stay, and zeros behind the members.
+-- What the last record leaves: a good table with the nodes that stay, and zeros behind the members and their marks.
 pub record Ends (l : Lent) (st : State) : Type 0 where
   pub good : Good (tableIn l (st .count))
   pub least : 2 ≤ st .kept
   pub kept : st .kept ≤ st .count
   pub room : st .members ≤ length (l .members)
   pub rest : (i : ℕ) → st .members ≤ i → _≡_ {A = ℕ} (getD (l .members) i 0) 0
+  pub marked : length (l .struck) ≡ length (l .members)
+  pub unmarked : (i : ℕ) → st .members ≤ i → _≡_ {A = ℕ} (getD (l .struck) i 0) 0

@@ -8,15 +8,26 @@ ghost use Rattle.walks.specs.Readable.{Roomy};
 ghost use Rattle.verdict.specs.Check.{verdict, lentFits, outcome, check};
 ghost use Rattle.session.specs.Checked.{outcomeOf};
 
-// Whether columns, member list and scratch list are of proper size.
-fn lent_fits(vars: &[u8], lows: &[u16], highs: &[u16], members: &[u16], scratch: &[u16]) -> bool
+// Whether columns, member list with its marks and scratch list are of proper size.
+fn lent_fits(
+    vars: &[u8],
+    lows: &[u16],
+    highs: &[u16],
+    members: &[u16],
+    scratch: &[u16],
+    struck: &[u8],
+) -> bool
     ensures { λ r. ⌜ r
-        ≡ lentFits (now (vars .entry)) (now (lows .entry)) (now (highs .entry)) (now (members .entry)) (now (scratch .entry)) ⌝ }
+        ≡ lentFits (now (vars .entry)) (now (lows .entry)) (now (highs .entry)) (now (members .entry)) (now (struck .entry))
+        (now (scratch .entry)) ⌝ }
 {
     if !table::test::size_fits(vars, lows, highs) {
         return false;
     }
-    2048 <= members.len() && 4096 <= scratch.len()
+    if members.len() < 2048 {
+        return false;
+    }
+    struck.len() == members.len() && 4096 <= scratch.len()
 }
 
 // For up to 64 places.
@@ -26,11 +37,14 @@ fn check_64<'a>(
     highs: &mut [u16],
     members: &mut [u16],
     scratch: &mut [u16],
+    struck: &mut [u8],
     formula: &'a [u8],
     proof: &'a [u8],
 ) -> Checked
-    requires { ⌜ (lentFits (now vars) (now lows) (now highs) (now members) (now scratch) ≡ true) × (length (now vars) ≤ 64) ⌝ }
-    ensures { λ r. ⌜ outcomeOf (now (vars .exit)) (now (lows .exit)) (now (highs .exit)) (now (members .exit)) (now (scratch .exit)) r
+    requires { ⌜ (lentFits (now vars) (now lows) (now highs) (now members) (now struck) (now scratch) ≡ true)
+        × (length (now vars) ≤ 64) ⌝ }
+    ensures { λ r. ⌜ outcomeOf (now (vars .exit)) (now (lows .exit)) (now (highs .exit)) (now (members .exit)) (now (struck .exit))
+        (now (scratch .exit)) r
         ≡ outcome (length (now (vars .entry))) (length (now (members .entry))) (length (now (scratch .entry)))
         (verdict (length (now (vars .entry))) (now (formula .entry)) (now (proof .entry))) ⌝ }
 {
@@ -50,6 +64,7 @@ fn check_64<'a>(
         &mut marks[..places],
         members,
         scratch,
+        struck,
         formula,
         proof,
     )
@@ -62,13 +77,16 @@ fn check_4096<'a>(
     highs: &mut [u16],
     members: &mut [u16],
     scratch: &mut [u16],
+    struck: &mut [u8],
     memo: &mut [u64],
     formula: &'a [u8],
     proof: &'a [u8],
 ) -> Checked
-    requires { ⌜ (lentFits (now vars) (now lows) (now highs) (now members) (now scratch) ≡ true) × (length (now vars) ≤ 4096)
+    requires { ⌜ (lentFits (now vars) (now lows) (now highs) (now members) (now struck) (now scratch) ≡ true)
+        × (length (now vars) ≤ 4096)
         × Roomy (now vars) (now memo) ⌝ }
-    ensures { λ r. ⌜ outcomeOf (now (vars .exit)) (now (lows .exit)) (now (highs .exit)) (now (members .exit)) (now (scratch .exit)) r
+    ensures { λ r. ⌜ outcomeOf (now (vars .exit)) (now (lows .exit)) (now (highs .exit)) (now (members .exit)) (now (struck .exit))
+        (now (scratch .exit)) r
         ≡ outcome (length (now (vars .entry))) (length (now (members .entry))) (length (now (scratch .entry)))
         (verdict (length (now (vars .entry))) (now (formula .entry)) (now (proof .entry))) ⌝ }
 {
@@ -87,6 +105,7 @@ fn check_4096<'a>(
         &mut marks[..places],
         members,
         scratch,
+        struck,
         formula,
         proof,
     )
@@ -99,11 +118,14 @@ fn check_4096_short<'a>(
     highs: &mut [u16],
     members: &mut [u16],
     scratch: &mut [u16],
+    struck: &mut [u8],
     formula: &'a [u8],
     proof: &'a [u8],
 ) -> Checked
-    requires { ⌜ (lentFits (now vars) (now lows) (now highs) (now members) (now scratch) ≡ true) × (length (now vars) ≤ 4096) ⌝ }
-    ensures { λ r. ⌜ outcomeOf (now (vars .exit)) (now (lows .exit)) (now (highs .exit)) (now (members .exit)) (now (scratch .exit)) r
+    requires { ⌜ (lentFits (now vars) (now lows) (now highs) (now members) (now struck) (now scratch) ≡ true)
+        × (length (now vars) ≤ 4096) ⌝ }
+    ensures { λ r. ⌜ outcomeOf (now (vars .exit)) (now (lows .exit)) (now (highs .exit)) (now (members .exit)) (now (struck .exit))
+        (now (scratch .exit)) r
         ≡ outcome (length (now (vars .entry))) (length (now (members .entry))) (length (now (scratch .entry)))
         (verdict (length (now (vars .entry))) (now (formula .entry)) (now (proof .entry))) ⌝ }
 {
@@ -114,6 +136,7 @@ fn check_4096_short<'a>(
         highs,
         members,
         scratch,
+        struck,
         &mut memo,
         formula,
         proof,
@@ -127,11 +150,14 @@ fn check_4096_long<'a>(
     highs: &mut [u16],
     members: &mut [u16],
     scratch: &mut [u16],
+    struck: &mut [u8],
     formula: &'a [u8],
     proof: &'a [u8],
 ) -> Checked
-    requires { ⌜ (lentFits (now vars) (now lows) (now highs) (now members) (now scratch) ≡ true) × (length (now vars) ≤ 4096) ⌝ }
-    ensures { λ r. ⌜ outcomeOf (now (vars .exit)) (now (lows .exit)) (now (highs .exit)) (now (members .exit)) (now (scratch .exit)) r
+    requires { ⌜ (lentFits (now vars) (now lows) (now highs) (now members) (now struck) (now scratch) ≡ true)
+        × (length (now vars) ≤ 4096) ⌝ }
+    ensures { λ r. ⌜ outcomeOf (now (vars .exit)) (now (lows .exit)) (now (highs .exit)) (now (members .exit)) (now (struck .exit))
+        (now (scratch .exit)) r
         ≡ outcome (length (now (vars .entry))) (length (now (members .entry))) (length (now (scratch .entry)))
         (verdict (length (now (vars .entry))) (now (formula .entry)) (now (proof .entry))) ⌝ }
 {
@@ -142,6 +168,7 @@ fn check_4096_long<'a>(
         highs,
         members,
         scratch,
+        struck,
         &mut memo,
         formula,
         proof,
@@ -155,11 +182,14 @@ fn check_65536<'a>(
     highs: &mut [u16],
     members: &mut [u16],
     scratch: &mut [u16],
+    struck: &mut [u8],
     formula: &'a [u8],
     proof: &'a [u8],
 ) -> Checked
-    requires { ⌜ (lentFits (now vars) (now lows) (now highs) (now members) (now scratch) ≡ true) × (length (now vars) ≤ 65536) ⌝ }
-    ensures { λ r. ⌜ outcomeOf (now (vars .exit)) (now (lows .exit)) (now (highs .exit)) (now (members .exit)) (now (scratch .exit)) r
+    requires { ⌜ (lentFits (now vars) (now lows) (now highs) (now members) (now struck) (now scratch) ≡ true)
+        × (length (now vars) ≤ 65536) ⌝ }
+    ensures { λ r. ⌜ outcomeOf (now (vars .exit)) (now (lows .exit)) (now (highs .exit)) (now (members .exit)) (now (struck .exit))
+        (now (scratch .exit)) r
         ≡ outcome (length (now (vars .entry))) (length (now (members .entry))) (length (now (scratch .entry)))
         (verdict (length (now (vars .entry))) (now (formula .entry)) (now (proof .entry))) ⌝ }
 {
@@ -179,6 +209,7 @@ fn check_65536<'a>(
         &mut marks[..places],
         members,
         scratch,
+        struck,
         formula,
         proof,
     )
@@ -192,14 +223,16 @@ pub fn call<'a>(
     count: usize,
     members: &mut [u16],
     scratch: &mut [u16],
+    struck: &mut [u8],
     formula: &'a [u8],
     proof: &'a [u8],
 ) -> Checked
-    ensures { λ r. ⌜ outcomeOf (now (vars .exit)) (now (lows .exit)) (now (highs .exit)) (now (members .exit)) (now (scratch .exit)) r
-        ≡ check (now (vars .entry)) (now (lows .entry)) (now (highs .entry)) count (now (members .entry)) (now (scratch .entry))
-        (now (formula .entry)) (now (proof .entry)) ⌝ }
+    ensures { λ r. ⌜ outcomeOf (now (vars .exit)) (now (lows .exit)) (now (highs .exit)) (now (members .exit)) (now (struck .exit))
+        (now (scratch .exit)) r
+        ≡ check (now (vars .entry)) (now (lows .entry)) (now (highs .entry)) count (now (members .entry)) (now (struck .entry))
+        (now (scratch .entry)) (now (formula .entry)) (now (proof .entry)) ⌝ }
 {
-    if !lent_fits(vars, lows, highs, members, scratch) {
+    if !lent_fits(vars, lows, highs, members, scratch, struck) {
         return Checked {
             number: 7,
             place: 0,
@@ -210,13 +243,13 @@ pub fn call<'a>(
         };
     }
     if vars.len() <= 64 {
-        return check_64(vars, lows, highs, members, scratch, formula, proof);
+        return check_64(vars, lows, highs, members, scratch, struck, formula, proof);
     }
     if vars.len() <= 4096 {
         if proof.len() <= 2048 {
-            return check_4096_short(vars, lows, highs, members, scratch, formula, proof);
+            return check_4096_short(vars, lows, highs, members, scratch, struck, formula, proof);
         }
-        return check_4096_long(vars, lows, highs, members, scratch, formula, proof);
+        return check_4096_long(vars, lows, highs, members, scratch, struck, formula, proof);
     }
-    check_65536(vars, lows, highs, members, scratch, formula, proof)
+    check_65536(vars, lows, highs, members, scratch, struck, formula, proof)
 }

@@ -30,7 +30,7 @@ pub struct Checked {
     pub peak: usize,
 }
 
-// The clauses from `from` on, then the proof, with table and member list emptied. The scratch list is then anything.
+// The clauses from `from` on, then the proof, with table, member list and its marks emptied. The scratch list is then anything.
 fn run_clauses<'a>(
     vars: &mut [u8],
     lows: &mut [u16],
@@ -41,6 +41,7 @@ fn run_clauses<'a>(
     marks: &mut [u8],
     members: &mut [u16],
     scratch: &mut [u16],
+    struck: &mut [u8],
     variables: u8,
     wanted: usize,
     from: usize,
@@ -53,9 +54,10 @@ fn run_clauses<'a>(
         × (from ≤ length (now formula))
         × (4096 ≤ length (now scratch))
         × (now marks ≡ unmarked (length (now vars)))
-        × Roomy (now vars) (now memo) ⌝ }
+        × Roomy (now vars) (now memo)
+        × (now struck ≡ zeros (length (now members))) ⌝ }
     ensures { λ r. ⌜ outcomeOf (now (vars .exit)) (now (lows .exit)) (now (highs .exit)) (now (members .exit))
-        (zeros (length (now (scratch .entry)))) r
+        (now (struck .exit)) (zeros (length (now (scratch .entry)))) r
         ≡ outcome (length (now (vars .entry))) (length (now (members .entry))) (length (now (scratch .entry)))
         (clauses variables (length (now (vars .entry))) (now (proof .entry)) emptied []
         (clausesFrom (now (formula .entry)) variables wanted from)) ⌝ }
@@ -97,6 +99,7 @@ fn run_clauses<'a>(
             marks,
             members,
             scratch,
+            struck,
             variables,
             count,
             made,
@@ -105,7 +108,7 @@ fn run_clauses<'a>(
     }
 }
 
-// The formula and the proof, with table and member list emptied. The scratch list is then anything.
+// The formula and the proof, with table, member list and its marks emptied. The scratch list is then anything.
 fn run_header<'a>(
     vars: &mut [u8],
     lows: &mut [u16],
@@ -116,13 +119,17 @@ fn run_header<'a>(
     marks: &mut [u8],
     members: &mut [u16],
     scratch: &mut [u16],
+    struck: &mut [u8],
     formula: &'a [u8],
     proof: &'a [u8],
 ) -> Checked
     requires { ⌜ Opened (tableOf (now vars) (now lows) (now highs) (now heads) (now links) 2) (now members) ⌝ }
-    requires { ⌜ (4096 ≤ length (now scratch)) × (now marks ≡ unmarked (length (now vars))) × Roomy (now vars) (now memo) ⌝ }
+    requires { ⌜ (4096 ≤ length (now scratch))
+        × (now marks ≡ unmarked (length (now vars)))
+        × Roomy (now vars) (now memo)
+        × (now struck ≡ zeros (length (now members))) ⌝ }
     ensures { λ r. ⌜ outcomeOf (now (vars .exit)) (now (lows .exit)) (now (highs .exit)) (now (members .exit))
-        (zeros (length (now (scratch .entry)))) r
+        (now (struck .exit)) (zeros (length (now (scratch .entry)))) r
         ≡ outcome (length (now (vars .entry))) (length (now (members .entry))) (length (now (scratch .entry)))
         (verdict (length (now (vars .entry))) (now (formula .entry)) (now (proof .entry))) ⌝ }
 {
@@ -149,6 +156,7 @@ fn run_header<'a>(
             marks,
             members,
             scratch,
+            struck,
             variables,
             clauses,
             end,
@@ -158,7 +166,7 @@ fn run_header<'a>(
     }
 }
 
-// The whole check, with index and marks all zero. What it leaves in index, memo and marks is not said.
+// The whole check, with index and the conflict's marks all zero. What it leaves in index, memo and those marks is not said.
 pub fn run<'a>(
     vars: &mut [u8],
     lows: &mut [u16],
@@ -169,19 +177,22 @@ pub fn run<'a>(
     marks: &mut [u8],
     members: &mut [u16],
     scratch: &mut [u16],
+    struck: &mut [u8],
     formula: &'a [u8],
     proof: &'a [u8],
 ) -> Checked
-    requires { ⌜ lentFits (now vars) (now lows) (now highs) (now members) (now scratch) ≡ true ⌝ }
+    requires { ⌜ lentFits (now vars) (now lows) (now highs) (now members) (now struck) (now scratch) ≡ true ⌝ }
     requires { ⌜ (now heads ≡ zeros (2 * length (now vars)))
         × (now links ≡ zeros (length (now vars)))
         × (now marks ≡ unmarked (length (now vars)))
         × Roomy (now vars) (now memo) ⌝ }
-    ensures { λ r. ⌜ outcomeOf (now (vars .exit)) (now (lows .exit)) (now (highs .exit)) (now (members .exit)) (now (scratch .exit)) r
+    ensures { λ r. ⌜ outcomeOf (now (vars .exit)) (now (lows .exit)) (now (highs .exit)) (now (members .exit)) (now (struck .exit))
+        (now (scratch .exit)) r
         ≡ outcome (length (now (vars .entry))) (length (now (members .entry))) (length (now (scratch .entry)))
         (verdict (length (now (vars .entry))) (now (formula .entry)) (now (proof .entry))) ⌝ }
 {
     clear::empty(vars, lows, highs, members);
+    clear::clear_bytes(struck);
     let said = run_header(
         vars,
         lows,
@@ -192,6 +203,7 @@ pub fn run<'a>(
         marks,
         members,
         scratch,
+        struck,
         formula,
         proof,
     );

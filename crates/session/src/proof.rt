@@ -33,23 +33,24 @@ fn read_records(
     marks: &mut [u8],
     members: &mut [u16],
     scratch: &mut [u16],
+    struck: &mut [u8],
     first: State,
     variables: u8,
     proof: &[u8],
 ) -> Ended
     requires { ⌜ (
-        let lent = lentOf (now vars) (now lows) (now highs) (now heads) (now links) (now members) (now scratch) in
+        let lent = lentOf (now vars) (now lows) (now highs) (now heads) (now links) (now members) (now scratch) (now struck) in
         Held variables lent first × (now marks ≡ unmarked (length (now vars))) × Roomy (now vars) (now memo)) ⌝ }
     ensures { λ r. ⌜ (
         let lent = lentOf (now (vars .entry)) (now (lows .entry)) (now (highs .entry)) (now (heads .entry)) (now (links .entry))
-        (now (members .entry)) (now (scratch .entry)) in
+        (now (members .entry)) (now (scratch .entry)) (now (struck .entry)) in
         let returned = lentOf (now (vars .exit)) (now (lows .exit)) (now (highs .exit)) (now (heads .exit)) (now (links .exit))
-        (now (members .exit)) (now (scratch .exit)) in
+        (now (members .exit)) (now (scratch .exit)) (now (struck .exit)) in
         records (suc (length (now (proof .entry)))) variables (length (now (vars .entry))) (now (proof .entry)) (stateOf lent first) 0
         ≡ left (r .number) (r .place) (r .peak) (stateOf returned (r .state))) ⌝ }
     ensures { λ r. ⌜ (
         let returned = lentOf (now (vars .exit)) (now (lows .exit)) (now (highs .exit)) (now (heads .exit)) (now (links .exit))
-        (now (members .exit)) (now (scratch .exit)) in
+        (now (members .exit)) (now (scratch .exit)) (now (struck .exit)) in
         Ends returned (r .state)) ⌝ }
 {
     let mut state = first;
@@ -67,6 +68,7 @@ fn read_records(
             marks,
             members,
             scratch,
+            struck,
             state,
             variables,
             next < proof.len(),
@@ -113,6 +115,7 @@ pub fn run_proof(
     marks: &mut [u8],
     members: &mut [u16],
     scratch: &mut [u16],
+    struck: &mut [u8],
     variables: u8,
     count: usize,
     made: usize,
@@ -125,10 +128,12 @@ pub fn run_proof(
         × (2048 ≤ length (now members))
         × (4096 ≤ length (now scratch))
         × (now marks ≡ unmarked (length (now vars)))
-        × Roomy (now vars) (now memo)) ⌝ }
+        × Roomy (now vars) (now memo)
+        × (now struck ≡ zeros (length (now members)))) ⌝ }
     ensures { λ r. ⌜ (
         let before = tableOf (now (vars .entry)) (now (lows .entry)) (now (highs .entry)) (now (heads .entry)) (now (links .entry)) count in
-        outcomeOf (now (vars .exit)) (now (lows .exit)) (now (highs .exit)) (now (members .exit)) (zeros (length (now (scratch .entry)))) r
+        outcomeOf (now (vars .exit)) (now (lows .exit)) (now (highs .exit)) (now (members .exit)) (now (struck .exit))
+        (zeros (length (now (scratch .entry)))) r
         ≡ outcome (length (now (vars .entry))) (length (now (members .entry))) (length (now (scratch .entry)))
         (records (suc (length (now (proof .entry)))) variables (length (now (vars .entry))) (now (proof .entry))
         (begun (nodesOf before) (take made (now (members .entry)))) 0)) ⌝ }
@@ -155,6 +160,7 @@ pub fn run_proof(
         marks,
         members,
         scratch,
+        struck,
         first,
         variables,
         proof,

@@ -3,5 +3,6 @@ pub mod Stops
 pub mod Witnesses
 pub mod Entries
 pub mod Nodes
+pub mod Strikings
 pub mod Lines
 pub mod Records

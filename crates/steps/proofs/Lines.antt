@@ -7,7 +7,7 @@ use Prim.Native.Nat.{ℕ, suc, _+_, _≤_, _<_, max}
 use native.Mathlib.Omega.{arith}
 use lib.ListN.{length, getD, take, set, length-set}
 use lib.Dec.{eqb, leb}
-use lib.Seq.{getD-set-other}
+use lib.Seq.{getD-set-other, set-getD}
 use Rattle.meaning.specs.Rules.{Line, witnessed}
 use Rattle.meaning.specs.Words.{inWord}
 use Rattle.table.specs.Indexed.{Table, size, nodesOf}
@@ -18,7 +18,7 @@ use Rattle.table.proofs.Outcomes.{droppedTo, undone}
 use Rattle.records.specs.declared.Rule.{Rule}
 use Rattle.records.specs.declared.Rule.the-variants.{Rup, Pr}
 use Rattle.verdict.specs.Check as check
-use Rattle.verdict.specs.Check.{next, spent, isEntry, entryNode, waiting, accepted, judged, diagramIn, lineStep}
+use Rattle.verdict.specs.Check.{next, spent, isEntry, entryNode, unstruck, waiting, accepted, judged, diagramIn, lineStep}
 use Rattle.table.specs.Lists.{Inside}
 use Rattle.table.proofs.Extended.{extended-longer}
 use Rattle.judge.specs.declared.Judged.{Judged}
@@ -27,9 +27,11 @@ use Rattle.judge.proofs.Widths.{witnessed-at, rup-at, pr-at}
 use Rattle.steps.specs.declared.State.{State}
 use Rattle.steps.specs.declared.Step.the-variants.{Next, Stop, Spent}
 use Rattle.steps.specs.States.{Lent, tableIn, stateOf, withLine, Held, Stepped}
-use Rattle.steps.specs.Tests.{lineRefusal, lineOf}
+use Rattle.verdict.specs.Run.{lineOf}
+use Rattle.steps.specs.Tests.{lineRefusal}
 use Rattle.steps.proofs.Stops.{unless, unless-refused, unless-none, line-is, LineFits, line-fits, stopped}
 use Rattle.steps.proofs.Entries.{entry-in}
+use Rattle.steps.proofs.Strikings.{unstruck-inside}
 use Rattle.steps.proofs.Nodes.{lentWith, inside-more, one-more}
 
 -- ---- the tests of a line
@@ -119,6 +121,8 @@ held-64 n L st H = record {
   many = H .many;
   lines = H .lines;
   room = H .room;
+  marked = H .marked;
+  unmarked = H .unmarked;
   rounds = H .rounds;
 }
 
@@ -138,6 +142,13 @@ module _ (n : ℕ) (L : Lent) (st : State) (H : Held n L st) (rule : Rule) (root
   -- the members below the count
   pub members-inside : Inside (st .count) (take (st .members) (L .members))
   members-inside i p = let k : getD (take (st .members) (L .members)) i 0 < st .kept = H .inside i p in omega (arith, H .kept)
+
+  -- those that are not struck
+  abbrev live : List ℕ
+  live = unstruck (take (st .members) (L .struck)) (take (st .members) (L .members))
+
+  live-inside : Inside (st .count) live
+  live-inside = unstruck-inside (st .count) (take (st .members) (L .struck)) (take (st .members) (L .members)) members-inside
 
   pub root-in : isEntry S root ≡ true → g < st .count
   root-in = entry-in n L st H root
@@ -167,9 +178,9 @@ module _ (n : ℕ) (L : Lent) (st : State) (H : Held n L st) (rule : Rule) (root
   line-width k p ne = go rule
     where
       go : (r : Rule) → lineOf 64 S r k ≡ lineOf n S r k
-      go Rup = rup-at n (H .entries .narrow) T (H .entries .good) (H .entries .uses) (take (st .members) (L .members)) members-inside k p ne
+      go Rup = rup-at n (H .entries .narrow) T (H .entries .good) (H .entries .uses) live live-inside k p ne
       go Pr =
-          pr-at n (H .entries .narrow) T (H .entries .good) (H .entries .uses) (take (st .members) (L .members)) members-inside k p ne (inWord (st .positive)) (inWord (st .negative))
+          pr-at n (H .entries .narrow) T (H .entries .good) (H .entries .uses) live live-inside k p ne (inWord (st .positive)) (inWord (st .negative))
 
   pub line-refused : (number : ℕ) → number ≡ lineRefusal 64 S rule root → (number ≡ 0 → ⊥) → Stepped n L L st said (Stop number 0)
   line-refused number e ne =
@@ -203,23 +214,23 @@ module _ (n : ℕ) (L : Lent) (st : State) (H : Held n L st) (rule : Rule) (root
       back : T₂ ≡ T
       back = dropped ∙ undone T (H .entries .good) T₁ (extended-longer T T₁ (H .entries .good) (J .extended))
 
-      same-table : (ms cs : List ℕ) → tableIn (lentWith T₂ ms cs) (st .count) ≡ tableIn L (st .count)
-      same-table ms cs = ap (λ (t : Table). tableIn (lentWith t ms cs) (st .count)) back
+      same-table : (ms cs ss : List ℕ) → tableIn (lentWith T₂ ms cs ss) (st .count) ≡ tableIn L (st .count)
+      same-table ms cs ss = ap (λ (t : Table). tableIn (lentWith t ms cs ss) (st .count)) back
 
       reaches : (b : Bool) → j .full ≡ b → lineReach (size T) (nodesOf T) (lineOf 64 S rule k) ≡ reach (not b) (j .peak)
       reaches b f = J .reaches ∙ ap (λ (x : Bool). reach (not x) (j .peak)) f
 
       module _ (peak : ℕ) (greatest : peak ≡ max (st .peak) (j .peak)) where
-        pub line-23 : (cs : List ℕ) → j .full ≡ true → Stepped n L (lentWith T₂ (L .members) cs) st said (Spent 23 peak)
+        pub line-23 : (cs : List ℕ) → j .full ≡ true → Stepped n L (lentWith T₂ (L .members) cs (L .struck)) st said (Spent 23 peak)
         line-23 cs f = record {
           says = ap (spent 23) greatest ∙ sym (said-is ∙ judged-23 (size T) S k (lineOf 64 S rule k) (j .peak) (reaches true f));
-          leaves = (same-table (L .members) cs, refl);
+          leaves = record { table = same-table (L .members) cs (L .struck); members = refl; struck = refl };
         }
 
-        pub line-19 : (cs : List ℕ) → j .full ≡ false → j .shown ≡ false → Stepped n L (lentWith T₂ (L .members) cs) st said (Spent 19 peak)
+        pub line-19 : (cs : List ℕ) → j .full ≡ false → j .shown ≡ false → Stepped n L (lentWith T₂ (L .members) cs (L .struck)) st said (Spent 19 peak)
         line-19 cs f e = record {
           says = ap (spent 19) greatest ∙ sym (said-is ∙ judged-19 (size T) S k (lineOf 64 S rule k) (j .peak) (reaches false f) (sym (J .shown f) ∙ e));
-          leaves = (same-table (L .members) cs, refl);
+          leaves = record { table = same-table (L .members) cs (L .struck); members = refl; struck = refl };
         }
 
       module _ (cs : List ℕ) (room : 4096 ≤ length cs) (f : j .full ≡ false) (shown : j .shown ≡ true) where
@@ -227,13 +238,14 @@ module _ (n : ℕ) (L : Lent) (st : State) (H : Held n L st) (rule : Rule) (root
         st′ = withLine st (j .rounds) (max (st .peak) (j .peak)) k
 
         abbrev L′ : Lent
-        L′ = lentWith T (set (L .members) (st .members) k) cs
+        L′ = lentWith T (set (L .members) (st .members) k) cs (L .struck)
 
-        abbrev stateWith : ℕ → List ℕ → ℕ → ℕ → check.State
-        stateWith kept ms lines rounds = record {
+        abbrev stateWith : ℕ → List ℕ → List ℕ → ℕ → ℕ → check.State
+        stateWith kept ms ss lines rounds = record {
           nodes = nodesOf T;
           kept = kept;
           members = ms;
+          struck = ss;
           entries = [];
           positive = 0;
           negative = 0;
@@ -246,11 +258,20 @@ module _ (n : ℕ) (L : Lent) (st : State) (H : Held n L st) (rule : Rule) (root
         member-room : st .members < length (L .members)
         member-room = omega (arith, few-members, H .room)
 
+        -- the new member's mark is there already
+        mark-more : take (st .members + 1) (L .struck) ≡ take (st .members) (L .struck) ++ 0 ∷ []
+        mark-more =
+            ap (λ (ss : List ℕ). take (st .members + 1) ss) (sym (set-getD (L .struck) (st .members) 0) ∙ ap (set (L .struck) (st .members)) (H .unmarked (st .members) (omega arith)))
+            ∙ one-more (L .struck) (st .members) 0 (omega (arith, member-room, H .marked))
+
         says : next (stateOf L′ st′) ≡ said
         says =
             let one : st .lines + 1 ≡ suc (st .lines) = omega arith in
-            ap₂ (λ (kept : ℕ) (ms : List ℕ). next (stateWith kept ms (st .lines + 1) (st .rounds + j .rounds))) (sym (length-nodes T (H .entries .good))) (one-more (L .members) (st .members) k member-room)
-            ∙ ap₂ (λ (lines rounds : ℕ). next (stateWith (length (nodesOf T)) (take (st .members) (L .members) ++ k ∷ []) lines (st .rounds + rounds))) one (J .rounds f)
+            ap₂ (λ (kept : ℕ) (ms : List ℕ). next (stateWith kept ms (take (st .members + 1) (L .struck)) (st .lines + 1) (st .rounds + j .rounds)))
+            (sym (length-nodes T (H .entries .good))) (one-more (L .members) (st .members) k member-room)
+            ∙ ap (λ (ss : List ℕ). next (stateWith (length (nodesOf T)) (take (st .members) (L .members) ++ k ∷ []) ss (st .lines + 1) (st .rounds + j .rounds))) mark-more
+            ∙ ap₂ (λ (lines rounds : ℕ). next (stateWith (length (nodesOf T)) (take (st .members) (L .members) ++ k ∷ []) (take (st .members) (L .struck) ++ 0 ∷ []) lines (st .rounds + rounds)))
+            one (J .rounds f)
             ∙ sym (said-is ∙ judged-next (size T) S k (lineOf 64 S rule k) (j .peak) (reaches false f) (sym (J .shown f) ∙ shown))
 
         held : Held n L′ st′
@@ -270,10 +291,12 @@ module _ (n : ℕ) (L : Lent) (st : State) (H : Held n L st) (rule : Rule) (root
           many = omega (arith, H .many);
           lines = omega (arith, fits .few);
           room = omega (arith, length-set (L .members) (st .members) k, H .room);
+          marked = H .marked ∙ sym (length-set (L .members) (st .members) k);
+          unmarked = λ i p. H .unmarked i (omega arith);
           rounds = omega (arith, H .rounds, J .most);
         }
 
-        pub line-next : (st″ : State) → st″ ≡ st′ → Stepped n L (lentWith T₂ (set (L .members) (st .members) k) cs) st said (Next st″)
+        pub line-next : (st″ : State) → st″ ≡ st′ → Stepped n L (lentWith T₂ (set (L .members) (st .members) k) cs (L .struck)) st said (Next st″)
         line-next st″ e =
-            subst (λ (t : Table). Stepped n L (lentWith t (set (L .members) (st .members) k) cs) st said (Next st″)) (sym back)
+            subst (λ (t : Table). Stepped n L (lentWith t (set (L .members) (st .members) k) cs (L .struck)) st said (Next st″)) (sym back)
             (subst (λ (x : State). Stepped n L L′ st said (Next x)) (sym e) (record { says = says; leaves = held }))

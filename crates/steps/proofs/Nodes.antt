@@ -33,8 +33,8 @@ use Rattle.steps.proofs.Stops.{unless, unless-refused, unless-none, nod
 use Rattle.steps.proofs.Entries.{entry-in}
 
 -- Other lists lent with a table.
-abbrev pub lentWith : Table → List ℕ → List ℕ → Lent
-lentWith t ms cs = lentOf (t .vars) (t .lows) (t .highs) (t .heads) (t .links) ms cs
+abbrev pub lentWith : Table → List ℕ → List ℕ → List ℕ → Lent
+lentWith t ms cs ss = lentOf (t .vars) (t .lows) (t .highs) (t .heads) (t .links) ms cs ss
 
 -- One number more in a list whose first m places are in use.
 pub inside-more : (list : List ℕ) (m k bound bound′ : ℕ) → m < length list → Inside bound (take m list) → bound ≤ bound′ → k < bound′ → Inside bound′ (take (m + 1) (set list m k))
@@ -84,6 +84,7 @@ entryMade st o = record {
   nodes = nodesOf (o .table);
   kept = st .kept;
   members = st .members;
+  struck = st .struck;
   entries = st .entries ++ o .node ∷ [];
   positive = st .positive;
   negative = st .negative;
@@ -102,6 +103,7 @@ placed-goes st n s (placed t k) u f = (
     nodes = x;
     kept = st .kept;
     members = st .members;
+    struck = st .struck;
     entries = st .entries ++ k ∷ [];
     positive = st .positive;
     negative = st .negative;
@@ -176,13 +178,17 @@ module _ (n : ℕ) (L : Lent) (st : State) (b : NodeBody) (H : Held n L st) wher
     counted = length-nodes (o .table) (grown .good)
 
     pub node-full : (peak : ℕ) → peak ≡ max (st .peak) (o .table .count) → o .full ≡ true
-        → Stepped n L (lentWith (o .table) (L .members) (L .scratch)) st said (Spent 23 peak)
+        → Stepped n L (lentWith (o .table) (L .members) (L .scratch) (L .struck)) st said (Spent 23 peak)
     node-full peak greatest f =
         let (table, stops) = full-stops S (size T) (put (size T) (nodesOf T) (b .variable) l h) (put-full (size T) (nodesOf T) (b .variable) l h) (sym (ap (λ (x : Outcome). x .full) made) ∙ f) in
         let same : o .table ≡ T = ap (λ (x : Outcome). x .table) made ∙ table ∙ sym (H .entries .good .written) in
         record {
           says = ap (spent 23) (greatest ∙ ap (max (st .peak)) (sym counted ∙ ap (λ (x : Outcome). length (nodesOf (x .table))) made)) ∙ sym (said-is ∙ stops);
-          leaves = (ap (λ (t : Table). tableIn (lentWith t (L .members) (L .scratch)) (st .count)) same, refl);
+          leaves = record {
+            table = ap (λ (t : Table). tableIn (lentWith t (L .members) (L .scratch) (L .struck)) (st .count)) same;
+            members = refl;
+            struck = refl;
+          };
         }
 
     module _ (f : o .full ≡ false) where
@@ -197,7 +203,7 @@ module _ (n : ℕ) (L : Lent) (st : State) (b : NodeBody) (H : Held n L st) wher
           omega (arith, fits .few, H .entries .room)
 
       abbrev L′ : Lent
-      L′ = lentWith (o .table) (L .members) (set (L .scratch) (st .entries) (o .node))
+      L′ = lentWith (o .table) (L .members) (set (L .scratch) (st .entries) (o .node)) (L .struck)
 
       held : Held n L′ (withEntry st (o .table .count) (max (st .peak) (o .table .count)))
       held =
@@ -218,6 +224,8 @@ module _ (n : ℕ) (L : Lent) (st : State) (b : NodeBody) (H : Held n L st) wher
             many = H .many;
             lines = H .lines;
             room = H .room;
+            marked = H .marked;
+            unmarked = H .unmarked;
             rounds = H .rounds;
           }
 
@@ -227,6 +235,7 @@ module _ (n : ℕ) (L : Lent) (st : State) (b : NodeBody) (H : Held n L st) wher
             nodes = nodesOf (o .table);
             kept = st .kept;
             members = take (st .members) (L .members);
+            struck = take (st .members) (L .struck);
             entries = es;
             positive = st .positive;
             negative = st .negative;

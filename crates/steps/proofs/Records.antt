@@ -5,10 +5,11 @@ use Prim.Native.Nat.{ℕ}
 use Rattle.records.specs.declared.NodeBody.{NodeBody}
 use Rattle.records.specs.declared.Rule.{Rule}
 use Rattle.records.specs.declared.EntryNo.{EntryNo}
+use Rattle.records.specs.declared.MemberNo.{MemberNo}
 use Rattle.records.specs.declared.Record.{Record}
-use Rattle.records.specs.declared.Record.the-variants.{NodeEntry, Witness, ProofLine, End, CutShort, UnknownKind, NoRecord}
+use Rattle.records.specs.declared.Record.the-variants.{NodeEntry, Witness, ProofLine, Strike, End, CutShort, UnknownKind, NoRecord}
 use Rattle.verdict.specs.Check as check
-use Rattle.verdict.specs.Check.{stop, nodeStep, witnessStep, lineStep, endStep, step}
+use Rattle.verdict.specs.Check.{stop, nodeStep, witnessStep, lineStep, strikeStep, endStep, step}
 use Rattle.steps.specs.declared.State.{State}
 use Rattle.steps.specs.declared.Step.{Step}
 use Rattle.steps.specs.declared.Step.the-variants.{Stop}
@@ -27,6 +28,10 @@ module _ (n s : ℕ) (S : check.State) (more : Bool) where
   step-line : (rule : Rule) (root : EntryNo) → step n s S more (ProofLine rule root) ≡ lineStep n s S rule (root .0)
   unfolding step
   step-line rule root = refl
+
+  step-strike : (k : MemberNo) → step n s S more (Strike k) ≡ strikeStep S (k .0)
+  unfolding step
+  step-strike k = refl
 
   step-end : step n s S more End ≡ endStep S more
   unfolding step
@@ -59,6 +64,9 @@ module _ (n s : ℕ) (l l′ : Lent) (st : State) (more : Bool) (r : Record) (re
 
   pub as-line : (rule : Rule) (root : EntryNo) → r ≡ ProofLine rule root → Stepped n l l′ st (lineStep n s S rule (root .0)) res → Stepped n l l′ st (step n s S more r) res
   as-line rule root e = as-said (ProofLine rule root) (lineStep n s S rule (root .0)) e (step-line n s S more rule root)
+
+  pub as-strike : (k : MemberNo) → r ≡ Strike k → Stepped n l l′ st (strikeStep S (k .0)) res → Stepped n l l′ st (step n s S more r) res
+  as-strike k e = as-said (Strike k) (strikeStep S (k .0)) e (step-strike n s S more k)
 
   pub as-end : r ≡ End → Stepped n l l′ st (endStep S more) res → Stepped n l l′ st (step n s S more r) res
   as-end e = as-said End (endStep S more) e (step-end n s S more)

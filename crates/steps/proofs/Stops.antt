@@ -17,11 +17,12 @@ use Rattle.verdict.specs.Check.{stop, isEntry, entryNode, isVariable, entered, 
 use Rattle.steps.specs.declared.State.{State}
 use Rattle.steps.specs.declared.Step.the-variants.{Stop}
 use Rattle.steps.specs.States.{Lent, Stepped}
-use Rattle.steps.specs.Tests.{nodeRefusal, lineRefusal, lineOf}
+use Rattle.verdict.specs.Run.{lineOf}
+use Rattle.steps.specs.Tests.{nodeRefusal, lineRefusal}
 
 -- The lent lists are as they were.
 pub stopped : (n : ℕ) (l : Lent) (st : State) (said : check.Step) (number offset : ℕ) → said ≡ stop number offset → Stepped n l l st said (Stop number offset)
-stopped n l st said number offset e = record { says = sym e; leaves = (refl, refl) }
+stopped n l st said number offset e = record { says = sym e; leaves = record { table = refl; members = refl; struck = refl } }
 
 -- ---- tests as one number
 

@@ -54,6 +54,8 @@ held-witness n l st positive negative H = record {
   many = H .many;
   lines = H .lines;
   room = H .room;
+  marked = H .marked;
+  unmarked = H .unmarked;
   rounds = H .rounds;
 }
 

@@ -15,7 +15,7 @@ use Rattle.steps.specs.declared.Step.the-variants.{Next, Stop, Spent}
 
 -- ---- the definition's state
 
--- The lists that hold a state: columns, index, member list and scratch list.
+-- The lists that hold a state: columns, index, members, scratch list and the members' marks.
 pub record Lent : Type 0 where
   pub vars : List ℕ
   pub lows : List ℕ
@@ -24,9 +24,11 @@ pub record Lent : Type 0 where
   pub links : List ℕ
   pub members : List ℕ
   pub scratch : List ℕ
+  pub struck : List ℕ
 
-abbrev pub lentOf : List ℕ → List ℕ → List ℕ → List ℕ → List ℕ → List ℕ → List ℕ → Lent
-lentOf vs ls hs ds ks ms cs = record { vars = vs; lows = ls; highs = hs; heads = ds; links = ks; members = ms; scratch = cs }
+abbrev pub lentOf : List ℕ → List ℕ → List ℕ → List ℕ → List ℕ → List ℕ → List ℕ → List ℕ → Lent
+lentOf vs ls hs ds ks ms cs ss =
+    record { vars = vs; lows = ls; highs = hs; heads = ds; links = ks; members = ms; scratch = cs; struck = ss }
 
 -- The table lent, with a count.
 abbrev pub tableIn : Lent → ℕ → Table
@@ -38,6 +40,7 @@ stateOf l st = record {
   nodes = nodesOf (tableIn l (st .count));
   kept = st .kept;
   members = take (st .members) (l .members);
+  struck = take (st .members) (l .struck);
   entries = take (st .entries) (l .scratch);
   positive = st .positive;
   negative = st .negative;
@@ -120,13 +123,21 @@ pub record Held (n : ℕ) (l : Lent) (st : State) : Type 0 where
   pub many : st .members ≤ 1024 + st .lines
   pub lines : st .lines ≤ 1024
   pub room : 2048 ≤ length (l .members)
+  pub marked : length (l .struck) ≡ length (l .members)
+  pub unmarked : (i : ℕ) → st .members ≤ i → getD (l .struck) i 0 ≡ 0
   pub rounds : st .rounds ≤ st .lines * 131072
 
--- The next state is held; a refused record leaves table and members as they were.
+-- A refused record leaves table, members and marks as they were.
+pub record Unmoved (l l′ : Lent) (st : State) : Type 0 where
+  pub table : tableIn l′ (st .count) ≡ tableIn l (st .count)
+  pub members : l′ .members ≡ l .members
+  pub struck : l′ .struck ≡ l .struck
+
+-- The next state is held; a refused record moves nothing.
 abbrev pub HeldAfter : ℕ → Lent → Lent → State → Step → Type 0
 HeldAfter n l l′ st (Next st′) = Held n l′ st′
-HeldAfter n l l′ st (Stop number offset) = (tableIn l′ (st .count) ≡ tableIn l (st .count)) × (l′ .members ≡ l .members)
-HeldAfter n l l′ st (Spent number peak) = (tableIn l′ (st .count) ≡ tableIn l (st .count)) × (l′ .members ≡ l .members)
+HeldAfter n l l′ st (Stop number offset) = Unmoved l l′ st
+HeldAfter n l l′ st (Spent number peak) = Unmoved l l′ st
 
 -- A step comes to what the definition says, and leaves l′ of l.
 pub record Stepped (n : ℕ) (l l′ : Lent) (st : State) (said : check.Step) (r : Step) : Type 0 where

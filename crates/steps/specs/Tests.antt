@@ -1,12 +1,10 @@
--- The numbers with which a record is refused before anything is made, 0 where it is not; and the line that is then judged. No call open
--- to others cites this file.
+-- The numbers with which a record is refused before anything is made, 0 where it is not. No call open to others cites this file.
 use mathlib.Core.Path.{_≡_}
 use mathlib.Core.Bool.{not, _&&_, cond}
-use mathlib.Core.List.{map}
 use Prim.Native.Nat.{ℕ}
 use lib.ListN.{length}
 use lib.Dec.{eqb, leb}
-use Rattle.meaning.specs.Rules.{Line, rup, pr, witnessed}
+use Rattle.meaning.specs.Rules.{witnessed}
 use Rattle.meaning.specs.Words.{inWord}
 use Rattle.table.specs.Nodes.{above}
 use Rattle.records.specs.declared.NodeBody.{NodeBody}
@@ -48,8 +46,3 @@ lineRefusal n st Pr root =
 abbrev pub LineTested : ℕ → State → Rule → ℕ → LineTest → Type 0
 LineTested n st rule root (line.Refused number) = (number ≡ lineRefusal n st rule root) × (number ≡ 0 → ⊥)
 LineTested n st rule root (line.Fits g) = (lineRefusal n st rule root ≡ 0) × (g .0 ≡ entryNode st root)
-
--- The line of node g by its rule.
-abbrev pub lineOf : ℕ → State → Rule → ℕ → Line
-lineOf n st Rup g = rup n (map (diagramIn st) (st .members)) (diagramIn st g)
-lineOf n st Pr g = pr n (inWord (st .positive)) (inWord (st .negative)) (map (diagramIn st) (st .members)) (diagramIn st g)

@@ -10,6 +10,7 @@ ghost use Rattle.steps.specs.States.{Lent, lentOf, stateOf, Held, Steppe
 
 mod line;
 mod node;
+mod strike;
 mod witness;
 
 // The state between records: the table's count, how many nodes stay if the line is not accepted, the numbers of members and of the
@@ -52,8 +53,9 @@ fn end_step(st: State, more: bool) -> Step
     Step::Stop(20, 0)
 }
 
-// The step that a record makes; `more` tells whether a byte follows it. Table, index, member list and scratch list are then the next
-// state's; a refused record leaves table, index and member list as they were. Marks are clear again.
+// The step that a record makes; `more` tells whether a byte follows it. Table, index, member list, scratch list and the members' marks
+// (`struck`) are then the next state's; a refused record leaves table, index, member list and its marks as they were. The working marks
+// (`marks`) are clear again.
 pub fn record_step(
     vars: &mut [u8],
     lows: &mut [u16],
@@ -64,19 +66,21 @@ pub fn record_step(
     marks: &mut [u8],
     members: &mut [u16],
     scratch: &mut [u16],
+    struck: &mut [u8],
     st: State,
     variables: u8,
     more: bool,
     r: Record,
 ) -> Step
     requires { ⌜ (
-        let lent = lentOf (now vars) (now lows) (now highs) (now heads) (now links) (now members) (now scratch) in
+        let lent = lentOf (now vars) (now lows) (now highs) (now heads) (now links) (now members) (now scratch)
+        (now struck) in
         Held variables lent st × (now marks ≡ unmarked (length (now vars))) × Roomy (now vars) (now memo)) ⌝ }
     ensures { λ s. ⌜ (
         let lent = lentOf (now (vars .entry)) (now (lows .entry)) (now (highs .entry)) (now (heads .entry)) (now (links .entry))
-        (now (members .entry)) (now (scratch .entry)) in
+        (now (members .entry)) (now (scratch .entry)) (now (struck .entry)) in
         let returned = lentOf (now (vars .exit)) (now (lows .exit)) (now (highs .exit)) (now (heads .exit)) (now (links .exit))
-        (now (members .exit)) (now (scratch .exit)) in
+        (now (members .exit)) (now (scratch .exit)) (now (struck .exit)) in
         Stepped variables lent returned st (step variables (length (now (vars .entry))) (stateOf lent st) more r) s) ⌝ }
     ensures { λ _. ⌜ now (marks .exit) ≡ unmarked (length (now (vars .entry))) ⌝ }
 {
@@ -103,10 +107,12 @@ pub fn record_step(
             marks,
             members,
             scratch,
+            struck,
             st,
             rule,
             root,
         ),
+        Record::Strike(k) => strike::strike_step(struck, st, k),
         Record::End => end_step(st, more),
         Record::CutShort => Step::Stop(10, 0),
         Record::UnknownKind => Step::Stop(9, 0),

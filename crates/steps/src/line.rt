@@ -9,14 +9,16 @@ ghost use mathlib.Core.List.{List};
 ghost use Prim.Native.Nat.{ℕ, _+_, _*_, _≤_};
 ghost use lib.ListN.{length, take};
 ghost use lib.Dec.{eqb};
-ghost use Rattle.table.specs.Indexed.{tableOf};
+ghost use Rattle.table.specs.Nodes.{diagramAt};
+ghost use Rattle.table.specs.Indexed.{tableOf, nodesOf};
 ghost use Rattle.walks.specs.Readable.{Readable, Roomy};
 ghost use Rattle.verdict.specs.Check.{lineStep};
-ghost use Rattle.table.specs.Lists.{Inside};
+ghost use Rattle.verdict.specs.Run.{lineBy, lineOf};
+ghost use Rattle.table.specs.Lists.{Inside, diagramsOf};
 ghost use Rattle.conflict.specs.Marks.{unmarked};
 ghost use Rattle.judge.specs.Lines.{Negatable, Says};
 ghost use Rattle.steps.specs.States.{lentOf, stateOf, withLine, Held, Stepped};
-ghost use Rattle.steps.specs.Tests.{LineTested, lineOf};
+ghost use Rattle.steps.specs.Tests.{LineTested};
 
 // What the tests of a line come to: 13, 16, 22 or 17 of a RUP line, 13, 22, 17 or 18 of a PR line, or its root's node, to be judged.
 pub enum LineTest {
@@ -40,8 +42,8 @@ fn line_test(
         × (st .entries ≤ 4096)
         × (4096 ≤ length (now scratch))
         × Roomy (now vars) (now memo) ⌝ }
-    ensures { λ r. ⌜ ((ds ks ms : List ℕ) → (
-        let lent = lentOf (now (vars .entry)) (now (lows .entry)) (now (highs .entry)) ds ks ms (now (scratch .entry)) in
+    ensures { λ r. ⌜ ((ds ks ms ss : List ℕ) → (
+        let lent = lentOf (now (vars .entry)) (now (lows .entry)) (now (highs .entry)) ds ks ms (now (scratch .entry)) ss in
         LineTested 64 (stateOf lent st) rule (root .0) r)) ⌝ }
 {
     let entries = st.entries;
@@ -86,7 +88,7 @@ fn line_test(
     }
 }
 
-// Judges the line by its rule over the members; the entries are gone. Its nodes stay.
+// Judges the line by its rule over the members whose nodes are in `live`; the entries are gone. Its nodes stay.
 fn judge_line(
     vars: &mut [u8],
     lows: &mut [u16],
@@ -95,7 +97,7 @@ fn judge_line(
     links: &mut [u16],
     memo: &mut [u64],
     marks: &mut [u8],
-    members: &[u16],
+    live: &[u16],
     scratch: &mut [u16],
     st: crate::State,
     rule: Rule,
@@ -103,21 +105,20 @@ fn judge_line(
 ) -> Judged
     requires { ⌜ (
         let before = tableOf (now vars) (now lows) (now highs) (now heads) (now links) (st .count) in
-        Negatable before (take (st .members) (now members)) (now memo) (g .0)
+        Negatable before (now live) (now memo) (g .0)
         × (now marks ≡ unmarked (length (now vars)))
-        × (st .members ≤ 2048)
-        × (2048 ≤ length (now members))
+        × (length (now live) ≤ 2048)
         × (4096 ≤ length (now scratch))) ⌝ }
     ensures { λ r. ⌜ (
         let before = tableOf (now (vars .entry)) (now (lows .entry)) (now (highs .entry)) (now (heads .entry)) (now (links .entry))
         (st .count) in
-        let lent = lentOf (now (vars .entry)) (now (lows .entry)) (now (highs .entry)) (now (heads .entry)) (now (links .entry))
-        (now (members .entry)) (now (scratch .entry)) in
         let after = tableOf (now (vars .exit)) (now (lows .exit)) (now (highs .exit)) (now (heads .exit)) (now (links .exit)) (r .count) in
-        Says before (lineOf 64 (stateOf lent st) rule (g .0)) 131072 r after) ⌝ }
+        let diagrams = diagramsOf (nodesOf before) (now (live .entry)) in
+        let line = lineBy 64 rule (st .positive) (st .negative) diagrams (diagramAt (nodesOf before) (g .0)) in
+        Says before line 131072 r after) ⌝ }
     ensures { λ _. ⌜ now (marks .exit) ≡ unmarked (length (now (vars .entry))) ⌝ }
 {
-    let m = st.members;
+    let m = live.len();
     let mut memberwords = [0u64; 2048];
     let mut words = [0u64; 2048];
     match rule {
@@ -129,7 +130,7 @@ fn judge_line(
             links,
             memo,
             marks,
-            &members[..m],
+            live,
             &mut memberwords[..m],
             &mut scratch[..m],
             &mut words[..m],
@@ -148,7 +149,7 @@ fn judge_line(
                 links,
                 memo,
                 marks,
-                &members[..m],
+                live,
                 &mut memberwords[..m],
                 &mut scratch[..m],
                 &mut words[..m],
@@ -161,6 +162,57 @@ fn judge_line(
             )
         }
     }
+}
+
+// Judges the line by its rule over the members that are not struck; the entries are gone. Its nodes stay.
+fn judge_live(
+    vars: &mut [u8],
+    lows: &mut [u16],
+    highs: &mut [u16],
+    heads: &mut [u16],
+    links: &mut [u16],
+    memo: &mut [u64],
+    marks: &mut [u8],
+    members: &[u16],
+    scratch: &mut [u16],
+    struck: &[u8],
+    st: crate::State,
+    rule: Rule,
+    g: NodeNo,
+) -> Judged
+    requires { ⌜ (
+        let before = tableOf (now vars) (now lows) (now highs) (now heads) (now links) (st .count) in
+        Negatable before (take (st .members) (now members)) (now memo) (g .0)
+        × (now marks ≡ unmarked (length (now vars)))
+        × (st .members ≤ 2048)
+        × (2048 ≤ length (now members))
+        × (4096 ≤ length (now scratch))
+        × (length (now struck) ≡ length (now members))) ⌝ }
+    ensures { λ r. ⌜ (
+        let before = tableOf (now (vars .entry)) (now (lows .entry)) (now (highs .entry)) (now (heads .entry)) (now (links .entry))
+        (st .count) in
+        let lent = lentOf (now (vars .entry)) (now (lows .entry)) (now (highs .entry)) (now (heads .entry)) (now (links .entry))
+        (now (members .entry)) (now (scratch .entry)) (now (struck .entry)) in
+        let after = tableOf (now (vars .exit)) (now (lows .exit)) (now (highs .exit)) (now (heads .exit)) (now (links .exit)) (r .count) in
+        Says before (lineOf 64 (stateOf lent st) rule (g .0)) 131072 r after) ⌝ }
+    ensures { λ _. ⌜ now (marks .exit) ≡ unmarked (length (now (vars .entry))) ⌝ }
+{
+    let mut live = [0u16; 2048];
+    let m = crate::strike::live_members(members, struck, st.members, &mut live);
+    judge_line(
+        vars,
+        lows,
+        highs,
+        heads,
+        links,
+        memo,
+        marks,
+        &live[..m],
+        scratch,
+        st,
+        rule,
+        g,
+    )
 }
 
 // Whether a line is 0, or one before it was.
@@ -204,18 +256,20 @@ pub fn line_step(
     marks: &mut [u8],
     members: &mut [u16],
     scratch: &mut [u16],
+    struck: &[u8],
     st: crate::State,
     rule: Rule,
     root: EntryNo,
 ) -> crate::Step
     requires { ⌜ (
-        let lent = lentOf (now vars) (now lows) (now highs) (now heads) (now links) (now members) (now scratch) in
+        let lent = lentOf (now vars) (now lows) (now highs) (now heads) (now links) (now members) (now scratch)
+        (now struck) in
         Held 64 lent st × (now marks ≡ unmarked (length (now vars))) × Roomy (now vars) (now memo)) ⌝ }
     ensures { λ r. ⌜ (
         let lent = lentOf (now (vars .entry)) (now (lows .entry)) (now (highs .entry)) (now (heads .entry)) (now (links .entry))
-        (now (members .entry)) (now (scratch .entry)) in
+        (now (members .entry)) (now (scratch .entry)) (now (struck .entry)) in
         let returned = lentOf (now (vars .exit)) (now (lows .exit)) (now (highs .exit)) (now (heads .exit)) (now (links .exit))
-        (now (members .exit)) (now (scratch .exit)) in
+        (now (members .exit)) (now (scratch .exit)) (now (struck .entry)) in
         (n : ℕ) → Held n lent st →
         Stepped n lent returned st (lineStep n (length (now (vars .entry))) (stateOf lent st) rule (root .0)) r) ⌝ }
     ensures { λ _. ⌜ now (marks .exit) ≡ unmarked (length (now (vars .entry))) ⌝ }
@@ -223,7 +277,7 @@ pub fn line_step(
     match line_test(vars, lows, highs, memo, scratch, st, rule, root) {
         LineTest::Refused(number) => crate::Step::Stop(number, 0),
         LineTest::Fits(g) => {
-            let j = judge_line(
+            let j = judge_live(
                 vars,
                 lows,
                 highs,
@@ -233,6 +287,7 @@ pub fn line_step(
                 marks,
                 members,
                 scratch,
+                struck,
                 st,
                 rule,
                 g,

@@ -55,8 +55,8 @@ fn node_test(
         × Inside (st .count) (take (st .entries) (now scratch))
         × (st .entries ≤ 4096)
         × (4096 ≤ length (now scratch)) ⌝ }
-    ensures { λ r. ⌜ ((ds ks ms : List ℕ) → (
-        let lent = lentOf (now (vars .entry)) (now (lows .entry)) (now (highs .entry)) ds ks ms (now (scratch .entry)) in
+    ensures { λ r. ⌜ ((ds ks ms ss : List ℕ) → (
+        let lent = lentOf (now (vars .entry)) (now (lows .entry)) (now (highs .entry)) ds ks ms (now (scratch .entry)) ss in
         NodeTested variables (stateOf lent st) b r)) ⌝ }
 {
     let entries = st.entries;
@@ -121,11 +121,11 @@ pub fn node_step(
     requires { ⌜ (
         let before = tableOf (now vars) (now lows) (now highs) (now heads) (now links) (st .count) in
         EntriesHeld variables before (now scratch) (st .entries)) ⌝ }
-    ensures { λ r. ⌜ ((ms : List ℕ) → (
+    ensures { λ r. ⌜ ((ms ss : List ℕ) → (
         let lent = lentOf (now (vars .entry)) (now (lows .entry)) (now (highs .entry)) (now (heads .entry)) (now (links .entry)) ms
-        (now (scratch .entry)) in
+        (now (scratch .entry)) ss in
         let returned = lentOf (now (vars .exit)) (now (lows .exit)) (now (highs .exit)) (now (heads .exit)) (now (links .exit)) ms
-        (now (scratch .exit)) in
+        (now (scratch .exit)) ss in
         Held variables lent st →
         Stepped variables lent returned st (nodeStep variables (length (now (vars .entry))) (stateOf lent st) b) r)) ⌝ }
 {

@@ -101,6 +101,7 @@ begun-standing s n = record {
   least = omega arith;
   kept = omega arith;
   members = tt;
+  marks = refl;
   entries = tt;
   few = omega arith;
   lines = omega arith;
@@ -137,6 +138,7 @@ module _ (s : ℕ) (text : List ℕ) (n many : ℕ) where
         members = valued-append t₁ (length t₁) ms fs k (meaning.clauseValue ls)
             (valued-grown t t₁ (length t) (length t₁) (S .ordered) (A .kept .extends) (omega arith) longer ms fs (S .members))
             (A .inside) (λ a. ap (λ (D : Diagram). value D a) (A .is) ∙ clause-valued n ls w a);
+        marks = length-replicate (length (ms ++ k ∷ [])) 0;
         entries = tt;
         few = omega arith;
         lines = omega arith;

@@ -2,6 +2,7 @@ pub mod Cases
 pub mod Uses
 pub mod Steps
 pub mod Standing
+pub mod Live
 pub mod Formula
 pub mod Clauses
 pub mod Ends
@@ -11,5 +12,7 @@ pub mod Exactly
 pub mod Values
 pub mod Members
 pub mod Onward
+pub mod Offsets
+pub mod Marks
 pub mod MetFirst
 pub mod Peak

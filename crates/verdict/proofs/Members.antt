@@ -7,7 +7,7 @@ use native.Mathlib.Omega.{arith}
 use lib.ListN.{length, take, length-append}
 use lib.Seq.{take-append-seam, length-take-le}
 use Rattle.records.specs.declared.Record.{Record}
-use Rattle.records.specs.declared.Record.the-variants.{NodeEntry, Witness, ProofLine, End, CutShort, UnknownKind, NoRecord}
+use Rattle.records.specs.declared.Record.the-variants.{NodeEntry, Witness, ProofLine, Strike, End, CutShort, UnknownKind, NoRecord}
 use Rattle.records.specs.Records.{recordAt, lengthOf}
 use Rattle.records.proofs.Laws.{record-takes, record-within}
 use Rattle.verdict.specs.Check.{State}
@@ -25,6 +25,7 @@ unfolding afterRecord
 record-adds m (NodeEntry b) = ([], sym (append-nil (m .members)))
 record-adds m (Witness v b) = ([], sym (append-nil (m .members)))
 record-adds m (ProofLine rule root) = (entryMeant m (root .0) ∷ [], refl)
+record-adds m (Strike k) = ([], sym (append-nil (m .members)))
 record-adds m End = ([], sym (append-nil (m .members)))
 record-adds m CutShort = ([], sym (append-nil (m .members)))
 record-adds m UnknownKind = ([], sym (append-nil (m .members)))
@@ -72,6 +73,7 @@ module _ (s : ℕ) (text proof : List ℕ) where
     are = λ e. ap (λ (x : List Function). x ++ entryMeant m (root .0) ∷ []) e ∙ append-assoc (clauseFunctions text) later (entryMeant m (root .0) ∷ []);
     apart = refl;
   }
+  steps-on n st m later (Strike k) st′ T = record { later′ = later; counted = λ e. e ∙ ap (λ (x : State). x .lines) (T .is); are = λ e. e; apart = refl }
   steps-on n st m later End st′ T = absurd T
   steps-on n st m later CutShort st′ T = absurd T
   steps-on n st m later UnknownKind st′ T = absurd T

@@ -2,7 +2,7 @@
 -- conflict is the last that makes anything. Assumes nothing.
 use mathlib.Core.Path.{_≡_, refl, sym, ap, _∙_}
 use mathlib.Core.Bool.{Bool, true, false, not, _&&_, cond}
-use mathlib.Core.List.{List, [], _∷_, _++_, map}
+use mathlib.Core.List.{List, [], _∷_, _++_}
 use mathlib.Core.Option.{Option, none, some}
 use Prim.Native.Nat.{ℕ, zero, suc}
 use Rattle.meaning.specs.Diagram.{Diagram, leaf, same}
@@ -13,7 +13,7 @@ use Rattle.table.specs.Nodes.{Node, Placing, full, placed, place}
 use Rattle.table.specs.Making.{Room, short, all, afterPlacing, placedAll, reached, turnsReach, keptReach, lineReach}
 use Rattle.records.specs.declared.Rule.{Rule}
 use Rattle.records.specs.declared.Rule.the-variants.{Rup, Pr}
-use Rattle.verdict.specs.Check.{State, next, spent, accepted, judged, diagramIn}
+use Rattle.verdict.specs.Check.{State, next, spent, accepted, judged, diagramIn, liveMembers}
 use Rattle.verdict.specs.Run.{lineOf, peakWith}
 use Rattle.verdict.specs.MetFirst.{Met, all-shown, no-conflict, no-place, afterMade, making, inRound, propagating, andThen, turning, metBy, sayMet}
 
@@ -151,10 +151,10 @@ line-met s t line go turns = making-room s t (line .kept) go ∙ by (placedAll s
 met-line : (n s : ℕ) (st : State) (rule : Rule) (g : ℕ) → metBy n s st rule g ≡ metTurns (lineReach s (st .nodes) (lineOf n st rule g) .fits) (lineOf n st rule g .shown)
 unfolding metBy rup pr
 met-line n s st Rup g =
-    let ms : List Diagram = map (diagramIn st) (st .members) in
+    let ms : List Diagram = liveMembers st in
     line-met s (st .nodes) (lineOf n st Rup g) _ (λ t. propagating-turn s n t (byDiagram n (negation n (diagramIn st g)) ms))
 met-line n s st Pr g =
-    let ms : List Diagram = map (diagramIn st) (st .members) in
+    let ms : List Diagram = liveMembers st in
     line-met s (st .nodes) (lineOf n st Pr g) _
     (λ t. turning-is s n (inWord (st .positive)) (inWord (st .negative)) t (byDiagram n (negation n (diagramIn st g)) ms) ms)
 

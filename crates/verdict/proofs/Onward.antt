@@ -10,7 +10,7 @@ use lib.Seq.{length-take-le}
 use Rattle.table.specs.Nodes.{diagramAt}
 use Rattle.table.proofs.Growth.{Extends, extends-length, diagramAt-grown, diagramAt-dropped}
 use Rattle.records.specs.declared.Record.{Record}
-use Rattle.records.specs.declared.Record.the-variants.{NodeEntry, Witness, ProofLine, End, CutShort, UnknownKind, NoRecord}
+use Rattle.records.specs.declared.Record.the-variants.{NodeEntry, Witness, ProofLine, Strike, End, CutShort, UnknownKind, NoRecord}
 use Rattle.records.specs.Records.{recordAt, lengthOf}
 use Rattle.verdict.specs.Check.{State, Step, next, stop, spent, step, Verdict, left, afterStep, records, verdict}
 use Rattle.verdict.specs.Run.{Meant, Taken, follows, Reached}
@@ -35,6 +35,7 @@ module _ {s n : ℕ} (narrow : n ≤ 64) where
   step-counts {m} {st} S (NodeEntry b) st′ T = subst (Counts st) (T .is) (record { kept = omega arith; line = λ p. absurd (omega arith); more = omega arith })
   step-counts {m} {st} S (Witness v b) st′ T = subst (Counts st) (T .is) (record { kept = omega arith; line = λ p. absurd (omega arith); more = omega arith })
   step-counts {m} {st} S (ProofLine rule root) st′ T = subst (Counts st) (T .is) (record { kept = S .kept; line = λ _. omega arith; more = omega arith })
+  step-counts {m} {st} S (Strike k) st′ T = subst (Counts st) (T .is) (record { kept = omega arith; line = λ p. absurd (omega arith); more = omega arith })
   step-counts S End st′ T = absurd T
   step-counts S CutShort st′ T = absurd T
   step-counts S UnknownKind st′ T = absurd T

@@ -24,9 +24,9 @@ use Rattle.records.specs.declared.NodeBody.{NodeBody}
 use Rattle.records.specs.declared.Rule.{Rule}
 use Rattle.records.specs.declared.Rule.the-variants.{Rup, Pr}
 use Rattle.records.specs.declared.Record.{Record}
-use Rattle.records.specs.declared.Record.the-variants.{NodeEntry, Witness, ProofLine, End, CutShort, UnknownKind, NoRecord}
+use Rattle.records.specs.declared.Record.the-variants.{NodeEntry, Witness, ProofLine, Strike, End, CutShort, UnknownKind, NoRecord}
 use Rattle.records.specs.Records.{recordAt, lengthOf}
-use Rattle.verdict.specs.Check.{State, Step, next, stop, spent, isEntry, entryNode, isVariable, entered, nodeStep, witnessStep, waiting, accepted, judged, diagramIn, lineStep, endStep, step, Verdict, left, afterStep, records, verdict}
+use Rattle.verdict.specs.Check.{State, Step, next, stop, spent, isEntry, entryNode, isVariable, entered, nodeStep, witnessStep, waiting, accepted, judged, diagramIn, lineStep, isLive, strikeStep, endStep, step, Verdict, left, afterStep, records, verdict}
 use Rattle.verdict.specs.Run.{Function, Meant, lineOf, peakWith, Making, follows, Reached, begins, goes, Ended, no-header, not-read, no-room, stopped, tried}
 use Rattle.verdict.proofs.Formula.{Early, NamedHeader, header-named, either}
 use Rattle.verdict.proofs.Steps.{taken-step}
@@ -182,6 +182,12 @@ module _ (s : ℕ) where
         (refuses (eqb g 1) 17 0 _ (λ q. omega arith)
         (refuses (not (witnessed n (inWord (st .positive)) (inWord (st .negative)) (diagramIn st g))) 18 0 _ (λ q. omega arith) (judged-peaks g (lineOf n st Pr g)))))
 
+    strike-peaks : (k : ℕ) → Peaks st (strikeStep st k)
+    unfolding strikeStep
+    strike-peaks k =
+        refuses (waiting st) 16 0 _ (λ q. omega arith)
+        (refuses (not (isLive st k)) 28 0 _ (λ q. omega arith) (record { covers = X .covers; within = X .within }, omega arith))
+
     end-peaks : (more : Bool) → Peaks st (endStep st more)
     unfolding endStep
     end-peaks more =
@@ -193,6 +199,7 @@ module _ (s : ℕ) where
     step-peaks more (NodeEntry b) = node-peaks b
     step-peaks more (Witness v b) = witness-peaks v b
     step-peaks more (ProofLine rule root) = line-peaks rule (root .0)
+    step-peaks more (Strike k) = strike-peaks (k .0)
     step-peaks more End = end-peaks more
     step-peaks more CutShort = λ q. omega arith
     step-peaks more UnknownKind = λ q. omega arith

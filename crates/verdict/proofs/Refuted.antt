@@ -1,11 +1,11 @@
--- Number 0 is given only where no assignment satisfies the formula, whatever the proof's bytes. The idea: an accepted line keeps the
--- members satisfiable (meaning/proofs/Soundness), and with a 0 line among them they are not. Assumes nothing.
+-- Number 0 is given only where no assignment satisfies the formula, whatever the proof's bytes. The idea: where one satisfies the formula an
+-- accepted line keeps the live members satisfiable (meaning/proofs/Soundness), so that no line is 0; a striking only leaves fewer. Assumes nothing.
 use mathlib.Core.Path.{_≡_, refl, sym, ap, ap₂, _∙_, subst}
 use mathlib.Core.Bool.{Bool, true, false, _&&_, cond}
 use mathlib.Core.List.{List, [], _∷_, _++_, map, append-nil}
 use Prim.Native.Nat.{ℕ, zero, suc, _+_, _≤_}
 use native.Mathlib.Omega.{arith}
-use lib.ListN.{length}
+use lib.ListN.{length, set}
 use lib.Dec.{eqb}
 use borrow.Author.Tests.{eqb-true}
 use Rattle.meaning.specs.Diagram.{Assignment, Diagram, value, valueFrom}
@@ -22,13 +22,14 @@ use Rattle.dimacs.proofs.Formula.{formula-proper}
 use Rattle.records.specs.declared.Rule.{Rule}
 use Rattle.records.specs.declared.Rule.the-variants.{Rup, Pr}
 use Rattle.records.specs.declared.Record.{Record}
-use Rattle.records.specs.declared.Record.the-variants.{NodeEntry, Witness, ProofLine, End, CutShort, UnknownKind, NoRecord}
+use Rattle.records.specs.declared.Record.the-variants.{NodeEntry, Witness, ProofLine, Strike, End, CutShort, UnknownKind, NoRecord}
 use Rattle.records.specs.Records.{recordAt}
-use Rattle.verdict.specs.Check.{State, begun, entryNode, diagramIn, Verdict, verdict, Outcome, lentFits, outcome, check}
+use Rattle.verdict.specs.Check.{State, begun, entryNode, diagramIn, unstruck, liveMembers, Verdict, verdict, Outcome, lentFits, outcome, check}
 use Rattle.verdict.specs.Run.{Function, Meant, entryMeant, afterRecord, Valued, LineTaken, Taken, Making, opened, made, follows, Reached, begins, goes}
 use Rattle.verdict.specs.Satisfies.{clausesOf, readToEnd, satisfies, Unsatisfiable}
 use Rattle.verdict.proofs.Steps.{step-refutes}
-use Rattle.verdict.proofs.Standing.{Standing, entry-valued}
+use Rattle.verdict.proofs.Standing.{Standing, valued-length, entry-valued}
+use Rattle.verdict.proofs.Live.{unstruck-append, unstruck-none, valued-unstruck}
 use Rattle.verdict.proofs.Formula.{Read, clauses-read}
 use Rattle.verdict.proofs.Clauses.{fitted, fitted-length, clause-fitted, underway}
 use Rattle.verdict.proofs.Ends.{reached-standing, ended}
@@ -45,9 +46,22 @@ module _ (a : Assignment) where
   all-append [] f all one = (one, tt)
   all-append (g ∷ fs) f all one = (all .0, all-append fs f (all .1) one)
 
-  append-all : (fs : List Function) (f : Function) → AllOne a (fs ++ f ∷ []) → AllOne a fs × (f a ≡ true)
-  append-all [] f all = (tt, all .0)
-  append-all (g ∷ fs) f all = let (rest, one) = append-all fs f (all .1) in ((all .0, rest), one)
+  -- with one more struck there are fewer
+  all-fewer : (marks : List ℕ) (k : ℕ) (fs : List Function) → AllOne a (unstruck marks fs) → AllOne a (unstruck (set marks k 1) fs)
+  unfolding unstruck
+  all-fewer marks k [] all = tt
+  all-fewer [] k (f ∷ fs) all = all
+  all-fewer (m ∷ marks) zero (f ∷ fs) all = go (eqb m 0) all
+    where
+      go : (c : Bool) → AllOne a (cond c (f ∷ unstruck marks fs) (unstruck marks fs)) → AllOne a (unstruck marks fs)
+      go true all = all .1
+      go false all = all
+  all-fewer (m ∷ marks) (suc k) (f ∷ fs) all = go (eqb m 0) (all-fewer marks k fs) all
+    where
+      go : (c : Bool) → (AllOne a (unstruck marks fs) → AllOne a (unstruck (set marks k 1) fs)) → AllOne a (cond c (f ∷ unstruck marks fs) (unstruck marks fs))
+          → AllOne a (cond c (f ∷ unstruck (set marks k 1) fs) (unstruck (set marks k 1) fs))
+      go true rest all = (all .0, rest (all .1))
+      go false rest all = rest all
 
   -- members whose functions are 1 are satisfied, and the other way round
   members-satisfied : (t : List Node) (b : ℕ) (ks : List ℕ) (fs : List Function) → Valued t b ks fs → AllOne a fs → Satisfies a (map (diagramAt t) ks)
@@ -87,25 +101,37 @@ satisfies-fitted n (ls ∷ cs) w a = ap₂ _&&_ (clause-fitted n ls (w .0) a) (s
 
 -- ---- reached states are sound
 
--- Where an assignment satisfies the formula one satisfies all members, and none does once a 0 line is accepted.
+-- The functions of the live members.
+abbrev pub liveMeant : State → Meant → List Function
+liveMeant st m = unstruck (st .struck) (m .members)
+
+-- Where an assignment satisfies the formula one satisfies all live members, and none satisfies it once a 0 line is accepted, though that line
+-- be struck later.
 pub record Sound (text : List ℕ) (n : ℕ) (m : Meant) (st : State) : Type 0 where
-  pub kept : (a : Assignment) → length a ≡ n → satisfies a (clausesOf (formula text)) ≡ true → (b : Assignment) × (length b ≡ n) × AllOne b (m .members)
-  pub zero : st .refuted ≡ true → (b : Assignment) → AllOne b (m .members) → ⊥
+  pub kept : (a : Assignment) → length a ≡ n → satisfies a (clausesOf (formula text)) ≡ true → (b : Assignment) × (length b ≡ n) × AllOne b (liveMeant st m)
+  pub zero : st .refuted ≡ true → (a : Assignment) → length a ≡ n → satisfies a (clausesOf (formula text)) ≡ true → ⊥
 
 module _ {s n : ℕ} {m : Meant} {st : State} (S : Standing s n m st) where
-  -- an assignment for the members gives one for the members and an accepted line
-  line-keeps : (rule : Rule) (root : ℕ) (st′ : State) → LineTaken n s st rule root st′ → (a : Assignment) → length a ≡ n → AllOne a (m .members)
-      → (b : Assignment) × (length b ≡ n) × AllOne b (m .members ++ entryMeant m root ∷ [])
+  live-valued : Valued (st .nodes) (st .kept) (unstruck (st .struck) (st .members)) (liveMeant st m)
+  live-valued = valued-unstruck (st .nodes) (st .kept) (st .struck) (st .members) (m .members) (S .members)
+
+  -- an assignment for the live members gives one for them and an accepted line
+  line-keeps : (rule : Rule) (root : ℕ) (st′ : State) → LineTaken n s st rule root st′ → (a : Assignment) → length a ≡ n → AllOne a (liveMeant st m)
+      → (b : Assignment) × (length b ≡ n) × AllOne b (liveMeant st m) × (entryMeant m root b ≡ true)
   line-keeps Rup root st′ T a len all =
       let (inside, is) = entry-valued S root (T .entry) in
-      let one : value (diagramIn st (entryNode st root)) a ≡ true = rup-sound n (map (diagramIn st) (st .members)) (diagramIn st (entryNode st root)) (T .shown) a len
-      (members-satisfied a (st .nodes) (st .kept) (st .members) (m .members) (S .members) all) in
-      (a, len, all-append a (m .members) (entryMeant m root) all (sym (is a) ∙ one))
+      let one : value (diagramIn st (entryNode st root)) a ≡ true = rup-sound n (liveMembers st) (diagramIn st (entryNode st root)) (T .shown) a len
+      (members-satisfied a (st .nodes) (st .kept) (unstruck (st .struck) (st .members)) (liveMeant st m) live-valued all) in
+      (a, len, all, sym (is a) ∙ one)
   line-keeps Pr root st′ T a len all =
       let (inside, is) = entry-valued S root (T .entry) in
-      let (b, lb, sat, one) = pr-sound n (inWord (st .positive)) (inWord (st .negative)) (map (diagramIn st) (st .members)) (diagramIn st (entryNode st root)) (T .witness) (T .shown) a len
-      (members-satisfied a (st .nodes) (st .kept) (st .members) (m .members) (S .members) all) in
-      (b, lb, all-append b (m .members) (entryMeant m root) (satisfied-members b (st .nodes) (st .kept) (st .members) (m .members) (S .members) sat) (sym (is b) ∙ one))
+      let (b, lb, sat, one) = pr-sound n (inWord (st .positive)) (inWord (st .negative)) (liveMembers st) (diagramIn st (entryNode st root)) (T .witness) (T .shown) a len
+      (members-satisfied a (st .nodes) (st .kept) (unstruck (st .struck) (st .members)) (liveMeant st m) live-valued all) in
+      (b, lb, satisfied-members b (st .nodes) (st .kept) (unstruck (st .struck) (st .members)) (liveMeant st m) live-valued sat, sym (is b) ∙ one)
+
+  -- the line is one more live member
+  line-live : (root : ℕ) → unstruck (st .struck ++ 0 ∷ []) (m .members ++ entryMeant m root ∷ []) ≡ liveMeant st m ++ entryMeant m root ∷ []
+  line-live root = unstruck-append (st .struck) (m .members) (entryMeant m root) (S .marks ∙ valued-length (st .nodes) (st .kept) (st .members) (m .members) (S .members))
 
   module _ (text : List ℕ) (H : Sound text n m st) where
     line-sound : (rule : Rule) (root : ℕ) (st′ : State) → LineTaken n s st rule root st′
@@ -114,26 +140,36 @@ module _ {s n : ℕ} {m : Meant} {st : State} (S : Standing s n m st) where
     line-sound rule root st′ T =
         let (inside, is) = entry-valued S root (T .entry) in
         subst (Sound text n (record { members = m .members ++ entryMeant m root ∷ []; entries = [] })) (T .is) (record {
-          kept = λ a len sat. let (b, lb, all) = H .kept a len sat in line-keeps rule root st′ T b lb all;
-          zero = λ e b all.
-              let (before, one) = append-all b (m .members) (entryMeant m root) all in
-              or-cases (st .refuted) (eqb (entryNode st root) 0) e (λ x. H .zero x b before)
-              (λ x. t≢f (sym one ∙ sym (is b) ∙ ap (λ (k : ℕ). value (diagramAt (st .nodes) k) b) (eqb-true (entryNode st root) 0 x)
+          kept = λ a len sat.
+              let (c, lc, all) = H .kept a len sat in
+              let (b, lb, live, one) = line-keeps rule root st′ T c lc all in
+              (b, lb, rw (line-live root) (all-append b (liveMeant st m) (entryMeant m root) live one));
+          zero = λ e a len sat. or-cases (st .refuted) (eqb (entryNode st root) 0) e (λ x. H .zero x a len sat) (λ x.
+              let (c, lc, all) = H .kept a len sat in
+              let (b, lb, live, one) = line-keeps rule root st′ T c lc all in
+              t≢f (sym one ∙ sym (is b) ∙ ap (λ (k : ℕ). value (diagramAt (st .nodes) k) b) (eqb-true (entryNode st root) 0 x)
               ∙ ap (λ (D : Diagram). value D b) (diagramAt-zero (st .nodes))));
         })
 
-    -- the members and the accepted lines stay as they are
-    same-sound : (m′ : Meant) (st′ : State) → m .members ≡ m′ .members → st .refuted ≡ st′ .refuted → Sound text n m′ st′
-    same-sound m′ st′ same e = record {
-      kept = λ a len sat. let (b, lb, all) = H .kept a len sat in (b, lb, subst (AllOne b) same all);
-      zero = λ r b all. H .zero (e ∙ r) b (subst (AllOne b) (sym same) all);
+    -- no line is accepted, and no member becomes live
+    same-sound : (m′ : Meant) (st′ : State) → ((b : Assignment) → AllOne b (liveMeant st m) → AllOne b (liveMeant st′ m′)) → st .refuted ≡ st′ .refuted
+        → Sound text n m′ st′
+    same-sound m′ st′ fewer e = record {
+      kept = λ a len sat. let (b, lb, all) = H .kept a len sat in (b, lb, fewer b all);
+      zero = λ r. H .zero (e ∙ r);
     }
+
+    -- the marks of a state that is one of the others
+    struck-are : (st₁ st′ : State) → st₁ ≡ st′ → (b : Assignment) → AllOne b (unstruck (st₁ .struck) (m .members)) → AllOne b (unstruck (st′ .struck) (m .members))
+    struck-are st₁ st′ is b all = subst (λ (x : State). AllOne b (unstruck (x .struck) (m .members))) is all
 
     step-sound : (r : Record) (st′ : State) → Taken n s st r st′ → Sound text n (afterRecord m r) st′
     unfolding afterRecord
-    step-sound (NodeEntry b) st′ T = same-sound (afterRecord m (NodeEntry b)) st′ refl (ap (λ (x : State). x .refuted) (T .is))
-    step-sound (Witness v b) st′ T = same-sound m st′ refl (ap (λ (x : State). x .refuted) (T .is))
+    step-sound (NodeEntry b) st′ T = same-sound (afterRecord m (NodeEntry b)) st′ (struck-are _ st′ (T .is)) (ap (λ (x : State). x .refuted) (T .is))
+    step-sound (Witness v b) st′ T = same-sound m st′ (struck-are _ st′ (T .is)) (ap (λ (x : State). x .refuted) (T .is))
     step-sound (ProofLine rule root) st′ T = line-sound rule (root .0) st′ T
+    step-sound (Strike k) st′ T =
+        same-sound m st′ (λ b all. struck-are _ st′ (T .is) b (all-fewer b (st .struck) (k .0) (m .members) all)) (ap (λ (x : State). x .refuted) (T .is))
     step-sound End st′ T = absurd T
     step-sound CutShort st′ T = absurd T
     step-sound UnknownKind st′ T = absurd T
@@ -145,8 +181,9 @@ module _ (s : ℕ) (text proof : List ℕ) where
       → Sound text n (record { members = fs; entries = [] }) (begun t ms)
   unfolding clausesOf
   begun-sound n many t ms fs M = record {
-    kept = λ a len sat. (a, len, subst (AllOne a) (sym (sym (append-nil fs) ∙ underway s text n many M .clauses)) (satisfied-clauses a (clausesOf (formula text)) sat));
-    zero = λ e b all. t≢f (sym e);
+    kept = λ a len sat.
+        (a, len, rw (unstruck-none (length ms) fs) (subst (AllOne a) (sym (sym (append-nil fs) ∙ underway s text n many M .clauses)) (satisfied-clauses a (clausesOf (formula text)) sat)));
+    zero = λ e a len sat. t≢f (sym e);
   }
 
   reached-sound : {n : ℕ} {st : State} {at : ℕ} {m : Meant} → Reached s text proof n st at m → Sound text n m st
@@ -182,8 +219,8 @@ module _ (s : ℕ) (text proof : List ℕ) where
       go _ (proof-ended {n} {number} {offset} {at} {st} {m} _ R e) z = (
         reached-end R,
         (λ a. not-true (satisfies a (clausesOf (formula text))) (λ sat.
-            let (b, lb, all) = reached-sound R .kept (fitted n a) (fitted-length n a) (satisfies-fitted n (clausesOf (formula text)) (reached-within R) a ∙ sat) in
-            reached-sound R .zero (step-refutes n s st (follows proof at) (recordAt proof at) offset (rw z at e) .zero-line) b all)),
+            reached-sound R .zero (step-refutes n s st (follows proof at) (recordAt proof at) offset (rw z at e) .zero-line) (fitted n a) (fitted-length n a)
+            (satisfies-fitted n (clausesOf (formula text)) (reached-within R) a ∙ sat))),
       )
 
 -- ---- the call
@@ -193,10 +230,10 @@ said-zero true x y seven e = e
 said-zero false x y seven e = absurd (omega arith)
 
 -- The same of the call, whatever the lent places held.
-pub check-refuted : (vars lows highs : List ℕ) (count : ℕ) (members scratch text proof : List ℕ)
-    → check vars lows highs count members scratch text proof .number ≡ 0
+pub check-refuted : (vars lows highs : List ℕ) (count : ℕ) (members struck scratch text proof : List ℕ)
+    → check vars lows highs count members struck scratch text proof .number ≡ 0
     → Unsatisfiable text
 unfolding check outcome
-check-refuted vars lows highs count members scratch text proof e =
+check-refuted vars lows highs count members struck scratch text proof e =
     refuted (length vars) text proof
-    (said-zero (lentFits vars lows highs members scratch) (outcome (length vars) (length members) (length scratch) (verdict (length vars) text proof)) _ refl e)
+    (said-zero (lentFits vars lows highs members struck scratch) (outcome (length vars) (length members) (length scratch) (verdict (length vars) text proof)) _ refl e)

@@ -6,7 +6,7 @@ use mathlib.Core.Bool.{Bool, true, false}
 use mathlib.Core.List.{List, [], _∷_, _++_}
 use Prim.Native.Nat.{ℕ, zero, suc, _+_, _≤_, _<_}
 use native.Mathlib.Omega.{arith}
-use lib.ListN.{length, getD, take, length-append}
+use lib.ListN.{length, getD, take, length-append, length-set}
 use borrow.Author.Tests.{ltb-true}
 use Rattle.meaning.specs.Diagram.{Assignment, Diagram, value, valueFrom, Reduced, branch}
 use Rattle.meaning.proofs.Canonical.{reduced-from, branch-reduced}
@@ -19,9 +19,9 @@ use Rattle.table.proofs.Placing.{After, place-after, put-place}
 use Rattle.records.specs.declared.NodeBody.{NodeBody}
 use Rattle.records.specs.declared.Rule.{Rule}
 use Rattle.records.specs.declared.Record.{Record}
-use Rattle.records.specs.declared.Record.the-variants.{NodeEntry, Witness, ProofLine, End, CutShort, UnknownKind, NoRecord}
+use Rattle.records.specs.declared.Record.the-variants.{NodeEntry, Witness, ProofLine, Strike, End, CutShort, UnknownKind, NoRecord}
 use Rattle.verdict.specs.Check.{State, numbered, isEntry, entryNode}
-use Rattle.verdict.specs.Run.{Function, Meant, numberedMeant, entryMeant, nodeMeant, afterRecord, Valued, withEntry, NodeTaken, WitnessTaken, LineTaken, Taken}
+use Rattle.verdict.specs.Run.{Function, Meant, numberedMeant, entryMeant, nodeMeant, afterRecord, Valued, withEntry, NodeTaken, WitnessTaken, LineTaken, StrikeTaken, Taken}
 use Rattle.verdict.proofs.Uses.{UsesAfter, place-uses}
 
 -- ---- numbers with their functions
@@ -56,6 +56,12 @@ valued-at t b (k ∷ ks) [] W i p other = absurd W
 valued-at t b (k ∷ ks) (f ∷ fs) W zero p other = (W .0, W .1)
 valued-at t b (k ∷ ks) (f ∷ fs) W (suc i) p other = valued-at t b ks fs (W .2) i (omega arith) other
 
+pub valued-length : (t : List Node) (b : ℕ) (ks : List ℕ) (fs : List Function) → Valued t b ks fs → length ks ≡ length fs
+valued-length t b [] [] W = refl
+valued-length t b [] (f ∷ fs) W = absurd W
+valued-length t b (k ∷ ks) [] W = absurd W
+valued-length t b (k ∷ ks) (f ∷ fs) W = ap suc (valued-length t b ks fs (W .2))
+
 -- ---- states
 
 -- With n variables, a table of s places, and the functions that members and entries stand for.
@@ -66,6 +72,7 @@ pub record Standing (s n : ℕ) (m : Meant) (st : State) : Type 0 where
   pub least : 2 ≤ st .kept
   pub kept : st .kept ≤ length (st .nodes)
   pub members : Valued (st .nodes) (st .kept) (st .members) (m .members)
+  pub marks : length (st .struck) ≡ length (st .members)
   pub entries : Valued (st .nodes) (length (st .nodes)) (st .entries) (m .entries)
   pub few : length (st .entries) ≤ 4096
   pub lines : st .lines ≤ 1024
@@ -123,6 +130,7 @@ module _ {s n : ℕ} {m : Meant} {st : State} (S : Standing s n m st) (v l h : �
           least = S .least;
           kept = omega (arith, S .kept);
           members = valued-grown (st .nodes) t (st .kept) (st .kept) (S .ordered) (A .kept .extends) (S .kept) (omega arith) (st .members) (m .members) (S .members);
+          marks = S .marks;
           entries = valued-append t (length t) (st .entries) (m .entries) k f
               (valued-grown (st .nodes) t (length (st .nodes)) (length t) (S .ordered) (A .kept .extends) (omega arith) longer (st .entries) (m .entries) (S .entries))
               (A .inside) (λ a. ap (λ (D : Diagram). value D a) (A .is) ∙ values a);
@@ -177,6 +185,22 @@ module _ {s n : ℕ} {m : Meant} {st : State} (S : Standing s n m st) (narrow : 
     least = S .least;
     kept = S .kept;
     members = S .members;
+    marks = S .marks;
+    entries = S .entries;
+    few = S .few;
+    lines = S .lines;
+    many = S .many;
+  })
+
+  strike-standing : (k : ℕ) (st′ : State) → StrikeTaken st k st′ → Standing s n m st′
+  strike-standing k st′ T = subst (Standing s n m) (T .is) (record {
+    ordered = S .ordered;
+    uses = S .uses;
+    room = S .room;
+    least = S .least;
+    kept = S .kept;
+    members = S .members;
+    marks = length-set (st .struck) k 1 ∙ S .marks;
     entries = S .entries;
     few = S .few;
     lines = S .lines;
@@ -195,6 +219,7 @@ module _ {s n : ℕ} {m : Meant} {st : State} (S : Standing s n m st) (narrow : 
         kept = omega arith;
         members = valued-append (st .nodes) (length (st .nodes)) (st .members) (m .members) (entryNode st root) (entryMeant m root)
             (valued-along (st .nodes) (st .nodes) (st .kept) (length (st .nodes)) (S .kept) (λ k p. refl) (st .members) (m .members) (S .members)) inside is;
+        marks = omega (arith, length-append (st .struck) (0 ∷ []), length-append (st .members) (entryNode st root ∷ []), S .marks);
         entries = tt;
         few = omega arith;
         lines = omega (arith, T .few);
@@ -206,6 +231,7 @@ module _ {s n : ℕ} {m : Meant} {st : State} (S : Standing s n m st) (narrow : 
   step-standing (NodeEntry b) st′ T = node-standing b st′ T
   step-standing (Witness v b) st′ T = witness-standing v b st′ T
   step-standing (ProofLine rule root) st′ T = line-standing rule (root .0) st′ T
+  step-standing (Strike k) st′ T = strike-standing (k .0) st′ T
   step-standing End st′ T = absurd T
   step-standing CutShort st′ T = absurd T
   step-standing UnknownKind st′ T = absurd T
@@ -215,6 +241,7 @@ module _ {s n : ℕ} {m : Meant} {st : State} (S : Standing s n m st) (narrow : 
   step-extends (NodeEntry b) st′ T = node-extends b st′ T
   step-extends (Witness v b) st′ T = subst (λ (x : State). Extends (st .nodes) (x .nodes)) (T .is) (extends-same (st .nodes))
   step-extends (ProofLine rule root) st′ T = subst (λ (x : State). Extends (st .nodes) (x .nodes)) (T .is) (extends-same (st .nodes))
+  step-extends (Strike k) st′ T = subst (λ (x : State). Extends (st .nodes) (x .nodes)) (T .is) (extends-same (st .nodes))
   step-extends End st′ T = absurd T
   step-extends CutShort st′ T = absurd T
   step-extends UnknownKind st′ T = absurd T

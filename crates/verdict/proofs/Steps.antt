@@ -16,12 +16,12 @@ use Rattle.table.specs.Nodes.{Node, above, Placing, full, placed, put}
 use Rattle.table.specs.Making.{lineReach}
 use Rattle.records.specs.declared.NodeBody.{NodeBody}
 use Rattle.records.specs.declared.Record.{Record}
-use Rattle.records.specs.declared.Record.the-variants.{NodeEntry, Witness, ProofLine, End, CutShort, UnknownKind, NoRecord}
+use Rattle.records.specs.declared.Record.the-variants.{NodeEntry, Witness, ProofLine, Strike, End, CutShort, UnknownKind, NoRecord}
 use Rattle.records.specs.declared.Rule.{Rule}
 use Rattle.records.specs.declared.Rule.the-variants.{Rup, Pr}
 use Rattle.records.specs.Records.{numberOf}
-use Rattle.verdict.specs.Check.{State, Step, next, stop, spent, isEntry, entryNode, isVariable, entered, nodeStep, witnessStep, waiting, accepted, judged, diagramIn, lineStep, endStep, step}
-use Rattle.verdict.specs.Run.{withEntry, NodeTaken, WitnessTaken, lineOf, peakWith, LineTaken, Taken}
+use Rattle.verdict.specs.Check.{State, Step, next, stop, spent, isEntry, entryNode, isVariable, entered, nodeStep, witnessStep, waiting, accepted, judged, diagramIn, lineStep, isLive, strikeStep, endStep, step}
+use Rattle.verdict.specs.Run.{withEntry, NodeTaken, WitnessTaken, lineOf, peakWith, LineTaken, StrikeTaken, Taken}
 
 pub stop-not-next : {A : Type 0} (number offset : ℕ) (st : State) → stop number offset ≡ next st → A
 stop-not-next number offset st e = let z : _≡_ {A = ℕ} 0 1 = cc in absurd (omega arith)
@@ -151,6 +151,19 @@ taken-line n s st Rup root st′ T =
 taken-line n s st Pr root st′ T =
     rw (T .entry, lt-leb 1024 (st .lines) (T .few), ne-eqb (entryNode st root) 1 (T .not-one), T .witness, T .fits, T .shown) (ap next (T .is))
 
+-- ---- strikings
+
+pub strike-taken : (st : State) (k : ℕ) (st′ : State) → strikeStep st k ≡ next st′ → StrikeTaken st k st′
+unfolding strikeStep
+strike-taken st k st′ e =
+    let (none, e₁) = passed (waiting st) 16 _ e in
+    let (live, e₂) = met (isLive st k) 28 _ e₁ in
+    record { none-waits = none; live = live; is = cc }
+
+taken-strike : (st : State) (k : ℕ) (st′ : State) → StrikeTaken st k st′ → strikeStep st k ≡ next st′
+unfolding strikeStep
+taken-strike st k st′ T = rw (T .none-waits, T .live) (ap next (T .is))
+
 -- ---- the end record
 
 pub end-not-next : (st : State) (more : Bool) (st′ : State) {A : Type 0} → endStep st more ≡ next st′ → A
@@ -171,6 +184,7 @@ unfolding step
 step-taken n s st more (NodeEntry b) st′ e = node-taken n s st b st′ e
 step-taken n s st more (Witness v b) st′ e = witness-taken n st v b st′ e
 step-taken n s st more (ProofLine rule root) st′ e = line-taken n s st rule (root .0) st′ e
+step-taken n s st more (Strike k) st′ e = strike-taken st (k .0) st′ e
 step-taken n s st more End st′ e = end-not-next st more st′ e
 step-taken n s st more CutShort st′ e = stop-not-next 10 0 st′ e
 step-taken n s st more UnknownKind st′ e = stop-not-next 9 0 st′ e
@@ -181,6 +195,7 @@ unfolding step
 taken-step n s st more (NodeEntry b) st′ T = taken-node n s st b st′ T
 taken-step n s st more (Witness v b) st′ T = taken-witness n st v b st′ T
 taken-step n s st more (ProofLine rule root) st′ T = taken-line n s st rule (root .0) st′ T
+taken-step n s st more (Strike k) st′ T = taken-strike st (k .0) st′ T
 taken-step n s st more End st′ T = absurd T
 taken-step n s st more CutShort st′ T = absurd T
 taken-step n s st more UnknownKind st′ T = absurd T
@@ -195,6 +210,7 @@ unfolding step
 next-form n s st more (NodeEntry b) st′ e = refl
 next-form n s st more (Witness v b) st′ e = refl
 next-form n s st more (ProofLine rule root) st′ e = refl
+next-form n s st more (Strike k) st′ e = refl
 next-form n s st more End st′ e = refl
 next-form n s st more CutShort st′ e = stop-not-next 10 0 st′ e
 next-form n s st more UnknownKind st′ e = stop-not-next 9 0 st′ e
@@ -284,6 +300,13 @@ module _ {offset : ℕ} where
       let (p₄, e₄) = past (not (witnessed n (inWord (st .positive)) (inWord (st .negative)) (diagramIn st g))) 18 0 _ refl e₃ in
       judged-not-zero s st g (lineOf n st Pr g) e₄
 
+  strike-not-zero : {A : Type 0} (st : State) (k : ℕ) → strikeStep st k ≡ stop 0 offset → A
+  unfolding strikeStep
+  strike-not-zero st k e =
+      let (p₁, e₁) = past (waiting st) 16 0 _ refl e in
+      let (p₂, e₂) = past (not (isLive st k)) 28 0 _ refl e₁ in
+      next-not-stop _ e₂
+
 -- The record that ends the proof with 0.
 pub record Refutes (st : State) (more : Bool) (r : Record) (offset : ℕ) : Type 0 where
   pub end : r ≡ End
@@ -309,6 +332,7 @@ unfolding step
 step-refutes n s st more (NodeEntry b) offset e = node-not-zero n s st b e
 step-refutes n s st more (Witness v b) offset e = witness-not-zero n st v b e
 step-refutes n s st more (ProofLine rule root) offset e = line-not-zero n s st rule (root .0) e
+step-refutes n s st more (Strike k) offset e = strike-not-zero st (k .0) e
 step-refutes n s st more End offset e = end-refutes st more offset e
 step-refutes n s st more CutShort offset e = stop-other 10 0 refl e
 step-refutes n s st more UnknownKind offset e = stop-other 9 0 refl e

@@ -23,9 +23,11 @@ pub record Printed : Type 0 where
 abbrev pub prints : ℕ → ℕ → ℕ → ℕ → ℕ → Printed
 prints number place lines rounds peak = record { number = number; place = place; lines = lines; rounds = rounds; peak = peak }
 
--- A row: what is printed of a formula and a proof with a table of s places; what f cofactored by g is; what U(f) is.
+-- A row: what is printed of a formula and a proof with a table of s places, and the marks that the members have then; what f
+-- cofactored by g is; what U(f) is.
 pub data Row : Type 0 where
   checked : (s : ℕ) (formula : String) (proof : List ℕ) (line : Printed) → Row
+  marked : (s : ℕ) (formula : String) (proof : List ℕ) (line : Printed) (marks : List ℕ) → Row
   cofactored : (n : ℕ) (f g result : Diagram) → Row
   units : (n : ℕ) (f : Diagram) (result : List Literal) → Row
 
@@ -54,6 +56,8 @@ unitsTo n (suc v) f =
 -- The rules give the row.
 abbrev pub Gives : Row → Type 0
 Gives (checked s formula proof line) = printed (verdict s (bytes formula) proof) ≡ line
+Gives (marked s formula proof line marks) =
+    (printed (verdict s (bytes formula) proof) ≡ line) × (verdict s (bytes formula) proof .struck ≡ marks)
 Gives (cofactored n f g result) = cofactor n f g ≡ result
 Gives (units n f result) = unitsTo n n f ≡ result
 
@@ -92,6 +96,9 @@ rupLine root rest = 0x52 ∷ᴸ root ∷ᴸ 0 ∷ᴸ rest
 
 abbrev pub prLine : ℕ → List ℕ → List ℕ
 prLine root rest = 0x50 ∷ᴸ root ∷ᴸ 0 ∷ᴸ rest
+
+abbrev pub strike : ℕ → List ℕ → List ℕ
+strike k rest = 0x44 ∷ᴸ k ∷ᴸ 0 ∷ᴸ rest
 
 abbrev pub end : List ℕ
 end = 0x45 ∷ᴸ []ᴸ
@@ -144,4 +151,28 @@ numberTable =
     ∷ᴸ checked 4096 D-formula end (prints 20 0 0 0 4)
     ∷ᴸ checked 3 "p cnf 2 1\n1 0\n" (over 2 0 1 []ᴸ) (prints 23 0 0 0 3)
     ∷ᴸ checked 4096 "p cnf 2 1\n-1 2 0\n" (over 1 0 1 (0x54 ∷ᴸ 1 ∷ᴸ prLine 2 end)) (prints 19 8 0 0 7)
+    ∷ᴸ []ᴸ
+
+-- The marks of four members, none struck.
+abbrev pub noneOf4 : List ℕ
+noneOf4 = 0 ∷ᴸ 0 ∷ᴸ 0 ∷ᴸ 0 ∷ᴸ []ᴸ
+
+-- 02's 3/14: a struck clause no longer helps; a member that is not there, one struck twice, a waiting witness, a record cut short; a line
+-- struck after it was accepted, a 0 line too; a striking among a line's entries; a member that blocked a PR line; all members struck.
+abbrev pub strikeTable : List Row
+strikeTable =
+    marked 4096 A-formula (strike 0 A-proof) (prints 19 9 0 0 9) (1 ∷ᴸ 0 ∷ᴸ 0 ∷ᴸ 0 ∷ᴸ []ᴸ)
+    ∷ᴸ marked 4096 A-formula (strike 4 []ᴸ) (prints 28 0 0 0 8) noneOf4
+    ∷ᴸ marked 4096 A-formula (0x54 ∷ᴸ 1 ∷ᴸ strike 0 []ᴸ) (prints 16 2 0 0 8) noneOf4
+    ∷ᴸ marked 4096 A-formula (strike 3 (strike 3 []ᴸ)) (prints 28 3 0 0 8) (0 ∷ᴸ 0 ∷ᴸ 0 ∷ᴸ 1 ∷ᴸ []ᴸ)
+    ∷ᴸ marked 4096 A-formula (0x44 ∷ᴸ 0 ∷ᴸ []ᴸ) (prints 10 0 0 0 8) noneOf4
+    ∷ᴸ marked 4096 A-formula (over 2 0 1 (rupLine 2 (rupLine 0 (strike 5 end)))) (prints 0 15 2 1 10)
+    (0 ∷ᴸ 0 ∷ᴸ 0 ∷ᴸ 0 ∷ᴸ 0 ∷ᴸ 1 ∷ᴸ []ᴸ)
+    ∷ᴸ marked 4096 A-formula (over 2 0 1 (strike 4 []ᴸ)) (prints 28 6 0 0 8) noneOf4
+    ∷ᴸ marked 4096 A-formula (over 2 0 1 (rupLine 2 (strike 4 (rupLine 0 end)))) (prints 19 12 1 0 10)
+    (0 ∷ᴸ 0 ∷ᴸ 0 ∷ᴸ 0 ∷ᴸ 1 ∷ᴸ []ᴸ)
+    ∷ᴸ marked 4096 A-formula (over 2 0 1 (strike 2 (strike 3 (rupLine 2 end)))) (prints 20 15 1 0 10)
+    (0 ∷ᴸ 0 ∷ᴸ 1 ∷ᴸ 1 ∷ᴸ 0 ∷ᴸ []ᴸ)
+    ∷ᴸ marked 4096 "p cnf 2 1\n-1 2 0\n" (over 1 0 1 (strike 0 (0x54 ∷ᴸ 1 ∷ᴸ prLine 2 end))) (prints 20 14 1 0 6) (1 ∷ᴸ 0 ∷ᴸ []ᴸ)
+    ∷ᴸ marked 4096 "p cnf 1 1\n0\n" (strike 0 (rupLine 0 end)) (prints 19 3 0 0 2) (1 ∷ᴸ []ᴸ)
     ∷ᴸ []ᴸ

@@ -3,7 +3,7 @@
 use mathlib.Core.Bool.{Bool, false, not, _&&_, _||_, cond}
 use mathlib.Core.List.{List, [], _∷_, _++_, map}
 use Prim.Native.Nat.{ℕ, zero, suc, _+_, _-_, _^_, max}
-use lib.ListN.{length, getD, take, replicate}
+use lib.ListN.{length, getD, set, take, replicate}
 use lib.Dec.{eqb, ltb, leb}
 use Rattle.meaning.specs.Diagram.{Diagram}
 use Rattle.meaning.specs.Operations as meaning
@@ -20,18 +20,20 @@ use Rattle.records.specs.declared.NodeBody.{NodeBody}
 use Rattle.records.specs.declared.Rule.{Rule}
 use Rattle.records.specs.declared.Rule.the-variants.{Rup, Pr}
 use Rattle.records.specs.declared.Record.{Record}
-use Rattle.records.specs.declared.Record.the-variants.{NodeEntry, Witness, ProofLine, End, CutShort, UnknownKind, NoRecord}
+use Rattle.records.specs.declared.Record.the-variants.{NodeEntry, Witness, ProofLine, Strike, End, CutShort, UnknownKind, NoRecord}
 use Rattle.records.specs.Records.{recordAt, lengthOf, numberOf}
 
 -- ---- the state between records
 
 -- The table's nodes, those of the line's entries included; how many of them stay if the line is not accepted; the members (clauses
--- and accepted lines) and the line's entries from entry 2 on, as node numbers; the witness, the variables that it sets true and
--- those that it sets false as two words; the accepted lines, their rounds, the greatest count so far, and whether a line is the 0 diagram.
+-- and accepted lines) as node numbers and their marks, "1 once struck, else 0" (02, 3/14); the line's entries from entry 2 on, as node
+-- numbers; the witness, the variables that it sets true and those that it sets false as two words; the accepted lines, their rounds, the
+-- greatest count so far, and whether a line is the 0 diagram.
 pub record State : Type 0 where
   pub nodes : List Node
   pub kept : ℕ
   pub members : List ℕ
+  pub struck : List ℕ
   pub entries : List ℕ
   pub positive : ℕ
   pub negative : ℕ
@@ -50,6 +52,7 @@ begun nodes members = record {
   nodes = nodes;
   kept = length nodes;
   members = members;
+  struck = replicate (length members) 0;
   entries = [];
   positive = 0;
   negative = 0;
@@ -91,6 +94,7 @@ entered st (placed t k) = next (record {
   nodes = t;
   kept = st .kept;
   members = st .members;
+  struck = st .struck;
   entries = st .entries ++ k ∷ [];
   positive = st .positive;
   negative = st .negative;
@@ -126,6 +130,7 @@ witnessStep n st v b =
       nodes = st .nodes;
       kept = st .kept;
       members = st .members;
+      struck = st .struck;
       entries = st .entries;
       positive = withVariable b (st .positive) v;
       negative = withVariable (not b) (st .negative) v;
@@ -135,7 +140,7 @@ witnessStep n st v b =
       refuted = st .refuted;
     })))
 
--- "16: witness left at a RUP line or the end"
+-- "16: witness left at a RUP line or the end"; "and then 16 for a waiting witness" (02, 3/14)
 unfoldable pub waiting : State → Bool
 waiting st = not (eqb (st .positive) 0 && eqb (st .negative) 0)
 
@@ -147,6 +152,7 @@ accepted st g line greatest = record {
   nodes = st .nodes;
   kept = length (st .nodes);
   members = st .members ++ g ∷ [];
+  struck = st .struck ++ 0 ∷ [];
   entries = [];
   positive = 0;
   negative = 0;
@@ -166,22 +172,59 @@ judged s st g line =
 abbrev pub diagramIn : State → ℕ → Diagram
 diagramIn st k = diagramAt (st .nodes) k
 
+-- Of things that stand beside the marks those whose mark is 0, by place.
+unfoldable pub unstruck : {A : Type 0} → List ℕ → List A → List A
+unstruck marks [] = []
+unstruck [] (x ∷ xs) = x ∷ xs
+unstruck (m ∷ marks) (x ∷ xs) = let rest = unstruck marks xs in cond (eqb m 0) (x ∷ rest) rest
+
+-- "Making, propagation and PR pass over struck members": the diagrams of the others, by place. (02, 3/14)
+abbrev pub liveMembers : State → List Diagram
+liveMembers st = map (diagramIn st) (unstruck (st .struck) (st .members))
+
 -- "RUP: 10, 13, 16, 22, 17, then 19 or 23, the one met first. PR: 10, 13, 22, 17, 18, then the same."
 -- "17: line is always true"; "18: witness does not make the line 1"; "22: over 1,024 lines"
 unfoldable pub lineStep : ℕ → ℕ → State → Rule → ℕ → Step
-unfolding isEntry entryNode waiting judged
+unfolding isEntry entryNode waiting judged unstruck
 lineStep n s st Rup root =
     let g = entryNode st root in
-    let last = judged s st g (rup n (map (diagramIn st) (st .members)) (diagramIn st g)) in
+    let last = judged s st g (rup n (liveMembers st) (diagramIn st g)) in
     cond (not (isEntry st root)) (stop 13 0)
     (cond (waiting st) (stop 16 0) (cond (leb 1024 (st .lines)) (stop 22 0) (cond (eqb g 1) (stop 17 0) last)))
 lineStep n s st Pr root =
     let g = entryNode st root in
     let P = inWord (st .positive) in
     let N = inWord (st .negative) in
-    let last = judged s st g (pr n P N (map (diagramIn st) (st .members)) (diagramIn st g)) in
+    let last = judged s st g (pr n P N (liveMembers st) (diagramIn st g)) in
     let shut = cond (not (witnessed n P N (diagramIn st g))) (stop 18 0) last in
     cond (not (isEntry st root)) (stop 13 0) (cond (leb 1024 (st .lines)) (stop 22 0) (cond (eqb g 1) (stop 17 0) shut))
+
+-- ---- strikings
+
+-- Whether there is a member of that number that is not struck.
+unfoldable pub isLive : State → ℕ → Bool
+isLive st k = ltb k (length (st .members)) && eqb (getD (st .struck) k 0) 0
+
+-- "A record of kind `44` [..] strikes out the member of that number [..] numbers are not reused, nodes stay. [..] It refuses with 28 a
+-- member that does not exist or is struck already, after 10 and then 16 for a waiting witness." (02, 3/14)
+unfoldable pub strikeStep : State → ℕ → Step
+unfolding waiting isLive
+strikeStep st k =
+    cond (waiting st) (stop 16 0)
+    (cond (not (isLive st k)) (stop 28 0)
+    (next (record {
+      nodes = st .nodes;
+      kept = st .kept;
+      members = st .members;
+      struck = set (st .struck) k 1;
+      entries = st .entries;
+      positive = st .positive;
+      negative = st .negative;
+      lines = st .lines;
+      rounds = st .rounds;
+      peak = st .peak;
+      refuted = st .refuted;
+    })))
 
 -- ---- the proof
 
@@ -192,16 +235,17 @@ endStep st more = cond (waiting st) (stop 16 0) (cond more (stop 11 1) (cond (st
 
 -- A record; `more` tells whether a byte follows it. "each record's kind (9) before all else"; 10: `numberOf`.
 unfoldable pub step : ℕ → ℕ → State → Bool → Record → Step
-unfolding nodeStep witnessStep lineStep endStep
+unfolding nodeStep witnessStep lineStep strikeStep endStep
 step n s st more (NodeEntry b) = nodeStep n s st b
 step n s st more (Witness v b) = witnessStep n st v b
 step n s st more (ProofLine rule root) = lineStep n s st rule (root .0)
+step n s st more (Strike k) = strikeStep st (k .0)
 step n s st more End = endStep st more
 step n s st more CutShort = stop (numberOf CutShort) 0
 step n s st more UnknownKind = stop (numberOf UnknownKind) 0
 step n s st more NoRecord = stop (numberOf NoRecord) 0
 
--- What the check says, and the nodes and members that it leaves. "the check shall report the greatest count reached, dropped nodes
+-- What the check says, and the nodes, members and marks that it leaves. "the check shall report the greatest count reached, dropped nodes
 -- included" (02, 2/14)
 pub record Verdict : Type 0 where
   pub number : ℕ
@@ -211,9 +255,10 @@ pub record Verdict : Type 0 where
   pub peak : ℕ
   pub nodes : List Node
   pub members : List ℕ
+  pub struck : List ℕ
 
 -- "A refused proof leaves the clauses and accepted lines with their nodes (those of all their entries) [..]. Number 0 leaves the same;
--- nodes of entries after the last accepted line are dropped in both."
+-- nodes of entries after the last accepted line are dropped in both." A mark "stays, after a refused proof too". (02, 3/14)
 abbrev pub left : ℕ → ℕ → ℕ → State → Verdict
 left number place peak st = record {
   number = number;
@@ -223,6 +268,7 @@ left number place peak st = record {
   peak = peak;
   nodes = take (st .kept) (st .nodes);
   members = st .members;
+  struck = st .struck;
 }
 
 abbrev pub afterStep : Step → State → ℕ → (State → Verdict) → Verdict
@@ -243,7 +289,7 @@ records (suc steps) n s proof st at =
 -- "A refused formula leaves table and lists all zero, count 2."
 abbrev pub refusedFormula : ℕ → ℕ → ℕ → Verdict
 refusedFormula number place peak =
-    record { number = number; place = place; lines = 0; rounds = 0; peak = peak; nodes = emptied; members = [] }
+    record { number = number; place = place; lines = 0; rounds = 0; peak = peak; nodes = emptied; members = []; struck = [] }
 
 abbrev pub afterClause : Placing → (List Node → ℕ → Verdict) → ℕ → Verdict
 afterClause (full t) rest first = refusedFormula 8 first (length t)
@@ -278,11 +324,15 @@ pub record Outcome : Type 0 where
   pub peak : ℕ
   pub columns : Columns
   pub members : List ℕ
+  pub struck : List ℕ
   pub scratch : List ℕ
 
--- "the member list has 2,048 or more, the scratch list 4,096 or more" (01, What is checked)
-unfoldable pub lentFits : List ℕ → List ℕ → List ℕ → List ℕ → List ℕ → Bool
-lentFits vars lows highs members scratch = sizeFits vars lows highs && (leb 2048 (length members) && leb 4096 (length scratch))
+-- "the member list has 2,048 or more, the scratch list 4,096 or more; columns of unequal length are of wrong size" (01, What is
+-- checked). "Each member gains a mark in the list": nodes and marks are its two columns. (02, 3/14)
+unfoldable pub lentFits : List ℕ → List ℕ → List ℕ → List ℕ → List ℕ → List ℕ → Bool
+lentFits vars lows highs members struck scratch =
+    sizeFits vars lows highs
+    && (leb 2048 (length members) && (eqb (length struck) (length members) && leb 4096 (length scratch)))
 
 abbrev pub zeros : ℕ → List ℕ
 zeros k = replicate k 0
@@ -298,13 +348,14 @@ outcome s m c v = record {
   peak = v .peak;
   columns = columnsOf (padded s (v .nodes));
   members = v .members ++ zeros (m - length (v .members));
+  struck = v .struck ++ zeros (m - length (v .struck));
   scratch = zeros c;
 }
 
 -- "Number 7 changes nothing": "place 0, no lines, no rounds and the count as lent". "with 7, 24 and 25 it is 0": the peak. (02, 2/14)
-unfoldable pub check : List ℕ → List ℕ → List ℕ → ℕ → List ℕ → List ℕ → List ℕ → List ℕ → Outcome
+unfoldable pub check : List ℕ → List ℕ → List ℕ → ℕ → List ℕ → List ℕ → List ℕ → List ℕ → List ℕ → Outcome
 unfolding lentFits outcome verdict
-check vars lows highs count members scratch formula proof =
+check vars lows highs count members struck scratch formula proof =
     let done = outcome (length vars) (length members) (length scratch) (verdict (length vars) formula proof) in
     let seven : Outcome = record {
       number = 7;
@@ -315,6 +366,7 @@ check vars lows highs count members scratch formula proof =
       peak = 0;
       columns = record { vars = vars; lows = lows; highs = highs };
       members = members;
+      struck = struck;
       scratch = scratch;
     } in
-    cond (lentFits vars lows highs members scratch) done seven
+    cond (lentFits vars lows highs members struck scratch) done seven

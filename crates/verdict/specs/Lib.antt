@@ -1,5 +1,6 @@
 pub mod Check
 pub mod Cases
 pub mod Run
+pub mod Marks
 pub mod Satisfies
 pub mod MetFirst

@@ -1,7 +1,7 @@
 -- A line judged as its diagrams are made, one after the other: "19 or 23, the one met first". (01, What the call says and leaves)
 -- No call open to others cites this file: `met-first` says that the definition of the check judges so.
 use mathlib.Core.Bool.{Bool, cond}
-use mathlib.Core.List.{List, [], _∷_, map}
+use mathlib.Core.List.{List, [], _∷_}
 use mathlib.Core.Option.{Option, none, some}
 use mathlib.Core.Bool.{true}
 use Prim.Native.Nat.{ℕ, zero, suc}
@@ -12,7 +12,7 @@ use Rattle.meaning.specs.Words.{inWord}
 use Rattle.table.specs.Nodes.{Node, Placing, full, placed, place}
 use Rattle.records.specs.declared.Rule.{Rule}
 use Rattle.records.specs.declared.Rule.the-variants.{Rup, Pr}
-use Rattle.verdict.specs.Check.{State, Step, next, spent, accepted, diagramIn}
+use Rattle.verdict.specs.Check.{State, Step, next, spent, accepted, diagramIn, liveMembers}
 
 -- What is met: a conflict in every propagation; a propagation that ends without one; a diagram that finds no room.
 pub data Met : Type 0 where
@@ -64,10 +64,10 @@ turning s n P N t ms′ (f ∷ fs) =
 unfoldable pub metBy : ℕ → ℕ → State → Rule → ℕ → Met
 unfolding making propagating turning
 metBy n s st Rup g =
-    let ms = map (diagramIn st) (st .members) in
+    let ms = liveMembers st in
     making s (st .nodes) (base n ms (diagramIn st g)) (λ t. propagating s n n t (byDiagram n (negation n (diagramIn st g)) ms))
 metBy n s st Pr g =
-    let ms = map (diagramIn st) (st .members) in
+    let ms = liveMembers st in
     making s (st .nodes) (base n ms (diagramIn st g))
     (λ t. turning s n (inWord (st .positive)) (inWord (st .negative)) t (byDiagram n (negation n (diagramIn st g)) ms) ms)
 

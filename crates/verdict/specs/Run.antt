@@ -5,9 +5,9 @@ use mathlib.Core.Logic.{_≢_}
 use mathlib.Core.Bool.{Bool, true, false, not, cond}
 use mathlib.Core.List.{List, [], _∷_, _++_, map}
 use Prim.Native.Nat.{ℕ, zero, suc, _+_, _≤_, _<_, max}
-use lib.ListN.{length, getD, take}
+use lib.ListN.{length, getD, set, take}
 use lib.Dec.{ltb}
-use Rattle.meaning.specs.Diagram.{Assignment, holds, value}
+use Rattle.meaning.specs.Diagram.{Assignment, Diagram, holds, value}
 use Rattle.meaning.specs.Operations as meaning
 use Rattle.meaning.specs.Rules.{Line, rup, pr, witnessed}
 use Rattle.meaning.specs.Words.{inWord}
@@ -20,10 +20,10 @@ use Rattle.records.specs.declared.NodeBody.{NodeBody}
 use Rattle.records.specs.declared.Rule.{Rule}
 use Rattle.records.specs.declared.Rule.the-variants.{Rup, Pr}
 use Rattle.records.specs.declared.Record.{Record}
-use Rattle.records.specs.declared.Record.the-variants.{NodeEntry, Witness, ProofLine, End, CutShort, UnknownKind, NoRecord}
+use Rattle.records.specs.declared.Record.the-variants.{NodeEntry, Witness, ProofLine, Strike, End, CutShort, UnknownKind, NoRecord}
 use Rattle.records.specs.Records.{recordAt, lengthOf}
-use Rattle.verdict.specs.Check.{State, emptied, begun, stop, spent, isEntry, entryNode, withVariable, waiting, accepted}
-use Rattle.verdict.specs.Check.{diagramIn, step, Verdict, left, refusedFormula}
+use Rattle.verdict.specs.Check.{State, emptied, begun, stop, spent, isEntry, entryNode, withVariable, waiting, accepted, isLive}
+use Rattle.verdict.specs.Check.{diagramIn, liveMembers, step, Verdict, left, refusedFormula}
 use Rattle.verdict.specs.Satisfies.{clausesOf}
 
 -- ---- what members and entries stand for
@@ -55,6 +55,7 @@ unfolding entryMeant
 afterRecord m (NodeEntry b) = record { members = m .members; entries = m .entries ++ nodeMeant m b ∷ [] }
 afterRecord m (ProofLine rule root) = record { members = m .members ++ entryMeant m (root .0) ∷ []; entries = [] }
 afterRecord m (Witness v b) = m
+afterRecord m (Strike k) = m
 afterRecord m End = m
 afterRecord m CutShort = m
 afterRecord m UnknownKind = m
@@ -94,6 +95,7 @@ withEntry st t k = record {
   nodes = t;
   kept = st .kept;
   members = st .members;
+  struck = st .struck;
   entries = st .entries ++ k ∷ [];
   positive = st .positive;
   negative = st .negative;
@@ -109,9 +111,26 @@ withWitness st positive negative = record {
   nodes = st .nodes;
   kept = st .kept;
   members = st .members;
+  struck = st .struck;
   entries = st .entries;
   positive = positive;
   negative = negative;
+  lines = st .lines;
+  rounds = st .rounds;
+  peak = st .peak;
+  refuted = st .refuted;
+}
+
+-- The state with other marks.
+abbrev pub withMarks : State → List ℕ → State
+withMarks st struck = record {
+  nodes = st .nodes;
+  kept = st .kept;
+  members = st .members;
+  struck = struck;
+  entries = st .entries;
+  positive = st .positive;
+  negative = st .negative;
   lines = st .lines;
   rounds = st .rounds;
   peak = st .peak;
@@ -140,10 +159,14 @@ pub record WitnessTaken (n : ℕ) (st : State) (v : ℕ) (b : Bool) (st′ : Sta
   pub new-negative : inWord (st .negative) v ≡ false
   pub is : withWitness st (withVariable b (st .positive) v) (withVariable (not b) (st .negative) v) ≡ st′
 
--- A line by its rule: RUP, or PR with the witness, of the members' diagrams and the root's.
+-- A line by its rule: RUP, or PR with the witness of two words, of the members ms and the root g.
+abbrev pub lineBy : ℕ → Rule → ℕ → ℕ → List Diagram → Diagram → Line
+lineBy n Rup positive negative ms g = rup n ms g
+lineBy n Pr positive negative ms g = pr n (inWord positive) (inWord negative) ms g
+
+-- The line whose root is node g, over the live members.
 abbrev pub lineOf : ℕ → State → Rule → ℕ → Line
-lineOf n st Rup g = rup n (map (diagramIn st) (st .members)) (diagramIn st g)
-lineOf n st Pr g = pr n (inWord (st .positive)) (inWord (st .negative)) (map (diagramIn st) (st .members)) (diagramIn st g)
+lineOf n st rule g = lineBy n rule (st .positive) (st .negative) (liveMembers st) (diagramIn st g)
 
 -- What its rule asks of the witness: none is left at a RUP line; "g under ω is 1" at a PR line.
 abbrev pub Witnessed : ℕ → State → Rule → ℕ → Type 0
@@ -165,11 +188,18 @@ pub record LineTaken (n s : ℕ) (st : State) (rule : Rule) (root : ℕ) (st′ 
   pub shown : lineOf n st rule (entryNode st root) .shown ≡ true
   pub is : (let line = lineOf n st rule (entryNode st root) in accepted st (entryNode st root) line (peakWith s st line) ≡ st′)
 
+-- "after 10 and then 16 for a waiting witness", 28: none of them holds, and the member's mark is 1. (02, 3/14)
+pub record StrikeTaken (st : State) (k : ℕ) (st′ : State) : Type 0 where
+  pub none-waits : waiting st ≡ false
+  pub live : isLive st k ≡ true
+  pub is : withMarks st (set (st .struck) k 1) ≡ st′
+
 -- What a record has to pass, by its kind, and the state that it leads to. No other record is followed by a state.
 abbrev pub Taken : ℕ → ℕ → State → Record → State → Type 0
 Taken n s st (NodeEntry b) st′ = NodeTaken n s st b st′
 Taken n s st (Witness v b) st′ = WitnessTaken n st v b st′
 Taken n s st (ProofLine rule root) st′ = LineTaken n s st rule (root .0) st′
+Taken n s st (Strike k) st′ = StrikeTaken st (k .0) st′
 Taken n s st End st′ = ⊥
 Taken n s st CutShort st′ = ⊥
 Taken n s st UnknownKind st′ = ⊥

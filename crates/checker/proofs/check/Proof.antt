@@ -8,9 +8,9 @@ use Rattle.verdict.specs.Check.{Outcome}
 use Rattle.verdict.proofs.Refuted.{check-refuted}
 
 -- The ways back, written by ways.py: TO-from-FROM leads from the place FROM of the code to the place TO before it.
-module _ (c : tie.After-slice-known10) where
+module _ (c : tie.After-slice-known12) where
   abbrev call-from-return : tie.After-call
-  call-from-return = c .before .before .before .before .before .before .before .before .before .before
+  call-from-return = c .before .before .before .before .before .before .before .before .before .before .before .before
 
 call-requires : tie.Need-call-requires
 call-requires c κs = search needs
@@ -30,10 +30,13 @@ same-length-4 c = search needs
 same-length-5 : tie.Need-same-length-5
 same-length-5 c = search needs
 
+same-length-6 : tie.Need-same-length-6
+same-length-6 c = search needs
+
 returns : tie.Need-returns
 returns c =
     let said = call-from-return c .call .ensures in
-    (said, λ z. check-refuted _ _ _ _ _ _ _ _ (sym (ap (λ (o : Outcome). o .number) said) ∙ z))
+    (said, λ z. check-refuted _ _ _ _ _ _ _ _ _ (sym (ap (λ (o : Outcome). o .number) said) ∙ z))
 
 pub check-spec : {M : Type 1} → statement M
 check-spec =
@@ -45,4 +48,5 @@ check-spec =
     same-length-3
     same-length-4
     same-length-5
+    same-length-6
     returns)

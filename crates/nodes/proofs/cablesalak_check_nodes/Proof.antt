@@ -80,7 +80,7 @@ abbrev Slice : Type 0
 Slice = RefT (List ℕ)
 
 abbrev Arg : Type 0
-Arg = RefT (List Node) × (ℕ × (Slice × (Slice × (Slice × (Slice × Unit {0})))))
+Arg = RefT (List Node) × (ℕ × (Slice × (Slice × (Slice × (Slice × (Slice × Unit {0}))))))
 
 abbrev stayed : Stays (check-fn.ended .signature .params) (check-fn.ended .kept)
 stayed = (
@@ -90,8 +90,11 @@ stayed = (
     (
       gave-slice (1 ∷ []) tt (plain (λ _. u16)),
       (
-        gave-slice (2 ∷ []) tt (plain (λ _. u16)),
-        (stay-none-slice (3 ∷ []) tt (plain (λ _. u8)) yes, (stay-none-slice (3 ∷ []) tt (plain (λ _. u8)) yes, tt)),
+        gave-slice (2 ∷ []) tt (plain (λ _. u8)),
+        (
+          gave-slice (3 ∷ []) tt (plain (λ _. u16)),
+          (stay-none-slice (4 ∷ []) tt (plain (λ _. u8)) yes, (stay-none-slice (4 ∷ []) tt (plain (λ _. u8)) yes, tt)),
+        ),
       ),
     ),
   ),
@@ -100,20 +103,20 @@ stayed = (
 abbrev at-list : {X : Type 0} → GName → ℕ → ℕ → List X → RefT (List X)
 at-list γ b o l = record { ptr = (b, o); name = γ; now = l }
 
-module _ {M : Type 1} (𝓤 : URA M) (H : Heap 𝓤) (A : Atoms 𝓤) (W : Given 𝓤 H A) (mem : Memory → SProp 𝓤) (run : Routine → Fun 𝓤) (κ₀ κ₁ κ₂ κ₃ : Lft) (q₀ q₁ q₂ q₃ : Share)
-    (bN oN : ℕ) (γN : GName) (ys : List Node) (count : ℕ) (xM xS xF xP : Slice) (roomN : Room N.the-row (length ys)) (g-count : count < 2 ^ 64)
-    (roomM : Room u16 (length (xM .now))) (roomS : Room u16 (length (xS .now))) (roomF : Room u8 (length (xF .now))) (roomP : Room u8 (length (xP .now))) where
+module _ {M : Type 1} (𝓤 : URA M) (H : Heap 𝓤) (A : Atoms 𝓤) (W : Given 𝓤 H A) (mem : Memory → SProp 𝓤) (run : Routine → Fun 𝓤) (κ₀ κ₁ κ₂ κ₃ κ₄ : Lft) (q₀ q₁ q₂ q₃ q₄ : Share)
+    (bN oN : ℕ) (γN : GName) (ys : List Node) (count : ℕ) (xM xK xS xF xP : Slice) (roomN : Room N.the-row (length ys)) (g-count : count < 2 ^ 64)
+    (roomM : Room u16 (length (xM .now))) (roomK : Room u8 (length (xK .now))) (roomS : Room u16 (length (xS .now))) (roomF : Room u8 (length (xF .now))) (roomP : Room u8 (length (xP .now))) where
   abbrev xN : RefT (List Node)
   xN = at-list γN bN oN ys
 
   abbrev a : Arg
-  a = (xN, (count, (xM, (xS, (xF, (xP, tt))))))
+  a = (xN, (count, (xM, (xK, (xS, (xF, (xP, tt)))))))
 
-  abbrev vals : Vals check-fn.signature (κ₀, (κ₁, (κ₂, (κ₃, tt))))
-  vals = (slice-vals xN, (vint w64 count ∷ [], (slice-vals xM, (slice-vals xS, (slice-vals xF, (slice-vals xP, tt))))))
+  abbrev vals : Vals check-fn.signature (κ₀, (κ₁, (κ₂, (κ₃, (κ₄, tt)))))
+  vals = (slice-vals xN, (vint w64 count ∷ [], (slice-vals xM, (slice-vals xK, (slice-vals xS, (slice-vals xF, (slice-vals xP, tt)))))))
 
   abbrev bound : walkOf 𝓤 H A check-fn.ended stayed (check-fn.clauses 𝓤 H A mem run) .Ghost
-  bound = (((κ₀, (κ₁, (κ₂, (κ₃, tt)))), (q₀, (q₁, (q₂, (q₃, tt)))), tt, a, vals), tt)
+  bound = (((κ₀, (κ₁, (κ₂, (κ₃, (κ₄, tt))))), (q₀, (q₁, (q₂, (q₃, (q₄, tt))))), tt, a, vals), tt)
 
   abbrev Post : Val → SProp 𝓤
   Post = walkOf 𝓤 H A check-fn.ended stayed (check-fn.clauses 𝓤 H A mem run) .post bound
@@ -121,9 +124,9 @@ module _ {M : Type 1} (𝓤 : URA M) (H : Heap 𝓤) (A : Atoms 𝓤) (W : Given
   -- what the check over the arrays tells, where they held vs, ls and hs before the nodes were loaded
   abbrev Told : List ℕ → List ℕ → List ℕ → ℕ → Checked × Ch.Last → Type 0
   Told vs ls hs m o =
-      (outcomeOf (take (length ys) (o .1 .0)) (take (length ys) (o .1 .1 .0)) (take (length ys) (o .1 .1 .1 .0)) (o .1 .1 .1 .1 .1 .1 .0) (o .1 .1 .1 .1 .1 .1 .1 .0) (o .0)
-      ≡ checkWithin (length ys) (column varOf ys vs m) (column lowOf ys ls m) (column highOf ys hs m) count (xM .now) (xS .now) (xF .now) (xP .now))
-      × (length (o .1 .0) ≡ 65536) × (length (o .1 .1 .0) ≡ 65536) × (length (o .1 .1 .1 .0) ≡ 65536) × (length (o .1 .1 .1 .1 .1 .1 .0) ≡ length (xM .now)) × (length (o .1 .1 .1 .1 .1 .1 .1 .0) ≡ length (xS .now))
+      (outcomeOf (take (length ys) (o .1 .0)) (take (length ys) (o .1 .1 .0)) (take (length ys) (o .1 .1 .1 .0)) (o .1 .1 .1 .1 .1 .1 .0) (o .1 .1 .1 .1 .1 .1 .1 .1 .0) (o .1 .1 .1 .1 .1 .1 .1 .0) (o .0)
+      ≡ checkWithin (length ys) (column varOf ys vs m) (column lowOf ys ls m) (column highOf ys hs m) count (xM .now) (xK .now) (xS .now) (xF .now) (xP .now))
+      × (length (o .1 .0) ≡ 65536) × (length (o .1 .1 .0) ≡ 65536) × (length (o .1 .1 .1 .0) ≡ 65536) × (length (o .1 .1 .1 .1 .1 .1 .0) ≡ length (xM .now)) × (length (o .1 .1 .1 .1 .1 .1 .1 .0) ≡ length (xS .now)) × (length (o .1 .1 .1 .1 .1 .1 .1 .1 .0) ≡ length (xK .now))
 
   module _ (vs ls hs : List ℕ) (m : ℕ) (cut : Cut (length ys) m) (o : Checked × Ch.Last) (told : Told vs ls hs m o) where
     -- the arrays as the call leaves them
@@ -135,34 +138,35 @@ module _ {M : Type 1} (𝓤 : URA M) (H : Heap 𝓤) (A : Atoms 𝓤) (W : Given
 
     -- what is had at exit, beside the tokens
     abbrev Had : Val → List (Item 𝓤)
-    Had w = ‵ (flft κ₀ q₀) ∷ ‵ (flft κ₁ q₁) ∷ ‵ (flft κ₂ q₂) ∷ ‵ (flft κ₃ q₃) ∷ ‵ (MutSlice (named 0) κ₀ N.the-row .own (at-list γN bN oN ys′) (slice-vals xN)) ∷ ‵ (finally u16 (xM .name) (o .1 .1 .1 .1 .1 .1 .0)) ∷ ‵ (finally u16 (xS .name) (o .1 .1 .1 .1 .1 .1 .1 .0))
-        ∷ ‵ (ShrSlice (named 3) κ₃ u8 .own xF (slice-vals xF)) ∷ ‵ (ShrSlice (named 3) κ₃ u8 .own xP (slice-vals xP)) ∷ ‵ (K.the-row .own (o .0) (w ∷ [])) ∷ []
+    Had w = ‵ (flft κ₀ q₀) ∷ ‵ (flft κ₁ q₁) ∷ ‵ (flft κ₂ q₂) ∷ ‵ (flft κ₃ q₃) ∷ ‵ (flft κ₄ q₄) ∷ ‵ (MutSlice (named 0) κ₀ N.the-row .own (at-list γN bN oN ys′) (slice-vals xN)) ∷ ‵ (finally u16 (xM .name) (o .1 .1 .1 .1 .1 .1 .0)) ∷ ‵ (finally u8 (xK .name) (o .1 .1 .1 .1 .1 .1 .1 .1 .0)) ∷ ‵ (finally u16 (xS .name) (o .1 .1 .1 .1 .1 .1 .1 .0))
+        ∷ ‵ (ShrSlice (named 4) κ₄ u8 .own xF (slice-vals xF)) ∷ ‵ (ShrSlice (named 4) κ₄ u8 .own xP (slice-vals xP)) ∷ ‵ (K.the-row .own (o .0) (w ∷ [])) ∷ []
 
     exits : (w : Val) → ent 𝓤 (⋆ 𝓤 H A (Had w)) (Post w)
     exits w =
         qed W (Had w) ∵
-        suffices ! _ (ends-at 𝓤 H A check-fn.ended stayed (check-fn.clauses 𝓤 H A mem run) W bound w (o .0) (ys′, (tt, (o .1 .1 .1 .1 .1 .1 .0, (o .1 .1 .1 .1 .1 .1 .1 .0, (tt, (tt, tt))))))
-        (written-length ys cs₂ m cut, (tt, (told .4, (told .5, (tt, (tt, tt))))))) $ says ! (check-told count _ _ _ _ _ _ (o .0) ys m vs ls hs _ _ _ cut (told .1, told .2, told .3) (told .0)) $
-        nothing ! $ move ! (4 ∷ 0 ∷ []) $ join ! $ move ! (3 ∷ 0 ∷ []) $ join ! $ move ! (2 ∷ 0 ∷ []) $ join ! $ move ! (1 ∷ 0 ∷ []) $ join ! $ frame ! $
-        nothing ! $ move ! (5 ∷ 0 ∷ []) $ fjoin ! $ move ! (4 ∷ 0 ∷ []) $ fjoin ! $ move ! (3 ∷ 0 ∷ []) $ fjoin ! $ move ! (2 ∷ 0 ∷ []) $ fjoin ! $ owned ! usize (Is usize) (uint-makes 𝓤 H A W w64) count (vint w64 count ∷ []) (refl, g-count) $ fjoin ! $ move ! (1 ∷ 0 ∷ []) $ fjoin ! $ frame ! $ done !
+        suffices ! _ (ends-at 𝓤 H A check-fn.ended stayed (check-fn.clauses 𝓤 H A mem run) W bound w (o .0) (ys′, (tt, (o .1 .1 .1 .1 .1 .1 .0, (o .1 .1 .1 .1 .1 .1 .1 .1 .0, (o .1 .1 .1 .1 .1 .1 .1 .0, (tt, (tt, tt)))))))
+        (written-length ys cs₂ m cut, (tt, (told .4, (told .6, (told .5, (tt, (tt, tt)))))))) $ says ! (check-told count _ _ _ _ _ _ _ _ (o .0) ys m vs ls hs _ _ _ cut (told .1, told .2, told .3) (told .0)) $
+        nothing ! $ move ! (5 ∷ 0 ∷ []) $ join ! $ move ! (4 ∷ 0 ∷ []) $ join ! $ move ! (3 ∷ 0 ∷ []) $ join ! $ move ! (2 ∷ 0 ∷ []) $ join ! $ move ! (1 ∷ 0 ∷ []) $ join ! $ frame ! $
+        nothing ! $ move ! (6 ∷ 0 ∷ []) $ fjoin ! $ move ! (5 ∷ 0 ∷ []) $ fjoin ! $ move ! (4 ∷ 0 ∷ []) $ fjoin ! $ move ! (3 ∷ 0 ∷ []) $ fjoin ! $ move ! (2 ∷ 0 ∷ []) $ fjoin ! $ owned ! usize (Is usize) (uint-makes 𝓤 H A W w64) count (vint w64 count ∷ []) (refl, g-count) $ fjoin ! $ move ! (1 ∷ 0 ∷ []) $ fjoin ! $ frame ! $ done !
 
   module _ (C : Calls 𝓤 H) (Λ : Loops 𝓤 H) (fm : FmC 𝓤 H (W .laws) C) (known-places : Triple 𝓤 (C #places) (Places 𝓤 H A mem run)) (known-load : Triple 𝓤 (C #load) (Load 𝓤 H A mem run))
       (known-check : Triple 𝓤 (C #within) (Check 𝓤 H A mem run)) (known-save : Triple 𝓤 (C #save) (Save 𝓤 H A mem run)) where
     abbrev args : List Val
-    args = only (slice-vals xN) ∷ vint w64 count ∷ only (slice-vals xM) ∷ only (slice-vals xS) ∷ only (slice-vals xF) ∷ only (slice-vals xP) ∷ []
+    args = only (slice-vals xN) ∷ vint w64 count ∷ only (slice-vals xM) ∷ only (slice-vals xK) ∷ only (slice-vals xS) ∷ only (slice-vals xF) ∷ only (slice-vals xP) ∷ []
 
-    walk : ent 𝓤 (onEntry 𝓤 H A check-fn.signature (κ₀, (κ₁, (κ₂, (κ₃, tt)))) (q₀, (q₁, (q₂, (q₃, tt)))) a vals) (WpFn 𝓤 H C Λ code.function args Post)
+    walk : ent 𝓤 (onEntry 𝓤 H A check-fn.signature (κ₀, (κ₁, (κ₂, (κ₃, (κ₄, tt))))) (q₀, (q₁, (q₂, (q₃, (q₄, tt))))) a vals) (WpFn 𝓤 H C Λ code.function args Post)
     walk =
-        qed W ((‵ (flft κ₀ q₀) ⊛ (‵ (flft κ₁ q₁) ⊛ (‵ (flft κ₂ q₂) ⊛ (‵ (flft κ₃ q₃) ⊛ ‵ ftrue)))) ∷ ‵ (owns (MutSlice (named 0) κ₀ N.the-row ∷ usize ∷ MutSlice (named 1) κ₁ u16 ∷ MutSlice (named 2) κ₂ u16 ∷ ShrSlice (named 3) κ₃ u8 ∷ ShrSlice (named 3) κ₃ u8 ∷ []) a vals) ∷ []) ∵
+        qed W ((‵ (flft κ₀ q₀) ⊛ (‵ (flft κ₁ q₁) ⊛ (‵ (flft κ₂ q₂) ⊛ (‵ (flft κ₃ q₃) ⊛ (‵ (flft κ₄ q₄) ⊛ ‵ ftrue))))) ∷ ‵ (owns (MutSlice (named 0) κ₀ N.the-row ∷ usize ∷ MutSlice (named 1) κ₁ u16 ∷ MutSlice (named 2) κ₂ u8 ∷ MutSlice (named 3) κ₃ u16 ∷ ShrSlice (named 4) κ₄ u8 ∷ ShrSlice (named 4) κ₄ u8 ∷ []) a vals) ∷ []) ∵
         enter ! C Λ code.function args _ $
         alloc1 ! (λ l0. alloc1 ! (λ l1. alloc1 ! (λ l2. alloc1 ! (λ l3. alloc1 ! (λ l4. alloc1 ! (λ l5. alloc1 ! (λ l6. alloc1 ! (λ l7. alloc1 ! (λ l8. alloc1 ! (λ l9.
         alloc1 ! (λ l10. alloc1 ! (λ l11. alloc1 ! (λ l12. alloc1 ! (λ l13. alloc1 ! (λ l14. alloc1 ! (λ l15. alloc1 ! (λ l16. alloc1 ! (λ l17. alloc1 ! (λ l18. alloc1 ! (λ l19.
         alloc1 ! (λ l20. alloc1 ! (λ l21. alloc1 ! (λ l22. alloc1 ! (λ l23. alloc1 ! (λ l24. alloc1 ! (λ l25. alloc1 ! (λ l26. alloc1 ! (λ l27. alloc1 ! (λ l28. alloc1 ! (λ l29.
         alloc1 ! (λ l30. alloc1 ! (λ l31. alloc1 ! (λ l32. alloc1 ! (λ l33. alloc1 ! (λ l34. alloc1 ! (λ l35. alloc1 ! (λ l36. alloc1 ! (λ l37. alloc1 ! (λ l38. alloc1 ! (λ l39.
+        alloc1 ! (λ l40. alloc1 ! (λ l41. alloc1 ! (λ l42.
         alloc0 ! $ params1 ! $
-        pass1 ! (init ! 76 refl (tt, (tt, (record { fits = roomN .0 }, tt)))) $ pass1 ! (init ! 74 refl (tt, record { fits = g-count })) $ pass1 ! (init ! 72 refl (tt, (tt, (record { fits = roomM .0 }, tt)))) $ pass1 ! (init ! 70 refl (tt, (tt, (record { fits = roomS .0 }, tt)))) $ pass1 ! (init ! 68 refl (tt, (tt, (record { fits = roomF .0 }, tt)))) $ pass1 ! (init ! 66 refl (tt, (tt, (record { fits = roomP .0 }, tt)))) $ pass0 ! $
+        pass1 ! (init ! 82 refl (tt, (tt, (record { fits = roomN .0 }, tt)))) $ pass1 ! (init ! 80 refl (tt, record { fits = g-count })) $ pass1 ! (init ! 78 refl (tt, (tt, (record { fits = roomM .0 }, tt)))) $ pass1 ! (init ! 76 refl (tt, (tt, (record { fits = roomK .0 }, tt)))) $ pass1 ! (init ! 74 refl (tt, (tt, (record { fits = roomS .0 }, tt)))) $ pass1 ! (init ! 72 refl (tt, (tt, (record { fits = roomF .0 }, tt)))) $ pass1 ! (init ! 70 refl (tt, (tt, (record { fits = roomP .0 }, tt)))) $ pass0 ! $
         -- the tokens, and what the parameters own; the nodes are opened
-        move ! (80 ∷ []) $
+        move ! (86 ∷ []) $
         split ! $
         move ! (1 ∷ []) $
         split ! $
@@ -171,7 +175,9 @@ module _ {M : Type 1} (𝓤 : URA M) (H : Heap 𝓤) (A : Atoms 𝓤) (W : Given
         move ! (1 ∷ []) $
         split ! $
         move ! (1 ∷ []) $
-        move ! (85 ∷ []) $
+        split ! $
+        move ! (1 ∷ []) $
+        move ! (92 ∷ []) $
         fsplit ! $
         move ! (1 ∷ []) $
         fsplit ! $
@@ -184,67 +190,75 @@ module _ {M : Type 1} (𝓤 : URA M) (H : Heap 𝓤) (A : Atoms 𝓤) (W : Given
         move ! (1 ∷ []) $
         fsplit ! $
         move ! (1 ∷ []) $
-        move ! (6 ∷ 11 ∷ []) $
+        fsplit ! $
+        move ! (1 ∷ []) $
+        move ! (7 ∷ 13 ∷ []) $
         use2 W (later (‵ (row N.the-row fullShare ys bN oN) ⊛ ‵ (Left N.the-row κ₀ q₀ γN bN oN ys))) (opens N.the-row κ₀ q₀ γN bN oN 𝓤 H A W (named 0) ys) $ await ! tt $ split ! $
         -- the arrays
-        assigns ! (rep ! 65536 (lit ! tt)) (from ! (stop !)) (init ! 76 refl (typed w8 (lit< tt) 𝓤 H A W 65536)) $
-        move ! (76 ∷ []) $
-        use1 W (some (λ (vs : List ℕ). given (length vs ≡ 65536) (‵ (row u8 fullShare vs l7 0)))) (made w8 (lit< tt) 𝓤 H A W 65536 l7) $ pick ! (λ vs. learn ! (λ eV.
-        assigns ! (rep ! 65536 (lit ! tt)) (from ! (stop !)) (init ! 75 refl (typed w16 (lit< tt) 𝓤 H A W 65536)) $
-        move ! (75 ∷ []) $
-        use1 W (some (λ (ls : List ℕ). given (length ls ≡ 65536) (‵ (row u16 fullShare ls l8 0)))) (made w16 (lit< tt) 𝓤 H A W 65536 l8) $ pick ! (λ ls. learn ! (λ eL.
-        assigns ! (rep ! 65536 (lit ! tt)) (from ! (stop !)) (init ! 74 refl (typed w16 (lit< tt) 𝓤 H A W 65536)) $
-        move ! (74 ∷ []) $
-        use1 W (some (λ (hs : List ℕ). given (length hs ≡ 65536) (‵ (row u16 fullShare hs l9 0)))) (made w16 (lit< tt) 𝓤 H A W 65536 l9) $ pick ! (λ hs. learn ! (λ eH.
+        assigns ! (rep ! 65536 (lit ! tt)) (from ! (stop !)) (init ! 82 refl (typed w8 (lit< tt) 𝓤 H A W 65536)) $
+        move ! (82 ∷ []) $
+        use1 W (some (λ (vs : List ℕ). given (length vs ≡ 65536) (‵ (row u8 fullShare vs l8 0)))) (made w8 (lit< tt) 𝓤 H A W 65536 l8) $ pick ! (λ vs. learn ! (λ eV.
+        assigns ! (rep ! 65536 (lit ! tt)) (from ! (stop !)) (init ! 81 refl (typed w16 (lit< tt) 𝓤 H A W 65536)) $
+        move ! (81 ∷ []) $
+        use1 W (some (λ (ls : List ℕ). given (length ls ≡ 65536) (‵ (row u16 fullShare ls l9 0)))) (made w16 (lit< tt) 𝓤 H A W 65536 l9) $ pick ! (λ ls. learn ! (λ eL.
+        assigns ! (rep ! 65536 (lit ! tt)) (from ! (stop !)) (init ! 80 refl (typed w16 (lit< tt) 𝓤 H A W 65536)) $
+        move ! (80 ∷ []) $
+        use1 W (some (λ (hs : List ℕ). given (length hs ≡ 65536) (‵ (row u16 fullShare hs l10 0)))) (made w16 (lit< tt) 𝓤 H A W 65536 l10) $ pick ! (λ hs. learn ! (λ eH.
         -- `places`
-        assigns ! (of-opd ! (load ! (from ! (fld ! refl (stop !))) (look-in ! 88 (sub ! 1 refl (whole !))))) (from ! (stop !)) (init ! 69 refl (tt, record { fits = roomN .0 })) $
+        assigns ! (of-opd ! (load ! (from ! (fld ! refl (stop !))) (look-in ! 96 (sub ! 1 refl (whole !))))) (from ! (stop !)) (init ! 75 refl (tt, record { fits = roomN .0 })) $
         use0 W (raw (Places 𝓤 H A mem run .pre (P.to 𝓤 H A W mem run (length ys) (roomN .0)))) (P.before 𝓤 H A W mem run (length ys) (roomN .0)) $
-        calls-at ! fm (Places 𝓤 H A mem run) known-places (P.to 𝓤 H A W mem run (length ys) (roomN .0)) (and-then ! (load ! (from ! (stop !)) (look ! 70 refl)) (no-more !)) (λ w₀.
+        calls-at ! fm (Places 𝓤 H A mem run) known-places (P.to 𝓤 H A W mem run (length ys) (roomN .0)) (and-then ! (load ! (from ! (stop !)) (look ! 76 refl)) (no-more !)) (λ w₀.
         use1 W (later (some (λ (m : ℕ). given (P.Is-cut 𝓤 H A W mem run (length ys) (roomN .0) w₀ m) (‵ ftrue)))) (P.after 𝓤 H A W mem run (length ys) (roomN .0) w₀) $ await ! tt $ pick ! (λ m. learn ! (λ is-cut. drop ! $
         let cut = is-cut .0 in
-        land ! (from ! (stop !)) (init ! 73 refl (subst (λ (v : Val). T (hasTy (tyInt w64) v) × WT v) (sym (is-cut .1)) (tt, record { fits = is-cut .2 }))) $ rewrite ! 73 (λ (v : Val). ‵ (fat fullShare (tyInt w64) l10 0 v)) (is-cut .1) refl $
+        land ! (from ! (stop !)) (init ! 79 refl (subst (λ (v : Val). T (hasTy (tyInt w64) v) × WT v) (sym (is-cut .1)) (tt, record { fits = is-cut .2 }))) $ rewrite ! 79 (λ (v : Val). ‵ (fat fullShare (tyInt w64) l11 0 v)) (is-cut .1) refl $
         -- `load`
-        assigns ! (addr ! (from ! (fld ! refl (hop ! (look-in ! 88 (sub ! 0 refl (whole !))) (stop !))))) (from ! (stop !)) (init ! 65 refl (tt, tt)) $
-        assigns ! (agg ! (and-then ! (load ! (from ! (stop !)) (look ! 65 refl)) (and-then ! (load ! (from ! (fld ! refl (stop !))) (look-in ! 88 (sub ! 1 refl (whole !)))) (no-more !)))) (from ! (stop !)) (init ! 63 refl (tt, (tt, (record { fits = roomN .0 }, tt)))) $
-        assigns ! (addr ! (from ! (stop !))) (from ! (stop !)) (init ! 61 refl (tt, tt)) $
-        assigns ! (agg ! (and-then ! (load ! (from ! (stop !)) (look ! 61 refl)) (and-then ! (big-lit ! (record { fits = lit< tt })) (no-more !)))) (from ! (stop !)) (init ! 59 refl (tt, (tt, (record { fits = lit< tt }, tt)))) $
-        assigns ! (addr ! (from ! (stop !))) (from ! (stop !)) (init ! 57 refl (tt, tt)) $
-        assigns ! (agg ! (and-then ! (load ! (from ! (stop !)) (look ! 57 refl)) (and-then ! (big-lit ! (record { fits = lit< tt })) (no-more !)))) (from ! (stop !)) (init ! 55 refl (tt, (tt, (record { fits = lit< tt }, tt)))) $
-        assigns ! (addr ! (from ! (stop !))) (from ! (stop !)) (init ! 53 refl (tt, tt)) $
-        assigns ! (agg ! (and-then ! (load ! (from ! (stop !)) (look ! 53 refl)) (and-then ! (big-lit ! (record { fits = lit< tt })) (no-more !)))) (from ! (stop !)) (init ! 51 refl (tt, (tt, (record { fits = lit< tt }, tt)))) $
+        assigns ! (addr ! (from ! (fld ! refl (hop ! (look-in ! 96 (sub ! 0 refl (whole !))) (stop !))))) (from ! (stop !)) (init ! 71 refl (tt, tt)) $
+        assigns ! (agg ! (and-then ! (load ! (from ! (stop !)) (look ! 71 refl)) (and-then ! (load ! (from ! (fld ! refl (stop !))) (look-in ! 96 (sub ! 1 refl (whole !)))) (no-more !)))) (from ! (stop !)) (init ! 69 refl (tt, (tt, (record { fits = roomN .0 }, tt)))) $
+        assigns ! (addr ! (from ! (stop !))) (from ! (stop !)) (init ! 67 refl (tt, tt)) $
+        assigns ! (agg ! (and-then ! (load ! (from ! (stop !)) (look ! 67 refl)) (and-then ! (big-lit ! (record { fits = lit< tt })) (no-more !)))) (from ! (stop !)) (init ! 65 refl (tt, (tt, (record { fits = lit< tt }, tt)))) $
+        assigns ! (addr ! (from ! (stop !))) (from ! (stop !)) (init ! 63 refl (tt, tt)) $
+        assigns ! (agg ! (and-then ! (load ! (from ! (stop !)) (look ! 63 refl)) (and-then ! (big-lit ! (record { fits = lit< tt })) (no-more !)))) (from ! (stop !)) (init ! 61 refl (tt, (tt, (record { fits = lit< tt }, tt)))) $
+        assigns ! (addr ! (from ! (stop !))) (from ! (stop !)) (init ! 59 refl (tt, tt)) $
+        assigns ! (agg ! (and-then ! (load ! (from ! (stop !)) (look ! 59 refl)) (and-then ! (big-lit ! (record { fits = lit< tt })) (no-more !)))) (from ! (stop !)) (init ! 57 refl (tt, (tt, (record { fits = lit< tt }, tt)))) $
         move ! (1 ∷ 0 ∷ []) $
         fjoin ! $
         move ! (1 ∷ 0 ∷ []) $
         fjoin ! $
         move ! (1 ∷ 0 ∷ []) $
         fjoin ! $
-        use1 W (later (some (λ (p : Lo.Loans). raw (Load 𝓤 H A mem run .pre (Lo.to 𝓤 H A W mem run fullShare (record { bN = bN; oN = oN; bV = l7; bL = l8; bH = l9; ys = ys; room = roomN }) (record { vs = vs; ls = ls; hs = hs; eV = eV; eL = eL; eH = eH }) m cut p)) ⊛ ‵ (Lo.Kept 𝓤 H A W mem run fullShare (record { bN = bN; oN = oN; bV = l7; bL = l8; bH = l9; ys = ys; room = roomN }) (record { vs = vs; ls = ls; hs = hs; eV = eV; eL = eL; eH = eH }) m cut p)))) (Lo.before 𝓤 H A W mem run fullShare (record { bN = bN; oN = oN; bV = l7; bL = l8; bH = l9; ys = ys; room = roomN }) (record { vs = vs; ls = ls; hs = hs; eV = eV; eL = eL; eH = eH }) m cut) $ await ! tt $ pick ! (λ p. split ! $
-        calls-at ! fm (Load 𝓤 H A mem run) known-load (Lo.to 𝓤 H A W mem run fullShare (record { bN = bN; oN = oN; bV = l7; bL = l8; bH = l9; ys = ys; room = roomN }) (record { vs = vs; ls = ls; hs = hs; eV = eV; eL = eL; eH = eH }) m cut p) (and-then ! (load ! (from ! (stop !)) (look ! 61 refl)) (and-then ! (load ! (from ! (stop !)) (look ! 71 refl)) (and-then ! (load ! (from ! (stop !)) (look ! 57 refl)) (and-then ! (load ! (from ! (stop !)) (look ! 53 refl)) (and-then ! (load ! (from ! (stop !)) (look ! 49 refl)) (no-more !)))))) (λ w₁.
-        use2 W (later (given (w₁ ≡ vunit) (‵ (Table fullShare (record { bN = bN; oN = oN; bV = l7; bL = l8; bH = l9; ys = ys; room = roomN }) ys (column varOf ys vs m) (column lowOf ys ls m) (column highOf ys hs m))))) (Lo.after 𝓤 H A W mem run fullShare (record { bN = bN; oN = oN; bV = l7; bL = l8; bH = l9; ys = ys; room = roomN }) (record { vs = vs; ls = ls; hs = hs; eV = eV; eL = eL; eH = eH }) m cut p w₁) $ await ! tt $ learn ! (λ e₁.
-        land ! (from ! (stop !)) (init ! 64 refl (subst (λ (v : Val). T (hasTy tyUnit v) × WT v) (sym e₁) (tt, tt))) $
+        use1 W (later (some (λ (p : Lo.Loans). raw (Load 𝓤 H A mem run .pre (Lo.to 𝓤 H A W mem run fullShare (record { bN = bN; oN = oN; bV = l8; bL = l9; bH = l10; ys = ys; room = roomN }) (record { vs = vs; ls = ls; hs = hs; eV = eV; eL = eL; eH = eH }) m cut p)) ⊛ ‵ (Lo.Kept 𝓤 H A W mem run fullShare (record { bN = bN; oN = oN; bV = l8; bL = l9; bH = l10; ys = ys; room = roomN }) (record { vs = vs; ls = ls; hs = hs; eV = eV; eL = eL; eH = eH }) m cut p)))) (Lo.before 𝓤 H A W mem run fullShare (record { bN = bN; oN = oN; bV = l8; bL = l9; bH = l10; ys = ys; room = roomN }) (record { vs = vs; ls = ls; hs = hs; eV = eV; eL = eL; eH = eH }) m cut) $ await ! tt $ pick ! (λ p. split ! $
+        calls-at ! fm (Load 𝓤 H A mem run) known-load (Lo.to 𝓤 H A W mem run fullShare (record { bN = bN; oN = oN; bV = l8; bL = l9; bH = l10; ys = ys; room = roomN }) (record { vs = vs; ls = ls; hs = hs; eV = eV; eL = eL; eH = eH }) m cut p) (and-then ! (load ! (from ! (stop !)) (look ! 67 refl)) (and-then ! (load ! (from ! (stop !)) (look ! 77 refl)) (and-then ! (load ! (from ! (stop !)) (look ! 63 refl)) (and-then ! (load ! (from ! (stop !)) (look ! 59 refl)) (and-then ! (load ! (from ! (stop !)) (look ! 55 refl)) (no-more !)))))) (λ w₁.
+        use2 W (later (given (w₁ ≡ vunit) (‵ (Table fullShare (record { bN = bN; oN = oN; bV = l8; bL = l9; bH = l10; ys = ys; room = roomN }) ys (column varOf ys vs m) (column lowOf ys ls m) (column highOf ys hs m))))) (Lo.after 𝓤 H A W mem run fullShare (record { bN = bN; oN = oN; bV = l8; bL = l9; bH = l10; ys = ys; room = roomN }) (record { vs = vs; ls = ls; hs = hs; eV = eV; eL = eL; eH = eH }) m cut p w₁) $ await ! tt $ learn ! (λ e₁.
+        land ! (from ! (stop !)) (init ! 70 refl (subst (λ (v : Val). T (hasTy tyUnit v) × WT v) (sym e₁) (tt, tt))) $
         fsplit ! $
         let cs : Filled = loaded ys (record { vs = vs; ls = ls; hs = hs; eV = eV; eL = eL; eH = eH }) m cut in
         -- `check_within`
-        assigns ! (addr ! (from ! (stop !))) (from ! (stop !)) (init ! 47 refl (tt, tt)) $
-        assigns ! (agg ! (and-then ! (load ! (from ! (stop !)) (look ! 47 refl)) (and-then ! (big-lit ! (record { fits = lit< tt })) (no-more !)))) (from ! (stop !)) (init ! 45 refl (tt, (tt, (record { fits = lit< tt }, tt)))) $
-        assigns ! (addr ! (from ! (stop !))) (from ! (stop !)) (init ! 43 refl (tt, tt)) $
-        assigns ! (agg ! (and-then ! (load ! (from ! (stop !)) (look ! 43 refl)) (and-then ! (big-lit ! (record { fits = lit< tt })) (no-more !)))) (from ! (stop !)) (init ! 41 refl (tt, (tt, (record { fits = lit< tt }, tt)))) $
-        assigns ! (addr ! (from ! (stop !))) (from ! (stop !)) (init ! 39 refl (tt, tt)) $
-        assigns ! (agg ! (and-then ! (load ! (from ! (stop !)) (look ! 39 refl)) (and-then ! (big-lit ! (record { fits = lit< tt })) (no-more !)))) (from ! (stop !)) (init ! 37 refl (tt, (tt, (record { fits = lit< tt }, tt)))) $
-        assigns ! (of-opd ! (load ! (from ! (fld ! refl (stop !))) (look-in ! 86 (sub ! 1 refl (whole !))))) (from ! (stop !)) (store ! 67 refl (tt, record { fits = roomN .0 })) $
-        assigns ! (addr ! (from ! (fld ! refl (hop ! (look-in ! 82 (sub ! 0 refl (whole !))) (stop !))))) (from ! (stop !)) (init ! 35 refl (tt, tt)) $
-        assigns ! (agg ! (and-then ! (load ! (from ! (stop !)) (look ! 35 refl)) (and-then ! (load ! (from ! (fld ! refl (stop !))) (look-in ! 82 (sub ! 1 refl (whole !)))) (no-more !)))) (from ! (stop !)) (init ! 33 refl (tt, (tt, (record { fits = roomM .0 }, tt)))) $
-        assigns ! (addr ! (from ! (fld ! refl (hop ! (look-in ! 80 (sub ! 0 refl (whole !))) (stop !))))) (from ! (stop !)) (init ! 31 refl (tt, tt)) $
-        assigns ! (agg ! (and-then ! (load ! (from ! (stop !)) (look ! 31 refl)) (and-then ! (load ! (from ! (fld ! refl (stop !))) (look-in ! 80 (sub ! 1 refl (whole !)))) (no-more !)))) (from ! (stop !)) (init ! 29 refl (tt, (tt, (record { fits = roomS .0 }, tt)))) $
+        assigns ! (addr ! (from ! (stop !))) (from ! (stop !)) (init ! 53 refl (tt, tt)) $
+        assigns ! (agg ! (and-then ! (load ! (from ! (stop !)) (look ! 53 refl)) (and-then ! (big-lit ! (record { fits = lit< tt })) (no-more !)))) (from ! (stop !)) (init ! 51 refl (tt, (tt, (record { fits = lit< tt }, tt)))) $
+        assigns ! (addr ! (from ! (stop !))) (from ! (stop !)) (init ! 49 refl (tt, tt)) $
+        assigns ! (agg ! (and-then ! (load ! (from ! (stop !)) (look ! 49 refl)) (and-then ! (big-lit ! (record { fits = lit< tt })) (no-more !)))) (from ! (stop !)) (init ! 47 refl (tt, (tt, (record { fits = lit< tt }, tt)))) $
+        assigns ! (addr ! (from ! (stop !))) (from ! (stop !)) (init ! 45 refl (tt, tt)) $
+        assigns ! (agg ! (and-then ! (load ! (from ! (stop !)) (look ! 45 refl)) (and-then ! (big-lit ! (record { fits = lit< tt })) (no-more !)))) (from ! (stop !)) (init ! 43 refl (tt, (tt, (record { fits = lit< tt }, tt)))) $
+        assigns ! (of-opd ! (load ! (from ! (fld ! refl (stop !))) (look-in ! 94 (sub ! 1 refl (whole !))))) (from ! (stop !)) (store ! 73 refl (tt, record { fits = roomN .0 })) $
+        assigns ! (addr ! (from ! (fld ! refl (hop ! (look-in ! 90 (sub ! 0 refl (whole !))) (stop !))))) (from ! (stop !)) (init ! 41 refl (tt, tt)) $
+        assigns ! (agg ! (and-then ! (load ! (from ! (stop !)) (look ! 41 refl)) (and-then ! (load ! (from ! (fld ! refl (stop !))) (look-in ! 90 (sub ! 1 refl (whole !)))) (no-more !)))) (from ! (stop !)) (init ! 39 refl (tt, (tt, (record { fits = roomM .0 }, tt)))) $
+        assigns ! (addr ! (from ! (fld ! refl (hop ! (look-in ! 86 (sub ! 0 refl (whole !))) (stop !))))) (from ! (stop !)) (init ! 37 refl (tt, tt)) $
+        assigns ! (agg ! (and-then ! (load ! (from ! (stop !)) (look ! 37 refl)) (and-then ! (load ! (from ! (fld ! refl (stop !))) (look-in ! 86 (sub ! 1 refl (whole !)))) (no-more !)))) (from ! (stop !)) (init ! 35 refl (tt, (tt, (record { fits = roomS .0 }, tt)))) $
+        assigns ! (addr ! (from ! (fld ! refl (hop ! (look-in ! 88 (sub ! 0 refl (whole !))) (stop !))))) (from ! (stop !)) (init ! 33 refl (tt, tt)) $
+        assigns ! (agg ! (and-then ! (load ! (from ! (stop !)) (look ! 33 refl)) (and-then ! (load ! (from ! (fld ! refl (stop !))) (look-in ! 88 (sub ! 1 refl (whole !)))) (no-more !)))) (from ! (stop !)) (init ! 31 refl (tt, (tt, (record { fits = roomK .0 }, tt)))) $
         move ! (5 ∷ []) $
-        use1 W (‵ (ShrSlice (named 3) κ₃ u8 .own xF (slice-vals xF)) ⊛ ‵ (ShrSlice (named 3) κ₃ u8 .own xF (slice-vals xF))) (shr-slice-copy 𝓤 H A W (named 3) κ₃ u8 .twice xF (slice-vals xF)) $ split ! $
+        use1 W (‵ (ShrSlice (named 4) κ₄ u8 .own xF (slice-vals xF)) ⊛ ‵ (ShrSlice (named 4) κ₄ u8 .own xF (slice-vals xF))) (shr-slice-copy 𝓤 H A W (named 4) κ₄ u8 .twice xF (slice-vals xF)) $ split ! $
         move ! (6 ∷ []) $
-        use1 W (‵ (ShrSlice (named 3) κ₃ u8 .own xP (slice-vals xP)) ⊛ ‵ (ShrSlice (named 3) κ₃ u8 .own xP (slice-vals xP))) (shr-slice-copy 𝓤 H A W (named 3) κ₃ u8 .twice xP (slice-vals xP)) $ split ! $
-        move ! (5 ∷ 14 ∷ 13 ∷ 12 ∷ 9 ∷ 8 ∷ 3 ∷ 1 ∷ []) $
-        group ! 8 $
-        use1 W (later (some (λ (p : Ch.Loans). raw (Check 𝓤 H A mem run .pre (Ch.to 𝓤 H A W mem run κ₁ κ₂ κ₃ q₁ q₂ q₃ (record { bN = bN; oN = oN; bV = l7; bL = l8; bH = l9; ys = ys; room = roomN }) cs (length ys) count xM xS xF xP (roomN .0) g-count p)) ⊛ ‵ (Ch.Kept 𝓤 H A W mem run κ₁ κ₂ κ₃ q₁ q₂ q₃ (record { bN = bN; oN = oN; bV = l7; bL = l8; bH = l9; ys = ys; room = roomN }) cs (length ys) count xM xS xF xP (roomN .0) g-count p)))) (Ch.before 𝓤 H A W mem run κ₁ κ₂ κ₃ q₁ q₂ q₃ (record { bN = bN; oN = oN; bV = l7; bL = l8; bH = l9; ys = ys; room = roomN }) cs (length ys) count xM xS xF xP (roomN .0) g-count) $ await ! tt $ pick ! (λ p. split ! $
-        calls-at ! fm (Check 𝓤 H A mem run) known-check (Ch.to 𝓤 H A W mem run κ₁ κ₂ κ₃ q₁ q₂ q₃ (record { bN = bN; oN = oN; bV = l7; bL = l8; bH = l9; ys = ys; room = roomN }) cs (length ys) count xM xS xF xP (roomN .0) g-count p) (and-then ! (load ! (from ! (stop !)) (look ! 41 refl)) (and-then ! (load ! (from ! (stop !)) (look ! 37 refl)) (and-then ! (load ! (from ! (stop !)) (look ! 33 refl)) (and-then ! (load ! (from ! (stop !)) (look ! 63 refl)) (and-then ! (load ! (from ! (stop !)) (look ! 80 refl)) (and-then ! (load ! (from ! (stop !)) (look ! 29 refl)) (and-then ! (load ! (from ! (stop !)) (look ! 25 refl)) (and-then ! (load ! (from ! (stop !)) (look ! 74 refl)) (and-then ! (load ! (from ! (stop !)) (look ! 72 refl)) (no-more !)))))))))) (λ w₂.
-        use2 W (later (some (λ (o : Checked × Ch.Last). given (Ch.Told 𝓤 H A W mem run κ₁ κ₂ κ₃ q₁ q₂ q₃ (record { bN = bN; oN = oN; bV = l7; bL = l8; bH = l9; ys = ys; room = roomN }) cs (length ys) count xM xS xF xP (roomN .0) g-count o) (‵ (Ch.Had 𝓤 H A W mem run κ₁ κ₂ κ₃ q₁ q₂ q₃ (record { bN = bN; oN = oN; bV = l7; bL = l8; bH = l9; ys = ys; room = roomN }) cs (length ys) count xM xS xF xP (roomN .0) g-count o w₂))))) (Ch.after 𝓤 H A W mem run κ₁ κ₂ κ₃ q₁ q₂ q₃ (record { bN = bN; oN = oN; bV = l7; bL = l8; bH = l9; ys = ys; room = roomN }) cs (length ys) count xM xS xF xP (roomN .0) g-count p w₂) $ await ! tt $ pick ! (λ o. learn ! (λ told.
+        use1 W (‵ (ShrSlice (named 4) κ₄ u8 .own xP (slice-vals xP)) ⊛ ‵ (ShrSlice (named 4) κ₄ u8 .own xP (slice-vals xP))) (shr-slice-copy 𝓤 H A W (named 4) κ₄ u8 .twice xP (slice-vals xP)) $ split ! $
+        move ! (5 ∷ 16 ∷ 14 ∷ 15 ∷ 13 ∷ 10 ∷ 8 ∷ 9 ∷ 3 ∷ 1 ∷ []) $
+        group ! 10 $
+        use1 W (later (some (λ (p : Ch.Loans). raw (Check 𝓤 H A mem run .pre (Ch.to 𝓤 H A W mem run κ₁ κ₃ κ₂ κ₄ q₁ q₃ q₂ q₄ (record { bN = bN; oN = oN; bV = l8; bL = l9; bH = l10; ys = ys; room = roomN }) cs (length ys) count xM xS xK xF xP (roomN .0) g-count p)) ⊛ ‵ (Ch.Kept 𝓤 H A W mem run κ₁ κ₃ κ₂ κ₄ q₁ q₃ q₂ q₄ (record { bN = bN; oN = oN; bV = l8; bL = l9; bH = l10; ys = ys; room = roomN }) cs (length ys) count xM xS xK xF xP (roomN .0) g-count p)))) (Ch.before 𝓤 H A W mem run κ₁ κ₃ κ₂ κ₄ q₁ q₃ q₂ q₄ (record { bN = bN; oN = oN; bV = l8; bL = l9; bH = l10; ys = ys; room = roomN }) cs (length ys) count xM xS xK xF xP (roomN .0) g-count) $ await ! tt $ pick ! (λ p. split ! $
+        calls-at ! fm (Check 𝓤 H A mem run) known-check (Ch.to 𝓤 H A W mem run κ₁ κ₃ κ₂ κ₄ q₁ q₃ q₂ q₄ (record { bN = bN; oN = oN; bV = l8; bL = l9; bH = l10; ys = ys; room = roomN }) cs (length ys) count xM xS xK xF xP (roomN .0) g-count p) (and-then ! (load ! (from ! (stop !)) (look ! 45 refl)) (and-then ! (load ! (from ! (stop !)) (look ! 41 refl)) (and-then ! (load ! (from ! (stop !)) (look ! 37 refl)) (and-then ! (load ! (from ! (stop !)) (look ! 67 refl)) (and-then ! (load ! (from ! (stop !)) (look ! 86 refl)) (and-then ! (load ! (from ! (stop !)) (look ! 33 refl)) (and-then ! (load ! (from ! (stop !)) (look ! 29 refl)) (and-then ! (load ! (from ! (stop !)) (look ! 25 refl)) (and-then ! (load ! (from ! (stop !)) (look ! 78 refl)) (and-then ! (load ! (from ! (stop !)) (look ! 76 refl)) (no-more !))))))))))) (λ w₂.
+        use2 W (later (some (λ (o : Checked × Ch.Last). given (Ch.Told 𝓤 H A W mem run κ₁ κ₃ κ₂ κ₄ q₁ q₃ q₂ q₄ (record { bN = bN; oN = oN; bV = l8; bL = l9; bH = l10; ys = ys; room = roomN }) cs (length ys) count xM xS xK xF xP (roomN .0) g-count o) (‵ (Ch.Had 𝓤 H A W mem run κ₁ κ₃ κ₂ κ₄ q₁ q₃ q₂ q₄ (record { bN = bN; oN = oN; bV = l8; bL = l9; bH = l10; ys = ys; room = roomN }) cs (length ys) count xM xS xK xF xP (roomN .0) g-count o w₂))))) (Ch.after 𝓤 H A W mem run κ₁ κ₃ κ₂ κ₄ q₁ q₃ q₂ q₄ (record { bN = bN; oN = oN; bV = l8; bL = l9; bH = l10; ys = ys; room = roomN }) cs (length ys) count xM xS xK xF xP (roomN .0) g-count p w₂) $ await ! tt $ pick ! (λ o. learn ! (λ told.
+        fsplit ! $
+        move ! (1 ∷ []) $
+        fsplit ! $
+        move ! (1 ∷ []) $
         fsplit ! $
         move ! (1 ∷ []) $
         fsplit ! $
@@ -258,69 +272,72 @@ module _ {M : Type 1} (𝓤 : URA M) (H : Heap 𝓤) (A : Atoms 𝓤) (W : Given
         fsplit ! $
         move ! (1 ∷ []) $
         peeks ! K.the-row (Is K.the-row) (shows 𝓤 H A K.the-row) (o .0) (w₂ ∷ []) (λ is.
-        land ! (from ! (stop !)) (init ! 70 refl (LL.lawful K.the-type K′.the-laws 𝓤 H A W .typed (o .0) _ is .0)) $
+        land ! (from ! (stop !)) (init ! 76 refl (LL.lawful K.the-type K′.the-laws 𝓤 H A W .typed (o .0) _ is .0)) $
         -- `save`
-        assigns ! (addr ! (from ! (fld ! refl (hop ! (look-in ! 87 (sub ! 0 refl (whole !))) (stop !))))) (from ! (stop !)) (init ! 28 refl (tt, tt)) $
-        assigns ! (agg ! (and-then ! (load ! (from ! (stop !)) (look ! 28 refl)) (and-then ! (load ! (from ! (fld ! refl (stop !))) (look-in ! 87 (sub ! 1 refl (whole !)))) (no-more !)))) (from ! (stop !)) (init ! 26 refl (tt, (tt, (record { fits = roomN .0 }, tt)))) $
-        assigns ! (addr ! (from ! (stop !))) (from ! (stop !)) (init ! 24 refl (tt, tt)) $
-        assigns ! (agg ! (and-then ! (load ! (from ! (stop !)) (look ! 24 refl)) (and-then ! (big-lit ! (record { fits = lit< tt })) (no-more !)))) (from ! (stop !)) (init ! 22 refl (tt, (tt, (record { fits = lit< tt }, tt)))) $
-        assigns ! (addr ! (from ! (stop !))) (from ! (stop !)) (init ! 20 refl (tt, tt)) $
-        assigns ! (agg ! (and-then ! (load ! (from ! (stop !)) (look ! 20 refl)) (and-then ! (big-lit ! (record { fits = lit< tt })) (no-more !)))) (from ! (stop !)) (init ! 18 refl (tt, (tt, (record { fits = lit< tt }, tt)))) $
-        assigns ! (addr ! (from ! (stop !))) (from ! (stop !)) (init ! 16 refl (tt, tt)) $
-        assigns ! (agg ! (and-then ! (load ! (from ! (stop !)) (look ! 16 refl)) (and-then ! (big-lit ! (record { fits = lit< tt })) (no-more !)))) (from ! (stop !)) (init ! 14 refl (tt, (tt, (record { fits = lit< tt }, tt)))) $
-        move ! (9 ∷ 6 ∷ []) $
+        assigns ! (addr ! (from ! (fld ! refl (hop ! (look-in ! 95 (sub ! 0 refl (whole !))) (stop !))))) (from ! (stop !)) (init ! 30 refl (tt, tt)) $
+        assigns ! (agg ! (and-then ! (load ! (from ! (stop !)) (look ! 30 refl)) (and-then ! (load ! (from ! (fld ! refl (stop !))) (look-in ! 95 (sub ! 1 refl (whole !)))) (no-more !)))) (from ! (stop !)) (init ! 28 refl (tt, (tt, (record { fits = roomN .0 }, tt)))) $
+        assigns ! (addr ! (from ! (stop !))) (from ! (stop !)) (init ! 26 refl (tt, tt)) $
+        assigns ! (agg ! (and-then ! (load ! (from ! (stop !)) (look ! 26 refl)) (and-then ! (big-lit ! (record { fits = lit< tt })) (no-more !)))) (from ! (stop !)) (init ! 24 refl (tt, (tt, (record { fits = lit< tt }, tt)))) $
+        assigns ! (addr ! (from ! (stop !))) (from ! (stop !)) (init ! 22 refl (tt, tt)) $
+        assigns ! (agg ! (and-then ! (load ! (from ! (stop !)) (look ! 22 refl)) (and-then ! (big-lit ! (record { fits = lit< tt })) (no-more !)))) (from ! (stop !)) (init ! 20 refl (tt, (tt, (record { fits = lit< tt }, tt)))) $
+        assigns ! (addr ! (from ! (stop !))) (from ! (stop !)) (init ! 18 refl (tt, tt)) $
+        assigns ! (agg ! (and-then ! (load ! (from ! (stop !)) (look ! 18 refl)) (and-then ! (big-lit ! (record { fits = lit< tt })) (no-more !)))) (from ! (stop !)) (init ! 16 refl (tt, (tt, (record { fits = lit< tt }, tt)))) $
+        move ! (11 ∷ 8 ∷ []) $
         fjoin ! $
-        use1 W (later (some (λ (p : Sa.Loans). raw (Save 𝓤 H A mem run .pre (Sa.to 𝓤 H A W mem run (record { bN = bN; oN = oN; bV = l7; bL = l8; bH = l9; ys = ys; room = roomN }) (cs₂ vs ls hs m cut o told) m cut p)) ⊛ ‵ (Sa.Kept 𝓤 H A W mem run (record { bN = bN; oN = oN; bV = l7; bL = l8; bH = l9; ys = ys; room = roomN }) (cs₂ vs ls hs m cut o told) m cut p)))) (Sa.before 𝓤 H A W mem run (record { bN = bN; oN = oN; bV = l7; bL = l8; bH = l9; ys = ys; room = roomN }) (cs₂ vs ls hs m cut o told) m cut) $ await ! tt $ pick ! (λ p. split ! $
-        calls-at ! fm (Save 𝓤 H A mem run) known-save (Sa.to 𝓤 H A W mem run (record { bN = bN; oN = oN; bV = l7; bL = l8; bH = l9; ys = ys; room = roomN }) (cs₂ vs ls hs m cut o told) m cut p) (and-then ! (load ! (from ! (stop !)) (look ! 26 refl)) (and-then ! (load ! (from ! (stop !)) (look ! 72 refl)) (and-then ! (load ! (from ! (stop !)) (look ! 22 refl)) (and-then ! (load ! (from ! (stop !)) (look ! 18 refl)) (and-then ! (load ! (from ! (stop !)) (look ! 14 refl)) (no-more !)))))) (λ w₃.
-        use2 W (later (given (w₃ ≡ vunit) (‵ (Table fullShare (record { bN = bN; oN = oN; bV = l7; bL = l8; bH = l9; ys = ys; room = roomN }) (ys′ vs ls hs m cut o told) (o .1 .0) (o .1 .1 .0) (o .1 .1 .1 .0))))) (Sa.after 𝓤 H A W mem run (record { bN = bN; oN = oN; bV = l7; bL = l8; bH = l9; ys = ys; room = roomN }) (cs₂ vs ls hs m cut o told) m cut p w₃) $ await ! tt $ learn ! (λ e₃.
-        land ! (from ! (stop !)) (store ! 65 refl (subst (λ (v : Val). T (hasTy tyUnit v) × WT v) (sym e₃) (tt, tt))) $
+        use1 W (later (some (λ (p : Sa.Loans). raw (Save 𝓤 H A mem run .pre (Sa.to 𝓤 H A W mem run (record { bN = bN; oN = oN; bV = l8; bL = l9; bH = l10; ys = ys; room = roomN }) (cs₂ vs ls hs m cut o told) m cut p)) ⊛ ‵ (Sa.Kept 𝓤 H A W mem run (record { bN = bN; oN = oN; bV = l8; bL = l9; bH = l10; ys = ys; room = roomN }) (cs₂ vs ls hs m cut o told) m cut p)))) (Sa.before 𝓤 H A W mem run (record { bN = bN; oN = oN; bV = l8; bL = l9; bH = l10; ys = ys; room = roomN }) (cs₂ vs ls hs m cut o told) m cut) $ await ! tt $ pick ! (λ p. split ! $
+        calls-at ! fm (Save 𝓤 H A mem run) known-save (Sa.to 𝓤 H A W mem run (record { bN = bN; oN = oN; bV = l8; bL = l9; bH = l10; ys = ys; room = roomN }) (cs₂ vs ls hs m cut o told) m cut p) (and-then ! (load ! (from ! (stop !)) (look ! 28 refl)) (and-then ! (load ! (from ! (stop !)) (look ! 78 refl)) (and-then ! (load ! (from ! (stop !)) (look ! 24 refl)) (and-then ! (load ! (from ! (stop !)) (look ! 20 refl)) (and-then ! (load ! (from ! (stop !)) (look ! 16 refl)) (no-more !)))))) (λ w₃.
+        use2 W (later (given (w₃ ≡ vunit) (‵ (Table fullShare (record { bN = bN; oN = oN; bV = l8; bL = l9; bH = l10; ys = ys; room = roomN }) (ys′ vs ls hs m cut o told) (o .1 .0) (o .1 .1 .0) (o .1 .1 .1 .0))))) (Sa.after 𝓤 H A W mem run (record { bN = bN; oN = oN; bV = l8; bL = l9; bH = l10; ys = ys; room = roomN }) (cs₂ vs ls hs m cut o told) m cut p w₃) $ await ! tt $ learn ! (λ e₃.
+        land ! (from ! (stop !)) (store ! 71 refl (subst (λ (v : Val). T (hasTy tyUnit v) × WT v) (sym e₃) (tt, tt))) $
         fsplit ! $
         -- the nodes are closed, and the arrays are freed with the other locals
-        move ! (0 ∷ 10 ∷ []) $
+        move ! (0 ∷ 12 ∷ []) $
         use2 W (later (‵ (MutSlice (named 0) κ₀ N.the-row .own (at-list γN bN oN (ys′ vs ls hs m cut o told)) (slice-vals xN)) ⊛ ‵ (flft κ₀ q₀))) (closes N.the-row κ₀ q₀ γN bN oN 𝓤 H A W (named 0) ys (ys′ vs ls hs m cut o told) roomN (written-length ys (cs₂ vs ls hs m cut o told) m cut)) $ await ! tt $ split ! $
-        assigns ! (of-opd ! (load ! (from ! (stop !)) (look ! 70 refl))) (from ! (stop !)) (init ! 89 refl (LL.lawful K.the-type K′.the-laws 𝓤 H A W .typed (o .0) _ is .0)) $
+        assigns ! (of-opd ! (load ! (from ! (stop !)) (look ! 76 refl))) (from ! (stop !)) (init ! 97 refl (LL.lawful K.the-type K′.the-laws 𝓤 H A W .typed (o .0) _ is .0)) $
         move ! (2 ∷ []) $
         fsplit3 ! $
-        returns ! (look ! 91 refl) $
-        forget ! 91 refl $ forget ! 89 refl $ forget ! 87 refl $ forget ! 85 refl $ forget ! 83 refl $ forget ! 81 refl $ forget ! 79 refl $ forget ! 74 refl $
-        forget ! 72 refl $ forget ! 70 refl $ forget ! 68 refl $ forget ! 66 refl $ forget ! 64 refl $ forget ! 62 refl $ forget ! 60 refl $ forget ! 58 refl $
-        forget ! 56 refl $ forget ! 54 refl $ forget ! 52 refl $ forget ! 50 refl $ forget ! 48 refl $ forget ! 46 refl $ forget ! 44 refl $ forget ! 42 refl $
-        forget ! 40 refl $ forget ! 38 refl $ forget ! 36 refl $ forget ! 34 refl $ forget ! 32 refl $ forget ! 30 refl $ forget ! 28 refl $ forget ! 26 refl $
-        forget ! 24 refl $ forget ! 22 refl $ forget ! 20 refl $ forget ! 18 refl $ forget ! 16 refl $
-        use1 W (‵ (froom (tyArray (tyInt w8) 65536) l7 0)) (freed w8 𝓤 H A W 65536 l7 (o .1 .0) (told .1)) $
+        returns ! (look ! 99 refl) $
+        forget ! 99 refl $ forget ! 97 refl $ forget ! 95 refl $ forget ! 93 refl $ forget ! 91 refl $ forget ! 89 refl $ forget ! 87 refl $ forget ! 85 refl $ forget ! 80 refl $
+        forget ! 78 refl $ forget ! 76 refl $ forget ! 74 refl $ forget ! 72 refl $ forget ! 70 refl $ forget ! 68 refl $ forget ! 66 refl $ forget ! 64 refl $
+        forget ! 62 refl $ forget ! 60 refl $ forget ! 58 refl $ forget ! 56 refl $ forget ! 54 refl $ forget ! 52 refl $ forget ! 50 refl $ forget ! 48 refl $
+        forget ! 46 refl $ forget ! 44 refl $ forget ! 42 refl $ forget ! 40 refl $ forget ! 38 refl $ forget ! 36 refl $ forget ! 34 refl $ forget ! 32 refl $ forget ! 30 refl $ forget ! 28 refl $
+        forget ! 26 refl $ forget ! 24 refl $ forget ! 22 refl $ forget ! 20 refl $ forget ! 18 refl $
+        use1 W (‵ (froom (tyArray (tyInt w8) 65536) l8 0)) (freed w8 𝓤 H A W 65536 l8 (o .1 .0) (told .1)) $
         move ! (1 ∷ []) $
-        use1 W (‵ (froom (tyArray (tyInt w16) 65536) l8 0)) (freed w16 𝓤 H A W 65536 l8 (o .1 .1 .0) (told .2)) $
+        use1 W (‵ (froom (tyArray (tyInt w16) 65536) l9 0)) (freed w16 𝓤 H A W 65536 l9 (o .1 .1 .0) (told .2)) $
         move ! (2 ∷ []) $
-        use1 W (‵ (froom (tyArray (tyInt w16) 65536) l9 0)) (freed w16 𝓤 H A W 65536 l9 (o .1 .1 .1 .0) (told .3)) $
-        move ! (91 ∷ 92 ∷ []) $ free1 ! $ move ! (89 ∷ 90 ∷ []) $ free1 ! $ move ! (87 ∷ 88 ∷ []) $ free1 ! $ move ! (85 ∷ 86 ∷ []) $ free1 ! $ move ! (83 ∷ 84 ∷ []) $ free1 ! $ move ! (81 ∷ 82 ∷ []) $ free1 ! $ move ! (79 ∷ 80 ∷ []) $ free1 ! $ move ! (2 ∷ 78 ∷ []) $ free1 ! $
-        move ! (1 ∷ 76 ∷ []) $ free1 ! $ move ! (0 ∷ 74 ∷ []) $ free1 ! $ move ! (71 ∷ 72 ∷ []) $ free1 ! $ move ! (69 ∷ 70 ∷ []) $ free1 ! $ move ! (67 ∷ 68 ∷ []) $ free1 ! $ move ! (65 ∷ 66 ∷ []) $ free1 ! $ move ! (63 ∷ 64 ∷ []) $ free1 ! $ move ! (61 ∷ 62 ∷ []) $ free1 ! $
-        move ! (59 ∷ 60 ∷ []) $ free1 ! $ move ! (57 ∷ 58 ∷ []) $ free1 ! $ move ! (55 ∷ 56 ∷ []) $ free1 ! $ move ! (53 ∷ 54 ∷ []) $ free1 ! $ move ! (51 ∷ 52 ∷ []) $ free1 ! $ move ! (49 ∷ 50 ∷ []) $ free1 ! $ move ! (47 ∷ 48 ∷ []) $ free1 ! $ move ! (45 ∷ 46 ∷ []) $ free1 ! $
-        move ! (43 ∷ 44 ∷ []) $ free1 ! $ move ! (41 ∷ 42 ∷ []) $ free1 ! $ move ! (39 ∷ 40 ∷ []) $ free1 ! $ move ! (37 ∷ 38 ∷ []) $ free1 ! $ move ! (35 ∷ 36 ∷ []) $ free1 ! $ move ! (33 ∷ 34 ∷ []) $ free1 ! $ move ! (31 ∷ 32 ∷ []) $ free1 ! $ move ! (29 ∷ 30 ∷ []) $ free1 ! $
-        move ! (27 ∷ 28 ∷ []) $ free1 ! $ move ! (25 ∷ 26 ∷ []) $ free1 ! $ move ! (23 ∷ 24 ∷ []) $ free1 ! $ move ! (21 ∷ 22 ∷ []) $ free1 ! $ move ! (19 ∷ 20 ∷ []) $ free1 ! $ move ! (17 ∷ 18 ∷ []) $ free1 ! $ move ! (15 ∷ 16 ∷ []) $ free1 ! $ move ! (13 ∷ 14 ∷ []) $ free1 ! $
+        use1 W (‵ (froom (tyArray (tyInt w16) 65536) l10 0)) (freed w16 𝓤 H A W 65536 l10 (o .1 .1 .1 .0) (told .3)) $
+        move ! (99 ∷ 100 ∷ []) $ free1 ! $ move ! (97 ∷ 98 ∷ []) $ free1 ! $ move ! (95 ∷ 96 ∷ []) $ free1 ! $ move ! (93 ∷ 94 ∷ []) $ free1 ! $ move ! (91 ∷ 92 ∷ []) $ free1 ! $ move ! (89 ∷ 90 ∷ []) $ free1 ! $ move ! (87 ∷ 88 ∷ []) $ free1 ! $ move ! (85 ∷ 86 ∷ []) $ free1 ! $ move ! (2 ∷ 84 ∷ []) $ free1 ! $
+        move ! (1 ∷ 82 ∷ []) $ free1 ! $ move ! (0 ∷ 80 ∷ []) $ free1 ! $ move ! (77 ∷ 78 ∷ []) $ free1 ! $ move ! (75 ∷ 76 ∷ []) $ free1 ! $ move ! (73 ∷ 74 ∷ []) $ free1 ! $ move ! (71 ∷ 72 ∷ []) $ free1 ! $ move ! (69 ∷ 70 ∷ []) $ free1 ! $ move ! (67 ∷ 68 ∷ []) $ free1 ! $
+        move ! (65 ∷ 66 ∷ []) $ free1 ! $ move ! (63 ∷ 64 ∷ []) $ free1 ! $ move ! (61 ∷ 62 ∷ []) $ free1 ! $ move ! (59 ∷ 60 ∷ []) $ free1 ! $ move ! (57 ∷ 58 ∷ []) $ free1 ! $ move ! (55 ∷ 56 ∷ []) $ free1 ! $ move ! (53 ∷ 54 ∷ []) $ free1 ! $ move ! (51 ∷ 52 ∷ []) $ free1 ! $
+        move ! (49 ∷ 50 ∷ []) $ free1 ! $ move ! (47 ∷ 48 ∷ []) $ free1 ! $ move ! (45 ∷ 46 ∷ []) $ free1 ! $ move ! (43 ∷ 44 ∷ []) $ free1 ! $ move ! (41 ∷ 42 ∷ []) $ free1 ! $ move ! (39 ∷ 40 ∷ []) $ free1 ! $ move ! (37 ∷ 38 ∷ []) $ free1 ! $ move ! (35 ∷ 36 ∷ []) $ free1 ! $ move ! (33 ∷ 34 ∷ []) $ free1 ! $ move ! (31 ∷ 32 ∷ []) $ free1 ! $
+        move ! (29 ∷ 30 ∷ []) $ free1 ! $ move ! (27 ∷ 28 ∷ []) $ free1 ! $ move ! (25 ∷ 26 ∷ []) $ free1 ! $ move ! (23 ∷ 24 ∷ []) $ free1 ! $ move ! (21 ∷ 22 ∷ []) $ free1 ! $ move ! (19 ∷ 20 ∷ []) $ free1 ! $ move ! (17 ∷ 18 ∷ []) $ free1 ! $ move ! (15 ∷ 16 ∷ []) $ free1 ! $
         free0 ! $
-        keep ! (1 ∷ 7 ∷ 6 ∷ 5 ∷ 0 ∷ 4 ∷ 3 ∷ 9 ∷ 8 ∷ 2 ∷ []) $
-        by ! (exits vs ls hs m cut o told w₂)))))))))))))))))))))))))))))))))))))))))))))))))))))))))))))
+        keep ! (1 ∷ 9 ∷ 7 ∷ 8 ∷ 6 ∷ 0 ∷ 5 ∷ 3 ∷ 4 ∷ 11 ∷ 10 ∷ 2 ∷ []) $
+        by ! (exits vs ls hs m cut o told w₂))))))))))))))))))))))))))))))))))))))))))))))))))))))))))))))))
 
 module _ {M : Type 1} (𝓤 : URA M) (H : Heap 𝓤) (A : Atoms 𝓤) (W : Given 𝓤 H A) (mem : Memory → SProp 𝓤) (run : Routine → Fun 𝓤) (𝓣 : Tables 𝓤 H) (known-places : Triple 𝓤 (𝓣 .C #places) (Places 𝓤 H A mem run)) (known-load : Triple 𝓤 (𝓣 .C #load) (Load 𝓤 H A mem run))
     (known-check : Triple 𝓤 (𝓣 .C #within) (Check 𝓤 H A mem run)) (known-save : Triple 𝓤 (𝓣 .C #save) (Save 𝓤 H A mem run)) where
   check-walks : Walks 𝓤 H A check-fn.ended stayed (WpFn 𝓤 H (𝓣 .C) (𝓣 .Λ) code.function) (check-fn.clauses 𝓤 H A mem run)
-  check-walks = walked 𝓤 H A check-fn.ended stayed (check-fn.clauses 𝓤 H A mem run) (WpFn 𝓤 H (𝓣 .C) (𝓣 .Λ) code.function) (λ κs. (slice-vals, (uint-vals w64, (slice-vals, (slice-vals, (slice-vals, (slice-vals, tt)))))))
-      (λ κs. (mut-slice-tells (named 0) (κs .0) N.the-row, (uint-tells w64, (mut-slice-tells (named 1) (κs .1 .0) u16, (mut-slice-tells (named 2) (κs .1 .1 .0) u16, (shr-slice-tells (named 3) (κs .1 .1 .1 .0) u8, (shr-slice-tells (named 3) (κs .1 .1 .1 .0) u8, tt)))))))
+  check-walks = walked 𝓤 H A check-fn.ended stayed (check-fn.clauses 𝓤 H A mem run) (WpFn 𝓤 H (𝓣 .C) (𝓣 .Λ) code.function) (λ κs. (slice-vals, (uint-vals w64, (slice-vals, (slice-vals, (slice-vals, (slice-vals, (slice-vals, tt))))))))
+      (λ κs. (mut-slice-tells (named 0) (κs .0) N.the-row, (uint-tells w64, (mut-slice-tells (named 1) (κs .1 .0) u16, (mut-slice-tells (named 2) (κs .1 .1 .0) u8, (mut-slice-tells (named 3) (κs .1 .1 .1 .0) u16, (shr-slice-tells (named 4) (κs .1 .1 .1 .1 .0) u8, (shr-slice-tells (named 4) (κs .1 .1 .1 .1 .0) u8, tt))))))))
       (λ κs qs bounds a g are. via 𝓤 _ (fst∗ 𝓤 _ (emp 𝓤))
-      (walk 𝓤 H A W mem run (κs .0) (κs .1 .0) (κs .1 .1 .0) (κs .1 .1 .1 .0) (qs .0) (qs .1 .0) (qs .1 .1 .0) (qs .1 .1 .1 .0) (a .0 .ptr .0) (a .0 .ptr .1) (a .0 .name) (a .0 .now) (a .1 .0) (a .1 .1 .0) (a .1 .1 .1 .0) (a .1 .1 .1 .1 .0) (a .1 .1 .1 .1 .1 .0)
-      (are .0 .0 .1) (are .1 .0 .1) (are .1 .1 .0 .0 .1) (are .1 .1 .1 .0 .0 .1) (are .1 .1 .1 .1 .0 .0 .1) (are .1 .1 .1 .1 .1 .0 .0 .1) (𝓣 .C) (𝓣 .Λ) (fmOf 𝓤 H (W .laws) 𝓣) known-places known-load known-check known-save))
+      (walk 𝓤 H A W mem run (κs .0) (κs .1 .0) (κs .1 .1 .0) (κs .1 .1 .1 .0) (κs .1 .1 .1 .1 .0) (qs .0) (qs .1 .0) (qs .1 .1 .0) (qs .1 .1 .1 .0) (qs .1 .1 .1 .1 .0) (a .0 .ptr .0) (a .0 .ptr .1) (a .0 .name) (a .0 .now) (a .1 .0) (a .1 .1 .0) (a .1 .1 .1 .0) (a .1 .1 .1 .1 .0) (a .1 .1 .1 .1 .1 .0) (a .1 .1 .1 .1 .1 .1 .0)
+      (are .0 .0 .1) (are .1 .0 .1) (are .1 .1 .0 .0 .1) (are .1 .1 .1 .0 .0 .1) (are .1 .1 .1 .1 .0 .0 .1) (are .1 .1 .1 .1 .1 .0 .0 .1) (are .1 .1 .1 .1 .1 .1 .0 .0 .1) (𝓣 .C) (𝓣 .Λ) (fmOf 𝓤 H (W .laws) 𝓣) known-places known-load known-check known-save))
 
   check-meets : Meets 𝓤 H A check-fn.signature (WpFn 𝓤 H (𝓣 .C) (𝓣 .Λ) code.function) (check-fn.spec 𝓤 H A mem run)
   check-meets =
       walk-meets 𝓤 H A check-fn.ended stayed W (
-        goes-slice 𝓤 H A W 4 0 tt (plain (λ _. N.the-row)),
+        goes-slice 𝓤 H A W 5 0 tt (plain (λ _. N.the-row)),
         (
-          goes-none 𝓤 H A W 4 (λ _. usize) yes (λ κs x f. refl),
+          goes-none 𝓤 H A W 5 (λ _. usize) yes (λ κs x f. refl),
           (
-            goes-gave-slice 𝓤 H A W 4 1 tt (plain (λ _. u16)),
+            goes-gave-slice 𝓤 H A W 5 1 tt (plain (λ _. u16)),
             (
-              goes-gave-slice 𝓤 H A W 4 2 tt (plain (λ _. u16)),
-              (goes-none-slice 𝓤 H A W 4 (3 ∷ []) tt (plain (λ _. u8)) yes, (goes-none-slice 𝓤 H A W 4 (3 ∷ []) tt (plain (λ _. u8)) yes, tt)),
+              goes-gave-slice 𝓤 H A W 5 2 tt (plain (λ _. u8)),
+              (
+                goes-gave-slice 𝓤 H A W 5 3 tt (plain (λ _. u16)),
+                (goes-none-slice 𝓤 H A W 5 (4 ∷ []) tt (plain (λ _. u8)) yes, (goes-none-slice 𝓤 H A W 5 (4 ∷ []) tt (plain (λ _. u8)) yes, tt)),
+              ),
             ),
           ),
         ),

@@ -40,6 +40,9 @@ line-in-requires c κs = search needs
 line-in-requires-2 : tie.Need-line-in-requires-2
 line-in-requires-2 c κs = search needs
 
+strike-in-requires : tie.Need-strike-in-requires
+strike-in-requires c κs = search needs
+
 returns-2 : tie.Need-returns-2
 unfolding recordOf
 returns-2 c = c .node-in .ensures ∙ sym (record-part _ _ 0x4E (c .before .before .before .before .if1 .left) (c .before .match .keys1))
@@ -62,12 +65,16 @@ returns-6 c = c .line-in2 .ensures ∙ sym (record-part _ _ 0x50 (c .before .bef
 
 returns-7 : tie.Need-returns-7
 unfolding recordOf
-returns-7 c = sym (record-part _ _ 0x45 (c .before .before .before .if1 .left) (c .match .keys6))
+returns-7 c = c .strike-in .ensures ∙ sym (record-part _ _ 0x44 (c .before .before .before .before .if1 .left) (c .before .match .keys6))
 
 returns-8 : tie.Need-returns-8
-returns-8 c =
+unfolding recordOf
+returns-8 c = sym (record-part _ _ 0x45 (c .before .before .before .if1 .left) (c .match .keys7))
+
+returns-9 : tie.Need-returns-9
+returns-9 c =
     let none = c .match .rest in
-    sym (record-part _ _ _ (c .before .before .before .if1 .left) refl ∙ record-unknown _ _ (none .0 .0 .0 .0 .0 .1) (none .0 .0 .0 .0 .1) (none .0 .0 .0 .1) (none .0 .0 .1) (none .0 .1) (none .1))
+    sym (record-part _ _ _ (c .before .before .before .if1 .left) refl ∙ record-unknown _ _ (none .0 .0 .0 .0 .0 .0 .1) (none .0 .0 .0 .0 .0 .1) (none .0 .0 .0 .0 .1) (none .0 .0 .0 .1) (none .0 .0 .1) (none .0 .1) (none .1))
 
 pub record-at-spec : {M : Type 1} → statement M
 record-at-spec =
@@ -84,10 +91,12 @@ record-at-spec =
     witness-in-requires-2
     line-in-requires
     line-in-requires-2
+    strike-in-requires
     returns-2
     returns-3
     returns-4
     returns-5
     returns-6
     returns-7
-    returns-8)
+    returns-8
+    returns-9)

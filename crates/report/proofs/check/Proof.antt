@@ -20,11 +20,14 @@ slice-aggregate-check-4 c = search needs
 slice-aggregate-check-5 : tie.Need-slice-aggregate-check-5
 slice-aggregate-check-5 c = search needs
 
+slice-aggregate-check-6 : tie.Need-slice-aggregate-check-6
+slice-aggregate-check-6 c = search needs
+
 check-requires : tie.Need-check-requires
 check-requires c κs = search needs
 
 returns : tie.Need-returns
-returns c = ap lineOf (c .before .before .before .before .before .check .ensures .0) ∙ checked _ _
+returns c = ap lineOf (c .before .before .before .before .before .before .check .ensures .0) ∙ checked _ _
 
 pub check-spec : {M : Type 1} → statement M
 check-spec =
@@ -35,5 +38,6 @@ check-spec =
     slice-aggregate-check-3
     slice-aggregate-check-4
     slice-aggregate-check-5
+    slice-aggregate-check-6
     check-requires
     returns)

@@ -15,12 +15,12 @@ use Rattle.session.proofs.run_clauses.Tie as tie
 module _ (c : tie.After-read-clauses-arg6) where
   abbrev start-from-read-clauses-call : tie.Start
   start-from-read-clauses-call = c .before .before .before .before .before .before .before .before .before .before .before .before .before
-      .before .before .before .before
+      .before .before .before .before .before
 
 module _ (c : tie.After-read-clauses) where
   abbrev start-from-read-clauses : tie.Start
   start-from-read-clauses = c .before .before .before .before .before .before .before .before .before .before .before .before .before
-      .before .before .before .before .before
+      .before .before .before .before .before .before
 
 module _ (c : tie.After-count) where
   abbrev read-clauses-from-count : tie.After-read-clauses
@@ -36,9 +36,9 @@ module _ (c : tie.After-empty) where
   abbrev number-from-empty : tie.After-number
   number-from-empty = c .before .before .before .before .before .before
 
-module _ (c : tie.After-run-proof-arg9) where
+module _ (c : tie.After-run-proof-arg10) where
   abbrev count-from-run-proof-call : tie.After-count
-  count-from-run-proof-call = c .before .before .before .before .before .before .before .before .before .before
+  count-from-run-proof-call = c .before .before .before .before .before .before .before .before .before .before .before
 
   abbrev read-clauses-from-run-proof-call : tie.After-read-clauses
   read-clauses-from-run-proof-call = read-clauses-from-count count-from-run-proof-call
@@ -48,9 +48,9 @@ module _ (c : tie.After-run-proof-arg9) where
 
 module _ (c : tie.After-run-proof) where
   abbrev count-from-run-proof : tie.After-count
-  count-from-run-proof = c .before .before .before .before .before .before .before .before .before .before .before
+  count-from-run-proof = c .before .before .before .before .before .before .before .before .before .before .before .before
 
-module _ (c : tie.After-slice-known19) where
+module _ (c : tie.After-slice-known20) where
   abbrev empty-from-return : tie.After-empty
   empty-from-return = c .before .before .before .before .before .before .before .before
 
@@ -63,10 +63,10 @@ module _ (c : tie.After-slice-known19) where
   abbrev start-from-return : tie.Start
   start-from-return = start-from-read-clauses read-clauses-from-return
 
-module _ (c : tie.After-slice-known28) where
+module _ (c : tie.After-slice-known30) where
   abbrev run-proof-from-return-2 : tie.After-run-proof
   run-proof-from-return-2 = c .before .before .before .before .before .before .before .before .before .before .before .before .before
-      .before .before .before .before .before
+      .before .before .before .before .before .before .before
 
   abbrev count-from-return-2 : tie.After-count
   count-from-return-2 = count-from-run-proof run-proof-from-return-2
@@ -106,6 +106,7 @@ run-proof-requires c κs =
       start .pre .1 .3,
       start .pre .1 .4 ∙ ap unmarked (sym (after-read-clauses .read-clauses .kept .0)),
       omega (arith, start .pre .1 .5, after-read-clauses .read-clauses .kept .0),
+      start .pre .1 .6 ∙ ap zeros (sym (after-read-clauses .read-clauses .kept .1 .1 .1 .1 .1 .0)),
     )
 
 same-length : tie.Need-same-length
@@ -151,8 +152,8 @@ returns c =
     let a = start .args in
     let x = after-read-clauses .read-clauses .last in
     let G = opened-good _ _ (start .pre .0) in
-    refused-is (length (a .vars .now)) (length (a .members .now)) (length (a .scratch .now)) _ _ _ (start .pre .0 .least) _ _ _ _
-    (after-empty .empty .ensures .0 ∙ ap zeros (after-read-clauses .read-clauses .kept .0)) (after-empty .empty .ensures .1 .0 ∙ ap zeros (after-read-clauses .read-clauses .kept .1 .0 ∙ G .lows)) (after-empty .empty .ensures .1 .1 .0 ∙ ap zeros (after-read-clauses .read-clauses .kept .1 .1 .0 ∙ G .highs)) (after-empty .empty .ensures .1 .1 .1 ∙ ap zeros (after-read-clauses .read-clauses .kept .1 .1 .1 .1 .1 .0))
+    refused-is (length (a .vars .now)) (length (a .members .now)) (length (a .scratch .now)) _ _ _ (start .pre .0 .least) _ _ _ _ _
+    (after-empty .empty .ensures .0 ∙ ap zeros (after-read-clauses .read-clauses .kept .0)) (after-empty .empty .ensures .1 .0 ∙ ap zeros (after-read-clauses .read-clauses .kept .1 .0 ∙ G .lows)) (after-empty .empty .ensures .1 .1 .0 ∙ ap zeros (after-read-clauses .read-clauses .kept .1 .1 .0 ∙ G .highs)) (after-empty .empty .ensures .1 .1 .1 ∙ ap zeros (after-read-clauses .read-clauses .kept .1 .1 .1 .1 .1 .0)) (start .pre .1 .6)
     ∙ unbegun-is (a .variables) (a .proof .now) (x .0) (x .1 .0) (x .1 .1 .0) (x .1 .1 .1 .0) (x .1 .1 .1 .1 .0) (x .1 .1 .1 .1 .1 .0) (length (a .vars .now)) (length (a .members .now)) (length (a .scratch .now)) _ _ (after-read-clauses .read-clauses .ensures .0 (a .proof .now)) _ _ _ (after-number .number .given .1)
 
 same-length-7 : tie.Need-same-length-7
@@ -206,6 +207,11 @@ same-length-15 c =
     let after-run-proof = run-proof-from-return-2 c in
     after-run-proof .run-proof .kept .1 .1 .1 .1 .1 .1 .1 .1 .0
 
+same-length-16 : tie.Need-same-length-16
+same-length-16 c =
+    let after-run-proof = run-proof-from-return-2 c in
+    after-run-proof .run-proof .kept .1 .1 .1 .1 .1 .1 .1 .1 .1 .0
+
 returns-2 : tie.Need-returns-2
 returns-2 c =
     let start = start-from-return-2 c in
@@ -217,4 +223,4 @@ returns-2 c =
     after-run-proof .run-proof .ensures ∙ begun-is (a .variables) (a .proof .now) (x .0) (x .1 .0) (x .1 .1 .0) (x .1 .1 .1 .0) (x .1 .1 .1 .1 .0) (x .1 .1 .1 .1 .1 .0) (length (a .vars .now)) (length (a .members .now)) (length (a .scratch .now)) _ _ (after-read-clauses .read-clauses .ensures .0 (a .proof .now)) _ _ (after-count .count .given .1) (after-read-clauses .read-clauses .kept .0) (after-read-clauses .read-clauses .kept .1 .1 .1 .1 .1 .0)
 
 pub run-clauses-spec : {M : Type 1} → statement M
-run-clauses-spec = tie.close (tie.spec read-clauses-requires enum-known-number empty-requires enum-known-count run-proof-requires same-length same-length-2 same-length-3 same-length-4 same-length-5 same-length-6 returns same-length-7 same-length-8 same-length-9 same-length-10 same-length-11 same-length-12 same-length-13 same-length-14 same-length-15 returns-2)
+run-clauses-spec = tie.close (tie.spec read-clauses-requires enum-known-number empty-requires enum-known-count run-proof-requires same-length same-length-2 same-length-3 same-length-4 same-length-5 same-length-6 returns same-length-7 same-length-8 same-length-9 same-length-10 same-length-11 same-length-12 same-length-13 same-length-14 same-length-15 same-length-16 returns-2)

@@ -22,7 +22,7 @@ enum-known-variables c =
 -- The ways back, written by ways.py: TO-from-FROM leads from the place FROM of the code to the place TO before it.
 module _ (c : tie.After-read-header) where
   abbrev start-from-read-header : tie.Start
-  start-from-read-header = c .before .before .before .before .before .before .before .before .before .before .before .before
+  start-from-read-header = c .before .before .before .before .before .before .before .before .before .before .before .before .before
 
 module _ (c : tie.After-known-told) where
   abbrev read-header-from-return : tie.After-read-header
@@ -31,9 +31,9 @@ module _ (c : tie.After-known-told) where
   abbrev start-from-return : tie.Start
   start-from-return = start-from-read-header read-header-from-return
 
-module _ (c : tie.After-run-clauses-arg9) where
+module _ (c : tie.After-run-clauses-arg10) where
   abbrev variables-from-run-clauses-call : tie.After-variables
-  variables-from-run-clauses-call = c .before .before .before .before .before .before .before .before .before .before
+  variables-from-run-clauses-call = c .before .before .before .before .before .before .before .before .before .before .before
 
   abbrev read-header-from-run-clauses-call : tie.After-read-header
   read-header-from-run-clauses-call = variables-from-run-clauses-call .before .before
@@ -43,12 +43,12 @@ module _ (c : tie.After-run-clauses-arg9) where
 
 module _ (c : tie.After-run-clauses) where
   abbrev variables-from-run-clauses : tie.After-variables
-  variables-from-run-clauses = c .before .before .before .before .before .before .before .before .before .before .before
+  variables-from-run-clauses = c .before .before .before .before .before .before .before .before .before .before .before .before
 
-module _ (c : tie.After-slice-known18) where
+module _ (c : tie.After-slice-known20) where
   abbrev run-clauses-from-return-2 : tie.After-run-clauses
   run-clauses-from-return-2 = c .before .before .before .before .before .before .before .before .before .before .before .before .before
-      .before .before .before .before .before
+      .before .before .before .before .before .before .before
 
   abbrev variables-from-return-2 : tie.After-variables
   variables-from-return-2 = variables-from-run-clauses run-clauses-from-return-2
@@ -65,13 +65,13 @@ run-clauses-requires c κs =
     let after-read-header = read-header-from-run-clauses-call c in
     let after-variables = variables-from-run-clauses-call c in
     let b = header-bounds _ _ _ _ (sym (after-read-header .read-header .ensures) ∙ after-variables .variables .given .1) in
-    (start .pre .0, (b .0, b .1, b .2, start .pre .1 .0, start .pre .1 .1, start .pre .1 .2))
+    (start .pre .0, (b .0, b .1, b .2, start .pre .1 .0, start .pre .1 .1, start .pre .1 .2, start .pre .1 .3))
 
 returns : tie.Need-returns
 returns c =
     let start = start-from-return c in
     let a = start .args in
-    unopened-is _ _ (start .pre .0) refl (length (a .scratch .now)) _ _
+    unopened-is _ _ _ (start .pre .0) (start .pre .1 .3) refl (length (a .scratch .now)) _ _
     ∙ ap (outcome (length (a .vars .now)) (length (a .members .now)) (length (a .scratch .now))) (sym (verdict-improper (length (a .vars .now)) _ (a .proof .now) _ _ (sym (read-header-from-return c .read-header .ensures) ∙ c .before .number .given .1)))
 
 same-length : tie.Need-same-length
@@ -119,6 +119,11 @@ same-length-9 c =
     let after-run-clauses = run-clauses-from-return-2 c in
     after-run-clauses .run-clauses .kept .1 .1 .1 .1 .1 .1 .1 .1 .0
 
+same-length-10 : tie.Need-same-length-10
+same-length-10 c =
+    let after-run-clauses = run-clauses-from-return-2 c in
+    after-run-clauses .run-clauses .kept .1 .1 .1 .1 .1 .1 .1 .1 .1 .0
+
 returns-2 : tie.Need-returns-2
 returns-2 c =
     let start = start-from-return-2 c in
@@ -130,4 +135,4 @@ returns-2 c =
     ∙ ap (outcome (length (a .vars .now)) (length (a .members .now)) (length (a .scratch .now))) (sym (verdict-proper (length (a .vars .now)) _ (a .proof .now) _ _ _ (sym (after-read-header .read-header .ensures) ∙ after-variables .variables .given .1)))
 
 pub run-header-spec : {M : Type 1} → statement M
-run-header-spec = tie.close (tie.spec read-header-requires enum-known-number enum-known-variables run-clauses-requires returns same-length same-length-2 same-length-3 same-length-4 same-length-5 same-length-6 same-length-7 same-length-8 same-length-9 returns-2)
+run-header-spec = tie.close (tie.spec read-header-requires enum-known-number enum-known-variables run-clauses-requires returns same-length same-length-2 same-length-3 same-length-4 same-length-5 same-length-6 same-length-7 same-length-8 same-length-9 same-length-10 returns-2)

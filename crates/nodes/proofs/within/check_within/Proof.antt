@@ -8,11 +8,11 @@ use Rattle.nodes.proofs.within.check_within.Tie as tie
 -- The ways back, written by ways.py: TO-from-FROM leads from the place FROM of the code to the place TO before it.
 module _ (c : tie.Else1) where
   abbrev start-from-else1 : tie.Start
-  start-from-else1 = c .before .before .before .before .before .before .before .before
+  start-from-else1 = c .before .before .before .before .before .before .before .before .before
 
 module _ (c : tie.Then1) where
   abbrev start-from-then1 : tie.Start
-  start-from-then1 = c .before .before .before .before .before .before .before .before
+  start-from-then1 = c .before .before .before .before .before .before .before .before .before
 
 module _ (c : tie.After-check-arg) where
   abbrev start-from-slice-aggregate-check : tie.Start
@@ -31,11 +31,11 @@ module _ (c : tie.After-check-arg3) where
 
 module _ (c : tie.After-check) where
   abbrev else1-from-check : tie.Else1
-  else1-from-check = c .before .before .before .before .before .before
+  else1-from-check = c .before .before .before .before .before .before .before
 
-module _ (c : tie.After-slice-known10) where
+module _ (c : tie.After-slice-known12) where
   abbrev check-from-return-2 : tie.After-check
-  check-from-return-2 = c .before .before .before .before .before .before .before .before .before .before
+  check-from-return-2 = c .before .before .before .before .before .before .before .before .before .before .before .before
 
   abbrev else1-from-return-2 : tie.Else1
   else1-from-return-2 = else1-from-check check-from-return-2
@@ -46,7 +46,7 @@ module _ (c : tie.After-slice-known10) where
 returns : tie.Need-returns
 returns c =
     let start = start-from-then1 c in
-    check-past _ _ _ _ _ _ _ _ _ (c .if1 .taken) (start .pre .0) (start .pre .1) (start .pre .2)
+    check-past _ _ _ _ _ _ _ _ _ _ (c .if1 .taken) (start .pre .0) (start .pre .1) (start .pre .2)
 
 slice-relend-prefix-check : tie.Need-slice-relend-prefix-check
 slice-relend-prefix-check c = search needs
@@ -90,11 +90,14 @@ same-length-4 c = search needs
 same-length-5 : tie.Need-same-length-5
 same-length-5 c = search needs
 
+same-length-6 : tie.Need-same-length-6
+same-length-6 c = search needs
+
 returns-2 : tie.Need-returns-2
 returns-2 c =
     let start = start-from-return-2 c in
     let after-check = check-from-return-2 c in
-    check-first _ _ _ _ _ _ _ _ _ _ _ _ _ _ _ (omega (arith, else1-from-return-2 c .if1 .left)) (start .pre) (after-check .check .kept .0) (after-check .check .kept .1 .0) (after-check .check .kept .1 .1 .0) (after-check .check .ensures .0)
+    check-first _ _ _ _ _ _ _ _ _ _ _ _ _ _ _ _ _ (omega (arith, else1-from-return-2 c .if1 .left)) (start .pre) (after-check .check .kept .0) (after-check .check .kept .1 .0) (after-check .check .kept .1 .1 .0) (after-check .check .ensures .0)
 
 pub check-within-spec : {M : Type 1} → statement M
 check-within-spec =
@@ -113,4 +116,5 @@ check-within-spec =
     same-length-3
     same-length-4
     same-length-5
+    same-length-6
     returns-2)

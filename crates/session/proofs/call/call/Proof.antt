@@ -31,14 +31,18 @@ same-length-5 : tie.Need-same-length-5
 same-length-5 c =
     search needs
 
+same-length-6 : tie.Need-same-length-6
+same-length-6 c =
+    search needs
+
 returns : tie.Need-returns
 returns c =
-    called-7 _ _ _ _ _ _ _ _ (sym (c .before .lent-fits .ensures) ∙ not-true _ (c .if1 .taken))
+    called-7 _ _ _ _ _ _ _ _ _ (sym (c .before .lent-fits .ensures) ∙ not-true _ (c .if1 .taken))
 
 -- The ways back, written by ways.py: TO-from-FROM leads from the place FROM of the code to the place TO before it.
-module _ (c : tie.After-check-64-arg5) where
+module _ (c : tie.After-check-64-arg6) where
   abbrev then2-from-check-64-call : tie.Then2
-  then2-from-check-64-call = c .before .before .before .before .before
+  then2-from-check-64-call = c .before .before .before .before .before .before
 
   abbrev else1-from-check-64-call : tie.Else1
   else1-from-check-64-call = then2-from-check-64-call .before
@@ -48,18 +52,18 @@ module _ (c : tie.After-check-64-arg5) where
 
 module _ (c : tie.After-check-64) where
   abbrev then2-from-check-64 : tie.Then2
-  then2-from-check-64 = c .before .before .before .before .before .before
+  then2-from-check-64 = c .before .before .before .before .before .before .before
 
-module _ (c : tie.After-check-65536-arg5) where
+module _ (c : tie.After-check-65536-arg6) where
   abbrev else1-from-check-65536-call : tie.Else1
-  else1-from-check-65536-call = c .before .before .before .before .before .before .before
+  else1-from-check-65536-call = c .before .before .before .before .before .before .before .before
 
   abbrev lent-fits-from-check-65536-call : tie.After-lent-fits
   lent-fits-from-check-65536-call = else1-from-check-65536-call .before
 
-module _ (c : tie.After-check-4096-long-arg5) where
+module _ (c : tie.After-check-4096-long-arg6) where
   abbrev then3-from-check-4096-long-call : tie.Then3
-  then3-from-check-4096-long-call = c .before .before .before .before .before .before
+  then3-from-check-4096-long-call = c .before .before .before .before .before .before .before
 
   abbrev else1-from-check-4096-long-call : tie.Else1
   else1-from-check-4096-long-call = then3-from-check-4096-long-call .before .before
@@ -67,9 +71,9 @@ module _ (c : tie.After-check-4096-long-arg5) where
   abbrev lent-fits-from-check-4096-long-call : tie.After-lent-fits
   lent-fits-from-check-4096-long-call = else1-from-check-4096-long-call .before
 
-module _ (c : tie.After-check-4096-short-arg5) where
+module _ (c : tie.After-check-4096-short-arg6) where
   abbrev then3-from-check-4096-short-call : tie.Then3
-  then3-from-check-4096-short-call = c .before .before .before .before .before .before
+  then3-from-check-4096-short-call = c .before .before .before .before .before .before .before
 
   abbrev else1-from-check-4096-short-call : tie.Else1
   else1-from-check-4096-short-call = then3-from-check-4096-short-call .before .before
@@ -79,19 +83,19 @@ module _ (c : tie.After-check-4096-short-arg5) where
 
 module _ (c : tie.After-check-65536) where
   abbrev else1-from-check-65536 : tie.Else1
-  else1-from-check-65536 = c .before .before .before .before .before .before .before .before
+  else1-from-check-65536 = c .before .before .before .before .before .before .before .before .before
 
 module _ (c : tie.After-check-4096-long) where
   abbrev then3-from-check-4096-long : tie.Then3
-  then3-from-check-4096-long = c .before .before .before .before .before .before .before
+  then3-from-check-4096-long = c .before .before .before .before .before .before .before .before
 
 module _ (c : tie.After-check-4096-short) where
   abbrev then3-from-check-4096-short : tie.Then3
-  then3-from-check-4096-short = c .before .before .before .before .before .before .before
+  then3-from-check-4096-short = c .before .before .before .before .before .before .before .before
 
-module _ (c : tie.After-slice-known10) where
+module _ (c : tie.After-slice-known12) where
   abbrev check-64-from-return-2 : tie.After-check-64
-  check-64-from-return-2 = c .before .before .before .before .before .before .before .before .before .before
+  check-64-from-return-2 = c .before .before .before .before .before .before .before .before .before .before .before .before
 
   abbrev else1-from-return-2 : tie.Else1
   else1-from-return-2 = then2-from-check-64 check-64-from-return-2 .before
@@ -99,9 +103,9 @@ module _ (c : tie.After-slice-known10) where
   abbrev lent-fits-from-return-2 : tie.After-lent-fits
   lent-fits-from-return-2 = else1-from-return-2 .before
 
-module _ (c : tie.After-slice-known25) where
+module _ (c : tie.After-slice-known30) where
   abbrev check-65536-from-return-5 : tie.After-check-65536
-  check-65536-from-return-5 = c .before .before .before .before .before .before .before .before .before .before
+  check-65536-from-return-5 = c .before .before .before .before .before .before .before .before .before .before .before .before
 
   abbrev else1-from-return-5 : tie.Else1
   else1-from-return-5 = else1-from-check-65536 check-65536-from-return-5
@@ -109,9 +113,9 @@ module _ (c : tie.After-slice-known25) where
   abbrev lent-fits-from-return-5 : tie.After-lent-fits
   lent-fits-from-return-5 = else1-from-return-5 .before
 
-module _ (c : tie.After-slice-known15) where
+module _ (c : tie.After-slice-known18) where
   abbrev check-4096-short-from-return-3 : tie.After-check-4096-short
-  check-4096-short-from-return-3 = c .before .before .before .before .before .before .before .before .before .before
+  check-4096-short-from-return-3 = c .before .before .before .before .before .before .before .before .before .before .before .before
 
   abbrev else1-from-return-3 : tie.Else1
   else1-from-return-3 = then3-from-check-4096-short check-4096-short-from-return-3 .before .before
@@ -119,9 +123,9 @@ module _ (c : tie.After-slice-known15) where
   abbrev lent-fits-from-return-3 : tie.After-lent-fits
   lent-fits-from-return-3 = else1-from-return-3 .before
 
-module _ (c : tie.After-slice-known20) where
+module _ (c : tie.After-slice-known24) where
   abbrev check-4096-long-from-return-4 : tie.After-check-4096-long
-  check-4096-long-from-return-4 = c .before .before .before .before .before .before .before .before .before .before
+  check-4096-long-from-return-4 = c .before .before .before .before .before .before .before .before .before .before .before .before
 
   abbrev else1-from-return-4 : tie.Else1
   else1-from-return-4 = then3-from-check-4096-long check-4096-long-from-return-4 .before .before
@@ -136,37 +140,42 @@ check-64-requires c κs =
     let then2 = then2-from-check-64-call c in
     ((sym (after-lent-fits .lent-fits .ensures) ∙ not-false _ (else1 .if1 .left)), then2 .if2 .taken)
 
-same-length-6 : tie.Need-same-length-6
-same-length-6 c =
-    let after-check-64 = check-64-from-return-2 c in
-    after-check-64 .check-64 .kept .0
-
 same-length-7 : tie.Need-same-length-7
 same-length-7 c =
     let after-check-64 = check-64-from-return-2 c in
-    after-check-64 .check-64 .kept .1 .0
+    after-check-64 .check-64 .kept .0
 
 same-length-8 : tie.Need-same-length-8
 same-length-8 c =
     let after-check-64 = check-64-from-return-2 c in
-    after-check-64 .check-64 .kept .1 .1 .0
+    after-check-64 .check-64 .kept .1 .0
 
 same-length-9 : tie.Need-same-length-9
 same-length-9 c =
     let after-check-64 = check-64-from-return-2 c in
-    after-check-64 .check-64 .kept .1 .1 .1 .0
+    after-check-64 .check-64 .kept .1 .1 .0
 
 same-length-10 : tie.Need-same-length-10
 same-length-10 c =
     let after-check-64 = check-64-from-return-2 c in
+    after-check-64 .check-64 .kept .1 .1 .1 .0
+
+same-length-11 : tie.Need-same-length-11
+same-length-11 c =
+    let after-check-64 = check-64-from-return-2 c in
     after-check-64 .check-64 .kept .1 .1 .1 .1 .0
+
+same-length-12 : tie.Need-same-length-12
+same-length-12 c =
+    let after-check-64 = check-64-from-return-2 c in
+    after-check-64 .check-64 .kept .1 .1 .1 .1 .1 .0
 
 returns-2 : tie.Need-returns-2
 returns-2 c =
     let after-lent-fits = lent-fits-from-return-2 c in
     let else1 = else1-from-return-2 c in
     let after-check-64 = check-64-from-return-2 c in
-    called-done _ _ _ _ _ _ _ _ (sym (after-lent-fits .lent-fits .ensures) ∙ not-false _ (else1 .if1 .left)) _ (after-check-64 .check-64 .ensures)
+    called-done _ _ _ _ _ _ _ _ _ (sym (after-lent-fits .lent-fits .ensures) ∙ not-false _ (else1 .if1 .left)) _ (after-check-64 .check-64 .ensures)
 
 check-4096-short-requires : tie.Need-check-4096-short-requires
 check-4096-short-requires c κs =
@@ -175,37 +184,42 @@ check-4096-short-requires c κs =
     let then3 = then3-from-check-4096-short-call c in
     ((sym (after-lent-fits .lent-fits .ensures) ∙ not-false _ (else1 .if1 .left)), then3 .if3 .taken)
 
-same-length-11 : tie.Need-same-length-11
-same-length-11 c =
-    let after-check-4096-short = check-4096-short-from-return-3 c in
-    after-check-4096-short .check-4096-short .kept .0
-
-same-length-12 : tie.Need-same-length-12
-same-length-12 c =
-    let after-check-4096-short = check-4096-short-from-return-3 c in
-    after-check-4096-short .check-4096-short .kept .1 .0
-
 same-length-13 : tie.Need-same-length-13
 same-length-13 c =
     let after-check-4096-short = check-4096-short-from-return-3 c in
-    after-check-4096-short .check-4096-short .kept .1 .1 .0
+    after-check-4096-short .check-4096-short .kept .0
 
 same-length-14 : tie.Need-same-length-14
 same-length-14 c =
     let after-check-4096-short = check-4096-short-from-return-3 c in
-    after-check-4096-short .check-4096-short .kept .1 .1 .1 .0
+    after-check-4096-short .check-4096-short .kept .1 .0
 
 same-length-15 : tie.Need-same-length-15
 same-length-15 c =
     let after-check-4096-short = check-4096-short-from-return-3 c in
+    after-check-4096-short .check-4096-short .kept .1 .1 .0
+
+same-length-16 : tie.Need-same-length-16
+same-length-16 c =
+    let after-check-4096-short = check-4096-short-from-return-3 c in
+    after-check-4096-short .check-4096-short .kept .1 .1 .1 .0
+
+same-length-17 : tie.Need-same-length-17
+same-length-17 c =
+    let after-check-4096-short = check-4096-short-from-return-3 c in
     after-check-4096-short .check-4096-short .kept .1 .1 .1 .1 .0
+
+same-length-18 : tie.Need-same-length-18
+same-length-18 c =
+    let after-check-4096-short = check-4096-short-from-return-3 c in
+    after-check-4096-short .check-4096-short .kept .1 .1 .1 .1 .1 .0
 
 returns-3 : tie.Need-returns-3
 returns-3 c =
     let after-lent-fits = lent-fits-from-return-3 c in
     let else1 = else1-from-return-3 c in
     let after-check-4096-short = check-4096-short-from-return-3 c in
-    called-done _ _ _ _ _ _ _ _ (sym (after-lent-fits .lent-fits .ensures) ∙ not-false _ (else1 .if1 .left)) _ (after-check-4096-short .check-4096-short .ensures)
+    called-done _ _ _ _ _ _ _ _ _ (sym (after-lent-fits .lent-fits .ensures) ∙ not-false _ (else1 .if1 .left)) _ (after-check-4096-short .check-4096-short .ensures)
 
 check-4096-long-requires : tie.Need-check-4096-long-requires
 check-4096-long-requires c κs =
@@ -214,75 +228,85 @@ check-4096-long-requires c κs =
     let then3 = then3-from-check-4096-long-call c in
     ((sym (after-lent-fits .lent-fits .ensures) ∙ not-false _ (else1 .if1 .left)), then3 .if3 .taken)
 
-same-length-16 : tie.Need-same-length-16
-same-length-16 c =
-    let after-check-4096-long = check-4096-long-from-return-4 c in
-    after-check-4096-long .check-4096-long .kept .0
-
-same-length-17 : tie.Need-same-length-17
-same-length-17 c =
-    let after-check-4096-long = check-4096-long-from-return-4 c in
-    after-check-4096-long .check-4096-long .kept .1 .0
-
-same-length-18 : tie.Need-same-length-18
-same-length-18 c =
-    let after-check-4096-long = check-4096-long-from-return-4 c in
-    after-check-4096-long .check-4096-long .kept .1 .1 .0
-
 same-length-19 : tie.Need-same-length-19
 same-length-19 c =
     let after-check-4096-long = check-4096-long-from-return-4 c in
-    after-check-4096-long .check-4096-long .kept .1 .1 .1 .0
+    after-check-4096-long .check-4096-long .kept .0
 
 same-length-20 : tie.Need-same-length-20
 same-length-20 c =
     let after-check-4096-long = check-4096-long-from-return-4 c in
+    after-check-4096-long .check-4096-long .kept .1 .0
+
+same-length-21 : tie.Need-same-length-21
+same-length-21 c =
+    let after-check-4096-long = check-4096-long-from-return-4 c in
+    after-check-4096-long .check-4096-long .kept .1 .1 .0
+
+same-length-22 : tie.Need-same-length-22
+same-length-22 c =
+    let after-check-4096-long = check-4096-long-from-return-4 c in
+    after-check-4096-long .check-4096-long .kept .1 .1 .1 .0
+
+same-length-23 : tie.Need-same-length-23
+same-length-23 c =
+    let after-check-4096-long = check-4096-long-from-return-4 c in
     after-check-4096-long .check-4096-long .kept .1 .1 .1 .1 .0
+
+same-length-24 : tie.Need-same-length-24
+same-length-24 c =
+    let after-check-4096-long = check-4096-long-from-return-4 c in
+    after-check-4096-long .check-4096-long .kept .1 .1 .1 .1 .1 .0
 
 returns-4 : tie.Need-returns-4
 returns-4 c =
     let after-lent-fits = lent-fits-from-return-4 c in
     let else1 = else1-from-return-4 c in
     let after-check-4096-long = check-4096-long-from-return-4 c in
-    called-done _ _ _ _ _ _ _ _ (sym (after-lent-fits .lent-fits .ensures) ∙ not-false _ (else1 .if1 .left)) _ (after-check-4096-long .check-4096-long .ensures)
+    called-done _ _ _ _ _ _ _ _ _ (sym (after-lent-fits .lent-fits .ensures) ∙ not-false _ (else1 .if1 .left)) _ (after-check-4096-long .check-4096-long .ensures)
 
 check-65536-requires : tie.Need-check-65536-requires
 check-65536-requires c κs =
     let after-lent-fits = lent-fits-from-check-65536-call c in
     let else1 = else1-from-check-65536-call c in
-    ((sym (after-lent-fits .lent-fits .ensures) ∙ not-false _ (else1 .if1 .left)), lent-sized _ _ _ _ _ (sym (after-lent-fits .lent-fits .ensures) ∙ not-false _ (else1 .if1 .left)) .columns .most)
-
-same-length-21 : tie.Need-same-length-21
-same-length-21 c =
-    let after-check-65536 = check-65536-from-return-5 c in
-    after-check-65536 .check-65536 .kept .0
-
-same-length-22 : tie.Need-same-length-22
-same-length-22 c =
-    let after-check-65536 = check-65536-from-return-5 c in
-    after-check-65536 .check-65536 .kept .1 .0
-
-same-length-23 : tie.Need-same-length-23
-same-length-23 c =
-    let after-check-65536 = check-65536-from-return-5 c in
-    after-check-65536 .check-65536 .kept .1 .1 .0
-
-same-length-24 : tie.Need-same-length-24
-same-length-24 c =
-    let after-check-65536 = check-65536-from-return-5 c in
-    after-check-65536 .check-65536 .kept .1 .1 .1 .0
+    ((sym (after-lent-fits .lent-fits .ensures) ∙ not-false _ (else1 .if1 .left)), lent-sized _ _ _ _ _ _ (sym (after-lent-fits .lent-fits .ensures) ∙ not-false _ (else1 .if1 .left)) .columns .most)
 
 same-length-25 : tie.Need-same-length-25
 same-length-25 c =
     let after-check-65536 = check-65536-from-return-5 c in
+    after-check-65536 .check-65536 .kept .0
+
+same-length-26 : tie.Need-same-length-26
+same-length-26 c =
+    let after-check-65536 = check-65536-from-return-5 c in
+    after-check-65536 .check-65536 .kept .1 .0
+
+same-length-27 : tie.Need-same-length-27
+same-length-27 c =
+    let after-check-65536 = check-65536-from-return-5 c in
+    after-check-65536 .check-65536 .kept .1 .1 .0
+
+same-length-28 : tie.Need-same-length-28
+same-length-28 c =
+    let after-check-65536 = check-65536-from-return-5 c in
+    after-check-65536 .check-65536 .kept .1 .1 .1 .0
+
+same-length-29 : tie.Need-same-length-29
+same-length-29 c =
+    let after-check-65536 = check-65536-from-return-5 c in
     after-check-65536 .check-65536 .kept .1 .1 .1 .1 .0
+
+same-length-30 : tie.Need-same-length-30
+same-length-30 c =
+    let after-check-65536 = check-65536-from-return-5 c in
+    after-check-65536 .check-65536 .kept .1 .1 .1 .1 .1 .0
 
 returns-5 : tie.Need-returns-5
 returns-5 c =
     let after-lent-fits = lent-fits-from-return-5 c in
     let else1 = else1-from-return-5 c in
     let after-check-65536 = check-65536-from-return-5 c in
-    called-done _ _ _ _ _ _ _ _ (sym (after-lent-fits .lent-fits .ensures) ∙ not-false _ (else1 .if1 .left)) _ (after-check-65536 .check-65536 .ensures)
+    called-done _ _ _ _ _ _ _ _ _ (sym (after-lent-fits .lent-fits .ensures) ∙ not-false _ (else1 .if1 .left)) _ (after-check-65536 .check-65536 .ensures)
 
 pub call-spec : {M : Type 1} → statement M
-call-spec = tie.close (tie.spec lent-fits-requires same-length same-length-2 same-length-3 same-length-4 same-length-5 returns check-64-requires same-length-6 same-length-7 same-length-8 same-length-9 same-length-10 returns-2 check-4096-short-requires same-length-11 same-length-12 same-length-13 same-length-14 same-length-15 returns-3 check-4096-long-requires same-length-16 same-length-17 same-length-18 same-length-19 same-length-20 returns-4 check-65536-requires same-length-21 same-length-22 same-length-23 same-length-24 same-length-25 returns-5)
+call-spec = tie.close (tie.spec lent-fits-requires same-length same-length-2 same-length-3 same-length-4 same-length-5 same-length-6 returns check-64-requires same-length-7 same-length-8 same-length-9 same-length-10 same-length-11 same-length-12 returns-2 check-4096-short-requires same-length-13 same-length-14 same-length-15 same-length-16 same-length-17 same-length-18 returns-3 check-4096-long-requires same-length-19 same-length-20 same-length-21 same-length-22 same-length-23 same-length-24 returns-4 check-65536-requires same-length-25 same-length-26 same-length-27 same-length-28 same-length-29 same-length-30 returns-5)

@@ -12,13 +12,13 @@ use Rattle.session.proofs.proof.read_records.Statement.{statement}
 use Rattle.session.proofs.proof.read_records.Tie as tie
 
 abbrev Inv-loop : tie.InvT-loop
-Inv-loop vars₀ lows₀ highs₀ heads₀ links₀ memo₀ marks₀ members₀ scratch₀ variables proof state₀ at₀ vars lows highs heads links memo marks members scratch state at =
-    Going variables (length vars₀) proof (records (suc (length proof)) variables (length vars₀) proof (stateOf (lentOf vars₀ lows₀ highs₀ heads₀ links₀ members₀ scratch₀) state₀) 0)
-    (lentOf vars lows highs heads links members scratch) marks memo state at
-    × (length vars ≡ length vars₀) × (length lows ≡ length lows₀) × (length highs ≡ length highs₀) × (length heads ≡ length heads₀) × (length links ≡ length links₀) × (length memo ≡ length memo₀) × (length marks ≡ length marks₀) × (length members ≡ length members₀) × (length scratch ≡ length scratch₀)
+Inv-loop vars₀ lows₀ highs₀ heads₀ links₀ memo₀ marks₀ members₀ scratch₀ struck₀ variables proof state₀ at₀ vars lows highs heads links memo marks members scratch struck state at =
+    Going variables (length vars₀) proof (records (suc (length proof)) variables (length vars₀) proof (stateOf (lentOf vars₀ lows₀ highs₀ heads₀ links₀ members₀ scratch₀ struck₀) state₀) 0)
+    (lentOf vars lows highs heads links members scratch struck) marks memo state at
+    × (length vars ≡ length vars₀) × (length lows ≡ length lows₀) × (length highs ≡ length highs₀) × (length heads ≡ length heads₀) × (length links ≡ length links₀) × (length memo ≡ length memo₀) × (length marks ≡ length marks₀) × (length members ≡ length members₀) × (length scratch ≡ length scratch₀) × (length struck ≡ length struck₀)
 
 abbrev μ-loop : tie.MeasureT-loop
-μ-loop vars₀ lows₀ highs₀ heads₀ links₀ memo₀ marks₀ members₀ scratch₀ variables proof state₀ at₀ vars lows highs heads links memo marks members scratch state at =
+μ-loop vars₀ lows₀ highs₀ heads₀ links₀ memo₀ marks₀ members₀ scratch₀ struck₀ variables proof state₀ at₀ vars lows highs heads links memo marks members scratch struck state at =
     length proof - at
 
 -- what a step leaves
@@ -26,7 +26,7 @@ module _ (a : tie.After-record-step Inv-loop μ-loop) where
   abbrev lent : Lent
   lent =
       let x = a .record-step .last in
-      lentOf (x .0) (x .1 .0) (x .1 .1 .0) (x .1 .1 .1 .0) (x .1 .1 .1 .1 .0) (x .1 .1 .1 .1 .1 .1 .1 .0) (x .1 .1 .1 .1 .1 .1 .1 .1 .0)
+      lentOf (x .0) (x .1 .0) (x .1 .1 .0) (x .1 .1 .1 .0) (x .1 .1 .1 .1 .0) (x .1 .1 .1 .1 .1 .1 .1 .0) (x .1 .1 .1 .1 .1 .1 .1 .1 .0) (x .1 .1 .1 .1 .1 .1 .1 .1 .1 .0)
 
 -- the byte behind a record's first one has a place
 room : (a : tie.In-loop Inv-loop μ-loop) → a .before .loop .at + 1 < 2 ^ 64
@@ -35,23 +35,23 @@ room a = omega (arith, a .loop-test .taken)
 -- The ways back, written by ways.py: TO-from-FROM leads from the place FROM of the code to the place TO before it.
 module _ (c : tie.After-shared-slice-known Inv-loop μ-loop) where
   abbrev start-from-loop-holds : tie.Start Inv-loop μ-loop
-  start-from-loop-holds = c .before .before .before .before .before .before .before .before .before .before
+  start-from-loop-holds = c .before .before .before .before .before .before .before .before .before .before .before
 
-module _ (c : tie.After-record-step-arg9 Inv-loop μ-loop) where
+module _ (c : tie.After-record-step-arg10 Inv-loop μ-loop) where
   abbrev record-length-from-record-step-call : tie.After-record-length Inv-loop μ-loop
-  record-length-from-record-step-call = c .before .before .before .before .before .before .before .before .before
+  record-length-from-record-step-call = c .before .before .before .before .before .before .before .before .before .before
 
   abbrev at-loop-from-record-step-call : tie.At-loop Inv-loop μ-loop
   at-loop-from-record-step-call = record-length-from-record-step-call .before .before .before
 
 module _ (c : tie.After-record-step Inv-loop μ-loop) where
   abbrev record-length-from-record-step : tie.After-record-length Inv-loop μ-loop
-  record-length-from-record-step = c .before .before .before .before .before .before .before .before .before .before
+  record-length-from-record-step = c .before .before .before .before .before .before .before .before .before .before .before
 
 module _ (c : tie.After-known-told Inv-loop μ-loop) where
   abbrev record-step-from-return : tie.After-record-step Inv-loop μ-loop
   record-step-from-return = c .before .before .before .before .before .before .before .before .before .before .before .before .before
-      .before .before .before .before .before .before .before .before
+      .before .before .before .before .before .before .before .before .before .before
 
   abbrev record-length-from-return : tie.After-record-length Inv-loop μ-loop
   record-length-from-return = record-length-from-record-step record-step-from-return
@@ -68,7 +68,7 @@ module _ (c : tie.After-known-told Inv-loop μ-loop) where
 module _ (c : tie.After-known-told2 Inv-loop μ-loop) where
   abbrev record-step-from-return-2 : tie.After-record-step Inv-loop μ-loop
   record-step-from-return-2 = c .before .before .before .before .before .before .before .before .before .before .before .before .before
-      .before .before .before .before .before .before .before .before
+      .before .before .before .before .before .before .before .before .before .before
 
   abbrev record-length-from-return-2 : tie.After-record-length Inv-loop μ-loop
   record-length-from-return-2 = record-length-from-record-step record-step-from-return-2
@@ -82,7 +82,7 @@ module _ (c : tie.After-known-told2 Inv-loop μ-loop) where
 module _ (c : tie.After-known-told3 Inv-loop μ-loop) where
   abbrev record-step-from-loop-again : tie.After-record-step Inv-loop μ-loop
   record-step-from-loop-again = c .before .before .before .before .before .before .before .before .before .before .before .before .before
-      .before .before .before .before .before .before .before .before
+      .before .before .before .before .before .before .before .before .before .before
 
   abbrev record-length-from-loop-again : tie.After-record-length Inv-loop μ-loop
   record-length-from-loop-again = record-length-from-record-step record-step-from-loop-again
@@ -99,7 +99,7 @@ module _ (c : tie.After-known-told3 Inv-loop μ-loop) where
 loop-holds : tie.Need-loop-holds Inv-loop μ-loop
 loop-holds c =
     let start = start-from-loop-holds c in
-    (going-start _ _ _ _ _ _ (start .pre), refl, refl, refl, refl, refl, refl, refl, refl, refl)
+    (going-start _ _ _ _ _ _ (start .pre), refl, refl, refl, refl, refl, refl, refl, refl, refl, refl)
 
 record-from-requires : tie.Need-record-from-requires Inv-loop μ-loop
 record-from-requires c κs =
@@ -122,8 +122,8 @@ enum-known-number : tie.Need-enum-known-number Inv-loop μ-loop
 enum-known-number c =
     search needs
 
-add-t43 : tie.Need-add-t43 Inv-loop μ-loop
-add-t43 c =
+add-t46 : tie.Need-add-t46 Inv-loop μ-loop
+add-t46 c =
     let at-loop = at-loop-from-return c in
     let in-loop = in-loop-from-return c in
     let after-record-from = record-from-from-return c in
@@ -185,6 +185,12 @@ same-length-9 c =
     let after-record-step = record-step-from-return c in
     after-record-step .record-step .kept .1 .1 .1 .1 .1 .1 .1 .1 .0 ∙ at-loop .loop .inv .9
 
+same-length-10 : tie.Need-same-length-10 Inv-loop μ-loop
+same-length-10 c =
+    let at-loop = at-loop-from-return c in
+    let after-record-step = record-step-from-return c in
+    after-record-step .record-step .kept .1 .1 .1 .1 .1 .1 .1 .1 .1 .0 ∙ at-loop .loop .inv .10
+
 returns : tie.Need-returns Inv-loop μ-loop
 returns c =
     let at-loop = at-loop-from-return c in
@@ -197,59 +203,65 @@ enum-known-number-2 : tie.Need-enum-known-number-2 Inv-loop μ-loop
 enum-known-number-2 c =
     search needs
 
-same-length-10 : tie.Need-same-length-10 Inv-loop μ-loop
-same-length-10 c =
-    let at-loop = at-loop-from-return-2 c in
-    let after-record-step = record-step-from-return-2 c in
-    after-record-step .record-step .kept .0 ∙ at-loop .loop .inv .1
-
 same-length-11 : tie.Need-same-length-11 Inv-loop μ-loop
 same-length-11 c =
     let at-loop = at-loop-from-return-2 c in
     let after-record-step = record-step-from-return-2 c in
-    after-record-step .record-step .kept .1 .0 ∙ at-loop .loop .inv .2
+    after-record-step .record-step .kept .0 ∙ at-loop .loop .inv .1
 
 same-length-12 : tie.Need-same-length-12 Inv-loop μ-loop
 same-length-12 c =
     let at-loop = at-loop-from-return-2 c in
     let after-record-step = record-step-from-return-2 c in
-    after-record-step .record-step .kept .1 .1 .0 ∙ at-loop .loop .inv .3
+    after-record-step .record-step .kept .1 .0 ∙ at-loop .loop .inv .2
 
 same-length-13 : tie.Need-same-length-13 Inv-loop μ-loop
 same-length-13 c =
     let at-loop = at-loop-from-return-2 c in
     let after-record-step = record-step-from-return-2 c in
-    after-record-step .record-step .kept .1 .1 .1 .0 ∙ at-loop .loop .inv .4
+    after-record-step .record-step .kept .1 .1 .0 ∙ at-loop .loop .inv .3
 
 same-length-14 : tie.Need-same-length-14 Inv-loop μ-loop
 same-length-14 c =
     let at-loop = at-loop-from-return-2 c in
     let after-record-step = record-step-from-return-2 c in
-    after-record-step .record-step .kept .1 .1 .1 .1 .0 ∙ at-loop .loop .inv .5
+    after-record-step .record-step .kept .1 .1 .1 .0 ∙ at-loop .loop .inv .4
 
 same-length-15 : tie.Need-same-length-15 Inv-loop μ-loop
 same-length-15 c =
     let at-loop = at-loop-from-return-2 c in
     let after-record-step = record-step-from-return-2 c in
-    after-record-step .record-step .kept .1 .1 .1 .1 .1 .0 ∙ at-loop .loop .inv .6
+    after-record-step .record-step .kept .1 .1 .1 .1 .0 ∙ at-loop .loop .inv .5
 
 same-length-16 : tie.Need-same-length-16 Inv-loop μ-loop
 same-length-16 c =
     let at-loop = at-loop-from-return-2 c in
     let after-record-step = record-step-from-return-2 c in
-    after-record-step .record-step .kept .1 .1 .1 .1 .1 .1 .0 ∙ at-loop .loop .inv .7
+    after-record-step .record-step .kept .1 .1 .1 .1 .1 .0 ∙ at-loop .loop .inv .6
 
 same-length-17 : tie.Need-same-length-17 Inv-loop μ-loop
 same-length-17 c =
     let at-loop = at-loop-from-return-2 c in
     let after-record-step = record-step-from-return-2 c in
-    after-record-step .record-step .kept .1 .1 .1 .1 .1 .1 .1 .0 ∙ at-loop .loop .inv .8
+    after-record-step .record-step .kept .1 .1 .1 .1 .1 .1 .0 ∙ at-loop .loop .inv .7
 
 same-length-18 : tie.Need-same-length-18 Inv-loop μ-loop
 same-length-18 c =
     let at-loop = at-loop-from-return-2 c in
     let after-record-step = record-step-from-return-2 c in
+    after-record-step .record-step .kept .1 .1 .1 .1 .1 .1 .1 .0 ∙ at-loop .loop .inv .8
+
+same-length-19 : tie.Need-same-length-19 Inv-loop μ-loop
+same-length-19 c =
+    let at-loop = at-loop-from-return-2 c in
+    let after-record-step = record-step-from-return-2 c in
     after-record-step .record-step .kept .1 .1 .1 .1 .1 .1 .1 .1 .0 ∙ at-loop .loop .inv .9
+
+same-length-20 : tie.Need-same-length-20 Inv-loop μ-loop
+same-length-20 c =
+    let at-loop = at-loop-from-return-2 c in
+    let after-record-step = record-step-from-return-2 c in
+    after-record-step .record-step .kept .1 .1 .1 .1 .1 .1 .1 .1 .1 .0 ∙ at-loop .loop .inv .10
 
 returns-2 : tie.Need-returns-2 Inv-loop μ-loop
 returns-2 c =
@@ -278,43 +290,47 @@ loop-again c =
     let after-record-from = record-from-from-loop-again c in
     let after-record-length = record-length-from-loop-again c in
     let after-record-step = record-step-from-loop-again c in
-    (going-next _ _ _ _ _ _ _ _ _ (at-loop .loop .inv .0) _ (after-record-from .record-from .ensures) _ (after-record-length .record-length .ensures) (lent after-record-step) _ (after-record-step .record-step .ensures .0) _ (c .before .s .given .1) _ _ (after-record-step .record-step .kept .0) (after-record-step .record-step .ensures .1) (after-record-step .record-step .kept .1 .1 .1 .1 .1 .0), after-record-step .record-step .kept .0 ∙ at-loop .loop .inv .1, after-record-step .record-step .kept .1 .0 ∙ at-loop .loop .inv .2, after-record-step .record-step .kept .1 .1 .0 ∙ at-loop .loop .inv .3, after-record-step .record-step .kept .1 .1 .1 .0 ∙ at-loop .loop .inv .4, after-record-step .record-step .kept .1 .1 .1 .1 .0 ∙ at-loop .loop .inv .5, after-record-step .record-step .kept .1 .1 .1 .1 .1 .0 ∙ at-loop .loop .inv .6, after-record-step .record-step .kept .1 .1 .1 .1 .1 .1 .0 ∙ at-loop .loop .inv .7, after-record-step .record-step .kept .1 .1 .1 .1 .1 .1 .1 .0 ∙ at-loop .loop .inv .8, after-record-step .record-step .kept .1 .1 .1 .1 .1 .1 .1 .1 .0 ∙ at-loop .loop .inv .9)
-
-same-length-19 : tie.Need-same-length-19 Inv-loop μ-loop
-same-length-19 c =
-    c .before .loop .inv .1
-
-same-length-20 : tie.Need-same-length-20 Inv-loop μ-loop
-same-length-20 c =
-    c .before .loop .inv .2
+    (going-next _ _ _ _ _ _ _ _ _ (at-loop .loop .inv .0) _ (after-record-from .record-from .ensures) _ (after-record-length .record-length .ensures) (lent after-record-step) _ (after-record-step .record-step .ensures .0) _ (c .before .s .given .1) _ _ (after-record-step .record-step .kept .0) (after-record-step .record-step .ensures .1) (after-record-step .record-step .kept .1 .1 .1 .1 .1 .0), after-record-step .record-step .kept .0 ∙ at-loop .loop .inv .1, after-record-step .record-step .kept .1 .0 ∙ at-loop .loop .inv .2, after-record-step .record-step .kept .1 .1 .0 ∙ at-loop .loop .inv .3, after-record-step .record-step .kept .1 .1 .1 .0 ∙ at-loop .loop .inv .4, after-record-step .record-step .kept .1 .1 .1 .1 .0 ∙ at-loop .loop .inv .5, after-record-step .record-step .kept .1 .1 .1 .1 .1 .0 ∙ at-loop .loop .inv .6, after-record-step .record-step .kept .1 .1 .1 .1 .1 .1 .0 ∙ at-loop .loop .inv .7, after-record-step .record-step .kept .1 .1 .1 .1 .1 .1 .1 .0 ∙ at-loop .loop .inv .8, after-record-step .record-step .kept .1 .1 .1 .1 .1 .1 .1 .1 .0 ∙ at-loop .loop .inv .9, after-record-step .record-step .kept .1 .1 .1 .1 .1 .1 .1 .1 .1 .0 ∙ at-loop .loop .inv .10)
 
 same-length-21 : tie.Need-same-length-21 Inv-loop μ-loop
 same-length-21 c =
-    c .before .loop .inv .3
+    c .before .loop .inv .1
 
 same-length-22 : tie.Need-same-length-22 Inv-loop μ-loop
 same-length-22 c =
-    c .before .loop .inv .4
+    c .before .loop .inv .2
 
 same-length-23 : tie.Need-same-length-23 Inv-loop μ-loop
 same-length-23 c =
-    c .before .loop .inv .5
+    c .before .loop .inv .3
 
 same-length-24 : tie.Need-same-length-24 Inv-loop μ-loop
 same-length-24 c =
-    c .before .loop .inv .6
+    c .before .loop .inv .4
 
 same-length-25 : tie.Need-same-length-25 Inv-loop μ-loop
 same-length-25 c =
-    c .before .loop .inv .7
+    c .before .loop .inv .5
 
 same-length-26 : tie.Need-same-length-26 Inv-loop μ-loop
 same-length-26 c =
-    c .before .loop .inv .8
+    c .before .loop .inv .6
 
 same-length-27 : tie.Need-same-length-27 Inv-loop μ-loop
 same-length-27 c =
+    c .before .loop .inv .7
+
+same-length-28 : tie.Need-same-length-28 Inv-loop μ-loop
+same-length-28 c =
+    c .before .loop .inv .8
+
+same-length-29 : tie.Need-same-length-29 Inv-loop μ-loop
+same-length-29 c =
     c .before .loop .inv .9
+
+same-length-30 : tie.Need-same-length-30 Inv-loop μ-loop
+same-length-30 c =
+    c .before .loop .inv .10
 
 returns-3 : tie.Need-returns-3 Inv-loop μ-loop
 returns-3 c =
@@ -332,7 +348,7 @@ read-records-spec =
     add-next
     record-step-requires
     enum-known-number
-    add-t43
+    add-t46
     same-length
     same-length-2
     same-length-3
@@ -342,9 +358,9 @@ read-records-spec =
     same-length-7
     same-length-8
     same-length-9
+    same-length-10
     returns
     enum-known-number-2
-    same-length-10
     same-length-11
     same-length-12
     same-length-13
@@ -353,12 +369,12 @@ read-records-spec =
     same-length-16
     same-length-17
     same-length-18
+    same-length-19
+    same-length-20
     returns-2
     enum-known-s
     loop-less
     loop-again
-    same-length-19
-    same-length-20
     same-length-21
     same-length-22
     same-length-23
@@ -366,4 +382,7 @@ read-records-spec =
     same-length-25
     same-length-26
     same-length-27
+    same-length-28
+    same-length-29
+    same-length-30
     returns-3)

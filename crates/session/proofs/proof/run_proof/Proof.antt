@@ -11,27 +11,27 @@ use Rattle.session.proofs.proof.run_proof.Statement.{statement}
 use Rattle.session.proofs.proof.run_proof.Tie as tie
 
 -- The ways back, written by ways.py: TO-from-FROM leads from the place FROM of the code to the place TO before it.
-module _ (c : tie.After-read-records-arg9) where
+module _ (c : tie.After-read-records-arg10) where
   abbrev start-from-read-records-call : tie.Start
   start-from-read-records-call = c .before .before .before .before .before .before .before .before .before .before .before .before .before
-      .before .before .before .before .before .before
+      .before .before .before .before .before .before .before .before
 
 module _ (c : tie.After-read-records) where
   abbrev start-from-read-records : tie.Start
   start-from-read-records = c .before .before .before .before .before .before .before .before .before .before .before .before .before
-      .before .before .before .before .before .before .before
+      .before .before .before .before .before .before .before .before .before
 
 module _ (c : tie.After-drop-to-arg5) where
   abbrev read-records-from-drop-to-call : tie.After-read-records
   read-records-from-drop-to-call = c .before .before .before .before .before .before .before .before .before .before .before .before .before
-      .before .before .before .before .before .before .before .before .before .before .before
+      .before .before .before .before .before .before .before .before .before .before .before .before .before
 
 module _ (c : tie.After-drop-to) where
   abbrev read-records-from-drop-to : tie.After-read-records
   read-records-from-drop-to = c .before .before .before .before .before .before .before .before .before .before .before .before .before
-      .before .before .before .before .before .before .before .before .before .before .before .before
+      .before .before .before .before .before .before .before .before .before .before .before .before .before .before
 
-module _ (c : tie.After-slice-known23) where
+module _ (c : tie.After-slice-known25) where
   abbrev drop-to-from-return : tie.After-drop-to
   drop-to-from-return = c .before .before .before .before .before .before .before .before .before .before
 
@@ -45,7 +45,7 @@ read-records-requires : tie.Need-read-records-requires
 read-records-requires c κs =
     let start = start-from-read-records-call c in
     let a = start .args in
-    (first-held (a .variables) (lentOf (a .vars .now) (a .lows .now) (a .highs .now) (a .heads .now) (a .links .now) (a .members .now) (a .scratch .now)) (a .count) (a .made) (start .pre .0) (start .pre .1) (start .pre .2) (start .pre .3), start .pre .4, start .pre .5)
+    (first-held (a .variables) (lentOf (a .vars .now) (a .lows .now) (a .highs .now) (a .heads .now) (a .links .now) (a .members .now) (a .scratch .now) (a .struck .now)) (a .count) (a .made) (start .pre .0) (start .pre .2) (start .pre .6) (start .pre .1) (start .pre .3), start .pre .4, start .pre .5)
 
 drop-to-requires : tie.Need-drop-to-requires
 drop-to-requires c κs =
@@ -102,6 +102,11 @@ same-length-9 c =
     let after-read-records = read-records-from-return c in
     after-read-records .read-records .kept .1 .1 .1 .1 .1 .1 .1 .1 .0
 
+same-length-10 : tie.Need-same-length-10
+same-length-10 c =
+    let after-read-records = read-records-from-return c in
+    after-read-records .read-records .kept .1 .1 .1 .1 .1 .1 .1 .1 .1 .0
+
 returns : tie.Need-returns
 returns c =
     let start = start-from-return c in
@@ -109,12 +114,12 @@ returns c =
     let after-drop-to = drop-to-from-return c in
     let a = start .args in
     let x = after-read-records .read-records .last in
-    let l : Lent = lentOf (x .0) (x .1 .0) (x .1 .1 .0) (x .1 .1 .1 .0) (x .1 .1 .1 .1 .0) (x .1 .1 .1 .1 .1 .1 .1 .0) (x .1 .1 .1 .1 .1 .1 .1 .1 .0) in
+    let l : Lent = lentOf (x .0) (x .1 .0) (x .1 .1 .0) (x .1 .1 .1 .0) (x .1 .1 .1 .1 .0) (x .1 .1 .1 .1 .1 .1 .1 .0) (x .1 .1 .1 .1 .1 .1 .1 .1 .0) (x .1 .1 .1 .1 .1 .1 .1 .1 .1 .0) in
     let st : State = after-read-records .read-records .result .state in
     let d = after-drop-to .drop-to .last in
     judged-is l st (after-read-records .read-records .ensures .1) (tableOf (d .0) (d .1 .0) (d .1 .1 .0) (d .1 .1 .1 .0) (d .1 .1 .1 .1 .0) (st .kept)) refl (after-drop-to .drop-to .ensures) _ _ (after-read-records .read-records .kept .0) (after-read-records .read-records .kept .1 .1 .1 .1 .1 .1 .1 .0) _ _ _ _ _
     (ap (λ (first : check.State). check.records (suc (length (a .proof .now))) (a .variables) (length (a .vars .now)) (a .proof .now) first 0)
-    (sym (first-is (a .variables) (lentOf (a .vars .now) (a .lows .now) (a .highs .now) (a .heads .now) (a .links .now) (a .members .now) (a .scratch .now)) (a .count) (a .made) (start .pre .0))) ∙ after-read-records .read-records .ensures .0)
+    (sym (first-is (a .variables) (lentOf (a .vars .now) (a .lows .now) (a .highs .now) (a .heads .now) (a .links .now) (a .members .now) (a .scratch .now) (a .struck .now)) (a .count) (a .made) (start .pre .0) (start .pre .2) (start .pre .6))) ∙ after-read-records .read-records .ensures .0)
 
 pub run-proof-spec : {M : Type 1} → statement M
-run-proof-spec = tie.close (tie.spec read-records-requires drop-to-requires same-length same-length-2 same-length-3 same-length-4 same-length-5 same-length-6 same-length-7 same-length-8 same-length-9 returns)
+run-proof-spec = tie.close (tie.spec read-records-requires drop-to-requires same-length same-length-2 same-length-3 same-length-4 same-length-5 same-length-6 same-length-7 same-length-8 same-length-9 same-length-10 returns)

@@ -5,12 +5,13 @@ use native.Mathlib.Omega.{arith}
 use lib.ListN.{length, take, replicate, length-replicate}
 use lib.Seq.{length-take-le, length-front}
 use borrow.Author.Needs.{needs}
-use Rattle.table.specs.Indexed.{Table, tableOf}
+use Rattle.meaning.specs.Rules.{Line}
+use Rattle.table.specs.Nodes.{diagramAt}
+use Rattle.table.specs.Indexed.{Table, tableOf, nodesOf}
+use Rattle.table.specs.Lists.{diagramsOf}
 use Rattle.records.specs.declared.Rule.{Rule}
-use Rattle.verdict.specs.Check as check
 use Rattle.judge.specs.Lines.{Says}
-use Rattle.steps.specs.States.{lentOf, stateOf}
-use Rattle.steps.specs.Tests.{lineOf}
+use Rattle.verdict.specs.Run.{lineBy}
 use Rattle.steps.proofs.Lines.{says-most}
 use Rattle.steps.proofs.line.judge_line.Statement.{statement}
 use Rattle.steps.proofs.line.judge_line.Tie as tie
@@ -19,21 +20,26 @@ module _ (s : tie.Start) where
   abbrev before : Table
   before = tableOf (s .args .vars .now) (s .args .lows .now) (s .args .highs .now) (s .args .heads .now) (s .args .links .now) (s .args .st .count)
 
-  abbrev state : check.State
-  state = stateOf (lentOf (s .args .vars .now) (s .args .lows .now) (s .args .highs .now) (s .args .heads .now) (s .args .links .now) (s .args .members .now) (s .args .scratch .now)) (s .args .st)
+  -- how many members there are
+  abbrev m : ℕ
+  m = length (s .args .live .now)
 
-  members-length : length (take (s .args .st .members) (s .args .members .now)) ≡ s .args .st .members
-  members-length = length-take-le (s .args .st .members) (s .args .members .now) (omega (arith, s .pre .2, s .pre .3))
+  abbrev said : Rule → Line
+  said rule = lineBy 64 rule (s .args .st .positive) (s .args .st .negative) (diagramsOf (nodesOf before) (s .args .live .now)) (diagramAt (nodesOf before) (s .args .g .0))
 
-  scratch-length : length (take (s .args .st .members) (s .args .scratch .now)) ≡ s .args .st .members
-  scratch-length = length-take-le (s .args .st .members) (s .args .scratch .now) (omega (arith, s .pre .2, s .pre .4))
+  scratch-length : length (take m (s .args .scratch .now)) ≡ m
+  scratch-length = length-take-le m (s .args .scratch .now) (omega (arith, s .pre .2, s .pre .3))
 
   -- the lists made here
-  own-length : length (take (s .args .st .members) (replicate {A = ℕ} 2048 0)) ≡ s .args .st .members
-  own-length = length-take-le (s .args .st .members) (replicate {A = ℕ} 2048 0) (omega (arith, length-replicate {A = ℕ} 2048 0, s .pre .2))
+  own-length : length (take m (replicate {A = ℕ} 2048 0)) ≡ m
+  own-length = length-take-le m (replicate {A = ℕ} 2048 0) (omega (arith, length-replicate {A = ℕ} 2048 0, s .pre .2))
 
 enum-told : tie.Need-enum-told
 enum-told c =
+    search needs
+
+array-borrow-prefix-memberwords : tie.Need-array-borrow-prefix-memberwords
+array-borrow-prefix-memberwords c =
     search needs
 
 -- The ways back, written by ways.py: TO-from-FROM leads from the place FROM of the code to the place TO before it.
@@ -45,83 +51,69 @@ module _ (c : tie.After-enum-told2) where
   abbrev start-from-enum-told2 : tie.Start
   start-from-enum-told2 = c .before .before .before .before .before .before .before .before .before .before .before
 
-module _ (c : tie.After-pr-arg8) where
-  abbrev enum-told2-from-slice-aggregate-pr : tie.After-enum-told2
-  enum-told2-from-slice-aggregate-pr = c .before .before .before .before .before .before .before .before
-
-  abbrev start-from-slice-aggregate-pr : tie.Start
-  start-from-slice-aggregate-pr = start-from-enum-told2 enum-told2-from-slice-aggregate-pr
-
-module _ (c : tie.After-rup-arg8) where
+module _ (c : tie.After-memberwords) where
   abbrev enum-told-from-slice-aggregate-rup : tie.After-enum-told
   enum-told-from-slice-aggregate-rup = c .before .before .before .before .before .before .before .before
 
   abbrev start-from-slice-aggregate-rup : tie.Start
   start-from-slice-aggregate-rup = start-from-enum-told enum-told-from-slice-aggregate-rup
 
-module _ (c : tie.After-memberwords) where
-  abbrev enum-told-from-slice-aggregate-rup-2 : tie.After-enum-told
-  enum-told-from-slice-aggregate-rup-2 = c .before .before .before .before .before .before .before .before .before
-
-  abbrev start-from-slice-aggregate-rup-2 : tie.Start
-  start-from-slice-aggregate-rup-2 = start-from-enum-told enum-told-from-slice-aggregate-rup-2
-
 module _ (c : tie.After-memberwords3) where
+  abbrev enum-told2-from-slice-aggregate-pr : tie.After-enum-told2
+  enum-told2-from-slice-aggregate-pr = c .before .before .before .before .before .before .before .before
+
+  abbrev start-from-slice-aggregate-pr : tie.Start
+  start-from-slice-aggregate-pr = start-from-enum-told2 enum-told2-from-slice-aggregate-pr
+
+module _ (c : tie.After-pr-arg8) where
   abbrev enum-told2-from-slice-aggregate-pr-2 : tie.After-enum-told2
   enum-told2-from-slice-aggregate-pr-2 = c .before .before .before .before .before .before .before .before .before
 
   abbrev start-from-slice-aggregate-pr-2 : tie.Start
   start-from-slice-aggregate-pr-2 = start-from-enum-told2 enum-told2-from-slice-aggregate-pr-2
 
-module _ (c : tie.After-pr-arg9) where
+module _ (c : tie.After-rup-arg8) where
+  abbrev enum-told-from-slice-aggregate-rup-2 : tie.After-enum-told
+  enum-told-from-slice-aggregate-rup-2 = c .before .before .before .before .before .before .before .before .before
+
+  abbrev start-from-slice-aggregate-rup-2 : tie.Start
+  start-from-slice-aggregate-rup-2 = start-from-enum-told enum-told-from-slice-aggregate-rup-2
+
+module _ (c : tie.After-words) where
+  abbrev enum-told-from-rup-call : tie.After-enum-told
+  enum-told-from-rup-call = c .before .before .before .before .before .before .before .before .before .before
+
+  abbrev start-from-rup-call : tie.Start
+  start-from-rup-call = start-from-enum-told enum-told-from-rup-call
+
+module _ (c : tie.After-words3) where
   abbrev enum-told2-from-slice-aggregate-pr-3 : tie.After-enum-told2
   enum-told2-from-slice-aggregate-pr-3 = c .before .before .before .before .before .before .before .before .before .before
 
   abbrev start-from-slice-aggregate-pr-3 : tie.Start
   start-from-slice-aggregate-pr-3 = start-from-enum-told2 enum-told2-from-slice-aggregate-pr-3
 
-module _ (c : tie.After-rup-arg9) where
-  abbrev enum-told-from-slice-aggregate-rup-3 : tie.After-enum-told
-  enum-told-from-slice-aggregate-rup-3 = c .before .before .before .before .before .before .before .before .before .before
+module _ (c : tie.After-rup) where
+  abbrev enum-told-from-rup : tie.After-enum-told
+  enum-told-from-rup = c .before .before .before .before .before .before .before .before .before .before .before
 
-  abbrev start-from-slice-aggregate-rup-3 : tie.Start
-  start-from-slice-aggregate-rup-3 = start-from-enum-told enum-told-from-slice-aggregate-rup-3
-
-module _ (c : tie.After-words) where
-  abbrev enum-told-from-rup-call : tie.After-enum-told
-  enum-told-from-rup-call = c .before .before .before .before .before .before .before .before .before .before .before
-
-  abbrev start-from-rup-call : tie.Start
-  start-from-rup-call = start-from-enum-told enum-told-from-rup-call
-
-module _ (c : tie.After-words3) where
+module _ (c : tie.After-second) where
   abbrev enum-told2-from-slice-aggregate-pr-4 : tie.After-enum-told2
   enum-told2-from-slice-aggregate-pr-4 = c .before .before .before .before .before .before .before .before .before .before .before
 
   abbrev start-from-slice-aggregate-pr-4 : tie.Start
   start-from-slice-aggregate-pr-4 = start-from-enum-told2 enum-told2-from-slice-aggregate-pr-4
 
-module _ (c : tie.After-rup) where
-  abbrev enum-told-from-rup : tie.After-enum-told
-  enum-told-from-rup = c .before .before .before .before .before .before .before .before .before .before .before .before
-
-module _ (c : tie.After-second) where
-  abbrev enum-told2-from-slice-aggregate-pr-5 : tie.After-enum-told2
-  enum-told2-from-slice-aggregate-pr-5 = c .before .before .before .before .before .before .before .before .before .before .before .before
-
-  abbrev start-from-slice-aggregate-pr-5 : tie.Start
-  start-from-slice-aggregate-pr-5 = start-from-enum-told2 enum-told2-from-slice-aggregate-pr-5
-
 module _ (c : tie.After-secondwords) where
   abbrev enum-told2-from-pr-call : tie.After-enum-told2
-  enum-told2-from-pr-call = c .before .before .before .before .before .before .before .before .before .before .before .before .before
+  enum-told2-from-pr-call = c .before .before .before .before .before .before .before .before .before .before .before .before
 
   abbrev start-from-pr-call : tie.Start
   start-from-pr-call = start-from-enum-told2 enum-told2-from-pr-call
 
 module _ (c : tie.After-pr) where
   abbrev enum-told2-from-pr : tie.After-enum-told2
-  enum-told2-from-pr = c .before .before .before .before .before .before .before .before .before .before .before .before .before .before
+  enum-told2-from-pr = c .before .before .before .before .before .before .before .before .before .before .before .before .before
 
 module _ (c : tie.After-words2) where
   abbrev rup-from-return : tie.After-rup
@@ -147,87 +139,75 @@ module _ (c : tie.After-secondwords2) where
 
 slice-aggregate-rup : tie.Need-slice-aggregate-rup
 slice-aggregate-rup c =
-    sym (members-length (start-from-slice-aggregate-rup c))
-
-array-borrow-prefix-memberwords : tie.Need-array-borrow-prefix-memberwords
-array-borrow-prefix-memberwords c =
-    search needs
-
-slice-aggregate-rup-2 : tie.Need-slice-aggregate-rup-2
-slice-aggregate-rup-2 c =
-    sym (own-length (start-from-slice-aggregate-rup-2 c))
+    sym (own-length (start-from-slice-aggregate-rup c))
 
 slice-relend-prefix-rup : tie.Need-slice-relend-prefix-rup
 slice-relend-prefix-rup c =
     search needs
 
-slice-aggregate-rup-3 : tie.Need-slice-aggregate-rup-3
-slice-aggregate-rup-3 c =
-    sym (scratch-length (start-from-slice-aggregate-rup-3 c))
+slice-aggregate-rup-2 : tie.Need-slice-aggregate-rup-2
+slice-aggregate-rup-2 c =
+    sym (scratch-length (start-from-slice-aggregate-rup-2 c))
 
 array-borrow-prefix-words : tie.Need-array-borrow-prefix-words
 array-borrow-prefix-words c =
     search needs
 
-slice-aggregate-rup-4 : tie.Need-slice-aggregate-rup-4
-slice-aggregate-rup-4 c =
+slice-aggregate-rup-3 : tie.Need-slice-aggregate-rup-3
+slice-aggregate-rup-3 c =
     sym (own-length (start-from-rup-call c))
 
 rup-requires : tie.Need-rup-requires
 rup-requires c κs =
-    let s = start-from-rup-call c in ((s .pre .0, s .pre .1, scratch-length s ∙ sym (members-length s)), (own-length s ∙ sym (members-length s), own-length s ∙ sym (members-length s)))
+    let s = start-from-rup-call c in ((s .pre .0, s .pre .1, scratch-length s), (own-length s, own-length s))
 
 enum-told-2 : tie.Need-enum-told-2
 enum-told-2 c =
     search needs
 
-slice-aggregate-pr : tie.Need-slice-aggregate-pr
-slice-aggregate-pr c =
-    sym (members-length (start-from-slice-aggregate-pr c))
-
 array-borrow-prefix-memberwords-2 : tie.Need-array-borrow-prefix-memberwords-2
 array-borrow-prefix-memberwords-2 c =
     search needs
 
-slice-aggregate-pr-2 : tie.Need-slice-aggregate-pr-2
-slice-aggregate-pr-2 c =
-    sym (own-length (start-from-slice-aggregate-pr-2 c))
+slice-aggregate-pr : tie.Need-slice-aggregate-pr
+slice-aggregate-pr c =
+    sym (own-length (start-from-slice-aggregate-pr c))
 
 slice-relend-prefix-pr : tie.Need-slice-relend-prefix-pr
 slice-relend-prefix-pr c =
     search needs
 
-slice-aggregate-pr-3 : tie.Need-slice-aggregate-pr-3
-slice-aggregate-pr-3 c =
-    sym (scratch-length (start-from-slice-aggregate-pr-3 c))
+slice-aggregate-pr-2 : tie.Need-slice-aggregate-pr-2
+slice-aggregate-pr-2 c =
+    sym (scratch-length (start-from-slice-aggregate-pr-2 c))
 
 array-borrow-prefix-words-2 : tie.Need-array-borrow-prefix-words-2
 array-borrow-prefix-words-2 c =
+    search needs
+
+slice-aggregate-pr-3 : tie.Need-slice-aggregate-pr-3
+slice-aggregate-pr-3 c =
+    sym (own-length (start-from-slice-aggregate-pr-3 c))
+
+array-borrow-prefix-second : tie.Need-array-borrow-prefix-second
+array-borrow-prefix-second c =
     search needs
 
 slice-aggregate-pr-4 : tie.Need-slice-aggregate-pr-4
 slice-aggregate-pr-4 c =
     sym (own-length (start-from-slice-aggregate-pr-4 c))
 
-array-borrow-prefix-second : tie.Need-array-borrow-prefix-second
-array-borrow-prefix-second c =
-    search needs
-
-slice-aggregate-pr-5 : tie.Need-slice-aggregate-pr-5
-slice-aggregate-pr-5 c =
-    sym (own-length (start-from-slice-aggregate-pr-5 c))
-
 array-borrow-prefix-secondwords : tie.Need-array-borrow-prefix-secondwords
 array-borrow-prefix-secondwords c =
     search needs
 
-slice-aggregate-pr-6 : tie.Need-slice-aggregate-pr-6
-slice-aggregate-pr-6 c =
+slice-aggregate-pr-5 : tie.Need-slice-aggregate-pr-5
+slice-aggregate-pr-5 c =
     sym (own-length (start-from-pr-call c))
 
 pr-requires : tie.Need-pr-requires
 pr-requires c κs =
-    let s = start-from-pr-call c in ((s .pre .0, s .pre .1, scratch-length s ∙ sym (members-length s), own-length s ∙ sym (members-length s), omega (arith, members-length s, s .pre .2)), (own-length s ∙ sym (members-length s), own-length s ∙ sym (members-length s), own-length s ∙ sym (members-length s)))
+    let s = start-from-pr-call c in ((s .pre .0, s .pre .1, scratch-length s, own-length s, omega (arith, s .pre .2)), (own-length s, own-length s, own-length s))
 
 same-length : tie.Need-same-length
 same-length c =
@@ -259,13 +239,13 @@ same-length-7 c =
 
 same-length-8 : tie.Need-same-length-8
 same-length-8 c =
-    length-front (start-from-return c .args .scratch .now) (rup-from-return c .rup .last .1 .1 .1 .1 .1 .1 .1 .1 .1 .0) (start-from-return c .args .st .members) (rup-from-return c .rup .kept .1 .1 .1 .1 .1 .1 .1 .1 .1 .0)
+    length-front (start-from-return c .args .scratch .now) (rup-from-return c .rup .last .1 .1 .1 .1 .1 .1 .1 .1 .1 .0) (m (start-from-return c)) (rup-from-return c .rup .kept .1 .1 .1 .1 .1 .1 .1 .1 .1 .0)
 
 returns : tie.Need-returns
 returns c =
     let s = start-from-return c in
     let r = rup-from-return c .rup in (
-      subst (λ (x : Rule). Says (before s) (lineOf 64 (state s) x (s .args .g .0)) 131072 (r .result) (tableOf (r .last .0) (r .last .1 .0) (r .last .1 .1 .0) (r .last .1 .1 .1 .0) (r .last .1 .1 .1 .1 .0) (r .result .count))) (sym (enum-told-from-return c .enum-told .given .1))
+      subst (λ (x : Rule). Says (before s) (said s x) 131072 (r .result) (tableOf (r .last .0) (r .last .1 .0) (r .last .1 .1 .0) (r .last .1 .1 .1 .0) (r .last .1 .1 .1 .1 .0) (r .result .count))) (sym (enum-told-from-return c .enum-told .given .1))
           (says-most (before s) _ _ 131072 (r .result) _ (omega arith) (r .ensures .0)),
       r .ensures .1,
     )
@@ -300,14 +280,14 @@ same-length-15 c =
 
 same-length-16 : tie.Need-same-length-16
 same-length-16 c =
-    length-front (start-from-return-2 c .args .scratch .now) (pr-from-return-2 c .pr .last .1 .1 .1 .1 .1 .1 .1 .1 .1 .0) (start-from-return-2 c .args .st .members) (pr-from-return-2 c .pr .kept .1 .1 .1 .1 .1 .1 .1 .1 .1 .0)
+    length-front (start-from-return-2 c .args .scratch .now) (pr-from-return-2 c .pr .last .1 .1 .1 .1 .1 .1 .1 .1 .1 .0) (m (start-from-return-2 c)) (pr-from-return-2 c .pr .kept .1 .1 .1 .1 .1 .1 .1 .1 .1 .0)
 
 returns-2 : tie.Need-returns-2
 returns-2 c =
     let s = start-from-return-2 c in
     let r = pr-from-return-2 c .pr in (
-      subst (λ (x : Rule). Says (before s) (lineOf 64 (state s) x (s .args .g .0)) 131072 (r .result) (tableOf (r .last .0) (r .last .1 .0) (r .last .1 .1 .0) (r .last .1 .1 .1 .0) (r .last .1 .1 .1 .1 .0) (r .result .count))) (sym (enum-told2-from-return-2 c .enum-told2 .given .1))
-          (says-most (before s) _ _ 131072 (r .result) _ (omega (arith, members-length s, s .pre .2)) (r .ensures .0)),
+      subst (λ (x : Rule). Says (before s) (said s x) 131072 (r .result) (tableOf (r .last .0) (r .last .1 .0) (r .last .1 .1 .0) (r .last .1 .1 .1 .0) (r .last .1 .1 .1 .1 .0) (r .result .count))) (sym (enum-told2-from-return-2 c .enum-told2 .given .1))
+          (says-most (before s) _ _ 131072 (r .result) _ (omega (arith, s .pre .2)) (r .ensures .0)),
       r .ensures .1,
     )
 
@@ -316,26 +296,24 @@ judge-line-spec =
     tie.close
     (tie.spec
     enum-told
-    slice-aggregate-rup
     array-borrow-prefix-memberwords
-    slice-aggregate-rup-2
+    slice-aggregate-rup
     slice-relend-prefix-rup
-    slice-aggregate-rup-3
+    slice-aggregate-rup-2
     array-borrow-prefix-words
-    slice-aggregate-rup-4
+    slice-aggregate-rup-3
     rup-requires
     enum-told-2
-    slice-aggregate-pr
     array-borrow-prefix-memberwords-2
-    slice-aggregate-pr-2
+    slice-aggregate-pr
     slice-relend-prefix-pr
-    slice-aggregate-pr-3
+    slice-aggregate-pr-2
     array-borrow-prefix-words-2
-    slice-aggregate-pr-4
+    slice-aggregate-pr-3
     array-borrow-prefix-second
-    slice-aggregate-pr-5
+    slice-aggregate-pr-4
     array-borrow-prefix-secondwords
-    slice-aggregate-pr-6
+    slice-aggregate-pr-5
     pr-requires
     same-length
     same-length-2

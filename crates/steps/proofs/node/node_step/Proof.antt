@@ -18,9 +18,9 @@ use Rattle.steps.proofs.Nodes.{few-there, node-refused, node-full, node
 use Rattle.steps.proofs.node.node_step.Statement.{statement}
 use Rattle.steps.proofs.node.node_step.Tie as tie
 
-module _ (s : tie.Start) (ms : List ℕ) where
+module _ (s : tie.Start) (ms ss : List ℕ) where
   abbrev lent : Lent
-  lent = lentOf (s .args .vars .now) (s .args .lows .now) (s .args .highs .now) (s .args .heads .now) (s .args .links .now) ms (s .args .scratch .now)
+  lent = lentOf (s .args .vars .now) (s .args .lows .now) (s .args .highs .now) (s .args .heads .now) (s .args .links .now) ms (s .args .scratch .now) ss
 
   abbrev state : check.State
   state = stateOf lent (s .args .st)
@@ -109,34 +109,34 @@ module _ (c : tie.After-with-entry) where
   start-from-return-3 = start-from-low low-from-return-3
 
 -- the record is not refused
-module _ (c : tie.After-low) (ms : List ℕ) where
+module _ (c : tie.After-low) (ms ss : List ℕ) where
   abbrev start : tie.Start
   start = start-from-low c
 
-  tested : NodeTested (start .args .variables) (state start ms) (start .args .b) (Fits (c .low .given .0 .0) (c .low .given .0 .1 .0))
+  tested : NodeTested (start .args .variables) (state start ms ss) (start .args .b) (Fits (c .low .given .0 .0) (c .low .given .0 .1 .0))
   tested =
-      subst (NodeTested (start .args .variables) (state start ms) (start .args .b)) (c .low .given .1)
-      (node-test-from-low c .node-test .ensures (start .args .heads .now) (start .args .links .now) ms)
+      subst (NodeTested (start .args .variables) (state start ms ss) (start .args .b)) (c .low .given .1)
+      (node-test-from-low c .node-test .ensures (start .args .heads .now) (start .args .links .now) ms ss)
 
   few : start .args .st .entries < 4096
-  few = few-there (lent start ms) (start .args .st) (room start ms) (node-fits (start .args .variables) (state start ms) (start .args .b) (tested .0) .few)
+  few = few-there (lent start ms ss) (start .args .st) (room start ms ss) (node-fits (start .args .variables) (state start ms ss) (start .args .b) (tested .0) .few)
 
 -- what placing the node leaves
-module _ (c : tie.After-put) (ms : List ℕ) where
+module _ (c : tie.After-put) (ms ss : List ℕ) where
   abbrev begun : tie.Start
   begun = start-from-put c
 
   abbrev outcome : Outcome
   outcome = outcomeOf (c .put .last .0) (c .put .last .1 .0) (c .put .last .1 .1 .0) (c .put .last .1 .1 .1 .0) (c .put .last .1 .1 .1 .1 .0) (c .put .result)
 
-  made : outcome ≡ written (size (before begun ms)) (put (size (before begun ms)) (nodesOf (before begun ms)) (begun .args .b .variable) (entryNode (state begun ms) (begun .args .b .low .0)) (entryNode (state begun ms) (begun .args .b .high .0)))
+  made : outcome ≡ written (size (before begun ms ss)) (put (size (before begun ms ss)) (nodesOf (before begun ms ss)) (begun .args .b .variable) (entryNode (state begun ms ss) (begun .args .b .low .0)) (entryNode (state begun ms ss) (begun .args .b .high .0)))
   made =
       c .put .ensures
-      ∙ ap₂ (λ (l h : ℕ). written (size (before begun ms)) (put (size (before begun ms)) (nodesOf (before begun ms)) (begun .args .b .variable) l h))
-      (tested (low-from-put c) ms .1) (tested (low-from-put c) ms .2)
+      ∙ ap₂ (λ (l h : ℕ). written (size (before begun ms ss)) (put (size (before begun ms ss)) (nodesOf (before begun ms ss)) (begun .args .b .variable) l h))
+      (tested (low-from-put c) ms ss .1) (tested (low-from-put c) ms ss .2)
 
 node-test-requires : tie.Need-node-test-requires
-node-test-requires c κs = let s = start-from-node-test-call c in (good-readable (before s []) (s .pre .good), s .pre .inside, s .pre .few, s .pre .room)
+node-test-requires c κs = let s = start-from-node-test-call c in (good-readable (before s [] []) (s .pre .good), s .pre .inside, s .pre .few, s .pre .room)
 
 enum-known-number : tie.Need-enum-known-number
 enum-known-number c = search needs
@@ -170,13 +170,13 @@ greater-requires c κs =
     search needs
 
 returns : tie.Need-returns
-returns c = λ ms H. let s = start-from-then1 c in node-full _ (lent s ms) (s .args .st) (s .args .b) H (tested (low-from-then1 c) ms .0) (outcome (put-from-then1 c) ms) (made (put-from-then1 c) ms) _ (greater-from-then1 c .greater .ensures) (c .if1 .taken)
+returns c = λ ms ss H. let s = start-from-then1 c in node-full _ (lent s ms ss) (s .args .st) (s .args .b) H (tested (low-from-then1 c) ms ss .0) (outcome (put-from-then1 c) ms ss) (made (put-from-then1 c) ms ss) _ (greater-from-then1 c .greater .ensures) (c .if1 .taken)
 
 mul-scratch : tie.Need-mul-scratch
-mul-scratch c = omega (arith, few (low-from-with-entry-call c) [])
+mul-scratch c = omega (arith, few (low-from-with-entry-call c) [] [])
 
 slice-write-scratch : tie.Need-slice-write-scratch
-slice-write-scratch c = omega (arith, few (low-from-with-entry-call c) [], start-from-with-entry-call c .pre .room)
+slice-write-scratch c = omega (arith, few (low-from-with-entry-call c) [] [], start-from-with-entry-call c .pre .room)
 
 with-entry-requires : tie.Need-with-entry-requires
 with-entry-requires c κs = start-from-with-entry-call c .pre .few
@@ -194,10 +194,10 @@ same-length-10 : tie.Need-same-length-10
 same-length-10 c = refl
 
 returns-2 : tie.Need-returns-2
-returns-2 c = λ ms H.
+returns-2 c = λ ms ss H.
     let s = start-from-return-2 c in
-    let told = subst (NodeTested (s .args .variables) (state s ms) (s .args .b)) (number-from-return-2 c .number .given .1) (node-test-from-return-2 c .node-test .ensures (s .args .heads .now) (s .args .links .now) ms) in
-    node-refused _ (lent s ms) (s .args .st) (s .args .b) H _ (told .0) (told .1)
+    let told = subst (NodeTested (s .args .variables) (state s ms ss) (s .args .b)) (number-from-return-2 c .number .given .1) (node-test-from-return-2 c .node-test .ensures (s .args .heads .now) (s .args .links .now) ms ss) in
+    node-refused _ (lent s ms ss) (s .args .st) (s .args .b) H _ (told .0) (told .1)
 
 same-length-11 : tie.Need-same-length-11
 same-length-11 c = put-from-return-3 c .put .kept .0
@@ -218,7 +218,7 @@ same-length-16 : tie.Need-same-length-16
 same-length-16 c = length-set (start-from-return-3 c .args .scratch .now) (start-from-return-3 c .args .st .entries) (put-from-return-3 c .put .result .node .0)
 
 returns-3 : tie.Need-returns-3
-returns-3 c = λ ms H. let s = start-from-return-3 c in node-made _ (lent s ms) (s .args .st) (s .args .b) H (tested (low-from-return-3 c) ms .0) (outcome (put-from-return-3 c) ms) (made (put-from-return-3 c) ms) (c .before .before .if1 .left) (c .with-entry .result) (c .with-entry .ensures ∙ ap (withEntry (s .args .st) (outcome (put-from-return-3 c) ms .table .count)) (greater-from-return-3 c .greater .ensures))
+returns-3 c = λ ms ss H. let s = start-from-return-3 c in node-made _ (lent s ms ss) (s .args .st) (s .args .b) H (tested (low-from-return-3 c) ms ss .0) (outcome (put-from-return-3 c) ms ss) (made (put-from-return-3 c) ms ss) (c .before .before .if1 .left) (c .with-entry .result) (c .with-entry .ensures ∙ ap (withEntry (s .args .st) (outcome (put-from-return-3 c) ms ss .table .count)) (greater-from-return-3 c .greater .ensures))
 
 pub node-step-spec : {M : Type 1} → statement M
 node-step-spec =

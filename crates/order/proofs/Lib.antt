@@ -1,0 +1,11 @@
+pub mod Members
+pub mod Literals
+pub mod Conflicts
+pub mod AnyChoice
+pub mod UnitProp
+pub mod Rules
+pub mod Room
+pub mod Marks
+pub mod Steps
+pub mod Examples
+pub mod Order

@@ -1,0 +1,3 @@
+pub mod Choices
+pub mod Lines
+pub mod Examples
