@@ -108,6 +108,7 @@ pub fn by_negation(
     if not.full {
         return Made {
             full: true,
+            written: 0,
             count: not.count,
         };
     }

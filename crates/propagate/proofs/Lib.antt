@@ -1,3 +1,5 @@
+pub mod Counting
+pub mod Written
 pub mod Touching
 pub mod Replacing
 pub mod Quieting

@@ -32,7 +32,7 @@ use Rattle.walks.specs.Readable.{ListReady}
 use Rattle.table.specs.Lists.{diagramsOf}
 use Rattle.conflict.proofs.Asked.{no-conflict}
 use Rattle.propagate.specs.Made.{results, AllMade}
-use Rattle.propagate.specs.Touching.{touched, AllTouched}
+use Rattle.propagate.specs.Touching.{reworded, Apart, AllTouched}
 use Rattle.propagate.proofs.Touching.{words-apart, stays}
 use Rattle.propagate.proofs.Replacing.{getD-map, result-at}
 
@@ -41,24 +41,34 @@ use Rattle.propagate.proofs.Replacing.{getD-map, result-at}
 -- Of the words, which were words₀, the first i are rewritten.
 pub record Rewording (words₀ words : List ℕ) (touching i : ℕ) : Type 0 where
   pub lengths : length words ≡ length words₀
-  pub done : (k : ℕ) → k < i → getD words k 0 ≡ touched (getD words₀ k 0) touching
+  pub done : (k : ℕ) → k < i → bitAnd (getD words k 0) touching ≡ 0 → Apart (getD words₀ k 0) touching
   pub ahead : (k : ℕ) → i ≤ k → getD words k 0 ≡ getD words₀ k 0
 
 pub rewording-none : (words : List ℕ) (touching : ℕ) → Rewording words words touching 0
 rewording-none words touching = record { lengths = refl; done = λ k p. absurd (omega arith); ahead = λ k p. refl }
 
-pub rewording-next : (words₀ words : List ℕ) (touching i word : ℕ) → Rewording words₀ words touching i → i < length words₀ → word ≡ touched (getD words i 0) touching
-    → Rewording words₀ (set words i word) touching (i + 1)
-rewording-next words₀ words touching i word W p e =
+reworded-apart : (f k word touching : ℕ) → bitAnd (reworded f k word touching) touching ≡ 0 → Apart word touching
+unfolding reworded
+reworded-apart f k word touching e = go (eqb f k) e
+  where
+    go : (b : Bool) → bitAnd (cond b word (bitOr word touching)) touching ≡ 0 → Apart word touching
+    go true z = words-apart word touching z
+    go false z = λ v p. words-apart (bitOr word touching) touching z v (in-left word touching v p)
+
+pub rewording-next : (words₀ words : List ℕ) (touching i f k : ℕ) → Rewording words₀ words touching i → i < length words₀
+    → Rewording words₀ (set words i (reworded f k (getD words i 0) touching)) touching (i + 1)
+rewording-next words₀ words touching i f k W p =
+    let word = reworded f k (getD words i 0) touching in
     record {
       lengths = length-set words i word ∙ W .lengths;
-      done = λ k q. go k q (ℕ-discrete k i);
-      ahead = λ k q. getD-set-other words i k word 0 (λ z. absurd (omega arith)) ∙ W .ahead k (omega arith);
+      done = λ j q. go j q (ℕ-discrete j i);
+      ahead = λ j q. getD-set-other words i j word 0 (λ z. absurd (omega arith)) ∙ W .ahead j (omega arith);
     }
   where
-    go : (k : ℕ) → k < i + 1 → Dec (k ≡ i) → getD (set words i word) k 0 ≡ touched (getD words₀ k 0) touching
-    go k q (yes z) = rw (z, getD-set-same words i word 0 (omega (arith, W .lengths))) (e ∙ ap (λ (x : ℕ). touched x touching) (W .ahead i (omega arith)))
-    go k q (no n) = getD-set-other words i k word 0 n ∙ W .done k (omega arith)
+    go : (j : ℕ) → j < i + 1 → Dec (j ≡ i) → bitAnd (getD (set words i (reworded f k (getD words i 0) touching)) j 0) touching ≡ 0 → Apart (getD words₀ j 0) touching
+    go j q (yes z) = rw (z, getD-set-same words i (reworded f k (getD words i 0) touching) 0 (omega (arith, W .lengths)), sym (W .ahead i (omega arith)))
+        (reworded-apart f k (getD words i 0) touching)
+    go j q (no n) = rw (getD-set-other words i j (reworded f k (getD words i 0) touching) 0 n) (W .done j (omega arith))
 
 pub rewording-all : (words₀ words : List ℕ) (touching i : ℕ) → Rewording words₀ words touching i → length words₀ ≤ i → AllTouched words₀ words touching
 unfolding AllTouched
@@ -88,14 +98,6 @@ quiet-all T list memo words R S i j p q x y ni nj e =
 
 -- ---- after a round
 
-touched-apart : (word touching : ℕ) → bitAnd (touched word touching) touching ≡ 0 → (v : ℕ) → inWord word v ≡ true → inWord touching v ≡ false
-unfolding touched
-touched-apart word touching e = go (eqb (bitAnd word touching) 0) refl e
-  where
-    go : (b : Bool) → eqb (bitAnd word touching) 0 ≡ b → bitAnd (cond b word (bitOr word touching)) touching ≡ 0 → (v : ℕ) → inWord word v ≡ true → inWord touching v ≡ false
-    go true q z = words-apart word touching z
-    go false q z = λ v p. words-apart (bitOr word touching) touching z v (in-left word touching v p)
-
 module _ (T : Table) (list memo words : List ℕ) (R : ListReady T list memo) (len : length words ≡ length list) (S : Supports (nodesOf T) list words) (u : sets.Literals)
     (T′ : Table) (list′ : List ℕ) (A : AllMade T (results (Literals (u .positive) (u .negative)) T list 1) false T′ list′) (len′ : length list′ ≡ length list)
     (words′ : List ℕ) (W : AllTouched words words′ (bitOr (u .positive) (u .negative))) where
@@ -106,7 +108,7 @@ module _ (T : Table) (list memo words : List ℕ) (R : ListReady T list memo) (l
       ∙ ap (λ (ms : List Diagram). getD ms i (leaf false)) (A .are refl)
       ∙ result-at (Literals (u .positive) (u .negative)) 1 T list memo R (omega (arith, R .good .least)) i p
       ∙ stays T (R .good) (getD list i 0) 1 (R .inside i p) (omega (arith, R .good .least)) (getD words i 0) (bitOr (u .positive) (u .negative)) (S i p) (Literals (u .positive) (u .negative)) refl refl
-      (touched-apart (getD words i 0) (bitOr (u .positive) (u .negative)) (ap (λ (x : ℕ). bitAnd x (bitOr (u .positive) (u .negative))) (sym (W i (omega arith))) ∙ e))
+      (W i (omega arith) e)
 
   pub quiet-next : conflicts 64 (diagramsOf (nodesOf T) list) ≡ false → Quiet (nodesOf T′) list′ words′ (bitOr (u .positive) (u .negative))
   unfolding Quiet

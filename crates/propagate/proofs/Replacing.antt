@@ -1,7 +1,7 @@
 -- A list's members replaced one by one by an operation's results. The idea: what is to be placed is what is left to be placed, the members
 -- behind are the results, and those ahead are as they were. Assumes nothing.
 use mathlib.Core.Path.{_≡_, refl, sym, ap, ap₂, _∙_, subst}
-use mathlib.Core.Bool.{true, false}
+use mathlib.Core.Bool.{true, false, cond}
 use mathlib.Core.List.{List, [], _∷_, map}
 use Prim.Native.Nat.{ℕ, zero, suc, _+_, _≤_, _<_}
 use native.Mathlib.Omega.{arith}
@@ -9,7 +9,9 @@ use native.Mathlib.Numerals.{add-one}
 use native.Mathlib.Decide.{ℕ-discrete, decLt}
 use lib.ListN.{length, getD, set, drop, length-set, length-map, drop-of-length-le}
 use lib.Seq.{drop-cons, getD-set-same, getD-set-other, ext-getD}
-use Rattle.meaning.specs.Diagram.{Diagram, leaf}
+use lib.Dec.{eqb}
+use lib.Bits.{bitOr}
+use Rattle.meaning.specs.Diagram.{Diagram, leaf, same}
 use Rattle.meaning.proofs.Booleans.{t≢f}
 use Rattle.table.specs.Nodes.{diagramAt}
 use Rattle.table.specs.Indexed.{Table, size, nodesOf, Outcome}
@@ -22,11 +24,12 @@ use Rattle.table.specs.Making.{placedAll}
 use Rattle.supports.specs.Supports.{Support, Supports}
 use Rattle.walks.specs.Readable.{ListReady}
 use Rattle.table.specs.Lists.{diagramsOf, Inside}
-use Rattle.propagate.specs.Made.{results, AllMade}
-use Rattle.propagate.specs.Touching.{Touches, touched}
+use Rattle.propagate.specs.Made.{results, AllMade, differing}
+use Rattle.propagate.specs.Touching.{Touches, reworded}
 use Rattle.table.proofs.PlacedAll.{first-full, first-placed}
 use Rattle.table.proofs.Extended.{longer-extended}
-use Rattle.propagate.proofs.Touching.{result-supported, touches-kept, supports-replaced}
+use Rattle.propagate.proofs.Counting.{Counting, counting-next, counting-all, same-numbers}
+use Rattle.propagate.proofs.Touching.{grows, touches-kept, word-supported, supports-replaced}
 
 pub getD-map : {A B : Type 0} (f : A → B) (l : List A) (k : ℕ) (d : A) (e : B) → k < length l → getD (map f l) k e ≡ f (getD l k d)
 getD-map f [] k d e p = absurd (omega arith)
@@ -125,8 +128,8 @@ module _ (op : Operation) (g : ℕ) (T₀ : Table) (list₀ memo₀ : List ℕ) 
       long-after = longer-trans T₀ T (o .table) (W .long) (longer T made o outcome-grown)
 
       -- it found no room
-      pub stopped : o .full ≡ true → AllMade T₀ (results op T₀ list₀ g) true (o .table) list
-      stopped f =
+      pub stopped : o .full ≡ true → (list′ : List ℕ) → AllMade T₀ (results op T₀ list₀ g) true (o .table) list′
+      stopped f list′ =
           record {
             extended = longer-extended T₀ (o .table) long-after;
             places = left-to-place ∙ first-full (size T) (nodesOf T) _ (drop (suc i) (results op T₀ list₀ g)) o e f;
@@ -160,12 +163,31 @@ module _ (op : Operation) (g : ℕ) (T₀ : Table) (list₀ memo₀ : List ℕ) 
 
       -- and its word with it
       pub supported : o .full ≡ false → (words : List ℕ) (touching : ℕ) → length words ≡ length list → Supports (nodesOf T) list words → Touches op (diagramAt (nodesOf T₀) g) touching
-          → Supports (nodesOf (o .table)) (set list i (o .node)) (set words i (touched (getD words i 0) touching))
+          → Supports (nodesOf (o .table)) (set list i (o .node)) (set words i (reworded (getD list i 0) (o .node) (getD words i 0) touching))
       unfolding Supports
       supported f words touching len old touches =
-          supports-replaced T (o .table) (longer T made o outcome-grown) list words list-inside len old i (o .node) (touched (getD words i 0) touching) p
-          (subst (Support (touched (getD words i 0) touching)) (sym (outcome-grown .is f))
-          (result-supported T (W .long .good) (getD list i 0) g (list-inside i p) (omega (arith, W .long .more)) (getD words i 0) touching (old i p) op allowed (touches-now touching touches)))
+          let inside = list-inside i p in
+          let long = longer T made o outcome-grown in
+          supports-replaced T (o .table) long list words list-inside len old i (o .node) (reworded (getD list i 0) (o .node) (getD words i 0) touching) p
+          (word-supported T (o .table) long (getD list i 0) (o .node) (getD words i 0) touching inside (old i p)
+          (subst (Support (bitOr (getD words i 0) touching)) (sym (outcome-grown .is f))
+          (grows T (W .long .good) (getD list i 0) g inside (omega (arith, W .long .more)) (getD words i 0) touching (old i p) op allowed (touches-now touching touches))))
+
+      -- and it is counted where it changed
+      changed : o .full ≡ false → same (getD (diagramsOf (nodesOf T₀) list₀) i (leaf false)) (getD (results op T₀ list₀ g) i (leaf false)) ≡ eqb (getD list i 0) (o .node)
+      changed f =
+          ap₂ same
+          (getD-map (diagramAt (nodesOf T₀)) list₀ i 0 (leaf false) (omega (arith, W .members))
+          ∙ ap (diagramAt (nodesOf T₀)) (sym (W .ahead i (omega arith)))
+          ∙ sym (long-after .kept (getD list i 0) member-inside))
+          (sym member-result ∙ sym (outcome-grown .is f))
+          ∙ same-numbers (o .table) (long-after .good) (getD list i 0) (o .node) (omega (arith, member-inside, long-after .more)) (outcome-grown .inside)
+
+      pub counted : o .full ≡ false → (written w : ℕ) → Counting (diagramsOf (nodesOf T₀) list₀) (results op T₀ list₀ g) i written
+          → w ≡ cond (eqb (getD list i 0) (o .node)) 0 1 → Counting (diagramsOf (nodesOf T₀) list₀) (results op T₀ list₀ g) (i + 1) (written + w)
+      counted f written w N e =
+          rw e (counting-next (diagramsOf (nodesOf T₀) list₀) (results op T₀ list₀ g) i written N (omega (arith, length-map list₀ (diagramAt (nodesOf T₀)), W .members))
+          (omega (arith, results-length, W .members)) (eqb (getD list i 0) (o .node)) (changed f))
 
   -- ---- all members
 
@@ -179,3 +201,8 @@ module _ (op : Operation) (g : ℕ) (T₀ : Table) (list₀ memo₀ : List ℕ) 
         are = λ _. ext-getD (leaf false) (diagramsOf (nodesOf T) list) (results op T₀ list₀ g) (length-map list (diagramAt (nodesOf T)) ∙ W .members ∙ sym results-length)
             (λ k q. getD-map (diagramAt (nodesOf T)) list k 0 (leaf false) (omega (arith, length-map list (diagramAt (nodesOf T)))) ∙ W .done k (omega (arith, length-map list (diagramAt (nodesOf T)))) .is);
       }
+
+  pub all-counted : (T : Table) (list memo : List ℕ) (i written : ℕ) → Replacing op g T₀ list₀ T list memo i → length list ≤ i
+      → Counting (diagramsOf (nodesOf T₀) list₀) (results op T₀ list₀ g) i written → written ≡ differing (diagramsOf (nodesOf T₀) list₀) (results op T₀ list₀ g)
+  all-counted T list memo i written W h =
+      counting-all (diagramsOf (nodesOf T₀) list₀) (results op T₀ list₀ g) i written (omega (arith, length-map list₀ (diagramAt (nodesOf T₀)), W .members))

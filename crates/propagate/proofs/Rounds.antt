@@ -23,7 +23,7 @@ use Rattle.operate.specs.Operate.{result}
 use Rattle.table.specs.Making.{placedAll}
 use Rattle.table.specs.Lists.{room, diagramsOf, Inside, Extended}
 use Rattle.conflict.specs.Marks.{unmarked}
-use Rattle.propagate.specs.Made.{results, AllMade}
+use Rattle.propagate.specs.Made.{results, unitResults, AllMade, differing}
 use Rattle.propagate.specs.Units.{Taken}
 use Rattle.propagate.specs.Rounds.{Said, roundsLeft}
 use Rattle.table.proofs.PlacedAll.{placed-short, placed-then}
@@ -90,6 +90,19 @@ units-made T list u K =
     (λ f. literals-result (u .positive) (u .negative) f (diagramAt (nodesOf T) 1)
     ∙ literals-cong 64 (inWord (u .positive)) (inWord (u .negative)) (λ v. isUnit 64 (K .member) v true) (λ v. isUnit 64 (K .member) v false) f (λ v. K .holds v true) (λ v. K .holds v false))
     ∙ sym (byUnits-is 64 (K .member) (diagramsOf (nodesOf T) list))
+
+-- What a round writes: as many members as differ from their cofactor by its U.
+pub round-writes : (T : Table) (list : List ℕ) (u : words.Literals) → Taken 64 (diagramsOf (nodesOf T) list) u
+    → (written : ℕ) → written ≡ differing (diagramsOf (nodesOf T) list) (unitResults u T list)
+    → (taken : Diagram) → firstWithUnit 64 (diagramsOf (nodesOf T) list) ≡ some taken
+    → written ≡ differing (diagramsOf (nodesOf T) list) (byUnits 64 taken (diagramsOf (nodesOf T) list))
+round-writes T list u K written e taken is =
+    let ms = diagramsOf (nodesOf T) list in
+    let one : K .member ≡ taken = some-injective (sym (K .is) ∙ is) in
+    e ∙ ap (differing ms) (units-made T list u K) ∙ ap (λ (m : Diagram). differing ms (byUnits 64 m ms)) one
+  where
+    some-injective : {f g : Diagram} → some f ≡ some g → f ≡ g
+    some-injective e = cc
 
 -- ---- the loop
 

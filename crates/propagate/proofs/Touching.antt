@@ -30,10 +30,10 @@ use Rattle.supports.specs.Supports.{Support, Supports}
 use Rattle.supports.proofs.Uses.{literals-uses, literals-apart, cofactor-uses, cofactor-apart}
 use Rattle.supports.proofs.Words.{support-left, support-right}
 use Rattle.table.specs.Lists.{Inside}
-use Rattle.propagate.specs.Touching.{Touches, touched}
+use Rattle.propagate.specs.Touching.{Touches, Apart, reworded}
 
 -- words without a variable in common
-pub words-apart : (a b : ℕ) → bitAnd a b ≡ 0 → (v : ℕ) → inWord a v ≡ true → inWord b v ≡ false
+pub words-apart : (a b : ℕ) → bitAnd a b ≡ 0 → Apart a b
 words-apart a b e v p =
     ap (λ (x : Bool). x && inWord b v) (sym p) ∙ sym (in-and a b v) ∙ ap (λ (w : ℕ). inWord w v) e ∙ in-none v
 
@@ -49,7 +49,7 @@ module _ (t : Table) (G : Good t) where
     E = diagramAt (nodesOf t) g
 
     -- no variable in common: the member stays
-    pub stays : (op : Operation) → Allowed op g → Touches op E touching → ((v : ℕ) → inWord word v ≡ true → inWord touching v ≡ false) → result op F E ≡ F
+    pub stays : (op : Operation) → Allowed op g → Touches op E touching → Apart word touching → result op F E ≡ F
     unfolding result Support
     stays Conjunction allowed touches apart = absurd touches
     stays Negation allowed touches apart = absurd touches
@@ -60,7 +60,7 @@ module _ (t : Table) (G : Good t) where
         (λ v q. or-neither (inWord p v) (inWord n v) (sym (in-or p n v) ∙ ap (λ (w : ℕ). inWord w v) (sym touches) ∙ apart v q)) F (reduced f f-inside) has
 
     -- else the word has the result's variables with the operation's
-    grows : (op : Operation) → Allowed op g → Touches op E touching → Support (bitOr word touching) (result op F E)
+    pub grows : (op : Operation) → Allowed op g → Touches op E touching → Support (bitOr word touching) (result op F E)
     unfolding result Support
     grows Conjunction allowed touches = absurd touches
     grows Negation allowed touches = absurd touches
@@ -69,14 +69,6 @@ module _ (t : Table) (G : Good t) where
         (support-left word touching F has) (support-right word touching E touches)
     grows (Literals p n) allowed touches =
         support-left word touching (cofactorLiterals 64 (inWord p) (inWord n) F) (literals-uses 64 (inWord p) (inWord n) (inWord word) F (reduced f f-inside) has)
-
-    pub result-supported : (op : Operation) → Allowed op g → Touches op E touching → Support (touched word touching) (result op F E)
-    unfolding touched
-    result-supported op allowed touches = go (eqb (bitAnd word touching) 0) refl
-      where
-        go : (b : Bool) → eqb (bitAnd word touching) 0 ≡ b → Support (cond b word (bitOr word touching)) (result op F E)
-        go true e = subst (Support word) (sym (stays op allowed touches (words-apart word touching (eqb-true (bitAnd word touching) 0 e)))) has
-        go false e = grows op allowed touches
 
     pub untouched : (op : Operation) (memo : List ℕ) → Ready op memo t f g → Touches op E touching → bitAnd word touching ≡ 0
         → record { table = t; full = false; node = f } ≡ applied t op f g
@@ -87,6 +79,17 @@ module _ (t : Table) (G : Good t) where
 
 pub touches-kept : (op : Operation) (D E : Diagram) (touching : ℕ) → D ≡ E → Touches op E touching → Touches op D touching
 touches-kept op D E touching e touches = subst (λ (x : Diagram). Touches op x touching) (sym e) touches
+
+-- a member's word once its node f is k
+pub word-supported : (T T′ : Table) → Longer T T′ → (f k word touching : ℕ) → f < T .count → Support word (diagramAt (nodesOf T) f)
+    → Support (bitOr word touching) (diagramAt (nodesOf T′) k) → Support (reworded f k word touching) (diagramAt (nodesOf T′) k)
+unfolding reworded
+word-supported T T′ L f k word touching inside old new = go (eqb f k) refl
+  where
+    go : (b : Bool) → eqb f k ≡ b → Support (cond b word (bitOr word touching)) (diagramAt (nodesOf T′) k)
+    go true e =
+        subst (λ (n : ℕ). Support word (diagramAt (nodesOf T′) n)) (eqb-true f k e) (subst (Support word) (sym (L .kept f inside)) old)
+    go false e = new
 
 -- one member replaced in a table that has grown
 pub supports-replaced : (T T′ : Table) → Longer T T′ → (list words : List ℕ) → Inside (T .count) list → length words ≡ length list → Supports (nodesOf T) list words

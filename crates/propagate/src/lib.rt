@@ -5,8 +5,11 @@ use table::Placed;
 use words::Literals;
 ghost use mathlib.Core.Path.{_≡_};
 ghost use Prim.Native.Nat.{_≤_, _<_};
-ghost use lib.ListN.{length};
-ghost use Rattle.meaning.specs.Rules.{unitProp};
+ghost use mathlib.Core.Option.{some};
+ghost use lib.ListN.{length, getD};
+ghost use lib.Bits.{bitOr};
+ghost use Rattle.meaning.specs.Diagram.{Diagram};
+ghost use Rattle.meaning.specs.Rules.{firstWithUnit, byUnits, unitProp};
 ghost use mathlib.Core.Bool.{false};
 ghost use Rattle.table.specs.Nodes.{diagramAt};
 ghost use Rattle.table.specs.Indexed.{tableOf, nodesOf, outcomeOf};
@@ -16,14 +19,16 @@ ghost use Rattle.supports.specs.Supports.{Support, Supports};
 ghost use Rattle.conflict.specs.Members.{Quiet};
 ghost use Rattle.table.specs.Lists.{diagramsOf, Inside};
 ghost use Rattle.conflict.specs.Marks.{unmarked};
-ghost use Rattle.propagate.specs.Made.{results, AllMade};
-ghost use Rattle.propagate.specs.Touching.{Touches, touched, AllTouched};
-ghost use Rattle.propagate.specs.Units.{AreFirst};
+ghost use Rattle.propagate.specs.Made.{results, unitResults, AllMade, differing};
+ghost use Rattle.propagate.specs.Touching.{Touches, AllTouched, OneMade};
+ghost use Rattle.propagate.specs.Units.{AreFirst, Taken};
 ghost use Rattle.propagate.specs.Rounds.{Comes, Said};
 
-// What making diagrams in their order gives: `full` where one of them found no room, and the count.
+// What making diagrams in their order gives: `full` where one of them found no room; how many members of the list were written, which are
+// those that changed; and the count.
 pub struct Made {
     pub full: bool,
+    pub written: usize,
     pub count: usize,
 }
 
@@ -67,14 +72,79 @@ fn apply_touching(
     operate::apply(vars, lows, highs, heads, links, memo, count, op, f, g)
 }
 
-// A member's word after the operation.
-fn word_after(word: u64, touching: u64) -> u64
-    ensures { λ r. ⌜ r ≡ touched word touching ⌝ }
+// What making one member gives: `full` where it found no room, else its node; how often the list was written, once or not at all; and
+// the count.
+pub struct Replaced {
+    pub full: bool,
+    pub node: NodeNo,
+    pub written: usize,
+    pub count: usize,
+}
+
+// Replaces the node listed at i by the operation's result on it and g. The list and the word there are written only where the node changes.
+fn member_by(
+    vars: &mut [u8],
+    lows: &mut [u16],
+    highs: &mut [u16],
+    heads: &mut [u16],
+    links: &mut [u16],
+    memo: &mut [u64],
+    list: &mut [u16],
+    words: &mut [u64],
+    count: usize,
+    op: Operation,
+    g: NodeNo,
+    touching: u64,
+    i: usize,
+) -> Replaced
+    requires { ⌜ (
+        let before = tableOf (now vars) (now lows) (now highs) (now heads) (now links) count in
+        (i < length (now list))
+        × (i < length (now words))
+        × Ready op (now memo) before (getD (now list) i 0) (g .0)
+        × Support (getD (now words) i 0) (diagramAt (nodesOf before) (getD (now list) i 0))
+        × Touches op (diagramAt (nodesOf before) (g .0)) touching) ⌝ }
+    ensures { λ r. ⌜ (
+        let before = tableOf (now (vars .entry)) (now (lows .entry)) (now (highs .entry)) (now (heads .entry)) (now (links .entry)) count in
+        let after = tableOf (now (vars .exit)) (now (lows .exit)) (now (highs .exit)) (now (heads .exit)) (now (links .exit)) (r .count) in
+        OneMade op before (now (list .entry)) (now (words .entry)) (g .0) touching i r after (now (list .exit)) (now (words .exit))) ⌝ }
+    ensures { λ r. ⌜ (
+        let after = tableOf (now (vars .exit)) (now (lows .exit)) (now (highs .exit)) (now (heads .exit)) (now (links .exit)) (r .count) in
+        MemoRight op (now (memo .exit)) after) ⌝ }
 {
-    if word & touching != 0 {
-        return word | touching;
+    let f = NodeNo(list[i]);
+    let word = words[i];
+    let p = apply_touching(
+        vars,
+        lows,
+        highs,
+        heads,
+        links,
+        memo,
+        count,
+        op,
+        f,
+        g,
+        word,
+        touching,
+    );
+    let k = p.node;
+    if p.full || k.0 == f.0 {
+        return Replaced {
+            full: p.full,
+            node: k,
+            written: 0,
+            count: p.count,
+        };
     }
-    word
+    list[i] = k.0;
+    words[i] = word | touching;
+    Replaced {
+        full: false,
+        node: k,
+        written: 1,
+        count: p.count,
+    }
 }
 
 // Replaces each listed node, in order, by the operation's result on it and g, or stops at `full`. One memo, cleared, serves all. The words
@@ -109,41 +179,45 @@ pub fn all_by(
         let after = tableOf (now (vars .exit)) (now (lows .exit)) (now (highs .exit)) (now (heads .exit)) (now (links .exit)) (r .count) in
         r .full ≡ false → Supports (nodesOf after) (now (list .exit)) (now (words .exit))) ⌝ }
     ensures { λ r. ⌜ (r .full ≡ false → AllTouched (now (words .entry)) (now (words .exit)) touching) ⌝ }
+    ensures { λ r. ⌜ (
+        let before = tableOf (now (vars .entry)) (now (lows .entry)) (now (highs .entry)) (now (heads .entry)) (now (links .entry)) count in
+        r .full ≡ false →
+        r .written ≡ differing (diagramsOf (nodesOf before) (now (list .entry))) (results op before (now (list .entry)) (g .0))) ⌝ }
 {
     operate::memo::clear_memo(memo);
     let mut n = count;
+    let mut written: usize = 0;
     let mut i: usize = 0;
     while i < list.len() {
-        let f = NodeNo(list[i]);
-        let word = words[i];
-        let p = apply_touching(
+        let r = member_by(
             vars,
             lows,
             highs,
             heads,
             links,
             memo,
+            list,
+            words,
             n,
             op,
-            f,
             g,
-            word,
             touching,
+            i,
         );
-        n = p.count;
-        if p.full {
+        n = r.count;
+        written += r.written;
+        if r.full {
             return Made {
                 full: true,
+                written,
                 count: n,
             };
         }
-        let k = p.node;
-        list[i] = k.0;
-        words[i] = word_after(word, touching);
         i += 1;
     }
     Made {
         full: false,
+        written,
         count: n,
     }
 }
@@ -246,6 +320,57 @@ fn next_round(
     }
 }
 
+// A round: each listed node is replaced by its cofactor by the units of the first that has any. Only the members that change are written;
+// tells how many.
+pub fn round(
+    vars: &mut [u8],
+    lows: &mut [u16],
+    highs: &mut [u16],
+    heads: &mut [u16],
+    links: &mut [u16],
+    memo: &mut [u64],
+    list: &mut [u16],
+    words: &mut [u64],
+    count: usize,
+    u: Literals,
+) -> Made
+    requires { ⌜ (
+        let before = tableOf (now vars) (now lows) (now highs) (now heads) (now links) count in
+        ListReady before (now list) (now memo)
+        × (length (now words) ≡ length (now list))
+        × Supports (nodesOf before) (now list) (now words)
+        × Taken 64 (diagramsOf (nodesOf before) (now list)) u) ⌝ }
+    ensures { λ r. ⌜ (
+        let before = tableOf (now (vars .entry)) (now (lows .entry)) (now (highs .entry)) (now (heads .entry)) (now (links .entry)) count in
+        let after = tableOf (now (vars .exit)) (now (lows .exit)) (now (highs .exit)) (now (heads .exit)) (now (links .exit)) (r .count) in
+        AllMade before (unitResults u before (now (list .entry))) (r .full) after (now (list .exit))) ⌝ }
+    ensures { λ r. ⌜ (
+        let after = tableOf (now (vars .exit)) (now (lows .exit)) (now (highs .exit)) (now (heads .exit)) (now (links .exit)) (r .count) in
+        r .full ≡ false → Supports (nodesOf after) (now (list .exit)) (now (words .exit))) ⌝ }
+    ensures { λ r. ⌜ (r .full ≡ false → AllTouched (now (words .entry)) (now (words .exit)) (bitOr (u .positive) (u .negative))) ⌝ }
+    ensures { λ r. ⌜ (
+        let before = tableOf (now (vars .entry)) (now (lows .entry)) (now (highs .entry)) (now (heads .entry)) (now (links .entry)) count in
+        let members = diagramsOf (nodesOf before) (now (list .entry)) in
+        r .full ≡ false → (taken : Diagram) → firstWithUnit 64 members ≡ some taken →
+        r .written ≡ differing members (byUnits 64 taken members)) ⌝ }
+{
+    let op = Operation::Literals(u.positive, u.negative);
+    all_by(
+        vars,
+        lows,
+        highs,
+        heads,
+        links,
+        memo,
+        list,
+        words,
+        count,
+        op,
+        NodeNo(1),
+        u.positive | u.negative,
+    )
+}
+
 // UnitProp of the listed nodes: round by round all are replaced by their cofactors by the units of the first that has any. The words
 // have the listed nodes' variables.
 pub fn unit_prop(
@@ -299,22 +424,8 @@ pub fn unit_prop(
                 };
             }
             Next::By(u) => {
-                let op = Operation::Literals(u.positive, u.negative);
                 touching = u.positive | u.negative;
-                let made = all_by(
-                    vars,
-                    lows,
-                    highs,
-                    heads,
-                    links,
-                    memo,
-                    list,
-                    words,
-                    n,
-                    op,
-                    NodeNo(1),
-                    touching,
-                );
+                let made = round(vars, lows, highs, heads, links, memo, list, words, n, u);
                 n = made.count;
                 if made.full {
                     return Propagated {

@@ -1,106 +1,133 @@
--- The members are replaced one by one: `Replacing` holds at each, and the words have the members' variables. Assumes nothing.
+-- The members are replaced one by one: `Replacing` holds at each, the words have the members' variables, and what was written is what
+-- changed. Assumes nothing.
 use mathlib.Core.Path.{_≡_, refl, sym, _∙_, subst}
-use Prim.Native.Nat.{ℕ, _-_}
+use mathlib.Core.List.{List}
+use Prim.Native.Nat.{ℕ, _+_, _-_, _≤_, _<_}
 use native.Mathlib.Omega.{arith}
-use lib.ListN.{length, set}
+use lib.ListN.{length, getD, set}
 use borrow.Author.Needs.{needs}
 use Rattle.meaning.proofs.Booleans.{t≢f}
-use Rattle.table.specs.Indexed.{tableOf, nodesOf, outcomeOf}
+use Rattle.table.specs.Indexed.{Table, Outcome, tableOf, nodesOf}
+use Rattle.table.specs.Lists.{diagramsOf}
 use Rattle.supports.specs.Supports.{Supports}
+use Rattle.propagate.specs.Made.{results}
+use Rattle.propagate.proofs.Counting.{Counting, counting-none}
 use Rattle.propagate.proofs.Quieting.{Rewording, rewording-none, rewording-next, rewording-all}
-use Rattle.propagate.proofs.Replacing.{Replacing, replacing-none, member-ready, member-supported, touches-now, stopped, replaced, supported, all-replaced}
+use Rattle.propagate.proofs.Replacing.{Replacing, replacing-none, member-ready, member-supported, touches-now}
+use Rattle.propagate.proofs.Replacing.{stopped, replaced, supported, counted, all-replaced, all-counted}
 use Rattle.propagate.proofs.all_by.Statement.{statement}
 use Rattle.propagate.proofs.all_by.Tie as tie
 
 abbrev Inv-loop : tie.InvT-loop
-Inv-loop vars₀ lows₀ highs₀ heads₀ links₀ memo₀ list₀ words₀ count op g touching n₀ i₀ vars lows highs heads links memo list words n i =
+Inv-loop vars₀ lows₀ highs₀ heads₀ links₀ memo₀ list₀ words₀ count op g touching n₀ written₀ i₀ vars lows highs heads links memo list words n written i =
     Replacing op (g .0) (tableOf vars₀ lows₀ highs₀ heads₀ links₀ count) list₀ (tableOf vars lows highs heads links n) list memo i
-    × Supports (nodesOf (tableOf vars lows highs heads links n)) list words × Rewording words₀ words touching i
+    × Supports (nodesOf (tableOf vars lows highs heads links n)) list words
+    × Rewording words₀ words touching i
+    × Counting (diagramsOf (nodesOf (tableOf vars₀ lows₀ highs₀ heads₀ links₀ count)) list₀) (results op (tableOf vars₀ lows₀ highs₀ heads₀ links₀ count) list₀ (g .0)) i written
     × (length vars ≡ length vars₀) × (length lows ≡ length lows₀) × (length highs ≡ length highs₀) × (length heads ≡ length heads₀) × (length links ≡ length links₀)
     × (length memo ≡ length memo₀)
 
 abbrev μ-loop : tie.MeasureT-loop
-μ-loop vars₀ lows₀ highs₀ heads₀ links₀ memo₀ list₀ words₀ count op g touching n₀ i₀ vars lows highs heads links memo list words n i =
+μ-loop vars₀ lows₀ highs₀ heads₀ links₀ memo₀ list₀ words₀ count op g touching n₀ written₀ i₀ vars lows highs heads links memo list words n written i =
     length list₀ - i
+
+abbrev entry : tie.Start Inv-loop μ-loop → Table
+entry s = let a = s .args in tableOf (a .vars .now) (a .lows .now) (a .highs .now) (a .heads .now) (a .links .now) (a .count)
+
+abbrev here : tie.At-loop Inv-loop μ-loop → Table
+here s = let w = s .loop in tableOf (w .vars) (w .lows) (w .highs) (w .heads) (w .links) (w .n)
+
+abbrev made : tie.After-member-by Inv-loop μ-loop → Outcome
+made s =
+    let y = s .member-by in
+    record {
+      table = tableOf (y .last .0) (y .last .1 .0) (y .last .1 .1 .0) (y .last .1 .1 .1 .0) (y .last .1 .1 .1 .1 .0) (y .result .count);
+      full = y .result .full;
+      node = y .result .node .0;
+    }
 
 -- The ways back, written by ways.py: TO-from-FROM leads from the place FROM of the code to the place TO before it.
 module _ (c : tie.After-clear-memo-arg Inv-loop μ-loop) where
   abbrev start-from-clear-memo-call : tie.Start Inv-loop μ-loop
   start-from-clear-memo-call = c .before .before .before .before .before .before .before .before .before
 
+module _ (c : tie.After-clear-memo Inv-loop μ-loop) where
+  abbrev start-from-clear-memo : tie.Start Inv-loop μ-loop
+  start-from-clear-memo = c .before .before .before .before .before .before .before .before .before .before
+
 module _ (c : tie.After-slice-known9 Inv-loop μ-loop) where
+  abbrev clear-memo-from-loop-holds : tie.After-clear-memo Inv-loop μ-loop
+  clear-memo-from-loop-holds = c .before .before
+
   abbrev start-from-loop-holds : tie.Start Inv-loop μ-loop
-  start-from-loop-holds = c .before .before .before .before .before .before .before .before .before .before .before .before
+  start-from-loop-holds = start-from-clear-memo clear-memo-from-loop-holds
 
 module _ (c : tie.At-loop Inv-loop μ-loop) where
-  abbrev start-from-at-loop : tie.Start Inv-loop μ-loop
-  start-from-at-loop = c .before .before .before .before .before .before .before .before .before .before .before .before .before
+  abbrev clear-memo-from-at-loop : tie.After-clear-memo Inv-loop μ-loop
+  clear-memo-from-at-loop = c .before .before .before
 
 module _ (c : tie.After-loop Inv-loop μ-loop) where
+  abbrev at-loop-from-return-2 : tie.At-loop Inv-loop μ-loop
+  at-loop-from-return-2 = c .before
+
   abbrev start-from-return-2 : tie.Start Inv-loop μ-loop
-  start-from-return-2 = start-from-at-loop (c .before)
+  start-from-return-2 = start-from-clear-memo (clear-memo-from-at-loop at-loop-from-return-2)
 
-module _ (c : tie.After-slice-known11 Inv-loop μ-loop) where
-  abbrev at-loop-from-slice-read-word : tie.At-loop Inv-loop μ-loop
-  at-loop-from-slice-read-word = c .before .before .before
+module _ (c : tie.After-member-by-arg8 Inv-loop μ-loop) where
+  abbrev in-loop-from-member-by-call : tie.In-loop Inv-loop μ-loop
+  in-loop-from-member-by-call = c .before .before .before .before .before .before .before .before
 
-  abbrev start-from-slice-read-word : tie.Start Inv-loop μ-loop
-  start-from-slice-read-word = start-from-at-loop at-loop-from-slice-read-word
+  abbrev at-loop-from-member-by-call : tie.At-loop Inv-loop μ-loop
+  at-loop-from-member-by-call = in-loop-from-member-by-call .before
 
-module _ (c : tie.After-apply-touching-arg6 Inv-loop μ-loop) where
-  abbrev slice-known10-from-apply-touching-call : tie.After-slice-known10 Inv-loop μ-loop
-  slice-known10-from-apply-touching-call = c .before .before .before .before .before .before .before
+  abbrev start-from-member-by-call : tie.Start Inv-loop μ-loop
+  start-from-member-by-call = start-from-clear-memo (clear-memo-from-at-loop at-loop-from-member-by-call)
 
-  abbrev in-loop-from-apply-touching-call : tie.In-loop Inv-loop μ-loop
-  in-loop-from-apply-touching-call = slice-known10-from-apply-touching-call .before
+module _ (c : tie.After-member-by Inv-loop μ-loop) where
+  abbrev in-loop-from-member-by : tie.In-loop Inv-loop μ-loop
+  in-loop-from-member-by = c .before .before .before .before .before .before .before .before .before
 
-  abbrev at-loop-from-apply-touching-call : tie.At-loop Inv-loop μ-loop
-  at-loop-from-apply-touching-call = in-loop-from-apply-touching-call .before
+module _ (c : tie.After-struct-known Inv-loop μ-loop) where
+  abbrev member-by-from-add-written : tie.After-member-by Inv-loop μ-loop
+  member-by-from-add-written = c .before .before .before .before .before .before .before .before .before .before .before .before .before
+      .before .before .before .before
 
-  abbrev start-from-apply-touching-call : tie.Start Inv-loop μ-loop
-  start-from-apply-touching-call = start-from-at-loop at-loop-from-apply-touching-call
+  abbrev in-loop-from-add-written : tie.In-loop Inv-loop μ-loop
+  in-loop-from-add-written = in-loop-from-member-by member-by-from-add-written
 
-module _ (c : tie.After-apply-touching Inv-loop μ-loop) where
-  abbrev slice-known10-from-apply-touching : tie.After-slice-known10 Inv-loop μ-loop
-  slice-known10-from-apply-touching = c .before .before .before .before .before .before .before .before
+  abbrev at-loop-from-add-written : tie.At-loop Inv-loop μ-loop
+  at-loop-from-add-written = in-loop-from-add-written .before
+
+  abbrev start-from-add-written : tie.Start Inv-loop μ-loop
+  start-from-add-written = start-from-clear-memo (clear-memo-from-at-loop at-loop-from-add-written)
+
+module _ (c : tie.Else1 Inv-loop μ-loop) where
+  abbrev member-by-from-else1 : tie.After-member-by Inv-loop μ-loop
+  member-by-from-else1 = c .before .before .before .before .before .before .before .before .before .before .before .before .before .before
+      .before .before .before .before
+
+  abbrev in-loop-from-else1 : tie.In-loop Inv-loop μ-loop
+  in-loop-from-else1 = in-loop-from-member-by member-by-from-else1
+
+  abbrev at-loop-from-else1 : tie.At-loop Inv-loop μ-loop
+  at-loop-from-else1 = in-loop-from-else1 .before
+
+  abbrev start-from-else1 : tie.Start Inv-loop μ-loop
+  start-from-else1 = start-from-clear-memo (clear-memo-from-at-loop at-loop-from-else1)
 
 module _ (c : tie.Then1 Inv-loop μ-loop) where
-  abbrev apply-touching-from-then1 : tie.After-apply-touching Inv-loop μ-loop
-  apply-touching-from-then1 = c .before .before .before .before .before .before .before .before .before .before .before .before .before
+  abbrev member-by-from-then1 : tie.After-member-by Inv-loop μ-loop
+  member-by-from-then1 = c .before .before .before .before .before .before .before .before .before .before .before .before .before .before
+      .before .before .before .before
 
   abbrev in-loop-from-then1 : tie.In-loop Inv-loop μ-loop
-  in-loop-from-then1 = slice-known10-from-apply-touching apply-touching-from-then1 .before
+  in-loop-from-then1 = in-loop-from-member-by member-by-from-then1
 
   abbrev at-loop-from-then1 : tie.At-loop Inv-loop μ-loop
   at-loop-from-then1 = in-loop-from-then1 .before
 
   abbrev start-from-then1 : tie.Start Inv-loop μ-loop
-  start-from-then1 = start-from-at-loop at-loop-from-then1
-
-module _ (c : tie.After-k Inv-loop μ-loop) where
-  abbrev apply-touching-from-word-after-call : tie.After-apply-touching Inv-loop μ-loop
-  apply-touching-from-word-after-call = c .before .before .before .before .before .before .before .before .before .before .before .before
-      .before .before
-
-  abbrev in-loop-from-word-after-call : tie.In-loop Inv-loop μ-loop
-  in-loop-from-word-after-call = slice-known10-from-apply-touching apply-touching-from-word-after-call .before
-
-module _ (c : tie.After-word-after Inv-loop μ-loop) where
-  abbrev apply-touching-from-loop-again : tie.After-apply-touching Inv-loop μ-loop
-  apply-touching-from-loop-again = c .before .before .before .before .before .before .before .before .before .before .before .before .before
-      .before .before
-
-  abbrev slice-known10-from-loop-again : tie.After-slice-known10 Inv-loop μ-loop
-  slice-known10-from-loop-again = slice-known10-from-apply-touching apply-touching-from-loop-again
-
-  abbrev in-loop-from-loop-again : tie.In-loop Inv-loop μ-loop
-  in-loop-from-loop-again = slice-known10-from-loop-again .before
-
-  abbrev at-loop-from-loop-again : tie.At-loop Inv-loop μ-loop
-  at-loop-from-loop-again = in-loop-from-loop-again .before
-
-  abbrev start-from-loop-again : tie.Start Inv-loop μ-loop
-  start-from-loop-again = start-from-at-loop at-loop-from-loop-again
+  start-from-then1 = start-from-clear-memo (clear-memo-from-at-loop at-loop-from-then1)
 
 clear-memo-requires : tie.Need-clear-memo-requires Inv-loop μ-loop
 clear-memo-requires c κs =
@@ -108,11 +135,14 @@ clear-memo-requires c κs =
 
 loop-holds : tie.Need-loop-holds Inv-loop μ-loop
 loop-holds c =
-    let a = start-from-loop-holds c .args in
-    let r = start-from-loop-holds c .pre in (
-      replacing-none (a .op) (a .g .0) (tableOf (a .vars .now) (a .lows .now) (a .highs .now) (a .heads .now) (a .links .now) (a .count)) (a .list .now) (a .memo .now) (r .0 .0) (r .0 .1) (c .before .before .clear-memo .last .0) (c .before .before .clear-memo .ensures (a .op) (tableOf (a .vars .now) (a .lows .now) (a .highs .now) (a .heads .now) (a .links .now) (a .count))),
+    let s = start-from-loop-holds c in
+    let a = s .args in
+    let r = s .pre in
+    let y = clear-memo-from-loop-holds c .clear-memo in (
+      replacing-none (a .op) (a .g .0) (entry s) (a .list .now) (a .memo .now) (r .0 .0) (r .0 .1) (y .last .0) (y .ensures (a .op) (entry s)),
       r .1 .1,
       rewording-none (a .words .now) (a .touching),
+      counting-none (diagramsOf (nodesOf (entry s)) (a .list .now)) (results (a .op) (entry s) (a .list .now) (a .g .0)),
       refl,
       refl,
       refl,
@@ -121,31 +151,26 @@ loop-holds c =
       refl,
     )
 
-mul-t22 : tie.Need-mul-t22 Inv-loop μ-loop
-mul-t22 c =
-    search needs
+member-by-requires : tie.Need-member-by-requires Inv-loop μ-loop
+member-by-requires c κs =
+    let s = start-from-member-by-call c in
+    let a = s .args in
+    let r = s .pre in
+    let l = at-loop-from-member-by-call c in
+    let w = l .loop in
+    let t = in-loop-from-member-by-call c .loop-test .taken in (
+      t,
+      omega (arith, w .inv .2 .lengths, w .inv .0 .members, r .1 .0, t),
+      member-ready (a .op) (a .g .0) (entry s) (a .list .now) (a .memo .now) (r .0 .0) (r .0 .1) (r .0 .2) (here l) (w .list) (w .memo) (w .i) (w .inv .0) t,
+      member-supported (a .op) (a .g .0) (entry s) (a .list .now) (a .memo .now) (r .0 .0) (r .0 .1) (r .0 .2) (here l) (w .list) (w .memo) (w .i) (w .inv .0) t (w .words) (w .inv .1),
+      touches-now (a .op) (a .g .0) (entry s) (a .list .now) (a .memo .now) (r .0 .0) (r .0 .1) (r .0 .2) (here l) (w .list) (w .memo) (w .i) (w .inv .0) t (a .touching) (r .1 .2),
+    )
 
-slice-read-t25 : tie.Need-slice-read-t25 Inv-loop μ-loop
-slice-read-t25 c =
-    search needs
-
-mul-word : tie.Need-mul-word Inv-loop μ-loop
-mul-word c =
-    search needs
-
-slice-read-word : tie.Need-slice-read-word Inv-loop μ-loop
-slice-read-word c =
-    let a = start-from-slice-read-word c .args in
-    let r = start-from-slice-read-word c .pre in
-    let w = at-loop-from-slice-read-word c .loop in
-    omega (arith, w .inv .2 .lengths, w .inv .0 .members, r .1 .0, c .before .before .loop-test .taken)
-
-apply-touching-requires : tie.Need-apply-touching-requires Inv-loop μ-loop
-apply-touching-requires c κs =
-    let a = start-from-apply-touching-call c .args in
-    let r = start-from-apply-touching-call c .pre in
-    let w = at-loop-from-apply-touching-call c .loop in
-    (member-ready (a .op) (a .g .0) (tableOf (a .vars .now) (a .lows .now) (a .highs .now) (a .heads .now) (a .links .now) (a .count)) (a .list .now) (a .memo .now) (r .0 .0) (r .0 .1) (r .0 .2) (tableOf (w .vars) (w .lows) (w .highs) (w .heads) (w .links) (w .n)) (w .list) (w .memo) (w .i) (w .inv .0) (in-loop-from-apply-touching-call c .loop-test .taken), member-supported (a .op) (a .g .0) (tableOf (a .vars .now) (a .lows .now) (a .highs .now) (a .heads .now) (a .links .now) (a .count)) (a .list .now) (a .memo .now) (r .0 .0) (r .0 .1) (r .0 .2) (tableOf (w .vars) (w .lows) (w .highs) (w .heads) (w .links) (w .n)) (w .list) (w .memo) (w .i) (w .inv .0) (in-loop-from-apply-touching-call c .loop-test .taken) (w .words) (w .inv .1), touches-now (a .op) (a .g .0) (tableOf (a .vars .now) (a .lows .now) (a .highs .now) (a .heads .now) (a .links .now) (a .count)) (a .list .now) (a .memo .now) (r .0 .0) (r .0 .1) (r .0 .2) (tableOf (w .vars) (w .lows) (w .highs) (w .heads) (w .links) (w .n)) (w .list) (w .memo) (w .i) (w .inv .0) (in-loop-from-apply-touching-call c .loop-test .taken) (a .touching) (r .1 .2))
+add-written : tie.Need-add-written Inv-loop μ-loop
+add-written c =
+    let l = at-loop-from-add-written c in
+    let s = start-from-add-written c in
+    omega (arith, l .loop .inv .3 .most, member-by-from-add-written c .member-by .ensures .0 .most, in-loop-from-add-written c .loop-test .taken)
 
 same-length : tie.Need-same-length Inv-loop μ-loop
 same-length c =
@@ -181,38 +206,23 @@ same-length-8 c =
 
 returns : tie.Need-returns Inv-loop μ-loop
 returns c =
-    let a = start-from-then1 c .args in
-    let r = start-from-then1 c .pre in
-    let w = at-loop-from-then1 c .loop in
-    let y = apply-touching-from-then1 c .apply-touching in
-    (stopped (a .op) (a .g .0) (tableOf (a .vars .now) (a .lows .now) (a .highs .now) (a .heads .now) (a .links .now) (a .count)) (a .list .now) (a .memo .now) (r .0 .0) (r .0 .1) (r .0 .2) (tableOf (w .vars) (w .lows) (w .highs) (w .heads) (w .links) (w .n)) (w .list) (w .memo) (w .i) (w .inv .0) (in-loop-from-then1 c .loop-test .taken) (outcomeOf (y .last .0) (y .last .1 .0) (y .last .1 .1 .0) (y .last .1 .1 .1 .0) (y .last .1 .1 .1 .1 .0) (y .result)) (y .ensures .0) (c .if1 .taken), (λ z. t≢f z, λ z. t≢f z))
+    let s = start-from-then1 c in
+    let a = s .args in
+    let r = s .pre in
+    let l = at-loop-from-then1 c in
+    let w = l .loop in
+    let m = member-by-from-then1 c in (
+      stopped (a .op) (a .g .0) (entry s) (a .list .now) (a .memo .now) (r .0 .0) (r .0 .1) (r .0 .2) (here l) (w .list) (w .memo) (w .i) (w .inv .0) (in-loop-from-then1 c .loop-test .taken) (made m) (m .member-by .ensures .0 .outcome) (c .if1 .taken) (m .member-by .last .1 .1 .1 .1 .1 .1 .0),
+      (λ z. t≢f z, (λ z. t≢f z, λ z. t≢f z)),
+    )
 
-mul-list : tie.Need-mul-list Inv-loop μ-loop
-mul-list c =
-    mul-t22 (in-loop-from-word-after-call c)
-
-slice-write-list : tie.Need-slice-write-list Inv-loop μ-loop
-slice-write-list c =
-    search needs
-
-word-after-requires : tie.Need-word-after-requires Inv-loop μ-loop
-word-after-requires c κs =
-    search needs
-
-mul-words : tie.Need-mul-words Inv-loop μ-loop
-mul-words c =
-    mul-word (slice-known10-from-loop-again c)
-
-slice-write-words : tie.Need-slice-write-words Inv-loop μ-loop
-slice-write-words c =
-    let a = start-from-loop-again c .args in
-    let r = start-from-loop-again c .pre in
-    let w = at-loop-from-loop-again c .loop in
-    omega (arith, w .inv .2 .lengths, w .inv .0 .members, r .1 .0, in-loop-from-loop-again c .loop-test .taken)
+next-fits : (c : tie.In-loop Inv-loop μ-loop) → c .before .loop .i + 1 < 18446744073709551616
+next-fits c =
+    omega arith
 
 add-i : tie.Need-add-i Inv-loop μ-loop
 add-i c =
-    omega (arith, mul-t22 (in-loop-from-loop-again c))
+    omega (arith, next-fits (in-loop-from-else1 c))
 
 loop-less : tie.Need-loop-less Inv-loop μ-loop
 loop-less c =
@@ -220,19 +230,30 @@ loop-less c =
 
 loop-again : tie.Need-loop-again Inv-loop μ-loop
 loop-again c =
-    let a = start-from-loop-again c .args in
-    let r = start-from-loop-again c .pre in
-    let w = at-loop-from-loop-again c .loop in
-    let y = apply-touching-from-loop-again c .apply-touching in (
-      replaced (a .op) (a .g .0) (tableOf (a .vars .now) (a .lows .now) (a .highs .now) (a .heads .now) (a .links .now) (a .count)) (a .list .now) (a .memo .now) (r .0 .0) (r .0 .1) (r .0 .2) (tableOf (w .vars) (w .lows) (w .highs) (w .heads) (w .links) (w .n)) (w .list) (w .memo) (w .i) (w .inv .0) (in-loop-from-loop-again c .loop-test .taken) (outcomeOf (y .last .0) (y .last .1 .0) (y .last .1 .1 .0) (y .last .1 .1 .1 .0) (y .last .1 .1 .1 .1 .0) (y .result)) (y .ensures .0) (c .before .before .if1 .left) (y .last .1 .1 .1 .1 .1 .0) (y .ensures .1),
-      subst (λ (x : ℕ). Supports (nodesOf ((outcomeOf (y .last .0) (y .last .1 .0) (y .last .1 .1 .0) (y .last .1 .1 .1 .0) (y .last .1 .1 .1 .1 .0) (y .result)) .table)) (set (w .list) (w .i) ((outcomeOf (y .last .0) (y .last .1 .0) (y .last .1 .1 .0) (y .last .1 .1 .1 .0) (y .last .1 .1 .1 .1 .0) (y .result)) .node)) (set (w .words) (w .i) x)) (sym (c .word-after .ensures)) (supported (a .op) (a .g .0) (tableOf (a .vars .now) (a .lows .now) (a .highs .now) (a .heads .now) (a .links .now) (a .count)) (a .list .now) (a .memo .now) (r .0 .0) (r .0 .1) (r .0 .2) (tableOf (w .vars) (w .lows) (w .highs) (w .heads) (w .links) (w .n)) (w .list) (w .memo) (w .i) (w .inv .0) (in-loop-from-loop-again c .loop-test .taken) (outcomeOf (y .last .0) (y .last .1 .0) (y .last .1 .1 .0) (y .last .1 .1 .1 .0) (y .last .1 .1 .1 .1 .0) (y .result)) (y .ensures .0) (c .before .before .if1 .left) (w .words) (a .touching) (omega (arith, w .inv .2 .lengths, w .inv .0 .members, r .1 .0)) (w .inv .1) (r .1 .2)),
-      rewording-next (a .words .now) (w .words) (a .touching) (w .i) (c .word-after .result) (w .inv .2) (omega (arith, w .inv .0 .members, r .1 .0, in-loop-from-loop-again c .loop-test .taken)) (c .word-after .ensures),
-      y .kept .0 ∙ w .inv .3,
-      y .kept .1 .0 ∙ w .inv .4,
-      y .kept .1 .1 .0 ∙ w .inv .5,
-      y .kept .1 .1 .1 .0 ∙ w .inv .6,
-      y .kept .1 .1 .1 .1 .0 ∙ w .inv .7,
-      y .kept .1 .1 .1 .1 .1 .0 ∙ w .inv .8,
+    let s = start-from-else1 c in
+    let a = s .args in
+    let r = s .pre in
+    let l = at-loop-from-else1 c in
+    let w = l .loop in
+    let t = in-loop-from-else1 c .loop-test .taken in
+    let m = member-by-from-else1 c in
+    let y = m .member-by in
+    let e = y .ensures .0 in
+    let f = c .if1 .left in (
+      subst (λ (x : List ℕ). Replacing (a .op) (a .g .0) (entry s) (a .list .now) (made m .table) x (y .last .1 .1 .1 .1 .1 .0) (w .i + 1)) (sym (e .list-is f))
+          (replaced (a .op) (a .g .0) (entry s) (a .list .now) (a .memo .now) (r .0 .0) (r .0 .1) (r .0 .2) (here l) (w .list) (w .memo) (w .i) (w .inv .0) t (made m) (e .outcome) f (y .last .1 .1 .1 .1 .1 .0) (y .ensures .1)),
+      subst (λ (x : List ℕ). Supports (nodesOf (made m .table)) x (y .last .1 .1 .1 .1 .1 .1 .1 .0)) (sym (e .list-is f))
+          (subst (λ (x : List ℕ). Supports (nodesOf (made m .table)) (set (w .list) (w .i) (made m .node)) x) (sym (e .words-is f))
+          (supported (a .op) (a .g .0) (entry s) (a .list .now) (a .memo .now) (r .0 .0) (r .0 .1) (r .0 .2) (here l) (w .list) (w .memo) (w .i) (w .inv .0) t (made m) (e .outcome) f (w .words) (a .touching) (omega (arith, w .inv .2 .lengths, w .inv .0 .members, r .1 .0)) (w .inv .1) (r .1 .2))),
+      subst (λ (x : List ℕ). Rewording (a .words .now) x (a .touching) (w .i + 1)) (sym (e .words-is f))
+          (rewording-next (a .words .now) (w .words) (a .touching) (w .i) (getD (w .list) (w .i) 0) (made m .node) (w .inv .2) (omega (arith, w .inv .0 .members, r .1 .0, t))),
+      counted (a .op) (a .g .0) (entry s) (a .list .now) (a .memo .now) (r .0 .0) (r .0 .1) (r .0 .2) (here l) (w .list) (w .memo) (w .i) (w .inv .0) t (made m) (e .outcome) f (w .written) (y .result .written) (w .inv .3) (e .told f),
+      y .kept .0 ∙ w .inv .4,
+      y .kept .1 .0 ∙ w .inv .5,
+      y .kept .1 .1 .0 ∙ w .inv .6,
+      y .kept .1 .1 .1 .0 ∙ w .inv .7,
+      y .kept .1 .1 .1 .1 .0 ∙ w .inv .8,
+      y .kept .1 .1 .1 .1 .1 .0 ∙ w .inv .9,
     )
 
 same-length-9 : tie.Need-same-length-9 Inv-loop μ-loop
@@ -269,10 +290,21 @@ same-length-16 c =
 
 returns-2 : tie.Need-returns-2 Inv-loop μ-loop
 returns-2 c =
-    let a = start-from-return-2 c .args in
-    let r = start-from-return-2 c .pre in
-    let w = c .before .loop in
-    (all-replaced (a .op) (a .g .0) (tableOf (a .vars .now) (a .lows .now) (a .highs .now) (a .heads .now) (a .links .now) (a .count)) (a .list .now) (a .memo .now) (r .0 .0) (r .0 .1) (tableOf (w .vars) (w .lows) (w .highs) (w .heads) (w .links) (w .n)) (w .list) (w .memo) (w .i) (w .inv .0) (omega (arith, c .loop-test .left)), (λ z. w .inv .1, λ z. rewording-all (a .words .now) (w .words) (a .touching) (w .i) (w .inv .2) (omega (arith, w .inv .0 .members, r .1 .0, c .loop-test .left))))
+    let s = start-from-return-2 c in
+    let a = s .args in
+    let r = s .pre in
+    let l = at-loop-from-return-2 c in
+    let w = l .loop in
+    let t : length (w .list) ≤ w .i = omega (arith, c .loop-test .left) in (
+      all-replaced (a .op) (a .g .0) (entry s) (a .list .now) (a .memo .now) (r .0 .0) (r .0 .1) (here l) (w .list) (w .memo) (w .i) (w .inv .0) t,
+      (
+        λ z. w .inv .1,
+        (
+          λ z. rewording-all (a .words .now) (w .words) (a .touching) (w .i) (w .inv .2) (omega (arith, w .inv .0 .members, r .1 .0, t)),
+          λ z. all-counted (a .op) (a .g .0) (entry s) (a .list .now) (a .memo .now) (r .0 .0) (r .0 .1) (here l) (w .list) (w .memo) (w .i) (w .written) (w .inv .0) t (w .inv .3),
+        ),
+      ),
+    )
 
 pub all-by-spec : {M : Type 1} → statement M
 all-by-spec =
@@ -282,11 +314,8 @@ all-by-spec =
     μ-loop
     clear-memo-requires
     loop-holds
-    mul-t22
-    slice-read-t25
-    mul-word
-    slice-read-word
-    apply-touching-requires
+    member-by-requires
+    add-written
     same-length
     same-length-2
     same-length-3
@@ -296,11 +325,6 @@ all-by-spec =
     same-length-7
     same-length-8
     returns
-    mul-list
-    slice-write-list
-    word-after-requires
-    mul-words
-    slice-write-words
     add-i
     loop-less
     loop-again

@@ -63,30 +63,30 @@ module _ (c : tie.After-known-told Inv-loop μ-loop) where
   abbrev start-from-return : tie.Start Inv-loop μ-loop
   start-from-return = start-from-at-loop at-loop-from-return
 
-module _ (c : tie.After-all-by-arg8 Inv-loop μ-loop) where
-  abbrev u-from-all-by-call : tie.After-u Inv-loop μ-loop
-  u-from-all-by-call = c .before .before .before .before .before .before .before .before .before .before
+module _ (c : tie.After-round-arg8 Inv-loop μ-loop) where
+  abbrev u-from-round-call : tie.After-u Inv-loop μ-loop
+  u-from-round-call = c .before .before .before .before .before .before .before .before .before .before
 
-  abbrev next-round-from-all-by-call : tie.After-next-round Inv-loop μ-loop
-  next-round-from-all-by-call = next-round-from-u u-from-all-by-call
+  abbrev next-round-from-round-call : tie.After-next-round Inv-loop μ-loop
+  next-round-from-round-call = next-round-from-u u-from-round-call
 
-  abbrev at-loop-from-all-by-call : tie.At-loop Inv-loop μ-loop
-  at-loop-from-all-by-call = at-loop-from-next-round next-round-from-all-by-call
+  abbrev at-loop-from-round-call : tie.At-loop Inv-loop μ-loop
+  at-loop-from-round-call = at-loop-from-next-round next-round-from-round-call
 
-  abbrev start-from-all-by-call : tie.Start Inv-loop μ-loop
-  start-from-all-by-call = start-from-at-loop at-loop-from-all-by-call
+  abbrev start-from-round-call : tie.Start Inv-loop μ-loop
+  start-from-round-call = start-from-at-loop at-loop-from-round-call
 
-module _ (c : tie.After-all-by Inv-loop μ-loop) where
-  abbrev u-from-all-by : tie.After-u Inv-loop μ-loop
-  u-from-all-by = c .before .before .before .before .before .before .before .before .before .before .before
+module _ (c : tie.After-round Inv-loop μ-loop) where
+  abbrev u-from-round : tie.After-u Inv-loop μ-loop
+  u-from-round = c .before .before .before .before .before .before .before .before .before .before .before
 
 module _ (c : tie.Else1 Inv-loop μ-loop) where
-  abbrev all-by-from-else1 : tie.After-all-by Inv-loop μ-loop
-  all-by-from-else1 = c .before .before .before .before .before .before .before .before .before .before .before .before .before .before
+  abbrev round-from-else1 : tie.After-round Inv-loop μ-loop
+  round-from-else1 = c .before .before .before .before .before .before .before .before .before .before .before .before .before .before
       .before .before .before
 
   abbrev u-from-else1 : tie.After-u Inv-loop μ-loop
-  u-from-else1 = u-from-all-by all-by-from-else1
+  u-from-else1 = u-from-round round-from-else1
 
   abbrev next-round-from-else1 : tie.After-next-round Inv-loop μ-loop
   next-round-from-else1 = next-round-from-u u-from-else1
@@ -98,12 +98,12 @@ module _ (c : tie.Else1 Inv-loop μ-loop) where
   start-from-else1 = start-from-at-loop at-loop-from-else1
 
 module _ (c : tie.Then1 Inv-loop μ-loop) where
-  abbrev all-by-from-then1 : tie.After-all-by Inv-loop μ-loop
-  all-by-from-then1 = c .before .before .before .before .before .before .before .before .before .before .before .before .before .before
+  abbrev round-from-then1 : tie.After-round Inv-loop μ-loop
+  round-from-then1 = c .before .before .before .before .before .before .before .before .before .before .before .before .before .before
       .before .before .before
 
   abbrev u-from-then1 : tie.After-u Inv-loop μ-loop
-  u-from-then1 = u-from-all-by all-by-from-then1
+  u-from-then1 = u-from-round round-from-then1
 
   abbrev next-round-from-then1 : tie.After-next-round Inv-loop μ-loop
   next-round-from-then1 = next-round-from-u u-from-then1
@@ -180,40 +180,43 @@ enum-known-u : tie.Need-enum-known-u Inv-loop μ-loop
 enum-known-u c =
     search needs
 
-all-by-requires : tie.Need-all-by-requires Inv-loop μ-loop
-all-by-requires c κs =
-    let a = start-from-all-by-call c .args in
-    let r = start-from-all-by-call c .pre in
-    let w = at-loop-from-all-by-call c .loop in
-    let y = next-round-from-all-by-call c .next-round in
+round-requires : tie.Need-round-requires Inv-loop μ-loop
+round-requires c κs =
+    let a = start-from-round-call c .args in
+    let r = start-from-round-call c .pre in
+    let w = at-loop-from-round-call c .loop in
+    let y = next-round-from-round-call c .next-round in
+    let comes = subst (Comes (diagramsOf (nodesOf (tableOf (w .vars) (w .lows) (w .highs) (w .heads) (w .links) (w .n))) (w .list)) (w .rounds)) (u-from-round-call c .u .given .1) (y .ensures .0) in
     let ready = going-ready (tableOf (a .vars .now) (a .lows .now) (a .highs .now) (a .heads .now) (a .links .now) (a .count)) (r .0 .0 .good) (diagramsOf (nodesOf (tableOf (a .vars .now) (a .lows .now) (a .highs .now) (a .heads .now) (a .links .now) (a .count))) (a .list .now)) (tableOf (w .vars) (w .lows) (w .highs) (w .heads) (w .links) (w .n)) (w .list) (w .memo) (w .marks) (w .rounds) (w .inv .0) in (
-      (record { good = ready .good; inside = ready .inside; room = omega (arith, y .kept .1 .1 .1 .1 .1 .0, ready .room) }, omega (arith, ready .good .least), refl),
-      (w .inv .11 ∙ r .1 .0 ∙ sym (w .inv .10), w .inv .1, refl),
+      record { good = ready .good; inside = ready .inside; room = omega (arith, y .kept .1 .1 .1 .1 .1 .0, ready .room) },
+      w .inv .11 ∙ r .1 .0 ∙ sym (w .inv .10),
+      w .inv .1,
+      comes .2,
     )
 
 same-length-10 : tie.Need-same-length-10 Inv-loop μ-loop
 same-length-10 c =
-    all-by-from-then1 c .all-by .kept .0 ∙ at-loop-from-then1 c .loop .inv .3
+    round-from-then1 c .round .kept .0 ∙ at-loop-from-then1 c .loop .inv .3
 
 same-length-11 : tie.Need-same-length-11 Inv-loop μ-loop
 same-length-11 c =
-    all-by-from-then1 c .all-by .kept .1 .0 ∙ at-loop-from-then1 c .loop .inv .4
+    round-from-then1 c .round .kept .1 .0 ∙ at-loop-from-then1 c .loop .inv .4
 
 same-length-12 : tie.Need-same-length-12 Inv-loop μ-loop
 same-length-12 c =
-    all-by-from-then1 c .all-by .kept .1 .1 .0 ∙ at-loop-from-then1 c .loop .inv .5
+    round-from-then1 c .round .kept .1 .1 .0 ∙ at-loop-from-then1 c .loop .inv .5
 
 same-length-13 : tie.Need-same-length-13 Inv-loop μ-loop
 same-length-13 c =
-    all-by-from-then1 c .all-by .kept .1 .1 .1 .0 ∙ at-loop-from-then1 c .loop .inv .6
+    round-from-then1 c .round .kept .1 .1 .1 .0 ∙ at-loop-from-then1 c .loop .inv .6
 
 same-length-14 : tie.Need-same-length-14 Inv-loop μ-loop
 same-length-14 c =
-    all-by-from-then1 c .all-by .kept .1 .1 .1 .1 .0 ∙ at-loop-from-then1 c .loop .inv .7
+    round-from-then1 c .round .kept .1 .1 .1 .1 .0 ∙ at-loop-from-then1 c .loop .inv .7
 
 same-length-15 : tie.Need-same-length-15 Inv-loop μ-loop
 same-length-15 c =
-    all-by-from-then1 c .all-by .kept .1 .1 .1 .1 .1 .0 ∙ next-round-from-then1 c .next-round .kept .1 .1 .1 .1 .1 .0 ∙ at-loop-from-then1 c .loop .inv .8
+    round-from-then1 c .round .kept .1 .1 .1 .1 .1 .0 ∙ next-round-from-then1 c .next-round .kept .1 .1 .1 .1 .1 .0 ∙ at-loop-from-then1 c .loop .inv .8
 
 same-length-16 : tie.Need-same-length-16 Inv-loop μ-loop
 same-length-16 c =
@@ -221,11 +224,11 @@ same-length-16 c =
 
 same-length-17 : tie.Need-same-length-17 Inv-loop μ-loop
 same-length-17 c =
-    all-by-from-then1 c .all-by .kept .1 .1 .1 .1 .1 .1 .0 ∙ at-loop-from-then1 c .loop .inv .10
+    round-from-then1 c .round .kept .1 .1 .1 .1 .1 .1 .0 ∙ at-loop-from-then1 c .loop .inv .10
 
 same-length-18 : tie.Need-same-length-18 Inv-loop μ-loop
 same-length-18 c =
-    all-by-from-then1 c .all-by .kept .1 .1 .1 .1 .1 .1 .1 .0 ∙ at-loop-from-then1 c .loop .inv .11
+    round-from-then1 c .round .kept .1 .1 .1 .1 .1 .1 .1 .0 ∙ at-loop-from-then1 c .loop .inv .11
 
 returns-2 : tie.Need-returns-2 Inv-loop μ-loop
 returns-2 c =
@@ -233,7 +236,7 @@ returns-2 c =
     let r = start-from-then1 c .pre in
     let w = at-loop-from-then1 c .loop in
     let y = next-round-from-then1 c .next-round in
-    let z = all-by-from-then1 c .all-by in
+    let z = round-from-then1 c .round in
     let comes = subst (Comes (diagramsOf (nodesOf (tableOf (w .vars) (w .lows) (w .highs) (w .heads) (w .links) (w .n))) (w .list)) (w .rounds)) (u-from-then1 c .u .given .1) (y .ensures .0) in
     (going-full (tableOf (a .vars .now) (a .lows .now) (a .highs .now) (a .heads .now) (a .links .now) (a .count)) (r .0 .0 .good) (diagramsOf (nodesOf (tableOf (a .vars .now) (a .lows .now) (a .highs .now) (a .heads .now) (a .links .now) (a .count))) (a .list .now)) (tableOf (w .vars) (w .lows) (w .highs) (w .heads) (w .links) (w .n)) (w .list) (w .memo) (w .marks) (w .rounds) (w .inv .0) (comes .0) (comes .1) (u-from-then1 c .u .given .0 .0) (comes .2) (z .result .full) (tableOf (z .last .0) (z .last .1 .0) (z .last .1 .1 .0) (z .last .1 .1 .1 .0) (z .last .1 .1 .1 .1 .0) (z .result .count)) (z .last .1 .1 .1 .1 .1 .1 .0) (z .ensures .0) (c .if1 .taken) false, y .ensures .1 ∙ ap unmarked (w .inv .3))
 
@@ -256,12 +259,12 @@ loop-again c =
     let r = start-from-else1 c .pre in
     let w = at-loop-from-else1 c .loop in
     let y = next-round-from-else1 c .next-round in
-    let z = all-by-from-else1 c .all-by in
+    let z = round-from-else1 c .round in
     let comes = subst (Comes (diagramsOf (nodesOf (tableOf (w .vars) (w .lows) (w .highs) (w .heads) (w .links) (w .n))) (w .list)) (w .rounds)) (u-from-else1 c .u .given .1) (y .ensures .0) in (
       going-on (tableOf (a .vars .now) (a .lows .now) (a .highs .now) (a .heads .now) (a .links .now) (a .count)) (r .0 .0 .good) (diagramsOf (nodesOf (tableOf (a .vars .now) (a .lows .now) (a .highs .now) (a .heads .now) (a .links .now) (a .count))) (a .list .now)) (tableOf (w .vars) (w .lows) (w .highs) (w .heads) (w .links) (w .n)) (w .list) (w .memo) (w .marks) (w .rounds) (w .inv .0) (comes .0) (comes .1) (u-from-else1 c .u .given .0 .0) (comes .2) (z .result .full) (tableOf (z .last .0) (z .last .1 .0) (z .last .1 .1 .0) (z .last .1 .1 .1 .0) (z .last .1 .1 .1 .1 .0) (z .result .count)) (z .last .1 .1 .1 .1 .1 .1 .0) (z .ensures .0) (c .if1 .left) (z .last .1 .1 .1 .1 .1 .0) (z .kept .1 .1 .1 .1 .1 .0 ∙ y .kept .1 .1 .1 .1 .1 .0) (y .last .1 .1 .1 .1 .1 .1 .0) (y .ensures .1 ∙ ap unmarked (w .inv .3)),
       z .ensures .1 .0 (c .if1 .left),
       quiet-next (tableOf (w .vars) (w .lows) (w .highs) (w .heads) (w .links) (w .n)) (w .list) (w .memo) (w .words) (going-ready (tableOf (a .vars .now) (a .lows .now) (a .highs .now) (a .heads .now) (a .links .now) (a .count)) (r .0 .0 .good) (diagramsOf (nodesOf (tableOf (a .vars .now) (a .lows .now) (a .highs .now) (a .heads .now) (a .links .now) (a .count))) (a .list .now)) (tableOf (w .vars) (w .lows) (w .highs) (w .heads) (w .links) (w .n)) (w .list) (w .memo) (w .marks) (w .rounds) (w .inv .0)) (w .inv .11 ∙ r .1 .0 ∙ sym (w .inv .10)) (w .inv .1) (u-from-else1 c .u .given .0 .0) (tableOf (z .last .0) (z .last .1 .0) (z .last .1 .1 .0) (z .last .1 .1 .1 .0) (z .last .1 .1 .1 .1 .0) (z .result .count)) (z .last .1 .1 .1 .1 .1 .1 .0)
-          (subst (λ b. AllMade (tableOf (w .vars) (w .lows) (w .highs) (w .heads) (w .links) (w .n)) (results (Literals (u-from-else1 c .u .given .0 .0 .positive) (u-from-else1 c .u .given .0 .0 .negative)) (tableOf (w .vars) (w .lows) (w .highs) (w .heads) (w .links) (w .n)) (w .list) 1) b (tableOf (z .last .0) (z .last .1 .0) (z .last .1 .1 .0) (z .last .1 .1 .1 .0) (z .last .1 .1 .1 .1 .0) (z .result .count)) (z .last .1 .1 .1 .1 .1 .1 .0)) (c .if1 .left) (z .ensures .0)) (z .kept .1 .1 .1 .1 .1 .1 .0) (z .last .1 .1 .1 .1 .1 .1 .1 .0) (z .ensures .1 .1 (c .if1 .left)) (comes .1),
+          (subst (λ b. AllMade (tableOf (w .vars) (w .lows) (w .highs) (w .heads) (w .links) (w .n)) (results (Literals (u-from-else1 c .u .given .0 .0 .positive) (u-from-else1 c .u .given .0 .0 .negative)) (tableOf (w .vars) (w .lows) (w .highs) (w .heads) (w .links) (w .n)) (w .list) 1) b (tableOf (z .last .0) (z .last .1 .0) (z .last .1 .1 .0) (z .last .1 .1 .1 .0) (z .last .1 .1 .1 .1 .0) (z .result .count)) (z .last .1 .1 .1 .1 .1 .1 .0)) (c .if1 .left) (z .ensures .0)) (z .kept .1 .1 .1 .1 .1 .1 .0) (z .last .1 .1 .1 .1 .1 .1 .1 .0) (z .ensures .1 .1 .0 (c .if1 .left)) (comes .1),
       z .kept .0 ∙ w .inv .3,
       z .kept .1 .0 ∙ w .inv .4,
       z .kept .1 .1 .0 ∙ w .inv .5,
@@ -293,7 +296,7 @@ unit-prop-spec =
     same-length-9
     returns
     enum-known-u
-    all-by-requires
+    round-requires
     same-length-10
     same-length-11
     same-length-12
