@@ -61,10 +61,19 @@ typedef struct {
     size_t count;   /* the count after the call; as lent with a refusal */
 } cablesalak_single;
 
+/* The answer of the call for "at least k of a set". */
+typedef struct {
+    uint8_t number;    /* 0, or why it is refused */
+    uint16_t node;     /* the node asked for; 0 with a refusal */
+    size_t count;      /* the count after the call; as lent with a refusal */
+    bool counted;      /* whether the excluded assignments are counted: not refused, and a set of at most 32 variables */
+    uint64_t excluded; /* of the assignments of the set's variables, those under which the node is 0; 0 where not counted */
+} cablesalak_at_least_made;
+
 /* The answer of the check. */
 typedef struct {
     uint8_t number;  /* 0: refuted; else why not */
-    size_t place;    /* byte offset: in the formula for 1 to 6 and 8, in the proof for 0, 9 to 23 and 28; 0 for 7 */
+    size_t place;    /* byte offset: in the formula for 1 to 6 and 8, in the proof for 0, 9 to 23, 28 and 29; 0 for 7 */
     size_t lines;    /* the accepted lines */
     uint64_t rounds; /* their rounds of unit propagation */
     size_t count;    /* the table's count after the call; as lent with 7 */
@@ -137,22 +146,33 @@ cablesalak_single cablesalak_cofactor_literals(
     uint16_t *links, size_t links_length,
     size_t count, uint16_t f, uint64_t positive, uint64_t negative);
 
+/* "At least k of the variables of `set`", bit i - 1 for variable i: 1 where so many of them are true. k = 0 gives 1, and k above
+ * the set's size gives 0. For a set of n variables, n at most 32, it also tells how many of their 2^n assignments are excluded:
+ * those with fewer than k true, all 2^n where k is above n. Gives 0, 7, 26, 23. */
+cablesalak_at_least_made cablesalak_at_least(
+    uint8_t *vars, size_t vars_length,
+    uint16_t *lows, size_t lows_length,
+    uint16_t *highs, size_t highs_length,
+    uint16_t *heads, size_t heads_length,
+    uint16_t *links, size_t links_length,
+    size_t count, uint64_t set, uint8_t k);
+
 /* ---- The check of a formula (the bytes of a DIMACS CNF file) and a proof (the bytes of a proof file).
  *
  * Number 0: no assignment satisfies the formula, whatever the proof's bytes and whatever the lent lists held before.
- * Gives 0 to 23 and 28. Tests 7 first: the columns are of one length, 2 to 65,536, with twice as many heads and as many links,
- * the member list has 2,048 places or more and `struck` just as many, the scratch list has 4,096 or more. Then the formula is
- * read in its order, then the proof record by record, until a refusal or the end. At most 64 variables, 1,024 clauses, 1,024
+ * Gives 0 to 23, 28 and 29. Tests 7 first: the columns are of one length, 2 to 65,536, with twice as many heads and as many
+ * links, the member list has 2,048 places or more and `struck` just as many, the scratch list has 4,096 or more. Then the formula
+ * is read in its order, then the proof record by record, until a refusal or the end. At most 64 variables, 1,024 clauses, 1,024
  * lines, and 4,096 entries in a line. Neither the lent count nor what the lists hold is judged: the check empties the table, its
  * index and the lists first.
  *
  * What the lists hold afterwards:
- *   7               what they held before.
- *   1 to 6, 8       zeros everywhere; the count is 2.
- *   0, 9 to 23, 28  the table, in good order: the nodes of the clauses and of all entries of the accepted lines, in the order in
- *                   which they were made; zeros from the count on; its index. The member list: the clauses' nodes in the
- *                   formula's order, then the accepted lines' nodes, struck out or not; zeros above. `struck`: at each member's
- *                   place its mark, 1 once the proof struck it out, else 0; zeros above. The scratch list: zeros. */
+ *   7          what they held before.
+ *   1 to 6, 8  zeros everywhere; the count is 2.
+ *   any other  the table, in good order: the nodes of the clauses and of all entries of the accepted lines, in the order in which
+ *              they were made; zeros from the count on; its index. The member list: the clauses' nodes in the formula's order, then
+ *              the accepted lines' nodes, struck out or not; zeros above. `struck`: at each member's place its mark, 1 once the
+ *              proof struck it out, else 0; zeros above. The scratch list: zeros. */
 cablesalak_checked cablesalak_check(
     uint8_t *vars, size_t vars_length,
     uint16_t *lows, size_t lows_length,
@@ -231,6 +251,9 @@ CABLESALAK_LAYOUT(sizeof(cablesalak_evaluated) == 16 && offsetof(cablesalak_eval
 CABLESALAK_LAYOUT(offsetof(cablesalak_evaluated, number) == 0 && offsetof(cablesalak_evaluated, count) == 8);
 CABLESALAK_LAYOUT(sizeof(cablesalak_single) == 16 && offsetof(cablesalak_single, node) == 2);
 CABLESALAK_LAYOUT(offsetof(cablesalak_single, number) == 0 && offsetof(cablesalak_single, count) == 8);
+CABLESALAK_LAYOUT(sizeof(cablesalak_at_least_made) == 32 && offsetof(cablesalak_at_least_made, number) == 0);
+CABLESALAK_LAYOUT(offsetof(cablesalak_at_least_made, node) == 2 && offsetof(cablesalak_at_least_made, count) == 8);
+CABLESALAK_LAYOUT(offsetof(cablesalak_at_least_made, counted) == 16 && offsetof(cablesalak_at_least_made, excluded) == 24);
 CABLESALAK_LAYOUT(sizeof(cablesalak_node) == 6 && offsetof(cablesalak_node, var) == 0);
 CABLESALAK_LAYOUT(offsetof(cablesalak_node, low) == 2 && offsetof(cablesalak_node, high) == 4);
 CABLESALAK_LAYOUT(sizeof(cablesalak_checked) == 48 && offsetof(cablesalak_checked, number) == 0);

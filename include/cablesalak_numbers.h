@@ -22,13 +22,13 @@ enum cablesalak_number {
     CABLESALAK_WRONG_SIZE = 7,
     /* A clause wants a new node and every place of the table is taken. */
     CABLESALAK_FULL_AT_CLAUSE = 8,
-    /* A record's first byte is none of 4E, 54, 46, 52, 50, 44, 45. */
+    /* A record's first byte is none of 4E, 58, 4B, 54, 46, 52, 50, 44, 45. */
     CABLESALAK_UNKNOWN_KIND = 9,
     /* The proof ends within a record, or without an end record. */
     CABLESALAK_CUT_SHORT = 10,
     /* A byte follows the end record. */
     CABLESALAK_BYTES_AFTER_END = 11,
-    /* A record names variable 0, or one greater than the header's number of variables. */
+    /* A record names variable 0, or one greater than the header's number of variables, be it in a set. */
     CABLESALAK_NO_SUCH_VARIABLE = 12,
     /* A record names an entry not made yet; a single call is handed a node number that is not below the count. */
     CABLESALAK_NO_SUCH_NODE = 13,
@@ -46,7 +46,7 @@ enum cablesalak_number {
     CABLESALAK_NOT_SHOWN = 19,
     /* The proof ends and no accepted line was the diagram 0. */
     CABLESALAK_NO_ZERO_LINE = 20,
-    /* A line has more than 4,096 node records. */
+    /* A line has more than 4,096 entries, each made by a record 4E, 58 or 4B. */
     CABLESALAK_TOO_MANY_ENTRIES = 21,
     /* The proof has more than 1,024 lines. */
     CABLESALAK_TOO_MANY_LINES = 22,
@@ -61,7 +61,9 @@ enum cablesalak_number {
     /* Of a single call: a cofactor by the diagram 0 has no value. */
     CABLESALAK_COFACTOR_BY_ZERO = 27,
     /* A record strikes out a member that does not exist or is struck out already. */
-    CABLESALAK_NO_SUCH_MEMBER = 28
+    CABLESALAK_NO_SUCH_MEMBER = 28,
+    /* A parity record's last byte is neither 1 (odd) nor 0 (even). */
+    CABLESALAK_NO_SUCH_PARITY = 29
 };
 
 /* A number's meaning in a few words; null for what is no number. */
@@ -97,6 +99,7 @@ static inline const char *cablesalak_meaning(unsigned number)
     case CABLESALAK_NOT_IN_ORDER: return "table not in good order";
     case CABLESALAK_COFACTOR_BY_ZERO: return "cofactor by 0";
     case CABLESALAK_NO_SUCH_MEMBER: return "no such member, or struck already";
+    case CABLESALAK_NO_SUCH_PARITY: return "parity byte above 1";
     default: return 0;
     }
 }

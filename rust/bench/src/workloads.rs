@@ -4,6 +4,7 @@ use compare::diagram::{Diagrams, Node};
 use compare::families::{self, Parity};
 use compare::random::Random;
 use compare::table::Table;
+use compare::tally;
 
 #[derive(Clone)]
 pub struct Workload {
@@ -23,7 +24,20 @@ pub fn single() -> Vec<Workload> {
     }
     all.extend(WORDS.map(|word| thresholds(word, 64, 65_536)));
     all.extend(WORDS.map(smallest));
+    all.extend(
+        [(16, 8, 128), (32, 16, 4_096), (64, 32, 4_096), (64, 32, 65_536)].map(|(n, k, size)| at_least(n, k, size)),
+    );
     all
+}
+
+/// "At least k of n", made in an empty table.
+fn at_least(variables: u32, least: u8, size: usize) -> Workload {
+    let lent = Table { size, ..Table::of(&Diagrams::default()) }.text();
+    Workload {
+        name: format!("atleast, {least} of {variables}, {size} places"),
+        command: format!("atleast {lent} {} {least}", u64::MAX >> (64 - variables)),
+        text: format!("eval {lent} 0 0"),
+    }
 }
 
 /// An odd parity of all variables, with an even one of those from the fourth on.
@@ -68,11 +82,26 @@ pub fn call(name: &str, word: &str, store: &Diagrams, size: usize, f: Node, g: N
     Workload { name: format!("{name}, {size} places"), command, text }
 }
 
+/// A check of one record of a set, without the check of the same record of the empty set.
+fn entry(name: &str, kind: &str, set: u64, byte: u8) -> Workload {
+    let asked = |set: u64| {
+        let set: String = set.to_le_bytes().iter().map(|byte| format!("{byte:02x}")).collect();
+        // "p cnf 64 0", and the end record.
+        format!("check 4096 2048 4096 7020636e6620363420300a {kind}{set}{byte:02x}45")
+    };
+    Workload { name: format!("one entry: {name}, 4096 places"), command: asked(set), text: asked(0) }
+}
+
 /// Whole checks.
 pub fn check() -> Vec<Workload> {
+    let sums = parity_sums(64, false);
     vec![
+        entry("parity of 64", "58", u64::MAX, 1),
+        entry("at least 32 of 64", "4b", u64::MAX, 32),
+        entry("at least 2 of 64", "4b", u64::MAX, 2),
         proof("parity sums of 60", &parity_sums(60, false), 65_536),
-        proof("parity sums of 64", &parity_sums(64, false), 65_536),
+        proof("parity sums of 64", &sums, 65_536),
+        proof("parity sums of 64, by sets", &tally::shortened(&mut Random::new(1), &sums, u64::MAX), 65_536),
         proof("parity sums of 64, struck out", &parity_sums(64, true), 65_536),
         proof("pigeonhole 7", &families::pigeonhole(8, 7), 65_536),
         proof("rounds: 1,000 clauses, 500 RUP lines", &families::chain(&mut Random::new(1), 40, 1_000, 500), 65_536),

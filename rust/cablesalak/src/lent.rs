@@ -1,6 +1,6 @@
 //! A table over the caller's lists, and the single calls on it.
 
-use crate::raw::{self, Columns, ColumnsMut, Single};
+use crate::raw::{self, AtLeast, Columns, ColumnsMut, Single};
 use crate::view::{granted, View};
 use crate::{Node, NodeNo, Number, Variables};
 use std::ops::RangeInclusive;
@@ -82,6 +82,13 @@ impl<'a> TableMut<'a> {
     pub fn cofactor_literals(&mut self, f: NodeNo, positive: Variables, negative: Variables) -> Result<NodeNo, Number> {
         let said = raw::cofactor_literals(&mut self.lists, *self.count, f.0, positive.0, negative.0);
         self.made(said)
+    }
+
+    /// "At least k of the set's variables", as [`Table::at_least`](crate::Table::at_least) has it; or 26, 23.
+    pub fn at_least(&mut self, set: Variables, k: u8) -> Result<(NodeNo, Option<u64>), Number> {
+        let AtLeast { number, node, count, counted, excluded } = raw::at_least(&mut self.lists, *self.count, set.0, k);
+        let node = self.made(Single { number, node, count })?;
+        Ok((node, counted.then_some(excluded)))
     }
 
     fn made(&mut self, said: Single) -> Result<NodeNo, Number> {

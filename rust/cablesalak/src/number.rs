@@ -28,13 +28,13 @@ pub enum Number {
     WrongSize = 7,
     /// A clause wants a new node and every place of the table is taken.
     FullAtClause = 8,
-    /// A record's first byte is none of `4E`, `54`, `46`, `52`, `50`, `44`, `45`.
+    /// A record's first byte is none of `4E`, `58`, `4B`, `54`, `46`, `52`, `50`, `44`, `45`.
     UnknownKind = 9,
     /// The proof ends within a record, or without an end record.
     CutShort = 10,
     /// A byte follows the end record.
     BytesAfterEnd = 11,
-    /// A record names variable 0, or one greater than the header's number of variables.
+    /// A record names variable 0, or one greater than the header's number of variables, be it in a set.
     NoSuchVariable = 12,
     /// A record names an entry not made yet; a single call is handed a node number that is not below the count.
     NoSuchNode = 13,
@@ -52,7 +52,7 @@ pub enum Number {
     NotShown = 19,
     /// The proof ends and no accepted line was the diagram 0.
     NoZeroLine = 20,
-    /// A line has more than 4,096 node records.
+    /// A line has more than 4,096 entries, each made by a record `4E`, `58` or `4B`.
     TooManyEntries = 21,
     /// The proof has more than 1,024 lines.
     TooManyLines = 22,
@@ -68,12 +68,14 @@ pub enum Number {
     CofactorByZero = 27,
     /// A record strikes out a member that does not exist or is struck out already.
     NoSuchMember = 28,
+    /// A parity record's last byte is neither 1 (odd) nor 0 (even).
+    NoSuchParity = 29,
 }
 
 use Number::*;
 
 /// Each number at its own place, with the documents' words for it.
-const NUMBERS: [(Number, &str); 29] = [
+const NUMBERS: [(Number, &str); 30] = [
     (Refuted, "refuted"),
     (NoHeader, "no proper header"),
     (HeaderTooLarge, "over 64 variables or 1,024 clauses"),
@@ -103,6 +105,7 @@ const NUMBERS: [(Number, &str); 29] = [
     (NotInOrder, "table not in good order"),
     (CofactorByZero, "cofactor by 0"),
     (NoSuchMember, "no such member, or struck already"),
+    (NoSuchParity, "parity byte above 1"),
 ];
 
 /// The text that a place is a byte offset in.
@@ -133,7 +136,7 @@ impl Number {
         }
     }
 
-    /// What the library said. Its contracts give no number above 28.
+    /// What the library said. Its contracts give no number above 29.
     pub(crate) fn said(code: u8) -> Number {
         Number::try_from(code).expect("the library gives no such number")
     }

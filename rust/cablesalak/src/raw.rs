@@ -24,6 +24,17 @@ pub struct Single {
     pub count: usize,
 }
 
+/// The answer of the call for "at least k of a set".
+#[repr(C)]
+#[derive(Clone, Copy, Debug, PartialEq, Eq)]
+pub struct AtLeast {
+    pub number: u8,
+    pub node: u16,
+    pub count: usize,
+    pub counted: bool,
+    pub excluded: u64,
+}
+
 /// The answer of the check of a formula and a proof.
 #[repr(C)]
 #[derive(Clone, Copy, Debug, PartialEq, Eq)]
@@ -52,6 +63,8 @@ const _: () = {
     assert!(size_of::<usize>() == 8);
     assert!(size_of::<Evaluated>() == 16 && offset_of!(Evaluated, yes) == 1 && offset_of!(Evaluated, count) == 8);
     assert!(size_of::<Single>() == 16 && offset_of!(Single, node) == 2 && offset_of!(Single, count) == 8);
+    assert!(size_of::<AtLeast>() == 32 && offset_of!(AtLeast, node) == 2 && offset_of!(AtLeast, count) == 8);
+    assert!(offset_of!(AtLeast, counted) == 16 && offset_of!(AtLeast, excluded) == 24);
     assert!(size_of::<Checked>() == 48 && offset_of!(Checked, place) == 8 && offset_of!(Checked, lines) == 16);
     assert!(offset_of!(Checked, rounds) == 24 && offset_of!(Checked, count) == 32 && offset_of!(Checked, peak) == 40);
     assert!(size_of::<Told>() == 16 && offset_of!(Told, status) == 8);
@@ -60,7 +73,7 @@ const _: () = {
 /// The declarations. A slice is handed over as its address and its length, two arguments apart: a pair that did not fit into
 /// the registers left would lie elsewhere.
 mod archive {
-    use super::{Checked, Evaluated, Single, Told, LINE};
+    use super::{AtLeast, Checked, Evaluated, Single, Told, LINE};
 
     extern "C" {
         pub fn cablesalak_evaluate(
@@ -142,6 +155,22 @@ mod archive {
             positive: u64,
             negative: u64,
         ) -> Single;
+
+        pub fn cablesalak_at_least(
+            vars: *mut u8,
+            vars_length: usize,
+            lows: *mut u16,
+            lows_length: usize,
+            highs: *mut u16,
+            highs_length: usize,
+            heads: *mut u16,
+            heads_length: usize,
+            links: *mut u16,
+            links_length: usize,
+            count: usize,
+            set: u64,
+            k: u8,
+        ) -> AtLeast;
 
         pub fn cablesalak_check(
             vars: *mut u8,
@@ -249,6 +278,12 @@ pub fn cofactor(table: &mut ColumnsMut<'_>, count: usize, f: u16, g: u16) -> Sin
 /// f with the variables of `positive` made true and those of `negative` false; or 7, 26, 13, 15, 23.
 pub fn cofactor_literals(table: &mut ColumnsMut<'_>, count: usize, f: u16, positive: u64, negative: u64) -> Single {
     call!(cablesalak_cofactor_literals, table.as_mut_ptr, count, f, positive, negative)
+}
+
+/// "At least k of the set's variables", with the number of assignments of theirs that it excludes where they are at most 32; or 7,
+/// 26, 23.
+pub fn at_least(table: &mut ColumnsMut<'_>, count: usize, set: u64, k: u8) -> AtLeast {
+    call!(cablesalak_at_least, table.as_mut_ptr, count, set, k)
 }
 
 /// The check of a formula and a proof. Number 0: no assignment satisfies the formula.

@@ -7,8 +7,8 @@ use crate::{Node, NodeNo, Number, Variables};
 
 /// A table that owns its columns and keeps its index by itself. It is always in good order, so that its calls never give 26.
 ///
-/// The calls make nodes from nodes; the first ones are rows of the caller's ([`Table::push`], [`Table::with_nodes`]) or what a
-/// check leaves.
+/// Most calls make nodes from nodes; the first ones come from [`Table::at_least`], are rows of the caller's ([`Table::push`],
+/// [`Table::with_nodes`]) or what a check leaves.
 #[derive(Clone, Debug, PartialEq, Eq)]
 pub struct Table {
     vars: Vec<u8>,
@@ -131,5 +131,24 @@ impl Table {
     /// f with the variables of `positive` made true and those of `negative` false; or 13, 15, 23.
     pub fn cofactor_literals(&mut self, f: NodeNo, positive: Variables, negative: Variables) -> Result<NodeNo, Number> {
         self.lend().cofactor_literals(f, positive, negative)
+    }
+
+    /// "At least k of the set's variables": 1 where so many of them are true. With it, for sets of up to 32 variables, how many
+    /// assignments of these variables it excludes. Or 23.
+    ///
+    /// ```
+    /// use cablesalak::{Number, Table, Variables};
+    ///
+    /// let mut table = Table::new(64)?;
+    /// let papers = Variables::of(&[1, 2, 3, 4]).unwrap();
+    /// let (three_of_four, excluded) = table.at_least(papers, 3)?;
+    /// assert!(table.evaluate(three_of_four, Variables::of(&[1, 2, 4]).unwrap())?);
+    /// assert!(!table.evaluate(three_of_four, Variables::of(&[1, 2]).unwrap())?);
+    /// // Of the 16 ways to have them, 5 have at least three.
+    /// assert_eq!(excluded, Some(11));
+    /// # Ok::<(), Number>(())
+    /// ```
+    pub fn at_least(&mut self, set: Variables, k: u8) -> Result<(NodeNo, Option<u64>), Number> {
+        self.lend().at_least(set, k)
     }
 }

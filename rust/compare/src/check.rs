@@ -5,10 +5,11 @@ use crate::families::{self, Problem};
 use crate::fault;
 use crate::formula::Formula;
 use crate::index;
+use crate::large;
 use crate::proof::{strewn, Builder, Writer};
 use crate::random::Random;
 use crate::strike;
-use crate::table;
+use crate::tally;
 
 /// A few commands over one formula and one proof.
 pub fn commands(random: &mut Random) -> Vec<String> {
@@ -23,15 +24,16 @@ pub fn commands(random: &mut Random) -> Vec<String> {
         53..=61 => mutated(random),
         62..=65 => renumbered(random),
         66..=75 => nearly_full(random),
-        76..=87 => {
+        76..=85 => {
             let problem = small(random);
             vec![plain(random, &problem)]
         }
+        86..=87 => large::sets(random),
         88..=96 => {
             let problem = family(random);
             vec![plain(random, &problem)]
         }
-        _ => long(random),
+        _ => large::limits(random),
     }
 }
 
@@ -43,7 +45,7 @@ fn hex(bytes: &[u8]) -> String {
 }
 
 /// The command, with lists as short as they may be or longer.
-fn command(random: &mut Random, size: usize, formula: &[u8], proof: &[u8]) -> String {
+pub fn command(random: &mut Random, size: usize, formula: &[u8], proof: &[u8]) -> String {
     let members = 2048 + random.pick(&[0, 0, 0, 1, 700]);
     let scratch = 4096 + random.pick(&[0, 0, 0, 1, 900]);
     format!("check {size} {members} {scratch} {} {}", hex(formula), hex(proof))
@@ -61,9 +63,13 @@ fn plain(random: &mut Random, problem: &Problem) -> String {
     command(random, size, &text, &finished(problem))
 }
 
-/// A problem of a family, some of them with strikings.
+/// A problem of a family, some of them with entries of sets or with strikings.
 fn family(random: &mut Random) -> Problem {
-    let problem = families::any(random);
+    let mut problem = families::any(random);
+    let sets = tally::dice(random);
+    if sets > 0 {
+        problem = tally::shortened(random, &problem, sets);
+    }
     some_struck(random, problem, 30)
 }
 
@@ -79,6 +85,7 @@ fn some_struck(random: &mut Random, problem: Problem, often: usize) -> Problem {
 fn small(random: &mut Random) -> Problem {
     let formula = small_formula(random);
     let mut builder = Builder::new(&formula);
+    builder.writer.sets = tally::dice(random);
     let striking = random.pick(&[0, 0, 20, 60]);
     for _ in 0..random.below(6) {
         line(random, &mut builder, formula.variables);
@@ -129,8 +136,15 @@ fn spread(random: &mut Random, formula: &mut Formula) {
 /// One more line: implied and accepted by RUP, or a PR line with a witness.
 fn line(random: &mut Random, builder: &mut Builder, variables: usize) {
     let whole = builder.whole();
+    if random.percent(10) {
+        tally::strew(random, &mut builder.writer, variables);
+    }
     for _ in 0..4 {
-        let any = strewn(random, &mut builder.store, variables);
+        let any = if random.percent(25) {
+            tally::diagram(random, &mut builder.store, variables)
+        } else {
+            strewn(random, &mut builder.store, variables)
+        };
         let done = match random.below(4) {
             0 => {
                 let implied = builder.store.or(whole, any);
@@ -213,11 +227,14 @@ fn mutated(random: &mut Random) -> Vec<String> {
         if random.percent(30) {
             mutate(random, &mut text, b" \n\t\r0123456789-cpx");
         } else {
-            mutate(random, &mut proof, &[0x4e, 0x54, 0x46, 0x52, 0x50, 0x44, 0x45, 0, 1, 2, 3, 4, 5, 6, 7, 64, 255]);
+            mutate(random, &mut proof, &KINDS_AND_NUMBERS);
         }
     }
     vec![command(random, 4096, &text, &proof)]
 }
+
+const KINDS_AND_NUMBERS: [u8; 19] =
+    [0x4e, 0x58, 0x4b, 0x54, 0x46, 0x52, 0x50, 0x44, 0x45, 0, 1, 2, 3, 4, 5, 6, 7, 64, 255];
 
 fn mutate(random: &mut Random, bytes: &mut Vec<u8>, alphabet: &[u8]) {
     if bytes.is_empty() {
@@ -251,7 +268,7 @@ fn renumbered(random: &mut Random) -> Vec<String> {
     vec![command(random, 4096, &text, &proof)]
 }
 
-/// A proof that is fine up to a line, where one fault of the numbers 9 to 21 or 28 follows.
+/// A proof that is fine up to a line, where one fault of the numbers 9 to 21, 28 or 29 follows.
 fn faulty_proof(random: &mut Random) -> Vec<String> {
     let problem = small(random);
     let whole = &problem.builder.writer;
@@ -267,62 +284,6 @@ fn faulty_proof(random: &mut Random) -> Vec<String> {
     }
     let text = problem.formula.strewn(random);
     vec![command(random, 4096, &text, &proof)]
-}
-
-/// The limits: 4,096 entries, 1,024 lines, 1,024 clauses, a full member list.
-fn long(random: &mut Random) -> Vec<String> {
-    let mut formula = Formula { variables: 64, clauses: vec![vec![1, 2], vec![-1, 3], vec![2, -3], vec![-2]] };
-    if random.percent(20) {
-        let clauses = random.pick(&[1023, 1024, 1025]);
-        formula.clauses = formula.clauses.iter().cycle().take(clauses).cloned().collect();
-    }
-    let mut writer = Writer::default();
-    match random.below(5) {
-        0 | 1 => same_entries(random, &mut writer),
-        2 => entries(random, &mut writer),
-        _ => lines(random, &mut writer, formula.clauses.len()),
-    }
-    writer.line(0x52, 0);
-    writer.end();
-    let size = random.pick(&[4096, 65_536]);
-    vec![command(random, size, &formula.text(), &writer.bytes)]
-}
-
-/// About 4,096 records of three nodes.
-fn same_entries(random: &mut Random, writer: &mut Writer) {
-    let records = random.pick(&[4095, 4096, 4097, 4097, 4098]);
-    for at in 0..records {
-        let level = at * 3 / records;
-        writer.node([3, 2, 1][level], 0, if level > 0 { 2 } else { 1 });
-    }
-    writer.line(0x52, random.pick(&[2, 4096, 4097, 4098]));
-}
-
-/// A line of many different nodes, whose entry numbers are those of the store that they are taken from.
-fn entries(random: &mut Random, writer: &mut Writer) {
-    let many = random.pick(&[100, 1000, 4095, 4096, 4097, 4098]);
-    let variables: Vec<u8> = (1..=64).collect();
-    let store = table::store(random, &variables, many + 2);
-    for (variable, low, high) in store.nodes.iter().skip(2).take(many) {
-        writer.node(*variable, *low as u16, *high as u16);
-    }
-    writer.line(random.pick(&[0x52, 0x50]), random.between(2, many + 1) as u16);
-}
-
-/// About 1,024 lines that repeat a member. Some strike out the line before each time, some the last of all members.
-fn lines(random: &mut Random, writer: &mut Writer, clauses: usize) {
-    let lines = random.pick(&[1023, 1024, 1025, 1026]);
-    let striking = random.percent(50);
-    for line in 0..lines {
-        let root = writer.node(2, 1, 0);
-        writer.line(0x52, root);
-        if striking && line > 0 {
-            writer.strike(clauses + line - 1);
-        }
-    }
-    if random.percent(50) {
-        writer.strike(clauses + lines - random.below(2));
-    }
 }
 
 #[cfg(test)]

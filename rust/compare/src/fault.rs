@@ -5,13 +5,14 @@ use crate::diagram::Literals;
 use crate::families::Problem;
 use crate::proof::{strewn, Writer};
 use crate::random::Random;
+use crate::tally::{self, Tally};
 
 /// Records with a fault, for a place where so many lines of the problem's proof are accepted.
 pub fn write(random: &mut Random, writer: &mut Writer, problem: &Problem, lines: usize) {
     let variables = problem.formula.variables;
     let some = random.between(1, variables.max(1)) as u8;
-    match random.below(20) {
-        0 => writer.bytes.push(random.pick(&[0, 1, 0x43, 0x4d, 0x4f, 0x51, 0x53, 0x55, 0xff])),
+    match random.below(24) {
+        0 => writer.bytes.push(random.pick(&[0, 1, 0x43, 0x4a, 0x4c, 0x4d, 0x4f, 0x51, 0x53, 0x55, 0x57, 0x59, 0xff])),
         1 => cut_short(random, writer, some),
         2 => after_end(random, writer),
         3 => wrong_variable(random, writer, variables),
@@ -24,17 +25,19 @@ pub fn write(random: &mut Random, writer: &mut Writer, problem: &Problem, lines:
         10 => writer.end(),
         11 | 14 | 15 => not_shown(random, writer, problem),
         12 => zero_lines(random, writer),
-        _ => strikings(random, writer, problem, problem.formula.clauses.len() + lines),
+        16..=19 => strikings(random, writer, problem, problem.formula.clauses.len() + lines),
+        _ => sets(random, writer, variables),
     }
 }
 
 /// 10: a record cut short. Nothing may follow it, so what follows makes of it another record or another fault.
 fn cut_short(random: &mut Random, writer: &mut Writer, some: u8) {
-    match random.below(5) {
+    match random.below(7) {
         0 => drop(writer.node(some, 0, 1)),
         1 => writer.line(0x52, 0),
         2 => writer.line(0x50, 0),
         3 => writer.strike(0),
+        4 | 5 => drop(writer.set(random.pick(&[0x58, 0x4b]), random.pick(&[0, 1, u64::MAX]), random.below(3) as u8)),
         _ => writer.witness(Literals { positive: 1 << (some - 1), negative: 0 }),
     }
     writer.bytes.truncate(random.between(1, writer.bytes.len() - 1));
@@ -190,4 +193,44 @@ fn all_struck(random: &mut Random, writer: &mut Writer, problem: &Problem, membe
         writer.strike(member);
     }
     not_shown(random, writer, problem);
+}
+
+/// Records of sets: 12, 29, both, 14, 17 or 19, or nothing wrong.
+fn sets(random: &mut Random, writer: &mut Writer, variables: usize) {
+    let (set, tally) = tally::asked(random, variables);
+    // A bit beyond the header, often the first.
+    let last = random.pick(&[variables, 63]).max(variables);
+    let beyond = if variables < 64 { 1 << random.between(variables, last) } else { 0 };
+    let (kind, byte) = tally.record();
+    match random.below(8) {
+        // 12; of a parity byte above 1 too, which comes later.
+        0 => drop(writer.set(kind, random.pick(&[set, 0]) | beyond, byte)),
+        1 => drop(writer.set(0x58, set | beyond, random.pick(&[2, 255]))),
+        2 => drop(writer.set(0x58, set, random.pick(&[2, 3, 4, 0x45, 0x80, 0xfe, 0xff]))),
+        3 => over_set(random, writer, variables),
+        4 => {
+            writer.tally(set, tally);
+            writer.witness(Literals { positive: u64::from(variables > 0), negative: 0 });
+            let root = writer.tally(set, Tally::AtLeast(1));
+            writer.line(0x50, root);
+        }
+        _ => {
+            tally::strew(random, writer, variables);
+            let root = writer.tally(set, tally);
+            writer.line(random.pick(&[0x52, 0x52, 0x50]), root);
+        }
+    }
+}
+
+/// A node over an entry of a set: 14 where its variable is not smaller than all of the set's, unless the entry is a constant.
+fn over_set(random: &mut Random, writer: &mut Writer, variables: usize) {
+    let (set, tally) = tally::asked(random, variables);
+    let child = writer.tally(set, tally);
+    let first = set.trailing_zeros() as usize + 1;
+    let other_variable = random.between(1, variables.max(1));
+    let variable = random.pick(&[first, first - 1, other_variable]).clamp(1, 64) as u8;
+    let other = random.below(3) as u16;
+    let root =
+        if random.percent(50) { writer.node(variable, child, other) } else { writer.node(variable, other, child) };
+    writer.line(0x52, root);
 }

@@ -5,7 +5,7 @@
 
 use compare::filter::Filter;
 use compare::random::Random;
-use compare::{check, single};
+use compare::{check, single, tally};
 use std::collections::BTreeMap;
 use std::process::exit;
 
@@ -148,9 +148,12 @@ impl Tally {
         let number = first(answer).parse().unwrap_or(99);
         let mut add = |what: String| *self.numbers.entry(what).or_default().entry(number).or_default() += 1;
         add(first(command));
-        // The checks that struck out a member, once more.
+        // The checks that struck out a member and those with a record of a set, once more.
         if answer.split(" | ").nth(3).is_some_and(|marks| marks.contains('1')) {
             add("check, struck".into());
+        }
+        if command.starts_with("check ") && command.split(' ').nth(5).is_some_and(tally::stands_in) {
+            add("check, sets".into());
         }
     }
 

@@ -3,6 +3,7 @@
 use crate::diagram::{Diagrams, Literals, Node};
 use crate::formula::Formula;
 use crate::random::Random;
+use crate::tally::{self, Tally};
 use std::collections::HashMap;
 
 /// The bytes of a proof and the entries of its open line.
@@ -13,6 +14,8 @@ pub struct Writer {
     pub records: Vec<usize>,
     /// Where each line's first record starts, and what comes after the last line.
     pub lines: Vec<usize>,
+    /// Whether the diagram of a node, if it is a tally, is written as one record: bit n for the nodes whose number's remainder by 64 is n.
+    pub sets: u64,
     entries: HashMap<Node, u16>,
     next: u16,
 }
@@ -31,6 +34,24 @@ impl Writer {
     pub fn node(&mut self, variable: u8, low: u16, high: u16) -> u16 {
         let ([l0, l1], [h0, h1]) = (low.to_le_bytes(), high.to_le_bytes());
         self.record(0x4e, &[variable, l0, l1, h0, h1]);
+        self.made()
+    }
+
+    /// A record of a set, whatever its bytes say: the number of its entry.
+    pub fn set(&mut self, kind: u8, set: u64, byte: u8) -> u16 {
+        let mut body = set.to_le_bytes().to_vec();
+        body.push(byte);
+        self.record(kind, &body);
+        self.made()
+    }
+
+    pub fn tally(&mut self, set: u64, tally: Tally) -> u16 {
+        let (kind, byte) = tally.record();
+        self.set(kind, set, byte)
+    }
+
+    /// The entry of the record that was written last.
+    fn made(&mut self) -> u16 {
         self.next += 1;
         self.next + 1
     }
@@ -89,9 +110,15 @@ impl Writer {
         if let Some(entry) = self.entries.get(&node) {
             return *entry;
         }
-        let (variable, low, high) = store.nodes[node];
-        let (low, high) = (self.entry(store, low), self.entry(store, high));
-        let entry = self.node(variable, low, high);
+        let short = if self.sets >> (node % 64) & 1 == 1 { tally::of(store, node) } else { None };
+        let entry = match short {
+            Some((set, tally)) => self.tally(set, tally),
+            None => {
+                let (variable, low, high) = store.nodes[node];
+                let (low, high) = (self.entry(store, low), self.entry(store, high));
+                self.node(variable, low, high)
+            }
+        };
         self.entries.insert(node, entry);
         entry
     }
@@ -130,6 +157,18 @@ impl Builder {
         let members: Vec<Node> = formula.clauses.iter().map(|clause| store.clause(clause)).collect();
         let struck = vec![false; members.len()];
         Builder { store, members, struck, writer: Writer::default(), lines: Vec::new(), strikings: Vec::new() }
+    }
+
+    /// The same with no line and no striking yet, over the first members, which are so many clauses.
+    pub fn anew(&self, clauses: usize) -> Self {
+        Builder {
+            store: self.store.clone(),
+            members: self.members[..clauses].to_vec(),
+            struck: vec![false; clauses],
+            writer: Writer { sets: self.writer.sets, ..Writer::default() },
+            lines: Vec::new(),
+            strikings: Vec::new(),
+        }
     }
 
     /// Writes g as a line, whether it is accepted or not.

@@ -3,8 +3,9 @@
 use crate::index;
 use crate::random::Random;
 use crate::table::{self, Table};
+use crate::tally;
 
-pub const WORDS: [&str; 5] = ["and", "not", "cof", "lits", "eval"];
+pub const WORDS: [&str; 6] = ["and", "not", "cof", "lits", "eval", "atleast"];
 
 /// A few commands over one table, the words among those given.
 pub fn commands(random: &mut Random, words: &[&str]) -> Vec<String> {
@@ -80,7 +81,12 @@ fn nearly_full(random: &mut Random, words: &[&str], table: &Table) -> Vec<String
     let word = random.pick(words);
     let operands = operands(random, word, table);
     let steps = if table.count > 300 || word == "eval" { 1 } else { random.between(1, 12) };
-    let first = if random.percent(70) { 0 } else { random.below(10) };
+    let first = match random.below(100) {
+        0..=69 => 0,
+        70..=84 => random.below(10),
+        _ if word == "atleast" => random.below(nodes_of(&operands) + 1),
+        _ => random.below(10),
+    };
     let sizes = (first..first + steps).map(|room| table.size + room);
     sizes.filter(|size| *size <= 65_536).map(|size| text(word, &Table { size, ..table.clone() }, &operands)).collect()
 }
@@ -105,7 +111,34 @@ fn text(word: &str, table: &Table, operands: &str) -> String {
     format!("{word} {} {operands}", table.text())
 }
 
+/// How many nodes the diagram of an at-least call has.
+fn nodes_of(operands: &str) -> usize {
+    let mut words = operands.split(' ').map(|word| word.parse::<u64>().unwrap_or(0));
+    let (set, least) = (words.next().unwrap_or(0), words.next().unwrap_or(0) as usize);
+    least * (set.count_ones() as usize + 1).saturating_sub(least)
+}
+
+/// A set of none to 64 variables, often of the table's, and k at its edges.
+fn set_and_least(random: &mut Random, table: &Table) -> String {
+    let size = match random.below(4) {
+        0 => random.below(65),
+        1 | 2 => random.pick(&[0, 1, 2, 31, 32, 33, 33, 34, 64]),
+        _ => random.between(1, 12),
+    };
+    let any = tally::set(random, 64, size);
+    let of_table = table.places.iter().map(|place| place.0).filter(|variable| (1..=64).contains(variable));
+    let of_table = of_table.fold(0, |set, variable| set | 1 << (variable - 1));
+    let set: u64 = if random.percent(30) { of_table & random.pick(&[any, !any, u64::MAX]) } else { any };
+    let size = set.count_ones() as usize;
+    let edges = [0, 1, 2, size / 2, size.saturating_sub(1), size, size + 1, 32, 33, 34, 65, 255];
+    let least = if random.percent(70) { random.pick(&edges) } else { random.below(size + 2) };
+    format!("{set} {least}")
+}
+
 fn operands(random: &mut Random, word: &str, table: &Table) -> String {
+    if word == "atleast" {
+        return set_and_least(random, table);
+    }
     let f = operand(random, table);
     match word {
         "and" => format!("{f} {}", operand(random, table)),
@@ -158,5 +191,40 @@ fn word_of(random: &mut Random) -> u64 {
         2 => random.word() & 0xff,
         3 => 1 << random.below(64),
         _ => random.word(),
+    }
+}
+
+#[cfg(test)]
+mod tests {
+    use super::*;
+    use std::collections::HashSet;
+
+    #[test]
+    fn nodes_of_a_diagram() {
+        for (operands, nodes) in
+            [("7 2", 4), ("7 0", 0), ("7 4", 0), ("7 255", 0), ("0 1", 0), ("18446744073709551615 32", 1056)]
+        {
+            assert_eq!(nodes_of(operands), nodes, "{operands}");
+        }
+    }
+
+    /// Sets on both sides of 32 variables and of all sizes, with k at its edges.
+    #[test]
+    fn every_size_comes() {
+        let random = &mut Random::new(1);
+        let table = table::one_chain(random);
+        let asked: HashSet<(u32, u32)> = (0..20_000)
+            .map(|_| {
+                let text = set_and_least(random, &table);
+                let (set, least) = text.split_once(' ').unwrap();
+                (set.parse::<u64>().unwrap().count_ones(), least.parse().unwrap())
+            })
+            .collect();
+        for size in 0..=64 {
+            assert!(asked.iter().any(|asked| asked.0 == size), "{size}");
+        }
+        for size in [0, 1, 31, 32, 33, 64] {
+            assert!([0, size, size + 1, 33, 255].iter().all(|&least| asked.contains(&(size, least))), "{size}");
+        }
     }
 }

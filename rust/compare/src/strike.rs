@@ -25,8 +25,7 @@ pub fn one(random: &mut Random, builder: &mut Builder) {
 pub fn strewn(random: &mut Random, problem: &Problem) -> Problem {
     let Problem { formula, builder } = problem;
     let (clauses, lines) = (formula.clauses.len(), builder.lines.len());
-    let mut start = Builder { store: builder.store.clone(), ..Builder::new(formula) };
-    start.members = builder.members[..clauses].to_vec();
+    let mut start = builder.anew(clauses);
     let mut chosen = builder.strikings.clone();
     for _ in 0..random.between(1, 5) {
         let line = random.below(lines + 1);
@@ -60,7 +59,8 @@ fn pass(builder: &mut Builder, lines: &[Line], chosen: &[Striking]) -> bool {
     })
 }
 
-fn write(random: &mut Random, builder: &mut Builder, lines: &[Line], chosen: &[Striking]) {
+/// Writes the lines, each with its strikings strewn among its records.
+pub fn write(random: &mut Random, builder: &mut Builder, lines: &[Line], chosen: &[Striking]) {
     for (at, line) in lines.iter().enumerate() {
         builder.write_striking(random, *line, &before(at, chosen));
     }
@@ -87,8 +87,7 @@ mod tests {
             let count = |kind: u8| kinds.iter().filter(|other| **other == kind).count();
             assert_eq!((count(0x44), count(0x52) + count(0x50)), (strikings.len(), plain.builder.lines.len()));
             assert!(writer.lines.windows(2).all(|pair| [0x52, 0x50].contains(&writer.bytes[pair[1] - 3])));
-            let mut again = Builder { store: problem.builder.store.clone(), ..Builder::new(&problem.formula) };
-            again.members = problem.builder.members[..problem.formula.clauses.len()].to_vec();
+            let mut again = problem.builder.anew(problem.formula.clauses.len());
             struck += usize::from(!strikings.is_empty());
             accepted += usize::from(!strikings.is_empty() && pass(&mut again, lines, strikings));
             within += usize::from(kinds.windows(2).any(|pair| pair == [0x4e, 0x44]));

@@ -2,7 +2,7 @@
 
 use crate::command::{Call, Check, Command, Node, Table};
 use crate::lent::{Dirt, Lent, Lists};
-use cablesalak::raw::{self, Checked, Single};
+use cablesalak::raw::{self, AtLeast, Checked, Single};
 use std::fmt::Write;
 
 /// The answer to a command, or what the library broke. Dirt is what the lent places may hold.
@@ -36,7 +36,7 @@ fn evaluate(table: &Table, node: u16, word: u64) -> Answered {
 
 fn single(table: &Table, call: &Call) -> Answered {
     let mut lists = Lists::holding(table);
-    let said = operate(&mut lists, table.count, call);
+    let (said, beside) = operate(&mut lists, table.count, call)?;
     expect(lists.guarded(), "written outside the table")?;
     if said.number == 0 {
         expect(said.count <= table.size, "the count is above the size")?;
@@ -46,18 +46,29 @@ fn single(table: &Table, call: &Call) -> Answered {
     } else {
         expect(lists.same_index(&Lists::holding(table)), "a refused call changed the index")?;
     }
-    Ok(format!("{} {} {} | {}", said.number, said.node, said.count, shown(&lists)))
+    Ok(format!("{} {} {}{beside} | {}", said.number, said.node, said.count, shown(&lists)))
 }
 
-fn operate(lists: &mut Lists, count: usize, call: &Call) -> Single {
+/// What a call says, and the word that only the at-least call says besides.
+fn operate(lists: &mut Lists, count: usize, call: &Call) -> Result<(Single, String), String> {
     let table = &mut lists.lend();
-    match *call {
+    let said = match *call {
         Call::And(f, g) => raw::conjunction(table, count, f, g),
         Call::Not(f) => raw::negation(table, count, f),
         Call::Cofactor(f, g) => raw::cofactor(table, count, f, g),
         Call::Literals(f, positive, negative) => raw::cofactor_literals(table, count, f, positive, negative),
+        Call::AtLeast(set, k) => return counted(raw::at_least(table, count, set, k)),
         Call::Evaluate(..) => unreachable!(),
-    }
+    };
+    Ok((said, String::new()))
+}
+
+/// The excluded assignments, `-` where they are not counted.
+fn counted(said: AtLeast) -> Result<(Single, String), String> {
+    let AtLeast { number, node, count, counted, excluded } = said;
+    expect(counted || excluded == 0, "assignments are excluded and not counted")?;
+    let beside = if counted { format!(" {excluded}") } else { " -".into() };
+    Ok((Single { number, node, count }, beside))
 }
 
 /// The lent parts of a whole check.

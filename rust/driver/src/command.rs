@@ -31,6 +31,8 @@ pub enum Call {
     Cofactor(u16, u16),
     Literals(u16, u64, u64),
     Evaluate(u16, u64),
+    /// The set and k.
+    AtLeast(u64, u8),
 }
 
 /// Sizes and bytes of a whole check.
@@ -83,6 +85,7 @@ fn call(word: &str, operands: &[&str]) -> Option<Call> {
         ("cof", [f, g]) => Call::Cofactor(number(f)?, number(g)?),
         ("lits", [f, positive, negative]) => Call::Literals(number(f)?, number(positive)?, number(negative)?),
         ("eval", [f, word]) => Call::Evaluate(number(f)?, number(word)?),
+        ("atleast", [set, k]) => Call::AtLeast(number(set)?, number(k)?),
         _ => return None,
     })
 }

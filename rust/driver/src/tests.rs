@@ -2,7 +2,7 @@
 
 use crate::command::{self, Change, Index, Table};
 use crate::lent::Lists;
-use cablesalak::raw::{self, Columns, ColumnsMut};
+use cablesalak::raw::{self, AtLeast, Columns, ColumnsMut};
 
 #[test]
 fn what_is_no_command() {
@@ -36,6 +36,12 @@ fn what_is_no_command() {
         "not 4 3 - 2 !LS:1=1",
         "not 4 3 - !HS=8 2",
         "check 4 2048 4096 - - !H:1=1",
+        "atleast 4 3 - 3",
+        "atleast 4 3 - 3 1 1",
+        "atleast 4 3 - 3 256",
+        "atleast 4 3 - 3 -1",
+        "atleast 4 3 - 18446744073709551616 1",
+        "at_least 4 3 - 3 1",
     ];
     for line in lines {
         assert!(command::read(line).is_none(), "{line}");
@@ -51,6 +57,8 @@ fn what_is_a_command() {
         "check 0 0 0 - 4e0a",
         "not 4 3 - 2 !H:1=65535 !L:99=0 !HS=0 !LS=9 !H:1=2",
         "check 4 2048 4096 - - !LS=3 !HS=9",
+        "atleast 4 3 - 18446744073709551615 255",
+        "atleast 0 0 @- 0 0 !L:1=2 !HS=3",
     ];
     for line in lines {
         assert!(command::read(line).is_some(), "{line}");
@@ -102,6 +110,8 @@ fn refused_by_all(sizes: Sizes) {
         raw::cofactor_literals(&mut table, 2, 1, 1, 1),
     ];
     assert!(said.iter().all(|said| (said.number, said.node, said.count) == (7, 0, 2)));
+    let said = raw::at_least(&mut table, 2, 3, 1);
+    assert_eq!(said, AtLeast { number: 7, node: 0, count: 2, counted: false, excluded: 0 });
     refused_for_size(&mut table, 2048);
     assert!(table.vars.iter().all(|place| *place == 7));
     for list in [table.lows, table.highs, table.heads, table.links] {

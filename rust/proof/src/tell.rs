@@ -76,8 +76,12 @@ impl Diagrams {
         g == 1
     }
 
-    /// The diagram that is `values[k]` where k of the variables are true.
-    fn counted(&mut self, variables: &[u8], values: &[bool]) -> Diagram {
+    /// The diagram that is `values[k]` where k of the variables, which rise, are true.
+    ///
+    /// # Panics
+    /// Where there is not one value more than variables.
+    pub fn counted(&mut self, variables: &[u8], values: &[bool]) -> Diagram {
+        assert_eq!(values.len(), variables.len() + 1);
         let mut row: Vec<Diagram> = values.iter().map(|&value| usize::from(value)).collect();
         for &variable in variables.iter().rev() {
             row = row.windows(2).map(|pair| self.node(variable, pair[0], pair[1])).collect();

@@ -50,6 +50,44 @@ fn strikings() {
     assert_eq!(list("strikings", &bytes), (Some(0), wanted.into()));
 }
 
+/// Set entries, with a column wide enough for their bytes.
+#[test]
+fn set_entries() {
+    let mut proof = Writer::new();
+    let three_of_four = proof.at_least(3, &[2, 3, 5, 64]);
+    let root = proof.node(1, three_of_four, Entry::ONE);
+    proof.rup(root);
+    let even = proof.parity(&[4, 9], false);
+    proof.rup(even);
+    let mut bytes = proof.finish();
+    bytes.pop();
+    bytes.extend([0x58, 0, 0, 0, 0, 0, 0, 0, 0, 1, 0x4b, 3, 0, 0, 0, 0, 0, 0, 0, 0]);
+    bytes.extend([0x58, 1, 0, 0, 0, 0, 0, 0, 0, 2, 0x4e, 1, 3, 0, 4, 0, 0x45]);
+    let wanted = "     0  4B 16 00 00 00 00 00 00 80 03  line 1: entry 2 = at least 3 of x2, x3, x5, x64
+    10  4E 01 02 00 01 00              line 1: entry 3 = if x1 then 1 else entry 2
+    16  52 03 00                       line 1: RUP entry 3 (x1 or at least 3 of x2, x3, x5, x64)
+    19  58 08 01 00 00 00 00 00 00 00  line 2: entry 2 = an even number of x4, x9
+    29  52 02 00                       line 2: RUP entry 2 (an even number of x4, x9)
+    32  58 00 00 00 00 00 00 00 00 01  line 3: entry 2 = an odd number of no variables, which is 0
+    42  4B 03 00 00 00 00 00 00 00 00  line 3: entry 3 = at least 0 of x1, x2, which is 1
+    52  58 01 00 00 00 00 00 00 00 02  line 3: entry 4, PARITY BYTE 2 (29)
+    62  4E 01 03 00 04 00              line 3: entry 5 = if x1 then entry 4 else entry 3
+    68  45                             end, 2 lines
+";
+    assert_eq!(list("sets", &bytes), (Some(0), wanted.into()));
+}
+
+/// Every record that makes an entry counts.
+#[test]
+fn too_many_entries() {
+    let least = [0x4b, 1, 0, 0, 0, 0, 0, 0, 0, 1];
+    for (name, last) in [("21-least", least), ("21-parity", [0x58, 1, 0, 0, 0, 0, 0, 0, 0, 9])] {
+        let (_, text) = list(name, &[least.repeat(4_096), last.to_vec(), vec![0x45]].concat());
+        assert_eq!(text.lines().filter(|line| line.ends_with("OVER 4,096 ENTRIES (21)")).count(), 1);
+        assert!(text.lines().rev().nth(1).unwrap().ends_with("(21)"));
+    }
+}
+
 /// Counts of variables, alone and with literals beside them.
 #[test]
 fn counts() {
@@ -87,6 +125,8 @@ fn faults() {
         ("9", &[0x4e, 1, 0, 0, 1, 0, 0x00][..], 1, "     6                     UNKNOWN KIND 00 (9)"),
         ("10", &[0x52, 0], 1, "     0                     RECORD 52 CUT SHORT (10)"),
         ("10-strike", &[0x44, 0], 1, "     0                     RECORD 44 CUT SHORT (10)"),
+        ("10-parity", &[0x58, 0, 0, 0, 0, 0, 0, 0, 0], 1, "     0                     RECORD 58 CUT SHORT (10)"),
+        ("10-least", &[0x4b], 1, "     0                     RECORD 4B CUT SHORT (10)"),
         ("10-end", &[0x52, 0, 0], 1, "     3                     NO END RECORD (10)"),
         ("11", &[0x45, 0x45], 1, "     1  AFTER THE END: 1 byte (11)"),
         ("13", &[0x52, 2, 0, 0x45], 0, "     0  52 02 00           line 1: RUP entry 2, WHICH DOES NOT EXIST (13)"),

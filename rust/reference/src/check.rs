@@ -6,6 +6,7 @@ use crate::operate::Diagrams;
 use crate::records::{EntryId, MemberId, Reader, Record};
 use crate::rules;
 use crate::table::{bit, Full, Literals, NodeId, ONE, SMALLEST, ZERO};
+use crate::tally::{self, Tally};
 
 const MEMBERS: u64 = 2_048;
 const SCRATCH: u64 = 4_096;
@@ -129,6 +130,8 @@ impl<'a> Checker<'a> {
                 Ok(Record::Rup { root }) => self.rup(root),
                 Ok(Record::Pr { root }) => self.pr(root),
                 Ok(Record::Strike { member }) => self.strike(member),
+                Ok(Record::Parity { set, odd }) => self.parity(set, odd),
+                Ok(Record::AtLeast { set, least }) => self.at_least(set, least),
             };
             if let Err(number) = taken {
                 return (number, start);
@@ -138,15 +141,38 @@ impl<'a> Checker<'a> {
 
     /// "Node: 10, 21, 12, 13, 14, 23."
     fn node(&mut self, variable: u32, low: EntryId, high: EntryId) -> Result<(), u32> {
-        if self.entries.len() - 2 == ENTRIES {
-            return Err(21);
-        }
+        self.may_be_entry()?;
         self.known_variable(variable)?;
         let (low, high) = (self.entry(low)?, self.entry(high)?);
         if variable >= self.d.table.level(low).min(self.d.table.level(high)) {
             return Err(14);
         }
         let node = self.d.table.make(variable, low, high).map_err(|Full| 23u32)?;
+        self.entries.push(node);
+        Ok(())
+    }
+
+    /// "It refuses, after 10 and 21, a set bit beyond the header with 12, a parity byte above 1 with 29,
+    /// then 23."
+    fn parity(&mut self, set: u64, odd: u8) -> Result<(), u32> {
+        self.may_be_entry()?;
+        self.known_set(set)?;
+        let tally = match odd {
+            0 => Tally::Even,
+            1 => Tally::Odd,
+            _ => return Err(29),
+        };
+        self.tally(set, tally)
+    }
+
+    fn at_least(&mut self, set: u64, least: u8) -> Result<(), u32> {
+        self.may_be_entry()?;
+        self.known_set(set)?;
+        self.tally(set, Tally::AtLeast(least))
+    }
+
+    fn tally(&mut self, set: u64, tally: Tally) -> Result<(), u32> {
+        let node = tally::make(self.d, set, tally).map_err(|Full| 23u32)?;
         self.entries.push(node);
         Ok(())
     }
@@ -220,6 +246,21 @@ impl<'a> Checker<'a> {
     fn known_variable(&self, variable: u32) -> Result<(), u32> {
         if variable == 0 || variable > self.variables {
             return Err(12);
+        }
+        Ok(())
+    }
+
+    fn known_set(&self, set: u64) -> Result<(), u32> {
+        if u64::BITS - set.leading_zeros() > self.variables {
+            return Err(12);
+        }
+        Ok(())
+    }
+
+    /// Records of every kind that make an entry share the limit.
+    fn may_be_entry(&self) -> Result<(), u32> {
+        if self.entries.len() - 2 == ENTRIES {
+            return Err(21);
         }
         Ok(())
     }

@@ -11,6 +11,7 @@ mod rules;
 #[cfg(test)]
 mod selftest;
 mod table;
+mod tally;
 
 use std::io::{self, BufRead, BufReader, BufWriter, Write};
 

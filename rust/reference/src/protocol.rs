@@ -4,6 +4,7 @@ use crate::check::{check, Lent, Member};
 use crate::index::{Change, Index, Sizes};
 use crate::operate::Diagrams;
 use crate::table::{Full, Literals, NodeId, Table, VARIABLES, ZERO};
+use crate::tally::{self, Tally};
 
 /// A place of a lent table, which may hold anything: variable, low, high.
 type Place = [u32; 3];
@@ -36,6 +37,7 @@ enum Call {
     Cofactor(u32, u32),
     Restrict(u32, Literals),
     Evaluate(u32, u64),
+    AtLeast(u64, u8),
 }
 
 /// Writes the answer to a command, without the line's end.
@@ -63,6 +65,7 @@ fn command(d: &mut Diagrams, line: &[u8], out: &mut Vec<u8>) -> Option<()> {
             Call::Restrict(f, Literals { yes: decimal(words.next()?)?, no: decimal(words.next()?)? })
         }
         b"eval" => Call::Evaluate(node_number(words.next()?)?, decimal(words.next()?)?),
+        b"atleast" => Call::AtLeast(decimal(words.next()?)?, u8::try_from(decimal(words.next()?)?).ok()?),
         _ => return None,
     };
     single(d, &lent, &lent_index(words)?, &call, out);
@@ -109,8 +112,10 @@ fn single(d: &mut Diagrams, lent: &LentTable, index: &LentIndex, call: &Call, ou
     push_number(out, value.into());
     out.push(b' ');
     push_number(out, count);
-    if matches!(call, Call::Evaluate(..)) {
-        return;
+    match *call {
+        Call::Evaluate(..) => return,
+        Call::AtLeast(set, least) => push_excluded(out, tally::excluded(set, least).filter(|_| number == 0)),
+        _ => (),
     }
     out.extend(b" | ");
     if number == 0 {
@@ -151,6 +156,7 @@ fn run(d: &mut Diagrams, lent: &LentTable, index: &LentIndex, call: &Call) -> Re
             }
             d.restrict(f, by)
         }
+        Call::AtLeast(set, least) => tally::make(d, set, Tally::AtLeast(least)),
         Call::Evaluate(f, word) => return Ok(d.evaluate(node(d, f)?, word).into()),
     };
     made.map(|node| node.0).map_err(|Full| 23)
@@ -309,6 +315,14 @@ fn push_place(out: &mut Vec<u8>, place: &Place) {
             out.push(b',');
         }
         push_number(out, field.into());
+    }
+}
+
+fn push_excluded(out: &mut Vec<u8>, excluded: Option<u64>) {
+    out.push(b' ');
+    match excluded {
+        Some(excluded) => push_number(out, excluded),
+        None => out.push(b'-'),
     }
 }
 

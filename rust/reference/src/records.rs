@@ -9,11 +9,33 @@ pub struct MemberId(pub u16);
 
 #[derive(Clone, Copy, PartialEq, Eq, Debug)]
 pub enum Record {
-    Node { variable: u8, low: EntryId, high: EntryId },
-    Witness { variable: u8, value: bool },
-    Rup { root: EntryId },
-    Pr { root: EntryId },
-    Strike { member: MemberId },
+    Node {
+        variable: u8,
+        low: EntryId,
+        high: EntryId,
+    },
+    Witness {
+        variable: u8,
+        value: bool,
+    },
+    Rup {
+        root: EntryId,
+    },
+    Pr {
+        root: EntryId,
+    },
+    Strike {
+        member: MemberId,
+    },
+    /// Sets: bit i-1 for variable i.
+    Parity {
+        set: u64,
+        odd: u8,
+    },
+    AtLeast {
+        set: u64,
+        least: u8,
+    },
     End,
 }
 
@@ -47,6 +69,8 @@ impl<'a> Reader<'a> {
             0x52 => Record::Rup { root: entry(self.body()?) },
             0x50 => Record::Pr { root: entry(self.body()?) },
             0x44 => Record::Strike { member: MemberId(u16::from_le_bytes(self.body()?)) },
+            0x58 => Record::Parity { set: u64::from_le_bytes(self.body()?), odd: self.body::<1>()?[0] },
+            0x4B => Record::AtLeast { set: u64::from_le_bytes(self.body()?), least: self.body::<1>()?[0] },
             0x45 => Record::End,
             _ => return Err(9),
         })

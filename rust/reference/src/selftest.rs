@@ -4,7 +4,8 @@
 use crate::index::Index;
 use crate::operate::Diagrams;
 use crate::protocol::answer;
-use crate::table::{bit, Literals, NodeId, ZERO};
+use crate::table::{bit, Full, Literals, NodeId, ZERO};
+use crate::tally::{self, Tally};
 
 const N: u32 = 4;
 const ALL: u16 = u16::MAX;
@@ -170,6 +171,12 @@ fn single_calls_are_what_the_definitions_say() {
         let by = Literals { yes, no: random.below(16) & !yes };
         let line = format!("lits {head} {f} {} {}", by.yes, by.no);
         assert_eq!(ask(&mut d, &line), expected(&table, under(ff, by)));
+        let (set, least) = (random.below(16), random.below(6) as u8);
+        let at_least = at_least(set, least);
+        let answer = expected(&table, at_least);
+        let shown = if answer.starts_with("23") { "-".into() } else { one_by_one(set, at_least).to_string() };
+        let answer = answer.replacen(" |", &format!(" {shown} |"), 1);
+        assert_eq!(ask(&mut d, &format!("atleast {head} {set} {least}")), answer);
         let word = random.below(16);
         let seen = value(ff, word as u32) as u32;
         assert_eq!(ask(&mut d, &format!("eval {head} {f} {word}")), format!("0 {seen} {count}"));
@@ -177,6 +184,11 @@ fn single_calls_are_what_the_definitions_say() {
             facts_hold(&mut d, &table, node, by);
         }
     }
+}
+
+/// How many assignments of a set, all else false, a function excludes.
+fn one_by_one(set: u64, f: Function) -> usize {
+    (0..16).filter(|&a| a as u64 & !set == 0 && !value(f, a)).count()
 }
 
 /// Units, the question for 1 and the tie to the negation, in the table loaded by the last call.
@@ -277,6 +289,8 @@ enum Step {
     Witness(u32, bool),
     Line(u16, bool),
     Strike(u16),
+    AtLeast(u64, u8),
+    Parity(u64, u8),
     End,
 }
 
@@ -287,8 +301,23 @@ fn bytes(step: Step) -> Vec<u8> {
         Step::Witness(v, value) => vec![if value { 0x54 } else { 0x46 }, v as u8],
         Step::Line(root, pr) => vec![if pr { 0x50 } else { 0x52 }, two(root)[0], two(root)[1]],
         Step::Strike(member) => vec![0x44, two(member)[0], two(member)[1]],
+        Step::AtLeast(set, byte) => [&[0x4B], &set.to_le_bytes()[..], &[byte]].concat(),
+        Step::Parity(set, byte) => [&[0x58], &set.to_le_bytes()[..], &[byte]].concat(),
         Step::End => vec![0x45],
     }
+}
+
+/// How many variables of a set an assignment makes true.
+fn number_true(set: u64, assignment: u32) -> u32 {
+    (1..=N).filter(|&v| set & bit(v) != 0 && value(variable(v), assignment)).count() as u32
+}
+
+fn at_least(set: u64, least: u8) -> Function {
+    function(|a| number_true(set, a) >= least.into())
+}
+
+fn parity(set: u64, odd: u8) -> Function {
+    function(|a| number_true(set, a) % 2 == odd.into())
 }
 
 /// The proof's part of document 01, word for word, on functions, with the records of document 02.
@@ -330,8 +359,7 @@ impl Model {
                     return Err(14);
                 }
                 let f = (variable(v) & high) | (!variable(v) & low);
-                self.table.build(f)?;
-                self.entries.push(f);
+                self.entry(f)?;
             }
             Step::Witness(v, value) => {
                 if v == 0 || v > self.variables {
@@ -375,9 +403,19 @@ impl Model {
                 }
                 self.struck.push(member);
             }
+            Step::AtLeast(set, _) | Step::Parity(set, _) if set >> self.variables != 0 => return Err(12),
+            Step::Parity(_, byte) if byte > 1 => return Err(29),
+            Step::AtLeast(set, least) => self.entry(at_least(set, least))?,
+            Step::Parity(set, odd) => self.entry(parity(set, odd))?,
             Step::End if self.witness != Literals::default() => return Err(16),
             Step::End => return Err(if self.refuted { 0 } else { 20 }),
         }
+        Ok(())
+    }
+
+    fn entry(&mut self, f: Function) -> Result<(), NoRoom> {
+        self.table.build(f)?;
+        self.entries.push(f);
         Ok(())
     }
 
@@ -453,7 +491,13 @@ fn proof(random: &mut Random, variables: u32, clauses: &[Function]) -> Vec<Step>
         if random.one_in(4) {
             g = random_clause(random, variables).1;
         }
-        let root = make(g, &mut entries, &mut steps);
+        let mut root = make(g, &mut entries, &mut steps);
+        if random.one_in(6) {
+            let (step, f) = tally(random, variables);
+            steps.push(step);
+            entries.push(f);
+            (g, root) = (f, entries.len() as u16 - 1);
+        }
         if random.one_in(8) {
             steps.push(noise(random));
         }
@@ -476,12 +520,24 @@ fn proof(random: &mut Random, variables: u32, clauses: &[Function]) -> Vec<Step>
     steps
 }
 
+fn tally(random: &mut Random, variables: u32) -> (Step, Function) {
+    let set = random.below(1 << variables);
+    let (least, odd) = (random.below(6) as u8, random.below(2) as u8);
+    if random.one_in(2) {
+        (Step::AtLeast(set, least), at_least(set, least))
+    } else {
+        (Step::Parity(set, odd), parity(set, odd))
+    }
+}
+
 fn noise(random: &mut Random) -> Step {
     let entry = |random: &mut Random| random.below(8) as u16;
-    match random.below(5) {
+    match random.below(7) {
         0 => Step::Witness(random.below(6) as u32, random.one_in(2)),
         1 => Step::Line(entry(random), random.one_in(2)),
         2 => Step::Strike(random.below(12) as u16),
+        3 => Step::AtLeast(random.below(20), random.below(6) as u8),
+        4 => Step::Parity(random.below(20), random.below(3) as u8),
         _ => Step::Node(random.below(6) as u32, entry(random), entry(random)),
     }
 }
@@ -582,7 +638,7 @@ fn checks_are_what_the_rules_say_and_0_is_said_of_nothing_satisfiable() {
         let models = clauses.iter().fold(ALL, |all, clause| all & clause);
         assert!(number != 0 || models == 0, "0 said of a satisfiable formula: {line}");
     }
-    for number in [0, 8, 12, 13, 14, 15, 16, 17, 18, 19, 20, 23, 28] {
+    for number in [0, 8, 12, 13, 14, 15, 16, 17, 18, 19, 20, 23, 28, 29] {
         assert!(seen[number] > 20, "{number} seen {} times only", seen[number]);
     }
     assert!(accepted_pr > 50, "{accepted_pr}");
@@ -607,4 +663,61 @@ fn parity_over_64_variables_stays_small() {
     assert_eq!(d.restrict(odd, Literals { yes: 1, no: 0 }), Ok(d.table.high(odd)));
     assert!(!d.is_one_under(odd, Literals { yes: u64::MAX >> 1, no: 0 }));
     assert!(d.is_one_under(odd, Literals { yes: u64::MAX >> 1, no: 1 << 63 }));
+}
+
+#[test]
+fn tallies_of_many_variables_take_their_places_low_side_first() {
+    let mut d = Diagrams::new();
+    for (set, tally) in [
+        (0x0FFF, Tally::Odd),
+        (0x7005_0000_3003, Tally::Even),
+        (0x3FF0, Tally::AtLeast(4)),
+        (0x8101_0101_0101_0181, Tally::AtLeast(9)),
+    ] {
+        let mut table = Plain::new(4_096);
+        let root = without_memory(&mut table, set, tally);
+        d.reset(table.nodes.len());
+        assert_eq!(tally::make(&mut d, set, tally), Ok(NodeId(root)));
+        let nodes = (2..d.table.count() as u32).map(NodeId);
+        let nodes: Vec<_> = nodes.map(|id| [d.table.level(id), d.table.low(id).0, d.table.high(id).0]).collect();
+        assert_eq!(nodes, table.nodes[2..]);
+        d.reset(table.nodes.len() - 1);
+        assert_eq!(tally::make(&mut d, set, tally), Err(Full));
+    }
+    d.reset(4_096);
+    assert!(tally::make(&mut d, u64::MAX, Tally::Odd).is_ok());
+    assert_eq!(d.table.count(), 2 + 2 * 63 + 1);
+    d.reset(4_096);
+    assert!(tally::make(&mut d, u64::MAX, Tally::AtLeast(32)).is_ok());
+    assert_eq!(d.table.count(), 2 + 32 * 33);
+}
+
+/// One step for each assignment of the set, down to the last variable.
+fn without_memory(table: &mut Plain, set: u64, tally: Tally) -> u32 {
+    if set == 0 {
+        return matches!(tally, Tally::Even | Tally::AtLeast(0)) as u32;
+    }
+    let v = (1..=64).find(|&v| set & bit(v) != 0).unwrap();
+    let high_side = match tally {
+        Tally::Odd => Tally::Even,
+        Tally::Even => Tally::Odd,
+        Tally::AtLeast(least) => Tally::AtLeast(least.saturating_sub(1)),
+    };
+    let low = without_memory(table, set & !bit(v), tally);
+    let high = without_memory(table, set & !bit(v), high_side);
+    if low == high {
+        return low;
+    }
+    table.place(v, low, high).ok().unwrap()
+}
+
+#[test]
+fn excluded_assignments_are_those_counted_one_by_one() {
+    for size in 0..=14u32 {
+        let set = ((1 << size) - 1) << 20;
+        for least in 0..=20 {
+            let counted = (0..1u32 << size).filter(|a| a.count_ones() < least).count() as u64;
+            assert_eq!(tally::excluded(set, least as u8), Some(counted));
+        }
+    }
 }

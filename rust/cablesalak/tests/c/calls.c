@@ -96,6 +96,35 @@ static void granted(void)
     EXPECT(t.vars[6] == 1 && t.lows[6] == 1 && t.highs[6] == 0 && is_indexed(&t, 7));
 }
 
+static void is_least(cablesalak_at_least_made said, unsigned number, unsigned node, size_t count, bool counted, uint64_t excluded)
+{
+    EXPECT(said.number == number);
+    EXPECT(said.node == node);
+    EXPECT(said.count == count);
+    EXPECT(said.counted == counted);
+    EXPECT(said.excluded == excluded);
+}
+
+/* "At least one of 1, 2" takes the free place; what is a constant, or there already, takes none. */
+static void at_least(void)
+{
+    table t = case_g();
+    is_least(cablesalak_at_least(LISTS(&t), 6, 2, 1), 0, 2, 6, true, 1);
+    is_least(cablesalak_at_least(LISTS(&t), 6, 3, 1), 0, 6, 7, true, 1);
+    EXPECT(t.vars[6] == 1 && t.lows[6] == 2 && t.highs[6] == 1 && is_indexed(&t, 7));
+    table before = t;
+    is_least(cablesalak_at_least(LISTS(&t), 7, 3, 0), 0, 1, 7, true, 0);
+    is_least(cablesalak_at_least(LISTS(&t), 7, 0, 1), 0, 0, 7, true, 1);
+    is_least(cablesalak_at_least(LISTS(&t), 7, 0xFFFFFFFFu, 255), 0, 0, 7, true, 4294967296u);
+    is_least(cablesalak_at_least(LISTS(&t), 7, 0x1FFFFFFFFu, 34), 0, 0, 7, false, 0);
+    is_least(cablesalak_at_least(LISTS(&t), 7, 0xFFFFFFFFFFFFFFFFu, 0), 0, 1, 7, false, 0);
+    /* "1 and 2" is no node, and there is no place. */
+    is_least(cablesalak_at_least(LISTS(&t), 7, 3, 2), CABLESALAK_TABLE_FULL, 0, 7, false, 0);
+    is_least(cablesalak_at_least(LISTS(&t), 6, 3, 1), CABLESALAK_NOT_IN_ORDER, 0, 6, false, 0);
+    is_least(cablesalak_at_least(OF_SIZE(&t, 1), 9, 3, 1), CABLESALAK_WRONG_SIZE, 0, 9, false, 0);
+    EXPECT(same(&t, &before));
+}
+
 static void refused(void)
 {
     table t = case_g(), before = t;
@@ -124,12 +153,14 @@ static void wrong_index(void)
     is(cablesalak_negation(LISTS(&t), 6, 2), CABLESALAK_NOT_IN_ORDER, 0, 6);
     is(cablesalak_cofactor(LISTS(&t), 6, 2, 0), CABLESALAK_NOT_IN_ORDER, 0, 6);
     is(cablesalak_cofactor_literals(LISTS(&t), 6, 2, 3, 2), CABLESALAK_NOT_IN_ORDER, 0, 6);
+    is_least(cablesalak_at_least(LISTS(&t), 6, 3, 1), CABLESALAK_NOT_IN_ORDER, 0, 6, false, 0);
     EXPECT(same(&t, &before));
 #define SHORT_LINKS (t.vars), PLACES, t.lows, PLACES, t.highs, PLACES, t.heads, 2 * PLACES, t.links, PLACES - 1
     is(cablesalak_conjunction(SHORT_LINKS, 6, 2, 3), CABLESALAK_WRONG_SIZE, 0, 6);
     is(cablesalak_negation(SHORT_LINKS, 6, 2), CABLESALAK_WRONG_SIZE, 0, 6);
     is(cablesalak_cofactor(SHORT_LINKS, 6, 2, 0), CABLESALAK_WRONG_SIZE, 0, 6);
     is(cablesalak_cofactor_literals(SHORT_LINKS, 6, 2, 3, 2), CABLESALAK_WRONG_SIZE, 0, 6);
+    is_least(cablesalak_at_least(SHORT_LINKS, 6, 3, 1), CABLESALAK_WRONG_SIZE, 0, 6, false, 0);
     EXPECT(same(&t, &before));
 }
 
@@ -138,6 +169,9 @@ static const uint8_t proof[] = {0x4E, 2, 0, 0, 1, 0, 0x52, 2, 0, 0x52, 0, 0, 0x4
 /* Clauses 0 and 1 struck out once the first line has used them; then clause 1 again. */
 static const uint8_t strikings[] = {0x4E, 2, 0, 0, 1, 0, 0x52, 2, 0, 0x44, 0, 0, 0x44, 1, 0, 0x52, 0, 0, 0x45};
 static const uint8_t twice[] = {0x44, 1, 0, 0x44, 1, 0};
+/* "At least one of 2" in place of the first line's node, and "an odd number of 2" with a parity byte of 2. */
+static const uint8_t least[] = {0x4B, 2, 0, 0, 0, 0, 0, 0, 0, 1, 0x52, 2, 0, 0x52, 0, 0, 0x45};
+static const uint8_t parity[] = {0x58, 2, 0, 0, 0, 0, 0, 0, 0, 2};
 static uint8_t vars[64], struck[2049];
 static uint16_t lows[64], highs[64], heads[128], links[64], members[2048], scratch[4096];
 
@@ -209,6 +243,8 @@ static void checks(void)
     EXPECT(says(check(2048, 4096, proof + 9, 4), CABLESALAK_NOT_SHOWN, 0, 0, 0, 8, 8));
     EXPECT(says(check(2048, 4096, strikings, sizeof strikings), CABLESALAK_REFUTED, 18, 2, 1, 8, 10) && marked("11"));
     EXPECT(says(check(2048, 4096, twice, sizeof twice), CABLESALAK_NO_SUCH_MEMBER, 3, 0, 0, 8, 8) && marked("01"));
+    EXPECT(says(check(2048, 4096, least, sizeof least), CABLESALAK_REFUTED, 16, 2, 1, 8, 10) && left_indexed(8));
+    EXPECT(says(check(2048, 4096, parity, sizeof parity), CABLESALAK_NO_SUCH_PARITY, 0, 0, 0, 8, 8));
     EXPECT(refused_for_size(check(2048, 4095, proof, sizeof proof)));
     EXPECT(refused_for_size(check(2047, 4096, proof, sizeof proof)));
     EXPECT(refused_for_size(check(2049, 4096, proof, sizeof proof)));
@@ -241,6 +277,7 @@ int main(void)
 {
     evaluations();
     granted();
+    at_least();
     refused();
     wrong_index();
     checks();

@@ -95,6 +95,10 @@ int main(void)
     check(PLACES, MEMBERS, all, strikings, 19, 0);
     EXPECT(struck[1][0] == 1 && struck[1][1] == 1 && struck[1][2] == 0 && struck[1][MEMBERS - 1] == 0);
     check(PLACES, MEMBERS, all, "\x44\x04\x00", 3, 28);
+    check(PLACES, MEMBERS, all, "\x4B\x03\x00\x00\x00\x00\x00\x00\x00\x02\x52\x02\x00\x45", 14, 20);
+    check(PLACES, MEMBERS, all, "\x58\x03\x00\x00\x00\x00\x00\x00\x00\x01\x52\x02\x00\x45", 14, 20);
+    check(PLACES, MEMBERS, all, "\x58\x03\x00\x00\x00\x00\x00\x00\x00\x02\x45", 11, 29);
+    check(PLACES, MEMBERS, all, "\x4B\x04\x00\x00\x00\x00\x00\x00\x00\x02\x45", 11, 12);
     check(3, MEMBERS, all, case_a, 13, 8);
     check(1, MEMBERS, all, case_a, 13, 7);
     check(PLACES, MEMBERS - 1, all, case_a, 13, 7);

@@ -172,12 +172,81 @@ fn strikings() {
     }
 }
 
+/// A record of kind `58` or `4B`, its set given by its variables.
+fn set(kind: u8, variables: &[u8], byte: u8) -> Vec<u8> {
+    [&[kind], &Variables::of(variables).unwrap().0.to_le_bytes()[..], &[byte]].concat()
+}
+
+/// A set record as entry 2, then these bytes.
+fn sets(kind: u8, variables: &[u8], byte: u8, rest: &[u8]) -> Vec<u8> {
+    [&set(kind, variables, byte), rest].concat()
+}
+
+const ODD_EVEN: u8 = 0x58;
+const AT_LEAST: u8 = 0x4b;
+const LINE: &[u8] = b"\x52\x02\0\x45";
+
+/// Either-or and at-least entries: case I with one record for its four, constants, entries among nodes, behind a witness.
+#[test]
+fn set_entries() {
+    let exactly_one: &[u8] = b"p cnf 2 2\n1 2 0\n-1 -2 0\n";
+    let over_two = [set(AT_LEAST, &[2, 3], 1), b"\x4E\x01\0\0\x02\0\x52\x03\0\x45".to_vec()].concat();
+    let witnessed = [&b"\x54\x01"[..], &set(AT_LEAST, &[1], 1), b"\x50\x02\0\x45"].concat();
+    run_all(&[
+        (4_096, b"p cnf 3 3\n2 3 0\n1 3 0\n1 2 0\n", &sets(AT_LEAST, &[1, 2, 3], 2, LINE), (20, 13, 1, 2, 9, 16), 3),
+        (4_096, exactly_one, &sets(ODD_EVEN, &[1, 2], 1, LINE), (20, 13, 1, 0, 7, 10), 2),
+        (4_096, exactly_one, &sets(ODD_EVEN, &[1, 2], 0, LINE), (19, 10, 0, 0, 6, 8), 2),
+        // The empty set is 1 for even and 0 for odd; at least none is 1, and more than there are is 0.
+        (4_096, D, &sets(ODD_EVEN, &[], 0, LINE), (17, 10, 0, 0, 4, 4), 1),
+        (4_096, D, &sets(ODD_EVEN, &[], 1, LINE), (19, 10, 0, 0, 4, 4), 1),
+        (4_096, D, &sets(AT_LEAST, &[1, 2], 0, LINE), (17, 10, 0, 0, 4, 4), 1),
+        (4_096, D, &sets(AT_LEAST, &[1, 2], 3, LINE), (19, 10, 0, 0, 4, 4), 1),
+        (4_096, D, &sets(AT_LEAST, &[1, 2], 255, LINE), (19, 10, 0, 0, 4, 4), 1),
+        // "1 and (2 or 3)", of a formula that is the clause 0.
+        (4_096, b"p cnf 3 1\n0\n", &over_two, (20, 19, 1, 0, 5, 8), 1),
+        (4_096, D, &witnessed, (20, 15, 1, 0, 5, 6), 1),
+    ]);
+}
+
+/// After 10 and 21: 12, then 29 of a parity, then 23.
+#[test]
+fn refused_set_entries() {
+    let three: &[u8] = b"p cnf 3 0\n";
+    let below = [set(AT_LEAST, &[1, 2], 1), b"\x4E\x01\x02\0\x01\0".to_vec()].concat();
+    let constant = [set(AT_LEAST, &[1, 2], 0), b"\x4E\x01\0\0\x02\0\x45".to_vec()].concat();
+    run_all(&[
+        (4_096, D, b"\x58", (10, 0, 0, 0, 4, 4), 1),
+        (4_096, D, &set(ODD_EVEN, &[64], 2)[..9], (10, 0, 0, 0, 4, 4), 1),
+        (4_096, D, &set(AT_LEAST, &[64], 2)[..9], (10, 0, 0, 0, 4, 4), 1),
+        (4_096, D, &set(ODD_EVEN, &[3], 1), (12, 0, 0, 0, 4, 4), 1),
+        (4_096, D, &set(ODD_EVEN, &[1, 64], 2), (12, 0, 0, 0, 4, 4), 1),
+        (4_096, D, &set(AT_LEAST, &[3], 0), (12, 0, 0, 0, 4, 4), 1),
+        (4_096, D, &set(ODD_EVEN, &[1, 2], 2), (29, 0, 0, 0, 4, 4), 1),
+        (4_096, D, &sets(AT_LEAST, &[1], 2, &set(ODD_EVEN, &[], 255)), (29, 10, 0, 0, 4, 4), 1),
+        (2, three, &set(ODD_EVEN, &[1, 2, 3], 2), (29, 0, 0, 0, 2, 2), 0),
+        // Half made, and then dropped: an odd number of three has five nodes, at least two of them four.
+        (6, three, &set(ODD_EVEN, &[1, 2, 3], 1), (23, 0, 0, 0, 2, 6), 0),
+        (7, three, &sets(ODD_EVEN, &[1, 2, 3], 1, b"\x45"), (20, 10, 0, 0, 2, 7), 0),
+        (5, three, &set(AT_LEAST, &[1, 2, 3], 2), (23, 0, 0, 0, 2, 5), 0),
+        (6, three, &sets(AT_LEAST, &[1, 2, 3], 2, b"\x45"), (20, 10, 0, 0, 2, 6), 0),
+        // A node over the entry's own variable, and over an entry that is a constant.
+        (4_096, D, &below, (14, 10, 0, 0, 4, 4), 1),
+        (4_096, D, &constant, (20, 16, 0, 0, 4, 5), 1),
+    ]);
+}
+
 #[test]
 fn too_many() {
     let entries = b"\x4E\x02\0\0\x01\0".repeat(4_097);
+    let either = [set(ODD_EVEN, &[2], 1).repeat(2_048), set(AT_LEAST, &[2], 1).repeat(2_048)].concat();
+    let (parity, least) = (set(ODD_EVEN, &[64], 2), set(AT_LEAST, &[64], 2));
     let lines = b"\x52\0\0".repeat(1_025);
     run_all(&[
         (4_096, D, &entries, (21, 24_576, 0, 0, 4, 4), 1),
+        // The three kinds share the limit, which comes before 12 and 29.
+        (4_096, D, &[&either[..], &parity].concat(), (21, 40_960, 0, 0, 4, 4), 1),
+        (4_096, D, &[&entries[..24_576], &least].concat(), (21, 24_576, 0, 0, 4, 4), 1),
+        (4_096, D, &[&either[..], b"\x45"].concat(), (20, 40_960, 0, 0, 4, 4), 1),
         (4_096, b"p cnf 0 1\n0\n", &lines, (22, 3_072, 1_024, 0, 2, 2), 1),
     ]);
 }

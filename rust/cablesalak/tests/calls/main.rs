@@ -1,5 +1,6 @@
 //! The library through the wrapper, over lists that hold anything before a call.
 
+mod at_least;
 mod checks;
 mod lent;
 mod numbers;

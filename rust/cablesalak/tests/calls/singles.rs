@@ -68,6 +68,7 @@ fn refused_by_all(lists: &mut Lists, what: &str) {
     assert_eq!(table.conjunction(NodeNo::ONE, NodeNo(9)), Err(Number::NotInOrder), "{what}");
     assert_eq!(table.cofactor(NodeNo::ONE, NodeNo::ZERO), Err(Number::NotInOrder), "{what}");
     assert_eq!(table.cofactor_literals(NodeNo::ONE, X1, X1), Err(Number::NotInOrder), "{what}");
+    assert_eq!(table.at_least(X1, 0), Err(Number::NotInOrder), "{what}");
     assert_eq!(*lists, before, "{what}");
 }
 

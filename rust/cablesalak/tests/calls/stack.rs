@@ -15,6 +15,7 @@ fn single_calls() {
     assert_eq!(table.cofactor(odd, odd), Ok(NodeNo::ONE));
     assert_eq!(table.evaluate(even, Variables::of(&[1, 64]).unwrap()), Ok(true));
     assert_eq!(table.cofactor_literals(odd, Variables::NONE, Variables(u64::MAX)), Ok(NodeNo::ZERO));
+    assert!(table.at_least(Variables(u64::MAX), 32).is_ok());
 }
 
 /// Case A's proof with its first line a thousand times: long for the program's table.
@@ -23,12 +24,16 @@ fn long_proof() -> Vec<u8> {
     [&line.repeat(1_000), last].concat()
 }
 
-/// The check with the largest table, and with the program's and a long proof.
+/// A line of "an odd number" and "at least 32" of 64 variables, which are the deepest entries of a record.
+const SETS: &[u8] = b"\x58\xFF\xFF\xFF\xFF\xFF\xFF\xFF\xFF\x01\x4B\xFF\xFF\xFF\xFF\xFF\xFF\xFF\xFF\x20\x52\x03\0\x45";
+
+/// The check with the largest table, and with the program's: a long proof, and the deepest entries.
 fn checks() {
     let mut workspace = Workspace::new(65_536).unwrap();
     assert_eq!(check(&mut workspace, FORMULA, PROOF).to_string(), "0 12 2 1 10");
     let mut workspace = Workspace::new(4_096).unwrap();
     assert_eq!(check(&mut workspace, FORMULA, &long_proof()).lines, 1_001);
+    assert_eq!(check(&mut workspace, b"p cnf 64 1\n0\n", SETS).to_string(), "20 23 1 0 2239");
 }
 
 /// The report has a table of its own on the stack.
