@@ -4,6 +4,7 @@ mod comments;
 mod indexes;
 mod orders;
 mod print;
+mod sets;
 mod singles;
 mod strikes;
 
@@ -40,4 +41,8 @@ fn main() {
     indexes::wrong_links();
     indexes::single_calls();
     indexes::checked();
+    sets::parities();
+    sets::at_leasts();
+    sets::five_places();
+    sets::single_calls();
 }

@@ -3,10 +3,11 @@ use operate::Operation;
 use session::Checked;
 use single::Evaluated;
 use single::call::Single;
+use single::least::AtLeast;
 use table::NodeNo;
 ghost use mathlib.Core.Path.{_≡_};
 ghost use Rattle.session.specs.Checked.{outcomeOf};
-ghost use Rattle.single.specs.Single.{evaluation, madeOf, operation};
+ghost use Rattle.single.specs.Single.{evaluation, madeOf, operation, countedOf, atLeastCall};
 ghost use Rattle.table.specs.Columns.{columnsMade};
 ghost use Rattle.verdict.specs.Check.{check};
 ghost use Rattle.verdict.specs.Satisfies.{Unsatisfiable};
@@ -143,6 +144,25 @@ pub fn cofactor_literals(
         f,
         NodeNo(1),
     )
+}
+
+// The diagram of "at least k of the set's variables", and how many assignments of the set it excludes; or 7, 26, 23. (02, 5/14)
+pub fn at_least(
+    vars: &mut [u8],
+    lows: &mut [u16],
+    highs: &mut [u16],
+    heads: &mut [u16],
+    links: &mut [u16],
+    count: usize,
+    set: u64,
+    k: u8,
+) -> AtLeast
+    ensures { λ r. ⌜ (
+        let lent = columnsMade (now (vars .entry)) (now (lows .entry)) (now (highs .entry)) (now (heads .entry)) (now (links .entry)) in
+        let left = columnsMade (now (vars .exit)) (now (lows .exit)) (now (highs .exit)) (now (heads .exit)) (now (links .exit)) in
+        countedOf left r ≡ atLeastCall lent count set k) ⌝ }
+{
+    single::least::at_least(vars, lows, highs, heads, links, count, set, k)
 }
 
 // The whole check of a formula and a proof. What it says and leaves is the definition's, and number 0 means that no assignment

@@ -15,15 +15,16 @@ use Rattle.table.proofs.Numbers as Numbers
 use Rattle.table.proofs.InOrder.{good-order}
 use Rattle.operate.specs.declared.Operation.{Operation}
 use Rattle.operate.specs.declared.Operation.the-variants.{Cofactor}
-use Rattle.single.specs.Single.{evaluation, operation}
+use Rattle.single.specs.Single.{evaluation, operation, atLeastCall}
 use Rattle.verdict.specs.Check.{State, isEntry, entryNode}
 use Rattle.verdict.specs.Run.{Meant, entryMeant, lineFunctions, Reached, Later}
 use Rattle.verdict.specs.Satisfies.{Unsatisfiable}
 use Rattle.verdict.proofs.Refuted as Refuted
 use Rattle.verdict.proofs.Values as Values
-use Rattle.demands.specs.Calls.{nodesIn, inGoodOrder, valueAt, Answers, Says, answered, refused}
+use Rattle.demands.specs.Calls.{nodesIn, inGoodOrder, valueAt, Answers, Says, answered, refused, LeastSays}
 use Rattle.demands.specs.Leaving.{Lent, checked, Fits, places, clausesRead, Member}
 use Rattle.demands.proofs.Singles as Singles
+use Rattle.demands.proofs.Leasts as Leasts
 use Rattle.demands.proofs.Words as Words
 use Rattle.demands.proofs.Lists as Lists
 
@@ -68,6 +69,11 @@ operation-answers op c count f g z = go (operation-says op c count f g)
     go : Says op c count f g (operation op c count f g) → Answers op c count f g (operation op c count f g)
     go (answered _ A) = A
     go (refused other _) = absurd (other z)
+
+-- "its value, and that of the single call's node [..], is 1 where the number of the set's true variables is [..] at least k; else 0"; the excluded
+-- assignments are counted "for sets of up to 32 variables [..] (no count for larger ones or with a refusal)". (02, 5/14)
+pub at-least-says : (c : Columns) (count set k : ℕ) → LeastSays c count set k (atLeastCall c count set k)
+at-least-says = Leasts.at-least-says
 
 -- A cofactor's value is taken at an assignment that satisfies g, and none that does is nearer.
 pub cofactor-nearest : (c : Columns) (count f g : ℕ) → operation Cofactor c count f g .number ≡ 0

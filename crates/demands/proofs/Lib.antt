@@ -1,5 +1,6 @@
 pub mod Lent
 pub mod Singles
+pub mod Leasts
 pub mod Words
 pub mod Ending
 pub mod Lists

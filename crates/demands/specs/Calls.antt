@@ -2,19 +2,21 @@
 -- that is not refused has done. No call open to others cites this file.
 use mathlib.Core.Path.{_≡_}
 use mathlib.Core.Logic.{_≢_}
-use mathlib.Core.Bool.{Bool, true, not, _&&_}
+use mathlib.Core.Bool.{Bool, true, false, not, _&&_}
 use mathlib.Core.List.{List}
 use Prim.Native.Nat.{ℕ, _<_}
 use lib.ListN.{length, take}
+use lib.Dec.{leb}
 use Rattle.meaning.specs.Diagram.{Assignment, value}
 use Rattle.meaning.specs.Operations.{forced, nearest}
+use Rattle.meaning.specs.Sets.{atLeastValue, sizeOf, excludedBy}
 use Rattle.meaning.specs.Words.{inWord}
 use Rattle.table.specs.Nodes.{Node, diagramAt}
 use Rattle.table.specs.Index.{goodOrder}
 use Rattle.table.specs.Columns.{rows, Columns}
 use Rattle.operate.specs.declared.Operation.{Operation}
 use Rattle.operate.specs.declared.Operation.the-variants.{Conjunction, Negation, Cofactor, Literals}
-use Rattle.single.specs.Single.{Made, unchanged}
+use Rattle.single.specs.Single.{Made, unchanged, Counted}
 
 -- ---- lent columns
 
@@ -55,3 +57,21 @@ pub record Answers (op : Operation) (c : Columns) (count f g : ℕ) (o : Made) :
 pub data Says (op : Operation) (c : Columns) (count f g : ℕ) (o : Made) : Type 0 where
   answered : o .number ≡ 0 → Answers op c count f g o → Says op c count f g o
   refused : o .number ≢ 0 → o ≡ unchanged c count (o .number) → Says op c count f g o
+
+-- ---- at least (02, 5/14)
+
+-- The same of the call that makes an at-least diagram: its node's value is "1 where the number of the set's true variables is [..] at least k;
+-- else 0"; "for sets of up to 32 variables" the excluded assignments are counted.
+pub record LeastAnswers (c : Columns) (count set k : ℕ) (o : Counted) : Type 0 where
+  pub below : o .made .node < o .made .count
+  pub good : inGoodOrder (o .made .columns) (o .made .count) ≡ true
+  pub kept : (j : ℕ) → j < count → diagramAt (nodesIn (o .made .columns) (o .made .count)) j ≡ diagramAt (nodesIn c count) j
+  pub values : (a : Assignment) → length a ≡ 64 → valueAt (o .made .columns) (o .made .count) (o .made .node) a ≡ atLeastValue (inWord set) k a
+  pub counted : o .counted ≡ leb (sizeOf 64 (inWord set)) 32
+  pub excluded : o .counted ≡ true → o .excluded ≡ excludedBy 64 (inWord set) k
+
+-- "(no count for larger ones or with a refusal)"
+pub data LeastSays (c : Columns) (count set k : ℕ) (o : Counted) : Type 0 where
+  least-answered : o .made .number ≡ 0 → LeastAnswers c count set k o → LeastSays c count set k o
+  least-refused : o .made .number ≢ 0 → o ≡ record { made = unchanged c count (o .made .number); counted = false; excluded = 0 }
+      → LeastSays c count set k o

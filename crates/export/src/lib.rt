@@ -4,6 +4,7 @@ use report::Told;
 use session::Checked;
 use single::Evaluated;
 use single::call::Single;
+use single::least::AtLeast;
 use table::NodeNo;
 ghost use mathlib.Core.Path.{_≡_};
 ghost use lib.ListN.{take, drop};
@@ -11,7 +12,7 @@ ghost use Rattle.io.specs.Counts.{Counts};
 ghost use Rattle.report.specs.Files.{said, statusOf};
 ghost use Rattle.report.specs.Line.{lineBytes};
 ghost use Rattle.session.specs.Checked.{outcomeOf};
-ghost use Rattle.single.specs.Single.{evaluation, madeOf, operation};
+ghost use Rattle.single.specs.Single.{evaluation, madeOf, operation, countedOf, atLeastCall};
 ghost use Rattle.table.specs.Columns.{columnsMade};
 ghost use Rattle.verdict.specs.Check.{check};
 ghost use Rattle.verdict.specs.Satisfies.{Unsatisfiable};
@@ -123,6 +124,26 @@ pub extern "C" fn cablesalak_cofactor_literals(
         positive,
         negative,
     )
+}
+
+// The diagram of "at least k of the set's variables", and how many assignments of the set it excludes; or 7, 26, 23.
+#[no_mangle]
+pub extern "C" fn cablesalak_at_least(
+    vars: &mut [u8],
+    lows: &mut [u16],
+    highs: &mut [u16],
+    heads: &mut [u16],
+    links: &mut [u16],
+    count: usize,
+    set: u64,
+    k: u8,
+) -> AtLeast
+    ensures { λ r. ⌜ (
+        let lent = columnsMade (now (vars .entry)) (now (lows .entry)) (now (highs .entry)) (now (heads .entry)) (now (links .entry)) in
+        let left = columnsMade (now (vars .exit)) (now (lows .exit)) (now (highs .exit)) (now (heads .exit)) (now (links .exit)) in
+        countedOf left r ≡ atLeastCall lent count set k) ⌝ }
+{
+    checker::at_least(vars, lows, highs, heads, links, count, set, k)
 }
 
 // The check of a formula and a proof. Number 0: no assignment satisfies the formula.

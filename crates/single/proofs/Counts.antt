@@ -12,10 +12,11 @@ use Rattle.meaning.proofs.Values.{diagram-reduced}
 use Rattle.table.specs.Nodes.{place}
 use Rattle.table.specs.Columns.{Columns}
 use Rattle.table.specs.Indexed.{Table, tableOf, listsOf, size, nodesOf, Good, Outcome}
-use Rattle.table.proofs.Outcomes.{placeIn, Grown, grown, Longer, longer}
+use Rattle.table.proofs.Outcomes.{placeIn, Grown, grown, Longer, longer, droppedTo, undone}
 use Rattle.sets.specs.declared.Count.{Count}
 use Rattle.sets.specs.Counts.{countOf}
-use Rattle.single.specs.Single.{Made, unchanged, madeBy, Counted, withCount, atLeastCall}
+use Rattle.single.specs.declared.least.AtLeast.{AtLeast}
+use Rattle.single.specs.Single.{Made, unchanged, madeBy, Counted, countedOf, withCount, atLeastCall}
 use Rattle.single.proofs.Refusals.{fits, ordered}
 
 -- With a refusal there is no count.
@@ -55,6 +56,12 @@ module _ (T : Table) (G : Good T) (set k : ℕ) (o : Outcome) (e : o ≡ placeIn
 -- 23: no count
 pub least-full : (c : Columns) (count set k : ℕ) (m : Made) → unchanged c count 23 ≡ m → refusedWith c count 23 ≡ withCount m set k
 least-full c count set k m e = subst (λ (x : Made). refusedWith c count 23 ≡ withCount x set k) e (no-count (unchanged c count 23) set k (λ z. absurd (omega arith)))
+
+pub least-23 : (T T′ T₂ : Table) → Good T → Longer T T′ → T₂ ≡ droppedTo (T .count) T′ → (set k : ℕ) (m : Made) → unchanged (listsOf T) (T .count) 23 ≡ m
+    → (r : AtLeast) → r ≡ record { number = 23; node = record { 0 = 0 }; count = T .count; counted = false; excluded = 0 }
+    → countedOf (listsOf T₂) r ≡ withCount m set k
+least-23 T T′ T₂ G L dropped set k m is r e =
+    ap (countedOf (listsOf T₂)) e ∙ ap (λ (t : Table). refusedWith (listsOf t) (T .count) 23) (dropped ∙ undone T G T′ L) ∙ least-full (listsOf T) (T .count) set k m is
 
 -- the diagram's node, and what it excludes
 pub least-done : (set k : ℕ) (node count : ℕ) (left : Columns) (m : Made) → record { number = 0; node = node; count = count; columns = left } ≡ m

@@ -1,6 +1,7 @@
 // The call that makes an at-least diagram and tells how many assignments of its set it excludes. (02, 5/14)
 use table::NodeNo;
 ghost use mathlib.Core.Path.{_≡_};
+ghost use mathlib.Core.Bool.{false};
 ghost use Rattle.meaning.specs.Words.{inWord};
 ghost use Rattle.meaning.specs.Sets.{atLeast};
 ghost use Rattle.table.specs.Nodes.{place};
