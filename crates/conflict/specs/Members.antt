@@ -1,15 +1,17 @@
 -- Members that are negations of each other. No call open to others cites this file.
 use mathlib.Core.Path.{_≡_}
 use mathlib.Core.Logic.{_≢_}
-use mathlib.Core.Bool.{Bool}
+use mathlib.Core.Bool.{Bool, not, cond}
 use mathlib.Core.List.{List}
 use Prim.Native.Nat.{ℕ, _<_}
 use lib.ListN.{length, getD}
+use lib.Dec.{eqb}
 use lib.Bits.{bitAnd}
 use Rattle.meaning.specs.Diagram.{Diagram, same}
 use Rattle.meaning.specs.Operations.{negation}
 use Rattle.meaning.specs.Rules.{any}
 use Rattle.table.specs.Nodes.{Node, diagramAt}
+use Rattle.walks.specs.Readable.{valueUnder}
 
 -- Whether the negation of g is one of the members.
 unfoldable pub negationIn : List Diagram → Diagram → Bool
@@ -20,6 +22,10 @@ negationIn ms g = any (λ f. same f (negation 64 g)) ms
 unfoldable pub someNegated : List Diagram → Bool
 unfolding any negationIn
 someNegated ms = any (negationIn ms) ms
+
+-- Whether the node k is asked for its negation: by its word, or, where all variables are touched, by its value where all are false.
+unfoldable pub asks : List Node → ℕ → ℕ → ℕ → Bool
+asks t k word touching = cond (eqb touching 18446744073709551615) (not (valueUnder t k 0)) (not (eqb (bitAnd word touching) 0))
 
 -- No two of the members that have no variable in the last word, as the others tell, are each other's negations, unless one is 0.
 unfoldable pub Quiet : List Node → List ℕ → List ℕ → ℕ → Type 0

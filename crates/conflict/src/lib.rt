@@ -7,8 +7,8 @@ ghost use Prim.Native.Nat.{_<_};
 ghost use lib.ListN.{length};
 ghost use Rattle.meaning.specs.Rules as rules;
 ghost use Rattle.table.specs.Indexed.{tableOf, nodesOf};
-ghost use Rattle.conflict.specs.Members.{someNegated, Quiet};
-ghost use Rattle.walks.specs.Readable.{ListReady};
+ghost use Rattle.conflict.specs.Members.{someNegated, asks, Quiet};
+ghost use Rattle.walks.specs.Readable.{Readable, nodesIn, ListReady};
 ghost use Rattle.table.specs.Lists.{diagramsOf, Inside};
 ghost use Rattle.conflict.specs.Marks.{isListed, unmarked, setAll, markedAt, FoundInside};
 
@@ -53,8 +53,31 @@ fn is_marked(marks: &[u8], found: Found) -> bool
     }
 }
 
-// Whether the negation of some member is marked, where the members are and none is 0. Only members with a variable in `touching` are
-// asked. Clears the memo.
+// All variables.
+const ALL: u64 = 18446744073709551615;
+
+// Whether a member is asked for its negation: one with a variable in `touching`. Where that is all variables those that are 0 where all
+// variables are false are enough, for of two that are each other's negations one is.
+fn is_asked(
+    vars: &[u8],
+    lows: &[u16],
+    highs: &[u16],
+    count: usize,
+    f: NodeNo,
+    word: u64,
+    touching: u64,
+) -> bool
+    requires { ⌜ Readable (now vars) (now lows) (now highs) count × (f .0 < count) ⌝ }
+    ensures { λ r. ⌜ r ≡ asks (nodesIn (now (vars .entry)) (now (lows .entry)) (now (highs .entry)) count) (f .0) word touching ⌝ }
+{
+    if touching == ALL {
+        return !walks::value_of(vars, lows, highs, count, f, 0);
+    }
+    word & touching != 0
+}
+
+// Whether the negation of some member is marked, where the members are and none is 0. Only members that `is_asked` tells are asked.
+// Clears the memo.
 fn some_negated(
     vars: &[u8],
     lows: &[u16],
@@ -83,8 +106,8 @@ fn some_negated(
     walks::clear_cells(memo, count);
     let mut i: usize = 0;
     while i < list.len() {
-        if words[i] & touching != 0 {
-            let f = NodeNo(list[i]);
+        let f = NodeNo(list[i]);
+        if is_asked(vars, lows, highs, count, f, words[i], touching) {
             let r = negate::negation_from(vars, lows, highs, heads, links, memo, count, f);
             if is_marked(marks, r) {
                 return true;

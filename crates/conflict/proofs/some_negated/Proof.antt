@@ -8,6 +8,8 @@ use lib.ListN.{length, getD}
 use borrow.Author.Needs.{needs}
 use Rattle.table.specs.Indexed.{tableOf, nodesOf}
 use Rattle.table.proofs.Written.{good-ordered}
+use Rattle.meaning.proofs.Booleans.{t≢f}
+use Rattle.walks.proofs.Here.{good-readable}
 use Rattle.negate.specs.Negations.{NegationMemo}
 use Rattle.negate.proofs.Entries.{negations-cleared}
 use Rattle.conflict.specs.Marks.{markedAt, FoundInside}
@@ -46,20 +48,36 @@ module _ (c : tie.After-loop Inv-loop μ-loop) where
   abbrev start-from-return-2 : tie.Start Inv-loop μ-loop
   start-from-return-2 = start-from-clear-cells (clear-cells-from-at-loop (c .before))
 
-module _ (c : tie.After-shared-slice-known9 Inv-loop μ-loop) where
-  abbrev start-from-shared-slice-read-if1 : tie.Start Inv-loop μ-loop
-  start-from-shared-slice-read-if1 = start-from-clear-cells (clear-cells-from-at-loop (c .before .before))
+module _ (c : tie.After-shared-slice-known10 Inv-loop μ-loop) where
+  abbrev in-loop-from-is-asked-call : tie.In-loop Inv-loop μ-loop
+  in-loop-from-is-asked-call = c .before .before
+
+  abbrev at-loop-from-is-asked-call : tie.At-loop Inv-loop μ-loop
+  at-loop-from-is-asked-call = in-loop-from-is-asked-call .before
+
+  abbrev start-from-is-asked-call : tie.Start Inv-loop μ-loop
+  start-from-is-asked-call = start-from-clear-cells (clear-cells-from-at-loop at-loop-from-is-asked-call)
+
+module _ (c : tie.After-is-asked Inv-loop μ-loop) where
+  abbrev in-loop-from-is-asked : tie.In-loop Inv-loop μ-loop
+  in-loop-from-is-asked = c .before .before .before
 
 module _ (c : tie.Joined1 Inv-loop μ-loop) where
+  abbrev is-asked-from-loop-again : tie.After-is-asked Inv-loop μ-loop
+  is-asked-from-loop-again = c .before
+
+  abbrev in-loop-from-loop-again : tie.In-loop Inv-loop μ-loop
+  in-loop-from-loop-again = in-loop-from-is-asked is-asked-from-loop-again
+
   abbrev at-loop-from-loop-again : tie.At-loop Inv-loop μ-loop
-  at-loop-from-loop-again = c .before .before .before
+  at-loop-from-loop-again = in-loop-from-loop-again .before
 
   abbrev start-from-loop-again : tie.Start Inv-loop μ-loop
   start-from-loop-again = start-from-clear-cells (clear-cells-from-at-loop at-loop-from-loop-again)
 
 module _ (c : tie.After-negation-from-arg Inv-loop μ-loop) where
   abbrev in-loop-from-negation-from-call : tie.In-loop Inv-loop μ-loop
-  in-loop-from-negation-from-call = c .before .before .before .before
+  in-loop-from-negation-from-call = in-loop-from-is-asked (c .before .before)
 
   abbrev at-loop-from-negation-from-call : tie.At-loop Inv-loop μ-loop
   at-loop-from-negation-from-call = in-loop-from-negation-from-call .before
@@ -71,12 +89,15 @@ module _ (c : tie.After-negation-from-arg Inv-loop μ-loop) where
   start-from-negation-from-call = start-from-clear-cells clear-cells-from-negation-from-call
 
 module _ (c : tie.After-negation-from Inv-loop μ-loop) where
-  abbrev in-loop-from-negation-from : tie.In-loop Inv-loop μ-loop
-  in-loop-from-negation-from = c .before .before .before .before .before
+  abbrev is-asked-from-negation-from : tie.After-is-asked Inv-loop μ-loop
+  is-asked-from-negation-from = c .before .before .before
 
 module _ (c : tie.After-slice-known3 Inv-loop μ-loop) where
+  abbrev negation-from-from-is-marked-call : tie.After-negation-from Inv-loop μ-loop
+  negation-from-from-is-marked-call = c .before .before
+
   abbrev at-loop-from-is-marked-call : tie.At-loop Inv-loop μ-loop
-  at-loop-from-is-marked-call = in-loop-from-negation-from (c .before .before) .before
+  at-loop-from-is-marked-call = in-loop-from-is-asked (is-asked-from-negation-from negation-from-from-is-marked-call) .before
 
   abbrev start-from-is-marked-call : tie.Start Inv-loop μ-loop
   start-from-is-marked-call = start-from-clear-cells (clear-cells-from-at-loop at-loop-from-is-marked-call)
@@ -86,7 +107,7 @@ module _ (c : tie.Then2 Inv-loop μ-loop) where
   negation-from-from-then2 = c .before .before .before .before
 
   abbrev in-loop-from-then2 : tie.In-loop Inv-loop μ-loop
-  in-loop-from-then2 = in-loop-from-negation-from negation-from-from-then2
+  in-loop-from-then2 = in-loop-from-is-asked (is-asked-from-negation-from negation-from-from-then2)
 
   abbrev at-loop-from-then2 : tie.At-loop Inv-loop μ-loop
   at-loop-from-then2 = in-loop-from-then2 .before
@@ -99,21 +120,27 @@ loop-holds c =
     let a = start-from-loop-holds c .args in
     (refl, negations-cleared (tableOf (a .vars .now) (a .lows .now) (a .highs .now) (a .heads .now) (a .links .now) (a .count)) _ (c .before .before .clear-cells .ensures), asked-first (nodesOf (tableOf (a .vars .now) (a .lows .now) (a .highs .now) (a .heads .now) (a .links .now) (a .count))) (a .list .now) (a .words .now) (a .touching))
 
-mul-if1 : tie.Need-mul-if1 Inv-loop μ-loop
-mul-if1 c =
+mul-is-asked : tie.Need-mul-is-asked Inv-loop μ-loop
+mul-is-asked c =
     search needs
 
-shared-slice-read-if1 : tie.Need-shared-slice-read-if1 Inv-loop μ-loop
-shared-slice-read-if1 c =
-    omega (arith, start-from-shared-slice-read-if1 c .pre .1 .1, c .before .loop-test .taken)
+shared-slice-read-is-asked : tie.Need-shared-slice-read-is-asked Inv-loop μ-loop
+shared-slice-read-is-asked c =
+    omega (arith, start-from-is-asked-call c .pre .1 .1, in-loop-from-is-asked-call c .loop-test .taken)
 
-mul-t23 : tie.Need-mul-t23 Inv-loop μ-loop
-mul-t23 c =
+mul-t18 : tie.Need-mul-t18 Inv-loop μ-loop
+mul-t18 c =
     search needs
 
-shared-slice-read-t25 : tie.Need-shared-slice-read-t25 Inv-loop μ-loop
-shared-slice-read-t25 c =
+shared-slice-read-t21 : tie.Need-shared-slice-read-t21 Inv-loop μ-loop
+shared-slice-read-t21 c =
     search needs
+
+is-asked-requires : tie.Need-is-asked-requires Inv-loop μ-loop
+is-asked-requires c κs =
+    let a = start-from-is-asked-call c .args in
+    let r = start-from-is-asked-call c .pre .0 .0 in
+    (good-readable (tableOf (a .vars .now) (a .lows .now) (a .highs .now) (a .heads .now) (a .links .now) (a .count)) (r .good), r .inside (at-loop-from-is-asked-call c .loop .i) (in-loop-from-is-asked-call c .loop-test .taken))
 
 negation-from-requires : tie.Need-negation-from-requires Inv-loop μ-loop
 negation-from-requires c κs =
@@ -131,7 +158,7 @@ is-marked-requires c κs =
     let a = start-from-is-marked-call c .args in
     let r = start-from-is-marked-call c .pre in
     let w = at-loop-from-is-marked-call c .loop in
-    let y = c .before .before .negation-from in
+    let y = negation-from-from-is-marked-call c .negation-from in
     let len : length (a .marks .now) ≡ length (a .vars .now) = ap length (r .0 .1) ∙ marked-length (length (a .vars .now)) (a .list .now) in
     subst (λ n. FoundInside n (y .result)) (sym len) (found-inside (tableOf (a .vars .now) (a .lows .now) (a .highs .now) (a .heads .now) (a .links .now) (a .count)) (r .0 .0 .good) (a .list .now) (r .0 .0 .inside) _ (y .result) (y .ensures .0))
 
@@ -148,27 +175,28 @@ returns c =
 
 add-i : tie.Need-add-i Inv-loop μ-loop
 add-i c =
-    omega (arith, mul-if1 (c .before .before))
+    omega (arith, mul-t18 (in-loop-from-loop-again c))
 
 loop-less : tie.Need-loop-less Inv-loop μ-loop
 loop-less c =
     search needs
 
 loop-again : tie.Need-loop-again Inv-loop μ-loop
+unfolding nodesOf
 loop-again c =
     let a = start-from-loop-again c .args in
     let r = start-from-loop-again c .pre in
     let w = at-loop-from-loop-again c .loop in
     ⊎-elim
     (λ x. (
-      ap length (x .8) ∙ x .3 .kept .1 .1 .1 .1 .1 .0 ∙ w .inv .0,
-      subst (λ (m : List ℕ). NegationMemo m (tableOf (a .vars .now) (a .lows .now) (a .highs .now) (a .heads .now) (a .links .now) (a .count))) (sym (x .8)) (x .3 .ensures .1),
-      asked-next (nodesOf (tableOf (a .vars .now) (a .lows .now) (a .highs .now) (a .heads .now) (a .links .now) (a .count))) (a .list .now) (a .words .now) (a .touching) (w .i) (w .inv .2) (c .before .before .loop-test .taken) (λ _. (negation-marked (tableOf (a .vars .now) (a .lows .now) (a .highs .now) (a .heads .now) (a .links .now) (a .count)) (r .0 .0 .good) (a .list .now) (r .0 .0 .inside) (getD (a .list .now) (w .i) 0) ((x .3) .result) ((x .3) .ensures .0) ∙ ap (λ m. markedAt m ((x .3) .result)) (sym (r .0 .1)) ∙ sym ((x .6) .ensures) ∙ x .7 .left)),
+      ap length (x .7) ∙ x .2 .kept .1 .1 .1 .1 .1 .0 ∙ w .inv .0,
+      subst (λ (m : List ℕ). NegationMemo m (tableOf (a .vars .now) (a .lows .now) (a .highs .now) (a .heads .now) (a .links .now) (a .count))) (sym (x .7)) (x .2 .ensures .1),
+      asked-next (nodesOf (tableOf (a .vars .now) (a .lows .now) (a .highs .now) (a .heads .now) (a .links .now) (a .count))) (a .list .now) (a .words .now) (a .touching) (w .i) (w .inv .2) (in-loop-from-loop-again c .loop-test .taken) (λ _. (negation-marked (tableOf (a .vars .now) (a .lows .now) (a .highs .now) (a .heads .now) (a .links .now) (a .count)) (r .0 .0 .good) (a .list .now) (r .0 .0 .inside) (getD (a .list .now) (w .i) 0) ((x .2) .result) ((x .2) .ensures .0) ∙ ap (λ m. markedAt m ((x .2) .result)) (sym (r .0 .1)) ∙ sym ((x .5) .ensures) ∙ x .6 .left)),
     ))
     (λ x. (
       ap length (x .1) ∙ w .inv .0,
       subst (λ (m : List ℕ). NegationMemo m (tableOf (a .vars .now) (a .lows .now) (a .highs .now) (a .heads .now) (a .links .now) (a .count))) (sym (x .1)) (w .inv .1),
-      asked-next (nodesOf (tableOf (a .vars .now) (a .lows .now) (a .highs .now) (a .heads .now) (a .links .now) (a .count))) (a .list .now) (a .words .now) (a .touching) (w .i) (w .inv .2) (c .before .before .loop-test .taken) (λ ne. absurd (ne (x .0 .left))),
+      asked-next (nodesOf (tableOf (a .vars .now) (a .lows .now) (a .highs .now) (a .heads .now) (a .links .now) (a .count))) (a .list .now) (a .words .now) (a .touching) (w .i) (w .inv .2) (in-loop-from-loop-again c .loop-test .taken) (λ e. t≢f (sym e ∙ sym (is-asked-from-loop-again c .is-asked .ensures) ∙ x .0 .left)),
     ))
     (c .if1 .came)
 
@@ -191,10 +219,11 @@ some-negated-spec =
     μ-loop
     clear-cells-requires
     loop-holds
-    mul-if1
-    shared-slice-read-if1
-    mul-t23
-    shared-slice-read-t25
+    mul-t18
+    shared-slice-read-t21
+    mul-is-asked
+    shared-slice-read-is-asked
+    is-asked-requires
     negation-from-requires
     is-marked-requires
     same-length
