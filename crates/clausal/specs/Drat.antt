@@ -1,5 +1,5 @@
--- Unit propagation, RUP and RAT over clauses that are lists of literals: the public definitions of DRAT. No diagram occurs here. (02, 4/14: "exactly
--- what RUP and RAT over clauses accept")
+-- Unit propagation, RUP and RAT over clauses that are lists of literals: the public definitions of DRAT. No diagram occurs here. (02,
+-- 4/14: "exactly what RUP and RAT over clauses accept")
 use mathlib.Core.Path.{_≡_}
 use mathlib.Core.Logic.{_⊎_}
 use mathlib.Core.Bool.{Bool, true, false, not, _&&_, _||_, cond, Bool·beq}
@@ -80,8 +80,8 @@ negation c = map (λ l. negated l ∷ []) c
 abbrev pub Rup : List Clause → Clause → Type 0
 Rup F c = Refutes (negation c ++ F) []
 
--- "resolution asymmetric tautology" on the pivot p: for each clause d of F that has not-p the resolvent of the clause and d is RUP. Whether the
--- resolvent keeps p says nothing: theorem `pivot-dropped` in proofs/Resolvents.
+-- "resolution asymmetric tautology" on the pivot p: for each clause d of F that has not-p the resolvent of the clause and d is RUP. Whether
+-- the resolvent keeps p says nothing: theorem `pivot-dropped` in proofs/Resolvents.
 abbrev pub Rat : List Clause → Literal → Clause → Type 0
 Rat F p c = (d : Clause) → In d F → has d (negated p) ≡ true → Rup F (c ++ without (negated p) d)
 

@@ -18,8 +18,8 @@ makesFalse α v = has α (literal v false)
 abbrev pub witness : Literal → Clause → List Literal
 witness p c = p ∷ map negated (without p c)
 
--- Whether one of the tries shows the clause, `ms` being the members: "A clause is tried as a RUP line; failing with 19, as a PR line"; "The empty
--- clause has no pivot", so it has no second try.
+-- Whether one of the tries shows the clause, `ms` being the members: "A clause is tried as a RUP line; failing with 19, as a PR line";
+-- "The empty clause has no pivot", so it has no second try.
 unfoldable pub shownBy : ℕ → List Diagram → Clause → Bool
 unfolding rup pr clause has without
 shownBy n ms [] = rup n ms (clause n []) .shown
