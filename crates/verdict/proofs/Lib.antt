@@ -16,3 +16,4 @@ pub mod Offsets
 pub mod Marks
 pub mod MetFirst
 pub mod Peak
+pub mod Accepting

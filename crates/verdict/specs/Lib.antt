@@ -4,3 +4,4 @@ pub mod Run
 pub mod Marks
 pub mod Satisfies
 pub mod MetFirst
+pub mod Clausal
