@@ -2,18 +2,18 @@
 -- false. It is not 1 if the clause has no both signs. The idea: the same values. Assumes nothing.
 use mathlib.Core.Path.{_≡_, refl, sym, ap, _∙_, subst}
 use mathlib.Core.Logic.{_≢_}
-use mathlib.Core.Bool.{Bool, true, false, cond}
+use mathlib.Core.Bool.{Bool, true, false, not, _||_, cond, Bool·beq}
 use mathlib.Core.List.{List, [], _∷_}
 use Prim.Native.Nat.{ℕ, suc, _≤_}
 use native.Mathlib.Omega.{arith}
 use lib.ListN.{length, replicate, length-replicate}
-use Rattle.meaning.specs.Diagram.{Assignment, Diagram, leaf, same, valueFrom, value}
+use Rattle.meaning.specs.Diagram.{Assignment, holds, Diagram, leaf, same, valueFrom, value}
 use Rattle.meaning.specs.Operations.{Literal, literalValue, clauseValue, clause}
 use Rattle.meaning.proofs.Booleans.{t≢f, not-true, or-cases}
 use Rattle.meaning.proofs.Canonical.{unique}
 use Rattle.meaning.proofs.Pointwise.{forced-length, clause-value, clause-reduced}
 use Rattle.meaning.proofs.PointwiseSteps.{literals-none}
-use Rattle.meaning.proofs.Units.{same-eq}
+use Rattle.meaning.proofs.Units.{same-eq, eq-same}
 use Rattle.meaning.proofs.Clauses.{Within}
 use Rattle.clausal.specs.Drat.{Clause, negated, has, Plain}
 use Rattle.clausal.specs.Tries.{makesTrue, makesFalse}
@@ -119,3 +119,20 @@ unfolding under has
 plain-not-one n c w plain = not-true (same (clause n c) (leaf true)) (λ e.
     not-one n [] (λ l x y. t≢f (sym x)) c w (λ k h. refl) plain
     (literals-none n (λ v. false) (λ v. false) 1 (clause n c) (omega arith) (clause-reduced n c) (λ v x y. (refl, refl)) ∙ same-eq (clause n c) (leaf true) e))
+
+-- and a clause that is not the diagram 1 has no both signs
+pub not-one-plain : (n : ℕ) (c : Clause) → same (clause n c) (leaf true) ≡ false → Plain c
+unfolding valueFrom literalValue
+not-one-plain n c e l x y =
+    t≢f (sym (eq-same (clause n c) (leaf true) (unique n 1 (suc n) (clause n c) (leaf true) (omega arith) (clause-reduced n c) tt (λ a len. clause-value n a len c ∙ either a))) ∙ e)
+  where
+    sign : (h s : Bool) → (Bool·beq h s || Bool·beq h (not s)) ≡ true
+    sign true true = refl
+    sign true false = refl
+    sign false true = refl
+    sign false false = refl
+
+    either : (a : Assignment) → clauseValue c a ≡ true
+    either a =
+        or-cases (Bool·beq (holds a (l .variable)) (l .positive)) (Bool·beq (holds a (l .variable)) (not (l .positive))) (sign (holds a (l .variable)) (l .positive))
+        (λ t. clause-some c a l x t) (λ t. clause-some c a (negated l) y t)

@@ -20,7 +20,7 @@ pub two-tries : (n : ℕ) (F : List Clause) → AllWithin n F → AllPlain F →
 unfolding shownBy
 two-tries n F within plains [] w plain = (rup-only n [] w plain F within, rup-all n [] w plain F within)
 two-tries n F within plains (p ∷ ls) w plain = (
-  (λ e. or-cases first second e (λ x. inl (rup-only n (p ∷ ls) w plain F within x)) (λ x. inr (rat-only n F within (p ∷ ls) w plain p (has-here p ls) plains x))),
+  (λ e. or-cases first second e (λ x. inl (rup-only n (p ∷ ls) w plain F within x)) (λ x. inr (rat-only n (p ∷ ls) w plain p (has-here p ls) F within plains x))),
   go,
 )
   where
@@ -32,4 +32,4 @@ two-tries n F within plains (p ∷ ls) w plain = (
 
     go : Rup F (p ∷ ls) ⊎ Rat F p (p ∷ ls) → (first || second) ≡ true
     go (inl r) = or-left first second (rup-all n (p ∷ ls) w plain F within r)
-    go (inr r) = or-right first second (rat-all n F within (p ∷ ls) w plain p (has-here p ls) plains r)
+    go (inr r) = or-right first second (rat-all n (p ∷ ls) w plain p (has-here p ls) F within plains r)

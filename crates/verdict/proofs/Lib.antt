@@ -17,3 +17,5 @@ pub mod Marks
 pub mod MetFirst
 pub mod Peak
 pub mod Accepting
+pub mod Striking
+pub mod Added

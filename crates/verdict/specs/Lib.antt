@@ -5,3 +5,4 @@ pub mod Marks
 pub mod Satisfies
 pub mod MetFirst
 pub mod Clausal
+pub mod ClauseRun
