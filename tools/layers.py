@@ -17,7 +17,7 @@ WORDS = {
     "judge": "RUP and PR lines", "steps": "a record's step", "session": "the whole check", "checker": "calls with no requires",
     "demands": "the demands' theorems", "nodes": "over node structs", "report": "line and status", "export": "the archive for C, Rust",
     "refute": "the program of two files", "cases": "runs 01's examples", "clausal": "RUP, RAT on clauses",
-    "commands": "what stands next",
+    "commands": "what stands next", "tries": "the second try's witness",
 }
 OPEN = {"checker", "nodes", "export", "refute", "cases"}
 WIDTH, HEIGHT, ACROSS, UP, TOP = 158, 44, 190, 78, 64
