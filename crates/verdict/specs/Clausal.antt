@@ -12,7 +12,8 @@ use Rattle.table.specs.Nodes.{Node, Placing, full, placed, place}
 use Rattle.table.specs.Making.{lineReach}
 use Rattle.clausal.specs.Drat.{has, without}
 use Rattle.clausal.specs.Tries.{makesTrue, makesFalse, witness}
-use Rattle.verdict.specs.Check.{State, Step, next, stop, spent, accepted, judged, diagramIn, unstruck, liveMembers, isLive, strikeStep}
+use Rattle.verdict.specs.Check.{State, Step, next, stop, spent, accepted, judged}
+use Rattle.verdict.specs.Check.{diagramIn, unstruck, liveMembers, isLive, strikeStep}
 
 -- ---- a clause added
 
