@@ -19,6 +19,7 @@ WORDS = {
     "demands": "the demands' theorems", "order": "members in any order", "nodes": "over node structs", "report": "line and status",
     "export": "the archive for C, Rust", "refute": "the program of two files", "cases": "runs 01's examples",
     "sets": "parity, at least", "binomial": "C(n, k), stored",
+    "clausal": "RUP, RAT on clauses", "commands": "what stands next", "tries": "the second try's witness",
 }
 OPEN = {"checker", "nodes", "export", "refute", "cases"}
 WIDTH, HEIGHT, ACROSS, UP, TOP = 158, 44, 190, 78, 64

@@ -9,19 +9,31 @@ use words::Literals;
 ghost use mathlib.Core.Path.{_≡_};
 ghost use Prim.Native.Nat.{_-_, _≤_};
 ghost use lib.ListN.{length};
+ghost use lib.Seq.{slice};
+ghost use Rattle.dimacs.specs.Text.{tokenEnd};
+ghost use Rattle.dimacs.specs.Numbers.{tokenOf};
 ghost use Rattle.dimacs.specs.Clauses.{nextClause, clauseFrom};
 ghost use Rattle.dimacs.specs.Inner.{clauseOf};
 
-// The clause whose first token is at `first`, up to its closing 0.
-fn open_clause(s: &[u8], first: usize, variables: u8) -> Clause
-    requires { ⌜ (first ≤ length (now s)) × (variables ≤ 64) ⌝ }
-    ensures { λ r. ⌜ r ≡ clauseOf (clauseFrom (now (s .entry)) variables (length (now (s .entry)) - first) first first) ⌝ }
+// What the token at `at` says.
+pub fn token_at(s: &[u8], at: usize, variables: u8) -> Token
+    requires { ⌜ at ≤ length (now s) ⌝ }
+    ensures { λ r. ⌜ r ≡ tokenOf variables (slice at (tokenEnd (now (s .entry)) at) (now (s .entry))) ⌝ }
+{
+    let end = text::past_class(s, at, Class::Token);
+    numbers::read_token(s, at, end, variables)
+}
+
+// The clause of the tokens from `from` on, up to its closing 0; one that does not close is refused at `first`.
+pub fn open_clause(s: &[u8], first: usize, from: usize, variables: u8) -> Clause
+    requires { ⌜ (from ≤ length (now s)) × (variables ≤ 64) ⌝ }
+    ensures { λ r. ⌜ r ≡ clauseOf (clauseFrom (now (s .entry)) variables (length (now (s .entry)) - from) first from) ⌝ }
 {
     let mut literals = Literals {
         positive: 0,
         negative: 0,
     };
-    let mut at = first;
+    let mut at = from;
     while at < s.len() {
         let end = text::past_class(s, at, Class::Token);
         match numbers::read_token(s, at, end, variables) {
@@ -60,7 +72,7 @@ pub fn next_clause(formula: &[u8], at: usize, variables: u8, left: usize) -> Cla
                 place: first,
             };
         }
-        return open_clause(formula, first, variables);
+        return open_clause(formula, first, first, variables);
     }
     if left == 0 {
         return Clause::End;

@@ -57,16 +57,16 @@ fn word_number(s: &[u8], at: usize) -> Natural
     numbers::read_natural(s, at, end)
 }
 
-// Whether the word at `at` is `p`.
-fn is_p(s: &[u8], at: usize) -> bool
+// Whether the word at `at` is that one byte.
+pub fn is_letter(s: &[u8], at: usize, letter: u8) -> bool
     requires { ⌜ at ≤ length (now s) ⌝ }
-    ensures { λ r. ⌜ r ≡ isWord (now (s .entry)) at (112 ∷ []) ⌝ }
+    ensures { λ r. ⌜ r ≡ isWord (now (s .entry)) at (letter ∷ []) ⌝ }
 {
     let end = text::past_class(s, at, Class::Token);
     if end - at != 1 {
         return false;
     }
-    s[at] == 112
+    s[at] == letter
 }
 
 // Whether the word at `at` is `cnf`.
@@ -105,7 +105,7 @@ fn header_at(s: &[u8], at: usize) -> Header
     let cnf = next_word(s, at);
     let variables = next_word(s, cnf);
     let clauses = next_word(s, variables);
-    if !is_p(s, at) {
+    if !is_letter(s, at, 112) {
         return Header::Improper {
             number: 1,
             place: at,

@@ -1,11 +1,15 @@
-// The formula: its header, and its clauses one at a time. (01, The formula)
+// The formula: its header, and its clauses one at a time; and its tokens, for texts that are parted likewise. (01, The formula)
 mod clauses;
 mod header_line;
 mod numbers;
 mod text;
 
 pub use clauses::next_clause;
+pub use clauses::open_clause;
+pub use clauses::token_at;
+pub use header_line::is_letter;
 pub use header_line::read_header;
+pub use text::skip_between;
 use words::Literals;
 
 // A closing 0; a literal's variable and sign; or the number of the token's fault.

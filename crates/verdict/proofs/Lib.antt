@@ -18,3 +18,6 @@ pub mod Offsets
 pub mod Marks
 pub mod MetFirst
 pub mod Peak
+pub mod Accepting
+pub mod Striking
+pub mod Added

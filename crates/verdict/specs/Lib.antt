@@ -4,3 +4,5 @@ pub mod Run
 pub mod Marks
 pub mod Satisfies
 pub mod MetFirst
+pub mod Clausal
+pub mod ClauseRun

@@ -15,10 +15,10 @@ use Rattle.dimacs.proofs.clauses.open_clause.Statement.{statement}
 use Rattle.dimacs.proofs.clauses.open_clause.Tie as tie
 
 abbrev Inv-loop : tie.InvT-loop
-Inv-loop s first variables literals₀ at₀ literals at = (at ≤ length s) × (restOf s variables first noLiterals first ≡ restOf s variables first literals at)
+Inv-loop s first from variables literals₀ at₀ literals at = (at ≤ length s) × (restOf s variables first noLiterals from ≡ restOf s variables first literals at)
 
 abbrev μ-loop : tie.MeasureT-loop
-μ-loop s first variables literals₀ at₀ literals at = length s - at
+μ-loop s first from variables literals₀ at₀ literals at = length s - at
 
 -- The ways back, written by ways.py: TO-from-FROM leads from the place FROM of the code to the place TO before it.
 module _ (c : tie.After-enum-told Inv-loop μ-loop) where

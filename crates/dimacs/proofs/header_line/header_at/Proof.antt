@@ -108,7 +108,7 @@ words : (a : tie.After-next-word3)
 words a = header-judged _ _ _ _ _ (a .before .before .next-word .ensures .0) (a .before .next-word2 .ensures .0) (a .next-word3 .ensures .0)
 
 is-p : (a : tie.Else1) → isWord (start-from-else1 a .args .s .now) (start-from-else1 a .args .at) (112 ∷ []) ≡ true
-is-p a = sym (a .before .is-p .ensures) ∙ not-false _ (a .if1 .left)
+is-p a = sym (a .before .is-letter .ensures) ∙ not-false _ (a .if1 .left)
 
 -- `p` and `cnf` stand there: the numbers decide.
 spelled : (a : tie.Else2)
@@ -143,11 +143,11 @@ next-word-requires-2 c κs = search needs
 next-word-requires-3 : tie.Need-next-word-requires-3
 next-word-requires-3 c κs = search needs
 
-is-p-requires : tie.Need-is-p-requires
-is-p-requires c κs = search needs
+is-letter-requires : tie.Need-is-letter-requires
+is-letter-requires c κs = search needs
 
 returns : tie.Need-returns
-returns c = sym (words (c .before .before) ∙ rw (sym (c .before .is-p .ensures) ∙ not-true _ (c .if1 .taken)))
+returns c = sym (words (c .before .before) ∙ rw (sym (c .before .is-letter .ensures) ∙ not-true _ (c .if1 .taken)))
 
 is-cnf-requires : tie.Need-is-cnf-requires
 is-cnf-requires c κs = search needs
@@ -212,7 +212,7 @@ header-at-spec =
     next-word-requires
     next-word-requires-2
     next-word-requires-3
-    is-p-requires
+    is-letter-requires
     returns
     is-cnf-requires
     returns-2

@@ -1,0 +1,13 @@
+pub mod Literals
+pub mod Under
+pub mod Rest
+pub mod Rounds
+pub mod Conflicts
+pub mod Propagation
+pub mod Cube
+pub mod Refuting
+pub mod Resolvents
+pub mod FirstTry
+pub mod SecondTry
+pub mod Tries
+pub mod Examples

@@ -1,0 +1,2 @@
+pub mod Drat
+pub mod Tries

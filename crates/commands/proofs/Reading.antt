@@ -1,0 +1,197 @@
+-- What the reader of a text's clause answers: its places lie in the text and go on, its literals are the header's, its pivot is what its first
+-- token says; and the command that the code makes of it. The idea: by the token at hand. Assumes nothing.
+use mathlib.Core.Path.{_≡_, refl, sym, ap, _∙_, subst}
+use mathlib.Core.Bool.{Bool, true, false}
+use mathlib.Core.List.{List, [], _∷_}
+use Prim.Native.Nat.{ℕ, zero, suc, _-_, _≤_, _<_}
+use native.Mathlib.Omega.{arith}
+use lib.ListN.{length}
+use lib.Seq.{slice, length-slice}
+use lib.Dec.{ltb}
+use borrow.Author.Tests.{ltb-true, ltb-false}
+use Rattle.meaning.specs.Operations as meaning
+use Rattle.meaning.proofs.Clauses.{Within}
+use Rattle.words.specs.Sets.{noLiterals, literalsOf}
+use Rattle.dimacs.specs.declared.Token.{Token}
+use Rattle.dimacs.specs.declared.Token.the-variants.{Closing, Literal, Wrong}
+use Rattle.dimacs.specs.declared.ClosedClause.{ClosedClause}
+use Rattle.dimacs.specs.declared.Clause.{Clause}
+use Rattle.dimacs.specs.declared.Clause.the-variants.{Closed, End, Refused}
+use Rattle.dimacs.specs.Text.{isToken, tokenEnd, between}
+use Rattle.dimacs.specs.Numbers.{tokenOf}
+use Rattle.dimacs.specs.Clauses.{Next, closed, ended, refused, withLiteral, afterToken, clauseFrom}
+use Rattle.dimacs.specs.Inner.{clauseAfter, clauseOf}
+use Rattle.dimacs.proofs.Cases.{by}
+use Rattle.dimacs.proofs.Runs.{past-least, past-most}
+use Rattle.dimacs.proofs.Between.{between-least}
+use Rattle.dimacs.proofs.Tokens.{literal-bounds}
+use Rattle.dimacs.proofs.OpenClause.{tokenAt, nextAt, clause-suc, clause-end}
+use Rattle.commands.specs.declared.Pivot.{Pivot}
+use Rattle.commands.specs.declared.Command as code
+use Rattle.commands.specs.declared.Command.the-variants as code-variants
+use Rattle.commands.specs.declared.Read as code-read
+use Rattle.commands.specs.Commands.{Command, clauseRead}
+use Rattle.commands.specs.Inner.{pivotOf, pivotAt, clauseWords, commandFor, clauseCommand, readOf}
+
+-- ---- places and literals
+
+-- A clause of s whose tokens stand from `at` on closes behind that place and is within n variables; a refusal is at `first` or behind it.
+abbrev pub ClauseIn : List ℕ → ℕ → ℕ → ℕ → Next → Type 0
+ClauseIn s n first at (closed ls f next) = (at < next) × (next ≤ length s) × Within n ls
+ClauseIn s n first at (refused number place) = (first ≤ place) × (place ≤ length s)
+ClauseIn s n first at ended = ⊥
+
+-- a closing token has bytes
+closing-some : (n : ℕ) (bs : List ℕ) → tokenOf n bs ≡ Closing → 0 < length bs
+unfolding tokenOf
+closing-some n [] e = let z : _≡_ {A = ℕ} 0 1 = cc in absurd (omega arith)
+closing-some n (b ∷ bs) e = omega arith
+
+closing-moves : (s : List ℕ) (n at : ℕ) → at < length s → tokenAt s n at ≡ Closing → at < tokenEnd s at
+closing-moves s n at h e =
+    let most : tokenEnd s at ≤ length s = past-most isToken s at (omega arith) in
+    omega (arith, closing-some n (slice at (tokenEnd s at) s) e, length-slice at (tokenEnd s at) s most)
+
+module _ (s : List ℕ) (n first : ℕ) where
+  later : (at next : ℕ) (x : Next) → at ≤ next → ClauseIn s n first next x → ClauseIn s n first at x
+  later at next (closed ls f end) le h = (omega (arith, h .0), h .1, h .2)
+  later at next (refused number place) le h = h
+  later at next ended le h = h
+
+  with-in : (v : ℕ) (b : Bool) (at : ℕ) (x : Next) → 1 ≤ v → v ≤ n → ClauseIn s n first at x
+      → ClauseIn s n first at (withLiteral (record { variable = v; positive = b }) x)
+  with-in v b at (closed ls f end) lo hi h = (h .0, h .1, (lo, hi, h .2))
+  with-in v b at (refused number place) lo hi h = h
+  with-in v b at ended lo hi h = h
+
+  after-in : (t : Token) (at : ℕ) (x : Next) → first ≤ at → at < length s → tokenAt s n at ≡ t → ClauseIn s n first (nextAt s n at) x
+      → ClauseIn s n first at (afterToken t first at (tokenEnd s at) x)
+  after-in Closing at x lo hi e h = (closing-moves s n at hi e, past-most isToken s at (omega arith), tt)
+  after-in (Wrong number) at x lo hi e h = (lo, omega arith)
+  after-in (Literal v b) at x lo hi e h =
+      let l = literal-bounds n (slice at (tokenEnd s at) s) v b e in
+      with-in v b at x (l .least) (l .most) (later at (nextAt s n at) x (omega (arith, past-least isToken s at, between-least s (tokenEnd s at))) h)
+
+  open-in : (at : ℕ) → first ≤ length s → ClauseIn s n first at (clauseFrom s n zero first at)
+  unfolding clauseFrom
+  open-in at h = (omega arith, h)
+
+  pub clause-in : (k at : ℕ) → first ≤ at → first ≤ length s → ClauseIn s n first at (clauseFrom s n k first at)
+  clause-in zero at lo h = open-in at h
+  clause-in (suc k) at lo h =
+      by (ltb at (length s))
+      (λ t. let inside : at < length s = ltb-true at (length s) t in
+      subst (ClauseIn s n first at) (sym (clause-suc s n k first at inside))
+      (after-in (tokenAt s n at) at (clauseFrom s n k first (nextAt s n at)) lo inside refl
+      (clause-in k (nextAt s n at) (omega (arith, past-least isToken s at, between-least s (tokenEnd s at))) h)))
+      (λ f. subst (ClauseIn s n first at) (sym (clause-end s n (suc k) first at (ltb-false at (length s) f))) (omega arith, h))
+
+-- ---- the pivot
+
+-- A clause that closes has that pivot.
+abbrev pub PivotIs : Pivot → Next → Type 0
+PivotIs p (closed ls f next) = pivotOf ls ≡ p
+PivotIs p (refused number place) = Unit {0}
+PivotIs p ended = Unit {0}
+
+pub pivot-is : (s : List ℕ) (n k first at : ℕ) → PivotIs (pivotAt (tokenAt s n at)) (clauseFrom s n k first at)
+unfolding clauseFrom
+pivot-is s n zero first at = tt
+pivot-is s n (suc k) first at =
+    by (ltb at (length s))
+    (λ t. subst (PivotIs (pivotAt (tokenAt s n at))) (sym (clause-suc s n k first at (ltb-true at (length s) t)))
+    (token (tokenAt s n at) (clauseFrom s n k first (nextAt s n at))))
+    (λ f. subst (PivotIs (pivotAt (tokenAt s n at))) (sym (clause-end s n (suc k) first at (ltb-false at (length s) f))) tt)
+  where
+    with : (v : ℕ) (b : Bool) (x : Next) → PivotIs (pivotAt (Literal v b)) (withLiteral (record { variable = v; positive = b }) x)
+    with v b (closed ls f next) = refl
+    with v b (refused number place) = tt
+    with v b ended = tt
+
+    token : (t : Token) (x : Next) → PivotIs (pivotAt t) (afterToken t first at (tokenEnd s at) x)
+    token Closing x = refl
+    token (Wrong number) x = tt
+    token (Literal v b) x = with v b x
+
+-- ---- the code's answers
+
+abbrev some-clause : ClosedClause
+some-clause = record { literals = noLiterals; first = 0; next = 0 }
+
+abbrev clauseIn : Clause → ClosedClause
+clauseIn (Closed c) = c
+clauseIn End = some-clause
+clauseIn (Refused number place) = some-clause
+
+abbrev numberIn : Clause → ℕ
+numberIn (Closed c) = 0
+numberIn End = 0
+numberIn (Refused number place) = number
+
+abbrev placeIn : Clause → ℕ
+placeIn (Closed c) = 0
+placeIn End = 0
+placeIn (Refused number place) = place
+
+abbrev kind : Clause → ℕ
+kind (Closed c) = 0
+kind End = 1
+kind (Refused number place) = 2
+
+differs : {A : Type 0} (x y : Clause) → x ≡ y → (kind x ≡ kind y → ⊥) → A
+differs x y e ne = absurd (ne (ap kind e))
+
+module _ (s : List ℕ) (first : ℕ) (strikes : Bool) where
+  abbrev answer : Next → code-read.Read
+  answer x = readOf (clauseRead s first (commandFor strikes) x)
+
+  words : (b : Bool) (ls : List meaning.Literal) (next : ℕ)
+      → readOf (record { command = commandFor b ls; next = next }) ≡ record { command = clauseCommand b (clauseWords ls); next = next }
+  words true ls next = refl
+  words false ls next = refl
+
+  closed-is : (x : Next) (c : ClosedClause) (p : Pivot) (next : ℕ) → clauseOf x ≡ Closed c → PivotIs p x → next ≡ between s (c .next)
+      → record { command = clauseCommand strikes (record { literals = c .literals; pivot = p }); next = next } ≡ answer x
+  unfolding clauseAfter
+  closed-is (closed ls f end) c p next e q is =
+      let same : record { literals = literalsOf ls; first = f; next = end } ≡ c = ap clauseIn e in
+      sym (words strikes ls (between s end)
+      ∙ ap (λ (p : Pivot). record { command = clauseCommand strikes (record { literals = literalsOf ls; pivot = p }); next = between s end }) q
+      ∙ ap (λ (c : ClosedClause). record { command = clauseCommand strikes (record { literals = c .literals; pivot = p }); next = between s (c .next) }) same
+      ∙ ap (λ (m : ℕ). record { command = clauseCommand strikes (record { literals = c .literals; pivot = p }); next = m }) (sym is))
+  closed-is (refused number place) c p next e q is = differs (Refused number place) (Closed c) e (λ z. omega arith)
+  closed-is ended c p next e q is = differs End (Closed c) e (λ z. omega arith)
+
+  pub answer-closed : (x : Next) (c : ClosedClause) (p p′ : Pivot) (next : ℕ) (command : code.Command) → clauseOf x ≡ Closed c → p ≡ p′ → PivotIs p′ x
+      → next ≡ between s (c .next) → command ≡ clauseCommand strikes (record { literals = c .literals; pivot = p }) → record { command = command; next = next } ≡ answer x
+  answer-closed x c p p′ next command e r q is m =
+      ap (λ (m : code.Command). record { command = m; next = next }) (m ∙ ap (λ (p : Pivot). clauseCommand strikes (record { literals = c .literals; pivot = p })) r)
+      ∙ closed-is x c p′ next e q is
+
+  pub answer-refused : (x : Next) (number place : ℕ) → clauseOf x ≡ Refused number place
+      → record { command = code-variants.Wrong number (place - first); next = first } ≡ answer x
+  unfolding clauseAfter
+  answer-refused (closed ls f end) number place e = differs (clauseOf (closed ls f end)) (Refused number place) e (λ z. omega arith)
+  answer-refused (refused k at) number place e = sym
+      (ap (λ (m : ℕ). record { command = code-variants.Wrong m (at - first); next = first }) (ap numberIn e)
+      ∙ ap (λ (m : ℕ). record { command = code-variants.Wrong number (m - first); next = first }) (ap placeIn e))
+  answer-refused ended number place e = differs End (Refused number place) e (λ z. omega arith)
+
+  pub answer-end : (x : Next) → clauseOf x ≡ End → record { command = code-variants.Wrong 6 0; next = first } ≡ answer x
+  unfolding clauseAfter
+  answer-end (closed ls f end) e = differs (clauseOf (closed ls f end)) End e (λ z. omega arith)
+  answer-end (refused number place) e = differs (Refused number place) End e (λ z. omega arith)
+  answer-end ended e = refl
+
+module _ (s : List ℕ) (n first at : ℕ) where
+  pub closed-in : (x : Next) (c : ClosedClause) → ClauseIn s n first at x → clauseOf x ≡ Closed c → c .next ≤ length s
+  unfolding clauseAfter
+  closed-in (closed ls f end) c h e = subst (λ (c : ClosedClause). c .next ≤ length s) (ap clauseIn e) (h .1)
+  closed-in (refused number place) c h e = differs (Refused number place) (Closed c) e (λ z. omega arith)
+  closed-in ended c h e = absurd h
+
+  pub refused-in : (x : Next) (number place : ℕ) → ClauseIn s n first at x → clauseOf x ≡ Refused number place → first ≤ place
+  unfolding clauseAfter
+  refused-in (closed ls f end) number place h e = differs (clauseOf (closed ls f end)) (Refused number place) e (λ z. omega arith)
+  refused-in (refused k p) number place h e = subst (λ (m : ℕ). first ≤ m) (ap placeIn e) (h .0)
+  refused-in ended number place h e = absurd h

@@ -1,0 +1,54 @@
+-- One law for each way through the readers of a command: the record at a place, the text's end, a clause struck, a clause added. The idea: the
+-- definition's tests have the code's answers. Assumes nothing.
+use mathlib.Core.Path.{_≡_, sym}
+use mathlib.Core.Bool.{true, false}
+use mathlib.Core.List.{List, [], _∷_}
+use Prim.Native.Nat.{ℕ, _+_, _-_, _≤_, _<_}
+use native.Mathlib.Omega.{arith}
+use lib.ListN.{length}
+use lib.Dec.{ltb}
+use borrow.Author.Tests.{lt-ltb, le-ltb}
+use Rattle.dimacs.specs.Text.{between}
+use Rattle.dimacs.specs.Header.{isWord}
+use Rattle.dimacs.specs.Clauses.{clauseFrom}
+use Rattle.records.specs.declared.Record.{Record}
+use Rattle.records.specs.declared.Record.the-variants.{NodeEntry, Witness, ProofLine, Strike, End, CutShort, UnknownKind, NoRecord}
+use Rattle.records.specs.Records.{recordAt, lengthOf}
+use Rattle.commands.specs.declared.Command.the-variants as code-variants
+use Rattle.commands.specs.declared.Read as code-read
+use Rattle.commands.specs.Commands.{recordRead, clauseRead, textRead}
+use Rattle.commands.specs.Inner.{commandFor, readOf}
+
+-- ---- records
+
+pub record-short : (r : Record) → lengthOf r ≤ 6
+record-short (NodeEntry b) = omega arith
+record-short (Witness v b) = omega arith
+record-short (ProofLine rule root) = omega arith
+record-short (Strike k) = omega arith
+record-short End = omega arith
+record-short CutShort = omega arith
+record-short UnknownKind = omega arith
+record-short NoRecord = omega arith
+
+pub record-read-is : (s : List ℕ) (at : ℕ) (r : Record) (k : ℕ) → r ≡ recordAt s at → k ≡ lengthOf r
+    → record { command = code-variants.Recorded r (ltb (at + k) (length s)); next = at + k } ≡ readOf (recordRead s at)
+unfolding recordRead
+record-read-is s at r k e q = rw (q, e)
+
+-- ---- text
+
+module _ (s : List ℕ) (n at : ℕ) where
+  pub text-finished : length s ≤ at → record { command = code-variants.Finished; next = at } ≡ readOf (textRead s n at)
+  unfolding textRead
+  text-finished h = rw (le-ltb at (length s) h)
+
+  pub text-striking : (from : ℕ) (r : code-read.Read) → at < length s → isWord s at (100 ∷ []) ≡ true → from ≡ between s (at + 1)
+      → r ≡ readOf (clauseRead s at (commandFor true) (clauseFrom s n (length s - from) at from)) → r ≡ readOf (textRead s n at)
+  unfolding textRead
+  text-striking from r h w is e = rw (lt-ltb at (length s) h, w, sym is) e
+
+  pub text-adding : (r : code-read.Read) → at < length s → isWord s at (100 ∷ []) ≡ false
+      → r ≡ readOf (clauseRead s at (commandFor false) (clauseFrom s n (length s - at) at at)) → r ≡ readOf (textRead s n at)
+  unfolding textRead
+  text-adding r h w e = rw (lt-ltb at (length s) h, w) e

@@ -1,0 +1,23 @@
+// The tries of a DRAT clause: the witness of the second. (02, 4/14)
+use words::Literals;
+ghost use mathlib.Core.Path.{_≡_};
+ghost use Prim.Native.Nat.{_≤_};
+ghost use Rattle.tries.specs.Words.{witnessWords};
+
+// The witness of the clause of these literals: it makes the pivot true and every other literal of the clause false.
+pub fn witness(literals: Literals, variable: u8, positive: bool) -> Literals
+    requires { ⌜ (1 ≤ variable) × (variable ≤ 64) ⌝ }
+    ensures { λ r. ⌜ r ≡ witnessWords literals variable positive ⌝ }
+{
+    let next = variable + 1;
+    if positive {
+        return Literals {
+            positive: words::with_variable(literals.negative, variable),
+            negative: words::without(literals.positive, variable, next),
+        };
+    }
+    Literals {
+        positive: words::without(literals.negative, variable, next),
+        negative: words::with_variable(literals.positive, variable),
+    }
+}

@@ -1,0 +1,83 @@
+-- A clause that a text adds is accepted exactly where RUP or RAT over clauses accepts it, the table having room. The idea: the step asks the two
+-- tries one after the other, and clausal/proofs/Tries says what they come to. Assumes nothing.
+use mathlib.Core.Path.{_≡_, refl, sym, subst}
+use mathlib.Core.Logic.{_↔_}
+use mathlib.Core.Bool.{Bool, true, false, not, _||_, cond}
+use mathlib.Core.List.{List, [], _∷_, map}
+use Prim.Native.Nat.{ℕ, _<_}
+use borrow.Author.Tests.{lt-leb}
+use Rattle.meaning.specs.Diagram.{Diagram}
+use Rattle.meaning.specs.Operations as meaning
+use Rattle.meaning.specs.Rules.{Line, rup}
+use Rattle.meaning.proofs.Booleans.{t≢f}
+use Rattle.meaning.proofs.Clauses.{Within}
+use Rattle.table.specs.Nodes.{Node, placed, place}
+use Rattle.table.specs.Making.{lineReach}
+use Rattle.clausal.specs.Drat.{Clause, Plain, AllPlain, Accepted}
+use Rattle.clausal.specs.Tries.{shownBy}
+use Rattle.clausal.proofs.Literals.{AllWithin}
+use Rattle.clausal.proofs.Rest.{plain-not-one}
+use Rattle.clausal.proofs.Tries.{two-tries}
+use Rattle.verdict.specs.Check.{State, Step, next, stop, spent, judged, liveMembers}
+use Rattle.verdict.specs.Clausal.{withClause, judgedOr, secondLine, secondTry, tries, addStep}
+
+-- A record's line is judged so, with 19 where it is not shown.
+pub judged-is : (s : ℕ) (st : State) (g : ℕ) (line : Line) → judged s st g line ≡ judgedOr (spent 19) s st g line
+unfolding judged judgedOr
+judged-is s st g line = refl
+
+-- A step that goes on.
+abbrev pub GoesOn : Step → Type 0
+GoesOn (next st) = Unit {0}
+GoesOn (stop number offset) = ⊥
+GoesOn (spent number peak) = ⊥
+
+abbrev SecondFits : ℕ → ℕ → List Node → List Diagram → Clause → Type 0
+SecondFits n s t ms [] = Unit {0}
+SecondFits n s t ms (p ∷ ls) = lineReach s t (secondLine n ms p ls) .fits ≡ true
+
+-- "the table having room": for a line more, for the clause's diagram, and for what either try makes.
+pub record HasRoom (n s : ℕ) (st : State) (c : Clause) (t : List Node) (k : ℕ) : Type 0 where
+  pub few : st .lines < 1024
+  pub made : place s (st .nodes) (meaning.clause n c) ≡ placed t k
+  pub first-fits : lineReach s t (rup n (liveMembers (withClause st t k)) (meaning.clause n c)) .fits ≡ true
+  pub second-fits : SecondFits n s t (liveMembers (withClause st t k)) c
+
+module _ (n s : ℕ) (st : State) (t : List Node) (k : ℕ) where
+  abbrev after : State
+  after = withClause st t k
+
+  -- the step once its tests are past
+  step-is : (c : Clause) → Within n c → Plain c → HasRoom n s st c t k → addStep n s st c ≡ tries n s after k c
+  unfolding addStep
+  step-is c w plain R = rw (lt-leb 1024 (st .lines) (R .few), plain-not-one n c w plain, R .made) refl
+
+  -- what the tries come to
+  tries-shown : (c : Clause) → HasRoom n s st c t k
+      → (GoesOn (tries n s after k c) → shownBy n (liveMembers after) c ≡ true) × (shownBy n (liveMembers after) c ≡ true → GoesOn (tries n s after k c))
+  unfolding tries judgedOr secondTry judged shownBy
+  tries-shown [] R = rw (R .first-fits) (go (rup n (liveMembers after) (meaning.clause n []) .shown) _ _)
+    where
+      go : (b : Bool) (x : State) (peak : ℕ) → (GoesOn (cond (not b) (spent 19 peak) (next x)) → b ≡ true) × (b ≡ true → GoesOn (cond (not b) (spent 19 peak) (next x)))
+      go true x peak = ((λ g. refl), (λ e. tt))
+      go false x peak = ((λ g. absurd g), (λ e. t≢f (sym e)))
+  tries-shown (p ∷ ls) R =
+      rw (R .first-fits, R .second-fits) (go (rup n (liveMembers after) (meaning.clause n (p ∷ ls)) .shown) (secondLine n (liveMembers after) p ls .shown) _ _ _)
+    where
+      go : (a b : Bool) (x y : State) (peak : ℕ)
+          → (GoesOn (cond (not a) (cond (not b) (spent 19 peak) (next y)) (next x)) → (a || b) ≡ true)
+          × ((a || b) ≡ true → GoesOn (cond (not a) (cond (not b) (spent 19 peak) (next y)) (next x)))
+      go true b x y peak = ((λ g. refl), (λ e. tt))
+      go false true x y peak = ((λ g. refl), (λ e. tt))
+      go false false x y peak = ((λ g. absurd g), (λ e. t≢f (sym e)))
+
+  -- THEOREM: "for clauses and members without both signs of a variable the two tries accept exactly what RUP and RAT over clauses accept, the
+  -- table having room." F are the clauses of the live members.
+  pub clause-accepted : (F : List Clause) → liveMembers (withClause st t k) ≡ map (meaning.clause n) F → AllWithin n F → AllPlain F
+      → (c : Clause) → Within n c → Plain c → HasRoom n s st c t k → GoesOn (addStep n s st c) ↔ Accepted F c
+  clause-accepted F live within plains c w plain R =
+      let T = two-tries n F within plains c w plain in
+      let S = tries-shown c R in (
+        (λ g. T .0 (subst (λ (xs : List Diagram). shownBy n xs c ≡ true) live (S .0 (subst GoesOn (step-is c w plain R) g)))),
+        (λ a. subst GoesOn (sym (step-is c w plain R)) (S .1 (subst (λ (xs : List Diagram). shownBy n xs c ≡ true) (sym live) (T .1 a)))),
+      )

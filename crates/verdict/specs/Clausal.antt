@@ -1,0 +1,106 @@
+-- The step of a clause that a DRAT text adds or strikes out. (02, 4/14)
+use mathlib.Core.Bool.{true, not, _&&_, cond}
+use mathlib.Core.List.{List, [], _∷_, _++_}
+use mathlib.Core.Option.{Option, none, some}
+use Prim.Native.Nat.{ℕ, zero, suc, max}
+use lib.ListN.{length, getD}
+use lib.Dec.{leb}
+use Rattle.meaning.specs.Diagram.{Diagram, leaf, same}
+use Rattle.meaning.specs.Operations as meaning
+use Rattle.meaning.specs.Rules.{Line, rup, pr}
+use Rattle.table.specs.Nodes.{Node, Placing, full, placed, place}
+use Rattle.table.specs.Making.{lineReach}
+use Rattle.clausal.specs.Drat.{has, without}
+use Rattle.clausal.specs.Tries.{makesTrue, makesFalse, witness}
+use Rattle.verdict.specs.Check.{State, Step, next, stop, spent, accepted, judged}
+use Rattle.verdict.specs.Check.{diagramIn, unstruck, liveMembers, isLive, strikeStep}
+
+-- ---- a clause added
+
+-- "A clause's diagram is made before the tries and counts as its line's last entry": the state with its nodes.
+abbrev pub withClause : State → List Node → ℕ → State
+withClause st t k = record {
+  nodes = t;
+  kept = st .kept;
+  members = st .members;
+  struck = st .struck;
+  entries = st .entries ++ k ∷ [];
+  positive = st .positive;
+  negative = st .negative;
+  lines = st .lines;
+  rounds = st .rounds;
+  peak = max (st .peak) (length t);
+  refuted = st .refuted;
+}
+
+-- The state with a greater peak: "the first try's nodes dropped", they count for the peak alone.
+abbrev pub withPeak : State → ℕ → State
+withPeak st peak = record {
+  nodes = st .nodes;
+  kept = st .kept;
+  members = st .members;
+  struck = st .struck;
+  entries = st .entries;
+  positive = st .positive;
+  negative = st .negative;
+  lines = st .lines;
+  rounds = st .rounds;
+  peak = peak;
+  refuted = st .refuted;
+}
+
+-- A line judged as `judged` does, but for 19: `otherwise` says what comes then, with the greatest count so far.
+unfoldable pub judgedOr : (ℕ → Step) → ℕ → State → ℕ → Line → Step
+unfolding lineReach
+judgedOr otherwise s st g line =
+    let r = lineReach s (st .nodes) line in
+    let peak = max (st .peak) (r .peak) in
+    let failed = otherwise peak in
+    cond (not (r .fits)) (spent 23 peak) (cond (not (line .shown)) failed (next (accepted st g line peak)))
+
+-- "as a PR line whose witness makes the pivot true and every other literal of it false"
+abbrev pub secondLine : ℕ → List Diagram → meaning.Literal → List meaning.Literal → Line
+secondLine n ms p ls = let ω = witness p (p ∷ ls) in pr n (makesTrue ω) (makesFalse ω) ms (meaning.clause n (p ∷ ls))
+
+-- The second try, k being the clause's node: "The empty clause has no pivot."
+unfoldable pub secondTry : ℕ → ℕ → State → ℕ → List meaning.Literal → ℕ → Step
+unfolding judged unstruck has without
+secondTry n s st k [] peak = spent 19 peak
+secondTry n s st k (p ∷ ls) peak = judged s (withPeak st peak) k (secondLine n (liveMembers st) p ls)
+
+-- "A clause is tried as a RUP line; failing with 19, as a PR line"
+unfoldable pub tries : ℕ → ℕ → State → ℕ → List meaning.Literal → Step
+unfolding judgedOr secondTry unstruck
+tries n s st k ls = judgedOr (secondTry n s st k ls) s st k (rup n (liveMembers st) (meaning.clause n ls))
+
+abbrev pub afterMade : State → Placing → (State → ℕ → Step) → Step
+afterMade st (full t) rest = spent 23 (max (st .peak) (length t))
+afterMade st (placed t k) rest = rest (withClause st t k) k
+
+-- "A line is refused with [..] 22, 17, then 23 or 19"
+unfoldable pub addStep : ℕ → ℕ → State → List meaning.Literal → Step
+unfolding tries
+addStep n s st ls =
+    let g = meaning.clause n ls in
+    let made = afterMade st (place s (st .nodes) g) (λ st₁ k. tries n s st₁ k ls) in
+    cond (leb 1024 (st .lines)) (stop 22 0) (cond (same g (leaf true)) (stop 17 0) made)
+
+-- ---- a clause struck out
+
+-- Of the k members from place i on the first that is live and the diagram g.
+unfoldable pub firstSame : ℕ → State → ℕ → Diagram → Option ℕ
+unfolding isLive
+firstSame zero st i g = none
+firstSame (suc k) st i g =
+    let later = firstSame k st (suc i) g in
+    cond (isLive st i && same (diagramIn st (getD (st .members) i 0)) g) (some i) later
+
+-- "an absent clause to strike with 28"
+abbrev pub strikeFound : State → Option ℕ → Step
+strikeFound st none = stop 28 0
+strikeFound st (some i) = strikeStep st i
+
+-- "A `d` line strikes the live member of lowest place that is the same diagram, and places no node."
+unfoldable pub strikeClause : ℕ → State → List meaning.Literal → Step
+unfolding firstSame strikeStep
+strikeClause n st ls = strikeFound st (firstSame (length (st .members)) st 0 (meaning.clause n ls))
