@@ -12,7 +12,7 @@ use Rattle.dimacs.specs.Text.{between}
 use Rattle.dimacs.specs.Header.{isWord}
 use Rattle.dimacs.specs.Clauses.{clauseFrom}
 use Rattle.records.specs.declared.Record.{Record}
-use Rattle.records.specs.declared.Record.the-variants.{NodeEntry, Witness, ProofLine, Strike, End, CutShort, UnknownKind, NoRecord}
+use Rattle.records.specs.declared.Record.the-variants.{NodeEntry, Witness, ProofLine, Strike, SetEntry, End, CutShort, UnknownKind, NoRecord}
 use Rattle.records.specs.Records.{recordAt, lengthOf}
 use Rattle.commands.specs.declared.Command.the-variants as code-variants
 use Rattle.commands.specs.declared.Read as code-read
@@ -21,11 +21,12 @@ use Rattle.commands.specs.Inner.{commandFor, readOf}
 
 -- ---- records
 
-pub record-short : (r : Record) → lengthOf r ≤ 6
+pub record-short : (r : Record) → lengthOf r ≤ 10
 record-short (NodeEntry b) = omega arith
 record-short (Witness v b) = omega arith
 record-short (ProofLine rule root) = omega arith
 record-short (Strike k) = omega arith
+record-short (SetEntry kind b) = omega arith
 record-short End = omega arith
 record-short CutShort = omega arith
 record-short UnknownKind = omega arith
