@@ -198,7 +198,7 @@ check-leaves i = fits? i (Leaves i (checked i)) fit (λ other. unchanged other (
     go e S _ P (proof-ended {n} {number} {offset} {at} {st} named R q) =
         kept e (judged-kept i S R number (at + offset) (st .peak) named (marks-stopped (places i) (i .text) (i .proof) R number offset q) P)
     go e S _ P (proof-tried {n} {number} {peak} {at} named R _) =
-        kept e (judged-kept i S R number at peak ((λ _. named .1), λ _. omega (arith, named .0)) (marks-are (places i) (i .text) (i .proof) R) P)
+        kept e (judged-kept i S R number at peak ((λ _ _. named .1), λ _. omega (arith, named .0)) (marks-are (places i) (i .text) (i .proof) R) P)
 
     fit : Fits i → Leaves i (checked i)
     fit e =
