@@ -1,6 +1,7 @@
 //! The check of a formula and a proof.
 
-use crate::dimacs::{Formula, Refusal};
+use crate::dimacs::{Clause, Clauses, Formula, Refusal};
+use crate::drat;
 use crate::index::Sizes;
 use crate::operate::Diagrams;
 use crate::records::{EntryId, MemberId, Reader, Record};
@@ -45,8 +46,14 @@ pub struct Verdict {
     pub members: Vec<Member>,
 }
 
+/// A proof in one of its forms.
+pub enum Proof<'a> {
+    Records(&'a [u8]),
+    Drat(&'a [u8]),
+}
+
 /// "Order: 7, formula, proof."
-pub fn check(d: &mut Diagrams, lent: &Lent, formula: &[u8], proof: &[u8]) -> Verdict {
+pub fn check(d: &mut Diagrams, lent: &Lent, formula: &[u8], proof: Proof) -> Verdict {
     let sizes = lent.table.are_right() && lent.members >= MEMBERS && lent.scratch >= SCRATCH;
     d.reset(if sizes { lent.table.places as usize } else { SMALLEST as usize });
     if !sizes {
@@ -109,8 +116,11 @@ impl<'a> Checker<'a> {
         }
     }
 
-    fn run(mut self, proof: &[u8]) -> Verdict {
-        let (number, place) = self.records(proof);
+    fn run(mut self, proof: Proof) -> Verdict {
+        let (number, place) = match proof {
+            Proof::Records(bytes) => self.records(bytes),
+            Proof::Drat(text) => self.drat(text),
+        };
         // "Nodes of entries after the last accepted line are dropped in both."
         self.d.drop_to(self.kept);
         let peak = self.d.table.peak();
@@ -137,6 +147,49 @@ impl<'a> Checker<'a> {
                 return (number, start);
             }
         }
+    }
+
+    /// Takes clauses of a DRAT text up to its end or a refusal. "A text that never reaches the empty
+    /// clause" is refused "with 20, at its length as is 0".
+    fn drat(&mut self, text: &[u8]) -> (u32, usize) {
+        let mut clauses = Clauses::new(text, self.variables);
+        loop {
+            let step = match drat::take(&mut clauses) {
+                Err(refusal) => return (refusal.number, refusal.place),
+                Ok(None) => return (if self.refuted { 0 } else { 20 }, text.len()),
+                Ok(Some(step)) => step,
+            };
+            let taken =
+                if step.strikes { self.strike_clause(step.clause.literals) } else { self.add_clause(&step.clause) };
+            if let Err(number) = taken {
+                return (number, step.clause.place);
+            }
+        }
+    }
+
+    /// "22, 17, then 23 or 19." The clause "is tried as a RUP line; failing with 19, as a PR line [..], the
+    /// first try's nodes dropped"; its diagram "is made before the tries and counts as its line's last
+    /// entry".
+    fn add_clause(&mut self, clause: &Clause) -> Result<(), u32> {
+        self.may_be_line(clause.literals.clash())?;
+        let g = self.d.clause(clause.literals).map_err(|Full| 23u32)?;
+        let kept = self.d.table.count();
+        let live = self.live();
+        let mut shown = rules::rup(self.d, &live, g);
+        // "The empty clause has no pivot", hence no second try.
+        if shown == Ok(None) && !clause.pivot.is_empty() {
+            self.d.drop_to(kept);
+            shown = rules::pr(self.d, &live, g, drat::witness(clause));
+        }
+        self.close(g, kept, shown)
+    }
+
+    /// "A `d` line strikes the live member of lowest place that is the same diagram, and places no node."
+    fn strike_clause(&mut self, literals: Literals) -> Result<(), u32> {
+        let node = self.d.find_clause(literals).ok_or(28u32)?;
+        let same = self.members.iter_mut().find(|member| member.node == node && !member.struck);
+        same.ok_or(28u32)?.struck = true;
+        Ok(())
     }
 
     /// "Node: 10, 21, 12, 13, 14, 23."
@@ -194,7 +247,7 @@ impl<'a> Checker<'a> {
         if !self.witness.is_empty() {
             return Err(16);
         }
-        self.may_be_line(g)?;
+        self.may_be_line(g == ONE)?;
         let kept = self.d.table.count();
         let live = self.live();
         let shown = rules::rup(self.d, &live, g);
@@ -204,7 +257,7 @@ impl<'a> Checker<'a> {
     /// "PR: 10, 13, 22, 17, 18, then the same."
     fn pr(&mut self, root: EntryId) -> Result<(), u32> {
         let g = self.entry(root)?;
-        self.may_be_line(g)?;
+        self.may_be_line(g == ONE)?;
         if !self.d.is_one_under(g, self.witness) {
             return Err(18);
         }
@@ -269,11 +322,11 @@ impl<'a> Checker<'a> {
         self.entries.get(entry.0 as usize).copied().ok_or(13)
     }
 
-    fn may_be_line(&self, g: NodeId) -> Result<(), u32> {
+    fn may_be_line(&self, always_true: bool) -> Result<(), u32> {
         if self.lines == LINES {
             return Err(22);
         }
-        if g == ONE {
+        if always_true {
             return Err(17);
         }
         Ok(())

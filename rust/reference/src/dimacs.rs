@@ -11,16 +11,83 @@ pub struct Refusal {
     pub place: usize,
 }
 
+/// A clause as it closes.
 pub struct Clause {
     pub literals: Literals,
-    /// The offset of its first token.
+    /// The first literal as written, in its set; none of an empty clause.
+    pub pivot: Literals,
+    /// The offset of its first token, or of the `d` before it.
     pub place: usize,
 }
 
-pub struct Formula<'a> {
+/// Takes tokens and clauses from the formula behind its header, or from a DRAT text.
+pub struct Clauses<'a> {
     bytes: &'a [u8],
     place: usize,
     variables: u64,
+}
+
+type Token<'a> = (usize, &'a [u8]);
+
+impl<'a> Clauses<'a> {
+    pub fn new(bytes: &'a [u8], variables: u32) -> Clauses<'a> {
+        Clauses { bytes, place: 0, variables: variables.into() }
+    }
+
+    /// The clause that was opened at a place, from its first token on.
+    pub fn clause(&mut self, place: usize, first: Option<Token>) -> Result<Clause, Refusal> {
+        let mut clause = Clause { literals: Literals::default(), pivot: Literals::default(), place };
+        let mut token = first;
+        loop {
+            let literal = self.literal(token.ok_or(Refusal { number: 6, place })?)?;
+            if literal.is_empty() {
+                return Ok(clause);
+            }
+            if clause.pivot.is_empty() {
+                clause.pivot = literal;
+            }
+            clause.literals.yes |= literal.yes;
+            clause.literals.no |= literal.no;
+            token = self.token();
+        }
+    }
+
+    /// The literal of a token, alone in its set; none for the closing `0`.
+    fn literal(&self, (place, token): Token) -> Result<Literals, Refusal> {
+        let (minus, digits) = match token {
+            [b'-', digits @ ..] => (true, digits),
+            _ => (false, token),
+        };
+        let value = number(digits).filter(|&value| value != 0 || !minus);
+        Ok(match value.ok_or(Refusal { number: 3, place })? {
+            0 => Literals::default(),
+            value if value > self.variables => return Err(Refusal { number: 4, place }),
+            value if minus => Literals { yes: 0, no: bit(value as u32) },
+            value => Literals { yes: bit(value as u32), no: 0 },
+        })
+    }
+
+    /// The next run of bytes between spaces, tabs, CR and LF, outside comment lines: "a line whose first
+    /// byte is `c` is now skipped anywhere", "also inside an open clause". A text may begin with one.
+    pub fn token(&mut self) -> Option<Token<'a>> {
+        let apart = |b: &u8| is_trailing(*b) || *b == b'\n';
+        loop {
+            let skipped = self.bytes[self.place..].iter().position(|b| !apart(b))?;
+            let start = self.place + skipped;
+            let (before, rest) = self.bytes.split_at(start);
+            let comment = rest[0] == b'c' && before.last().is_none_or(|&b| b == b'\n');
+            let end = if comment { rest.iter().position(|&b| b == b'\n') } else { rest.iter().position(apart) };
+            let length = end.unwrap_or(rest.len());
+            self.place = start + length;
+            if !comment {
+                return Some((start, &rest[..length]));
+            }
+        }
+    }
+}
+
+pub struct Formula<'a> {
+    clauses: Clauses<'a>,
     clauses_left: u64,
 }
 
@@ -40,67 +107,28 @@ impl<'a> Formula<'a> {
             if variables > VARIABLES as u64 || clauses_left > CLAUSES {
                 return Err(Refusal { number: 2, place: start });
             }
-            return Ok(Formula { bytes, place: next.min(bytes.len()), variables, clauses_left });
+            let clauses = Clauses { bytes, place: next.min(bytes.len()), variables };
+            return Ok(Formula { clauses, clauses_left });
         }
         Err(Refusal { number: 1, place: bytes.len() })
     }
 
     pub fn variables(&self) -> u32 {
-        self.variables as u32
+        self.clauses.variables as u32
     }
 
     /// The next clause as it closes; none after the last one, where nothing may follow.
     pub fn next_clause(&mut self) -> Result<Option<Clause>, Refusal> {
-        let Some((place, mut token)) = self.token() else {
-            return match self.clauses_left {
-                0 => Ok(None),
-                _ => Err(Refusal { number: 5, place: self.bytes.len() }),
-            };
-        };
-        if self.clauses_left == 0 {
+        let first = self.clauses.token();
+        let place = first.map_or(self.clauses.bytes.len(), |(place, _)| place);
+        if first.is_none() && self.clauses_left == 0 {
+            return Ok(None);
+        }
+        if first.is_none() || self.clauses_left == 0 {
             return Err(Refusal { number: 5, place });
         }
-        let mut literals = Literals::default();
-        let mut at = place;
-        while !self.add(&mut literals, token, at)? {
-            (at, token) = self.token().ok_or(Refusal { number: 6, place })?;
-        }
         self.clauses_left -= 1;
-        Ok(Some(Clause { literals, place }))
-    }
-
-    /// Adds a literal; true for the closing `0`.
-    fn add(&self, literals: &mut Literals, token: &[u8], place: usize) -> Result<bool, Refusal> {
-        let (minus, digits) = match token {
-            [b'-', digits @ ..] => (true, digits),
-            _ => (false, token),
-        };
-        let value = number(digits).filter(|&value| value != 0 || !minus);
-        match value.ok_or(Refusal { number: 3, place })? {
-            0 => return Ok(true),
-            value if value > self.variables => return Err(Refusal { number: 4, place }),
-            value if minus => literals.no |= bit(value as u32),
-            value => literals.yes |= bit(value as u32),
-        }
-        Ok(false)
-    }
-
-    /// The next run of bytes between spaces, tabs, CR and LF, outside comment lines: "a line whose first
-    /// byte is `c` is now skipped anywhere in the formula, also inside an open clause."
-    fn token(&mut self) -> Option<(usize, &'a [u8])> {
-        let apart = |b: &u8| is_trailing(*b) || *b == b'\n';
-        loop {
-            let skipped = self.bytes[self.place..].iter().position(|b| !apart(b))?;
-            let start = self.place + skipped;
-            let (before, rest) = self.bytes.split_at(start);
-            let comment = rest[0] == b'c' && before.ends_with(b"\n");
-            let end = if comment { rest.iter().position(|&b| b == b'\n') } else { rest.iter().position(apart) };
-            let length = end.unwrap_or(rest.len());
-            self.place = start + length;
-            if !comment {
-                return Some((start, &rest[..length]));
-            }
-        }
+        self.clauses.clause(place, first).map(Some)
     }
 }
 

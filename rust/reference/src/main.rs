@@ -3,6 +3,7 @@
 
 mod check;
 mod dimacs;
+mod drat;
 mod index;
 mod operate;
 mod protocol;

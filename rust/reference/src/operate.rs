@@ -4,7 +4,7 @@
 //! made before the high side and both before their parent: "only nodes of the finished diagram are
 //! placed", in the order of "The table".
 
-use crate::table::{bit, Full, Literals, NodeId, Table, ONE, ZERO};
+use crate::table::{bit, Full, Literals, NodeId, Table, ONE, VARIABLES, ZERO};
 
 const FIRST_ENTRIES: usize = 256;
 const MOST_ENTRIES: usize = 1 << 20;
@@ -110,6 +110,19 @@ impl NodeMemo {
     }
 }
 
+fn variables_from_last(literals: Literals) -> impl Iterator<Item = u32> {
+    (1..=VARIABLES).rev().filter(move |&variable| literals.variables() & bit(variable) != 0)
+}
+
+/// Low and high side of a clause's node over the diagram of its later literals.
+fn clause_sides(literals: Literals, variable: u32, rest: NodeId) -> (NodeId, NodeId) {
+    if literals.yes & bit(variable) != 0 {
+        (rest, ONE)
+    } else {
+        (ONE, rest)
+    }
+}
+
 /// The table with the memories of the operations on it.
 pub struct Diagrams {
     pub table: Table,
@@ -160,17 +173,22 @@ impl Diagrams {
             return Ok(ONE);
         }
         let mut rest = ZERO;
-        let mut left = literals.variables();
-        while left != 0 {
-            let variable = 64 - left.leading_zeros();
-            left &= !bit(variable);
-            rest = if literals.yes & bit(variable) != 0 {
-                self.table.make(variable, rest, ONE)?
-            } else {
-                self.table.make(variable, ONE, rest)?
-            };
+        for variable in variables_from_last(literals) {
+            let (low, high) = clause_sides(literals, variable, rest);
+            rest = self.table.make(variable, low, high)?;
         }
         Ok(rest)
+    }
+
+    /// The diagram of a clause if it is in the table. Looking for it "places no node".
+    pub fn find_clause(&self, literals: Literals) -> Option<NodeId> {
+        if literals.clash() {
+            return Some(ONE);
+        }
+        variables_from_last(literals).try_fold(ZERO, |rest, variable| {
+            let (low, high) = clause_sides(literals, variable, rest);
+            self.table.find(variable, low, high)
+        })
     }
 
     /// The negation. The ties of the table to negations are the memory of this recursion.

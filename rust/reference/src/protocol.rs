@@ -1,6 +1,6 @@
 //! The line protocol: a command line in, an answer line out.
 
-use crate::check::{check, Lent, Member};
+use crate::check::{check, Lent, Member, Proof};
 use crate::index::{Change, Index, Sizes};
 use crate::operate::Diagrams;
 use crate::table::{Full, Literals, NodeId, Table, VARIABLES, ZERO};
@@ -52,8 +52,10 @@ pub fn answer(d: &mut Diagrams, line: &[u8], out: &mut Vec<u8>) {
 fn command(d: &mut Diagrams, line: &[u8], out: &mut Vec<u8>) -> Option<()> {
     let mut words = line.split(|&b| b == b' ');
     let name = words.next()?;
-    if name == b"check" {
-        return check_command(d, words, out);
+    match name {
+        b"check" => return check_command(d, words, |bytes| Proof::Records(bytes), out),
+        b"drat" => return check_command(d, words, |bytes| Proof::Drat(bytes), out),
+        _ => (),
     }
     let lent = lent_table(&mut words)?;
     let call = match name {
@@ -72,7 +74,12 @@ fn command(d: &mut Diagrams, line: &[u8], out: &mut Vec<u8>) -> Option<()> {
     Some(())
 }
 
-fn check_command<'a>(d: &mut Diagrams, mut words: impl Iterator<Item = &'a [u8]>, out: &mut Vec<u8>) -> Option<()> {
+fn check_command<'a>(
+    d: &mut Diagrams,
+    mut words: impl Iterator<Item = &'a [u8]>,
+    form: fn(&[u8]) -> Proof,
+    out: &mut Vec<u8>,
+) -> Option<()> {
     let mut size = || decimal(words.next()?);
     let (places, members, scratch) = (size()?, size()?, size()?);
     let formula = hex(words.next()?)?;
@@ -83,7 +90,7 @@ fn check_command<'a>(d: &mut Diagrams, mut words: impl Iterator<Item = &'a [u8]>
         return None;
     }
     let lent = Lent { table: index.sizes(places), members, scratch };
-    let verdict = check(d, &lent, &formula, &proof);
+    let verdict = check(d, &lent, &formula, form(&proof));
     push_number(out, verdict.number.into());
     let (count, peak) = (d.table.count() as u64, verdict.peak as u64);
     for value in [verdict.place as u64, verdict.lines as u64, verdict.rounds, count, peak] {

@@ -386,14 +386,7 @@ impl Model {
                 if !self.shown(g, pr)? {
                     return Err(19);
                 }
-                self.table.nodes.truncate(last_entry);
-                self.kept = last_entry;
-                self.members.push(g);
-                self.entries = vec![0, ALL];
-                self.witness = Literals::default();
-                self.lines += 1;
-                self.rounds += self.line_rounds;
-                self.refuted |= g == 0;
+                self.accept(g, last_entry);
             }
             Step::Strike(_) if self.witness != Literals::default() => return Err(16),
             Step::Strike(member) => {
@@ -410,6 +403,52 @@ impl Model {
             Step::End if self.witness != Literals::default() => return Err(16),
             Step::End => return Err(if self.refuted { 0 } else { 20 }),
         }
+        Ok(())
+    }
+
+    fn accept(&mut self, g: Function, last_entry: usize) {
+        self.table.nodes.truncate(last_entry);
+        self.kept = last_entry;
+        self.members.push(g);
+        self.entries = vec![0, ALL];
+        self.witness = Literals::default();
+        self.lines += 1;
+        self.rounds += self.line_rounds;
+        self.refuted |= g == 0;
+    }
+
+    /// An added clause of a DRAT text.
+    fn add(&mut self, literals: &[i32]) -> Result<(), u32> {
+        let g = clause(literals);
+        if g == ALL {
+            return Err(17);
+        }
+        self.table.build(g)?;
+        let last_entry = self.table.nodes.len();
+        self.line_rounds = 0;
+        let mut shown = self.shown(g, false)?;
+        if let (false, Some(&pivot)) = (shown, literals.first()) {
+            self.table.nodes.truncate(last_entry);
+            self.line_rounds = 0;
+            for &literal in literals {
+                let made_true = (literal == pivot) == (literal > 0);
+                *(if made_true { &mut self.witness.yes } else { &mut self.witness.no }) |= bit(literal.unsigned_abs());
+            }
+            shown = self.shown(g, true)?;
+        }
+        if !shown {
+            return Err(19);
+        }
+        self.accept(g, last_entry);
+        Ok(())
+    }
+
+    /// A struck clause of a DRAT text.
+    fn strike(&mut self, literals: &[i32]) -> Result<(), u32> {
+        let f = clause(literals);
+        let same = |at: &usize| self.members[*at] == f && !self.struck.contains(at);
+        let member = (0..self.members.len()).find(same).ok_or(28u32)?;
+        self.struck.push(member);
         Ok(())
     }
 
@@ -542,6 +581,12 @@ fn noise(random: &mut Random) -> Step {
     }
 }
 
+/// Literal by literal, so both signs give 1.
+fn clause(literals: &[i32]) -> Function {
+    let literal = |l: i32| if l > 0 { variable(l as u32) } else { !variable(l.unsigned_abs()) };
+    literals.iter().fold(0, |f, &l| f | literal(l))
+}
+
 fn random_clause(random: &mut Random, variables: u32) -> (Vec<i32>, Function) {
     let mut literals = Vec::new();
     let mut f = 0;
@@ -567,13 +612,13 @@ fn hex(bytes: &[u8]) -> String {
     bytes.iter().map(|byte| format!("{byte:02x}")).collect()
 }
 
-/// What document 01 says of a check whose formula is well written and fits the table.
-fn judged(variables: u32, size: usize, clauses: &[Function], steps: &[Step]) -> Option<String> {
+/// The model after a formula that is well written, where that fits the table.
+fn opened(variables: u32, size: usize, clauses: &[Function]) -> Option<Model> {
     let mut table = Plain::new(size);
     for &clause in clauses {
         table.build(clause).ok()?;
     }
-    let mut model = Model {
+    Some(Model {
         variables,
         kept: table.nodes.len(),
         table,
@@ -585,7 +630,12 @@ fn judged(variables: u32, size: usize, clauses: &[Function], steps: &[Step]) -> 
         rounds: 0,
         line_rounds: 0,
         refuted: false,
-    };
+    })
+}
+
+/// What document 01 says of a check whose formula is well written and fits the table.
+fn judged(variables: u32, size: usize, clauses: &[Function], steps: &[Step]) -> Option<String> {
+    let mut model = opened(variables, size, clauses)?;
     let mut place = 0;
     for &step in steps {
         if let Err(number) = model.take(step) {
@@ -606,6 +656,20 @@ fn report(number: u32, place: usize, model: Model) -> String {
     format!("{number} {place} {counts} | {} | {members} | {marks}", table.text())
 }
 
+fn formula(random: &mut Random, variables: u32, clauses: &[(Vec<i32>, Function)]) -> String {
+    let mut text = format!("p cnf {variables} {}\n", clauses.len());
+    for (literals, _) in clauses {
+        push_clause(random, literals, &mut text);
+    }
+    text
+}
+
+fn push_clause(random: &mut Random, literals: &[i32], text: &mut String) {
+    for literal in literals.iter().chain([&0]) {
+        text.push_str(&format!("{literal}{}", between(random)));
+    }
+}
+
 #[test]
 fn checks_are_what_the_rules_say_and_0_is_said_of_nothing_satisfiable() {
     let mut random = Random(0xC0FFEE);
@@ -618,12 +682,7 @@ fn checks_are_what_the_rules_say_and_0_is_said_of_nothing_satisfiable() {
         let clauses: Vec<Function> = made.iter().map(|clause| clause.1).collect();
         let steps = proof(&mut random, variables, &clauses);
         let size = if random.one_in(2) { 200 } else { 2 + random.below(40) as usize };
-        let mut text = format!("p cnf {variables} {}\n", made.len());
-        for (literals, _) in &made {
-            for literal in literals.iter().chain([&0]) {
-                text.push_str(&format!("{literal}{}", between(&mut random)));
-            }
-        }
+        let text = formula(&mut random, variables, &made);
         let proof: Vec<u8> = steps.iter().flat_map(|&step| bytes(step)).collect();
         let line = format!("check {size} 2048 4096 {} {}", hex(text.as_bytes()), hex(&proof));
         let said = ask(&mut d, &line);
@@ -720,4 +779,137 @@ fn excluded_assignments_are_those_counted_one_by_one() {
             assert_eq!(tally::excluded(set, least as u8), Some(counted));
         }
     }
+}
+
+/// A clause with its literals in any order, some twice, now and then with both signs of a variable.
+fn written_clause(random: &mut Random, variables: u32) -> Vec<i32> {
+    let mut literals = random_clause(random, variables).0;
+    for _ in 0..random.below(3) {
+        if let Some(&literal) = literals.get(random.below(4) as usize) {
+            literals.push(if random.one_in(8) { -literal } else { literal });
+        }
+    }
+    for at in (1..literals.len()).rev() {
+        literals.swap(at, random.below(at as u64 + 1) as usize);
+    }
+    literals
+}
+
+#[test]
+fn drat_texts_are_what_the_two_tries_say() {
+    let mut random = Random(0xD2A7);
+    let mut d = Diagrams::new();
+    let mut seen = [0u32; 32];
+    for _ in 0..20_000 {
+        let variables = 1 + random.below(N as u64) as u32;
+        let made: Vec<_> = (0..random.below(10)).map(|_| random_clause(&mut random, variables)).collect();
+        let clauses: Vec<Function> = made.iter().map(|clause| clause.1).collect();
+        let size = if random.one_in(2) { 200 } else { 2 + random.below(40) as usize };
+        let mut model = opened(variables, size, &clauses);
+        let mut text = between(&mut random).to_string();
+        let mut judged = Ok(());
+        for step in 0..random.below(8) {
+            let place = text.len();
+            let strikes = random.one_in(4);
+            let mut literals = written_clause(&mut random, variables);
+            if strikes {
+                text.push_str(&format!("d{}", between(&mut random)));
+                if let Some((same, _)) = made.get(random.below(12) as usize) {
+                    literals = same.iter().rev().copied().collect();
+                }
+            } else if step > 4 {
+                literals.clear();
+            }
+            push_clause(&mut random, &literals, &mut text);
+            if let (Ok(()), Some(model)) = (judged, &mut model) {
+                let taken = if strikes { model.strike(&literals) } else { model.add(&literals) };
+                judged = taken.map_err(|number| (number, place));
+            }
+        }
+        let formula = formula(&mut random, variables, &made);
+        let line = format!("drat {size} 2048 4096 {} {}", hex(formula.as_bytes()), hex(text.as_bytes()));
+        let said = ask(&mut d, &line);
+        match model {
+            Some(model) => {
+                let (number, place) = judged.err().unwrap_or((if model.refuted { 0 } else { 20 }, text.len()));
+                assert_eq!(said, report(number, place, model), "{line}\n{formula}\n{text}");
+                let models = clauses.iter().fold(ALL, |all, clause| all & clause);
+                assert!(number != 0 || models == 0, "0 said of a satisfiable formula: {line}");
+                seen[number as usize] += 1;
+            }
+            None => assert!(said.starts_with("8 "), "{line}"),
+        }
+    }
+    for number in [0, 17, 19, 20, 23, 28] {
+        assert!(seen[number] > 100, "{number} seen {} times only", seen[number]);
+    }
+}
+
+/// RUP over clauses: with the clause's literals false, unit propagation makes some clause empty.
+fn rup_over_clauses(clauses: &[Vec<i32>], clause: &[i32]) -> bool {
+    let mut falsified: Vec<i32> = clause.to_vec();
+    loop {
+        if falsified.iter().any(|&literal| falsified.contains(&-literal)) {
+            return true;
+        }
+        let left = |clause: &[i32]| -> Vec<i32> {
+            let satisfied = clause.iter().any(|&l| falsified.contains(&-l));
+            clause.iter().copied().filter(|l| !satisfied && !falsified.contains(l)).collect()
+        };
+        let falsifies = |clause: &Vec<i32>| clause.iter().all(|l| falsified.contains(l));
+        if clauses.iter().any(falsifies) {
+            return true;
+        }
+        let Some(unit) = clauses.iter().map(|clause| left(clause)).find(|left| left.len() == 1) else {
+            return false;
+        };
+        falsified.push(-unit[0]);
+    }
+}
+
+/// RAT over clauses: every resolvent on the pivot is RUP.
+fn rat_over_clauses(clauses: &[Vec<i32>], clause: &[i32]) -> bool {
+    let Some(pivot) = clause.first() else {
+        return false;
+    };
+    clauses.iter().filter(|other| other.contains(&-pivot)).all(|other| {
+        let mut resolvent = clause.to_vec();
+        resolvent.extend(other.iter().filter(|&literal| *literal != -pivot));
+        rup_over_clauses(clauses, &resolvent)
+    })
+}
+
+#[test]
+fn the_two_tries_accept_what_rup_and_rat_over_clauses_accept() {
+    let mut random = Random(0xAA7);
+    let mut d = Diagrams::new();
+    let mut seen = [0u32; 3];
+    for _ in 0..20_000 {
+        let variables = 1 + random.below(10) as u32;
+        let made: Vec<_> = (0..random.below(14)).map(|_| wide_clause(&mut random, variables)).collect();
+        let clause = wide_clause(&mut random, variables);
+        let mut text = format!("p cnf {variables} {}\n", made.len());
+        made.iter().for_each(|literals| push_clause(&mut random, literals, &mut text));
+        let mut added = String::new();
+        push_clause(&mut random, &clause, &mut added);
+        let line = format!("drat 4096 2048 4096 {} {}", hex(text.as_bytes()), hex(added.as_bytes()));
+        let said = ask(&mut d, &line);
+        let (rup, rat) = (rup_over_clauses(&made, &clause), rat_over_clauses(&made, &clause));
+        let number = if !rup && !rat { "19 0" } else { ["20", "0"][clause.is_empty() as usize] };
+        assert!(said.starts_with(&format!("{number} ")), "{line}\n{text}\n{added}\n{said}");
+        seen[if rup { 0 } else { 1 + rat as usize }] += 1;
+    }
+    assert!(seen.iter().all(|&times| times > 1_000), "{seen:?}");
+}
+
+/// At most three literals of different variables, in any order.
+fn wide_clause(random: &mut Random, variables: u32) -> Vec<i32> {
+    let mut literals: Vec<i32> = Vec::new();
+    for _ in 0..random.below(4) {
+        let v = 1 + random.below(variables as u64) as i32;
+        if !literals.iter().any(|l| l.abs() == v) {
+            literals.push(if random.one_in(2) { v } else { -v });
+        }
+    }
+    literals
 }
