@@ -1,4 +1,5 @@
-// Either-or and at-least entries (02, 5/14): rows of `setTable`, with the lines of `checks`; and the call that makes an at-least diagram, with
+// Either-or and at-least entries (02, 5/14): rows of `setTable`, with the lines of `checks`; and the call that makes an at-least
+// diagram, with
 // number, node, count, whether the excluded assignments are counted, and how many they are.
 use crate::checks;
 use crate::print;

@@ -60,7 +60,8 @@ pub data Says (op : Operation) (c : Columns) (count f g : ℕ) (o : Made) : Type
 
 -- ---- at least (02, 5/14)
 
--- The same of the call that makes an at-least diagram: its node's value is "1 where the number of the set's true variables is [..] at least k;
+-- The same of the call that makes an at-least diagram: its node's value is "1 where the number of the set's true variables is [..] at
+-- least k;
 -- else 0"; "for sets of up to 32 variables" the excluded assignments are counted.
 pub record LeastAnswers (c : Columns) (count set k : ℕ) (o : Counted) : Type 0 where
   pub below : o .made .node < o .made .count

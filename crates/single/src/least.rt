@@ -9,7 +9,8 @@ ghost use Rattle.table.specs.Columns.{columnsMade};
 ghost use Rattle.table.specs.Indexed.{tableOf, listsOf, size, nodesOf, Good};
 ghost use Rattle.single.specs.Single.{countedOf, madeBy, withCount, atLeastCall};
 
-// What the call says: 01's number, the node (0 with a refusal) and the count; whether the excluded assignments are counted, and their number.
+// What the call says: 01's number, the node (0 with a refusal) and the count; whether the excluded assignments are counted, and their
+// number.
 #[repr(C)]
 pub struct AtLeast {
     pub number: u8,

@@ -185,8 +185,10 @@ strikeTable =
     ∷ᴸ marked 4096 "p cnf 1 1\n0\n" (strike 0 (rupLine 0 end)) (prints 19 3 0 0 2) (1 ∷ᴸ []ᴸ)
     ∷ᴸ []ᴸ
 
--- 02's 5/14: odd and even of a set; a set bit beyond the header, a byte above 1, a record cut short; the empty set; at least one, two, none, three
--- of two; a set bit of variable 64; at least two of three as in case I; full tables, with every place taken; entries of both kinds under a node record.
+-- 02's 5/14: odd and even of a set; a set bit beyond the header, a byte above 1, a record cut short; the empty set; at least one, two,
+-- none, three
+-- of two; a set bit of variable 64; at least two of three as in case I; full tables, with every place taken; entries of both kinds
+-- under a node record.
 abbrev pub setTable : List Row
 setTable =
     checked 4096 D-formula (oddEven 3 1 (rupLine 2 end)) (prints 19 10 0 0 8)
