@@ -14,14 +14,14 @@ use Rattle.dimacs.specs.Text.{between}
 use Rattle.dimacs.specs.Header.{isWord}
 use Rattle.dimacs.specs.Clauses.{Next, closed, ended, refused, clauseFrom}
 use Rattle.dimacs.proofs.Between.{between-least, between-most}
-use Rattle.commands.specs.Commands.{Command, recorded, added, struck, wrong, finished, Read, reading, clauseRead, textRead}
-use Rattle.commands.proofs.Reading.{ClauseIn, clause-in}
+use Rattle.commands.specs.Commands.{Command, recorded, added, struckOut, wrong, finished, Read, reading, clauseRead, textRead}
+use Rattle.commands.proofs.Reading.{Fault, ClauseIn, clause-in}
 
 -- What is known of a text's command at a place, by its kind, and of the place of the next.
 abbrev pub CommandIn : List ℕ → ℕ → ℕ → Command → ℕ → Type 0
 CommandIn s n at (added ls) next = (at < next) × (next ≤ length s) × Within n ls
-CommandIn s n at (struck ls) next = (at < next) × (next ≤ length s) × Within n ls
-CommandIn s n at (wrong number offset) next = (next ≡ at) × (at + offset ≤ length s)
+CommandIn s n at (struckOut ls) next = (at < next) × (next ≤ length s) × Within n ls
+CommandIn s n at (wrong number offset) next = (next ≡ at) × (at + offset ≤ length s) × Fault 0 number offset
 CommandIn s n at finished next = (next ≡ at) × (at ≡ length s)
 CommandIn s n at (recorded r more) next = ⊥
 
@@ -33,7 +33,9 @@ module _ (s : List ℕ) (n at from : ℕ) (le : at ≤ from) (command : List mea
   clause-read-in : (x : Next) → ClauseIn s n at from x → ReadIn s n at (clauseRead s at command x)
   clause-read-in (closed ls f next) h =
       is ls (between s next) (omega (arith, h .0, between-least s next)) (between-most s next (h .1)) (h .2)
-  clause-read-in (refused number place) h = (refl, omega (arith, h .0, h .1))
+  clause-read-in (refused number place) h =
+      let f : Fault at number place = h .2 in
+      (refl, omega (arith, h .0, h .1), (f .0, f .1, f .2, (λ q. omega (arith, f .3 q))))
   clause-read-in ended h = absurd h
 
 text-cond : (s : List ℕ) (n at : ℕ) (t : Bool) (x y : Read) → (t ≡ true → ReadIn s n at x) → (t ≡ false → ReadIn s n at y) → ReadIn s n at (cond t x y)
@@ -44,12 +46,12 @@ pub text-in : (s : List ℕ) (n at : ℕ) → at ≤ length s → ReadIn s n at 
 unfolding textRead
 text-in s n at h =
     let body : ℕ = between s (at + 1) in
-    let striking : Read = clauseRead s at struck (clauseFrom s n (length s - body) at body) in
+    let striking : Read = clauseRead s at struckOut (clauseFrom s n (length s - body) at body) in
     let adding : Read = clauseRead s at added (clauseFrom s n (length s - at) at at) in
     text-cond s n at (ltb at (length s)) (cond (isWord s at (100 ∷ [])) striking adding) (reading finished at)
     (λ t. text-cond s n at (isWord s at (100 ∷ [])) striking adding
     (λ w. let behind : at ≤ between s (at + 1) = omega (arith, between-least s (at + 1)) in
-    clause-read-in s n at (between s (at + 1)) behind struck (λ ls next p q r. (p, q, r)) (clauseFrom s n (length s - between s (at + 1)) at (between s (at + 1)))
+    clause-read-in s n at (between s (at + 1)) behind struckOut (λ ls next p q r. (p, q, r)) (clauseFrom s n (length s - between s (at + 1)) at (between s (at + 1)))
     (clause-in s n at (length s - between s (at + 1)) (between s (at + 1)) behind h))
     (λ w. clause-read-in s n at at (omega arith) added (λ ls next p q r. (p, q, r)) (clauseFrom s n (length s - at) at at) (clause-in s n at (length s - at) at (omega arith) h)))
     (λ f. (refl, omega (arith, h, ltb-false at (length s) f)))

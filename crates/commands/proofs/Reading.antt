@@ -1,13 +1,14 @@
 -- What the reader of a text's clause answers: its places lie in the text and go on, its literals are the header's, its pivot is what its first
 -- token says; and the command that the code makes of it. The idea: by the token at hand. Assumes nothing.
 use mathlib.Core.Path.{_≡_, refl, sym, ap, _∙_, subst}
-use mathlib.Core.Bool.{Bool, true, false}
+use mathlib.Core.Logic.{_≢_}
+use mathlib.Core.Bool.{Bool, true, false, not, cond}
 use mathlib.Core.List.{List, [], _∷_}
 use Prim.Native.Nat.{ℕ, zero, suc, _-_, _≤_, _<_}
 use native.Mathlib.Omega.{arith}
 use lib.ListN.{length}
 use lib.Seq.{slice, length-slice}
-use lib.Dec.{ltb}
+use lib.Dec.{ltb, leb}
 use borrow.Author.Tests.{ltb-true, ltb-false}
 use Rattle.meaning.specs.Operations as meaning
 use Rattle.meaning.proofs.Clauses.{Within}
@@ -18,7 +19,7 @@ use Rattle.dimacs.specs.declared.ClosedClause.{ClosedClause}
 use Rattle.dimacs.specs.declared.Clause.{Clause}
 use Rattle.dimacs.specs.declared.Clause.the-variants.{Closed, End, Refused}
 use Rattle.dimacs.specs.Text.{isToken, tokenEnd, between}
-use Rattle.dimacs.specs.Numbers.{tokenOf}
+use Rattle.dimacs.specs.Numbers.{isZero, isNumber, unsigned, hasMinus, value, tokenOf}
 use Rattle.dimacs.specs.Clauses.{Next, closed, ended, refused, withLiteral, afterToken, clauseFrom}
 use Rattle.dimacs.specs.Inner.{clauseAfter, clauseOf}
 use Rattle.dimacs.proofs.Cases.{by}
@@ -35,10 +36,14 @@ use Rattle.commands.specs.Inner.{pivotOf, pivotAt, clauseWords, commandF
 
 -- ---- places and literals
 
+-- The number of a fault of form at its place: 3 or 4, or 6 at the clause's first byte.
+abbrev pub Fault : ℕ → ℕ → ℕ → Type 0
+Fault first number place = (3 ≤ number) × (number ≤ 6) × (number ≢ 5) × (number ≡ 6 → place ≡ first)
+
 -- A clause of s whose tokens stand from `at` on closes behind that place and is within n variables; a refusal is at `first` or behind it.
 abbrev pub ClauseIn : List ℕ → ℕ → ℕ → ℕ → Next → Type 0
 ClauseIn s n first at (closed ls f next) = (at < next) × (next ≤ length s) × Within n ls
-ClauseIn s n first at (refused number place) = (first ≤ place) × (place ≤ length s)
+ClauseIn s n first at (refused number place) = (first ≤ place) × (place ≤ length s) × Fault first number place
 ClauseIn s n first at ended = ⊥
 
 -- a closing token has bytes
@@ -46,6 +51,22 @@ closing-some : (n : ℕ) (bs : List ℕ) → tokenOf n bs ≡ Closing → 0 < le
 unfolding tokenOf
 closing-some n [] e = let z : _≡_ {A = ℕ} 0 1 = cc in absurd (omega arith)
 closing-some n (b ∷ bs) e = omega arith
+
+-- a wrong token is 3 or 4
+abbrev FaultToken : Token → Type 0
+FaultToken Closing = Unit {0}
+FaultToken (Literal v b) = Unit {0}
+FaultToken (Wrong number) = (3 ≤ number) × (number ≤ 4)
+
+token-fault : (n : ℕ) (bs : List ℕ) → FaultToken (tokenOf n bs)
+unfolding tokenOf
+token-fault n bs = go (isZero bs) (isNumber bs) (leb (value (unsigned bs)) n)
+  where
+    go : (z d w : Bool) → FaultToken (cond z Closing (cond d (cond w (Literal (value (unsigned bs)) (not (hasMinus bs))) (Wrong 4)) (Wrong 3)))
+    go true d w = tt
+    go false false w = (omega arith, omega arith)
+    go false true true = tt
+    go false true false = (omega arith, omega arith)
 
 closing-moves : (s : List ℕ) (n at : ℕ) → at < length s → tokenAt s n at ≡ Closing → at < tokenEnd s at
 closing-moves s n at h e =
@@ -67,14 +88,19 @@ module _ (s : List ℕ) (n first : ℕ) where
   after-in : (t : Token) (at : ℕ) (x : Next) → first ≤ at → at < length s → tokenAt s n at ≡ t → ClauseIn s n first (nextAt s n at) x
       → ClauseIn s n first at (afterToken t first at (tokenEnd s at) x)
   after-in Closing at x lo hi e h = (closing-moves s n at hi e, past-most isToken s at (omega arith), tt)
-  after-in (Wrong number) at x lo hi e h = (lo, omega arith)
+  after-in (Wrong number) at x lo hi e h =
+      let f : FaultToken (Wrong number) = subst FaultToken e (token-fault n (slice at (tokenEnd s at) s)) in
+      (lo, omega arith, (omega (arith, f .0), omega (arith, f .1), (λ q. omega (arith, f .1)), (λ q. absurd (omega (arith, f .1)))))
   after-in (Literal v b) at x lo hi e h =
       let l = literal-bounds n (slice at (tokenEnd s at) s) v b e in
       with-in v b at x (l .least) (l .most) (later at (nextAt s n at) x (omega (arith, past-least isToken s at, between-least s (tokenEnd s at))) h)
 
+  at-first : Fault first 6 first
+  at-first = (omega arith, omega arith, (λ q. omega arith), (λ _. refl))
+
   open-in : (at : ℕ) → first ≤ length s → ClauseIn s n first at (clauseFrom s n zero first at)
   unfolding clauseFrom
-  open-in at h = (omega arith, h)
+  open-in at h = (omega arith, h, at-first)
 
   pub clause-in : (k at : ℕ) → first ≤ at → first ≤ length s → ClauseIn s n first at (clauseFrom s n k first at)
   clause-in zero at lo h = open-in at h
@@ -84,7 +110,7 @@ module _ (s : List ℕ) (n first : ℕ) where
       subst (ClauseIn s n first at) (sym (clause-suc s n k first at inside))
       (after-in (tokenAt s n at) at (clauseFrom s n k first (nextAt s n at)) lo inside refl
       (clause-in k (nextAt s n at) (omega (arith, past-least isToken s at, between-least s (tokenEnd s at))) h)))
-      (λ f. subst (ClauseIn s n first at) (sym (clause-end s n (suc k) first at (ltb-false at (length s) f))) (omega arith, h))
+      (λ f. subst (ClauseIn s n first at) (sym (clause-end s n (suc k) first at (ltb-false at (length s) f))) (omega arith, h, at-first))
 
 -- ---- the pivot
 

@@ -34,7 +34,6 @@ record-short NoRecord = omega arith
 
 pub record-read-is : (s : List ℕ) (at : ℕ) (r : Record) (k : ℕ) → r ≡ recordAt s at → k ≡ lengthOf r
     → record { command = code-variants.Recorded r (ltb (at + k) (length s)); next = at + k } ≡ readOf (recordRead s at)
-unfolding recordRead
 record-read-is s at r k e q = rw (q, e)
 
 -- ---- text

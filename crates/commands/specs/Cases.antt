@@ -8,7 +8,7 @@ use Prim.Native.String.{String, [], _∷_}
 use lib.ListN.{length}
 use Rattle.meaning.specs.Operations.{Literal}
 use Rattle.commands.specs.declared.Form.the-variants.{Text}
-use Rattle.commands.specs.Commands.{Command, recorded, added, struck, wrong, finished, start, textRead}
+use Rattle.commands.specs.Commands.{Command, recorded, added, struckOut, wrong, finished, start, textRead}
 
 -- The bytes of a text of plain characters.
 abbrev pub bytes : String → List ℕ
@@ -30,7 +30,7 @@ pub data Told : Type 0 where
 
 abbrev pub telling : ℕ → Command → Told → Told
 telling at (added ls) rest = adds at ls rest
-telling at (struck ls) rest = strikes at ls rest
+telling at (struckOut ls) rest = strikes at ls rest
 telling at (wrong number offset) rest = faulty number (at + offset)
 telling at finished rest = ends at
 telling at (recorded r more) rest = faulty 0 at

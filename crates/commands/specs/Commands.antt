@@ -13,13 +13,14 @@ use Rattle.records.specs.declared.Record.{Record}
 use Rattle.records.specs.Records.{recordAt, lengthOf}
 use Rattle.commands.specs.declared.Form.{Form}
 use Rattle.commands.specs.declared.Form.the-variants.{Records, Text}
+use Rattle.commands.specs.declared.Mode.{Mode}
 
 -- A record, and whether a byte follows it; a clause that is added or struck out; a fault of form with its number and its place, counted
 -- from the command's first byte; the end of a text.
 pub data Command : Type 0 where
   recorded : (r : Record) (more : Bool) → Command
   added : List meaning.Literal → Command
-  struck : List meaning.Literal → Command
+  struckOut : List meaning.Literal → Command
   wrong : (number offset : ℕ) → Command
   finished : Command
 
@@ -33,8 +34,7 @@ reading command next = record { command = command; next = next }
 
 -- ---- records
 
-unfoldable pub recordRead : List ℕ → ℕ → Read
-unfolding recordAt
+abbrev pub recordRead : List ℕ → ℕ → Read
 recordRead s at = let r = recordAt s at in reading (recorded r (ltb (at + lengthOf r) (length s))) (at + lengthOf r)
 
 -- ---- DRAT text
@@ -52,11 +52,17 @@ unfoldable pub textRead : List ℕ → ℕ → ℕ → Read
 unfolding isWord clauseFrom betweenFrom
 textRead s n at =
     let body = between s (at + 1) in
-    let striking = clauseRead s at struck (clauseFrom s n (length s - body) at body) in
+    let striking = clauseRead s at struckOut (clauseFrom s n (length s - body) at body) in
     let adding = clauseRead s at added (clauseFrom s n (length s - at) at at) in
     cond (ltb at (length s)) (cond (isWord s at (100 ∷ [])) striking adding) (reading finished at)
 
 -- ---- every form
+
+abbrev pub inRecords : Mode
+inRecords = record { form = Records }
+
+abbrev pub inText : Mode
+inText = record { form = Text }
 
 -- The first byte of the first command.
 abbrev pub start : Form → List ℕ → ℕ

@@ -12,7 +12,7 @@ use Rattle.commands.specs.declared.TextClause.{TextClause}
 use Rattle.commands.specs.declared.Command as code
 use Rattle.commands.specs.declared.Command.the-variants as code-variants
 use Rattle.commands.specs.declared.Read as code-read
-use Rattle.commands.specs.Commands.{Command, recorded, added, struck, wrong, finished, Read}
+use Rattle.commands.specs.Commands.{Command, recorded, added, struckOut, wrong, finished, Read}
 
 -- "the first being the pivot" (02, 4/14); the empty clause has none.
 abbrev pub pivotOf : List meaning.Literal → Pivot
@@ -30,7 +30,7 @@ clauseWords ls = record { literals = literalsOf ls; pivot = pivotOf ls }
 
 -- The command of a clause, in the definition's terms and in the code's.
 abbrev pub commandFor : Bool → List meaning.Literal → Command
-commandFor true ls = struck ls
+commandFor true ls = struckOut ls
 commandFor false ls = added ls
 
 abbrev pub clauseCommand : Bool → TextClause → code.Command
@@ -40,7 +40,7 @@ clauseCommand false c = code-variants.Added c
 abbrev pub commandOf : Command → code.Command
 commandOf (recorded r more) = code-variants.Recorded r more
 commandOf (added ls) = code-variants.Added (clauseWords ls)
-commandOf (struck ls) = code-variants.Struck (clauseWords ls)
+commandOf (struckOut ls) = code-variants.Struck (clauseWords ls)
 commandOf (wrong number offset) = code-variants.Wrong number offset
 commandOf finished = code-variants.Finished
 

@@ -15,6 +15,11 @@ pub enum Form {
     Text,
 }
 
+// How a proof is to be read.
+pub struct Mode {
+    pub form: Form,
+}
+
 // A clause's first literal; nothing for the empty clause.
 pub enum Pivot {
     Nothing,

@@ -19,8 +19,10 @@ use Rattle.operate.specs.declared.Operation.{Operation}
 use Rattle.operate.specs.declared.Operation.the-variants.{Negation, Cofactor}
 use Rattle.operate.specs.Operate.{result}
 use Rattle.single.specs.Single.{operation}
-use Rattle.verdict.specs.Check.{State, next, judged, liveMembers, step, check}
-use Rattle.verdict.specs.Run.{Meant, Taken, lineOf, peakWith, Reached, Refutation}
+use Rattle.verdict.specs.Steps.{State, next, judged, liveMembers}
+use Rattle.verdict.specs.Check.{step, check}
+use Rattle.verdict.specs.Taken.{Meant, Taken, lineOf, peakWith}
+use Rattle.verdict.specs.Run.{Reached, Refutation}
 use Rattle.verdict.specs.Satisfies.{clausesOf}
 use Rattle.verdict.specs.MetFirst.{no-conflict, metBy, sayMet}
 use Rattle.verdict.specs.Cases.{Gives, GivesAll, checked as row, prints, bytes, A-formula, A-proof, caseTable, numberTable, strikeTable, setTable}

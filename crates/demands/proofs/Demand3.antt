@@ -16,8 +16,9 @@ use Rattle.table.proofs.InOrder.{good-order}
 use Rattle.operate.specs.declared.Operation.{Operation}
 use Rattle.operate.specs.declared.Operation.the-variants.{Cofactor}
 use Rattle.single.specs.Single.{evaluation, operation, atLeastCall}
-use Rattle.verdict.specs.Check.{State, isEntry, entryNode}
-use Rattle.verdict.specs.Run.{Meant, entryMeant, lineFunctions, Reached, Later}
+use Rattle.verdict.specs.Steps.{State, isEntry, entryNode}
+use Rattle.verdict.specs.Taken.{Meant, entryMeant}
+use Rattle.verdict.specs.Run.{lineFunctions, Reached, Later}
 use Rattle.verdict.specs.Satisfies.{Unsatisfiable}
 use Rattle.verdict.proofs.Refuted as Refuted
 use Rattle.verdict.proofs.Values as Values

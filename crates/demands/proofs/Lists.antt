@@ -20,8 +20,10 @@ use Rattle.table.proofs.Growth.{ordered-dropped}
 use Rattle.table.proofs.Sizes.{Sized, sized}
 use Rattle.table.proofs.Emptied.{stored-emptied}
 use Rattle.verdict.specs.Check as verdict
-use Rattle.verdict.specs.Check.{State, isEntry, entryNode, Verdict, Outcome, lentFits, zeros, outcome, refusedFormula, left}
-use Rattle.verdict.specs.Run.{Function, Meant, entryMeant, lineFunctions, clauseFunctions, standsFor, Valued, Reached}
+use Rattle.verdict.specs.Steps.{State, isEntry, entryNode}
+use Rattle.verdict.specs.Check.{Verdict, Outcome, lentFits, zeros, outcome, refusedFormula, left}
+use Rattle.verdict.specs.Taken.{Function, Meant, entryMeant, Valued}
+use Rattle.verdict.specs.Run.{lineFunctions, clauseFunctions, standsFor, Reached}
 use Rattle.verdict.specs.Marks.{strikingsBefore, markOf}
 use Rattle.verdict.proofs.Standing.{Standing, valued-length, valued-at, entry-valued}
 use Rattle.verdict.proofs.Ends.{reached-standing, ended}

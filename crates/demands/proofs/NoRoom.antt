@@ -42,8 +42,10 @@ use Rattle.operate.specs.Operate.{result}
 use Rattle.operate.proofs.Results.{result-reduced}
 use Rattle.single.specs.Single as single
 use Rattle.single.specs.Single.{Made, refusal, sharesVariable, operandRefusal, madeBy, operation}
-use Rattle.verdict.specs.Check.{State, next, spent, isEntry, entryNode, isVariable, entered, nodeStep, witnessStep, waiting, accepted, judged, diagramIn, liveMembers, lineStep, isLive, strikeStep, beyond, noParity, setDiagram, setStep, endStep, step, Outcome, outcome}
-use Rattle.verdict.specs.Run.{Meant, lineOf, peakWith, follows, no-header, not-read, no-room, stopped, tried}
+use Rattle.verdict.specs.Steps.{State, next, spent, isEntry, entryNode, isVariable, entered, nodeStep, witnessStep, waiting, accepted, judged, diagramIn, liveMembers, lineStep, isLive, strikeStep, beyond, noParity, setDiagram, setStep, endStep}
+use Rattle.verdict.specs.Check.{step, Outcome, outcome}
+use Rattle.verdict.specs.Taken.{Meant, lineOf, peakWith}
+use Rattle.verdict.specs.Run.{follows, no-header, not-read, no-room, stopped, tried}
 use Rattle.verdict.proofs.Steps.{spent-other, next-not-spent, stop-not-spent, past-early}
 use Rattle.verdict.proofs.SetValues.{set-reduced}
 use Rattle.verdict.proofs.Standing.{Standing, entry-valued, over-reduced}

@@ -11,7 +11,8 @@ use borrow.Author.Tests.{ne-eqb}
 use Rattle.records.specs.declared.Record.{Record}
 use Rattle.records.specs.declared.Record.the-variants.{NodeEntry, Witness, ProofLine, Strike, SetEntry, End, CutShort, UnknownKind, NoRecord}
 use Rattle.records.specs.Records.{nodeIn, witnessIn, lineIn, strikeIn, setIn, whole, recordOf, recordIn, recordAt}
-use Rattle.verdict.specs.Check.{State, Step, stop, step, Outcome, outcome}
+use Rattle.verdict.specs.Steps.{State, Step, stop}
+use Rattle.verdict.specs.Check.{step, Outcome, outcome}
 use Rattle.verdict.specs.Run.{follows, no-header, not-read, no-room, stopped, tried}
 use Rattle.verdict.proofs.Formula.{NamedHeader, header-named, either}
 use Rattle.verdict.proofs.Numbers.{making-refused, Numbered, step-numbered}

@@ -25,8 +25,11 @@ use Rattle.records.specs.declared.Record.the-variants.{NodeEntry, ProofLine, Cu
 use Rattle.records.specs.Records.{lowByteFirst, recordIn, recordAt, lengthOf}
 use Rattle.operate.specs.declared.Operation.the-variants.{Negation, Cofactor}
 use Rattle.single.specs.Single.{evaluation, operation}
-use Rattle.verdict.specs.Check.{State, emptied, begun, isEntry, entryNode, nodeStep, waiting, accepted, unstruck, lineStep, step}
-use Rattle.verdict.specs.Run.{Meant, afterRecord, withEntry, NodeTaken, lineOf, peakWith, LineTaken, Taken, Making, opened, made, Reached, begins, goes}
+use Rattle.verdict.specs.Steps.{State, emptied, begun, isEntry, entryNode, nodeStep, waiting, accepted, unstruck, lineStep}
+use Rattle.verdict.specs.Check.{step}
+use Rattle.verdict.specs.Steps.{withEntry}
+use Rattle.verdict.specs.Taken.{Meant, afterRecord, NodeTaken, lineOf, peakWith, LineTaken, Taken}
+use Rattle.verdict.specs.Run.{Making, opened, made, Reached, begins, goes}
 use Rattle.verdict.specs.Cases.{Gives, checked, prints, printed, bytes, over, rupLine}
 use Rattle.verdict.proofs.Exactly.{reached-stops}
 

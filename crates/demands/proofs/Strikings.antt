@@ -12,8 +12,10 @@ use borrow.Author.Tests.{ltb-false, le-ltb, eqb-false}
 use Rattle.meaning.specs.Diagram.{Diagram}
 use Rattle.records.specs.declared.Record.{Record}
 use Rattle.records.specs.Records.{recordAt}
-use Rattle.verdict.specs.Check.{State, Step, next, stop, spent, diagramIn, unstruck, liveMembers, isLive, strikeStep, step, Verdict, verdict, Outcome, outcome}
-use Rattle.verdict.specs.Run.{Meant, Reached, follows}
+use Rattle.verdict.specs.Steps.{State, Step, next, stop, spent, diagramIn, unstruck, liveMembers, isLive, strikeStep}
+use Rattle.verdict.specs.Check.{step, Verdict, verdict, Outcome, outcome}
+use Rattle.verdict.specs.Taken.{Meant}
+use Rattle.verdict.specs.Run.{Reached, follows}
 use Rattle.verdict.specs.Marks.{strikingsBefore, isIn}
 use Rattle.verdict.proofs.Numbers.{Numbered, step-numbered}
 use Rattle.verdict.proofs.Exactly.{reached-stops}

@@ -16,8 +16,9 @@ use Rattle.dimacs.specs.Clauses.{formula}
 use Rattle.records.specs.declared.Record.{Record}
 use Rattle.records.specs.declared.Record.the-variants.{NodeEntry, Witness, ProofLine, Strike, SetEntry, End, CutShort, UnknownKind, NoRecord}
 use Rattle.records.specs.Records.{recordAt}
-use Rattle.verdict.specs.Check.{State, entryNode}
-use Rattle.verdict.specs.Run.{Meant, Taken, Reached, begins, goes}
+use Rattle.verdict.specs.Steps.{State, entryNode}
+use Rattle.verdict.specs.Taken.{Meant, Taken}
+use Rattle.verdict.specs.Run.{Reached, begins, goes}
 use Rattle.verdict.specs.Satisfies.{clausesOf}
 use Rattle.verdict.proofs.Standing.{valued-length}
 use Rattle.verdict.proofs.Values.{clause-values, clause-members}

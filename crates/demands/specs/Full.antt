@@ -14,8 +14,9 @@ use Rattle.dimacs.specs.Clauses.{Reading, clause}
 use Rattle.records.specs.declared.Record.{Record}
 use Rattle.records.specs.declared.Record.the-variants.{NodeEntry, Witness, ProofLine, Strike, SetEntry, End, CutShort, UnknownKind, NoRecord}
 use Rattle.records.specs.Records.{recordAt}
-use Rattle.verdict.specs.Check.{State, entryNode, diagramIn, setDiagram}
-use Rattle.verdict.specs.Run.{Function, Meant, lineOf, Making, Reached}
+use Rattle.verdict.specs.Steps.{State, entryNode, diagramIn, setDiagram}
+use Rattle.verdict.specs.Taken.{Function, Meant, lineOf}
+use Rattle.verdict.specs.Run.{Making, Reached}
 
 -- A diagram beneath another, or the other itself.
 pub data Part (E : Diagram) : Diagram → Type 0 where

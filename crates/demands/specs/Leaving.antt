@@ -16,8 +16,10 @@ use Rattle.records.specs.declared.MemberNo.{MemberNo}
 use Rattle.records.specs.declared.Rule.{Rule}
 use Rattle.records.specs.declared.Record.the-variants.{ProofLine, Strike, NoRecord}
 use Rattle.records.specs.Records.{recordAt}
-use Rattle.verdict.specs.Check.{State, Step, next, stop, spent, entryNode, waiting, step, Verdict, Outcome, lentFits, zeros, outcome, check}
-use Rattle.verdict.specs.Run.{Function, Meant, lineFunctions, follows, Reached, Ended}
+use Rattle.verdict.specs.Steps.{State, Step, next, stop, spent, entryNode, waiting}
+use Rattle.verdict.specs.Check.{step, Verdict, Outcome, lentFits, zeros, outcome, check}
+use Rattle.verdict.specs.Taken.{Function, Meant}
+use Rattle.verdict.specs.Run.{lineFunctions, follows, Reached, Ended}
 use Rattle.verdict.specs.Marks.{strikingsBefore, markOf}
 use Rattle.verdict.specs.MetFirst.{Met, metBy}
 use Rattle.verdict.specs.Satisfies.{clausesOf, readToEnd}

@@ -7,7 +7,7 @@ use Prim.Native.Nat.{ℕ, _<_}
 use lib.ListN.{length, getD}
 use Rattle.meaning.specs.Diagram.{Diagram, leaf}
 use Rattle.meaning.specs.Operations.{negation}
-use Rattle.verdict.specs.Check.{State, diagramIn}
+use Rattle.verdict.specs.Steps.{State, diagramIn}
 
 -- The member at a place.
 abbrev pub memberAt : List Diagram → ℕ → Diagram

@@ -25,7 +25,8 @@ use Rattle.dimacs.proofs.Formula.{IsClosed, closed-is, ended-is, refused-is, cl
 use Rattle.dimacs.proofs.Bounds.{NextIn, next-in}
 use Rattle.clause.specs.Words.{clauseOfWords}
 use Rattle.clause.proofs.Literals.{clause-of-words}
-use Rattle.verdict.specs.Check.{emptied, begun, Verdict, records, refusedFormula, clauses}
+use Rattle.verdict.specs.Steps.{emptied, begun}
+use Rattle.verdict.specs.Check.{Verdict, records, refusedFormula, clauses}
 use Rattle.verdict.proofs.Uses.{UsesAfter, place-uses}
 use Rattle.formula.specs.Formula.{Opened, Built}
 use Rattle.formula.proofs.Emptied.{opened-good}

@@ -4,7 +4,7 @@ use mathlib.Core.List.{List}
 use Prim.Native.Nat.{ℕ}
 use Rattle.table.specs.Indexed.{Table, size, Good}
 use Rattle.table.proofs.Written.{good-indexed}
-use Rattle.verdict.specs.Check.{emptied}
+use Rattle.verdict.specs.Steps.{emptied}
 use Rattle.verdict.proofs.Clauses.{emptied-ordered}
 use Rattle.formula.specs.Formula.{Opened}
 

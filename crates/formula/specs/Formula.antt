@@ -5,7 +5,8 @@ use Prim.Native.Nat.{ℕ, suc, _≤_, _<_}
 use lib.ListN.{length, getD, take}
 use Rattle.table.specs.Nodes.{at}
 use Rattle.table.specs.Indexed.{Table, tableOf, size, nodesOf, indexed, Good}
-use Rattle.verdict.specs.Check.{emptied, zeros, begun, Verdict, records, refusedFormula}
+use Rattle.verdict.specs.Steps.{emptied, begun}
+use Rattle.verdict.specs.Check.{zeros, Verdict, records, refusedFormula}
 use Rattle.formula.specs.declared.Start.{Start}
 use Rattle.formula.specs.declared.Start.the-variants.{Begun, Refused}
 

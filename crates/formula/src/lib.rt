@@ -6,7 +6,8 @@ ghost use Prim.Native.Nat.{ℕ, _≤_};
 ghost use lib.ListN.{length};
 ghost use Rattle.dimacs.specs.Clauses.{clausesFrom};
 ghost use Rattle.table.specs.Indexed.{tableOf};
-ghost use Rattle.verdict.specs.Check.{emptied, clauses};
+ghost use Rattle.verdict.specs.Steps.{emptied};
+ghost use Rattle.verdict.specs.Check.{clauses};
 ghost use Rattle.formula.specs.Formula.{Opened, saidFrom, Begins};
 
 // What the formula comes to: how many nodes and how many members there are before the first record; or a number, a place and the greatest

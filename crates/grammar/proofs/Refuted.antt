@@ -12,8 +12,10 @@ use Rattle.dimacs.specs.Clauses.{Reading, clause, complete, refusal, formula}
 use Rattle.dimacs.proofs.Formula.{formula-improper}
 use Rattle.records.specs.Records.{recordAt}
 use Rattle.table.specs.Columns.{Columns}
-use Rattle.verdict.specs.Check.{State, stop, spent, step, Verdict, verdict, check}
-use Rattle.verdict.specs.Run.{Meant, follows, Reached, Ended, no-header, not-read, no-room, stopped, tried}
+use Rattle.verdict.specs.Steps.{State, stop, spent}
+use Rattle.verdict.specs.Check.{step, Verdict, verdict, check}
+use Rattle.verdict.specs.Taken.{Meant}
+use Rattle.verdict.specs.Run.{follows, Reached, Ended, no-header, not-read, no-room, stopped, tried}
 use Rattle.verdict.specs.Satisfies.{clausesOf, readToEnd, satisfies}
 use Rattle.verdict.proofs.Clauses.{underway}
 use Rattle.verdict.proofs.Ends.{ended}

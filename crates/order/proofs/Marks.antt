@@ -6,7 +6,7 @@ use mathlib.Core.List.{List, [], _∷_}
 use Prim.Native.Nat.{ℕ, zero, suc}
 use lib.ListN.{set}
 use lib.Dec.{eqb}
-use Rattle.verdict.specs.Check.{unstruck}
+use Rattle.verdict.specs.Steps.{unstruck}
 use Rattle.order.specs.Choices.{Among, Within, Reordered}
 use Rattle.order.specs.Choices as orders
 use Rattle.order.specs.Lines.{beside}

@@ -13,8 +13,9 @@ use Rattle.records.specs.declared.MemberNo.{MemberNo}
 use Rattle.records.specs.declared.Rule.{Rule}
 use Rattle.records.specs.declared.Rule.the-variants.{Rup}
 use Rattle.records.specs.declared.Record.the-variants.{ProofLine, Strike}
-use Rattle.verdict.specs.Check.{State, next, entryNode, diagramIn, unstruck, liveMembers, step}
-use Rattle.verdict.specs.Run.{lineOf}
+use Rattle.verdict.specs.Steps.{State, next, entryNode, diagramIn, unstruck, liveMembers}
+use Rattle.verdict.specs.Check.{step}
+use Rattle.verdict.specs.Taken.{lineOf}
 use Rattle.verdict.specs.Cases.{GivesAll}
 use Rattle.order.specs.Choices.{Among, Within, Reordered, Propagates}
 use Rattle.order.specs.Lines.{Room, Judged, byRule, SameLine, Accepted, Alike, withMembers, beside}

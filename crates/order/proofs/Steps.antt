@@ -19,8 +19,10 @@ use Rattle.records.specs.declared.MemberNo.{MemberNo}
 use Rattle.records.specs.declared.Rule.{Rule}
 use Rattle.records.specs.declared.Rule.the-variants.{Rup, Pr}
 use Rattle.records.specs.declared.Record.the-variants.{ProofLine, Strike}
-use Rattle.verdict.specs.Check.{State, Step, next, stop, spent, isEntry, entryNode, waiting, accepted, judged, diagramIn, unstruck, liveMembers, lineStep, step}
-use Rattle.verdict.specs.Run.{lineOf, peakWith, LineTaken, StrikeTaken, withMarks}
+use Rattle.verdict.specs.Steps.{State, Step, next, stop, spent, isEntry, entryNode, waiting, accepted, judged, diagramIn, unstruck, liveMembers, lineStep}
+use Rattle.verdict.specs.Check.{step}
+use Rattle.verdict.specs.Steps.{withMarks}
+use Rattle.verdict.specs.Taken.{lineOf, peakWith, LineTaken, StrikeTaken}
 use Rattle.verdict.proofs.Steps.{step-taken}
 use Rattle.order.specs.Choices.{Within, Reordered, Propagates}
 use Rattle.order.specs.Lines.{Room, Judged, byRule, SameLine, Accepted, Alike, withMembers, beside}

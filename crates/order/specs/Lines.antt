@@ -8,8 +8,8 @@ use Prim.Native.Nat.{ℕ, _<_}
 use Rattle.meaning.specs.Rules.{Line}
 use Rattle.table.specs.Making.{lineReach}
 use Rattle.records.specs.declared.Rule.{Rule}
-use Rattle.verdict.specs.Check.{State, Step, next, stop, spent, isEntry, entryNode, accepted, diagramIn}
-use Rattle.verdict.specs.Run.{lineOf, Witnessed, peakWith}
+use Rattle.verdict.specs.Steps.{State, Step, next, stop, spent, isEntry, entryNode, accepted, diagramIn}
+use Rattle.verdict.specs.Taken.{lineOf, Witnessed, peakWith}
 
 -- "with enough room": all that the line makes finds a place in a table of s places.
 abbrev pub Room : ℕ → ℕ → State → Rule → ℕ → Type 0

@@ -22,7 +22,8 @@ use Rattle.dimacs.specs.Header.{header}
 use Rattle.dimacs.specs.Clauses.{clausesFrom}
 use Rattle.dimacs.proofs.Bounds.{HeaderIn, header-in}
 use Rattle.verdict.specs.Check as check
-use Rattle.verdict.specs.Check.{emptied, zeros, begun, Verdict, left, records, refusedFormula, clauses, verdict, Outcome, lentFits, outcome}
+use Rattle.verdict.specs.Steps.{emptied, begun}
+use Rattle.verdict.specs.Check.{zeros, Verdict, left, records, refusedFormula, clauses, verdict, Outcome, lentFits, outcome}
 use Rattle.steps.specs.declared.State.{State}
 use Rattle.steps.specs.States.{Lent, tableIn, stateOf, Held}
 use Rattle.session.specs.declared.Checked.{Checked}

@@ -11,7 +11,8 @@ ghost use Rattle.table.specs.Columns.{columnsMade};
 ghost use Rattle.table.specs.Indexed.{tableOf};
 ghost use Rattle.walks.specs.Readable.{Roomy};
 ghost use Rattle.conflict.specs.Marks.{unmarked};
-ghost use Rattle.verdict.specs.Check.{emptied, clauses, verdict, zeros, lentFits, outcome};
+ghost use Rattle.verdict.specs.Steps.{emptied};
+ghost use Rattle.verdict.specs.Check.{clauses, verdict, zeros, lentFits, outcome};
 ghost use Rattle.session.specs.Checked.{outcomeOf};
 ghost use Rattle.formula.specs.Formula.{Opened};
 

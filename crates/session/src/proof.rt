@@ -8,7 +8,8 @@ ghost use Rattle.table.specs.Columns.{columnsMade};
 ghost use Rattle.table.specs.Indexed.{tableOf, nodesOf};
 ghost use Rattle.walks.specs.Readable.{Roomy};
 ghost use Rattle.conflict.specs.Marks.{unmarked};
-ghost use Rattle.verdict.specs.Check.{begun, records, zeros, outcome};
+ghost use Rattle.verdict.specs.Steps.{begun};
+ghost use Rattle.verdict.specs.Check.{records, zeros, outcome};
 ghost use Rattle.session.specs.Checked.{outcomeOf};
 ghost use Rattle.formula.specs.Formula.{Built};
 

@@ -18,7 +18,7 @@ use Rattle.table.proofs.Outcomes.{droppedTo, undone}
 use Rattle.records.specs.declared.Rule.{Rule}
 use Rattle.records.specs.declared.Rule.the-variants.{Rup, Pr}
 use Rattle.verdict.specs.Check as check
-use Rattle.verdict.specs.Check.{next, spent, isEntry, entryNode, unstruck, waiting, accepted, judged, diagramIn, lineStep}
+use Rattle.verdict.specs.Steps.{next, spent, isEntry, entryNode, unstruck, waiting, accepted, judged, diagramIn, lineStep}
 use Rattle.table.specs.Lists.{Inside}
 use Rattle.table.proofs.Extended.{extended-longer}
 use Rattle.judge.specs.declared.Judged.{Judged}
@@ -27,7 +27,7 @@ use Rattle.judge.proofs.Widths.{witnessed-at, rup-at, pr-at}
 use Rattle.steps.specs.declared.State.{State}
 use Rattle.steps.specs.declared.Step.the-variants.{Next, Stop, Spent}
 use Rattle.steps.specs.States.{Lent, tableIn, stateOf, withLine, Held, Stepped}
-use Rattle.verdict.specs.Run.{lineOf}
+use Rattle.verdict.specs.Taken.{lineOf}
 use Rattle.steps.specs.Tests.{lineRefusal}
 use Rattle.steps.proofs.Stops.{unless, unless-refused, unless-none, line-is, LineFits, line-fits, stopped}
 use Rattle.steps.proofs.Entries.{entry-in}

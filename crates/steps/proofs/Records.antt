@@ -11,7 +11,8 @@ use Rattle.records.specs.declared.SetBody.{SetBody}
 use Rattle.records.specs.declared.Record.{Record}
 use Rattle.records.specs.declared.Record.the-variants.{NodeEntry, Witness, ProofLine, Strike, SetEntry, End, CutShort, UnknownKind, NoRecord}
 use Rattle.verdict.specs.Check as check
-use Rattle.verdict.specs.Check.{stop, nodeStep, witnessStep, lineStep, strikeStep, setStep, endStep, step}
+use Rattle.verdict.specs.Steps.{stop, nodeStep, witnessStep, lineStep, strikeStep, setStep, endStep}
+use Rattle.verdict.specs.Check.{step}
 use Rattle.steps.specs.declared.State.{State}
 use Rattle.steps.specs.declared.Step.{Step}
 use Rattle.steps.specs.declared.Step.the-variants.{Stop}

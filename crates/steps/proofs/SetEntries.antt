@@ -22,7 +22,7 @@ use Rattle.records.specs.declared.SetKind.{SetKind}
 use Rattle.records.specs.declared.SetKind.the-variants.{Parity, AtLeast}
 use Rattle.records.specs.declared.SetBody.{SetBody}
 use Rattle.verdict.specs.Check as check
-use Rattle.verdict.specs.Check.{stop, spent, entered, beyond, noParity, setDiagram, setStep}
+use Rattle.verdict.specs.Steps.{stop, spent, entered, beyond, noParity, setDiagram, setStep}
 use Rattle.verdict.proofs.SetValues.{set-reduced}
 use Rattle.verdict.proofs.Uses.{place-uses}
 use Rattle.steps.specs.declared.State.{State}

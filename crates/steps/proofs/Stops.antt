@@ -13,11 +13,11 @@ use Rattle.records.specs.declared.NodeBody.{NodeBody}
 use Rattle.records.specs.declared.Rule.{Rule}
 use Rattle.records.specs.declared.Rule.the-variants.{Rup, Pr}
 use Rattle.verdict.specs.Check as check
-use Rattle.verdict.specs.Check.{stop, isEntry, entryNode, isVariable, entered, nodeStep, waiting, judged, diagramIn, lineStep, endStep}
+use Rattle.verdict.specs.Steps.{stop, isEntry, entryNode, isVariable, entered, nodeStep, waiting, judged, diagramIn, lineStep, endStep}
 use Rattle.steps.specs.declared.State.{State}
 use Rattle.steps.specs.declared.Step.the-variants.{Stop}
 use Rattle.steps.specs.States.{Lent, Stepped}
-use Rattle.verdict.specs.Run.{lineOf}
+use Rattle.verdict.specs.Taken.{lineOf}
 use Rattle.steps.specs.Tests.{nodeRefusal, lineRefusal}
 
 -- The lent lists are as they were.

@@ -11,7 +11,7 @@ use lib.Seq.{length-take-le, getD-take, take-set-lt, take-suc-set, getD-set-othe
 use borrow.Author.Tests.{eq-eqb, ne-eqb, lt-ltb, le-ltb}
 use Rattle.table.specs.Lists.{Inside}
 use Rattle.verdict.specs.Check as check
-use Rattle.verdict.specs.Check.{next, unstruck, waiting, isLive, strikeStep}
+use Rattle.verdict.specs.Steps.{next, unstruck, waiting, isLive, strikeStep}
 use Rattle.steps.specs.declared.State.{State}
 use Rattle.steps.specs.declared.Step.the-variants.{Next, Stop}
 use Rattle.steps.specs.States.{Lent, lentOf, stateOf, Held, Stepped}

@@ -5,7 +5,7 @@ use Prim.Native.Nat.{ℕ, _≤_, _<_}
 use borrow.Author.Tests.{le-leb, lt-leb}
 use Rattle.meaning.specs.Words.{inWord}
 use Rattle.verdict.specs.Check as check
-use Rattle.verdict.specs.Check.{next, isVariable, withVariable, witnessStep}
+use Rattle.verdict.specs.Steps.{next, isVariable, withVariable, witnessStep}
 use Rattle.steps.specs.declared.State.{State}
 use Rattle.steps.specs.declared.Step.the-variants.{Next, Stop}
 use Rattle.steps.specs.States.{Lent, stateOf, withWitness, Held, Stepped}

@@ -16,7 +16,7 @@ use Rattle.steps.specs.declared.node.NodeTest.{NodeTest}
 use Rattle.steps.specs.declared.node.NodeTest.the-variants as node
 use Rattle.steps.specs.declared.line.LineTest.{LineTest}
 use Rattle.steps.specs.declared.line.LineTest.the-variants as line
-use Rattle.verdict.specs.Check.{State, isEntry, entryNode, isVariable, waiting, diagramIn, beyond, noParity}
+use Rattle.verdict.specs.Steps.{State, isEntry, entryNode, isVariable, waiting, diagramIn, beyond, noParity}
 
 -- "Node: 10, 21, 12, 13, 14, 23."
 unfoldable pub nodeRefusal : ℕ → State → NodeBody → ℕ

@@ -9,7 +9,7 @@ ghost use lib.ListN.{length, getD, take};
 ghost use lib.Dec.{ltb};
 ghost use Rattle.table.specs.Indexed.{tableOf};
 ghost use Rattle.walks.specs.Readable.{Readable};
-ghost use Rattle.verdict.specs.Check.{nodeStep};
+ghost use Rattle.verdict.specs.Steps.{nodeStep};
 ghost use Rattle.table.specs.Lists.{Inside};
 ghost use Rattle.steps.specs.States.{lentOf, stateOf, withEntry, EntriesHeld, Held, Stepped};
 ghost use Rattle.steps.specs.Tests.{NodeTested};

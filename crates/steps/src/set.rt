@@ -8,7 +8,7 @@ ghost use Prim.Native.Nat.{ℕ, _≤_};
 ghost use lib.ListN.{length};
 ghost use Rattle.table.specs.Indexed.{tableOf, Good, outcomeOf};
 ghost use Rattle.sets.specs.Building.{placedIn};
-ghost use Rattle.verdict.specs.Check.{beyond, setDiagram, setStep};
+ghost use Rattle.verdict.specs.Steps.{beyond, setDiagram, setStep};
 ghost use Rattle.steps.specs.States.{lentOf, stateOf, EntriesHeld, Held, Stepped};
 ghost use Rattle.steps.specs.Tests.{setRefusal};
 

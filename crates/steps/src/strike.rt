@@ -4,7 +4,7 @@ ghost use mathlib.Core.Path.{_≡_};
 ghost use mathlib.Core.List.{List};
 ghost use Prim.Native.Nat.{ℕ, _≤_};
 ghost use lib.ListN.{length, take};
-ghost use Rattle.verdict.specs.Check.{unstruck, strikeStep};
+ghost use Rattle.verdict.specs.Steps.{unstruck, strikeStep};
 ghost use Rattle.steps.specs.States.{lentOf, stateOf, Held, Stepped};
 
 // The striking marks its member; or 16, 28. The code's state holds no marks, so it stays.

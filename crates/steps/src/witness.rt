@@ -4,7 +4,7 @@ ghost use mathlib.Core.Bool.{false, not, _&&_};
 ghost use Prim.Native.Nat.{_+_, _-_, _^_, _≤_};
 ghost use lib.Dec.{eqb};
 ghost use Rattle.meaning.specs.Words.{inWord};
-ghost use Rattle.verdict.specs.Check.{witnessStep};
+ghost use Rattle.verdict.specs.Steps.{witnessStep};
 ghost use Rattle.steps.specs.States.{Lent, stateOf, withWitness, Held, Stepped};
 
 // Whether a witness waits for its line.

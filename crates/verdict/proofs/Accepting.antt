@@ -18,8 +18,9 @@ use Rattle.clausal.specs.Tries.{shownBy}
 use Rattle.clausal.proofs.Literals.{AllWithin}
 use Rattle.clausal.proofs.Rest.{plain-not-one}
 use Rattle.clausal.proofs.Tries.{two-tries}
-use Rattle.verdict.specs.Check.{State, Step, next, stop, spent, judged, liveMembers}
-use Rattle.verdict.specs.Clausal.{withClause, judgedOr, secondLine, secondTry, tries, addStep}
+use Rattle.verdict.specs.Steps.{State, Step, next, stop, spent, judged, liveMembers}
+use Rattle.verdict.specs.Steps.{withEntry}
+use Rattle.verdict.specs.Clausal.{judgedOr, secondLine, secondTry, tries, addStep}
 
 -- A record's line is judged so, with 19 where it is not shown.
 pub judged-is : (s : ℕ) (st : State) (g : ℕ) (line : Line) → judged s st g line ≡ judgedOr (spent 19) s st g line
@@ -40,12 +41,12 @@ SecondFits n s t ms (p ∷ ls) = lineReach s t (secondLine n ms p ls) .fits ≡ 
 pub record HasRoom (n s : ℕ) (st : State) (c : Clause) (t : List Node) (k : ℕ) : Type 0 where
   pub few : st .lines < 1024
   pub made : place s (st .nodes) (meaning.clause n c) ≡ placed t k
-  pub first-fits : lineReach s t (rup n (liveMembers (withClause st t k)) (meaning.clause n c)) .fits ≡ true
-  pub second-fits : SecondFits n s t (liveMembers (withClause st t k)) c
+  pub first-fits : lineReach s t (rup n (liveMembers (withEntry st t k)) (meaning.clause n c)) .fits ≡ true
+  pub second-fits : SecondFits n s t (liveMembers (withEntry st t k)) c
 
 module _ (n s : ℕ) (st : State) (t : List Node) (k : ℕ) where
   abbrev after : State
-  after = withClause st t k
+  after = withEntry st t k
 
   -- the step once its tests are past
   step-is : (c : Clause) → Within n c → Plain c → HasRoom n s st c t k → addStep n s st c ≡ tries n s after k c
@@ -73,7 +74,7 @@ module _ (n s : ℕ) (st : State) (t : List Node) (k : ℕ) where
 
   -- THEOREM: "for clauses and members without both signs of a variable the two tries accept exactly what RUP and RAT over clauses accept, the
   -- table having room." F are the clauses of the live members.
-  pub clause-accepted : (F : List Clause) → liveMembers (withClause st t k) ≡ map (meaning.clause n) F → AllWithin n F → AllPlain F
+  pub clause-accepted : (F : List Clause) → liveMembers (withEntry st t k) ≡ map (meaning.clause n) F → AllWithin n F → AllPlain F
       → (c : Clause) → Within n c → Plain c → HasRoom n s st c t k → GoesOn (addStep n s st c) ↔ Accepted F c
   clause-accepted F live within plains c w plain R =
       let T = two-tries n F within plains c w plain in

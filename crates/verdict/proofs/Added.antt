@@ -19,17 +19,18 @@ use Rattle.meaning.proofs.Soundness.{Satisfies, rup-sound, pr-sound}
 use Rattle.meaning.proofs.Clauses.{Within}
 use Rattle.table.specs.Nodes.{Node, diagramAt, Placing, full, placed, place}
 use Rattle.table.specs.Making.{lineReach}
-use Rattle.table.proofs.Growth.{extends-length, diagramAt-grown}
+use Rattle.table.proofs.Growth.{Extends, extends-length, diagramAt-grown}
 use Rattle.table.proofs.Placing.{After, Made, place-after}
 use Rattle.clausal.specs.Tries.{makesTrue, makesFalse, witness}
 use Rattle.clausal.specs.Drat.{Clause, Plain, AllPlain, Accepted}
 use Rattle.clausal.proofs.Literals.{has-here, AllWithin}
 use Rattle.clausal.proofs.Rest.{not-one-plain}
 use Rattle.clausal.proofs.SecondTry.{pivot-witnessed}
-use Rattle.verdict.specs.Check.{State, next, accepted, judged, unstruck, liveMembers}
-use Rattle.verdict.specs.Run.{Function, Meant, Valued, peakWith}
-use Rattle.verdict.specs.Clausal.{withClause, withPeak, judgedOr, secondLine, secondTry, tries, afterMade, addStep}
-use Rattle.verdict.specs.ClauseRun.{Judged, firstLine, SecondTaken, TriesTaken, ClauseTaken}
+use Rattle.verdict.specs.Steps.{State, next, accepted, judged, unstruck, liveMembers}
+use Rattle.verdict.specs.Taken.{Function, Meant, Valued, peakWith}
+use Rattle.verdict.specs.Steps.{withEntry}
+use Rattle.verdict.specs.Clausal.{withPeak, judgedOr, secondLine, secondTry, tries, onceMade, addStep}
+use Rattle.verdict.specs.ClauseTaken.{Judged, firstLine, SecondTaken, TriesTaken, ClauseTaken}
 use Rattle.verdict.proofs.Steps.{spent-not-next, passed, met-late}
 use Rattle.verdict.proofs.Live.{valued-unstruck}
 use Rattle.verdict.proofs.Uses.{UsesAfter, place-uses}
@@ -81,6 +82,13 @@ module _ (n s : ℕ) (st : State) (k : ℕ) (st′ : State) where
   taken-tries [] (inr T) = absurd T
   taken-tries (p ∷ ls) (inr T) = rw (T .room, T .failed) (taken-judged s _ k (secondLine n (liveMembers st) p ls) st′ (T .passes))
 
+  -- whichever passes, the clause is accepted
+  pub tries-accepted : (ls : List meaning.Literal) → TriesTaken n s st k ls st′ → (line : Line) × (peak : ℕ) × (accepted st k line peak ≡ st′)
+  tries-accepted ls (inl J) = (first ls, peakWith s st (first ls), J .is)
+  tries-accepted [] (inr T) = absurd T
+  tries-accepted (p ∷ ls) (inr T) =
+      let line : Line = secondLine n (liveMembers st) p ls in (line, peakWith s (withPeak st (peakWith s st (first (p ∷ ls)))) line, T .passes .is)
+
 module _ (n s : ℕ) (st : State) (ls : List meaning.Literal) (st′ : State) where
   abbrev g : Diagram
   g = meaning.clause n ls
@@ -93,15 +101,15 @@ module _ (n s : ℕ) (st : State) (ls : List meaning.Literal) (st′ : State) wh
       go (leb-false 1024 (st .lines) few) not-one (place s (st .nodes) g) refl e₂
     where
       go : st .lines < 1024 → same g (leaf true) ≡ false → (q : Placing) → place s (st .nodes) g ≡ q
-          → afterMade st q (λ st₁ k. tries n s st₁ k ls) ≡ next st′ → ClauseTaken n s st ls st′
+          → onceMade st q (λ st₁ k. tries n s st₁ k ls) ≡ next st′ → ClauseTaken n s st ls st′
       go few not-one (full t) r e = spent-not-next 23 (max (st .peak) (length t)) st′ e
       go few not-one (placed t k) r e =
-          record { few = few; not-one = not-one; nodes = t; node = k; room = r; tried = tries-taken n s (withClause st t k) k st′ ls e }
+          record { few = few; not-one = not-one; nodes = t; node = k; room = r; tried = tries-taken n s (withEntry st t k) k st′ ls e }
 
   taken-clause : ClauseTaken n s st ls st′ → addStep n s st ls ≡ next st′
   unfolding addStep
   taken-clause T =
-      rw (lt-leb 1024 (st .lines) (T .few), T .not-one, T .room) (taken-tries n s (withClause st (T .nodes) (T .node)) (T .node) st′ ls (T .tried))
+      rw (lt-leb 1024 (st .lines) (T .few), T .not-one, T .room) (taken-tries n s (withEntry st (T .nodes) (T .node)) (T .node) st′ ls (T .tried))
 
   -- THEOREM: an added clause is taken exactly where none of 22, 17, 23 and 19 holds.
   pub clause-exactly : (addStep n s st ls ≡ next st′) ↔ ClauseTaken n s st ls st′
@@ -112,7 +120,7 @@ module _ (n s : ℕ) (st : State) (ls : List meaning.Literal) (st′ : State) wh
 module _ {s n : ℕ} {m : Meant} {st : State} (S : Standing s n m st) (narrow : n ≤ 64) (ls : List meaning.Literal) (t : List Node) (k : ℕ)
     (room : place s (st .nodes) (meaning.clause n ls) ≡ placed t k) where
   abbrev after : State
-  after = withClause st t k
+  after = withEntry st t k
 
   made : Made s (st .nodes) (meaning.clause n ls) t k
   made =
@@ -120,7 +128,7 @@ module _ {s n : ℕ} {m : Meant} {st : State} (S : Standing s n m st) (narrow : 
       (place-after s (st .nodes) (S .ordered) (meaning.clause n ls) (reduced-to 1 (suc n) 65 (meaning.clause n ls) (omega (arith, narrow)) (clause-reduced n ls)))
 
   -- the live members keep their diagrams while the clause's is made
-  pub live-same : liveMembers (withClause st t k) ≡ liveMembers st
+  pub live-same : liveMembers (withEntry st t k) ≡ liveMembers st
   live-same =
       go (unstruck (st .struck) (st .members)) (unstruck (st .struck) (m .members)) (valued-unstruck (st .nodes) (st .kept) (st .struck) (st .members) (m .members) (S .members))
     where
@@ -129,9 +137,16 @@ module _ {s n : ℕ} {m : Meant} {st : State} (S : Standing s n m st) (narrow : 
       go (j ∷ ks) [] W = absurd W
       go (j ∷ ks) (f ∷ fs) W = ap₂ _∷_ (diagramAt-grown (st .nodes) t (S .ordered) (made .kept .extends) j (omega (arith, W .0, S .kept))) (go ks fs (W .2))
 
+  pub clause-grown : Extends (st .nodes) t
+  clause-grown = made .kept .extends
+
+  -- the clause's node has the clause's values
+  pub clause-node : Within n ls → (a : Assignment) → value (diagramAt t k) a ≡ meaning.clauseValue ls a
+  clause-node w a = ap (λ (D : Diagram). value D a) (made .is) ∙ clause-valued n ls w a
+
   module _ (w : Within n ls) (few : st .lines < 1024) where
     -- the clause is one more member, with the clause's values
-    taken-standing : (line : Line) (peak : ℕ) (st′ : State) → accepted (withPeak after peak) k line peak ≡ st′
+    taken-standing : (line : Line) (peak : ℕ) (st′ : State) → accepted after k line peak ≡ st′
         → Standing s n (record { members = m .members ++ meaning.clauseValue ls ∷ []; entries = [] }) st′
     taken-standing line peak st′ is =
         let longer : length (st .nodes) ≤ length t = extends-length (st .nodes) t (made .kept .extends) in
@@ -143,7 +158,7 @@ module _ {s n : ℕ} {m : Meant} {st : State} (S : Standing s n m st) (narrow : 
           kept = omega arith;
           members = valued-append t (length t) (st .members) (m .members) k (meaning.clauseValue ls)
               (valued-grown (st .nodes) t (st .kept) (length t) (S .ordered) (made .kept .extends) (S .kept) (omega (arith, S .kept)) (st .members) (m .members) (S .members))
-              (made .inside) (λ a. ap (λ (D : Diagram). value D a) (made .is) ∙ clause-valued n ls w a);
+              (made .inside) (clause-node w);
           marks = omega (arith, length-append (st .struck) (0 ∷ []), length-append (st .members) (k ∷ []), S .marks);
           entries = tt;
           few = omega arith;
@@ -153,35 +168,32 @@ module _ {s n : ℕ} {m : Meant} {st : State} (S : Standing s n m st) (narrow : 
 
 module _ {s n : ℕ} {m : Meant} {st : State} (S : Standing s n m st) (narrow : n ≤ 64) (ls : List meaning.Literal) (w : Within n ls) (st′ : State)
     (T : ClauseTaken n s st ls st′) where
+  -- the line that passed, and its peak
+  pub clause-line : (line : Line) × (peak : ℕ) × (accepted (withEntry st (T .nodes) (T .node)) (T .node) line peak ≡ st′)
+  clause-line = tries-accepted n s (withEntry st (T .nodes) (T .node)) (T .node) st′ ls (T .tried)
+
   -- THEOREM: the state after an added clause stands, the clause being its last member.
   pub clause-standing : Standing s n (record { members = m .members ++ meaning.clauseValue ls ∷ []; entries = [] }) st′
-  clause-standing = go ls w (T .room) (T .tried)
-    where
-      go : (ls : List meaning.Literal) → Within n ls → place s (st .nodes) (meaning.clause n ls) ≡ placed (T .nodes) (T .node)
-          → TriesTaken n s (withClause st (T .nodes) (T .node)) (T .node) ls st′
-          → Standing s n (record { members = m .members ++ meaning.clauseValue ls ∷ []; entries = [] }) st′
-      go ls w room (inl J) =
-          let st₁ : State = withClause st (T .nodes) (T .node) in
-          taken-standing S narrow ls (T .nodes) (T .node) room w (T .few) (firstLine n st₁ ls) (peakWith s st₁ (firstLine n st₁ ls)) st′ (J .is)
-      go [] w room (inr U) = absurd U
-      go (p ∷ ls) w room (inr U) =
-          let st₁ : State = withClause st (T .nodes) (T .node) in
-          let line : Line = secondLine n (liveMembers st₁) p ls in
-          taken-standing S narrow (p ∷ ls) (T .nodes) (T .node) room w (T .few) line (peakWith s (withPeak st₁ (peakWith s st₁ (firstLine n st₁ (p ∷ ls)))) line) st′ (U .passes .is)
+  clause-standing = let (line, peak, is) = clause-line in taken-standing S narrow ls (T .nodes) (T .node) (T .room) w (T .few) line peak st′ is
+
+  pub clause-extends : Extends (st .nodes) (st′ .nodes)
+  clause-extends =
+      let (line, peak, is) = clause-line in
+      subst (λ (x : State). Extends (st .nodes) (x .nodes)) is (clause-grown S narrow ls (T .nodes) (T .node) (T .room))
 
   -- THEOREM: where an assignment satisfies the live members one satisfies them and the clause.
   pub clause-keeps : (a : Assignment) → length a ≡ n → Satisfies a (liveMembers st)
       → (b : Assignment) × (length b ≡ n) × Satisfies b (liveMembers st) × (meaning.clauseValue ls b ≡ true)
   clause-keeps a len sat = go ls w (T .not-one) (live-same S narrow ls (T .nodes) (T .node) (T .room)) (T .tried)
     where
-      go : (ls : List meaning.Literal) → Within n ls → same (meaning.clause n ls) (leaf true) ≡ false → liveMembers (withClause st (T .nodes) (T .node)) ≡ liveMembers st
-          → TriesTaken n s (withClause st (T .nodes) (T .node)) (T .node) ls st′
+      go : (ls : List meaning.Literal) → Within n ls → same (meaning.clause n ls) (leaf true) ≡ false → liveMembers (withEntry st (T .nodes) (T .node)) ≡ liveMembers st
+          → TriesTaken n s (withEntry st (T .nodes) (T .node)) (T .node) ls st′
           → (b : Assignment) × (length b ≡ n) × Satisfies b (liveMembers st) × (meaning.clauseValue ls b ≡ true)
       go ls w not-one live (inl J) =
-          (a, len, sat, sym (clause-value n a len ls) ∙ rup-sound n (liveMembers (withClause st (T .nodes) (T .node))) (meaning.clause n ls) (J .shown) a len (subst (Satisfies a) (sym live) sat))
+          (a, len, sat, sym (clause-value n a len ls) ∙ rup-sound n (liveMembers (withEntry st (T .nodes) (T .node))) (meaning.clause n ls) (J .shown) a len (subst (Satisfies a) (sym live) sat))
       go [] w not-one live (inr U) = absurd U
       go (p ∷ ls) w not-one live (inr U) =
-          let (b, lb, kept, one) = pr-sound n (makesTrue (witness p (p ∷ ls))) (makesFalse (witness p (p ∷ ls))) (liveMembers (withClause st (T .nodes) (T .node))) (meaning.clause n (p ∷ ls))
+          let (b, lb, kept, one) = pr-sound n (makesTrue (witness p (p ∷ ls))) (makesFalse (witness p (p ∷ ls))) (liveMembers (withEntry st (T .nodes) (T .node))) (meaning.clause n (p ∷ ls))
           (pivot-witnessed n (p ∷ ls) w (not-one-plain n (p ∷ ls) not-one) p (has-here p ls)) (U .passes .shown) a len (subst (Satisfies a) (sym live) sat) in
           (b, lb, subst (Satisfies b) live kept, sym (clause-value n b lb (p ∷ ls)) ∙ one)
 

@@ -16,6 +16,7 @@ use Rattle.table.specs.Index.{bucket, goodOrder}
 use Rattle.table.specs.Columns.{rows, sizeFits, Columns, columnsMade, storedAs}
 use Rattle.dimacs.specs.Clauses.{clausesFrom}
 use Rattle.records.specs.Records.{recordAt}
+use Rattle.commands.specs.Commands.{inRecords}
 use Rattle.verdict.specs.Check.{verdict, Outcome, outcome, check}
 use Rattle.verdict.specs.Cases.{GivesAll, caseTable, numberTable, strikeTable, setTable, unitsTo, bytes, A-formula, A-proof}
 
@@ -40,7 +41,7 @@ set-entries = (refl, (refl, (refl, (refl, (refl, (refl, (refl, (refl, (refl, (re
 
 -- "7: a lent part of wrong size: table of 1 place"; "It refuses an index of the wrong size with 7": one head too few, one link too many (02, 7/14)
 abbrev sized : Columns → ℕ
-sized c = check c 2 (replicate 2048 0) (replicate 2048 0) (replicate 4096 0) (bytes A-formula) A-proof .number
+sized c = check inRecords c 2 (replicate 2048 0) (replicate 2048 0) (replicate 4096 0) (bytes A-formula) A-proof .number
 
 pub seven : (sized (columnsMade (0 ∷ []) (0 ∷ []) (0 ∷ []) (0 ∷ 0 ∷ []) (0 ∷ [])) ≡ 7)
     × (sized (columnsMade (0 ∷ 0 ∷ []) (0 ∷ 0 ∷ []) (0 ∷ 0 ∷ []) (0 ∷ 0 ∷ 0 ∷ []) (0 ∷ 0 ∷ [])) ≡ 7)
@@ -50,7 +51,7 @@ seven = (refl, refl, refl)
 
 -- "each call leaves them so": what case A leaves in a table of 16 places is in good order, its index too. (02, 7/14)
 abbrev left-A : Outcome
-left-A = outcome 16 2048 4096 (verdict 16 (bytes A-formula) A-proof)
+left-A = outcome 16 2048 4096 (verdict inRecords 16 (bytes A-formula) A-proof)
 
 pub index-left : (left-A .count ≡ 8)
     × (goodOrder (rows (left-A .columns .vars) (left-A .columns .lows) (left-A .columns .highs)) (left-A .count) (left-A .columns .heads) (left-A .columns .links) ≡ true)

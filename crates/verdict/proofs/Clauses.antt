@@ -19,8 +19,9 @@ use Rattle.dimacs.specs.declared.Header.the-variants.{Proper}
 use Rattle.dimacs.specs.Header.{header}
 use Rattle.dimacs.specs.Clauses.{Reading, clause, clausesFrom, formula}
 use Rattle.dimacs.proofs.Bounds.{HeaderIn, header-in}
-use Rattle.verdict.specs.Check.{emptied, begun}
-use Rattle.verdict.specs.Run.{Function, Meant, Making, opened, made}
+use Rattle.verdict.specs.Steps.{emptied, begun}
+use Rattle.verdict.specs.Taken.{Function, Meant}
+use Rattle.verdict.specs.Run.{Making, opened, made}
 use Rattle.verdict.specs.Satisfies.{clausesOf, readToEnd}
 use Rattle.verdict.proofs.Fitted.{fitted, fitted-holds, diagram-fitted}
 use Rattle.verdict.proofs.Uses.{UsesAfter, place-uses}

@@ -7,8 +7,14 @@ pub mod Standing
 pub mod Live
 pub mod Formula
 pub mod Clauses
+pub mod Accepting
+pub mod Striking
+pub mod Added
+pub mod Commands
 pub mod Ends
+pub mod ClauseSays
 pub mod Numbers
+pub mod Refutes
 pub mod Refuted
 pub mod Exactly
 pub mod Values
@@ -18,6 +24,4 @@ pub mod Offsets
 pub mod Marks
 pub mod MetFirst
 pub mod Peak
-pub mod Accepting
-pub mod Striking
-pub mod Added
+pub mod TextRows

@@ -8,8 +8,8 @@ use lib.ListN.{length, getD, replicate}
 use lib.Dec.{eqb}
 use borrow.Author.Tests.{eqb-true, eq-eqb}
 use Rattle.table.specs.Nodes.{Node}
-use Rattle.verdict.specs.Check.{unstruck}
-use Rattle.verdict.specs.Run.{Function, Valued}
+use Rattle.verdict.specs.Steps.{unstruck}
+use Rattle.verdict.specs.Taken.{Function, Valued}
 
 -- Striking looks at places alone.
 pub unstruck-map : {A B : Type 0} (f : A → B) (marks : List ℕ) (xs : List A) → map f (unstruck marks xs) ≡ unstruck marks (map f xs)

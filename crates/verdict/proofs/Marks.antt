@@ -17,11 +17,17 @@ use Rattle.records.specs.declared.Record.{Record}
 use Rattle.records.specs.declared.Record.the-variants.{NodeEntry, Witness, ProofLine, Strike, SetEntry, End, CutShort, UnknownKind, NoRecord}
 use Rattle.records.specs.Records.{recordAt, lengthOf}
 use Rattle.records.proofs.Laws.{record-takes, record-within}
-use Rattle.verdict.specs.Check.{State, begun, stop, entryNode, isLive, step}
-use Rattle.verdict.specs.Run.{Meant, StrikeTaken, Taken, follows, Reached, begins, goes, Later, here, after}
+use Rattle.commands.specs.declared.Mode.{Mode}
+use Rattle.commands.specs.Commands.{Command, recorded, added, struckOut, wrong, finished, inRecords}
+use Rattle.verdict.specs.Steps.{State, begun, withEntry, withMarks, stop, entryNode, isLive}
+use Rattle.verdict.specs.Check.{step}
+use Rattle.verdict.specs.Taken.{Meant, StrikeTaken, Taken}
+use Rattle.verdict.specs.Run.{commandIn, CommandTaken, Reached, begins, goes, Later, here, after}
 use Rattle.verdict.specs.Marks.{struckBy, strikingsFrom, strikingsBefore, isIn, markOf}
-use Rattle.verdict.proofs.Steps.{next-form, taken-step}
-use Rattle.verdict.proofs.Offsets.{Offset, at-record, at-striking, behind-end, Placed, step-placed}
+use Rattle.verdict.proofs.Steps.{next-form, taken-record}
+use Rattle.verdict.proofs.Added.{tries-accepted}
+use Rattle.verdict.proofs.Ends.{reached-standing}
+use Rattle.verdict.proofs.Offsets.{Offset, at-record, at-striking, behind-end, Placed, record-placed}
 
 -- ---- lists
 
@@ -98,23 +104,23 @@ module _ (n s : ℕ) (st : State) (ks : List ℕ) (M : Marked (length (st .membe
   same-marked : (st₁ st′ : State) → st₁ ≡ st′ → st₁ .members ≡ st .members → st₁ .struck ≡ st .struck → Marked (length (st′ .members)) (ks ++ []) (st′ .struck)
   same-marked st₁ st′ is m e = subst (λ (x : State). Marked (length (x .members)) (ks ++ []) (x .struck)) is (rw (append-nil ks, m, e) M)
 
-  step-marked : (r : Record) (st′ : State) → Taken n s st r st′ → Marked (length (st′ .members)) (ks ++ struckBy r) (st′ .struck)
+  record-marked : (r : Record) (st′ : State) → Taken n s st r st′ → Marked (length (st′ .members)) (ks ++ struckBy r) (st′ .struck)
   unfolding isLive
-  step-marked (NodeEntry b) st′ T = same-marked _ st′ (T .is) refl refl
-  step-marked (Witness v b) st′ T = same-marked _ st′ (T .is) refl refl
-  step-marked (ProofLine rule root) st′ T =
+  record-marked (NodeEntry b) st′ T = same-marked _ st′ (T .is) refl refl
+  record-marked (Witness v b) st′ T = same-marked _ st′ (T .is) refl refl
+  record-marked (ProofLine rule root) st′ T =
       let g : ℕ = entryNode st (root .0) in
       let more : length (st .members ++ g ∷ []) ≡ suc (length (st .members)) = length-append (st .members) (g ∷ []) ∙ omega arith in
       subst (λ (x : State). Marked (length (x .members)) (ks ++ []) (x .struck)) (T .is) (rw (append-nil ks, more) (line-marked (length (st .members)) ks (st .struck) M))
-  step-marked (Strike k) st′ T =
+  record-marked (Strike k) st′ T =
       let (inside, _) = and-both (ltb (k .0) (length (st .members))) _ (T .live) in
       subst (λ (x : State). Marked (length (x .members)) (ks ++ k .0 ∷ []) (x .struck)) (T .is)
       (strike-marked (length (st .members)) ks (st .struck) (k .0) (ltb-true (k .0) (length (st .members)) inside) M)
-  step-marked (SetEntry kind b) st′ T = same-marked _ st′ (T .is) refl refl
-  step-marked End st′ T = absurd T
-  step-marked CutShort st′ T = absurd T
-  step-marked UnknownKind st′ T = absurd T
-  step-marked NoRecord st′ T = absurd T
+  record-marked (SetEntry kind b) st′ T = same-marked _ st′ (T .is) refl refl
+  record-marked End st′ T = absurd T
+  record-marked CutShort st′ T = absurd T
+  record-marked UnknownKind st′ T = absurd T
+  record-marked NoRecord st′ T = absurd T
 
 -- ---- the run
 
@@ -132,7 +138,7 @@ module _ (s : ℕ) (text proof : List ℕ) where
   unfolding strikingsFrom
   goes-struck n st st′ at T F =
       let r : Record = recordAt proof at in
-      let form = next-form n s st (follows proof at) r st′ (taken-step n s st (follows proof at) r st′ T) in
+      let form = next-form n s st false r st′ (taken-record n s st false r st′ T) in
       let takes : 1 ≤ lengthOf r = record-takes r form in
       let inside : at + lengthOf r ≤ length proof = record-within proof at refl form in
       record {
@@ -140,7 +146,7 @@ module _ (s : ℕ) (text proof : List ℕ) where
         few = omega (arith, F .few);
         within = inside;
         so-far = F .so-far ++ struckBy r;
-        marked = step-marked n s st (F .so-far) (F .marked) r st′ T;
+        marked = record-marked n s st (F .so-far) (F .marked) r st′ T;
         run = λ j end p.
             let same : suc (F .steps) + j ≡ F .steps + suc j = omega arith in
             ap (λ (k : ℕ). strikingsFrom k proof 0 end) same ∙ F .run (suc j) end (omega arith)
@@ -159,20 +165,12 @@ module _ (s : ℕ) (text proof : List ℕ) where
     run = λ j end p. let z : 0 + j ≡ j = omega arith in ap (λ (k : ℕ). strikingsFrom k proof 0 end) z;
   }
 
-  reached-struck : {n : ℕ} {st : State} {at : ℕ} {m : Meant} → Reached s text proof n st at m → Struck proof st at
+  reached-struck : {n : ℕ} {st : State} {at : ℕ} {m : Meant} → Reached inRecords s text proof n st at m → Struck proof st at
   reached-struck (begins {many} {t} {ms} {fs} M) = begun-struck t ms
   reached-struck {n} (goes {st} {st′} {at} R T) = goes-struck n st st′ at T (reached-struck R)
 
-  -- As many marks as members.
-  pub marks-long : {n : ℕ} {st : State} {at : ℕ} {m : Meant} → Reached s text proof n st at m → length (st .struck) ≡ length (st .members)
-  marks-long R = reached-struck R .marked .long
-
-  -- No member is struck that is not there.
-  pub marks-above : {n : ℕ} {st : State} {at : ℕ} {m : Meant} → Reached s text proof n st at m → (k : ℕ) → length (st .members) ≤ k → getD (st .struck) k 0 ≡ 0
-  marks-above R k p = let M = reached-struck R .marked in M .are k ∙ ap (λ (c : Bool). cond c 1 0) (M .among k p)
-
   -- where nothing is struck out from the place on up to the end
-  marks-at : {n : ℕ} {st : State} {at : ℕ} {m : Meant} → Reached s text proof n st at m → (end : ℕ) → at ≤ end → ((j : ℕ) → strikingsFrom j proof at end ≡ [])
+  marks-at : {n : ℕ} {st : State} {at : ℕ} {m : Meant} → Reached inRecords s text proof n st at m → (end : ℕ) → at ≤ end → ((j : ℕ) → strikingsFrom j proof at end ≡ [])
       → (k : ℕ) → getD (st .struck) k 0 ≡ markOf (strikingsBefore proof end) k
   marks-at {n} {st} {at} R end p none k =
       let F : Struck proof st at = reached-struck R in
@@ -193,13 +191,14 @@ module _ (s : ℕ) (text proof : List ℕ) where
   none-at-end at is (suc j) = rw (is, none-here (at + 1) j, lt-ltb at (at + 1) (omega arith))
 
   -- In every reached state a mark is 1 exactly where a striking that was taken has the member's number, else 0.
-  pub marks-are : {n : ℕ} {st : State} {at : ℕ} {m : Meant} → Reached s text proof n st at m → (k : ℕ) → getD (st .struck) k 0 ≡ markOf (strikingsBefore proof at) k
+  pub marks-are : {n : ℕ} {st : State} {at : ℕ} {m : Meant} → Reached inRecords s text proof n st at m → (k : ℕ) → getD (st .struck) k 0 ≡ markOf (strikingsBefore proof at) k
   marks-are {n} {st} {at} R k = marks-at R at (omega arith) (none-here at) k
 
   -- The same at the place where a record is refused or ends the proof, which for 11 is behind it.
-  pub marks-stopped : {n : ℕ} {st : State} {at : ℕ} {m : Meant} → Reached s text proof n st at m → (number offset : ℕ)
-      → step n s st (follows proof at) (recordAt proof at) ≡ stop number offset → (k : ℕ) → getD (st .struck) k 0 ≡ markOf (strikingsBefore proof (at + offset)) k
-  marks-stopped {n} {st} {at} R number offset e k = go (subst (Placed st (recordAt proof at)) e (step-placed n s st (follows proof at) (recordAt proof at)))
+  pub marks-stopped : {n : ℕ} {st : State} {at : ℕ} {m : Meant} → Reached inRecords s text proof n st at m → (number offset : ℕ)
+      → step n s st (commandIn inRecords proof n at) ≡ stop number offset → (k : ℕ) → getD (st .struck) k 0 ≡ markOf (strikingsBefore proof (at + offset)) k
+  unfolding step
+  marks-stopped {n} {st} {at} R number offset e k = go (subst (Placed st (recordAt proof at)) e (record-placed n s st (ltb (at + lengthOf (recordAt proof at)) (length proof)) (recordAt proof at)))
     where
       here-are : offset ≡ 0 → getD (st .struck) k 0 ≡ markOf (strikingsBefore proof (at + offset)) k
       here-are z = let same : at ≡ at + offset = omega arith in marks-are R k ∙ ap (λ (p : ℕ). markOf (strikingsBefore proof p) k) same
@@ -208,6 +207,17 @@ module _ (s : ℕ) (text proof : List ℕ) where
       go (at-record z _ _) = here-are z
       go (at-striking z _ _ _ _) = here-are z
       go (behind-end z _ is) = rw z (marks-at R (at + 1) (omega arith) (none-at-end at is) k)
+
+-- ---- every form
+
+module _ (mode : Mode) (s : ℕ) (text proof : List ℕ) where
+  -- As many marks as members.
+  pub marks-long : {n : ℕ} {st : State} {at : ℕ} {m : Meant} → Reached mode s text proof n st at m → length (st .struck) ≡ length (st .members)
+  marks-long R = reached-standing mode s text proof R .1 .marks
+
+  -- No member is struck that is not there.
+  pub marks-above : {n : ℕ} {st : State} {at : ℕ} {m : Meant} → Reached mode s text proof n st at m → (k : ℕ) → length (st .members) ≤ k → getD (st .struck) k 0 ≡ 0
+  marks-above {n} {st} R k p = List·getD-eq-default (st .struck) 0 (omega (arith, marks-long R))
 
 -- ---- what stays
 
@@ -230,43 +240,57 @@ module _ (n s : ℕ) (k : ℕ) where
     | no p ↦ let z : getD marks j 0 ≡ 0 = List·getD-eq-default marks 0 (omega arith) in absurd (omega arith)
   ]
 
-  step-stays : (st : State) (r : Record) (st′ : State) → Taken n s st r st′ → Stays k st st′
-  step-stays st (NodeEntry b) st′ T = same-stays st _ st′ (T .is) refl refl
-  step-stays st (Witness v b) st′ T = same-stays st _ st′ (T .is) refl refl
-  step-stays st (ProofLine rule root) st′ T =
-      let g : ℕ = entryNode st (root .0) in
-      subst (Stays k st) (T .is) (record {
-        mark = λ one. List·getD-append (st .struck) (0 ∷ []) 0 k (one-inside (st .struck) k one) ∙ one;
-        member = λ p. (omega (arith, length-append (st .members) (g ∷ [])), List·getD-append (st .members) (g ∷ []) 0 k p);
-      })
-  step-stays st (Strike j) st′ T = subst (Stays k st) (T .is) (record {
-    mark = λ one. elim (ℕ-discrete k (j .0)) [
+  -- a member appended with a mark of 0, and one struck out
+  appended : {x : State} (st : State) (g : ℕ) → x .struck ≡ st .struck ++ 0 ∷ [] → x .members ≡ st .members ++ g ∷ [] → Stays k st x
+  appended st g marks members = record {
+    mark = λ one. rw marks (List·getD-append (st .struck) (0 ∷ []) 0 k (one-inside (st .struck) k one) ∙ one);
+    member = λ p. rw members (omega (arith, length-append (st .members) (g ∷ [])), List·getD-append (st .members) (g ∷ []) 0 k p);
+  }
+
+  struck-stays : (st : State) (j : ℕ) → Stays k st (withMarks st (set (st .struck) j 1))
+  struck-stays st j = record {
+    mark = λ one. elim (ℕ-discrete k j) [
       | yes e ↦ rw (sym e) (getD-set-same (st .struck) k 1 0 (one-inside (st .struck) k one))
-      | no e ↦ getD-set-other (st .struck) (j .0) k 1 0 e ∙ one
+      | no e ↦ getD-set-other (st .struck) j k 1 0 e ∙ one
     ];
     member = λ p. (p, refl);
-  })
-  step-stays st (SetEntry kind b) st′ T = same-stays st _ st′ (T .is) refl refl
-  step-stays st End st′ T = absurd T
-  step-stays st CutShort st′ T = absurd T
-  step-stays st UnknownKind st′ T = absurd T
-  step-stays st NoRecord st′ T = absurd T
+  }
 
-module _ (s : ℕ) (proof : List ℕ) {n : ℕ} {st : State} {at : ℕ} (k : ℕ) where
-  later-stays : {st′ : State} {at′ : ℕ} → Later s proof n st at st′ at′ → Stays k st st′
+  record-stays : (st : State) (r : Record) (st′ : State) → Taken n s st r st′ → Stays k st st′
+  record-stays st (NodeEntry b) st′ T = same-stays st _ st′ (T .is) refl refl
+  record-stays st (Witness v b) st′ T = same-stays st _ st′ (T .is) refl refl
+  record-stays st (ProofLine rule root) st′ T = subst (Stays k st) (T .is) (appended st (entryNode st (root .0)) refl refl)
+  record-stays st (Strike j) st′ T = subst (Stays k st) (T .is) (struck-stays st (j .0))
+  record-stays st (SetEntry kind b) st′ T = same-stays st _ st′ (T .is) refl refl
+  record-stays st End st′ T = absurd T
+  record-stays st CutShort st′ T = absurd T
+  record-stays st UnknownKind st′ T = absurd T
+  record-stays st NoRecord st′ T = absurd T
+
+  step-stays : (st : State) (c : Command) (st′ : State) → CommandTaken n s st c st′ → Stays k st st′
+  step-stays st (recorded r more) st′ T = record-stays st r st′ T
+  step-stays st (added ls) st′ T =
+      let (line, peak, is) = tries-accepted n s (withEntry st (T .nodes) (T .node)) (T .node) st′ ls (T .tried) in
+      subst (Stays k st) is (appended st (T .node) refl refl)
+  step-stays st (struckOut ls) st′ C = subst (Stays k st) (C .is) (struck-stays st (C .place))
+  step-stays st (wrong number offset) st′ T = absurd T
+  step-stays st finished st′ T = absurd T
+
+module _ (mode : Mode) (s : ℕ) (proof : List ℕ) {n : ℕ} {st : State} {at : ℕ} (k : ℕ) where
+  later-stays : {st′ : State} {at′ : ℕ} → Later mode s proof n st at st′ at′ → Stays k st st′
   later-stays here = record { mark = λ one. one; member = λ p. (p, refl) }
   later-stays (after {st₁} {st₂} {at₁} L T) =
       let F : Stays k st st₁ = later-stays L in
-      let G : Stays k st₁ st₂ = step-stays n s k st₁ (recordAt proof at₁) st₂ T in
+      let G : Stays k st₁ st₂ = step-stays n s k st₁ (commandIn mode proof n at₁) st₂ T in
       record {
         mark = λ one. G .mark (F .mark one);
         member = λ p. let (inside, same) = F .member p in (G .member inside .0, G .member inside .1 ∙ same);
       }
 
   -- A struck member stays struck,
-  pub mark-stays : {st′ : State} {at′ : ℕ} → Later s proof n st at st′ at′ → getD (st .struck) k 0 ≡ 1 → getD (st′ .struck) k 0 ≡ 1
+  pub mark-stays : {st′ : State} {at′ : ℕ} → Later mode s proof n st at st′ at′ → getD (st .struck) k 0 ≡ 1 → getD (st′ .struck) k 0 ≡ 1
   mark-stays L = later-stays L .mark
 
   -- and a member's number names it to the end.
-  pub member-stays : {st′ : State} {at′ : ℕ} → Later s proof n st at st′ at′ → k < length (st .members) → getD (st′ .members) k 0 ≡ getD (st .members) k 0
+  pub member-stays : {st′ : State} {at′ : ℕ} → Later mode s proof n st at st′ at′ → k < length (st .members) → getD (st′ .members) k 0 ≡ getD (st .members) k 0
   member-stays L p = later-stays L .member p .1

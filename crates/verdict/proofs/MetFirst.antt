@@ -13,8 +13,8 @@ use Rattle.table.specs.Nodes.{Node, Placing, full, placed, place}
 use Rattle.table.specs.Making.{Room, short, all, afterPlacing, placedAll, reached, turnsReach, keptReach, lineReach}
 use Rattle.records.specs.declared.Rule.{Rule}
 use Rattle.records.specs.declared.Rule.the-variants.{Rup, Pr}
-use Rattle.verdict.specs.Check.{State, next, spent, accepted, judged, diagramIn, liveMembers}
-use Rattle.verdict.specs.Run.{lineOf, peakWith}
+use Rattle.verdict.specs.Steps.{State, next, spent, accepted, judged, diagramIn, liveMembers}
+use Rattle.verdict.specs.Taken.{lineOf, peakWith}
 use Rattle.verdict.specs.MetFirst.{Met, all-shown, no-conflict, no-place, afterMade, making, inRound, propagating, andThen, turning, metBy, sayMet}
 
 -- ---- making a list

@@ -1,10 +1,10 @@
--- The numbers that the check can give: 1 to 6 and 8 for the formula, 0, 9 to 23, 28 and 29 for the proof. The idea: each number stands in the definition
--- where it is given. Assumes nothing.
+-- The numbers that the check can give: 1 to 6 and 8 for the formula; 0, 9 to 23, 28 and 29 for a proof in records; 0, 3, 4, 6, 17, 19, 20, 22, 23 and 28
+-- for a text. The idea: each number stands in the definition where it is given. Assumes nothing.
 use mathlib.Core.Path.{_≡_, refl, subst}
-use mathlib.Core.Logic.{_≢_}
+use mathlib.Core.Logic.{_≢_, _⊎_, inl, inr}
 use mathlib.Core.Bool.{Bool, not, _&&_, _||_, cond}
 use mathlib.Core.List.{List}
-use Prim.Native.Nat.{ℕ, zero, suc, _+_, _≤_}
+use Prim.Native.Nat.{ℕ, zero, suc, _+_, _≤_, _<_}
 use native.Mathlib.Omega.{arith}
 use lib.ListN.{length}
 use lib.Dec.{eqb, leb}
@@ -20,11 +20,21 @@ use Rattle.records.specs.declared.SetKind.{SetKind}
 use Rattle.records.specs.declared.SetBody.{SetBody}
 use Rattle.records.specs.declared.Record.{Record}
 use Rattle.records.specs.declared.Record.the-variants.{NodeEntry, Witness, ProofLine, Strike, SetEntry, End, CutShort, UnknownKind, NoRecord}
-use Rattle.records.specs.Records.{recordAt}
-use Rattle.verdict.specs.Check.{State, Step, next, stop, spent, isEntry, entryNode, isVariable, entered, nodeStep, witnessStep, waiting, judged, diagramIn, lineStep, isLive, strikeStep, beyond, noParity, setDiagram, setStep, endStep, step, Verdict, left, refusedFormula}
-use Rattle.verdict.specs.Run.{Function, Meant, Making, follows, Reached, lineOf, peakWith, Ended, no-header, not-read, no-room, stopped, tried}
+use Rattle.commands.specs.declared.Mode.{Mode}
+use Rattle.commands.specs.declared.Form.{Form}
+use Rattle.commands.specs.declared.Form.the-variants.{Records, Text}
+use Rattle.commands.specs.Commands.{Command, recorded, added, struckOut, wrong, finished}
+use Rattle.verdict.specs.Steps.{State, Step, next, stop, spent, isEntry, entryNode, isVariable, entered, nodeStep, witnessStep, waiting, judged, diagramIn, lineStep, isLive, strikeStep, beyond, noParity, setDiagram, setStep, endStep}
+use Rattle.verdict.specs.Steps.{recordStep}
+use Rattle.verdict.specs.Clausal.{addStep, strikeClause}
+use Rattle.verdict.specs.Check.{finish, step, Verdict, left, refusedFormula}
+use Rattle.verdict.specs.Taken.{Function, Meant, lineOf, peakWith}
+use Rattle.verdict.specs.Run.{Making, commandIn, Reached, Ended, no-header, not-read, no-room, stopped, tried}
 use Rattle.verdict.proofs.Formula.{Early, NamedHeader, header-named, Read, either}
 use Rattle.verdict.proofs.Clauses.{Underway, underway}
+use Rattle.verdict.proofs.Commands.{Fit}
+use Rattle.verdict.proofs.ClauseSays.{AddedSays, StruckSays, FinishSays, added-says, struck-says, finish-says}
+use Rattle.verdict.proofs.Ends.{reached-fit}
 
 -- ---- the formula
 
@@ -47,10 +57,6 @@ module _ (s : ℕ) (text : List ℕ) where
       go (suc left) r = r
 
 -- ---- the proof
-
--- The proof's numbers: 0, 9 to 23, 28 and 29.
-abbrev pub ProofNumber : ℕ → Type 0
-ProofNumber number = (number ≢ 28 → number ≢ 29 → number ≤ 23) × (number ≢ 0 → 9 ≤ number)
 
 -- Before a node is made: 0, 9 to 22, 28 and 29, but not 19. Once some are made: 19 and 23.
 abbrev pub EarlyNumber : ℕ → Type 0
@@ -132,32 +138,116 @@ end-numbered st more =
     refuses (waiting st) 16 0 _ ((λ _ _. omega arith), (λ _. omega arith), λ q. omega arith)
     (refuses more 11 1 _ ((λ _ _. omega arith), (λ _. omega arith), λ q. omega arith) (refuses (st .refuted) 0 0 _ ((λ _ _. omega arith), (λ other. absurd (other refl)), λ q. omega arith) ((λ _ _. omega arith), (λ _. omega arith), λ q. omega arith)))
 
-pub step-numbered : (n s : ℕ) (st : State) (more : Bool) (r : Record) → Numbered (step n s st more r)
+pub record-numbered : (n s : ℕ) (st : State) (more : Bool) (r : Record) → Numbered (recordStep n s st more r)
+unfolding recordStep
+record-numbered n s st more (NodeEntry b) = node-numbered n s st b
+record-numbered n s st more (Witness v b) = witness-numbered n st v b
+record-numbered n s st more (ProofLine rule root) = line-numbered n s st rule (root .0)
+record-numbered n s st more (Strike k) = strike-numbered st (k .0)
+record-numbered n s st more (SetEntry kind b) = set-numbered n s st kind b
+record-numbered n s st more End = end-numbered st more
+record-numbered n s st more CutShort = ((λ _ _. omega arith), (λ _. omega arith), λ q. omega arith)
+record-numbered n s st more UnknownKind = ((λ _ _. omega arith), (λ _. omega arith), λ q. omega arith)
+record-numbered n s st more NoRecord = ((λ _ _. omega arith), (λ _. omega arith), λ q. omega arith)
+
+-- ---- a text
+
+-- Before a node is made: 0, 3, 4, 6, 17, 20, 22 and 28.
+abbrev pub EarlyInText : ℕ → Type 0
+EarlyInText number = (number ≢ 28 → number ≤ 22) × (number ≢ 0 → 3 ≤ number) × (number ≢ 5) × (6 < number → 17 ≤ number) × (number ≢ 18) × (number ≢ 19) × (number ≢ 21)
+
+abbrev pub NumberedInText : Step → Type 0
+NumberedInText (next st) = Unit {0}
+NumberedInText (stop number offset) = EarlyInText number
+NumberedInText (spent number peak) = (number ≡ 19) ⊎ (number ≡ 23)
+
+in-text : (number : ℕ) → ((number ≡ 0) ⊎ (number ≡ 20)) ⊎ ((number ≡ 17) ⊎ (number ≡ 22)) → EarlyInText number
+in-text number (inl (inl e)) = ((λ _. omega arith), (λ other. absurd (other e)), (λ q. omega arith), (λ q. absurd (omega arith)), (λ q. omega arith), (λ q. omega arith), λ q. omega arith)
+in-text number (inl (inr e)) = ((λ _. omega arith), (λ _. omega arith), (λ q. omega arith), (λ _. omega arith), (λ q. omega arith), (λ q. omega arith), λ q. omega arith)
+in-text number (inr (inl e)) = ((λ _. omega arith), (λ _. omega arith), (λ q. omega arith), (λ _. omega arith), (λ q. omega arith), (λ q. omega arith), λ q. omega arith)
+in-text number (inr (inr e)) = ((λ _. omega arith), (λ _. omega arith), (λ q. omega arith), (λ _. omega arith), (λ q. omega arith), (λ q. omega arith), λ q. omega arith)
+
+added-numbered : (x : Step) → AddedSays x → NumberedInText x
+added-numbered (next st) A = tt
+added-numbered (stop number offset) A = in-text number (inr (A .0))
+added-numbered (spent number peak) A = A
+
+struck-numbered : (x : Step) → StruckSays x → NumberedInText x
+struck-numbered (next st) A = tt
+struck-numbered (stop number offset) A =
+    let e : number ≡ 28 = A .0 in
+    ((λ other. absurd (other e)), (λ _. omega arith), (λ q. omega arith), (λ _. omega arith), (λ q. omega arith), (λ q. omega arith), λ q. omega arith)
+struck-numbered (spent number peak) A = absurd A
+
+finish-numbered : (x : Step) → FinishSays x → NumberedInText x
+finish-numbered (next st) A = absurd A
+finish-numbered (stop number offset) A = in-text number (inl (A .0))
+finish-numbered (spent number peak) A = absurd A
+
+-- ---- every form
+
+abbrev pub NumberedIn : Form → Step → Type 0
+NumberedIn Records x = Numbered x
+NumberedIn Text x = NumberedInText x
+
+pub step-numbered : (form : Form) (n s : ℕ) (st : State) (c : Command) → Fit form n c → NumberedIn form (step n s st c)
 unfolding step
-step-numbered n s st more (NodeEntry b) = node-numbered n s st b
-step-numbered n s st more (Witness v b) = witness-numbered n st v b
-step-numbered n s st more (ProofLine rule root) = line-numbered n s st rule (root .0)
-step-numbered n s st more (Strike k) = strike-numbered st (k .0)
-step-numbered n s st more (SetEntry kind b) = set-numbered n s st kind b
-step-numbered n s st more End = end-numbered st more
-step-numbered n s st more CutShort = ((λ _ _. omega arith), (λ _. omega arith), λ q. omega arith)
-step-numbered n s st more UnknownKind = ((λ _ _. omega arith), (λ _. omega arith), λ q. omega arith)
-step-numbered n s st more NoRecord = ((λ _ _. omega arith), (λ _. omega arith), λ q. omega arith)
+step-numbered Records n s st (recorded r more) fit = record-numbered n s st more r
+step-numbered Records n s st (added ls) fit = absurd fit
+step-numbered Records n s st (struckOut ls) fit = absurd fit
+step-numbered Records n s st (wrong number offset) fit = absurd fit
+step-numbered Records n s st finished fit = absurd fit
+step-numbered Text n s st (recorded r more) fit = absurd fit
+step-numbered Text n s st (added ls) fit = added-numbered (addStep n s st ls) (added-says n s st ls)
+step-numbered Text n s st (struckOut ls) fit = struck-numbered (strikeClause n st ls) (struck-says n st ls)
+step-numbered Text n s st (wrong number offset) fit =
+    ((λ _. omega (arith, fit .1)), (λ _. fit .0), fit .2, (λ q. absurd (omega (arith, fit .1))), (λ q. omega (arith, fit .1)), (λ q. omega (arith, fit .1)), λ q. omega (arith, fit .1))
+step-numbered Text n s st finished fit = finish-numbered (finish st) (finish-says st)
 
 -- ---- the end of a check, with the range of its number
 
-pub data Closed (s : ℕ) (text proof : List ℕ) : Verdict → Type 0 where
-  formula-refused : {number place peak : ℕ} → FormulaNumber number → Closed s text proof (refusedFormula number place peak)
-  proof-ended : {n number offset at : ℕ} {st : State} {m : Meant} → ProofNumber number
-      → Reached s text proof n st at m → step n s st (follows proof at) (recordAt proof at) ≡ stop number offset → Closed s text proof (left number (at + offset) (st .peak) st)
-  proof-tried : {n number peak at : ℕ} {st : State} {m : Meant} → (19 ≤ number) × (number ≤ 23)
-      → Reached s text proof n st at m → step n s st (follows proof at) (recordAt proof at) ≡ spent number peak → Closed s text proof (left number at peak st)
+-- The proof's numbers: 0, 9 to 23, 28 and 29 in records; 0, 3, 4, 6, 17, 19, 20, 22, 23 and 28 in a text.
+abbrev pub ProofNumber : Form → ℕ → Type 0
+ProofNumber Records number = (number ≢ 28 → number ≢ 29 → number ≤ 23) × (number ≢ 0 → 9 ≤ number)
+ProofNumber Text number = (number ≢ 28 → number ≤ 23) × (number ≢ 0 → 3 ≤ number) × (number ≢ 5) × (6 < number → 17 ≤ number) × (number ≢ 18) × (number ≢ 21)
 
-pub ended-closed : (s : ℕ) (text proof : List ℕ) (v : Verdict) → Ended s text proof v → Closed s text proof v
-ended-closed s text proof _ (no-header {number} {place} e) = formula-refused (early (subst NamedHeader e (header-named text)))
-ended-closed s text proof _ (not-read M) = formula-refused (early (making-refused s text M))
-ended-closed s text proof _ (no-room M e) = formula-refused {number = 8} (omega arith, omega arith, λ q. omega arith)
-ended-closed s text proof _ (stopped {n} {number} {offset} {at} {st} R e) =
-    let N : EarlyNumber number = subst Numbered e (step-numbered n s st (follows proof at) (recordAt proof at)) in proof-ended {number = number} ((λ other another. omega (arith, N .0 other another)), N .1) R e
-ended-closed s text proof _ (tried {n} {number} {peak} {at} {st} R e) =
-    proof-tried (subst Numbered e (step-numbered n s st (follows proof at) (recordAt proof at))) R e
+-- In each form none of them is 7 or 8.
+pub proof-number : (form : Form) (number : ℕ) → ProofNumber form number
+    → (number ≢ 28 → number ≢ 29 → number ≤ 23) × (number ≢ 7) × (number ≢ 8)
+proof-number Records number P = (P .0, (λ q. omega (arith, P .1 (λ z. omega arith))), λ q. omega (arith, P .1 (λ z. omega arith)))
+proof-number Text number P = ((λ other _. P .0 other), (λ q. omega (arith, P .3 (omega arith))), λ q. omega (arith, P .3 (omega arith)))
+
+stop-number : (form : Form) (number offset : ℕ) → NumberedIn form (stop number offset) → ProofNumber form number
+stop-number Records number offset N = ((λ other another. omega (arith, N .0 other another)), N .1)
+stop-number Text number offset N = ((λ other. omega (arith, N .0 other)), N .1, N .2, N .3, N .4, N .6)
+
+spent-number : (form : Form) (number peak : ℕ) → NumberedIn form (spent number peak) → (19 ≤ number) × (number ≤ 23)
+spent-number Records number peak N = N
+spent-number Text number peak (inl e) = (omega arith, omega arith)
+spent-number Text number peak (inr e) = (omega arith, omega arith)
+
+spent-proof : (form : Form) (number peak : ℕ) → NumberedIn form (spent number peak) → ProofNumber form number
+spent-proof Records number peak N = ((λ _ _. omega (arith, N .1)), λ _. omega (arith, N .0))
+spent-proof Text number peak (inl e) = ((λ _. omega arith), (λ _. omega arith), (λ q. omega arith), (λ _. omega arith), (λ q. omega arith), λ q. omega arith)
+spent-proof Text number peak (inr e) = ((λ _. omega arith), (λ _. omega arith), (λ q. omega arith), (λ _. omega arith), (λ q. omega arith), λ q. omega arith)
+
+pub data Closed (mode : Mode) (s : ℕ) (text proof : List ℕ) : Verdict → Type 0 where
+  formula-refused : {number place peak : ℕ} → FormulaNumber number → Closed mode s text proof (refusedFormula number place peak)
+  proof-ended : {n number offset at : ℕ} {st : State} {m : Meant} → ProofNumber (mode .form) number
+      → Reached mode s text proof n st at m → step n s st (commandIn mode proof n at) ≡ stop number offset → Closed mode s text proof (left number (at + offset) (st .peak) st)
+  proof-tried : {n number peak at : ℕ} {st : State} {m : Meant} → ProofNumber (mode .form) number × (19 ≤ number) × (number ≤ 23)
+      → Reached mode s text proof n st at m → step n s st (commandIn mode proof n at) ≡ spent number peak → Closed mode s text proof (left number at peak st)
+
+module _ (mode : Mode) (s : ℕ) (text proof : List ℕ) where
+  pub reached-numbered : {n : ℕ} {st : State} {at : ℕ} {m : Meant} → Reached mode s text proof n st at m → NumberedIn (mode .form) (step n s st (commandIn mode proof n at))
+  reached-numbered {n} {st} {at} R = step-numbered (mode .form) n s st (commandIn mode proof n at) (reached-fit mode s text proof R)
+
+  pub ended-closed : (v : Verdict) → Ended mode s text proof v → Closed mode s text proof v
+  ended-closed _ (no-header {number} {place} e) = formula-refused (early (subst NamedHeader e (header-named text)))
+  ended-closed _ (not-read M) = formula-refused (early (making-refused s text M))
+  ended-closed _ (no-room M e) = formula-refused {number = 8} (omega arith, omega arith, λ q. omega arith)
+  ended-closed _ (stopped {n} {number} {offset} {at} {st} R e) =
+      proof-ended {number = number} (stop-number (mode .form) number offset (subst (NumberedIn (mode .form)) e (reached-numbered R))) R e
+  ended-closed _ (tried {n} {number} {peak} {at} {st} R e) =
+      let N : NumberedIn (mode .form) (spent number peak) = subst (NumberedIn (mode .form)) e (reached-numbered R) in
+      let (least, most) = spent-number (mode .form) number peak N in proof-tried {number = number} (spent-proof (mode .form) number peak N, least, most) R e

@@ -14,8 +14,9 @@ use Rattle.records.specs.declared.Rule.{Rule}
 use Rattle.records.specs.declared.Rule.the-variants.{Rup, Pr}
 use Rattle.records.specs.declared.Record.{Record}
 use Rattle.records.specs.declared.Record.the-variants.{NodeEntry, Witness, ProofLine, Strike, SetEntry, End, CutShort, UnknownKind, NoRecord}
-use Rattle.verdict.specs.Check.{State, Step, next, stop, spent, isEntry, entryNode, isVariable, entered, nodeStep, witnessStep, waiting, judged, diagramIn, lineStep, isLive, strikeStep, beyond, noParity, setDiagram, setStep, endStep, step}
-use Rattle.verdict.specs.Run.{lineOf}
+use Rattle.verdict.specs.Steps.{State, Step, next, stop, spent, isEntry, entryNode, isVariable, entered, nodeStep, witnessStep, waiting, judged, diagramIn, lineStep, isLive, strikeStep, beyond, noParity, setDiagram, setStep, endStep}
+use Rattle.verdict.specs.Steps.{recordStep}
+use Rattle.verdict.specs.Taken.{lineOf}
 use Rattle.verdict.proofs.Formula.{either}
 
 -- Where a number is given, counted from the first byte of the state's record.
@@ -65,9 +66,9 @@ strike-placed st k = go (waiting st) (isLive st (k .0)) refl refl _ tt
     go false true w l x q = q
     go false false w l x q = at-striking refl refl refl w l
 
-pub step-placed : (n s : ℕ) (st : State) (more : Bool) (r : Record) → Placed st r (step n s st more r)
-unfolding step nodeStep witnessStep setStep endStep
-step-placed n s st more (NodeEntry b) =
+pub record-placed : (n s : ℕ) (st : State) (more : Bool) (r : Record) → Placed st r (recordStep n s st more r)
+unfolding recordStep nodeStep witnessStep setStep endStep
+record-placed n s st more (NodeEntry b) =
     let l : ℕ = entryNode st (b .low .0) in
     let h : ℕ = entryNode st (b .high .0) in
     refuses st _ (leb 4096 (length (st .entries))) _ _ refl refl
@@ -75,16 +76,16 @@ step-placed n s st more (NodeEntry b) =
     (refuses st _ (not (isEntry st (b .low .0) && isEntry st (b .high .0))) _ _ refl refl
     (refuses st _ (not (above (st .nodes) (b .variable) l && above (st .nodes) (b .variable) h)) _ _ refl refl
     (entered-placed st _ (put s (st .nodes) (b .variable) l h)))))
-step-placed n s st more (Witness v b) =
+record-placed n s st more (Witness v b) =
     refuses st _ (not (isVariable n v)) _ _ refl refl (refuses st _ (inWord (st .positive) v || inWord (st .negative) v) _ _ refl refl tt)
-step-placed n s st more (ProofLine rule root) = line-placed st _ n s rule (root .0)
-step-placed n s st more (Strike k) = strike-placed st k
-step-placed n s st more (SetEntry kind b) =
+record-placed n s st more (ProofLine rule root) = line-placed st _ n s rule (root .0)
+record-placed n s st more (Strike k) = strike-placed st k
+record-placed n s st more (SetEntry kind b) =
     refuses st _ (leb 4096 (length (st .entries))) _ _ refl refl
     (refuses st _ (beyond n (b .set)) _ _ refl refl (refuses st _ (noParity kind (b .byte)) _ _ refl refl (entered-placed st _ (place s (st .nodes) (setDiagram n kind b)))))
-step-placed n s st more End =
+record-placed n s st more End =
     refuses st End (waiting st) _ _ refl refl
     (either (Placed st End) more (stop 11 1) _ (behind-end refl refl refl) (refuses st End (st .refuted) _ _ refl refl (at-record refl refl refl)))
-step-placed n s st more CutShort = at-record refl refl refl
-step-placed n s st more UnknownKind = at-record refl refl refl
-step-placed n s st more NoRecord = at-record refl refl refl
+record-placed n s st more CutShort = at-record refl refl refl
+record-placed n s st more UnknownKind = at-record refl refl refl
+record-placed n s st more NoRecord = at-record refl refl refl

@@ -11,11 +11,17 @@ use Rattle.table.specs.Nodes.{diagramAt}
 use Rattle.table.proofs.Growth.{Extends, extends-length, diagramAt-grown, diagramAt-dropped}
 use Rattle.records.specs.declared.Record.{Record}
 use Rattle.records.specs.declared.Record.the-variants.{NodeEntry, Witness, ProofLine, Strike, SetEntry, End, CutShort, UnknownKind, NoRecord}
-use Rattle.records.specs.Records.{recordAt, lengthOf}
-use Rattle.verdict.specs.Check.{State, Step, next, stop, spent, step, Verdict, left, afterStep, records, verdict}
-use Rattle.verdict.specs.Run.{Meant, Taken, follows, Reached}
-use Rattle.verdict.proofs.Steps.{step-taken}
-use Rattle.verdict.proofs.Standing.{Standing, step-standing, step-extends}
+use Rattle.commands.specs.declared.Mode.{Mode}
+use Rattle.commands.specs.declared.Form.{Form}
+use Rattle.commands.specs.declared.Form.the-variants.{Records, Text}
+use Rattle.commands.specs.Commands.{Command, recorded, added, struckOut, wrong, finished}
+use Rattle.verdict.specs.Steps.{State, Step, next, stop, spent}
+use Rattle.verdict.specs.Check.{step, Verdict, left, afterStep, commands, verdict}
+use Rattle.verdict.specs.Taken.{Meant, Taken}
+use Rattle.verdict.specs.Run.{commandIn, nextIn, CommandTaken, Reached}
+use Rattle.verdict.proofs.Standing.{Standing}
+use Rattle.verdict.proofs.Added.{clause-line, clause-grown}
+use Rattle.verdict.proofs.Commands.{step-taken, Fit, command-fit, command-goes, step-standing, step-extends}
 use Rattle.verdict.proofs.Ends.{reached-standing}
 use Rattle.verdict.proofs.Exactly.{Ahead, reached-ahead}
 
@@ -24,28 +30,44 @@ pub record Onward (st : State) (v : Verdict) : Type 0 where
   pub same : (k : ℕ) → k < length (st .nodes) → k < length (v .nodes) → diagramAt (v .nodes) k ≡ diagramAt (st .nodes) k
   pub stays : st .lines < v .lines → length (st .nodes) ≤ length (v .nodes)
 
--- what a record does to the counts: a line that is taken keeps all nodes
+-- what a command does to the counts: a line that is taken keeps all nodes
 record Counts (st st′ : State) : Type 0 where
   kept : st .kept ≤ st′ .kept
   line : st .lines < st′ .lines → length (st .nodes) ≤ st′ .kept
   more : st .lines ≤ st′ .lines
 
 module _ {s n : ℕ} (narrow : n ≤ 64) where
-  step-counts : {m : Meant} {st : State} → Standing s n m st → (r : Record) (st′ : State) → Taken n s st r st′ → Counts st st′
-  step-counts {m} {st} S (NodeEntry b) st′ T = subst (Counts st) (T .is) (record { kept = omega arith; line = λ p. absurd (omega arith); more = omega arith })
-  step-counts {m} {st} S (Witness v b) st′ T = subst (Counts st) (T .is) (record { kept = omega arith; line = λ p. absurd (omega arith); more = omega arith })
-  step-counts {m} {st} S (ProofLine rule root) st′ T = subst (Counts st) (T .is) (record { kept = S .kept; line = λ _. omega arith; more = omega arith })
-  step-counts {m} {st} S (Strike k) st′ T = subst (Counts st) (T .is) (record { kept = omega arith; line = λ p. absurd (omega arith); more = omega arith })
-  step-counts {m} {st} S (SetEntry kind b) st′ T = subst (Counts st) (T .is) (record { kept = omega arith; line = λ p. absurd (omega arith); more = omega arith })
-  step-counts S End st′ T = absurd T
-  step-counts S CutShort st′ T = absurd T
-  step-counts S UnknownKind st′ T = absurd T
-  step-counts S NoRecord st′ T = absurd T
+  record-counts : {m : Meant} {st : State} → Standing s n m st → (r : Record) (st′ : State) → Taken n s st r st′ → Counts st st′
+  record-counts {m} {st} S (NodeEntry b) st′ T = subst (Counts st) (T .is) (record { kept = omega arith; line = λ p. absurd (omega arith); more = omega arith })
+  record-counts {m} {st} S (Witness v b) st′ T = subst (Counts st) (T .is) (record { kept = omega arith; line = λ p. absurd (omega arith); more = omega arith })
+  record-counts {m} {st} S (ProofLine rule root) st′ T = subst (Counts st) (T .is) (record { kept = S .kept; line = λ _. omega arith; more = omega arith })
+  record-counts {m} {st} S (Strike k) st′ T = subst (Counts st) (T .is) (record { kept = omega arith; line = λ p. absurd (omega arith); more = omega arith })
+  record-counts {m} {st} S (SetEntry kind b) st′ T = subst (Counts st) (T .is) (record { kept = omega arith; line = λ p. absurd (omega arith); more = omega arith })
+  record-counts S End st′ T = absurd T
+  record-counts S CutShort st′ T = absurd T
+  record-counts S UnknownKind st′ T = absurd T
+  record-counts S NoRecord st′ T = absurd T
 
-  step-onward : {m : Meant} {st : State} → Standing s n m st → (r : Record) (st′ : State) → Taken n s st r st′ → (v : Verdict) → Onward st′ v → Onward st v
-  step-onward {m} {st} S r st′ T v O =
-      let C : Counts st st′ = step-counts S r st′ T in
-      let E : Extends (st .nodes) (st′ .nodes) = step-extends S narrow r st′ T in
+  step-counts : {m : Meant} {st : State} → Standing s n m st → (form : Form) (c : Command) → Fit form n c → (st′ : State) → CommandTaken n s st c st′ → Counts st st′
+  step-counts S Records (recorded r more) fit st′ T = record-counts S r st′ T
+  step-counts S Records (added ls) fit st′ T = absurd fit
+  step-counts S Records (struckOut ls) fit st′ T = absurd fit
+  step-counts S Records (wrong number offset) fit st′ T = absurd T
+  step-counts S Records finished fit st′ T = absurd T
+  step-counts S Text (recorded r more) fit st′ T = absurd fit
+  step-counts {m} {st} S Text (added ls) fit st′ T =
+      let (line, peak, is) = clause-line S narrow ls fit st′ T in
+      let longer : length (st .nodes) ≤ length (T .nodes) = extends-length (st .nodes) (T .nodes) (clause-grown S narrow ls (T .nodes) (T .node) (T .room)) in
+      subst (Counts st) is (record { kept = omega (arith, S .kept); line = λ _. longer; more = omega arith })
+  step-counts {m} {st} S Text (struckOut ls) fit st′ C = subst (Counts st) (C .is) (record { kept = omega arith; line = λ p. absurd (omega arith); more = omega arith })
+  step-counts S Text (wrong number offset) fit st′ T = absurd T
+  step-counts S Text finished fit st′ T = absurd T
+
+  step-onward : {m : Meant} {st : State} → Standing s n m st → (form : Form) (c : Command) → Fit form n c → (st′ : State) → CommandTaken n s st c st′
+      → (v : Verdict) → Onward st′ v → Onward st v
+  step-onward {m} {st} S form c fit st′ T v O =
+      let C : Counts st st′ = step-counts S form c fit st′ T in
+      let E : Extends (st .nodes) (st′ .nodes) = step-extends S narrow form c fit st′ T in
       let longer : length (st .nodes) ≤ length (st′ .nodes) = extends-length (st .nodes) (st′ .nodes) E in
       record {
         least = omega (arith, C .kept, O .least);
@@ -65,26 +87,35 @@ module _ {s n : ℕ} (narrow : n ≤ 64) where
         stays = λ p. absurd (omega arith);
       }
 
-  records-onward : (proof : List ℕ) (steps : ℕ) (m : Meant) (st : State) (at : ℕ) → Standing s n m st → Onward st (records steps n s proof st at)
-  unfolding records
-  records-onward proof zero m st at S = left-onward S 10 at (st .peak)
-  records-onward proof (suc steps) m st at S = go (step n s st (follows proof at) (recordAt proof at)) refl (records-onward proof steps)
+  commands-onward : (mode : Mode) (proof : List ℕ) (steps : ℕ) (m : Meant) (st : State) (at : ℕ) → at ≤ length proof → Standing s n m st
+      → Onward st (commands steps mode n s proof st at)
+  unfolding commands
+  commands-onward mode proof zero m st at within S = left-onward S 10 at (st .peak)
+  commands-onward mode proof (suc steps) m st at within S = go (step n s st c) refl (commands-onward mode proof steps)
     where
       next-at : ℕ
-      next-at = at + lengthOf (recordAt proof at)
+      next-at = nextIn mode proof n at
 
-      go : (x : Step) → step n s st (follows proof at) (recordAt proof at) ≡ x
-          → ((m′ : Meant) (st′ : State) (at′ : ℕ) → Standing s n m′ st′ → Onward st′ (records steps n s proof st′ at′))
-          → Onward st (afterStep x st at (λ st′. records steps n s proof st′ next-at))
+      c : Command
+      c = commandIn mode proof n at
+
+      fit : Fit (mode .form) n (commandIn mode proof n at)
+      fit = command-fit (mode .form) proof n at within
+
+      go : (x : Step) → step n s st (commandIn mode proof n at) ≡ x
+          → ((m′ : Meant) (st′ : State) (at′ : ℕ) → at′ ≤ length proof → Standing s n m′ st′ → Onward st′ (commands steps mode n s proof st′ at′))
+          → Onward st (afterStep x st at (λ st′. commands steps mode n s proof st′ next-at))
       go (stop number offset) e rec = left-onward S number (at + offset) (st .peak)
       go (spent number peak) e rec = left-onward S number at peak
       go (next st′) e rec =
-          let T : Taken n s st (recordAt proof at) st′ = step-taken n s st (follows proof at) (recordAt proof at) st′ e in
-          step-onward S (recordAt proof at) st′ T (records steps n s proof st′ next-at) (rec _ st′ next-at (step-standing S narrow (recordAt proof at) st′ T))
+          let T : CommandTaken n s st (commandIn mode proof n at) st′ = step-taken n s st (commandIn mode proof n at) st′ e in
+          step-onward S (mode .form) c fit st′ T (commands steps mode n s proof st′ next-at)
+          (rec _ st′ next-at (command-goes (mode .form) proof n s st st′ at within T .1) (step-standing S narrow (mode .form) c fit st′ T))
 
 -- What the check leaves, as seen from a state that it reaches.
-pub reached-onward : (s : ℕ) (text proof : List ℕ) {n : ℕ} {st : State} {at : ℕ} {m : Meant} → Reached s text proof n st at m → Onward st (verdict s text proof)
-reached-onward s text proof {n} {st} {at} {m} R =
-    let (narrow, S) = reached-standing s text proof R in
-    let A : Ahead s text proof n st at = reached-ahead s text proof R in
-    rw (A .is) (records-onward narrow proof (A .steps) m st at S)
+pub reached-onward : (mode : Mode) (s : ℕ) (text proof : List ℕ) {n : ℕ} {st : State} {at : ℕ} {m : Meant}
+    → Reached mode s text proof n st at m → Onward st (verdict mode s text proof)
+reached-onward mode s text proof {n} {st} {at} {m} R =
+    let (narrow, S) = reached-standing mode s text proof R in
+    let A : Ahead mode s text proof n st at = reached-ahead mode s text proof R in
+    rw (A .is) (commands-onward narrow mode proof (A .steps) m st at (A .within) S)

@@ -1,6 +1,6 @@
 -- The peak is the greatest count reached: no reached state has more nodes, the table is never exceeded, and with 8 and 23 every place is taken. The
 -- idea: a placing leaves at most as many nodes as the table has places, and just as many where it finds no room. Assumes nothing.
-use mathlib.Core.Path.{_≡_, refl, subst}
+use mathlib.Core.Path.{_≡_, refl, sym, subst}
 use mathlib.Core.Logic.{_≢_}
 use mathlib.Core.Bool.{Bool, true, false, not, _&&_, _||_, cond}
 use mathlib.Core.List.{List, [], _∷_, _++_}
@@ -11,9 +11,9 @@ use lib.ListN.{length}
 use lib.Seq.{length-take-le}
 use lib.Dec.{eqb, ltb, leb}
 use borrow.Author.Tests.{ltb-true, ltb-false}
-use Rattle.meaning.specs.Diagram.{Diagram, leaf, node}
+use Rattle.meaning.specs.Diagram.{Diagram, leaf, node, same}
 use Rattle.meaning.specs.Operations as meaning
-use Rattle.meaning.specs.Rules.{Line, witnessed}
+use Rattle.meaning.specs.Rules.{Line, rup, witnessed}
 use Rattle.meaning.specs.Words.{inWord}
 use Rattle.meaning.proofs.Booleans.{t≢f}
 use Rattle.table.specs.Nodes.{Node, nodeOf, above, Placing, full, placed, find, orAppend, put, andThen, place}
@@ -27,15 +27,21 @@ use Rattle.records.specs.declared.SetKind.{SetKind}
 use Rattle.records.specs.declared.SetBody.{SetBody}
 use Rattle.records.specs.declared.Record.{Record}
 use Rattle.records.specs.declared.Record.the-variants.{NodeEntry, Witness, ProofLine, Strike, SetEntry, End, CutShort, UnknownKind, NoRecord}
-use Rattle.records.specs.Records.{recordAt, lengthOf}
-use Rattle.verdict.specs.Check.{State, Step, next, stop, spent, isEntry, entryNode, isVariable, entered, nodeStep, witnessStep, waiting, accepted, judged, diagramIn, lineStep, isLive, strikeStep, beyond, noParity, setDiagram, setStep, endStep, step, Verdict, left, afterStep, records, verdict}
-use Rattle.verdict.specs.Run.{Function, Meant, lineOf, peakWith, Making, follows, Reached, begins, goes, Ended, no-header, not-read, no-room, stopped, tried}
+use Rattle.commands.specs.declared.Mode.{Mode}
+use Rattle.commands.specs.declared.Form.{Form}
+use Rattle.commands.specs.declared.Form.the-variants.{Records, Text}
+use Rattle.commands.specs.Commands.{Command, recorded, added, struckOut, wrong, finished}
+use Rattle.verdict.specs.Steps.{State, Step, next, stop, spent, isEntry, entryNode, isVariable, entered, nodeStep, witnessStep, waiting, accepted, judged, diagramIn, lineStep, isLive, strikeStep, beyond, noParity, setDiagram, setStep, endStep, withEntry, liveMembers, recordStep}
+use Rattle.verdict.specs.Clausal.{withPeak, judgedOr, secondLine, secondTry, tries, onceMade, addStep, firstSame, strikeFound, strikeClause}
+use Rattle.verdict.specs.Check.{step, Verdict, left, afterStep, commands, verdict}
+use Rattle.verdict.specs.Taken.{Function, Meant, lineOf, peakWith}
+use Rattle.verdict.specs.Run.{Making, commandIn, nextIn, CommandTaken, Reached, begins, goes, Ended, no-header, not-read, no-room, stopped, tried}
 use Rattle.verdict.proofs.Formula.{Early, NamedHeader, header-named, either}
-use Rattle.verdict.proofs.Steps.{taken-step}
+use Rattle.verdict.proofs.Commands.{step-taken, taken-step, Fit, command-fit, command-goes}
 use Rattle.verdict.proofs.Standing.{Standing}
 use Rattle.verdict.proofs.Clauses.{underway}
-use Rattle.verdict.proofs.Ends.{reached-standing, ended}
-use Rattle.verdict.proofs.Numbers.{making-refused, Numbered, step-numbered}
+use Rattle.verdict.proofs.Ends.{reached-fit, reached-standing, ended}
+use Rattle.verdict.proofs.Numbers.{making-refused, proof-number, Closed, formula-refused, proof-ended, proof-tried, ended-closed}
 use Rattle.verdict.proofs.Exactly.{Ahead, reached-ahead}
 
 -- ---- placing
@@ -204,54 +210,136 @@ module _ (s : ℕ) where
         refuses (waiting st) 16 0 _ (λ q. omega arith)
         (refuses more 11 1 _ (λ q. omega arith) (refuses (st .refuted) 0 0 _ (λ q. omega arith) (λ q. omega arith)))
 
-    step-peaks : (more : Bool) (r : Record) → Peaks st (step n s st more r)
+    record-peaks : (more : Bool) (r : Record) → Peaks st (recordStep n s st more r)
+    unfolding recordStep
+    record-peaks more (NodeEntry b) = node-peaks b
+    record-peaks more (Witness v b) = witness-peaks v b
+    record-peaks more (ProofLine rule root) = line-peaks rule (root .0)
+    record-peaks more (Strike k) = strike-peaks (k .0)
+    record-peaks more (SetEntry kind b) = set-peaks kind b
+    record-peaks more End = end-peaks more
+    record-peaks more CutShort = λ q. omega arith
+    record-peaks more UnknownKind = λ q. omega arith
+    record-peaks more NoRecord = λ q. omega arith
+
+  -- ---- one clause
+
+  module _ (n : ℕ) (st : State) (X : Peaked st) where
+    line-reaches : (line : Line) → ReachWithin (lineReach s (st .nodes) line)
+    line-reaches line = line-within (st .nodes) line (omega (arith, X .covers, X .within))
+
+    second-peaks : (k : ℕ) (ls : List meaning.Literal) (peak : ℕ) → st .peak ≤ peak → peak ≤ s → Peaks st (secondTry n s st k ls peak)
+    unfolding secondTry
+    second-peaks k [] peak more most = (more, most, λ q. absurd (omega arith))
+    second-peaks k (p ∷ ls) peak more most =
+        wider (judged s (withPeak st peak) k line) (judged-peaks n (withPeak st peak) (record { covers = omega (arith, X .covers); within = most }) k line)
+      where
+        line : Line
+        line = secondLine n (liveMembers st) p ls
+
+        wider : (x : Step) → Peaks (withPeak st peak) x → Peaks st x
+        wider (next st′) (P, grows) = (P, omega arith)
+        wider (stop number offset) P = P
+        wider (spent number q) P = (omega (arith, P .0), P .1, P .2)
+
+    tries-peak : (k : ℕ) (ls : List meaning.Literal) → Peaks st (tries n s st k ls)
+    unfolding tries judgedOr
+    tries-peak k ls = go (lineReach s (st .nodes) line .fits) (line .shown) (R .none-left)
+      where
+        line : Line
+        line = rup n (liveMembers st) (meaning.clause n ls)
+
+        R : ReachWithin (lineReach s (st .nodes) line)
+        R = line-reaches line
+
+        go : (fits shown : Bool) → (fits ≡ false → lineReach s (st .nodes) line .peak ≡ s)
+            → Peaks st (cond (not fits) (spent 23 (peakWith s st line)) (cond (not shown) (secondTry n s st k ls (peakWith s st line)) (next (accepted st k line (peakWith s st line)))))
+        go false shown e = (omega arith, omega (arith, X .within, R .most), λ _. omega (arith, X .within, e refl))
+        go true false e = second-peaks k ls (peakWith s st line) (omega arith) (omega (arith, X .within, R .most))
+        go true true e = (record { covers = omega (arith, X .covers); within = omega (arith, X .within, R .most) }, omega arith)
+
+  module _ (n : ℕ) (st : State) (X : Peaked st) where
+    added-peaks : (ls : List meaning.Literal) → Peaks st (addStep n s st ls)
+    unfolding addStep
+    added-peaks ls =
+        refuses n st X (leb 1024 (st .lines)) 22 0 _ (λ q. omega arith)
+        (refuses n st X (same (meaning.clause n ls) (leaf true)) 17 0 _ (λ q. omega arith)
+        (made (place s (st .nodes) (meaning.clause n ls)) (place-within (st .nodes) (meaning.clause n ls) (omega (arith, X .covers, X .within)))))
+      where
+        wider : (t : List Node) (k : ℕ) (x : Step) → Peaks (withEntry st t k) x → Peaks st x
+        wider t k (next st′) (P, grows) = (P, omega arith)
+        wider t k (stop number offset) P = P
+        wider t k (spent number q) P = (omega (arith, P .0), P .1, P .2)
+
+        made : (p : Placing) → Within p → Peaks st (onceMade st p (λ st₁ k. tries n s st₁ k ls))
+        made (full t) w = (omega arith, omega (arith, X .within), λ _. omega (arith, X .within))
+        made (placed t k) w =
+            wider t k (tries n s (withEntry st t k) k ls) (tries-peak n (withEntry st t k) (record { covers = omega arith; within = omega (arith, X .within) }) k ls)
+
+    struck-peaks : (ls : List meaning.Literal) → Peaks st (strikeClause n st ls)
+    unfolding strikeClause
+    struck-peaks ls = go (firstSame (length (st .members)) st 0 (meaning.clause n ls))
+      where
+        go : (o : Option ℕ) → Peaks st (strikeFound st o)
+        go none = λ q. omega arith
+        go (some i) = (record { covers = X .covers; within = X .within }, omega arith)
+
+    step-peaks : (form : Form) (c : Command) → Fit form n c → Peaks st (step n s st c)
     unfolding step
-    step-peaks more (NodeEntry b) = node-peaks b
-    step-peaks more (Witness v b) = witness-peaks v b
-    step-peaks more (ProofLine rule root) = line-peaks rule (root .0)
-    step-peaks more (Strike k) = strike-peaks (k .0)
-    step-peaks more (SetEntry kind b) = set-peaks kind b
-    step-peaks more End = end-peaks more
-    step-peaks more CutShort = λ q. omega arith
-    step-peaks more UnknownKind = λ q. omega arith
-    step-peaks more NoRecord = λ q. omega arith
+    step-peaks Records (recorded r more) fit = record-peaks n st X more r
+    step-peaks Records (added ls) fit = absurd fit
+    step-peaks Records (struckOut ls) fit = absurd fit
+    step-peaks Records (wrong number offset) fit = absurd fit
+    step-peaks Records finished fit = absurd fit
+    step-peaks Text (recorded r more) fit = absurd fit
+    step-peaks Text (added ls) fit = added-peaks ls
+    step-peaks Text (struckOut ls) fit = struck-peaks ls
+    step-peaks Text (wrong number offset) fit = λ q. omega (arith, fit .1)
+    step-peaks Text finished fit = refuses n st X (st .refuted) 0 0 _ (λ q. omega arith) (λ q. omega arith)
 
   -- ---- the whole check
 
   -- The peak only grows to the end.
-  records-peak : (n : ℕ) (proof : List ℕ) (steps : ℕ) (st : State) (at : ℕ) → Peaked st → st .peak ≤ records steps n s proof st at .peak
-  unfolding records
-  records-peak n proof zero st at X = omega arith
-  records-peak n proof (suc steps) st at X = go (step n s st (follows proof at) (recordAt proof at)) (step-peaks n st X (follows proof at) (recordAt proof at)) (records-peak n proof steps)
+  commands-peak : (mode : Mode) (n : ℕ) (proof : List ℕ) (steps : ℕ) (st : State) (at : ℕ) → at ≤ length proof → Peaked st → st .peak ≤ commands steps mode n s proof st at .peak
+  unfolding commands
+  commands-peak mode n proof zero st at within X = omega arith
+  commands-peak mode n proof (suc steps) st at within X =
+      go (step n s st (commandIn mode proof n at)) refl (step-peaks n st X (mode .form) (commandIn mode proof n at) (command-fit (mode .form) proof n at within)) (commands-peak mode n proof steps)
     where
       next-at : ℕ
-      next-at = at + lengthOf (recordAt proof at)
+      next-at = nextIn mode proof n at
 
-      go : (x : Step) → Peaks st x → ((st′ : State) (at′ : ℕ) → Peaked st′ → st′ .peak ≤ records steps n s proof st′ at′ .peak)
-          → st .peak ≤ afterStep x st at (λ st′. records steps n s proof st′ next-at) .peak
-      go (stop number offset) p rec = omega arith
-      go (spent number peak) p rec = p .0
-      go (next st′) p rec = omega (arith, p .1, rec st′ next-at (p .0))
+      go : (x : Step) → step n s st (commandIn mode proof n at) ≡ x → Peaks st x
+          → ((st′ : State) (at′ : ℕ) → at′ ≤ length proof → Peaked st′ → st′ .peak ≤ commands steps mode n s proof st′ at′ .peak)
+          → st .peak ≤ afterStep x st at (λ st′. commands steps mode n s proof st′ next-at) .peak
+      go (stop number offset) e p rec = omega arith
+      go (spent number peak) e p rec = p .0
+      go (next st′) e p rec =
+          let T : CommandTaken n s st (commandIn mode proof n at) st′ = step-taken n s st (commandIn mode proof n at) st′ e in
+          omega (arith, p .1, rec st′ next-at (command-goes (mode .form) proof n s st st′ at within T .1) (p .0))
 
-  module _ (two : 2 ≤ s) (text proof : List ℕ) where
+  module _ (two : 2 ≤ s) (mode : Mode) (text proof : List ℕ) where
     making-count : {n many : ℕ} {t : List Node} {ms : List ℕ} {fs : List Function} {r : Reading} → Making s text n many t ms fs r → (2 ≤ length t) × (length t ≤ s)
     making-count {n} {many} M = let S = underway s text n many M .standing in (S .ordered .two, S .room two)
 
-    reached-peaked : {n : ℕ} {st : State} {at : ℕ} {m : Meant} → Reached s text proof n st at m → Peaked st
+    reached-peaks : {n : ℕ} {st : State} {at : ℕ} {m : Meant} → Reached mode s text proof n st at m → Peaked st → Peaks st (step n s st (commandIn mode proof n at))
+    reached-peaks {n} {st} {at} R X = step-peaks n st X (mode .form) (commandIn mode proof n at) (reached-fit mode s text proof R)
+
+    reached-peaked : {n : ℕ} {st : State} {at : ℕ} {m : Meant} → Reached mode s text proof n st at m → Peaked st
     reached-peaked (begins M) = record { covers = omega arith; within = making-count M .1 }
     reached-peaked {n} (goes {st} {st′} {at} R T) =
-        subst (Peaks st) (taken-step n s st (follows proof at) (recordAt proof at) st′ T) (step-peaks n st (reached-peaked R) (follows proof at) (recordAt proof at)) .0
+        subst (Peaks st) (taken-step n s st (commandIn mode proof n at) st′ T) (reached-peaks R (reached-peaked R)) .0
 
     -- In every state that the check reaches the peak covers the count.
-    pub peak-covers : {n : ℕ} {st : State} {at : ℕ} {m : Meant} → Reached s text proof n st at m → length (st .nodes) ≤ st .peak
+    pub peak-covers : {n : ℕ} {st : State} {at : ℕ} {m : Meant} → Reached mode s text proof n st at m → length (st .nodes) ≤ st .peak
     peak-covers R = reached-peaked R .covers
 
     -- "the greatest count reached, dropped nodes included": what the check reports covers every state that it reaches.
-    pub peak-greatest : {n : ℕ} {st : State} {at : ℕ} {m : Meant} → Reached s text proof n st at m → length (st .nodes) ≤ verdict s text proof .peak
+    pub peak-greatest : {n : ℕ} {st : State} {at : ℕ} {m : Meant} → Reached mode s text proof n st at m → length (st .nodes) ≤ verdict mode s text proof .peak
     peak-greatest {n} {st} {at} R =
         let X : Peaked st = reached-peaked R in
-        let A : Ahead s text proof n st at = reached-ahead s text proof R in
-        rw (A .is) (omega (arith, X .covers, records-peak n proof (A .steps) st at X))
+        let A : Ahead mode s text proof n st at = reached-ahead mode s text proof R in
+        rw (A .is) (omega (arith, X .covers, commands-peak mode n proof (A .steps) st at (A .within) X))
 
     -- What the check reports: at least the constants and the count that it leaves, at most the table's places, and all of them with 8 and 23.
     pub record Reported (v : Verdict) : Type 0 where
@@ -261,10 +349,10 @@ module _ (s : ℕ) where
       pub clause-full : v .number ≡ 8 → v .peak ≡ s
       pub proof-full : v .number ≡ 23 → v .peak ≡ s
 
-    reached-reported : {n : ℕ} {st : State} {at : ℕ} {m : Meant} → Reached s text proof n st at m → (number place peak : ℕ) → st .peak ≤ peak → peak ≤ s
+    reached-reported : {n : ℕ} {st : State} {at : ℕ} {m : Meant} → Reached mode s text proof n st at m → (number place peak : ℕ) → st .peak ≤ peak → peak ≤ s
         → number ≢ 8 → (number ≡ 23 → peak ≡ s) → Reported (left number place peak st)
     reached-reported {n} {st} {at} {m} R number place peak more most other filled =
-        let S : Standing s n m st = reached-standing s text proof R .1 in
+        let S : Standing s n m st = reached-standing mode s text proof R .1 in
         let X : Peaked st = reached-peaked R in
         record {
           least = omega (arith, S .ordered .two, X .covers);
@@ -278,28 +366,32 @@ module _ (s : ℕ) where
     early-reported v named emptied least most =
         record { least = least; most = most; left = omega arith; clause-full = λ e. absurd (omega arith); proof-full = λ e. absurd (omega arith) }
 
-    ended-reported : (v : Verdict) → Ended s text proof v → Reported v
+    -- a number of the proof is not 8
+    not-eight : {v : Verdict} → Closed mode s text proof v → v .inProof ≡ true → v .number ≢ 8
+    not-eight (formula-refused named) f = t≢f (sym f)
+    not-eight (proof-ended {n} {number} P R e) f = proof-number (mode .form) number P .2
+    not-eight (proof-tried {n} {number} P R e) f = proof-number (mode .form) number (P .0) .2
+
+    ended-reported : (v : Verdict) → Ended mode s text proof v → Reported v
     ended-reported _ (no-header e) = early-reported _ (subst NamedHeader e (header-named text)) refl (omega arith) two
     ended-reported _ (not-read M) = early-reported _ (making-refused s text M) refl (making-count M .0) (making-count M .1)
     ended-reported _ (no-room {n} {many} {first} {t} {t₁} {ms} {fs} {ls} {rest} M e) =
         let filled : length t₁ ≡ s = subst Within e (place-within t (meaning.clause n ls) (making-count M .1)) in
         record { least = omega arith; most = omega arith; left = omega arith; clause-full = λ _. filled; proof-full = λ q. absurd (omega arith) }
     ended-reported _ (stopped {n} {number} {offset} {at} {st} R e) =
-        let P : number ≢ 23 = subst (Peaks st) e (step-peaks n st (reached-peaked R) (follows proof at) (recordAt proof at)) in
-        let N : Numbered (stop number offset) = subst Numbered e (step-numbered n s st (follows proof at) (recordAt proof at)) in
-        reached-reported R number (at + offset) (st .peak) (omega arith) (reached-peaked R .within) (λ q. omega (arith, N .1 (λ z. omega arith))) (λ q. absurd (P q))
+        let P : number ≢ 23 = subst (Peaks st) e (reached-peaks R (reached-peaked R)) in
+        reached-reported R number (at + offset) (st .peak) (omega arith) (reached-peaked R .within) (not-eight (ended-closed mode s text proof _ (stopped R e)) refl) (λ q. absurd (P q))
     ended-reported _ (tried {n} {number} {peak} {at} {st} R e) =
-        let P : Peaks st (spent number peak) = subst (Peaks st) e (step-peaks n st (reached-peaked R) (follows proof at) (recordAt proof at)) in
-        let N : Numbered (spent number peak) = subst Numbered e (step-numbered n s st (follows proof at) (recordAt proof at)) in
-        reached-reported R number at peak (P .0) (P .1) (λ q. omega (arith, N .0)) (P .2)
+        let P : Peaks st (spent number peak) = subst (Peaks st) e (reached-peaks R (reached-peaked R)) in
+        reached-reported R number at peak (P .0) (P .1) (not-eight (ended-closed mode s text proof _ (tried R e)) refl) (P .2)
 
-    pub peak-reported : Reported (verdict s text proof)
-    peak-reported = ended-reported (verdict s text proof) (ended s text proof)
+    pub peak-reported : Reported (verdict mode s text proof)
+    peak-reported = ended-reported (verdict mode s text proof) (ended mode s text proof)
 
     -- The table is never exceeded.
-    pub peak-within : (2 ≤ verdict s text proof .peak) × (verdict s text proof .peak ≤ s)
+    pub peak-within : (2 ≤ verdict mode s text proof .peak) × (verdict mode s text proof .peak ≤ s)
     peak-within = (peak-reported .least, peak-reported .most)
 
     -- With 8 and with 23 every place was taken.
-    pub peak-full : (verdict s text proof .number ≡ 8 → verdict s text proof .peak ≡ s) × (verdict s text proof .number ≡ 23 → verdict s text proof .peak ≡ s)
+    pub peak-full : (verdict mode s text proof .number ≡ 8 → verdict mode s text proof .peak ≡ s) × (verdict mode s text proof .number ≡ 23 → verdict mode s text proof .peak ≡ s)
     peak-full = (peak-reported .clause-full, peak-reported .proof-full)

@@ -1,5 +1,5 @@
 -- Number 0 is given only where no assignment satisfies the formula, whatever the proof's bytes. The idea: where one satisfies the formula an
--- accepted line keeps the live members satisfiable (meaning/proofs/Soundness), so that no line is 0; a striking only leaves fewer. Assumes nothing.
+-- accepted line or clause keeps the live members satisfiable (meaning/proofs/Soundness), so that none is 0; a striking only leaves fewer. Assumes nothing.
 use mathlib.Core.Path.{_≡_, refl, sym, ap, ap₂, _∙_, subst}
 use mathlib.Core.Bool.{Bool, true, false, _&&_, cond}
 use mathlib.Core.List.{List, [], _∷_, _++_, map, append-nil}
@@ -23,18 +23,26 @@ use Rattle.records.specs.declared.Rule.{Rule}
 use Rattle.records.specs.declared.Rule.the-variants.{Rup, Pr}
 use Rattle.records.specs.declared.Record.{Record}
 use Rattle.records.specs.declared.Record.the-variants.{NodeEntry, Witness, ProofLine, Strike, SetEntry, End, CutShort, UnknownKind, NoRecord}
-use Rattle.records.specs.Records.{recordAt}
+use Rattle.commands.specs.declared.Mode.{Mode}
+use Rattle.commands.specs.declared.Form.{Form}
+use Rattle.commands.specs.declared.Form.the-variants.{Records, Text}
+use Rattle.commands.specs.Commands.{Command, recorded, added, struckOut, wrong, finished}
 use Rattle.table.specs.Columns.{Columns}
-use Rattle.verdict.specs.Check.{State, begun, entryNode, diagramIn, unstruck, liveMembers, Verdict, verdict, Outcome, lentFits, outcome, check}
-use Rattle.verdict.specs.Run.{Function, Meant, entryMeant, afterRecord, Valued, LineTaken, Taken, Making, opened, made, follows, Reached, begins, goes}
+use Rattle.verdict.specs.Steps.{State, begun, entryNode, diagramIn, unstruck, liveMembers}
+use Rattle.verdict.specs.Check.{Verdict, verdict, Outcome, lentFits, outcome, check}
+use Rattle.verdict.specs.Taken.{Function, Meant, entryMeant, afterRecord, Valued, LineTaken, Taken}
+use Rattle.verdict.specs.Run.{Making, opened, made, commandIn, CommandTaken, afterCommand, Reached, begins, goes}
 use Rattle.verdict.specs.Satisfies.{clausesOf, readToEnd, satisfies, Unsatisfiable}
-use Rattle.verdict.proofs.Steps.{step-refutes}
 use Rattle.verdict.proofs.Standing.{Standing, valued-length, entry-valued}
 use Rattle.verdict.proofs.Live.{unstruck-append, unstruck-none, valued-unstruck}
 use Rattle.verdict.proofs.Formula.{Read, clauses-read}
 use Rattle.verdict.proofs.Fitted.{fitted, fitted-length}
 use Rattle.verdict.proofs.Clauses.{clause-fitted, underway}
-use Rattle.verdict.proofs.Ends.{reached-standing, ended}
+use Rattle.verdict.specs.ClauseTaken.{ClauseTaken}
+use Rattle.verdict.proofs.Added.{clause-line, clause-keeps, clause-node}
+use Rattle.verdict.proofs.Commands.{Fit}
+use Rattle.verdict.proofs.Ends.{reached-fit, reached-standing, ended}
+use Rattle.verdict.proofs.Refutes.{step-refutes}
 use Rattle.verdict.proofs.Numbers.{Closed, formula-refused, proof-ended, proof-tried, ended-closed}
 
 -- ---- functions that are 1 under an assignment
@@ -131,11 +139,11 @@ module _ {s n : ℕ} {m : Meant} {st : State} (S : Standing s n m st) where
       (members-satisfied a (st .nodes) (st .kept) (unstruck (st .struck) (st .members)) (liveMeant st m) live-valued all) in
       (b, lb, satisfied-members b (st .nodes) (st .kept) (unstruck (st .struck) (st .members)) (liveMeant st m) live-valued sat, sym (is b) ∙ one)
 
-  -- the line is one more live member
-  line-live : (root : ℕ) → unstruck (st .struck ++ 0 ∷ []) (m .members ++ entryMeant m root ∷ []) ≡ liveMeant st m ++ entryMeant m root ∷ []
-  line-live root = unstruck-append (st .struck) (m .members) (entryMeant m root) (S .marks ∙ valued-length (st .nodes) (st .kept) (st .members) (m .members) (S .members))
+  -- an accepted line is one more live member
+  live-append : (f : Function) → unstruck (st .struck ++ 0 ∷ []) (m .members ++ f ∷ []) ≡ liveMeant st m ++ f ∷ []
+  live-append f = unstruck-append (st .struck) (m .members) f (S .marks ∙ valued-length (st .nodes) (st .kept) (st .members) (m .members) (S .members))
 
-  module _ (text : List ℕ) (H : Sound text n m st) where
+  module _ (narrow : n ≤ 64) (text : List ℕ) (H : Sound text n m st) where
     line-sound : (rule : Rule) (root : ℕ) (st′ : State) → LineTaken n s st rule root st′
         → Sound text n (record { members = m .members ++ entryMeant m root ∷ []; entries = [] }) st′
     unfolding valueFrom
@@ -145,7 +153,7 @@ module _ {s n : ℕ} {m : Meant} {st : State} (S : Standing s n m st) where
           kept = λ a len sat.
               let (c, lc, all) = H .kept a len sat in
               let (b, lb, live, one) = line-keeps rule root st′ T c lc all in
-              (b, lb, rw (line-live root) (all-append b (liveMeant st m) (entryMeant m root) live one));
+              (b, lb, rw (live-append (entryMeant m root)) (all-append b (liveMeant st m) (entryMeant m root) live one));
           zero = λ e a len sat. or-cases (st .refuted) (eqb (entryNode st root) 0) e (λ x. H .zero x a len sat) (λ x.
               let (c, lc, all) = H .kept a len sat in
               let (b, lb, live, one) = line-keeps rule root st′ T c lc all in
@@ -165,20 +173,61 @@ module _ {s n : ℕ} {m : Meant} {st : State} (S : Standing s n m st) where
     struck-are : (st₁ st′ : State) → st₁ ≡ st′ → (b : Assignment) → AllOne b (unstruck (st₁ .struck) (m .members)) → AllOne b (unstruck (st′ .struck) (m .members))
     struck-are st₁ st′ is b all = subst (λ (x : State). AllOne b (unstruck (x .struck) (m .members))) is all
 
-    step-sound : (r : Record) (st′ : State) → Taken n s st r st′ → Sound text n (afterRecord m r) st′
+    record-sound : (r : Record) (st′ : State) → Taken n s st r st′ → Sound text n (afterRecord m r) st′
     unfolding afterRecord
-    step-sound (NodeEntry b) st′ T = same-sound (afterRecord m (NodeEntry b)) st′ (struck-are _ st′ (T .is)) (ap (λ (x : State). x .refuted) (T .is))
-    step-sound (Witness v b) st′ T = same-sound m st′ (struck-are _ st′ (T .is)) (ap (λ (x : State). x .refuted) (T .is))
-    step-sound (ProofLine rule root) st′ T = line-sound rule (root .0) st′ T
-    step-sound (Strike k) st′ T =
+    record-sound (NodeEntry b) st′ T = same-sound (afterRecord m (NodeEntry b)) st′ (struck-are _ st′ (T .is)) (ap (λ (x : State). x .refuted) (T .is))
+    record-sound (Witness v b) st′ T = same-sound m st′ (struck-are _ st′ (T .is)) (ap (λ (x : State). x .refuted) (T .is))
+    record-sound (ProofLine rule root) st′ T = line-sound rule (root .0) st′ T
+    record-sound (Strike k) st′ T =
         same-sound m st′ (λ b all. struck-are _ st′ (T .is) b (all-fewer b (st .struck) (k .0) (m .members) all)) (ap (λ (x : State). x .refuted) (T .is))
-    step-sound (SetEntry kind b) st′ T = same-sound (afterRecord m (SetEntry kind b)) st′ (struck-are _ st′ (T .is)) (ap (λ (x : State). x .refuted) (T .is))
-    step-sound End st′ T = absurd T
-    step-sound CutShort st′ T = absurd T
-    step-sound UnknownKind st′ T = absurd T
-    step-sound NoRecord st′ T = absurd T
+    record-sound (SetEntry kind b) st′ T = same-sound (afterRecord m (SetEntry kind b)) st′ (struck-are _ st′ (T .is)) (ap (λ (x : State). x .refuted) (T .is))
+    record-sound End st′ T = absurd T
+    record-sound CutShort st′ T = absurd T
+    record-sound UnknownKind st′ T = absurd T
+    record-sound NoRecord st′ T = absurd T
 
-module _ (s : ℕ) (text proof : List ℕ) where
+    -- the clause is one more live member, and where it is 0 no assignment is left
+    clause-sound : (ls : List meaning.Literal) → Within n ls → (st′ : State) → ClauseTaken n s st ls st′
+        → Sound text n (record { members = m .members ++ meaning.clauseValue ls ∷ []; entries = [] }) st′
+    unfolding valueFrom
+    clause-sound ls w st′ T =
+        let (line, peak, is) = clause-line S narrow ls w st′ T in
+        let f : Function = meaning.clauseValue ls in
+        subst (Sound text n (record { members = m .members ++ f ∷ []; entries = [] })) is (record {
+          kept = λ a len sat.
+              let (c, lc, all) = H .kept a len sat in
+              let (b, lb, live, one) = keeps ls w st′ T c lc all in
+              (b, lb, rw (live-append f) (all-append b (liveMeant st m) f live one));
+          zero = λ e a len sat. or-cases (st .refuted) (eqb (T .node) 0) e (λ x. H .zero x a len sat) (λ x.
+              let (c, lc, all) = H .kept a len sat in
+              let (b, lb, live, one) = keeps ls w st′ T c lc all in
+              t≢f (sym one ∙ sym (clause-node S narrow ls (T .nodes) (T .node) (T .room) w b)
+              ∙ ap (λ (k : ℕ). value (diagramAt (T .nodes) k) b) (eqb-true (T .node) 0 x)
+              ∙ ap (λ (D : Diagram). value D b) (diagramAt-zero (T .nodes))));
+        })
+      where
+        keeps : (ls : List meaning.Literal) → Within n ls → (st′ : State) → ClauseTaken n s st ls st′ → (a : Assignment) → length a ≡ n → AllOne a (liveMeant st m)
+            → (b : Assignment) × (length b ≡ n) × AllOne b (liveMeant st m) × (meaning.clauseValue ls b ≡ true)
+        keeps ls w st′ T a len all =
+            let ks : List ℕ = unstruck (st .struck) (st .members) in
+            let (b, lb, sat, one) = clause-keeps S narrow ls w st′ T a len (members-satisfied a (st .nodes) (st .kept) ks (liveMeant st m) live-valued all) in
+            (b, lb, satisfied-members b (st .nodes) (st .kept) ks (liveMeant st m) live-valued sat, one)
+
+    pub step-sound : (form : Form) (c : Command) → Fit form n c → (st′ : State) → CommandTaken n s st c st′ → Sound text n (afterCommand m c) st′
+    unfolding afterCommand
+    step-sound Records (recorded r more) fit st′ T = record-sound r st′ T
+    step-sound Records (added ls) fit st′ T = absurd fit
+    step-sound Records (struckOut ls) fit st′ T = absurd fit
+    step-sound Records (wrong number offset) fit st′ T = absurd T
+    step-sound Records finished fit st′ T = absurd T
+    step-sound Text (recorded r more) fit st′ T = absurd fit
+    step-sound Text (added ls) fit st′ T = clause-sound ls fit st′ T
+    step-sound Text (struckOut ls) fit st′ C =
+        same-sound m st′ (λ b all. struck-are _ st′ (C .is) b (all-fewer b (st .struck) (C .place) (m .members) all)) (ap (λ (x : State). x .refuted) (C .is))
+    step-sound Text (wrong number offset) fit st′ T = absurd T
+    step-sound Text finished fit st′ T = absurd T
+
+module _ (mode : Mode) (s : ℕ) (text proof : List ℕ) where
   -- the members made are the clauses of the formula
   begun-sound : (n many : ℕ) (t : List Node) (ms : List ℕ) (fs : List Function) → Making s text n many t ms fs complete
       → Sound text n (record { members = fs; entries = [] }) (begun t ms)
@@ -189,9 +238,11 @@ module _ (s : ℕ) (text proof : List ℕ) where
     zero = λ e a len sat. t≢f (sym e);
   }
 
-  reached-sound : {n : ℕ} {st : State} {at : ℕ} {m : Meant} → Reached s text proof n st at m → Sound text n m st
+  reached-sound : {n : ℕ} {st : State} {at : ℕ} {m : Meant} → Reached mode s text proof n st at m → Sound text n m st
   reached-sound {n} (begins {many} {t} {ms} {fs} M) = begun-sound n many t ms fs M
-  reached-sound (goes {st} {st′} {at} R T) = step-sound (reached-standing s text proof R .1) text (reached-sound R) (recordAt proof at) st′ T
+  reached-sound {n} (goes {st} {st′} {at} R T) =
+      let (narrow, S) = reached-standing mode s text proof R in
+      step-sound S narrow text (reached-sound R) (mode .form) (commandIn mode proof n at) (reached-fit mode s text proof R) st′ T
 
   -- ---- the formula of a reached state
 
@@ -201,11 +252,11 @@ module _ (s : ℕ) (text proof : List ℕ) where
       rw (formula-proper text n many at e) (read-within n many (clausesFrom text n many at) (clauses-read text n many at (h .2)))
   making-within (made M e) = making-within M
 
-  reached-within : {n : ℕ} {st : State} {at : ℕ} {m : Meant} → Reached s text proof n st at m → AllWithin n (clausesOf (formula text))
+  reached-within : {n : ℕ} {st : State} {at : ℕ} {m : Meant} → Reached mode s text proof n st at m → AllWithin n (clausesOf (formula text))
   reached-within (begins M) = making-within M
   reached-within (goes R e) = reached-within R
 
-  pub reached-end : {n : ℕ} {st : State} {at : ℕ} {m : Meant} → Reached s text proof n st at m → readToEnd (formula text) ≡ true
+  pub reached-end : {n : ℕ} {st : State} {at : ℕ} {m : Meant} → Reached mode s text proof n st at m → readToEnd (formula text) ≡ true
   unfolding readToEnd
   reached-end {n} (begins {many} M) = sym (underway s text n many M .end)
   reached-end (goes R e) = reached-end R
@@ -213,16 +264,16 @@ module _ (s : ℕ) (text proof : List ℕ) where
   -- ---- the theorem
 
   -- The number 0 is given: the formula was read to its end, and no assignment, of as many variables as one likes, satisfies it.
-  pub refuted : verdict s text proof .number ≡ 0 → Unsatisfiable text
-  refuted zero-said = go (verdict s text proof) (ended-closed s text proof (verdict s text proof) (ended s text proof)) zero-said
+  pub refuted : verdict mode s text proof .number ≡ 0 → Unsatisfiable text
+  refuted zero-said = go (verdict mode s text proof) (ended-closed mode s text proof (verdict mode s text proof) (ended mode s text proof)) zero-said
     where
-      go : (v : Verdict) → Closed s text proof v → v .number ≡ 0 → Unsatisfiable text
+      go : (v : Verdict) → Closed mode s text proof v → v .number ≡ 0 → Unsatisfiable text
       go _ (formula-refused named) z = absurd (omega arith)
       go _ (proof-tried late R e) z = absurd (omega arith)
       go _ (proof-ended {n} {number} {offset} {at} {st} {m} _ R e) z = (
         reached-end R,
         (λ a. not-true (satisfies a (clausesOf (formula text))) (λ sat.
-            reached-sound R .zero (step-refutes n s st (follows proof at) (recordAt proof at) offset (rw z at e) .zero-line) (fitted n a) (fitted-length n a)
+            reached-sound R .zero (step-refutes (mode .form) n s st (commandIn mode proof n at) (reached-fit mode s text proof R) offset (rw z at e) .zero-line) (fitted n a) (fitted-length n a)
             (satisfies-fitted n (clausesOf (formula text)) (reached-within R) a ∙ sat))),
       )
 
@@ -233,10 +284,10 @@ said-zero true x y seven e = e
 said-zero false x y seven e = absurd (omega arith)
 
 -- The same of the call, whatever the lent places held.
-pub check-refuted : (c : Columns) (count : ℕ) (members struck scratch text proof : List ℕ)
-    → check c count members struck scratch text proof .number ≡ 0
+pub check-refuted : (mode : Mode) (c : Columns) (count : ℕ) (members struck scratch text proof : List ℕ)
+    → check mode c count members struck scratch text proof .number ≡ 0
     → Unsatisfiable text
 unfolding check outcome
-check-refuted c count members struck scratch text proof e =
-    refuted (length (c .vars)) text proof
-    (said-zero (lentFits c members struck scratch) (outcome (length (c .vars)) (length members) (length scratch) (verdict (length (c .vars)) text proof)) _ refl e)
+check-refuted mode c count members struck scratch text proof e =
+    refuted mode (length (c .vars)) text proof
+    (said-zero (lentFits c members struck scratch) (outcome (length (c .vars)) (length members) (length scratch) (verdict mode (length (c .vars)) text proof)) _ refl e)

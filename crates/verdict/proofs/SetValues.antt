@@ -15,8 +15,8 @@ use Rattle.meaning.proofs.Sets.{trues-take, word-within}
 use Rattle.records.specs.declared.SetKind.{SetKind}
 use Rattle.records.specs.declared.SetKind.the-variants.{Parity, AtLeast}
 use Rattle.records.specs.declared.SetBody.{SetBody}
-use Rattle.verdict.specs.Check.{setDiagram}
-use Rattle.verdict.specs.Run.{setMeant}
+use Rattle.verdict.specs.Steps.{setDiagram}
+use Rattle.verdict.specs.Taken.{setMeant}
 use Rattle.verdict.proofs.Fitted.{fitted, diagram-fitted}
 
 module _ (S : ℕ → Bool) where

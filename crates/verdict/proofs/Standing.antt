@@ -6,7 +6,7 @@ use mathlib.Core.Bool.{Bool, true, false}
 use mathlib.Core.List.{List, [], _∷_, _++_}
 use Prim.Native.Nat.{ℕ, zero, suc, _+_, _≤_, _<_}
 use native.Mathlib.Omega.{arith}
-use lib.ListN.{length, getD, take, length-append, length-set}
+use lib.ListN.{length, getD, set, take, length-append, length-set}
 use borrow.Author.Tests.{ltb-true}
 use Rattle.meaning.specs.Diagram.{Assignment, Diagram, value, valueFrom, Reduced, branch}
 use Rattle.meaning.proofs.Canonical.{reduced-from, branch-reduced}
@@ -22,8 +22,9 @@ use Rattle.records.specs.declared.SetBody.{SetBody}
 use Rattle.records.specs.declared.Rule.{Rule}
 use Rattle.records.specs.declared.Record.{Record}
 use Rattle.records.specs.declared.Record.the-variants.{NodeEntry, Witness, ProofLine, Strike, SetEntry, End, CutShort, UnknownKind, NoRecord}
-use Rattle.verdict.specs.Check.{State, numbered, isEntry, entryNode, setDiagram}
-use Rattle.verdict.specs.Run.{Function, Meant, numberedMeant, entryMeant, nodeMeant, setMeant, afterRecord, Valued, withEntry, NodeTaken, WitnessTaken, LineTaken, StrikeTaken, SetTaken, Taken}
+use Rattle.verdict.specs.Steps.{State, numbered, isEntry, entryNode, setDiagram}
+use Rattle.verdict.specs.Steps.{withEntry, withMarks}
+use Rattle.verdict.specs.Taken.{Function, Meant, numberedMeant, entryMeant, nodeMeant, setMeant, afterRecord, Valued, NodeTaken, WitnessTaken, LineTaken, StrikeTaken, SetTaken, Taken}
 use Rattle.verdict.proofs.SetValues.{set-reduced, set-valued}
 use Rattle.verdict.proofs.Uses.{UsesAfter, place-uses}
 
@@ -214,8 +215,9 @@ module _ {s n : ℕ} {m : Meant} {st : State} (S : Standing s n m st) (narrow : 
     many = S .many;
   })
 
-  strike-standing : (k : ℕ) (st′ : State) → StrikeTaken st k st′ → Standing s n m st′
-  strike-standing k st′ T = subst (Standing s n m) (T .is) (record {
+  -- a striking, by number or by clause
+  pub struck-standing : (k : ℕ) (st′ : State) → withMarks st (set (st .struck) k 1) ≡ st′ → Standing s n m st′
+  struck-standing k st′ is = subst (Standing s n m) is (record {
     ordered = S .ordered;
     uses = S .uses;
     room = S .room;
@@ -248,25 +250,25 @@ module _ {s n : ℕ} {m : Meant} {st : State} (S : Standing s n m st) (narrow : 
         many = omega (arith, length-append (st .members) (entryNode st root ∷ []), S .many);
       })
 
-  pub step-standing : (r : Record) (st′ : State) → Taken n s st r st′ → Standing s n (afterRecord m r) st′
+  pub record-standing : (r : Record) (st′ : State) → Taken n s st r st′ → Standing s n (afterRecord m r) st′
   unfolding afterRecord
-  step-standing (NodeEntry b) st′ T = node-standing b st′ T
-  step-standing (Witness v b) st′ T = witness-standing v b st′ T
-  step-standing (ProofLine rule root) st′ T = line-standing rule (root .0) st′ T
-  step-standing (Strike k) st′ T = strike-standing (k .0) st′ T
-  step-standing (SetEntry kind b) st′ T = set-standing kind b st′ T
-  step-standing End st′ T = absurd T
-  step-standing CutShort st′ T = absurd T
-  step-standing UnknownKind st′ T = absurd T
-  step-standing NoRecord st′ T = absurd T
+  record-standing (NodeEntry b) st′ T = node-standing b st′ T
+  record-standing (Witness v b) st′ T = witness-standing v b st′ T
+  record-standing (ProofLine rule root) st′ T = line-standing rule (root .0) st′ T
+  record-standing (Strike k) st′ T = struck-standing (k .0) st′ (T .is)
+  record-standing (SetEntry kind b) st′ T = set-standing kind b st′ T
+  record-standing End st′ T = absurd T
+  record-standing CutShort st′ T = absurd T
+  record-standing UnknownKind st′ T = absurd T
+  record-standing NoRecord st′ T = absurd T
 
-  pub step-extends : (r : Record) (st′ : State) → Taken n s st r st′ → Extends (st .nodes) (st′ .nodes)
-  step-extends (NodeEntry b) st′ T = node-extends b st′ T
-  step-extends (Witness v b) st′ T = subst (λ (x : State). Extends (st .nodes) (x .nodes)) (T .is) (extends-same (st .nodes))
-  step-extends (ProofLine rule root) st′ T = subst (λ (x : State). Extends (st .nodes) (x .nodes)) (T .is) (extends-same (st .nodes))
-  step-extends (Strike k) st′ T = subst (λ (x : State). Extends (st .nodes) (x .nodes)) (T .is) (extends-same (st .nodes))
-  step-extends (SetEntry kind b) st′ T = set-extends kind b st′ T
-  step-extends End st′ T = absurd T
-  step-extends CutShort st′ T = absurd T
-  step-extends UnknownKind st′ T = absurd T
-  step-extends NoRecord st′ T = absurd T
+  pub record-extends : (r : Record) (st′ : State) → Taken n s st r st′ → Extends (st .nodes) (st′ .nodes)
+  record-extends (NodeEntry b) st′ T = node-extends b st′ T
+  record-extends (Witness v b) st′ T = subst (λ (x : State). Extends (st .nodes) (x .nodes)) (T .is) (extends-same (st .nodes))
+  record-extends (ProofLine rule root) st′ T = subst (λ (x : State). Extends (st .nodes) (x .nodes)) (T .is) (extends-same (st .nodes))
+  record-extends (Strike k) st′ T = subst (λ (x : State). Extends (st .nodes) (x .nodes)) (T .is) (extends-same (st .nodes))
+  record-extends (SetEntry kind b) st′ T = set-extends kind b st′ T
+  record-extends End st′ T = absurd T
+  record-extends CutShort st′ T = absurd T
+  record-extends UnknownKind st′ T = absurd T
+  record-extends NoRecord st′ T = absurd T

@@ -22,8 +22,10 @@ use Rattle.records.specs.declared.SetBody.{SetBody}
 use Rattle.records.specs.declared.Rule.{Rule}
 use Rattle.records.specs.declared.Rule.the-variants.{Rup, Pr}
 use Rattle.records.specs.Records.{numberOf}
-use Rattle.verdict.specs.Check.{State, Step, next, stop, spent, isEntry, entryNode, isVariable, entered, nodeStep, witnessStep, waiting, accepted, judged, diagramIn, lineStep, isLive, strikeStep, beyond, noParity, setDiagram, setStep, endStep, step}
-use Rattle.verdict.specs.Run.{withEntry, NodeTaken, WitnessTaken, lineOf, peakWith, LineTaken, StrikeTaken, SetTaken, Taken}
+use Rattle.verdict.specs.Steps.{State, Step, next, stop, spent, isEntry, entryNode, isVariable, entered, nodeStep, witnessStep, waiting, accepted, judged, diagramIn, lineStep, isLive, strikeStep, beyond, noParity, setDiagram, setStep, endStep}
+use Rattle.verdict.specs.Steps.{recordStep}
+use Rattle.verdict.specs.Steps.{withEntry}
+use Rattle.verdict.specs.Taken.{NodeTaken, WitnessTaken, lineOf, peakWith, LineTaken, StrikeTaken, SetTaken, Taken}
 
 pub stop-not-next : {A : Type 0} (number offset : ℕ) (st : State) → stop number offset ≡ next st → A
 stop-not-next number offset st e = let z : _≡_ {A = ℕ} 0 1 = cc in absurd (omega arith)
@@ -205,36 +207,36 @@ end-not-next st more st′ e = go (waiting st) more (st .refuted) e
 -- ---- every record
 
 -- A record gives a next state exactly where it passes what its kind asks.
-pub step-taken : (n s : ℕ) (st : State) (more : Bool) (r : Record) (st′ : State) → step n s st more r ≡ next st′ → Taken n s st r st′
-unfolding step
-step-taken n s st more (NodeEntry b) st′ e = node-taken n s st b st′ e
-step-taken n s st more (Witness v b) st′ e = witness-taken n st v b st′ e
-step-taken n s st more (ProofLine rule root) st′ e = line-taken n s st rule (root .0) st′ e
-step-taken n s st more (Strike k) st′ e = strike-taken st (k .0) st′ e
-step-taken n s st more (SetEntry kind b) st′ e = set-taken n s st kind b st′ e
-step-taken n s st more End st′ e = end-not-next st more st′ e
-step-taken n s st more CutShort st′ e = stop-not-next 10 0 st′ e
-step-taken n s st more UnknownKind st′ e = stop-not-next 9 0 st′ e
-step-taken n s st more NoRecord st′ e = stop-not-next 10 0 st′ e
+pub record-taken : (n s : ℕ) (st : State) (more : Bool) (r : Record) (st′ : State) → recordStep n s st more r ≡ next st′ → Taken n s st r st′
+unfolding recordStep
+record-taken n s st more (NodeEntry b) st′ e = node-taken n s st b st′ e
+record-taken n s st more (Witness v b) st′ e = witness-taken n st v b st′ e
+record-taken n s st more (ProofLine rule root) st′ e = line-taken n s st rule (root .0) st′ e
+record-taken n s st more (Strike k) st′ e = strike-taken st (k .0) st′ e
+record-taken n s st more (SetEntry kind b) st′ e = set-taken n s st kind b st′ e
+record-taken n s st more End st′ e = end-not-next st more st′ e
+record-taken n s st more CutShort st′ e = stop-not-next 10 0 st′ e
+record-taken n s st more UnknownKind st′ e = stop-not-next 9 0 st′ e
+record-taken n s st more NoRecord st′ e = stop-not-next 10 0 st′ e
 
-pub taken-step : (n s : ℕ) (st : State) (more : Bool) (r : Record) (st′ : State) → Taken n s st r st′ → step n s st more r ≡ next st′
-unfolding step
-taken-step n s st more (NodeEntry b) st′ T = taken-node n s st b st′ T
-taken-step n s st more (Witness v b) st′ T = taken-witness n st v b st′ T
-taken-step n s st more (ProofLine rule root) st′ T = taken-line n s st rule (root .0) st′ T
-taken-step n s st more (Strike k) st′ T = taken-strike st (k .0) st′ T
-taken-step n s st more (SetEntry kind b) st′ T = taken-set n s st kind b st′ T
-taken-step n s st more End st′ T = absurd T
-taken-step n s st more CutShort st′ T = absurd T
-taken-step n s st more UnknownKind st′ T = absurd T
-taken-step n s st more NoRecord st′ T = absurd T
+pub taken-record : (n s : ℕ) (st : State) (more : Bool) (r : Record) (st′ : State) → Taken n s st r st′ → recordStep n s st more r ≡ next st′
+unfolding recordStep
+taken-record n s st more (NodeEntry b) st′ T = taken-node n s st b st′ T
+taken-record n s st more (Witness v b) st′ T = taken-witness n st v b st′ T
+taken-record n s st more (ProofLine rule root) st′ T = taken-line n s st rule (root .0) st′ T
+taken-record n s st more (Strike k) st′ T = taken-strike st (k .0) st′ T
+taken-record n s st more (SetEntry kind b) st′ T = taken-set n s st kind b st′ T
+taken-record n s st more End st′ T = absurd T
+taken-record n s st more CutShort st′ T = absurd T
+taken-record n s st more UnknownKind st′ T = absurd T
+taken-record n s st more NoRecord st′ T = absurd T
 
-pub step-exactly : (n s : ℕ) (st : State) (more : Bool) (r : Record) (st′ : State) → (step n s st more r ≡ next st′) ↔ Taken n s st r st′
-step-exactly n s st more r st′ = (step-taken n s st more r st′, taken-step n s st more r st′)
+pub record-exactly : (n s : ℕ) (st : State) (more : Bool) (r : Record) (st′ : State) → (recordStep n s st more r ≡ next st′) ↔ Taken n s st r st′
+record-exactly n s st more r st′ = (record-taken n s st more r st′, taken-record n s st more r st′)
 
 -- A record that gives a next state is of right form.
-pub next-form : (n s : ℕ) (st : State) (more : Bool) (r : Record) (st′ : State) → step n s st more r ≡ next st′ → numberOf r ≡ 0
-unfolding step
+pub next-form : (n s : ℕ) (st : State) (more : Bool) (r : Record) (st′ : State) → recordStep n s st more r ≡ next st′ → numberOf r ≡ 0
+unfolding recordStep
 next-form n s st more (NodeEntry b) st′ e = refl
 next-form n s st more (Witness v b) st′ e = refl
 next-form n s st more (ProofLine rule root) st′ e = refl
@@ -345,14 +347,14 @@ module _ {offset : ℕ} where
       entered-not-zero st (place s (st .nodes) (setDiagram n kind b)) e₃
 
 -- The record that ends the proof with 0.
-pub record Refutes (st : State) (more : Bool) (r : Record) (offset : ℕ) : Type 0 where
+pub record EndRefutes (st : State) (more : Bool) (r : Record) (offset : ℕ) : Type 0 where
   pub end : r ≡ End
   pub none-waits : waiting st ≡ false
   pub last : more ≡ false
   pub zero-line : st .refuted ≡ true
   pub here : offset ≡ 0
 
-end-refutes : (st : State) (more : Bool) (offset : ℕ) → endStep st more ≡ stop 0 offset → Refutes st more End offset
+end-refutes : (st : State) (more : Bool) (offset : ℕ) → endStep st more ≡ stop 0 offset → EndRefutes st more End offset
 unfolding endStep
 end-refutes st more offset e =
     let (none, e₁) = past (waiting st) 16 0 _ refl e in
@@ -364,18 +366,18 @@ end-refutes st more offset e =
     go true e = (refl, cc)
     go false e = stop-other 20 0 refl e
 
-pub step-refutes : (n s : ℕ) (st : State) (more : Bool) (r : Record) (offset : ℕ) → step n s st more r ≡ stop 0 offset → Refutes st more r offset
-unfolding step
-step-refutes n s st more (NodeEntry b) offset e = node-not-zero n s st b e
-step-refutes n s st more (Witness v b) offset e = witness-not-zero n st v b e
-step-refutes n s st more (ProofLine rule root) offset e = line-not-zero n s st rule (root .0) e
-step-refutes n s st more (Strike k) offset e = strike-not-zero st (k .0) e
-step-refutes n s st more (SetEntry kind b) offset e = set-not-zero n s st kind b e
-step-refutes n s st more End offset e = end-refutes st more offset e
-step-refutes n s st more CutShort offset e = stop-other 10 0 refl e
-step-refutes n s st more UnknownKind offset e = stop-other 9 0 refl e
-step-refutes n s st more NoRecord offset e = stop-other 10 0 refl e
+pub record-refutes : (n s : ℕ) (st : State) (more : Bool) (r : Record) (offset : ℕ) → recordStep n s st more r ≡ stop 0 offset → EndRefutes st more r offset
+unfolding recordStep
+record-refutes n s st more (NodeEntry b) offset e = node-not-zero n s st b e
+record-refutes n s st more (Witness v b) offset e = witness-not-zero n st v b e
+record-refutes n s st more (ProofLine rule root) offset e = line-not-zero n s st rule (root .0) e
+record-refutes n s st more (Strike k) offset e = strike-not-zero st (k .0) e
+record-refutes n s st more (SetEntry kind b) offset e = set-not-zero n s st kind b e
+record-refutes n s st more End offset e = end-refutes st more offset e
+record-refutes n s st more CutShort offset e = stop-other 10 0 refl e
+record-refutes n s st more UnknownKind offset e = stop-other 9 0 refl e
+record-refutes n s st more NoRecord offset e = stop-other 10 0 refl e
 
-pub refutes-step : (n s : ℕ) (st : State) (more : Bool) (r : Record) (offset : ℕ) → Refutes st more r offset → step n s st more r ≡ stop 0 offset
-unfolding step endStep
-refutes-step n s st more r offset F = rw (F .end, F .none-waits, F .last, F .zero-line, F .here)
+pub refutes-record : (n s : ℕ) (st : State) (more : Bool) (r : Record) (offset : ℕ) → EndRefutes st more r offset → recordStep n s st more r ≡ stop 0 offset
+unfolding recordStep endStep
+refutes-record n s st more r offset F = rw (F .end, F .none-waits, F .last, F .zero-line, F .here)

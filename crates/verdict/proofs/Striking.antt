@@ -10,12 +10,12 @@ use native.Mathlib.Decide.{ℕ-discrete}
 use lib.ListN.{length, getD, set}
 use Rattle.meaning.specs.Diagram.{Diagram, same}
 use Rattle.meaning.specs.Operations as meaning
-use Rattle.meaning.proofs.Booleans.{t≢f, and-both}
+use Rattle.meaning.proofs.Booleans.{t≢f}
 use Rattle.table.specs.Nodes.{place}
-use Rattle.verdict.specs.Check.{State, next, stop, waiting, diagramIn, isLive, strikeStep}
+use Rattle.verdict.specs.Steps.{State, next, stop, diagramIn, isLive}
 use Rattle.verdict.specs.Clausal.{firstSame, strikeFound, strikeClause}
-use Rattle.verdict.specs.Run.{withMarks}
-use Rattle.verdict.specs.ClauseRun.{IsThere, ClauseStruck}
+use Rattle.verdict.specs.Steps.{withMarks}
+use Rattle.verdict.specs.ClauseTaken.{IsThere, ClauseStruck}
 use Rattle.verdict.proofs.Steps.{stop-not-next}
 
 module _ (st : State) (g : Diagram) where
@@ -52,13 +52,9 @@ module _ (st : State) (g : Diagram) where
       go false q e (yes is) ih = t≢f (sym (subst (λ (x : ℕ). IsThere st g x) (sym is) t) ∙ q)
       go false q e (no ne) ih = ih e m (omega (arith, ne)) (omega arith) t
 
-module _ (n : ℕ) (st : State) (ls : List meaning.Literal) (none-waits : waiting st ≡ false) where
+module _ (n : ℕ) (st : State) (ls : List meaning.Literal) where
   abbrev g : Diagram
   g = meaning.clause n ls
-
-  strikes : (i : ℕ) → isLive st i ≡ true → strikeStep st i ≡ next (withMarks st (set (st .struck) i 1))
-  unfolding strikeStep
-  strikes i live = rw (none-waits, live) refl
 
   -- where a member is found
   some-struck : (i : ℕ) → firstSame (length (st .members)) st 0 g ≡ some i → ClauseStruck n st ls (withMarks st (set (st .struck) i 1))
@@ -78,9 +74,7 @@ module _ (n : ℕ) (st : State) (ls : List meaning.Literal) (none-waits : waitin
       go : (o : Option ℕ) → firstSame (length (st .members)) st 0 g ≡ o → strikeFound st o ≡ next st′ → ClauseStruck n st ls st′
       go none q e = stop-not-next 28 0 st′ e
       go (some i) q e =
-          let live : isLive st i ≡ true = and-both (isLive st i) (same (diagramIn st (getD (st .members) i 0)) g) (first-some st g (length (st .members)) 0 i q .2) .0 in
-          let is : withMarks st (set (st .struck) i 1) ≡ st′ = next-is (sym (strikes i live) ∙ e) in
-          subst (ClauseStruck n st ls) is (some-struck i q)
+          subst (ClauseStruck n st ls) (next-is e) (some-struck i q)
         where
           next-is : {x y : State} → next x ≡ next y → x ≡ y
           next-is e = cc
@@ -98,9 +92,7 @@ module _ (n : ℕ) (st : State) (ls : List meaning.Literal) (none-waits : waitin
 
       go : (o : Option ℕ) → firstSame (length (st .members)) st 0 g ≡ o → strikeFound st o ≡ next st′
       go none q = absurd (first-none st g (length (st .members)) 0 q (C .place) (omega arith) (omega (arith, C .inside)) (C .there))
-      go (some i) q =
-          let live : isLive st i ≡ true = and-both (isLive st i) (same (diagramIn st (getD (st .members) i 0)) g) (first-some st g (length (st .members)) 0 i q .2) .0 in
-          strikes i live ∙ ap next (ap (λ (k : ℕ). withMarks st (set (st .struck) k 1)) (same-place i q) ∙ C .is)
+      go (some i) q = ap next (ap (λ (k : ℕ). withMarks st (set (st .struck) k 1)) (same-place i q) ∙ C .is)
 
   -- "an absent clause to strike with 28"
   pub absent-refused : ((m : ℕ) → m < length (st .members) → IsThere st g m → ⊥) → strikeClause n st ls ≡ stop 28 0

@@ -11,13 +11,16 @@ use Rattle.meaning.specs.Operations as meaning
 use Rattle.table.specs.Nodes.{Node, diagramAt}
 use Rattle.table.proofs.Growth.{Extends, extends-same, extends-trans, diagramAt-grown}
 use Rattle.dimacs.specs.Clauses.{Reading, complete, formula}
-use Rattle.records.specs.Records.{recordAt}
-use Rattle.verdict.specs.Check.{State, isEntry, entryNode}
-use Rattle.verdict.specs.Run.{Function, Meant, entryMeant, afterRecord, Valued, Making, Reached, Later, here, after}
+use Rattle.commands.specs.declared.Mode.{Mode}
+use Rattle.commands.specs.Commands.{Command}
+use Rattle.verdict.specs.Steps.{State, isEntry, entryNode}
+use Rattle.verdict.specs.Taken.{Function, Meant, entryMeant, Valued}
+use Rattle.verdict.specs.Run.{Making, commandIn, afterCommand, Reached, Later, here, after}
 use Rattle.verdict.specs.Satisfies.{clausesOf}
-use Rattle.verdict.proofs.Standing.{Standing, valued-dropped, valued-at, entry-valued, step-standing, step-extends}
+use Rattle.verdict.proofs.Standing.{Standing, valued-dropped, valued-at, entry-valued}
 use Rattle.verdict.proofs.Clauses.{underway}
-use Rattle.verdict.proofs.Ends.{reached-standing}
+use Rattle.verdict.proofs.Ends.{reached-in, reached-standing}
+use Rattle.verdict.proofs.Commands.{Fit, command-fit, command-goes, step-standing, step-extends}
 
 module _ (s : ℕ) (text : List ℕ) where
   -- ---- clauses
@@ -32,12 +35,12 @@ module _ (s : ℕ) (text : List ℕ) where
   unfolding clausesOf
   clause-members {n} {many} {t} {ms} {fs} M = sym (append-nil fs) ∙ underway s text n many M .clauses
 
-  module _ (proof : List ℕ) where
+  module _ (mode : Mode) (proof : List ℕ) where
     -- ---- reached states
 
-    module _ {n : ℕ} {st : State} {at : ℕ} {m : Meant} (R : Reached s text proof n st at m) where
+    module _ {n : ℕ} {st : State} {at : ℕ} {m : Meant} (R : Reached mode s text proof n st at m) where
       stands : Standing s n m st
-      stands = reached-standing s text proof R .1
+      stands = reached-standing mode s text proof R .1
 
       -- The node of member i has the value of what it stands for: a clause, or the root of an accepted line.
       pub member-value : (i : ℕ) → i < length (st .members) → (a : Assignment)
@@ -56,20 +59,23 @@ module _ (s : ℕ) (text : List ℕ) where
           (valued-dropped (st .nodes) (st .kept) (stands .ordered) (stands .least) (stands .kept) (st .members) (m .members) (stands .members)) i p (λ a. false) .1 a
 
       -- Numbers of the table keep their diagrams in every state reached later.
-      later-standing : {st′ : State} {at′ : ℕ} → Later s proof n st at st′ at′ → ((m′ : Meant) × Standing s n m′ st′) × Extends (st .nodes) (st′ .nodes)
-      later-standing here = ((m, stands), extends-same (st .nodes))
+      later-standing : {st′ : State} {at′ : ℕ} → Later mode s proof n st at st′ at′ → ((m′ : Meant) × Standing s n m′ st′) × Extends (st .nodes) (st′ .nodes) × (at′ ≤ length proof)
+      later-standing here = ((m, stands), extends-same (st .nodes), reached-in mode s text proof R)
       later-standing (after {st₁} {st₂} {at₁} L T) =
-          let ((m₁, S₁), E) = later-standing L in
-          let narrow : n ≤ 64 = reached-standing s text proof R .0 in (
-            (afterRecord m₁ (recordAt proof at₁), step-standing S₁ narrow (recordAt proof at₁) st₂ T),
-            extends-trans (st .nodes) (st₁ .nodes) (st₂ .nodes) E (step-extends S₁ narrow (recordAt proof at₁) st₂ T),
+          let ((m₁, S₁), E, within) = later-standing L in
+          let narrow : n ≤ 64 = reached-standing mode s text proof R .0 in
+          let c : Command = commandIn mode proof n at₁ in
+          let fit : Fit (mode .form) n c = command-fit (mode .form) proof n at₁ within in (
+            (afterCommand m₁ c, step-standing S₁ narrow (mode .form) c fit st₂ T),
+            extends-trans (st .nodes) (st₁ .nodes) (st₂ .nodes) E (step-extends S₁ narrow (mode .form) c fit st₂ T),
+            command-goes (mode .form) proof n s st₁ st₂ at₁ within T .1,
           )
 
-      pub number-kept : {st′ : State} {at′ : ℕ} → Later s proof n st at st′ at′ → (k : ℕ) → k < length (st .nodes) → diagramAt (st′ .nodes) k ≡ diagramAt (st .nodes) k
+      pub number-kept : {st′ : State} {at′ : ℕ} → Later mode s proof n st at st′ at′ → (k : ℕ) → k < length (st .nodes) → diagramAt (st′ .nodes) k ≡ diagramAt (st .nodes) k
       number-kept {st′} L k p = diagramAt-grown (st .nodes) (st′ .nodes) (stands .ordered) (later-standing L .1) k p
 
       -- "an entry's node [has its value] from its making until it is dropped": in every state reached later.
-      pub entry-kept : {st′ : State} {at′ : ℕ} → Later s proof n st at st′ at′ → (e : ℕ) → isEntry st e ≡ true → (a : Assignment)
+      pub entry-kept : {st′ : State} {at′ : ℕ} → Later mode s proof n st at st′ at′ → (e : ℕ) → isEntry st e ≡ true → (a : Assignment)
           → value (diagramAt (st′ .nodes) (entryNode st e)) a ≡ entryMeant m e a
       entry-kept L e there a =
           let (inside, is) = entry-valued stands e there in

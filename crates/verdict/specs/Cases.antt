@@ -8,6 +8,7 @@ use Prim.Native.Char.{code}
 use Prim.Native.String.{String, [], _∷_, _++_}
 use Rattle.meaning.specs.Diagram.{Diagram, leaf, node}
 use Rattle.meaning.specs.Operations.{Literal, clause, conjunction, cofactor, isUnit}
+use Rattle.commands.specs.Commands.{inRecords, inText}
 use Rattle.verdict.specs.Check.{Verdict, verdict}
 
 -- ---- rows
@@ -23,11 +24,13 @@ pub record Printed : Type 0 where
 abbrev pub prints : ℕ → ℕ → ℕ → ℕ → ℕ → Printed
 prints number place lines rounds peak = record { number = number; place = place; lines = lines; rounds = rounds; peak = peak }
 
--- A row: what is printed of a formula and a proof with a table of s places, and the marks that the members have then; what f
+-- A row: what is printed of a formula and a proof with a table of s places, and the marks that the members have then; the same of a DRAT
+-- text; what f
 -- cofactored by g is; what U(f) is.
 pub data Row : Type 0 where
   checked : (s : ℕ) (formula : String) (proof : List ℕ) (line : Printed) → Row
   marked : (s : ℕ) (formula : String) (proof : List ℕ) (line : Printed) (marks : List ℕ) → Row
+  texted : (s : ℕ) (formula text : String) (line : Printed) (marks : List ℕ) → Row
   cofactored : (n : ℕ) (f g result : Diagram) → Row
   units : (n : ℕ) (f : Diagram) (result : List Literal) → Row
 
@@ -55,9 +58,11 @@ unitsTo n (suc v) f =
 
 -- The rules give the row.
 abbrev pub Gives : Row → Type 0
-Gives (checked s formula proof line) = printed (verdict s (bytes formula) proof) ≡ line
+Gives (checked s formula proof line) = printed (verdict inRecords s (bytes formula) proof) ≡ line
 Gives (marked s formula proof line marks) =
-    (printed (verdict s (bytes formula) proof) ≡ line) × (verdict s (bytes formula) proof .struck ≡ marks)
+    (printed (verdict inRecords s (bytes formula) proof) ≡ line) × (verdict inRecords s (bytes formula) proof .struck ≡ marks)
+Gives (texted s formula text line marks) =
+    let v = verdict inText s (bytes formula) (bytes text) in (printed v ≡ line) × (v .struck ≡ marks)
 Gives (cofactored n f g result) = cofactor n f g ≡ result
 Gives (units n f result) = unitsTo n n f ≡ result
 

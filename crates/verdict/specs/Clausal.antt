@@ -1,9 +1,9 @@
 -- The step of a clause that a DRAT text adds or strikes out. (02, 4/14)
 use mathlib.Core.Bool.{true, not, _&&_, cond}
-use mathlib.Core.List.{List, [], _∷_, _++_}
+use mathlib.Core.List.{List, [], _∷_}
 use mathlib.Core.Option.{Option, none, some}
 use Prim.Native.Nat.{ℕ, zero, suc, max}
-use lib.ListN.{length, getD}
+use lib.ListN.{length, getD, set}
 use lib.Dec.{leb}
 use Rattle.meaning.specs.Diagram.{Diagram, leaf, same}
 use Rattle.meaning.specs.Operations as meaning
@@ -12,26 +12,10 @@ use Rattle.table.specs.Nodes.{Node, Placing, full, placed, place}
 use Rattle.table.specs.Making.{lineReach}
 use Rattle.clausal.specs.Drat.{has, without}
 use Rattle.clausal.specs.Tries.{makesTrue, makesFalse, witness}
-use Rattle.verdict.specs.Check.{State, Step, next, stop, spent, accepted, judged}
-use Rattle.verdict.specs.Check.{diagramIn, unstruck, liveMembers, isLive, strikeStep}
+use Rattle.verdict.specs.Steps.{State, withEntry, withMarks, Step, next, stop, spent, accepted, judged}
+use Rattle.verdict.specs.Steps.{diagramIn, unstruck, liveMembers, isLive}
 
 -- ---- a clause added
-
--- "A clause's diagram is made before the tries and counts as its line's last entry": the state with its nodes.
-abbrev pub withClause : State → List Node → ℕ → State
-withClause st t k = record {
-  nodes = t;
-  kept = st .kept;
-  members = st .members;
-  struck = st .struck;
-  entries = st .entries ++ k ∷ [];
-  positive = st .positive;
-  negative = st .negative;
-  lines = st .lines;
-  rounds = st .rounds;
-  peak = max (st .peak) (length t);
-  refuted = st .refuted;
-}
 
 -- The state with a greater peak: "the first try's nodes dropped", they count for the peak alone.
 abbrev pub withPeak : State → ℕ → State
@@ -73,16 +57,17 @@ unfoldable pub tries : ℕ → ℕ → State → ℕ → List meaning.Literal �
 unfolding judgedOr secondTry unstruck
 tries n s st k ls = judgedOr (secondTry n s st k ls) s st k (rup n (liveMembers st) (meaning.clause n ls))
 
-abbrev pub afterMade : State → Placing → (State → ℕ → Step) → Step
-afterMade st (full t) rest = spent 23 (max (st .peak) (length t))
-afterMade st (placed t k) rest = rest (withClause st t k) k
+-- "A clause's diagram is made before the tries and counts as its line's last entry"
+abbrev pub onceMade : State → Placing → (State → ℕ → Step) → Step
+onceMade st (full t) rest = spent 23 (max (st .peak) (length t))
+onceMade st (placed t k) rest = rest (withEntry st t k) k
 
 -- "A line is refused with [..] 22, 17, then 23 or 19"
 unfoldable pub addStep : ℕ → ℕ → State → List meaning.Literal → Step
 unfolding tries
 addStep n s st ls =
     let g = meaning.clause n ls in
-    let made = afterMade st (place s (st .nodes) g) (λ st₁ k. tries n s st₁ k ls) in
+    let made = onceMade st (place s (st .nodes) g) (λ st₁ k. tries n s st₁ k ls) in
     cond (leb 1024 (st .lines)) (stop 22 0) (cond (same g (leaf true)) (stop 17 0) made)
 
 -- ---- a clause struck out
@@ -98,9 +83,9 @@ firstSame (suc k) st i g =
 -- "an absent clause to strike with 28"
 abbrev pub strikeFound : State → Option ℕ → Step
 strikeFound st none = stop 28 0
-strikeFound st (some i) = strikeStep st i
+strikeFound st (some i) = next (withMarks st (set (st .struck) i 1))
 
 -- "A `d` line strikes the live member of lowest place that is the same diagram, and places no node."
 unfoldable pub strikeClause : ℕ → State → List meaning.Literal → Step
-unfolding firstSame strikeStep
+unfolding firstSame
 strikeClause n st ls = strikeFound st (firstSame (length (st .members)) st 0 (meaning.clause n ls))

@@ -1,8 +1,11 @@
+pub mod Steps
+pub mod Clausal
 pub mod Check
 pub mod Cases
+pub mod Taken
+pub mod ClauseTaken
 pub mod Run
 pub mod Marks
 pub mod Satisfies
 pub mod MetFirst
-pub mod Clausal
-pub mod ClauseRun
+pub mod TextRows

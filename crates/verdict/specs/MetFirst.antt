@@ -12,7 +12,7 @@ use Rattle.meaning.specs.Words.{inWord}
 use Rattle.table.specs.Nodes.{Node, Placing, full, placed, place}
 use Rattle.records.specs.declared.Rule.{Rule}
 use Rattle.records.specs.declared.Rule.the-variants.{Rup, Pr}
-use Rattle.verdict.specs.Check.{State, Step, next, spent, accepted, diagramIn, liveMembers}
+use Rattle.verdict.specs.Steps.{State, Step, next, spent, accepted, diagramIn, liveMembers}
 
 -- What is met: a conflict in every propagation; a propagation that ends without one; a diagram that finds no room.
 pub data Met : Type 0 where

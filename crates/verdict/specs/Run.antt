@@ -1,232 +1,78 @@
--- The run of a check as 01 tells it: the functions that members and entries stand for, what a record has to pass to be taken, the
--- states between records, and where the run ends. No call open to others cites this file: the theorems on what `check` says do.
+-- The run of a check as 01 tells it: what a command has to pass to be taken, the states between commands with what members and entries
+-- stand for, and where the run ends. No call open to others cites this file: the theorems on what `check` says do.
 use mathlib.Core.Path.{_≡_}
-use mathlib.Core.Logic.{_≢_}
-use mathlib.Core.Bool.{Bool, true, false, not, cond}
+use mathlib.Core.Bool.{Bool, true, false}
 use mathlib.Core.List.{List, [], _∷_, _++_, map}
-use Prim.Native.Nat.{ℕ, zero, suc, _+_, _^_, _≤_, _<_, max}
-use lib.ListN.{length, getD, set, take}
-use lib.Dec.{eqb, ltb}
-use Rattle.meaning.specs.Diagram.{Assignment, Diagram, holds, value}
+use Prim.Native.Nat.{ℕ, zero, suc, _+_}
+use lib.ListN.{length, take}
 use Rattle.meaning.specs.Operations as meaning
-use Rattle.meaning.specs.Sets.{parityValue, atLeastValue}
-use Rattle.meaning.specs.Rules.{Line, rup, pr, witnessed}
-use Rattle.meaning.specs.Words.{inWord}
-use Rattle.table.specs.Nodes.{Node, above, diagramAt, full, placed, put, place}
-use Rattle.table.specs.Making.{lineReach}
+use Rattle.table.specs.Nodes.{Node, full, placed, place}
+use Rattle.dimacs.specs.declared.Header.{Header}
 use Rattle.dimacs.specs.declared.Header.the-variants.{Proper, Improper}
 use Rattle.dimacs.specs.Header.{header}
 use Rattle.dimacs.specs.Clauses.{Reading, clause, complete, refusal, clausesFrom, formula}
-use Rattle.records.specs.declared.NodeBody.{NodeBody}
-use Rattle.records.specs.declared.Rule.{Rule}
-use Rattle.records.specs.declared.Rule.the-variants.{Rup, Pr}
-use Rattle.records.specs.declared.SetKind.{SetKind}
-use Rattle.records.specs.declared.SetKind.the-variants.{Parity, AtLeast}
-use Rattle.records.specs.declared.SetBody.{SetBody}
-use Rattle.records.specs.declared.Record.{Record}
-use Rattle.records.specs.declared.Record.the-variants.{NodeEntry, Witness, ProofLine, Strike, SetEntry, End, CutShort, UnknownKind, NoRecord}
-use Rattle.records.specs.Records.{recordAt, lengthOf}
-use Rattle.verdict.specs.Check.{State, emptied, begun, stop, spent, isEntry, entryNode, withVariable, waiting, accepted, isLive}
-use Rattle.verdict.specs.Check.{diagramIn, liveMembers, noParity, setDiagram, step, Verdict, left, refusedFormula}
+use Rattle.records.specs.declared.Record.the-variants.{End}
+use Rattle.commands.specs.declared.Mode.{Mode}
+use Rattle.commands.specs.Commands.{Command, recorded, added, struckOut, wrong, finished, start, commandAt}
+use Rattle.verdict.specs.Steps.{State, emptied, begun, stop, spent, waiting}
+use Rattle.verdict.specs.Check.{step, Verdict, left, refusedFormula}
+use Rattle.verdict.specs.Taken.{Function, Meant, afterRecord, Taken}
+use Rattle.verdict.specs.ClauseTaken.{ClauseTaken, ClauseStruck}
 use Rattle.verdict.specs.Satisfies.{clausesOf}
+
+-- ---- a command
+
+-- The command at a place of a proof in a formula of n variables, and the place of the next.
+abbrev pub commandIn : Mode → List ℕ → ℕ → ℕ → Command
+commandIn mode proof n at = commandAt (mode .form) proof n at .command
+
+abbrev pub nextIn : Mode → List ℕ → ℕ → ℕ → ℕ
+nextIn mode proof n at = commandAt (mode .form) proof n at .next
+
+-- What a command has to pass, by its kind, and the state that it leads to. No other command is followed by a state.
+abbrev pub CommandTaken : ℕ → ℕ → State → Command → State → Type 0
+CommandTaken n s st (recorded r more) st′ = Taken n s st r st′
+CommandTaken n s st (added ls) st′ = ClauseTaken n s st ls st′
+CommandTaken n s st (struckOut ls) st′ = ClauseStruck n st ls st′
+CommandTaken n s st (wrong number offset) st′ = ⊥
+CommandTaken n s st finished st′ = ⊥
 
 -- ---- what members and entries stand for
 
--- A Boolean function of assignments.
-abbrev pub Function : Type 0
-Function = Assignment → Bool
-
--- The functions that the members, and the line's entries from entry 2 on, stand for.
-pub record Meant : Type 0 where
-  pub members : List Function
-  pub entries : List Function
-
--- "Entries 0 and 1 are 0 and 1"
-abbrev pub numberedMeant : Meant → List Function
-numberedMeant m = (λ a. false) ∷ (λ a. true) ∷ m .entries
-
-unfoldable pub entryMeant : Meant → ℕ → Function
-entryMeant m e = getD (numberedMeant m) e (λ a. false)
-
--- "a node record's entry has the value of its high entry where its variable is true, of its low entry where it is false"
-abbrev pub nodeMeant : Meant → NodeBody → Function
-nodeMeant m b a = cond (holds a (b .variable)) (entryMeant m (b .high .0) a) (entryMeant m (b .low .0) a)
-
--- "its value [..] is 1 where the number of the set's true variables is odd or even, as the byte says, or at least k; else 0" (02, 5/14)
-abbrev pub setMeant : SetKind → SetBody → Function
-setMeant Parity b = parityValue (inWord (b .set)) (eqb (b .byte) 1)
-setMeant AtLeast b = atLeastValue (inWord (b .set)) (b .byte)
-
--- After a record that is not refused: "Makes the next entry"; "After an accepted line its root is the next member and entries [..]
--- start anew."
-unfoldable pub afterRecord : Meant → Record → Meant
-unfolding entryMeant
-afterRecord m (NodeEntry b) = record { members = m .members; entries = m .entries ++ nodeMeant m b ∷ [] }
-afterRecord m (ProofLine rule root) = record { members = m .members ++ entryMeant m (root .0) ∷ []; entries = [] }
-afterRecord m (Witness v b) = m
-afterRecord m (Strike k) = m
-afterRecord m (SetEntry kind b) = record { members = m .members; entries = m .entries ++ setMeant kind b ∷ [] }
-afterRecord m End = m
-afterRecord m CutShort = m
-afterRecord m UnknownKind = m
-afterRecord m NoRecord = m
-
--- What members and entries stand for once so many records from a place on are taken.
-unfoldable pub meantAfter : ℕ → List ℕ → ℕ → Meant → Meant
+-- After a command that is not refused: an added clause is the next member, "entries and witness start anew".
+unfoldable pub afterCommand : Meant → Command → Meant
 unfolding afterRecord
-meantAfter zero proof at m = m
-meantAfter (suc k) proof at m = meantAfter k proof (at + lengthOf (recordAt proof at)) (afterRecord m (recordAt proof at))
+afterCommand m (recorded r more) = afterRecord m r
+afterCommand m (added ls) = record { members = m .members ++ meaning.clauseValue ls ∷ []; entries = [] }
+afterCommand m (struckOut ls) = m
+afterCommand m (wrong number offset) = m
+afterCommand m finished = m
 
--- The functions of the roots of a proof's lines, line after line, as its bytes fix them. There are no more records than bytes.
-abbrev pub lineFunctions : List ℕ → List Function
-lineFunctions proof = meantAfter (length proof) proof 0 (record { members = []; entries = [] }) .members
+-- What members and entries stand for once so many commands from a place on are taken.
+unfoldable pub meantAfter : ℕ → Mode → ℕ → List ℕ → ℕ → Meant → Meant
+unfolding afterCommand
+meantAfter zero mode n proof at m = m
+meantAfter (suc k) mode n proof at m =
+    meantAfter k mode n proof (nextIn mode proof n at) (afterCommand m (commandIn mode proof n at))
+
+-- The functions of a proof's lines, line after line, as its bytes fix them: of the roots in records, of the added clauses in a text.
+-- There are no more commands than bytes.
+abbrev pub lineFunctions : Mode → ℕ → List ℕ → List Function
+lineFunctions mode n proof = meantAfter (length proof) mode n proof (start (mode .form) proof) (record { members = []; entries = [] }) .members
 
 -- The functions of a formula's clauses, in file order.
 abbrev pub clauseFunctions : List ℕ → List Function
 clauseFunctions text = map meaning.clauseValue (clausesOf (formula text))
 
+-- The variables that a proper header names.
+abbrev pub variablesOf : Header → ℕ
+variablesOf (Proper n many at) = n
+variablesOf (Improper number place) = 0
+
 -- "Clauses become members 0, 1, 2 and so on"; "After an accepted line its root is the next member": what the members stand for once so many
 -- lines are accepted.
-abbrev pub standsFor : List ℕ → List ℕ → ℕ → List Function
-standsFor text proof lines = clauseFunctions text ++ take lines (lineFunctions proof)
-
--- Each of the numbers is a node below the bound and has the values of its function, in the nodes t.
-abbrev pub Valued : List Node → ℕ → List ℕ → List Function → Type 0
-Valued t bound [] [] = Unit {0}
-Valued t bound [] (f ∷ fs) = ⊥
-Valued t bound (k ∷ ks) [] = ⊥
-Valued t bound (k ∷ ks) (f ∷ fs) = (k < bound) × ((a : Assignment) → value (diagramAt t k) a ≡ f a) × Valued t bound ks fs
-
--- ---- a record that is taken
-
--- The state with one more entry.
-abbrev pub withEntry : State → List Node → ℕ → State
-withEntry st t k = record {
-  nodes = t;
-  kept = st .kept;
-  members = st .members;
-  struck = st .struck;
-  entries = st .entries ++ k ∷ [];
-  positive = st .positive;
-  negative = st .negative;
-  lines = st .lines;
-  rounds = st .rounds;
-  peak = max (st .peak) (length t);
-  refuted = st .refuted;
-}
-
--- The state with another witness.
-abbrev pub withWitness : State → ℕ → ℕ → State
-withWitness st positive negative = record {
-  nodes = st .nodes;
-  kept = st .kept;
-  members = st .members;
-  struck = st .struck;
-  entries = st .entries;
-  positive = positive;
-  negative = negative;
-  lines = st .lines;
-  rounds = st .rounds;
-  peak = st .peak;
-  refuted = st .refuted;
-}
-
--- The state with other marks.
-abbrev pub withMarks : State → List ℕ → State
-withMarks st struck = record {
-  nodes = st .nodes;
-  kept = st .kept;
-  members = st .members;
-  struck = struck;
-  entries = st .entries;
-  positive = st .positive;
-  negative = st .negative;
-  lines = st .lines;
-  rounds = st .rounds;
-  peak = st .peak;
-  refuted = st .refuted;
-}
-
--- "Node: 10, 21, 12, 13, 14, 23": none of them holds, and the node has a place.
-pub record NodeTaken (n s : ℕ) (st : State) (b : NodeBody) (st′ : State) : Type 0 where
-  pub few : length (st .entries) < 4096
-  pub least : 1 ≤ b .variable
-  pub most : b .variable ≤ n
-  pub low : isEntry st (b .low .0) ≡ true
-  pub high : isEntry st (b .high .0) ≡ true
-  pub over-low : above (st .nodes) (b .variable) (entryNode st (b .low .0)) ≡ true
-  pub over-high : above (st .nodes) (b .variable) (entryNode st (b .high .0)) ≡ true
-  pub nodes : List Node
-  pub entry : ℕ
-  pub room : put s (st .nodes) (b .variable) (entryNode st (b .low .0)) (entryNode st (b .high .0)) ≡ placed nodes entry
-  pub is : withEntry st nodes entry ≡ st′
-
--- "Witness: 10, 12, 15": none of them holds.
-pub record WitnessTaken (n : ℕ) (st : State) (v : ℕ) (b : Bool) (st′ : State) : Type 0 where
-  pub least : 1 ≤ v
-  pub most : v ≤ n
-  pub new-positive : inWord (st .positive) v ≡ false
-  pub new-negative : inWord (st .negative) v ≡ false
-  pub is : withWitness st (withVariable b (st .positive) v) (withVariable (not b) (st .negative) v) ≡ st′
-
--- A line by its rule: RUP, or PR with the witness of two words, of the members ms and the root g.
-abbrev pub lineBy : ℕ → Rule → ℕ → ℕ → List Diagram → Diagram → Line
-lineBy n Rup positive negative ms g = rup n ms g
-lineBy n Pr positive negative ms g = pr n (inWord positive) (inWord negative) ms g
-
--- The line whose root is node g, over the live members.
-abbrev pub lineOf : ℕ → State → Rule → ℕ → Line
-lineOf n st rule g = lineBy n rule (st .positive) (st .negative) (liveMembers st) (diagramIn st g)
-
--- What its rule asks of the witness: none is left at a RUP line; "g under ω is 1" at a PR line.
-abbrev pub Witnessed : ℕ → State → Rule → ℕ → Type 0
-Witnessed n st Rup g = waiting st ≡ false
-Witnessed n st Pr g = witnessed n (inWord (st .positive)) (inWord (st .negative)) (diagramIn st g) ≡ true
-
--- The greatest count once a line is tried: what was reached before, or what the line reaches.
-abbrev pub peakWith : ℕ → State → Line → ℕ
-peakWith s st line = max (st .peak) (lineReach s (st .nodes) line .peak)
-
--- "RUP: 10, 13, 16, 22, 17, then 19 or 23 [..]. PR: 10, 13, 22, 17, 18, then the same": none of them holds: its rule shows the
--- line, and all that it makes finds room.
-pub record LineTaken (n s : ℕ) (st : State) (rule : Rule) (root : ℕ) (st′ : State) : Type 0 where
-  pub entry : isEntry st root ≡ true
-  pub few : st .lines < 1024
-  pub not-one : entryNode st root ≢ 1
-  pub witness : Witnessed n st rule (entryNode st root)
-  pub fits : lineReach s (st .nodes) (lineOf n st rule (entryNode st root)) .fits ≡ true
-  pub shown : lineOf n st rule (entryNode st root) .shown ≡ true
-  pub is : (let line = lineOf n st rule (entryNode st root) in accepted st (entryNode st root) line (peakWith s st line) ≡ st′)
-
--- "after 10 and then 16 for a waiting witness", 28: none of them holds, and the member's mark is 1. (02, 3/14)
-pub record StrikeTaken (st : State) (k : ℕ) (st′ : State) : Type 0 where
-  pub none-waits : waiting st ≡ false
-  pub live : isLive st k ≡ true
-  pub is : withMarks st (set (st .struck) k 1) ≡ st′
-
--- "after 10 and 21, a set bit beyond the header with 12, a parity byte above 1 with 29, then 23" (02, 5/14): none of them holds, and
--- the set's
--- diagram has its places.
-pub record SetTaken (n s : ℕ) (st : State) (kind : SetKind) (b : SetBody) (st′ : State) : Type 0 where
-  pub few : length (st .entries) < 4096
-  pub within : b .set < 2 ^ n
-  pub byte : noParity kind (b .byte) ≡ false
-  pub nodes : List Node
-  pub entry : ℕ
-  pub room : place s (st .nodes) (setDiagram n kind b) ≡ placed nodes entry
-  pub is : withEntry st nodes entry ≡ st′
-
--- What a record has to pass, by its kind, and the state that it leads to. No other record is followed by a state.
-abbrev pub Taken : ℕ → ℕ → State → Record → State → Type 0
-Taken n s st (NodeEntry b) st′ = NodeTaken n s st b st′
-Taken n s st (Witness v b) st′ = WitnessTaken n st v b st′
-Taken n s st (ProofLine rule root) st′ = LineTaken n s st rule (root .0) st′
-Taken n s st (Strike k) st′ = StrikeTaken st (k .0) st′
-Taken n s st (SetEntry kind b) st′ = SetTaken n s st kind b st′
-Taken n s st End st′ = ⊥
-Taken n s st CutShort st′ = ⊥
-Taken n s st UnknownKind st′ = ⊥
-Taken n s st NoRecord st′ = ⊥
+abbrev pub standsFor : Mode → List ℕ → List ℕ → ℕ → List Function
+standsFor mode text proof lines = clauseFunctions text ++ take lines (lineFunctions mode (variablesOf (header text)) proof)
 
 -- ---- the states
 
@@ -238,49 +84,52 @@ pub data Making (s : ℕ) (text : List ℕ) (n many : ℕ) : List Node → List 
       → Making s text n many t ms fs (clause ls first rest) → place s t (meaning.clause n ls) ≡ placed t₁ k
       → Making s text n many t₁ (ms ++ k ∷ []) (fs ++ meaning.clauseValue ls ∷ []) rest
 
--- Whether a byte follows the record at a place.
-abbrev pub follows : List ℕ → ℕ → Bool
-follows proof at = ltb (at + lengthOf (recordAt proof at)) (length proof)
-
--- The states between records, each with the place of the next record and what members and entries stand for.
-pub data Reached (s : ℕ) (text proof : List ℕ) (n : ℕ) : State → ℕ → Meant → Type 0 where
-  begins : {many : ℕ} {t : List Node} {ms : List ℕ} {fs : List Function}
-      → Making s text n many t ms fs complete → Reached s text proof n (begun t ms) 0 (record { members = fs; entries = [] })
+-- The states between commands, each with the place of the next command and what members and entries stand for.
+pub data Reached (mode : Mode) (s : ℕ) (text proof : List ℕ) (n : ℕ) : State → ℕ → Meant → Type 0 where
+  begins : {many : ℕ} {t : List Node} {ms : List ℕ} {fs : List Function} → Making s text n many t ms fs complete
+      → Reached mode s text proof n (begun t ms) (start (mode .form) proof) (record { members = fs; entries = [] })
   goes : {st st′ : State} {at : ℕ} {m : Meant}
-      → Reached s text proof n st at m → Taken n s st (recordAt proof at) st′
-      → Reached s text proof n st′ (at + lengthOf (recordAt proof at)) (afterRecord m (recordAt proof at))
+      → Reached mode s text proof n st at m → CommandTaken n s st (commandIn mode proof n at) st′
+      → Reached mode s text proof n st′ (nextIn mode proof n at) (afterCommand m (commandIn mode proof n at))
 
--- The states that are reached from one by records that are taken.
-pub data Later (s : ℕ) (proof : List ℕ) (n : ℕ) (st : State) (at : ℕ) : State → ℕ → Type 0 where
-  here : Later s proof n st at st at
-  after : {st₁ st₂ : State} {at₁ : ℕ} → Later s proof n st at st₁ at₁ → Taken n s st₁ (recordAt proof at₁) st₂
-      → Later s proof n st at st₂ (at₁ + lengthOf (recordAt proof at₁))
+-- The states that are reached from one by commands that are taken.
+pub data Later (mode : Mode) (s : ℕ) (proof : List ℕ) (n : ℕ) (st : State) (at : ℕ) : State → ℕ → Type 0 where
+  here : Later mode s proof n st at st at
+  after : {st₁ st₂ : State} {at₁ : ℕ} → Later mode s proof n st at st₁ at₁ → CommandTaken n s st₁ (commandIn mode proof n at₁) st₂
+      → Later mode s proof n st at st₂ (nextIn mode proof n at₁)
 
 -- How a check ends, with what it says and leaves: there is no proper header; a token of the formula is refused, all clauses before
--- it made; a clause finds no room; a record is refused before it makes a node, or ends the proof; or it is refused once it made
--- some; all records before it taken. Each gives its number, its place and the greatest count.
-pub data Ended (s : ℕ) (text proof : List ℕ) : Verdict → Type 0 where
-  no-header : {number place : ℕ} → header text ≡ Improper number place → Ended s text proof (refusedFormula number place (length emptied))
+-- it made; a clause finds no room; a command is refused before it makes a node, or ends the proof; or it is refused once it made
+-- some; all commands before it taken. Each gives its number, its place and the greatest count.
+pub data Ended (mode : Mode) (s : ℕ) (text proof : List ℕ) : Verdict → Type 0 where
+  no-header : {number place : ℕ} → header text ≡ Improper number place
+      → Ended mode s text proof (refusedFormula number place (length emptied))
   not-read : {n many number place : ℕ} {t : List Node} {ms : List ℕ} {fs : List Function}
-      → Making s text n many t ms fs (refusal number place) → Ended s text proof (refusedFormula number place (length t))
+      → Making s text n many t ms fs (refusal number place) → Ended mode s text proof (refusedFormula number place (length t))
   no-room : {n many first : ℕ} {t t₁ : List Node} {ms : List ℕ} {fs : List Function} {ls : List meaning.Literal} {rest : Reading}
       → Making s text n many t ms fs (clause ls first rest) → place s t (meaning.clause n ls) ≡ full t₁
-      → Ended s text proof (refusedFormula 8 first (length t₁))
+      → Ended mode s text proof (refusedFormula 8 first (length t₁))
   stopped : {n number offset at : ℕ} {st : State} {m : Meant}
-      → Reached s text proof n st at m → step n s st (follows proof at) (recordAt proof at) ≡ stop number offset
-      → Ended s text proof (left number (at + offset) (st .peak) st)
+      → Reached mode s text proof n st at m → step n s st (commandIn mode proof n at) ≡ stop number offset
+      → Ended mode s text proof (left number (at + offset) (st .peak) st)
   tried : {n number peak at : ℕ} {st : State} {m : Meant}
-      → Reached s text proof n st at m → step n s st (follows proof at) (recordAt proof at) ≡ spent number peak
-      → Ended s text proof (left number at peak st)
+      → Reached mode s text proof n st at m → step n s st (commandIn mode proof n at) ≡ spent number peak
+      → Ended mode s text proof (left number at peak st)
 
--- A refutation: the check reaches an end record with no witness waiting, no byte behind it, and a 0 line among the accepted ones.
-pub record Refutation (s : ℕ) (text proof : List ℕ) : Type 0 where
+-- "End: 16, 11, 20": an end record with no witness waiting and no byte behind it; or the end of a text. (02, 4/14)
+abbrev pub Closes : State → Command → Type 0
+Closes st (recorded r more) = (r ≡ End) × (waiting st ≡ false) × (more ≡ false)
+Closes st (added ls) = ⊥
+Closes st (struckOut ls) = ⊥
+Closes st (wrong number offset) = ⊥
+Closes st finished = Unit {0}
+
+-- A refutation: the check reaches the proof's end with a 0 line among the accepted ones.
+pub record Refutation (mode : Mode) (s : ℕ) (text proof : List ℕ) : Type 0 where
   pub variables : ℕ
   pub state : State
   pub place : ℕ
   pub meant : Meant
-  pub reached : Reached s text proof variables state place meant
-  pub end : recordAt proof place ≡ End
-  pub none-waits : waiting state ≡ false
-  pub last : follows proof place ≡ false
+  pub reached : Reached mode s text proof variables state place meant
+  pub end : Closes state (commandIn mode proof variables place)
   pub zero-line : state .refuted ≡ true

@@ -11,7 +11,7 @@ use Rattle.table.specs.Indexed.{Table, tableOf, nodesOf}
 use Rattle.table.specs.Lists.{diagramsOf}
 use Rattle.records.specs.declared.Rule.{Rule}
 use Rattle.judge.specs.Lines.{Says}
-use Rattle.verdict.specs.Run.{lineBy}
+use Rattle.verdict.specs.Taken.{lineBy}
 use Rattle.steps.proofs.Lines.{says-most}
 use Rattle.steps.proofs.line.judge_line.Statement.{statement}
 use Rattle.steps.proofs.line.judge_line.Tie as tie

@@ -10,8 +10,8 @@ use Rattle.meaning.specs.Rules.{Line}
 use Rattle.table.specs.Nodes.{diagramAt}
 use Rattle.table.specs.Indexed.{Table, tableOf, nodesOf}
 use Rattle.table.specs.Lists.{diagramsOf}
-use Rattle.verdict.specs.Check.{unstruck}
-use Rattle.verdict.specs.Run.{lineBy}
+use Rattle.verdict.specs.Steps.{unstruck}
+use Rattle.verdict.specs.Taken.{lineBy}
 use Rattle.judge.specs.Lines.{Negatable, Says}
 use Rattle.steps.proofs.Strikings.{unstruck-inside}
 use Rattle.steps.proofs.line.judge_live.Statement.{statement}

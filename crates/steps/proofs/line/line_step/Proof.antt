@@ -10,12 +10,12 @@ use Rattle.table.specs.Indexed.{Table, tableOf}
 use Rattle.table.proofs.Outcomes.{droppedTo}
 use Rattle.walks.proofs.Here.{good-readable}
 use Rattle.verdict.specs.Check as check
-use Rattle.verdict.specs.Check.{entryNode}
+use Rattle.verdict.specs.Steps.{entryNode}
 use Rattle.conflict.specs.Marks.{unmarked}
 use Rattle.judge.specs.Lines.{Says}
 use Rattle.steps.specs.declared.line.LineTest.the-variants.{Fits}
 use Rattle.steps.specs.States.{Lent, lentOf, stateOf, withLine, Held}
-use Rattle.verdict.specs.Run.{lineOf}
+use Rattle.verdict.specs.Taken.{lineOf}
 use Rattle.steps.specs.Tests.{lineRefusal, LineTested}
 use Rattle.steps.proofs.Lines.{line-refused, line-ready, few-members, line-23, line-19, line-next}
 use Rattle.steps.proofs.line.line_step.Statement.{statement}

@@ -9,7 +9,7 @@ use borrow.Author.Tests.{not-true, not-false, ltb-true, le-leb, lt-leb}
 use borrow.Author.Needs.{needs}
 use Rattle.records.specs.declared.Rule.{Rule}
 use Rattle.verdict.specs.Check as check
-use Rattle.verdict.specs.Check.{isEntry}
+use Rattle.verdict.specs.Steps.{isEntry}
 use Rattle.steps.specs.States.{Lent, lentOf, stateOf}
 use Rattle.steps.specs.Tests.{lineRefusal}
 use Rattle.steps.proofs.Entries.{node-inside, node-is-at, is-one, not-one, shut-is, waits-is, entry-told}

@@ -9,7 +9,7 @@ use Rattle.table.specs.Nodes.{put}
 use Rattle.table.specs.Indexed.{Table, tableOf, size, nodesOf, Outcome, outcomeOf, written}
 use Rattle.walks.proofs.Here.{good-readable}
 use Rattle.verdict.specs.Check as check
-use Rattle.verdict.specs.Check.{entryNode}
+use Rattle.verdict.specs.Steps.{entryNode}
 use Rattle.steps.specs.declared.node.NodeTest.the-variants.{Fits}
 use Rattle.steps.specs.States.{Lent, lentOf, stateOf, withEntry}
 use Rattle.steps.specs.Tests.{NodeTested}

@@ -8,7 +8,7 @@ use lib.ListN.{length, getD, take}
 use lib.Dec.{leb}
 use borrow.Author.Tests.{not-true, not-false, ltb-true}
 use Rattle.verdict.specs.Check as check
-use Rattle.verdict.specs.Check.{isVariable, isEntry}
+use Rattle.verdict.specs.Steps.{isVariable, isEntry}
 use Rattle.steps.specs.States.{Lent, lentOf, stateOf}
 use Rattle.steps.proofs.Witnesses.{is-variable, variable-zero, variable-beyond}
 use Rattle.steps.proofs.Entries.{node-inside, node-is-at, above-is, entry-told, full-entries, few-entries, node-21, node-12, node-13-low, node-13-high, node-14-low, node-14-high, node-0}

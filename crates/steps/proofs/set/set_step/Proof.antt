@@ -5,7 +5,7 @@ use Prim.Native.Nat.{ℕ}
 use native.Mathlib.Omega.{arith}
 use Rattle.table.specs.Indexed.{Table, tableOf, Outcome, outcomeOf}
 use Rattle.table.proofs.Outcomes.{placeIn, Grown}
-use Rattle.verdict.specs.Check.{setDiagram}
+use Rattle.verdict.specs.Steps.{setDiagram}
 use Rattle.steps.specs.States.{Lent, lentOf, withEntry}
 use Rattle.steps.specs.Tests.{setRefusal}
 use Rattle.steps.proofs.SetEntries.{set-fits, made-grown, set-refused, set-full, set-made}

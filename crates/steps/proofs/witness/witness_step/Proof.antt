@@ -4,7 +4,7 @@ use mathlib.Core.Bool.{Bool, not}
 use Prim.Native.Nat.{_≤_}
 use native.Mathlib.Omega.{arith}
 use borrow.Author.Needs.{needs}
-use Rattle.verdict.specs.Check.{withVariable}
+use Rattle.verdict.specs.Steps.{withVariable}
 use Rattle.steps.proofs.Witnesses.{is-variable, variable-zero, variable-beyond, refused-12, refused-15, refused-15-negative, witness-taken}
 use Rattle.steps.proofs.witness.witness_step.Statement.{statement}
 use Rattle.steps.proofs.witness.witness_step.Tie as tie

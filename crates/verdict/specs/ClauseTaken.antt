@@ -1,4 +1,4 @@
--- What a clause of a text has to pass to be taken, as `verdict/specs/Run` says it of records. No call open to others cites this file.
+-- What a clause of a text has to pass to be taken, as `verdict/specs/Taken` says it of records. No call open to others cites this file.
 use mathlib.Core.Path.{_≡_}
 use mathlib.Core.Logic.{_⊎_}
 use mathlib.Core.Bool.{true, false, _&&_}
@@ -10,9 +10,9 @@ use Rattle.meaning.specs.Operations as meaning
 use Rattle.meaning.specs.Rules.{Line, rup}
 use Rattle.table.specs.Nodes.{Node, placed, place}
 use Rattle.table.specs.Making.{lineReach}
-use Rattle.verdict.specs.Check.{State, accepted, diagramIn, liveMembers, isLive}
-use Rattle.verdict.specs.Run.{peakWith, withMarks}
-use Rattle.verdict.specs.Clausal.{withClause, withPeak, secondLine}
+use Rattle.verdict.specs.Steps.{State, withEntry, withMarks, accepted, diagramIn, liveMembers, isLive}
+use Rattle.verdict.specs.Taken.{peakWith}
+use Rattle.verdict.specs.Clausal.{withPeak, secondLine}
 
 -- Neither 23 nor 19: what the line makes finds room, and its rule shows it.
 pub record Judged (s : ℕ) (st : State) (g : ℕ) (line : Line) (st′ : State) : Type 0 where
@@ -45,7 +45,7 @@ pub record ClauseTaken (n s : ℕ) (st : State) (ls : List meaning.Literal) (st�
   pub nodes : List Node
   pub node : ℕ
   pub room : place s (st .nodes) (meaning.clause n ls) ≡ placed nodes node
-  pub tried : TriesTaken n s (withClause st nodes node) node ls st′
+  pub tried : TriesTaken n s (withEntry st nodes node) node ls st′
 
 -- The member of that place is live and is the diagram.
 abbrev pub IsThere : State → Diagram → ℕ → Type 0
