@@ -10,12 +10,12 @@ use Rattle.meaning.specs.Operations as meaning
 use Rattle.meaning.proofs.Booleans.{t≢f}
 use Rattle.dimacs.specs.Clauses.{Reading, clause, complete, refusal, formula}
 use Rattle.dimacs.proofs.Formula.{formula-improper}
-use Rattle.records.specs.Records.{recordAt}
+use Rattle.commands.specs.declared.Mode.{Mode}
 use Rattle.table.specs.Columns.{Columns}
 use Rattle.verdict.specs.Steps.{State, stop, spent}
 use Rattle.verdict.specs.Check.{step, Verdict, verdict, check}
 use Rattle.verdict.specs.Taken.{Meant}
-use Rattle.verdict.specs.Run.{follows, Reached, Ended, no-header, not-read, no-room, stopped, tried}
+use Rattle.verdict.specs.Run.{commandIn, Reached, Ended, no-header, not-read, no-room, stopped, tried}
 use Rattle.verdict.specs.Satisfies.{clausesOf, readToEnd, satisfies}
 use Rattle.verdict.proofs.Clauses.{underway}
 use Rattle.verdict.proofs.Ends.{ended}
@@ -53,11 +53,11 @@ reads-to-end text = (
 )
 
 -- The call says 0 only of a DIMACS text whose formula no assignment satisfies, whatever the proof's bytes and whatever the lent places held.
-pub refuted-dimacs : (c : Columns) (count : ℕ) (members struck scratch text proof : List ℕ)
-    → check c count members struck scratch text proof .number ≡ 0
+pub refuted-dimacs : (mode : Mode) (c : Columns) (count : ℕ) (members struck scratch text proof : List ℕ)
+    → check mode c count members struck scratch text proof .number ≡ 0
     → (cs : List (List meaning.Literal)) × (n : ℕ) × Dimacs text n cs × ((a : Assignment) → satisfies a cs ≡ false)
-refuted-dimacs c count members struck scratch text proof e =
-    let R = check-refuted c count members struck scratch text proof e in
+refuted-dimacs mode c count members struck scratch text proof e =
+    let R = check-refuted mode c count members struck scratch text proof e in
     let D = formula-exactly text (clausesOf (formula text)) .0 (end-gives (formula text) (R .0)) in
     (clausesOf (formula text), D .0, D .1, R .1)
 
@@ -67,33 +67,33 @@ refusal-ends : (number place : ℕ) (r : Reading) → r ≡ refusal number place
 unfolding readToEnd
 refusal-ends number place r e = rw e
 
-module _ (s : ℕ) (text proof : List ℕ) where
+module _ (mode : Mode) (s : ℕ) (text proof : List ℕ) where
   -- A text that is no DIMACS is refused with a number of the formula: 1 to 6, or 8 where the table is full at a clause before the fault.
-  pub not-dimacs-refused : (Says text → ⊥) → FormulaNumber (verdict s text proof .number)
-  not-dimacs-refused no-text = go (verdict s text proof) (ended-closed s text proof (verdict s text proof) (ended s text proof))
+  pub not-dimacs-refused : (Says text → ⊥) → FormulaNumber (verdict mode s text proof .number)
+  not-dimacs-refused no-text = go (verdict mode s text proof) (ended-closed mode s text proof (verdict mode s text proof) (ended mode s text proof))
     where
-      go : (v : Verdict) → Closed s text proof v → FormulaNumber (v .number)
+      go : (v : Verdict) → Closed mode s text proof v → FormulaNumber (v .number)
       go _ (formula-refused named) = named
-      go _ (proof-ended p R e) = absurd (no-text (reads-to-end text .0 (reached-end s text proof R)))
-      go _ (proof-tried p R e) = absurd (no-text (reads-to-end text .0 (reached-end s text proof R)))
+      go _ (proof-ended p R e) = absurd (no-text (reads-to-end text .0 (reached-end mode s text proof R)))
+      go _ (proof-tried p R e) = absurd (no-text (reads-to-end text .0 (reached-end mode s text proof R)))
 
-  -- Of a DIMACS text the table is full at a clause, or the check comes to the proof's records.
+  -- Of a DIMACS text the table is full at a clause, or the check comes to the proof's commands.
   pub data Judged (v : Verdict) : Type 0 where
     full-at-clause : v .number ≡ 8 → Judged v
-    at-record : {n at : ℕ} {st : State} {m : Meant} → Reached s text proof n st at m → (offset : ℕ)
-        → step n s st (follows proof at) (recordAt proof at) ≡ stop (v .number) offset → Judged v
-    at-record-tried : {n at : ℕ} {st : State} {m : Meant} → Reached s text proof n st at m → (peak : ℕ)
-        → step n s st (follows proof at) (recordAt proof at) ≡ spent (v .number) peak → Judged v
+    at-command : {n at : ℕ} {st : State} {m : Meant} → Reached mode s text proof n st at m → (offset : ℕ)
+        → step n s st (commandIn mode proof n at) ≡ stop (v .number) offset → Judged v
+    at-command-tried : {n at : ℕ} {st : State} {m : Meant} → Reached mode s text proof n st at m → (peak : ℕ)
+        → step n s st (commandIn mode proof n at) ≡ spent (v .number) peak → Judged v
 
-  pub dimacs-judged : Says text → Judged (verdict s text proof)
-  dimacs-judged d = go (verdict s text proof) (ended s text proof)
+  pub dimacs-judged : Says text → Judged (verdict mode s text proof)
+  dimacs-judged d = go (verdict mode s text proof) (ended mode s text proof)
     where
       whole : readToEnd (formula text) ≡ true
       whole = reads-to-end text .1 d
 
-      go : (v : Verdict) → Ended s text proof v → Judged v
+      go : (v : Verdict) → Ended mode s text proof v → Judged v
       go _ (no-header {number} {place} e) = t≢f (sym whole ∙ refusal-ends number place (formula text) (formula-improper text number place e))
       go _ (not-read {n} {many} {number} {place} M) = t≢f (sym whole ∙ sym (underway s text n many M .end) ∙ refusal-ends number place (refusal number place) refl)
       go _ (no-room M e) = full-at-clause refl
-      go _ (stopped {n} {number} {offset} R e) = at-record R offset e
-      go _ (tried {n} {number} {peak} R e) = at-record-tried R peak e
+      go _ (stopped {n} {number} {offset} R e) = at-command R offset e
+      go _ (tried {n} {number} {peak} R e) = at-command-tried R peak e

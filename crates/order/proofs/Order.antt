@@ -14,7 +14,7 @@ use Rattle.records.specs.declared.Rule.{Rule}
 use Rattle.records.specs.declared.Rule.the-variants.{Rup}
 use Rattle.records.specs.declared.Record.the-variants.{ProofLine, Strike}
 use Rattle.verdict.specs.Steps.{State, next, entryNode, diagramIn, unstruck, liveMembers}
-use Rattle.verdict.specs.Check.{step}
+use Rattle.verdict.specs.Steps.{recordStep}
 use Rattle.verdict.specs.Taken.{lineOf}
 use Rattle.verdict.specs.Cases.{GivesAll}
 use Rattle.order.specs.Choices.{Among, Within, Reordered, Propagates}
@@ -70,36 +70,36 @@ other-choice = Examples.other-choice
 -- accepted where a conflict comes, and refused with 19 where none comes.
 pub step-any-choice : (n s : ℕ) (st : State) (more : Bool) (root : EntryNo) → Judged n st Rup (root .0) → Room n s st Rup (root .0) → (rounds : ℕ) (b : Bool)
     → Propagates n (byDiagram n (negation n (diagramIn st (entryNode st (root .0)))) (liveMembers st)) rounds b
-    → step n s st more (ProofLine Rup root) ≡ byRule s st (entryNode st (root .0)) (lineOf n st Rup (entryNode st (root .0))) b
+    → recordStep n s st more (ProofLine Rup root) ≡ byRule s st (entryNode st (root .0)) (lineOf n st Rup (entryNode st (root .0))) b
 step-any-choice = Steps.step-any-choice
 
 -- "however members are ordered": with their marks. RUP and PR lines are accepted in one order as in the other, or refused with the same number.
 pub step-any-order : (n s : ℕ) (st : State) (members marks : List ℕ) (more : Bool) (rule : Rule) (root : EntryNo)
     → Reordered (beside (st .struck) (st .members)) (beside marks members) → Room n s st rule (root .0) → Room n s (withMembers st members marks) rule (root .0)
-    → Alike (step n s st more (ProofLine rule root)) (step n s (withMembers st members marks) more (ProofLine rule root))
+    → Alike (recordStep n s st more (ProofLine rule root)) (recordStep n s (withMembers st members marks) more (ProofLine rule root))
 step-any-order = Steps.step-any-order
 
 -- "adding live members never turns an accepted line into a refused one"
 pub step-more : (n s : ℕ) (st : State) (members marks : List ℕ) (more : Bool) (root : EntryNo) → Within (unstruck (st .struck) (st .members)) (unstruck marks members)
-    → Room n s (withMembers st members marks) Rup (root .0) → Accepted (step n s st more (ProofLine Rup root))
-    → Accepted (step n s (withMembers st members marks) more (ProofLine Rup root))
+    → Room n s (withMembers st members marks) Rup (root .0) → Accepted (recordStep n s st more (ProofLine Rup root))
+    → Accepted (recordStep n s (withMembers st members marks) more (ProofLine Rup root))
 step-more = Steps.step-more
 
 -- So a RUP line that is accepted after a striking is accepted without it.
-pub step-unstruck : (n s : ℕ) (st st₁ : State) (more more′ : Bool) (k : MemberNo) (root : EntryNo) → step n s st more (Strike k) ≡ next st₁ → Room n s st Rup (root .0)
-    → Accepted (step n s st₁ more′ (ProofLine Rup root)) → Accepted (step n s st more′ (ProofLine Rup root))
+pub step-unstruck : (n s : ℕ) (st st₁ : State) (more more′ : Bool) (k : MemberNo) (root : EntryNo) → recordStep n s st more (Strike k) ≡ next st₁ → Room n s st Rup (root .0)
+    → Accepted (recordStep n s st₁ more′ (ProofLine Rup root)) → Accepted (recordStep n s st more′ (ProofLine Rup root))
 step-unstruck = Steps.step-unstruck
 
 -- The same of two checks with tables of their own, so that clauses may come in another order, or be more.
 pub lines-alike : (n s s′ : ℕ) (st st′ : State) (more more′ : Bool) (root root′ : EntryNo) → SameLine st (root .0) st′ (root′ .0) → (rule : Rule)
     → Within (liveMembers st) (liveMembers st′) → Within (liveMembers st′) (liveMembers st)
     → Judged n st rule (root .0) → Judged n st′ rule (root′ .0) → Room n s st rule (root .0) → Room n s′ st′ rule (root′ .0)
-    → Alike (step n s st more (ProofLine rule root)) (step n s′ st′ more′ (ProofLine rule root′))
+    → Alike (recordStep n s st more (ProofLine rule root)) (recordStep n s′ st′ more′ (ProofLine rule root′))
 lines-alike = Steps.lines-alike
 
 pub lines-more : (n s s′ : ℕ) (st st′ : State) (more more′ : Bool) (root root′ : EntryNo) → SameLine st (root .0) st′ (root′ .0)
     → Within (liveMembers st) (liveMembers st′) → Judged n st′ Rup (root′ .0) → Room n s′ st′ Rup (root′ .0)
-    → Accepted (step n s st more (ProofLine Rup root)) → Accepted (step n s′ st′ more′ (ProofLine Rup root′))
+    → Accepted (recordStep n s st more (ProofLine Rup root)) → Accepted (recordStep n s′ st′ more′ (ProofLine Rup root′))
 lines-more = Steps.lines-more
 
 -- "with enough room": for every line there is a size of the table from which on it has room.

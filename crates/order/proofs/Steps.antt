@@ -20,10 +20,10 @@ use Rattle.records.specs.declared.Rule.{Rule}
 use Rattle.records.specs.declared.Rule.the-variants.{Rup, Pr}
 use Rattle.records.specs.declared.Record.the-variants.{ProofLine, Strike}
 use Rattle.verdict.specs.Steps.{State, Step, next, stop, spent, isEntry, entryNode, waiting, accepted, judged, diagramIn, unstruck, liveMembers, lineStep}
-use Rattle.verdict.specs.Check.{step}
+use Rattle.verdict.specs.Steps.{recordStep}
 use Rattle.verdict.specs.Steps.{withMarks}
 use Rattle.verdict.specs.Taken.{lineOf, peakWith, LineTaken, StrikeTaken}
-use Rattle.verdict.proofs.Steps.{step-taken}
+use Rattle.verdict.proofs.Steps.{record-taken}
 use Rattle.order.specs.Choices.{Within, Reordered, Propagates}
 use Rattle.order.specs.Lines.{Room, Judged, byRule, SameLine, Accepted, Alike, withMembers, beside}
 use Rattle.order.proofs.Members.{within-map, reordered-within, reordered-back}
@@ -48,14 +48,14 @@ module _ (n s : ℕ) (st : State) where
   line-judged Pr root J = rw (J .entry, lt-leb 1024 (st .lines) (J .few), ne-eqb (entryNode st root) 1 (J .not-one), J .witness)
 
   step-shown : (more : Bool) (rule : Rule) (root : EntryNo) → Judged n st rule (root .0) → Room n s st rule (root .0)
-      → step n s st more (ProofLine rule root) ≡ byRule s st (entryNode st (root .0)) (lineOf n st rule (entryNode st (root .0))) (lineOf n st rule (entryNode st (root .0)) .shown)
-  unfolding step
+      → recordStep n s st more (ProofLine rule root) ≡ byRule s st (entryNode st (root .0)) (lineOf n st rule (entryNode st (root .0))) (lineOf n st rule (entryNode st (root .0)) .shown)
+  unfolding recordStep
   step-shown more rule root J fits = line-judged rule (root .0) J ∙ judged-fits (entryNode st (root .0)) (lineOf n st rule (entryNode st (root .0))) fits
 
   -- Whichever member with units each round of a RUP line takes: accepted where a conflict comes, else refused with 19.
   pub step-any-choice : (more : Bool) (root : EntryNo) → Judged n st Rup (root .0) → Room n s st Rup (root .0) → (rounds : ℕ) (b : Bool)
       → Propagates n (byDiagram n (negation n (diagramIn st (entryNode st (root .0)))) (liveMembers st)) rounds b
-      → step n s st more (ProofLine Rup root) ≡ byRule s st (entryNode st (root .0)) (lineOf n st Rup (entryNode st (root .0))) b
+      → recordStep n s st more (ProofLine Rup root) ≡ byRule s st (entryNode st (root .0)) (lineOf n st Rup (entryNode st (root .0))) b
   step-any-choice more root J fits rounds b R =
       step-shown more Rup root J fits
       ∙ ap (byRule s st (entryNode st (root .0)) (lineOf n st Rup (entryNode st (root .0)))) (sym (rup-any-choice n (liveMembers st) (diagramIn st (entryNode st (root .0))) rounds b R))
@@ -94,16 +94,16 @@ module _ (n : ℕ) (st st′ : State) (root root′ : ℕ) (L : SameLine st root
 module _ (n s s′ : ℕ) (st st′ : State) (more more′ : Bool) (root root′ : EntryNo) (L : SameLine st (root .0) st′ (root′ .0)) where
   pub lines-alike : (rule : Rule) → Within (liveMembers st) (liveMembers st′) → Within (liveMembers st′) (liveMembers st)
       → Judged n st rule (root .0) → Judged n st′ rule (root′ .0) → Room n s st rule (root .0) → Room n s′ st′ rule (root′ .0)
-      → Alike (step n s st more (ProofLine rule root)) (step n s′ st′ more′ (ProofLine rule root′))
+      → Alike (recordStep n s st more (ProofLine rule root)) (recordStep n s′ st′ more′ (ProofLine rule root′))
   lines-alike rule w w′ J J′ fits fits′ =
       rw (step-shown n s st more rule root J fits, step-shown n s′ st′ more′ rule root′ J′ fits′, shown-same n st st′ (root .0) (root′ .0) L rule w w′)
       (alike-rule s s′ st st′ _ _ _ _ (lineOf n st′ rule (entryNode st′ (root′ .0)) .shown))
 
   pub lines-more : Within (liveMembers st) (liveMembers st′) → Judged n st′ Rup (root′ .0) → Room n s′ st′ Rup (root′ .0)
-      → Accepted (step n s st more (ProofLine Rup root)) → Accepted (step n s′ st′ more′ (ProofLine Rup root′))
+      → Accepted (recordStep n s st more (ProofLine Rup root)) → Accepted (recordStep n s′ st′ more′ (ProofLine Rup root′))
   lines-more w J′ fits′ a =
-      let (st₁, e) = accepted-next (step n s st more (ProofLine Rup root)) a in
-      let T : LineTaken n s st Rup (root .0) st₁ = step-taken n s st more (ProofLine Rup root) st₁ e in
+      let (st₁, e) = accepted-next (recordStep n s st more (ProofLine Rup root)) a in
+      let T : LineTaken n s st Rup (root .0) st₁ = record-taken n s st more (ProofLine Rup root) st₁ e in
       rw (step-shown n s′ st′ more′ Rup root′ J′ fits′) (accepted-rule s′ st′ _ _ _ (shown-more n st st′ (root .0) (root′ .0) L w (T .shown)))
 
 -- ---- one state with other members
@@ -149,8 +149,8 @@ module _ (n s : ℕ) (st : State) (members marks : List ℕ) where
       (alike-rule s s st st′ _ _ _ _ (lineOf n st′ rule (entryNode st′ root) .shown))
 
   pub step-any-order : (more : Bool) (rule : Rule) (root : EntryNo) → Reordered (beside (st .struck) (st .members)) (beside marks members) → Room n s st rule (root .0) → Room n s st′ rule (root .0)
-      → Alike (step n s st more (ProofLine rule root)) (step n s st′ more (ProofLine rule root))
-  unfolding step lineStep isEntry entryNode waiting
+      → Alike (recordStep n s st more (ProofLine rule root)) (recordStep n s st′ more (ProofLine rule root))
+  unfolding recordStep lineStep isEntry entryNode waiting
   step-any-order more Rup root r fits fits′ =
       let g : ℕ = entryNode st (root .0) in
       alike-tested (not (isEntry st (root .0))) (waiting st) (leb 1024 (st .lines)) (eqb g 1) 13 16 22 17
@@ -161,18 +161,18 @@ module _ (n s : ℕ) (st : State) (members marks : List ℕ) where
       (judged s st g (lineOf n st Pr g)) (judged s st′ g (lineOf n st′ Pr g)) (judged-alike Pr (root .0) r fits fits′)
 
   pub step-more : (more : Bool) (root : EntryNo) → Within (unstruck (st .struck) (st .members)) (unstruck marks members) → Room n s st′ Rup (root .0)
-      → Accepted (step n s st more (ProofLine Rup root)) → Accepted (step n s st′ more (ProofLine Rup root))
+      → Accepted (recordStep n s st more (ProofLine Rup root)) → Accepted (recordStep n s st′ more (ProofLine Rup root))
   step-more more root w fits′ a =
-      let (st₁, e) = accepted-next (step n s st more (ProofLine Rup root)) a in
-      let T : LineTaken n s st Rup (root .0) st₁ = step-taken n s st more (ProofLine Rup root) st₁ e in
+      let (st₁, e) = accepted-next (recordStep n s st more (ProofLine Rup root)) a in
+      let T : LineTaken n s st Rup (root .0) st₁ = record-taken n s st more (ProofLine Rup root) st₁ e in
       lines-more n s s st st′ more more root root (same-line (root .0)) (live-within w) (still (root .0) st₁ T) fits′ a
 
 -- A RUP line that is accepted once a member is struck is accepted without the striking.
-pub step-unstruck : (n s : ℕ) (st st₁ : State) (more more′ : Bool) (k : MemberNo) (root : EntryNo) → step n s st more (Strike k) ≡ next st₁ → Room n s st Rup (root .0)
-    → Accepted (step n s st₁ more′ (ProofLine Rup root)) → Accepted (step n s st more′ (ProofLine Rup root))
+pub step-unstruck : (n s : ℕ) (st st₁ : State) (more more′ : Bool) (k : MemberNo) (root : EntryNo) → recordStep n s st more (Strike k) ≡ next st₁ → Room n s st Rup (root .0)
+    → Accepted (recordStep n s st₁ more′ (ProofLine Rup root)) → Accepted (recordStep n s st more′ (ProofLine Rup root))
 step-unstruck n s st st₁ more more′ k root e fits a =
-    let T : StrikeTaken st (k .0) st₁ = step-taken n s st more (Strike k) st₁ e in
-    let a′ : Accepted (step n s (withMarks st (set (st .struck) (k .0) 1)) more′ (ProofLine Rup root)) = subst (λ (x : State). Accepted (step n s x more′ (ProofLine Rup root))) (sym (T .is)) a in
+    let T : StrikeTaken st (k .0) st₁ = record-taken n s st more (Strike k) st₁ e in
+    let a′ : Accepted (recordStep n s (withMarks st (set (st .struck) (k .0) 1)) more′ (ProofLine Rup root)) = subst (λ (x : State). Accepted (recordStep n s x more′ (ProofLine Rup root))) (sym (T .is)) a in
     step-more n s (withMarks st (set (st .struck) (k .0) 1)) (st .members) (st .struck) more′ root (struck-within (st .struck) (k .0) (st .members)) fits a′
 
 -- ---- room
