@@ -8,10 +8,10 @@ ghost use Rattle.walks.specs.Readable.{Roomy};
 ghost use Rattle.conflict.specs.Marks.{unmarked};
 ghost use Rattle.steps.specs.States.{Lent, lentOf, stateOf, Held, Stepped};
 
-mod line;
+pub mod line;
 mod node;
 mod set;
-mod strike;
+pub mod strike;
 mod witness;
 
 // The state between records: the table's count, how many nodes stay if the line is not accepted, the numbers of members and of the
