@@ -15,7 +15,7 @@ use Rattle.table.specs.Lists.{Inside}
 use Rattle.table.proofs.Numbers.{UsesTo}
 use Rattle.table.proofs.Written.{nodes-indexed, length-nodes}
 use Rattle.table.proofs.Outcomes.{Grown}
-use Rattle.verdict.specs.Check as check
+use Rattle.verdict.specs.Steps as check
 use Rattle.verdict.specs.Steps.{next, entered}
 use Rattle.verdict.proofs.Uses.{UsesAfter}
 use Rattle.steps.specs.declared.State.{State}

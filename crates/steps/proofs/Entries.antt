@@ -17,7 +17,7 @@ use Rattle.table.specs.Indexed.{nodesOf}
 use Rattle.walks.specs.Readable.{nodesIn}
 use Rattle.walks.specs.Constant.{oneAt}
 use Rattle.records.specs.declared.NodeBody.{NodeBody}
-use Rattle.verdict.specs.Check as check
+use Rattle.verdict.specs.Steps as check
 use Rattle.verdict.specs.Steps.{isEntry, entryNode, isVariable, waiting, diagramIn}
 use Rattle.table.specs.Lists.{Inside}
 use Rattle.judge.proofs.Widths.{witnessed-walk}

@@ -10,22 +10,25 @@ use lib.Dec.{eqb, leb}
 use lib.Seq.{getD-set-other, set-getD}
 use Rattle.meaning.specs.Rules.{Line, witnessed}
 use Rattle.meaning.specs.Words.{inWord}
-use Rattle.table.specs.Indexed.{Table, size, nodesOf}
+use Rattle.table.specs.Nodes.{Node}
+use Rattle.table.specs.Indexed.{Table, size, nodesOf, Good}
 use Rattle.walks.specs.Readable.{Roomy}
 use Rattle.table.specs.Making.{reach, lineReach}
 use Rattle.table.proofs.Written.{length-nodes}
 use Rattle.table.proofs.Outcomes.{droppedTo, undone}
 use Rattle.records.specs.declared.Rule.{Rule}
 use Rattle.records.specs.declared.Rule.the-variants.{Rup, Pr}
-use Rattle.verdict.specs.Check as check
-use Rattle.verdict.specs.Steps.{next, spent, isEntry, entryNode, unstruck, waiting, accepted, judged, diagramIn, lineStep}
+use Rattle.verdict.specs.Steps as check
+use Rattle.verdict.specs.Steps.{next, spent, isEntry, entryNode, unstruck, waiting, judged, diagramIn, lineStep}
 use Rattle.table.specs.Lists.{Inside}
 use Rattle.table.proofs.Extended.{extended-longer}
 use Rattle.judge.specs.declared.Judged.{Judged}
 use Rattle.judge.specs.Lines.{Negatable, Says}
 use Rattle.judge.proofs.Widths.{witnessed-at, rup-at, pr-at}
 use Rattle.steps.specs.declared.State.{State}
+use Rattle.steps.specs.declared.Step.{Step}
 use Rattle.steps.specs.declared.Step.the-variants.{Next, Stop, Spent}
+use Rattle.steps.specs.Tried.{Tried, acceptedBy, saidBy, stepBy, membersBy}
 use Rattle.steps.specs.States.{Lent, tableIn, stateOf, withLine, Held, Stepped}
 use Rattle.verdict.specs.Taken.{lineOf}
 use Rattle.steps.specs.Tests.{lineRefusal}
@@ -83,23 +86,28 @@ module _ (n : ℕ) (st : check.State) (root : ℕ) where
 
 -- ---- what judging says
 
-module _ (s : ℕ) (st : check.State) (g : ℕ) (line : Line) (peak : ℕ) where
-  judged-23 : lineReach s (st .nodes) line ≡ reach false peak → judged s st g line ≡ spent 23 (max (st .peak) peak)
-  unfolding judged
-  judged-23 e = rw e
-
-  module _ (fits : lineReach s (st .nodes) line ≡ reach true peak) where
-    judged-19 : line .shown ≡ false → judged s st g line ≡ spent 19 (max (st .peak) peak)
-    unfolding judged
-    judged-19 e = rw (fits, e)
-
-    judged-next : line .shown ≡ true → judged s st g line ≡ next (accepted st g line (max (st .peak) peak))
-    unfolding judged
-    judged-next e = rw (fits, e)
+-- Judging says what the line comes to.
+pub judged-said : (T : Table) (st : check.State) → st .nodes ≡ nodesOf T → (g : ℕ) (line : Line) (j : Judged) → Tried T line j → judged (size T) st g line ≡ saidBy st g j
+unfolding judged
+judged-said T st same g line j W =
+    let at : lineReach (size T) (st .nodes) line ≡ reach (not (j .full)) (j .peak) = ap (λ (t : List Node). lineReach (size T) t line) same ∙ W .reaches in
+    go (j .full) refl at
+  where
+    go : (b : Bool) → j .full ≡ b → lineReach (size T) (st .nodes) line ≡ reach (not b) (j .peak)
+        → judged (size T) st g line ≡ cond b (spent 23 (max (st .peak) (j .peak))) (cond (not (j .shown)) (spent 19 (max (st .peak) (j .peak))) (next (acceptedBy st g (j .rounds) (max (st .peak) (j .peak)))))
+    go true f e = rw e
+    go false f e = rw (e, W .shown f, W .rounds f)
 
 -- A line judged with fewer rounds at most.
 pub says-most : (t : Table) (line : Line) (a b : ℕ) (r : Judged) (t′ : Table) → a ≤ b → Says t line a r t′ → Says t line b r t′
 says-most t line a b r t′ le J = record { extended = J .extended; reaches = J .reaches; shown = J .shown; rounds = J .rounds; most = omega (arith, J .most) }
+
+-- What judging says, once its nodes are dropped.
+pub tried : (t : Table) → Good t → (line : Line) (r : Judged) (t₁ t₂ : Table) → Says t line 131072 r t₁ → t₂ ≡ droppedTo (t .count) t₁ → (t₂ ≡ t) × Tried t line r
+tried t G line r t₁ t₂ J e = (
+  e ∙ undone t G t₁ (extended-longer t t₁ G (J .extended)),
+  record { reaches = J .reaches; shown = J .shown; rounds = J .rounds; most = J .most },
+)
 
 -- ---- the header's variables
 
@@ -209,94 +217,111 @@ module _ (n : ℕ) (L : Lent) (st : State) (H : Held n L st) (rule : Rule) (root
     pub few-members : st .members < 2048
     few-members = omega (arith, H .many, fits .few)
 
-    module _ (j : Judged) (T₁ T₂ : Table) (J : Says T (lineOf 64 S rule k) 131072 j T₁) (dropped : T₂ ≡ droppedTo (st .count) T₁) where
-      -- dropping gives back the table
-      back : T₂ ≡ T
-      back = dropped ∙ undone T (H .entries .good) T₁ (extended-longer T T₁ (H .entries .good) (J .extended))
+    pub line-said : (j : Judged) → Tried T (lineOf 64 S rule k) j → said ≡ saidBy S k j
+    line-said j W = said-is ∙ judged-said T S refl k (lineOf 64 S rule k) j W
 
-      same-table : (ms cs ss : List ℕ) → tableIn (lentWith T₂ ms cs ss) (st .count) ≡ tableIn L (st .count)
-      same-table ms cs ss = ap (λ (t : Table). tableIn (lentWith t ms cs ss) (st .count)) back
+-- ---- a judged line is refused, or its root is the next member
 
-      reaches : (b : Bool) → j .full ≡ b → lineReach (size T) (nodesOf T) (lineOf 64 S rule k) ≡ reach (not b) (j .peak)
-      reaches b f = J .reaches ∙ ap (λ (x : Bool). reach (not x) (j .peak)) f
+module _ (n : ℕ) (L : Lent) (st : State) (H : Held n L st) (few : st .lines < 1024) (k : ℕ) (k-in : k < st .count) (rounds : ℕ) (most : rounds ≤ 131072) (peak : ℕ)
+    (cs : List ℕ) (room : 4096 ≤ length cs) where
+  abbrev st′ : State
+  st′ = withLine st rounds peak k
 
-      module _ (peak : ℕ) (greatest : peak ≡ max (st .peak) (j .peak)) where
-        pub line-23 : (cs : List ℕ) → j .full ≡ true → Stepped n L (lentWith T₂ (L .members) cs (L .struck)) st said (Spent 23 peak)
-        line-23 cs f = record {
-          says = ap (spent 23) greatest ∙ sym (said-is ∙ judged-23 (size T) S k (lineOf 64 S rule k) (j .peak) (reaches true f));
-          leaves = record { table = same-table (L .members) cs (L .struck); members = refl; struck = refl };
-        }
+  abbrev L′ : Lent
+  L′ = lentWith (tableIn L (st .count)) (set (L .members) (st .members) k) cs (L .struck)
 
-        pub line-19 : (cs : List ℕ) → j .full ≡ false → j .shown ≡ false → Stepped n L (lentWith T₂ (L .members) cs (L .struck)) st said (Spent 19 peak)
-        line-19 cs f e = record {
-          says = ap (spent 19) greatest ∙ sym (said-is ∙ judged-19 (size T) S k (lineOf 64 S rule k) (j .peak) (reaches false f) (sym (J .shown f) ∙ e));
-          leaves = record { table = same-table (L .members) cs (L .struck); members = refl; struck = refl };
-        }
+  abbrev stateWith : ℕ → List ℕ → List ℕ → ℕ → check.State
+  stateWith kept ms ss lines = record {
+    nodes = nodesOf (tableIn L (st .count));
+    kept = kept;
+    members = ms;
+    struck = ss;
+    entries = [];
+    positive = 0;
+    negative = 0;
+    lines = lines;
+    rounds = st .rounds + rounds;
+    peak = peak;
+    refuted = st .refuted || eqb k 0;
+  }
 
-      module _ (cs : List ℕ) (room : 4096 ≤ length cs) (f : j .full ≡ false) (shown : j .shown ≡ true) where
-        abbrev st′ : State
-        st′ = withLine st (j .rounds) (max (st .peak) (j .peak)) k
+  member-room : st .members < length (L .members)
+  member-room = omega (arith, H .many, few, H .room)
 
-        abbrev L′ : Lent
-        L′ = lentWith T (set (L .members) (st .members) k) cs (L .struck)
+  -- the new member's mark is there already
+  mark-more : take (st .members + 1) (L .struck) ≡ take (st .members) (L .struck) ++ 0 ∷ []
+  mark-more =
+      ap (λ (ss : List ℕ). take (st .members + 1) ss) (sym (set-getD (L .struck) (st .members) 0) ∙ ap (set (L .struck) (st .members)) (H .unmarked (st .members) (omega arith)))
+      ∙ one-more (L .struck) (st .members) 0 (omega (arith, member-room, H .marked))
 
-        abbrev stateWith : ℕ → List ℕ → List ℕ → ℕ → ℕ → check.State
-        stateWith kept ms ss lines rounds = record {
-          nodes = nodesOf T;
-          kept = kept;
-          members = ms;
-          struck = ss;
-          entries = [];
-          positive = 0;
-          negative = 0;
-          lines = lines;
-          rounds = rounds;
-          peak = max (st .peak) (j .peak);
-          refuted = st .refuted || eqb k 0;
-        }
+  pub accepted-says : stateOf L′ st′ ≡ acceptedBy (stateOf L st) k rounds peak
+  accepted-says =
+      let one : st .lines + 1 ≡ suc (st .lines) = omega arith in
+      ap₂ (λ (kept : ℕ) (ms : List ℕ). stateWith kept ms (take (st .members + 1) (L .struck)) (st .lines + 1))
+      (sym (length-nodes (tableIn L (st .count)) (H .entries .good))) (one-more (L .members) (st .members) k member-room)
+      ∙ ap₂ (λ (ss : List ℕ) (lines : ℕ). stateWith (length (nodesOf (tableIn L (st .count)))) (take (st .members) (L .members) ++ k ∷ []) ss lines) mark-more one
 
-        member-room : st .members < length (L .members)
-        member-room = omega (arith, few-members, H .room)
+  pub accepted-held : Held n L′ st′
+  accepted-held = record {
+    entries = record {
+      good = H .entries .good;
+      uses = H .entries .uses;
+      inside = λ i p. absurd (omega arith);
+      few = omega arith;
+      room = room;
+      narrow = H .entries .narrow;
+    };
+    least = H .entries .good .least;
+    kept = omega arith;
+    inside = inside-more (L .members) (st .members) k (st .kept) (st .count) member-room (H .inside) (H .kept) k-in;
+    rest = λ i p. getD-set-other (L .members) (st .members) i k 0 (λ e. absurd (omega arith)) ∙ H .rest i (omega arith);
+    many = omega (arith, H .many);
+    lines = omega (arith, few);
+    room = omega (arith, length-set (L .members) (st .members) k, H .room);
+    marked = H .marked ∙ sym (length-set (L .members) (st .members) k);
+    unmarked = λ i p. H .unmarked i (omega arith);
+    rounds = omega (arith, H .rounds, most);
+  }
 
-        -- the new member's mark is there already
-        mark-more : take (st .members + 1) (L .struck) ≡ take (st .members) (L .struck) ++ 0 ∷ []
-        mark-more =
-            ap (λ (ss : List ℕ). take (st .members + 1) ss) (sym (set-getD (L .struck) (st .members) 0) ∙ ap (set (L .struck) (st .members)) (H .unmarked (st .members) (omega arith)))
-            ∙ one-more (L .struck) (st .members) 0 (omega (arith, member-room, H .marked))
+module _ (n : ℕ) (L : Lent) (st : State) (H : Held n L st) (few : st .lines < 1024) (k : ℕ) (k-in : k < st .count) (j : Judged) (most : j .rounds ≤ 131072)
+    (T₂ : Table) (back : T₂ ≡ tableIn L (st .count)) (cs : List ℕ) (room : 4096 ≤ length cs) where
+  -- THEOREM: where judging leaves the table as it was, what the line comes to is the definition's.
+  pub line-ended : Stepped n L (lentWith T₂ (membersBy (L .members) st j k) cs (L .struck)) st (saidBy (stateOf L st) k j) (stepBy st j k)
+  line-ended = subst (λ (t : Table). Stepped n L (lentWith t (membersBy (L .members) st j k) cs (L .struck)) st (saidBy (stateOf L st) k j) (stepBy st j k)) (sym back) (go (j .full) (j .shown))
+    where
+      peak : ℕ
+      peak = max (st .peak) (j .peak)
 
-        says : next (stateOf L′ st′) ≡ said
-        says =
-            let one : st .lines + 1 ≡ suc (st .lines) = omega arith in
-            ap₂ (λ (kept : ℕ) (ms : List ℕ). next (stateWith kept ms (take (st .members + 1) (L .struck)) (st .lines + 1) (st .rounds + j .rounds)))
-            (sym (length-nodes T (H .entries .good))) (one-more (L .members) (st .members) k member-room)
-            ∙ ap (λ (ss : List ℕ). next (stateWith (length (nodesOf T)) (take (st .members) (L .members) ++ k ∷ []) ss (st .lines + 1) (st .rounds + j .rounds))) mark-more
-            ∙ ap₂ (λ (lines rounds : ℕ). next (stateWith (length (nodesOf T)) (take (st .members) (L .members) ++ k ∷ []) (take (st .members) (L .struck) ++ 0 ∷ []) lines (st .rounds + rounds)))
-            one (J .rounds f)
-            ∙ sym (said-is ∙ judged-next (size T) S k (lineOf 64 S rule k) (j .peak) (reaches false f) (sym (J .shown f) ∙ shown))
+      go : (full shown : Bool)
+          → Stepped n L
+            (lentWith (tableIn L (st .count)) (cond full (L .members) (cond (not shown) (L .members) (set (L .members) (st .members) k))) cs (L .struck)) st
+            (cond full (spent 23 peak) (cond (not shown) (spent 19 peak) (next (acceptedBy (stateOf L st) k (j .rounds) peak))))
+            (cond full (Spent 23 peak) (cond (not shown) (Spent 19 peak) (Next (withLine st (j .rounds) peak k))))
+      go true shown = record { says = refl; leaves = record { table = refl; members = refl; struck = refl } }
+      go false false = record { says = refl; leaves = record { table = refl; members = refl; struck = refl } }
+      go false true = record {
+        says = ap next (accepted-says n L st H few k k-in (j .rounds) most peak cs room);
+        leaves = accepted-held n L st H few k k-in (j .rounds) most peak cs room;
+      }
 
-        held : Held n L′ st′
-        held = record {
-          entries = record {
-            good = H .entries .good;
-            uses = H .entries .uses;
-            inside = λ i p. absurd (omega arith);
-            few = omega arith;
-            room = room;
-            narrow = H .entries .narrow;
-          };
-          least = H .entries .good .least;
-          kept = omega arith;
-          inside = inside-more (L .members) (st .members) k (st .kept) (st .count) member-room (H .inside) (H .kept) k-in;
-          rest = λ i p. getD-set-other (L .members) (st .members) i k 0 (λ e. absurd (omega arith)) ∙ H .rest i (omega arith);
-          many = omega (arith, H .many);
-          lines = omega (arith, fits .few);
-          room = omega (arith, length-set (L .members) (st .members) k, H .room);
-          marked = H .marked ∙ sym (length-set (L .members) (st .members) k);
-          unmarked = λ i p. H .unmarked i (omega arith);
-          rounds = omega (arith, H .rounds, J .most);
-        }
+-- ---- the ways out of a judged line
 
-        pub line-next : (st″ : State) → st″ ≡ st′ → Stepped n L (lentWith T₂ (set (L .members) (st .members) k) cs (L .struck)) st said (Next st″)
-        line-next st″ e =
-            subst (λ (t : Table). Stepped n L (lentWith t (set (L .members) (st .members) k) cs (L .struck)) st said (Next st″)) (sym back)
-            (subst (λ (x : State). Stepped n L L′ st said (Next x)) (sym e) (record { says = says; leaves = held }))
+module _ (members : List ℕ) (st : State) (j : Judged) (g peak : ℕ) (greatest : peak ≡ max (st .peak) (j .peak)) where
+  pub ended-23 : j .full ≡ true → (Spent 23 peak ≡ stepBy st j g) × (members ≡ membersBy members st j g)
+  ended-23 f = (rw (greatest, f), rw f)
+
+  pub ended-19 : j .full ≡ false → j .shown ≡ false → (Spent 19 peak ≡ stepBy st j g) × (members ≡ membersBy members st j g)
+  ended-19 f e = (rw (greatest, f, e), rw (f, e))
+
+  pub ended-next : j .full ≡ false → j .shown ≡ true → (st′ : State) → st′ ≡ withLine st (j .rounds) peak g
+      → (Next st′ ≡ stepBy st j g) × (set members (st .members) g ≡ membersBy members st j g)
+  ended-next f e st′ is = (ap Next is ∙ rw (greatest, f, e), rw (f, e))
+
+module _ (n : ℕ) (L : Lent) (st : State) (H : Held n L st) (rule : Rule) (root : ℕ) (none : lineRefusal 64 (stateOf L st) rule root ≡ 0) (k : ℕ) (is : k ≡ entryNode (stateOf L st) root) where
+  -- a line that was tried
+  pub line-stepped : (j : Judged) → Tried (tableIn L (st .count)) (lineOf 64 (stateOf L st) rule k) j → (T₂ : Table) → T₂ ≡ tableIn L (st .count) → (cs : List ℕ) → 4096 ≤ length cs
+      → {r : Step} {ms : List ℕ} → r ≡ stepBy st j k → ms ≡ membersBy (L .members) st j k
+      → Stepped n L (lentWith T₂ ms cs (L .struck)) st (lineStep n (size (tableIn L (st .count))) (stateOf L st) rule root) r
+  line-stepped j W T₂ back cs room {r} {ms} e f =
+      let few : st .lines < 1024 = line-fits 64 (stateOf L st) rule root none .few in
+      rw (e, f, line-said n L st H rule root none k is j W) (line-ended n L st H few k (k-in n L st H rule root none k is) j (W .most) T₂ back cs room)

@@ -19,7 +19,7 @@ use Rattle.table.proofs.Written.{nodes-indexed, length-nodes, good-ordered}
 use Rattle.table.proofs.Placing.{put-place}
 use Rattle.table.proofs.Outcomes.{Grown, put-grown}
 use Rattle.records.specs.declared.NodeBody.{NodeBody}
-use Rattle.verdict.specs.Check as check
+use Rattle.verdict.specs.Steps as check
 use Rattle.verdict.specs.Steps.{spent, entryNode, entered, nodeStep}
 use Rattle.verdict.proofs.Uses.{UsesAfter, place-uses}
 use Rattle.steps.specs.declared.State.{State}

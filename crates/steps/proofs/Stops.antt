@@ -12,7 +12,7 @@ use Rattle.table.specs.Nodes.{above, put}
 use Rattle.records.specs.declared.NodeBody.{NodeBody}
 use Rattle.records.specs.declared.Rule.{Rule}
 use Rattle.records.specs.declared.Rule.the-variants.{Rup, Pr}
-use Rattle.verdict.specs.Check as check
+use Rattle.verdict.specs.Steps as check
 use Rattle.verdict.specs.Steps.{stop, isEntry, entryNode, isVariable, entered, nodeStep, waiting, judged, diagramIn, lineStep, endStep}
 use Rattle.steps.specs.declared.State.{State}
 use Rattle.steps.specs.declared.Step.the-variants.{Stop}

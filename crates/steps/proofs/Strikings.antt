@@ -10,7 +10,7 @@ use lib.Dec.{eqb, ltb}
 use lib.Seq.{length-take-le, getD-take, take-set-lt, take-suc-set, getD-set-other}
 use borrow.Author.Tests.{eq-eqb, ne-eqb, lt-ltb, le-ltb}
 use Rattle.table.specs.Lists.{Inside}
-use Rattle.verdict.specs.Check as check
+use Rattle.verdict.specs.Steps as check
 use Rattle.verdict.specs.Steps.{next, unstruck, waiting, isLive, strikeStep}
 use Rattle.steps.specs.declared.State.{State}
 use Rattle.steps.specs.declared.Step.the-variants.{Next, Stop}

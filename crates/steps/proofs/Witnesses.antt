@@ -4,7 +4,7 @@ use mathlib.Core.Bool.{Bool, true, false, not, or-true}
 use Prim.Native.Nat.{ℕ, _≤_, _<_}
 use borrow.Author.Tests.{le-leb, lt-leb}
 use Rattle.meaning.specs.Words.{inWord}
-use Rattle.verdict.specs.Check as check
+use Rattle.verdict.specs.Steps as check
 use Rattle.verdict.specs.Steps.{next, isVariable, withVariable, witnessStep}
 use Rattle.steps.specs.declared.State.{State}
 use Rattle.steps.specs.declared.Step.the-variants.{Next, Stop}

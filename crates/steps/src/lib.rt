@@ -4,15 +4,15 @@ ghost use mathlib.Core.Path.{_≡_};
 ghost use Prim.Native.Nat.{ℕ};
 ghost use lib.ListN.{length};
 ghost use Rattle.verdict.specs.Steps.{endStep};
-ghost use Rattle.verdict.specs.Check.{step};
+ghost use Rattle.verdict.specs.Steps.{recordStep};
 ghost use Rattle.walks.specs.Readable.{Roomy};
 ghost use Rattle.conflict.specs.Marks.{unmarked};
 ghost use Rattle.steps.specs.States.{Lent, lentOf, stateOf, Held, Stepped};
 
-mod line;
+pub mod line;
 mod node;
 mod set;
-mod strike;
+pub mod strike;
 mod witness;
 
 // The state between records: the table's count, how many nodes stay if the line is not accepted, the numbers of members and of the
@@ -83,7 +83,7 @@ pub fn record_step(
         (now (members .entry)) (now (scratch .entry)) (now (struck .entry)) in
         let returned = lentOf (now (vars .exit)) (now (lows .exit)) (now (highs .exit)) (now (heads .exit)) (now (links .exit))
         (now (members .exit)) (now (scratch .exit)) (now (struck .exit)) in
-        Stepped variables lent returned st (step variables (length (now (vars .entry))) (stateOf lent st) more r) s) ⌝ }
+        Stepped variables lent returned st (recordStep variables (length (now (vars .entry))) (stateOf lent st) more r) s) ⌝ }
     ensures { λ _. ⌜ now (marks .exit) ≡ unmarked (length (now (vars .entry))) ⌝ }
 {
     match r {

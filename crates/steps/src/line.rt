@@ -6,7 +6,7 @@ use table::NodeNo;
 ghost use mathlib.Core.Path.{_≡_};
 ghost use mathlib.Core.Bool.{_||_};
 ghost use mathlib.Core.List.{List};
-ghost use Prim.Native.Nat.{ℕ, _+_, _*_, _≤_};
+ghost use Prim.Native.Nat.{ℕ, _+_, _*_, _≤_, _<_};
 ghost use lib.ListN.{length, take};
 ghost use lib.Dec.{eqb};
 ghost use Rattle.table.specs.Nodes.{diagramAt};
@@ -19,6 +19,7 @@ ghost use Rattle.conflict.specs.Marks.{unmarked};
 ghost use Rattle.judge.specs.Lines.{Negatable, Says};
 ghost use Rattle.steps.specs.States.{lentOf, stateOf, withLine, Held, Stepped};
 ghost use Rattle.steps.specs.Tests.{LineTested};
+ghost use Rattle.steps.specs.Tried.{Tried, stepBy, membersBy};
 
 // What the tests of a line come to: 13, 16, 22 or 17 of a RUP line, 13, 22, 17 or 18 of a PR line, or its root's node, to be judged.
 pub enum LineTest {
@@ -215,6 +216,58 @@ fn judge_live(
     )
 }
 
+// Judges the line by its rule over the members that are not struck; the entries are gone. The nodes that judging makes are dropped.
+pub fn try_line(
+    vars: &mut [u8],
+    lows: &mut [u16],
+    highs: &mut [u16],
+    heads: &mut [u16],
+    links: &mut [u16],
+    memo: &mut [u64],
+    marks: &mut [u8],
+    members: &[u16],
+    scratch: &mut [u16],
+    struck: &[u8],
+    st: crate::State,
+    rule: Rule,
+    g: NodeNo,
+) -> Judged
+    requires { ⌜ (
+        let before = tableOf (now vars) (now lows) (now highs) (now heads) (now links) (st .count) in
+        Negatable before (take (st .members) (now members)) (now memo) (g .0)
+        × (now marks ≡ unmarked (length (now vars)))
+        × (st .members ≤ 2048)
+        × (2048 ≤ length (now members))
+        × (4096 ≤ length (now scratch))
+        × (length (now struck) ≡ length (now members))) ⌝ }
+    ensures { λ r. ⌜ (
+        let before = tableOf (now (vars .entry)) (now (lows .entry)) (now (highs .entry)) (now (heads .entry)) (now (links .entry))
+        (st .count) in
+        let lent = lentOf (now (vars .entry)) (now (lows .entry)) (now (highs .entry)) (now (heads .entry)) (now (links .entry))
+        (now (members .entry)) (now (scratch .entry)) (now (struck .entry)) in
+        let after = tableOf (now (vars .exit)) (now (lows .exit)) (now (highs .exit)) (now (heads .exit)) (now (links .exit)) (st .count) in
+        (after ≡ before) × Tried before (lineOf 64 (stateOf lent st) rule (g .0)) r) ⌝ }
+    ensures { λ _. ⌜ now (marks .exit) ≡ unmarked (length (now (vars .entry))) ⌝ }
+{
+    let j = judge_live(
+        vars,
+        lows,
+        highs,
+        heads,
+        links,
+        memo,
+        marks,
+        members,
+        scratch,
+        struck,
+        st,
+        rule,
+        g,
+    );
+    table::drop_to(vars, lows, highs, heads, links, j.count, st.count);
+    j
+}
+
 // Whether a line is 0, or one before it was.
 fn refutes(before: bool, g: NodeNo) -> bool
     ensures { λ r. ⌜ r ≡ (before || eqb (g .0) 0) ⌝ }
@@ -226,7 +279,7 @@ fn refutes(before: bool, g: NodeNo) -> bool
 }
 
 // The state after a line that is shown.
-fn with_line(st: crate::State, rounds: u64, peak: usize, g: NodeNo) -> crate::State
+pub fn with_line(st: crate::State, rounds: u64, peak: usize, g: NodeNo) -> crate::State
     requires { ⌜ (st .members ≤ 2048) × (st .lines ≤ 1024) × (st .rounds + rounds ≤ 1025 * 131072) ⌝ }
     ensures { λ r. ⌜ r ≡ withLine st rounds peak (g .0) ⌝ }
 {
@@ -243,6 +296,27 @@ fn with_line(st: crate::State, rounds: u64, peak: usize, g: NodeNo) -> crate::St
         peak,
         refuted,
     }
+}
+
+// What a judged line comes to: it is refused, or its root is the next member.
+pub fn ended(members: &mut [u16], st: crate::State, j: Judged, g: NodeNo) -> crate::Step
+    requires { ⌜ (st .members < 2048)
+        × (2048 ≤ length (now members))
+        × (st .lines ≤ 1024)
+        × (st .rounds + j .rounds ≤ 1025 * 131072) ⌝ }
+    ensures { λ r. ⌜ r ≡ stepBy st j (g .0) ⌝ }
+    ensures { λ _. ⌜ now (members .exit) ≡ membersBy (now (members .entry)) st j (g .0) ⌝ }
+{
+    let peak = judge::greater(st.peak, j.peak);
+    if j.full {
+        return crate::Step::Spent(23, peak);
+    }
+    if !j.shown {
+        return crate::Step::Spent(19, peak);
+    }
+    let m = st.members;
+    members[m] = g.0;
+    crate::Step::Next(with_line(st, j.rounds, peak, g))
 }
 
 // The line is refused, or its root is the next member. The nodes that judging makes are dropped.
@@ -277,7 +351,7 @@ pub fn line_step(
     match line_test(vars, lows, highs, memo, scratch, st, rule, root) {
         LineTest::Refused(number) => crate::Step::Stop(number, 0),
         LineTest::Fits(g) => {
-            let j = judge_live(
+            let j = try_line(
                 vars,
                 lows,
                 highs,
@@ -292,17 +366,7 @@ pub fn line_step(
                 rule,
                 g,
             );
-            table::drop_to(vars, lows, highs, heads, links, j.count, st.count);
-            let peak = judge::greater(st.peak, j.peak);
-            if j.full {
-                return crate::Step::Spent(23, peak);
-            }
-            if !j.shown {
-                return crate::Step::Spent(19, peak);
-            }
-            let m = st.members;
-            members[m] = g.0;
-            crate::Step::Next(with_line(st, j.rounds, peak, g))
+            ended(members, st, j, g)
         }
     }
 }

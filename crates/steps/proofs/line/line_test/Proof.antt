@@ -8,7 +8,7 @@ use lib.ListN.{length}
 use borrow.Author.Tests.{not-true, not-false, ltb-true, le-leb, lt-leb}
 use borrow.Author.Needs.{needs}
 use Rattle.records.specs.declared.Rule.{Rule}
-use Rattle.verdict.specs.Check as check
+use Rattle.verdict.specs.Steps as check
 use Rattle.verdict.specs.Steps.{isEntry}
 use Rattle.steps.specs.States.{Lent, lentOf, stateOf}
 use Rattle.steps.specs.Tests.{lineRefusal}

@@ -7,7 +7,7 @@ use native.Mathlib.Omega.{arith}
 use lib.ListN.{length, getD, take}
 use lib.Dec.{leb}
 use borrow.Author.Tests.{not-true, not-false, ltb-true}
-use Rattle.verdict.specs.Check as check
+use Rattle.verdict.specs.Steps as check
 use Rattle.verdict.specs.Steps.{isVariable, isEntry}
 use Rattle.steps.specs.States.{Lent, lentOf, stateOf}
 use Rattle.steps.proofs.Witnesses.{is-variable, variable-zero, variable-beyond}
