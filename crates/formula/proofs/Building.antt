@@ -26,7 +26,8 @@ use Rattle.dimacs.proofs.Bounds.{NextIn, next-in}
 use Rattle.clause.specs.Words.{clauseOfWords}
 use Rattle.clause.proofs.Literals.{clause-of-words}
 use Rattle.verdict.specs.Steps.{emptied, begun}
-use Rattle.verdict.specs.Check.{Verdict, records, refusedFormula, clauses}
+use Rattle.commands.specs.declared.Mode.{Mode}
+use Rattle.verdict.specs.Check.{Verdict, proofFrom, refusedFormula, clauses}
 use Rattle.verdict.proofs.Uses.{UsesAfter, place-uses}
 use Rattle.formula.specs.Formula.{Opened, Built}
 use Rattle.formula.proofs.Emptied.{opened-good}
@@ -34,15 +35,15 @@ use Rattle.table.proofs.Zeros.{zeros-at}
 
 -- ---- one clause of the definition, by the outcome of its placing
 
-module _ (n s : ℕ) (proof : List ℕ) (t : List Node) (ms : List ℕ) (ls : List meaning.Literal) (first : ℕ) (rest : Reading) where
+module _ (mode : Mode) (n s : ℕ) (proof : List ℕ) (t : List Node) (ms : List ℕ) (ls : List meaning.Literal) (first : ℕ) (rest : Reading) where
   clause-full : (p : Placing) → place s t (meaning.clause n ls) ≡ p → written s p .full ≡ true
-      → clauses n s proof t ms (clause ls first rest) ≡ refusedFormula 8 first (length (nodesOf (written s p .table)))
+      → clauses mode n s proof t ms (clause ls first rest) ≡ refusedFormula 8 first (length (nodesOf (written s p .table)))
   unfolding clauses written
   clause-full (full t₁) e f = rw (e, nodes-indexed s t₁)
   clause-full (placed t₁ k) e f = t≢f (sym f)
 
   clause-placed : (p : Placing) → place s t (meaning.clause n ls) ≡ p → written s p .full ≡ false
-      → clauses n s proof t ms (clause ls first rest) ≡ clauses n s proof (nodesOf (written s p .table)) (ms ++ written s p .node ∷ []) rest
+      → clauses mode n s proof t ms (clause ls first rest) ≡ clauses mode n s proof (nodesOf (written s p .table)) (ms ++ written s p .node ∷ []) rest
   unfolding clauses written
   clause-placed (full t₁) e f = t≢f f
   clause-placed (placed t₁ k) e f = rw (e, nodes-indexed s t₁)
@@ -60,8 +61,8 @@ clause-reduced n ls = diagram-reduced n (meaning.clauseValue ls)
 
 module _ (n wanted from : ℕ) (formula : List ℕ) (s : ℕ) where
   -- What is to be said of the whole formula with a proof.
-  abbrev Whole : List ℕ → Verdict
-  Whole proof = clauses n s proof emptied [] (clausesFrom formula n wanted from)
+  abbrev Whole : Mode → List ℕ → Verdict
+  Whole mode proof = clauses mode n s proof emptied [] (clausesFrom formula n wanted from)
 
   -- `made` clauses are made, the next one is looked for at `at`.
   pub record Building (T : Table) (members : List ℕ) (made at : ℕ) : Type 0 where
@@ -72,7 +73,7 @@ module _ (n wanted from : ℕ) (formula : List ℕ) (s : ℕ) where
     pub built : Built n T members made
     pub counted : made ≤ wanted
     pub within : at ≤ length formula
-    pub left : (proof : List ℕ) → Whole proof ≡ clauses n s proof (nodesOf T) (take made members) (clausesFrom formula n (wanted - made) at)
+    pub left : (mode : Mode) (proof : List ℕ) → Whole mode proof ≡ clauses mode n s proof (nodesOf T) (take made members) (clausesFrom formula n (wanted - made) at)
 
   pub building-start : n ≤ 64 → wanted ≤ 1024 → from ≤ length formula → (T : Table) (members : List ℕ) → size T ≡ s → Opened T members → Building T members 0 from
   building-start narrow limit within T members same O =
@@ -92,25 +93,25 @@ module _ (n wanted from : ℕ) (formula : List ℕ) (s : ℕ) where
         };
         counted = omega arith;
         within = within;
-        left = λ proof. ap₂ (λ (t : List Node) (k : ℕ). clauses n s proof t [] (clausesFrom formula n k from)) (sym nodes) none-made;
+        left = λ mode proof. ap₂ (λ (t : List Node) (k : ℕ). clauses mode n s proof t [] (clausesFrom formula n k from)) (sym nodes) none-made;
       }
 
   module _ (T : Table) (members : List ℕ) (made at : ℕ) (B : Building T members made at) where
     abbrev remaining : ℕ
     remaining = wanted - made
 
-    pub building-end : clauseOf (nextClause formula n remaining at) ≡ End → (proof : List ℕ)
-        → Whole proof ≡ records (suc (length proof)) n (size T) proof (begun (nodesOf T) (take made members)) 0
+    pub building-end : clauseOf (nextClause formula n remaining at) ≡ End → (mode : Mode) (proof : List ℕ)
+        → Whole mode proof ≡ proofFrom mode n (size T) proof (begun (nodesOf T) (take made members))
     unfolding clauses
-    building-end e proof =
-        B .left proof ∙ ap (clauses n s proof (nodesOf T) (take made members)) (clauses-ended formula n remaining at (ended-is (nextClause formula n remaining at) e))
-        ∙ ap (λ (k : ℕ). records (suc (length proof)) n k proof (begun (nodesOf T) (take made members)) 0) (sym (B .same-size))
+    building-end e mode proof =
+        B .left mode proof ∙ ap (clauses mode n s proof (nodesOf T) (take made members)) (clauses-ended formula n remaining at (ended-is (nextClause formula n remaining at) e))
+        ∙ ap (λ (k : ℕ). proofFrom mode n k proof (begun (nodesOf T) (take made members))) (sym (B .same-size))
 
-    pub building-refused : (number place : ℕ) → clauseOf (nextClause formula n remaining at) ≡ Refused number place → (proof : List ℕ)
-        → Whole proof ≡ refusedFormula number place (T .count)
+    pub building-refused : (number place : ℕ) → clauseOf (nextClause formula n remaining at) ≡ Refused number place → (mode : Mode) (proof : List ℕ)
+        → Whole mode proof ≡ refusedFormula number place (T .count)
     unfolding clauses
-    building-refused number place e proof =
-        B .left proof ∙ ap (clauses n s proof (nodesOf T) (take made members))
+    building-refused number place e mode proof =
+        B .left mode proof ∙ ap (clauses mode n s proof (nodesOf T) (take made members))
         (clauses-refused formula n remaining at number place (refused-is (nextClause formula n remaining at) number place e))
         ∙ ap (refusedFormula number place) (length-nodes T (B .built .good))
 
@@ -142,17 +143,17 @@ module _ (n wanted from : ℕ) (formula : List ℕ) (s : ℕ) where
         abbrev rest : Reading
         rest = clausesFrom formula n (remaining - 1) (c .next)
 
-        before : (proof : List ℕ) → Whole proof ≡ clauses n s proof (nodesOf T) (take made members) (clause ls (c .first) rest)
-        before proof =
-            B .left proof ∙ ap (clauses n s proof (nodesOf T) (take made members)) (clauses-closed formula n remaining at ls (c .first) (c .next) (closes .is))
+        before : (mode : Mode) (proof : List ℕ) → Whole mode proof ≡ clauses mode n s proof (nodesOf T) (take made members) (clause ls (c .first) rest)
+        before mode proof =
+            B .left mode proof ∙ ap (clauses mode n s proof (nodesOf T) (take made members)) (clauses-closed formula n remaining at ls (c .first) (c .next) (closes .is))
 
         grown-so : Grown T (meaning.clause n ls) o
         grown-so = grown T (B .built .good) (meaning.clause n ls) (reduced-to 1 (suc n) 65 (meaning.clause n ls) (omega (arith, B .narrow)) (clause-reduced n ls)) o placed-is
 
-        pub building-full : o .full ≡ true → (proof : List ℕ) → Whole proof ≡ refusedFormula 8 (c .first) (o .table .count)
-        building-full f proof =
-            before proof
-            ∙ clause-full n s proof (nodesOf T) (take made members) ls (c .first) rest (place s (nodesOf T) (meaning.clause n ls)) refl
+        pub building-full : o .full ≡ true → (mode : Mode) (proof : List ℕ) → Whole mode proof ≡ refusedFormula 8 (c .first) (o .table .count)
+        building-full f mode proof =
+            before mode proof
+            ∙ clause-full mode n s proof (nodesOf T) (take made members) ls (c .first) rest (place s (nodesOf T) (meaning.clause n ls)) refl
             (sym (ap (λ (x : Outcome). x .full) placed-s) ∙ f)
             ∙ ap (λ (x : Outcome). refusedFormula 8 (c .first) (length (nodesOf (x .table)))) (sym placed-s) ∙ ap (refusedFormula 8 (c .first)) (length-nodes (o .table) (grown-so .good))
 
@@ -178,10 +179,10 @@ module _ (n wanted from : ℕ) (formula : List ℕ) (s : ℕ) where
               };
               counted = omega arith;
               within = subst (NextIn formula n) (closes .is) inside-text .1;
-              left = λ proof. before proof
-                  ∙ clause-placed n s proof (nodesOf T) (take made members) ls (c .first) rest (place s (nodesOf T) (meaning.clause n ls)) refl (sym (ap (λ (x : Outcome). x .full) placed-s) ∙ f)
-                  ∙ ap (λ (x : Outcome). clauses n s proof (nodesOf (x .table)) (take made members ++ x .node ∷ []) rest) (sym placed-s)
-                  ∙ ap₂ (λ (ms : List ℕ) (k : ℕ). clauses n s proof (nodesOf (o .table)) ms (clausesFrom formula n k (c .next)))
+              left = λ mode proof. before mode proof
+                  ∙ clause-placed mode n s proof (nodesOf T) (take made members) ls (c .first) rest (place s (nodesOf T) (meaning.clause n ls)) refl (sym (ap (λ (x : Outcome). x .full) placed-s) ∙ f)
+                  ∙ ap (λ (x : Outcome). clauses mode n s proof (nodesOf (x .table)) (take made members ++ x .node ∷ []) rest) (sym placed-s)
+                  ∙ ap₂ (λ (ms : List ℕ) (k : ℕ). clauses mode n s proof (nodesOf (o .table)) ms (clausesFrom formula n k (c .next)))
                   (sym (ap (λ (k : ℕ). take k (set members made (o .node))) one ∙ take-suc-set members made (o .node) inside)) less;
             }
           where

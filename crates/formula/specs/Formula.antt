@@ -1,12 +1,13 @@
 -- What the inner functions say of the formula's clauses made in the table. No call open to others cites this file.
 use mathlib.Core.Path.{_≡_}
 use mathlib.Core.List.{List}
-use Prim.Native.Nat.{ℕ, suc, _≤_, _<_}
+use Prim.Native.Nat.{ℕ, _≤_, _<_}
 use lib.ListN.{length, getD, take}
 use Rattle.table.specs.Nodes.{at}
 use Rattle.table.specs.Indexed.{Table, tableOf, size, nodesOf, indexed, Good}
+use Rattle.commands.specs.declared.Mode.{Mode}
 use Rattle.verdict.specs.Steps.{emptied, begun}
-use Rattle.verdict.specs.Check.{zeros, Verdict, records, refusedFormula}
+use Rattle.verdict.specs.Check.{zeros, Verdict, proofFrom, refusedFormula}
 use Rattle.formula.specs.declared.Start.{Start}
 use Rattle.formula.specs.declared.Start.the-variants.{Begun, Refused}
 
@@ -19,10 +20,10 @@ pub record Opened (T : Table) (members : List ℕ) : Type 0 where
   pub none : members ≡ zeros (length members)
 
 -- What is left to be said once the formula is read.
-abbrev pub saidFrom : ℕ → List ℕ → List ℕ → List ℕ → List ℕ → List ℕ → List ℕ → List ℕ → Start → Verdict
-saidFrom n proof vars lows highs heads links members (Begun count made) =
-    records (suc (length proof)) n (length vars) proof (begun (nodesOf (tableOf vars lows highs heads links count)) (take made members)) 0
-saidFrom n proof vars lows highs heads links members (Refused number place peak) = refusedFormula number place peak
+abbrev pub saidFrom : Mode → ℕ → List ℕ → List ℕ → List ℕ → List ℕ → List ℕ → List ℕ → List ℕ → Start → Verdict
+saidFrom mode n proof vars lows highs heads links members (Begun count made) =
+    proofFrom mode n (length vars) proof (begun (nodesOf (tableOf vars lows highs heads links count)) (take made members))
+saidFrom mode n proof vars lows highs heads links members (Refused number place peak) = refusedFormula number place peak
 
 -- The clauses made: a good table with no variable beyond n, the members' nodes in it, and zeros behind the members.
 pub record Built (n : ℕ) (T : Table) (members : List ℕ) (made : ℕ) : Type 0 where

@@ -6,6 +6,7 @@ ghost use Prim.Native.Nat.{ℕ, _≤_};
 ghost use lib.ListN.{length};
 ghost use Rattle.dimacs.specs.Clauses.{clausesFrom};
 ghost use Rattle.table.specs.Indexed.{tableOf};
+ghost use Rattle.commands.specs.declared.Mode.{Mode};
 ghost use Rattle.verdict.specs.Steps.{emptied};
 ghost use Rattle.verdict.specs.Check.{clauses};
 ghost use Rattle.formula.specs.Formula.{Opened, saidFrom, Begins};
@@ -39,9 +40,9 @@ pub fn read_clauses(
 ) -> Start
     requires { ⌜ Opened (tableOf (now vars) (now lows) (now highs) (now heads) (now links) 2) (now members) ⌝ }
     requires { ⌜ (variables ≤ 64) × (wanted ≤ 1024) × (from ≤ length (now formula)) ⌝ }
-    ensures { λ r. ⌜ ((proof : List ℕ) →
-        clauses variables (length (now (vars .entry))) proof emptied [] (clausesFrom (now (formula .entry)) variables wanted from)
-        ≡ saidFrom variables proof (now (vars .exit)) (now (lows .exit)) (now (highs .exit)) (now (heads .exit)) (now (links .exit))
+    ensures { λ r. ⌜ ((mode : Mode) (proof : List ℕ) →
+        clauses mode variables (length (now (vars .entry))) proof emptied [] (clausesFrom (now (formula .entry)) variables wanted from)
+        ≡ saidFrom mode variables proof (now (vars .exit)) (now (lows .exit)) (now (highs .exit)) (now (heads .exit)) (now (links .exit))
         (now (members .exit)) r) ⌝ }
     ensures { λ r. ⌜ Begins variables (now (vars .exit)) (now (lows .exit)) (now (highs .exit)) (now (heads .exit)) (now (links .exit))
         (now (members .exit)) r ⌝ }

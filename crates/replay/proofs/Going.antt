@@ -1,103 +1,94 @@
--- The records read one by one: what the whole proof comes to is what is left to be said from the state reached and the place of the next
--- record. The idea: a record of right form takes a byte, so that there are always steps enough. Assumes nothing.
+-- The commands read one by one: what the whole proof comes to is what is left to be said from the state reached and the place of the next
+-- command. The idea: a command that is taken has a byte, so that there are always steps enough. Assumes nothing.
 use mathlib.Core.Path.{_≡_, refl, sym, ap, ap₂, _∙_, subst}
 use mathlib.Core.List.{List}
 use Prim.Native.Nat.{ℕ, zero, suc, _+_, _-_, _≤_, _<_}
 use native.Mathlib.Omega.{arith}
 use lib.ListN.{length, getD, take}
-use lib.Dec.{ltb}
 use Rattle.table.specs.Indexed.{Table, nodesOf, Good}
 use Rattle.walks.specs.Readable.{Roomy}
-use Rattle.records.specs.declared.Record.{Record}
-use Rattle.records.specs.declared.Record.the-variants.{NodeEntry, Witness, ProofLine, Strike, SetEntry, End, CutShort, UnknownKind, NoRecord}
-use Rattle.records.specs.Records.{recordAt, lengthOf, numberOf}
-use Rattle.records.proofs.Laws.{record-takes, record-within}
-use Rattle.records.proofs.Reading.{record-none}
 use Rattle.conflict.specs.Marks.{unmarked}
+use Rattle.commands.specs.declared.Mode.{Mode}
+use Rattle.commands.specs.declared.Form.{Form}
+use Rattle.commands.specs.declared.Form.the-variants.{Records, Text}
+use Rattle.commands.specs.Commands.{Command, recorded, added, struckOut, wrong, finished, start}
+use Rattle.verdict.specs.Steps as steps
 use Rattle.verdict.specs.Check as check
-use Rattle.verdict.proofs.Steps.{next-form}
+use Rattle.verdict.specs.Run.{commandIn, nextIn}
+use Rattle.verdict.proofs.Commands.{step-taken, Fit, command-fit, start-within, command-goes}
 use Rattle.steps.specs.declared.State.{State}
 use Rattle.steps.specs.declared.Step.{Step}
 use Rattle.steps.specs.declared.Step.the-variants.{Next, Stop, Spent}
 use Rattle.steps.specs.States.{Lent, tableIn, stateOf, stepOf, Held, HeldAfter, Unmoved, Stepped}
-use Rattle.replay.specs.Records.{Ends}
-use Rattle.replay.proofs.Near.{Near, step-near}
+use Rattle.tries.specs.Commands.{CommandFits}
+use Rattle.replay.specs.Ends.{Ends}
+use Rattle.replay.proofs.Near.{stop-near}
+
+fit-fits : (form : Form) (n : ℕ) (c : Command) → Fit form n c → CommandFits n c
+fit-fits Records n (recorded r more) fit = tt
+fit-fits Records n (added ls) fit = absurd fit
+fit-fits Records n (struckOut ls) fit = absurd fit
+fit-fits Records n (wrong number offset) fit = tt
+fit-fits Records n finished fit = tt
+fit-fits Text n (recorded r more) fit = tt
+fit-fits Text n (added ls) fit = fit
+fit-fits Text n (struckOut ls) fit = fit
+fit-fits Text n (wrong number offset) fit = tt
+fit-fits Text n finished fit = tt
 
 -- ---- one step of the definition
 
--- What is to be said of all records is what is left to be said from the state st and the place `at` on.
-pub record Remains (n s : ℕ) (proof : List ℕ) (whole : check.Verdict) (st : check.State) (at : ℕ) : Type 0 where
+-- What is to be said of all commands is what is left to be said from the state st and the place `at` on.
+pub record Remains (mode : Mode) (n s : ℕ) (proof : List ℕ) (whole : check.Verdict) (st : steps.State) (at : ℕ) : Type 0 where
   pub steps : ℕ
   pub enough : length proof - at < steps
-  pub left : whole ≡ check.records steps n s proof st at
+  pub left : whole ≡ check.commands steps mode n s proof st at
 
-module _ (n s : ℕ) (proof : List ℕ) (whole : check.Verdict) (st : check.State) (at : ℕ) where
-  abbrev said : check.Step
-  said = check.step n s st (ltb (at + lengthOf (recordAt proof at)) (length proof)) (recordAt proof at)
+module _ (mode : Mode) (n s : ℕ) (proof : List ℕ) (whole : check.Verdict) (st : steps.State) (at : ℕ) where
+  abbrev said : steps.Step
+  said = check.step n s st (commandIn mode proof n at)
 
-  stops-with : (k : ℕ) → length proof - at < k → (number offset : ℕ) → said ≡ check.stop number offset → whole ≡ check.records k n s proof st at
+  stops-with : (k : ℕ) → length proof - at < k → (number offset : ℕ) → said ≡ steps.stop number offset → whole ≡ check.commands k mode n s proof st at
       → whole ≡ check.left number (at + offset) (st .peak) st
-  unfolding check.records
+  unfolding check.commands
   stops-with zero enough number offset e left = absurd (omega arith)
   stops-with (suc k) enough number offset e left = left ∙ rw e
 
-  spends-with : (k : ℕ) → length proof - at < k → (number peak : ℕ) → said ≡ check.spent number peak → whole ≡ check.records k n s proof st at
+  spends-with : (k : ℕ) → length proof - at < k → (number peak : ℕ) → said ≡ steps.spent number peak → whole ≡ check.commands k mode n s proof st at
       → whole ≡ check.left number at peak st
-  unfolding check.records
+  unfolding check.commands
   spends-with zero enough number peak e left = absurd (omega arith)
   spends-with (suc k) enough number peak e left = left ∙ rw e
 
-  goes-with : (k : ℕ) → length proof - at < k → (st′ : check.State) → said ≡ check.next st′ → whole ≡ check.records k n s proof st at
-      → at ≤ length proof → Remains n s proof whole st′ (at + lengthOf (recordAt proof at))
-  unfolding check.records
+  goes-with : (k : ℕ) → length proof - at < k → (st′ : steps.State) → said ≡ steps.next st′ → whole ≡ check.commands k mode n s proof st at
+      → at ≤ length proof → Remains mode n s proof whole st′ (nextIn mode proof n at)
+  unfolding check.commands
   goes-with zero enough st′ e left within = absurd (omega arith)
   goes-with (suc k) enough st′ e left within =
-      let form : numberOf (recordAt proof at) ≡ 0 = next-form n s st (ltb (at + lengthOf (recordAt proof at)) (length proof)) (recordAt proof at) st′ e in
-      record {
-        steps = k;
-        enough = omega (arith, record-takes (recordAt proof at) form, record-within proof at refl form);
-        left = left ∙ rw e;
-      }
+      let (on, inside) = command-goes (mode .form) proof n s st st′ at within (step-taken n s st (commandIn mode proof n at) st′ e) in
+      record { steps = k; enough = omega (arith, on, inside); left = left ∙ rw e }
 
-  module _ (R : Remains n s proof whole st at) where
-    remains-stop : (number offset : ℕ) → said ≡ check.stop number offset → whole ≡ check.left number (at + offset) (st .peak) st
+  module _ (R : Remains mode n s proof whole st at) where
+    remains-stop : (number offset : ℕ) → said ≡ steps.stop number offset → whole ≡ check.left number (at + offset) (st .peak) st
     remains-stop number offset e = stops-with (R .steps) (R .enough) number offset e (R .left)
 
-    remains-spent : (number peak : ℕ) → said ≡ check.spent number peak → whole ≡ check.left number at peak st
+    remains-spent : (number peak : ℕ) → said ≡ steps.spent number peak → whole ≡ check.left number at peak st
     remains-spent number peak e = spends-with (R .steps) (R .enough) number peak e (R .left)
 
-    remains-next : (st′ : check.State) → said ≡ check.next st′ → at ≤ length proof → Remains n s proof whole st′ (at + lengthOf (recordAt proof at))
+    remains-next : (st′ : steps.State) → said ≡ steps.next st′ → at ≤ length proof → Remains mode n s proof whole st′ (nextIn mode proof n at)
     remains-next st′ e = goes-with (R .steps) (R .enough) st′ e (R .left)
 
-    remains-end : length proof ≤ at → whole ≡ check.left 10 at (st .peak) st
-    unfolding check.step
-    remains-end h =
-        let none : recordAt proof at ≡ NoRecord = record-none proof at h in
-        remains-stop 10 0 (ap (λ (r : Record). check.step n s st (ltb (at + lengthOf r) (length proof)) r) none)
-        ∙ ap (λ (k : ℕ). check.left 10 k (st .peak) st) (omega arith)
+-- ---- the commands read so far
 
-pub record-short : (r : Record) → lengthOf r ≤ 10
-record-short (NodeEntry b) = omega arith
-record-short (Witness v b) = omega arith
-record-short (ProofLine rule root) = omega arith
-record-short (Strike k) = omega arith
-record-short (SetEntry kind b) = omega arith
-record-short End = omega arith
-record-short CutShort = omega arith
-record-short UnknownKind = omega arith
-record-short NoRecord = omega arith
-
--- ---- the records read so far
-
-module _ (n s : ℕ) (proof : List ℕ) (whole : check.Verdict) where
-  -- The state st is held in l, and the next record is looked for at `at`.
+module _ (mode : Mode) (n s : ℕ) (proof : List ℕ) (whole : check.Verdict) where
+  -- The state st is held in l, and the next command is looked for at `at`.
   pub record Going (l : Lent) (marks memo : List ℕ) (st : State) (at : ℕ) : Type 0 where
     pub same-size : length (l .vars) ≡ s
     pub held : Held n l st
     pub none-marked : marks ≡ unmarked s
     pub room : Roomy (l .vars) memo
     pub within : at ≤ length proof
-    pub remains : Remains n s proof whole (stateOf l st) at
+    pub remains : Remains mode n s proof whole (stateOf l st) at
 
   module _ (l : Lent) (marks memo : List ℕ) (st : State) (at : ℕ) (G : Going l marks memo st at) where
     held-ends : Ends l st
@@ -114,26 +105,20 @@ module _ (n s : ℕ) (proof : List ℕ) (whole : check.Verdict) where
     pub going-asks : Held n l st × (marks ≡ unmarked (length (l .vars))) × Roomy (l .vars) memo
     going-asks = (G .held, G .none-marked ∙ ap unmarked (sym (G .same-size)), G .room)
 
-    -- no byte is left
-    pub going-end : length proof ≤ at → (whole ≡ check.left 10 at (st .peak) (stateOf l st)) × Ends l st
-    going-end h = (remains-end n s proof whole (stateOf l st) at (G .remains) h, held-ends)
+    -- the command that the code reads fits: a clause's literals are the header's
+    pub going-fits : CommandFits n (commandIn mode proof n at)
+    going-fits = fit-fits (mode .form) n (commandIn mode proof n at) (command-fit (mode .form) proof n at (G .within))
 
-    -- the record r, which takes `len` bytes, comes to x and leaves l′
-    module _ (r : Record) (is : r ≡ recordAt proof at) (len : ℕ) (long : len ≡ lengthOf r) (l′ : Lent) (x : Step)
-        (X : Stepped n l l′ st (check.step n (length (l .vars)) (stateOf l st) (ltb (at + len) (length proof)) r) x) where
-      takes : len ≡ lengthOf (recordAt proof at)
-      takes = long ∙ ap lengthOf is
-
-      says : (y : Step) → x ≡ y → check.step n s (stateOf l st) (ltb (at + lengthOf (recordAt proof at)) (length proof)) (recordAt proof at) ≡ stepOf l′ y
+    -- the command comes to x and leaves l′
+    module _ (l′ : Lent) (x : Step) (X : Stepped n l l′ st (check.step n (length (l .vars)) (stateOf l st) (commandIn mode proof n at)) x) where
+      says : (y : Step) → x ≡ y → check.step n s (stateOf l st) (commandIn mode proof n at) ≡ stepOf l′ y
       says y e =
-          sym (ap₂ (λ (size : ℕ) (k : ℕ). check.step n size (stateOf l st) (ltb (at + k) (length proof)) r) (G .same-size) takes
-          ∙ ap (check.step n s (stateOf l st) (ltb (at + lengthOf (recordAt proof at)) (length proof))) is)
-          ∙ sym (X .says) ∙ ap (stepOf l′) e
+          sym (ap (λ (size : ℕ). check.step n size (stateOf l st) (commandIn mode proof n at)) (G .same-size)) ∙ sym (X .says) ∙ ap (stepOf l′) e
 
       leaves : (y : Step) → x ≡ y → HeldAfter n l l′ st y
       leaves y e = subst (HeldAfter n l l′ st) e (X .leaves)
 
-      -- a refused record leaves table, members and marks as they were
+      -- a refused command leaves table, members and marks as they were
       left-same : (number place peak : ℕ) → Unmoved l l′ st → check.left number place peak (stateOf l st) ≡ check.left number place peak (stateOf l′ st)
       left-same number place peak same =
           ap₂ (λ (t : Table) (ms : List ℕ). leftOf t ms (l .struck)) (sym (same .table)) (sym (same .members))
@@ -142,6 +127,7 @@ module _ (n s : ℕ) (proof : List ℕ) (whole : check.Verdict) where
           leftOf : Table → List ℕ → List ℕ → check.Verdict
           leftOf t ms ss = record {
             number = number;
+            inProof = true;
             place = place;
             lines = st .lines;
             rounds = st .rounds;
@@ -167,52 +153,48 @@ module _ (n s : ℕ) (proof : List ℕ) (whole : check.Verdict) where
       }
 
       module _ (number offset : ℕ) (e : x ≡ Stop number offset) where
-        pub stop-near : offset ≤ 1
-        stop-near = subst Near (says (Stop number offset) e) (step-near n s (stateOf l st) (ltb (at + lengthOf (recordAt proof at)) (length proof)) (recordAt proof at))
+        pub going-near : at + offset ≤ length proof
+        going-near = stop-near (mode .form) n s (stateOf l st) proof at (G .within) number offset (says (Stop number offset) e)
 
         pub going-stop : (whole ≡ check.left number (at + offset) (st .peak) (stateOf l′ st)) × Ends l′ st
         going-stop =
             let same = leaves (Stop number offset) e in (
-              remains-stop n s proof whole (stateOf l st) at (G .remains) number offset (says (Stop number offset) e) ∙ left-same number (at + offset) (st .peak) same,
+              remains-stop mode n s proof whole (stateOf l st) at (G .remains) number offset (says (Stop number offset) e) ∙ left-same number (at + offset) (st .peak) same,
               ends-same same,
             )
 
       pub going-spent : (number peak : ℕ) → x ≡ Spent number peak → (whole ≡ check.left number at peak (stateOf l′ st)) × Ends l′ st
       going-spent number peak e =
           let same = leaves (Spent number peak) e in (
-            remains-spent n s proof whole (stateOf l st) at (G .remains) number peak (says (Spent number peak) e) ∙ left-same number at peak same,
+            remains-spent mode n s proof whole (stateOf l st) at (G .remains) number peak (says (Spent number peak) e) ∙ left-same number at peak same,
             ends-same same,
           )
 
       module _ (st′ : State) (e : x ≡ Next st′) where
-        form : numberOf (recordAt proof at) ≡ 0
-        form = next-form n s (stateOf l st) (ltb (at + lengthOf (recordAt proof at)) (length proof)) (recordAt proof at) (stateOf l′ st′) (says (Next st′) e)
-
-        pub next-within : at + len ≤ length proof
-        next-within = omega (arith, takes, record-within proof at refl form)
-
-        pub next-takes : 1 ≤ len
-        next-takes = omega (arith, takes, record-takes (recordAt proof at) form)
+        pub next-in : (at < nextIn mode proof n at) × (nextIn mode proof n at ≤ length proof)
+        next-in =
+            command-goes (mode .form) proof n s (stateOf l st) (stateOf l′ st′) at (G .within)
+            (step-taken n s (stateOf l st) (commandIn mode proof n at) (stateOf l′ st′) (says (Next st′) e))
 
         pub going-next : (marks′ memo′ : List ℕ) → length (l′ .vars) ≡ length (l .vars) → marks′ ≡ unmarked (length (l .vars)) → length memo′ ≡ length memo
-            → Going l′ marks′ memo′ st′ (at + len)
+            → Going l′ marks′ memo′ st′ (nextIn mode proof n at)
         going-next marks′ memo′ size-kept marks-kept memo-kept = record {
           same-size = size-kept ∙ G .same-size;
           held = leaves (Next st′) e;
           none-marked = marks-kept ∙ ap unmarked (G .same-size);
           room = omega (arith, G .room, size-kept);
-          within = next-within;
-          remains = subst (Remains n s proof whole (stateOf l′ st′)) (ap (λ (k : ℕ). at + k) (sym takes))
-              (remains-next n s proof whole (stateOf l st) at (G .remains) (stateOf l′ st′) (says (Next st′) e) (G .within));
+          within = next-in .1;
+          remains = remains-next mode n s proof whole (stateOf l st) at (G .remains) (stateOf l′ st′) (says (Next st′) e) (G .within);
         }
 
-pub going-start : (n : ℕ) (proof : List ℕ) (l : Lent) (marks memo : List ℕ) (st : State) → Held n l st × (marks ≡ unmarked (length (l .vars))) × Roomy (l .vars) memo
-    → Going n (length (l .vars)) proof (check.records (suc (length proof)) n (length (l .vars)) proof (stateOf l st) 0) l marks memo st 0
-going-start n proof l marks memo st h = record {
+pub going-start : (mode : Mode) (n : ℕ) (proof : List ℕ) (l : Lent) (marks memo : List ℕ) (st : State) (at : ℕ) → at ≡ start (mode .form) proof
+    → Held n l st × (marks ≡ unmarked (length (l .vars))) × Roomy (l .vars) memo
+    → Going mode n (length (l .vars)) proof (check.proofFrom mode n (length (l .vars)) proof (stateOf l st)) l marks memo st at
+going-start mode n proof l marks memo st at here h = record {
   same-size = refl;
   held = h .0;
   none-marked = h .1;
   room = h .2;
-  within = omega arith;
-  remains = record { steps = suc (length proof); enough = omega arith; left = refl };
+  within = omega (arith, start-within (mode .form) proof);
+  remains = record { steps = suc (length proof); enough = omega arith; left = ap (check.commands (suc (length proof)) mode n (length (l .vars)) proof (stateOf l st)) (sym here) };
 }

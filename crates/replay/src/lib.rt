@@ -1,16 +1,16 @@
-// The proof's records judged one after another, up to the one that ends the proof.
+// The proof's commands judged one after another, up to the one that ends the proof.
+use commands::Mode;
 use steps::State;
 use steps::Step;
 ghost use mathlib.Core.Path.{_≡_};
-ghost use Prim.Native.Nat.{suc};
 ghost use lib.ListN.{length};
 ghost use Rattle.walks.specs.Readable.{Roomy};
 ghost use Rattle.conflict.specs.Marks.{unmarked};
-ghost use Rattle.verdict.specs.Check.{left, records};
+ghost use Rattle.verdict.specs.Check.{left, proofFrom};
 ghost use Rattle.steps.specs.States.{lentOf, stateOf, Held};
-ghost use Rattle.replay.specs.Records.{Ends};
+ghost use Rattle.replay.specs.Ends.{Ends};
 
-// How the records end: 01's number, its place, the greatest count reached, and the state before the record that ended them.
+// How the proof ends: 01's number, its place, the greatest count reached, and the state before the command that ended it.
 pub struct Ended {
     pub number: u8,
     pub place: usize,
@@ -18,8 +18,8 @@ pub struct Ended {
     pub state: State,
 }
 
-// Record after record, up to one that ends the proof. The scratch list is then anything.
-pub fn read_records(
+// Command after command, up to one that ends the proof. The scratch list is then anything.
+pub fn read_commands(
     vars: &mut [u8],
     lows: &mut [u16],
     highs: &mut [u16],
@@ -32,6 +32,7 @@ pub fn read_records(
     struck: &mut [u8],
     first: State,
     variables: u8,
+    mode: Mode,
     proof: &[u8],
 ) -> Ended
     requires { ⌜ (
@@ -42,19 +43,20 @@ pub fn read_records(
         (now (members .entry)) (now (scratch .entry)) (now (struck .entry)) in
         let returned = lentOf (now (vars .exit)) (now (lows .exit)) (now (highs .exit)) (now (heads .exit)) (now (links .exit))
         (now (members .exit)) (now (scratch .exit)) (now (struck .exit)) in
-        records (suc (length (now (proof .entry)))) variables (length (now (vars .entry))) (now (proof .entry)) (stateOf lent first) 0
+        proofFrom mode variables (length (now (vars .entry))) (now (proof .entry)) (stateOf lent first)
         ≡ left (r .number) (r .place) (r .peak) (stateOf returned (r .state))) ⌝ }
     ensures { λ r. ⌜ (
         let returned = lentOf (now (vars .exit)) (now (lows .exit)) (now (highs .exit)) (now (heads .exit)) (now (links .exit))
         (now (members .exit)) (now (scratch .exit)) (now (struck .exit)) in
         Ends returned (r .state)) ⌝ }
 {
+    let form = mode.form;
     let mut state = first;
-    let mut at: usize = 0;
-    while at < proof.len() {
-        let r = records::record_from(proof, at);
-        let next = at + records::record_length(r);
-        match steps::record_step(
+    let mut at: usize = commands::start_of(proof, form);
+    loop {
+        let read = commands::command_at(proof, at, variables, form);
+        let command = read.command;
+        match tries::command_step(
             vars,
             lows,
             highs,
@@ -67,8 +69,7 @@ pub fn read_records(
             struck,
             state,
             variables,
-            next < proof.len(),
-            r,
+            command,
         ) {
             Step::Stop(number, offset) => {
                 return Ended {
@@ -88,14 +89,8 @@ pub fn read_records(
             }
             Step::Next(s) => {
                 state = s;
-                at = next;
+                at = read.next;
             }
         }
-    }
-    Ended {
-        number: 10,
-        place: at,
-        peak: state.peak,
-        state,
     }
 }

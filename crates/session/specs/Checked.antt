@@ -8,6 +8,7 @@ use Rattle.session.specs.declared.Checked.{Checked}
 abbrev pub outcomeOf : Columns → List ℕ → List ℕ → List ℕ → Checked → Outcome
 outcomeOf columns members struck scratch r = record {
   number = r .number;
+  inProof = r .«in_proof»;
   place = r .place;
   lines = r .lines;
   rounds = r .rounds;

@@ -1,5 +1,6 @@
 // The call of the whole check: 7 by the sizes, else working arrays as large as the table asks for.
 use crate::Checked;
+use commands::Mode;
 ghost use mathlib.Core.Path.{_≡_};
 ghost use mathlib.Core.Bool.{true};
 ghost use Prim.Native.Nat.{_≤_};
@@ -43,6 +44,7 @@ fn check_64<'a>(
     members: &mut [u16],
     scratch: &mut [u16],
     struck: &mut [u8],
+    mode: Mode,
     formula: &'a [u8],
     proof: &'a [u8],
 ) -> Checked
@@ -53,7 +55,7 @@ fn check_64<'a>(
         let left = columnsMade (now (vars .exit)) (now (lows .exit)) (now (highs .exit)) (now (heads .exit)) (now (links .exit)) in
         outcomeOf left (now (members .exit)) (now (struck .exit)) (now (scratch .exit)) r
         ≡ outcome (length (now (vars .entry))) (length (now (members .entry))) (length (now (scratch .entry)))
-        (verdict (length (now (vars .entry))) (now (formula .entry)) (now (proof .entry)))) ⌝ }
+        (verdict mode (length (now (vars .entry))) (now (formula .entry)) (now (proof .entry)))) ⌝ }
 {
     let mut memo = [0u64; 1024];
     let mut marks = [0u8; 64];
@@ -69,6 +71,7 @@ fn check_64<'a>(
         members,
         scratch,
         struck,
+        mode,
         formula,
         proof,
     )
@@ -85,6 +88,7 @@ fn check_4096<'a>(
     scratch: &mut [u16],
     struck: &mut [u8],
     memo: &mut [u64],
+    mode: Mode,
     formula: &'a [u8],
     proof: &'a [u8],
 ) -> Checked
@@ -95,7 +99,7 @@ fn check_4096<'a>(
         let left = columnsMade (now (vars .exit)) (now (lows .exit)) (now (highs .exit)) (now (heads .exit)) (now (links .exit)) in
         outcomeOf left (now (members .exit)) (now (struck .exit)) (now (scratch .exit)) r
         ≡ outcome (length (now (vars .entry))) (length (now (members .entry))) (length (now (scratch .entry)))
-        (verdict (length (now (vars .entry))) (now (formula .entry)) (now (proof .entry)))) ⌝ }
+        (verdict mode (length (now (vars .entry))) (now (formula .entry)) (now (proof .entry)))) ⌝ }
 {
     let mut marks = [0u8; 4096];
     let places = vars.len();
@@ -110,6 +114,7 @@ fn check_4096<'a>(
         members,
         scratch,
         struck,
+        mode,
         formula,
         proof,
     )
@@ -125,6 +130,7 @@ fn check_4096_short<'a>(
     members: &mut [u16],
     scratch: &mut [u16],
     struck: &mut [u8],
+    mode: Mode,
     formula: &'a [u8],
     proof: &'a [u8],
 ) -> Checked
@@ -135,7 +141,7 @@ fn check_4096_short<'a>(
         let left = columnsMade (now (vars .exit)) (now (lows .exit)) (now (highs .exit)) (now (heads .exit)) (now (links .exit)) in
         outcomeOf left (now (members .exit)) (now (struck .exit)) (now (scratch .exit)) r
         ≡ outcome (length (now (vars .entry))) (length (now (members .entry))) (length (now (scratch .entry)))
-        (verdict (length (now (vars .entry))) (now (formula .entry)) (now (proof .entry)))) ⌝ }
+        (verdict mode (length (now (vars .entry))) (now (formula .entry)) (now (proof .entry)))) ⌝ }
 {
     let mut memo = [0u64; 8192];
     check_4096(
@@ -148,6 +154,7 @@ fn check_4096_short<'a>(
         scratch,
         struck,
         &mut memo,
+        mode,
         formula,
         proof,
     )
@@ -163,6 +170,7 @@ fn check_4096_long<'a>(
     members: &mut [u16],
     scratch: &mut [u16],
     struck: &mut [u8],
+    mode: Mode,
     formula: &'a [u8],
     proof: &'a [u8],
 ) -> Checked
@@ -173,7 +181,7 @@ fn check_4096_long<'a>(
         let left = columnsMade (now (vars .exit)) (now (lows .exit)) (now (highs .exit)) (now (heads .exit)) (now (links .exit)) in
         outcomeOf left (now (members .exit)) (now (struck .exit)) (now (scratch .exit)) r
         ≡ outcome (length (now (vars .entry))) (length (now (members .entry))) (length (now (scratch .entry)))
-        (verdict (length (now (vars .entry))) (now (formula .entry)) (now (proof .entry)))) ⌝ }
+        (verdict mode (length (now (vars .entry))) (now (formula .entry)) (now (proof .entry)))) ⌝ }
 {
     let mut memo = [0u64; 90112];
     check_4096(
@@ -186,6 +194,7 @@ fn check_4096_long<'a>(
         scratch,
         struck,
         &mut memo,
+        mode,
         formula,
         proof,
     )
@@ -201,6 +210,7 @@ fn check_65536<'a>(
     members: &mut [u16],
     scratch: &mut [u16],
     struck: &mut [u8],
+    mode: Mode,
     formula: &'a [u8],
     proof: &'a [u8],
 ) -> Checked
@@ -211,7 +221,7 @@ fn check_65536<'a>(
         let left = columnsMade (now (vars .exit)) (now (lows .exit)) (now (highs .exit)) (now (heads .exit)) (now (links .exit)) in
         outcomeOf left (now (members .exit)) (now (struck .exit)) (now (scratch .exit)) r
         ≡ outcome (length (now (vars .entry))) (length (now (members .entry))) (length (now (scratch .entry)))
-        (verdict (length (now (vars .entry))) (now (formula .entry)) (now (proof .entry)))) ⌝ }
+        (verdict mode (length (now (vars .entry))) (now (formula .entry)) (now (proof .entry)))) ⌝ }
 {
     let mut memo = [0u64; 90112];
     let mut marks = [0u8; 65536];
@@ -227,6 +237,7 @@ fn check_65536<'a>(
         members,
         scratch,
         struck,
+        mode,
         formula,
         proof,
     )
@@ -243,6 +254,7 @@ pub fn call<'a>(
     members: &mut [u16],
     scratch: &mut [u16],
     struck: &mut [u8],
+    mode: Mode,
     formula: &'a [u8],
     proof: &'a [u8],
 ) -> Checked
@@ -250,12 +262,13 @@ pub fn call<'a>(
         let lent = columnsMade (now (vars .entry)) (now (lows .entry)) (now (highs .entry)) (now (heads .entry)) (now (links .entry)) in
         let left = columnsMade (now (vars .exit)) (now (lows .exit)) (now (highs .exit)) (now (heads .exit)) (now (links .exit)) in
         outcomeOf left (now (members .exit)) (now (struck .exit)) (now (scratch .exit)) r
-        ≡ check lent count (now (members .entry)) (now (struck .entry)) (now (scratch .entry))
+        ≡ check mode lent count (now (members .entry)) (now (struck .entry)) (now (scratch .entry))
         (now (formula .entry)) (now (proof .entry))) ⌝ }
 {
     if !lent_fits(vars, lows, highs, heads, links, members, scratch, struck) {
         return Checked {
             number: 7,
+            in_proof: false,
             place: 0,
             lines: 0,
             rounds: 0,
@@ -273,6 +286,7 @@ pub fn call<'a>(
             members,
             scratch,
             struck,
+            mode,
             formula,
             proof,
         );
@@ -288,6 +302,7 @@ pub fn call<'a>(
                 members,
                 scratch,
                 struck,
+                mode,
                 formula,
                 proof,
             );
@@ -301,6 +316,7 @@ pub fn call<'a>(
             members,
             scratch,
             struck,
+            mode,
             formula,
             proof,
         );
@@ -314,6 +330,7 @@ pub fn call<'a>(
         members,
         scratch,
         struck,
+        mode,
         formula,
         proof,
     )

@@ -1,4 +1,5 @@
-// The whole check over working arrays that are lent: the table emptied, the clauses made, the records judged, the rest dropped.
+// The whole check over working arrays that are lent: the table emptied, the clauses made, the commands judged, the rest dropped.
+use commands::Mode;
 use dimacs::Header;
 use formula::Start;
 ghost use mathlib.Core.Path.{_≡_};
@@ -20,10 +21,12 @@ pub mod call;
 pub mod clear;
 pub mod proof;
 
-// What the check says: 01's number and its place, the accepted lines, their rounds, the table's count, and the greatest count reached.
+// What the check says: 01's number, whether its place is in the proof (else in the formula), the place, the accepted lines, their rounds,
+// the table's count, and the greatest count reached.
 #[repr(C)]
 pub struct Checked {
     pub number: u8,
+    pub in_proof: bool,
     pub place: usize,
     pub lines: usize,
     pub rounds: u64,
@@ -46,6 +49,7 @@ fn run_clauses<'a>(
     variables: u8,
     wanted: usize,
     from: usize,
+    mode: Mode,
     formula: &'a [u8],
     proof: &'a [u8],
 ) -> Checked
@@ -61,7 +65,7 @@ fn run_clauses<'a>(
         let left = columnsMade (now (vars .exit)) (now (lows .exit)) (now (highs .exit)) (now (heads .exit)) (now (links .exit)) in
         outcomeOf left (now (members .exit)) (now (struck .exit)) (zeros (length (now (scratch .entry)))) r
         ≡ outcome (length (now (vars .entry))) (length (now (members .entry))) (length (now (scratch .entry)))
-        (clauses variables (length (now (vars .entry))) (now (proof .entry)) emptied []
+        (clauses mode variables (length (now (vars .entry))) (now (proof .entry)) emptied []
         (clausesFrom (now (formula .entry)) variables wanted from))) ⌝ }
 {
     match formula::read_clauses(
@@ -84,6 +88,7 @@ fn run_clauses<'a>(
             clear::empty(vars, lows, highs, heads, links, members);
             Checked {
                 number,
+                in_proof: false,
                 place,
                 lines: 0,
                 rounds: 0,
@@ -105,6 +110,7 @@ fn run_clauses<'a>(
             variables,
             count,
             made,
+            mode,
             proof,
         ),
     }
@@ -122,6 +128,7 @@ fn run_header<'a>(
     members: &mut [u16],
     scratch: &mut [u16],
     struck: &mut [u8],
+    mode: Mode,
     formula: &'a [u8],
     proof: &'a [u8],
 ) -> Checked
@@ -134,11 +141,12 @@ fn run_header<'a>(
         let left = columnsMade (now (vars .exit)) (now (lows .exit)) (now (highs .exit)) (now (heads .exit)) (now (links .exit)) in
         outcomeOf left (now (members .exit)) (now (struck .exit)) (zeros (length (now (scratch .entry)))) r
         ≡ outcome (length (now (vars .entry))) (length (now (members .entry))) (length (now (scratch .entry)))
-        (verdict (length (now (vars .entry))) (now (formula .entry)) (now (proof .entry)))) ⌝ }
+        (verdict mode (length (now (vars .entry))) (now (formula .entry)) (now (proof .entry)))) ⌝ }
 {
     match dimacs::read_header(formula) {
         Header::Improper { number, place } => Checked {
             number,
+            in_proof: false,
             place,
             lines: 0,
             rounds: 0,
@@ -163,6 +171,7 @@ fn run_header<'a>(
             variables,
             clauses,
             end,
+            mode,
             formula,
             proof,
         ),
@@ -181,6 +190,7 @@ pub fn run<'a>(
     members: &mut [u16],
     scratch: &mut [u16],
     struck: &mut [u8],
+    mode: Mode,
     formula: &'a [u8],
     proof: &'a [u8],
 ) -> Checked
@@ -192,7 +202,7 @@ pub fn run<'a>(
         let left = columnsMade (now (vars .exit)) (now (lows .exit)) (now (highs .exit)) (now (heads .exit)) (now (links .exit)) in
         outcomeOf left (now (members .exit)) (now (struck .exit)) (now (scratch .exit)) r
         ≡ outcome (length (now (vars .entry))) (length (now (members .entry))) (length (now (scratch .entry)))
-        (verdict (length (now (vars .entry))) (now (formula .entry)) (now (proof .entry)))) ⌝ }
+        (verdict mode (length (now (vars .entry))) (now (formula .entry)) (now (proof .entry)))) ⌝ }
 {
     clear::empty(vars, lows, highs, heads, links, members);
     clear::clear_bytes(struck);
@@ -207,6 +217,7 @@ pub fn run<'a>(
         members,
         scratch,
         struck,
+        mode,
         formula,
         proof,
     );

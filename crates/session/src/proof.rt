@@ -1,15 +1,16 @@
 // The proof judged once the clauses are made, and what it leaves.
 use crate::Checked;
+use commands::Mode;
 use steps::State;
 ghost use mathlib.Core.Path.{_≡_};
-ghost use Prim.Native.Nat.{suc, _≤_};
+ghost use Prim.Native.Nat.{_≤_};
 ghost use lib.ListN.{length, take};
 ghost use Rattle.table.specs.Columns.{columnsMade};
 ghost use Rattle.table.specs.Indexed.{tableOf, nodesOf};
 ghost use Rattle.walks.specs.Readable.{Roomy};
 ghost use Rattle.conflict.specs.Marks.{unmarked};
 ghost use Rattle.verdict.specs.Steps.{begun};
-ghost use Rattle.verdict.specs.Check.{records, zeros, outcome};
+ghost use Rattle.verdict.specs.Check.{proofFrom, zeros, outcome};
 ghost use Rattle.session.specs.Checked.{outcomeOf};
 ghost use Rattle.formula.specs.Formula.{Built};
 
@@ -28,6 +29,7 @@ pub fn run_proof(
     variables: u8,
     count: usize,
     made: usize,
+    mode: Mode,
     proof: &[u8],
 ) -> Checked
     requires { ⌜ (
@@ -44,8 +46,8 @@ pub fn run_proof(
         let left = columnsMade (now (vars .exit)) (now (lows .exit)) (now (highs .exit)) (now (heads .exit)) (now (links .exit)) in
         outcomeOf left (now (members .exit)) (now (struck .exit)) (zeros (length (now (scratch .entry)))) r
         ≡ outcome (length (now (vars .entry))) (length (now (members .entry))) (length (now (scratch .entry)))
-        (records (suc (length (now (proof .entry)))) variables (length (now (vars .entry))) (now (proof .entry))
-        (begun (nodesOf before) (take made (now (members .entry)))) 0)) ⌝ }
+        (proofFrom mode variables (length (now (vars .entry))) (now (proof .entry))
+        (begun (nodesOf before) (take made (now (members .entry)))))) ⌝ }
 {
     let first = State {
         count,
@@ -59,7 +61,7 @@ pub fn run_proof(
         peak: count,
         refuted: false,
     };
-    let ended = replay::read_records(
+    let ended = replay::read_commands(
         vars,
         lows,
         highs,
@@ -72,12 +74,14 @@ pub fn run_proof(
         struck,
         first,
         variables,
+        mode,
         proof,
     );
     let last = ended.state;
     table::drop_to(vars, lows, highs, heads, links, last.count, last.kept);
     Checked {
         number: ended.number,
+        in_proof: true,
         place: ended.place,
         lines: last.lines,
         rounds: last.rounds,

@@ -82,11 +82,11 @@ module _ (n s : ℕ) (l l′ : Lent) (st : State) (more : Bool) (r : Record) (re
   as-end e = as-said End (endStep S more) e (step-end n s S more)
 
 module _ (n s : ℕ) (l : Lent) (st : State) (more : Bool) (r : Record) where
-  pub cut-short : r ≡ CutShort → Stepped n l l st (step n s (stateOf l st) more r) (Stop 10 0)
-  cut-short e = stopped n l st _ 10 0 (ap (step n s (stateOf l st) more) e ∙ step-cut n s (stateOf l st) more)
+  pub cut-short : r ≡ CutShort → Stepped n l l st (recordStep n s (stateOf l st) more r) (Stop 10 0)
+  cut-short e = stopped n l st _ 10 0 (ap (recordStep n s (stateOf l st) more) e ∙ step-cut n s (stateOf l st) more)
 
-  pub unknown-kind : r ≡ UnknownKind → Stepped n l l st (step n s (stateOf l st) more r) (Stop 9 0)
-  unknown-kind e = stopped n l st _ 9 0 (ap (step n s (stateOf l st) more) e ∙ step-unknown n s (stateOf l st) more)
+  pub unknown-kind : r ≡ UnknownKind → Stepped n l l st (recordStep n s (stateOf l st) more r) (Stop 9 0)
+  unknown-kind e = stopped n l st _ 9 0 (ap (recordStep n s (stateOf l st) more) e ∙ step-unknown n s (stateOf l st) more)
 
-  pub no-record : r ≡ NoRecord → Stepped n l l st (step n s (stateOf l st) more r) (Stop 10 0)
-  no-record e = stopped n l st _ 10 0 (ap (step n s (stateOf l st) more) e ∙ step-none n s (stateOf l st) more)
+  pub no-record : r ≡ NoRecord → Stepped n l l st (recordStep n s (stateOf l st) more r) (Stop 10 0)
+  no-record e = stopped n l st _ 10 0 (ap (recordStep n s (stateOf l st) more) e ∙ step-none n s (stateOf l st) more)

@@ -1,4 +1,4 @@
--- What the inner functions say of the records read. No call open to others cites this file.
+-- What the inner functions say of the commands read. No call open to others cites this file.
 use mathlib.Core.Path.{_≡_}
 use Prim.Native.Nat.{ℕ, _≤_}
 use lib.ListN.{length, getD}
@@ -6,7 +6,7 @@ use Rattle.table.specs.Indexed.{Good}
 use Rattle.steps.specs.declared.State.{State}
 use Rattle.steps.specs.States.{Lent, tableIn}
 
--- What the last record leaves: a good table with the nodes that stay, and zeros behind the members and their marks.
+-- What the last command leaves: a good table with the nodes that stay, and zeros behind the members and their marks.
 pub record Ends (l : Lent) (st : State) : Type 0 where
   pub good : Good (tableIn l (st .count))
   pub least : 2 ≤ st .kept

@@ -1,0 +1,88 @@
+-- The step of a command is that of its kind: one law a kind, for the command as the code has it. The idea: the code's command tells the
+-- definition's. Assumes nothing.
+use mathlib.Core.Path.{_≡_, refl, sym, ap, _∙_, subst}
+use mathlib.Core.Bool.{Bool, true, false}
+use mathlib.Core.List.{List, [], _∷_}
+use Prim.Native.Nat.{ℕ, _≤_}
+use native.Mathlib.Omega.{arith}
+use lib.ListN.{length}
+use Rattle.meaning.specs.Operations as meaning
+use Rattle.records.specs.declared.Record.{Record}
+use Rattle.commands.specs.declared.TextClause.{TextClause}
+use Rattle.commands.specs.declared.Command as code
+use Rattle.commands.specs.declared.Command.the-variants.{Recorded, Added, Struck, Wrong, Finished}
+use Rattle.commands.specs.Commands.{Command, recorded, added, struckOut, wrong, finished}
+use Rattle.commands.specs.Inner.{clauseWords, commandOf}
+use Rattle.verdict.specs.Steps as check
+use Rattle.verdict.specs.Clausal.{addStep, strikeClause}
+use Rattle.verdict.specs.Check.{finish, step}
+use Rattle.steps.specs.declared.State.{State}
+use Rattle.steps.specs.declared.Step.{Step}
+use Rattle.steps.specs.declared.Step.the-variants.{Stop}
+use Rattle.steps.specs.States.{Lent, stateOf, Held, Stepped}
+use Rattle.steps.proofs.Stops.{stopped}
+use Rattle.tries.specs.Within.{Within}
+use Rattle.tries.specs.Commands.{CommandFits, PivotOfFits}
+
+-- ---- the code's command tells the definition's
+
+abbrev kind : code.Command → ℕ
+kind (Recorded r more) = 0
+kind (Added c) = 1
+kind (Struck c) = 2
+kind (Wrong number offset) = 3
+kind Finished = 4
+
+differs : {A : Type 0} (x y : code.Command) → x ≡ y → (kind x ≡ kind y → ⊥) → A
+differs x y e ne = absurd (ne (ap kind e))
+
+module _ (n s : ℕ) (l l′ : Lent) (st : State) (r : Step) where
+  -- Of every command that the code's one stands for the step says this.
+  abbrev pub Says : code.Command → Type 0
+  Says command = (c : Command) → commandOf c ≡ command → CommandFits n c → Stepped n l l′ st (step n s (stateOf l st) c) r
+
+  pub says-recorded : (rec : Record) (more : Bool) → Stepped n l l′ st (check.recordStep n s (stateOf l st) more rec) r → Says (Recorded rec more)
+  unfolding step
+  says-recorded rec more W (recorded rec′ more′) e fits = let same : rec′ ≡ rec = cc in let also : more′ ≡ more = cc in rw (same, also) W
+  says-recorded rec more W (added ls) e fits = differs (Added (clauseWords ls)) (Recorded rec more) e (λ z. omega arith)
+  says-recorded rec more W (struckOut ls) e fits = differs (Struck (clauseWords ls)) (Recorded rec more) e (λ z. omega arith)
+  says-recorded rec more W (wrong number offset) e fits = differs (Wrong number offset) (Recorded rec more) e (λ z. omega arith)
+  says-recorded rec more W finished e fits = differs Finished (Recorded rec more) e (λ z. omega arith)
+
+  pub says-added : (clause : TextClause) → ((ls : List meaning.Literal) → Within n ls → clauseWords ls ≡ clause → Stepped n l l′ st (addStep n s (stateOf l st) ls) r)
+      → Says (Added clause)
+  unfolding step
+  says-added clause W (recorded rec more) e fits = differs (Recorded rec more) (Added clause) e (λ z. omega arith)
+  says-added clause W (added ls) e fits = let same : clauseWords ls ≡ clause = cc in W ls fits same
+  says-added clause W (struckOut ls) e fits = differs (Struck (clauseWords ls)) (Added clause) e (λ z. omega arith)
+  says-added clause W (wrong number offset) e fits = differs (Wrong number offset) (Added clause) e (λ z. omega arith)
+  says-added clause W finished e fits = differs Finished (Added clause) e (λ z. omega arith)
+
+  pub says-struck : (clause : TextClause) → ((ls : List meaning.Literal) → Within n ls → clauseWords ls ≡ clause → Stepped n l l′ st (strikeClause n (stateOf l st) ls) r)
+      → Says (Struck clause)
+  unfolding step
+  says-struck clause W (recorded rec more) e fits = differs (Recorded rec more) (Struck clause) e (λ z. omega arith)
+  says-struck clause W (added ls) e fits = differs (Added (clauseWords ls)) (Struck clause) e (λ z. omega arith)
+  says-struck clause W (struckOut ls) e fits = let same : clauseWords ls ≡ clause = cc in W ls fits same
+  says-struck clause W (wrong number offset) e fits = differs (Wrong number offset) (Struck clause) e (λ z. omega arith)
+  says-struck clause W finished e fits = differs Finished (Struck clause) e (λ z. omega arith)
+
+  pub says-finished : Stepped n l l′ st (finish (stateOf l st)) r → Says Finished
+  unfolding step
+  says-finished W (recorded rec more) e fits = differs (Recorded rec more) Finished e (λ z. omega arith)
+  says-finished W (added ls) e fits = differs (Added (clauseWords ls)) Finished e (λ z. omega arith)
+  says-finished W (struckOut ls) e fits = differs (Struck (clauseWords ls)) Finished e (λ z. omega arith)
+  says-finished W (wrong number offset) e fits = differs (Wrong number offset) Finished e (λ z. omega arith)
+  says-finished W finished e fits = W
+
+pub says-wrong : (n s : ℕ) (l : Lent) (st : State) (number offset : ℕ) → Says n s l l st (Stop number offset) (Wrong number offset)
+unfolding step
+says-wrong n s l st number offset (recorded rec more) e fits = differs (Recorded rec more) (Wrong number offset) e (λ z. omega arith)
+says-wrong n s l st number offset (added ls) e fits = differs (Added (clauseWords ls)) (Wrong number offset) e (λ z. omega arith)
+says-wrong n s l st number offset (struckOut ls) e fits = differs (Struck (clauseWords ls)) (Wrong number offset) e (λ z. omega arith)
+says-wrong n s l st number offset (wrong k o) e fits = let same : k ≡ number = cc in let also : o ≡ offset = cc in stopped n l st _ number offset (rw (same, also))
+says-wrong n s l st number offset finished e fits = differs Finished (Wrong number offset) e (λ z. omega arith)
+
+-- The same, the command being one of that kind.
+pub says-as : {n s : ℕ} {l l′ : Lent} {st : State} {r : Step} (command command′ : code.Command) → command ≡ command′ → Says n s l l′ st r command′ → Says n s l l′ st r command
+says-as {n} {s} {l} {l′} {st} {r} command command′ e W = subst (Says n s l l′ st r) (sym e) W
