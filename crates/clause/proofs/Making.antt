@@ -107,7 +107,7 @@ module _ (T : Table) (G : Good T) (u : Literals) where
 
     module _ (v : ℕ) (some : 0 < v) (o : Outcome) (M : Making T u v o) (l h : ℕ) (low : l ≡ cond (inWord n v) 1 (o .node)) (high : h ≡ cond (inWord p v) 1 (o .node))
         (o′ : Outcome) (put : o′ ≡ putIn (o .table) v l h) where
-      next-is : o′ ≡ placeIn T (clauseWords u (64 - (v - 1)) (suc (v - 1)))
+      pub next-is : o′ ≡ placeIn T (clauseWords u (64 - (v - 1)) (suc (v - 1)))
       unfolding clauseFrom
       next-is =
           let z : 64 - (v - 1) ≡ suc (64 - v) = omega (arith, M .most) in
