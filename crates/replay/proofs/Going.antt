@@ -1,6 +1,7 @@
 -- The commands read one by one: what the whole proof comes to is what is left to be said from the state reached and the place of the next
 -- command. The idea: a command that is taken has a byte, so that there are always steps enough. Assumes nothing.
 use mathlib.Core.Path.{_≡_, refl, sym, ap, ap₂, _∙_, subst}
+use mathlib.Core.Bool.{true}
 use mathlib.Core.List.{List}
 use Prim.Native.Nat.{ℕ, zero, suc, _+_, _-_, _≤_, _<_}
 use native.Mathlib.Omega.{arith}
@@ -11,7 +12,9 @@ use Rattle.conflict.specs.Marks.{unmarked}
 use Rattle.commands.specs.declared.Mode.{Mode}
 use Rattle.commands.specs.declared.Form.{Form}
 use Rattle.commands.specs.declared.Form.the-variants.{Records, Text}
-use Rattle.commands.specs.Commands.{Command, recorded, added, struckOut, wrong, finished, start}
+use Rattle.commands.specs.Commands.{Command, recorded, added, struckOut, wrong, finished, start, commandAt}
+use Rattle.commands.specs.declared.Read as code-read
+use Rattle.commands.specs.Inner.{commandOf, readOf}
 use Rattle.verdict.specs.Steps as steps
 use Rattle.verdict.specs.Check as check
 use Rattle.verdict.specs.Run.{commandIn, nextIn}
@@ -20,7 +23,8 @@ use Rattle.steps.specs.declared.State.{State}
 use Rattle.steps.specs.declared.Step.{Step}
 use Rattle.steps.specs.declared.Step.the-variants.{Next, Stop, Spent}
 use Rattle.steps.specs.States.{Lent, tableIn, stateOf, stepOf, Held, HeldAfter, Unmoved, Stepped}
-use Rattle.tries.specs.Commands.{CommandFits}
+use Rattle.tries.specs.Commands.{CommandFits, PivotOfFits}
+use Rattle.tries.proofs.Commands.{pivot-fits}
 use Rattle.replay.specs.Ends.{Ends}
 use Rattle.replay.proofs.Near.{stop-near}
 
@@ -102,12 +106,24 @@ module _ (mode : Mode) (n s : ℕ) (proof : List ℕ) (whole : check.Verdict) wh
       unmarked = G .held .unmarked;
     }
 
-    pub going-asks : Held n l st × (marks ≡ unmarked (length (l .vars))) × Roomy (l .vars) memo
-    going-asks = (G .held, G .none-marked ∙ ap unmarked (sym (G .same-size)), G .room)
+    -- the command is read: a clause's literals are the header's
+    fits : CommandFits n (commandIn mode proof n at)
+    fits = fit-fits (mode .form) n (commandIn mode proof n at) (command-fit (mode .form) proof n at (G .within))
 
-    -- the command that the code reads fits: a clause's literals are the header's
-    pub going-fits : CommandFits n (commandIn mode proof n at)
-    going-fits = fit-fits (mode .form) n (commandIn mode proof n at) (command-fit (mode .form) proof n at (G .within))
+    module _ (r : code-read.Read) (is : r ≡ readOf (commandAt (mode .form) proof n at)) where
+      pub going-asks : Held n l st × (marks ≡ unmarked (length (l .vars))) × Roomy (l .vars) memo × PivotOfFits (r .command)
+      going-asks = (
+        G .held,
+        G .none-marked ∙ ap unmarked (sym (G .same-size)),
+        G .room,
+        subst PivotOfFits (sym (ap (λ (x : code-read.Read). x .command) is)) (pivot-fits n (G .held .entries .narrow) (commandIn mode proof n at) fits),
+      )
+
+      -- what the code's step says of its command it says of the definition's
+      pub going-reads : (l′ : Lent) (x : Step)
+          → ((c : Command) → commandOf c ≡ r .command → CommandFits n c → Stepped n l l′ st (check.step n (length (l .vars)) (stateOf l st) c) x)
+          → Stepped n l l′ st (check.step n (length (l .vars)) (stateOf l st) (commandIn mode proof n at)) x
+      going-reads l′ x W = W (commandIn mode proof n at) (sym (ap (λ (x : code-read.Read). x .command) is)) fits
 
     -- the command comes to x and leaves l′
     module _ (l′ : Lent) (x : Step) (X : Stepped n l l′ st (check.step n (length (l .vars)) (stateOf l st) (commandIn mode proof n at)) x) where
@@ -176,15 +192,16 @@ module _ (mode : Mode) (n s : ℕ) (proof : List ℕ) (whole : check.Verdict) wh
             command-goes (mode .form) proof n s (stateOf l st) (stateOf l′ st′) at (G .within)
             (step-taken n s (stateOf l st) (commandIn mode proof n at) (stateOf l′ st′) (says (Next st′) e))
 
-        pub going-next : (marks′ memo′ : List ℕ) → length (l′ .vars) ≡ length (l .vars) → marks′ ≡ unmarked (length (l .vars)) → length memo′ ≡ length memo
-            → Going l′ marks′ memo′ st′ (nextIn mode proof n at)
-        going-next marks′ memo′ size-kept marks-kept memo-kept = record {
+        pub going-next : (marks′ memo′ : List ℕ) (at′ : ℕ) → at′ ≡ nextIn mode proof n at → length (l′ .vars) ≡ length (l .vars) → marks′ ≡ unmarked (length (l .vars)) → length memo′ ≡ length memo
+            → Going l′ marks′ memo′ st′ at′
+        going-next marks′ memo′ at′ here size-kept marks-kept memo-kept = record {
           same-size = size-kept ∙ G .same-size;
           held = leaves (Next st′) e;
           none-marked = marks-kept ∙ ap unmarked (G .same-size);
           room = omega (arith, G .room, size-kept);
-          within = next-in .1;
-          remains = remains-next mode n s proof whole (stateOf l st) at (G .remains) (stateOf l′ st′) (says (Next st′) e) (G .within);
+          within = omega (arith, here, next-in .1);
+          remains = subst (Remains mode n s proof whole (stateOf l′ st′)) (sym here)
+              (remains-next mode n s proof whole (stateOf l st) at (G .remains) (stateOf l′ st′) (says (Next st′) e) (G .within));
         }
 
 pub going-start : (mode : Mode) (n : ℕ) (proof : List ℕ) (l : Lent) (marks memo : List ℕ) (st : State) (at : ℕ) → at ≡ start (mode .form) proof

@@ -53,7 +53,7 @@ pub fn read_commands(
     let form = mode.form;
     let mut state = first;
     let mut at: usize = commands::start_of(proof, form);
-    loop {
+    while at <= proof.len() {
         let read = commands::command_at(proof, at, variables, form);
         let command = read.command;
         match tries::command_step(
@@ -92,5 +92,12 @@ pub fn read_commands(
                 at = read.next;
             }
         }
+    }
+    // No command ends beyond the proof.
+    Ended {
+        number: 10,
+        place: at,
+        peak: state.peak,
+        state,
     }
 }

@@ -1,9 +1,9 @@
 -- What is left at the end: the emptied lists of a refused formula, and the table with only the nodes that stay of a proof that was
 -- judged, are the definition's outcome. The idea: a table that is written out has its nodes' columns. Assumes nothing.
 use mathlib.Core.Path.{_≡_, refl, sym, ap, ap₂, _∙_, subst}
-use mathlib.Core.Bool.{true, false, _&&_}
+use mathlib.Core.Bool.{Bool, true, false, _&&_}
 use mathlib.Core.List.{List, [], _++_}
-use Prim.Native.Nat.{ℕ, suc, _+_, _-_, _*_, _≤_}
+use Prim.Native.Nat.{ℕ, _+_, _-_, _*_, _≤_}
 use native.Mathlib.Omega.{arith}
 use lib.ListN.{length, getD, take, drop, length-replicate, length-drop, take-append-drop}
 use lib.Seq.{length-take-le, getD-take, getD-drop, ext-getD}
@@ -21,9 +21,10 @@ use Rattle.dimacs.specs.declared.Header.the-variants.{Proper, Improper}
 use Rattle.dimacs.specs.Header.{header}
 use Rattle.dimacs.specs.Clauses.{clausesFrom}
 use Rattle.dimacs.proofs.Bounds.{HeaderIn, header-in}
-use Rattle.verdict.specs.Check as check
+use Rattle.commands.specs.declared.Mode.{Mode}
+use Rattle.verdict.specs.Steps as check
 use Rattle.verdict.specs.Steps.{emptied, begun}
-use Rattle.verdict.specs.Check.{zeros, Verdict, left, records, refusedFormula, clauses, verdict, Outcome, lentFits, outcome}
+use Rattle.verdict.specs.Check.{zeros, Verdict, left, proofFrom, refusedFormula, clauses, verdict, Outcome, lentFits, outcome}
 use Rattle.steps.specs.declared.State.{State}
 use Rattle.steps.specs.States.{Lent, tableIn, stateOf, Held}
 use Rattle.session.specs.declared.Checked.{Checked}
@@ -31,25 +32,26 @@ use Rattle.session.specs.Checked.{outcomeOf}
 use Rattle.formula.specs.declared.Start.{Start}
 use Rattle.formula.specs.declared.Start.the-variants.{Begun, Refused}
 use Rattle.formula.specs.Formula.{Opened, saidFrom, Built}
-use Rattle.replay.specs.Records.{Ends}
+use Rattle.replay.specs.Ends.{Ends}
 use Rattle.table.proofs.Zeros.{part-zeros, zeros-at}
 
 -- ---- an outcome from its parts
 
-abbrev pub answer : ℕ → ℕ → ℕ → ℕ → ℕ → ℕ → Checked
-answer number place lines rounds count peak = record { number = number; place = place; lines = lines; rounds = rounds; count = count; peak = peak }
+abbrev pub answer : ℕ → Bool → ℕ → ℕ → ℕ → ℕ → ℕ → Checked
+answer number inProof place lines rounds count peak = record { number = number; «in_proof» = inProof; place = place; lines = lines; rounds = rounds; count = count; peak = peak }
 
-outcome-is : (s m c number place lines rounds count peak : ℕ) (d : Columns) (ms ss : List ℕ) (t : List Node) (ks ps : List ℕ)
+outcome-is : (s m c number : ℕ) (inProof : Bool) (place lines rounds count peak : ℕ) (d : Columns) (ms ss : List ℕ) (t : List Node) (ks ps : List ℕ)
     → count ≡ length t → d ≡ storedAs s t → ms ≡ ks ++ zeros (m - length ks) → ss ≡ ps ++ zeros (m - length ps)
-    → outcomeOf d ms ss (zeros c) (answer number place lines rounds count peak)
-    ≡ outcome s m c (record { number = number; place = place; lines = lines; rounds = rounds; peak = peak; nodes = t; members = ks; struck = ps })
+    → outcomeOf d ms ss (zeros c) (answer number inProof place lines rounds count peak)
+    ≡ outcome s m c (record { number = number; inProof = inProof; place = place; lines = lines; rounds = rounds; peak = peak; nodes = t; members = ks; struck = ps })
 unfolding outcome
-outcome-is s m c number place lines rounds count peak d ms ss t ks ps e f g h =
+outcome-is s m c number inProof place lines rounds count peak d ms ss t ks ps e f g h =
     ap₂ (λ (k : ℕ) (d : Columns). made k d ms ss) e f ∙ ap₂ (made (length t) (storedAs s t)) g h
   where
     made : ℕ → Columns → List ℕ → List ℕ → Outcome
     made k d xs ys = record {
       number = number;
+      inProof = inProof;
       place = place;
       lines = lines;
       rounds = rounds;
@@ -83,15 +85,15 @@ module _ (s : ℕ) (two : 2 ≤ s) (vs ls hs ds ks : List ℕ) (a : vs ≡ zeros
       ∙ ap (λ (x : List ℕ). tableOf (zeros s) (zeros s) (zeros s) (zeros (2 * s)) x 2) f ∙ table-emptied s two
 
   pub refused-is : (m c number place peak : ℕ) (ms ss : List ℕ) → ms ≡ zeros m → ss ≡ zeros m
-      → outcomeOf (columnsMade vs ls hs ds ks) ms ss (zeros c) (answer number place 0 0 2 peak) ≡ outcome s m c (refusedFormula number place peak)
+      → outcomeOf (columnsMade vs ls hs ds ks) ms ss (zeros c) (answer number false place 0 0 2 peak) ≡ outcome s m c (refusedFormula number place peak)
   refused-is m c number place peak ms ss g h =
-      outcome-is s m c number place 0 0 2 peak (columnsMade vs ls hs ds ks) ms ss emptied [] [] refl emptied-lists (g ∙ no-members m) (h ∙ no-members m)
+      outcome-is s m c number false place 0 0 2 peak (columnsMade vs ls hs ds ks) ms ss emptied [] [] refl emptied-lists (g ∙ no-members m) (h ∙ no-members m)
 
 -- the lists as they were opened
 pub unopened-is : (T : Table) (members struck : List ℕ) → Opened T members → struck ≡ zeros (length members) → (c number place : ℕ)
-    → outcomeOf (listsOf T) members struck (zeros c) (answer number place 0 0 2 2) ≡ outcome (size T) (length members) c (refusedFormula number place 2)
+    → outcomeOf (listsOf T) members struck (zeros c) (answer number false place 0 0 2 2) ≡ outcome (size T) (length members) c (refusedFormula number place 2)
 unopened-is T members struck O none c number place =
-    outcome-is (size T) (length members) c number place 0 0 2 2 (listsOf T) members struck emptied [] [] refl
+    outcome-is (size T) (length members) c number false place 0 0 2 2 (listsOf T) members struck emptied [] [] refl
     (written-lists T (size T) emptied (O .written) (omega arith) (O .least)) (O .none ∙ no-members (length members)) (none ∙ no-members (length members))
 
 -- ---- the proof
@@ -108,18 +110,18 @@ rest-zeros ms k within rest =
 pub judged-is : (l : Lent) (st : State) → Ends l st → (T : Table) → T .count ≡ st .kept
     → T ≡ indexed (length (l .vars)) (take (st .kept) (nodesOf (tableIn l (st .count)))) → (s m : ℕ) → length (l .vars) ≡ s → length (l .members) ≡ m
     → (c number place peak : ℕ) (whole : Verdict) → whole ≡ left number place peak (stateOf l st)
-    → outcomeOf (listsOf T) (l .members) (l .struck) (zeros c) (answer number place (st .lines) (st .rounds) (st .kept) peak) ≡ outcome s m c whole
+    → outcomeOf (listsOf T) (l .members) (l .struck) (zeros c) (answer number true place (st .lines) (st .rounds) (st .kept) peak) ≡ outcome s m c whole
 judged-is l st E T count e s m same same′ c number place peak whole v =
     let t : List Node = take (st .kept) (nodesOf (tableIn l (st .count))) in
     let marks : List ℕ = take (st .members) (l .struck) in
     let many : st .kept ≡ length t = sym count ∙ ap (λ (u : Table). u .count) e ∙ count-indexed (length (l .vars)) t in
-    outcome-is (length (l .vars)) (length (l .members)) c number place (st .lines) (st .rounds) (st .kept) peak (listsOf T) (l .members) (l .struck) t (take (st .members) (l .members)) marks
+    outcome-is (length (l .vars)) (length (l .members)) c number true place (st .lines) (st .rounds) (st .kept) peak (listsOf T) (l .members) (l .struck) t (take (st .members) (l .members)) marks
     many (written-lists T (length (l .vars)) t e (omega (arith, E .least)) (omega (arith, E .kept, E .good .within))) (rest-zeros (l .members) (st .members) (E .room) (E .rest))
     (subst (λ (k : ℕ). l .struck ≡ marks ++ zeros (k - length marks)) (E .marked)
     (rest-zeros (l .struck) (st .members) (omega (arith, E .room, E .marked)) (E .unmarked)))
     ∙ ap₂ (λ (a b : ℕ). outcome a b c (left number place peak (stateOf l st))) same same′ ∙ ap (outcome s m c) (sym v)
 
--- the state before the first record
+-- the state before the first command
 abbrev pub firstOf : ℕ → ℕ → State
 firstOf count made = record {
   count = count;
@@ -182,12 +184,12 @@ module _ (n : ℕ) (l : Lent) (count made : ℕ) (B : Built n (tableIn l count) 
 
 -- ---- the formula
 
-module _ (s : ℕ) (formula proof : List ℕ) where
-  pub verdict-proper : (n wanted from : ℕ) → header formula ≡ Proper n wanted from → verdict s formula proof ≡ clauses n s proof emptied [] (clausesFrom formula n wanted from)
+module _ (mode : Mode) (s : ℕ) (formula proof : List ℕ) where
+  pub verdict-proper : (n wanted from : ℕ) → header formula ≡ Proper n wanted from → verdict mode s formula proof ≡ clauses mode n s proof emptied [] (clausesFrom formula n wanted from)
   unfolding verdict
   verdict-proper n wanted from e = rw e
 
-  pub verdict-improper : (number place : ℕ) → header formula ≡ Improper number place → verdict s formula proof ≡ refusedFormula number place 2
+  pub verdict-improper : (number place : ℕ) → header formula ≡ Improper number place → verdict mode s formula proof ≡ refusedFormula number place 2
   unfolding verdict
   verdict-improper number place e = rw e
 
@@ -195,15 +197,15 @@ pub header-bounds : (formula : List ℕ) (n wanted from : ℕ) → header formul
 header-bounds formula n wanted from e = subst (HeaderIn formula) e (header-in formula)
 
 -- what the clauses come to, by how the formula was read
-module _ (n : ℕ) (proof vs ls hs ds ks ms : List ℕ) (s m c : ℕ) (whole : Verdict) (r : Start) (w : whole ≡ saidFrom n proof vs ls hs ds ks ms r) where
+module _ (mode : Mode) (n : ℕ) (proof vs ls hs ds ks ms : List ℕ) (s m c : ℕ) (whole : Verdict) (r : Start) (w : whole ≡ saidFrom mode n proof vs ls hs ds ks ms r) where
   pub begun-is : (count made : ℕ) → r ≡ Begun count made → length vs ≡ s → length ms ≡ m
-      → outcome (length vs) (length ms) c (records (suc (length proof)) n (length vs) proof (begun (nodesOf (tableOf vs ls hs ds ks count)) (take made ms)) 0) ≡ outcome s m c whole
+      → outcome (length vs) (length ms) c (proofFrom mode n (length vs) proof (begun (nodesOf (tableOf vs ls hs ds ks count)) (take made ms))) ≡ outcome s m c whole
   begun-is count made e same same′ =
-      ap₂ (λ (a b : ℕ). outcome a b c (saidFrom n proof vs ls hs ds ks ms (Begun count made))) same same′
-      ∙ ap (outcome s m c) (sym (w ∙ ap (saidFrom n proof vs ls hs ds ks ms) e))
+      ap₂ (λ (a b : ℕ). outcome a b c (saidFrom mode n proof vs ls hs ds ks ms (Begun count made))) same same′
+      ∙ ap (outcome s m c) (sym (w ∙ ap (saidFrom mode n proof vs ls hs ds ks ms) e))
 
   pub unbegun-is : (number place peak : ℕ) → r ≡ Refused number place peak → outcome s m c (refusedFormula number place peak) ≡ outcome s m c whole
-  unbegun-is number place peak e = ap (outcome s m c) (sym (w ∙ ap (saidFrom n proof vs ls hs ds ks ms) e))
+  unbegun-is number place peak e = ap (outcome s m c) (sym (w ∙ ap (saidFrom mode n proof vs ls hs ds ks ms) e))
 
 -- ---- the lists lent
 
@@ -241,8 +243,8 @@ emptied-opened s m two most room vs ls hs ds ks ms a b d e f g =
     }
 
 -- the whole, once the scratch list is zeros
-pub run-is : (s m c : ℕ) (formula proof : List ℕ) (d : Columns) (ms ss : List ℕ) (r : Checked) (s′ m′ c′ : ℕ) (cs : List ℕ)
-    → outcomeOf d ms ss (zeros c) r ≡ outcome s′ m′ c (verdict s′ formula proof) → s′ ≡ s → m′ ≡ m → cs ≡ zeros c′ → c′ ≡ c
-    → outcomeOf d ms ss cs r ≡ outcome s m c (verdict s formula proof)
-run-is s m c formula proof d ms ss r s′ m′ c′ cs e same same′ none same″ =
-    ap (λ (x : List ℕ). outcomeOf d ms ss x r) (none ∙ ap zeros same″) ∙ e ∙ ap₂ (λ (a b : ℕ). outcome a b c (verdict a formula proof)) same same′
+pub run-is : (mode : Mode) (s m c : ℕ) (formula proof : List ℕ) (d : Columns) (ms ss : List ℕ) (r : Checked) (s′ m′ c′ : ℕ) (cs : List ℕ)
+    → outcomeOf d ms ss (zeros c) r ≡ outcome s′ m′ c (verdict mode s′ formula proof) → s′ ≡ s → m′ ≡ m → cs ≡ zeros c′ → c′ ≡ c
+    → outcomeOf d ms ss cs r ≡ outcome s m c (verdict mode s formula proof)
+run-is mode s m c formula proof d ms ss r s′ m′ c′ cs e same same′ none same″ =
+    ap (λ (x : List ℕ). outcomeOf d ms ss x r) (none ∙ ap zeros same″) ∙ e ∙ ap₂ (λ (a b : ℕ). outcome a b c (verdict mode a formula proof)) same same′

@@ -6,6 +6,7 @@ use Prim.Native.Nat.{ℕ}
 use lib.ListN.{length}
 use lib.Dec.{eqb, leb}
 use Rattle.table.specs.Columns.{sizeFits, Columns}
+use Rattle.commands.specs.declared.Mode.{Mode}
 use Rattle.verdict.specs.Check.{verdict, Outcome, lentFits, outcome, check}
 use Rattle.session.specs.Checked.{outcomeOf}
 use Rattle.session.proofs.Finish.{answer}
@@ -22,13 +23,13 @@ module _ (c : Columns) (members struck scratch : List ℕ) where
   unfolding lentFits
   fit-columns e = rw e
 
-  module _ (count : ℕ) (formula proof : List ℕ) where
+  module _ (mode : Mode) (count : ℕ) (formula proof : List ℕ) where
     pub called-7 : lentFits c members struck scratch ≡ false
-        → outcomeOf c members struck scratch (answer 7 0 0 0 count 0) ≡ check c count members struck scratch formula proof
+        → outcomeOf c members struck scratch (answer 7 false 0 0 0 count 0) ≡ check mode c count members struck scratch formula proof
     unfolding check
     called-7 e = rw e
 
     pub called-done : lentFits c members struck scratch ≡ true → (o : Outcome)
-        → o ≡ outcome (length (c .vars)) (length members) (length scratch) (verdict (length (c .vars)) formula proof) → o ≡ check c count members struck scratch formula proof
+        → o ≡ outcome (length (c .vars)) (length members) (length scratch) (verdict mode (length (c .vars)) formula proof) → o ≡ check mode c count members struck scratch formula proof
     unfolding check
     called-done e o done = done ∙ rw e

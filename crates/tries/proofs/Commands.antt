@@ -86,3 +86,13 @@ says-wrong n s l st number offset finished e fits = differs Finished (Wrong numb
 -- The same, the command being one of that kind.
 pub says-as : {n s : ℕ} {l l′ : Lent} {st : State} {r : Step} (command command′ : code.Command) → command ≡ command′ → Says n s l l′ st r command′ → Says n s l l′ st r command
 says-as {n} {s} {l} {l′} {st} {r} command command′ e W = subst (Says n s l l′ st r) (sym e) W
+
+-- ---- what is asked of a command that is read
+
+pub pivot-fits : (n : ℕ) → n ≤ 64 → (c : Command) → CommandFits n c → PivotOfFits (commandOf c)
+pivot-fits n narrow (recorded r more) fits = tt
+pivot-fits n narrow (added []) fits = tt
+pivot-fits n narrow (added (l ∷ ls)) fits = (fits .0, omega (arith, fits .1, narrow))
+pivot-fits n narrow (struckOut ls) fits = tt
+pivot-fits n narrow (wrong number offset) fits = tt
+pivot-fits n narrow finished fits = tt

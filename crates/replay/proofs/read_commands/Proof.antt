@@ -1,203 +1,198 @@
--- `read_records` says what the definition says of the records: at the loop's head what is to be said is what is left to be said
--- (Going). Assumes nothing.
-use mathlib.Core.Path.{_≡_, refl, _∙_}
-use Prim.Native.Nat.{suc, _+_, _-_, _^_, _<_}
+-- `read_commands` says what the definition says of the proof: at the loop's head what is to be said is what is left to be said (Going).
+-- Assumes nothing.
+use mathlib.Core.Path.{_≡_, refl, sym, ap, _∙_, subst}
+use Prim.Native.Nat.{ℕ, _+_, _-_, _^_, _≤_, _<_}
 use native.Mathlib.Omega.{arith}
 use lib.ListN.{length}
 use borrow.Author.Needs.{needs}
-use Rattle.verdict.specs.Check.{records}
+use Rattle.verdict.specs.Check.{proofFrom}
 use Rattle.steps.specs.States.{Lent, lentOf, stateOf}
-use Rattle.replay.proofs.Going.{Going, record-short, going-start, going-asks, going-end, stop-near, going-stop, going-spent, next-within, next-takes, going-next}
-use Rattle.replay.proofs.read_records.Statement.{statement}
-use Rattle.replay.proofs.read_records.Tie as tie
+use Rattle.replay.proofs.Going.{Going, going-start, going-asks, going-reads, going-near, going-stop, going-spent, next-in, going-next}
+use Rattle.replay.proofs.read_commands.Statement.{statement}
+use Rattle.replay.proofs.read_commands.Tie as tie
 
 abbrev Inv-loop : tie.InvT-loop
-Inv-loop vars₀ lows₀ highs₀ heads₀ links₀ memo₀ marks₀ members₀ scratch₀ struck₀ variables proof state₀ at₀ vars lows highs heads links memo marks members scratch struck state at =
-    Going variables (length vars₀) proof (records (suc (length proof)) variables (length vars₀) proof (stateOf (lentOf vars₀ lows₀ highs₀ heads₀ links₀ members₀ scratch₀ struck₀) state₀) 0)
+Inv-loop vars₀ lows₀ highs₀ heads₀ links₀ memo₀ marks₀ members₀ scratch₀ struck₀ variables proof form state₀ at₀ vars lows highs heads links memo marks members scratch struck state at =
+    Going (record { form = form }) variables (length vars₀) proof
+    (proofFrom (record { form = form }) variables (length vars₀) proof (stateOf (lentOf vars₀ lows₀ highs₀ heads₀ links₀ members₀ scratch₀ struck₀) state₀))
     (lentOf vars lows highs heads links members scratch struck) marks memo state at
     × (length vars ≡ length vars₀) × (length lows ≡ length lows₀) × (length highs ≡ length highs₀) × (length heads ≡ length heads₀) × (length links ≡ length links₀) × (length memo ≡ length memo₀) × (length marks ≡ length marks₀) × (length members ≡ length members₀) × (length scratch ≡ length scratch₀) × (length struck ≡ length struck₀)
 
 abbrev μ-loop : tie.MeasureT-loop
-μ-loop vars₀ lows₀ highs₀ heads₀ links₀ memo₀ marks₀ members₀ scratch₀ struck₀ variables proof state₀ at₀ vars lows highs heads links memo marks members scratch struck state at =
+μ-loop vars₀ lows₀ highs₀ heads₀ links₀ memo₀ marks₀ members₀ scratch₀ struck₀ variables proof form state₀ at₀ vars lows highs heads links memo marks members scratch struck state at =
     length proof - at
 
 -- what a step leaves
-module _ (a : tie.After-record-step Inv-loop μ-loop) where
+module _ (a : tie.After-command-step Inv-loop μ-loop) where
   abbrev lent : Lent
   lent =
-      let x = a .record-step .last in
+      let x = a .command-step .last in
       lentOf (x .0) (x .1 .0) (x .1 .1 .0) (x .1 .1 .1 .0) (x .1 .1 .1 .1 .0) (x .1 .1 .1 .1 .1 .1 .1 .0) (x .1 .1 .1 .1 .1 .1 .1 .1 .0) (x .1 .1 .1 .1 .1 .1 .1 .1 .1 .0)
 
--- the byte behind a record's first one has a place
-room : (a : tie.In-loop Inv-loop μ-loop) → a .before .loop .at + 1 < 2 ^ 64
-room a = omega (arith, a .loop-test .taken)
+start-of-requires : tie.Need-start-of-requires Inv-loop μ-loop
+start-of-requires c κs =
+    search needs
 
 -- The ways back, written by ways.py: TO-from-FROM leads from the place FROM of the code to the place TO before it.
-module _ (c : tie.After-shared-slice-known Inv-loop μ-loop) where
+module _ (c : tie.After-start-of Inv-loop μ-loop) where
   abbrev start-from-loop-holds : tie.Start Inv-loop μ-loop
-  start-from-loop-holds = c .before .before .before .before .before .before .before .before .before .before .before
+  start-from-loop-holds = c .before .before .before .before .before .before .before .before .before .before .before .before
 
-module _ (c : tie.After-record-step-arg10 Inv-loop μ-loop) where
-  abbrev record-length-from-record-step-call : tie.After-record-length Inv-loop μ-loop
-  record-length-from-record-step-call = c .before .before .before .before .before .before .before .before .before .before
+module _ (c : tie.At-loop Inv-loop μ-loop) where
+  abbrev start-from-at-loop : tie.Start Inv-loop μ-loop
+  start-from-at-loop = c .before .before .before .before .before .before .before .before .before .before .before .before .before
 
-  abbrev at-loop-from-record-step-call : tie.At-loop Inv-loop μ-loop
-  at-loop-from-record-step-call = record-length-from-record-step-call .before .before .before
+module _ (c : tie.In-loop Inv-loop μ-loop) where
+  abbrev start-from-in-loop : tie.Start Inv-loop μ-loop
+  start-from-in-loop = start-from-at-loop (c .before)
 
-module _ (c : tie.After-record-step Inv-loop μ-loop) where
-  abbrev record-length-from-record-step : tie.After-record-length Inv-loop μ-loop
-  record-length-from-record-step = c .before .before .before .before .before .before .before .before .before .before .before
+module _ (c : tie.After-command-step-arg10 Inv-loop μ-loop) where
+  abbrev command-at-from-command-step-call : tie.After-command-at Inv-loop μ-loop
+  command-at-from-command-step-call = c .before .before .before .before .before .before .before .before .before .before
+
+  abbrev at-loop-from-command-step-call : tie.At-loop Inv-loop μ-loop
+  at-loop-from-command-step-call = command-at-from-command-step-call .before .before
+
+module _ (c : tie.After-command-step Inv-loop μ-loop) where
+  abbrev command-at-from-command-step : tie.After-command-at Inv-loop μ-loop
+  command-at-from-command-step = c .before .before .before .before .before .before .before .before .before .before .before
 
 module _ (c : tie.After-known-told Inv-loop μ-loop) where
-  abbrev record-step-from-return : tie.After-record-step Inv-loop μ-loop
-  record-step-from-return = c .before .before .before .before .before .before .before .before .before .before .before .before .before
+  abbrev command-step-from-return : tie.After-command-step Inv-loop μ-loop
+  command-step-from-return = c .before .before .before .before .before .before .before .before .before .before .before .before .before
       .before .before .before .before .before .before .before .before .before .before
 
-  abbrev record-length-from-return : tie.After-record-length Inv-loop μ-loop
-  record-length-from-return = record-length-from-record-step record-step-from-return
-
-  abbrev record-from-from-return : tie.After-record-from Inv-loop μ-loop
-  record-from-from-return = record-length-from-return .before
+  abbrev command-at-from-return : tie.After-command-at Inv-loop μ-loop
+  command-at-from-return = command-at-from-command-step command-step-from-return
 
   abbrev in-loop-from-return : tie.In-loop Inv-loop μ-loop
-  in-loop-from-return = record-from-from-return .before
+  in-loop-from-return = command-at-from-return .before
 
   abbrev at-loop-from-return : tie.At-loop Inv-loop μ-loop
   at-loop-from-return = in-loop-from-return .before
 
 module _ (c : tie.After-known-told2 Inv-loop μ-loop) where
-  abbrev record-step-from-return-2 : tie.After-record-step Inv-loop μ-loop
-  record-step-from-return-2 = c .before .before .before .before .before .before .before .before .before .before .before .before .before
+  abbrev command-step-from-return-2 : tie.After-command-step Inv-loop μ-loop
+  command-step-from-return-2 = c .before .before .before .before .before .before .before .before .before .before .before .before .before
       .before .before .before .before .before .before .before .before .before .before
 
-  abbrev record-length-from-return-2 : tie.After-record-length Inv-loop μ-loop
-  record-length-from-return-2 = record-length-from-record-step record-step-from-return-2
-
-  abbrev record-from-from-return-2 : tie.After-record-from Inv-loop μ-loop
-  record-from-from-return-2 = record-length-from-return-2 .before
+  abbrev command-at-from-return-2 : tie.After-command-at Inv-loop μ-loop
+  command-at-from-return-2 = command-at-from-command-step command-step-from-return-2
 
   abbrev at-loop-from-return-2 : tie.At-loop Inv-loop μ-loop
-  at-loop-from-return-2 = record-from-from-return-2 .before .before
+  at-loop-from-return-2 = command-at-from-return-2 .before .before
 
 module _ (c : tie.After-known-told3 Inv-loop μ-loop) where
-  abbrev record-step-from-loop-again : tie.After-record-step Inv-loop μ-loop
-  record-step-from-loop-again = c .before .before .before .before .before .before .before .before .before .before .before .before .before
+  abbrev command-step-from-loop-again : tie.After-command-step Inv-loop μ-loop
+  command-step-from-loop-again = c .before .before .before .before .before .before .before .before .before .before .before .before .before
       .before .before .before .before .before .before .before .before .before .before
 
-  abbrev record-length-from-loop-again : tie.After-record-length Inv-loop μ-loop
-  record-length-from-loop-again = record-length-from-record-step record-step-from-loop-again
-
-  abbrev record-from-from-loop-again : tie.After-record-from Inv-loop μ-loop
-  record-from-from-loop-again = record-length-from-loop-again .before
-
-  abbrev in-loop-from-loop-again : tie.In-loop Inv-loop μ-loop
-  in-loop-from-loop-again = record-from-from-loop-again .before
+  abbrev command-at-from-loop-again : tie.After-command-at Inv-loop μ-loop
+  command-at-from-loop-again = command-at-from-command-step command-step-from-loop-again
 
   abbrev at-loop-from-loop-again : tie.At-loop Inv-loop μ-loop
-  at-loop-from-loop-again = in-loop-from-loop-again .before
+  at-loop-from-loop-again = command-at-from-loop-again .before .before
+
+-- a place in the proof is a machine number
+room : (a : tie.In-loop Inv-loop μ-loop) (k : ℕ) → k ≤ length (start-from-in-loop a .args .proof .now) → k < 2 ^ 64
+room a k h = omega (arith, h, a .loop-test .taken)
 
 loop-holds : tie.Need-loop-holds Inv-loop μ-loop
 loop-holds c =
     let start = start-from-loop-holds c in
-    (going-start _ _ _ _ _ _ (start .pre), refl, refl, refl, refl, refl, refl, refl, refl, refl, refl)
+    (going-start _ _ _ _ _ _ _ _ (c .start-of .ensures .0) (start .pre), refl, refl, refl, refl, refl, refl, refl, refl, refl, refl)
 
-record-from-requires : tie.Need-record-from-requires Inv-loop μ-loop
-record-from-requires c κs =
-    search needs
+command-at-requires : tie.Need-command-at-requires Inv-loop μ-loop
+command-at-requires c κs =
+    let G = c .before .loop .inv .0 in
+    (G .within, G .held .entries .narrow)
 
-record-length-requires : tie.Need-record-length-requires Inv-loop μ-loop
-record-length-requires c κs =
-    search needs
-
-add-next : tie.Need-add-next Inv-loop μ-loop
-add-next c =
-    omega (arith, c .before .before .loop-test .taken, c .record-length .ensures, record-short (c .before .record-from .result))
-
-record-step-requires : tie.Need-record-step-requires Inv-loop μ-loop
-record-step-requires c κs =
-    let at-loop = at-loop-from-record-step-call c in
-    going-asks _ _ _ _ _ _ _ _ _ (at-loop .loop .inv .0)
+command-step-requires : tie.Need-command-step-requires Inv-loop μ-loop
+command-step-requires c κs =
+    let at-loop = at-loop-from-command-step-call c in
+    let after-command-at = command-at-from-command-step-call c in
+    going-asks _ _ _ _ _ _ _ _ _ _ (at-loop .loop .inv .0) _ (after-command-at .command-at .ensures)
 
 enum-known-number : tie.Need-enum-known-number Inv-loop μ-loop
 enum-known-number c =
     search needs
 
-add-t46 : tie.Need-add-t46 Inv-loop μ-loop
-add-t46 c =
+add-t48 : tie.Need-add-t48 Inv-loop μ-loop
+add-t48 c =
     let at-loop = at-loop-from-return c in
-    let in-loop = in-loop-from-return c in
-    let after-record-from = record-from-from-return c in
-    let after-record-length = record-length-from-return c in
-    let after-record-step = record-step-from-return c in
-    omega (arith, room in-loop, stop-near _ _ _ _ _ _ _ _ _ (at-loop .loop .inv .0) _ (after-record-from .record-from .ensures) _ (after-record-length .record-length .ensures) (lent after-record-step) _ (after-record-step .record-step .ensures .0) _ _ (c .before .number .given .1))
+    let after-command-at = command-at-from-return c in
+    let after-command-step = command-step-from-return c in
+    let near = going-near _ _ _ _ _ _ _ _ _ _ (at-loop .loop .inv .0) (lent after-command-step) _ (going-reads _ _ _ _ _ _ _ _ _ _ (at-loop .loop .inv .0) _ (after-command-at .command-at .ensures) (lent after-command-step) _ (after-command-step .command-step .ensures .0)) _ _ (c .before .number .given .1) in
+    omega (arith, room (in-loop-from-return c) _ near)
 
 same-length : tie.Need-same-length Inv-loop μ-loop
 same-length c =
     let at-loop = at-loop-from-return c in
-    let after-record-step = record-step-from-return c in
-    after-record-step .record-step .kept .0 ∙ at-loop .loop .inv .1
+    let after-command-step = command-step-from-return c in
+    after-command-step .command-step .kept .0 ∙ at-loop .loop .inv .1
 
 same-length-2 : tie.Need-same-length-2 Inv-loop μ-loop
 same-length-2 c =
     let at-loop = at-loop-from-return c in
-    let after-record-step = record-step-from-return c in
-    after-record-step .record-step .kept .1 .0 ∙ at-loop .loop .inv .2
+    let after-command-step = command-step-from-return c in
+    after-command-step .command-step .kept .1 .0 ∙ at-loop .loop .inv .2
 
 same-length-3 : tie.Need-same-length-3 Inv-loop μ-loop
 same-length-3 c =
     let at-loop = at-loop-from-return c in
-    let after-record-step = record-step-from-return c in
-    after-record-step .record-step .kept .1 .1 .0 ∙ at-loop .loop .inv .3
+    let after-command-step = command-step-from-return c in
+    after-command-step .command-step .kept .1 .1 .0 ∙ at-loop .loop .inv .3
 
 same-length-4 : tie.Need-same-length-4 Inv-loop μ-loop
 same-length-4 c =
     let at-loop = at-loop-from-return c in
-    let after-record-step = record-step-from-return c in
-    after-record-step .record-step .kept .1 .1 .1 .0 ∙ at-loop .loop .inv .4
+    let after-command-step = command-step-from-return c in
+    after-command-step .command-step .kept .1 .1 .1 .0 ∙ at-loop .loop .inv .4
 
 same-length-5 : tie.Need-same-length-5 Inv-loop μ-loop
 same-length-5 c =
     let at-loop = at-loop-from-return c in
-    let after-record-step = record-step-from-return c in
-    after-record-step .record-step .kept .1 .1 .1 .1 .0 ∙ at-loop .loop .inv .5
+    let after-command-step = command-step-from-return c in
+    after-command-step .command-step .kept .1 .1 .1 .1 .0 ∙ at-loop .loop .inv .5
 
 same-length-6 : tie.Need-same-length-6 Inv-loop μ-loop
 same-length-6 c =
     let at-loop = at-loop-from-return c in
-    let after-record-step = record-step-from-return c in
-    after-record-step .record-step .kept .1 .1 .1 .1 .1 .0 ∙ at-loop .loop .inv .6
+    let after-command-step = command-step-from-return c in
+    after-command-step .command-step .kept .1 .1 .1 .1 .1 .0 ∙ at-loop .loop .inv .6
 
 same-length-7 : tie.Need-same-length-7 Inv-loop μ-loop
 same-length-7 c =
     let at-loop = at-loop-from-return c in
-    let after-record-step = record-step-from-return c in
-    after-record-step .record-step .kept .1 .1 .1 .1 .1 .1 .0 ∙ at-loop .loop .inv .7
+    let after-command-step = command-step-from-return c in
+    after-command-step .command-step .kept .1 .1 .1 .1 .1 .1 .0 ∙ at-loop .loop .inv .7
 
 same-length-8 : tie.Need-same-length-8 Inv-loop μ-loop
 same-length-8 c =
     let at-loop = at-loop-from-return c in
-    let after-record-step = record-step-from-return c in
-    after-record-step .record-step .kept .1 .1 .1 .1 .1 .1 .1 .0 ∙ at-loop .loop .inv .8
+    let after-command-step = command-step-from-return c in
+    after-command-step .command-step .kept .1 .1 .1 .1 .1 .1 .1 .0 ∙ at-loop .loop .inv .8
 
 same-length-9 : tie.Need-same-length-9 Inv-loop μ-loop
 same-length-9 c =
     let at-loop = at-loop-from-return c in
-    let after-record-step = record-step-from-return c in
-    after-record-step .record-step .kept .1 .1 .1 .1 .1 .1 .1 .1 .0 ∙ at-loop .loop .inv .9
+    let after-command-step = command-step-from-return c in
+    after-command-step .command-step .kept .1 .1 .1 .1 .1 .1 .1 .1 .0 ∙ at-loop .loop .inv .9
 
 same-length-10 : tie.Need-same-length-10 Inv-loop μ-loop
 same-length-10 c =
     let at-loop = at-loop-from-return c in
-    let after-record-step = record-step-from-return c in
-    after-record-step .record-step .kept .1 .1 .1 .1 .1 .1 .1 .1 .1 .0 ∙ at-loop .loop .inv .10
+    let after-command-step = command-step-from-return c in
+    after-command-step .command-step .kept .1 .1 .1 .1 .1 .1 .1 .1 .1 .0 ∙ at-loop .loop .inv .10
 
 returns : tie.Need-returns Inv-loop μ-loop
 returns c =
     let at-loop = at-loop-from-return c in
-    let after-record-from = record-from-from-return c in
-    let after-record-length = record-length-from-return c in
-    let after-record-step = record-step-from-return c in
-    going-stop _ _ _ _ _ _ _ _ _ (at-loop .loop .inv .0) _ (after-record-from .record-from .ensures) _ (after-record-length .record-length .ensures) (lent after-record-step) _ (after-record-step .record-step .ensures .0) _ _ (c .before .number .given .1)
+    let after-command-at = command-at-from-return c in
+    let after-command-step = command-step-from-return c in
+    let G = at-loop .loop .inv .0 in
+    let X = going-reads _ _ _ _ _ _ _ _ _ _ G _ (after-command-at .command-at .ensures) (lent after-command-step) _ (after-command-step .command-step .ensures .0) in
+    going-stop _ _ _ _ _ _ _ _ _ _ G (lent after-command-step) _ X _ _ (c .before .number .given .1)
 
 enum-known-number-2 : tie.Need-enum-known-number-2 Inv-loop μ-loop
 enum-known-number-2 c =
@@ -206,70 +201,71 @@ enum-known-number-2 c =
 same-length-11 : tie.Need-same-length-11 Inv-loop μ-loop
 same-length-11 c =
     let at-loop = at-loop-from-return-2 c in
-    let after-record-step = record-step-from-return-2 c in
-    after-record-step .record-step .kept .0 ∙ at-loop .loop .inv .1
+    let after-command-step = command-step-from-return-2 c in
+    after-command-step .command-step .kept .0 ∙ at-loop .loop .inv .1
 
 same-length-12 : tie.Need-same-length-12 Inv-loop μ-loop
 same-length-12 c =
     let at-loop = at-loop-from-return-2 c in
-    let after-record-step = record-step-from-return-2 c in
-    after-record-step .record-step .kept .1 .0 ∙ at-loop .loop .inv .2
+    let after-command-step = command-step-from-return-2 c in
+    after-command-step .command-step .kept .1 .0 ∙ at-loop .loop .inv .2
 
 same-length-13 : tie.Need-same-length-13 Inv-loop μ-loop
 same-length-13 c =
     let at-loop = at-loop-from-return-2 c in
-    let after-record-step = record-step-from-return-2 c in
-    after-record-step .record-step .kept .1 .1 .0 ∙ at-loop .loop .inv .3
+    let after-command-step = command-step-from-return-2 c in
+    after-command-step .command-step .kept .1 .1 .0 ∙ at-loop .loop .inv .3
 
 same-length-14 : tie.Need-same-length-14 Inv-loop μ-loop
 same-length-14 c =
     let at-loop = at-loop-from-return-2 c in
-    let after-record-step = record-step-from-return-2 c in
-    after-record-step .record-step .kept .1 .1 .1 .0 ∙ at-loop .loop .inv .4
+    let after-command-step = command-step-from-return-2 c in
+    after-command-step .command-step .kept .1 .1 .1 .0 ∙ at-loop .loop .inv .4
 
 same-length-15 : tie.Need-same-length-15 Inv-loop μ-loop
 same-length-15 c =
     let at-loop = at-loop-from-return-2 c in
-    let after-record-step = record-step-from-return-2 c in
-    after-record-step .record-step .kept .1 .1 .1 .1 .0 ∙ at-loop .loop .inv .5
+    let after-command-step = command-step-from-return-2 c in
+    after-command-step .command-step .kept .1 .1 .1 .1 .0 ∙ at-loop .loop .inv .5
 
 same-length-16 : tie.Need-same-length-16 Inv-loop μ-loop
 same-length-16 c =
     let at-loop = at-loop-from-return-2 c in
-    let after-record-step = record-step-from-return-2 c in
-    after-record-step .record-step .kept .1 .1 .1 .1 .1 .0 ∙ at-loop .loop .inv .6
+    let after-command-step = command-step-from-return-2 c in
+    after-command-step .command-step .kept .1 .1 .1 .1 .1 .0 ∙ at-loop .loop .inv .6
 
 same-length-17 : tie.Need-same-length-17 Inv-loop μ-loop
 same-length-17 c =
     let at-loop = at-loop-from-return-2 c in
-    let after-record-step = record-step-from-return-2 c in
-    after-record-step .record-step .kept .1 .1 .1 .1 .1 .1 .0 ∙ at-loop .loop .inv .7
+    let after-command-step = command-step-from-return-2 c in
+    after-command-step .command-step .kept .1 .1 .1 .1 .1 .1 .0 ∙ at-loop .loop .inv .7
 
 same-length-18 : tie.Need-same-length-18 Inv-loop μ-loop
 same-length-18 c =
     let at-loop = at-loop-from-return-2 c in
-    let after-record-step = record-step-from-return-2 c in
-    after-record-step .record-step .kept .1 .1 .1 .1 .1 .1 .1 .0 ∙ at-loop .loop .inv .8
+    let after-command-step = command-step-from-return-2 c in
+    after-command-step .command-step .kept .1 .1 .1 .1 .1 .1 .1 .0 ∙ at-loop .loop .inv .8
 
 same-length-19 : tie.Need-same-length-19 Inv-loop μ-loop
 same-length-19 c =
     let at-loop = at-loop-from-return-2 c in
-    let after-record-step = record-step-from-return-2 c in
-    after-record-step .record-step .kept .1 .1 .1 .1 .1 .1 .1 .1 .0 ∙ at-loop .loop .inv .9
+    let after-command-step = command-step-from-return-2 c in
+    after-command-step .command-step .kept .1 .1 .1 .1 .1 .1 .1 .1 .0 ∙ at-loop .loop .inv .9
 
 same-length-20 : tie.Need-same-length-20 Inv-loop μ-loop
 same-length-20 c =
     let at-loop = at-loop-from-return-2 c in
-    let after-record-step = record-step-from-return-2 c in
-    after-record-step .record-step .kept .1 .1 .1 .1 .1 .1 .1 .1 .1 .0 ∙ at-loop .loop .inv .10
+    let after-command-step = command-step-from-return-2 c in
+    after-command-step .command-step .kept .1 .1 .1 .1 .1 .1 .1 .1 .1 .0 ∙ at-loop .loop .inv .10
 
 returns-2 : tie.Need-returns-2 Inv-loop μ-loop
 returns-2 c =
     let at-loop = at-loop-from-return-2 c in
-    let after-record-from = record-from-from-return-2 c in
-    let after-record-length = record-length-from-return-2 c in
-    let after-record-step = record-step-from-return-2 c in
-    going-spent _ _ _ _ _ _ _ _ _ (at-loop .loop .inv .0) _ (after-record-from .record-from .ensures) _ (after-record-length .record-length .ensures) (lent after-record-step) _ (after-record-step .record-step .ensures .0) _ _ (c .before .number2 .given .1)
+    let after-command-at = command-at-from-return-2 c in
+    let after-command-step = command-step-from-return-2 c in
+    let G = at-loop .loop .inv .0 in
+    let X = going-reads _ _ _ _ _ _ _ _ _ _ G _ (after-command-at .command-at .ensures) (lent after-command-step) _ (after-command-step .command-step .ensures .0) in
+    going-spent _ _ _ _ _ _ _ _ _ _ G (lent after-command-step) _ X _ _ (c .before .number2 .given .1)
 
 enum-known-s : tie.Need-enum-known-s Inv-loop μ-loop
 enum-known-s c =
@@ -278,19 +274,25 @@ enum-known-s c =
 loop-less : tie.Need-loop-less Inv-loop μ-loop
 loop-less c =
     let at-loop = at-loop-from-loop-again c in
-    let in-loop = in-loop-from-loop-again c in
-    let after-record-from = record-from-from-loop-again c in
-    let after-record-length = record-length-from-loop-again c in
-    let after-record-step = record-step-from-loop-again c in
-    omega (arith, in-loop .loop-test .taken, next-takes _ _ _ _ _ _ _ _ _ (at-loop .loop .inv .0) _ (after-record-from .record-from .ensures) _ (after-record-length .record-length .ensures) (lent after-record-step) _ (after-record-step .record-step .ensures .0) _ (c .before .s .given .1), next-within _ _ _ _ _ _ _ _ _ (at-loop .loop .inv .0) _ (after-record-from .record-from .ensures) _ (after-record-length .record-length .ensures) (lent after-record-step) _ (after-record-step .record-step .ensures .0) _ (c .before .s .given .1))
+    let after-command-at = command-at-from-loop-again c in
+    let after-command-step = command-step-from-loop-again c in
+    let G = at-loop .loop .inv .0 in
+    let X = going-reads _ _ _ _ _ _ _ _ _ _ G _ (after-command-at .command-at .ensures) (lent after-command-step) _ (after-command-step .command-step .ensures .0) in
+    let next = next-in _ _ _ _ _ _ _ _ _ _ G (lent after-command-step) _ X _ (c .before .s .given .1) in
+    let is = ap (λ r. r .next) (after-command-at .command-at .ensures) in
+    omega (arith, next .0, next .1, is)
 
 loop-again : tie.Need-loop-again Inv-loop μ-loop
 loop-again c =
     let at-loop = at-loop-from-loop-again c in
-    let after-record-from = record-from-from-loop-again c in
-    let after-record-length = record-length-from-loop-again c in
-    let after-record-step = record-step-from-loop-again c in
-    (going-next _ _ _ _ _ _ _ _ _ (at-loop .loop .inv .0) _ (after-record-from .record-from .ensures) _ (after-record-length .record-length .ensures) (lent after-record-step) _ (after-record-step .record-step .ensures .0) _ (c .before .s .given .1) _ _ (after-record-step .record-step .kept .0) (after-record-step .record-step .ensures .1) (after-record-step .record-step .kept .1 .1 .1 .1 .1 .0), after-record-step .record-step .kept .0 ∙ at-loop .loop .inv .1, after-record-step .record-step .kept .1 .0 ∙ at-loop .loop .inv .2, after-record-step .record-step .kept .1 .1 .0 ∙ at-loop .loop .inv .3, after-record-step .record-step .kept .1 .1 .1 .0 ∙ at-loop .loop .inv .4, after-record-step .record-step .kept .1 .1 .1 .1 .0 ∙ at-loop .loop .inv .5, after-record-step .record-step .kept .1 .1 .1 .1 .1 .0 ∙ at-loop .loop .inv .6, after-record-step .record-step .kept .1 .1 .1 .1 .1 .1 .0 ∙ at-loop .loop .inv .7, after-record-step .record-step .kept .1 .1 .1 .1 .1 .1 .1 .0 ∙ at-loop .loop .inv .8, after-record-step .record-step .kept .1 .1 .1 .1 .1 .1 .1 .1 .0 ∙ at-loop .loop .inv .9, after-record-step .record-step .kept .1 .1 .1 .1 .1 .1 .1 .1 .1 .0 ∙ at-loop .loop .inv .10)
+    let after-command-at = command-at-from-loop-again c in
+    let after-command-step = command-step-from-loop-again c in
+    let G = at-loop .loop .inv .0 in
+    let X = going-reads _ _ _ _ _ _ _ _ _ _ G _ (after-command-at .command-at .ensures) (lent after-command-step) _ (after-command-step .command-step .ensures .0) in
+    let k = after-command-step .command-step .kept in
+    let is = ap (λ r. r .next) (after-command-at .command-at .ensures) in
+    let on = going-next _ _ _ _ _ _ _ _ _ _ G (lent after-command-step) _ X _ (c .before .s .given .1) _ _ _ is (k .0) (after-command-step .command-step .ensures .1) (k .1 .1 .1 .1 .1 .0) in
+    (on, k .0 ∙ at-loop .loop .inv .1, k .1 .0 ∙ at-loop .loop .inv .2, k .1 .1 .0 ∙ at-loop .loop .inv .3, k .1 .1 .1 .0 ∙ at-loop .loop .inv .4, k .1 .1 .1 .1 .0 ∙ at-loop .loop .inv .5, k .1 .1 .1 .1 .1 .0 ∙ at-loop .loop .inv .6, k .1 .1 .1 .1 .1 .1 .0 ∙ at-loop .loop .inv .7, k .1 .1 .1 .1 .1 .1 .1 .0 ∙ at-loop .loop .inv .8, k .1 .1 .1 .1 .1 .1 .1 .1 .0 ∙ at-loop .loop .inv .9, k .1 .1 .1 .1 .1 .1 .1 .1 .1 .0 ∙ at-loop .loop .inv .10)
 
 same-length-21 : tie.Need-same-length-21 Inv-loop μ-loop
 same-length-21 c =
@@ -334,21 +336,21 @@ same-length-30 c =
 
 returns-3 : tie.Need-returns-3 Inv-loop μ-loop
 returns-3 c =
-    going-end _ _ _ _ _ _ _ _ _ (c .before .loop .inv .0) (omega (arith, c .loop-test .left))
+    let within = c .before .loop .inv .0 .within in
+    absurd (omega (arith, within, c .loop-test .left))
 
-pub read-records-spec : {M : Type 1} → statement M
-read-records-spec =
+pub read-commands-spec : {M : Type 1} → statement M
+read-commands-spec =
     tie.close
     (tie.spec
     Inv-loop
     μ-loop
+    start-of-requires
     loop-holds
-    record-from-requires
-    record-length-requires
-    add-next
-    record-step-requires
+    command-at-requires
+    command-step-requires
     enum-known-number
-    add-t46
+    add-t48
     same-length
     same-length-2
     same-length-3

@@ -139,7 +139,7 @@ returns c =
     let after-empty = empty-from-return c in
     let after-run-header = run-header-from-return c in
     let a = start .args in
-    run-is (length (a .vars .now)) (length (a .members .now)) (length (a .scratch .now)) (a .formula .now) (a .proof .now) _ _ _ _ _ _ _ _
+    run-is (a .mode) (length (a .vars .now)) (length (a .members .now)) (length (a .scratch .now)) (a .formula .now) (a .proof .now) _ _ _ _ _ _ _ _
     (after-run-header .run-header .ensures) (after-empty .empty .kept .0) (after-empty .empty .kept .1 .1 .1 .1 .1 .0) (c .before .before .clear-numbers .ensures) (after-run-header .run-header .kept .1 .1 .1 .1 .1 .1 .1 .1 .0)
 
 pub run-spec : {M : Type 1} → statement M

@@ -45,7 +45,7 @@ same-length-8 c =
 
 returns : tie.Need-returns
 returns c =
-    called-7 _ _ _ _ _ _ _ (sym (c .before .lent-fits .ensures) ∙ not-true _ (c .if1 .taken))
+    called-7 _ _ _ _ _ _ _ _ (sym (c .before .lent-fits .ensures) ∙ not-true _ (c .if1 .taken))
 
 -- The ways back, written by ways.py: TO-from-FROM leads from the place FROM of the code to the place TO before it.
 module _ (c : tie.After-check-64-arg8) where
@@ -187,7 +187,7 @@ returns-2 : tie.Need-returns-2
 returns-2 c =
     let after-lent-fits = lent-fits-from-return-2 c in
     let else1 = else1-from-return-2 c in
-    called-done _ _ _ _ _ _ _ (sym (after-lent-fits .lent-fits .ensures) ∙ not-false _ (else1 .if1 .left)) _ (check-64-from-return-2 c .check-64 .ensures)
+    called-done _ _ _ _ _ _ _ _ (sym (after-lent-fits .lent-fits .ensures) ∙ not-false _ (else1 .if1 .left)) _ (check-64-from-return-2 c .check-64 .ensures)
 
 check-4096-short-requires : tie.Need-check-4096-short-requires
 check-4096-short-requires c κs =
@@ -231,7 +231,7 @@ returns-3 : tie.Need-returns-3
 returns-3 c =
     let after-lent-fits = lent-fits-from-return-3 c in
     let else1 = else1-from-return-3 c in
-    called-done _ _ _ _ _ _ _ (sym (after-lent-fits .lent-fits .ensures) ∙ not-false _ (else1 .if1 .left)) _ (check-4096-short-from-return-3 c .check-4096-short .ensures)
+    called-done _ _ _ _ _ _ _ _ (sym (after-lent-fits .lent-fits .ensures) ∙ not-false _ (else1 .if1 .left)) _ (check-4096-short-from-return-3 c .check-4096-short .ensures)
 
 check-4096-long-requires : tie.Need-check-4096-long-requires
 check-4096-long-requires c κs =
@@ -275,7 +275,7 @@ returns-4 : tie.Need-returns-4
 returns-4 c =
     let after-lent-fits = lent-fits-from-return-4 c in
     let else1 = else1-from-return-4 c in
-    called-done _ _ _ _ _ _ _ (sym (after-lent-fits .lent-fits .ensures) ∙ not-false _ (else1 .if1 .left)) _ (check-4096-long-from-return-4 c .check-4096-long .ensures)
+    called-done _ _ _ _ _ _ _ _ (sym (after-lent-fits .lent-fits .ensures) ∙ not-false _ (else1 .if1 .left)) _ (check-4096-long-from-return-4 c .check-4096-long .ensures)
 
 check-65536-requires : tie.Need-check-65536-requires
 check-65536-requires c κs =
@@ -319,7 +319,7 @@ returns-5 : tie.Need-returns-5
 returns-5 c =
     let after-lent-fits = lent-fits-from-return-5 c in
     let else1 = else1-from-return-5 c in
-    called-done _ _ _ _ _ _ _ (sym (after-lent-fits .lent-fits .ensures) ∙ not-false _ (else1 .if1 .left)) _ (check-65536-from-return-5 c .check-65536 .ensures)
+    called-done _ _ _ _ _ _ _ _ (sym (after-lent-fits .lent-fits .ensures) ∙ not-false _ (else1 .if1 .left)) _ (check-65536-from-return-5 c .check-65536 .ensures)
 
 pub call-spec : {M : Type 1} → statement M
 call-spec = tie.close (tie.spec lent-fits-requires same-length same-length-2 same-length-3 same-length-4 same-length-5 same-length-6 same-length-7 same-length-8 returns check-64-requires same-length-9 same-length-10 same-length-11 same-length-12 same-length-13 same-length-14 same-length-15 same-length-16 returns-2 check-4096-short-requires same-length-17 same-length-18 same-length-19 same-length-20 same-length-21 same-length-22 same-length-23 same-length-24 returns-3 check-4096-long-requires same-length-25 same-length-26 same-length-27 same-length-28 same-length-29 same-length-30 same-length-31 same-length-32 returns-4 check-65536-requires same-length-33 same-length-34 same-length-35 same-length-36 same-length-37 same-length-38 same-length-39 same-length-40 returns-5)
