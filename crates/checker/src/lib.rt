@@ -1,4 +1,6 @@
 // The face of the library: the calls open to others. Each tests for itself all that it needs, and none has a `requires`.
+use commands::Form;
+use commands::Mode;
 use operate::Operation;
 use session::Checked;
 use single::Evaluated;
@@ -6,6 +8,7 @@ use single::call::Single;
 use single::least::AtLeast;
 use table::NodeNo;
 ghost use mathlib.Core.Path.{_≡_};
+ghost use Rattle.commands.specs.Commands.{inRecords, inText};
 ghost use Rattle.session.specs.Checked.{outcomeOf};
 ghost use Rattle.single.specs.Single.{evaluation, madeOf, operation, countedOf, atLeastCall};
 ghost use Rattle.table.specs.Columns.{columnsMade};
@@ -165,8 +168,47 @@ pub fn at_least(
     single::least::at_least(vars, lows, highs, heads, links, count, set, k)
 }
 
-// The whole check of a formula and a proof. What it says and leaves is the definition's, and number 0 means that no assignment
-// satisfies the formula's bytes.
+// The whole check of a formula and a proof that is read as the mode says. What it says and leaves is the definition's, and number 0 means
+// that no assignment satisfies the formula's bytes.
+pub fn check_in<'a>(
+    vars: &mut [u8],
+    lows: &mut [u16],
+    highs: &mut [u16],
+    heads: &mut [u16],
+    links: &mut [u16],
+    count: usize,
+    members: &mut [u16],
+    struck: &mut [u8],
+    scratch: &mut [u16],
+    mode: Mode,
+    formula: &'a [u8],
+    proof: &'a [u8],
+) -> Checked
+    ensures { λ r. ⌜ (
+        let lent = columnsMade (now (vars .entry)) (now (lows .entry)) (now (highs .entry)) (now (heads .entry)) (now (links .entry)) in
+        let left = columnsMade (now (vars .exit)) (now (lows .exit)) (now (highs .exit)) (now (heads .exit)) (now (links .exit)) in
+        outcomeOf left (now (members .exit)) (now (struck .exit)) (now (scratch .exit)) r
+        ≡ check mode lent count (now (members .entry)) (now (struck .entry)) (now (scratch .entry))
+        (now (formula .entry)) (now (proof .entry))) ⌝ }
+    ensures { λ r. ⌜ (r .number ≡ 0 → Unsatisfiable (now (formula .entry))) ⌝ }
+{
+    session::call::call(
+        vars,
+        lows,
+        highs,
+        heads,
+        links,
+        count,
+        members,
+        scratch,
+        struck,
+        mode,
+        formula,
+        proof,
+    )
+}
+
+// The same of a proof in records.
 pub fn check<'a>(
     vars: &mut [u8],
     lows: &mut [u16],
@@ -184,11 +226,14 @@ pub fn check<'a>(
         let lent = columnsMade (now (vars .entry)) (now (lows .entry)) (now (highs .entry)) (now (heads .entry)) (now (links .entry)) in
         let left = columnsMade (now (vars .exit)) (now (lows .exit)) (now (highs .exit)) (now (heads .exit)) (now (links .exit)) in
         outcomeOf left (now (members .exit)) (now (struck .exit)) (now (scratch .exit)) r
-        ≡ check lent count (now (members .entry)) (now (struck .entry)) (now (scratch .entry))
+        ≡ check inRecords lent count (now (members .entry)) (now (struck .entry)) (now (scratch .entry))
         (now (formula .entry)) (now (proof .entry))) ⌝ }
     ensures { λ r. ⌜ (r .number ≡ 0 → Unsatisfiable (now (formula .entry))) ⌝ }
 {
-    session::call::call(
+    let mode = Mode {
+        form: Form::Records,
+    };
+    check_in(
         vars,
         lows,
         highs,
@@ -196,8 +241,50 @@ pub fn check<'a>(
         links,
         count,
         members,
-        scratch,
         struck,
+        scratch,
+        mode,
+        formula,
+        proof,
+    )
+}
+
+// The same of a DRAT text. (02, 4/14)
+pub fn check_text<'a>(
+    vars: &mut [u8],
+    lows: &mut [u16],
+    highs: &mut [u16],
+    heads: &mut [u16],
+    links: &mut [u16],
+    count: usize,
+    members: &mut [u16],
+    struck: &mut [u8],
+    scratch: &mut [u16],
+    formula: &'a [u8],
+    proof: &'a [u8],
+) -> Checked
+    ensures { λ r. ⌜ (
+        let lent = columnsMade (now (vars .entry)) (now (lows .entry)) (now (highs .entry)) (now (heads .entry)) (now (links .entry)) in
+        let left = columnsMade (now (vars .exit)) (now (lows .exit)) (now (highs .exit)) (now (heads .exit)) (now (links .exit)) in
+        outcomeOf left (now (members .exit)) (now (struck .exit)) (now (scratch .exit)) r
+        ≡ check inText lent count (now (members .entry)) (now (struck .entry)) (now (scratch .entry))
+        (now (formula .entry)) (now (proof .entry))) ⌝ }
+    ensures { λ r. ⌜ (r .number ≡ 0 → Unsatisfiable (now (formula .entry))) ⌝ }
+{
+    let mode = Mode {
+        form: Form::Text,
+    };
+    check_in(
+        vars,
+        lows,
+        highs,
+        heads,
+        links,
+        count,
+        members,
+        struck,
+        scratch,
+        mode,
         formula,
         proof,
     )

@@ -1,4 +1,6 @@
 // The calls of the face for Rust and C to link: each has the face's contract and nothing of its own.
+use commands::Form;
+use commands::Mode;
 use operate::Operation;
 use report::Told;
 use session::Checked;
@@ -8,6 +10,7 @@ use single::least::AtLeast;
 use table::NodeNo;
 ghost use mathlib.Core.Path.{_≡_};
 ghost use lib.ListN.{take, drop};
+ghost use Rattle.commands.specs.Commands.{inRecords, inText};
 ghost use Rattle.io.specs.Counts.{Counts};
 ghost use Rattle.report.specs.Files.{said, statusOf};
 ghost use Rattle.report.specs.Line.{lineBytes};
@@ -146,7 +149,7 @@ pub extern "C" fn cablesalak_at_least(
     checker::at_least(vars, lows, highs, heads, links, count, set, k)
 }
 
-// The check of a formula and a proof. Number 0: no assignment satisfies the formula.
+// The check of a formula and a proof in records. Number 0: no assignment satisfies the formula.
 #[no_mangle]
 pub extern "C" fn cablesalak_check<'a>(
     vars: &mut [u8],
@@ -165,7 +168,7 @@ pub extern "C" fn cablesalak_check<'a>(
         let lent = columnsMade (now (vars .entry)) (now (lows .entry)) (now (highs .entry)) (now (heads .entry)) (now (links .entry)) in
         let left = columnsMade (now (vars .exit)) (now (lows .exit)) (now (highs .exit)) (now (heads .exit)) (now (links .exit)) in
         outcomeOf left (now (members .exit)) (now (struck .exit)) (now (scratch .exit)) r
-        ≡ check lent count (now (members .entry)) (now (struck .entry)) (now (scratch .entry))
+        ≡ check inRecords lent count (now (members .entry)) (now (struck .entry)) (now (scratch .entry))
         (now (formula .entry)) (now (proof .entry))) ⌝ }
     ensures { λ r. ⌜ (r .number ≡ 0 → Unsatisfiable (now (formula .entry))) ⌝ }
 {
@@ -184,7 +187,45 @@ pub extern "C" fn cablesalak_check<'a>(
     )
 }
 
-// The program's line on two files, put at the start of `line`, and the status to end with: 0 for refuted alone, 2 where a file was not
+// The check of a formula and a DRAT text. (02, 4/14) Number 0: no assignment satisfies the formula.
+#[no_mangle]
+pub extern "C" fn cablesalak_check_text<'a>(
+    vars: &mut [u8],
+    lows: &mut [u16],
+    highs: &mut [u16],
+    heads: &mut [u16],
+    links: &mut [u16],
+    count: usize,
+    members: &mut [u16],
+    struck: &mut [u8],
+    scratch: &mut [u16],
+    formula: &'a [u8],
+    proof: &'a [u8],
+) -> Checked
+    ensures { λ r. ⌜ (
+        let lent = columnsMade (now (vars .entry)) (now (lows .entry)) (now (highs .entry)) (now (heads .entry)) (now (links .entry)) in
+        let left = columnsMade (now (vars .exit)) (now (lows .exit)) (now (highs .exit)) (now (heads .exit)) (now (links .exit)) in
+        outcomeOf left (now (members .exit)) (now (struck .exit)) (now (scratch .exit)) r
+        ≡ check inText lent count (now (members .entry)) (now (struck .entry)) (now (scratch .entry))
+        (now (formula .entry)) (now (proof .entry))) ⌝ }
+    ensures { λ r. ⌜ (r .number ≡ 0 → Unsatisfiable (now (formula .entry))) ⌝ }
+{
+    checker::check_text(
+        vars,
+        lows,
+        highs,
+        heads,
+        links,
+        count,
+        members,
+        struck,
+        scratch,
+        formula,
+        proof,
+    )
+}
+
+// The program's line on two files, the proof in records, put at the start of `line`, and the status to end with: 0 for refuted alone, 2 where a file was not
 // taken, 1 for every other refusal. `first` and `second` tell whether formula and proof could be read.
 #[no_mangle]
 pub extern "C" fn cablesalak_report<'a>(
@@ -194,10 +235,13 @@ pub extern "C" fn cablesalak_report<'a>(
     proof: &'a [u8],
     line: &mut [u8; 105],
 ) -> Told
-    ensures { λ r. ⌜ take (r .length) (now (line .exit)) ≡ lineBytes (said first (now (formula .entry)) second (now (proof .entry))) ⌝ }
+    ensures { λ r. ⌜ take (r .length) (now (line .exit)) ≡ lineBytes (said inRecords first (now (formula .entry)) second (now (proof .entry))) ⌝ }
     ensures { λ r. ⌜ drop (r .length) (now (line .exit)) ≡ drop (r .length) (now (line .entry)) ⌝ }
-    ensures { λ r. ⌜ r .status ≡ statusOf (said first (now (formula .entry)) second (now (proof .entry)) .number) ⌝ }
+    ensures { λ r. ⌜ r .status ≡ statusOf (said inRecords first (now (formula .entry)) second (now (proof .entry)) .number) ⌝ }
     ensures { λ r. ⌜ Counts (r .length) (now (line .exit)) ⌝ }
 {
-    report::report(first, formula, second, proof, line)
+    let mode = Mode {
+        form: Form::Records,
+    };
+    report::report(mode, first, formula, second, proof, line)
 }

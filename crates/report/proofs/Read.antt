@@ -16,6 +16,8 @@ use Rattle.table.specs.Nodes.{place, above, diagramAt}
 use Rattle.dimacs.specs.Clauses as dimacs
 use Rattle.dimacs.specs.Clauses.{clausesFrom}
 use Rattle.records.specs.Records.{recordAt}
+use Rattle.commands.specs.declared.Mode.{Mode}
+use Rattle.commands.specs.Commands.{inRecords}
 use Rattle.verdict.specs.Check.{verdict}
 use Rattle.verdict.specs.Cases.{bytes, unitsTo, A-formula, A-proof}
 use Rattle.verdict.specs.Satisfies.{clausesOf, readToEnd, satisfies}
@@ -74,12 +76,12 @@ line-read l =
     (field-read (l .rounds) 32 _ (omega arith) ∙ ap {B = List ℕ} (λ ns. l .rounds ∷ ns) (last-read (l .peak) 10 (omega arith)))))
 
 -- Whoever reads the number 0 from the line knows that nothing satisfies the formula that was read.
-pub line-refuted : (f p : Bool) (formula proof rest : List ℕ) → numbersOf (lineBytes (said f formula p proof)) ≡ 0 ∷ rest
+pub line-refuted : (mode : Mode) (f p : Bool) (formula proof rest : List ℕ) → numbersOf (lineBytes (said mode f formula p proof)) ≡ 0 ∷ rest
     → (readToEnd (dimacs.formula formula) ≡ true) × ((a : Assignment) → satisfies a (clausesOf (dimacs.formula formula)) ≡ false)
-line-refuted f p formula proof rest e =
-    said-refuted f p formula proof (ap (λ (ns : List ℕ). getD ns 0 0) (sym (line-read (said f formula p proof)) ∙ e))
+line-refuted mode f p formula proof rest e =
+    said-refuted mode f p formula proof (ap (λ (ns : List ℕ). getD ns 0 0) (sym (line-read (said mode f formula p proof)) ∙ e))
 
 -- "case A now prints `0 12 2 1 10`" (02, 2/14)
-pub case-A : lineBytes (said true (bytes A-formula) true A-proof) ≡ bytes "0 12 2 1 10\n"
+pub case-A : lineBytes (said inRecords true (bytes A-formula) true A-proof) ≡ bytes "0 12 2 1 10\n"
 unfolding lineBytes decimalBy said verdict clausesFrom place clause diagramFrom same? recordAt above rup valueFrom diagramAt ℕ-discrete conjunction cofactor unitsTo
 case-A = refl

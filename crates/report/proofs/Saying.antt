@@ -10,6 +10,7 @@ use borrow.Author.Tests.{lt-ltb, le-ltb, eq-eqb, ne-eqb, eqb-true}
 use Rattle.meaning.specs.Diagram.{Assignment}
 use Rattle.table.specs.Columns.{sizeFits, Columns, columnsMade}
 use Rattle.dimacs.specs.Clauses as dimacs
+use Rattle.commands.specs.declared.Mode.{Mode}
 use Rattle.verdict.specs.Check.{verdict, Outcome, lentFits, outcome, check, zeros}
 use Rattle.verdict.specs.Satisfies.{clausesOf, readToEnd, satisfies}
 use Rattle.verdict.proofs.Refuted.{refuted}
@@ -29,31 +30,31 @@ fits : lentFits lists (zeros 2048) (zeros 2048) (zeros 4096) ≡ true
 unfolding lentFits sizeFits
 fits = refl
 
-pub checked : (formula proof : List ℕ)
-    → lineOf (check lists 2 (zeros 2048) (zeros 2048) (zeros 4096) formula proof) ≡ ofVerdict (verdict 4096 formula proof)
+pub checked : (mode : Mode) (formula proof : List ℕ)
+    → lineOf (check mode lists 2 (zeros 2048) (zeros 2048) (zeros 4096) formula proof) ≡ ofVerdict (verdict mode 4096 formula proof)
 unfolding check outcome
-checked formula proof = rw fits
+checked mode formula proof = rw fits
 
 -- ---- the cases
 
-module _ (f p : Bool) (formula proof : List ℕ) where
-  pub no-formula : f ≡ false → said f formula p proof ≡ fileRefused 25 0
+module _ (mode : Mode) (f p : Bool) (formula proof : List ℕ) where
+  pub no-formula : f ≡ false → said mode f formula p proof ≡ fileRefused 25 0
   unfolding said
   no-formula e = rw e
 
-  pub long-formula : f ≡ true → 65536 < length formula → said f formula p proof ≡ fileRefused 24 65536
+  pub long-formula : f ≡ true → 65536 < length formula → said mode f formula p proof ≡ fileRefused 24 65536
   unfolding said
   long-formula e h = rw (e, lt-ltb 65536 (length formula) h)
 
-  pub no-proof : f ≡ true → length formula ≤ 65536 → p ≡ false → said f formula p proof ≡ fileRefused 25 0
+  pub no-proof : f ≡ true → length formula ≤ 65536 → p ≡ false → said mode f formula p proof ≡ fileRefused 25 0
   unfolding said
   no-proof e h e′ = rw (e, le-ltb 65536 (length formula) h, e′)
 
-  pub long-proof : f ≡ true → length formula ≤ 65536 → p ≡ true → 65536 < length proof → said f formula p proof ≡ fileRefused 24 65536
+  pub long-proof : f ≡ true → length formula ≤ 65536 → p ≡ true → 65536 < length proof → said mode f formula p proof ≡ fileRefused 24 65536
   unfolding said
   long-proof e h e′ h′ = rw (e, le-ltb 65536 (length formula) h, e′, lt-ltb 65536 (length proof) h′)
 
-  pub both : f ≡ true → length formula ≤ 65536 → p ≡ true → length proof ≤ 65536 → said f formula p proof ≡ ofVerdict (verdict 4096 formula proof)
+  pub both : f ≡ true → length formula ≤ 65536 → p ≡ true → length proof ≤ 65536 → said mode f formula p proof ≡ ofVerdict (verdict mode 4096 formula proof)
   unfolding said
   both e h e′ h′ = rw (e, le-ltb 65536 (length formula) h, e′, le-ltb 65536 (length proof) h′)
 
@@ -64,11 +65,11 @@ file-zero false text rest e = absurd (omega arith)
 file-zero true text rest e = by (ltb 65536 (length text)) (λ t. absurd (let z : _≡_ {A = ℕ} 24 0 = sym (rw t) ∙ e in omega arith)) (λ u. sym (rw u) ∙ e)
 
 -- 0 is said only where no assignment satisfies the formula that was read.
-pub said-refuted : (f p : Bool) (formula proof : List ℕ) → said f formula p proof .number ≡ 0
+pub said-refuted : (mode : Mode) (f p : Bool) (formula proof : List ℕ) → said mode f formula p proof .number ≡ 0
     → (readToEnd (dimacs.formula formula) ≡ true) × ((a : Assignment) → satisfies a (clausesOf (dimacs.formula formula)) ≡ false)
 unfolding said
-said-refuted f p formula proof e =
-    refuted 4096 formula proof (file-zero p proof (ofVerdict (verdict 4096 formula proof)) (file-zero f formula (ofFile p proof (ofVerdict (verdict 4096 formula proof))) e))
+said-refuted mode f p formula proof e =
+    refuted mode 4096 formula proof (file-zero p proof (ofVerdict (verdict mode 4096 formula proof)) (file-zero f formula (ofFile p proof (ofVerdict (verdict mode 4096 formula proof))) e))
 
 pub status-0 : (n : ℕ) → n ≡ 0 → 0 ≡ statusOf n
 status-0 n e = rw (eq-eqb n 0 e)
@@ -92,6 +93,6 @@ status-zero n e =
     (λ w. let z : _≡_ {A = ℕ} 1 0 = sym (rw (u, v, w)) ∙ e in omega arith))))
 
 -- So is the status 0.
-pub status-refuted : (f p : Bool) (formula proof : List ℕ) → statusOf (said f formula p proof .number) ≡ 0
+pub status-refuted : (mode : Mode) (f p : Bool) (formula proof : List ℕ) → statusOf (said mode f formula p proof .number) ≡ 0
     → (readToEnd (dimacs.formula formula) ≡ true) × ((a : Assignment) → satisfies a (clausesOf (dimacs.formula formula)) ≡ false)
-status-refuted f p formula proof e = said-refuted f p formula proof (status-zero _ e)
+status-refuted mode f p formula proof e = said-refuted mode f p formula proof (status-zero _ e)

@@ -4,6 +4,7 @@ use mathlib.Core.List.{List}
 use Prim.Native.Nat.{ℕ}
 use lib.ListN.{length}
 use lib.Dec.{eqb, ltb}
+use Rattle.commands.specs.declared.Mode.{Mode}
 use Rattle.verdict.specs.Check.{Verdict, verdict}
 use Rattle.report.specs.declared.Line.{Line}
 
@@ -19,10 +20,10 @@ abbrev pub ofFile : Bool → List ℕ → Line → Line
 ofFile isRead text rest = cond (not isRead) (fileRefused 25 0) (cond (ltb 65536 (length text)) (fileRefused 24 65536) rest)
 
 -- "Both files are read before the check, the formula first"; the check has "a table of 4,096 places".
-unfoldable pub said : Bool → List ℕ → Bool → List ℕ → Line
+unfoldable pub said : Mode → Bool → List ℕ → Bool → List ℕ → Line
 unfolding verdict
-said isFormula formula isProof proof =
-    let checked = ofVerdict (verdict 4096 formula proof) in
+said mode isFormula formula isProof proof =
+    let checked = ofVerdict (verdict mode 4096 formula proof) in
     let second = ofFile isProof proof checked in
     ofFile isFormula formula second
 

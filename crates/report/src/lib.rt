@@ -1,8 +1,9 @@
-// What the program says: the verdict on two files, its line of bytes and the status to end with. The program (`refute`), the exported call
-// and the hosts over it share this, so that the line and the status are proved once and nobody formats or maps them again.
+// What the program says: the verdict on two files, its line of bytes and the status to end with. The programs (`refute`, `refute_drat`), the exported
+// call and the hosts over it share this, so that the line and the status are proved once and nobody formats or maps them again.
 mod put;
 
 pub use put::put_line;
+use commands::Mode;
 ghost use mathlib.Core.Path.{_≡_};
 ghost use lib.ListN.{take, drop};
 ghost use Rattle.io.specs.Counts.{Counts};
@@ -27,8 +28,8 @@ pub struct Told {
 }
 
 // The check with a table of 4,096 places.
-pub fn check<'a>(formula: &'a [u8], proof: &'a [u8]) -> Line
-    ensures { λ r. ⌜ r ≡ ofVerdict (verdict 4096 (now (formula .entry)) (now (proof .entry))) ⌝ }
+pub fn check<'a>(mode: Mode, formula: &'a [u8], proof: &'a [u8]) -> Line
+    ensures { λ r. ⌜ r ≡ ofVerdict (verdict mode 4096 (now (formula .entry)) (now (proof .entry))) ⌝ }
 {
     let mut vars = [0u8; 4096];
     let mut lows = [0u16; 4096];
@@ -38,7 +39,7 @@ pub fn check<'a>(formula: &'a [u8], proof: &'a [u8]) -> Line
     let mut members = [0u16; 2048];
     let mut struck = [0u8; 2048];
     let mut scratch = [0u16; 4096];
-    let r = checker::check(
+    let r = checker::check_in(
         &mut vars,
         &mut lows,
         &mut highs,
@@ -48,6 +49,7 @@ pub fn check<'a>(formula: &'a [u8], proof: &'a [u8]) -> Line
         &mut members,
         &mut struck,
         &mut scratch,
+        mode,
         formula,
         proof,
     );
@@ -75,8 +77,14 @@ fn refused(number: u8, place: usize) -> Line
 
 // The line on two files: 25 and 24 of the formula, then of the proof, then the check's. `first` and `second` tell whether the
 // formula and the proof could be read.
-pub fn line_on<'a>(first: bool, formula: &'a [u8], second: bool, proof: &'a [u8]) -> Line
-    ensures { λ r. ⌜ r ≡ said first (now (formula .entry)) second (now (proof .entry)) ⌝ }
+pub fn line_on<'a>(
+    mode: Mode,
+    first: bool,
+    formula: &'a [u8],
+    second: bool,
+    proof: &'a [u8],
+) -> Line
+    ensures { λ r. ⌜ r ≡ said mode first (now (formula .entry)) second (now (proof .entry)) ⌝ }
 {
     if !first {
         return refused(25, 0);
@@ -90,7 +98,7 @@ pub fn line_on<'a>(first: bool, formula: &'a [u8], second: bool, proof: &'a [u8]
     if proof.len() > 65536 {
         return refused(24, 65536);
     }
-    check(formula, proof)
+    check(mode, formula, proof)
 }
 
 // 0 for refuted alone, 2 where a file was not taken, 1 for every other refusal.
@@ -111,18 +119,19 @@ pub fn status_of(number: u8) -> u8
 
 // The line on two files, put at the start of `line`, and the status.
 pub fn report<'a>(
+    mode: Mode,
     first: bool,
     formula: &'a [u8],
     second: bool,
     proof: &'a [u8],
     line: &mut [u8; 105],
 ) -> Told
-    ensures { λ r. ⌜ take (r .length) (now (line .exit)) ≡ lineBytes (said first (now (formula .entry)) second (now (proof .entry))) ⌝ }
+    ensures { λ r. ⌜ take (r .length) (now (line .exit)) ≡ lineBytes (said mode first (now (formula .entry)) second (now (proof .entry))) ⌝ }
     ensures { λ r. ⌜ drop (r .length) (now (line .exit)) ≡ drop (r .length) (now (line .entry)) ⌝ }
-    ensures { λ r. ⌜ r .status ≡ statusOf (said first (now (formula .entry)) second (now (proof .entry)) .number) ⌝ }
+    ensures { λ r. ⌜ r .status ≡ statusOf (said mode first (now (formula .entry)) second (now (proof .entry)) .number) ⌝ }
     ensures { λ r. ⌜ Counts (r .length) (now (line .exit)) ⌝ }
 {
-    let told = line_on(first, formula, second, proof);
+    let told = line_on(mode, first, formula, second, proof);
     let status = status_of(told.number);
     let length = put_line(told, line);
     Told { length, status }

@@ -5,47 +5,47 @@ use Rattle.report.proofs.Saying.{lineOf, checked}
 use Rattle.report.proofs.check.Statement.{statement}
 use Rattle.report.proofs.check.Tie as tie
 
-slice-aggregate-check : tie.Need-slice-aggregate-check
-slice-aggregate-check c = search needs
+slice-aggregate-check-in : tie.Need-slice-aggregate-check-in
+slice-aggregate-check-in c = search needs
 
-slice-aggregate-check-2 : tie.Need-slice-aggregate-check-2
-slice-aggregate-check-2 c = search needs
+slice-aggregate-check-in-2 : tie.Need-slice-aggregate-check-in-2
+slice-aggregate-check-in-2 c = search needs
 
-slice-aggregate-check-3 : tie.Need-slice-aggregate-check-3
-slice-aggregate-check-3 c = search needs
+slice-aggregate-check-in-3 : tie.Need-slice-aggregate-check-in-3
+slice-aggregate-check-in-3 c = search needs
 
-slice-aggregate-check-4 : tie.Need-slice-aggregate-check-4
-slice-aggregate-check-4 c = search needs
+slice-aggregate-check-in-4 : tie.Need-slice-aggregate-check-in-4
+slice-aggregate-check-in-4 c = search needs
 
-slice-aggregate-check-5 : tie.Need-slice-aggregate-check-5
-slice-aggregate-check-5 c = search needs
+slice-aggregate-check-in-5 : tie.Need-slice-aggregate-check-in-5
+slice-aggregate-check-in-5 c = search needs
 
-slice-aggregate-check-6 : tie.Need-slice-aggregate-check-6
-slice-aggregate-check-6 c = search needs
+slice-aggregate-check-in-6 : tie.Need-slice-aggregate-check-in-6
+slice-aggregate-check-in-6 c = search needs
 
-slice-aggregate-check-7 : tie.Need-slice-aggregate-check-7
-slice-aggregate-check-7 c = search needs
+slice-aggregate-check-in-7 : tie.Need-slice-aggregate-check-in-7
+slice-aggregate-check-in-7 c = search needs
 
-slice-aggregate-check-8 : tie.Need-slice-aggregate-check-8
-slice-aggregate-check-8 c = search needs
+slice-aggregate-check-in-8 : tie.Need-slice-aggregate-check-in-8
+slice-aggregate-check-in-8 c = search needs
 
-check-requires : tie.Need-check-requires
-check-requires c κs = search needs
+check-in-requires : tie.Need-check-in-requires
+check-in-requires c κs = search needs
 
 returns : tie.Need-returns
-returns c = ap lineOf (c .before .before .before .before .before .before .before .before .check .ensures .0) ∙ checked _ _
+returns c = ap lineOf (c .before .before .before .before .before .before .before .before .check-in .ensures .0) ∙ checked _ _ _
 
 pub check-spec : {M : Type 1} → statement M
 check-spec =
     tie.close
     (tie.spec
-    slice-aggregate-check
-    slice-aggregate-check-2
-    slice-aggregate-check-3
-    slice-aggregate-check-4
-    slice-aggregate-check-5
-    slice-aggregate-check-6
-    slice-aggregate-check-7
-    slice-aggregate-check-8
-    check-requires
+    slice-aggregate-check-in
+    slice-aggregate-check-in-2
+    slice-aggregate-check-in-3
+    slice-aggregate-check-in-4
+    slice-aggregate-check-in-5
+    slice-aggregate-check-in-6
+    slice-aggregate-check-in-7
+    slice-aggregate-check-in-8
+    check-in-requires
     returns)

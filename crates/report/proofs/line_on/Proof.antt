@@ -11,13 +11,13 @@ refused-requires : tie.Need-refused-requires
 refused-requires c κs = search needs
 
 returns : tie.Need-returns
-returns c = c .refused .ensures ∙ sym (no-formula _ _ _ _ (not-true _ (c .before .if1 .taken)))
+returns c = c .refused .ensures ∙ sym (no-formula _ _ _ _ _ (not-true _ (c .before .if1 .taken)))
 
 refused-requires-2 : tie.Need-refused-requires-2
 refused-requires-2 c κs = search needs
 
 returns-2 : tie.Need-returns-2
-returns-2 c = c .refused2 .ensures ∙ sym (long-formula _ _ _ _ (not-false _ (c .before .before .if1 .left)) (c .before .if2 .taken))
+returns-2 c = c .refused2 .ensures ∙ sym (long-formula _ _ _ _ _ (not-false _ (c .before .before .if1 .left)) (c .before .if2 .taken))
 
 refused-requires-3 : tie.Need-refused-requires-3
 refused-requires-3 c κs = search needs
@@ -25,7 +25,7 @@ refused-requires-3 c κs = search needs
 returns-3 : tie.Need-returns-3
 returns-3 c =
     c .refused3 .ensures
-    ∙ sym (no-proof _ _ _ _ (not-false _ (c .before .before .before .if1 .left)) (c .before .before .if2 .left) (not-true _ (c .before .if3 .taken)))
+    ∙ sym (no-proof _ _ _ _ _ (not-false _ (c .before .before .before .if1 .left)) (c .before .before .if2 .left) (not-true _ (c .before .if3 .taken)))
 
 refused-requires-4 : tie.Need-refused-requires-4
 refused-requires-4 c κs = search needs
@@ -33,7 +33,7 @@ refused-requires-4 c κs = search needs
 returns-4 : tie.Need-returns-4
 returns-4 c =
     c .refused4 .ensures
-    ∙ sym (long-proof _ _ _ _ (not-false _ (c .before .before .before .before .if1 .left)) (c .before .before .before .if2 .left)
+    ∙ sym (long-proof _ _ _ _ _ (not-false _ (c .before .before .before .before .if1 .left)) (c .before .before .before .if2 .left)
     (not-false _ (c .before .before .if3 .left)) (c .before .if4 .taken))
 
 check-requires : tie.Need-check-requires
@@ -42,7 +42,7 @@ check-requires c κs = search needs
 returns-5 : tie.Need-returns-5
 returns-5 c =
     c .check .ensures
-    ∙ sym (both _ _ _ _ (not-false _ (c .before .before .before .before .if1 .left)) (c .before .before .before .if2 .left)
+    ∙ sym (both _ _ _ _ _ (not-false _ (c .before .before .before .before .if1 .left)) (c .before .before .before .if2 .left)
     (not-false _ (c .before .before .if3 .left)) (c .before .if4 .left))
 
 pub line-on-spec : {M : Type 1} → statement M

@@ -1,7 +1,7 @@
 -- The line handed to the write is what the report put at the start of the array. Assumes nothing.
 use borrow.Author.Needs.{needs}
-use Rattle.refute.proofs.answer.Statement.{statement}
-use Rattle.refute.proofs.answer.Tie as tie
+use Rattle.program.proofs.answer.Statement.{statement}
+use Rattle.program.proofs.answer.Tie as tie
 
 report-requires : tie.Need-report-requires
 report-requires c κs = search needs

@@ -3,8 +3,8 @@ use mathlib.Core.Path.{_≡_}
 use Prim.Native.Nat.{_-_, _≤_}
 use borrow.Author.Needs.{needs}
 use lib.ListN.{length}
-use Rattle.refute.proofs.read_all.Statement.{statement}
-use Rattle.refute.proofs.read_all.Tie as tie
+use Rattle.program.proofs.read_all.Statement.{statement}
+use Rattle.program.proofs.read_all.Tie as tie
 
 abbrev Inv-loop : tie.InvT-loop
 Inv-loop fd buffer₀ at₀ buffer at = (at ≤ length buffer₀) × (length buffer ≡ length buffer₀)

@@ -3,8 +3,8 @@
 use mathlib.Core.Path.{sym}
 use borrow.Author.Needs.{needs}
 use lib.Seq.{length-take-le}
-use Rattle.refute.proofs.run.Statement.{statement}
-use Rattle.refute.proofs.run.Tie as tie
+use Rattle.program.proofs.run.Statement.{statement}
+use Rattle.program.proofs.run.Tie as tie
 
 read-argument-requires : tie.Need-read-argument-requires
 read-argument-requires c κs = search needs

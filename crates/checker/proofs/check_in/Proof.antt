@@ -1,9 +1,9 @@
--- `checker::check` meets its contract: the equation is the inner call's, and that 0 means unsatisfiable is the definition's. The idea:
+-- `checker::check_in` meets its contract: the equation is the inner call's, and that 0 means unsatisfiable is the definition's. The idea:
 -- `check-refuted`. Assumes nothing.
 use mathlib.Core.Path.{sym, ap, _∙_}
 use borrow.Author.Needs.{needs}
-use Rattle.checker.proofs.check.Statement.{statement}
-use Rattle.checker.proofs.check.Tie as tie
+use Rattle.checker.proofs.check_in.Statement.{statement}
+use Rattle.checker.proofs.check_in.Tie as tie
 use Rattle.verdict.specs.Check.{Outcome}
 use Rattle.verdict.proofs.Refuted.{check-refuted}
 
@@ -42,10 +42,10 @@ same-length-8 c = search needs
 returns : tie.Need-returns
 returns c =
     let said = call-from-return c .call .ensures in
-    (said, λ z. check-refuted _ _ _ _ _ _ _ (sym (ap (λ (o : Outcome). o .number) said) ∙ z))
+    (said, λ z. check-refuted _ _ _ _ _ _ _ _ (sym (ap (λ (o : Outcome). o .number) said) ∙ z))
 
-pub check-spec : {M : Type 1} → statement M
-check-spec =
+pub check-in-spec : {M : Type 1} → statement M
+check-in-spec =
     tie.close
     (tie.spec
     call-requires
