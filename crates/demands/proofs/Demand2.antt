@@ -47,11 +47,11 @@ use Rattle.demands.proofs.Rows.{nodeRecords, rupLines}
 
 -- 0 is given exactly where the sizes fit, the formula is read and its clauses made, each record in turn passes what 01 asks of its kind (a line: RUP or
 -- PR, within room and limits), an accepted line is 0, and the end record ends the proof with no witness left and no byte behind it.
-pub check-zero-exactly : (i : Lent) → (checked i .number ≡ 0) ↔ (Fits i × Refutation (places i) (i .text) (i .proof))
+pub check-zero-exactly : (i : Lent) → (checked i .number ≡ 0) ↔ (Fits i × Refutation (i .mode) (places i) (i .text) (i .proof))
 check-zero-exactly = Ending.check-zero-exactly
 
 -- "0: refuted; place of the end record"
-pub check-zero-place : (i : Lent) → Fits i → (F : Refutation (places i) (i .text) (i .proof)) → checked i .place ≡ F .place
+pub check-zero-place : (i : Lent) → Fits i → (F : Refutation (i .mode) (places i) (i .text) (i .proof)) → checked i .place ≡ F .place
 check-zero-place = Ending.check-zero-place
 
 -- "an accepted line is 0": what the refutation's `zero-line` says.
@@ -73,14 +73,14 @@ pub nineteen-only : (i : Lent) → checked i .number ≡ 19 → AtLine i (checke
 nineteen-only = NotShown.nineteen-only
 
 -- "It refuses with 28 a member that does not exist or is struck already, after 10 and then 16 for a waiting witness": at the record. (02, 3/14)
-pub twenty-eight-exactly : (i : Lent) → Fits i → (at : ℕ) → ((checked i .number ≡ 28) × (checked i .place ≡ at)) ↔ AtStriking (places i) (i .text) (i .proof) at
+pub twenty-eight-exactly : (i : Lent) → Fits i → (at : ℕ) → ((checked i .number ≡ 28) × (checked i .place ≡ at)) ↔ AtStriking (i .mode) (places i) (i .text) (i .proof) at
 twenty-eight-exactly = Strikings.twenty-eight-exactly
 
 -- "8 and 23 are given only where a node not in the table is to be placed and the count equals the size."
 pub eight-only : (i : Lent) → checked i .number ≡ 8 → AtClause (places i) (i .text) (checked i .place)
 eight-only = NoRoom.eight-only
 
-pub twenty-three-only : (i : Lent) → checked i .number ≡ 23 → AtRecord (places i) (i .text) (i .proof) (checked i .place)
+pub twenty-three-only : (i : Lent) → checked i .number ≡ 23 → AtRecord (i .mode) (places i) (i .text) (i .proof) (checked i .place)
 twenty-three-only = NoRoom.twenty-three-only
 
 pub operation-full : (op : Operation) (c : Columns) (count f g : ℕ) → operation op c count f g .number ≡ 23

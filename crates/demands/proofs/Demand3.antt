@@ -104,11 +104,11 @@ line-left i fits late = Lists.check-kept i fits late .lines
 pub left-in-order : (i : Lent) → Fits i → (checked i .number ≢ 0 → 9 ≤ checked i .number) → inGoodOrder (checked i .columns) (checked i .count) ≡ true
 left-in-order i fits late = Lists.check-kept i fits late .good
 
-module _ (i : Lent) {n : ℕ} {st : State} {at : ℕ} {m : Meant} (R : Reached (places i) (i .text) (i .proof) n st at m) where
+module _ (i : Lent) {n : ℕ} {st : State} {at : ℕ} {m : Meant} (R : Reached (i .mode) (places i) (i .text) (i .proof) n st at m) where
   -- "an entry's node [has its value] from its making until it is dropped, though the proof be refused later": in every state reached later,
   pub entry-kept : {st′ : State} {at′ : ℕ} → Later (places i) (i .proof) n st at st′ at′ → (e : ℕ) → isEntry st e ≡ true → (a : Assignment)
       → value (diagramAt (st′ .nodes) (entryNode st e)) a ≡ entryMeant m e a
-  entry-kept = Values.entry-kept (places i) (i .text) (i .proof) R
+  entry-kept = Values.entry-kept (i .mode) (places i) (i .text) (i .proof) R
 
   -- in the table as left, where it is not dropped,
   pub entry-left : Fits i → (e : ℕ) → isEntry st e ≡ true → entryNode st e < checked i .count

@@ -2,7 +2,10 @@ pub mod Lent
 pub mod Singles
 pub mod Leasts
 pub mod Words
+pub mod Modes
 pub mod Ending
+pub mod Offsets
+pub mod TextMembers
 pub mod Lists
 pub mod Full
 pub mod NoRoom

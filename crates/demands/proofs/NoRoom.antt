@@ -328,11 +328,11 @@ eight-only i z = go (checked i) (check-ends i) z
         let (least, most) : (19 ≤ number) × (number ≤ 23) = subst Numbered q (step-numbered n (places i) st (follows (i .proof) at) (recordAt (i .proof) at)) in absurd (omega arith)
 
 -- 23 of the check: the record at the place.
-pub twenty-three-only : (i : Lent) → checked i .number ≡ 23 → AtRecord (places i) (i .text) (i .proof) (checked i .place)
+pub twenty-three-only : (i : Lent) → checked i .number ≡ 23 → AtRecord (i .mode) (places i) (i .text) (i .proof) (checked i .place)
 unfolding outcome
 twenty-three-only i z = go (checked i) (check-ends i) z
   where
-    go : (o : Outcome) → Ends i o → o .number ≡ 23 → AtRecord (places i) (i .text) (i .proof) (o .place)
+    go : (o : Outcome) → Ends i o → o .number ≡ 23 → AtRecord (i .mode) (places i) (i .text) (i .proof) (o .place)
     go _ (wrong-size other) z = absurd (omega arith)
     go _ (at-place e (no-header {number} {place} h)) z =
         let early : (1 ≤ number) × (number ≤ 6) = subst NamedHeader h (header-named (i .text)) in absurd (omega arith)
@@ -343,7 +343,7 @@ twenty-three-only i z = go (checked i) (check-ends i) z
         let (most, other, _) : (number ≢ 28 → number ≢ 29 → number ≤ 22) × (number ≢ 0 → 9 ≤ number) × (number ≢ 19) = subst Numbered q (step-numbered n (places i) st (follows (i .proof) at) (recordAt (i .proof) at)) in
         absurd (omega (arith, most (λ y. omega arith) (λ y. omega arith)))
     go _ (at-place e (tried {n} {number} {peak} {at} {st} {m} R q)) z =
-        let (narrow, S) = reached-standing (places i) (i .text) (i .proof) R in
+        let (narrow, S) = reached-standing (i .mode) (places i) (i .text) (i .proof) R in
         record { n = n; state = st; meant = m; reached = R; wants = record-wants S narrow (at-least-two i e) (follows (i .proof) at) (recordAt (i .proof) at) (rw z at q) }
 
 -- 23 of a single call.

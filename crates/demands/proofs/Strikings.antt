@@ -83,7 +83,7 @@ module _ (s : ℕ) (text proof : List ℕ) {n : ℕ} {st : State} {at : ℕ} {m 
       go false = refl
 
 -- "It refuses with 28 a member that does not exist or is struck already, after 10 and then 16 for a waiting witness", at the record.
-pub twenty-eight-exactly : (i : Lent) → Fits i → (at : ℕ) → ((checked i .number ≡ 28) × (checked i .place ≡ at)) ↔ AtStriking (places i) (i .text) (i .proof) at
+pub twenty-eight-exactly : (i : Lent) → Fits i → (at : ℕ) → ((checked i .number ≡ 28) × (checked i .place ≡ at)) ↔ AtStriking (i .mode) (places i) (i .text) (i .proof) at
 unfolding outcome step strikeStep
 twenty-eight-exactly i fits at = (to, from)
   where

@@ -29,7 +29,7 @@ use Rattle.verdict.specs.Steps.{recordStep}
 use Rattle.verdict.specs.Clausal.{addStep, strikeClause}
 use Rattle.verdict.specs.Check.{finish, step, Verdict, left, refusedFormula}
 use Rattle.verdict.specs.Taken.{Function, Meant, lineOf, peakWith}
-use Rattle.verdict.specs.Run.{Making, commandIn, Reached, Ended, no-header, not-read, no-room, stopped, tried}
+use Rattle.verdict.specs.Run.{Making, commandIn, Reached, Ended, no-header, not-read, no-room, stopped, tried, ProofNumber}
 use Rattle.verdict.proofs.Formula.{Early, NamedHeader, header-named, Read, either}
 use Rattle.verdict.proofs.Clauses.{Underway, underway}
 use Rattle.verdict.proofs.Commands.{Fit}
@@ -205,11 +205,6 @@ step-numbered Text n s st (wrong number offset) fit =
 step-numbered Text n s st finished fit = finish-numbered (finish st) (finish-says st)
 
 -- ---- the end of a check, with the range of its number
-
--- The proof's numbers: 0, 9 to 23, 28 and 29 in records; 0, 3, 4, 6, 17, 19, 20, 22, 23 and 28 in a text.
-abbrev pub ProofNumber : Form → ℕ → Type 0
-ProofNumber Records number = (number ≢ 28 → number ≢ 29 → number ≤ 23) × (number ≢ 0 → 9 ≤ number)
-ProofNumber Text number = (number ≢ 28 → number ≤ 23) × (number ≢ 0 → 3 ≤ number) × (number ≢ 5) × (6 < number → 17 ≤ number) × (number ≢ 18) × (number ≢ 21)
 
 -- In each form none of them is 7 or 8.
 pub proof-number : (form : Form) (number : ℕ) → ProofNumber form number
