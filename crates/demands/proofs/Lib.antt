@@ -6,11 +6,14 @@ pub mod Modes
 pub mod Ending
 pub mod Offsets
 pub mod TextMembers
+pub mod TextRules
 pub mod Lists
 pub mod Full
+pub mod LineRoom
 pub mod NoRoom
 pub mod Rows
 pub mod Places
+pub mod InProof
 pub mod ZeroLines
 pub mod NotShown
 pub mod Strikings

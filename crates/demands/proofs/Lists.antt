@@ -20,7 +20,6 @@ use Rattle.table.proofs.Growth.{ordered-dropped}
 use Rattle.table.proofs.Sizes.{Sized, sized}
 use Rattle.table.proofs.Emptied.{stored-emptied}
 use Rattle.verdict.specs.Check as verdict
-use Rattle.commands.specs.declared.Form.{Form}
 use Rattle.commands.specs.declared.Form.the-variants.{Records, Text}
 use Rattle.commands.specs.declared.Mode.{Mode}
 use Rattle.commands.specs.Commands.{inRecords, inText}

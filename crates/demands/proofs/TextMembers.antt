@@ -10,7 +10,6 @@ use lib.Dec.{eqb, ltb}
 use borrow.Author.Tests.{lt-ltb, le-ltb}
 use Rattle.meaning.specs.Diagram.{Diagram, leaf, same}
 use Rattle.meaning.specs.Operations as meaning
-use Rattle.meaning.proofs.Booleans.{t≢f}
 use Rattle.meaning.proofs.Values.{reduced-to}
 use Rattle.meaning.proofs.Clauses.{Within}
 use Rattle.meaning.proofs.Pointwise.{clause-reduced}
@@ -18,18 +17,17 @@ use Rattle.table.specs.Nodes.{Node, diagramAt, placed, place}
 use Rattle.table.proofs.Order.{Ordered}
 use Rattle.table.proofs.Growth.{Extends, diagramAt-grown}
 use Rattle.table.proofs.Placing.{After, Made, place-after}
-use Rattle.dimacs.specs.Header.{header}
 use Rattle.dimacs.specs.Clauses.{Reading, complete, formula}
 use Rattle.clausal.specs.Drat.{Clause}
 use Rattle.clausal.proofs.Literals.{AllWithin}
 use Rattle.commands.specs.declared.Form.the-variants.{Text}
-use Rattle.commands.specs.Commands.{Command, recorded, added, struckOut, wrong, finished, inText, start, textRead}
+use Rattle.commands.specs.Commands.{Command, recorded, added, struckOut, wrong, finished, inText, start}
 use Rattle.commands.proofs.Onward.{CommandIn, text-in}
-use Rattle.verdict.specs.Steps.{State, withEntry, Step, stop, diagramIn, unstruck, liveMembers, isLive}
+use Rattle.verdict.specs.Steps.{State, withEntry, stop, diagramIn, unstruck, liveMembers, isLive}
 use Rattle.verdict.specs.Check.{step}
 use Rattle.verdict.specs.Taken.{Function, Meant, Valued}
-use Rattle.verdict.specs.ClauseTaken.{ClauseTaken, IsThere, ClauseStruck}
-use Rattle.verdict.specs.Run.{commandIn, nextIn, CommandTaken, variablesOf, Making, opened, made, Reached, begins, goes}
+use Rattle.verdict.specs.ClauseTaken.{ClauseTaken, ClauseStruck}
+use Rattle.verdict.specs.Run.{commandIn, nextIn, CommandTaken, Making, opened, made, Reached, begins, goes}
 use Rattle.verdict.specs.Satisfies.{clausesOf}
 use Rattle.verdict.proofs.Live.{unstruck-map}
 use Rattle.verdict.proofs.Standing.{Standing}
@@ -39,7 +37,7 @@ use Rattle.verdict.proofs.Commands.{Fit, start-within, command-goes}
 use Rattle.verdict.proofs.Ends.{reached-in, reached-fit, reached-standing}
 use Rattle.verdict.proofs.Members.{reached-variables}
 use Rattle.verdict.proofs.Refuted.{reached-within}
-use Rattle.demands.specs.Texts.{ClauseList, strikeLowest, afterClause, clausesFrom, formulaClauses, textBefore, liveClauses}
+use Rattle.demands.specs.Texts.{ClauseList, strikeLowest, afterClause, clausesFrom, formulaClauses, textBefore, liveClauses, Matches}
 use Rattle.demands.specs.Leaving.{OffsetOf}
 use Rattle.demands.proofs.Offsets.{command-offset}
 
@@ -98,7 +96,7 @@ kept-diagrams t t₁ O E b p (k ∷ ks) [] W = absurd W
 kept-diagrams t t₁ O E b p (k ∷ ks) (f ∷ fs) W =
     ap₂ _∷_ (diagramAt-grown t t₁ O E k (omega (arith, W .0))) (kept-diagrams t t₁ O E b p ks fs (W .2))
 
-clause-made : (s n : ℕ) (t : List Node) (ls : List meaning.Literal) (t₁ : List Node) (k : ℕ) → n ≤ 64 → Ordered t → place s t (meaning.clause n ls) ≡ placed t₁ k
+pub clause-made : (s n : ℕ) (t : List Node) (ls : List meaning.Literal) (t₁ : List Node) (k : ℕ) → n ≤ 64 → Ordered t → place s t (meaning.clause n ls) ≡ placed t₁ k
     → Made s t (meaning.clause n ls) t₁ k
 clause-made s n t ls t₁ k narrow O e =
     subst (After s t (meaning.clause n ls)) e
@@ -126,21 +124,22 @@ module _ (s : ℕ) (text : List ℕ) where
 
 -- ---- one command
 
--- The members are the clauses, the marks theirs.
-pub record Matches (n : ℕ) (st : State) (l : ClauseList) : Type 0 where
-  pub diagrams : map (diagramIn st) (st .members) ≡ map (meaning.clause n) (l .clauses)
-  pub marks : st .struck ≡ l .marks
+-- The members are the clauses, the marks theirs, the literals the header's.
+pub record Stands (n : ℕ) (st : State) (l : ClauseList) : Type 0 where
+  pub matches : Matches n st l
   pub literals : AllWithin n (l .clauses)
 
-module _ {s n : ℕ} {m : Meant} {st : State} (S : Standing s n m st) (narrow : n ≤ 64) (l : ClauseList) (M : Matches n st l) where
-  added-matches : (ls : List meaning.Literal) → Within n ls → (st′ : State) → ClauseTaken n s st ls st′ → Matches n st′ (afterClause n l (added ls))
+module _ {s n : ℕ} {m : Meant} {st : State} (S : Standing s n m st) (narrow : n ≤ 64) (l : ClauseList) (M : Stands n st l) where
+  added-matches : (ls : List meaning.Literal) → Within n ls → (st′ : State) → ClauseTaken n s st ls st′ → Stands n st′ (afterClause n l (added ls))
   added-matches ls w st′ T =
       let (line, peak, is) = tries-accepted n s (withEntry st (T .nodes) (T .node)) (T .node) st′ ls (T .tried) in
       let N : Made s (st .nodes) (meaning.clause n ls) (T .nodes) (T .node) = clause-made s n (st .nodes) ls (T .nodes) (T .node) narrow (S .ordered) (T .room) in
-      subst (λ (x : State). Matches n x (afterClause n l (added ls))) is (record {
-        diagrams = one-more s n (st .nodes) ls (T .nodes) (T .node) (S .ordered) N (st .kept) (S .kept) (st .members) (m .members) (S .members)
-            ∙ ap (λ (x : List Diagram). x ++ meaning.clause n ls ∷ []) (M .diagrams) ∙ sym (map-append (meaning.clause n) (l .clauses) (ls ∷ []));
-        marks = ap (λ (x : List ℕ). x ++ 0 ∷ []) (M .marks);
+      subst (λ (x : State). Stands n x (afterClause n l (added ls))) is (record {
+        matches = record {
+          diagrams = one-more s n (st .nodes) ls (T .nodes) (T .node) (S .ordered) N (st .kept) (S .kept) (st .members) (m .members) (S .members)
+              ∙ ap (λ (x : List Diagram). x ++ meaning.clause n ls ∷ []) (M .matches .diagrams) ∙ sym (map-append (meaning.clause n) (l .clauses) (ls ∷ []));
+          marks = ap (λ (x : List ℕ). x ++ 0 ∷ []) (M .matches .marks);
+        };
         literals = within-append n (l .clauses) ls (M .literals) w;
       })
 
@@ -150,20 +149,19 @@ module _ {s n : ℕ} {m : Meant} {st : State} (S : Standing s n m st) (narrow : 
   unfolding isLive
   there-is g i p = rw (lt-ltb i (length (st .members)) p, map-at (diagramIn st) (st .members) i p) refl
 
-  struck-matches : (ls : List meaning.Literal) (st′ : State) → ClauseStruck n st ls st′ → Matches n st′ (afterClause n l (struckOut ls))
+  struck-matches : (ls : List meaning.Literal) (st′ : State) → ClauseStruck n st ls st′ → Stands n st′ (afterClause n l (struckOut ls))
   struck-matches ls st′ C =
       let g : Diagram = meaning.clause n ls in
       let ds : List Diagram = map (diagramIn st) (st .members) in
       let set-is : strikeLowest g ds (st .struck) ≡ set (st .struck) (C .place) 1 = lowest-set g ds (st .struck) (C .place) (omega (arith, C .inside, length-map (st .members) (diagramIn st)))
       (S .marks ∙ sym (length-map (st .members) (diagramIn st))) (sym (there-is g (C .place) (C .inside)) ∙ C .there)
       (λ j p f. C .lowest j p (there-is g j (omega (arith, C .inside)) ∙ f)) in
-      subst (λ (x : State). Matches n x (afterClause n l (struckOut ls))) (C .is) (record {
-        diagrams = M .diagrams;
-        marks = sym set-is ∙ ap₂ (strikeLowest g) (M .diagrams) (M .marks);
+      subst (λ (x : State). Stands n x (afterClause n l (struckOut ls))) (C .is) (record {
+        matches = record { diagrams = M .matches .diagrams; marks = sym set-is ∙ ap₂ (strikeLowest g) (M .matches .diagrams) (M .matches .marks) };
         literals = M .literals;
       })
 
-  command-matches : (c : Command) → Fit Text n c → (st′ : State) → CommandTaken n s st c st′ → Matches n st′ (afterClause n l c)
+  command-matches : (c : Command) → Fit Text n c → (st′ : State) → CommandTaken n s st c st′ → Stands n st′ (afterClause n l c)
   command-matches (recorded r more) fit st′ T = absurd fit
   command-matches (added ls) fit st′ T = added-matches ls fit st′ T
   command-matches (struckOut ls) fit st′ T = struck-matches ls st′ T
@@ -178,7 +176,7 @@ record Follows (text proof : List ℕ) (n : ℕ) (st : State) (at : ℕ) : Type 
   few : steps ≤ at
   within : at ≤ length proof
   so-far : ClauseList
-  matches : Matches n st so-far
+  stands : Stands n st so-far
   run : (j end : ℕ) → at ≤ end
       → clausesFrom (steps + j) n proof (start Text proof) end (formulaClauses text) ≡ clausesFrom j n proof at end so-far
 
@@ -222,7 +220,7 @@ module _ (s : ℕ) (text proof : List ℕ) where
         few = omega (arith, F .few, on);
         within = inside;
         so-far = afterClause n (F .so-far) c;
-        matches = command-matches S narrow (F .so-far) (F .matches) c fit st′ T;
+        stands = command-matches S narrow (F .so-far) (F .stands) c fit st′ T;
         run = λ j end p.
             let same : suc (F .steps) + j ≡ F .steps + suc j = omega arith in
             ap (λ (k : ℕ). clausesFrom k n proof (start Text proof) end (formulaClauses text)) same ∙ F .run (suc j) end (omega (arith, on, p))
@@ -241,11 +239,7 @@ module _ (s : ℕ) (text proof : List ℕ) where
         few = omega arith;
         within = start-within Text proof;
         so-far = formulaClauses text;
-        matches = record {
-          diagrams = rw (nodes, members) are;
-          marks = struck ∙ ap (λ (k : ℕ). replicate k 0) long;
-          literals = w;
-        };
+        stands = record { matches = record { diagrams = rw (nodes, members) are; marks = struck ∙ ap (λ (k : ℕ). replicate k 0) long }; literals = w };
         run = λ j end p. let z : 0 + j ≡ j = omega arith in ap (λ (k : ℕ). clausesFrom k n proof (start Text proof) end (formulaClauses text)) z;
       }
 
@@ -256,19 +250,22 @@ module _ (s : ℕ) (text proof : List ℕ) where
 
   module _ {n : ℕ} {st : State} {at : ℕ} {m : Meant} (R : Reached inText s text proof n st at m) where
     -- where nothing is added or struck from the place on up to the end
-    matches-to : (end : ℕ) → at ≤ end → ((j : ℕ) (l : ClauseList) → clausesFrom j n proof at end l ≡ l) → Matches n st (textBefore text proof end)
-    matches-to end p none =
+    stands-to : (end : ℕ) → at ≤ end → ((j : ℕ) (l : ClauseList) → clausesFrom j n proof at end l ≡ l) → Stands n st (textBefore text proof end)
+    stands-to end p none =
         let F : Follows text proof n st at = reached-follows R in
         let rest : ℕ = length proof - F .steps in
         let all : length proof ≡ F .steps + rest = omega (arith, F .few, F .within) in
-        subst (Matches n st)
+        subst (Stands n st)
         (sym (ap (λ (w : ℕ). clausesFrom (length proof) w proof (start Text proof) end (formulaClauses text)) (reached-variables s text inText proof R)
         ∙ ap (λ (k : ℕ). clausesFrom k n proof (start Text proof) end (formulaClauses text)) all ∙ F .run rest end p ∙ none rest (F .so-far)))
-        (F .matches)
+        (F .stands)
+
+    pub text-stands : Stands n st (textBefore text proof at)
+    text-stands = stands-to at (omega arith) (λ j l. none-here proof n at at j l (omega arith))
 
     -- THEOREM: the members are the clauses of formula and text up to here, and the marks are theirs.
     pub text-matches : Matches n st (textBefore text proof at)
-    text-matches = matches-to at (omega arith) (λ j l. none-here proof n at at j l (omega arith))
+    text-matches = text-stands .matches
 
     -- THEOREM: the live members' diagrams are those of the live clauses.
     pub text-live : liveMembers st ≡ map (meaning.clause n) (liveClauses text proof at)
@@ -293,5 +290,5 @@ module _ (s : ℕ) (text proof : List ℕ) where
         go (struckOut ls) q I O = here (rw q at O)
         go (wrong k o) q I O =
             let stays : CommandIn proof n at (wrong k o) (nextIn inText proof n at) = rw q at I in
-            matches-to (at + offset) (omega arith) (idle proof n at (at + offset) (rw q (stays .0)))
+            stands-to (at + offset) (omega arith) (idle proof n at (at + offset) (rw q (stays .0))) .matches
         go finished q I O = here (rw q at O)

@@ -13,7 +13,8 @@ use Rattle.table.specs.Nodes.{Node, diagramAt, full, placed, place}
 use Rattle.table.specs.Making.{all, placedAll, lineReach}
 use Rattle.dimacs.specs.Clauses.{Reading, clause}
 use Rattle.records.specs.declared.Record.{Record}
-use Rattle.records.specs.declared.Record.the-variants.{NodeEntry, Witness, ProofLine, Strike, SetEntry, End, CutShort, UnknownKind, NoRecord}
+use Rattle.records.specs.declared.Record.the-variants.{NodeEntry, Witness, ProofLine, Strike, SetEntry, End}
+use Rattle.records.specs.declared.Record.the-variants.{CutShort, UnknownKind, NoRecord}
 use Rattle.commands.specs.declared.Mode.{Mode}
 use Rattle.commands.specs.Commands.{Command, recorded, added, struckOut, wrong, finished}
 use Rattle.verdict.specs.Steps.{State, withEntry, entryNode, diagramIn, liveMembers, setDiagram}

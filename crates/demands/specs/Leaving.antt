@@ -178,6 +178,19 @@ pub record AtEnd (i : Lent) (o : Outcome) : Type 0 where
   pub stands : OffsetOf (commandIn (i .mode) (i .proof) n at) (o .number) offset
   pub none-begun : NoneBegun (commandIn (i .mode) (i .proof) n at) → o .place ≡ length (i .proof)
 
+-- A state between the commands is reached: the formula is read and its clauses made.
+pub record FormulaMade (i : Lent) : Type 0 where
+  pub n : ℕ
+  pub state : State
+  pub at : ℕ
+  pub meant : Meant
+  pub reached : Reached (i .mode) (places i) (i .text) (i .proof) n state at meant
+
+-- "refused with 3, 4 (the token), 6": what the reader of the text refuses, at its place. (02, 4/14)
+pub record AtFault (i : Lent) (o : Outcome) : Type 0 where
+  pub end : AtEnd i o
+  pub here : commandIn (i .mode) (i .proof) (end .n) (end .at) ≡ wrong (o .number) (end .offset)
+
 -- ---- its 0 line
 
 -- "an accepted line is 0": behind the first c members, the clauses, one is node 0.

@@ -1,5 +1,6 @@
--- The members of a check of a DRAT text, as formula and text fix them: clauses, and which of them are struck out. (02, 4/14) No call open to
--- others cites this file.
+-- The members of a check of a DRAT text, as formula and text fix them: clauses, and which of them are struck out. (02, 4/14) No call open
+-- to others cites this file.
+use mathlib.Core.Path.{_≡_}
 use mathlib.Core.Bool.{_&&_, cond}
 use mathlib.Core.List.{List, [], _∷_, _++_, map}
 use Prim.Native.Nat.{ℕ, zero, suc}
@@ -12,7 +13,7 @@ use Rattle.dimacs.specs.Clauses.{formula}
 use Rattle.commands.specs.declared.Form.the-variants.{Text}
 use Rattle.commands.specs.Commands.{Command, recorded, added, struckOut, wrong, finished, inText, start}
 use Rattle.clausal.specs.Drat.{Clause}
-use Rattle.verdict.specs.Steps.{unstruck}
+use Rattle.verdict.specs.Steps.{State, diagramIn, unstruck}
 use Rattle.verdict.specs.Run.{commandIn, nextIn, variablesOf}
 use Rattle.verdict.specs.Satisfies.{clausesOf}
 
@@ -55,3 +56,8 @@ textBefore text proof end = clausesFrom (length proof) (variablesOf (header text
 -- The clauses of those that are not struck.
 abbrev pub liveClauses : List ℕ → List ℕ → ℕ → List Clause
 liveClauses text proof end = let l = textBefore text proof end in unstruck (l .marks) (l .clauses)
+
+-- In a state of a formula of n variables: the members are the clauses, each with its clause's diagram, and the marks are theirs.
+pub record Matches (n : ℕ) (st : State) (l : ClauseList) : Type 0 where
+  pub diagrams : map (diagramIn st) (st .members) ≡ map (meaning.clause n) (l .clauses)
+  pub marks : st .struck ≡ l .marks

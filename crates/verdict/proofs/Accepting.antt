@@ -4,21 +4,20 @@ use mathlib.Core.Path.{_≡_, refl, sym, subst}
 use mathlib.Core.Logic.{_↔_}
 use mathlib.Core.Bool.{Bool, true, false, not, _||_, cond}
 use mathlib.Core.List.{List, [], _∷_, map}
-use Prim.Native.Nat.{ℕ, _<_}
+use Prim.Native.Nat.{ℕ}
 use borrow.Author.Tests.{lt-leb}
 use Rattle.meaning.specs.Diagram.{Diagram}
 use Rattle.meaning.specs.Operations as meaning
 use Rattle.meaning.specs.Rules.{Line, rup}
 use Rattle.meaning.proofs.Booleans.{t≢f}
 use Rattle.meaning.proofs.Clauses.{Within}
-use Rattle.table.specs.Nodes.{Node, placed, place}
-use Rattle.table.specs.Making.{lineReach}
+use Rattle.table.specs.Nodes.{Node}
 use Rattle.clausal.specs.Drat.{Clause, Plain, AllPlain, Accepted}
 use Rattle.clausal.specs.Tries.{shownBy}
 use Rattle.clausal.proofs.Literals.{AllWithin}
 use Rattle.clausal.proofs.Rest.{plain-not-one}
 use Rattle.clausal.proofs.Tries.{two-tries}
-use Rattle.verdict.specs.Steps.{State, Step, next, stop, spent, judged, liveMembers}
+use Rattle.verdict.specs.Steps.{State, next, spent, judged, liveMembers}
 use Rattle.verdict.specs.Steps.{withEntry}
 use Rattle.verdict.specs.Clausal.{judgedOr, secondLine, secondTry, tries, addStep}
 use Rattle.verdict.specs.ClauseTaken.{GoesOn, HasRoom}

@@ -212,16 +212,16 @@ pub proof-number : (form : Form) (number : ℕ) → ProofNumber form number
 proof-number Records number P = (P .0, (λ q. omega (arith, P .1 (λ z. omega arith))), λ q. omega (arith, P .1 (λ z. omega arith)))
 proof-number Text number P = ((λ other _. P .0 other), (λ q. omega (arith, P .3 (omega arith))), λ q. omega (arith, P .3 (omega arith)))
 
-stop-number : (form : Form) (number offset : ℕ) → NumberedIn form (stop number offset) → ProofNumber form number
+pub stop-number : (form : Form) (number offset : ℕ) → NumberedIn form (stop number offset) → ProofNumber form number
 stop-number Records number offset N = ((λ other another. omega (arith, N .0 other another)), N .1)
 stop-number Text number offset N = ((λ other. omega (arith, N .0 other)), N .1, N .2, N .3, N .4, N .6)
 
-spent-number : (form : Form) (number peak : ℕ) → NumberedIn form (spent number peak) → (19 ≤ number) × (number ≤ 23)
+pub spent-number : (form : Form) (number peak : ℕ) → NumberedIn form (spent number peak) → (19 ≤ number) × (number ≤ 23)
 spent-number Records number peak N = N
 spent-number Text number peak (inl e) = (omega arith, omega arith)
 spent-number Text number peak (inr e) = (omega arith, omega arith)
 
-spent-proof : (form : Form) (number peak : ℕ) → NumberedIn form (spent number peak) → ProofNumber form number
+pub spent-proof : (form : Form) (number peak : ℕ) → NumberedIn form (spent number peak) → ProofNumber form number
 spent-proof Records number peak N = ((λ _ _. omega (arith, N .1)), λ _. omega (arith, N .0))
 spent-proof Text number peak (inl e) = ((λ _. omega arith), (λ _. omega arith), (λ q. omega arith), (λ _. omega arith), (λ q. omega arith), λ q. omega arith)
 spent-proof Text number peak (inr e) = ((λ _. omega arith), (λ _. omega arith), (λ q. omega arith), (λ _. omega arith), (λ q. omega arith), λ q. omega arith)
