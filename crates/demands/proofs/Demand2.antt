@@ -2,41 +2,50 @@
 use mathlib.Core.Path.{_≡_}
 use mathlib.Core.Logic.{_↔_}
 use mathlib.Core.Bool.{Bool, true}
-use mathlib.Core.List.{List, [], _∷_}
+use mathlib.Core.List.{List, [], _∷_, map}
 use Prim.Native.Nat.{ℕ}
 use lib.ListN.{length, replicate}
 use Rattle.meaning.specs.Diagram.{Assignment, Diagram}
-use Rattle.meaning.specs.Operations.{nearest}
+use Rattle.meaning.specs.Operations.{nearest, clause}
 use Rattle.meaning.specs.Rules.{conflicts, byUnits, byDiagram}
 use Rattle.meaning.proofs.Nearest as Near
 use Rattle.meaning.proofs.Nearest.{Nearest, Satisfied}
-use Rattle.table.specs.Nodes.{diagramAt}
+use Rattle.table.specs.Nodes.{Node, diagramAt}
 use Rattle.table.specs.Columns.{Columns, columnsMade}
 use Rattle.dimacs.specs.Clauses.{formula}
 use Rattle.records.specs.declared.Rule.{Rule}
-use Rattle.records.specs.declared.Record.{Record}
+use Rattle.clausal.specs.Drat.{Clause, Plain, AllPlain, Accepted}
+use Rattle.commands.specs.declared.Form.the-variants.{Text}
+use Rattle.commands.specs.declared.Mode.{Mode}
+use Rattle.commands.specs.Commands.{Command, added, inRecords, inText}
 use Rattle.operate.specs.declared.Operation.{Operation}
 use Rattle.operate.specs.declared.Operation.the-variants.{Negation, Cofactor}
 use Rattle.operate.specs.Operate.{result}
 use Rattle.single.specs.Single.{operation}
-use Rattle.verdict.specs.Steps.{State, next, judged, liveMembers}
+use Rattle.verdict.specs.Steps.{State, next, spent, judged, liveMembers}
 use Rattle.verdict.specs.Check.{step, check}
-use Rattle.verdict.specs.Taken.{Meant, Taken, lineOf, peakWith}
-use Rattle.verdict.specs.Run.{Reached, Refutation}
+use Rattle.verdict.specs.Taken.{Meant, lineOf, peakWith}
+use Rattle.verdict.specs.ClauseTaken.{GoesOn as StepGoesOn, HasRoom}
+use Rattle.verdict.specs.Run.{commandIn, CommandTaken, Reached, Refutation}
 use Rattle.verdict.specs.Satisfies.{clausesOf}
-use Rattle.verdict.specs.MetFirst.{no-conflict, metBy, sayMet}
+use Rattle.verdict.specs.MetFirst.{metBy, sayMet}
 use Rattle.verdict.specs.Cases.{Gives, GivesAll, checked as row, prints, bytes, A-formula, A-proof, caseTable, numberTable, strikeTable, setTable}
+use Rattle.verdict.specs.TextRows.{textTable}
 use Rattle.verdict.proofs.Cases as Tables
-use Rattle.verdict.proofs.Steps as Steps
+use Rattle.verdict.proofs.TextRows as TextRows
+use Rattle.verdict.proofs.Commands as Commands
 use Rattle.verdict.proofs.MetFirst as MetFirst
 use Rattle.demands.specs.Calls.{nodesIn}
 use Rattle.demands.specs.Words.{Conflict, Among, AmongLive}
 use Rattle.demands.specs.Leaving.{Lent, checked, Fits, places, ZeroLine, AtStriking, AtLine}
-use Rattle.demands.specs.Full.{Wants, AtClause, AtRecord}
+use Rattle.demands.specs.Texts.{liveClauses}
+use Rattle.demands.specs.Full.{Wants, AtClause, AtCommand}
 use Rattle.demands.proofs.Words as Words
 use Rattle.demands.proofs.Words.{GoesOn}
 use Rattle.demands.proofs.Ending as Ending
 use Rattle.demands.proofs.NoRoom as NoRoom
+use Rattle.demands.proofs.TextMembers as TextMembers
+use Rattle.demands.proofs.TextRules as TextRules
 use Rattle.demands.proofs.ZeroLines as ZeroLines
 use Rattle.demands.proofs.NotShown as NotShown
 use Rattle.demands.proofs.Strikings as Strikings
@@ -46,46 +55,74 @@ use Rattle.demands.proofs.Rows.{nodeRecords, rupLines}
 -- ---- the check
 
 -- 0 is given exactly where the sizes fit, the formula is read and its clauses made, each record in turn passes what 01 asks of its kind (a line: RUP or
--- PR, within room and limits), an accepted line is 0, and the end record ends the proof with no witness left and no byte behind it.
-pub check-zero-exactly : (i : Lent) → (checked i .number ≡ 0) ↔ (Fits i × Refutation (places i) (i .text) (i .proof))
+-- PR, within room and limits), an accepted line is 0, and the end record ends the proof with no witness left and no byte behind it; in a text each
+-- clause passes, one is empty, and the text is read to its end. (02, 4/14)
+pub check-zero-exactly : (i : Lent) → (checked i .number ≡ 0) ↔ (Fits i × Refutation (i .mode) (places i) (i .text) (i .proof))
 check-zero-exactly = Ending.check-zero-exactly
 
 -- "0: refuted; place of the end record"
-pub check-zero-place : (i : Lent) → Fits i → (F : Refutation (places i) (i .text) (i .proof)) → checked i .place ≡ F .place
+pub check-zero-place : (i : Lent) → Fits i → (F : Refutation (i .mode) (places i) (i .text) (i .proof)) → checked i .place ≡ F .place
 check-zero-place = Ending.check-zero-place
 
+-- "20, at its length as is 0": in a text that place is its length. (02, 4/14)
+pub text-zero-place : (i : Lent) → i .mode .form ≡ Text → (F : Refutation (i .mode) (places i) (i .text) (i .proof)) → F .place ≡ length (i .proof)
+text-zero-place = Ending.text-zero-place
+
 -- "an accepted line is 0": what the refutation's `zero-line` says.
-pub zero-line-exactly : (s : ℕ) (text proof : List ℕ) {n : ℕ} {st : State} {at : ℕ} {m : Meant} → Reached s text proof n st at m
+pub zero-line-exactly : (mode : Mode) (s : ℕ) (text proof : List ℕ) {n : ℕ} {st : State} {at : ℕ} {m : Meant} → Reached mode s text proof n st at m
     → (st .refuted ≡ true) ↔ ZeroLine (length (clausesOf (formula text))) st
 zero-line-exactly = ZeroLines.zero-line-exactly
 
--- A record leads to a next state exactly where it passes what 01 and 02 ask of its kind: `NodeTaken`, `WitnessTaken`, `LineTaken`, `StrikeTaken`,
--- `SetTaken`.
-pub step-exactly : (n s : ℕ) (st : State) (more : Bool) (r : Record) (st′ : State) → (step n s st more r ≡ next st′) ↔ Taken n s st r st′
-step-exactly = Steps.step-exactly
+-- A command leads to a next state exactly where it passes what 01 and 02 ask of its kind: `NodeTaken`, `WitnessTaken`, `LineTaken`, `StrikeTaken`,
+-- `SetTaken`; of a text's, `ClauseTaken`, `ClauseStruck`.
+pub step-exactly : (n s : ℕ) (st : State) (c : Command) (st′ : State) → (step n s st c ≡ next st′) ↔ CommandTaken n s st c st′
+step-exactly = Commands.step-exactly
 
 -- "then 19 or 23, the one met first": a line is judged as its diagrams are made, in 01's making order.
 pub met-first : (n s : ℕ) (st : State) (rule : Rule) (g : ℕ) → judged s st g (lineOf n st rule g) ≡ sayMet st g (lineOf n st rule g) (peakWith s st (lineOf n st rule g)) (metBy n s st rule g)
 met-first = MetFirst.met-first
 
--- "19: not shown: no conflict": of the call, the line at the place given; its propagation ends without conflict before a diagram finds no room.
-pub nineteen-only : (i : Lent) → checked i .number ≡ 19 → AtLine i (checked i) no-conflict
+-- "19: not shown: no conflict": of the call, the line at the place given; its propagation ends without conflict before a diagram finds no room. Of an
+-- added clause, neither try shows it, and both had room; the empty one has no second. (02, 4/14)
+pub nineteen-only : (i : Lent) → checked i .number ≡ 19 → AtLine i (checked i .place)
 nineteen-only = NotShown.nineteen-only
 
 -- "It refuses with 28 a member that does not exist or is struck already, after 10 and then 16 for a waiting witness": at the record. (02, 3/14)
-pub twenty-eight-exactly : (i : Lent) → Fits i → (at : ℕ) → ((checked i .number ≡ 28) × (checked i .place ≡ at)) ↔ AtStriking (places i) (i .text) (i .proof) at
+-- "an absent clause to strike with 28": no live member is its diagram; at its `d`. (02, 4/14)
+pub twenty-eight-exactly : (i : Lent) → Fits i → (at : ℕ) → ((checked i .number ≡ 28) × (checked i .place ≡ at)) ↔ AtStriking (i .mode) (places i) (i .text) (i .proof) at
 twenty-eight-exactly = Strikings.twenty-eight-exactly
 
 -- "8 and 23 are given only where a node not in the table is to be placed and the count equals the size."
 pub eight-only : (i : Lent) → checked i .number ≡ 8 → AtClause (places i) (i .text) (checked i .place)
 eight-only = NoRoom.eight-only
 
-pub twenty-three-only : (i : Lent) → checked i .number ≡ 23 → AtRecord (places i) (i .text) (i .proof) (checked i .place)
+pub twenty-three-only : (i : Lent) → checked i .number ≡ 23 → AtCommand (i .mode) (places i) (i .text) (i .proof) (checked i .place)
 twenty-three-only = NoRoom.twenty-three-only
 
 pub operation-full : (op : Operation) (c : Columns) (count f g : ℕ) → operation op c count f g .number ≡ 23
     → Wants (length (c .vars)) (nodesIn c count) (result op (diagramAt (nodesIn c count) f) (diagramAt (nodesIn c count) g))
 operation-full = NoRoom.operation-full
+
+-- ---- clauses of a text
+
+-- "Prove that for clauses and members without both signs of a variable the two tries accept exactly what RUP and RAT over clauses accept, the table having
+-- room": in every state that the check of a text reaches. The members are the formula's clauses and those that the text added, by place, and the live
+-- ones are those that it has not struck out. (02, 4/14)
+pub added-exactly : (s : ℕ) (text proof : List ℕ) {n : ℕ} {st : State} {at : ℕ} {m : Meant} → Reached inText s text proof n st at m
+    → (c : Clause) → commandIn inText proof n at ≡ added c → AllPlain (liveClauses text proof at) → Plain c → (t : List Node) (k : ℕ) → HasRoom n s st c t k
+    → StepGoesOn (step n s st (commandIn inText proof n at)) ↔ Accepted (liveClauses text proof at) c
+added-exactly = TextRules.added-exactly
+
+-- Else it is refused with 19.
+pub added-refused : (s : ℕ) (text proof : List ℕ) {n : ℕ} {st : State} {at : ℕ} {m : Meant} → Reached inText s text proof n st at m
+    → (c : Clause) → commandIn inText proof n at ≡ added c → AllPlain (liveClauses text proof at) → Plain c → (t : List Node) (k : ℕ) → HasRoom n s st c t k
+    → (Accepted (liveClauses text proof at) c → ⊥) → (peak : ℕ) × (step n s st (commandIn inText proof n at) ≡ spent 19 peak)
+added-refused = TextRules.added-refused
+
+-- What the tries look at: the diagrams of those clauses.
+pub text-live : (s : ℕ) (text proof : List ℕ) {n : ℕ} {st : State} {at : ℕ} {m : Meant} → Reached inText s text proof n st at m
+    → liveMembers st ≡ map (clause n) (liveClauses text proof at)
+text-live = TextMembers.text-live
 
 -- ---- the rules' words
 
@@ -129,10 +166,14 @@ strikings = Tables.strikings
 pub set-entries : GivesAll setTable
 set-entries = Tables.set-entries
 
+-- 02's texts: each number that a text can get, at its place; comments, `d` lines, second tries, full tables.
+pub texts : GivesAll textTable
+texts = TextRows.texts
+
 -- "7: table of 1 place"; "21: node record 4,097 of a line"; "22: line 1,025"; "26: node 2 = 1, 0, 0"; "27: f = 1, g = 0". 24 and 25 are the program's
 -- (report/proofs/Saying: `long-formula`, `long-proof`, `no-formula`, `no-proof`).
 abbrev sized : Columns → ℕ
-sized c = check c 2 (replicate 2048 0) (replicate 2048 0) (replicate 4096 0) (bytes A-formula) A-proof .number
+sized c = check inRecords c 2 (replicate 2048 0) (replicate 2048 0) (replicate 4096 0) (bytes A-formula) A-proof .number
 
 pub seven : (sized (columnsMade (0 ∷ []) (0 ∷ []) (0 ∷ []) (0 ∷ 0 ∷ []) (0 ∷ [])) ≡ 7)
     × (sized (columnsMade (0 ∷ 0 ∷ []) (0 ∷ 0 ∷ []) (0 ∷ 0 ∷ []) (0 ∷ 0 ∷ 0 ∷ []) (0 ∷ 0 ∷ [])) ≡ 7)

@@ -18,12 +18,12 @@ use Rattle.operate.specs.declared.Operation.the-variants.{Cofactor}
 use Rattle.single.specs.Single.{evaluation, operation, atLeastCall}
 use Rattle.verdict.specs.Steps.{State, isEntry, entryNode}
 use Rattle.verdict.specs.Taken.{Meant, entryMeant}
-use Rattle.verdict.specs.Run.{lineFunctions, Reached, Later}
+use Rattle.verdict.specs.Run.{Reached, Later}
 use Rattle.verdict.specs.Satisfies.{Unsatisfiable}
 use Rattle.verdict.proofs.Refuted as Refuted
 use Rattle.verdict.proofs.Values as Values
 use Rattle.demands.specs.Calls.{nodesIn, inGoodOrder, valueAt, Answers, Says, answered, refused, LeastSays}
-use Rattle.demands.specs.Leaving.{Lent, checked, Fits, places, clausesRead, Member}
+use Rattle.demands.specs.Leaving.{Lent, checked, Fits, places, clausesRead, linesOf, Member}
 use Rattle.demands.proofs.Singles as Singles
 use Rattle.demands.proofs.Leasts as Leasts
 use Rattle.demands.proofs.Words as Words
@@ -91,24 +91,24 @@ evaluation-says = Singles.evaluation-says
 
 -- "a clause's [..] node from its making until it is dropped": in every state that the check reaches (`Values.clause-values`, `Values.member-value`), and in
 -- what it leaves: place k of the member list is a node with clause k's value.
-pub clause-left : (i : Lent) → Fits i → (checked i .number ≢ 0 → 9 ≤ checked i .number) → (k : ℕ) → k < length (clausesRead i)
+pub clause-left : (i : Lent) → Fits i → checked i .inProof ≡ true → (k : ℕ) → k < length (clausesRead i)
     → Member (checked i) k (clauseValue (getD (clausesRead i) k []))
 clause-left i fits late = Lists.check-kept i fits late .clauses
 
--- Then the accepted lines in order, each with its root's value as the proof's bytes fix it.
-pub line-left : (i : Lent) → Fits i → (checked i .number ≢ 0 → 9 ≤ checked i .number) → (j : ℕ) → j < checked i .lines
-    → Member (checked i) (length (clausesRead i) + j) (getD (lineFunctions (i .proof)) j (λ a. false))
+-- Then the accepted lines in order, each with its root's value, or its added clause's, as the proof's bytes fix it.
+pub line-left : (i : Lent) → Fits i → checked i .inProof ≡ true → (j : ℕ) → j < checked i .lines
+    → Member (checked i) (length (clausesRead i) + j) (getD (linesOf i) j (λ a. false))
 line-left i fits late = Lists.check-kept i fits late .lines
 
 -- The table as left is in good order.
-pub left-in-order : (i : Lent) → Fits i → (checked i .number ≢ 0 → 9 ≤ checked i .number) → inGoodOrder (checked i .columns) (checked i .count) ≡ true
+pub left-in-order : (i : Lent) → Fits i → checked i .inProof ≡ true → inGoodOrder (checked i .columns) (checked i .count) ≡ true
 left-in-order i fits late = Lists.check-kept i fits late .good
 
-module _ (i : Lent) {n : ℕ} {st : State} {at : ℕ} {m : Meant} (R : Reached (places i) (i .text) (i .proof) n st at m) where
+module _ (i : Lent) {n : ℕ} {st : State} {at : ℕ} {m : Meant} (R : Reached (i .mode) (places i) (i .text) (i .proof) n st at m) where
   -- "an entry's node [has its value] from its making until it is dropped, though the proof be refused later": in every state reached later,
-  pub entry-kept : {st′ : State} {at′ : ℕ} → Later (places i) (i .proof) n st at st′ at′ → (e : ℕ) → isEntry st e ≡ true → (a : Assignment)
+  pub entry-kept : {st′ : State} {at′ : ℕ} → Later (i .mode) (places i) (i .proof) n st at st′ at′ → (e : ℕ) → isEntry st e ≡ true → (a : Assignment)
       → value (diagramAt (st′ .nodes) (entryNode st e)) a ≡ entryMeant m e a
-  entry-kept = Values.entry-kept (places i) (i .text) (i .proof) R
+  entry-kept = Values.entry-kept (places i) (i .text) (i .mode) (i .proof) R
 
   -- in the table as left, where it is not dropped,
   pub entry-left : Fits i → (e : ℕ) → isEntry st e ≡ true → entryNode st e < checked i .count
@@ -121,4 +121,4 @@ module _ (i : Lent) {n : ℕ} {st : State} {at : ℕ} {m : Meant} (R : Reached (
 
 -- Where 0 is said no assignment satisfies the formula's bytes, whatever the proof's bytes and whatever the lent places held.
 pub check-refuted : (i : Lent) → checked i .number ≡ 0 → Unsatisfiable (i .text)
-check-refuted i = Refuted.check-refuted (i .columns) (i .count) (i .members) (i .struck) (i .scratch) (i .text) (i .proof)
+check-refuted i = Refuted.check-refuted (i .mode) (i .columns) (i .count) (i .members) (i .struck) (i .scratch) (i .text) (i .proof)

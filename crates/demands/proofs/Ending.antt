@@ -7,9 +7,13 @@ use Prim.Native.Nat.{ℕ}
 use native.Mathlib.Omega.{arith}
 use lib.ListN.{length}
 use Rattle.meaning.proofs.Booleans.{t≢f}
+use Rattle.commands.specs.declared.Form.{Form}
+use Rattle.commands.specs.declared.Form.the-variants.{Text}
+use Rattle.commands.specs.Commands.{Command, recorded, added, struckOut, wrong, finished, commandAt}
+use Rattle.commands.proofs.Onward.{CommandIn, text-in}
 use Rattle.verdict.specs.Check.{Verdict, verdict, Outcome, lentFits, outcome, check}
-use Rattle.verdict.specs.Run.{Refutation}
-use Rattle.verdict.proofs.Ends.{ended}
+use Rattle.verdict.specs.Run.{commandIn, nextIn, Closes, Refutation}
+use Rattle.verdict.proofs.Ends.{reached-in, ended}
 use Rattle.verdict.proofs.Exactly.{ended-is, zero-exactly, refutation-said}
 use Rattle.demands.specs.Leaving.{Lent, checked, Fits, places, seven, Ends, wrong-size, at-place}
 
@@ -21,7 +25,7 @@ module _ (i : Lent) where
   fits = lentFits (i .columns) (i .members) (i .struck) (i .scratch)
 
   -- where the sizes fit the call is the verdict's, else 7
-  pub checked-fits : Fits i → checked i ≡ done (verdict (places i) (i .text) (i .proof))
+  pub checked-fits : Fits i → checked i ≡ done (verdict (i .mode) (places i) (i .text) (i .proof))
   unfolding check
   checked-fits e = rw e
 
@@ -29,7 +33,7 @@ module _ (i : Lent) where
   unfolding check
   checked-seven other = go fits refl
     where
-      go : (c : Bool) → fits ≡ c → cond c (done (verdict (places i) (i .text) (i .proof))) (seven i) ≡ seven i
+      go : (c : Bool) → fits ≡ c → cond c (done (verdict (i .mode) (places i) (i .text) (i .proof))) (seven i) ≡ seven i
       go true e = absurd (other e)
       go false e = refl
 
@@ -43,7 +47,7 @@ module _ (i : Lent) where
   -- For every input the call ends at the first place that is refused, or at the end record, and number, place and all else are that end's.
   pub check-ends : Ends i (checked i)
   check-ends =
-      fits? (Ends i (checked i)) (λ e. subst (Ends i) (sym (checked-fits e)) (at-place e (ended (places i) (i .text) (i .proof))))
+      fits? (Ends i (checked i)) (λ e. subst (Ends i) (sym (checked-fits e)) (at-place e (ended (i .mode) (places i) (i .text) (i .proof))))
       (λ other. subst (Ends i) (sym (checked-seven other)) (wrong-size other))
 
   pub check-exactly : (o : Outcome) → (checked i ≡ o) ↔ Ends i o
@@ -51,26 +55,41 @@ module _ (i : Lent) where
     where
       back : (o : Outcome) → Ends i o → checked i ≡ o
       back _ (wrong-size other) = checked-seven other
-      back _ (at-place {v} e E) = checked-fits e ∙ ap done (ended-is (places i) (i .text) (i .proof) v E)
+      back _ (at-place {v} e E) = checked-fits e ∙ ap done (ended-is (i .mode) (places i) (i .text) (i .proof) v E)
 
   -- "0: refuted": given exactly where the sizes fit, the formula is read and made, each record in turn passes what its kind asks, an accepted
   -- line is 0, and the end record ends the proof.
-  pub check-zero-exactly : (checked i .number ≡ 0) ↔ (Fits i × Refutation (places i) (i .text) (i .proof))
+  pub check-zero-exactly : (checked i .number ≡ 0) ↔ (Fits i × Refutation (i .mode) (places i) (i .text) (i .proof))
   unfolding outcome
   check-zero-exactly = (to, from)
     where
       R : Type 0
-      R = Fits i × Refutation (places i) (i .text) (i .proof)
+      R = Fits i × Refutation (i .mode) (places i) (i .text) (i .proof)
 
       to : checked i .number ≡ 0 → R
       to z =
-          fits? R (λ e. (e, zero-exactly (places i) (i .text) (i .proof) .0 (sym (ap (λ (o : Outcome). o .number) (checked-fits e)) ∙ z)))
+          fits? R (λ e. (e, zero-exactly (i .mode) (places i) (i .text) (i .proof) .0 (sym (ap (λ (o : Outcome). o .number) (checked-fits e)) ∙ z)))
           (λ other. let n : _≡_ {A = ℕ} 7 0 = sym (ap (λ (o : Outcome). o .number) (checked-seven other)) ∙ z in absurd (omega arith))
 
       from : R → checked i .number ≡ 0
-      from (e, F) = ap (λ (o : Outcome). o .number) (checked-fits e) ∙ zero-exactly (places i) (i .text) (i .proof) .1 F
+      from (e, F) = ap (λ (o : Outcome). o .number) (checked-fits e) ∙ zero-exactly (i .mode) (places i) (i .text) (i .proof) .1 F
 
   -- "place of the end record"
-  pub check-zero-place : (e : Fits i) (F : Refutation (places i) (i .text) (i .proof)) → checked i .place ≡ F .place
+  pub check-zero-place : (e : Fits i) (F : Refutation (i .mode) (places i) (i .text) (i .proof)) → checked i .place ≡ F .place
   unfolding outcome
-  check-zero-place e F = ap (λ (o : Outcome). o .place) (checked-fits e) ∙ ap (λ (v : Verdict). v .place) (refutation-said (places i) (i .text) (i .proof) F)
+  check-zero-place e F = ap (λ (o : Outcome). o .place) (checked-fits e) ∙ ap (λ (v : Verdict). v .place) (refutation-said (i .mode) (places i) (i .text) (i .proof) F)
+
+  -- "at its length as is 0": a text's refutation ends at its length.
+  pub text-zero-place : i .mode .form ≡ Text → (F : Refutation (i .mode) (places i) (i .text) (i .proof)) → F .place ≡ length (i .proof)
+  text-zero-place form F =
+      go (commandIn (i .mode) (i .proof) (F .variables) (F .place)) (nextIn (i .mode) (i .proof) (F .variables) (F .place))
+      (subst (λ (f : Form). CommandIn (i .proof) (F .variables) (F .place) (commandAt f (i .proof) (F .variables) (F .place) .command) (commandAt f (i .proof) (F .variables) (F .place) .next)) (sym form)
+      (text-in (i .proof) (F .variables) (F .place) (reached-in (i .mode) (places i) (i .text) (i .proof) (F .reached))))
+      (F .end)
+    where
+      go : (c : Command) (next : ℕ) → CommandIn (i .proof) (F .variables) (F .place) c next → Closes (F .state) c → F .place ≡ length (i .proof)
+      go (recorded r more) next I C = absurd I
+      go (added ls) next I C = absurd C
+      go (struckOut ls) next I C = absurd C
+      go (wrong number offset) next I C = absurd C
+      go finished next I C = I .1

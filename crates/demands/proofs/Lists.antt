@@ -13,17 +13,20 @@ use lib.Dec.{eqb, leb}
 use borrow.Author.Tests.{eqb-true, leb-true}
 use Rattle.meaning.specs.Diagram.{Assignment, Diagram, value}
 use Rattle.meaning.specs.Operations.{Literal, clauseValue}
-use Rattle.meaning.proofs.Booleans.{and-both}
+use Rattle.meaning.proofs.Booleans.{t≢f, and-both}
 use Rattle.table.specs.Nodes.{Node, diagramAt}
 use Rattle.table.specs.Columns.{sizeFits, Columns, columnsMade, storedAs}
 use Rattle.table.proofs.Growth.{ordered-dropped}
 use Rattle.table.proofs.Sizes.{Sized, sized}
 use Rattle.table.proofs.Emptied.{stored-emptied}
 use Rattle.verdict.specs.Check as verdict
-use Rattle.verdict.specs.Steps.{State, isEntry, entryNode}
-use Rattle.verdict.specs.Check.{Verdict, Outcome, lentFits, zeros, outcome, refusedFormula, left}
+use Rattle.commands.specs.declared.Form.the-variants.{Records, Text}
+use Rattle.commands.specs.declared.Mode.{Mode}
+use Rattle.commands.specs.Commands.{inRecords, inText}
+use Rattle.verdict.specs.Steps.{State, emptied as bare, Step, stop, isEntry, entryNode}
+use Rattle.verdict.specs.Check.{step, Verdict, Outcome, lentFits, zeros, outcome, refusedFormula, left}
 use Rattle.verdict.specs.Taken.{Function, Meant, entryMeant, Valued}
-use Rattle.verdict.specs.Run.{lineFunctions, clauseFunctions, standsFor, Reached}
+use Rattle.verdict.specs.Run.{commandIn, clauseFunctions, standsFor, Reached, ProofNumber}
 use Rattle.verdict.specs.Marks.{strikingsBefore, markOf}
 use Rattle.verdict.proofs.Standing.{Standing, valued-length, valued-at, entry-valued}
 use Rattle.verdict.proofs.Ends.{reached-standing, ended}
@@ -34,9 +37,12 @@ use Rattle.verdict.proofs.Marks.{marks-above, marks-are, marks-stopped}
 use Rattle.verdict.proofs.Onward.{reached-onward}
 use Rattle.verdict.proofs.Peak.{Reported, peak-reported}
 use Rattle.demands.specs.Calls.{nodesIn, valueAt}
-use Rattle.demands.specs.Leaving.{Lent, checked, Fits, places, clausesRead, Emptied, Member, Kept, Leaves, unchanged, emptied, kept}
+use Rattle.demands.specs.Texts.{textBefore}
+use Rattle.demands.specs.Leaving.{Lent, checked, Fits, places, clausesRead, linesOf, Emptied, Member, Kept, Leaves, unchanged, emptied, kept}
 use Rattle.demands.proofs.Lent.{read-back, left-good}
 use Rattle.demands.proofs.Ending.{done, fits?, checked-fits, checked-seven}
+use Rattle.demands.proofs.TextMembers.{text-matches, text-stopped}
+use Rattle.demands.proofs.Modes.{mode-is}
 
 -- ---- lists
 
@@ -81,14 +87,15 @@ sizes i e =
 -- ---- a refused formula
 
 module _ (i : Lent) (S : Sizes i) where
-  zeroed : storedAs (places i) verdict.emptied ≡ columnsMade (zeros (places i)) (zeros (places i)) (zeros (places i)) (zeros (2 * places i)) (zeros (places i))
+  zeroed : storedAs (places i) bare ≡ columnsMade (zeros (places i)) (zeros (places i)) (zeros (places i)) (zeros (2 * places i)) (zeros (places i))
   zeroed = stored-emptied (places i) (S .columns .least)
 
   refused-emptied : (number place peak : ℕ) → (1 ≤ number) × (number ≤ 8) × (number ≢ 7)
-      → Reported (places i) (S .columns .least) (i .text) (i .proof) (refusedFormula number place peak) → Emptied i (done i (refusedFormula number place peak))
+      → Reported (places i) (S .columns .least) (i .mode) (i .text) (i .proof) (refusedFormula number place peak) → Emptied i (done i (refusedFormula number place peak))
   unfolding outcome
   refused-emptied number place peak named P = record {
     number = named;
+    in-formula = refl;
     lines = refl;
     rounds = refl;
     count = refl;
@@ -106,7 +113,7 @@ module _ (i : Lent) (S : Sizes i) where
 
 -- ---- a proof that was judged
 
-module _ (i : Lent) (S : Sizes i) {n : ℕ} {st : State} {at : ℕ} {m : Meant} (R : Reached (places i) (i .text) (i .proof) n st at m) (number place peak : ℕ) where
+module _ (i : Lent) (S : Sizes i) {n : ℕ} {st : State} {at : ℕ} {m : Meant} (R : Reached (i .mode) (places i) (i .text) (i .proof) n st at m) (number place peak : ℕ) where
   abbrev t : List Node
   t = take (st .kept) (st .nodes)
 
@@ -114,10 +121,10 @@ module _ (i : Lent) (S : Sizes i) {n : ℕ} {st : State} {at : ℕ} {m : Meant} 
   o = done i (left number place peak st)
 
   stands : Standing (places i) n m st
-  stands = reached-standing (places i) (i .text) (i .proof) R .1
+  stands = reached-standing (i .mode) (places i) (i .text) (i .proof) R .1
 
-  W : Valued t (length t) (st .members) (standsFor (i .text) (i .proof) (st .lines))
-  W = members-left (places i) (i .text) (i .proof) R
+  W : Valued t (length t) (st .members) (standsFor (i .mode) (i .text) (i .proof) (st .lines))
+  W = members-left (places i) (i .text) (i .mode) (i .proof) R
 
   len : length t ≡ st .kept
   len = length-take-le (st .kept) (st .nodes) (stands .kept)
@@ -128,33 +135,33 @@ module _ (i : Lent) (S : Sizes i) {n : ℕ} {st : State} {at : ℕ} {m : Meant} 
   back : nodesIn (storedAs (places i) t) (length t) ≡ t
   back = read-back (places i) t
 
-  few : length (take (st .lines) (lineFunctions (i .proof))) ≡ st .lines
-  few = length-take-le (st .lines) (lineFunctions (i .proof)) (lines-there (places i) (i .text) (i .proof) R)
+  few : length (take (st .lines) (linesOf i)) ≡ st .lines
+  few = length-take-le (st .lines) (linesOf i) (lines-there (places i) (i .text) (i .mode) (i .proof) R)
 
   many : length (st .members) ≡ length (clausesRead i) + st .lines
   many =
-      valued-length t (length t) (st .members) (standsFor (i .text) (i .proof) (st .lines)) W
-      ∙ length-append (clauseFunctions (i .text)) (take (st .lines) (lineFunctions (i .proof))) ∙ omega (arith, few, length-map (clausesRead i) clauseValue)
+      valued-length t (length t) (st .members) (standsFor (i .mode) (i .text) (i .proof) (st .lines)) W
+      ∙ length-append (clauseFunctions (i .text)) (take (st .lines) (linesOf i)) ∙ omega (arith, few, length-map (clausesRead i) clauseValue)
 
   -- a place of the member list, and what it stands for
-  member : (k : ℕ) → k < length (st .members) → Member o k (getD (standsFor (i .text) (i .proof) (st .lines)) k (λ a. false))
+  member : (k : ℕ) → k < length (st .members) → Member o k (getD (standsFor (i .mode) (i .text) (i .proof) (st .lines)) k (λ a. false))
   unfolding outcome
   member k p =
-      let (inside, is) = valued-at t (length t) (st .members) (standsFor (i .text) (i .proof) (st .lines)) W k p (λ a. false) in
+      let (inside, is) = valued-at t (length t) (st .members) (standsFor (i .mode) (i .text) (i .proof) (st .lines)) W k p (λ a. false) in
       let same : getD (st .members ++ zeros (length (i .members) - length (st .members))) k 0 ≡ getD (st .members) k 0 = List·getD-append (st .members) _ 0 k p in
       rw (same, back) (inside, is)
 
   -- what the clauses' places stand for, and the lines'
-  clause-there : (k : ℕ) → k < length (clausesRead i) → getD (standsFor (i .text) (i .proof) (st .lines)) k (λ a. false) ≡ clauseValue (getD (clausesRead i) k [])
+  clause-there : (k : ℕ) → k < length (clausesRead i) → getD (standsFor (i .mode) (i .text) (i .proof) (st .lines)) k (λ a. false) ≡ clauseValue (getD (clausesRead i) k [])
   clause-there k p =
-      List·getD-append (clauseFunctions (i .text)) (take (st .lines) (lineFunctions (i .proof))) (λ a. false) k (omega (arith, length-map (clausesRead i) clauseValue))
+      List·getD-append (clauseFunctions (i .text)) (take (st .lines) (linesOf i)) (λ a. false) k (omega (arith, length-map (clausesRead i) clauseValue))
       ∙ clause-at (clausesRead i) k p (λ a. false)
 
   line-there : (j : ℕ) → j < st .lines
-      → getD (standsFor (i .text) (i .proof) (st .lines)) (length (clausesRead i) + j) (λ a. false) ≡ getD (lineFunctions (i .proof)) j (λ a. false)
+      → getD (standsFor (i .mode) (i .text) (i .proof) (st .lines)) (length (clausesRead i) + j) (λ a. false) ≡ getD (linesOf i) j (λ a. false)
   line-there j p =
-      ap (λ (k : ℕ). getD (standsFor (i .text) (i .proof) (st .lines)) (k + j) (λ a. false)) (sym (length-map (clausesRead i) clauseValue))
-      ∙ getD-second (clauseFunctions (i .text)) (take (st .lines) (lineFunctions (i .proof))) j (λ a. false) ∙ getD-take (st .lines) (lineFunctions (i .proof)) j (λ a. false) p
+      ap (λ (k : ℕ). getD (standsFor (i .mode) (i .text) (i .proof) (st .lines)) (k + j) (λ a. false)) (sym (length-map (clausesRead i) clauseValue))
+      ∙ getD-second (clauseFunctions (i .text)) (take (st .lines) (linesOf i)) j (λ a. false) ∙ getD-take (st .lines) (linesOf i) j (λ a. false) p
 
   -- the marks with zeros above
   marked : (k : ℕ) → getD (st .struck ++ zeros (length (i .members) - length (st .struck))) k 0 ≡ getD (st .struck) k 0
@@ -163,21 +170,23 @@ module _ (i : Lent) (S : Sizes i) {n : ℕ} {st : State} {at : ℕ} {m : Meant} 
     | no p ↦ getD-past (st .struck) (length (i .members) - length (st .struck)) k (omega arith) ∙ sym (List·getD-eq-default (st .struck) 0 (omega arith))
   ]
 
-  judged-kept : (number ≢ 28 → number ≢ 29 → number ≤ 23) × (number ≢ 0 → 9 ≤ number) → ((k : ℕ) → getD (st .struck) k 0 ≡ markOf (strikingsBefore (i .proof) place) k)
-      → Reported (places i) (S .columns .least) (i .text) (i .proof) (left number place peak st) → Kept i o
+  judged-kept : ProofNumber (i .mode .form) number → (i .mode .form ≡ Records → (k : ℕ) → getD (st .struck) k 0 ≡ markOf (strikingsBefore (i .proof) place) k)
+      → (i .mode .form ≡ Text → st .struck ≡ textBefore (i .text) (i .proof) place .marks) → Reported (places i) (S .columns .least) (i .mode) (i .text) (i .proof) (left number place peak st) → Kept i o
   unfolding outcome
-  judged-kept named marks P = record {
+  judged-kept named marks text-marks P = record {
     number = named;
+    in-proof = refl;
     peak = (P .left, P .most);
     filled = P .proof-full;
-    read = reached-end (places i) (i .text) (i .proof) R;
+    read = reached-end (i .mode) (places i) (i .text) (i .proof) R;
     good = left-good (places i) t (ordered-dropped (st .nodes) (stands .ordered) (st .kept) (stands .least) (stands .kept)) room;
     clauses = λ k p. subst (Member o k) (clause-there k p) (member k (omega (arith, many)));
     lines = λ j p. subst (Member o (length (clausesRead i) + j)) (line-there j p) (member (length (clausesRead i) + j) (omega (arith, many)));
-    marks = λ k. marked k ∙ marks k;
+    marks = λ form k. marked k ∙ marks form k;
+    text-marks = λ form k. marked k ∙ ap (λ (x : List ℕ). getD x k 0) (text-marks form);
     above = λ k p. (
       getD-past (st .members) (length (i .members) - length (st .members)) k (omega (arith, many)),
-      marked k ∙ marks-above (places i) (i .text) (i .proof) R k (omega (arith, many)),
+      marked k ∙ marks-above (i .mode) (places i) (i .text) (i .proof) R k (omega (arith, many)),
     );
     long = (
       length-append (st .members) (zeros (length (i .members) - length (st .members)))
@@ -188,42 +197,67 @@ module _ (i : Lent) (S : Sizes i) {n : ℕ} {st : State} {at : ℕ} {m : Meant} 
     scratch = refl;
   }
 
+-- ---- the marks, by the proof's form
+
+module _ (i : Lent) {n : ℕ} {st : State} {at : ℕ} {m : Meant} (R : Reached (i .mode) (places i) (i .text) (i .proof) n st at m) where
+  in-form : (mode : Mode) → i .mode ≡ mode → Reached mode (places i) (i .text) (i .proof) n st at m
+  in-form mode is = subst (λ (x : Mode). Reached x (places i) (i .text) (i .proof) n st at m) is R
+
+  abbrev Says : Mode → Step → Type 0
+  Says mode x = step n (places i) st (commandIn mode (i .proof) n at) ≡ x
+
+  says-in : (mode : Mode) → i .mode ≡ mode → (x : Step) → Says (i .mode) x → Says mode x
+  says-in mode is x q = ap (λ (y : Mode). step n (places i) st (commandIn y (i .proof) n at)) (sym is) ∙ q
+
+  records-tried : i .mode .form ≡ Records → (k : ℕ) → getD (st .struck) k 0 ≡ markOf (strikingsBefore (i .proof) at) k
+  records-tried form = marks-are (places i) (i .text) (i .proof) (in-form inRecords (mode-is form))
+
+  records-stopped : i .mode .form ≡ Records → (number offset : ℕ) → Says (i .mode) (stop number offset)
+      → (k : ℕ) → getD (st .struck) k 0 ≡ markOf (strikingsBefore (i .proof) (at + offset)) k
+  records-stopped form number offset q =
+      marks-stopped (places i) (i .text) (i .proof) (in-form inRecords (mode-is form)) number offset (says-in inRecords (mode-is form) (stop number offset) q)
+
+  text-tried : i .mode .form ≡ Text → st .struck ≡ textBefore (i .text) (i .proof) at .marks
+  text-tried form = text-matches (places i) (i .text) (i .proof) (in-form inText (mode-is form)) .marks
+
+  text-ended : i .mode .form ≡ Text → (number offset : ℕ) → Says (i .mode) (stop number offset) → st .struck ≡ textBefore (i .text) (i .proof) (at + offset) .marks
+  text-ended form number offset q =
+      text-stopped (places i) (i .text) (i .proof) (in-form inText (mode-is form)) number offset (says-in inText (mode-is form) (stop number offset) q) .marks
+
 -- For every input: what every lent place holds after the call.
 pub check-leaves : (i : Lent) → Leaves i (checked i)
 check-leaves i = fits? i (Leaves i (checked i)) fit (λ other. unchanged other (checked-seven i other))
   where
     v : Verdict
-    v = verdict.verdict (places i) (i .text) (i .proof)
+    v = verdict.verdict (i .mode) (places i) (i .text) (i .proof)
 
-    go : Fits i → (S : Sizes i) (v : Verdict) → Reported (places i) (S .columns .least) (i .text) (i .proof) v → Closed (places i) (i .text) (i .proof) v → Leaves i (done i v)
+    go : Fits i → (S : Sizes i) (v : Verdict) → Reported (places i) (S .columns .least) (i .mode) (i .text) (i .proof) v → Closed (i .mode) (places i) (i .text) (i .proof) v → Leaves i (done i v)
     go e S _ P (formula-refused {number} {place} {peak} named) = emptied e (refused-emptied i S number place peak named P)
     go e S _ P (proof-ended {n} {number} {offset} {at} {st} named R q) =
-        kept e (judged-kept i S R number (at + offset) (st .peak) named (marks-stopped (places i) (i .text) (i .proof) R number offset q) P)
+        kept e (judged-kept i S R number (at + offset) (st .peak) named (λ form. records-stopped i R form number offset q) (λ form. text-ended i R form number offset q) P)
     go e S _ P (proof-tried {n} {number} {peak} {at} named R _) =
-        kept e (judged-kept i S R number at peak ((λ _ _. named .1), λ _. omega (arith, named .0)) (marks-are (places i) (i .text) (i .proof) R) P)
+        kept e (judged-kept i S R number at peak (named .0) (records-tried i R) (text-tried i R) P)
 
     fit : Fits i → Leaves i (checked i)
     fit e =
         let S : Sizes i = sizes i e in
         subst (Leaves i) (sym (checked-fits i e))
-        (go e S v (peak-reported (places i) (S .columns .least) (i .text) (i .proof)) (ended-closed (places i) (i .text) (i .proof) v (ended (places i) (i .text) (i .proof))))
+        (go e S v (peak-reported (places i) (S .columns .least) (i .mode) (i .text) (i .proof)) (ended-closed (i .mode) (places i) (i .text) (i .proof) v (ended (i .mode) (places i) (i .text) (i .proof))))
 
--- Where the formula was read and the proof judged: number 0, or 9 and more.
-pub check-kept : (i : Lent) → Fits i → (checked i .number ≢ 0 → 9 ≤ checked i .number) → Kept i (checked i)
+-- Where the formula was read and the proof judged: the place is in the proof.
+pub check-kept : (i : Lent) → Fits i → checked i .inProof ≡ true → Kept i (checked i)
 check-kept i fits late = go (check-leaves i)
   where
     go : Leaves i (checked i) → Kept i (checked i)
     go (unchanged other is) = absurd (other fits)
-    go (emptied _ E) =
-        let most : checked i .number ≤ 8 = E .number .1 in
-        let nine : 9 ≤ checked i .number = late (λ z. omega (arith, E .number .0)) in absurd (omega arith)
+    go (emptied _ E) = t≢f (sym late ∙ E .in-formula)
     go (kept _ K) = K
 
 -- ---- entries
 
-module _ (i : Lent) (e : Fits i) {n : ℕ} {st : State} {at : ℕ} {m : Meant} (R : Reached (places i) (i .text) (i .proof) n st at m) where
+module _ (i : Lent) (e : Fits i) {n : ℕ} {st : State} {at : ℕ} {m : Meant} (R : Reached (i .mode) (places i) (i .text) (i .proof) n st at m) where
   abbrev v : Verdict
-  v = verdict.verdict (places i) (i .text) (i .proof)
+  v = verdict.verdict (i .mode) (places i) (i .text) (i .proof)
 
   left-same : (valueAt (checked i .columns) (checked i .count) ≡ valueAt (done i v .columns) (done i v .count)) × (checked i .count ≡ length (v .nodes)) × (checked i .lines ≡ v .lines)
   unfolding outcome
@@ -236,18 +270,18 @@ module _ (i : Lent) (e : Fits i) {n : ℕ} {st : State} {at : ℕ} {m : Meant} (
       → (a : Assignment) → valueAt (checked i .columns) (checked i .count) (entryNode st entry) a ≡ entryMeant m entry a
   unfolding outcome
   entry-left entry there stays a =
-      let S : Standing (places i) n m st = reached-standing (places i) (i .text) (i .proof) R .1 in
+      let S : Standing (places i) n m st = reached-standing (i .mode) (places i) (i .text) (i .proof) R .1 in
       let (inside, is) = entry-valued S entry there in
       let (same, count, lines) = left-same in
       ap (λ (f : ℕ → Assignment → Bool). f (entryNode st entry) a) same
       ∙ ap (λ (x : List Node). value (diagramAt x (entryNode st entry)) a) (read-back (places i) (v .nodes))
-      ∙ ap (λ (D : Diagram). value D a) (reached-onward (places i) (i .text) (i .proof) R .same (entryNode st entry) inside (omega arith)) ∙ is a
+      ∙ ap (λ (D : Diagram). value D a) (reached-onward (i .mode) (places i) (i .text) (i .proof) R .same (entryNode st entry) inside (omega arith)) ∙ is a
 
   -- The entries of a line that is accepted are not dropped: "with their nodes (those of all their entries)".
   pub entry-stays : (entry : ℕ) → isEntry st entry ≡ true → st .lines < checked i .lines → entryNode st entry < checked i .count
   entry-stays entry there accepted =
-      let S : Standing (places i) n m st = reached-standing (places i) (i .text) (i .proof) R .1 in
+      let S : Standing (places i) n m st = reached-standing (i .mode) (places i) (i .text) (i .proof) R .1 in
       let (inside, is) = entry-valued S entry there in
       let (same, count, lines) = left-same in
-      let stays : length (st .nodes) ≤ length (v .nodes) = reached-onward (places i) (i .text) (i .proof) R .stays (omega arith) in
+      let stays : length (st .nodes) ≤ length (v .nodes) = reached-onward (i .mode) (places i) (i .text) (i .proof) R .stays (omega arith) in
       omega arith

@@ -1,31 +1,43 @@
--- 19 is given only for a line of which a propagation ends without conflict before any diagram finds no room. The idea: the tests before it have other
--- numbers, and a line is judged by what is met first. Assumes nothing.
+-- 19 is given only for a line of which a propagation ends without conflict before any diagram finds no room, or for a clause that neither of its tries
+-- shows. The idea: the tests before it have other numbers, and a line is judged by what is met first. Assumes nothing.
 use mathlib.Core.Path.{_≡_, refl, sym, ap, _∙_, subst}
-use mathlib.Core.Bool.{Bool, not, _&&_, _||_, cond}
-use Prim.Native.Nat.{ℕ, _+_}
+use mathlib.Core.Logic.{inr}
+use mathlib.Core.Bool.{Bool, true, false, not, _&&_, _||_, cond}
+use mathlib.Core.List.{List, [], _∷_}
+use Prim.Native.Nat.{ℕ, _<_}
 use native.Mathlib.Omega.{arith}
 use lib.ListN.{length}
 use lib.Dec.{eqb, leb}
-use Rattle.meaning.specs.Rules.{witnessed}
+use borrow.Author.Tests.{leb-false}
+use Rattle.meaning.specs.Diagram.{leaf, same}
+use Rattle.meaning.specs.Operations as meaning
+use Rattle.meaning.specs.Rules.{Line, witnessed}
 use Rattle.meaning.specs.Words.{inWord}
 use Rattle.table.specs.Nodes.{above, Placing, full, placed, put, place}
+use Rattle.table.specs.Making.{lineReach}
 use Rattle.records.specs.declared.EntryNo.{EntryNo}
 use Rattle.records.specs.declared.NodeBody.{NodeBody}
 use Rattle.records.specs.declared.Rule.{Rule}
 use Rattle.records.specs.declared.Rule.the-variants.{Rup, Pr}
 use Rattle.records.specs.declared.Record.{Record}
 use Rattle.records.specs.declared.Record.the-variants.{NodeEntry, Witness, ProofLine, Strike, SetEntry, End, CutShort, UnknownKind, NoRecord}
-use Rattle.records.specs.Records.{recordAt}
-use Rattle.verdict.specs.Steps.{State, Step, next, stop, spent, isEntry, entryNode, isVariable, entered, nodeStep, witnessStep, waiting, judged, diagramIn, lineStep, isLive, strikeStep, beyond, noParity, setDiagram, setStep, endStep}
+use Rattle.commands.specs.declared.Form.{Form}
+use Rattle.commands.specs.declared.Form.the-variants.{Records, Text}
+use Rattle.commands.specs.Commands.{Command, recorded, added, struckOut, wrong, finished}
+use Rattle.verdict.specs.Steps.{State, withEntry, Step, next, stop, spent, isEntry, entryNode, isVariable, entered, nodeStep, witnessStep, waiting, accepted, judged, diagramIn, liveMembers, lineStep, isLive, strikeStep, beyond, noParity, setDiagram, setStep, endStep, recordStep}
+use Rattle.verdict.specs.Clausal.{withPeak, judgedOr, secondLine, secondTry, tries, onceMade, addStep}
 use Rattle.verdict.specs.Check.{step}
 use Rattle.verdict.specs.Taken.{lineOf, peakWith}
-use Rattle.verdict.specs.Run.{follows}
+use Rattle.verdict.specs.ClauseTaken.{firstLine, SecondFits}
+use Rattle.verdict.specs.Run.{commandIn}
 use Rattle.verdict.specs.MetFirst.{Met, all-shown, no-conflict, no-place, metBy, sayMet}
 use Rattle.verdict.proofs.Steps.{spent-other, next-not-spent, stop-not-spent, past-early}
-use Rattle.verdict.proofs.Numbers.{Numbered, step-numbered}
+use Rattle.verdict.proofs.ClauseSays.{StruckSays, FinishSays, struck-says, finish-says}
+use Rattle.verdict.proofs.Numbers.{NumberedIn, reached-numbered}
 use Rattle.verdict.proofs.MetFirst.{met-first}
-use Rattle.demands.specs.Leaving.{Lent, checked, places, EndsWith, AtEnd, AtLine}
+use Rattle.demands.specs.Leaving.{Lent, checked, places, EndsWith, AtEnd, SecondFails, ClauseNotShown, NotShown, AtLine}
 use Rattle.demands.proofs.Places.{check-place}
+use Rattle.demands.proofs.InProof.{in-proof-said}
 
 module _ (n s : ℕ) (st : State) {peak : ℕ} where
   entered-other : {A : Type 0} (p : Placing) → entered st p ≡ spent 19 peak → A
@@ -69,9 +81,9 @@ module _ (n s : ℕ) (st : State) {peak : ℕ} where
       let (p₄, e₄) = past-early (not (witnessed n (inWord (st .positive)) (inWord (st .negative)) (diagramIn st g))) 18 0 _ e₃ in
       judged-met Pr g e₄
 
-  record-met : (more : Bool) (r : Record) → step n s st more r ≡ spent 19 peak
+  record-met : (more : Bool) (r : Record) → recordStep n s st more r ≡ spent 19 peak
       → (rule : Rule) × (root : EntryNo) × (r ≡ ProofLine rule root) × (metBy n s st rule (entryNode st (root .0)) ≡ no-conflict)
-  unfolding step witnessStep strikeStep setStep endStep
+  unfolding recordStep witnessStep strikeStep setStep endStep
   record-met more (NodeEntry b) e = node-other b e
   record-met more (ProofLine rule root) e = (rule, root, refl, line-met rule (root .0) e)
   record-met more (Witness v b) e =
@@ -96,31 +108,81 @@ module _ (n s : ℕ) (st : State) {peak : ℕ} where
   record-met more UnknownKind e = stop-not-spent 9 0 e
   record-met more NoRecord e = stop-not-spent 10 0 e
 
--- "19: not shown: no conflict": the line at the place, all records before it taken; no conflict is met before a diagram without room.
-pub nineteen-only : (i : Lent) → checked i .number ≡ 19 → AtLine i (checked i) no-conflict
-nineteen-only i z = go (check-place i (λ _. omega arith))
-  where
-    -- 19 is given only once nodes were made
-    tried : (n : ℕ) (st : State) (at : ℕ) (x : Step) → step n (places i) st (follows (i .proof) at) (recordAt (i .proof) at) ≡ x → EndsWith x 19
-        → (rule : Rule) × (root : EntryNo) × (recordAt (i .proof) at ≡ ProofLine rule root) × (metBy n (places i) st rule (entryNode st (root .0)) ≡ no-conflict)
-    tried n st at (next st′) q e = absurd e
-    tried n st at (stop k offset) q e = absurd (subst Numbered q (step-numbered n (places i) st (follows (i .proof) at) (recordAt (i .proof) at)) .2 (e .0))
-    tried n st at (spent k peak) q e = record-met n (places i) st (follows (i .proof) at) (recordAt (i .proof) at) (q ∙ ap (λ (m : ℕ). spent m peak) (e .0))
+  -- ---- a clause
 
-    go : AtEnd i (checked i) → AtLine i (checked i) no-conflict
+  judged-fails : (x : State) (g : ℕ) (line : Line) → judged s x g line ≡ spent 19 peak → (lineReach s (x .nodes) line .fits ≡ true) × (line .shown ≡ false)
+  unfolding judged
+  judged-fails x g line e = go (lineReach s (x .nodes) line .fits) refl (line .shown) refl e
+    where
+      go : (fits : Bool) → lineReach s (x .nodes) line .fits ≡ fits → (shown : Bool) → line .shown ≡ shown
+          → cond (not fits) (spent 23 (peakWith s x line)) (cond (not shown) (spent 19 (peakWith s x line)) (next (accepted x g line (peakWith s x line)))) ≡ spent 19 peak
+          → (lineReach s (x .nodes) line .fits ≡ true) × (line .shown ≡ false)
+      go false q shown r e = spent-other 23 _ refl e
+      go true q true r e = next-not-spent _ e
+      go true q false r e = (q, r)
+
+  second-fails : (x : State) (k : ℕ) (ls : List meaning.Literal) (most : ℕ) → secondTry n s x k ls most ≡ spent 19 peak
+      → SecondFits n s (x .nodes) (liveMembers x) ls × SecondFails n (liveMembers x) ls
+  unfolding secondTry
+  second-fails x k [] most e = (tt, tt)
+  second-fails x k (p ∷ ls) most e = judged-fails (withPeak x most) k (secondLine n (liveMembers x) p ls) e
+
+  tries-fail : (x : State) (k : ℕ) (ls : List meaning.Literal) → tries n s x k ls ≡ spent 19 peak
+      → (lineReach s (x .nodes) (firstLine n x ls) .fits ≡ true) × (firstLine n x ls .shown ≡ false) × SecondFits n s (x .nodes) (liveMembers x) ls × SecondFails n (liveMembers x) ls
+  unfolding tries judgedOr
+  tries-fail x k ls e = go (lineReach s (x .nodes) first .fits) refl (first .shown) refl e
+    where
+      first : Line
+      first = firstLine n x ls
+
+      go : (fits : Bool) → lineReach s (x .nodes) (firstLine n x ls) .fits ≡ fits → (shown : Bool) → firstLine n x ls .shown ≡ shown
+          → cond (not fits) (spent 23 (peakWith s x first)) (cond (not shown) (secondTry n s x k ls (peakWith s x first)) (next (accepted x k first (peakWith s x first)))) ≡ spent 19 peak
+          → (lineReach s (x .nodes) (firstLine n x ls) .fits ≡ true) × (firstLine n x ls .shown ≡ false) × SecondFits n s (x .nodes) (liveMembers x) ls × SecondFails n (liveMembers x) ls
+      go false q shown r e = spent-other 23 _ refl e
+      go true q true r e = next-not-spent _ e
+      go true q false r e = let (fits, fails) = second-fails x k ls (peakWith s x first) e in (q, r, fits, fails)
+
+  clause-met : (ls : List meaning.Literal) → addStep n s st ls ≡ spent 19 peak → ClauseNotShown n s st ls
+  unfolding addStep
+  clause-met ls e =
+      let (p₁, e₁) = past-early (leb 1024 (st .lines)) 22 0 _ e in
+      let (p₂, e₂) = past-early (same (meaning.clause n ls) (leaf true)) 17 0 _ e₁ in
+      go (leb-false 1024 (st .lines) p₁) (place s (st .nodes) (meaning.clause n ls)) refl e₂
+    where
+      go : st .lines < 1024 → (q : Placing) → place s (st .nodes) (meaning.clause n ls) ≡ q → onceMade st q (λ st₁ k. tries n s st₁ k ls) ≡ spent 19 peak → ClauseNotShown n s st ls
+      go few (full t) r e = spent-other 23 _ refl e
+      go few (placed t k) r e =
+          let (fits, failed, second, fails) = tries-fail (withEntry st t k) k ls e in
+          record { nodes = t; node = k; room = record { few = few; made = r; first-fits = fits; second-fits = second }; first-fails = failed; second-fails = fails }
+
+  command-met : (c : Command) → step n s st c ≡ spent 19 peak → NotShown n s st c
+  unfolding step
+  command-met (recorded r more) e = record-met more r e
+  command-met (added ls) e = clause-met ls e
+  command-met (struckOut ls) e = absurd (subst StruckSays e (struck-says n st ls))
+  command-met (wrong number offset) e = stop-not-spent number offset e
+  command-met finished e = absurd (subst FinishSays e (finish-says st))
+
+-- 19 is given only once nodes were made
+not-early : (form : Form) (number offset : ℕ) → NumberedIn form (stop number offset) → number ≡ 19 → ⊥
+not-early Records number offset N z = N .2 z
+not-early Text number offset N z = N .5 z
+
+-- "19: not shown: no conflict": the line or clause at the place, all commands before it taken; no conflict is met before a diagram without room.
+pub nineteen-only : (i : Lent) → checked i .number ≡ 19 → AtLine i (checked i .place)
+nineteen-only i z = go (check-place i (in-proof-said i (inr (omega arith))))
+  where
+    tried : (n : ℕ) (st : State) (c : Command) (x : Step) → step n (places i) st c ≡ x → NumberedIn (i .mode .form) x → (offset : ℕ) → EndsWith x 19 offset
+        → NotShown n (places i) st c × (offset ≡ 0)
+    tried n st c (next st′) q N offset e = absurd e
+    tried n st c (stop k o) q N offset e = absurd (not-early (i .mode .form) k o N (e .0))
+    tried n st c (spent k peak) q N offset e = (command-met n (places i) st c (q ∙ ap (λ (m : ℕ). spent m peak) (e .0)), e .1)
+
+    go : AtEnd i (checked i) → AtLine i (checked i .place)
     go E =
-        let x : Step = step (E .n) (places i) (E .state) (follows (i .proof) (E .at)) (recordAt (i .proof) (E .at)) in
-        let (rule, root, here, meets) = tried (E .n) (E .state) (E .at) x refl (subst (EndsWith x) z (E .says)) in
-        let offset : E .at + 0 ≡ E .at = omega arith in
-        record {
-          n = E .n;
-          state = E .state;
-          at = E .at;
-          meant = E .meant;
-          reached = E .reached;
-          rule = rule;
-          root = root;
-          here = here;
-          meets = meets;
-          place = E .place ∙ ap (λ (k : ℕ). E .at + cond (eqb k 11) 1 0) z ∙ offset;
-        }
+        let c : Command = commandIn (i .mode) (i .proof) (E .n) (E .at) in
+        let x : Step = step (E .n) (places i) (E .state) c in
+        let (fails, here) = tried (E .n) (E .state) c x refl (reached-numbered (i .mode) (places i) (i .text) (i .proof) (E .reached)) (E .offset)
+        (subst (λ (k : ℕ). EndsWith x k (E .offset)) z (E .says)) in
+        let place : E .at ≡ checked i .place = omega (arith, E .place) in
+        subst (AtLine i) place (record { n = E .n; state = E .state; meant = E .meant; reached = E .reached; not-shown = fails })

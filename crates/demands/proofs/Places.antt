@@ -1,33 +1,34 @@
--- The place that the check gives for a record: its first byte; for 11 the byte behind it; the proof's length where no record begins. The idea: each
--- number stands in the definition with its place. Assumes nothing.
+-- The place that the check gives for a command: its first byte; for 11 the byte behind it; for 3 and 4 the token; the proof's length where no record
+-- begins and at a text's end. The idea: each number stands in the definition with its place. Assumes nothing.
 use mathlib.Core.Path.{_≡_, refl, sym, ap, _∙_, subst}
-use mathlib.Core.Bool.{false, cond}
+use mathlib.Core.Bool.{true}
 use mathlib.Core.List.{List, [], _∷_}
 use Prim.Native.Nat.{ℕ, _+_, _-_, _≤_}
 use native.Mathlib.Omega.{arith}
 use lib.ListN.{length, drop, length-drop}
 use lib.Dec.{eqb, ltb}
 use borrow.Author.Tests.{ne-eqb}
+use Rattle.meaning.proofs.Booleans.{t≢f}
 use Rattle.records.specs.declared.Record.{Record}
 use Rattle.records.specs.declared.Record.the-variants.{NodeEntry, Witness, ProofLine, Strike, SetEntry, End, CutShort, UnknownKind, NoRecord}
 use Rattle.records.specs.Records.{nodeIn, witnessIn, lineIn, strikeIn, setIn, whole, recordOf, recordIn, recordAt}
-use Rattle.verdict.specs.Steps.{State, Step, stop}
+use Rattle.commands.specs.declared.Form.{Form}
+use Rattle.commands.specs.declared.Form.the-variants.{Records, Text}
+use Rattle.commands.specs.declared.Mode.{Mode}
+use Rattle.commands.specs.Commands.{Command, recorded, added, struckOut, wrong, finished, commandAt, textRead}
+use Rattle.commands.proofs.Onward.{CommandIn, text-in}
+use Rattle.verdict.specs.Steps.{State, Step, stop, spent}
 use Rattle.verdict.specs.Check.{step, Outcome, outcome}
-use Rattle.verdict.specs.Run.{follows, no-header, not-read, no-room, stopped, tried}
-use Rattle.verdict.proofs.Formula.{NamedHeader, header-named, either}
-use Rattle.verdict.proofs.Numbers.{making-refused, Numbered, step-numbered}
+use Rattle.verdict.specs.Run.{commandIn, no-header, not-read, no-room, stopped, tried}
+use Rattle.verdict.proofs.Formula.{either}
+use Rattle.verdict.proofs.Commands.{Fit}
+use Rattle.verdict.proofs.ClauseSays.{FinishSays, finish-says}
+use Rattle.verdict.proofs.Numbers.{Numbered, record-numbered}
 use Rattle.verdict.proofs.Steps.{stop-not-spent}
-use Rattle.verdict.proofs.Offsets.{Offset, at-record, at-striking, behind-end, Placed, step-placed}
-use Rattle.verdict.proofs.Exactly.{Ahead, reached-ahead}
-use Rattle.demands.specs.Leaving.{Lent, checked, places, Ends, wrong-size, at-place, EndsWith, AtEnd}
+use Rattle.verdict.proofs.Ends.{reached-in, reached-fit}
+use Rattle.demands.specs.Leaving.{Lent, checked, places, Ends, wrong-size, at-place, EndsWith, OffsetOf, NoneBegun, AtEnd}
 use Rattle.demands.proofs.Ending.{check-ends}
-
--- ---- the offset of a number
-
-offset-of : (st : State) (r : Record) (number offset : ℕ) → Offset st r number offset → offset ≡ cond (eqb number 11) 1 0
-offset-of st r number offset (at-record here other _) = rw (here, other)
-offset-of st r number offset (at-striking here number-is _ _ _) = rw (here, number-is)
-offset-of st r number offset (behind-end behind number-is _) = rw (behind, number-is)
+use Rattle.demands.proofs.Offsets.{command-offset}
 
 -- ---- no record begun
 
@@ -67,52 +68,94 @@ none-begun proof at e = go (drop at proof) (length-drop at proof) e
     go [] len e = omega arith
     go (kind ∷ body) len e = absurd (subst Begun e (kind-begun kind body))
 
+-- at the end of what is read
+command-none : (mode : Mode) (proof : List ℕ) (n at : ℕ) → at ≤ length proof → NoneBegun (commandIn mode proof n at) → at ≡ length proof
+command-none mode proof n at within none = go (mode .form) none
+  where
+    go : (form : Form) → NoneBegun (commandAt form proof n at .command) → at ≡ length proof
+    go Records none = omega (arith, within, none-begun proof at none)
+    go Text none = ended (textRead proof n at .command) (textRead proof n at .next) (text-in proof n at within) none
+      where
+        ended : (c : Command) (next : ℕ) → CommandIn proof n at c next → NoneBegun c → at ≡ length proof
+        ended (recorded r more) next I none = absurd I
+        ended (added ls) next I none = absurd none
+        ended (struckOut ls) next I none = absurd none
+        ended (wrong k o) next I none = absurd none
+        ended finished next I none = I .1
+
+-- and its number stands there
+none-offset : (n s : ℕ) (st : State) (c : Command) → NoneBegun c → (number offset : ℕ) → step n s st c ≡ stop number offset → offset ≡ 0
+unfolding step
+none-offset n s st (recorded r more) none number offset e =
+    let ten : stop 10 0 ≡ stop number offset = sym (ap (λ (x : Record). step n s st (recorded x more)) none) ∙ e in cc
+none-offset n s st (added ls) none number offset e = absurd none
+none-offset n s st (struckOut ls) none number offset e = absurd none
+none-offset n s st (wrong k o) none number offset e = absurd none
+none-offset n s st finished none number offset e = subst FinishSays e (finish-says st) .1
+
+none-not-spent : {A : Type 0} (n s : ℕ) (st : State) (c : Command) → NoneBegun c → (number peak : ℕ) → step n s st c ≡ spent number peak → A
+unfolding step
+none-not-spent n s st (recorded r more) none number peak e = stop-not-spent _ _ (sym (ap (λ (x : Record). step n s st (recorded x more)) none) ∙ e)
+none-not-spent n s st (added ls) none number peak e = absurd none
+none-not-spent n s st (struckOut ls) none number peak e = absurd none
+none-not-spent n s st (wrong k o) none number peak e = absurd none
+none-not-spent n s st finished none number peak e = absurd (subst FinishSays e (finish-says st))
+
+-- what is refused once nodes were made is refused at the first byte
+spent-offset : (form : Form) (n s : ℕ) (st : State) (c : Command) → Fit form n c → (number peak : ℕ) → step n s st c ≡ spent number peak → OffsetOf c number 0
+unfolding step
+spent-offset Records n s st (recorded r more) fit number peak e =
+    let N : (19 ≤ number) × (number ≤ 23) = subst Numbered e (record-numbered n s st more r) in rw (ne-eqb number 11 (λ z. omega (arith, N .0))) refl
+spent-offset Records n s st (added ls) fit number peak e = absurd fit
+spent-offset Records n s st (struckOut ls) fit number peak e = absurd fit
+spent-offset Records n s st (wrong k o) fit number peak e = absurd fit
+spent-offset Records n s st finished fit number peak e = absurd fit
+spent-offset Text n s st (recorded r more) fit number peak e = absurd fit
+spent-offset Text n s st (added ls) fit number peak e = refl
+spent-offset Text n s st (struckOut ls) fit number peak e = refl
+spent-offset Text n s st (wrong k o) fit number peak e = stop-not-spent _ _ e
+spent-offset Text n s st finished fit number peak e = refl
+
 -- ---- the call
 
--- The place of a number of the proof: 0, 9 to 23, 28 and 29.
-pub check-place : (i : Lent) → (1 ≤ checked i .number → 9 ≤ checked i .number) → AtEnd i (checked i)
-unfolding outcome step
+-- The place of a number of the proof.
+pub check-place : (i : Lent) → checked i .inProof ≡ true → AtEnd i (checked i)
+unfolding outcome
 check-place i late = go (checked i) (check-ends i) late
   where
-    length-at : (n : ℕ) (st : State) (at number offset : ℕ) → step n (places i) st (follows (i .proof) at) (recordAt (i .proof) at) ≡ stop number offset
-        → recordAt (i .proof) at ≡ NoRecord → length (i .proof) ≤ at → at ≤ length (i .proof) → at + offset ≡ length (i .proof)
-    length-at n st at number offset q none least most =
-        let ten : stop 10 0 ≡ stop number offset = sym (ap (step n (places i) st (follows (i .proof) at)) none) ∙ q in
-        let here : offset ≡ 0 = cc in omega arith
-
-    go : (o : Outcome) → Ends i o → (1 ≤ o .number → 9 ≤ o .number) → AtEnd i o
-    go _ (wrong-size other) late = let nine : 9 ≤ 7 = late (omega arith) in absurd (omega arith)
-    go _ (at-place e (no-header {number} {place} h)) late =
-        let early : (1 ≤ number) × (number ≤ 6) = subst NamedHeader h (header-named (i .text)) in
-        let nine : 9 ≤ number = late (early .0) in absurd (omega arith)
-    go _ (at-place e (not-read {n} {many} {number} {place} M)) late =
-        let early : (1 ≤ number) × (number ≤ 6) = making-refused (places i) (i .text) M in
-        let nine : 9 ≤ number = late (early .0) in absurd (omega arith)
-    go _ (at-place e (no-room M full-there)) late = let nine : 9 ≤ 8 = late (omega arith) in absurd (omega arith)
+    go : (o : Outcome) → Ends i o → o .inProof ≡ true → AtEnd i o
+    go _ (wrong-size other) late = t≢f (sym late)
+    go _ (at-place e (no-header h)) late = t≢f (sym late)
+    go _ (at-place e (not-read M)) late = t≢f (sym late)
+    go _ (at-place e (no-room M full-there)) late = t≢f (sym late)
     go _ (at-place e (stopped {n} {number} {offset} {at} {st} {m} R q)) late =
-        let r : Record = recordAt (i .proof) at in
-        let is : offset ≡ cond (eqb number 11) 1 0 = offset-of st r number offset (subst (Placed st r) q (step-placed n (places i) st (follows (i .proof) at) r)) in
-        let A : Ahead (places i) (i .text) (i .proof) n st at = reached-ahead (places i) (i .text) (i .proof) R in
+        let c : Command = commandIn (i .mode) (i .proof) n at in
+        let within : at ≤ length (i .proof) = reached-in (i .mode) (places i) (i .text) (i .proof) R in
         record {
           n = n;
           state = st;
           at = at;
+          offset = offset;
           meant = m;
           reached = R;
-          says = subst (λ (x : Step). EndsWith x number) (sym q) (refl, is);
-          place = ap (λ (k : ℕ). at + k) is;
-          none-begun = λ none. length-at n st at number offset q none (none-begun (i .proof) at none) (A .within);
+          says = subst (λ (x : Step). EndsWith x number offset) (sym q) (refl, refl);
+          place = refl;
+          stands = command-offset (i .mode .form) n (places i) st c (reached-fit (i .mode) (places i) (i .text) (i .proof) R) number offset q;
+          none-begun = λ none.
+              let there : at ≡ length (i .proof) = command-none (i .mode) (i .proof) n at within none in
+              let here : offset ≡ 0 = none-offset n (places i) st c none number offset q in omega arith;
         }
     go _ (at-place e (tried {n} {number} {peak} {at} {st} {m} R q)) late =
-        let N : (19 ≤ number) × (number ≤ 23) = subst Numbered q (step-numbered n (places i) st (follows (i .proof) at) (recordAt (i .proof) at)) in
-        let other : eqb number 11 ≡ false = ne-eqb number 11 (λ z. omega (arith, N .0)) in
+        let c : Command = commandIn (i .mode) (i .proof) n at in
         record {
           n = n;
           state = st;
           at = at;
+          offset = 0;
           meant = m;
           reached = R;
-          says = subst (λ (x : Step). EndsWith x number) (sym q) (refl, other);
-          place = rw other (let z : at ≡ at + 0 = omega arith in z);
-          none-begun = λ none. stop-not-spent _ _ (sym (ap (step n (places i) st (follows (i .proof) at)) none) ∙ q);
+          says = subst (λ (x : Step). EndsWith x number 0) (sym q) (refl, refl);
+          place = let z : at ≡ at + 0 = omega arith in z;
+          stands = spent-offset (i .mode .form) n (places i) st c (reached-fit (i .mode) (places i) (i .text) (i .proof) R) number peak q;
+          none-begun = λ none. none-not-spent n (places i) st c none number peak q;
         }

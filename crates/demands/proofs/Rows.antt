@@ -23,13 +23,14 @@ use Rattle.records.specs.declared.Rule.the-variants.{Rup}
 use Rattle.records.specs.declared.Record.{Record}
 use Rattle.records.specs.declared.Record.the-variants.{NodeEntry, ProofLine, CutShort}
 use Rattle.records.specs.Records.{lowByteFirst, recordIn, recordAt, lengthOf}
+use Rattle.commands.specs.Commands.{inRecords}
 use Rattle.operate.specs.declared.Operation.the-variants.{Negation, Cofactor}
 use Rattle.single.specs.Single.{evaluation, operation}
-use Rattle.verdict.specs.Steps.{State, emptied, begun, isEntry, entryNode, nodeStep, waiting, accepted, unstruck, lineStep}
+use Rattle.verdict.specs.Steps.{State, emptied, begun, isEntry, entryNode, nodeStep, waiting, accepted, unstruck, lineStep, recordStep}
 use Rattle.verdict.specs.Check.{step}
 use Rattle.verdict.specs.Steps.{withEntry}
-use Rattle.verdict.specs.Taken.{Meant, afterRecord, NodeTaken, lineOf, peakWith, LineTaken, Taken}
-use Rattle.verdict.specs.Run.{Making, opened, made, Reached, begins, goes}
+use Rattle.verdict.specs.Taken.{Meant, NodeTaken, lineOf, peakWith, LineTaken, Taken}
+use Rattle.verdict.specs.Run.{commandIn, afterCommand, Making, opened, made, Reached, begins, goes}
 use Rattle.verdict.specs.Cases.{Gives, checked, prints, printed, bytes, over, rupLine}
 use Rattle.verdict.proofs.Exactly.{reached-stops}
 
@@ -116,7 +117,7 @@ entered-next j few st E = (
 record Before (proof : List ℕ) (j : ℕ) : Type 0 where
   state : State
   meant : Meant
-  reached : Reached 4096 text-21 proof 1 state (6 * j) meant
+  reached : Reached inRecords 4096 text-21 proof 1 state (6 * j) meant
   entered : Entered j state
 
 before : (k : ℕ) → k ≤ 4097 → (j : ℕ) → j < k → Before (nodeRecords k) j
@@ -129,22 +130,22 @@ before k most (suc j) p =
     let (T, E) = entered-next j (omega arith) (B .state) (B .entered) in
     let six : 6 * j + 6 ≡ 6 * suc j = omega arith in
     let R = goes (B .reached) (subst (λ (r : Record). Taken 1 4096 (B .state) r (withEntry (B .state) one-node 2)) (sym here) T) in
-    let m : Meant = afterRecord (B .meant) (recordAt (nodeRecords k) (6 * j)) in
+    let m : Meant = afterCommand (B .meant) (commandIn inRecords (nodeRecords k) 1 (6 * j)) in
     record {
       state = withEntry (B .state) one-node 2;
       meant = m;
-      reached = subst (λ (x : ℕ). Reached 4096 text-21 (nodeRecords k) 1 (withEntry (B .state) one-node 2) x m) (ap (λ (r : Record). 6 * j + lengthOf r) here ∙ six) R;
+      reached = subst (λ (x : ℕ). Reached inRecords 4096 text-21 (nodeRecords k) 1 (withEntry (B .state) one-node 2) x m) (ap (λ (r : Record). 6 * j + lengthOf r) here ∙ six) R;
       entered = E;
     }
 
 -- "21: over 4,096 entries: node record 4,097 of a line"
 pub twenty-one : Gives (checked 4096 "p cnf 1 0\n" (nodeRecords 4097) (prints 21 24576 0 0 3))
-unfolding step nodeStep
+unfolding step recordStep nodeStep
 twenty-one =
     let B : Before (nodeRecords 4097) 4096 = before 4097 (omega arith) 4096 (omega arith) in
     let here : recordAt (nodeRecords 4097) 24576 ≡ NodeEntry body = record-there 4096 0 in
     let over : leb 4096 (length (B .state .entries)) ≡ true = le-leb 4096 (length (B .state .entries)) (omega (arith, B .entered .entries)) in
-    ap printed (reached-stops 4096 text-21 (nodeRecords 4097) (B .reached) 21 0 (rw (here, over))) ∙ rw (B .entered .lines, B .entered .rounds, B .entered .peak (omega arith))
+    ap printed (reached-stops inRecords 4096 text-21 (nodeRecords 4097) (B .reached) 21 0 (rw (here, over))) ∙ rw (B .entered .lines, B .entered .rounds, B .entered .peak (omega arith))
 
 -- ---- line 1,025
 
@@ -264,7 +265,7 @@ accepted-next j few st A =
 record Before-22 (proof : List ℕ) (j : ℕ) : Type 0 where
   state : State
   meant : Meant
-  reached : Reached 4096 text-22 proof 0 state (3 * j) meant
+  reached : Reached inRecords 4096 text-22 proof 0 state (3 * j) meant
   accepted : Accepted j state
 
 before-22 : (k : ℕ) → k ≤ 1025 → (j : ℕ) → j < k → Before-22 (rupLines k) j
@@ -279,24 +280,24 @@ before-22 k most (suc j) p =
     let (T, A) = accepted-next j (omega arith) (B .state) (B .accepted) in
     let three : 3 * j + 3 ≡ 3 * suc j = omega arith in
     let R = goes (B .reached) (subst (λ (r : Record). Taken 0 4096 (B .state) r st) (sym here) T) in
-    let m : Meant = afterRecord (B .meant) (recordAt (rupLines k) (3 * j)) in
+    let m : Meant = afterCommand (B .meant) (commandIn inRecords (rupLines k) 0 (3 * j)) in
     record {
       state = st;
       meant = m;
-      reached = subst (λ (x : ℕ). Reached 4096 text-22 (rupLines k) 0 st x m) (ap (λ (r : Record). 3 * j + lengthOf r) here ∙ three) R;
+      reached = subst (λ (x : ℕ). Reached inRecords 4096 text-22 (rupLines k) 0 st x m) (ap (λ (r : Record). 3 * j + lengthOf r) here ∙ three) R;
       accepted = A;
     }
 
 -- "22: over 1,024 lines: line 1,025"
 pub twenty-two : Gives (checked 4096 "p cnf 0 1\n0\n" (rupLines 1025) (prints 22 3072 1024 0 2))
-unfolding step lineStep isEntry
+unfolding step recordStep lineStep isEntry
 twenty-two =
     let B : Before-22 (rupLines 1025) 1024 = before-22 1025 (omega arith) 1024 (omega arith) in
     let A : Accepted 1024 (B .state) = B .accepted in
     let here : recordAt (rupLines 1025) 3072 ≡ ProofLine Rup (record { 0 = 0 }) = line-there 1024 0 in
     let entry : ltb 0 (suc (suc (length (B .state .entries)))) ≡ true = lt-ltb 0 (suc (suc (length (B .state .entries)))) (omega arith) in
     let over : leb 1024 (B .state .lines) ≡ true = le-leb 1024 (B .state .lines) (omega (arith, A .lines)) in
-    ap printed (reached-stops 4096 text-22 (rupLines 1025) (B .reached) 22 0 (rw (here, entry, A .none-waits, over))) ∙ rw (A .lines, A .rounds, A .peak)
+    ap printed (reached-stops inRecords 4096 text-22 (rupLines 1025) (B .reached) 22 0 (rw (here, entry, A .none-waits, over))) ∙ rw (A .lines, A .rounds, A .peak)
 
 -- ---- the single calls
 

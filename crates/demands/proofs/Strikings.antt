@@ -1,39 +1,48 @@
--- What 02's 3/14 says of strikings: 28 is given exactly for a member that is not there or is struck already, and lines look at the live members alone.
--- The idea: only strikings give 28, and a mark is 0 or 1. Assumes nothing.
+-- What 02's 3/14 and 4/14 say of strikings: 28 is given exactly for a member that is not there or is struck already, and for a clause that is no live
+-- member; lines look at the live members alone. The idea: only strikings give 28, and a mark is 0 or 1. Assumes nothing.
 use mathlib.Core.Path.{_≡_, refl, sym, ap, _∙_, subst}
-use mathlib.Core.Logic.{_↔_}
+use mathlib.Core.Logic.{_⊎_, inl, inr, _↔_}
 use mathlib.Core.Bool.{Bool, true, false, _&&_, cond}
-use mathlib.Core.List.{List, [], _∷_, map}
-use Prim.Native.Nat.{ℕ, zero, suc, _+_, _<_}
+use mathlib.Core.List.{List}
+use mathlib.Core.Option.{Option, none, some}
+use Prim.Native.Nat.{ℕ, _+_, _<_}
 use native.Mathlib.Omega.{arith}
 use lib.ListN.{length, getD, length-map}
 use lib.Dec.{eqb, ltb}
 use borrow.Author.Tests.{ltb-false, le-ltb, eqb-false}
 use Rattle.meaning.specs.Diagram.{Diagram}
+use Rattle.meaning.specs.Operations as meaning
 use Rattle.records.specs.declared.Record.{Record}
-use Rattle.records.specs.Records.{recordAt}
-use Rattle.verdict.specs.Steps.{State, Step, next, stop, spent, diagramIn, unstruck, liveMembers, isLive, strikeStep}
+use Rattle.commands.specs.declared.Form.{Form}
+use Rattle.commands.specs.declared.Form.the-variants.{Records, Text}
+use Rattle.commands.specs.declared.Mode.{Mode}
+use Rattle.commands.specs.Commands.{Command, recorded, added, struckOut, wrong, finished, inRecords}
+use Rattle.verdict.specs.Steps.{State, Step, next, stop, spent, diagramIn, unstruck, liveMembers, isLive, strikeStep, recordStep}
+use Rattle.verdict.specs.Clausal.{firstSame, strikeFound, strikeClause}
 use Rattle.verdict.specs.Check.{step, Verdict, verdict, Outcome, outcome}
 use Rattle.verdict.specs.Taken.{Meant}
-use Rattle.verdict.specs.Run.{Reached, follows}
+use Rattle.verdict.specs.ClauseTaken.{IsThere}
+use Rattle.verdict.specs.Run.{commandIn, Reached}
 use Rattle.verdict.specs.Marks.{strikingsBefore, isIn}
-use Rattle.verdict.proofs.Numbers.{Numbered, step-numbered}
+use Rattle.verdict.proofs.Steps.{stop-not-next}
+use Rattle.verdict.proofs.Striking.{first-none, absent-refused}
+use Rattle.verdict.proofs.Commands.{Fit}
+use Rattle.verdict.proofs.ClauseSays.{AddedSays, FinishSays, added-says, finish-says}
+use Rattle.verdict.proofs.Ends.{reached-fit}
+use Rattle.verdict.proofs.Numbers.{NumberedIn, spent-number, reached-numbered}
 use Rattle.verdict.proofs.Exactly.{reached-stops}
 use Rattle.verdict.proofs.Live.{unstruck-has, unstruck-only}
-use Rattle.verdict.proofs.Offsets.{Offset, at-record, at-striking, behind-end, Placed, step-placed}
+use Rattle.verdict.proofs.Offsets.{Offset, at-record, at-striking, behind-end, Placed, record-placed}
 use Rattle.verdict.proofs.Marks.{marks-are}
-use Rattle.demands.specs.Words.{memberAt, Among, AmongLive}
-use Rattle.demands.specs.Leaving.{Lent, checked, Fits, places, EndsWith, AtEnd, NotLive, not-there, struck-already, AtStriking}
+use Rattle.demands.specs.Words.{Among, AmongLive}
+use Rattle.demands.specs.Leaving.{Lent, checked, Fits, places, EndsWith, OffsetOf, AtEnd, NotLive, not-there, struck-already, Absent, AtStriking}
+use Rattle.demands.proofs.Modes.{mode-is}
 use Rattle.demands.proofs.Ending.{checked-fits}
+use Rattle.demands.proofs.TextMembers.{map-at}
 use Rattle.demands.proofs.Places.{check-place}
+use Rattle.demands.proofs.InProof.{in-proof-said}
 
 -- ---- live members
-
--- the diagram of a number that is there
-map-at : (f : ℕ → Diagram) (ks : List ℕ) (i : ℕ) → i < length ks → memberAt (map f ks) i ≡ f (getD ks i 0)
-map-at f [] i p = absurd (omega arith)
-map-at f (k ∷ ks) zero p = refl
-map-at f (k ∷ ks) (suc i) p = map-at f ks i (omega arith)
 
 -- "Making, propagation and PR pass over struck members": a diagram is among those that a line looks at exactly where a member that is not struck has it.
 pub live-exactly : (st : State) (D : Diagram) → Among (liveMembers st) D ↔ AmongLive st D
@@ -55,7 +64,7 @@ live-exactly st D = (to, from)
 
 -- ---- 28
 
-module _ (s : ℕ) (text proof : List ℕ) {n : ℕ} {st : State} {at : ℕ} {m : Meant} (R : Reached s text proof n st at m) (k : ℕ) where
+module _ (s : ℕ) (text proof : List ℕ) {n : ℕ} {st : State} {at : ℕ} {m : Meant} (R : Reached inRecords s text proof n st at m) (k : ℕ) where
   -- a mark that is not 0 is 1
   mark-one : eqb (getD (st .struck) k 0) 0 ≡ false → getD (st .struck) k 0 ≡ 1
   mark-one other = go (isIn k (strikingsBefore proof at)) (marks-are s text proof R k)
@@ -73,65 +82,113 @@ module _ (s : ℕ) (text proof : List ℕ) {n : ℕ} {st : State} {at : ℕ} {m 
       go true p false q e = struck-already (mark-one q)
       go true p true q e = let z : true ≡ false = e in let y : _≡_ {A = ℕ} 0 1 = cc in absurd (omega arith)
 
-  not-live : NotLive st k → isLive st k ≡ false
-  unfolding isLive
-  not-live (not-there p) = rw (le-ltb k (length (st .members)) p)
-  not-live (struck-already e) = rw e (go (ltb k (length (st .members))))
-    where
-      go : (c : Bool) → (c && false) ≡ false
-      go true = refl
-      go false = refl
+not-live : (st : State) (k : ℕ) → NotLive st k → isLive st k ≡ false
+unfolding isLive
+not-live st k (not-there p) = rw (le-ltb k (length (st .members)) p)
+not-live st k (struck-already e) = rw e (go (ltb k (length (st .members))))
+  where
+    go : (c : Bool) → (c && false) ≡ false
+    go true = refl
+    go false = refl
 
--- "It refuses with 28 a member that does not exist or is struck already, after 10 and then 16 for a waiting witness", at the record.
-pub twenty-eight-exactly : (i : Lent) → Fits i → (at : ℕ) → ((checked i .number ≡ 28) × (checked i .place ≡ at)) ↔ AtStriking (places i) (i .text) (i .proof) at
-unfolding outcome step strikeStep
+-- a `d` clause that is refused is no live member's diagram
+clause-absent : (n : ℕ) (st : State) (ls : List meaning.Literal) (number offset : ℕ) → strikeClause n st ls ≡ stop number offset
+    → (k : ℕ) → k < length (st .members) → IsThere st (meaning.clause n ls) k → ⊥
+unfolding strikeClause
+clause-absent n st ls number offset e = go (firstSame (length (st .members)) st 0 (meaning.clause n ls)) refl e
+  where
+    go : (o : Option ℕ) → firstSame (length (st .members)) st 0 (meaning.clause n ls) ≡ o → strikeFound st o ≡ stop number offset
+        → (k : ℕ) → k < length (st .members) → IsThere st (meaning.clause n ls) k → ⊥
+    go none q e k p there = first-none st (meaning.clause n ls) (length (st .members)) 0 q k (omega arith) (omega arith) there
+    go (some j) q e k p there = stop-not-next number offset _ (sym e)
+
+module _ (mode : Mode) (s : ℕ) (text proof : List ℕ) {n : ℕ} {st : State} {at : ℕ} {m : Meant} (R : Reached mode s text proof n st at m) where
+  record-absent : mode .form ≡ Records → (r : Record) (more : Bool) (k offset : ℕ) → k ≡ 28 → Offset st r k offset → Absent n st (recorded r more)
+  record-absent form r more k offset e (at-record _ _ other) = absurd (eqb-false k 28 other e)
+  record-absent form r more k offset e (behind-end _ eleven _) = absurd (omega arith)
+  record-absent form r more k offset e (at-striking {member} _ _ is quiet lost) =
+      (member, is, quiet, dead s text proof (subst (λ (x : Mode). Reached x s text proof n st at m) (mode-is form) R) (member .0) lost)
+
+  early-other : (k : ℕ) → ((k ≡ 17) ⊎ (k ≡ 22)) → k ≡ 28 → ⊥
+  early-other k (inl q) e = absurd (omega arith)
+  early-other k (inr q) e = absurd (omega arith)
+
+  end-other : (k : ℕ) → ((k ≡ 0) ⊎ (k ≡ 20)) → k ≡ 28 → ⊥
+  end-other k (inl q) e = absurd (omega arith)
+  end-other k (inr q) e = absurd (omega arith)
+
+  -- 28 is given before a node is made
+  command-absent : (form : Form) → mode .form ≡ form → (c : Command) → Fit form n c → (k offset : ℕ) → step n s st c ≡ stop k offset → k ≡ 28 → Absent n st c
+  unfolding step
+  command-absent Records form (recorded r more) fit k offset q e = record-absent form r more k offset e (subst (Placed st r) q (record-placed n s st more r))
+  command-absent Records form (added ls) fit k offset q e = absurd fit
+  command-absent Records form (struckOut ls) fit k offset q e = absurd fit
+  command-absent Records form (wrong number o) fit k offset q e = absurd fit
+  command-absent Records form finished fit k offset q e = absurd fit
+  command-absent Text form (recorded r more) fit k offset q e = absurd fit
+  command-absent Text form (added ls) fit k offset q e = absurd (early-other k (subst AddedSays q (added-says n s st ls) .0) e)
+  command-absent Text form (struckOut ls) fit k offset q e = clause-absent n st ls k offset q
+  command-absent Text form (wrong number o) fit k offset q e = let same : number ≡ k = cc in absurd (omega (arith, fit .1))
+  command-absent Text form finished fit k offset q e = absurd (end-other k (subst FinishSays q (finish-says st) .0) e)
+
+-- what is absent is refused
+absent-stops : (n s : ℕ) (st : State) (c : Command) → Absent n st c → step n s st c ≡ stop 28 0
+unfolding step recordStep strikeStep
+absent-stops n s st (recorded r more) (k, is, quiet, lost) = rw (is, quiet, not-live st (k .0) lost)
+absent-stops n s st (added ls) A = absurd A
+absent-stops n s st (struckOut ls) A = absent-refused n st ls A
+absent-stops n s st (wrong number offset) A = absurd A
+absent-stops n s st finished A = absurd A
+
+absent-offset : (n : ℕ) (st : State) (c : Command) → Absent n st c → (offset : ℕ) → OffsetOf c 28 offset → offset ≡ 0
+absent-offset n st (recorded r more) A offset O = O
+absent-offset n st (added ls) A offset O = O
+absent-offset n st (struckOut ls) A offset O = O
+absent-offset n st (wrong number o) A offset O = absurd A
+absent-offset n st finished A offset O = O
+
+-- "It refuses with 28 a member that does not exist or is struck already, after 10 and then 16 for a waiting witness", at the record; "an absent clause
+-- to strike with 28", at its `d`.
+pub twenty-eight-exactly : (i : Lent) → Fits i → (at : ℕ) → ((checked i .number ≡ 28) × (checked i .place ≡ at)) ↔ AtStriking (i .mode) (places i) (i .text) (i .proof) at
+unfolding outcome
 twenty-eight-exactly i fits at = (to, from)
   where
     s : ℕ
     s = places i
 
     v : Verdict
-    v = verdict s (i .text) (i .proof)
+    v = verdict (i .mode) s (i .text) (i .proof)
 
-    to : (checked i .number ≡ 28) × (checked i .place ≡ at) → AtStriking s (i .text) (i .proof) at
+    to : (checked i .number ≡ 28) × (checked i .place ≡ at) → AtStriking (i .mode) s (i .text) (i .proof) at
     to (number, place) =
-        let r : Record = recordAt (i .proof) (E .at) in
-        let x : Step = step (E .n) s (E .state) (follows (i .proof) (E .at)) r in
-        subst (AtStriking s (i .text) (i .proof)) here
-        (go x (subst (EndsWith x) number (E .says)) (step-placed (E .n) s (E .state) (follows (i .proof) (E .at)) r) (step-numbered (E .n) s (E .state) (follows (i .proof) (E .at)) r))
+        subst (AtStriking (i .mode) s (i .text) (i .proof)) here (record { n = E .n; state = E .state; meant = E .meant; reached = E .reached; absent = lost })
       where
         E : AtEnd i (checked i)
-        E = check-place i (λ _. omega arith)
+        E = check-place i (in-proof-said i (inr (omega arith)))
+
+        c : Command
+        c = commandIn (i .mode) (i .proof) (E .n) (E .at)
+
+        given : (x : Step) → step (E .n) s (E .state) c ≡ x → NumberedIn (i .mode .form) x → EndsWith x 28 (E .offset) → Absent (E .n) (E .state) c
+        given (next st) q N e = absurd e
+        given (stop k o) q N e =
+            command-absent (i .mode) s (i .text) (i .proof) (E .reached) (i .mode .form) refl c (reached-fit (i .mode) s (i .text) (i .proof) (E .reached)) k o q (e .0)
+        given (spent k peak) q N e = absurd (omega (arith, e .0, spent-number (i .mode .form) k peak N .1))
+
+        lost : Absent (E .n) (E .state) (commandIn (i .mode) (i .proof) (E .n) (E .at))
+        lost =
+            given (step (E .n) s (E .state) c) refl (reached-numbered (i .mode) s (i .text) (i .proof) (E .reached))
+            (subst (λ (k : ℕ). EndsWith (step (E .n) s (E .state) c) k (E .offset)) number (E .says))
 
         here : E .at ≡ at
-        here = let z : E .at ≡ E .at + 0 = omega arith in z ∙ ap (λ (k : ℕ). E .at + cond (eqb k 11) 1 0) (sym number) ∙ sym (E .place) ∙ place
+        here =
+            let zero-there : E .offset ≡ 0 = absent-offset (E .n) (E .state) c lost (E .offset) (subst (λ (k : ℕ). OffsetOf c k (E .offset)) number (E .stands)) in
+            omega (arith, E .place, place)
 
-        given : (k offset : ℕ) → k ≡ 28 → Offset (E .state) (recordAt (i .proof) (E .at)) k offset → AtStriking s (i .text) (i .proof) (E .at)
-        given k offset e (at-record _ _ other) = absurd (eqb-false k 28 other e)
-        given k offset e (behind-end _ eleven _) = absurd (omega arith)
-        given k offset e (at-striking {member} _ _ is none lost) = record {
-          n = E .n;
-          state = E .state;
-          meant = E .meant;
-          reached = E .reached;
-          member = member;
-          here = is;
-          none-waits = none;
-          not-live = dead s (i .text) (i .proof) (E .reached) (member .0) lost;
-        }
-
-        go : (x : Step) → EndsWith x 28 → Placed (E .state) (recordAt (i .proof) (E .at)) x → Numbered x → AtStriking s (i .text) (i .proof) (E .at)
-        go (next st′) e P N = absurd e
-        go (stop k offset) e P N = given k offset (e .0) P
-        go (spent k peak) e P N = absurd (omega (arith, e .0, N .1))
-
-    from : AtStriking s (i .text) (i .proof) at → (checked i .number ≡ 28) × (checked i .place ≡ at)
+    from : AtStriking (i .mode) s (i .text) (i .proof) at → (checked i .number ≡ 28) × (checked i .place ≡ at)
     from A =
-        let is : v ≡ _ = reached-stops s (i .text) (i .proof) (A .reached) 28 0 stops in
+        let is : v ≡ _ = reached-stops (i .mode) s (i .text) (i .proof) (A .reached) 28 0 (absent-stops (A .n) s (A .state) (commandIn (i .mode) (i .proof) (A .n) at) (A .absent)) in
         let z : at + 0 ≡ at = omega arith in (
           ap (λ (o : Outcome). o .number) (checked-fits i fits) ∙ ap (λ (x : Verdict). x .number) is,
           ap (λ (o : Outcome). o .place) (checked-fits i fits) ∙ ap (λ (x : Verdict). x .place) is ∙ z,
         )
-      where
-        stops : step (A .n) s (A .state) (follows (i .proof) at) (recordAt (i .proof) at) ≡ stop 28 0
-        stops = rw (A .here, A .none-waits, not-live s (i .text) (i .proof) (A .reached) (A .member .0) (A .not-live))

@@ -61,13 +61,13 @@ pub data Says (op : Operation) (c : Columns) (count f g : ℕ) (o : Made) : Type
 -- ---- at least (02, 5/14)
 
 -- The same of the call that makes an at-least diagram: its node's value is "1 where the number of the set's true variables is [..] at
--- least k;
--- else 0"; "for sets of up to 32 variables" the excluded assignments are counted.
+-- least k; else 0"; "for sets of up to 32 variables" the excluded assignments are counted.
 pub record LeastAnswers (c : Columns) (count set k : ℕ) (o : Counted) : Type 0 where
   pub below : o .made .node < o .made .count
   pub good : inGoodOrder (o .made .columns) (o .made .count) ≡ true
   pub kept : (j : ℕ) → j < count → diagramAt (nodesIn (o .made .columns) (o .made .count)) j ≡ diagramAt (nodesIn c count) j
-  pub values : (a : Assignment) → length a ≡ 64 → valueAt (o .made .columns) (o .made .count) (o .made .node) a ≡ atLeastValue (inWord set) k a
+  pub values : (a : Assignment) → length a ≡ 64
+      → valueAt (o .made .columns) (o .made .count) (o .made .node) a ≡ atLeastValue (inWord set) k a
   pub counted : o .counted ≡ leb (sizeOf 64 (inWord set)) 32
   pub excluded : o .counted ≡ true → o .excluded ≡ excludedBy 64 (inWord set) k
 

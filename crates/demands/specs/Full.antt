@@ -2,6 +2,7 @@
 -- and leaves) No call open to others cites this file.
 use mathlib.Core.Path.{_≡_}
 use mathlib.Core.Logic.{_≢_}
+use mathlib.Core.Bool.{true, false}
 use mathlib.Core.List.{List, _∷_}
 use Prim.Native.Nat.{ℕ, _<_}
 use lib.ListN.{length}
@@ -9,14 +10,18 @@ use Rattle.meaning.specs.Diagram.{Diagram, node, branch}
 use Rattle.meaning.specs.Operations as meaning
 use Rattle.meaning.specs.Rules.{Line}
 use Rattle.table.specs.Nodes.{Node, diagramAt, full, placed, place}
-use Rattle.table.specs.Making.{all, placedAll}
+use Rattle.table.specs.Making.{all, placedAll, lineReach}
 use Rattle.dimacs.specs.Clauses.{Reading, clause}
 use Rattle.records.specs.declared.Record.{Record}
-use Rattle.records.specs.declared.Record.the-variants.{NodeEntry, Witness, ProofLine, Strike, SetEntry, End, CutShort, UnknownKind, NoRecord}
-use Rattle.records.specs.Records.{recordAt}
-use Rattle.verdict.specs.Steps.{State, entryNode, diagramIn, setDiagram}
+use Rattle.records.specs.declared.Record.the-variants.{NodeEntry, Witness, ProofLine, Strike, SetEntry, End}
+use Rattle.records.specs.declared.Record.the-variants.{CutShort, UnknownKind, NoRecord}
+use Rattle.commands.specs.declared.Mode.{Mode}
+use Rattle.commands.specs.Commands.{Command, recorded, added, struckOut, wrong, finished}
+use Rattle.verdict.specs.Steps.{State, withEntry, entryNode, diagramIn, liveMembers, setDiagram}
+use Rattle.verdict.specs.Clausal.{secondLine}
 use Rattle.verdict.specs.Taken.{Function, Meant, lineOf}
-use Rattle.verdict.specs.Run.{Making, Reached}
+use Rattle.verdict.specs.ClauseTaken.{firstLine}
+use Rattle.verdict.specs.Run.{commandIn, Making, Reached}
 
 -- A diagram beneath another, or the other itself.
 pub data Part (E : Diagram) : Diagram → Type 0 where
@@ -62,6 +67,25 @@ RecordWants n s st CutShort = ⊥
 RecordWants n s st UnknownKind = ⊥
 RecordWants n s st NoRecord = ⊥
 
+-- What an added clause wants: a node of its own diagram; of what its first line makes, over the nodes with it; or, the first try having
+-- failed, of what its second line makes over them. (02, 4/14)
+pub data ClauseWants (n s : ℕ) (st : State) (ls : List meaning.Literal) : Type 0 where
+  in-clause : Wants s (st .nodes) (meaning.clause n ls) → ClauseWants n s st ls
+  in-first : {t : List Node} {k : ℕ} → place s (st .nodes) (meaning.clause n ls) ≡ placed t k
+      → LineWants s t (firstLine n (withEntry st t k) ls) → ClauseWants n s st ls
+  in-second : {t : List Node} {k : ℕ} {p : meaning.Literal} {rest : List meaning.Literal} → ls ≡ p ∷ rest
+      → place s (st .nodes) (meaning.clause n ls) ≡ placed t k
+      → lineReach s t (firstLine n (withEntry st t k) ls) .fits ≡ true → firstLine n (withEntry st t k) ls .shown ≡ false
+      → LineWants s t (secondLine n (liveMembers (withEntry st t k)) p rest) → ClauseWants n s st ls
+
+-- The same of every command.
+abbrev pub CommandWants : ℕ → ℕ → State → Command → Type 0
+CommandWants n s st (recorded r more) = RecordWants n s st r
+CommandWants n s st (added ls) = ClauseWants n s st ls
+CommandWants n s st (struckOut ls) = ⊥
+CommandWants n s st (wrong number offset) = ⊥
+CommandWants n s st finished = ⊥
+
 -- Where 8 is given: a clause, its first token at the place.
 pub record AtClause (s : ℕ) (text : List ℕ) (at : ℕ) : Type 0 where
   pub n : ℕ
@@ -74,10 +98,10 @@ pub record AtClause (s : ℕ) (text : List ℕ) (at : ℕ) : Type 0 where
   pub making : Making s text n many nodes members functions (clause literals at rest)
   pub wants : Wants s nodes (meaning.clause n literals)
 
--- Where 23 is given: a record, its first byte at the place.
-pub record AtRecord (s : ℕ) (text proof : List ℕ) (at : ℕ) : Type 0 where
+-- Where 23 is given: a command, its first byte at the place.
+pub record AtCommand (mode : Mode) (s : ℕ) (text proof : List ℕ) (at : ℕ) : Type 0 where
   pub n : ℕ
   pub state : State
   pub meant : Meant
-  pub reached : Reached s text proof n state at meant
-  pub wants : RecordWants n s state (recordAt proof at)
+  pub reached : Reached mode s text proof n state at meant
+  pub wants : CommandWants n s state (commandIn mode proof n at)

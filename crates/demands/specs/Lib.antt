@@ -1,4 +1,5 @@
 pub mod Calls
 pub mod Words
+pub mod Texts
 pub mod Leaving
 pub mod Full

@@ -4,45 +4,28 @@ use mathlib.Core.Path.{_≡_, refl, sym, subst}
 use mathlib.Core.Logic.{_↔_}
 use mathlib.Core.Bool.{Bool, true, false, not, _||_, cond}
 use mathlib.Core.List.{List, [], _∷_, map}
-use Prim.Native.Nat.{ℕ, _<_}
+use Prim.Native.Nat.{ℕ}
 use borrow.Author.Tests.{lt-leb}
 use Rattle.meaning.specs.Diagram.{Diagram}
 use Rattle.meaning.specs.Operations as meaning
 use Rattle.meaning.specs.Rules.{Line, rup}
 use Rattle.meaning.proofs.Booleans.{t≢f}
 use Rattle.meaning.proofs.Clauses.{Within}
-use Rattle.table.specs.Nodes.{Node, placed, place}
-use Rattle.table.specs.Making.{lineReach}
+use Rattle.table.specs.Nodes.{Node}
 use Rattle.clausal.specs.Drat.{Clause, Plain, AllPlain, Accepted}
 use Rattle.clausal.specs.Tries.{shownBy}
 use Rattle.clausal.proofs.Literals.{AllWithin}
 use Rattle.clausal.proofs.Rest.{plain-not-one}
 use Rattle.clausal.proofs.Tries.{two-tries}
-use Rattle.verdict.specs.Steps.{State, Step, next, stop, spent, judged, liveMembers}
+use Rattle.verdict.specs.Steps.{State, next, spent, judged, liveMembers}
 use Rattle.verdict.specs.Steps.{withEntry}
 use Rattle.verdict.specs.Clausal.{judgedOr, secondLine, secondTry, tries, addStep}
+use Rattle.verdict.specs.ClauseTaken.{GoesOn, HasRoom}
 
 -- A record's line is judged so, with 19 where it is not shown.
 pub judged-is : (s : ℕ) (st : State) (g : ℕ) (line : Line) → judged s st g line ≡ judgedOr (spent 19) s st g line
 unfolding judged judgedOr
 judged-is s st g line = refl
-
--- A step that goes on.
-abbrev pub GoesOn : Step → Type 0
-GoesOn (next st) = Unit {0}
-GoesOn (stop number offset) = ⊥
-GoesOn (spent number peak) = ⊥
-
-abbrev SecondFits : ℕ → ℕ → List Node → List Diagram → Clause → Type 0
-SecondFits n s t ms [] = Unit {0}
-SecondFits n s t ms (p ∷ ls) = lineReach s t (secondLine n ms p ls) .fits ≡ true
-
--- "the table having room": for a line more, for the clause's diagram, and for what either try makes.
-pub record HasRoom (n s : ℕ) (st : State) (c : Clause) (t : List Node) (k : ℕ) : Type 0 where
-  pub few : st .lines < 1024
-  pub made : place s (st .nodes) (meaning.clause n c) ≡ placed t k
-  pub first-fits : lineReach s t (rup n (liveMembers (withEntry st t k)) (meaning.clause n c)) .fits ≡ true
-  pub second-fits : SecondFits n s t (liveMembers (withEntry st t k)) c
 
 module _ (n s : ℕ) (st : State) (t : List Node) (k : ℕ) where
   abbrev after : State

@@ -30,13 +30,13 @@ use Rattle.verdict.specs.Steps.{State, next, accepted, judged, unstruck,
 use Rattle.verdict.specs.Taken.{Function, Meant, Valued, peakWith}
 use Rattle.verdict.specs.Steps.{withEntry}
 use Rattle.verdict.specs.Clausal.{withPeak, judgedOr, secondLine, secondTry, tries, onceMade, addStep}
-use Rattle.verdict.specs.ClauseTaken.{Judged, firstLine, SecondTaken, TriesTaken, ClauseTaken}
+use Rattle.verdict.specs.ClauseTaken.{Judged, firstLine, SecondTaken, TriesTaken, ClauseTaken, GoesOn, HasRoom}
 use Rattle.verdict.proofs.Steps.{spent-not-next, passed, met-late}
 use Rattle.verdict.proofs.Live.{valued-unstruck}
 use Rattle.verdict.proofs.Uses.{UsesAfter, place-uses}
 use Rattle.verdict.proofs.Standing.{Standing, valued-append, valued-grown}
 use Rattle.verdict.proofs.Clauses.{clause-valued}
-use Rattle.verdict.proofs.Accepting.{GoesOn, HasRoom, clause-accepted}
+use Rattle.verdict.proofs.Accepting.{clause-accepted}
 
 -- ---- exactly what is taken
 

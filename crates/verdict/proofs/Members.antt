@@ -138,12 +138,12 @@ module _ (s : ℕ) (text : List ℕ) where
     }
     reached-follows {n} (goes {st} {st′} {at} {m} R T) = goes-follows n st st′ at m T (reached-follows R)
 
-    -- The variables of a reached state are the header's.
     making-variables : {n many : ℕ} {t : List Node} {ms : List ℕ} {fs : List Function} {r : Reading} → Making s text n many t ms fs r → variablesOf (header text) ≡ n
     making-variables (opened e) = rw e
     making-variables (made M e) = making-variables M
 
-    reached-variables : {n : ℕ} {st : State} {at : ℕ} {m : Meant} → Reached mode s text proof n st at m → variablesOf (header text) ≡ n
+    -- The variables of a reached state are the header's.
+    pub reached-variables : {n : ℕ} {st : State} {at : ℕ} {m : Meant} → Reached mode s text proof n st at m → variablesOf (header text) ≡ n
     reached-variables (begins M) = making-variables M
     reached-variables (goes R T) = reached-variables R
 

@@ -29,7 +29,7 @@ use Rattle.verdict.specs.Steps.{recordStep}
 use Rattle.verdict.specs.Clausal.{addStep, strikeClause}
 use Rattle.verdict.specs.Check.{finish, step, Verdict, left, refusedFormula}
 use Rattle.verdict.specs.Taken.{Function, Meant, lineOf, peakWith}
-use Rattle.verdict.specs.Run.{Making, commandIn, Reached, Ended, no-header, not-read, no-room, stopped, tried}
+use Rattle.verdict.specs.Run.{Making, commandIn, Reached, Ended, no-header, not-read, no-room, stopped, tried, ProofNumber}
 use Rattle.verdict.proofs.Formula.{Early, NamedHeader, header-named, Read, either}
 use Rattle.verdict.proofs.Clauses.{Underway, underway}
 use Rattle.verdict.proofs.Commands.{Fit}
@@ -206,27 +206,22 @@ step-numbered Text n s st finished fit = finish-numbered (finish st) (finish-say
 
 -- ---- the end of a check, with the range of its number
 
--- The proof's numbers: 0, 9 to 23, 28 and 29 in records; 0, 3, 4, 6, 17, 19, 20, 22, 23 and 28 in a text.
-abbrev pub ProofNumber : Form → ℕ → Type 0
-ProofNumber Records number = (number ≢ 28 → number ≢ 29 → number ≤ 23) × (number ≢ 0 → 9 ≤ number)
-ProofNumber Text number = (number ≢ 28 → number ≤ 23) × (number ≢ 0 → 3 ≤ number) × (number ≢ 5) × (6 < number → 17 ≤ number) × (number ≢ 18) × (number ≢ 21)
-
 -- In each form none of them is 7 or 8.
 pub proof-number : (form : Form) (number : ℕ) → ProofNumber form number
     → (number ≢ 28 → number ≢ 29 → number ≤ 23) × (number ≢ 7) × (number ≢ 8)
 proof-number Records number P = (P .0, (λ q. omega (arith, P .1 (λ z. omega arith))), λ q. omega (arith, P .1 (λ z. omega arith)))
 proof-number Text number P = ((λ other _. P .0 other), (λ q. omega (arith, P .3 (omega arith))), λ q. omega (arith, P .3 (omega arith)))
 
-stop-number : (form : Form) (number offset : ℕ) → NumberedIn form (stop number offset) → ProofNumber form number
+pub stop-number : (form : Form) (number offset : ℕ) → NumberedIn form (stop number offset) → ProofNumber form number
 stop-number Records number offset N = ((λ other another. omega (arith, N .0 other another)), N .1)
 stop-number Text number offset N = ((λ other. omega (arith, N .0 other)), N .1, N .2, N .3, N .4, N .6)
 
-spent-number : (form : Form) (number peak : ℕ) → NumberedIn form (spent number peak) → (19 ≤ number) × (number ≤ 23)
+pub spent-number : (form : Form) (number peak : ℕ) → NumberedIn form (spent number peak) → (19 ≤ number) × (number ≤ 23)
 spent-number Records number peak N = N
 spent-number Text number peak (inl e) = (omega arith, omega arith)
 spent-number Text number peak (inr e) = (omega arith, omega arith)
 
-spent-proof : (form : Form) (number peak : ℕ) → NumberedIn form (spent number peak) → ProofNumber form number
+pub spent-proof : (form : Form) (number peak : ℕ) → NumberedIn form (spent number peak) → ProofNumber form number
 spent-proof Records number peak N = ((λ _ _. omega (arith, N .1)), λ _. omega (arith, N .0))
 spent-proof Text number peak (inl e) = ((λ _. omega arith), (λ _. omega arith), (λ q. omega arith), (λ _. omega arith), (λ q. omega arith), λ q. omega arith)
 spent-proof Text number peak (inr e) = ((λ _. omega arith), (λ _. omega arith), (λ q. omega arith), (λ _. omega arith), (λ q. omega arith), λ q. omega arith)

@@ -28,6 +28,7 @@ use Rattle.commands.specs.declared.Form.{Form}
 use Rattle.commands.specs.declared.Form.the-variants.{Records, Text}
 use Rattle.commands.specs.Commands.{Command, recorded, added, struckOut, wrong, finished}
 use Rattle.table.specs.Columns.{Columns}
+use Rattle.clausal.proofs.Literals.{AllWithin}
 use Rattle.verdict.specs.Steps.{State, begun, entryNode, diagramIn, unstruck, liveMembers}
 use Rattle.verdict.specs.Check.{Verdict, verdict, Outcome, lentFits, outcome, check}
 use Rattle.verdict.specs.Taken.{Function, Meant, entryMeant, afterRecord, Valued, LineTaken, Taken}
@@ -92,10 +93,6 @@ module _ (a : Assignment) where
   satisfied-clauses (ls ∷ cs) e = let (one, rest) = and-both (meaning.clauseValue ls a) (satisfies a cs) e in (one, satisfied-clauses cs rest)
 
 -- ---- clauses of n variables
-
-abbrev AllWithin : ℕ → List (List meaning.Literal) → Type 0
-AllWithin n [] = Unit {0}
-AllWithin n (ls ∷ cs) = Within n ls × AllWithin n cs
 
 read-within : (n left : ℕ) (r : Reading) → Read n left r → AllWithin n (clausesOf r)
 unfolding clausesOf
@@ -252,7 +249,8 @@ module _ (mode : Mode) (s : ℕ) (text proof : List ℕ) where
       rw (formula-proper text n many at e) (read-within n many (clausesFrom text n many at) (clauses-read text n many at (h .2)))
   making-within (made M e) = making-within M
 
-  reached-within : {n : ℕ} {st : State} {at : ℕ} {m : Meant} → Reached mode s text proof n st at m → AllWithin n (clausesOf (formula text))
+  -- Its literals are the header's.
+  pub reached-within : {n : ℕ} {st : State} {at : ℕ} {m : Meant} → Reached mode s text proof n st at m → AllWithin n (clausesOf (formula text))
   reached-within (begins M) = making-within M
   reached-within (goes R e) = reached-within R
 

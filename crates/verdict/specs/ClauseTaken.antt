@@ -10,7 +10,7 @@ use Rattle.meaning.specs.Operations as meaning
 use Rattle.meaning.specs.Rules.{Line, rup}
 use Rattle.table.specs.Nodes.{Node, placed, place}
 use Rattle.table.specs.Making.{lineReach}
-use Rattle.verdict.specs.Steps.{State, withEntry, withMarks, accepted, diagramIn, liveMembers, isLive}
+use Rattle.verdict.specs.Steps.{State, withEntry, withMarks, Step, next, stop, spent, accepted, diagramIn, liveMembers, isLive}
 use Rattle.verdict.specs.Taken.{peakWith}
 use Rattle.verdict.specs.Clausal.{withPeak, secondLine}
 
@@ -46,6 +46,23 @@ pub record ClauseTaken (n s : ℕ) (st : State) (ls : List meaning.Literal) (st�
   pub node : ℕ
   pub room : place s (st .nodes) (meaning.clause n ls) ≡ placed nodes node
   pub tried : TriesTaken n s (withEntry st nodes node) node ls st′
+
+-- A step that goes on.
+abbrev pub GoesOn : Step → Type 0
+GoesOn (next st) = Unit {0}
+GoesOn (stop number offset) = ⊥
+GoesOn (spent number peak) = ⊥
+
+abbrev pub SecondFits : ℕ → ℕ → List Node → List Diagram → List meaning.Literal → Type 0
+SecondFits n s t ms [] = Unit {0}
+SecondFits n s t ms (p ∷ ls) = lineReach s t (secondLine n ms p ls) .fits ≡ true
+
+-- "the table having room": for a line more, for the clause's diagram, and for what either try makes.
+pub record HasRoom (n s : ℕ) (st : State) (ls : List meaning.Literal) (t : List Node) (k : ℕ) : Type 0 where
+  pub few : st .lines < 1024
+  pub made : place s (st .nodes) (meaning.clause n ls) ≡ placed t k
+  pub first-fits : lineReach s t (firstLine n (withEntry st t k) ls) .fits ≡ true
+  pub second-fits : SecondFits n s t (liveMembers (withEntry st t k)) ls
 
 -- The member of that place is live and is the diagram.
 abbrev pub IsThere : State → Diagram → ℕ → Type 0

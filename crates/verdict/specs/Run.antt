@@ -1,9 +1,10 @@
 -- The run of a check as 01 tells it: what a command has to pass to be taken, the states between commands with what members and entries
 -- stand for, and where the run ends. No call open to others cites this file: the theorems on what `check` says do.
 use mathlib.Core.Path.{_≡_}
+use mathlib.Core.Logic.{_≢_}
 use mathlib.Core.Bool.{Bool, true, false}
 use mathlib.Core.List.{List, [], _∷_, _++_, map}
-use Prim.Native.Nat.{ℕ, zero, suc, _+_}
+use Prim.Native.Nat.{ℕ, zero, suc, _+_, _≤_, _<_}
 use lib.ListN.{length, take}
 use Rattle.meaning.specs.Operations as meaning
 use Rattle.table.specs.Nodes.{Node, full, placed, place}
@@ -12,6 +13,8 @@ use Rattle.dimacs.specs.declared.Header.the-variants.{Proper, Improper}
 use Rattle.dimacs.specs.Header.{header}
 use Rattle.dimacs.specs.Clauses.{Reading, clause, complete, refusal, clausesFrom, formula}
 use Rattle.records.specs.declared.Record.the-variants.{End}
+use Rattle.commands.specs.declared.Form.{Form}
+use Rattle.commands.specs.declared.Form.the-variants.{Records, Text}
 use Rattle.commands.specs.declared.Mode.{Mode}
 use Rattle.commands.specs.Commands.{Command, recorded, added, struckOut, wrong, finished, start, commandAt}
 use Rattle.verdict.specs.Steps.{State, emptied, begun, stop, spent, waiting}
@@ -115,6 +118,12 @@ pub data Ended (mode : Mode) (s : ℕ) (text proof : List ℕ) : Verdict → Typ
   tried : {n number peak at : ℕ} {st : State} {m : Meant}
       → Reached mode s text proof n st at m → step n s st (commandIn mode proof n at) ≡ spent number peak
       → Ended mode s text proof (left number at peak st)
+
+-- The numbers that a proof can get: 0, 9 to 23, 28 and 29 in records; 0, 3, 4, 6, 17, 19, 20, 22, 23 and 28 in a text.
+abbrev pub ProofNumber : Form → ℕ → Type 0
+ProofNumber Records number = (number ≢ 28 → number ≢ 29 → number ≤ 23) × (number ≢ 0 → 9 ≤ number)
+ProofNumber Text number =
+    (number ≢ 28 → number ≤ 23) × (number ≢ 0 → 3 ≤ number) × (number ≢ 5) × (6 < number → 17 ≤ number) × (number ≢ 18) × (number ≢ 21)
 
 -- "End: 16, 11, 20": an end record with no witness waiting and no byte behind it; or the end of a text. (02, 4/14)
 abbrev pub Closes : State → Command → Type 0

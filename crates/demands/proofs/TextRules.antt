@@ -1,0 +1,74 @@
+-- The theorem that 02's 4/14 asks for, over the states that a check reaches: with room, an added clause is taken exactly where RUP or RAT over clauses
+-- accepts it, else it is 19. The idea: the live members' diagrams are those of the live clauses (TextMembers). Assumes nothing.
+use mathlib.Core.Path.{_≡_, refl, sym, subst}
+use mathlib.Core.Logic.{_⊎_, inl, inr, _↔_}
+use mathlib.Core.Bool.{Bool, true, false, not, cond}
+use mathlib.Core.List.{List, [], _∷_}
+use Prim.Native.Nat.{ℕ}
+use borrow.Author.Tests.{lt-leb}
+use Rattle.meaning.proofs.Clauses.{Within}
+use Rattle.table.specs.Nodes.{Node}
+use Rattle.clausal.specs.Drat.{Clause, Plain, AllPlain, Accepted}
+use Rattle.clausal.proofs.Rest.{plain-not-one}
+use Rattle.commands.specs.declared.Form.the-variants.{Text}
+use Rattle.commands.specs.Commands.{Command, added, inText}
+use Rattle.verdict.specs.Steps.{State, withEntry, Step, next, spent, judged, liveMembers}
+use Rattle.verdict.specs.Clausal.{judgedOr, secondLine, secondTry, tries, addStep}
+use Rattle.verdict.specs.Check.{step}
+use Rattle.verdict.specs.Taken.{Meant}
+use Rattle.verdict.specs.ClauseTaken.{firstLine, GoesOn, HasRoom}
+use Rattle.verdict.specs.Run.{commandIn, Reached}
+use Rattle.verdict.proofs.Commands.{Fit}
+use Rattle.verdict.proofs.Ends.{reached-fit, reached-standing}
+use Rattle.verdict.proofs.Added as Added
+use Rattle.demands.specs.Texts.{textBefore, liveClauses}
+use Rattle.demands.proofs.TextMembers.{Stands, text-stands, text-live, within-unstruck}
+
+pub added-exactly : (s : ℕ) (text proof : List ℕ) {n : ℕ} {st : State} {at : ℕ} {m : Meant} → Reached inText s text proof n st at m
+    → (c : Clause) → commandIn inText proof n at ≡ added c → AllPlain (liveClauses text proof at) → Plain c → (t : List Node) (k : ℕ) → HasRoom n s st c t k
+    → GoesOn (step n s st (commandIn inText proof n at)) ↔ Accepted (liveClauses text proof at) c
+unfolding step
+added-exactly s text proof {n} {st} {at} R c is plains plain t k room =
+    let (narrow, S) = reached-standing inText s text proof R in
+    let M : Stands n st (textBefore text proof at) = text-stands s text proof R in
+    let w : Within n c = subst (Fit Text n) is (reached-fit inText s text proof R) in
+    subst (λ (x : Command). GoesOn (step n s st x) ↔ Accepted (liveClauses text proof at) c) (sym is)
+    (Added.added-exactly S narrow (liveClauses text proof at) (text-live s text proof R) (within-unstruck n (textBefore text proof at .marks) (textBefore text proof at .clauses) (M .literals))
+    plains c w plain t k room)
+
+-- ---- else 19
+
+-- with room a clause is taken or is 19
+module _ (n s : ℕ) (st : State) (t : List Node) (k : ℕ) where
+  abbrev Ends : Step → Type 0
+  Ends x = GoesOn x ⊎ ((peak : ℕ) × (x ≡ spent 19 peak))
+
+  tries-end : (c : Clause) → HasRoom n s st c t k → Ends (tries n s (withEntry st t k) k c)
+  unfolding tries judgedOr secondTry judged
+  tries-end [] R = rw (R .first-fits) (go (firstLine n (withEntry st t k) [] .shown) _ _)
+    where
+      go : (b : Bool) (x : State) (peak : ℕ) → Ends (cond (not b) (spent 19 peak) (next x))
+      go true x peak = inl tt
+      go false x peak = inr (peak, refl)
+  tries-end (p ∷ ls) R =
+      rw (R .first-fits, R .second-fits) (go (firstLine n (withEntry st t k) (p ∷ ls) .shown) (secondLine n (liveMembers (withEntry st t k)) p ls .shown) _ _ _)
+    where
+      go : (a b : Bool) (x y : State) (peak : ℕ) → Ends (cond (not a) (cond (not b) (spent 19 peak) (next y)) (next x))
+      go true b x y peak = inl tt
+      go false true x y peak = inl tt
+      go false false x y peak = inr (peak, refl)
+
+  added-end : (c : Clause) → Within n c → Plain c → HasRoom n s st c t k → Ends (addStep n s st c)
+  unfolding addStep
+  added-end c w plain R = rw (lt-leb 1024 (st .lines) (R .few), plain-not-one n c w plain, R .made) (tries-end c R)
+
+pub added-refused : (s : ℕ) (text proof : List ℕ) {n : ℕ} {st : State} {at : ℕ} {m : Meant} → Reached inText s text proof n st at m
+    → (c : Clause) → commandIn inText proof n at ≡ added c → AllPlain (liveClauses text proof at) → Plain c → (t : List Node) (k : ℕ) → HasRoom n s st c t k
+    → (Accepted (liveClauses text proof at) c → ⊥) → (peak : ℕ) × (step n s st (commandIn inText proof n at) ≡ spent 19 peak)
+unfolding step
+added-refused s text proof {n} {st} {at} R c is plains plain t k room other =
+    go (subst (λ (x : Command). Ends n s st t k (step n s st x)) (sym is) (added-end n s st t k c (subst (Fit Text n) is (reached-fit inText s text proof R)) plain room))
+  where
+    go : Ends n s st t k (step n s st (commandIn inText proof n at)) → (peak : ℕ) × (step n s st (commandIn inText proof n at) ≡ spent 19 peak)
+    go (inl on) = absurd (other (added-exactly s text proof R c is plains plain t k room .0 on))
+    go (inr found) = found

@@ -1,0 +1,63 @@
+-- The members of a check of a DRAT text, as formula and text fix them: clauses, and which of them are struck out. (02, 4/14) No call open
+-- to others cites this file.
+use mathlib.Core.Path.{_≡_}
+use mathlib.Core.Bool.{_&&_, cond}
+use mathlib.Core.List.{List, [], _∷_, _++_, map}
+use Prim.Native.Nat.{ℕ, zero, suc}
+use lib.ListN.{length, replicate}
+use lib.Dec.{eqb, ltb}
+use Rattle.meaning.specs.Diagram.{Diagram, same}
+use Rattle.meaning.specs.Operations as meaning
+use Rattle.dimacs.specs.Header.{header}
+use Rattle.dimacs.specs.Clauses.{formula}
+use Rattle.commands.specs.declared.Form.the-variants.{Text}
+use Rattle.commands.specs.Commands.{Command, recorded, added, struckOut, wrong, finished, inText, start}
+use Rattle.clausal.specs.Drat.{Clause}
+use Rattle.verdict.specs.Steps.{State, diagramIn, unstruck}
+use Rattle.verdict.specs.Run.{commandIn, nextIn, variablesOf}
+use Rattle.verdict.specs.Satisfies.{clausesOf}
+
+-- The members' clauses, in order, and their marks.
+pub record ClauseList : Type 0 where
+  pub clauses : List Clause
+  pub marks : List ℕ
+
+-- "A `d` line strikes the live member of lowest place that is the same diagram": the marks after it, of members with those diagrams.
+unfoldable pub strikeLowest : Diagram → List Diagram → List ℕ → List ℕ
+strikeLowest g [] marks = marks
+strikeLowest g (d ∷ ds) [] = []
+strikeLowest g (d ∷ ds) (m ∷ marks) = let rest = m ∷ strikeLowest g ds marks in cond (eqb m 0 && same d g) (1 ∷ marks) rest
+
+-- After a command that is taken: an added clause is the next member, not struck.
+abbrev pub afterClause : ℕ → ClauseList → Command → ClauseList
+afterClause n l (recorded r more) = l
+afterClause n l (added ls) = record { clauses = l .clauses ++ ls ∷ []; marks = l .marks ++ 0 ∷ [] }
+afterClause n l (struckOut ls) =
+    record { clauses = l .clauses; marks = strikeLowest (meaning.clause n ls) (map (meaning.clause n) (l .clauses)) (l .marks) }
+afterClause n l (wrong number offset) = l
+afterClause n l finished = l
+
+-- After the commands that begin before a place, of at most so many from `at` on.
+unfoldable pub clausesFrom : ℕ → ℕ → List ℕ → ℕ → ℕ → ClauseList → ClauseList
+unfolding strikeLowest
+clausesFrom zero n proof at end l = l
+clausesFrom (suc steps) n proof at end l =
+    let later = clausesFrom steps n proof (nextIn inText proof n at) end (afterClause n l (commandIn inText proof n at)) in
+    cond (ltb at end) later l
+
+-- "Clauses become members 0, 1, 2 and so on", none of them struck.
+abbrev pub formulaClauses : List ℕ → ClauseList
+formulaClauses text = let cs = clausesOf (formula text) in record { clauses = cs; marks = replicate (length cs) 0 }
+
+-- The members before a place of the text. There are no more commands than bytes.
+abbrev pub textBefore : List ℕ → List ℕ → ℕ → ClauseList
+textBefore text proof end = clausesFrom (length proof) (variablesOf (header text)) proof (start Text proof) end (formulaClauses text)
+
+-- The clauses of those that are not struck.
+abbrev pub liveClauses : List ℕ → List ℕ → ℕ → List Clause
+liveClauses text proof end = let l = textBefore text proof end in unstruck (l .marks) (l .clauses)
+
+-- In a state of a formula of n variables: the members are the clauses, each with its clause's diagram, and the marks are theirs.
+pub record Matches (n : ℕ) (st : State) (l : ClauseList) : Type 0 where
+  pub diagrams : map (diagramIn st) (st .members) ≡ map (meaning.clause n) (l .clauses)
+  pub marks : st .struck ≡ l .marks
