@@ -54,7 +54,7 @@ def rota(days, workers, need):
 
 def extended(count):
     """Pigeons with variables to spare, and Cook's proof: a stage defines the places of one pigeon fewer in one hole fewer. The pigeon that
-    goes leaves its hole to the one that sat in the last hole. The definitions are RAT on their first literals and not RUP."""
+    goes leaves its hole to the one that sat in the last hole. The definitions are RAT on their first literals, and most are not RUP."""
     variables, clauses = pigeons(count)
     proof, live, first = [], list(clauses), 1
     for m in range(count, 2, -1):
