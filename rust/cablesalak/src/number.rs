@@ -15,8 +15,8 @@ pub enum Number {
     NoHeader = 1,
     /// The header names more than 64 variables or more than 1,024 clauses.
     HeaderTooLarge = 2,
-    /// A token behind the header, or of a DRAT text, is neither `0` nor an optional minus with digits that do not start with 0, nor a text's
-    /// `d` before a clause. Lines whose first byte is `c` are comments, wherever they stand, and have no tokens.
+    /// A token behind the header, or of a DRAT text, is neither `0` nor an optional minus with digits that do not start with 0, nor a
+    /// text's `d` before a clause. Lines whose first byte is `c` are comments, wherever they stand, and have no tokens.
     NotANumber = 3,
     /// A literal's variable, in the formula or in a DRAT text, is greater than the header's number of variables.
     LiteralBeyondHeader = 4,

@@ -1,6 +1,7 @@
-//! What RUP and RAT over clauses say of a DRAT text: sets of literals, unit propagation and no diagrams. Written from the public definitions
-//! (Heule, Hunt, Wetzler: "Trimming while Checking Clausal Proofs", FMCAD 2013, and "Verifying Refutations with Extended Resolution",
-//! CADE 2013). Document 02, 4/14: where no clause has both signs of a variable the check must accept just these clauses, given room.
+//! What RUP and RAT over clauses say of a DRAT text: sets of literals, unit propagation and no diagrams. Written from the public
+//! definitions (Heule, Hunt, Wetzler: "Trimming while Checking Clausal Proofs", FMCAD 2013, and "Verifying Refutations with Extended
+//! Resolution", CADE 2013). Document 02, 4/14: where no clause has both signs of a variable the check must accept just these clauses,
+//! given room.
 
 /// A set of literals: bit i - 1 of a word for variable i, plain or negated.
 #[derive(Clone, Copy, Debug, Default, PartialEq, Eq)]

@@ -227,8 +227,7 @@ fn one(random: &mut Random, problem: &mut Problem) {
     }
 }
 
-/// A clause that may be RUP or RAT: of random literals, a live one with more literals, a resolvent, or over a variable that nothing has
-/// said much of yet.
+/// A clause that may be RUP or RAT: random literals, alone or behind a clause of the formula or a resolvent of two.
 fn candidate(random: &mut Random, problem: &Problem) -> Vec<i32> {
     let (variables, clauses) = (problem.formula.variables, &problem.formula.clauses);
     if variables == 0 {
@@ -339,7 +338,9 @@ fn limits(random: &mut Random) -> Vec<String> {
             tokens.push(format!("d {}", tokens[tokens.len() - 1]));
         }
     }
-    tokens.push(random.pick(&["0", "1 -1 0", "2", "d 2 0", "65 0", "x", "d 1 2 0", "-64 0", "2 0 0"]).into());
+    // `7 -8 9` has nodes of its own, which are not made once 22 is given.
+    let last = ["0", "1 -1 0", "2", "d 2 0", "65 0", "x", "d 1 2 0", "-64 0", "2 0 0", "2 7 -8 9 0", "7 -8 9 0"];
+    tokens.push(random.pick(&last).into());
     let text = strewn(random, &tokens);
     vec![command(random, 4096, &formula.text(), &text)]
 }
