@@ -73,7 +73,8 @@ typedef struct {
 /* The answer of the check. */
 typedef struct {
     uint8_t number;  /* 0: refuted; else why not */
-    size_t place;    /* byte offset: in the formula for 1 to 6 and 8, in the proof for 0, 9 to 23, 28 and 29; 0 for 7 */
+    bool in_proof;   /* whether the place is in the proof; else it is in the formula, or the number is 7 */
+    size_t place;    /* byte offset of what is refused, or with 0 of the end record; the text's length where it has none; 0 for 7 */
     size_t lines;    /* the accepted lines */
     uint64_t rounds; /* their rounds of unit propagation */
     size_t count;    /* the table's count after the call; as lent with 7 */
@@ -160,20 +161,40 @@ cablesalak_at_least_made cablesalak_at_least(
 /* ---- The check of a formula (the bytes of a DIMACS CNF file) and a proof (the bytes of a proof file).
  *
  * Number 0: no assignment satisfies the formula, whatever the proof's bytes and whatever the lent lists held before.
- * Gives 0 to 23, 28 and 29. Tests 7 first: the columns are of one length, 2 to 65,536, with twice as many heads and as many
- * links, the member list has 2,048 places or more and `struck` just as many, the scratch list has 4,096 or more. Then the formula
- * is read in its order, then the proof record by record, until a refusal or the end. At most 64 variables, 1,024 clauses, 1,024
- * lines, and 4,096 entries in a line. Neither the lent count nor what the lists hold is judged: the check empties the table, its
- * index and the lists first.
+ * Tests 7 first: the columns are of one length, 2 to 65,536, with twice as many heads and as many links, the member list has 2,048
+ * places or more and `struck` just as many, the scratch list has 4,096 or more. Then the formula is read in its order (1 to 6, 8),
+ * then the proof, until a refusal or the end. At most 64 variables, 1,024 clauses and 1,024 lines. Neither the lent count nor what
+ * the lists hold is judged: the check empties the table, its index and the lists first.
  *
  * What the lists hold afterwards:
- *   7          what they held before.
- *   1 to 6, 8  zeros everywhere; the count is 2.
- *   any other  the table, in good order: the nodes of the clauses and of all entries of the accepted lines, in the order in which
- *              they were made; zeros from the count on; its index. The member list: the clauses' nodes in the formula's order, then
- *              the accepted lines' nodes, struck out or not; zeros above. `struck`: at each member's place its mark, 1 once the
- *              proof struck it out, else 0; zeros above. The scratch list: zeros. */
+ *   7                       what they held before.
+ *   the formula is refused  zeros everywhere; the count is 2.
+ *   any other               the table, in good order: the nodes of the clauses and of all entries of the accepted lines, in the
+ *                           order in which they were made; zeros from the count on; its index. The member list: the clauses' nodes
+ *                           in the formula's order, then the accepted lines' nodes, struck out or not; zeros above. `struck`: at
+ *                           each member's place its mark, 1 once the proof struck it out, else 0; zeros above. The scratch list:
+ *                           zeros. */
+
+/* The proof is records. Gives 0 to 23, 28 and 29; 1 to 6 and 8 are the formula's. At most 4,096 entries in a line. */
 cablesalak_checked cablesalak_check(
+    uint8_t *vars, size_t vars_length,
+    uint16_t *lows, size_t lows_length,
+    uint16_t *highs, size_t highs_length,
+    uint16_t *heads, size_t heads_length,
+    uint16_t *links, size_t links_length,
+    size_t count,
+    uint16_t *members, size_t members_length,
+    uint8_t *struck, size_t struck_length,
+    uint16_t *scratch, size_t scratch_length,
+    const uint8_t *formula, size_t formula_length,
+    const uint8_t *proof, size_t proof_length);
+
+/* The proof is a DRAT text: clauses of literals parted as in the formula, each closed by 0, the first literal being the pivot; a
+ * `d` before a clause strikes out a member that is this clause; lines whose first byte is c are comments. An added clause is a line
+ * whose one entry is its diagram: it passes by RUP, or by PR with the witness that makes the pivot true and its other literals false.
+ * Gives 0 to 8, 17, 19, 20, 22, 23 and 28. 3, 4 and 6 are the formula's or the proof's, as `in_proof` tells; of the proof's
+ * numbers 3 and 4 are at the token, 0 and 20 at the text's length, all others at the first byte of the clause or of its `d`. */
+cablesalak_checked cablesalak_check_text(
     uint8_t *vars, size_t vars_length,
     uint16_t *lows, size_t lows_length,
     uint16_t *highs, size_t highs_length,
@@ -257,6 +278,7 @@ CABLESALAK_LAYOUT(offsetof(cablesalak_at_least_made, counted) == 16 && offsetof(
 CABLESALAK_LAYOUT(sizeof(cablesalak_node) == 6 && offsetof(cablesalak_node, var) == 0);
 CABLESALAK_LAYOUT(offsetof(cablesalak_node, low) == 2 && offsetof(cablesalak_node, high) == 4);
 CABLESALAK_LAYOUT(sizeof(cablesalak_checked) == 48 && offsetof(cablesalak_checked, number) == 0);
+CABLESALAK_LAYOUT(offsetof(cablesalak_checked, in_proof) == 1);
 CABLESALAK_LAYOUT(offsetof(cablesalak_checked, place) == 8 && offsetof(cablesalak_checked, lines) == 16);
 CABLESALAK_LAYOUT(offsetof(cablesalak_checked, rounds) == 24 && offsetof(cablesalak_checked, count) == 32);
 CABLESALAK_LAYOUT(offsetof(cablesalak_checked, peak) == 40);

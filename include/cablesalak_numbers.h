@@ -9,14 +9,14 @@ enum cablesalak_number {
     CABLESALAK_NO_HEADER = 1,
     /* The header names more than 64 variables or more than 1,024 clauses. */
     CABLESALAK_HEADER_TOO_LARGE = 2,
-    /* A token behind the header is neither 0 nor an optional minus with digits that do not start with 0. Lines whose first byte is c
-     * are comments, wherever they stand, and have no tokens. */
+    /* A token behind the header, or of a DRAT text, is neither 0 nor an optional minus with digits that do not start with 0, nor a
+     * text's d before a clause. Lines whose first byte is c are comments, wherever they stand, and have no tokens. */
     CABLESALAK_NOT_A_NUMBER = 3,
-    /* A literal's variable is greater than the header's number of variables. */
+    /* A literal's variable, in the formula or in a DRAT text, is greater than the header's number of variables. */
     CABLESALAK_LITERAL_BEYOND_HEADER = 4,
     /* The formula has fewer clauses than the header names, or a token after the last one. */
     CABLESALAK_CLAUSE_COUNT = 5,
-    /* The formula ends within a clause. */
+    /* The formula, or a DRAT text, ends within a clause. */
     CABLESALAK_CLAUSE_OPEN = 6,
     /* A lent part is too short or too long, or columns that belong together differ in length. */
     CABLESALAK_WRONG_SIZE = 7,
@@ -38,19 +38,19 @@ enum cablesalak_number {
     CABLESALAK_VARIABLE_TWICE = 15,
     /* A witness stands before a RUP line, a striking or the end record, where none may. */
     CABLESALAK_WITNESS_LEFT = 16,
-    /* The line's diagram is 1, so that the line says nothing. */
+    /* The line's diagram is 1, so that the line says nothing; a DRAT clause with both signs of a variable. */
     CABLESALAK_ALWAYS_TRUE = 17,
     /* The PR line's diagram under its witness is not 1. */
     CABLESALAK_WITNESS_FAILS = 18,
-    /* Unit propagation meets no conflict, so that the line is not shown. */
+    /* Unit propagation meets no conflict, so that the line is not shown; a DRAT clause by neither of its tries. */
     CABLESALAK_NOT_SHOWN = 19,
     /* The proof ends and no accepted line was the diagram 0. */
     CABLESALAK_NO_ZERO_LINE = 20,
     /* A line has more than 4,096 entries, each made by a record 4E, 58 or 4B. */
     CABLESALAK_TOO_MANY_ENTRIES = 21,
-    /* The proof has more than 1,024 lines. */
+    /* The proof has more than 1,024 lines; a DRAT text more than 1,024 clauses to add. */
     CABLESALAK_TOO_MANY_LINES = 22,
-    /* An entry, a line's work or a single call wants a new node and every place of the table is taken. */
+    /* An entry, a DRAT clause, a line's work or a single call wants a new node and every place of the table is taken. */
     CABLESALAK_TABLE_FULL = 23,
     /* Of a program: a file is longer than 65,536 bytes. */
     CABLESALAK_FILE_TOO_LONG = 24,
@@ -60,7 +60,7 @@ enum cablesalak_number {
     CABLESALAK_NOT_IN_ORDER = 26,
     /* Of a single call: a cofactor by the diagram 0 has no value. */
     CABLESALAK_COFACTOR_BY_ZERO = 27,
-    /* A record strikes out a member that does not exist or is struck out already. */
+    /* A record strikes out a member that does not exist or is struck out already; a DRAT text a clause that is no live member. */
     CABLESALAK_NO_SUCH_MEMBER = 28,
     /* A parity record's last byte is neither 1 (odd) nor 0 (even). */
     CABLESALAK_NO_SUCH_PARITY = 29

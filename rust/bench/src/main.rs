@@ -1,8 +1,9 @@
 //! `bench [--driver COMMAND] [--reference COMMAND] [--only WORD]`
 //!
 //! Times the proved library and the reference on the same commands in one run, the cost of text taken away, and says what
-//! stack a call takes. WORD is `single`, `check`, `slow` or `stack`.
+//! stack a call takes. WORD is `single`, `check`, `drat`, `slow` or `stack`.
 
+mod drat;
 mod pairs;
 mod slow;
 mod stack;
@@ -28,11 +29,14 @@ fn main() {
     if wanted("check") {
         time_all(&options, &workloads::check());
     }
+    if wanted("drat") {
+        time_all(&options, &drat::all());
+    }
     if wanted("slow") {
         time_all(&options, &slow::all());
     }
     if wanted("stack") {
-        stack::report(&options.driver, &[workloads::single(), workloads::check()].concat());
+        stack::report(&options.driver, &[workloads::single(), workloads::check(), drat::all()].concat());
     }
 }
 
@@ -46,7 +50,9 @@ fn options() -> Options {
             ("--reference", Some(command)) => options.reference = command,
             ("--only", Some(word)) => options.only = Some(word),
             _ => {
-                eprintln!("usage: bench [--driver COMMAND] [--reference COMMAND] [--only single|check|slow|stack]");
+                eprintln!(
+                    "usage: bench [--driver COMMAND] [--reference COMMAND] [--only single|check|drat|slow|stack]"
+                );
                 exit(2)
             }
         }

@@ -112,14 +112,19 @@ pub fn check() -> Vec<Workload> {
 pub fn proof(name: &str, problem: &families::Problem, places: usize) -> Workload {
     let mut writer = problem.builder.writer.clone();
     writer.end();
+    let name = format!("{name} ({} lines, {places} places)", problem.builder.lines.len());
+    whole(name, "check", places, &problem.formula.text(), &writer.bytes)
+}
+
+/// A whole check by this word.
+pub fn whole(name: String, word: &str, places: usize, formula: &[u8], proof: &[u8]) -> Workload {
     let hex = |bytes: &[u8]| bytes.iter().map(|byte| format!("{byte:02x}")).collect::<String>();
-    let (formula, proof) = (hex(&problem.formula.text()), hex(&writer.bytes));
-    let lines = problem.builder.lines.len();
+    let (formula, proof) = (hex(formula), hex(proof));
     Workload {
-        name: format!("{name} ({lines} lines, {places} places)"),
-        command: format!("check {places} 2048 4096 {formula} {proof}"),
+        name,
+        command: format!("{word} {places} 2048 4096 {formula} {proof}"),
         // A table of one place is refused at once.
-        text: format!("check 1 2048 4096 {formula} {proof}"),
+        text: format!("{word} 1 2048 4096 {formula} {proof}"),
     }
 }
 

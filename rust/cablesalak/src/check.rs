@@ -1,6 +1,7 @@
 //! The check of a formula and a proof.
 
-use crate::{raw, NodeNo, Number, Table, TableMut, Text};
+use crate::raw::{self, Checked, ColumnsMut};
+use crate::{NodeNo, Number, Table, TableMut};
 use std::fmt;
 
 /// The least length of the member list, and of the marks beside it.
@@ -8,13 +9,22 @@ pub const MEMBERS: usize = 2_048;
 /// The least length of the scratch list.
 pub const SCRATCH: usize = 4_096;
 
+/// The text that a place is a byte offset in.
+#[derive(Clone, Copy, Debug, PartialEq, Eq)]
+pub enum Text {
+    Formula,
+    Proof,
+}
+
 /// What a check says. Written out with `{}` it is the program's line: number, place, lines, rounds, peak.
 #[derive(Clone, Copy, Debug, PartialEq, Eq)]
 #[non_exhaustive]
 pub struct Verdict {
     /// Refuted, or why not.
     pub number: Number,
-    /// A byte offset, in the formula or in the proof as [`Number::text`] tells: what is refused, or the end record.
+    /// The text that the place is in; none with [`Number::WrongSize`]. In a check of a DRAT text a number alone does not tell it.
+    pub text: Option<Text>,
+    /// A byte offset: what is refused, or the end record; the text's length where it has none.
     pub place: usize,
     /// The accepted lines.
     pub lines: usize,
@@ -91,22 +101,49 @@ impl Workspace {
         self.member(place).map(|_| self.struck[place] != 0)
     }
 
-    /// The members that no record struck out, each with its place: what the next line would be judged by.
+    /// The members that the proof did not strike out, each with its place: what the next line would be judged by.
     pub fn live_members(&self) -> impl Iterator<Item = (usize, NodeNo)> + '_ {
         self.members().enumerate().filter(|(place, _)| self.struck[*place] == 0)
     }
+
+    fn check_by(&mut self, call: Call, formula: &[u8], proof: &[u8]) -> Verdict {
+        let Workspace { table, members, struck, member_count, scratch } = self;
+        let verdict = lent(call, &mut table.lend(), members, struck, scratch, formula, proof);
+        *member_count = match verdict.text {
+            Some(Text::Proof) => (clause_count(formula) + verdict.lines).min(members.len()),
+            _ => 0,
+        };
+        verdict
+    }
 }
 
-/// Checks a proof of a formula. Refuted: no assignment satisfies the formula, whatever the proof's bytes and whatever the
-/// workspace held before.
+/// A call of the archive, for one form of proof.
+type Call = fn(&mut ColumnsMut<'_>, usize, &mut [u16], &mut [u8], &mut [u16], &[u8], &[u8]) -> Checked;
+
+/// Checks a proof in records of a formula. Refuted: no assignment satisfies the formula, whatever the proof's bytes and whatever
+/// the workspace held before.
 pub fn check(workspace: &mut Workspace, formula: &[u8], proof: &[u8]) -> Verdict {
-    let Workspace { table, members, struck, member_count, scratch } = workspace;
-    let verdict = check_lent(&mut table.lend(), members, struck, scratch, formula, proof);
-    *member_count = match verdict.number.text() {
-        Some(Text::Proof) => (clause_count(formula) + verdict.lines).min(members.len()),
-        _ => 0,
-    };
-    verdict
+    workspace.check_by(raw::check, formula, proof)
+}
+
+/// The same with a proof that is a DRAT text.
+///
+/// ```
+/// use cablesalak::{check_text, Number, Text, Workspace};
+///
+/// let formula = b"p cnf 2 4\n1 2 0\n-1 2 0\n1 -2 0\n-1 -2 0\n";
+/// let mut workspace = Workspace::new(4_096)?;
+/// let verdict = check_text(&mut workspace, formula, b"2 0\nd 1 2 0\n0\n");
+/// assert!(verdict.refuted());
+/// assert_eq!(verdict.to_string(), "0 14 2 1 10");
+///
+/// // 3 is said of the formula and of the proof.
+/// let verdict = check_text(&mut workspace, formula, b"2 0\nx\n");
+/// assert_eq!((verdict.number, verdict.place, verdict.text), (Number::NotANumber, 4, Some(Text::Proof)));
+/// # Ok::<(), Number>(())
+/// ```
+pub fn check_text(workspace: &mut Workspace, formula: &[u8], proof: &[u8]) -> Verdict {
+    workspace.check_by(raw::check_text, formula, proof)
 }
 
 /// The header's number of clauses, in a formula that the check has read: the fourth word of the first line that is neither blank nor a comment.
@@ -117,7 +154,7 @@ fn clause_count(formula: &[u8]) -> usize {
     clauses.and_then(|word| word.parse().ok()).unwrap_or(0)
 }
 
-/// The same over lists of the caller's, whatever they hold. 7, and nothing is changed, where the member list has fewer than
+/// [`check`] over lists of the caller's, whatever they hold. 7, and nothing is changed, where the member list has fewer than
 /// 2,048 places, `struck` has more or fewer than the member list, or the scratch list has fewer than 4,096. Else the scratch
 /// list ends as zeros, and the table, the member list and the marks hold what [`Workspace`] tells, with zeros above the members.
 pub fn check_lent(
@@ -128,9 +165,38 @@ pub fn check_lent(
     formula: &[u8],
     proof: &[u8],
 ) -> Verdict {
-    let count = *table.count;
-    let said = raw::check(&mut table.lists, count, members, struck, scratch, formula, proof);
+    lent(raw::check, table, members, struck, scratch, formula, proof)
+}
+
+/// [`check_text`] over lists of the caller's, as [`check_lent`].
+pub fn check_text_lent(
+    table: &mut TableMut<'_>,
+    members: &mut [u16],
+    struck: &mut [u8],
+    scratch: &mut [u16],
+    formula: &[u8],
+    proof: &[u8],
+) -> Verdict {
+    lent(raw::check_text, table, members, struck, scratch, formula, proof)
+}
+
+fn lent(
+    call: Call,
+    table: &mut TableMut<'_>,
+    members: &mut [u16],
+    struck: &mut [u8],
+    scratch: &mut [u16],
+    formula: &[u8],
+    proof: &[u8],
+) -> Verdict {
+    let said = call(&mut table.lists, *table.count, members, struck, scratch, formula, proof);
     *table.count = said.count;
-    let raw::Checked { number, place, lines, rounds, count, peak } = said;
-    Verdict { number: Number::said(number), place, lines, rounds, count, peak }
+    let Checked { number, in_proof, place, lines, rounds, count, peak } = said;
+    let number = Number::said(number);
+    let text = match number {
+        Number::WrongSize => None,
+        _ if in_proof => Some(Text::Proof),
+        _ => Some(Text::Formula),
+    };
+    Verdict { number, text, place, lines, rounds, count, peak }
 }

@@ -25,6 +25,8 @@
 //! # Ok::<(), Number>(())
 //! ```
 //!
+//! A proof of a SAT solver, a DRAT text, is checked by [`check_text`].
+//!
 //! # A program
 //!
 //! [`report`] gives the line that `bin/refute` prints of two files, and the status to end with; both are proved.
@@ -78,11 +80,11 @@ mod report;
 mod table;
 mod view;
 
-pub use check::{check, check_lent, Verdict, Workspace, MEMBERS, SCRATCH};
+pub use check::{check, check_lent, check_text, check_text_lent, Text, Verdict, Workspace, MEMBERS, SCRATCH};
 pub use index::chain;
 pub use lent::{TableMut, PLACES};
 pub use node::{Node, NodeNo, Variables};
-pub use number::{NoSuchNumber, Number, Text};
+pub use number::{NoSuchNumber, Number};
 pub use raw::{Columns, ColumnsMut};
 pub use report::{report, Report, LONGEST};
 pub use table::Table;

@@ -15,14 +15,14 @@ pub enum Number {
     NoHeader = 1,
     /// The header names more than 64 variables or more than 1,024 clauses.
     HeaderTooLarge = 2,
-    /// A token behind the header is neither `0` nor an optional minus with digits that do not start with 0. Lines whose first byte is `c` are
-    /// comments, wherever they stand, and have no tokens.
+    /// A token behind the header, or of a DRAT text, is neither `0` nor an optional minus with digits that do not start with 0, nor a
+    /// text's `d` before a clause. Lines whose first byte is `c` are comments, wherever they stand, and have no tokens.
     NotANumber = 3,
-    /// A literal's variable is greater than the header's number of variables.
+    /// A literal's variable, in the formula or in a DRAT text, is greater than the header's number of variables.
     LiteralBeyondHeader = 4,
     /// The formula has fewer clauses than the header names, or a token after the last one.
     ClauseCount = 5,
-    /// The formula ends within a clause.
+    /// The formula, or a DRAT text, ends within a clause.
     ClauseOpen = 6,
     /// A lent part is too short or too long, or columns that belong together differ in length.
     WrongSize = 7,
@@ -44,19 +44,19 @@ pub enum Number {
     VariableTwice = 15,
     /// A witness stands before a RUP line, a striking or the end record, where none may.
     WitnessLeft = 16,
-    /// The line's diagram is 1, so that the line says nothing.
+    /// The line's diagram is 1, so that the line says nothing; a DRAT clause with both signs of a variable.
     AlwaysTrue = 17,
     /// The PR line's diagram under its witness is not 1.
     WitnessFails = 18,
-    /// Unit propagation meets no conflict, so that the line is not shown.
+    /// Unit propagation meets no conflict, so that the line is not shown; a DRAT clause by neither of its tries.
     NotShown = 19,
     /// The proof ends and no accepted line was the diagram 0.
     NoZeroLine = 20,
     /// A line has more than 4,096 entries, each made by a record `4E`, `58` or `4B`.
     TooManyEntries = 21,
-    /// The proof has more than 1,024 lines.
+    /// The proof has more than 1,024 lines; a DRAT text more than 1,024 clauses to add.
     TooManyLines = 22,
-    /// An entry, a line's work or a single call wants a new node and every place of the table is taken.
+    /// An entry, a DRAT clause, a line's work or a single call wants a new node and every place of the table is taken.
     TableFull = 23,
     /// Of a program: a file is longer than 65,536 bytes.
     FileTooLong = 24,
@@ -66,7 +66,7 @@ pub enum Number {
     NotInOrder = 26,
     /// Of a single call: a cofactor by the diagram 0 has no value.
     CofactorByZero = 27,
-    /// A record strikes out a member that does not exist or is struck out already.
+    /// A record strikes out a member that does not exist or is struck out already; a DRAT text a clause that is no live member.
     NoSuchMember = 28,
     /// A parity record's last byte is neither 1 (odd) nor 0 (even).
     NoSuchParity = 29,
@@ -108,13 +108,6 @@ const NUMBERS: [(Number, &str); 30] = [
     (NoSuchParity, "parity byte above 1"),
 ];
 
-/// The text that a place is a byte offset in.
-#[derive(Clone, Copy, Debug, PartialEq, Eq)]
-pub enum Text {
-    Formula,
-    Proof,
-}
-
 impl Number {
     /// All numbers, in their order.
     pub fn all() -> impl Iterator<Item = Number> {
@@ -124,16 +117,6 @@ impl Number {
     /// The number itself.
     pub fn code(self) -> u8 {
         self as u8
-    }
-
-    /// The text that a check's place with this number is an offset in, if it is in one.
-    pub fn text(self) -> Option<Text> {
-        match self {
-            WrongSize | FileTooLong | FileUnreadable | NotInOrder | CofactorByZero => None,
-            FullAtClause => Some(Text::Formula),
-            other if (NoHeader..=ClauseOpen).contains(&other) => Some(Text::Formula),
-            _ => Some(Text::Proof),
-        }
     }
 
     /// What the library said. Its contracts give no number above 29.

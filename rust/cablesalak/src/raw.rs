@@ -40,6 +40,8 @@ pub struct AtLeast {
 #[derive(Clone, Copy, Debug, PartialEq, Eq)]
 pub struct Checked {
     pub number: u8,
+    /// Whether the place is in the proof; else it is in the formula, or the number is 7.
+    pub in_proof: bool,
     pub place: usize,
     pub lines: usize,
     pub rounds: u64,
@@ -66,6 +68,7 @@ const _: () = {
     assert!(size_of::<AtLeast>() == 32 && offset_of!(AtLeast, node) == 2 && offset_of!(AtLeast, count) == 8);
     assert!(offset_of!(AtLeast, counted) == 16 && offset_of!(AtLeast, excluded) == 24);
     assert!(size_of::<Checked>() == 48 && offset_of!(Checked, place) == 8 && offset_of!(Checked, lines) == 16);
+    assert!(offset_of!(Checked, in_proof) == 1);
     assert!(offset_of!(Checked, rounds) == 24 && offset_of!(Checked, count) == 32 && offset_of!(Checked, peak) == 40);
     assert!(size_of::<Told>() == 16 && offset_of!(Told, status) == 8);
 };
@@ -196,6 +199,30 @@ mod archive {
             proof_length: usize,
         ) -> Checked;
 
+        pub fn cablesalak_check_text(
+            vars: *mut u8,
+            vars_length: usize,
+            lows: *mut u16,
+            lows_length: usize,
+            highs: *mut u16,
+            highs_length: usize,
+            heads: *mut u16,
+            heads_length: usize,
+            links: *mut u16,
+            links_length: usize,
+            count: usize,
+            members: *mut u16,
+            members_length: usize,
+            struck: *mut u8,
+            struck_length: usize,
+            scratch: *mut u16,
+            scratch_length: usize,
+            formula: *const u8,
+            formula_length: usize,
+            proof: *const u8,
+            proof_length: usize,
+        ) -> Checked;
+
         pub fn cablesalak_report(
             formula_read: bool,
             formula: *const u8,
@@ -286,36 +313,51 @@ pub fn at_least(table: &mut ColumnsMut<'_>, count: usize, set: u64, k: u8) -> At
     call!(cablesalak_at_least, table.as_mut_ptr, count, set, k)
 }
 
-/// The check of a formula and a proof. Number 0: no assignment satisfies the formula.
-pub fn check(
-    table: &mut ColumnsMut<'_>,
-    count: usize,
-    members: &mut [u16],
-    struck: &mut [u8],
-    scratch: &mut [u16],
-    formula: &[u8],
-    proof: &[u8],
-) -> Checked {
-    let (members, members_length) = (members.as_mut_ptr(), members.len());
-    let (struck, struck_length) = (struck.as_mut_ptr(), struck.len());
-    let (scratch, scratch_length) = (scratch.as_mut_ptr(), scratch.len());
-    let (formula, formula_length) = (formula.as_ptr(), formula.len());
-    let (proof, proof_length) = (proof.as_ptr(), proof.len());
-    call!(
-        cablesalak_check,
-        table.as_mut_ptr,
-        count,
-        members,
-        members_length,
-        struck,
-        struck_length,
-        scratch,
-        scratch_length,
-        formula,
-        formula_length,
-        proof,
-        proof_length
-    )
+/// A check of a formula and a proof by the archive's call of that name: the proof's form is all in which the calls differ.
+macro_rules! check {
+    ($(#[$about:meta])* $name:ident, $call:ident) => {
+        $(#[$about])*
+        pub fn $name(
+            table: &mut ColumnsMut<'_>,
+            count: usize,
+            members: &mut [u16],
+            struck: &mut [u8],
+            scratch: &mut [u16],
+            formula: &[u8],
+            proof: &[u8],
+        ) -> Checked {
+            let (members, members_length) = (members.as_mut_ptr(), members.len());
+            let (struck, struck_length) = (struck.as_mut_ptr(), struck.len());
+            let (scratch, scratch_length) = (scratch.as_mut_ptr(), scratch.len());
+            let (formula, formula_length) = (formula.as_ptr(), formula.len());
+            let (proof, proof_length) = (proof.as_ptr(), proof.len());
+            call!(
+                $call,
+                table.as_mut_ptr,
+                count,
+                members,
+                members_length,
+                struck,
+                struck_length,
+                scratch,
+                scratch_length,
+                formula,
+                formula_length,
+                proof,
+                proof_length
+            )
+        }
+    };
+}
+
+check! {
+    /// The check of a formula and a proof in records. Number 0: no assignment satisfies the formula.
+    check, cablesalak_check
+}
+
+check! {
+    /// The check of a formula and a proof that is a DRAT text. Number 0: no assignment satisfies the formula.
+    check_text, cablesalak_check_text
 }
 
 /// The program's line on two files, put at the start of `line`, and the status to end with: 0 for refuted alone, 2 where a file was not taken,

@@ -46,9 +46,14 @@ fn hex(bytes: &[u8]) -> String {
 
 /// The command, with lists as short as they may be or longer.
 pub fn command(random: &mut Random, size: usize, formula: &[u8], proof: &[u8]) -> String {
+    command_of(random, "check", size, formula, proof)
+}
+
+/// The same of the check by this word.
+pub fn command_of(random: &mut Random, word: &str, size: usize, formula: &[u8], proof: &[u8]) -> String {
     let members = 2048 + random.pick(&[0, 0, 0, 1, 700]);
     let scratch = 4096 + random.pick(&[0, 0, 0, 1, 900]);
-    format!("check {size} {members} {scratch} {} {}", hex(formula), hex(proof))
+    format!("{word} {size} {members} {scratch} {} {}", hex(formula), hex(proof))
 }
 
 fn finished(problem: &Problem) -> Vec<u8> {
@@ -102,7 +107,7 @@ fn small(random: &mut Random) -> Problem {
     some_struck(random, Problem { formula, builder }, 25)
 }
 
-fn small_formula(random: &mut Random) -> Formula {
+pub fn small_formula(random: &mut Random) -> Formula {
     let variables = random.between(1, 7);
     let clauses = random.below(5 * variables);
     let width = random.between(1, 4);
@@ -179,6 +184,11 @@ pub fn witness(random: &mut Random, variables: usize) -> Literals {
 
 fn wrong_sizes(random: &mut Random) -> Vec<String> {
     let problem = small(random);
+    vec![wrong_size(random, "check", &problem.formula.text(), &finished(&problem))]
+}
+
+/// A command of the check by this word with one lent part of a wrong size.
+pub fn wrong_size(random: &mut Random, word: &str, formula: &[u8], proof: &[u8]) -> String {
     let (mut size, mut members, mut scratch, mut index) = (4096, 2048, 4096, String::new());
     match random.below(5) {
         0 => size = random.pick(&[0, 1, 65_537, 70_000]),
@@ -190,17 +200,21 @@ fn wrong_sizes(random: &mut Random) -> Vec<String> {
             index = index::wrong_size(random, size);
         }
     }
-    let (text, proof) = (hex(&problem.formula.text()), hex(&finished(&problem)));
-    vec![format!("check {size} {members} {scratch} {text} {proof}{index}")]
+    format!("{word} {size} {members} {scratch} {} {}{index}", hex(formula), hex(proof))
 }
 
 /// The same formula and proof in tables of one place, one more and so on: full at each making.
 fn nearly_full(random: &mut Random) -> Vec<String> {
     let problem = if random.percent(80) { small(random) } else { family(random) };
     let (text, proof) = (problem.formula.strewn(random), finished(&problem));
+    small_sizes(random).map(|size| command(random, size, &text, &proof)).collect()
+}
+
+/// A few sizes that follow each other, small ones most often.
+pub fn small_sizes(random: &mut Random) -> std::ops::Range<usize> {
     let first = random.pick(&[2, 4, 8, 15, 25, 40, 70, 150, 300]);
     let first = first + random.below(first);
-    (first..first + random.between(1, 8)).map(|size| command(random, size, &text, &proof)).collect()
+    first..first + random.between(1, 8)
 }
 
 /// The same check in tables of its peak, one place more, one fewer and some sizes below: those above the formula's own peak fill in the proof,
@@ -208,7 +222,9 @@ fn nearly_full(random: &mut Random) -> Vec<String> {
 pub fn around_peak(random: &mut Random, command: &str, answer: &str) -> Vec<String> {
     let peak = answer.split(' ').nth(5).and_then(|word| word.parse::<usize>().ok()).unwrap_or(0);
     let mut words = command.splitn(3, ' ');
-    let (Some("check"), Some(_), Some(rest), true) = (words.next(), words.next(), words.next(), peak > 2) else {
+    let (Some(word @ ("check" | "drat")), Some(_), Some(rest), true) =
+        (words.next(), words.next(), words.next(), peak > 2)
+    else {
         return Vec::new();
     };
     let mut sizes = vec![peak - 1, peak, (peak + 1).min(65_536)];
@@ -216,7 +232,7 @@ pub fn around_peak(random: &mut Random, command: &str, answer: &str) -> Vec<Stri
     sizes.extend((2..peak - 1).rev().take(if random.percent(20) { 20 } else { 2 }));
     sizes.sort_unstable();
     sizes.dedup();
-    sizes.iter().map(|size| format!("check {size} {rest}")).collect()
+    sizes.iter().map(|size| format!("{word} {size} {rest}")).collect()
 }
 
 /// A few bytes of the formula or of the proof changed, taken away or put in.
@@ -225,7 +241,7 @@ fn mutated(random: &mut Random) -> Vec<String> {
     let (mut text, mut proof) = (problem.formula.strewn(random), finished(&problem));
     for _ in 0..random.between(1, 3) {
         if random.percent(30) {
-            mutate(random, &mut text, b" \n\t\r0123456789-cpx");
+            mutate(random, &mut text, LETTERS);
         } else {
             mutate(random, &mut proof, &KINDS_AND_NUMBERS);
         }
@@ -233,10 +249,13 @@ fn mutated(random: &mut Random) -> Vec<String> {
     vec![command(random, 4096, &text, &proof)]
 }
 
+/// What stands in a formula, and in a text with `d`.
+pub const LETTERS: &[u8] = b" \n\t\r0123456789-cdpx";
+
 const KINDS_AND_NUMBERS: [u8; 19] =
     [0x4e, 0x58, 0x4b, 0x54, 0x46, 0x52, 0x50, 0x44, 0x45, 0, 1, 2, 3, 4, 5, 6, 7, 64, 255];
 
-fn mutate(random: &mut Random, bytes: &mut Vec<u8>, alphabet: &[u8]) {
+pub fn mutate(random: &mut Random, bytes: &mut Vec<u8>, alphabet: &[u8]) {
     if bytes.is_empty() {
         return;
     }

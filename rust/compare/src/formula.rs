@@ -42,28 +42,18 @@ impl Formula {
         match random.below(7) {
             0 => return improper(random, &header),
             1 | 6 => header = too_large(random, self),
-            2 => replace(
-                random,
-                &mut tokens,
-                &[
-                    "-0", "00", "01", "-", "--1", "+1", "1x", "x", "c", " c", "\rc", "\tc 1", "1 c", "1-", "-01", "p",
-                    "\u{b}",
-                ],
-            ),
-            3 => {
-                let beyond = self.variables + random.pick(&[1, 2, 10, 1000]);
-                let huge = format!("-{}9", beyond * 1_000_000_007);
-                let (plain, minus) = (beyond.to_string(), format!("-{beyond}"));
-                let words =
-                    [plain.as_str(), &minus, &huge, "18446744073709551617", "340282366920938463463374607431768211457"];
-                replace(random, &mut tokens, &words);
-            }
+            2 => replace(random, &mut tokens, &NO_NUMBERS),
+            3 => replace_beyond(random, &mut tokens, self.variables),
             4 => number_of_clauses(random, &mut tokens),
             _ => leave_open(random, &mut tokens, self.variables),
         }
         laid_out(random, &header, &tokens)
     }
 }
+
+/// 3: tokens that are no numbers.
+pub const NO_NUMBERS: [&str; 17] =
+    ["-0", "00", "01", "-", "--1", "+1", "1x", "x", "c", " c", "\rc", "\tc 1", "1 c", "1-", "-01", "p", "\u{b}"];
 
 const SPACES: [&str; 8] = [" ", " ", " ", "\n", "\n", "\t", "\r\n", "  \r"];
 
@@ -81,21 +71,26 @@ fn laid_out(random: &mut Random, header: &str, tokens: &[String]) -> Vec<u8> {
     let words: Vec<&str> = header.split(' ').collect();
     text += &words.join(random.pick(&[" ", "  ", "\t", " \t "]));
     text += random.pick(&["\n", "\n", " \n", "\r\n", "\t\r \n"]);
-    comments(random, &mut text, often);
+    strew(random, &mut text, tokens, often);
+    text.into_bytes()
+}
+
+/// Tokens behind a text, with blanks and comment lines; these with the chance of each in percent.
+pub fn strew(random: &mut Random, text: &mut String, tokens: &[String], often: usize) {
+    comments(random, text, often);
     for token in tokens {
-        text += token;
-        text += random.pick(&SPACES);
-        comments(random, &mut text, often);
+        *text += token;
+        *text += random.pick(&SPACES);
+        comments(random, text, often);
     }
     if random.percent(30) {
         text.truncate(text.trim_end().len());
     }
-    text.into_bytes()
 }
 
 /// Comment lines at the text's end, if a line begins there, with the chance of each in percent.
 fn comments(random: &mut Random, text: &mut String, often: usize) {
-    while text.ends_with('\n') && random.percent(often) {
+    while (text.is_empty() || text.ends_with('\n')) && random.percent(often) {
         *text += random.pick(&COMMENTS);
     }
 }
@@ -152,13 +147,22 @@ fn too_large(random: &mut Random, formula: &Formula) -> String {
     }
 }
 
-fn replace(random: &mut Random, tokens: &mut Vec<String>, words: &[&str]) {
+pub fn replace(random: &mut Random, tokens: &mut Vec<String>, words: &[&str]) {
     let word = random.pick(words).to_string();
     if tokens.is_empty() {
         return tokens.push(word);
     }
     let at = random.below(tokens.len());
     tokens[at] = word;
+}
+
+/// 4: a literal beyond so many variables, by one or by far.
+pub fn replace_beyond(random: &mut Random, tokens: &mut Vec<String>, variables: usize) {
+    let beyond = variables + random.pick(&[1, 2, 10, 1000]);
+    let huge = format!("-{}9", beyond * 1_000_000_007);
+    let (plain, minus) = (beyond.to_string(), format!("-{beyond}"));
+    let words = [plain.as_str(), &minus, &huge, "18446744073709551617", "340282366920938463463374607431768211457"];
+    replace(random, tokens, &words);
 }
 
 /// 5: clauses too few or too many, whatever the surplus token is.

@@ -1,13 +1,16 @@
 //! Generators of commands for the filters of the line protocol, and the filters as child processes.
 
 pub mod check;
+pub mod clausal;
 pub mod diagram;
+pub mod drat;
 pub mod families;
 mod fault;
 pub mod filter;
 pub mod formula;
 mod index;
 mod large;
+pub mod outside;
 pub mod proof;
 pub mod random;
 pub mod single;

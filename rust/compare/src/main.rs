@@ -1,11 +1,12 @@
 //! `compare [COUNT] [SEED] [--left COMMAND] [--right COMMAND] [--only WORD,WORD,..]`
 //!
-//! Asks two filters the same random commands, COUNT of them, and some of the checks again in tables around their peak. Says how
-//! often each number came; ends with status 1 and shows the command where the answers differ. The filters are `driver` and `reference` beside this program where none are named.
+//! Asks two filters the same random commands, COUNT of them, and some of the checks again in tables around their peak; holds what they
+//! say of DRAT texts to RUP and RAT over clauses. Says how often each number came; ends with status 1 and shows the command where the
+//! answers differ. The filters are `driver` and `reference` beside this program where none are named.
 
 use compare::filter::Filter;
 use compare::random::Random;
-use compare::{check, single, tally};
+use compare::{check, clausal, drat, single, tally};
 use std::collections::BTreeMap;
 use std::process::exit;
 
@@ -46,7 +47,12 @@ fn agreed(options: &Options, filters: &mut [Filter; 2], commands: &[String], tal
         if left.is_none() || left != right {
             differ(options, command, [left, right]);
         }
-        tally.add(command, left.unwrap());
+        let held = clausal::hold(command, left.unwrap());
+        if let Some((said, false)) = held {
+            println!("compare: by RUP and RAT over clauses: {said:?}");
+            differ(options, command, [left, right]);
+        }
+        tally.add(command, left.unwrap(), held.map(|(said, _)| said.by_rat > 0));
     }
     left
 }
@@ -55,7 +61,7 @@ fn agreed(options: &Options, filters: &mut [Filter; 2], commands: &[String], tal
 fn refilled(random: &mut Random, commands: &[String], answers: &[String]) -> Vec<String> {
     let mut again = Vec::new();
     for (command, answer) in commands.iter().zip(answers) {
-        if command.starts_with("check ") && random.percent(5) {
+        if ["check ", "drat "].iter().any(|word| command.starts_with(word)) && random.percent(5) {
             again.extend(check::around_peak(random, command, answer));
         }
     }
@@ -64,7 +70,7 @@ fn refilled(random: &mut Random, commands: &[String], answers: &[String]) -> Vec
 
 fn options() -> Options {
     let beside = |name: &str| std::env::current_exe().unwrap().with_file_name(name).display().to_string();
-    let words = single::WORDS.iter().chain(&["check"]).map(|word| word.to_string()).collect();
+    let words = single::WORDS.iter().chain(&["check", "drat"]).map(|word| word.to_string()).collect();
     let mut options = Options { count: 2000, seed: 1, filters: [beside("driver"), beside("reference")], words };
     let mut numbers = 0;
     let mut given = std::env::args().skip(1);
@@ -95,15 +101,20 @@ fn usage() -> ! {
 
 /// Some commands, at most so many.
 fn batch(random: &mut Random, words: &[String], most: usize) -> Vec<String> {
-    let singles: Vec<&str> = words.iter().map(String::as_str).filter(|word| *word != "check").collect();
-    let checks = words.len() > singles.len();
+    let singles: Vec<&str> =
+        words.iter().map(String::as_str).filter(|word| !["check", "drat"].contains(word)).collect();
+    // Each kind that is wanted as often as it stands here.
+    let wanted = |word: &str| words.iter().any(|other| other == word);
+    let shares = [("check", 9), ("drat", 5)].into_iter().filter(|(word, _)| wanted(word));
+    let mut kinds: Vec<&str> = shares.flat_map(|(word, share)| vec![word; share]).collect();
+    kinds.extend(vec![""; if singles.is_empty() { 0 } else { 9 }]);
     let mut commands = Vec::new();
     while commands.len() < most.min(200) {
-        if checks && (singles.is_empty() || random.percent(50)) {
-            commands.extend(check::commands(random));
-        } else {
-            commands.extend(single::commands(random, &singles));
-        }
+        commands.extend(match random.pick(&kinds) {
+            "check" => check::commands(random),
+            "drat" => drat::commands(random),
+            _ => single::commands(random, &singles),
+        });
     }
     commands.truncate(most);
     commands
@@ -142,19 +153,26 @@ struct Tally {
 }
 
 impl Tally {
-    fn add(&mut self, command: &str, answer: &str) {
+    /// `held` where clauses were asked too: whether a clause is RAT and not RUP.
+    fn add(&mut self, command: &str, answer: &str, held: Option<bool>) {
         self.asked += 1;
         let first = |line: &str| line.split(' ').next().unwrap_or("").to_string();
-        let number = first(answer).parse().unwrap_or(99);
+        let (word, number) = (first(command), first(answer).parse().unwrap_or(99));
         let mut add = |what: String| *self.numbers.entry(what).or_default().entry(number).or_default() += 1;
-        add(first(command));
-        // The checks that struck out a member and those with a record of a set, once more.
+        // The checks that struck out a member, those with a record of a set, and the texts that were held to clauses, once more.
         if answer.split(" | ").nth(3).is_some_and(|marks| marks.contains('1')) {
-            add("check, struck".into());
+            add(format!("{word}, struck"));
         }
-        if command.starts_with("check ") && command.split(' ').nth(5).is_some_and(tally::stands_in) {
+        if word == "check" && command.split(' ').nth(5).is_some_and(tally::stands_in) {
             add("check, sets".into());
         }
+        if held.is_some() {
+            add("drat, by clauses".into());
+        }
+        if held == Some(true) {
+            add("drat, by clauses, RAT".into());
+        }
+        add(word);
     }
 
     fn text(&self) -> String {

@@ -1,6 +1,6 @@
 //! Makes the calls, compares every lent place with what documents 01 and 02 say, and writes the answer.
 
-use crate::command::{Call, Check, Command, Node, Table};
+use crate::command::{Call, Check, Command, Form, Node, Table};
 use crate::lent::{Dirt, Lent, Lists};
 use cablesalak::raw::{self, AtLeast, Checked, Single};
 use std::fmt::Write;
@@ -86,18 +86,19 @@ const LENT_COUNT: usize = 2;
 fn check(asked: &Check, dirt: &mut Dirt) -> Answered {
     let seed = dirt.next();
     let mut parts = dirty_parts(asked, seed);
-    let said = judge(&mut parts, asked);
+    let said = judge(&mut parts, asked, &asked.proof);
     expect(parts.table.guarded(), "written outside the table")?;
     expect(parts.members.guarded(), "written outside the member list")?;
     expect(parts.struck.guarded(), "written outside the marks")?;
     expect(parts.scratch.guarded(), "written outside the scratch list")?;
+    expect(said.in_proof == in_proof(asked, &said), "the place is told to be in the other text")?;
     let kept = match said.number {
         7 => {
             unchanged(&parts, &dirty_parts(asked, seed))?;
             None
         }
-        1..=6 | 8 => Some(0),
-        _ => Some(clauses(&asked.formula) + said.lines),
+        _ if said.in_proof => Some(clauses(&asked.formula) + said.lines),
+        _ => Some(0),
     };
     if let Some(kept) = kept {
         left(&parts, said.count, kept)?;
@@ -105,7 +106,7 @@ fn check(asked: &Check, dirt: &mut Dirt) -> Answered {
     let nodes = kept.map_or("-".into(), |_| shown(&parts.table));
     let kept = kept.unwrap_or(0);
     let (list, marks) = (numbers(&parts.members.places()[..kept]), digits(&parts.struck.places()[..kept]));
-    let Checked { number, place, lines, rounds, count, peak } = said;
+    let Checked { number, place, lines, rounds, count, peak, .. } = said;
     Ok(format!("{number} {place} {lines} {rounds} {count} {peak} | {nodes} | {list} | {marks}"))
 }
 
@@ -120,17 +121,23 @@ fn dirty_parts(asked: &Check, seed: u64) -> Parts {
     }
 }
 
-fn judge(parts: &mut Parts, asked: &Check) -> Checked {
+fn judge(parts: &mut Parts, asked: &Check, proof: &[u8]) -> Checked {
     let Parts { table, members, struck, scratch } = parts;
-    raw::check(
-        &mut table.lend(),
-        LENT_COUNT,
-        members.lend(),
-        struck.lend(),
-        scratch.lend(),
-        &asked.formula,
-        &asked.proof,
-    )
+    let call = match asked.form {
+        Form::Records => raw::check,
+        Form::Text => raw::check_text,
+    };
+    let (members, struck, scratch) = (members.lend(), struck.lend(), scratch.lend());
+    call(&mut table.lend(), LENT_COUNT, members, struck, scratch, &asked.formula, proof)
+}
+
+/// Which text the place must be in. 3, 4 and 6 are said of the formula and of a DRAT text; of a formula that is fine an empty text gets 20.
+fn in_proof(asked: &Check, said: &Checked) -> bool {
+    match said.number {
+        3 | 4 | 6 if asked.form == Form::Text => judge(&mut dirty_parts(asked, 0), asked, b"").number == 20,
+        1..=8 => false,
+        _ => true,
+    }
 }
 
 /// "Number 7 changes nothing."

@@ -35,8 +35,17 @@ pub enum Call {
     AtLeast(u64, u8),
 }
 
+/// The form of a proof.
+#[derive(Clone, Copy, PartialEq, Eq)]
+pub enum Form {
+    Records,
+    /// A DRAT text.
+    Text,
+}
+
 /// Sizes and bytes of a whole check.
 pub struct Check {
+    pub form: Form,
     pub size: usize,
     /// Without changes: the check may find anything in it.
     pub index: Index,
@@ -60,8 +69,9 @@ pub fn read(line: &str) -> Option<Command> {
     let told = words.iter().position(|word| word.starts_with('!')).unwrap_or(words.len());
     let index = index(&words[told..])?;
     match words[..told] {
-        ["check", ..] if !index.changes.is_empty() => None,
-        ["check", size, members, scratch, formula, proof] => Some(Command::Check(Check {
+        ["check" | "drat", ..] if !index.changes.is_empty() => None,
+        [word @ ("check" | "drat"), size, members, scratch, formula, proof] => Some(Command::Check(Check {
+            form: if word == "drat" { Form::Text } else { Form::Records },
             size: places(size)?,
             index,
             members: places(members)?,

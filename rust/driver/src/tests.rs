@@ -2,7 +2,7 @@
 
 use crate::command::{self, Change, Index, Table};
 use crate::lent::Lists;
-use cablesalak::raw::{self, AtLeast, Columns, ColumnsMut};
+use cablesalak::raw::{self, AtLeast, Checked, Columns, ColumnsMut};
 
 #[test]
 fn what_is_no_command() {
@@ -36,6 +36,10 @@ fn what_is_no_command() {
         "not 4 3 - 2 !LS:1=1",
         "not 4 3 - !HS=8 2",
         "check 4 2048 4096 - - !H:1=1",
+        "drat 4 2048 4096 - - !L:1=1",
+        "drat 4 2048 4096 -",
+        "drat 4 2048 4096 - 4E",
+        "drat 4 3 - 2 1",
         "atleast 4 3 - 3",
         "atleast 4 3 - 3 1 1",
         "atleast 4 3 - 3 256",
@@ -57,6 +61,8 @@ fn what_is_a_command() {
         "check 0 0 0 - 4e0a",
         "not 4 3 - 2 !H:1=65535 !L:99=0 !HS=0 !LS=9 !H:1=2",
         "check 4 2048 4096 - - !LS=3 !HS=9",
+        "drat 4 2048 4096 70 320a !HS=3",
+        "drat 0 0 0 - -",
         "atleast 4 3 - 18446744073709551615 255",
         "atleast 0 0 @- 0 0 !L:1=2 !HS=3",
     ];
@@ -130,8 +136,11 @@ fn unequal_marks() {
 
 fn refused_for_size(table: &mut ColumnsMut<'_>, marks: usize) {
     let (mut members, mut struck, mut scratch) = (vec![5u16; 2048], vec![4u8; marks], vec![6u16; 4096]);
-    let said = raw::check(table, 9, &mut members, &mut struck, &mut scratch, b"p cnf 0 0", &[0x45]);
-    assert_eq!((said.number, said.place, said.lines, said.rounds, said.count, said.peak), (7, 0, 0, 0, 9, 0));
+    for call in [raw::check, raw::check_text] {
+        let said = call(table, 9, &mut members, &mut struck, &mut scratch, b"p cnf 0 0", b"0");
+        let refused = Checked { number: 7, in_proof: false, place: 0, lines: 0, rounds: 0, count: 9, peak: 0 };
+        assert_eq!(said, refused);
+    }
     assert!(members.iter().all(|place| *place == 5) && scratch.iter().all(|place| *place == 6));
     assert!(struck.iter().all(|mark| *mark == 4));
 }

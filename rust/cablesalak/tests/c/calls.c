@@ -175,8 +175,7 @@ static const uint8_t parity[] = {0x58, 2, 0, 0, 0, 0, 0, 0, 0, 2};
 static uint8_t vars[64], struck[2049];
 static uint16_t lows[64], highs[64], heads[128], links[64], members[2048], scratch[4096];
 
-static cablesalak_checked check_indexed(size_t heads_length, size_t links_length, size_t struck_length, size_t scratch_length,
-                                        const uint8_t *lines, size_t length)
+static void dirty(void)
 {
     memset(vars, 0xA5, sizeof vars);
     memset(lows, 0xA5, sizeof lows);
@@ -186,6 +185,12 @@ static cablesalak_checked check_indexed(size_t heads_length, size_t links_length
     memset(members, 0xA5, sizeof members);
     memset(struck, 0xA5, sizeof struck);
     memset(scratch, 0xA5, sizeof scratch);
+}
+
+static cablesalak_checked check_indexed(size_t heads_length, size_t links_length, size_t struck_length, size_t scratch_length,
+                                        const uint8_t *lines, size_t length)
+{
+    dirty();
     return cablesalak_check(vars, 64, lows, 64, highs, 64, heads, heads_length, links, links_length, 9, members, 2048,
                             struck, struck_length, scratch, scratch_length, (const uint8_t *)FORMULA, strlen(FORMULA),
                             lines, length);
@@ -194,6 +199,15 @@ static cablesalak_checked check_indexed(size_t heads_length, size_t links_length
 static cablesalak_checked check(size_t struck_length, size_t scratch_length, const uint8_t *lines, size_t length)
 {
     return check_indexed(128, 64, struck_length, scratch_length, lines, length);
+}
+
+/* A DRAT text as the proof of a formula. */
+static cablesalak_checked check_text(size_t scratch_length, const char *formula, const char *text)
+{
+    dirty();
+    return cablesalak_check_text(vars, 64, lows, 64, highs, 64, heads, 128, links, 64, 9, members, 2048, struck, 2048,
+                                 scratch, scratch_length, (const uint8_t *)formula, strlen(formula), (const uint8_t *)text,
+                                 strlen(text));
 }
 
 /* Whether the index that a check leaves is that of the nodes below the count. */
@@ -211,11 +225,18 @@ static bool left_indexed(size_t count)
     return is && memcmp(heads, right, sizeof heads) == 0;
 }
 
+static bool tells_of(cablesalak_checked said, bool in_proof, unsigned number, size_t place, size_t lines, uint64_t rounds,
+                     size_t count, size_t peak)
+{
+    return said.number == number && said.in_proof == in_proof && said.place == place && said.lines == lines &&
+           said.rounds == rounds && said.count == count && said.peak == peak;
+}
+
+/* Of the proof, unless the number is 7. */
 static bool says(cablesalak_checked said, unsigned number, size_t place, size_t lines, uint64_t rounds, size_t count,
                  size_t peak)
 {
-    return said.number == number && said.place == place && said.lines == lines && said.rounds == rounds &&
-           said.count == count && said.peak == peak;
+    return tells_of(said, number != CABLESALAK_WRONG_SIZE, number, place, lines, rounds, count, peak);
 }
 
 /* Whether just these marks are 1, a digit each, and the others 0. */
@@ -252,6 +273,20 @@ static void checks(void)
     EXPECT(refused_for_size(check_indexed(128, 63, 2048, 4096, proof, sizeof proof)));
 }
 
+/* Texts as proofs: a clause of either try, a striking, and 3 in the text and in the formula. */
+static void texts(void)
+{
+    EXPECT(says(check_text(4096, FORMULA, "2 0\n0\n"), CABLESALAK_REFUTED, 6, 2, 1, 8, 10));
+    EXPECT(members[0] == 3 && members[3] == 7 && members[4] == 2 && members[5] == 0 && members[2047] == 0);
+    EXPECT(vars[8] == 0 && scratch[0] == 0 && scratch[4095] == 0 && marked("") && left_indexed(8));
+    EXPECT(says(check_text(4096, "p cnf 2 1\n1 2 0\n", "1 0 d 2 1 0"), CABLESALAK_NO_ZERO_LINE, 11, 1, 0, 5, 6));
+    EXPECT(marked("10") && left_indexed(5));
+    EXPECT(says(check_text(4096, FORMULA, "d 2 0"), CABLESALAK_NO_SUCH_MEMBER, 0, 0, 0, 8, 8));
+    EXPECT(says(check_text(4096, "p cnf 1 0", "x"), CABLESALAK_NOT_A_NUMBER, 0, 0, 0, 2, 2));
+    EXPECT(tells_of(check_text(4096, "p cnf 1 1\nx", "x"), false, CABLESALAK_NOT_A_NUMBER, 10, 0, 0, 2, 2) && marked(""));
+    EXPECT(refused_for_size(check_text(4095, FORMULA, "2 0\n0\n")));
+}
+
 /* The line at the start, what lies behind it as it was, and the status. */
 static bool tells(bool formula_read, bool proof_read, const uint8_t *lines, size_t length, const char *line, unsigned status)
 {
@@ -281,6 +316,7 @@ int main(void)
     refused();
     wrong_index();
     checks();
+    texts();
     reports();
     for (unsigned number = 0; cablesalak_meaning(number) != 0; number++)
         printf("%u %s\n", number, cablesalak_meaning(number));

@@ -59,7 +59,7 @@ static void check(size_t places, size_t marks, const char *formula, const char *
     cablesalak_checked b = cablesalak_check_nodes(nodes, places, heads[1], chains, links[1], places, 9, members[1], MEMBERS,
                                                   struck[1], marks, scratch[1], SCRATCH, text, strlen(formula), bytes, length);
     EXPECT(a.number == number && b.number == number);
-    EXPECT(a.place == b.place && a.lines == b.lines && a.rounds == b.rounds && a.count == b.count &&
+    EXPECT(a.in_proof == b.in_proof && a.place == b.place && a.lines == b.lines && a.rounds == b.rounds && a.count == b.count &&
            a.peak == b.peak);
     same_places();
     for (unsigned node = 0; number != 7 && node < 4; node++)

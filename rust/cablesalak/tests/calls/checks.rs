@@ -1,7 +1,8 @@
 //! Every number that a check gives: document 01's examples through the wrapper, over dirty lists.
 
 use crate::lent::Lists;
-use cablesalak::{check, report, NodeNo, Number, Text, Variables, Verdict, Workspace};
+use crate::rows::{self, Row, RECORDS};
+use cablesalak::{check, report, NodeNo, Number, Text, Variables, Workspace};
 
 const A: &[u8] = b"p cnf 2 4\n1 2 0\n-1 2 0\n1 -2 0\n-1 -2 0\n";
 const A_PROOF: &[u8] = b"\x4E\x02\0\0\x01\0\x52\x02\0\x52\0\0\x45";
@@ -13,50 +14,24 @@ const F_PROOF: &[u8] = b"\x4E\x01\0\0\x01\0\x52\x02\0\x45";
 /// The line "at least two of 1, 2, 3".
 const I_PROOF: &[u8] = b"\x4E\x03\0\0\x01\0\x4E\x02\0\0\x02\0\x4E\x02\x02\0\x01\0\x4E\x01\x03\0\x04\0\x52\x05\0\x45";
 
-/// Places of the table, formula, proof; number, place, lines, rounds, count, peak; the clauses that are left as members.
-type Row<'a> = (usize, &'a [u8], &'a [u8], (u8, usize, usize, u64, usize, usize), usize);
-
-/// Runs the row over dirty lists and over a workspace that other rows have used. The marks are a digit for each member.
-fn run(row: &Row, marks: &str, workspace: &mut Workspace) {
-    let (size, formula, proof, said, clauses) = *row;
-    let mut lists = Lists::of_size(size);
-    let verdict = lists.check(formula, proof);
-    let number = verdict.number;
-    let Verdict { place, lines, rounds, count, peak, .. } = verdict;
-    assert_eq!((number.code(), place, lines, rounds, count, peak), said, "{number}");
-    assert_eq!(verdict.refuted(), number.code() == 0);
-    assert_eq!(lists.count, verdict.count);
-    let members = clauses + verdict.lines;
-    assert!(lists.zero_above(members) && lists.indexed(), "{number}");
-    assert_eq!(lists.marks(members), marks, "{number}");
-    if number.text() == Some(Text::Formula) {
-        assert!(lists.count == 2 && lists.zero_above(0), "{number}");
-    }
-    // What is left is a table in good order, and every member is a node of it.
-    assert_eq!(lists.table().evaluate(NodeNo::ONE, Variables::NONE), Ok(true));
-    assert!(lists.members.iter().all(|member| usize::from(*member) < lists.count), "{number}");
-    if size == workspace.table().size() {
-        assert_eq!(check(workspace, formula, proof), verdict);
-        assert_eq!(workspace.table().count(), verdict.count);
-        assert!(workspace.members().eq(lists.members[..members].iter().copied().map(NodeNo)), "{number}");
-        assert_eq!((workspace.member(members), workspace.is_struck(members)), (None, None));
-        assert!(marks.bytes().enumerate().all(|(place, mark)| workspace.is_struck(place) == Some(mark == b'1')));
-        let live = (0..members).filter(|place| lists.struck[*place] == 0);
-        assert!(workspace.live_members().eq(live.map(|place| (place, NodeNo(lists.members[place])))), "{number}");
-    }
-    // The program's table has 4,096 places.
-    if size == 4_096 {
-        let said = report(Some(formula), Some(proof));
-        assert_eq!((said.line(), said.number()), (format!("{verdict}\n").as_str(), number));
-        assert_eq!(said.status(), u8::from(!verdict.refuted()));
-    }
-}
-
 /// Rows that strike out nothing.
 fn run_all(rows: &[Row]) {
     let mut workspace = Workspace::new(4_096).unwrap();
     for row in rows {
         run(row, &"0".repeat(row.4 + row.3 .2), &mut workspace);
+    }
+}
+
+/// "1 to 6 and 8: in the formula; 0, 9 to 23, 28 and 29: in the proof."
+fn run(row: &Row, marks: &str, workspace: &mut Workspace) {
+    let verdict = rows::run(&RECORDS, row, marks, workspace);
+    let formula = matches!(verdict.number.code(), 1..=6 | 8);
+    assert_eq!(verdict.text, Some(if formula { Text::Formula } else { Text::Proof }), "{}", verdict.number);
+    // The program's table has 4,096 places.
+    if row.0 == 4_096 {
+        let said = report(Some(row.1), Some(row.2));
+        assert_eq!((said.line(), said.number()), (format!("{verdict}\n").as_str(), verdict.number));
+        assert_eq!(said.status(), u8::from(!verdict.refuted()));
     }
 }
 

@@ -1,6 +1,6 @@
 //! Lists to lend that hold anything, and what they hold after a call.
 
-use cablesalak::{chain, check_lent, ColumnsMut, Node, NodeNo, TableMut, Verdict, MEMBERS, SCRATCH};
+use cablesalak::{chain, check_lent, check_text_lent, ColumnsMut, Node, NodeNo, TableMut, Verdict, MEMBERS, SCRATCH};
 
 /// The lists of a check, the count beside them.
 #[derive(Clone, Debug, PartialEq, Eq)]
@@ -49,6 +49,12 @@ impl Lists {
         let Lists { vars, lows, highs, heads, links, count, members, struck, scratch } = self;
         let mut table = TableMut::new(ColumnsMut { vars, lows, highs, heads, links }, count).expect("proper size");
         check_lent(&mut table, members, struck, scratch, formula, proof)
+    }
+
+    pub fn check_text(&mut self, formula: &[u8], proof: &[u8]) -> Verdict {
+        let Lists { vars, lows, highs, heads, links, count, members, struck, scratch } = self;
+        let mut table = TableMut::new(ColumnsMut { vars, lows, highs, heads, links }, count).expect("proper size");
+        check_text_lent(&mut table, members, struck, scratch, formula, proof)
     }
 
     /// The rows of the table from place 2 to its count, as variable, low, high.

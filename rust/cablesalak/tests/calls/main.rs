@@ -4,6 +4,8 @@ mod at_least;
 mod checks;
 mod lent;
 mod numbers;
+mod rows;
 mod singles;
 mod sizes;
 mod stack;
+mod texts;

@@ -1,6 +1,6 @@
 //! The numbers themselves.
 
-use cablesalak::{NoSuchNumber, Number, Text};
+use cablesalak::{NoSuchNumber, Number};
 use std::error::Error;
 
 #[test]
@@ -10,19 +10,6 @@ fn each_has_its_code() {
     }
     assert_eq!(Number::all().count(), 30);
     assert_eq!(Number::try_from(30), Err(NoSuchNumber(30)));
-}
-
-/// "1 to 6 and 8: in the formula; 0, 9 to 23, 28 and 29: in the proof."
-#[test]
-fn each_has_its_text() {
-    for number in Number::all() {
-        let text = match number.code() {
-            1..=6 | 8 => Some(Text::Formula),
-            0 | 9..=23 | 28 | 29 => Some(Text::Proof),
-            _ => None,
-        };
-        assert_eq!(number.text(), text, "{number}");
-    }
 }
 
 /// Both can be handed on with `?`, and say what they are.

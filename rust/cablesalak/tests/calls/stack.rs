@@ -1,6 +1,6 @@
 //! Every call fits a thread of 1.25 MiB, the report one of 1.375 MiB, and threads may call at the same time.
 
-use cablesalak::{check, report, Node, NodeNo, Table, Variables, Workspace};
+use cablesalak::{check, check_text, report, Node, NodeNo, Table, Variables, Workspace};
 use std::thread;
 
 const FORMULA: &[u8] = b"p cnf 2 4\n1 2 0\n-1 2 0\n1 -2 0\n-1 -2 0\n";
@@ -27,13 +27,15 @@ fn long_proof() -> Vec<u8> {
 /// A line of "an odd number" and "at least 32" of 64 variables, which are the deepest entries of a record.
 const SETS: &[u8] = b"\x58\xFF\xFF\xFF\xFF\xFF\xFF\xFF\xFF\x01\x4B\xFF\xFF\xFF\xFF\xFF\xFF\xFF\xFF\x20\x52\x03\0\x45";
 
-/// The check with the largest table, and with the program's: a long proof, and the deepest entries.
+/// The check with the largest table, and with the program's: a long proof in records and as a text, and the deepest entries.
 fn checks() {
     let mut workspace = Workspace::new(65_536).unwrap();
     assert_eq!(check(&mut workspace, FORMULA, PROOF).to_string(), "0 12 2 1 10");
     let mut workspace = Workspace::new(4_096).unwrap();
     assert_eq!(check(&mut workspace, FORMULA, &long_proof()).lines, 1_001);
     assert_eq!(check(&mut workspace, b"p cnf 64 1\n0\n", SETS).to_string(), "20 23 1 0 2239");
+    let clauses = b"2 0 ".repeat(1_000);
+    assert_eq!(check_text(&mut workspace, FORMULA, &clauses).to_string(), "20 4000 1000 0 10");
 }
 
 /// The report has a table of its own on the stack.
