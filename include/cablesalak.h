@@ -225,7 +225,7 @@ cablesalak_told cablesalak_report(
     bool proof_read, const uint8_t *proof, size_t proof_length,
     uint8_t line[CABLESALAK_LINE]);
 
-/* ---- The table as one list of records. These two are in target/staticlib/libnodes.a (`rt staticlib nodes`), which can be linked
+/* ---- The table as one list of records. These three are in target/staticlib/libnodes.a (`rt staticlib nodes`), which can be linked
  * beside the other archive.
  *
  * Each is the call of the same name over the list's three columns, with the index lent beside it: numbers, places, counts and
@@ -243,6 +243,13 @@ cablesalak_evaluated cablesalak_evaluate_nodes(
     const uint16_t *heads, size_t heads_length,
     const uint16_t *links, size_t links_length,
     size_t count, uint16_t node, uint64_t word);
+
+/* As cablesalak_at_least. */
+cablesalak_at_least_made cablesalak_at_least_nodes(
+    cablesalak_node *nodes, size_t nodes_length,
+    uint16_t *heads, size_t heads_length,
+    uint16_t *links, size_t links_length,
+    size_t count, uint64_t set, uint8_t k);
 
 /* As cablesalak_check. */
 cablesalak_checked cablesalak_check_nodes(

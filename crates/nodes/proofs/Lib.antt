@@ -1,8 +1,10 @@
 pub mod Arrays
 pub mod Checking
 pub mod Clipping
+pub mod Counting
 pub mod Evaluating
 pub mod First
+pub mod Lending
 pub mod Lent
 pub mod Lists
 pub mod Loading

@@ -18,12 +18,11 @@ use prog.Wp.{Heap}
 use ghost.Atoms.{Atoms, sem}
 use contract.Lifetimes.{Lfts}
 use contract.Monad.{Fun, fact}
-use types.Kit.{Given, Item, ‵, raw, _⊛_, some, later, ⋆, _$_, _∵_, !, qed, move, keep, use1, use3, split, split3, join, pick, group, check, fsplit, fsplit3, fjoin, feqL, frame, await, updating, now as at-once, show, done}
+use types.Kit.{Given, Item, ‵, raw, _⊛_, some, later, ⋆, _$_, _∵_, !, qed, move, keep, use1, split, split3, join, pick, group, check, fsplit, fsplit3, fjoin, feqL, frame, await, updating, now as at-once, show, done}
 use denote.Laws.{Is}
 use denote.Plain.{uint-makes}
 use denote.Builtin.{u8, u16, usize}
 use denote.Slice.{sliceVal, MutSlice, slice-vals, finally}
-use denote.Index.{row}
 use denote.Steps.{nothing, owned, heard}
 use denote.Struct.Laws as LL
 use denote.Enum.Laws as LE
@@ -44,15 +43,13 @@ use Rattle.single.specs.Single.{madeOf}
 use Rattle.single.proofs.call.Single as K
 use Rattle.table.specs.Columns.{columnsMade}
 use Rattle.nodes.specs.Within.{operationWithin}
-use Rattle.nodes.proofs.Setting.{Spot, Filled, Columns, room8, room16}
-use Rattle.nodes.proofs.Lent.{Loan, lifetime, lent-as, Lender, lends, back}
+use Rattle.nodes.proofs.Setting.{Spot, Filled, Columns}
+use Rattle.nodes.proofs.Lent.{lifetime, lent-as}
+use Rattle.nodes.proofs.Lending.{Loans, Tokens, Slices, Kept, lends-columns, columns-back}
 use Rattle.nodes.proofs.within.operation_within as operate-fn
 
 abbrev pub Operate : {M : Type 1} (𝓤 : URA M) (H : Heap 𝓤) (A : Atoms 𝓤) (mem : Memory → SProp 𝓤) (run : Routine → Fun 𝓤) → Contract 𝓤
 Operate 𝓤 H A mem run = tripleOf 𝓤 H A operate-fn.signature (operate-fn.spec 𝓤 H A mem run)
-
-abbrev pub Loans : Type 0
-Loans = Loan × (Loan × Loan)
 
 -- what is bound for the parameters' last values
 abbrev pub Last : Type 0
@@ -72,9 +69,6 @@ module _ {M : Type 1} (𝓤 : URA M) (H : Heap 𝓤) (A : Atoms 𝓤) (W : Given
   abbrev pub to : Loans → Operate 𝓤 H A mem run .Ghost
   to p = ((lfts p, (fullShare, (fullShare, (fullShare, (qD, (qJ, tt))))), tt, x p, at p), tt)
 
-  abbrev pub Kept : Loans → Fml
-  Kept p = fsep (Lender u8 (sp .bV) 0 (p .0) 65536) (fsep (Lender u16 (sp .bL) 0 (p .1 .0) 65536) (Lender u16 (sp .bH) 0 (p .1 .1) 65536))
-
   abbrev Has : Loans → List (Item 𝓤)
   Has p = ‵ (flft (lifetime (p .0)) fullShare) ∷ ‵ (flft (lifetime (p .1 .0)) fullShare) ∷ ‵ (flft (lifetime (p .1 .1)) fullShare) ∷ ‵ (flft (κD) qD) ∷ ‵ (flft (κJ) qJ)
       ∷ ‵ (MutSlice (named 0) (lifetime (p .0)) u8 .own (x p .0) (at p .0)) ∷ ‵ (MutSlice (named 1) (lifetime (p .1 .0)) u16 .own (x p .1 .0) (at p .1 .0)) ∷ ‵ (MutSlice (named 2) (lifetime (p .1 .1)) u16 .own (x p .1 .1 .0) (at p .1 .1 .0)) ∷ ‵ (MutSlice (named 3) (κD) u16 .own (x p .1 .1 .1 .0) (at p .1 .1 .1 .0)) ∷ ‵ (MutSlice (named 4) (κJ) u16 .own (x p .1 .1 .1 .1 .0) (at p .1 .1 .1 .1 .0)) ∷ []
@@ -87,22 +81,16 @@ module _ {M : Type 1} (𝓤 : URA M) (H : Heap 𝓤) (A : Atoms 𝓤) (W : Given
   abbrev pub Gives : List (Item 𝓤)
   Gives = ‵ (Columns sp (cs .vs) (cs .ls) (cs .hs)) ∷ ‵ (flft (κD) qD) ∷ ‵ (flft (κJ) qJ) ∷ ‵ (MutSlice (named 3) (κD) u16 .own xD (slice-vals xD)) ∷ ‵ (MutSlice (named 4) (κJ) u16 .own xJ (slice-vals xJ)) ∷ []
 
-  pub before : ent 𝓤 (⋆ 𝓤 H A Gives) (H .⇛ (ex 𝓤 (λ (p : Loans). sep 𝓤 (Operate 𝓤 H A mem run .pre (to p)) (sem 𝓤 H A (Kept p)))))
+  pub before : ent 𝓤 (⋆ 𝓤 H A Gives) (H .⇛ (ex 𝓤 (λ (p : Loans). sep 𝓤 (Operate 𝓤 H A mem run .pre (to p)) (sem 𝓤 H A (Kept sp p)))))
   before =
       qed W Gives ∵ updating ! $
+      use1 W (later (some (λ (p : Loans). ‵ (Tokens sp p) ⊛ ‵ (Slices sp cs p) ⊛ ‵ (Kept sp p)))) (lends-columns sp 𝓤 H A W cs) $ await ! tt $ pick ! (λ p. split3 ! $
       fsplit3 ! $
-      use1 W (later (some (λ (p : Loan). ‵ (flft (lifetime p) fullShare) ⊛ ‵ (MutSlice (named 0) (lifetime p) u8 .own (lent-as u8 (sp .bV) 0 p (cs .vs)) (sliceVal (sp .bV, 0) 65536 ∷ [])) ⊛ ‵ (Lender u8 (sp .bV) 0 p 65536)))) (lends u8 (sp .bV) 0 𝓤 H A W (named 0) (cs .vs) 65536 (cs .eV) room8) $ await ! tt $ pick ! (λ pV. split3 ! $
       move ! (3 ∷ []) $
-      use1 W (later (some (λ (p : Loan). ‵ (flft (lifetime p) fullShare) ⊛ ‵ (MutSlice (named 1) (lifetime p) u16 .own (lent-as u16 (sp .bL) 0 p (cs .ls)) (sliceVal (sp .bL, 0) 65536 ∷ [])) ⊛ ‵ (Lender u16 (sp .bL) 0 p 65536)))) (lends u16 (sp .bL) 0 𝓤 H A W (named 1) (cs .ls) 65536 (cs .eL) room16) $ await ! tt $ pick ! (λ pL. split3 ! $
-      move ! (6 ∷ []) $
-      use1 W (later (some (λ (p : Loan). ‵ (flft (lifetime p) fullShare) ⊛ ‵ (MutSlice (named 2) (lifetime p) u16 .own (lent-as u16 (sp .bH) 0 p (cs .hs)) (sliceVal (sp .bH, 0) 65536 ∷ [])) ⊛ ‵ (Lender u16 (sp .bH) 0 p 65536)))) (lends u16 (sp .bH) 0 𝓤 H A W (named 2) (cs .hs) 65536 (cs .eH) room16) $ await ! tt $ pick ! (λ pH. split3 ! $
-      at-once ! $ show ! (λ (p : Loans). sep 𝓤 (Operate 𝓤 H A mem run .pre (to p)) (sem 𝓤 H A (Kept p))) (pV, (pL, pH)) $
-      move ! (6 ∷ 3 ∷ 0 ∷ 9 ∷ 10 ∷ 7 ∷ 4 ∷ 1 ∷ 11 ∷ 12 ∷ []) $
-      group ! 10 $ use1 W (raw (Operate 𝓤 H A mem run .pre (to (pV, (pL, pH))))) (asks (pV, (pL, pH))) $ frame ! $
-      move ! (1 ∷ 0 ∷ []) $
-      fjoin ! $
-      move ! (1 ∷ 0 ∷ []) $
-      fjoin ! $ done !)))
+      fsplit3 ! $
+      at-once ! $ show ! (λ (p : Loans). sep 𝓤 (Operate 𝓤 H A mem run .pre (to p)) (sem 𝓤 H A (Kept sp p))) p $
+      move ! (3 ∷ 4 ∷ 5 ∷ 7 ∷ 8 ∷ 0 ∷ 1 ∷ 2 ∷ 9 ∷ 10 ∷ []) $
+      group ! 10 $ use1 W (raw (Operate 𝓤 H A mem run .pre (to p))) (asks p) $ frame ! $ done !)
 
   abbrev pub Says : Single → Last → Type 0
   Says r zs = madeOf (columnsMade (take n (zs .0)) (take n (zs .1 .0)) (take n (zs .1 .1 .0)) (zs .1 .1 .1 .0) (zs .1 .1 .1 .1 .0)) r ≡ operationWithin op n (cs .vs) (cs .ls) (cs .hs) (xD .now) (xJ .now) count (f .0) (g .0)
@@ -113,9 +101,9 @@ module _ {M : Type 1} (𝓤 : URA M) (H : Heap 𝓤) (A : Atoms 𝓤) (W : Given
   abbrev pub Had : Single × Last → Val → Fml
   Had o w = fsep (Columns sp (o .1 .0) (o .1 .1 .0) (o .1 .1 .1 .0)) (fsep (flft κD qD) (fsep (flft κJ qJ) (fsep (finally u16 (xD .name) (o .1 .1 .1 .1 .0)) (fsep (finally u16 (xJ .name) (o .1 .1 .1 .1 .1 .0)) (K.the-row .own (o .0) (w ∷ []))))))
 
-  pub after : (p : Loans) (w : Val) → ent 𝓤 (sep 𝓤 (Operate 𝓤 H A mem run .post (to p) w) (sem 𝓤 H A (Kept p))) (H .⇛ (ex 𝓤 (λ (o : Single × Last). guard 𝓤 (Told o) (sem 𝓤 H A (Had o w)))))
+  pub after : (p : Loans) (w : Val) → ent 𝓤 (sep 𝓤 (Operate 𝓤 H A mem run .post (to p) w) (sem 𝓤 H A (Kept sp p))) (H .⇛ (ex 𝓤 (λ (o : Single × Last). guard 𝓤 (Told o) (sem 𝓤 H A (Had o w)))))
   after p w =
-      qed W (raw (Operate 𝓤 H A mem run .post (to p) w) ∷ ‵ (Kept p) ∷ []) ∵ updating ! $
+      qed W (raw (Operate 𝓤 H A mem run .post (to p) w) ∷ ‵ (Kept sp p) ∷ []) ∵ updating ! $
       use1 W (later (some (λ (r : Single). ((‵ (flft (lifetime (p .0)) fullShare) ⊛ (‵ (flft (lifetime (p .1 .0)) fullShare) ⊛ (‵ (flft (lifetime (p .1 .1)) fullShare) ⊛ (‵ (flft (κD) qD) ⊛ (‵ (flft (κJ) qJ) ⊛ ‵ ftrue))))) ⊛ ‵ (K.the-row .own r (w ∷ [])))
       ⊛ raw (ensured 𝓤 H A operate-fn.ended (operate-fn.clauses 𝓤 H A mem run) (lfts p) (x p) tt r)))) (id⊢ 𝓤 _) $ await ! tt $ pick ! (λ r.
       split ! $
@@ -159,16 +147,10 @@ module _ {M : Type 1} (𝓤 : URA M) (H : Heap 𝓤) (A : Atoms 𝓤) (W : Given
       move ! (1 ∷ []) $
       split ! $
       move ! (1 ∷ []) $
-      move ! (13 ∷ []) $
-      fsplit3 ! $
-      move ! (8 ∷ 0 ∷ 15 ∷ []) $
-      use3 W (later (‵ (row u8 fullShare (zs .0) (sp .bV) 0))) (back u8 (sp .bV) 0 𝓤 H A W (p .0) 65536 (zs .0)) $ await ! tt $
-      move ! (7 ∷ 1 ∷ 13 ∷ []) $
-      use3 W (later (‵ (row u16 fullShare (zs .1 .0) (sp .bL) 0))) (back u16 (sp .bL) 0 𝓤 H A W (p .1 .0) 65536 (zs .1 .0)) $ await ! tt $
-      move ! (6 ∷ 2 ∷ 11 ∷ []) $
-      use3 W (later (‵ (row u16 fullShare (zs .1 .1 .0) (sp .bH) 0))) (back u16 (sp .bH) 0 𝓤 H A W (p .1 .1) 65536 (zs .1 .1 .0)) $ await ! tt $
+      move ! (5 ∷ 4 ∷ 3 ∷ 13 ∷ 12 ∷ 11 ∷ 10 ∷ []) $
+      group ! 7 $ use1 W (later (‵ (Columns sp (zs .0) (zs .1 .0) (zs .1 .1 .0)))) (columns-back sp 𝓤 H A W p (zs .0) (zs .1 .0) (zs .1 .1 .0)) $ await ! tt $
       at-once ! $ show ! (λ (o : Single × Last). guard 𝓤 (Told o) (sem 𝓤 H A (Had o w))) (r, zs) $ check ! (told, lV ∙ cs .eV, lL ∙ cs .eL, lH ∙ cs .eH, lD, lJ) $
-      keep ! (6 ∷ 7 ∷ 9 ∷ 4 ∷ 5 ∷ 1 ∷ 0 ∷ 2 ∷ []) $
+      keep ! (4 ∷ 5 ∷ 7 ∷ 2 ∷ 3 ∷ 0 ∷ []) $
       move ! (1 ∷ 0 ∷ []) $
       fjoin ! $
       move ! (1 ∷ 0 ∷ []) $
@@ -177,8 +159,5 @@ module _ {M : Type 1} (𝓤 : URA M) (H : Heap 𝓤) (A : Atoms 𝓤) (W : Given
       fjoin ! $
       move ! (1 ∷ 0 ∷ []) $
       fjoin ! $
-      move ! (1 ∷ 2 ∷ []) $
-      fjoin ! $
-      move ! (2 ∷ 0 ∷ []) $
-      fjoin ! $
+      move ! (1 ∷ 0 ∷ []) $
       fjoin ! $ done !))))))))

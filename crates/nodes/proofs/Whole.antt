@@ -13,7 +13,8 @@ use Rattle.table.specs.Columns.{sizeFits, columnsMade}
 use Rattle.operate.specs.declared.Operation.{Operation}
 use Rattle.single.specs.declared.Evaluated.{Evaluated}
 use Rattle.single.specs.declared.call.Single.{Single}
-use Rattle.single.specs.Single.{Made, madeOf, unchanged, refusal, operation, evaluation}
+use Rattle.single.specs.declared.least.AtLeast.{AtLeast}
+use Rattle.single.specs.Single.{Made, madeOf, unchanged, refusal, operation, Counted, countedOf, withCount, atLeastCall, evaluation}
 use Rattle.verdict.specs.Check.{Outcome, lentFits, check}
 use Rattle.verdict.specs.Satisfies.{Unsatisfiable}
 use Rattle.verdict.proofs.Refuted.{check-refuted}
@@ -21,7 +22,7 @@ use Rattle.session.specs.declared.Checked.{Checked}
 use Rattle.session.specs.Checked.{outcomeOf}
 use Rattle.nodes.specs.declared.Node.{Node}
 use Rattle.nodes.specs.Slice.{varsOf, lowsOf, highsOf, secondOf}
-use Rattle.nodes.specs.Within.{nodesOf, checkWithin, operationWithin, evaluationWithin}
+use Rattle.nodes.specs.Within.{nodesOf, checkWithin, operationWithin, atLeastWithin, evaluationWithin}
 use Rattle.nodes.proofs.Lists.{by-test, varOf, lowOf, highOf, column, slice}
 use Rattle.nodes.proofs.Setting.{Cut}
 
@@ -182,6 +183,31 @@ module _ (op : Operation) (ds js : List ℕ) (count f g : ℕ) (ds′ js′ : Li
   unfolding operationWithin
   operation-whole ys m vs₀ ls₀ hs₀ vs ls hs cut e told =
       whole ds js said (λ v l h. operation op (columnsMade v l h ds js) count f (secondOf op g)) kept operation-refused operation-moved ys vs₀ ls₀ hs₀ vs ls hs e m cut told
+
+-- ---- at least
+module _ (ds js : List ℕ) (count set k : ℕ) (ds′ js′ : List ℕ) (r : AtLeast) where
+  abbrev told-of : List ℕ → List ℕ → List ℕ → Counted
+  told-of v l h = countedOf (columnsMade v l h ds′ js′) r
+
+  abbrev uncounted : List ℕ → List ℕ → List ℕ → Counted
+  uncounted v l h = record { made = unchanged (columnsMade v l h ds js) count 7; counted = false; excluded = 0 }
+
+  at-least-refused : (v l h : List ℕ) → sizeFits v l h ds js ≡ false → atLeastCall (columnsMade v l h ds js) count set k ≡ uncounted v l h
+  unfolding atLeastCall withCount
+  at-least-refused v l h e = rw e
+
+  at-least-moved : (a b c v l h : List ℕ) → told-of a b c ≡ uncounted v l h → ((a ≡ v) × (b ≡ l) × (c ≡ h)) × ((v l h : List ℕ) → told-of v l h ≡ uncounted v l h)
+  at-least-moved a b c v l h e = (
+    (ap (λ (o : Counted). o .made .columns .vars) e, ap (λ (o : Counted). o .made .columns .lows) e, ap (λ (o : Counted). o .made .columns .highs) e),
+    (λ v l h. ap (λ (o : Counted). record { made = record { number = o .made .number; node = o .made .node; count = o .made .count; columns = columnsMade v l h (o .made .columns .heads) (o .made .columns .links) }; counted = o .counted; excluded = o .excluded }) e),
+  )
+
+  pub at-least-whole : (ys : List Node) (m : ℕ) (vs₀ ls₀ hs₀ vs ls hs : List ℕ) → Cut (length ys) m → Sized vs ls hs
+      → told-of (take (length ys) vs) (take (length ys) ls) (take (length ys) hs) ≡ atLeastWithin (length ys) (column varOf ys vs₀ m) (column lowOf ys ls₀ m) (column highOf ys hs₀ m) ds js count set k
+      → told-of (varsOf (slice vs ls hs ys m)) (lowsOf (slice vs ls hs ys m)) (highsOf (slice vs ls hs ys m)) ≡ atLeastCall (columnsMade (varsOf ys) (lowsOf ys) (highsOf ys) ds js) count set k
+  unfolding atLeastWithin
+  at-least-whole ys m vs₀ ls₀ hs₀ vs ls hs cut e told =
+      whole ds js told-of (λ v l h. atLeastCall (columnsMade v l h ds js) count set k) uncounted at-least-refused at-least-moved ys vs₀ ls₀ hs₀ vs ls hs e m cut told
 
 -- ---- evaluation, which leaves the columns
 pub evaluation-whole : (ys : List Node) (m : ℕ) (ds js : List ℕ) (count f word : ℕ) (vs₀ ls₀ hs₀ : List ℕ) (r : Evaluated) → Cut (length ys) m

@@ -7,11 +7,12 @@ use operate::Operation;
 use session::Checked;
 use single::Evaluated;
 use single::call::Single;
+use single::least::AtLeast;
 use table::NodeNo;
 ghost use mathlib.Core.Path.{_≡_};
 ghost use Rattle.table.specs.Columns.{columnsMade};
 ghost use Rattle.session.specs.Checked.{outcomeOf};
-ghost use Rattle.single.specs.Single.{evaluation, madeOf, operation};
+ghost use Rattle.single.specs.Single.{evaluation, madeOf, operation, countedOf, atLeastCall};
 ghost use Rattle.verdict.specs.Check.{check};
 ghost use Rattle.verdict.specs.Satisfies.{Unsatisfiable};
 ghost use Rattle.nodes.specs.Slice.{varsOf, lowsOf, highsOf, secondOf};
@@ -104,6 +105,43 @@ pub fn operation(
         op,
         f,
         g,
+    );
+    columns::save(nodes, n, &vars, &lows, &highs);
+    r
+}
+
+// The diagram of "at least k of the set's variables", and how many assignments of the set it excludes; or 7, 26, 23.
+#[no_mangle]
+pub extern "C" fn cablesalak_at_least_nodes(
+    nodes: &mut [Node],
+    heads: &mut [u16],
+    links: &mut [u16],
+    count: usize,
+    set: u64,
+    k: u8,
+) -> AtLeast
+    ensures { λ r. ⌜ (
+        let lent = columnsMade (varsOf (now (nodes .entry))) (lowsOf (now (nodes .entry))) (highsOf (now (nodes .entry)))
+        (now (heads .entry)) (now (links .entry)) in
+        let left = columnsMade (varsOf (now (nodes .exit))) (lowsOf (now (nodes .exit))) (highsOf (now (nodes .exit)))
+        (now (heads .exit)) (now (links .exit)) in
+        countedOf left r ≡ atLeastCall lent count set k) ⌝ }
+{
+    let mut vars = [0u8; 65536];
+    let mut lows = [0u16; 65536];
+    let mut highs = [0u16; 65536];
+    let n = columns::places(nodes.len());
+    columns::load(nodes, n, &mut vars, &mut lows, &mut highs);
+    let r = within::at_least_within(
+        &mut vars,
+        &mut lows,
+        &mut highs,
+        heads,
+        links,
+        nodes.len(),
+        count,
+        set,
+        k,
     );
     columns::save(nodes, n, &vars, &lows, &highs);
     r

@@ -3,15 +3,16 @@ use operate::Operation;
 use session::Checked;
 use single::Evaluated;
 use single::call::Single;
+use single::least::AtLeast;
 use table::NodeNo;
 ghost use mathlib.Core.Path.{_≡_};
 ghost use lib.ListN.{length, take};
 ghost use Rattle.table.specs.Columns.{columnsMade};
 ghost use Rattle.session.specs.Checked.{outcomeOf};
-ghost use Rattle.single.specs.Single.{madeOf};
+ghost use Rattle.single.specs.Single.{madeOf, countedOf};
 ghost use Rattle.single.specs.Inner.{OneOperand};
 ghost use Rattle.nodes.specs.Slice.{secondOf};
-ghost use Rattle.nodes.specs.Within.{checkWithin, operationWithin, evaluationWithin};
+ghost use Rattle.nodes.specs.Within.{checkWithin, operationWithin, atLeastWithin, evaluationWithin};
 
 // The whole check.
 pub fn check_within<'a>(
@@ -112,6 +113,47 @@ pub fn operation_within(
         op,
         f,
         h,
+    )
+}
+
+// The diagram of "at least k of the set's variables", and the count of what it excludes.
+pub fn at_least_within(
+    vars: &mut [u8],
+    lows: &mut [u16],
+    highs: &mut [u16],
+    heads: &mut [u16],
+    links: &mut [u16],
+    n: usize,
+    count: usize,
+    set: u64,
+    k: u8,
+) -> AtLeast
+    requires { ⌜ (length (now vars) ≡ 65536) × (length (now lows) ≡ 65536) × (length (now highs) ≡ 65536) ⌝ }
+    ensures { λ r. ⌜ (
+        let left = columnsMade (take n (now (vars .exit))) (take n (now (lows .exit))) (take n (now (highs .exit)))
+        (now (heads .exit)) (now (links .exit)) in
+        countedOf left r
+        ≡ atLeastWithin n (now (vars .entry)) (now (lows .entry)) (now (highs .entry)) (now (heads .entry)) (now (links .entry)) count set
+        k) ⌝ }
+{
+    if 65536 < n {
+        return AtLeast {
+            number: 7,
+            node: NodeNo(0),
+            count,
+            counted: false,
+            excluded: 0,
+        };
+    }
+    checker::at_least(
+        &mut vars[..n],
+        &mut lows[..n],
+        &mut highs[..n],
+        heads,
+        links,
+        count,
+        set,
+        k,
     )
 }
 

@@ -62,6 +62,7 @@ use Rattle.nodes.proofs.Clipping as P
 use Rattle.nodes.proofs.Clipping.{Places}
 use Rattle.nodes.proofs.Loading as Lo
 use Rattle.nodes.proofs.Loading.{Load}
+use Rattle.nodes.proofs.Lending.{Loans, Kept}
 use Rattle.nodes.proofs.Operating as Op
 use Rattle.nodes.proofs.Operating.{Operate}
 use Rattle.nodes.proofs.Saving as Sa
@@ -223,7 +224,7 @@ module _ {M : Type 1} (𝓤 : URA M) (H : Heap 𝓤) (A : Atoms 𝓤) (W : Given
         assigns ! (of-opd ! (load ! (from ! (fld ! refl (stop !))) (look-in ! 84 (sub ! 1 refl (whole !))))) (from ! (stop !)) (store ! 63 refl (tt, record { fits = roomN .0 })) $
         move ! (1 ∷ 8 ∷ 7 ∷ 5 ∷ 4 ∷ []) $
         group ! 5 $
-        use1 W (later (some (λ (p : Op.Loans). raw (Operate 𝓤 H A mem run .pre (Op.to 𝓤 H A W mem run κ₁ κ₂ q₁ q₂ (record { bN = bN; oN = oN; bV = l8; bL = l9; bH = l10; ys = ys; room = roomN }) cs xD xJ (length ys) count op f g (roomN .0) g-count is-op is-f is-g p)) ⊛ ‵ (Op.Kept 𝓤 H A W mem run κ₁ κ₂ q₁ q₂ (record { bN = bN; oN = oN; bV = l8; bL = l9; bH = l10; ys = ys; room = roomN }) cs xD xJ (length ys) count op f g (roomN .0) g-count is-op is-f is-g p)))) (Op.before 𝓤 H A W mem run κ₁ κ₂ q₁ q₂ (record { bN = bN; oN = oN; bV = l8; bL = l9; bH = l10; ys = ys; room = roomN }) cs xD xJ (length ys) count op f g (roomN .0) g-count is-op is-f is-g) $ await ! tt $ pick ! (λ p. split ! $
+        use1 W (later (some (λ (p : Loans). raw (Operate 𝓤 H A mem run .pre (Op.to 𝓤 H A W mem run κ₁ κ₂ q₁ q₂ (record { bN = bN; oN = oN; bV = l8; bL = l9; bH = l10; ys = ys; room = roomN }) cs xD xJ (length ys) count op f g (roomN .0) g-count is-op is-f is-g p)) ⊛ ‵ (Kept (record { bN = bN; oN = oN; bV = l8; bL = l9; bH = l10; ys = ys; room = roomN }) p)))) (Op.before 𝓤 H A W mem run κ₁ κ₂ q₁ q₂ (record { bN = bN; oN = oN; bV = l8; bL = l9; bH = l10; ys = ys; room = roomN }) cs xD xJ (length ys) count op f g (roomN .0) g-count is-op is-f is-g) $ await ! tt $ pick ! (λ p. split ! $
         calls-at ! fm (Operate 𝓤 H A mem run) known-operate (Op.to 𝓤 H A W mem run κ₁ κ₂ q₁ q₂ (record { bN = bN; oN = oN; bV = l8; bL = l9; bH = l10; ys = ys; room = roomN }) cs xD xJ (length ys) count op f g (roomN .0) g-count is-op is-f is-g p) (and-then ! (load ! (from ! (stop !)) (look ! 38 refl)) (and-then ! (load ! (from ! (stop !)) (look ! 34 refl)) (and-then ! (load ! (from ! (stop !)) (look ! 30 refl)) (and-then ! (load ! (from ! (stop !)) (look ! 26 refl)) (and-then ! (load ! (from ! (stop !)) (look ! 22 refl)) (and-then ! (load ! (from ! (stop !)) (look ! 60 refl)) (and-then ! (load ! (from ! (stop !)) (look ! 75 refl)) (and-then ! (load ! (from ! (stop !)) (look ! 73 refl)) (and-then ! (load ! (from ! (stop !)) (look ! 71 refl)) (and-then ! (load ! (from ! (stop !)) (look ! 69 refl)) (no-more !))))))))))) (λ w₂.
         use2 W (later (some (λ (o : Single × Op.Last). given (Op.Told 𝓤 H A W mem run κ₁ κ₂ q₁ q₂ (record { bN = bN; oN = oN; bV = l8; bL = l9; bH = l10; ys = ys; room = roomN }) cs xD xJ (length ys) count op f g (roomN .0) g-count is-op is-f is-g o) (‵ (Op.Had 𝓤 H A W mem run κ₁ κ₂ q₁ q₂ (record { bN = bN; oN = oN; bV = l8; bL = l9; bH = l10; ys = ys; room = roomN }) cs xD xJ (length ys) count op f g (roomN .0) g-count is-op is-f is-g o w₂))))) (Op.after 𝓤 H A W mem run κ₁ κ₂ q₁ q₂ (record { bN = bN; oN = oN; bV = l8; bL = l9; bH = l10; ys = ys; room = roomN }) cs xD xJ (length ys) count op f g (roomN .0) g-count is-op is-f is-g p w₂) $ await ! tt $ pick ! (λ o. learn ! (λ told.
         fsplit ! $

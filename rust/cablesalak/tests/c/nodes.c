@@ -72,6 +72,41 @@ static void check(size_t places, size_t marks, const char *formula, const char *
         }
 }
 
+/* Both calls for "at least k of the set" in the table that a check left, its count handed on; the number is this one. */
+static size_t at_least(size_t places, size_t count, uint64_t set, unsigned k, unsigned number)
+{
+    size_t chains = CABLESALAK_HEADS(places);
+    cablesalak_at_least_made a = cablesalak_at_least(vars, places, lows, places, highs, places, heads[0], chains, links[0],
+                                                     places, count, set, (uint8_t)k);
+    cablesalak_at_least_made b = cablesalak_at_least_nodes(nodes, places, heads[1], chains, links[1], places, count, set,
+                                                           (uint8_t)k);
+    EXPECT(a.number == number && b.number == number);
+    EXPECT(a.node == b.node && a.count == b.count && a.counted == b.counted && a.excluded == b.excluded);
+    same_places();
+    return b.count;
+}
+
+/* "At least" in what a check left: sets of 0 to 64 variables, k at its edges, no room, a wrong count, wrong sizes. */
+static void least(const char *formula, const char *proof, size_t length)
+{
+    const uint64_t sets[] = {0, 1, 6, 0xFF, 0xFFFFFFFF, 0x1FFFFFFFF, UINT64_MAX};
+    check(PLACES, MEMBERS, formula, proof, length, 0);
+    for (unsigned i = 0; i < sizeof sets / sizeof *sets; i++) {
+        size_t count = at_least(PLACES, 8, sets[i], 0, 0);
+        EXPECT(count == 8);
+        EXPECT(at_least(PLACES, count, sets[i], 255, 0) == 8);
+    }
+    size_t grown = at_least(PLACES, 8, 0xFF, 4, 0);
+    EXPECT(grown == 8 + 5 * 4);
+    EXPECT(at_least(PLACES, grown, 0xFF, 4, 0) == grown);
+    EXPECT(at_least(PLACES, grown, UINT64_MAX, 32, 23) == grown);
+    EXPECT(at_least(PLACES, grown - 1, 0xFF, 4, 26) == grown - 1);
+    EXPECT(at_least(1, 2, 0xFF, 4, 7) == 2);
+    cablesalak_at_least_made some = cablesalak_at_least_nodes(nodes, PLACES, heads[1], 2 * PLACES, links[1], PLACES, grown,
+                                                              0xF, 3);
+    EXPECT(some.number == 0 && some.counted && some.excluded == 11);
+}
+
 /* After a check with this index: sizes that do not go with the table, and a wrong link. */
 static void wrong_index(void)
 {
@@ -89,6 +124,7 @@ int main(void)
     const char strikings[] = "\x4E\x02\x00\x00\x01\x00\x52\x02\x00\x44\x00\x00\x44\x01\x00\x52\x00\x00\x45";
     check(PLACES, MEMBERS, all, case_a, 13, 0);
     wrong_index();
+    least(all, case_a, 13);
     check(PLACES, MEMBERS, "p cnf 2 2\n1 2 0\n-1 2 0\n", case_a, 13, 19);
     check(PLACES, MEMBERS, "p cnf 2\n", case_a, 13, 1);
     check(PLACES, MEMBERS, all, case_a, 12, 10);
