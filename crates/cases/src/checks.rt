@@ -1,109 +1,46 @@
-// The examples that check a formula and a proof. Their lines: label, number, place, accepted lines, rounds, count, peak.
-use crate::print;
-use session::Checked;
+// The examples that check a formula and a proof.
 ghost use Prim.Native.Nat.{_<_};
 ghost use lib.ListN.{length};
-
-// The line but for its end.
-pub fn print_said(label: &[u8], r: Checked) {
-    print::label(label);
-    print::number(r.number as u64);
-    print::number(r.place as u64);
-    print::number(r.lines as u64);
-    print::number(r.rounds);
-    print::number(r.count as u64);
-    print::number(r.peak as u64);
-}
-
-// The count lent is 9, which only number 7 hands back.
-pub fn run_in<'a>(
-    label: &[u8],
-    vars: &mut [u8],
-    lows: &mut [u16],
-    highs: &mut [u16],
-    heads: &mut [u16],
-    links: &mut [u16],
-    formula: &'a [u8],
-    proof: &'a [u8],
-) {
-    let mut members = [0u16; 2048];
-    let mut struck = [0u8; 2048];
-    let mut scratch = [0u16; 4096];
-    let r = checker::check(
-        vars,
-        lows,
-        highs,
-        heads,
-        links,
-        9,
-        &mut members,
-        &mut struck,
-        &mut scratch,
-        formula,
-        proof,
-    );
-    print_said(label, r);
-    print::end();
-}
-
-// The check with a table of 4,096 places.
-pub fn run<'a>(label: &[u8], formula: &'a [u8], proof: &'a [u8]) {
-    let mut vars = [0u8; 4096];
-    let mut lows = [0u16; 4096];
-    let mut highs = [0u16; 4096];
-    let mut heads = [0u16; 8192];
-    let mut links = [0u16; 4096];
-    run_in(
-        label,
-        &mut vars,
-        &mut lows,
-        &mut highs,
-        &mut heads,
-        &mut links,
-        formula,
-        proof,
-    );
-}
 
 pub fn cases_a_to_c() {
     let formula = b"p cnf 2 4\n1 2 0\n-1 2 0\n1 -2 0\n-1 -2 0\n";
     let proof = b"\x4E\x02\x00\x00\x01\x00\x52\x02\x00\x52\x00\x00\x45";
-    run(b"A", formula, proof);
-    run(b"B", formula, b"\x52\x00\x00\x45");
-    run(b"C", b"p cnf 2 2\n1 2 0\n-1 2 0\n", proof);
+    rows::run(b"A", formula, proof);
+    rows::run(b"B", formula, b"\x52\x00\x00\x45");
+    rows::run(b"C", b"p cnf 2 2\n1 2 0\n-1 2 0\n", proof);
 }
 
 pub fn cases_d_to_f() {
     let formula = b"p cnf 2 1\n1 2 0\n";
-    run(
+    rows::run(
         b"D",
         formula,
         b"\x4E\x01\x00\x00\x01\x00\x46\x01\x50\x02\x00\x45",
     );
-    run(
+    rows::run(
         b"E",
         formula,
         b"\x4E\x01\x00\x00\x01\x00\x54\x01\x50\x02\x00\x45",
     );
-    run(b"F", formula, b"\x4E\x01\x00\x00\x01\x00\x52\x02\x00\x45");
+    rows::run(b"F", formula, b"\x4E\x01\x00\x00\x01\x00\x52\x02\x00\x45");
 }
 
 // I's entries: x3, x2 and x3, x2 or x3, at least two of the three.
 pub fn cases_i_and_j() {
     let majority =
         b"\x4E\x03\x00\x00\x01\x00\x4E\x02\x00\x00\x02\x00\x4E\x02\x02\x00\x01\x00\x4E\x01\x03\x00\x04\x00\x52\x05\x00\x45";
-    run(b"I", b"p cnf 3 3\n2 3 0\n1 3 0\n1 2 0\n", majority);
-    run(b"J", b"p cnf 0 0\n", b"\x52\x00\x00\x45");
+    rows::run(b"I", b"p cnf 3 3\n2 3 0\n1 3 0\n1 2 0\n", majority);
+    rows::run(b"J", b"p cnf 0 0\n", b"\x52\x00\x00\x45");
 }
 
 // The numbers that a formula gives: 1 to 6.
 pub fn formulas() {
-    run(b"1", b"p cnf 2", b"");
-    run(b"2", b"p cnf 65 1", b"");
-    run(b"3", b"p cnf 1 1\n-0 0\n", b"");
-    run(b"4", b"p cnf 2 1\n3 0\n", b"");
-    run(b"5", b"p cnf 1 2\n1 0\n", b"");
-    run(b"6", b"p cnf 1 1\n1\n", b"");
+    rows::run(b"1", b"p cnf 2", b"");
+    rows::run(b"2", b"p cnf 65 1", b"");
+    rows::run(b"3", b"p cnf 1 1\n-0 0\n", b"");
+    rows::run(b"4", b"p cnf 2 1\n3 0\n", b"");
+    rows::run(b"5", b"p cnf 1 2\n1 0\n", b"");
+    rows::run(b"6", b"p cnf 1 1\n1\n", b"");
 }
 
 pub fn one_place() {
@@ -112,7 +49,7 @@ pub fn one_place() {
     let mut highs = [0u16; 1];
     let mut heads = [0u16; 2];
     let mut links = [0u16; 1];
-    run_in(
+    rows::run_in(
         b"7",
         &mut vars,
         &mut lows,
@@ -130,7 +67,7 @@ pub fn two_places() {
     let mut highs = [0u16; 2];
     let mut heads = [0u16; 4];
     let mut links = [0u16; 2];
-    run_in(
+    rows::run_in(
         b"8",
         &mut vars,
         &mut lows,
@@ -149,7 +86,7 @@ pub fn three_places() {
     let mut heads = [0u16; 6];
     let mut links = [0u16; 3];
     let proof = b"\x4E\x02\x00\x00\x01\x00";
-    run_in(
+    rows::run_in(
         b"23",
         &mut vars,
         &mut lows,
@@ -163,7 +100,7 @@ pub fn three_places() {
 
 // For a row that names no formula: case D's.
 fn run_proof(label: &[u8], proof: &[u8]) {
-    run(label, b"p cnf 2 1\n1 2 0\n", proof);
+    rows::run(label, b"p cnf 2 1\n1 2 0\n", proof);
 }
 
 // 9 to 14.
@@ -206,5 +143,5 @@ pub fn too_many_entries() {
 pub fn too_many_lines() {
     let mut proof = [0u8; 3075];
     repeat(&mut proof, b"\x52\x00\x00");
-    run(b"22", b"p cnf 0 1\n0\n", &proof);
+    rows::run(b"22", b"p cnf 0 1\n0\n", &proof);
 }

@@ -1,12 +1,6 @@
-// Document 01's examples through the face, and 02's as they land: a line for each, its label and then the numbers that came.
+// Document 01's examples through the face: a line for each, its label and then the numbers that came.
 mod checks;
-mod comments;
-mod indexes;
-mod orders;
-mod print;
-mod sets;
 mod singles;
-mod strikes;
 
 fn main() {
     checks::cases_a_to_c();
@@ -25,24 +19,4 @@ fn main() {
     singles::not_in_order();
     singles::wrong_operands();
     singles::full();
-    comments::everywhere();
-    comments::whole_line();
-    comments::tokens();
-    comments::places();
-    strikes::refused();
-    strikes::case_a();
-    strikes::others();
-    strikes::no_proof();
-    strikes::too_few_marks();
-    orders::rounds();
-    orders::little_room();
-    orders::pr_with_more();
-    indexes::wrong_heads();
-    indexes::wrong_links();
-    indexes::single_calls();
-    indexes::checked();
-    sets::parities();
-    sets::at_leasts();
-    sets::five_places();
-    sets::single_calls();
 }

@@ -1,25 +1,6 @@
-// The examples of single calls. Their lines: label, number, node (evaluation: 1 for yes, 0 for no), count.
-use crate::print;
-use single::Evaluated;
-use single::call::Single;
+// The examples of single calls.
+use rows::print;
 use table::NodeNo;
-
-pub fn print_single(label: &[u8], r: Single) {
-    let node = r.node;
-    print::label(label);
-    print::number(r.number as u64);
-    print::number(node.0 as u64);
-    print::number(r.count as u64);
-    print::end();
-}
-
-pub fn print_evaluated(label: &[u8], r: Evaluated) {
-    print::label(label);
-    print::number(r.number as u64);
-    print::number(r.yes as u64);
-    print::number(r.count as u64);
-    print::end();
-}
 
 // Node 6's variable, low and high.
 fn print_node(label: &[u8], vars: &[u8; 7], lows: &[u16; 7], highs: &[u16; 7]) {
@@ -47,7 +28,7 @@ pub fn case_g() {
         NodeNo(2),
         NodeNo(4),
     );
-    print_single(b"G", r);
+    rows::print_single(b"G", r);
     print_node(b"G node 6", &vars, &lows, &highs);
     let s = checker::cofactor(
         &mut vars,
@@ -59,7 +40,7 @@ pub fn case_g() {
         NodeNo(5),
         NodeNo(4),
     );
-    print_single(b"G", s);
+    rows::print_single(b"G", s);
 }
 
 pub fn wrong_size() {
@@ -68,11 +49,11 @@ pub fn wrong_size() {
     let mut highs = [0u16; 1];
     let mut heads = [0u16; 2];
     let mut links = [0u16; 1];
-    print_evaluated(
+    rows::print_evaluated(
         b"7 evaluate",
         checker::evaluate(&vars, &lows, &highs, &heads, &links, 2, NodeNo(1), 0),
     );
-    print_single(
+    rows::print_single(
         b"7 negation",
         checker::negation(
             &mut vars,
@@ -93,7 +74,7 @@ pub fn not_in_order() {
     let mut highs = [0u16; 3];
     let mut heads = [0u16, 2, 0, 0, 0, 0];
     let mut links = [0u16; 3];
-    print_evaluated(
+    rows::print_evaluated(
         b"26 evaluate",
         checker::evaluate(&vars, &lows, &highs, &heads, &links, 3, NodeNo(1), 0),
     );
@@ -107,7 +88,7 @@ pub fn not_in_order() {
         NodeNo(1),
         NodeNo(1),
     );
-    print_single(b"26 conjunction", r);
+    rows::print_single(b"26 conjunction", r);
 }
 
 // The constants alone.
@@ -117,7 +98,7 @@ pub fn wrong_operands() {
     let mut highs = [0u16; 2];
     let mut heads = [0u16; 4];
     let mut links = [0u16; 2];
-    print_evaluated(
+    rows::print_evaluated(
         b"13 evaluate",
         checker::evaluate(&vars, &lows, &highs, &heads, &links, 2, NodeNo(2), 0),
     );
@@ -131,7 +112,7 @@ pub fn wrong_operands() {
         NodeNo(1),
         NodeNo(2),
     );
-    print_single(b"13 conjunction", r);
+    rows::print_single(b"13 conjunction", r);
     let s = checker::cofactor(
         &mut vars,
         &mut lows,
@@ -142,7 +123,7 @@ pub fn wrong_operands() {
         NodeNo(1),
         NodeNo(0),
     );
-    print_single(b"27 cofactor", s);
+    rows::print_single(b"27 cofactor", s);
     let t = checker::cofactor_literals(
         &mut vars,
         &mut lows,
@@ -154,7 +135,7 @@ pub fn wrong_operands() {
         1,
         1,
     );
-    print_single(b"15 literals", t);
+    rows::print_single(b"15 literals", t);
 }
 
 // x1 is node 2 of three places: its negation finds no room.
@@ -173,5 +154,5 @@ pub fn full() {
         3,
         NodeNo(2),
     );
-    print_single(b"23 negation", r);
+    rows::print_single(b"23 negation", r);
 }

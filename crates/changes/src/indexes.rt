@@ -1,19 +1,7 @@
 // The lent index (02, 7/14): right, wrong and of wrong size, and what the calls leave in it. The table has 6 places; x1, not-x1 and x13
-// are its nodes 2 to 4, all of chain 6. Evaluation's lines are those of `singles`; an index's line has its heads, or its links.
-use crate::checks;
-use crate::print;
-use crate::singles;
+// are its nodes 2 to 4, all of chain 6. An index's line has its heads, or its links.
+use rows::print;
 use table::NodeNo;
-
-fn print_numbers(label: &[u8], numbers: &[u16]) {
-    print::label(label);
-    let mut i: usize = 0;
-    while i < numbers.len() {
-        print::short(numbers[i]);
-        i += 1;
-    }
-    print::end();
-}
 
 // x1 where it is true.
 fn evaluate_with(label: &[u8], heads: &[u16], links: &[u16]) {
@@ -21,7 +9,7 @@ fn evaluate_with(label: &[u8], heads: &[u16], links: &[u16]) {
     let lows = [0u16, 0, 0, 1, 0, 0];
     let highs = [0u16, 0, 1, 0, 1, 0];
     let r = checker::evaluate(&vars, &lows, &highs, heads, links, 5, NodeNo(2), 1);
-    singles::print_evaluated(label, r);
+    rows::print_evaluated(label, r);
 }
 
 pub fn wrong_heads() {
@@ -66,9 +54,9 @@ pub fn single_calls() {
         5,
         NodeNo(4),
     );
-    singles::print_single(b"index negation", r);
-    print_numbers(b"heads", &heads);
-    print_numbers(b"links", &links);
+    rows::print_single(b"index negation", r);
+    print::numbers(b"heads", &heads);
+    print::numbers(b"links", &links);
     let s = checker::conjunction(
         &mut vars,
         &mut lows,
@@ -79,9 +67,9 @@ pub fn single_calls() {
         NodeNo(2),
         NodeNo(4),
     );
-    singles::print_single(b"index 23", s);
-    print_numbers(b"heads", &heads);
-    print_numbers(b"links", &links);
+    rows::print_single(b"index 23", s);
+    print::numbers(b"heads", &heads);
+    print::numbers(b"links", &links);
 }
 
 // Case A in 16 places, and a refused formula, with ones lent as index.
@@ -100,7 +88,7 @@ fn left_by<'a>(label: &[u8], formula: &'a [u8], proof: &'a [u8]) {
     let mut highs = [0u16; 16];
     let mut heads = [1u16; 32];
     let mut links = [1u16; 16];
-    checks::run_in(
+    rows::run_in(
         label,
         &mut vars,
         &mut lows,
@@ -110,6 +98,6 @@ fn left_by<'a>(label: &[u8], formula: &'a [u8], proof: &'a [u8]) {
         formula,
         proof,
     );
-    print_numbers(b"heads", &heads);
-    print_numbers(b"links", &links);
+    print::numbers(b"heads", &heads);
+    print::numbers(b"links", &links);
 }

@@ -1,4 +1,4 @@
-// A line's parts: a label, numbers, the end.
+// A line's parts: a label, numbers, the end; and a line of numbers.
 use libc::STDOUT_FILENO;
 
 pub fn label(text: &[u8]) {
@@ -20,4 +20,14 @@ pub fn short(n: u16) {
 
 pub fn end() {
     io::write_all(STDOUT_FILENO, b"\n");
+}
+
+pub fn numbers(text: &[u8], list: &[u16]) {
+    label(text);
+    let mut i: usize = 0;
+    while i < list.len() {
+        short(list[i]);
+        i += 1;
+    }
+    end();
 }

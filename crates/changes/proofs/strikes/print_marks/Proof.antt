@@ -2,8 +2,8 @@
 use Prim.Native.Nat.{_-_}
 use borrow.Author.Needs.{needs}
 use lib.ListN.{length}
-use Rattle.cases.proofs.strikes.print_marks.Statement.{statement}
-use Rattle.cases.proofs.strikes.print_marks.Tie as tie
+use Rattle.changes.proofs.strikes.print_marks.Statement.{statement}
+use Rattle.changes.proofs.strikes.print_marks.Tie as tie
 
 abbrev Inv-loop : tie.InvT-loop
 Inv-loop marks i₀ i = Unit {0}

@@ -2,14 +2,14 @@
 use Prim.Native.Nat.{_-_}
 use borrow.Author.Needs.{needs}
 use lib.ListN.{length}
-use Rattle.cases.proofs.indexes.print_numbers.Statement.{statement}
-use Rattle.cases.proofs.indexes.print_numbers.Tie as tie
+use Rattle.rows.proofs.print.numbers.Statement.{statement}
+use Rattle.rows.proofs.print.numbers.Tie as tie
 
 abbrev Inv-loop : tie.InvT-loop
-Inv-loop label numbers i₀ i = Unit {0}
+Inv-loop text list i₀ i = Unit {0}
 
 abbrev μ-loop : tie.MeasureT-loop
-μ-loop label numbers i₀ i = length numbers - i
+μ-loop text list i₀ i = length list - i
 
 label-requires : tie.Need-label-requires Inv-loop μ-loop
 label-requires c κs = search needs
@@ -41,8 +41,8 @@ end-requires c κs = search needs
 returns : tie.Need-returns Inv-loop μ-loop
 returns c = search needs
 
-pub print-numbers-spec : {M : Type 1} → statement M
-print-numbers-spec =
+pub numbers-spec : {M : Type 1} → statement M
+numbers-spec =
     tie.close
     (tie.spec
     Inv-loop

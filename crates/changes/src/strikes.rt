@@ -1,7 +1,6 @@
-// Strikings (02, 3/14): the rows of `strikeTable`. Their lines are those of `checks` with the marks of the first six places behind; the
-// marks lent are ones, so that a 0 is the check's.
-use crate::checks;
-use crate::print;
+// Strikings (02, 3/14): the rows of `strikeTable`. Their lines have the marks of the first six places behind; the marks lent are ones, so
+// that a 0 is the check's.
+use rows::print;
 
 // The first six.
 fn print_marks(marks: &[u8]) {
@@ -15,30 +14,25 @@ fn print_marks(marks: &[u8]) {
     }
 }
 
-// The check with a table of 4,096 places. The count lent is 9, which only number 7 hands back.
+// The check with a table of 4,096 places.
 fn run<'a>(label: &[u8], formula: &'a [u8], proof: &'a [u8]) {
     let mut vars = [0u8; 4096];
     let mut lows = [0u16; 4096];
     let mut highs = [0u16; 4096];
     let mut heads = [0u16; 8192];
     let mut links = [0u16; 4096];
-    let mut members = [0u16; 2048];
     let mut struck = [1u8; 2048];
-    let mut scratch = [0u16; 4096];
-    let r = checker::check(
+    rows::say_in(
+        label,
         &mut vars,
         &mut lows,
         &mut highs,
         &mut heads,
         &mut links,
-        9,
-        &mut members,
         &mut struck,
-        &mut scratch,
         formula,
         proof,
     );
-    checks::print_said(label, r);
     print_marks(&struck);
     print::end();
 }
@@ -103,23 +97,18 @@ pub fn too_few_marks() {
     let mut highs = [0u16; 2];
     let mut heads = [0u16; 4];
     let mut links = [0u16; 2];
-    let mut members = [0u16; 2048];
     let mut struck = [1u8; 2047];
-    let mut scratch = [0u16; 4096];
-    let r = checker::check(
+    rows::say_in(
+        b"7 marks",
         &mut vars,
         &mut lows,
         &mut highs,
         &mut heads,
         &mut links,
-        9,
-        &mut members,
         &mut struck,
-        &mut scratch,
         b"p cnf 0 0\n",
         b"\x45",
     );
-    checks::print_said(b"7 marks", r);
     print_marks(&struck);
     print::end();
 }

@@ -1,13 +1,11 @@
-// Either-or and at-least entries (02, 5/14): rows of `setTable`, with the lines of `checks`; and the call that makes an at-least
-// diagram, with
-// number, node, count, whether the excluded assignments are counted, and how many they are.
-use crate::checks;
-use crate::print;
+// Either-or and at-least entries (02, 5/14): rows of `setTable`; and the call that makes an at-least diagram. Its line: label, number,
+// node, count, whether the excluded assignments are counted, and how many they are.
+use rows::print;
 use single::least::AtLeast;
 
 // Over the formula of case D.
 fn run_d(label: &[u8], proof: &[u8]) {
-    checks::run(label, b"p cnf 2 1\n1 2 0\n", proof);
+    rows::run(label, b"p cnf 2 1\n1 2 0\n", proof);
 }
 
 // Odd and even, a set bit beyond the header, a byte above 1, a record cut short, the empty set.
@@ -48,7 +46,7 @@ pub fn at_leasts() {
         b"\x4B\x03\x00\x00\x00\x00\x00\x00\x00\x03\x52\x02\x00",
     );
     run_d(b"12 set 64", b"\x4B\x00\x00\x00\x00\x00\x00\x00\x80\x01");
-    checks::run(
+    rows::run(
         b"4B I",
         b"p cnf 3 3\n2 3 0\n1 3 0\n1 2 0\n",
         b"\x4B\x07\x00\x00\x00\x00\x00\x00\x00\x02\x52\x02\x00\x45",
@@ -62,7 +60,7 @@ pub fn five_places() {
     let mut highs = [0u16; 5];
     let mut heads = [0u16; 10];
     let mut links = [0u16; 5];
-    checks::run_in(
+    rows::run_in(
         b"23 set",
         &mut vars,
         &mut lows,
