@@ -9,6 +9,7 @@ use borrow.Author.Tests.{le-leb, lt-leb}
 use mathlib.Core.Bool.{false}
 use Rattle.table.specs.Columns.{columnsMade}
 use Rattle.operate.specs.declared.Operation.{Operation}
+use Rattle.commands.specs.Commands.{inRecords}
 use Rattle.verdict.specs.Check.{check}
 use Rattle.session.specs.declared.Checked.{Checked}
 use Rattle.session.specs.Checked.{outcomeOf}
@@ -37,7 +38,7 @@ unfolding checkWithin
 check-past n vs ls hs ds js count ms ks ss formula proof h a b c = rw (first-all n vs h a, first-all n ls h b, first-all n hs h c, lt-leb n 65536 h)
 
 pub check-first : (n : ℕ) (vs ls hs ds js a b c d j : List ℕ) (count : ℕ) (ms ks ss formula proof ms′ ks′ ss′ : List ℕ) (r : Checked) → n ≤ 65536 → (length vs ≡ 65536) × (length ls ≡ 65536) × (length hs ≡ 65536)
-    → length a ≡ length (take n vs) → length b ≡ length (take n ls) → length c ≡ length (take n hs) → outcomeOf (columnsMade a b c d j) ms′ ks′ ss′ r ≡ check (columnsMade (take n vs) (take n ls) (take n hs) ds js) count ms ks ss formula proof
+    → length a ≡ length (take n vs) → length b ≡ length (take n ls) → length c ≡ length (take n hs) → outcomeOf (columnsMade a b c d j) ms′ ks′ ss′ r ≡ check inRecords (columnsMade (take n vs) (take n ls) (take n hs) ds js) count ms ks ss formula proof
     → outcomeOf (columnsMade (take n (a ++ drop n vs)) (take n (b ++ drop n ls)) (take n (c ++ drop n hs)) d j) ms′ ks′ ss′ r ≡ checkWithin n vs ls hs ds js count ms ks ss formula proof
 unfolding checkWithin
 check-first n vs ls hs ds js a b c d j count ms ks ss formula proof ms′ ks′ ss′ r h e ea eb ec told = rw (first-written n vs a h (e .0) ea, first-written n ls b h (e .1) eb, first-written n hs c h (e .2) ec, le-leb n 65536 h) told

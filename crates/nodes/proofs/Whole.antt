@@ -15,6 +15,7 @@ use Rattle.single.specs.declared.Evaluated.{Evaluated}
 use Rattle.single.specs.declared.call.Single.{Single}
 use Rattle.single.specs.declared.least.AtLeast.{AtLeast}
 use Rattle.single.specs.Single.{Made, madeOf, unchanged, refusal, operation, Counted, countedOf, withCount, atLeastCall, evaluation}
+use Rattle.commands.specs.Commands.{inRecords}
 use Rattle.verdict.specs.Check.{Outcome, lentFits, check}
 use Rattle.verdict.specs.Satisfies.{Unsatisfiable}
 use Rattle.verdict.proofs.Refuted.{check-refuted}
@@ -133,7 +134,7 @@ module _ (ds js : List ℕ) (count : ℕ) (ms ks ss formula proof ds′ js′ ms
   abbrev out : List ℕ → List ℕ → List ℕ → Outcome
   out v l h = outcomeOf (columnsMade v l h ds′ js′) ms′ ks′ ss′ r
 
-  check-refused : (v l h : List ℕ) → sizeFits v l h ds js ≡ false → check (columnsMade v l h ds js) count ms ks ss formula proof ≡ seven v l h
+  check-refused : (v l h : List ℕ) → sizeFits v l h ds js ≡ false → check inRecords (columnsMade v l h ds js) count ms ks ss formula proof ≡ seven v l h
   unfolding check lentFits
   check-refused v l h e = rw e
 
@@ -145,15 +146,15 @@ module _ (ds js : List ℕ) (count : ℕ) (ms ks ss formula proof ds′ js′ ms
 
   pub check-whole : (ys : List Node) (m : ℕ) (vs₀ ls₀ hs₀ vs ls hs : List ℕ) → Cut (length ys) m → Sized vs ls hs
       → out (take (length ys) vs) (take (length ys) ls) (take (length ys) hs) ≡ checkWithin (length ys) (column varOf ys vs₀ m) (column lowOf ys ls₀ m) (column highOf ys hs₀ m) ds js count ms ks ss formula proof
-      → out (varsOf (slice vs ls hs ys m)) (lowsOf (slice vs ls hs ys m)) (highsOf (slice vs ls hs ys m)) ≡ check (columnsMade (varsOf ys) (lowsOf ys) (highsOf ys) ds js) count ms ks ss formula proof
+      → out (varsOf (slice vs ls hs ys m)) (lowsOf (slice vs ls hs ys m)) (highsOf (slice vs ls hs ys m)) ≡ check inRecords (columnsMade (varsOf ys) (lowsOf ys) (highsOf ys) ds js) count ms ks ss formula proof
   unfolding checkWithin
   check-whole ys m vs₀ ls₀ hs₀ vs ls hs cut e told =
-      whole ds js out (λ v l h. check (columnsMade v l h ds js) count ms ks ss formula proof) seven check-refused check-moved ys vs₀ ls₀ hs₀ vs ls hs e m cut told
+      whole ds js out (λ v l h. check inRecords (columnsMade v l h ds js) count ms ks ss formula proof) seven check-refused check-moved ys vs₀ ls₀ hs₀ vs ls hs e m cut told
 
   -- The same with what 0 means.
   pub check-told : (ys : List Node) (m : ℕ) (vs₀ ls₀ hs₀ vs ls hs : List ℕ) → Cut (length ys) m → Sized vs ls hs
       → out (take (length ys) vs) (take (length ys) ls) (take (length ys) hs) ≡ checkWithin (length ys) (column varOf ys vs₀ m) (column lowOf ys ls₀ m) (column highOf ys hs₀ m) ds js count ms ks ss formula proof
-      → (out (varsOf (slice vs ls hs ys m)) (lowsOf (slice vs ls hs ys m)) (highsOf (slice vs ls hs ys m)) ≡ check (columnsMade (varsOf ys) (lowsOf ys) (highsOf ys) ds js) count ms ks ss formula proof)
+      → (out (varsOf (slice vs ls hs ys m)) (lowsOf (slice vs ls hs ys m)) (highsOf (slice vs ls hs ys m)) ≡ check inRecords (columnsMade (varsOf ys) (lowsOf ys) (highsOf ys) ds js) count ms ks ss formula proof)
       × (r .number ≡ 0 → Unsatisfiable formula)
   check-told ys m vs₀ ls₀ hs₀ vs ls hs cut e told =
       let is = check-whole ys m vs₀ ls₀ hs₀ vs ls hs cut e told in

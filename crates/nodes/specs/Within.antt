@@ -9,6 +9,7 @@ use Rattle.table.specs.Columns.{columnsMade}
 use Rattle.operate.specs.declared.Operation.{Operation}
 use Rattle.single.specs.declared.Evaluated.{Evaluated}
 use Rattle.single.specs.Single.{Made, unchanged, operation, Counted, atLeastCall, evaluation}
+use Rattle.commands.specs.Commands.{inRecords}
 use Rattle.verdict.specs.Check.{Outcome, check}
 use Rattle.nodes.specs.declared.Node.{Node}
 use Rattle.nodes.specs.Slice.{secondOf}
@@ -36,7 +37,7 @@ checkWithin n vars lows highs heads links count members struck scratch formula p
       struck = struck;
       scratch = scratch;
     } in
-    cond (leb n 65536) (check first count members struck scratch formula proof) seven
+    cond (leb n 65536) (check inRecords first count members struck scratch formula proof) seven
 
 unfoldable pub operationWithin : Operation → ℕ → List ℕ → List ℕ → List ℕ → List ℕ → List ℕ → ℕ → ℕ → ℕ → Made
 operationWithin op n vars lows highs heads links count f g =

@@ -11,6 +11,7 @@ use single::least::AtLeast;
 use table::NodeNo;
 ghost use mathlib.Core.Path.{_≡_};
 ghost use Rattle.table.specs.Columns.{columnsMade};
+ghost use Rattle.commands.specs.Commands.{inRecords};
 ghost use Rattle.session.specs.Checked.{outcomeOf};
 ghost use Rattle.single.specs.Single.{evaluation, madeOf, operation, countedOf, atLeastCall};
 ghost use Rattle.verdict.specs.Check.{check};
@@ -45,7 +46,7 @@ pub extern "C" fn cablesalak_check_nodes<'a>(
         let left = columnsMade (varsOf (now (nodes .exit))) (lowsOf (now (nodes .exit))) (highsOf (now (nodes .exit)))
         (now (heads .exit)) (now (links .exit)) in
         (outcomeOf left (now (members .exit)) (now (struck .exit)) (now (scratch .exit)) r
-        ≡ check lent count (now (members .entry)) (now (struck .entry)) (now (scratch .entry))
+        ≡ check inRecords lent count (now (members .entry)) (now (struck .entry)) (now (scratch .entry))
         (now (formula .entry)) (now (proof .entry)))
         × (r .number ≡ 0 → Unsatisfiable (now (formula .entry)))) ⌝ }
 {
