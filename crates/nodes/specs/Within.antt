@@ -27,6 +27,7 @@ checkWithin n vars lows highs heads links count members struck scratch formula p
     let first = columnsMade (take n vars) (take n lows) (take n highs) heads links in
     let seven : Outcome = record {
       number = 7;
+      inProof = false;
       place = 0;
       lines = 0;
       rounds = 0;

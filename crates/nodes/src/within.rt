@@ -40,6 +40,7 @@ pub fn check_within<'a>(
     if 65536 < n {
         return Checked {
             number: 7,
+            in_proof: false,
             place: 0,
             lines: 0,
             rounds: 0,

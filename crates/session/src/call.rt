@@ -183,7 +183,7 @@ fn check_4096_long<'a>(
         ≡ outcome (length (now (vars .entry))) (length (now (members .entry))) (length (now (scratch .entry)))
         (verdict mode (length (now (vars .entry))) (now (formula .entry)) (now (proof .entry)))) ⌝ }
 {
-    let mut memo = [0u64; 90112];
+    let mut memo = [0u64; 131072];
     check_4096(
         vars,
         lows,
@@ -223,7 +223,7 @@ fn check_65536<'a>(
         ≡ outcome (length (now (vars .entry))) (length (now (members .entry))) (length (now (scratch .entry)))
         (verdict mode (length (now (vars .entry))) (now (formula .entry)) (now (proof .entry)))) ⌝ }
 {
-    let mut memo = [0u64; 90112];
+    let mut memo = [0u64; 131072];
     let mut marks = [0u8; 65536];
     let places = vars.len();
     crate::run(

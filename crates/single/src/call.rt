@@ -193,7 +193,7 @@ fn judged_65536(
         let after = columnsMade (now (vars .exit)) (now (lows .exit)) (now (highs .exit)) (now (heads .exit)) (now (links .exit)) in
         madeOf after r ≡ operation op before count (f .0) (g .0)) ⌝ }
 {
-    let mut memo = [0u64; 65536];
+    let mut memo = [0u64; 131072];
     judged(vars, lows, highs, heads, links, &mut memo, count, op, f, g)
 }
 

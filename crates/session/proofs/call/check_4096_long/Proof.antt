@@ -1,11 +1,11 @@
--- The check over a memo of 90,112 cells. Assumes nothing.
+-- The check over a memo of 131,072 cells. Assumes nothing.
 use native.Mathlib.Omega.{arith}
 use Rattle.table.proofs.Zeros.{length-whole}
 use Rattle.session.proofs.call.check_4096_long.Statement.{statement}
 use Rattle.session.proofs.call.check_4096_long.Tie as tie
 
 slice-aggregate-check-4096 : tie.Need-slice-aggregate-check-4096
-slice-aggregate-check-4096 c = length-whole 90112
+slice-aggregate-check-4096 c = length-whole 131072
 
 -- The ways back, written by ways.py: TO-from-FROM leads from the place FROM of the code to the place TO before it.
 module _ (c : tie.After-memo) where
@@ -21,7 +21,7 @@ module _ (c : tie.After-memo2) where
 check-4096-requires : tie.Need-check-4096-requires
 check-4096-requires c κs =
     let start = start-from-check-4096-call c in
-    (start .pre .0, start .pre .1, omega (arith, length-whole 90112, start .pre .1))
+    (start .pre .0, start .pre .1, omega (arith, length-whole 131072, start .pre .1))
 
 same-length : tie.Need-same-length
 same-length c =

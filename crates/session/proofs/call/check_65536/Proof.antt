@@ -8,7 +8,7 @@ use Rattle.session.proofs.call.check_65536.Tie as tie
 
 slice-aggregate-run : tie.Need-slice-aggregate-run
 slice-aggregate-run c =
-    length-whole 90112
+    length-whole 131072
 
 array-borrow-prefix-marks : tie.Need-array-borrow-prefix-marks
 array-borrow-prefix-marks c =
@@ -38,7 +38,7 @@ slice-aggregate-run-2 c =
 run-requires : tie.Need-run-requires
 run-requires c κs =
     let start = start-from-run-call c in
-    (start .pre .0, (part-zeros (length (start .args .vars .now)) 65536 (omega (arith, start .pre .1)), omega (arith, length-whole 90112, start .pre .1)))
+    (start .pre .0, (part-zeros (length (start .args .vars .now)) 65536 (omega (arith, start .pre .1)), omega (arith, length-whole 131072, start .pre .1)))
 
 same-length : tie.Need-same-length
 same-length c =

@@ -8,7 +8,7 @@ use Rattle.single.proofs.call.judged_65536.Tie as tie
 
 slice-aggregate-judged : tie.Need-slice-aggregate-judged
 slice-aggregate-judged c =
-    length-whole 65536
+    length-whole 131072
 
 -- The ways back, written by ways.py: TO-from-FROM leads from the place FROM of the code to the place TO before it.
 module _ (c : tie.After-memo) where
@@ -21,7 +21,7 @@ module _ (c : tie.After-memo2) where
 
 judged-requires : tie.Need-judged-requires
 judged-requires c κs =
-    (start-from-judged-call c .pre .0, whole-zeros 65536, subst (λ (k : ℕ). 3 ≤ k) (length-whole 65536) (omega arith), start-from-judged-call c .pre .1)
+    (start-from-judged-call c .pre .0, whole-zeros 131072, subst (λ (k : ℕ). 3 ≤ k) (length-whole 131072) (omega arith), start-from-judged-call c .pre .1)
 
 same-length : tie.Need-same-length
 same-length c =
