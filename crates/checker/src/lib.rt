@@ -271,9 +271,7 @@ pub fn check_text<'a>(
         (now (formula .entry)) (now (proof .entry))) ⌝ }
     ensures { λ r. ⌜ (r .number ≡ 0 → Unsatisfiable (now (formula .entry))) ⌝ }
 {
-    let mode = Mode {
-        form: Form::Text,
-    };
+    let mode = Mode { form: Form::Text };
     check_in(
         vars,
         lows,

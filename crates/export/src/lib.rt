@@ -225,8 +225,8 @@ pub extern "C" fn cablesalak_check_text<'a>(
     )
 }
 
-// The program's line on two files, the proof in records, put at the start of `line`, and the status to end with: 0 for refuted alone, 2 where a file was not
-// taken, 1 for every other refusal. `first` and `second` tell whether formula and proof could be read.
+// The program's line on two files, the proof in records, put at the start of `line`, and the status to end with: 0 for refuted alone, 2
+// where a file was not taken, 1 for every other refusal. `first` and `second` tell whether formula and proof could be read.
 #[no_mangle]
 pub extern "C" fn cablesalak_report<'a>(
     first: bool,
@@ -235,7 +235,8 @@ pub extern "C" fn cablesalak_report<'a>(
     proof: &'a [u8],
     line: &mut [u8; 105],
 ) -> Told
-    ensures { λ r. ⌜ take (r .length) (now (line .exit)) ≡ lineBytes (said inRecords first (now (formula .entry)) second (now (proof .entry))) ⌝ }
+    ensures { λ r. ⌜ take (r .length) (now (line .exit))
+        ≡ lineBytes (said inRecords first (now (formula .entry)) second (now (proof .entry))) ⌝ }
     ensures { λ r. ⌜ drop (r .length) (now (line .exit)) ≡ drop (r .length) (now (line .entry)) ⌝ }
     ensures { λ r. ⌜ r .status ≡ statusOf (said inRecords first (now (formula .entry)) second (now (proof .entry)) .number) ⌝ }
     ensures { λ r. ⌜ Counts (r .length) (now (line .exit)) ⌝ }

@@ -103,13 +103,7 @@ fn deliver<'a>(
 }
 
 // The line for what was read.
-fn answer<'a>(
-    mode: Mode,
-    first: bool,
-    formula: &'a [u8],
-    second: bool,
-    proof: &'a [u8],
-) -> bool {
+fn answer<'a>(mode: Mode, first: bool, formula: &'a [u8], second: bool, proof: &'a [u8]) -> bool {
     let mut line = [0u8; 105];
     let told = report::report(mode, first, formula, second, proof, &mut line);
     let length = told.length;

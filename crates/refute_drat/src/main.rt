@@ -5,8 +5,6 @@ use commands::Mode;
 fn main() {
     let mut formula = [0u8; 65537];
     let mut proof = [0u8; 65537];
-    let mode = Mode {
-        form: Form::Text,
-    };
+    let mode = Mode { form: Form::Text };
     program::run(mode, &mut formula, &mut proof);
 }

@@ -6,7 +6,6 @@ use Prim.Native.Nat.{ℕ, _+_, _≤_}
 use native.Mathlib.Omega.{arith}
 use lib.ListN.{length}
 use lib.Dec.{ltb}
-use Rattle.records.specs.declared.Record.{Record}
 use Rattle.records.specs.declared.Record.the-variants.{End}
 use Rattle.records.specs.Records.{recordAt, lengthOf, numberOf}
 use Rattle.records.proofs.Laws.{record-within}
@@ -14,7 +13,7 @@ use Rattle.commands.specs.declared.Form.{Form}
 use Rattle.commands.specs.declared.Form.the-variants.{Records, Text}
 use Rattle.commands.specs.Commands.{Command, recorded, added, struckOut, wrong, finished, commandAt, textRead}
 use Rattle.commands.proofs.Onward.{CommandIn, text-in}
-use Rattle.verdict.specs.Steps.{State, Step, stop}
+use Rattle.verdict.specs.Steps.{State, stop}
 use Rattle.verdict.specs.Check.{step}
 use Rattle.verdict.proofs.ClauseSays.{AddedSays, StruckSays, FinishSays, added-says, struck-says, finish-says}
 use Rattle.verdict.proofs.Offsets.{Offset, at-record, at-striking, behind-end, Placed, record-placed}

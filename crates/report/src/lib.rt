@@ -1,9 +1,10 @@
-// What the program says: the verdict on two files, its line of bytes and the status to end with. The programs (`refute`, `refute_drat`), the exported
-// call and the hosts over it share this, so that the line and the status are proved once and nobody formats or maps them again.
+// What the programs say: the verdict on two files, its line of bytes and the status to end with. The programs (`refute`, `refute_drat`),
+// the exported call and the hosts over it share this, so that the line and the status are proved once and nobody formats or maps them
+// again.
 mod put;
 
-pub use put::put_line;
 use commands::Mode;
+pub use put::put_line;
 ghost use mathlib.Core.Path.{_≡_};
 ghost use lib.ListN.{take, drop};
 ghost use Rattle.io.specs.Counts.{Counts};
@@ -126,7 +127,8 @@ pub fn report<'a>(
     proof: &'a [u8],
     line: &mut [u8; 105],
 ) -> Told
-    ensures { λ r. ⌜ take (r .length) (now (line .exit)) ≡ lineBytes (said mode first (now (formula .entry)) second (now (proof .entry))) ⌝ }
+    ensures { λ r. ⌜ take (r .length) (now (line .exit))
+        ≡ lineBytes (said mode first (now (formula .entry)) second (now (proof .entry))) ⌝ }
     ensures { λ r. ⌜ drop (r .length) (now (line .exit)) ≡ drop (r .length) (now (line .entry)) ⌝ }
     ensures { λ r. ⌜ r .status ≡ statusOf (said mode first (now (formula .entry)) second (now (proof .entry)) .number) ⌝ }
     ensures { λ r. ⌜ Counts (r .length) (now (line .exit)) ⌝ }

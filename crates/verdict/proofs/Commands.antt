@@ -1,29 +1,25 @@
 -- The laws of a command, whatever its form: it is taken exactly where it passes what its kind asks, it goes on in the proof, and it keeps what holds
 -- in every state. The idea: a record's laws, and a clause's, which the reader gives within the header's variables. Assumes nothing.
-use mathlib.Core.Path.{_≡_, refl, sym, ap, _∙_, subst}
-use mathlib.Core.Logic.{_↔_, inl, inr}
+use mathlib.Core.Path.{_≡_, refl, subst}
+use mathlib.Core.Logic.{_↔_}
 use mathlib.Core.Bool.{Bool, true, false, cond}
-use mathlib.Core.List.{List, [], _∷_}
-use Prim.Native.Nat.{ℕ, _+_, _≤_, _<_}
+use mathlib.Core.List.{List}
+use Prim.Native.Nat.{ℕ, _≤_, _<_}
 use native.Mathlib.Omega.{arith}
-use lib.ListN.{length, set, length-set}
-use Rattle.meaning.specs.Operations as meaning
+use lib.ListN.{length}
 use Rattle.meaning.proofs.Clauses.{Within}
-use Rattle.table.specs.Nodes.{Node, placed}
 use Rattle.table.proofs.Growth.{Extends, extends-same}
 use Rattle.dimacs.proofs.Between.{between-most}
-use Rattle.records.specs.declared.Record.{Record}
 use Rattle.records.specs.Records.{recordAt, lengthOf}
 use Rattle.records.proofs.Laws.{record-takes, record-within}
 use Rattle.commands.specs.declared.Form.{Form}
 use Rattle.commands.specs.declared.Form.the-variants.{Records, Text}
-use Rattle.commands.specs.Commands.{Command, recorded, added, struckOut, wrong, finished, Read, start, commandAt, textRead}
+use Rattle.commands.specs.Commands.{Command, recorded, added, struckOut, wrong, finished, start, commandAt, textRead}
 use Rattle.commands.proofs.Reading.{Fault}
 use Rattle.commands.proofs.Onward.{CommandIn, text-in}
-use Rattle.verdict.specs.Steps.{State, withMarks, next, stop}
+use Rattle.verdict.specs.Steps.{State, next, stop}
 use Rattle.verdict.specs.Check.{finish, step}
-use Rattle.verdict.specs.Taken.{Meant, Taken}
-use Rattle.verdict.specs.ClauseTaken.{TriesTaken, ClauseTaken, ClauseStruck}
+use Rattle.verdict.specs.Taken.{Meant}
 use Rattle.verdict.specs.Run.{CommandTaken, afterCommand}
 use Rattle.verdict.proofs.Steps.{stop-not-next, record-taken, taken-record, next-form}
 use Rattle.verdict.proofs.Standing.{Standing, struck-standing, record-standing, record-extends}

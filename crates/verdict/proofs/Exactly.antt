@@ -11,7 +11,7 @@ use Rattle.dimacs.specs.Clauses.{Reading}
 use Rattle.commands.specs.declared.Mode.{Mode}
 use Rattle.verdict.specs.Steps.{State, Step, next, stop, spent}
 use Rattle.verdict.specs.Check.{step, Verdict, left, afterStep, commands, clauses, verdict}
-use Rattle.verdict.specs.Taken.{Function, Meant, Taken}
+use Rattle.verdict.specs.Taken.{Function, Meant}
 use Rattle.verdict.specs.Run.{Making, opened, made, commandIn, nextIn, CommandTaken, Reached, begins, goes, Ended, no-header, not-read, no-room, stopped, tried, Refutation}
 use Rattle.verdict.proofs.Commands.{taken-step, start-within, command-goes}
 use Rattle.verdict.proofs.Refutes.{Refutes, step-refutes, refutes-step}

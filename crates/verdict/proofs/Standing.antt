@@ -24,7 +24,7 @@ use Rattle.records.specs.declared.Record.{Record}
 use Rattle.records.specs.declared.Record.the-variants.{NodeEntry, Witness, ProofLine, Strike, SetEntry, End, CutShort, UnknownKind, NoRecord}
 use Rattle.verdict.specs.Steps.{State, numbered, isEntry, entryNode, setDiagram}
 use Rattle.verdict.specs.Steps.{withEntry, withMarks}
-use Rattle.verdict.specs.Taken.{Function, Meant, numberedMeant, entryMeant, nodeMeant, setMeant, afterRecord, Valued, NodeTaken, WitnessTaken, LineTaken, StrikeTaken, SetTaken, Taken}
+use Rattle.verdict.specs.Taken.{Function, Meant, numberedMeant, entryMeant, nodeMeant, setMeant, afterRecord, Valued, NodeTaken, WitnessTaken, LineTaken, SetTaken, Taken}
 use Rattle.verdict.proofs.SetValues.{set-reduced, set-valued}
 use Rattle.verdict.proofs.Uses.{UsesAfter, place-uses}
 

@@ -84,8 +84,17 @@ proofFrom mode n s proof st = commands (suc (length proof)) mode n s proof st (s
 
 -- "A refused formula leaves table and lists all zero, count 2."
 abbrev pub refusedFormula : ℕ → ℕ → ℕ → Verdict
-refusedFormula number place peak =
-    record { number = number; inProof = false; place = place; lines = 0; rounds = 0; peak = peak; nodes = emptied; members = []; struck = [] }
+refusedFormula number place peak = record {
+  number = number;
+  inProof = false;
+  place = place;
+  lines = 0;
+  rounds = 0;
+  peak = peak;
+  nodes = emptied;
+  members = [];
+  struck = [];
+}
 
 abbrev pub afterClause : Placing → (List Node → ℕ → Verdict) → ℕ → Verdict
 afterClause (full t) rest first = refusedFormula 8 first (length t)

@@ -8,7 +8,7 @@ use lib.Dec.{leb}
 use Rattle.meaning.specs.Diagram.{Diagram, leaf, same}
 use Rattle.meaning.specs.Operations as meaning
 use Rattle.meaning.specs.Rules.{Line, rup, pr}
-use Rattle.table.specs.Nodes.{Node, Placing, full, placed, place}
+use Rattle.table.specs.Nodes.{Placing, full, placed, place}
 use Rattle.table.specs.Making.{lineReach}
 use Rattle.clausal.specs.Drat.{has, without}
 use Rattle.clausal.specs.Tries.{makesTrue, makesFalse, witness}

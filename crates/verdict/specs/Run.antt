@@ -2,7 +2,7 @@
 -- stand for, and where the run ends. No call open to others cites this file: the theorems on what `check` says do.
 use mathlib.Core.Path.{_≡_}
 use mathlib.Core.Logic.{_≢_}
-use mathlib.Core.Bool.{Bool, true, false}
+use mathlib.Core.Bool.{true, false}
 use mathlib.Core.List.{List, [], _∷_, _++_, map}
 use Prim.Native.Nat.{ℕ, zero, suc, _+_, _≤_, _<_}
 use lib.ListN.{length, take}
@@ -61,7 +61,8 @@ meantAfter (suc k) mode n proof at m =
 -- The functions of a proof's lines, line after line, as its bytes fix them: of the roots in records, of the added clauses in a text.
 -- There are no more commands than bytes.
 abbrev pub lineFunctions : Mode → ℕ → List ℕ → List Function
-lineFunctions mode n proof = meantAfter (length proof) mode n proof (start (mode .form) proof) (record { members = []; entries = [] }) .members
+lineFunctions mode n proof =
+    meantAfter (length proof) mode n proof (start (mode .form) proof) (record { members = []; entries = [] }) .members
 
 -- The functions of a formula's clauses, in file order.
 abbrev pub clauseFunctions : List ℕ → List Function

@@ -1,6 +1,5 @@
 -- `run_proof` leaves the outcome of the records read, with the nodes that do not stay dropped. Assumes nothing.
 use mathlib.Core.Path.{refl, sym, ap, _∙_}
-use Prim.Native.Nat.{suc}
 use lib.ListN.{length}
 use Rattle.table.specs.Indexed.{tableOf}
 use Rattle.verdict.specs.Steps as steps
