@@ -37,7 +37,7 @@ use Rattle.verdict.proofs.Commands.{Fit, start-within, command-goes}
 use Rattle.verdict.proofs.Ends.{reached-in, reached-fit, reached-standing}
 use Rattle.verdict.proofs.Members.{reached-variables}
 use Rattle.verdict.proofs.Refuted.{reached-within}
-use Rattle.demands.specs.Texts.{ClauseList, strikeLowest, afterClause, clausesFrom, formulaClauses, textBefore, liveClauses, Matches}
+use Rattle.demands.specs.Texts.{ClauseList, strikeLowest, listAfter, listFrom, formulaClauses, textBefore, liveClauses, Matches}
 use Rattle.demands.specs.Leaving.{OffsetOf}
 use Rattle.demands.proofs.Offsets.{command-offset}
 
@@ -130,11 +130,11 @@ pub record Stands (n : ℕ) (st : State) (l : ClauseList) : Type 0 where
   pub literals : AllWithin n (l .clauses)
 
 module _ {s n : ℕ} {m : Meant} {st : State} (S : Standing s n m st) (narrow : n ≤ 64) (l : ClauseList) (M : Stands n st l) where
-  added-matches : (ls : List meaning.Literal) → Within n ls → (st′ : State) → ClauseTaken n s st ls st′ → Stands n st′ (afterClause n l (added ls))
+  added-matches : (ls : List meaning.Literal) → Within n ls → (st′ : State) → ClauseTaken n s st ls st′ → Stands n st′ (listAfter n l (added ls))
   added-matches ls w st′ T =
       let (line, peak, is) = tries-accepted n s (withEntry st (T .nodes) (T .node)) (T .node) st′ ls (T .tried) in
       let N : Made s (st .nodes) (meaning.clause n ls) (T .nodes) (T .node) = clause-made s n (st .nodes) ls (T .nodes) (T .node) narrow (S .ordered) (T .room) in
-      subst (λ (x : State). Stands n x (afterClause n l (added ls))) is (record {
+      subst (λ (x : State). Stands n x (listAfter n l (added ls))) is (record {
         matches = record {
           diagrams = one-more s n (st .nodes) ls (T .nodes) (T .node) (S .ordered) N (st .kept) (S .kept) (st .members) (m .members) (S .members)
               ∙ ap (λ (x : List Diagram). x ++ meaning.clause n ls ∷ []) (M .matches .diagrams) ∙ sym (map-append (meaning.clause n) (l .clauses) (ls ∷ []));
@@ -149,19 +149,19 @@ module _ {s n : ℕ} {m : Meant} {st : State} (S : Standing s n m st) (narrow : 
   unfolding isLive
   there-is g i p = rw (lt-ltb i (length (st .members)) p, map-at (diagramIn st) (st .members) i p) refl
 
-  struck-matches : (ls : List meaning.Literal) (st′ : State) → ClauseStruck n st ls st′ → Stands n st′ (afterClause n l (struckOut ls))
+  struck-matches : (ls : List meaning.Literal) (st′ : State) → ClauseStruck n st ls st′ → Stands n st′ (listAfter n l (struckOut ls))
   struck-matches ls st′ C =
       let g : Diagram = meaning.clause n ls in
       let ds : List Diagram = map (diagramIn st) (st .members) in
       let set-is : strikeLowest g ds (st .struck) ≡ set (st .struck) (C .place) 1 = lowest-set g ds (st .struck) (C .place) (omega (arith, C .inside, length-map (st .members) (diagramIn st)))
       (S .marks ∙ sym (length-map (st .members) (diagramIn st))) (sym (there-is g (C .place) (C .inside)) ∙ C .there)
       (λ j p f. C .lowest j p (there-is g j (omega (arith, C .inside)) ∙ f)) in
-      subst (λ (x : State). Stands n x (afterClause n l (struckOut ls))) (C .is) (record {
+      subst (λ (x : State). Stands n x (listAfter n l (struckOut ls))) (C .is) (record {
         matches = record { diagrams = M .matches .diagrams; marks = sym set-is ∙ ap₂ (strikeLowest g) (M .matches .diagrams) (M .matches .marks) };
         literals = M .literals;
       })
 
-  command-matches : (c : Command) → Fit Text n c → (st′ : State) → CommandTaken n s st c st′ → Stands n st′ (afterClause n l c)
+  command-matches : (c : Command) → Fit Text n c → (st′ : State) → CommandTaken n s st c st′ → Stands n st′ (listAfter n l c)
   command-matches (recorded r more) fit st′ T = absurd fit
   command-matches (added ls) fit st′ T = added-matches ls fit st′ T
   command-matches (struckOut ls) fit st′ T = struck-matches ls st′ T
@@ -178,12 +178,12 @@ record Follows (text proof : List ℕ) (n : ℕ) (st : State) (at : ℕ) : Type 
   so-far : ClauseList
   stands : Stands n st so-far
   run : (j end : ℕ) → at ≤ end
-      → clausesFrom (steps + j) n proof (start Text proof) end (formulaClauses text) ≡ clausesFrom j n proof at end so-far
+      → listFrom (steps + j) n proof (start Text proof) end (formulaClauses text) ≡ listFrom j n proof at end so-far
 
 -- what is refused, and the end, add nothing from there on
 module _ (proof : List ℕ) (n at end : ℕ) where
-  none-here : (j : ℕ) (l : ClauseList) → end ≤ at → clausesFrom j n proof at end l ≡ l
-  unfolding clausesFrom
+  none-here : (j : ℕ) (l : ClauseList) → end ≤ at → listFrom j n proof at end l ≡ l
+  unfolding listFrom
   none-here zero l p = refl
   none-here (suc j) l p = rw (le-ltb at end p) refl
 
@@ -194,12 +194,12 @@ module _ (proof : List ℕ) (n at end : ℕ) where
   Idle (wrong number offset) next = next ≡ at
   Idle finished next = next ≡ at
 
-  idle : Idle (commandIn inText proof n at) (nextIn inText proof n at) → (j : ℕ) (l : ClauseList) → clausesFrom j n proof at end l ≡ l
-  unfolding clausesFrom
+  idle : Idle (commandIn inText proof n at) (nextIn inText proof n at) → (j : ℕ) (l : ClauseList) → listFrom j n proof at end l ≡ l
+  unfolding listFrom
   idle I zero l = refl
   idle I (suc j) l = go (commandIn inText proof n at) (nextIn inText proof n at) I (ltb at end) (idle I j l)
     where
-      go : (c : Command) (next : ℕ) → Idle c next → (b : Bool) → clausesFrom j n proof at end l ≡ l → cond b (clausesFrom j n proof next end (afterClause n l c)) l ≡ l
+      go : (c : Command) (next : ℕ) → Idle c next → (b : Bool) → listFrom j n proof at end l ≡ l → cond b (listFrom j n proof next end (listAfter n l c)) l ≡ l
       go (recorded r more) next I b rec = absurd I
       go (added ls) next I b rec = absurd I
       go (struckOut ls) next I b rec = absurd I
@@ -211,7 +211,7 @@ module _ (proof : List ℕ) (n at end : ℕ) where
 module _ (s : ℕ) (text proof : List ℕ) where
   goes-follows : {m : Meant} (n : ℕ) (st st′ : State) (at : ℕ) → n ≤ 64 → Standing s n m st → Fit Text n (commandIn inText proof n at)
       → CommandTaken n s st (commandIn inText proof n at) st′ → Follows text proof n st at → Follows text proof n st′ (nextIn inText proof n at)
-  unfolding clausesFrom
+  unfolding listFrom
   goes-follows n st st′ at narrow S fit T F =
       let c : Command = commandIn inText proof n at in
       let (on, inside) = command-goes Text proof n s st st′ at (F .within) T in
@@ -219,12 +219,12 @@ module _ (s : ℕ) (text proof : List ℕ) where
         steps = suc (F .steps);
         few = omega (arith, F .few, on);
         within = inside;
-        so-far = afterClause n (F .so-far) c;
+        so-far = listAfter n (F .so-far) c;
         stands = command-matches S narrow (F .so-far) (F .stands) c fit st′ T;
         run = λ j end p.
             let same : suc (F .steps) + j ≡ F .steps + suc j = omega arith in
-            ap (λ (k : ℕ). clausesFrom k n proof (start Text proof) end (formulaClauses text)) same ∙ F .run (suc j) end (omega (arith, on, p))
-            ∙ ap (λ (b : Bool). cond b (clausesFrom j n proof (nextIn inText proof n at) end (afterClause n (F .so-far) c)) (F .so-far)) (lt-ltb at end (omega (arith, on, p)));
+            ap (λ (k : ℕ). listFrom k n proof (start Text proof) end (formulaClauses text)) same ∙ F .run (suc j) end (omega (arith, on, p))
+            ∙ ap (λ (b : Bool). cond b (listFrom j n proof (nextIn inText proof n at) end (listAfter n (F .so-far) c)) (F .so-far)) (lt-ltb at end (omega (arith, on, p)));
       }
 
   begun-follows : {n many : ℕ} {t : List Node} {ms : List ℕ} {fs : List Function} → Making s text n many t ms fs complete → AllWithin n (clausesOf (formula text))
@@ -240,7 +240,7 @@ module _ (s : ℕ) (text proof : List ℕ) where
         within = start-within Text proof;
         so-far = formulaClauses text;
         stands = record { matches = record { diagrams = rw (nodes, members) are; marks = struck ∙ ap (λ (k : ℕ). replicate k 0) long }; literals = w };
-        run = λ j end p. let z : 0 + j ≡ j = omega arith in ap (λ (k : ℕ). clausesFrom k n proof (start Text proof) end (formulaClauses text)) z;
+        run = λ j end p. let z : 0 + j ≡ j = omega arith in ap (λ (k : ℕ). listFrom k n proof (start Text proof) end (formulaClauses text)) z;
       }
 
   reached-follows : {n : ℕ} {st : State} {at : ℕ} {m : Meant} → Reached inText s text proof n st at m → Follows text proof n st at
@@ -250,14 +250,14 @@ module _ (s : ℕ) (text proof : List ℕ) where
 
   module _ {n : ℕ} {st : State} {at : ℕ} {m : Meant} (R : Reached inText s text proof n st at m) where
     -- where nothing is added or struck from the place on up to the end
-    stands-to : (end : ℕ) → at ≤ end → ((j : ℕ) (l : ClauseList) → clausesFrom j n proof at end l ≡ l) → Stands n st (textBefore text proof end)
+    stands-to : (end : ℕ) → at ≤ end → ((j : ℕ) (l : ClauseList) → listFrom j n proof at end l ≡ l) → Stands n st (textBefore text proof end)
     stands-to end p none =
         let F : Follows text proof n st at = reached-follows R in
         let rest : ℕ = length proof - F .steps in
         let all : length proof ≡ F .steps + rest = omega (arith, F .few, F .within) in
         subst (Stands n st)
-        (sym (ap (λ (w : ℕ). clausesFrom (length proof) w proof (start Text proof) end (formulaClauses text)) (reached-variables s text inText proof R)
-        ∙ ap (λ (k : ℕ). clausesFrom k n proof (start Text proof) end (formulaClauses text)) all ∙ F .run rest end p ∙ none rest (F .so-far)))
+        (sym (ap (λ (w : ℕ). listFrom (length proof) w proof (start Text proof) end (formulaClauses text)) (reached-variables s text inText proof R)
+        ∙ ap (λ (k : ℕ). listFrom k n proof (start Text proof) end (formulaClauses text)) all ∙ F .run rest end p ∙ none rest (F .so-far)))
         (F .stands)
 
     pub text-stands : Stands n st (textBefore text proof at)

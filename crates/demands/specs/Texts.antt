@@ -29,20 +29,20 @@ strikeLowest g (d ∷ ds) [] = []
 strikeLowest g (d ∷ ds) (m ∷ marks) = let rest = m ∷ strikeLowest g ds marks in cond (eqb m 0 && same d g) (1 ∷ marks) rest
 
 -- After a command that is taken: an added clause is the next member, not struck.
-abbrev pub afterClause : ℕ → ClauseList → Command → ClauseList
-afterClause n l (recorded r more) = l
-afterClause n l (added ls) = record { clauses = l .clauses ++ ls ∷ []; marks = l .marks ++ 0 ∷ [] }
-afterClause n l (struckOut ls) =
+abbrev pub listAfter : ℕ → ClauseList → Command → ClauseList
+listAfter n l (recorded r more) = l
+listAfter n l (added ls) = record { clauses = l .clauses ++ ls ∷ []; marks = l .marks ++ 0 ∷ [] }
+listAfter n l (struckOut ls) =
     record { clauses = l .clauses; marks = strikeLowest (meaning.clause n ls) (map (meaning.clause n) (l .clauses)) (l .marks) }
-afterClause n l (wrong number offset) = l
-afterClause n l finished = l
+listAfter n l (wrong number offset) = l
+listAfter n l finished = l
 
 -- After the commands that begin before a place, of at most so many from `at` on.
-unfoldable pub clausesFrom : ℕ → ℕ → List ℕ → ℕ → ℕ → ClauseList → ClauseList
+unfoldable pub listFrom : ℕ → ℕ → List ℕ → ℕ → ℕ → ClauseList → ClauseList
 unfolding strikeLowest
-clausesFrom zero n proof at end l = l
-clausesFrom (suc steps) n proof at end l =
-    let later = clausesFrom steps n proof (nextIn inText proof n at) end (afterClause n l (commandIn inText proof n at)) in
+listFrom zero n proof at end l = l
+listFrom (suc steps) n proof at end l =
+    let later = listFrom steps n proof (nextIn inText proof n at) end (listAfter n l (commandIn inText proof n at)) in
     cond (ltb at end) later l
 
 -- "Clauses become members 0, 1, 2 and so on", none of them struck.
@@ -51,7 +51,7 @@ formulaClauses text = let cs = clausesOf (formula text) in record { clauses = cs
 
 -- The members before a place of the text. There are no more commands than bytes.
 abbrev pub textBefore : List ℕ → List ℕ → ℕ → ClauseList
-textBefore text proof end = clausesFrom (length proof) (variablesOf (header text)) proof (start Text proof) end (formulaClauses text)
+textBefore text proof end = listFrom (length proof) (variablesOf (header text)) proof (start Text proof) end (formulaClauses text)
 
 -- The clauses of those that are not struck.
 abbrev pub liveClauses : List ℕ → List ℕ → ℕ → List Clause

@@ -1,4 +1,4 @@
--- A clause that a text adds is taken exactly where it passes what `ClauseRun` names; it keeps what holds in every state, and an assignment for the
+-- A clause that a text adds is taken exactly where it passes what `ClauseTaken` names; it keeps what holds in every state, and an assignment for the
 -- live members gives one for them and the clause. The idea: `rup-sound` for the first try, `pr-sound` for the second, whose witness makes the clause
 -- 1 by its pivot. Assumes nothing.
 use mathlib.Core.Path.{_≡_, refl, sym, ap, ap₂, _∙_, subst}
