@@ -294,9 +294,9 @@ module _ (n : ℕ) (L : Lent) (st : State) (H : Held n L st) (few : st .lines < 
 
       go : (full shown : Bool)
           → Stepped n L
-            (lentWith (tableIn L (st .count)) (cond full (L .members) (cond (not shown) (L .members) (set (L .members) (st .members) k))) cs (L .struck)) st
-            (cond full (spent 23 peak) (cond (not shown) (spent 19 peak) (next (acceptedBy (stateOf L st) k (j .rounds) peak))))
-            (cond full (Spent 23 peak) (cond (not shown) (Spent 19 peak) (Next (withLine st (j .rounds) peak k))))
+          (lentWith (tableIn L (st .count)) (cond full (L .members) (cond (not shown) (L .members) (set (L .members) (st .members) k))) cs (L .struck)) st
+          (cond full (spent 23 peak) (cond (not shown) (spent 19 peak) (next (acceptedBy (stateOf L st) k (j .rounds) peak))))
+          (cond full (Spent 23 peak) (cond (not shown) (Spent 19 peak) (Next (withLine st (j .rounds) peak k))))
       go true shown = record { says = refl; leaves = record { table = refl; members = refl; struck = refl } }
       go false false = record { says = refl; leaves = record { table = refl; members = refl; struck = refl } }
       go false true = record {
