@@ -15,7 +15,6 @@ use Rattle.meaning.proofs.Canonical.{branch-same, branch-differ}
 use Rattle.meaning.proofs.Clauses.{clauseFrom}
 use Rattle.table.specs.Nodes.{Node, at, nodeOf, diagramAt, Placing, full, placed, find, orAppend, put, place}
 use Rattle.table.specs.declared.Found.{Found}
-use Rattle.table.specs.declared.Found.the-variants.{At, Nothing}
 use Rattle.table.specs.Indexed.{Table, size, nodesOf, Good, foundOf, Outcome, written}
 use Rattle.table.proofs.Order.{Fits, Ordered}
 use Rattle.table.proofs.Numbers.{Kind, is-zero, is-one, from-two, kind, diagramAt-zero, diagramAt-one, diagramAt-node}
