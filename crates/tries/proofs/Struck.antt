@@ -1,7 +1,7 @@
 -- A clause struck out: the live member of lowest place that is its diagram, found by its node's number. The idea: two numbers are equal exactly where
 -- their diagrams are. Assumes nothing.
 use mathlib.Core.Path.{_≡_, refl, sym, ap, _∙_, subst}
-use mathlib.Core.Bool.{Bool, true, false, _&&_}
+use mathlib.Core.Bool.{true, false}
 use mathlib.Core.List.{List}
 use mathlib.Core.Option.{Option, none, some}
 use Prim.Native.Nat.{ℕ, _+_, _≤_, _<_}
@@ -17,7 +17,7 @@ use Rattle.meaning.proofs.Booleans.{t≢f, and-both}
 use Rattle.meaning.proofs.Units.{same-eq, eq-same}
 use Rattle.words.specs.Sets.{literalsOf}
 use Rattle.table.specs.Nodes.{diagramAt, placed, place}
-use Rattle.table.specs.declared.Found.the-variants.{At, Nothing}
+use Rattle.table.specs.declared.Found.the-variants.{Nothing}
 use Rattle.table.specs.Indexed.{Table, size, nodesOf}
 use Rattle.table.proofs.Numbers.{diagramAt-injective}
 use Rattle.table.proofs.Written.{length-nodes, good-ordered}

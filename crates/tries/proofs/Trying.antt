@@ -1,6 +1,6 @@
 -- What the two tries of a clause say is what the definition says of it. The idea: its lines at 64 variables are those at the header's n, and the
 -- words of its witness are its witness. Assumes nothing.
-use mathlib.Core.Path.{_≡_, refl, sym, ap, ap₂, _∙_, subst}
+use mathlib.Core.Path.{_≡_, refl, sym, ap, _∙_, subst}
 use mathlib.Core.Bool.{Bool, true, false, not, _||_, cond}
 use mathlib.Core.List.{List, [], _∷_}
 use Prim.Native.Nat.{ℕ, _≤_, _<_, max}
@@ -26,8 +26,8 @@ use Rattle.judge.specs.declared.Judged.{Judged}
 use Rattle.judge.specs.Lines.{Negatable}
 use Rattle.judge.proofs.Widths.{rup-at, pr-at}
 use Rattle.verdict.specs.Check as check
-use Rattle.verdict.specs.Check.{next, spent, unstruck, judged, liveMembers}
-use Rattle.verdict.specs.Clausal.{withPeak, judgedOr, secondLine, secondTry, tries}
+use Rattle.verdict.specs.Check.{next, spent, judged, liveMembers}
+use Rattle.verdict.specs.Clausal.{withPeak, judgedOr, secondTry, tries}
 use Rattle.steps.specs.declared.State.{State}
 use Rattle.steps.specs.States.{Lent, tableIn, stateOf, Held}
 use Rattle.steps.specs.Tried.{Tried, acceptedBy, saidBy}
