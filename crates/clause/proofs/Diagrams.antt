@@ -5,9 +5,10 @@ use mathlib.Core.Bool.{Bool, true, false, not, _&&_, _||_, cond}
 use Prim.Native.Nat.{ℕ, zero, suc, _+_, _≤_}
 use native.Mathlib.Omega.{arith}
 use native.Mathlib.Decide.{ℕ-discrete}
-use Rattle.meaning.specs.Diagram.{Assignment, holds, Diagram, leaf, value, Reduced}
+use Rattle.meaning.specs.Diagram.{Assignment, holds, Diagram, leaf, node, branch, value, Reduced}
 use Rattle.meaning.specs.Words.{inWord}
 use Rattle.meaning.proofs.Booleans.{t≢f, both-ways, or-cases, or-left, or-right, and-commutes}
+use Rattle.meaning.proofs.Canonical.{branch-same, branch-differ}
 use Rattle.meaning.proofs.Values.{diagram-is}
 use Rattle.meaning.proofs.Clauses.{clauseFrom, clauseFrom-reduced, clauseFrom-true, true-clauseFrom, clause-tautology}
 use Rattle.words.specs.declared.Literals.{Literals}
@@ -74,3 +75,23 @@ module _ (u : Literals) where
   -- no variable has both
   pub one-sign : shares 64 p n ≡ false → (v : ℕ) → 1 ≤ v → v ≤ 64 → (inWord n v && inWord p v) ≡ false
   one-sign e v lo hi = and-commutes (inWord n v) (inWord p v) ∙ shares-apart 64 p n e v lo hi
+
+  -- and then it is not 1
+  not-one-from : shares 64 p n ≡ false → (k i : ℕ) → 1 ≤ i → i + k ≡ 65 → clauseWords k i ≡ leaf true → ⊥
+  unfolding clauseFrom
+  not-one-from apart zero i lo e q = let z : _≡_ {A = Bool} false true = cc in t≢f (sym z)
+  not-one-from apart (suc k) i lo e q =
+      go (inWord n i) (inWord p i) (one-sign apart i lo (omega arith)) (clauseWords k (suc i)) (not-one-from apart k (suc i) (omega arith) (omega arith)) q
+    where
+      go : (low high : Bool) → (low && high) ≡ false → (rest : Diagram) → (rest ≡ leaf true → ⊥) → branch i (cond low (leaf true) rest) (cond high (leaf true) rest) ≡ leaf true → ⊥
+      go true true d rest ne q = t≢f d
+      go true false d rest ne q =
+          let r : node i (leaf true) rest ≡ leaf true = sym (branch-differ i (leaf true) rest (λ e. ne (sym e))) ∙ q in
+          let z : _≡_ {A = ℕ} 0 1 = cc in omega arith
+      go false true d rest ne q =
+          let r : node i rest (leaf true) ≡ leaf true = sym (branch-differ i rest (leaf true) ne) ∙ q in
+          let z : _≡_ {A = ℕ} 0 1 = cc in omega arith
+      go false false d rest ne q = ne (sym (branch-same i rest rest refl) ∙ q)
+
+  pub not-one : shares 64 p n ≡ false → clauseOfWords u ≡ leaf true → ⊥
+  not-one apart q = not-one-from apart 64 1 (omega arith) refl (sym words-are ∙ q)

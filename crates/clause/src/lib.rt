@@ -1,5 +1,7 @@
 // A clause's diagram made in the table from the set of its literals, or found there.
-use table::Found;
+mod search;
+
+pub use search::find;
 use table::NodeNo;
 use table::Placed;
 use words::Literals;
@@ -8,9 +10,9 @@ ghost use mathlib.Core.Bool.{cond};
 ghost use Prim.Native.Nat.{_≤_};
 ghost use lib.ListN.{length};
 ghost use Rattle.meaning.specs.Words.{inWord};
-ghost use Rattle.table.specs.Nodes.{put, place};
+ghost use Rattle.table.specs.Nodes.{place};
 ghost use Rattle.table.specs.Indexed.{tableOf, nodesOf, Good, outcomeOf, written};
-ghost use Rattle.clause.specs.Words.{clauseOfWords, Stands};
+ghost use Rattle.clause.specs.Words.{clauseOfWords};
 
 // The side on which the literal of v, if the word has v, is true: node 1, else the clause's other literals.
 fn side(word: u64, v: u8, rest: NodeNo) -> NodeNo
@@ -65,65 +67,4 @@ pub fn make(
         v -= 1;
     }
     made
-}
-
-// The node with these children, if it stands in the table: the child where they are equal.
-fn over(
-    vars: &[u8],
-    lows: &[u16],
-    highs: &[u16],
-    heads: &[u16],
-    links: &[u16],
-    count: usize,
-    v: u8,
-    l: NodeNo,
-    h: NodeNo,
-) -> Found
-    requires { ⌜ Good (tableOf (now vars) (now lows) (now highs) (now heads) (now links) count) ⌝ }
-    ensures { λ r. ⌜ (
-        let before = tableOf (now (vars .entry)) (now (lows .entry)) (now (highs .entry)) (now (heads .entry)) (now (links .entry)) count in
-        Stands (nodesOf before) (put (length (now (vars .entry))) (nodesOf before) v (l .0) (h .0)) r) ⌝ }
-{
-    if l.0 == h.0 {
-        return Found::At(l);
-    }
-    table::lookup(vars, lows, highs, heads, links, count, v, l, h)
-}
-
-// The clause's node, if it stands in the table; no node is placed.
-pub fn find(
-    vars: &[u8],
-    lows: &[u16],
-    highs: &[u16],
-    heads: &[u16],
-    links: &[u16],
-    count: usize,
-    literals: Literals,
-) -> Found
-    requires { ⌜ Good (tableOf (now vars) (now lows) (now highs) (now heads) (now links) count) ⌝ }
-    ensures { λ r. ⌜ (
-        let before = tableOf (now (vars .entry)) (now (lows .entry)) (now (highs .entry)) (now (heads .entry)) (now (links .entry)) count in
-        Stands (nodesOf before) (place (length (now (vars .entry))) (nodesOf before) (clauseOfWords literals)) r) ⌝ }
-{
-    let positive = literals.positive;
-    let negative = literals.negative;
-    if words::shared(positive, negative) {
-        return Found::At(NodeNo(1));
-    }
-    let mut node = NodeNo(0);
-    let mut v: u8 = 64;
-    while 0 < v {
-        let low = side(negative, v, node);
-        let high = side(positive, v, node);
-        match over(vars, lows, highs, heads, links, count, v, low, high) {
-            Found::At(k) => {
-                node = k;
-            }
-            Found::Nothing => {
-                return Found::Nothing;
-            }
-        }
-        v -= 1;
-    }
-    Found::At(node)
 }

@@ -11,7 +11,7 @@ use lib.Seq.{length-take-le, getD-take, take-set-lt, take-suc-set, getD-set-othe
 use borrow.Author.Tests.{eq-eqb, ne-eqb, lt-ltb, le-ltb}
 use Rattle.table.specs.Lists.{Inside}
 use Rattle.verdict.specs.Steps as check
-use Rattle.verdict.specs.Steps.{next, unstruck, waiting, isLive, strikeStep}
+use Rattle.verdict.specs.Steps.{withMarks, next, unstruck, waiting, isLive, strikeStep}
 use Rattle.steps.specs.declared.State.{State}
 use Rattle.steps.specs.declared.Step.the-variants.{Next, Stop}
 use Rattle.steps.specs.States.{Lent, lentOf, stateOf, Held, Stepped}
@@ -135,6 +135,32 @@ module _ (l : Lent) (st : State) (marked : st .members ≤ length (l .struck)) (
     unfolding isLive
     live-there e = rw (there, eq-eqb (getD (take (st .members) (l .struck)) k 0) 0 (mark-is ∙ e))
 
+-- A member is marked: the code's state holds no marks, so it stays.
+module _ (n : ℕ) (l : Lent) (st : State) (k : ℕ) (below : k < st .members) (H : Held n l st) where
+  abbrev l′ : Lent
+  l′ = lentOf (l .vars) (l .lows) (l .highs) (l .heads) (l .links) (l .members) (l .scratch) (set (l .struck) k 1)
+
+  held : Held n l′ st
+  held = record {
+    entries = H .entries;
+    least = H .least;
+    kept = H .kept;
+    inside = H .inside;
+    rest = H .rest;
+    many = H .many;
+    lines = H .lines;
+    room = H .room;
+    marked = length-set (l .struck) k 1 ∙ H .marked;
+    unmarked = λ i p. getD-set-other (l .struck) k i 1 0 (λ e. absurd (omega arith)) ∙ H .unmarked i p;
+    rounds = H .rounds;
+  }
+
+  pub marked-next : Stepped n l l′ st (next (withMarks (stateOf l st) (set (take (st .members) (l .struck)) k 1))) (Next st)
+  marked-next = record {
+    says = ap (λ (marks : List ℕ). next (withMarks (stateOf l st) marks)) (take-set-lt (st .members) (l .struck) k 1 below);
+    leaves = held;
+  }
+
 module _ (n : ℕ) (l : Lent) (st : State) (k : ℕ) where
   abbrev said : check.Step
   said = strikeStep (stateOf l st) k
@@ -149,27 +175,9 @@ module _ (n : ℕ) (l : Lent) (st : State) (k : ℕ) where
     strike-28 e = stopped n l st said 28 0 (rw (none, e))
 
     module _ (live : isLive (stateOf l st) k ≡ true) (below : k < st .members) (H : Held n l st) where
-      abbrev l′ : Lent
-      l′ = lentOf (l .vars) (l .lows) (l .highs) (l .heads) (l .links) (l .members) (l .scratch) (set (l .struck) k 1)
-
-      says : next (stateOf l′ st) ≡ said
+      says : strikeStep (stateOf l st) k ≡ next (withMarks (stateOf l st) (set (take (st .members) (l .struck)) k 1))
       unfolding strikeStep
-      says = rw (none, live, take-set-lt (st .members) (l .struck) k 1 below)
+      says = rw (none, live)
 
-      held : Held n l′ st
-      held = record {
-        entries = H .entries;
-        least = H .least;
-        kept = H .kept;
-        inside = H .inside;
-        rest = H .rest;
-        many = H .many;
-        lines = H .lines;
-        room = H .room;
-        marked = length-set (l .struck) k 1 ∙ H .marked;
-        unmarked = λ i p. getD-set-other (l .struck) k i 1 0 (λ e. absurd (omega arith)) ∙ H .unmarked i p;
-        rounds = H .rounds;
-      }
-
-      pub strike-next : Stepped n l l′ st said (Next st)
-      strike-next = record { says = says; leaves = held }
+      pub strike-next : Stepped n l (lentOf (l .vars) (l .lows) (l .highs) (l .heads) (l .links) (l .members) (l .scratch) (set (l .struck) k 1)) st said (Next st)
+      strike-next = rw says (marked-next n l st k below H)

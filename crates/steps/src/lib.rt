@@ -12,7 +12,7 @@ ghost use Rattle.steps.specs.States.{Lent, lentOf, stateOf, Held, Steppe
 pub mod line;
 mod node;
 mod set;
-pub mod strike;
+mod strike;
 mod witness;
 
 // The state between records: the table's count, how many nodes stay if the line is not accepted, the numbers of members and of the

@@ -1,1 +1,5 @@
 pub mod Words
+pub mod Tries
+pub mod Within
+pub mod Lowest
+pub mod Commands

@@ -1,4 +1,11 @@
-// The tries of a DRAT clause: the witness of the second. (02, 4/14)
+// The steps of a DRAT clause, added by its two tries or struck out, and of every command. (02, 4/14)
+mod add;
+mod command;
+mod strike;
+
+pub use add::clause_step;
+pub use command::command_step;
+pub use strike::strike_clause;
 use words::Literals;
 ghost use mathlib.Core.Path.{_≡_};
 ghost use Prim.Native.Nat.{_≤_};

@@ -8,8 +8,8 @@ use Rattle.table.specs.Indexed.{Table, tableOf, size, nodesOf}
 use Rattle.clause.specs.Words.{clauseOfWords, Stands}
 use Rattle.clause.proofs.Making.{stay, Making, make-start}
 use Rattle.clause.proofs.Finding.{find-both, find-turn, find-absent, find-end}
-use Rattle.clause.proofs.find.Statement.{statement}
-use Rattle.clause.proofs.find.Tie as tie
+use Rattle.clause.proofs.search.find.Statement.{statement}
+use Rattle.clause.proofs.search.find.Tie as tie
 
 abbrev Inv-loop : tie.InvT-loop
 Inv-loop vars lows highs heads links count positive negative node₀ v₀ node v =

@@ -1,8 +1,8 @@
 -- `over` is the child, or what the lookup finds. Assumes nothing.
 use borrow.Author.Needs.{needs}
 use Rattle.clause.proofs.Finding.{over-same, over-looked}
-use Rattle.clause.proofs.over.Statement.{statement}
-use Rattle.clause.proofs.over.Tie as tie
+use Rattle.clause.proofs.search.over.Statement.{statement}
+use Rattle.clause.proofs.search.over.Tie as tie
 
 returns : tie.Need-returns
 returns c = over-same _ _ _ _ _ (c .if1 .taken)
