@@ -30,7 +30,7 @@ use Rattle.commands.specs.Inner.{clauseWords}
 use Rattle.judge.specs.declared.Judged.{Judged}
 use Rattle.judge.specs.Lines.{Negatable}
 use Rattle.verdict.specs.Steps as check
-use Rattle.verdict.specs.Steps.{next, stop, spent}
+use Rattle.verdict.specs.Steps.{withEntry, next, stop, spent}
 use Rattle.verdict.specs.Clausal.{tries, judgedOr, secondTry, onceMade, addStep}
 use Rattle.verdict.proofs.Uses.{UsesAfter, place-uses}
 use Rattle.steps.specs.declared.State.{State}

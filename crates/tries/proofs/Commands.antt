@@ -21,6 +21,7 @@ use Rattle.steps.specs.declared.Step.{Step}
 use Rattle.steps.specs.declared.Step.the-variants.{Stop}
 use Rattle.steps.specs.States.{Lent, stateOf, Held, Stepped}
 use Rattle.steps.proofs.Stops.{stopped}
+use Rattle.tries.specs.Tries.{PivotFits}
 use Rattle.tries.specs.Within.{Within}
 use Rattle.tries.specs.Commands.{CommandFits, PivotOfFits}
 
@@ -84,8 +85,8 @@ says-wrong n s l st number offset (wrong k o) e fits = let same : k ≡ number =
 says-wrong n s l st number offset finished e fits = differs Finished (Wrong number offset) e (λ z. omega arith)
 
 -- The same, the command being one of that kind.
-pub says-as : {n s : ℕ} {l l′ : Lent} {st : State} {r : Step} (command command′ : code.Command) → command ≡ command′ → Says n s l l′ st r command′ → Says n s l l′ st r command
-says-as {n} {s} {l} {l′} {st} {r} command command′ e W = subst (Says n s l l′ st r) (sym e) W
+pub says-as : (n s : ℕ) (l l′ : Lent) (st : State) (r : Step) (command command′ : code.Command) → command ≡ command′ → Says n s l l′ st r command′ → Says n s l l′ st r command
+says-as n s l l′ st r command command′ e W = subst (Says n s l l′ st r) (sym e) W
 
 -- ---- what is asked of a command that is read
 
@@ -96,3 +97,6 @@ pivot-fits n narrow (added (l ∷ ls)) fits = (fits .0, omega (arith, fits .1, n
 pivot-fits n narrow (struckOut ls) fits = tt
 pivot-fits n narrow (wrong number offset) fits = tt
 pivot-fits n narrow finished fits = tt
+
+pub pivot-of : (command : code.Command) (c : TextClause) → command ≡ Added c → PivotOfFits command → PivotFits (c .pivot)
+pivot-of command c e fits = subst PivotOfFits e fits
