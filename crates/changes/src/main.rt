@@ -5,6 +5,7 @@ mod indexes;
 mod orders;
 mod sets;
 mod strikes;
+mod texts;
 
 fn main() {
     comments::everywhere();
@@ -27,4 +28,8 @@ fn main() {
     sets::at_leasts();
     sets::five_places();
     sets::single_calls();
+    texts::accepted();
+    texts::refused();
+    texts::in_formula();
+    texts::five_places();
 }

@@ -33,7 +33,7 @@ pub first-all : (n : ℕ) (xs : List ℕ) → 65536 < n → length xs ≡ 65536 
 first-all n xs h e = take-all n xs (omega (arith, h, e))
 
 pub check-past : (n : ℕ) (vs ls hs ds js : List ℕ) (count : ℕ) (ms ks ss formula proof : List ℕ) → 65536 < n → length vs ≡ 65536 → length ls ≡ 65536 → length hs ≡ 65536
-    → outcomeOf (columnsMade (take n vs) (take n ls) (take n hs) ds js) ms ks ss (record { number = 7; place = 0; lines = 0; rounds = 0; count = count; peak = 0 }) ≡ checkWithin n vs ls hs ds js count ms ks ss formula proof
+    → outcomeOf (columnsMade (take n vs) (take n ls) (take n hs) ds js) ms ks ss (record { number = 7; «in_proof» = false; place = 0; lines = 0; rounds = 0; count = count; peak = 0 }) ≡ checkWithin n vs ls hs ds js count ms ks ss formula proof
 unfolding checkWithin
 check-past n vs ls hs ds js count ms ks ss formula proof h a b c = rw (first-all n vs h a, first-all n ls h b, first-all n hs h c, lt-leb n 65536 h)
 

@@ -8,7 +8,7 @@ use single::Evaluated;
 use single::call::Single;
 
 // The line but for its end.
-fn print_said(label: &[u8], r: Checked) {
+pub fn print_said(label: &[u8], r: Checked) {
     print::label(label);
     print::number(r.number as u64);
     print::number(r.place as u64);
