@@ -3,7 +3,7 @@
 use rows::print;
 
 // The first six.
-fn print_marks(marks: &[u8]) {
+pub fn print_marks(marks: &[u8]) {
     let mut i: usize = 0;
     while i < marks.len() {
         if i == 6 {

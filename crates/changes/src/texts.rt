@@ -1,18 +1,6 @@
 // DRAT texts (02, 4/14): rows of `textTable` through the call for texts. Their lines have 1 behind where the place is in the text, 0 where it
-// is in the formula, and then the marks of the first five places; the marks lent are ones, so that a 0 is the check's.
+// is in the formula, and then the marks of the first six places; the marks lent are ones, so that a 0 is the check's.
 use rows::print;
-
-// The first five.
-fn print_marks(marks: &[u8]) {
-    let mut i: usize = 0;
-    while i < marks.len() {
-        if i == 5 {
-            return;
-        }
-        print::byte(marks[i]);
-        i += 1;
-    }
-}
 
 fn run_in<'a>(
     label: &[u8],
@@ -40,9 +28,10 @@ fn run_in<'a>(
         formula,
         text,
     );
+    let in_proof = r.in_proof;
     rows::print_said(label, r);
-    print::number(r.in_proof as u64);
-    print_marks(&struck);
+    print::number(in_proof as u64);
+    crate::strikes::print_marks(&struck);
     print::end();
 }
 
@@ -78,7 +67,11 @@ pub fn accepted() {
     run_a(b"text A", b"2 0\n0\n");
     run_a(b"text on", b"2 0 0 1 0 d 2 0");
     run_d(b"text RAT", b"1 0\n");
-    run(b"text extended", b"p cnf 3 2\n1 2 0\n-1 3 0\n", b"1 2 3 0 d 1 2 0 2 3 0");
+    run(
+        b"text extended",
+        b"p cnf 3 2\n1 2 0\n-1 3 0\n",
+        b"1 2 3 0 d 1 2 0 2 3 0",
+    );
 }
 
 // Each number of a text, at its place.
