@@ -17,12 +17,12 @@ WORDS = {
     "judge": "RUP and PR lines", "steps": "a record's step", "formula": "makes the clauses",
     "replay": "record after record", "session": "the whole check", "checker": "calls with no requires",
     "demands": "the demands' theorems", "order": "members in any order", "nodes": "over node structs", "report": "line and status",
-    "export": "the archive for C, Rust", "refute": "the program of two files", "rows": "an example's line",
+    "export": "the archive for C, Rust", "program": "two files, one line", "refute": "the program, records", "refute_drat": "the program, DRAT", "rows": "an example's line",
     "cases": "runs 01's examples", "changes": "runs 02's examples",
     "sets": "parity, at least", "binomial": "C(n, k), stored",
     "clausal": "RUP, RAT on clauses", "commands": "what stands next", "tries": "the second try's witness",
 }
-OPEN = {"checker", "nodes", "export", "refute", "cases", "changes"}
+OPEN = {"checker", "nodes", "export", "refute", "refute_drat", "cases", "changes"}
 WIDTH, HEIGHT, ACROSS, UP, TOP = 158, 44, 190, 78, 64
 SOLID, DASHED = "#444444", "#3b6fb5"
 
