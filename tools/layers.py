@@ -15,12 +15,12 @@ WORDS = {
     "verdict": "the check, defined", "operate": "the four operations", "units": "U of a diagram", "negate": "negations found",
     "conflict": "rule (a)", "supports": "a node's variables", "single": "the single calls", "propagate": "unit propagation",
     "judge": "RUP and PR lines", "steps": "a record's step", "formula": "makes the clauses",
-    "replay": "record after record", "session": "the whole check", "checker": "calls with no requires",
+    "replay": "command after command", "session": "the whole check", "checker": "calls with no requires",
     "demands": "the demands' theorems", "order": "members in any order", "nodes": "over node structs", "report": "line and status",
     "export": "the archive for C, Rust", "program": "two files, one line", "refute": "the program, records", "refute_drat": "the program, DRAT", "rows": "an example's line",
     "cases": "runs 01's examples", "changes": "runs 02's examples",
     "sets": "parity, at least", "binomial": "C(n, k), stored",
-    "clausal": "RUP, RAT on clauses", "commands": "what stands next", "tries": "the second try's witness",
+    "clausal": "RUP, RAT on clauses", "commands": "what stands next", "tries": "a clause's step",
 }
 OPEN = {"checker", "nodes", "export", "refute", "refute_drat", "cases", "changes"}
 WIDTH, HEIGHT, ACROSS, UP, TOP = 158, 44, 190, 78, 64
