@@ -3,9 +3,8 @@
 use mathlib.Core.Path.{_≡_, refl, sym, ap₂, _∙_}
 use mathlib.Core.Bool.{Bool, true, false, cond}
 use mathlib.Core.List.{List, [], _∷_, _++_, map}
-use Prim.Native.Nat.{ℕ, zero, suc, _+_, _-_, _^_, _≤_, _<_, min}
+use Prim.Native.Nat.{ℕ, zero, suc, _+_, _-_, _≤_, _<_, min}
 use native.Mathlib.Omega.{arith}
-use native.Mathlib.Nat.{pow-succ'}
 use native.Mathlib.Decide.{decLt}
 use lib.Dec.{ltb}
 use borrow.Author.Tests.{lt-ltb, le-ltb}
@@ -88,7 +87,7 @@ sum-suc n (suc k) = let h : sumBelow (suc n) (suc k) ≡ sumBelow n (suc k) + su
 -- ---- the two are one
 
 -- "k = 0": nothing is excluded
-pub excluded-none : (n : ℕ) → excluded n 0 ≡ 0
+excluded-none : (n : ℕ) → excluded n 0 ≡ 0
 unfolding excluded
 excluded-none n = none-fewer (assignments n)
 
@@ -104,15 +103,6 @@ pub excluded-is : (n k : ℕ) → excluded n k ≡ sumBelow n k
 excluded-is n zero = excluded-none n ∙ sym (no-sum n)
 excluded-is zero (suc k) = one-excluded k ∙ sym (first-row k)
 excluded-is (suc n) (suc k) = excluded-suc n k ∙ ap₂ _+_ (excluded-is n (suc k)) (excluded-is n k) ∙ sym (sum-suc n k)
-
--- k above the number of variables: every assignment is
-pub excluded-all : (n k : ℕ) → n < k → excluded n k ≡ 2 ^ n
-excluded-all n zero h = absurd (omega arith)
-excluded-all zero (suc k) h = one-excluded k
-excluded-all (suc n) (suc k) h =
-    let a : excluded n (suc k) ≡ 2 ^ n = excluded-all n (suc k) (omega arith) in
-    let b : excluded n k ≡ 2 ^ n = excluded-all n k (omega arith) in
-    excluded-suc n k ∙ omega (arith, pow-succ' 2 n)
 
 -- ---- where the sum ends
 

@@ -118,7 +118,7 @@ right-at n k p q = below-at 33 (λ k. rule n k (entry n k)) (below-at 33 (λ n. 
 pub pascal : (n k : ℕ) → n < 32 → k < 32 → entry (suc n) (suc k) ≡ entry n k + entry n (suc k)
 pascal n k p q = eqb→eq (entry (suc n) (suc k)) (entry n k + entry n (suc k)) (right-at (suc n) (suc k) (omega arith) (omega arith))
 
-pub first-of-row : (n : ℕ) → n ≤ 32 → entry n 0 ≡ 1
+first-of-row : (n : ℕ) → n ≤ 32 → entry n 0 ≡ 1
 first-of-row zero p = eqb→eq (entry 0 0) 1 (right-at 0 0 p (omega arith))
 first-of-row (suc n) p = eqb→eq (entry (suc n) 0) 1 (right-at (suc n) 0 p (omega arith))
 

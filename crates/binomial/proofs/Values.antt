@@ -63,7 +63,7 @@ module _ (S : ℕ → Bool) where
   trues-spread (suc k) i (b ∷ a) len = step k i b a (trues-spread k (suc i) a) (trues-spread k (suc i) (b ∷ a)) len (S i) refl
 
   -- the diagram's value under an assignment of the set's variables
-  pub excluded-values : (n k : ℕ) (a : Assignment) → length a ≡ sizeOf n S → value (atLeast n S k) (spreadFrom S n 1 a) ≡ leb k (trues a)
+  excluded-values : (n k : ℕ) (a : Assignment) → length a ≡ sizeOf n S → value (atLeast n S k) (spreadFrom S n 1 a) ≡ leb k (trues a)
   unfolding sizeOf atLeastValue
   excluded-values n k a len = atLeast-value S n k (spreadFrom S n 1 a) (length-spread n 1 a) ∙ ap (leb k) (trues-spread n 1 a len)
 

@@ -41,7 +41,7 @@ any-nowhere p t [] h = refl
 any-nowhere p t (j ∷ js) h = ap (λ (b : Bool). b || any p (diagramsOf t js)) (h 0 (omega arith)) ∙ any-nowhere p t js (λ k q. h (suc k) (omega arith))
 
 -- node 0 is not listed
-pub not-listed : (list : List ℕ) (n : ℕ) → isListed list n ≡ false → (k : ℕ) → k < length list → getD list k 0 ≢ n
+not-listed : (list : List ℕ) (n : ℕ) → isListed list n ≡ false → (k : ℕ) → k < length list → getD list k 0 ≢ n
 unfolding isListed
 not-listed [] n e k q z = absurd (omega arith)
 not-listed (j ∷ js) n e zero q z = t≢f (sym (eq-eqb j n z) ∙ or-neither (eqb j n) (isListed js n) e .0)

@@ -39,7 +39,7 @@ set-end m marks list i h = rw (drop-of-length-le list h)
 
 -- ---- what the marks say
 
-pub length-setAll : (m : ℕ) (marks list : List ℕ) → length (setAll m marks list) ≡ length marks
+length-setAll : (m : ℕ) (marks list : List ℕ) → length (setAll m marks list) ≡ length marks
 unfolding setAll
 length-setAll m marks [] = refl
 length-setAll m marks (k ∷ ks) = length-setAll m (set marks k m) ks ∙ length-set marks k m
@@ -56,7 +56,7 @@ inside-rest : (s k : ℕ) (ks : List ℕ) → Inside s (k ∷ ks) → Inside s k
 inside-rest s k ks h i p = h (suc i) (omega arith)
 
 -- a place has the mark exactly where it is listed
-pub mark-of : (m : ℕ) (marks list : List ℕ) (j : ℕ) → Inside (length marks) list → getD (setAll m marks list) j 0 ≡ at-mark (isListed list j) m (getD marks j 0)
+mark-of : (m : ℕ) (marks list : List ℕ) (j : ℕ) → Inside (length marks) list → getD (setAll m marks list) j 0 ≡ at-mark (isListed list j) m (getD marks j 0)
 unfolding setAll isListed
 mark-of m marks [] j h = refl
 mark-of m marks (k ∷ ks) j h =

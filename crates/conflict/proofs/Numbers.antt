@@ -40,7 +40,7 @@ unfolding any
 any-false [] = refl
 any-false (f ∷ fs) = any-false fs
 
-pub any-swap : (P : Diagram → Diagram → Bool) (ms ns : List Diagram) → any (λ f. any (P f) ns) ms ≡ any (λ g. any (λ f. P f g) ms) ns
+any-swap : (P : Diagram → Diagram → Bool) (ms ns : List Diagram) → any (λ f. any (P f) ns) ms ≡ any (λ g. any (λ f. P f g) ms) ns
 unfolding any
 any-swap P [] ns = sym (any-false ns)
 any-swap P (f ∷ fs) ns = ap (λ (b : Bool). any (P f) ns || b) (any-swap P fs ns) ∙ any-or (P f) (λ g. any (λ f′. P f′ g) fs) ns

@@ -43,7 +43,7 @@ capped-step m d =
     (λ t. let q : 1024 < m = ltb-true 1024 m t in rw t (capped-over (1025 * 10 + d) (omega arith) ∙ sym (capped-over (m * 10 + d) (omega arith))))
     (λ f. rw f)
 
-pub capped-after : (bs : List ℕ) (m : ℕ) → capped (valueAfter (capped m) bs) ≡ capped (valueAfter m bs)
+capped-after : (bs : List ℕ) (m : ℕ) → capped (valueAfter (capped m) bs) ≡ capped (valueAfter m bs)
 unfolding valueAfter
 capped-after [] m = by (ltb 1024 m) (λ t. rw t) (λ f. rw (f, f))
 capped-after (b ∷ bs) m =

@@ -41,7 +41,7 @@ module _ (n : ℕ) (P N : ℕ → Bool) (ms′ : List Diagram) where
   kept-cond false h rest e = refl
 
   -- nothing that the turns make stays
-  pub turns-kept : (fs : List Diagram) → prTurns n P N ms′ fs .kept ≡ []
+  turns-kept : (fs : List Diagram) → prTurns n P N ms′ fs .kept ≡ []
   unfolding prTurns
   turns-kept [] = refl
   turns-kept (f ∷ fs) = kept-cond (same (cofactorLiterals n P N f) (leaf true)) (cofactorLiterals n P N f) (prTurns n P N ms′ fs) (turns-kept fs)

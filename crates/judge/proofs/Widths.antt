@@ -27,7 +27,7 @@ module _ (n : ℕ) (most : n ≤ 64) (T : Table) (G : Good T) (uses : UsesTo n (
   reduced : (k : ℕ) → k < T .count → Reduced 1 (suc n) (diagramAt (nodesOf T) k)
   reduced k p = reduced-to n (nodesOf T) (good-ordered T G) uses k (omega (arith, length-nodes T G))
 
-  pub members-reduced : (members : List ℕ) → Inside (T .count) members → AllReduced n (diagramsOf (nodesOf T) members)
+  members-reduced : (members : List ℕ) → Inside (T .count) members → AllReduced n (diagramsOf (nodesOf T) members)
   members-reduced [] inside = tt
   members-reduced (k ∷ ks) inside = (reduced k (inside 0 (omega arith)), members-reduced ks (λ i p. inside (suc i) (omega arith)))
 

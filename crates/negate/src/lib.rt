@@ -6,6 +6,11 @@ ghost use Prim.Native.Nat.{_≤_};
 ghost use Rattle.table.specs.Indexed.{tableOf};
 ghost use Rattle.negate.specs.Negations.{Negates, entryOf, foundIn, NegationMemo, NegationReady};
 
+// What an entry of the memo is made of: the node in the upper bits, then one bit whether its negation is there, then where.
+const NODE: u64 = 131072;
+
+const FOUND: u64 = 65536;
+
 // The node that is f's negation, if the table has it, where the memo holds what is already known of nodes of this table; it stays so.
 pub fn negation_from(
     vars: &[u8],
@@ -33,7 +38,7 @@ pub fn negation_from(
     }
     let i = f.0 as usize;
     let e = memo[i];
-    if e / 131072 == f.0 as u64 {
+    if e / NODE == f.0 as u64 {
         return found_in(e);
     }
     let r = negation_over(vars, lows, highs, heads, links, memo, count, f);
@@ -73,12 +78,12 @@ fn negation_over(
     }
 }
 
-// What a memo entry says: the upper bits are the node, then one bit whether its negation is there, then where.
+// What a memo entry says.
 fn found_in(e: u64) -> Found
     ensures { λ r. ⌜ r ≡ foundIn e ⌝ }
 {
-    if e / 65536 % 2 == 1 {
-        return Found::At(NodeNo((e % 65536) as u16));
+    if e / FOUND % 2 == 1 {
+        return Found::At(NodeNo((e % FOUND) as u16));
     }
     Found::Nothing
 }
@@ -89,7 +94,7 @@ fn entry_of(f: NodeNo, r: Found) -> u64
 {
     let a = f.0 as u64;
     match r {
-        Found::At(k) => a * 131072 + 65536 + k.0 as u64,
-        Found::Nothing => a * 131072,
+        Found::At(k) => a * NODE + FOUND + k.0 as u64,
+        Found::Nothing => a * NODE,
     }
 }

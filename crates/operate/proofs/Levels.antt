@@ -79,7 +79,7 @@ module _ (t : Table) (G : Good t) where
   pub level-constant : (f : ℕ) → f < 2 → _≡_ {A = ℕ} (level (t .vars) f) 65
   level-constant f p = rw (lt-ltb f 2 p)
 
-  pub level-node : (f : ℕ) → 2 ≤ f → level (t .vars) f ≡ at (nodesOf t) f .var
+  level-node : (f : ℕ) → 2 ≤ f → level (t .vars) f ≡ at (nodesOf t) f .var
   level-node f p = rw (le-ltb f 2 p) (var-at t G f)
 
   module _ (f : ℕ) (inside : f < t .count) where

@@ -35,7 +35,7 @@ result-reduced Cofactor f g = cofactor-reduced 64 f g
 result-reduced (Literals p n) f g = literals-reduced 64 (inWord p) (inWord n) f
 
 -- from variable i on, where both operands are
-pub result-from : (t : Table) (G : Good t) (op : Operation) (f g : ℕ) → f < t .count → g < t .count → Allowed op g
+result-from : (t : Table) (G : Good t) (op : Operation) (f g : ℕ) → f < t .count → g < t .count → Allowed op g
     → (i : ℕ) → 1 ≤ i → i ≤ 65 → Reduced i 65 (diagramOf t G f) → Reduced i 65 (diagramOf t G g) → Reduced i 65 (result op (diagramOf t G f) (diagramOf t G g))
 unfolding result cofactorFrom
 result-from t G Conjunction f g p q allowed i lo hi rf rg = conjunction-from 64 i (diagramOf t G f) (diagramOf t G g) rf rg
@@ -48,13 +48,13 @@ result-from t G (Literals m n) f g p q allowed i lo hi rf rg = literals-from 64 
 -- ---- a table that has grown
 
 -- an old node keeps its level
-pub level-kept : (t t′ : Table) → Good t → Longer t t′ → (f : ℕ) → f < t .count → level (t′ .vars) f ≡ level (t .vars) f
+level-kept : (t t′ : Table) → Good t → Longer t t′ → (f : ℕ) → f < t .count → level (t′ .vars) f ≡ level (t .vars) f
 level-kept t t′ G L f inside =
     let e : getD (t′ .vars) f 0 ≡ getD (t .vars) f 0 =
     var-at t′ (L .good) f ∙ ap (λ (x : Node). x .var) (sym (getD-take (t .count) (nodesOf t′) f blank inside) ∙ ap (λ (u : List Node). at u f) (L .first)) ∙ sym (var-at t G f) in
     rw e
 
-pub top-kept : (t t′ : Table) → Good t → Longer t t′ → (f g : ℕ) → f < t .count → g < t .count → top (t′ .vars) f g ≡ top (t .vars) f g
+top-kept : (t t′ : Table) → Good t → Longer t t′ → (f g : ℕ) → f < t .count → g < t .count → top (t′ .vars) f g ≡ top (t .vars) f g
 top-kept t t′ G L f g p q = rw (level-kept t t′ G L f p, level-kept t t′ G L g q)
 
 -- ---- one operation

@@ -47,16 +47,16 @@ module _ (t : Table) (G : Good t) (f g : ℕ) (f-inside : f < t .count) (g-insid
   D = diagramOf t G
 
   -- the numbers of the operands' sides
-  abbrev pub f-side : Bool → ℕ
+  abbrev f-side : Bool → ℕ
   f-side b = child t G b f x
 
-  abbrev pub g-side : Bool → ℕ
+  abbrev g-side : Bool → ℕ
   g-side b = child t G b g x
 
-  pub top-least : 1 ≤ top (t .vars) f g
+  top-least : 1 ≤ top (t .vars) f g
   top-least = top-both (t .vars) f g 1 (level-least t G f f-inside) (level-least t G g g-inside)
 
-  pub top-most : top (t .vars) f g ≤ 64
+  top-most : top (t .vars) f g ≤ 64
   top-most = omega (arith, top-first (t .vars) f g, level-most t G f f-inside two)
 
   f-child : (b : Bool) → Child t G b f x

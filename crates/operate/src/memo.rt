@@ -20,6 +20,9 @@ const STEP: usize = 2;
 
 const HEAD: usize = 3;
 
+// Node numbers are below this; a cell has f, g and the result's node as its digits.
+const NUMBERS: u64 = 65536;
+
 // The lesser of two numbers.
 fn lesser(a: usize, b: usize) -> usize
     ensures { λ r. ⌜ (r ≤ a) × (r ≤ b) ⌝ }
@@ -55,7 +58,7 @@ fn probe(memo: &[u64], from: usize, to: usize, key: u64) -> usize
     let mut c = from;
     while c < to {
         let e = memo[HEAD + c];
-        if e == 0 || e / 65536 == key {
+        if e == 0 || e / NUMBERS == key {
             return c;
         }
         c += 1;
@@ -67,7 +70,7 @@ fn probe(memo: &[u64], from: usize, to: usize, key: u64) -> usize
 fn cell_of(memo: &[u64], n: usize, f: NodeNo, g: NodeNo) -> usize
     requires { ⌜ (3 + n ≤ length (now memo)) × (n ≤ 1048576) ⌝ }
 {
-    let key = (f.0 as u64) * 65536 + (g.0 as u64);
+    let key = (f.0 as u64) * NUMBERS + (g.0 as u64);
     let home = home_of(n, f, g);
     let end = lesser(home + 8, n);
     let c = probe(memo, home, end, key);
@@ -104,8 +107,8 @@ pub fn memo_find(vars: &[u8], memo: &[u64], f: NodeNo, g: NodeNo) -> Found
     let e = memo[HEAD + c];
     let a = f.0 as u64;
     let b = g.0 as u64;
-    if e / 65536 == a * 65536 + b {
-        return Found::At(NodeNo((e % 65536) as u16));
+    if e / NUMBERS == a * NUMBERS + b {
+        return Found::At(NodeNo((e % NUMBERS) as u16));
     }
     Found::Nothing
 }
@@ -178,7 +181,7 @@ pub fn memo_put(vars: &[u8], memo: &mut [u64], f: NodeNo, g: NodeNo, r: NodeNo)
     let a = f.0 as u64;
     let b = g.0 as u64;
     let d = r.0 as u64;
-    memo[HEAD + c] = a * 4294967296 + b * 65536 + d;
+    memo[HEAD + c] = a * 4294967296 + b * NUMBERS + d;
 }
 
 // Empties the memo: no cell is live.

@@ -314,7 +314,7 @@ fn next_round(
 
 // A round: each listed node is replaced by its cofactor by the units of the first that has any. Only the members that change are written;
 // tells how many.
-pub fn round(
+fn round(
     vars: &mut [u8],
     lows: &mut [u16],
     highs: &mut [u16],

@@ -56,7 +56,7 @@ module _ (P : Record → Type 0) where
       (either (eqb kind 0x4B) (of-whole 9 body _ (e .cut) (e .set AtLeast))
       (either (eqb kind 0x45) (e .end) (e .unknown)))))))))
 
-  pub record-every : (proof : List ℕ) (at : ℕ) → P NoRecord → (at < length proof → Every P (drop (at + 1) proof)) → P (recordAt proof at)
+  record-every : (proof : List ℕ) (at : ℕ) → P NoRecord → (at < length proof → Every P (drop (at + 1) proof)) → P (recordAt proof at)
   record-every proof at none here = go (ltb at (length proof)) (ltb-true at (length proof)) (ltb-false at (length proof))
     where
       go : (t : Bool) → (t ≡ true → at < length proof) → (t ≡ false → length proof ≤ at) → P (recordAt proof at)

@@ -12,7 +12,8 @@ use Rattle.records.specs.declared.Rule.the-variants.{Rup, Pr}
 use Rattle.records.specs.declared.SetKind.{SetKind}
 use Rattle.records.specs.declared.SetKind.the-variants.{Parity, AtLeast}
 use Rattle.records.specs.declared.Record.{Record}
-use Rattle.records.specs.declared.Record.the-variants.{NodeEntry, Witness, ProofLine, Strike, SetEntry, End, CutShort, UnknownKind, NoRecord}
+use Rattle.records.specs.declared.Record.the-variants.{NodeEntry, Witness, ProofLine, Strike, SetEntry, End}
+use Rattle.records.specs.declared.Record.the-variants.{CutShort, UnknownKind, NoRecord}
 
 -- "numbers low byte first"
 unfoldable pub lowByteFirst : List ℕ → ℕ

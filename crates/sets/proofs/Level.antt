@@ -48,7 +48,7 @@ pub whole-ready : (T : Table) → Good T → (set : ℕ) (odd : Bool) → Builda
 whole-ready T G set odd = record { good = G; least = omega arith; most = omega arith; inside = omega (arith, G .least); is = λ p. absurd (omega arith) }
 
 -- the constant that is left where no variable is
-abbrev pub constantOf : Bool → ℕ
+abbrev constantOf : Bool → ℕ
 constantOf true = 0
 constantOf false = 1
 

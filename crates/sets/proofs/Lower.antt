@@ -23,12 +23,12 @@ pub lower-hit : (set v : ℕ) → 1 ≤ v → inWord set v ≡ true → lower se
 unfolding lower
 lower-hit set v p e = rw (lt-ltb 0 v (omega arith), e)
 
-pub lower-miss : (set v : ℕ) → inWord set v ≡ false → lower set (suc v) ≡ lower set v
+lower-miss : (set v : ℕ) → inWord set v ≡ false → lower set (suc v) ≡ lower set v
 unfolding lower
 lower-miss set zero e = refl
 lower-miss set (suc v) e = rw (lt-ltb 0 (suc v) (omega arith), e)
 
-pub lower-one : (set : ℕ) → lower set 1 ≡ 0
+lower-one : (set : ℕ) → lower set 1 ≡ 0
 unfolding lower
 lower-one set = refl
 
@@ -62,7 +62,7 @@ pub nth-suc : (set i : ℕ) → nth set (suc i) ≡ lower set (nth set i)
 unfolding nth
 nth-suc set i = refl
 
-pub nth-is : (set i : ℕ) → 1 ≤ nth set i → Lower set (nth set i) (nth set (suc i))
+nth-is : (set i : ℕ) → 1 ≤ nth set i → Lower set (nth set i) (nth set (suc i))
 nth-is set i p = subst (Lower set (nth set i)) (sym (nth-suc set i)) (lower-is set (nth set i) p)
 
 pub nth-falls : (set i : ℕ) → Deep set i → nth set i + i ≤ 65

@@ -19,7 +19,7 @@ use Rattle.sets.specs.Variables.{lower, nth, Deep, Members}
 use Rattle.sets.specs.Building.{lastOf, Row, FirstRow}
 use Rattle.sets.proofs.Lower.{nth-zero, nth-suc, nth-falls, last-none, last-reduced, last-step, last-beyond, last-whole}
 
-abbrev pub outOf : Table → ℕ → Outcome
+abbrev outOf : Table → ℕ → Outcome
 outOf T n = record { table = T; full = false; node = n }
 
 less-deep : (w n m : ℕ) → Deep w n → m ≤ n → Deep w m

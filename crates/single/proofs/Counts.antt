@@ -1,17 +1,16 @@
 -- What the call of an at-least diagram says: its refusals, which have no count of assignments, and the diagram made. Assumes nothing.
-use mathlib.Core.Path.{_≡_, refl, sym, ap, _∙_, subst}
-use mathlib.Core.Bool.{Bool, true, false, cond}
+use mathlib.Core.Path.{_≡_, ap, _∙_, subst}
+use mathlib.Core.Bool.{true, false}
 use Prim.Native.Nat.{ℕ}
 use native.Mathlib.Omega.{arith}
-use lib.ListN.{length, take}
+use lib.ListN.{length}
 use borrow.Author.Tests.{ne-eqb}
-use Rattle.meaning.specs.Diagram.{Reduced}
 use Rattle.meaning.specs.Words.{inWord}
 use Rattle.meaning.specs.Sets.{atLeastValue, atLeast}
 use Rattle.meaning.proofs.Values.{diagram-reduced}
 use Rattle.table.specs.Nodes.{place}
 use Rattle.table.specs.Columns.{Columns}
-use Rattle.table.specs.Indexed.{Table, tableOf, listsOf, size, nodesOf, Good, Outcome}
+use Rattle.table.specs.Indexed.{Table, tableOf, listsOf, nodesOf, Good, Outcome}
 use Rattle.table.proofs.Outcomes.{placeIn, Grown, grown, Longer, longer, droppedTo, undone}
 use Rattle.sets.specs.declared.Count.{Count}
 use Rattle.sets.specs.Counts.{countOf}
@@ -20,7 +19,7 @@ use Rattle.single.specs.Single.{Made, unchanged, madeBy, Counted, counte
 use Rattle.single.proofs.Refusals.{fits, ordered}
 
 -- With a refusal there is no count.
-abbrev pub refusedWith : Columns → ℕ → ℕ → Counted
+abbrev refusedWith : Columns → ℕ → ℕ → Counted
 refusedWith c count number = record { made = unchanged c count number; counted = false; excluded = 0 }
 
 no-count : (m : Made) (set k : ℕ) → (m .number ≡ 0 → ⊥) → record { made = m; counted = false; excluded = 0 } ≡ withCount m set k
@@ -54,7 +53,7 @@ module _ (T : Table) (G : Good T) (set k : ℕ) (o : Outcome) (e : o ≡ placeIn
   least-longer = longer T (atLeast 64 (inWord set) k) o least-grown
 
 -- 23: no count
-pub least-full : (c : Columns) (count set k : ℕ) (m : Made) → unchanged c count 23 ≡ m → refusedWith c count 23 ≡ withCount m set k
+least-full : (c : Columns) (count set k : ℕ) (m : Made) → unchanged c count 23 ≡ m → refusedWith c count 23 ≡ withCount m set k
 least-full c count set k m e = subst (λ (x : Made). refusedWith c count 23 ≡ withCount x set k) e (no-count (unchanged c count 23) set k (λ z. absurd (omega arith)))
 
 pub least-23 : (T T′ T₂ : Table) → Good T → Longer T T′ → T₂ ≡ droppedTo (T .count) T′ → (set k : ℕ) (m : Made) → unchanged (listsOf T) (T .count) 23 ≡ m

@@ -25,11 +25,11 @@ module _ (vs ls hs : List ℕ) (p : length ls ≡ length vs) (q : length hs ≡ 
   unfolding columnsOf
   rows-var = sym (List·getD-map (λ x. x .var) (rows vs ls hs) k blank) ∙ ap (λ (c : NodeColumns). getD (c .vars) k 0) (columns-rows vs ls hs p q)
 
-  pub rows-low : at (rows vs ls hs) k .low ≡ getD ls k 0
+  rows-low : at (rows vs ls hs) k .low ≡ getD ls k 0
   unfolding columnsOf
   rows-low = sym (List·getD-map (λ x. x .low) (rows vs ls hs) k blank) ∙ ap (λ (c : NodeColumns). getD (c .lows) k 0) (columns-rows vs ls hs p q)
 
-  pub rows-high : at (rows vs ls hs) k .high ≡ getD hs k 0
+  rows-high : at (rows vs ls hs) k .high ≡ getD hs k 0
   unfolding columnsOf
   rows-high = sym (List·getD-map (λ x. x .high) (rows vs ls hs) k blank) ∙ ap (λ (c : NodeColumns). getD (c .highs) k 0) (columns-rows vs ls hs p q)
 

@@ -21,7 +21,7 @@ extends-same t = ([], simp append-nil)
 pub extends-trans : (t t′ t″ : List Node) → Extends t t′ → Extends t′ t″ → Extends t t″
 extends-trans t t′ t″ (u, p) (w, q) = (u ++ w, q ∙ rw (p, append-assoc))
 
-pub extends-at : (t t′ : List Node) → Extends t t′ → (k : ℕ) → k < length t → at t′ k ≡ at t k
+extends-at : (t t′ : List Node) → Extends t t′ → (k : ℕ) → k < length t → at t′ k ≡ at t k
 extends-at t t′ E k p = rw (E .1) (List·getD-append t (E .0) blank k p)
 
 pub extends-length : (t t′ : List Node) → Extends t t′ → length t ≤ length t′

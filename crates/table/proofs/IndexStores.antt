@@ -58,7 +58,7 @@ padded-less s u k e lt =
 
 -- ---- the index
 
-pub index-more : (s : ℕ) (t : List Node) (x : Node) → 2 ≤ length t
+index-more : (s : ℕ) (t : List Node) (x : Node) → 2 ≤ length t
     → indexOf s (t ++ x ∷ []) ≡ insert (indexOf s t) (bucket (2 * s) (x .var) (x .low) (x .high)) (length t)
 index-more s t x two =
     let n : length (t ++ x ∷ []) - 2 ≡ length t - 1 = omega (arith, length-append t (x ∷ [])) in

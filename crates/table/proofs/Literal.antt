@@ -43,11 +43,11 @@ true-same xs ys e = ap (λ (zs : List ℕ). sameNumbers xs zs) (sym e) ∙ same-
 -- ---- the heads are literal
 
 module _ (n : ℕ) (t : List Node) (b : ℕ) where
-  pub highest-none : highest n t b 2 ≡ 0
+  highest-none : highest n t b 2 ≡ 0
   unfolding highest
   highest-none = refl
 
-  pub highest-suc : (k : ℕ) → 2 ≤ k → highest n t b (suc k) ≡ cond (eqb (bucketAt n t k) b) k (highest n t b k)
+  highest-suc : (k : ℕ) → 2 ≤ k → highest n t b (suc k) ≡ cond (eqb (bucketAt n t k) b) k (highest n t b k)
   unfolding highest
   highest-suc k two = rw (le-leb 2 k two)
 

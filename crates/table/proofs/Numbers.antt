@@ -143,7 +143,7 @@ root-variable t O v e k p r h = go (rw (diagramAt-node t O k h p) at r)
 
 -- ---- one number, one value
 
-pub same-values : (n : ℕ) (t : List Node) → Ordered t → UsesTo n t → (j k : ℕ) → j < length t → k < length t
+same-values : (n : ℕ) (t : List Node) → Ordered t → UsesTo n t → (j k : ℕ) → j < length t → k < length t
     → ((a : Assignment) → length a ≡ n → value (diagramAt t j) a ≡ value (diagramAt t k) a) → j ≡ k
 same-values n t O uses j k p q h =
     diagramAt-injective t O j k p q (unique n 1 (suc n) (diagramAt t j) (diagramAt t k) (omega arith) (reduced-to n t O uses j p) (reduced-to n t O uses k q) h)

@@ -19,18 +19,18 @@ use Rattle.table.specs.Nodes.{Node, nodeOf, blank, at, alike, allBlank, 
 pub both-true : (a b : Bool) → a ≡ true → b ≡ true → (a && b) ≡ true
 both-true a b p q = rw (p, q)
 
-pub or-second : (a b : Bool) → (a || b) ≡ true → a ≡ false → b ≡ true
+or-second : (a b : Bool) → (a || b) ≡ true → a ≡ false → b ≡ true
 or-second true b e p = t≢f p
 or-second false b e p = e
 
-pub all-below : (m : ℕ) (p : ℕ → Bool) → allBelow m p ≡ true → (k : ℕ) → k < m → p k ≡ true
+all-below : (m : ℕ) (p : ℕ → Bool) → allBelow m p ≡ true → (k : ℕ) → k < m → p k ≡ true
 unfolding allBelow
 all-below zero p e k h = absurd (omega arith)
 all-below (suc m) p e k h =
     let both : (allBelow m p ≡ true) × (p m ≡ true) = and-both (allBelow m p) (p m) e in
     elim (ℕ-discrete k m) [ yes q ↦ rw q (both .1) | no n ↦ all-below m p (both .0) k (omega arith) ]
 
-pub every-below : (m : ℕ) (p : ℕ → Bool) → ((k : ℕ) → k < m → p k ≡ true) → allBelow m p ≡ true
+every-below : (m : ℕ) (p : ℕ → Bool) → ((k : ℕ) → k < m → p k ≡ true) → allBelow m p ≡ true
 unfolding allBelow
 every-below zero p h = refl
 every-below (suc m) p h = both-true (allBelow m p) (p m) (every-below m p (λ k q. h k (omega arith))) (h m (omega arith))
@@ -47,7 +47,7 @@ alike-true x y e =
     let q : (eqb (x .low) (y .low) ≡ true) × (eqb (x .high) (y .high) ≡ true) = and-both (eqb (x .low) (y .low)) (eqb (x .high) (y .high)) (p .1) in
     same-node x y (eqb-true (x .var) (y .var) (p .0)) (eqb-true (x .low) (y .low) (q .0)) (eqb-true (x .high) (y .high) (q .1))
 
-pub same-alike : (x y : Node) → x ≡ y → alike x y ≡ true
+same-alike : (x y : Node) → x ≡ y → alike x y ≡ true
 unfolding alike
 same-alike x y e = rw (eq-eqb (x .var) (y .var) (ap (λ (z : Node). z .var) e), eq-eqb (x .low) (y .low) (ap (λ (z : Node). z .low) e), eq-eqb (x .high) (y .high) (ap (λ (z : Node). z .high) e))
 

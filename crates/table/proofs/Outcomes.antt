@@ -192,7 +192,7 @@ module _ (T : Table) (G : Good T) (v : ℕ) (l h : Diagram) (rl : Reduced 1 65 l
 -- ---- dropping
 
 module _ (T : Table) (G : Good T) (m : ℕ) (two : 2 ≤ m) (within : m ≤ T .count) where
-  pub nodes-dropped : nodesOf (droppedTo m T) ≡ take m (nodesOf T)
+  nodes-dropped : nodesOf (droppedTo m T) ≡ take m (nodesOf T)
   nodes-dropped = nodes-indexed (size T) (take m (nodesOf T))
 
   -- what is left keeps its diagram

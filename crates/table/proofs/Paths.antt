@@ -9,7 +9,7 @@ use Rattle.table.proofs.Index.{lastIn, last-is, last-here, last-before,
 use Rattle.table.specs.Tested.{Reaches, here, next}
 
 -- the last of a chain is the greatest
-pub last-greatest : (f : ℕ → ℕ) (b m j : ℕ) → 2 ≤ j → j < suc (suc m) → f j ≡ b → j ≤ lastIn f b m
+last-greatest : (f : ℕ → ℕ) (b m j : ℕ) → 2 ≤ j → j < suc (suc m) → f j ≡ b → j ≤ lastIn f b m
 last-greatest f b zero j two lt e = absurd (omega arith)
 last-greatest f b (suc m) j two lt e = elim (ℕ-discrete (f (suc (suc m))) b) [
   | yes q ↦ omega (arith, last-here f b m q)

@@ -120,7 +120,7 @@ raised true x y h = omega arith
 raised false x y h = refl
 
 -- nothing more is made
-pub then-nothing : (r : Reach) (m : ℕ) → m ≤ r .peak → thenReach r (reach true m) ≡ r
+then-nothing : (r : Reach) (m : ℕ) → m ≤ r .peak → thenReach r (reach true m) ≡ r
 then-nothing r m h = ap₂ reach (and-true (r .fits)) (raised (r .fits) (r .peak) m h)
 
 -- nothing was made before

@@ -85,11 +85,11 @@ After s t D (placed t′ k) = Made s t D t′ k
 kept-same : (s : ℕ) (t : List Node) → Ordered t → Kept s t t
 kept-same s t O = record { ordered = O; extends = extends-same t; room = λ h. h }
 
-pub kept-trans : (s : ℕ) (t t′ t″ : List Node) → Kept s t t′ → Kept s t′ t″ → Kept s t t″
+kept-trans : (s : ℕ) (t t′ t″ : List Node) → Kept s t t′ → Kept s t′ t″ → Kept s t t″
 kept-trans s t t′ t″ K L = record { ordered = L .ordered; extends = extends-trans t t′ t″ (K .extends) (L .extends); room = λ h. L .room (K .room h) }
 
 -- What comes after nodes that were kept.
-pub after-kept : (s : ℕ) (t t′ : List Node) (D : Diagram) (p : Placing) → Kept s t t′ → After s t′ D p → After s t D p
+after-kept : (s : ℕ) (t t′ : List Node) (D : Diagram) (p : Placing) → Kept s t t′ → After s t′ D p → After s t D p
 after-kept s t t′ D (full t″) K A = record { kept = kept-trans s t t′ t″ K (A .kept); no-room = λ h. A .no-room (K .room h) }
 after-kept s t t′ D (placed t″ k) K A = record { kept = kept-trans s t t′ t″ K (A .kept); inside = A .inside; is = A .is }
 

@@ -49,7 +49,7 @@ module _ (T : Table) (E : Lent T) where
   read-at : (k : ℕ) → at (placesOf T) k ≡ nodeOf (getD (T .vars) k 0) (getD (T .lows) k 0) (getD (T .highs) k 0)
   read-at k = rows-at (T .vars) (T .lows) (T .highs) (E .lows) (E .highs) k
 
-  pub chain-read : (k b : ℕ) → b ≡ bucket (length (T .heads)) (getD (T .vars) k 0) (getD (T .lows) k 0) (getD (T .highs) k 0) → b ≡ chainAt T k
+  chain-read : (k b : ℕ) → b ≡ bucket (length (T .heads)) (getD (T .vars) k 0) (getD (T .lows) k 0) (getD (T .highs) k 0) → b ≡ chainAt T k
   chain-read k b e = e ∙ ap (λ (x : Node). bucket (length (T .heads)) (x .var) (x .low) (x .high)) (sym (read-at k))
 
   pub chain-decided : (top b j own : ℕ) → 2 ≤ j → j < top → own ≡ bucket (length (T .heads)) (getD (T .vars) j 0) (getD (T .lows) j 0) (getD (T .highs) j 0)

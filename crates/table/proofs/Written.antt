@@ -18,12 +18,12 @@ pub length-padded : (s : ℕ) (t : List Node) → length t ≤ s → length (pad
 unfolding padded
 length-padded s t h = length-append t (replicate (s - length t) blank) ∙ omega (arith, length-replicate (s - length t) blank)
 
-pub at-blanks : (m k : ℕ) → at (replicate m blank) k ≡ blank
+at-blanks : (m k : ℕ) → at (replicate m blank) k ≡ blank
 at-blanks zero k = refl
 at-blanks (suc m) zero = refl
 at-blanks (suc m) (suc k) = at-blanks m k
 
-pub at-append-blanks : (t : List Node) (m k : ℕ) → at (t ++ replicate m blank) k ≡ at t k
+at-append-blanks : (t : List Node) (m k : ℕ) → at (t ++ replicate m blank) k ≡ at t k
 at-append-blanks [] m k = at-blanks m k
 at-append-blanks (x ∷ t) m zero = refl
 at-append-blanks (x ∷ t) m (suc k) = at-append-blanks t m k
@@ -55,7 +55,7 @@ unfolding columnsOf
 length-rows vs ls hs p q = sym (length-map (rows vs ls hs) (λ x. x .var)) ∙ ap (λ (c : NodeColumns). length (c .vars)) (columns-rows vs ls hs p q)
 
 -- a table lent in good order is its nodes and zeros
-pub rows-padded : (places : List Node) (count : ℕ) → GoodPlaces places count → places ≡ padded (length places) (take count places)
+rows-padded : (places : List Node) (count : ℕ) → GoodPlaces places count → places ≡ padded (length places) (take count places)
 unfolding padded
 rows-padded places count G =
     let len : length (take count places) ≡ count = length-take-le count places (G .within) in
@@ -96,11 +96,11 @@ module _ (s : ℕ) (t : List Node) where
     unfolding indexed columnsOf
     highs-indexed = length-map (padded s t) (λ x. x .high) ∙ length-padded s t room
 
-  pub heads-indexed : length (indexed s t .heads) ≡ 2 * s
+  heads-indexed : length (indexed s t .heads) ≡ 2 * s
   unfolding indexed
   heads-indexed = length-indexFrom t (2 * s) s (length t - 2) .0
 
-  pub links-indexed : length (indexed s t .links) ≡ s
+  links-indexed : length (indexed s t .links) ≡ s
   unfolding indexed
   links-indexed = length-indexFrom t (2 * s) s (length t - 2) .1
 

@@ -119,7 +119,7 @@ fn append(
 }
 
 // The node with these children: the child where they are equal, the place that holds it, or a new place; and whether the place is new.
-pub fn place_node(
+fn place_node(
     vars: &mut [u8],
     lows: &mut [u16],
     highs: &mut [u16],

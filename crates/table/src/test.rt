@@ -9,6 +9,9 @@ ghost use Rattle.table.specs.Columns.{rows, sizeFits};
 ghost use Rattle.table.specs.Indexed.{tableOf};
 ghost use Rattle.table.specs.Tested.{Decides, Lent, OfChain, NodeFits, Reached, Empty, NodesFit, HeadsFit, AllReached, Walkable};
 
+// The most places of a table: a node's number has 16 bits.
+const MOST: usize = 65536;
+
 // Whether the columns are of one length, 2 to 65,536, with twice as many heads and as many links.
 pub fn size_fits(vars: &[u8], lows: &[u16], highs: &[u16], heads: &[u16], links: &[u16]) -> bool
     ensures { λ r. ⌜ r ≡ sizeFits (now (vars .entry)) (now (lows .entry)) (now (highs .entry)) (now (heads .entry)) (now (links .entry)) ⌝ }
@@ -22,7 +25,7 @@ pub fn size_fits(vars: &[u8], lows: &[u16], highs: &[u16], heads: &[u16], links:
     if vars.len() < 2 {
         return false;
     }
-    if 65536 < vars.len() {
+    if MOST < vars.len() {
         return false;
     }
     heads.len() == 2 * vars.len() && links.len() == vars.len()

@@ -53,7 +53,7 @@ zero-number t O k p = both-ways (same (diagramAt t k) (leaf false)) (eqb k 0)
     (λ e. eq-eqb k 0 (diagramAt-injective t O k 0 p (omega (arith, O .two)) (same-eq (diagramAt t k) (leaf false) e ∙ sym (diagramAt-zero t))))
     (λ e. eq-same (diagramAt t k) (leaf false) (rw (eqb-true k 0 e) (diagramAt-zero t)))
 
-pub past-zero : (v side : ℕ) → side ≡ 0 → past v side ≡ v
+past-zero : (v side : ℕ) → side ≡ 0 → past v side ≡ v
 unfolding past
 past-zero v side e = rw (eq-eqb side 0 e)
 

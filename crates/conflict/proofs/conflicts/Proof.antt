@@ -41,26 +41,25 @@ module _ (c : tie.After-some-negated-arg2) where
   abbrev start-from-some-negated-call : tie.Start
   start-from-some-negated-call = start-from-has-zero has-zero-from-some-negated-call
 
-module _ (c : tie.After-some-negated) where
-  abbrev set-all-from-some-negated : tie.After-set-all
-  set-all-from-some-negated = c .before .before .before .before .before
-
 module _ (c : tie.After-set-all-arg2) where
   abbrev some-negated-from-set-all-call-2 : tie.After-some-negated
   some-negated-from-set-all-call-2 = c .before .before .before
 
   abbrev set-all-from-set-all-call-2 : tie.After-set-all
-  set-all-from-set-all-call-2 = set-all-from-some-negated some-negated-from-set-all-call-2
+  set-all-from-set-all-call-2 = set-all-from-some-negated-call (some-negated-from-set-all-call-2 .before)
 
   abbrev start-from-set-all-call-2 : tie.Start
   start-from-set-all-call-2 = start-from-has-zero (set-all-from-set-all-call-2 .before .before .before)
 
 module _ (c : tie.After-slice-known5) where
+  abbrev set-all-arg2-from-return-2 : tie.After-set-all-arg2
+  set-all-arg2-from-return-2 = c .before .before .before
+
   abbrev some-negated-from-return-2 : tie.After-some-negated
-  some-negated-from-return-2 = c .before .before .before .before .before .before
+  some-negated-from-return-2 = some-negated-from-set-all-call-2 set-all-arg2-from-return-2
 
   abbrev set-all-from-return-2 : tie.After-set-all
-  set-all-from-return-2 = set-all-from-some-negated some-negated-from-return-2
+  set-all-from-return-2 = set-all-from-some-negated-call (some-negated-from-return-2 .before)
 
   abbrev else1-from-return-2 : tie.Else1
   else1-from-return-2 = set-all-from-return-2 .before .before

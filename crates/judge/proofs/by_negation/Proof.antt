@@ -38,37 +38,33 @@ module _ (c : tie.After-clear-memo-arg) where
   abbrev start-from-clear-memo-call : tie.Start
   start-from-clear-memo-call = start-from-copy (copy-from-copy-words copy-words-from-clear-memo-call)
 
-module _ (c : tie.After-clear-memo) where
-  abbrev copy-words-from-clear-memo : tie.After-copy-words
-  copy-words-from-clear-memo = c .before .before .before .before
-
 module _ (c : tie.After-apply-arg6) where
   abbrev clear-memo-from-apply-call : tie.After-clear-memo
   clear-memo-from-apply-call = c .before .before .before .before .before .before .before .before
 
   abbrev start-from-apply-call : tie.Start
-  start-from-apply-call = start-from-copy (copy-from-copy-words (copy-words-from-clear-memo clear-memo-from-apply-call))
+  start-from-apply-call = start-from-clear-memo-call (clear-memo-from-apply-call .before)
 
 module _ (c : tie.After-apply) where
   abbrev clear-memo-from-apply : tie.After-clear-memo
-  clear-memo-from-apply = c .before .before .before .before .before .before .before .before .before
+  clear-memo-from-apply = clear-memo-from-apply-call (c .before)
 
   abbrev start-from-apply : tie.Start
-  start-from-apply = start-from-copy (copy-from-copy-words (copy-words-from-clear-memo clear-memo-from-apply))
+  start-from-apply = start-from-clear-memo-call (clear-memo-from-apply .before)
 
-module _ (c : tie.Else1) where
-  abbrev apply-from-else1 : tie.After-apply
-  apply-from-else1 = c .before .before .before .before .before .before .before .before .before .before .before .before .before
+module _ (c : tie.After-slice-known17) where
+  abbrev apply-from-slice-known17 : tie.After-apply
+  apply-from-slice-known17 = c .before .before .before .before .before .before .before .before .before .before .before .before
 
 module _ (c : tie.Then1) where
   abbrev apply-from-then1 : tie.After-apply
-  apply-from-then1 = c .before .before .before .before .before .before .before .before .before .before .before .before .before
+  apply-from-then1 = apply-from-slice-known17 (c .before)
 
   abbrev clear-memo-from-then1 : tie.After-clear-memo
   clear-memo-from-then1 = clear-memo-from-apply apply-from-then1
 
   abbrev copy-words-from-then1 : tie.After-copy-words
-  copy-words-from-then1 = copy-words-from-clear-memo clear-memo-from-then1
+  copy-words-from-then1 = copy-words-from-clear-memo-call (clear-memo-from-then1 .before)
 
   abbrev copy-from-then1 : tie.After-copy
   copy-from-then1 = copy-from-copy-words copy-words-from-then1
@@ -78,17 +74,13 @@ module _ (c : tie.After-all-by-arg8) where
   else1-from-all-by-call = c .before .before .before .before .before .before .before .before
 
   abbrev apply-from-all-by-call : tie.After-apply
-  apply-from-all-by-call = apply-from-else1 else1-from-all-by-call
+  apply-from-all-by-call = apply-from-slice-known17 (else1-from-all-by-call .before)
 
   abbrev copy-words-from-all-by-call : tie.After-copy-words
-  copy-words-from-all-by-call = copy-words-from-clear-memo (clear-memo-from-apply apply-from-all-by-call)
+  copy-words-from-all-by-call = copy-words-from-clear-memo-call (clear-memo-from-apply-call (apply-from-all-by-call .before) .before)
 
   abbrev copy-from-all-by-call : tie.After-copy
   copy-from-all-by-call = copy-from-copy-words copy-words-from-all-by-call
-
-module _ (c : tie.After-all-by) where
-  abbrev else1-from-all-by : tie.Else1
-  else1-from-all-by = c .before .before .before .before .before .before .before .before .before
 
 module _ (c : tie.After-slice-known25) where
   abbrev all-by-from-return-2 : tie.After-all-by
@@ -96,16 +88,16 @@ module _ (c : tie.After-slice-known25) where
       .before .before
 
   abbrev else1-from-return-2 : tie.Else1
-  else1-from-return-2 = else1-from-all-by all-by-from-return-2
+  else1-from-return-2 = else1-from-all-by-call (all-by-from-return-2 .before)
 
   abbrev apply-from-return-2 : tie.After-apply
-  apply-from-return-2 = apply-from-else1 else1-from-return-2
+  apply-from-return-2 = apply-from-slice-known17 (else1-from-return-2 .before)
 
   abbrev clear-memo-from-return-2 : tie.After-clear-memo
   clear-memo-from-return-2 = clear-memo-from-apply apply-from-return-2
 
   abbrev copy-words-from-return-2 : tie.After-copy-words
-  copy-words-from-return-2 = copy-words-from-clear-memo clear-memo-from-return-2
+  copy-words-from-return-2 = copy-words-from-clear-memo-call (clear-memo-from-return-2 .before)
 
   abbrev copy-from-return-2 : tie.After-copy
   copy-from-return-2 = copy-from-copy-words copy-words-from-return-2

@@ -76,17 +76,27 @@ module _ {t : ℕ} (s : negation-from-lts.Start (negation-from-callees t) (negat
   cell-inside = omega (arith, ready .room, ready .inside, ready .good .within)
 
 -- The ways back, written by ways.py: TO-from-FROM leads from the place FROM of the code to the place TO before it.
+module _ {t : ℕ} (c : negation-from-lts.After-struct-known (negation-from-callees t) (negation-from-at t) negation-from.Post) where
+  abbrev start-from-negation-from-struct-known : negation-from-lts.Start (negation-from-callees t) (negation-from-at t) negation-from.Post
+  start-from-negation-from-struct-known = c .before .before .before .before .before .before .before
+
 module _ {t : ℕ} (c : negation-from-lts.Then1 (negation-from-callees t) (negation-from-at t) negation-from.Post) where
   abbrev start-from-negation-from-then1 : negation-from-lts.Start (negation-from-callees t) (negation-from-at t) negation-from.Post
-  start-from-negation-from-then1 = c .before .before .before .before .before .before .before .before
+  start-from-negation-from-then1 = start-from-negation-from-struct-known (c .before)
 
 module _ {t : ℕ} (c : negation-from-lts.Else2 (negation-from-callees t) (negation-from-at t) negation-from.Post) where
+  abbrev struct-known-from-negation-from-else2 : negation-from-lts.After-struct-known (negation-from-callees t) (negation-from-at t) negation-from.Post
+  struct-known-from-negation-from-else2 = c .before .before .before
+
   abbrev start-from-negation-from-else2 : negation-from-lts.Start (negation-from-callees t) (negation-from-at t) negation-from.Post
-  start-from-negation-from-else2 = c .before .before .before .before .before .before .before .before .before .before
+  start-from-negation-from-else2 = start-from-negation-from-struct-known struct-known-from-negation-from-else2
 
 module _ {t : ℕ} (c : negation-from-lts.Then2 (negation-from-callees t) (negation-from-at t) negation-from.Post) where
+  abbrev struct-known-from-negation-from-then2 : negation-from-lts.After-struct-known (negation-from-callees t) (negation-from-at t) negation-from.Post
+  struct-known-from-negation-from-then2 = c .before .before .before
+
   abbrev start-from-negation-from-then2 : negation-from-lts.Start (negation-from-callees t) (negation-from-at t) negation-from.Post
-  start-from-negation-from-then2 = c .before .before .before .before .before .before .before .before .before .before
+  start-from-negation-from-then2 = start-from-negation-from-struct-known struct-known-from-negation-from-then2
 
 module _ {t : ℕ} (c : negation-from-lts.After-struct-known3 (negation-from-callees t) (negation-from-at t) negation-from.Post) where
   abbrev start-from-negation-from-cast-i : negation-from-lts.Start (negation-from-callees t) (negation-from-at t) negation-from.Post
@@ -128,26 +138,31 @@ module _ {t : ℕ} (c : negation-over-lts.After-shared-slice-known6 (negation-ov
 
 module _ {t : ℕ} (c : negation-over-lts.After-shared-slice-known7 (negation-over-callees t) (negation-over-at t) negation-over.Post) where
   abbrev start-from-negation-over-shared-slice-read-t19 : negation-over-lts.Start (negation-over-callees t) (negation-over-at t) negation-over.Post
-  start-from-negation-over-shared-slice-read-t19 = c .before .before .before .before .before .before .before .before .before
+  start-from-negation-over-shared-slice-read-t19 = start-from-negation-over-shared-slice-read-v (c .before)
 
 module _ {t : ℕ} (c : negation-over-lts.After-shared-slice-known8 (negation-over-callees t) (negation-over-at t) negation-over.Post) where
   abbrev start-from-negation-over-shared-slice-read-t19-2 : negation-over-lts.Start (negation-over-callees t) (negation-over-at t) negation-over.Post
-  start-from-negation-over-shared-slice-read-t19-2 = c .before .before .before .before .before .before .before .before .before .before
+  start-from-negation-over-shared-slice-read-t19-2 = start-from-negation-over-shared-slice-read-v (c .before .before)
 
 module _ {t : ℕ} (c : negation-over-lts.After-negation-from-arg (negation-over-callees t) (negation-over-at t) negation-over.Post) where
+  abbrev shared-slice-known6-from-negation-over-negation-from-call : negation-over-lts.After-shared-slice-known6 (negation-over-callees t) (negation-over-at t) negation-over.Post
+  shared-slice-known6-from-negation-over-negation-from-call = c .before .before .before
+
   abbrev start-from-negation-over-negation-from-call : negation-over-lts.Start (negation-over-callees t) (negation-over-at t) negation-over.Post
-  start-from-negation-over-negation-from-call = c .before .before .before .before .before .before .before .before .before .before .before
+  start-from-negation-over-negation-from-call = start-from-negation-over-shared-slice-read-v
+      shared-slice-known6-from-negation-over-negation-from-call
 
 module _ {t : ℕ} (c : negation-over-lts.After-negation-from (negation-over-callees t) (negation-over-at t) negation-over.Post) where
-  abbrev start-from-negation-over-negation-from : negation-over-lts.Start (negation-over-callees t) (negation-over-at t) negation-over.Post
-  start-from-negation-over-negation-from = c .before .before .before .before .before .before .before .before .before .before .before .before
+  abbrev shared-slice-known6-from-negation-over-negation-from : negation-over-lts.After-shared-slice-known6 (negation-over-callees t) (negation-over-at t) negation-over.Post
+  shared-slice-known6-from-negation-over-negation-from = c .before .before .before .before
 
 module _ {t : ℕ} (c : negation-over-lts.After-enum-told2 (negation-over-callees t) (negation-over-at t) negation-over.Post) where
   abbrev negation-from-from-negation-over-return-3 : negation-over-lts.After-negation-from (negation-over-callees t) (negation-over-at t) negation-over.Post
   negation-from-from-negation-over-return-3 = c .before .before .before .before
 
   abbrev start-from-negation-over-return-3 : negation-over-lts.Start (negation-over-callees t) (negation-over-at t) negation-over.Post
-  start-from-negation-over-return-3 = start-from-negation-over-negation-from negation-from-from-negation-over-return-3
+  start-from-negation-over-return-3 = start-from-negation-over-shared-slice-read-v (shared-slice-known6-from-negation-over-negation-from
+      negation-from-from-negation-over-return-3)
 
 module _ {t : ℕ} (c : negation-over-lts.After-l (negation-over-callees t) (negation-over-at t) negation-over.Post) where
   abbrev negation-from-from-negation-over-l : negation-over-lts.After-negation-from (negation-over-callees t) (negation-over-at t) negation-over.Post
@@ -158,8 +173,8 @@ module _ {t : ℕ} (c : negation-over-lts.After-negation-from-arg2 (negation-ove
   negation-from-from-negation-over-negation-from-call-2 = negation-from-from-negation-over-l (c .before .before)
 
   abbrev start-from-negation-over-negation-from-call-2 : negation-over-lts.Start (negation-over-callees t) (negation-over-at t) negation-over.Post
-  start-from-negation-over-negation-from-call-2 = start-from-negation-over-negation-from
-      negation-from-from-negation-over-negation-from-call-2
+  start-from-negation-over-negation-from-call-2 = start-from-negation-over-shared-slice-read-v
+      (shared-slice-known6-from-negation-over-negation-from negation-from-from-negation-over-negation-from-call-2)
 
 module _ {t : ℕ} (c : negation-over-lts.After-negation-from2 (negation-over-callees t) (negation-over-at t) negation-over.Post) where
   abbrev l-from-negation-over-negation-from2 : negation-over-lts.After-l (negation-over-callees t) (negation-over-at t) negation-over.Post
@@ -174,19 +189,20 @@ module _ {t : ℕ} (c : negation-over-lts.After-enum-told (negation-over-callees
       negation-from2-from-negation-over-return-2)
 
   abbrev start-from-negation-over-return-2 : negation-over-lts.Start (negation-over-callees t) (negation-over-at t) negation-over.Post
-  start-from-negation-over-return-2 = start-from-negation-over-negation-from negation-from-from-negation-over-return-2
+  start-from-negation-over-return-2 = start-from-negation-over-shared-slice-read-v (shared-slice-known6-from-negation-over-negation-from
+      negation-from-from-negation-over-return-2)
 
 module _ {t : ℕ} (c : negation-over-lts.After-known-told2 (negation-over-callees t) (negation-over-at t) negation-over.Post) where
   abbrev negation-from2-from-negation-over-lookup-call : negation-over-lts.After-negation-from2 (negation-over-callees t) (negation-over-at t) negation-over.Post
   negation-from2-from-negation-over-lookup-call = c .before .before .before .before .before
 
   abbrev start-from-negation-over-lookup-call : negation-over-lts.Start (negation-over-callees t) (negation-over-at t) negation-over.Post
-  start-from-negation-over-lookup-call = start-from-negation-over-negation-from (negation-from-from-negation-over-l
-      (l-from-negation-over-negation-from2 negation-from2-from-negation-over-lookup-call))
+  start-from-negation-over-lookup-call = start-from-negation-over-shared-slice-read-v (shared-slice-known6-from-negation-over-negation-from
+      (negation-from-from-negation-over-l (l-from-negation-over-negation-from2 negation-from2-from-negation-over-lookup-call)))
 
 module _ {t : ℕ} (c : negation-over-lts.After-lookup (negation-over-callees t) (negation-over-at t) negation-over.Post) where
   abbrev negation-from2-from-negation-over-return : negation-over-lts.After-negation-from2 (negation-over-callees t) (negation-over-at t) negation-over.Post
-  negation-from2-from-negation-over-return = c .before .before .before .before .before .before
+  negation-from2-from-negation-over-return = negation-from2-from-negation-over-lookup-call (c .before)
 
   abbrev l-from-negation-over-return : negation-over-lts.After-l (negation-over-callees t) (negation-over-at t) negation-over.Post
   l-from-negation-over-return = l-from-negation-over-negation-from2 negation-from2-from-negation-over-return
@@ -195,7 +211,8 @@ module _ {t : ℕ} (c : negation-over-lts.After-lookup (negation-over-callees t)
   negation-from-from-negation-over-return = negation-from-from-negation-over-l l-from-negation-over-return
 
   abbrev start-from-negation-over-return : negation-over-lts.Start (negation-over-callees t) (negation-over-at t) negation-over.Post
-  start-from-negation-over-return = start-from-negation-over-negation-from negation-from-from-negation-over-return
+  start-from-negation-over-return = start-from-negation-over-shared-slice-read-v (shared-slice-known6-from-negation-over-negation-from
+      negation-from-from-negation-over-return)
 
 -- past the two constants
 two : {t : ℕ} (e : negation-from-lts.Else2 (negation-from-callees t) (negation-from-at t) negation-from.Post) → 2 ≤ start-from-negation-from-else2 e .args .f .0

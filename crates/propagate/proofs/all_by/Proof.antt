@@ -52,34 +52,26 @@ module _ (c : tie.After-clear-memo-arg Inv-loop μ-loop) where
   abbrev start-from-clear-memo-call : tie.Start Inv-loop μ-loop
   start-from-clear-memo-call = c .before .before .before .before .before .before .before .before .before
 
-module _ (c : tie.After-clear-memo Inv-loop μ-loop) where
-  abbrev start-from-clear-memo : tie.Start Inv-loop μ-loop
-  start-from-clear-memo = c .before .before .before .before .before .before .before .before .before .before
-
 module _ (c : tie.After-is-thin-arg2 Inv-loop μ-loop) where
   abbrev clear-memo-from-is-thin-call : tie.After-clear-memo Inv-loop μ-loop
   clear-memo-from-is-thin-call = c .before .before .before .before
 
   abbrev start-from-is-thin-call : tie.Start Inv-loop μ-loop
-  start-from-is-thin-call = start-from-clear-memo clear-memo-from-is-thin-call
+  start-from-is-thin-call = start-from-clear-memo-call (clear-memo-from-is-thin-call .before)
 
 module _ (c : tie.After-is-thin Inv-loop μ-loop) where
   abbrev clear-memo-from-loop-holds : tie.After-clear-memo Inv-loop μ-loop
-  clear-memo-from-loop-holds = c .before .before .before .before .before
+  clear-memo-from-loop-holds = clear-memo-from-is-thin-call (c .before)
 
   abbrev start-from-loop-holds : tie.Start Inv-loop μ-loop
-  start-from-loop-holds = start-from-clear-memo clear-memo-from-loop-holds
-
-module _ (c : tie.At-loop Inv-loop μ-loop) where
-  abbrev clear-memo-from-at-loop : tie.After-clear-memo Inv-loop μ-loop
-  clear-memo-from-at-loop = c .before .before .before .before .before .before
+  start-from-loop-holds = start-from-clear-memo-call (clear-memo-from-loop-holds .before)
 
 module _ (c : tie.After-loop Inv-loop μ-loop) where
   abbrev at-loop-from-return-2 : tie.At-loop Inv-loop μ-loop
   at-loop-from-return-2 = c .before
 
   abbrev start-from-return-2 : tie.Start Inv-loop μ-loop
-  start-from-return-2 = start-from-clear-memo (clear-memo-from-at-loop at-loop-from-return-2)
+  start-from-return-2 = start-from-is-thin-call (at-loop-from-return-2 .before .before)
 
 module _ (c : tie.After-member-by-arg8 Inv-loop μ-loop) where
   abbrev in-loop-from-member-by-call : tie.In-loop Inv-loop μ-loop
@@ -89,11 +81,7 @@ module _ (c : tie.After-member-by-arg8 Inv-loop μ-loop) where
   at-loop-from-member-by-call = in-loop-from-member-by-call .before
 
   abbrev start-from-member-by-call : tie.Start Inv-loop μ-loop
-  start-from-member-by-call = start-from-clear-memo (clear-memo-from-at-loop at-loop-from-member-by-call)
-
-module _ (c : tie.After-member-by Inv-loop μ-loop) where
-  abbrev in-loop-from-member-by : tie.In-loop Inv-loop μ-loop
-  in-loop-from-member-by = c .before .before .before .before .before .before .before .before .before
+  start-from-member-by-call = start-from-is-thin-call (at-loop-from-member-by-call .before .before)
 
 module _ (c : tie.After-struct-known Inv-loop μ-loop) where
   abbrev member-by-from-add-written : tie.After-member-by Inv-loop μ-loop
@@ -101,44 +89,42 @@ module _ (c : tie.After-struct-known Inv-loop μ-loop) where
       .before .before .before .before
 
   abbrev in-loop-from-add-written : tie.In-loop Inv-loop μ-loop
-  in-loop-from-add-written = in-loop-from-member-by member-by-from-add-written
+  in-loop-from-add-written = in-loop-from-member-by-call (member-by-from-add-written .before)
 
   abbrev at-loop-from-add-written : tie.At-loop Inv-loop μ-loop
   at-loop-from-add-written = in-loop-from-add-written .before
 
   abbrev start-from-add-written : tie.Start Inv-loop μ-loop
-  start-from-add-written = start-from-clear-memo (clear-memo-from-at-loop at-loop-from-add-written)
+  start-from-add-written = start-from-is-thin-call (at-loop-from-add-written .before .before)
 
 module _ (c : tie.Else1 Inv-loop μ-loop) where
   abbrev member-by-from-else1 : tie.After-member-by Inv-loop μ-loop
-  member-by-from-else1 = c .before .before .before .before .before .before .before .before .before .before .before .before .before .before
-      .before .before .before .before
+  member-by-from-else1 = member-by-from-add-written (c .before)
 
   abbrev in-loop-from-else1 : tie.In-loop Inv-loop μ-loop
-  in-loop-from-else1 = in-loop-from-member-by member-by-from-else1
+  in-loop-from-else1 = in-loop-from-member-by-call (member-by-from-else1 .before)
 
   abbrev at-loop-from-else1 : tie.At-loop Inv-loop μ-loop
   at-loop-from-else1 = in-loop-from-else1 .before
 
   abbrev start-from-else1 : tie.Start Inv-loop μ-loop
-  start-from-else1 = start-from-clear-memo (clear-memo-from-at-loop at-loop-from-else1)
+  start-from-else1 = start-from-is-thin-call (at-loop-from-else1 .before .before)
 
 module _ (c : tie.Then1 Inv-loop μ-loop) where
   abbrev member-by-from-then1 : tie.After-member-by Inv-loop μ-loop
-  member-by-from-then1 = c .before .before .before .before .before .before .before .before .before .before .before .before .before .before
-      .before .before .before .before
+  member-by-from-then1 = member-by-from-add-written (c .before)
 
   abbrev in-loop-from-then1 : tie.In-loop Inv-loop μ-loop
-  in-loop-from-then1 = in-loop-from-member-by member-by-from-then1
+  in-loop-from-then1 = in-loop-from-member-by-call (member-by-from-then1 .before)
 
   abbrev at-loop-from-then1 : tie.At-loop Inv-loop μ-loop
   at-loop-from-then1 = in-loop-from-then1 .before
 
   abbrev clear-memo-from-then1 : tie.After-clear-memo Inv-loop μ-loop
-  clear-memo-from-then1 = clear-memo-from-at-loop at-loop-from-then1
+  clear-memo-from-then1 = clear-memo-from-is-thin-call (at-loop-from-then1 .before .before)
 
   abbrev start-from-then1 : tie.Start Inv-loop μ-loop
-  start-from-then1 = start-from-clear-memo clear-memo-from-then1
+  start-from-then1 = start-from-clear-memo-call (clear-memo-from-then1 .before)
 
 clear-memo-requires : tie.Need-clear-memo-requires Inv-loop μ-loop
 clear-memo-requires c κs =

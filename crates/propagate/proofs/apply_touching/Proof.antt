@@ -13,45 +13,52 @@ abbrev entry : tie.Start → Table
 entry s = let a = s .args in tableOf (a .vars .now) (a .lows .now) (a .highs .now) (a .heads .now) (a .links .now) (a .count)
 
 -- The ways back, written by ways.py: TO-from-FROM leads from the place FROM of the code to the place TO before it.
+module _ (c : tie.After-slice-known6) where
+  abbrev start-from-slice-known6 : tie.Start
+  start-from-slice-known6 = c .before .before .before .before .before .before
+
 module _ (c : tie.Then1) where
   abbrev start-from-then1 : tie.Start
-  start-from-then1 = c .before .before .before .before .before .before .before
+  start-from-then1 = start-from-slice-known6 (c .before)
 
 module _ (c : tie.After-is-quick-arg2) where
+  abbrev slice-known6-from-is-quick-call : tie.After-slice-known6
+  slice-known6-from-is-quick-call = c .before .before .before
+
   abbrev start-from-is-quick-call : tie.Start
-  start-from-is-quick-call = c .before .before .before .before .before .before .before .before .before
+  start-from-is-quick-call = start-from-slice-known6 slice-known6-from-is-quick-call
 
 module _ (c : tie.After-clear-forgetful-arg) where
+  abbrev is-quick-arg2-from-clear-forgetful-call : tie.After-is-quick-arg2
+  is-quick-arg2-from-clear-forgetful-call = c .before .before .before
+
   abbrev start-from-clear-forgetful-call : tie.Start
-  start-from-clear-forgetful-call = c .before .before .before .before .before .before .before .before .before .before .before .before
+  start-from-clear-forgetful-call = start-from-is-quick-call is-quick-arg2-from-clear-forgetful-call
 
 module _ (c : tie.After-clear-forgetful) where
-  abbrev start-from-clear-forgetful : tie.Start
-  start-from-clear-forgetful = c .before .before .before .before .before .before .before .before .before .before .before .before .before
+  abbrev is-quick-arg2-from-clear-forgetful : tie.After-is-quick-arg2
+  is-quick-arg2-from-clear-forgetful = c .before .before .before .before
 
 module _ (c : tie.After-apply-thin-arg5) where
-  abbrev start-from-apply-thin-call : tie.Start
-  start-from-apply-thin-call = c .before .before .before .before .before .before .before .before .before .before .before .before .before
-      .before .before .before
+  abbrev is-quick-arg2-from-apply-thin-call : tie.After-is-quick-arg2
+  is-quick-arg2-from-apply-thin-call = c .before .before .before .before .before .before .before
 
-module _ (c : tie.After-apply-thin) where
-  abbrev start-from-apply-thin : tie.Start
-  start-from-apply-thin = c .before .before .before .before .before .before .before .before .before .before .before .before .before .before
-      .before .before .before
+  abbrev start-from-apply-thin-call : tie.Start
+  start-from-apply-thin-call = start-from-is-quick-call is-quick-arg2-from-apply-thin-call
 
 module _ (c : tie.After-apply-arg6) where
   abbrev clear-forgetful-from-apply-call : tie.After-clear-forgetful
   clear-forgetful-from-apply-call = c .before .before .before .before .before .before .before .before
 
   abbrev start-from-apply-call : tie.Start
-  start-from-apply-call = start-from-clear-forgetful clear-forgetful-from-apply-call
+  start-from-apply-call = start-from-is-quick-call (is-quick-arg2-from-clear-forgetful clear-forgetful-from-apply-call)
 
 module _ (c : tie.After-slice-known11) where
   abbrev apply-thin-from-return-2 : tie.After-apply-thin
   apply-thin-from-return-2 = c .before .before .before .before .before .before .before .before .before .before
 
   abbrev start-from-return-2 : tie.Start
-  start-from-return-2 = start-from-apply-thin apply-thin-from-return-2
+  start-from-return-2 = start-from-apply-thin-call (apply-thin-from-return-2 .before)
 
 returns : tie.Need-returns
 returns c =

@@ -49,15 +49,13 @@ module _ (c : tie.After-apply-touching) where
   abbrev slice-known9-from-apply-touching : tie.After-slice-known9
   slice-known9-from-apply-touching = c .before .before .before .before .before .before .before .before
 
-module _ (c : tie.Else1) where
-  abbrev apply-touching-from-else1 : tie.After-apply-touching
-  apply-touching-from-else1 = c .before .before .before .before .before .before .before .before .before .before .before .before .before
-      .before
+module _ (c : tie.After-k) where
+  abbrev apply-touching-from-k : tie.After-apply-touching
+  apply-touching-from-k = c .before .before .before .before .before .before .before .before .before .before .before .before .before
 
 module _ (c : tie.Joined1) where
   abbrev apply-touching-from-return : tie.After-apply-touching
-  apply-touching-from-return = c .before .before .before .before .before .before .before .before .before .before .before .before .before
-      .before
+  apply-touching-from-return = apply-touching-from-k (c .before)
 
   abbrev start-from-return : tie.Start
   start-from-return = start-from-slice-known8 (slice-known9-from-apply-touching apply-touching-from-return .before)
@@ -67,7 +65,7 @@ module _ (c : tie.Else2) where
   else1-from-else2 = c .before .before .before
 
   abbrev apply-touching-from-else2 : tie.After-apply-touching
-  apply-touching-from-else2 = apply-touching-from-else1 else1-from-else2
+  apply-touching-from-else2 = apply-touching-from-k (else1-from-else2 .before)
 
   abbrev slice-read-t21-from-else2 : tie.After-slice-known9
   slice-read-t21-from-else2 = slice-known9-from-apply-touching apply-touching-from-else2

@@ -13,18 +13,13 @@ module _ (c : tie.After-struct-known) where
   start-from-all-by-call = c .before .before .before .before .before .before .before .before .before .before .before .before .before .before
       .before .before .before
 
-module _ (c : tie.After-all-by) where
-  abbrev start-from-all-by : tie.Start
-  start-from-all-by = c .before .before .before .before .before .before .before .before .before .before .before .before .before .before
-      .before .before .before .before
-
 module _ (c : tie.After-slice-known16) where
   abbrev all-by-from-return : tie.After-all-by
   all-by-from-return = c .before .before .before .before .before .before .before .before .before .before .before .before .before .before
       .before .before
 
   abbrev start-from-return : tie.Start
-  start-from-return = start-from-all-by all-by-from-return
+  start-from-return = start-from-all-by-call (all-by-from-return .before)
 
 all-by-requires : tie.Need-all-by-requires
 all-by-requires c κs =

@@ -47,12 +47,20 @@ mul-result-3 c = search needs
 add-result-3 : tie.Need-add-result-3
 add-result-3 c = search needs
 
+-- The ways back, written by ways.py: TO-from-FROM leads from the place FROM of the code to the place TO before it.
+module _ (c : tie.After-field-in4) where
+  abbrev field-in-from-return : tie.After-field-in
+  field-in-from-return = c .before .before .before
+
+  abbrev start-from-return : tie.Start
+  start-from-return = field-in-from-return .before .before
+
 returns : tie.Need-returns
 returns c =
     omega (
       arith,
-      field-eight (c .before .before .before .before .before .args .body .now),
-      c .before .before .before .field-in .ensures,
+      field-eight (start-from-return c .args .body .now),
+      field-in-from-return c .field-in .ensures,
       c
           .before .before .field-in2 .ensures,
       c .before .field-in3 .ensures,

@@ -12,55 +12,43 @@ module _ (s : tie.Start) where
   lent = tableOf (s .args .vars .now) (s .args .lows .now) (s .args .highs .now) (s .args .heads .now) (s .args .links .now) (s .args .count)
 
 -- The ways back, written by ways.py: TO-from-FROM leads from the place FROM of the code to the place TO before it.
-module _ (c : tie.Else1) where
-  abbrev start-from-else1 : tie.Start
-  start-from-else1 = c .before .before .before .before .before .before
-
-module _ (c : tie.Then1) where
-  abbrev start-from-then1 : tie.Start
-  start-from-then1 = c .before .before .before .before .before .before
+module _ (c : tie.After-slice-known5) where
+  abbrev start-from-slice-known5 : tie.Start
+  start-from-slice-known5 = c .before .before .before .before .before
 
 module _ (c : tie.After-even-arg5) where
   abbrev else1-from-even-call : tie.Else1
   else1-from-even-call = c .before .before .before .before .before
 
   abbrev start-from-even-call : tie.Start
-  start-from-even-call = start-from-else1 else1-from-even-call
+  start-from-even-call = start-from-slice-known5 (else1-from-even-call .before)
 
 module _ (c : tie.After-odd-arg5) where
   abbrev then1-from-odd-call : tie.Then1
   then1-from-odd-call = c .before .before .before .before .before
 
   abbrev start-from-odd-call : tie.Start
-  start-from-odd-call = start-from-then1 then1-from-odd-call
-
-module _ (c : tie.After-even) where
-  abbrev else1-from-even : tie.Else1
-  else1-from-even = c .before .before .before .before .before .before
-
-module _ (c : tie.After-odd) where
-  abbrev then1-from-odd : tie.Then1
-  then1-from-odd = c .before .before .before .before .before .before
+  start-from-odd-call = start-from-slice-known5 (then1-from-odd-call .before)
 
 module _ (c : tie.After-slice-known10) where
   abbrev odd-from-return : tie.After-odd
   odd-from-return = c .before .before .before .before .before .before .before .before .before .before
 
   abbrev then1-from-return : tie.Then1
-  then1-from-return = then1-from-odd odd-from-return
+  then1-from-return = then1-from-odd-call (odd-from-return .before)
 
   abbrev start-from-return : tie.Start
-  start-from-return = start-from-then1 then1-from-return
+  start-from-return = start-from-slice-known5 (then1-from-return .before)
 
 module _ (c : tie.After-slice-known15) where
   abbrev even-from-return-2 : tie.After-even
   even-from-return-2 = c .before .before .before .before .before .before .before .before .before .before
 
   abbrev else1-from-return-2 : tie.Else1
-  else1-from-return-2 = else1-from-even even-from-return-2
+  else1-from-return-2 = else1-from-even-call (even-from-return-2 .before)
 
   abbrev start-from-return-2 : tie.Start
-  start-from-return-2 = start-from-else1 else1-from-return-2
+  start-from-return-2 = start-from-slice-known5 (else1-from-return-2 .before)
 
 odd-requires : tie.Need-odd-requires
 odd-requires c κs = whole-ready _ (start-from-odd-call c .pre) _ true

@@ -57,13 +57,17 @@ module _ {t : ℕ} (s : support-from-lts.Start (callees t) (support-from-at t) s
   measure = s .pre .0
 
 -- The ways back, written by ways.py: TO-from-FROM leads from the place FROM of the code to the place TO before it.
+module _ {t : ℕ} (c : support-from-lts.After-struct-known (callees t) (support-from-at t) support-from.Post) where
+  abbrev start-from-struct-known : support-from-lts.Start (callees t) (support-from-at t) support-from.Post
+  start-from-struct-known = c .before .before .before .before .before
+
 module _ {t : ℕ} (c : support-from-lts.Else1 (callees t) (support-from-at t) support-from.Post) where
   abbrev start-from-else1 : support-from-lts.Start (callees t) (support-from-at t) support-from.Post
-  start-from-else1 = c .before .before .before .before .before .before
+  start-from-else1 = start-from-struct-known (c .before)
 
 module _ {t : ℕ} (c : support-from-lts.Then1 (callees t) (support-from-at t) support-from.Post) where
   abbrev start-from-then1 : support-from-lts.Start (callees t) (support-from-at t) support-from.Post
-  start-from-then1 = c .before .before .before .before .before .before
+  start-from-then1 = start-from-struct-known (c .before)
 
 module _ {t : ℕ} (c : support-from-lts.After-slice-known2 (callees t) (support-from-at t) support-from.Post) where
   abbrev start-from-slice-read-known : support-from-lts.Start (callees t) (support-from-at t) support-from.Post
@@ -83,37 +87,29 @@ module _ {t : ℕ} (c : support-from-lts.After-support-from-arg (callees t) (sup
   abbrev start-from-support-from-call : support-from-lts.Start (callees t) (support-from-at t) support-from.Post
   start-from-support-from-call = start-from-else1 else1-from-support-from-call
 
-module _ {t : ℕ} (c : support-from-lts.After-support-from (callees t) (support-from-at t) support-from.Post) where
-  abbrev struct-known2-from-support-from : support-from-lts.After-struct-known2 (callees t) (support-from-at t) support-from.Post
-  struct-known2-from-support-from = c .before .before .before .before .before .before .before
-
 module _ {t : ℕ} (c : support-from-lts.After-support-from-arg2 (callees t) (support-from-at t) support-from.Post) where
   abbrev support-from-from-support-from-call-2 : support-from-lts.After-support-from (callees t) (support-from-at t) support-from.Post
   support-from-from-support-from-call-2 = c .before .before .before
 
   abbrev else1-from-support-from-call-2 : support-from-lts.Else1 (callees t) (support-from-at t) support-from.Post
-  else1-from-support-from-call-2 = struct-known2-from-support-from support-from-from-support-from-call-2 .before
+  else1-from-support-from-call-2 = else1-from-support-from-call (support-from-from-support-from-call-2 .before)
 
   abbrev start-from-support-from-call-2 : support-from-lts.Start (callees t) (support-from-at t) support-from.Post
   start-from-support-from-call-2 = start-from-else1 else1-from-support-from-call-2
 
-module _ {t : ℕ} (c : support-from-lts.After-support-from2 (callees t) (support-from-at t) support-from.Post) where
-  abbrev support-from-from-support-from2 : support-from-lts.After-support-from (callees t) (support-from-at t) support-from.Post
-  support-from-from-support-from2 = c .before .before .before .before
-
 module _ {t : ℕ} (c : support-from-lts.After-slice-known4 (callees t) (support-from-at t) support-from.Post) where
   abbrev else1-from-with-variable-call : support-from-lts.Else1 (callees t) (support-from-at t) support-from.Post
-  else1-from-with-variable-call = struct-known2-from-support-from (support-from-from-support-from2 (c .before .before)) .before
+  else1-from-with-variable-call = else1-from-support-from-call-2 (c .before .before .before)
 
 module _ {t : ℕ} (c : support-from-lts.After-with-variable (callees t) (support-from-at t) support-from.Post) where
   abbrev support-from2-from-return-3 : support-from-lts.After-support-from2 (callees t) (support-from-at t) support-from.Post
   support-from2-from-return-3 = c .before .before .before
 
   abbrev support-from-from-return-3 : support-from-lts.After-support-from (callees t) (support-from-at t) support-from.Post
-  support-from-from-return-3 = support-from-from-support-from2 support-from2-from-return-3
+  support-from-from-return-3 = support-from-from-support-from-call-2 (support-from2-from-return-3 .before)
 
   abbrev struct-known2-from-return-3 : support-from-lts.After-struct-known2 (callees t) (support-from-at t) support-from.Post
-  struct-known2-from-return-3 = struct-known2-from-support-from support-from-from-return-3
+  struct-known2-from-return-3 = struct-known2-from-support-from-call (support-from-from-return-3 .before)
 
   abbrev else1-from-return-3 : support-from-lts.Else1 (callees t) (support-from-at t) support-from.Post
   else1-from-return-3 = struct-known2-from-return-3 .before

@@ -24,13 +24,9 @@ module _ (c : tie.After-clear-cells-arg Inv-loop μ-loop) where
   abbrev start-from-clear-cells-call : tie.Start Inv-loop μ-loop
   start-from-clear-cells-call = c .before .before .before .before .before .before .before
 
-module _ (c : tie.After-clear-cells Inv-loop μ-loop) where
-  abbrev start-from-clear-cells : tie.Start Inv-loop μ-loop
-  start-from-clear-cells = c .before .before .before .before .before .before .before .before
-
 module _ (c : tie.After-slice-known3 Inv-loop μ-loop) where
   abbrev start-from-loop-holds : tie.Start Inv-loop μ-loop
-  start-from-loop-holds = start-from-clear-cells (c .before .before)
+  start-from-loop-holds = start-from-clear-cells-call (c .before .before .before)
 
 module _ (c : tie.At-loop Inv-loop μ-loop) where
   abbrev clear-cells-from-at-loop : tie.After-clear-cells Inv-loop μ-loop
@@ -38,7 +34,7 @@ module _ (c : tie.At-loop Inv-loop μ-loop) where
 
 module _ (c : tie.After-loop Inv-loop μ-loop) where
   abbrev start-from-return : tie.Start Inv-loop μ-loop
-  start-from-return = start-from-clear-cells (clear-cells-from-at-loop (c .before))
+  start-from-return = start-from-clear-cells-call (clear-cells-from-at-loop (c .before) .before)
 
 module _ (c : tie.After-support-from-arg Inv-loop μ-loop) where
   abbrev at-loop-from-support-from-call : tie.At-loop Inv-loop μ-loop
@@ -48,7 +44,7 @@ module _ (c : tie.After-support-from-arg Inv-loop μ-loop) where
   clear-cells-from-support-from-call = clear-cells-from-at-loop at-loop-from-support-from-call
 
   abbrev start-from-support-from-call : tie.Start Inv-loop μ-loop
-  start-from-support-from-call = start-from-clear-cells clear-cells-from-support-from-call
+  start-from-support-from-call = start-from-clear-cells-call (clear-cells-from-support-from-call .before)
 
 module _ (c : tie.After-slice-known4 Inv-loop μ-loop) where
   abbrev in-loop-from-loop-again : tie.In-loop Inv-loop μ-loop
@@ -58,7 +54,7 @@ module _ (c : tie.After-slice-known4 Inv-loop μ-loop) where
   at-loop-from-loop-again = in-loop-from-loop-again .before
 
   abbrev start-from-loop-again : tie.Start Inv-loop μ-loop
-  start-from-loop-again = start-from-clear-cells (clear-cells-from-at-loop at-loop-from-loop-again)
+  start-from-loop-again = start-from-clear-cells-call (clear-cells-from-at-loop at-loop-from-loop-again .before)
 
 clear-cells-requires : tie.Need-clear-cells-requires Inv-loop μ-loop
 clear-cells-requires c κs =

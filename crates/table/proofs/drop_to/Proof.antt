@@ -19,10 +19,6 @@ module _ (c : tie.After-slice-known5 Inv-loop μ-loop) where
   abbrev start-from-loop-holds : tie.Start Inv-loop μ-loop
   start-from-loop-holds = c .before .before .before .before .before
 
-module _ (c : tie.At-loop Inv-loop μ-loop) where
-  abbrev start-from-at-loop : tie.Start Inv-loop μ-loop
-  start-from-at-loop = c .before .before .before .before .before .before
-
 module _ (c : tie.After-slice-known9 Inv-loop μ-loop) where
   abbrev in-loop-from-loop-again : tie.In-loop Inv-loop μ-loop
   in-loop-from-loop-again = c .before .before .before .before .before
@@ -31,7 +27,7 @@ module _ (c : tie.After-slice-known9 Inv-loop μ-loop) where
   at-loop-from-loop-again = in-loop-from-loop-again .before
 
   abbrev start-from-loop-again : tie.Start Inv-loop μ-loop
-  start-from-loop-again = start-from-at-loop at-loop-from-loop-again
+  start-from-loop-again = start-from-loop-holds (at-loop-from-loop-again .before)
 
 loop-holds : tie.Need-loop-holds Inv-loop μ-loop
 loop-holds c =

@@ -7,44 +7,40 @@ use Rattle.table.proofs.place_node.Statement.{statement}
 use Rattle.table.proofs.place_node.Tie as tie
 
 -- The ways back, written by ways.py: TO-from-FROM leads from the place FROM of the code to the place TO before it.
-module _ (c : tie.Else1) where
-  abbrev start-from-else1 : tie.Start
-  start-from-else1 = c .before .before .before .before .before .before .before .before
+module _ (c : tie.After-struct-known2) where
+  abbrev start-from-struct-known2 : tie.Start
+  start-from-struct-known2 = c .before .before .before .before .before .before .before
 
 module _ (c : tie.Then1) where
   abbrev start-from-then1 : tie.Start
-  start-from-then1 = c .before .before .before .before .before .before .before .before
+  start-from-then1 = start-from-struct-known2 (c .before)
 
 module _ (c : tie.After-lookup-arg5) where
   abbrev else1-from-lookup-call : tie.Else1
   else1-from-lookup-call = c .before .before .before .before .before
 
   abbrev start-from-lookup-call : tie.Start
-  start-from-lookup-call = start-from-else1 else1-from-lookup-call
-
-module _ (c : tie.After-lookup) where
-  abbrev else1-from-lookup : tie.Else1
-  else1-from-lookup = c .before .before .before .before .before .before
+  start-from-lookup-call = start-from-struct-known2 (else1-from-lookup-call .before)
 
 module _ (c : tie.After-known-told) where
   abbrev lookup-from-return-2 : tie.After-lookup
   lookup-from-return-2 = c .before .before .before
 
   abbrev else1-from-return-2 : tie.Else1
-  else1-from-return-2 = else1-from-lookup lookup-from-return-2
+  else1-from-return-2 = else1-from-lookup-call (lookup-from-return-2 .before)
 
   abbrev start-from-return-2 : tie.Start
-  start-from-return-2 = start-from-else1 else1-from-return-2
+  start-from-return-2 = start-from-struct-known2 (else1-from-return-2 .before)
 
 module _ (c : tie.Else2) where
   abbrev lookup-from-else2 : tie.After-lookup
   lookup-from-else2 = c .before .before .before
 
   abbrev else1-from-else2 : tie.Else1
-  else1-from-else2 = else1-from-lookup lookup-from-else2
+  else1-from-else2 = else1-from-lookup-call (lookup-from-else2 .before)
 
   abbrev start-from-else2 : tie.Start
-  start-from-else2 = start-from-else1 else1-from-else2
+  start-from-else2 = start-from-struct-known2 (else1-from-else2 .before)
 
 module _ (c : tie.After-append) where
   abbrev then2-from-append : tie.Then2
@@ -64,10 +60,10 @@ module _ (c : tie.After-slice-known10) where
   lookup-from-return-3 = enum-told-from-return-3 .before .before
 
   abbrev else1-from-return-3 : tie.Else1
-  else1-from-return-3 = else1-from-lookup lookup-from-return-3
+  else1-from-return-3 = else1-from-lookup-call (lookup-from-return-3 .before)
 
   abbrev start-from-return-3 : tie.Start
-  start-from-return-3 = start-from-else1 else1-from-return-3
+  start-from-return-3 = start-from-struct-known2 (else1-from-return-3 .before)
 
 returns : tie.Need-returns
 returns c =

@@ -51,21 +51,34 @@ module _ {t : ℕ} (s : strike-lts.Start (strike-callees t) (strike-at t) strike
   cell-inside = omega (arith, ready .room, ready .inside, ready .readable .within)
 
 -- The ways back, written by ways.py: TO-from-FROM leads from the place FROM of the code to the place TO before it.
+module _ {t : ℕ} (c : strike-lts.After-struct-known (strike-callees t) (strike-at t) strike.Post) where
+  abbrev start-from-struct-known : strike-lts.Start (strike-callees t) (strike-at t) strike.Post
+  start-from-struct-known = c .before .before .before .before .before
+
 module _ {t : ℕ} (c : strike-lts.Then1 (strike-callees t) (strike-at t) strike.Post) where
   abbrev start-from-then1 : strike-lts.Start (strike-callees t) (strike-at t) strike.Post
-  start-from-then1 = c .before .before .before .before .before .before
+  start-from-then1 = start-from-struct-known (c .before)
 
 module _ {t : ℕ} (c : strike-lts.Else2 (strike-callees t) (strike-at t) strike.Post) where
+  abbrev struct-known-from-else2 : strike-lts.After-struct-known (strike-callees t) (strike-at t) strike.Post
+  struct-known-from-else2 = c .before .before .before
+
   abbrev start-from-else2 : strike-lts.Start (strike-callees t) (strike-at t) strike.Post
-  start-from-else2 = c .before .before .before .before .before .before .before .before
+  start-from-else2 = start-from-struct-known struct-known-from-else2
 
 module _ {t : ℕ} (c : strike-lts.Then2 (strike-callees t) (strike-at t) strike.Post) where
+  abbrev struct-known-from-then2 : strike-lts.After-struct-known (strike-callees t) (strike-at t) strike.Post
+  struct-known-from-then2 = c .before .before .before
+
   abbrev start-from-then2 : strike-lts.Start (strike-callees t) (strike-at t) strike.Post
-  start-from-then2 = c .before .before .before .before .before .before .before .before
+  start-from-then2 = start-from-struct-known struct-known-from-then2
 
 module _ {t : ℕ} (c : strike-lts.After-strike-to (strike-callees t) (strike-at t) strike.Post) where
+  abbrev struct-known-from-return-2 : strike-lts.After-struct-known (strike-callees t) (strike-at t) strike.Post
+  struct-known-from-return-2 = c .before .before .before .before
+
   abbrev start-from-return-2 : strike-lts.Start (strike-callees t) (strike-at t) strike.Post
-  start-from-return-2 = c .before .before .before .before .before .before .before .before .before
+  start-from-return-2 = start-from-struct-known struct-known-from-return-2
 
 module _ {t : ℕ} (c : strike-lts.After-shared-slice-known6 (strike-callees t) (strike-at t) strike.Post) where
   abbrev else2-from-past-call : strike-lts.Else2 (strike-callees t) (strike-at t) strike.Post
@@ -73,40 +86,43 @@ module _ {t : ℕ} (c : strike-lts.After-shared-slice-known6 (strike-callees t) 
 
 module _ {t : ℕ} (c : strike-lts.After-past (strike-callees t) (strike-at t) strike.Post) where
   abbrev else2-from-past-call-2 : strike-lts.Else2 (strike-callees t) (strike-at t) strike.Post
-  else2-from-past-call-2 = c .before .before .before .before .before
+  else2-from-past-call-2 = else2-from-past-call (c .before)
 
 module _ {t : ℕ} (c : strike-lts.After-past2 (strike-callees t) (strike-at t) strike.Post) where
   abbrev else2-from-strike-to-call-2 : strike-lts.Else2 (strike-callees t) (strike-at t) strike.Post
-  else2-from-strike-to-call-2 = c .before .before .before .before .before .before
+  else2-from-strike-to-call-2 = else2-from-past-call (c .before .before)
 
   abbrev start-from-strike-to-call-2 : strike-lts.Start (strike-callees t) (strike-at t) strike.Post
   start-from-strike-to-call-2 = start-from-else2 else2-from-strike-to-call-2
 
 module _ {t : ℕ} (c : strike-lts.After-strike-to2 (strike-callees t) (strike-at t) strike.Post) where
+  abbrev shared-slice-known6-from-strike-to2 : strike-lts.After-shared-slice-known6 (strike-callees t) (strike-at t) strike.Post
+  shared-slice-known6-from-strike-to2 = c .before .before .before
+
   abbrev else2-from-strike-to2 : strike-lts.Else2 (strike-callees t) (strike-at t) strike.Post
-  else2-from-strike-to2 = c .before .before .before .before .before .before .before
+  else2-from-strike-to2 = else2-from-past-call shared-slice-known6-from-strike-to2
 
 module _ {t : ℕ} (c : strike-lts.Else3 (strike-callees t) (strike-at t) strike.Post) where
   abbrev start-from-else3 : strike-lts.Start (strike-callees t) (strike-at t) strike.Post
-  start-from-else3 = start-from-else2 (else2-from-strike-to2 (c .before .before))
+  start-from-else3 = start-from-else2 (else2-from-past-call (shared-slice-known6-from-strike-to2 (c .before .before)))
 
 module _ {t : ℕ} (c : strike-lts.Then3 (strike-callees t) (strike-at t) strike.Post) where
   abbrev start-from-then3 : strike-lts.Start (strike-callees t) (strike-at t) strike.Post
-  start-from-then3 = start-from-else2 (else2-from-strike-to2 (c .before .before))
+  start-from-then3 = start-from-else2 (else2-from-past-call (shared-slice-known6-from-strike-to2 (c .before .before)))
 
 module _ {t : ℕ} (c : strike-lts.After-slice-known2 (strike-callees t) (strike-at t) strike.Post) where
   abbrev strike-to2-from-slice-read-if4 : strike-lts.After-strike-to2 (strike-callees t) (strike-at t) strike.Post
   strike-to2-from-slice-read-if4 = c .before .before .before
 
   abbrev start-from-slice-read-if4 : strike-lts.Start (strike-callees t) (strike-at t) strike.Post
-  start-from-slice-read-if4 = start-from-else2 (else2-from-strike-to2 strike-to2-from-slice-read-if4)
+  start-from-slice-read-if4 = start-from-else2 (else2-from-past-call (shared-slice-known6-from-strike-to2 strike-to2-from-slice-read-if4))
 
 module _ {t : ℕ} (c : strike-lts.Then4 (strike-callees t) (strike-at t) strike.Post) where
   abbrev strike-to2-from-then4 : strike-lts.After-strike-to2 (strike-callees t) (strike-at t) strike.Post
   strike-to2-from-then4 = c .before .before .before .before
 
   abbrev start-from-then4 : strike-lts.Start (strike-callees t) (strike-at t) strike.Post
-  start-from-then4 = start-from-else2 (else2-from-strike-to2 strike-to2-from-then4)
+  start-from-then4 = start-from-else2 (else2-from-past-call (shared-slice-known6-from-strike-to2 strike-to2-from-then4))
 
 module _ {t : ℕ} (c : strike-lts.After-strike-arg (strike-callees t) (strike-at t) strike.Post) where
   abbrev strike-to2-from-strike-call : strike-lts.After-strike-to2 (strike-callees t) (strike-at t) strike.Post
@@ -136,14 +152,17 @@ module _ {t : ℕ} (c : strike-lts.After-strike-arg2 (strike-callees t) (strike-
   start-from-strike-call-2 = start-from-else2 else2-from-strike-call-2
 
 module _ {t : ℕ} (c : strike-lts.After-slice-known4 (strike-callees t) (strike-at t) strike.Post) where
+  abbrev strike-arg2-from-return-5 : strike-lts.After-strike-arg2 (strike-callees t) (strike-at t) strike.Post
+  strike-arg2-from-return-5 = c .before .before .before
+
   abbrev strike-from-return-5 : strike-lts.After-strike (strike-callees t) (strike-at t) strike.Post
-  strike-from-return-5 = c .before .before .before .before .before .before
+  strike-from-return-5 = strike-from-strike-call-2 strike-arg2-from-return-5
 
   abbrev strike-to2-from-return-5 : strike-lts.After-strike-to2 (strike-callees t) (strike-at t) strike.Post
   strike-to2-from-return-5 = strike-to2-from-strike strike-from-return-5
 
   abbrev start-from-return-5 : strike-lts.Start (strike-callees t) (strike-at t) strike.Post
-  start-from-return-5 = start-from-else2 (else2-from-strike-to2 strike-to2-from-return-5)
+  start-from-return-5 = start-from-else2 (else2-from-past-call (shared-slice-known6-from-strike-to2 strike-to2-from-return-5))
 
 -- past the two constants
 module _ {t : ℕ} (e : strike-lts.Else2 (strike-callees t) (strike-at t) strike.Post) where

@@ -76,17 +76,27 @@ module _ {t : ℕ} (s : one-from-lts.Start (one-from-callees t) (one-from-at t) 
   in-nodes = omega (arith, inside, length-in (s .args .vars .now) (s .args .lows .now) (s .args .highs .now) (s .args .count) readable)
 
 -- The ways back, written by ways.py: TO-from-FROM leads from the place FROM of the code to the place TO before it.
+module _ {t : ℕ} (c : one-from-lts.After-struct-known (one-from-callees t) (one-from-at t) one-from.Post) where
+  abbrev start-from-struct-known : one-from-lts.Start (one-from-callees t) (one-from-at t) one-from.Post
+  start-from-struct-known = c .before .before .before .before .before
+
 module _ {t : ℕ} (c : one-from-lts.Then1 (one-from-callees t) (one-from-at t) one-from.Post) where
   abbrev start-from-then1 : one-from-lts.Start (one-from-callees t) (one-from-at t) one-from.Post
-  start-from-then1 = c .before .before .before .before .before .before
+  start-from-then1 = start-from-struct-known (c .before)
 
 module _ {t : ℕ} (c : one-from-lts.Else2 (one-from-callees t) (one-from-at t) one-from.Post) where
+  abbrev struct-known-from-else2 : one-from-lts.After-struct-known (one-from-callees t) (one-from-at t) one-from.Post
+  struct-known-from-else2 = c .before .before .before
+
   abbrev start-from-else2 : one-from-lts.Start (one-from-callees t) (one-from-at t) one-from.Post
-  start-from-else2 = c .before .before .before .before .before .before .before .before
+  start-from-else2 = start-from-struct-known struct-known-from-else2
 
 module _ {t : ℕ} (c : one-from-lts.Then2 (one-from-callees t) (one-from-at t) one-from.Post) where
+  abbrev struct-known-from-then2 : one-from-lts.After-struct-known (one-from-callees t) (one-from-at t) one-from.Post
+  struct-known-from-then2 = c .before .before .before
+
   abbrev start-from-then2 : one-from-lts.Start (one-from-callees t) (one-from-at t) one-from.Post
-  start-from-then2 = c .before .before .before .before .before .before .before .before
+  start-from-then2 = start-from-struct-known struct-known-from-then2
 
 module _ {t : ℕ} (c : one-from-lts.After-struct-known3 (one-from-callees t) (one-from-at t) one-from.Post) where
   abbrev start-from-cast-i : one-from-lts.Start (one-from-callees t) (one-from-at t) one-from.Post

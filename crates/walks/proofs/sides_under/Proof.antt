@@ -39,7 +39,7 @@ module _ (c : tie.After-shared-slice-known6) where
 
 module _ (c : tie.Else1) where
   abbrev start-from-else1 : tie.Start
-  start-from-else1 = c .before .before .before .before .before .before .before .before .before
+  start-from-else1 = start-from-in-word-call (c .before .before)
 
 in-word-requires : tie.Need-in-word-requires
 in-word-requires c κs =

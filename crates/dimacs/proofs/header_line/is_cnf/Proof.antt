@@ -19,13 +19,17 @@ module _ (c : tie.Else1) where
   abbrev start-from-else1 : tie.Start
   start-from-else1 = c .before .before .before
 
+module _ (c : tie.After-shared-slice-known3) where
+  abbrev else1-from-shared-slice-read-if3 : tie.Else1
+  else1-from-shared-slice-read-if3 = c .before .before .before
+
 module _ (c : tie.Then3) where
   abbrev else1-from-then3 : tie.Else1
-  else1-from-then3 = c .before .before .before .before
+  else1-from-then3 = else1-from-shared-slice-read-if3 (c .before)
 
 module _ (c : tie.After-shared-slice-known4) where
   abbrev else1-from-return-4 : tie.Else1
-  else1-from-return-4 = c .before .before .before .before .before
+  else1-from-return-4 = else1-from-shared-slice-read-if3 (c .before .before)
 
 -- A word of three bytes is `cnf` where they are.
 cnf : (c : tie.Else1) → isWord (start-from-else1 c .args .s .now) (start-from-else1 c .args .at) letters ≡ spells (start-from-else1 c .args .s .now) (start-from-else1 c .args .at) letters

@@ -26,9 +26,24 @@ past-class-requires c κs = search needs
 is-comment-requires : tie.Need-is-comment-requires Inv-loop μ-loop
 is-comment-requires c κs = search needs
 
+-- The ways back, written by ways.py: TO-from-FROM leads from the place FROM of the code to the place TO before it.
+module _ (c : tie.Then1 Inv-loop μ-loop) where
+  abbrev at-loop-from-then1 : tie.At-loop Inv-loop μ-loop
+  at-loop-from-then1 = c .before .before .before
+
+module _ (c : tie.After-past-class2 Inv-loop μ-loop) where
+  abbrev past-class-from-loop-again : tie.After-past-class Inv-loop μ-loop
+  past-class-from-loop-again = c .before .before .before
+
+  abbrev at-loop-from-loop-again : tie.At-loop Inv-loop μ-loop
+  at-loop-from-loop-again = past-class-from-loop-again .before
+
+  abbrev start-from-loop-again : tie.Start Inv-loop μ-loop
+  start-from-loop-again = at-loop-from-loop-again .before .before
+
 returns : tie.Need-returns Inv-loop μ-loop
 returns c =
-    let k = c .before .before .before in
+    let k = at-loop-from-then1 c in
     let first = c .before .before .past-class in
     let none = ap (isComment _) (sym (first .ensures .0)) ∙ sym (c .before .is-comment .ensures) ∙ not-true _ (c .if1 .taken) in
     (sym (k .loop .inv .2 ∙ between-stop _ _ _ none ∙ sym (first .ensures .0)), (omega (arith, k .loop .inv .0, first .ensures .1 .0), first .ensures .1 .1))
@@ -38,16 +53,16 @@ past-class-requires-2 c κs = search needs
 
 loop-less : tie.Need-loop-less Inv-loop μ-loop
 loop-less c =
-    let w = c .before .before .before .before in
-    let first = c .before .before .before .past-class in
+    let w = at-loop-from-loop-again c in
+    let first = past-class-from-loop-again c .past-class in
     let some = sym (c .before .before .is-comment .ensures) ∙ not-false _ (c .before .if1 .left) in
     omega (arith, comment-moves _ _ some, c .past-class2 .ensures .0, first .ensures .1 .0, first .ensures .1 .1, w .loop .inv .1, c .past-class2 .ensures .1 .1)
 
 loop-again : tie.Need-loop-again Inv-loop μ-loop
 loop-again c =
-    let s = c .before .before .before .before .before .before .args .s .now in
-    let w = c .before .before .before .before in
-    let first = c .before .before .before .past-class in
+    let s = start-from-loop-again c .args .s .now in
+    let w = at-loop-from-loop-again c in
+    let first = past-class-from-loop-again c .past-class in
     let some = ap (isComment _) (sym (first .ensures .0)) ∙ sym (c .before .before .is-comment .ensures) ∙ not-false _ (c .before .if1 .left) in
     (omega (arith, w .loop .inv .0, first .ensures .1 .0, c .past-class2 .ensures .1 .0), c .past-class2 .ensures .1 .1, w .loop .inv .2 ∙ left-comment _ _ some ∙ ap (left s) (sym (c .past-class2 .ensures .0 ∙ ap (lineEnd s) (first .ensures .0))))
 

@@ -32,24 +32,19 @@ module _ (c : tie.After-supports-of-arg5) where
   start-from-supports-of-call = c .before .before .before .before .before .before .before .before .before .before .before .before .before
       .before .before .before .before .before
 
-module _ (c : tie.After-supports-of) where
-  abbrev start-from-supports-of : tie.Start
-  start-from-supports-of = c .before .before .before .before .before .before .before .before .before .before .before .before .before .before
-      .before .before .before .before .before
-
 module _ (c : tie.After-support-from-arg4) where
   abbrev supports-of-from-support-from-call : tie.After-supports-of
   supports-of-from-support-from-call = c .before .before .before .before .before .before .before .before
 
   abbrev start-from-support-from-call : tie.Start
-  start-from-support-from-call = start-from-supports-of supports-of-from-support-from-call
+  start-from-support-from-call = start-from-supports-of-call (supports-of-from-support-from-call .before)
 
 module _ (c : tie.After-support-from) where
   abbrev supports-of-from-support-from : tie.After-supports-of
-  supports-of-from-support-from = c .before .before .before .before .before .before .before .before .before
+  supports-of-from-support-from = supports-of-from-support-from-call (c .before)
 
   abbrev start-from-support-from : tie.Start
-  start-from-support-from = start-from-supports-of supports-of-from-support-from
+  start-from-support-from = start-from-supports-of-call (supports-of-from-support-from .before)
 
 module _ (c : tie.After-by-negation-arg9) where
   abbrev support-from-from-by-negation-call : tie.After-support-from
@@ -57,37 +52,33 @@ module _ (c : tie.After-by-negation-arg9) where
 
 module _ (c : tie.After-by-negation) where
   abbrev support-from-from-by-negation : tie.After-support-from
-  support-from-from-by-negation = c .before .before .before .before .before .before .before .before .before .before .before .before
+  support-from-from-by-negation = support-from-from-by-negation-call (c .before)
 
   abbrev start-from-by-negation : tie.Start
   start-from-by-negation = start-from-support-from support-from-from-by-negation
 
-module _ (c : tie.Else1) where
-  abbrev by-negation-from-else1 : tie.After-by-negation
-  by-negation-from-else1 = c .before .before .before .before .before .before .before .before .before .before .before .before .before .before
+module _ (c : tie.After-slice-known23) where
+  abbrev by-negation-from-slice-known23 : tie.After-by-negation
+  by-negation-from-slice-known23 = c .before .before .before .before .before .before .before .before .before .before .before .before .before
       .before .before .before
 
 module _ (c : tie.Then1) where
   abbrev by-negation-from-then1 : tie.After-by-negation
-  by-negation-from-then1 = c .before .before .before .before .before .before .before .before .before .before .before .before .before .before
-      .before .before .before
+  by-negation-from-then1 = by-negation-from-slice-known23 (c .before)
 
   abbrev supports-of-from-then1 : tie.After-supports-of
-  supports-of-from-then1 = supports-of-from-support-from (support-from-from-by-negation by-negation-from-then1)
+  supports-of-from-then1 = supports-of-from-support-from (support-from-from-by-negation-call (by-negation-from-then1 .before))
 
 module _ (c : tie.After-supports-of-arg11) where
   abbrev else1-from-supports-of-call-2 : tie.Else1
   else1-from-supports-of-call-2 = c .before .before .before .before .before .before
 
   abbrev by-negation-from-supports-of-call-2 : tie.After-by-negation
-  by-negation-from-supports-of-call-2 = by-negation-from-else1 else1-from-supports-of-call-2
+  by-negation-from-supports-of-call-2 = by-negation-from-slice-known23 (else1-from-supports-of-call-2 .before)
 
 module _ (c : tie.After-supports-of2) where
-  abbrev else1-from-supports-of2 : tie.Else1
-  else1-from-supports-of2 = c .before .before .before .before .before .before .before
-
   abbrev by-negation-from-supports-of2 : tie.After-by-negation
-  by-negation-from-supports-of2 = by-negation-from-else1 else1-from-supports-of2
+  by-negation-from-supports-of2 = by-negation-from-supports-of-call-2 (c .before)
 
 module _ (c : tie.After-turns-arg12) where
   abbrev supports-of2-from-turns-call : tie.After-supports-of2
@@ -95,18 +86,13 @@ module _ (c : tie.After-turns-arg12) where
       .before .before .before
 
   abbrev else1-from-turns-call : tie.Else1
-  else1-from-turns-call = else1-from-supports-of2 supports-of2-from-turns-call
+  else1-from-turns-call = else1-from-supports-of-call-2 (supports-of2-from-turns-call .before)
 
   abbrev by-negation-from-turns-call : tie.After-by-negation
-  by-negation-from-turns-call = by-negation-from-else1 else1-from-turns-call
+  by-negation-from-turns-call = by-negation-from-slice-known23 (else1-from-turns-call .before)
 
   abbrev support-from-from-turns-call : tie.After-support-from
   support-from-from-turns-call = support-from-from-by-negation by-negation-from-turns-call
-
-module _ (c : tie.After-turns) where
-  abbrev supports-of2-from-turns : tie.After-supports-of2
-  supports-of2-from-turns = c .before .before .before .before .before .before .before .before .before .before .before .before .before
-      .before .before .before .before
 
 module _ (c : tie.After-slice-known34) where
   abbrev turns-from-return-2 : tie.After-turns
@@ -114,16 +100,16 @@ module _ (c : tie.After-slice-known34) where
       .before .before .before .before
 
   abbrev supports-of2-from-return-2 : tie.After-supports-of2
-  supports-of2-from-return-2 = supports-of2-from-turns turns-from-return-2
+  supports-of2-from-return-2 = supports-of2-from-turns-call (turns-from-return-2 .before)
 
   abbrev else1-from-return-2 : tie.Else1
-  else1-from-return-2 = else1-from-supports-of2 supports-of2-from-return-2
+  else1-from-return-2 = else1-from-supports-of-call-2 (supports-of2-from-return-2 .before)
 
   abbrev by-negation-from-return-2 : tie.After-by-negation
-  by-negation-from-return-2 = by-negation-from-else1 else1-from-return-2
+  by-negation-from-return-2 = by-negation-from-slice-known23 (else1-from-return-2 .before)
 
   abbrev supports-of-from-return-2 : tie.After-supports-of
-  supports-of-from-return-2 = supports-of-from-support-from (support-from-from-by-negation by-negation-from-return-2)
+  supports-of-from-return-2 = supports-of-from-support-from (support-from-from-by-negation-call (by-negation-from-return-2 .before))
 
 -- what the walks over the members and the root leave
 module _ (a : tie.After-support-from) where

@@ -25,8 +25,7 @@ module _ (c : tie.After-is-one-arg4) where
 
 module _ (c : tie.After-is-one) where
   abbrev start-from-is-one : tie.Start
-  start-from-is-one = c .before .before .before .before .before .before .before .before .before .before .before .before .before .before
-      .before .before
+  start-from-is-one = start-from-is-one-call (c .before)
 
 module _ (c : tie.Else1) where
   abbrev is-one-from-else1 : tie.After-is-one
@@ -55,7 +54,7 @@ module _ (c : tie.After-apply-arg6) where
 
 module _ (c : tie.After-apply) where
   abbrev clear-memo-from-apply : tie.After-clear-memo
-  clear-memo-from-apply = c .before .before .before .before .before .before .before .before .before
+  clear-memo-from-apply = clear-memo-from-apply-call (c .before)
 
   abbrev is-one-from-apply : tie.After-is-one
   is-one-from-apply = is-one-from-else1 (clear-memo-from-apply .before .before)
@@ -63,13 +62,13 @@ module _ (c : tie.After-apply) where
   abbrev start-from-apply : tie.Start
   start-from-apply = start-from-is-one is-one-from-apply
 
-module _ (c : tie.Else2) where
-  abbrev apply-from-else2 : tie.After-apply
-  apply-from-else2 = c .before .before .before .before .before .before .before .before .before .before .before .before .before
+module _ (c : tie.After-slice-known17) where
+  abbrev apply-from-slice-known17 : tie.After-apply
+  apply-from-slice-known17 = c .before .before .before .before .before .before .before .before .before .before .before .before
 
 module _ (c : tie.Then2) where
   abbrev apply-from-then2 : tie.After-apply
-  apply-from-then2 = c .before .before .before .before .before .before .before .before .before .before .before .before .before
+  apply-from-then2 = apply-from-slice-known17 (c .before)
 
   abbrev clear-memo-from-then2 : tie.After-clear-memo
   clear-memo-from-then2 = clear-memo-from-apply apply-from-then2
@@ -85,17 +84,13 @@ module _ (c : tie.After-rup-with-arg9) where
   else2-from-rup-with-call = c .before .before .before .before .before .before .before .before .before
 
   abbrev apply-from-rup-with-call : tie.After-apply
-  apply-from-rup-with-call = apply-from-else2 else2-from-rup-with-call
+  apply-from-rup-with-call = apply-from-slice-known17 (else2-from-rup-with-call .before)
 
   abbrev else1-from-rup-with-call : tie.Else1
-  else1-from-rup-with-call = clear-memo-from-apply apply-from-rup-with-call .before .before
+  else1-from-rup-with-call = clear-memo-from-apply-call (apply-from-rup-with-call .before) .before .before
 
   abbrev is-one-from-rup-with-call : tie.After-is-one
   is-one-from-rup-with-call = is-one-from-else1 else1-from-rup-with-call
-
-module _ (c : tie.After-rup-with) where
-  abbrev else2-from-rup-with : tie.Else2
-  else2-from-rup-with = c .before .before .before .before .before .before .before .before .before .before
 
 module _ (c : tie.After-slice-known26) where
   abbrev rup-with-from-return-3 : tie.After-rup-with
@@ -103,10 +98,10 @@ module _ (c : tie.After-slice-known26) where
       .before .before .before .before
 
   abbrev else2-from-return-3 : tie.Else2
-  else2-from-return-3 = else2-from-rup-with rup-with-from-return-3
+  else2-from-return-3 = else2-from-rup-with-call (rup-with-from-return-3 .before)
 
   abbrev apply-from-return-3 : tie.After-apply
-  apply-from-return-3 = apply-from-else2 else2-from-return-3
+  apply-from-return-3 = apply-from-slice-known17 (else2-from-return-3 .before)
 
   abbrev clear-memo-from-return-3 : tie.After-clear-memo
   clear-memo-from-return-3 = clear-memo-from-apply apply-from-return-3

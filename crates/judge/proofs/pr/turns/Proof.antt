@@ -51,13 +51,9 @@ module _ (c : tie.After-slice-known9 Inv-loop μ-loop) where
   abbrev start-from-loop-holds : tie.Start Inv-loop μ-loop
   start-from-loop-holds = c .before .before .before .before .before .before .before .before .before .before .before .before .before
 
-module _ (c : tie.At-loop Inv-loop μ-loop) where
-  abbrev start-from-at-loop : tie.Start Inv-loop μ-loop
-  start-from-at-loop = c .before .before .before .before .before .before .before .before .before .before .before .before .before .before
-
 module _ (c : tie.After-loop Inv-loop μ-loop) where
   abbrev start-from-return-3 : tie.Start Inv-loop μ-loop
-  start-from-return-3 = start-from-at-loop (c .before)
+  start-from-return-3 = start-from-loop-holds (c .before .before)
 
 module _ (c : tie.After-shared-slice-known6 Inv-loop μ-loop) where
   abbrev in-loop-from-turn-call : tie.In-loop Inv-loop μ-loop
@@ -67,17 +63,17 @@ module _ (c : tie.After-shared-slice-known6 Inv-loop μ-loop) where
   at-loop-from-turn-call = in-loop-from-turn-call .before
 
   abbrev start-from-turn-call : tie.Start Inv-loop μ-loop
-  start-from-turn-call = start-from-at-loop at-loop-from-turn-call
+  start-from-turn-call = start-from-loop-holds (at-loop-from-turn-call .before)
 
 module _ (c : tie.After-turn Inv-loop μ-loop) where
   abbrev in-loop-from-turn : tie.In-loop Inv-loop μ-loop
-  in-loop-from-turn = c .before .before .before .before .before .before .before .before .before .before .before .before
+  in-loop-from-turn = in-loop-from-turn-call (c .before)
 
   abbrev at-loop-from-turn : tie.At-loop Inv-loop μ-loop
   at-loop-from-turn = in-loop-from-turn .before
 
   abbrev start-from-turn : tie.Start Inv-loop μ-loop
-  start-from-turn = start-from-at-loop at-loop-from-turn
+  start-from-turn = start-from-loop-holds (at-loop-from-turn .before)
 
 module _ (c : tie.After-greater Inv-loop μ-loop) where
   abbrev turn-from-greater : tie.After-turn Inv-loop μ-loop
@@ -95,7 +91,7 @@ module _ (c : tie.Then1 Inv-loop μ-loop) where
   at-loop-from-then1 = at-loop-from-turn turn-from-then1
 
   abbrev start-from-then1 : tie.Start Inv-loop μ-loop
-  start-from-then1 = start-from-at-loop at-loop-from-then1
+  start-from-then1 = start-from-loop-holds (at-loop-from-then1 .before)
 
 module _ (c : tie.After-drop-to-arg5 Inv-loop μ-loop) where
   abbrev else1-from-drop-to-call : tie.Else1 Inv-loop μ-loop
@@ -105,11 +101,8 @@ module _ (c : tie.After-drop-to-arg5 Inv-loop μ-loop) where
   turn-from-drop-to-call = turn-from-greater (else1-from-drop-to-call .before)
 
 module _ (c : tie.After-drop-to Inv-loop μ-loop) where
-  abbrev else1-from-drop-to : tie.Else1 Inv-loop μ-loop
-  else1-from-drop-to = c .before .before .before .before .before .before
-
   abbrev turn-from-drop-to : tie.After-turn Inv-loop μ-loop
-  turn-from-drop-to = turn-from-greater (else1-from-drop-to .before)
+  turn-from-drop-to = turn-from-drop-to-call (c .before)
 
   abbrev start-from-drop-to : tie.Start Inv-loop μ-loop
   start-from-drop-to = start-from-turn turn-from-drop-to
@@ -123,10 +116,10 @@ module _ (c : tie.After-struct-known Inv-loop μ-loop) where
 
 module _ (c : tie.Else2 Inv-loop μ-loop) where
   abbrev drop-to-from-else2 : tie.After-drop-to Inv-loop μ-loop
-  drop-to-from-else2 = c .before .before .before .before .before .before .before .before .before .before .before .before .before
+  drop-to-from-else2 = drop-to-from-add-rounds (c .before .before)
 
   abbrev else1-from-else2 : tie.Else1 Inv-loop μ-loop
-  else1-from-else2 = else1-from-drop-to drop-to-from-else2
+  else1-from-else2 = else1-from-drop-to-call (drop-to-from-else2 .before)
 
   abbrev greater-from-else2 : tie.After-greater Inv-loop μ-loop
   greater-from-else2 = else1-from-else2 .before
@@ -136,10 +129,10 @@ module _ (c : tie.Else2 Inv-loop μ-loop) where
 
 module _ (c : tie.Then2 Inv-loop μ-loop) where
   abbrev drop-to-from-then2 : tie.After-drop-to Inv-loop μ-loop
-  drop-to-from-then2 = c .before .before .before .before .before .before .before .before .before .before .before .before .before
+  drop-to-from-then2 = drop-to-from-add-rounds (c .before .before)
 
   abbrev else1-from-then2 : tie.Else1 Inv-loop μ-loop
-  else1-from-then2 = else1-from-drop-to drop-to-from-then2
+  else1-from-then2 = else1-from-drop-to-call (drop-to-from-then2 .before)
 
   abbrev greater-from-then2 : tie.After-greater Inv-loop μ-loop
   greater-from-then2 = else1-from-then2 .before
@@ -151,7 +144,7 @@ module _ (c : tie.Then2 Inv-loop μ-loop) where
   at-loop-from-then2 = at-loop-from-turn turn-from-then2
 
   abbrev start-from-then2 : tie.Start Inv-loop μ-loop
-  start-from-then2 = start-from-at-loop at-loop-from-then2
+  start-from-then2 = start-from-loop-holds (at-loop-from-then2 .before)
 
 -- what a turn leaves
 module _ (a : tie.After-turn Inv-loop μ-loop) where

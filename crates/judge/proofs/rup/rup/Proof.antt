@@ -21,32 +21,23 @@ module _ (c : tie.After-supports-of-arg5) where
   start-from-supports-of-call = c .before .before .before .before .before .before .before .before .before .before .before .before .before
       .before .before .before
 
-module _ (c : tie.After-supports-of) where
-  abbrev start-from-supports-of : tie.Start
-  start-from-supports-of = c .before .before .before .before .before .before .before .before .before .before .before .before .before .before
-      .before .before .before
-
 module _ (c : tie.After-support-from-arg4) where
   abbrev supports-of-from-support-from-call : tie.After-supports-of
   supports-of-from-support-from-call = c .before .before .before .before .before .before .before .before
 
   abbrev start-from-support-from-call : tie.Start
-  start-from-support-from-call = start-from-supports-of supports-of-from-support-from-call
+  start-from-support-from-call = start-from-supports-of-call (supports-of-from-support-from-call .before)
 
 module _ (c : tie.After-support-from) where
   abbrev supports-of-from-support-from : tie.After-supports-of
-  supports-of-from-support-from = c .before .before .before .before .before .before .before .before .before
+  supports-of-from-support-from = supports-of-from-support-from-call (c .before)
 
   abbrev start-from-support-from : tie.Start
-  start-from-support-from = start-from-supports-of supports-of-from-support-from
+  start-from-support-from = start-from-supports-of-call (supports-of-from-support-from .before)
 
 module _ (c : tie.After-rup-with-arg10) where
   abbrev support-from-from-rup-with-call : tie.After-support-from
   support-from-from-rup-with-call = c .before .before .before .before .before .before .before .before .before .before .before .before
-
-module _ (c : tie.After-rup-with) where
-  abbrev support-from-from-rup-with : tie.After-support-from
-  support-from-from-rup-with = c .before .before .before .before .before .before .before .before .before .before .before .before .before
 
 module _ (c : tie.After-slice-known22) where
   abbrev rup-with-from-return : tie.After-rup-with
@@ -54,7 +45,7 @@ module _ (c : tie.After-slice-known22) where
       .before .before .before .before
 
   abbrev support-from-from-return : tie.After-support-from
-  support-from-from-return = support-from-from-rup-with rup-with-from-return
+  support-from-from-return = support-from-from-rup-with-call (rup-with-from-return .before)
 
   abbrev supports-of-from-return : tie.After-supports-of
   supports-of-from-return = supports-of-from-support-from support-from-from-return

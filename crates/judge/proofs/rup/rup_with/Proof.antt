@@ -34,29 +34,23 @@ module _ (c : tie.After-by-negation-arg8) where
 
 module _ (c : tie.After-by-negation) where
   abbrev start-from-by-negation : tie.Start
-  start-from-by-negation = c .before .before .before .before .before .before .before .before .before .before .before .before .before .before
-      .before .before .before .before .before .before
+  start-from-by-negation = start-from-by-negation-call (c .before)
 
-module _ (c : tie.Else1) where
-  abbrev by-negation-from-else1 : tie.After-by-negation
-  by-negation-from-else1 = c .before .before .before .before .before .before .before .before .before .before .before .before .before .before
+module _ (c : tie.After-slice-known17) where
+  abbrev by-negation-from-slice-known17 : tie.After-by-negation
+  by-negation-from-slice-known17 = c .before .before .before .before .before .before .before .before .before .before .before .before .before
       .before .before .before
 
 module _ (c : tie.Then1) where
   abbrev by-negation-from-then1 : tie.After-by-negation
-  by-negation-from-then1 = c .before .before .before .before .before .before .before .before .before .before .before .before .before .before
-      .before .before .before
+  by-negation-from-then1 = by-negation-from-slice-known17 (c .before)
 
 module _ (c : tie.After-unit-prop-arg9) where
   abbrev else1-from-unit-prop-call : tie.Else1
   else1-from-unit-prop-call = c .before .before .before .before .before .before .before .before .before
 
   abbrev by-negation-from-unit-prop-call : tie.After-by-negation
-  by-negation-from-unit-prop-call = by-negation-from-else1 else1-from-unit-prop-call
-
-module _ (c : tie.After-unit-prop) where
-  abbrev else1-from-unit-prop : tie.Else1
-  else1-from-unit-prop = c .before .before .before .before .before .before .before .before .before .before
+  by-negation-from-unit-prop-call = by-negation-from-slice-known17 (else1-from-unit-prop-call .before)
 
 module _ (c : tie.After-struct-known) where
   abbrev unit-prop-from-return-2 : tie.After-unit-prop
@@ -64,10 +58,10 @@ module _ (c : tie.After-struct-known) where
       .before .before .before .before .before .before
 
   abbrev else1-from-return-2 : tie.Else1
-  else1-from-return-2 = else1-from-unit-prop unit-prop-from-return-2
+  else1-from-return-2 = else1-from-unit-prop-call (unit-prop-from-return-2 .before)
 
   abbrev by-negation-from-return-2 : tie.After-by-negation
-  by-negation-from-return-2 = by-negation-from-else1 else1-from-return-2
+  by-negation-from-return-2 = by-negation-from-slice-known17 (else1-from-return-2 .before)
 
 -- what not-g and the members by it leave
 module _ (a : tie.After-by-negation) where

@@ -30,7 +30,7 @@ module _ (c : tie.After-shared-slice-known3 Inv-loop μ-loop) where
 
 module _ (c : tie.At-loop Inv-loop μ-loop) where
   abbrev start-from-at-loop : tie.Start Inv-loop μ-loop
-  start-from-at-loop = c .before .before .before .before
+  start-from-at-loop = start-from-loop-holds (c .before)
 
 module _ (c : tie.After-enum-told Inv-loop μ-loop) where
   abbrev terminal-from-enum-told : tie.After-terminal Inv-loop μ-loop

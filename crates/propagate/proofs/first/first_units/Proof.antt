@@ -73,13 +73,13 @@ module _ (c : tie.After-units-from Inv-loop μ-loop) where
   abbrev in-loop-from-units-from : tie.In-loop Inv-loop μ-loop
   in-loop-from-units-from = c .before .before .before
 
-module _ (c : tie.Else1 Inv-loop μ-loop) where
-  abbrev units-from-from-else1 : tie.After-units-from Inv-loop μ-loop
-  units-from-from-else1 = c .before .before .before .before
+module _ (c : tie.After-struct-known Inv-loop μ-loop) where
+  abbrev units-from-from-struct-known : tie.After-units-from Inv-loop μ-loop
+  units-from-from-struct-known = c .before .before .before
 
 module _ (c : tie.Joined1 Inv-loop μ-loop) where
   abbrev units-from-from-return : tie.After-units-from Inv-loop μ-loop
-  units-from-from-return = c .before .before .before .before
+  units-from-from-return = units-from-from-struct-known (c .before)
 
   abbrev in-loop-from-return : tie.In-loop Inv-loop μ-loop
   in-loop-from-return = in-loop-from-units-from units-from-from-return
@@ -92,7 +92,7 @@ module _ (c : tie.Joined1 Inv-loop μ-loop) where
 
 module _ (c : tie.Else2 Inv-loop μ-loop) where
   abbrev in-loop-from-else2 : tie.In-loop Inv-loop μ-loop
-  in-loop-from-else2 = in-loop-from-units-from (units-from-from-else1 (c .before .before))
+  in-loop-from-else2 = in-loop-from-units-from (units-from-from-struct-known (c .before .before .before))
 
   abbrev start-from-else2 : tie.Start Inv-loop μ-loop
   start-from-else2 = start-from-clear-cells (clear-cells-from-at-loop (in-loop-from-else2 .before))
@@ -105,7 +105,7 @@ module _ (c : tie.After-next-asked2 Inv-loop μ-loop) where
   else1-from-loop-again = else2-from-loop-again .before .before
 
   abbrev units-from-from-loop-again : tie.After-units-from Inv-loop μ-loop
-  units-from-from-loop-again = units-from-from-else1 else1-from-loop-again
+  units-from-from-loop-again = units-from-from-struct-known (else1-from-loop-again .before)
 
   abbrev in-loop-from-loop-again : tie.In-loop Inv-loop μ-loop
   in-loop-from-loop-again = in-loop-from-units-from units-from-from-loop-again

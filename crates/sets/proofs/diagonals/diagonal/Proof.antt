@@ -27,17 +27,13 @@ module _ (c : tie.After-slice-known7 Inv-loop μ-loop) where
   abbrev start-from-loop-holds : tie.Start Inv-loop μ-loop
   start-from-loop-holds = c .before .before .before .before .before .before .before
 
-module _ (c : tie.At-loop Inv-loop μ-loop) where
-  abbrev start-from-at-loop : tie.Start Inv-loop μ-loop
-  start-from-at-loop = c .before .before .before .before .before .before .before .before
-
 module _ (c : tie.After-loop Inv-loop μ-loop) where
   abbrev start-from-return-2 : tie.Start Inv-loop μ-loop
-  start-from-return-2 = start-from-at-loop (c .before)
+  start-from-return-2 = start-from-loop-holds (c .before .before)
 
 module _ (c : tie.In-loop Inv-loop μ-loop) where
   abbrev start-from-in-loop : tie.Start Inv-loop μ-loop
-  start-from-in-loop = start-from-at-loop (c .before)
+  start-from-in-loop = start-from-loop-holds (c .before .before)
 
 module _ (c : tie.After-put-arg5 Inv-loop μ-loop) where
   abbrev lower-in-from-put-call : tie.After-lower-in Inv-loop μ-loop
@@ -47,18 +43,18 @@ module _ (c : tie.After-put-arg5 Inv-loop μ-loop) where
   at-loop-from-put-call = lower-in-from-put-call .before .before
 
   abbrev start-from-put-call : tie.Start Inv-loop μ-loop
-  start-from-put-call = start-from-at-loop at-loop-from-put-call
+  start-from-put-call = start-from-loop-holds (at-loop-from-put-call .before)
 
-module _ (c : tie.After-put Inv-loop μ-loop) where
-  abbrev lower-in-from-put : tie.After-lower-in Inv-loop μ-loop
-  lower-in-from-put = c .before .before .before .before .before .before .before
+module _ (c : tie.After-slice-known13 Inv-loop μ-loop) where
+  abbrev put-from-slice-known13 : tie.After-put Inv-loop μ-loop
+  put-from-slice-known13 = c .before .before .before .before .before .before .before .before .before .before
 
 module _ (c : tie.Then1 Inv-loop μ-loop) where
   abbrev put-from-then1 : tie.After-put Inv-loop μ-loop
-  put-from-then1 = c .before .before .before .before .before .before .before .before .before .before .before
+  put-from-then1 = put-from-slice-known13 (c .before)
 
   abbrev lower-in-from-then1 : tie.After-lower-in Inv-loop μ-loop
-  lower-in-from-then1 = lower-in-from-put put-from-then1
+  lower-in-from-then1 = lower-in-from-put-call (put-from-then1 .before)
 
   abbrev in-loop-from-then1 : tie.In-loop Inv-loop μ-loop
   in-loop-from-then1 = lower-in-from-then1 .before
@@ -67,14 +63,14 @@ module _ (c : tie.Then1 Inv-loop μ-loop) where
   at-loop-from-then1 = in-loop-from-then1 .before
 
   abbrev start-from-then1 : tie.Start Inv-loop μ-loop
-  start-from-then1 = start-from-at-loop at-loop-from-then1
+  start-from-then1 = start-from-loop-holds (at-loop-from-then1 .before)
 
 module _ (c : tie.After-node Inv-loop μ-loop) where
   abbrev put-from-loop-again : tie.After-put Inv-loop μ-loop
-  put-from-loop-again = c .before .before .before .before .before .before .before .before .before .before .before .before
+  put-from-loop-again = put-from-slice-known13 (c .before .before)
 
   abbrev lower-in-from-loop-again : tie.After-lower-in Inv-loop μ-loop
-  lower-in-from-loop-again = lower-in-from-put put-from-loop-again
+  lower-in-from-loop-again = lower-in-from-put-call (put-from-loop-again .before)
 
   abbrev in-loop-from-loop-again : tie.In-loop Inv-loop μ-loop
   in-loop-from-loop-again = lower-in-from-loop-again .before
@@ -83,7 +79,7 @@ module _ (c : tie.After-node Inv-loop μ-loop) where
   at-loop-from-loop-again = in-loop-from-loop-again .before
 
   abbrev start-from-loop-again : tie.Start Inv-loop μ-loop
-  start-from-loop-again = start-from-at-loop at-loop-from-loop-again
+  start-from-loop-again = start-from-loop-holds (at-loop-from-loop-again .before)
 
 loop-holds : tie.Need-loop-holds Inv-loop μ-loop
 loop-holds c = (

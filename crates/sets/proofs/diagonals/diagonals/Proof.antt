@@ -25,7 +25,7 @@ module _ (c : tie.After-slice-known6 Inv-loop μ-loop) where
 
 module _ (c : tie.At-loop Inv-loop μ-loop) where
   abbrev start-from-at-loop : tie.Start Inv-loop μ-loop
-  start-from-at-loop = c .before .before .before .before .before .before .before
+  start-from-at-loop = start-from-loop-holds (c .before)
 
 module _ (c : tie.After-loop Inv-loop μ-loop) where
   abbrev start-from-return-2 : tie.Start Inv-loop μ-loop
@@ -41,16 +41,16 @@ module _ (c : tie.After-diagonal-arg6 Inv-loop μ-loop) where
   abbrev start-from-diagonal-call : tie.Start Inv-loop μ-loop
   start-from-diagonal-call = start-from-at-loop at-loop-from-diagonal-call
 
-module _ (c : tie.After-diagonal Inv-loop μ-loop) where
-  abbrev in-loop-from-diagonal : tie.In-loop Inv-loop μ-loop
-  in-loop-from-diagonal = c .before .before .before .before .before .before .before
+module _ (c : tie.After-slice-known12 Inv-loop μ-loop) where
+  abbrev diagonal-from-slice-known12 : tie.After-diagonal Inv-loop μ-loop
+  diagonal-from-slice-known12 = c .before .before .before .before .before .before .before .before .before .before .before .before
 
 module _ (c : tie.Then1 Inv-loop μ-loop) where
   abbrev diagonal-from-then1 : tie.After-diagonal Inv-loop μ-loop
-  diagonal-from-then1 = c .before .before .before .before .before .before .before .before .before .before .before .before .before
+  diagonal-from-then1 = diagonal-from-slice-known12 (c .before)
 
   abbrev in-loop-from-then1 : tie.In-loop Inv-loop μ-loop
-  in-loop-from-then1 = in-loop-from-diagonal diagonal-from-then1
+  in-loop-from-then1 = in-loop-from-diagonal-call (diagonal-from-then1 .before)
 
   abbrev at-loop-from-then1 : tie.At-loop Inv-loop μ-loop
   at-loop-from-then1 = in-loop-from-then1 .before
@@ -59,12 +59,8 @@ module _ (c : tie.Then1 Inv-loop μ-loop) where
   start-from-then1 = start-from-at-loop at-loop-from-then1
 
 module _ (c : tie.After-node Inv-loop μ-loop) where
-  abbrev diagonal-from-lower-in-call : tie.After-diagonal Inv-loop μ-loop
-  diagonal-from-lower-in-call = c .before .before .before .before .before .before .before .before .before .before .before .before .before
-      .before
-
   abbrev in-loop-from-lower-in-call : tie.In-loop Inv-loop μ-loop
-  in-loop-from-lower-in-call = in-loop-from-diagonal diagonal-from-lower-in-call
+  in-loop-from-lower-in-call = in-loop-from-diagonal-call (diagonal-from-slice-known12 (c .before .before) .before)
 
   abbrev at-loop-from-lower-in-call : tie.At-loop Inv-loop μ-loop
   at-loop-from-lower-in-call = in-loop-from-lower-in-call .before
@@ -73,12 +69,14 @@ module _ (c : tie.After-node Inv-loop μ-loop) where
   start-from-lower-in-call = start-from-at-loop at-loop-from-lower-in-call
 
 module _ (c : tie.After-lower-in Inv-loop μ-loop) where
+  abbrev slice-known12-from-loop-again : tie.After-slice-known12 Inv-loop μ-loop
+  slice-known12-from-loop-again = c .before .before .before
+
   abbrev diagonal-from-loop-again : tie.After-diagonal Inv-loop μ-loop
-  diagonal-from-loop-again = c .before .before .before .before .before .before .before .before .before .before .before .before .before
-      .before .before
+  diagonal-from-loop-again = diagonal-from-slice-known12 slice-known12-from-loop-again
 
   abbrev in-loop-from-loop-again : tie.In-loop Inv-loop μ-loop
-  in-loop-from-loop-again = in-loop-from-diagonal diagonal-from-loop-again
+  in-loop-from-loop-again = in-loop-from-diagonal-call (diagonal-from-loop-again .before)
 
   abbrev at-loop-from-loop-again : tie.At-loop Inv-loop μ-loop
   at-loop-from-loop-again = in-loop-from-loop-again .before

@@ -14,23 +14,19 @@ module _ (c : tie.After-order-fits-arg5) where
   abbrev start-from-order-fits-call : tie.Start
   start-from-order-fits-call = c .before .before .before .before .before .before .before .before .before .before .before
 
-module _ (c : tie.After-order-fits) where
-  abbrev start-from-order-fits : tie.Start
-  start-from-order-fits = c .before .before .before .before .before .before .before .before .before .before .before .before
-
 module _ (c : tie.Then1) where
   abbrev order-fits-from-then1 : tie.After-order-fits
   order-fits-from-then1 = c .before
 
   abbrev start-from-then1 : tie.Start
-  start-from-then1 = start-from-order-fits order-fits-from-then1
+  start-from-then1 = start-from-order-fits-call (order-fits-from-then1 .before)
 
 module _ (c : tie.Then2) where
   abbrev order-fits-from-then2 : tie.After-order-fits
   order-fits-from-then2 = c .before .before .before
 
   abbrev start-from-then2 : tie.Start
-  start-from-then2 = start-from-order-fits order-fits-from-then2
+  start-from-then2 = start-from-order-fits-call (order-fits-from-then2 .before)
 
 module _ (c : tie.Then3) where
   abbrev else1-from-then3 : tie.Else1
@@ -40,7 +36,7 @@ module _ (c : tie.Then3) where
   order-fits-from-then3 = else1-from-then3 .before
 
   abbrev start-from-then3 : tie.Start
-  start-from-then3 = start-from-order-fits order-fits-from-then3
+  start-from-then3 = start-from-order-fits-call (order-fits-from-then3 .before)
 
 module _ (c : tie.Then4) where
   abbrev else2-from-then4 : tie.Else2
@@ -53,7 +49,7 @@ module _ (c : tie.Then4) where
   order-fits-from-then4 = else1-from-then4 .before
 
   abbrev start-from-then4 : tie.Start
-  start-from-then4 = start-from-order-fits order-fits-from-then4
+  start-from-then4 = start-from-order-fits-call (order-fits-from-then4 .before)
 
 module _ (c : tie.After-made-arg6) where
   abbrev else4-from-made-call : tie.Else4
@@ -75,18 +71,14 @@ module _ (c : tie.After-made-arg6) where
   order-fits-from-made-call = else1-from-made-call .before
 
   abbrev start-from-made-call : tie.Start
-  start-from-made-call = start-from-order-fits order-fits-from-made-call
-
-module _ (c : tie.After-made) where
-  abbrev else4-from-made : tie.Else4
-  else4-from-made = c .before .before .before .before .before .before .before
+  start-from-made-call = start-from-order-fits-call (order-fits-from-made-call .before)
 
 module _ (c : tie.After-slice-known12) where
   abbrev made-from-return-5 : tie.After-made
   made-from-return-5 = c .before .before .before .before .before .before .before .before .before .before .before .before
 
   abbrev else4-from-return-5 : tie.Else4
-  else4-from-return-5 = else4-from-made made-from-return-5
+  else4-from-return-5 = else4-from-made-call (made-from-return-5 .before)
 
   abbrev operand-refusal-from-return-5 : tie.After-operand-refusal
   operand-refusal-from-return-5 = else4-from-return-5 .before
@@ -104,7 +96,7 @@ module _ (c : tie.After-slice-known12) where
   order-fits-from-return-5 = else1-from-return-5 .before
 
   abbrev start-from-return-5 : tie.Start
-  start-from-return-5 = start-from-order-fits order-fits-from-return-5
+  start-from-return-5 = start-from-order-fits-call (order-fits-from-return-5 .before)
 
 order-fits-requires : tie.Need-order-fits-requires
 order-fits-requires c κs =

@@ -27,47 +27,39 @@ module _ (c : tie.After-apply-arg6) where
   abbrev start-from-apply-call : tie.Start
   start-from-apply-call = c .before .before .before .before .before .before .before .before .before .before .before .before
 
-module _ (c : tie.After-apply) where
-  abbrev start-from-apply : tie.Start
-  start-from-apply = c .before .before .before .before .before .before .before .before .before .before .before .before .before
-
-module _ (c : tie.Then1) where
-  abbrev apply-from-then1 : tie.After-apply
-  apply-from-then1 = c .before .before .before .before .before .before .before .before .before .before .before .before .before
+module _ (c : tie.After-slice-known12) where
+  abbrev apply-from-slice-known12 : tie.After-apply
+  apply-from-slice-known12 = c .before .before .before .before .before .before .before .before .before .before .before .before
 
 module _ (c : tie.After-node) where
   abbrev apply-from-return-2 : tie.After-apply
-  apply-from-return-2 = c .before .before .before .before .before .before .before .before .before .before .before .before .before .before
+  apply-from-return-2 = apply-from-slice-known12 (c .before .before)
 
   abbrev start-from-return-2 : tie.Start
-  start-from-return-2 = start-from-apply apply-from-return-2
+  start-from-return-2 = start-from-apply-call (apply-from-return-2 .before)
 
 module _ (c : tie.After-drop-to-arg5) where
   abbrev then1-from-drop-to-call : tie.Then1
   then1-from-drop-to-call = c .before .before .before .before .before
 
   abbrev apply-from-drop-to-call : tie.After-apply
-  apply-from-drop-to-call = apply-from-then1 then1-from-drop-to-call
+  apply-from-drop-to-call = apply-from-slice-known12 (then1-from-drop-to-call .before)
 
   abbrev start-from-drop-to-call : tie.Start
-  start-from-drop-to-call = start-from-apply apply-from-drop-to-call
-
-module _ (c : tie.After-drop-to) where
-  abbrev then1-from-drop-to : tie.Then1
-  then1-from-drop-to = c .before .before .before .before .before .before
+  start-from-drop-to-call = start-from-apply-call (apply-from-drop-to-call .before)
 
 module _ (c : tie.After-slice-known17) where
   abbrev drop-to-from-return : tie.After-drop-to
   drop-to-from-return = c .before .before .before .before .before .before .before .before .before .before
 
   abbrev then1-from-return : tie.Then1
-  then1-from-return = then1-from-drop-to drop-to-from-return
+  then1-from-return = then1-from-drop-to-call (drop-to-from-return .before)
 
   abbrev apply-from-return : tie.After-apply
-  apply-from-return = apply-from-then1 then1-from-return
+  apply-from-return = apply-from-slice-known12 (then1-from-return .before)
 
   abbrev start-from-return : tie.Start
-  start-from-return = start-from-apply apply-from-return
+  start-from-return = start-from-apply-call (apply-from-return .before)
 
 apply-requires : tie.Need-apply-requires
 apply-requires c κs =

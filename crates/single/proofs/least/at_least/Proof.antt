@@ -41,16 +41,12 @@ module _ (c : tie.After-order-fits-arg5) where
   abbrev else1-from-order-fits-call : tie.Else1
   else1-from-order-fits-call = c .before .before .before .before .before
 
-module _ (c : tie.After-order-fits) where
-  abbrev else1-from-order-fits : tie.Else1
-  else1-from-order-fits = c .before .before .before .before .before .before
-
 module _ (c : tie.Else2) where
   abbrev order-fits-from-else2 : tie.After-order-fits
   order-fits-from-else2 = c .before
 
   abbrev start-from-else2 : tie.Start
-  start-from-else2 = start-from-else1 (else1-from-order-fits order-fits-from-else2)
+  start-from-else2 = start-from-else1 (else1-from-order-fits-call (order-fits-from-else2 .before))
 
 module _ (c : tie.After-refused2) where
   abbrev then2-from-return-2 : tie.Then2
@@ -60,7 +56,7 @@ module _ (c : tie.After-refused2) where
   order-fits-from-return-2 = then2-from-return-2 .before
 
   abbrev else1-from-return-2 : tie.Else1
-  else1-from-return-2 = else1-from-order-fits order-fits-from-return-2
+  else1-from-return-2 = else1-from-order-fits-call (order-fits-from-return-2 .before)
 
   abbrev start-from-return-2 : tie.Start
   start-from-return-2 = start-from-else1 else1-from-return-2
@@ -70,21 +66,17 @@ module _ (c : tie.After-made-arg5) where
   else2-from-made-call = c .before .before .before .before .before
 
   abbrev else1-from-made-call : tie.Else1
-  else1-from-made-call = else1-from-order-fits (order-fits-from-else2 else2-from-made-call)
-
-module _ (c : tie.After-made) where
-  abbrev else2-from-made : tie.Else2
-  else2-from-made = c .before .before .before .before .before .before
+  else1-from-made-call = else1-from-order-fits-call (order-fits-from-else2 else2-from-made-call .before)
 
 module _ (c : tie.After-slice-known10) where
   abbrev made-from-return-3 : tie.After-made
   made-from-return-3 = c .before .before .before .before .before .before .before .before .before .before
 
   abbrev else2-from-return-3 : tie.Else2
-  else2-from-return-3 = else2-from-made made-from-return-3
+  else2-from-return-3 = else2-from-made-call (made-from-return-3 .before)
 
   abbrev else1-from-return-3 : tie.Else1
-  else1-from-return-3 = else1-from-order-fits (order-fits-from-else2 else2-from-return-3)
+  else1-from-return-3 = else1-from-order-fits-call (order-fits-from-else2 else2-from-return-3 .before)
 
   abbrev start-from-return-3 : tie.Start
   start-from-return-3 = start-from-else1 else1-from-return-3

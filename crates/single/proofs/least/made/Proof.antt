@@ -1,5 +1,4 @@
 -- `made` leaves the at-least diagram placed and counts what it excludes, or leaves the table as lent and says 23. Assumes nothing.
-use mathlib.Core.Path.{_≡_}
 use Rattle.meaning.specs.Sets.{atLeast}
 use Rattle.meaning.specs.Words.{inWord}
 use Rattle.table.specs.Indexed.{Table, tableOf, listsOf, Outcome, outcomeOf}
@@ -19,20 +18,16 @@ module _ (c : tie.After-at-least) where
   abbrev start-from-at-least : tie.Start
   start-from-at-least = c .before .before .before .before .before .before .before .before .before .before .before
 
-module _ (c : tie.Else1) where
-  abbrev at-least-from-else1 : tie.After-at-least
-  at-least-from-else1 = c .before .before .before .before .before .before .before .before .before .before .before
-
-module _ (c : tie.Then1) where
-  abbrev at-least-from-then1 : tie.After-at-least
-  at-least-from-then1 = c .before .before .before .before .before .before .before .before .before .before .before
+module _ (c : tie.After-slice-known10) where
+  abbrev at-least-from-slice-known10 : tie.After-at-least
+  at-least-from-slice-known10 = c .before .before .before .before .before .before .before .before .before .before
 
 module _ (c : tie.After-excluded-by) where
   abbrev else1-from-return-2 : tie.Else1
   else1-from-return-2 = c .before .before
 
   abbrev at-least-from-return-2 : tie.After-at-least
-  at-least-from-return-2 = at-least-from-else1 else1-from-return-2
+  at-least-from-return-2 = at-least-from-slice-known10 (else1-from-return-2 .before)
 
   abbrev start-from-return-2 : tie.Start
   start-from-return-2 = start-from-at-least at-least-from-return-2
@@ -42,24 +37,21 @@ module _ (c : tie.After-drop-to-arg5) where
   then1-from-drop-to-call = c .before .before .before .before .before
 
   abbrev at-least-from-drop-to-call : tie.After-at-least
-  at-least-from-drop-to-call = at-least-from-then1 then1-from-drop-to-call
+  at-least-from-drop-to-call = at-least-from-slice-known10 (then1-from-drop-to-call .before)
 
 module _ (c : tie.After-drop-to) where
-  abbrev then1-from-drop-to : tie.Then1
-  then1-from-drop-to = c .before .before .before .before .before .before
-
   abbrev start-from-drop-to : tie.Start
-  start-from-drop-to = start-from-at-least (at-least-from-then1 then1-from-drop-to)
+  start-from-drop-to = start-from-at-least (at-least-from-slice-known10 (then1-from-drop-to-call (c .before) .before))
 
 module _ (c : tie.After-refused) where
   abbrev drop-to-from-return : tie.After-drop-to
   drop-to-from-return = c .before .before .before .before .before .before .before .before .before .before .before
 
   abbrev then1-from-return : tie.Then1
-  then1-from-return = then1-from-drop-to drop-to-from-return
+  then1-from-return = then1-from-drop-to-call (drop-to-from-return .before)
 
   abbrev at-least-from-return : tie.After-at-least
-  at-least-from-return = at-least-from-then1 then1-from-return
+  at-least-from-return = at-least-from-slice-known10 (then1-from-return .before)
 
   abbrev start-from-return : tie.Start
   start-from-return = start-from-at-least at-least-from-return

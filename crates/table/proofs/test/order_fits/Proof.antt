@@ -10,21 +10,21 @@ use Rattle.table.proofs.test.order_fits.Statement.{statement}
 use Rattle.table.proofs.test.order_fits.Tie as tie
 
 -- The ways back, written by ways.py: TO-from-FROM leads from the place FROM of the code to the place TO before it.
-module _ (c : tie.Else1) where
-  abbrev start-from-else1 : tie.Start
-  start-from-else1 = c .before .before .before .before .before .before
+module _ (c : tie.After-shared-slice-known5) where
+  abbrev start-from-shared-slice-known5 : tie.Start
+  start-from-shared-slice-known5 = c .before .before .before .before .before
 
 module _ (c : tie.Then1) where
   abbrev start-from-then1 : tie.Start
-  start-from-then1 = c .before .before .before .before .before .before
+  start-from-then1 = start-from-shared-slice-known5 (c .before)
 
 module _ (c : tie.Else2) where
   abbrev start-from-else2 : tie.Start
-  start-from-else2 = start-from-else1 (c .before)
+  start-from-else2 = start-from-shared-slice-known5 (c .before .before)
 
 module _ (c : tie.Then2) where
   abbrev start-from-then2 : tie.Start
-  start-from-then2 = start-from-else1 (c .before)
+  start-from-then2 = start-from-shared-slice-known5 (c .before .before)
 
 module _ (c : tie.Else3) where
   abbrev start-from-else3 : tie.Start
@@ -35,7 +35,7 @@ module _ (c : tie.Then3) where
   else1-from-then3 = c .before .before .before
 
   abbrev start-from-then3 : tie.Start
-  start-from-then3 = start-from-else1 else1-from-then3
+  start-from-then3 = start-from-shared-slice-known5 (else1-from-then3 .before)
 
 module _ (c : tie.Else4) where
   abbrev start-from-else4 : tie.Start
@@ -49,7 +49,7 @@ module _ (c : tie.Then4) where
   else1-from-then4 = else2-from-then4 .before
 
   abbrev start-from-then4 : tie.Start
-  start-from-then4 = start-from-else1 else1-from-then4
+  start-from-then4 = start-from-shared-slice-known5 (else1-from-then4 .before)
 
 module _ (c : tie.Else5) where
   abbrev else2-from-else5 : tie.Else2
@@ -66,7 +66,7 @@ module _ (c : tie.Then5) where
   else1-from-then5 = else2-from-then5 .before
 
   abbrev start-from-then5 : tie.Start
-  start-from-then5 = start-from-else1 else1-from-then5
+  start-from-then5 = start-from-shared-slice-known5 (else1-from-then5 .before)
 
 module _ (c : tie.Else6) where
   abbrev else2-from-else6 : tie.Else2
@@ -76,7 +76,7 @@ module _ (c : tie.Else6) where
   else1-from-else6 = else2-from-else6 .before
 
   abbrev start-from-else6 : tie.Start
-  start-from-else6 = start-from-else1 else1-from-else6
+  start-from-else6 = start-from-shared-slice-known5 (else1-from-else6 .before)
 
 module _ (c : tie.Then6) where
   abbrev else2-from-then6 : tie.Else2
@@ -86,7 +86,7 @@ module _ (c : tie.Then6) where
   else1-from-then6 = else2-from-then6 .before
 
   abbrev start-from-then6 : tie.Start
-  start-from-then6 = start-from-else1 else1-from-then6
+  start-from-then6 = start-from-shared-slice-known5 (else1-from-then6 .before)
 
 module _ (c : tie.Else7) where
   abbrev else2-from-else7 : tie.Else2
@@ -96,7 +96,7 @@ module _ (c : tie.Else7) where
   else1-from-else7 = else2-from-else7 .before
 
   abbrev start-from-else7 : tie.Start
-  start-from-else7 = start-from-else1 else1-from-else7
+  start-from-else7 = start-from-shared-slice-known5 (else1-from-else7 .before)
 
 module _ (c : tie.Then7) where
   abbrev else2-from-then7 : tie.Else2
@@ -106,7 +106,7 @@ module _ (c : tie.Then7) where
   else1-from-then7 = else2-from-then7 .before
 
   abbrev start-from-then7 : tie.Start
-  start-from-then7 = start-from-else1 else1-from-then7
+  start-from-then7 = start-from-shared-slice-known5 (else1-from-then7 .before)
 
 module _ (c : tie.Else8) where
   abbrev nodes-fit-from-else8 : tie.After-nodes-fit
@@ -119,7 +119,7 @@ module _ (c : tie.Else8) where
   else1-from-else8 = else2-from-else8 .before
 
   abbrev start-from-else8 : tie.Start
-  start-from-else8 = start-from-else1 else1-from-else8
+  start-from-else8 = start-from-shared-slice-known5 (else1-from-else8 .before)
 
 module _ (c : tie.Then8) where
   abbrev else2-from-then8 : tie.Else2
@@ -129,7 +129,7 @@ module _ (c : tie.Then8) where
   else1-from-then8 = else2-from-then8 .before
 
   abbrev start-from-then8 : tie.Start
-  start-from-then8 = start-from-else1 else1-from-then8
+  start-from-then8 = start-from-shared-slice-known5 (else1-from-then8 .before)
 
 module _ (c : tie.After-all-reached) where
   abbrev else7-from-return-9 : tie.Else7
@@ -169,7 +169,7 @@ module _ (c : tie.After-all-reached) where
   else1-from-return-9 = else2-from-return-9 .before
 
   abbrev start-from-return-9 : tie.Start
-  start-from-return-9 = start-from-else1 else1-from-return-9
+  start-from-return-9 = start-from-shared-slice-known5 (else1-from-return-9 .before)
 
 returns : tie.Need-returns
 returns c = sym (no-order _ _ _ _ (too-few _ _ _ (sized _ _ _ _ _ (start-from-then1 c .pre) .lows) (sized _ _ _ _ _ (start-from-then1 c .pre) .highs) _ (c .if1 .taken)))

@@ -1,0 +1,228 @@
+-- What `descend` needs, a law for each place of its code. Assumes nothing.
+use Prim.Native.Nat.{ℕ, _+_, _-_, _*_, _≤_}
+use mathlib.Core.Path.{_≡_, ap, sym, _∙_}
+use mathlib.Core.List.{List}
+use native.Mathlib.Omega.{arith}
+use borrow.Author.Needs.{needs}
+use Rattle.table.specs.Indexed.{Table, tableOf}
+use Rattle.operate.specs.declared.Operation.{Operation}
+use Rattle.operate.specs.Inner.{top, sidesOf, stepOf, Ready}
+use Rattle.operate.proofs.Terminals.{terminal-two}
+use Rattle.operate.proofs.Steps.{sides-ask, OneLeft, BothLeft, step-one, step-both}
+use Rattle.operate.proofs.Results.{columns-hold}
+use borrow.Fn.PlainCycle.{is}
+use Rattle.operate.proofs.descend.Reads as descend
+use Rattle.operate.proofs.+apply+descend+join.Lts-descend as descend-lts
+use Rattle.operate.proofs.+apply+descend+join.Proof.Measures.{descend-at, descend-callees}
+
+-- where descend starts
+module _ {t : ℕ} (s : descend-lts.Start (descend-callees t) (descend-at t) descend.Post) where
+  abbrev d-table : Table
+  d-table = tableOf (s .args .vars .now) (s .args .lows .now) (s .args .highs .now) (s .args .heads .now) (s .args .links .now) (s .args .count)
+
+  abbrev d-memo : List ℕ
+  d-memo = s .args .memo .now
+
+  abbrev d-op : Operation
+  d-op = s .args .op
+
+  abbrev d-f : ℕ
+  d-f = s .args .f .0
+
+  abbrev d-g : ℕ
+  d-g = s .args .g .0
+
+  d-ready : Ready d-op d-memo d-table d-f d-g
+  d-ready = s .pre .1 .0
+
+  d-two : 2 ≤ d-f
+  d-two = terminal-two d-table (d-ready .good) d-f d-g (d-ready .f-inside) (d-ready .g-inside) d-op (d-ready .allowed) (s .pre .1 .1)
+
+  d-measure : 3 * (65 - top (d-table .vars) d-f d-g) + 1 ≡ t
+  d-measure = s .pre .0
+
+-- The ways back, written by ways.py: TO-from-FROM leads from the place FROM of the code to the place TO before it.
+module _ {t : ℕ} (c : descend-lts.After-sides-of-arg3 (descend-callees t) (descend-at t) descend.Post) where
+  abbrev start-from-sides-of-call : descend-lts.Start (descend-callees t) (descend-at t) descend.Post
+  start-from-sides-of-call = c .before .before .before .before .before .before .before .before .before
+
+module _ {t : ℕ} (c : descend-lts.After-sides-of (descend-callees t) (descend-at t) descend.Post) where
+  abbrev start-from-step-of-call : descend-lts.Start (descend-callees t) (descend-at t) descend.Post
+  start-from-step-of-call = start-from-sides-of-call (c .before)
+
+module _ {t : ℕ} (c : descend-lts.After-step-of (descend-callees t) (descend-at t) descend.Post) where
+  abbrev start-from-step-of : descend-lts.Start (descend-callees t) (descend-at t) descend.Post
+  start-from-step-of = start-from-sides-of-call (c .before .before)
+
+module _ {t : ℕ} (c : descend-lts.After-a (descend-callees t) (descend-at t) descend.Post) where
+  abbrev sides-of-arg3-from-a : descend-lts.After-sides-of-arg3 (descend-callees t) (descend-at t) descend.Post
+  sides-of-arg3-from-a = c .before .before .before .before
+
+  abbrev start-from-a : descend-lts.Start (descend-callees t) (descend-at t) descend.Post
+  start-from-a = start-from-sides-of-call sides-of-arg3-from-a
+
+module _ {t : ℕ} (c : descend-lts.After-s (descend-callees t) (descend-at t) descend.Post) where
+  abbrev sides-of-arg3-from-s : descend-lts.After-sides-of-arg3 (descend-callees t) (descend-at t) descend.Post
+  sides-of-arg3-from-s = c .before .before .before .before
+
+  abbrev start-from-s : descend-lts.Start (descend-callees t) (descend-at t) descend.Post
+  start-from-s = start-from-sides-of-call sides-of-arg3-from-s
+
+module _ {t : ℕ} (c : descend-lts.After-apply-arg6 (descend-callees t) (descend-at t) descend.Post) where
+  abbrev a-from-apply-call : descend-lts.After-a (descend-callees t) (descend-at t) descend.Post
+  a-from-apply-call = c .before .before .before .before .before .before .before
+
+  abbrev start-from-apply-call : descend-lts.Start (descend-callees t) (descend-at t) descend.Post
+  start-from-apply-call = start-from-a a-from-apply-call
+
+module _ {t : ℕ} (c : descend-lts.After-join-arg6 (descend-callees t) (descend-at t) descend.Post) where
+  abbrev s-from-join-call : descend-lts.After-s (descend-callees t) (descend-at t) descend.Post
+  s-from-join-call = c .before .before .before .before .before .before .before
+
+  abbrev start-from-join-call : descend-lts.Start (descend-callees t) (descend-at t) descend.Post
+  start-from-join-call = start-from-s s-from-join-call
+
+module _ {t : ℕ} (c : descend-lts.After-slice-known12 (descend-callees t) (descend-at t) descend.Post) where
+  abbrev apply-from-return : descend-lts.After-apply (descend-callees t) (descend-at t) descend.Post
+  apply-from-return = c .before .before .before .before .before .before .before .before .before .before .before .before
+
+  abbrev a-from-return : descend-lts.After-a (descend-callees t) (descend-at t) descend.Post
+  a-from-return = a-from-apply-call (apply-from-return .before)
+
+module _ {t : ℕ} (c : descend-lts.After-slice-known18 (descend-callees t) (descend-at t) descend.Post) where
+  abbrev join-from-return-2 : descend-lts.After-join (descend-callees t) (descend-at t) descend.Post
+  join-from-return-2 = c .before .before .before .before .before .before .before .before .before .before .before .before
+
+  abbrev s-from-return-2 : descend-lts.After-s (descend-callees t) (descend-at t) descend.Post
+  s-from-return-2 = s-from-join-call (join-from-return-2 .before)
+
+-- where the step is known
+module _ {t : ℕ} (d : descend-lts.After-step-of (descend-callees t) (descend-at t) descend.Post) where
+  abbrev ds : descend-lts.Start (descend-callees t) (descend-at t) descend.Post
+  ds = start-from-step-of d
+
+  d-step : stepOf (d-op ds) (sidesOf (d-table ds .vars) (d-table ds .lows) (d-table ds .highs) (d-f ds) (d-g ds)) ≡ d .step-of .result
+  d-step = sym (d .step-of .ensures ∙ ap (stepOf (d-op ds)) (d .before .sides-of .ensures))
+
+-- one pair is left
+module _ {t : ℕ} (d : descend-lts.After-a (descend-callees t) (descend-at t) descend.Post) where
+  abbrev ds₁ : descend-lts.Start (descend-callees t) (descend-at t) descend.Post
+  ds₁ = start-from-a d
+
+  d-one : OneLeft (d-op ds₁) (d-memo ds₁) (d-table ds₁) (d-f ds₁) (d-g ds₁) (d .a .given .0 .0 .0) (d .a .given .0 .1 .0 .0)
+  d-one = step-one (d-op ds₁) (d-memo ds₁) (d-table ds₁) (d-f ds₁) (d-g ds₁) (d-ready ds₁) (d-two ds₁) (d .a .given .0 .0) (d .a .given .0 .1 .0) (d-step (d .before .before) ∙ d .a .given .1)
+
+-- both sides are
+module _ {t : ℕ} (d : descend-lts.After-s (descend-callees t) (descend-at t) descend.Post) where
+  abbrev ds₂ : descend-lts.Start (descend-callees t) (descend-at t) descend.Post
+  ds₂ = start-from-s d
+
+  d-both : BothLeft (d-op ds₂) (d-memo ds₂) (d-table ds₂) (d-f ds₂) (d-g ds₂) (d .s .given .0 .0)
+  d-both = step-both (d-op ds₂) (d-memo ds₂) (d-table ds₂) (d-f ds₂) (d-g ds₂) (d-ready ds₂) (d-two ds₂) (d .s .given .0 .0) (d-step (d .before .before) ∙ d .s .given .1)
+
+sides-of-requires : (t : ℕ) → descend-lts.Need-sides-of-requires (descend-callees t) (descend-at t) descend.Post
+sides-of-requires t c κs =
+    let s = start-from-sides-of-call c in columns-hold (d-op s) (d-memo s) (d-table s) (d-f s) (d-g s) (d-ready s)
+
+step-of-requires : (t : ℕ) → descend-lts.Need-step-of-requires (descend-callees t) (descend-at t) descend.Post
+step-of-requires t c κs =
+    let s = start-from-step-of-call c in
+    sides-ask (d-op s) (d-memo s) (d-table s) (d-f s) (d-g s) (d-ready s) (d-two s) (c .sides-of .result) (c .sides-of .ensures)
+
+enum-known-a : (t : ℕ) → descend-lts.Need-enum-known-a (descend-callees t) (descend-at t) descend.Post
+enum-known-a t c =
+    search needs
+
+apply-requires : (t : ℕ) → descend-lts.Need-apply-requires (descend-callees t) (descend-at t) descend.Post
+apply-requires t c κs =
+    let d = a-from-apply-call c in
+    (omega (arith, d-measure (start-from-apply-call c), d-one d .after, d-one d .most), d-one d .ready)
+
+enum-known-s : (t : ℕ) → descend-lts.Need-enum-known-s (descend-callees t) (descend-at t) descend.Post
+enum-known-s t c =
+    search needs
+
+join-requires : (t : ℕ) → descend-lts.Need-join-requires (descend-callees t) (descend-at t) descend.Post
+join-requires t c κs =
+    let d = s-from-join-call c in
+    (omega (arith, d-measure (start-from-join-call c), d-both d .variable), d-both d .ready)
+
+same-length : (t : ℕ) → descend-lts.Need-same-length (descend-callees t) (descend-at t) descend.Post
+same-length t c =
+    apply-from-return c .apply .kept .0
+
+same-length-2 : (t : ℕ) → descend-lts.Need-same-length-2 (descend-callees t) (descend-at t) descend.Post
+same-length-2 t c =
+    apply-from-return c .apply .kept .1 .0
+
+same-length-3 : (t : ℕ) → descend-lts.Need-same-length-3 (descend-callees t) (descend-at t) descend.Post
+same-length-3 t c =
+    apply-from-return c .apply .kept .1 .1 .0
+
+same-length-4 : (t : ℕ) → descend-lts.Need-same-length-4 (descend-callees t) (descend-at t) descend.Post
+same-length-4 t c =
+    apply-from-return c .apply .kept .1 .1 .1 .0
+
+same-length-5 : (t : ℕ) → descend-lts.Need-same-length-5 (descend-callees t) (descend-at t) descend.Post
+same-length-5 t c =
+    apply-from-return c .apply .kept .1 .1 .1 .1 .0
+
+same-length-6 : (t : ℕ) → descend-lts.Need-same-length-6 (descend-callees t) (descend-at t) descend.Post
+same-length-6 t c =
+    apply-from-return c .apply .kept .1 .1 .1 .1 .1 .0
+
+returns : (t : ℕ) → descend-lts.Need-returns (descend-callees t) (descend-at t) descend.Post
+returns t c =
+    (apply-from-return c .apply .ensures .0 ∙ d-one (a-from-return c) .is, apply-from-return c .apply .ensures .1)
+
+same-length-7 : (t : ℕ) → descend-lts.Need-same-length-7 (descend-callees t) (descend-at t) descend.Post
+same-length-7 t c =
+    join-from-return-2 c .join .kept .0
+
+same-length-8 : (t : ℕ) → descend-lts.Need-same-length-8 (descend-callees t) (descend-at t) descend.Post
+same-length-8 t c =
+    join-from-return-2 c .join .kept .1 .0
+
+same-length-9 : (t : ℕ) → descend-lts.Need-same-length-9 (descend-callees t) (descend-at t) descend.Post
+same-length-9 t c =
+    join-from-return-2 c .join .kept .1 .1 .0
+
+same-length-10 : (t : ℕ) → descend-lts.Need-same-length-10 (descend-callees t) (descend-at t) descend.Post
+same-length-10 t c =
+    join-from-return-2 c .join .kept .1 .1 .1 .0
+
+same-length-11 : (t : ℕ) → descend-lts.Need-same-length-11 (descend-callees t) (descend-at t) descend.Post
+same-length-11 t c =
+    join-from-return-2 c .join .kept .1 .1 .1 .1 .0
+
+same-length-12 : (t : ℕ) → descend-lts.Need-same-length-12 (descend-callees t) (descend-at t) descend.Post
+same-length-12 t c =
+    join-from-return-2 c .join .kept .1 .1 .1 .1 .1 .0
+
+returns-2 : (t : ℕ) → descend-lts.Need-returns-2 (descend-callees t) (descend-at t) descend.Post
+returns-2 t c =
+    (join-from-return-2 c .join .ensures .0 ∙ d-both (s-from-return-2 c) .is, join-from-return-2 c .join .ensures .1)
+
+pub descend-met : {M : Type 1} (t : ℕ) → descend-lts.Closed (descend-callees t) (descend-at t) descend.Post M
+descend-met t =
+    descend-lts.spec (descend-callees t) (descend-at t) descend.Post
+    (sides-of-requires t)
+    (step-of-requires t)
+    (enum-known-a t)
+    (apply-requires t)
+    (enum-known-s t)
+    (join-requires t)
+    (same-length t)
+    (same-length-2 t)
+    (same-length-3 t)
+    (same-length-4 t)
+    (same-length-5 t)
+    (same-length-6 t)
+    (returns t)
+    (same-length-7 t)
+    (same-length-8 t)
+    (same-length-9 t)
+    (same-length-10 t)
+    (same-length-11 t)
+    (same-length-12 t)
+    (returns-2 t)
