@@ -5,3 +5,4 @@ pub mod Replacing
 pub mod Quieting
 pub mod Taking
 pub mod Rounds
+pub mod OneByOne

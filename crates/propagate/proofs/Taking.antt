@@ -8,7 +8,7 @@ use Prim.Native.Nat.{ℕ, zero, suc, _+_, _-_, _^_, _≤_, _<_}
 use native.Mathlib.Omega.{arith}
 use native.Mathlib.Numerals.{add-one}
 use native.Mathlib.Decide.{ℕ-discrete, decLt}
-use lib.ListN.{length, getD, drop, drop-of-length-le}
+use lib.ListN.{length, getD, drop, length-map, drop-of-length-le}
 use lib.Seq.{drop-cons}
 use lib.Bits.{bitAnd}
 use Rattle.meaning.specs.Diagram.{Diagram, leaf}
@@ -153,3 +153,17 @@ module _ (t : List Node) (list : List ℕ) where
       first-passed i (omega arith) (λ k p. U k (omega arith))
       ∙ first-later 64 t list i (omega arith) (ap (hasUnit 64 64) (sym (member-is i (omega arith))) ∙ U i (omega arith))
       ∙ ap (λ (j : ℕ). firstWithUnit 64 (diagramsOf t (drop j list))) (add-one i)
+
+-- ---- the member at a place before which none has a unit
+
+module _ (t : List Node) (list : List ℕ) (i : ℕ) (inside : i < length list) (U : Unitless (diagramsOf t list) i) (u : Literals) (units : UnitsAt 64 t (getD list i 0) u) where
+  pub taken-here : u .positive < 2 ^ 64 → u .negative < 2 ^ 64 → ((u .positive ≡ 0) × (u .negative ≡ 0) → ⊥)
+      → Taken 64 (diagramsOf t list) u × (i ≤ length (diagramsOf t list)) × Unitless (diagramsOf t list) i
+  taken-here fits-p fits-n any = (
+    first-here 64 t list i inside (first-passed t list i (omega arith) U) (words-some 64 t (getD list i 0) u units fits-p fits-n any) u units,
+    omega (arith, length-map list (diagramAt t)),
+    U,
+  )
+
+  pub unitless-here : u .positive ≡ 0 → u .negative ≡ 0 → Unitless (diagramsOf t list) (i + 1)
+  unitless-here p q = unitless-next (diagramsOf t list) i U (ap (hasUnit 64 64) (member-is t list i inside) ∙ words-empty 64 t (getD list i 0) u units p q)

@@ -168,7 +168,7 @@ fn member_by(
 }
 
 // Replaces each listed node, in order, by the operation's result on it and g, or stops at `full`. One memo, cleared, serves all. The words
-// have the listed nodes' variables, and still do after it.
+// have the listed nodes' variables, and still do after it; a node that has none of the operation's is passed over.
 pub fn all_by(
     vars: &mut [u8],
     lows: &mut [u16],
@@ -210,32 +210,36 @@ pub fn all_by(
     let mut written: usize = 0;
     let mut i: usize = 0;
     while i < list.len() {
-        let r = member_by(
-            vars,
-            lows,
-            highs,
-            heads,
-            links,
-            memo,
-            list,
-            words,
-            n,
-            op,
-            g,
-            touching,
-            thin,
-            i,
-        );
-        n = r.count;
-        written += r.written;
-        if r.full {
-            return Made {
-                full: true,
-                written,
-                count: n,
-            };
+        if words[i] & touching == 0 {
+            i += 1;
+        } else {
+            let r = member_by(
+                vars,
+                lows,
+                highs,
+                heads,
+                links,
+                memo,
+                list,
+                words,
+                n,
+                op,
+                g,
+                touching,
+                thin,
+                i,
+            );
+            n = r.count;
+            written += r.written;
+            if r.full {
+                return Made {
+                    full: true,
+                    written,
+                    count: n,
+                };
+            }
+            i += 1;
         }
-        i += 1;
     }
     Made {
         full: false,

@@ -85,6 +85,23 @@ unfolding SupportMemo
 memo-stored t memo k word inside M new =
     stored (λ (i e : ℕ). i < length t → e ≢ 0 → Support e (diagramAt t i)) memo k word inside (λ p ne. new) (λ i n. M i)
 
+-- ---- all nodes
+
+-- The first k cells have the variables of their nodes.
+abbrev pub Known : List Node → List ℕ → ℕ → Type 0
+Known t memo k = (i : ℕ) → i < k → Support (getD memo i 0) (diagramAt t i)
+
+pub known-leaves : (t : List Node) (memo : List ℕ) → Known t memo 2
+known-leaves t memo i p = support-leaf t i (getD memo i 0) p
+
+pub known-next : (t : List Node) (memo : List ℕ) (k word : ℕ) → k < length memo → Known t memo k → Support word (diagramAt t k) → Known t (set memo k word) (k + 1)
+known-next t memo k word inside K new =
+    stored (λ (i e : ℕ). i < k + 1 → Support e (diagramAt t i)) memo k word inside (λ p. new) (λ i n p. K i (omega (arith, n)))
+
+pub known-all : (t : List Node) (memo : List ℕ) (k : ℕ) → length t ≤ k → Known t memo k → SupportMemo memo t
+unfolding SupportMemo
+known-all t memo k all K i p ne = K i (omega arith)
+
 -- ---- a list
 
 -- The first i listed nodes have their words.

@@ -50,7 +50,23 @@ pub fn support_from(
     word
 }
 
-// Fills the words with the variables of the listed nodes. The memo, cleared first, then holds those of all nodes met.
+// Fills the memo with the words of all nodes, each from those of its children, which stand before it.
+fn all_supports(vars: &[u8], lows: &[u16], highs: &[u16], memo: &mut [u64], count: usize)
+    requires { ⌜ Readable (now vars) (now lows) (now highs) count × Roomy (now vars) (now memo) ⌝ }
+    ensures { λ _. ⌜ SupportMemo (now (memo .exit)) (nodesIn (now (vars .entry)) (now (lows .entry)) (now (highs .entry)) count) ⌝ }
+{
+    walks::clear_cells(memo, 2);
+    let mut k: usize = 2;
+    while k < count {
+        let low = lows[k] as usize;
+        let high = highs[k] as usize;
+        memo[k] = with_variable(memo[low] | memo[high], vars[k]);
+        k += 1;
+    }
+}
+
+// Fills the words with the variables of the listed nodes. Where few nodes are listed, each is walked from with a cleared memo; else the
+// memo is filled first, in one pass over all nodes, and holds every word asked for.
 pub fn supports_of(
     vars: &[u8],
     lows: &[u16],
@@ -69,7 +85,11 @@ pub fn supports_of(
         Supports nodes (now (list .entry)) (now (words .exit))) ⌝ }
     ensures { λ _. ⌜ SupportMemo (now (memo .exit)) (nodesIn (now (vars .entry)) (now (lows .entry)) (now (highs .entry)) count) ⌝ }
 {
-    walks::clear_cells(memo, count);
+    if list.len() < count / 16 {
+        walks::clear_cells(memo, count);
+    } else {
+        all_supports(vars, lows, highs, memo, count);
+    }
     let mut i: usize = 0;
     while i < list.len() {
         let f = NodeNo(list[i]);

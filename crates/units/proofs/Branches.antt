@@ -110,7 +110,7 @@ module _ (n : ℕ) (vs ls hs : List ℕ) (count : ℕ) (R : Readable vs ls hs co
   unit-of : (j v : ℕ) (s : Bool) → j < count → 1 ≤ v → v ≤ n → isUnit n (diagramAt t j) v s ≡ unitAt (diagramAt t j) v s
   unit-of j v s p lo hi = isUnit-is n (diagramAt t j) v s (narrow j (within j p)) lo hi
 
-  unit-node : (v : ℕ) (s : Bool) → 1 ≤ v → v ≤ n
+  pub unit-node : (v : ℕ) (s : Bool) → 1 ≤ v → v ≤ n
       → isUnit n (diagramAt t k) v s ≡ ((isUnit n (diagramAt t l) v s && isUnit n (diagramAt t h) v s) || (eqb w v && eqb (cond s l h) 0))
   unfolding unitAt
   unit-node v s lo hi =

@@ -2,7 +2,7 @@
 use mathlib.Core.Path.{_≡_}
 use mathlib.Core.Bool.{Bool, true, _&&_, _||_, cond}
 use mathlib.Core.List.{List}
-use Prim.Native.Nat.{ℕ, suc, _+_, _≤_, _<_}
+use Prim.Native.Nat.{ℕ, suc, _+_, _-_, _^_, _≤_, _<_}
 use lib.ListN.{length, getD}
 use lib.Dec.{eqb, ltb}
 use Rattle.meaning.specs.Diagram.{Reduced}
@@ -11,6 +11,8 @@ use Rattle.words.specs.declared.Literals.{Literals}
 use Rattle.words.specs.Sets.{without, has}
 use Rattle.table.specs.Nodes.{Node, at, diagramAt}
 use Rattle.walks.specs.Readable.{Readable, Roomy, nodesIn}
+use Rattle.units.specs.declared.AtTop.{AtTop}
+use Rattle.units.specs.declared.AtTop.the-variants.{Known, Unknown}
 
 -- The set is U of node k, of n variables: "the literals l with f 0 wherever l is false". (01, The rules; 002, section 3)
 unfoldable pub UnitsAt : ℕ → List Node → ℕ → Literals → Type 0
@@ -60,3 +62,14 @@ pub record StrikeReady (vs ls hs memo : List ℕ) (count k from stamp : ℕ) (al
   pub reached : 2 ≤ k → from ≤ getD vs k 0
   pub right : Marked 64 memo (nodesIn vs ls hs count) stamp alive
   pub marks : MarksBelow count memo (stamp + 1)
+
+-- ---- what the node alone tells
+
+-- The word of the variable v where the side is node 0.
+unfoldable pub literalWhere : ℕ → ℕ → ℕ
+literalWhere v side = cond (eqb side 0) (2 ^ (v - 1)) 0
+
+-- What is known is U of node k.
+abbrev pub KnownAt : ℕ → List Node → ℕ → AtTop → Type 0
+KnownAt n t k (Known units) = UnitsAt n t k units
+KnownAt n t k Unknown = Unit {0}

@@ -4,7 +4,7 @@ use words::Literals;
 ghost use mathlib.Core.Path.{_≡_};
 ghost use Prim.Native.Nat.{_+_, _≤_, _<_};
 ghost use Rattle.walks.specs.Readable.{Readable, Roomy, nodesIn};
-ghost use Rattle.units.specs.Units.{UnitsAt, past, struckTo, Struck, Marked, MarksBelow, StrikeReady};
+ghost use Rattle.units.specs.Units.{UnitsAt, past, struckTo, Struck, Marked, MarksBelow, StrikeReady, KnownAt, literalWhere};
 
 // U(f): the literals that are true wherever f is. All literals for node 0, none for node 1. The stamp is above all marks in the memo, so
 // that one clearing serves many walks.
@@ -94,4 +94,50 @@ fn strike_to(alive: Literals, from: u8, p: u8, n: u8) -> Literals
         positive: words::without(alive.positive, from, p),
         negative: words::without(alive.negative, from, n),
     }
+}
+
+// What a node alone tells of its units.
+pub enum AtTop {
+    Known(Literals),
+    Unknown,
+}
+
+// U(f) where the node alone tells it: node 1 has no unit, and a node with 1 for a child none but its own literal, where the other child
+// is 0. Needs no memo.
+pub fn units_at_top(vars: &[u8], lows: &[u16], highs: &[u16], count: usize, f: NodeNo) -> AtTop
+    requires { ⌜ Readable (now vars) (now lows) (now highs) count × (f .0 < count) ⌝ }
+    ensures { λ r. ⌜ KnownAt 64 (nodesIn (now (vars .entry)) (now (lows .entry)) (now (highs .entry)) count) (f .0) r ⌝ }
+{
+    if f.0 == 0 {
+        return AtTop::Unknown;
+    }
+    if f.0 == 1 {
+        return AtTop::Known(Literals {
+            positive: 0,
+            negative: 0,
+        });
+    }
+    let i = f.0 as usize;
+    let v = vars[i];
+    let low = lows[i];
+    let high = highs[i];
+    if low == 1 || high == 1 {
+        return AtTop::Known(Literals {
+            positive: literal_where(v, low),
+            negative: literal_where(v, high),
+        });
+    }
+    AtTop::Unknown
+}
+
+// The variable alone where the side is 0, else none.
+fn literal_where(v: u8, side: u16) -> u64
+    requires { ⌜ (1 ≤ v) × (v ≤ 64) ⌝ }
+    ensures { λ r. ⌜ r ≡ literalWhere v side ⌝ }
+{
+    if side == 0 {
+        let i = (v - 1) as u64;
+        return 1 << i;
+    }
+    0
 }

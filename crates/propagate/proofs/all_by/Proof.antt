@@ -1,5 +1,4 @@
--- The members are replaced one by one: `Replacing` holds at each, the words have the members' variables, and what was written is what
--- changed. Assumes nothing.
+-- The members are made one by one, or passed over: `Making` holds at each. Assumes nothing.
 use mathlib.Core.Path.{_≡_, refl, sym, _∙_, subst}
 use mathlib.Core.List.{List}
 use Prim.Native.Nat.{ℕ, _+_, _-_, _≤_, _<_}
@@ -12,19 +11,16 @@ use Rattle.table.specs.Lists.{diagramsOf}
 use Rattle.supports.specs.Supports.{Supports}
 use Rattle.operate.proofs.Passing.{some-table}
 use Rattle.propagate.specs.Made.{results}
-use Rattle.propagate.proofs.Counting.{Counting, counting-none}
-use Rattle.propagate.proofs.Quieting.{Rewording, rewording-none, rewording-next, rewording-all}
-use Rattle.propagate.proofs.Replacing.{Replacing, replacing-none, member-ready, member-supported, touches-now}
-use Rattle.propagate.proofs.Replacing.{stopped, replaced, supported, counted, all-replaced, all-counted}
+use Rattle.propagate.proofs.Counting.{counting-none}
+use Rattle.propagate.proofs.Quieting.{rewording-none, rewording-all}
+use Rattle.propagate.proofs.Replacing.{replacing-none, stopped, all-replaced, all-counted}
+use Rattle.propagate.proofs.OneByOne.{Making, ready, has, touches-here, making-next, making-passed}
 use Rattle.propagate.proofs.all_by.Statement.{statement}
 use Rattle.propagate.proofs.all_by.Tie as tie
 
 abbrev Inv-loop : tie.InvT-loop
 Inv-loop vars₀ lows₀ highs₀ heads₀ links₀ memo₀ list₀ words₀ count op g touching thin n₀ written₀ i₀ vars lows highs heads links memo list words n written i =
-    Replacing op (g .0) (tableOf vars₀ lows₀ highs₀ heads₀ links₀ count) list₀ (tableOf vars lows highs heads links n) list memo i
-    × Supports (nodesOf (tableOf vars lows highs heads links n)) list words
-    × Rewording words₀ words touching i
-    × Counting (diagramsOf (nodesOf (tableOf vars₀ lows₀ highs₀ heads₀ links₀ count)) list₀) (results op (tableOf vars₀ lows₀ highs₀ heads₀ links₀ count) list₀ (g .0)) i written
+    Making op (g .0) touching (tableOf vars₀ lows₀ highs₀ heads₀ links₀ count) list₀ words₀ (tableOf vars lows highs heads links n) list words memo i written
     × (length vars ≡ length vars₀) × (length lows ≡ length lows₀) × (length highs ≡ length highs₀) × (length heads ≡ length heads₀) × (length links ≡ length links₀)
     × (length memo ≡ length memo₀)
 
@@ -52,36 +48,68 @@ module _ (c : tie.After-clear-memo-arg Inv-loop μ-loop) where
   abbrev start-from-clear-memo-call : tie.Start Inv-loop μ-loop
   start-from-clear-memo-call = c .before .before .before .before .before .before .before .before .before
 
+module _ (c : tie.After-clear-memo Inv-loop μ-loop) where
+  abbrev start-from-clear-memo : tie.Start Inv-loop μ-loop
+  start-from-clear-memo = c .before .before .before .before .before .before .before .before .before .before
+
 module _ (c : tie.After-is-thin-arg2 Inv-loop μ-loop) where
   abbrev clear-memo-from-is-thin-call : tie.After-clear-memo Inv-loop μ-loop
   clear-memo-from-is-thin-call = c .before .before .before .before
 
   abbrev start-from-is-thin-call : tie.Start Inv-loop μ-loop
-  start-from-is-thin-call = start-from-clear-memo-call (clear-memo-from-is-thin-call .before)
+  start-from-is-thin-call = start-from-clear-memo clear-memo-from-is-thin-call
 
 module _ (c : tie.After-is-thin Inv-loop μ-loop) where
   abbrev clear-memo-from-loop-holds : tie.After-clear-memo Inv-loop μ-loop
-  clear-memo-from-loop-holds = clear-memo-from-is-thin-call (c .before)
+  clear-memo-from-loop-holds = c .before .before .before .before .before
 
   abbrev start-from-loop-holds : tie.Start Inv-loop μ-loop
-  start-from-loop-holds = start-from-clear-memo-call (clear-memo-from-loop-holds .before)
+  start-from-loop-holds = start-from-clear-memo clear-memo-from-loop-holds
+
+module _ (c : tie.At-loop Inv-loop μ-loop) where
+  abbrev clear-memo-from-at-loop : tie.After-clear-memo Inv-loop μ-loop
+  clear-memo-from-at-loop = c .before .before .before .before .before .before
 
 module _ (c : tie.After-loop Inv-loop μ-loop) where
   abbrev at-loop-from-return-2 : tie.At-loop Inv-loop μ-loop
   at-loop-from-return-2 = c .before
 
   abbrev start-from-return-2 : tie.Start Inv-loop μ-loop
-  start-from-return-2 = start-from-is-thin-call (at-loop-from-return-2 .before .before)
+  start-from-return-2 = start-from-clear-memo (clear-memo-from-at-loop at-loop-from-return-2)
+
+module _ (c : tie.After-slice-known10 Inv-loop μ-loop) where
+  abbrev in-loop-from-slice-read-if1 : tie.In-loop Inv-loop μ-loop
+  in-loop-from-slice-read-if1 = c .before
+
+  abbrev at-loop-from-slice-read-if1 : tie.At-loop Inv-loop μ-loop
+  at-loop-from-slice-read-if1 = in-loop-from-slice-read-if1 .before
+
+  abbrev start-from-slice-read-if1 : tie.Start Inv-loop μ-loop
+  start-from-slice-read-if1 = start-from-clear-memo (clear-memo-from-at-loop at-loop-from-slice-read-if1)
+
+module _ (c : tie.Then1 Inv-loop μ-loop) where
+  abbrev in-loop-from-then1 : tie.In-loop Inv-loop μ-loop
+  in-loop-from-then1 = c .before .before
+
+  abbrev at-loop-from-then1 : tie.At-loop Inv-loop μ-loop
+  at-loop-from-then1 = in-loop-from-then1 .before
+
+  abbrev start-from-then1 : tie.Start Inv-loop μ-loop
+  start-from-then1 = start-from-clear-memo (clear-memo-from-at-loop at-loop-from-then1)
 
 module _ (c : tie.After-member-by-arg8 Inv-loop μ-loop) where
   abbrev in-loop-from-member-by-call : tie.In-loop Inv-loop μ-loop
-  in-loop-from-member-by-call = c .before .before .before .before .before .before .before .before
+  in-loop-from-member-by-call = c .before .before .before .before .before .before .before .before .before .before
 
   abbrev at-loop-from-member-by-call : tie.At-loop Inv-loop μ-loop
   at-loop-from-member-by-call = in-loop-from-member-by-call .before
 
   abbrev start-from-member-by-call : tie.Start Inv-loop μ-loop
-  start-from-member-by-call = start-from-is-thin-call (at-loop-from-member-by-call .before .before)
+  start-from-member-by-call = start-from-clear-memo (clear-memo-from-at-loop at-loop-from-member-by-call)
+
+module _ (c : tie.After-member-by Inv-loop μ-loop) where
+  abbrev in-loop-from-member-by : tie.In-loop Inv-loop μ-loop
+  in-loop-from-member-by = c .before .before .before .before .before .before .before .before .before .before .before
 
 module _ (c : tie.After-struct-known Inv-loop μ-loop) where
   abbrev member-by-from-add-written : tie.After-member-by Inv-loop μ-loop
@@ -89,42 +117,41 @@ module _ (c : tie.After-struct-known Inv-loop μ-loop) where
       .before .before .before .before
 
   abbrev in-loop-from-add-written : tie.In-loop Inv-loop μ-loop
-  in-loop-from-add-written = in-loop-from-member-by-call (member-by-from-add-written .before)
+  in-loop-from-add-written = in-loop-from-member-by member-by-from-add-written
 
   abbrev at-loop-from-add-written : tie.At-loop Inv-loop μ-loop
   at-loop-from-add-written = in-loop-from-add-written .before
 
-  abbrev start-from-add-written : tie.Start Inv-loop μ-loop
-  start-from-add-written = start-from-is-thin-call (at-loop-from-add-written .before .before)
+module _ (c : tie.Else2 Inv-loop μ-loop) where
+  abbrev member-by-from-else2 : tie.After-member-by Inv-loop μ-loop
+  member-by-from-else2 = c .before .before .before .before .before .before .before .before .before .before .before .before .before .before
+      .before .before .before .before
 
-module _ (c : tie.Else1 Inv-loop μ-loop) where
-  abbrev member-by-from-else1 : tie.After-member-by Inv-loop μ-loop
-  member-by-from-else1 = member-by-from-add-written (c .before)
+  abbrev in-loop-from-else2 : tie.In-loop Inv-loop μ-loop
+  in-loop-from-else2 = in-loop-from-member-by member-by-from-else2
 
-  abbrev in-loop-from-else1 : tie.In-loop Inv-loop μ-loop
-  in-loop-from-else1 = in-loop-from-member-by-call (member-by-from-else1 .before)
+  abbrev at-loop-from-else2 : tie.At-loop Inv-loop μ-loop
+  at-loop-from-else2 = in-loop-from-else2 .before
 
-  abbrev at-loop-from-else1 : tie.At-loop Inv-loop μ-loop
-  at-loop-from-else1 = in-loop-from-else1 .before
+  abbrev start-from-else2 : tie.Start Inv-loop μ-loop
+  start-from-else2 = start-from-clear-memo (clear-memo-from-at-loop at-loop-from-else2)
 
-  abbrev start-from-else1 : tie.Start Inv-loop μ-loop
-  start-from-else1 = start-from-is-thin-call (at-loop-from-else1 .before .before)
+module _ (c : tie.Then2 Inv-loop μ-loop) where
+  abbrev member-by-from-then2 : tie.After-member-by Inv-loop μ-loop
+  member-by-from-then2 = c .before .before .before .before .before .before .before .before .before .before .before .before .before .before
+      .before .before .before .before
 
-module _ (c : tie.Then1 Inv-loop μ-loop) where
-  abbrev member-by-from-then1 : tie.After-member-by Inv-loop μ-loop
-  member-by-from-then1 = member-by-from-add-written (c .before)
+  abbrev in-loop-from-then2 : tie.In-loop Inv-loop μ-loop
+  in-loop-from-then2 = in-loop-from-member-by member-by-from-then2
 
-  abbrev in-loop-from-then1 : tie.In-loop Inv-loop μ-loop
-  in-loop-from-then1 = in-loop-from-member-by-call (member-by-from-then1 .before)
+  abbrev at-loop-from-then2 : tie.At-loop Inv-loop μ-loop
+  at-loop-from-then2 = in-loop-from-then2 .before
 
-  abbrev at-loop-from-then1 : tie.At-loop Inv-loop μ-loop
-  at-loop-from-then1 = in-loop-from-then1 .before
+  abbrev clear-memo-from-then2 : tie.After-clear-memo Inv-loop μ-loop
+  clear-memo-from-then2 = clear-memo-from-at-loop at-loop-from-then2
 
-  abbrev clear-memo-from-then1 : tie.After-clear-memo Inv-loop μ-loop
-  clear-memo-from-then1 = clear-memo-from-is-thin-call (at-loop-from-then1 .before .before)
-
-  abbrev start-from-then1 : tie.Start Inv-loop μ-loop
-  start-from-then1 = start-from-clear-memo-call (clear-memo-from-then1 .before)
+  abbrev start-from-then2 : tie.Start Inv-loop μ-loop
+  start-from-then2 = start-from-clear-memo clear-memo-from-then2
 
 clear-memo-requires : tie.Need-clear-memo-requires Inv-loop μ-loop
 clear-memo-requires c κs =
@@ -140,16 +167,55 @@ loop-holds c =
     let a = s .args in
     let r = s .pre in
     let y = clear-memo-from-loop-holds c .clear-memo in (
-      replacing-none (a .op) (a .g .0) (entry s) (a .list .now) (a .memo .now) (r .0 .0) (r .0 .1) (y .last .0) (y .ensures (a .op) (entry s)),
-      r .1 .1,
-      rewording-none (a .words .now) (a .touching),
-      counting-none (diagramsOf (nodesOf (entry s)) (a .list .now)) (results (a .op) (entry s) (a .list .now) (a .g .0)),
+      record {
+        members = replacing-none (a .op) (a .g .0) (entry s) (a .list .now) (a .memo .now) (r .0 .0) (r .0 .1) (y .last .0) (y .ensures (a .op) (entry s));
+        supports = r .1 .1;
+        rewords = rewording-none (a .words .now) (a .touching);
+        counts = counting-none (diagramsOf (nodesOf (entry s)) (a .list .now)) (results (a .op) (entry s) (a .list .now) (a .g .0));
+      },
       refl,
       refl,
       refl,
       refl,
       refl,
       refl,
+    )
+
+mul-if1 : tie.Need-mul-if1 Inv-loop μ-loop
+mul-if1 c =
+    search needs
+
+slice-read-if1 : tie.Need-slice-read-if1 Inv-loop μ-loop
+slice-read-if1 c =
+    let l = at-loop-from-slice-read-if1 c in
+    omega (arith, l .loop .inv .0 .rewords .lengths, l .loop .inv .0 .members .members, start-from-slice-read-if1 c .pre .1 .0, in-loop-from-slice-read-if1 c .loop-test .taken)
+
+next-fits : (c : tie.In-loop Inv-loop μ-loop) → c .before .loop .i + 1 < 18446744073709551616
+next-fits c =
+    omega arith
+
+add-i : tie.Need-add-i Inv-loop μ-loop
+add-i c =
+    omega (arith, next-fits (in-loop-from-then1 c))
+
+loop-less : tie.Need-loop-less Inv-loop μ-loop
+loop-less c =
+    omega (arith, in-loop-from-then1 c .loop-test .taken, at-loop-from-then1 c .loop .inv .0 .members .members)
+
+loop-again : tie.Need-loop-again Inv-loop μ-loop
+loop-again c =
+    let s = start-from-then1 c in
+    let a = s .args in
+    let r = s .pre in
+    let l = at-loop-from-then1 c in
+    let w = l .loop in (
+      making-passed (a .op) (a .g .0) (a .touching) (entry s) (a .list .now) (a .words .now) (a .memo .now) (r .0 .0) (r .0 .1) (r .0 .2) (r .1 .0) (r .1 .2) (here l) (w .list) (w .words) (w .memo) (w .i) (w .written) (w .inv .0) (in-loop-from-then1 c .loop-test .taken) (c .if1 .taken),
+      w .inv .1,
+      w .inv .2,
+      w .inv .3,
+      w .inv .4,
+      w .inv .5,
+      w .inv .6,
     )
 
 member-by-requires : tie.Need-member-by-requires Inv-loop μ-loop
@@ -161,100 +227,85 @@ member-by-requires c κs =
     let w = l .loop in
     let t = in-loop-from-member-by-call c .loop-test .taken in (
       t,
-      omega (arith, w .inv .2 .lengths, w .inv .0 .members, r .1 .0, t),
-      member-ready (a .op) (a .g .0) (entry s) (a .list .now) (a .memo .now) (r .0 .0) (r .0 .1) (r .0 .2) (here l) (w .list) (w .memo) (w .i) (w .inv .0) t,
-      member-supported (a .op) (a .g .0) (entry s) (a .list .now) (a .memo .now) (r .0 .0) (r .0 .1) (r .0 .2) (here l) (w .list) (w .memo) (w .i) (w .inv .0) t (w .words) (w .inv .1),
-      touches-now (a .op) (a .g .0) (entry s) (a .list .now) (a .memo .now) (r .0 .0) (r .0 .1) (r .0 .2) (here l) (w .list) (w .memo) (w .i) (w .inv .0) t (a .touching) (r .1 .2),
+      omega (arith, w .inv .0 .rewords .lengths, w .inv .0 .members .members, r .1 .0, t),
+      ready (a .op) (a .g .0) (a .touching) (entry s) (a .list .now) (a .words .now) (a .memo .now) (r .0 .0) (r .0 .1) (r .0 .2) (r .1 .0) (r .1 .2) (here l) (w .list) (w .words) (w .memo) (w .i) (w .written) (w .inv .0) t,
+      has (a .op) (a .g .0) (a .touching) (entry s) (a .list .now) (a .words .now) (a .memo .now) (r .0 .0) (r .0 .1) (r .0 .2) (r .1 .0) (r .1 .2) (here l) (w .list) (w .words) (w .memo) (w .i) (w .written) (w .inv .0) t,
+      touches-here (a .op) (a .g .0) (a .touching) (entry s) (a .list .now) (a .words .now) (a .memo .now) (r .0 .0) (r .0 .1) (r .0 .2) (r .1 .0) (r .1 .2) (here l) (w .list) (w .words) (w .memo) (w .i) (w .written) (w .inv .0) t,
     )
 
 add-written : tie.Need-add-written Inv-loop μ-loop
 add-written c =
     let l = at-loop-from-add-written c in
-    let s = start-from-add-written c in
-    omega (arith, l .loop .inv .3 .most, member-by-from-add-written c .member-by .ensures .0 .most, in-loop-from-add-written c .loop-test .taken)
+    omega (arith, l .loop .inv .0 .counts .most, member-by-from-add-written c .member-by .ensures .0 .most, next-fits (in-loop-from-add-written c))
 
 same-length : tie.Need-same-length Inv-loop μ-loop
 same-length c =
-    member-by-from-then1 c .member-by .kept .0 ∙ at-loop-from-then1 c .loop .inv .4
+    member-by-from-then2 c .member-by .kept .0 ∙ at-loop-from-then2 c .loop .inv .1
 
 same-length-2 : tie.Need-same-length-2 Inv-loop μ-loop
 same-length-2 c =
-    member-by-from-then1 c .member-by .kept .1 .0 ∙ at-loop-from-then1 c .loop .inv .5
+    member-by-from-then2 c .member-by .kept .1 .0 ∙ at-loop-from-then2 c .loop .inv .2
 
 same-length-3 : tie.Need-same-length-3 Inv-loop μ-loop
 same-length-3 c =
-    member-by-from-then1 c .member-by .kept .1 .1 .0 ∙ at-loop-from-then1 c .loop .inv .6
+    member-by-from-then2 c .member-by .kept .1 .1 .0 ∙ at-loop-from-then2 c .loop .inv .3
 
 same-length-4 : tie.Need-same-length-4 Inv-loop μ-loop
 same-length-4 c =
-    member-by-from-then1 c .member-by .kept .1 .1 .1 .0 ∙ at-loop-from-then1 c .loop .inv .7
+    member-by-from-then2 c .member-by .kept .1 .1 .1 .0 ∙ at-loop-from-then2 c .loop .inv .4
 
 same-length-5 : tie.Need-same-length-5 Inv-loop μ-loop
 same-length-5 c =
-    member-by-from-then1 c .member-by .kept .1 .1 .1 .1 .0 ∙ at-loop-from-then1 c .loop .inv .8
+    member-by-from-then2 c .member-by .kept .1 .1 .1 .1 .0 ∙ at-loop-from-then2 c .loop .inv .5
 
 same-length-6 : tie.Need-same-length-6 Inv-loop μ-loop
 same-length-6 c =
-    member-by-from-then1 c .member-by .kept .1 .1 .1 .1 .1 .0 ∙ at-loop-from-then1 c .loop .inv .9 ∙ clear-memo-from-then1 c .clear-memo .kept .0
+    member-by-from-then2 c .member-by .kept .1 .1 .1 .1 .1 .0 ∙ at-loop-from-then2 c .loop .inv .6 ∙ clear-memo-from-then2 c .clear-memo .kept .0
 
 same-length-7 : tie.Need-same-length-7 Inv-loop μ-loop
 same-length-7 c =
-    member-by-from-then1 c .member-by .kept .1 .1 .1 .1 .1 .1 .0 ∙ at-loop-from-then1 c .loop .inv .0 .members
+    member-by-from-then2 c .member-by .kept .1 .1 .1 .1 .1 .1 .0 ∙ at-loop-from-then2 c .loop .inv .0 .members .members
 
 same-length-8 : tie.Need-same-length-8 Inv-loop μ-loop
 same-length-8 c =
-    member-by-from-then1 c .member-by .kept .1 .1 .1 .1 .1 .1 .1 .0 ∙ at-loop-from-then1 c .loop .inv .2 .lengths
+    member-by-from-then2 c .member-by .kept .1 .1 .1 .1 .1 .1 .1 .0 ∙ at-loop-from-then2 c .loop .inv .0 .rewords .lengths
 
 returns : tie.Need-returns Inv-loop μ-loop
 returns c =
-    let s = start-from-then1 c in
+    let s = start-from-then2 c in
     let a = s .args in
     let r = s .pre in
-    let l = at-loop-from-then1 c in
+    let l = at-loop-from-then2 c in
     let w = l .loop in
-    let m = member-by-from-then1 c in (
-      stopped (a .op) (a .g .0) (entry s) (a .list .now) (a .memo .now) (r .0 .0) (r .0 .1) (r .0 .2) (here l) (w .list) (w .memo) (w .i) (w .inv .0) (in-loop-from-then1 c .loop-test .taken) (made m) (m .member-by .ensures .0 .outcome) (c .if1 .taken) (m .member-by .last .1 .1 .1 .1 .1 .1 .0),
+    let m = member-by-from-then2 c in (
+      stopped (a .op) (a .g .0) (entry s) (a .list .now) (a .memo .now) (r .0 .0) (r .0 .1) (r .0 .2) (here l) (w .list) (w .memo) (w .i) (w .inv .0 .members) (in-loop-from-then2 c .loop-test .taken) (made m) (m .member-by .ensures .0 .outcome) (c .if2 .taken) (m .member-by .last .1 .1 .1 .1 .1 .1 .0),
       (λ z. t≢f z, (λ z. t≢f z, λ z. t≢f z)),
     )
 
-next-fits : (c : tie.In-loop Inv-loop μ-loop) → c .before .loop .i + 1 < 18446744073709551616
-next-fits c =
-    omega arith
+add-i-2 : tie.Need-add-i-2 Inv-loop μ-loop
+add-i-2 c =
+    omega (arith, next-fits (in-loop-from-else2 c))
 
-add-i : tie.Need-add-i Inv-loop μ-loop
-add-i c =
-    omega (arith, next-fits (in-loop-from-else1 c))
+loop-less-2 : tie.Need-loop-less-2 Inv-loop μ-loop
+loop-less-2 c =
+    omega (arith, in-loop-from-else2 c .loop-test .taken, at-loop-from-else2 c .loop .inv .0 .members .members)
 
-loop-less : tie.Need-loop-less Inv-loop μ-loop
-loop-less c =
-    omega (arith, in-loop-from-else1 c .loop-test .taken, at-loop-from-else1 c .loop .inv .0 .members)
-
-loop-again : tie.Need-loop-again Inv-loop μ-loop
-loop-again c =
-    let s = start-from-else1 c in
+loop-again-2 : tie.Need-loop-again-2 Inv-loop μ-loop
+loop-again-2 c =
+    let s = start-from-else2 c in
     let a = s .args in
     let r = s .pre in
-    let l = at-loop-from-else1 c in
+    let l = at-loop-from-else2 c in
     let w = l .loop in
-    let t = in-loop-from-else1 c .loop-test .taken in
-    let m = member-by-from-else1 c in
-    let y = m .member-by in
-    let e = y .ensures .0 in
-    let f = c .if1 .left in (
-      subst (λ (x : List ℕ). Replacing (a .op) (a .g .0) (entry s) (a .list .now) (made m .table) x (y .last .1 .1 .1 .1 .1 .0) (w .i + 1)) (sym (e .list-is f))
-          (replaced (a .op) (a .g .0) (entry s) (a .list .now) (a .memo .now) (r .0 .0) (r .0 .1) (r .0 .2) (here l) (w .list) (w .memo) (w .i) (w .inv .0) t (made m) (e .outcome) f (y .last .1 .1 .1 .1 .1 .0) (y .ensures .1)),
-      subst (λ (x : List ℕ). Supports (nodesOf (made m .table)) x (y .last .1 .1 .1 .1 .1 .1 .1 .0)) (sym (e .list-is f))
-          (subst (λ (x : List ℕ). Supports (nodesOf (made m .table)) (set (w .list) (w .i) (made m .node)) x) (sym (e .words-is f))
-          (supported (a .op) (a .g .0) (entry s) (a .list .now) (a .memo .now) (r .0 .0) (r .0 .1) (r .0 .2) (here l) (w .list) (w .memo) (w .i) (w .inv .0) t (made m) (e .outcome) f (w .words) (a .touching) (omega (arith, w .inv .2 .lengths, w .inv .0 .members, r .1 .0)) (w .inv .1) (r .1 .2))),
-      subst (λ (x : List ℕ). Rewording (a .words .now) x (a .touching) (w .i + 1)) (sym (e .words-is f))
-          (rewording-next (a .words .now) (w .words) (a .touching) (w .i) (getD (w .list) (w .i) 0) (made m .node) (w .inv .2) (omega (arith, w .inv .0 .members, r .1 .0, t))),
-      counted (a .op) (a .g .0) (entry s) (a .list .now) (a .memo .now) (r .0 .0) (r .0 .1) (r .0 .2) (here l) (w .list) (w .memo) (w .i) (w .inv .0) t (made m) (e .outcome) f (w .written) (y .result .written) (w .inv .3) (e .told f),
-      y .kept .0 ∙ w .inv .4,
-      y .kept .1 .0 ∙ w .inv .5,
-      y .kept .1 .1 .0 ∙ w .inv .6,
-      y .kept .1 .1 .1 .0 ∙ w .inv .7,
-      y .kept .1 .1 .1 .1 .0 ∙ w .inv .8,
-      y .kept .1 .1 .1 .1 .1 .0 ∙ w .inv .9,
+    let m = member-by-from-else2 c in
+    let y = m .member-by in (
+      making-next (a .op) (a .g .0) (a .touching) (entry s) (a .list .now) (a .words .now) (a .memo .now) (r .0 .0) (r .0 .1) (r .0 .2) (r .1 .0) (r .1 .2) (here l) (w .list) (w .words) (w .memo) (w .i) (w .written) (w .inv .0) (in-loop-from-else2 c .loop-test .taken) (y .result) (made m .table) (y .last .1 .1 .1 .1 .1 .1 .0) (y .last .1 .1 .1 .1 .1 .1 .1 .0) (y .last .1 .1 .1 .1 .1 .0) (y .ensures .0) (c .if2 .left) (y .ensures .1),
+      y .kept .0 ∙ w .inv .1,
+      y .kept .1 .0 ∙ w .inv .2,
+      y .kept .1 .1 .0 ∙ w .inv .3,
+      y .kept .1 .1 .1 .0 ∙ w .inv .4,
+      y .kept .1 .1 .1 .1 .0 ∙ w .inv .5,
+      y .kept .1 .1 .1 .1 .1 .0 ∙ w .inv .6,
     )
 
 same-length-9 : tie.Need-same-length-9 Inv-loop μ-loop
@@ -297,12 +348,12 @@ returns-2 c =
     let l = at-loop-from-return-2 c in
     let w = l .loop in
     let t : length (w .list) ≤ w .i = omega (arith, c .loop-test .left) in (
-      all-replaced (a .op) (a .g .0) (entry s) (a .list .now) (a .memo .now) (r .0 .0) (r .0 .1) (here l) (w .list) (w .memo) (w .i) (w .inv .0) t,
+      all-replaced (a .op) (a .g .0) (entry s) (a .list .now) (a .memo .now) (r .0 .0) (r .0 .1) (here l) (w .list) (w .memo) (w .i) (w .inv .0 .members) t,
       (
-        λ z. w .inv .1,
+        λ z. w .inv .0 .supports,
         (
-          λ z. rewording-all (a .words .now) (w .words) (a .touching) (w .i) (w .inv .2) (omega (arith, w .inv .0 .members, r .1 .0, t)),
-          λ z. all-counted (a .op) (a .g .0) (entry s) (a .list .now) (a .memo .now) (r .0 .0) (r .0 .1) (here l) (w .list) (w .memo) (w .i) (w .written) (w .inv .0) t (w .inv .3),
+          λ z. rewording-all (a .words .now) (w .words) (a .touching) (w .i) (w .inv .0 .rewords) (omega (arith, w .inv .0 .members .members, r .1 .0, t)),
+          λ z. all-counted (a .op) (a .g .0) (entry s) (a .list .now) (a .memo .now) (r .0 .0) (r .0 .1) (here l) (w .list) (w .memo) (w .i) (w .written) (w .inv .0 .members) t (w .inv .0 .counts),
         ),
       ),
     )
@@ -316,6 +367,11 @@ all-by-spec =
     clear-memo-requires
     is-thin-requires
     loop-holds
+    mul-if1
+    slice-read-if1
+    add-i
+    loop-less
+    loop-again
     member-by-requires
     add-written
     same-length
@@ -327,9 +383,9 @@ all-by-spec =
     same-length-7
     same-length-8
     returns
-    add-i
-    loop-less
-    loop-again
+    add-i-2
+    loop-less-2
+    loop-again-2
     same-length-9
     same-length-10
     same-length-11

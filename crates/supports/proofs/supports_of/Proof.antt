@@ -1,9 +1,12 @@
--- The list's words are filled in one by one, while the memo stays right. Assumes nothing.
-use mathlib.Core.Path.{_≡_, refl, _∙_}
-use Prim.Native.Nat.{_-_}
+-- The list's words are filled in one by one, while the memo stays right, as it is begun, cleared or filled. Assumes nothing.
+use mathlib.Core.Path.{_≡_, refl, sym, _∙_, subst}
+use mathlib.Core.Logic.{⊎-elim}
+use mathlib.Core.List.{List}
+use Prim.Native.Nat.{ℕ, _-_}
 use native.Mathlib.Omega.{arith}
 use lib.ListN.{length, length-set}
 use borrow.Author.Needs.{needs}
+use Rattle.table.specs.Nodes.{Node}
 use Rattle.walks.specs.Readable.{nodesIn}
 use Rattle.walks.proofs.Here.{length-in}
 use Rattle.supports.specs.Supports.{SupportMemo}
@@ -20,33 +23,36 @@ abbrev μ-loop : tie.MeasureT-loop
     length list - i
 
 -- The ways back, written by ways.py: TO-from-FROM leads from the place FROM of the code to the place TO before it.
+module _ (c : tie.Joined1 Inv-loop μ-loop) where
+  abbrev start-from-joined1 : tie.Start Inv-loop μ-loop
+  start-from-joined1 = c .before .before .before .before .before .before .before
+
+module _ (c : tie.After-all-supports-arg Inv-loop μ-loop) where
+  abbrev start-from-all-supports-call : tie.Start Inv-loop μ-loop
+  start-from-all-supports-call = c .before .before .before .before .before .before .before .before
+
 module _ (c : tie.After-clear-cells-arg Inv-loop μ-loop) where
   abbrev start-from-clear-cells-call : tie.Start Inv-loop μ-loop
-  start-from-clear-cells-call = c .before .before .before .before .before .before .before
-
-module _ (c : tie.After-slice-known3 Inv-loop μ-loop) where
-  abbrev start-from-loop-holds : tie.Start Inv-loop μ-loop
-  start-from-loop-holds = start-from-clear-cells-call (c .before .before .before)
-
-module _ (c : tie.At-loop Inv-loop μ-loop) where
-  abbrev clear-cells-from-at-loop : tie.After-clear-cells Inv-loop μ-loop
-  clear-cells-from-at-loop = c .before .before .before
+  start-from-clear-cells-call = c .before .before .before .before .before .before .before .before
 
 module _ (c : tie.After-loop Inv-loop μ-loop) where
+  abbrev joined1-from-return : tie.Joined1 Inv-loop μ-loop
+  joined1-from-return = c .before .before
+
   abbrev start-from-return : tie.Start Inv-loop μ-loop
-  start-from-return = start-from-clear-cells-call (clear-cells-from-at-loop (c .before) .before)
+  start-from-return = start-from-joined1 joined1-from-return
 
 module _ (c : tie.After-support-from-arg Inv-loop μ-loop) where
   abbrev at-loop-from-support-from-call : tie.At-loop Inv-loop μ-loop
   at-loop-from-support-from-call = c .before .before .before
 
-  abbrev clear-cells-from-support-from-call : tie.After-clear-cells Inv-loop μ-loop
-  clear-cells-from-support-from-call = clear-cells-from-at-loop at-loop-from-support-from-call
+  abbrev joined1-from-support-from-call : tie.Joined1 Inv-loop μ-loop
+  joined1-from-support-from-call = at-loop-from-support-from-call .before
 
   abbrev start-from-support-from-call : tie.Start Inv-loop μ-loop
-  start-from-support-from-call = start-from-clear-cells-call (clear-cells-from-support-from-call .before)
+  start-from-support-from-call = start-from-joined1 joined1-from-support-from-call
 
-module _ (c : tie.After-slice-known4 Inv-loop μ-loop) where
+module _ (c : tie.After-slice-known5 Inv-loop μ-loop) where
   abbrev in-loop-from-loop-again : tie.In-loop Inv-loop μ-loop
   in-loop-from-loop-again = c .before .before .before .before .before
 
@@ -54,31 +60,47 @@ module _ (c : tie.After-slice-known4 Inv-loop μ-loop) where
   at-loop-from-loop-again = in-loop-from-loop-again .before
 
   abbrev start-from-loop-again : tie.Start Inv-loop μ-loop
-  start-from-loop-again = start-from-clear-cells-call (clear-cells-from-at-loop at-loop-from-loop-again .before)
+  start-from-loop-again = start-from-joined1 (at-loop-from-loop-again .before)
+
+-- What the memo holds before the list is gone through, cleared or filled.
+module _ (j : tie.Joined1 Inv-loop μ-loop) where
+  abbrev nodes : List Node
+  nodes = nodesIn (start-from-joined1 j .args .vars .now) (start-from-joined1 j .args .lows .now) (start-from-joined1 j .args .highs .now) (start-from-joined1 j .args .count)
+
+  abbrev Begun : List ℕ → Type 0
+  Begun memo = SupportMemo memo nodes × (length memo ≡ length (start-from-joined1 j .args .memo .now))
+
+  begun : Begun (j .if1 .memo)
+  begun =
+      let a = start-from-joined1 j .args in
+      let len = length-in (a .vars .now) (a .lows .now) (a .highs .now) (a .count) (start-from-joined1 j .pre .0) in
+      ⊎-elim (λ w. subst Begun (sym (w .5)) (memo-cleared nodes _ (a .count) len (w .2 .ensures), w .2 .kept .0)) (λ w. subst Begun (sym (w .5)) (w .2 .ensures, w .2 .kept .1 .1 .1 .0)) (j .if1 .came)
 
 clear-cells-requires : tie.Need-clear-cells-requires Inv-loop μ-loop
 clear-cells-requires c κs =
     omega (arith, start-from-clear-cells-call c .pre .0 .within, start-from-clear-cells-call c .pre .2)
 
+all-supports-requires : tie.Need-all-supports-requires Inv-loop μ-loop
+all-supports-requires c κs = (start-from-all-supports-call c .pre .0, start-from-all-supports-call c .pre .2)
+
 loop-holds : tie.Need-loop-holds Inv-loop μ-loop
 loop-holds c =
-    let a = start-from-loop-holds c .args in
-    let nodes = nodesIn (a .vars .now) (a .lows .now) (a .highs .now) (a .count) in
-    (filled-none nodes (a .list .now) (a .words .now) (start-from-loop-holds c .pre .3), memo-cleared nodes _ (a .count) (length-in (a .vars .now) (a .lows .now) (a .highs .now) (a .count) (start-from-loop-holds c .pre .0)) (c .before .before .clear-cells .ensures), refl, refl)
+    let s = start-from-joined1 c in
+    (filled-none (nodes c) (s .args .list .now) (s .args .words .now) (s .pre .3), begun c .0, refl, refl)
 
-mul-t13 : tie.Need-mul-t13 Inv-loop μ-loop
-mul-t13 c =
+mul-t19 : tie.Need-mul-t19 Inv-loop μ-loop
+mul-t19 c =
     search needs
 
-shared-slice-read-t16 : tie.Need-shared-slice-read-t16 Inv-loop μ-loop
-shared-slice-read-t16 c =
+shared-slice-read-t22 : tie.Need-shared-slice-read-t22 Inv-loop μ-loop
+shared-slice-read-t22 c =
     search needs
 
 support-from-requires : tie.Need-support-from-requires Inv-loop μ-loop
 support-from-requires c κs =
     let r = start-from-support-from-call c .pre in
     let w = at-loop-from-support-from-call c .loop in
-    ((r .0, r .1 (w .i) (c .before .before .loop-test .taken), omega (arith, w .inv .2, clear-cells-from-support-from-call c .clear-cells .kept .0, r .2)), w .inv .1)
+    ((r .0, r .1 (w .i) (c .before .before .loop-test .taken), omega (arith, w .inv .2, begun (joined1-from-support-from-call c) .1, r .2)), w .inv .1)
 
 mul-words : tie.Need-mul-words Inv-loop μ-loop
 mul-words c =
@@ -104,8 +126,7 @@ loop-again c =
     (filled-next (nodesIn (a .vars .now) (a .lows .now) (a .highs .now) (a .count)) (a .list .now) (w .words) (w .i) (y .result) (w .inv .0) (in-loop-from-loop-again c .loop-test .taken) (y .ensures .0), y .ensures .1, y .kept .1 .1 .1 .0 ∙ w .inv .2, length-set (w .words) (w .i) (y .result) ∙ w .inv .3)
 
 same-length : tie.Need-same-length Inv-loop μ-loop
-same-length c =
-    search needs
+same-length c = c .before .loop .inv .2 ∙ begun (joined1-from-return c) .1
 
 same-length-2 : tie.Need-same-length-2 Inv-loop μ-loop
 same-length-2 c =
@@ -124,9 +145,10 @@ supports-of-spec =
     Inv-loop
     μ-loop
     clear-cells-requires
+    all-supports-requires
     loop-holds
-    mul-t13
-    shared-slice-read-t16
+    mul-t19
+    shared-slice-read-t22
     support-from-requires
     mul-words
     slice-write-words
