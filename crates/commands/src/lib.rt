@@ -53,7 +53,7 @@ fn record_read(proof: &[u8], at: usize) -> Read
     requires { ⌜ at ≤ length (now proof) ⌝ }
     ensures { λ r. ⌜ r ≡ readOf (recordRead (now (proof .entry)) at) ⌝ }
 {
-    let record = records::record_at(proof, at);
+    let record = records::record_from(proof, at);
     let next = at + records::record_length(record);
     Read {
         command: Command::Recorded {

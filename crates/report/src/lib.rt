@@ -78,13 +78,7 @@ fn refused(number: u8, place: usize) -> Line
 
 // The line on two files: 25 and 24 of the formula, then of the proof, then the check's. `first` and `second` tell whether the
 // formula and the proof could be read.
-pub fn line_on<'a>(
-    mode: Mode,
-    first: bool,
-    formula: &'a [u8],
-    second: bool,
-    proof: &'a [u8],
-) -> Line
+fn line_on<'a>(mode: Mode, first: bool, formula: &'a [u8], second: bool, proof: &'a [u8]) -> Line
     ensures { λ r. ⌜ r ≡ said mode first (now (formula .entry)) second (now (proof .entry)) ⌝ }
 {
     if !first {
@@ -103,7 +97,7 @@ pub fn line_on<'a>(
 }
 
 // 0 for refuted alone, 2 where a file was not taken, 1 for every other refusal.
-pub fn status_of(number: u8) -> u8
+fn status_of(number: u8) -> u8
     ensures { λ r. ⌜ r ≡ statusOf number ⌝ }
 {
     if number == 0 {

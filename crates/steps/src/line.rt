@@ -279,7 +279,7 @@ fn refutes(before: bool, g: NodeNo) -> bool
 }
 
 // The state after a line that is shown.
-pub fn with_line(st: crate::State, rounds: u64, peak: usize, g: NodeNo) -> crate::State
+fn with_line(st: crate::State, rounds: u64, peak: usize, g: NodeNo) -> crate::State
     requires { ⌜ (st .members ≤ 2048) × (st .lines ≤ 1024) × (st .rounds + rounds ≤ 1025 * 131072) ⌝ }
     ensures { λ r. ⌜ r ≡ withLine st rounds peak (g .0) ⌝ }
 {

@@ -1,11 +1,10 @@
 -- The step of a command is that of its kind: one law a kind, for the command as the code has it. The idea: the code's command tells the
 -- definition's. Assumes nothing.
-use mathlib.Core.Path.{_≡_, refl, sym, ap, _∙_, subst}
-use mathlib.Core.Bool.{Bool, true, false}
+use mathlib.Core.Path.{_≡_, sym, ap, subst}
+use mathlib.Core.Bool.{Bool}
 use mathlib.Core.List.{List, [], _∷_}
 use Prim.Native.Nat.{ℕ, _≤_}
 use native.Mathlib.Omega.{arith}
-use lib.ListN.{length}
 use Rattle.meaning.specs.Operations as meaning
 use Rattle.records.specs.declared.Record.{Record}
 use Rattle.commands.specs.declared.TextClause.{TextClause}
@@ -19,7 +18,7 @@ use Rattle.verdict.specs.Check.{finish, step}
 use Rattle.steps.specs.declared.State.{State}
 use Rattle.steps.specs.declared.Step.{Step}
 use Rattle.steps.specs.declared.Step.the-variants.{Stop}
-use Rattle.steps.specs.States.{Lent, stateOf, Held, Stepped}
+use Rattle.steps.specs.States.{Lent, stateOf, Stepped}
 use Rattle.steps.proofs.Stops.{stopped}
 use Rattle.tries.specs.Tries.{PivotFits}
 use Rattle.tries.specs.Within.{Within}

@@ -1,5 +1,4 @@
 -- What is asked of a command, as the definition reads it and as the code has it. No call open to others cites this file.
-use mathlib.Core.Path.{_≡_}
 use Prim.Native.Nat.{ℕ}
 use Rattle.commands.specs.declared.Command as code
 use Rattle.commands.specs.declared.Command.the-variants.{Recorded, Added, Struck, Wrong, Finished}

@@ -1,7 +1,6 @@
 -- A record gives a next state exactly where it passes what 01 asks of its kind, and the number 0 exactly where it ends a refutation. The idea: each
 -- test that refuses gives `stop` or `spent`, so that `next` lies behind all of them. Assumes nothing.
 use mathlib.Core.Path.{_≡_, refl, sym, ap}
-use mathlib.Core.Logic.{_↔_}
 use mathlib.Core.Bool.{Bool, true, false, not, _&&_, _||_, cond}
 use mathlib.Core.List.{List}
 use Prim.Native.Nat.{ℕ, _^_}
@@ -230,9 +229,6 @@ taken-record n s st more End st′ T = absurd T
 taken-record n s st more CutShort st′ T = absurd T
 taken-record n s st more UnknownKind st′ T = absurd T
 taken-record n s st more NoRecord st′ T = absurd T
-
-pub record-exactly : (n s : ℕ) (st : State) (more : Bool) (r : Record) (st′ : State) → (recordStep n s st more r ≡ next st′) ↔ Taken n s st r st′
-record-exactly n s st more r st′ = (record-taken n s st more r st′, taken-record n s st more r st′)
 
 -- A record that gives a next state is of right form.
 pub next-form : (n s : ℕ) (st : State) (more : Bool) (r : Record) (st′ : State) → recordStep n s st more r ≡ next st′ → numberOf r ≡ 0

@@ -5,25 +5,25 @@ use borrow.Author.Needs.{needs}
 use Rattle.commands.proofs.record_read.Statement.{statement}
 use Rattle.commands.proofs.record_read.Tie as tie
 
-record-at-requires : tie.Need-record-at-requires
-record-at-requires c κs = search needs
+record-from-requires : tie.Need-record-from-requires
+record-from-requires c κs = search needs
 
 record-length-requires : tie.Need-record-length-requires
 record-length-requires c κs = search needs
 
 -- The ways back, written by ways.py: TO-from-FROM leads from the place FROM of the code to the place TO before it.
 module _ (c : tie.After-record-length) where
-  abbrev record-at-from-return : tie.After-record-at
-  record-at-from-return = c .before
+  abbrev record-from-from-return : tie.After-record-from
+  record-from-from-return = c .before
 
   abbrev start-from-return : tie.Start
-  start-from-return = record-at-from-return .before .before
+  start-from-return = record-from-from-return .before .before
 
 add-next : tie.Need-add-next
-add-next c = omega (arith, start-from-return c .pre, c .record-length .ensures, record-short (record-at-from-return c .record-at .result))
+add-next c = omega (arith, start-from-return c .pre, c .record-length .ensures, record-short (record-from-from-return c .record-from .result))
 
 returns : tie.Need-returns
-returns c = record-read-is _ _ _ _ (record-at-from-return c .record-at .ensures) (c .record-length .ensures)
+returns c = record-read-is _ _ _ _ (record-from-from-return c .record-from .ensures) (c .record-length .ensures)
 
 pub record-read-spec : {M : Type 1} → statement M
-record-read-spec = tie.close (tie.spec record-at-requires record-length-requires add-next returns)
+record-read-spec = tie.close (tie.spec record-from-requires record-length-requires add-next returns)
