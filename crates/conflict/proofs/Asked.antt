@@ -23,7 +23,7 @@ use Rattle.walks.specs.Readable.{valueUnder}
 use Rattle.table.specs.Nodes.{Node, diagramAt}
 use Rattle.table.proofs.Order.{Ordered}
 use Rattle.table.proofs.Numbers.{diagramAt-reduced}
-use Rattle.conflict.specs.Members.{negationIn, someNegated, asks, Quiet}
+use Rattle.conflict.specs.Members.{negationIn, someNegated, asks, Quiet, Asked}
 use Rattle.table.specs.Lists.{diagramsOf, Inside}
 use Rattle.conflict.specs.Marks.{isListed}
 
@@ -124,11 +124,6 @@ module _ (t : List Node) (list : List ℕ) where
         not-true (same (diagramAt t (getD list j 0)) (negation 64 (diagramAt t (getD list i 0)))) (λ e. not-negations i j p q (same-eq (diagramAt t (getD list j 0)) (negation 64 (diagramAt t (getD list i 0))) e))
 
 -- ---- the loop
-
--- None of the first i members that are asked has its negation listed.
-pub record Asked (t : List Node) (list words : List ℕ) (touching i : ℕ) : Type 0 where
-  pub so-far : i ≤ length list
-  pub none : (k : ℕ) → k < i → asks t (getD list k 0) (getD words k 0) touching ≡ true → negationIn (diagramsOf t list) (diagramAt t (getD list k 0)) ≡ false
 
 pub asked-first : (t : List Node) (list words : List ℕ) (touching : ℕ) → Asked t list words touching 0
 asked-first t list words touching = record { so-far = omega arith; none = λ k p. absurd (omega arith) }

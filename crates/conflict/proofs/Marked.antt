@@ -1,5 +1,6 @@
 -- A member's negation is listed exactly where its node is found and marked. Assumes nothing.
-use mathlib.Core.Path.{_≡_, sym, _∙_}
+use mathlib.Core.Path.{_≡_, sym, ap, _∙_}
+use mathlib.Core.Bool.{Bool}
 use mathlib.Core.List.{List}
 use Prim.Native.Nat.{ℕ}
 use native.Mathlib.Omega.{arith}
@@ -27,12 +28,17 @@ module _ (T : Table) (G : Good T) (list : List ℕ) (h : Inside (T .count) list)
   found-inside f (At k) n = omega (arith, n .0, G .within)
   found-inside f Nothing n = tt
 
-  pub negation-marked : (f : ℕ) (r : Found) → Negates T f r → negationIn (diagramsOf (nodesOf T) list) (diagramAt (nodesOf T) f) ≡ markedAt (setAll 1 (unmarked (size T)) list) r
+  negation-marked : (f : ℕ) (r : Found) → Negates T f r → negationIn (diagramsOf (nodesOf T) list) (diagramAt (nodesOf T) f) ≡ markedAt (setAll 1 (unmarked (size T)) list) r
   negation-marked f (At k) n =
       negation-found (nodesOf T) (good-ordered T G) list in-nodes (diagramAt (nodesOf T) f) (k .0) (omega (arith, n .0, length-nodes T G)) (n .1)
       ∙ sym (marks-tell (size T) list in-size (k .0) (omega (arith, n .0, G .within)))
   negation-marked f Nothing n =
       negation-absent (nodesOf T) (good-ordered T G) list in-nodes (diagramAt (nodesOf T) f) (λ k p. n k (omega (arith, length-nodes T G)))
+
+  -- what its mark tells of a member's negation
+  pub negation-told : (f : ℕ) (r : Found) → Negates T f r → (marks : List ℕ) → marks ≡ setAll 1 (unmarked (size T)) list → (b : Bool) → b ≡ markedAt marks r
+      → negationIn (diagramsOf (nodesOf T) list) (diagramAt (nodesOf T) f) ≡ b
+  negation-told f r n marks e b m = negation-marked f r n ∙ ap (λ (ms : List ℕ). markedAt ms r) (sym e) ∙ sym m
 
   pub in-unmarked : (marks : List ℕ) → marks ≡ unmarked (size T) → Inside (length marks) list
   in-unmarked marks e i p = rw (e, length-replicate {A = ℕ} (size T) 0) (in-size i p)

@@ -1,9 +1,9 @@
 -- Members that are negations of each other. No call open to others cites this file.
 use mathlib.Core.Path.{_≡_}
 use mathlib.Core.Logic.{_≢_}
-use mathlib.Core.Bool.{Bool, not, cond}
+use mathlib.Core.Bool.{Bool, true, false, not, cond}
 use mathlib.Core.List.{List}
-use Prim.Native.Nat.{ℕ, _<_}
+use Prim.Native.Nat.{ℕ, _≤_, _<_}
 use lib.ListN.{length, getD}
 use lib.Dec.{eqb}
 use lib.Bits.{bitAnd}
@@ -11,7 +11,10 @@ use Rattle.meaning.specs.Diagram.{Diagram, same}
 use Rattle.meaning.specs.Operations.{negation}
 use Rattle.meaning.specs.Rules.{any}
 use Rattle.table.specs.Nodes.{Node, diagramAt}
+use Rattle.table.specs.Lists.{diagramsOf}
 use Rattle.walks.specs.Readable.{valueUnder}
+use Rattle.conflict.specs.declared.Asking.{Asking}
+use Rattle.conflict.specs.declared.Asking.the-variants.{Conflict, UpTo}
 
 -- Whether the negation of g is one of the members.
 unfoldable pub negationIn : List Diagram → Diagram → Bool
@@ -33,3 +36,13 @@ unfolding negation
 Quiet t list words touching =
     (i j : ℕ) → i < length list → j < length list → bitAnd (getD words i 0) touching ≡ 0 → bitAnd (getD words j 0) touching ≡ 0
     → getD list i 0 ≢ 0 → getD list j 0 ≢ 0 → diagramAt t (getD list j 0) ≢ negation 64 (diagramAt t (getD list i 0))
+
+-- None of the first i members that are asked has its negation listed.
+pub record Asked (t : List Node) (list words : List ℕ) (touching i : ℕ) : Type 0 where
+  pub so-far : i ≤ length list
+  pub none : (k : ℕ) → k < i → asks t (getD list k 0) (getD words k 0) touching ≡ true → negationIn (diagramsOf t list) (diagramAt t (getD list k 0)) ≡ false
+
+-- What asking for negations comes to that needs no memo: a member's is listed, or none is up to a place.
+abbrev pub AskedThin : List Node → List ℕ → List ℕ → ℕ → Asking → Type 0
+AskedThin t list words touching Conflict = someNegated (diagramsOf t list) ≡ true
+AskedThin t list words touching (UpTo i) = Asked t list words touching i

@@ -1,235 +1,96 @@
--- The walk over the list: none asked so far has its negation listed, while the memo stays right. Assumes nothing.
-use mathlib.Core.Path.{_≡_, refl, sym, ap, _∙_, subst}
-use mathlib.Core.Logic.{⊎-elim}
-use mathlib.Core.List.{List}
-use Prim.Native.Nat.{ℕ, _-_}
+-- The members are asked without a memo as far as that goes, and from there with one. Assumes nothing.
+use mathlib.Core.Path.{sym, subst}
 use native.Mathlib.Omega.{arith}
-use lib.ListN.{length, getD}
-use borrow.Author.Needs.{needs}
-use Rattle.table.specs.Indexed.{tableOf, nodesOf}
+use Rattle.table.specs.Indexed.{Table, tableOf, nodesOf}
 use Rattle.table.proofs.Written.{good-ordered}
-use Rattle.meaning.proofs.Booleans.{t≢f}
-use Rattle.walks.proofs.Here.{good-readable}
-use Rattle.negate.specs.Negations.{NegationMemo}
-use Rattle.negate.proofs.Entries.{negations-cleared}
-use Rattle.conflict.specs.Marks.{markedAt, FoundInside}
-use Rattle.conflict.proofs.Marks.{marked-length}
-use Rattle.conflict.proofs.Asked.{negated-here, none-negated, Asked, asked-first, asked-next}
-use Rattle.conflict.proofs.Marked.{in-nodes, found-inside, negation-marked}
+use Rattle.conflict.specs.Members.{Asked, AskedThin}
+use Rattle.conflict.proofs.Asked.{none-negated}
+use Rattle.conflict.proofs.Marked.{in-nodes}
+use borrow.Author.Needs.{needs}
 use Rattle.conflict.proofs.some_negated.Statement.{statement}
 use Rattle.conflict.proofs.some_negated.Tie as tie
 
-abbrev Inv-loop : tie.InvT-loop
-Inv-loop vars lows highs heads links memo₀ marks list words count touching i₀ memo i =
-    (length memo ≡ length memo₀) × NegationMemo memo (tableOf vars lows highs heads links count) × Asked (nodesOf (tableOf vars lows highs heads links count)) list words touching i
-
-abbrev μ-loop : tie.MeasureT-loop
-μ-loop vars lows highs heads links memo₀ marks list words count touching i₀ memo i =
-    length list - i
-
-clear-cells-requires : tie.Need-clear-cells-requires Inv-loop μ-loop
-clear-cells-requires c κs =
-    search needs
+abbrev table : tie.Start → Table
+table s = let a = s .args in tableOf (a .vars .now) (a .lows .now) (a .highs .now) (a .heads .now) (a .links .now) (a .count)
 
 -- The ways back, written by ways.py: TO-from-FROM leads from the place FROM of the code to the place TO before it.
-module _ (c : tie.After-clear-cells Inv-loop μ-loop) where
-  abbrev start-from-clear-cells : tie.Start Inv-loop μ-loop
-  start-from-clear-cells = c .before .before .before .before .before .before .before .before .before .before .before
+module _ (c : tie.After-thin-negated) where
+  abbrev start-from-thin-negated : tie.Start
+  start-from-thin-negated = c .before .before .before .before .before .before .before .before .before .before
 
-module _ (c : tie.After-slice-known2 Inv-loop μ-loop) where
-  abbrev start-from-loop-holds : tie.Start Inv-loop μ-loop
-  start-from-loop-holds = start-from-clear-cells (c .before .before)
+module _ (c : tie.After-enum-told) where
+  abbrev thin-negated-from-return-2 : tie.After-thin-negated
+  thin-negated-from-return-2 = c .before .before
 
-module _ (c : tie.At-loop Inv-loop μ-loop) where
-  abbrev clear-cells-from-at-loop : tie.After-clear-cells Inv-loop μ-loop
-  clear-cells-from-at-loop = c .before .before .before
+  abbrev start-from-return-2 : tie.Start
+  start-from-return-2 = start-from-thin-negated thin-negated-from-return-2
 
-module _ (c : tie.After-loop Inv-loop μ-loop) where
-  abbrev start-from-return-2 : tie.Start Inv-loop μ-loop
-  start-from-return-2 = start-from-clear-cells (clear-cells-from-at-loop (c .before))
+module _ (c : tie.After-place) where
+  abbrev thin-negated-from-place : tie.After-thin-negated
+  thin-negated-from-place = c .before .before
 
-module _ (c : tie.After-shared-slice-known10 Inv-loop μ-loop) where
-  abbrev in-loop-from-is-asked-call : tie.In-loop Inv-loop μ-loop
-  in-loop-from-is-asked-call = c .before .before
+  abbrev start-from-place : tie.Start
+  start-from-place = start-from-thin-negated thin-negated-from-place
 
-  abbrev at-loop-from-is-asked-call : tie.At-loop Inv-loop μ-loop
-  at-loop-from-is-asked-call = in-loop-from-is-asked-call .before
+module _ (c : tie.Then1) where
+  abbrev place-from-then1 : tie.After-place
+  place-from-then1 = c .before .before
 
-  abbrev start-from-is-asked-call : tie.Start Inv-loop μ-loop
-  start-from-is-asked-call = start-from-clear-cells (clear-cells-from-at-loop at-loop-from-is-asked-call)
+  abbrev start-from-then1 : tie.Start
+  start-from-then1 = start-from-place place-from-then1
 
-module _ (c : tie.After-is-asked Inv-loop μ-loop) where
-  abbrev in-loop-from-is-asked : tie.In-loop Inv-loop μ-loop
-  in-loop-from-is-asked = c .before .before .before
+module _ (c : tie.After-rest-negated-arg) where
+  abbrev place-from-rest-negated-call : tie.After-place
+  place-from-rest-negated-call = c .before .before .before
 
-module _ (c : tie.Joined1 Inv-loop μ-loop) where
-  abbrev is-asked-from-loop-again : tie.After-is-asked Inv-loop μ-loop
-  is-asked-from-loop-again = c .before
+  abbrev start-from-rest-negated-call : tie.Start
+  start-from-rest-negated-call = start-from-place place-from-rest-negated-call
 
-  abbrev in-loop-from-loop-again : tie.In-loop Inv-loop μ-loop
-  in-loop-from-loop-again = in-loop-from-is-asked is-asked-from-loop-again
+-- none up to the place
+asked-to : (c : tie.After-place) → Asked (nodesOf (table (start-from-place c))) (start-from-place c .args .list .now) (start-from-place c .args .words .now) (start-from-place c .args .touching) (c .place .given .0 .0)
+asked-to c =
+    let s = start-from-place c in
+    subst (AskedThin (nodesOf (table s)) (s .args .list .now) (s .args .words .now) (s .args .touching)) (c .place .given .1) (thin-negated-from-place c .thin-negated .ensures)
 
-  abbrev at-loop-from-loop-again : tie.At-loop Inv-loop μ-loop
-  at-loop-from-loop-again = in-loop-from-loop-again .before
+thin-negated-requires : tie.Need-thin-negated-requires
+thin-negated-requires c κs = search needs
 
-  abbrev start-from-loop-again : tie.Start Inv-loop μ-loop
-  start-from-loop-again = start-from-clear-cells (clear-cells-from-at-loop at-loop-from-loop-again)
+enum-told : tie.Need-enum-told
+enum-told c = search needs
 
-module _ (c : tie.After-negation-from-arg Inv-loop μ-loop) where
-  abbrev in-loop-from-negation-from-call : tie.In-loop Inv-loop μ-loop
-  in-loop-from-negation-from-call = in-loop-from-is-asked (c .before .before)
+enum-known-place : tie.Need-enum-known-place
+enum-known-place c = search needs
 
-  abbrev at-loop-from-negation-from-call : tie.At-loop Inv-loop μ-loop
-  at-loop-from-negation-from-call = in-loop-from-negation-from-call .before
-
-  abbrev clear-cells-from-negation-from-call : tie.After-clear-cells Inv-loop μ-loop
-  clear-cells-from-negation-from-call = clear-cells-from-at-loop at-loop-from-negation-from-call
-
-  abbrev start-from-negation-from-call : tie.Start Inv-loop μ-loop
-  start-from-negation-from-call = start-from-clear-cells clear-cells-from-negation-from-call
-
-module _ (c : tie.After-negation-from Inv-loop μ-loop) where
-  abbrev is-asked-from-negation-from : tie.After-is-asked Inv-loop μ-loop
-  is-asked-from-negation-from = c .before .before .before
-
-module _ (c : tie.After-slice-known3 Inv-loop μ-loop) where
-  abbrev negation-from-from-is-marked-call : tie.After-negation-from Inv-loop μ-loop
-  negation-from-from-is-marked-call = c .before .before
-
-  abbrev at-loop-from-is-marked-call : tie.At-loop Inv-loop μ-loop
-  at-loop-from-is-marked-call = in-loop-from-is-asked (is-asked-from-negation-from negation-from-from-is-marked-call) .before
-
-  abbrev start-from-is-marked-call : tie.Start Inv-loop μ-loop
-  start-from-is-marked-call = start-from-clear-cells (clear-cells-from-at-loop at-loop-from-is-marked-call)
-
-module _ (c : tie.Then2 Inv-loop μ-loop) where
-  abbrev negation-from-from-then2 : tie.After-negation-from Inv-loop μ-loop
-  negation-from-from-then2 = c .before .before .before .before
-
-  abbrev in-loop-from-then2 : tie.In-loop Inv-loop μ-loop
-  in-loop-from-then2 = in-loop-from-is-asked (is-asked-from-negation-from negation-from-from-then2)
-
-  abbrev at-loop-from-then2 : tie.At-loop Inv-loop μ-loop
-  at-loop-from-then2 = in-loop-from-then2 .before
-
-  abbrev start-from-then2 : tie.Start Inv-loop μ-loop
-  start-from-then2 = start-from-clear-cells (clear-cells-from-at-loop at-loop-from-then2)
-
-loop-holds : tie.Need-loop-holds Inv-loop μ-loop
-loop-holds c =
-    let a = start-from-loop-holds c .args in
-    (refl, negations-cleared (tableOf (a .vars .now) (a .lows .now) (a .highs .now) (a .heads .now) (a .links .now) (a .count)) _ (c .before .before .clear-cells .ensures), asked-first (nodesOf (tableOf (a .vars .now) (a .lows .now) (a .highs .now) (a .heads .now) (a .links .now) (a .count))) (a .list .now) (a .words .now) (a .touching))
-
-mul-is-asked : tie.Need-mul-is-asked Inv-loop μ-loop
-mul-is-asked c =
-    search needs
-
-shared-slice-read-is-asked : tie.Need-shared-slice-read-is-asked Inv-loop μ-loop
-shared-slice-read-is-asked c =
-    omega (arith, start-from-is-asked-call c .pre .1 .1, in-loop-from-is-asked-call c .loop-test .taken)
-
-mul-t18 : tie.Need-mul-t18 Inv-loop μ-loop
-mul-t18 c =
-    search needs
-
-shared-slice-read-t21 : tie.Need-shared-slice-read-t21 Inv-loop μ-loop
-shared-slice-read-t21 c =
-    search needs
-
-is-asked-requires : tie.Need-is-asked-requires Inv-loop μ-loop
-is-asked-requires c κs =
-    let a = start-from-is-asked-call c .args in
-    let r = start-from-is-asked-call c .pre .0 .0 in
-    (good-readable (tableOf (a .vars .now) (a .lows .now) (a .highs .now) (a .heads .now) (a .links .now) (a .count)) (r .good), r .inside (at-loop-from-is-asked-call c .loop .i) (in-loop-from-is-asked-call c .loop-test .taken))
-
-negation-from-requires : tie.Need-negation-from-requires Inv-loop μ-loop
-negation-from-requires c κs =
-    let r = start-from-negation-from-call c .pre in
-    let w = at-loop-from-negation-from-call c .loop in
-    record {
-      good = r .0 .0 .good;
-      inside = r .0 .0 .inside (w .i) (in-loop-from-negation-from-call c .loop-test .taken);
-      room = omega (arith, w .inv .0, clear-cells-from-negation-from-call c .clear-cells .kept .0, r .0 .0 .room);
-      right = w .inv .1;
-    }
-
-is-marked-requires : tie.Need-is-marked-requires Inv-loop μ-loop
-is-marked-requires c κs =
-    let a = start-from-is-marked-call c .args in
-    let r = start-from-is-marked-call c .pre in
-    let w = at-loop-from-is-marked-call c .loop in
-    let y = negation-from-from-is-marked-call c .negation-from in
-    let len : length (a .marks .now) ≡ length (a .vars .now) = ap length (r .0 .1) ∙ marked-length (length (a .vars .now)) (a .list .now) in
-    subst (λ n. FoundInside n (y .result)) (sym len) (found-inside (tableOf (a .vars .now) (a .lows .now) (a .highs .now) (a .heads .now) (a .links .now) (a .count)) (r .0 .0 .good) (a .list .now) (r .0 .0 .inside) _ (y .result) (y .ensures .0))
-
-same-length : tie.Need-same-length Inv-loop μ-loop
-same-length c =
-    search needs
-
-returns : tie.Need-returns Inv-loop μ-loop
+returns : tie.Need-returns
 returns c =
-    let a = start-from-then2 c .args in
-    let r = start-from-then2 c .pre in
-    let w = at-loop-from-then2 c .loop in
-    sym (negated-here (nodesOf (tableOf (a .vars .now) (a .lows .now) (a .highs .now) (a .heads .now) (a .links .now) (a .count))) (a .list .now) (w .i) (in-loop-from-then2 c .loop-test .taken) (negation-marked (tableOf (a .vars .now) (a .lows .now) (a .highs .now) (a .heads .now) (a .links .now) (a .count)) (r .0 .0 .good) (a .list .now) (r .0 .0 .inside) (getD (a .list .now) (w .i) 0) ((negation-from-from-then2 c .negation-from) .result) ((negation-from-from-then2 c .negation-from) .ensures .0) ∙ ap (λ m. markedAt m ((negation-from-from-then2 c .negation-from) .result)) (sym (r .0 .1)) ∙ sym ((c .before .is-marked) .ensures) ∙ c .if2 .taken))
+    let s = start-from-then1 c in
+    let a = s .args in
+    sym (none-negated (nodesOf (table s)) (a .list .now) (good-ordered (table s) (s .pre .0 .0 .good)) (in-nodes (table s) (s .pre .0 .0 .good) (a .list .now) (s .pre .0 .0 .inside)) (a .words .now) (a .touching) (s .pre .1 .0) (s .pre .1 .2) (λ j q. asked-to (place-from-then1 c) .none j (omega (arith, c .if1 .taken))))
 
-add-i : tie.Need-add-i Inv-loop μ-loop
-add-i c =
-    omega (arith, mul-t18 (in-loop-from-loop-again c))
+rest-negated-requires : tie.Need-rest-negated-requires
+rest-negated-requires c κs =
+    let r = start-from-rest-negated-call c .pre in (r .0, (r .1 .0, r .1 .1, r .1 .2, asked-to (place-from-rest-negated-call c)))
 
-loop-less : tie.Need-loop-less Inv-loop μ-loop
-loop-less c =
-    search needs
-
-loop-again : tie.Need-loop-again Inv-loop μ-loop
-unfolding nodesOf
-loop-again c =
-    let a = start-from-loop-again c .args in
-    let r = start-from-loop-again c .pre in
-    let w = at-loop-from-loop-again c .loop in
-    ⊎-elim
-    (λ x. (
-      ap length (x .7) ∙ x .2 .kept .1 .1 .1 .1 .1 .0 ∙ w .inv .0,
-      subst (λ (m : List ℕ). NegationMemo m (tableOf (a .vars .now) (a .lows .now) (a .highs .now) (a .heads .now) (a .links .now) (a .count))) (sym (x .7)) (x .2 .ensures .1),
-      asked-next (nodesOf (tableOf (a .vars .now) (a .lows .now) (a .highs .now) (a .heads .now) (a .links .now) (a .count))) (a .list .now) (a .words .now) (a .touching) (w .i) (w .inv .2) (in-loop-from-loop-again c .loop-test .taken) (λ _. (negation-marked (tableOf (a .vars .now) (a .lows .now) (a .highs .now) (a .heads .now) (a .links .now) (a .count)) (r .0 .0 .good) (a .list .now) (r .0 .0 .inside) (getD (a .list .now) (w .i) 0) ((x .2) .result) ((x .2) .ensures .0) ∙ ap (λ m. markedAt m ((x .2) .result)) (sym (r .0 .1)) ∙ sym ((x .5) .ensures) ∙ x .6 .left)),
-    ))
-    (λ x. (
-      ap length (x .1) ∙ w .inv .0,
-      subst (λ (m : List ℕ). NegationMemo m (tableOf (a .vars .now) (a .lows .now) (a .highs .now) (a .heads .now) (a .links .now) (a .count))) (sym (x .1)) (w .inv .1),
-      asked-next (nodesOf (tableOf (a .vars .now) (a .lows .now) (a .highs .now) (a .heads .now) (a .links .now) (a .count))) (a .list .now) (a .words .now) (a .touching) (w .i) (w .inv .2) (in-loop-from-loop-again c .loop-test .taken) (λ e. t≢f (sym e ∙ sym (is-asked-from-loop-again c .is-asked .ensures) ∙ x .0 .left)),
-    ))
-    (c .if1 .came)
-
-same-length-2 : tie.Need-same-length-2 Inv-loop μ-loop
-same-length-2 c =
-    search needs
-
-returns-2 : tie.Need-returns-2 Inv-loop μ-loop
+returns-2 : tie.Need-returns-2
 returns-2 c =
-    let a = start-from-return-2 c .args in
-    let r = start-from-return-2 c .pre in
-    let w = c .before .loop in
-    sym (none-negated (nodesOf (tableOf (a .vars .now) (a .lows .now) (a .highs .now) (a .heads .now) (a .links .now) (a .count))) (a .list .now) (good-ordered (tableOf (a .vars .now) (a .lows .now) (a .highs .now) (a .heads .now) (a .links .now) (a .count)) (r .0 .0 .good)) (in-nodes (tableOf (a .vars .now) (a .lows .now) (a .highs .now) (a .heads .now) (a .links .now) (a .count)) (r .0 .0 .good) (a .list .now) (r .0 .0 .inside)) (a .words .now) (a .touching) (r .1 .0) (r .1 .2) (λ j q. w .inv .2 .none j (omega (arith, c .loop-test .left))))
+    let s = start-from-return-2 c in
+    sym (subst (AskedThin (nodesOf (table s)) (s .args .list .now) (s .args .words .now) (s .args .touching)) (c .enum-told .given .1) (thin-negated-from-return-2 c .thin-negated .ensures))
+
+same-length : tie.Need-same-length
+same-length c = search needs
+
+returns-3 : tie.Need-returns-3
+returns-3 c = search needs
 
 pub some-negated-spec : {M : Type 1} → statement M
 some-negated-spec =
     tie.close
     (tie.spec
-    Inv-loop
-    μ-loop
-    clear-cells-requires
-    loop-holds
-    mul-t18
-    shared-slice-read-t21
-    mul-is-asked
-    shared-slice-read-is-asked
-    is-asked-requires
-    negation-from-requires
-    is-marked-requires
-    same-length
+    thin-negated-requires
+    enum-told
+    enum-known-place
     returns
-    add-i
-    loop-less
-    loop-again
-    same-length-2
-    returns-2)
+    rest-negated-requires
+    returns-2
+    same-length
+    returns-3)
