@@ -1,6 +1,6 @@
 -- U of a node that has 1 for a child: its own literal, where the other child is 0, and else none. The idea: 1 has no unit, so the sides
 -- have none in common. Assumes nothing.
-use mathlib.Core.Path.{_≡_, refl, sym, ap, _∙_}
+use mathlib.Core.Path.{_≡_, sym, ap, _∙_}
 use mathlib.Core.Logic.{_⊎_, ⊎-elim}
 use mathlib.Core.Bool.{Bool, true, false, _&&_, _||_, cond}
 use mathlib.Core.List.{List}

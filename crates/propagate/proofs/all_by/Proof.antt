@@ -1,14 +1,12 @@
 -- The members are made one by one, or passed over: `Making` holds at each. Assumes nothing.
-use mathlib.Core.Path.{_≡_, refl, sym, _∙_, subst}
-use mathlib.Core.List.{List}
-use Prim.Native.Nat.{ℕ, _+_, _-_, _≤_, _<_}
+use mathlib.Core.Path.{_≡_, refl, _∙_}
+use Prim.Native.Nat.{_+_, _-_, _≤_, _<_}
 use native.Mathlib.Omega.{arith}
-use lib.ListN.{length, getD, set}
+use lib.ListN.{length}
 use borrow.Author.Needs.{needs}
 use Rattle.meaning.proofs.Booleans.{t≢f}
 use Rattle.table.specs.Indexed.{Table, Outcome, tableOf, nodesOf}
 use Rattle.table.specs.Lists.{diagramsOf}
-use Rattle.supports.specs.Supports.{Supports}
 use Rattle.operate.proofs.Passing.{some-table}
 use Rattle.propagate.specs.Made.{results}
 use Rattle.propagate.proofs.Counting.{counting-none}

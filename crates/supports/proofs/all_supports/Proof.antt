@@ -1,12 +1,11 @@
 -- `all_supports` fills the memo with the words of all nodes. The invariant: the first k cells have the variables of their nodes, the
 -- children of node k among them. Assumes nothing.
 use mathlib.Core.Path.{_≡_, refl, sym, _∙_, subst}
-use mathlib.Core.List.{List}
 use Prim.Native.Nat.{ℕ, _-_, _≤_, _<_}
 use native.Mathlib.Omega.{arith}
 use lib.ListN.{length, length-set}
 use borrow.Author.Needs.{needs}
-use Rattle.table.specs.Nodes.{Node, diagramAt}
+use Rattle.table.specs.Nodes.{diagramAt}
 use Rattle.walks.specs.Readable.{nodesIn}
 use Rattle.walks.proofs.Here.{Here, here, length-in}
 use Rattle.supports.specs.Supports.{Support}

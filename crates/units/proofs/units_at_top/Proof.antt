@@ -1,11 +1,10 @@
 -- What `units_at_top` knows are the node's units. Assumes nothing.
-use mathlib.Core.Path.{sym, ap₂, _∙_, subst}
+use mathlib.Core.Path.{sym, ap₂, subst}
 use mathlib.Core.Logic.{inl, inr, ⊎-elim}
 use Prim.Native.Nat.{ℕ, _≤_}
 use native.Mathlib.Omega.{arith}
 use borrow.Author.Needs.{needs}
 use borrow.Author.Tests.{eqb-true}
-use Rattle.words.specs.declared.Literals.{Literals}
 use Rattle.walks.specs.Readable.{nodesIn}
 use Rattle.walks.proofs.Here.{Here, here}
 use Rattle.units.specs.Units.{UnitsAt}
