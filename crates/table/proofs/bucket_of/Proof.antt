@@ -1,6 +1,7 @@
 -- `bucket_of` is the chain of a node: sums and products modulo 2^32 are the sum modulo 2^32. Assumes nothing.
-use Prim.Native.Nat.{ℕ, _+_, _*_, _%_, _^_}
-use mathlib.Core.Path.{_≡_, ap, _∙_}
+use Prim.Native.Nat.{ℕ, _+_, _*_, _%_, _^_, _<_}
+use mathlib.Core.Path.{_≡_, sym, ap, _∙_, subst}
+use native.Mathlib.Omega.{arith}
 use native.Mathlib.Nat.{mod-lt, add-mod-mod, mod-add-mod}
 use Rattle.table.specs.Index.{bucket}
 use borrow.Author.Needs.{needs}
@@ -29,21 +30,36 @@ wrapping-add-u32-requires-2 c κs = search needs
 cast-result : tie.Need-cast-result
 cast-result c = search needs
 
+cast-result-2 : tie.Need-cast-result-2
+cast-result-2 c = search needs
+
 rem-result : tie.Need-rem-result
 rem-result c = search needs
 
 -- The ways back, written by ways.py: TO-from-FROM leads from the place FROM of the code to the place TO before it.
 module _ (c : tie.After-wrapping-add-u322) where
-  abbrev wrapping-product-from-return : tie.After-wrapping-product
-  wrapping-product-from-return = c .before .before .before
+  abbrev wrapping-product-from-wrapping-add-u322 : tie.After-wrapping-product
+  wrapping-product-from-wrapping-add-u322 = c .before .before .before
 
-  abbrev start-from-return : tie.Start
-  start-from-return = wrapping-product-from-return .before
+  abbrev start-from-wrapping-add-u322 : tie.Start
+  start-from-wrapping-add-u322 = wrapping-product-from-wrapping-add-u322 .before
+
+-- The remainder of the key by n is the chain among n heads.
+module _ (c : tie.After-wrapping-add-u322) where
+  chain-is : (n : ℕ) → c .wrapping-add-u322 .result % n ≡ bucket n (start-from-wrapping-add-u322 c .args .v) (start-from-wrapping-add-u322 c .args .l) (start-from-wrapping-add-u322 c .args .h)
+  unfolding bucket
+  chain-is n =
+      ap (λ (k : ℕ). k % n) (key-is _ _ _ _ _ _ _ (wrapping-product-from-wrapping-add-u322 c .wrapping-product .ensures) (c .before .before .wrapping-product2 .ensures) (c .before .wrapping-add-u32 .ensures) (c .wrapping-add-u322 .ensures))
 
 returns : tie.Need-returns
-unfolding bucket
 returns c =
-    (ap (λ (k : ℕ). k % start-from-return c .args .heads) (key-is _ _ _ _ _ _ _ (wrapping-product-from-return c .wrapping-product .ensures) (c .before .before .wrapping-product2 .ensures) (c .before .wrapping-add-u32 .ensures) (c .wrapping-add-u322 .ensures)), mod-lt _ (start-from-return c .pre))
+    let a = start-from-wrapping-add-u322 (c .before) .args in (
+      chain-is (c .before) 131072 ∙ ap (λ (n : ℕ). bucket n (a .v) (a .l) (a .h)) (sym (c .if1 .taken)),
+      subst (λ (n : ℕ). c .before .wrapping-add-u322 .result % 131072 < n) (sym (c .if1 .taken)) (mod-lt _ (omega arith)),
+    )
+
+returns-2 : tie.Need-returns-2
+returns-2 c = (chain-is (c .before) _, mod-lt _ (start-from-wrapping-add-u322 (c .before) .pre))
 
 pub bucket-of-spec : {M : Type 1} → statement M
 bucket-of-spec =
@@ -54,5 +70,7 @@ bucket-of-spec =
     wrapping-add-u32-requires
     wrapping-add-u32-requires-2
     cast-result
+    returns
+    cast-result-2
     rem-result
-    returns)
+    returns-2)
