@@ -40,7 +40,8 @@ Quiet t list words touching =
 -- None of the first i members that are asked has its negation listed.
 pub record Asked (t : List Node) (list words : List ℕ) (touching i : ℕ) : Type 0 where
   pub so-far : i ≤ length list
-  pub none : (k : ℕ) → k < i → asks t (getD list k 0) (getD words k 0) touching ≡ true → negationIn (diagramsOf t list) (diagramAt t (getD list k 0)) ≡ false
+  pub none : (k : ℕ) → k < i → asks t (getD list k 0) (getD words k 0) touching ≡ true
+      → negationIn (diagramsOf t list) (diagramAt t (getD list k 0)) ≡ false
 
 -- What asking for negations comes to that needs no memo: a member's is listed, or none is up to a place.
 abbrev pub AskedThin : List Node → List ℕ → List ℕ → ℕ → Asking → Type 0
