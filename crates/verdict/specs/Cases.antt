@@ -191,9 +191,8 @@ strikeTable =
     ∷ᴸ []ᴸ
 
 -- 02's 5/14: odd and even of a set; a set bit beyond the header, a byte above 1, a record cut short; the empty set; at least one, two,
--- none, three
--- of two; a set bit of variable 64; at least two of three as in case I; full tables, with every place taken; entries of both kinds
--- under a node record.
+-- none, three of two; a set bit of variable 64; at least two of three as in case I; full tables, with every place taken; entries of
+-- both kinds under a node record.
 abbrev pub setTable : List Row
 setTable =
     checked 4096 D-formula (oddEven 3 1 (rupLine 2 end)) (prints 19 10 0 0 8)

@@ -254,8 +254,7 @@ setDiagram n Parity b = parity n (inWord (b .set)) (eqb (b .byte) 1)
 setDiagram n AtLeast b = atLeast n (inWord (b .set)) (b .byte)
 
 -- "Each makes the next entry. [..] It refuses, after 10 and 21, a set bit beyond the header with 12, a parity byte above 1 with 29,
--- then 23."
--- (02, 5/14)
+-- then 23." (02, 5/14)
 unfoldable pub setStep : ℕ → ℕ → State → SetKind → SetBody → Step
 unfolding beyond entered
 setStep n s st kind b =

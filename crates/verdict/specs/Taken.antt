@@ -133,8 +133,7 @@ pub record StrikeTaken (st : State) (k : ℕ) (st′ : State) : Type 0 where
   pub is : withMarks st (set (st .struck) k 1) ≡ st′
 
 -- "after 10 and 21, a set bit beyond the header with 12, a parity byte above 1 with 29, then 23" (02, 5/14): none of them holds, and
--- the set's
--- diagram has its places.
+-- the set's diagram has its places.
 pub record SetTaken (n s : ℕ) (st : State) (kind : SetKind) (b : SetBody) (st′ : State) : Type 0 where
   pub few : length (st .entries) < 4096
   pub within : b .set < 2 ^ n
