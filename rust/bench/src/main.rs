@@ -1,13 +1,15 @@
-//! `bench [--driver COMMAND] [--reference COMMAND] [--only WORD]`
+//! `bench [--driver COMMAND] [--reference COMMAND] [--only WORD]`, `bench --write FOLDER`
 //!
 //! Times the proved library and the reference on the same commands in one run, the cost of text taken away, and says what
-//! stack a call takes. WORD is `single`, `check`, `drat`, `slow` or `stack`.
+//! stack a call takes. WORD is `single`, `check`, `drat`, `slow` or `stack`. With `--write` nothing is timed: formula,
+//! proof and places of each check in records are written to files of the folder, for tools/speed.py.
 
 mod drat;
 mod pairs;
 mod slow;
 mod stack;
 mod workloads;
+mod write;
 
 use compare::filter::Filter;
 use std::process::exit;
@@ -18,10 +20,15 @@ struct Options {
     driver: String,
     reference: String,
     only: Option<String>,
+    write: Option<String>,
 }
 
 fn main() {
     let options = options();
+    if let Some(folder) = &options.write {
+        write::write_all(folder, &[workloads::check(), slow::all()].concat()).expect("the folder cannot be written to");
+        return;
+    }
     let wanted = |word: &str| options.only.as_deref().is_none_or(|only| only == word);
     if wanted("single") {
         time_all(&options, &workloads::single());
@@ -42,16 +49,17 @@ fn main() {
 
 fn options() -> Options {
     let beside = |name: &str| std::env::current_exe().unwrap().with_file_name(name).display().to_string();
-    let mut options = Options { driver: beside("driver"), reference: beside("reference"), only: None };
+    let mut options = Options { driver: beside("driver"), reference: beside("reference"), only: None, write: None };
     let mut given = std::env::args().skip(1);
     while let Some(word) = given.next() {
         match (word.as_str(), given.next()) {
             ("--driver", Some(command)) => options.driver = command,
             ("--reference", Some(command)) => options.reference = command,
             ("--only", Some(word)) => options.only = Some(word),
+            ("--write", Some(folder)) => options.write = Some(folder),
             _ => {
                 eprintln!(
-                    "usage: bench [--driver COMMAND] [--reference COMMAND] [--only single|check|drat|slow|stack]"
+                    "usage: bench [--driver COMMAND] [--reference COMMAND] [--only single|check|drat|slow|stack] [--write FOLDER]"
                 );
                 exit(2)
             }
