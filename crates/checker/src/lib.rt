@@ -9,7 +9,7 @@ use single::least::AtLeast;
 use table::NodeNo;
 ghost use mathlib.Core.Path.{_≡_};
 ghost use Rattle.commands.specs.Commands.{inRecords, inText};
-ghost use Rattle.session.specs.Checked.{outcomeOf};
+ghost use Rattle.session.specs.Checked.{checkOutcome};
 ghost use Rattle.single.specs.Single.{evaluation, madeOf, operation, countedOf, atLeastCall};
 ghost use Rattle.table.specs.Columns.{columnsMade};
 ghost use Rattle.verdict.specs.Check.{check};
@@ -143,7 +143,7 @@ pub fn cofactor_literals(
         heads,
         links,
         count,
-        Operation::Literals(positive, negative),
+        Operation::Literals { positive, negative },
         f,
         NodeNo(1),
     )
@@ -187,7 +187,7 @@ pub fn check_in<'a>(
     ensures { λ r. ⌜ (
         let lent = columnsMade (now (vars .entry)) (now (lows .entry)) (now (highs .entry)) (now (heads .entry)) (now (links .entry)) in
         let left = columnsMade (now (vars .exit)) (now (lows .exit)) (now (highs .exit)) (now (heads .exit)) (now (links .exit)) in
-        outcomeOf left (now (members .exit)) (now (struck .exit)) (now (scratch .exit)) r
+        checkOutcome left (now (members .exit)) (now (struck .exit)) (now (scratch .exit)) r
         ≡ check mode lent count (now (members .entry)) (now (struck .entry)) (now (scratch .entry))
         (now (formula .entry)) (now (proof .entry))) ⌝ }
     ensures { λ r. ⌜ (r .number ≡ 0 → Unsatisfiable (now (formula .entry))) ⌝ }
@@ -225,7 +225,7 @@ pub fn check<'a>(
     ensures { λ r. ⌜ (
         let lent = columnsMade (now (vars .entry)) (now (lows .entry)) (now (highs .entry)) (now (heads .entry)) (now (links .entry)) in
         let left = columnsMade (now (vars .exit)) (now (lows .exit)) (now (highs .exit)) (now (heads .exit)) (now (links .exit)) in
-        outcomeOf left (now (members .exit)) (now (struck .exit)) (now (scratch .exit)) r
+        checkOutcome left (now (members .exit)) (now (struck .exit)) (now (scratch .exit)) r
         ≡ check inRecords lent count (now (members .entry)) (now (struck .entry)) (now (scratch .entry))
         (now (formula .entry)) (now (proof .entry))) ⌝ }
     ensures { λ r. ⌜ (r .number ≡ 0 → Unsatisfiable (now (formula .entry))) ⌝ }
@@ -266,7 +266,7 @@ pub fn check_text<'a>(
     ensures { λ r. ⌜ (
         let lent = columnsMade (now (vars .entry)) (now (lows .entry)) (now (highs .entry)) (now (heads .entry)) (now (links .entry)) in
         let left = columnsMade (now (vars .exit)) (now (lows .exit)) (now (highs .exit)) (now (heads .exit)) (now (links .exit)) in
-        outcomeOf left (now (members .exit)) (now (struck .exit)) (now (scratch .exit)) r
+        checkOutcome left (now (members .exit)) (now (struck .exit)) (now (scratch .exit)) r
         ≡ check inText lent count (now (members .entry)) (now (struck .entry)) (now (scratch .entry))
         (now (formula .entry)) (now (proof .entry))) ⌝ }
     ensures { λ r. ⌜ (r .number ≡ 0 → Unsatisfiable (now (formula .entry))) ⌝ }

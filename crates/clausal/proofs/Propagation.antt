@@ -63,7 +63,7 @@ module _ (n : ℕ) (F : List Clause) (within : AllWithin n F) where
           t≢f (sym (unit-has n n (under n α c) (l .variable) (l .positive) (r .0) (r .1) (left-unit n α plain c w l (r .0) (r .1) t f)) ∙ none-in n (under n α) F e c i)
 
   -- the member that a round takes, with the literal that is left of it
-  record Taken (α : List Literal) (plain : Plain α) (u : Diagram) : Type 0 where
+  record UnitClause (α : List Literal) (plain : Plain α) (u : Diagram) : Type 0 where
     pub clause : Clause
     pub inside : In clause F
     pub is : under n α clause ≡ u
@@ -71,7 +71,7 @@ module _ (n : ℕ) (F : List Clause) (within : AllWithin n F) where
     pub unit : Literal
     pub left : Left n α plain clause (in-within n F clause within inside) unit
 
-  taken : (α : List Literal) (plain : Plain α) (u : Diagram) → conflicts n (members α) ≡ false → firstWithUnit n (members α) ≡ some u → Taken α plain u
+  taken : (α : List Literal) (plain : Plain α) (u : Diagram) → conflicts n (members α) ≡ false → firstWithUnit n (members α) ≡ some u → UnitClause α plain u
   taken α plain u calm e =
       let (c, i, q, h) = first-in n (under n α) F u e in
       let (v, s, lo, hi, un) = a-unit n n u h in
@@ -85,7 +85,7 @@ module _ (n : ℕ) (F : List Clause) (within : AllWithin n F) where
         left = unit-left n α plain c (in-within n F c within i) (literal v s) lo hi (subst (λ (f : Diagram). isUnit n f v s ≡ true) (sym q) un) nz;
       }
 
-  module _ (α : List Literal) (plain : Plain α) (u : Diagram) (T : Taken α plain u) where
+  module _ (α : List Literal) (plain : Plain α) (u : Diagram) (T : UnitClause α plain u) where
     next : List Literal
     next = T .unit ∷ α
 
@@ -120,7 +120,7 @@ module _ (n : ℕ) (F : List Clause) (within : AllWithin n F) where
       go true c x f e ih = conflict-refutes n α plain F within c
       go false c none f e ih = t≢f (sym e)
       go false c (some u) f e ih =
-          let T : Taken α plain u = taken α plain u c f in
+          let T : UnitClause α plain u = taken α plain u c f in
           next-refutes α plain u T
           (ih (next α plain u T) (next-plain α plain u T) (subst (λ (ms : List Diagram). propagate k n ms .conflict ≡ true) (next-members α plain u T) e))
 
@@ -144,7 +144,7 @@ module _ (n : ℕ) (F : List Clause) (within : AllWithin n F) where
       go true c x f e ih = t≢f e
       go false c none f e ih = (α, plain, (λ l h. h), ends-closed α plain c f)
       go false c (some u) f e ih =
-          let T : Taken α plain u = taken α plain u c f in
+          let T : UnitClause α plain u = taken α plain u c f in
           let less : inUse n (members (next α plain u T)) < inUse n (members α) = subst (λ (ms : List Diagram). inUse n ms < inUse n (members α)) (next-members α plain u T) (fewer n (members α) u c (under-all-reduced n α F) f) in
           let (β, pl, le, C) = ih (next α plain u T) (next-plain α plain u T) (omega arith) (subst (λ (ms : List Diagram). propagate k n ms .conflict ≡ false) (next-members α plain u T) e) in
           (β, pl, (λ l h. le l (next-wider α plain u T l h)), C)

@@ -77,7 +77,7 @@ module _ (n : ℕ) (c : Clause) (w : Within n c) (plain : Plain c) (p : Literal)
   abbrev ω : List Literal
   ω = witness p c
 
-  pub witness-plain : Plain ω
+  witness-plain : Plain ω
   witness-plain l x y =
       has-cases p (negations (without p c)) l x
       (λ e. has-cases p (negations (without p c)) (negated l) y (λ f. negated-differs p (f ∙ ap negated (sym e)))

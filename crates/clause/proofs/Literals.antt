@@ -31,14 +31,14 @@ value-within n [] a i = refl
 value-within n (l ∷ ls) a i =
     ap₂ _||_ (ap (λ (x : Bool). Bool·beq x (l .positive)) (sym (getD-take n a (l .variable - 1) false (omega arith)))) (value-within n ls a (i .2))
 
-pub clause-width : (n m : ℕ) → n ≤ m → (ls : List Literal) → Within n ls → clause m ls ≡ clause n ls
+clause-width : (n m : ℕ) → n ≤ m → (ls : List Literal) → Within n ls → clause m ls ≡ clause n ls
 unfolding clause
 clause-width n m le ls i = diagram-width n m (clauseValue ls) (clauseValue ls) le (λ a len. value-within n ls a i)
 
 -- ---- the clause
 
 -- of any set that has just the literals
-pub words-clause : (n : ℕ) → n ≤ 64 → (ls : List Literal) → Within n ls → (u : Literals) → ((v : ℕ) (s : Bool) → 1 ≤ v → v ≤ 64 → has u v s ≡ occurs ls v s)
+words-clause : (n : ℕ) → n ≤ 64 → (ls : List Literal) → Within n ls → (u : Literals) → ((v : ℕ) (s : Bool) → 1 ≤ v → v ≤ 64 → has u v s ≡ occurs ls v s)
     → clauseOfWords u ≡ clause n ls
 unfolding has
 words-clause n le ls i u is =

@@ -20,7 +20,7 @@ use Rattle.dimacs.specs.declared.Clause.{Clause}
 use Rattle.dimacs.specs.declared.Clause.the-variants.{Closed, End, Refused}
 use Rattle.dimacs.specs.Text.{isToken, tokenEnd, between}
 use Rattle.dimacs.specs.Numbers.{isZero, isNumber, unsigned, hasMinus, value, tokenOf}
-use Rattle.dimacs.specs.Clauses.{Next, closed, ended, refused, withLiteral, afterToken, clauseFrom}
+use Rattle.dimacs.specs.Clauses.{Next, closed, ended, refused, literalThen, afterToken, clauseFrom}
 use Rattle.dimacs.specs.Inner.{clauseAfter, clauseOf}
 use Rattle.dimacs.proofs.Cases.{by}
 use Rattle.dimacs.proofs.Runs.{past-least, past-most}
@@ -80,7 +80,7 @@ module _ (s : List ℕ) (n first : ℕ) where
   later at next ended le h = h
 
   with-in : (v : ℕ) (b : Bool) (at : ℕ) (x : Next) → 1 ≤ v → v ≤ n → ClauseIn s n first at x
-      → ClauseIn s n first at (withLiteral (record { variable = v; positive = b }) x)
+      → ClauseIn s n first at (literalThen (record { variable = v; positive = b }) x)
   with-in v b at (closed ls f end) lo hi h = (h .0, h .1, (lo, hi, h .2))
   with-in v b at (refused number place) lo hi h = h
   with-in v b at ended lo hi h = h
@@ -129,7 +129,7 @@ pivot-is s n (suc k) first at =
     (token (tokenAt s n at) (clauseFrom s n k first (nextAt s n at))))
     (λ f. subst (PivotIs (pivotAt (tokenAt s n at))) (sym (clause-end s n (suc k) first at (ltb-false at (length s) f))) tt)
   where
-    with : (v : ℕ) (b : Bool) (x : Next) → PivotIs (pivotAt (Literal v b)) (withLiteral (record { variable = v; positive = b }) x)
+    with : (v : ℕ) (b : Bool) (x : Next) → PivotIs (pivotAt (Literal v b)) (literalThen (record { variable = v; positive = b }) x)
     with v b (closed ls f next) = refl
     with v b (refused number place) = tt
     with v b ended = tt

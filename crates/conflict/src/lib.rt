@@ -53,9 +53,6 @@ fn is_marked(marks: &[u8], found: Found) -> bool
     }
 }
 
-// All variables.
-const ALL: u64 = 18446744073709551615;
-
 // Whether a member is asked for its negation: one with a variable in `touching`. Where that is all variables those that are 0 where all
 // variables are false are enough, for of two that are each other's negations one is.
 fn is_asked(
@@ -70,7 +67,7 @@ fn is_asked(
     requires { ⌜ Readable (now vars) (now lows) (now highs) count × (f .0 < count) ⌝ }
     ensures { λ r. ⌜ r ≡ asks (nodesIn (now (vars .entry)) (now (lows .entry)) (now (highs .entry)) count) (f .0) word touching ⌝ }
 {
-    if touching == ALL {
+    if touching == words::ALL {
         return !walks::value_of(vars, lows, highs, count, f, 0);
     }
     word & touching != 0

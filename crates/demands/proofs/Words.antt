@@ -27,7 +27,7 @@ use Rattle.demands.specs.Words.{memberAt, Conflict, is-zero, negated}
 -- ---- "a member is 0 or the negation of another"
 
 -- No diagram is its own negation.
-pub negation-other : (n : ℕ) (f : Diagram) → negation n f ≢ f
+negation-other : (n : ℕ) (f : Diagram) → negation n f ≢ f
 negation-other n f e = go (value f a) (sym (negation-value n a (length-replicate n false) f) ∙ ap (λ (g : Diagram). value g a) e)
   where
     a : Assignment
@@ -80,7 +80,7 @@ conflicts-exactly n ms = (to, from)
 abbrev pub GoesOn : ℕ → List Diagram → Type 0
 GoesOn n ms = unitProp n ms ≡ cond (conflicts n ms) (still true) (taking (firstWithUnit n ms) (λ u. round (byUnits n u ms) (unitProp n (byUnits n u ms))))
 
-pub unitProp-goes-on : (n : ℕ) (ms : List Diagram) → AllReduced n ms → GoesOn n ms
+unitProp-goes-on : (n : ℕ) (ms : List Diagram) → AllReduced n ms → GoesOn n ms
 unfolding unitProp propagate
 unitProp-goes-on n ms o = let e : n + 1 ≡ suc n = omega arith in sym (rw e at (more-rounds n 1 ms o))
 

@@ -17,7 +17,7 @@ use Rattle.dimacs.specs.declared.Token.the-variants.{Closing, Literal, W
 use Rattle.dimacs.specs.Text.{isToken, isSpace, isLine, tokenEnd, lineEnd, between}
 use Rattle.dimacs.specs.Numbers.{value}
 use Rattle.dimacs.specs.Header.{judgedFrom, nextWord, word, isHeader, headerAt, header}
-use Rattle.dimacs.specs.Clauses.{Next, closed, ended, refused, withLiteral, afterToken, clauseFrom, clauseAt, nextClause}
+use Rattle.dimacs.specs.Clauses.{Next, closed, ended, refused, literalThen, afterToken, clauseFrom, clauseAt, nextClause}
 use Rattle.dimacs.proofs.Cases.{by, clash}
 use Rattle.dimacs.proofs.Runs.{past-most}
 use Rattle.dimacs.proofs.Between.{between-most}
@@ -74,7 +74,7 @@ NextIn s n (closed ls first next) = (first < length s) × (next ≤ length s) ×
 NextIn s n ended = Unit {0}
 NextIn s n (refused number place) = place ≤ length s
 
-literal-in : (s : List ℕ) (n v : ℕ) (b : Bool) (x : Next) → 1 ≤ v → v ≤ n → NextIn s n x → NextIn s n (withLiteral (record { variable = v; positive = b }) x)
+literal-in : (s : List ℕ) (n v : ℕ) (b : Bool) (x : Next) → 1 ≤ v → v ≤ n → NextIn s n x → NextIn s n (literalThen (record { variable = v; positive = b }) x)
 literal-in s n v b (closed ls first next) l m h = (h .0, h .1, (l, m, h .2))
 literal-in s n v b ended l m h = tt
 literal-in s n v b (refused number place) l m h = h

@@ -15,10 +15,10 @@ use Rattle.dimacs.specs.declared.Clause.{Clause}
 use Rattle.dimacs.specs.declared.Clause.the-variants.{Closed, End, Refused}
 use Rattle.dimacs.specs.Text.{isToken, tokenEnd, between}
 use Rattle.dimacs.specs.Numbers.{tokenOf}
-use Rattle.dimacs.specs.Clauses.{Next, closed, ended, refused, withLiteral, afterToken, clauseFrom, nextClause}
+use Rattle.dimacs.specs.Clauses.{Next, closed, ended, refused, literalThen, afterToken, clauseFrom, nextClause}
 use Rattle.dimacs.specs.Inner.{clauseAfter, clauseOf}
 use Rattle.words.specs.declared.Literals.{Literals}
-use Rattle.words.specs.Sets.{noLiterals, withLiteral as with-in, withAll}
+use Rattle.words.specs.Sets.{noLiterals, withLiteral, withAll}
 use Rattle.dimacs.proofs.Cases.{by}
 use Rattle.dimacs.proofs.Runs.{past-most}
 use Rattle.dimacs.proofs.Between.{between-least}
@@ -55,7 +55,7 @@ module _ (s : List ℕ) (n : ℕ) where
       → afterToken t first at end x ≡ afterToken t first at end y
   after-cong Closing first at end x y h = refl
   after-cong (Wrong k) first at end x y h = refl
-  after-cong (Literal v b) first at end x y h = ap (λ (z : Next). withLiteral (record { variable = v; positive = b }) z) (h v b refl)
+  after-cong (Literal v b) first at end x y h = ap (λ (z : Next). literalThen (record { variable = v; positive = b }) z) (h v b refl)
 
   -- Steps for each byte left are enough.
   pub clause-fuel : (k m first at : ℕ) → length s ≤ at + k → length s ≤ at + m → clauseFrom s n k first at ≡ clauseFrom s n m first at
@@ -73,7 +73,7 @@ module _ (s : List ℕ) (n : ℕ) where
 
 -- ---- the code's set
 
-literal-set : (u : Literals) (v : ℕ) (b : Bool) (x : Next) → clauseAfter u (withLiteral (record { variable = v; positive = b }) x) ≡ clauseAfter (with-in u v b) x
+literal-set : (u : Literals) (v : ℕ) (b : Bool) (x : Next) → clauseAfter u (literalThen (record { variable = v; positive = b }) x) ≡ clauseAfter (withLiteral u v b) x
 unfolding clauseAfter
 literal-set u v b (closed ls first next) = refl
 literal-set u v b ended = refl
@@ -107,7 +107,7 @@ module _ (s : List ℕ) (n first : ℕ) (u : Literals) (at : ℕ) where
       rest-wrong k e = here ∙ rw (sym is, e)
 
       pub rest-literal : (v : ℕ) (b : Bool) (next : ℕ) (u′ : Literals) → tokenOf n (slice at end s) ≡ Literal v b → next ≡ between s end
-          → u′ ≡ with-in u v b → restOf s n first u at ≡ restOf s n first u′ next
+          → u′ ≡ withLiteral u v b → restOf s n first u at ≡ restOf s n first u′ next
       rest-literal v b next u′ e f g =
           let later : clauseFrom s n (length s - (at + 1)) first (between s end) ≡ clauseFrom s n (length s - between s end) first (between s end) =
           clause-fuel s n (length s - (at + 1)) (length s - between s end) first (between s end)

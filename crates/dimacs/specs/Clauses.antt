@@ -23,16 +23,16 @@ pub data Next : Type 0 where
   ended : Next
   refused : ℕ → ℕ → Next
 
-abbrev pub withLiteral : meaning.Literal → Next → Next
-withLiteral l (closed ls first next) = closed (l ∷ ls) first next
-withLiteral l ended = ended
-withLiteral l (refused number place) = refused number place
+abbrev pub literalThen : meaning.Literal → Next → Next
+literalThen l (closed ls first next) = closed (l ∷ ls) first next
+literalThen l ended = ended
+literalThen l (refused number place) = refused number place
 
 -- A token at a place, with its end and what is read behind it.
 abbrev pub afterToken : Token → ℕ → ℕ → ℕ → Next → Next
 afterToken Closing first place end rest = closed [] first end
 afterToken (Wrong number) first place end rest = refused number place
-afterToken (Literal v b) first place end rest = withLiteral (record { variable = v; positive = b }) rest
+afterToken (Literal v b) first place end rest = literalThen (record { variable = v; positive = b }) rest
 
 -- The rest of an open clause, from the token at `at` on; its first token is at `first`. At most k tokens are left.
 -- "each clause closed by `0`"; 3 and 4 at "the token"; 6 "last clause open", at "the clause's first token".

@@ -14,7 +14,7 @@ ghost use Rattle.commands.specs.Commands.{inRecords, inText};
 ghost use Rattle.io.specs.Counts.{Counts};
 ghost use Rattle.report.specs.Files.{said, statusOf};
 ghost use Rattle.report.specs.Line.{lineBytes};
-ghost use Rattle.session.specs.Checked.{outcomeOf};
+ghost use Rattle.session.specs.Checked.{checkOutcome};
 ghost use Rattle.single.specs.Single.{evaluation, madeOf, operation, countedOf, atLeastCall};
 ghost use Rattle.table.specs.Columns.{columnsMade};
 ghost use Rattle.verdict.specs.Check.{check};
@@ -167,7 +167,7 @@ pub extern "C" fn cablesalak_check<'a>(
     ensures { λ r. ⌜ (
         let lent = columnsMade (now (vars .entry)) (now (lows .entry)) (now (highs .entry)) (now (heads .entry)) (now (links .entry)) in
         let left = columnsMade (now (vars .exit)) (now (lows .exit)) (now (highs .exit)) (now (heads .exit)) (now (links .exit)) in
-        outcomeOf left (now (members .exit)) (now (struck .exit)) (now (scratch .exit)) r
+        checkOutcome left (now (members .exit)) (now (struck .exit)) (now (scratch .exit)) r
         ≡ check inRecords lent count (now (members .entry)) (now (struck .entry)) (now (scratch .entry))
         (now (formula .entry)) (now (proof .entry))) ⌝ }
     ensures { λ r. ⌜ (r .number ≡ 0 → Unsatisfiable (now (formula .entry))) ⌝ }
@@ -205,7 +205,7 @@ pub extern "C" fn cablesalak_check_text<'a>(
     ensures { λ r. ⌜ (
         let lent = columnsMade (now (vars .entry)) (now (lows .entry)) (now (highs .entry)) (now (heads .entry)) (now (links .entry)) in
         let left = columnsMade (now (vars .exit)) (now (lows .exit)) (now (highs .exit)) (now (heads .exit)) (now (links .exit)) in
-        outcomeOf left (now (members .exit)) (now (struck .exit)) (now (scratch .exit)) r
+        checkOutcome left (now (members .exit)) (now (struck .exit)) (now (scratch .exit)) r
         ≡ check inText lent count (now (members .entry)) (now (struck .entry)) (now (scratch .entry))
         (now (formula .entry)) (now (proof .entry))) ⌝ }
     ensures { λ r. ⌜ (r .number ≡ 0 → Unsatisfiable (now (formula .entry))) ⌝ }

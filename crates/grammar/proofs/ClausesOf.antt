@@ -13,7 +13,7 @@ use Rattle.meaning.specs.Operations as meaning
 use Rattle.dimacs.specs.declared.Token.{Token}
 use Rattle.dimacs.specs.declared.Token.the-variants.{Closing, Literal, Wrong}
 use Rattle.dimacs.specs.Text.{isToken, tokenEnd, between}
-use Rattle.dimacs.specs.Clauses.{Next, closed, ended, refused, withLiteral, afterToken, clauseFrom, nextClause, clause as andNext, complete, andThen, clausesFrom}
+use Rattle.dimacs.specs.Clauses.{Next, closed, ended, refused, literalThen, afterToken, clauseFrom, nextClause, clause as andNext, complete, andThen, clausesFrom}
 use Rattle.dimacs.proofs.Cases.{by, clash}
 use Rattle.dimacs.proofs.OpenClause.{tokenAt, nextAt, clause-suc, clause-end}
 use Rattle.dimacs.proofs.Formula.{clauses-closed, clauses-ended, clauses-refused}
@@ -37,7 +37,7 @@ closed-same : (ls ms : List meaning.Literal) (f g m k : ℕ) → closed ls f m �
 closed-same ls ms f g m k e = (cc, cc)
 
 -- What was read behind a literal of a clause that closes.
-with-closed : (l : meaning.Literal) (x : Next) (ls : List meaning.Literal) (f next : ℕ) → withLiteral l x ≡ closed ls f next
+with-closed : (l : meaning.Literal) (x : Next) (ls : List meaning.Literal) (f next : ℕ) → literalThen l x ≡ closed ls f next
     → (ms : List meaning.Literal) × (x ≡ closed ms f next) × (l ∷ ms ≡ ls)
 with-closed l (closed ms g k) ls f next e = (ms, cc, cc)
 with-closed l ended ls f next e = ended-not f next ls e
@@ -103,7 +103,7 @@ module _ (s : List ℕ) (n : ℕ) where
 
   module _ (k first at f next : ℕ) (ls : List meaning.Literal) (ih : Rest k first (nextAt s n at) f next) where
     literal-step : (v : ℕ) (b : Bool) → tokenAt s n at ≡ Literal v b
-        → withLiteral (record { variable = v; positive = b }) (clauseFrom s n k first (nextAt s n at)) ≡ closed ls f next → ClauseOf at next ls
+        → literalThen (record { variable = v; positive = b }) (clauseFrom s n k first (nextAt s n at)) ≡ closed ls f next → ClauseOf at next ls
     literal-step v b q e =
         let rest = with-closed (record { variable = v; positive = b }) (clauseFrom s n k first (nextAt s n at)) ls f next e in
         let go : Between s (tokenEnd s at) → ClauseOf at next (record { variable = v; positive = b } ∷ rest .0) = λ w. elim w [

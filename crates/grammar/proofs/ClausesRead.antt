@@ -13,7 +13,7 @@ use Rattle.dimacs.specs.declared.Token.{Token}
 use Rattle.dimacs.specs.declared.Token.the-variants.{Closing, Literal}
 use Rattle.dimacs.specs.Text.{isParting, isToken, tokenEnd, between}
 use Rattle.dimacs.specs.Numbers.{tokenOf}
-use Rattle.dimacs.specs.Clauses.{Next, closed, ended, withLiteral, afterToken, clauseFrom, nextClause, clause as andNext, clausesFrom}
+use Rattle.dimacs.specs.Clauses.{Next, closed, ended, literalThen, afterToken, clauseFrom, nextClause, clause as andNext, clausesFrom}
 use Rattle.dimacs.proofs.Between.{between-least}
 use Rattle.dimacs.proofs.OpenClause.{tokenAt, nextAt, clause-suc, literal-moves}
 use Rattle.dimacs.proofs.Formula.{clauses-closed, clauses-ended}
@@ -106,7 +106,7 @@ module _ (s : List ℕ) (n : ℕ) where
             later .0,
             clause-suc s n k first at lt
                 ∙ ap (λ (t : Token). afterToken t first at (tokenEnd s at) (clauseFrom s n k first (nextAt s n at))) said
-                ∙ ap (λ (y : Next). withLiteral (literal x) y) (later .1),
+                ∙ ap (λ (y : Next). literalThen (literal x) y) (later .1),
             later .2,
           )
 

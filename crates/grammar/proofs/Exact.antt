@@ -137,7 +137,7 @@ heads s n m at e =
 
 module _ (s : List ℕ) (n : ℕ) (cs : List (List meaning.Literal)) where
   -- Whatever the reader accepts is a text of the grammar that says what was read.
-  pub read-is-of-the-grammar : Reads s n cs → Dimacs s n cs
+  read-is-of-the-grammar : Reads s n cs → Dimacs s n cs
   read-is-of-the-grammar R =
       let many : R .wanted ≡ length cs = count s n (R .wanted) (R .at) cs (R .gives) in
       let H = heads s n (R .wanted) (R .at) (R .proper) in
@@ -181,7 +181,7 @@ gives-same (c ∷ cs) (d ∷ ds) (clause ls f r) g h =
 gives-same (c ∷ cs) (d ∷ ds) (refusal k p) g h = absurd g
 
 -- The whole reading gives the clauses that were read.
-pub formula-gives : (s : List ℕ) (n : ℕ) (cs : List (List meaning.Literal)) → Dimacs s n cs → Gives cs (formula s)
+formula-gives : (s : List ℕ) (n : ℕ) (cs : List (List meaning.Literal)) → Dimacs s n cs → Gives cs (formula s)
 formula-gives s n cs D =
     let R = print-and-read s n cs D in subst (Gives cs) (sym (formula-proper s n (R .wanted) (R .at) (R .proper))) (R .gives)
 

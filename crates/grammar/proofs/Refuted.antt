@@ -46,7 +46,7 @@ abbrev pub Says : List ℕ → Type 0
 Says text = (cs : List (List meaning.Literal)) × (n : ℕ) × Dimacs text n cs
 
 -- It is exactly where the reader comes to the end with nothing refused.
-pub reads-to-end : (text : List ℕ) → (readToEnd (formula text) ≡ true → Says text) × (Says text → readToEnd (formula text) ≡ true)
+reads-to-end : (text : List ℕ) → (readToEnd (formula text) ≡ true → Says text) × (Says text → readToEnd (formula text) ≡ true)
 reads-to-end text = (
   (λ e. let D = formula-exactly text (clausesOf (formula text)) .0 (end-gives (formula text) e) in (clausesOf (formula text), D .0, D .1)),
   (λ d. gives-end (d .0) (formula text) (formula-exactly text (d .0) .1 (d .1) (d .2))),

@@ -74,7 +74,7 @@ numeral-from (suc v) =
     let k = next-decimal (m .0) (raise (m .0 .more) (m .0 .areDigits)) in (k .0, k .1 ∙ ap suc (m .1))
 
 -- Every number has a numeral.
-pub numeral : (v : ℕ) → (x : Number) × (numberValue x ≡ v)
+numeral : (v : ℕ) → (x : Number) × (numberValue x ≡ v)
 numeral zero = (nought, refl)
 numeral (suc v) = let m = numeral-from v in (positive (m .0), m .1)
 

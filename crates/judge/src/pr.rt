@@ -1,12 +1,13 @@
 // A PR line: the members by not-g, and then each member's turn over them.
 use operate::Operation;
 use table::NodeNo;
+use words::Literals;
 ghost use mathlib.Core.Path.{_≡_};
 ghost use mathlib.Core.Bool.{false};
 ghost use mathlib.Core.List.{[], _∷_};
 ghost use Prim.Native.Nat.{_*_, _≤_, _<_};
 ghost use lib.ListN.{length};
-ghost use Rattle.meaning.specs.Rules.{rup, prTurns, pr};
+ghost use Rattle.meaning.specs.Rules.{prTurns, pr};
 ghost use Rattle.meaning.specs.Words.{inWord};
 ghost use Rattle.table.specs.Nodes.{diagramAt};
 ghost use Rattle.table.specs.Indexed.{tableOf, nodesOf};
@@ -33,8 +34,7 @@ fn turn(
     count: usize,
     f: NodeNo,
     word: u64,
-    positive: u64,
-    negative: u64,
+    witness: Literals,
 ) -> crate::Judged
     requires { ⌜ (
         let before = tableOf (now vars) (now lows) (now highs) (now heads) (now links) count in
@@ -49,12 +49,12 @@ fn turn(
         let before = tableOf (now (vars .entry)) (now (lows .entry)) (now (highs .entry)) (now (heads .entry)) (now (links .entry)) count in
         let after = tableOf (now (vars .exit)) (now (lows .exit)) (now (highs .exit)) (now (heads .exit)) (now (links .exit)) (r .count) in
         Says before
-        (prTurns 64 (inWord positive) (inWord negative) (diagramsOf (nodesOf before) (now (first .entry)))
+        (prTurns 64 (inWord (witness .positive)) (inWord (witness .negative)) (diagramsOf (nodesOf before) (now (first .entry)))
         (diagramAt (nodesOf before) (f .0) ∷ []))
         64 r after) ⌝ }
     ensures { λ _. ⌜ now (marks .exit) ≡ unmarked (length (now (vars .entry))) ⌝ }
 {
-    if walks::is_one(vars, lows, highs, memo, count, f, positive, negative) {
+    if walks::is_one(vars, lows, highs, memo, count, f, witness) {
         return crate::Judged {
             full: false,
             shown: true,
@@ -72,7 +72,10 @@ fn turn(
         links,
         memo,
         count,
-        Operation::Literals(positive, negative),
+        Operation::Literals {
+            positive: witness.positive,
+            negative: witness.negative,
+        },
         f,
         NodeNo(1),
     );
@@ -119,8 +122,7 @@ fn turns(
     second: &mut [u16],
     secondwords: &mut [u64],
     count: usize,
-    positive: u64,
-    negative: u64,
+    witness: Literals,
 ) -> crate::Judged
     requires { ⌜ (
         let before = tableOf (now vars) (now lows) (now highs) (now heads) (now links) count in
@@ -140,7 +142,7 @@ fn turns(
         let before = tableOf (now (vars .entry)) (now (lows .entry)) (now (highs .entry)) (now (heads .entry)) (now (links .entry)) count in
         let after = tableOf (now (vars .exit)) (now (lows .exit)) (now (highs .exit)) (now (heads .exit)) (now (links .exit)) (r .count) in
         Says before
-        (prTurns 64 (inWord positive) (inWord negative) (diagramsOf (nodesOf before) (now (first .entry)))
+        (prTurns 64 (inWord (witness .positive)) (inWord (witness .negative)) (diagramsOf (nodesOf before) (now (first .entry)))
         (diagramsOf (nodesOf before) (now (members .entry))))
         (64 * length (now (members .entry))) r after) ⌝ }
     ensures { λ _. ⌜ now (marks .exit) ≡ unmarked (length (now (vars .entry))) ⌝ }
@@ -165,8 +167,7 @@ fn turns(
             count,
             f,
             memberwords[i],
-            positive,
-            negative,
+            witness,
         );
         peak = crate::greater(peak, t.peak);
         if t.full {
@@ -200,7 +201,7 @@ fn turns(
     }
 }
 
-// The PR line of node `root` with the witness of the two words, worked out in `first` and `second`, with words to
+// The PR line of node `root` with the witness, worked out in `first` and `second`, with words to
 // work in for the members and for each of the two. Of its nodes those of not-g and of
 // the members by not-g stay; where it is `full`, those of the turn that found no room too.
 pub fn pr(
@@ -219,8 +220,7 @@ pub fn pr(
     secondwords: &mut [u64],
     count: usize,
     root: NodeNo,
-    positive: u64,
-    negative: u64,
+    witness: Literals,
 ) -> crate::Judged
     requires { ⌜ (
         let before = tableOf (now vars) (now lows) (now highs) (now heads) (now links) count in
@@ -236,7 +236,7 @@ pub fn pr(
         let before = tableOf (now (vars .entry)) (now (lows .entry)) (now (highs .entry)) (now (heads .entry)) (now (links .entry)) count in
         let after = tableOf (now (vars .exit)) (now (lows .exit)) (now (highs .exit)) (now (heads .exit)) (now (links .exit)) (r .count) in
         Says before
-        (pr 64 (inWord positive) (inWord negative) (diagramsOf (nodesOf before) (now (members .entry)))
+        (pr 64 (inWord (witness .positive)) (inWord (witness .negative)) (diagramsOf (nodesOf before) (now (members .entry)))
         (diagramAt (nodesOf before) (root .0)))
         (64 * length (now (members .entry))) r after) ⌝ }
     ensures { λ _. ⌜ now (marks .exit) ≡ unmarked (length (now (vars .entry))) ⌝ }
@@ -283,7 +283,6 @@ pub fn pr(
         second,
         secondwords,
         made.count,
-        positive,
-        negative,
+        witness,
     )
 }

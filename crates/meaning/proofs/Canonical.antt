@@ -35,7 +35,7 @@ reduced-from i j e (leaf b) h o = tt
 reduced-from i j e (node v l r) h o = (omega arith, o .1, o .2, o .3, o .4)
 
 -- ---- a diagram's value when one more variable is put in front
-pub value-skip : (i e : ℕ) (t : Diagram) (b : Bool) (a : Assignment) → Reduced (suc i) e t → valueFrom i t (b ∷ a) ≡ valueFrom (suc i) t a
+value-skip : (i e : ℕ) (t : Diagram) (b : Bool) (a : Assignment) → Reduced (suc i) e t → valueFrom i t (b ∷ a) ≡ valueFrom (suc i) t a
 unfolding valueFrom
 value-skip i e (leaf c) b a o = refl
 value-skip i e (node v l h) b a o =
@@ -45,7 +45,7 @@ value-skip i e (node v l h) b a o =
     rw (m, r, q)
 
 -- and when it is the root's own variable
-pub value-root : (i e : ℕ) (l h : Diagram) (b : Bool) (a : Assignment) → Reduced (suc i) e l → Reduced (suc i) e h
+value-root : (i e : ℕ) (l h : Diagram) (b : Bool) (a : Assignment) → Reduced (suc i) e l → Reduced (suc i) e h
     → valueFrom i (node i l h) (b ∷ a) ≡ cond b (valueFrom (suc i) h a) (valueFrom (suc i) l a)
 unfolding valueFrom
 value-root i e l h b a ol oh =
@@ -64,7 +64,7 @@ pub data View (i e : ℕ) : Diagram → Type 0 where
   below : {t : Diagram} → Reduced (suc i) e t → View i e t
   root : {l h : Diagram} → i < e → l ≢ h → Reduced (suc i) e l → Reduced (suc i) e h → View i e (node i l h)
 
-pub view : (i e : ℕ) (t : Diagram) → Reduced i e t → View i e t
+view : (i e : ℕ) (t : Diagram) → Reduced i e t → View i e t
 view i e (leaf b) o = below tt
 view i e (node v l h) o =
     elim (ℕ-discrete v i) [
@@ -109,7 +109,7 @@ diagramFrom-reduced zero i e f q = tt
 diagramFrom-reduced (suc k) i e f q = branch-reduced i e _ _ (omega arith) (diagramFrom-reduced k (suc i) e _ (omega arith)) (diagramFrom-reduced k (suc i) e _ (omega arith))
 
 -- and its value is f
-pub branch-value : (v e : ℕ) (l h : Diagram) (b : Bool) (a : Assignment) → Reduced (suc v) e l → Reduced (suc v) e h
+branch-value : (v e : ℕ) (l h : Diagram) (b : Bool) (a : Assignment) → Reduced (suc v) e l → Reduced (suc v) e h
     → valueFrom v (branch v l h) (b ∷ a) ≡ cond b (valueFrom (suc v) h a) (valueFrom (suc v) l a)
 unfolding branch
 branch-value v e l h b a ol oh = go (same? l h) b

@@ -83,14 +83,14 @@ module _ (k i e : ℕ) (q : e ≡ i + suc k) (f g : Diagram) (of : Reduced i e f
   level-one false z n = ap₂ (branch i) (above-turn false z n) (above-stay true n) ∙ branch-same i _ _ refl
 
 -- which sides of g are 0, where g is not
-pub data Sides (i : ℕ) (g : Diagram) : Type 0 where
-  one : (b : Bool) → side i b g ≡ leaf false → side i (not b) g ≢ leaf false → Sides i g
-  both : side i false g ≢ leaf false → side i true g ≢ leaf false → Sides i g
+pub data LiveSides (i : ℕ) (g : Diagram) : Type 0 where
+  one : (b : Bool) → side i b g ≡ leaf false → side i (not b) g ≢ leaf false → LiveSides i g
+  both : side i false g ≢ leaf false → side i true g ≢ leaf false → LiveSides i g
 
-pub sides : (i e : ℕ) (g : Diagram) → Reduced i e g → g ≢ leaf false → Sides i g
-sides i e g og nz = go (same? (side i false g) (leaf false)) (same? (side i true g) (leaf false))
+pub live-sides : (i e : ℕ) (g : Diagram) → Reduced i e g → g ≢ leaf false → LiveSides i g
+live-sides i e g og nz = go (same? (side i false g) (leaf false)) (same? (side i true g) (leaf false))
   where
-    go : Dec (side i false g ≡ leaf false) → Dec (side i true g ≡ leaf false) → Sides i g
+    go : Dec (side i false g ≡ leaf false) → Dec (side i true g ≡ leaf false) → LiveSides i g
     go (yes z) y = one false z (λ w. nz (side-zero i e g og z w))
     go (no n) (yes w) = one true w n
     go (no n) (no m) = both n m

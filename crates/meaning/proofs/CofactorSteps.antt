@@ -9,7 +9,7 @@ use Rattle.meaning.specs.Diagram.{Diagram, leaf, node, valueFrom, value,
 use Rattle.meaning.specs.Operations.{cofactor}
 use Rattle.meaning.proofs.Canonical.{unique, side, side-reduced, side-zero}
 use Rattle.meaning.proofs.Nearest.{nearest-is, sat-of}
-use Rattle.meaning.proofs.Cofactor.{cofactor-value, cofactor-reduced, cofactor-where, cofactorFrom, cofactorFrom-leaf, sidesFrom, level-both, level-one, cofactor-from, Sides, one, both, sides}
+use Rattle.meaning.proofs.Cofactor.{cofactor-value, cofactor-reduced, cofactor-where, cofactorFrom, cofactorFrom-leaf, sidesFrom, level-both, level-one, cofactor-from, LiveSides, one, both, live-sides}
 use Rattle.meaning.proofs.Values.{reduced-to}
 
 -- ---- at variable x, from which on all variables of f and g are
@@ -70,12 +70,12 @@ levels-more zero j i e m (leaf b) g p q of og nz = cofactorFrom-leaf m i b g ∙
 levels-more zero j i e m (node v l h) g p q of og nz = absurd (omega arith)
 levels-more (suc k) j i e m f g p q of og nz =
     let s : m ≡ suc (k + j) = omega arith in
-    rw s (go (sides i e g og nz) (λ b. levels-more k j (suc i) e (k + j) (side i b f) (side i b g) (omega arith) refl (side-reduced i e b f of) (side-reduced i e b g og)))
+    rw s (go (live-sides i e g og nz) (λ b. levels-more k j (suc i) e (k + j) (side i b f) (side i b g) (omega arith) refl (side-reduced i e b f of) (side-reduced i e b g og)))
   where
     wide : (t : Diagram) → Reduced i e t → Reduced i (e + j) t
     wide t o = reduced-to i e (e + j) t (omega arith) o
 
-    go : Sides i g → ((b : Bool) → side i b g ≢ leaf false → sidesFrom (k + j) i f g b ≡ sidesFrom k i f g b) → cofactorFrom (suc (k + j)) i f g ≡ cofactorFrom (suc k) i f g
+    go : LiveSides i g → ((b : Bool) → side i b g ≢ leaf false → sidesFrom (k + j) i f g b ≡ sidesFrom k i f g b) → cofactorFrom (suc (k + j)) i f g ≡ cofactorFrom (suc k) i f g
     go (one b z n) ih = level-one (k + j) i (e + j) (omega arith) f g (wide f of) (wide g og) b z n ∙ ih (not b) n ∙ sym (level-one k i e p f g of og b z n)
     go (both n m) ih =
         level-both (k + j) i (e + j) (omega arith) f g (wide f of) (wide g og) n m ∙ ap₂ (branch i) (ih false n) (ih true m) ∙ sym (level-both k i e p f g of og n m)

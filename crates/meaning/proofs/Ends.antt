@@ -121,17 +121,17 @@ literals-in-any n P N v (f ∷ fs) o e =
     (λ z. let x : Left P N v (any (variableIn v) fs) = literals-in-any n P N v fs (o .1) z in (or-right (variableIn v f) (any (variableIn v) fs) (x .0), x .1, x .2))
 
 -- the member that is taken: it has a unit and is one of them
-abbrev Taken : ℕ → List Diagram → Diagram → Type 0
-Taken n ms u = (hasUnit n n u ≡ true) × Reduced 1 (suc n) u × ((p : Diagram → Bool) → p u ≡ true → any p ms ≡ true)
+abbrev UnitMember : ℕ → List Diagram → Diagram → Type 0
+UnitMember n ms u = (hasUnit n n u ≡ true) × Reduced 1 (suc n) u × ((p : Diagram → Bool) → p u ≡ true → any p ms ≡ true)
 
-pub first-taken : (n : ℕ) (ms : List Diagram) (u : Diagram) → firstWithUnit n ms ≡ some u → AllReduced n ms → Taken n ms u
+pub first-taken : (n : ℕ) (ms : List Diagram) (u : Diagram) → firstWithUnit n ms ≡ some u → AllReduced n ms → UnitMember n ms u
 unfolding firstWithUnit any
 first-taken n [] u e o = let z : _≡_ {A = ℕ} 0 1 = cc in absurd (omega arith)
 first-taken n (f ∷ fs) u e o = go (hasUnit n n f) refl e (λ e′. first-taken n fs u e′ (o .1))
   where
-    go : (b : Bool) → hasUnit n n f ≡ b → cond b (some f) (firstWithUnit n fs) ≡ some u → (firstWithUnit n fs ≡ some u → Taken n fs u) → Taken n (f ∷ fs) u
+    go : (b : Bool) → hasUnit n n f ≡ b → cond b (some f) (firstWithUnit n fs) ≡ some u → (firstWithUnit n fs ≡ some u → UnitMember n fs u) → UnitMember n (f ∷ fs) u
     go true h e ih = let q : f ≡ u = cc in (rw q at h, rw q at (o .0), λ p x. or-left (p f) (any p fs) (rw q x))
-    go false h e ih = let r : Taken n fs u = ih e in (r .0, r .1, λ p x. or-right (p f) (any p fs) (r .2 p x))
+    go false h e ih = let r : UnitMember n fs u = ih e in (r .0, r .1, λ p x. or-right (p f) (any p fs) (r .2 p x))
 
 a-unit : (n w : ℕ) (f : Diagram) → hasUnit n w f ≡ true → (v : ℕ) × (s : Bool) × (1 ≤ v) × (v ≤ w) × (isUnit n f v s ≡ true)
 unfolding hasUnit
@@ -149,7 +149,7 @@ inUse n ms = count n (λ v. any (variableIn v) ms)
 pub fewer : (n : ℕ) (ms : List Diagram) (u : Diagram) → conflicts n ms ≡ false → AllReduced n ms → firstWithUnit n ms ≡ some u → inUse n (byUnits n u ms) < inUse n ms
 unfolding conflicts inUse byUnits
 fewer n ms u c o e =
-    let T : Taken n ms u = first-taken n ms u e o in
+    let T : UnitMember n ms u = first-taken n ms u e o in
     let (v, s, lo, hi, un) = a-unit n n u (T .0) in
     let nz : u ≢ leaf false = λ q. t≢f (sym (T .2 (same (leaf false)) (eq-same (leaf false) u (sym q))) ∙ or-neither (any (same (leaf false)) ms) _ c .0) in
     let stood : variableIn v u ≡ true = unit-in 1 (suc n) v s u (T .1) nz (sym (isUnit-is n u v s (T .1) lo hi) ∙ un) in

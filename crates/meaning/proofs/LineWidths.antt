@@ -62,7 +62,7 @@ module _ (m n : ℕ) (more : m ≤ n) where
           let ne : h ≢ leaf true = λ q. t≢f (sym (eq-same h (leaf true) q) ∙ e) in
           ap₂ (λ (p : Propagation) (made : List Diagram). afterTurn p (h ∷ made) (prTurns m P N ms′ fs)) (propagated h oh ne ms′ o′) (base-width h oh ne ms′ o′)
 
-  pub turns-width : (P N : ℕ → Bool) (ms′ : List Diagram) → AllReduced m ms′ → (fs : List Diagram) → AllReduced m fs → prTurns n P N ms′ fs ≡ prTurns m P N ms′ fs
+  turns-width : (P N : ℕ → Bool) (ms′ : List Diagram) → AllReduced m ms′ → (fs : List Diagram) → AllReduced m fs → prTurns n P N ms′ fs ≡ prTurns m P N ms′ fs
   unfolding prTurns
   turns-width P N ms′ o′ [] o = refl
   turns-width P N ms′ o′ (f ∷ fs) o = turn-width P N ms′ o′ f (o .0) fs (turns-width P N ms′ o′ fs (o .1))

@@ -34,7 +34,7 @@ sum-first (suc n) f = omega (arith, sum-first n f)
 abbrev cost : Bool → Bool → ℕ → ℕ
 cost x y weight = cond (Bool·beq x y) 0 weight
 
-pub distance-first : (n : ℕ) (x y : Bool) (a b : Assignment) → distance (suc n) (x ∷ a) (y ∷ b) ≡ cost x y (2 ^ n) + distance n a b
+distance-first : (n : ℕ) (x y : Bool) (a b : Assignment) → distance (suc n) (x ∷ a) (y ∷ b) ≡ cost x y (2 ^ n) + distance n a b
 unfolding distance
 distance-first n x y a b =
     sum-first n (λ i. cost (holds (x ∷ a) i) (holds (y ∷ b) i) (2 ^ (suc n - i)))
@@ -195,7 +195,7 @@ module _ (k : ℕ) (g : Assignment → Bool) (t : Bool) (a : Assignment) (p : le
 -- ---- diagrams other than 0 are satisfied
 
 -- a reduced ordered diagram that no assignment satisfies is 0
-pub zero-by : (k i e : ℕ) (t : Diagram) → e ≡ i + k → Reduced i e t → ((a : Assignment) → length a ≡ k → valueFrom i t a ≡ false) → t ≡ leaf false
+zero-by : (k i e : ℕ) (t : Diagram) → e ≡ i + k → Reduced i e t → ((a : Assignment) → length a ≡ k → valueFrom i t a ≡ false) → t ≡ leaf false
 unfolding valueFrom
 zero-by k i e t q o h = unique k i e t (leaf false) q o tt h
 

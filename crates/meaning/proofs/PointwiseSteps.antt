@@ -42,7 +42,7 @@ module _ (n : ℕ) where
 -- ---- conjunction
 
 module _ (n : ℕ) where
-  pub conjunction-commutes : (f g : Diagram) → conjunction n f g ≡ conjunction n g f
+  conjunction-commutes : (f g : Diagram) → conjunction n f g ≡ conjunction n g f
   unfolding conjunction
   conjunction-commutes f g = diagram-cong n _ _ (λ a len. and-commutes (value f a) (value g a))
 

@@ -65,7 +65,7 @@ module _ (S : ℕ → Bool) where
   at-most-one false b t s le = le
 
   -- at most as many are true as there are
-  pub trues-size : (i : ℕ) (a : Assignment) → truesFrom S i a ≤ sizeFrom S (length a) i
+  trues-size : (i : ℕ) (a : Assignment) → truesFrom S i a ≤ sizeFrom S (length a) i
   unfolding truesFrom sizeFrom
   trues-size i [] = omega arith
   trues-size i (b ∷ a) = at-most-one (S i) b (truesFrom S (suc i) a) (sizeFrom S (length a) (suc i)) (trues-size (suc i) a)

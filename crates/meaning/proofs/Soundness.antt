@@ -23,7 +23,7 @@ Satisfies a [] = Unit {0}
 Satisfies a (f ∷ fs) = (value f a ≡ true) × Satisfies a fs
 
 -- members changed so that their values at a stay
-pub map-satisfies : (g : Diagram → Diagram) (ms : List Diagram) (a : Assignment) → ((f : Diagram) → value (g f) a ≡ value f a) → Satisfies a ms → Satisfies a (map g ms)
+map-satisfies : (g : Diagram → Diagram) (ms : List Diagram) (a : Assignment) → ((f : Diagram) → value (g f) a ≡ value f a) → Satisfies a ms → Satisfies a (map g ms)
 map-satisfies g [] a h s = tt
 map-satisfies g (f ∷ fs) a h s = (h f ∙ s .0, map-satisfies g fs a h (s .1))
 
@@ -34,7 +34,7 @@ unfolding any
 any-satisfied p [] a e s = t≢f (sym e)
 any-satisfied p (f ∷ fs) a e s = or-cases (p f) (any p fs) e (λ x. (f, x, s .0)) (λ x. any-satisfied p fs a x (s .1))
 
-pub conflicts-sound : (n : ℕ) (ms : List Diagram) (a : Assignment) → length a ≡ n → conflicts n ms ≡ true → Satisfies a ms → ⊥
+conflicts-sound : (n : ℕ) (ms : List Diagram) (a : Assignment) → length a ≡ n → conflicts n ms ≡ true → Satisfies a ms → ⊥
 unfolding conflicts valueFrom
 conflicts-sound n ms a len e s =
     or-cases (any (same (leaf false)) ms) (any (λ f. any (λ g. same f (negation n g)) ms) ms) e
@@ -73,7 +73,7 @@ forced-units n u a len t = ext-getD false (forced P N 1 a) a (forced-length P N 
     go false true b p q = sym (q refl)
     go false false b p q = refl
 
-pub propagate-sound : (most n : ℕ) (ms : List Diagram) → propagate most n ms .conflict ≡ true → (a : Assignment) → length a ≡ n → Satisfies a ms → ⊥
+propagate-sound : (most n : ℕ) (ms : List Diagram) → propagate most n ms .conflict ≡ true → (a : Assignment) → length a ≡ n → Satisfies a ms → ⊥
 unfolding propagate
 propagate-sound zero n ms e a len s = conflicts-sound n ms a len e s
 propagate-sound (suc most) n ms e a len s = go (conflicts n ms) refl (firstWithUnit n ms) refl e (λ u e. propagate-sound most n (byUnits n u ms) e a len)

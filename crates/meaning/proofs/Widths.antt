@@ -21,7 +21,7 @@ any-cong m p q [] o h = refl
 any-cong m p q (f ∷ fs) o h = ap₂ _||_ (h f (o .0)) (any-cong m p q fs (o .1) h)
 
 module _ (m n : ℕ) (more : m ≤ n) where
-  pub conflicts-width : (ms : List Diagram) → AllReduced m ms → conflicts n ms ≡ conflicts m ms
+  conflicts-width : (ms : List Diagram) → AllReduced m ms → conflicts n ms ≡ conflicts m ms
   unfolding conflicts
   conflicts-width ms o = ap (_||_ (any (same (leaf false)) ms))
       (any-cong m _ _ ms o (λ f of. any-cong m _ _ ms o (λ g og. ap (same f) (negation-width m n more g og))))
@@ -41,19 +41,19 @@ module _ (m n : ℕ) (more : m ≤ n) where
       rw (z, isUnit-beyond m n more f o (suc (m + k)) true (omega arith) (omega arith) nz, isUnit-beyond m n more f o (suc (m + k)) false (omega arith) (omega arith) nz)
       (hasUnit-beyond k f o nz (omega arith))
 
-  pub units-width : (f : Diagram) → Reduced 1 (suc m) f → f ≢ leaf false → hasUnit n n f ≡ hasUnit m m f
+  units-width : (f : Diagram) → Reduced 1 (suc m) f → f ≢ leaf false → hasUnit n n f ≡ hasUnit m m f
   units-width f o nz =
       let z : m + (n - m) ≡ n = omega arith in
       (rw z at (hasUnit-beyond (n - m) f o nz (omega arith))) ∙ hasUnit-width m f o (omega arith)
 
-  pub firstWithUnit-width : (ms : List Diagram) → AllReduced m ms → any (same (leaf false)) ms ≡ false → firstWithUnit n ms ≡ firstWithUnit m ms
+  firstWithUnit-width : (ms : List Diagram) → AllReduced m ms → any (same (leaf false)) ms ≡ false → firstWithUnit n ms ≡ firstWithUnit m ms
   unfolding firstWithUnit any
   firstWithUnit-width [] o c = refl
   firstWithUnit-width (f ∷ fs) o c =
       let b : (same (leaf false) f ≡ false) × (any (same (leaf false)) fs ≡ false) = or-neither (same (leaf false) f) (any (same (leaf false)) fs) c in
       rw (units-width f (o .0) (λ e. t≢f (sym (eq-same (leaf false) f (sym e)) ∙ b .0)), firstWithUnit-width fs (o .1) (b .1))
 
-  pub byUnits-width : (u : Diagram) (ms : List Diagram) → Reduced 1 (suc m) u → AllReduced m ms → byUnits n u ms ≡ byUnits m u ms
+  byUnits-width : (u : Diagram) (ms : List Diagram) → Reduced 1 (suc m) u → AllReduced m ms → byUnits n u ms ≡ byUnits m u ms
   unfolding byUnits
   byUnits-width u [] ou o = refl
   byUnits-width u (f ∷ fs) ou o =
@@ -61,7 +61,7 @@ module _ (m n : ℕ) (more : m ≤ n) where
       ∙ literals-cong m _ _ _ _ f (λ v lo hi. isUnit-width m n more u ou v true lo hi) (λ v lo hi. isUnit-width m n more u ou v false lo hi))
       (byUnits-width u fs ou (o .1))
 
-  pub propagate-width : (most : ℕ) (ms : List Diagram) → AllReduced m ms → propagate most n ms ≡ propagate most m ms
+  propagate-width : (most : ℕ) (ms : List Diagram) → AllReduced m ms → propagate most n ms ≡ propagate most m ms
   unfolding propagate
   propagate-width zero ms o = ap still (conflicts-width ms o)
   propagate-width (suc most) ms o = rw (conflicts-width ms o) (go (conflicts m ms) refl (propagate-width most))

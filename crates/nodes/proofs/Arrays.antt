@@ -32,7 +32,7 @@ module _ (w : Width) (g : 0 < 2 ^ bits w) where
   abbrev zeros : ℕ → List ℕ
   zeros n = replicate n 0
 
-  abbrev pub zerosVal : ℕ → Val
+  abbrev zerosVal : ℕ → Val
   zerosVal n = arrayVal (replicate n (vint w 0))
 
   each-zero : (n : ℕ) → shadow (each ℕ (UInt w .own) (zeros n) (replicate n (vint w 0)))

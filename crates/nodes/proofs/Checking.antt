@@ -32,7 +32,7 @@ use denote.Triple.Statement.{Contract}
 use denote.Triple.Clauses.{ensured, lasts}
 use denote.Triple.Walked.{says}
 use Rattle.session.specs.declared.Checked.{Checked}
-use Rattle.session.specs.Checked.{outcomeOf}
+use Rattle.session.specs.Checked.{checkOutcome}
 use Rattle.session.proofs.Checked as K
 use Rattle.table.specs.Columns.{columnsMade}
 use Rattle.nodes.specs.Within.{checkWithin}
@@ -97,7 +97,7 @@ module _ {M : Type 1} (𝓤 : URA M) (H : Heap 𝓤) (A : Atoms 𝓤) (W : Given
       fjoin ! $ done !)))
 
   abbrev pub Says : Checked → Last → Type 0
-  Says r zs = outcomeOf (columnsMade (take n (zs .0)) (take n (zs .1 .0)) (take n (zs .1 .1 .0)) (zs .1 .1 .1 .0) (zs .1 .1 .1 .1 .0)) (zs .1 .1 .1 .1 .1 .1 .1 .0) (zs .1 .1 .1 .1 .1 .1 .1 .1 .1 .0) (zs .1 .1 .1 .1 .1 .1 .1 .1 .0) r
+  Says r zs = checkOutcome (columnsMade (take n (zs .0)) (take n (zs .1 .0)) (take n (zs .1 .1 .0)) (zs .1 .1 .1 .0) (zs .1 .1 .1 .1 .0)) (zs .1 .1 .1 .1 .1 .1 .1 .0) (zs .1 .1 .1 .1 .1 .1 .1 .1 .1 .0) (zs .1 .1 .1 .1 .1 .1 .1 .1 .0) r
       ≡ checkWithin n (cs .vs) (cs .ls) (cs .hs) (xD .now) (xJ .now) count (xM .now) (xK .now) (xS .now) (xF .now) (xP .now)
 
   abbrev pub Told : Checked × Last → Type 0

@@ -7,7 +7,7 @@ use native.Mathlib.Omega.{arith}
 use mathlib.Core.List.{List, [], _∷_, _++_, map}
 use lib.ListN.{length, getD, set, take, drop}
 use Rattle.nodes.specs.declared.Node.{Node}
-use Rattle.nodes.specs.Within.{nodesOf}
+use Rattle.nodes.specs.Within.{asNodes}
 
 -- by a test's answer
 pub by-test {α} : {P : Type α} (t : Bool) → (t ≡ true → P) → (t ≡ false → P) → P
@@ -49,13 +49,13 @@ module _ (f : Node → ℕ) where
 
 -- the slice once i places of the columns are written to it
 abbrev pub slice : List ℕ → List ℕ → List ℕ → List Node → ℕ → List Node
-slice vs ls hs ys i = nodesOf (take i vs) (take i ls) (take i hs) ++ drop i ys
+slice vs ls hs ys i = asNodes (take i vs) (take i ls) (take i hs) ++ drop i ys
 
 abbrev pub nodeAt : List ℕ → List ℕ → List ℕ → ℕ → Node
 nodeAt vs ls hs i = record { var = getD vs i 0; low = getD ls i 0; high = getD hs i 0 }
 
 pub slice-step : (vs ls hs : List ℕ) (ys : List Node) (i : ℕ) → i < length vs → i < length ls → i < length hs → i < length ys → set (slice vs ls hs ys i) i (nodeAt vs ls hs i) ≡ slice vs ls hs ys (suc i)
-unfolding nodesOf
+unfolding asNodes
 slice-step [] ls hs ys i a b c d = absurd (omega (arith, a))
 slice-step (v ∷ vs) [] hs ys i a b c d = absurd (omega (arith, b))
 slice-step (v ∷ vs) (l ∷ ls) [] ys i a b c d = absurd (omega (arith, c))
@@ -64,7 +64,7 @@ slice-step (v ∷ vs) (l ∷ ls) (h ∷ hs) (y ∷ ys) zero a b c d = refl
 slice-step (v ∷ vs) (l ∷ ls) (h ∷ hs) (y ∷ ys) (suc i) a b c d = ap (λ (r : List Node). record { var = v; low = l; high = h } ∷ r) (slice-step vs ls hs ys i (omega (arith, a)) (omega (arith, b)) (omega (arith, c)) (omega (arith, d)))
 
 pub slice-length : (vs ls hs : List ℕ) (ys : List Node) (i : ℕ) → i ≤ length vs → i ≤ length ls → i ≤ length hs → i ≤ length ys → length (slice vs ls hs ys i) ≡ length ys
-unfolding nodesOf
+unfolding asNodes
 slice-length vs ls hs ys zero a b c d = refl
 slice-length [] ls hs ys (suc i) a b c d = absurd (omega (arith, a))
 slice-length (v ∷ vs) [] hs ys (suc i) a b c d = absurd (omega (arith, b))

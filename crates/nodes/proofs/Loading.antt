@@ -91,13 +91,13 @@ module _ {M : Type 1} (𝓤 : URA M) (H : Heap 𝓤) (A : Atoms 𝓤) (W : Given
       move ! (1 ∷ 0 ∷ []) $ fjoin ! $ move ! (1 ∷ 0 ∷ []) $ fjoin ! $ move ! (1 ∷ 0 ∷ []) $ fjoin ! $ done !))))
 
   -- the columns that `load` leaves
-  abbrev pub vs′ : List ℕ
+  abbrev vs′ : List ℕ
   vs′ = column varOf (sp .ys) (cs .vs) n
 
-  abbrev pub ls′ : List ℕ
+  abbrev ls′ : List ℕ
   ls′ = column lowOf (sp .ys) (cs .ls) n
 
-  abbrev pub hs′ : List ℕ
+  abbrev hs′ : List ℕ
   hs′ = column highOf (sp .ys) (cs .hs) n
 
   abbrev Ws : Type 0

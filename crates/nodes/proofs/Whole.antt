@@ -20,18 +20,18 @@ use Rattle.verdict.specs.Check.{Outcome, lentFits, check}
 use Rattle.verdict.specs.Satisfies.{Unsatisfiable}
 use Rattle.verdict.proofs.Refuted.{check-refuted}
 use Rattle.session.specs.declared.Checked.{Checked}
-use Rattle.session.specs.Checked.{outcomeOf}
+use Rattle.session.specs.Checked.{checkOutcome}
 use Rattle.nodes.specs.declared.Node.{Node}
 use Rattle.nodes.specs.Slice.{varsOf, lowsOf, highsOf, secondOf}
-use Rattle.nodes.specs.Within.{nodesOf, checkWithin, operationWithin, atLeastWithin, evaluationWithin}
+use Rattle.nodes.specs.Within.{asNodes, checkWithin, operationWithin, atLeastWithin, evaluationWithin}
 use Rattle.nodes.proofs.Lists.{by-test, varOf, lowOf, highOf, column, slice}
 use Rattle.nodes.proofs.Setting.{Cut}
 
 -- ---- lists
 
 -- the columns of the slice of three columns
-pub nodes-columns : (a b c : List ℕ) → length b ≡ length a → length c ≡ length a → (varsOf (nodesOf a b c) ≡ a) × (lowsOf (nodesOf a b c) ≡ b) × (highsOf (nodesOf a b c) ≡ c)
-unfolding varsOf lowsOf highsOf nodesOf
+nodes-columns : (a b c : List ℕ) → length b ≡ length a → length c ≡ length a → (varsOf (asNodes a b c) ≡ a) × (lowsOf (asNodes a b c) ≡ b) × (highsOf (asNodes a b c) ≡ c)
+unfolding varsOf lowsOf highsOf asNodes
 nodes-columns [] [] [] eb ec = (refl, refl, refl)
 nodes-columns [] [] (h ∷ c) eb ec = absurd (omega (arith, ec))
 nodes-columns [] (l ∷ b) c eb ec = absurd (omega (arith, eb))
@@ -42,8 +42,8 @@ nodes-columns (v ∷ a) (l ∷ b) (h ∷ c) eb ec =
     (ap (λ (x : List ℕ). v ∷ x) (r .0), ap (λ (x : List ℕ). l ∷ x) (r .1), ap (λ (x : List ℕ). h ∷ x) (r .2))
 
 -- the slice of its own columns: its three columns settle it
-pub own-nodes : (t : List Node) → nodesOf (varsOf t) (lowsOf t) (highsOf t) ≡ t
-unfolding varsOf lowsOf highsOf nodesOf
+pub own-nodes : (t : List Node) → asNodes (varsOf t) (lowsOf t) (highsOf t) ≡ t
+unfolding varsOf lowsOf highsOf asNodes
 own-nodes [] = refl
 own-nodes (y ∷ t) = ap (λ (x : List Node). y ∷ x) (own-nodes t)
 
@@ -51,22 +51,22 @@ own-nodes (y ∷ t) = ap (λ (x : List Node). y ∷ x) (own-nodes t)
 column-first : (f : Node → ℕ) (ys : List Node) (xs : List ℕ) (m : ℕ) → m ≤ length ys → take m (column f ys xs m) ≡ map f (take m ys)
 column-first f ys xs m h = take-at (map f (take m ys)) (drop m xs) m (length-map (take m ys) f ∙ length-take-le m ys h)
 
-slice-whole : (vs ls hs : List ℕ) (ys : List Node) → slice vs ls hs ys (length ys) ≡ nodesOf (take (length ys) vs) (take (length ys) ls) (take (length ys) hs)
-slice-whole vs ls hs ys = ap (λ (r : List Node). nodesOf (take (length ys) vs) (take (length ys) ls) (take (length ys) hs) ++ r) (drop-length ys) ∙ append-nil (nodesOf (take (length ys) vs) (take (length ys) ls) (take (length ys) hs))
+slice-whole : (vs ls hs : List ℕ) (ys : List Node) → slice vs ls hs ys (length ys) ≡ asNodes (take (length ys) vs) (take (length ys) ls) (take (length ys) hs)
+slice-whole vs ls hs ys = ap (λ (r : List Node). asNodes (take (length ys) vs) (take (length ys) ls) (take (length ys) hs) ++ r) (drop-length ys) ∙ append-nil (asNodes (take (length ys) vs) (take (length ys) ls) (take (length ys) hs))
 
 -- three arrays of 65,536 places
 abbrev pub Sized : List ℕ → List ℕ → List ℕ → Type 0
 Sized vs ls hs = (length vs ≡ 65536) × (length ls ≡ 65536) × (length hs ≡ 65536)
 
 -- a slice that the arrays have room for: its columns are in the first places before, and it has what stands there after
-pub columns-before : (ys : List Node) (vs ls hs : List ℕ) → (take (length ys) (column varOf ys vs (length ys)) ≡ varsOf ys) × (take (length ys) (column lowOf ys ls (length ys)) ≡ lowsOf ys) × (take (length ys) (column highOf ys hs (length ys)) ≡ highsOf ys)
+columns-before : (ys : List Node) (vs ls hs : List ℕ) → (take (length ys) (column varOf ys vs (length ys)) ≡ varsOf ys) × (take (length ys) (column lowOf ys ls (length ys)) ≡ lowsOf ys) × (take (length ys) (column highOf ys hs (length ys)) ≡ highsOf ys)
 unfolding varsOf lowsOf highsOf
 columns-before ys vs ls hs =
     let n : ℕ = length ys in
     let all : (f : Node → ℕ) (xs : List ℕ) → take n (column f ys xs n) ≡ map f ys = λ f xs. column-first f ys xs n (omega arith) ∙ ap (map f) (take-length ys) in
     (all varOf vs, all lowOf ls, all highOf hs)
 
-pub columns-after : (ys : List Node) (vs ls hs : List ℕ) → length ys ≤ 65536 → Sized vs ls hs
+columns-after : (ys : List Node) (vs ls hs : List ℕ) → length ys ≤ 65536 → Sized vs ls hs
     → (varsOf (slice vs ls hs ys (length ys)) ≡ take (length ys) vs) × (lowsOf (slice vs ls hs ys (length ys)) ≡ take (length ys) ls) × (highsOf (slice vs ls hs ys (length ys)) ≡ take (length ys) hs)
 columns-after ys vs ls hs h e =
     let n : ℕ = length ys in
@@ -74,7 +74,7 @@ columns-after ys vs ls hs h e =
     rw (slice-whole vs ls hs ys) (nodes-columns (take n vs) (take n ls) (take n hs) (firsts ls (e .1) ∙ sym (firsts vs (e .0))) (firsts hs (e .2) ∙ sym (firsts vs (e .0))))
 
 -- arrays that are left as they were loaded are written back with no change
-pub written-back : (ys : List Node) (m : ℕ) (vs ls hs vs₀ ls₀ hs₀ : List ℕ) → m ≤ length ys → vs ≡ column varOf ys vs₀ m → ls ≡ column lowOf ys ls₀ m → hs ≡ column highOf ys hs₀ m → slice vs ls hs ys m ≡ ys
+written-back : (ys : List Node) (m : ℕ) (vs ls hs vs₀ ls₀ hs₀ : List ℕ) → m ≤ length ys → vs ≡ column varOf ys vs₀ m → ls ≡ column lowOf ys ls₀ m → hs ≡ column highOf ys hs₀ m → slice vs ls hs ys m ≡ ys
 unfolding varsOf lowsOf highsOf
 written-back ys m vs ls hs vs₀ ls₀ hs₀ h eV eL eH =
     rw (eV, eL, eH, column-first varOf ys vs₀ m h, column-first lowOf ys ls₀ m h, column-first highOf ys hs₀ m h, own-nodes (take m ys)) (take-append-drop m ys)
@@ -84,7 +84,7 @@ and-false : (t : Bool) → (t && false) ≡ false
 and-false true = refl
 and-false false = refl
 
-pub unfit : (vs ls hs ds js : List ℕ) → 65536 < length vs → sizeFits vs ls hs ds js ≡ false
+unfit : (vs ls hs ds js : List ℕ) → 65536 < length vs → sizeFits vs ls hs ds js ≡ false
 unfolding sizeFits
 unfit vs ls hs ds js h = rw (lt-leb (length vs) 65536 h, and-false (leb 2 (length vs)), and-false (eqb (length ls) (length vs) && eqb (length hs) (length vs)))
 
@@ -132,7 +132,7 @@ module _ (ds js : List ℕ) (count : ℕ) (ms ks ss formula proof ds′ js′ ms
   seven v l h = record { number = 7; inProof = false; place = 0; lines = 0; rounds = 0; count = count; peak = 0; columns = columnsMade v l h ds js; members = ms; struck = ks; scratch = ss }
 
   abbrev out : List ℕ → List ℕ → List ℕ → Outcome
-  out v l h = outcomeOf (columnsMade v l h ds′ js′) ms′ ks′ ss′ r
+  out v l h = checkOutcome (columnsMade v l h ds′ js′) ms′ ks′ ss′ r
 
   check-refused : (v l h : List ℕ) → sizeFits v l h ds js ≡ false → check inRecords (columnsMade v l h ds js) count ms ks ss formula proof ≡ seven v l h
   unfolding check lentFits
@@ -144,7 +144,7 @@ module _ (ds js : List ℕ) (count : ℕ) (ms ks ss formula proof ds′ js′ ms
     (λ v l h. ap (λ (o : Outcome). record { number = o .number; inProof = o .inProof; place = o .place; lines = o .lines; rounds = o .rounds; count = o .count; peak = o .peak; columns = columnsMade v l h (o .columns .heads) (o .columns .links); members = o .members; struck = o .struck; scratch = o .scratch }) e),
   )
 
-  pub check-whole : (ys : List Node) (m : ℕ) (vs₀ ls₀ hs₀ vs ls hs : List ℕ) → Cut (length ys) m → Sized vs ls hs
+  check-whole : (ys : List Node) (m : ℕ) (vs₀ ls₀ hs₀ vs ls hs : List ℕ) → Cut (length ys) m → Sized vs ls hs
       → out (take (length ys) vs) (take (length ys) ls) (take (length ys) hs) ≡ checkWithin (length ys) (column varOf ys vs₀ m) (column lowOf ys ls₀ m) (column highOf ys hs₀ m) ds js count ms ks ss formula proof
       → out (varsOf (slice vs ls hs ys m)) (lowsOf (slice vs ls hs ys m)) (highsOf (slice vs ls hs ys m)) ≡ check inRecords (columnsMade (varsOf ys) (lowsOf ys) (highsOf ys) ds js) count ms ks ss formula proof
   unfolding checkWithin

@@ -15,11 +15,11 @@ use Rattle.nodes.specs.declared.Node.{Node}
 use Rattle.nodes.specs.Slice.{secondOf}
 
 -- The nodes of three columns.
-unfoldable pub nodesOf : List ℕ → List ℕ → List ℕ → List Node
-nodesOf [] ls hs = []
-nodesOf (v ∷ vs) [] hs = []
-nodesOf (v ∷ vs) (l ∷ ls) [] = []
-nodesOf (v ∷ vs) (l ∷ ls) (h ∷ hs) = record { var = v; low = l; high = h } ∷ nodesOf vs ls hs
+unfoldable pub asNodes : List ℕ → List ℕ → List ℕ → List Node
+asNodes [] ls hs = []
+asNodes (v ∷ vs) [] hs = []
+asNodes (v ∷ vs) (l ∷ ls) [] = []
+asNodes (v ∷ vs) (l ∷ ls) (h ∷ hs) = record { var = v; low = l; high = h } ∷ asNodes vs ls hs
 
 -- "The table has 2 to 65,536 places": 7 where the slice has more, and the arrays stay.
 unfoldable pub checkWithin : ℕ → List ℕ → List ℕ → List ℕ → List ℕ → List ℕ → ℕ → List ℕ → List ℕ → List ℕ → List ℕ → List ℕ → Outcome

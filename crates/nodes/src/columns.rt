@@ -1,20 +1,21 @@
 // Between the slice of nodes and three columns.
 use crate::Node;
+use table::test::MOST;
 ghost use mathlib.Core.Path.{_≡_};
 ghost use mathlib.Core.List.{_++_};
 ghost use Prim.Native.Nat.{_≤_};
 ghost use lib.ListN.{length, take, drop};
 ghost use Rattle.nodes.specs.Slice.{varsOf, lowsOf, highsOf};
-ghost use Rattle.nodes.specs.Within.{nodesOf};
+ghost use Rattle.nodes.specs.Within.{asNodes};
 
 // How many places of a slice of so many nodes the columns have room for.
 pub fn places(len: usize) -> usize
     ensures { λ r. ⌜ (r ≤ len) × (r ≤ 65536) × (len ≤ 65536 → len ≤ r) ⌝ }
 {
-    if len <= 65536 {
+    if len <= MOST {
         return len;
     }
-    65536
+    MOST
 }
 
 // The first n nodes into the columns' first places.
@@ -38,7 +39,7 @@ pub fn load(nodes: &[Node], n: usize, vars: &mut [u8], lows: &mut [u16], highs: 
 pub fn save(nodes: &mut [Node], n: usize, vars: &[u8], lows: &[u16], highs: &[u16])
     requires { ⌜ (n ≤ length (now nodes)) × (n ≤ length (now vars)) × (n ≤ length (now lows)) × (n ≤ length (now highs)) ⌝ }
     ensures { λ _. ⌜ now (nodes .exit)
-        ≡ nodesOf (take n (now (vars .entry))) (take n (now (lows .entry))) (take n (now (highs .entry))) ++ drop n (now (nodes .entry)) ⌝ }
+        ≡ asNodes (take n (now (vars .entry))) (take n (now (lows .entry))) (take n (now (highs .entry))) ++ drop n (now (nodes .entry)) ⌝ }
 {
     let mut i: usize = 0;
     while i < n {

@@ -9,10 +9,11 @@ use single::Evaluated;
 use single::call::Single;
 use single::least::AtLeast;
 use table::NodeNo;
+use table::test::MOST;
 ghost use mathlib.Core.Path.{_≡_};
 ghost use Rattle.table.specs.Columns.{columnsMade};
 ghost use Rattle.commands.specs.Commands.{inRecords};
-ghost use Rattle.session.specs.Checked.{outcomeOf};
+ghost use Rattle.session.specs.Checked.{checkOutcome};
 ghost use Rattle.single.specs.Single.{evaluation, madeOf, operation, countedOf, atLeastCall};
 ghost use Rattle.verdict.specs.Check.{check};
 ghost use Rattle.verdict.specs.Satisfies.{Unsatisfiable};
@@ -45,14 +46,14 @@ pub extern "C" fn cablesalak_check_nodes<'a>(
         (now (heads .entry)) (now (links .entry)) in
         let left = columnsMade (varsOf (now (nodes .exit))) (lowsOf (now (nodes .exit))) (highsOf (now (nodes .exit)))
         (now (heads .exit)) (now (links .exit)) in
-        (outcomeOf left (now (members .exit)) (now (struck .exit)) (now (scratch .exit)) r
+        (checkOutcome left (now (members .exit)) (now (struck .exit)) (now (scratch .exit)) r
         ≡ check inRecords lent count (now (members .entry)) (now (struck .entry)) (now (scratch .entry))
         (now (formula .entry)) (now (proof .entry)))
         × (r .number ≡ 0 → Unsatisfiable (now (formula .entry)))) ⌝ }
 {
-    let mut vars = [0u8; 65536];
-    let mut lows = [0u16; 65536];
-    let mut highs = [0u16; 65536];
+    let mut vars = [0u8; MOST];
+    let mut lows = [0u16; MOST];
+    let mut highs = [0u16; MOST];
     let n = columns::places(nodes.len());
     columns::load(nodes, n, &mut vars, &mut lows, &mut highs);
     let r = within::check_within(
@@ -90,9 +91,9 @@ pub fn operation(
         (now (heads .exit)) (now (links .exit)) in
         madeOf left r ≡ operation op lent count (f .0) (secondOf op (g .0))) ⌝ }
 {
-    let mut vars = [0u8; 65536];
-    let mut lows = [0u16; 65536];
-    let mut highs = [0u16; 65536];
+    let mut vars = [0u8; MOST];
+    let mut lows = [0u16; MOST];
+    let mut highs = [0u16; MOST];
     let n = columns::places(nodes.len());
     columns::load(nodes, n, &mut vars, &mut lows, &mut highs);
     let r = within::operation_within(
@@ -128,9 +129,9 @@ pub extern "C" fn cablesalak_at_least_nodes(
         (now (heads .exit)) (now (links .exit)) in
         countedOf left r ≡ atLeastCall lent count set k) ⌝ }
 {
-    let mut vars = [0u8; 65536];
-    let mut lows = [0u16; 65536];
-    let mut highs = [0u16; 65536];
+    let mut vars = [0u8; MOST];
+    let mut lows = [0u16; MOST];
+    let mut highs = [0u16; MOST];
     let n = columns::places(nodes.len());
     columns::load(nodes, n, &mut vars, &mut lows, &mut highs);
     let r = within::at_least_within(
@@ -163,9 +164,9 @@ pub extern "C" fn cablesalak_evaluate_nodes(
         (now (heads .entry)) (now (links .entry)) in
         r ≡ evaluation lent count (node .0) word) ⌝ }
 {
-    let mut vars = [0u8; 65536];
-    let mut lows = [0u16; 65536];
-    let mut highs = [0u16; 65536];
+    let mut vars = [0u8; MOST];
+    let mut lows = [0u16; MOST];
+    let mut highs = [0u16; MOST];
     let n = columns::places(nodes.len());
     columns::load(nodes, n, &mut vars, &mut lows, &mut highs);
     within::evaluate_within(

@@ -5,10 +5,11 @@ use single::Evaluated;
 use single::call::Single;
 use single::least::AtLeast;
 use table::NodeNo;
+use table::test::MOST;
 ghost use mathlib.Core.Path.{_≡_};
 ghost use lib.ListN.{length, take};
 ghost use Rattle.table.specs.Columns.{columnsMade};
-ghost use Rattle.session.specs.Checked.{outcomeOf};
+ghost use Rattle.session.specs.Checked.{checkOutcome};
 ghost use Rattle.single.specs.Single.{madeOf, countedOf};
 ghost use Rattle.single.specs.Inner.{OneOperand};
 ghost use Rattle.nodes.specs.Slice.{secondOf};
@@ -33,11 +34,11 @@ pub fn check_within<'a>(
     ensures { λ r. ⌜ (
         let left = columnsMade (take n (now (vars .exit))) (take n (now (lows .exit))) (take n (now (highs .exit)))
         (now (heads .exit)) (now (links .exit)) in
-        outcomeOf left (now (members .exit)) (now (struck .exit)) (now (scratch .exit)) r
+        checkOutcome left (now (members .exit)) (now (struck .exit)) (now (scratch .exit)) r
         ≡ checkWithin n (now (vars .entry)) (now (lows .entry)) (now (highs .entry)) (now (heads .entry)) (now (links .entry)) count
         (now (members .entry)) (now (struck .entry)) (now (scratch .entry)) (now (formula .entry)) (now (proof .entry))) ⌝ }
 {
-    if 65536 < n {
+    if MOST < n {
         return Checked {
             number: 7,
             in_proof: false,
@@ -71,7 +72,7 @@ fn second(op: Operation, g: NodeNo) -> NodeNo
         Operation::Conjunction => g,
         Operation::Negation => NodeNo(1),
         Operation::Cofactor => g,
-        Operation::Literals(_, _) => NodeNo(1),
+        Operation::Literals { .. } => NodeNo(1),
     }
 }
 
@@ -96,7 +97,7 @@ pub fn operation_within(
         ≡ operationWithin op n (now (vars .entry)) (now (lows .entry)) (now (highs .entry)) (now (heads .entry)) (now (links .entry)) count
         (f .0) (g .0)) ⌝ }
 {
-    if 65536 < n {
+    if MOST < n {
         return Single {
             number: 7,
             node: NodeNo(0),
@@ -137,7 +138,7 @@ pub fn at_least_within(
         ≡ atLeastWithin n (now (vars .entry)) (now (lows .entry)) (now (highs .entry)) (now (heads .entry)) (now (links .entry)) count set
         k) ⌝ }
 {
-    if 65536 < n {
+    if MOST < n {
         return AtLeast {
             number: 7,
             node: NodeNo(0),
@@ -175,7 +176,7 @@ pub fn evaluate_within(
         ≡ evaluationWithin n (now (vars .entry)) (now (lows .entry)) (now (highs .entry)) (now (heads .entry)) (now (links .entry)) count
         (node .0) word ⌝ }
 {
-    if 65536 < n {
+    if MOST < n {
         return Evaluated {
             number: 7,
             yes: false,

@@ -1,20 +1,21 @@
 -- Steps with one side, taken one after the other. The idea: each leaves the outcome as it is and comes to later variables. Assumes nothing.
-use mathlib.Core.Path.{_≡_, refl, _∙_}
+use mathlib.Core.Path.{_≡_, refl, sym, _∙_, subst}
 use mathlib.Core.Bool.{false}
 use mathlib.Core.List.{List}
 use Prim.Native.Nat.{ℕ, _≤_, _<_}
 use native.Mathlib.Omega.{arith}
 use lib.ListN.{length, getD}
 use Rattle.table.specs.declared.NodeNo.{NodeNo}
+use Rattle.table.specs.declared.Placed.{Placed}
 use Rattle.table.specs.declared.Found.the-variants.{At, Nothing}
 use Rattle.table.specs.Nodes.{at}
-use Rattle.table.specs.Indexed.{Table, tableOf, nodesOf, Good}
+use Rattle.table.specs.Indexed.{Table, tableOf, nodesOf, Good, Outcome, outcomeOf}
 use Rattle.table.proofs.Order.{Fits}
 use Rattle.table.proofs.Written.{length-nodes, good-ordered, low-at, high-at}
 use Rattle.operate.specs.declared.Operation.{Operation}
 use Rattle.operate.specs.declared.Sides.{Sides}
-use Rattle.operate.specs.declared.Step.the-variants.{One, Both}
-use Rattle.operate.specs.Inner.{applied, top, terminalOf, stepOf, MemoRight, Ready}
+use Rattle.operate.specs.declared.Descent.the-variants.{One, Both}
+use Rattle.operate.specs.Inner.{applied, top, terminalOf, descentOf, MemoRight, Tells, Ready}
 use Rattle.operate.specs.Thin.{SomeTable, noMemo, PartedTo}
 use Rattle.operate.proofs.Terminals.{terminal-right, terminal-two}
 use Rattle.operate.proofs.Steps.{sides, OneLeft, BothLeft, step-one, step-both}
@@ -63,17 +64,72 @@ module _ (op : Operation) (t : Table) (first second f g : ℕ) (P : Passing op t
     pub passing-two : 2 ≤ f
     passing-two = terminal-two t (P .ready .good) f g (P .ready .f-inside) (P .ready .g-inside) op (P .ready .allowed) nothing
 
-    passing-one : (a b : NodeNo) → stepOf op (sides t f g) ≡ One a b → OneLeft op noMemo t f g (a .0) (b .0)
+    passing-one : (a b : NodeNo) → descentOf op (sides t f g) ≡ One a b → OneLeft op noMemo t f g (a .0) (b .0)
     passing-one = step-one op noMemo t f g (P .ready) passing-two
 
-    pub passing-less : (a b : NodeNo) → stepOf op (sides t f g) ≡ One a b → (top (t .vars) f g < top (t .vars) (a .0) (b .0)) × (top (t .vars) f g ≤ 64)
+    pub passing-less : (a b : NodeNo) → descentOf op (sides t f g) ≡ One a b → (top (t .vars) f g < top (t .vars) (a .0) (b .0)) × (top (t .vars) f g ≤ 64)
     passing-less a b e = (passing-one a b e .after, passing-one a b e .most)
 
-    pub passing-on : (a b : NodeNo) → stepOf op (sides t f g) ≡ One a b → Passing op t first second (a .0) (b .0)
+    pub passing-on : (a b : NodeNo) → descentOf op (sides t f g) ≡ One a b → Passing op t first second (a .0) (b .0)
     passing-on a b e =
         let L = passing-one a b e in record { ready = L .ready; from = omega (arith, P .from, L .after); is = L .is ∙ P .is }
 
-    pub passed-parted : (s : Sides) → stepOf op (sides t f g) ≡ Both s → PartedTo op t first second s
+    pub passed-parted : (s : Sides) → descentOf op (sides t f g) ≡ Both s → PartedTo op t first second s
     passed-parted s e =
         let B : BothLeft op noMemo t f g s = step-both op noMemo t f g (P .ready) passing-two s e in
         record { ready = B .ready; after = omega (arith, P .from, B .variable); is = B .is ∙ P .is }
+
+-- ---- a side of two
+
+-- What a side leaves: the operation's outcome, in columns as long as before.
+pub record SideLeft (op : Operation) (t : Table) (f g : ℕ) (o : Outcome) : Type 0 where
+  pub is : o ≡ applied t op f g
+  pub vars : length (o .table .vars) ≡ length (t .vars)
+  pub lows : length (o .table .lows) ≡ length (t .lows)
+  pub highs : length (o .table .highs) ≡ length (t .highs)
+  pub heads : length (o .table .heads) ≡ length (t .heads)
+  pub links : length (o .table .links) ≡ length (t .links)
+
+-- a terminal leaves the table as it is
+pub terminal-left : (op : Operation) (t : Table) (f g : ℕ) → Ready op noMemo t f g → (r : NodeNo) → terminalOf op f g ≡ At r
+    → SideLeft op t f g (record { table = t; full = false; node = r .0 })
+terminal-left op t f g R r e = record {
+  is = passed-done op t f g f g (passing-first op t f g R) r e;
+  vars = refl;
+  lows = refl;
+  highs = refl;
+  heads = refl;
+  links = refl;
+}
+
+-- outcomes are the same where their columns and what is said of them are
+pub outcome-same : {vars vars′ lows lows′ highs highs′ heads heads′ links links′ : List ℕ} {p p′ : Placed}
+    → vars ≡ vars′ → lows ≡ lows′ → highs ≡ highs′ → heads ≡ heads′ → links ≡ links′ → p ≡ p′
+    → outcomeOf vars lows highs heads links p ≡ outcomeOf vars′ lows′ highs′ heads′ links′ p′
+outcome-same a b c d e q = rw (a, b, c, d, e, q)
+
+-- What a side leaves with a memo, right for what it leaves.
+pub record SideKept (op : Operation) (memo : List ℕ) (t : Table) (f g : ℕ) (o : Outcome) (memo₁ : List ℕ) : Type 0 where
+  pub left : SideLeft op t f g o
+  pub right : MemoRight op memo₁ (o .table)
+  pub cells : length memo₁ ≡ length memo
+
+module _ {op : Operation} {memo : List ℕ} {t : Table} {f g : ℕ} where
+  -- a result that the memo tells leaves table and memo as they are
+  pub home-kept : Ready op memo t f g → (r : NodeNo) → Tells memo f g (At r) → SideKept op memo t f g (record { table = t; full = false; node = r .0 }) memo
+  home-kept R r tells = record {
+    left = record {
+      is = known-outcome op memo t f g R (r .0) (tells op t (R .right));
+      vars = refl;
+      lows = refl;
+      highs = refl;
+      heads = refl;
+      links = refl;
+    };
+    right = R .right;
+    cells = refl;
+  }
+
+  pub side-same : {o o′ : Outcome} {m m′ : List ℕ} → o′ ≡ o → m′ ≡ m → SideKept op memo t f g o m → SideKept op memo t f g o′ m′
+  side-same {o} {o′} {m} {m′} e q K =
+      subst (λ (x : Outcome). SideKept op memo t f g x m′) (sym e) (subst (λ (x : List ℕ). SideKept op memo t f g o x) (sym q) K)

@@ -6,14 +6,16 @@ use Prim.Native.Nat.{ℕ, _+_, _*_, _/_, _%_, _≤_, _<_}
 use native.Mathlib.Omega.{arith}
 use native.Mathlib.Decide.{ℕ-discrete}
 use lib.ListN.{length, getD, set, replicate, length-set}
+use borrow.Author.Tests.{eq-eqb, ne-eqb}
 use lib.Seq.{getD-set-same, getD-set-other}
 use Rattle.table.specs.Indexed.{Table, tableOf}
-use Rattle.table.proofs.Zeros.{zeros-at, Cleared}
+use Rattle.table.proofs.Zeros.{zeros-at, ZerosBelow}
 use Rattle.table.proofs.Outcomes.{Longer}
 use Rattle.operate.specs.declared.Operation.{Operation}
 use Rattle.operate.specs.declared.Operation.the-variants.{Negation}
 use Rattle.operate.specs.Operate.{result}
-use Rattle.operate.specs.Inner.{pack, live, Right, MemoRight, Empty, Follows}
+use Rattle.table.specs.declared.Found.the-variants.{Nothing}
+use Rattle.operate.specs.Inner.{found, pack, live, Right, MemoRight, EmptyMemo, toldBy, Tells, Follows}
 
 -- ---- packed entries
 
@@ -30,7 +32,7 @@ parts f g r f′ g′ r′ a b a′ b′ e = (omega arith, omega arith, omega ar
 
 module _ (op : Operation) (memo : List ℕ) (t : Table) (ok : MemoRight op memo t) where
   -- a live cell with the key of f and g tells their result
-  pub memo-told : (c f g : ℕ) → c < live memo → getD memo (3 + c) 0 / 65536 ≡ f * 65536 + g → g < 65536 → 2 ≤ f → Right op t f g (getD memo (3 + c) 0 % 65536)
+  memo-told : (c f g : ℕ) → c < live memo → getD memo (3 + c) 0 / 65536 ≡ f * 65536 + g → g < 65536 → 2 ≤ f → Right op t f g (getD memo (3 + c) 0 % 65536)
   memo-told c f g inside e less two =
       ok .entries c f g (getD memo (3 + c) 0 % 65536) inside (unpack (getD memo (3 + c) 0) f g e) two less (low-part (getD memo (3 + c) 0))
 
@@ -78,23 +80,37 @@ module _ (op : Operation) (memo : List ℕ) (t : Table) (ok : MemoRight op memo 
       entry : (i f′ g′ r′ : ℕ) → i < live after → getD after (3 + i) 0 ≡ pack f′ g′ r′ → 2 ≤ f′ → g′ < 65536 → r′ < 65536 → Right op t f′ g′ r′
       entry i f′ g′ r′ p e two lg′ lr′ = go i f′ g′ r′ (omega (arith, header)) e two lg′ lr′ (ℕ-discrete i c)
 
+-- what a live cell tells is right
+pub cell-tells : (memo : List ℕ) (c f g : ℕ) → c < live memo → g < 65536 → 2 ≤ f → Tells memo f g (toldBy (getD memo (3 + c) 0) f g)
+unfolding toldBy
+cell-tells memo c f g inside less two = go (ℕ-discrete (e / 65536) (f * 65536 + g))
+  where
+    e : ℕ
+    e = getD memo (3 + c) 0
+
+    go : Dec (e / 65536 ≡ f * 65536 + g) → Tells memo f g (toldBy e f g)
+    go (yes q) =
+        let told : toldBy e f g ≡ found (e % 65536) = rw (eq-eqb _ _ q) in
+        subst (Tells memo f g) (sym told) (λ op t ok. memo-told op memo t ok c f g inside q less two)
+    go (no n) = let told : toldBy e f g ≡ Nothing = rw (ne-eqb _ _ n) in subst (Tells memo f g) (sym told) tt
+
 -- ---- an empty memo
 
 -- one without live cells
-pub memo-none : (memo : List ℕ) → 3 ≤ length memo → _≡_ {A = ℕ} (live memo) 0 → Empty memo
+pub memo-none : (memo : List ℕ) → 3 ≤ length memo → _≡_ {A = ℕ} (live memo) 0 → EmptyMemo memo
 memo-none memo three e op t =
     record { shaped = record { room = omega arith; few = omega arith }; entries = λ i f g r inside _ _ _ _. absurd (omega (arith, inside, e)) }
 
 -- it is right wherever another is
-pub empty-follows : (memo memo′ : List ℕ) → Empty memo′ → Follows memo memo′
+pub empty-follows : (memo memo′ : List ℕ) → EmptyMemo memo′ → Follows memo memo′
 empty-follows memo memo′ empty = record { shaped = empty Negation (tableOf [] [] [] [] [] 0) .shaped; right = λ op t _. empty op t }
 
 -- one of zeros
-pub memo-fresh : (memo : List ℕ) → 3 ≤ length memo → memo ≡ replicate (length memo) 0 → Empty memo
+pub memo-fresh : (memo : List ℕ) → 3 ≤ length memo → memo ≡ replicate (length memo) 0 → EmptyMemo memo
 memo-fresh memo three e = memo-none memo three (ap (λ (m : List ℕ). getD m 0 0) e ∙ zeros-at (length memo) 0)
 
 -- one whose live cells are zeros, with its header
-pub memo-zeros : (memo : List ℕ) (n step : ℕ) → 3 + n ≤ length memo → n ≤ 1048576 → Cleared memo (3 + n) → Empty (set (set memo 0 n) 2 step)
+pub memo-zeros : (memo : List ℕ) (n step : ℕ) → 3 + n ≤ length memo → n ≤ 1048576 → ZerosBelow memo (3 + n) → EmptyMemo (set (set memo 0 n) 2 step)
 memo-zeros memo n step room few zero-cells op t = record { shaped = record { room = rw (header, len) room; few = rw header few }; entries = none }
   where
     begun : List ℕ

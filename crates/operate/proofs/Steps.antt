@@ -21,11 +21,11 @@ use Rattle.table.proofs.Outcomes.{placeIn}
 use Rattle.operate.specs.declared.Operation.{Operation}
 use Rattle.operate.specs.declared.Operation.the-variants.{Conjunction, Negation, Cofactor, Literals}
 use Rattle.operate.specs.declared.Sides.{Sides}
-use Rattle.operate.specs.declared.Step.{Step}
-use Rattle.operate.specs.declared.Step.the-variants.{One, Both}
+use Rattle.operate.specs.declared.Descent.{Descent}
+use Rattle.operate.specs.declared.Descent.the-variants.{One, Both}
 use Rattle.meaning.specs.Words.{inWord}
 use Rattle.operate.specs.Operate.{result}
-use Rattle.operate.specs.Inner.{applied, joinedOf, Allowed, level, top, sidesOf, stepOf, Ready, SidesReady}
+use Rattle.operate.specs.Inner.{applied, joinedOf, Allowed, level, top, sidesOf, descentOf, Ready, SidesReady}
 use Rattle.operate.proofs.Levels.{top-first, top-second, top-both, top-is-first, diagramOf, is-zero, is-one, zero-is, one-is, level-constant, level-least, level-most, level-reduced, child, Child, child-of, own, node-is}
 
 negation-branch : (x : ℕ) (l h : Diagram) → Reduced 1 65 (node x l h) → negation 64 (node x l h) ≡ branch x (negation 64 l) (negation 64 h)
@@ -93,13 +93,13 @@ module _ (t : Table) (G : Good t) (f g : ℕ) (f-inside : f < t .count) (g-insid
 
   -- What the code goes on with.
   pub data Stepped (op : Operation) : Type 0 where
-    one : (b : Bool) → stepOf op (sides t f g) ≡ One (record { 0 = f-side b }) (record { 0 = g-side b }) → Allowed op (g-side b)
+    one : (b : Bool) → descentOf op (sides t f g) ≡ One (record { 0 = f-side b }) (record { 0 = g-side b }) → Allowed op (g-side b)
         → result op (D f) (D g) ≡ result op (D (f-side b)) (D (g-side b)) → Stepped op
-    both : stepOf op (sides t f g) ≡ Both (sides t f g) → ((b : Bool) → Allowed op (g-side b))
+    both : descentOf op (sides t f g) ≡ Both (sides t f g) → ((b : Bool) → Allowed op (g-side b))
         → result op (D f) (D g) ≡ branch x (result op (D (f-side false)) (D (g-side false))) (result op (D (f-side true)) (D (g-side true))) → Stepped op
 
   stepped-cofactor : (g ≡ 0 → ⊥) → Stepped Cofactor
-  unfolding stepOf sidesOf result
+  unfolding descentOf sidesOf result
   stepped-cofactor nz = go (ℕ-discrete (g-side false) 0) (ℕ-discrete (g-side true) 0)
     where
       g-nonzero : D g ≢ leaf false
@@ -134,7 +134,7 @@ module _ (t : Table) (G : Good t) (f g : ℕ) (f-inside : f < t .count) (g-insid
           allowed n m false = n
 
   stepped-literals : (p n : ℕ) → g ≡ 1 → Stepped (Literals p n)
-  unfolding stepOf sidesOf result
+  unfolding descentOf sidesOf result
   stepped-literals p n e = go (inWord p x) (inWord n x) refl refl
     where
       go : (a b : Bool) → inWord p x ≡ a → inWord n x ≡ b → Stepped (Literals p n)
@@ -149,7 +149,7 @@ module _ (t : Table) (G : Good t) (f g : ℕ) (f-inside : f < t .count) (g-insid
           (ap (cofactorLiterals 64 (inWord p) (inWord n)) (root e) ∙ literals-branch 64 (inWord p) (inWord n) x (D (f-side false)) (D (f-side true)) (root-reduced e) q r)
 
   stepped : (op : Operation) → Allowed op g → Stepped op
-  unfolding stepOf sidesOf result
+  unfolding descentOf sidesOf result
   stepped Conjunction allowed =
       both refl (λ b. tt) (conjunction-branch 64 x (D f) (D g) top-least top-most f-reduced g-reduced
       ∙ ap₂ (branch x) (ap₂ (conjunction 64) (f-child false .is) (g-child false .is)) (ap₂ (conjunction 64) (f-child true .is) (g-child true .is)))
@@ -201,14 +201,14 @@ module _ (op : Operation) (memo : List ℕ) (t : Table) (f g : ℕ) (R : Ready o
   step : Stepped t (R .good) f g (R .f-inside) (R .g-inside) two op
   step = stepped t (R .good) f g (R .f-inside) (R .g-inside) two op (R .allowed)
 
-  pub step-one : (a b : NodeNo) → stepOf op (sides t f g) ≡ One a b → OneLeft op memo t f g (a .0) (b .0)
+  pub step-one : (a b : NodeNo) → descentOf op (sides t f g) ≡ One a b → OneLeft op memo t f g (a .0) (b .0)
   step-one a b e = go step
     where
-      first : Step → ℕ
+      first : Descent → ℕ
       first (One a b) = a .0
       first (Both s) = 0
 
-      second : Step → ℕ
+      second : Descent → ℕ
       second (One a b) = b .0
       second (Both s) = 0
 
@@ -224,11 +224,11 @@ module _ (op : Operation) (memo : List ℕ) (t : Table) (f g : ℕ) (R : Ready o
           }))
       go (both p q r) = let w : Both (sides t f g) ≡ One a b = sym p ∙ e in let z : _≡_ {A = ℕ} 0 1 = cc in absurd (omega arith)
 
-  pub step-both : (s : Sides) → stepOf op (sides t f g) ≡ Both s → BothLeft op memo t f g s
+  pub step-both : (s : Sides) → descentOf op (sides t f g) ≡ Both s → BothLeft op memo t f g s
   unfolding sidesOf
   step-both s e = go step
     where
-      whole : Step → Sides
+      whole : Descent → Sides
       whole (One a b) = s
       whole (Both r) = r
 

@@ -2,7 +2,7 @@
 use mathlib.Core.Path.{_≡_}
 use mathlib.Core.Bool.{cond, _||_}
 use mathlib.Core.List.{List}
-use Prim.Native.Nat.{ℕ, _+_, _*_, _≤_, _<_}
+use Prim.Native.Nat.{ℕ, _+_, _*_, _/_, _%_, _≤_, _<_}
 use lib.ListN.{length, getD}
 use lib.Dec.{eqb, ltb}
 use Rattle.meaning.specs.Diagram.{branch}
@@ -12,10 +12,13 @@ use Rattle.table.specs.Nodes.{diagramAt, place}
 use Rattle.table.specs.Indexed.{Table, size, nodesOf, Good, Outcome, written}
 use Rattle.operate.specs.declared.Operation.{Operation}
 use Rattle.operate.specs.declared.Operation.the-variants.{Conjunction, Negation, Cofactor, Literals}
+use Rattle.operate.specs.declared.Kind.{Kind}
+use Rattle.operate.specs.declared.Kind.the-variants.{And, Not, ByDiagram, ByLiterals}
 use Rattle.operate.specs.declared.Sides.{Sides}
-use Rattle.operate.specs.declared.Step.{Step}
-use Rattle.operate.specs.declared.Step.the-variants.{One, Both}
+use Rattle.operate.specs.declared.Descent.{Descent}
+use Rattle.operate.specs.declared.Descent.the-variants.{One, Both}
 use Rattle.meaning.specs.Words.{inWord}
+use Rattle.words.specs.declared.Literals as words
 use Rattle.operate.specs.Operate.{result}
 
 -- The outcome of an operation on nodes f and g of a table.
@@ -35,6 +38,26 @@ Allowed Conjunction g = Unit {0}
 Allowed Negation g = g ≡ 1
 Allowed Cofactor g = g ≡ 0 → ⊥
 Allowed (Literals p n) g = g ≡ 1
+
+-- ---- an operation and its literals apart
+
+abbrev pub kindOf : Operation → Kind
+kindOf Conjunction = And
+kindOf Negation = Not
+kindOf Cofactor = ByDiagram
+kindOf (Literals p n) = ByLiterals
+
+abbrev pub literalsOf : Operation → words.Literals
+literalsOf Conjunction = record { positive = 0; negative = 0 }
+literalsOf Negation = record { positive = 0; negative = 0 }
+literalsOf Cofactor = record { positive = 0; negative = 0 }
+literalsOf (Literals p n) = record { positive = p; negative = n }
+
+abbrev pub operationOf : Kind → words.Literals → Operation
+operationOf And by = Conjunction
+operationOf Not by = Negation
+operationOf ByDiagram by = Cofactor
+operationOf ByLiterals by = Literals (by .positive) (by .negative)
 
 -- ---- the code's steps
 
@@ -73,11 +96,11 @@ sidesOf vars lows highs f g =
     }
 
 -- Which of the sides make the result: where a side of g is 0 the cofactor is that of the other; a literal takes its own side.
-unfoldable pub stepOf : Operation → Sides → Step
-stepOf Conjunction s = Both s
-stepOf Negation s = Both s
-stepOf Cofactor s = cond (eqb (s .g0 .0) 0) (One (s .f1) (s .g1)) (cond (eqb (s .g1 .0) 0) (One (s .f0) (s .g0)) (Both s))
-stepOf (Literals p n) s = cond (inWord p (s .x)) (One (s .f1) (s .g1)) (cond (inWord n (s .x)) (One (s .f0) (s .g0)) (Both s))
+unfoldable pub descentOf : Operation → Sides → Descent
+descentOf Conjunction s = Both s
+descentOf Negation s = Both s
+descentOf Cofactor s = cond (eqb (s .g0 .0) 0) (One (s .f1) (s .g1)) (cond (eqb (s .g1 .0) 0) (One (s .f0) (s .g0)) (Both s))
+descentOf (Literals p n) s = cond (inWord p (s .x)) (One (s .f1) (s .g1)) (cond (inWord n (s .x)) (One (s .f0) (s .g0)) (Both s))
 
 -- ---- the memo: three cells that say how many of the cells behind them are live, how many results were stored in those, and at each how
 -- many-th variable results are held; then packed entries, 0 where there is none
@@ -107,12 +130,16 @@ pub record MemoRight (op : Operation) (memo : List ℕ) (t : Table) : Type 0 whe
   pub entries : (i f g r : ℕ) → i < live memo → getD memo (3 + i) 0 ≡ pack f g r → 2 ≤ f → g < 65536 → r < 65536 → Right op t f g r
 
 -- A memo without entries is right for every operation and table.
-abbrev pub Empty : List ℕ → Type 0
-Empty memo = (op : Operation) (t : Table) → MemoRight op memo t
+abbrev pub EmptyMemo : List ℕ → Type 0
+EmptyMemo memo = (op : Operation) (t : Table) → MemoRight op memo t
+
+-- What a cell tells of f and g: the result packed with their key.
+unfoldable pub toldBy : ℕ → ℕ → ℕ → Found
+toldBy e f g = cond (eqb (e / 65536) (f * 65536 + g)) (found (e % 65536)) Nothing
 
 -- What is found for f and g is right wherever the memo is.
 abbrev pub Tells : List ℕ → ℕ → ℕ → Found → Type 0
-Tells memo f g (At r) = (op : Operation) (t : Table) → MemoRight op memo t → 2 ≤ f → Right op t f g (r .0)
+Tells memo f g (At r) = (op : Operation) (t : Table) → MemoRight op memo t → Right op t f g (r .0)
 Tells memo f g Nothing = Unit {0}
 
 -- A memo that is right wherever the one before it is.

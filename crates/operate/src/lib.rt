@@ -3,11 +3,13 @@
 use table::Found;
 use table::NodeNo;
 use table::Placed;
+use words::Literals;
 ghost use mathlib.Core.Path.{_≡_};
 ghost use Prim.Native.Nat.{_≤_, _<_};
 ghost use lib.ListN.{length};
 ghost use Rattle.table.specs.Indexed.{tableOf, outcomeOf};
-ghost use Rattle.operate.specs.Inner.{applied, terminalOf, level, top, childOr, sidesOf, stepOf, MemoRight};
+ghost use Rattle.operate.specs.Inner.{applied, kindOf, literalsOf, operationOf, terminalOf, level, top, childOr, sidesOf};
+ghost use Rattle.operate.specs.Inner.{descentOf, MemoRight};
 ghost use Rattle.operate.specs.Inner.{Ready, SidesReady, joinedOf};
 
 pub mod memo;
@@ -18,7 +20,16 @@ pub enum Operation {
     Conjunction,
     Negation,
     Cofactor,
-    Literals(u64, u64),
+    Literals { positive: u64, negative: u64 },
+}
+
+// An operation without the literals of a cofactor by literals. The recursion hands the two on apart: a kind goes in a register, and
+// copying an operation whole from call to call is slow.
+pub enum Kind {
+    And,
+    Not,
+    ByDiagram,
+    ByLiterals,
 }
 
 // The two sides of two nodes by the variable x.
@@ -31,9 +42,50 @@ pub struct Sides {
 }
 
 // What is left to do: the operation on one pair of nodes, or on both sides.
-pub enum Step {
-    One(NodeNo, NodeNo),
+pub enum Descent {
+    One { f: NodeNo, g: NodeNo },
     Both(Sides),
+}
+
+fn kind_of(op: Operation) -> Kind
+    ensures { λ r. ⌜ r ≡ kindOf op ⌝ }
+{
+    match op {
+        Operation::Conjunction => Kind::And,
+        Operation::Negation => Kind::Not,
+        Operation::Cofactor => Kind::ByDiagram,
+        Operation::Literals { .. } => Kind::ByLiterals,
+    }
+}
+
+// The literals of a cofactor by literals; none for another operation.
+fn literals_of(op: Operation) -> Literals
+    ensures { λ r. ⌜ r ≡ literalsOf op ⌝ }
+{
+    let none = Literals {
+        positive: 0,
+        negative: 0,
+    };
+    match op {
+        Operation::Conjunction => none,
+        Operation::Negation => none,
+        Operation::Cofactor => none,
+        Operation::Literals { positive, negative } => Literals { positive, negative },
+    }
+}
+
+fn operation_of(kind: Kind, by: Literals) -> Operation
+    ensures { λ r. ⌜ r ≡ operationOf kind by ⌝ }
+{
+    match kind {
+        Kind::And => Operation::Conjunction,
+        Kind::Not => Operation::Negation,
+        Kind::ByDiagram => Operation::Cofactor,
+        Kind::ByLiterals => Operation::Literals {
+            positive: by.positive,
+            negative: by.negative,
+        },
+    }
 }
 
 // The result where it can be told from the node numbers alone.
@@ -60,7 +112,7 @@ fn terminal(op: Operation, f: NodeNo, g: NodeNo) -> Found
             }
             Found::Nothing
         }
-        Operation::Literals(_, _) => {
+        Operation::Literals { .. } => {
             if f.0 < 2 {
                 return Found::At(f);
             }
@@ -137,34 +189,34 @@ fn sides_of(vars: &[u8], lows: &[u16], highs: &[u16], f: NodeNo, g: NodeNo) -> S
 }
 
 // What is left to do where neither the node numbers nor the memo tell the result.
-fn step_of(op: Operation, s: Sides) -> Step
+fn descent_of(op: Operation, s: Sides) -> Descent
     requires { ⌜ (1 ≤ s .x) × (s .x ≤ 64) ⌝ }
-    ensures { λ r. ⌜ r ≡ stepOf op s ⌝ }
+    ensures { λ r. ⌜ r ≡ descentOf op s ⌝ }
 {
     let f0 = s.f0;
     let g0 = s.g0;
     let f1 = s.f1;
     let g1 = s.g1;
     match op {
-        Operation::Conjunction => Step::Both(s),
-        Operation::Negation => Step::Both(s),
+        Operation::Conjunction => Descent::Both(s),
+        Operation::Negation => Descent::Both(s),
         Operation::Cofactor => {
             if g0.0 == 0 {
-                return Step::One(f1, g1);
+                return Descent::One { f: f1, g: g1 };
             }
             if g1.0 == 0 {
-                return Step::One(f0, g0);
+                return Descent::One { f: f0, g: g0 };
             }
-            Step::Both(s)
+            Descent::Both(s)
         }
-        Operation::Literals(p, n) => {
-            if words::in_word(p, s.x) {
-                return Step::One(f1, g1);
+        Operation::Literals { positive, negative } => {
+            if words::in_word(positive, s.x) {
+                return Descent::One { f: f1, g: g1 };
             }
-            if words::in_word(n, s.x) {
-                return Step::One(f0, g0);
+            if words::in_word(negative, s.x) {
+                return Descent::One { f: f0, g: g0 };
             }
-            Step::Both(s)
+            Descent::Both(s)
         }
     }
 }
@@ -191,7 +243,37 @@ pub fn apply(
         let after = tableOf (now (vars .exit)) (now (lows .exit)) (now (highs .exit)) (now (heads .exit)) (now (links .exit)) (r .count) in
         MemoRight op (now (memo .exit)) after) ⌝ }
 {
-    match terminal(op, f, g) {
+    let kind = kind_of(op);
+    let by = literals_of(op);
+    work_out(vars, lows, highs, heads, links, memo, count, kind, by, f, g)
+}
+
+// The operation from its terminals, its memo or its branches.
+fn work_out(
+    vars: &mut [u8],
+    lows: &mut [u16],
+    highs: &mut [u16],
+    heads: &mut [u16],
+    links: &mut [u16],
+    memo: &mut [u64],
+    count: usize,
+    kind: Kind,
+    by: Literals,
+    f: NodeNo,
+    g: NodeNo,
+) -> Placed
+    requires { ⌜ (
+        let before = tableOf (now vars) (now lows) (now highs) (now heads) (now links) count in
+        Ready (operationOf kind by) (now memo) before (f .0) (g .0)) ⌝ }
+    ensures { λ r. ⌜ (
+        let before = tableOf (now (vars .entry)) (now (lows .entry)) (now (highs .entry)) (now (heads .entry)) (now (links .entry)) count in
+        outcomeOf (now (vars .exit)) (now (lows .exit)) (now (highs .exit)) (now (heads .exit)) (now (links .exit)) r
+        ≡ applied before (operationOf kind by) (f .0) (g .0)) ⌝ }
+    ensures { λ r. ⌜ (
+        let after = tableOf (now (vars .exit)) (now (lows .exit)) (now (highs .exit)) (now (heads .exit)) (now (links .exit)) (r .count) in
+        MemoRight (operationOf kind by) (now (memo .exit)) after) ⌝ }
+{
+    match terminal(operation_of(kind, by), f, g) {
         Found::At(r) => Placed {
             full: false,
             node: r,
@@ -204,7 +286,7 @@ pub fn apply(
                 count,
             },
             Found::Nothing => {
-                let p = descend(vars, lows, highs, heads, links, memo, count, op, f, g);
+                let p = descend(vars, lows, highs, heads, links, memo, count, kind, by, f, g);
                 if p.full {
                     return p;
                 }
@@ -224,29 +306,42 @@ fn descend(
     links: &mut [u16],
     memo: &mut [u64],
     count: usize,
-    op: Operation,
+    kind: Kind,
+    by: Literals,
     f: NodeNo,
     g: NodeNo,
 ) -> Placed
     requires { ⌜ (
         let before = tableOf (now vars) (now lows) (now highs) (now heads) (now links) count in
-        Ready op (now memo) before (f .0) (g .0) × (terminalOf op (f .0) (g .0) ≡ Found.Nothing)) ⌝ }
+        Ready (operationOf kind by) (now memo) before (f .0) (g .0) × (terminalOf (operationOf kind by) (f .0) (g .0) ≡ Found.Nothing)) ⌝ }
     ensures { λ r. ⌜ (
         let before = tableOf (now (vars .entry)) (now (lows .entry)) (now (highs .entry)) (now (heads .entry)) (now (links .entry)) count in
         outcomeOf (now (vars .exit)) (now (lows .exit)) (now (highs .exit)) (now (heads .exit)) (now (links .exit)) r
-        ≡ applied before op (f .0) (g .0)) ⌝ }
+        ≡ applied before (operationOf kind by) (f .0) (g .0)) ⌝ }
     ensures { λ r. ⌜ (
         let after = tableOf (now (vars .exit)) (now (lows .exit)) (now (highs .exit)) (now (heads .exit)) (now (links .exit)) (r .count) in
-        MemoRight op (now (memo .exit)) after) ⌝ }
+        MemoRight (operationOf kind by) (now (memo .exit)) after) ⌝ }
 {
     let s = sides_of(vars, lows, highs, f, g);
-    match step_of(op, s) {
-        Step::One(a, b) => apply(vars, lows, highs, heads, links, memo, count, op, a, b),
-        Step::Both(s) => join(vars, lows, highs, heads, links, memo, count, op, s),
+    match descent_of(operation_of(kind, by), s) {
+        Descent::One { f: a, g: b } => work_out(
+            vars,
+            lows,
+            highs,
+            heads,
+            links,
+            memo,
+            count,
+            kind,
+            by,
+            a,
+            b,
+        ),
+        Descent::Both(s) => join(vars, lows, highs, heads, links, memo, count, kind, by, s),
     }
 }
 
-// The low side's result, the high side's, and the node over both.
+// The low side's result, the high side's, and the node over both. A result that stands in its home in the memo is taken without a call.
 fn join(
     vars: &mut [u8],
     lows: &mut [u16],
@@ -255,34 +350,63 @@ fn join(
     links: &mut [u16],
     memo: &mut [u64],
     count: usize,
-    op: Operation,
+    kind: Kind,
+    by: Literals,
     s: Sides,
 ) -> Placed
-    requires { ⌜ SidesReady op (now memo) (tableOf (now vars) (now lows) (now highs) (now heads) (now links) count) s ⌝ }
+    requires { ⌜ SidesReady (operationOf kind by) (now memo) (tableOf (now vars) (now lows) (now highs) (now heads) (now links) count) s ⌝ }
     ensures { λ r. ⌜ (
         let before = tableOf (now (vars .entry)) (now (lows .entry)) (now (highs .entry)) (now (heads .entry)) (now (links .entry)) count in
         outcomeOf (now (vars .exit)) (now (lows .exit)) (now (highs .exit)) (now (heads .exit)) (now (links .exit)) r
-        ≡ joinedOf before op s) ⌝ }
+        ≡ joinedOf before (operationOf kind by) s) ⌝ }
     ensures { λ r. ⌜ (
         let after = tableOf (now (vars .exit)) (now (lows .exit)) (now (highs .exit)) (now (heads .exit)) (now (links .exit)) (r .count) in
-        MemoRight op (now (memo .exit)) after) ⌝ }
+        MemoRight (operationOf kind by) (now (memo .exit)) after) ⌝ }
 {
-    let p = apply(vars, lows, highs, heads, links, memo, count, op, s.f0, s.g0);
+    let p = match memo::memo_home(memo, s.f0, s.g0) {
+        Found::At(r) => Placed {
+            full: false,
+            node: r,
+            count,
+        },
+        Found::Nothing => work_out(
+            vars,
+            lows,
+            highs,
+            heads,
+            links,
+            memo,
+            count,
+            kind,
+            by,
+            s.f0,
+            s.g0,
+        ),
+    };
     if p.full {
         return p;
     }
-    let q = apply(
-        vars,
-        lows,
-        highs,
-        heads,
-        links,
-        memo,
-        p.count,
-        op,
-        s.f1,
-        s.g1,
-    );
+    let n = p.count;
+    let q = match memo::memo_home(memo, s.f1, s.g1) {
+        Found::At(r) => Placed {
+            full: false,
+            node: r,
+            count: n,
+        },
+        Found::Nothing => work_out(
+            vars,
+            lows,
+            highs,
+            heads,
+            links,
+            memo,
+            n,
+            kind,
+            by,
+            s.f1,
+            s.g1,
+        ),
+    };
     if q.full {
         return q;
     }

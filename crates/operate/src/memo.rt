@@ -1,4 +1,5 @@
-// The memo of the recursion: a hash table of results in the slice that is lent, in as much of it as there is use for. A result may stand in
+// The memo of the recursion: a hash table of results in the slice that is lent, in as much of it as there is use for. While it grows, and
+// half of its cells are empty, a result stands in its home alone, which is one test. With all of the slice in use it may stand in
 // any of the eight cells from its home on; where all of them hold others, one of those gives way. So no search is long, and what is
 // forgotten is what has not been asked for a while. Where so much is forgotten that work is done again and again, only every
 // step-th variable's results are held, so that the work is bounded by the cells times 2 to the step, and not by the number of
@@ -8,7 +9,8 @@ use table::Found;
 use table::NodeNo;
 ghost use Prim.Native.Nat.{_+_, _≤_, _<_};
 ghost use lib.ListN.{length};
-ghost use Rattle.operate.specs.Inner.{Shaped, Empty, Tells, Follows, Stores};
+ghost use mathlib.Core.Path.{_≡_};
+ghost use Rattle.operate.specs.Inner.{Shaped, EmptyMemo, toldBy, Tells, Follows, Stores};
 
 // The head: how many cells are live, how many results were stored in them, and at each how many-th variable results are held. Behind it are
 // the cells.
@@ -91,20 +93,10 @@ fn is_held(vars: &[u8], step: u64, f: NodeNo, g: NodeNo) -> bool
     x % step == 0
 }
 
-// The result stored for f and g.
-pub fn memo_find(vars: &[u8], memo: &[u64], f: NodeNo, g: NodeNo) -> Found
-    requires { ⌜ Shaped (now memo) × (f .0 < length (now vars)) × (g .0 < length (now vars)) ⌝ }
-    ensures { λ r. ⌜ Tells (now (memo .entry)) (f .0) (g .0) r ⌝ }
+// What a cell tells of f and g: its result where it has their key.
+fn told_by(e: u64, f: NodeNo, g: NodeNo) -> Found
+    ensures { λ r. ⌜ (r ≡ toldBy e (f .0) (g .0)) × (g .0 < 65536) ⌝ }
 {
-    if !is_held(vars, memo[STEP], f, g) {
-        return Found::Nothing;
-    }
-    let n = memo[LIVE] as usize;
-    let c = cell_of(memo, n, f, g);
-    if n <= c {
-        return Found::Nothing;
-    }
-    let e = memo[HEAD + c];
     let a = f.0 as u64;
     let b = g.0 as u64;
     if e / NUMBERS == a * NUMBERS + b {
@@ -113,10 +105,39 @@ pub fn memo_find(vars: &[u8], memo: &[u64], f: NodeNo, g: NodeNo) -> Found
     Found::Nothing
 }
 
+// The result stored for f and g in their home.
+pub fn memo_home(memo: &[u64], f: NodeNo, g: NodeNo) -> Found
+    requires { ⌜ Shaped (now memo) ⌝ }
+    ensures { λ r. ⌜ Tells (now (memo .entry)) (f .0) (g .0) r ⌝ }
+{
+    let n = memo[LIVE] as usize;
+    let c = home_of(n, f, g);
+    if n <= c || f.0 < 2 {
+        return Found::Nothing;
+    }
+    told_by(memo[HEAD + c], f, g)
+}
+
+// The result stored for f and g, where it may stand beside their home.
+pub fn memo_find(vars: &[u8], memo: &[u64], f: NodeNo, g: NodeNo) -> Found
+    requires { ⌜ Shaped (now memo) × (f .0 < length (now vars)) × (g .0 < length (now vars)) × (2 ≤ f .0) ⌝ }
+    ensures { λ r. ⌜ Tells (now (memo .entry)) (f .0) (g .0) r ⌝ }
+{
+    let n = memo[LIVE] as usize;
+    if HEAD + n < memo.len() || !is_held(vars, memo[STEP], f, g) {
+        return Found::Nothing;
+    }
+    let c = cell_of(memo, n, f, g);
+    if n <= c {
+        return Found::Nothing;
+    }
+    told_by(memo[HEAD + c], f, g)
+}
+
 // Makes n cells live and empty.
 fn restart(memo: &mut [u64], n: usize, step: u64)
     requires { ⌜ (3 + n ≤ length (now memo)) × (n ≤ 1048576) ⌝ }
-    ensures { λ _. ⌜ Empty (now (memo .exit)) ⌝ }
+    ensures { λ _. ⌜ EmptyMemo (now (memo .exit)) ⌝ }
 {
     let end = HEAD + n;
     let mut i: usize = 0;
@@ -152,10 +173,13 @@ fn make_room(memo: &mut [u64])
     restart(memo, n, step);
 }
 
-// The cell for a new result among n live ones: that of f and g, else one of the eight in turn.
+// The cell for a new result among n live ones: its home while the memo grows; then that of f and g, else one of the eight in turn.
 fn cell_for(memo: &[u64], n: usize, f: NodeNo, g: NodeNo) -> usize
     requires { ⌜ (3 + n ≤ length (now memo)) × (n ≤ 1048576) ⌝ }
 {
+    if HEAD + n < memo.len() {
+        return home_of(n, f, g);
+    }
     let c = cell_of(memo, n, f, g);
     if c < n {
         return c;
@@ -187,7 +211,7 @@ pub fn memo_put(vars: &[u8], memo: &mut [u64], f: NodeNo, g: NodeNo, r: NodeNo)
 // Empties the memo: no cell is live.
 pub fn clear_memo(memo: &mut [u64])
     requires { ⌜ 3 ≤ length (now memo) ⌝ }
-    ensures { λ _. ⌜ Empty (now (memo .exit)) ⌝ }
+    ensures { λ _. ⌜ EmptyMemo (now (memo .exit)) ⌝ }
 {
     memo[STEP] = 1;
     memo[LIVE] = 0;

@@ -1,16 +1,18 @@
 // The operations without a memo, for thin diagrams, where each node has a constant for a child, as a clause's has: there they have no more
 // steps than nodes. They are right for all diagrams.
+use crate::Descent;
+use crate::Kind;
 use crate::Operation;
 use crate::Sides;
-use crate::Step;
 use table::Found;
 use table::NodeNo;
 use table::Placed;
+use words::Literals;
 ghost use mathlib.Core.Path.{_≡_};
 ghost use mathlib.Core.List.{List};
 ghost use Prim.Native.Nat.{ℕ};
 ghost use Rattle.table.specs.Indexed.{tableOf, outcomeOf};
-ghost use Rattle.operate.specs.Inner.{applied, joinedOf, Ready, SidesReady};
+ghost use Rattle.operate.specs.Inner.{applied, joinedOf, operationOf, Ready, SidesReady};
 ghost use Rattle.operate.specs.Thin.{SomeTable, noMemo, SomeReady, Passes};
 
 // Whether each node of f has a constant for a child. It tells what is quick and not what is right, so nothing is promised of the answer.
@@ -44,14 +46,17 @@ fn pass_sides(
     vars: &[u8],
     lows: &[u16],
     highs: &[u16],
-    op: Operation,
+    kind: Kind,
+    by: Literals,
     first: NodeNo,
     second: NodeNo,
 ) -> Passed
-    requires { ⌜ SomeReady op (now vars) (now lows) (now highs) (first .0) (second .0) ⌝ }
+    requires { ⌜ SomeReady (operationOf kind by) (now vars) (now lows) (now highs) (first .0) (second .0) ⌝ }
     ensures { λ r. ⌜ ((heads links : List ℕ) (count : ℕ) →
-        Passes op (tableOf (now (vars .entry)) (now (lows .entry)) (now (highs .entry)) heads links count) (first .0) (second .0) r) ⌝ }
+        let before = tableOf (now (vars .entry)) (now (lows .entry)) (now (highs .entry)) heads links count in
+        Passes (operationOf kind by) before (first .0) (second .0) r) ⌝ }
 {
+    let op = crate::operation_of(kind, by);
     let mut f = first;
     let mut g = second;
     loop {
@@ -61,12 +66,12 @@ fn pass_sides(
             }
             Found::Nothing => {
                 let s = crate::sides_of(vars, lows, highs, f, g);
-                match crate::step_of(op, s) {
-                    Step::One(a, b) => {
+                match crate::descent_of(op, s) {
+                    Descent::One { f: a, g: b } => {
                         f = a;
                         g = b;
                     }
-                    Step::Both(s) => {
+                    Descent::Both(s) => {
                         return Passed::Parted(s);
                     }
                 }
@@ -93,17 +98,44 @@ pub fn apply_thin(
         outcomeOf (now (vars .exit)) (now (lows .exit)) (now (highs .exit)) (now (heads .exit)) (now (links .exit)) r
         ≡ applied before op (f .0) (g .0)) ⌝ }
 {
-    match pass_sides(vars, lows, highs, op, f, g) {
+    let kind = crate::kind_of(op);
+    let by = crate::literals_of(op);
+    work_out_thin(vars, lows, highs, heads, links, count, kind, by, f, g)
+}
+
+// As `work_out`, without a memo.
+fn work_out_thin(
+    vars: &mut [u8],
+    lows: &mut [u16],
+    highs: &mut [u16],
+    heads: &mut [u16],
+    links: &mut [u16],
+    count: usize,
+    kind: Kind,
+    by: Literals,
+    f: NodeNo,
+    g: NodeNo,
+) -> Placed
+    requires { ⌜ (
+        let before = tableOf (now vars) (now lows) (now highs) (now heads) (now links) count in
+        Ready (operationOf kind by) noMemo before (f .0) (g .0)) ⌝ }
+    ensures { λ r. ⌜ (
+        let before = tableOf (now (vars .entry)) (now (lows .entry)) (now (highs .entry)) (now (heads .entry)) (now (links .entry)) count in
+        outcomeOf (now (vars .exit)) (now (lows .exit)) (now (highs .exit)) (now (heads .exit)) (now (links .exit)) r
+        ≡ applied before (operationOf kind by) (f .0) (g .0)) ⌝ }
+{
+    match pass_sides(vars, lows, highs, kind, by, f, g) {
         Passed::Done(r) => Placed {
             full: false,
             node: r,
             count,
         },
-        Passed::Parted(s) => join_thin(vars, lows, highs, heads, links, count, op, s),
+        Passed::Parted(s) => join_thin(vars, lows, highs, heads, links, count, kind, by, s),
     }
 }
 
-// The low side's result, the high side's, and the node over both.
+// The low side's result, the high side's, and the node over both. A side of a thin diagram is often a terminal, which is told here and not
+// by a call, since a call costs more than such a side does.
 fn join_thin(
     vars: &mut [u8],
     lows: &mut [u16],
@@ -111,20 +143,58 @@ fn join_thin(
     heads: &mut [u16],
     links: &mut [u16],
     count: usize,
-    op: Operation,
+    kind: Kind,
+    by: Literals,
     s: Sides,
 ) -> Placed
-    requires { ⌜ SidesReady op noMemo (tableOf (now vars) (now lows) (now highs) (now heads) (now links) count) s ⌝ }
+    requires { ⌜ SidesReady (operationOf kind by) noMemo (tableOf (now vars) (now lows) (now highs) (now heads) (now links) count) s ⌝ }
     ensures { λ r. ⌜ (
         let before = tableOf (now (vars .entry)) (now (lows .entry)) (now (highs .entry)) (now (heads .entry)) (now (links .entry)) count in
         outcomeOf (now (vars .exit)) (now (lows .exit)) (now (highs .exit)) (now (heads .exit)) (now (links .exit)) r
-        ≡ joinedOf before op s) ⌝ }
+        ≡ joinedOf before (operationOf kind by) s) ⌝ }
 {
-    let p = apply_thin(vars, lows, highs, heads, links, count, op, s.f0, s.g0);
+    let op = crate::operation_of(kind, by);
+    let p = match crate::terminal(op, s.f0, s.g0) {
+        Found::At(r) => Placed {
+            full: false,
+            node: r,
+            count,
+        },
+        Found::Nothing => work_out_thin(
+            vars,
+            lows,
+            highs,
+            heads,
+            links,
+            count,
+            kind,
+            by,
+            s.f0,
+            s.g0,
+        ),
+    };
     if p.full {
         return p;
     }
-    let q = apply_thin(vars, lows, highs, heads, links, p.count, op, s.f1, s.g1);
+    let q = match crate::terminal(op, s.f1, s.g1) {
+        Found::At(r) => Placed {
+            full: false,
+            node: r,
+            count: p.count,
+        },
+        Found::Nothing => work_out_thin(
+            vars,
+            lows,
+            highs,
+            heads,
+            links,
+            p.count,
+            kind,
+            by,
+            s.f1,
+            s.g1,
+        ),
+    };
     if q.full {
         return q;
     }

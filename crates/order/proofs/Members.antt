@@ -35,7 +35,7 @@ module _ {A B : Type 0} (g : A → B) where
   among-map (y ∷ ys) x (inl q) = inl (ap g q)
   among-map (y ∷ ys) x (inr i) = inr (among-map ys x i)
 
-  pub map-among : (xs : List A) (z : B) → Among z (map g xs) → (x : A) × Among x xs × (z ≡ g x)
+  map-among : (xs : List A) (z : B) → Among z (map g xs) → (x : A) × Among x xs × (z ≡ g x)
   map-among [] z i = absurd i
   map-among (y ∷ ys) z (inl q) = (y, inl refl, q)
   map-among (y ∷ ys) z (inr i) = let (x, j, is) = map-among ys z i in (x, inr j, is)

@@ -24,7 +24,7 @@ use Rattle.table.specs.Making.{placedAll}
 use Rattle.table.specs.Lists.{room, diagramsOf, Inside, Extended}
 use Rattle.conflict.specs.Marks.{unmarked}
 use Rattle.propagate.specs.Made.{results, unitResults, AllMade, differing}
-use Rattle.propagate.specs.Units.{Taken}
+use Rattle.propagate.specs.Units.{UnitsTaken}
 use Rattle.propagate.specs.Rounds.{Said, roundsLeft}
 use Rattle.table.proofs.PlacedAll.{placed-short, placed-then}
 use Rattle.table.proofs.Extended.{extended-same, extended-trans}
@@ -82,7 +82,7 @@ byUnits-is : (n : ℕ) (u : Diagram) (ms : List Diagram) → byUnits n u ms ≡ 
 unfolding byUnits
 byUnits-is n u ms = refl
 
-units-made : (T : Table) (list : List ℕ) (u : words.Literals) (K : Taken 64 (diagramsOf (nodesOf T) list) u)
+units-made : (T : Table) (list : List ℕ) (u : words.Literals) (K : UnitsTaken 64 (diagramsOf (nodesOf T) list) u)
     → results (Literals (u .positive) (u .negative)) T list 1 ≡ byUnits 64 (K .member) (diagramsOf (nodesOf T) list)
 unfolding has
 units-made T list u K =
@@ -92,7 +92,7 @@ units-made T list u K =
     ∙ sym (byUnits-is 64 (K .member) (diagramsOf (nodesOf T) list))
 
 -- What a round writes: as many members as differ from their cofactor by its U.
-pub round-writes : (T : Table) (list : List ℕ) (u : words.Literals) → Taken 64 (diagramsOf (nodesOf T) list) u
+pub round-writes : (T : Table) (list : List ℕ) (u : words.Literals) → UnitsTaken 64 (diagramsOf (nodesOf T) list) u
     → (written : ℕ) → written ≡ differing (diagramsOf (nodesOf T) list) (unitResults u T list)
     → (taken : Diagram) → firstWithUnit 64 (diagramsOf (nodesOf T) list) ≡ some taken
     → written ≡ differing (diagramsOf (nodesOf T) list) (byUnits 64 taken (diagramsOf (nodesOf T) list))
@@ -156,7 +156,7 @@ module _ (T₀ : Table) (G₀ : Good T₀) (ms₀ : List Diagram) (T : Table) (l
 
   -- one round more
 
-  module _ (less : rounds < 64) (quiet : conflicts 64 (diagramsOf (nodesOf T) list) ≡ false) (u : words.Literals) (K : Taken 64 (diagramsOf (nodesOf T) list) u)
+  module _ (less : rounds < 64) (quiet : conflicts 64 (diagramsOf (nodesOf T) list) ≡ false) (u : words.Literals) (K : UnitsTaken 64 (diagramsOf (nodesOf T) list) u)
       (full : Bool) (T′ : Table) (list′ : List ℕ) (A : AllMade T (results (Literals (u .positive) (u .negative)) T list 1) full T′ list′) where
     made : List Diagram
     made = byUnits 64 (K .member) (diagramsOf (nodesOf T) list)

@@ -23,7 +23,7 @@ use Rattle.words.specs.Sets.{has}
 use Rattle.words.proofs.Variables.{word-zero}
 use Rattle.units.specs.Units.{UnitsAt}
 use Rattle.table.specs.Lists.{diagramsOf}
-use Rattle.propagate.specs.Units.{Taken, Unitless, Asked, Skips}
+use Rattle.propagate.specs.Units.{UnitsTaken, Unitless, Asked, Skips}
 use Rattle.propagate.proofs.Replacing.{getD-map}
 
 -- ---- units
@@ -58,7 +58,7 @@ units-none n (suc k) f e v lo hi =
 -- ---- the units of one node, as its two words
 
 module _ (n : ℕ) (t : List Node) (k : ℕ) (u : Literals) (U : UnitsAt n t k u) where
-  pub words-empty : u .positive ≡ 0 → u .negative ≡ 0 → hasUnit n n (diagramAt t k) ≡ false
+  words-empty : u .positive ≡ 0 → u .negative ≡ 0 → hasUnit n n (diagramAt t k) ≡ false
   unfolding UnitsAt has
   words-empty p q =
       no-units n n (diagramAt t k) λ v lo hi. (
@@ -103,7 +103,7 @@ module _ (n : ℕ) (t : List Node) (list : List ℕ) (i : ℕ) where
     first-later e = first-step ∙ ap (λ (b : Bool). cond b (some (diagramAt t (getD list i 0))) (firstWithUnit n (diagramsOf t (drop (i + 1) list)))) e
 
     pub first-here : firstWithUnit n (diagramsOf t list) ≡ firstWithUnit n (diagramsOf t (drop i list)) → hasUnit n n (diagramAt t (getD list i 0)) ≡ true
-        → (u : Literals) → UnitsAt n t (getD list i 0) u → Taken n (diagramsOf t list) u
+        → (u : Literals) → UnitsAt n t (getD list i 0) u → UnitsTaken n (diagramsOf t list) u
     unfolding UnitsAt
     first-here so-far e u U =
         record {
@@ -117,7 +117,7 @@ module _ (n : ℕ) (t : List Node) (list : List ℕ) (i : ℕ) where
 
 -- ---- members that are passed over
 
-pub unitless-next : (ms : List Diagram) (i : ℕ) → Unitless ms i → hasUnit 64 64 (getD ms i (leaf false)) ≡ false → Unitless ms (i + 1)
+unitless-next : (ms : List Diagram) (i : ℕ) → Unitless ms i → hasUnit 64 64 (getD ms i (leaf false)) ≡ false → Unitless ms (i + 1)
 unitless-next ms i U e k p = go (ℕ-discrete k i)
   where
     go : Dec (k ≡ i) → hasUnit 64 64 (getD ms k (leaf false)) ≡ false
@@ -144,7 +144,7 @@ skips-next words touching asked from i h S less e =
     go k p q (no z) = S .passed k p (omega arith)
 
 module _ (t : List Node) (list : List ℕ) where
-  pub member-is : (i : ℕ) → i < length list → getD (diagramsOf t list) i (leaf false) ≡ diagramAt t (getD list i 0)
+  member-is : (i : ℕ) → i < length list → getD (diagramsOf t list) i (leaf false) ≡ diagramAt t (getD list i 0)
   member-is i p = getD-map (diagramAt t) list i 0 (leaf false) p
 
   pub first-passed : (i : ℕ) → i ≤ length list → Unitless (diagramsOf t list) i → firstWithUnit 64 (diagramsOf t list) ≡ firstWithUnit 64 (diagramsOf t (drop i list))
@@ -158,7 +158,7 @@ module _ (t : List Node) (list : List ℕ) where
 
 module _ (t : List Node) (list : List ℕ) (i : ℕ) (inside : i < length list) (U : Unitless (diagramsOf t list) i) (u : Literals) (units : UnitsAt 64 t (getD list i 0) u) where
   pub taken-here : u .positive < 2 ^ 64 → u .negative < 2 ^ 64 → ((u .positive ≡ 0) × (u .negative ≡ 0) → ⊥)
-      → Taken 64 (diagramsOf t list) u × (i ≤ length (diagramsOf t list)) × Unitless (diagramsOf t list) i
+      → UnitsTaken 64 (diagramsOf t list) u × (i ≤ length (diagramsOf t list)) × Unitless (diagramsOf t list) i
   taken-here fits-p fits-n any = (
     first-here 64 t list i inside (first-passed t list i (omega arith) U) (words-some 64 t (getD list i 0) u units fits-p fits-n any) u units,
     omega (arith, length-map list (diagramAt t)),

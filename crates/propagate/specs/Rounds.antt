@@ -11,7 +11,7 @@ use Rattle.table.specs.Making.{placedAll}
 use Rattle.propagate.specs.declared.Propagated.{Propagated}
 use Rattle.propagate.specs.declared.Next.{Next}
 use Rattle.propagate.specs.declared.Next.the-variants.{End, By}
-use Rattle.propagate.specs.Units.{Taken, Unitless}
+use Rattle.propagate.specs.Units.{UnitsTaken, Unitless}
 use Rattle.table.specs.Lists.{Extended, room}
 
 -- The rounds that may still come after so many.
@@ -22,7 +22,7 @@ roundsLeft rounds = 64 - rounds
 -- the member at the place.
 abbrev pub Comes : List Diagram → ℕ → Next → Type 0
 Comes ms rounds (End conflict) = propagate (roundsLeft rounds) 64 ms ≡ still conflict
-Comes ms rounds (By u place) = (rounds < 64) × (conflicts 64 ms ≡ false) × Taken 64 ms u × (place ≤ length ms) × Unitless ms place
+Comes ms rounds (By u place) = (rounds < 64) × (conflicts 64 ms ≡ false) × UnitsTaken 64 ms u × (place ≤ length ms) × Unitless ms place
 
 -- The propagation p over the table t: `full` exactly where what it makes finds no room, else its conflict and its rounds.
 pub record Said (t : Table) (p : Propagation) (r : Propagated) (t′ : Table) : Type 0 where

@@ -17,7 +17,7 @@ use Rattle.propagate.specs.declared.first.TopUnits.{TopUnits}
 use Rattle.propagate.specs.declared.first.TopUnits.the-variants.{Told, UpTo}
 
 -- The set is U of the member, of n variables, that a round takes: "the member of lowest place" whose U is not empty. (01, The rules)
-pub record Taken (n : ℕ) (ms : List Diagram) (units : Literals) : Type 0 where
+pub record UnitsTaken (n : ℕ) (ms : List Diagram) (units : Literals) : Type 0 where
   pub member : Diagram
   pub is : firstWithUnit n ms ≡ some member
   pub holds : (v : ℕ) (s : Bool) → 1 ≤ v → v ≤ n → has units v s ≡ isUnit n member v s
@@ -27,12 +27,12 @@ abbrev pub Unitless : List Diagram → ℕ → Type 0
 Unitless ms place = (k : ℕ) → k < place → hasUnit 64 64 (getD ms k (leaf false)) ≡ false
 
 abbrev pub AreFirst : ℕ → List Diagram → FirstUnits → Type 0
-AreFirst n ms (Of units place) = Taken n ms units × (place ≤ length ms) × Unitless ms place
+AreFirst n ms (Of units place) = UnitsTaken n ms units × (place ≤ length ms) × Unitless ms place
 AreFirst n ms Nothing = firstWithUnit n ms ≡ none
 
 -- The same as far as top nodes tell.
 abbrev pub FirstAtTop : List Diagram → TopUnits → Type 0
-FirstAtTop ms (Told units place) = Taken 64 ms units × (place ≤ length ms) × Unitless ms place
+FirstAtTop ms (Told units place) = UnitsTaken 64 ms units × (place ≤ length ms) × Unitless ms place
 FirstAtTop ms (UpTo place) = (place ≤ length ms) × Unitless ms place
 
 -- Of the first `asked` members those that have no variable in `touching`, as their words tell, have no unit.

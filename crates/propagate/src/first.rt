@@ -11,7 +11,7 @@ ghost use Rattle.propagate.specs.Units.{AreFirst, FirstAtTop, Unitless, 
 
 // The units by which a round cofactors and the place of the first member that has any, if there is one.
 pub enum FirstUnits {
-    Of(Literals, usize),
+    Of { units: Literals, place: usize },
     Nothing,
 }
 
@@ -32,7 +32,7 @@ fn next_asked(words: &[u64], touching: u64, asked: usize, from: usize) -> usize
 
 // What top nodes alone tell of the first units: the units and the place of the first member that has any, or up to where there are none.
 enum TopUnits {
-    Told(Literals, usize),
+    Told { units: Literals, place: usize },
     UpTo(usize),
 }
 
@@ -65,7 +65,7 @@ fn first_at_top(
             }
             AtTop::Known(u) => {
                 if u.positive != 0 || u.negative != 0 {
-                    return TopUnits::Told(u, place);
+                    return TopUnits::Told { units: u, place };
                 }
             }
         }
@@ -105,7 +105,7 @@ fn first_by_walks(
         let stamp = (place + 1) as u64;
         let u = units::units_from(vars, lows, highs, memo, count, member, stamp);
         if u.positive != 0 || u.negative != 0 {
-            return FirstUnits::Of(u, place);
+            return FirstUnits::Of { units: u, place };
         }
         place = next_asked(words, touching, asked, place + 1);
     }
@@ -134,7 +134,7 @@ pub fn first_units(
         AreFirst 64 (diagramsOf nodes (now (list .entry))) r) ⌝ }
 {
     match first_at_top(vars, lows, highs, list, words, count, touching, asked) {
-        TopUnits::Told(u, place) => FirstUnits::Of(u, place),
+        TopUnits::Told { units: u, place } => FirstUnits::Of { units: u, place },
         TopUnits::UpTo(place) => {
             if place == list.len() {
                 return FirstUnits::Nothing;

@@ -23,7 +23,7 @@ ghost use Rattle.table.specs.Lists.{diagramsOf};
 ghost use Rattle.conflict.specs.Marks.{unmarked};
 ghost use Rattle.propagate.specs.Made.{results, unitResults, AllMade, differing};
 ghost use Rattle.propagate.specs.Touching.{Touches, AllTouched, OneMade};
-ghost use Rattle.propagate.specs.Units.{Taken, Asked};
+ghost use Rattle.propagate.specs.Units.{UnitsTaken, Asked};
 ghost use Rattle.propagate.specs.Rounds.{Comes, Said};
 
 pub mod first;
@@ -259,7 +259,7 @@ pub struct Propagated {
 // What comes next in a propagation: its end, or a round by the units of the member at the place.
 pub enum Next {
     End(bool),
-    By(Literals, usize),
+    By { units: Literals, place: usize },
 }
 
 // What comes after so many rounds, the last of them by the variables of `touching`, where before `asked` only members that have one of
@@ -311,7 +311,7 @@ fn next_round(
         return Next::End(false);
     }
     match first::first_units(vars, lows, highs, memo, list, words, count, touching, asked) {
-        FirstUnits::Of(u, place) => Next::By(u, place),
+        FirstUnits::Of { units: u, place } => Next::By { units: u, place },
         FirstUnits::Nothing => Next::End(false),
     }
 }
@@ -335,7 +335,7 @@ fn round(
         ListReady before (now list) (now memo)
         × (length (now words) ≡ length (now list))
         × Supports (nodesOf before) (now list) (now words)
-        × Taken 64 (diagramsOf (nodesOf before) (now list)) u) ⌝ }
+        × UnitsTaken 64 (diagramsOf (nodesOf before) (now list)) u) ⌝ }
     ensures { λ r. ⌜ (
         let before = tableOf (now (vars .entry)) (now (lows .entry)) (now (highs .entry)) (now (heads .entry)) (now (links .entry)) count in
         let after = tableOf (now (vars .exit)) (now (lows .exit)) (now (highs .exit)) (now (heads .exit)) (now (links .exit)) (r .count) in
@@ -350,7 +350,10 @@ fn round(
         r .full ≡ false → (taken : Diagram) → firstWithUnit 64 members ≡ some taken →
         r .written ≡ differing members (byUnits 64 taken members)) ⌝ }
 {
-    let op = Operation::Literals(u.positive, u.negative);
+    let op = Operation::Literals {
+        positive: u.positive,
+        negative: u.negative,
+    };
     all_by(
         vars,
         lows,
@@ -421,7 +424,7 @@ pub fn unit_prop(
                     count: n,
                 };
             }
-            Next::By(u, place) => {
+            Next::By { units: u, place } => {
                 asked = place;
                 touching = u.positive | u.negative;
                 let made = round(vars, lows, highs, heads, links, memo, list, words, n, u);

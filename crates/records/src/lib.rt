@@ -39,13 +39,13 @@ pub struct SetBody {
 pub enum Record {
     NodeEntry(NodeBody),
     // The variable, and what the witness sets it to.
-    Witness(u8, bool),
+    Witness { variable: u8, value: bool },
     // The rule and the root.
-    ProofLine(Rule, EntryNo),
+    ProofLine { rule: Rule, root: EntryNo },
     // The member that is struck out.
     Strike(MemberNo),
     // An entry of a set's diagram.
-    SetEntry(SetKind, SetBody),
+    SetEntry { kind: SetKind, body: SetBody },
     End,
     // The kind byte is there, not its whole body.
     CutShort,
@@ -98,7 +98,10 @@ fn witness_in(body: &[u8], value: bool) -> Record
     if body.len() < 1 {
         return Record::CutShort;
     }
-    Record::Witness(body[0], value)
+    Record::Witness {
+        variable: body[0],
+        value,
+    }
 }
 
 // The line of a body, by a rule.
@@ -108,7 +111,10 @@ fn line_in(body: &[u8], rule: Rule) -> Record
     if body.len() < 2 {
         return Record::CutShort;
     }
-    Record::ProofLine(rule, entry_in(body, 0))
+    Record::ProofLine {
+        rule,
+        root: entry_in(body, 0),
+    }
 }
 
 // The striking of a body.
@@ -142,7 +148,10 @@ fn set_in(body: &[u8], kind: SetKind) -> Record
     }
     let set = word_in(body);
     let byte = body[8];
-    Record::SetEntry(kind, SetBody { set, byte })
+    Record::SetEntry {
+        kind,
+        body: SetBody { set, byte },
+    }
 }
 
 // The record whose first byte is at the place; a place at or past the end has none.
@@ -175,10 +184,10 @@ pub fn record_length(r: Record) -> usize
 {
     match r {
         Record::NodeEntry(_) => 6,
-        Record::Witness(_, _) => 2,
-        Record::ProofLine(_, _) => 3,
+        Record::Witness { .. } => 2,
+        Record::ProofLine { .. } => 3,
         Record::Strike(_) => 3,
-        Record::SetEntry(_, _) => 10,
+        Record::SetEntry { .. } => 10,
         Record::End => 1,
         Record::CutShort => 0,
         Record::UnknownKind => 0,

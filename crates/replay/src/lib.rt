@@ -71,7 +71,7 @@ pub fn read_commands(
             variables,
             command,
         ) {
-            Step::Stop(number, offset) => {
+            Step::Stop { number, offset } => {
                 return Ended {
                     number,
                     place: at + offset,
@@ -79,7 +79,7 @@ pub fn read_commands(
                     state,
                 };
             }
-            Step::Spent(number, peak) => {
+            Step::Spent { number, peak } => {
                 return Ended {
                     number,
                     place: at,

@@ -12,6 +12,9 @@ ghost use Rattle.verdict.specs.Check.{verdict};
 ghost use Rattle.report.specs.Files.{said, fileRefused, ofVerdict, statusOf};
 ghost use Rattle.report.specs.Line.{lineBytes};
 
+// The most bytes of a file.
+const LONGEST: usize = 65536;
+
 // 01's number and its place, the accepted lines, their rounds and the greatest count of the table.
 pub struct Line {
     pub number: u8,
@@ -84,14 +87,14 @@ fn line_on<'a>(mode: Mode, first: bool, formula: &'a [u8], second: bool, proof: 
     if !first {
         return refused(25, 0);
     }
-    if formula.len() > 65536 {
-        return refused(24, 65536);
+    if formula.len() > LONGEST {
+        return refused(24, LONGEST);
     }
     if !second {
         return refused(25, 0);
     }
-    if proof.len() > 65536 {
-        return refused(24, 65536);
+    if proof.len() > LONGEST {
+        return refused(24, LONGEST);
     }
     check(mode, formula, proof)
 }

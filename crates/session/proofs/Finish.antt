@@ -22,13 +22,14 @@ use Rattle.dimacs.specs.Header.{header}
 use Rattle.dimacs.specs.Clauses.{clausesFrom}
 use Rattle.dimacs.proofs.Bounds.{HeaderIn, header-in}
 use Rattle.commands.specs.declared.Mode.{Mode}
+use Rattle.words.specs.Sets.{noLiterals}
 use Rattle.verdict.specs.Steps as check
 use Rattle.verdict.specs.Steps.{emptied, begun}
 use Rattle.verdict.specs.Check.{zeros, Verdict, left, proofFrom, refusedFormula, clauses, verdict, Outcome, lentFits, outcome}
 use Rattle.steps.specs.declared.State.{State}
 use Rattle.steps.specs.States.{Lent, tableIn, stateOf, Held}
 use Rattle.session.specs.declared.Checked.{Checked}
-use Rattle.session.specs.Checked.{outcomeOf}
+use Rattle.session.specs.Checked.{checkOutcome}
 use Rattle.formula.specs.declared.Start.{Start}
 use Rattle.formula.specs.declared.Start.the-variants.{Begun, Refused}
 use Rattle.formula.specs.Formula.{Opened, saidFrom, Built}
@@ -42,7 +43,7 @@ answer number inProof place lines rounds count peak = record { number = number; 
 
 outcome-is : (s m c number : ℕ) (inProof : Bool) (place lines rounds count peak : ℕ) (d : Columns) (ms ss : List ℕ) (t : List Node) (ks ps : List ℕ)
     → count ≡ length t → d ≡ storedAs s t → ms ≡ ks ++ zeros (m - length ks) → ss ≡ ps ++ zeros (m - length ps)
-    → outcomeOf d ms ss (zeros c) (answer number inProof place lines rounds count peak)
+    → checkOutcome d ms ss (zeros c) (answer number inProof place lines rounds count peak)
     ≡ outcome s m c (record { number = number; inProof = inProof; place = place; lines = lines; rounds = rounds; peak = peak; nodes = t; members = ks; struck = ps })
 unfolding outcome
 outcome-is s m c number inProof place lines rounds count peak d ms ss t ks ps e f g h =
@@ -85,13 +86,13 @@ module _ (s : ℕ) (two : 2 ≤ s) (vs ls hs ds ks : List ℕ) (a : vs ≡ zeros
       ∙ ap (λ (x : List ℕ). tableOf (zeros s) (zeros s) (zeros s) (zeros (2 * s)) x 2) f ∙ table-emptied s two
 
   pub refused-is : (m c number place peak : ℕ) (ms ss : List ℕ) → ms ≡ zeros m → ss ≡ zeros m
-      → outcomeOf (columnsMade vs ls hs ds ks) ms ss (zeros c) (answer number false place 0 0 2 peak) ≡ outcome s m c (refusedFormula number place peak)
+      → checkOutcome (columnsMade vs ls hs ds ks) ms ss (zeros c) (answer number false place 0 0 2 peak) ≡ outcome s m c (refusedFormula number place peak)
   refused-is m c number place peak ms ss g h =
       outcome-is s m c number false place 0 0 2 peak (columnsMade vs ls hs ds ks) ms ss emptied [] [] refl emptied-lists (g ∙ no-members m) (h ∙ no-members m)
 
 -- the lists as they were opened
 pub unopened-is : (T : Table) (members struck : List ℕ) → Opened T members → struck ≡ zeros (length members) → (c number place : ℕ)
-    → outcomeOf (listsOf T) members struck (zeros c) (answer number false place 0 0 2 2) ≡ outcome (size T) (length members) c (refusedFormula number place 2)
+    → checkOutcome (listsOf T) members struck (zeros c) (answer number false place 0 0 2 2) ≡ outcome (size T) (length members) c (refusedFormula number place 2)
 unopened-is T members struck O none c number place =
     outcome-is (size T) (length members) c number false place 0 0 2 2 (listsOf T) members struck emptied [] [] refl
     (written-lists T (size T) emptied (O .written) (omega arith) (O .least)) (O .none ∙ no-members (length members)) (none ∙ no-members (length members))
@@ -110,7 +111,7 @@ rest-zeros ms k within rest =
 pub judged-is : (l : Lent) (st : State) → Ends l st → (T : Table) → T .count ≡ st .kept
     → T ≡ indexed (length (l .vars)) (take (st .kept) (nodesOf (tableIn l (st .count)))) → (s m : ℕ) → length (l .vars) ≡ s → length (l .members) ≡ m
     → (c number place peak : ℕ) (whole : Verdict) → whole ≡ left number place peak (stateOf l st)
-    → outcomeOf (listsOf T) (l .members) (l .struck) (zeros c) (answer number true place (st .lines) (st .rounds) (st .kept) peak) ≡ outcome s m c whole
+    → checkOutcome (listsOf T) (l .members) (l .struck) (zeros c) (answer number true place (st .lines) (st .rounds) (st .kept) peak) ≡ outcome s m c whole
 judged-is l st E T count e s m same same′ c number place peak whole v =
     let t : List Node = take (st .kept) (nodesOf (tableIn l (st .count))) in
     let marks : List ℕ = take (st .members) (l .struck) in
@@ -128,8 +129,7 @@ firstOf count made = record {
   kept = count;
   members = made;
   entries = 0;
-  positive = 0;
-  negative = 0;
+  witness = noLiterals;
   lines = 0;
   rounds = 0;
   peak = count;
@@ -244,7 +244,7 @@ emptied-opened s m two most room vs ls hs ds ks ms a b d e f g =
 
 -- the whole, once the scratch list is zeros
 pub run-is : (mode : Mode) (s m c : ℕ) (formula proof : List ℕ) (d : Columns) (ms ss : List ℕ) (r : Checked) (s′ m′ c′ : ℕ) (cs : List ℕ)
-    → outcomeOf d ms ss (zeros c) r ≡ outcome s′ m′ c (verdict mode s′ formula proof) → s′ ≡ s → m′ ≡ m → cs ≡ zeros c′ → c′ ≡ c
-    → outcomeOf d ms ss cs r ≡ outcome s m c (verdict mode s formula proof)
+    → checkOutcome d ms ss (zeros c) r ≡ outcome s′ m′ c (verdict mode s′ formula proof) → s′ ≡ s → m′ ≡ m → cs ≡ zeros c′ → c′ ≡ c
+    → checkOutcome d ms ss cs r ≡ outcome s m c (verdict mode s formula proof)
 run-is mode s m c formula proof d ms ss r s′ m′ c′ cs e same same′ none same″ =
-    ap (λ (x : List ℕ). outcomeOf d ms ss x r) (none ∙ ap zeros same″) ∙ e ∙ ap₂ (λ (a b : ℕ). outcome a b c (verdict mode a formula proof)) same same′
+    ap (λ (x : List ℕ). checkOutcome d ms ss x r) (none ∙ ap zeros same″) ∙ e ∙ ap₂ (λ (a b : ℕ). outcome a b c (verdict mode a formula proof)) same same′

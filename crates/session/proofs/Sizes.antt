@@ -8,7 +8,7 @@ use lib.Dec.{eqb, leb}
 use Rattle.table.specs.Columns.{sizeFits, Columns}
 use Rattle.commands.specs.declared.Mode.{Mode}
 use Rattle.verdict.specs.Check.{verdict, Outcome, lentFits, outcome, check}
-use Rattle.session.specs.Checked.{outcomeOf}
+use Rattle.session.specs.Checked.{checkOutcome}
 use Rattle.session.proofs.Finish.{answer}
 
 module _ (c : Columns) (members struck scratch : List ℕ) where
@@ -25,7 +25,7 @@ module _ (c : Columns) (members struck scratch : List ℕ) where
 
   module _ (mode : Mode) (count : ℕ) (formula proof : List ℕ) where
     pub called-7 : lentFits c members struck scratch ≡ false
-        → outcomeOf c members struck scratch (answer 7 false 0 0 0 count 0) ≡ check mode c count members struck scratch formula proof
+        → checkOutcome c members struck scratch (answer 7 false 0 0 0 count 0) ≡ check mode c count members struck scratch formula proof
     unfolding check
     called-7 e = rw e
 

@@ -5,8 +5,8 @@ use Rattle.table.specs.Columns.{Columns}
 use Rattle.verdict.specs.Check.{Outcome}
 use Rattle.session.specs.declared.Checked.{Checked}
 
-abbrev pub outcomeOf : Columns → List ℕ → List ℕ → List ℕ → Checked → Outcome
-outcomeOf columns members struck scratch r = record {
+abbrev pub checkOutcome : Columns → List ℕ → List ℕ → List ℕ → Checked → Outcome
+checkOutcome columns members struck scratch r = record {
   number = r .number;
   inProof = r .«in_proof»;
   place = r .place;

@@ -8,7 +8,14 @@ ghost use lib.ListN.{length};
 ghost use Rattle.table.specs.Columns.{columnsMade};
 ghost use Rattle.walks.specs.Readable.{Roomy};
 ghost use Rattle.verdict.specs.Check.{verdict, lentFits, outcome, check};
-ghost use Rattle.session.specs.Checked.{outcomeOf};
+ghost use Rattle.session.specs.Checked.{checkOutcome};
+
+// The memo's cells: for up to 64 places, for up to 4,096 with a short proof, and else.
+const CELLS_64: usize = 1024;
+
+const CELLS_SHORT: usize = 8192;
+
+const CELLS: usize = 131072;
 
 // Whether columns, index, member list with its marks and scratch list are of proper size.
 fn lent_fits(
@@ -53,11 +60,11 @@ fn check_64<'a>(
         (lentFits lent (now members) (now struck) (now scratch) ≡ true) × (length (now vars) ≤ 64)) ⌝ }
     ensures { λ r. ⌜ (
         let left = columnsMade (now (vars .exit)) (now (lows .exit)) (now (highs .exit)) (now (heads .exit)) (now (links .exit)) in
-        outcomeOf left (now (members .exit)) (now (struck .exit)) (now (scratch .exit)) r
+        checkOutcome left (now (members .exit)) (now (struck .exit)) (now (scratch .exit)) r
         ≡ outcome (length (now (vars .entry))) (length (now (members .entry))) (length (now (scratch .entry)))
         (verdict mode (length (now (vars .entry))) (now (formula .entry)) (now (proof .entry)))) ⌝ }
 {
-    let mut memo = [0u64; 1024];
+    let mut memo = [0u64; CELLS_64];
     let mut marks = [0u8; 64];
     let places = vars.len();
     crate::run(
@@ -97,7 +104,7 @@ fn check_4096<'a>(
         (lentFits lent (now members) (now struck) (now scratch) ≡ true) × (length (now vars) ≤ 4096) × Roomy (now vars) (now memo)) ⌝ }
     ensures { λ r. ⌜ (
         let left = columnsMade (now (vars .exit)) (now (lows .exit)) (now (highs .exit)) (now (heads .exit)) (now (links .exit)) in
-        outcomeOf left (now (members .exit)) (now (struck .exit)) (now (scratch .exit)) r
+        checkOutcome left (now (members .exit)) (now (struck .exit)) (now (scratch .exit)) r
         ≡ outcome (length (now (vars .entry))) (length (now (members .entry))) (length (now (scratch .entry)))
         (verdict mode (length (now (vars .entry))) (now (formula .entry)) (now (proof .entry)))) ⌝ }
 {
@@ -139,11 +146,11 @@ fn check_4096_short<'a>(
         (lentFits lent (now members) (now struck) (now scratch) ≡ true) × (length (now vars) ≤ 4096)) ⌝ }
     ensures { λ r. ⌜ (
         let left = columnsMade (now (vars .exit)) (now (lows .exit)) (now (highs .exit)) (now (heads .exit)) (now (links .exit)) in
-        outcomeOf left (now (members .exit)) (now (struck .exit)) (now (scratch .exit)) r
+        checkOutcome left (now (members .exit)) (now (struck .exit)) (now (scratch .exit)) r
         ≡ outcome (length (now (vars .entry))) (length (now (members .entry))) (length (now (scratch .entry)))
         (verdict mode (length (now (vars .entry))) (now (formula .entry)) (now (proof .entry)))) ⌝ }
 {
-    let mut memo = [0u64; 8192];
+    let mut memo = [0u64; CELLS_SHORT];
     check_4096(
         vars,
         lows,
@@ -179,11 +186,11 @@ fn check_4096_long<'a>(
         (lentFits lent (now members) (now struck) (now scratch) ≡ true) × (length (now vars) ≤ 4096)) ⌝ }
     ensures { λ r. ⌜ (
         let left = columnsMade (now (vars .exit)) (now (lows .exit)) (now (highs .exit)) (now (heads .exit)) (now (links .exit)) in
-        outcomeOf left (now (members .exit)) (now (struck .exit)) (now (scratch .exit)) r
+        checkOutcome left (now (members .exit)) (now (struck .exit)) (now (scratch .exit)) r
         ≡ outcome (length (now (vars .entry))) (length (now (members .entry))) (length (now (scratch .entry)))
         (verdict mode (length (now (vars .entry))) (now (formula .entry)) (now (proof .entry)))) ⌝ }
 {
-    let mut memo = [0u64; 131072];
+    let mut memo = [0u64; CELLS];
     check_4096(
         vars,
         lows,
@@ -219,11 +226,11 @@ fn check_65536<'a>(
         (lentFits lent (now members) (now struck) (now scratch) ≡ true) × (length (now vars) ≤ 65536)) ⌝ }
     ensures { λ r. ⌜ (
         let left = columnsMade (now (vars .exit)) (now (lows .exit)) (now (highs .exit)) (now (heads .exit)) (now (links .exit)) in
-        outcomeOf left (now (members .exit)) (now (struck .exit)) (now (scratch .exit)) r
+        checkOutcome left (now (members .exit)) (now (struck .exit)) (now (scratch .exit)) r
         ≡ outcome (length (now (vars .entry))) (length (now (members .entry))) (length (now (scratch .entry)))
         (verdict mode (length (now (vars .entry))) (now (formula .entry)) (now (proof .entry)))) ⌝ }
 {
-    let mut memo = [0u64; 131072];
+    let mut memo = [0u64; CELLS];
     let mut marks = [0u8; 65536];
     let places = vars.len();
     crate::run(
@@ -261,7 +268,7 @@ pub fn call<'a>(
     ensures { λ r. ⌜ (
         let lent = columnsMade (now (vars .entry)) (now (lows .entry)) (now (highs .entry)) (now (heads .entry)) (now (links .entry)) in
         let left = columnsMade (now (vars .exit)) (now (lows .exit)) (now (highs .exit)) (now (heads .exit)) (now (links .exit)) in
-        outcomeOf left (now (members .exit)) (now (struck .exit)) (now (scratch .exit)) r
+        checkOutcome left (now (members .exit)) (now (struck .exit)) (now (scratch .exit)) r
         ≡ check mode lent count (now (members .entry)) (now (struck .entry)) (now (scratch .entry))
         (now (formula .entry)) (now (proof .entry))) ⌝ }
 {

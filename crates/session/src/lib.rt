@@ -14,7 +14,7 @@ ghost use Rattle.walks.specs.Readable.{Roomy};
 ghost use Rattle.conflict.specs.Marks.{unmarked};
 ghost use Rattle.verdict.specs.Steps.{emptied};
 ghost use Rattle.verdict.specs.Check.{clauses, verdict, zeros, lentFits, outcome};
-ghost use Rattle.session.specs.Checked.{outcomeOf};
+ghost use Rattle.session.specs.Checked.{checkOutcome};
 ghost use Rattle.formula.specs.Formula.{Opened};
 
 pub mod call;
@@ -63,7 +63,7 @@ fn run_clauses<'a>(
         × (now struck ≡ zeros (length (now members))) ⌝ }
     ensures { λ r. ⌜ (
         let left = columnsMade (now (vars .exit)) (now (lows .exit)) (now (highs .exit)) (now (heads .exit)) (now (links .exit)) in
-        outcomeOf left (now (members .exit)) (now (struck .exit)) (zeros (length (now (scratch .entry)))) r
+        checkOutcome left (now (members .exit)) (now (struck .exit)) (zeros (length (now (scratch .entry)))) r
         ≡ outcome (length (now (vars .entry))) (length (now (members .entry))) (length (now (scratch .entry)))
         (clauses mode variables (length (now (vars .entry))) (now (proof .entry)) emptied []
         (clausesFrom (now (formula .entry)) variables wanted from))) ⌝ }
@@ -139,7 +139,7 @@ fn run_header<'a>(
         × (now struck ≡ zeros (length (now members))) ⌝ }
     ensures { λ r. ⌜ (
         let left = columnsMade (now (vars .exit)) (now (lows .exit)) (now (highs .exit)) (now (heads .exit)) (now (links .exit)) in
-        outcomeOf left (now (members .exit)) (now (struck .exit)) (zeros (length (now (scratch .entry)))) r
+        checkOutcome left (now (members .exit)) (now (struck .exit)) (zeros (length (now (scratch .entry)))) r
         ≡ outcome (length (now (vars .entry))) (length (now (members .entry))) (length (now (scratch .entry)))
         (verdict mode (length (now (vars .entry))) (now (formula .entry)) (now (proof .entry)))) ⌝ }
 {
@@ -200,7 +200,7 @@ pub fn run<'a>(
     requires { ⌜ (now marks ≡ unmarked (length (now vars))) × Roomy (now vars) (now memo) ⌝ }
     ensures { λ r. ⌜ (
         let left = columnsMade (now (vars .exit)) (now (lows .exit)) (now (highs .exit)) (now (heads .exit)) (now (links .exit)) in
-        outcomeOf left (now (members .exit)) (now (struck .exit)) (now (scratch .exit)) r
+        checkOutcome left (now (members .exit)) (now (struck .exit)) (now (scratch .exit)) r
         ≡ outcome (length (now (vars .entry))) (length (now (members .entry))) (length (now (scratch .entry)))
         (verdict mode (length (now (vars .entry))) (now (formula .entry)) (now (proof .entry)))) ⌝ }
 {

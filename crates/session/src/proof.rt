@@ -2,6 +2,7 @@
 use crate::Checked;
 use commands::Mode;
 use steps::State;
+use words::Literals;
 ghost use mathlib.Core.Path.{_≡_};
 ghost use Prim.Native.Nat.{_≤_};
 ghost use lib.ListN.{length, take};
@@ -11,7 +12,7 @@ ghost use Rattle.walks.specs.Readable.{Roomy};
 ghost use Rattle.conflict.specs.Marks.{unmarked};
 ghost use Rattle.verdict.specs.Steps.{begun};
 ghost use Rattle.verdict.specs.Check.{proofFrom, zeros, outcome};
-ghost use Rattle.session.specs.Checked.{outcomeOf};
+ghost use Rattle.session.specs.Checked.{checkOutcome};
 ghost use Rattle.formula.specs.Formula.{Built};
 
 // The proof judged once the clauses are made. Nodes of entries after the last accepted line are dropped.
@@ -44,7 +45,7 @@ pub fn run_proof(
     ensures { λ r. ⌜ (
         let before = tableOf (now (vars .entry)) (now (lows .entry)) (now (highs .entry)) (now (heads .entry)) (now (links .entry)) count in
         let left = columnsMade (now (vars .exit)) (now (lows .exit)) (now (highs .exit)) (now (heads .exit)) (now (links .exit)) in
-        outcomeOf left (now (members .exit)) (now (struck .exit)) (zeros (length (now (scratch .entry)))) r
+        checkOutcome left (now (members .exit)) (now (struck .exit)) (zeros (length (now (scratch .entry)))) r
         ≡ outcome (length (now (vars .entry))) (length (now (members .entry))) (length (now (scratch .entry)))
         (proofFrom mode variables (length (now (vars .entry))) (now (proof .entry))
         (begun (nodesOf before) (take made (now (members .entry)))))) ⌝ }
@@ -54,8 +55,10 @@ pub fn run_proof(
         kept: count,
         members: made,
         entries: 0,
-        positive: 0,
-        negative: 0,
+        witness: Literals {
+            positive: 0,
+            negative: 0,
+        },
         lines: 0,
         rounds: 0,
         peak: count,

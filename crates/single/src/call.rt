@@ -11,6 +11,13 @@ ghost use Rattle.operate.specs.Inner.{Ready};
 ghost use Rattle.single.specs.Single.{operandRefusal, madeOf, madeBy, operation};
 ghost use Rattle.single.specs.Inner.{OneOperand, placingOf};
 
+// The memo's cells, for a table of up to so many places.
+const CELLS_64: usize = 1024;
+
+const CELLS_4096: usize = 8192;
+
+const CELLS_65536: usize = 131072;
+
 // What a single call says: 01's number, the node (0 with a refusal) and the count.
 #[repr(C)]
 pub struct Single {
@@ -32,7 +39,7 @@ fn operand_refusal(op: Operation, g: NodeNo) -> u8
             }
             0
         }
-        Operation::Literals(positive, negative) => {
+        Operation::Literals { positive, negative } => {
             if words::shared(positive, negative) {
                 return 15;
             }
@@ -149,7 +156,7 @@ fn judged_64(
         let after = columnsMade (now (vars .exit)) (now (lows .exit)) (now (highs .exit)) (now (heads .exit)) (now (links .exit)) in
         madeOf after r ≡ operation op before count (f .0) (g .0)) ⌝ }
 {
-    let mut memo = [0u64; 1024];
+    let mut memo = [0u64; CELLS_64];
     judged(vars, lows, highs, heads, links, &mut memo, count, op, f, g)
 }
 
@@ -171,7 +178,7 @@ fn judged_4096(
         let after = columnsMade (now (vars .exit)) (now (lows .exit)) (now (highs .exit)) (now (heads .exit)) (now (links .exit)) in
         madeOf after r ≡ operation op before count (f .0) (g .0)) ⌝ }
 {
-    let mut memo = [0u64; 8192];
+    let mut memo = [0u64; CELLS_4096];
     judged(vars, lows, highs, heads, links, &mut memo, count, op, f, g)
 }
 
@@ -193,7 +200,7 @@ fn judged_65536(
         let after = columnsMade (now (vars .exit)) (now (lows .exit)) (now (highs .exit)) (now (heads .exit)) (now (links .exit)) in
         madeOf after r ≡ operation op before count (f .0) (g .0)) ⌝ }
 {
-    let mut memo = [0u64; 131072];
+    let mut memo = [0u64; CELLS_65536];
     judged(vars, lows, highs, heads, links, &mut memo, count, op, f, g)
 }
 

@@ -20,7 +20,7 @@ use Rattle.verdict.specs.Steps.{next, entered}
 use Rattle.verdict.proofs.Uses.{UsesAfter}
 use Rattle.steps.specs.declared.State.{State}
 use Rattle.steps.specs.declared.Step.the-variants.{Next}
-use Rattle.steps.specs.States.{Lent, lentOf, tableIn, stateOf, withEntry, Held, Stepped}
+use Rattle.steps.specs.States.{Lent, lentOf, tableIn, stateOf, stateWithEntry, Held, Stepped}
 
 -- Other lists lent with a table.
 abbrev pub lentWith : Table → List ℕ → List ℕ → List ℕ → Lent
@@ -105,7 +105,7 @@ module _ (n : ℕ) (L : Lent) (st : State) (H : Held n L st) where
     abbrev L′ : Lent
     L′ = lentWith (o .table) (L .members) (set (L .scratch) (st .entries) (o .node)) (L .struck)
 
-    held : Held n L′ (withEntry st (o .table .count) (max (st .peak) (o .table .count)))
+    held : Held n L′ (stateWithEntry st (o .table .count) (max (st .peak) (o .table .count)))
     held = record {
       entries = record {
         good = grown .good;
@@ -127,7 +127,7 @@ module _ (n : ℕ) (L : Lent) (st : State) (H : Held n L st) where
       rounds = H .rounds;
     }
 
-    says : next (stateOf L′ (withEntry st (o .table .count) (max (st .peak) (o .table .count)))) ≡ said
+    says : next (stateOf L′ (stateWithEntry st (o .table .count) (max (st .peak) (o .table .count)))) ≡ said
     says =
         ap₂ (λ (es : List ℕ) (count : ℕ). next (record {
           nodes = nodesOf (o .table);
@@ -135,8 +135,8 @@ module _ (n : ℕ) (L : Lent) (st : State) (H : Held n L st) where
           members = take (st .members) (L .members);
           struck = take (st .members) (L .struck);
           entries = es;
-          positive = st .positive;
-          negative = st .negative;
+          positive = st .witness .positive;
+          negative = st .witness .negative;
           lines = st .lines;
           rounds = st .rounds;
           peak = max (st .peak) count;
@@ -144,5 +144,5 @@ module _ (n : ℕ) (L : Lent) (st : State) (H : Held n L st) where
         })) (one-more (L .scratch) (st .entries) (o .node) room) (sym (length-nodes (o .table) (grown .good)))
         ∙ sym (said-is ∙ goes .0)
 
-    pub entry-made : (st′ : State) → st′ ≡ withEntry st (o .table .count) (max (st .peak) (o .table .count)) → Stepped n L L′ st said (Next st′)
+    pub entry-made : (st′ : State) → st′ ≡ stateWithEntry st (o .table .count) (max (st .peak) (o .table .count)) → Stepped n L L′ st said (Next st′)
     entry-made st′ e = subst (λ (x : State). Stepped n L L′ st said (Next x)) (sym e) (record { says = says; leaves = held })

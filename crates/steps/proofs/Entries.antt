@@ -78,14 +78,14 @@ module _ (l : Lent) (st : State) where
     above-is v p r b ensures told =
         ap (above (take (st .count) (rows (l .vars) (l .lows) (l .highs))) v) (sym child-is) ∙ above-first (st .count) (rows (l .vars) (l .lows) (l .highs)) v child p ∙ sym ensures ∙ told
 
-    pub shut-is : (r b : Bool) → r ≡ oneAt (nodesIn (l .vars) (l .lows) (l .highs) (st .count)) (st .positive) (st .negative) child → r ≡ b
-        → witnessed 64 (inWord (st .positive)) (inWord (st .negative)) (diagramIn (stateOf l st) (entryNode (stateOf l st) e)) ≡ b
+    pub shut-is : (r b : Bool) → r ≡ oneAt (nodesIn (l .vars) (l .lows) (l .highs) (st .count)) (st .witness .positive) (st .witness .negative) child → r ≡ b
+        → witnessed 64 (inWord (st .witness .positive)) (inWord (st .witness .negative)) (diagramIn (stateOf l st) (entryNode (stateOf l st) e)) ≡ b
     unfolding nodesOf
     shut-is r b ensures told =
-        ap (λ (k : ℕ). witnessed 64 (inWord (st .positive)) (inWord (st .negative)) (diagramIn (stateOf l st) k)) (sym child-is)
-        ∙ sym (witnessed-walk (nodesIn (l .vars) (l .lows) (l .highs) (st .count)) (st .positive) (st .negative) child) ∙ sym ensures ∙ told
+        ap (λ (k : ℕ). witnessed 64 (inWord (st .witness .positive)) (inWord (st .witness .negative)) (diagramIn (stateOf l st) k)) (sym child-is)
+        ∙ sym (witnessed-walk (nodesIn (l .vars) (l .lows) (l .highs) (st .count)) (st .witness .positive) (st .witness .negative) child) ∙ sym ensures ∙ told
 
-  pub waits-is : (r b : Bool) → r ≡ not (eqb (st .positive) 0 && eqb (st .negative) 0) → r ≡ b → waiting (stateOf l st) ≡ b
+  pub waits-is : (r b : Bool) → r ≡ not (eqb (st .witness .positive) 0 && eqb (st .witness .negative) 0) → r ≡ b → waiting (stateOf l st) ≡ b
   unfolding waiting
   waits-is r b ensures told = sym ensures ∙ told
 

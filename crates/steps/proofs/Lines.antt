@@ -161,9 +161,9 @@ module _ (n : ℕ) (L : Lent) (st : State) (H : Held n L st) (rule : Rule) (root
   pub root-in : isEntry S root ≡ true → g < st .count
   root-in = entry-in n L st H root
 
-  witness-width : g < st .count → witnessed 64 (inWord (st .positive)) (inWord (st .negative)) (diagramIn S g) ≡ witnessed n (inWord (st .positive)) (inWord (st .negative)) (diagramIn S g)
+  witness-width : g < st .count → witnessed 64 (inWord (st .witness .positive)) (inWord (st .witness .negative)) (diagramIn S g) ≡ witnessed n (inWord (st .witness .positive)) (inWord (st .witness .negative)) (diagramIn S g)
   witness-width p =
-      witnessed-at n (H .entries .narrow) T (H .entries .good) (H .entries .uses) (take (st .members) (L .members)) members-inside g p (inWord (st .positive)) (inWord (st .negative))
+      witnessed-at n (H .entries .narrow) T (H .entries .good) (H .entries .uses) (take (st .members) (L .members)) members-inside g p (inWord (st .witness .positive)) (inWord (st .witness .negative))
 
   pr-refusal : isEntry S root ≡ true → lineRefusal 64 S Pr root ≡ lineRefusal n S Pr root
   unfolding lineRefusal
@@ -188,7 +188,7 @@ module _ (n : ℕ) (L : Lent) (st : State) (H : Held n L st) (rule : Rule) (root
       go : (r : Rule) → lineOf 64 S r k ≡ lineOf n S r k
       go Rup = rup-at n (H .entries .narrow) T (H .entries .good) (H .entries .uses) live live-inside k p ne
       go Pr =
-          pr-at n (H .entries .narrow) T (H .entries .good) (H .entries .uses) live live-inside k p ne (inWord (st .positive)) (inWord (st .negative))
+          pr-at n (H .entries .narrow) T (H .entries .good) (H .entries .uses) live live-inside k p ne (inWord (st .witness .positive)) (inWord (st .witness .negative))
 
   pub line-refused : (number : ℕ) → number ≡ lineRefusal 64 S rule root → (number ≡ 0 → ⊥) → Stepped n L L st said (Stop number 0)
   line-refused number e ne =

@@ -24,7 +24,7 @@ use Rattle.verdict.specs.Steps.{spent, entryNode, entered, nodeStep}
 use Rattle.verdict.proofs.Uses.{UsesAfter, place-uses}
 use Rattle.steps.specs.declared.State.{State}
 use Rattle.steps.specs.declared.Step.the-variants.{Next, Stop, Spent}
-use Rattle.steps.specs.States.{Lent, tableIn, stateOf, withEntry, Held, Stepped}
+use Rattle.steps.specs.States.{Lent, tableIn, stateOf, stateWithEntry, Held, Stepped}
 use Rattle.steps.specs.Tests.{nodeRefusal}
 use Rattle.steps.proofs.Stops.{unless, unless-refused, unless-none, node-is, NodeFits, node-fits, stopped}
 use Rattle.steps.proofs.Entries.{entry-in}
@@ -127,6 +127,6 @@ module _ (n : ℕ) (L : Lent) (st : State) (b : NodeBody) (H : Held n L st) wher
           };
         }
 
-    pub node-made : o .full ≡ false → (st′ : State) → st′ ≡ withEntry st (o .table .count) (max (st .peak) (o .table .count))
+    pub node-made : o .full ≡ false → (st′ : State) → st′ ≡ stateWithEntry st (o .table .count) (max (st .peak) (o .table .count))
         → Stepped n L (lentWith (o .table) (L .members) (set (L .scratch) (st .entries) (o .node)) (L .struck)) st said (Next st′)
     node-made = entry-made n L st H said D (put (size T) (nodesOf T) (b .variable) l h) o made grown put-uses (fits .few) said-is

@@ -27,7 +27,7 @@ use Rattle.verdict.proofs.SetValues.{set-reduced}
 use Rattle.verdict.proofs.Uses.{place-uses}
 use Rattle.steps.specs.declared.State.{State}
 use Rattle.steps.specs.declared.Step.the-variants.{Next, Stop, Spent}
-use Rattle.steps.specs.States.{Lent, tableIn, stateOf, withEntry, Held, Stepped}
+use Rattle.steps.specs.States.{Lent, tableIn, stateOf, stateWithEntry, Held, Stepped}
 use Rattle.steps.specs.Tests.{setRefusal}
 use Rattle.steps.proofs.Stops.{unless, unless-refused, unless-none, stopped}
 use Rattle.steps.proofs.Entering.{lentWith, entry-made}
@@ -171,7 +171,7 @@ module _ (n : ℕ) (L : Lent) (st : State) (kind : SetKind) (b : SetBody) (H : H
       };
     }
 
-    pub set-made : o .full ≡ false → (st′ : State) → st′ ≡ withEntry st (o .table .count) (max (st .peak) (o .table .count))
+    pub set-made : o .full ≡ false → (st′ : State) → st′ ≡ stateWithEntry st (o .table .count) (max (st .peak) (o .table .count))
         → Stepped n L (lentWith (o .table) (L .members) (set (L .scratch) (st .entries) (o .node)) (L .struck)) st said (Next st′)
     set-made =
         entry-made n L st H said D (place (size T) (nodesOf T) D) o placed-is grown (place-uses n (size T) (nodesOf T) D (H .entries .uses) (set-reduced n kind b))

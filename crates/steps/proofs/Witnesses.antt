@@ -1,14 +1,17 @@
 -- Witness records: refused, or the next state with one variable more. Assumes nothing.
-use mathlib.Core.Path.{_≡_, sym, ap₂, _∙_, subst}
+use mathlib.Core.Path.{_≡_, refl, sym, ap, ap₂, _∙_, subst}
 use mathlib.Core.Bool.{Bool, true, false, not, or-true}
 use Prim.Native.Nat.{ℕ, _≤_, _<_}
 use borrow.Author.Tests.{le-leb, lt-leb}
 use Rattle.meaning.specs.Words.{inWord}
+use Rattle.words.specs.declared.Literals.{Literals}
+use Rattle.words.specs.Sets.{withLiteral}
 use Rattle.verdict.specs.Steps as check
-use Rattle.verdict.specs.Steps.{next, isVariable, withVariable, witnessStep}
+use Rattle.verdict.specs.Steps.{next, isVariable, assigned, witnessStep}
 use Rattle.steps.specs.declared.State.{State}
 use Rattle.steps.specs.declared.Step.the-variants.{Next, Stop}
-use Rattle.steps.specs.States.{Lent, stateOf, withWitness, Held, Stepped}
+use Rattle.steps.specs.States.{Lent, stateOf, stateWithWitness, Held, Stepped}
+use Rattle.steps.proofs.Bits.{with-clear}
 use Rattle.steps.proofs.Stops.{stopped}
 
 -- ---- the test of a variable
@@ -27,6 +30,9 @@ variable-beyond n v p q = rw (le-leb 1 v p, lt-leb v n q)
 
 -- ---- the step
 
+abbrev pair : ℕ → ℕ → Literals
+pair positive negative = record { positive = positive; negative = negative }
+
 module _ (n : ℕ) (l : Lent) (st : State) (v : ℕ) (b : Bool) where
   abbrev said : check.Step
   said = witnessStep n (stateOf l st) v b
@@ -36,16 +42,16 @@ module _ (n : ℕ) (l : Lent) (st : State) (v : ℕ) (b : Bool) where
   refused-12 e = stopped n l st said 12 0 (rw e)
 
   module _ (variable : isVariable n v ≡ true) where
-    pub refused-15 : inWord (st .positive) v ≡ true → Stepped n l l st said (Stop 15 0)
+    pub refused-15 : inWord (st .witness .positive) v ≡ true → Stepped n l l st said (Stop 15 0)
     unfolding witnessStep
     refused-15 e = stopped n l st said 15 0 (rw (variable, e))
 
-    pub refused-15-negative : inWord (st .negative) v ≡ true → Stepped n l l st said (Stop 15 0)
+    pub refused-15-negative : inWord (st .witness .negative) v ≡ true → Stepped n l l st said (Stop 15 0)
     unfolding witnessStep
-    refused-15-negative e = stopped n l st said 15 0 (rw (variable, e, or-true (inWord (st .positive) v)))
+    refused-15-negative e = stopped n l st said 15 0 (rw (variable, e, or-true (inWord (st .witness .positive) v)))
 
-held-witness : (n : ℕ) (l : Lent) (st : State) (positive negative : ℕ) → Held n l st → Held n l (withWitness st positive negative)
-held-witness n l st positive negative H = record {
+held-witness : (n : ℕ) (l : Lent) (st : State) (witness : Literals) → Held n l st → Held n l (stateWithWitness st witness)
+held-witness n l st witness H = record {
   entries = H .entries;
   least = H .least;
   kept = H .kept;
@@ -59,14 +65,25 @@ held-witness n l st positive negative H = record {
   rounds = H .rounds;
 }
 
-module _ (n : ℕ) (l : Lent) (st : State) (v : ℕ) (b : Bool) (H : Held n l st) (variable : isVariable n v ≡ true) (positive : inWord (st .positive) v ≡ false)
-    (negative : inWord (st .negative) v ≡ false) where
-  taken-is : witnessStep n (stateOf l st) v b ≡ next (stateOf l (withWitness st (withVariable b (st .positive) v) (withVariable (not b) (st .negative) v)))
+module _ (n : ℕ) (l : Lent) (st : State) (v : ℕ) (b : Bool) (H : Held n l st) (variable : isVariable n v ≡ true) (positive : inWord (st .witness .positive) v ≡ false)
+    (negative : inWord (st .witness .negative) v ≡ false) where
+  abbrev set : Literals
+  set = record { positive = assigned b (st .witness .positive) v; negative = assigned (not b) (st .witness .negative) v }
+
+  taken-is : witnessStep n (stateOf l st) v b ≡ next (stateOf l (stateWithWitness st set))
   unfolding witnessStep
   taken-is = rw (variable, positive, negative)
 
-  pub witness-taken : (positive negative : ℕ) (st′ : State) → st′ ≡ withWitness st positive negative → positive ≡ withVariable b (st .positive) v
-      → negative ≡ withVariable (not b) (st .negative) v → Stepped n l l st (witnessStep n (stateOf l st) v b) (Next st′)
-  witness-taken positive negative st′ e p q =
-      subst (λ (x : State). Stepped n l l st (witnessStep n (stateOf l st) v b) (Next x)) (sym (e ∙ ap₂ (withWitness st) p q))
-      (record { says = sym taken-is; leaves = held-witness n l st (withVariable b (st .positive) v) (withVariable (not b) (st .negative) v) H })
+  set-is : 1 ≤ v → (c : Bool) → c ≡ b → withLiteral (st .witness) v c ≡ set
+  set-is lo true e =
+      ap₂ pair (with-clear (st .witness .positive) v lo positive ∙ ap (λ (c : Bool). assigned c (st .witness .positive) v) e)
+      (ap (λ (c : Bool). assigned (not c) (st .witness .negative) v) e)
+  set-is lo false e =
+      ap₂ pair (ap (λ (c : Bool). assigned c (st .witness .positive) v) e)
+      (with-clear (st .witness .negative) v lo negative ∙ ap (λ (c : Bool). assigned (not c) (st .witness .negative) v) e)
+
+  pub witness-taken : 1 ≤ v → (witness : Literals) (st′ : State) → st′ ≡ stateWithWitness st witness → witness ≡ withLiteral (st .witness) v b
+      → Stepped n l l st (witnessStep n (stateOf l st) v b) (Next st′)
+  witness-taken lo witness st′ e is =
+      subst (λ (x : State). Stepped n l l st (witnessStep n (stateOf l st) v b) (Next x)) (sym (e ∙ ap (stateWithWitness st) (is ∙ set-is lo b refl)))
+      (record { says = sym taken-is; leaves = held-witness n l st set H })

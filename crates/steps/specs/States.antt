@@ -9,6 +9,8 @@ use Rattle.table.specs.Nodes.{at}
 use Rattle.table.specs.Indexed.{Table, tableOf, nodesOf, Good}
 use Rattle.verdict.specs.Steps as check
 use Rattle.table.specs.Lists.{Inside}
+use Rattle.words.specs.declared.Literals.{Literals}
+use Rattle.words.specs.Sets.{noLiterals}
 use Rattle.steps.specs.declared.State.{State}
 use Rattle.steps.specs.declared.Step.{Step}
 use Rattle.steps.specs.declared.Step.the-variants.{Next, Stop, Spent}
@@ -42,8 +44,8 @@ stateOf l st = record {
   members = take (st .members) (l .members);
   struck = take (st .members) (l .struck);
   entries = take (st .entries) (l .scratch);
-  positive = st .positive;
-  negative = st .negative;
+  positive = st .witness .positive;
+  negative = st .witness .negative;
   lines = st .lines;
   rounds = st .rounds;
   peak = st .peak;
@@ -58,14 +60,13 @@ stepOf l (Spent number peak) = check.spent number peak
 -- ---- the next state
 
 -- The state with another witness.
-abbrev pub withWitness : State → ℕ → ℕ → State
-withWitness st positive negative = record {
+abbrev pub stateWithWitness : State → Literals → State
+stateWithWitness st witness = record {
   count = st .count;
   kept = st .kept;
   members = st .members;
   entries = st .entries;
-  positive = positive;
-  negative = negative;
+  witness = witness;
   lines = st .lines;
   rounds = st .rounds;
   peak = st .peak;
@@ -73,14 +74,13 @@ withWitness st positive negative = record {
 }
 
 -- The state with one entry more, the table's count, and the greatest so far.
-abbrev pub withEntry : State → ℕ → ℕ → State
-withEntry st count peak = record {
+abbrev pub stateWithEntry : State → ℕ → ℕ → State
+stateWithEntry st count peak = record {
   count = count;
   kept = st .kept;
   members = st .members;
   entries = st .entries + 1;
-  positive = st .positive;
-  negative = st .negative;
+  witness = st .witness;
   lines = st .lines;
   rounds = st .rounds;
   peak = peak;
@@ -94,8 +94,7 @@ withLine st rounds peak g = record {
   kept = st .count;
   members = st .members + 1;
   entries = 0;
-  positive = 0;
-  negative = 0;
+  witness = noLiterals;
   lines = st .lines + 1;
   rounds = st .rounds + rounds;
   peak = peak;

@@ -1,5 +1,6 @@
 // One record of a proof: the next state, or the number and the place of the proof's end.
 use records::Record;
+use words::Literals;
 ghost use mathlib.Core.Path.{_≡_};
 ghost use Prim.Native.Nat.{ℕ};
 ghost use lib.ListN.{length};
@@ -15,16 +16,17 @@ mod set;
 mod strike;
 mod witness;
 
+pub use witness::with_witness;
+
 // The state between records: the table's count, how many nodes stay if the line is not accepted, the numbers of members and of the
-// line's entries, the witness as two words, the accepted lines, their rounds, the greatest count so far, and whether a line is the 0
+// line's entries, the waiting witness, the accepted lines, their rounds, the greatest count so far, and whether a line is the 0
 // diagram.
 pub struct State {
     pub count: usize,
     pub kept: usize,
     pub members: usize,
     pub entries: usize,
-    pub positive: u64,
-    pub negative: u64,
+    pub witness: Literals,
     pub lines: usize,
     pub rounds: u64,
     pub peak: usize,
@@ -35,24 +37,36 @@ pub struct State {
 // 01's number at the record's first byte and the greatest count so far.
 pub enum Step {
     Next(State),
-    Stop(u8, usize),
-    Spent(u8, usize),
+    Stop { number: u8, offset: usize },
+    Spent { number: u8, peak: usize },
 }
 
 // The end record; `more` tells whether a byte follows it.
 fn end_step(st: State, more: bool) -> Step
     ensures { λ r. ⌜ ((n : ℕ) (l : Lent) → Stepped n l l st (endStep (stateOf l st) more) r) ⌝ }
 {
-    if witness::waits(st.positive, st.negative) {
-        return Step::Stop(16, 0);
+    if witness::waits(st.witness) {
+        return Step::Stop {
+            number: 16,
+            offset: 0,
+        };
     }
     if more {
-        return Step::Stop(11, 1);
+        return Step::Stop {
+            number: 11,
+            offset: 1,
+        };
     }
     if st.refuted {
-        return Step::Stop(0, 0);
+        return Step::Stop {
+            number: 0,
+            offset: 0,
+        };
     }
-    Step::Stop(20, 0)
+    Step::Stop {
+        number: 20,
+        offset: 0,
+    }
 }
 
 // The step that a record makes; `more` tells whether a byte follows it. Table, index, member list, scratch list and the members' marks
@@ -98,8 +112,8 @@ pub fn record_step(
             variables,
             b,
         ),
-        Record::Witness(v, value) => witness::witness_step(st, variables, v, value),
-        Record::ProofLine(rule, root) => line::line_step(
+        Record::Witness { variable: v, value } => witness::witness_step(st, variables, v, value),
+        Record::ProofLine { rule, root } => line::line_step(
             vars,
             lows,
             highs,
@@ -115,7 +129,7 @@ pub fn record_step(
             root,
         ),
         Record::Strike(k) => strike::strike_step(struck, st, k),
-        Record::SetEntry(kind, b) => set::set_step(
+        Record::SetEntry { kind, body: b } => set::set_step(
             vars,
             lows,
             highs,
@@ -128,8 +142,17 @@ pub fn record_step(
             b,
         ),
         Record::End => end_step(st, more),
-        Record::CutShort => Step::Stop(10, 0),
-        Record::UnknownKind => Step::Stop(9, 0),
-        Record::NoRecord => Step::Stop(10, 0),
+        Record::CutShort => Step::Stop {
+            number: 10,
+            offset: 0,
+        },
+        Record::UnknownKind => Step::Stop {
+            number: 9,
+            offset: 0,
+        },
+        Record::NoRecord => Step::Stop {
+            number: 10,
+            offset: 0,
+        },
     }
 }

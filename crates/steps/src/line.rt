@@ -3,6 +3,7 @@ use judge::Judged;
 use records::EntryNo;
 use records::Rule;
 use table::NodeNo;
+use words::Literals;
 ghost use mathlib.Core.Path.{_≡_};
 ghost use mathlib.Core.Bool.{_||_};
 ghost use mathlib.Core.List.{List};
@@ -54,7 +55,7 @@ fn line_test(
     let g = crate::node::entry_node(scratch, entries, root);
     match rule {
         Rule::Rup => {
-            if crate::witness::waits(st.positive, st.negative) {
+            if crate::witness::waits(st.witness) {
                 return LineTest::Refused(16);
             }
             if 1024 <= st.lines {
@@ -72,16 +73,7 @@ fn line_test(
             if g.0 == 1 {
                 return LineTest::Refused(17);
             }
-            if !walks::is_one(
-                vars,
-                lows,
-                highs,
-                memo,
-                st.count,
-                g,
-                st.positive,
-                st.negative,
-            ) {
+            if !walks::is_one(vars, lows, highs, memo, st.count, g, st.witness) {
                 return LineTest::Refused(18);
             }
             LineTest::Fits(g)
@@ -115,7 +107,7 @@ fn judge_line(
         (st .count) in
         let after = tableOf (now (vars .exit)) (now (lows .exit)) (now (highs .exit)) (now (heads .exit)) (now (links .exit)) (r .count) in
         let diagrams = diagramsOf (nodesOf before) (now (live .entry)) in
-        let line = lineBy 64 rule (st .positive) (st .negative) diagrams (diagramAt (nodesOf before) (g .0)) in
+        let line = lineBy 64 rule (st .witness .positive) (st .witness .negative) diagrams (diagramAt (nodesOf before) (g .0)) in
         Says before line 131072 r after) ⌝ }
     ensures { λ _. ⌜ now (marks .exit) ≡ unmarked (length (now (vars .entry))) ⌝ }
 {
@@ -158,8 +150,7 @@ fn judge_line(
                 &mut secondwords[..m],
                 st.count,
                 g,
-                st.positive,
-                st.negative,
+                st.witness,
             )
         }
     }
@@ -289,8 +280,10 @@ fn with_line(st: crate::State, rounds: u64, peak: usize, g: NodeNo) -> crate::St
         kept: st.count,
         members: st.members + 1,
         entries: 0,
-        positive: 0,
-        negative: 0,
+        witness: Literals {
+            positive: 0,
+            negative: 0,
+        },
         lines: st.lines + 1,
         rounds: st.rounds + rounds,
         peak,
@@ -309,10 +302,10 @@ pub fn ended(members: &mut [u16], st: crate::State, j: Judged, g: NodeNo) -> cra
 {
     let peak = judge::greater(st.peak, j.peak);
     if j.full {
-        return crate::Step::Spent(23, peak);
+        return crate::Step::Spent { number: 23, peak };
     }
     if !j.shown {
-        return crate::Step::Spent(19, peak);
+        return crate::Step::Spent { number: 19, peak };
     }
     let m = st.members;
     members[m] = g.0;
@@ -349,7 +342,7 @@ pub fn line_step(
     ensures { λ _. ⌜ now (marks .exit) ≡ unmarked (length (now (vars .entry))) ⌝ }
 {
     match line_test(vars, lows, highs, memo, scratch, st, rule, root) {
-        LineTest::Refused(number) => crate::Step::Stop(number, 0),
+        LineTest::Refused(number) => crate::Step::Stop { number, offset: 0 },
         LineTest::Fits(g) => {
             let j = try_line(
                 vars,

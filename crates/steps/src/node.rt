@@ -11,7 +11,7 @@ ghost use Rattle.table.specs.Indexed.{tableOf};
 ghost use Rattle.walks.specs.Readable.{Readable};
 ghost use Rattle.verdict.specs.Steps.{nodeStep};
 ghost use Rattle.table.specs.Lists.{Inside};
-ghost use Rattle.steps.specs.States.{lentOf, stateOf, withEntry, EntriesHeld, Held, Stepped};
+ghost use Rattle.steps.specs.States.{lentOf, stateOf, stateWithEntry, EntriesHeld, Held, Stepped};
 ghost use Rattle.steps.specs.Tests.{NodeTested};
 
 // Whether there is such an entry: 0, 1 or one of the line's.
@@ -90,15 +90,15 @@ fn node_test(
 // The state with one entry more.
 pub fn with_entry(st: crate::State, count: usize, peak: usize) -> crate::State
     requires { ⌜ st .entries ≤ 4096 ⌝ }
-    ensures { λ r. ⌜ r ≡ withEntry st count peak ⌝ }
+    ensures { λ r. ⌜ r ≡ stateWithEntry st count peak ⌝ }
 {
+    let witness = st.witness;
     crate::State {
         count,
         kept: st.kept,
         members: st.members,
         entries: st.entries + 1,
-        positive: st.positive,
-        negative: st.negative,
+        witness,
         lines: st.lines,
         rounds: st.rounds,
         peak,
@@ -130,7 +130,7 @@ pub fn node_step(
         Stepped variables lent returned st (nodeStep variables (length (now (vars .entry))) (stateOf lent st) b) r)) ⌝ }
 {
     match node_test(vars, lows, highs, scratch, st, variables, b) {
-        NodeTest::Refused(number) => crate::Step::Stop(number, 0),
+        NodeTest::Refused(number) => crate::Step::Stop { number, offset: 0 },
         NodeTest::Fits { low, high } => {
             let p = table::put(
                 vars,
@@ -145,7 +145,7 @@ pub fn node_step(
             );
             let peak = judge::greater(st.peak, p.count);
             if p.full {
-                return crate::Step::Spent(23, peak);
+                return crate::Step::Spent { number: 23, peak };
             }
             let k = p.node;
             let entries = st.entries;

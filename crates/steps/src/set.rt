@@ -99,13 +99,13 @@ pub fn set_step(
 {
     let number = set_test(st.entries, variables, kind, b);
     if number != 0 {
-        return crate::Step::Stop(number, 0);
+        return crate::Step::Stop { number, offset: 0 };
     }
     let p = set_made(vars, lows, highs, heads, links, st.count, kind, b);
     let peak = judge::greater(st.peak, p.count);
     if p.full {
         table::drop_to(vars, lows, highs, heads, links, p.count, st.count);
-        return crate::Step::Spent(23, peak);
+        return crate::Step::Spent { number: 23, peak };
     }
     let k = p.node;
     let entries = st.entries;

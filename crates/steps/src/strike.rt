@@ -15,15 +15,24 @@ pub fn strike_step(struck: &mut [u8], st: crate::State, k: MemberNo) -> crate::S
         let returned = lentOf vs ls hs ds ks ms cs (now (struck .exit)) in
         Held n lent st → Stepped n lent returned st (strikeStep (stateOf lent st) (k .0)) r)) ⌝ }
 {
-    if crate::witness::waits(st.positive, st.negative) {
-        return crate::Step::Stop(16, 0);
+    if crate::witness::waits(st.witness) {
+        return crate::Step::Stop {
+            number: 16,
+            offset: 0,
+        };
     }
     let i = k.0 as usize;
     if st.members <= i {
-        return crate::Step::Stop(28, 0);
+        return crate::Step::Stop {
+            number: 28,
+            offset: 0,
+        };
     }
     if struck[i] != 0 {
-        return crate::Step::Stop(28, 0);
+        return crate::Step::Stop {
+            number: 28,
+            offset: 0,
+        };
     }
     struck[i] = 1;
     crate::Step::Next(st)

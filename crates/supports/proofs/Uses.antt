@@ -11,7 +11,7 @@ use Rattle.meaning.specs.Operations.{negation, cofactorLiterals, cofactor}
 use Rattle.meaning.proofs.Booleans.{t≢f, or-cases, eqb-eq}
 use Rattle.meaning.proofs.Canonical.{branch-same, branch-differ, reduced-from, side, side-reduced}
 use Rattle.meaning.proofs.PointwiseSteps.{negation-leaf, negation-node, literals-leaf, literals-high, literals-low, literals-branch}
-use Rattle.meaning.proofs.Cofactor.{cofactorFrom, cofactorFrom-leaf, sidesFrom, level-both, level-one, Sides, one, both, sides, atRoot, byBranches, cofactor-branches}
+use Rattle.meaning.proofs.Cofactor.{cofactorFrom, cofactorFrom-leaf, sidesFrom, level-both, level-one, LiveSides, one, both, live-sides, atRoot, byBranches, cofactor-branches}
 use Rattle.supports.specs.Supports.{Uses}
 
 -- ---- any diagram
@@ -138,7 +138,7 @@ module _ (S T : ℕ → Bool) (apart : (v : ℕ) → S v ≡ true → T v ≡ fa
   apart-from zero i e (leaf b) g q of og nz u w = cofactorFrom-leaf zero i b g
   apart-from zero i e (node v l h) g q of og nz u w = absurd (omega arith)
   apart-from (suc k) i e f g q of og nz u w =
-      go (sides i e g og nz)
+      go (live-sides i e g og nz)
       (λ b m. apart-from k (suc i) e (side i b f) (side i b g) (omega arith) (side-reduced i e b f of) (side-reduced i e b g og) m (uses-side S i b f u) (uses-side T i b g w))
     where
       -- a variable of g is none of f
@@ -149,7 +149,7 @@ module _ (S T : ℕ → Bool) (apart : (v : ℕ) → S v ≡ true → T v ≡ fa
           go true e = t≢f (sym t ∙ apart i e)
           go false e = refl
 
-      go : Sides i g → ((b : Bool) → side i b g ≢ leaf false → sidesFrom k i f g b ≡ side i b f) → cofactorFrom (suc k) i f g ≡ f
+      go : LiveSides i g → ((b : Bool) → side i b g ≢ leaf false → sidesFrom k i f g b ≡ side i b f) → cofactorFrom (suc k) i f g ≡ f
       go (one b z m) ih =
           level-one k i e q f g of og b z m ∙ ih (not b) m ∙ side-own S i (not b) f u (none (side-other T i b g w (λ s. nz (sym s ∙ z))))
       go (both m p) ih = level-both k i e q f g of og m p ∙ ap₂ (branch i) (ih false m) (ih true p) ∙ branch-sides i e f of

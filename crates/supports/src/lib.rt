@@ -1,22 +1,12 @@
 // The variables of a node's diagram, as a word.
 use table::NodeNo;
 ghost use mathlib.Core.Path.{_≡_};
-ghost use Prim.Native.Nat.{_-_, _^_, _≤_, _<_};
+ghost use Prim.Native.Nat.{_-_, _<_};
 ghost use lib.ListN.{length};
-ghost use lib.Bits.{bitOr};
 ghost use Rattle.table.specs.Nodes.{diagramAt};
 ghost use Rattle.walks.specs.Readable.{Readable, Roomy, nodesIn};
 ghost use Rattle.table.specs.Lists.{Inside};
 ghost use Rattle.supports.specs.Supports.{Support, Supports, SupportMemo};
-
-// The word with the variable v.
-fn with_variable(word: u64, v: u8) -> u64
-    requires { ⌜ (1 ≤ v) × (v ≤ 64) ⌝ }
-    ensures { λ r. ⌜ r ≡ bitOr word (2 ^ (v - 1)) ⌝ }
-{
-    let i = (v - 1) as u64;
-    word | 1 << i
-}
 
 // The variables of a node, where the memo holds those of nodes already known; it stays so.
 pub fn support_from(
@@ -45,7 +35,7 @@ pub fn support_from(
     let high = NodeNo(highs[i]);
     let a = support_from(vars, lows, highs, memo, count, low);
     let b = support_from(vars, lows, highs, memo, count, high);
-    let word = with_variable(a | b, v);
+    let word = words::with_variable(a | b, v);
     memo[i] = word;
     word
 }
@@ -60,7 +50,7 @@ fn all_supports(vars: &[u8], lows: &[u16], highs: &[u16], memo: &mut [u64], coun
     while k < count {
         let low = lows[k] as usize;
         let high = highs[k] as usize;
-        memo[k] = with_variable(memo[low] | memo[high], vars[k]);
+        memo[k] = words::with_variable(memo[low] | memo[high], vars[k]);
         k += 1;
     }
 }
@@ -93,7 +83,13 @@ pub fn supports_of(
     let mut i: usize = 0;
     while i < list.len() {
         let f = NodeNo(list[i]);
-        words[i] = support_from(vars, lows, highs, memo, count, f);
-        i += 1;
+        let known = memo[f.0 as usize];
+        if known != 0 {
+            words[i] = known;
+            i += 1;
+        } else {
+            words[i] = support_from(vars, lows, highs, memo, count, f);
+            i += 1;
+        }
     }
 }

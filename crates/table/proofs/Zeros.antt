@@ -31,16 +31,16 @@ zeros-at (suc n) (suc i) = zeros-at n i
 -- ---- clearing a list
 
 -- the first i places hold zeros
-abbrev pub Cleared : List ℕ → ℕ → Type 0
-Cleared list i = (k : ℕ) → k < i → _≡_ {A = ℕ} (getD list k 0) 0
+abbrev pub ZerosBelow : List ℕ → ℕ → Type 0
+ZerosBelow list i = (k : ℕ) → k < i → _≡_ {A = ℕ} (getD list k 0) 0
 
-pub cleared-one : (list : List ℕ) (i : ℕ) → i < length list → Cleared list i → Cleared (set list i 0) (i + 1)
+pub cleared-one : (list : List ℕ) (i : ℕ) → i < length list → ZerosBelow list i → ZerosBelow (set list i 0) (i + 1)
 cleared-one list i inside before k p = go (ℕ-discrete k i)
   where
     go : Dec (k ≡ i) → _≡_ {A = ℕ} (getD (set list i 0) k 0) 0
     go (yes e) = rw e (getD-set-same list i 0 0 inside)
     go (no n) = getD-set-other list i k 0 0 n ∙ before k (omega arith)
 
-pub cleared-all : (list : List ℕ) (n : ℕ) → length list ≡ n → Cleared list n → list ≡ replicate n 0
+pub cleared-all : (list : List ℕ) (n : ℕ) → length list ≡ n → ZerosBelow list n → list ≡ replicate n 0
 cleared-all list n len all =
     ext-getD 0 list (replicate n 0) (len ∙ sym (length-replicate n 0)) (λ k p. all k (omega arith) ∙ sym (zeros-at n k))

@@ -42,7 +42,10 @@ fn wrapping_product(a: u32, b: u32) -> u32
     (((a as u64) * (b as u64)) % 4294967296) as u32
 }
 
-// The chain of a node among `heads`. Their greatest number is written out: a remainder by a constant is no division.
+// The most heads of an index: two for each place.
+const MOST_HEADS: usize = 131072;
+
+// The chain of a node among `heads`. Their greatest number is a case of its own: a remainder by a constant is no division.
 fn bucket_of(heads: usize, v: u8, l: u16, h: u16) -> usize
     requires { ⌜ 0 < heads ⌝ }
     ensures { λ r. ⌜ r ≡ bucket heads v l h ⌝ }
@@ -51,8 +54,8 @@ fn bucket_of(heads: usize, v: u8, l: u16, h: u16) -> usize
     let low = wrapping_product(l as u32, 12582917);
     let high = wrapping_product(h as u32, 4256249);
     let key = std::num::wrapping_add_u32(std::num::wrapping_add_u32(v as u32, low), high);
-    if heads == 131072 {
-        return (key as usize) % 131072;
+    if heads == MOST_HEADS {
+        return (key as usize) % MOST_HEADS;
     }
     (key as usize) % heads
 }

@@ -10,7 +10,7 @@ ghost use Rattle.table.specs.Indexed.{tableOf};
 ghost use Rattle.table.specs.Tested.{Decides, Lent, OfChain, NodeFits, Reached, Empty, NodesFit, HeadsFit, AllReached, Walkable};
 
 // The most places of a table: a node's number has 16 bits.
-const MOST: usize = 65536;
+pub const MOST: usize = 65536;
 
 // Whether the columns are of one length, 2 to 65,536, with twice as many heads and as many links.
 pub fn size_fits(vars: &[u8], lows: &[u16], highs: &[u16], heads: &[u16], links: &[u16]) -> bool

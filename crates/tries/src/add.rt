@@ -7,7 +7,6 @@ use steps::State;
 use steps::Step;
 use table::NodeNo;
 use table::Placed;
-use words::Literals;
 ghost use mathlib.Core.Path.{_≡_};
 ghost use mathlib.Core.List.{List};
 ghost use Prim.Native.Nat.{ℕ, _≤_};
@@ -19,27 +18,9 @@ ghost use Rattle.conflict.specs.Marks.{unmarked};
 ghost use Rattle.judge.specs.Lines.{Negatable};
 ghost use Rattle.commands.specs.Inner.{clauseWords};
 ghost use Rattle.verdict.specs.Clausal.{addStep};
-ghost use Rattle.steps.specs.States.{lentOf, stateOf, withWitness, Held, Stepped};
+ghost use Rattle.steps.specs.States.{lentOf, stateOf, Held, Stepped};
 ghost use Rattle.tries.specs.Tries.{liveIn, PivotFits, SecondTried, decided, BothTried, keptBy};
 ghost use Rattle.tries.specs.Within.{Within};
-
-// The state with another witness.
-fn with_witness(st: State, w: Literals) -> State
-    ensures { λ r. ⌜ r ≡ withWitness st (w .positive) (w .negative) ⌝ }
-{
-    State {
-        count: st.count,
-        kept: st.kept,
-        members: st.members,
-        entries: st.entries,
-        positive: w.positive,
-        negative: w.negative,
-        lines: st.lines,
-        rounds: st.rounds,
-        peak: st.peak,
-        refuted: st.refuted,
-    }
-}
 
 // Whether no try follows.
 fn is_decided(j: Judged) -> bool
@@ -120,7 +101,7 @@ fn second_try(
                 members,
                 scratch,
                 struck,
-                with_witness(st, w),
+                steps::with_witness(st, w),
                 Rule::Pr,
                 g,
             )
@@ -246,20 +227,26 @@ pub fn clause_step(
 {
     let literals = clause.literals;
     if 1024 <= st.lines {
-        return Step::Stop(22, 0);
+        return Step::Stop {
+            number: 22,
+            offset: 0,
+        };
     }
     if words::shared(literals.positive, literals.negative) {
-        return Step::Stop(17, 0);
+        return Step::Stop {
+            number: 17,
+            offset: 0,
+        };
     }
     let made = clause::make(vars, lows, highs, heads, links, st.count, literals);
     let peak = judge::greater(st.peak, made.count);
+    let witness = st.witness;
     let with = State {
         count: made.count,
         kept: st.kept,
         members: st.members,
         entries: st.entries,
-        positive: st.positive,
-        negative: st.negative,
+        witness,
         lines: st.lines,
         rounds: st.rounds,
         peak,

@@ -18,9 +18,15 @@ fn finish_step(st: State) -> Step
     ensures { λ r. ⌜ ((n : ℕ) (l : Lent) → Stepped n l l st (finish (stateOf l st)) r) ⌝ }
 {
     if st.refuted {
-        return Step::Stop(0, 0);
+        return Step::Stop {
+            number: 0,
+            offset: 0,
+        };
     }
-    Step::Stop(20, 0)
+    Step::Stop {
+        number: 20,
+        offset: 0,
+    }
 }
 
 // The step that a command makes. Table, index, member list, scratch list and the members' marks (`struck`) are then the next state's; a
@@ -95,7 +101,7 @@ pub fn command_step(
             st,
             clause,
         ),
-        Command::Wrong { number, offset } => Step::Stop(number, offset),
+        Command::Wrong { number, offset } => Step::Stop { number, offset },
         Command::Finished => finish_step(st),
     }
 }

@@ -71,11 +71,17 @@ pub fn strike_clause(
         Found::At(g) => {
             let i = lowest(members, struck, st.members, g);
             if st.members <= i {
-                return Step::Stop(28, 0);
+                return Step::Stop {
+                    number: 28,
+                    offset: 0,
+                };
             }
             struck[i] = 1;
             Step::Next(st)
         }
-        Found::Nothing => Step::Stop(28, 0),
+        Found::Nothing => Step::Stop {
+            number: 28,
+            offset: 0,
+        },
     }
 }

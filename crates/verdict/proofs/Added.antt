@@ -128,7 +128,7 @@ module _ {s n : ℕ} {m : Meant} {st : State} (S : Standing s n m st) (narrow : 
       (place-after s (st .nodes) (S .ordered) (meaning.clause n ls) (reduced-to 1 (suc n) 65 (meaning.clause n ls) (omega (arith, narrow)) (clause-reduced n ls)))
 
   -- the live members keep their diagrams while the clause's is made
-  pub live-same : liveMembers (withEntry st t k) ≡ liveMembers st
+  live-same : liveMembers (withEntry st t k) ≡ liveMembers st
   live-same =
       go (unstruck (st .struck) (st .members)) (unstruck (st .struck) (m .members)) (valued-unstruck (st .nodes) (st .kept) (st .struck) (st .members) (m .members) (S .members))
     where

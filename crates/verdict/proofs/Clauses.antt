@@ -62,7 +62,7 @@ emptied-ordered = record {
   alike = λ j k a p b q e. absurd (omega arith);
 }
 
-abbrev pub meantMembers : List Function → Meant
+abbrev meantMembers : List Function → Meant
 meantMembers fs = record { members = fs; entries = [] }
 
 pub record Underway (s : ℕ) (text : List ℕ) (n many : ℕ) (t : List Node) (ms : List ℕ) (fs : List Function) (r : Reading) : Type 0 where

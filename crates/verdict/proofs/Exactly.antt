@@ -1,6 +1,6 @@
 -- The check says exactly what its end says, and number 0 exactly where it reaches the end of a refutation. The idea: each reached state has the
 -- verdict still before it, so that what its command says is the verdict. Assumes nothing.
-use mathlib.Core.Path.{_≡_, refl, ap, _∙_, subst}
+use mathlib.Core.Path.{_≡_, refl, ap, _∙_}
 use mathlib.Core.Logic.{_↔_}
 use mathlib.Core.List.{List}
 use Prim.Native.Nat.{ℕ, zero, suc, _+_, _-_, _≤_, _<_}
@@ -72,7 +72,7 @@ module _ (mode : Mode) (s : ℕ) (text proof : List ℕ) where
       → step n s st (commandIn mode proof n at) ≡ stop number offset → verdict mode s text proof ≡ left number (at + offset) (st .peak) st
   reached-stops R number offset e = reached-after R (stop number offset) e .1
 
-  pub reached-spent : {n : ℕ} {st : State} {at : ℕ} {m : Meant} → Reached mode s text proof n st at m → (number peak : ℕ)
+  reached-spent : {n : ℕ} {st : State} {at : ℕ} {m : Meant} → Reached mode s text proof n st at m → (number peak : ℕ)
       → step n s st (commandIn mode proof n at) ≡ spent number peak → verdict mode s text proof ≡ left number at peak st
   reached-spent R number peak e = reached-after R (spent number peak) e .1
 
@@ -84,10 +84,6 @@ module _ (mode : Mode) (s : ℕ) (text proof : List ℕ) where
   ended-is _ (no-room M e) = making-runs M ∙ rw e
   ended-is _ (stopped {n} {number} {offset} {at} {st} R e) = reached-stops R number offset e
   ended-is _ (tried {n} {number} {peak} {at} {st} R e) = reached-spent R number peak e
-
-  -- The check ends in exactly one way, and says what that way says.
-  pub verdict-exactly : (v : Verdict) → (verdict mode s text proof ≡ v) ↔ Ended mode s text proof v
-  verdict-exactly v = ((λ e. subst (Ended mode s text proof) e (ended mode s text proof)), ended-is v)
 
   zero-refutes : (v : Verdict) → Closed mode s text proof v → v .number ≡ 0 → Refutation mode s text proof
   zero-refutes _ (formula-refused named) z = absurd (omega arith)

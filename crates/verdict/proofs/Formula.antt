@@ -15,7 +15,7 @@ use Rattle.dimacs.specs.declared.Token.the-variants.{Closing, Literal, Wrong}
 use Rattle.dimacs.specs.Text.{tokenEnd, between}
 use Rattle.dimacs.specs.Numbers.{isZero, isNumber, unsigned, hasMinus, value, tokenOf}
 use Rattle.dimacs.specs.Header.{judgedFrom, nextWord, word, isHeader, headerAt, header}
-use Rattle.dimacs.specs.Clauses.{Next, closed, ended, refused, withLiteral, afterToken, clauseFrom, clauseAt, nextClause, Reading, clause, complete, refusal, andThen, clausesFrom}
+use Rattle.dimacs.specs.Clauses.{Next, closed, ended, refused, literalThen, afterToken, clauseFrom, clauseAt, nextClause, Reading, clause, complete, refusal, andThen, clausesFrom}
 use Rattle.dimacs.proofs.Bounds.{NextIn, next-in}
 
 -- ---- a refusal has a number from 1 to 6
@@ -49,7 +49,7 @@ token-named n bs =
     either NamedToken (isZero bs) Closing (cond (isNumber bs) literal (Wrong 3)) tt
     (either NamedToken (isNumber bs) literal (Wrong 3) (either NamedToken (leb v n) (Literal v (not (hasMinus bs))) (Wrong 4) tt ((omega arith, omega arith))) ((omega arith, omega arith)))
 
-literal-named : (v : ℕ) (b : Bool) (x : Next) → NamedNext x → NamedNext (withLiteral (record { variable = v; positive = b }) x)
+literal-named : (v : ℕ) (b : Bool) (x : Next) → NamedNext x → NamedNext (literalThen (record { variable = v; positive = b }) x)
 literal-named v b (closed ls first next) h = tt
 literal-named v b ended h = tt
 literal-named v b (refused number place) h = h

@@ -212,7 +212,7 @@ module _ (s : ℕ) (text proof : List ℕ) where
 
 module _ (mode : Mode) (s : ℕ) (text proof : List ℕ) where
   -- As many marks as members.
-  pub marks-long : {n : ℕ} {st : State} {at : ℕ} {m : Meant} → Reached mode s text proof n st at m → length (st .struck) ≡ length (st .members)
+  marks-long : {n : ℕ} {st : State} {at : ℕ} {m : Meant} → Reached mode s text proof n st at m → length (st .struck) ≡ length (st .members)
   marks-long R = reached-standing mode s text proof R .1 .marks
 
   -- No member is struck that is not there.

@@ -190,7 +190,7 @@ abbrev pub NumberedIn : Form → Step → Type 0
 NumberedIn Records x = Numbered x
 NumberedIn Text x = NumberedInText x
 
-pub step-numbered : (form : Form) (n s : ℕ) (st : State) (c : Command) → Fit form n c → NumberedIn form (step n s st c)
+step-numbered : (form : Form) (n s : ℕ) (st : State) (c : Command) → Fit form n c → NumberedIn form (step n s st c)
 unfolding step
 step-numbered Records n s st (recorded r more) fit = record-numbered n s st more r
 step-numbered Records n s st (added ls) fit = absurd fit

@@ -109,7 +109,7 @@ satisfies-fitted n (ls ∷ cs) w a = ap₂ _&&_ (clause-fitted n ls (w .0) a) (s
 -- ---- reached states are sound
 
 -- The functions of the live members.
-abbrev pub liveMeant : State → Meant → List Function
+abbrev liveMeant : State → Meant → List Function
 liveMeant st m = unstruck (st .struck) (m .members)
 
 -- Where an assignment satisfies the formula one satisfies all live members, and none satisfies it once a 0 line is accepted, though that line

@@ -54,7 +54,7 @@ unfolding entered
 entered-taken st (full t) st′ e = spent-not-next 23 _ st′ e
 entered-taken st (placed t k) st′ e = (t, k, refl, cc)
 
-pub node-taken : (n s : ℕ) (st : State) (b : NodeBody) (st′ : State) → nodeStep n s st b ≡ next st′ → NodeTaken n s st b st′
+node-taken : (n s : ℕ) (st : State) (b : NodeBody) (st′ : State) → nodeStep n s st b ≡ next st′ → NodeTaken n s st b st′
 unfolding nodeStep
 node-taken n s st b st′ e =
     let l : ℕ = entryNode st (b .low .0) in
@@ -128,7 +128,7 @@ judged-taken s st g line st′ e =
     let (shown, e₂) = met-late (line .shown) 19 (peakWith s st line) _ e₁ in
     (fits, shown, cc)
 
-pub line-taken : (n s : ℕ) (st : State) (rule : Rule) (root : ℕ) (st′ : State) → lineStep n s st rule root ≡ next st′ → LineTaken n s st rule root st′
+line-taken : (n s : ℕ) (st : State) (rule : Rule) (root : ℕ) (st′ : State) → lineStep n s st rule root ≡ next st′ → LineTaken n s st rule root st′
 unfolding lineStep
 line-taken n s st Rup root st′ e =
     let g : ℕ = entryNode st root in
@@ -156,7 +156,7 @@ taken-line n s st Pr root st′ T =
 
 -- ---- strikings
 
-pub strike-taken : (st : State) (k : ℕ) (st′ : State) → strikeStep st k ≡ next st′ → StrikeTaken st k st′
+strike-taken : (st : State) (k : ℕ) (st′ : State) → strikeStep st k ≡ next st′ → StrikeTaken st k st′
 unfolding strikeStep
 strike-taken st k st′ e =
     let (none, e₁) = passed (waiting st) 16 _ e in
@@ -193,7 +193,7 @@ taken-set n s st kind b st′ T =
 
 -- ---- the end record
 
-pub end-not-next : (st : State) (more : Bool) (st′ : State) {A : Type 0} → endStep st more ≡ next st′ → A
+end-not-next : (st : State) (more : Bool) (st′ : State) {A : Type 0} → endStep st more ≡ next st′ → A
 unfolding endStep
 end-not-next st more st′ e = go (waiting st) more (st .refuted) e
   where
@@ -249,7 +249,7 @@ module _ {wanted offset : ℕ} where
   pub stop-other : {A : Type 0} (number at : ℕ) → eqb number wanted ≡ false → stop number at ≡ stop wanted offset → A
   stop-other number at other e = let z : number ≡ wanted = cc in absurd (eqb-false number wanted other z)
 
-  pub next-not-stop : {A : Type 0} (st : State) → next st ≡ stop wanted offset → A
+  next-not-stop : {A : Type 0} (st : State) → next st ≡ stop wanted offset → A
   next-not-stop st e = stop-not-next wanted offset st (sym e)
 
   spent-not-stop : {A : Type 0} (number peak : ℕ) → spent number peak ≡ stop wanted offset → A

@@ -152,8 +152,8 @@ nodeStep n s st b =
     (cond (not (above (st .nodes) (b .variable) l && above (st .nodes) (b .variable) h)) (stop 14 0) made)))
 
 -- "The witness sets it true, false": the word with the variable, where it is the one that is set.
-abbrev pub withVariable : Bool → ℕ → ℕ → ℕ
-withVariable set w v = cond set (w + 2 ^ (v - 1)) w
+abbrev pub assigned : Bool → ℕ → ℕ → ℕ
+assigned set w v = cond set (w + 2 ^ (v - 1)) w
 
 -- "Witness: 10, 12, 15." "15: witness names a variable twice"
 unfoldable pub witnessStep : ℕ → State → ℕ → Bool → Step
@@ -161,7 +161,7 @@ unfolding isVariable
 witnessStep n st v b =
     cond (not (isVariable n v)) (stop 12 0)
     (cond (inWord (st .positive) v || inWord (st .negative) v) (stop 15 0)
-    (next (withWitness st (withVariable b (st .positive) v) (withVariable (not b) (st .negative) v))))
+    (next (withWitness st (assigned b (st .positive) v) (assigned (not b) (st .negative) v))))
 
 -- "16: witness left at a RUP line or the end"; "and then 16 for a waiting witness" (02, 3/14)
 unfoldable pub waiting : State → Bool

@@ -22,7 +22,7 @@ use Rattle.records.specs.declared.SetBody.{SetBody}
 use Rattle.records.specs.declared.Record.{Record}
 use Rattle.records.specs.declared.Record.the-variants.{NodeEntry, Witness, ProofLine, Strike, SetEntry, End}
 use Rattle.records.specs.declared.Record.the-variants.{CutShort, UnknownKind, NoRecord}
-use Rattle.verdict.specs.Steps.{State, withEntry, withWitness, withMarks, isEntry, entryNode, withVariable, waiting, accepted}
+use Rattle.verdict.specs.Steps.{State, withEntry, withWitness, withMarks, isEntry, entryNode, assigned, waiting, accepted}
 use Rattle.verdict.specs.Steps.{isLive, diagramIn, liveMembers, noParity, setDiagram}
 
 -- ---- what members and entries stand for
@@ -95,7 +95,7 @@ pub record WitnessTaken (n : ℕ) (st : State) (v : ℕ) (b : Bool) (st′ : Sta
   pub most : v ≤ n
   pub new-positive : inWord (st .positive) v ≡ false
   pub new-negative : inWord (st .negative) v ≡ false
-  pub is : withWitness st (withVariable b (st .positive) v) (withVariable (not b) (st .negative) v) ≡ st′
+  pub is : withWitness st (assigned b (st .positive) v) (assigned (not b) (st .negative) v) ≡ st′
 
 -- A line by its rule: RUP, or PR with the witness of two words, of the members ms and the root g.
 abbrev pub lineBy : ℕ → Rule → ℕ → ℕ → List Diagram → Diagram → Line

@@ -1,9 +1,9 @@
 // Walks over the nodes of a table that place no node.
 use table::NodeNo;
+use words::Literals;
 ghost use mathlib.Core.Path.{_≡_};
 ghost use Prim.Native.Nat.{_≤_, _<_};
 ghost use lib.ListN.{length};
-ghost use Rattle.meaning.specs.Words.{inWord};
 ghost use Rattle.walks.specs.Readable.{Readable, Roomy, Cleared, nodesIn, valueUnder};
 ghost use Rattle.walks.specs.Constant.{sidesUnder, oneAt, OneMemo};
 
@@ -31,15 +31,6 @@ pub fn value_of(
     k == 1
 }
 
-// Whether the word has the variable v.
-pub fn in_word(word: u64, v: u8) -> bool
-    requires { ⌜ (1 ≤ v) × (v ≤ 64) ⌝ }
-    ensures { λ r. ⌜ r ≡ inWord word v ⌝ }
-{
-    let i = (v - 1) as u64;
-    (word >> i) % 2 == 1
-}
-
 // Empties the memo's cells for the first `count` nodes.
 pub fn clear_cells(memo: &mut [u64], count: usize)
     requires { ⌜ count ≤ length (now memo) ⌝ }
@@ -64,20 +55,20 @@ fn sides_under(
     highs: &[u16],
     count: usize,
     f: NodeNo,
-    positive: u64,
-    negative: u64,
+    literals: Literals,
 ) -> SidesUnder
     requires { ⌜ Readable (now vars) (now lows) (now highs) count × (2 ≤ f .0) × (f .0 < count) ⌝ }
-    ensures { λ r. ⌜ r ≡ sidesUnder (now (vars .entry)) (now (lows .entry)) (now (highs .entry)) (f .0) positive negative ⌝ }
+    ensures { λ r. ⌜ r
+        ≡ sidesUnder (now (vars .entry)) (now (lows .entry)) (now (highs .entry)) (f .0) (literals .positive) (literals .negative) ⌝ }
 {
     let i = f.0 as usize;
     let v = vars[i];
     let low = NodeNo(lows[i]);
     let high = NodeNo(highs[i]);
-    if in_word(positive, v) {
+    if words::in_word(literals.positive, v) {
         return SidesUnder { low: high, high };
     }
-    if in_word(negative, v) {
+    if words::in_word(literals.negative, v) {
         return SidesUnder { low, high: low };
     }
     SidesUnder { low, high }
@@ -91,16 +82,15 @@ pub fn is_one(
     memo: &mut [u64],
     count: usize,
     f: NodeNo,
-    positive: u64,
-    negative: u64,
+    literals: Literals,
 ) -> bool
     requires { ⌜ Readable (now vars) (now lows) (now highs) count × (f .0 < count) × Roomy (now vars) (now memo) ⌝ }
     ensures { λ r. ⌜ (
         let nodes = nodesIn (now (vars .entry)) (now (lows .entry)) (now (highs .entry)) count in
-        r ≡ oneAt nodes positive negative (f .0)) ⌝ }
+        r ≡ oneAt nodes (literals .positive) (literals .negative) (f .0)) ⌝ }
 {
     clear_cells(memo, count);
-    one_from(vars, lows, highs, memo, count, f, positive, negative)
+    one_from(vars, lows, highs, memo, count, f, literals)
 }
 
 // The same where the memo holds nodes whose cofactor is known to be 1; it stays so.
@@ -111,17 +101,16 @@ fn one_from(
     memo: &mut [u64],
     count: usize,
     f: NodeNo,
-    positive: u64,
-    negative: u64,
+    literals: Literals,
 ) -> bool
     requires { ⌜ Readable (now vars) (now lows) (now highs) count × (f .0 < count) × Roomy (now vars) (now memo) ⌝ }
-    requires { ⌜ OneMemo (now memo) (nodesIn (now vars) (now lows) (now highs) count) positive negative ⌝ }
+    requires { ⌜ OneMemo (now memo) (nodesIn (now vars) (now lows) (now highs) count) (literals .positive) (literals .negative) ⌝ }
     ensures { λ r. ⌜ (
         let nodes = nodesIn (now (vars .entry)) (now (lows .entry)) (now (highs .entry)) count in
-        r ≡ oneAt nodes positive negative (f .0)) ⌝ }
+        r ≡ oneAt nodes (literals .positive) (literals .negative) (f .0)) ⌝ }
     ensures { λ _. ⌜ (
         let nodes = nodesIn (now (vars .entry)) (now (lows .entry)) (now (highs .entry)) count in
-        OneMemo (now (memo .exit)) nodes positive negative) ⌝ }
+        OneMemo (now (memo .exit)) nodes (literals .positive) (literals .negative)) ⌝ }
 {
     if f.0 == 0 {
         return false;
@@ -133,30 +122,12 @@ fn one_from(
     if memo[i] == f.0 as u64 {
         return true;
     }
-    let sides = sides_under(vars, lows, highs, count, f, positive, negative);
-    let low = one_from(
-        vars,
-        lows,
-        highs,
-        memo,
-        count,
-        sides.low,
-        positive,
-        negative,
-    );
+    let sides = sides_under(vars, lows, highs, count, f, literals);
+    let low = one_from(vars, lows, highs, memo, count, sides.low, literals);
     if !low {
         return false;
     }
-    let high = one_from(
-        vars,
-        lows,
-        highs,
-        memo,
-        count,
-        sides.high,
-        positive,
-        negative,
-    );
+    let high = one_from(vars, lows, highs, memo, count, sides.high, literals);
     if !high {
         return false;
     }

@@ -16,13 +16,17 @@ abbrev μ-loop : tie.MeasureT-loop
     v
 
 -- The ways back, written by ways.py: TO-from-FROM leads from the place FROM of the code to the place TO before it.
+module _ (c : tie.After-shared Inv-loop μ-loop) where
+  abbrev start-from-shared : tie.Start Inv-loop μ-loop
+  start-from-shared = c .before .before .before .before .before .before
+
 module _ (c : tie.Else1 Inv-loop μ-loop) where
   abbrev start-from-else1 : tie.Start Inv-loop μ-loop
-  start-from-else1 = c .before .before .before .before .before .before .before
+  start-from-else1 = start-from-shared (c .before)
 
 module _ (c : tie.Then1 Inv-loop μ-loop) where
   abbrev start-from-then1 : tie.Start Inv-loop μ-loop
-  start-from-then1 = c .before .before .before .before .before .before .before
+  start-from-then1 = start-from-shared (c .before)
 
 module _ (c : tie.After-loop Inv-loop μ-loop) where
   abbrev start-from-return-3 : tie.Start Inv-loop μ-loop
@@ -47,13 +51,17 @@ module _ (c : tie.After-put Inv-loop μ-loop) where
   abbrev start-from-put : tie.Start Inv-loop μ-loop
   start-from-put = start-from-else1 else1-from-put
 
+module _ (c : tie.After-slice-known10 Inv-loop μ-loop) where
+  abbrev put-from-slice-known10 : tie.After-put Inv-loop μ-loop
+  put-from-slice-known10 = c .before .before .before .before .before .before .before .before .before .before
+
 module _ (c : tie.Else2 Inv-loop μ-loop) where
   abbrev put-from-else2 : tie.After-put Inv-loop μ-loop
-  put-from-else2 = c .before .before .before .before .before .before .before .before .before .before .before
+  put-from-else2 = put-from-slice-known10 (c .before)
 
 module _ (c : tie.Then2 Inv-loop μ-loop) where
   abbrev put-from-then2 : tie.After-put Inv-loop μ-loop
-  put-from-then2 = c .before .before .before .before .before .before .before .before .before .before .before
+  put-from-then2 = put-from-slice-known10 (c .before)
 
 -- the turn of one variable, once its node is put
 module _ (a : tie.After-put Inv-loop μ-loop) where

@@ -28,12 +28,16 @@ module _ (c : tie.After-set-all-arg) where
   abbrev start-from-set-all-call : tie.Start
   start-from-set-all-call = start-from-has-zero (c .before .before)
 
+module _ (c : tie.After-set-all) where
+  abbrev else1-from-set-all : tie.Else1
+  else1-from-set-all = c .before .before
+
 module _ (c : tie.After-some-negated-arg2) where
   abbrev set-all-from-some-negated-call : tie.After-set-all
   set-all-from-some-negated-call = c .before .before .before .before
 
   abbrev else1-from-some-negated-call : tie.Else1
-  else1-from-some-negated-call = set-all-from-some-negated-call .before .before
+  else1-from-some-negated-call = else1-from-set-all set-all-from-some-negated-call
 
   abbrev has-zero-from-some-negated-call : tie.After-has-zero
   has-zero-from-some-negated-call = else1-from-some-negated-call .before
@@ -49,7 +53,7 @@ module _ (c : tie.After-set-all-arg2) where
   set-all-from-set-all-call-2 = set-all-from-some-negated-call (some-negated-from-set-all-call-2 .before)
 
   abbrev start-from-set-all-call-2 : tie.Start
-  start-from-set-all-call-2 = start-from-has-zero (set-all-from-set-all-call-2 .before .before .before)
+  start-from-set-all-call-2 = start-from-has-zero (else1-from-set-all set-all-from-set-all-call-2 .before)
 
 module _ (c : tie.After-slice-known5) where
   abbrev set-all-arg2-from-return-2 : tie.After-set-all-arg2
@@ -62,7 +66,7 @@ module _ (c : tie.After-slice-known5) where
   set-all-from-return-2 = set-all-from-some-negated-call (some-negated-from-return-2 .before)
 
   abbrev else1-from-return-2 : tie.Else1
-  else1-from-return-2 = set-all-from-return-2 .before .before
+  else1-from-return-2 = else1-from-set-all set-all-from-return-2
 
   abbrev has-zero-from-return-2 : tie.After-has-zero
   has-zero-from-return-2 = else1-from-return-2 .before

@@ -49,12 +49,16 @@ module _ (c : tie.After-loop Inv-loop μ-loop) where
   abbrev start-from-return-2 : tie.Start Inv-loop μ-loop
   start-from-return-2 = start-from-clear-cells (clear-cells-from-at-loop (c .before))
 
+module _ (c : tie.In-loop Inv-loop μ-loop) where
+  abbrev at-loop-from-in-loop : tie.At-loop Inv-loop μ-loop
+  at-loop-from-in-loop = c .before
+
 module _ (c : tie.After-shared-slice-known10 Inv-loop μ-loop) where
   abbrev in-loop-from-is-asked-call : tie.In-loop Inv-loop μ-loop
   in-loop-from-is-asked-call = c .before .before
 
   abbrev at-loop-from-is-asked-call : tie.At-loop Inv-loop μ-loop
-  at-loop-from-is-asked-call = in-loop-from-is-asked-call .before
+  at-loop-from-is-asked-call = at-loop-from-in-loop in-loop-from-is-asked-call
 
   abbrev start-from-is-asked-call : tie.Start Inv-loop μ-loop
   start-from-is-asked-call = start-from-clear-cells (clear-cells-from-at-loop at-loop-from-is-asked-call)
@@ -71,7 +75,7 @@ module _ (c : tie.Joined1 Inv-loop μ-loop) where
   in-loop-from-loop-again = in-loop-from-is-asked is-asked-from-loop-again
 
   abbrev at-loop-from-loop-again : tie.At-loop Inv-loop μ-loop
-  at-loop-from-loop-again = in-loop-from-loop-again .before
+  at-loop-from-loop-again = at-loop-from-in-loop in-loop-from-loop-again
 
   abbrev start-from-loop-again : tie.Start Inv-loop μ-loop
   start-from-loop-again = start-from-clear-cells (clear-cells-from-at-loop at-loop-from-loop-again)
@@ -81,7 +85,7 @@ module _ (c : tie.After-negation-from-arg Inv-loop μ-loop) where
   in-loop-from-negation-from-call = in-loop-from-is-asked (c .before .before)
 
   abbrev at-loop-from-negation-from-call : tie.At-loop Inv-loop μ-loop
-  at-loop-from-negation-from-call = in-loop-from-negation-from-call .before
+  at-loop-from-negation-from-call = at-loop-from-in-loop in-loop-from-negation-from-call
 
   abbrev clear-cells-from-negation-from-call : tie.After-clear-cells Inv-loop μ-loop
   clear-cells-from-negation-from-call = clear-cells-from-at-loop at-loop-from-negation-from-call
@@ -98,7 +102,7 @@ module _ (c : tie.After-slice-known3 Inv-loop μ-loop) where
   negation-from-from-is-marked-call = c .before .before
 
   abbrev at-loop-from-is-marked-call : tie.At-loop Inv-loop μ-loop
-  at-loop-from-is-marked-call = in-loop-from-is-asked (is-asked-from-negation-from negation-from-from-is-marked-call) .before
+  at-loop-from-is-marked-call = at-loop-from-in-loop (in-loop-from-is-asked (is-asked-from-negation-from negation-from-from-is-marked-call))
 
   abbrev start-from-is-marked-call : tie.Start Inv-loop μ-loop
   start-from-is-marked-call = start-from-clear-cells (clear-cells-from-at-loop at-loop-from-is-marked-call)
@@ -111,7 +115,7 @@ module _ (c : tie.Then2 Inv-loop μ-loop) where
   in-loop-from-then2 = in-loop-from-is-asked (is-asked-from-negation-from negation-from-from-then2)
 
   abbrev at-loop-from-then2 : tie.At-loop Inv-loop μ-loop
-  at-loop-from-then2 = in-loop-from-then2 .before
+  at-loop-from-then2 = at-loop-from-in-loop in-loop-from-then2
 
   abbrev start-from-then2 : tie.Start Inv-loop μ-loop
   start-from-then2 = start-from-clear-cells (clear-cells-from-at-loop at-loop-from-then2)

@@ -34,14 +34,18 @@ module _ (c : tie.After-shared-slice-known8 Inv-loop μ-loop) where
 
 module _ (c : tie.At-loop Inv-loop μ-loop) where
   abbrev start-from-at-loop : tie.Start Inv-loop μ-loop
-  start-from-at-loop = c .before .before .before .before .before .before .before .before .before
+  start-from-at-loop = start-from-loop-holds (c .before)
+
+module _ (c : tie.In-loop Inv-loop μ-loop) where
+  abbrev at-loop-from-in-loop : tie.At-loop Inv-loop μ-loop
+  at-loop-from-in-loop = c .before
 
 module _ (c : tie.After-shared-slice-known10 Inv-loop μ-loop) where
   abbrev in-loop-from-is-asked-call : tie.In-loop Inv-loop μ-loop
   in-loop-from-is-asked-call = c .before .before
 
   abbrev at-loop-from-is-asked-call : tie.At-loop Inv-loop μ-loop
-  at-loop-from-is-asked-call = in-loop-from-is-asked-call .before
+  at-loop-from-is-asked-call = at-loop-from-in-loop in-loop-from-is-asked-call
 
   abbrev start-from-is-asked-call : tie.Start Inv-loop μ-loop
   start-from-is-asked-call = start-from-at-loop at-loop-from-is-asked-call
@@ -58,7 +62,7 @@ module _ (c : tie.Joined1 Inv-loop μ-loop) where
   in-loop-from-loop-again = in-loop-from-is-asked is-asked-from-loop-again
 
   abbrev at-loop-from-loop-again : tie.At-loop Inv-loop μ-loop
-  at-loop-from-loop-again = in-loop-from-loop-again .before
+  at-loop-from-loop-again = at-loop-from-in-loop in-loop-from-loop-again
 
   abbrev start-from-loop-again : tie.Start Inv-loop μ-loop
   start-from-loop-again = start-from-at-loop at-loop-from-loop-again
@@ -68,7 +72,7 @@ module _ (c : tie.Then1 Inv-loop μ-loop) where
   in-loop-from-then1 = in-loop-from-is-asked (c .before)
 
   abbrev at-loop-from-then1 : tie.At-loop Inv-loop μ-loop
-  at-loop-from-then1 = in-loop-from-then1 .before
+  at-loop-from-then1 = at-loop-from-in-loop in-loop-from-then1
 
   abbrev start-from-then1 : tie.Start Inv-loop μ-loop
   start-from-then1 = start-from-at-loop at-loop-from-then1
@@ -78,11 +82,11 @@ module _ (c : tie.Else2 Inv-loop μ-loop) where
   negation-thin-from-else2 = c .before .before
 
   abbrev start-from-else2 : tie.Start Inv-loop μ-loop
-  start-from-else2 = start-from-at-loop (in-loop-from-is-asked (negation-thin-from-else2 .before .before) .before)
+  start-from-else2 = start-from-at-loop (at-loop-from-in-loop (in-loop-from-is-asked (negation-thin-from-else2 .before .before)))
 
 module _ (c : tie.Then2 Inv-loop μ-loop) where
   abbrev at-loop-from-then2 : tie.At-loop Inv-loop μ-loop
-  at-loop-from-then2 = in-loop-from-is-asked (c .before .before .before .before) .before
+  at-loop-from-then2 = at-loop-from-in-loop (in-loop-from-is-asked (c .before .before .before .before))
 
 module _ (c : tie.Then3 Inv-loop μ-loop) where
   abbrev else2-from-then3 : tie.Else2 Inv-loop μ-loop
@@ -95,7 +99,7 @@ module _ (c : tie.Then3 Inv-loop μ-loop) where
   in-loop-from-then3 = in-loop-from-is-asked (negation-thin-from-then3 .before .before)
 
   abbrev at-loop-from-then3 : tie.At-loop Inv-loop μ-loop
-  at-loop-from-then3 = in-loop-from-then3 .before
+  at-loop-from-then3 = at-loop-from-in-loop in-loop-from-then3
 
   abbrev start-from-then3 : tie.Start Inv-loop μ-loop
   start-from-then3 = start-from-at-loop at-loop-from-then3

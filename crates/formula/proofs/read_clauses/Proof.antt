@@ -32,53 +32,61 @@ module _ (c : tie.After-shared-slice-known Inv-loop μ-loop) where
   abbrev start-from-loop-holds : tie.Start Inv-loop μ-loop
   start-from-loop-holds = c .before .before .before .before .before .before .before
 
+module _ (c : tie.After-next-clause Inv-loop μ-loop) where
+  abbrev at-loop-from-next-clause : tie.At-loop Inv-loop μ-loop
+  at-loop-from-next-clause = c .before
+
+module _ (c : tie.After-c Inv-loop μ-loop) where
+  abbrev next-clause-from-c : tie.After-next-clause Inv-loop μ-loop
+  next-clause-from-c = c .before .before
+
 module _ (c : tie.After-enum-told Inv-loop μ-loop) where
   abbrev at-loop-from-return : tie.At-loop Inv-loop μ-loop
-  at-loop-from-return = c .before .before .before
+  at-loop-from-return = at-loop-from-next-clause (c .before .before)
 
 module _ (c : tie.After-known-told Inv-loop μ-loop) where
   abbrev next-clause-from-return-2 : tie.After-next-clause Inv-loop μ-loop
   next-clause-from-return-2 = c .before .before .before
 
   abbrev at-loop-from-return-2 : tie.At-loop Inv-loop μ-loop
-  at-loop-from-return-2 = next-clause-from-return-2 .before
+  at-loop-from-return-2 = at-loop-from-next-clause next-clause-from-return-2
 
 module _ (c : tie.After-make-arg5 Inv-loop μ-loop) where
   abbrev c-from-make-call : tie.After-c Inv-loop μ-loop
   c-from-make-call = c .before .before .before .before .before .before
 
   abbrev at-loop-from-make-call : tie.At-loop Inv-loop μ-loop
-  at-loop-from-make-call = c-from-make-call .before .before .before
+  at-loop-from-make-call = at-loop-from-next-clause (next-clause-from-c c-from-make-call)
 
-module _ (c : tie.After-make Inv-loop μ-loop) where
-  abbrev c-from-make : tie.After-c Inv-loop μ-loop
-  c-from-make = c .before .before .before .before .before .before .before
+module _ (c : tie.After-slice-known11 Inv-loop μ-loop) where
+  abbrev make-from-slice-known11 : tie.After-make Inv-loop μ-loop
+  make-from-slice-known11 = c .before .before .before .before .before .before .before .before .before .before
 
 module _ (c : tie.Then1 Inv-loop μ-loop) where
   abbrev make-from-then1 : tie.After-make Inv-loop μ-loop
-  make-from-then1 = c .before .before .before .before .before .before .before .before .before .before .before
+  make-from-then1 = make-from-slice-known11 (c .before)
 
   abbrev c-from-then1 : tie.After-c Inv-loop μ-loop
-  c-from-then1 = c-from-make make-from-then1
+  c-from-then1 = c-from-make-call (make-from-then1 .before)
 
   abbrev next-clause-from-then1 : tie.After-next-clause Inv-loop μ-loop
-  next-clause-from-then1 = c-from-then1 .before .before
+  next-clause-from-then1 = next-clause-from-c c-from-then1
 
   abbrev at-loop-from-then1 : tie.At-loop Inv-loop μ-loop
-  at-loop-from-then1 = next-clause-from-then1 .before
+  at-loop-from-then1 = at-loop-from-next-clause next-clause-from-then1
 
 module _ (c : tie.After-node Inv-loop μ-loop) where
   abbrev make-from-loop-again : tie.After-make Inv-loop μ-loop
-  make-from-loop-again = c .before .before .before .before .before .before .before .before .before .before .before .before
+  make-from-loop-again = make-from-slice-known11 (c .before .before)
 
   abbrev c-from-loop-again : tie.After-c Inv-loop μ-loop
-  c-from-loop-again = c-from-make make-from-loop-again
+  c-from-loop-again = c-from-make-call (make-from-loop-again .before)
 
   abbrev next-clause-from-loop-again : tie.After-next-clause Inv-loop μ-loop
-  next-clause-from-loop-again = c-from-loop-again .before .before
+  next-clause-from-loop-again = next-clause-from-c c-from-loop-again
 
   abbrev at-loop-from-loop-again : tie.At-loop Inv-loop μ-loop
-  at-loop-from-loop-again = next-clause-from-loop-again .before
+  at-loop-from-loop-again = at-loop-from-next-clause next-clause-from-loop-again
 
 loop-holds : tie.Need-loop-holds Inv-loop μ-loop
 loop-holds c =

@@ -38,6 +38,10 @@ module _ (c : tie.After-clear-memo-arg) where
   abbrev start-from-clear-memo-call : tie.Start
   start-from-clear-memo-call = start-from-copy (copy-from-copy-words copy-words-from-clear-memo-call)
 
+module _ (c : tie.After-clear-memo) where
+  abbrev copy-words-from-clear-memo : tie.After-copy-words
+  copy-words-from-clear-memo = copy-words-from-clear-memo-call (c .before)
+
 module _ (c : tie.After-apply-arg6) where
   abbrev clear-memo-from-apply-call : tie.After-clear-memo
   clear-memo-from-apply-call = c .before .before .before .before .before .before .before .before
@@ -64,7 +68,7 @@ module _ (c : tie.Then1) where
   clear-memo-from-then1 = clear-memo-from-apply apply-from-then1
 
   abbrev copy-words-from-then1 : tie.After-copy-words
-  copy-words-from-then1 = copy-words-from-clear-memo-call (clear-memo-from-then1 .before)
+  copy-words-from-then1 = copy-words-from-clear-memo clear-memo-from-then1
 
   abbrev copy-from-then1 : tie.After-copy
   copy-from-then1 = copy-from-copy-words copy-words-from-then1
@@ -77,7 +81,7 @@ module _ (c : tie.After-all-by-arg8) where
   apply-from-all-by-call = apply-from-slice-known17 (else1-from-all-by-call .before)
 
   abbrev copy-words-from-all-by-call : tie.After-copy-words
-  copy-words-from-all-by-call = copy-words-from-clear-memo-call (clear-memo-from-apply-call (apply-from-all-by-call .before) .before)
+  copy-words-from-all-by-call = copy-words-from-clear-memo (clear-memo-from-apply-call (apply-from-all-by-call .before))
 
   abbrev copy-from-all-by-call : tie.After-copy
   copy-from-all-by-call = copy-from-copy-words copy-words-from-all-by-call
@@ -97,7 +101,7 @@ module _ (c : tie.After-slice-known25) where
   clear-memo-from-return-2 = clear-memo-from-apply apply-from-return-2
 
   abbrev copy-words-from-return-2 : tie.After-copy-words
-  copy-words-from-return-2 = copy-words-from-clear-memo-call (clear-memo-from-return-2 .before)
+  copy-words-from-return-2 = copy-words-from-clear-memo clear-memo-from-return-2
 
   abbrev copy-from-return-2 : tie.After-copy
   copy-from-return-2 = copy-from-copy-words copy-words-from-return-2

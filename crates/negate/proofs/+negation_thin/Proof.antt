@@ -52,24 +52,24 @@ module _ {t : ℕ} (s : negation-thin-lts.Start (callees t) (negation-thin-at t)
   measure = s .pre .0
 
 -- The ways back, written by ways.py: TO-from-FROM leads from the place FROM of the code to the place TO before it.
-module _ {t : ℕ} (c : negation-thin-lts.Else1 (callees t) (negation-thin-at t) negation-thin.Post) where
-  abbrev start-from-else1 : negation-thin-lts.Start (callees t) (negation-thin-at t) negation-thin.Post
-  start-from-else1 = c .before .before .before .before .before .before .before
+module _ {t : ℕ} (c : negation-thin-lts.After-struct-known (callees t) (negation-thin-at t) negation-thin.Post) where
+  abbrev start-from-struct-known : negation-thin-lts.Start (callees t) (negation-thin-at t) negation-thin.Post
+  start-from-struct-known = c .before .before .before .before .before .before
 
 module _ {t : ℕ} (c : negation-thin-lts.Then1 (callees t) (negation-thin-at t) negation-thin.Post) where
   abbrev start-from-then1 : negation-thin-lts.Start (callees t) (negation-thin-at t) negation-thin.Post
-  start-from-then1 = c .before .before .before .before .before .before .before
+  start-from-then1 = start-from-struct-known (c .before)
 
 module _ {t : ℕ} (c : negation-thin-lts.Else2 (callees t) (negation-thin-at t) negation-thin.Post) where
   abbrev else1-from-else2 : negation-thin-lts.Else1 (callees t) (negation-thin-at t) negation-thin.Post
   else1-from-else2 = c .before .before
 
   abbrev start-from-else2 : negation-thin-lts.Start (callees t) (negation-thin-at t) negation-thin.Post
-  start-from-else2 = start-from-else1 else1-from-else2
+  start-from-else2 = start-from-struct-known (else1-from-else2 .before)
 
 module _ {t : ℕ} (c : negation-thin-lts.Then2 (callees t) (negation-thin-at t) negation-thin.Post) where
   abbrev start-from-then2 : negation-thin-lts.Start (callees t) (negation-thin-at t) negation-thin.Post
-  start-from-then2 = start-from-else1 (c .before .before)
+  start-from-then2 = start-from-struct-known (c .before .before .before)
 
 module _ {t : ℕ} (c : negation-thin-lts.After-shared-slice-known6 (callees t) (negation-thin-at t) negation-thin.Post) where
   abbrev start-from-shared-slice-read-v : negation-thin-lts.Start (callees t) (negation-thin-at t) negation-thin.Post
@@ -97,28 +97,40 @@ module _ {t : ℕ} (c : negation-thin-lts.After-negation-thin (callees t) (negat
   abbrev else2-from-negation-thin : negation-thin-lts.Else2 (callees t) (negation-thin-at t) negation-thin.Post
   else2-from-negation-thin = c .before .before .before .before .before .before .before
 
+module _ {t : ℕ} (c : negation-thin-lts.Else5 (callees t) (negation-thin-at t) negation-thin.Post) where
+  abbrev negation-thin-from-else5 : negation-thin-lts.After-negation-thin (callees t) (negation-thin-at t) negation-thin.Post
+  negation-thin-from-else5 = c .before .before
+
 module _ {t : ℕ} (c : negation-thin-lts.After-enum-told (callees t) (negation-thin-at t) negation-thin.Post) where
   abbrev negation-thin-from-return-6 : negation-thin-lts.After-negation-thin (callees t) (negation-thin-at t) negation-thin.Post
-  negation-thin-from-return-6 = c .before .before .before .before
+  negation-thin-from-return-6 = negation-thin-from-else5 (c .before .before)
 
   abbrev else2-from-return-6 : negation-thin-lts.Else2 (callees t) (negation-thin-at t) negation-thin.Post
   else2-from-return-6 = else2-from-negation-thin negation-thin-from-return-6
 
+module _ {t : ℕ} (c : negation-thin-lts.After-low-at (callees t) (negation-thin-at t) negation-thin.Post) where
+  abbrev else2-from-low-at : negation-thin-lts.Else2 (callees t) (negation-thin-at t) negation-thin.Post
+  else2-from-low-at = else2-from-negation-thin (negation-thin-from-else5 (c .before .before))
+
 module _ {t : ℕ} (c : negation-thin-lts.After-known-told (callees t) (negation-thin-at t) negation-thin.Post) where
   abbrev else2-from-negation-thin-call-2 : negation-thin-lts.Else2 (callees t) (negation-thin-at t) negation-thin.Post
-  else2-from-negation-thin-call-2 = else2-from-negation-thin (c .before .before .before .before .before)
+  else2-from-negation-thin-call-2 = else2-from-low-at (c .before)
+
+module _ {t : ℕ} (c : negation-thin-lts.Else6 (callees t) (negation-thin-at t) negation-thin.Post) where
+  abbrev negation-thin2-from-else6 : negation-thin-lts.After-negation-thin2 (callees t) (negation-thin-at t) negation-thin.Post
+  negation-thin2-from-else6 = c .before .before
 
 module _ {t : ℕ} (c : negation-thin-lts.After-enum-told2 (callees t) (negation-thin-at t) negation-thin.Post) where
   abbrev negation-thin2-from-return-7 : negation-thin-lts.After-negation-thin2 (callees t) (negation-thin-at t) negation-thin.Post
-  negation-thin2-from-return-7 = c .before .before .before .before
+  negation-thin2-from-return-7 = negation-thin2-from-else6 (c .before .before)
 
   abbrev else2-from-return-7 : negation-thin-lts.Else2 (callees t) (negation-thin-at t) negation-thin.Post
-  else2-from-return-7 = else2-from-negation-thin (negation-thin2-from-return-7 .before .before .before .before .before .before)
+  else2-from-return-7 = else2-from-low-at (negation-thin2-from-return-7 .before .before)
 
 module _ {t : ℕ} (c : negation-thin-lts.After-known-told2 (callees t) (negation-thin-at t) negation-thin.Post) where
   abbrev start-from-lookup-call : negation-thin-lts.Start (callees t) (negation-thin-at t) negation-thin.Post
-  start-from-lookup-call = start-from-else2 (else2-from-negation-thin (c .before .before .before .before .before .before .before .before
-      .before .before .before))
+  start-from-lookup-call = start-from-else2 (else2-from-negation-thin (negation-thin-from-else5 (negation-thin2-from-else6 (c .before
+      .before .before) .before .before .before .before)))
 
 module _ {t : ℕ} (c : negation-thin-lts.After-lookup (callees t) (negation-thin-at t) negation-thin.Post) where
   abbrev high-at-from-return-8 : negation-thin-lts.After-high-at (callees t) (negation-thin-at t) negation-thin.Post
@@ -128,7 +140,7 @@ module _ {t : ℕ} (c : negation-thin-lts.After-lookup (callees t) (negation-thi
   else6-from-return-8 = high-at-from-return-8 .before .before
 
   abbrev negation-thin2-from-return-8 : negation-thin-lts.After-negation-thin2 (callees t) (negation-thin-at t) negation-thin.Post
-  negation-thin2-from-return-8 = else6-from-return-8 .before .before
+  negation-thin2-from-return-8 = negation-thin2-from-else6 else6-from-return-8
 
   abbrev low-at-from-return-8 : negation-thin-lts.After-low-at (callees t) (negation-thin-at t) negation-thin.Post
   low-at-from-return-8 = negation-thin2-from-return-8 .before .before
@@ -137,7 +149,7 @@ module _ {t : ℕ} (c : negation-thin-lts.After-lookup (callees t) (negation-thi
   else5-from-return-8 = low-at-from-return-8 .before .before
 
   abbrev negation-thin-from-return-8 : negation-thin-lts.After-negation-thin (callees t) (negation-thin-at t) negation-thin.Post
-  negation-thin-from-return-8 = else5-from-return-8 .before .before
+  negation-thin-from-return-8 = negation-thin-from-else5 else5-from-return-8
 
   abbrev else2-from-return-8 : negation-thin-lts.Else2 (callees t) (negation-thin-at t) negation-thin.Post
   else2-from-return-8 = else2-from-negation-thin negation-thin-from-return-8

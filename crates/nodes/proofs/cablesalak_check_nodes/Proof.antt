@@ -41,7 +41,7 @@ use denote.Triple.Walked.{says, Stays, stay-slice, stay-none, stay-none-slice, g
 use denote.Exit.{yes}
 use Rattle.table.specs.Columns.{columnsMade}
 use Rattle.session.specs.declared.Checked.{Checked}
-use Rattle.session.specs.Checked.{outcomeOf}
+use Rattle.session.specs.Checked.{checkOutcome}
 use Rattle.session.proofs.Checked as K
 use Rattle.session.proofs.Checked.Laws as K′
 use Rattle.nodes.specs.declared.Node.{Node}
@@ -110,7 +110,7 @@ module _ {M : Type 1} (𝓤 : URA M) (H : Heap 𝓤) (A : Atoms 𝓤) (W : Given
   -- what the check over the arrays tells, where they held vs, ls and hs before the nodes were loaded
   abbrev Told : List ℕ → List ℕ → List ℕ → ℕ → Checked × Ch.Last → Type 0
   Told vs ls hs m o =
-      (outcomeOf (columnsMade (take (length ys) (o .1 .0)) (take (length ys) (o .1 .1 .0)) (take (length ys) (o .1 .1 .1 .0)) (o .1 .1 .1 .1 .0) (o .1 .1 .1 .1 .1 .0)) (o .1 .1 .1 .1 .1 .1 .1 .1 .0) (o .1 .1 .1 .1 .1 .1 .1 .1 .1 .1 .0) (o .1 .1 .1 .1 .1 .1 .1 .1 .1 .0) (o .0)
+      (checkOutcome (columnsMade (take (length ys) (o .1 .0)) (take (length ys) (o .1 .1 .0)) (take (length ys) (o .1 .1 .1 .0)) (o .1 .1 .1 .1 .0) (o .1 .1 .1 .1 .1 .0)) (o .1 .1 .1 .1 .1 .1 .1 .1 .0) (o .1 .1 .1 .1 .1 .1 .1 .1 .1 .1 .0) (o .1 .1 .1 .1 .1 .1 .1 .1 .1 .0) (o .0)
       ≡ checkWithin (length ys) (column varOf ys vs m) (column lowOf ys ls m) (column highOf ys hs m) (xD .now) (xJ .now) count (xM .now) (xK .now) (xS .now) (xF .now) (xP .now))
       × (length (o .1 .0) ≡ 65536) × (length (o .1 .1 .0) ≡ 65536) × (length (o .1 .1 .1 .0) ≡ 65536) × (length (o .1 .1 .1 .1 .0) ≡ length (xD .now)) × (length (o .1 .1 .1 .1 .1 .0) ≡ length (xJ .now)) × (length (o .1 .1 .1 .1 .1 .1 .1 .1 .0) ≡ length (xM .now)) × (length (o .1 .1 .1 .1 .1 .1 .1 .1 .1 .0) ≡ length (xS .now)) × (length (o .1 .1 .1 .1 .1 .1 .1 .1 .1 .1 .0) ≡ length (xK .now))
 

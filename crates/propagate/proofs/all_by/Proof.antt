@@ -48,7 +48,7 @@ module _ (c : tie.After-clear-memo-arg Inv-loop μ-loop) where
 
 module _ (c : tie.After-clear-memo Inv-loop μ-loop) where
   abbrev start-from-clear-memo : tie.Start Inv-loop μ-loop
-  start-from-clear-memo = c .before .before .before .before .before .before .before .before .before .before
+  start-from-clear-memo = start-from-clear-memo-call (c .before)
 
 module _ (c : tie.After-is-thin-arg2 Inv-loop μ-loop) where
   abbrev clear-memo-from-is-thin-call : tie.After-clear-memo Inv-loop μ-loop
@@ -59,55 +59,59 @@ module _ (c : tie.After-is-thin-arg2 Inv-loop μ-loop) where
 
 module _ (c : tie.After-is-thin Inv-loop μ-loop) where
   abbrev clear-memo-from-loop-holds : tie.After-clear-memo Inv-loop μ-loop
-  clear-memo-from-loop-holds = c .before .before .before .before .before
+  clear-memo-from-loop-holds = clear-memo-from-is-thin-call (c .before)
 
   abbrev start-from-loop-holds : tie.Start Inv-loop μ-loop
   start-from-loop-holds = start-from-clear-memo clear-memo-from-loop-holds
 
 module _ (c : tie.At-loop Inv-loop μ-loop) where
-  abbrev clear-memo-from-at-loop : tie.After-clear-memo Inv-loop μ-loop
-  clear-memo-from-at-loop = c .before .before .before .before .before .before
+  abbrev start-from-at-loop : tie.Start Inv-loop μ-loop
+  start-from-at-loop = start-from-is-thin-call (c .before .before)
 
 module _ (c : tie.After-loop Inv-loop μ-loop) where
   abbrev at-loop-from-return-2 : tie.At-loop Inv-loop μ-loop
   at-loop-from-return-2 = c .before
 
   abbrev start-from-return-2 : tie.Start Inv-loop μ-loop
-  start-from-return-2 = start-from-clear-memo (clear-memo-from-at-loop at-loop-from-return-2)
+  start-from-return-2 = start-from-at-loop at-loop-from-return-2
+
+module _ (c : tie.In-loop Inv-loop μ-loop) where
+  abbrev at-loop-from-in-loop : tie.At-loop Inv-loop μ-loop
+  at-loop-from-in-loop = c .before
 
 module _ (c : tie.After-slice-known10 Inv-loop μ-loop) where
   abbrev in-loop-from-slice-read-if1 : tie.In-loop Inv-loop μ-loop
   in-loop-from-slice-read-if1 = c .before
 
   abbrev at-loop-from-slice-read-if1 : tie.At-loop Inv-loop μ-loop
-  at-loop-from-slice-read-if1 = in-loop-from-slice-read-if1 .before
+  at-loop-from-slice-read-if1 = at-loop-from-in-loop in-loop-from-slice-read-if1
 
   abbrev start-from-slice-read-if1 : tie.Start Inv-loop μ-loop
-  start-from-slice-read-if1 = start-from-clear-memo (clear-memo-from-at-loop at-loop-from-slice-read-if1)
+  start-from-slice-read-if1 = start-from-at-loop at-loop-from-slice-read-if1
 
 module _ (c : tie.Then1 Inv-loop μ-loop) where
   abbrev in-loop-from-then1 : tie.In-loop Inv-loop μ-loop
   in-loop-from-then1 = c .before .before
 
   abbrev at-loop-from-then1 : tie.At-loop Inv-loop μ-loop
-  at-loop-from-then1 = in-loop-from-then1 .before
+  at-loop-from-then1 = at-loop-from-in-loop in-loop-from-then1
 
   abbrev start-from-then1 : tie.Start Inv-loop μ-loop
-  start-from-then1 = start-from-clear-memo (clear-memo-from-at-loop at-loop-from-then1)
+  start-from-then1 = start-from-at-loop at-loop-from-then1
 
 module _ (c : tie.After-member-by-arg8 Inv-loop μ-loop) where
   abbrev in-loop-from-member-by-call : tie.In-loop Inv-loop μ-loop
   in-loop-from-member-by-call = c .before .before .before .before .before .before .before .before .before .before
 
   abbrev at-loop-from-member-by-call : tie.At-loop Inv-loop μ-loop
-  at-loop-from-member-by-call = in-loop-from-member-by-call .before
+  at-loop-from-member-by-call = at-loop-from-in-loop in-loop-from-member-by-call
 
   abbrev start-from-member-by-call : tie.Start Inv-loop μ-loop
-  start-from-member-by-call = start-from-clear-memo (clear-memo-from-at-loop at-loop-from-member-by-call)
+  start-from-member-by-call = start-from-at-loop at-loop-from-member-by-call
 
 module _ (c : tie.After-member-by Inv-loop μ-loop) where
   abbrev in-loop-from-member-by : tie.In-loop Inv-loop μ-loop
-  in-loop-from-member-by = c .before .before .before .before .before .before .before .before .before .before .before
+  in-loop-from-member-by = in-loop-from-member-by-call (c .before)
 
 module _ (c : tie.After-struct-known Inv-loop μ-loop) where
   abbrev member-by-from-add-written : tie.After-member-by Inv-loop μ-loop
@@ -118,35 +122,33 @@ module _ (c : tie.After-struct-known Inv-loop μ-loop) where
   in-loop-from-add-written = in-loop-from-member-by member-by-from-add-written
 
   abbrev at-loop-from-add-written : tie.At-loop Inv-loop μ-loop
-  at-loop-from-add-written = in-loop-from-add-written .before
+  at-loop-from-add-written = at-loop-from-in-loop in-loop-from-add-written
 
 module _ (c : tie.Else2 Inv-loop μ-loop) where
   abbrev member-by-from-else2 : tie.After-member-by Inv-loop μ-loop
-  member-by-from-else2 = c .before .before .before .before .before .before .before .before .before .before .before .before .before .before
-      .before .before .before .before
+  member-by-from-else2 = member-by-from-add-written (c .before)
 
   abbrev in-loop-from-else2 : tie.In-loop Inv-loop μ-loop
   in-loop-from-else2 = in-loop-from-member-by member-by-from-else2
 
   abbrev at-loop-from-else2 : tie.At-loop Inv-loop μ-loop
-  at-loop-from-else2 = in-loop-from-else2 .before
+  at-loop-from-else2 = at-loop-from-in-loop in-loop-from-else2
 
   abbrev start-from-else2 : tie.Start Inv-loop μ-loop
-  start-from-else2 = start-from-clear-memo (clear-memo-from-at-loop at-loop-from-else2)
+  start-from-else2 = start-from-at-loop at-loop-from-else2
 
 module _ (c : tie.Then2 Inv-loop μ-loop) where
   abbrev member-by-from-then2 : tie.After-member-by Inv-loop μ-loop
-  member-by-from-then2 = c .before .before .before .before .before .before .before .before .before .before .before .before .before .before
-      .before .before .before .before
+  member-by-from-then2 = member-by-from-add-written (c .before)
 
   abbrev in-loop-from-then2 : tie.In-loop Inv-loop μ-loop
   in-loop-from-then2 = in-loop-from-member-by member-by-from-then2
 
   abbrev at-loop-from-then2 : tie.At-loop Inv-loop μ-loop
-  at-loop-from-then2 = in-loop-from-then2 .before
+  at-loop-from-then2 = at-loop-from-in-loop in-loop-from-then2
 
   abbrev clear-memo-from-then2 : tie.After-clear-memo Inv-loop μ-loop
-  clear-memo-from-then2 = clear-memo-from-at-loop at-loop-from-then2
+  clear-memo-from-then2 = clear-memo-from-is-thin-call (at-loop-from-then2 .before .before)
 
   abbrev start-from-then2 : tie.Start Inv-loop μ-loop
   start-from-then2 = start-from-clear-memo clear-memo-from-then2

@@ -16,30 +16,38 @@ module _ (c : tie.After-conflicts-arg2) where
   abbrev start-from-conflicts-call : tie.Start
   start-from-conflicts-call = c .before .before .before .before .before .before .before .before .before .before .before
 
+module _ (c : tie.After-conflicts) where
+  abbrev start-from-conflicts : tie.Start
+  start-from-conflicts = start-from-conflicts-call (c .before)
+
 module _ (c : tie.After-slice-known4) where
   abbrev conflicts-from-slice-known4 : tie.After-conflicts
   conflicts-from-slice-known4 = c .before .before .before .before
+
+module _ (c : tie.Else1) where
+  abbrev conflicts-from-else1 : tie.After-conflicts
+  conflicts-from-else1 = conflicts-from-slice-known4 (c .before)
 
 module _ (c : tie.Then1) where
   abbrev conflicts-from-then1 : tie.After-conflicts
   conflicts-from-then1 = conflicts-from-slice-known4 (c .before)
 
   abbrev start-from-then1 : tie.Start
-  start-from-then1 = start-from-conflicts-call (conflicts-from-then1 .before)
+  start-from-then1 = start-from-conflicts conflicts-from-then1
 
 module _ (c : tie.Then2) where
   abbrev conflicts-from-then2 : tie.After-conflicts
-  conflicts-from-then2 = conflicts-from-slice-known4 (c .before .before)
+  conflicts-from-then2 = conflicts-from-else1 (c .before)
 
   abbrev start-from-then2 : tie.Start
-  start-from-then2 = start-from-conflicts-call (conflicts-from-then2 .before)
+  start-from-then2 = start-from-conflicts conflicts-from-then2
 
 module _ (c : tie.After-first-units-arg) where
   abbrev conflicts-from-first-units-call : tie.After-conflicts
-  conflicts-from-first-units-call = conflicts-from-slice-known4 (c .before .before .before)
+  conflicts-from-first-units-call = conflicts-from-else1 (c .before .before)
 
   abbrev start-from-first-units-call : tie.Start
-  start-from-first-units-call = start-from-conflicts-call (conflicts-from-first-units-call .before)
+  start-from-first-units-call = start-from-conflicts conflicts-from-first-units-call
 
 module _ (c : tie.After-enum-told) where
   abbrev first-units-from-return-4 : tie.After-first-units
@@ -49,10 +57,10 @@ module _ (c : tie.After-enum-told) where
   else1-from-return-4 = first-units-from-return-4 .before .before .before
 
   abbrev conflicts-from-return-4 : tie.After-conflicts
-  conflicts-from-return-4 = conflicts-from-slice-known4 (else1-from-return-4 .before)
+  conflicts-from-return-4 = conflicts-from-else1 else1-from-return-4
 
   abbrev start-from-return-4 : tie.Start
-  start-from-return-4 = start-from-conflicts-call (conflicts-from-return-4 .before)
+  start-from-return-4 = start-from-conflicts conflicts-from-return-4
 
 module _ (c : tie.After-u) where
   abbrev first-units-from-u : tie.After-first-units
@@ -72,10 +80,10 @@ module _ (c : tie.After-known-told) where
   else1-from-return-3 = else2-from-return-3 .before
 
   abbrev conflicts-from-return-3 : tie.After-conflicts
-  conflicts-from-return-3 = conflicts-from-slice-known4 (else1-from-return-3 .before)
+  conflicts-from-return-3 = conflicts-from-else1 else1-from-return-3
 
   abbrev start-from-return-3 : tie.Start
-  start-from-return-3 = start-from-conflicts-call (conflicts-from-return-3 .before)
+  start-from-return-3 = start-from-conflicts conflicts-from-return-3
 
 conflicts-requires : tie.Need-conflicts-requires
 conflicts-requires c κs =

@@ -37,16 +37,28 @@ module _ (c : tie.After-slice-known9 Inv-loop μ-loop) where
   abbrev start-from-loop-holds : tie.Start Inv-loop μ-loop
   start-from-loop-holds = c .before .before .before .before .before .before .before .before .before
 
+module _ (c : tie.At-loop Inv-loop μ-loop) where
+  abbrev start-from-at-loop : tie.Start Inv-loop μ-loop
+  start-from-at-loop = start-from-loop-holds (c .before)
+
 module _ (c : tie.After-next-round-arg9 Inv-loop μ-loop) where
   abbrev at-loop-from-next-round-call : tie.At-loop Inv-loop μ-loop
   at-loop-from-next-round-call = c .before .before .before .before .before .before .before .before .before
 
   abbrev start-from-next-round-call : tie.Start Inv-loop μ-loop
-  start-from-next-round-call = start-from-loop-holds (at-loop-from-next-round-call .before)
+  start-from-next-round-call = start-from-at-loop at-loop-from-next-round-call
+
+module _ (c : tie.After-next-round Inv-loop μ-loop) where
+  abbrev at-loop-from-next-round : tie.At-loop Inv-loop μ-loop
+  at-loop-from-next-round = at-loop-from-next-round-call (c .before)
 
 module _ (c : tie.After-slice-known11 Inv-loop μ-loop) where
   abbrev next-round-from-slice-known11 : tie.After-next-round Inv-loop μ-loop
   next-round-from-slice-known11 = c .before .before .before .before
+
+module _ (c : tie.After-u Inv-loop μ-loop) where
+  abbrev next-round-from-u : tie.After-next-round Inv-loop μ-loop
+  next-round-from-u = next-round-from-slice-known11 (c .before .before)
 
 module _ (c : tie.After-known-told Inv-loop μ-loop) where
   abbrev slice-known11-from-return : tie.After-slice-known11 Inv-loop μ-loop
@@ -56,23 +68,23 @@ module _ (c : tie.After-known-told Inv-loop μ-loop) where
   next-round-from-return = next-round-from-slice-known11 slice-known11-from-return
 
   abbrev at-loop-from-return : tie.At-loop Inv-loop μ-loop
-  at-loop-from-return = at-loop-from-next-round-call (next-round-from-return .before)
+  at-loop-from-return = at-loop-from-next-round next-round-from-return
 
   abbrev start-from-return : tie.Start Inv-loop μ-loop
-  start-from-return = start-from-loop-holds (at-loop-from-return .before)
+  start-from-return = start-from-at-loop at-loop-from-return
 
 module _ (c : tie.After-round-arg8 Inv-loop μ-loop) where
   abbrev u-from-round-call : tie.After-u Inv-loop μ-loop
   u-from-round-call = c .before .before .before .before .before .before .before .before .before .before
 
   abbrev next-round-from-round-call : tie.After-next-round Inv-loop μ-loop
-  next-round-from-round-call = next-round-from-slice-known11 (u-from-round-call .before .before)
+  next-round-from-round-call = next-round-from-u u-from-round-call
 
   abbrev at-loop-from-round-call : tie.At-loop Inv-loop μ-loop
-  at-loop-from-round-call = at-loop-from-next-round-call (next-round-from-round-call .before)
+  at-loop-from-round-call = at-loop-from-next-round next-round-from-round-call
 
   abbrev start-from-round-call : tie.Start Inv-loop μ-loop
-  start-from-round-call = start-from-loop-holds (at-loop-from-round-call .before)
+  start-from-round-call = start-from-at-loop at-loop-from-round-call
 
 module _ (c : tie.After-slice-known19 Inv-loop μ-loop) where
   abbrev round-from-slice-known19 : tie.After-round Inv-loop μ-loop
@@ -87,13 +99,13 @@ module _ (c : tie.Else1 Inv-loop μ-loop) where
   u-from-else1 = u-from-round-call (round-from-else1 .before)
 
   abbrev next-round-from-else1 : tie.After-next-round Inv-loop μ-loop
-  next-round-from-else1 = next-round-from-slice-known11 (u-from-else1 .before .before)
+  next-round-from-else1 = next-round-from-u u-from-else1
 
   abbrev at-loop-from-else1 : tie.At-loop Inv-loop μ-loop
-  at-loop-from-else1 = at-loop-from-next-round-call (next-round-from-else1 .before)
+  at-loop-from-else1 = at-loop-from-next-round next-round-from-else1
 
   abbrev start-from-else1 : tie.Start Inv-loop μ-loop
-  start-from-else1 = start-from-loop-holds (at-loop-from-else1 .before)
+  start-from-else1 = start-from-at-loop at-loop-from-else1
 
 module _ (c : tie.Then1 Inv-loop μ-loop) where
   abbrev round-from-then1 : tie.After-round Inv-loop μ-loop
@@ -103,13 +115,13 @@ module _ (c : tie.Then1 Inv-loop μ-loop) where
   u-from-then1 = u-from-round-call (round-from-then1 .before)
 
   abbrev next-round-from-then1 : tie.After-next-round Inv-loop μ-loop
-  next-round-from-then1 = next-round-from-slice-known11 (u-from-then1 .before .before)
+  next-round-from-then1 = next-round-from-u u-from-then1
 
   abbrev at-loop-from-then1 : tie.At-loop Inv-loop μ-loop
-  at-loop-from-then1 = at-loop-from-next-round-call (next-round-from-then1 .before)
+  at-loop-from-then1 = at-loop-from-next-round next-round-from-then1
 
   abbrev start-from-then1 : tie.Start Inv-loop μ-loop
-  start-from-then1 = start-from-loop-holds (at-loop-from-then1 .before)
+  start-from-then1 = start-from-at-loop at-loop-from-then1
 
 loop-holds : tie.Need-loop-holds Inv-loop μ-loop
 loop-holds c =

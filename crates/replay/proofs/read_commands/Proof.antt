@@ -38,29 +38,36 @@ module _ (c : tie.After-start-of Inv-loop μ-loop) where
   abbrev start-from-loop-holds : tie.Start Inv-loop μ-loop
   start-from-loop-holds = c .before .before .before .before .before .before .before .before .before .before .before .before
 
-module _ (c : tie.At-loop Inv-loop μ-loop) where
-  abbrev start-from-at-loop : tie.Start Inv-loop μ-loop
-  start-from-at-loop = c .before .before .before .before .before .before .before .before .before .before .before .before .before
-
 module _ (c : tie.In-loop Inv-loop μ-loop) where
   abbrev start-from-in-loop : tie.Start Inv-loop μ-loop
-  start-from-in-loop = start-from-at-loop (c .before)
+  start-from-in-loop = start-from-loop-holds (c .before .before)
+
+module _ (c : tie.After-command-at Inv-loop μ-loop) where
+  abbrev at-loop-from-command-at : tie.At-loop Inv-loop μ-loop
+  at-loop-from-command-at = c .before .before
 
 module _ (c : tie.After-command-step-arg10 Inv-loop μ-loop) where
   abbrev command-at-from-command-step-call : tie.After-command-at Inv-loop μ-loop
   command-at-from-command-step-call = c .before .before .before .before .before .before .before .before .before .before
 
   abbrev at-loop-from-command-step-call : tie.At-loop Inv-loop μ-loop
-  at-loop-from-command-step-call = command-at-from-command-step-call .before .before
+  at-loop-from-command-step-call = at-loop-from-command-at command-at-from-command-step-call
 
 module _ (c : tie.After-command-step Inv-loop μ-loop) where
   abbrev command-at-from-command-step : tie.After-command-at Inv-loop μ-loop
-  command-at-from-command-step = c .before .before .before .before .before .before .before .before .before .before .before
+  command-at-from-command-step = command-at-from-command-step-call (c .before)
+
+module _ (c : tie.After-slice-known20 Inv-loop μ-loop) where
+  abbrev command-step-from-slice-known20 : tie.After-command-step Inv-loop μ-loop
+  command-step-from-slice-known20 = c .before .before .before .before .before .before .before .before .before .before .before .before
+      .before .before .before .before .before .before .before .before
 
 module _ (c : tie.After-known-told Inv-loop μ-loop) where
+  abbrev slice-known20-from-return : tie.After-slice-known20 Inv-loop μ-loop
+  slice-known20-from-return = c .before .before .before
+
   abbrev command-step-from-return : tie.After-command-step Inv-loop μ-loop
-  command-step-from-return = c .before .before .before .before .before .before .before .before .before .before .before .before .before
-      .before .before .before .before .before .before .before .before .before .before
+  command-step-from-return = command-step-from-slice-known20 slice-known20-from-return
 
   abbrev command-at-from-return : tie.After-command-at Inv-loop μ-loop
   command-at-from-return = command-at-from-command-step command-step-from-return
@@ -72,26 +79,30 @@ module _ (c : tie.After-known-told Inv-loop μ-loop) where
   at-loop-from-return = in-loop-from-return .before
 
 module _ (c : tie.After-known-told2 Inv-loop μ-loop) where
+  abbrev slice-known20-from-return-2 : tie.After-slice-known20 Inv-loop μ-loop
+  slice-known20-from-return-2 = c .before .before .before
+
   abbrev command-step-from-return-2 : tie.After-command-step Inv-loop μ-loop
-  command-step-from-return-2 = c .before .before .before .before .before .before .before .before .before .before .before .before .before
-      .before .before .before .before .before .before .before .before .before .before
+  command-step-from-return-2 = command-step-from-slice-known20 slice-known20-from-return-2
 
   abbrev command-at-from-return-2 : tie.After-command-at Inv-loop μ-loop
   command-at-from-return-2 = command-at-from-command-step command-step-from-return-2
 
   abbrev at-loop-from-return-2 : tie.At-loop Inv-loop μ-loop
-  at-loop-from-return-2 = command-at-from-return-2 .before .before
+  at-loop-from-return-2 = at-loop-from-command-at command-at-from-return-2
 
 module _ (c : tie.After-known-told3 Inv-loop μ-loop) where
+  abbrev slice-known20-from-loop-again : tie.After-slice-known20 Inv-loop μ-loop
+  slice-known20-from-loop-again = c .before .before .before
+
   abbrev command-step-from-loop-again : tie.After-command-step Inv-loop μ-loop
-  command-step-from-loop-again = c .before .before .before .before .before .before .before .before .before .before .before .before .before
-      .before .before .before .before .before .before .before .before .before .before
+  command-step-from-loop-again = command-step-from-slice-known20 slice-known20-from-loop-again
 
   abbrev command-at-from-loop-again : tie.After-command-at Inv-loop μ-loop
   command-at-from-loop-again = command-at-from-command-step command-step-from-loop-again
 
   abbrev at-loop-from-loop-again : tie.At-loop Inv-loop μ-loop
-  at-loop-from-loop-again = command-at-from-loop-again .before .before
+  at-loop-from-loop-again = at-loop-from-command-at command-at-from-loop-again
 
 -- a place in the proof is a machine number
 room : (a : tie.In-loop Inv-loop μ-loop) (k : ℕ) → k ≤ length (start-from-in-loop a .args .proof .now) → k < 2 ^ 64

@@ -22,10 +22,33 @@ returns-2 c = c .refused2 .ensures ∙ sym (long-formula _ _ _ _ _ (not-false _ 
 refused-requires-3 : tie.Need-refused-requires-3
 refused-requires-3 c κs = search needs
 
+-- The ways back, written by ways.py: TO-from-FROM leads from the place FROM of the code to the place TO before it.
+module _ (c : tie.Else2) where
+  abbrev else1-from-else2 : tie.Else1
+  else1-from-else2 = c .before
+
+module _ (c : tie.After-refused3) where
+  abbrev else1-from-return-3 : tie.Else1
+  else1-from-return-3 = else1-from-else2 (c .before .before)
+
+module _ (c : tie.After-check) where
+  abbrev else2-from-return-5 : tie.Else2
+  else2-from-return-5 = c .before .before .before
+
+  abbrev else1-from-return-5 : tie.Else1
+  else1-from-return-5 = else1-from-else2 else2-from-return-5
+
+module _ (c : tie.After-refused4) where
+  abbrev else2-from-return-4 : tie.Else2
+  else2-from-return-4 = c .before .before .before
+
+  abbrev else1-from-return-4 : tie.Else1
+  else1-from-return-4 = else1-from-else2 else2-from-return-4
+
 returns-3 : tie.Need-returns-3
 returns-3 c =
     c .refused3 .ensures
-    ∙ sym (no-proof _ _ _ _ _ (not-false _ (c .before .before .before .if1 .left)) (c .before .before .if2 .left) (not-true _ (c .before .if3 .taken)))
+    ∙ sym (no-proof _ _ _ _ _ (not-false _ (else1-from-return-3 c .if1 .left)) (c .before .before .if2 .left) (not-true _ (c .before .if3 .taken)))
 
 refused-requires-4 : tie.Need-refused-requires-4
 refused-requires-4 c κs = search needs
@@ -33,7 +56,7 @@ refused-requires-4 c κs = search needs
 returns-4 : tie.Need-returns-4
 returns-4 c =
     c .refused4 .ensures
-    ∙ sym (long-proof _ _ _ _ _ (not-false _ (c .before .before .before .before .if1 .left)) (c .before .before .before .if2 .left)
+    ∙ sym (long-proof _ _ _ _ _ (not-false _ (else1-from-return-4 c .if1 .left)) (else2-from-return-4 c .if2 .left)
     (not-false _ (c .before .before .if3 .left)) (c .before .if4 .taken))
 
 check-requires : tie.Need-check-requires
@@ -42,7 +65,7 @@ check-requires c κs = search needs
 returns-5 : tie.Need-returns-5
 returns-5 c =
     c .check .ensures
-    ∙ sym (both _ _ _ _ _ (not-false _ (c .before .before .before .before .if1 .left)) (c .before .before .before .if2 .left)
+    ∙ sym (both _ _ _ _ _ (not-false _ (else1-from-return-5 c .if1 .left)) (else2-from-return-5 c .if2 .left)
     (not-false _ (c .before .before .if3 .left)) (c .before .if4 .left))
 
 pub line-on-spec : {M : Type 1} → statement M

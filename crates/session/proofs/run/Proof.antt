@@ -37,17 +37,13 @@ module _ (c : tie.After-run-header-arg10) where
   abbrev start-from-run-header-call : tie.Start
   start-from-run-header-call = start-from-empty empty-from-run-header-call
 
-module _ (c : tie.After-run-header) where
-  abbrev clear-bytes-from-run-header : tie.After-clear-bytes
-  clear-bytes-from-run-header = c .before .before .before .before .before .before .before .before .before .before .before .before .before
-
 module _ (c : tie.After-slice-known28) where
   abbrev run-header-from-return : tie.After-run-header
   run-header-from-return = c .before .before .before .before .before .before .before .before .before .before .before .before .before .before
       .before .before .before .before .before .before .before .before .before .before
 
   abbrev clear-bytes-from-return : tie.After-clear-bytes
-  clear-bytes-from-return = clear-bytes-from-run-header run-header-from-return
+  clear-bytes-from-return = clear-bytes-from-run-header-call (run-header-from-return .before)
 
   abbrev empty-from-return : tie.After-empty
   empty-from-return = empty-from-clear-bytes clear-bytes-from-return

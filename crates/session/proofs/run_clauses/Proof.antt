@@ -19,18 +19,15 @@ module _ (c : tie.After-read-clauses-arg6) where
 
 module _ (c : tie.After-read-clauses) where
   abbrev start-from-read-clauses : tie.Start
-  start-from-read-clauses = c .before .before .before .before .before .before .before .before .before .before .before .before .before
-      .before .before .before .before .before .before
+  start-from-read-clauses = start-from-read-clauses-call (c .before)
+
+module _ (c : tie.After-slice-known16) where
+  abbrev read-clauses-from-slice-known16 : tie.After-read-clauses
+  read-clauses-from-slice-known16 = c .before .before .before .before .before .before .before .before .before .before .before .before
 
 module _ (c : tie.After-count) where
   abbrev read-clauses-from-count : tie.After-read-clauses
-  read-clauses-from-count = c .before .before .before .before .before .before .before .before .before .before .before .before .before
-      .before
-
-module _ (c : tie.After-number) where
-  abbrev read-clauses-from-number : tie.After-read-clauses
-  read-clauses-from-number = c .before .before .before .before .before .before .before .before .before .before .before .before .before
-      .before
+  read-clauses-from-count = read-clauses-from-slice-known16 (c .before .before)
 
 module _ (c : tie.After-empty) where
   abbrev number-from-empty : tie.After-number
@@ -46,10 +43,6 @@ module _ (c : tie.After-run-proof-arg10) where
   abbrev start-from-run-proof-call : tie.Start
   start-from-run-proof-call = start-from-read-clauses read-clauses-from-run-proof-call
 
-module _ (c : tie.After-run-proof) where
-  abbrev count-from-run-proof : tie.After-count
-  count-from-run-proof = c .before .before .before .before .before .before .before .before .before .before .before .before
-
 module _ (c : tie.After-slice-known22) where
   abbrev empty-from-return : tie.After-empty
   empty-from-return = c .before .before .before .before .before .before .before .before .before .before .before .before
@@ -58,7 +51,7 @@ module _ (c : tie.After-slice-known22) where
   number-from-return = number-from-empty empty-from-return
 
   abbrev read-clauses-from-return : tie.After-read-clauses
-  read-clauses-from-return = read-clauses-from-number number-from-return
+  read-clauses-from-return = read-clauses-from-slice-known16 (number-from-return .before .before)
 
   abbrev start-from-return : tie.Start
   start-from-return = start-from-read-clauses read-clauses-from-return
@@ -69,7 +62,7 @@ module _ (c : tie.After-slice-known32) where
       .before .before .before .before .before .before .before
 
   abbrev count-from-return-2 : tie.After-count
-  count-from-return-2 = count-from-run-proof run-proof-from-return-2
+  count-from-return-2 = count-from-run-proof-call (run-proof-from-return-2 .before)
 
   abbrev read-clauses-from-return-2 : tie.After-read-clauses
   read-clauses-from-return-2 = read-clauses-from-count count-from-return-2

@@ -41,17 +41,13 @@ module _ (c : tie.After-run-clauses-arg10) where
   abbrev start-from-run-clauses-call : tie.Start
   start-from-run-clauses-call = start-from-read-header read-header-from-run-clauses-call
 
-module _ (c : tie.After-run-clauses) where
-  abbrev variables-from-run-clauses : tie.After-variables
-  variables-from-run-clauses = c .before .before .before .before .before .before .before .before .before .before .before .before
-
 module _ (c : tie.After-slice-known20) where
   abbrev run-clauses-from-return-2 : tie.After-run-clauses
   run-clauses-from-return-2 = c .before .before .before .before .before .before .before .before .before .before .before .before .before
       .before .before .before .before .before .before .before
 
   abbrev variables-from-return-2 : tie.After-variables
-  variables-from-return-2 = variables-from-run-clauses run-clauses-from-return-2
+  variables-from-return-2 = variables-from-run-clauses-call (run-clauses-from-return-2 .before)
 
   abbrev read-header-from-return-2 : tie.After-read-header
   read-header-from-return-2 = variables-from-return-2 .before .before

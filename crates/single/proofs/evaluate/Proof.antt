@@ -24,45 +24,57 @@ module _ (c : tie.After-size-fits) where
   abbrev start-from-size-fits : tie.Start
   start-from-size-fits = c .before .before .before .before .before .before
 
+module _ (c : tie.Else1) where
+  abbrev size-fits-from-else1 : tie.After-size-fits
+  size-fits-from-else1 = c .before
+
+module _ (c : tie.After-order-fits) where
+  abbrev else1-from-order-fits : tie.Else1
+  else1-from-order-fits = c .before
+
+module _ (c : tie.Else2) where
+  abbrev order-fits-from-else2 : tie.After-order-fits
+  order-fits-from-else2 = c .before
+
 module _ (c : tie.Then2) where
   abbrev size-fits-from-then2 : tie.After-size-fits
-  size-fits-from-then2 = c .before .before .before
+  size-fits-from-then2 = size-fits-from-else1 (else1-from-order-fits (c .before))
 
 module _ (c : tie.Else3) where
   abbrev order-fits-from-else3 : tie.After-order-fits
-  order-fits-from-else3 = c .before .before .before
+  order-fits-from-else3 = order-fits-from-else2 (c .before .before)
 
   abbrev else1-from-else3 : tie.Else1
-  else1-from-else3 = order-fits-from-else3 .before
+  else1-from-else3 = else1-from-order-fits order-fits-from-else3
 
   abbrev size-fits-from-else3 : tie.After-size-fits
-  size-fits-from-else3 = else1-from-else3 .before
+  size-fits-from-else3 = size-fits-from-else1 else1-from-else3
 
   abbrev start-from-else3 : tie.Start
   start-from-else3 = start-from-size-fits size-fits-from-else3
 
 module _ (c : tie.Then3) where
   abbrev order-fits-from-then3 : tie.After-order-fits
-  order-fits-from-then3 = c .before .before .before
+  order-fits-from-then3 = order-fits-from-else2 (c .before .before)
 
   abbrev else1-from-then3 : tie.Else1
-  else1-from-then3 = order-fits-from-then3 .before
+  else1-from-then3 = else1-from-order-fits order-fits-from-then3
 
   abbrev size-fits-from-then3 : tie.After-size-fits
-  size-fits-from-then3 = else1-from-then3 .before
+  size-fits-from-then3 = size-fits-from-else1 else1-from-then3
 
 module _ (c : tie.After-value-of) where
   abbrev else2-from-return-4 : tie.Else2
   else2-from-return-4 = c .before .before .before
 
   abbrev order-fits-from-return-4 : tie.After-order-fits
-  order-fits-from-return-4 = else2-from-return-4 .before
+  order-fits-from-return-4 = order-fits-from-else2 else2-from-return-4
 
   abbrev else1-from-return-4 : tie.Else1
-  else1-from-return-4 = order-fits-from-return-4 .before
+  else1-from-return-4 = else1-from-order-fits order-fits-from-return-4
 
   abbrev size-fits-from-return-4 : tie.After-size-fits
-  size-fits-from-return-4 = else1-from-return-4 .before
+  size-fits-from-return-4 = size-fits-from-else1 else1-from-return-4
 
   abbrev start-from-return-4 : tie.Start
   start-from-return-4 = start-from-size-fits size-fits-from-return-4

@@ -16,41 +16,51 @@ enum-known-r : tie.Need-enum-known-r
 enum-known-r c = search needs
 
 -- The ways back, written by ways.py: TO-from-FROM leads from the place FROM of the code to the place TO before it.
+module _ (c : tie.After-slice-known10) where
+  abbrev start-from-slice-known10 : tie.Start
+  start-from-slice-known10 = c .before .before .before .before .before .before .before .before .before .before
+
 module _ (c : tie.After-enum-told2) where
   abbrev start-from-return-7 : tie.Start
-  start-from-return-7 = c .before .before .before .before .before .before .before .before .before .before .before .before
+  start-from-return-7 = start-from-slice-known10 (c .before .before)
 
 module _ (c : tie.After-enum-told3) where
   abbrev start-from-return-8 : tie.Start
-  start-from-return-8 = c .before .before .before .before .before .before .before .before .before .before .before .before
+  start-from-return-8 = start-from-slice-known10 (c .before .before)
 
 module _ (c : tie.After-enum-told4) where
   abbrev start-from-return-9 : tie.Start
-  start-from-return-9 = c .before .before .before .before .before .before .before .before .before .before .before .before
+  start-from-return-9 = start-from-slice-known10 (c .before .before)
 
 module _ (c : tie.After-r) where
   abbrev start-from-r : tie.Start
-  start-from-r = c .before .before .before .before .before .before .before .before .before .before .before .before
+  start-from-r = start-from-slice-known10 (c .before .before)
 
 module _ (c : tie.After-r3) where
   abbrev start-from-r3 : tie.Start
-  start-from-r3 = c .before .before .before .before .before .before .before .before .before .before .before .before
+  start-from-r3 = start-from-slice-known10 (c .before .before)
 
 module _ (c : tie.After-r4) where
   abbrev start-from-r4 : tie.Start
-  start-from-r4 = c .before .before .before .before .before .before .before .before .before .before .before .before
+  start-from-r4 = start-from-slice-known10 (c .before .before)
 
 module _ (c : tie.After-r5) where
   abbrev start-from-r5 : tie.Start
-  start-from-r5 = c .before .before .before .before .before .before .before .before .before .before .before .before
+  start-from-r5 = start-from-slice-known10 (c .before .before)
 
 module _ (c : tie.After-end-step) where
+  abbrev slice-known10-from-return-6 : tie.After-slice-known10
+  slice-known10-from-return-6 = c .before .before .before
+
   abbrev start-from-return-6 : tie.Start
-  start-from-return-6 = c .before .before .before .before .before .before .before .before .before .before .before .before .before
+  start-from-return-6 = start-from-slice-known10 slice-known10-from-return-6
 
 module _ (c : tie.After-known-told2) where
+  abbrev slice-known10-from-witness-step-call : tie.After-slice-known10
+  slice-known10-from-witness-step-call = c .before .before .before
+
   abbrev start-from-witness-step-call : tie.Start
-  start-from-witness-step-call = c .before .before .before .before .before .before .before .before .before .before .before .before .before
+  start-from-witness-step-call = start-from-slice-known10 slice-known10-from-witness-step-call
 
 module _ (c : tie.After-strike-step-arg) where
   abbrev start-from-strike-step-call : tie.Start
@@ -58,7 +68,7 @@ module _ (c : tie.After-strike-step-arg) where
 
 module _ (c : tie.After-witness-step) where
   abbrev start-from-return-2 : tie.Start
-  start-from-return-2 = c .before .before .before .before .before .before .before .before .before .before .before .before .before .before
+  start-from-return-2 = start-from-witness-step-call (c .before)
 
 module _ (c : tie.After-strike-step) where
   abbrev r4-from-strike-step : tie.After-r4
@@ -88,14 +98,6 @@ module _ (c : tie.After-set-step-arg6) where
   abbrev start-from-set-step-call : tie.Start
   start-from-set-step-call = start-from-r5 r5-from-set-step-call
 
-module _ (c : tie.After-node-step) where
-  abbrev r-from-node-step : tie.After-r
-  r-from-node-step = c .before .before .before .before .before .before .before .before
-
-module _ (c : tie.After-set-step) where
-  abbrev r5-from-set-step : tie.After-r5
-  r5-from-set-step = c .before .before .before .before .before .before .before .before
-
 module _ (c : tie.After-line-step-arg10) where
   abbrev r3-from-line-step-call : tie.After-r3
   r3-from-line-step-call = c .before .before .before .before .before .before .before .before .before .before .before
@@ -103,16 +105,12 @@ module _ (c : tie.After-line-step-arg10) where
   abbrev start-from-line-step-call : tie.Start
   start-from-line-step-call = start-from-r3 r3-from-line-step-call
 
-module _ (c : tie.After-line-step) where
-  abbrev r3-from-line-step : tie.After-r3
-  r3-from-line-step = c .before .before .before .before .before .before .before .before .before .before .before .before
-
 module _ (c : tie.After-slice-known16) where
   abbrev node-step-from-return : tie.After-node-step
   node-step-from-return = c .before .before .before .before .before .before .before .before .before .before .before .before
 
   abbrev r-from-return : tie.After-r
-  r-from-return = r-from-node-step node-step-from-return
+  r-from-return = r-from-node-step-call (node-step-from-return .before)
 
   abbrev start-from-return : tie.Start
   start-from-return = start-from-r r-from-return
@@ -122,7 +120,7 @@ module _ (c : tie.After-slice-known32) where
   set-step-from-return-5 = c .before .before .before .before .before .before .before .before .before .before .before .before
 
   abbrev r5-from-return-5 : tie.After-r5
-  r5-from-return-5 = r5-from-set-step set-step-from-return-5
+  r5-from-return-5 = r5-from-set-step-call (set-step-from-return-5 .before)
 
   abbrev start-from-return-5 : tie.Start
   start-from-return-5 = start-from-r5 r5-from-return-5
@@ -133,7 +131,7 @@ module _ (c : tie.After-slice-known25) where
       .before .before .before .before .before
 
   abbrev r3-from-return-3 : tie.After-r3
-  r3-from-return-3 = r3-from-line-step line-step-from-return-3
+  r3-from-return-3 = r3-from-line-step-call (line-step-from-return-3 .before)
 
   abbrev start-from-return-3 : tie.Start
   start-from-return-3 = start-from-r3 r3-from-return-3

@@ -15,7 +15,7 @@ use borrow.Fn.PlainCycle.{Measures, is, falls, and}
 use Rattle.supports.proofs.support_from.Reads as support-from
 use Rattle.supports.proofs.support_from.Kinds as support-from-kinds
 use Rattle.supports.proofs.+support_from.Lts-support_from as support-from-lts
-use Rattle.supports.proofs.with_variable.Reads as with-variable-reads
+use Rattle.words.proofs.with_variable.Reads as with-variable-reads
 use Rattle.supports.proofs.+support_from.{statement}
 use Rattle.supports.proofs.+support_from.Tie.{close}
 

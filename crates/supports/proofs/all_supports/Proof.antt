@@ -27,7 +27,7 @@ module _ (c : tie.After-clear-cells-arg Inv-loop μ-loop) where
 
 module _ (c : tie.After-clear-cells Inv-loop μ-loop) where
   abbrev start-from-clear-cells : tie.Start Inv-loop μ-loop
-  start-from-clear-cells = c .before .before .before .before .before .before
+  start-from-clear-cells = start-from-clear-cells-call (c .before)
 
 module _ (c : tie.After-slice-known2 Inv-loop μ-loop) where
   abbrev start-from-loop-holds : tie.Start Inv-loop μ-loop

@@ -31,9 +31,13 @@ module _ (c : tie.After-shared-slice-known6 Inv-loop μ-loop) where
   abbrev start-from-loop-holds : tie.Start Inv-loop μ-loop
   start-from-loop-holds = c .before .before .before .before .before .before .before
 
+module _ (c : tie.At-loop Inv-loop μ-loop) where
+  abbrev start-from-at-loop : tie.Start Inv-loop μ-loop
+  start-from-at-loop = start-from-loop-holds (c .before)
+
 module _ (c : tie.After-loop Inv-loop μ-loop) where
   abbrev start-from-return-2 : tie.Start Inv-loop μ-loop
-  start-from-return-2 = start-from-loop-holds (c .before .before)
+  start-from-return-2 = start-from-at-loop (c .before)
 
 module _ (c : tie.After-shared-slice-known10 Inv-loop μ-loop) where
   abbrev in-loop-from-loop-again : tie.In-loop Inv-loop μ-loop
@@ -43,7 +47,7 @@ module _ (c : tie.After-shared-slice-known10 Inv-loop μ-loop) where
   at-loop-from-loop-again = in-loop-from-loop-again .before
 
   abbrev start-from-loop-again : tie.Start Inv-loop μ-loop
-  start-from-loop-again = start-from-loop-holds (at-loop-from-loop-again .before)
+  start-from-loop-again = start-from-at-loop at-loop-from-loop-again
 
 module _ (c : tie.Then3 Inv-loop μ-loop) where
   abbrev in-loop-from-then3 : tie.In-loop Inv-loop μ-loop
@@ -53,7 +57,7 @@ module _ (c : tie.Then3 Inv-loop μ-loop) where
   at-loop-from-then3 = in-loop-from-then3 .before
 
   abbrev start-from-then3 : tie.Start Inv-loop μ-loop
-  start-from-then3 = start-from-loop-holds (at-loop-from-then3 .before)
+  start-from-then3 = start-from-at-loop at-loop-from-then3
 
 loop-holds : tie.Need-loop-holds Inv-loop μ-loop
 loop-holds c =

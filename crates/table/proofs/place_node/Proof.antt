@@ -11,6 +11,10 @@ module _ (c : tie.After-struct-known2) where
   abbrev start-from-struct-known2 : tie.Start
   start-from-struct-known2 = c .before .before .before .before .before .before .before
 
+module _ (c : tie.Else1) where
+  abbrev start-from-else1 : tie.Start
+  start-from-else1 = start-from-struct-known2 (c .before)
+
 module _ (c : tie.Then1) where
   abbrev start-from-then1 : tie.Start
   start-from-then1 = start-from-struct-known2 (c .before)
@@ -20,27 +24,35 @@ module _ (c : tie.After-lookup-arg5) where
   else1-from-lookup-call = c .before .before .before .before .before
 
   abbrev start-from-lookup-call : tie.Start
-  start-from-lookup-call = start-from-struct-known2 (else1-from-lookup-call .before)
+  start-from-lookup-call = start-from-else1 else1-from-lookup-call
+
+module _ (c : tie.After-lookup) where
+  abbrev else1-from-lookup : tie.Else1
+  else1-from-lookup = else1-from-lookup-call (c .before)
+
+module _ (c : tie.After-enum-told) where
+  abbrev lookup-from-enum-told : tie.After-lookup
+  lookup-from-enum-told = c .before .before
 
 module _ (c : tie.After-known-told) where
   abbrev lookup-from-return-2 : tie.After-lookup
   lookup-from-return-2 = c .before .before .before
 
   abbrev else1-from-return-2 : tie.Else1
-  else1-from-return-2 = else1-from-lookup-call (lookup-from-return-2 .before)
+  else1-from-return-2 = else1-from-lookup lookup-from-return-2
 
   abbrev start-from-return-2 : tie.Start
-  start-from-return-2 = start-from-struct-known2 (else1-from-return-2 .before)
+  start-from-return-2 = start-from-else1 else1-from-return-2
 
 module _ (c : tie.Else2) where
   abbrev lookup-from-else2 : tie.After-lookup
-  lookup-from-else2 = c .before .before .before
+  lookup-from-else2 = lookup-from-enum-told (c .before)
 
   abbrev else1-from-else2 : tie.Else1
-  else1-from-else2 = else1-from-lookup-call (lookup-from-else2 .before)
+  else1-from-else2 = else1-from-lookup lookup-from-else2
 
   abbrev start-from-else2 : tie.Start
-  start-from-else2 = start-from-struct-known2 (else1-from-else2 .before)
+  start-from-else2 = start-from-else1 else1-from-else2
 
 module _ (c : tie.After-append) where
   abbrev then2-from-append : tie.Then2
@@ -57,13 +69,13 @@ module _ (c : tie.After-slice-known10) where
   enum-told-from-return-3 = then2-from-return-3 .before
 
   abbrev lookup-from-return-3 : tie.After-lookup
-  lookup-from-return-3 = enum-told-from-return-3 .before .before
+  lookup-from-return-3 = lookup-from-enum-told enum-told-from-return-3
 
   abbrev else1-from-return-3 : tie.Else1
-  else1-from-return-3 = else1-from-lookup-call (lookup-from-return-3 .before)
+  else1-from-return-3 = else1-from-lookup lookup-from-return-3
 
   abbrev start-from-return-3 : tie.Start
-  start-from-return-3 = start-from-struct-known2 (else1-from-return-3 .before)
+  start-from-return-3 = start-from-else1 else1-from-return-3
 
 returns : tie.Need-returns
 returns c =

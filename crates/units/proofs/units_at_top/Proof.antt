@@ -35,11 +35,11 @@ module _ (c : tie.Joined3) where
 
 module _ (c : tie.After-literal-where) where
   abbrev else2-from-literal-where-call-2 : tie.Else2
-  else2-from-literal-where-call-2 = c .before .before .before .before .before .before
+  else2-from-literal-where-call-2 = else2-from-literal-where-call (c .before)
 
 module _ (c : tie.After-literal-where2) where
   abbrev else2-from-return-3 : tie.Else2
-  else2-from-return-3 = c .before .before .before .before .before .before .before
+  else2-from-return-3 = else2-from-literal-where-call (c .before .before)
 
 -- past the two constants
 module _ (e : tie.Else2) where

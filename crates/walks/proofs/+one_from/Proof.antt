@@ -46,13 +46,13 @@ module _ {t : ℕ} (s : one-from-lts.Start (one-from-callees t) (one-from-at t) 
   nodes = nodesIn (s .args .vars .now) (s .args .lows .now) (s .args .highs .now) (s .args .count)
 
   abbrev constant : ℕ → Bool
-  constant = oneAt nodes (s .args .positive) (s .args .negative)
+  constant = oneAt nodes (s .args .literals .positive) (s .args .literals .negative)
 
   abbrev Right : List ℕ → Type 0
-  Right memo = OneMemo memo nodes (s .args .positive) (s .args .negative)
+  Right memo = OneMemo memo nodes (s .args .literals .positive) (s .args .literals .negative)
 
   abbrev sides : SidesUnder
-  sides = sidesUnder (s .args .vars .now) (s .args .lows .now) (s .args .highs .now) (s .args .f .0) (s .args .positive) (s .args .negative)
+  sides = sidesUnder (s .args .vars .now) (s .args .lows .now) (s .args .highs .now) (s .args .f .0) (s .args .literals .positive) (s .args .literals .negative)
 
   readable : Readable (s .args .vars .now) (s .args .lows .now) (s .args .highs .now) (s .args .count)
   readable = s .pre .1 .0 .0
@@ -193,10 +193,10 @@ module _ {t : ℕ} (e : one-from-lts.Else2 (one-from-callees t) (one-from-at t) 
   two = omega (arith, e .before .before .if1 .left, e .if2 .left)
 
   less : (sides start .low .0 < start .args .f .0) × (sides start .high .0 < start .args .f .0)
-  less = side-less (start .args .vars .now) (start .args .lows .now) (start .args .highs .now) (start .args .count) (start .args .positive) (start .args .negative) (readable start) (start .args .f .0) two (inside start)
+  less = side-less (start .args .vars .now) (start .args .lows .now) (start .args .highs .now) (start .args .count) (start .args .literals .positive) (start .args .literals .negative) (readable start) (start .args .f .0) two (inside start)
 
   from-sides : constant start (start .args .f .0) ≡ (constant start (sides start .low .0) && constant start (sides start .high .0))
-  from-sides = constant-node (start .args .vars .now) (start .args .lows .now) (start .args .highs .now) (start .args .count) (start .args .positive) (start .args .negative) (readable start) (start .args .f .0) two (inside start)
+  from-sides = constant-node (start .args .vars .now) (start .args .lows .now) (start .args .highs .now) (start .args .count) (start .args .literals .positive) (start .args .literals .negative) (readable start) (start .args .f .0) two (inside start)
 
 -- where the sides are known
 module _ {t : ℕ} (a : one-from-lts.After-sides-under (one-from-callees t) (one-from-at t) one-from.Post) where
@@ -217,11 +217,11 @@ module _ {t : ℕ} (a : one-from-lts.After-sides-under (one-from-callees t) (one
 
 one-from-returns : (t : ℕ) → one-from-lts.Need-returns (one-from-callees t) (one-from-at t) one-from.Post
 one-from-returns t c =
-    (sym (ap (constant (start-from-then1 c)) (c .if1 .taken) ∙ constant-zero (nodes (start-from-then1 c)) (start-from-then1 c .args .positive) (start-from-then1 c .args .negative)), right (start-from-then1 c))
+    (sym (ap (constant (start-from-then1 c)) (c .if1 .taken) ∙ constant-zero (nodes (start-from-then1 c)) (start-from-then1 c .args .literals .positive) (start-from-then1 c .args .literals .negative)), right (start-from-then1 c))
 
 one-from-returns-2 : (t : ℕ) → one-from-lts.Need-returns-2 (one-from-callees t) (one-from-at t) one-from.Post
 one-from-returns-2 t c =
-    (sym (ap (constant (start-from-then2 c)) (c .if2 .taken) ∙ constant-one (nodes (start-from-then2 c)) (start-from-then2 c .args .positive) (start-from-then2 c .args .negative)), right (start-from-then2 c))
+    (sym (ap (constant (start-from-then2 c)) (c .if2 .taken) ∙ constant-one (nodes (start-from-then2 c)) (start-from-then2 c .args .literals .positive) (start-from-then2 c .args .literals .negative)), right (start-from-then2 c))
 
 one-from-cast-i : (t : ℕ) → one-from-lts.Need-cast-i (one-from-callees t) (one-from-at t) one-from.Post
 one-from-cast-i t c = search needs
@@ -238,7 +238,7 @@ one-from-cast-if3 t c = search needs
 
 one-from-returns-3 : (t : ℕ) → one-from-lts.Need-returns-3 (one-from-callees t) (one-from-at t) one-from.Post
 one-from-returns-3 t c =
-    (sym (constant-known (nodes (start-from-then3 c)) (start-from-then3 c .args .positive) (start-from-then3 c .args .negative) (start-from-then3 c .args .memo .now) _ (in-nodes (start-from-then3 c)) (right (start-from-then3 c)) (c .if3 .taken) (two (else2-from-then3 c))), right (start-from-then3 c))
+    (sym (constant-known (nodes (start-from-then3 c)) (start-from-then3 c .args .literals .positive) (start-from-then3 c .args .literals .negative) (start-from-then3 c .args .memo .now) _ (in-nodes (start-from-then3 c)) (right (start-from-then3 c)) (c .if3 .taken) (two (else2-from-then3 c))), right (start-from-then3 c))
 
 one-from-sides-under-requires : (t : ℕ) → one-from-lts.Need-sides-under-requires (one-from-callees t) (one-from-at t) one-from.Post
 one-from-sides-under-requires t c κs =
@@ -298,7 +298,7 @@ one-from-returns-6 t c =
     let is : constant s (s .args .f .0) ≡ true = from-both a
     ∙ ap₂ _&&_ (sym (k₁ .ensures .0) ∙ not-false _ (else4-from-return-6 c .if4 .left)) (sym (k₂ .ensures .0) ∙ not-false _ (c .before .if5 .left)) in (
       sym is,
-      constant-stored (nodes s) (s .args .positive) (s .args .negative) (k₂ .last .1 .1 .1 .0) (s .args .f .0)
+      constant-stored (nodes s) (s .args .literals .positive) (s .args .literals .negative) (k₂ .last .1 .1 .1 .0) (s .args .f .0)
           (omega (arith, cell-inside s, k₁ .kept .1 .1 .1 .0, k₂ .kept .1 .1 .1 .0)) (k₂ .ensures .1) is,
     )
 

@@ -5,12 +5,9 @@ use Rattle.walks.specs.Constant.{sidesUnder}
 use Rattle.walks.proofs.Here.{Here, here}
 use Rattle.walks.proofs.sides_under.Statement.{statement}
 use Rattle.walks.proofs.sides_under.Tie as tie
-use Rattle.walks.proofs.sides_under.Reads as reads
-use Rattle.walks.proofs.sides_under.Lts as lts
-use Rattle.walks.proofs.in_word.Reads as in-word-reads
 
 -- what good order says of the node
-module _ (s : lts.Start (in-word-reads.Asked, in-word-reads.Learnt) reads.Pre reads.Post) where
+module _ (s : tie.Start) where
   at-node : Here (s .args .vars .now) (s .args .lows .now) (s .args .highs .now) (s .args .count) (s .args .f .0)
   at-node = here _ _ _ _ (s .pre .0) _ (s .pre .1) (s .pre .2)
 
@@ -20,17 +17,17 @@ cast-i c = search needs
 shared-slice-read-v : tie.Need-shared-slice-read-v
 shared-slice-read-v c = search needs
 
-mul-t14 : tie.Need-mul-t14
-mul-t14 c = search needs
+mul-t13 : tie.Need-mul-t13
+mul-t13 c = search needs
 
-shared-slice-read-t16 : tie.Need-shared-slice-read-t16
-shared-slice-read-t16 c = search needs
+shared-slice-read-t15 : tie.Need-shared-slice-read-t15
+shared-slice-read-t15 c = search needs
 
-mul-t14-2 : tie.Need-mul-t14-2
-mul-t14-2 c = search needs
+mul-t13-2 : tie.Need-mul-t13-2
+mul-t13-2 c = search needs
 
-shared-slice-read-t16-2 : tie.Need-shared-slice-read-t16-2
-shared-slice-read-t16-2 c = search needs
+shared-slice-read-t15-2 : tie.Need-shared-slice-read-t15-2
+shared-slice-read-t15-2 c = search needs
 
 -- The ways back, written by ways.py: TO-from-FROM leads from the place FROM of the code to the place TO before it.
 module _ (c : tie.After-shared-slice-known6) where
@@ -69,10 +66,10 @@ sides-under-spec =
     (tie.spec
     cast-i
     shared-slice-read-v
-    mul-t14
-    shared-slice-read-t16
-    mul-t14-2
-    shared-slice-read-t16-2
+    mul-t13
+    shared-slice-read-t15
+    mul-t13-2
+    shared-slice-read-t15-2
     in-word-requires
     returns
     in-word-requires-2

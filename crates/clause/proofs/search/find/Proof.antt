@@ -28,11 +28,8 @@ module _ (c : tie.After-shared Inv-loop μ-loop) where
   start-from-shared = c .before .before .before .before .before .before
 
 module _ (c : tie.Else1 Inv-loop μ-loop) where
-  abbrev shared-from-else1 : tie.After-shared Inv-loop μ-loop
-  shared-from-else1 = c .before
-
   abbrev start-from-else1 : tie.Start Inv-loop μ-loop
-  start-from-else1 = start-from-shared shared-from-else1
+  start-from-else1 = start-from-shared (c .before)
 
 module _ (c : tie.Then1 Inv-loop μ-loop) where
   abbrev shared-from-then1 : tie.After-shared Inv-loop μ-loop
@@ -41,47 +38,32 @@ module _ (c : tie.Then1 Inv-loop μ-loop) where
   abbrev start-from-then1 : tie.Start Inv-loop μ-loop
   start-from-then1 = start-from-shared shared-from-then1
 
-module _ (c : tie.At-loop Inv-loop μ-loop) where
-  abbrev else1-from-at-loop : tie.Else1 Inv-loop μ-loop
-  else1-from-at-loop = c .before
-
 module _ (c : tie.After-loop Inv-loop μ-loop) where
   abbrev at-loop-from-return-3 : tie.At-loop Inv-loop μ-loop
   at-loop-from-return-3 = c .before
 
   abbrev start-from-return-3 : tie.Start Inv-loop μ-loop
-  start-from-return-3 = start-from-else1 (else1-from-at-loop at-loop-from-return-3)
-
-module _ (c : tie.In-loop Inv-loop μ-loop) where
-  abbrev at-loop-from-in-loop : tie.At-loop Inv-loop μ-loop
-  at-loop-from-in-loop = c .before
-
-module _ (c : tie.After-side Inv-loop μ-loop) where
-  abbrev in-loop-from-side : tie.In-loop Inv-loop μ-loop
-  in-loop-from-side = c .before
+  start-from-return-3 = start-from-else1 (at-loop-from-return-3 .before)
 
 module _ (c : tie.After-side2 Inv-loop μ-loop) where
-  abbrev side-from-side2 : tie.After-side Inv-loop μ-loop
-  side-from-side2 = c .before
-
   abbrev start-from-over-call : tie.Start Inv-loop μ-loop
-  start-from-over-call = start-from-else1 (else1-from-at-loop (at-loop-from-in-loop (in-loop-from-side side-from-side2)))
+  start-from-over-call = start-from-else1 (c .before .before .before .before)
 
 module _ (c : tie.After-over Inv-loop μ-loop) where
   abbrev side2-from-over : tie.After-side2 Inv-loop μ-loop
   side2-from-over = c .before
 
   abbrev side-from-over : tie.After-side Inv-loop μ-loop
-  side-from-over = side-from-side2 side2-from-over
+  side-from-over = side2-from-over .before
 
   abbrev in-loop-from-over : tie.In-loop Inv-loop μ-loop
-  in-loop-from-over = in-loop-from-side side-from-over
+  in-loop-from-over = side-from-over .before
 
   abbrev at-loop-from-over : tie.At-loop Inv-loop μ-loop
-  at-loop-from-over = at-loop-from-in-loop in-loop-from-over
+  at-loop-from-over = in-loop-from-over .before
 
   abbrev else1-from-over : tie.Else1 Inv-loop μ-loop
-  else1-from-over = else1-from-at-loop at-loop-from-over
+  else1-from-over = at-loop-from-over .before
 
   abbrev start-from-over : tie.Start Inv-loop μ-loop
   start-from-over = start-from-else1 else1-from-over
@@ -90,16 +72,12 @@ module _ (c : tie.After-enum-told Inv-loop μ-loop) where
   abbrev over-from-return-2 : tie.After-over Inv-loop μ-loop
   over-from-return-2 = c .before .before
 
-module _ (c : tie.After-k Inv-loop μ-loop) where
-  abbrev over-from-k : tie.After-over Inv-loop μ-loop
-  over-from-k = c .before .before
-
 module _ (c : tie.After-known-told Inv-loop μ-loop) where
   abbrev k-from-loop-again : tie.After-k Inv-loop μ-loop
   k-from-loop-again = c .before
 
   abbrev over-from-loop-again : tie.After-over Inv-loop μ-loop
-  over-from-loop-again = over-from-k k-from-loop-again
+  over-from-loop-again = k-from-loop-again .before .before
 
 -- the turn of one variable, once its node is looked for
 module _ (a : tie.After-over Inv-loop μ-loop) where

@@ -21,25 +21,37 @@ abbrev μ-loop : tie.MeasureT-loop
 μ-loop s first from variables literals₀ at₀ literals at = length s - at
 
 -- The ways back, written by ways.py: TO-from-FROM leads from the place FROM of the code to the place TO before it.
+module _ (c : tie.In-loop Inv-loop μ-loop) where
+  abbrev at-loop-from-in-loop : tie.At-loop Inv-loop μ-loop
+  at-loop-from-in-loop = c .before
+
+module _ (c : tie.After-past-class Inv-loop μ-loop) where
+  abbrev in-loop-from-past-class : tie.In-loop Inv-loop μ-loop
+  in-loop-from-past-class = c .before
+
+module _ (c : tie.After-read-token Inv-loop μ-loop) where
+  abbrev past-class-from-read-token : tie.After-past-class Inv-loop μ-loop
+  past-class-from-read-token = c .before
+
 module _ (c : tie.After-enum-told Inv-loop μ-loop) where
   abbrev past-class-from-return : tie.After-past-class Inv-loop μ-loop
-  past-class-from-return = c .before .before .before
+  past-class-from-return = past-class-from-read-token (c .before .before)
 
   abbrev in-loop-from-return : tie.In-loop Inv-loop μ-loop
-  in-loop-from-return = past-class-from-return .before
+  in-loop-from-return = in-loop-from-past-class past-class-from-return
 
   abbrev at-loop-from-return : tie.At-loop Inv-loop μ-loop
-  at-loop-from-return = in-loop-from-return .before
+  at-loop-from-return = at-loop-from-in-loop in-loop-from-return
 
 module _ (c : tie.After-variable Inv-loop μ-loop) where
   abbrev past-class-from-variable : tie.After-past-class Inv-loop μ-loop
-  past-class-from-variable = c .before .before .before
+  past-class-from-variable = past-class-from-read-token (c .before .before)
 
   abbrev in-loop-from-variable : tie.In-loop Inv-loop μ-loop
-  in-loop-from-variable = past-class-from-variable .before
+  in-loop-from-variable = in-loop-from-past-class past-class-from-variable
 
   abbrev at-loop-from-variable : tie.At-loop Inv-loop μ-loop
-  at-loop-from-variable = in-loop-from-variable .before
+  at-loop-from-variable = at-loop-from-in-loop in-loop-from-variable
 
   abbrev start-from-variable : tie.Start Inv-loop μ-loop
   start-from-variable = at-loop-from-variable .before .before
@@ -49,13 +61,13 @@ module _ (c : tie.After-known-told Inv-loop μ-loop) where
   read-token-from-return-2 = c .before .before .before
 
   abbrev past-class-from-return-2 : tie.After-past-class Inv-loop μ-loop
-  past-class-from-return-2 = read-token-from-return-2 .before
+  past-class-from-return-2 = past-class-from-read-token read-token-from-return-2
 
   abbrev in-loop-from-return-2 : tie.In-loop Inv-loop μ-loop
-  in-loop-from-return-2 = past-class-from-return-2 .before
+  in-loop-from-return-2 = in-loop-from-past-class past-class-from-return-2
 
   abbrev at-loop-from-return-2 : tie.At-loop Inv-loop μ-loop
-  at-loop-from-return-2 = in-loop-from-return-2 .before
+  at-loop-from-return-2 = at-loop-from-in-loop in-loop-from-return-2
 
 module _ (c : tie.After-skip-between Inv-loop μ-loop) where
   abbrev variable-from-loop-again : tie.After-variable Inv-loop μ-loop
@@ -65,10 +77,10 @@ module _ (c : tie.After-skip-between Inv-loop μ-loop) where
   past-class-from-loop-again = past-class-from-variable variable-from-loop-again
 
   abbrev in-loop-from-loop-again : tie.In-loop Inv-loop μ-loop
-  in-loop-from-loop-again = past-class-from-loop-again .before
+  in-loop-from-loop-again = in-loop-from-past-class past-class-from-loop-again
 
   abbrev at-loop-from-loop-again : tie.At-loop Inv-loop μ-loop
-  at-loop-from-loop-again = in-loop-from-loop-again .before
+  at-loop-from-loop-again = at-loop-from-in-loop in-loop-from-loop-again
 
 literal : (a : tie.After-variable Inv-loop μ-loop)
     → tokenOf (start-from-variable a .args .variables) (slice (at-loop-from-variable a .loop .at) (past-class-from-variable a .past-class .result) (start-from-variable a .args .s .now))

@@ -62,6 +62,10 @@ module _ (c : tie.After-slice-known23) where
   by-negation-from-slice-known23 = c .before .before .before .before .before .before .before .before .before .before .before .before .before
       .before .before .before
 
+module _ (c : tie.Else1) where
+  abbrev by-negation-from-else1 : tie.After-by-negation
+  by-negation-from-else1 = by-negation-from-slice-known23 (c .before)
+
 module _ (c : tie.Then1) where
   abbrev by-negation-from-then1 : tie.After-by-negation
   by-negation-from-then1 = by-negation-from-slice-known23 (c .before)
@@ -74,7 +78,7 @@ module _ (c : tie.After-supports-of-arg11) where
   else1-from-supports-of-call-2 = c .before .before .before .before .before .before
 
   abbrev by-negation-from-supports-of-call-2 : tie.After-by-negation
-  by-negation-from-supports-of-call-2 = by-negation-from-slice-known23 (else1-from-supports-of-call-2 .before)
+  by-negation-from-supports-of-call-2 = by-negation-from-else1 else1-from-supports-of-call-2
 
 module _ (c : tie.After-supports-of2) where
   abbrev by-negation-from-supports-of2 : tie.After-by-negation
@@ -89,7 +93,7 @@ module _ (c : tie.After-turns-arg12) where
   else1-from-turns-call = else1-from-supports-of-call-2 (supports-of2-from-turns-call .before)
 
   abbrev by-negation-from-turns-call : tie.After-by-negation
-  by-negation-from-turns-call = by-negation-from-slice-known23 (else1-from-turns-call .before)
+  by-negation-from-turns-call = by-negation-from-else1 else1-from-turns-call
 
   abbrev support-from-from-turns-call : tie.After-support-from
   support-from-from-turns-call = support-from-from-by-negation by-negation-from-turns-call
@@ -106,7 +110,7 @@ module _ (c : tie.After-slice-known34) where
   else1-from-return-2 = else1-from-supports-of-call-2 (supports-of2-from-return-2 .before)
 
   abbrev by-negation-from-return-2 : tie.After-by-negation
-  by-negation-from-return-2 = by-negation-from-slice-known23 (else1-from-return-2 .before)
+  by-negation-from-return-2 = by-negation-from-else1 else1-from-return-2
 
   abbrev supports-of-from-return-2 : tie.After-supports-of
   supports-of-from-return-2 = supports-of-from-support-from (support-from-from-by-negation-call (by-negation-from-return-2 .before))
@@ -239,7 +243,7 @@ returns c =
     let a = by-negation-from-then1 c in
     let s = start a in (
       pr-full (before s) (s .pre .0 .0 .ready .good) (members s) (root s) (table₁ a) (list₁ a) (by-negation a true (c .if1 .taken)) (64 * length (s .args .members .now))
-          (inWord (s .args .positive)) (inWord (s .args .negative)),
+          (inWord (s .args .witness .positive)) (inWord (s .args .witness .negative)),
       s .pre .0 .1,
     )
 
@@ -325,7 +329,7 @@ returns-2 c =
     let a = by-negation-from-return-2 c in
     let s = start a in
     let r = turns-from-return-2 c .turns in (
-      pr-judged (before s) (s .pre .0 .0 .ready .good) (s .args .members .now) (s .pre .0 .0 .ready .inside) (root s) (table₁ a) (list₁ a) (by-negation a false (else1-from-return-2 c .if1 .left)) (s .args .positive) (s .args .negative)
+      pr-judged (before s) (s .pre .0 .0 .ready .good) (s .args .members .now) (s .pre .0 .0 .ready .inside) (root s) (table₁ a) (list₁ a) (by-negation a false (else1-from-return-2 c .if1 .left)) (s .args .witness .positive) (s .args .witness .negative)
           (64 * length (s .args .members .now)) (r .result) (tableOf (r .last .0) (r .last .1 .0) (r .last .1 .1 .0) (r .last .1 .1 .1 .0) (r .last .1 .1 .1 .1 .0) (r .result .count)) (r .ensures .0),
       r .ensures .1 ∙ ap unmarked (a .by-negation .kept .0),
     )

@@ -45,19 +45,23 @@ module _ (c : tie.After-clear-memo-arg) where
   abbrev start-from-clear-memo-call : tie.Start
   start-from-clear-memo-call = start-from-is-one is-one-from-clear-memo-call
 
+module _ (c : tie.After-clear-memo) where
+  abbrev else1-from-clear-memo : tie.Else1
+  else1-from-clear-memo = c .before .before
+
 module _ (c : tie.After-apply-arg6) where
   abbrev clear-memo-from-apply-call : tie.After-clear-memo
   clear-memo-from-apply-call = c .before .before .before .before .before .before .before .before
 
   abbrev start-from-apply-call : tie.Start
-  start-from-apply-call = start-from-is-one (is-one-from-else1 (clear-memo-from-apply-call .before .before))
+  start-from-apply-call = start-from-is-one (is-one-from-else1 (else1-from-clear-memo clear-memo-from-apply-call))
 
 module _ (c : tie.After-apply) where
   abbrev clear-memo-from-apply : tie.After-clear-memo
   clear-memo-from-apply = clear-memo-from-apply-call (c .before)
 
   abbrev is-one-from-apply : tie.After-is-one
-  is-one-from-apply = is-one-from-else1 (clear-memo-from-apply .before .before)
+  is-one-from-apply = is-one-from-else1 (else1-from-clear-memo clear-memo-from-apply)
 
   abbrev start-from-apply : tie.Start
   start-from-apply = start-from-is-one is-one-from-apply
@@ -74,7 +78,7 @@ module _ (c : tie.Then2) where
   clear-memo-from-then2 = clear-memo-from-apply apply-from-then2
 
   abbrev else1-from-then2 : tie.Else1
-  else1-from-then2 = clear-memo-from-then2 .before .before
+  else1-from-then2 = else1-from-clear-memo clear-memo-from-then2
 
   abbrev is-one-from-then2 : tie.After-is-one
   is-one-from-then2 = is-one-from-else1 else1-from-then2
@@ -87,7 +91,7 @@ module _ (c : tie.After-rup-with-arg9) where
   apply-from-rup-with-call = apply-from-slice-known17 (else2-from-rup-with-call .before)
 
   abbrev else1-from-rup-with-call : tie.Else1
-  else1-from-rup-with-call = clear-memo-from-apply-call (apply-from-rup-with-call .before) .before .before
+  else1-from-rup-with-call = else1-from-clear-memo (clear-memo-from-apply-call (apply-from-rup-with-call .before))
 
   abbrev is-one-from-rup-with-call : tie.After-is-one
   is-one-from-rup-with-call = is-one-from-else1 else1-from-rup-with-call
@@ -107,7 +111,7 @@ module _ (c : tie.After-slice-known26) where
   clear-memo-from-return-3 = clear-memo-from-apply apply-from-return-3
 
   abbrev else1-from-return-3 : tie.Else1
-  else1-from-return-3 = clear-memo-from-return-3 .before .before
+  else1-from-return-3 = else1-from-clear-memo clear-memo-from-return-3
 
   abbrev is-one-from-return-3 : tie.After-is-one
   is-one-from-return-3 = is-one-from-else1 else1-from-return-3
@@ -117,7 +121,7 @@ module _ (a : tie.After-is-one) where
   abbrev asked : tie.Start
   asked = start-from-is-one a
 
-  told : (b : Bool) → a .is-one .result ≡ b → oneAt (nodesOf (before asked)) (asked .args .positive) (asked .args .negative) (asked .args .f .0) ≡ b
+  told : (b : Bool) → a .is-one .result ≡ b → oneAt (nodesOf (before asked)) (asked .args .witness .positive) (asked .args .witness .negative) (asked .args .f .0) ≡ b
   unfolding nodesOf
   told b e = sym (a .is-one .ensures) ∙ e
 
@@ -129,7 +133,7 @@ module _ (a : tie.After-apply) where
   abbrev made : Outcome
   made = outcomeOf (a .apply .last .0) (a .apply .last .1 .0) (a .apply .last .1 .1 .0) (a .apply .last .1 .1 .1 .0) (a .apply .last .1 .1 .1 .1 .0) (a .apply .result)
 
-  made-is : made ≡ applied (before start) (Literals (start .args .positive) (start .args .negative)) (start .args .f .0) 1
+  made-is : made ≡ applied (before start) (Literals (start .args .witness .positive) (start .args .witness .negative)) (start .args .f .0) 1
   made-is = a .apply .ensures .0
 
   memo-length : length (a .apply .last .1 .1 .1 .1 .1 .0) ≡ length (start .args .memo .now)
@@ -159,7 +163,7 @@ same-length-4 c =
 returns : tie.Need-returns
 returns c =
     let s = start-from-then1 c in
-    (turn-constant (before s) (s .args .first .now) (s .args .memo .now) (s .pre .0 .0) (s .args .f .0) (s .args .positive) (s .args .negative) (s .pre .0 .3) (told (is-one-from-then1 c) true (c .if1 .taken)), s .pre .0 .1)
+    (turn-constant (before s) (s .args .first .now) (s .args .memo .now) (s .pre .0 .0) (s .args .f .0) (s .args .witness .positive) (s .args .witness .negative) (s .pre .0 .3) (told (is-one-from-then1 c) true (c .if1 .taken)), s .pre .0 .1)
 
 clear-memo-requires : tie.Need-clear-memo-requires
 clear-memo-requires c κs =
@@ -169,7 +173,7 @@ apply-requires : tie.Need-apply-requires
 apply-requires c κs =
     let s = start-from-apply-call c in
     let m = clear-memo-from-apply-call c .clear-memo in
-    literals-ready (before s) (s .args .first .now) (s .args .memo .now) (s .pre .0 .0) (s .args .f .0) (s .args .positive) (s .args .negative) (s .pre .0 .3) (m .last .0) (m .ensures (Literals (s .args .positive) (s .args .negative)) (before s))
+    literals-ready (before s) (s .args .first .now) (s .args .memo .now) (s .pre .0 .0) (s .args .f .0) (s .args .witness .positive) (s .args .witness .negative) (s .pre .0 .3) (m .last .0) (m .ensures (Literals (s .args .witness .positive) (s .args .witness .negative)) (before s))
 
 same-length-5 : tie.Need-same-length-5
 same-length-5 c =
@@ -199,18 +203,18 @@ returns-2 : tie.Need-returns-2
 returns-2 c =
     let a = apply-from-then2 c in
     let s = start a in
-    (turn-full (before s) (s .args .first .now) (s .args .memo .now) (s .pre .0 .0) (s .args .f .0) (s .args .positive) (s .args .negative) (s .pre .0 .3) (told (is-one-from-then2 c) false (else1-from-then2 c .if1 .left)) (made a) (made-is a) (c .if2 .taken), s .pre .0 .1)
+    (turn-full (before s) (s .args .first .now) (s .args .memo .now) (s .pre .0 .0) (s .args .f .0) (s .args .witness .positive) (s .args .witness .negative) (s .pre .0 .3) (told (is-one-from-then2 c) false (else1-from-then2 c .if1 .left)) (made a) (made-is a) (c .if2 .taken), s .pre .0 .1)
 
 rup-with-requires : tie.Need-rup-with-requires
 rup-with-requires c κs =
     let a = apply-from-rup-with-call c in
     let s = start a in (
       (
-        turn-ready (before s) (s .args .first .now) (s .args .memo .now) (s .pre .0 .0) (s .args .f .0) (s .args .positive) (s .args .negative) (s .pre .0 .3) (told (is-one-from-rup-with-call c) false (else1-from-rup-with-call c .if1 .left)) (made a) (made-is a) (else2-from-rup-with-call c .if2 .left) (a .apply .last .1 .1 .1 .1 .1 .0) (memo-length a),
+        turn-ready (before s) (s .args .first .now) (s .args .memo .now) (s .pre .0 .0) (s .args .f .0) (s .args .witness .positive) (s .args .witness .negative) (s .pre .0 .3) (told (is-one-from-rup-with-call c) false (else1-from-rup-with-call c .if1 .left)) (made a) (made-is a) (else2-from-rup-with-call c .if2 .left) (a .apply .last .1 .1 .1 .1 .1 .0) (memo-length a),
         s .pre .0 .1 ∙ ap unmarked (sym (a .apply .kept .0)),
         s .pre .0 .2,
       ),
-      (turn-worded (before s) (s .args .first .now) (s .args .memo .now) (s .pre .0 .0) (s .args .f .0) (s .args .positive) (s .args .negative) (s .pre .0 .3) (told (is-one-from-rup-with-call c) false (else1-from-rup-with-call c .if1 .left)) (made a) (made-is a) (else2-from-rup-with-call c .if2 .left) (s .args .firstwords .now) (s .args .word) (s .pre .1 .0), s .pre .1 .1),
+      (turn-worded (before s) (s .args .first .now) (s .args .memo .now) (s .pre .0 .0) (s .args .f .0) (s .args .witness .positive) (s .args .witness .negative) (s .pre .0 .3) (told (is-one-from-rup-with-call c) false (else1-from-rup-with-call c .if1 .left)) (made a) (made-is a) (else2-from-rup-with-call c .if2 .left) (s .args .firstwords .now) (s .args .word) (s .pre .1 .0), s .pre .1 .1),
     )
 
 same-length-11 : tie.Need-same-length-11
@@ -254,7 +258,7 @@ returns-3 c =
     let a = apply-from-return-3 c in
     let s = start a in
     let r = rup-with-from-return-3 c .rup-with in (
-      turn-judged (before s) (s .args .first .now) (s .args .memo .now) (s .pre .0 .0) (s .args .f .0) (s .args .positive) (s .args .negative) (s .pre .0 .3) (told (is-one-from-return-3 c) false (else1-from-return-3 c .if1 .left)) (made a) (made-is a) (else2-from-return-3 c .if2 .left) (r .result) (tableOf (r .last .0) (r .last .1 .0) (r .last .1 .1 .0) (r .last .1 .1 .1 .0) (r .last .1 .1 .1 .1 .0) (r .result .count)) (r .ensures .0),
+      turn-judged (before s) (s .args .first .now) (s .args .memo .now) (s .pre .0 .0) (s .args .f .0) (s .args .witness .positive) (s .args .witness .negative) (s .pre .0 .3) (told (is-one-from-return-3 c) false (else1-from-return-3 c .if1 .left)) (made a) (made-is a) (else2-from-return-3 c .if2 .left) (r .result) (tableOf (r .last .0) (r .last .1 .0) (r .last .1 .1 .0) (r .last .1 .1 .1 .0) (r .last .1 .1 .1 .1 .0) (r .result .count)) (r .ensures .0),
       r .ensures .1 ∙ ap unmarked (a .apply .kept .0),
     )
 

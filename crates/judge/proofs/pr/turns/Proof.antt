@@ -24,16 +24,16 @@ use Rattle.judge.proofs.pr.turns.Statement.{statement}
 use Rattle.judge.proofs.pr.turns.Tie as tie
 
 abbrev Inv-loop : tie.InvT-loop
-Inv-loop vars₀ lows₀ highs₀ heads₀ links₀ memo₀ marks₀ members memberwords first firstwords second₀ secondwords₀ count positive negative rounds₀ peak₀ i₀ vars lows highs heads links memo marks second secondwords rounds peak i =
+Inv-loop vars₀ lows₀ highs₀ heads₀ links₀ memo₀ marks₀ members memberwords first firstwords second₀ secondwords₀ count witness rounds₀ peak₀ i₀ vars lows highs heads links memo marks second secondwords rounds peak i =
     (tableOf vars lows highs heads links count ≡ tableOf vars₀ lows₀ highs₀ heads₀ links₀ count)
-    × Turning (tableOf vars₀ lows₀ highs₀ heads₀ links₀ count) first members positive negative i rounds peak
+    × Turning (tableOf vars₀ lows₀ highs₀ heads₀ links₀ count) first members (witness .positive) (witness .negative) i rounds peak
     × (marks ≡ unmarked (length vars₀))
     × (length memo ≡ length memo₀)
     × (length second ≡ length second₀)
     × (length secondwords ≡ length secondwords₀)
 
 abbrev μ-loop : tie.MeasureT-loop
-μ-loop vars₀ lows₀ highs₀ heads₀ links₀ memo₀ marks₀ members memberwords first firstwords second₀ secondwords₀ count positive negative rounds₀ peak₀ i₀ vars lows highs heads links memo marks second secondwords rounds peak i =
+μ-loop vars₀ lows₀ highs₀ heads₀ links₀ memo₀ marks₀ members memberwords first firstwords second₀ secondwords₀ count witness rounds₀ peak₀ i₀ vars lows highs heads links memo marks second secondwords rounds peak i =
     length members - i
 
 module _ (s : tie.Start Inv-loop μ-loop) where
@@ -44,16 +44,20 @@ module _ (s : tie.Start Inv-loop μ-loop) where
   good = s .pre .0 .0 .good
 
   abbrev line : List ℕ → Line
-  line ks = prTurns 64 (inWord (s .args .positive)) (inWord (s .args .negative)) (diagramsOf (nodesOf before) (s .args .first .now)) (diagramsOf (nodesOf before) ks)
+  line ks = prTurns 64 (inWord (s .args .witness .positive)) (inWord (s .args .witness .negative)) (diagramsOf (nodesOf before) (s .args .first .now)) (diagramsOf (nodesOf before) ks)
 
 -- The ways back, written by ways.py: TO-from-FROM leads from the place FROM of the code to the place TO before it.
 module _ (c : tie.After-slice-known9 Inv-loop μ-loop) where
   abbrev start-from-loop-holds : tie.Start Inv-loop μ-loop
   start-from-loop-holds = c .before .before .before .before .before .before .before .before .before .before .before .before .before
 
+module _ (c : tie.At-loop Inv-loop μ-loop) where
+  abbrev start-from-at-loop : tie.Start Inv-loop μ-loop
+  start-from-at-loop = start-from-loop-holds (c .before)
+
 module _ (c : tie.After-loop Inv-loop μ-loop) where
   abbrev start-from-return-3 : tie.Start Inv-loop μ-loop
-  start-from-return-3 = start-from-loop-holds (c .before .before)
+  start-from-return-3 = start-from-at-loop (c .before)
 
 module _ (c : tie.After-shared-slice-known6 Inv-loop μ-loop) where
   abbrev in-loop-from-turn-call : tie.In-loop Inv-loop μ-loop
@@ -63,7 +67,7 @@ module _ (c : tie.After-shared-slice-known6 Inv-loop μ-loop) where
   at-loop-from-turn-call = in-loop-from-turn-call .before
 
   abbrev start-from-turn-call : tie.Start Inv-loop μ-loop
-  start-from-turn-call = start-from-loop-holds (at-loop-from-turn-call .before)
+  start-from-turn-call = start-from-at-loop at-loop-from-turn-call
 
 module _ (c : tie.After-turn Inv-loop μ-loop) where
   abbrev in-loop-from-turn : tie.In-loop Inv-loop μ-loop
@@ -73,7 +77,7 @@ module _ (c : tie.After-turn Inv-loop μ-loop) where
   at-loop-from-turn = in-loop-from-turn .before
 
   abbrev start-from-turn : tie.Start Inv-loop μ-loop
-  start-from-turn = start-from-loop-holds (at-loop-from-turn .before)
+  start-from-turn = start-from-at-loop at-loop-from-turn
 
 module _ (c : tie.After-greater Inv-loop μ-loop) where
   abbrev turn-from-greater : tie.After-turn Inv-loop μ-loop
@@ -91,7 +95,7 @@ module _ (c : tie.Then1 Inv-loop μ-loop) where
   at-loop-from-then1 = at-loop-from-turn turn-from-then1
 
   abbrev start-from-then1 : tie.Start Inv-loop μ-loop
-  start-from-then1 = start-from-loop-holds (at-loop-from-then1 .before)
+  start-from-then1 = start-from-at-loop at-loop-from-then1
 
 module _ (c : tie.After-drop-to-arg5 Inv-loop μ-loop) where
   abbrev else1-from-drop-to-call : tie.Else1 Inv-loop μ-loop
@@ -144,7 +148,7 @@ module _ (c : tie.Then2 Inv-loop μ-loop) where
   at-loop-from-then2 = at-loop-from-turn turn-from-then2
 
   abbrev start-from-then2 : tie.Start Inv-loop μ-loop
-  start-from-then2 = start-from-loop-holds (at-loop-from-then2 .before)
+  start-from-then2 = start-from-at-loop at-loop-from-then2
 
 -- what a turn leaves
 module _ (a : tie.After-turn Inv-loop μ-loop) where
@@ -162,7 +166,7 @@ module _ (a : tie.After-turn Inv-loop μ-loop) where
 
   said : Says (before start) (line start (member ∷ [])) 64 (a .turn .result) table₁
   said =
-      subst (λ (t : Table). Says t (prTurns 64 (inWord (start .args .positive)) (inWord (start .args .negative)) (diagramsOf (nodesOf t) (start .args .first .now)) (diagramAt (nodesOf t) member ∷ [])) 64 (a .turn .result) table₁)
+      subst (λ (t : Table). Says t (prTurns 64 (inWord (start .args .witness .positive)) (inWord (start .args .witness .negative)) (diagramsOf (nodesOf t) (start .args .first .now)) (diagramAt (nodesOf t) member ∷ [])) 64 (a .turn .result) table₁)
       (reached .loop .inv .0) (a .turn .ensures .0)
 
   more : reached .loop .i < length (start .args .members .now)
@@ -184,14 +188,14 @@ module _ (d : tie.After-drop-to Inv-loop μ-loop) where
 
 loop-holds : tie.Need-loop-holds Inv-loop μ-loop
 loop-holds c =
-    let s = start-from-loop-holds c in (refl, turning-none (before s) (s .args .first .now) (s .args .members .now) (s .args .positive) (s .args .negative) (good s), s .pre .0 .1, refl, refl, refl)
+    let s = start-from-loop-holds c in (refl, turning-none (before s) (s .args .first .now) (s .args .members .now) (s .args .witness .positive) (s .args .witness .negative) (good s), s .pre .0 .1, refl, refl, refl)
 
-mul-t22 : tie.Need-mul-t22 Inv-loop μ-loop
-mul-t22 c =
+mul-t21 : tie.Need-mul-t21 Inv-loop μ-loop
+mul-t21 c =
     search needs
 
-shared-slice-read-t25 : tie.Need-shared-slice-read-t25 Inv-loop μ-loop
-shared-slice-read-t25 c =
+shared-slice-read-t24 : tie.Need-shared-slice-read-t24 Inv-loop μ-loop
+shared-slice-read-t24 c =
     search needs
 
 mul-turn : tie.Need-mul-turn Inv-loop μ-loop
@@ -266,7 +270,7 @@ returns c =
     let s = start a in
     let w = reached a .loop in (
       subst (λ (m : ℕ). Says (before s) (line s (s .args .members .now)) (64 * length (s .args .members .now)) (judgedAs true false 0 (a .turn .result .count) m) (table₁ a)) (sym (greater-from-then1 c .greater .ensures))
-          (turns-full (before s) (s .args .first .now) (s .args .members .now) (s .args .positive) (s .args .negative) (good s) (w .i) (w .rounds) (w .peak) (w .inv .1) (more a) (a .turn .result) (table₁ a) (said a) (c .if1 .taken) (a .turn .result .count)),
+          (turns-full (before s) (s .args .first .now) (s .args .members .now) (s .args .witness .positive) (s .args .witness .negative) (good s) (w .i) (w .rounds) (w .peak) (w .inv .1) (more a) (a .turn .result) (table₁ a) (said a) (c .if1 .taken) (a .turn .result .count)),
       unmarked-again a,
     )
 
@@ -324,7 +328,7 @@ returns-2 c =
     let w = reached a .loop in (
       subst (λ (t : Table). Says (before s) (line s (s .args .members .now)) (64 * length (s .args .members .now)) (judgedAs false false (w .rounds + a .turn .result .rounds) (s .args .count) (greater-from-then2 c .greater .result)) t) (sym (as-before d))
           (subst (λ (m : ℕ). Says (before s) (line s (s .args .members .now)) (64 * length (s .args .members .now)) (judgedAs false false (w .rounds + a .turn .result .rounds) (s .args .count) m) (before s)) (sym (greater-from-then2 c .greater .ensures))
-          (turns-end (before s) (s .args .first .now) (s .args .members .now) (s .args .positive) (s .args .negative) (good s) (w .i) (w .rounds) (w .peak) (w .inv .1) (more a) (a .turn .result) (table₁ a) (said a) (else1-from-then2 c .if1 .left) (sym (not-not (a .turn .result .shown)) ∙ ap not (c .if2 .taken)))),
+          (turns-end (before s) (s .args .first .now) (s .args .members .now) (s .args .witness .positive) (s .args .witness .negative) (good s) (w .i) (w .rounds) (w .peak) (w .inv .1) (more a) (a .turn .result) (table₁ a) (said a) (else1-from-then2 c .if1 .left) (sym (not-not (a .turn .result .shown)) ∙ ap not (c .if2 .taken)))),
       unmarked-again a,
     )
 
@@ -343,8 +347,8 @@ loop-again c =
     let s = start a in
     let w = reached a .loop in (
       as-before d,
-      subst (Turning (before s) (s .args .first .now) (s .args .members .now) (s .args .positive) (s .args .negative) (w .i + 1) (w .rounds + a .turn .result .rounds)) (sym (greater-from-else2 c .greater .ensures))
-          (turns-on (before s) (s .args .first .now) (s .args .members .now) (s .args .positive) (s .args .negative) (good s) (w .i) (w .rounds) (w .peak) (w .inv .1) (more a) (a .turn .result) (table₁ a) (said a) (else1-from-else2 c .if1 .left) (sym (not-not (a .turn .result .shown)) ∙ ap not (c .if2 .left))),
+      subst (Turning (before s) (s .args .first .now) (s .args .members .now) (s .args .witness .positive) (s .args .witness .negative) (w .i + 1) (w .rounds + a .turn .result .rounds)) (sym (greater-from-else2 c .greater .ensures))
+          (turns-on (before s) (s .args .first .now) (s .args .members .now) (s .args .witness .positive) (s .args .witness .negative) (good s) (w .i) (w .rounds) (w .peak) (w .inv .1) (more a) (a .turn .result) (table₁ a) (said a) (else1-from-else2 c .if1 .left) (sym (not-not (a .turn .result .shown)) ∙ ap not (c .if2 .left))),
       unmarked-again a,
       a .turn .kept .1 .1 .1 .1 .1 .0 ∙ w .inv .3,
       a .turn .kept .1 .1 .1 .1 .1 .1 .1 .1 .1 .0 ∙ w .inv .4,
@@ -392,7 +396,7 @@ returns-3 c =
     let s = start-from-return-3 c in
     let w = c .before .loop in (
       subst (λ (t : Table). Says (before s) (line s (s .args .members .now)) (64 * length (s .args .members .now)) (judgedAs false true (w .rounds) (s .args .count) (w .peak)) t) (sym (w .inv .0))
-          (turns-done (before s) (s .args .first .now) (s .args .members .now) (s .args .positive) (s .args .negative) (good s) (w .i) (w .rounds) (w .peak) (w .inv .1) (omega (arith, c .loop-test .left))),
+          (turns-done (before s) (s .args .first .now) (s .args .members .now) (s .args .witness .positive) (s .args .witness .negative) (good s) (w .i) (w .rounds) (w .peak) (w .inv .1) (omega (arith, c .loop-test .left))),
       w .inv .2,
     )
 
@@ -403,8 +407,8 @@ turns-spec =
     Inv-loop
     μ-loop
     loop-holds
-    mul-t22
-    shared-slice-read-t25
+    mul-t21
+    shared-slice-read-t24
     mul-turn
     shared-slice-read-turn
     turn-requires

@@ -43,7 +43,7 @@ use denote.Triple.Table.{entered}
 use denote.Triple.Walked.{says, needs, Stays, stay-none-slice, stay-none, stay-slice, walkOf, Walks, ends-at, walked, goes-none-slice, goes-none, goes-slice, walk-meets}
 use denote.Exit.{yes}
 use Rattle.nodes.specs.declared.Node.{Node}
-use Rattle.nodes.specs.Within.{nodesOf}
+use Rattle.nodes.specs.Within.{asNodes}
 use Rattle.nodes.proofs.Lists.{by-test, blank, slice, nodeAt, slice-step, slice-length, add-one}
 use Rattle.nodes.proofs.Opened.{Left, LeftShared, opens, closes, looks, shuts}
 use Rattle.nodes.proofs.Node as N
@@ -300,7 +300,7 @@ module _ {M : Type 1} (𝓤 : URA M) (H : Heap 𝓤) (A : Atoms 𝓤) (W : Given
 
   walk : (𝓣 : Tables 𝓤 H) → ent 𝓤 (onEntry 𝓤 H A save-fn.signature (κ₀, (κ₁, (κ₂, (κ₃, tt)))) (q₀, (q₁, (q₂, (q₃, tt)))) x at)
       (WpFn 𝓤 H (𝓣 .C) (𝓣 .Λ) code.function (sliceVal (bN, oN) (length ys) ∷ vint w64 n ∷ sliceVal (bV, oV) (length vs) ∷ sliceVal (bL, oL) (length ls) ∷ sliceVal (bH, oH) (length hs) ∷ []) Post)
-  unfolding nodesOf
+  unfolding asNodes
   walk 𝓣 =
       qed W ((‵ (flft κ₀ q₀) ⊛ (‵ (flft κ₁ q₁) ⊛ (‵ (flft κ₂ q₂) ⊛ (‵ (flft κ₃ q₃) ⊛ ‵ ftrue)))) ∷ ‵ (owns (MutSlice (named 0) κ₀ N.the-row ∷ usize ∷ ShrSlice (named 1) κ₁ u8 ∷ ShrSlice (named 2) κ₂ u16 ∷ ShrSlice (named 3) κ₃ u16 ∷ []) x at) ∷ []) ∵
       enter ! (𝓣 .C) (𝓣 .Λ) code.function (sliceVal (bN, oN) (length ys) ∷ vint w64 n ∷ sliceVal (bV, oV) (length vs) ∷ sliceVal (bL, oL) (length ls) ∷ sliceVal (bH, oH) (length hs) ∷ []) _ $

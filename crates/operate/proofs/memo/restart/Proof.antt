@@ -5,12 +5,12 @@ use native.Mathlib.Omega.{arith}
 use lib.ListN.{length, length-set}
 use borrow.Author.Needs.{needs}
 use Rattle.operate.proofs.RightMemo.{memo-zeros}
-use Rattle.table.proofs.Zeros.{Cleared, cleared-one}
+use Rattle.table.proofs.Zeros.{ZerosBelow, cleared-one}
 use Rattle.operate.proofs.memo.restart.Statement.{statement}
 use Rattle.operate.proofs.memo.restart.Tie as tie
 
 abbrev Inv-loop : tie.InvT-loop
-Inv-loop memo₀ n step end i₀ memo i = (length memo ≡ length memo₀) × Cleared memo i
+Inv-loop memo₀ n step end i₀ memo i = (length memo ≡ length memo₀) × ZerosBelow memo i
 
 abbrev μ-loop : tie.MeasureT-loop
 μ-loop memo₀ n step end i₀ memo i = end - i

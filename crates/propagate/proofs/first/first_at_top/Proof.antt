@@ -29,11 +29,11 @@ module _ (c : tie.After-shared-slice-known5 Inv-loop μ-loop) where
 
 module _ (c : tie.After-next-asked Inv-loop μ-loop) where
   abbrev start-from-loop-holds : tie.Start Inv-loop μ-loop
-  start-from-loop-holds = c .before .before .before .before .before .before
+  start-from-loop-holds = start-from-next-asked-call (c .before)
 
 module _ (c : tie.At-loop Inv-loop μ-loop) where
   abbrev start-from-at-loop : tie.Start Inv-loop μ-loop
-  start-from-at-loop = c .before .before .before .before .before .before .before
+  start-from-at-loop = start-from-next-asked-call (c .before .before)
 
 module _ (c : tie.After-loop Inv-loop μ-loop) where
   abbrev at-loop-from-return-3 : tie.At-loop Inv-loop μ-loop
@@ -42,22 +42,34 @@ module _ (c : tie.After-loop Inv-loop μ-loop) where
   abbrev start-from-return-3 : tie.Start Inv-loop μ-loop
   start-from-return-3 = start-from-at-loop at-loop-from-return-3
 
+module _ (c : tie.In-loop Inv-loop μ-loop) where
+  abbrev at-loop-from-in-loop : tie.At-loop Inv-loop μ-loop
+  at-loop-from-in-loop = c .before
+
 module _ (c : tie.After-shared-slice-known6 Inv-loop μ-loop) where
   abbrev in-loop-from-units-at-top-call : tie.In-loop Inv-loop μ-loop
   in-loop-from-units-at-top-call = c .before
 
   abbrev at-loop-from-units-at-top-call : tie.At-loop Inv-loop μ-loop
-  at-loop-from-units-at-top-call = in-loop-from-units-at-top-call .before
+  at-loop-from-units-at-top-call = at-loop-from-in-loop in-loop-from-units-at-top-call
 
   abbrev start-from-units-at-top-call : tie.Start Inv-loop μ-loop
   start-from-units-at-top-call = start-from-at-loop at-loop-from-units-at-top-call
 
+module _ (c : tie.After-units-at-top Inv-loop μ-loop) where
+  abbrev in-loop-from-units-at-top : tie.In-loop Inv-loop μ-loop
+  in-loop-from-units-at-top = c .before .before
+
 module _ (c : tie.After-enum-told Inv-loop μ-loop) where
   abbrev at-loop-from-return : tie.At-loop Inv-loop μ-loop
-  at-loop-from-return = c .before .before .before .before .before
+  at-loop-from-return = at-loop-from-in-loop (in-loop-from-units-at-top (c .before .before))
 
   abbrev start-from-return : tie.Start Inv-loop μ-loop
   start-from-return = start-from-at-loop at-loop-from-return
+
+module _ (c : tie.After-u Inv-loop μ-loop) where
+  abbrev units-at-top-from-u : tie.After-units-at-top Inv-loop μ-loop
+  units-at-top-from-u = c .before .before
 
 module _ (c : tie.Joined1 Inv-loop μ-loop) where
   abbrev known-told-from-return-2 : tie.After-known-told Inv-loop μ-loop
@@ -67,23 +79,23 @@ module _ (c : tie.Joined1 Inv-loop μ-loop) where
   u-from-return-2 = known-told-from-return-2 .before
 
   abbrev units-at-top-from-return-2 : tie.After-units-at-top Inv-loop μ-loop
-  units-at-top-from-return-2 = u-from-return-2 .before .before
+  units-at-top-from-return-2 = units-at-top-from-u u-from-return-2
 
   abbrev in-loop-from-return-2 : tie.In-loop Inv-loop μ-loop
-  in-loop-from-return-2 = units-at-top-from-return-2 .before .before
+  in-loop-from-return-2 = in-loop-from-units-at-top units-at-top-from-return-2
 
   abbrev at-loop-from-return-2 : tie.At-loop Inv-loop μ-loop
-  at-loop-from-return-2 = in-loop-from-return-2 .before
+  at-loop-from-return-2 = at-loop-from-in-loop in-loop-from-return-2
 
   abbrev start-from-return-2 : tie.Start Inv-loop μ-loop
   start-from-return-2 = start-from-at-loop at-loop-from-return-2
 
 module _ (c : tie.Else2 Inv-loop μ-loop) where
   abbrev in-loop-from-else2 : tie.In-loop Inv-loop μ-loop
-  in-loop-from-else2 = c .before .before .before .before .before .before .before .before .before
+  in-loop-from-else2 = in-loop-from-units-at-top (units-at-top-from-u (c .before .before .before .before .before))
 
   abbrev start-from-else2 : tie.Start Inv-loop μ-loop
-  start-from-else2 = start-from-at-loop (in-loop-from-else2 .before)
+  start-from-else2 = start-from-at-loop (at-loop-from-in-loop in-loop-from-else2)
 
 module _ (c : tie.After-next-asked2 Inv-loop μ-loop) where
   abbrev else2-from-loop-again : tie.Else2 Inv-loop μ-loop
@@ -96,13 +108,13 @@ module _ (c : tie.After-next-asked2 Inv-loop μ-loop) where
   u-from-loop-again = else1-from-loop-again .before .before .before
 
   abbrev units-at-top-from-loop-again : tie.After-units-at-top Inv-loop μ-loop
-  units-at-top-from-loop-again = u-from-loop-again .before .before
+  units-at-top-from-loop-again = units-at-top-from-u u-from-loop-again
 
   abbrev in-loop-from-loop-again : tie.In-loop Inv-loop μ-loop
-  in-loop-from-loop-again = units-at-top-from-loop-again .before .before
+  in-loop-from-loop-again = in-loop-from-units-at-top units-at-top-from-loop-again
 
   abbrev at-loop-from-loop-again : tie.At-loop Inv-loop μ-loop
-  at-loop-from-loop-again = in-loop-from-loop-again .before
+  at-loop-from-loop-again = at-loop-from-in-loop in-loop-from-loop-again
 
   abbrev start-from-loop-again : tie.Start Inv-loop μ-loop
   start-from-loop-again = start-from-at-loop at-loop-from-loop-again

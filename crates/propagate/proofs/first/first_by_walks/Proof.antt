@@ -50,12 +50,16 @@ module _ (c : tie.After-loop Inv-loop μ-loop) where
   abbrev start-from-return-2 : tie.Start Inv-loop μ-loop
   start-from-return-2 = start-from-clear-cells (clear-cells-from-at-loop at-loop-from-return-2)
 
+module _ (c : tie.In-loop Inv-loop μ-loop) where
+  abbrev at-loop-from-in-loop : tie.At-loop Inv-loop μ-loop
+  at-loop-from-in-loop = c .before
+
 module _ (c : tie.After-units-from-arg Inv-loop μ-loop) where
   abbrev in-loop-from-units-from-call : tie.In-loop Inv-loop μ-loop
   in-loop-from-units-from-call = c .before .before
 
   abbrev at-loop-from-units-from-call : tie.At-loop Inv-loop μ-loop
-  at-loop-from-units-from-call = in-loop-from-units-from-call .before
+  at-loop-from-units-from-call = at-loop-from-in-loop in-loop-from-units-from-call
 
   abbrev clear-cells-from-units-from-call : tie.After-clear-cells Inv-loop μ-loop
   clear-cells-from-units-from-call = clear-cells-from-at-loop at-loop-from-units-from-call
@@ -67,29 +71,29 @@ module _ (c : tie.After-units-from Inv-loop μ-loop) where
   abbrev in-loop-from-units-from : tie.In-loop Inv-loop μ-loop
   in-loop-from-units-from = c .before .before .before
 
-module _ (c : tie.Else1 Inv-loop μ-loop) where
-  abbrev units-from-from-else1 : tie.After-units-from Inv-loop μ-loop
-  units-from-from-else1 = c .before .before .before .before
+module _ (c : tie.After-struct-known Inv-loop μ-loop) where
+  abbrev units-from-from-struct-known : tie.After-units-from Inv-loop μ-loop
+  units-from-from-struct-known = c .before .before .before
 
 module _ (c : tie.Joined1 Inv-loop μ-loop) where
   abbrev units-from-from-return : tie.After-units-from Inv-loop μ-loop
-  units-from-from-return = c .before .before .before .before
+  units-from-from-return = units-from-from-struct-known (c .before)
 
   abbrev in-loop-from-return : tie.In-loop Inv-loop μ-loop
   in-loop-from-return = in-loop-from-units-from units-from-from-return
 
   abbrev at-loop-from-return : tie.At-loop Inv-loop μ-loop
-  at-loop-from-return = in-loop-from-return .before
+  at-loop-from-return = at-loop-from-in-loop in-loop-from-return
 
   abbrev start-from-return : tie.Start Inv-loop μ-loop
   start-from-return = start-from-clear-cells (clear-cells-from-at-loop at-loop-from-return)
 
 module _ (c : tie.Else2 Inv-loop μ-loop) where
   abbrev in-loop-from-else2 : tie.In-loop Inv-loop μ-loop
-  in-loop-from-else2 = in-loop-from-units-from (units-from-from-else1 (c .before .before))
+  in-loop-from-else2 = in-loop-from-units-from (units-from-from-struct-known (c .before .before .before))
 
   abbrev start-from-else2 : tie.Start Inv-loop μ-loop
-  start-from-else2 = start-from-clear-cells (clear-cells-from-at-loop (in-loop-from-else2 .before))
+  start-from-else2 = start-from-clear-cells (clear-cells-from-at-loop (at-loop-from-in-loop in-loop-from-else2))
 
 module _ (c : tie.After-next-asked Inv-loop μ-loop) where
   abbrev else2-from-loop-again : tie.Else2 Inv-loop μ-loop
@@ -99,13 +103,13 @@ module _ (c : tie.After-next-asked Inv-loop μ-loop) where
   else1-from-loop-again = else2-from-loop-again .before .before
 
   abbrev units-from-from-loop-again : tie.After-units-from Inv-loop μ-loop
-  units-from-from-loop-again = units-from-from-else1 else1-from-loop-again
+  units-from-from-loop-again = units-from-from-struct-known (else1-from-loop-again .before)
 
   abbrev in-loop-from-loop-again : tie.In-loop Inv-loop μ-loop
   in-loop-from-loop-again = in-loop-from-units-from units-from-from-loop-again
 
   abbrev at-loop-from-loop-again : tie.At-loop Inv-loop μ-loop
-  at-loop-from-loop-again = in-loop-from-loop-again .before
+  at-loop-from-loop-again = at-loop-from-in-loop in-loop-from-loop-again
 
   abbrev start-from-loop-again : tie.Start Inv-loop μ-loop
   start-from-loop-again = start-from-clear-cells (clear-cells-from-at-loop at-loop-from-loop-again)

@@ -18,6 +18,10 @@ module _ (c : tie.After-first-at-top) where
   abbrev start-from-first-at-top : tie.Start
   start-from-first-at-top = c .before .before .before .before .before .before .before
 
+module _ (c : tie.After-place) where
+  abbrev first-at-top-from-place : tie.After-first-at-top
+  first-at-top-from-place = c .before .before
+
 module _ (c : tie.After-known-told) where
   abbrev u-from-return-2 : tie.After-u
   u-from-return-2 = c .before
@@ -30,7 +34,7 @@ module _ (c : tie.Then1) where
   place-from-then1 = c .before .before
 
   abbrev first-at-top-from-then1 : tie.After-first-at-top
-  first-at-top-from-then1 = place-from-then1 .before .before
+  first-at-top-from-then1 = first-at-top-from-place place-from-then1
 
   abbrev start-from-then1 : tie.Start
   start-from-then1 = start-from-first-at-top first-at-top-from-then1
@@ -40,7 +44,7 @@ module _ (c : tie.After-first-by-walks-arg) where
   place-from-first-by-walks-call = c .before .before .before
 
   abbrev first-at-top-from-first-by-walks-call : tie.After-first-at-top
-  first-at-top-from-first-by-walks-call = place-from-first-by-walks-call .before .before
+  first-at-top-from-first-by-walks-call = first-at-top-from-place place-from-first-by-walks-call
 
   abbrev start-from-first-by-walks-call : tie.Start
   start-from-first-by-walks-call = start-from-first-at-top first-at-top-from-first-by-walks-call

@@ -30,12 +30,45 @@ put-field-requires-5 c κs = search needs
 same-length : tie.Need-same-length
 same-length c = search needs
 
+-- The ways back, written by ways.py: TO-from-FROM leads from the place FROM of the code to the place TO before it.
+module _ (c : tie.After-put-field) where
+  abbrev start-from-put-field : tie.Start
+  start-from-put-field = c .before .before .before .before
+
+module _ (c : tie.After-put-field2) where
+  abbrev put-field-from-put-field2 : tie.After-put-field
+  put-field-from-put-field2 = c .before .before .before .before
+
+module _ (c : tie.After-put-field3) where
+  abbrev put-field2-from-put-field3 : tie.After-put-field2
+  put-field2-from-put-field3 = c .before .before .before .before
+
+module _ (c : tie.After-put-field4) where
+  abbrev put-field3-from-put-field4 : tie.After-put-field3
+  put-field3-from-put-field4 = c .before .before .before .before
+
+module _ (c : tie.After-slice-known6) where
+  abbrev put-field4-from-return : tie.After-put-field4
+  put-field4-from-return = c .before .before .before .before .before .before
+
+  abbrev put-field3-from-return : tie.After-put-field3
+  put-field3-from-return = put-field3-from-put-field4 put-field4-from-return
+
+  abbrev put-field2-from-return : tie.After-put-field2
+  put-field2-from-return = put-field2-from-put-field3 put-field3-from-return
+
+  abbrev put-field-from-return : tie.After-put-field
+  put-field-from-return = put-field-from-put-field2 put-field2-from-return
+
+  abbrev start-from-return : tie.Start
+  start-from-return = start-from-put-field put-field-from-return
+
 returns : tie.Need-returns
 returns c =
-    let first = c .before .before .before .before .before .before .before .before .before .before .before .before .before .before .before .before .before .before in
-    let second = c .before .before .before .before .before .before .before .before .before .before .before .before .before .before in
-    let third = c .before .before .before .before .before .before .before .before .before .before in
-    let fourth = c .before .before .before .before .before .before in
+    let first = put-field-from-return c in
+    let second = put-field2-from-return c in
+    let third = put-field3-from-return c in
+    let fourth = put-field4-from-return c in
     let last = c .before .before in
     let within : last .put-field5 .result ≤ length (last .put-field5 .last .1 .1 .0) =
     omega (
@@ -50,7 +83,7 @@ returns c =
       third .put-field3 .kept .1 .1 .0,
       fourth .put-field4 .kept .1 .1 .0,
       last .put-field5 .kept .1 .1 .0,
-      c .before .before .before .before .before .before .before .before .before .before .before .before .before .before .before .before .before .before .before .before .before .before .pre,
+      start-from-return c .pre,
     ) in
     let all =
     put-whole _ (first .put-field .ensures .0) (second .put-field2 .ensures .0) (third .put-field3 .ensures .0) (fourth .put-field4 .ensures .0) (last .put-field5 .ensures .0) in

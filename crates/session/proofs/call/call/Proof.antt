@@ -48,6 +48,10 @@ returns c =
     called-7 _ _ _ _ _ _ _ _ (sym (c .before .lent-fits .ensures) ∙ not-true _ (c .if1 .taken))
 
 -- The ways back, written by ways.py: TO-from-FROM leads from the place FROM of the code to the place TO before it.
+module _ (c : tie.Else1) where
+  abbrev lent-fits-from-else1 : tie.After-lent-fits
+  lent-fits-from-else1 = c .before
+
 module _ (c : tie.After-check-64-arg8) where
   abbrev then2-from-check-64-call : tie.Then2
   then2-from-check-64-call = c .before .before .before .before .before .before .before .before
@@ -56,18 +60,14 @@ module _ (c : tie.After-check-64-arg8) where
   else1-from-check-64-call = then2-from-check-64-call .before
 
   abbrev lent-fits-from-check-64-call : tie.After-lent-fits
-  lent-fits-from-check-64-call = else1-from-check-64-call .before
-
-module _ (c : tie.After-check-64) where
-  abbrev then2-from-check-64 : tie.Then2
-  then2-from-check-64 = c .before .before .before .before .before .before .before .before .before
+  lent-fits-from-check-64-call = lent-fits-from-else1 else1-from-check-64-call
 
 module _ (c : tie.After-check-65536-arg8) where
   abbrev else1-from-check-65536-call : tie.Else1
   else1-from-check-65536-call = c .before .before .before .before .before .before .before .before .before .before
 
   abbrev lent-fits-from-check-65536-call : tie.After-lent-fits
-  lent-fits-from-check-65536-call = else1-from-check-65536-call .before
+  lent-fits-from-check-65536-call = lent-fits-from-else1 else1-from-check-65536-call
 
 module _ (c : tie.After-check-4096-long-arg8) where
   abbrev then3-from-check-4096-long-call : tie.Then3
@@ -77,7 +77,7 @@ module _ (c : tie.After-check-4096-long-arg8) where
   else1-from-check-4096-long-call = then3-from-check-4096-long-call .before .before
 
   abbrev lent-fits-from-check-4096-long-call : tie.After-lent-fits
-  lent-fits-from-check-4096-long-call = else1-from-check-4096-long-call .before
+  lent-fits-from-check-4096-long-call = lent-fits-from-else1 else1-from-check-4096-long-call
 
 module _ (c : tie.After-check-4096-short-arg8) where
   abbrev then3-from-check-4096-short-call : tie.Then3
@@ -87,19 +87,7 @@ module _ (c : tie.After-check-4096-short-arg8) where
   else1-from-check-4096-short-call = then3-from-check-4096-short-call .before .before
 
   abbrev lent-fits-from-check-4096-short-call : tie.After-lent-fits
-  lent-fits-from-check-4096-short-call = else1-from-check-4096-short-call .before
-
-module _ (c : tie.After-check-65536) where
-  abbrev else1-from-check-65536 : tie.Else1
-  else1-from-check-65536 = c .before .before .before .before .before .before .before .before .before .before .before
-
-module _ (c : tie.After-check-4096-long) where
-  abbrev then3-from-check-4096-long : tie.Then3
-  then3-from-check-4096-long = c .before .before .before .before .before .before .before .before .before .before
-
-module _ (c : tie.After-check-4096-short) where
-  abbrev then3-from-check-4096-short : tie.Then3
-  then3-from-check-4096-short = c .before .before .before .before .before .before .before .before .before .before
+  lent-fits-from-check-4096-short-call = lent-fits-from-else1 else1-from-check-4096-short-call
 
 module _ (c : tie.After-slice-known16) where
   abbrev check-64-from-return-2 : tie.After-check-64
@@ -107,10 +95,10 @@ module _ (c : tie.After-slice-known16) where
       .before .before
 
   abbrev else1-from-return-2 : tie.Else1
-  else1-from-return-2 = then2-from-check-64 check-64-from-return-2 .before
+  else1-from-return-2 = else1-from-check-64-call (check-64-from-return-2 .before)
 
   abbrev lent-fits-from-return-2 : tie.After-lent-fits
-  lent-fits-from-return-2 = else1-from-return-2 .before
+  lent-fits-from-return-2 = lent-fits-from-else1 else1-from-return-2
 
 module _ (c : tie.After-slice-known40) where
   abbrev check-65536-from-return-5 : tie.After-check-65536
@@ -118,10 +106,10 @@ module _ (c : tie.After-slice-known40) where
       .before .before .before
 
   abbrev else1-from-return-5 : tie.Else1
-  else1-from-return-5 = else1-from-check-65536 check-65536-from-return-5
+  else1-from-return-5 = else1-from-check-65536-call (check-65536-from-return-5 .before)
 
   abbrev lent-fits-from-return-5 : tie.After-lent-fits
-  lent-fits-from-return-5 = else1-from-return-5 .before
+  lent-fits-from-return-5 = lent-fits-from-else1 else1-from-return-5
 
 module _ (c : tie.After-slice-known24) where
   abbrev check-4096-short-from-return-3 : tie.After-check-4096-short
@@ -129,10 +117,10 @@ module _ (c : tie.After-slice-known24) where
       .before .before .before
 
   abbrev else1-from-return-3 : tie.Else1
-  else1-from-return-3 = then3-from-check-4096-short check-4096-short-from-return-3 .before .before
+  else1-from-return-3 = else1-from-check-4096-short-call (check-4096-short-from-return-3 .before)
 
   abbrev lent-fits-from-return-3 : tie.After-lent-fits
-  lent-fits-from-return-3 = else1-from-return-3 .before
+  lent-fits-from-return-3 = lent-fits-from-else1 else1-from-return-3
 
 module _ (c : tie.After-slice-known32) where
   abbrev check-4096-long-from-return-4 : tie.After-check-4096-long
@@ -140,10 +128,10 @@ module _ (c : tie.After-slice-known32) where
       .before .before .before
 
   abbrev else1-from-return-4 : tie.Else1
-  else1-from-return-4 = then3-from-check-4096-long check-4096-long-from-return-4 .before .before
+  else1-from-return-4 = else1-from-check-4096-long-call (check-4096-long-from-return-4 .before)
 
   abbrev lent-fits-from-return-4 : tie.After-lent-fits
-  lent-fits-from-return-4 = else1-from-return-4 .before
+  lent-fits-from-return-4 = lent-fits-from-else1 else1-from-return-4
 
 check-64-requires : tie.Need-check-64-requires
 check-64-requires c κs =

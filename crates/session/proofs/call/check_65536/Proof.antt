@@ -21,9 +21,11 @@ module _ (c : tie.After-marks) where
       .before .before .before .before .before
 
 module _ (c : tie.After-run-arg8) where
+  abbrev marks-from-run-call : tie.After-marks
+  marks-from-run-call = c .before .before .before
+
   abbrev start-from-run-call : tie.Start
-  start-from-run-call = c .before .before .before .before .before .before .before .before .before .before .before .before .before .before
-      .before .before .before .before .before .before
+  start-from-run-call = start-from-slice-aggregate-run-2 marks-from-run-call
 
 module _ (c : tie.After-slice-known16) where
   abbrev run-from-return : tie.After-run

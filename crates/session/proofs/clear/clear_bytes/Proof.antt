@@ -1,15 +1,15 @@
--- `clear_bytes` leaves zeros. The invariant: the places passed hold zeros (Cleared). Assumes nothing.
+-- `clear_bytes` leaves zeros. The invariant: the places passed hold zeros (ZerosBelow). Assumes nothing.
 use mathlib.Core.Path.{_≡_, refl, _∙_}
 use Prim.Native.Nat.{_-_, _≤_, _<_}
 use native.Mathlib.Omega.{arith}
 use lib.ListN.{length, length-set}
 use borrow.Author.Needs.{needs}
-use Rattle.table.proofs.Zeros.{Cleared, cleared-one, cleared-all}
+use Rattle.table.proofs.Zeros.{ZerosBelow, cleared-one, cleared-all}
 use Rattle.session.proofs.clear.clear_bytes.Statement.{statement}
 use Rattle.session.proofs.clear.clear_bytes.Tie as tie
 
 abbrev Inv-loop : tie.InvT-loop
-Inv-loop bytes₀ i₀ bytes i = (length bytes ≡ length bytes₀) × (i ≤ length bytes) × Cleared bytes i
+Inv-loop bytes₀ i₀ bytes i = (length bytes ≡ length bytes₀) × (i ≤ length bytes) × ZerosBelow bytes i
 
 abbrev μ-loop : tie.MeasureT-loop
 μ-loop bytes₀ i₀ bytes i = length bytes₀ - i

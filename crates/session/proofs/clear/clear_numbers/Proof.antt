@@ -1,15 +1,15 @@
--- `clear_numbers` leaves zeros. The invariant: the places passed hold zeros (Cleared). Assumes nothing.
+-- `clear_numbers` leaves zeros. The invariant: the places passed hold zeros (ZerosBelow). Assumes nothing.
 use mathlib.Core.Path.{_≡_, refl, _∙_}
 use Prim.Native.Nat.{_-_, _≤_, _<_}
 use native.Mathlib.Omega.{arith}
 use lib.ListN.{length, length-set}
 use borrow.Author.Needs.{needs}
-use Rattle.table.proofs.Zeros.{Cleared, cleared-one, cleared-all}
+use Rattle.table.proofs.Zeros.{ZerosBelow, cleared-one, cleared-all}
 use Rattle.session.proofs.clear.clear_numbers.Statement.{statement}
 use Rattle.session.proofs.clear.clear_numbers.Tie as tie
 
 abbrev Inv-loop : tie.InvT-loop
-Inv-loop numbers₀ i₀ numbers i = (length numbers ≡ length numbers₀) × (i ≤ length numbers) × Cleared numbers i
+Inv-loop numbers₀ i₀ numbers i = (length numbers ≡ length numbers₀) × (i ≤ length numbers) × ZerosBelow numbers i
 
 abbrev μ-loop : tie.MeasureT-loop
 μ-loop numbers₀ i₀ numbers i = length numbers₀ - i

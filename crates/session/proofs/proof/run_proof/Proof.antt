@@ -16,19 +16,9 @@ module _ (c : tie.After-read-commands-arg10) where
   start-from-read-commands-call = c .before .before .before .before .before .before .before .before .before .before .before .before .before
       .before .before .before .before .before .before .before .before
 
-module _ (c : tie.After-read-commands) where
-  abbrev start-from-read-commands : tie.Start
-  start-from-read-commands = c .before .before .before .before .before .before .before .before .before .before .before .before .before
-      .before .before .before .before .before .before .before .before .before
-
 module _ (c : tie.After-drop-to-arg5) where
   abbrev read-commands-from-drop-to-call : tie.After-read-commands
-  read-commands-from-drop-to-call = c .before .before .before .before .before .before .before .before .before .before .before .before .before
-      .before .before .before .before .before .before .before .before .before .before .before .before .before
-
-module _ (c : tie.After-drop-to) where
-  abbrev read-commands-from-drop-to : tie.After-read-commands
-  read-commands-from-drop-to = c .before .before .before .before .before .before .before .before .before .before .before .before .before
+  read-commands-from-drop-to-call = c .before .before .before .before .before .before .before .before .before .before .before .before
       .before .before .before .before .before .before .before .before .before .before .before .before .before .before
 
 module _ (c : tie.After-slice-known25) where
@@ -36,10 +26,10 @@ module _ (c : tie.After-slice-known25) where
   drop-to-from-return = c .before .before .before .before .before .before .before .before .before .before
 
   abbrev read-commands-from-return : tie.After-read-commands
-  read-commands-from-return = read-commands-from-drop-to drop-to-from-return
+  read-commands-from-return = read-commands-from-drop-to-call (drop-to-from-return .before)
 
   abbrev start-from-return : tie.Start
-  start-from-return = start-from-read-commands read-commands-from-return
+  start-from-return = start-from-read-commands-call (read-commands-from-return .before)
 
 read-commands-requires : tie.Need-read-commands-requires
 read-commands-requires c κs =

@@ -27,23 +27,30 @@ module _ (c : tie.After-slice-known7 Inv-loop μ-loop) where
   abbrev start-from-loop-holds : tie.Start Inv-loop μ-loop
   start-from-loop-holds = c .before .before .before .before .before .before .before
 
+module _ (c : tie.At-loop Inv-loop μ-loop) where
+  abbrev start-from-at-loop : tie.Start Inv-loop μ-loop
+  start-from-at-loop = start-from-loop-holds (c .before)
+
 module _ (c : tie.After-loop Inv-loop μ-loop) where
   abbrev start-from-return-2 : tie.Start Inv-loop μ-loop
-  start-from-return-2 = start-from-loop-holds (c .before .before)
+  start-from-return-2 = start-from-at-loop (c .before)
 
 module _ (c : tie.In-loop Inv-loop μ-loop) where
+  abbrev at-loop-from-in-loop : tie.At-loop Inv-loop μ-loop
+  at-loop-from-in-loop = c .before
+
   abbrev start-from-in-loop : tie.Start Inv-loop μ-loop
-  start-from-in-loop = start-from-loop-holds (c .before .before)
+  start-from-in-loop = start-from-at-loop at-loop-from-in-loop
 
 module _ (c : tie.After-put-arg5 Inv-loop μ-loop) where
   abbrev lower-in-from-put-call : tie.After-lower-in Inv-loop μ-loop
   lower-in-from-put-call = c .before .before .before .before .before .before
 
   abbrev at-loop-from-put-call : tie.At-loop Inv-loop μ-loop
-  at-loop-from-put-call = lower-in-from-put-call .before .before
+  at-loop-from-put-call = at-loop-from-in-loop (lower-in-from-put-call .before)
 
   abbrev start-from-put-call : tie.Start Inv-loop μ-loop
-  start-from-put-call = start-from-loop-holds (at-loop-from-put-call .before)
+  start-from-put-call = start-from-at-loop at-loop-from-put-call
 
 module _ (c : tie.After-slice-known13 Inv-loop μ-loop) where
   abbrev put-from-slice-known13 : tie.After-put Inv-loop μ-loop
@@ -60,10 +67,10 @@ module _ (c : tie.Then1 Inv-loop μ-loop) where
   in-loop-from-then1 = lower-in-from-then1 .before
 
   abbrev at-loop-from-then1 : tie.At-loop Inv-loop μ-loop
-  at-loop-from-then1 = in-loop-from-then1 .before
+  at-loop-from-then1 = at-loop-from-in-loop in-loop-from-then1
 
   abbrev start-from-then1 : tie.Start Inv-loop μ-loop
-  start-from-then1 = start-from-loop-holds (at-loop-from-then1 .before)
+  start-from-then1 = start-from-at-loop at-loop-from-then1
 
 module _ (c : tie.After-node Inv-loop μ-loop) where
   abbrev put-from-loop-again : tie.After-put Inv-loop μ-loop
@@ -76,10 +83,10 @@ module _ (c : tie.After-node Inv-loop μ-loop) where
   in-loop-from-loop-again = lower-in-from-loop-again .before
 
   abbrev at-loop-from-loop-again : tie.At-loop Inv-loop μ-loop
-  at-loop-from-loop-again = in-loop-from-loop-again .before
+  at-loop-from-loop-again = at-loop-from-in-loop in-loop-from-loop-again
 
   abbrev start-from-loop-again : tie.Start Inv-loop μ-loop
-  start-from-loop-again = start-from-loop-holds (at-loop-from-loop-again .before)
+  start-from-loop-again = start-from-at-loop at-loop-from-loop-again
 
 loop-holds : tie.Need-loop-holds Inv-loop μ-loop
 loop-holds c = (

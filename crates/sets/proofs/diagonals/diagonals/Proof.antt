@@ -31,15 +31,23 @@ module _ (c : tie.After-loop Inv-loop μ-loop) where
   abbrev start-from-return-2 : tie.Start Inv-loop μ-loop
   start-from-return-2 = start-from-at-loop (c .before)
 
+module _ (c : tie.In-loop Inv-loop μ-loop) where
+  abbrev at-loop-from-in-loop : tie.At-loop Inv-loop μ-loop
+  at-loop-from-in-loop = c .before
+
 module _ (c : tie.After-diagonal-arg6 Inv-loop μ-loop) where
   abbrev in-loop-from-diagonal-call : tie.In-loop Inv-loop μ-loop
   in-loop-from-diagonal-call = c .before .before .before .before .before .before
 
   abbrev at-loop-from-diagonal-call : tie.At-loop Inv-loop μ-loop
-  at-loop-from-diagonal-call = in-loop-from-diagonal-call .before
+  at-loop-from-diagonal-call = at-loop-from-in-loop in-loop-from-diagonal-call
 
   abbrev start-from-diagonal-call : tie.Start Inv-loop μ-loop
   start-from-diagonal-call = start-from-at-loop at-loop-from-diagonal-call
+
+module _ (c : tie.After-diagonal Inv-loop μ-loop) where
+  abbrev in-loop-from-diagonal : tie.In-loop Inv-loop μ-loop
+  in-loop-from-diagonal = in-loop-from-diagonal-call (c .before)
 
 module _ (c : tie.After-slice-known12 Inv-loop μ-loop) where
   abbrev diagonal-from-slice-known12 : tie.After-diagonal Inv-loop μ-loop
@@ -50,20 +58,20 @@ module _ (c : tie.Then1 Inv-loop μ-loop) where
   diagonal-from-then1 = diagonal-from-slice-known12 (c .before)
 
   abbrev in-loop-from-then1 : tie.In-loop Inv-loop μ-loop
-  in-loop-from-then1 = in-loop-from-diagonal-call (diagonal-from-then1 .before)
+  in-loop-from-then1 = in-loop-from-diagonal diagonal-from-then1
 
   abbrev at-loop-from-then1 : tie.At-loop Inv-loop μ-loop
-  at-loop-from-then1 = in-loop-from-then1 .before
+  at-loop-from-then1 = at-loop-from-in-loop in-loop-from-then1
 
   abbrev start-from-then1 : tie.Start Inv-loop μ-loop
   start-from-then1 = start-from-at-loop at-loop-from-then1
 
 module _ (c : tie.After-node Inv-loop μ-loop) where
   abbrev in-loop-from-lower-in-call : tie.In-loop Inv-loop μ-loop
-  in-loop-from-lower-in-call = in-loop-from-diagonal-call (diagonal-from-slice-known12 (c .before .before) .before)
+  in-loop-from-lower-in-call = in-loop-from-diagonal (diagonal-from-slice-known12 (c .before .before))
 
   abbrev at-loop-from-lower-in-call : tie.At-loop Inv-loop μ-loop
-  at-loop-from-lower-in-call = in-loop-from-lower-in-call .before
+  at-loop-from-lower-in-call = at-loop-from-in-loop in-loop-from-lower-in-call
 
   abbrev start-from-lower-in-call : tie.Start Inv-loop μ-loop
   start-from-lower-in-call = start-from-at-loop at-loop-from-lower-in-call
@@ -76,10 +84,10 @@ module _ (c : tie.After-lower-in Inv-loop μ-loop) where
   diagonal-from-loop-again = diagonal-from-slice-known12 slice-known12-from-loop-again
 
   abbrev in-loop-from-loop-again : tie.In-loop Inv-loop μ-loop
-  in-loop-from-loop-again = in-loop-from-diagonal-call (diagonal-from-loop-again .before)
+  in-loop-from-loop-again = in-loop-from-diagonal diagonal-from-loop-again
 
   abbrev at-loop-from-loop-again : tie.At-loop Inv-loop μ-loop
-  at-loop-from-loop-again = in-loop-from-loop-again .before
+  at-loop-from-loop-again = at-loop-from-in-loop in-loop-from-loop-again
 
   abbrev start-from-loop-again : tie.Start Inv-loop μ-loop
   start-from-loop-again = start-from-at-loop at-loop-from-loop-again

@@ -33,12 +33,16 @@ module _ (c : tie.After-size-fits) where
   abbrev start-from-size-fits : tie.Start
   start-from-size-fits = c .before .before .before .before .before .before .before .before .before .before .before
 
+module _ (c : tie.Else1) where
+  abbrev size-fits-from-else1 : tie.After-size-fits
+  size-fits-from-else1 = c .before
+
 module _ (c : tie.After-judged-64-arg5) where
   abbrev else1-from-judged-64-call : tie.Else1
   else1-from-judged-64-call = c .before .before .before .before .before .before
 
   abbrev size-fits-from-judged-64-call : tie.After-size-fits
-  size-fits-from-judged-64-call = else1-from-judged-64-call .before
+  size-fits-from-judged-64-call = size-fits-from-else1 else1-from-judged-64-call
 
   abbrev start-from-judged-64-call : tie.Start
   start-from-judged-64-call = start-from-size-fits size-fits-from-judged-64-call
@@ -48,7 +52,7 @@ module _ (c : tie.After-judged-4096-arg5) where
   else1-from-judged-4096-call = c .before .before .before .before .before .before .before
 
   abbrev size-fits-from-judged-4096-call : tie.After-size-fits
-  size-fits-from-judged-4096-call = else1-from-judged-4096-call .before
+  size-fits-from-judged-4096-call = size-fits-from-else1 else1-from-judged-4096-call
 
   abbrev start-from-judged-4096-call : tie.Start
   start-from-judged-4096-call = start-from-size-fits size-fits-from-judged-4096-call
@@ -58,7 +62,7 @@ module _ (c : tie.After-judged-65536-arg5) where
   else1-from-judged-65536-call = c .before .before .before .before .before .before .before
 
   abbrev size-fits-from-judged-65536-call : tie.After-size-fits
-  size-fits-from-judged-65536-call = else1-from-judged-65536-call .before
+  size-fits-from-judged-65536-call = size-fits-from-else1 else1-from-judged-65536-call
 
   abbrev start-from-judged-65536-call : tie.Start
   start-from-judged-65536-call = start-from-size-fits size-fits-from-judged-65536-call

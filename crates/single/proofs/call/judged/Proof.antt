@@ -14,42 +14,58 @@ module _ (c : tie.After-order-fits-arg5) where
   abbrev start-from-order-fits-call : tie.Start
   start-from-order-fits-call = c .before .before .before .before .before .before .before .before .before .before .before
 
+module _ (c : tie.After-order-fits) where
+  abbrev start-from-order-fits : tie.Start
+  start-from-order-fits = start-from-order-fits-call (c .before)
+
+module _ (c : tie.Else1) where
+  abbrev order-fits-from-else1 : tie.After-order-fits
+  order-fits-from-else1 = c .before
+
 module _ (c : tie.Then1) where
   abbrev order-fits-from-then1 : tie.After-order-fits
   order-fits-from-then1 = c .before
 
   abbrev start-from-then1 : tie.Start
-  start-from-then1 = start-from-order-fits-call (order-fits-from-then1 .before)
+  start-from-then1 = start-from-order-fits order-fits-from-then1
+
+module _ (c : tie.Else2) where
+  abbrev else1-from-else2 : tie.Else1
+  else1-from-else2 = c .before .before
 
 module _ (c : tie.Then2) where
   abbrev order-fits-from-then2 : tie.After-order-fits
-  order-fits-from-then2 = c .before .before .before
+  order-fits-from-then2 = order-fits-from-else1 (c .before .before)
 
   abbrev start-from-then2 : tie.Start
-  start-from-then2 = start-from-order-fits-call (order-fits-from-then2 .before)
+  start-from-then2 = start-from-order-fits order-fits-from-then2
+
+module _ (c : tie.Else3) where
+  abbrev else2-from-else3 : tie.Else2
+  else2-from-else3 = c .before .before
 
 module _ (c : tie.Then3) where
   abbrev else1-from-then3 : tie.Else1
-  else1-from-then3 = c .before .before .before .before
+  else1-from-then3 = else1-from-else2 (c .before .before)
 
   abbrev order-fits-from-then3 : tie.After-order-fits
-  order-fits-from-then3 = else1-from-then3 .before
+  order-fits-from-then3 = order-fits-from-else1 else1-from-then3
 
   abbrev start-from-then3 : tie.Start
-  start-from-then3 = start-from-order-fits-call (order-fits-from-then3 .before)
+  start-from-then3 = start-from-order-fits order-fits-from-then3
 
 module _ (c : tie.Then4) where
   abbrev else2-from-then4 : tie.Else2
-  else2-from-then4 = c .before .before .before .before
+  else2-from-then4 = else2-from-else3 (c .before .before)
 
   abbrev else1-from-then4 : tie.Else1
-  else1-from-then4 = else2-from-then4 .before .before
+  else1-from-then4 = else1-from-else2 else2-from-then4
 
   abbrev order-fits-from-then4 : tie.After-order-fits
-  order-fits-from-then4 = else1-from-then4 .before
+  order-fits-from-then4 = order-fits-from-else1 else1-from-then4
 
   abbrev start-from-then4 : tie.Start
-  start-from-then4 = start-from-order-fits-call (order-fits-from-then4 .before)
+  start-from-then4 = start-from-order-fits order-fits-from-then4
 
 module _ (c : tie.After-made-arg6) where
   abbrev else4-from-made-call : tie.Else4
@@ -62,16 +78,16 @@ module _ (c : tie.After-made-arg6) where
   else3-from-made-call = operand-refusal-from-made-call .before
 
   abbrev else2-from-made-call : tie.Else2
-  else2-from-made-call = else3-from-made-call .before .before
+  else2-from-made-call = else2-from-else3 else3-from-made-call
 
   abbrev else1-from-made-call : tie.Else1
-  else1-from-made-call = else2-from-made-call .before .before
+  else1-from-made-call = else1-from-else2 else2-from-made-call
 
   abbrev order-fits-from-made-call : tie.After-order-fits
-  order-fits-from-made-call = else1-from-made-call .before
+  order-fits-from-made-call = order-fits-from-else1 else1-from-made-call
 
   abbrev start-from-made-call : tie.Start
-  start-from-made-call = start-from-order-fits-call (order-fits-from-made-call .before)
+  start-from-made-call = start-from-order-fits order-fits-from-made-call
 
 module _ (c : tie.After-slice-known12) where
   abbrev made-from-return-5 : tie.After-made
@@ -87,16 +103,16 @@ module _ (c : tie.After-slice-known12) where
   else3-from-return-5 = operand-refusal-from-return-5 .before
 
   abbrev else2-from-return-5 : tie.Else2
-  else2-from-return-5 = else3-from-return-5 .before .before
+  else2-from-return-5 = else2-from-else3 else3-from-return-5
 
   abbrev else1-from-return-5 : tie.Else1
-  else1-from-return-5 = else2-from-return-5 .before .before
+  else1-from-return-5 = else1-from-else2 else2-from-return-5
 
   abbrev order-fits-from-return-5 : tie.After-order-fits
-  order-fits-from-return-5 = else1-from-return-5 .before
+  order-fits-from-return-5 = order-fits-from-else1 else1-from-return-5
 
   abbrev start-from-return-5 : tie.Start
-  start-from-return-5 = start-from-order-fits-call (order-fits-from-return-5 .before)
+  start-from-return-5 = start-from-order-fits order-fits-from-return-5
 
 order-fits-requires : tie.Need-order-fits-requires
 order-fits-requires c κs =

@@ -27,6 +27,10 @@ module _ (c : tie.After-apply-arg6) where
   abbrev start-from-apply-call : tie.Start
   start-from-apply-call = c .before .before .before .before .before .before .before .before .before .before .before .before
 
+module _ (c : tie.After-apply) where
+  abbrev start-from-apply : tie.Start
+  start-from-apply = start-from-apply-call (c .before)
+
 module _ (c : tie.After-slice-known12) where
   abbrev apply-from-slice-known12 : tie.After-apply
   apply-from-slice-known12 = c .before .before .before .before .before .before .before .before .before .before .before .before
@@ -36,7 +40,7 @@ module _ (c : tie.After-node) where
   apply-from-return-2 = apply-from-slice-known12 (c .before .before)
 
   abbrev start-from-return-2 : tie.Start
-  start-from-return-2 = start-from-apply-call (apply-from-return-2 .before)
+  start-from-return-2 = start-from-apply apply-from-return-2
 
 module _ (c : tie.After-drop-to-arg5) where
   abbrev then1-from-drop-to-call : tie.Then1
@@ -46,7 +50,7 @@ module _ (c : tie.After-drop-to-arg5) where
   apply-from-drop-to-call = apply-from-slice-known12 (then1-from-drop-to-call .before)
 
   abbrev start-from-drop-to-call : tie.Start
-  start-from-drop-to-call = start-from-apply-call (apply-from-drop-to-call .before)
+  start-from-drop-to-call = start-from-apply apply-from-drop-to-call
 
 module _ (c : tie.After-slice-known17) where
   abbrev drop-to-from-return : tie.After-drop-to
@@ -59,7 +63,7 @@ module _ (c : tie.After-slice-known17) where
   apply-from-return = apply-from-slice-known12 (then1-from-return .before)
 
   abbrev start-from-return : tie.Start
-  start-from-return = start-from-apply-call (apply-from-return .before)
+  start-from-return = start-from-apply apply-from-return
 
 apply-requires : tie.Need-apply-requires
 apply-requires c κs =

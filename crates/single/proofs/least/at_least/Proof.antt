@@ -41,6 +41,10 @@ module _ (c : tie.After-order-fits-arg5) where
   abbrev else1-from-order-fits-call : tie.Else1
   else1-from-order-fits-call = c .before .before .before .before .before
 
+module _ (c : tie.After-order-fits) where
+  abbrev else1-from-order-fits : tie.Else1
+  else1-from-order-fits = else1-from-order-fits-call (c .before)
+
 module _ (c : tie.Else2) where
   abbrev order-fits-from-else2 : tie.After-order-fits
   order-fits-from-else2 = c .before
@@ -56,7 +60,7 @@ module _ (c : tie.After-refused2) where
   order-fits-from-return-2 = then2-from-return-2 .before
 
   abbrev else1-from-return-2 : tie.Else1
-  else1-from-return-2 = else1-from-order-fits-call (order-fits-from-return-2 .before)
+  else1-from-return-2 = else1-from-order-fits order-fits-from-return-2
 
   abbrev start-from-return-2 : tie.Start
   start-from-return-2 = start-from-else1 else1-from-return-2
@@ -66,7 +70,7 @@ module _ (c : tie.After-made-arg5) where
   else2-from-made-call = c .before .before .before .before .before
 
   abbrev else1-from-made-call : tie.Else1
-  else1-from-made-call = else1-from-order-fits-call (order-fits-from-else2 else2-from-made-call .before)
+  else1-from-made-call = else1-from-order-fits (order-fits-from-else2 else2-from-made-call)
 
 module _ (c : tie.After-slice-known10) where
   abbrev made-from-return-3 : tie.After-made
@@ -76,7 +80,7 @@ module _ (c : tie.After-slice-known10) where
   else2-from-return-3 = else2-from-made-call (made-from-return-3 .before)
 
   abbrev else1-from-return-3 : tie.Else1
-  else1-from-return-3 = else1-from-order-fits-call (order-fits-from-else2 else2-from-return-3 .before)
+  else1-from-return-3 = else1-from-order-fits (order-fits-from-else2 else2-from-return-3)
 
   abbrev start-from-return-3 : tie.Start
   start-from-return-3 = start-from-else1 else1-from-return-3

@@ -13,10 +13,6 @@ module _ (c : tie.After-greater) where
   abbrev start-from-greater : tie.Start
   start-from-greater = c .before .before
 
-module _ (c : tie.Else1) where
-  abbrev greater-from-else1 : tie.After-greater
-  greater-from-else1 = c .before
-
 module _ (c : tie.Then1) where
   abbrev greater-from-then1 : tie.After-greater
   greater-from-then1 = c .before
@@ -24,16 +20,12 @@ module _ (c : tie.Then1) where
   abbrev start-from-then1 : tie.Start
   start-from-then1 = start-from-greater greater-from-then1
 
-module _ (c : tie.Else2) where
-  abbrev else1-from-else2 : tie.Else1
-  else1-from-else2 = c .before .before
-
 module _ (c : tie.Then2) where
   abbrev else1-from-then2 : tie.Else1
   else1-from-then2 = c .before .before
 
   abbrev greater-from-then2 : tie.After-greater
-  greater-from-then2 = greater-from-else1 else1-from-then2
+  greater-from-then2 = else1-from-then2 .before
 
   abbrev start-from-then2 : tie.Start
   start-from-then2 = start-from-greater greater-from-then2
@@ -43,10 +35,10 @@ module _ (c : tie.After-with-line) where
   else2-from-return-3 = c .before
 
   abbrev else1-from-return-3 : tie.Else1
-  else1-from-return-3 = else1-from-else2 else2-from-return-3
+  else1-from-return-3 = else2-from-return-3 .before .before
 
   abbrev greater-from-return-3 : tie.After-greater
-  greater-from-return-3 = greater-from-else1 else1-from-return-3
+  greater-from-return-3 = else1-from-return-3 .before
 
   abbrev start-from-return-3 : tie.Start
   start-from-return-3 = start-from-greater greater-from-return-3

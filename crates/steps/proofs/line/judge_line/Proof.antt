@@ -25,7 +25,7 @@ module _ (s : tie.Start) where
   m = length (s .args .live .now)
 
   abbrev said : Rule → Line
-  said rule = lineBy 64 rule (s .args .st .positive) (s .args .st .negative) (diagramsOf (nodesOf before) (s .args .live .now)) (diagramAt (nodesOf before) (s .args .g .0))
+  said rule = lineBy 64 rule (s .args .st .witness .positive) (s .args .st .witness .negative) (diagramsOf (nodesOf before) (s .args .live .now)) (diagramAt (nodesOf before) (s .args .g .0))
 
   scratch-length : length (take m (s .args .scratch .now)) ≡ m
   scratch-length = length-take-le m (s .args .scratch .now) (omega (arith, s .pre .2, s .pre .3))
@@ -43,13 +43,17 @@ array-borrow-prefix-memberwords c =
     search needs
 
 -- The ways back, written by ways.py: TO-from-FROM leads from the place FROM of the code to the place TO before it.
+module _ (c : tie.After-slice-known8) where
+  abbrev start-from-slice-known8 : tie.Start
+  start-from-slice-known8 = c .before .before .before .before .before .before .before .before .before
+
 module _ (c : tie.After-enum-told) where
   abbrev start-from-enum-told : tie.Start
-  start-from-enum-told = c .before .before .before .before .before .before .before .before .before .before .before
+  start-from-enum-told = start-from-slice-known8 (c .before .before)
 
 module _ (c : tie.After-enum-told2) where
   abbrev start-from-enum-told2 : tie.Start
-  start-from-enum-told2 = c .before .before .before .before .before .before .before .before .before .before .before
+  start-from-enum-told2 = start-from-slice-known8 (c .before .before)
 
 module _ (c : tie.After-memberwords) where
   abbrev enum-told-from-slice-aggregate-rup : tie.After-enum-told
@@ -66,54 +70,42 @@ module _ (c : tie.After-memberwords3) where
   start-from-slice-aggregate-pr = start-from-enum-told2 enum-told2-from-slice-aggregate-pr
 
 module _ (c : tie.After-pr-arg8) where
-  abbrev enum-told2-from-slice-aggregate-pr-2 : tie.After-enum-told2
-  enum-told2-from-slice-aggregate-pr-2 = c .before .before .before .before .before .before .before .before .before
-
   abbrev start-from-slice-aggregate-pr-2 : tie.Start
-  start-from-slice-aggregate-pr-2 = start-from-enum-told2 enum-told2-from-slice-aggregate-pr-2
+  start-from-slice-aggregate-pr-2 = start-from-slice-aggregate-pr (c .before)
 
 module _ (c : tie.After-rup-arg8) where
-  abbrev enum-told-from-slice-aggregate-rup-2 : tie.After-enum-told
-  enum-told-from-slice-aggregate-rup-2 = c .before .before .before .before .before .before .before .before .before
-
   abbrev start-from-slice-aggregate-rup-2 : tie.Start
-  start-from-slice-aggregate-rup-2 = start-from-enum-told enum-told-from-slice-aggregate-rup-2
+  start-from-slice-aggregate-rup-2 = start-from-slice-aggregate-rup (c .before)
 
 module _ (c : tie.After-words) where
-  abbrev enum-told-from-rup-call : tie.After-enum-told
-  enum-told-from-rup-call = c .before .before .before .before .before .before .before .before .before .before
-
   abbrev start-from-rup-call : tie.Start
-  start-from-rup-call = start-from-enum-told enum-told-from-rup-call
+  start-from-rup-call = start-from-slice-aggregate-rup (c .before .before)
 
 module _ (c : tie.After-words3) where
-  abbrev enum-told2-from-slice-aggregate-pr-3 : tie.After-enum-told2
-  enum-told2-from-slice-aggregate-pr-3 = c .before .before .before .before .before .before .before .before .before .before
-
   abbrev start-from-slice-aggregate-pr-3 : tie.Start
-  start-from-slice-aggregate-pr-3 = start-from-enum-told2 enum-told2-from-slice-aggregate-pr-3
+  start-from-slice-aggregate-pr-3 = start-from-slice-aggregate-pr (c .before .before)
 
 module _ (c : tie.After-rup) where
-  abbrev enum-told-from-rup : tie.After-enum-told
-  enum-told-from-rup = c .before .before .before .before .before .before .before .before .before .before .before
+  abbrev memberwords-from-rup : tie.After-memberwords
+  memberwords-from-rup = c .before .before .before
 
 module _ (c : tie.After-second) where
-  abbrev enum-told2-from-slice-aggregate-pr-4 : tie.After-enum-told2
-  enum-told2-from-slice-aggregate-pr-4 = c .before .before .before .before .before .before .before .before .before .before .before
+  abbrev memberwords3-from-slice-aggregate-pr-4 : tie.After-memberwords3
+  memberwords3-from-slice-aggregate-pr-4 = c .before .before .before
 
   abbrev start-from-slice-aggregate-pr-4 : tie.Start
-  start-from-slice-aggregate-pr-4 = start-from-enum-told2 enum-told2-from-slice-aggregate-pr-4
+  start-from-slice-aggregate-pr-4 = start-from-slice-aggregate-pr memberwords3-from-slice-aggregate-pr-4
 
 module _ (c : tie.After-secondwords) where
-  abbrev enum-told2-from-pr-call : tie.After-enum-told2
-  enum-told2-from-pr-call = c .before .before .before .before .before .before .before .before .before .before .before .before
+  abbrev memberwords3-from-pr-call : tie.After-memberwords3
+  memberwords3-from-pr-call = c .before .before .before .before
 
   abbrev start-from-pr-call : tie.Start
-  start-from-pr-call = start-from-enum-told2 enum-told2-from-pr-call
+  start-from-pr-call = start-from-slice-aggregate-pr memberwords3-from-pr-call
 
 module _ (c : tie.After-pr) where
-  abbrev enum-told2-from-pr : tie.After-enum-told2
-  enum-told2-from-pr = c .before .before .before .before .before .before .before .before .before .before .before .before .before
+  abbrev memberwords3-from-pr : tie.After-memberwords3
+  memberwords3-from-pr = c .before .before .before .before .before
 
 module _ (c : tie.After-words2) where
   abbrev rup-from-return : tie.After-rup
@@ -121,7 +113,7 @@ module _ (c : tie.After-words2) where
       .before .before .before .before
 
   abbrev enum-told-from-return : tie.After-enum-told
-  enum-told-from-return = enum-told-from-rup rup-from-return
+  enum-told-from-return = enum-told-from-slice-aggregate-rup (memberwords-from-rup rup-from-return)
 
   abbrev start-from-return : tie.Start
   start-from-return = start-from-enum-told enum-told-from-return
@@ -132,7 +124,7 @@ module _ (c : tie.After-secondwords2) where
       .before .before .before .before .before .before
 
   abbrev enum-told2-from-return-2 : tie.After-enum-told2
-  enum-told2-from-return-2 = enum-told2-from-pr pr-from-return-2
+  enum-told2-from-return-2 = enum-told2-from-slice-aggregate-pr (memberwords3-from-pr pr-from-return-2)
 
   abbrev start-from-return-2 : tie.Start
   start-from-return-2 = start-from-enum-told2 enum-told2-from-return-2

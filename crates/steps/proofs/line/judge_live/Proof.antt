@@ -26,7 +26,7 @@ module _ (s : tie.Start) where
   live = unstruck (take (s .args .st .members) (s .args .struck .now)) (take (s .args .st .members) (s .args .members .now))
 
   abbrev said : List ℕ → Line
-  said ms = lineBy 64 (s .args .rule) (s .args .st .positive) (s .args .st .negative) (diagramsOf (nodesOf before) ms) (diagramAt (nodesOf before) (s .args .g .0))
+  said ms = lineBy 64 (s .args .rule) (s .args .st .witness .positive) (s .args .st .witness .negative) (diagramsOf (nodesOf before) ms) (diagramAt (nodesOf before) (s .args .g .0))
 
   ready : Negatable before live (s .args .memo .now) (s .args .g .0)
   ready = record {
@@ -46,7 +46,7 @@ module _ (c : tie.After-live) where
 
 module _ (c : tie.After-live-members) where
   abbrev start-from-live-members : tie.Start
-  start-from-live-members = c .before .before .before .before .before .before .before .before .before .before .before .before
+  start-from-live-members = start-from-live-members-call (c .before)
 
 module _ (c : tie.After-judge-line-arg7) where
   abbrev live-members-from-array-share-prefix-live : tie.After-live-members
@@ -54,15 +54,15 @@ module _ (c : tie.After-judge-line-arg7) where
 
 module _ (c : tie.After-live3) where
   abbrev live-members-from-slice-aggregate-judge-line : tie.After-live-members
-  live-members-from-slice-aggregate-judge-line = c .before .before .before .before .before .before .before .before .before
+  live-members-from-slice-aggregate-judge-line = live-members-from-array-share-prefix-live (c .before)
 
 module _ (c : tie.After-judge-line-arg8) where
   abbrev live-members-from-judge-line-call : tie.After-live-members
-  live-members-from-judge-line-call = c .before .before .before .before .before .before .before .before .before .before
+  live-members-from-judge-line-call = live-members-from-array-share-prefix-live (c .before .before)
 
 module _ (c : tie.After-judge-line) where
-  abbrev live-members-from-judge-line : tie.After-live-members
-  live-members-from-judge-line = c .before .before .before .before .before .before .before .before .before .before .before
+  abbrev judge-line-arg7-from-judge-line : tie.After-judge-line-arg7
+  judge-line-arg7-from-judge-line = c .before .before .before
 
 module _ (c : tie.After-slice-known16) where
   abbrev judge-line-from-return : tie.After-judge-line
@@ -70,7 +70,7 @@ module _ (c : tie.After-slice-known16) where
       .before .before
 
   abbrev live-members-from-return : tie.After-live-members
-  live-members-from-return = live-members-from-judge-line judge-line-from-return
+  live-members-from-return = live-members-from-array-share-prefix-live (judge-line-arg7-from-judge-line judge-line-from-return)
 
 module _ (c : tie.After-live-members) where
   abbrev begun : tie.Start

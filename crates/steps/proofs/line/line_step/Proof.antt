@@ -39,8 +39,7 @@ module _ (c : tie.After-line-test-arg5) where
 
 module _ (c : tie.After-line-test) where
   abbrev start-from-line-test : tie.Start
-  start-from-line-test = c .before .before .before .before .before .before .before .before .before .before .before .before .before .before
-      .before .before
+  start-from-line-test = start-from-line-test-call (c .before)
 
 module _ (c : tie.After-g) where
   abbrev line-test-from-g : tie.After-line-test
@@ -75,7 +74,7 @@ module _ (c : tie.After-try-line-arg9) where
 
 module _ (c : tie.After-try-line) where
   abbrev g-from-try-line : tie.After-g
-  g-from-try-line = c .before .before .before .before .before .before .before .before .before .before .before
+  g-from-try-line = g-from-try-line-call (c .before)
 
   abbrev start-from-try-line : tie.Start
   start-from-try-line = start-from-g g-from-try-line
@@ -91,17 +90,12 @@ module _ (c : tie.After-ended-arg) where
   abbrev start-from-ended-call : tie.Start
   start-from-ended-call = start-from-g g-from-ended-call
 
-module _ (c : tie.After-ended) where
-  abbrev try-line-from-ended : tie.After-try-line
-  try-line-from-ended = c .before .before .before .before .before .before .before .before .before .before .before .before .before .before
-      .before .before .before .before
-
 module _ (c : tie.After-slice-known19) where
   abbrev ended-from-return-2 : tie.After-ended
   ended-from-return-2 = c .before .before
 
   abbrev try-line-from-return-2 : tie.After-try-line
-  try-line-from-return-2 = try-line-from-ended ended-from-return-2
+  try-line-from-return-2 = try-line-from-ended-call (ended-from-return-2 .before)
 
   abbrev g-from-return-2 : tie.After-g
   g-from-return-2 = g-from-try-line try-line-from-return-2

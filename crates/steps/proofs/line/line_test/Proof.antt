@@ -34,58 +34,82 @@ module _ (c : tie.After-shared-slice-known4) where
 
 module _ (c : tie.Else1) where
   abbrev start-from-else1 : tie.Start
-  start-from-else1 = c .before .before .before .before .before .before .before
+  start-from-else1 = start-from-is-entry-call (c .before .before)
 
 module _ (c : tie.Then1) where
   abbrev start-from-then1 : tie.Start
-  start-from-then1 = c .before .before .before .before .before .before .before
+  start-from-then1 = start-from-is-entry-call (c .before .before)
+
+module _ (c : tie.After-entry-node) where
+  abbrev else1-from-entry-node : tie.Else1
+  else1-from-entry-node = c .before
+
+module _ (c : tie.After-enum-told) where
+  abbrev entry-node-from-enum-told : tie.After-entry-node
+  entry-node-from-enum-told = c .before .before
+
+module _ (c : tie.After-enum-told2) where
+  abbrev entry-node-from-enum-told2 : tie.After-entry-node
+  entry-node-from-enum-told2 = c .before .before
+
+module _ (c : tie.After-waits) where
+  abbrev enum-told-from-waits : tie.After-enum-told
+  enum-told-from-waits = c .before
+
+module _ (c : tie.Else5) where
+  abbrev enum-told2-from-else5 : tie.After-enum-told2
+  enum-told2-from-else5 = c .before .before
 
 module _ (c : tie.Then2) where
   abbrev else1-from-then2 : tie.Else1
-  else1-from-then2 = c .before .before .before .before .before
+  else1-from-then2 = else1-from-entry-node (entry-node-from-enum-told (enum-told-from-waits (c .before)))
 
   abbrev start-from-then2 : tie.Start
   start-from-then2 = start-from-else1 else1-from-then2
 
 module _ (c : tie.Then5) where
   abbrev else1-from-then5 : tie.Else1
-  else1-from-then5 = c .before .before .before .before .before
+  else1-from-then5 = else1-from-entry-node (entry-node-from-enum-told2 (c .before .before))
 
   abbrev start-from-then5 : tie.Start
   start-from-then5 = start-from-else1 else1-from-then5
+
+module _ (c : tie.Else6) where
+  abbrev else5-from-else6 : tie.Else5
+  else5-from-else6 = c .before .before
 
 module _ (c : tie.Then3) where
   abbrev waits-from-then3 : tie.After-waits
   waits-from-then3 = c .before .before .before
 
   abbrev enum-told-from-then3 : tie.After-enum-told
-  enum-told-from-then3 = waits-from-then3 .before
+  enum-told-from-then3 = enum-told-from-waits waits-from-then3
 
   abbrev else1-from-then3 : tie.Else1
-  else1-from-then3 = enum-told-from-then3 .before .before .before
+  else1-from-then3 = else1-from-entry-node (entry-node-from-enum-told enum-told-from-then3)
 
   abbrev start-from-then3 : tie.Start
   start-from-then3 = start-from-else1 else1-from-then3
 
 module _ (c : tie.Then6) where
   abbrev enum-told2-from-then6 : tie.After-enum-told2
-  enum-told2-from-then6 = c .before .before .before .before
+  enum-told2-from-then6 = enum-told2-from-else5 (c .before .before)
 
   abbrev entry-node-from-then6 : tie.After-entry-node
-  entry-node-from-then6 = enum-told2-from-then6 .before .before
+  entry-node-from-then6 = entry-node-from-enum-told2 enum-told2-from-then6
 
   abbrev else1-from-then6 : tie.Else1
-  else1-from-then6 = entry-node-from-then6 .before
+  else1-from-then6 = else1-from-entry-node entry-node-from-then6
 
   abbrev start-from-then6 : tie.Start
   start-from-then6 = start-from-else1 else1-from-then6
 
 module _ (c : tie.After-is-one-arg) where
   abbrev entry-node-from-is-one-call : tie.After-entry-node
-  entry-node-from-is-one-call = c .before .before .before .before .before .before .before
+  entry-node-from-is-one-call = entry-node-from-enum-told2 (enum-told2-from-else5 (else5-from-else6 (c .before)))
 
   abbrev else1-from-is-one-call : tie.Else1
-  else1-from-is-one-call = entry-node-from-is-one-call .before
+  else1-from-is-one-call = else1-from-entry-node entry-node-from-is-one-call
 
   abbrev start-from-is-one-call : tie.Start
   start-from-is-one-call = start-from-else1 else1-from-is-one-call
@@ -98,13 +122,13 @@ module _ (c : tie.Else4) where
   waits-from-else4 = else2-from-else4 .before
 
   abbrev enum-told-from-else4 : tie.After-enum-told
-  enum-told-from-else4 = waits-from-else4 .before
+  enum-told-from-else4 = enum-told-from-waits waits-from-else4
 
   abbrev entry-node-from-else4 : tie.After-entry-node
-  entry-node-from-else4 = enum-told-from-else4 .before .before
+  entry-node-from-else4 = entry-node-from-enum-told enum-told-from-else4
 
   abbrev else1-from-else4 : tie.Else1
-  else1-from-else4 = entry-node-from-else4 .before
+  else1-from-else4 = else1-from-entry-node entry-node-from-else4
 
   abbrev start-from-else4 : tie.Start
   start-from-else4 = start-from-else1 else1-from-else4
@@ -117,13 +141,13 @@ module _ (c : tie.Then4) where
   waits-from-then4 = else2-from-then4 .before
 
   abbrev enum-told-from-then4 : tie.After-enum-told
-  enum-told-from-then4 = waits-from-then4 .before
+  enum-told-from-then4 = enum-told-from-waits waits-from-then4
 
   abbrev entry-node-from-then4 : tie.After-entry-node
-  entry-node-from-then4 = enum-told-from-then4 .before .before
+  entry-node-from-then4 = entry-node-from-enum-told enum-told-from-then4
 
   abbrev else1-from-then4 : tie.Else1
-  else1-from-then4 = entry-node-from-then4 .before
+  else1-from-then4 = else1-from-entry-node entry-node-from-then4
 
   abbrev start-from-then4 : tie.Start
   start-from-then4 = start-from-else1 else1-from-then4
@@ -136,16 +160,16 @@ module _ (c : tie.Else7) where
   else6-from-else7 = is-one-from-else7 .before .before
 
   abbrev else5-from-else7 : tie.Else5
-  else5-from-else7 = else6-from-else7 .before .before
+  else5-from-else7 = else5-from-else6 else6-from-else7
 
   abbrev enum-told2-from-else7 : tie.After-enum-told2
-  enum-told2-from-else7 = else5-from-else7 .before .before
+  enum-told2-from-else7 = enum-told2-from-else5 else5-from-else7
 
   abbrev entry-node-from-else7 : tie.After-entry-node
-  entry-node-from-else7 = enum-told2-from-else7 .before .before
+  entry-node-from-else7 = entry-node-from-enum-told2 enum-told2-from-else7
 
   abbrev else1-from-else7 : tie.Else1
-  else1-from-else7 = entry-node-from-else7 .before
+  else1-from-else7 = else1-from-entry-node entry-node-from-else7
 
   abbrev start-from-else7 : tie.Start
   start-from-else7 = start-from-else1 else1-from-else7
@@ -158,16 +182,16 @@ module _ (c : tie.Then7) where
   else6-from-then7 = is-one-from-then7 .before .before
 
   abbrev else5-from-then7 : tie.Else5
-  else5-from-then7 = else6-from-then7 .before .before
+  else5-from-then7 = else5-from-else6 else6-from-then7
 
   abbrev enum-told2-from-then7 : tie.After-enum-told2
-  enum-told2-from-then7 = else5-from-then7 .before .before
+  enum-told2-from-then7 = enum-told2-from-else5 else5-from-then7
 
   abbrev entry-node-from-then7 : tie.After-entry-node
-  entry-node-from-then7 = enum-told2-from-then7 .before .before
+  entry-node-from-then7 = entry-node-from-enum-told2 enum-told2-from-then7
 
   abbrev else1-from-then7 : tie.Else1
-  else1-from-then7 = entry-node-from-then7 .before
+  else1-from-then7 = else1-from-entry-node entry-node-from-then7
 
   abbrev start-from-then7 : tie.Start
   start-from-then7 = start-from-else1 else1-from-then7

@@ -18,8 +18,7 @@ module _ (c : tie.After-judge-live-arg8) where
 
 module _ (c : tie.After-judge-live) where
   abbrev start-from-judge-live : tie.Start
-  start-from-judge-live = c .before .before .before .before .before .before .before .before .before .before .before .before .before .before
-      .before .before .before .before .before
+  start-from-judge-live = start-from-judge-live-call (c .before)
 
 module _ (c : tie.After-drop-to-arg5) where
   abbrev judge-live-from-drop-to-call : tie.After-judge-live
@@ -29,17 +28,12 @@ module _ (c : tie.After-drop-to-arg5) where
   abbrev start-from-drop-to-call : tie.Start
   start-from-drop-to-call = start-from-judge-live judge-live-from-drop-to-call
 
-module _ (c : tie.After-drop-to) where
-  abbrev judge-live-from-drop-to : tie.After-judge-live
-  judge-live-from-drop-to = c .before .before .before .before .before .before .before .before .before .before .before .before .before
-      .before .before .before .before .before .before .before .before .before
-
 module _ (c : tie.After-slice-known21) where
   abbrev drop-to-from-return : tie.After-drop-to
   drop-to-from-return = c .before .before .before .before .before .before .before .before .before .before
 
   abbrev judge-live-from-return : tie.After-judge-live
-  judge-live-from-return = judge-live-from-drop-to drop-to-from-return
+  judge-live-from-return = judge-live-from-drop-to-call (drop-to-from-return .before)
 
   abbrev start-from-return : tie.Start
   start-from-return = start-from-judge-live judge-live-from-return

@@ -3,6 +3,7 @@ use mathlib.Core.Path.{ap}
 use mathlib.Core.Bool.{Bool}
 use Prim.Native.Nat.{_+_}
 use borrow.Author.Needs.{needs}
+use Rattle.words.specs.Sets.{noLiterals}
 use Rattle.steps.proofs.line.with_line.Statement.{statement}
 use Rattle.steps.proofs.line.with_line.Tie as tie
 
@@ -12,11 +13,11 @@ refutes-requires c κs = search needs
 add-t6 : tie.Need-add-t6
 add-t6 c = search needs
 
-add-t7 : tie.Need-add-t7
-add-t7 c = search needs
-
 add-t8 : tie.Need-add-t8
 add-t8 c = search needs
+
+add-t9 : tie.Need-add-t9
+add-t9 c = search needs
 
 -- The ways back, written by ways.py: TO-from-FROM leads from the place FROM of the code to the place TO before it.
 module _ (c : tie.After-struct-known3) where
@@ -34,8 +35,7 @@ returns c =
       kept = s .st .count;
       members = s .st .members + 1;
       entries = 0;
-      positive = 0;
-      negative = 0;
+      witness = noLiterals;
       lines = s .st .lines + 1;
       rounds = s .st .rounds + s .rounds;
       peak = s .peak;
@@ -43,4 +43,4 @@ returns c =
     }) (refutes-from-return c .refutes .ensures)
 
 pub with-line-spec : {M : Type 1} → statement M
-with-line-spec = tie.close (tie.spec refutes-requires add-t6 add-t7 add-t8 returns)
+with-line-spec = tie.close (tie.spec refutes-requires add-t6 add-t8 add-t9 returns)

@@ -11,7 +11,7 @@ use Rattle.walks.proofs.Here.{good-readable}
 use Rattle.verdict.specs.Steps as check
 use Rattle.verdict.specs.Steps.{entryNode}
 use Rattle.steps.specs.declared.node.NodeTest.the-variants.{Fits}
-use Rattle.steps.specs.States.{Lent, lentOf, stateOf, withEntry}
+use Rattle.steps.specs.States.{Lent, lentOf, stateOf, stateWithEntry}
 use Rattle.steps.specs.Tests.{NodeTested}
 use Rattle.steps.proofs.Stops.{node-fits}
 use Rattle.steps.proofs.Entering.{few-there}
@@ -39,7 +39,7 @@ module _ (c : tie.After-node-test-arg4) where
 
 module _ (c : tie.After-node-test) where
   abbrev start-from-node-test : tie.Start
-  start-from-node-test = c .before .before .before .before .before .before .before .before .before .before .before
+  start-from-node-test = start-from-node-test-call (c .before)
 
 module _ (c : tie.After-low) where
   abbrev node-test-from-low : tie.After-node-test
@@ -67,7 +67,7 @@ module _ (c : tie.After-put-arg5) where
 
 module _ (c : tie.After-put) where
   abbrev low-from-put : tie.After-low
-  low-from-put = c .before .before .before .before .before .before .before
+  low-from-put = low-from-put-call (c .before)
 
   abbrev start-from-put : tie.Start
   start-from-put = start-from-low low-from-put
@@ -219,7 +219,7 @@ same-length-16 : tie.Need-same-length-16
 same-length-16 c = length-set (start-from-return-3 c .args .scratch .now) (start-from-return-3 c .args .st .entries) (put-from-return-3 c .put .result .node .0)
 
 returns-3 : tie.Need-returns-3
-returns-3 c = λ ms ss H. let s = start-from-return-3 c in node-made _ (lent s ms ss) (s .args .st) (s .args .b) H (tested (low-from-return-3 c) ms ss .0) (outcome (put-from-return-3 c) ms ss) (made (put-from-return-3 c) ms ss) (c .before .before .if1 .left) (c .with-entry .result) (c .with-entry .ensures ∙ ap (withEntry (s .args .st) (outcome (put-from-return-3 c) ms ss .table .count)) (greater-from-return-3 c .greater .ensures))
+returns-3 c = λ ms ss H. let s = start-from-return-3 c in node-made _ (lent s ms ss) (s .args .st) (s .args .b) H (tested (low-from-return-3 c) ms ss .0) (outcome (put-from-return-3 c) ms ss) (made (put-from-return-3 c) ms ss) (c .before .before .if1 .left) (c .with-entry .result) (c .with-entry .ensures ∙ ap (stateWithEntry (s .args .st) (outcome (put-from-return-3 c) ms ss .table .count)) (greater-from-return-3 c .greater .ensures))
 
 pub node-step-spec : {M : Type 1} → statement M
 node-step-spec =

@@ -26,25 +26,39 @@ module _ (s : tie.Start) (ds ks ms ss : List ℕ) where
   room = omega (arith, s .pre .2, s .pre .3)
 
 -- The ways back, written by ways.py: TO-from-FROM leads from the place FROM of the code to the place TO before it.
+module _ (c : tie.After-shared-slice-known4) where
+  abbrev start-from-shared-slice-known4 : tie.Start
+  start-from-shared-slice-known4 = c .before .before .before .before
+
 module _ (c : tie.Then1) where
   abbrev start-from-then1 : tie.Start
-  start-from-then1 = c .before .before .before .before .before
+  start-from-then1 = start-from-shared-slice-known4 (c .before)
 
 module _ (c : tie.Then2) where
   abbrev start-from-then2 : tie.Start
-  start-from-then2 = c .before .before .before .before .before .before
+  start-from-then2 = start-from-shared-slice-known4 (c .before .before)
 
 module _ (c : tie.Else3) where
+  abbrev shared-slice-known4-from-else3 : tie.After-shared-slice-known4
+  shared-slice-known4-from-else3 = c .before .before .before
+
   abbrev start-from-else3 : tie.Start
-  start-from-else3 = c .before .before .before .before .before .before .before
+  start-from-else3 = start-from-shared-slice-known4 shared-slice-known4-from-else3
 
 module _ (c : tie.Then3) where
+  abbrev shared-slice-known4-from-then3 : tie.After-shared-slice-known4
+  shared-slice-known4-from-then3 = c .before .before .before
+
   abbrev start-from-then3 : tie.Start
-  start-from-then3 = c .before .before .before .before .before .before .before
+  start-from-then3 = start-from-shared-slice-known4 shared-slice-known4-from-then3
+
+module _ (c : tie.After-is-entry) where
+  abbrev start-from-is-entry : tie.Start
+  start-from-is-entry = start-from-else3 (c .before)
 
 module _ (c : tie.Else4) where
   abbrev start-from-else4 : tie.Start
-  start-from-else4 = start-from-else3 (c .before .before)
+  start-from-else4 = start-from-is-entry (c .before)
 
 module _ (c : tie.Then4) where
   abbrev else3-from-then4 : tie.Else3
@@ -57,8 +71,11 @@ module _ (c : tie.Else5) where
   abbrev is-entry-from-else5 : tie.After-is-entry
   is-entry-from-else5 = c .before .before .before
 
+  abbrev else3-from-else5 : tie.Else3
+  else3-from-else5 = is-entry-from-else5 .before
+
   abbrev start-from-else5 : tie.Start
-  start-from-else5 = start-from-else3 (is-entry-from-else5 .before)
+  start-from-else5 = start-from-is-entry is-entry-from-else5
 
 module _ (c : tie.Then5) where
   abbrev is-entry-from-then5 : tie.After-is-entry
@@ -78,19 +95,23 @@ module _ (c : tie.After-entry-node2) where
   abbrev start-from-entry-node2 : tie.Start
   start-from-entry-node2 = start-from-entry-node (c .before)
 
+module _ (c : tie.After-stands-above) where
+  abbrev entry-node2-from-stands-above : tie.After-entry-node2
+  entry-node2-from-stands-above = c .before
+
 module _ (c : tie.Else6) where
   abbrev start-from-else6 : tie.Start
-  start-from-else6 = start-from-entry-node2 (c .before .before)
+  start-from-else6 = start-from-entry-node2 (entry-node2-from-stands-above (c .before))
 
 module _ (c : tie.Then6) where
   abbrev entry-node-from-then6 : tie.After-entry-node
-  entry-node-from-then6 = c .before .before .before
+  entry-node-from-then6 = entry-node2-from-stands-above (c .before) .before
 
   abbrev else5-from-then6 : tie.Else5
   else5-from-then6 = entry-node-from-then6 .before
 
   abbrev else3-from-then6 : tie.Else3
-  else3-from-then6 = is-entry-from-else5 else5-from-then6 .before
+  else3-from-then6 = else3-from-else5 else5-from-then6
 
   abbrev start-from-then6 : tie.Start
   start-from-then6 = start-from-else3 else3-from-then6
@@ -100,7 +121,7 @@ module _ (c : tie.Else7) where
   stands-above-from-else7 = c .before .before .before
 
   abbrev entry-node2-from-else7 : tie.After-entry-node2
-  entry-node2-from-else7 = stands-above-from-else7 .before
+  entry-node2-from-else7 = entry-node2-from-stands-above stands-above-from-else7
 
   abbrev entry-node-from-else7 : tie.After-entry-node
   entry-node-from-else7 = entry-node2-from-else7 .before
@@ -109,7 +130,7 @@ module _ (c : tie.Else7) where
   else5-from-else7 = entry-node-from-else7 .before
 
   abbrev else3-from-else7 : tie.Else3
-  else3-from-else7 = is-entry-from-else5 else5-from-else7 .before
+  else3-from-else7 = else3-from-else5 else5-from-else7
 
   abbrev start-from-else7 : tie.Start
   start-from-else7 = start-from-else3 else3-from-else7
@@ -119,13 +140,13 @@ module _ (c : tie.Then7) where
   stands-above-from-then7 = c .before .before .before
 
   abbrev entry-node2-from-then7 : tie.After-entry-node2
-  entry-node2-from-then7 = stands-above-from-then7 .before
+  entry-node2-from-then7 = entry-node2-from-stands-above stands-above-from-then7
 
   abbrev else5-from-then7 : tie.Else5
   else5-from-then7 = entry-node2-from-then7 .before .before
 
   abbrev else3-from-then7 : tie.Else3
-  else3-from-then7 = is-entry-from-else5 else5-from-then7 .before
+  else3-from-then7 = else3-from-else5 else5-from-then7
 
   abbrev start-from-then7 : tie.Start
   start-from-then7 = start-from-else3 else3-from-then7

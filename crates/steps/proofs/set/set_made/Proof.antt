@@ -37,13 +37,9 @@ same-length-5 : tie.Need-same-length-5
 same-length-5 c = search needs
 
 -- The ways back, written by ways.py: TO-from-FROM leads from the place FROM of the code to the place TO before it.
-module _ (c : tie.After-enum-told) where
-  abbrev start-from-enum-told : tie.Start
-  start-from-enum-told = c .before .before .before .before .before .before .before
-
-module _ (c : tie.After-enum-told2) where
-  abbrev start-from-enum-told2 : tie.Start
-  start-from-enum-told2 = c .before .before .before .before .before .before .before
+module _ (c : tie.After-slice-known5) where
+  abbrev start-from-slice-known5 : tie.Start
+  start-from-slice-known5 = c .before .before .before .before .before
 
 module _ (c : tie.After-at-least) where
   abbrev enum-told2-from-at-least : tie.After-enum-told2
@@ -61,7 +57,7 @@ module _ (c : tie.After-slice-known15) where
   enum-told2-from-return-2 = enum-told2-from-at-least at-least-from-return-2
 
   abbrev start-from-return-2 : tie.Start
-  start-from-return-2 = start-from-enum-told2 enum-told2-from-return-2
+  start-from-return-2 = start-from-slice-known5 (enum-told2-from-return-2 .before .before)
 
 module _ (c : tie.After-slice-known10) where
   abbrev parity-from-return : tie.After-parity
@@ -71,7 +67,7 @@ module _ (c : tie.After-slice-known10) where
   enum-told-from-return = enum-told-from-parity parity-from-return
 
   abbrev start-from-return : tie.Start
-  start-from-return = start-from-enum-told enum-told-from-return
+  start-from-return = start-from-slice-known5 (enum-told-from-return .before .before)
 
 returns : tie.Need-returns
 returns c = kind-made (before (start-from-return c)) _ _ _ (enum-told-from-return c .enum-told .given .1) _ (parity-from-return c .parity .ensures)

@@ -6,7 +6,7 @@ use native.Mathlib.Omega.{arith}
 use Rattle.table.specs.Indexed.{Table, tableOf, Outcome, outcomeOf}
 use Rattle.table.proofs.Outcomes.{placeIn, Grown}
 use Rattle.verdict.specs.Steps.{setDiagram}
-use Rattle.steps.specs.States.{Lent, lentOf, withEntry}
+use Rattle.steps.specs.States.{Lent, lentOf, stateWithEntry}
 use Rattle.steps.specs.Tests.{setRefusal}
 use Rattle.steps.proofs.SetEntries.{set-fits, made-grown, set-refused, set-full, set-made}
 use borrow.Author.Needs.{needs}
@@ -81,16 +81,12 @@ module _ (c : tie.After-drop-to-arg5) where
   abbrev set-made-from-drop-to-call : tie.After-set-made
   set-made-from-drop-to-call = set-made-from-greater (then2-from-drop-to-call .before)
 
-module _ (c : tie.After-drop-to) where
-  abbrev then2-from-drop-to : tie.Then2
-  then2-from-drop-to = c .before .before .before .before .before .before
-
 module _ (c : tie.After-slice-known16) where
   abbrev drop-to-from-return-2 : tie.After-drop-to
   drop-to-from-return-2 = c .before .before .before .before .before .before .before .before .before .before
 
   abbrev then2-from-return-2 : tie.Then2
-  then2-from-return-2 = then2-from-drop-to drop-to-from-return-2
+  then2-from-return-2 = then2-from-drop-to-call (drop-to-from-return-2 .before)
 
   abbrev greater-from-return-2 : tie.After-greater
   greater-from-return-2 = then2-from-return-2 .before
@@ -196,7 +192,7 @@ returns-3 c = λ ms ss H.
     let s = start-from-return-3 c in
     let m = set-made-from-return-3 c in
     set-made _ (lent s ms ss) (s .args .st) (s .args .kind) (s .args .b) H (none (else1-from-return-3 c)) (outcome m) (made m) (else2-from-return-3 c .if2 .left) (c .with-entry .result)
-    (c .with-entry .ensures ∙ ap (withEntry (s .args .st) (outcome m .table .count)) (greater-from-return-3 c .greater .ensures))
+    (c .with-entry .ensures ∙ ap (stateWithEntry (s .args .st) (outcome m .table .count)) (greater-from-return-3 c .greater .ensures))
 
 pub set-step-spec : {M : Type 1} → statement M
 set-step-spec =

@@ -12,12 +12,16 @@ is-beyond-requires : tie.Need-is-beyond-requires
 is-beyond-requires c κs = search needs
 
 -- The ways back, written by ways.py: TO-from-FROM leads from the place FROM of the code to the place TO before it.
+module _ (c : tie.After-is-beyond) where
+  abbrev else1-from-is-beyond : tie.Else1
+  else1-from-is-beyond = c .before
+
 module _ (c : tie.Then2) where
   abbrev is-beyond-from-then2 : tie.After-is-beyond
   is-beyond-from-then2 = c .before
 
   abbrev else1-from-then2 : tie.Else1
-  else1-from-then2 = is-beyond-from-then2 .before
+  else1-from-then2 = else1-from-is-beyond is-beyond-from-then2
 
 module _ (c : tie.After-enum-told2) where
   abbrev else2-from-return-5 : tie.Else2
@@ -27,7 +31,7 @@ module _ (c : tie.After-enum-told2) where
   is-beyond-from-return-5 = else2-from-return-5 .before
 
   abbrev else1-from-return-5 : tie.Else1
-  else1-from-return-5 = is-beyond-from-return-5 .before
+  else1-from-return-5 = else1-from-is-beyond is-beyond-from-return-5
 
 module _ (c : tie.Else3) where
   abbrev enum-told-from-else3 : tie.After-enum-told
@@ -40,7 +44,7 @@ module _ (c : tie.Else3) where
   is-beyond-from-else3 = else2-from-else3 .before
 
   abbrev else1-from-else3 : tie.Else1
-  else1-from-else3 = is-beyond-from-else3 .before
+  else1-from-else3 = else1-from-is-beyond is-beyond-from-else3
 
 module _ (c : tie.Then3) where
   abbrev enum-told-from-then3 : tie.After-enum-told
@@ -53,7 +57,7 @@ module _ (c : tie.Then3) where
   is-beyond-from-then3 = else2-from-then3 .before
 
   abbrev else1-from-then3 : tie.Else1
-  else1-from-then3 = is-beyond-from-then3 .before
+  else1-from-then3 = else1-from-is-beyond is-beyond-from-then3
 
 returns-2 : tie.Need-returns-2
 returns-2 c = refuse-12 _ _ _ _ (else1-from-then2 c .if1 .left) (sym (is-beyond-from-then2 c .is-beyond .ensures) ∙ c .if2 .taken)

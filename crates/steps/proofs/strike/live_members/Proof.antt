@@ -41,10 +41,18 @@ add-i c = search needs
 loop-less : tie.Need-loop-less Inv-loop μ-loop
 loop-less c = search needs
 
+-- The ways back, written by ways.py: TO-from-FROM leads from the place FROM of the code to the place TO before it.
+module _ (c : tie.Joined1 Inv-loop μ-loop) where
+  abbrev at-loop-from-loop-again : tie.At-loop Inv-loop μ-loop
+  at-loop-from-loop-again = c .before .before .before
+
+  abbrev start-from-loop-again : tie.Start Inv-loop μ-loop
+  start-from-loop-again = at-loop-from-loop-again .before
+
 loop-again : tie.Need-loop-again Inv-loop μ-loop
 loop-again c =
-    let s = c .before .before .before .before in
-    let k = c .before .before .before in
+    let s = start-from-loop-again c in
+    let k = at-loop-from-loop-again c in
     ⊎-elim
     (λ w.
     subst (λ (live : List ℕ). Gathered (s .args .struck .now) (s .args .members .now) (s .args .m) (s .args .live .now) live (k .loop .i + 1) (c .if1 .count)) (sym (w .2))

@@ -26,42 +26,50 @@ shared-slice-read-if1 : tie.Need-shared-slice-read-if1 Inv-loop μ-loop
 shared-slice-read-if1 c = search needs
 
 -- The ways back, written by ways.py: TO-from-FROM leads from the place FROM of the code to the place TO before it.
+module _ (c : tie.At-loop Inv-loop μ-loop) where
+  abbrev start-from-at-loop : tie.Start Inv-loop μ-loop
+  start-from-at-loop = c .before
+
+module _ (c : tie.In-loop Inv-loop μ-loop) where
+  abbrev at-loop-from-in-loop : tie.At-loop Inv-loop μ-loop
+  at-loop-from-in-loop = c .before
+
 module _ (c : tie.Then1 Inv-loop μ-loop) where
   abbrev at-loop-from-then1 : tie.At-loop Inv-loop μ-loop
-  at-loop-from-then1 = c .before .before .before
+  at-loop-from-then1 = at-loop-from-in-loop (c .before .before)
 
   abbrev start-from-then1 : tie.Start Inv-loop μ-loop
-  start-from-then1 = at-loop-from-then1 .before
+  start-from-then1 = start-from-at-loop at-loop-from-then1
 
 module _ (c : tie.Then2 Inv-loop μ-loop) where
   abbrev in-loop-from-then2 : tie.In-loop Inv-loop μ-loop
   in-loop-from-then2 = c .before .before .before .before
 
   abbrev at-loop-from-then2 : tie.At-loop Inv-loop μ-loop
-  at-loop-from-then2 = in-loop-from-then2 .before
+  at-loop-from-then2 = at-loop-from-in-loop in-loop-from-then2
 
   abbrev start-from-then2 : tie.Start Inv-loop μ-loop
-  start-from-then2 = at-loop-from-then2 .before
+  start-from-then2 = start-from-at-loop at-loop-from-then2
 
 module _ (c : tie.Else3 Inv-loop μ-loop) where
   abbrev in-loop-from-else3 : tie.In-loop Inv-loop μ-loop
   in-loop-from-else3 = c .before .before .before .before .before .before
 
   abbrev at-loop-from-else3 : tie.At-loop Inv-loop μ-loop
-  at-loop-from-else3 = in-loop-from-else3 .before
+  at-loop-from-else3 = at-loop-from-in-loop in-loop-from-else3
 
   abbrev start-from-else3 : tie.Start Inv-loop μ-loop
-  start-from-else3 = at-loop-from-else3 .before
+  start-from-else3 = start-from-at-loop at-loop-from-else3
 
 module _ (c : tie.Then3 Inv-loop μ-loop) where
   abbrev in-loop-from-then3 : tie.In-loop Inv-loop μ-loop
   in-loop-from-then3 = c .before .before .before .before .before .before
 
   abbrev at-loop-from-then3 : tie.At-loop Inv-loop μ-loop
-  at-loop-from-then3 = in-loop-from-then3 .before
+  at-loop-from-then3 = at-loop-from-in-loop in-loop-from-then3
 
   abbrev start-from-then3 : tie.Start Inv-loop μ-loop
-  start-from-then3 = at-loop-from-then3 .before
+  start-from-then3 = start-from-at-loop at-loop-from-then3
 
 returns : tie.Need-returns Inv-loop μ-loop
 returns c =

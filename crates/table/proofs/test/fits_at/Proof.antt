@@ -27,9 +27,13 @@ module _ (c : tie.After-shared-slice-known5) where
   abbrev start-from-shared-slice-known5 : tie.Start
   start-from-shared-slice-known5 = c .before .before .before .before .before
 
+module _ (c : tie.After-shared-slice-known6) where
+  abbrev start-from-shared-slice-known6 : tie.Start
+  start-from-shared-slice-known6 = start-from-shared-slice-known5 (c .before)
+
 module _ (c : tie.Then1) where
   abbrev start-from-then1 : tie.Start
-  start-from-then1 = start-from-shared-slice-known5 (c .before .before)
+  start-from-then1 = start-from-shared-slice-known6 (c .before)
 
 module _ (c : tie.Else2) where
   abbrev shared-slice-known5-from-else2 : tie.After-shared-slice-known5
@@ -40,18 +44,22 @@ module _ (c : tie.Else2) where
 
 module _ (c : tie.Then2) where
   abbrev start-from-then2 : tie.Start
-  start-from-then2 = start-from-shared-slice-known5 (c .before .before .before)
+  start-from-then2 = start-from-shared-slice-known6 (c .before .before)
 
 module _ (c : tie.Else3) where
   abbrev shared-slice-known6-from-else3 : tie.After-shared-slice-known6
   shared-slice-known6-from-else3 = c .before .before .before
 
   abbrev start-from-else3 : tie.Start
-  start-from-else3 = start-from-shared-slice-known5 (shared-slice-known6-from-else3 .before)
+  start-from-else3 = start-from-shared-slice-known6 shared-slice-known6-from-else3
 
 module _ (c : tie.Then3) where
   abbrev start-from-then3 : tie.Start
   start-from-then3 = start-from-else2 (c .before)
+
+module _ (c : tie.Else4) where
+  abbrev start-from-else4 : tie.Start
+  start-from-else4 = start-from-else3 (c .before)
 
 module _ (c : tie.Then4) where
   abbrev start-from-then4 : tie.Start
@@ -59,18 +67,18 @@ module _ (c : tie.Then4) where
 
 module _ (c : tie.Else5) where
   abbrev start-from-else5 : tie.Start
-  start-from-else5 = start-from-else3 (c .before .before)
+  start-from-else5 = start-from-else4 (c .before)
 
 module _ (c : tie.Then5) where
   abbrev start-from-then5 : tie.Start
-  start-from-then5 = start-from-else3 (c .before .before)
+  start-from-then5 = start-from-else4 (c .before)
 
 module _ (c : tie.Else6) where
   abbrev else4-from-else6 : tie.Else4
   else4-from-else6 = c .before .before .before
 
   abbrev start-from-else6 : tie.Start
-  start-from-else6 = start-from-else3 (else4-from-else6 .before)
+  start-from-else6 = start-from-else4 else4-from-else6
 
 module _ (c : tie.Then6) where
   abbrev start-from-then6 : tie.Start
@@ -93,7 +101,7 @@ module _ (c : tie.After-stands-above2) where
   else1-from-return-7 = else2-from-return-7 .before
 
   abbrev start-from-return-7 : tie.Start
-  start-from-return-7 = start-from-shared-slice-known5 (else1-from-return-7 .before .before)
+  start-from-return-7 = start-from-shared-slice-known6 (else1-from-return-7 .before)
 
 returns : tie.Need-returns
 returns c =

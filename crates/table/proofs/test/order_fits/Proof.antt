@@ -14,17 +14,24 @@ module _ (c : tie.After-shared-slice-known5) where
   abbrev start-from-shared-slice-known5 : tie.Start
   start-from-shared-slice-known5 = c .before .before .before .before .before
 
+module _ (c : tie.Else1) where
+  abbrev start-from-else1 : tie.Start
+  start-from-else1 = start-from-shared-slice-known5 (c .before)
+
 module _ (c : tie.Then1) where
   abbrev start-from-then1 : tie.Start
   start-from-then1 = start-from-shared-slice-known5 (c .before)
 
 module _ (c : tie.Else2) where
+  abbrev else1-from-else2 : tie.Else1
+  else1-from-else2 = c .before
+
   abbrev start-from-else2 : tie.Start
-  start-from-else2 = start-from-shared-slice-known5 (c .before .before)
+  start-from-else2 = start-from-else1 else1-from-else2
 
 module _ (c : tie.Then2) where
   abbrev start-from-then2 : tie.Start
-  start-from-then2 = start-from-shared-slice-known5 (c .before .before)
+  start-from-then2 = start-from-else1 (c .before)
 
 module _ (c : tie.Else3) where
   abbrev start-from-else3 : tie.Start
@@ -32,10 +39,14 @@ module _ (c : tie.Else3) where
 
 module _ (c : tie.Then3) where
   abbrev else1-from-then3 : tie.Else1
-  else1-from-then3 = c .before .before .before
+  else1-from-then3 = else1-from-else2 (c .before .before)
 
   abbrev start-from-then3 : tie.Start
-  start-from-then3 = start-from-shared-slice-known5 (else1-from-then3 .before)
+  start-from-then3 = start-from-else1 else1-from-then3
+
+module _ (c : tie.After-blank-between2) where
+  abbrev else2-from-blank-between2 : tie.Else2
+  else2-from-blank-between2 = c .before .before .before
 
 module _ (c : tie.Else4) where
   abbrev start-from-else4 : tie.Start
@@ -43,93 +54,101 @@ module _ (c : tie.Else4) where
 
 module _ (c : tie.Then4) where
   abbrev else2-from-then4 : tie.Else2
-  else2-from-then4 = c .before .before .before .before
+  else2-from-then4 = else2-from-blank-between2 (c .before)
 
   abbrev else1-from-then4 : tie.Else1
-  else1-from-then4 = else2-from-then4 .before
+  else1-from-then4 = else1-from-else2 else2-from-then4
 
   abbrev start-from-then4 : tie.Start
-  start-from-then4 = start-from-shared-slice-known5 (else1-from-then4 .before)
+  start-from-then4 = start-from-else1 else1-from-then4
+
+module _ (c : tie.After-links-empty) where
+  abbrev else2-from-links-empty : tie.Else2
+  else2-from-links-empty = else2-from-blank-between2 (c .before .before)
 
 module _ (c : tie.Else5) where
   abbrev else2-from-else5 : tie.Else2
-  else2-from-else5 = c .before .before .before .before .before .before
+  else2-from-else5 = else2-from-links-empty (c .before)
 
   abbrev start-from-else5 : tie.Start
   start-from-else5 = start-from-else2 else2-from-else5
 
 module _ (c : tie.Then5) where
   abbrev else2-from-then5 : tie.Else2
-  else2-from-then5 = c .before .before .before .before .before .before
+  else2-from-then5 = else2-from-links-empty (c .before)
 
   abbrev else1-from-then5 : tie.Else1
-  else1-from-then5 = else2-from-then5 .before
+  else1-from-then5 = else1-from-else2 else2-from-then5
 
   abbrev start-from-then5 : tie.Start
-  start-from-then5 = start-from-shared-slice-known5 (else1-from-then5 .before)
+  start-from-then5 = start-from-else1 else1-from-then5
 
 module _ (c : tie.Else6) where
   abbrev else2-from-else6 : tie.Else2
   else2-from-else6 = else2-from-else5 (c .before .before)
 
   abbrev else1-from-else6 : tie.Else1
-  else1-from-else6 = else2-from-else6 .before
+  else1-from-else6 = else1-from-else2 else2-from-else6
 
   abbrev start-from-else6 : tie.Start
-  start-from-else6 = start-from-shared-slice-known5 (else1-from-else6 .before)
+  start-from-else6 = start-from-else1 else1-from-else6
 
 module _ (c : tie.Then6) where
   abbrev else2-from-then6 : tie.Else2
   else2-from-then6 = else2-from-else5 (c .before .before)
 
   abbrev else1-from-then6 : tie.Else1
-  else1-from-then6 = else2-from-then6 .before
+  else1-from-then6 = else1-from-else2 else2-from-then6
 
   abbrev start-from-then6 : tie.Start
-  start-from-then6 = start-from-shared-slice-known5 (else1-from-then6 .before)
+  start-from-then6 = start-from-else1 else1-from-then6
+
+module _ (c : tie.After-nodes-fit) where
+  abbrev else2-from-nodes-fit : tie.Else2
+  else2-from-nodes-fit = else2-from-else6 (c .before)
 
 module _ (c : tie.Else7) where
   abbrev else2-from-else7 : tie.Else2
-  else2-from-else7 = else2-from-else6 (c .before .before)
+  else2-from-else7 = else2-from-nodes-fit (c .before)
 
   abbrev else1-from-else7 : tie.Else1
-  else1-from-else7 = else2-from-else7 .before
+  else1-from-else7 = else1-from-else2 else2-from-else7
 
   abbrev start-from-else7 : tie.Start
-  start-from-else7 = start-from-shared-slice-known5 (else1-from-else7 .before)
+  start-from-else7 = start-from-else1 else1-from-else7
 
 module _ (c : tie.Then7) where
   abbrev else2-from-then7 : tie.Else2
-  else2-from-then7 = else2-from-else6 (c .before .before)
+  else2-from-then7 = else2-from-nodes-fit (c .before)
 
   abbrev else1-from-then7 : tie.Else1
-  else1-from-then7 = else2-from-then7 .before
+  else1-from-then7 = else1-from-else2 else2-from-then7
 
   abbrev start-from-then7 : tie.Start
-  start-from-then7 = start-from-shared-slice-known5 (else1-from-then7 .before)
+  start-from-then7 = start-from-else1 else1-from-then7
 
 module _ (c : tie.Else8) where
   abbrev nodes-fit-from-else8 : tie.After-nodes-fit
   nodes-fit-from-else8 = c .before .before .before
 
   abbrev else2-from-else8 : tie.Else2
-  else2-from-else8 = else2-from-else6 (nodes-fit-from-else8 .before)
+  else2-from-else8 = else2-from-nodes-fit nodes-fit-from-else8
 
   abbrev else1-from-else8 : tie.Else1
-  else1-from-else8 = else2-from-else8 .before
+  else1-from-else8 = else1-from-else2 else2-from-else8
 
   abbrev start-from-else8 : tie.Start
-  start-from-else8 = start-from-shared-slice-known5 (else1-from-else8 .before)
+  start-from-else8 = start-from-else1 else1-from-else8
 
 module _ (c : tie.Then8) where
   abbrev else2-from-then8 : tie.Else2
   else2-from-then8 = else2-from-else7 (c .before .before)
 
   abbrev else1-from-then8 : tie.Else1
-  else1-from-then8 = else2-from-then8 .before
+  else1-from-then8 = else1-from-else2 else2-from-then8
 
   abbrev start-from-then8 : tie.Start
-  start-from-then8 = start-from-shared-slice-known5 (else1-from-then8 .before)
+  start-from-then8 = start-from-else1 else1-from-then8
 
 module _ (c : tie.After-all-reached) where
   abbrev else7-from-return-9 : tie.Else7
@@ -166,10 +185,10 @@ module _ (c : tie.After-all-reached) where
   else2-from-return-9 = blank-between-from-return-9 .before
 
   abbrev else1-from-return-9 : tie.Else1
-  else1-from-return-9 = else2-from-return-9 .before
+  else1-from-return-9 = else1-from-else2 else2-from-return-9
 
   abbrev start-from-return-9 : tie.Start
-  start-from-return-9 = start-from-shared-slice-known5 (else1-from-return-9 .before)
+  start-from-return-9 = start-from-else1 else1-from-return-9
 
 returns : tie.Need-returns
 returns c = sym (no-order _ _ _ _ (too-few _ _ _ (sized _ _ _ _ _ (start-from-then1 c .pre) .lows) (sized _ _ _ _ _ (start-from-then1 c .pre) .highs) _ (c .if1 .taken)))

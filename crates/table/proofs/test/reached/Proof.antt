@@ -44,9 +44,13 @@ module _ (c : tie.After-shared-slice-known9 Inv-loop μ-loop) where
   abbrev start-from-loop-holds : tie.Start Inv-loop μ-loop
   start-from-loop-holds = c .before .before .before .before .before .before .before .before .before .before
 
+module _ (c : tie.At-loop Inv-loop μ-loop) where
+  abbrev start-from-at-loop : tie.Start Inv-loop μ-loop
+  start-from-at-loop = start-from-loop-holds (c .before)
+
 module _ (c : tie.After-loop Inv-loop μ-loop) where
   abbrev start-from-return-2 : tie.Start Inv-loop μ-loop
-  start-from-return-2 = start-from-loop-holds (c .before .before)
+  start-from-return-2 = start-from-at-loop (c .before)
 
 module _ (c : tie.After-shared-slice-known13 Inv-loop μ-loop) where
   abbrev in-loop-from-loop-again : tie.In-loop Inv-loop μ-loop
@@ -56,7 +60,7 @@ module _ (c : tie.After-shared-slice-known13 Inv-loop μ-loop) where
   at-loop-from-loop-again = in-loop-from-loop-again .before
 
   abbrev start-from-loop-again : tie.Start Inv-loop μ-loop
-  start-from-loop-again = start-from-loop-holds (at-loop-from-loop-again .before)
+  start-from-loop-again = start-from-at-loop at-loop-from-loop-again
 
 module _ (c : tie.Then3 Inv-loop μ-loop) where
   abbrev in-loop-from-then3 : tie.In-loop Inv-loop μ-loop
@@ -66,7 +70,7 @@ module _ (c : tie.Then3 Inv-loop μ-loop) where
   at-loop-from-then3 = in-loop-from-then3 .before
 
   abbrev start-from-then3 : tie.Start Inv-loop μ-loop
-  start-from-then3 = start-from-loop-holds (at-loop-from-then3 .before)
+  start-from-then3 = start-from-at-loop at-loop-from-then3
 
 cast-j : tie.Need-cast-j Inv-loop μ-loop
 cast-j c = omega (arith, walk-start _ (start-from-loop-holds c .pre .0 .0) (start-from-loop-holds c .pre .1) _ _ (c .before .bucket-of .ensures .1) (c .before .bucket-of .ensures .0) .below, start-from-loop-holds c .pre .0 .0 .within, start-from-loop-holds c .pre .0 .0 .most)

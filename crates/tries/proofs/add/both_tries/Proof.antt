@@ -10,27 +10,27 @@ use Rattle.tries.proofs.add.both_tries.Statement.{statement}
 use Rattle.tries.proofs.add.both_tries.Tie as tie
 
 -- The ways back, written by ways.py: TO-from-FROM leads from the place FROM of the code to the place TO before it.
-module _ (c : tie.Else1) where
-  abbrev start-from-else1 : tie.Start
-  start-from-else1 = c .before .before .before .before .before .before .before .before .before .before .before
+module _ (c : tie.After-shared-slice-known2) where
+  abbrev start-from-shared-slice-known2 : tie.Start
+  start-from-shared-slice-known2 = c .before .before .before .before .before .before .before .before .before .before
 
 module _ (c : tie.Then1) where
   abbrev start-from-then1 : tie.Start
-  start-from-then1 = c .before .before .before .before .before .before .before .before .before .before .before
+  start-from-then1 = start-from-shared-slice-known2 (c .before)
 
 module _ (c : tie.After-try-line-arg8) where
   abbrev else1-from-try-line-call : tie.Else1
   else1-from-try-line-call = c .before .before .before .before .before .before .before .before .before
 
   abbrev start-from-try-line-call : tie.Start
-  start-from-try-line-call = start-from-else1 else1-from-try-line-call
+  start-from-try-line-call = start-from-shared-slice-known2 (else1-from-try-line-call .before)
 
 module _ (c : tie.After-try-line) where
   abbrev else1-from-try-line : tie.Else1
-  else1-from-try-line = c .before .before .before .before .before .before .before .before .before .before
+  else1-from-try-line = else1-from-try-line-call (c .before)
 
   abbrev start-from-try-line : tie.Start
-  start-from-try-line = start-from-else1 else1-from-try-line
+  start-from-try-line = start-from-try-line-call (c .before)
 
 module _ (c : tie.After-is-decided) where
   abbrev try-line-from-is-decided : tie.After-try-line
@@ -40,6 +40,9 @@ module _ (c : tie.After-is-decided) where
 module _ (c : tie.Else2) where
   abbrev is-decided-from-else2 : tie.After-is-decided
   is-decided-from-else2 = c .before
+
+  abbrev try-line-from-else2 : tie.After-try-line
+  try-line-from-else2 = try-line-from-is-decided is-decided-from-else2
 
 module _ (c : tie.Then2) where
   abbrev is-decided-from-then2 : tie.After-is-decided
@@ -56,14 +59,10 @@ module _ (c : tie.After-second-try-arg8) where
   else2-from-second-try-call = c .before .before .before .before .before .before .before .before
 
   abbrev try-line-from-second-try-call : tie.After-try-line
-  try-line-from-second-try-call = try-line-from-is-decided (is-decided-from-else2 else2-from-second-try-call)
+  try-line-from-second-try-call = try-line-from-else2 else2-from-second-try-call
 
   abbrev start-from-second-try-call : tie.Start
   start-from-second-try-call = start-from-try-line try-line-from-second-try-call
-
-module _ (c : tie.After-second-try) where
-  abbrev else2-from-second-try : tie.Else2
-  else2-from-second-try = c .before .before .before .before .before .before .before .before .before
 
 module _ (c : tie.After-greater) where
   abbrev second-try-from-return-3 : tie.After-second-try
@@ -71,10 +70,10 @@ module _ (c : tie.After-greater) where
       .before .before .before .before
 
   abbrev else2-from-return-3 : tie.Else2
-  else2-from-return-3 = else2-from-second-try second-try-from-return-3
+  else2-from-return-3 = else2-from-second-try-call (second-try-from-return-3 .before)
 
   abbrev try-line-from-return-3 : tie.After-try-line
-  try-line-from-return-3 = try-line-from-is-decided (is-decided-from-else2 else2-from-return-3)
+  try-line-from-return-3 = try-line-from-else2 else2-from-return-3
 
   abbrev else1-from-return-3 : tie.Else1
   else1-from-return-3 = else1-from-try-line try-line-from-return-3

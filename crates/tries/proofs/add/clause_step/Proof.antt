@@ -26,28 +26,24 @@ module _ (s : tie.Start) where
   held = s .pre .0
 
 -- The ways back, written by ways.py: TO-from-FROM leads from the place FROM of the code to the place TO before it.
+module _ (c : tie.After-struct-known) where
+  abbrev start-from-struct-known : tie.Start
+  start-from-struct-known = c .before .before .before .before .before .before .before .before .before .before .before .before
+
 module _ (c : tie.Else1) where
   abbrev start-from-else1 : tie.Start
-  start-from-else1 = c .before .before .before .before .before .before .before .before .before .before .before .before .before
+  start-from-else1 = start-from-struct-known (c .before)
 
 module _ (c : tie.Then1) where
   abbrev start-from-then1 : tie.Start
-  start-from-then1 = c .before .before .before .before .before .before .before .before .before .before .before .before .before
-
-module _ (c : tie.After-shared) where
-  abbrev else1-from-shared : tie.Else1
-  else1-from-shared = c .before
-
-module _ (c : tie.Else2) where
-  abbrev shared-from-else2 : tie.After-shared
-  shared-from-else2 = c .before
+  start-from-then1 = start-from-struct-known (c .before)
 
 module _ (c : tie.Then2) where
   abbrev shared-from-then2 : tie.After-shared
   shared-from-then2 = c .before
 
   abbrev else1-from-then2 : tie.Else1
-  else1-from-then2 = else1-from-shared shared-from-then2
+  else1-from-then2 = shared-from-then2 .before
 
   abbrev start-from-then2 : tie.Start
   start-from-then2 = start-from-else1 else1-from-then2
@@ -57,17 +53,17 @@ module _ (c : tie.After-make-arg5) where
   else2-from-make-call = c .before .before .before .before .before
 
   abbrev start-from-make-call : tie.Start
-  start-from-make-call = start-from-else1 (else1-from-shared (shared-from-else2 else2-from-make-call))
+  start-from-make-call = start-from-else1 (else2-from-make-call .before .before)
 
 module _ (c : tie.After-make) where
   abbrev else2-from-make : tie.Else2
-  else2-from-make = c .before .before .before .before .before .before
+  else2-from-make = else2-from-make-call (c .before)
 
   abbrev shared-from-make : tie.After-shared
-  shared-from-make = shared-from-else2 else2-from-make
+  shared-from-make = else2-from-make .before
 
   abbrev else1-from-make : tie.Else1
-  else1-from-make = else1-from-shared shared-from-make
+  else1-from-make = shared-from-make .before
 
   abbrev start-from-make : tie.Start
   start-from-make = start-from-else1 else1-from-make
@@ -78,17 +74,14 @@ module _ (c : tie.After-greater) where
 
 module _ (c : tie.After-both-tries-arg9) where
   abbrev greater-from-both-tries-call : tie.After-greater
-  greater-from-both-tries-call = c .before .before .before .before .before .before .before .before .before .before
+  greater-from-both-tries-call = c .before .before .before .before .before .before .before .before .before .before .before
 
   abbrev make-from-both-tries-call : tie.After-make
   make-from-both-tries-call = make-from-greater greater-from-both-tries-call
 
 module _ (c : tie.After-both-tries) where
-  abbrev greater-from-both-tries : tie.After-greater
-  greater-from-both-tries = c .before .before .before .before .before .before .before .before .before .before .before
-
   abbrev make-from-both-tries : tie.After-make
-  make-from-both-tries = make-from-greater greater-from-both-tries
+  make-from-both-tries = make-from-both-tries-call (c .before)
 
 module _ (c : tie.After-kept-count) where
   abbrev both-tries-from-kept-count : tie.After-both-tries
@@ -102,36 +95,28 @@ module _ (c : tie.After-drop-to-arg5) where
   abbrev both-tries-from-drop-to-call : tie.After-both-tries
   both-tries-from-drop-to-call = both-tries-from-kept-count kept-count-from-drop-to-call
 
-module _ (c : tie.After-drop-to) where
-  abbrev kept-count-from-drop-to : tie.After-kept-count
-  kept-count-from-drop-to = c .before .before .before .before .before .before
-
 module _ (c : tie.After-ended-arg) where
   abbrev drop-to-from-ended-call : tie.After-drop-to
   drop-to-from-ended-call = c .before .before .before .before .before .before .before .before .before .before .before
 
   abbrev both-tries-from-ended-call : tie.After-both-tries
-  both-tries-from-ended-call = both-tries-from-kept-count (kept-count-from-drop-to drop-to-from-ended-call)
-
-module _ (c : tie.After-ended) where
-  abbrev drop-to-from-ended : tie.After-drop-to
-  drop-to-from-ended = c .before .before .before .before .before .before .before .before .before .before .before .before
+  both-tries-from-ended-call = both-tries-from-drop-to-call (drop-to-from-ended-call .before)
 
 module _ (c : tie.After-slice-known28) where
   abbrev ended-from-return-3 : tie.After-ended
   ended-from-return-3 = c .before .before
 
   abbrev drop-to-from-return-3 : tie.After-drop-to
-  drop-to-from-return-3 = drop-to-from-ended ended-from-return-3
+  drop-to-from-return-3 = drop-to-from-ended-call (ended-from-return-3 .before)
 
   abbrev kept-count-from-return-3 : tie.After-kept-count
-  kept-count-from-return-3 = kept-count-from-drop-to drop-to-from-return-3
+  kept-count-from-return-3 = kept-count-from-drop-to-call (drop-to-from-return-3 .before)
 
   abbrev both-tries-from-return-3 : tie.After-both-tries
   both-tries-from-return-3 = both-tries-from-kept-count kept-count-from-return-3
 
   abbrev greater-from-return-3 : tie.After-greater
-  greater-from-return-3 = greater-from-both-tries both-tries-from-return-3
+  greater-from-return-3 = greater-from-both-tries-call (both-tries-from-return-3 .before)
 
   abbrev make-from-return-3 : tie.After-make
   make-from-return-3 = make-from-greater greater-from-return-3

@@ -48,13 +48,17 @@ enum-known-pivot : tie.Need-enum-known-pivot
 enum-known-pivot c = search needs
 
 -- The ways back, written by ways.py: TO-from-FROM leads from the place FROM of the code to the place TO before it.
+module _ (c : tie.After-literals) where
+  abbrev start-from-literals : tie.Start
+  start-from-literals = c .before .before .before .before .before .before .before .before .before .before .before
+
 module _ (c : tie.After-enum-told) where
   abbrev start-from-return : tie.Start
-  start-from-return = c .before .before .before .before .before .before .before .before .before .before .before .before .before
+  start-from-return = start-from-literals (c .before .before)
 
 module _ (c : tie.After-pivot) where
   abbrev start-from-pivot : tie.Start
-  start-from-pivot = c .before .before .before .before .before .before .before .before .before .before .before .before .before
+  start-from-pivot = start-from-literals (c .before .before)
 
 module _ (c : tie.After-known-told) where
   abbrev pivot-from-witness-call : tie.After-pivot
@@ -63,20 +67,12 @@ module _ (c : tie.After-known-told) where
   abbrev start-from-witness-call : tie.Start
   start-from-witness-call = start-from-pivot pivot-from-witness-call
 
-module _ (c : tie.After-witness) where
-  abbrev pivot-from-witness : tie.After-pivot
-  pivot-from-witness = c .before .before
-
 module _ (c : tie.After-with-witness) where
   abbrev witness-from-with-witness : tie.After-witness
   witness-from-with-witness = c .before .before .before .before .before .before .before .before .before
 
   abbrev start-from-try-line-call : tie.Start
-  start-from-try-line-call = start-from-pivot (pivot-from-witness witness-from-with-witness)
-
-module _ (c : tie.After-try-line) where
-  abbrev with-witness-from-try-line : tie.After-with-witness
-  with-witness-from-try-line = c .before
+  start-from-try-line-call = start-from-pivot (witness-from-with-witness .before .before)
 
 module _ (c : tie.After-slice-known16) where
   abbrev try-line-from-return-2 : tie.After-try-line
@@ -84,13 +80,13 @@ module _ (c : tie.After-slice-known16) where
       .before .before
 
   abbrev with-witness-from-return-2 : tie.After-with-witness
-  with-witness-from-return-2 = with-witness-from-try-line try-line-from-return-2
+  with-witness-from-return-2 = try-line-from-return-2 .before
 
   abbrev witness-from-return-2 : tie.After-witness
   witness-from-return-2 = witness-from-with-witness with-witness-from-return-2
 
   abbrev pivot-from-return-2 : tie.After-pivot
-  pivot-from-return-2 = pivot-from-witness witness-from-return-2
+  pivot-from-return-2 = witness-from-return-2 .before .before
 
   abbrev start-from-return-2 : tie.Start
   start-from-return-2 = start-from-pivot pivot-from-return-2

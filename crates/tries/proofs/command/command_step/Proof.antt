@@ -12,39 +12,31 @@ enum-known-command c =
     search needs
 
 -- The ways back, written by ways.py: TO-from-FROM leads from the place FROM of the code to the place TO before it.
-module _ (c : tie.After-command) where
-  abbrev start-from-command : tie.Start
-  start-from-command = c .before .before .before .before .before .before .before .before .before .before .before .before
+module _ (c : tie.After-slice-known10) where
+  abbrev start-from-slice-known10 : tie.Start
+  start-from-slice-known10 = c .before .before .before .before .before .before .before .before .before .before
 
 module _ (c : tie.After-command2) where
   abbrev start-from-command2 : tie.Start
-  start-from-command2 = c .before .before .before .before .before .before .before .before .before .before .before .before
+  start-from-command2 = start-from-slice-known10 (c .before .before)
 
 module _ (c : tie.After-command3) where
   abbrev start-from-command3 : tie.Start
-  start-from-command3 = c .before .before .before .before .before .before .before .before .before .before .before .before
-
-module _ (c : tie.After-command4) where
-  abbrev start-from-command4 : tie.Start
-  start-from-command4 = c .before .before .before .before .before .before .before .before .before .before .before .before
-
-module _ (c : tie.After-enum-told) where
-  abbrev start-from-enum-told : tie.Start
-  start-from-enum-told = c .before .before .before .before .before .before .before .before .before .before .before .before
+  start-from-command3 = start-from-slice-known10 (c .before .before)
 
 module _ (c : tie.After-finish-step) where
   abbrev enum-told-from-return-5 : tie.After-enum-told
   enum-told-from-return-5 = c .before
 
   abbrev start-from-return-5 : tie.Start
-  start-from-return-5 = start-from-enum-told enum-told-from-return-5
+  start-from-return-5 = start-from-slice-known10 (enum-told-from-return-5 .before .before)
 
 module _ (c : tie.After-known-told4) where
   abbrev command4-from-return-4 : tie.After-command4
   command4-from-return-4 = c .before
 
   abbrev start-from-return-4 : tie.Start
-  start-from-return-4 = start-from-command4 command4-from-return-4
+  start-from-return-4 = start-from-slice-known10 (command4-from-return-4 .before .before)
 
 module _ (c : tie.After-strike-clause-arg7) where
   abbrev command3-from-strike-clause-call : tie.After-command3
@@ -52,10 +44,6 @@ module _ (c : tie.After-strike-clause-arg7) where
 
   abbrev start-from-strike-clause-call : tie.Start
   start-from-strike-clause-call = start-from-command3 command3-from-strike-clause-call
-
-module _ (c : tie.After-strike-clause) where
-  abbrev command3-from-strike-clause : tie.After-command3
-  command3-from-strike-clause = c .before .before .before .before .before .before .before .before .before
 
 module _ (c : tie.After-clause-step-arg10) where
   abbrev command2-from-clause-step-call : tie.After-command2
@@ -69,25 +57,17 @@ module _ (c : tie.After-record-step-arg10) where
   command-from-record-step-call = c .before .before .before .before .before .before .before .before .before .before .before
 
   abbrev start-from-record-step-call : tie.Start
-  start-from-record-step-call = start-from-command command-from-record-step-call
+  start-from-record-step-call = start-from-slice-known10 (command-from-record-step-call .before .before)
 
 module _ (c : tie.After-slice-known30) where
   abbrev strike-clause-from-return-3 : tie.After-strike-clause
   strike-clause-from-return-3 = c .before .before
 
   abbrev command3-from-return-3 : tie.After-command3
-  command3-from-return-3 = command3-from-strike-clause strike-clause-from-return-3
+  command3-from-return-3 = command3-from-strike-clause-call (strike-clause-from-return-3 .before)
 
   abbrev start-from-return-3 : tie.Start
   start-from-return-3 = start-from-command3 command3-from-return-3
-
-module _ (c : tie.After-clause-step) where
-  abbrev command2-from-clause-step : tie.After-command2
-  command2-from-clause-step = c .before .before .before .before .before .before .before .before .before .before .before .before
-
-module _ (c : tie.After-record-step) where
-  abbrev command-from-record-step : tie.After-command
-  command-from-record-step = c .before .before .before .before .before .before .before .before .before .before .before .before
 
 module _ (c : tie.After-slice-known29) where
   abbrev clause-step-from-return-2 : tie.After-clause-step
@@ -95,7 +75,7 @@ module _ (c : tie.After-slice-known29) where
       .before .before .before .before .before
 
   abbrev command2-from-return-2 : tie.After-command2
-  command2-from-return-2 = command2-from-clause-step clause-step-from-return-2
+  command2-from-return-2 = command2-from-clause-step-call (clause-step-from-return-2 .before)
 
   abbrev start-from-return-2 : tie.Start
   start-from-return-2 = start-from-command2 command2-from-return-2
@@ -106,7 +86,7 @@ module _ (c : tie.After-slice-known20) where
       .before .before .before .before .before .before .before
 
   abbrev command-from-return : tie.After-command
-  command-from-return = command-from-record-step record-step-from-return
+  command-from-return = command-from-record-step-call (record-step-from-return .before)
 
 record-step-requires : tie.Need-record-step-requires
 record-step-requires c κs =

@@ -37,10 +37,6 @@ module _ (c : tie.After-loop Inv-loop μ-loop) where
   abbrev at-loop-from-return-2 : tie.At-loop Inv-loop μ-loop
   at-loop-from-return-2 = c .before
 
-module _ (c : tie.In-loop Inv-loop μ-loop) where
-  abbrev at-loop-from-in-loop : tie.At-loop Inv-loop μ-loop
-  at-loop-from-in-loop = c .before
-
 module _ (c : tie.After-is-there Inv-loop μ-loop) where
   abbrev in-loop-from-is-there : tie.In-loop Inv-loop μ-loop
   in-loop-from-is-there = c .before .before .before
@@ -53,7 +49,7 @@ module _ (c : tie.Else1 Inv-loop μ-loop) where
   in-loop-from-else1 = in-loop-from-is-there is-there-from-else1
 
   abbrev at-loop-from-else1 : tie.At-loop Inv-loop μ-loop
-  at-loop-from-else1 = at-loop-from-in-loop in-loop-from-else1
+  at-loop-from-else1 = in-loop-from-else1 .before
 
   abbrev start-from-else1 : tie.Start Inv-loop μ-loop
   start-from-else1 = start-from-at-loop at-loop-from-else1
@@ -63,7 +59,7 @@ module _ (c : tie.Then1 Inv-loop μ-loop) where
   is-there-from-then1 = c .before
 
   abbrev at-loop-from-then1 : tie.At-loop Inv-loop μ-loop
-  at-loop-from-then1 = at-loop-from-in-loop (in-loop-from-is-there is-there-from-then1)
+  at-loop-from-then1 = in-loop-from-is-there is-there-from-then1 .before
 
 returns : tie.Need-returns Inv-loop μ-loop
 returns c =

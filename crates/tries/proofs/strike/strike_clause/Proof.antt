@@ -30,7 +30,7 @@ module _ (c : tie.After-slice-known) where
 
 module _ (c : tie.After-find) where
   abbrev start-from-find : tie.Start
-  start-from-find = c .before .before .before .before .before .before .before .before
+  start-from-find = start-from-find-call (c .before)
 
 module _ (c : tie.After-enum-told) where
   abbrev find-from-return-3 : tie.After-find
@@ -39,9 +39,13 @@ module _ (c : tie.After-enum-told) where
   abbrev start-from-return-3 : tie.Start
   start-from-return-3 = start-from-find find-from-return-3
 
+module _ (c : tie.After-g) where
+  abbrev find-from-g : tie.After-find
+  find-from-g = c .before .before
+
 module _ (c : tie.After-lowest-arg) where
   abbrev start-from-lowest-call : tie.Start
-  start-from-lowest-call = start-from-find (c .before .before .before .before)
+  start-from-lowest-call = start-from-find (find-from-g (c .before .before))
 
 module _ (c : tie.After-lowest) where
   abbrev g-from-lowest : tie.After-g
@@ -55,7 +59,7 @@ module _ (c : tie.Else1) where
   g-from-else1 = g-from-lowest lowest-from-else1
 
   abbrev find-from-else1 : tie.After-find
-  find-from-else1 = g-from-else1 .before .before
+  find-from-else1 = find-from-g g-from-else1
 
   abbrev start-from-else1 : tie.Start
   start-from-else1 = start-from-find find-from-else1
@@ -68,7 +72,7 @@ module _ (c : tie.Then1) where
   g-from-then1 = g-from-lowest lowest-from-then1
 
   abbrev find-from-then1 : tie.After-find
-  find-from-then1 = g-from-then1 .before .before
+  find-from-then1 = find-from-g g-from-then1
 
   abbrev start-from-then1 : tie.Start
   start-from-then1 = start-from-find find-from-then1

@@ -25,26 +25,38 @@ module _ {t : ℕ} (c : even-lts.After-slice-known5 (even-callees t) (even-at t)
   abbrev start-from-next-in-call : even-lts.Start (even-callees t) (even-at t) even.Post
   start-from-next-in-call = c .before .before .before .before .before
 
+module _ {t : ℕ} (c : even-lts.After-next-in (even-callees t) (even-at t) even.Post) where
+  abbrev start-from-next-in : even-lts.Start (even-callees t) (even-at t) even.Post
+  start-from-next-in = start-from-next-in-call (c .before)
+
+module _ {t : ℕ} (c : even-lts.Else1 (even-callees t) (even-at t) even.Post) where
+  abbrev next-in-from-else1 : even-lts.After-next-in (even-callees t) (even-at t) even.Post
+  next-in-from-else1 = c .before
+
 module _ {t : ℕ} (c : even-lts.Then1 (even-callees t) (even-at t) even.Post) where
   abbrev start-from-then1 : even-lts.Start (even-callees t) (even-at t) even.Post
-  start-from-then1 = start-from-next-in-call (c .before .before)
+  start-from-then1 = start-from-next-in (c .before)
 
 module _ {t : ℕ} (c : even-lts.After-even-arg5 (even-callees t) (even-at t) even.Post) where
   abbrev else1-from-even-call : even-lts.Else1 (even-callees t) (even-at t) even.Post
   else1-from-even-call = c .before .before .before .before .before .before .before
 
   abbrev next-in-from-even-call : even-lts.After-next-in (even-callees t) (even-at t) even.Post
-  next-in-from-even-call = else1-from-even-call .before
+  next-in-from-even-call = next-in-from-else1 else1-from-even-call
 
   abbrev start-from-even-call : even-lts.Start (even-callees t) (even-at t) even.Post
-  start-from-even-call = start-from-next-in-call (next-in-from-even-call .before)
+  start-from-even-call = start-from-next-in next-in-from-even-call
 
 module _ {t : ℕ} (c : even-lts.After-turned-arg5 (even-callees t) (even-at t) even.Post) where
   abbrev then2-from-turned-call : even-lts.Then2 (even-callees t) (even-at t) even.Post
   then2-from-turned-call = c .before .before .before .before .before
 
   abbrev start-from-turned-call : even-lts.Start (even-callees t) (even-at t) even.Post
-  start-from-turned-call = start-from-next-in-call (then2-from-turned-call .before .before .before .before)
+  start-from-turned-call = start-from-next-in (next-in-from-else1 (then2-from-turned-call .before .before))
+
+module _ {t : ℕ} (c : even-lts.After-even (even-callees t) (even-at t) even.Post) where
+  abbrev else1-from-even : even-lts.Else1 (even-callees t) (even-at t) even.Post
+  else1-from-even = else1-from-even-call (c .before)
 
 module _ {t : ℕ} (c : even-lts.After-slice-known10 (even-callees t) (even-at t) even.Post) where
   abbrev turned-from-return-2 : even-lts.After-turned (even-callees t) (even-at t) even.Post
@@ -57,43 +69,51 @@ module _ {t : ℕ} (c : even-lts.After-slice-known10 (even-callees t) (even-at t
   else1-from-return-2 = then2-from-return-2 .before .before
 
   abbrev next-in-from-return-2 : even-lts.After-next-in (even-callees t) (even-at t) even.Post
-  next-in-from-return-2 = else1-from-return-2 .before
+  next-in-from-return-2 = next-in-from-else1 else1-from-return-2
 
   abbrev start-from-return-2 : even-lts.Start (even-callees t) (even-at t) even.Post
-  start-from-return-2 = start-from-next-in-call (next-in-from-return-2 .before)
+  start-from-return-2 = start-from-next-in next-in-from-return-2
 
 module _ {t : ℕ} (c : even-lts.After-slice-known15 (even-callees t) (even-at t) even.Post) where
   abbrev even-from-slice-known15 : even-lts.After-even (even-callees t) (even-at t) even.Post
   even-from-slice-known15 = c .before .before .before .before .before .before .before .before .before .before
+
+module _ {t : ℕ} (c : even-lts.Else3 (even-callees t) (even-at t) even.Post) where
+  abbrev even-from-else3 : even-lts.After-even (even-callees t) (even-at t) even.Post
+  even-from-else3 = even-from-slice-known15 (c .before)
 
 module _ {t : ℕ} (c : even-lts.Then3 (even-callees t) (even-at t) even.Post) where
   abbrev even-from-then3 : even-lts.After-even (even-callees t) (even-at t) even.Post
   even-from-then3 = even-from-slice-known15 (c .before)
 
   abbrev else1-from-then3 : even-lts.Else1 (even-callees t) (even-at t) even.Post
-  else1-from-then3 = else1-from-even-call (even-from-then3 .before)
+  else1-from-then3 = else1-from-even even-from-then3
 
   abbrev next-in-from-then3 : even-lts.After-next-in (even-callees t) (even-at t) even.Post
-  next-in-from-then3 = else1-from-then3 .before
+  next-in-from-then3 = next-in-from-else1 else1-from-then3
 
   abbrev start-from-then3 : even-lts.Start (even-callees t) (even-at t) even.Post
-  start-from-then3 = start-from-next-in-call (next-in-from-then3 .before)
+  start-from-then3 = start-from-next-in next-in-from-then3
 
 module _ {t : ℕ} (c : even-lts.After-odd-arg5 (even-callees t) (even-at t) even.Post) where
   abbrev else3-from-odd-call : even-lts.Else3 (even-callees t) (even-at t) even.Post
   else3-from-odd-call = c .before .before .before .before .before
 
   abbrev even-from-odd-call : even-lts.After-even (even-callees t) (even-at t) even.Post
-  even-from-odd-call = even-from-slice-known15 (else3-from-odd-call .before)
+  even-from-odd-call = even-from-else3 else3-from-odd-call
 
   abbrev else1-from-odd-call : even-lts.Else1 (even-callees t) (even-at t) even.Post
-  else1-from-odd-call = else1-from-even-call (even-from-odd-call .before)
+  else1-from-odd-call = else1-from-even even-from-odd-call
 
   abbrev next-in-from-odd-call : even-lts.After-next-in (even-callees t) (even-at t) even.Post
-  next-in-from-odd-call = else1-from-odd-call .before
+  next-in-from-odd-call = next-in-from-else1 else1-from-odd-call
 
   abbrev start-from-odd-call : even-lts.Start (even-callees t) (even-at t) even.Post
-  start-from-odd-call = start-from-next-in-call (next-in-from-odd-call .before)
+  start-from-odd-call = start-from-next-in next-in-from-odd-call
+
+module _ {t : ℕ} (c : even-lts.After-odd (even-callees t) (even-at t) even.Post) where
+  abbrev else3-from-odd : even-lts.Else3 (even-callees t) (even-at t) even.Post
+  else3-from-odd = else3-from-odd-call (c .before)
 
 module _ {t : ℕ} (c : even-lts.After-slice-known20 (even-callees t) (even-at t) even.Post) where
   abbrev odd-from-slice-known20 : even-lts.After-odd (even-callees t) (even-at t) even.Post
@@ -104,19 +124,19 @@ module _ {t : ℕ} (c : even-lts.Then4 (even-callees t) (even-at t) even.Post) w
   odd-from-then4 = odd-from-slice-known20 (c .before)
 
   abbrev else3-from-then4 : even-lts.Else3 (even-callees t) (even-at t) even.Post
-  else3-from-then4 = else3-from-odd-call (odd-from-then4 .before)
+  else3-from-then4 = else3-from-odd odd-from-then4
 
   abbrev even-from-then4 : even-lts.After-even (even-callees t) (even-at t) even.Post
-  even-from-then4 = even-from-slice-known15 (else3-from-then4 .before)
+  even-from-then4 = even-from-else3 else3-from-then4
 
   abbrev else1-from-then4 : even-lts.Else1 (even-callees t) (even-at t) even.Post
-  else1-from-then4 = else1-from-even-call (even-from-then4 .before)
+  else1-from-then4 = else1-from-even even-from-then4
 
   abbrev next-in-from-then4 : even-lts.After-next-in (even-callees t) (even-at t) even.Post
-  next-in-from-then4 = else1-from-then4 .before
+  next-in-from-then4 = next-in-from-else1 else1-from-then4
 
   abbrev start-from-then4 : even-lts.Start (even-callees t) (even-at t) even.Post
-  start-from-then4 = start-from-next-in-call (next-in-from-then4 .before)
+  start-from-then4 = start-from-next-in next-in-from-then4
 
 module _ {t : ℕ} (c : even-lts.After-put-arg5 (even-callees t) (even-at t) even.Post) where
   abbrev else4-from-put-call : even-lts.Else4 (even-callees t) (even-at t) even.Post
@@ -126,19 +146,19 @@ module _ {t : ℕ} (c : even-lts.After-put-arg5 (even-callees t) (even-at t) eve
   odd-from-put-call = odd-from-slice-known20 (else4-from-put-call .before)
 
   abbrev else3-from-put-call : even-lts.Else3 (even-callees t) (even-at t) even.Post
-  else3-from-put-call = else3-from-odd-call (odd-from-put-call .before)
+  else3-from-put-call = else3-from-odd odd-from-put-call
 
   abbrev even-from-put-call : even-lts.After-even (even-callees t) (even-at t) even.Post
-  even-from-put-call = even-from-slice-known15 (else3-from-put-call .before)
+  even-from-put-call = even-from-else3 else3-from-put-call
 
   abbrev else1-from-put-call : even-lts.Else1 (even-callees t) (even-at t) even.Post
-  else1-from-put-call = else1-from-even-call (even-from-put-call .before)
+  else1-from-put-call = else1-from-even even-from-put-call
 
   abbrev next-in-from-put-call : even-lts.After-next-in (even-callees t) (even-at t) even.Post
-  next-in-from-put-call = else1-from-put-call .before
+  next-in-from-put-call = next-in-from-else1 else1-from-put-call
 
   abbrev start-from-put-call : even-lts.Start (even-callees t) (even-at t) even.Post
-  start-from-put-call = start-from-next-in-call (next-in-from-put-call .before)
+  start-from-put-call = start-from-next-in next-in-from-put-call
 
 module _ {t : ℕ} (c : even-lts.After-slice-known25 (even-callees t) (even-at t) even.Post) where
   abbrev put-from-return-5 : even-lts.After-put (even-callees t) (even-at t) even.Post
@@ -151,19 +171,19 @@ module _ {t : ℕ} (c : even-lts.After-slice-known25 (even-callees t) (even-at t
   odd-from-return-5 = odd-from-slice-known20 (else4-from-return-5 .before)
 
   abbrev else3-from-return-5 : even-lts.Else3 (even-callees t) (even-at t) even.Post
-  else3-from-return-5 = else3-from-odd-call (odd-from-return-5 .before)
+  else3-from-return-5 = else3-from-odd odd-from-return-5
 
   abbrev even-from-return-5 : even-lts.After-even (even-callees t) (even-at t) even.Post
-  even-from-return-5 = even-from-slice-known15 (else3-from-return-5 .before)
+  even-from-return-5 = even-from-else3 else3-from-return-5
 
   abbrev else1-from-return-5 : even-lts.Else1 (even-callees t) (even-at t) even.Post
-  else1-from-return-5 = else1-from-even-call (even-from-return-5 .before)
+  else1-from-return-5 = else1-from-even even-from-return-5
 
   abbrev next-in-from-return-5 : even-lts.After-next-in (even-callees t) (even-at t) even.Post
-  next-in-from-return-5 = else1-from-return-5 .before
+  next-in-from-return-5 = next-in-from-else1 else1-from-return-5
 
   abbrev start-from-return-5 : even-lts.Start (even-callees t) (even-at t) even.Post
-  start-from-return-5 = start-from-next-in-call (next-in-from-return-5 .before)
+  start-from-return-5 = start-from-next-in next-in-from-return-5
 
 next-in-requires : (t : ℕ) → even-lts.Need-next-in-requires (even-callees t) (even-at t) even.Post
 next-in-requires t c κs =

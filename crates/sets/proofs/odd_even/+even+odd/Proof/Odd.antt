@@ -25,26 +25,38 @@ module _ {t : ℕ} (c : odd-lts.After-slice-known5 (odd-callees t) (odd-at t) od
   abbrev start-from-next-in-call : odd-lts.Start (odd-callees t) (odd-at t) odd.Post
   start-from-next-in-call = c .before .before .before .before .before
 
+module _ {t : ℕ} (c : odd-lts.After-next-in (odd-callees t) (odd-at t) odd.Post) where
+  abbrev start-from-next-in : odd-lts.Start (odd-callees t) (odd-at t) odd.Post
+  start-from-next-in = start-from-next-in-call (c .before)
+
+module _ {t : ℕ} (c : odd-lts.Else1 (odd-callees t) (odd-at t) odd.Post) where
+  abbrev next-in-from-else1 : odd-lts.After-next-in (odd-callees t) (odd-at t) odd.Post
+  next-in-from-else1 = c .before
+
 module _ {t : ℕ} (c : odd-lts.Then1 (odd-callees t) (odd-at t) odd.Post) where
   abbrev start-from-then1 : odd-lts.Start (odd-callees t) (odd-at t) odd.Post
-  start-from-then1 = start-from-next-in-call (c .before .before)
+  start-from-then1 = start-from-next-in (c .before)
 
 module _ {t : ℕ} (c : odd-lts.After-odd-arg5 (odd-callees t) (odd-at t) odd.Post) where
   abbrev else1-from-odd-call : odd-lts.Else1 (odd-callees t) (odd-at t) odd.Post
   else1-from-odd-call = c .before .before .before .before .before .before .before
 
   abbrev next-in-from-odd-call : odd-lts.After-next-in (odd-callees t) (odd-at t) odd.Post
-  next-in-from-odd-call = else1-from-odd-call .before
+  next-in-from-odd-call = next-in-from-else1 else1-from-odd-call
 
   abbrev start-from-odd-call : odd-lts.Start (odd-callees t) (odd-at t) odd.Post
-  start-from-odd-call = start-from-next-in-call (next-in-from-odd-call .before)
+  start-from-odd-call = start-from-next-in next-in-from-odd-call
 
 module _ {t : ℕ} (c : odd-lts.After-turned-arg5 (odd-callees t) (odd-at t) odd.Post) where
   abbrev then2-from-turned-call : odd-lts.Then2 (odd-callees t) (odd-at t) odd.Post
   then2-from-turned-call = c .before .before .before .before .before
 
   abbrev start-from-turned-call : odd-lts.Start (odd-callees t) (odd-at t) odd.Post
-  start-from-turned-call = start-from-next-in-call (then2-from-turned-call .before .before .before .before)
+  start-from-turned-call = start-from-next-in (next-in-from-else1 (then2-from-turned-call .before .before))
+
+module _ {t : ℕ} (c : odd-lts.After-odd (odd-callees t) (odd-at t) odd.Post) where
+  abbrev else1-from-odd : odd-lts.Else1 (odd-callees t) (odd-at t) odd.Post
+  else1-from-odd = else1-from-odd-call (c .before)
 
 module _ {t : ℕ} (c : odd-lts.After-slice-known10 (odd-callees t) (odd-at t) odd.Post) where
   abbrev turned-from-return-2 : odd-lts.After-turned (odd-callees t) (odd-at t) odd.Post
@@ -57,43 +69,51 @@ module _ {t : ℕ} (c : odd-lts.After-slice-known10 (odd-callees t) (odd-at t) o
   else1-from-return-2 = then2-from-return-2 .before .before
 
   abbrev next-in-from-return-2 : odd-lts.After-next-in (odd-callees t) (odd-at t) odd.Post
-  next-in-from-return-2 = else1-from-return-2 .before
+  next-in-from-return-2 = next-in-from-else1 else1-from-return-2
 
   abbrev start-from-return-2 : odd-lts.Start (odd-callees t) (odd-at t) odd.Post
-  start-from-return-2 = start-from-next-in-call (next-in-from-return-2 .before)
+  start-from-return-2 = start-from-next-in next-in-from-return-2
 
 module _ {t : ℕ} (c : odd-lts.After-slice-known15 (odd-callees t) (odd-at t) odd.Post) where
   abbrev odd-from-slice-known15 : odd-lts.After-odd (odd-callees t) (odd-at t) odd.Post
   odd-from-slice-known15 = c .before .before .before .before .before .before .before .before .before .before
+
+module _ {t : ℕ} (c : odd-lts.Else3 (odd-callees t) (odd-at t) odd.Post) where
+  abbrev odd-from-else3 : odd-lts.After-odd (odd-callees t) (odd-at t) odd.Post
+  odd-from-else3 = odd-from-slice-known15 (c .before)
 
 module _ {t : ℕ} (c : odd-lts.Then3 (odd-callees t) (odd-at t) odd.Post) where
   abbrev odd-from-then3 : odd-lts.After-odd (odd-callees t) (odd-at t) odd.Post
   odd-from-then3 = odd-from-slice-known15 (c .before)
 
   abbrev else1-from-then3 : odd-lts.Else1 (odd-callees t) (odd-at t) odd.Post
-  else1-from-then3 = else1-from-odd-call (odd-from-then3 .before)
+  else1-from-then3 = else1-from-odd odd-from-then3
 
   abbrev next-in-from-then3 : odd-lts.After-next-in (odd-callees t) (odd-at t) odd.Post
-  next-in-from-then3 = else1-from-then3 .before
+  next-in-from-then3 = next-in-from-else1 else1-from-then3
 
   abbrev start-from-then3 : odd-lts.Start (odd-callees t) (odd-at t) odd.Post
-  start-from-then3 = start-from-next-in-call (next-in-from-then3 .before)
+  start-from-then3 = start-from-next-in next-in-from-then3
 
 module _ {t : ℕ} (c : odd-lts.After-even-arg5 (odd-callees t) (odd-at t) odd.Post) where
   abbrev else3-from-even-call : odd-lts.Else3 (odd-callees t) (odd-at t) odd.Post
   else3-from-even-call = c .before .before .before .before .before
 
   abbrev odd-from-even-call : odd-lts.After-odd (odd-callees t) (odd-at t) odd.Post
-  odd-from-even-call = odd-from-slice-known15 (else3-from-even-call .before)
+  odd-from-even-call = odd-from-else3 else3-from-even-call
 
   abbrev else1-from-even-call : odd-lts.Else1 (odd-callees t) (odd-at t) odd.Post
-  else1-from-even-call = else1-from-odd-call (odd-from-even-call .before)
+  else1-from-even-call = else1-from-odd odd-from-even-call
 
   abbrev next-in-from-even-call : odd-lts.After-next-in (odd-callees t) (odd-at t) odd.Post
-  next-in-from-even-call = else1-from-even-call .before
+  next-in-from-even-call = next-in-from-else1 else1-from-even-call
 
   abbrev start-from-even-call : odd-lts.Start (odd-callees t) (odd-at t) odd.Post
-  start-from-even-call = start-from-next-in-call (next-in-from-even-call .before)
+  start-from-even-call = start-from-next-in next-in-from-even-call
+
+module _ {t : ℕ} (c : odd-lts.After-even (odd-callees t) (odd-at t) odd.Post) where
+  abbrev else3-from-even : odd-lts.Else3 (odd-callees t) (odd-at t) odd.Post
+  else3-from-even = else3-from-even-call (c .before)
 
 module _ {t : ℕ} (c : odd-lts.After-slice-known20 (odd-callees t) (odd-at t) odd.Post) where
   abbrev even-from-slice-known20 : odd-lts.After-even (odd-callees t) (odd-at t) odd.Post
@@ -104,19 +124,19 @@ module _ {t : ℕ} (c : odd-lts.Then4 (odd-callees t) (odd-at t) odd.Post) where
   even-from-then4 = even-from-slice-known20 (c .before)
 
   abbrev else3-from-then4 : odd-lts.Else3 (odd-callees t) (odd-at t) odd.Post
-  else3-from-then4 = else3-from-even-call (even-from-then4 .before)
+  else3-from-then4 = else3-from-even even-from-then4
 
   abbrev odd-from-then4 : odd-lts.After-odd (odd-callees t) (odd-at t) odd.Post
-  odd-from-then4 = odd-from-slice-known15 (else3-from-then4 .before)
+  odd-from-then4 = odd-from-else3 else3-from-then4
 
   abbrev else1-from-then4 : odd-lts.Else1 (odd-callees t) (odd-at t) odd.Post
-  else1-from-then4 = else1-from-odd-call (odd-from-then4 .before)
+  else1-from-then4 = else1-from-odd odd-from-then4
 
   abbrev next-in-from-then4 : odd-lts.After-next-in (odd-callees t) (odd-at t) odd.Post
-  next-in-from-then4 = else1-from-then4 .before
+  next-in-from-then4 = next-in-from-else1 else1-from-then4
 
   abbrev start-from-then4 : odd-lts.Start (odd-callees t) (odd-at t) odd.Post
-  start-from-then4 = start-from-next-in-call (next-in-from-then4 .before)
+  start-from-then4 = start-from-next-in next-in-from-then4
 
 module _ {t : ℕ} (c : odd-lts.After-put-arg5 (odd-callees t) (odd-at t) odd.Post) where
   abbrev else4-from-put-call : odd-lts.Else4 (odd-callees t) (odd-at t) odd.Post
@@ -126,19 +146,19 @@ module _ {t : ℕ} (c : odd-lts.After-put-arg5 (odd-callees t) (odd-at t) odd.Po
   even-from-put-call = even-from-slice-known20 (else4-from-put-call .before)
 
   abbrev else3-from-put-call : odd-lts.Else3 (odd-callees t) (odd-at t) odd.Post
-  else3-from-put-call = else3-from-even-call (even-from-put-call .before)
+  else3-from-put-call = else3-from-even even-from-put-call
 
   abbrev odd-from-put-call : odd-lts.After-odd (odd-callees t) (odd-at t) odd.Post
-  odd-from-put-call = odd-from-slice-known15 (else3-from-put-call .before)
+  odd-from-put-call = odd-from-else3 else3-from-put-call
 
   abbrev else1-from-put-call : odd-lts.Else1 (odd-callees t) (odd-at t) odd.Post
-  else1-from-put-call = else1-from-odd-call (odd-from-put-call .before)
+  else1-from-put-call = else1-from-odd odd-from-put-call
 
   abbrev next-in-from-put-call : odd-lts.After-next-in (odd-callees t) (odd-at t) odd.Post
-  next-in-from-put-call = else1-from-put-call .before
+  next-in-from-put-call = next-in-from-else1 else1-from-put-call
 
   abbrev start-from-put-call : odd-lts.Start (odd-callees t) (odd-at t) odd.Post
-  start-from-put-call = start-from-next-in-call (next-in-from-put-call .before)
+  start-from-put-call = start-from-next-in next-in-from-put-call
 
 module _ {t : ℕ} (c : odd-lts.After-slice-known25 (odd-callees t) (odd-at t) odd.Post) where
   abbrev put-from-return-5 : odd-lts.After-put (odd-callees t) (odd-at t) odd.Post
@@ -151,19 +171,19 @@ module _ {t : ℕ} (c : odd-lts.After-slice-known25 (odd-callees t) (odd-at t) o
   even-from-return-5 = even-from-slice-known20 (else4-from-return-5 .before)
 
   abbrev else3-from-return-5 : odd-lts.Else3 (odd-callees t) (odd-at t) odd.Post
-  else3-from-return-5 = else3-from-even-call (even-from-return-5 .before)
+  else3-from-return-5 = else3-from-even even-from-return-5
 
   abbrev odd-from-return-5 : odd-lts.After-odd (odd-callees t) (odd-at t) odd.Post
-  odd-from-return-5 = odd-from-slice-known15 (else3-from-return-5 .before)
+  odd-from-return-5 = odd-from-else3 else3-from-return-5
 
   abbrev else1-from-return-5 : odd-lts.Else1 (odd-callees t) (odd-at t) odd.Post
-  else1-from-return-5 = else1-from-odd-call (odd-from-return-5 .before)
+  else1-from-return-5 = else1-from-odd odd-from-return-5
 
   abbrev next-in-from-return-5 : odd-lts.After-next-in (odd-callees t) (odd-at t) odd.Post
-  next-in-from-return-5 = else1-from-return-5 .before
+  next-in-from-return-5 = next-in-from-else1 else1-from-return-5
 
   abbrev start-from-return-5 : odd-lts.Start (odd-callees t) (odd-at t) odd.Post
-  start-from-return-5 = start-from-next-in-call (next-in-from-return-5 .before)
+  start-from-return-5 = start-from-next-in next-in-from-return-5
 
 next-in-requires : (t : ℕ) → odd-lts.Need-next-in-requires (odd-callees t) (odd-at t) odd.Post
 next-in-requires t c κs =

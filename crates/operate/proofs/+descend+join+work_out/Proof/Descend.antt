@@ -6,14 +6,14 @@ use native.Mathlib.Omega.{arith}
 use borrow.Author.Needs.{needs}
 use Rattle.table.specs.Indexed.{Table, tableOf}
 use Rattle.operate.specs.declared.Operation.{Operation}
-use Rattle.operate.specs.Inner.{top, sidesOf, stepOf, Ready}
+use Rattle.operate.specs.Inner.{operationOf, top, sidesOf, descentOf, Ready}
 use Rattle.operate.proofs.Terminals.{terminal-two}
 use Rattle.operate.proofs.Steps.{sides-ask, OneLeft, BothLeft, step-one, step-both}
 use Rattle.operate.proofs.Results.{columns-hold}
 use borrow.Fn.PlainCycle.{is}
 use Rattle.operate.proofs.descend.Reads as descend
-use Rattle.operate.proofs.+apply+descend+join.Lts-descend as descend-lts
-use Rattle.operate.proofs.+apply+descend+join.Proof.Measures.{descend-at, descend-callees}
+use Rattle.operate.proofs.+descend+join+work_out.Lts-descend as descend-lts
+use Rattle.operate.proofs.+descend+join+work_out.Proof.Measures.{descend-at, descend-callees}
 
 -- where descend starts
 module _ {t : ℕ} (s : descend-lts.Start (descend-callees t) (descend-at t) descend.Post) where
@@ -24,7 +24,7 @@ module _ {t : ℕ} (s : descend-lts.Start (descend-callees t) (descend-at t) des
   d-memo = s .args .memo .now
 
   abbrev d-op : Operation
-  d-op = s .args .op
+  d-op = operationOf (s .args .kind) (s .args .by)
 
   abbrev d-f : ℕ
   d-f = s .args .f .0
@@ -46,34 +46,36 @@ module _ {t : ℕ} (c : descend-lts.After-sides-of-arg3 (descend-callees t) (des
   abbrev start-from-sides-of-call : descend-lts.Start (descend-callees t) (descend-at t) descend.Post
   start-from-sides-of-call = c .before .before .before .before .before .before .before .before .before
 
-module _ {t : ℕ} (c : descend-lts.After-sides-of (descend-callees t) (descend-at t) descend.Post) where
-  abbrev start-from-step-of-call : descend-lts.Start (descend-callees t) (descend-at t) descend.Post
-  start-from-step-of-call = start-from-sides-of-call (c .before)
+module _ {t : ℕ} (c : descend-lts.After-operation-of (descend-callees t) (descend-at t) descend.Post) where
+  abbrev sides-of-from-descent-of-call : descend-lts.After-sides-of (descend-callees t) (descend-at t) descend.Post
+  sides-of-from-descent-of-call = c .before
 
-module _ {t : ℕ} (c : descend-lts.After-step-of (descend-callees t) (descend-at t) descend.Post) where
-  abbrev start-from-step-of : descend-lts.Start (descend-callees t) (descend-at t) descend.Post
-  start-from-step-of = start-from-sides-of-call (c .before .before)
+  abbrev start-from-descent-of-call : descend-lts.Start (descend-callees t) (descend-at t) descend.Post
+  start-from-descent-of-call = start-from-sides-of-call (sides-of-from-descent-of-call .before)
+
+module _ {t : ℕ} (c : descend-lts.After-descent-of (descend-callees t) (descend-at t) descend.Post) where
+  abbrev operation-of-from-descent-of : descend-lts.After-operation-of (descend-callees t) (descend-at t) descend.Post
+  operation-of-from-descent-of = c .before
+
+  abbrev sides-of-from-descent-of : descend-lts.After-sides-of (descend-callees t) (descend-at t) descend.Post
+  sides-of-from-descent-of = sides-of-from-descent-of-call operation-of-from-descent-of
+
+  abbrev start-from-descent-of : descend-lts.Start (descend-callees t) (descend-at t) descend.Post
+  start-from-descent-of = start-from-sides-of-call (sides-of-from-descent-of .before)
 
 module _ {t : ℕ} (c : descend-lts.After-a (descend-callees t) (descend-at t) descend.Post) where
-  abbrev sides-of-arg3-from-a : descend-lts.After-sides-of-arg3 (descend-callees t) (descend-at t) descend.Post
-  sides-of-arg3-from-a = c .before .before .before .before
+  abbrev descent-of-from-a : descend-lts.After-descent-of (descend-callees t) (descend-at t) descend.Post
+  descent-of-from-a = c .before .before
 
   abbrev start-from-a : descend-lts.Start (descend-callees t) (descend-at t) descend.Post
-  start-from-a = start-from-sides-of-call sides-of-arg3-from-a
+  start-from-a = start-from-descent-of descent-of-from-a
 
 module _ {t : ℕ} (c : descend-lts.After-s (descend-callees t) (descend-at t) descend.Post) where
-  abbrev sides-of-arg3-from-s : descend-lts.After-sides-of-arg3 (descend-callees t) (descend-at t) descend.Post
-  sides-of-arg3-from-s = c .before .before .before .before
+  abbrev descent-of-from-s : descend-lts.After-descent-of (descend-callees t) (descend-at t) descend.Post
+  descent-of-from-s = c .before .before
 
   abbrev start-from-s : descend-lts.Start (descend-callees t) (descend-at t) descend.Post
-  start-from-s = start-from-sides-of-call sides-of-arg3-from-s
-
-module _ {t : ℕ} (c : descend-lts.After-apply-arg6 (descend-callees t) (descend-at t) descend.Post) where
-  abbrev a-from-apply-call : descend-lts.After-a (descend-callees t) (descend-at t) descend.Post
-  a-from-apply-call = c .before .before .before .before .before .before .before
-
-  abbrev start-from-apply-call : descend-lts.Start (descend-callees t) (descend-at t) descend.Post
-  start-from-apply-call = start-from-a a-from-apply-call
+  start-from-s = start-from-descent-of descent-of-from-s
 
 module _ {t : ℕ} (c : descend-lts.After-join-arg6 (descend-callees t) (descend-at t) descend.Post) where
   abbrev s-from-join-call : descend-lts.After-s (descend-callees t) (descend-at t) descend.Post
@@ -82,12 +84,19 @@ module _ {t : ℕ} (c : descend-lts.After-join-arg6 (descend-callees t) (descend
   abbrev start-from-join-call : descend-lts.Start (descend-callees t) (descend-at t) descend.Post
   start-from-join-call = start-from-s s-from-join-call
 
+module _ {t : ℕ} (c : descend-lts.After-work-out-arg6 (descend-callees t) (descend-at t) descend.Post) where
+  abbrev a-from-work-out-call : descend-lts.After-a (descend-callees t) (descend-at t) descend.Post
+  a-from-work-out-call = c .before .before .before .before .before .before .before
+
+  abbrev start-from-work-out-call : descend-lts.Start (descend-callees t) (descend-at t) descend.Post
+  start-from-work-out-call = start-from-a a-from-work-out-call
+
 module _ {t : ℕ} (c : descend-lts.After-slice-known12 (descend-callees t) (descend-at t) descend.Post) where
-  abbrev apply-from-return : descend-lts.After-apply (descend-callees t) (descend-at t) descend.Post
-  apply-from-return = c .before .before .before .before .before .before .before .before .before .before .before .before
+  abbrev work-out-from-return : descend-lts.After-work-out (descend-callees t) (descend-at t) descend.Post
+  work-out-from-return = c .before .before .before .before .before .before .before .before .before .before .before .before
 
   abbrev a-from-return : descend-lts.After-a (descend-callees t) (descend-at t) descend.Post
-  a-from-return = a-from-apply-call (apply-from-return .before)
+  a-from-return = a-from-work-out-call (work-out-from-return .before)
 
 module _ {t : ℕ} (c : descend-lts.After-slice-known18 (descend-callees t) (descend-at t) descend.Post) where
   abbrev join-from-return-2 : descend-lts.After-join (descend-callees t) (descend-at t) descend.Post
@@ -97,12 +106,14 @@ module _ {t : ℕ} (c : descend-lts.After-slice-known18 (descend-callees t) (des
   s-from-return-2 = s-from-join-call (join-from-return-2 .before)
 
 -- where the step is known
-module _ {t : ℕ} (d : descend-lts.After-step-of (descend-callees t) (descend-at t) descend.Post) where
+module _ {t : ℕ} (d : descend-lts.After-descent-of (descend-callees t) (descend-at t) descend.Post) where
   abbrev ds : descend-lts.Start (descend-callees t) (descend-at t) descend.Post
-  ds = start-from-step-of d
+  ds = start-from-descent-of d
 
-  d-step : stepOf (d-op ds) (sidesOf (d-table ds .vars) (d-table ds .lows) (d-table ds .highs) (d-f ds) (d-g ds)) ≡ d .step-of .result
-  d-step = sym (d .step-of .ensures ∙ ap (stepOf (d-op ds)) (d .before .sides-of .ensures))
+  d-step : descentOf (d-op ds) (sidesOf (d-table ds .vars) (d-table ds .lows) (d-table ds .highs) (d-f ds) (d-g ds)) ≡ d .descent-of .result
+  d-step =
+      sym (d .descent-of .ensures ∙ ap (λ (op : Operation). descentOf op (sides-of-from-descent-of d .sides-of .result)) (operation-of-from-descent-of d .operation-of .ensures)
+      ∙ ap (descentOf (d-op ds)) (sides-of-from-descent-of d .sides-of .ensures))
 
 -- one pair is left
 module _ {t : ℕ} (d : descend-lts.After-a (descend-callees t) (descend-at t) descend.Post) where
@@ -110,7 +121,7 @@ module _ {t : ℕ} (d : descend-lts.After-a (descend-callees t) (descend-at t) d
   ds₁ = start-from-a d
 
   d-one : OneLeft (d-op ds₁) (d-memo ds₁) (d-table ds₁) (d-f ds₁) (d-g ds₁) (d .a .given .0 .0 .0) (d .a .given .0 .1 .0 .0)
-  d-one = step-one (d-op ds₁) (d-memo ds₁) (d-table ds₁) (d-f ds₁) (d-g ds₁) (d-ready ds₁) (d-two ds₁) (d .a .given .0 .0) (d .a .given .0 .1 .0) (d-step (d .before .before) ∙ d .a .given .1)
+  d-one = step-one (d-op ds₁) (d-memo ds₁) (d-table ds₁) (d-f ds₁) (d-g ds₁) (d-ready ds₁) (d-two ds₁) (d .a .given .0 .0) (d .a .given .0 .1 .0) (d-step (descent-of-from-a d) ∙ d .a .given .1)
 
 -- both sides are
 module _ {t : ℕ} (d : descend-lts.After-s (descend-callees t) (descend-at t) descend.Post) where
@@ -118,25 +129,30 @@ module _ {t : ℕ} (d : descend-lts.After-s (descend-callees t) (descend-at t) d
   ds₂ = start-from-s d
 
   d-both : BothLeft (d-op ds₂) (d-memo ds₂) (d-table ds₂) (d-f ds₂) (d-g ds₂) (d .s .given .0 .0)
-  d-both = step-both (d-op ds₂) (d-memo ds₂) (d-table ds₂) (d-f ds₂) (d-g ds₂) (d-ready ds₂) (d-two ds₂) (d .s .given .0 .0) (d-step (d .before .before) ∙ d .s .given .1)
+  d-both = step-both (d-op ds₂) (d-memo ds₂) (d-table ds₂) (d-f ds₂) (d-g ds₂) (d-ready ds₂) (d-two ds₂) (d .s .given .0 .0) (d-step (descent-of-from-s d) ∙ d .s .given .1)
 
 sides-of-requires : (t : ℕ) → descend-lts.Need-sides-of-requires (descend-callees t) (descend-at t) descend.Post
 sides-of-requires t c κs =
     let s = start-from-sides-of-call c in columns-hold (d-op s) (d-memo s) (d-table s) (d-f s) (d-g s) (d-ready s)
 
-step-of-requires : (t : ℕ) → descend-lts.Need-step-of-requires (descend-callees t) (descend-at t) descend.Post
-step-of-requires t c κs =
-    let s = start-from-step-of-call c in
-    sides-ask (d-op s) (d-memo s) (d-table s) (d-f s) (d-g s) (d-ready s) (d-two s) (c .sides-of .result) (c .sides-of .ensures)
+operation-of-requires : (t : ℕ) → descend-lts.Need-operation-of-requires (descend-callees t) (descend-at t) descend.Post
+operation-of-requires t c κs =
+    search needs
+
+descent-of-requires : (t : ℕ) → descend-lts.Need-descent-of-requires (descend-callees t) (descend-at t) descend.Post
+descent-of-requires t c κs =
+    let s = start-from-descent-of-call c in
+    let y = sides-of-from-descent-of-call c .sides-of in
+    sides-ask (d-op s) (d-memo s) (d-table s) (d-f s) (d-g s) (d-ready s) (d-two s) (y .result) (y .ensures)
 
 enum-known-a : (t : ℕ) → descend-lts.Need-enum-known-a (descend-callees t) (descend-at t) descend.Post
 enum-known-a t c =
     search needs
 
-apply-requires : (t : ℕ) → descend-lts.Need-apply-requires (descend-callees t) (descend-at t) descend.Post
-apply-requires t c κs =
-    let d = a-from-apply-call c in
-    (omega (arith, d-measure (start-from-apply-call c), d-one d .after, d-one d .most), d-one d .ready)
+work-out-requires : (t : ℕ) → descend-lts.Need-work-out-requires (descend-callees t) (descend-at t) descend.Post
+work-out-requires t c κs =
+    let d = a-from-work-out-call c in
+    (omega (arith, d-measure (start-from-work-out-call c), d-one d .after, d-one d .most), d-one d .ready)
 
 enum-known-s : (t : ℕ) → descend-lts.Need-enum-known-s (descend-callees t) (descend-at t) descend.Post
 enum-known-s t c =
@@ -149,31 +165,31 @@ join-requires t c κs =
 
 same-length : (t : ℕ) → descend-lts.Need-same-length (descend-callees t) (descend-at t) descend.Post
 same-length t c =
-    apply-from-return c .apply .kept .0
+    work-out-from-return c .work-out .kept .0
 
 same-length-2 : (t : ℕ) → descend-lts.Need-same-length-2 (descend-callees t) (descend-at t) descend.Post
 same-length-2 t c =
-    apply-from-return c .apply .kept .1 .0
+    work-out-from-return c .work-out .kept .1 .0
 
 same-length-3 : (t : ℕ) → descend-lts.Need-same-length-3 (descend-callees t) (descend-at t) descend.Post
 same-length-3 t c =
-    apply-from-return c .apply .kept .1 .1 .0
+    work-out-from-return c .work-out .kept .1 .1 .0
 
 same-length-4 : (t : ℕ) → descend-lts.Need-same-length-4 (descend-callees t) (descend-at t) descend.Post
 same-length-4 t c =
-    apply-from-return c .apply .kept .1 .1 .1 .0
+    work-out-from-return c .work-out .kept .1 .1 .1 .0
 
 same-length-5 : (t : ℕ) → descend-lts.Need-same-length-5 (descend-callees t) (descend-at t) descend.Post
 same-length-5 t c =
-    apply-from-return c .apply .kept .1 .1 .1 .1 .0
+    work-out-from-return c .work-out .kept .1 .1 .1 .1 .0
 
 same-length-6 : (t : ℕ) → descend-lts.Need-same-length-6 (descend-callees t) (descend-at t) descend.Post
 same-length-6 t c =
-    apply-from-return c .apply .kept .1 .1 .1 .1 .1 .0
+    work-out-from-return c .work-out .kept .1 .1 .1 .1 .1 .0
 
 returns : (t : ℕ) → descend-lts.Need-returns (descend-callees t) (descend-at t) descend.Post
 returns t c =
-    (apply-from-return c .apply .ensures .0 ∙ d-one (a-from-return c) .is, apply-from-return c .apply .ensures .1)
+    (work-out-from-return c .work-out .ensures .0 ∙ d-one (a-from-return c) .is, work-out-from-return c .work-out .ensures .1)
 
 same-length-7 : (t : ℕ) → descend-lts.Need-same-length-7 (descend-callees t) (descend-at t) descend.Post
 same-length-7 t c =
@@ -207,9 +223,10 @@ pub descend-met : {M : Type 1} (t : ℕ) → descend-lts.Closed (descend-callees
 descend-met t =
     descend-lts.spec (descend-callees t) (descend-at t) descend.Post
     (sides-of-requires t)
-    (step-of-requires t)
+    (operation-of-requires t)
+    (descent-of-requires t)
     (enum-known-a t)
-    (apply-requires t)
+    (work-out-requires t)
     (enum-known-s t)
     (join-requires t)
     (same-length t)

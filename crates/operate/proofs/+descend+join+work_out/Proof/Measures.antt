@@ -1,0 +1,58 @@
+-- What falls in the calls of `work_out`, `descend` and `join`, and what the proof of each may assume of its calls. Assumes nothing.
+use Prim.Native.Nat.{ℕ, _+_, _-_, _*_, _<_}
+use Rattle.operate.specs.Inner.{top}
+use borrow.Fn.Kinds.{In}
+use borrow.Fn.PlainCycle.{Measures, is, falls, and}
+use Rattle.operate.proofs.work_out.Reads as work-out
+use Rattle.operate.proofs.work_out.Kinds as work-out-kinds
+use Rattle.operate.proofs.+descend+join+work_out.Lts-work_out as work-out-lts
+use Rattle.operate.proofs.descend.Reads as descend
+use Rattle.operate.proofs.descend.Kinds as descend-kinds
+use Rattle.operate.proofs.+descend+join+work_out.Lts-descend as descend-lts
+use Rattle.operate.proofs.join.Reads as join
+use Rattle.operate.proofs.join.Kinds as join-kinds
+use Rattle.operate.proofs.+descend+join+work_out.Lts-join as join-lts
+use Rattle.operate.proofs.memo.memo_find.Reads as memo-find-reads
+use Rattle.operate.proofs.memo.memo_home.Reads as memo-home-reads
+use Rattle.operate.proofs.operation_of.Reads as operation-of-reads
+use Rattle.operate.proofs.memo.memo_put.Reads as memo-put-reads
+use Rattle.operate.proofs.sides_of.Reads as sides-of-reads
+use Rattle.operate.proofs.descent_of.Reads as descent-of-reads
+use Rattle.operate.proofs.terminal.Reads as terminal-reads
+use Rattle.table.proofs.put.Reads as put-reads
+
+abbrev pub μ-work-out : Measures 6 work-out-kinds.ps ℕ
+μ-work-out κs a = 3 * (65 - top (a .0 .now) (a .1 .1 .1 .1 .1 .1 .1 .1 .1 .0 .0) (a .1 .1 .1 .1 .1 .1 .1 .1 .1 .1 .0 .0)) + 2
+
+abbrev pub μ-descend : Measures 6 descend-kinds.ps ℕ
+μ-descend κs a = 3 * (65 - top (a .0 .now) (a .1 .1 .1 .1 .1 .1 .1 .1 .1 .0 .0) (a .1 .1 .1 .1 .1 .1 .1 .1 .1 .1 .0 .0)) + 1
+
+abbrev pub μ-join : Measures 6 join-kinds.ps ℕ
+μ-join κs a = 3 * (65 - a .1 .1 .1 .1 .1 .1 .1 .1 .1 .0 .x)
+
+abbrev pub work-out-at : ℕ → In 6 work-out-kinds.ps
+work-out-at t = and 6 work-out-kinds.ps (is 6 work-out-kinds.ps μ-work-out t) work-out.Pre
+
+abbrev work-out-below : ℕ → In 6 work-out-kinds.ps
+work-out-below t = and 6 work-out-kinds.ps (falls 6 work-out-kinds.ps _<_ μ-work-out t) work-out.Pre
+
+abbrev pub descend-at : ℕ → In 6 descend-kinds.ps
+descend-at t = and 6 descend-kinds.ps (is 6 descend-kinds.ps μ-descend t) descend.Pre
+
+abbrev descend-below : ℕ → In 6 descend-kinds.ps
+descend-below t = and 6 descend-kinds.ps (falls 6 descend-kinds.ps _<_ μ-descend t) descend.Pre
+
+abbrev pub join-at : ℕ → In 6 join-kinds.ps
+join-at t = and 6 join-kinds.ps (is 6 join-kinds.ps μ-join t) join.Pre
+
+abbrev join-below : ℕ → In 6 join-kinds.ps
+join-below t = and 6 join-kinds.ps (falls 6 join-kinds.ps _<_ μ-join t) join.Pre
+
+abbrev pub work-out-callees : ℕ → work-out-lts.Claims
+work-out-callees t = (operation-of-reads.Asked, operation-of-reads.Learnt, terminal-reads.Asked, terminal-reads.Learnt, memo-find-reads.Asked, memo-find-reads.Learnt, descend-below t, descend.Post, memo-put-reads.Asked, memo-put-reads.Learnt)
+
+abbrev pub descend-callees : ℕ → descend-lts.Claims
+descend-callees t = (sides-of-reads.Asked, sides-of-reads.Learnt, operation-of-reads.Asked, operation-of-reads.Learnt, descent-of-reads.Asked, descent-of-reads.Learnt, work-out-below t, work-out.Post, join-below t, join.Post)
+
+abbrev pub join-callees : ℕ → join-lts.Claims
+join-callees t = (memo-home-reads.Asked, memo-home-reads.Learnt, work-out-below t, work-out.Post, put-reads.Asked, put-reads.Learnt)

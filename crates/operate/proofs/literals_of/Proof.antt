@@ -1,0 +1,41 @@
+-- `literals_of` is the definition, operation by operation. Assumes nothing.
+use borrow.Author.Needs.{needs}
+use Rattle.operate.proofs.literals_of.Statement.{statement}
+use Rattle.operate.proofs.literals_of.Tie as tie
+
+enum-told : tie.Need-enum-told
+enum-told c = search needs
+
+enum-told-2 : tie.Need-enum-told-2
+enum-told-2 c = search needs
+
+enum-told-3 : tie.Need-enum-told-3
+enum-told-3 c = search needs
+
+enum-known-op : tie.Need-enum-known-op
+enum-known-op c = search needs
+
+returns : tie.Need-returns
+returns c = rw (c .enum-told .given .1)
+
+returns-2 : tie.Need-returns-2
+returns-2 c = rw (c .enum-told2 .given .1)
+
+returns-3 : tie.Need-returns-3
+returns-3 c = rw (c .enum-told3 .given .1)
+
+returns-4 : tie.Need-returns-4
+returns-4 c = rw (c .before .op .given .1)
+
+pub literals-of-spec : {M : Type 1} → statement M
+literals-of-spec =
+    tie.close
+    (tie.spec
+    enum-told
+    enum-told-2
+    enum-told-3
+    enum-known-op
+    returns
+    returns-2
+    returns-3
+    returns-4)
