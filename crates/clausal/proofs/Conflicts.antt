@@ -14,21 +14,21 @@ use Rattle.meaning.specs.Rules.{any, conflicts}
 use Rattle.meaning.proofs.Booleans.{t≢f, not-not, or-cases}
 use Rattle.meaning.proofs.Pointwise.{negation-value}
 use Rattle.meaning.proofs.Units.{same-eq}
-use Rattle.meaning.proofs.Clauses.{Within}
+use Rattle.meaning.specs.Literals.{OfVariables}
 use Rattle.clausal.specs.Drat.{Clause, negated, alike, has, In, Plain, allFalse, Refutes, falsified, propagated, negation}
-use Rattle.clausal.proofs.Literals.{alike-eq, eq-alike, negated-twice, has-here, has-there, has-within, each-allFalse, each-allFalseBut, not-allFalse, AllWithin, in-within}
+use Rattle.clausal.proofs.Literals.{alike-eq, eq-alike, negated-twice, has-here, has-there, has-within, each-allFalse, each-allFalseBut, not-allFalse, AllOfVariables, in-within}
 use Rattle.clausal.proofs.Under.{under, making, making-length, making-true, making-other, under-some, under-false}
 use Rattle.clausal.proofs.Rounds.{any-in}
 
 -- ---- conflicts
 
-module _ (n : ℕ) (α : List Literal) (plain : Plain α) (F : List Clause) (within : AllWithin n F) where
+module _ (n : ℕ) (α : List Literal) (plain : Plain α) (F : List Clause) (within : AllOfVariables n F) where
   -- two members that are each other's negations: one literal left each, opposite ones
   module _ (c d : Clause) (ic : In c F) (id : In d F) (opposite : (a : Assignment) → length a ≡ n → value (under n α c) a ≡ not (value (under n α d) a)) where
-    wc : Within n c
+    wc : OfVariables n c
     wc = in-within n F c within ic
 
-    wd : Within n d
+    wd : OfVariables n d
     wd = in-within n F d within id
 
     flipped : (a : Assignment) → length a ≡ n → value (under n α d) a ≡ not (value (under n α c) a)

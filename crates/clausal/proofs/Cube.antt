@@ -14,7 +14,7 @@ use Rattle.meaning.proofs.Canonical.{unique}
 use Rattle.meaning.proofs.Pointwise.{forced-length, clause-value, negation-value, literals-value, literals-reduced}
 use Rattle.meaning.proofs.Nearest.{Nearest, nearest-unique, nearest-is}
 use Rattle.meaning.proofs.Cofactor.{cofactor-value, cofactor-reduced}
-use Rattle.meaning.proofs.Clauses.{Within}
+use Rattle.meaning.specs.Literals.{OfVariables}
 use Rattle.clausal.specs.Drat.{Clause, literal, has, Plain, negation}
 use Rattle.clausal.specs.Tries.{makesTrue, makesFalse}
 use Rattle.clausal.proofs.Literals.{negations, has-negation, negation-has, negations-plain, has-within}
@@ -25,7 +25,7 @@ unfolding sum
 sum-le zero f g h = omega arith
 sum-le (suc n) f g h = omega (arith, sum-le n f g (λ i p q. h i p (omega arith)), h (suc n) (omega arith) (omega arith))
 
-module _ (n : ℕ) (c : Clause) (w : Within n c) (plain : Plain c) (a : Assignment) (len : length a ≡ n) where
+module _ (n : ℕ) (c : Clause) (w : OfVariables n c) (plain : Plain c) (a : Assignment) (len : length a ≡ n) where
   abbrev pub made : Assignment
   made = forcedBy (negations c) a
 
@@ -82,7 +82,7 @@ module _ (n : ℕ) (c : Clause) (w : Within n c) (plain : Plain c) (a : Assignme
   nearest-made : nearest n (value cube) a ≡ made
   nearest-made = nearest-unique n (value cube) a (nearest n (value cube) a) made len (nearest-is n (value cube) a (made, made-long, made-satisfies)) made-nearest
 
-pub cube-cofactor : (n : ℕ) (c : Clause) → Within n c → Plain c → (f : Diagram)
+pub cube-cofactor : (n : ℕ) (c : Clause) → OfVariables n c → Plain c → (f : Diagram)
     → cofactor n f (meaning.negation n (clause n c)) ≡ cofactorLiterals n (makesTrue (negations c)) (makesFalse (negations c)) f
 cube-cofactor n c w plain f =
     unique n 1 (suc n) _ _ (omega arith) (cofactor-reduced n f (meaning.negation n (clause n c))) (literals-reduced n (makesTrue (negations c)) (makesFalse (negations c)) f) λ a len.

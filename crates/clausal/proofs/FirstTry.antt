@@ -8,21 +8,21 @@ use Rattle.meaning.specs.Diagram.{Diagram}
 use Rattle.meaning.specs.Operations.{clause}
 use Rattle.meaning.specs.Operations as meaning
 use Rattle.meaning.specs.Rules.{unitProp, byDiagram, rup}
-use Rattle.meaning.proofs.Clauses.{Within}
+use Rattle.meaning.specs.Literals.{OfVariables}
 use Rattle.clausal.specs.Drat.{Clause, negated, Plain, negation, Rup}
-use Rattle.clausal.proofs.Literals.{negations, has-negation, negations-plain, AllWithin}
+use Rattle.clausal.proofs.Literals.{negations, has-negation, negations-plain, AllOfVariables}
 use Rattle.clausal.proofs.Under.{under}
 use Rattle.clausal.proofs.Propagation.{unitProp-refutes, unitProp-closes}
 use Rattle.clausal.proofs.Cube.{cube-cofactor}
 use Rattle.clausal.proofs.Refuting.{refutes-rup, closed-not-rup}
 
-module _ (n : ℕ) (c : Clause) (w : Within n c) (plain : Plain c) where
+module _ (n : ℕ) (c : Clause) (w : OfVariables n c) (plain : Plain c) where
   pub members-by : (G : List Clause) → byDiagram n (meaning.negation n (clause n c)) (map (clause n) G) ≡ map (under n (negations c)) G
   unfolding under
   members-by [] = refl
   members-by (d ∷ G) = ap₂ _∷_ (cube-cofactor n c w plain (clause n d)) (members-by G)
 
-  module _ (F : List Clause) (within : AllWithin n F) where
+  module _ (F : List Clause) (within : AllOfVariables n F) where
     pub rup-only : rup n (map (clause n) F) (clause n c) .shown ≡ true → Rup F c
     unfolding rup
     rup-only e =

@@ -8,7 +8,7 @@ use Prim.Native.Nat.{ℕ, _+_, _≤_}
 use lib.Dec.{eqb}
 use Rattle.meaning.specs.Operations.{Literal}
 use Rattle.meaning.proofs.Booleans.{t≢f, not-not, and-both, or-cases, or-left, or-right, eqb-eq, eq-eqb, beq-eq, eq-beq}
-use Rattle.meaning.proofs.Clauses.{Within}
+use Rattle.meaning.specs.Literals.{OfVariables}
 use Rattle.clausal.specs.Drat.{Clause, literal, negated, alike, has, without, In, Plain, AllPlain, allFalse, allFalseBut}
 
 pub alike-eq : (k l : Literal) → alike k l ≡ true → k ≡ l
@@ -101,7 +101,7 @@ negations-plain ls p l x y = p l (subst (λ (m : Literal). has ls m ≡ true) (n
 
 -- ---- within
 
-pub has-within : (n : ℕ) (ls : List Literal) (l : Literal) → Within n ls → has ls l ≡ true → (1 ≤ l .variable) × (l .variable ≤ n)
+pub has-within : (n : ℕ) (ls : List Literal) (l : Literal) → OfVariables n ls → has ls l ≡ true → (1 ≤ l .variable) × (l .variable ≤ n)
 unfolding has
 has-within n [] l w e = t≢f (sym e)
 has-within n (k ∷ ls) l w e =
@@ -201,13 +201,13 @@ some-true α (l ∷ c) = go (has α l) refl (some-true α c)
 
 -- ---- clauses of a list
 
-abbrev pub AllWithin : ℕ → List Clause → Type 0
-AllWithin n [] = Unit {0}
-AllWithin n (c ∷ cs) = Within n c × AllWithin n cs
+abbrev pub AllOfVariables : ℕ → List Clause → Type 0
+AllOfVariables n [] = Unit {0}
+AllOfVariables n (c ∷ cs) = OfVariables n c × AllOfVariables n cs
 
-pub in-within : (n : ℕ) (F : List Clause) (c : Clause) → AllWithin n F → In c F → Within n c
+pub in-within : (n : ℕ) (F : List Clause) (c : Clause) → AllOfVariables n F → In c F → OfVariables n c
 in-within n [] c w i = absurd i
-in-within n (d ∷ F) c w (inl e) = subst (Within n) (sym e) (w .0)
+in-within n (d ∷ F) c w (inl e) = subst (OfVariables n) (sym e) (w .0)
 in-within n (d ∷ F) c w (inr i) = in-within n F c (w .1) i
 
 pub in-plain : (F : List Clause) (c : Clause) → AllPlain F → In c F → Plain c

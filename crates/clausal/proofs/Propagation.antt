@@ -15,12 +15,13 @@ use Rattle.meaning.specs.Rules.{any, conflicts, firstWithUnit, byUnits, Propaga
 use Rattle.meaning.proofs.Booleans.{t≢f, or-neither}
 use Rattle.meaning.proofs.Units.{eq-same}
 use Rattle.meaning.proofs.Ends.{inUse, fewer, more-rounds}
-use Rattle.meaning.proofs.Clauses.{Within}
+use Rattle.meaning.specs.Literals.{OfVariables}
 use Rattle.clausal.specs.Drat.{Clause, literal, negated, has, In, Plain, allFalse, allFalseBut, Refutes, falsified, propagated, negation}
-use Rattle.clausal.proofs.Literals.{has-cases, has-there, Among, has-within, allFalse-each, each-allFalse, allFalseBut-each, each-allFalseBut, AllWithin, in-within}
+use Rattle.clausal.proofs.Literals.{has-cases, has-there, Among, has-within, allFalse-each, each-allFalse, allFalseBut-each, each-allFalseBut, AllOfVariables, in-within}
 use Rattle.clausal.proofs.Under.{under, false-under, Left, unit-left, left-unit}
-use Rattle.clausal.proofs.Rounds.{plain-more, round-is, in-any, under-all-reduced, first-in, none-in, a-unit, unit-has}
+use Rattle.clausal.proofs.Rounds.{plain-more, round-is, in-any, under-all-reduced, first-in, none-in, unit-has}
 use Rattle.clausal.proofs.Conflicts.{conflict-refutes}
+use Rattle.meaning.proofs.Ends.{a-unit}
 
 -- ---- an assignment that propagation does not leave
 
@@ -37,7 +38,7 @@ closed-stays F α C {β} le (propagated c l i h e r) =
 
 -- ---- where rounds end
 
-module _ (n : ℕ) (F : List Clause) (within : AllWithin n F) where
+module _ (n : ℕ) (F : List Clause) (within : AllOfVariables n F) where
   -- the members of an assignment
   abbrev pub members : List Literal → List Diagram
   members α = map (under n α) F
@@ -58,7 +59,7 @@ module _ (n : ℕ) (F : List Clause) (within : AllWithin n F) where
       go : (c : Clause) (l : Literal) → In c F → has c l ≡ true → allFalseBut α l c ≡ true → (b : Bool) → has α l ≡ b → has α l ≡ true
       go c l i h f true t = t
       go c l i h f false t =
-          let w : Within n c = in-within n F c within i in
+          let w : OfVariables n c = in-within n F c within i in
           let r : (1 ≤ l .variable) × (l .variable ≤ n) = has-within n c l w h in
           t≢f (sym (unit-has n n (under n α c) (l .variable) (l .positive) (r .0) (r .1) (left-unit n α plain c w l (r .0) (r .1) t f)) ∙ none-in n (under n α) F e c i)
 

@@ -14,7 +14,7 @@ use Rattle.meaning.proofs.Canonical.{unique}
 use Rattle.meaning.proofs.Pointwise.{forced-length, clause-value, clause-reduced}
 use Rattle.meaning.proofs.PointwiseSteps.{literals-none}
 use Rattle.meaning.proofs.Units.{same-eq, eq-same}
-use Rattle.meaning.proofs.Clauses.{Within}
+use Rattle.meaning.specs.Literals.{OfVariables}
 use Rattle.clausal.specs.Drat.{Clause, negated, has, Plain}
 use Rattle.clausal.specs.Tries.{makesTrue, makesFalse}
 use Rattle.clausal.proofs.Literals.{has-here, has-cases, has-there, negations, has-negation, negations-plain, has-within}
@@ -45,12 +45,12 @@ rest-has α (j ∷ c) k h = go (has α (negated j)) refl h (rest-has α c k)
     go false e h ih = has-cases j (rest α c) k h (λ q. (subst (λ (m : Literal). has (j ∷ c) m ≡ true) q (has-here j c), subst (λ (m : Literal). has α (negated m) ≡ false) q e))
         (λ x. let (y, f) = ih x in (has-there j c k y, f))
 
-pub rest-within : (n : ℕ) (α : List Literal) (c : Clause) → Within n c → Within n (rest α c)
+pub rest-within : (n : ℕ) (α : List Literal) (c : Clause) → OfVariables n c → OfVariables n (rest α c)
 unfolding rest
 rest-within n α [] w = tt
 rest-within n α (l ∷ c) w = go (has α (negated l)) (rest-within n α c (w .2))
   where
-    go : (b : Bool) → Within n (rest α c) → Within n (cond b (rest α c) (l ∷ rest α c))
+    go : (b : Bool) → OfVariables n (rest α c) → OfVariables n (cond b (rest α c) (l ∷ rest α c))
     go true r = r
     go false r = (w .0, w .1, r)
 
@@ -62,7 +62,7 @@ found (l ∷ c) a e = or-cases (literalValue l a) (clauseValue c a) e (λ t. (l,
 
 -- ---- a clause under an assignment that makes none of its literals true
 
-module _ (n : ℕ) (α : List Literal) (plain : Plain α) (c : Clause) (w : Within n c) where
+module _ (n : ℕ) (α : List Literal) (plain : Plain α) (c : Clause) (w : OfVariables n c) where
   pub under-one : (k : Literal) → has c k ≡ true → has α k ≡ true → under n α c ≡ leaf true
   unfolding valueFrom
   under-one k h t = unique n 1 (suc n) (under n α c) (leaf true) (omega arith) (under-reduced n α c) tt (λ a len. under-true n α plain c w k h t a len)
@@ -114,7 +114,7 @@ module _ (n : ℕ) (α : List Literal) (plain : Plain α) (c : Clause) (w : With
             same-there n α plain b long k (r .0) (r .1) (none k h) q ∙ ap (literalValue k) is ∙ false-there n (negations c) (negations-plain c pc) a len k (r .0) (r .1) (has-negation c k h)
 
 -- 17 never comes to a clause without both signs: it is not the diagram 1
-pub plain-not-one : (n : ℕ) (c : Clause) → Within n c → Plain c → same (clause n c) (leaf true) ≡ false
+pub plain-not-one : (n : ℕ) (c : Clause) → OfVariables n c → Plain c → same (clause n c) (leaf true) ≡ false
 unfolding under has
 plain-not-one n c w plain = not-true (same (clause n c) (leaf true)) (λ e.
     not-one n [] (λ l x y. t≢f (sym x)) c w (λ k h. refl) plain

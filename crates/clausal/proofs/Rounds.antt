@@ -18,7 +18,7 @@ use Rattle.meaning.proofs.Canonical.{unique}
 use Rattle.meaning.proofs.Pointwise.{forced-length, forced-at, literals-value, literals-reduced}
 use Rattle.meaning.proofs.PointwiseSteps.{literals-cong}
 use Rattle.meaning.proofs.Ends.{AllReduced}
-use Rattle.meaning.proofs.Clauses.{Within}
+use Rattle.meaning.specs.Literals.{OfVariables}
 use Rattle.clausal.specs.Drat.{Clause, literal, negated, alike, has, In, Plain}
 use Rattle.clausal.specs.Tries.{makesTrue, makesFalse}
 use Rattle.clausal.proofs.Literals.{eq-alike, negated-twice, has-cases, has-or, has-within, allFalseBut-each}
@@ -68,7 +68,7 @@ under-more n α β c plain =
 
 -- ---- the units of a member
 
-module _ (n : ℕ) (α : List Literal) (plain : Plain α) (c : Clause) (w : Within n c) (nz : under n α c ≢ leaf false) (l : Literal) (L : Left n α plain c w l) where
+module _ (n : ℕ) (α : List Literal) (plain : Plain α) (c : Clause) (w : OfVariables n c) (nz : under n α c ≢ leaf false) (l : Literal) (L : Left n α plain c w l) where
   lo : 1 ≤ l .variable
   lo = has-within n c l w (L .in-clause) .0
 
@@ -156,14 +156,6 @@ none-in n g (d ∷ F) e c i = go (hasUnit n n (g d)) refl e i (λ x j. none-in n
     go false h e (inr j) ih = ih e j
 
 -- a unit that `hasUnit` finds, and that it finds each
-pub a-unit : (n w : ℕ) (f : Diagram) → hasUnit n w f ≡ true → (v : ℕ) × (s : Bool) × (1 ≤ v) × (v ≤ w) × (isUnit n f v s ≡ true)
-unfolding hasUnit
-a-unit n zero f e = t≢f (sym e)
-a-unit n (suc w) f e =
-    or-cases (isUnit n f (suc w) true || isUnit n f (suc w) false) (hasUnit n w f) e
-    (λ z. or-cases (isUnit n f (suc w) true) (isUnit n f (suc w) false) z (λ y. (suc w, true, omega arith, omega arith, y)) (λ y. (suc w, false, omega arith, omega arith, y)))
-    (λ z. let r : (v : ℕ) × (s : Bool) × (1 ≤ v) × (v ≤ w) × (isUnit n f v s ≡ true) = a-unit n w f z in (r .0, r .1, r .2, omega arith, r .4))
-
 pub unit-has : (n w : ℕ) (f : Diagram) (v : ℕ) (s : Bool) → 1 ≤ v → v ≤ w → isUnit n f v s ≡ true → hasUnit n w f ≡ true
 unfolding hasUnit
 unit-has n zero f v s lo hi u = absurd (omega arith)

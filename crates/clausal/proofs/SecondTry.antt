@@ -12,10 +12,10 @@ use Rattle.meaning.specs.Operations as meaning
 use Rattle.meaning.specs.Rules.{unitProp, byDiagram, afterTurn, prTurns, witnessed, pr}
 use Rattle.meaning.proofs.Booleans.{t≢f, and-both}
 use Rattle.meaning.proofs.Units.{same-eq, eq-same}
-use Rattle.meaning.proofs.Clauses.{Within}
+use Rattle.meaning.specs.Literals.{OfVariables}
 use Rattle.clausal.specs.Drat.{Clause, negated, alike, has, without, In, Plain, AllPlain, negation, Rup, Rat}
 use Rattle.clausal.specs.Tries.{makesTrue, makesFalse, witness}
-use Rattle.clausal.proofs.Literals.{alike-eq, eq-alike, negated-twice, negated-differs, has-here, has-cases, has-there, has-append, has-left, has-right, Among, negations, has-negation, negation-has, negations-plain, each-allFalse, Said, is-true, is-false, open-yet, said, has-without, without-has, some-true, AllWithin, in-within, in-plain}
+use Rattle.clausal.proofs.Literals.{alike-eq, eq-alike, negated-twice, negated-differs, has-here, has-cases, has-there, has-append, has-left, has-right, Among, negations, has-negation, negation-has, negations-plain, each-allFalse, Said, is-true, is-false, open-yet, said, has-without, without-has, some-true, AllOfVariables, in-within, in-plain}
 use Rattle.clausal.proofs.Under.{under}
 use Rattle.clausal.proofs.Rest.{rest, has-rest, rest-has, rest-within, under-one, under-rest, not-one}
 use Rattle.clausal.proofs.Rounds.{under-more}
@@ -73,7 +73,7 @@ module _ (n : ℕ) (P N : ℕ → Bool) (ms′ : List Diagram) where
 
 -- ---- the clause, its pivot and its witness
 
-module _ (n : ℕ) (c : Clause) (w : Within n c) (plain : Plain c) (p : Literal) (hp : has c p ≡ true) where
+module _ (n : ℕ) (c : Clause) (w : OfVariables n c) (plain : Plain c) (p : Literal) (hp : has c p ≡ true) where
   abbrev ω : List Literal
   ω = witness p c
 
@@ -92,9 +92,9 @@ module _ (n : ℕ) (c : Clause) (w : Within n c) (plain : Plain c) (p : Literal)
   unfolding witnessed under
   pivot-witnessed = eq-same _ (leaf true) (under-one n ω witness-plain c w p hp (has-here p (negations (without p c))))
 
-  module _ (F : List Clause) (within : AllWithin n F) where
+  module _ (F : List Clause) (within : AllOfVariables n F) where
     -- a member with no literal that the witness makes true
-    module _ (d : Clause) (wd : Within n d) (none : (k : Literal) → has d k ≡ true → has ω k ≡ false) (pd : Plain d) where
+    module _ (d : Clause) (wd : OfVariables n d) (none : (k : Literal) → has d k ≡ true → has ω k ≡ false) (pd : Plain d) where
       abbrev e : Clause
       e = rest ω d
 
@@ -195,7 +195,7 @@ module _ (n : ℕ) (c : Clause) (w : Within n c) (plain : Plain c) (p : Literal)
       unfolding ms′ under
       one-only d i t h = go (some-true ω d) t
         where
-          wd : Within n d
+          wd : OfVariables n d
           wd = in-within n F d within i
 
           pd : Plain d
@@ -220,7 +220,7 @@ module _ (n : ℕ) (c : Clause) (w : Within n c) (plain : Plain c) (p : Literal)
       unfolding ms′ under
       one-all d i r = go (some-true ω d)
         where
-          wd : Within n d
+          wd : OfVariables n d
           wd = in-within n F d within i
 
           go : ((k : Literal) × (has d k ≡ true) × (has ω k ≡ true)) ⊎ ((k : Literal) → has d k ≡ true → has ω k ≡ false) → Turn n (makesTrue ω) (makesFalse ω) ms′ d

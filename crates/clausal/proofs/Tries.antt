@@ -8,15 +8,15 @@ use Prim.Native.Nat.{ℕ}
 use Rattle.meaning.specs.Operations.{clause}
 use Rattle.meaning.specs.Rules.{rup, pr}
 use Rattle.meaning.proofs.Booleans.{or-cases, or-left, or-right}
-use Rattle.meaning.proofs.Clauses.{Within}
+use Rattle.meaning.specs.Literals.{OfVariables}
 use Rattle.clausal.specs.Drat.{Clause, Plain, AllPlain, Rup, Rat, Accepted}
 use Rattle.clausal.specs.Tries.{makesTrue, makesFalse, witness, shownBy}
-use Rattle.clausal.proofs.Literals.{has-here, AllWithin}
+use Rattle.clausal.proofs.Literals.{has-here, AllOfVariables}
 use Rattle.clausal.proofs.FirstTry.{rup-only, rup-all}
 use Rattle.clausal.proofs.SecondTry.{rat-only, rat-all}
 
 -- THEOREM: for clauses and members without both signs of a variable the two tries accept exactly what RUP and RAT over clauses accept.
-pub two-tries : (n : ℕ) (F : List Clause) → AllWithin n F → AllPlain F → (c : Clause) → Within n c → Plain c → (shownBy n (map (clause n) F) c ≡ true) ↔ Accepted F c
+pub two-tries : (n : ℕ) (F : List Clause) → AllOfVariables n F → AllPlain F → (c : Clause) → OfVariables n c → Plain c → (shownBy n (map (clause n) F) c ≡ true) ↔ Accepted F c
 unfolding shownBy
 two-tries n F within plains [] w plain = (rup-only n [] w plain F within, rup-all n [] w plain F within)
 two-tries n F within plains (p ∷ ls) w plain = (

@@ -17,7 +17,7 @@ use Rattle.meaning.proofs.Canonical.{unique}
 use Rattle.meaning.proofs.Assignments.{all-every}
 use Rattle.meaning.proofs.Pointwise.{forced-length, forced-at, clause-value, literals-value, literals-reduced}
 use Rattle.meaning.proofs.Units.{unit-holds}
-use Rattle.meaning.proofs.Clauses.{Within}
+use Rattle.meaning.specs.Literals.{OfVariables}
 use Rattle.clausal.specs.Drat.{Clause, literal, negated, alike, has, Plain, allFalse, allFalseBut}
 use Rattle.clausal.specs.Tries.{makesTrue, makesFalse}
 use Rattle.clausal.proofs.Literals.{alike-eq, eq-alike, negated-twice, negated-differs, has-here, has-cases, has-there, has-within, allFalse-each, each-allFalse, allFalseBut-each, each-allFalseBut, not-allFalse, Said, is-true, is-false, open-yet, said}
@@ -136,7 +136,7 @@ making-other l k a lo lk hi ne t = go (ℕ-discrete (k .variable) (l .variable))
 
 -- ---- what the diagram is
 
-module _ (n : ℕ) (α : List Literal) (plain : Plain α) (c : Clause) (w : Within n c) where
+module _ (n : ℕ) (α : List Literal) (plain : Plain α) (c : Clause) (w : OfVariables n c) where
   -- 1 everywhere, where a literal is true
   pub under-true : (l : Literal) → has c l ≡ true → has α l ≡ true → (a : Assignment) → length a ≡ n → value (under n α c) a ≡ true
   under-true l h t a len =

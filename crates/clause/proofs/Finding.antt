@@ -27,12 +27,9 @@ use Rattle.clause.specs.Words.{clauseOfWords, Stands}
 use Rattle.clause.proofs.Diagrams.{clauseWords, words-are, one-sign}
 use Rattle.clause.proofs.Values.{of-words-reduced}
 use Rattle.clause.proofs.Making.{stay, Making, make-both, make-end, next-is, make-turn}
+use Rattle.table.proofs.PlacedAll.{nodesAfter}
 
 -- ---- one node
-
-abbrev nodesIn : Placing → List Node
-nodesIn (full t) = t
-nodesIn (placed t k) = t
 
 -- a node that is not there is appended, or finds no room
 appended : (s : ℕ) (t : List Node) (x : Node) (k : ℕ) → orAppend s t x none ≡ placed t k → ⊥
@@ -40,7 +37,7 @@ unfolding orAppend
 appended s t x k e = go (ltb (length t) s) e
   where
     go : (b : Bool) → cond b (placed (t ++ x ∷ []) (length t)) (full t) ≡ placed t k → ⊥
-    go true e = let longer : length (t ++ x ∷ []) ≡ length t = ap (λ (p : Placing). length (nodesIn p)) e in omega (arith, length-append t (x ∷ []))
+    go true e = let longer : length (t ++ x ∷ []) ≡ length t = ap (λ (p : Placing). length (nodesAfter p)) e in omega (arith, length-append t (x ∷ []))
     go false e = let z : _≡_ {A = ℕ} 0 1 = cc in omega arith
 
 module _ (s : ℕ) (t : List Node) (v l h : ℕ) where

@@ -8,7 +8,7 @@ use lib.ListN.{length}
 use Rattle.meaning.specs.Diagram.{Assignment, Diagram, value, Reduced}
 use Rattle.meaning.specs.Operations.{Literal, clauseValue, clause}
 use Rattle.meaning.proofs.Values.{diagram-reduced, diagram-value}
-use Rattle.meaning.proofs.Clauses.{Within}
+use Rattle.meaning.specs.Literals.{OfVariables}
 use Rattle.table.specs.Nodes.{diagramAt}
 use Rattle.table.specs.Indexed.{Table, nodesOf, Good, Outcome}
 use Rattle.table.proofs.Outcomes.{placeIn, Grown, grown, Longer}
@@ -25,7 +25,7 @@ of-words-reduced u = diagram-reduced 64 (wordsValue u 64)
 pub made : (T : Table) → Good T → (u : Literals) (o : Outcome) → o ≡ placeIn T (clauseOfWords u) → Grown T (clauseOfWords u) o
 made T G u o e = grown T G (clauseOfWords u) (of-words-reduced u) o e
 
-module _ (n : ℕ) (most : n ≤ 64) (ls : List Literal) (i : Within n ls) where
+module _ (n : ℕ) (most : n ≤ 64) (ls : List Literal) (i : OfVariables n ls) where
   -- for n variables, or any greater number
   pub clause-value : (m : ℕ) → n ≤ m → m ≤ 64 → (a : Assignment) → length a ≡ m → value (clauseOfWords (literalsOf ls)) a ≡ clauseValue ls a
   unfolding clause

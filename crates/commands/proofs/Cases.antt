@@ -2,7 +2,8 @@
 -- apart says. The idea: each row is computed. Assumes nothing.
 use mathlib.Core.Path.{refl}
 use mathlib.Core.List.{List, [], _∷_}
-use Rattle.commands.specs.Cases.{plus, minus, adds, strikes, faulty, ends, Row, row, GivesAll, toldFrom}
+use Rattle.dimacs.specs.Texts.{plus, minus}
+use Rattle.commands.specs.Cases.{adds, strikes, faulty, ends, Row, row, GivesAll, toldFrom}
 
 -- Each: the header's variables, the text, what it tells.
 abbrev rows : List Row

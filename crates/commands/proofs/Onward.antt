@@ -9,7 +9,7 @@ use lib.ListN.{length}
 use lib.Dec.{ltb}
 use borrow.Author.Tests.{ltb-false}
 use Rattle.meaning.specs.Operations as meaning
-use Rattle.meaning.proofs.Clauses.{Within}
+use Rattle.meaning.specs.Literals.{OfVariables}
 use Rattle.dimacs.specs.Text.{between}
 use Rattle.dimacs.specs.Header.{isWord}
 use Rattle.dimacs.specs.Clauses.{Next, closed, ended, refused, clauseFrom}
@@ -19,8 +19,8 @@ use Rattle.commands.proofs.Reading.{Fault, ClauseIn, clause-in}
 
 -- What is known of a text's command at a place, by its kind, and of the place of the next.
 abbrev pub CommandIn : List ℕ → ℕ → ℕ → Command → ℕ → Type 0
-CommandIn s n at (added ls) next = (at < next) × (next ≤ length s) × Within n ls
-CommandIn s n at (struckOut ls) next = (at < next) × (next ≤ length s) × Within n ls
+CommandIn s n at (added ls) next = (at < next) × (next ≤ length s) × OfVariables n ls
+CommandIn s n at (struckOut ls) next = (at < next) × (next ≤ length s) × OfVariables n ls
 CommandIn s n at (wrong number offset) next = (next ≡ at) × (at + offset ≤ length s) × Fault 0 number offset
 CommandIn s n at finished next = (next ≡ at) × (at ≡ length s)
 CommandIn s n at (recorded r more) next = ⊥
@@ -29,7 +29,7 @@ abbrev pub ReadIn : List ℕ → ℕ → ℕ → Read → Type 0
 ReadIn s n at r = CommandIn s n at (r .command) (r .next)
 
 module _ (s : List ℕ) (n at from : ℕ) (le : at ≤ from) (command : List meaning.Literal → Command)
-    (is : (ls : List meaning.Literal) (next : ℕ) → at < next → next ≤ length s → Within n ls → CommandIn s n at (command ls) next) where
+    (is : (ls : List meaning.Literal) (next : ℕ) → at < next → next ≤ length s → OfVariables n ls → CommandIn s n at (command ls) next) where
   clause-read-in : (x : Next) → ClauseIn s n at from x → ReadIn s n at (clauseRead s at command x)
   clause-read-in (closed ls f next) h =
       is ls (between s next) (omega (arith, h .0, between-least s next)) (between-most s next (h .1)) (h .2)

@@ -11,7 +11,7 @@ use lib.Seq.{slice, length-slice}
 use lib.Dec.{ltb, leb}
 use borrow.Author.Tests.{ltb-true, ltb-false}
 use Rattle.meaning.specs.Operations as meaning
-use Rattle.meaning.proofs.Clauses.{Within}
+use Rattle.meaning.specs.Literals.{OfVariables}
 use Rattle.words.specs.Sets.{noLiterals, literalsOf}
 use Rattle.dimacs.specs.declared.Token.{Token}
 use Rattle.dimacs.specs.declared.Token.the-variants.{Closing, Literal, Wrong}
@@ -19,7 +19,7 @@ use Rattle.dimacs.specs.declared.ClosedClause.{ClosedClause}
 use Rattle.dimacs.specs.declared.Clause.{Clause}
 use Rattle.dimacs.specs.declared.Clause.the-variants.{Closed, End, Refused}
 use Rattle.dimacs.specs.Text.{isToken, tokenEnd, between}
-use Rattle.dimacs.specs.Numbers.{isZero, isNumber, unsigned, hasMinus, value, tokenOf}
+use Rattle.dimacs.specs.Numbers.{isZero, isNumber, unsigned, hasMinus, valueOfDigits, tokenOf}
 use Rattle.dimacs.specs.Clauses.{Next, closed, ended, refused, literalThen, afterToken, clauseFrom}
 use Rattle.dimacs.specs.Inner.{clauseAfter, clauseOf}
 use Rattle.dimacs.proofs.Cases.{by}
@@ -42,7 +42,7 @@ Fault first number place = (3 ≤ number) × (number ≤ 6) × (number ≢ 5) ×
 
 -- A clause of s whose tokens stand from `at` on closes behind that place and is within n variables; a refusal is at `first` or behind it.
 abbrev pub ClauseIn : List ℕ → ℕ → ℕ → ℕ → Next → Type 0
-ClauseIn s n first at (closed ls f next) = (at < next) × (next ≤ length s) × Within n ls
+ClauseIn s n first at (closed ls f next) = (at < next) × (next ≤ length s) × OfVariables n ls
 ClauseIn s n first at (refused number place) = (first ≤ place) × (place ≤ length s) × Fault first number place
 ClauseIn s n first at ended = ⊥
 
@@ -60,9 +60,9 @@ FaultToken (Wrong number) = (3 ≤ number) × (number ≤ 4)
 
 token-fault : (n : ℕ) (bs : List ℕ) → FaultToken (tokenOf n bs)
 unfolding tokenOf
-token-fault n bs = go (isZero bs) (isNumber bs) (leb (value (unsigned bs)) n)
+token-fault n bs = go (isZero bs) (isNumber bs) (leb (valueOfDigits (unsigned bs)) n)
   where
-    go : (z d w : Bool) → FaultToken (cond z Closing (cond d (cond w (Literal (value (unsigned bs)) (not (hasMinus bs))) (Wrong 4)) (Wrong 3)))
+    go : (z d w : Bool) → FaultToken (cond z Closing (cond d (cond w (Literal (valueOfDigits (unsigned bs)) (not (hasMinus bs))) (Wrong 4)) (Wrong 3)))
     go true d w = tt
     go false false w = (omega arith, omega arith)
     go false true true = tt

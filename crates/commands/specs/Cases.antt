@@ -1,25 +1,13 @@
 -- Rows about DRAT texts: the commands of a text with their first bytes, and the number and the place of its fault. (02, 4/14)
 use mathlib.Core.Path.{_≡_}
-use mathlib.Core.Bool.{true, false}
 use mathlib.Core.List.{List, [] as []ᴸ, _∷_ as _∷ᴸ_}
 use Prim.Native.Nat.{ℕ, zero, suc, _+_}
-use Prim.Native.Char.{code}
 use Prim.Native.String.{String, [], _∷_}
 use lib.ListN.{length}
 use Rattle.meaning.specs.Operations.{Literal}
 use Rattle.commands.specs.declared.Form.the-variants.{Text}
 use Rattle.commands.specs.Commands.{Command, recorded, added, struckOut, wrong, finished, start, textRead}
-
--- The bytes of a text of plain characters.
-abbrev pub bytes : String → List ℕ
-bytes [] = []ᴸ
-bytes (c ∷ s) = code c ∷ᴸ bytes s
-
-abbrev pub plus : ℕ → Literal
-plus v = record { variable = v; positive = true }
-
-abbrev pub minus : ℕ → Literal
-minus v = record { variable = v; positive = false }
+use Rattle.dimacs.specs.Texts.{bytes}
 
 -- A clause added or struck by the command at a place; the number and the place of the fault; the end.
 pub data Told : Type 0 where

@@ -13,15 +13,15 @@ use Rattle.single.specs.Single.{operation, Made, unchanged}
 use Rattle.commands.specs.declared.Form.the-variants.{Records, Text}
 use Rattle.commands.specs.Commands.{inText}
 use Rattle.verdict.specs.Steps.{State}
-use Rattle.verdict.specs.Check.{Outcome}
+use Rattle.verdict.specs.Check.{CheckOutcome}
 use Rattle.verdict.specs.Taken.{Meant}
 use Rattle.verdict.specs.Run.{Reached, ProofNumber}
 use Rattle.verdict.specs.Marks.{strikingsBefore, markOf}
 use Rattle.verdict.proofs.Numbers.{proof-number}
-use Rattle.demands.specs.Calls.{Says, answered, refused}
+use Rattle.demands.specs.Calls.{OperationSays, answered, refused}
 use Rattle.demands.specs.Texts.{textBefore, Matches}
 use Rattle.demands.specs.Leaving as leaving
-use Rattle.demands.specs.Leaving.{Lent, checked, Fits, seven, Ends, Leaves, emptied, kept, AtEnd, FormulaMade, AtFault}
+use Rattle.demands.specs.Leaving.{Handed, checked, Fits, seven, Ends, Leaves, emptied, kept, AtEnd, FormulaMade, AtFault}
 use Rattle.demands.proofs.Singles as Singles
 use Rattle.demands.proofs.Ending as Ending
 use Rattle.demands.proofs.Lists as Lists
@@ -31,41 +31,41 @@ use Rattle.demands.proofs.TextMembers as TextMembers
 
 -- The check ends in exactly one of the ways that 01 and 02 name, at the first place that is refused or at the proof's end, and number, place, counts and
 -- every lent place are what that way gives.
-pub check-exactly : (i : Lent) (o : Outcome) → (checked i ≡ o) ↔ Ends i o
+pub check-exactly : (i : Handed) (o : CheckOutcome) → (checked i ≡ o) ↔ Ends i o
 check-exactly = Ending.check-exactly
 
 -- "Place: [..] 9 to 23 [..] the record's first byte (10 with no record begun: the length; 11: the byte after the end record)", and that of 0, 28 and 29;
 -- in a text the first byte of the clause or its `d`, the token for 3 and 4, the length for 0 and 20: where the place is in the proof, the run ends at a
 -- command there, all commands before it taken. (02, 4/14)
-pub check-place : (i : Lent) → checked i .inProof ≡ true → AtEnd i (checked i)
+pub check-place : (i : Handed) → checked i .inProof ≡ true → AtEnd i (checked i)
 check-place = Places.check-place
 
 -- Which text the place is in: the proof's exactly where the formula is read and its clauses made.
-pub in-proof-exactly : (i : Lent) → Fits i → (checked i .inProof ≡ true) ↔ FormulaMade i
+pub in-proof-exactly : (i : Handed) → Fits i → (checked i .inProof ≡ true) ↔ FormulaMade i
 in-proof-exactly = InProof.in-proof-exactly
 
 -- In records the number tells it.
-pub in-records-exactly : (i : Lent) → i .mode .form ≡ Records → (checked i .inProof ≡ true) ↔ ((checked i .number ≡ 0) ⊎ (9 ≤ checked i .number))
+pub in-records-exactly : (i : Handed) → i .mode .form ≡ Records → (checked i .inProof ≡ true) ↔ ((checked i .number ≡ 0) ⊎ (9 ≤ checked i .number))
 in-records-exactly = InProof.in-records-exactly
 
 -- "3, 4 (the token), 6" of a text are its reader's, at the place. (02, 4/14)
-pub fault-only : (i : Lent) → i .mode .form ≡ Text → checked i .inProof ≡ true → checked i .number ≢ 0 → checked i .number ≤ 6 → AtFault i (checked i)
+pub fault-only : (i : Handed) → i .mode .form ≡ Text → checked i .inProof ≡ true → checked i .number ≢ 0 → checked i .number ≤ 6 → AtFault i (checked i)
 fault-only = InProof.fault-only
 
 -- "Number 7 changes nothing. A refused formula leaves table and lists all zero, count 2. A refused proof leaves the clauses and accepted lines with their
 -- nodes [..], zeros above. Number 0 leaves the same [..]. Scratch ends as zeros."
-pub check-leaves : (i : Lent) → Leaves i (checked i)
+pub check-leaves : (i : Handed) → Leaves i (checked i)
 check-leaves = Lists.check-leaves
 
 -- "Each member gains a mark in the list, 1 once struck, else 0, which stays, after a refused proof too": in records the mark of member k is 1 exactly
 -- where a striking before the place where the run ends has the number k. (02, 3/14)
-pub marks-left : (i : Lent) → Fits i → checked i .inProof ≡ true → i .mode .form ≡ Records → (k : ℕ)
+pub marks-left : (i : Handed) → Fits i → checked i .inProof ≡ true → i .mode .form ≡ Records → (k : ℕ)
     → getD (checked i .struck) k 0 ≡ markOf (strikingsBefore (i .proof) (checked i .place)) k
 marks-left i fits late = Lists.check-kept i fits late .marks
 
 -- "A `d` line strikes the live member of lowest place that is the same diagram": in a text the marks are those of formula and text up to the place, each
 -- `d` clause marking the live clause of lowest place with its diagram. (02, 4/14)
-pub text-marks : (i : Lent) → Fits i → checked i .inProof ≡ true → i .mode .form ≡ Text → (k : ℕ)
+pub text-marks : (i : Handed) → Fits i → checked i .inProof ≡ true → i .mode .form ≡ Text → (k : ℕ)
     → getD (checked i .struck) k 0 ≡ getD (textBefore (i .text) (i .proof) (checked i .place) .marks) k 0
 text-marks i fits late = Lists.check-kept i fits late .text-marks
 
@@ -75,28 +75,28 @@ pub text-matches : (s : ℕ) (text proof : List ℕ) {n : ℕ} {st : State} {at 
 text-matches = TextMembers.text-matches
 
 -- "7: a lent part of wrong size": given exactly where one is, and nothing is changed.
-pub seven-exactly : (i : Lent) → (checked i .number ≡ 7) ↔ (Fits i → ⊥)
-seven-exactly i = ((λ z fits. not-seven (check-leaves i) fits z), (λ other. ap (λ (o : Outcome). o .number) (Ending.checked-seven i other)))
+pub seven-exactly : (i : Handed) → (checked i .number ≡ 7) ↔ (Fits i → ⊥)
+seven-exactly i = ((λ z fits. not-seven (check-leaves i) fits z), (λ other. ap (λ (o : CheckOutcome). o .number) (Ending.checked-seven i other)))
   where
     not-seven : Leaves i (checked i) → Fits i → checked i .number ≡ 7 → ⊥
     not-seven (leaving.unchanged other is) fits z = other fits
     not-seven (emptied _ E) fits z = E .number .2 z
     not-seven (kept _ K) fits z = proof-number (i .mode .form) (checked i .number) (K .number) .1 z
 
-pub seven-changes-nothing : (i : Lent) → (Fits i → ⊥) → checked i ≡ seven i
+pub seven-changes-nothing : (i : Handed) → (Fits i → ⊥) → checked i ≡ seven i
 seven-changes-nothing = Ending.checked-seven
 
 -- "The whole check [..] never gives 26 or 27", nor the program's 24 and 25: 23 at most, or 28 or 29. (02, 3/14 and 5/14)
-pub check-number : (i : Lent) → checked i .number ≢ 28 → checked i .number ≢ 29 → checked i .number ≤ 23
+pub check-number : (i : Handed) → checked i .number ≢ 28 → checked i .number ≢ 29 → checked i .number ≤ 23
 check-number i = go (checked i) (check-leaves i)
   where
-    go : (o : Outcome) → Leaves i o → o .number ≢ 28 → o .number ≢ 29 → o .number ≤ 23
-    go o (leaving.unchanged other is) _ _ = let z : o .number ≡ 7 = ap (λ (x : Outcome). x .number) is in omega arith
+    go : (o : CheckOutcome) → Leaves i o → o .number ≢ 28 → o .number ≢ 29 → o .number ≤ 23
+    go o (leaving.unchanged other is) _ _ = let z : o .number ≡ 7 = ap (λ (x : CheckOutcome). x .number) is in omega arith
     go o (emptied _ E) _ _ = omega (arith, E .number .1)
     go o (kept _ K) other another = proof-number (i .mode .form) (o .number) (K .number) .0 other another
 
 -- The numbers of a text: 0, 3, 4, 6, 17, 19, 20, 22, 23 and 28. So no clause gets 15 or 18: its witness names no variable twice and makes it 1. (02, 4/14)
-pub text-number : (i : Lent) → i .mode .form ≡ Text → checked i .inProof ≡ true → ProofNumber Text (checked i .number)
+pub text-number : (i : Handed) → i .mode .form ≡ Text → checked i .inProof ≡ true → ProofNumber Text (checked i .number)
 text-number = InProof.text-number
 
 -- "A refused single call changes nothing"; "with a refusal the node is 0".
@@ -107,6 +107,6 @@ refused-changes-nothing op c count f g other = go (Singles.operation-says op c c
     o : Made
     o = operation op c count f g
 
-    go : Says op c count f g o → o ≡ unchanged c count (o .number)
+    go : OperationSays op c count f g o → o ≡ unchanged c count (o .number)
     go (answered z A) = absurd (other z)
     go (refused _ same) = same

@@ -29,15 +29,16 @@ use Rattle.verdict.specs.ClauseTaken.{GoesOn as StepGoesOn, HasRoom}
 use Rattle.verdict.specs.Run.{commandIn, CommandTaken, Reached, Refutation}
 use Rattle.verdict.specs.Satisfies.{clausesOf}
 use Rattle.verdict.specs.MetFirst.{metBy, sayMet}
-use Rattle.verdict.specs.Cases.{Gives, GivesAll, checked as row, prints, bytes, A-formula, A-proof, caseTable, numberTable, strikeTable, setTable}
+use Rattle.dimacs.specs.Texts.{bytes}
+use Rattle.verdict.specs.Cases.{Gives, GivesAll, checked as row, prints, A-formula, A-proof, caseTable, numberTable, strikeTable, setTable}
 use Rattle.verdict.specs.TextRows.{textTable}
 use Rattle.verdict.proofs.Cases as Tables
 use Rattle.verdict.proofs.TextRows as TextRows
 use Rattle.verdict.proofs.Commands as Commands
 use Rattle.verdict.proofs.MetFirst as MetFirst
-use Rattle.demands.specs.Calls.{nodesIn}
+use Rattle.demands.specs.Calls.{nodesOfColumns}
 use Rattle.demands.specs.Words.{Conflict, Among, AmongLive}
-use Rattle.demands.specs.Leaving.{Lent, checked, Fits, places, ZeroLine, AtStriking, AtLine}
+use Rattle.demands.specs.Leaving.{Handed, checked, Fits, places, ZeroLine, AtStriking, AtLine}
 use Rattle.demands.specs.Texts.{liveClauses}
 use Rattle.demands.specs.Full.{Wants, AtClause, AtCommand}
 use Rattle.demands.proofs.Words as Words
@@ -57,15 +58,15 @@ use Rattle.demands.proofs.Rows.{nodeRecords, rupLines}
 -- 0 is given exactly where the sizes fit, the formula is read and its clauses made, each record in turn passes what 01 asks of its kind (a line: RUP or
 -- PR, within room and limits), an accepted line is 0, and the end record ends the proof with no witness left and no byte behind it; in a text each
 -- clause passes, one is empty, and the text is read to its end. (02, 4/14)
-pub check-zero-exactly : (i : Lent) → (checked i .number ≡ 0) ↔ (Fits i × Refutation (i .mode) (places i) (i .text) (i .proof))
+pub check-zero-exactly : (i : Handed) → (checked i .number ≡ 0) ↔ (Fits i × Refutation (i .mode) (places i) (i .text) (i .proof))
 check-zero-exactly = Ending.check-zero-exactly
 
 -- "0: refuted; place of the end record"
-pub check-zero-place : (i : Lent) → Fits i → (F : Refutation (i .mode) (places i) (i .text) (i .proof)) → checked i .place ≡ F .place
+pub check-zero-place : (i : Handed) → Fits i → (F : Refutation (i .mode) (places i) (i .text) (i .proof)) → checked i .place ≡ F .place
 check-zero-place = Ending.check-zero-place
 
 -- "20, at its length as is 0": in a text that place is its length. (02, 4/14)
-pub text-zero-place : (i : Lent) → i .mode .form ≡ Text → (F : Refutation (i .mode) (places i) (i .text) (i .proof)) → F .place ≡ length (i .proof)
+pub text-zero-place : (i : Handed) → i .mode .form ≡ Text → (F : Refutation (i .mode) (places i) (i .text) (i .proof)) → F .place ≡ length (i .proof)
 text-zero-place = Ending.text-zero-place
 
 -- "an accepted line is 0": what the refutation's `zero-line` says.
@@ -84,23 +85,23 @@ met-first = MetFirst.met-first
 
 -- "19: not shown: no conflict": of the call, the line at the place given; its propagation ends without conflict before a diagram finds no room. Of an
 -- added clause, neither try shows it, and both had room; the empty one has no second. (02, 4/14)
-pub nineteen-only : (i : Lent) → checked i .number ≡ 19 → AtLine i (checked i .place)
+pub nineteen-only : (i : Handed) → checked i .number ≡ 19 → AtLine i (checked i .place)
 nineteen-only = NotShown.nineteen-only
 
 -- "It refuses with 28 a member that does not exist or is struck already, after 10 and then 16 for a waiting witness": at the record. (02, 3/14)
 -- "an absent clause to strike with 28": no live member is its diagram; at its `d`. (02, 4/14)
-pub twenty-eight-exactly : (i : Lent) → Fits i → (at : ℕ) → ((checked i .number ≡ 28) × (checked i .place ≡ at)) ↔ AtStriking (i .mode) (places i) (i .text) (i .proof) at
+pub twenty-eight-exactly : (i : Handed) → Fits i → (at : ℕ) → ((checked i .number ≡ 28) × (checked i .place ≡ at)) ↔ AtStriking (i .mode) (places i) (i .text) (i .proof) at
 twenty-eight-exactly = Strikings.twenty-eight-exactly
 
 -- "8 and 23 are given only where a node not in the table is to be placed and the count equals the size."
-pub eight-only : (i : Lent) → checked i .number ≡ 8 → AtClause (places i) (i .text) (checked i .place)
+pub eight-only : (i : Handed) → checked i .number ≡ 8 → AtClause (places i) (i .text) (checked i .place)
 eight-only = NoRoom.eight-only
 
-pub twenty-three-only : (i : Lent) → checked i .number ≡ 23 → AtCommand (i .mode) (places i) (i .text) (i .proof) (checked i .place)
+pub twenty-three-only : (i : Handed) → checked i .number ≡ 23 → AtCommand (i .mode) (places i) (i .text) (i .proof) (checked i .place)
 twenty-three-only = NoRoom.twenty-three-only
 
 pub operation-full : (op : Operation) (c : Columns) (count f g : ℕ) → operation op c count f g .number ≡ 23
-    → Wants (length (c .vars)) (nodesIn c count) (result op (diagramAt (nodesIn c count) f) (diagramAt (nodesIn c count) g))
+    → Wants (length (c .vars)) (nodesOfColumns c count) (result op (diagramAt (nodesOfColumns c count) f) (diagramAt (nodesOfColumns c count) g))
 operation-full = NoRoom.operation-full
 
 -- ---- clauses of a text

@@ -22,8 +22,8 @@ use Rattle.verdict.specs.Run.{Reached, Later}
 use Rattle.verdict.specs.Satisfies.{Unsatisfiable}
 use Rattle.verdict.proofs.Refuted as Refuted
 use Rattle.verdict.proofs.Values as Values
-use Rattle.demands.specs.Calls.{nodesIn, inGoodOrder, valueAt, Answers, Says, answered, refused, LeastSays}
-use Rattle.demands.specs.Leaving.{Lent, checked, Fits, places, clausesRead, linesOf, Member}
+use Rattle.demands.specs.Calls.{nodesOfColumns, inGoodOrder, valueAt, Answers, OperationSays, answered, refused, LeastSays}
+use Rattle.demands.specs.Leaving.{Handed, checked, Fits, places, clausesRead, linesOf, Member}
 use Rattle.demands.proofs.Singles as Singles
 use Rattle.demands.proofs.Leasts as Leasts
 use Rattle.demands.proofs.Words as Words
@@ -52,14 +52,14 @@ pub one-value : (c : Columns) (count : ℕ) (a : Assignment) → valueAt c count
 one-value = Words.one-value
 
 pub node-value : (c : Columns) (count : ℕ) → inGoodOrder c count ≡ true → (k : ℕ) → 2 ≤ k → k < count → (a : Assignment)
-    → valueAt c count k a ≡ cond (holds a (at (nodesIn c count) k .var)) (valueAt c count (at (nodesIn c count) k .high) a) (valueAt c count (at (nodesIn c count) k .low) a)
+    → valueAt c count k a ≡ cond (holds a (at (nodesOfColumns c count) k .var)) (valueAt c count (at (nodesOfColumns c count) k .high) a) (valueAt c count (at (nodesOfColumns c count) k .low) a)
 node-value = Words.node-value
 
 -- ---- the single calls
 
 -- For every table, count and operand: the call is refused, changes nothing and gives node 0; or it answers with a node of the table as left that has
 -- exactly 01's value of the operation under every assignment, the table as left is in good order, and every old number keeps its diagram.
-pub operation-says : (op : Operation) (c : Columns) (count f g : ℕ) → Says op c count f g (operation op c count f g)
+pub operation-says : (op : Operation) (c : Columns) (count f g : ℕ) → OperationSays op c count f g (operation op c count f g)
 operation-says = Singles.operation-says
 
 -- The same where number 0 is at hand.
@@ -67,7 +67,7 @@ pub operation-answers : (op : Operation) (c : Columns) (count f g : ℕ) → ope
     → Answers op c count f g (operation op c count f g)
 operation-answers op c count f g z = go (operation-says op c count f g)
   where
-    go : Says op c count f g (operation op c count f g) → Answers op c count f g (operation op c count f g)
+    go : OperationSays op c count f g (operation op c count f g) → Answers op c count f g (operation op c count f g)
     go (answered _ A) = A
     go (refused other _) = absurd (other z)
 
@@ -91,20 +91,20 @@ evaluation-says = Singles.evaluation-says
 
 -- "a clause's [..] node from its making until it is dropped": in every state that the check reaches (`Values.clause-values`, `Values.member-value`), and in
 -- what it leaves: place k of the member list is a node with clause k's value.
-pub clause-left : (i : Lent) → Fits i → checked i .inProof ≡ true → (k : ℕ) → k < length (clausesRead i)
+pub clause-left : (i : Handed) → Fits i → checked i .inProof ≡ true → (k : ℕ) → k < length (clausesRead i)
     → Member (checked i) k (clauseValue (getD (clausesRead i) k []))
 clause-left i fits late = Lists.check-kept i fits late .clauses
 
 -- Then the accepted lines in order, each with its root's value, or its added clause's, as the proof's bytes fix it.
-pub line-left : (i : Lent) → Fits i → checked i .inProof ≡ true → (j : ℕ) → j < checked i .lines
+pub line-left : (i : Handed) → Fits i → checked i .inProof ≡ true → (j : ℕ) → j < checked i .lines
     → Member (checked i) (length (clausesRead i) + j) (getD (linesOf i) j (λ a. false))
 line-left i fits late = Lists.check-kept i fits late .lines
 
 -- The table as left is in good order.
-pub left-in-order : (i : Lent) → Fits i → checked i .inProof ≡ true → inGoodOrder (checked i .columns) (checked i .count) ≡ true
+pub left-in-order : (i : Handed) → Fits i → checked i .inProof ≡ true → inGoodOrder (checked i .columns) (checked i .count) ≡ true
 left-in-order i fits late = Lists.check-kept i fits late .good
 
-module _ (i : Lent) {n : ℕ} {st : State} {at : ℕ} {m : Meant} (R : Reached (i .mode) (places i) (i .text) (i .proof) n st at m) where
+module _ (i : Handed) {n : ℕ} {st : State} {at : ℕ} {m : Meant} (R : Reached (i .mode) (places i) (i .text) (i .proof) n st at m) where
   -- "an entry's node [has its value] from its making until it is dropped, though the proof be refused later": in every state reached later,
   pub entry-kept : {st′ : State} {at′ : ℕ} → Later (i .mode) (places i) (i .proof) n st at st′ at′ → (e : ℕ) → isEntry st e ≡ true → (a : Assignment)
       → value (diagramAt (st′ .nodes) (entryNode st e)) a ≡ entryMeant m e a
@@ -120,5 +120,5 @@ module _ (i : Lent) {n : ℕ} {st : State} {at : ℕ} {m : Meant} (R : Reached (
   entry-stays fits = Lists.entry-stays i fits R
 
 -- Where 0 is said no assignment satisfies the formula's bytes, whatever the proof's bytes and whatever the lent places held.
-pub check-refuted : (i : Lent) → checked i .number ≡ 0 → Unsatisfiable (i .text)
+pub check-refuted : (i : Handed) → checked i .number ≡ 0 → Unsatisfiable (i .text)
 check-refuted i = Refuted.check-refuted (i .mode) (i .columns) (i .count) (i .members) (i .struck) (i .scratch) (i .text) (i .proof)

@@ -11,14 +11,14 @@ use Rattle.commands.specs.declared.Form.{Form}
 use Rattle.commands.specs.declared.Form.the-variants.{Text}
 use Rattle.commands.specs.Commands.{Command, recorded, added, struckOut, wrong, finished, commandAt}
 use Rattle.commands.proofs.Onward.{CommandIn, text-in}
-use Rattle.verdict.specs.Check.{Verdict, verdict, Outcome, lentFits, outcome, check}
+use Rattle.verdict.specs.Check.{Verdict, verdict, CheckOutcome, lentFits, outcome, check}
 use Rattle.verdict.specs.Run.{commandIn, nextIn, Closes, Refutation}
 use Rattle.verdict.proofs.Ends.{reached-in, ended}
 use Rattle.verdict.proofs.Exactly.{ended-is, zero-exactly, refutation-said}
-use Rattle.demands.specs.Leaving.{Lent, checked, Fits, places, seven, Ends, wrong-size, at-place}
+use Rattle.demands.specs.Leaving.{Handed, checked, Fits, places, seven, Ends, wrong-size, at-place}
 
-module _ (i : Lent) where
-  abbrev pub done : Verdict → Outcome
+module _ (i : Handed) where
+  abbrev pub done : Verdict → CheckOutcome
   done = outcome (places i) (length (i .members)) (length (i .scratch))
 
   abbrev fits : Bool
@@ -50,10 +50,10 @@ module _ (i : Lent) where
       fits? (Ends i (checked i)) (λ e. subst (Ends i) (sym (checked-fits e)) (at-place e (ended (i .mode) (places i) (i .text) (i .proof))))
       (λ other. subst (Ends i) (sym (checked-seven other)) (wrong-size other))
 
-  pub check-exactly : (o : Outcome) → (checked i ≡ o) ↔ Ends i o
+  pub check-exactly : (o : CheckOutcome) → (checked i ≡ o) ↔ Ends i o
   check-exactly o = ((λ e. subst (Ends i) e check-ends), back o)
     where
-      back : (o : Outcome) → Ends i o → checked i ≡ o
+      back : (o : CheckOutcome) → Ends i o → checked i ≡ o
       back _ (wrong-size other) = checked-seven other
       back _ (at-place {v} e E) = checked-fits e ∙ ap done (ended-is (i .mode) (places i) (i .text) (i .proof) v E)
 
@@ -68,16 +68,16 @@ module _ (i : Lent) where
 
       to : checked i .number ≡ 0 → R
       to z =
-          fits? R (λ e. (e, zero-exactly (i .mode) (places i) (i .text) (i .proof) .0 (sym (ap (λ (o : Outcome). o .number) (checked-fits e)) ∙ z)))
-          (λ other. let n : _≡_ {A = ℕ} 7 0 = sym (ap (λ (o : Outcome). o .number) (checked-seven other)) ∙ z in absurd (omega arith))
+          fits? R (λ e. (e, zero-exactly (i .mode) (places i) (i .text) (i .proof) .0 (sym (ap (λ (o : CheckOutcome). o .number) (checked-fits e)) ∙ z)))
+          (λ other. let n : _≡_ {A = ℕ} 7 0 = sym (ap (λ (o : CheckOutcome). o .number) (checked-seven other)) ∙ z in absurd (omega arith))
 
       from : R → checked i .number ≡ 0
-      from (e, F) = ap (λ (o : Outcome). o .number) (checked-fits e) ∙ zero-exactly (i .mode) (places i) (i .text) (i .proof) .1 F
+      from (e, F) = ap (λ (o : CheckOutcome). o .number) (checked-fits e) ∙ zero-exactly (i .mode) (places i) (i .text) (i .proof) .1 F
 
   -- "place of the end record"
   pub check-zero-place : (e : Fits i) (F : Refutation (i .mode) (places i) (i .text) (i .proof)) → checked i .place ≡ F .place
   unfolding outcome
-  check-zero-place e F = ap (λ (o : Outcome). o .place) (checked-fits e) ∙ ap (λ (v : Verdict). v .place) (refutation-said (i .mode) (places i) (i .text) (i .proof) F)
+  check-zero-place e F = ap (λ (o : CheckOutcome). o .place) (checked-fits e) ∙ ap (λ (v : Verdict). v .place) (refutation-said (i .mode) (places i) (i .text) (i .proof) F)
 
   -- "at its length as is 0": a text's refutation ends at its length.
   pub text-zero-place : i .mode .form ≡ Text → (F : Refutation (i .mode) (places i) (i .text) (i .proof)) → F .place ≡ length (i .proof)

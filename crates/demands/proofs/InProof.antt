@@ -13,13 +13,13 @@ use Rattle.commands.specs.declared.Form.the-variants.{Records, Text}
 use Rattle.commands.specs.declared.Mode.{Mode}
 use Rattle.commands.specs.Commands.{Command, recorded, added, struckOut, wrong, finished}
 use Rattle.verdict.specs.Steps.{State, Step, next, stop, spent}
-use Rattle.verdict.specs.Check.{step, Verdict, afterStep, commands, Outcome, outcome}
+use Rattle.verdict.specs.Check.{step, Verdict, afterStep, commands, CheckOutcome, outcome}
 use Rattle.verdict.specs.Run.{commandIn, nextIn, ProofNumber}
 use Rattle.verdict.proofs.Commands.{Fit}
 use Rattle.verdict.proofs.Ends.{reached-fit}
 use Rattle.verdict.proofs.Exactly.{Ahead, reached-ahead}
 use Rattle.verdict.proofs.ClauseSays.{AddedSays, StruckSays, FinishSays, added-says, struck-says, finish-says}
-use Rattle.demands.specs.Leaving.{Lent, checked, Fits, places, Leaves, unchanged, emptied, kept, EndsWith, AtEnd, FormulaMade, AtFault}
+use Rattle.demands.specs.Leaving.{Handed, checked, Fits, places, Leaves, unchanged, emptied, kept, EndsWith, AtEnd, FormulaMade, AtFault}
 use Rattle.demands.proofs.Ending.{checked-fits}
 use Rattle.demands.proofs.Lists.{check-leaves}
 use Rattle.demands.proofs.Places.{check-place}
@@ -38,7 +38,7 @@ commands-in-proof (suc steps) mode n s proof st at = go (step n s st (commandIn 
     go (next st′) rec = rec st′
 
 -- The place is in the proof exactly where the formula is read and its clauses made.
-pub in-proof-exactly : (i : Lent) → Fits i → (checked i .inProof ≡ true) ↔ FormulaMade i
+pub in-proof-exactly : (i : Handed) → Fits i → (checked i .inProof ≡ true) ↔ FormulaMade i
 unfolding outcome
 in-proof-exactly i fits = (to, from)
   where
@@ -48,46 +48,46 @@ in-proof-exactly i fits = (to, from)
     from : FormulaMade i → checked i .inProof ≡ true
     from J =
         let A : Ahead (i .mode) (places i) (i .text) (i .proof) (J .n) (J .state) (J .at) = reached-ahead (i .mode) (places i) (i .text) (i .proof) (J .reached) in
-        ap (λ (o : Outcome). o .inProof) (checked-fits i fits) ∙ ap (λ (v : Verdict). v .inProof) (A .is)
+        ap (λ (o : CheckOutcome). o .inProof) (checked-fits i fits) ∙ ap (λ (v : Verdict). v .inProof) (A .is)
         ∙ commands-in-proof (A .steps) (i .mode) (J .n) (places i) (i .proof) (J .state) (J .at)
 
 -- ---- by the number
 
 -- 0, and every number from 9 on, is the proof's.
-pub in-proof-said : (i : Lent) → (checked i .number ≡ 0) ⊎ (9 ≤ checked i .number) → checked i .inProof ≡ true
+pub in-proof-said : (i : Handed) → (checked i .number ≡ 0) ⊎ (9 ≤ checked i .number) → checked i .inProof ≡ true
 in-proof-said i said = go (checked i) (check-leaves i) said
   where
-    go : (o : Outcome) → Leaves i o → (o .number ≡ 0) ⊎ (9 ≤ o .number) → o .inProof ≡ true
-    go o (unchanged _ is) (inl z) = let q : o .number ≡ 7 = ap (λ (x : Outcome). x .number) is in absurd (omega arith)
-    go o (unchanged _ is) (inr p) = let q : o .number ≡ 7 = ap (λ (x : Outcome). x .number) is in absurd (omega arith)
+    go : (o : CheckOutcome) → Leaves i o → (o .number ≡ 0) ⊎ (9 ≤ o .number) → o .inProof ≡ true
+    go o (unchanged _ is) (inl z) = let q : o .number ≡ 7 = ap (λ (x : CheckOutcome). x .number) is in absurd (omega arith)
+    go o (unchanged _ is) (inr p) = let q : o .number ≡ 7 = ap (λ (x : CheckOutcome). x .number) is in absurd (omega arith)
     go o (emptied _ E) (inl z) = absurd (omega (arith, E .number .0))
     go o (emptied _ E) (inr p) = absurd (omega (arith, E .number .1))
     go o (kept _ K) _ = K .in-proof
 
 -- In records the number tells it.
-pub in-records-exactly : (i : Lent) → i .mode .form ≡ Records → (checked i .inProof ≡ true) ↔ ((checked i .number ≡ 0) ⊎ (9 ≤ checked i .number))
+pub in-records-exactly : (i : Handed) → i .mode .form ≡ Records → (checked i .inProof ≡ true) ↔ ((checked i .number ≡ 0) ⊎ (9 ≤ checked i .number))
 in-records-exactly i form = ((λ late. go (check-leaves i) late), in-proof-said i)
   where
     go : Leaves i (checked i) → checked i .inProof ≡ true → (checked i .number ≡ 0) ⊎ (9 ≤ checked i .number)
-    go (unchanged _ is) late = t≢f (sym late ∙ ap (λ (o : Outcome). o .inProof) is)
+    go (unchanged _ is) late = t≢f (sym late ∙ ap (λ (o : CheckOutcome). o .inProof) is)
     go (emptied _ E) late = t≢f (sym late ∙ E .in-formula)
     go (kept _ K) late =
         let N : ProofNumber Records (checked i .number) = subst (λ (f : Form). ProofNumber f (checked i .number)) form (K .number) in
         elim (ℕ-discrete (checked i .number) 0) [ yes z ↦ inl z | no other ↦ inr (N .1 other) ]
 
 -- The numbers of a text, which are so 0, 3, 4, 6, 17, 19, 20, 22, 23 and 28: no clause gets 15 or 18.
-pub text-number : (i : Lent) → i .mode .form ≡ Text → checked i .inProof ≡ true → ProofNumber Text (checked i .number)
+pub text-number : (i : Handed) → i .mode .form ≡ Text → checked i .inProof ≡ true → ProofNumber Text (checked i .number)
 text-number i form late = go (check-leaves i)
   where
     go : Leaves i (checked i) → ProofNumber Text (checked i .number)
-    go (unchanged _ is) = t≢f (sym late ∙ ap (λ (o : Outcome). o .inProof) is)
+    go (unchanged _ is) = t≢f (sym late ∙ ap (λ (o : CheckOutcome). o .inProof) is)
     go (emptied _ E) = t≢f (sym late ∙ E .in-formula)
     go (kept _ K) = subst (λ (f : Form). ProofNumber f (checked i .number)) form (K .number)
 
 -- ---- a fault of form
 
 -- 3, 4 and 6 of a text are those of its reader, at their places.
-pub fault-only : (i : Lent) → i .mode .form ≡ Text → checked i .inProof ≡ true → checked i .number ≢ 0 → checked i .number ≤ 6 → AtFault i (checked i)
+pub fault-only : (i : Handed) → i .mode .form ≡ Text → checked i .inProof ≡ true → checked i .number ≢ 0 → checked i .number ≤ 6 → AtFault i (checked i)
 unfolding step
 fault-only i form late some low =
     let E : AtEnd i (checked i) = check-place i late in

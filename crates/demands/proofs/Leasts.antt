@@ -23,12 +23,12 @@ use Rattle.table.proofs.Written.{length-rows}
 use Rattle.table.proofs.Sizes.{Sized, sized}
 use Rattle.table.proofs.InOrder.{good-order}
 use Rattle.single.specs.Single.{unchanged, madeBy, withCount, atLeastCall}
-use Rattle.demands.specs.Calls.{nodesIn, inGoodOrder, LeastSays, least-answered, least-refused}
+use Rattle.demands.specs.Calls.{nodesOfColumns, inGoodOrder, LeastSays, least-answered, least-refused}
 use Rattle.demands.proofs.Lent.{read-back, left-good}
 
 module _ (c : Columns) (count set k : ℕ) where
   abbrev t₀ : List Node
-  t₀ = nodesIn c count
+  t₀ = nodesOfColumns c count
 
   abbrev D : Diagram
   D = atLeast 64 (inWord set) k
@@ -45,7 +45,7 @@ module _ (c : Columns) (count set k : ℕ) where
       let s : ℕ = length (c .vars) in
       let len : length t₀ ≡ count = length-take-le count (rows (c .vars) (c .lows) (c .highs)) (G .within) in
       let size : length (rows (c .vars) (c .lows) (c .highs)) ≡ s = length-rows (c .vars) (c .lows) (c .highs) (S .lows) (S .highs) in
-      let back : nodesIn (storedAs s t) (length t) ≡ t = read-back s t in
+      let back : nodesOfColumns (storedAs s t) (length t) ≡ t = read-back s t in
       least-answered refl (record {
         below = A .inside;
         good = left-good s t (A .kept .ordered) (A .kept .room (omega (arith, G .within)));

@@ -9,9 +9,9 @@ use Rattle.table.specs.Columns.{padded, storedAs}
 use Rattle.table.proofs.Order.{Ordered}
 use Rattle.table.proofs.Written.{rows-columns}
 use Rattle.table.proofs.InOrder.{padded-take, stored-in-order}
-use Rattle.demands.specs.Calls.{nodesIn, inGoodOrder}
+use Rattle.demands.specs.Calls.{nodesOfColumns, inGoodOrder}
 
-pub read-back : (s : ℕ) (t : List Node) → nodesIn (storedAs s t) (length t) ≡ t
+pub read-back : (s : ℕ) (t : List Node) → nodesOfColumns (storedAs s t) (length t) ≡ t
 unfolding storedAs
 read-back s t = ap (take (length t)) (rows-columns (padded s t)) ∙ padded-take s t
 

@@ -13,8 +13,7 @@ use Rattle.meaning.specs.Rules.{Line, Propagation, conflicts, firstWithUnit, by
 use Rattle.meaning.proofs.Booleans.{t≢f}
 use Rattle.meaning.proofs.Values.{reduced-to}
 use Rattle.meaning.proofs.Pointwise.{negation-reduced, literals-reduced}
-use Rattle.meaning.proofs.Cofactor.{cofactor-reduced}
-use Rattle.meaning.proofs.Ends.{AllReduced, map-reduced, byUnits-reduced}
+use Rattle.meaning.proofs.Ends.{AllReduced, byDiagram-reduced, byUnits-reduced}
 use Rattle.table.specs.Nodes.{Node, Placing, full, placed, place}
 use Rattle.table.specs.Making.{Room, short, all, afterPlacing, placedAll, reached, turnsReach, keptReach, lineReach}
 use Rattle.table.proofs.Order.{Ordered}
@@ -73,9 +72,6 @@ abbrev pub AllTurns : ℕ → List (List Diagram) → Type 0
 AllTurns n [] = Unit {0}
 AllTurns n (made ∷ turns) = AllReduced n made × AllTurns n turns
 
-by-reduced : (n : ℕ) (g : Diagram) (ms : List Diagram) → AllReduced n (byDiagram n g ms)
-by-reduced n g ms = map-reduced n _ ms (λ f. cofactor-reduced n f g)
-
 turns-reduced : (n : ℕ) (P N : ℕ → Bool) (ms′ fs : List Diagram) → AllTurns n (prTurns n P N ms′ fs .turns)
 unfolding prTurns unitProp
 turns-reduced n P N ms′ [] = tt
@@ -95,7 +91,7 @@ turns-reduced n P N ms′ (f ∷ fs) = go (same h (leaf true)) (p .conflict) (tu
 
     this-turn : AllReduced n ((h ∷ negation n h ∷ second) ++ p .made)
     this-turn =
-        append-reduced n (h ∷ negation n h ∷ second) (p .made) (literals-reduced n P N f, (negation-reduced n h, by-reduced n (negation n h) ms′)) (propagate-reduced n n second)
+        append-reduced n (h ∷ negation n h ∷ second) (p .made) (literals-reduced n P N f, (negation-reduced n h, byDiagram-reduced n (negation n h) ms′)) (propagate-reduced n n second)
 
     go : (c conflict : Bool) → AllTurns n (rest .turns)
         → AllTurns n (cond c rest (record {
@@ -112,11 +108,11 @@ turns-reduced n P N ms′ (f ∷ fs) = go (same h (leaf true)) (p .conflict) (tu
 
 pub rup-reduced : (n : ℕ) (ms : List Diagram) (G : Diagram) → AllReduced n (rup n ms G .kept) × AllTurns n (rup n ms G .turns)
 unfolding rup unitProp
-rup-reduced n ms G = ((negation-reduced n G, by-reduced n (negation n G) ms), (propagate-reduced n n (byDiagram n (negation n G) ms), tt))
+rup-reduced n ms G = ((negation-reduced n G, byDiagram-reduced n (negation n G) ms), (propagate-reduced n n (byDiagram n (negation n G) ms), tt))
 
 pub pr-reduced : (n : ℕ) (P N : ℕ → Bool) (ms : List Diagram) (G : Diagram) → AllReduced n (pr n P N ms G .kept) × AllTurns n (pr n P N ms G .turns)
 unfolding pr
-pr-reduced n P N ms G = ((negation-reduced n G, by-reduced n (negation n G) ms), turns-reduced n P N (byDiagram n (negation n G) ms) ms)
+pr-reduced n P N ms G = ((negation-reduced n G, byDiagram-reduced n (negation n G) ms), turns-reduced n P N (byDiagram n (negation n G) ms) ms)
 
 module _ (s n : ℕ) (narrow : n ≤ 64) where
   turns-want : (t : List Node) → Ordered t → length t ≤ s → (turns : List (List Diagram)) → AllTurns n turns → turnsReach s turns t .fits ≡ false → TurnWants s t turns

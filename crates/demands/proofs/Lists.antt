@@ -24,7 +24,7 @@ use Rattle.commands.specs.declared.Form.the-variants.{Records, Text}
 use Rattle.commands.specs.declared.Mode.{Mode}
 use Rattle.commands.specs.Commands.{inRecords, inText}
 use Rattle.verdict.specs.Steps.{State, emptied as bare, Step, stop, isEntry, entryNode}
-use Rattle.verdict.specs.Check.{step, Verdict, Outcome, lentFits, zeros, outcome, refusedFormula, left}
+use Rattle.verdict.specs.Check.{step, Verdict, CheckOutcome, lentFits, zeros, outcome, refusedFormula, left}
 use Rattle.verdict.specs.Taken.{Function, Meant, entryMeant, Valued}
 use Rattle.verdict.specs.Run.{commandIn, clauseFunctions, standsFor, Reached, ProofNumber}
 use Rattle.verdict.specs.Marks.{strikingsBefore, markOf}
@@ -36,9 +36,9 @@ use Rattle.verdict.proofs.Members.{lines-there, members-left}
 use Rattle.verdict.proofs.Marks.{marks-above, marks-are, marks-stopped}
 use Rattle.verdict.proofs.Onward.{reached-onward}
 use Rattle.verdict.proofs.Peak.{Reported, peak-reported}
-use Rattle.demands.specs.Calls.{nodesIn, valueAt}
+use Rattle.demands.specs.Calls.{nodesOfColumns, valueAt}
 use Rattle.demands.specs.Texts.{textBefore}
-use Rattle.demands.specs.Leaving.{Lent, checked, Fits, places, clausesRead, linesOf, Emptied, Member, Kept, Leaves, unchanged, emptied, kept}
+use Rattle.demands.specs.Leaving.{Handed, checked, Fits, places, clausesRead, linesOf, Emptied, Member, Kept, Leaves, unchanged, emptied, kept}
 use Rattle.demands.proofs.Lent.{read-back, left-good}
 use Rattle.demands.proofs.Ending.{done, fits?, checked-fits, checked-seven}
 use Rattle.demands.proofs.TextMembers.{text-matches, text-stopped}
@@ -68,12 +68,12 @@ clause-at (c ∷ cs) (suc k) p other = clause-at cs k (omega arith) other
 
 -- ---- sizes
 
-pub record Sizes (i : Lent) : Type 0 where
+pub record Sizes (i : Handed) : Type 0 where
   pub columns : Sized (i .columns .vars) (i .columns .lows) (i .columns .highs) (i .columns .heads) (i .columns .links)
   pub members : 2048 ≤ length (i .members)
   pub struck : length (i .struck) ≡ length (i .members)
 
-pub sizes : (i : Lent) → Fits i → Sizes i
+pub sizes : (i : Handed) → Fits i → Sizes i
 unfolding lentFits
 sizes i e =
     let (size, lists) = and-both (sizeFits (i .columns .vars) (i .columns .lows) (i .columns .highs) (i .columns .heads) (i .columns .links)) _ e in
@@ -86,7 +86,7 @@ sizes i e =
 
 -- ---- a refused formula
 
-module _ (i : Lent) (S : Sizes i) where
+module _ (i : Handed) (S : Sizes i) where
   zeroed : storedAs (places i) bare ≡ columnsMade (zeros (places i)) (zeros (places i)) (zeros (places i)) (zeros (2 * places i)) (zeros (places i))
   zeroed = stored-emptied (places i) (S .columns .least)
 
@@ -113,11 +113,11 @@ module _ (i : Lent) (S : Sizes i) where
 
 -- ---- a proof that was judged
 
-module _ (i : Lent) (S : Sizes i) {n : ℕ} {st : State} {at : ℕ} {m : Meant} (R : Reached (i .mode) (places i) (i .text) (i .proof) n st at m) (number place peak : ℕ) where
+module _ (i : Handed) (S : Sizes i) {n : ℕ} {st : State} {at : ℕ} {m : Meant} (R : Reached (i .mode) (places i) (i .text) (i .proof) n st at m) (number place peak : ℕ) where
   abbrev t : List Node
   t = take (st .kept) (st .nodes)
 
-  abbrev o : Outcome
+  abbrev o : CheckOutcome
   o = done i (left number place peak st)
 
   stands : Standing (places i) n m st
@@ -132,7 +132,7 @@ module _ (i : Lent) (S : Sizes i) {n : ℕ} {st : State} {at : ℕ} {m : Meant} 
   room : length t ≤ places i
   room = omega (arith, len, stands .room (S .columns .least), stands .kept)
 
-  back : nodesIn (storedAs (places i) t) (length t) ≡ t
+  back : nodesOfColumns (storedAs (places i) t) (length t) ≡ t
   back = read-back (places i) t
 
   few : length (take (st .lines) (linesOf i)) ≡ st .lines
@@ -199,7 +199,7 @@ module _ (i : Lent) (S : Sizes i) {n : ℕ} {st : State} {at : ℕ} {m : Meant} 
 
 -- ---- the marks, by the proof's form
 
-module _ (i : Lent) {n : ℕ} {st : State} {at : ℕ} {m : Meant} (R : Reached (i .mode) (places i) (i .text) (i .proof) n st at m) where
+module _ (i : Handed) {n : ℕ} {st : State} {at : ℕ} {m : Meant} (R : Reached (i .mode) (places i) (i .text) (i .proof) n st at m) where
   in-form : (mode : Mode) → i .mode ≡ mode → Reached mode (places i) (i .text) (i .proof) n st at m
   in-form mode is = subst (λ (x : Mode). Reached x (places i) (i .text) (i .proof) n st at m) is R
 
@@ -225,7 +225,7 @@ module _ (i : Lent) {n : ℕ} {st : State} {at : ℕ} {m : Meant} (R : Reached (
       text-stopped (places i) (i .text) (i .proof) (in-form inText (mode-is form)) number offset (says-in inText (mode-is form) (stop number offset) q) .marks
 
 -- For every input: what every lent place holds after the call.
-pub check-leaves : (i : Lent) → Leaves i (checked i)
+pub check-leaves : (i : Handed) → Leaves i (checked i)
 check-leaves i = fits? i (Leaves i (checked i)) fit (λ other. unchanged other (checked-seven i other))
   where
     v : Verdict
@@ -245,7 +245,7 @@ check-leaves i = fits? i (Leaves i (checked i)) fit (λ other. unchanged other (
         (go e S v (peak-reported (places i) (S .columns .least) (i .mode) (i .text) (i .proof)) (ended-closed (i .mode) (places i) (i .text) (i .proof) v (ended (i .mode) (places i) (i .text) (i .proof))))
 
 -- Where the formula was read and the proof judged: the place is in the proof.
-pub check-kept : (i : Lent) → Fits i → checked i .inProof ≡ true → Kept i (checked i)
+pub check-kept : (i : Handed) → Fits i → checked i .inProof ≡ true → Kept i (checked i)
 check-kept i fits late = go (check-leaves i)
   where
     go : Leaves i (checked i) → Kept i (checked i)
@@ -255,7 +255,7 @@ check-kept i fits late = go (check-leaves i)
 
 -- ---- entries
 
-module _ (i : Lent) (e : Fits i) {n : ℕ} {st : State} {at : ℕ} {m : Meant} (R : Reached (i .mode) (places i) (i .text) (i .proof) n st at m) where
+module _ (i : Handed) (e : Fits i) {n : ℕ} {st : State} {at : ℕ} {m : Meant} (R : Reached (i .mode) (places i) (i .text) (i .proof) n st at m) where
   abbrev v : Verdict
   v = verdict.verdict (i .mode) (places i) (i .text) (i .proof)
 
@@ -263,7 +263,7 @@ module _ (i : Lent) (e : Fits i) {n : ℕ} {st : State} {at : ℕ} {m : Meant} (
   unfolding outcome
   left-same =
       let is : checked i ≡ done i v = checked-fits i e in
-      (ap (λ (o : Outcome). valueAt (o .columns) (o .count)) is, ap (λ (o : Outcome). o .count) is, ap (λ (o : Outcome). o .lines) is)
+      (ap (λ (o : CheckOutcome). valueAt (o .columns) (o .count)) is, ap (λ (o : CheckOutcome). o .count) is, ap (λ (o : CheckOutcome). o .lines) is)
 
   -- An entry's node that is not dropped has the entry's value in the table as left, whatever number the call says.
   pub entry-left : (entry : ℕ) → isEntry st entry ≡ true → entryNode st entry < checked i .count

@@ -42,7 +42,7 @@ use Rattle.single.specs.Single as single
 use Rattle.single.specs.Single.{Made, refusal, sharesVariable, operandRefusal, madeBy, operation}
 use Rattle.verdict.specs.Steps.{State, withEntry, next, stop, spent, isEntry, entryNode, isVariable, entered, nodeStep, witnessStep, waiting, accepted, judged, diagramIn, liveMembers, lineStep, isLive, strikeStep, beyond, noParity, setDiagram, setStep, endStep, recordStep}
 use Rattle.verdict.specs.Clausal.{withPeak, judgedOr, secondLine, secondTry, tries, onceMade, addStep}
-use Rattle.verdict.specs.Check.{step, Outcome, outcome}
+use Rattle.verdict.specs.Check.{step, CheckOutcome, outcome}
 use Rattle.verdict.specs.Taken.{Meant, lineOf, peakWith}
 use Rattle.verdict.specs.ClauseTaken.{firstLine}
 use Rattle.verdict.specs.Run.{commandIn, no-header, not-read, no-room, stopped, tried}
@@ -54,8 +54,8 @@ use Rattle.verdict.proofs.Clauses.{underway}
 use Rattle.verdict.proofs.Ends.{reached-standing}
 use Rattle.verdict.proofs.ClauseSays.{StruckSays, FinishSays, struck-says, finish-says}
 use Rattle.verdict.proofs.Numbers.{making-refused, NumberedIn, proof-number, stop-number, spent-proof, reached-numbered}
-use Rattle.demands.specs.Calls.{nodesIn, inGoodOrder}
-use Rattle.demands.specs.Leaving.{Lent, checked, Fits, places, Ends, wrong-size, at-place}
+use Rattle.demands.specs.Calls.{nodesOfColumns, inGoodOrder}
+use Rattle.demands.specs.Leaving.{Handed, checked, Fits, places, Ends, wrong-size, at-place}
 use Rattle.demands.specs.Full.{Wants, LineWants, RecordWants, ClauseWants, in-clause, in-first, in-second, CommandWants, AtClause, AtCommand}
 use Rattle.demands.proofs.Singles.{not-refused}
 use Rattle.demands.proofs.Ending.{check-ends}
@@ -210,7 +210,7 @@ module _ {s n : ℕ} {m : Meant} {st : State} (S : Standing s n m st) (narrow : 
 
 -- ---- the calls
 
-at-least-two : (i : Lent) → Fits i → 2 ≤ places i
+at-least-two : (i : Handed) → Fits i → 2 ≤ places i
 at-least-two i e = sizes i e .columns .least
 
 -- no other refusal of a single call is 23
@@ -236,11 +236,11 @@ refusal-other true false c z = absurd (omega arith)
 refusal-other false b c z = absurd (omega arith)
 
 -- 8 of the check: the clause at the place.
-pub eight-only : (i : Lent) → checked i .number ≡ 8 → AtClause (places i) (i .text) (checked i .place)
+pub eight-only : (i : Handed) → checked i .number ≡ 8 → AtClause (places i) (i .text) (checked i .place)
 unfolding outcome
 eight-only i z = go (checked i) (check-ends i) z
   where
-    go : (o : Outcome) → Ends i o → o .number ≡ 8 → AtClause (places i) (i .text) (o .place)
+    go : (o : CheckOutcome) → Ends i o → o .number ≡ 8 → AtClause (places i) (i .text) (o .place)
     go _ (wrong-size other) z = absurd (omega arith)
     go _ (at-place e (no-header {number} {place} h)) z =
         let early : (1 ≤ number) × (number ≤ 6) = subst NamedHeader h (header-named (i .text)) in absurd (omega arith)
@@ -270,11 +270,11 @@ not-early Records number offset N z = absurd (omega (arith, N .0 (λ y. omega ar
 not-early Text number offset N z = absurd (omega (arith, N .0 (λ y. omega arith)))
 
 -- 23 of the check: the command at the place.
-pub twenty-three-only : (i : Lent) → checked i .number ≡ 23 → AtCommand (i .mode) (places i) (i .text) (i .proof) (checked i .place)
+pub twenty-three-only : (i : Handed) → checked i .number ≡ 23 → AtCommand (i .mode) (places i) (i .text) (i .proof) (checked i .place)
 unfolding outcome
 twenty-three-only i z = go (checked i) (check-ends i) z
   where
-    go : (o : Outcome) → Ends i o → o .number ≡ 23 → AtCommand (i .mode) (places i) (i .text) (i .proof) (o .place)
+    go : (o : CheckOutcome) → Ends i o → o .number ≡ 23 → AtCommand (i .mode) (places i) (i .text) (i .proof) (o .place)
     go _ (wrong-size other) z = absurd (omega arith)
     go _ (at-place e (no-header {number} {place} h)) z =
         let early : (1 ≤ number) × (number ≤ 6) = subst NamedHeader h (header-named (i .text)) in absurd (omega arith)
@@ -289,7 +289,7 @@ twenty-three-only i z = go (checked i) (check-ends i) z
 
 -- 23 of a single call.
 pub operation-full : (op : Operation) (c : Columns) (count f g : ℕ) → operation op c count f g .number ≡ 23
-    → Wants (length (c .vars)) (nodesIn c count) (result op (diagramAt (nodesIn c count) f) (diagramAt (nodesIn c count) g))
+    → Wants (length (c .vars)) (nodesOfColumns c count) (result op (diagramAt (nodesOfColumns c count) f) (diagramAt (nodesOfColumns c count) g))
 unfolding operation refusal
 operation-full op c count f g z = go (eqb n 0) refl (eqb m 0) refl z
   where
@@ -300,7 +300,7 @@ operation-full op c count f g z = go (eqb n 0) refl (eqb m 0) refl z
     m = operandRefusal op g
 
     t₀ : List Node
-    t₀ = nodesIn c count
+    t₀ = nodesOfColumns c count
 
     D : Diagram
     D = result op (diagramAt t₀ f) (diagramAt t₀ g)

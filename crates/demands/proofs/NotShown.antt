@@ -35,7 +35,7 @@ use Rattle.verdict.proofs.Steps.{spent-other, next-not-spent, stop-not-spent, p
 use Rattle.verdict.proofs.ClauseSays.{StruckSays, FinishSays, struck-says, finish-says}
 use Rattle.verdict.proofs.Numbers.{NumberedIn, reached-numbered}
 use Rattle.verdict.proofs.MetFirst.{met-first}
-use Rattle.demands.specs.Leaving.{Lent, checked, places, EndsWith, AtEnd, SecondFails, ClauseNotShown, NotShown, AtLine}
+use Rattle.demands.specs.Leaving.{Handed, checked, places, EndsWith, AtEnd, SecondFails, ClauseNotShown, NotShown, AtLine}
 use Rattle.demands.proofs.Places.{check-place}
 use Rattle.demands.proofs.InProof.{in-proof-said}
 
@@ -169,7 +169,7 @@ not-early Records number offset N z = N .2 z
 not-early Text number offset N z = N .5 z
 
 -- "19: not shown: no conflict": the line or clause at the place, all commands before it taken; no conflict is met before a diagram without room.
-pub nineteen-only : (i : Lent) → checked i .number ≡ 19 → AtLine i (checked i .place)
+pub nineteen-only : (i : Handed) → checked i .number ≡ 19 → AtLine i (checked i .place)
 nineteen-only i z = go (check-place i (in-proof-said i (inr (omega arith))))
   where
     tried : (n : ℕ) (st : State) (c : Command) (x : Step) → step n (places i) st c ≡ x → NumberedIn (i .mode .form) x → (offset : ℕ) → EndsWith x 19 offset

@@ -18,7 +18,7 @@ use Rattle.commands.specs.declared.Mode.{Mode}
 use Rattle.commands.specs.Commands.{Command, recorded, added, struckOut, wrong, finished, commandAt, textRead}
 use Rattle.commands.proofs.Onward.{CommandIn, text-in}
 use Rattle.verdict.specs.Steps.{State, Step, stop, spent}
-use Rattle.verdict.specs.Check.{step, Outcome, outcome}
+use Rattle.verdict.specs.Check.{step, CheckOutcome, outcome}
 use Rattle.verdict.specs.Run.{commandIn, no-header, not-read, no-room, stopped, tried}
 use Rattle.verdict.proofs.Formula.{either}
 use Rattle.verdict.proofs.Commands.{Fit}
@@ -26,7 +26,7 @@ use Rattle.verdict.proofs.ClauseSays.{FinishSays, finish-says}
 use Rattle.verdict.proofs.Numbers.{Numbered, record-numbered}
 use Rattle.verdict.proofs.Steps.{stop-not-spent}
 use Rattle.verdict.proofs.Ends.{reached-in, reached-fit}
-use Rattle.demands.specs.Leaving.{Lent, checked, places, Ends, wrong-size, at-place, EndsWith, OffsetOf, NoneBegun, AtEnd}
+use Rattle.demands.specs.Leaving.{Handed, checked, places, Ends, wrong-size, at-place, EndsWith, OffsetOf, NoneBegun, AtEnd}
 use Rattle.demands.proofs.Ending.{check-ends}
 use Rattle.demands.proofs.Offsets.{command-offset}
 
@@ -119,11 +119,11 @@ spent-offset Text n s st finished fit number peak e = refl
 -- ---- the call
 
 -- The place of a number of the proof.
-pub check-place : (i : Lent) → checked i .inProof ≡ true → AtEnd i (checked i)
+pub check-place : (i : Handed) → checked i .inProof ≡ true → AtEnd i (checked i)
 unfolding outcome
 check-place i late = go (checked i) (check-ends i) late
   where
-    go : (o : Outcome) → Ends i o → o .inProof ≡ true → AtEnd i o
+    go : (o : CheckOutcome) → Ends i o → o .inProof ≡ true → AtEnd i o
     go _ (wrong-size other) late = t≢f (sym late)
     go _ (at-place e (no-header h)) late = t≢f (sym late)
     go _ (at-place e (not-read M)) late = t≢f (sym late)

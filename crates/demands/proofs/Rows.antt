@@ -31,7 +31,8 @@ use Rattle.verdict.specs.Check.{step}
 use Rattle.verdict.specs.Steps.{withEntry}
 use Rattle.verdict.specs.Taken.{Meant, NodeTaken, lineOf, peakWith, LineTaken, Taken}
 use Rattle.verdict.specs.Run.{commandIn, afterCommand, Making, opened, made, Reached, begins, goes}
-use Rattle.verdict.specs.Cases.{Gives, checked, prints, printed, bytes, over, rupLine}
+use Rattle.dimacs.specs.Texts.{bytes}
+use Rattle.verdict.specs.Cases.{Gives, checked, prints, printed, over, rupLine}
 use Rattle.verdict.proofs.Exactly.{reached-stops}
 
 -- ---- node record 4,097

@@ -32,7 +32,7 @@ use Rattle.operate.specs.Operate.{result}
 use Rattle.operate.proofs.Results.{result-reduced}
 use Rattle.single.specs.Single as single
 use Rattle.single.specs.Single.{refusal, evaluation, operandRefusal, madeBy, operation}
-use Rattle.demands.specs.Calls.{nodesIn, inGoodOrder, valueAt, valueOf, Says, answered, refused}
+use Rattle.demands.specs.Calls.{nodesOfColumns, inGoodOrder, valueAt, valueOf, OperationSays, answered, refused}
 use Rattle.demands.proofs.Lent.{read-back, left-good}
 
 result-value : (op : Operation) (f g : Diagram) (a : Assignment) → length a ≡ 64 → value (result op f g) a ≡ valueOf op (value f) (value g) a
@@ -51,20 +51,20 @@ not-refused false d e z = absurd (omega arith)
 
 module _ (op : Operation) (c : Columns) (count f g : ℕ) where
   abbrev t₀ : List Node
-  t₀ = nodesIn c count
+  t₀ = nodesOfColumns c count
 
   abbrev D : Diagram
   D = result op (diagramAt t₀ f) (diagramAt t₀ g)
 
   made-says : (S : Sized (c .vars) (c .lows) (c .highs) (c .heads) (c .links)) (G : GoodPlaces (rows (c .vars) (c .lows) (c .highs)) count) (p : Placing)
-      → After (length (c .vars)) t₀ D p → Says op c count f g (madeBy c count p)
+      → After (length (c .vars)) t₀ D p → OperationSays op c count f g (madeBy c count p)
   unfolding madeBy
   made-says S G (full t) A = let other : _≢_ {A = ℕ} 23 0 = λ z. omega arith in refused other refl
   made-says S G (placed t k) A =
       let s : ℕ = length (c .vars) in
       let len : length t₀ ≡ count = length-take-le count (rows (c .vars) (c .lows) (c .highs)) (G .within) in
       let size : length (rows (c .vars) (c .lows) (c .highs)) ≡ s = length-rows (c .vars) (c .lows) (c .highs) (S .lows) (S .highs) in
-      let back : nodesIn (storedAs s t) (length t) ≡ t = read-back s t in
+      let back : nodesOfColumns (storedAs s t) (length t) ≡ t = read-back s t in
       answered refl (record {
         below = A .inside;
         good = left-good s t (A .kept .ordered) (A .kept .room (omega (arith, G .within)));
@@ -73,7 +73,7 @@ module _ (op : Operation) (c : Columns) (count f g : ℕ) where
       })
 
   -- Demand 3 of a single call, and "a refused single call changes nothing": for every table, count and operand.
-  pub operation-says : Says op c count f g (operation op c count f g)
+  pub operation-says : OperationSays op c count f g (operation op c count f g)
   unfolding operation refusal
   operation-says = go (eqb n 0) refl (eqb m 0) refl
     where
@@ -89,7 +89,7 @@ module _ (op : Operation) (c : Columns) (count f g : ℕ) where
       done : single.Made
       done = madeBy c count (place (length (c .vars)) t₀ D)
 
-      go : (p : Bool) → eqb n 0 ≡ p → (q : Bool) → eqb m 0 ≡ q → Says op c count f g (cond p (cond q done (same m)) (same n))
+      go : (p : Bool) → eqb n 0 ≡ p → (q : Bool) → eqb m 0 ≡ q → OperationSays op c count f g (cond p (cond q done (same m)) (same n))
       go true e true h =
           let (fits, order, _) = not-refused (sizeFits (c .vars) (c .lows) (c .highs) (c .heads) (c .links)) (inGoodOrder c count) (ltb f count && ltb g count) (eqb-true n 0 e) in
           let G : GoodPlaces (rows (c .vars) (c .lows) (c .highs)) count = good-order (rows (c .vars) (c .lows) (c .highs)) count (c .heads) (c .links) order in
@@ -108,7 +108,7 @@ cofactor-nearest c count f g z a = go (eqb n 0) refl (eqb g 0) refl z
     n = refusal c count f g
 
     t₀ : List Node
-    t₀ = nodesIn c count
+    t₀ = nodesOfColumns c count
 
     same : ℕ → single.Made
     same = single.unchanged c count

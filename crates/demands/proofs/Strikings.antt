@@ -19,7 +19,7 @@ use Rattle.commands.specs.declared.Mode.{Mode}
 use Rattle.commands.specs.Commands.{Command, recorded, added, struckOut, wrong, finished, inRecords}
 use Rattle.verdict.specs.Steps.{State, Step, next, stop, spent, diagramIn, unstruck, liveMembers, isLive, strikeStep, recordStep}
 use Rattle.verdict.specs.Clausal.{firstSame, strikeFound, strikeClause}
-use Rattle.verdict.specs.Check.{step, Verdict, verdict, Outcome, outcome}
+use Rattle.verdict.specs.Check.{step, Verdict, verdict, CheckOutcome, outcome}
 use Rattle.verdict.specs.Taken.{Meant}
 use Rattle.verdict.specs.ClauseTaken.{IsThere}
 use Rattle.verdict.specs.Run.{commandIn, Reached}
@@ -35,7 +35,7 @@ use Rattle.verdict.proofs.Live.{unstruck-has, unstruck-only}
 use Rattle.verdict.proofs.Offsets.{Offset, at-record, at-striking, behind-end, Placed, record-placed}
 use Rattle.verdict.proofs.Marks.{marks-are}
 use Rattle.demands.specs.Words.{Among, AmongLive}
-use Rattle.demands.specs.Leaving.{Lent, checked, Fits, places, EndsWith, OffsetOf, AtEnd, NotLive, not-there, struck-already, Absent, AtStriking}
+use Rattle.demands.specs.Leaving.{Handed, checked, Fits, places, EndsWith, OffsetOf, AtEnd, NotLive, not-there, struck-already, Absent, AtStriking}
 use Rattle.demands.proofs.Modes.{mode-is}
 use Rattle.demands.proofs.Ending.{checked-fits}
 use Rattle.demands.proofs.TextMembers.{map-at}
@@ -149,7 +149,7 @@ absent-offset n st finished A offset O = O
 
 -- "It refuses with 28 a member that does not exist or is struck already, after 10 and then 16 for a waiting witness", at the record; "an absent clause
 -- to strike with 28", at its `d`.
-pub twenty-eight-exactly : (i : Lent) → Fits i → (at : ℕ) → ((checked i .number ≡ 28) × (checked i .place ≡ at)) ↔ AtStriking (i .mode) (places i) (i .text) (i .proof) at
+pub twenty-eight-exactly : (i : Handed) → Fits i → (at : ℕ) → ((checked i .number ≡ 28) × (checked i .place ≡ at)) ↔ AtStriking (i .mode) (places i) (i .text) (i .proof) at
 unfolding outcome
 twenty-eight-exactly i fits at = (to, from)
   where
@@ -189,6 +189,6 @@ twenty-eight-exactly i fits at = (to, from)
     from A =
         let is : v ≡ _ = reached-stops (i .mode) s (i .text) (i .proof) (A .reached) 28 0 (absent-stops (A .n) s (A .state) (commandIn (i .mode) (i .proof) (A .n) at) (A .absent)) in
         let z : at + 0 ≡ at = omega arith in (
-          ap (λ (o : Outcome). o .number) (checked-fits i fits) ∙ ap (λ (x : Verdict). x .number) is,
-          ap (λ (o : Outcome). o .place) (checked-fits i fits) ∙ ap (λ (x : Verdict). x .place) is ∙ z,
+          ap (λ (o : CheckOutcome). o .number) (checked-fits i fits) ∙ ap (λ (x : Verdict). x .number) is,
+          ap (λ (o : CheckOutcome). o .place) (checked-fits i fits) ∙ ap (λ (x : Verdict). x .place) is ∙ z,
         )

@@ -11,7 +11,7 @@ use borrow.Author.Tests.{lt-ltb, le-ltb}
 use Rattle.meaning.specs.Diagram.{Diagram, leaf, same}
 use Rattle.meaning.specs.Operations as meaning
 use Rattle.meaning.proofs.Values.{reduced-to}
-use Rattle.meaning.proofs.Clauses.{Within}
+use Rattle.meaning.specs.Literals.{OfVariables}
 use Rattle.meaning.proofs.Pointwise.{clause-reduced}
 use Rattle.table.specs.Nodes.{Node, diagramAt, placed, place}
 use Rattle.table.proofs.Order.{Ordered}
@@ -19,7 +19,7 @@ use Rattle.table.proofs.Growth.{Extends, diagramAt-grown}
 use Rattle.table.proofs.Placing.{After, Made, place-after}
 use Rattle.dimacs.specs.Clauses.{Reading, complete, formula}
 use Rattle.clausal.specs.Drat.{Clause}
-use Rattle.clausal.proofs.Literals.{AllWithin}
+use Rattle.clausal.proofs.Literals.{AllOfVariables}
 use Rattle.commands.specs.declared.Form.the-variants.{Text}
 use Rattle.commands.specs.Commands.{Command, recorded, added, struckOut, wrong, finished, inText, start}
 use Rattle.commands.proofs.Onward.{CommandIn, text-in}
@@ -53,17 +53,17 @@ map-at f [] i p = absurd (omega arith)
 map-at f (k ∷ ks) zero p = refl
 map-at f (k ∷ ks) (suc i) p = map-at f ks i (omega arith)
 
-within-append : (n : ℕ) (cs : List Clause) (c : Clause) → AllWithin n cs → Within n c → AllWithin n (cs ++ c ∷ [])
+within-append : (n : ℕ) (cs : List Clause) (c : Clause) → AllOfVariables n cs → OfVariables n c → AllOfVariables n (cs ++ c ∷ [])
 within-append n [] c w v = (v, tt)
 within-append n (d ∷ cs) c w v = (w .0, within-append n cs c (w .1) v)
 
-pub within-unstruck : (n : ℕ) (marks : List ℕ) (cs : List Clause) → AllWithin n cs → AllWithin n (unstruck marks cs)
+pub within-unstruck : (n : ℕ) (marks : List ℕ) (cs : List Clause) → AllOfVariables n cs → AllOfVariables n (unstruck marks cs)
 unfolding unstruck
 within-unstruck n marks [] w = tt
 within-unstruck n [] (c ∷ cs) w = w
 within-unstruck n (m ∷ marks) (c ∷ cs) w = go (eqb m 0) (within-unstruck n marks cs (w .1))
   where
-    go : (b : Bool) → AllWithin n (unstruck marks cs) → AllWithin n (cond b (c ∷ unstruck marks cs) (unstruck marks cs))
+    go : (b : Bool) → AllOfVariables n (unstruck marks cs) → AllOfVariables n (cond b (c ∷ unstruck marks cs) (unstruck marks cs))
     go true rest = (w .0, rest)
     go false rest = rest
 
@@ -127,10 +127,10 @@ module _ (s : ℕ) (text : List ℕ) where
 -- The members are the clauses, the marks theirs, the literals the header's.
 pub record Stands (n : ℕ) (st : State) (l : ClauseList) : Type 0 where
   pub matches : Matches n st l
-  pub literals : AllWithin n (l .clauses)
+  pub literals : AllOfVariables n (l .clauses)
 
 module _ {s n : ℕ} {m : Meant} {st : State} (S : Standing s n m st) (narrow : n ≤ 64) (l : ClauseList) (M : Stands n st l) where
-  added-matches : (ls : List meaning.Literal) → Within n ls → (st′ : State) → ClauseTaken n s st ls st′ → Stands n st′ (listAfter n l (added ls))
+  added-matches : (ls : List meaning.Literal) → OfVariables n ls → (st′ : State) → ClauseTaken n s st ls st′ → Stands n st′ (listAfter n l (added ls))
   added-matches ls w st′ T =
       let (line, peak, is) = tries-accepted n s (withEntry st (T .nodes) (T .node)) (T .node) st′ ls (T .tried) in
       let N : Made s (st .nodes) (meaning.clause n ls) (T .nodes) (T .node) = clause-made s n (st .nodes) ls (T .nodes) (T .node) narrow (S .ordered) (T .room) in
@@ -227,7 +227,7 @@ module _ (s : ℕ) (text proof : List ℕ) where
             ∙ ap (λ (b : Bool). cond b (listFrom j n proof (nextIn inText proof n at) end (listAfter n (F .so-far) c)) (F .so-far)) (lt-ltb at end (omega (arith, on, p)));
       }
 
-  begun-follows : {n many : ℕ} {t : List Node} {ms : List ℕ} {fs : List Function} → Making s text n many t ms fs complete → AllWithin n (clausesOf (formula text))
+  begun-follows : {n many : ℕ} {t : List Node} {ms : List ℕ} {fs : List Function} → Making s text n many t ms fs complete → AllOfVariables n (clausesOf (formula text))
       → (st : State) → st .nodes ≡ t → st .members ≡ ms → st .struck ≡ replicate (length ms) 0 → Follows text proof n st (start Text proof)
   unfolding clausesOf
   begun-follows {n} {many} {t} {ms} M w st nodes members struck =

@@ -6,7 +6,7 @@ use mathlib.Core.Bool.{Bool, true, false, not, cond}
 use mathlib.Core.List.{List, [], _∷_}
 use Prim.Native.Nat.{ℕ}
 use borrow.Author.Tests.{lt-leb}
-use Rattle.meaning.proofs.Clauses.{Within}
+use Rattle.meaning.specs.Literals.{OfVariables}
 use Rattle.table.specs.Nodes.{Node}
 use Rattle.clausal.specs.Drat.{Clause, Plain, AllPlain, Accepted}
 use Rattle.clausal.proofs.Rest.{plain-not-one}
@@ -31,7 +31,7 @@ unfolding step
 added-exactly s text proof {n} {st} {at} R c is plains plain t k room =
     let (narrow, S) = reached-standing inText s text proof R in
     let M : Stands n st (textBefore text proof at) = text-stands s text proof R in
-    let w : Within n c = subst (Fit Text n) is (reached-fit inText s text proof R) in
+    let w : OfVariables n c = subst (Fit Text n) is (reached-fit inText s text proof R) in
     subst (λ (x : Command). GoesOn (step n s st x) ↔ Accepted (liveClauses text proof at) c) (sym is)
     (Added.added-exactly S narrow (liveClauses text proof at) (text-live s text proof R) (within-unstruck n (textBefore text proof at .marks) (textBefore text proof at .clauses) (M .literals))
     plains c w plain t k room)
@@ -58,7 +58,7 @@ module _ (n s : ℕ) (st : State) (t : List Node) (k : ℕ) where
       go false true x y peak = inl tt
       go false false x y peak = inr (peak, refl)
 
-  added-end : (c : Clause) → Within n c → Plain c → HasRoom n s st c t k → Ends (addStep n s st c)
+  added-end : (c : Clause) → OfVariables n c → Plain c → HasRoom n s st c t k → Ends (addStep n s st c)
   unfolding addStep
   added-end c w plain R = rw (lt-leb 1024 (st .lines) (R .few), plain-not-one n c w plain, R .made) (tries-end c R)
 

@@ -21,7 +21,7 @@ use Rattle.table.specs.Columns.{rows, Columns}
 use Rattle.table.proofs.Order.{GoodPlaces}
 use Rattle.table.proofs.InOrder.{good-order}
 use Rattle.table.proofs.Numbers.{diagramAt-zero, diagramAt-one, diagramAt-node}
-use Rattle.demands.specs.Calls.{nodesIn, inGoodOrder, valueAt}
+use Rattle.demands.specs.Calls.{nodesOfColumns, inGoodOrder, valueAt}
 use Rattle.demands.specs.Words.{memberAt, Conflict, is-zero, negated}
 
 -- ---- "a member is 0 or the negation of another"
@@ -97,16 +97,16 @@ round-goes-on n u ms = unitProp-goes-on n (byUnits n u ms) (byUnits-reduced n u 
 -- is false": in every table in good order.
 pub zero-value : (c : Columns) (count : ℕ) (a : Assignment) → valueAt c count 0 a ≡ false
 unfolding valueFrom
-zero-value c count a = ap (λ (D : Diagram). value D a) (diagramAt-zero (nodesIn c count))
+zero-value c count a = ap (λ (D : Diagram). value D a) (diagramAt-zero (nodesOfColumns c count))
 
 pub one-value : (c : Columns) (count : ℕ) (a : Assignment) → valueAt c count 1 a ≡ true
 unfolding valueFrom
-one-value c count a = ap (λ (D : Diagram). value D a) (diagramAt-one (nodesIn c count))
+one-value c count a = ap (λ (D : Diagram). value D a) (diagramAt-one (nodesOfColumns c count))
 
 pub node-value : (c : Columns) (count : ℕ) → inGoodOrder c count ≡ true → (k : ℕ) → 2 ≤ k → k < count → (a : Assignment)
-    → valueAt c count k a ≡ cond (holds a (at (nodesIn c count) k .var)) (valueAt c count (at (nodesIn c count) k .high) a) (valueAt c count (at (nodesIn c count) k .low) a)
+    → valueAt c count k a ≡ cond (holds a (at (nodesOfColumns c count) k .var)) (valueAt c count (at (nodesOfColumns c count) k .high) a) (valueAt c count (at (nodesOfColumns c count) k .low) a)
 unfolding valueFrom
 node-value c count order k two inside a =
     let G : GoodPlaces (rows (c .vars) (c .lows) (c .highs)) count = good-order (rows (c .vars) (c .lows) (c .highs)) count (c .heads) (c .links) order in
-    let len : length (nodesIn c count) ≡ count = length-take-le count (rows (c .vars) (c .lows) (c .highs)) (G .within) in
-    ap (λ (D : Diagram). value D a) (diagramAt-node (nodesIn c count) (G .ordered) k two (omega arith))
+    let len : length (nodesOfColumns c count) ≡ count = length-take-le count (rows (c .vars) (c .lows) (c .highs)) (G .within) in
+    ap (λ (D : Diagram). value D a) (diagramAt-node (nodesOfColumns c count) (G .ordered) k two (omega arith))

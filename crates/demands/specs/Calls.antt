@@ -21,8 +21,8 @@ use Rattle.single.specs.Single.{Made, unchanged, Counted}
 -- ---- lent columns
 
 -- The nodes that the columns hold below a count.
-abbrev pub nodesIn : Columns → ℕ → List Node
-nodesIn c count = take count (rows (c .vars) (c .lows) (c .highs))
+abbrev pub nodesOfColumns : Columns → ℕ → List Node
+nodesOfColumns c count = take count (rows (c .vars) (c .lows) (c .highs))
 
 -- The columns with a count are in good order, every place of them, and so is the index. (01, The table; 02, 7/14)
 abbrev pub inGoodOrder : Columns → ℕ → Bool
@@ -31,7 +31,7 @@ inGoodOrder c count = goodOrder (rows (c .vars) (c .lows) (c .highs)) count (c .
 -- "Node 0 has the value 0, node 1 the value 1; any other node has the value of its high where its variable is true, of its low
 -- where it is false." (01, Values; `node-value` is that sentence)
 abbrev pub valueAt : Columns → ℕ → ℕ → Assignment → Bool
-valueAt c count k a = value (diagramAt (nodesIn c count) k) a
+valueAt c count k a = value (diagramAt (nodesOfColumns c count) k) a
 
 -- ---- operations
 
@@ -49,14 +49,14 @@ valueOf (Literals p n) f g a = f (forced (inWord p) (inWord n) 1 a)
 pub record Answers (op : Operation) (c : Columns) (count f g : ℕ) (o : Made) : Type 0 where
   pub below : o .node < o .count
   pub good : inGoodOrder (o .columns) (o .count) ≡ true
-  pub kept : (k : ℕ) → k < count → diagramAt (nodesIn (o .columns) (o .count)) k ≡ diagramAt (nodesIn c count) k
+  pub kept : (k : ℕ) → k < count → diagramAt (nodesOfColumns (o .columns) (o .count)) k ≡ diagramAt (nodesOfColumns c count) k
   pub values : (a : Assignment) → length a ≡ 64
       → valueAt (o .columns) (o .count) (o .node) a ≡ valueOf op (valueAt c count f) (valueAt c count g) a
 
 -- "A refused single call changes nothing"; "with a refusal the node is 0". (01, What the call says and leaves)
-pub data Says (op : Operation) (c : Columns) (count f g : ℕ) (o : Made) : Type 0 where
-  answered : o .number ≡ 0 → Answers op c count f g o → Says op c count f g o
-  refused : o .number ≢ 0 → o ≡ unchanged c count (o .number) → Says op c count f g o
+pub data OperationSays (op : Operation) (c : Columns) (count f g : ℕ) (o : Made) : Type 0 where
+  answered : o .number ≡ 0 → Answers op c count f g o → OperationSays op c count f g o
+  refused : o .number ≢ 0 → o ≡ unchanged c count (o .number) → OperationSays op c count f g o
 
 -- ---- at least (02, 5/14)
 
@@ -65,7 +65,7 @@ pub data Says (op : Operation) (c : Columns) (count f g : ℕ) (o : Made) : Type
 pub record LeastAnswers (c : Columns) (count set k : ℕ) (o : Counted) : Type 0 where
   pub below : o .made .node < o .made .count
   pub good : inGoodOrder (o .made .columns) (o .made .count) ≡ true
-  pub kept : (j : ℕ) → j < count → diagramAt (nodesIn (o .made .columns) (o .made .count)) j ≡ diagramAt (nodesIn c count) j
+  pub kept : (j : ℕ) → j < count → diagramAt (nodesOfColumns (o .made .columns) (o .made .count)) j ≡ diagramAt (nodesOfColumns c count) j
   pub values : (a : Assignment) → length a ≡ 64
       → valueAt (o .made .columns) (o .made .count) (o .made .node) a ≡ atLeastValue (inWord set) k a
   pub counted : o .counted ≡ leb (sizeOf 64 (inWord set)) 32

@@ -22,7 +22,7 @@ use Rattle.commands.specs.declared.Mode.{Mode}
 use Rattle.commands.specs.Commands.{Command, recorded, added, struckOut, wrong, finished}
 use Rattle.verdict.specs.Steps.{State, withEntry, Step, next, stop, spent, entryNode, waiting, liveMembers}
 use Rattle.verdict.specs.Clausal.{secondLine}
-use Rattle.verdict.specs.Check.{step, Verdict, Outcome, lentFits, zeros, outcome, check}
+use Rattle.verdict.specs.Check.{step, Verdict, CheckOutcome, lentFits, zeros, outcome, check}
 use Rattle.verdict.specs.Taken.{Function, Meant}
 use Rattle.verdict.specs.ClauseTaken.{firstLine, HasRoom, IsThere}
 use Rattle.verdict.specs.Run.{commandIn, lineFunctions, variablesOf, Reached, Ended, ProofNumber}
@@ -34,7 +34,7 @@ use Rattle.demands.specs.Texts.{textBefore}
 
 -- What is handed to the check: the proof's form, the columns with their index and count, the member list and its marks, the scratch list,
 -- the bytes of formula and proof.
-pub record Lent : Type 0 where
+pub record Handed : Type 0 where
   pub mode : Mode
   pub columns : Columns
   pub count : ℕ
@@ -45,29 +45,29 @@ pub record Lent : Type 0 where
   pub proof : List ℕ
 
 -- What the call says and leaves: the definition that the contracts of `checker`, `nodes` and `export` cite.
-abbrev pub checked : Lent → Outcome
+abbrev pub checked : Handed → CheckOutcome
 checked i = check (i .mode) (i .columns) (i .count) (i .members) (i .struck) (i .scratch) (i .text) (i .proof)
 
 -- The sizes that are asked of what is lent. (01, What is checked; 02, 3/14 and 7/14)
-abbrev pub Fits : Lent → Type 0
+abbrev pub Fits : Handed → Type 0
 Fits i = lentFits (i .columns) (i .members) (i .struck) (i .scratch) ≡ true
 
 -- The size of the table.
-abbrev pub places : Lent → ℕ
+abbrev pub places : Handed → ℕ
 places i = length (i .columns .vars)
 
 -- The clauses read, in file order.
-abbrev pub clausesRead : Lent → List (List Literal)
+abbrev pub clausesRead : Handed → List (List Literal)
 clausesRead i = clausesOf (formula (i .text))
 
 -- The functions of the proof's lines, as its bytes fix them.
-abbrev pub linesOf : Lent → List Function
+abbrev pub linesOf : Handed → List Function
 linesOf i = lineFunctions (i .mode) (variablesOf (header (i .text))) (i .proof)
 
 -- ---- where it ends
 
 -- "Number 7 changes nothing": "place 0, no lines, no rounds and the count as lent". "with 7, 24 and 25 it is 0" (02, 2/14)
-abbrev pub seven : Lent → Outcome
+abbrev pub seven : Handed → CheckOutcome
 seven i = record {
   number = 7;
   inProof = false;
@@ -83,7 +83,7 @@ seven i = record {
 }
 
 -- "Order: 7, formula [..], proof": the call ends at the first place that is refused, or at the proof's end, and says what that says.
-pub data Ends (i : Lent) : Outcome → Type 0 where
+pub data Ends (i : Handed) : CheckOutcome → Type 0 where
   wrong-size : (Fits i → ⊥) → Ends i (seven i)
   at-place : {v : Verdict} → Fits i → Ended (i .mode) (places i) (i .text) (i .proof) v
       → Ends i (outcome (places i) (length (i .members)) (length (i .scratch)) v)
@@ -92,7 +92,7 @@ pub data Ends (i : Lent) : Outcome → Type 0 where
 
 -- "A refused formula leaves table and lists all zero, count 2. [..] Scratch ends as zeros." The peak is within the table; with 8 it
 -- is the size.
-pub record Emptied (i : Lent) (o : Outcome) : Type 0 where
+pub record Emptied (i : Handed) (o : CheckOutcome) : Type 0 where
   pub number : (1 ≤ o .number) × (o .number ≤ 8) × (o .number ≢ 7)
   pub in-formula : o .inProof ≡ false
   pub lines : o .lines ≡ 0
@@ -110,7 +110,7 @@ pub record Emptied (i : Lent) (o : Outcome) : Type 0 where
   pub scratch : o .scratch ≡ zeros (length (i .scratch))
 
 -- Member k is a node of the table as left, and has under every assignment the value of the function.
-abbrev pub Member : Outcome → ℕ → Function → Type 0
+abbrev pub Member : CheckOutcome → ℕ → Function → Type 0
 Member o k f = (getD (o .members) k 0 < o .count) × ((a : Assignment) → valueAt (o .columns) (o .count) (getD (o .members) k 0) a ≡ f a)
 
 -- "A refused proof leaves the clauses and accepted lines with their nodes (those of all their entries), zeros above. Number 0
@@ -119,7 +119,7 @@ Member o k f = (getD (o .members) k 0 < o .count) × ((a : Assignment) → value
 -- 0, which stays, after a refused proof too": in records 1 exactly for the numbers in the strikings before the place where the run ends
 -- (`AtEnd`: all of them taken); in a text as its clauses before that place fix it. The peak covers the count and is within the table; with
 -- 23 it is the size.
-pub record Kept (i : Lent) (o : Outcome) : Type 0 where
+pub record Kept (i : Handed) (o : CheckOutcome) : Type 0 where
   pub number : ProofNumber (i .mode .form) (o .number)
   pub in-proof : o .inProof ≡ true
   pub peak : (o .count ≤ o .peak) × (o .peak ≤ places i)
@@ -135,7 +135,7 @@ pub record Kept (i : Lent) (o : Outcome) : Type 0 where
   pub scratch : o .scratch ≡ zeros (length (i .scratch))
 
 -- What every lent place holds after the call, for every input.
-pub data Leaves (i : Lent) (o : Outcome) : Type 0 where
+pub data Leaves (i : Handed) (o : CheckOutcome) : Type 0 where
   unchanged : (Fits i → ⊥) → o ≡ seven i → Leaves i o
   emptied : Fits i → Emptied i o → Leaves i o
   kept : Fits i → Kept i o → Leaves i o
@@ -166,7 +166,7 @@ NoneBegun (wrong k o) = ⊥
 NoneBegun finished = Unit {0}
 
 -- The command at which the run ends, all commands before it taken, and where the place given is.
-pub record AtEnd (i : Lent) (o : Outcome) : Type 0 where
+pub record AtEnd (i : Handed) (o : CheckOutcome) : Type 0 where
   pub n : ℕ
   pub state : State
   pub at : ℕ
@@ -179,7 +179,7 @@ pub record AtEnd (i : Lent) (o : Outcome) : Type 0 where
   pub none-begun : NoneBegun (commandIn (i .mode) (i .proof) n at) → o .place ≡ length (i .proof)
 
 -- A state between the commands is reached: the formula is read and its clauses made.
-pub record FormulaMade (i : Lent) : Type 0 where
+pub record FormulaMade (i : Handed) : Type 0 where
   pub n : ℕ
   pub state : State
   pub at : ℕ
@@ -187,7 +187,7 @@ pub record FormulaMade (i : Lent) : Type 0 where
   pub reached : Reached (i .mode) (places i) (i .text) (i .proof) n state at meant
 
 -- "refused with 3, 4 (the token), 6": what the reader of the text refuses, at its place. (02, 4/14)
-pub record AtFault (i : Lent) (o : Outcome) : Type 0 where
+pub record AtFault (i : Handed) (o : CheckOutcome) : Type 0 where
   pub end : AtEnd i o
   pub here : commandIn (i .mode) (i .proof) (end .n) (end .at) ≡ wrong (o .number) (end .offset)
 
@@ -247,7 +247,7 @@ NotShown n s st (wrong number offset) = ⊥
 NotShown n s st finished = ⊥
 
 -- The line at which the run ends, at the place, all commands before it taken.
-pub record AtLine (i : Lent) (at : ℕ) : Type 0 where
+pub record AtLine (i : Handed) (at : ℕ) : Type 0 where
   pub n : ℕ
   pub state : State
   pub meant : Meant

@@ -9,13 +9,13 @@ use lib.ListN.{length}
 use lib.Seq.{slice}
 use lib.Dec.{ltb, leb}
 use borrow.Author.Tests.{ltb-true, ltb-false, leb-true}
-use Rattle.meaning.proofs.Clauses.{Within}
+use Rattle.meaning.specs.Literals.{OfVariables}
 use Rattle.dimacs.specs.declared.Header.{Header}
 use Rattle.dimacs.specs.declared.Header.the-variants.{Proper, Improper}
 use Rattle.dimacs.specs.declared.Token.{Token}
 use Rattle.dimacs.specs.declared.Token.the-variants.{Closing, Literal, Wrong}
 use Rattle.dimacs.specs.Text.{isToken, isSpace, isLine, tokenEnd, lineEnd, between}
-use Rattle.dimacs.specs.Numbers.{value}
+use Rattle.dimacs.specs.Numbers.{valueOfDigits}
 use Rattle.dimacs.specs.Header.{judgedFrom, nextWord, word, isHeader, headerAt, header}
 use Rattle.dimacs.specs.Clauses.{Next, closed, ended, refused, literalThen, afterToken, clauseFrom, clauseAt, nextClause}
 use Rattle.dimacs.proofs.Cases.{by, clash}
@@ -51,8 +51,8 @@ header-at-in s at h =
     let cnf = nextWord s at in
     let variables = nextWord s cnf in
     let clauses = nextWord s variables in
-    let v = value (word s variables) in
-    let c = value (word s clauses) in
+    let v = valueOfDigits (word s variables) in
+    let c = valueOfDigits (word s clauses) in
     let end = past-most isLine s clauses (word-in s variables (word-in s cnf (word-in s at h))) in
     cond-in s (isHeader s at cnf variables clauses) (cond (leb v 64 && leb c 1024) (Proper v c (lineEnd s clauses)) (Improper 2 at)) (Improper 1 at)
     (λ f. cond-in s (leb v 64 && leb c 1024) (Proper v c (lineEnd s clauses)) (Improper 2 at) (λ e. (limits v c e .0, limits v c e .1, end)) h)
@@ -70,7 +70,7 @@ header-in s =
 
 -- A clause of s within n variables, a refusal within s.
 abbrev pub NextIn : List ℕ → ℕ → Next → Type 0
-NextIn s n (closed ls first next) = (first < length s) × (next ≤ length s) × Within n ls
+NextIn s n (closed ls first next) = (first < length s) × (next ≤ length s) × OfVariables n ls
 NextIn s n ended = Unit {0}
 NextIn s n (refused number place) = place ≤ length s
 

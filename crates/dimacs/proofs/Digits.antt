@@ -11,7 +11,7 @@ use lib.Seq.{slice, slice-empty, slice-cons}
 use lib.Dec.{ltb, leb, eqb}
 use borrow.Author.Tests.{ltb-true, lt-ltb, eq-eqb, ne-eqb, eqb-true, leb-true}
 use Rattle.dimacs.specs.declared.numbers.Natural.the-variants.{Value, Improper}
-use Rattle.dimacs.specs.Numbers.{isDigit, allDigits, isZero, isDigits, isNatural, valueAfter, value}
+use Rattle.dimacs.specs.Numbers.{isDigit, allDigits, isZero, isDigits, isNatural, valueAfter, valueOfDigits}
 use Rattle.dimacs.specs.Inner.{capped, digitsAfter, naturalOf}
 use Rattle.dimacs.proofs.Cases.{by, clash}
 
@@ -111,7 +111,7 @@ module _ (s : List ℕ) (from to : ℕ) (inside : to ≤ length s) where
       rw (slice-cons from to s 0 h inside, slice-cons (suc from) to s 0 l inside)
       (natural-zeros (getD s from 0) (getD s (suc from) 0) (slice (suc (suc from)) to s) e)
 
-pub zero-value : (bs : List ℕ) → isZero bs ≡ true → value bs ≡ 0
+pub zero-value : (bs : List ℕ) → isZero bs ≡ true → valueOfDigits bs ≡ 0
 unfolding isZero valueAfter
 zero-value [] e = clash (sym e)
 zero-value (b ∷ []) e = rw (eqb-true b 48 e)
@@ -122,7 +122,7 @@ unfolding valueAfter
 value-grows [] n = omega arith
 value-grows (b ∷ bs) n = omega (arith, value-grows bs (n * 10 + (b - 48)))
 
-pub digits-value : (bs : List ℕ) → isDigits bs ≡ true → 1 ≤ value bs
+pub digits-value : (bs : List ℕ) → isDigits bs ≡ true → 1 ≤ valueOfDigits bs
 unfolding isDigits valueAfter
 digits-value [] e = clash (sym e)
 digits-value (b ∷ bs) e =

@@ -1,24 +1,10 @@
 -- The rows of 01's table of numbers that belong to the formula, 1 to 6, each with number and place, and the readings of
 -- docs/DECISIONS.md, by computation from the definition. Assumes nothing.
 use mathlib.Core.Path.{_≡_, refl}
-use mathlib.Core.Bool.{true, false}
 use mathlib.Core.List.{List, [] as []ᴸ, _∷_ as _∷ᴸ_, map}
-use Prim.Native.Nat.{ℕ}
-use Prim.Native.Char.{code}
 use Prim.Native.String.{String, [], _∷_, _++_}
-use Rattle.meaning.specs.Operations.{Literal}
 use Rattle.dimacs.specs.Clauses.{formula, Reading, clause, complete, refusal}
-
--- The bytes of a text of plain characters.
-abbrev bytes : String → List ℕ
-bytes [] = []ᴸ
-bytes (c ∷ s) = code c ∷ᴸ bytes s
-
-abbrev plus : ℕ → Literal
-plus v = record { variable = v; positive = true }
-
-abbrev minus : ℕ → Literal
-minus v = record { variable = v; positive = false }
+use Rattle.dimacs.specs.Texts.{bytes, plus, minus}
 
 -- ---- the rows of the table
 

@@ -12,7 +12,7 @@ use Rattle.dimacs.specs.declared.numbers.Natural.the-variants.{Value, Im
 use Rattle.dimacs.specs.declared.Header.{Header}
 use Rattle.dimacs.specs.declared.Header.the-variants.{Proper, Improper}
 use Rattle.dimacs.specs.Text.{lineEnd}
-use Rattle.dimacs.specs.Numbers.{isNatural, value}
+use Rattle.dimacs.specs.Numbers.{isNatural, valueOfDigits}
 use Rattle.dimacs.specs.Inner.{capped, naturalOf}
 use Rattle.dimacs.specs.Header.{nextWord, word, isWord, endsLine, isHeader, headerAt}
 use Rattle.dimacs.proofs.Cases.{by}
@@ -80,8 +80,8 @@ header-words s at =
     (isNatural (word s variables))
     (isNatural (word s clauses))
     (endsLine s clauses)
-    (value (word s variables))
-    (value (word s clauses))
+    (valueOfDigits (word s variables))
+    (valueOfDigits (word s clauses))
     at
     (lineEnd s clauses)
 

@@ -12,7 +12,7 @@ use borrow.Author.Tests.{lt-ltb, le-ltb, ne-eqb, leb-true, leb-false}
 use Rattle.dimacs.specs.declared.numbers.Natural.the-variants.{Value, Improper}
 use Rattle.dimacs.specs.declared.Token.{Token}
 use Rattle.dimacs.specs.declared.Token.the-variants.{Closing, Literal, Wrong}
-use Rattle.dimacs.specs.Numbers.{isZero, isDigits, isNatural, unsigned, hasMinus, value, tokenOf}
+use Rattle.dimacs.specs.Numbers.{isZero, isDigits, isNatural, unsigned, hasMinus, valueOfDigits, tokenOf}
 use Rattle.dimacs.specs.Inner.{capped, naturalOf, signedToken}
 use Rattle.dimacs.proofs.Cases.{by}
 use Rattle.dimacs.proofs.Digits.{capped-under, zero-value, digits-value}
@@ -31,7 +31,7 @@ signed-digits n v positive small some =
     (λ o. rw (f, o, lt-ltb n 1025 (omega arith)))
     (λ u. rw (f, u, ne-eqb v 0 (omega arith), lt-ltb n v q)))
 
-natural-is : (ds : List ℕ) → isDigits ds ≡ true → naturalOf ds ≡ Value (capped (value ds))
+natural-is : (ds : List ℕ) → isDigits ds ≡ true → naturalOf ds ≡ Value (capped (valueOfDigits ds))
 unfolding isNatural
 natural-is ds d = by (isZero ds) (λ t. rw t) (λ f. rw (f, d))
 
@@ -57,7 +57,7 @@ module _ (n : ℕ) (small : n ≤ 1024) where
   unfolding tokenOf
   token-minus ds =
       by (isDigits ds)
-      (λ d. rw (minus-not-zero ds, d, natural-is ds d) (sym (signed-digits n (value ds) false small (digits-value ds d))))
+      (λ d. rw (minus-not-zero ds, d, natural-is ds d) (sym (signed-digits n (valueOfDigits ds) false small (digits-value ds d))))
       (λ d. rw (minus-not-zero ds, d) (by (isZero ds) (λ z. rw (natural-0 ds z)) (λ z. rw (natural-not ds z d))))
 
   token-plain : (b : ℕ) (bs : List ℕ) → eqb b 45 ≡ false → tokenOf n (b ∷ bs) ≡ signedToken n true (naturalOf (b ∷ bs))
@@ -66,7 +66,7 @@ module _ (n : ℕ) (small : n ≤ 1024) where
       by (isZero (b ∷ bs))
       (λ z. rw (z, natural-0 (b ∷ bs) z))
       (λ z. by (isDigits (b ∷ bs))
-      (λ d. rw (z, e, d, natural-is (b ∷ bs) d) (sym (signed-digits n (value (b ∷ bs)) true small (digits-value (b ∷ bs) d))))
+      (λ d. rw (z, e, d, natural-is (b ∷ bs) d) (sym (signed-digits n (valueOfDigits (b ∷ bs)) true small (digits-value (b ∷ bs) d))))
       (λ d. rw (z, e, d, natural-not (b ∷ bs) z d)))
 
 -- The token from `from` to `to`.
@@ -100,9 +100,9 @@ literal-bounds n (c ∷ bs) v b e =
     let u = unsigned (c ∷ bs) in
     by (isZero (c ∷ bs)) (λ z. closing-not v b (sym (rw z) ∙ e))
     (λ z. by (isDigits u)
-    (λ d. by (leb (value u) n)
-    (λ l. let q : Literal (value u) (not (hasMinus (c ∷ bs))) ≡ Literal v b = sym (rw (z, d, l)) ∙ e in
-    let r : value u ≡ v = cc in
-    record { some = omega arith; least = omega (arith, digits-value u d); most = omega (arith, leb-true (value u) n l) })
+    (λ d. by (leb (valueOfDigits u) n)
+    (λ l. let q : Literal (valueOfDigits u) (not (hasMinus (c ∷ bs))) ≡ Literal v b = sym (rw (z, d, l)) ∙ e in
+    let r : valueOfDigits u ≡ v = cc in
+    record { some = omega arith; least = omega (arith, digits-value u d); most = omega (arith, leb-true (valueOfDigits u) n l) })
     (λ l. wrong-not v 4 b (sym (rw (z, d, l)) ∙ e)))
     (λ d. wrong-not v 3 b (sym (rw (z, d)) ∙ e)))

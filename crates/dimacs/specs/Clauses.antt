@@ -66,15 +66,15 @@ pub data Reading : Type 0 where
   complete : Reading
   refusal : ℕ → ℕ → Reading
 
-abbrev pub andThen : Next → (ℕ → Reading) → Reading
-andThen (closed ls first next) rest = clause ls first (rest next)
-andThen ended rest = complete
-andThen (refused number place) rest = refusal number place
+abbrev pub readingThen : Next → (ℕ → Reading) → Reading
+readingThen (closed ls first next) rest = clause ls first (rest next)
+readingThen ended rest = complete
+readingThen (refused number place) rest = refusal number place
 
 unfoldable pub clausesFrom : List ℕ → ℕ → ℕ → ℕ → Reading
 unfolding nextClause
-clausesFrom s n zero at = andThen (nextClause s n zero at) (λ next. complete)
-clausesFrom s n (suc left) at = andThen (nextClause s n (suc left) at) (λ next. clausesFrom s n left next)
+clausesFrom s n zero at = readingThen (nextClause s n zero at) (λ next. complete)
+clausesFrom s n (suc left) at = readingThen (nextClause s n (suc left) at) (λ next. clausesFrom s n left next)
 
 abbrev pub afterHeader : List ℕ → Header → Reading
 afterHeader s (Proper n clauses at) = clausesFrom s n clauses at

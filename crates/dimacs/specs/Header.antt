@@ -8,7 +8,7 @@ use lib.Dec.{eqb, leb, ltb}
 use Rattle.dimacs.specs.declared.Header.{Header}
 use Rattle.dimacs.specs.declared.Header.the-variants.{Proper, Improper}
 use Rattle.dimacs.specs.Text.{isSpace, isBlank, past, tokenEnd, lineEnd}
-use Rattle.dimacs.specs.Numbers.{isNatural, value, valueAfter}
+use Rattle.dimacs.specs.Numbers.{isNatural, valueOfDigits, valueAfter}
 
 -- "Before the header: blank lines (spaces, tabs, CR at most) and lines beginning with `c`."
 unfoldable pub isPassed : List ℕ → ℕ → Bool
@@ -59,8 +59,8 @@ headerAt s at =
     let cnf = nextWord s at in
     let variables = nextWord s cnf in
     let clauses = nextWord s variables in
-    let v = value (word s variables) in
-    let c = value (word s clauses) in
+    let v = valueOfDigits (word s variables) in
+    let c = valueOfDigits (word s clauses) in
     let within = cond (leb v 64 && leb c 1024) (Proper v c (lineEnd s clauses)) (Improper 2 at) in
     cond (isHeader s at cnf variables clauses) within (Improper 1 at)
 

@@ -14,7 +14,7 @@ use Rattle.dimacs.specs.declared.Token.the-variants.{Closing, Literal, W
 use Rattle.dimacs.specs.declared.Clause.{Clause}
 use Rattle.dimacs.specs.declared.Clause.the-variants.{Closed, End, Refused}
 use Rattle.dimacs.specs.Text.{isSpace, isBlank, isParting, isToken, isLine}
-use Rattle.dimacs.specs.Numbers.{allDigits, isNatural, valueAfter, value}
+use Rattle.dimacs.specs.Numbers.{allDigits, isNatural, valueAfter, valueOfDigits}
 use Rattle.dimacs.specs.Clauses.{Next, closed, ended, refused}
 
 -- The classes of bytes that the code names.
@@ -36,7 +36,7 @@ abbrev pub digitsAfter : ℕ → List ℕ → Natural
 digitsAfter n bs = cond (allDigits bs) (Value (capped (valueAfter n bs))) Improper
 
 abbrev pub naturalOf : List ℕ → Natural
-naturalOf bs = cond (isNatural bs) (Value (capped (value bs))) Improper
+naturalOf bs = cond (isNatural bs) (Value (capped (valueOfDigits bs))) Improper
 
 -- A token with or without a minus, by the number behind it.
 abbrev pub signedToken : ℕ → Bool → Natural → Token

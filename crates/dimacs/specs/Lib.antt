@@ -3,3 +3,4 @@ pub mod Numbers
 pub mod Header
 pub mod Clauses
 pub mod Inner
+pub mod Texts

@@ -47,13 +47,13 @@ unfoldable pub valueAfter : ℕ → List ℕ → ℕ
 valueAfter n [] = n
 valueAfter n (b ∷ bs) = valueAfter (n * 10 + (b - 48)) bs
 
-abbrev pub value : List ℕ → ℕ
-value bs = valueAfter 0 bs
+abbrev pub valueOfDigits : List ℕ → ℕ
+valueOfDigits bs = valueAfter 0 bs
 
 -- What a token says in a formula of n variables: a closing 0, a literal, or the number of its fault: 3 "not a number",
 -- 4 "literal beyond the header".
 unfoldable pub tokenOf : ℕ → List ℕ → Token
 unfolding isNumber valueAfter
 tokenOf n bs =
-    let v = value (unsigned bs) in
+    let v = valueOfDigits (unsigned bs) in
     cond (isZero bs) Closing (cond (isNumber bs) (cond (leb v n) (Literal v (not (hasMinus bs))) (Wrong 4)) (Wrong 3))

@@ -28,7 +28,7 @@ use Rattle.clause.proofs.Literals.{clause-of-words}
 use Rattle.verdict.specs.Steps.{emptied, begun}
 use Rattle.commands.specs.declared.Mode.{Mode}
 use Rattle.verdict.specs.Check.{Verdict, proofFrom, refusedFormula, clauses}
-use Rattle.verdict.proofs.Uses.{UsesAfter, place-uses}
+use Rattle.verdict.proofs.Uses.{place-uses, uses-written}
 use Rattle.formula.specs.Formula.{Opened, Built}
 use Rattle.formula.proofs.Emptied.{opened-good}
 use Rattle.table.proofs.Zeros.{zeros-at}
@@ -47,11 +47,6 @@ module _ (mode : Mode) (n s : ℕ) (proof : List ℕ) (t : List Node) (ms : List
   unfolding clauses written
   clause-placed (full t₁) e f = t≢f f
   clause-placed (placed t₁ k) e f = rw (e, nodes-indexed s t₁)
-
-uses-written : (n s : ℕ) (p : Placing) → UsesAfter n p → UsesTo n (nodesOf (written s p .table))
-unfolding written
-uses-written n s (full t) u = subst (UsesTo n) (sym (nodes-indexed s t)) u
-uses-written n s (placed t k) u = subst (UsesTo n) (sym (nodes-indexed s t)) u
 
 clause-reduced : (n : ℕ) (ls : List meaning.Literal) → Reduced 1 (suc n) (meaning.clause n ls)
 unfolding meaning.clause

@@ -13,11 +13,11 @@ use Rattle.meaning.specs.Operations as meaning
 use Rattle.dimacs.specs.declared.Token.{Token}
 use Rattle.dimacs.specs.declared.Token.the-variants.{Closing, Literal, Wrong}
 use Rattle.dimacs.specs.Text.{isToken, tokenEnd, between}
-use Rattle.dimacs.specs.Clauses.{Next, closed, ended, refused, literalThen, afterToken, clauseFrom, nextClause, clause as andNext, complete, andThen, clausesFrom}
+use Rattle.dimacs.specs.Clauses.{Next, closed, ended, refused, literalThen, afterToken, clauseFrom, nextClause, clause as andNext, complete, readingThen, clausesFrom}
 use Rattle.dimacs.proofs.Cases.{by, clash}
 use Rattle.dimacs.proofs.OpenClause.{tokenAt, nextAt, clause-suc, clause-end}
 use Rattle.dimacs.proofs.Formula.{clauses-closed, clauses-ended, clauses-refused}
-use Rattle.grammar.specs.Parts.{Piece, gap, Parting, parting, Decimal, decimal, sign}
+use Rattle.grammar.specs.Parts.{Piece, gap, Parting, parting, Decimal, decimalThen, sign}
 use Rattle.grammar.specs.Formula.{Item, clause, literals, plain, lastComment, Body, end, clauseThen, body, clauses, Within, AllWithin}
 use Rattle.grammar.specs.Reads.{Gives}
 use Rattle.grammar.proofs.Places.{Stops, past-split, past-stops}
@@ -44,7 +44,7 @@ with-closed l ended ls f next e = ended-not f next ls e
 with-closed l (refused number place) ls f next e = not-closed number place f next ls e
 
 -- A clause starts with a token.
-sign-starts : (b : Bool) (m : Decimal) (r : List ℕ) → Stops isToken (sign b (decimal m r)) → ⊥
+sign-starts : (b : Bool) (m : Decimal) (r : List ℕ) → Stops isToken (sign b (decimalThen m r)) → ⊥
 sign-starts true m r h = clash (sym (token-byte (48 + m .first) (omega arith)) ∙ h)
 sign-starts false m r h = clash h
 
@@ -144,7 +144,7 @@ module _ (s : List ℕ) (n : ℕ) where
   unfolding clausesFrom
   none-left at g = go (ltb (between s at) (length s)) refl g
     where
-      go : (t : Bool) → ltb (between s at) (length s) ≡ t → Gives [] (andThen (cond t (refused 5 (between s at)) ended) (λ next. complete)) → length s ≤ between s at
+      go : (t : Bool) → ltb (between s at) (length s) ≡ t → Gives [] (readingThen (cond t (refused 5 (between s at)) ended) (λ next. complete)) → length s ≤ between s at
       go true e h = absurd h
       go false e h = ltb-false (between s at) (length s) e
 

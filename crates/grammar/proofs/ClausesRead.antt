@@ -17,7 +17,7 @@ use Rattle.dimacs.specs.Clauses.{Next, closed, ended, literalThen, afterToken, 
 use Rattle.dimacs.proofs.Between.{between-least}
 use Rattle.dimacs.proofs.OpenClause.{tokenAt, nextAt, clause-suc, literal-moves}
 use Rattle.dimacs.proofs.Formula.{clauses-closed, clauses-ended}
-use Rattle.grammar.specs.Parts.{spaced, carriage, space, tab, Piece, blank, newLine, gap, Parting, parting, Decimal, decimal, Signed, sign, signed, literal}
+use Rattle.grammar.specs.Parts.{spaced, carriage, space, tab, Piece, blank, newLine, gap, Parting, parting, Decimal, decimalThen, Signed, sign, signed, literal}
 use Rattle.grammar.specs.Formula.{Item, clause, literals, Ending, plain, lastComment, ending, Body, end, clauseThen, body, clauses, Within, AllWithin}
 use Rattle.grammar.specs.Reads.{Gives}
 use Rattle.grammar.proofs.Places.{Stops, inside, past-part, past-rest}
@@ -46,7 +46,7 @@ body-stops : (b : Body) → Stops isToken (body b)
 body-stops (end e) = ending-stops e
 body-stops (clauseThen p is b) = parting-stops p (clause is (body b))
 
-sign-fresh : (b : Bool) (m : Decimal) (r : List ℕ) → Fresh (sign b (decimal m r))
+sign-fresh : (b : Bool) (m : Decimal) (r : List ℕ) → Fresh (sign b (decimalThen m r))
 sign-fresh true m r = (not-true (isParting (48 + m .first)) (token-byte (48 + m .first) (omega arith)), λ e. absurd (omega (arith, m .most)))
 sign-fresh false m r = (refl, λ e. absurd (omega arith))
 
@@ -58,7 +58,7 @@ fresh-inside : (s : List ℕ) (at : ℕ) (is : List Item) (r l : List ℕ) → d
 fresh-inside s at [] r l e q = inside s at 48 r (e ∙ q)
 fresh-inside s at (i ∷ is) r l e q = go (i .said .isPositive) (e ∙ q)
   where
-    go : (b : Bool) → drop at s ≡ sign b (decimal (i .said .magnitude) (parting (i .behind) (clause is r))) → at < length s
+    go : (b : Bool) → drop at s ≡ sign b (decimalThen (i .said .magnitude) (parting (i .behind) (clause is r))) → at < length s
     go true h = inside s at _ _ h
     go false h = inside s at _ _ h
 

@@ -15,7 +15,7 @@ use Rattle.dimacs.specs.declared.Token.{Token}
 use Rattle.dimacs.specs.declared.Token.the-variants.{Closing, Literal, Wrong}
 use Rattle.dimacs.specs.Text.{isToken, tokenEnd, lineEnd, between}
 use Rattle.dimacs.specs.Header.{judgedFrom, nextWord, headerAt, header}
-use Rattle.dimacs.specs.Clauses.{Next, closed, ended, refused, afterToken, clauseFrom, nextClause, Reading, clause, complete, refusal, andThen, clausesFrom, formula}
+use Rattle.dimacs.specs.Clauses.{Next, closed, ended, refused, afterToken, clauseFrom, nextClause, Reading, clause, complete, refusal, readingThen, clausesFrom, formula}
 use Rattle.dimacs.proofs.Cases.{by}
 use Rattle.dimacs.proofs.OpenClause.{tokenAt, nextAt, clause-suc, clause-end}
 use Rattle.dimacs.proofs.Formula.{clauses-closed, clauses-refused, formula-proper, formula-improper}
@@ -97,7 +97,7 @@ module _ (s : List ℕ) (n : ℕ) where
   unfolding clausesFrom
   none-wanted at cs g = go cs (ltb (between s at) (length s)) g
     where
-      go : (cs : List (List meaning.Literal)) (t : Bool) → Gives cs (andThen (cond t (refused 5 (between s at)) ended) (λ next. complete)) → 0 ≡ length cs
+      go : (cs : List (List meaning.Literal)) (t : Bool) → Gives cs (readingThen (cond t (refused 5 (between s at)) ended) (λ next. complete)) → 0 ≡ length cs
       go [] t h = refl
       go (c ∷ cs) true h = absurd h
       go (c ∷ cs) false h = absurd h

@@ -4,7 +4,6 @@ use mathlib.Core.Path.{_≡_, refl}
 use mathlib.Core.Bool.{true, false}
 use mathlib.Core.List.{List, [] as []ᴸ, _∷_ as _∷ᴸ_}
 use Prim.Native.Nat.{ℕ, _≤_}
-use Prim.Native.Char.{code}
 use Prim.Native.String.{String, [], _∷_}
 use native.Mathlib.Omega.{arith}
 use Rattle.meaning.specs.Operations.{Literal}
@@ -13,17 +12,7 @@ use Rattle.grammar.specs.Parts.{space, tab, spaced, carriage, Spaces, Co
 use Rattle.grammar.specs.Formula.{blankLine, commentLine, Item, plain, lastComment, end, clauseThen, Dimacs}
 use Rattle.grammar.specs.Reads.{Gives}
 use Rattle.grammar.proofs.Exact.{formula-exactly}
-
--- The bytes of a text of plain characters.
-abbrev bytes : String → List ℕ
-bytes [] = []ᴸ
-bytes (c ∷ s) = code c ∷ᴸ bytes s
-
-abbrev plus : ℕ → Literal
-plus v = record { variable = v; positive = true }
-
-abbrev minus : ℕ → Literal
-minus v = record { variable = v; positive = false }
+use Rattle.dimacs.specs.Texts.{bytes, plus, minus}
 
 -- ---- parts
 

@@ -13,7 +13,7 @@ use borrow.Author.Tests.{eqb-true, ltb-true, leb-true, not-false}
 use Rattle.meaning.proofs.Booleans.{and-both}
 use Rattle.dimacs.specs.declared.Header.the-variants.{Proper, Improper}
 use Rattle.dimacs.specs.Text.{isSpace, isBlank, isToken, isLine, past, tokenEnd, lineEnd}
-use Rattle.dimacs.specs.Numbers.{isNatural, value}
+use Rattle.dimacs.specs.Numbers.{isNatural, valueOfDigits}
 use Rattle.dimacs.specs.Header.{isPassed, judgedFrom, nextWord, word, spells, isWord, endsLine, isHeader, headerAt}
 use Rattle.dimacs.proofs.Cases.{by, clash}
 use Rattle.dimacs.proofs.Runs.{past-go, past-most}
@@ -141,12 +141,12 @@ module _ (s : List ℕ) where
       some (x ∷ xs) e = (record { first = x; more = xs }, e)
 
   number-found : (at : ℕ) → isNatural (word s at) ≡ true
-      → (x : Number) × (drop at s ≡ number x (drop (tokenEnd s at) s)) × (value (word s at) ≡ numberValue x)
+      → (x : Number) × (drop at s ≡ number x (drop (tokenEnd s at) s)) × (valueOfDigits (word s at) ≡ numberValue x)
   number-found at e =
       let x = number-of (word s at) e in (
         x .0,
         past-split s at isToken ∙ ap (λ (l : List ℕ). l ++ drop (tokenEnd s at) s) (sym (x .1)) ∙ sym (number-then (x .0) (drop (tokenEnd s at) s)),
-        ap value (sym (x .1)) ∙ number-value (x .0),
+        ap valueOfDigits (sym (x .1)) ∙ number-value (x .0),
       )
 
   line-end-of : (at : ℕ) → endsLine s at ≡ true → (bs : List Blank) × (drop (tokenEnd s at) s ≡ blanks bs (drop (lineEnd s at) s))
@@ -185,7 +185,7 @@ module _ (s : List ℕ) where
     unfolding nextWord
     word-in p h = past-most isSpace s (tokenEnd s p) (past-most isToken s p h)
 
-    form-of : isHeader s at cnf variables wanted ≡ true → HeaderOf at (lineEnd s wanted) (value (word s variables)) (value (word s wanted))
+    form-of : isHeader s at cnf variables wanted ≡ true → HeaderOf at (lineEnd s wanted) (valueOfDigits (word s variables)) (valueOfDigits (word s wanted))
     unfolding isHeader
     form-of e =
         let a = and-both (isWord s at (112 ∷ [])) (isWord s cnf (99 ∷ 110 ∷ 102 ∷ []) && (isNatural (word s variables) && (isNatural (word s wanted) && endsLine s wanted))) e in
@@ -220,8 +220,8 @@ module _ (s : List ℕ) where
     pub header-at-of : (n m to : ℕ) → headerAt s at ≡ Proper n m to → (n ≤ 64) × (m ≤ 1024) × HeaderOf at to n m
     unfolding headerAt
     header-at-of n m to e =
-        let v = value (word s variables) in
-        let c = value (word s wanted) in
+        let v = valueOfDigits (word s variables) in
+        let c = valueOfDigits (word s wanted) in
         by (isHeader s at cnf variables wanted)
         (λ t. by (leb v 64 && leb c 1024)
         (λ l. let q : Proper v c (lineEnd s wanted) ≡ Proper n m to = sym (rw (t, l)) ∙ e in

@@ -11,10 +11,10 @@ use lib.Dec.{eqb}
 use borrow.Author.Tests.{le-leb, ne-eqb, eqb-true, eqb-false, not-true}
 use Rattle.meaning.proofs.Booleans.{and-both}
 use Rattle.dimacs.specs.Text.{isToken}
-use Rattle.dimacs.specs.Numbers.{isDigit, allDigits, isZero, isDigits, isNatural, valueAfter, value}
+use Rattle.dimacs.specs.Numbers.{isDigit, allDigits, isZero, isDigits, isNatural, valueAfter, valueOfDigits}
 use Rattle.dimacs.proofs.Cases.{by, clash}
 use Rattle.dimacs.proofs.Digits.{digit-least, digit-most}
-use Rattle.grammar.specs.Parts.{Digits, digits, worth, Decimal, decimal, Number, nought, positive, number, numberValue}
+use Rattle.grammar.specs.Parts.{Digits, digits, worth, Decimal, decimalThen, Number, nought, positive, number, numberValue}
 use Rattle.grammar.proofs.Places.{All}
 
 -- ---- printed
@@ -63,10 +63,10 @@ value-worth (d ∷ ds) m =
     let u : m * 10 ^ suc (length ds) ≡ m * (10 * 10 ^ length ds) = ap (λ (k : ℕ). m * k) (pow-succ' 10 (length ds)) in omega arith)
 
 -- The reader's value of digits is their worth.
-pub digits-worth : (ds : List ℕ) → value (digits ds []) ≡ worth ds
+pub digits-worth : (ds : List ℕ) → valueOfDigits (digits ds []) ≡ worth ds
 digits-worth ds = value-worth ds 0 ∙ omega arith
 
-pub number-value : (x : Number) → value (number x []) ≡ numberValue x
+pub number-value : (x : Number) → valueOfDigits (number x []) ≡ numberValue x
 unfolding valueAfter
 number-value nought = refl
 number-value (positive m) = digits-worth (m .first ∷ m .more)
@@ -77,7 +77,7 @@ module _ (m : Decimal) where
   not-nought : eqb (48 + m .first) 48 ≡ false
   not-nought = ne-eqb (48 + m .first) 48 (λ e. absurd (omega (arith, m .least)))
 
-  pub decimal-is : isDigits (decimal m []) ≡ true
+  pub decimal-is : isDigits (decimalThen m []) ≡ true
   unfolding isDigits allDigits
   decimal-is = rw (not-nought, digit-byte (m .first) (m .most)) (digits-all (m .more) (m .areDigits))
 
@@ -86,7 +86,7 @@ module _ (m : Decimal) where
   nought-not [] = not-nought
   nought-not (d ∷ ds) = refl
 
-  pub decimal-not : isZero (decimal m []) ≡ false
+  pub decimal-not : isZero (decimalThen m []) ≡ false
   decimal-not = nought-not (m .more)
 
 -- A number of the grammar is one for the reader.
@@ -106,7 +106,7 @@ digits-of (b ∷ bs) e =
     let same : 48 + (b - 48) ≡ b = omega (arith, digit-least b (h .0)) in
     ((b - 48) ∷ rest .0, (omega (arith, digit-most b (h .0)), rest .1), ap₂ (λ (x : ℕ) (xs : List ℕ). x ∷ xs) same (rest .2))
 
-pub decimal-of : (bs : List ℕ) → isDigits bs ≡ true → (m : Decimal) × (decimal m [] ≡ bs)
+pub decimal-of : (bs : List ℕ) → isDigits bs ≡ true → (m : Decimal) × (decimalThen m [] ≡ bs)
 unfolding isDigits allDigits
 decimal-of [] e = clash (sym e)
 decimal-of (b ∷ bs) e =

@@ -42,11 +42,11 @@ gives-end (c ∷ cs) (clause ls first r) g = gives-end cs r (g .1)
 gives-end (c ∷ cs) (refusal number place) g = absurd g
 
 -- The text is DIMACS for some formula.
-abbrev pub Says : List ℕ → Type 0
-Says text = (cs : List (List meaning.Literal)) × (n : ℕ) × Dimacs text n cs
+abbrev pub IsDimacs : List ℕ → Type 0
+IsDimacs text = (cs : List (List meaning.Literal)) × (n : ℕ) × Dimacs text n cs
 
 -- It is exactly where the reader comes to the end with nothing refused.
-reads-to-end : (text : List ℕ) → (readToEnd (formula text) ≡ true → Says text) × (Says text → readToEnd (formula text) ≡ true)
+reads-to-end : (text : List ℕ) → (readToEnd (formula text) ≡ true → IsDimacs text) × (IsDimacs text → readToEnd (formula text) ≡ true)
 reads-to-end text = (
   (λ e. let D = formula-exactly text (clausesOf (formula text)) .0 (end-gives (formula text) e) in (clausesOf (formula text), D .0, D .1)),
   (λ d. gives-end (d .0) (formula text) (formula-exactly text (d .0) .1 (d .1) (d .2))),
@@ -69,7 +69,7 @@ refusal-ends number place r e = rw e
 
 module _ (mode : Mode) (s : ℕ) (text proof : List ℕ) where
   -- A text that is no DIMACS is refused with a number of the formula: 1 to 6, or 8 where the table is full at a clause before the fault.
-  pub not-dimacs-refused : (Says text → ⊥) → FormulaNumber (verdict mode s text proof .number)
+  pub not-dimacs-refused : (IsDimacs text → ⊥) → FormulaNumber (verdict mode s text proof .number)
   not-dimacs-refused no-text = go (verdict mode s text proof) (ended-closed mode s text proof (verdict mode s text proof) (ended mode s text proof))
     where
       go : (v : Verdict) → Closed mode s text proof v → FormulaNumber (v .number)
@@ -85,7 +85,7 @@ module _ (mode : Mode) (s : ℕ) (text proof : List ℕ) where
     at-command-tried : {n at : ℕ} {st : State} {m : Meant} → Reached mode s text proof n st at m → (peak : ℕ)
         → step n s st (commandIn mode proof n at) ≡ spent (v .number) peak → Judged v
 
-  pub dimacs-judged : Says text → Judged (verdict mode s text proof)
+  pub dimacs-judged : IsDimacs text → Judged (verdict mode s text proof)
   dimacs-judged d = go (verdict mode s text proof) (ended mode s text proof)
     where
       whole : readToEnd (formula text) ≡ true

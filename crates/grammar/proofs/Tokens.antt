@@ -9,9 +9,9 @@ use lib.Dec.{eqb, leb}
 use borrow.Author.Tests.{le-leb, leb-true, ne-eqb, eqb-true}
 use Rattle.dimacs.specs.declared.Token.the-variants.{Closing, Literal, Wrong}
 use Rattle.dimacs.specs.Text.{isToken}
-use Rattle.dimacs.specs.Numbers.{isZero, isDigits, hasMinus, unsigned, value, tokenOf}
+use Rattle.dimacs.specs.Numbers.{isZero, isDigits, hasMinus, unsigned, valueOfDigits, tokenOf}
 use Rattle.dimacs.proofs.Cases.{by, clash}
-use Rattle.grammar.specs.Parts.{Decimal, decimal, decimalValue, Signed, sign, signed, literal}
+use Rattle.grammar.specs.Parts.{Decimal, decimalThen, decimalValue, Signed, sign, signed, literal}
 use Rattle.grammar.proofs.Places.{All}
 use Rattle.grammar.proofs.Numbers.{digits-then, digits-token, digits-worth, decimal-is, decimal-not, decimal-of, zero-of}
 
@@ -24,14 +24,14 @@ sign-then false xs r = refl
 pub signed-then : (x : Signed) (r : List ℕ) → signed x r ≡ signed x [] ++ r
 signed-then x r =
     ap (sign (x .isPositive)) (digits-then (x .magnitude .first ∷ x .magnitude .more) r)
-    ∙ sign-then (x .isPositive) (decimal (x .magnitude) []) r
+    ∙ sign-then (x .isPositive) (decimalThen (x .magnitude) []) r
 
 sign-token : (b : Bool) (xs : List ℕ) → All isToken xs → All isToken (sign b xs)
 sign-token true xs h = h
 sign-token false xs h = (refl, h)
 
 pub signed-token : (x : Signed) → All isToken (signed x [])
-signed-token x = sign-token (x .isPositive) (decimal (x .magnitude) []) (digits-token (x .magnitude .first ∷ x .magnitude .more))
+signed-token x = sign-token (x .isPositive) (decimalThen (x .magnitude) []) (digits-token (x .magnitude .first ∷ x .magnitude .more))
 
 minus-not : (bs : List ℕ) → isZero (45 ∷ bs) ≡ false
 unfolding isZero
@@ -42,18 +42,18 @@ module _ (n : ℕ) (m : Decimal) (within : decimalValue m ≤ n) where
   plain-other : eqb (48 + m .first) 45 ≡ false
   plain-other = ne-eqb (48 + m .first) 45 (λ e. absurd (omega arith))
 
-  fits : leb (value (decimal m [])) n ≡ true
+  fits : leb (valueOfDigits (decimalThen m [])) n ≡ true
   fits = ap (λ (k : ℕ). leb k n) (digits-worth (m .first ∷ m .more)) ∙ le-leb (decimalValue m) n within
 
-  plain-token : tokenOf n (decimal m []) ≡ Literal (decimalValue m) true
+  plain-token : tokenOf n (decimalThen m []) ≡ Literal (decimalValue m) true
   unfolding tokenOf
   plain-token = rw (decimal-not m, plain-other, decimal-is m, fits, digits-worth (m .first ∷ m .more))
 
-  minus-token : tokenOf n (45 ∷ decimal m []) ≡ Literal (decimalValue m) false
+  minus-token : tokenOf n (45 ∷ decimalThen m []) ≡ Literal (decimalValue m) false
   unfolding tokenOf
-  minus-token = rw (minus-not (decimal m []), decimal-is m, fits, digits-worth (m .first ∷ m .more))
+  minus-token = rw (minus-not (decimalThen m []), decimal-is m, fits, digits-worth (m .first ∷ m .more))
 
-  sign-says : (b : Bool) → tokenOf n (sign b (decimal m [])) ≡ Literal (decimalValue m) b
+  sign-says : (b : Bool) → tokenOf n (sign b (decimalThen m [])) ≡ Literal (decimalValue m) b
   sign-says true = plain-token
   sign-says false = minus-token
 
@@ -70,7 +70,7 @@ closing-says n = refl
 pub closing-of : (n : ℕ) (bs : List ℕ) → tokenOf n bs ≡ Closing → bs ≡ 48 ∷ []
 unfolding tokenOf
 closing-of n bs e =
-    let v = value (unsigned bs) in
+    let v = valueOfDigits (unsigned bs) in
     by (isZero bs) (λ z. zero-of bs z)
     (λ z. by (isDigits (unsigned bs))
     (λ d. by (leb v n)
@@ -88,19 +88,19 @@ pub record IsSigned (n : ℕ) (bs : List ℕ) (v : ℕ) (b : Bool) : Type 0 wher
 
 -- The token is a number with or without a minus.
 abbrev Form : List ℕ → Type 0
-Form bs = (x : Signed) × (signed x [] ≡ bs) × (value (unsigned bs) ≡ literal x .variable) × (not (hasMinus bs) ≡ x .isPositive)
+Form bs = (x : Signed) × (signed x [] ≡ bs) × (valueOfDigits (unsigned bs) ≡ literal x .variable) × (not (hasMinus bs) ≡ x .isPositive)
 
-minus-form : (b : ℕ) (bs : List ℕ) (m : Decimal) → eqb b 45 ≡ true → decimal m [] ≡ bs → Form (b ∷ bs)
+minus-form : (b : ℕ) (bs : List ℕ) (m : Decimal) → eqb b 45 ≡ true → decimalThen m [] ≡ bs → Form (b ∷ bs)
 minus-form b bs m t e = (
   record { isPositive = false; magnitude = m },
   ap₂ (λ (x : ℕ) (xs : List ℕ). x ∷ xs) (sym (eqb-true b 45 t)) e,
-  rw t (ap value (sym e) ∙ digits-worth (m .first ∷ m .more)),
+  rw t (ap valueOfDigits (sym e) ∙ digits-worth (m .first ∷ m .more)),
   rw t,
 )
 
-plain-form : (b : ℕ) (bs : List ℕ) (m : Decimal) → eqb b 45 ≡ false → decimal m [] ≡ b ∷ bs → Form (b ∷ bs)
+plain-form : (b : ℕ) (bs : List ℕ) (m : Decimal) → eqb b 45 ≡ false → decimalThen m [] ≡ b ∷ bs → Form (b ∷ bs)
 plain-form b bs m f e =
-    (record { isPositive = true; magnitude = m }, e, rw f (ap value (sym e) ∙ digits-worth (m .first ∷ m .more)), rw f)
+    (record { isPositive = true; magnitude = m }, e, rw f (ap valueOfDigits (sym e) ∙ digits-worth (m .first ∷ m .more)), rw f)
 
 form-of : (bs : List ℕ) → isDigits (unsigned bs) ≡ true → Form bs
 unfolding isDigits
@@ -113,7 +113,7 @@ form-of (b ∷ bs) e =
 pub literal-of : (n : ℕ) (bs : List ℕ) (v : ℕ) (b : Bool) → tokenOf n bs ≡ Literal v b → IsSigned n bs v b
 unfolding tokenOf
 literal-of n bs v b e =
-    let w = value (unsigned bs) in
+    let w = valueOfDigits (unsigned bs) in
     by (isZero bs) (λ z. let q : Closing ≡ Literal v b = sym (rw z) ∙ e in let c : _≡_ {A = ℕ} 0 1 = cc in absurd (omega arith))
     (λ z. by (isDigits (unsigned bs))
     (λ d. by (leb w n)

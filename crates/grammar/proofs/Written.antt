@@ -12,6 +12,7 @@ use Rattle.grammar.specs.Parts.{Digits, worth, Decimal, decimalValue, Nu
 use Rattle.grammar.specs.Formula.{passed, HeaderLine, headerLine, LineEnds, Item, literals, plain, Body, end, clauseThen, body, clauses, Within, AllWithin, Dimacs}
 use Rattle.grammar.specs.Reads.{Reads}
 use Rattle.grammar.proofs.Exact.{print-and-read}
+use Rattle.meaning.specs.Literals.{OfVariables}
 
 -- ---- numerals
 
@@ -80,16 +81,11 @@ numeral (suc v) = let m = numeral-from v in (positive (m .0), m .1)
 
 -- ---- clauses
 
--- Literals of the variables 1 to n.
-abbrev pub Proper : ℕ → List meaning.Literal → Type 0
-Proper n [] = Unit {0}
-Proper n (l ∷ ls) = (1 ≤ l .variable) × (l .variable ≤ n) × Proper n ls
-
 abbrev pub AllProper : ℕ → List (List meaning.Literal) → Type 0
 AllProper n [] = Unit {0}
-AllProper n (c ∷ cs) = Proper n c × AllProper n cs
+AllProper n (c ∷ cs) = OfVariables n c × AllProper n cs
 
-within : (n : ℕ) (c : List meaning.Literal) → Proper n c → Within n c
+within : (n : ℕ) (c : List meaning.Literal) → OfVariables n c → Within n c
 within n [] h = tt
 within n (l ∷ c) h = (h .1, within n c (h .2))
 
@@ -111,7 +107,7 @@ predecessor : (v : ℕ) → 1 ≤ v → (u : ℕ) × (v ≡ suc u)
 predecessor zero h = absurd (omega arith)
 predecessor (suc v) h = (v, refl)
 
-items : (n : ℕ) (c : List meaning.Literal) → Proper n c → (is : List Item) × (literals is ≡ c)
+items : (n : ℕ) (c : List meaning.Literal) → OfVariables n c → (is : List Item) × (literals is ≡ c)
 items n [] h = ([], refl)
 items n (l ∷ c) h =
     let u = predecessor (l .variable) (h .0) in

@@ -108,8 +108,8 @@ pub record Decimal : Type 0 where
   pub most : first ≤ 9
   pub areDigits : Digits more
 
-abbrev pub decimal : Decimal → List ℕ → List ℕ
-decimal m r = digits (m .first ∷ m .more) r
+abbrev pub decimalThen : Decimal → List ℕ → List ℕ
+decimalThen m r = digits (m .first ∷ m .more) r
 
 abbrev pub decimalValue : Decimal → ℕ
 decimalValue m = worth (m .first ∷ m .more)
@@ -121,7 +121,7 @@ pub data Number : Type 0 where
 
 abbrev pub number : Number → List ℕ → List ℕ
 number nought r = 48 ∷ r
-number (positive m) r = decimal m r
+number (positive m) r = decimalThen m r
 
 abbrev pub numberValue : Number → ℕ
 numberValue nought = 0
@@ -137,7 +137,7 @@ sign true r = r
 sign false r = 45 ∷ r
 
 abbrev pub signed : Signed → List ℕ → List ℕ
-signed x r = sign (x .isPositive) (decimal (x .magnitude) r)
+signed x r = sign (x .isPositive) (decimalThen (x .magnitude) r)
 
 abbrev pub literal : Signed → meaning.Literal
 literal x = record { variable = decimalValue (x .magnitude); positive = x .isPositive }

@@ -13,6 +13,7 @@ use Rattle.meaning.specs.Operations.{Literal, literalValue, clauseValue,
 use Rattle.meaning.proofs.Canonical.{branch-same, branch-reduced}
 use Rattle.meaning.proofs.Values.{branch-at, diagram-is}
 use Rattle.meaning.proofs.Booleans.{t≢f, or-cases, or-left, or-right, and-both, both-ways, eqb-eq, eq-eqb, beq-eq, eq-beq}
+use Rattle.meaning.specs.Literals.{OfVariables}
 
 -- Whether the literal of variable v with that sign is among those listed.
 unfoldable pub occurs : List Literal → ℕ → Bool → Bool
@@ -91,11 +92,6 @@ module _ (P N : ℕ → Bool) (a : Assignment) where
 
 -- ---- the clause of the literals listed
 
--- The literals are of the variables 1 to n.
-abbrev pub Within : ℕ → List Literal → Type 0
-Within n [] = Unit {0}
-Within n (l ∷ ls) = (1 ≤ l .variable) × (l .variable ≤ n) × Within n ls
-
 occurs-true : (ls : List Literal) (a : Assignment) (v : ℕ) → occurs ls v (holds a v) ≡ true → clauseValue ls a ≡ true
 unfolding occurs clauseValue literalValue
 occurs-true [] a v e = e
@@ -107,7 +103,7 @@ occurs-true (l ∷ ls) a v e =
     (rw q (eq-beq (holds a v) (l .positive) (sym (beq-eq (l .positive) (holds a v) (b .1))))))
     (λ t. or-right (Bool·beq (holds a (l .variable)) (l .positive)) (clauseValue ls a) (occurs-true ls a v t))
 
-true-occurs : {A : Type 0} (n : ℕ) (ls : List Literal) (a : Assignment) → Within n ls → clauseValue ls a ≡ true
+true-occurs : {A : Type 0} (n : ℕ) (ls : List Literal) (a : Assignment) → OfVariables n ls → clauseValue ls a ≡ true
     → ((v : ℕ) → 1 ≤ v → v ≤ n → occurs ls v (holds a v) ≡ true → A) → A
 unfolding occurs clauseValue literalValue
 true-occurs n [] a w e f = t≢f (sym e)
@@ -117,7 +113,7 @@ true-occurs n (l ∷ ls) a w e f =
     (rw (eq-eqb (l .variable) (l .variable) refl) (eq-beq (l .positive) (holds a (l .variable)) (sym (beq-eq (holds a (l .variable)) (l .positive) t))))))
     (λ t. true-occurs n ls a (w .2) t (λ v x y o. f v x y (or-right (eqb (l .variable) v && Bool·beq (l .positive) (holds a v)) (occurs ls v (holds a v)) o)))
 
-pub clause-is : (n : ℕ) (ls : List Literal) (P N : ℕ → Bool) → Within n ls → ((v : ℕ) → 1 ≤ v → v ≤ n → P v ≡ occurs ls v true)
+pub clause-is : (n : ℕ) (ls : List Literal) (P N : ℕ → Bool) → OfVariables n ls → ((v : ℕ) → 1 ≤ v → v ≤ n → P v ≡ occurs ls v true)
     → ((v : ℕ) → 1 ≤ v → v ≤ n → N v ≡ occurs ls v false) → clause n ls ≡ clauseFrom P N n 1
 unfolding clause
 clause-is n ls P N w p q = diagram-is n (clauseValue ls) (clauseFrom P N n 1) (clauseFrom-reduced P N n 1 (suc n) (omega arith)) λ a len.

@@ -11,8 +11,9 @@ use native.Mathlib.Decide.{ℕ-discrete}
 use lib.Dec.{eqb}
 use Rattle.meaning.specs.Diagram.{Diagram, leaf, node, same?, same, Reduced, branch}
 use Rattle.meaning.specs.Operations.{cofactorLiterals, isUnit}
-use Rattle.meaning.specs.Rules.{any, conflicts, hasUnit, firstWithUnit, byUnits, Propagation, round, still, taking, propagate}
+use Rattle.meaning.specs.Rules.{any, conflicts, hasUnit, firstWithUnit, byDiagram, byUnits, Propagation, round, still, taking, propagate}
 use Rattle.meaning.proofs.Canonical.{reduced-from}
+use Rattle.meaning.proofs.Cofactor.{cofactor-reduced}
 use Rattle.meaning.proofs.Booleans.{t≢f, not-true, or-cases, or-left, or-right, or-neither, eqb-eq}
 use Rattle.meaning.proofs.Pointwise.{literals-reduced}
 use Rattle.meaning.proofs.PointwiseSteps.{literals-leaf, literals-high, literals-low, literals-branch}
@@ -26,6 +27,9 @@ AllReduced n (f ∷ fs) = Reduced 1 (suc n) f × AllReduced n fs
 pub map-reduced : (n : ℕ) (g : Diagram → Diagram) (ms : List Diagram) → ((f : Diagram) → Reduced 1 (suc n) (g f)) → AllReduced n (map g ms)
 map-reduced n g [] h = tt
 map-reduced n g (f ∷ fs) h = (h f, map-reduced n g fs h)
+
+pub byDiagram-reduced : (n : ℕ) (g : Diagram) (ms : List Diagram) → AllReduced n (byDiagram n g ms)
+byDiagram-reduced n g ms = map-reduced n _ ms (λ f. cofactor-reduced n f g)
 
 pub byUnits-reduced : (n : ℕ) (u : Diagram) (ms : List Diagram) → AllReduced n (byUnits n u ms)
 unfolding byUnits
@@ -133,7 +137,7 @@ first-taken n (f ∷ fs) u e o = go (hasUnit n n f) refl e (λ e′. first-taken
     go true h e ih = let q : f ≡ u = cc in (rw q at h, rw q at (o .0), λ p x. or-left (p f) (any p fs) (rw q x))
     go false h e ih = let r : UnitMember n fs u = ih e in (r .0, r .1, λ p x. or-right (p f) (any p fs) (r .2 p x))
 
-a-unit : (n w : ℕ) (f : Diagram) → hasUnit n w f ≡ true → (v : ℕ) × (s : Bool) × (1 ≤ v) × (v ≤ w) × (isUnit n f v s ≡ true)
+pub a-unit : (n w : ℕ) (f : Diagram) → hasUnit n w f ≡ true → (v : ℕ) × (s : Bool) × (1 ≤ v) × (v ≤ w) × (isUnit n f v s ≡ true)
 unfolding hasUnit
 a-unit n zero f e = t≢f (sym e)
 a-unit n (suc w) f e =

@@ -16,7 +16,7 @@ use Rattle.single.specs.declared.call.Single.{Single}
 use Rattle.single.specs.declared.least.AtLeast.{AtLeast}
 use Rattle.single.specs.Single.{Made, madeOf, unchanged, refusal, operation, Counted, countedOf, withCount, atLeastCall, evaluation}
 use Rattle.commands.specs.Commands.{inRecords}
-use Rattle.verdict.specs.Check.{Outcome, lentFits, check}
+use Rattle.verdict.specs.Check.{CheckOutcome, lentFits, check}
 use Rattle.verdict.specs.Satisfies.{Unsatisfiable}
 use Rattle.verdict.proofs.Refuted.{check-refuted}
 use Rattle.session.specs.declared.Checked.{Checked}
@@ -128,10 +128,10 @@ module _ {X : Type 0} (ds js : List ℕ) (out call stay : List ℕ → List ℕ 
 
 -- ---- the check
 module _ (ds js : List ℕ) (count : ℕ) (ms ks ss formula proof ds′ js′ ms′ ks′ ss′ : List ℕ) (r : Checked) where
-  abbrev seven : List ℕ → List ℕ → List ℕ → Outcome
+  abbrev seven : List ℕ → List ℕ → List ℕ → CheckOutcome
   seven v l h = record { number = 7; inProof = false; place = 0; lines = 0; rounds = 0; count = count; peak = 0; columns = columnsMade v l h ds js; members = ms; struck = ks; scratch = ss }
 
-  abbrev out : List ℕ → List ℕ → List ℕ → Outcome
+  abbrev out : List ℕ → List ℕ → List ℕ → CheckOutcome
   out v l h = checkOutcome (columnsMade v l h ds′ js′) ms′ ks′ ss′ r
 
   check-refused : (v l h : List ℕ) → sizeFits v l h ds js ≡ false → check inRecords (columnsMade v l h ds js) count ms ks ss formula proof ≡ seven v l h
@@ -140,8 +140,8 @@ module _ (ds js : List ℕ) (count : ℕ) (ms ks ss formula proof ds′ js′ ms
 
   check-moved : (a b c v l h : List ℕ) → out a b c ≡ seven v l h → ((a ≡ v) × (b ≡ l) × (c ≡ h)) × ((v l h : List ℕ) → out v l h ≡ seven v l h)
   check-moved a b c v l h e = (
-    (ap (λ (o : Outcome). o .columns .vars) e, ap (λ (o : Outcome). o .columns .lows) e, ap (λ (o : Outcome). o .columns .highs) e),
-    (λ v l h. ap (λ (o : Outcome). record { number = o .number; inProof = o .inProof; place = o .place; lines = o .lines; rounds = o .rounds; count = o .count; peak = o .peak; columns = columnsMade v l h (o .columns .heads) (o .columns .links); members = o .members; struck = o .struck; scratch = o .scratch }) e),
+    (ap (λ (o : CheckOutcome). o .columns .vars) e, ap (λ (o : CheckOutcome). o .columns .lows) e, ap (λ (o : CheckOutcome). o .columns .highs) e),
+    (λ v l h. ap (λ (o : CheckOutcome). record { number = o .number; inProof = o .inProof; place = o .place; lines = o .lines; rounds = o .rounds; count = o .count; peak = o .peak; columns = columnsMade v l h (o .columns .heads) (o .columns .links); members = o .members; struck = o .struck; scratch = o .scratch }) e),
   )
 
   check-whole : (ys : List Node) (m : ℕ) (vs₀ ls₀ hs₀ vs ls hs : List ℕ) → Cut (length ys) m → Sized vs ls hs
@@ -158,7 +158,7 @@ module _ (ds js : List ℕ) (count : ℕ) (ms ks ss formula proof ds′ js′ ms
       × (r .number ≡ 0 → Unsatisfiable formula)
   check-told ys m vs₀ ls₀ hs₀ vs ls hs cut e told =
       let is = check-whole ys m vs₀ ls₀ hs₀ vs ls hs cut e told in
-      (is, λ z. check-refuted inRecords (columnsMade (varsOf ys) (lowsOf ys) (highsOf ys) ds js) count ms ks ss formula proof (sym (ap (λ (o : Outcome). o .number) is) ∙ z))
+      (is, λ z. check-refuted inRecords (columnsMade (varsOf ys) (lowsOf ys) (highsOf ys) ds js) count ms ks ss formula proof (sym (ap (λ (o : CheckOutcome). o .number) is) ∙ z))
 
 -- ---- conjunction, negation, both cofactors
 module _ (op : Operation) (ds js : List ℕ) (count f g : ℕ) (ds′ js′ : List ℕ) (r : Single) where

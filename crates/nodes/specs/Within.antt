@@ -10,7 +10,7 @@ use Rattle.operate.specs.declared.Operation.{Operation}
 use Rattle.single.specs.declared.Evaluated.{Evaluated}
 use Rattle.single.specs.Single.{Made, unchanged, operation, Counted, atLeastCall, evaluation}
 use Rattle.commands.specs.Commands.{inRecords}
-use Rattle.verdict.specs.Check.{Outcome, check}
+use Rattle.verdict.specs.Check.{CheckOutcome, check}
 use Rattle.nodes.specs.declared.Node.{Node}
 use Rattle.nodes.specs.Slice.{secondOf}
 
@@ -22,10 +22,10 @@ asNodes (v ∷ vs) (l ∷ ls) [] = []
 asNodes (v ∷ vs) (l ∷ ls) (h ∷ hs) = record { var = v; low = l; high = h } ∷ asNodes vs ls hs
 
 -- "The table has 2 to 65,536 places": 7 where the slice has more, and the arrays stay.
-unfoldable pub checkWithin : ℕ → List ℕ → List ℕ → List ℕ → List ℕ → List ℕ → ℕ → List ℕ → List ℕ → List ℕ → List ℕ → List ℕ → Outcome
+unfoldable pub checkWithin : ℕ → List ℕ → List ℕ → List ℕ → List ℕ → List ℕ → ℕ → List ℕ → List ℕ → List ℕ → List ℕ → List ℕ → CheckOutcome
 checkWithin n vars lows highs heads links count members struck scratch formula proof =
     let first = columnsMade (take n vars) (take n lows) (take n highs) heads links in
-    let seven : Outcome = record {
+    let seven : CheckOutcome = record {
       number = 7;
       inProof = false;
       place = 0;

@@ -15,7 +15,7 @@ use Rattle.meaning.proofs.Booleans.{t≢f, or-neither}
 use Rattle.meaning.proofs.Pointwise.{literals-reduced}
 use Rattle.meaning.proofs.PointwiseSteps.{literals-none}
 use Rattle.meaning.proofs.Ends.{AllReduced, map-reduced}
-use Rattle.order.specs.Choices.{Among, Within, Propagates}
+use Rattle.order.specs.Choices.{Among, Contained, Propagates}
 use Rattle.order.specs.Choices as way
 use Rattle.order.proofs.Members.{among-map, within-map, map-cong, map-map}
 use Rattle.order.proofs.Conflicts.{zero-conflicts, conflicts-within, conflicts-literals}
@@ -61,10 +61,10 @@ idle n u (f ∷ fs) e o = ap₂ _∷_ (literals-none n _ _ 1 f (omega arith) (o 
 -- ---- a conflict that can be reached can be reached after any cofactor by literals
 
 -- Some choice of members comes to a conflict.
-abbrev pub Comes : ℕ → List Diagram → Type 0
-Comes n ms = (rounds : ℕ) × Propagates n ms rounds true
+abbrev pub ComesToConflict : ℕ → List Diagram → Type 0
+ComesToConflict n ms = (rounds : ℕ) × Propagates n ms rounds true
 
-comes-literals : {n : ℕ} {ms : List Diagram} {rounds : ℕ} {b : Bool} → Propagates n ms rounds b → b ≡ true → (P N : ℕ → Bool) → Comes n (map (cofactorLiterals n P N) ms)
+comes-literals : {n : ℕ} {ms : List Diagram} {rounds : ℕ} {b : Bool} → Propagates n ms rounds b → b ≡ true → (P N : ℕ → Bool) → ComesToConflict n (map (cofactorLiterals n P N) ms)
 comes-literals {n} {ms} (way.conflict c) t P N = (0, way.conflict (conflicts-literals n P N ms c))
 comes-literals {n} {ms} (way.round u c i h rest) t P N = go (conflicts n after) refl (hasUnit n n left′) refl (λ P N. comes-literals rest t P N)
   where
@@ -77,24 +77,24 @@ comes-literals {n} {ms} (way.round u c i h rest) t P N = go (conflicts n after) 
     nonzero : conflicts n after ≡ false → left′ ≢ leaf false
     nonzero c z = t≢f (sym (zero-conflicts n after (subst (λ (x : Diagram). Among x after) z (among-map (cofactorLiterals n P N) ms u i))) ∙ c)
 
-    later : conflicts n after ≡ false → ((P N : ℕ → Bool) → Comes n (map (cofactorLiterals n P N) (byUnits n u ms))) → Comes n (byUnits n left′ after)
-    later c ih = subst (Comes n) (both-orders n P N u ms (nonzero c)) (ih (thenTrue P N (λ v. isUnit n left′ v true)) (thenFalse N (λ v. isUnit n left′ v false)))
+    later : conflicts n after ≡ false → ((P N : ℕ → Bool) → ComesToConflict n (map (cofactorLiterals n P N) (byUnits n u ms))) → ComesToConflict n (byUnits n left′ after)
+    later c ih = subst (ComesToConflict n) (both-orders n P N u ms (nonzero c)) (ih (thenTrue P N (λ v. isUnit n left′ v true)) (thenFalse N (λ v. isUnit n left′ v false)))
 
-    go : (x : Bool) → conflicts n after ≡ x → (y : Bool) → hasUnit n n left′ ≡ y → ((P N : ℕ → Bool) → Comes n (map (cofactorLiterals n P N) (byUnits n u ms))) → Comes n after
+    go : (x : Bool) → conflicts n after ≡ x → (y : Bool) → hasUnit n n left′ ≡ y → ((P N : ℕ → Bool) → ComesToConflict n (map (cofactorLiterals n P N) (byUnits n u ms))) → ComesToConflict n after
     go true c y h ih = (0, way.conflict c)
     go false c true h ih = let (k, R) = later c ih in (suc k, way.round left′ c (among-map (cofactorLiterals n P N) ms u i) h R)
-    go false c false h ih = subst (Comes n) (idle n left′ after h (map-reduced n _ ms (literals-reduced n P N))) (later c ih)
+    go false c false h ih = subst (ComesToConflict n) (idle n left′ after h (map-reduced n _ ms (literals-reduced n P N))) (later c ih)
 comes-literals (way.none c h) t P N = t≢f (sym t)
 
 -- ---- the theorem
 
-by-units : (n : ℕ) (u : Diagram) (ms ms′ : List Diagram) → Within ms ms′
-    → Within (map (cofactorLiterals n (λ v. isUnit n u v true) (λ v. isUnit n u v false)) ms) (byUnits n u ms′)
+by-units : (n : ℕ) (u : Diagram) (ms ms′ : List Diagram) → Contained ms ms′
+    → Contained (map (cofactorLiterals n (λ v. isUnit n u v true) (λ v. isUnit n u v false)) ms) (byUnits n u ms′)
 unfolding byUnits
 by-units n u ms ms′ w = within-map _ ms ms′ w
 
 -- A conflict comes by one choice of members: it comes by every choice, in whatever order, and with whatever further members.
-pub conflict-comes : {n : ℕ} {ms ms′ : List Diagram} {rounds rounds′ : ℕ} {b b′ : Bool} → Propagates n ms rounds b → b ≡ true → Within ms ms′ → Propagates n ms′ rounds′ b′ → b′ ≡ true
+pub conflict-comes : {n : ℕ} {ms ms′ : List Diagram} {rounds rounds′ : ℕ} {b b′ : Bool} → Propagates n ms rounds b → b ≡ true → Contained ms ms′ → Propagates n ms′ rounds′ b′ → b′ ≡ true
 conflict-comes R t w (way.conflict c) = refl
 conflict-comes {n} {ms} {ms′} R t w (way.round u c i h rest) = conflict-comes (comes-literals R t _ _ .1) refl (by-units n u ms ms′ w) rest
 conflict-comes {n} {ms} {ms′} R t w (way.none c h) = go R t

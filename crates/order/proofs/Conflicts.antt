@@ -10,7 +10,7 @@ use Rattle.meaning.specs.Rules.{any, conflicts}
 use Rattle.meaning.proofs.Booleans.{or-cases, or-left, or-right}
 use Rattle.meaning.proofs.PointwiseSteps.{literals-leaf}
 use Rattle.meaning.proofs.Units.{same-eq, eq-same}
-use Rattle.order.specs.Choices.{Among, Within}
+use Rattle.order.specs.Choices.{Among, Contained}
 use Rattle.order.proofs.Members.{any-among, among-any, among-map}
 use Rattle.order.proofs.Literals.{literals-negation}
 
@@ -41,7 +41,7 @@ pub zero-conflicts : (n : ℕ) (ms : List Diagram) → Among (leaf false) ms →
 zero-conflicts n ms i = clashes n ms (zero-member i)
 
 -- more members keep a conflict
-pub conflicts-within : (n : ℕ) (ms ms′ : List Diagram) → Within ms ms′ → conflicts n ms ≡ true → conflicts n ms′ ≡ true
+pub conflicts-within : (n : ℕ) (ms ms′ : List Diagram) → Contained ms ms′ → conflicts n ms ≡ true → conflicts n ms′ ≡ true
 conflicts-within n ms ms′ w e = clashes n ms′ (go (clash n ms e))
   where
     go : Clash n ms → Clash n ms′

@@ -7,7 +7,7 @@ use Prim.Native.Nat.{ℕ, zero, suc}
 use lib.ListN.{set}
 use lib.Dec.{eqb}
 use Rattle.verdict.specs.Steps.{unstruck}
-use Rattle.order.specs.Choices.{Among, Within, Reordered}
+use Rattle.order.specs.Choices.{Among, Contained, Reordered}
 use Rattle.order.specs.Choices as orders
 use Rattle.order.specs.Lines.{beside}
 
@@ -57,7 +57,7 @@ module _ {A : Type 0} where
 
   -- ---- a striking less
 
-  pub struck-within : (marks : List ℕ) (k : ℕ) (xs : List A) → Within (unstruck (set marks k 1) xs) (unstruck marks xs)
+  pub struck-within : (marks : List ℕ) (k : ℕ) (xs : List A) → Contained (unstruck (set marks k 1) xs) (unstruck marks xs)
   unfolding unstruck
   struck-within [] k xs x i = i
   struck-within (m ∷ marks) zero [] x i = i

@@ -6,7 +6,7 @@ use mathlib.Core.List.{List, [], _∷_, map}
 use Rattle.meaning.specs.Diagram.{Diagram}
 use Rattle.meaning.specs.Rules.{any}
 use Rattle.meaning.proofs.Booleans.{t≢f, or-cases, or-left, or-right}
-use Rattle.order.specs.Choices.{Among, Within, Reordered}
+use Rattle.order.specs.Choices.{Among, Contained, Reordered}
 use Rattle.order.specs.Choices as orders
 
 -- ---- a test that some member passes
@@ -24,7 +24,7 @@ among-any p [] f i e = absurd i
 among-any p (g ∷ gs) f (inl q) e = or-left (p g) (any p gs) (rw q at e)
 among-any p (g ∷ gs) f (inr i) e = or-right (p g) (any p gs) (among-any p gs f i e)
 
-pub any-within : (p : Diagram → Bool) (ms ms′ : List Diagram) → Within ms ms′ → any p ms ≡ true → any p ms′ ≡ true
+pub any-within : (p : Diagram → Bool) (ms ms′ : List Diagram) → Contained ms ms′ → any p ms ≡ true → any p ms′ ≡ true
 any-within p ms ms′ w e = let (f, i, is) = any-among p ms e in among-any p ms′ f (w f i) is
 
 -- ---- each member changed
@@ -40,7 +40,7 @@ module _ {A B : Type 0} (g : A → B) where
   map-among (y ∷ ys) z (inl q) = (y, inl refl, q)
   map-among (y ∷ ys) z (inr i) = let (x, j, is) = map-among ys z i in (x, inr j, is)
 
-  pub within-map : (xs ys : List A) → Within xs ys → Within (map g xs) (map g ys)
+  pub within-map : (xs ys : List A) → Contained xs ys → Contained (map g xs) (map g ys)
   within-map xs ys w z i = let (x, j, is) = map-among xs z i in subst (λ (k : B). Among k (map g ys)) (sym is) (among-map ys x (w x j))
 
 pub map-cong : {A B : Type 0} (g h : A → B) (xs : List A) → ((x : A) → g x ≡ h x) → map g xs ≡ map h xs
@@ -54,7 +54,7 @@ map-map g h (x ∷ xs) = ap (_∷_ (g (h x))) (map-map g h xs)
 -- ---- another order
 
 module _ {A : Type 0} where
-  pub reordered-within : {xs ys : List A} → Reordered xs ys → Within xs ys
+  pub reordered-within : {xs ys : List A} → Reordered xs ys → Contained xs ys
   reordered-within orders.empty x i = i
   reordered-within (orders.behind y r) x (inl q) = inl q
   reordered-within (orders.behind y r) x (inr i) = inr (reordered-within r x i)

@@ -17,14 +17,15 @@ use Rattle.verdict.specs.Steps.{State, next, entryNode, diagramIn, unstruck, li
 use Rattle.verdict.specs.Steps.{recordStep}
 use Rattle.verdict.specs.Taken.{lineOf}
 use Rattle.verdict.specs.Cases.{GivesAll}
-use Rattle.order.specs.Choices.{Among, Within, Reordered, Propagates}
-use Rattle.order.specs.Lines.{Room, Judged, byRule, SameLine, Accepted, Alike, withMembers, beside}
+use Rattle.order.specs.Choices.{Among, Contained, Reordered, Propagates}
+use Rattle.order.specs.Lines.{RoomFor, ComesToRule, byRule, SameLine, Alike, withMembers, beside}
 use Rattle.order.specs.Examples.{x1, three, threeOtherwise, orderTable}
 use Rattle.order.proofs.Members.{reordered-within, reordered-back}
 use Rattle.order.proofs.UnitProp as UnitProp
 use Rattle.order.proofs.Rules as Rules
 use Rattle.order.proofs.Steps as Steps
 use Rattle.order.proofs.Examples as Examples
+use Rattle.verdict.specs.ClauseTaken.{GoesOn}
 
 -- ---- the rules
 
@@ -44,14 +45,14 @@ pub rup-any-order : (n : ℕ) (ms ms′ : List Diagram) (g : Diagram) → Reorde
 rup-any-order n ms ms′ g r = Rules.rup-same n ms ms′ g (reordered-within r) (reordered-within (reordered-back r))
 
 -- "and that adding live members never turns an accepted line into a refused one"
-pub rup-more : (n : ℕ) (ms ms′ : List Diagram) (g : Diagram) → Within ms ms′ → rup n ms g .shown ≡ true → rup n ms′ g .shown ≡ true
+pub rup-more : (n : ℕ) (ms ms′ : List Diagram) (g : Diagram) → Contained ms ms′ → rup n ms g .shown ≡ true → rup n ms′ g .shown ≡ true
 rup-more = Rules.rup-more
 
 -- "for PR lines only the reordering is promised": it is so, and no more can be.
 pub pr-any-order : (n : ℕ) (P N : ℕ → Bool) (ms ms′ : List Diagram) (g : Diagram) → Reordered ms ms′ → pr n P N ms g .shown ≡ pr n P N ms′ g .shown
 pr-any-order n P N ms ms′ g r = Rules.pr-same n P N ms ms′ g (reordered-within r) (reordered-within (reordered-back r))
 
-pub pr-not-kept : ((ms ms′ : List Diagram) → Within ms ms′ → pr 1 (inWord 1) (inWord 0) ms x1 .shown ≡ true → pr 1 (inWord 1) (inWord 0) ms′ x1 .shown ≡ true) → ⊥
+pub pr-not-kept : ((ms ms′ : List Diagram) → Contained ms ms′ → pr 1 (inWord 1) (inWord 0) ms x1 .shown ≡ true → pr 1 (inWord 1) (inWord 0) ms′ x1 .shown ≡ true) → ⊥
 pr-not-kept = Examples.pr-not-kept
 
 -- "Rounds still follow the lowest place and may differ": with the order, and with the choice.
@@ -68,42 +69,42 @@ other-choice = Examples.other-choice
 
 -- "with enough room whether a conflict comes is the same whichever member with units each round takes": a RUP line that comes to its rule is
 -- accepted where a conflict comes, and refused with 19 where none comes.
-pub step-any-choice : (n s : ℕ) (st : State) (more : Bool) (root : EntryNo) → Judged n st Rup (root .0) → Room n s st Rup (root .0) → (rounds : ℕ) (b : Bool)
+pub step-any-choice : (n s : ℕ) (st : State) (more : Bool) (root : EntryNo) → ComesToRule n st Rup (root .0) → RoomFor n s st Rup (root .0) → (rounds : ℕ) (b : Bool)
     → Propagates n (byDiagram n (negation n (diagramIn st (entryNode st (root .0)))) (liveMembers st)) rounds b
     → recordStep n s st more (ProofLine Rup root) ≡ byRule s st (entryNode st (root .0)) (lineOf n st Rup (entryNode st (root .0))) b
 step-any-choice = Steps.step-any-choice
 
 -- "however members are ordered": with their marks. RUP and PR lines are accepted in one order as in the other, or refused with the same number.
 pub step-any-order : (n s : ℕ) (st : State) (members marks : List ℕ) (more : Bool) (rule : Rule) (root : EntryNo)
-    → Reordered (beside (st .struck) (st .members)) (beside marks members) → Room n s st rule (root .0) → Room n s (withMembers st members marks) rule (root .0)
+    → Reordered (beside (st .struck) (st .members)) (beside marks members) → RoomFor n s st rule (root .0) → RoomFor n s (withMembers st members marks) rule (root .0)
     → Alike (recordStep n s st more (ProofLine rule root)) (recordStep n s (withMembers st members marks) more (ProofLine rule root))
 step-any-order = Steps.step-any-order
 
 -- "adding live members never turns an accepted line into a refused one"
-pub step-more : (n s : ℕ) (st : State) (members marks : List ℕ) (more : Bool) (root : EntryNo) → Within (unstruck (st .struck) (st .members)) (unstruck marks members)
-    → Room n s (withMembers st members marks) Rup (root .0) → Accepted (recordStep n s st more (ProofLine Rup root))
-    → Accepted (recordStep n s (withMembers st members marks) more (ProofLine Rup root))
+pub step-more : (n s : ℕ) (st : State) (members marks : List ℕ) (more : Bool) (root : EntryNo) → Contained (unstruck (st .struck) (st .members)) (unstruck marks members)
+    → RoomFor n s (withMembers st members marks) Rup (root .0) → GoesOn (recordStep n s st more (ProofLine Rup root))
+    → GoesOn (recordStep n s (withMembers st members marks) more (ProofLine Rup root))
 step-more = Steps.step-more
 
 -- So a RUP line that is accepted after a striking is accepted without it.
-pub step-unstruck : (n s : ℕ) (st st₁ : State) (more more′ : Bool) (k : MemberNo) (root : EntryNo) → recordStep n s st more (Strike k) ≡ next st₁ → Room n s st Rup (root .0)
-    → Accepted (recordStep n s st₁ more′ (ProofLine Rup root)) → Accepted (recordStep n s st more′ (ProofLine Rup root))
+pub step-unstruck : (n s : ℕ) (st st₁ : State) (more more′ : Bool) (k : MemberNo) (root : EntryNo) → recordStep n s st more (Strike k) ≡ next st₁ → RoomFor n s st Rup (root .0)
+    → GoesOn (recordStep n s st₁ more′ (ProofLine Rup root)) → GoesOn (recordStep n s st more′ (ProofLine Rup root))
 step-unstruck = Steps.step-unstruck
 
 -- The same of two checks with tables of their own, so that clauses may come in another order, or be more.
 pub lines-alike : (n s s′ : ℕ) (st st′ : State) (more more′ : Bool) (root root′ : EntryNo) → SameLine st (root .0) st′ (root′ .0) → (rule : Rule)
-    → Within (liveMembers st) (liveMembers st′) → Within (liveMembers st′) (liveMembers st)
-    → Judged n st rule (root .0) → Judged n st′ rule (root′ .0) → Room n s st rule (root .0) → Room n s′ st′ rule (root′ .0)
+    → Contained (liveMembers st) (liveMembers st′) → Contained (liveMembers st′) (liveMembers st)
+    → ComesToRule n st rule (root .0) → ComesToRule n st′ rule (root′ .0) → RoomFor n s st rule (root .0) → RoomFor n s′ st′ rule (root′ .0)
     → Alike (recordStep n s st more (ProofLine rule root)) (recordStep n s′ st′ more′ (ProofLine rule root′))
 lines-alike = Steps.lines-alike
 
 pub lines-more : (n s s′ : ℕ) (st st′ : State) (more more′ : Bool) (root root′ : EntryNo) → SameLine st (root .0) st′ (root′ .0)
-    → Within (liveMembers st) (liveMembers st′) → Judged n st′ Rup (root′ .0) → Room n s′ st′ Rup (root′ .0)
-    → Accepted (recordStep n s st more (ProofLine Rup root)) → Accepted (recordStep n s′ st′ more′ (ProofLine Rup root′))
+    → Contained (liveMembers st) (liveMembers st′) → ComesToRule n st′ Rup (root′ .0) → RoomFor n s′ st′ Rup (root′ .0)
+    → GoesOn (recordStep n s st more (ProofLine Rup root)) → GoesOn (recordStep n s′ st′ more′ (ProofLine Rup root′))
 lines-more = Steps.lines-more
 
 -- "with enough room": for every line there is a size of the table from which on it has room.
-pub enough-room : (n : ℕ) (st : State) (rule : Rule) (root : ℕ) → (least : ℕ) × ((s : ℕ) → least ≤ s → Room n s st rule root)
+pub enough-room : (n : ℕ) (st : State) (rule : Rule) (root : ℕ) → (least : ℕ) × ((s : ℕ) → least ≤ s → RoomFor n s st rule root)
 enough-room = Steps.enough-room
 
 -- Formulas and proofs by computation: 2 rounds and 1 with two clauses exchanged; 23 and 0 with them exchanged, without room enough; a PR line

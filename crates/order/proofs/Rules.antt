@@ -9,32 +9,28 @@ use Rattle.meaning.specs.Diagram.{Diagram, leaf, same}
 use Rattle.meaning.specs.Operations.{negation, cofactorLiterals}
 use Rattle.meaning.specs.Rules.{unitProp, byDiagram, rup, afterTurn, prTurns, pr}
 use Rattle.meaning.proofs.Booleans.{t≢f, both-ways, and-both}
-use Rattle.meaning.proofs.Cofactor.{cofactor-reduced}
-use Rattle.meaning.proofs.Ends.{AllReduced, map-reduced}
-use Rattle.order.specs.Choices.{Among, Within, Propagates}
+use Rattle.order.specs.Choices.{Among, Contained, Propagates}
 use Rattle.order.proofs.Members.{within-map}
 use Rattle.order.proofs.UnitProp.{own-way, any-choice, more-members}
-
-by-reduced : (n : ℕ) (g : Diagram) (ms : List Diagram) → AllReduced n (byDiagram n g ms)
-by-reduced n g ms = map-reduced n _ ms (λ f. cofactor-reduced n f g)
+use Rattle.meaning.proofs.Ends.{byDiagram-reduced}
 
 -- ---- RUP
 
 -- UnitProp's own choice is one of the ways.
 pub rup-own-choice : (n : ℕ) (ms : List Diagram) (g : Diagram) → Propagates n (byDiagram n (negation n g) ms) (rup n ms g .rounds) (rup n ms g .shown)
 unfolding rup
-rup-own-choice n ms g = own-way n (byDiagram n (negation n g) ms) (by-reduced n (negation n g) ms)
+rup-own-choice n ms g = own-way n (byDiagram n (negation n g) ms) (byDiagram-reduced n (negation n g) ms)
 
 pub rup-any-choice : (n : ℕ) (ms : List Diagram) (g : Diagram) (rounds : ℕ) (b : Bool) → Propagates n (byDiagram n (negation n g) ms) rounds b → b ≡ rup n ms g .shown
 unfolding rup
-rup-any-choice n ms g rounds b R = any-choice n (byDiagram n (negation n g) ms) rounds b (by-reduced n (negation n g) ms) R
+rup-any-choice n ms g rounds b R = any-choice n (byDiagram n (negation n g) ms) rounds b (byDiagram-reduced n (negation n g) ms) R
 
-pub rup-more : (n : ℕ) (ms ms′ : List Diagram) (g : Diagram) → Within ms ms′ → rup n ms g .shown ≡ true → rup n ms′ g .shown ≡ true
+pub rup-more : (n : ℕ) (ms ms′ : List Diagram) (g : Diagram) → Contained ms ms′ → rup n ms g .shown ≡ true → rup n ms′ g .shown ≡ true
 unfolding rup
 rup-more n ms ms′ g w t =
-    more-members n (byDiagram n (negation n g) ms) (byDiagram n (negation n g) ms′) (by-reduced n (negation n g) ms) (by-reduced n (negation n g) ms′) (within-map _ ms ms′ w) t
+    more-members n (byDiagram n (negation n g) ms) (byDiagram n (negation n g) ms′) (byDiagram-reduced n (negation n g) ms) (byDiagram-reduced n (negation n g) ms′) (within-map _ ms ms′ w) t
 
-pub rup-same : (n : ℕ) (ms ms′ : List Diagram) (g : Diagram) → Within ms ms′ → Within ms′ ms → rup n ms g .shown ≡ rup n ms′ g .shown
+pub rup-same : (n : ℕ) (ms ms′ : List Diagram) (g : Diagram) → Contained ms ms′ → Contained ms′ ms → rup n ms g .shown ≡ rup n ms′ g .shown
 rup-same n ms ms′ g w w′ = both-ways _ _ (rup-more n ms ms′ g w) (rup-more n ms′ ms g w′)
 
 -- ---- PR
@@ -71,16 +67,16 @@ module _ (n : ℕ) (P N : ℕ → Bool) where
       go false s (inl q) ih = t≢f (sym q ∙ s)
       go false s (inr q) ih = rw (q, ih)
 
-  passes-within : (ms ms′ : List Diagram) → Within ms ms′ → (f : Diagram) → Passes ms f → Passes ms′ f
+  passes-within : (ms ms′ : List Diagram) → Contained ms ms′ → (f : Diagram) → Passes ms f → Passes ms′ f
   passes-within ms ms′ w f (inl q) = inl q
-  passes-within ms ms′ w f (inr q) = inr (more-members n (second ms f) (second ms′ f) (by-reduced n _ ms) (by-reduced n _ ms′) (within-map _ ms ms′ w) q)
+  passes-within ms ms′ w f (inr q) = inr (more-members n (second ms f) (second ms′ f) (byDiagram-reduced n _ ms) (byDiagram-reduced n _ ms′) (within-map _ ms ms′ w) q)
 
   -- Each member has its turn, so that both lists are needed: more members help a turn, but they have turns of their own.
-  pr-kept : (ms ms′ : List Diagram) (g : Diagram) → Within ms ms′ → Within ms′ ms → pr n P N ms g .shown ≡ true → pr n P N ms′ g .shown ≡ true
+  pr-kept : (ms ms′ : List Diagram) (g : Diagram) → Contained ms ms′ → Contained ms′ ms → pr n P N ms g .shown ≡ true → pr n P N ms′ g .shown ≡ true
   unfolding pr
   pr-kept ms ms′ g w w′ t =
       pass-turns (byDiagram n (negation n g) ms′) ms′ (λ f i.
       passes-within (byDiagram n (negation n g) ms) (byDiagram n (negation n g) ms′) (within-map _ ms ms′ w) f (turns-pass (byDiagram n (negation n g) ms) ms t f (w′ f i)))
 
-  pub pr-same : (ms ms′ : List Diagram) (g : Diagram) → Within ms ms′ → Within ms′ ms → pr n P N ms g .shown ≡ pr n P N ms′ g .shown
+  pub pr-same : (ms ms′ : List Diagram) (g : Diagram) → Contained ms ms′ → Contained ms′ ms → pr n P N ms g .shown ≡ pr n P N ms′ g .shown
   pr-same ms ms′ g w w′ = both-ways _ _ (pr-kept ms ms′ g w w′) (pr-kept ms′ ms g w′ w)

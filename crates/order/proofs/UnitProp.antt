@@ -13,7 +13,7 @@ use Rattle.meaning.specs.Rules.{conflicts, hasUnit, firstWithUnit, byUnits, Pro
 use Rattle.meaning.proofs.Booleans.{t≢f, both-ways, not-true}
 use Rattle.meaning.proofs.Units.{variableIn}
 use Rattle.meaning.proofs.Ends.{AllReduced, byUnits-reduced, count, inUse, fewer, more-rounds}
-use Rattle.order.specs.Choices.{Among, Within, Propagates}
+use Rattle.order.specs.Choices.{Among, Contained, Propagates}
 use Rattle.order.specs.Choices as way
 use Rattle.order.proofs.Members.{any-within, within-map}
 use Rattle.order.proofs.Conflicts.{conflicts-within}
@@ -21,7 +21,7 @@ use Rattle.order.proofs.AnyChoice.{conflict-comes}
 
 -- ---- every way ends
 
-in-use-same : (n : ℕ) (ms ms′ : List Diagram) → Within ms ms′ → Within ms′ ms → inUse n ms ≡ inUse n ms′
+in-use-same : (n : ℕ) (ms ms′ : List Diagram) → Contained ms ms′ → Contained ms′ ms → inUse n ms ≡ inUse n ms′
 unfolding inUse
 in-use-same n ms ms′ w w′ = λ i. count n (λ v. both-ways _ _ (any-within (variableIn v) ms ms′ w) (any-within (variableIn v) ms′ ms w′) i)
 
@@ -32,7 +32,7 @@ among-reduced n (f ∷ fs) u o (inr i) = among-reduced n fs u (o .1) i
 
 module _ (n : ℕ) (ms : List Diagram) (u : Diagram) (c : conflicts n ms ≡ false) (o : AllReduced n ms) (i : Among u ms) (h : hasUnit n n u ≡ true) where
   -- the member that is taken, put before the others
-  front : Within (u ∷ ms) ms
+  front : Contained (u ∷ ms) ms
   front f (inl q) = subst (λ (x : Diagram). Among x ms) (sym q) i
   front f (inr j) = j
 
@@ -108,5 +108,5 @@ pub any-choice : (n : ℕ) (ms : List Diagram) (rounds : ℕ) (b : Bool) → All
 any-choice n ms rounds b o R = both-ways b (unitProp n ms .conflict) (λ t. conflict-comes R t (λ f i. i) (own-way n ms o)) (λ t. conflict-comes (own-way n ms o) t (λ f i. i) R)
 
 -- Members that are added never take a conflict away.
-pub more-members : (n : ℕ) (ms ms′ : List Diagram) → AllReduced n ms → AllReduced n ms′ → Within ms ms′ → unitProp n ms .conflict ≡ true → unitProp n ms′ .conflict ≡ true
+pub more-members : (n : ℕ) (ms ms′ : List Diagram) → AllReduced n ms → AllReduced n ms′ → Contained ms ms′ → unitProp n ms .conflict ≡ true → unitProp n ms′ .conflict ≡ true
 more-members n ms ms′ o o′ w t = conflict-comes (own-way n ms o) t w (own-way n ms′ o′)

@@ -13,8 +13,8 @@ Among x [] = ⊥
 Among x (y ∷ ys) = (x ≡ y) ⊎ Among x ys
 
 -- Each of the first is one of the second, whatever their order: nothing is taken away, and more may stand there.
-abbrev pub Within : {A : Type 0} → List A → List A → Type 0
-Within {A} xs ys = (x : A) → Among x xs → Among x ys
+abbrev pub Contained : {A : Type 0} → List A → List A → Type 0
+Contained {A} xs ys = (x : A) → Among x xs → Among x ys
 
 -- "however members are ordered": neighbours exchanged, as often as one likes.
 pub data Reordered {A : Type 0} : List A → List A → Type 0 where

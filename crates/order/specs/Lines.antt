@@ -12,11 +12,11 @@ use Rattle.verdict.specs.Steps.{State, Step, next, stop, spent, isEntry, entryN
 use Rattle.verdict.specs.Taken.{lineOf, Witnessed, peakWith}
 
 -- "with enough room": all that the line makes finds a place in a table of s places.
-abbrev pub Room : ℕ → ℕ → State → Rule → ℕ → Type 0
-Room n s st rule root = lineReach s (st .nodes) (lineOf n st rule (entryNode st root)) .fits ≡ true
+abbrev pub RoomFor : ℕ → ℕ → State → Rule → ℕ → Type 0
+RoomFor n s st rule root = lineReach s (st .nodes) (lineOf n st rule (entryNode st root)) .fits ≡ true
 
 -- The line comes to its rule: 13, 16 or 18, 22 and 17 are passed, so that only 19 and 23 are left.
-pub record Judged (n : ℕ) (st : State) (rule : Rule) (root : ℕ) : Type 0 where
+pub record ComesToRule (n : ℕ) (st : State) (rule : Rule) (root : ℕ) : Type 0 where
   pub entry : isEntry st root ≡ true
   pub few : st .lines < 1024
   pub not-one : entryNode st root ≢ 1
@@ -31,12 +31,6 @@ pub record SameLine (st : State) (root : ℕ) (st′ : State) (root′ : ℕ) : 
   pub line : diagramIn st (entryNode st root) ≡ diagramIn st′ (entryNode st′ root′)
   pub positive : st .positive ≡ st′ .positive
   pub negative : st .negative ≡ st′ .negative
-
--- The record is accepted.
-abbrev pub Accepted : Step → Type 0
-Accepted (next st) = Unit {0}
-Accepted (stop number offset) = ⊥
-Accepted (spent number peak) = ⊥
 
 -- Two records are both accepted, or both refused with one number at one place. Rounds and peaks may differ.
 abbrev pub Alike : Step → Step → Type 0

@@ -7,7 +7,7 @@ use native.Mathlib.Numerals.{add-one}
 use lib.ListN.{length, take, drop, set, length-append}
 use lib.Seq.{take-suc-set, drop-set-lt, drop-drop}
 use Rattle.report.specs.declared.Line.{Line}
-use Rattle.report.specs.Line.{decimal, field, lineBytes, Put}
+use Rattle.report.specs.Line.{decimal, fieldText, lineBytes, Put}
 use Rattle.report.proofs.Digits.{decimal-small, decimal-more}
 
 pub put-one : (xs : List ℕ) (at b : ℕ) → at < length xs → Put xs at (b ∷ []) (set xs at b) (at + 1)
@@ -40,11 +40,11 @@ pub put-more : {xs ys zs : List ℕ} {at p n r : ℕ} → 10 ≤ n → Put xs at
 put-more {xs} {ys} {zs} {at} {p} {n} {r} h f g = subst (λ (bs : List ℕ). Put xs at bs zs r) (sym (decimal-more n h)) (put-then f g)
 
 pub put-whole : {xs ws bs cs ds es : List ℕ} {a b c d e : ℕ} (l : Line)
-    → Put xs 0 (field (l .number) 32) ws a
-    → Put ws a (field (l .place) 32) bs b
-    → Put bs b (field (l .lines) 32) cs c
-    → Put cs c (field (l .rounds) 32) ds d
-    → Put ds d (field (l .peak) 10) es e
+    → Put xs 0 (fieldText (l .number) 32) ws a
+    → Put ws a (fieldText (l .place) 32) bs b
+    → Put bs b (fieldText (l .lines) 32) cs c
+    → Put cs c (fieldText (l .rounds) 32) ds d
+    → Put ds d (fieldText (l .peak) 10) es e
     → Put xs 0 (lineBytes l) es e
 unfolding lineBytes
 put-whole l f g h i j = put-then f (put-then g (put-then h (put-then i j)))

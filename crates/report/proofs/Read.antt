@@ -19,10 +19,11 @@ use Rattle.records.specs.Records.{recordAt}
 use Rattle.commands.specs.declared.Mode.{Mode}
 use Rattle.commands.specs.Commands.{inRecords}
 use Rattle.verdict.specs.Check.{verdict}
-use Rattle.verdict.specs.Cases.{bytes, unitsTo, A-formula, A-proof}
+use Rattle.dimacs.specs.Texts.{bytes}
+use Rattle.verdict.specs.Cases.{unitsTo, A-formula, A-proof}
 use Rattle.verdict.specs.Satisfies.{clausesOf, readToEnd, satisfies}
 use Rattle.report.specs.declared.Line.{Line}
-use Rattle.report.specs.Line.{decimalBy, decimal, field, lineBytes, numbersAfter, numbersOf}
+use Rattle.report.specs.Line.{decimalBy, decimal, fieldText, lineBytes, numbersAfter, numbersOf}
 use Rattle.report.specs.Files.{said}
 use Rattle.report.proofs.Digits.{by, decimal-small, decimal-more}
 use Rattle.report.proofs.Saying.{said-refuted}
@@ -55,11 +56,11 @@ parting-read : (n b : ℕ) (xs : List ℕ) → b < 48 → numbersAfter n (b ∷ 
 unfolding numbersAfter
 parting-read n b xs h = rw (lt-leb 48 b h)
 
-field-read : (n b : ℕ) (xs : List ℕ) → b < 48 → numbersAfter 0 (field n b ++ xs) ≡ n ∷ numbersAfter 0 xs
+field-read : (n b : ℕ) (xs : List ℕ) → b < 48 → numbersAfter 0 (fieldText n b ++ xs) ≡ n ∷ numbersAfter 0 xs
 field-read n b xs h =
     ap (numbersAfter 0) (append-assoc (decimal n) (b ∷ []) xs) ∙ number-read (suc n) n (b ∷ xs) (omega arith) ∙ parting-read n b xs h
 
-last-read : (n b : ℕ) → b < 48 → numbersAfter 0 (field n b) ≡ n ∷ []
+last-read : (n b : ℕ) → b < 48 → numbersAfter 0 (fieldText n b) ≡ n ∷ []
 unfolding numbersAfter
 last-read n b h = number-read (suc n) n (b ∷ []) (omega arith) ∙ parting-read n b [] h
 

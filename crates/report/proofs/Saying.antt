@@ -11,7 +11,7 @@ use Rattle.meaning.specs.Diagram.{Assignment}
 use Rattle.table.specs.Columns.{sizeFits, Columns, columnsMade}
 use Rattle.dimacs.specs.Clauses as dimacs
 use Rattle.commands.specs.declared.Mode.{Mode}
-use Rattle.verdict.specs.Check.{verdict, Outcome, lentFits, outcome, check, zeros}
+use Rattle.verdict.specs.Check.{verdict, CheckOutcome, lentFits, outcome, check, zeros}
 use Rattle.verdict.specs.Satisfies.{clausesOf, readToEnd, satisfies}
 use Rattle.verdict.proofs.Refuted.{refuted}
 use Rattle.report.specs.declared.Line.{Line}
@@ -20,7 +20,7 @@ use Rattle.report.proofs.Digits.{by}
 
 -- ---- the call with lists of zeros
 
-abbrev pub lineOf : Outcome → Line
+abbrev pub lineOf : CheckOutcome → Line
 lineOf o = record { number = o .number; place = o .place; lines = o .lines; rounds = o .rounds; peak = o .peak }
 
 abbrev lists : Columns

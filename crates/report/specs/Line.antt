@@ -1,11 +1,12 @@
 -- The program's one line as bytes, and how such bytes are read back. (01, The program and its line)
 use mathlib.Core.Path.{_≡_}
-use mathlib.Core.Bool.{Bool, cond, _&&_}
+use mathlib.Core.Bool.{cond}
 use mathlib.Core.List.{List, [], _∷_, _++_}
 use Prim.Native.Nat.{ℕ, zero, suc, _+_, _-_, _*_, _/_, _%_}
 use lib.ListN.{length, take, drop}
-use lib.Dec.{ltb, leb}
+use lib.Dec.{ltb}
 use Rattle.report.specs.declared.Line.{Line}
+use Rattle.dimacs.specs.Numbers.{isDigit}
 
 -- The decimal digits of n in ASCII, the greatest first; `steps` bounds how many.
 unfoldable pub decimalBy : ℕ → ℕ → List ℕ
@@ -19,13 +20,13 @@ abbrev pub decimal : ℕ → List ℕ
 decimal n = decimalBy (suc n) n
 
 -- A number and the byte that parts it from what follows.
-abbrev pub field : ℕ → ℕ → List ℕ
-field n parting = decimal n ++ parting ∷ []
+abbrev pub fieldText : ℕ → ℕ → List ℕ
+fieldText n parting = decimal n ++ parting ∷ []
 
 -- "prints one line: number, place, accepted lines, rounds", and the peak "as a fifth field" (02, 2/14): parted by a space each, LF
 -- at the end.
 unfoldable pub lineBytes : Line → List ℕ
-lineBytes l = field (l .number) 32 ++ (field (l .place) 32 ++ (field (l .lines) 32 ++ (field (l .rounds) 32 ++ field (l .peak) 10)))
+lineBytes l = fieldText (l .number) 32 ++ (fieldText (l .place) 32 ++ (fieldText (l .lines) 32 ++ (fieldText (l .rounds) 32 ++ fieldText (l .peak) 10)))
 
 -- The bytes put into a line at a place: what stood before and behind them stays, and `next` is the place after them.
 pub record Put (before : List ℕ) (at : ℕ) (bytes after : List ℕ) (next : ℕ) : Type 0 where
@@ -34,9 +35,6 @@ pub record Put (before : List ℕ) (at : ℕ) (bytes after : List ℕ) (next : �
   pub rest : drop next after ≡ drop next before
 
 -- ---- reading back
-
-abbrev pub isDigit : ℕ → Bool
-isDigit b = leb 48 b && leb b 57
 
 -- The numbers of a text of digits in which each number is closed by one other byte; n is what was read of the first of them.
 unfoldable pub numbersAfter : ℕ → List ℕ → List ℕ

@@ -5,7 +5,7 @@ ghost use mathlib.Core.List.{[], _∷_};
 ghost use Prim.Native.Nat.{_+_, _<_, _≤_};
 ghost use lib.ListN.{length, take, drop};
 ghost use Rattle.io.specs.Counts.{Counts};
-ghost use Rattle.report.specs.Line.{decimal, field, lineBytes, Put};
+ghost use Rattle.report.specs.Line.{decimal, fieldText, lineBytes, Put};
 
 fn put_byte(b: u8, line: &mut [u8], at: usize) -> usize
     requires { ⌜ at < length (now line) ⌝ }
@@ -30,7 +30,7 @@ fn put_number(n: u64, line: &mut [u8], at: usize) -> usize
 // A number's decimal digits and the byte that parts it from what follows.
 fn put_field(n: u64, parting: u8, line: &mut [u8], at: usize) -> usize
     requires { ⌜ at + 21 ≤ length (now line) ⌝ }
-    ensures { λ r. ⌜ Put (now (line .entry)) at (field n parting) (now (line .exit)) r ⌝ }
+    ensures { λ r. ⌜ Put (now (line .entry)) at (fieldText n parting) (now (line .exit)) r ⌝ }
     ensures { λ r. ⌜ r ≤ at + 21 ⌝ }
 {
     let next = put_number(n, line, at);

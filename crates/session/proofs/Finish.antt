@@ -25,7 +25,7 @@ use Rattle.commands.specs.declared.Mode.{Mode}
 use Rattle.words.specs.Sets.{noLiterals}
 use Rattle.verdict.specs.Steps as check
 use Rattle.verdict.specs.Steps.{emptied, begun}
-use Rattle.verdict.specs.Check.{zeros, Verdict, left, proofFrom, refusedFormula, clauses, verdict, Outcome, lentFits, outcome}
+use Rattle.verdict.specs.Check.{zeros, Verdict, left, proofFrom, refusedFormula, clauses, verdict, CheckOutcome, lentFits, outcome}
 use Rattle.steps.specs.declared.State.{State}
 use Rattle.steps.specs.States.{Lent, tableIn, stateOf, Held}
 use Rattle.session.specs.declared.Checked.{Checked}
@@ -49,7 +49,7 @@ unfolding outcome
 outcome-is s m c number inProof place lines rounds count peak d ms ss t ks ps e f g h =
     ap₂ (λ (k : ℕ) (d : Columns). made k d ms ss) e f ∙ ap₂ (made (length t) (storedAs s t)) g h
   where
-    made : ℕ → Columns → List ℕ → List ℕ → Outcome
+    made : ℕ → Columns → List ℕ → List ℕ → CheckOutcome
     made k d xs ys = record {
       number = number;
       inProof = inProof;

@@ -7,7 +7,7 @@ use lib.ListN.{length}
 use lib.Dec.{eqb, leb}
 use Rattle.table.specs.Columns.{sizeFits, Columns}
 use Rattle.commands.specs.declared.Mode.{Mode}
-use Rattle.verdict.specs.Check.{verdict, Outcome, lentFits, outcome, check}
+use Rattle.verdict.specs.Check.{verdict, CheckOutcome, lentFits, outcome, check}
 use Rattle.session.specs.Checked.{checkOutcome}
 use Rattle.session.proofs.Finish.{answer}
 
@@ -29,7 +29,7 @@ module _ (c : Columns) (members struck scratch : List ℕ) where
     unfolding check
     called-7 e = rw e
 
-    pub called-done : lentFits c members struck scratch ≡ true → (o : Outcome)
+    pub called-done : lentFits c members struck scratch ≡ true → (o : CheckOutcome)
         → o ≡ outcome (length (c .vars)) (length members) (length scratch) (verdict mode (length (c .vars)) formula proof) → o ≡ check mode c count members struck scratch formula proof
     unfolding check
     called-done e o done = done ∙ rw e

@@ -2,10 +2,10 @@
 use mathlib.Core.List.{List}
 use Prim.Native.Nat.{ℕ}
 use Rattle.table.specs.Columns.{Columns}
-use Rattle.verdict.specs.Check.{Outcome}
+use Rattle.verdict.specs.Check.{CheckOutcome}
 use Rattle.session.specs.declared.Checked.{Checked}
 
-abbrev pub checkOutcome : Columns → List ℕ → List ℕ → List ℕ → Checked → Outcome
+abbrev pub checkOutcome : Columns → List ℕ → List ℕ → List ℕ → Checked → CheckOutcome
 checkOutcome columns members struck scratch r = record {
   number = r .number;
   inProof = r .«in_proof»;

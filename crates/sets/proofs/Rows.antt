@@ -18,6 +18,7 @@ use Rattle.meaning.specs.Sets.{atLeast}
 use Rattle.sets.specs.Variables.{lower, nth, Deep, Members}
 use Rattle.sets.specs.Building.{lastOf, Row, FirstRow}
 use Rattle.sets.proofs.Lower.{nth-zero, nth-suc, nth-falls, last-none, last-reduced, last-step, last-beyond, last-whole}
+use Rattle.table.proofs.Index.{zeros-at}
 
 abbrev outOf : Table → ℕ → Outcome
 outOf T n = record { table = T; full = false; node = n }
@@ -293,11 +294,6 @@ too-many-wanted T G w m k M lt =
     sym (there T G 0 (omega (arith, G .least))) ∙ ap (placeIn T) (diagramAt-zero (nodesOf T) ∙ sym (last-beyond w m k (M .there) lt) ∙ last-whole w m k M)
 
 -- ---- the row at first
-
-zeros-at : (m k : ℕ) → _≡_ {A = ℕ} (getD (replicate m 0) k 0) 0
-zeros-at zero k = refl
-zeros-at (suc m) zero = refl
-zeros-at (suc m) (suc k) = zeros-at m k
 
 pub first-row : (n k : ℕ) → k ≤ n → FirstRow k (1 ∷ replicate n 0)
 first-row n k le = record { room = omega (arith, length-replicate {A = ℕ} n 0); one = refl; zeros = zeros }

@@ -62,7 +62,7 @@ last-less f b j = elim (ℕ-discrete (lastIn f b j) 0) [ yes q ↦ omega arith |
 
 -- ---- heads and links
 
-zeros-at : (m k : ℕ) → _≡_ {A = ℕ} (getD (replicate m 0) k 0) 0
+pub zeros-at : (m k : ℕ) → _≡_ {A = ℕ} (getD (replicate m 0) k 0) 0
 zeros-at zero k = refl
 zeros-at (suc m) zero = refl
 zeros-at (suc m) (suc k) = zeros-at m k

@@ -65,34 +65,34 @@ placed-then s t (D ∷ Ds) Es t′ e = go (place s t D) (λ t₁ q. placed-then 
 
 -- ---- no node is lost
 
-nodesIn : Placing → List Node
-nodesIn (full t) = t
-nodesIn (placed t k) = t
+abbrev pub nodesAfter : Placing → List Node
+nodesAfter (full t) = t
+nodesAfter (placed t k) = t
 
-put-more : (s : ℕ) (t : List Node) (v l h : ℕ) → length t ≤ length (nodesIn (put s t v l h))
-unfolding put orAppend nodesIn
+put-more : (s : ℕ) (t : List Node) (v l h : ℕ) → length t ≤ length (nodesAfter (put s t v l h))
+unfolding put orAppend
 put-more s t v l h = go (eqb l h) (find t (nodeOf v l h)) (ltb (length t) s)
   where
     x : Node
     x = nodeOf v l h
 
-    go : (b : Bool) (o : Option ℕ) (c : Bool) → length t ≤ length (nodesIn (cond b (placed t l) (orAppend s t x o)))
+    go : (b : Bool) (o : Option ℕ) (c : Bool) → length t ≤ length (nodesAfter (cond b (placed t l) (orAppend s t x o)))
     go true o c = omega arith
     go false (some k) c = omega arith
     go false none c = appended (ltb (length t) s)
       where
-        appended : (c : Bool) → length t ≤ length (nodesIn (cond c (placed (t ++ x ∷ []) (length t)) (full t)))
+        appended : (c : Bool) → length t ≤ length (nodesAfter (cond c (placed (t ++ x ∷ []) (length t)) (full t)))
         appended true = rw length-append (omega arith)
         appended false = omega arith
 
-then-more : (m : ℕ) (p : Placing) (next : List Node → ℕ → Placing) → m ≤ length (nodesIn p) → ((t : List Node) (k : ℕ) → length t ≤ length (nodesIn (next t k)))
-    → m ≤ length (nodesIn (andThen p next))
-unfolding andThen nodesIn
+then-more : (m : ℕ) (p : Placing) (next : List Node → ℕ → Placing) → m ≤ length (nodesAfter p) → ((t : List Node) (k : ℕ) → length t ≤ length (nodesAfter (next t k)))
+    → m ≤ length (nodesAfter (andThen p next))
+unfolding andThen nodesAfter
 then-more m (full t) next h more = h
 then-more m (placed t k) next h more = omega (arith, more t k)
 
-place-more : (s : ℕ) (t : List Node) (D : Diagram) → length t ≤ length (nodesIn (place s t D))
-unfolding place nodesIn
+place-more : (s : ℕ) (t : List Node) (D : Diagram) → length t ≤ length (nodesAfter (place s t D))
+unfolding place nodesAfter
 place-more s t (leaf false) = omega arith
 place-more s t (leaf true) = omega arith
 place-more s t (node v l h) =
@@ -100,11 +100,11 @@ place-more s t (node v l h) =
 
 -- LAW: the count after placing is the greatest that there was.
 pub count-greatest : (s : ℕ) (t : List Node) (Ds : List Diagram) → length t ≤ reached (placedAll s t Ds) .peak
-unfolding placedAll nodesIn
+unfolding placedAll nodesAfter
 count-greatest s t [] = omega arith
 count-greatest s t (D ∷ Ds) = go (place s t D) (place-more s t D) (λ t₁. count-greatest s t₁ Ds)
   where
-    go : (p : Placing) → length t ≤ length (nodesIn p) → ((t₁ : List Node) → length t₁ ≤ reached (placedAll s t₁ Ds) .peak)
+    go : (p : Placing) → length t ≤ length (nodesAfter p) → ((t₁ : List Node) → length t₁ ≤ reached (placedAll s t₁ Ds) .peak)
         → length t ≤ reached (afterPlacing p (λ t₁. placedAll s t₁ Ds)) .peak
     go (full t₁) h more = h
     go (placed t₁ k) h more = omega (arith, more t₁)

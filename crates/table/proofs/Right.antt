@@ -17,7 +17,7 @@ use Rattle.table.proofs.Order.{both-true, all-blank, Fits, fits-true, t
 use Rattle.table.proofs.Written.{length-rows}
 use Rattle.table.proofs.Index.{bucket-less, lastIn, last-is, last-here, last-before, last-none, Last}
 use Rattle.table.specs.Index.{bucket, bucketAt, highest, headsOf, linksOf, sameNumbers, goodOrder}
-use Rattle.table.specs.Tested.{Lent, placesOf, chainAt, Comes, Empty, NodesFit, HeadsFit, AllReached}
+use Rattle.table.specs.Tested.{LentSizes, placesOf, chainAt, Comes, Empty, NodesFit, HeadsFit, AllReached}
 use Rattle.table.proofs.Paths.{Tested, right-reaches, head-last, link-last, none-alike}
 use Rattle.table.proofs.Literal.{same-true, true-same, highest-few, highest-last, length-listed, listed-at}
 
@@ -42,7 +42,7 @@ pub record Right (T : Table) : Type 0 where
   pub first : Empty (T .links) 0 2
   pub past : Empty (T .links) (T .count) (size T)
 
-module _ (T : Table) (E : Lent T) where
+module _ (T : Table) (E : LentSizes T) where
   abbrev places : List Node
   places = placesOf T
 

@@ -19,7 +19,7 @@ use Rattle.table.proofs.Written.{length-rows}
 use Rattle.table.proofs.Chain.{rows-at}
 use Rattle.table.proofs.Sizes.{Sized, sized}
 use Rattle.table.specs.Index.{bucket, goodOrder}
-use Rattle.table.specs.Tested.{Decides, Lent, placesOf, chainAt, OfChain, NodeFits, here, next, Comes, Reached, Empty, NodesFit, HeadsFit, AllReached, Walkable}
+use Rattle.table.specs.Tested.{Decides, LentSizes, placesOf, chainAt, OfChain, NodeFits, here, next, Comes, InChain, Empty, NodesFit, HeadsFit, AllReached, Walkable}
 use Rattle.table.proofs.Paths.{reach-least}
 use Rattle.table.proofs.Right.{right-claim, refused, all-pass, passed}
 
@@ -39,10 +39,10 @@ head-more Q k before q j b = elim (ℕ-discrete j k) [ yes e ↦ subst Q (sym e)
 -- the walk to place k has come to place j
 pub record Walking (T : Table) (k j : ℕ) : Type 0 where
   pub below : j < T .count
-  pub on : Comes T k j → Reached T k
-  pub back : Reached T k → Comes T k j
+  pub on : Comes T k j → InChain T k
+  pub back : InChain T k → Comes T k j
 
-module _ (T : Table) (E : Lent T) where
+module _ (T : Table) (E : LentSizes T) where
   abbrev read : ℕ → Node
   read k = nodeOf (getD (T .vars) k 0) (getD (T .lows) k 0) (getD (T .highs) k 0)
 
@@ -100,10 +100,10 @@ module _ (T : Table) (E : Lent T) where
       back = λ r. onward j lt (S .back r) .1;
     }
 
-    pub walk-hit : (j : ℕ) → k < j → Walking T k j → alike (read j) (read k) ≡ true → Reached T k → ⊥
+    pub walk-hit : (j : ℕ) → k < j → Walking T k j → alike (read j) (read k) ≡ true → InChain T k → ⊥
     walk-hit j lt S hit r = onward j lt (S .back r) .0 (same-read j (alike-true (read j) (read k) hit))
 
-    pub walk-end : (j : ℕ) → j ≤ k → Walking T k j → Decides (eqb j k) (Reached T k)
+    pub walk-end : (j : ℕ) → j ≤ k → Walking T k j → Decides (eqb j k) (InChain T k)
     walk-end j le S = record {
       yes = λ e. S .on (subst (Comes T k) (sym (eqb-true j k e)) here);
       no = λ e r. eqb-false j k e (let p : k ≤ j = reach-least _ _ k j (S .back r) in omega arith);
@@ -111,7 +111,7 @@ module _ (T : Table) (E : Lent T) where
 
 -- ---- the whole
 
-pub lent : (vs ls hs ds ks : List ℕ) (count : ℕ) → sizeFits vs ls hs ds ks ≡ true → 2 ≤ count → count ≤ length vs → Lent (tableOf vs ls hs ds ks count)
+pub lent : (vs ls hs ds ks : List ℕ) (count : ℕ) → sizeFits vs ls hs ds ks ≡ true → 2 ≤ count → count ≤ length vs → LentSizes (tableOf vs ls hs ds ks count)
 lent vs ls hs ds ks count e two le =
     let S : Sized vs ls hs ds ks = sized vs ls hs ds ks e in
     record { least = two; within = le; most = S .most; lows = S .lows; highs = S .highs; links = S .links; heads = S .heads }
@@ -120,7 +120,7 @@ pub no-order : (places : List Node) (count : ℕ) (ds ks : List ℕ) → goodPla
 unfolding goodOrder
 no-order places count ds ks e = rw e
 
-pub decided : (T : Table) (E : Lent T) → allBlank (take 2 (placesOf T)) ≡ true → allBlank (take (size T - T .count) (drop (T .count) (placesOf T))) ≡ true
+pub decided : (T : Table) (E : LentSizes T) → allBlank (take 2 (placesOf T)) ≡ true → allBlank (take (size T - T .count) (drop (T .count) (placesOf T))) ≡ true
     → Empty (T .links) 0 2 → Empty (T .links) (T .count) (length (T .links)) → NodesFit T (T .count) → HeadsFit T (length (T .heads))
     → (r : Bool) → Decides r (AllReached T (T .count)) → r ≡ goodOrder (placesOf T) (T .count) (T .heads) (T .links)
 decided T E zeros rest first past N H true D =

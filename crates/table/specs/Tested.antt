@@ -15,7 +15,7 @@ pub record Decides (r : Bool) (P : Type 0) : Type 0 where
   pub no : r ≡ false → P → ⊥
 
 -- The lengths that a lent table must have, and a count within them.
-pub record Lent (T : Table) : Type 0 where
+pub record LentSizes (T : Table) : Type 0 where
   pub least : 2 ≤ T .count
   pub within : T .count ≤ size T
   pub most : size T ≤ 65536
@@ -47,8 +47,8 @@ pub data Reaches (l : ℕ → ℕ) (passes : ℕ → Type 0) (k : ℕ) : ℕ →
 abbrev pub Comes : Table → ℕ → ℕ → Type 0
 Comes T k j = Reaches (λ i. getD (T .links) i 0) (λ i. at (placesOf T) i ≡ at (placesOf T) k → ⊥) k j
 
-abbrev pub Reached : Table → ℕ → Type 0
-Reached T k = Comes T k (getD (T .heads) (chainAt T k) 0)
+abbrev pub InChain : Table → ℕ → Type 0
+InChain T k = Comes T k (getD (T .heads) (chainAt T k) 0)
 
 -- ---- of all places
 
@@ -62,7 +62,7 @@ abbrev pub HeadsFit : Table → ℕ → Type 0
 HeadsFit T m = (b : ℕ) → b < m → OfChain T (T .count) b (getD (T .heads) b 0)
 
 abbrev pub AllReached : Table → ℕ → Type 0
-AllReached T m = (k : ℕ) → 2 ≤ k → k < m → Reached T k
+AllReached T m = (k : ℕ) → 2 ≤ k → k < m → InChain T k
 
 -- What a chain's links and heads must be for a walk to stay among the nodes.
 pub record Walkable (T : Table) : Type 0 where

@@ -7,7 +7,7 @@ ghost use Rattle.table.specs.Nodes.{at, above, allBlank, fits};
 ghost use Rattle.table.specs.Index.{goodOrder};
 ghost use Rattle.table.specs.Columns.{rows, sizeFits};
 ghost use Rattle.table.specs.Indexed.{tableOf};
-ghost use Rattle.table.specs.Tested.{Decides, Lent, OfChain, NodeFits, Reached, Empty, NodesFit, HeadsFit, AllReached, Walkable};
+ghost use Rattle.table.specs.Tested.{Decides, LentSizes, OfChain, NodeFits, InChain, Empty, NodesFit, HeadsFit, AllReached, Walkable};
 
 // The most places of a table: a node's number has 16 bits.
 pub const MOST: usize = 65536;
@@ -121,7 +121,7 @@ fn of_chain(
     b: usize,
     j: u16,
 ) -> bool
-    requires { ⌜ Lent (tableOf (now vars) (now lows) (now highs) (now heads) (now links) count) × (top ≤ count) ⌝ }
+    requires { ⌜ LentSizes (tableOf (now vars) (now lows) (now highs) (now heads) (now links) count) × (top ≤ count) ⌝ }
     ensures { λ r. ⌜ (
         let lent = tableOf (now (vars .entry)) (now (lows .entry)) (now (highs .entry)) (now (heads .entry)) (now (links .entry)) count in
         Decides r (OfChain lent top b j)) ⌝ }
@@ -150,7 +150,7 @@ fn node_fits(
     count: usize,
     k: usize,
 ) -> bool
-    requires { ⌜ Lent (tableOf (now vars) (now lows) (now highs) (now heads) (now links) count) × (k < count) ⌝ }
+    requires { ⌜ LentSizes (tableOf (now vars) (now lows) (now highs) (now heads) (now links) count) × (k < count) ⌝ }
     ensures { λ r. ⌜ (
         let lent = tableOf (now (vars .entry)) (now (lows .entry)) (now (highs .entry)) (now (heads .entry)) (now (links .entry)) count in
         Decides r (NodeFits lent k)) ⌝ }
@@ -171,7 +171,7 @@ fn nodes_fit(
     links: &[u16],
     count: usize,
 ) -> bool
-    requires { ⌜ Lent (tableOf (now vars) (now lows) (now highs) (now heads) (now links) count) ⌝ }
+    requires { ⌜ LentSizes (tableOf (now vars) (now lows) (now highs) (now heads) (now links) count) ⌝ }
     ensures { λ r. ⌜ (
         let lent = tableOf (now (vars .entry)) (now (lows .entry)) (now (highs .entry)) (now (heads .entry)) (now (links .entry)) count in
         Decides r (NodesFit lent count)) ⌝ }
@@ -195,7 +195,7 @@ fn heads_fit(
     links: &[u16],
     count: usize,
 ) -> bool
-    requires { ⌜ Lent (tableOf (now vars) (now lows) (now highs) (now heads) (now links) count) ⌝ }
+    requires { ⌜ LentSizes (tableOf (now vars) (now lows) (now highs) (now heads) (now links) count) ⌝ }
     ensures { λ r. ⌜ (
         let lent = tableOf (now (vars .entry)) (now (lows .entry)) (now (highs .entry)) (now (heads .entry)) (now (links .entry)) count in
         Decides r (HeadsFit lent (length (now (heads .entry))))) ⌝ }
@@ -220,11 +220,11 @@ fn reached(
     count: usize,
     k: usize,
 ) -> bool
-    requires { ⌜ Lent (tableOf (now vars) (now lows) (now highs) (now heads) (now links) count) × (2 ≤ k) × (k < count) ⌝ }
+    requires { ⌜ LentSizes (tableOf (now vars) (now lows) (now highs) (now heads) (now links) count) × (2 ≤ k) × (k < count) ⌝ }
     requires { ⌜ Walkable (tableOf (now vars) (now lows) (now highs) (now heads) (now links) count) ⌝ }
     ensures { λ r. ⌜ (
         let lent = tableOf (now (vars .entry)) (now (lows .entry)) (now (highs .entry)) (now (heads .entry)) (now (links .entry)) count in
-        Decides r (Reached lent k)) ⌝ }
+        Decides r (InChain lent k)) ⌝ }
 {
     let v = vars[k];
     let l = lows[k];
@@ -249,7 +249,7 @@ fn all_reached(
     links: &[u16],
     count: usize,
 ) -> bool
-    requires { ⌜ Lent (tableOf (now vars) (now lows) (now highs) (now heads) (now links) count) ⌝ }
+    requires { ⌜ LentSizes (tableOf (now vars) (now lows) (now highs) (now heads) (now links) count) ⌝ }
     requires { ⌜ Walkable (tableOf (now vars) (now lows) (now highs) (now heads) (now links) count) ⌝ }
     ensures { λ r. ⌜ (
         let lent = tableOf (now (vars .entry)) (now (lows .entry)) (now (highs .entry)) (now (heads .entry)) (now (links .entry)) count in

@@ -11,7 +11,6 @@ use Rattle.meaning.specs.Operations.{Literal, clause}
 use Rattle.meaning.proofs.Booleans.{t≢f}
 use Rattle.meaning.proofs.Units.{same-eq, eq-same}
 use Rattle.meaning.proofs.Pointwise.{clause-reduced}
-use Rattle.meaning.proofs.Clauses as clauses
 use Rattle.words.specs.declared.Literals.{Literals}
 use Rattle.words.specs.Sets.{shares, literalsOf}
 use Rattle.table.specs.Nodes.{Node, diagramAt, Placing, full, placed, place}
@@ -32,7 +31,7 @@ use Rattle.judge.specs.Lines.{Negatable}
 use Rattle.verdict.specs.Steps as check
 use Rattle.verdict.specs.Steps.{withEntry, next, stop, spent}
 use Rattle.verdict.specs.Clausal.{tries, judgedOr, secondTry, onceMade, addStep}
-use Rattle.verdict.proofs.Uses.{UsesAfter, place-uses}
+use Rattle.verdict.proofs.Uses.{place-uses, uses-written}
 use Rattle.steps.specs.declared.State.{State}
 use Rattle.steps.specs.declared.Step.{Step}
 use Rattle.steps.specs.declared.Step.the-variants.{Next, Stop, Spent}
@@ -41,13 +40,9 @@ use Rattle.steps.specs.Tried.{acceptedBy, saidBy, stepBy, membersBy}
 use Rattle.steps.proofs.Stops.{stopped}
 use Rattle.steps.proofs.Entering.{lentWith}
 use Rattle.steps.proofs.Lines.{accepted-says, accepted-held}
-use Rattle.tries.specs.Within.{Within}
+use Rattle.meaning.specs.Literals.{OfVariables}
 use Rattle.tries.specs.Tries.{liveIn, withNodes, BothTried, no-room, once, twice, keptBy}
 use Rattle.tries.proofs.Trying.{tries-said, both-most}
-
-pub within-is : (n : ℕ) (ls : List Literal) → Within n ls → clauses.Within n ls
-within-is n [] w = tt
-within-is n (l ∷ ls) w = (w .0, w .1, within-is n ls (w .2))
 
 -- ---- placings
 
@@ -55,11 +50,6 @@ full-zero : (s : ℕ) (p : Placing) → written s p .full ≡ true → written s
 unfolding written
 full-zero s (full t) e = refl
 full-zero s (placed t k) e = t≢f (sym e)
-
-uses-written : (n s : ℕ) (p : Placing) → UsesAfter n p → UsesTo n (nodesOf (written s p .table))
-unfolding written
-uses-written n s (full t) u = subst (UsesTo n) (sym (nodes-indexed s t)) u
-uses-written n s (placed t k) u = subst (UsesTo n) (sym (nodes-indexed s t)) u
 
 -- ---- the clause made
 
@@ -118,7 +108,7 @@ unfolding tries judgedOr secondTry check.judged
 tries-entries n s st es k [] = refl
 tries-entries n s st es k (p ∷ ls) = refl
 
-module _ (n : ℕ) (L : Lent) (st : State) (H : Held n L st) (ls : List Literal) (within : Within n ls) where
+module _ (n : ℕ) (L : Lent) (st : State) (H : Held n L st) (ls : List Literal) (within : OfVariables n ls) where
   abbrev T₀ : Table
   T₀ = tableIn L (st .count)
 
@@ -131,11 +121,8 @@ module _ (n : ℕ) (L : Lent) (st : State) (H : Held n L st) (ls : List Literal)
   abbrev said : check.Step
   said = addStep n (size T₀) S ls
 
-  w : clauses.Within n ls
-  w = within-is n ls within
-
   words-is : clauseOfWords u ≡ clause n ls
-  words-is = clause-of-words n (H .entries .narrow) ls w
+  words-is = clause-of-words n (H .entries .narrow) ls within
 
   is-22 : 1024 ≤ st .lines → said ≡ stop 22 0
   unfolding addStep
@@ -240,7 +227,7 @@ module _ (n : ℕ) (L : Lent) (st : State) (H : Held n L st) (ls : List Literal)
           ∙ ap (λ (x : ℕ). tries n (size T₀) (stateWith t (max (st .peak) (length t))) x ls) (sym number)
           ∙ ap₂ (λ (x : List Node) (c : ℕ). tries n (size T₀) (stateWith x (max (st .peak) c)) k ls) (sym table) (sym count)
           ∙ ap (λ (s : ℕ). tries n s S₁ k ls) (sym (W .same-size))
-          ∙ tries-said n L₁ st₁ held k (W .inside) (node-not-one T₀ (H .entries .good) u T₁ p e apart) ls w (W .is room ∙ words-is) p refl room j B
+          ∙ tries-said n L₁ st₁ held k (W .inside) (node-not-one T₀ (H .entries .good) u T₁ p e apart) ls within (W .is room ∙ words-is) p refl room j B
 
       -- and where it finds none
       full-said : (t : List Node) → o ≡ written (size T₀) (full t) → spent 23 (max (st .peak) (length t)) ≡ saidBy S₁ k j
@@ -339,7 +326,7 @@ keep-fits j a b keep e two le = rw e (go (j .full) (j .shown))
     go false false = (two, le)
     go false true = (omega arith, omega arith)
 
-module _ (n : ℕ) (L : Lent) (st : State) (H : Held n L st) (ls : List Literal) (within : Within n ls) (c : TextClause) (is : clauseWords ls ≡ c) where
+module _ (n : ℕ) (L : Lent) (st : State) (H : Held n L st) (ls : List Literal) (within : OfVariables n ls) (c : TextClause) (is : clauseWords ls ≡ c) where
   pub code-17 : st .lines < 1024 → shares 64 (c .literals .positive) (c .literals .negative) ≡ true → Stepped n L L st (addStep n (size (tableIn L (st .count))) (stateOf L st) ls) (Stop 17 0)
   code-17 few e = clause-17 n L st H ls within few (subst (λ (x : TextClause). shares 64 (x .literals .positive) (x .literals .negative) ≡ true) (sym is) e)
 

@@ -21,7 +21,7 @@ use Rattle.steps.specs.declared.Step.the-variants.{Stop}
 use Rattle.steps.specs.States.{Lent, stateOf, Stepped}
 use Rattle.steps.proofs.Stops.{stopped}
 use Rattle.tries.specs.Tries.{PivotFits}
-use Rattle.tries.specs.Within.{Within}
+use Rattle.meaning.specs.Literals.{OfVariables}
 use Rattle.tries.specs.Commands.{CommandFits, PivotOfFits}
 
 -- ---- the code's command tells the definition's
@@ -49,7 +49,7 @@ module _ (n s : ℕ) (l l′ : Lent) (st : State) (r : Step) where
   says-recorded rec more W (wrong number offset) e fits = differs (Wrong number offset) (Recorded rec more) e (λ z. omega arith)
   says-recorded rec more W finished e fits = differs Finished (Recorded rec more) e (λ z. omega arith)
 
-  pub says-added : (clause : TextClause) → ((ls : List meaning.Literal) → Within n ls → clauseWords ls ≡ clause → Stepped n l l′ st (addStep n s (stateOf l st) ls) r)
+  pub says-added : (clause : TextClause) → ((ls : List meaning.Literal) → OfVariables n ls → clauseWords ls ≡ clause → Stepped n l l′ st (addStep n s (stateOf l st) ls) r)
       → Says (Added clause)
   unfolding step
   says-added clause W (recorded rec more) e fits = differs (Recorded rec more) (Added clause) e (λ z. omega arith)
@@ -58,7 +58,7 @@ module _ (n s : ℕ) (l l′ : Lent) (st : State) (r : Step) where
   says-added clause W (wrong number offset) e fits = differs (Wrong number offset) (Added clause) e (λ z. omega arith)
   says-added clause W finished e fits = differs Finished (Added clause) e (λ z. omega arith)
 
-  pub says-struck : (clause : TextClause) → ((ls : List meaning.Literal) → Within n ls → clauseWords ls ≡ clause → Stepped n l l′ st (strikeClause n (stateOf l st) ls) r)
+  pub says-struck : (clause : TextClause) → ((ls : List meaning.Literal) → OfVariables n ls → clauseWords ls ≡ clause → Stepped n l l′ st (strikeClause n (stateOf l st) ls) r)
       → Says (Struck clause)
   unfolding step
   says-struck clause W (recorded rec more) e fits = differs (Recorded rec more) (Struck clause) e (λ z. omega arith)

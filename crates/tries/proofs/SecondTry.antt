@@ -10,7 +10,7 @@ use Rattle.meaning.specs.Operations.{Literal, clause, negation}
 use Rattle.meaning.specs.Rules.{Line, unitProp, byDiagram, base, afterTurn, prTurns, pr}
 use Rattle.meaning.specs.Words.{inWord}
 use Rattle.meaning.proofs.PointwiseSteps.{literals-cong}
-use Rattle.meaning.proofs.Clauses.{Within}
+use Rattle.meaning.specs.Literals.{OfVariables}
 use Rattle.words.specs.declared.Literals.{Literals}
 use Rattle.words.specs.Sets.{literalsOf}
 use Rattle.clausal.specs.Tries.{makesTrue, makesFalse, witness}
@@ -34,7 +34,7 @@ module _ (n : ℕ) (P N P′ N′ : ℕ → Bool) (p : (v : ℕ) → 1 ≤ v →
       (turns-same (byDiagram n (negation n g) ms) ms)
 
 -- THEOREM: PR by the words that the code makes is PR by the clause's witness.
-pub second-same : (n : ℕ) → n ≤ 64 → (p : Literal) (ls : List Literal) → Within n (p ∷ ls) → (ms : List Diagram) → (u : Literals)
+pub second-same : (n : ℕ) → n ≤ 64 → (p : Literal) (ls : List Literal) → OfVariables n (p ∷ ls) → (ms : List Diagram) → (u : Literals)
     → u ≡ witnessWords (literalsOf (p ∷ ls)) (p .variable) (p .positive)
     → pr n (inWord (u .positive)) (inWord (u .negative)) ms (clause n (p ∷ ls)) ≡ pr n (makesTrue (witness p (p ∷ ls))) (makesFalse (witness p (p ∷ ls))) ms (clause n (p ∷ ls))
 second-same n narrow p ls w ms u is =

@@ -3,7 +3,7 @@
 use mathlib.Core.Path.{_≡_, refl, sym, ap, _∙_, subst}
 use mathlib.Core.Bool.{Bool, true, false, not, _&&_, _||_, Bool·beq}
 use mathlib.Core.List.{List, [], _∷_}
-use Prim.Native.Nat.{ℕ, _+_, _-_, _^_, _≤_}
+use Prim.Native.Nat.{ℕ, _+_, _-_, _≤_}
 use native.Mathlib.Omega.{arith}
 use native.Mathlib.Decide.{ℕ-discrete}
 use lib.Dec.{eqb, ltb, leb}
@@ -11,8 +11,8 @@ use borrow.Author.Tests.{eq-eqb, ne-eqb, le-ltb, le-leb, lt-leb, ltb-false}
 use Rattle.meaning.specs.Operations.{Literal}
 use Rattle.meaning.specs.Words.{inWord}
 use Rattle.meaning.proofs.Booleans.{t≢f, both-ways, and-both, or-cases, or-left, or-right}
-use Rattle.meaning.proofs.Clauses.{occurs, Within}
-use Rattle.meaning.proofs.Words.{in-or, in-bit}
+use Rattle.meaning.proofs.Clauses.{occurs}
+use Rattle.meaning.specs.Literals.{OfVariables}
 use Rattle.words.specs.declared.Literals.{Literals}
 use Rattle.words.specs.Sets.{literalsOf, withVariable, without as without-word, has as has-word}
 use Rattle.words.proofs.Variables.{in-without}
@@ -21,6 +21,7 @@ use Rattle.clausal.specs.Drat.{Clause, literal, negated, alike, has, without}
 use Rattle.clausal.specs.Tries.{makesTrue, makesFalse, witness}
 use Rattle.clausal.proofs.Literals.{alike-eq, eq-alike, negated-twice, has-here, has-cases, has-there, negations, has-negation, negation-has, has-without, without-has}
 use Rattle.tries.specs.Words.{witnessWords}
+use Rattle.words.proofs.LiteralSets.{in-with}
 
 -- ---- the literals that a witness sets
 
@@ -59,9 +60,6 @@ sets p l c = both-ways (has (witness p c) l) (alike p l || (has c (negated l) &&
 -- ---- the words
 
 -- a word with one variable more, and without it
-in-with : (w x v : ℕ) → 1 ≤ x → 1 ≤ v → inWord (withVariable w x) v ≡ (inWord w v || eqb x v)
-in-with w x v h k = in-or w (2 ^ (x - 1)) v ∙ ap (_||_ (inWord w v)) (in-bit x v h k)
-
 beside : (v x : ℕ) → (ltb v x || leb (x + 1) v) ≡ not (eqb v x)
 beside v x = go (ℕ-discrete v x)
   where
@@ -92,7 +90,7 @@ left-out true false false = refl
 left-out false true f = refl
 left-out false false f = refl
 
-module _ (n : ℕ) (c : Clause) (w : Within n c) (narrow : n ≤ 64) (x : ℕ) (lo : 1 ≤ x) (hi : x ≤ 64) (v : ℕ) (one : 1 ≤ v) (most : v ≤ 64) where
+module _ (n : ℕ) (c : Clause) (w : OfVariables n c) (narrow : n ≤ 64) (x : ℕ) (lo : 1 ≤ x) (hi : x ≤ 64) (v : ℕ) (one : 1 ≤ v) (most : v ≤ 64) where
   positives : inWord (literalsOf c .positive) v ≡ has c (literal v true)
   unfolding has-word
   positives = in-set n c v true w one ∙ sym (has-occurs c v true)

@@ -36,9 +36,8 @@ use Rattle.steps.specs.declared.Step.the-variants.{Next, Stop}
 use Rattle.steps.specs.States.{Lent, lentOf, tableIn, stateOf, Held, Stepped}
 use Rattle.steps.proofs.Stops.{stopped}
 use Rattle.steps.proofs.Strikings.{marked-next}
-use Rattle.tries.specs.Within.{Within}
+use Rattle.meaning.specs.Literals.{OfVariables}
 use Rattle.tries.specs.Lowest.{isAt, Lowest}
-use Rattle.tries.proofs.Adding.{within-is}
 
 -- ---- the loop
 
@@ -60,7 +59,7 @@ none-lowest members struck m g i le passed = record { most = omega arith; there 
 
 -- ---- the clause that is struck
 
-module _ (n : ℕ) (L : Lent) (st : State) (H : Held n L st) (ls : List Literal) (within : Within n ls) where
+module _ (n : ℕ) (L : Lent) (st : State) (H : Held n L st) (ls : List Literal) (within : OfVariables n ls) where
   abbrev T : Table
   T = tableIn L (st .count)
 
@@ -71,7 +70,7 @@ module _ (n : ℕ) (L : Lent) (st : State) (H : Held n L st) (ls : List Literal)
   many = length-take-le (st .members) (L .members) (omega (arith, H .many, H .lines, H .room))
 
   words-is : clauseOfWords (literalsOf ls) ≡ clause n ls
-  words-is = clause-of-words n (H .entries .narrow) ls (within-is n ls within)
+  words-is = clause-of-words n (H .entries .narrow) ls within
 
   member-in : (i : ℕ) → i < st .members → getD (L .members) i 0 < st .count
   member-in i p =

@@ -10,7 +10,7 @@ use Rattle.meaning.specs.Operations.{Literal, clause}
 use Rattle.meaning.specs.Rules.{Line, rup, pr}
 use Rattle.meaning.specs.Words.{inWord}
 use Rattle.meaning.proofs.Booleans.{t≢f}
-use Rattle.meaning.proofs.Clauses.{Within}
+use Rattle.meaning.specs.Literals.{OfVariables}
 use Rattle.words.specs.declared.Literals.{Literals}
 use Rattle.words.specs.Sets.{literalsOf}
 use Rattle.table.specs.Nodes.{Node, diagramAt}
@@ -98,7 +98,7 @@ module _ (n : ℕ) (L : Lent) (st : State) (H : Held n L st) (k : ℕ) (k-in : k
     pr-is : (P N : ℕ → Bool) → pr n P N (liveMembers S) (clause n ls) ≡ pr 64 P N (diagramsOf (nodesOf T) live) (diagramAt (nodesOf T) k)
     pr-is P N = ap (pr n P N (liveMembers S)) (sym is) ∙ sym (pr-at n (H .entries .narrow) T (H .entries .good) (H .entries .uses) live live-inside k k-in k-one P N)
 
-  second-said : (ls : List Literal) → Within n ls → diagramAt (nodesOf T) k ≡ clause n ls → (p₁ : ℕ) (r : Judged) → SecondTried T live k (literalsOf ls) (pivotOf ls) r
+  second-said : (ls : List Literal) → OfVariables n ls → diagramAt (nodesOf T) k ≡ clause n ls → (p₁ : ℕ) (r : Judged) → SecondTried T live k (literalsOf ls) (pivotOf ls) r
       → secondTry n (size T) S k ls p₁ ≡ saidBy (withPeak S p₁) k r
   unfolding secondTry
   second-said [] w is p₁ r Q = ap (spent 19) (max-zero p₁) ∙ ap (saidBy (withPeak S p₁) k) (sym Q)
@@ -109,7 +109,7 @@ module _ (n : ℕ) (L : Lent) (st : State) (H : Held n L st) (k : ℕ) (k-in : k
       ∙ judged-said T (withPeak S p₁) refl k (prIn T live k words) r Q
 
   -- THEOREM: what both tries say is what the definition says.
-  pub tries-said : (ls : List Literal) → Within n ls → diagramAt (nodesOf T) k ≡ clause n ls → (made : Placed) → made .node .0 ≡ k → made .full ≡ false
+  pub tries-said : (ls : List Literal) → OfVariables n ls → diagramAt (nodesOf T) k ≡ clause n ls → (made : Placed) → made .node .0 ≡ k → made .full ≡ false
       → (j : Judged) → BothTried T live (clauseWords ls) made j → tries n (size T) S k ls ≡ saidBy S k j
   unfolding tries
   tries-said ls w is made at f j (no-room g) = t≢f (sym g ∙ f)

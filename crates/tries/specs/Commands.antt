@@ -4,13 +4,13 @@ use Rattle.commands.specs.declared.Command as code
 use Rattle.commands.specs.declared.Command.the-variants.{Recorded, Added, Struck, Wrong, Finished}
 use Rattle.commands.specs.Commands.{Command, recorded, added, struckOut, wrong, finished}
 use Rattle.tries.specs.Tries.{PivotFits}
-use Rattle.tries.specs.Within.{Within}
+use Rattle.meaning.specs.Literals.{OfVariables}
 
 -- A clause's literals are the header's.
 abbrev pub CommandFits : ℕ → Command → Type 0
 CommandFits n (recorded r more) = Unit {0}
-CommandFits n (added ls) = Within n ls
-CommandFits n (struckOut ls) = Within n ls
+CommandFits n (added ls) = OfVariables n ls
+CommandFits n (struckOut ls) = OfVariables n ls
 CommandFits n (wrong number offset) = Unit {0}
 CommandFits n finished = Unit {0}
 

@@ -1,5 +1,4 @@
 pub mod Words
 pub mod Tries
-pub mod Within
 pub mod Lowest
 pub mod Commands

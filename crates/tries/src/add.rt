@@ -20,7 +20,7 @@ ghost use Rattle.commands.specs.Inner.{clauseWords};
 ghost use Rattle.verdict.specs.Clausal.{addStep};
 ghost use Rattle.steps.specs.States.{lentOf, stateOf, Held, Stepped};
 ghost use Rattle.tries.specs.Tries.{liveIn, PivotFits, SecondTried, decided, BothTried, keptBy};
-ghost use Rattle.tries.specs.Within.{Within};
+ghost use Rattle.meaning.specs.Literals.{OfVariables};
 
 // Whether no try follows.
 fn is_decided(j: Judged) -> bool
@@ -221,7 +221,7 @@ pub fn clause_step(
         (now (members .entry)) (now (scratch .entry)) (now (struck .entry)) in
         let returned = lentOf (now (vars .exit)) (now (lows .exit)) (now (highs .exit)) (now (heads .exit)) (now (links .exit))
         (now (members .exit)) (now (scratch .exit)) (now (struck .entry)) in
-        (n : ℕ) (ls : List Literal) → Held n lent st → Within n ls → clauseWords ls ≡ clause →
+        (n : ℕ) (ls : List Literal) → Held n lent st → OfVariables n ls → clauseWords ls ≡ clause →
         Stepped n lent returned st (addStep n (length (now (vars .entry))) (stateOf lent st) ls) r) ⌝ }
     ensures { λ _. ⌜ now (marks .exit) ≡ unmarked (length (now (vars .entry))) ⌝ }
 {

@@ -15,7 +15,7 @@ ghost use Rattle.table.specs.Indexed.{tableOf, Good};
 ghost use Rattle.commands.specs.Inner.{clauseWords};
 ghost use Rattle.verdict.specs.Clausal.{strikeClause};
 ghost use Rattle.steps.specs.States.{lentOf, stateOf, Held, Stepped};
-ghost use Rattle.tries.specs.Within.{Within};
+ghost use Rattle.meaning.specs.Literals.{OfVariables};
 ghost use Rattle.tries.specs.Lowest.{Lowest};
 
 // Whether a member is live and node g, by its mark and its node.
@@ -64,7 +64,7 @@ pub fn strike_clause(
         (now (members .entry)) cs (now (struck .entry)) in
         let returned = lentOf (now (vars .entry)) (now (lows .entry)) (now (highs .entry)) (now (heads .entry)) (now (links .entry))
         (now (members .entry)) cs (now (struck .exit)) in
-        Held n lent st → Within n ls → clauseWords ls ≡ clause →
+        Held n lent st → OfVariables n ls → clauseWords ls ≡ clause →
         Stepped n lent returned st (strikeClause n (stateOf lent st) ls) r)) ⌝ }
 {
     match clause::find(vars, lows, highs, heads, links, st.count, clause.literals) {

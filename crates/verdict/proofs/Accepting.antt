@@ -10,11 +10,11 @@ use Rattle.meaning.specs.Diagram.{Diagram}
 use Rattle.meaning.specs.Operations as meaning
 use Rattle.meaning.specs.Rules.{Line, rup}
 use Rattle.meaning.proofs.Booleans.{t≢f}
-use Rattle.meaning.proofs.Clauses.{Within}
+use Rattle.meaning.specs.Literals.{OfVariables}
 use Rattle.table.specs.Nodes.{Node}
 use Rattle.clausal.specs.Drat.{Clause, Plain, AllPlain, Accepted}
 use Rattle.clausal.specs.Tries.{shownBy}
-use Rattle.clausal.proofs.Literals.{AllWithin}
+use Rattle.clausal.proofs.Literals.{AllOfVariables}
 use Rattle.clausal.proofs.Rest.{plain-not-one}
 use Rattle.clausal.proofs.Tries.{two-tries}
 use Rattle.verdict.specs.Steps.{State, next, spent, judged, liveMembers}
@@ -32,7 +32,7 @@ module _ (n s : ℕ) (st : State) (t : List Node) (k : ℕ) where
   after = withEntry st t k
 
   -- the step once its tests are past
-  step-is : (c : Clause) → Within n c → Plain c → HasRoom n s st c t k → addStep n s st c ≡ tries n s after k c
+  step-is : (c : Clause) → OfVariables n c → Plain c → HasRoom n s st c t k → addStep n s st c ≡ tries n s after k c
   unfolding addStep
   step-is c w plain R = rw (lt-leb 1024 (st .lines) (R .few), plain-not-one n c w plain, R .made) refl
 
@@ -57,8 +57,8 @@ module _ (n s : ℕ) (st : State) (t : List Node) (k : ℕ) where
 
   -- THEOREM: "for clauses and members without both signs of a variable the two tries accept exactly what RUP and RAT over clauses accept, the
   -- table having room." F are the clauses of the live members.
-  pub clause-accepted : (F : List Clause) → liveMembers (withEntry st t k) ≡ map (meaning.clause n) F → AllWithin n F → AllPlain F
-      → (c : Clause) → Within n c → Plain c → HasRoom n s st c t k → GoesOn (addStep n s st c) ↔ Accepted F c
+  pub clause-accepted : (F : List Clause) → liveMembers (withEntry st t k) ≡ map (meaning.clause n) F → AllOfVariables n F → AllPlain F
+      → (c : Clause) → OfVariables n c → Plain c → HasRoom n s st c t k → GoesOn (addStep n s st c) ↔ Accepted F c
   clause-accepted F live within plains c w plain R =
       let T = two-tries n F within plains c w plain in
       let S = tries-shown c R in (

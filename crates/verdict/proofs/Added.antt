@@ -16,14 +16,14 @@ use Rattle.meaning.specs.Rules.{Line}
 use Rattle.meaning.proofs.Values.{reduced-to}
 use Rattle.meaning.proofs.Pointwise.{clause-reduced, clause-value}
 use Rattle.meaning.proofs.Soundness.{Satisfies, rup-sound, pr-sound}
-use Rattle.meaning.proofs.Clauses.{Within}
+use Rattle.meaning.specs.Literals.{OfVariables}
 use Rattle.table.specs.Nodes.{Node, diagramAt, Placing, full, placed, place}
 use Rattle.table.specs.Making.{lineReach}
 use Rattle.table.proofs.Growth.{Extends, extends-length, diagramAt-grown}
 use Rattle.table.proofs.Placing.{After, Made, place-after}
 use Rattle.clausal.specs.Tries.{makesTrue, makesFalse, witness}
 use Rattle.clausal.specs.Drat.{Clause, Plain, AllPlain, Accepted}
-use Rattle.clausal.proofs.Literals.{has-here, AllWithin}
+use Rattle.clausal.proofs.Literals.{has-here, AllOfVariables}
 use Rattle.clausal.proofs.Rest.{not-one-plain}
 use Rattle.clausal.proofs.SecondTry.{pivot-witnessed}
 use Rattle.verdict.specs.Steps.{State, next, accepted, judged, unstruck, liveMembers}
@@ -141,10 +141,10 @@ module _ {s n : ℕ} {m : Meant} {st : State} (S : Standing s n m st) (narrow : 
   clause-grown = made .kept .extends
 
   -- the clause's node has the clause's values
-  pub clause-node : Within n ls → (a : Assignment) → value (diagramAt t k) a ≡ meaning.clauseValue ls a
+  pub clause-node : OfVariables n ls → (a : Assignment) → value (diagramAt t k) a ≡ meaning.clauseValue ls a
   clause-node w a = ap (λ (D : Diagram). value D a) (made .is) ∙ clause-valued n ls w a
 
-  module _ (w : Within n ls) (few : st .lines < 1024) where
+  module _ (w : OfVariables n ls) (few : st .lines < 1024) where
     -- the clause is one more member, with the clause's values
     taken-standing : (line : Line) (peak : ℕ) (st′ : State) → accepted after k line peak ≡ st′
         → Standing s n (record { members = m .members ++ meaning.clauseValue ls ∷ []; entries = [] }) st′
@@ -166,7 +166,7 @@ module _ {s n : ℕ} {m : Meant} {st : State} (S : Standing s n m st) (narrow : 
           many = omega (arith, length-append (st .members) (k ∷ []), S .many);
         })
 
-module _ {s n : ℕ} {m : Meant} {st : State} (S : Standing s n m st) (narrow : n ≤ 64) (ls : List meaning.Literal) (w : Within n ls) (st′ : State)
+module _ {s n : ℕ} {m : Meant} {st : State} (S : Standing s n m st) (narrow : n ≤ 64) (ls : List meaning.Literal) (w : OfVariables n ls) (st′ : State)
     (T : ClauseTaken n s st ls st′) where
   -- the line that passed, and its peak
   pub clause-line : (line : Line) × (peak : ℕ) × (accepted (withEntry st (T .nodes) (T .node)) (T .node) line peak ≡ st′)
@@ -186,7 +186,7 @@ module _ {s n : ℕ} {m : Meant} {st : State} (S : Standing s n m st) (narrow : 
       → (b : Assignment) × (length b ≡ n) × Satisfies b (liveMembers st) × (meaning.clauseValue ls b ≡ true)
   clause-keeps a len sat = go ls w (T .not-one) (live-same S narrow ls (T .nodes) (T .node) (T .room)) (T .tried)
     where
-      go : (ls : List meaning.Literal) → Within n ls → same (meaning.clause n ls) (leaf true) ≡ false → liveMembers (withEntry st (T .nodes) (T .node)) ≡ liveMembers st
+      go : (ls : List meaning.Literal) → OfVariables n ls → same (meaning.clause n ls) (leaf true) ≡ false → liveMembers (withEntry st (T .nodes) (T .node)) ≡ liveMembers st
           → TriesTaken n s (withEntry st (T .nodes) (T .node)) (T .node) ls st′
           → (b : Assignment) × (length b ≡ n) × Satisfies b (liveMembers st) × (meaning.clauseValue ls b ≡ true)
       go ls w not-one live (inl J) =
@@ -199,7 +199,7 @@ module _ {s n : ℕ} {m : Meant} {st : State} (S : Standing s n m st) (narrow : 
 
 -- THEOREM: "for clauses and members without both signs of a variable the two tries accept exactly what RUP and RAT over clauses accept, the table
 -- having room", in a state that the check reaches. F are the clauses of its live members.
-pub added-exactly : {s n : ℕ} {m : Meant} {st : State} → Standing s n m st → n ≤ 64 → (F : List Clause) → liveMembers st ≡ map (meaning.clause n) F → AllWithin n F → AllPlain F
-    → (c : Clause) → Within n c → Plain c → (t : List Node) (k : ℕ) → HasRoom n s st c t k → GoesOn (addStep n s st c) ↔ Accepted F c
+pub added-exactly : {s n : ℕ} {m : Meant} {st : State} → Standing s n m st → n ≤ 64 → (F : List Clause) → liveMembers st ≡ map (meaning.clause n) F → AllOfVariables n F → AllPlain F
+    → (c : Clause) → OfVariables n c → Plain c → (t : List Node) (k : ℕ) → HasRoom n s st c t k → GoesOn (addStep n s st c) ↔ Accepted F c
 added-exactly {s} {n} {m} {st} S narrow F live within plains c w plain t k R =
     clause-accepted n s st t k F (live-same S narrow c t k (R .made) ∙ live) within plains c w plain R

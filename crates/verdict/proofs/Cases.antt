@@ -17,8 +17,9 @@ use Rattle.table.specs.Columns.{rows, sizeFits, Columns, columnsMade, storedAs}
 use Rattle.dimacs.specs.Clauses.{clausesFrom}
 use Rattle.records.specs.Records.{recordAt}
 use Rattle.commands.specs.Commands.{inRecords}
-use Rattle.verdict.specs.Check.{verdict, Outcome, outcome, check}
-use Rattle.verdict.specs.Cases.{GivesAll, caseTable, numberTable, strikeTable, setTable, unitsTo, bytes, A-formula, A-proof}
+use Rattle.verdict.specs.Check.{verdict, CheckOutcome, outcome, check}
+use Rattle.dimacs.specs.Texts.{bytes}
+use Rattle.verdict.specs.Cases.{GivesAll, caseTable, numberTable, strikeTable, setTable, unitsTo, A-formula, A-proof}
 
 -- "A to J form one table, and one theorem says that the rules give each row." (01, Conditions of acceptance)
 pub cases : GivesAll caseTable
@@ -50,7 +51,7 @@ unfolding check sizeFits
 seven = (refl, refl, refl)
 
 -- "each call leaves them so": what case A leaves in a table of 16 places is in good order, its index too. (02, 7/14)
-abbrev left-A : Outcome
+abbrev left-A : CheckOutcome
 left-A = outcome 16 2048 4096 (verdict inRecords 16 (bytes A-formula) A-proof)
 
 pub index-left : (left-A .count ≡ 8)

@@ -10,7 +10,7 @@ use lib.ListN.{length, length-append, length-replicate}
 use Rattle.meaning.specs.Diagram.{Assignment, holds, Diagram, value, Reduced}
 use Rattle.meaning.specs.Operations as meaning
 use Rattle.meaning.proofs.Values.{diagram-reduced, reduced-to}
-use Rattle.meaning.proofs.Clauses.{Within}
+use Rattle.meaning.specs.Literals.{OfVariables}
 use Rattle.table.specs.Nodes.{Node, placed, place}
 use Rattle.table.proofs.Order.{Ordered}
 use Rattle.table.proofs.Growth.{extends-length}
@@ -31,14 +31,14 @@ use Rattle.verdict.proofs.Formula.{Read, clauses-read}
 -- ---- clauses under assignments of any length
 
 -- a clause looks at the variables of its literals alone
-clause-agree : (n : ℕ) (ls : List meaning.Literal) → Within n ls → (a b : Assignment) → ((v : ℕ) → 1 ≤ v → v ≤ n → holds a v ≡ holds b v)
+clause-agree : (n : ℕ) (ls : List meaning.Literal) → OfVariables n ls → (a b : Assignment) → ((v : ℕ) → 1 ≤ v → v ≤ n → holds a v ≡ holds b v)
     → meaning.clauseValue ls a ≡ meaning.clauseValue ls b
 unfolding meaning.clauseValue meaning.literalValue
 clause-agree n [] w a b same = refl
 clause-agree n (l ∷ ls) w a b same =
     ap₂ _||_ (ap (λ (x : Bool). Bool·beq x (l .positive)) (same (l .variable) (w .0) (w .1))) (clause-agree n ls (w .2) a b same)
 
-pub clause-fitted : (n : ℕ) (ls : List meaning.Literal) → Within n ls → (a : Assignment) → meaning.clauseValue ls (fitted n a) ≡ meaning.clauseValue ls a
+pub clause-fitted : (n : ℕ) (ls : List meaning.Literal) → OfVariables n ls → (a : Assignment) → meaning.clauseValue ls (fitted n a) ≡ meaning.clauseValue ls a
 clause-fitted n ls w a = clause-agree n ls w (fitted n a) a (fitted-holds n a)
 
 module _ (n : ℕ) (ls : List meaning.Literal) where
@@ -47,7 +47,7 @@ module _ (n : ℕ) (ls : List meaning.Literal) where
   clause-reduced = diagram-reduced n (meaning.clauseValue ls)
 
   -- Its diagram has its values, whatever the assignment's length.
-  pub clause-valued : Within n ls → (a : Assignment) → value (meaning.clause n ls) a ≡ meaning.clauseValue ls a
+  pub clause-valued : OfVariables n ls → (a : Assignment) → value (meaning.clause n ls) a ≡ meaning.clauseValue ls a
   unfolding meaning.clause
   clause-valued w a = diagram-fitted n (meaning.clauseValue ls) a ∙ clause-fitted n ls w a
 
@@ -106,7 +106,7 @@ module _ (s : ℕ) (text : List ℕ) (n many : ℕ) where
         end = rw e;
       }
 
-  made-standing : (t t₁ : List Node) (ms : List ℕ) (k : ℕ) (fs : List Function) (ls : List meaning.Literal) → n ≤ 64 → length ms < 1024 → Within n ls
+  made-standing : (t t₁ : List Node) (ms : List ℕ) (k : ℕ) (fs : List Function) (ls : List meaning.Literal) → n ≤ 64 → length ms < 1024 → OfVariables n ls
       → Standing s n (meantMembers fs) (begun t ms) → After s t (meaning.clause n ls) (placed t₁ k) → UsesAfter n (placed t₁ k)
       → Standing s n (meantMembers (fs ++ meaning.clauseValue ls ∷ [])) (begun t₁ (ms ++ k ∷ []))
   made-standing t t₁ ms k fs ls narrow few w S A u =

@@ -7,7 +7,7 @@ use mathlib.Core.List.{List}
 use Prim.Native.Nat.{ℕ, _≤_, _<_}
 use native.Mathlib.Omega.{arith}
 use lib.ListN.{length}
-use Rattle.meaning.proofs.Clauses.{Within}
+use Rattle.meaning.specs.Literals.{OfVariables}
 use Rattle.table.proofs.Growth.{Extends, extends-same}
 use Rattle.dimacs.proofs.Between.{between-most}
 use Rattle.records.specs.Records.{recordAt, lengthOf}
@@ -65,8 +65,8 @@ Fit Records n (struckOut ls) = ⊥
 Fit Records n (wrong number offset) = ⊥
 Fit Records n finished = ⊥
 Fit Text n (recorded r more) = ⊥
-Fit Text n (added ls) = Within n ls
-Fit Text n (struckOut ls) = Within n ls
+Fit Text n (added ls) = OfVariables n ls
+Fit Text n (struckOut ls) = OfVariables n ls
 Fit Text n (wrong number offset) = Fault 0 number offset
 Fit Text n finished = Unit {0}
 

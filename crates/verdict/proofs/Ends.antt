@@ -14,7 +14,7 @@ use Rattle.dimacs.specs.Clauses.{Reading, clause, complete, refusal, clausesFro
 use Rattle.commands.specs.declared.Mode.{Mode}
 use Rattle.commands.specs.Commands.{start}
 use Rattle.verdict.specs.Steps.{State, emptied, begun, Step, next, stop, spent}
-use Rattle.verdict.specs.Check.{step, afterStep, commands, afterClause, clauses, afterHeader, verdict}
+use Rattle.verdict.specs.Check.{step, afterStep, commands, afterClause, clauses, checkAfterHeader, verdict}
 use Rattle.verdict.specs.Taken.{Function, Meant}
 use Rattle.verdict.specs.Run.{Making, opened, made, commandIn, nextIn, CommandTaken, Reached, begins, goes, Ended, no-header, not-read, no-room, stopped, tried}
 use Rattle.verdict.proofs.Standing.{Standing}
@@ -77,6 +77,6 @@ module _ (mode : Mode) (s : ℕ) (text proof : List ℕ) where
   unfolding verdict
   ended = go (header text) refl
     where
-      go : (h : Header) → header text ≡ h → Ended mode s text proof (afterHeader mode s text proof h)
+      go : (h : Header) → header text ≡ h → Ended mode s text proof (checkAfterHeader mode s text proof h)
       go (Proper n many at) e = clauses-ended n many (clausesFrom text n many at) emptied [] [] (opened e)
       go (Improper number place) e = no-header e

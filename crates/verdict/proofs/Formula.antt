@@ -7,15 +7,15 @@ use native.Mathlib.Omega.{arith}
 use lib.ListN.{length}
 use lib.Seq.{slice}
 use lib.Dec.{ltb, leb}
-use Rattle.meaning.proofs.Clauses.{Within}
+use Rattle.meaning.specs.Literals.{OfVariables}
 use Rattle.dimacs.specs.declared.Header.{Header}
 use Rattle.dimacs.specs.declared.Header.the-variants.{Proper, Improper}
 use Rattle.dimacs.specs.declared.Token.{Token}
 use Rattle.dimacs.specs.declared.Token.the-variants.{Closing, Literal, Wrong}
 use Rattle.dimacs.specs.Text.{tokenEnd, between}
-use Rattle.dimacs.specs.Numbers.{isZero, isNumber, unsigned, hasMinus, value, tokenOf}
+use Rattle.dimacs.specs.Numbers.{isZero, isNumber, unsigned, hasMinus, valueOfDigits, tokenOf}
 use Rattle.dimacs.specs.Header.{judgedFrom, nextWord, word, isHeader, headerAt, header}
-use Rattle.dimacs.specs.Clauses.{Next, closed, ended, refused, literalThen, afterToken, clauseFrom, clauseAt, nextClause, Reading, clause, complete, refusal, andThen, clausesFrom}
+use Rattle.dimacs.specs.Clauses.{Next, closed, ended, refused, literalThen, afterToken, clauseFrom, clauseAt, nextClause, Reading, clause, complete, refusal, readingThen, clausesFrom}
 use Rattle.dimacs.proofs.Bounds.{NextIn, next-in}
 
 -- ---- a refusal has a number from 1 to 6
@@ -44,7 +44,7 @@ either P false x y p q = q
 token-named : (n : ℕ) (bs : List ℕ) → NamedToken (tokenOf n bs)
 unfolding tokenOf
 token-named n bs =
-    let v : ℕ = value (unsigned bs) in
+    let v : ℕ = valueOfDigits (unsigned bs) in
     let literal : Token = cond (leb v n) (Literal v (not (hasMinus bs))) (Wrong 4) in
     either NamedToken (isZero bs) Closing (cond (isNumber bs) literal (Wrong 3)) tt
     (either NamedToken (isNumber bs) literal (Wrong 3) (either NamedToken (leb v n) (Literal v (not (hasMinus bs))) (Wrong 4) tt ((omega arith, omega arith))) ((omega arith, omega arith)))
@@ -82,8 +82,8 @@ header-at-named s at =
     let cnf : ℕ = nextWord s at in
     let variables : ℕ = nextWord s cnf in
     let clauses : ℕ = nextWord s variables in
-    let v : ℕ = value (word s variables) in
-    let c : ℕ = value (word s clauses) in
+    let v : ℕ = valueOfDigits (word s variables) in
+    let c : ℕ = valueOfDigits (word s clauses) in
     either NamedHeader (isHeader s at cnf variables clauses) _ (Improper 1 at)
     (either NamedHeader (leb v 64 && leb c 1024) _ (Improper 2 at) tt ((omega arith, omega arith))) ((omega arith, omega arith))
 
@@ -98,20 +98,20 @@ header-named s =
 -- At most `left` clauses of n variables, then the end or a refusal.
 abbrev pub Read : ℕ → ℕ → Reading → Type 0
 Read n zero (clause ls first rest) = ⊥
-Read n (suc left) (clause ls first rest) = Within n ls × Read n left rest
+Read n (suc left) (clause ls first rest) = OfVariables n ls × Read n left rest
 Read n left complete = Unit {0}
 Read n left (refusal number place) = Early number
 
-none-closed : (s : List ℕ) (n at : ℕ) (rest : ℕ → Reading) → Read n zero (andThen (nextClause s n zero at) rest)
+none-closed : (s : List ℕ) (n at : ℕ) (rest : ℕ → Reading) → Read n zero (readingThen (nextClause s n zero at) rest)
 unfolding nextClause clauseAt
 none-closed s n at rest = go (ltb (between s at) (length s))
   where
-    go : (c : Bool) → Read n zero (andThen (cond c (refused 5 (between s at)) ended) rest)
+    go : (c : Bool) → Read n zero (readingThen (cond c (refused 5 (between s at)) ended) rest)
     go true = (omega arith, omega arith)
     go false = tt
 
 closed-read : (s : List ℕ) (n left : ℕ) (x : Next) (rest : ℕ → Reading) → NextIn s n x → NamedNext x
-    → ((next : ℕ) → next ≤ length s → Read n left (rest next)) → Read n (suc left) (andThen x rest)
+    → ((next : ℕ) → next ≤ length s → Read n left (rest next)) → Read n (suc left) (readingThen x rest)
 closed-read s n left (closed ls first next) rest i h k = (i .2, k next (i .1))
 closed-read s n left ended rest i h k = tt
 closed-read s n left (refused number place) rest i h k = h

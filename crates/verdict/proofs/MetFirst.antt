@@ -15,7 +15,7 @@ use Rattle.records.specs.declared.Rule.{Rule}
 use Rattle.records.specs.declared.Rule.the-variants.{Rup, Pr}
 use Rattle.verdict.specs.Steps.{State, next, spent, accepted, judged, diagramIn, liveMembers}
 use Rattle.verdict.specs.Taken.{lineOf, peakWith}
-use Rattle.verdict.specs.MetFirst.{Met, all-shown, no-conflict, no-place, afterMade, making, inRound, propagating, andThen, turning, metBy, sayMet}
+use Rattle.verdict.specs.MetFirst.{Met, all-shown, no-conflict, no-place, afterMade, making, inRound, propagating, metThen, turning, metBy, sayMet}
 
 -- ---- making a list
 
@@ -115,16 +115,16 @@ turning-is s n P N t ms′ (f ∷ fs) = by (same h (leaf true)) (turning-is s n 
         ∙ making-room s t (before ++ p .made) (λ t₁. ends (p .conflict))
 
     after : (room : Room) (conflict : Bool) → turning s n P N t ms′ fs ≡ metTurns (turnsReach s (rest .turns) t .fits) (rest .shown)
-        → andThen (afterRoom room (λ t₁. ends conflict)) (turning s n P N t ms′ fs)
+        → metThen (afterRoom room (λ t₁. ends conflict)) (turning s n P N t ms′ fs)
         ≡ metTurns (reached room .fits && turnsReach s (cond conflict (rest .turns) []) t .fits) (conflict && rest .shown)
     after (short t₁) conflict rec = refl
     after (all t₁) true rec = rec
     after (all t₁) false rec = refl
 
     by : (c : Bool) → turning s n P N t ms′ fs ≡ metTurns (turnsReach s (rest .turns) t .fits) (rest .shown)
-        → cond c (turning s n P N t ms′ fs) (andThen turn (turning s n P N t ms′ fs)) ≡ metTurns (turnsReach s (line c .turns) t .fits) (line c .shown)
+        → cond c (turning s n P N t ms′ fs) (metThen turn (turning s n P N t ms′ fs)) ≡ metTurns (turnsReach s (line c .turns) t .fits) (line c .shown)
     by true rec = rec
-    by false rec = ap (λ (x : Met). andThen x (turning s n P N t ms′ fs)) whole ∙ after (placedAll s t (before ++ p .made)) (p .conflict) rec
+    by false rec = ap (λ (x : Met). metThen x (turning s n P N t ms′ fs)) whole ∙ after (placedAll s t (before ++ p .made)) (p .conflict) rec
 
 -- ---- a line
 

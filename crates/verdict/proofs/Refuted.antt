@@ -12,7 +12,7 @@ use Rattle.meaning.specs.Diagram.{Assignment, Diagram, value, valueFrom}
 use Rattle.meaning.specs.Operations as meaning
 use Rattle.meaning.specs.Words.{inWord}
 use Rattle.meaning.proofs.Booleans.{t≢f, not-true, and-both, or-cases}
-use Rattle.meaning.proofs.Clauses.{Within}
+use Rattle.meaning.specs.Literals.{OfVariables}
 use Rattle.meaning.proofs.Soundness.{Satisfies, rup-sound, pr-sound}
 use Rattle.table.specs.Nodes.{Node, diagramAt}
 use Rattle.table.proofs.Numbers.{diagramAt-zero}
@@ -28,9 +28,9 @@ use Rattle.commands.specs.declared.Form.{Form}
 use Rattle.commands.specs.declared.Form.the-variants.{Records, Text}
 use Rattle.commands.specs.Commands.{Command, recorded, added, struckOut, wrong, finished}
 use Rattle.table.specs.Columns.{Columns}
-use Rattle.clausal.proofs.Literals.{AllWithin}
+use Rattle.clausal.proofs.Literals.{AllOfVariables}
 use Rattle.verdict.specs.Steps.{State, begun, entryNode, diagramIn, unstruck, liveMembers}
-use Rattle.verdict.specs.Check.{Verdict, verdict, Outcome, lentFits, outcome, check}
+use Rattle.verdict.specs.Check.{Verdict, verdict, CheckOutcome, lentFits, outcome, check}
 use Rattle.verdict.specs.Taken.{Function, Meant, entryMeant, afterRecord, Valued, LineTaken, Taken}
 use Rattle.verdict.specs.Run.{Making, opened, made, commandIn, CommandTaken, afterCommand, Reached, begins, goes}
 use Rattle.verdict.specs.Satisfies.{clausesOf, readToEnd, satisfies, Unsatisfiable}
@@ -94,14 +94,14 @@ module _ (a : Assignment) where
 
 -- ---- clauses of n variables
 
-read-within : (n left : ℕ) (r : Reading) → Read n left r → AllWithin n (clausesOf r)
+read-within : (n left : ℕ) (r : Reading) → Read n left r → AllOfVariables n (clausesOf r)
 unfolding clausesOf
 read-within n zero (clause ls first rest) R = absurd R
 read-within n (suc left) (clause ls first rest) R = (R .0, read-within n left rest (R .1))
 read-within n left complete R = tt
 read-within n left (refusal number place) R = tt
 
-satisfies-fitted : (n : ℕ) (cs : List (List meaning.Literal)) → AllWithin n cs → (a : Assignment) → satisfies (fitted n a) cs ≡ satisfies a cs
+satisfies-fitted : (n : ℕ) (cs : List (List meaning.Literal)) → AllOfVariables n cs → (a : Assignment) → satisfies (fitted n a) cs ≡ satisfies a cs
 unfolding satisfies
 satisfies-fitted n [] w a = refl
 satisfies-fitted n (ls ∷ cs) w a = ap₂ _&&_ (clause-fitted n ls (w .0) a) (satisfies-fitted n cs (w .1) a)
@@ -184,7 +184,7 @@ module _ {s n : ℕ} {m : Meant} {st : State} (S : Standing s n m st) where
     record-sound NoRecord st′ T = absurd T
 
     -- the clause is one more live member, and where it is 0 no assignment is left
-    clause-sound : (ls : List meaning.Literal) → Within n ls → (st′ : State) → ClauseTaken n s st ls st′
+    clause-sound : (ls : List meaning.Literal) → OfVariables n ls → (st′ : State) → ClauseTaken n s st ls st′
         → Sound text n (record { members = m .members ++ meaning.clauseValue ls ∷ []; entries = [] }) st′
     unfolding valueFrom
     clause-sound ls w st′ T =
@@ -203,7 +203,7 @@ module _ {s n : ℕ} {m : Meant} {st : State} (S : Standing s n m st) where
               ∙ ap (λ (D : Diagram). value D b) (diagramAt-zero (T .nodes))));
         })
       where
-        keeps : (ls : List meaning.Literal) → Within n ls → (st′ : State) → ClauseTaken n s st ls st′ → (a : Assignment) → length a ≡ n → AllOne a (liveMeant st m)
+        keeps : (ls : List meaning.Literal) → OfVariables n ls → (st′ : State) → ClauseTaken n s st ls st′ → (a : Assignment) → length a ≡ n → AllOne a (liveMeant st m)
             → (b : Assignment) × (length b ≡ n) × AllOne b (liveMeant st m) × (meaning.clauseValue ls b ≡ true)
         keeps ls w st′ T a len all =
             let ks : List ℕ = unstruck (st .struck) (st .members) in
@@ -243,14 +243,14 @@ module _ (mode : Mode) (s : ℕ) (text proof : List ℕ) where
 
   -- ---- the formula of a reached state
 
-  making-within : {n many : ℕ} {t : List Node} {ms : List ℕ} {fs : List Function} {r : Reading} → Making s text n many t ms fs r → AllWithin n (clausesOf (formula text))
+  making-within : {n many : ℕ} {t : List Node} {ms : List ℕ} {fs : List Function} {r : Reading} → Making s text n many t ms fs r → AllOfVariables n (clausesOf (formula text))
   making-within {n} {many} (opened {at} e) =
       let h : (n ≤ 64) × (many ≤ 1024) × (at ≤ length text) = subst (HeaderIn text) e (header-in text) in
       rw (formula-proper text n many at e) (read-within n many (clausesFrom text n many at) (clauses-read text n many at (h .2)))
   making-within (made M e) = making-within M
 
   -- Its literals are the header's.
-  pub reached-within : {n : ℕ} {st : State} {at : ℕ} {m : Meant} → Reached mode s text proof n st at m → AllWithin n (clausesOf (formula text))
+  pub reached-within : {n : ℕ} {st : State} {at : ℕ} {m : Meant} → Reached mode s text proof n st at m → AllOfVariables n (clausesOf (formula text))
   reached-within (begins M) = making-within M
   reached-within (goes R e) = reached-within R
 
@@ -277,7 +277,7 @@ module _ (mode : Mode) (s : ℕ) (text proof : List ℕ) where
 
 -- ---- the call
 
-said-zero : (c : Bool) (x y : Outcome) → y .number ≡ 7 → cond c x y .number ≡ 0 → x .number ≡ 0
+said-zero : (c : Bool) (x y : CheckOutcome) → y .number ≡ 7 → cond c x y .number ≡ 0 → x .number ≡ 0
 said-zero true x y seven e = e
 said-zero false x y seven e = absurd (omega arith)
 

@@ -4,7 +4,7 @@ use mathlib.Core.Bool.{Bool, true, false, cond}
 use mathlib.Core.List.{List, [], _∷_, _++_}
 use mathlib.Core.Option.{Option, none, some}
 use Prim.Native.Nat.{ℕ, suc, _≤_}
-use mathlib.Core.Path.{_≡_}
+use mathlib.Core.Path.{_≡_, sym, subst}
 use native.Mathlib.Omega.{arith}
 use native.Mathlib.Decide.{decLt}
 use lib.ListN.{length, List·getD-append}
@@ -12,7 +12,9 @@ use lib.Dec.{eqb, ltb}
 use Rattle.meaning.specs.Diagram.{Diagram, leaf, node, Reduced}
 use Rattle.meaning.proofs.Canonical.{reduced-from}
 use Rattle.table.specs.Nodes.{Node, nodeOf, blank, Placing, full, placed, find, orAppend, put, andThen, place}
+use Rattle.table.specs.Indexed.{nodesOf, written}
 use Rattle.table.proofs.Numbers.{UsesTo}
+use Rattle.table.proofs.Written.{nodes-indexed}
 use Rattle.table.proofs.Growth.{at-new, length-new}
 
 module _ (n : ℕ) where
@@ -53,3 +55,9 @@ module _ (n : ℕ) where
       then-uses (place s t l) (λ t₁ a. andThen (place s t₁ h) (λ t₂ b. put s t₂ v a b)) (place-uses s t l u (reduced-from 1 (suc v) (suc n) l (omega arith) (o .3)))
       (λ t₁ a u₁. then-uses (place s t₁ h) (λ t₂ b. put s t₂ v a b) (place-uses s t₁ h u₁ (reduced-from 1 (suc v) (suc n) h (omega arith) (o .4)))
       (λ t₂ b u₂. put-uses s t₂ v a b u₂ (omega arith)))
+
+-- as the columns have it
+pub uses-written : (n s : ℕ) (p : Placing) → UsesAfter n p → UsesTo n (nodesOf (written s p .table))
+unfolding written
+uses-written n s (full t) u = subst (UsesTo n) (sym (nodes-indexed s t)) u
+uses-written n s (placed t k) u = subst (UsesTo n) (sym (nodes-indexed s t)) u

@@ -4,12 +4,12 @@ use mathlib.Core.Path.{_≡_}
 use mathlib.Core.Bool.{true, false, cond}
 use mathlib.Core.List.{List, [] as []ᴸ, _∷_ as _∷ᴸ_, _++_ as _++ᴸ_}
 use Prim.Native.Nat.{ℕ, zero, suc}
-use Prim.Native.Char.{code}
 use Prim.Native.String.{String, [], _∷_, _++_}
 use Rattle.meaning.specs.Diagram.{Diagram, leaf, node}
 use Rattle.meaning.specs.Operations.{Literal, clause, conjunction, cofactor, isUnit}
 use Rattle.commands.specs.Commands.{inRecords, inText}
 use Rattle.verdict.specs.Check.{Verdict, verdict}
+use Rattle.dimacs.specs.Texts.{bytes, plus, minus}
 
 -- ---- rows
 
@@ -34,19 +34,8 @@ pub data Row : Type 0 where
   cofactored : (n : ℕ) (f g result : Diagram) → Row
   units : (n : ℕ) (f : Diagram) (result : List Literal) → Row
 
--- The bytes of a text of plain characters.
-abbrev pub bytes : String → List ℕ
-bytes [] = []ᴸ
-bytes (c ∷ s) = code c ∷ᴸ bytes s
-
 abbrev pub printed : Verdict → Printed
 printed v = prints (v .number) (v .place) (v .lines) (v .rounds) (v .peak)
-
-abbrev pub plus : ℕ → Literal
-plus v = record { variable = v; positive = true }
-
-abbrev pub minus : ℕ → Literal
-minus v = record { variable = v; positive = false }
 
 -- The literals of U(f) of the variables 1 to v.
 unfoldable pub unitsTo : ℕ → ℕ → Diagram → List Literal

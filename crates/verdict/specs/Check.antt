@@ -108,19 +108,19 @@ clauses mode n s proof t ms (clause ls first rest) =
 clauses mode n s proof t ms complete = proofFrom mode n s proof (begun t ms)
 clauses mode n s proof t ms (refusal number place) = refusedFormula number place (length t)
 
-abbrev pub afterHeader : Mode → ℕ → List ℕ → List ℕ → Header → Verdict
-afterHeader mode s formula proof (Proper n many at) = clauses mode n s proof emptied [] (clausesFrom formula n many at)
-afterHeader mode s formula proof (Improper number place) = refusedFormula number place (length emptied)
+abbrev pub checkAfterHeader : Mode → ℕ → List ℕ → List ℕ → Header → Verdict
+checkAfterHeader mode s formula proof (Proper n many at) = clauses mode n s proof emptied [] (clausesFrom formula n many at)
+checkAfterHeader mode s formula proof (Improper number place) = refusedFormula number place (length emptied)
 
 -- The check of a formula and a proof with a table of s places.
 unfoldable pub verdict : Mode → ℕ → List ℕ → List ℕ → Verdict
 unfolding clauses header
-verdict mode s formula proof = afterHeader mode s formula proof (header formula)
+verdict mode s formula proof = checkAfterHeader mode s formula proof (header formula)
 
 -- ---- the call
 
 -- What the call says, and what every lent place holds after it.
-pub record Outcome : Type 0 where
+pub record CheckOutcome : Type 0 where
   pub number : ℕ
   pub inProof : Bool
   pub place : ℕ
@@ -144,7 +144,7 @@ abbrev pub zeros : ℕ → List ℕ
 zeros k = replicate k 0
 
 -- "zeros above. [..] Scratch ends as zeros."
-unfoldable pub outcome : ℕ → ℕ → ℕ → Verdict → Outcome
+unfoldable pub outcome : ℕ → ℕ → ℕ → Verdict → CheckOutcome
 outcome s m c v = record {
   number = v .number;
   inProof = v .inProof;
@@ -160,12 +160,12 @@ outcome s m c v = record {
 }
 
 -- "Number 7 changes nothing": "place 0, no lines, no rounds and the count as lent". "with 7, 24 and 25 it is 0": the peak. (02, 2/14)
-unfoldable pub check : Mode → Columns → ℕ → List ℕ → List ℕ → List ℕ → List ℕ → List ℕ → Outcome
+unfoldable pub check : Mode → Columns → ℕ → List ℕ → List ℕ → List ℕ → List ℕ → List ℕ → CheckOutcome
 unfolding lentFits outcome verdict
 check mode c count members struck scratch formula proof =
     let s = length (c .vars) in
     let done = outcome s (length members) (length scratch) (verdict mode s formula proof) in
-    let seven : Outcome = record {
+    let seven : CheckOutcome = record {
       number = 7;
       inProof = false;
       place = 0;

@@ -42,10 +42,10 @@ propagating s (suc most) n t ms =
     let later = inRound (firstWithUnit n ms) (λ u. making s t (byUnits n u ms) (λ t₁. propagating s most n t₁ (byUnits n u ms))) in
     cond (conflicts n ms) all-shown later
 
-abbrev pub andThen : Met → Met → Met
-andThen all-shown later = later
-andThen no-conflict later = no-conflict
-andThen no-place later = no-place
+abbrev pub metThen : Met → Met → Met
+metThen all-shown later = later
+metThen no-conflict later = no-conflict
+metThen no-place later = no-place
 
 -- "for each member f, by place, with h = f under ω: h is 1, or UnitProp of the members cofactored by not-g and then by not-h
 -- conflicts"; "in PR, per member, h, not-h, the second cofactors; in each round all members by place. In PR the nodes of one
@@ -57,7 +57,7 @@ turning s n P N t ms′ (f ∷ fs) =
     let h = cofactorLiterals n P N f in
     let second = byDiagram n (negation n h) ms′ in
     let rest = turning s n P N t ms′ fs in
-    let turn = andThen (making s t (h ∷ negation n h ∷ second) (λ t₁. propagating s n n t₁ second)) rest in
+    let turn = metThen (making s t (h ∷ negation n h ∷ second) (λ t₁. propagating s n n t₁ second)) rest in
     cond (same h (leaf true)) rest turn
 
 -- "Making order of a line: not-g; members by not-g, by place", then the propagation of RUP or the turns of PR.

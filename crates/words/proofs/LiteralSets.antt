@@ -8,12 +8,13 @@ use lib.Bits.{bitOr}
 use Rattle.meaning.specs.Operations.{Literal}
 use Rattle.meaning.specs.Words.{inWord}
 use Rattle.meaning.proofs.Booleans.{and-true, and-false, or-neither}
-use Rattle.meaning.proofs.Clauses.{occurs, Within}
+use Rattle.meaning.proofs.Clauses.{occurs}
+use Rattle.meaning.specs.Literals.{OfVariables}
 use Rattle.meaning.proofs.Words.{in-or, in-bit, in-none}
 use Rattle.words.specs.declared.Literals.{Literals}
 use Rattle.words.specs.Sets.{withVariable, has, noLiterals, withLiteral, withAll, literalsOf}
 
-in-with : (w x v : ℕ) → 1 ≤ x → 1 ≤ v → inWord (withVariable w x) v ≡ (inWord w v || eqb x v)
+pub in-with : (w x v : ℕ) → 1 ≤ x → 1 ≤ v → inWord (withVariable w x) v ≡ (inWord w v || eqb x v)
 in-with w x v h k = in-or w (2 ^ (x - 1)) v ∙ ap (_||_ (inWord w v)) (in-bit x v h k)
 
 has-with : (u : Literals) (x : ℕ) (t : Bool) (v : ℕ) (s : Bool) → 1 ≤ x → 1 ≤ v → has (withLiteral u x t) v s ≡ (has u v s || (eqb x v && Bool·beq t s))
@@ -23,7 +24,7 @@ has-with u x false v false h k = in-with (u .negative) x v h k ∙ ap (_||_ (inW
 has-with u x true v false h k = sym (ap (_||_ (inWord (u .negative) v)) (and-false (eqb x v)) ∙ or-false (inWord (u .negative) v))
 has-with u x false v true h k = sym (ap (_||_ (inWord (u .positive) v)) (and-false (eqb x v)) ∙ or-false (inWord (u .positive) v))
 
-has-all : (n : ℕ) (u : Literals) (ls : List Literal) (v : ℕ) (s : Bool) → Within n ls → 1 ≤ v → has (withAll u ls) v s ≡ (has u v s || occurs ls v s)
+has-all : (n : ℕ) (u : Literals) (ls : List Literal) (v : ℕ) (s : Bool) → OfVariables n ls → 1 ≤ v → has (withAll u ls) v s ≡ (has u v s || occurs ls v s)
 unfolding withAll occurs
 has-all n u [] v s h k = sym (or-false (has u v s))
 has-all n u (l ∷ ls) v s h k =
@@ -43,7 +44,7 @@ has-none u e v s =
     go false n = n .1
 
 -- the literals of a list
-pub in-set : (n : ℕ) (ls : List Literal) (v : ℕ) (s : Bool) → Within n ls → 1 ≤ v → has (literalsOf ls) v s ≡ occurs ls v s
+pub in-set : (n : ℕ) (ls : List Literal) (v : ℕ) (s : Bool) → OfVariables n ls → 1 ≤ v → has (literalsOf ls) v s ≡ occurs ls v s
 unfolding has
 in-set n ls v s h k =
     has-all n noLiterals ls v s h k ∙ ap (λ (t : Bool). t || occurs ls v s) (none s)

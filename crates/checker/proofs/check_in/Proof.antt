@@ -4,7 +4,7 @@ use mathlib.Core.Path.{sym, ap, _∙_}
 use borrow.Author.Needs.{needs}
 use Rattle.checker.proofs.check_in.Statement.{statement}
 use Rattle.checker.proofs.check_in.Tie as tie
-use Rattle.verdict.specs.Check.{Outcome}
+use Rattle.verdict.specs.Check.{CheckOutcome}
 use Rattle.verdict.proofs.Refuted.{check-refuted}
 
 -- The ways back, written by ways.py: TO-from-FROM leads from the place FROM of the code to the place TO before it.
@@ -42,7 +42,7 @@ same-length-8 c = search needs
 returns : tie.Need-returns
 returns c =
     let said = call-from-return c .call .ensures in
-    (said, λ z. check-refuted _ _ _ _ _ _ _ _ (sym (ap (λ (o : Outcome). o .number) said) ∙ z))
+    (said, λ z. check-refuted _ _ _ _ _ _ _ _ (sym (ap (λ (o : CheckOutcome). o .number) said) ∙ z))
 
 pub check-in-spec : {M : Type 1} → statement M
 check-in-spec =

@@ -3,7 +3,7 @@ use Prim.Native.Nat.{_≤_, _-_}
 use native.Mathlib.Omega.{arith}
 use borrow.Author.Tests.{not-true, not-false}
 use Rattle.table.specs.Indexed.{tableOf}
-use Rattle.table.specs.Tested.{Reached, AllReached}
+use Rattle.table.specs.Tested.{InChain, AllReached}
 use Rattle.table.proofs.Testing.{says-no, says-yes, one-more}
 use borrow.Author.Needs.{needs}
 use Rattle.table.proofs.test.all_reached.Statement.{statement}
@@ -51,7 +51,7 @@ loop-less : tie.Need-loop-less Inv-loop μ-loop
 loop-less c = search needs
 
 loop-again : tie.Need-loop-again Inv-loop μ-loop
-loop-again c = let a = start-from-else1 c .args in (search needs, search needs, one-more (Reached (tableOf (a .vars .now) (a .lows .now) (a .highs .now) (a .heads .now) (a .links .now) (a .count))) 2 _ (at-loop-from-else1 c .loop .inv .2) (c .before .reached .ensures .yes (not-false _ (c .if1 .left))))
+loop-again c = let a = start-from-else1 c .args in (search needs, search needs, one-more (InChain (tableOf (a .vars .now) (a .lows .now) (a .highs .now) (a .heads .now) (a .links .now) (a .count))) 2 _ (at-loop-from-else1 c .loop .inv .2) (c .before .reached .ensures .yes (not-false _ (c .if1 .left))))
 
 returns-2 : tie.Need-returns-2 Inv-loop μ-loop
 returns-2 c = says-yes (λ k a b. c .before .loop .inv .2 k a (omega (arith, c .loop-test .left)))

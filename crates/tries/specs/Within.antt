@@ -1,8 +1,0 @@
--- Literals of the variables 1 to n. No call open to others cites this file.
-use mathlib.Core.List.{List, [], _∷_}
-use Prim.Native.Nat.{ℕ, _≤_}
-use Rattle.meaning.specs.Operations.{Literal}
-
-abbrev pub Within : ℕ → List Literal → Type 0
-Within n [] = Unit {0}
-Within n (l ∷ ls) = (1 ≤ l .variable) × (l .variable ≤ n) × Within n ls
