@@ -25,8 +25,8 @@ use Rattle.table.specs.Making.{placedAll}
 use Rattle.supports.specs.Supports.{Support, Supports}
 use Rattle.walks.specs.Readable.{ListReady}
 use Rattle.table.specs.Lists.{diagramsOf}
-use Rattle.propagate.specs.Made.{results, AllMade}
-use Rattle.propagate.specs.Touching.{Touches}
+use Rattle.members.specs.Made.{results, AllMade}
+use Rattle.members.specs.Touching.{Touches}
 use Rattle.table.proofs.PlacedAll.{first-full, first-placed}
 use Rattle.table.proofs.Extended.{longer-extended, extended-trans, diagrams-kept}
 use Rattle.judge.specs.Lines.{Negatable, Worded, ByNegation}

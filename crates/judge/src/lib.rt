@@ -1,6 +1,6 @@
 // Lines over a table, its members and lists to work in: what a RUP line and a PR line share.
+use members::Made;
 use operate::Operation;
-use propagate::Made;
 use table::NodeNo;
 ghost use mathlib.Core.Path.{_≡_};
 ghost use mathlib.Core.Bool.{false};
@@ -112,7 +112,7 @@ pub fn by_negation(
             count: not.count,
         };
     }
-    propagate::all_by(
+    members::all_by(
         vars,
         lows,
         highs,

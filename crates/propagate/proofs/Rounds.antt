@@ -23,9 +23,9 @@ use Rattle.operate.specs.Operate.{result}
 use Rattle.table.specs.Making.{placedAll}
 use Rattle.table.specs.Lists.{room, diagramsOf, Inside, Extended}
 use Rattle.conflict.specs.Marks.{unmarked}
-use Rattle.propagate.specs.Made.{results, unitResults, AllMade, differing}
-use Rattle.propagate.specs.Units.{UnitsTaken}
-use Rattle.propagate.specs.Rounds.{Said, roundsLeft}
+use Rattle.members.specs.Made.{results, AllMade, differing}
+use Rattle.unit_search.specs.Units.{UnitsTaken}
+use Rattle.propagate.specs.Rounds.{unitResults, Said, roundsLeft}
 use Rattle.table.proofs.PlacedAll.{placed-short, placed-then}
 use Rattle.table.proofs.Extended.{extended-same, extended-trans}
 

@@ -6,13 +6,20 @@ use Prim.Native.Nat.{ℕ, _-_, _≤_, _<_}
 use lib.ListN.{length}
 use Rattle.meaning.specs.Diagram.{Diagram}
 use Rattle.meaning.specs.Rules.{conflicts, Propagation, still, propagate}
+use Rattle.words.specs.declared.Literals as sets
 use Rattle.table.specs.Indexed.{Table, size, nodesOf}
 use Rattle.table.specs.Making.{placedAll}
+use Rattle.operate.specs.declared.Operation.the-variants.{Literals}
+use Rattle.members.specs.Made.{results}
 use Rattle.propagate.specs.declared.Propagated.{Propagated}
 use Rattle.propagate.specs.declared.Next.{Next}
 use Rattle.propagate.specs.declared.Next.the-variants.{End, By}
-use Rattle.propagate.specs.Units.{UnitsTaken, Unitless}
+use Rattle.unit_search.specs.Units.{UnitsTaken, Unitless}
 use Rattle.table.specs.Lists.{Extended, room}
+
+-- The listed nodes' cofactors by the literals.
+abbrev pub unitResults : sets.Literals → Table → List ℕ → List Diagram
+unitResults u t list = results (Literals (u .positive) (u .negative)) t list 1
 
 -- The rounds that may still come after so many.
 abbrev pub roundsLeft : ℕ → ℕ

@@ -11,8 +11,8 @@ use Rattle.operate.specs.Inner.{applied, Allowed}
 use Rattle.meaning.proofs.Booleans.{t≢f}
 use Rattle.supports.specs.Supports.{Supports}
 use Rattle.walks.specs.Readable.{ListReady}
-use Rattle.propagate.specs.Made.{results, AllMade}
-use Rattle.propagate.specs.Touching.{Touches}
+use Rattle.members.specs.Made.{results, AllMade}
+use Rattle.members.specs.Touching.{Touches}
 use Rattle.judge.proofs.Negations.{negation-ready, negation-full, cofactors-ready, negation-words, cofactors-made}
 use native.Mathlib.Omega.{arith}
 use Rattle.judge.proofs.by_negation.Statement.{statement}

@@ -6,7 +6,7 @@ use borrow.Author.Needs.{needs}
 use Rattle.table.specs.Indexed.{tableOf, nodesOf}
 use Rattle.walks.proofs.Here.{good-readable}
 use Rattle.table.specs.Lists.{diagramsOf}
-use Rattle.propagate.specs.Units.{AreFirst}
+use Rattle.unit_search.specs.Units.{AreFirst}
 use Rattle.propagate.proofs.Rounds.{ends-conflict, ends-last, ends-still}
 use Rattle.propagate.proofs.next_round.Statement.{statement}
 use Rattle.propagate.proofs.next_round.Tie as tie

@@ -12,8 +12,8 @@ use Rattle.operate.specs.declared.Operation.the-variants.{Literals}
 use Rattle.conflict.specs.Members.{Quiet}
 use Rattle.table.specs.Lists.{diagramsOf}
 use Rattle.conflict.specs.Marks.{unmarked}
-use Rattle.propagate.specs.Made.{results, AllMade}
-use Rattle.propagate.specs.Units.{Asked}
+use Rattle.members.specs.Made.{results, AllMade}
+use Rattle.unit_search.specs.Units.{Asked}
 use Rattle.propagate.specs.Rounds.{Comes}
 use Rattle.propagate.proofs.Quieting.{quiet-all, quiet-next, asked-next}
 use Rattle.propagate.proofs.Rounds.{Going, going-first, going-ready, going-ends, going-full, going-on}

@@ -1,0 +1,6 @@
+pub mod Counting
+pub mod Written
+pub mod Touching
+pub mod Rewording
+pub mod Replacing
+pub mod OneByOne

@@ -1,0 +1,104 @@
+-- A member that shares no variable with the operation stays as it is, and each member's word still has its variables. Assumes nothing.
+use mathlib.Core.Path.{_≡_, refl, sym, ap, _∙_, subst}
+use mathlib.Core.Bool.{Bool, true, false, _&&_, cond}
+use mathlib.Core.List.{List}
+use Prim.Native.Nat.{ℕ, _<_}
+use native.Mathlib.Omega.{arith}
+use native.Mathlib.Decide.{ℕ-discrete}
+use lib.ListN.{length, getD, set, length-set}
+use lib.Seq.{getD-set-same, getD-set-other}
+use lib.Dec.{eqb}
+use lib.Bits.{bitAnd, bitOr}
+use borrow.Author.Tests.{eqb-true}
+use Rattle.meaning.specs.Diagram.{Diagram, Reduced}
+use Rattle.meaning.specs.Operations.{cofactorLiterals}
+use Rattle.meaning.specs.Words.{inWord}
+use Rattle.meaning.proofs.Booleans.{or-neither}
+use Rattle.table.specs.Nodes.{diagramAt}
+use Rattle.table.specs.Indexed.{Table, nodesOf, Good}
+use Rattle.table.proofs.Written.{length-nodes, good-ordered}
+use Rattle.table.proofs.Numbers.{diagramAt-reduced}
+use Rattle.table.proofs.Outcomes.{Longer}
+use Rattle.operate.specs.declared.Operation.{Operation}
+use Rattle.operate.specs.declared.Operation.the-variants.{Conjunction, Negation, Cofactor, Literals}
+use Rattle.operate.specs.Operate.{result}
+use Rattle.operate.specs.Inner.{applied, Allowed, Ready}
+use Rattle.operate.proofs.Levels.{zero-is}
+use Rattle.operate.proofs.Results.{known-outcome}
+use Rattle.meaning.proofs.Words.{in-and, in-or, in-none}
+use Rattle.supports.specs.Supports.{Support, Supports}
+use Rattle.supports.proofs.Uses.{literals-uses, literals-apart, cofactor-uses, cofactor-apart}
+use Rattle.supports.proofs.Words.{support-left, support-right}
+use Rattle.table.specs.Lists.{Inside}
+use Rattle.members.specs.Touching.{Touches, Apart, reworded}
+
+-- words without a variable in common
+pub words-apart : (a b : ℕ) → bitAnd a b ≡ 0 → Apart a b
+words-apart a b e v p =
+    ap (λ (x : Bool). x && inWord b v) (sym p) ∙ sym (in-and a b v) ∙ ap (λ (w : ℕ). inWord w v) e ∙ in-none v
+
+module _ (t : Table) (G : Good t) where
+  reduced : (k : ℕ) → k < t .count → Reduced 1 65 (diagramAt (nodesOf t) k)
+  reduced k p = diagramAt-reduced (nodesOf t) (good-ordered t G) k (omega (arith, length-nodes t G))
+
+  module _ (f g : ℕ) (f-inside : f < t .count) (g-inside : g < t .count) (word touching : ℕ) (has : Support word (diagramAt (nodesOf t) f)) where
+    abbrev F : Diagram
+    F = diagramAt (nodesOf t) f
+
+    abbrev E : Diagram
+    E = diagramAt (nodesOf t) g
+
+    -- no variable in common: the member stays
+    pub stays : (op : Operation) → Allowed op g → Touches op E touching → Apart word touching → result op F E ≡ F
+    unfolding result Support
+    stays Conjunction allowed touches apart = absurd touches
+    stays Negation allowed touches apart = absurd touches
+    stays Cofactor allowed touches apart =
+        cofactor-apart (inWord word) (inWord touching) apart 64 F E (reduced f f-inside) (reduced g g-inside) (λ z. allowed (zero-is t G g g-inside z)) has touches
+    stays (Literals p n) allowed touches apart =
+        literals-apart 64 (inWord p) (inWord n) (inWord word)
+        (λ v q. or-neither (inWord p v) (inWord n v) (sym (in-or p n v) ∙ ap (λ (w : ℕ). inWord w v) (sym touches) ∙ apart v q)) F (reduced f f-inside) has
+
+    -- else the word has the result's variables with the operation's
+    pub grows : (op : Operation) → Allowed op g → Touches op E touching → Support (bitOr word touching) (result op F E)
+    unfolding result Support
+    grows Conjunction allowed touches = absurd touches
+    grows Negation allowed touches = absurd touches
+    grows Cofactor allowed touches =
+        cofactor-uses 64 (inWord (bitOr word touching)) F E (reduced f f-inside) (reduced g g-inside) (λ z. allowed (zero-is t G g g-inside z))
+        (support-left word touching F has) (support-right word touching E touches)
+    grows (Literals p n) allowed touches =
+        support-left word touching (cofactorLiterals 64 (inWord p) (inWord n) F) (literals-uses 64 (inWord p) (inWord n) (inWord word) F (reduced f f-inside) has)
+
+    pub untouched : (op : Operation) (memo : List ℕ) → Ready op memo t f g → Touches op E touching → bitAnd word touching ≡ 0
+        → record { table = t; full = false; node = f } ≡ applied t op f g
+    untouched op memo R touches e =
+        known-outcome op memo t f g R f (record { f-inside = f-inside; g-inside = g-inside; inside = f-inside; is = sym (stays op (R .allowed) touches (words-apart word touching e)) })
+
+-- ---- the list's words
+
+pub touches-kept : (op : Operation) (D E : Diagram) (touching : ℕ) → D ≡ E → Touches op E touching → Touches op D touching
+touches-kept op D E touching e touches = subst (λ (x : Diagram). Touches op x touching) (sym e) touches
+
+-- a member's word once its node f is k
+pub word-supported : (T T′ : Table) → Longer T T′ → (f k word touching : ℕ) → f < T .count → Support word (diagramAt (nodesOf T) f)
+    → Support (bitOr word touching) (diagramAt (nodesOf T′) k) → Support (reworded f k word touching) (diagramAt (nodesOf T′) k)
+unfolding reworded
+word-supported T T′ L f k word touching inside old new = go (eqb f k) refl
+  where
+    go : (b : Bool) → eqb f k ≡ b → Support (cond b word (bitOr word touching)) (diagramAt (nodesOf T′) k)
+    go true e =
+        subst (λ (n : ℕ). Support word (diagramAt (nodesOf T′) n)) (eqb-true f k e) (subst (Support word) (sym (L .kept f inside)) old)
+    go false e = new
+
+-- one member replaced in a table that has grown
+pub supports-replaced : (T T′ : Table) → Longer T T′ → (list words : List ℕ) → Inside (T .count) list → length words ≡ length list → Supports (nodesOf T) list words
+    → (i k word : ℕ) → i < length list → Support word (diagramAt (nodesOf T′) k) → Supports (nodesOf T′) (set list i k) (set words i word)
+unfolding Supports
+supports-replaced T T′ L list words inside len old i k word p new j q = go (ℕ-discrete j i)
+  where
+    go : Dec (j ≡ i) → Support (getD (set words i word) j 0) (diagramAt (nodesOf T′) (getD (set list i k) j 0))
+    go (yes e) = rw (e, getD-set-same list i k 0 p, getD-set-same words i word 0 (omega arith)) new
+    go (no n) =
+        let r : j < length list = omega (arith, length-set list i k) in
+        rw (getD-set-other list i j k 0 n, getD-set-other words i j word 0 n, L .kept (getD list j 0) (inside j r)) (old j r)
