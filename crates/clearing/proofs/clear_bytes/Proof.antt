@@ -5,8 +5,8 @@ use native.Mathlib.Omega.{arith}
 use lib.ListN.{length, length-set}
 use borrow.Author.Needs.{needs}
 use Rattle.table.proofs.Zeros.{ZerosBelow, cleared-one, cleared-all}
-use Rattle.session.proofs.clear.clear_bytes.Statement.{statement}
-use Rattle.session.proofs.clear.clear_bytes.Tie as tie
+use Rattle.clearing.proofs.clear_bytes.Statement.{statement}
+use Rattle.clearing.proofs.clear_bytes.Tie as tie
 
 abbrev Inv-loop : tie.InvT-loop
 Inv-loop bytes₀ i₀ bytes i = (length bytes ≡ length bytes₀) × (i ≤ length bytes) × ZerosBelow bytes i

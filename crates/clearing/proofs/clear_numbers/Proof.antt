@@ -5,8 +5,8 @@ use native.Mathlib.Omega.{arith}
 use lib.ListN.{length, length-set}
 use borrow.Author.Needs.{needs}
 use Rattle.table.proofs.Zeros.{ZerosBelow, cleared-one, cleared-all}
-use Rattle.session.proofs.clear.clear_numbers.Statement.{statement}
-use Rattle.session.proofs.clear.clear_numbers.Tie as tie
+use Rattle.clearing.proofs.clear_numbers.Statement.{statement}
+use Rattle.clearing.proofs.clear_numbers.Tie as tie
 
 abbrev Inv-loop : tie.InvT-loop
 Inv-loop numbers₀ i₀ numbers i = (length numbers ≡ length numbers₀) × (i ≤ length numbers) × ZerosBelow numbers i

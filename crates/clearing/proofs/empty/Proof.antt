@@ -1,7 +1,7 @@
 -- `empty` leaves zeros in each list, by the two that clear one. Assumes nothing.
 use borrow.Author.Needs.{needs}
-use Rattle.session.proofs.clear.empty.Statement.{statement}
-use Rattle.session.proofs.clear.empty.Tie as tie
+use Rattle.clearing.proofs.empty.Statement.{statement}
+use Rattle.clearing.proofs.empty.Tie as tie
 
 clear-bytes-requires : tie.Need-clear-bytes-requires
 clear-bytes-requires c κs = search needs
