@@ -31,12 +31,12 @@ use denote.Triple.Spec.{tripleOf}
 use denote.Triple.Statement.{Contract}
 use denote.Triple.Clauses.{ensured, lasts}
 use denote.Triple.Walked.{says}
-use Rattle.nodes.specs.Slice.{varsOf, lowsOf, highsOf}
-use Rattle.nodes.proofs.Lent.{Loan, lifetime, lent-as, Lender, Sharer, Loaned, Shared, lends, shares-out, back, whole-back}
-use Rattle.nodes.proofs.Lists.{varOf, lowOf, highOf, column}
-use Rattle.nodes.proofs.Setting.{Spot, Filled, Cut, Table, room8, room16}
-use Rattle.nodes.proofs.Node as N
-use Rattle.nodes.proofs.columns.load as load-fn
+use Rattle.columns.specs.Slice.{varsOf, lowsOf, highsOf}
+use Rattle.columns.proofs.Lent.{Loan, lifetime, lent-as, Lender, Sharer, Loaned, Shared, lends, shares-out, back, whole-back}
+use Rattle.columns.proofs.Lists.{varOf, lowOf, highOf, column}
+use Rattle.columns.proofs.Setting.{Spot, Filled, Cut, Table, room8, room16}
+use Rattle.columns.proofs.Node as N
+use Rattle.columns.proofs.load as load-fn
 
 abbrev pub Load : {M : Type 1} (𝓤 : URA M) (H : Heap 𝓤) (A : Atoms 𝓤) (mem : Memory → SProp 𝓤) (run : Routine → Fun 𝓤) → Contract 𝓤
 Load 𝓤 H A mem run = tripleOf 𝓤 H A load-fn.signature (load-fn.spec 𝓤 H A mem run)

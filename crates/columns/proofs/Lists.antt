@@ -6,8 +6,8 @@ use Prim.Native.Nat.{ℕ, zero, suc, _+_, _<_, _≤_}
 use native.Mathlib.Omega.{arith}
 use mathlib.Core.List.{List, [], _∷_, _++_, map}
 use lib.ListN.{length, getD, set, take, drop}
-use Rattle.nodes.specs.declared.Node.{Node}
-use Rattle.nodes.specs.Within.{asNodes}
+use Rattle.columns.specs.declared.Node.{Node}
+use Rattle.columns.specs.Inner.{asNodes}
 
 -- by a test's answer
 pub by-test {α} : {P : Type α} (t : Bool) → (t ≡ true → P) → (t ≡ false → P) → P

@@ -31,12 +31,12 @@ use denote.Triple.Spec.{tripleOf}
 use denote.Triple.Statement.{Contract}
 use denote.Triple.Clauses.{ensured, lasts}
 use denote.Triple.Walked.{says}
-use Rattle.nodes.specs.declared.Node.{Node}
-use Rattle.nodes.proofs.Lent.{Loan, lifetime, lent-as, Lender, Sharer, Loaned, Shared, lends, shares-out, back, whole-back}
-use Rattle.nodes.proofs.Lists.{slice}
-use Rattle.nodes.proofs.Setting.{Spot, Filled, Cut, Table, room8, room16}
-use Rattle.nodes.proofs.Node as N
-use Rattle.nodes.proofs.columns.save as save-fn
+use Rattle.columns.specs.declared.Node.{Node}
+use Rattle.columns.proofs.Lent.{Loan, lifetime, lent-as, Lender, Sharer, Loaned, Shared, lends, shares-out, back, whole-back}
+use Rattle.columns.proofs.Lists.{slice}
+use Rattle.columns.proofs.Setting.{Spot, Filled, Cut, Table, room8, room16}
+use Rattle.columns.proofs.Node as N
+use Rattle.columns.proofs.save as save-fn
 
 abbrev pub Save : {M : Type 1} (𝓤 : URA M) (H : Heap 𝓤) (A : Atoms 𝓤) (mem : Memory → SProp 𝓤) (run : Routine → Fun 𝓤) → Contract 𝓤
 Save 𝓤 H A mem run = tripleOf 𝓤 H A save-fn.signature (save-fn.spec 𝓤 H A mem run)

@@ -42,17 +42,17 @@ use denote.Triple.Spec.{Meets, tripleOf}
 use denote.Triple.Table.{entered}
 use denote.Triple.Walked.{says, needs, Stays, stay-none-slice, stay-none, stay-slice, walkOf, Walks, ends-at, walked, goes-none-slice, goes-none, goes-slice, walk-meets}
 use denote.Exit.{yes}
-use Rattle.nodes.specs.declared.Node.{Node}
-use Rattle.nodes.specs.Slice.{varsOf, lowsOf, highsOf}
-use Rattle.nodes.proofs.Lists.{by-test, blank, varOf, lowOf, highOf, column, column-step, column-length, add-one}
-use Rattle.nodes.proofs.Opened.{Left, LeftShared, opens, closes, looks, shuts}
-use Rattle.nodes.proofs.Node as N
-use Rattle.nodes.proofs.Node.Laws as N′
-use Rattle.nodes.proofs.columns.load.Key.{name as #columns·load}
-use Rattle.nodes.proofs.columns.load as load-fn
-use Rattle.nodes.proofs.columns.load.Statement as stated
-use Rattle.nodes.proofs.columns.load.Code as code
-use Rattle.nodes.proofs.columns.load.Code.Mir as Mir
+use Rattle.columns.specs.declared.Node.{Node}
+use Rattle.columns.specs.Slice.{varsOf, lowsOf, highsOf}
+use Rattle.columns.proofs.Lists.{by-test, blank, varOf, lowOf, highOf, column, column-step, column-length, add-one}
+use Rattle.columns.proofs.Opened.{Left, LeftShared, opens, closes, looks, shuts}
+use Rattle.columns.proofs.Node as N
+use Rattle.columns.proofs.Node.Laws as N′
+use Rattle.columns.proofs.load.Key.{name as #columns·load}
+use Rattle.columns.proofs.load as load-fn
+use Rattle.columns.proofs.load.Statement as stated
+use Rattle.columns.proofs.load.Code as code
+use Rattle.columns.proofs.load.Code.Mir as Mir
 
 abbrev Arg : Type 0
 Arg = RefT (List Node) × (ℕ × (RefT (List ℕ) × (RefT (List ℕ) × (RefT (List ℕ) × Unit {0}))))

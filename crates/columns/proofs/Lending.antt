@@ -14,8 +14,8 @@ use types.Kit.{Given, Item, ‵, _⊛_, some, later, ⋆, _$_, _∵_, !, qed, mo
 use denote.Builtin.{u8, u16}
 use denote.Slice.{sliceVal, MutSlice, finally}
 use denote.Index.{row}
-use Rattle.nodes.proofs.Setting.{Spot, Filled, Columns, room8, room16}
-use Rattle.nodes.proofs.Lent.{Loan, lifetime, lent-as, Lender, lends, back}
+use Rattle.columns.proofs.Setting.{Spot, Filled, Columns, room8, room16}
+use Rattle.columns.proofs.Lent.{Loan, lifetime, lent-as, Lender, lends, back}
 
 abbrev pub Loans : Type 0
 Loans = Loan × (Loan × Loan)

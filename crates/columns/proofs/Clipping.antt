@@ -21,8 +21,8 @@ use denote.Steps.{only, nothing, owned, heard, facts}
 use denote.Triple.Spec.{tripleOf}
 use denote.Triple.Statement.{Contract}
 use denote.Triple.Clauses.{ensured, lasts}
-use Rattle.nodes.proofs.Setting.{Cut}
-use Rattle.nodes.proofs.columns.places as places-fn
+use Rattle.columns.proofs.Setting.{Cut}
+use Rattle.columns.proofs.places as places-fn
 
 abbrev pub Places : {M : Type 1} (𝓤 : URA M) (H : Heap 𝓤) (A : Atoms 𝓤) (mem : Memory → SProp 𝓤) (run : Routine → Fun 𝓤) → Contract 𝓤
 Places 𝓤 H A mem run = tripleOf 𝓤 H A places-fn.signature (places-fn.spec 𝓤 H A mem run)

@@ -1,7 +1,7 @@
 -- `places` is the lesser of its argument and 65,536. Assumes nothing.
 use borrow.Author.Needs.{needs}
-use Rattle.nodes.proofs.columns.places.Statement.{statement}
-use Rattle.nodes.proofs.columns.places.Tie as tie
+use Rattle.columns.proofs.places.Statement.{statement}
+use Rattle.columns.proofs.places.Tie as tie
 
 returns : tie.Need-returns
 returns c = search needs

@@ -42,17 +42,17 @@ use denote.Triple.Spec.{Meets, tripleOf}
 use denote.Triple.Table.{entered}
 use denote.Triple.Walked.{says, needs, Stays, stay-none-slice, stay-none, stay-slice, walkOf, Walks, ends-at, walked, goes-none-slice, goes-none, goes-slice, walk-meets}
 use denote.Exit.{yes}
-use Rattle.nodes.specs.declared.Node.{Node}
-use Rattle.nodes.specs.Within.{asNodes}
-use Rattle.nodes.proofs.Lists.{by-test, blank, slice, nodeAt, slice-step, slice-length, add-one}
-use Rattle.nodes.proofs.Opened.{Left, LeftShared, opens, closes, looks, shuts}
-use Rattle.nodes.proofs.Node as N
-use Rattle.nodes.proofs.Node.Laws as N′
-use Rattle.nodes.proofs.columns.save.Key.{name as #columns·save}
-use Rattle.nodes.proofs.columns.save as save-fn
-use Rattle.nodes.proofs.columns.save.Statement as stated
-use Rattle.nodes.proofs.columns.save.Code as code
-use Rattle.nodes.proofs.columns.save.Code.Mir as Mir
+use Rattle.columns.specs.declared.Node.{Node}
+use Rattle.columns.specs.Inner.{asNodes}
+use Rattle.columns.proofs.Lists.{by-test, blank, slice, nodeAt, slice-step, slice-length, add-one}
+use Rattle.columns.proofs.Opened.{Left, LeftShared, opens, closes, looks, shuts}
+use Rattle.columns.proofs.Node as N
+use Rattle.columns.proofs.Node.Laws as N′
+use Rattle.columns.proofs.save.Key.{name as #columns·save}
+use Rattle.columns.proofs.save as save-fn
+use Rattle.columns.proofs.save.Statement as stated
+use Rattle.columns.proofs.save.Code as code
+use Rattle.columns.proofs.save.Code.Mir as Mir
 
 abbrev Arg : Type 0
 Arg = RefT (List Node) × (ℕ × (RefT (List ℕ) × (RefT (List ℕ) × (RefT (List ℕ) × Unit {0}))))

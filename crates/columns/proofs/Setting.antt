@@ -11,9 +11,9 @@ use base.Fml.{Fml, Share, fsep}
 use denote.Builtin.{u8, u16}
 use denote.Slice.{Room}
 use denote.Index.{row}
-use Rattle.nodes.specs.declared.Node.{Node}
-use Rattle.nodes.proofs.Lists.{varOf, lowOf, highOf, column, column-length, slice, slice-length}
-use Rattle.nodes.proofs.Node as N
+use Rattle.columns.specs.declared.Node.{Node}
+use Rattle.columns.proofs.Lists.{varOf, lowOf, highOf, column, column-length, slice, slice-length}
+use Rattle.columns.proofs.Node as N
 
 -- where the nodes and the arrays lie, and the nodes
 pub record Spot : Type 0 where

@@ -1,12 +1,19 @@
-// Between the slice of nodes and three columns.
-use crate::Node;
+// Between the slice of node structs and three columns.
 use table::test::MOST;
 ghost use mathlib.Core.Path.{_≡_};
 ghost use mathlib.Core.List.{_++_};
 ghost use Prim.Native.Nat.{_≤_};
 ghost use lib.ListN.{length, take, drop};
-ghost use Rattle.nodes.specs.Slice.{varsOf, lowsOf, highsOf};
-ghost use Rattle.nodes.specs.Within.{asNodes};
+ghost use Rattle.columns.specs.Slice.{varsOf, lowsOf, highsOf};
+ghost use Rattle.columns.specs.Inner.{asNodes};
+
+// A place of the table.
+#[repr(C)]
+pub struct Node {
+    pub var: u8,
+    pub low: u16,
+    pub high: u16,
+}
 
 // How many places of a slice of so many nodes the columns have room for.
 pub fn places(len: usize) -> usize
