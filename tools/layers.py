@@ -21,6 +21,7 @@ WORDS = {
     "export": "the archive for C, Rust", "program": "two files, one line", "refute": "the program, records", "refute_drat": "the program, DRAT", "rows": "an example's line",
     "cases": "runs 01's examples", "changes": "runs 02's examples",
     "sets": "parity, at least", "binomial": "C(n, k), stored",
+    "clearing": "lists made all zero", "columns": "nodes to columns, back",
     "clausal": "RUP, RAT on clauses", "commands": "what stands next", "tries": "a clause's step",
 }
 OPEN = {"checker", "nodes", "export", "refute", "refute_drat", "cases", "changes"}

@@ -36,8 +36,8 @@ use Rattle.session.specs.Checked.{checkOutcome}
 use Rattle.session.proofs.Checked as K
 use Rattle.table.specs.Columns.{columnsMade}
 use Rattle.nodes.specs.Within.{checkWithin}
-use Rattle.nodes.proofs.Setting.{Spot, Filled, Columns, room8, room16}
-use Rattle.nodes.proofs.Lent.{Loan, lifetime, lent-as, Lender, lends, back}
+use Rattle.columns.proofs.Setting.{Spot, Filled, Columns, room8, room16}
+use Rattle.columns.proofs.Lent.{Loan, lifetime, lent-as, Lender, lends, back}
 use Rattle.nodes.proofs.within.check_within as check-fn
 
 abbrev pub Check : {M : Type 1} (𝓤 : URA M) (H : Heap 𝓤) (A : Atoms 𝓤) (mem : Memory → SProp 𝓤) (run : Routine → Fun 𝓤) → Contract 𝓤

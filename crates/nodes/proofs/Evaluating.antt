@@ -37,8 +37,8 @@ use Rattle.table.proofs.NodeNo.Laws as NodeNo′
 use Rattle.single.specs.declared.Evaluated.{Evaluated}
 use Rattle.single.proofs.Evaluated as K
 use Rattle.nodes.specs.Within.{evaluationWithin}
-use Rattle.nodes.proofs.Setting.{Spot, Filled, Columns, room8, room16}
-use Rattle.nodes.proofs.Lent.{Loan, lifetime, lent-as, Sharer, shares-out, whole-back}
+use Rattle.columns.proofs.Setting.{Spot, Filled, Columns, room8, room16}
+use Rattle.columns.proofs.Lent.{Loan, lifetime, lent-as, Sharer, shares-out, whole-back}
 use Rattle.nodes.proofs.within.evaluate_within as evaluate-fn
 
 abbrev pub Evaluate : {M : Type 1} (𝓤 : URA M) (H : Heap 𝓤) (A : Atoms 𝓤) (mem : Memory → SProp 𝓤) (run : Routine → Fun 𝓤) → Contract 𝓤

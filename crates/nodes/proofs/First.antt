@@ -18,7 +18,7 @@ use Rattle.single.specs.declared.call.Single.{Single}
 use Rattle.single.specs.declared.least.AtLeast.{AtLeast}
 use Rattle.single.specs.Inner.{OneOperand}
 use Rattle.single.specs.Single.{madeOf, operation, countedOf, atLeastCall, evaluation}
-use Rattle.nodes.specs.Slice.{secondOf}
+use Rattle.nodes.specs.Second.{secondOf}
 use Rattle.nodes.specs.Within.{checkWithin, operationWithin, atLeastWithin, evaluationWithin}
 
 pub first-length : (n : ℕ) (xs : List ℕ) → n ≤ 65536 → length xs ≡ 65536 → n ≡ length (take n xs)

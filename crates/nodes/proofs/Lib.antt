@@ -1,15 +1,6 @@
-pub mod Arrays
+pub mod Calls
 pub mod Checking
-pub mod Clipping
 pub mod Counting
 pub mod Evaluating
 pub mod First
-pub mod Lending
-pub mod Lent
-pub mod Lists
-pub mod Loading
-pub mod Opened
 pub mod Operating
-pub mod Saving
-pub mod Setting
-pub mod Whole

@@ -43,9 +43,9 @@ use Rattle.single.specs.Single.{madeOf}
 use Rattle.single.proofs.call.Single as K
 use Rattle.table.specs.Columns.{columnsMade}
 use Rattle.nodes.specs.Within.{operationWithin}
-use Rattle.nodes.proofs.Setting.{Spot, Filled, Columns}
-use Rattle.nodes.proofs.Lent.{lifetime, lent-as}
-use Rattle.nodes.proofs.Lending.{Loans, Tokens, Slices, Kept, lends-columns, columns-back}
+use Rattle.columns.proofs.Setting.{Spot, Filled, Columns}
+use Rattle.columns.proofs.Lent.{lifetime, lent-as}
+use Rattle.columns.proofs.Lending.{Loans, Tokens, Slices, Kept, lends-columns, columns-back}
 use Rattle.nodes.proofs.within.operation_within as operate-fn
 
 abbrev pub Operate : {M : Type 1} (𝓤 : URA M) (H : Heap 𝓤) (A : Atoms 𝓤) (mem : Memory → SProp 𝓤) (run : Routine → Fun 𝓤) → Contract 𝓤

@@ -1,2 +1,2 @@
-pub mod Slice
+pub mod Second
 pub mod Within

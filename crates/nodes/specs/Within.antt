@@ -1,7 +1,6 @@
--- The slice that three columns give, and what the inner calls say of arrays whose first n places are the columns. No call open to
--- others cites this file.
+-- What the inner calls say of arrays whose first n places are the columns. No call open to others cites this file.
 use mathlib.Core.Bool.{cond, false}
-use mathlib.Core.List.{List, [], _∷_}
+use mathlib.Core.List.{List}
 use Prim.Native.Nat.{ℕ}
 use lib.ListN.{take}
 use lib.Dec.{leb}
@@ -11,15 +10,7 @@ use Rattle.single.specs.declared.Evaluated.{Evaluated}
 use Rattle.single.specs.Single.{Made, unchanged, operation, Counted, atLeastCall, evaluation}
 use Rattle.commands.specs.Commands.{inRecords}
 use Rattle.verdict.specs.Check.{CheckOutcome, check}
-use Rattle.nodes.specs.declared.Node.{Node}
-use Rattle.nodes.specs.Slice.{secondOf}
-
--- The nodes of three columns.
-unfoldable pub asNodes : List ℕ → List ℕ → List ℕ → List Node
-asNodes [] ls hs = []
-asNodes (v ∷ vs) [] hs = []
-asNodes (v ∷ vs) (l ∷ ls) [] = []
-asNodes (v ∷ vs) (l ∷ ls) (h ∷ hs) = record { var = v; low = l; high = h } ∷ asNodes vs ls hs
+use Rattle.nodes.specs.Second.{secondOf}
 
 -- "The table has 2 to 65,536 places": 7 where the slice has more, and the arrays stay.
 unfoldable pub checkWithin : ℕ → List ℕ → List ℕ → List ℕ → List ℕ → List ℕ → ℕ → List ℕ → List ℕ → List ℕ → List ℕ → List ℕ → CheckOutcome

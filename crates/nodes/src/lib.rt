@@ -1,8 +1,8 @@
 // The calls of the face over the node table as one lent slice of node structs, with its index. Each tests for itself all that it needs,
 // and none has a `requires`.
-mod columns;
 mod within;
 
+pub use columns::Node;
 use operate::Operation;
 use session::Checked;
 use single::Evaluated;
@@ -17,15 +17,8 @@ ghost use Rattle.session.specs.Checked.{checkOutcome};
 ghost use Rattle.single.specs.Single.{evaluation, madeOf, operation, countedOf, atLeastCall};
 ghost use Rattle.verdict.specs.Check.{check};
 ghost use Rattle.verdict.specs.Satisfies.{Unsatisfiable};
-ghost use Rattle.nodes.specs.Slice.{varsOf, lowsOf, highsOf, secondOf};
-
-// A place of the table.
-#[repr(C)]
-pub struct Node {
-    pub var: u8,
-    pub low: u16,
-    pub high: u16,
-}
+ghost use Rattle.columns.specs.Slice.{varsOf, lowsOf, highsOf};
+ghost use Rattle.nodes.specs.Second.{secondOf};
 
 // The whole check of a formula and a proof. What it says and leaves is the definition's, and number 0 means that no assignment
 // satisfies the formula's bytes.

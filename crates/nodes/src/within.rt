@@ -12,7 +12,7 @@ ghost use Rattle.table.specs.Columns.{columnsMade};
 ghost use Rattle.session.specs.Checked.{checkOutcome};
 ghost use Rattle.single.specs.Single.{madeOf, countedOf};
 ghost use Rattle.single.specs.Inner.{OneOperand};
-ghost use Rattle.nodes.specs.Slice.{secondOf};
+ghost use Rattle.nodes.specs.Second.{secondOf};
 ghost use Rattle.nodes.specs.Within.{checkWithin, operationWithin, atLeastWithin, evaluationWithin};
 
 // The whole check.

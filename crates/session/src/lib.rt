@@ -18,7 +18,6 @@ ghost use Rattle.session.specs.Checked.{checkOutcome};
 ghost use Rattle.formula.specs.Formula.{Opened};
 
 pub mod call;
-pub mod clear;
 pub mod proof;
 
 // What the check says: 01's number, whether its place is in the proof (else in the formula), the place, the accepted lines, their rounds,
@@ -85,7 +84,7 @@ fn run_clauses<'a>(
             place,
             peak,
         } => {
-            clear::empty(vars, lows, highs, heads, links, members);
+            clearing::empty(vars, lows, highs, heads, links, members);
             Checked {
                 number,
                 in_proof: false,
@@ -204,8 +203,8 @@ pub fn run<'a>(
         ≡ outcome (length (now (vars .entry))) (length (now (members .entry))) (length (now (scratch .entry)))
         (verdict mode (length (now (vars .entry))) (now (formula .entry)) (now (proof .entry)))) ⌝ }
 {
-    clear::empty(vars, lows, highs, heads, links, members);
-    clear::clear_bytes(struck);
+    clearing::empty(vars, lows, highs, heads, links, members);
+    clearing::clear_bytes(struck);
     let said = run_header(
         vars,
         lows,
@@ -221,6 +220,6 @@ pub fn run<'a>(
         formula,
         proof,
     );
-    clear::clear_numbers(scratch);
+    clearing::clear_numbers(scratch);
     said
 }

@@ -1,5 +1,5 @@
 -- `nodes::cablesalak_evaluate_nodes` meets its contract: a walk of its MIR, by hand, as that of `nodes::check`. The nodes are loaded into three local arrays, and the evaluation over the columns is called.
--- The three calls go by their contracts (`Clipping.antt`, `Loading.antt`, `Evaluating.antt`), and `Whole.antt` says that the columns' equation is the slice's.
+-- The three calls go by their contracts (`Clipping.antt` and `Loading.antt` of crate `columns`, `Evaluating.antt`), and `Calls.antt` says that the arrays' equation is the slice's.
 -- Assumes nothing.
 use mathlib.Core.Path.{_≡_, refl, sym, subst}
 use Prim.Native.Nat.{ℕ, _<_, _^_}
@@ -45,27 +45,27 @@ use Rattle.table.proofs.NodeNo.Laws as D′
 use Rattle.single.specs.declared.Evaluated.{Evaluated}
 use Rattle.single.proofs.Evaluated as K
 use Rattle.single.proofs.Evaluated.Laws as K′
-use Rattle.nodes.specs.declared.Node.{Node}
+use Rattle.columns.specs.declared.Node.{Node}
 use Rattle.nodes.specs.Within.{evaluationWithin}
-use Rattle.nodes.proofs.Arrays.{typed, made, freed, big-lit}
-use Rattle.nodes.proofs.Lists.{varOf, lowOf, highOf, column}
-use Rattle.nodes.proofs.Opened.{LeftShared, looks, shuts}
-use Rattle.nodes.proofs.Setting.{Filled, Cut, Table, loaded}
-use Rattle.nodes.proofs.Whole.{evaluation-whole}
-use Rattle.nodes.proofs.Clipping as P
-use Rattle.nodes.proofs.Clipping.{Places}
-use Rattle.nodes.proofs.Loading as Lo
-use Rattle.nodes.proofs.Loading.{Load}
+use Rattle.columns.proofs.Arrays.{typed, made, freed, big-lit}
+use Rattle.columns.proofs.Lists.{varOf, lowOf, highOf, column}
+use Rattle.columns.proofs.Opened.{LeftShared, looks, shuts}
+use Rattle.columns.proofs.Setting.{Filled, Cut, Table, loaded}
+use Rattle.nodes.proofs.Calls.{evaluation-whole}
+use Rattle.columns.proofs.Clipping as P
+use Rattle.columns.proofs.Clipping.{Places}
+use Rattle.columns.proofs.Loading as Lo
+use Rattle.columns.proofs.Loading.{Load}
 use Rattle.nodes.proofs.Evaluating as Ev
 use Rattle.nodes.proofs.Evaluating.{Evaluate}
-use Rattle.nodes.proofs.Node as N
-use Rattle.nodes.proofs.Node.Laws as N′
-use Rattle.nodes.proofs.columns.places.Symbol as places-def
-use Rattle.nodes.proofs.columns.places.Symbol.{name as #places}
-use Rattle.nodes.proofs.columns.places.Met as places-thm
-use Rattle.nodes.proofs.columns.load.Symbol as load-def
-use Rattle.nodes.proofs.columns.load.Symbol.{name as #load}
-use Rattle.nodes.proofs.columns.load.Met as load-thm
+use Rattle.columns.proofs.Node as N
+use Rattle.columns.proofs.Node.Laws as N′
+use Rattle.columns.proofs.places.Symbol as places-def
+use Rattle.columns.proofs.places.Symbol.{name as #places}
+use Rattle.columns.proofs.places.Met as places-thm
+use Rattle.columns.proofs.load.Symbol as load-def
+use Rattle.columns.proofs.load.Symbol.{name as #load}
+use Rattle.columns.proofs.load.Met as load-thm
 use Rattle.nodes.proofs.within.evaluate_within.Symbol as within-def
 use Rattle.nodes.proofs.within.evaluate_within.Symbol.{name as #within}
 use Rattle.nodes.proofs.within.evaluate_within.Met as within-thm
@@ -246,6 +246,6 @@ cablesalak-evaluate-nodes-spec 𝓤 H 𝓜 𝓖 𝓡 =
     entered 𝓤 H (tripleOf 𝓤 H (𝓖 .A) evaluate-fn.signature (evaluate-fn.spec 𝓤 H (𝓖 .A) (𝓜 .mem) (𝓡 .run)))
     (tables 𝓤 H 𝓜 𝓡 code.env .C) (tables 𝓤 H 𝓜 𝓡 code.env .Λ) #nodes·evaluate code.function (code.unfolded 𝓤 H 𝓜 𝓡)
     (evaluate-meets 𝓤 H (𝓖 .A) (givenOf 𝓤 H 𝓜 𝓖) (𝓜 .mem) (𝓡 .run) (tablesOf 𝓤 H 𝓜 (tables 𝓤 H 𝓜 𝓡 code.env))
-    (cited 𝓤 H (Places 𝓤 H (𝓖 .A) (𝓜 .mem) (𝓡 .run)) 𝓜 𝓡 code.env #places places-def.routine code.calls-nodes·columns·places (places-thm.met 𝓤 H 𝓜 𝓖 𝓡))
-    (cited 𝓤 H (Load 𝓤 H (𝓖 .A) (𝓜 .mem) (𝓡 .run)) 𝓜 𝓡 code.env #load load-def.routine code.calls-nodes·columns·load (load-thm.met 𝓤 H 𝓜 𝓖 𝓡))
+    (cited 𝓤 H (Places 𝓤 H (𝓖 .A) (𝓜 .mem) (𝓡 .run)) 𝓜 𝓡 code.env #places places-def.routine code.calls-columns·places (places-thm.met 𝓤 H 𝓜 𝓖 𝓡))
+    (cited 𝓤 H (Load 𝓤 H (𝓖 .A) (𝓜 .mem) (𝓡 .run)) 𝓜 𝓡 code.env #load load-def.routine code.calls-columns·load (load-thm.met 𝓤 H 𝓜 𝓖 𝓡))
     (cited 𝓤 H (Evaluate 𝓤 H (𝓖 .A) (𝓜 .mem) (𝓡 .run)) 𝓜 𝓡 code.env #within within-def.routine code.calls-nodes·within·evaluate-within (within-thm.met 𝓤 H 𝓜 𝓖 𝓡)))

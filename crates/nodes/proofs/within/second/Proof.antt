@@ -2,7 +2,7 @@
 use mathlib.Core.Path.{refl}
 use borrow.Author.Needs.{needs}
 use Rattle.operate.specs.declared.Operation.the-variants.{Conjunction, Negation, Cofactor, Literals}
-use Rattle.nodes.specs.Slice.{secondOf}
+use Rattle.nodes.specs.Second.{secondOf}
 use Rattle.nodes.proofs.First.{kind-second}
 use Rattle.nodes.proofs.within.second.Statement.{statement}
 use Rattle.nodes.proofs.within.second.Tie as tie
