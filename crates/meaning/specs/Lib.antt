@@ -5,3 +5,4 @@ pub mod Branchwise
 pub mod Words
 pub mod Sets
 pub mod Tallies
+pub mod Uses

@@ -6,10 +6,10 @@ use table::Placed;
 use words::Literals;
 ghost use mathlib.Core.Path.{_≡_};
 ghost use Prim.Native.Nat.{_≤_, _<_};
-ghost use lib.ListN.{length};
+ghost use lib.ListN.{length, getD};
 ghost use Rattle.table.specs.Indexed.{tableOf, outcomeOf};
-ghost use Rattle.operate.specs.Inner.{applied, kindOf, literalsOf, operationOf, terminalOf, level, top, childOr, sidesOf};
-ghost use Rattle.operate.specs.Inner.{descentOf, MemoRight};
+ghost use Rattle.operate.specs.Inner.{applied, kindOf, byOf, operationOf, terminalOf, level, top, childOr, sidesOf};
+ghost use Rattle.operate.specs.Inner.{descentOf, beyond, Shared, MemoRight};
 ghost use Rattle.operate.specs.Inner.{Ready, SidesReady, joinedOf};
 
 pub mod memo;
@@ -58,9 +58,10 @@ fn kind_of(op: Operation) -> Kind
     }
 }
 
-// The literals of a cofactor by literals; none for another operation.
-fn literals_of(op: Operation) -> Literals
-    ensures { λ r. ⌜ r ≡ literalsOf op ⌝ }
+// What the recursion takes a cofactor by: the literals, or for a cofactor by a diagram, as positive, the variables that f and g may share.
+// Nothing for another operation.
+fn by_of(op: Operation, shared: u64) -> Literals
+    ensures { λ r. ⌜ r ≡ byOf op shared ⌝ }
 {
     let none = Literals {
         positive: 0,
@@ -69,7 +70,10 @@ fn literals_of(op: Operation) -> Literals
     match op {
         Operation::Conjunction => none,
         Operation::Negation => none,
-        Operation::Cofactor => none,
+        Operation::Cofactor => Literals {
+            positive: shared,
+            negative: 0,
+        },
         Operation::Literals { positive, negative } => Literals { positive, negative },
     }
 }
@@ -221,6 +225,21 @@ fn descent_of(op: Operation, s: Sides) -> Descent
     }
 }
 
+// Whether a node of the variable f's or after it is touched by no variable that the cofactor is by: then f is its own cofactor.
+fn is_beyond(vars: &[u8], kind: Kind, by: Literals, f: NodeNo) -> bool
+    requires { ⌜ (f .0 < length (now vars)) × (1 ≤ getD (now vars) (f .0) 0) × (getD (now vars) (f .0) 0 ≤ 64) ⌝ }
+    ensures { λ r. ⌜ r ≡ beyond kind by (getD (now (vars .entry)) (f .0) 0) ⌝ }
+{
+    let i = f.0 as usize;
+    let before = words::ends_before(by.positive | by.negative, vars[i]);
+    match kind {
+        Kind::And => false,
+        Kind::Not => false,
+        Kind::ByDiagram => before,
+        Kind::ByLiterals => before,
+    }
+}
+
 // The operation on the nodes f and g, or `full`. Places only nodes of the finished diagram.
 pub fn apply(
     vars: &mut [u8],
@@ -243,12 +262,40 @@ pub fn apply(
         let after = tableOf (now (vars .exit)) (now (lows .exit)) (now (highs .exit)) (now (heads .exit)) (now (links .exit)) (r .count) in
         MemoRight op (now (memo .exit)) after) ⌝ }
 {
+    apply_sharing(vars, lows, highs, heads, links, memo, count, op, f, g, words::ALL)
+}
+
+// As `apply`, for who knows a word of all variables that f and g share. A cofactor by a diagram goes no deeper than the last of them.
+pub fn apply_sharing(
+    vars: &mut [u8],
+    lows: &mut [u16],
+    highs: &mut [u16],
+    heads: &mut [u16],
+    links: &mut [u16],
+    memo: &mut [u64],
+    count: usize,
+    op: Operation,
+    f: NodeNo,
+    g: NodeNo,
+    shared: u64,
+) -> Placed
+    requires { ⌜ (
+        let before = tableOf (now vars) (now lows) (now highs) (now heads) (now links) count in
+        Ready op (now memo) before (f .0) (g .0) × Shared op shared before (f .0) (g .0)) ⌝ }
+    ensures { λ r. ⌜ (
+        let before = tableOf (now (vars .entry)) (now (lows .entry)) (now (highs .entry)) (now (heads .entry)) (now (links .entry)) count in
+        outcomeOf (now (vars .exit)) (now (lows .exit)) (now (highs .exit)) (now (heads .exit)) (now (links .exit)) r
+        ≡ applied before op (f .0) (g .0)) ⌝ }
+    ensures { λ r. ⌜ (
+        let after = tableOf (now (vars .exit)) (now (lows .exit)) (now (highs .exit)) (now (heads .exit)) (now (links .exit)) (r .count) in
+        MemoRight op (now (memo .exit)) after) ⌝ }
+{
     let kind = kind_of(op);
-    let by = literals_of(op);
+    let by = by_of(op, shared);
     work_out(vars, lows, highs, heads, links, memo, count, kind, by, f, g)
 }
 
-// The operation from its terminals, its memo or its branches.
+// The operation from its terminals, its memo, a first operand beyond what is shared, or its branches.
 fn work_out(
     vars: &mut [u8],
     lows: &mut [u16],
@@ -264,7 +311,8 @@ fn work_out(
 ) -> Placed
     requires { ⌜ (
         let before = tableOf (now vars) (now lows) (now highs) (now heads) (now links) count in
-        Ready (operationOf kind by) (now memo) before (f .0) (g .0)) ⌝ }
+        Ready (operationOf kind by) (now memo) before (f .0) (g .0)
+        × Shared (operationOf kind by) (by .positive) before (f .0) (g .0)) ⌝ }
     ensures { λ r. ⌜ (
         let before = tableOf (now (vars .entry)) (now (lows .entry)) (now (highs .entry)) (now (heads .entry)) (now (links .entry)) count in
         outcomeOf (now (vars .exit)) (now (lows .exit)) (now (highs .exit)) (now (heads .exit)) (now (links .exit)) r
@@ -286,6 +334,13 @@ fn work_out(
                 count,
             },
             Found::Nothing => {
+                if is_beyond(vars, kind, by, f) {
+                    return Placed {
+                        full: false,
+                        node: f,
+                        count,
+                    };
+                }
                 let p = descend(vars, lows, highs, heads, links, memo, count, kind, by, f, g);
                 if p.full {
                     return p;
@@ -313,7 +368,9 @@ fn descend(
 ) -> Placed
     requires { ⌜ (
         let before = tableOf (now vars) (now lows) (now highs) (now heads) (now links) count in
-        Ready (operationOf kind by) (now memo) before (f .0) (g .0) × (terminalOf (operationOf kind by) (f .0) (g .0) ≡ Found.Nothing)) ⌝ }
+        Ready (operationOf kind by) (now memo) before (f .0) (g .0)
+        × Shared (operationOf kind by) (by .positive) before (f .0) (g .0)
+        × (terminalOf (operationOf kind by) (f .0) (g .0) ≡ Found.Nothing)) ⌝ }
     ensures { λ r. ⌜ (
         let before = tableOf (now (vars .entry)) (now (lows .entry)) (now (highs .entry)) (now (heads .entry)) (now (links .entry)) count in
         outcomeOf (now (vars .exit)) (now (lows .exit)) (now (highs .exit)) (now (heads .exit)) (now (links .exit)) r
@@ -354,7 +411,11 @@ fn join(
     by: Literals,
     s: Sides,
 ) -> Placed
-    requires { ⌜ SidesReady (operationOf kind by) (now memo) (tableOf (now vars) (now lows) (now highs) (now heads) (now links) count) s ⌝ }
+    requires { ⌜ (
+        let before = tableOf (now vars) (now lows) (now highs) (now heads) (now links) count in
+        SidesReady (operationOf kind by) (now memo) before s
+        × Shared (operationOf kind by) (by .positive) before (s .f0 .0) (s .g0 .0)
+        × Shared (operationOf kind by) (by .positive) before (s .f1 .0) (s .g1 .0)) ⌝ }
     ensures { λ r. ⌜ (
         let before = tableOf (now (vars .entry)) (now (lows .entry)) (now (highs .entry)) (now (heads .entry)) (now (links .entry)) count in
         outcomeOf (now (vars .exit)) (now (lows .exit)) (now (highs .exit)) (now (heads .exit)) (now (links .exit)) r

@@ -99,7 +99,7 @@ pub fn apply_thin(
         ≡ applied before op (f .0) (g .0)) ⌝ }
 {
     let kind = crate::kind_of(op);
-    let by = crate::literals_of(op);
+    let by = crate::by_of(op, words::ALL);
     work_out_thin(vars, lows, highs, heads, links, count, kind, by, f, g)
 }
 
