@@ -5,7 +5,7 @@ use Rattle.words.specs.declared.Literals as words
 use Rattle.table.specs.Indexed.{Table}
 use Rattle.operate.specs.declared.Operation.{Operation}
 use Rattle.operate.specs.declared.Operation.the-variants.{Conjunction, Negation, Cofactor, Literals}
-use Rattle.operate.specs.declared.Kind.{Kind}
+use Rattle.operate.specs.declared.step.Kind.{Kind}
 use Rattle.operate.specs.Inner.{kindOf, byOf, operationOf, Shared}
 
 joined-again : (op : Operation) (shared : ℕ) → operationOf (kindOf op) (byOf op shared) ≡ op

@@ -18,7 +18,7 @@ use Rattle.table.proofs.Numbers.{root-variable}
 use Rattle.table.proofs.Outcomes.{placeIn, putIn, Longer, Grown, longer, grown, there, put-grown, low-full, high-full, joined}
 use Rattle.operate.specs.declared.Operation.{Operation}
 use Rattle.operate.specs.declared.Operation.the-variants.{Conjunction, Negation, Cofactor, Literals}
-use Rattle.operate.specs.declared.Sides.{Sides}
+use Rattle.operate.specs.declared.step.Sides.{Sides}
 use Rattle.meaning.specs.Words.{inWord}
 use Rattle.operate.specs.Operate.{result}
 use Rattle.operate.specs.Inner.{applied, joinedOf, Allowed, level, top, Shared, Right, MemoRight, Ready, SidesReady}

@@ -21,8 +21,8 @@ use Rattle.table.specs.Nodes.{diagramAt}
 use Rattle.table.specs.Indexed.{Table, nodesOf, Good}
 use Rattle.operate.specs.declared.Operation.{Operation}
 use Rattle.operate.specs.declared.Operation.the-variants.{Conjunction, Negation, Cofactor, Literals}
-use Rattle.operate.specs.declared.Kind.{Kind}
-use Rattle.operate.specs.declared.Kind.the-variants.{And, Not, ByDiagram, ByLiterals}
+use Rattle.operate.specs.declared.step.Kind.{Kind}
+use Rattle.operate.specs.declared.step.Kind.the-variants.{And, Not, ByDiagram, ByLiterals}
 use Rattle.operate.specs.Operate.{result}
 use Rattle.operate.specs.Inner.{Allowed, operationOf, level, beyond, Sharing, Shared, Right}
 use Rattle.operate.proofs.Levels.{diagramOf, zero-is, level-least, level-most, level-reduced}

@@ -20,9 +20,9 @@ use Rattle.table.specs.Indexed.{Table, Good}
 use Rattle.table.proofs.Outcomes.{placeIn}
 use Rattle.operate.specs.declared.Operation.{Operation}
 use Rattle.operate.specs.declared.Operation.the-variants.{Conjunction, Negation, Cofactor, Literals}
-use Rattle.operate.specs.declared.Sides.{Sides}
-use Rattle.operate.specs.declared.Descent.{Descent}
-use Rattle.operate.specs.declared.Descent.the-variants.{One, Both}
+use Rattle.operate.specs.declared.step.Sides.{Sides}
+use Rattle.operate.specs.declared.step.Descent.{Descent}
+use Rattle.operate.specs.declared.step.Descent.the-variants.{One, Both}
 use Rattle.meaning.specs.Words.{inWord}
 use Rattle.operate.specs.Operate.{result}
 use Rattle.operate.specs.Inner.{applied, joinedOf, Allowed, level, top, sidesOf, descentOf, Ready, SidesReady}

@@ -14,11 +14,11 @@ use Rattle.table.specs.Nodes.{diagramAt, place}
 use Rattle.table.specs.Indexed.{Table, size, nodesOf, Good, Outcome, written}
 use Rattle.operate.specs.declared.Operation.{Operation}
 use Rattle.operate.specs.declared.Operation.the-variants.{Conjunction, Negation, Cofactor, Literals}
-use Rattle.operate.specs.declared.Kind.{Kind}
-use Rattle.operate.specs.declared.Kind.the-variants.{And, Not, ByDiagram, ByLiterals}
-use Rattle.operate.specs.declared.Sides.{Sides}
-use Rattle.operate.specs.declared.Descent.{Descent}
-use Rattle.operate.specs.declared.Descent.the-variants.{One, Both}
+use Rattle.operate.specs.declared.step.Kind.{Kind}
+use Rattle.operate.specs.declared.step.Kind.the-variants.{And, Not, ByDiagram, ByLiterals}
+use Rattle.operate.specs.declared.step.Sides.{Sides}
+use Rattle.operate.specs.declared.step.Descent.{Descent}
+use Rattle.operate.specs.declared.step.Descent.the-variants.{One, Both}
 use Rattle.meaning.specs.Words.{inWord}
 use Rattle.words.specs.declared.Literals as words
 use Rattle.words.specs.Sets.{noLiterals, endsBefore}

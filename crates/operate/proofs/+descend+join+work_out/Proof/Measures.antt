@@ -14,12 +14,12 @@ use Rattle.operate.proofs.join.Kinds as join-kinds
 use Rattle.operate.proofs.+descend+join+work_out.Lts-join as join-lts
 use Rattle.operate.proofs.memo.memo_find.Reads as memo-find-reads
 use Rattle.operate.proofs.memo.memo_home.Reads as memo-home-reads
-use Rattle.operate.proofs.operation_of.Reads as operation-of-reads
-use Rattle.operate.proofs.is_beyond.Reads as is-beyond-reads
+use Rattle.operate.proofs.step.operation_of.Reads as operation-of-reads
+use Rattle.operate.proofs.step.is_beyond.Reads as is-beyond-reads
 use Rattle.operate.proofs.memo.memo_put.Reads as memo-put-reads
-use Rattle.operate.proofs.sides_of.Reads as sides-of-reads
-use Rattle.operate.proofs.descent_of.Reads as descent-of-reads
-use Rattle.operate.proofs.terminal.Reads as terminal-reads
+use Rattle.operate.proofs.step.sides_of.Reads as sides-of-reads
+use Rattle.operate.proofs.step.descent_of.Reads as descent-of-reads
+use Rattle.operate.proofs.step.terminal.Reads as terminal-reads
 use Rattle.table.proofs.put.Reads as put-reads
 
 abbrev pub μ-work-out : Measures 6 work-out-kinds.ps ℕ

@@ -1,7 +1,7 @@
 -- `by_of` is the definition, operation by operation. Assumes nothing.
 use borrow.Author.Needs.{needs}
-use Rattle.operate.proofs.by_of.Statement.{statement}
-use Rattle.operate.proofs.by_of.Tie as tie
+use Rattle.operate.proofs.step.by_of.Statement.{statement}
+use Rattle.operate.proofs.step.by_of.Tie as tie
 
 enum-told : tie.Need-enum-told
 enum-told c = search needs

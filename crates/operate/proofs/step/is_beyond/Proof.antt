@@ -1,7 +1,7 @@
 -- `is_beyond` is the definition, kind by kind. Assumes nothing.
 use borrow.Author.Needs.{needs}
-use Rattle.operate.proofs.is_beyond.Statement.{statement}
-use Rattle.operate.proofs.is_beyond.Tie as tie
+use Rattle.operate.proofs.step.is_beyond.Statement.{statement}
+use Rattle.operate.proofs.step.is_beyond.Tie as tie
 
 cast-i : tie.Need-cast-i
 cast-i c = search needs
