@@ -13,7 +13,7 @@ use Rattle.table.proofs.Written.{length-nodes, good-ordered}
 use Rattle.table.proofs.Numbers.{diagramAt-reduced}
 use Rattle.table.proofs.Outcomes.{Longer}
 use Rattle.supports.specs.Supports.{Support, Supports}
-use Rattle.supports.proofs.Uses.{negation-uses, literals-uses}
+use Rattle.meaning.proofs.Uses.{negation-uses, literals-uses}
 use Rattle.table.specs.Lists.{Inside}
 use Rattle.judge.specs.Lines.{Worded}
 

@@ -9,6 +9,7 @@ pub mod Units
 pub mod Nearest
 pub mod Cofactor
 pub mod CofactorSteps
+pub mod Uses
 pub mod Soundness
 pub mod Ends
 pub mod Widths

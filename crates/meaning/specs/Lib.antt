@@ -6,3 +6,4 @@ pub mod Words
 pub mod Sets
 pub mod Tallies
 pub mod Literals
+pub mod Uses

@@ -1,5 +1,5 @@
 -- A member that shares no variable with the operation stays as it is, and each member's word still has its variables. Assumes nothing.
-use mathlib.Core.Path.{_≡_, refl, sym, ap, _∙_, subst}
+use mathlib.Core.Path.{_≡_, refl, sym, ap, ap₂, _∙_, subst}
 use mathlib.Core.Bool.{Bool, true, false, _&&_, cond}
 use mathlib.Core.List.{List}
 use Prim.Native.Nat.{ℕ, _<_}
@@ -22,12 +22,12 @@ use Rattle.table.proofs.Outcomes.{Longer}
 use Rattle.operate.specs.declared.Operation.{Operation}
 use Rattle.operate.specs.declared.Operation.the-variants.{Conjunction, Negation, Cofactor, Literals}
 use Rattle.operate.specs.Operate.{result}
-use Rattle.operate.specs.Inner.{applied, Allowed, Ready}
+use Rattle.operate.specs.Inner.{applied, Allowed, Shared, Ready}
 use Rattle.operate.proofs.Levels.{zero-is}
 use Rattle.operate.proofs.Results.{known-outcome}
 use Rattle.meaning.proofs.Words.{in-and, in-or, in-none}
 use Rattle.supports.specs.Supports.{Support, Supports}
-use Rattle.supports.proofs.Uses.{literals-uses, literals-apart, cofactor-uses, cofactor-apart}
+use Rattle.meaning.proofs.Uses.{literals-uses, literals-apart, cofactor-uses, cofactor-apart}
 use Rattle.supports.proofs.Words.{support-left, support-right}
 use Rattle.table.specs.Lists.{Inside}
 use Rattle.members.specs.Touching.{Touches, Apart, reworded}
@@ -69,6 +69,20 @@ module _ (t : Table) (G : Good t) where
         (support-left word touching F has) (support-right word touching E touches)
     grows (Literals p n) allowed touches =
         support-left word touching (cofactorLiterals 64 (inWord p) (inWord n) F) (literals-uses 64 (inWord p) (inWord n) (inWord word) F (reduced f f-inside) has)
+
+    -- the word of what the member shares with the operation
+    pub touched-shared : (op : Operation) → Touches op E touching → Shared op (bitAnd word touching) t f g
+    unfolding Support
+    touched-shared Conjunction touches = absurd touches
+    touched-shared Negation touches = absurd touches
+    touched-shared Cofactor touches = record {
+      first = inWord word;
+      second = inWord touching;
+      first-uses = has;
+      second-uses = touches;
+      common = λ v p q. in-and word touching v ∙ ap₂ _&&_ p q;
+    }
+    touched-shared (Literals p n) touches = tt
 
     pub untouched : (op : Operation) (memo : List ℕ) → Ready op memo t f g → Touches op E touching → bitAnd word touching ≡ 0
         → record { table = t; full = false; node = f } ≡ applied t op f g

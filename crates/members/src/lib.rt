@@ -75,7 +75,19 @@ fn apply_touching(
         return operate::thin::apply_thin(vars, lows, highs, heads, links, count, op, f, g);
     }
     operate::memo::clear_forgetful(memo);
-    operate::apply(vars, lows, highs, heads, links, memo, count, op, f, g)
+    operate::apply_sharing(
+        vars,
+        lows,
+        highs,
+        heads,
+        links,
+        memo,
+        count,
+        op,
+        f,
+        g,
+        word & touching,
+    )
 }
 
 // What making one member gives: `full` where it found no room, else its node; how often the list was written, once or not at all; and

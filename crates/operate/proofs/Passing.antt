@@ -13,8 +13,8 @@ use Rattle.table.specs.Indexed.{Table, tableOf, nodesOf, Good, Outcome, outcome
 use Rattle.table.proofs.Order.{Fits}
 use Rattle.table.proofs.Written.{length-nodes, good-ordered, low-at, high-at}
 use Rattle.operate.specs.declared.Operation.{Operation}
-use Rattle.operate.specs.declared.Sides.{Sides}
-use Rattle.operate.specs.declared.Descent.the-variants.{One, Both}
+use Rattle.operate.specs.declared.step.Sides.{Sides}
+use Rattle.operate.specs.declared.step.Descent.the-variants.{One, Both}
 use Rattle.operate.specs.Inner.{applied, top, terminalOf, descentOf, MemoRight, Tells, Ready}
 use Rattle.operate.specs.Thin.{SomeTable, noMemo, PartedTo}
 use Rattle.operate.proofs.Terminals.{terminal-right, terminal-two}

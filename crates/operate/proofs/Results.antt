@@ -18,12 +18,13 @@ use Rattle.table.proofs.Numbers.{root-variable}
 use Rattle.table.proofs.Outcomes.{placeIn, putIn, Longer, Grown, longer, grown, there, put-grown, low-full, high-full, joined}
 use Rattle.operate.specs.declared.Operation.{Operation}
 use Rattle.operate.specs.declared.Operation.the-variants.{Conjunction, Negation, Cofactor, Literals}
-use Rattle.operate.specs.declared.Sides.{Sides}
+use Rattle.operate.specs.declared.step.Sides.{Sides}
 use Rattle.meaning.specs.Words.{inWord}
 use Rattle.operate.specs.Operate.{result}
-use Rattle.operate.specs.Inner.{applied, joinedOf, Allowed, level, top, Right, MemoRight, Ready, SidesReady}
+use Rattle.operate.specs.Inner.{applied, joinedOf, Allowed, level, top, Shared, Right, MemoRight, Ready, SidesReady}
 use Rattle.operate.proofs.RightMemo.{memo-kept}
 use Rattle.operate.proofs.Levels.{top-first, top-second, diagramOf, zero-is, level-reduced}
+use Rattle.operate.proofs.Sharing.{shared-kept}
 
 -- ---- results are reduced
 
@@ -125,6 +126,10 @@ module _ (op : Operation) (memo : List ℕ) (t : Table) (s : Sides) (R : SidesRe
     allowed = R .high .allowed;
     right = right;
   }
+
+  pub high-shared : (shared : ℕ) → Shared op shared t (s .f1 .0) (s .g1 .0) → Shared op shared (o₁ .table) (s .f1 .0) (s .g1 .0)
+  high-shared shared =
+      shared-kept op shared t (s .f1 .0) (s .g1 .0) (o₁ .table) (low-grown .kept (s .f1 .0) (R .high .f-inside)) (low-grown .kept (s .g1 .0) (R .high .g-inside))
 
   pub high-top : s .x < top (o₁ .table .vars) (s .f1 .0) (s .g1 .0)
   high-top = rw (top-kept t (o₁ .table) good low-longer (s .f1 .0) (s .g1 .0) (R .high .f-inside) (R .high .g-inside)) (R .high-after)

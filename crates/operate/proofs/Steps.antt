@@ -20,13 +20,14 @@ use Rattle.table.specs.Indexed.{Table, Good}
 use Rattle.table.proofs.Outcomes.{placeIn}
 use Rattle.operate.specs.declared.Operation.{Operation}
 use Rattle.operate.specs.declared.Operation.the-variants.{Conjunction, Negation, Cofactor, Literals}
-use Rattle.operate.specs.declared.Sides.{Sides}
-use Rattle.operate.specs.declared.Descent.{Descent}
-use Rattle.operate.specs.declared.Descent.the-variants.{One, Both}
+use Rattle.operate.specs.declared.step.Sides.{Sides}
+use Rattle.operate.specs.declared.step.Descent.{Descent}
+use Rattle.operate.specs.declared.step.Descent.the-variants.{One, Both}
 use Rattle.meaning.specs.Words.{inWord}
 use Rattle.operate.specs.Operate.{result}
 use Rattle.operate.specs.Inner.{applied, joinedOf, Allowed, level, top, sidesOf, descentOf, Ready, SidesReady}
 use Rattle.operate.proofs.Levels.{top-first, top-second, top-both, top-is-first, diagramOf, is-zero, is-one, zero-is, one-is, level-constant, level-least, level-most, level-reduced, child, Child, child-of, own, node-is}
+use Rattle.operate.proofs.Sharing.{SideOf}
 
 negation-branch : (x : ℕ) (l h : Diagram) → Reduced 1 65 (node x l h) → negation 64 (node x l h) ≡ branch x (negation 64 l) (negation 64 h)
 negation-branch x l h o =
@@ -166,6 +167,7 @@ module _ (t : Table) (G : Good t) (f g : ℕ) (f-inside : f < t .count) (g-insid
 -- One pair of nodes is left to do.
 pub record OneLeft (op : Operation) (memo : List ℕ) (t : Table) (f g a b : ℕ) : Type 0 where
   pub ready : Ready op memo t a b
+  pub side-of : SideOf t f g a b
   pub most : top (t .vars) f g ≤ 64
   pub after : top (t .vars) f g < top (t .vars) a b
   pub is : applied t op a b ≡ applied t op f g
@@ -173,6 +175,8 @@ pub record OneLeft (op : Operation) (memo : List ℕ) (t : Table) (f g a b : ℕ
 -- Both sides are.
 pub record BothLeft (op : Operation) (memo : List ℕ) (t : Table) (f g : ℕ) (s : Sides) : Type 0 where
   pub ready : SidesReady op memo t s
+  pub low-of : SideOf t f g (s .f0 .0) (s .g0 .0)
+  pub high-of : SideOf t f g (s .f1 .0) (s .g1 .0)
   pub variable : s .x ≡ top (t .vars) f g
   pub is : joinedOf t op s ≡ applied t op f g
 
@@ -198,6 +202,14 @@ module _ (op : Operation) (memo : List ℕ) (t : Table) (f g : ℕ) (R : Ready o
     right = R .right;
   }
 
+  own-side : (b : Bool) → SideOf t f g (P b) (Q b)
+  own-side b = record {
+    variable = top (t .vars) f g;
+    which = b;
+    first = f-child t (R .good) f g (R .f-inside) (R .g-inside) two b .is;
+    second = g-child t (R .good) f g (R .f-inside) (R .g-inside) two b .is;
+  }
+
   step : Stepped t (R .good) f g (R .f-inside) (R .g-inside) two op
   step = stepped t (R .good) f g (R .f-inside) (R .g-inside) two op (R .allowed)
 
@@ -218,6 +230,7 @@ module _ (op : Operation) (memo : List ℕ) (t : Table) (f g : ℕ) (R : Ready o
           subst (λ (k : ℕ). OneLeft op memo t f g k (b .0)) (ap first w) (subst (λ (k : ℕ). OneLeft op memo t f g (P c) k) (ap second w)
           (record {
             ready = side-ready c q;
+            side-of = own-side c;
             most = top-most t (R .good) f g (R .f-inside) (R .g-inside) two;
             after = after t (R .good) f g (R .f-inside) (R .g-inside) two c;
             is = ap (placeIn t) (sym r);
@@ -247,6 +260,8 @@ module _ (op : Operation) (memo : List ℕ) (t : Table) (f g : ℕ) (R : Ready o
               low-after = after t (R .good) f g (R .f-inside) (R .g-inside) two false;
               high-after = after t (R .good) f g (R .f-inside) (R .g-inside) two true;
             };
+            low-of = own-side false;
+            high-of = own-side true;
             variable = refl;
             is = ap (placeIn t) (sym r);
           })

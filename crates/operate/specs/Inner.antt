@@ -1,24 +1,27 @@
 -- What the inner functions answer, step by step, and what their memo holds. No call open to others cites this file.
 use mathlib.Core.Path.{_≡_}
-use mathlib.Core.Bool.{cond, _||_}
+use mathlib.Core.Bool.{Bool, true, false, cond, _||_}
 use mathlib.Core.List.{List}
 use Prim.Native.Nat.{ℕ, _+_, _*_, _/_, _%_, _≤_, _<_}
 use lib.ListN.{length, getD}
 use lib.Dec.{eqb, ltb}
-use Rattle.meaning.specs.Diagram.{branch}
+use lib.Bits.{bitOr}
+use Rattle.meaning.specs.Diagram.{Diagram, branch}
+use Rattle.meaning.specs.Uses.{Uses}
 use Rattle.table.specs.declared.Found.{Found}
 use Rattle.table.specs.declared.Found.the-variants.{At, Nothing}
 use Rattle.table.specs.Nodes.{diagramAt, place}
 use Rattle.table.specs.Indexed.{Table, size, nodesOf, Good, Outcome, written}
 use Rattle.operate.specs.declared.Operation.{Operation}
 use Rattle.operate.specs.declared.Operation.the-variants.{Conjunction, Negation, Cofactor, Literals}
-use Rattle.operate.specs.declared.Kind.{Kind}
-use Rattle.operate.specs.declared.Kind.the-variants.{And, Not, ByDiagram, ByLiterals}
-use Rattle.operate.specs.declared.Sides.{Sides}
-use Rattle.operate.specs.declared.Descent.{Descent}
-use Rattle.operate.specs.declared.Descent.the-variants.{One, Both}
+use Rattle.operate.specs.declared.step.Kind.{Kind}
+use Rattle.operate.specs.declared.step.Kind.the-variants.{And, Not, ByDiagram, ByLiterals}
+use Rattle.operate.specs.declared.step.Sides.{Sides}
+use Rattle.operate.specs.declared.step.Descent.{Descent}
+use Rattle.operate.specs.declared.step.Descent.the-variants.{One, Both}
 use Rattle.meaning.specs.Words.{inWord}
 use Rattle.words.specs.declared.Literals as words
+use Rattle.words.specs.Sets.{noLiterals, endsBefore}
 use Rattle.operate.specs.Operate.{result}
 
 -- The outcome of an operation on nodes f and g of a table.
@@ -47,11 +50,12 @@ kindOf Negation = Not
 kindOf Cofactor = ByDiagram
 kindOf (Literals p n) = ByLiterals
 
-abbrev pub literalsOf : Operation → words.Literals
-literalsOf Conjunction = record { positive = 0; negative = 0 }
-literalsOf Negation = record { positive = 0; negative = 0 }
-literalsOf Cofactor = record { positive = 0; negative = 0 }
-literalsOf (Literals p n) = record { positive = p; negative = n }
+-- The literals; for a cofactor by a diagram, as positive, the variables that the two diagrams may share.
+abbrev pub byOf : Operation → ℕ → words.Literals
+byOf Conjunction shared = noLiterals
+byOf Negation shared = noLiterals
+byOf Cofactor shared = record { positive = shared; negative = 0 }
+byOf (Literals p n) shared = record { positive = p; negative = n }
 
 abbrev pub operationOf : Kind → words.Literals → Operation
 operationOf And by = Conjunction
@@ -101,6 +105,30 @@ descentOf Conjunction s = Both s
 descentOf Negation s = Both s
 descentOf Cofactor s = cond (eqb (s .g0 .0) 0) (One (s .f1) (s .g1)) (cond (eqb (s .g1 .0) 0) (One (s .f0) (s .g0)) (Both s))
 descentOf (Literals p n) s = cond (inWord p (s .x)) (One (s .f1) (s .g1)) (cond (inWord n (s .x)) (One (s .f0) (s .g0)) (Both s))
+
+-- Whether no variable that a cofactor is by is v or after it.
+abbrev pub beyond : Kind → words.Literals → ℕ → Bool
+beyond And by v = false
+beyond Not by v = false
+beyond ByDiagram by v = endsBefore (bitOr (by .positive) (by .negative)) v
+beyond ByLiterals by v = endsBefore (bitOr (by .positive) (by .negative)) v
+
+-- ---- what two diagrams share
+
+-- The diagrams' variables are in two sets, and the word has what is in both.
+pub record Sharing (shared : ℕ) (f g : Diagram) : Type 0 where
+  pub first : ℕ → Bool
+  pub second : ℕ → Bool
+  pub first-uses : Uses first f
+  pub second-uses : Uses second g
+  pub common : (v : ℕ) → first v ≡ true → second v ≡ true → inWord shared v ≡ true
+
+-- What a cofactor by a diagram is told of its operands; the other operations are told nothing.
+abbrev pub Shared : Operation → ℕ → Table → ℕ → ℕ → Type 0
+Shared Conjunction shared t f g = Unit {0}
+Shared Negation shared t f g = Unit {0}
+Shared Cofactor shared t f g = Sharing shared (diagramAt (nodesOf t) f) (diagramAt (nodesOf t) g)
+Shared (Literals p n) shared t f g = Unit {0}
 
 -- ---- the memo: three cells that say how many of the cells behind them are live, how many results were stored in those, and at each how
 -- many-th variable results are held; then packed entries, 0 where there is none

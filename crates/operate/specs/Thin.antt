@@ -5,7 +5,7 @@ use mathlib.Core.List.{List, [], _∷_}
 use Prim.Native.Nat.{ℕ, _≤_, _<_}
 use Rattle.table.specs.Indexed.{Table, tableOf, Good}
 use Rattle.operate.specs.declared.Operation.{Operation}
-use Rattle.operate.specs.declared.Sides.{Sides}
+use Rattle.operate.specs.declared.step.Sides.{Sides}
 use Rattle.operate.specs.declared.thin.Passed.{Passed}
 use Rattle.operate.specs.declared.thin.Passed.the-variants.{Done, Parted}
 use Rattle.operate.specs.Inner.{applied, joinedOf, top, Ready, SidesReady}

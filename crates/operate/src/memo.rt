@@ -4,7 +4,7 @@
 // forgotten is what has not been asked for a while. Where so much is forgotten that work is done again and again, only every
 // step-th variable's results are held, so that the work is bounded by the cells times 2 to the step, and not by the number of
 // paths.
-use crate::top_of;
+use crate::step::top_of;
 use table::Found;
 use table::NodeNo;
 ghost use Prim.Native.Nat.{_+_, _≤_, _<_};

@@ -1,9 +1,9 @@
 // The operations without a memo, for thin diagrams, where each node has a constant for a child, as a clause's has: there they have no more
 // steps than nodes. They are right for all diagrams.
-use crate::Descent;
-use crate::Kind;
 use crate::Operation;
-use crate::Sides;
+use crate::step::Descent;
+use crate::step::Kind;
+use crate::step::Sides;
 use table::Found;
 use table::NodeNo;
 use table::Placed;
@@ -56,17 +56,17 @@ fn pass_sides(
         let before = tableOf (now (vars .entry)) (now (lows .entry)) (now (highs .entry)) heads links count in
         Passes (operationOf kind by) before (first .0) (second .0) r) ⌝ }
 {
-    let op = crate::operation_of(kind, by);
+    let op = crate::step::operation_of(kind, by);
     let mut f = first;
     let mut g = second;
     loop {
-        match crate::terminal(op, f, g) {
+        match crate::step::terminal(op, f, g) {
             Found::At(r) => {
                 return Passed::Done(r);
             }
             Found::Nothing => {
-                let s = crate::sides_of(vars, lows, highs, f, g);
-                match crate::descent_of(op, s) {
+                let s = crate::step::sides_of(vars, lows, highs, f, g);
+                match crate::step::descent_of(op, s) {
                     Descent::One { f: a, g: b } => {
                         f = a;
                         g = b;
@@ -98,8 +98,8 @@ pub fn apply_thin(
         outcomeOf (now (vars .exit)) (now (lows .exit)) (now (highs .exit)) (now (heads .exit)) (now (links .exit)) r
         ≡ applied before op (f .0) (g .0)) ⌝ }
 {
-    let kind = crate::kind_of(op);
-    let by = crate::literals_of(op);
+    let kind = crate::step::kind_of(op);
+    let by = crate::step::by_of(op, words::ALL);
     work_out_thin(vars, lows, highs, heads, links, count, kind, by, f, g)
 }
 
@@ -153,8 +153,8 @@ fn join_thin(
         outcomeOf (now (vars .exit)) (now (lows .exit)) (now (highs .exit)) (now (heads .exit)) (now (links .exit)) r
         ≡ joinedOf before (operationOf kind by) s) ⌝ }
 {
-    let op = crate::operation_of(kind, by);
-    let p = match crate::terminal(op, s.f0, s.g0) {
+    let op = crate::step::operation_of(kind, by);
+    let p = match crate::step::terminal(op, s.f0, s.g0) {
         Found::At(r) => Placed {
             full: false,
             node: r,
@@ -176,7 +176,7 @@ fn join_thin(
     if p.full {
         return p;
     }
-    let q = match crate::terminal(op, s.f1, s.g1) {
+    let q = match crate::step::terminal(op, s.f1, s.g1) {
         Found::At(r) => Placed {
             full: false,
             node: r,

@@ -22,7 +22,8 @@ use Rattle.operate.proofs.Levels.{zero-is}
 use Rattle.words.specs.declared.Literals as sets
 use Rattle.words.specs.Sets.{allWord}
 use Rattle.words.proofs.Variables.{in-all}
-use Rattle.supports.specs.Supports.{Uses, Support, Supports}
+use Rattle.meaning.specs.Uses.{Uses}
+use Rattle.supports.specs.Supports.{Support, Supports}
 use Rattle.conflict.specs.Members.{Quiet}
 use Rattle.walks.specs.Readable.{ListReady}
 use Rattle.table.specs.Lists.{diagramsOf}

@@ -11,6 +11,7 @@ use lib.Seq.{getD-set-same, getD-set-other}
 use lib.Bits.{bitOr}
 use Rattle.meaning.specs.Diagram.{Diagram, node}
 use Rattle.meaning.specs.Words.{inWord}
+use Rattle.meaning.specs.Uses.{Uses}
 use Rattle.meaning.proofs.Booleans.{or-left, or-right, eq-eqb}
 use Rattle.table.specs.Nodes.{Node, diagramAt}
 use Rattle.table.proofs.Numbers.{diagramAt-zero, diagramAt-one, diagramAt-node}
@@ -18,8 +19,8 @@ use Rattle.walks.specs.Readable.{Readable, Cleared, nodesIn}
 use Rattle.walks.proofs.Here.{here, node-in, ordered-in, length-in}
 use Rattle.walks.proofs.Memo.{stored}
 use Rattle.meaning.proofs.Words.{in-or, in-bit}
-use Rattle.supports.specs.Supports.{Uses, Support, Supports, SupportMemo}
-use Rattle.supports.proofs.Uses.{uses-more}
+use Rattle.meaning.proofs.Uses.{uses-more}
+use Rattle.supports.specs.Supports.{Support, Supports, SupportMemo}
 
 -- ---- one word or the other
 

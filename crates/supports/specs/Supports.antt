@@ -1,18 +1,12 @@
 -- Words that hold the variables of a diagram, and the memo of the walk that finds them. No call open to others cites this file.
-use mathlib.Core.Path.{_≡_}
 use mathlib.Core.Logic.{_≢_}
-use mathlib.Core.Bool.{Bool, true}
 use mathlib.Core.List.{List}
 use Prim.Native.Nat.{ℕ, _<_}
 use lib.ListN.{length, getD}
-use Rattle.meaning.specs.Diagram.{Diagram, leaf, node}
+use Rattle.meaning.specs.Diagram.{Diagram}
 use Rattle.meaning.specs.Words.{inWord}
+use Rattle.meaning.specs.Uses.{Uses}
 use Rattle.table.specs.Nodes.{Node, diagramAt}
-
--- Every variable of the diagram is in the set S.
-abbrev pub Uses : (ℕ → Bool) → Diagram → Type 0
-Uses S (leaf b) = Unit {0}
-Uses S (node v l h) = (S v ≡ true) × Uses S l × Uses S h
 
 -- The word has every variable of the diagram.
 unfoldable pub Support : ℕ → Diagram → Type 0

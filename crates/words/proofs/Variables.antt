@@ -3,17 +3,17 @@
 use mathlib.Core.Path.{_≡_, refl, sym, ap, ap₂, _∙_}
 use mathlib.Core.Bool.{true, false, _&&_, _||_}
 use Prim.Native.Nat.{ℕ, zero, suc, _+_, _-_, _*_, _/_, _%_, _^_, _≤_, _<_}
-use native.Mathlib.Nat.{div-eq-of-lt, pow-suc, pow-succ', mul-assoc, mul-mod-left}
+use native.Mathlib.Nat.{div-eq-of-lt, zero-div, pow-suc, pow-succ', mul-assoc, mul-mod-left}
 use native.Mathlib.Omega.{arith}
 use native.Mathlib.Decide.{ℕ-discrete, decLt}
 use lib.Dec.{eqb, ltb, leb}
 use lib.Bits.{bitAnd, bitOr}
 use lib.Pow.{pow-pos, pow-mono, pow-add, ones-lt, ones-split, high, high-ones, shl-shr, shr-shr}
-use borrow.Author.Tests.{lt-ltb, le-ltb, le-leb, lt-leb, eq-eqb}
+use borrow.Author.Tests.{lt-ltb, le-ltb, le-leb, lt-leb, eq-eqb, eqb-true}
 use Rattle.meaning.specs.Words.{inWord}
 use Rattle.meaning.proofs.Booleans.{t≢f, or-left, or-right, or-cases, or-neither, and-both}
 use Rattle.meaning.proofs.Words.{in-and, in-or, in-none}
-use Rattle.words.specs.Sets.{allWord, belowWord, without, shares}
+use Rattle.words.specs.Sets.{allWord, endsBefore, belowWord, without, shares}
 
 -- ---- digits
 
@@ -92,6 +92,15 @@ unfolding without
 in-without n word from to v a b c one most =
     in-and word (bitOr (belowWord from) (allWord n - belowWord to)) v
     ∙ ap (_&&_ (inWord word v)) (in-or (belowWord from) (allWord n - belowWord to) v ∙ ap₂ _||_ (in-below from v a one) (in-above n to v b c one most))
+
+-- a word that ends before v
+pub none-from : (w v : ℕ) → 1 ≤ v → endsBefore w v ≡ true → (u : ℕ) → v ≤ u → inWord w u ≡ false
+unfolding inWord endsBefore
+none-from w v one e u le =
+    let is : u - 1 ≡ (v - 1) + (u - v) = omega arith in
+    let none : w / 2 ^ (u - 1) ≡ 0 =
+    ap (λ (k : ℕ). w / 2 ^ k) is ∙ sym (shr-shr w (v - 1) (u - v)) ∙ ap (λ (m : ℕ). m / 2 ^ (u - v)) (eqb-true _ _ e) ∙ zero-div (2 ^ (u - v)) in
+    rw none
 
 -- ---- words other than 0
 

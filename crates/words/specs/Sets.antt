@@ -1,7 +1,8 @@
 -- Sets of variables in a word and of literals in two, as the code makes them. No call open to others cites this file.
 use mathlib.Core.Bool.{Bool, true, false, cond, _&&_, _||_}
 use mathlib.Core.List.{List, [], _∷_}
-use Prim.Native.Nat.{ℕ, zero, suc, _-_, _^_}
+use Prim.Native.Nat.{ℕ, zero, suc, _-_, _/_, _^_}
+use lib.Dec.{eqb}
 use lib.Bits.{bitAnd, bitOr}
 use Rattle.meaning.specs.Operations.{Literal}
 use Rattle.meaning.specs.Words.{inWord}
@@ -12,6 +13,10 @@ use Rattle.words.specs.declared.Literals.{Literals}
 -- The word of n variables.
 abbrev pub allWord : ℕ → ℕ
 allWord n = 2 ^ n - 1
+
+-- Whether every variable of the word is below v.
+unfoldable pub endsBefore : ℕ → ℕ → Bool
+endsBefore w v = eqb (w / 2 ^ (v - 1)) 0
 
 -- The word with the variable v.
 abbrev pub withVariable : ℕ → ℕ → ℕ

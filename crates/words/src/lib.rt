@@ -2,7 +2,7 @@
 ghost use mathlib.Core.Path.{_≡_};
 ghost use Prim.Native.Nat.{_≤_};
 ghost use Rattle.meaning.specs.Words.{inWord};
-ghost use Rattle.words.specs.Sets.{withVariable, belowWord, without, shares, withLiteral};
+ghost use Rattle.words.specs.Sets.{endsBefore, withVariable, belowWord, without, shares, withLiteral};
 
 // The word of all 64 variables.
 pub const ALL: u64 = 18446744073709551615;
@@ -20,6 +20,15 @@ pub fn in_word(word: u64, v: u8) -> bool
 {
     let i = (v - 1) as u64;
     (word >> i) % 2 == 1
+}
+
+// Whether every variable of the word is below v.
+pub fn ends_before(word: u64, v: u8) -> bool
+    requires { ⌜ (1 ≤ v) × (v ≤ 64) ⌝ }
+    ensures { λ r. ⌜ r ≡ endsBefore word v ⌝ }
+{
+    let i = (v - 1) as u64;
+    word >> i == 0
 }
 
 // The word with the variable v.

@@ -1,11 +1,11 @@
 -- A member that shares no variable with the operation is given back; a thin one is worked out without the memo, which is right still in the
--- longer table; the others go to `apply`. Assumes nothing.
+-- longer table; the others go to `apply_sharing`. Assumes nothing.
 use borrow.Author.Needs.{needs}
 use Rattle.table.specs.Indexed.{Table, tableOf, outcomeOf}
 use Rattle.operate.proofs.Passing.{without-memo, some-table}
 use Rattle.operate.proofs.Results.{applied-longer}
 use Rattle.operate.proofs.RightMemo.{memo-kept}
-use Rattle.members.proofs.Touching.{untouched}
+use Rattle.members.proofs.Touching.{touched-shared, untouched}
 use Rattle.members.proofs.apply_touching.Statement.{statement}
 use Rattle.members.proofs.apply_touching.Tie as tie
 
@@ -46,12 +46,12 @@ module _ (c : tie.After-apply-thin-arg5) where
   abbrev start-from-apply-thin-call : tie.Start
   start-from-apply-thin-call = start-from-is-quick-call is-quick-arg2-from-apply-thin-call
 
-module _ (c : tie.After-apply-arg6) where
-  abbrev clear-forgetful-from-apply-call : tie.After-clear-forgetful
-  clear-forgetful-from-apply-call = c .before .before .before .before .before .before .before .before
+module _ (c : tie.After-apply-sharing-arg6) where
+  abbrev clear-forgetful-from-apply-sharing-call : tie.After-clear-forgetful
+  clear-forgetful-from-apply-sharing-call = c .before .before .before .before .before .before .before .before
 
-  abbrev start-from-apply-call : tie.Start
-  start-from-apply-call = start-from-is-quick-call (is-quick-arg2-from-clear-forgetful clear-forgetful-from-apply-call)
+  abbrev start-from-apply-sharing-call : tie.Start
+  start-from-apply-sharing-call = start-from-is-quick-call (is-quick-arg2-from-clear-forgetful clear-forgetful-from-apply-sharing-call)
 
 module _ (c : tie.After-slice-known11) where
   abbrev apply-thin-from-return-2 : tie.After-apply-thin
@@ -109,16 +109,20 @@ clear-forgetful-requires : tie.Need-clear-forgetful-requires
 clear-forgetful-requires c κs =
     start-from-clear-forgetful-call c .pre .0 .right .shaped
 
-apply-requires : tie.Need-apply-requires
-apply-requires c κs =
-    let r = start-from-apply-call c .pre .0 in
-    record {
-      good = r .good;
-      f-inside = r .f-inside;
-      g-inside = r .g-inside;
-      allowed = r .allowed;
-      right = clear-forgetful-from-apply-call c .clear-forgetful .ensures .right _ _ (r .right);
-    }
+apply-sharing-requires : tie.Need-apply-sharing-requires
+apply-sharing-requires c κs =
+    let s = start-from-apply-sharing-call c in
+    let a = s .args in
+    let r = s .pre .0 in (
+      record {
+        good = r .good;
+        f-inside = r .f-inside;
+        g-inside = r .g-inside;
+        allowed = r .allowed;
+        right = clear-forgetful-from-apply-sharing-call c .clear-forgetful .ensures .right _ _ (r .right);
+      },
+      touched-shared (entry s) (r .good) (a .f .0) (a .g .0) (r .f-inside) (r .g-inside) (a .word) (a .touching) (s .pre .1) (a .op) (s .pre .2),
+    )
 
 same-length-6 : tie.Need-same-length-6
 same-length-6 c =
@@ -161,7 +165,7 @@ apply-touching-spec =
     same-length-5
     returns-2
     clear-forgetful-requires
-    apply-requires
+    apply-sharing-requires
     same-length-6
     same-length-7
     same-length-8

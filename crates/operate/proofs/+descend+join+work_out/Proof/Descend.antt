@@ -6,8 +6,9 @@ use native.Mathlib.Omega.{arith}
 use borrow.Author.Needs.{needs}
 use Rattle.table.specs.Indexed.{Table, tableOf}
 use Rattle.operate.specs.declared.Operation.{Operation}
-use Rattle.operate.specs.Inner.{operationOf, top, sidesOf, descentOf, Ready}
+use Rattle.operate.specs.Inner.{operationOf, top, sidesOf, descentOf, Shared, Ready}
 use Rattle.operate.proofs.Terminals.{terminal-two}
+use Rattle.operate.proofs.Sharing.{SideOf, shared-side}
 use Rattle.operate.proofs.Steps.{sides-ask, OneLeft, BothLeft, step-one, step-both}
 use Rattle.operate.proofs.Results.{columns-hold}
 use borrow.Fn.PlainCycle.{is}
@@ -35,8 +36,11 @@ module _ {t : ℕ} (s : descend-lts.Start (descend-callees t) (descend-at t) des
   d-ready : Ready d-op d-memo d-table d-f d-g
   d-ready = s .pre .1 .0
 
+  d-shared : Shared d-op (s .args .by .positive) d-table d-f d-g
+  d-shared = s .pre .1 .1
+
   d-two : 2 ≤ d-f
-  d-two = terminal-two d-table (d-ready .good) d-f d-g (d-ready .f-inside) (d-ready .g-inside) d-op (d-ready .allowed) (s .pre .1 .1)
+  d-two = terminal-two d-table (d-ready .good) d-f d-g (d-ready .f-inside) (d-ready .g-inside) d-op (d-ready .allowed) (s .pre .1 .2)
 
   d-measure : 3 * (65 - top (d-table .vars) d-f d-g) + 1 ≡ t
   d-measure = s .pre .0
@@ -123,6 +127,9 @@ module _ {t : ℕ} (d : descend-lts.After-a (descend-callees t) (descend-at t) d
   d-one : OneLeft (d-op ds₁) (d-memo ds₁) (d-table ds₁) (d-f ds₁) (d-g ds₁) (d .a .given .0 .0 .0) (d .a .given .0 .1 .0 .0)
   d-one = step-one (d-op ds₁) (d-memo ds₁) (d-table ds₁) (d-f ds₁) (d-g ds₁) (d-ready ds₁) (d-two ds₁) (d .a .given .0 .0) (d .a .given .0 .1 .0) (d-step (descent-of-from-a d) ∙ d .a .given .1)
 
+  d-one-shared : Shared (d-op ds₁) (ds₁ .args .by .positive) (d-table ds₁) (d .a .given .0 .0 .0) (d .a .given .0 .1 .0 .0)
+  d-one-shared = shared-side (d-op ds₁) (ds₁ .args .by .positive) (d-table ds₁) (d-f ds₁) (d-g ds₁) _ _ (d-one .side-of) (d-shared ds₁)
+
 -- both sides are
 module _ {t : ℕ} (d : descend-lts.After-s (descend-callees t) (descend-at t) descend.Post) where
   abbrev ds₂ : descend-lts.Start (descend-callees t) (descend-at t) descend.Post
@@ -130,6 +137,9 @@ module _ {t : ℕ} (d : descend-lts.After-s (descend-callees t) (descend-at t) d
 
   d-both : BothLeft (d-op ds₂) (d-memo ds₂) (d-table ds₂) (d-f ds₂) (d-g ds₂) (d .s .given .0 .0)
   d-both = step-both (d-op ds₂) (d-memo ds₂) (d-table ds₂) (d-f ds₂) (d-g ds₂) (d-ready ds₂) (d-two ds₂) (d .s .given .0 .0) (d-step (descent-of-from-s d) ∙ d .s .given .1)
+
+  d-side-shared : (a b : ℕ) → SideOf (d-table ds₂) (d-f ds₂) (d-g ds₂) a b → Shared (d-op ds₂) (ds₂ .args .by .positive) (d-table ds₂) a b
+  d-side-shared a b o = shared-side (d-op ds₂) (ds₂ .args .by .positive) (d-table ds₂) (d-f ds₂) (d-g ds₂) a b o (d-shared ds₂)
 
 sides-of-requires : (t : ℕ) → descend-lts.Need-sides-of-requires (descend-callees t) (descend-at t) descend.Post
 sides-of-requires t c κs =
@@ -152,7 +162,7 @@ enum-known-a t c =
 work-out-requires : (t : ℕ) → descend-lts.Need-work-out-requires (descend-callees t) (descend-at t) descend.Post
 work-out-requires t c κs =
     let d = a-from-work-out-call c in
-    (omega (arith, d-measure (start-from-work-out-call c), d-one d .after, d-one d .most), d-one d .ready)
+    (omega (arith, d-measure (start-from-work-out-call c), d-one d .after, d-one d .most), (d-one d .ready, d-one-shared d))
 
 enum-known-s : (t : ℕ) → descend-lts.Need-enum-known-s (descend-callees t) (descend-at t) descend.Post
 enum-known-s t c =
@@ -161,7 +171,7 @@ enum-known-s t c =
 join-requires : (t : ℕ) → descend-lts.Need-join-requires (descend-callees t) (descend-at t) descend.Post
 join-requires t c κs =
     let d = s-from-join-call c in
-    (omega (arith, d-measure (start-from-join-call c), d-both d .variable), d-both d .ready)
+    (omega (arith, d-measure (start-from-join-call c), d-both d .variable), (d-both d .ready, d-side-shared d _ _ (d-both d .low-of), d-side-shared d _ _ (d-both d .high-of)))
 
 same-length : (t : ℕ) → descend-lts.Need-same-length (descend-callees t) (descend-at t) descend.Post
 same-length t c =

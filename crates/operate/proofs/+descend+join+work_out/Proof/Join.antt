@@ -7,9 +7,9 @@ use native.Mathlib.Omega.{arith}
 use borrow.Author.Needs.{needs}
 use Rattle.table.specs.Indexed.{Table, tableOf, Outcome, outcomeOf}
 use Rattle.operate.specs.declared.Operation.{Operation}
-use Rattle.operate.specs.declared.Sides.{Sides}
-use Rattle.operate.specs.Inner.{operationOf, top, Tells, Ready, SidesReady}
-use Rattle.operate.proofs.Results.{low-done, high-ready, high-top, high-good, high-done, both-done, memo-joined}
+use Rattle.operate.specs.declared.step.Sides.{Sides}
+use Rattle.operate.specs.Inner.{operationOf, top, Shared, Tells, Ready, SidesReady}
+use Rattle.operate.proofs.Results.{low-done, high-ready, high-shared, high-top, high-good, high-done, both-done, memo-joined}
 use Rattle.operate.proofs.Passing.{SideLeft, outcome-same, SideKept, home-kept, side-same}
 use Rattle.operate.proofs.join.Reads as join
 use Rattle.operate.proofs.+descend+join+work_out.Lts-join as join-lts
@@ -30,7 +30,13 @@ module _ {t : ℕ} (s : join-lts.Start (join-callees t) (join-at t) join.Post) w
   j-sides = s .args .s
 
   j-ready : SidesReady j-op j-memo j-table j-sides
-  j-ready = s .pre .1
+  j-ready = s .pre .1 .0
+
+  j-low-shared : Shared j-op (s .args .by .positive) j-table (j-sides .f0 .0) (j-sides .g0 .0)
+  j-low-shared = s .pre .1 .1
+
+  j-high-shared : Shared j-op (s .args .by .positive) j-table (j-sides .f1 .0) (j-sides .g1 .0)
+  j-high-shared = s .pre .1 .2
 
   j-measure : 3 * (65 - j-sides .x) ≡ t
   j-measure = s .pre .0
@@ -47,6 +53,10 @@ module _ {t : ℕ} (c : join-lts.At-match-came (join-callees t) (join-at t) join
   abbrev start-from-at-match-came : join-lts.Start (join-callees t) (join-at t) join.Post
   start-from-at-match-came = start-from-memo-home-call (memo-home-from-at-match-came .before)
 
+module _ {t : ℕ} (c : join-lts.Else1 (join-callees t) (join-at t) join.Post) where
+  abbrev at-match-came-from-else1 : join-lts.At-match-came (join-callees t) (join-at t) join.Post
+  at-match-came-from-else1 = c .before
+
 module _ {t : ℕ} (c : join-lts.Then1 (join-callees t) (join-at t) join.Post) where
   abbrev at-match-came-from-then1 : join-lts.At-match-came (join-callees t) (join-at t) join.Post
   at-match-came-from-then1 = c .before
@@ -56,24 +66,31 @@ module _ {t : ℕ} (c : join-lts.Then1 (join-callees t) (join-at t) join.Post) w
 
 module _ {t : ℕ} (c : join-lts.After-memo-home-arg2 (join-callees t) (join-at t) join.Post) where
   abbrev at-match-came-from-memo-home-call-2 : join-lts.At-match-came (join-callees t) (join-at t) join.Post
-  at-match-came-from-memo-home-call-2 = c .before .before
+  at-match-came-from-memo-home-call-2 = at-match-came-from-else1 (c .before)
+
+module _ {t : ℕ} (c : join-lts.After-memo-home2 (join-callees t) (join-at t) join.Post) where
+  abbrev at-match-came-from-memo-home2 : join-lts.At-match-came (join-callees t) (join-at t) join.Post
+  at-match-came-from-memo-home2 = at-match-came-from-else1 (c .before .before)
 
 module _ {t : ℕ} (c : join-lts.At-match2-came (join-callees t) (join-at t) join.Post) where
   abbrev memo-home2-from-at-match2-came : join-lts.After-memo-home2 (join-callees t) (join-at t) join.Post
   memo-home2-from-at-match2-came = c .before
 
+  abbrev else1-from-at-match2-came : join-lts.Else1 (join-callees t) (join-at t) join.Post
+  else1-from-at-match2-came = memo-home2-from-at-match2-came .before .before
+
   abbrev at-match-came-from-at-match2-came : join-lts.At-match-came (join-callees t) (join-at t) join.Post
-  at-match-came-from-at-match2-came = memo-home2-from-at-match2-came .before .before .before
+  at-match-came-from-at-match2-came = at-match-came-from-memo-home2 memo-home2-from-at-match2-came
 
 module _ {t : ℕ} (c : join-lts.Then2 (join-callees t) (join-at t) join.Post) where
   abbrev at-match2-came-from-then2 : join-lts.At-match2-came (join-callees t) (join-at t) join.Post
   at-match2-came-from-then2 = c .before
 
   abbrev else1-from-then2 : join-lts.Else1 (join-callees t) (join-at t) join.Post
-  else1-from-then2 = memo-home2-from-at-match2-came at-match2-came-from-then2 .before .before
+  else1-from-then2 = else1-from-at-match2-came at-match2-came-from-then2
 
   abbrev at-match-came-from-then2 : join-lts.At-match-came (join-callees t) (join-at t) join.Post
-  at-match-came-from-then2 = else1-from-then2 .before
+  at-match-came-from-then2 = at-match-came-from-else1 else1-from-then2
 
   abbrev start-from-then2 : join-lts.Start (join-callees t) (join-at t) join.Post
   start-from-then2 = start-from-at-match-came at-match-came-from-then2
@@ -93,10 +110,10 @@ module _ {t : ℕ} (c : join-lts.After-put-arg5 (join-callees t) (join-at t) joi
   at-match2-came-from-put-call = else2-from-put-call .before
 
   abbrev else1-from-put-call : join-lts.Else1 (join-callees t) (join-at t) join.Post
-  else1-from-put-call = memo-home2-from-at-match2-came at-match2-came-from-put-call .before .before
+  else1-from-put-call = else1-from-at-match2-came at-match2-came-from-put-call
 
   abbrev at-match-came-from-put-call : join-lts.At-match-came (join-callees t) (join-at t) join.Post
-  at-match-came-from-put-call = else1-from-put-call .before
+  at-match-came-from-put-call = at-match-came-from-else1 else1-from-put-call
 
   abbrev start-from-put-call : join-lts.Start (join-callees t) (join-at t) join.Post
   start-from-put-call = start-from-at-match-came at-match-came-from-put-call
@@ -106,7 +123,7 @@ module _ {t : ℕ} (c : join-lts.After-work-out-arg12 (join-callees t) (join-at 
   memo-home2-from-work-out-call-2 = c .before .before .before .before .before .before .before .before
 
   abbrev at-match-came-from-work-out-call-2 : join-lts.At-match-came (join-callees t) (join-at t) join.Post
-  at-match-came-from-work-out-call-2 = memo-home2-from-work-out-call-2 .before .before .before
+  at-match-came-from-work-out-call-2 = at-match-came-from-memo-home2 memo-home2-from-work-out-call-2
 
   abbrev start-from-work-out-call-2 : join-lts.Start (join-callees t) (join-at t) join.Post
   start-from-work-out-call-2 = start-from-at-match-came at-match-came-from-work-out-call-2
@@ -122,10 +139,10 @@ module _ {t : ℕ} (c : join-lts.After-slice-known23 (join-callees t) (join-at t
   at-match2-came-from-return-3 = else2-from-return-3 .before
 
   abbrev else1-from-return-3 : join-lts.Else1 (join-callees t) (join-at t) join.Post
-  else1-from-return-3 = memo-home2-from-at-match2-came at-match2-came-from-return-3 .before .before
+  else1-from-return-3 = else1-from-at-match2-came at-match2-came-from-return-3
 
   abbrev at-match-came-from-return-3 : join-lts.At-match-came (join-callees t) (join-at t) join.Post
-  at-match-came-from-return-3 = else1-from-return-3 .before
+  at-match-came-from-return-3 = at-match-came-from-else1 else1-from-return-3
 
   abbrev start-from-return-3 : join-lts.Start (join-callees t) (join-at t) join.Post
   start-from-return-3 = start-from-at-match-came at-match-came-from-return-3
@@ -157,6 +174,9 @@ module _ {t : ℕ} (m : join-lts.At-match-came (join-callees t) (join-at t) join
 
   ready₁ : Ready (j-op js) (m .match .memo) (out₁ .table) (j-sides js .f1 .0) (j-sides js .g1 .0)
   ready₁ = high-ready (j-op js) (j-memo js) (j-table js) (j-sides js) (j-ready js) out₁ (left₁ .is) (m .match .memo) (kept₁ .right)
+
+  shared₁ : Shared (j-op js) (js .args .by .positive) (out₁ .table) (j-sides js .f1 .0) (j-sides js .g1 .0)
+  shared₁ = high-shared (j-op js) (j-memo js) (j-table js) (j-sides js) (j-ready js) out₁ (left₁ .is) (js .args .by .positive) (j-high-shared js)
 
   after₁ : j-sides js .x < top (out₁ .table .vars) (j-sides js .f1 .0) (j-sides js .g1 .0)
   after₁ = high-top (j-op js) (j-memo js) (j-table js) (j-sides js) (j-ready js) out₁ (left₁ .is)
@@ -199,7 +219,7 @@ enum-told t c =
 
 work-out-requires : (t : ℕ) → join-lts.Need-work-out-requires (join-callees t) (join-at t) join.Post
 work-out-requires t c κs =
-    let s = start-from-work-out-call c in (omega (arith, j-measure s, j-ready s .low-after, j-ready s .most), j-ready s .low)
+    let s = start-from-work-out-call c in (omega (arith, j-measure s, j-ready s .low-after, j-ready s .most), (j-ready s .low, j-low-shared s))
 
 same-length : (t : ℕ) → join-lts.Need-same-length (join-callees t) (join-at t) join.Post
 same-length t c =
@@ -247,7 +267,7 @@ work-out-requires-2 : (t : ℕ) → join-lts.Need-work-out-requires-2 (join-call
 work-out-requires-2 t c κs =
     let s = start-from-work-out-call-2 c in
     let m = at-match-came-from-work-out-call-2 c in
-    (omega (arith, j-measure s, after₁ m, j-ready s .most), ready₁ m)
+    (omega (arith, j-measure s, after₁ m, j-ready s .most), (ready₁ m, shared₁ m))
 
 same-length-7 : (t : ℕ) → join-lts.Need-same-length-7 (join-callees t) (join-at t) join.Post
 same-length-7 t c =

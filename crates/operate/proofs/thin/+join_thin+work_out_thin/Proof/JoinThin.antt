@@ -6,7 +6,7 @@ use native.Mathlib.Omega.{arith}
 use borrow.Author.Needs.{needs}
 use Rattle.table.specs.Indexed.{Table, tableOf, Outcome, outcomeOf}
 use Rattle.operate.specs.declared.Operation.{Operation}
-use Rattle.operate.specs.declared.Sides.{Sides}
+use Rattle.operate.specs.declared.step.Sides.{Sides}
 use Rattle.operate.specs.Inner.{operationOf, terminalOf, top, Ready, SidesReady}
 use Rattle.operate.specs.Thin.{noMemo}
 use Rattle.operate.proofs.Results.{low-done, high-ready, high-top, high-good, high-done, both-done}

@@ -10,8 +10,8 @@ use Rattle.operate.proofs.thin.join_thin.Reads as join-thin
 use Rattle.operate.proofs.thin.join_thin.Kinds as join-thin-kinds
 use Rattle.operate.proofs.thin.+join_thin+work_out_thin.Lts-join_thin as join-thin-lts
 use Rattle.operate.proofs.thin.pass_sides.Reads as pass-sides-reads
-use Rattle.operate.proofs.operation_of.Reads as operation-of-reads
-use Rattle.operate.proofs.terminal.Reads as terminal-reads
+use Rattle.operate.proofs.step.operation_of.Reads as operation-of-reads
+use Rattle.operate.proofs.step.terminal.Reads as terminal-reads
 use Rattle.table.proofs.put.Reads as put-reads
 
 abbrev pub μ-work-out-thin : Measures 5 work-out-thin-kinds.ps ℕ

@@ -1,8 +1,8 @@
 -- `child_or` reads the column where the node has the variable, as the definition does. Assumes nothing.
 use borrow.Author.Tests.{eq-eqb, ne-eqb}
 use borrow.Author.Needs.{needs}
-use Rattle.operate.proofs.child_or.Statement.{statement}
-use Rattle.operate.proofs.child_or.Tie as tie
+use Rattle.operate.proofs.step.child_or.Statement.{statement}
+use Rattle.operate.proofs.step.child_or.Tie as tie
 
 cast-i : tie.Need-cast-i
 cast-i c = search needs

@@ -1,8 +1,8 @@
 -- `level_of` gives 65 for a constant and else reads the column, as the definition does. Assumes nothing.
 use borrow.Author.Tests.{lt-ltb, le-ltb}
 use borrow.Author.Needs.{needs}
-use Rattle.operate.proofs.level_of.Statement.{statement}
-use Rattle.operate.proofs.level_of.Tie as tie
+use Rattle.operate.proofs.step.level_of.Statement.{statement}
+use Rattle.operate.proofs.step.level_of.Tie as tie
 
 cast-i : tie.Need-cast-i
 cast-i c = search needs

@@ -1,7 +1,7 @@
 -- `operation_of` is the definition, kind by kind. Assumes nothing.
 use borrow.Author.Needs.{needs}
-use Rattle.operate.proofs.operation_of.Statement.{statement}
-use Rattle.operate.proofs.operation_of.Tie as tie
+use Rattle.operate.proofs.step.operation_of.Statement.{statement}
+use Rattle.operate.proofs.step.operation_of.Tie as tie
 
 enum-told : tie.Need-enum-told
 enum-told c = search needs

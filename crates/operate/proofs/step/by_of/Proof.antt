@@ -1,7 +1,7 @@
--- `literals_of` is the definition, operation by operation. Assumes nothing.
+-- `by_of` is the definition, operation by operation. Assumes nothing.
 use borrow.Author.Needs.{needs}
-use Rattle.operate.proofs.literals_of.Statement.{statement}
-use Rattle.operate.proofs.literals_of.Tie as tie
+use Rattle.operate.proofs.step.by_of.Statement.{statement}
+use Rattle.operate.proofs.step.by_of.Tie as tie
 
 enum-told : tie.Need-enum-told
 enum-told c = search needs
@@ -27,8 +27,8 @@ returns-3 c = rw (c .enum-told3 .given .1)
 returns-4 : tie.Need-returns-4
 returns-4 c = rw (c .before .op .given .1)
 
-pub literals-of-spec : {M : Type 1} → statement M
-literals-of-spec =
+pub by-of-spec : {M : Type 1} → statement M
+by-of-spec =
     tie.close
     (tie.spec
     enum-told

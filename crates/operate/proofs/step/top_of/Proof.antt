@@ -1,8 +1,8 @@
 -- `top_of` takes the lesser of two levels, as the definition does. Assumes nothing.
 use borrow.Author.Tests.{lt-ltb, le-ltb}
 use borrow.Author.Needs.{needs}
-use Rattle.operate.proofs.top_of.Statement.{statement}
-use Rattle.operate.proofs.top_of.Tie as tie
+use Rattle.operate.proofs.step.top_of.Statement.{statement}
+use Rattle.operate.proofs.step.top_of.Tie as tie
 
 level-of-requires : tie.Need-level-of-requires
 level-of-requires c κs = search needs

@@ -1,8 +1,8 @@
 -- `sides_of` puts together what its calls give. Assumes nothing.
 use Rattle.operate.specs.Inner.{sidesOf}
 use borrow.Author.Needs.{needs}
-use Rattle.operate.proofs.sides_of.Statement.{statement}
-use Rattle.operate.proofs.sides_of.Tie as tie
+use Rattle.operate.proofs.step.sides_of.Statement.{statement}
+use Rattle.operate.proofs.step.sides_of.Tie as tie
 
 top-of-requires : tie.Need-top-of-requires
 top-of-requires c κs = search needs

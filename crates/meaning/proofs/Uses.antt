@@ -2,17 +2,19 @@
 -- idea: by induction, along the recursion over the branches. Assumes nothing.
 use mathlib.Core.Path.{_≡_, refl, sym, ap, ap₂, _∙_, subst}
 use mathlib.Core.Logic.{_≢_}
-use mathlib.Core.Bool.{Bool, true, false, not, _||_, cond}
-use Prim.Native.Nat.{ℕ, zero, suc, _+_}
+use mathlib.Core.Bool.{Bool, true, false, not, _&&_, _||_, cond}
+use Prim.Native.Nat.{ℕ, zero, suc, _+_, _≤_, _<_}
 use native.Mathlib.Omega.{arith}
 use native.Mathlib.Decide.{ℕ-discrete}
+use lib.Dec.{leb}
+use borrow.Author.Tests.{leb-true, le-leb}
 use Rattle.meaning.specs.Diagram.{Diagram, leaf, node, same?, Reduced, branch}
 use Rattle.meaning.specs.Operations.{negation, cofactorLiterals, cofactor}
-use Rattle.meaning.proofs.Booleans.{t≢f, or-cases, eqb-eq}
+use Rattle.meaning.proofs.Booleans.{t≢f, and-both, or-cases, eqb-eq}
 use Rattle.meaning.proofs.Canonical.{branch-same, branch-differ, reduced-from, side, side-reduced}
 use Rattle.meaning.proofs.PointwiseSteps.{negation-leaf, negation-node, literals-leaf, literals-high, literals-low, literals-branch}
 use Rattle.meaning.proofs.Cofactor.{cofactorFrom, cofactorFrom-leaf, sidesFrom, level-both, level-one, LiveSides, one, both, live-sides, atRoot, byBranches, cofactor-branches}
-use Rattle.supports.specs.Supports.{Uses}
+use Rattle.meaning.specs.Uses.{Uses}
 
 -- ---- any diagram
 
@@ -20,6 +22,19 @@ module _ (S : ℕ → Bool) where
   pub uses-more : (T : ℕ → Bool) → ((v : ℕ) → S v ≡ true → T v ≡ true) → (f : Diagram) → Uses S f → Uses T f
   uses-more T more (leaf b) u = tt
   uses-more T more (node v l h) u = (more v (u .0), uses-more T more l (u .1), uses-more T more h (u .2))
+
+  pub uses-both : (T : ℕ → Bool) (f : Diagram) → Uses S f → Uses T f → Uses (λ v. S v && T v) f
+  uses-both T (leaf b) u w = tt
+  uses-both T (node v l h) u w = (ap₂ _&&_ (u .0) (w .0), uses-both T l (u .1) (w .1), uses-both T h (u .2) (w .2))
+
+  pub uses-reduced : (e i : ℕ) (f : Diagram) → Reduced i e f → ((v : ℕ) → i ≤ v → v < e → S v ≡ true) → Uses S f
+  uses-reduced e i (leaf b) o all = tt
+  uses-reduced e i (node v l h) o all =
+      let least : i ≤ v = o .0 in (
+        all v least (o .1),
+        uses-reduced e (suc v) l (o .3) (λ w p. all w (omega arith)),
+        uses-reduced e (suc v) h (o .4) (λ w p. all w (omega arith)),
+      )
 
   uses-branch : (v : ℕ) (l h : Diagram) → S v ≡ true → Uses S l → Uses S h → Uses S (branch v l h)
   unfolding branch
@@ -29,7 +44,7 @@ module _ (S : ℕ → Bool) where
       go (yes e) = u
       go (no n) = (r, u, w)
 
-  uses-side : (i : ℕ) (b : Bool) (f : Diagram) → Uses S f → Uses S (side i b f)
+  pub uses-side : (i : ℕ) (b : Bool) (f : Diagram) → Uses S f → Uses S (side i b f)
   unfolding side
   uses-side i b (leaf c) u = tt
   uses-side i b (node v l h) u = go b (ℕ-discrete v i)
@@ -157,3 +172,17 @@ module _ (S T : ℕ → Bool) (apart : (v : ℕ) → S v ≡ true → T v ≡ fa
   pub cofactor-apart : (n : ℕ) (f g : Diagram) → Reduced 1 (suc n) f → Reduced 1 (suc n) g → g ≢ leaf false → Uses S f → Uses T g → cofactor n f g ≡ f
   unfolding cofactor cofactorFrom
   cofactor-apart n f g of og nz u w = apart-from n 1 (suc n) f g (omega arith) of og nz u w
+
+-- ---- diagrams that begin at a variable x
+
+pub literals-before : (n x : ℕ) (P N : ℕ → Bool) → ((v : ℕ) → x ≤ v → (P v ≡ false) × (N v ≡ false)) → (f : Diagram) → 1 ≤ x → Reduced x (suc n) f → cofactorLiterals n P N f ≡ f
+literals-before n x P N none f least o =
+    literals-apart n P N (leb x) (λ v p. none v (leb-true x v p)) f (reduced-from 1 x (suc n) f least o) (uses-reduced (leb x) (suc n) x f o (λ v p q. le-leb x v p))
+
+-- what f and g share is before x
+pub cofactor-before : (n x : ℕ) (S T : ℕ → Bool) → ((v : ℕ) → x ≤ v → S v ≡ true → T v ≡ false) → (f g : Diagram) → 1 ≤ x → Reduced x (suc n) f → Reduced 1 (suc n) g → g ≢ leaf false
+    → Uses S f → Uses T g → cofactor n f g ≡ f
+cofactor-before n x S T none f g least of og nz u w =
+    cofactor-apart (λ v. leb x v && S v) T
+    (λ v p. let b : (leb x v ≡ true) × (S v ≡ true) = and-both (leb x v) (S v) p in none v (leb-true x v (b .0)) (b .1))
+    n f g (reduced-from 1 x (suc n) f least of) og nz (uses-both (leb x) S f (uses-reduced (leb x) (suc n) x f of (λ v p q. le-leb x v p)) u) w

@@ -2,8 +2,8 @@
 use Rattle.operate.specs.Inner.{descentOf}
 use borrow.Author.Tests.{eq-eqb, ne-eqb}
 use borrow.Author.Needs.{needs}
-use Rattle.operate.proofs.descent_of.Statement.{statement}
-use Rattle.operate.proofs.descent_of.Tie as tie
+use Rattle.operate.proofs.step.descent_of.Statement.{statement}
+use Rattle.operate.proofs.step.descent_of.Tie as tie
 
 enum-told : tie.Need-enum-told
 enum-told c = search needs

@@ -2,8 +2,8 @@
 use borrow.Author.Tests.{eq-eqb, ne-eqb}
 use Rattle.operate.specs.Inner.{terminalOf}
 use mathlib.Core.Logic.{⊎-elim}
-use Rattle.operate.proofs.terminal_conjunction.Statement.{statement}
-use Rattle.operate.proofs.terminal_conjunction.Tie as tie
+use Rattle.operate.proofs.step.terminal_conjunction.Statement.{statement}
+use Rattle.operate.proofs.step.terminal_conjunction.Tie as tie
 
 returns : tie.Need-returns
 unfolding terminalOf

@@ -3,8 +3,8 @@ use borrow.Author.Tests.{eq-eqb, ne-eqb, lt-ltb, le-ltb}
 use Rattle.operate.specs.Inner.{terminalOf}
 use mathlib.Core.Logic.{⊎-elim}
 use borrow.Author.Needs.{needs}
-use Rattle.operate.proofs.terminal.Statement.{statement}
-use Rattle.operate.proofs.terminal.Tie as tie
+use Rattle.operate.proofs.step.terminal.Statement.{statement}
+use Rattle.operate.proofs.step.terminal.Tie as tie
 
 enum-told : tie.Need-enum-told
 enum-told c = search needs
