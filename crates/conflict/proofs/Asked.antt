@@ -23,7 +23,7 @@ use Rattle.walks.specs.Readable.{valueUnder}
 use Rattle.table.specs.Nodes.{Node, diagramAt}
 use Rattle.table.proofs.Order.{Ordered}
 use Rattle.table.proofs.Numbers.{diagramAt-reduced}
-use Rattle.conflict.specs.Members.{negationIn, someNegated, asks, Quiet, Asked}
+use Rattle.conflict.specs.Members.{negationIn, someNegated, asks, Quiet, NegationsAsked}
 use Rattle.table.specs.Lists.{diagramsOf, Inside}
 use Rattle.conflict.specs.Marks.{isListed}
 
@@ -125,11 +125,11 @@ module _ (t : List Node) (list : List ℕ) where
 
 -- ---- the loop
 
-pub asked-first : (t : List Node) (list words : List ℕ) (touching : ℕ) → Asked t list words touching 0
+pub asked-first : (t : List Node) (list words : List ℕ) (touching : ℕ) → NegationsAsked t list words touching 0
 asked-first t list words touching = record { so-far = omega arith; none = λ k p. absurd (omega arith) }
 
-pub asked-next : (t : List Node) (list words : List ℕ) (touching i : ℕ) → Asked t list words touching i → i < length list
-    → (asks t (getD list i 0) (getD words i 0) touching ≡ true → negationIn (diagramsOf t list) (diagramAt t (getD list i 0)) ≡ false) → Asked t list words touching (i + 1)
+pub asked-next : (t : List Node) (list words : List ℕ) (touching i : ℕ) → NegationsAsked t list words touching i → i < length list
+    → (asks t (getD list i 0) (getD words i 0) touching ≡ true → negationIn (diagramsOf t list) (diagramAt t (getD list i 0)) ≡ false) → NegationsAsked t list words touching (i + 1)
 asked-next t list words touching i A p here = record { so-far = omega arith; none = λ k q. go k q (ℕ-discrete k i) }
   where
     go : (k : ℕ) → k < i + 1 → Dec (k ≡ i) → asks t (getD list k 0) (getD words k 0) touching ≡ true → negationIn (diagramsOf t list) (diagramAt t (getD list k 0)) ≡ false

@@ -38,7 +38,7 @@ Quiet t list words touching =
     → getD list i 0 ≢ 0 → getD list j 0 ≢ 0 → diagramAt t (getD list j 0) ≢ negation 64 (diagramAt t (getD list i 0))
 
 -- None of the first i members that are asked has its negation listed.
-pub record Asked (t : List Node) (list words : List ℕ) (touching i : ℕ) : Type 0 where
+pub record NegationsAsked (t : List Node) (list words : List ℕ) (touching i : ℕ) : Type 0 where
   pub so-far : i ≤ length list
   pub none : (k : ℕ) → k < i → asks t (getD list k 0) (getD words k 0) touching ≡ true
       → negationIn (diagramsOf t list) (diagramAt t (getD list k 0)) ≡ false
@@ -46,4 +46,4 @@ pub record Asked (t : List Node) (list words : List ℕ) (touching i : ℕ) : Ty
 -- What asking for negations comes to that needs no memo: a member's is listed, or none is up to a place.
 abbrev pub AskedThin : List Node → List ℕ → List ℕ → ℕ → Asking → Type 0
 AskedThin t list words touching Conflict = someNegated (diagramsOf t list) ≡ true
-AskedThin t list words touching (UpTo i) = Asked t list words touching i
+AskedThin t list words touching (UpTo i) = NegationsAsked t list words touching i

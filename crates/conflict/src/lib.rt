@@ -7,7 +7,7 @@ ghost use Prim.Native.Nat.{_<_};
 ghost use lib.ListN.{length};
 ghost use Rattle.meaning.specs.Rules as rules;
 ghost use Rattle.table.specs.Indexed.{tableOf, nodesOf, Good};
-ghost use Rattle.conflict.specs.Members.{someNegated, asks, Quiet, Asked, AskedThin};
+ghost use Rattle.conflict.specs.Members.{someNegated, asks, Quiet, NegationsAsked, AskedThin};
 ghost use Rattle.walks.specs.Readable.{Readable, nodesIn, ListReady};
 ghost use Rattle.table.specs.Lists.{diagramsOf, Inside};
 ghost use Rattle.conflict.specs.Marks.{isListed, unmarked, setAll, markedAt, FoundInside};
@@ -144,7 +144,7 @@ fn rest_negated(
         (isListed (now list) 0 ≡ false)
         × (length (now words) ≡ length (now list))
         × Quiet (nodesOf before) (now list) (now words) touching
-        × Asked (nodesOf before) (now list) (now words) touching from) ⌝ }
+        × NegationsAsked (nodesOf before) (now list) (now words) touching from) ⌝ }
     ensures { λ r. ⌜ (
         let before = tableOf (now (vars .entry)) (now (lows .entry)) (now (highs .entry)) (now (heads .entry)) (now (links .entry)) count in
         r ≡ someNegated (diagramsOf (nodesOf before) (now (list .entry)))) ⌝ }

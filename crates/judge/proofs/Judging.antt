@@ -19,14 +19,14 @@ use Rattle.propagate.specs.declared.Propagated.{Propagated}
 use Rattle.propagate.specs.Rounds.{Said}
 use Rattle.table.proofs.Extended.{extended-longer, extended-trans, diagrams-kept}
 use Rattle.judge.specs.declared.Judged.{Judged}
-use Rattle.judge.specs.Lines.{ByNegation, Says}
+use Rattle.judge.specs.Lines.{ByNegation, LineSays}
 use Rattle.judge.proofs.Fits.{turns-reach}
 use Rattle.judge.proofs.Turning.{judgedAs}
 
 module _ (T : Table) (G : Good T) (ms : List Diagram) (g : Diagram) (T₁ : Table) (list : List ℕ) where
   -- not-g or a member by it found no room
   module _ (B : ByNegation T ms g true T₁ list) (bound : ℕ) where
-    said-full : (line : Line) → lineReach (size T) (nodesOf T) line ≡ reach false (length (nodesOf T₁)) → Says T line bound (judgedAs true false 0 (T₁ .count) (T₁ .count)) T₁
+    said-full : (line : Line) → lineReach (size T) (nodesOf T) line ≡ reach false (length (nodesOf T₁)) → LineSays T line bound (judgedAs true false 0 (T₁ .count) (T₁ .count)) T₁
     said-full line e = record {
       extended = B .extended;
       reaches = e ∙ ap (reach false) (length-nodes T₁ (B .extended .good));
@@ -35,11 +35,11 @@ module _ (T : Table) (G : Good T) (ms : List Diagram) (g : Diagram) (T₁ : Tabl
       most = omega arith;
     }
 
-    pub rup-full : Says T (rup 64 ms g) bound (judgedAs true false 0 (T₁ .count) (T₁ .count)) T₁
+    pub rup-full : LineSays T (rup 64 ms g) bound (judgedAs true false 0 (T₁ .count) (T₁ .count)) T₁
     unfolding rup lineReach
     rup-full = said-full (rup 64 ms g) (ap (keptReach (size T) (rup 64 ms g .turns)) (B .places))
 
-    pub pr-full : (P N : ℕ → Bool) → Says T (pr 64 P N ms g) bound (judgedAs true false 0 (T₁ .count) (T₁ .count)) T₁
+    pub pr-full : (P N : ℕ → Bool) → LineSays T (pr 64 P N ms g) bound (judgedAs true false 0 (T₁ .count) (T₁ .count)) T₁
     unfolding pr lineReach
     pr-full P N = said-full (pr 64 P N ms g) (ap (keptReach (size T) (pr 64 P N ms g .turns)) (B .places))
 
@@ -49,7 +49,7 @@ module _ (T : Table) (G : Good T) (ms : List Diagram) (g : Diagram) (T₁ : Tabl
 
     pub rup-judged : (p : Propagated) (T₂ : Table) → Said T₁ (unitProp 64 (diagramsOf (nodesOf T₁) list)) p T₂
         → T₂ .count ≡ p .count
-        → Says T (rup 64 ms g) 64 (judgedAs (p .full) (p .conflict) (p .rounds) (p .count) (p .count)) T₂
+        → LineSays T (rup 64 ms g) 64 (judgedAs (p .full) (p .conflict) (p .rounds) (p .count) (p .count)) T₂
     unfolding rup lineReach
     rup-judged p T₂ S counted =
         let e : unitProp 64 (diagramsOf (nodesOf T₁) list) ≡ unitProp 64 (byDiagram 64 (negation 64 g) ms) = ap (unitProp 64) (B .are refl) in
@@ -77,8 +77,8 @@ module _ (T : Table) (G : Good T) (members : List ℕ) (inside : Inside (T .coun
       ≡ prTurns 64 (inWord p) (inWord n) (byDiagram 64 (negation 64 g) ms) ms
   turns-are = ap₂ (prTurns 64 (inWord p) (inWord n)) (B .are refl) (diagrams-kept T T₁ (extended-longer T T₁ G (B .extended)) members inside)
 
-  pub pr-judged : (bound : ℕ) (r : Judged) (T₂ : Table) → Says T₁ (prTurns 64 (inWord p) (inWord n) (diagramsOf (nodesOf T₁) list) (diagramsOf (nodesOf T₁) members)) bound r T₂
-      → Says T (pr 64 (inWord p) (inWord n) ms g) bound r T₂
+  pub pr-judged : (bound : ℕ) (r : Judged) (T₂ : Table) → LineSays T₁ (prTurns 64 (inWord p) (inWord n) (diagramsOf (nodesOf T₁) list) (diagramsOf (nodesOf T₁) members)) bound r T₂
+      → LineSays T (pr 64 (inWord p) (inWord n) ms g) bound r T₂
   unfolding pr lineReach
   pr-judged bound r T₂ S =
       let turned : Line = prTurns 64 (inWord p) (inWord n) (byDiagram 64 (negation 64 g) ms) ms in

@@ -32,7 +32,7 @@ use Rattle.table.specs.Lists.{diagramsOf}
 use Rattle.table.proofs.PlacedAll.{first-full, first-placed, turns-peak}
 use Rattle.table.proofs.Extended.{longer-extended, extended-same, extended-trans, diagrams-kept}
 use Rattle.judge.specs.declared.Judged.{Judged}
-use Rattle.judge.specs.Lines.{Negatable, Worded, Says}
+use Rattle.judge.specs.Lines.{Negatable, Worded, LineSays}
 use Rattle.judge.proofs.Worded.{literals-has, supports-longer}
 use Rattle.judge.proofs.Fits.{propagation, rup-reach, turns-reach, constant-turn, turn-shown, turn-rounds, turn-reach, GoesOn, Stops, goes-on, stops}
 
@@ -46,7 +46,7 @@ module _ (T : Table) (list memo : List ℕ) (R : ListReady T list memo) (f p n :
   One = prTurns 64 (inWord p) (inWord n) (diagramsOf (nodesOf T) list) (diagramAt (nodesOf T) f ∷ [])
 
   -- h is 1: nothing is made
-  pub turn-constant : oneAt (nodesOf T) p n f ≡ true → Says T One 64 (judgedAs false true 0 (T .count) (T .count)) T
+  pub turn-constant : oneAt (nodesOf T) p n f ≡ true → LineSays T One 64 (judgedAs false true 0 (T .count) (T .count)) T
   unfolding oneAt lineReach turnsReach placedAll
   turn-constant e =
       let q : One ≡ _ = constant-turn 64 (inWord p) (inWord n) (diagramsOf (nodesOf T) list) (diagramAt (nodesOf T) f) e in
@@ -87,7 +87,7 @@ module _ (T : Table) (list memo : List ℕ) (R : ListReady T list memo) (f p n :
     reach-is = turn-reach 64 (inWord p) (inWord n) ms (diagramAt (nodesOf T) f) other (size T) (nodesOf T)
 
     -- h found no room
-    pub turn-full : o .full ≡ true → Says T One 64 (judgedAs true false 0 (o .table .count) (o .table .count)) (o .table)
+    pub turn-full : o .full ≡ true → LineSays T One 64 (judgedAs true false 0 (o .table .count) (o .table .count)) (o .table)
     unfolding result
     turn-full q =
         record {
@@ -143,7 +143,7 @@ module _ (T : Table) (list memo : List ℕ) (R : ListReady T list memo) (f p n :
           ∙ sym (rup-reach (size T) (nodesOf (o .table)) 64 ms h)
           ∙ ap₂ (λ (s : ℕ) (L : Line). lineReach s (nodesOf (o .table)) L) (sym (made .same-size)) (sym rup-is)
 
-      pub turn-judged : (r : Judged) (T′ : Table) → Says (o .table) Rup 64 r T′ → Says T One 64 r T′
+      pub turn-judged : (r : Judged) (T′ : Table) → LineSays (o .table) Rup 64 r T′ → LineSays T One 64 r T′
       unfolding oneAt
       turn-judged r T′ S =
           record {
@@ -195,7 +195,7 @@ module _ (T : Table) (list members : List ℕ) (p n : ℕ) where
   module _ (good : Good T) where
     -- all are passed
     pub turns-done : (i rounds peak : ℕ) → Turning i rounds peak → length members ≤ i
-        → Says T (lineOf members) (64 * length members) (judgedAs false true rounds (T .count) peak) T
+        → LineSays T (lineOf members) (64 * length members) (judgedAs false true rounds (T .count) peak) T
     unfolding prTurns turnsReach
     turns-done i rounds peak W end =
         let none : drop i members ≡ [] = drop-of-length-le members {i = i} end in
@@ -210,7 +210,7 @@ module _ (T : Table) (list members : List ℕ) (p n : ℕ) where
         plus-zero : (m : ℕ) → m + 0 ≡ m
         plus-zero m = omega arith
 
-    module _ (i rounds peak : ℕ) (W : Turning i rounds peak) (more : i < length members) (r : Judged) (T′ : Table) (S : Says T (lineOf (getD members i 0 ∷ [])) 64 r T′) where
+    module _ (i rounds peak : ℕ) (W : Turning i rounds peak) (more : i < length members) (r : Judged) (T′ : Table) (S : LineSays T (lineOf (getD members i 0 ∷ [])) 64 r T′) where
       abbrev one : Line
       one = lineOf (getD members i 0 ∷ [])
 
@@ -232,7 +232,7 @@ module _ (T : Table) (list members : List ℕ) (p n : ℕ) where
           stops (size T) (nodesOf T) 64 (inWord p) (inWord n) (diagramsOf (nodesOf T) list) (diagramAt (nodesOf T) (getD members i 0)) (diagramsOf (nodesOf T) (drop (suc i) members))
 
       -- a turn that found no room
-      pub turns-full : r .full ≡ true → (count : ℕ) → Says T (lineOf members) (64 * length members) (judgedAs true false 0 count (max peak (r .peak))) T′
+      pub turns-full : r .full ≡ true → (count : ℕ) → LineSays T (lineOf members) (64 * length members) (judgedAs true false 0 count (max peak (r .peak))) T′
       turns-full q count =
           record {
             extended = S .extended;
@@ -254,7 +254,7 @@ module _ (T : Table) (list members : List ℕ) (p n : ℕ) where
         has-room = one-reach ∙ ap (λ (b : Bool). reach (not b) (r .peak)) q
 
         -- a turn that does not conflict
-        pub turns-end : r .shown ≡ false → Says T (lineOf members) (64 * length members) (judgedAs false false (rounds + r .rounds) (T .count) (max peak (r .peak))) T
+        pub turns-end : r .shown ≡ false → LineSays T (lineOf members) (64 * length members) (judgedAs false false (rounds + r .rounds) (T .count) (max peak (r .peak))) T
         turns-end z =
             let e : one .shown ≡ false = sym (S .shown q) ∙ z in
             record {

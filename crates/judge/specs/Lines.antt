@@ -37,7 +37,7 @@ pub record ByNegation (t : Table) (ms : List Diagram) (g : Diagram) (full : Bool
 
 -- The line over the table t: `full` exactly where what it makes finds no room, and the greatest count reached; where all finds room
 -- whether it is shown, and its rounds, at most so many; the table is then t′.
-pub record Says (t : Table) (line : Line) (bound : ℕ) (r : Judged) (t′ : Table) : Type 0 where
+pub record LineSays (t : Table) (line : Line) (bound : ℕ) (r : Judged) (t′ : Table) : Type 0 where
   pub extended : Extended t t′
   pub reaches : lineReach (size t) (nodesOf t) line ≡ reach (not (r .full)) (r .peak)
   pub shown : r .full ≡ false → r .shown ≡ line .shown

@@ -15,7 +15,7 @@ ghost use Rattle.walks.specs.Readable.{ListReady};
 ghost use Rattle.table.specs.Lists.{diagramsOf, Inside};
 ghost use Rattle.conflict.specs.Marks.{unmarked};
 ghost use Rattle.supports.specs.Supports.{Supports};
-ghost use Rattle.judge.specs.Lines.{Negatable, Worded, Says};
+ghost use Rattle.judge.specs.Lines.{Negatable, Worded, LineSays};
 
 // A member's turn of a PR line, worked out in `second`, where `first` has the members by not-g, `firstwords` their variables
 // and `word` the member's own. Its nodes stay.
@@ -48,7 +48,7 @@ fn turn(
     ensures { λ r. ⌜ (
         let before = tableOf (now (vars .entry)) (now (lows .entry)) (now (highs .entry)) (now (heads .entry)) (now (links .entry)) count in
         let after = tableOf (now (vars .exit)) (now (lows .exit)) (now (highs .exit)) (now (heads .exit)) (now (links .exit)) (r .count) in
-        Says before
+        LineSays before
         (prTurns 64 (inWord (witness .positive)) (inWord (witness .negative)) (diagramsOf (nodesOf before) (now (first .entry)))
         (diagramAt (nodesOf before) (f .0) ∷ []))
         64 r after) ⌝ }
@@ -141,7 +141,7 @@ fn turns(
     ensures { λ r. ⌜ (
         let before = tableOf (now (vars .entry)) (now (lows .entry)) (now (highs .entry)) (now (heads .entry)) (now (links .entry)) count in
         let after = tableOf (now (vars .exit)) (now (lows .exit)) (now (highs .exit)) (now (heads .exit)) (now (links .exit)) (r .count) in
-        Says before
+        LineSays before
         (prTurns 64 (inWord (witness .positive)) (inWord (witness .negative)) (diagramsOf (nodesOf before) (now (first .entry)))
         (diagramsOf (nodesOf before) (now (members .entry))))
         (64 * length (now (members .entry))) r after) ⌝ }
@@ -235,7 +235,7 @@ pub fn pr(
     ensures { λ r. ⌜ (
         let before = tableOf (now (vars .entry)) (now (lows .entry)) (now (highs .entry)) (now (heads .entry)) (now (links .entry)) count in
         let after = tableOf (now (vars .exit)) (now (lows .exit)) (now (highs .exit)) (now (heads .exit)) (now (links .exit)) (r .count) in
-        Says before
+        LineSays before
         (pr 64 (inWord (witness .positive)) (inWord (witness .negative)) (diagramsOf (nodesOf before) (now (members .entry)))
         (diagramAt (nodesOf before) (root .0)))
         (64 * length (now (members .entry))) r after) ⌝ }

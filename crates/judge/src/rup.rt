@@ -8,7 +8,7 @@ ghost use Rattle.table.specs.Nodes.{diagramAt};
 ghost use Rattle.table.specs.Indexed.{tableOf, nodesOf};
 ghost use Rattle.table.specs.Lists.{diagramsOf};
 ghost use Rattle.conflict.specs.Marks.{unmarked};
-ghost use Rattle.judge.specs.Lines.{Negatable, Worded, Says};
+ghost use Rattle.judge.specs.Lines.{Negatable, Worded, LineSays};
 
 // The RUP line of node `root`, worked out in `list`, where `memberwords` has the members' variables and `word` those of the root.
 // Its nodes stay.
@@ -39,7 +39,7 @@ pub fn rup_with(
     ensures { λ r. ⌜ (
         let before = tableOf (now (vars .entry)) (now (lows .entry)) (now (highs .entry)) (now (heads .entry)) (now (links .entry)) count in
         let after = tableOf (now (vars .exit)) (now (lows .exit)) (now (highs .exit)) (now (heads .exit)) (now (links .exit)) (r .count) in
-        Says before (rup 64 (diagramsOf (nodesOf before) (now (members .entry))) (diagramAt (nodesOf before) (root .0))) 64 r after) ⌝ }
+        LineSays before (rup 64 (diagramsOf (nodesOf before) (now (members .entry))) (diagramAt (nodesOf before) (root .0))) 64 r after) ⌝ }
     ensures { λ _. ⌜ now (marks .exit) ≡ unmarked (length (now (vars .entry))) ⌝ }
 {
     let made = crate::by_negation(
@@ -112,7 +112,7 @@ pub fn rup(
     ensures { λ r. ⌜ (
         let before = tableOf (now (vars .entry)) (now (lows .entry)) (now (highs .entry)) (now (heads .entry)) (now (links .entry)) count in
         let after = tableOf (now (vars .exit)) (now (lows .exit)) (now (highs .exit)) (now (heads .exit)) (now (links .exit)) (r .count) in
-        Says before (rup 64 (diagramsOf (nodesOf before) (now (members .entry))) (diagramAt (nodesOf before) (root .0))) 64 r after) ⌝ }
+        LineSays before (rup 64 (diagramsOf (nodesOf before) (now (members .entry))) (diagramAt (nodesOf before) (root .0))) 64 r after) ⌝ }
     ensures { λ _. ⌜ now (marks .exit) ≡ unmarked (length (now (vars .entry))) ⌝ }
 {
     supports::supports_of(vars, lows, highs, memo, members, memberwords, count);

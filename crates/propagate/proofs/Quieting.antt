@@ -29,7 +29,7 @@ use Rattle.walks.specs.Readable.{ListReady}
 use Rattle.table.specs.Lists.{diagramsOf}
 use Rattle.conflict.proofs.Asked.{no-conflict}
 use Rattle.members.specs.Made.{results, AllMade}
-use Rattle.unit_search.specs.Units.{Unitless, Asked}
+use Rattle.unit_search.specs.Units.{Unitless, UnitsAsked}
 use Rattle.members.specs.Touching.{AllTouched}
 use Rattle.members.proofs.Touching.{words-apart, stays}
 use Rattle.members.proofs.Replacing.{getD-map, result-at}
@@ -77,7 +77,7 @@ module _ (T : Table) (list memo words : List ℕ) (R : ListReady T list memo) (l
       (sym (unchanged j (omega arith) y) ∙ e ∙ ap (negation 64) (unchanged i (omega arith) x))
 
   -- a member that the round did not change has the units that it had
-  pub asked-next : (place : ℕ) → place ≤ length list → Unitless (diagramsOf (nodesOf T) list) place → Asked (diagramsOf (nodesOf T′) list′) words′ (bitOr (u .positive) (u .negative)) place
+  pub asked-next : (place : ℕ) → place ≤ length list → Unitless (diagramsOf (nodesOf T) list) place → UnitsAsked (diagramsOf (nodesOf T′) list′) words′ (bitOr (u .positive) (u .negative)) place
   asked-next place p U = (
     omega (arith, length-map list′ (diagramAt (nodesOf T′))),
     λ k q e.

@@ -27,9 +27,9 @@ roundsLeft rounds = 64 - rounds
 
 -- What comes after so many rounds: the end, with or without a conflict, or a round by the units given, of
 -- the member at the place.
-abbrev pub Comes : List Diagram → ℕ → Next → Type 0
-Comes ms rounds (End conflict) = propagate (roundsLeft rounds) 64 ms ≡ still conflict
-Comes ms rounds (By u place) = (rounds < 64) × (conflicts 64 ms ≡ false) × UnitsTaken 64 ms u × (place ≤ length ms) × Unitless ms place
+abbrev pub NextIs : List Diagram → ℕ → Next → Type 0
+NextIs ms rounds (End conflict) = propagate (roundsLeft rounds) 64 ms ≡ still conflict
+NextIs ms rounds (By u place) = (rounds < 64) × (conflicts 64 ms ≡ false) × UnitsTaken 64 ms u × (place ≤ length ms) × Unitless ms place
 
 -- The propagation p over the table t: `full` exactly where what it makes finds no room, else its conflict and its rounds.
 pub record Said (t : Table) (p : Propagation) (r : Propagated) (t′ : Table) : Type 0 where

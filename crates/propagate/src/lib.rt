@@ -20,8 +20,8 @@ ghost use Rattle.table.specs.Lists.{diagramsOf};
 ghost use Rattle.conflict.specs.Marks.{unmarked};
 ghost use Rattle.members.specs.Made.{AllMade, differing};
 ghost use Rattle.members.specs.Touching.{AllTouched};
-ghost use Rattle.unit_search.specs.Units.{UnitsTaken, Asked};
-ghost use Rattle.propagate.specs.Rounds.{unitResults, Comes, Said};
+ghost use Rattle.unit_search.specs.Units.{UnitsTaken, UnitsAsked};
+ghost use Rattle.propagate.specs.Rounds.{unitResults, NextIs, Said};
 
 // What a propagation says: `full` where a node found no room, else whether it conflicts, and its rounds; and the count.
 pub struct Propagated {
@@ -61,10 +61,10 @@ fn next_round(
         let before = tableOf (now vars) (now lows) (now highs) (now heads) (now links) count in
         (length (now words) ≡ length (now list))
         × Quiet (nodesOf before) (now list) (now words) touching
-        × Asked (diagramsOf (nodesOf before) (now list)) (now words) touching asked) ⌝ }
+        × UnitsAsked (diagramsOf (nodesOf before) (now list)) (now words) touching asked) ⌝ }
     ensures { λ r. ⌜ (
         let before = tableOf (now (vars .entry)) (now (lows .entry)) (now (highs .entry)) (now (heads .entry)) (now (links .entry)) count in
-        Comes (diagramsOf (nodesOf before) (now (list .entry))) rounds r) ⌝ }
+        NextIs (diagramsOf (nodesOf before) (now (list .entry))) rounds r) ⌝ }
     ensures { λ _. ⌜ now (marks .exit) ≡ unmarked (length (now (vars .entry))) ⌝ }
 {
     if conflict::conflicts(

@@ -23,7 +23,7 @@ use Rattle.verdict.specs.Steps.{next, spent, isEntry, entryNode, unstruck, wait
 use Rattle.table.specs.Lists.{Inside}
 use Rattle.table.proofs.Extended.{extended-longer}
 use Rattle.judge.specs.declared.Judged.{Judged}
-use Rattle.judge.specs.Lines.{Negatable, Says}
+use Rattle.judge.specs.Lines.{Negatable, LineSays}
 use Rattle.judge.proofs.Widths.{witnessed-at, rup-at, pr-at}
 use Rattle.steps.specs.declared.State.{State}
 use Rattle.steps.specs.declared.Step.{Step}
@@ -99,11 +99,11 @@ judged-said T st same g line j W =
     go false f e = rw (e, W .shown f, W .rounds f)
 
 -- A line judged with fewer rounds at most.
-pub says-most : (t : Table) (line : Line) (a b : ℕ) (r : Judged) (t′ : Table) → a ≤ b → Says t line a r t′ → Says t line b r t′
+pub says-most : (t : Table) (line : Line) (a b : ℕ) (r : Judged) (t′ : Table) → a ≤ b → LineSays t line a r t′ → LineSays t line b r t′
 says-most t line a b r t′ le J = record { extended = J .extended; reaches = J .reaches; shown = J .shown; rounds = J .rounds; most = omega (arith, J .most) }
 
 -- What judging says, once its nodes are dropped.
-pub tried : (t : Table) → Good t → (line : Line) (r : Judged) (t₁ t₂ : Table) → Says t line 131072 r t₁ → t₂ ≡ droppedTo (t .count) t₁ → (t₂ ≡ t) × Tried t line r
+pub tried : (t : Table) → Good t → (line : Line) (r : Judged) (t₁ t₂ : Table) → LineSays t line 131072 r t₁ → t₂ ≡ droppedTo (t .count) t₁ → (t₂ ≡ t) × Tried t line r
 tried t G line r t₁ t₂ J e = (
   e ∙ undone t G t₁ (extended-longer t t₁ G (J .extended)),
   record { reaches = J .reaches; shown = J .shown; rounds = J .rounds; most = J .most },

@@ -17,7 +17,7 @@ ghost use Rattle.verdict.specs.Steps.{lineStep};
 ghost use Rattle.verdict.specs.Taken.{lineBy, lineOf};
 ghost use Rattle.table.specs.Lists.{Inside, diagramsOf};
 ghost use Rattle.conflict.specs.Marks.{unmarked};
-ghost use Rattle.judge.specs.Lines.{Negatable, Says};
+ghost use Rattle.judge.specs.Lines.{Negatable, LineSays};
 ghost use Rattle.steps.specs.States.{lentOf, stateOf, withLine, Held, Stepped};
 ghost use Rattle.steps.specs.Tests.{LineTested};
 ghost use Rattle.steps.specs.Tried.{Tried, stepBy, membersBy};
@@ -108,7 +108,7 @@ fn judge_line(
         let after = tableOf (now (vars .exit)) (now (lows .exit)) (now (highs .exit)) (now (heads .exit)) (now (links .exit)) (r .count) in
         let diagrams = diagramsOf (nodesOf before) (now (live .entry)) in
         let line = lineBy 64 rule (st .witness .positive) (st .witness .negative) diagrams (diagramAt (nodesOf before) (g .0)) in
-        Says before line 131072 r after) ⌝ }
+        LineSays before line 131072 r after) ⌝ }
     ensures { λ _. ⌜ now (marks .exit) ≡ unmarked (length (now (vars .entry))) ⌝ }
 {
     let m = live.len();
@@ -186,7 +186,7 @@ fn judge_live(
         let lent = lentOf (now (vars .entry)) (now (lows .entry)) (now (highs .entry)) (now (heads .entry)) (now (links .entry))
         (now (members .entry)) (now (scratch .entry)) (now (struck .entry)) in
         let after = tableOf (now (vars .exit)) (now (lows .exit)) (now (highs .exit)) (now (heads .exit)) (now (links .exit)) (r .count) in
-        Says before (lineOf 64 (stateOf lent st) rule (g .0)) 131072 r after) ⌝ }
+        LineSays before (lineOf 64 (stateOf lent st) rule (g .0)) 131072 r after) ⌝ }
     ensures { λ _. ⌜ now (marks .exit) ≡ unmarked (length (now (vars .entry))) ⌝ }
 {
     let mut live = [0u16; 2048];

@@ -24,7 +24,7 @@ use Rattle.words.specs.Sets.{has}
 use Rattle.words.proofs.Variables.{word-zero}
 use Rattle.units.specs.Units.{UnitsAt}
 use Rattle.table.specs.Lists.{diagramsOf}
-use Rattle.unit_search.specs.Units.{UnitsTaken, Unitless, Asked, Skips}
+use Rattle.unit_search.specs.Units.{UnitsTaken, Unitless, UnitsAsked, Skips}
 
 -- ---- units
 
@@ -124,7 +124,7 @@ unitless-next ms i U e k p = go (ℕ-discrete k i)
     go (yes z) = ap (λ (j : ℕ). hasUnit 64 64 (getD ms j (leaf false))) z ∙ e
     go (no z) = U k (omega arith)
 
-pub unitless-skip : (ms : List Diagram) (words : List ℕ) (touching asked i r : ℕ) → Asked ms words touching asked → Skips words touching asked i r → Unitless ms i → Unitless ms r
+pub unitless-skip : (ms : List Diagram) (words : List ℕ) (touching asked i r : ℕ) → UnitsAsked ms words touching asked → Skips words touching asked i r → Unitless ms i → Unitless ms r
 unitless-skip ms words touching asked i r A S U k p = go (decLt k i)
   where
     go : Dec (k < i) → hasUnit 64 64 (getD ms k (leaf false)) ≡ false

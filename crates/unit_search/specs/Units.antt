@@ -36,8 +36,8 @@ FirstAtTop ms (Told units place) = UnitsTaken 64 ms units × (place ≤ length m
 FirstAtTop ms (UpTo place) = (place ≤ length ms) × Unitless ms place
 
 -- Of the first `asked` members those that have no variable in `touching`, as their words tell, have no unit.
-abbrev pub Asked : List Diagram → List ℕ → ℕ → ℕ → Type 0
-Asked ms words touching asked =
+abbrev pub UnitsAsked : List Diagram → List ℕ → ℕ → ℕ → Type 0
+UnitsAsked ms words touching asked =
     (asked ≤ length ms) × ((k : ℕ) → k < asked → bitAnd (getD words k 0) touching ≡ 0 → hasUnit 64 64 (getD ms k (leaf false)) ≡ false)
 
 -- From `from` on up to r each place is before `asked` and has no variable in `touching`.

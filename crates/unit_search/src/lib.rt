@@ -7,7 +7,7 @@ ghost use Prim.Native.Nat.{_≤_};
 ghost use lib.ListN.{length};
 ghost use Rattle.walks.specs.Readable.{Readable, Roomy, nodesIn};
 ghost use Rattle.table.specs.Lists.{diagramsOf, Inside};
-ghost use Rattle.unit_search.specs.Units.{AreFirst, FirstAtTop, Unitless, Asked, Skips};
+ghost use Rattle.unit_search.specs.Units.{AreFirst, FirstAtTop, Unitless, UnitsAsked, Skips};
 
 // The units by which a round cofactors and the place of the first member that has any, if there is one.
 pub enum FirstUnits {
@@ -51,7 +51,7 @@ fn first_at_top(
     requires { ⌜ Readable (now vars) (now lows) (now highs) count × Inside count (now list) ⌝ }
     requires { ⌜ (
         let nodes = nodesIn (now vars) (now lows) (now highs) count in
-        (length (now words) ≡ length (now list)) × Asked (diagramsOf nodes (now list)) (now words) touching asked) ⌝ }
+        (length (now words) ≡ length (now list)) × UnitsAsked (diagramsOf nodes (now list)) (now words) touching asked) ⌝ }
     ensures { λ r. ⌜ (
         let nodes = nodesIn (now (vars .entry)) (now (lows .entry)) (now (highs .entry)) count in
         FirstAtTop (diagramsOf nodes (now (list .entry))) r) ⌝ }
@@ -91,7 +91,7 @@ fn first_by_walks(
     requires { ⌜ (
         let nodes = nodesIn (now vars) (now lows) (now highs) count in
         (length (now words) ≡ length (now list))
-        × Asked (diagramsOf nodes (now list)) (now words) touching asked
+        × UnitsAsked (diagramsOf nodes (now list)) (now words) touching asked
         × (from ≤ length (now list))
         × Unitless (diagramsOf nodes (now list)) from) ⌝ }
     ensures { λ r. ⌜ (
@@ -128,7 +128,7 @@ pub fn first_units(
     requires { ⌜ Readable (now vars) (now lows) (now highs) count × Inside count (now list) × Roomy (now vars) (now memo) ⌝ }
     requires { ⌜ (
         let nodes = nodesIn (now vars) (now lows) (now highs) count in
-        (length (now words) ≡ length (now list)) × Asked (diagramsOf nodes (now list)) (now words) touching asked) ⌝ }
+        (length (now words) ≡ length (now list)) × UnitsAsked (diagramsOf nodes (now list)) (now words) touching asked) ⌝ }
     ensures { λ r. ⌜ (
         let nodes = nodesIn (now (vars .entry)) (now (lows .entry)) (now (highs .entry)) count in
         AreFirst 64 (diagramsOf nodes (now (list .entry))) r) ⌝ }

@@ -12,7 +12,7 @@ use Rattle.meaning.proofs.Booleans.{t≢f}
 use Rattle.walks.proofs.Here.{good-readable}
 use Rattle.negate.specs.Negations.{NegationMemo}
 use Rattle.negate.proofs.Entries.{negations-cleared}
-use Rattle.conflict.specs.Members.{Asked}
+use Rattle.conflict.specs.Members.{NegationsAsked}
 use Rattle.conflict.specs.Marks.{FoundInside}
 use Rattle.conflict.proofs.Marks.{marked-length}
 use Rattle.conflict.proofs.Asked.{negated-here, none-negated, asked-next}
@@ -22,7 +22,7 @@ use Rattle.conflict.proofs.rest_negated.Tie as tie
 
 abbrev Inv-loop : tie.InvT-loop
 Inv-loop vars lows highs heads links memo₀ marks list words count touching from i₀ memo i =
-    (length memo ≡ length memo₀) × NegationMemo memo (tableOf vars lows highs heads links count) × Asked (nodesOf (tableOf vars lows highs heads links count)) list words touching i
+    (length memo ≡ length memo₀) × NegationMemo memo (tableOf vars lows highs heads links count) × NegationsAsked (nodesOf (tableOf vars lows highs heads links count)) list words touching i
 
 abbrev μ-loop : tie.MeasureT-loop
 μ-loop vars lows highs heads links memo₀ marks list words count touching from i₀ memo i =

@@ -3,7 +3,7 @@ use mathlib.Core.Path.{sym, subst}
 use native.Mathlib.Omega.{arith}
 use Rattle.table.specs.Indexed.{Table, tableOf, nodesOf}
 use Rattle.table.proofs.Written.{good-ordered}
-use Rattle.conflict.specs.Members.{Asked, AskedThin}
+use Rattle.conflict.specs.Members.{NegationsAsked, AskedThin}
 use Rattle.conflict.proofs.Asked.{none-negated}
 use Rattle.conflict.proofs.Marked.{in-nodes}
 use borrow.Author.Needs.{needs}
@@ -47,7 +47,7 @@ module _ (c : tie.After-rest-negated-arg) where
   start-from-rest-negated-call = start-from-place place-from-rest-negated-call
 
 -- none up to the place
-asked-to : (c : tie.After-place) → Asked (nodesOf (table (start-from-place c))) (start-from-place c .args .list .now) (start-from-place c .args .words .now) (start-from-place c .args .touching) (c .place .given .0 .0)
+asked-to : (c : tie.After-place) → NegationsAsked (nodesOf (table (start-from-place c))) (start-from-place c .args .list .now) (start-from-place c .args .words .now) (start-from-place c .args .touching) (c .place .given .0 .0)
 asked-to c =
     let s = start-from-place c in
     subst (AskedThin (nodesOf (table s)) (s .args .list .now) (s .args .words .now) (s .args .touching)) (c .place .given .1) (thin-negated-from-place c .thin-negated .ensures)

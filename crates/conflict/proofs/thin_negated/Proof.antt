@@ -9,7 +9,7 @@ use borrow.Author.Tests.{not-false}
 use Rattle.meaning.proofs.Booleans.{t≢f}
 use Rattle.table.specs.Indexed.{Table, tableOf, nodesOf}
 use Rattle.walks.proofs.Here.{good-readable}
-use Rattle.conflict.specs.Members.{Asked}
+use Rattle.conflict.specs.Members.{NegationsAsked}
 use Rattle.conflict.specs.Marks.{FoundInside}
 use Rattle.conflict.proofs.Marks.{marked-length}
 use Rattle.conflict.proofs.Asked.{negated-here, asked-first, asked-next}
@@ -19,7 +19,7 @@ use Rattle.conflict.proofs.thin_negated.Tie as tie
 
 abbrev Inv-loop : tie.InvT-loop
 Inv-loop vars lows highs heads links marks list words count touching i₀ i =
-    Asked (nodesOf (tableOf vars lows highs heads links count)) list words touching i
+    NegationsAsked (nodesOf (tableOf vars lows highs heads links count)) list words touching i
 
 abbrev μ-loop : tie.MeasureT-loop
 μ-loop vars lows highs heads links marks list words count touching i₀ i = length list - i

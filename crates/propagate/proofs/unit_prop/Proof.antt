@@ -13,8 +13,8 @@ use Rattle.conflict.specs.Members.{Quiet}
 use Rattle.table.specs.Lists.{diagramsOf}
 use Rattle.conflict.specs.Marks.{unmarked}
 use Rattle.members.specs.Made.{results, AllMade}
-use Rattle.unit_search.specs.Units.{Asked}
-use Rattle.propagate.specs.Rounds.{Comes}
+use Rattle.unit_search.specs.Units.{UnitsAsked}
+use Rattle.propagate.specs.Rounds.{NextIs}
 use Rattle.propagate.proofs.Quieting.{quiet-all, quiet-next, asked-next}
 use Rattle.propagate.proofs.Rounds.{Going, going-first, going-ready, going-ends, going-full, going-on}
 use Rattle.propagate.proofs.unit_prop.Statement.{statement}
@@ -26,7 +26,7 @@ Inv-loop vars₀ lows₀ highs₀ heads₀ links₀ memo₀ marks₀ list₀ wor
     × Supports (nodesOf (tableOf vars lows highs heads links n)) list words
     × Quiet (nodesOf (tableOf vars lows highs heads links n)) list words touching
     × (length vars ≡ length vars₀) × (length lows ≡ length lows₀) × (length highs ≡ length highs₀) × (length heads ≡ length heads₀) × (length links ≡ length links₀) × (length memo ≡ length memo₀) × (length marks ≡ length marks₀) × (length list ≡ length list₀) × (length words ≡ length words₀)
-    × Asked (diagramsOf (nodesOf (tableOf vars lows highs heads links n)) list) words touching asked
+    × UnitsAsked (diagramsOf (nodesOf (tableOf vars lows highs heads links n)) list) words touching asked
 
 abbrev μ-loop : tie.MeasureT-loop
 μ-loop vars₀ lows₀ highs₀ heads₀ links₀ memo₀ marks₀ list₀ words₀ count n₀ rounds₀ touching₀ asked₀ vars lows highs heads links memo marks list words n rounds touching asked =
@@ -182,7 +182,7 @@ returns c =
     let r = start-from-return c .pre in
     let w = at-loop-from-return c .loop in
     let y = next-round-from-return c .next-round in
-    let ends = subst (Comes (diagramsOf (nodesOf (tableOf (w .vars) (w .lows) (w .highs) (w .heads) (w .links) (w .n))) (w .list)) (w .rounds)) (c .before .conflict .given .1) (y .ensures .0) in
+    let ends = subst (NextIs (diagramsOf (nodesOf (tableOf (w .vars) (w .lows) (w .highs) (w .heads) (w .links) (w .n))) (w .list)) (w .rounds)) (c .before .conflict .given .1) (y .ensures .0) in
     (going-ends (tableOf (a .vars .now) (a .lows .now) (a .highs .now) (a .heads .now) (a .links .now) (a .count)) (r .0 .0 .good) (diagramsOf (nodesOf (tableOf (a .vars .now) (a .lows .now) (a .highs .now) (a .heads .now) (a .links .now) (a .count))) (a .list .now)) (tableOf (w .vars) (w .lows) (w .highs) (w .heads) (w .links) (w .n)) (w .list) (w .memo) (w .marks) (w .rounds) (w .inv .0) (c .before .conflict .given .0 .0) ends, y .ensures .1 ∙ ap unmarked (w .inv .3))
 
 enum-known-u : tie.Need-enum-known-u Inv-loop μ-loop
@@ -195,7 +195,7 @@ round-requires c κs =
     let r = start-from-round-call c .pre in
     let w = at-loop-from-round-call c .loop in
     let y = next-round-from-round-call c .next-round in
-    let comes = subst (Comes (diagramsOf (nodesOf (tableOf (w .vars) (w .lows) (w .highs) (w .heads) (w .links) (w .n))) (w .list)) (w .rounds)) (u-from-round-call c .u .given .1) (y .ensures .0) in
+    let comes = subst (NextIs (diagramsOf (nodesOf (tableOf (w .vars) (w .lows) (w .highs) (w .heads) (w .links) (w .n))) (w .list)) (w .rounds)) (u-from-round-call c .u .given .1) (y .ensures .0) in
     let ready = going-ready (tableOf (a .vars .now) (a .lows .now) (a .highs .now) (a .heads .now) (a .links .now) (a .count)) (r .0 .0 .good) (diagramsOf (nodesOf (tableOf (a .vars .now) (a .lows .now) (a .highs .now) (a .heads .now) (a .links .now) (a .count))) (a .list .now)) (tableOf (w .vars) (w .lows) (w .highs) (w .heads) (w .links) (w .n)) (w .list) (w .memo) (w .marks) (w .rounds) (w .inv .0) in (
       record { good = ready .good; inside = ready .inside; room = omega (arith, y .kept .1 .1 .1 .1 .1 .0, ready .room) },
       w .inv .11 ∙ r .1 .0 ∙ sym (w .inv .10),
@@ -246,7 +246,7 @@ returns-2 c =
     let w = at-loop-from-then1 c .loop in
     let y = next-round-from-then1 c .next-round in
     let z = round-from-then1 c .round in
-    let comes = subst (Comes (diagramsOf (nodesOf (tableOf (w .vars) (w .lows) (w .highs) (w .heads) (w .links) (w .n))) (w .list)) (w .rounds)) (u-from-then1 c .u .given .1) (y .ensures .0) in
+    let comes = subst (NextIs (diagramsOf (nodesOf (tableOf (w .vars) (w .lows) (w .highs) (w .heads) (w .links) (w .n))) (w .list)) (w .rounds)) (u-from-then1 c .u .given .1) (y .ensures .0) in
     (going-full (tableOf (a .vars .now) (a .lows .now) (a .highs .now) (a .heads .now) (a .links .now) (a .count)) (r .0 .0 .good) (diagramsOf (nodesOf (tableOf (a .vars .now) (a .lows .now) (a .highs .now) (a .heads .now) (a .links .now) (a .count))) (a .list .now)) (tableOf (w .vars) (w .lows) (w .highs) (w .heads) (w .links) (w .n)) (w .list) (w .memo) (w .marks) (w .rounds) (w .inv .0) (comes .0) (comes .1) (u-from-then1 c .u .given .0 .0) (comes .2) (z .result .full) (tableOf (z .last .0) (z .last .1 .0) (z .last .1 .1 .0) (z .last .1 .1 .1 .0) (z .last .1 .1 .1 .1 .0) (z .result .count)) (z .last .1 .1 .1 .1 .1 .1 .0) (z .ensures .0) (c .if1 .taken) false, y .ensures .1 ∙ ap unmarked (w .inv .3))
 
 add-rounds : tie.Need-add-rounds Inv-loop μ-loop
@@ -259,7 +259,7 @@ loop-less c =
     let r = start-from-else1 c .pre in
     let w = at-loop-from-else1 c .loop in
     let y = next-round-from-else1 c .next-round in
-    let comes = subst (Comes (diagramsOf (nodesOf (tableOf (w .vars) (w .lows) (w .highs) (w .heads) (w .links) (w .n))) (w .list)) (w .rounds)) (u-from-else1 c .u .given .1) (y .ensures .0) in
+    let comes = subst (NextIs (diagramsOf (nodesOf (tableOf (w .vars) (w .lows) (w .highs) (w .heads) (w .links) (w .n))) (w .list)) (w .rounds)) (u-from-else1 c .u .given .1) (y .ensures .0) in
     omega (arith, comes .0)
 
 loop-again : tie.Need-loop-again Inv-loop μ-loop
@@ -269,7 +269,7 @@ loop-again c =
     let w = at-loop-from-else1 c .loop in
     let y = next-round-from-else1 c .next-round in
     let z = round-from-else1 c .round in
-    let comes = subst (Comes (diagramsOf (nodesOf (tableOf (w .vars) (w .lows) (w .highs) (w .heads) (w .links) (w .n))) (w .list)) (w .rounds)) (u-from-else1 c .u .given .1) (y .ensures .0) in (
+    let comes = subst (NextIs (diagramsOf (nodesOf (tableOf (w .vars) (w .lows) (w .highs) (w .heads) (w .links) (w .n))) (w .list)) (w .rounds)) (u-from-else1 c .u .given .1) (y .ensures .0) in (
       going-on (tableOf (a .vars .now) (a .lows .now) (a .highs .now) (a .heads .now) (a .links .now) (a .count)) (r .0 .0 .good) (diagramsOf (nodesOf (tableOf (a .vars .now) (a .lows .now) (a .highs .now) (a .heads .now) (a .links .now) (a .count))) (a .list .now)) (tableOf (w .vars) (w .lows) (w .highs) (w .heads) (w .links) (w .n)) (w .list) (w .memo) (w .marks) (w .rounds) (w .inv .0) (comes .0) (comes .1) (u-from-else1 c .u .given .0 .0) (comes .2) (z .result .full) (tableOf (z .last .0) (z .last .1 .0) (z .last .1 .1 .0) (z .last .1 .1 .1 .0) (z .last .1 .1 .1 .1 .0) (z .result .count)) (z .last .1 .1 .1 .1 .1 .1 .0) (z .ensures .0) (c .if1 .left) (z .last .1 .1 .1 .1 .1 .0) (z .kept .1 .1 .1 .1 .1 .0 ∙ y .kept .1 .1 .1 .1 .1 .0) (y .last .1 .1 .1 .1 .1 .1 .0) (y .ensures .1 ∙ ap unmarked (w .inv .3)),
       z .ensures .1 .0 (c .if1 .left),
       quiet-next (tableOf (w .vars) (w .lows) (w .highs) (w .heads) (w .links) (w .n)) (w .list) (w .memo) (w .words) (going-ready (tableOf (a .vars .now) (a .lows .now) (a .highs .now) (a .heads .now) (a .links .now) (a .count)) (r .0 .0 .good) (diagramsOf (nodesOf (tableOf (a .vars .now) (a .lows .now) (a .highs .now) (a .heads .now) (a .links .now) (a .count))) (a .list .now)) (tableOf (w .vars) (w .lows) (w .highs) (w .heads) (w .links) (w .n)) (w .list) (w .memo) (w .marks) (w .rounds) (w .inv .0)) (w .inv .11 ∙ r .1 .0 ∙ sym (w .inv .10)) (w .inv .1) (u-from-else1 c .u .given .0 .0) (tableOf (z .last .0) (z .last .1 .0) (z .last .1 .1 .0) (z .last .1 .1 .1 .0) (z .last .1 .1 .1 .1 .0) (z .result .count)) (z .last .1 .1 .1 .1 .1 .1 .0)

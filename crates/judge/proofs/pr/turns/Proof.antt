@@ -16,7 +16,7 @@ use Rattle.table.proofs.Outcomes.{undone}
 use Rattle.table.specs.Lists.{diagramsOf}
 use Rattle.conflict.specs.Marks.{unmarked}
 use Rattle.table.proofs.Extended.{extended-longer}
-use Rattle.judge.specs.Lines.{Says}
+use Rattle.judge.specs.Lines.{LineSays}
 use Rattle.judge.proofs.Worded.{member-worded, worded-again}
 use Rattle.judge.proofs.Ready.{again-ready}
 use Rattle.judge.proofs.Turning.{judgedAs, Turning, turning-none, turns-done, turns-full, turns-end, turns-on}
@@ -164,9 +164,9 @@ module _ (a : tie.After-turn Inv-loop μ-loop) where
   abbrev member : ℕ
   member = getD (start .args .members .now) (reached .loop .i) 0
 
-  said : Says (before start) (line start (member ∷ [])) 64 (a .turn .result) table₁
+  said : LineSays (before start) (line start (member ∷ [])) 64 (a .turn .result) table₁
   said =
-      subst (λ (t : Table). Says t (prTurns 64 (inWord (start .args .witness .positive)) (inWord (start .args .witness .negative)) (diagramsOf (nodesOf t) (start .args .first .now)) (diagramAt (nodesOf t) member ∷ [])) 64 (a .turn .result) table₁)
+      subst (λ (t : Table). LineSays t (prTurns 64 (inWord (start .args .witness .positive)) (inWord (start .args .witness .negative)) (diagramsOf (nodesOf t) (start .args .first .now)) (diagramAt (nodesOf t) member ∷ [])) 64 (a .turn .result) table₁)
       (reached .loop .inv .0) (a .turn .ensures .0)
 
   more : reached .loop .i < length (start .args .members .now)
@@ -269,7 +269,7 @@ returns c =
     let a = turn-from-then1 c in
     let s = start a in
     let w = reached a .loop in (
-      subst (λ (m : ℕ). Says (before s) (line s (s .args .members .now)) (64 * length (s .args .members .now)) (judgedAs true false 0 (a .turn .result .count) m) (table₁ a)) (sym (greater-from-then1 c .greater .ensures))
+      subst (λ (m : ℕ). LineSays (before s) (line s (s .args .members .now)) (64 * length (s .args .members .now)) (judgedAs true false 0 (a .turn .result .count) m) (table₁ a)) (sym (greater-from-then1 c .greater .ensures))
           (turns-full (before s) (s .args .first .now) (s .args .members .now) (s .args .witness .positive) (s .args .witness .negative) (good s) (w .i) (w .rounds) (w .peak) (w .inv .1) (more a) (a .turn .result) (table₁ a) (said a) (c .if1 .taken) (a .turn .result .count)),
       unmarked-again a,
     )
@@ -326,8 +326,8 @@ returns-2 c =
     let a = turned d in
     let s = start a in
     let w = reached a .loop in (
-      subst (λ (t : Table). Says (before s) (line s (s .args .members .now)) (64 * length (s .args .members .now)) (judgedAs false false (w .rounds + a .turn .result .rounds) (s .args .count) (greater-from-then2 c .greater .result)) t) (sym (as-before d))
-          (subst (λ (m : ℕ). Says (before s) (line s (s .args .members .now)) (64 * length (s .args .members .now)) (judgedAs false false (w .rounds + a .turn .result .rounds) (s .args .count) m) (before s)) (sym (greater-from-then2 c .greater .ensures))
+      subst (λ (t : Table). LineSays (before s) (line s (s .args .members .now)) (64 * length (s .args .members .now)) (judgedAs false false (w .rounds + a .turn .result .rounds) (s .args .count) (greater-from-then2 c .greater .result)) t) (sym (as-before d))
+          (subst (λ (m : ℕ). LineSays (before s) (line s (s .args .members .now)) (64 * length (s .args .members .now)) (judgedAs false false (w .rounds + a .turn .result .rounds) (s .args .count) m) (before s)) (sym (greater-from-then2 c .greater .ensures))
           (turns-end (before s) (s .args .first .now) (s .args .members .now) (s .args .witness .positive) (s .args .witness .negative) (good s) (w .i) (w .rounds) (w .peak) (w .inv .1) (more a) (a .turn .result) (table₁ a) (said a) (else1-from-then2 c .if1 .left) (sym (not-not (a .turn .result .shown)) ∙ ap not (c .if2 .taken)))),
       unmarked-again a,
     )
@@ -395,7 +395,7 @@ returns-3 : tie.Need-returns-3 Inv-loop μ-loop
 returns-3 c =
     let s = start-from-return-3 c in
     let w = c .before .loop in (
-      subst (λ (t : Table). Says (before s) (line s (s .args .members .now)) (64 * length (s .args .members .now)) (judgedAs false true (w .rounds) (s .args .count) (w .peak)) t) (sym (w .inv .0))
+      subst (λ (t : Table). LineSays (before s) (line s (s .args .members .now)) (64 * length (s .args .members .now)) (judgedAs false true (w .rounds) (s .args .count) (w .peak)) t) (sym (w .inv .0))
           (turns-done (before s) (s .args .first .now) (s .args .members .now) (s .args .witness .positive) (s .args .witness .negative) (good s) (w .i) (w .rounds) (w .peak) (w .inv .1) (omega (arith, c .loop-test .left))),
       w .inv .2,
     )

@@ -10,7 +10,7 @@ use Rattle.table.specs.Nodes.{diagramAt}
 use Rattle.table.specs.Indexed.{Table, tableOf, nodesOf}
 use Rattle.table.specs.Lists.{diagramsOf}
 use Rattle.records.specs.declared.Rule.{Rule}
-use Rattle.judge.specs.Lines.{Says}
+use Rattle.judge.specs.Lines.{LineSays}
 use Rattle.verdict.specs.Taken.{lineBy}
 use Rattle.steps.proofs.Lines.{says-most}
 use Rattle.steps.proofs.line.judge_line.Statement.{statement}
@@ -237,7 +237,7 @@ returns : tie.Need-returns
 returns c =
     let s = start-from-return c in
     let r = rup-from-return c .rup in (
-      subst (λ (x : Rule). Says (before s) (said s x) 131072 (r .result) (tableOf (r .last .0) (r .last .1 .0) (r .last .1 .1 .0) (r .last .1 .1 .1 .0) (r .last .1 .1 .1 .1 .0) (r .result .count))) (sym (enum-told-from-return c .enum-told .given .1))
+      subst (λ (x : Rule). LineSays (before s) (said s x) 131072 (r .result) (tableOf (r .last .0) (r .last .1 .0) (r .last .1 .1 .0) (r .last .1 .1 .1 .0) (r .last .1 .1 .1 .1 .0) (r .result .count))) (sym (enum-told-from-return c .enum-told .given .1))
           (says-most (before s) _ _ 131072 (r .result) _ (omega arith) (r .ensures .0)),
       r .ensures .1,
     )
@@ -278,7 +278,7 @@ returns-2 : tie.Need-returns-2
 returns-2 c =
     let s = start-from-return-2 c in
     let r = pr-from-return-2 c .pr in (
-      subst (λ (x : Rule). Says (before s) (said s x) 131072 (r .result) (tableOf (r .last .0) (r .last .1 .0) (r .last .1 .1 .0) (r .last .1 .1 .1 .0) (r .last .1 .1 .1 .1 .0) (r .result .count))) (sym (enum-told2-from-return-2 c .enum-told2 .given .1))
+      subst (λ (x : Rule). LineSays (before s) (said s x) 131072 (r .result) (tableOf (r .last .0) (r .last .1 .0) (r .last .1 .1 .0) (r .last .1 .1 .1 .0) (r .last .1 .1 .1 .1 .0) (r .result .count))) (sym (enum-told2-from-return-2 c .enum-told2 .given .1))
           (says-most (before s) _ _ 131072 (r .result) _ (omega (arith, s .pre .2)) (r .ensures .0)),
       r .ensures .1,
     )
