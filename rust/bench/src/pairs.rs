@@ -60,26 +60,49 @@ fn counter(store: &mut Diagrams, random: &mut Random, modulus: usize, first: u8,
 }
 
 /// Two diagrams, their variables taken in turn, that are trees above, then have some levels of random nodes, each so many that
-/// the pairs of two levels are more than the memo's cells. Then so many PR lines.
+/// the pairs of two levels are more than the memo's cells; they share variable 1 alone. Then so many PR lines.
 pub fn wide(depth: usize, width: usize, levels: usize, repeats: usize) -> Problem {
     let (mut store, random) = (Diagrams::default(), &mut Random::new(5));
     let lines = [(2, false), (3, true)].map(|(first, closed)| {
-        let mut variables = (0..depth + levels + 4).map(|place| first + 2 * place as u8).rev();
-        let mut row: Vec<Node> = vec![0, 1];
-        for most in [2, 12, 120, width] {
-            let more = level(&mut store, random, variables.next().unwrap(), &row, most, closed);
-            row = if most == width { more } else { [row, more].concat() };
-        }
-        for _ in 0..levels {
-            row = level(&mut store, random, variables.next().unwrap(), &row, width, closed);
-        }
-        row = (0..1 << depth).map(|leaf| if leaf < row.len() { row[leaf] } else { random.pick(&row) }).collect();
-        for variable in variables {
-            row = row.chunks(2).map(|pair| store.node(variable, pair[0], pair[1])).collect();
-        }
-        store.node(1, 0, row[0])
+        let top = wide_over(&mut store, random, [0, 1], first, closed, [depth, width, levels]);
+        store.node(1, 0, top)
     });
     problem(&lines, store, repeats)
+}
+
+/// The same, but f and not-g exclude each other by variable 64 at every pair of ends, as in `excluding`.
+pub fn wide_excluding(depth: usize, width: usize, levels: usize) -> Problem {
+    let (mut store, random) = (Diagrams::default(), &mut Random::new(9));
+    let last = store.literal(64);
+    let lines = [(2, 0), (1, 1)].map(|(first, end)| {
+        let ends = [store.node(63, end, last), store.node(63, last, end)];
+        wide_over(&mut store, random, ends, first, false, [depth, width, levels])
+    });
+    problem(&lines, store, 0)
+}
+
+fn wide_over(
+    store: &mut Diagrams,
+    random: &mut Random,
+    ends: [Node; 2],
+    first: u8,
+    closed: bool,
+    [depth, width, levels]: [usize; 3],
+) -> Node {
+    let mut variables = (0..depth + levels + 4).map(|place| first + 2 * place as u8).rev();
+    let mut row = ends.to_vec();
+    for most in [2, 12, 120, width] {
+        let more = level(store, random, variables.next().unwrap(), &row, most, closed);
+        row = if most == width { more } else { [row, more].concat() };
+    }
+    for _ in 0..levels {
+        row = level(store, random, variables.next().unwrap(), &row, width, closed);
+    }
+    row = (0..1 << depth).map(|leaf| if leaf < row.len() { row[leaf] } else { random.pick(&row) }).collect();
+    for variable in variables {
+        row = row.chunks(2).map(|pair| store.node(variable, pair[0], pair[1])).collect();
+    }
+    row[0]
 }
 
 /// So many nodes of one variable over the nodes below it; with each its negation, if the diagram is to be closed under it, so

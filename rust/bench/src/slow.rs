@@ -27,6 +27,7 @@ pub fn all() -> Vec<Workload> {
         workloads::proof("counters that exclude each other, by 64, 36", &pairs::excluding(64, 36), 4_096),
         workloads::proof("PR lines over counters apart, by 64", &pairs::apart(64, 20), 4_096),
         workloads::proof("wide levels, 6 of 200", &pairs::wide(8, 200, 6, 0), 4_096),
+        workloads::proof("wide levels that exclude each other, 3 of 240", &pairs::wide_excluding(8, 240, 3), 4_096),
         workloads::proof("PR lines over wide levels", &pairs::wide(8, 200, 6, 5), 4_096),
         workloads::proof("counters apart, by 130", &pairs::apart(130, 0), 65_536),
     ]);
