@@ -23,7 +23,7 @@ module _ (S : ℕ → Bool) where
   uses-more T more (leaf b) u = tt
   uses-more T more (node v l h) u = (more v (u .0), uses-more T more l (u .1), uses-more T more h (u .2))
 
-  pub uses-both : (T : ℕ → Bool) (f : Diagram) → Uses S f → Uses T f → Uses (λ v. S v && T v) f
+  uses-both : (T : ℕ → Bool) (f : Diagram) → Uses S f → Uses T f → Uses (λ v. S v && T v) f
   uses-both T (leaf b) u w = tt
   uses-both T (node v l h) u w = (ap₂ _&&_ (u .0) (w .0), uses-both T l (u .1) (w .1), uses-both T h (u .2) (w .2))
 

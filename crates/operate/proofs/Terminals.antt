@@ -31,6 +31,10 @@ found-number : (i j : ℕ) → found i ≡ found j → i ≡ j
 unfolding number
 found-number i j e = ap number e
 
+-- what the code's test says, where it is asked with an operation that is op
+pub told-of : (op asked : Operation) (f g : ℕ) (said : Found) → said ≡ terminalOf asked f g → asked ≡ op → terminalOf op f g ≡ said
+told-of op asked f g said e q = sym (e ∙ ap (λ (o : Operation). terminalOf o f g) q)
+
 -- What the numbers tell.
 pub data Told (op : Operation) (t : Table) (f g : ℕ) : Type 0 where
   known : (k : ℕ) → terminalOf op f g ≡ found k → Right op t f g k → Told op t f g

@@ -1,5 +1,6 @@
 // Conjunction, negation and the two cofactors by one recursion over the nodes of a table, with a memo.
-// Terminal cases first, the memo next, the branches last, one store into the memo at the end.
+// Terminal cases first, the memo next, then whether f comes after all that is shared, the branches last, one store into the memo at the
+// end.
 use crate::step::Descent;
 use crate::step::Kind;
 use crate::step::Sides;
@@ -90,7 +91,7 @@ pub fn apply_sharing(
     work_out(vars, lows, highs, heads, links, memo, count, kind, by, f, g)
 }
 
-// The operation from its terminals, its memo, a first operand beyond what is shared, or its branches.
+// The operation from its terminals, its memo, where f comes after all that is shared, or its branches.
 fn work_out(
     vars: &mut [u8],
     lows: &mut [u16],

@@ -43,8 +43,8 @@ pub fn kind_of(op: Operation) -> Kind
     }
 }
 
-// What the recursion takes a cofactor by: the literals, or for a cofactor by a diagram, as positive, the variables that f and g may share.
-// Nothing for another operation.
+// What a cofactor is by: its literals; for one by a diagram the variables that f and g may share, as `positive`. None for another
+// operation.
 pub fn by_of(op: Operation, shared: u64) -> Literals
     ensures { λ r. ⌜ r ≡ byOf op shared ⌝ }
 {

@@ -1,6 +1,6 @@
 -- What `work_out` needs, a law for each place of its code. Assumes nothing.
 use Prim.Native.Nat.{ℕ, _+_, _-_, _*_, _≤_, _<_}
-use mathlib.Core.Path.{_≡_, sym, ap, _∙_, subst}
+use mathlib.Core.Path.{_≡_, sym, _∙_, subst}
 use mathlib.Core.Bool.{true}
 use mathlib.Core.List.{List}
 use native.Mathlib.Omega.{arith}
@@ -10,7 +10,7 @@ use Rattle.table.specs.declared.Found.the-variants.{At, Nothing}
 use Rattle.table.specs.Indexed.{Table, tableOf, Outcome, outcomeOf}
 use Rattle.operate.specs.declared.Operation.{Operation}
 use Rattle.operate.specs.Inner.{applied, operationOf, top, terminalOf, beyond, Shared, Right, Shaped, Tells, Ready}
-use Rattle.operate.proofs.Terminals.{terminal-right, terminal-two}
+use Rattle.operate.proofs.Terminals.{told-of, terminal-right, terminal-two}
 use Rattle.operate.proofs.Sharing.{variable-fits, beyond-right}
 use Rattle.operate.proofs.Results.{columns-hold, known-outcome, made-right}
 use Rattle.operate.proofs.work_out.Reads as work-out
@@ -156,8 +156,7 @@ module _ {t : ℕ} (c : work-out-lts.After-slice-known13 (work-out-callees t) (w
 module _ {t : ℕ} (e : work-out-lts.After-terminal (work-out-callees t) (work-out-at t) work-out.Post) where
   told : let s = start-from-terminal e in terminalOf (a-op s) (a-f s) (a-g s) ≡ e .terminal .result
   told =
-      let s = start-from-terminal e in
-      sym (e .terminal .ensures ∙ ap (λ (op : Operation). terminalOf op (a-f s) (a-g s)) (operation-of-from-terminal e .operation-of .ensures))
+      let s = start-from-terminal e in told-of (a-op s) _ (a-f s) (a-g s) _ (e .terminal .ensures) (operation-of-from-terminal e .operation-of .ensures)
 
 -- where they tell nothing
 module _ {t : ℕ} (e : work-out-lts.After-enum-told (work-out-callees t) (work-out-at t) work-out.Post) where

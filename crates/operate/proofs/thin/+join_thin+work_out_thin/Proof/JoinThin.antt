@@ -1,6 +1,6 @@
 -- What `join_thin` needs, a law for each place of its code. Assumes nothing.
 use Prim.Native.Nat.{ℕ, _-_, _*_, _<_}
-use mathlib.Core.Path.{_≡_, sym, ap, _∙_, subst}
+use mathlib.Core.Path.{_≡_, sym, _∙_, subst}
 use mathlib.Core.Logic.{⊎-elim}
 use native.Mathlib.Omega.{arith}
 use borrow.Author.Needs.{needs}
@@ -9,6 +9,7 @@ use Rattle.operate.specs.declared.Operation.{Operation}
 use Rattle.operate.specs.declared.step.Sides.{Sides}
 use Rattle.operate.specs.Inner.{operationOf, terminalOf, top, Ready, SidesReady}
 use Rattle.operate.specs.Thin.{noMemo}
+use Rattle.operate.proofs.Terminals.{told-of}
 use Rattle.operate.proofs.Results.{low-done, high-ready, high-top, high-good, high-done, both-done}
 use Rattle.operate.proofs.Passing.{no-memo, SideLeft, terminal-left, outcome-same}
 use Rattle.operate.proofs.thin.join_thin.Reads as join-thin
@@ -142,8 +143,7 @@ module _ {t : ℕ} (m : join-thin-lts.At-match-came (join-thin-callees t) (join-
 
   told₁ : terminalOf (j-op js) (j-sides js .f0 .0) (j-sides js .g0 .0) ≡ terminal-from-at-match-came m .terminal .result
   told₁ =
-      sym (terminal-from-at-match-came m .terminal .ensures
-      ∙ ap (λ (op : Operation). terminalOf op (j-sides js .f0 .0) (j-sides js .g0 .0)) (operation-of-from-at-match-came m .operation-of .ensures))
+      told-of (j-op js) _ (j-sides js .f0 .0) (j-sides js .g0 .0) _ (terminal-from-at-match-came m .terminal .ensures) (operation-of-from-at-match-came m .operation-of .ensures)
 
   -- at the end of an arm stand the equations of the five columns and of p
   left₁ : LowLeft out₁
@@ -174,8 +174,7 @@ module _ {t : ℕ} (n : join-thin-lts.At-match2-came (join-thin-callees t) (join
 
   told₂ : terminalOf (j-op (js jm)) (j-sides (js jm) .f1 .0) (j-sides (js jm) .g1 .0) ≡ terminal2-from-at-match2-came n .terminal2 .result
   told₂ =
-      sym (terminal2-from-at-match2-came n .terminal2 .ensures
-      ∙ ap (λ (op : Operation). terminalOf op (j-sides (js jm) .f1 .0) (j-sides (js jm) .g1 .0)) (operation-of-from-at-match2-came n .operation-of .ensures))
+      told-of (j-op (js jm)) _ (j-sides (js jm) .f1 .0) (j-sides (js jm) .g1 .0) _ (terminal2-from-at-match2-came n .terminal2 .ensures) (operation-of-from-at-match2-came n .operation-of .ensures)
 
   left₂ : HighLeft out₂
   left₂ =
