@@ -1,10 +1,6 @@
 pub mod Bits
 pub mod Stops
 pub mod Witnesses
-pub mod Entries
-pub mod Entering
-pub mod Nodes
-pub mod SetEntries
 pub mod Strikings
 pub mod Lines
 pub mod Records

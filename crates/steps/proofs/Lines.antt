@@ -12,7 +12,8 @@ use Rattle.meaning.specs.Rules.{Line, witnessed}
 use Rattle.meaning.specs.Words.{inWord}
 use Rattle.table.specs.Nodes.{Node}
 use Rattle.table.specs.Indexed.{Table, size, nodesOf, Good}
-use Rattle.walks.specs.Readable.{Roomy}
+use Rattle.walks.specs.Readable.{Roomy, nodesIn}
+use Rattle.walks.specs.Constant.{oneAt}
 use Rattle.table.specs.Making.{reach, lineReach}
 use Rattle.table.proofs.Written.{length-nodes}
 use Rattle.table.proofs.Outcomes.{droppedTo, undone}
@@ -24,18 +25,31 @@ use Rattle.table.specs.Lists.{Inside}
 use Rattle.table.proofs.Extended.{extended-longer}
 use Rattle.judge.specs.declared.Judged.{Judged}
 use Rattle.judge.specs.Lines.{Negatable, LineSays}
-use Rattle.judge.proofs.Widths.{witnessed-at, rup-at, pr-at}
-use Rattle.steps.specs.declared.State.{State}
-use Rattle.steps.specs.declared.Step.{Step}
-use Rattle.steps.specs.declared.Step.the-variants.{Next, Stop, Spent}
+use Rattle.judge.proofs.Widths.{witnessed-walk, witnessed-at, rup-at, pr-at}
+use Rattle.entries.specs.declared.State.{State}
+use Rattle.entries.specs.declared.Step.{Step}
+use Rattle.entries.specs.declared.Step.the-variants.{Next, Stop, Spent}
 use Rattle.steps.specs.Tried.{Tried, acceptedBy, saidBy, stepBy, membersBy}
-use Rattle.steps.specs.States.{Lent, tableIn, stateOf, withLine, Held, Stepped}
+use Rattle.steps.specs.NextStates.{withLine}
+use Rattle.entries.specs.States.{Lent, tableIn, stateOf, Held, Stepped}
 use Rattle.verdict.specs.Taken.{lineOf}
 use Rattle.steps.specs.Tests.{lineRefusal}
-use Rattle.steps.proofs.Stops.{unless, unless-refused, unless-none, line-is, LineFits, line-fits, stopped}
-use Rattle.steps.proofs.Entries.{entry-in}
+use Rattle.entries.proofs.Stops.{unless, unless-refused, unless-none, stopped}
+use Rattle.steps.proofs.Stops.{line-is, LineFits, line-fits}
+use Rattle.entries.proofs.Entries.{node-is-at, entry-in}
 use Rattle.steps.proofs.Strikings.{unstruck-inside}
-use Rattle.steps.proofs.Entering.{lentWith, inside-more, one-more}
+use Rattle.entries.proofs.Entering.{lentWith, inside-more, one-more}
+
+-- ---- a PR line's witness
+
+-- what the code's test of the root's node says
+pub shut-is : (l : Lent) (st : State) (e child : ℕ) → child ≡ getD (0 ∷ 1 ∷ take (st .entries) (l .scratch)) e 0
+    → (r b : Bool) → r ≡ oneAt (nodesIn (l .vars) (l .lows) (l .highs) (st .count)) (st .witness .positive) (st .witness .negative) child → r ≡ b
+    → witnessed 64 (inWord (st .witness .positive)) (inWord (st .witness .negative)) (diagramIn (stateOf l st) (entryNode (stateOf l st) e)) ≡ b
+unfolding nodesOf
+shut-is l st e child is r b ensures told =
+    ap (λ (k : ℕ). witnessed 64 (inWord (st .witness .positive)) (inWord (st .witness .negative)) (diagramIn (stateOf l st) k)) (node-is-at l st e ∙ sym is)
+    ∙ sym (witnessed-walk (nodesIn (l .vars) (l .lows) (l .highs) (st .count)) (st .witness .positive) (st .witness .negative) child) ∙ sym ensures ∙ told
 
 -- ---- the tests of a line
 

@@ -13,11 +13,11 @@ use Rattle.records.specs.declared.Record.the-variants.{NodeEntry, Witness, Proo
 use Rattle.verdict.specs.Steps as check
 use Rattle.verdict.specs.Steps.{stop, nodeStep, witnessStep, lineStep, strikeStep, setStep, endStep}
 use Rattle.verdict.specs.Steps.{recordStep}
-use Rattle.steps.specs.declared.State.{State}
-use Rattle.steps.specs.declared.Step.{Step}
-use Rattle.steps.specs.declared.Step.the-variants.{Stop}
-use Rattle.steps.specs.States.{Lent, stateOf, Stepped}
-use Rattle.steps.proofs.Stops.{stopped}
+use Rattle.entries.specs.declared.State.{State}
+use Rattle.entries.specs.declared.Step.{Step}
+use Rattle.entries.specs.declared.Step.the-variants.{Stop}
+use Rattle.entries.specs.States.{Lent, stateOf, Stepped}
+use Rattle.entries.proofs.Stops.{stopped}
 
 module _ (n s : ℕ) (S : check.State) (more : Bool) where
   step-node : (b : NodeBody) → recordStep n s S more (NodeEntry b) ≡ nodeStep n s S b

@@ -12,10 +12,10 @@ use borrow.Author.Tests.{eq-eqb, ne-eqb, lt-ltb, le-ltb}
 use Rattle.table.specs.Lists.{Inside}
 use Rattle.verdict.specs.Steps as check
 use Rattle.verdict.specs.Steps.{withMarks, next, unstruck, waiting, isLive, strikeStep}
-use Rattle.steps.specs.declared.State.{State}
-use Rattle.steps.specs.declared.Step.the-variants.{Next, Stop}
-use Rattle.steps.specs.States.{Lent, lentOf, stateOf, Held, Stepped}
-use Rattle.steps.proofs.Stops.{stopped}
+use Rattle.entries.specs.declared.State.{State}
+use Rattle.entries.specs.declared.Step.the-variants.{Next, Stop}
+use Rattle.entries.specs.States.{Lent, lentOf, stateOf, Held, Stepped}
+use Rattle.entries.proofs.Stops.{stopped}
 
 -- ---- members that are not struck
 

@@ -1,34 +1,18 @@
 -- Witness records: refused, or the next state with one variable more. Assumes nothing.
 use mathlib.Core.Path.{_≡_, refl, sym, ap, ap₂, _∙_, subst}
 use mathlib.Core.Bool.{Bool, true, false, not, or-true}
-use Prim.Native.Nat.{ℕ, _≤_, _<_}
-use borrow.Author.Tests.{le-leb, lt-leb}
+use Prim.Native.Nat.{ℕ, _≤_}
 use Rattle.meaning.specs.Words.{inWord}
 use Rattle.words.specs.declared.Literals.{Literals}
 use Rattle.words.specs.Sets.{withLiteral}
 use Rattle.verdict.specs.Steps as check
 use Rattle.verdict.specs.Steps.{next, isVariable, assigned, witnessStep}
-use Rattle.steps.specs.declared.State.{State}
-use Rattle.steps.specs.declared.Step.the-variants.{Next, Stop}
-use Rattle.steps.specs.States.{Lent, stateOf, stateWithWitness, Held, Stepped}
+use Rattle.entries.specs.declared.State.{State}
+use Rattle.entries.specs.declared.Step.the-variants.{Next, Stop}
+use Rattle.entries.specs.States.{Lent, stateOf, Held, Stepped}
+use Rattle.steps.specs.NextStates.{stateWithWitness}
 use Rattle.steps.proofs.Bits.{with-clear}
-use Rattle.steps.proofs.Stops.{stopped}
-
--- ---- the test of a variable
-
-pub is-variable : (n v : ℕ) → 1 ≤ v → v ≤ n → isVariable n v ≡ true
-unfolding isVariable
-is-variable n v p q = rw (le-leb 1 v p, le-leb v n q)
-
-pub variable-zero : (n v : ℕ) → v < 1 → isVariable n v ≡ false
-unfolding isVariable
-variable-zero n v p = rw (lt-leb 1 v p)
-
-pub variable-beyond : (n v : ℕ) → 1 ≤ v → n < v → isVariable n v ≡ false
-unfolding isVariable
-variable-beyond n v p q = rw (le-leb 1 v p, lt-leb v n q)
-
--- ---- the step
+use Rattle.entries.proofs.Stops.{stopped}
 
 abbrev pair : ℕ → ℕ → Literals
 pair positive negative = record { positive = positive; negative = negative }

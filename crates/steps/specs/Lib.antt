@@ -1,3 +1,3 @@
-pub mod States
+pub mod NextStates
 pub mod Tried
 pub mod Tests

@@ -10,10 +10,10 @@ use Rattle.table.specs.Indexed.{Table, size, nodesOf}
 use Rattle.table.specs.Making.{reach, lineReach}
 use Rattle.judge.specs.declared.Judged.{Judged}
 use Rattle.verdict.specs.Steps as check
-use Rattle.steps.specs.declared.State.{State}
-use Rattle.steps.specs.declared.Step.{Step}
-use Rattle.steps.specs.declared.Step.the-variants.{Next, Spent}
-use Rattle.steps.specs.States.{withLine}
+use Rattle.entries.specs.declared.State.{State}
+use Rattle.entries.specs.declared.Step.{Step}
+use Rattle.entries.specs.declared.Step.the-variants.{Next, Spent}
+use Rattle.steps.specs.NextStates.{withLine}
 
 -- As `Says` (judge/specs/Lines) has it, once the nodes made are dropped: 131,072 is 64 rounds for each of 2,048 members.
 pub record Tried (t : Table) (line : Line) (r : Judged) : Type 0 where

@@ -1,6 +1,7 @@
 // One record of a proof: the next state, or the number and the place of the proof's end.
+use entries::State;
+use entries::Step;
 use records::Record;
-use words::Literals;
 ghost use mathlib.Core.Path.{_≡_};
 ghost use Prim.Native.Nat.{ℕ};
 ghost use lib.ListN.{length};
@@ -8,38 +9,13 @@ ghost use Rattle.verdict.specs.Steps.{endStep};
 ghost use Rattle.verdict.specs.Steps.{recordStep};
 ghost use Rattle.walks.specs.Readable.{Roomy};
 ghost use Rattle.conflict.specs.Marks.{unmarked};
-ghost use Rattle.steps.specs.States.{Lent, lentOf, stateOf, Held, Stepped};
+ghost use Rattle.entries.specs.States.{Lent, lentOf, stateOf, Held, Stepped};
 
 pub mod line;
-mod node;
-mod set;
 mod strike;
 mod witness;
 
 pub use witness::with_witness;
-
-// The state between records: the table's count, how many nodes stay if the line is not accepted, the numbers of members and of the
-// line's entries, the waiting witness, the accepted lines, their rounds, the greatest count so far, and whether a line is the 0
-// diagram.
-pub struct State {
-    pub count: usize,
-    pub kept: usize,
-    pub members: usize,
-    pub entries: usize,
-    pub witness: Literals,
-    pub lines: usize,
-    pub rounds: u64,
-    pub peak: usize,
-    pub refuted: bool,
-}
-
-// What a record comes to: the next state; or 01's number and the place, counted from the record's first byte, where no node was made; or
-// 01's number at the record's first byte and the greatest count so far.
-pub enum Step {
-    Next(State),
-    Stop { number: u8, offset: usize },
-    Spent { number: u8, peak: usize },
-}
 
 // The end record; `more` tells whether a byte follows it.
 fn end_step(st: State, more: bool) -> Step
@@ -101,7 +77,7 @@ pub fn record_step(
     ensures { λ _. ⌜ now (marks .exit) ≡ unmarked (length (now (vars .entry))) ⌝ }
 {
     match r {
-        Record::NodeEntry(b) => node::node_step(
+        Record::NodeEntry(b) => entries::node::node_step(
             vars,
             lows,
             highs,
@@ -129,7 +105,7 @@ pub fn record_step(
             root,
         ),
         Record::Strike(k) => strike::strike_step(struck, st, k),
-        Record::SetEntry { kind, body: b } => set::set_step(
+        Record::SetEntry { kind, body: b } => entries::set::set_step(
             vars,
             lows,
             highs,

@@ -1,4 +1,6 @@
 // Proof lines, by RUP and by PR.
+use entries::State;
+use entries::Step;
 use judge::Judged;
 use records::EntryNo;
 use records::Rule;
@@ -18,7 +20,8 @@ ghost use Rattle.verdict.specs.Taken.{lineBy, lineOf};
 ghost use Rattle.table.specs.Lists.{Inside, diagramsOf};
 ghost use Rattle.conflict.specs.Marks.{unmarked};
 ghost use Rattle.judge.specs.Lines.{Negatable, LineSays};
-ghost use Rattle.steps.specs.States.{lentOf, stateOf, withLine, Held, Stepped};
+ghost use Rattle.entries.specs.States.{lentOf, stateOf, Held, Stepped};
+ghost use Rattle.steps.specs.NextStates.{withLine};
 ghost use Rattle.steps.specs.Tests.{LineTested};
 ghost use Rattle.steps.specs.Tried.{Tried, stepBy, membersBy};
 
@@ -35,7 +38,7 @@ fn line_test(
     highs: &[u16],
     memo: &mut [u64],
     scratch: &[u16],
-    st: crate::State,
+    st: State,
     rule: Rule,
     root: EntryNo,
 ) -> LineTest
@@ -49,10 +52,10 @@ fn line_test(
         LineTested 64 (stateOf lent st) rule (root .0) r)) ⌝ }
 {
     let entries = st.entries;
-    if !crate::node::is_entry(entries, root) {
+    if !entries::node::is_entry(entries, root) {
         return LineTest::Refused(13);
     }
-    let g = crate::node::entry_node(scratch, entries, root);
+    let g = entries::node::entry_node(scratch, entries, root);
     match rule {
         Rule::Rup => {
             if crate::witness::waits(st.witness) {
@@ -92,7 +95,7 @@ fn judge_line(
     marks: &mut [u8],
     live: &[u16],
     scratch: &mut [u16],
-    st: crate::State,
+    st: State,
     rule: Rule,
     g: NodeNo,
 ) -> Judged
@@ -168,7 +171,7 @@ fn judge_live(
     members: &[u16],
     scratch: &mut [u16],
     struck: &[u8],
-    st: crate::State,
+    st: State,
     rule: Rule,
     g: NodeNo,
 ) -> Judged
@@ -219,7 +222,7 @@ pub fn try_line(
     members: &[u16],
     scratch: &mut [u16],
     struck: &[u8],
-    st: crate::State,
+    st: State,
     rule: Rule,
     g: NodeNo,
 ) -> Judged
@@ -270,12 +273,12 @@ fn refutes(before: bool, g: NodeNo) -> bool
 }
 
 // The state after a line that is shown.
-fn with_line(st: crate::State, rounds: u64, peak: usize, g: NodeNo) -> crate::State
+fn with_line(st: State, rounds: u64, peak: usize, g: NodeNo) -> State
     requires { ⌜ (st .members ≤ 2048) × (st .lines ≤ 1024) × (st .rounds + rounds ≤ 1025 * 131072) ⌝ }
     ensures { λ r. ⌜ r ≡ withLine st rounds peak (g .0) ⌝ }
 {
     let refuted = refutes(st.refuted, g);
-    crate::State {
+    State {
         count: st.count,
         kept: st.count,
         members: st.members + 1,
@@ -292,7 +295,7 @@ fn with_line(st: crate::State, rounds: u64, peak: usize, g: NodeNo) -> crate::St
 }
 
 // What a judged line comes to: it is refused, or its root is the next member.
-pub fn ended(members: &mut [u16], st: crate::State, j: Judged, g: NodeNo) -> crate::Step
+pub fn ended(members: &mut [u16], st: State, j: Judged, g: NodeNo) -> Step
     requires { ⌜ (st .members < 2048)
         × (2048 ≤ length (now members))
         × (st .lines ≤ 1024)
@@ -302,14 +305,14 @@ pub fn ended(members: &mut [u16], st: crate::State, j: Judged, g: NodeNo) -> cra
 {
     let peak = judge::greater(st.peak, j.peak);
     if j.full {
-        return crate::Step::Spent { number: 23, peak };
+        return Step::Spent { number: 23, peak };
     }
     if !j.shown {
-        return crate::Step::Spent { number: 19, peak };
+        return Step::Spent { number: 19, peak };
     }
     let m = st.members;
     members[m] = g.0;
-    crate::Step::Next(with_line(st, j.rounds, peak, g))
+    Step::Next(with_line(st, j.rounds, peak, g))
 }
 
 // The line is refused, or its root is the next member. The nodes that judging makes are dropped.
@@ -324,10 +327,10 @@ pub fn line_step(
     members: &mut [u16],
     scratch: &mut [u16],
     struck: &[u8],
-    st: crate::State,
+    st: State,
     rule: Rule,
     root: EntryNo,
-) -> crate::Step
+) -> Step
     requires { ⌜ (
         let lent = lentOf (now vars) (now lows) (now highs) (now heads) (now links) (now members) (now scratch)
         (now struck) in
@@ -342,7 +345,7 @@ pub fn line_step(
     ensures { λ _. ⌜ now (marks .exit) ≡ unmarked (length (now (vars .entry))) ⌝ }
 {
     match line_test(vars, lows, highs, memo, scratch, st, rule, root) {
-        LineTest::Refused(number) => crate::Step::Stop { number, offset: 0 },
+        LineTest::Refused(number) => Step::Stop { number, offset: 0 },
         LineTest::Fits(g) => {
             let j = try_line(
                 vars,

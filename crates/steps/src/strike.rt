@@ -1,14 +1,16 @@
 // Strikings, and the members that no striking has taken out.
+use entries::State;
+use entries::Step;
 use records::MemberNo;
 ghost use mathlib.Core.Path.{_≡_};
 ghost use mathlib.Core.List.{List};
 ghost use Prim.Native.Nat.{ℕ, _≤_};
 ghost use lib.ListN.{length, take};
 ghost use Rattle.verdict.specs.Steps.{unstruck, strikeStep};
-ghost use Rattle.steps.specs.States.{lentOf, stateOf, Held, Stepped};
+ghost use Rattle.entries.specs.States.{lentOf, stateOf, Held, Stepped};
 
 // The striking marks its member; or 16, 28. The code's state holds no marks, so it stays.
-pub fn strike_step(struck: &mut [u8], st: crate::State, k: MemberNo) -> crate::Step
+pub fn strike_step(struck: &mut [u8], st: State, k: MemberNo) -> Step
     requires { ⌜ st .members ≤ length (now struck) ⌝ }
     ensures { λ r. ⌜ ((n : ℕ) (vs ls hs ds ks ms cs : List ℕ) → (
         let lent = lentOf vs ls hs ds ks ms cs (now (struck .entry)) in
@@ -16,26 +18,26 @@ pub fn strike_step(struck: &mut [u8], st: crate::State, k: MemberNo) -> crate::S
         Held n lent st → Stepped n lent returned st (strikeStep (stateOf lent st) (k .0)) r)) ⌝ }
 {
     if crate::witness::waits(st.witness) {
-        return crate::Step::Stop {
+        return Step::Stop {
             number: 16,
             offset: 0,
         };
     }
     let i = k.0 as usize;
     if st.members <= i {
-        return crate::Step::Stop {
+        return Step::Stop {
             number: 28,
             offset: 0,
         };
     }
     if struck[i] != 0 {
-        return crate::Step::Stop {
+        return Step::Stop {
             number: 28,
             offset: 0,
         };
     }
     struck[i] = 1;
-    crate::Step::Next(st)
+    Step::Next(st)
 }
 
 // The nodes of the first m members that are not struck, by place, at the front of `live`; and how many they are.

@@ -1,11 +1,14 @@
 // Witness records.
+use entries::State;
+use entries::Step;
 use words::Literals;
 ghost use mathlib.Core.Path.{_≡_};
 ghost use mathlib.Core.Bool.{not, _&&_};
 ghost use Prim.Native.Nat.{_≤_};
 ghost use lib.Dec.{eqb};
 ghost use Rattle.verdict.specs.Steps.{witnessStep};
-ghost use Rattle.steps.specs.States.{Lent, stateOf, stateWithWitness, Held, Stepped};
+ghost use Rattle.entries.specs.States.{Lent, stateOf, Held, Stepped};
+ghost use Rattle.steps.specs.NextStates.{stateWithWitness};
 
 // Whether a witness waits for its line.
 pub fn waits(witness: Literals) -> bool
@@ -18,10 +21,10 @@ pub fn waits(witness: Literals) -> bool
 }
 
 // The state with another witness.
-pub fn with_witness(st: crate::State, witness: Literals) -> crate::State
+pub fn with_witness(st: State, witness: Literals) -> State
     ensures { λ r. ⌜ r ≡ stateWithWitness st witness ⌝ }
 {
-    crate::State {
+    State {
         count: st.count,
         kept: st.kept,
         members: st.members,
@@ -35,35 +38,35 @@ pub fn with_witness(st: crate::State, witness: Literals) -> crate::State
 }
 
 // The witness sets the variable v to `value`: 12, 15, or the next state.
-pub fn witness_step(st: crate::State, variables: u8, v: u8, value: bool) -> crate::Step
+pub fn witness_step(st: State, variables: u8, v: u8, value: bool) -> Step
     requires { ⌜ variables ≤ 64 ⌝ }
     ensures { λ r. ⌜ ((l : Lent) → Held variables l st → Stepped variables l l st (witnessStep variables (stateOf l st) v value) r) ⌝ }
 {
     if v < 1 {
-        return crate::Step::Stop {
+        return Step::Stop {
             number: 12,
             offset: 0,
         };
     }
     if variables < v {
-        return crate::Step::Stop {
+        return Step::Stop {
             number: 12,
             offset: 0,
         };
     }
     let witness = st.witness;
     if words::in_word(witness.positive, v) {
-        return crate::Step::Stop {
+        return Step::Stop {
             number: 15,
             offset: 0,
         };
     }
     if words::in_word(witness.negative, v) {
-        return crate::Step::Stop {
+        return Step::Stop {
             number: 15,
             offset: 0,
         };
     }
     let set = words::with_literal(witness, v, value);
-    crate::Step::Next(with_witness(st, set))
+    Step::Next(with_witness(st, set))
 }

@@ -32,13 +32,14 @@ use Rattle.verdict.specs.Steps as check
 use Rattle.verdict.specs.Steps.{withEntry, next, stop, spent}
 use Rattle.verdict.specs.Clausal.{tries, judgedOr, secondTry, onceMade, addStep}
 use Rattle.verdict.proofs.Uses.{place-uses, uses-written}
-use Rattle.steps.specs.declared.State.{State}
-use Rattle.steps.specs.declared.Step.{Step}
-use Rattle.steps.specs.declared.Step.the-variants.{Next, Stop, Spent}
-use Rattle.steps.specs.States.{Lent, tableIn, stateOf, withLine, Held, Stepped}
+use Rattle.entries.specs.declared.State.{State}
+use Rattle.entries.specs.declared.Step.{Step}
+use Rattle.entries.specs.declared.Step.the-variants.{Next, Stop, Spent}
+use Rattle.entries.specs.States.{Lent, tableIn, stateOf, Held, Stepped}
+use Rattle.steps.specs.NextStates.{withLine}
 use Rattle.steps.specs.Tried.{acceptedBy, saidBy, stepBy, membersBy}
-use Rattle.steps.proofs.Stops.{stopped}
-use Rattle.steps.proofs.Entering.{lentWith}
+use Rattle.entries.proofs.Stops.{stopped}
+use Rattle.entries.proofs.Entering.{lentWith}
 use Rattle.steps.proofs.Lines.{accepted-says, accepted-held}
 use Rattle.meaning.specs.Literals.{OfVariables}
 use Rattle.tries.specs.Tries.{liveIn, withNodes, BothTried, no-room, once, twice, keptBy}

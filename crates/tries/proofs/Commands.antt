@@ -15,11 +15,11 @@ use Rattle.commands.specs.Inner.{clauseWords, commandOf}
 use Rattle.verdict.specs.Steps as check
 use Rattle.verdict.specs.Clausal.{addStep, strikeClause}
 use Rattle.verdict.specs.Check.{finish, step}
-use Rattle.steps.specs.declared.State.{State}
-use Rattle.steps.specs.declared.Step.{Step}
-use Rattle.steps.specs.declared.Step.the-variants.{Stop}
-use Rattle.steps.specs.States.{Lent, stateOf, Stepped}
-use Rattle.steps.proofs.Stops.{stopped}
+use Rattle.entries.specs.declared.State.{State}
+use Rattle.entries.specs.declared.Step.{Step}
+use Rattle.entries.specs.declared.Step.the-variants.{Stop}
+use Rattle.entries.specs.States.{Lent, stateOf, Stepped}
+use Rattle.entries.proofs.Stops.{stopped}
 use Rattle.tries.specs.Tries.{PivotFits}
 use Rattle.meaning.specs.Literals.{OfVariables}
 use Rattle.tries.specs.Commands.{CommandFits, PivotOfFits}

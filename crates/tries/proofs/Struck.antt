@@ -31,10 +31,10 @@ use Rattle.verdict.specs.Steps.{withMarks, next, stop, diagramIn, isLive}
 use Rattle.verdict.specs.Clausal.{firstSame, strikeFound, strikeClause}
 use Rattle.verdict.specs.ClauseTaken.{IsThere}
 use Rattle.verdict.proofs.Striking.{first-some, first-none}
-use Rattle.steps.specs.declared.State.{State}
-use Rattle.steps.specs.declared.Step.the-variants.{Next, Stop}
-use Rattle.steps.specs.States.{Lent, lentOf, tableIn, stateOf, Held, Stepped}
-use Rattle.steps.proofs.Stops.{stopped}
+use Rattle.entries.specs.declared.State.{State}
+use Rattle.entries.specs.declared.Step.the-variants.{Next, Stop}
+use Rattle.entries.specs.States.{Lent, lentOf, tableIn, stateOf, Held, Stepped}
+use Rattle.entries.proofs.Stops.{stopped}
 use Rattle.steps.proofs.Strikings.{marked-next}
 use Rattle.meaning.specs.Literals.{OfVariables}
 use Rattle.tries.specs.Lowest.{isAt, Lowest}

@@ -28,8 +28,8 @@ use Rattle.judge.proofs.Widths.{rup-at, pr-at}
 use Rattle.verdict.specs.Steps as check
 use Rattle.verdict.specs.Steps.{next, spent, judged, liveMembers}
 use Rattle.verdict.specs.Clausal.{withPeak, judgedOr, secondTry, tries}
-use Rattle.steps.specs.declared.State.{State}
-use Rattle.steps.specs.States.{Lent, tableIn, stateOf, Held}
+use Rattle.entries.specs.declared.State.{State}
+use Rattle.entries.specs.States.{Lent, tableIn, stateOf, Held}
 use Rattle.steps.specs.Tried.{Tried, acceptedBy, saidBy}
 use Rattle.steps.proofs.Lines.{judged-said}
 use Rattle.steps.proofs.Strikings.{unstruck-inside}

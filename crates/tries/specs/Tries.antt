@@ -16,7 +16,7 @@ use Rattle.commands.specs.declared.Pivot.the-variants.{Nothing, First}
 use Rattle.commands.specs.declared.TextClause.{TextClause}
 use Rattle.judge.specs.declared.Judged.{Judged}
 use Rattle.verdict.specs.Steps.{unstruck}
-use Rattle.steps.specs.declared.State.{State}
+use Rattle.entries.specs.declared.State.{State}
 use Rattle.steps.specs.Tried.{Tried}
 use Rattle.tries.specs.Words.{witnessWords}
 

@@ -1,10 +1,10 @@
 // A clause added: its diagram is made, then it is tried as a RUP line and, failing with 19, as a PR line. (02, 4/14)
 use commands::Pivot;
 use commands::TextClause;
+use entries::State;
+use entries::Step;
 use judge::Judged;
 use records::Rule;
-use steps::State;
-use steps::Step;
 use table::NodeNo;
 use table::Placed;
 ghost use mathlib.Core.Path.{_≡_};
@@ -18,7 +18,7 @@ ghost use Rattle.conflict.specs.Marks.{unmarked};
 ghost use Rattle.judge.specs.Lines.{Negatable};
 ghost use Rattle.commands.specs.Inner.{clauseWords};
 ghost use Rattle.verdict.specs.Clausal.{addStep};
-ghost use Rattle.steps.specs.States.{lentOf, stateOf, Held, Stepped};
+ghost use Rattle.entries.specs.States.{lentOf, stateOf, Held, Stepped};
 ghost use Rattle.tries.specs.Tries.{liveIn, PivotFits, SecondTried, decided, BothTried, keptBy};
 ghost use Rattle.meaning.specs.Literals.{OfVariables};
 

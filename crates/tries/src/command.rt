@@ -1,7 +1,7 @@
 // The step of a command, whatever its form. (02, 4/14)
 use commands::Command;
-use steps::State;
-use steps::Step;
+use entries::State;
+use entries::Step;
 ghost use mathlib.Core.Path.{_≡_};
 ghost use Prim.Native.Nat.{ℕ};
 ghost use lib.ListN.{length};
@@ -10,7 +10,7 @@ ghost use Rattle.conflict.specs.Marks.{unmarked};
 ghost use Rattle.commands.specs.Commands as read;
 ghost use Rattle.commands.specs.Inner.{commandOf};
 ghost use Rattle.verdict.specs.Check.{finish, step};
-ghost use Rattle.steps.specs.States.{Lent, lentOf, stateOf, Held, Stepped};
+ghost use Rattle.entries.specs.States.{Lent, lentOf, stateOf, Held, Stepped};
 ghost use Rattle.tries.specs.Commands.{CommandFits, PivotOfFits};
 
 // The end of a text: 0 or 20.

@@ -6,7 +6,7 @@ use native.Mathlib.Omega.{arith}
 use lib.ListN.{length}
 use borrow.Author.Needs.{needs}
 use Rattle.verdict.specs.Check.{proofFrom}
-use Rattle.steps.specs.States.{Lent, lentOf, stateOf}
+use Rattle.entries.specs.States.{Lent, lentOf, stateOf}
 use Rattle.replay.proofs.Going.{Going, going-start, going-asks, going-reads, going-near, going-stop, going-spent, next-in, going-next}
 use Rattle.replay.proofs.read_commands.Statement.{statement}
 use Rattle.replay.proofs.read_commands.Tie as tie

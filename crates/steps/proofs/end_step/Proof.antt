@@ -1,8 +1,9 @@
 -- `end_step`: each way out is one law of Stops. Assumes nothing.
 use borrow.Author.Needs.{needs}
-use Rattle.steps.specs.States.{stateOf}
-use Rattle.steps.proofs.Entries.{waits-is}
-use Rattle.steps.proofs.Stops.{stopped, end-16, end-11, end-0, end-20}
+use Rattle.entries.specs.States.{stateOf}
+use Rattle.entries.proofs.Entries.{waits-is}
+use Rattle.entries.proofs.Stops.{stopped}
+use Rattle.steps.proofs.Stops.{end-16, end-11, end-0, end-20}
 use Rattle.steps.proofs.end_step.Statement.{statement}
 use Rattle.steps.proofs.end_step.Tie as tie
 

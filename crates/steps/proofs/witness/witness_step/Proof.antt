@@ -3,7 +3,8 @@ use mathlib.Core.Path.{sym, _∙_}
 use Prim.Native.Nat.{_≤_}
 use native.Mathlib.Omega.{arith}
 use borrow.Author.Needs.{needs}
-use Rattle.steps.proofs.Witnesses.{is-variable, variable-zero, variable-beyond, refused-12, refused-15, refused-15-negative, witness-taken}
+use Rattle.entries.proofs.Entries.{is-variable, variable-zero, variable-beyond}
+use Rattle.steps.proofs.Witnesses.{refused-12, refused-15, refused-15-negative, witness-taken}
 use Rattle.steps.proofs.witness.witness_step.Statement.{statement}
 use Rattle.steps.proofs.witness.witness_step.Tie as tie
 

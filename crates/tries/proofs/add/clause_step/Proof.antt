@@ -11,7 +11,7 @@ use Rattle.table.specs.Indexed.{Table, tableOf, Good}
 use Rattle.table.proofs.Outcomes.{Grown}
 use Rattle.conflict.specs.Marks.{unmarked}
 use Rattle.clause.specs.Words.{clauseOfWords}
-use Rattle.steps.specs.States.{Lent, lentOf, tableIn, Held}
+use Rattle.entries.specs.States.{Lent, lentOf, tableIn, Held}
 use Rattle.tries.specs.Tries.{liveIn, BothTried}
 use Rattle.tries.proofs.Trying.{both-most}
 use Rattle.tries.proofs.Adding.{outcome, grown, tries-ready, Added, with-nodes, keep-fits, clause-22, code-17, code-stepped}

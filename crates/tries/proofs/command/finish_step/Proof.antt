@@ -1,5 +1,5 @@
 -- `finish_step`: 0 where a 0 line was accepted, else 20. Assumes nothing.
-use Rattle.steps.proofs.Stops.{stopped}
+use Rattle.entries.proofs.Stops.{stopped}
 use Rattle.tries.proofs.command.finish_step.Statement.{statement}
 use Rattle.tries.proofs.command.finish_step.Tie as tie
 

@@ -1,9 +1,9 @@
 -- `entry_node` reads entries 0 and 1 as the constants, the others from the scratch list. Assumes nothing.
 use borrow.Author.Needs.{needs}
 use lib.ListN.{take}
-use Rattle.steps.proofs.Entries.{node-constant, node-at}
-use Rattle.steps.proofs.node.entry_node.Statement.{statement}
-use Rattle.steps.proofs.node.entry_node.Tie as tie
+use Rattle.entries.proofs.Entries.{node-constant, node-at}
+use Rattle.entries.proofs.node.entry_node.Statement.{statement}
+use Rattle.entries.proofs.node.entry_node.Tie as tie
 
 cast-k : tie.Need-cast-k
 cast-k c = search needs

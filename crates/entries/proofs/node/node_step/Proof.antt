@@ -10,14 +10,14 @@ use Rattle.table.specs.Indexed.{Table, tableOf, size, nodesOf, Outcome, outcome
 use Rattle.walks.proofs.Here.{good-readable}
 use Rattle.verdict.specs.Steps as check
 use Rattle.verdict.specs.Steps.{entryNode}
-use Rattle.steps.specs.declared.node.NodeTest.the-variants.{Fits}
-use Rattle.steps.specs.States.{Lent, lentOf, stateOf, stateWithEntry}
-use Rattle.steps.specs.Tests.{NodeTested}
-use Rattle.steps.proofs.Stops.{node-fits}
-use Rattle.steps.proofs.Entering.{few-there}
-use Rattle.steps.proofs.Nodes.{node-refused, node-full, node-made}
-use Rattle.steps.proofs.node.node_step.Statement.{statement}
-use Rattle.steps.proofs.node.node_step.Tie as tie
+use Rattle.entries.specs.declared.node.NodeTest.the-variants.{Fits}
+use Rattle.entries.specs.States.{Lent, lentOf, stateOf, stateWithEntry}
+use Rattle.entries.specs.Tests.{NodeTested}
+use Rattle.entries.proofs.Stops.{node-fits}
+use Rattle.entries.proofs.Entering.{few-there}
+use Rattle.entries.proofs.Nodes.{node-refused, node-full, node-made}
+use Rattle.entries.proofs.node.node_step.Statement.{statement}
+use Rattle.entries.proofs.node.node_step.Tie as tie
 
 module _ (s : tie.Start) (ms ss : List ℕ) where
   abbrev lent : Lent

@@ -1,19 +1,15 @@
 -- The state between records as the code holds it, and what a step asks and leaves. No call open to others cites this file.
 use mathlib.Core.Path.{_≡_}
-use mathlib.Core.Bool.{_||_}
 use mathlib.Core.List.{List}
 use Prim.Native.Nat.{ℕ, _+_, _*_, _≤_, _<_}
 use lib.ListN.{length, getD, take}
-use lib.Dec.{eqb}
 use Rattle.table.specs.Nodes.{at}
 use Rattle.table.specs.Indexed.{Table, tableOf, nodesOf, Good}
 use Rattle.verdict.specs.Steps as check
 use Rattle.table.specs.Lists.{Inside}
-use Rattle.words.specs.declared.Literals.{Literals}
-use Rattle.words.specs.Sets.{noLiterals}
-use Rattle.steps.specs.declared.State.{State}
-use Rattle.steps.specs.declared.Step.{Step}
-use Rattle.steps.specs.declared.Step.the-variants.{Next, Stop, Spent}
+use Rattle.entries.specs.declared.State.{State}
+use Rattle.entries.specs.declared.Step.{Step}
+use Rattle.entries.specs.declared.Step.the-variants.{Next, Stop, Spent}
 
 -- ---- the definition's state
 
@@ -59,20 +55,6 @@ stepOf l (Spent number peak) = check.spent number peak
 
 -- ---- the next state
 
--- The state with another witness.
-abbrev pub stateWithWitness : State → Literals → State
-stateWithWitness st witness = record {
-  count = st .count;
-  kept = st .kept;
-  members = st .members;
-  entries = st .entries;
-  witness = witness;
-  lines = st .lines;
-  rounds = st .rounds;
-  peak = st .peak;
-  refuted = st .refuted;
-}
-
 -- The state with one entry more, the table's count, and the greatest so far.
 abbrev pub stateWithEntry : State → ℕ → ℕ → State
 stateWithEntry st count peak = record {
@@ -85,20 +67,6 @@ stateWithEntry st count peak = record {
   rounds = st .rounds;
   peak = peak;
   refuted = st .refuted;
-}
-
--- The state after a line of so many rounds whose root is node g, with the greatest count so far.
-abbrev pub withLine : State → ℕ → ℕ → ℕ → State
-withLine st rounds peak g = record {
-  count = st .count;
-  kept = st .count;
-  members = st .members + 1;
-  entries = 0;
-  witness = noLiterals;
-  lines = st .lines + 1;
-  rounds = st .rounds + rounds;
-  peak = peak;
-  refuted = st .refuted || eqb g 0;
 }
 
 -- ---- what steps ask and leave

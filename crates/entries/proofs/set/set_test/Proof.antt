@@ -1,9 +1,9 @@
 -- `set_test`: the tests of a set's record in their order. Assumes nothing.
 use mathlib.Core.Path.{sym, _∙_}
-use Rattle.steps.proofs.SetEntries.{refuse-21, refuse-12, refuse-29, refuse-none, any-byte}
+use Rattle.entries.proofs.SetEntries.{refuse-21, refuse-12, refuse-29, refuse-none, any-byte}
 use borrow.Author.Needs.{needs}
-use Rattle.steps.proofs.set.set_test.Statement.{statement}
-use Rattle.steps.proofs.set.set_test.Tie as tie
+use Rattle.entries.proofs.set.set_test.Statement.{statement}
+use Rattle.entries.proofs.set.set_test.Tie as tie
 
 returns : tie.Need-returns
 returns c = refuse-21 _ _ _ _ (c .if1 .taken)

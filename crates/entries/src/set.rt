@@ -9,8 +9,8 @@ ghost use lib.ListN.{length};
 ghost use Rattle.table.specs.Indexed.{tableOf, Good, outcomeOf};
 ghost use Rattle.sets.specs.Building.{placedIn};
 ghost use Rattle.verdict.specs.Steps.{beyond, setDiagram, setStep};
-ghost use Rattle.steps.specs.States.{lentOf, stateOf, EntriesHeld, Held, Stepped};
-ghost use Rattle.steps.specs.Tests.{setRefusal};
+ghost use Rattle.entries.specs.States.{lentOf, stateOf, EntriesHeld, Held, Stepped};
+ghost use Rattle.entries.specs.Tests.{setRefusal};
 
 // Whether the set has a variable beyond the header's.
 fn is_beyond(variables: u8, set: u64) -> bool

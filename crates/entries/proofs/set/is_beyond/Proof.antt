@@ -1,9 +1,9 @@
 -- `is_beyond` compares the word with 2 to the power of the header's variables. Assumes nothing.
 use native.Mathlib.Omega.{arith}
-use Rattle.steps.proofs.SetEntries.{beyond-none, beyond-bit}
+use Rattle.entries.proofs.SetEntries.{beyond-none, beyond-bit}
 use borrow.Author.Needs.{needs}
-use Rattle.steps.proofs.set.is_beyond.Statement.{statement}
-use Rattle.steps.proofs.set.is_beyond.Tie as tie
+use Rattle.entries.proofs.set.is_beyond.Statement.{statement}
+use Rattle.entries.proofs.set.is_beyond.Tie as tie
 
 returns : tie.Need-returns
 returns c = beyond-none (c .before .args .variables) (c .before .args .set) (c .if1 .taken) (c .before .pre) (omega (arith, c .before .fits .set))

@@ -11,8 +11,8 @@ ghost use Rattle.table.specs.Indexed.{tableOf};
 ghost use Rattle.walks.specs.Readable.{Readable};
 ghost use Rattle.verdict.specs.Steps.{nodeStep};
 ghost use Rattle.table.specs.Lists.{Inside};
-ghost use Rattle.steps.specs.States.{lentOf, stateOf, stateWithEntry, EntriesHeld, Held, Stepped};
-ghost use Rattle.steps.specs.Tests.{NodeTested};
+ghost use Rattle.entries.specs.States.{lentOf, stateOf, stateWithEntry, EntriesHeld, Held, Stepped};
+ghost use Rattle.entries.specs.Tests.{NodeTested};
 
 // Whether there is such an entry: 0, 1 or one of the line's.
 pub fn is_entry(entries: usize, e: EntryNo) -> bool

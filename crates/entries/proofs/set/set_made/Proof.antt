@@ -1,9 +1,9 @@
 -- `set_made`: the builder of the record's kind makes its diagram. Assumes nothing.
 use Rattle.table.specs.Indexed.{Table, tableOf}
-use Rattle.steps.proofs.SetEntries.{kind-made}
+use Rattle.entries.proofs.SetEntries.{kind-made}
 use borrow.Author.Needs.{needs}
-use Rattle.steps.proofs.set.set_made.Statement.{statement}
-use Rattle.steps.proofs.set.set_made.Tie as tie
+use Rattle.entries.proofs.set.set_made.Statement.{statement}
+use Rattle.entries.proofs.set.set_made.Tie as tie
 
 module _ (s : tie.Start) where
   abbrev before : Table

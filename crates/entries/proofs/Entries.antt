@@ -8,22 +8,17 @@ use lib.ListN.{length, getD, take}
 use lib.Dec.{eqb, ltb, leb}
 use lib.Seq.{length-take-le, getD-take}
 use borrow.Author.Tests.{ltb-true, eq-eqb, ne-eqb, le-leb, lt-leb}
-use Rattle.meaning.specs.Rules.{witnessed}
-use Rattle.meaning.specs.Words.{inWord}
 use Rattle.meaning.proofs.Booleans.{and-false}
 use Rattle.table.specs.Nodes.{Node, blank, above}
 use Rattle.table.specs.Columns.{rows}
 use Rattle.table.specs.Indexed.{nodesOf}
-use Rattle.walks.specs.Readable.{nodesIn}
-use Rattle.walks.specs.Constant.{oneAt}
 use Rattle.records.specs.declared.NodeBody.{NodeBody}
 use Rattle.verdict.specs.Steps as check
-use Rattle.verdict.specs.Steps.{isEntry, entryNode, isVariable, waiting, diagramIn}
+use Rattle.verdict.specs.Steps.{isEntry, entryNode, isVariable, waiting}
 use Rattle.table.specs.Lists.{Inside}
-use Rattle.judge.proofs.Widths.{witnessed-walk}
-use Rattle.steps.specs.declared.State.{State}
-use Rattle.steps.specs.States.{Lent, stateOf, Held}
-use Rattle.steps.specs.Tests.{nodeRefusal}
+use Rattle.entries.specs.declared.State.{State}
+use Rattle.entries.specs.States.{Lent, stateOf, Held}
+use Rattle.entries.specs.Tests.{nodeRefusal}
 
 -- ---- entries in the scratch list
 
@@ -78,13 +73,6 @@ module _ (l : Lent) (st : State) where
     above-is v p r b ensures told =
         ap (above (take (st .count) (rows (l .vars) (l .lows) (l .highs))) v) (sym child-is) ∙ above-first (st .count) (rows (l .vars) (l .lows) (l .highs)) v child p ∙ sym ensures ∙ told
 
-    pub shut-is : (r b : Bool) → r ≡ oneAt (nodesIn (l .vars) (l .lows) (l .highs) (st .count)) (st .witness .positive) (st .witness .negative) child → r ≡ b
-        → witnessed 64 (inWord (st .witness .positive)) (inWord (st .witness .negative)) (diagramIn (stateOf l st) (entryNode (stateOf l st) e)) ≡ b
-    unfolding nodesOf
-    shut-is r b ensures told =
-        ap (λ (k : ℕ). witnessed 64 (inWord (st .witness .positive)) (inWord (st .witness .negative)) (diagramIn (stateOf l st) k)) (sym child-is)
-        ∙ sym (witnessed-walk (nodesIn (l .vars) (l .lows) (l .highs) (st .count)) (st .witness .positive) (st .witness .negative) child) ∙ sym ensures ∙ told
-
   pub waits-is : (r b : Bool) → r ≡ not (eqb (st .witness .positive) 0 && eqb (st .witness .negative) 0) → r ≡ b → waiting (stateOf l st) ≡ b
   unfolding waiting
   waits-is r b ensures told = sym ensures ∙ told
@@ -106,6 +94,20 @@ entry-in n L st H e there =
     let room : st .entries ≤ length (L .scratch) = omega (arith, H .entries .few, H .entries .room) in
     rw (node-is-at L st e)
     (node-inside (L .scratch) (st .entries) room (st .count) (H .entries .good .least) (H .entries .inside) e (ltb-true e (st .entries + 2) (sym (entry-is L st room e) ∙ there)))
+
+-- ---- the test of a variable
+
+pub is-variable : (n v : ℕ) → 1 ≤ v → v ≤ n → isVariable n v ≡ true
+unfolding isVariable
+is-variable n v p q = rw (le-leb 1 v p, le-leb v n q)
+
+pub variable-zero : (n v : ℕ) → v < 1 → isVariable n v ≡ false
+unfolding isVariable
+variable-zero n v p = rw (lt-leb 1 v p)
+
+pub variable-beyond : (n v : ℕ) → 1 ≤ v → n < v → isVariable n v ≡ false
+unfolding isVariable
+variable-beyond n v p q = rw (le-leb 1 v p, lt-leb v n q)
 
 -- ---- the tests of a node record
 

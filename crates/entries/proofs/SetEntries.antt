@@ -25,12 +25,12 @@ use Rattle.verdict.specs.Steps as check
 use Rattle.verdict.specs.Steps.{stop, spent, entered, beyond, noParity, setDiagram, setStep}
 use Rattle.verdict.proofs.SetValues.{set-reduced}
 use Rattle.verdict.proofs.Uses.{place-uses}
-use Rattle.steps.specs.declared.State.{State}
-use Rattle.steps.specs.declared.Step.the-variants.{Next, Stop, Spent}
-use Rattle.steps.specs.States.{Lent, tableIn, stateOf, stateWithEntry, Held, Stepped}
-use Rattle.steps.specs.Tests.{setRefusal}
-use Rattle.steps.proofs.Stops.{unless, unless-refused, unless-none, stopped}
-use Rattle.steps.proofs.Entering.{lentWith, entry-made}
+use Rattle.entries.specs.declared.State.{State}
+use Rattle.entries.specs.declared.Step.the-variants.{Next, Stop, Spent}
+use Rattle.entries.specs.States.{Lent, tableIn, stateOf, stateWithEntry, Held, Stepped}
+use Rattle.entries.specs.Tests.{setRefusal}
+use Rattle.entries.proofs.Stops.{unless, unless-refused, unless-none, stopped}
+use Rattle.entries.proofs.Entering.{lentWith, entry-made}
 
 -- ---- the tests
 

@@ -9,11 +9,11 @@ use lib.Dec.{leb}
 use borrow.Author.Tests.{not-true, not-false, ltb-true}
 use Rattle.verdict.specs.Steps as check
 use Rattle.verdict.specs.Steps.{isVariable, isEntry}
-use Rattle.steps.specs.States.{Lent, lentOf, stateOf}
-use Rattle.steps.proofs.Witnesses.{is-variable, variable-zero, variable-beyond}
-use Rattle.steps.proofs.Entries.{node-inside, node-is-at, above-is, entry-told, full-entries, few-entries, node-21, node-12, node-13-low, node-13-high, node-14-low, node-14-high, node-0}
-use Rattle.steps.proofs.node.node_test.Statement.{statement}
-use Rattle.steps.proofs.node.node_test.Tie as tie
+use Rattle.entries.specs.States.{Lent, lentOf, stateOf}
+use Rattle.entries.proofs.Entries.{is-variable, variable-zero, variable-beyond}
+use Rattle.entries.proofs.Entries.{node-inside, node-is-at, above-is, entry-told, full-entries, few-entries, node-21, node-12, node-13-low, node-13-high, node-14-low, node-14-high, node-0}
+use Rattle.entries.proofs.node.node_test.Statement.{statement}
+use Rattle.entries.proofs.node.node_test.Tie as tie
 
 module _ (s : tie.Start) (ds ks ms ss : List ℕ) where
   abbrev lent : Lent

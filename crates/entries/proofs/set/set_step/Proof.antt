@@ -6,12 +6,12 @@ use native.Mathlib.Omega.{arith}
 use Rattle.table.specs.Indexed.{Table, tableOf, Outcome, outcomeOf}
 use Rattle.table.proofs.Outcomes.{placeIn, Grown}
 use Rattle.verdict.specs.Steps.{setDiagram}
-use Rattle.steps.specs.States.{Lent, lentOf, stateWithEntry}
-use Rattle.steps.specs.Tests.{setRefusal}
-use Rattle.steps.proofs.SetEntries.{set-fits, made-grown, set-refused, set-full, set-made}
+use Rattle.entries.specs.States.{Lent, lentOf, stateWithEntry}
+use Rattle.entries.specs.Tests.{setRefusal}
+use Rattle.entries.proofs.SetEntries.{set-fits, made-grown, set-refused, set-full, set-made}
 use borrow.Author.Needs.{needs}
-use Rattle.steps.proofs.set.set_step.Statement.{statement}
-use Rattle.steps.proofs.set.set_step.Tie as tie
+use Rattle.entries.proofs.set.set_step.Statement.{statement}
+use Rattle.entries.proofs.set.set_step.Tie as tie
 
 module _ (s : tie.Start) where
   abbrev before : Table
