@@ -99,7 +99,8 @@ pub fn apply_thin(
         ≡ applied before op (f .0) (g .0)) ⌝ }
 {
     let kind = crate::step::kind_of(op);
-    let by = crate::step::by_of(op, words::ALL);
+    // What f and g share is not asked here.
+    let by = crate::step::by_of(op, 0);
     work_out_thin(vars, lows, highs, heads, links, count, kind, by, f, g)
 }
 
