@@ -143,7 +143,7 @@ pub fn node_step(
                 low,
                 high,
             );
-            let peak = judge::greater(st.peak, p.count);
+            let peak = table::greater(st.peak, p.count);
             if p.full {
                 return crate::Step::Spent { number: 23, peak };
             }

@@ -102,7 +102,7 @@ pub fn set_step(
         return crate::Step::Stop { number, offset: 0 };
     }
     let p = set_made(vars, lows, highs, heads, links, st.count, kind, b);
-    let peak = judge::greater(st.peak, p.count);
+    let peak = table::greater(st.peak, p.count);
     if p.full {
         table::drop_to(vars, lows, highs, heads, links, p.count, st.count);
         return crate::Step::Spent { number: 23, peak };

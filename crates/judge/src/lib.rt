@@ -4,7 +4,6 @@ use operate::Operation;
 use table::NodeNo;
 ghost use mathlib.Core.Path.{_≡_};
 ghost use mathlib.Core.Bool.{false};
-ghost use Prim.Native.Nat.{_<_, max};
 ghost use lib.ListN.{length};
 ghost use Rattle.table.specs.Nodes.{diagramAt};
 ghost use Rattle.table.specs.Indexed.{tableOf, nodesOf};
@@ -23,16 +22,6 @@ pub struct Judged {
     pub rounds: u64,
     pub count: usize,
     pub peak: usize,
-}
-
-// The greater of two counts.
-pub fn greater(a: usize, b: usize) -> usize
-    ensures { λ r. ⌜ r ≡ max a b ⌝ }
-{
-    if a < b {
-        return b;
-    }
-    a
 }
 
 // Fills a list with another of its length.

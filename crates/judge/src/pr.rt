@@ -169,7 +169,7 @@ fn turns(
             memberwords[i],
             witness,
         );
-        peak = crate::greater(peak, t.peak);
+        peak = table::greater(peak, t.peak);
         if t.full {
             return crate::Judged {
                 full: true,

@@ -303,7 +303,7 @@ pub fn ended(members: &mut [u16], st: State, j: Judged, g: NodeNo) -> Step
     ensures { λ r. ⌜ r ≡ stepBy st j (g .0) ⌝ }
     ensures { λ _. ⌜ now (members .exit) ≡ membersBy (now (members .entry)) st j (g .0) ⌝ }
 {
-    let peak = judge::greater(st.peak, j.peak);
+    let peak = table::greater(st.peak, j.peak);
     if j.full {
         return Step::Spent { number: 23, peak };
     }

@@ -1,7 +1,7 @@
 // The node table over three columns and a lookup index: look up, place, drop, test.
 ghost use mathlib.Core.Path.{_≡_};
 ghost use mathlib.Core.List.{[], _∷_, _++_};
-ghost use Prim.Native.Nat.{_+_, _*_, _%_, _≤_, _<_};
+ghost use Prim.Native.Nat.{_+_, _*_, _%_, _≤_, _<_, max};
 ghost use lib.ListN.{length, take};
 ghost use Rattle.table.specs.Nodes.{nodeOf, find, put, tookPlace};
 ghost use Rattle.table.specs.Index.{bucket};
@@ -33,6 +33,16 @@ pub struct NodePlaced {
     pub new: bool,
     pub node: NodeNo,
     pub count: usize,
+}
+
+// The greater of two counts.
+pub fn greater(a: usize, b: usize) -> usize
+    ensures { λ r. ⌜ r ≡ max a b ⌝ }
+{
+    if a < b {
+        return b;
+    }
+    a
 }
 
 // a * b in 32 bits, running over the top on purpose.

@@ -184,7 +184,7 @@ fn both_tries(
         clause,
         g,
     );
-    let peak = judge::greater(first.peak, second.peak);
+    let peak = table::greater(first.peak, second.peak);
     Judged {
         full: second.full,
         shown: second.shown,
@@ -239,7 +239,7 @@ pub fn clause_step(
         };
     }
     let made = clause::make(vars, lows, highs, heads, links, st.count, literals);
-    let peak = judge::greater(st.peak, made.count);
+    let peak = table::greater(st.peak, made.count);
     let witness = st.witness;
     let with = State {
         count: made.count,
