@@ -10,7 +10,7 @@ ghost use Rattle.table.specs.Nodes.{diagramAt};
 ghost use Rattle.table.specs.Indexed.{tableOf, nodesOf, outcomeOf};
 ghost use Rattle.walks.specs.Readable.{ListReady};
 ghost use Rattle.operate.specs.Inner.{applied, Allowed, MemoRight, Ready};
-ghost use Rattle.operate.specs.Thin.{SomeTable};
+ghost use Rattle.thin.specs.Thin.{SomeTable};
 ghost use Rattle.supports.specs.Supports.{Support, Supports};
 ghost use Rattle.table.specs.Lists.{diagramsOf};
 ghost use Rattle.members.specs.Made.{results, AllMade, differing};
@@ -29,7 +29,7 @@ fn is_quick(thin: bool, lows: &[u16], highs: &[u16], f: NodeNo) -> bool
     requires { ⌜ SomeTable (now lows) (now highs) (f .0) ⌝ }
 {
     if thin {
-        return operate::thin::is_thin(lows, highs, f);
+        return thin::is_thin(lows, highs, f);
     }
     false
 }
@@ -72,7 +72,7 @@ fn apply_touching(
         };
     }
     if is_quick(thin, lows, highs, f) {
-        return operate::thin::apply_thin(vars, lows, highs, heads, links, count, op, f, g);
+        return thin::apply_thin(vars, lows, highs, heads, links, count, op, f, g);
     }
     operate::memo::clear_forgetful(memo);
     operate::apply_sharing(
@@ -205,7 +205,7 @@ pub fn all_by(
         r .written ≡ differing (diagramsOf (nodesOf before) (now (list .entry))) (results op before (now (list .entry)) (g .0))) ⌝ }
 {
     operate::memo::clear_memo(memo);
-    let thin = operate::thin::is_thin(lows, highs, g);
+    let thin = thin::is_thin(lows, highs, g);
     let mut n = count;
     let mut written: usize = 0;
     let mut i: usize = 0;

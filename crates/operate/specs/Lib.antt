@@ -1,3 +1,2 @@
 pub mod Operate
 pub mod Inner
-pub mod Thin

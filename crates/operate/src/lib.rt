@@ -13,8 +13,7 @@ ghost use Rattle.table.specs.Indexed.{tableOf, outcomeOf};
 ghost use Rattle.operate.specs.Inner.{applied, joinedOf, operationOf, terminalOf, Shared, MemoRight, Ready, SidesReady};
 
 pub mod memo;
-mod step;
-pub mod thin;
+pub mod step;
 
 // An operation; an operation of one diagram has node 1 for its second operand.
 pub enum Operation {

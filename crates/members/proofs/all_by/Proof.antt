@@ -7,7 +7,7 @@ use borrow.Author.Needs.{needs}
 use Rattle.meaning.proofs.Booleans.{t≢f}
 use Rattle.table.specs.Indexed.{Table, Outcome, tableOf, nodesOf}
 use Rattle.table.specs.Lists.{diagramsOf}
-use Rattle.operate.proofs.Passing.{some-table}
+use Rattle.thin.proofs.Passing.{some-table}
 use Rattle.members.specs.Made.{results}
 use Rattle.members.proofs.Counting.{counting-none}
 use Rattle.members.proofs.Rewording.{rewording-none, rewording-all}

@@ -2,7 +2,7 @@
 -- longer table; the others go to `apply_sharing`. Assumes nothing.
 use borrow.Author.Needs.{needs}
 use Rattle.table.specs.Indexed.{Table, tableOf, outcomeOf}
-use Rattle.operate.proofs.Passing.{without-memo, some-table}
+use Rattle.thin.proofs.Passing.{without-memo, some-table}
 use Rattle.operate.proofs.Results.{applied-longer}
 use Rattle.operate.proofs.RightMemo.{memo-kept}
 use Rattle.members.proofs.Touching.{touched-shared, untouched}

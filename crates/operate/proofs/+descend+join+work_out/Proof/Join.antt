@@ -10,7 +10,7 @@ use Rattle.operate.specs.declared.Operation.{Operation}
 use Rattle.operate.specs.declared.step.Sides.{Sides}
 use Rattle.operate.specs.Inner.{operationOf, top, Shared, Tells, Ready, SidesReady}
 use Rattle.operate.proofs.Results.{low-done, high-ready, high-shared, high-top, high-good, high-done, both-done, memo-joined}
-use Rattle.operate.proofs.Passing.{SideLeft, outcome-same, SideKept, home-kept, side-same}
+use Rattle.operate.proofs.OneSide.{SideLeft, outcome-same, SideKept, home-kept, side-same}
 use Rattle.operate.proofs.join.Reads as join
 use Rattle.operate.proofs.+descend+join+work_out.Lts-join as join-lts
 use Rattle.operate.proofs.+descend+join+work_out.Proof.Measures.{join-at, join-callees}

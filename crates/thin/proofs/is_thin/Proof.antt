@@ -4,9 +4,9 @@ use Prim.Native.Nat.{ℕ, _≤_, _<_}
 use native.Mathlib.Omega.{arith}
 use lib.ListN.{length, getD}
 use borrow.Author.Needs.{needs}
-use Rattle.operate.proofs.Passing.{children-less}
-use Rattle.operate.proofs.thin.is_thin.Statement.{statement}
-use Rattle.operate.proofs.thin.is_thin.Tie as tie
+use Rattle.thin.proofs.Passing.{children-less}
+use Rattle.thin.proofs.is_thin.Statement.{statement}
+use Rattle.thin.proofs.is_thin.Tie as tie
 
 abbrev Inv-loop : tie.InvT-loop
 Inv-loop lows highs k₀ k = k ≤ k₀

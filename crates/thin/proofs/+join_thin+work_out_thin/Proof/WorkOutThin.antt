@@ -4,13 +4,13 @@ use mathlib.Core.Path.{_≡_, _∙_, subst}
 use native.Mathlib.Omega.{arith}
 use borrow.Author.Needs.{needs}
 use Rattle.table.specs.Indexed.{Table, tableOf}
 use Rattle.operate.specs.declared.Operation.{Operation}
 use Rattle.operate.specs.Inner.{operationOf, top, Ready}
-use Rattle.operate.specs.Thin.{noMemo, PartedTo, Passes}
+use Rattle.thin.specs.Thin.{noMemo, PartedTo, Passes}
 use borrow.Fn.PlainCycle.{is}
-use Rattle.operate.proofs.thin.work_out_thin.Reads as work-out-thin
-use Rattle.operate.proofs.thin.+join_thin+work_out_thin.Lts-work_out_thin as work-out-thin-lts
-use Rattle.operate.proofs.thin.+join_thin+work_out_thin.Proof.Measures.{work-out-thin-at, work-out-thin-callees}
+use Rattle.thin.proofs.work_out_thin.Reads as work-out-thin
+use Rattle.thin.proofs.+join_thin+work_out_thin.Lts-work_out_thin as work-out-thin-lts
+use Rattle.thin.proofs.+join_thin+work_out_thin.Proof.Measures.{work-out-thin-at, work-out-thin-callees}
 
 -- where work_out_thin starts
 module _ {t : ℕ} (s : work-out-thin-lts.Start (work-out-thin-callees t) (work-out-thin-at t) work-out-thin.Post) where

@@ -1,17 +1,17 @@
 -- What falls in the calls of `work_out_thin` and `join_thin`, and what the proof of each may assume of its calls. Assumes nothing.
 use Prim.Native.Nat.{ℕ, _+_, _-_, _*_, _<_}
 use Rattle.operate.specs.Inner.{top}
 use borrow.Fn.Kinds.{In}
 use borrow.Fn.PlainCycle.{Measures, is, falls, and}
-use Rattle.operate.proofs.thin.work_out_thin.Reads as work-out-thin
-use Rattle.operate.proofs.thin.work_out_thin.Kinds as work-out-thin-kinds
-use Rattle.operate.proofs.thin.+join_thin+work_out_thin.Lts-work_out_thin as work-out-thin-lts
-use Rattle.operate.proofs.thin.join_thin.Reads as join-thin
-use Rattle.operate.proofs.thin.join_thin.Kinds as join-thin-kinds
-use Rattle.operate.proofs.thin.+join_thin+work_out_thin.Lts-join_thin as join-thin-lts
-use Rattle.operate.proofs.thin.pass_sides.Reads as pass-sides-reads
+use Rattle.thin.proofs.work_out_thin.Reads as work-out-thin
+use Rattle.thin.proofs.work_out_thin.Kinds as work-out-thin-kinds
+use Rattle.thin.proofs.+join_thin+work_out_thin.Lts-work_out_thin as work-out-thin-lts
+use Rattle.thin.proofs.join_thin.Reads as join-thin
+use Rattle.thin.proofs.join_thin.Kinds as join-thin-kinds
+use Rattle.thin.proofs.+join_thin+work_out_thin.Lts-join_thin as join-thin-lts
+use Rattle.thin.proofs.pass_sides.Reads as pass-sides-reads
 use Rattle.operate.proofs.step.operation_of.Reads as operation-of-reads
 use Rattle.operate.proofs.step.terminal.Reads as terminal-reads
 use Rattle.table.proofs.put.Reads as put-reads
 
 abbrev pub μ-work-out-thin : Measures 5 work-out-thin-kinds.ps ℕ

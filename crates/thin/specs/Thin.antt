@@ -4,11 +4,11 @@ use mathlib.Core.Bool.{false}
 use mathlib.Core.List.{List, [], _∷_}
 use Prim.Native.Nat.{ℕ, _≤_, _<_}
 use Rattle.table.specs.Indexed.{Table, tableOf, Good}
 use Rattle.operate.specs.declared.Operation.{Operation}
 use Rattle.operate.specs.declared.step.Sides.{Sides}
-use Rattle.operate.specs.declared.thin.Passed.{Passed}
-use Rattle.operate.specs.declared.thin.Passed.the-variants.{Done, Parted}
+use Rattle.thin.specs.declared.Passed.{Passed}
+use Rattle.thin.specs.declared.Passed.the-variants.{Done, Parted}
 use Rattle.operate.specs.Inner.{applied, joinedOf, top, Ready, SidesReady}
 
 -- The columns are those of a good table that has the node f.
 pub record SomeTable (lows highs : List ℕ) (f : ℕ) : Type 0 where

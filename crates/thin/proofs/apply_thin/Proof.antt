@@ -2,12 +2,12 @@
 use mathlib.Core.Path.{_≡_, sym, subst}
 use borrow.Author.Needs.{needs}
 use Rattle.table.specs.Indexed.{Table, tableOf, Outcome, outcomeOf}
 use Rattle.operate.specs.declared.Operation.{Operation}
 use Rattle.operate.specs.Inner.{applied, operationOf, Ready}
-use Rattle.operate.specs.Thin.{noMemo}
+use Rattle.thin.specs.Thin.{noMemo}
 use Rattle.operate.proofs.Operations.{whole-again}
-use Rattle.operate.proofs.thin.apply_thin.Statement.{statement}
-use Rattle.operate.proofs.thin.apply_thin.Tie as tie
+use Rattle.thin.proofs.apply_thin.Statement.{statement}
+use Rattle.thin.proofs.apply_thin.Tie as tie
 
 -- The ways back, written by ways.py: TO-from-FROM leads from the place FROM of the code to the place TO before it.
 module _ (c : tie.After-kind-of) where

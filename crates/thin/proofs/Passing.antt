@@ -1,25 +1,25 @@
 -- Steps with one side, taken one after the other. The idea: each leaves the outcome as it is and comes to later variables. Assumes nothing.
-use mathlib.Core.Path.{_≡_, refl, sym, _∙_, subst}
+use mathlib.Core.Path.{_≡_, refl, _∙_}
 use mathlib.Core.Bool.{false}
 use mathlib.Core.List.{List}
 use Prim.Native.Nat.{ℕ, _≤_, _<_}
 use native.Mathlib.Omega.{arith}
 use lib.ListN.{length, getD}
 use Rattle.table.specs.declared.NodeNo.{NodeNo}
-use Rattle.table.specs.declared.Placed.{Placed}
 use Rattle.table.specs.declared.Found.the-variants.{At, Nothing}
 use Rattle.table.specs.Nodes.{at}
-use Rattle.table.specs.Indexed.{Table, tableOf, nodesOf, Good, Outcome, outcomeOf}
+use Rattle.table.specs.Indexed.{Table, tableOf, nodesOf, Good}
 use Rattle.table.proofs.Order.{Fits}
 use Rattle.table.proofs.Written.{length-nodes, good-ordered, low-at, high-at}
 use Rattle.operate.specs.declared.Operation.{Operation}
 use Rattle.operate.specs.declared.step.Sides.{Sides}
 use Rattle.operate.specs.declared.step.Descent.the-variants.{One, Both}
-use Rattle.operate.specs.Inner.{applied, top, terminalOf, descentOf, MemoRight, Tells, Ready}
-use Rattle.operate.specs.Thin.{SomeTable, noMemo, PartedTo}
+use Rattle.operate.specs.Inner.{applied, top, terminalOf, descentOf, MemoRight, Ready}
+use Rattle.thin.specs.Thin.{SomeTable, noMemo, PartedTo}
 use Rattle.operate.proofs.Terminals.{terminal-right, terminal-two}
 use Rattle.operate.proofs.Steps.{sides, OneLeft, BothLeft, step-one, step-both}
 use Rattle.operate.proofs.Results.{known-outcome}
+use Rattle.operate.proofs.OneSide.{SideLeft}
 
 -- a walk from f comes to smaller numbers
 pub children-less : (lows highs : List ℕ) (f : ℕ) → SomeTable lows highs f → (k : ℕ) → 2 ≤ k → k ≤ f
@@ -79,17 +79,6 @@ module _ (op : Operation) (t : Table) (first second f g : ℕ) (P : Passing op t
         let B : BothLeft op noMemo t f g s = step-both op noMemo t f g (P .ready) passing-two s e in
         record { ready = B .ready; after = omega (arith, P .from, B .variable); is = B .is ∙ P .is }
 
--- ---- a side of two
-
--- What a side leaves: the operation's outcome, in columns as long as before.
-pub record SideLeft (op : Operation) (t : Table) (f g : ℕ) (o : Outcome) : Type 0 where
-  pub is : o ≡ applied t op f g
-  pub vars : length (o .table .vars) ≡ length (t .vars)
-  pub lows : length (o .table .lows) ≡ length (t .lows)
-  pub highs : length (o .table .highs) ≡ length (t .highs)
-  pub heads : length (o .table .heads) ≡ length (t .heads)
-  pub links : length (o .table .links) ≡ length (t .links)
-
 -- a terminal leaves the table as it is
 pub terminal-left : (op : Operation) (t : Table) (f g : ℕ) → Ready op noMemo t f g → (r : NodeNo) → terminalOf op f g ≡ At r
     → SideLeft op t f g (record { table = t; full = false; node = r .0 })
@@ -101,35 +90,3 @@ terminal-left op t f g R r e = record {
   heads = refl;
   links = refl;
 }
-
--- outcomes are the same where their columns and what is said of them are
-pub outcome-same : {vars vars′ lows lows′ highs highs′ heads heads′ links links′ : List ℕ} {p p′ : Placed}
-    → vars ≡ vars′ → lows ≡ lows′ → highs ≡ highs′ → heads ≡ heads′ → links ≡ links′ → p ≡ p′
-    → outcomeOf vars lows highs heads links p ≡ outcomeOf vars′ lows′ highs′ heads′ links′ p′
-outcome-same a b c d e q = rw (a, b, c, d, e, q)
-
--- What a side leaves with a memo, right for what it leaves.
-pub record SideKept (op : Operation) (memo : List ℕ) (t : Table) (f g : ℕ) (o : Outcome) (memo₁ : List ℕ) : Type 0 where
-  pub left : SideLeft op t f g o
-  pub right : MemoRight op memo₁ (o .table)
-  pub cells : length memo₁ ≡ length memo
-
-module _ {op : Operation} {memo : List ℕ} {t : Table} {f g : ℕ} where
-  -- a result that the memo tells leaves table and memo as they are
-  pub home-kept : Ready op memo t f g → (r : NodeNo) → Tells memo f g (At r) → SideKept op memo t f g (record { table = t; full = false; node = r .0 }) memo
-  home-kept R r tells = record {
-    left = record {
-      is = known-outcome op memo t f g R (r .0) (tells op t (R .right));
-      vars = refl;
-      lows = refl;
-      highs = refl;
-      heads = refl;
-      links = refl;
-    };
-    right = R .right;
-    cells = refl;
-  }
-
-  pub side-same : {o o′ : Outcome} {m m′ : List ℕ} → o′ ≡ o → m′ ≡ m → SideKept op memo t f g o m → SideKept op memo t f g o′ m′
-  side-same {o} {o′} {m} {m′} e q K =
-      subst (λ (x : Outcome). SideKept op memo t f g x m′) (sym e) (subst (λ (x : List ℕ). SideKept op memo t f g o x) (sym q) K)

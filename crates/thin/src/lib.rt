@@ -1,9 +1,9 @@
 // The operations without a memo, for thin diagrams, where each node has a constant for a child, as a clause's has: there they have no more
 // steps than nodes. They are right for all diagrams.
-use crate::Operation;
-use crate::step::Descent;
-use crate::step::Kind;
-use crate::step::Sides;
+use operate::Operation;
+use operate::step::Descent;
+use operate::step::Kind;
+use operate::step::Sides;
 use table::Found;
 use table::NodeNo;
 use table::Placed;
@@ -12,8 +12,8 @@ ghost use mathlib.Core.Path.{_≡_};
 ghost use mathlib.Core.List.{List};
 ghost use Prim.Native.Nat.{ℕ};
 ghost use Rattle.table.specs.Indexed.{tableOf, outcomeOf};
 ghost use Rattle.operate.specs.Inner.{applied, joinedOf, operationOf, Ready, SidesReady};
-ghost use Rattle.operate.specs.Thin.{SomeTable, noMemo, SomeReady, Passes};
+ghost use Rattle.thin.specs.Thin.{SomeTable, noMemo, SomeReady, Passes};
 
 // Whether each node of f has a constant for a child. It tells what is quick and not what is right, so nothing is promised of the answer.
 pub fn is_thin(lows: &[u16], highs: &[u16], f: NodeNo) -> bool
@@ -56,17 +56,17 @@ fn pass_sides(
         let before = tableOf (now (vars .entry)) (now (lows .entry)) (now (highs .entry)) heads links count in
         Passes (operationOf kind by) before (first .0) (second .0) r) ⌝ }
 {
-    let op = crate::step::operation_of(kind, by);
+    let op = operate::step::operation_of(kind, by);
     let mut f = first;
     let mut g = second;
     loop {
-        match crate::step::terminal(op, f, g) {
+        match operate::step::terminal(op, f, g) {
             Found::At(r) => {
                 return Passed::Done(r);
             }
             Found::Nothing => {
-                let s = crate::step::sides_of(vars, lows, highs, f, g);
-                match crate::step::descent_of(op, s) {
+                let s = operate::step::sides_of(vars, lows, highs, f, g);
+                match operate::step::descent_of(op, s) {
                     Descent::One { f: a, g: b } => {
                         f = a;
                         g = b;
@@ -98,9 +98,9 @@ pub fn apply_thin(
         outcomeOf (now (vars .exit)) (now (lows .exit)) (now (highs .exit)) (now (heads .exit)) (now (links .exit)) r
         ≡ applied before op (f .0) (g .0)) ⌝ }
 {
-    let kind = crate::step::kind_of(op);
+    let kind = operate::step::kind_of(op);
     // What f and g share is not asked here.
-    let by = crate::step::by_of(op, 0);
+    let by = operate::step::by_of(op, 0);
     work_out_thin(vars, lows, highs, heads, links, count, kind, by, f, g)
 }
 
@@ -154,8 +154,8 @@ fn join_thin(
         outcomeOf (now (vars .exit)) (now (lows .exit)) (now (highs .exit)) (now (heads .exit)) (now (links .exit)) r
         ≡ joinedOf before (operationOf kind by) s) ⌝ }
 {
-    let op = crate::step::operation_of(kind, by);
-    let p = match crate::step::terminal(op, s.f0, s.g0) {
+    let op = operate::step::operation_of(kind, by);
+    let p = match operate::step::terminal(op, s.f0, s.g0) {
         Found::At(r) => Placed {
             full: false,
             node: r,
@@ -177,7 +177,7 @@ fn join_thin(
     if p.full {
         return p;
     }
-    let q = match crate::step::terminal(op, s.f1, s.g1) {
+    let q = match operate::step::terminal(op, s.f1, s.g1) {
         Found::At(r) => Placed {
             full: false,
             node: r,

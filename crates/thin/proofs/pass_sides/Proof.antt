@@ -6,15 +6,15 @@ use native.Mathlib.Omega.{arith}
 use borrow.Author.Needs.{needs}
 use Rattle.table.specs.declared.Found.the-variants.{Nothing}
 use Rattle.table.specs.Indexed.{Table, tableOf}
 use Rattle.operate.specs.declared.Operation.{Operation}
-use Rattle.operate.specs.declared.thin.Passed.the-variants.{Done, Parted}
+use Rattle.thin.specs.declared.Passed.the-variants.{Done, Parted}
 use Rattle.operate.specs.Inner.{operationOf, top, terminalOf, sidesOf, descentOf, Ready}
-use Rattle.operate.specs.Thin.{noMemo, Passes}
+use Rattle.thin.specs.Thin.{noMemo, Passes}
 use Rattle.operate.proofs.Steps.{sides-ask}
 use Rattle.operate.proofs.Results.{columns-hold}
-use Rattle.operate.proofs.Passing.{Passing, passing-first, passed-done, passing-two, passing-less, passing-on, passed-parted}
-use Rattle.operate.proofs.thin.pass_sides.Statement.{statement}
-use Rattle.operate.proofs.thin.pass_sides.Tie as tie
+use Rattle.thin.proofs.Passing.{Passing, passing-first, passed-done, passing-two, passing-less, passing-on, passed-parted}
+use Rattle.thin.proofs.pass_sides.Statement.{statement}
+use Rattle.thin.proofs.pass_sides.Tie as tie
 
 abbrev Inv-loop : tie.InvT-loop
 Inv-loop vars lows highs op f₀ g₀ f g =

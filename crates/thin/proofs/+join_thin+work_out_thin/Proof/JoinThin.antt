@@ -5,16 +5,17 @@ use mathlib.Core.Logic.{⊎-elim}
 use native.Mathlib.Omega.{arith}
 use borrow.Author.Needs.{needs}
 use Rattle.table.specs.Indexed.{Table, tableOf, Outcome, outcomeOf}
 use Rattle.operate.specs.declared.Operation.{Operation}
 use Rattle.operate.specs.declared.step.Sides.{Sides}
 use Rattle.operate.specs.Inner.{operationOf, terminalOf, top, Ready, SidesReady}
-use Rattle.operate.specs.Thin.{noMemo}
+use Rattle.thin.specs.Thin.{noMemo}
 use Rattle.operate.proofs.Terminals.{told-of}
 use Rattle.operate.proofs.Results.{low-done, high-ready, high-top, high-good, high-done, both-done}
-use Rattle.operate.proofs.Passing.{no-memo, SideLeft, terminal-left, outcome-same}
-use Rattle.operate.proofs.thin.join_thin.Reads as join-thin
-use Rattle.operate.proofs.thin.+join_thin+work_out_thin.Lts-join_thin as join-thin-lts
-use Rattle.operate.proofs.thin.+join_thin+work_out_thin.Proof.Measures.{join-thin-at, join-thin-callees}
+use Rattle.operate.proofs.OneSide.{SideLeft, outcome-same}
+use Rattle.thin.proofs.Passing.{no-memo, terminal-left}
+use Rattle.thin.proofs.join_thin.Reads as join-thin
+use Rattle.thin.proofs.+join_thin+work_out_thin.Lts-join_thin as join-thin-lts
+use Rattle.thin.proofs.+join_thin+work_out_thin.Proof.Measures.{join-thin-at, join-thin-callees}
 
 -- where join_thin starts
 module _ {t : ℕ} (s : join-thin-lts.Start (join-thin-callees t) (join-thin-at t) join-thin.Post) where
