@@ -12,7 +12,8 @@ from pathlib import Path
 WORDS = {
     "meaning": "01's rules, defined", "records": "reads the proof", "words": "sets of variables", "table": "nodes, order, index",
     "dimacs": "reads the formula", "grammar": "what DIMACS is", "walks": "values, constants", "clause": "a clause's diagram",
-    "verdict": "the check, defined", "operate": "the four operations", "thin": "without a memo", "units": "U of a diagram", "negate": "negations found",
+    "verdict": "the check, defined", "operate": "the four operations", "thin": "without a memo", "memo": "results in cells",
+    "units": "U of a diagram", "negate": "negations found",
     "conflict": "rule (a)", "supports": "a node's variables", "single": "the single calls", "propagate": "unit propagation",
     "members": "members replaced", "unit_search": "first member with units",
     "judge": "RUP and PR lines", "steps": "a record's step", "entries": "records that make entries", "formula": "makes the clauses",

@@ -81,7 +81,7 @@ pub fn by_negation(
 {
     copy(members, list);
     copy_words(memberwords, words);
-    operate::memo::clear_memo(memo);
+    memo::clear_memo(memo);
     let not = operate::apply(
         vars,
         lows,

@@ -63,7 +63,7 @@ fn turn(
             peak: count,
         };
     }
-    operate::memo::clear_memo(memo);
+    memo::clear_memo(memo);
     let h = operate::apply(
         vars,
         lows,

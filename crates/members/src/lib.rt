@@ -74,7 +74,7 @@ fn apply_touching(
     if is_quick(thin, lows, highs, f) {
         return thin::apply_thin(vars, lows, highs, heads, links, count, op, f, g);
     }
-    operate::memo::clear_forgetful(memo);
+    memo::clear_forgetful(memo);
     operate::apply_sharing(
         vars,
         lows,
@@ -204,7 +204,7 @@ pub fn all_by(
         r .full ≡ false →
         r .written ≡ differing (diagramsOf (nodesOf before) (now (list .entry))) (results op before (now (list .entry)) (g .0))) ⌝ }
 {
-    operate::memo::clear_memo(memo);
+    memo::clear_memo(memo);
     let thin = thin::is_thin(lows, highs, g);
     let mut n = count;
     let mut written: usize = 0;

@@ -9,8 +9,9 @@ use Rattle.table.specs.declared.NodeNo.{NodeNo}
 use Rattle.table.specs.declared.Placed.{Placed}
 use Rattle.table.specs.declared.Found.the-variants.{At}
 use Rattle.table.specs.Indexed.{Table, Outcome, outcomeOf}
+use Rattle.memo.specs.Memo.{Tells}
 use Rattle.operate.specs.declared.Operation.{Operation}
-use Rattle.operate.specs.Inner.{applied, MemoRight, Tells, Ready}
+use Rattle.operate.specs.Inner.{applied, MemoRight, Ready}
 use Rattle.operate.proofs.Results.{known-outcome}
 
 -- What a side leaves: the operation's outcome, in columns as long as before.
@@ -39,7 +40,7 @@ module _ {op : Operation} {memo : List ℕ} {t : Table} {f g : ℕ} where
   pub home-kept : Ready op memo t f g → (r : NodeNo) → Tells memo f g (At r) → SideKept op memo t f g (record { table = t; full = false; node = r .0 }) memo
   home-kept R r tells = record {
     left = record {
-      is = known-outcome op memo t f g R (r .0) (tells op t (R .right));
+      is = known-outcome op memo t f g R (r .0) (R .right .entries f g (r .0) tells);
       vars = refl;
       lows = refl;
       highs = refl;

@@ -2,8 +2,8 @@
 use mathlib.Core.Path.{_≡_}
 use mathlib.Core.Bool.{Bool, true, false, cond, _||_}
 use mathlib.Core.List.{List}
-use Prim.Native.Nat.{ℕ, _+_, _*_, _/_, _%_, _≤_, _<_}
-use lib.ListN.{length, getD}
+use Prim.Native.Nat.{ℕ, _≤_, _<_}
+use lib.ListN.{getD}
 use lib.Dec.{eqb, ltb}
 use lib.Bits.{bitOr}
 use Rattle.meaning.specs.Diagram.{Diagram, branch}
@@ -22,6 +22,7 @@ use Rattle.operate.specs.declared.step.Descent.the-variants.{One, Both}
 use Rattle.meaning.specs.Words.{inWord}
 use Rattle.words.specs.declared.Literals as words
 use Rattle.words.specs.Sets.{noLiterals, endsBefore}
+use Rattle.memo.specs.Memo.{Shaped, Holds}
 use Rattle.operate.specs.Operate.{result}
 
 -- The outcome of an operation on nodes f and g of a table.
@@ -130,20 +131,7 @@ Shared Negation shared t f g = Unit {0}
 Shared Cofactor shared t f g = Sharing shared (diagramAt (nodesOf t) f) (diagramAt (nodesOf t) g)
 Shared (Literals p n) shared t f g = Unit {0}
 
--- ---- the memo: three cells that say how many of the cells behind them are live, how many results were stored in those, and at each how
--- many-th variable results are held; then packed entries, 0 where there is none
-
-abbrev pub pack : ℕ → ℕ → ℕ → ℕ
-pack f g r = f * 4294967296 + g * 65536 + r
-
--- How many cells are live; what the others hold is never read.
-abbrev pub live : List ℕ → ℕ
-live memo = getD memo 0 0
-
--- The live cells are there, and so few that a product of their number with one of 32 bits fits 64.
-pub record Shaped (memo : List ℕ) : Type 0 where
-  pub room : 3 + live memo ≤ length memo
-  pub few : live memo ≤ 1048576
+-- ---- the memo
 
 -- An entry is right: node r is the operation's result on f and g.
 pub record Right (op : Operation) (t : Table) (f g r : ℕ) : Type 0 where
@@ -152,32 +140,10 @@ pub record Right (op : Operation) (t : Table) (f g r : ℕ) : Type 0 where
   pub inside : r < t .count
   pub is : diagramAt (nodesOf t) r ≡ result op (diagramAt (nodesOf t) f) (diagramAt (nodesOf t) g)
 
--- Each entry in a live cell is right.
+-- Each entry is right.
 pub record MemoRight (op : Operation) (memo : List ℕ) (t : Table) : Type 0 where
   pub shaped : Shaped memo
-  pub entries : (i f g r : ℕ) → i < live memo → getD memo (3 + i) 0 ≡ pack f g r → 2 ≤ f → g < 65536 → r < 65536 → Right op t f g r
-
--- A memo without entries is right for every operation and table.
-abbrev pub EmptyMemo : List ℕ → Type 0
-EmptyMemo memo = (op : Operation) (t : Table) → MemoRight op memo t
-
--- What a cell tells of f and g: the result packed with their key.
-unfoldable pub toldBy : ℕ → ℕ → ℕ → Found
-toldBy e f g = cond (eqb (e / 65536) (f * 65536 + g)) (found (e % 65536)) Nothing
-
--- What is found for f and g is right wherever the memo is.
-abbrev pub Tells : List ℕ → ℕ → ℕ → Found → Type 0
-Tells memo f g (At r) = (op : Operation) (t : Table) → MemoRight op memo t → Right op t f g (r .0)
-Tells memo f g Nothing = Unit {0}
-
--- A memo that is right wherever the one before it is.
-pub record Follows (memo memo′ : List ℕ) : Type 0 where
-  pub shaped : Shaped memo′
-  pub right : (op : Operation) (t : Table) → MemoRight op memo t → MemoRight op memo′ t
-
--- A memo that is right wherever the one before it is and r is right for f and g.
-abbrev pub Stores : List ℕ → ℕ → ℕ → ℕ → List ℕ → Type 0
-Stores memo f g r memo′ = (op : Operation) (t : Table) → MemoRight op memo t → Right op t f g r → MemoRight op memo′ t
+  pub entries : (f g r : ℕ) → Holds memo f g r → Right op t f g r
 
 -- What the recursion asks.
 pub record Ready (op : Operation) (memo : List ℕ) (t : Table) (f g : ℕ) : Type 0 where

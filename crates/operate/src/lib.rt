@@ -12,7 +12,6 @@ ghost use mathlib.Core.Path.{_≡_};
 ghost use Rattle.table.specs.Indexed.{tableOf, outcomeOf};
 ghost use Rattle.operate.specs.Inner.{applied, joinedOf, operationOf, terminalOf, Shared, MemoRight, Ready, SidesReady};
 
-pub mod memo;
 pub mod step;
 
 // An operation; an operation of one diagram has node 1 for its second operand.
@@ -122,28 +121,31 @@ fn work_out(
             node: r,
             count,
         },
-        Found::Nothing => match memo::memo_find(vars, memo, f, g) {
-            Found::At(r) => Placed {
-                full: false,
-                node: r,
-                count,
-            },
-            Found::Nothing => {
-                if step::is_beyond(vars, kind, by, f) {
-                    return Placed {
-                        full: false,
-                        node: f,
-                        count,
-                    };
+        Found::Nothing => {
+            let x = step::top_of(vars, f, g);
+            match memo::memo_find(memo, x, f, g) {
+                Found::At(r) => Placed {
+                    full: false,
+                    node: r,
+                    count,
+                },
+                Found::Nothing => {
+                    if step::is_beyond(vars, kind, by, f) {
+                        return Placed {
+                            full: false,
+                            node: f,
+                            count,
+                        };
+                    }
+                    let p = descend(vars, lows, highs, heads, links, memo, count, kind, by, f, g);
+                    if p.full {
+                        return p;
+                    }
+                    memo::memo_put(memo, x, f, g, p.node);
+                    p
                 }
-                let p = descend(vars, lows, highs, heads, links, memo, count, kind, by, f, g);
-                if p.full {
-                    return p;
-                }
-                memo::memo_put(vars, memo, f, g, p.node);
-                p
             }
-        },
+        }
     }
 }
 

@@ -34,7 +34,7 @@ children-less lows highs f S k two less =
     )
 
 pub no-memo : (op : Operation) (t : Table) → MemoRight op noMemo t
-no-memo op t = record { shaped = record { room = omega arith; few = omega arith }; entries = λ i f g r p. absurd (omega arith) }
+no-memo op t = record { shaped = record { room = omega arith; few = omega arith }; entries = λ f g r h. absurd (omega (arith, h .inside)) }
 
 -- what is ready with a memo is so without
 pub without-memo : (op : Operation) (memo : List ℕ) (t : Table) (f g : ℕ) → Ready op memo t f g → Ready op noMemo t f g

@@ -8,6 +8,7 @@ use Rattle.table.specs.Nodes.{diagramAt}
 use Rattle.table.specs.Indexed.{Table, tableOf, nodesOf, Outcome, outcomeOf}
 use Rattle.operate.specs.declared.Operation.the-variants.{Negation, Cofactor}
 use Rattle.operate.specs.Inner.{applied, Allowed}
+use Rattle.operate.proofs.RightMemo.{empty-right}
 use Rattle.meaning.proofs.Booleans.{t≢f}
 use Rattle.supports.specs.Supports.{Supports}
 use Rattle.walks.specs.Readable.{ListReady}
@@ -139,7 +140,7 @@ apply-requires : tie.Need-apply-requires
 apply-requires c κs =
     let s = start-from-apply-call c in
     let m = clear-memo-from-apply-call c .clear-memo in
-    negation-ready (before s) (s .args .members .now) (s .args .memo .now) (s .args .g .0) (s .pre .0 .0) (m .last .0) (m .ensures Negation (before s))
+    negation-ready (before s) (s .args .members .now) (s .args .memo .now) (s .args .g .0) (s .pre .0 .0) (m .last .0) (empty-right (m .ensures) Negation (before s))
 
 same-length : tie.Need-same-length
 same-length c =

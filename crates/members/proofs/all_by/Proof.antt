@@ -7,6 +7,7 @@ use borrow.Author.Needs.{needs}
 use Rattle.meaning.proofs.Booleans.{t≢f}
 use Rattle.table.specs.Indexed.{Table, Outcome, tableOf, nodesOf}
 use Rattle.table.specs.Lists.{diagramsOf}
+use Rattle.operate.proofs.RightMemo.{empty-right}
 use Rattle.thin.proofs.Passing.{some-table}
 use Rattle.members.specs.Made.{results}
 use Rattle.members.proofs.Counting.{counting-none}
@@ -168,7 +169,7 @@ loop-holds c =
     let r = s .pre in
     let y = clear-memo-from-loop-holds c .clear-memo in (
       record {
-        members = replacing-none (a .op) (a .g .0) (entry s) (a .list .now) (a .memo .now) (r .0 .0) (r .0 .1) (y .last .0) (y .ensures (a .op) (entry s));
+        members = replacing-none (a .op) (a .g .0) (entry s) (a .list .now) (a .memo .now) (r .0 .0) (r .0 .1) (y .last .0) (empty-right (y .ensures) (a .op) (entry s));
         supports = r .1 .1;
         rewords = rewording-none (a .words .now) (a .touching);
         counts = counting-none (diagramsOf (nodesOf (entry s)) (a .list .now)) (results (a .op) (entry s) (a .list .now) (a .g .0));

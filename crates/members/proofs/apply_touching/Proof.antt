@@ -4,7 +4,7 @@ use borrow.Author.Needs.{needs}
 use Rattle.table.specs.Indexed.{Table, tableOf, outcomeOf}
 use Rattle.thin.proofs.Passing.{without-memo, some-table}
 use Rattle.operate.proofs.Results.{applied-longer}
-use Rattle.operate.proofs.RightMemo.{memo-kept}
+use Rattle.operate.proofs.RightMemo.{memo-kept, follows-right}
 use Rattle.members.proofs.Touching.{touched-shared, untouched}
 use Rattle.members.proofs.apply_touching.Statement.{statement}
 use Rattle.members.proofs.apply_touching.Tie as tie
@@ -119,7 +119,7 @@ apply-sharing-requires c κs =
         f-inside = r .f-inside;
         g-inside = r .g-inside;
         allowed = r .allowed;
-        right = clear-forgetful-from-apply-sharing-call c .clear-forgetful .ensures .right _ _ (r .right);
+        right = follows-right _ _ _ (r .right) _ (clear-forgetful-from-apply-sharing-call c .clear-forgetful .ensures);
       },
       touched-shared (entry s) (r .good) (a .f .0) (a .g .0) (r .f-inside) (r .g-inside) (a .word) (a .touching) (s .pre .1) (a .op) (s .pre .2),
     )

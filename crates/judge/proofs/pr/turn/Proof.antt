@@ -8,6 +8,7 @@ use Rattle.walks.specs.Constant.{oneAt}
 use Rattle.walks.proofs.Here.{good-readable}
 use Rattle.operate.specs.declared.Operation.the-variants.{Literals}
 use Rattle.operate.specs.Inner.{applied}
+use Rattle.operate.proofs.RightMemo.{empty-right}
 use Rattle.conflict.specs.Marks.{unmarked}
 use Rattle.judge.proofs.Turning.{turn-constant, literals-ready, turn-full, turn-ready, turn-worded, turn-judged}
 use Rattle.judge.proofs.pr.turn.Statement.{statement}
@@ -173,7 +174,7 @@ apply-requires : tie.Need-apply-requires
 apply-requires c κs =
     let s = start-from-apply-call c in
     let m = clear-memo-from-apply-call c .clear-memo in
-    literals-ready (before s) (s .args .first .now) (s .args .memo .now) (s .pre .0 .0) (s .args .f .0) (s .args .witness .positive) (s .args .witness .negative) (s .pre .0 .3) (m .last .0) (m .ensures (Literals (s .args .witness .positive) (s .args .witness .negative)) (before s))
+    literals-ready (before s) (s .args .first .now) (s .args .memo .now) (s .pre .0 .0) (s .args .f .0) (s .args .witness .positive) (s .args .witness .negative) (s .pre .0 .3) (m .last .0) (empty-right (m .ensures) (Literals (s .args .witness .positive) (s .args .witness .negative)) (before s))
 
 same-length-5 : tie.Need-same-length-5
 same-length-5 c =

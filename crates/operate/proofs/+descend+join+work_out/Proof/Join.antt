@@ -6,9 +6,10 @@ use mathlib.Core.List.{List}
 use native.Mathlib.Omega.{arith}
 use borrow.Author.Needs.{needs}
 use Rattle.table.specs.Indexed.{Table, tableOf, Outcome, outcomeOf}
+use Rattle.memo.specs.Memo.{Tells}
 use Rattle.operate.specs.declared.Operation.{Operation}
 use Rattle.operate.specs.declared.step.Sides.{Sides}
-use Rattle.operate.specs.Inner.{operationOf, top, Shared, Tells, Ready, SidesReady}
+use Rattle.operate.specs.Inner.{operationOf, top, Shared, Ready, SidesReady}
 use Rattle.operate.proofs.Results.{low-done, high-ready, high-shared, high-top, high-good, high-done, both-done, memo-joined}
 use Rattle.operate.proofs.OneSide.{SideLeft, outcome-same, SideKept, home-kept, side-same}
 use Rattle.operate.proofs.join.Reads as join

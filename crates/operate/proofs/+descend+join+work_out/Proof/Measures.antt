@@ -12,11 +12,12 @@ use Rattle.operate.proofs.+descend+join+work_out.Lts-descend as descend
 use Rattle.operate.proofs.join.Reads as join
 use Rattle.operate.proofs.join.Kinds as join-kinds
 use Rattle.operate.proofs.+descend+join+work_out.Lts-join as join-lts
-use Rattle.operate.proofs.memo.memo_find.Reads as memo-find-reads
-use Rattle.operate.proofs.memo.memo_home.Reads as memo-home-reads
+use Rattle.memo.proofs.memo_find.Reads as memo-find-reads
+use Rattle.memo.proofs.memo_home.Reads as memo-home-reads
 use Rattle.operate.proofs.step.operation_of.Reads as operation-of-reads
+use Rattle.operate.proofs.step.top_of.Reads as top-of-reads
 use Rattle.operate.proofs.step.is_beyond.Reads as is-beyond-reads
-use Rattle.operate.proofs.memo.memo_put.Reads as memo-put-reads
+use Rattle.memo.proofs.memo_put.Reads as memo-put-reads
 use Rattle.operate.proofs.step.sides_of.Reads as sides-of-reads
 use Rattle.operate.proofs.step.descent_of.Reads as descent-of-reads
 use Rattle.operate.proofs.step.terminal.Reads as terminal-reads
@@ -50,7 +51,7 @@ abbrev join-below : ℕ → In 6 join-kinds.ps
 join-below t = and 6 join-kinds.ps (falls 6 join-kinds.ps _<_ μ-join t) join.Pre
 
 abbrev pub work-out-callees : ℕ → work-out-lts.Claims
-work-out-callees t = (operation-of-reads.Asked, operation-of-reads.Learnt, terminal-reads.Asked, terminal-reads.Learnt, memo-find-reads.Asked, memo-find-reads.Learnt, is-beyond-reads.Asked, is-beyond-reads.Learnt, descend-below t, descend.Post, memo-put-reads.Asked, memo-put-reads.Learnt)
+work-out-callees t = (operation-of-reads.Asked, operation-of-reads.Learnt, terminal-reads.Asked, terminal-reads.Learnt, top-of-reads.Asked, top-of-reads.Learnt, memo-find-reads.Asked, memo-find-reads.Learnt, is-beyond-reads.Asked, is-beyond-reads.Learnt, descend-below t, descend.Post, memo-put-reads.Asked, memo-put-reads.Learnt)
 
 abbrev pub descend-callees : ℕ → descend-lts.Claims
 descend-callees t = (sides-of-reads.Asked, sides-of-reads.Learnt, operation-of-reads.Asked, operation-of-reads.Learnt, descent-of-reads.Asked, descent-of-reads.Learnt, work-out-below t, work-out.Post, join-below t, join.Post)

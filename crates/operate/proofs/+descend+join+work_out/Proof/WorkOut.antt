@@ -1,17 +1,19 @@
 -- What `work_out` needs, a law for each place of its code. Assumes nothing.
-use Prim.Native.Nat.{ℕ, _+_, _-_, _*_, _≤_, _<_}
+use Prim.Native.Nat.{ℕ, _+_, _-_, _*_, _≤_}
 use mathlib.Core.Path.{_≡_, sym, _∙_, subst}
 use mathlib.Core.Bool.{true}
 use mathlib.Core.List.{List}
 use native.Mathlib.Omega.{arith}
-use lib.ListN.{length, getD}
+use lib.ListN.{getD}
 use borrow.Author.Needs.{needs}
 use Rattle.table.specs.declared.Found.the-variants.{At, Nothing}
 use Rattle.table.specs.Indexed.{Table, tableOf, Outcome, outcomeOf}
+use Rattle.memo.specs.Memo.{Tells}
 use Rattle.operate.specs.declared.Operation.{Operation}
-use Rattle.operate.specs.Inner.{applied, operationOf, top, terminalOf, beyond, Shared, Right, Shaped, Tells, Ready}
+use Rattle.operate.specs.Inner.{applied, operationOf, top, terminalOf, beyond, Shared, Right, Ready}
 use Rattle.operate.proofs.Terminals.{told-of, terminal-right, terminal-two}
 use Rattle.operate.proofs.Sharing.{variable-fits, beyond-right}
+use Rattle.operate.proofs.RightMemo.{stores-right}
 use Rattle.operate.proofs.Results.{columns-hold, known-outcome, made-right}
 use Rattle.operate.proofs.work_out.Reads as work-out
 use Rattle.operate.proofs.+descend+join+work_out.Lts-work_out as work-out-lts
@@ -78,16 +80,20 @@ module _ {t : ℕ} (c : work-out-lts.After-known-told (work-out-callees t) (work
   abbrev start-from-return-3 : work-out-lts.Start (work-out-callees t) (work-out-at t) work-out.Post
   start-from-return-3 = start-from-terminal terminal-from-return-3
 
-module _ {t : ℕ} (c : work-out-lts.After-memo-find-arg2 (work-out-callees t) (work-out-at t) work-out.Post) where
+module _ {t : ℕ} (c : work-out-lts.After-top-of-arg (work-out-callees t) (work-out-at t) work-out.Post) where
+  abbrev start-from-top-of-call : work-out-lts.Start (work-out-callees t) (work-out-at t) work-out.Post
+  start-from-top-of-call = start-from-enum-told (c .before)
+
+module _ {t : ℕ} (c : work-out-lts.After-memo-find-arg (work-out-callees t) (work-out-at t) work-out.Post) where
   abbrev enum-told-from-memo-find-call : work-out-lts.After-enum-told (work-out-callees t) (work-out-at t) work-out.Post
-  enum-told-from-memo-find-call = c .before .before
+  enum-told-from-memo-find-call = c .before .before .before
 
   abbrev start-from-memo-find-call : work-out-lts.Start (work-out-callees t) (work-out-at t) work-out.Post
   start-from-memo-find-call = start-from-enum-told enum-told-from-memo-find-call
 
 module _ {t : ℕ} (c : work-out-lts.After-memo-find (work-out-callees t) (work-out-at t) work-out.Post) where
   abbrev enum-told-from-memo-find : work-out-lts.After-enum-told (work-out-callees t) (work-out-at t) work-out.Post
-  enum-told-from-memo-find = c .before .before .before
+  enum-told-from-memo-find = c .before .before .before .before
 
 module _ {t : ℕ} (c : work-out-lts.After-is-beyond-arg (work-out-callees t) (work-out-at t) work-out.Post) where
   abbrev memo-find-from-is-beyond-call : work-out-lts.After-memo-find (work-out-callees t) (work-out-at t) work-out.Post
@@ -138,13 +144,13 @@ module _ {t : ℕ} (c : work-out-lts.Then2 (work-out-callees t) (work-out-at t) 
   abbrev descend-from-then2 : work-out-lts.After-descend (work-out-callees t) (work-out-at t) work-out.Post
   descend-from-then2 = descend-from-slice-known12 (c .before)
 
-module _ {t : ℕ} (c : work-out-lts.After-memo-put-arg2 (work-out-callees t) (work-out-at t) work-out.Post) where
+module _ {t : ℕ} (c : work-out-lts.After-memo-put-arg (work-out-callees t) (work-out-at t) work-out.Post) where
   abbrev descend-from-memo-put-call : work-out-lts.After-descend (work-out-callees t) (work-out-at t) work-out.Post
-  descend-from-memo-put-call = descend-from-slice-known12 (c .before .before .before)
+  descend-from-memo-put-call = descend-from-slice-known12 (c .before .before)
 
 module _ {t : ℕ} (c : work-out-lts.After-slice-known13 (work-out-callees t) (work-out-at t) work-out.Post) where
   abbrev else2-from-return-5 : work-out-lts.Else2 (work-out-callees t) (work-out-at t) work-out.Post
-  else2-from-return-5 = c .before .before .before .before .before
+  else2-from-return-5 = c .before .before .before .before
 
   abbrev descend-from-return-5 : work-out-lts.After-descend (work-out-callees t) (work-out-at t) work-out.Post
   descend-from-return-5 = descend-from-slice-known12 (else2-from-return-5 .before)
@@ -177,12 +183,6 @@ module _ {t : ℕ} (a : work-out-lts.After-descend (work-out-callees t) (work-ou
   a-is : a-out ≡ applied (a-table a-start) (a-op a-start) (a-f a-start) (a-g a-start)
   a-is = a .descend .ensures .0
 
-  a-asks : Shaped a-memo₁ × (a-f a-start < length (a .descend .last .0)) × (a-g a-start < length (a .descend .last .0))
-  a-asks =
-      let k : length (a .descend .last .0) ≡ length (a-table a-start .vars) = a .descend .kept .0 in
-      let h = columns-hold (a-op a-start) (a-memo a-start) (a-table a-start) (a-f a-start) (a-g a-start) (a-ready a-start) in
-      (a .descend .ensures .1 .shaped, omega (arith, k, h .0), omega (arith, k, h .1))
-
 operation-of-requires : (t : ℕ) → work-out-lts.Need-operation-of-requires (work-out-callees t) (work-out-at t) work-out.Post
 operation-of-requires t c κs =
     search needs
@@ -199,11 +199,14 @@ enum-told : (t : ℕ) → work-out-lts.Need-enum-told (work-out-callees t) (work
 enum-told t c =
     search needs
 
+top-of-requires : (t : ℕ) → work-out-lts.Need-top-of-requires (work-out-callees t) (work-out-at t) work-out.Post
+top-of-requires t c κs =
+    let s = start-from-top-of-call c in
+    let h = columns-hold (a-op s) (a-memo s) (a-table s) (a-f s) (a-g s) (a-ready s) in (h .0, h .1)
+
 memo-find-requires : (t : ℕ) → work-out-lts.Need-memo-find-requires (work-out-callees t) (work-out-at t) work-out.Post
 memo-find-requires t c κs =
-    let s = start-from-memo-find-call c in
-    let h = columns-hold (a-op s) (a-memo s) (a-table s) (a-f s) (a-g s) (a-ready s) in
-    (a-ready s .right .shaped, h .0, h .1, a-two s (nothing (enum-told-from-memo-find-call c)))
+    let s = start-from-memo-find-call c in (a-ready s .right .shaped, a-two s (nothing (enum-told-from-memo-find-call c)))
 
 enum-known-r-2 : (t : ℕ) → work-out-lts.Need-enum-known-r-2 (work-out-callees t) (work-out-at t) work-out.Post
 enum-known-r-2 t c =
@@ -269,7 +272,7 @@ returns-2 t c =
 
 memo-put-requires : (t : ℕ) → work-out-lts.Need-memo-put-requires (work-out-callees t) (work-out-at t) work-out.Post
 memo-put-requires t c κs =
-    a-asks (descend-from-memo-put-call c)
+    descend-from-memo-put-call c .descend .ensures .1 .shaped
 
 returns-3 : (t : ℕ) → work-out-lts.Need-returns-3 (work-out-callees t) (work-out-at t) work-out.Post
 returns-3 t c =
@@ -288,7 +291,7 @@ returns-4 : (t : ℕ) → work-out-lts.Need-returns-4 (work-out-callees t) (work
 returns-4 t c =
     let s = start-from-return-4 c in
     let found = subst (Tells (a-memo s) (a-f s) (a-g s)) (c .before .r2 .given .1) (memo-find-from-return-4 c .memo-find .ensures) in
-    (known-outcome (a-op s) (a-memo s) (a-table s) (a-f s) (a-g s) (a-ready s) _ (found (a-op s) (a-table s) (a-ready s .right)), a-ready s .right)
+    (known-outcome (a-op s) (a-memo s) (a-table s) (a-f s) (a-g s) (a-ready s) _ (a-ready s .right .entries _ _ _ found), a-ready s .right)
 
 same-length-11 : (t : ℕ) → work-out-lts.Need-same-length-11 (work-out-callees t) (work-out-at t) work-out.Post
 same-length-11 t c =
@@ -312,14 +315,14 @@ same-length-15 t c =
 
 same-length-16 : (t : ℕ) → work-out-lts.Need-same-length-16 (work-out-callees t) (work-out-at t) work-out.Post
 same-length-16 t c =
-    c .before .before .memo-put .kept .1 .0 ∙ descend-from-return-5 c .descend .kept .1 .1 .1 .1 .1 .0
+    c .before .before .memo-put .kept .0 ∙ descend-from-return-5 c .descend .kept .1 .1 .1 .1 .1 .0
 
 returns-5 : (t : ℕ) → work-out-lts.Need-returns-5 (work-out-callees t) (work-out-at t) work-out.Post
 returns-5 t c =
     let a = descend-from-return-5 c in
     let s = start-from-return-5 c in (
       a-is a,
-      c .before .before .memo-put .ensures (a-op s) (a-out a .table) (a .descend .ensures .1)
+      stores-right (a-op s) (a-memo₁ a) (a-out a .table) (a .descend .ensures .1) _ _ _ _ (c .before .before .memo-put .ensures)
           (made-right (a-op s) (a-memo s) (a-table s) (a-f s) (a-g s) (a-ready s) (a-out a) (a-is a) (else2-from-return-5 c .if2 .left)),
     )
 
@@ -330,6 +333,7 @@ work-out-met t =
     (terminal-requires t)
     (enum-known-r t)
     (enum-told t)
+    (top-of-requires t)
     (memo-find-requires t)
     (enum-known-r-2 t)
     (enum-told-2 t)

@@ -1,13 +1,13 @@
--- `restart` leaves zeros in the live cells. The invariant: the places passed hold zeros (RightMemo). Assumes nothing.
+-- `restart` leaves zeros in the live cells. The invariant: the places passed hold zeros (Cells). Assumes nothing.
 use mathlib.Core.Path.{_≡_, refl, _∙_}
 use Prim.Native.Nat.{_-_, _<_}
 use native.Mathlib.Omega.{arith}
 use lib.ListN.{length, length-set}
 use borrow.Author.Needs.{needs}
-use Rattle.operate.proofs.RightMemo.{memo-zeros}
+use Rattle.memo.proofs.Cells.{memo-zeros}
 use Rattle.table.proofs.Zeros.{ZerosBelow, cleared-one}
-use Rattle.operate.proofs.memo.restart.Statement.{statement}
-use Rattle.operate.proofs.memo.restart.Tie as tie
+use Rattle.memo.proofs.restart.Statement.{statement}
+use Rattle.memo.proofs.restart.Tie as tie
 
 abbrev Inv-loop : tie.InvT-loop
 Inv-loop memo₀ n step end i₀ memo i = (length memo ≡ length memo₀) × ZerosBelow memo i

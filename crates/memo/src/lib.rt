@@ -4,13 +4,12 @@
 // forgotten is what has not been asked for a while. Where so much is forgotten that work is done again and again, only every
 // step-th variable's results are held, so that the work is bounded by the cells times 2 to the step, and not by the number of
 // paths.
-use crate::step::top_of;
 use table::Found;
 use table::NodeNo;
 ghost use Prim.Native.Nat.{_+_, _≤_, _<_};
 ghost use lib.ListN.{length};
 ghost use mathlib.Core.Path.{_≡_};
-ghost use Rattle.operate.specs.Inner.{Shaped, EmptyMemo, toldBy, Tells, Follows, Stores};
+ghost use Rattle.memo.specs.Memo.{Shaped, EmptyMemo, toldBy, Tells, Follows, Stores};
 
 // The head: how many cells are live, how many results were stored in them, and at each how many-th variable results are held. Behind it are
 // the cells.
@@ -82,15 +81,12 @@ fn cell_of(memo: &[u64], n: usize, f: NodeNo, g: NodeNo) -> usize
     n
 }
 
-// Whether results are held for the first variable of f and g.
-fn is_held(vars: &[u8], step: u64, f: NodeNo, g: NodeNo) -> bool
-    requires { ⌜ (f .0 < length (now vars)) × (g .0 < length (now vars)) ⌝ }
-{
+// Whether results are held for nodes whose first variable is x.
+fn is_held(step: u64, x: u8) -> bool {
     if step <= 1 {
         return true;
     }
-    let x = top_of(vars, f, g) as u64;
-    x % step == 0
+    (x as u64) % step == 0
 }
 
 // What a cell tells of f and g: its result where it has their key.
@@ -118,13 +114,13 @@ pub fn memo_home(memo: &[u64], f: NodeNo, g: NodeNo) -> Found
     told_by(memo[HEAD + c], f, g)
 }
 
-// The result stored for f and g, where it may stand beside their home.
-pub fn memo_find(vars: &[u8], memo: &[u64], f: NodeNo, g: NodeNo) -> Found
-    requires { ⌜ Shaped (now memo) × (f .0 < length (now vars)) × (g .0 < length (now vars)) × (2 ≤ f .0) ⌝ }
+// The result stored for f and g, whose first variable is x, where it may stand beside their home.
+pub fn memo_find(memo: &[u64], x: u8, f: NodeNo, g: NodeNo) -> Found
+    requires { ⌜ Shaped (now memo) × (2 ≤ f .0) ⌝ }
     ensures { λ r. ⌜ Tells (now (memo .entry)) (f .0) (g .0) r ⌝ }
 {
     let n = memo[LIVE] as usize;
-    if HEAD + n < memo.len() || !is_held(vars, memo[STEP], f, g) {
+    if HEAD + n < memo.len() || !is_held(memo[STEP], x) {
         return Found::Nothing;
     }
     let c = cell_of(memo, n, f, g);
@@ -187,12 +183,12 @@ fn cell_for(memo: &[u64], n: usize, f: NodeNo, g: NodeNo) -> usize
     home_of(n, f, g) + (memo[STORED] % 8) as usize
 }
 
-// Stores the result for f and g.
-pub fn memo_put(vars: &[u8], memo: &mut [u64], f: NodeNo, g: NodeNo, r: NodeNo)
-    requires { ⌜ Shaped (now memo) × (f .0 < length (now vars)) × (g .0 < length (now vars)) ⌝ }
+// Stores the result for f and g, whose first variable is x.
+pub fn memo_put(memo: &mut [u64], x: u8, f: NodeNo, g: NodeNo, r: NodeNo)
+    requires { ⌜ Shaped (now memo) ⌝ }
     ensures { λ _. ⌜ Stores (now (memo .entry)) (f .0) (g .0) (r .0) (now (memo .exit)) ⌝ }
 {
-    if !is_held(vars, memo[STEP], f, g) {
+    if !is_held(memo[STEP], x) {
         return;
     }
     make_room(memo);

@@ -1,12 +1,12 @@
--- What the home tells is right (RightMemo), since it is a live cell. Assumes nothing.
+-- What the home tells is held (Cells), since it is a live cell. Assumes nothing.
 use mathlib.Core.Path.{sym, subst}
 use native.Mathlib.Omega.{arith}
 use borrow.Author.Tests.{ltb-false}
-use Rattle.operate.specs.Inner.{Tells}
-use Rattle.operate.proofs.RightMemo.{cell-tells}
+use Rattle.memo.specs.Memo.{Tells}
+use Rattle.memo.proofs.Cells.{cell-tells}
 use borrow.Author.Needs.{needs}
-use Rattle.operate.proofs.memo.memo_home.Statement.{statement}
-use Rattle.operate.proofs.memo.memo_home.Tie as tie
+use Rattle.memo.proofs.memo_home.Statement.{statement}
+use Rattle.memo.proofs.memo_home.Tie as tie
 
 shared-slice-read-n : tie.Need-shared-slice-read-n
 shared-slice-read-n c = search needs

@@ -1,10 +1,10 @@
 -- `told_by` compares the whole key, as the definition does. Assumes nothing.
 use native.Mathlib.Omega.{arith}
 use borrow.Author.Tests.{eq-eqb, ne-eqb}
-use Rattle.operate.specs.Inner.{toldBy}
+use Rattle.memo.specs.Memo.{toldBy}
 use borrow.Author.Needs.{needs}
-use Rattle.operate.proofs.memo.told_by.Statement.{statement}
-use Rattle.operate.proofs.memo.told_by.Tie as tie
+use Rattle.memo.proofs.told_by.Statement.{statement}
+use Rattle.memo.proofs.told_by.Tie as tie
 
 cast-a : tie.Need-cast-a
 cast-a c = search needs

@@ -1,10 +1,10 @@
--- What a live cell tells is right (RightMemo). Assumes nothing.
+-- What a live cell tells is held (Cells). Assumes nothing.
 use mathlib.Core.Path.{sym, subst}
-use Rattle.operate.specs.Inner.{Tells}
-use Rattle.operate.proofs.RightMemo.{cell-tells}
+use Rattle.memo.specs.Memo.{Tells}
+use Rattle.memo.proofs.Cells.{cell-tells}
 use borrow.Author.Needs.{needs}
-use Rattle.operate.proofs.memo.memo_find.Statement.{statement}
-use Rattle.operate.proofs.memo.memo_find.Tie as tie
+use Rattle.memo.proofs.memo_find.Statement.{statement}
+use Rattle.memo.proofs.memo_find.Tie as tie
 
 shared-slice-read-n : tie.Need-shared-slice-read-n
 shared-slice-read-n c = search needs
@@ -42,7 +42,7 @@ told-by-requires c κs = search needs
 -- The ways back, written by ways.py: TO-from-FROM leads from the place FROM of the code to the place TO before it.
 module _ (c : tie.After-cell-of) where
   abbrev start-from-cell-of : tie.Start
-  start-from-cell-of = c .before .before .before .before .before .before .before .before
+  start-from-cell-of = c .before .before .before .before .before .before .before
 
 module _ (c : tie.After-told-by) where
   abbrev else3-from-return-3 : tie.Else3
@@ -60,7 +60,7 @@ returns-3 c =
     let a = s .args in
     let y = c .told-by .ensures in
     subst (Tells (a .memo .now) (a .f .0) (a .g .0)) (sym (y .0))
-    (cell-tells (a .memo .now) (cell-of-from-return-3 c .cell-of .result) (a .f .0) (a .g .0) (else3-from-return-3 c .if3 .left) (y .1) (s .pre .3))
+    (cell-tells (a .memo .now) (cell-of-from-return-3 c .cell-of .result) (a .f .0) (a .g .0) (else3-from-return-3 c .if3 .left) (y .1) (s .pre .1))
 
 pub memo-find-spec : {M : Type 1} → statement M
 memo-find-spec =

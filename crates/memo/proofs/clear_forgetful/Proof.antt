@@ -1,8 +1,8 @@
 -- `clear_forgetful` leaves the memo as it is, or empty. Assumes nothing.
 use borrow.Author.Needs.{needs}
-use Rattle.operate.proofs.RightMemo.{empty-follows}
-use Rattle.operate.proofs.memo.clear_forgetful.Statement.{statement}
-use Rattle.operate.proofs.memo.clear_forgetful.Tie as tie
+use Rattle.memo.proofs.Cells.{empty-follows}
+use Rattle.memo.proofs.clear_forgetful.Statement.{statement}
+use Rattle.memo.proofs.clear_forgetful.Tie as tie
 
 slice-read-if1 : tie.Need-slice-read-if1
 slice-read-if1 c = search needs

@@ -3,8 +3,8 @@ use Prim.Native.Nat.{ℕ, _*_, _/_, _≤_, _<_}
 use native.Mathlib.Omega.{arith}
 use native.Mathlib.Nat.{mul-le-mul, mul-le-mul-right, div-le-of-le-mul}
 use borrow.Author.Needs.{needs}
-use Rattle.operate.proofs.memo.home_of.Statement.{statement}
-use Rattle.operate.proofs.memo.home_of.Tie as tie
+use Rattle.memo.proofs.home_of.Statement.{statement}
+use Rattle.memo.proofs.home_of.Tie as tie
 
 product-fits : (x m : ℕ) → x < 4294967296 → m ≤ 1048576 → x * m < 18446744073709551616
 product-fits x m less few = let p : x * m ≤ 4294967295 * 1048576 = mul-le-mul {n₁ = x} {m₁ = m} {n₂ = 4294967295} {m₂ = 1048576} (omega arith) few in omega arith

@@ -1,8 +1,8 @@
 -- `probe` reads inside the memo and ends: the cells before `to` run out. Assumes nothing.
 use Prim.Native.Nat.{_-_}
 use borrow.Author.Needs.{needs}
-use Rattle.operate.proofs.memo.probe.Statement.{statement}
-use Rattle.operate.proofs.memo.probe.Tie as tie
+use Rattle.memo.proofs.probe.Statement.{statement}
+use Rattle.memo.proofs.probe.Tie as tie
 
 abbrev Inv-loop : tie.InvT-loop
 Inv-loop memo from to key c₀ c = Unit {0}

@@ -1,8 +1,8 @@
 -- `make_room` leaves the memo as it is, or empty. Assumes nothing.
 use borrow.Author.Needs.{needs}
-use Rattle.operate.proofs.RightMemo.{empty-follows}
-use Rattle.operate.proofs.memo.make_room.Statement.{statement}
-use Rattle.operate.proofs.memo.make_room.Tie as tie
+use Rattle.memo.proofs.Cells.{empty-follows}
+use Rattle.memo.proofs.make_room.Statement.{statement}
+use Rattle.memo.proofs.make_room.Tie as tie
 
 slice-read-n : tie.Need-slice-read-n
 slice-read-n c = search needs

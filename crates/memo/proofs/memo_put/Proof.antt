@@ -1,10 +1,10 @@
--- `memo_put` stores the packed entry in a live cell (RightMemo), or leaves the memo. Assumes nothing.
+-- `memo_put` stores the packed entry in a live cell (Cells), or leaves the memo. Assumes nothing.
 use native.Mathlib.Omega.{arith}
 use lib.ListN.{length-set}
 use borrow.Author.Needs.{needs}
-use Rattle.operate.proofs.RightMemo.{memo-stored}
-use Rattle.operate.proofs.memo.memo_put.Statement.{statement}
-use Rattle.operate.proofs.memo.memo_put.Tie as tie
+use Rattle.memo.proofs.Cells.{follows-same, follows-stores, memo-stored}
+use Rattle.memo.proofs.memo_put.Statement.{statement}
+use Rattle.memo.proofs.memo_put.Tie as tie
 
 slice-read-is-held : tie.Need-slice-read-is-held
 slice-read-is-held c = search needs
@@ -13,7 +13,7 @@ is-held-requires : tie.Need-is-held-requires
 is-held-requires c κs = search needs
 
 returns : tie.Need-returns
-returns c = λ op t right _. right
+returns c = follows-stores (follows-same (search needs))
 
 make-room-requires : tie.Need-make-room-requires
 make-room-requires c κs = search needs
@@ -30,7 +30,7 @@ same-length c = search needs
 -- The ways back, written by ways.py: TO-from-FROM leads from the place FROM of the code to the place TO before it.
 module _ (c : tie.After-make-room) where
   abbrev start-from-make-room : tie.Start
-  start-from-make-room = c .before .before .before .before .before .before .before
+  start-from-make-room = c .before .before .before .before .before .before
 
 module _ (c : tie.After-cell-for) where
   abbrev make-room-from-cell-for : tie.After-make-room
@@ -57,7 +57,7 @@ module _ (c : tie.After-struct-known3) where
   start-from-return-3 = start-from-make-room make-room-from-return-3
 
 returns-2 : tie.Need-returns-2
-returns-2 c = λ op t right _. make-room-from-then2 c .make-room .ensures .right op t right
+returns-2 c = follows-stores (make-room-from-then2 c .make-room .ensures)
 
 slice-read-wrapping-add-u64 : tie.Need-slice-read-wrapping-add-u64
 slice-read-wrapping-add-u64 c = search needs
@@ -107,7 +107,7 @@ returns-3 : tie.Need-returns-3
 returns-3 c =
     let s = start-from-return-3 c in
     let m = make-room-from-return-3 c .make-room in
-    λ op t right entry. memo-stored op (m .last .0) t (m .ensures .right op t right) (wrapping-add-u64-from-return-3 c .wrapping-add-u64 .result) (cell-for-from-return-3 c .cell-for .result) (s .args .f .0) (s .args .g .0) (s .args .r .0) (else2-from-return-3 c .if2 .left) (omega (arith, c .before .struct-known2 .given)) (omega (arith, c .struct-known3 .given)) entry
+    memo-stored (s .args .memo .now) (m .last .0) (m .ensures) (wrapping-add-u64-from-return-3 c .wrapping-add-u64 .result) (cell-for-from-return-3 c .cell-for .result) (s .args .f .0) (s .args .g .0) (s .args .r .0) (else2-from-return-3 c .if2 .left) (omega (arith, c .before .struct-known2 .given)) (omega (arith, c .struct-known3 .given))
 
 pub memo-put-spec : {M : Type 1} → statement M
 memo-put-spec =

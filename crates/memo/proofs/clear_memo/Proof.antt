@@ -3,9 +3,9 @@ use native.Mathlib.Omega.{arith}
 use lib.ListN.{set, length-set}
 use lib.Seq.{getD-set-same}
 use borrow.Author.Needs.{needs}
-use Rattle.operate.proofs.RightMemo.{memo-none}
-use Rattle.operate.proofs.memo.clear_memo.Statement.{statement}
-use Rattle.operate.proofs.memo.clear_memo.Tie as tie
+use Rattle.memo.proofs.Cells.{memo-none}
+use Rattle.memo.proofs.clear_memo.Statement.{statement}
+use Rattle.memo.proofs.clear_memo.Tie as tie
 
 slice-write-memo : tie.Need-slice-write-memo
 slice-write-memo c = search needs
