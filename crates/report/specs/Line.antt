@@ -26,7 +26,9 @@ fieldText n parting = decimal n ++ parting ∷ []
 -- "prints one line: number, place, accepted lines, rounds", and the peak "as a fifth field" (02, 2/14): parted by a space each, LF
 -- at the end.
 unfoldable pub lineBytes : Line → List ℕ
-lineBytes l = fieldText (l .number) 32 ++ (fieldText (l .place) 32 ++ (fieldText (l .lines) 32 ++ (fieldText (l .rounds) 32 ++ fieldText (l .peak) 10)))
+lineBytes l =
+    fieldText (l .number) 32
+    ++ (fieldText (l .place) 32 ++ (fieldText (l .lines) 32 ++ (fieldText (l .rounds) 32 ++ fieldText (l .peak) 10)))
 
 -- The bytes put into a line at a place: what stood before and behind them stays, and `next` is the place after them.
 pub record Put (before : List ℕ) (at : ℕ) (bytes after : List ℕ) (next : ℕ) : Type 0 where

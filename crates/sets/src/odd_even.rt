@@ -1,5 +1,5 @@
-// The builder of odd and even parity diagrams, the remaining variables falling. Each variable costs two nodes and no more calls than that: it
-// is handed the other parity's node of the same variables where that is made already.
+// The builder of odd and even parity diagrams, the remaining variables falling. Each variable costs two nodes and no more calls than that:
+// it is handed the other parity's node of the same variables where that is made already.
 use crate::variables;
 use table::NodeNo;
 use table::Placed;
@@ -45,8 +45,8 @@ fn constant(odd: bool) -> NodeNo
     NodeNo(1)
 }
 
-// The odd-parity diagram of the set's variables from v on, or the even one; or `full`. Beneath it are both of the remaining variables. Where
-// `other` is a node it is the other parity's of the same variables, whose sides are turned round.
+// The odd-parity diagram of the set's variables from v on, or the even one; or `full`. Beneath it are both of the remaining variables.
+// Where `other` is a node it is the other parity's of the same variables, whose sides are turned round.
 pub fn parity_from(
     vars: &mut [u8],
     lows: &mut [u16],
