@@ -2,7 +2,7 @@
 use mathlib.Core.Path.{_≡_}
 use mathlib.Core.List.{List, [] as []ᴸ, _∷_ as _∷ᴸ_}
 use Prim.Native.Nat.{ℕ, zero, suc, _+_}
-use Prim.Native.String.{String, [], _∷_}
+use Prim.Native.String.{String}
 use lib.ListN.{length}
 use Rattle.meaning.specs.Operations.{Literal}
 use Rattle.commands.specs.declared.Form.the-variants.{Text}

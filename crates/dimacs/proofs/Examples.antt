@@ -2,7 +2,7 @@
 -- docs/DECISIONS.md, by computation from the definition. Assumes nothing.
 use mathlib.Core.Path.{_≡_, refl}
 use mathlib.Core.List.{List, [] as []ᴸ, _∷_ as _∷ᴸ_, map}
-use Prim.Native.String.{String, [], _∷_, _++_}
+use Prim.Native.String.{String, _++_}
 use Rattle.dimacs.specs.Clauses.{formula, Reading, clause, complete, refusal}
 use Rattle.dimacs.specs.Texts.{bytes, plus, minus}
 

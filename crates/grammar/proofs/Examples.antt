@@ -4,7 +4,7 @@ use mathlib.Core.Path.{_≡_, refl}
 use mathlib.Core.Bool.{true, false}
 use mathlib.Core.List.{List, [] as []ᴸ, _∷_ as _∷ᴸ_}
 use Prim.Native.Nat.{ℕ, _≤_}
-use Prim.Native.String.{String, [], _∷_}
+use Prim.Native.String.{String}
 use native.Mathlib.Omega.{arith}
 use Rattle.meaning.specs.Operations.{Literal}
 use Rattle.dimacs.specs.Clauses.{formula, clause, complete}

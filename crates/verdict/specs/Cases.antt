@@ -4,7 +4,7 @@ use mathlib.Core.Path.{_≡_}
 use mathlib.Core.Bool.{true, false, cond}
 use mathlib.Core.List.{List, [] as []ᴸ, _∷_ as _∷ᴸ_, _++_ as _++ᴸ_}
 use Prim.Native.Nat.{ℕ, zero, suc}
-use Prim.Native.String.{String, [], _∷_, _++_}
+use Prim.Native.String.{String}
 use Rattle.meaning.specs.Diagram.{Diagram, leaf, node}
 use Rattle.meaning.specs.Operations.{Literal, clause, conjunction, cofactor, isUnit}
 use Rattle.commands.specs.Commands.{inRecords, inText}
