@@ -17,7 +17,7 @@ use Rattle.table.proofs.Order.{both-true, all-blank, Fits, fits-true, t
 use Rattle.table.proofs.Written.{length-rows}
 use Rattle.table.proofs.Index.{bucket-less, lastIn, last-is, last-here, last-before, last-none, Last}
 use Rattle.table.specs.Index.{bucket, bucketAt, highest, headsOf, linksOf, sameNumbers, goodOrder}
-use Rattle.table.specs.Tested.{LentSizes, placesOf, chainAt, Comes, Empty, NodesFit, HeadsFit, AllReached}
+use Rattle.table.specs.Tested.{LentSizes, placesOf, chainAt, Comes, Empty, NodesFit, HeadsFit, AllInChain}
 use Rattle.table.proofs.Paths.{Tested, right-reaches, head-last, link-last, none-alike}
 use Rattle.table.proofs.Literal.{same-true, true-same, highest-few, highest-last, length-listed, listed-at}
 
@@ -194,7 +194,7 @@ module _ (T : Table) (E : LentSizes T) where
       let q : j ≡ k = R .order .ordered .alike j k (omega arith) (omega (arith, length-nodes)) two (omega (arith, length-nodes)) (node-at j inside ∙ e ∙ sym (node-at k (omega arith))) in
       absurd (omega arith)
 
-  pub all-pass : Right T → AllReached T (T .count)
+  pub all-pass : Right T → AllInChain T (T .count)
   all-pass R k two lt =
       subst (Comes T k) (sym (R .heads (chainAt T k) (chain-less k)))
       (right-reaches (T .count) (chainAt T) (λ i. getD (T .links) i 0) (λ i. at places i ≡ at places k → ⊥) k two (λ j p q. apart R j k two p q)
@@ -204,7 +204,7 @@ module _ (T : Table) (E : LentSizes T) where
 
   module _ (zeros : allBlank (take 2 (placesOf T)) ≡ true) (rest : allBlank (drop (T .count) (placesOf T)) ≡ true)
       (first : Empty (T .links) 0 2) (past : Empty (T .links) (T .count) (size T))
-      (N : NodesFit T (T .count)) (H : HeadsFit T (length (T .heads))) (A : AllReached T (T .count)) where
+      (N : NodesFit T (T .count)) (H : HeadsFit T (length (T .heads))) (A : AllInChain T (T .count)) where
     falls : (k : ℕ) → 2 ≤ k → k < T .count → getD (T .links) k 0 < k
     falls k two lt = elim (ℕ-discrete (getD (T .links) k 0) 0) [ yes z ↦ omega arith | no z ↦ N k two lt .1 z .1 ]
 

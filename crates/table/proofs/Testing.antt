@@ -19,7 +19,7 @@ use Rattle.table.proofs.Written.{length-rows}
 use Rattle.table.proofs.Chain.{rows-at}
 use Rattle.table.proofs.Sizes.{Sized, sized}
 use Rattle.table.specs.Index.{bucket, goodOrder}
-use Rattle.table.specs.Tested.{Decides, LentSizes, placesOf, chainAt, OfChain, NodeFits, here, next, Comes, InChain, Empty, NodesFit, HeadsFit, AllReached, Walkable}
+use Rattle.table.specs.Tested.{Decides, LentSizes, placesOf, chainAt, OfChain, NodeFits, here, next, Comes, InChain, Empty, NodesFit, HeadsFit, AllInChain, Walkable}
 use Rattle.table.proofs.Paths.{reach-least}
 use Rattle.table.proofs.Right.{right-claim, refused, all-pass, passed}
 
@@ -122,7 +122,7 @@ no-order places count ds ks e = rw e
 
 pub decided : (T : Table) (E : LentSizes T) → allBlank (take 2 (placesOf T)) ≡ true → allBlank (take (size T - T .count) (drop (T .count) (placesOf T))) ≡ true
     → Empty (T .links) 0 2 → Empty (T .links) (T .count) (length (T .links)) → NodesFit T (T .count) → HeadsFit T (length (T .heads))
-    → (r : Bool) → Decides r (AllReached T (T .count)) → r ≡ goodOrder (placesOf T) (T .count) (T .heads) (T .links)
+    → (r : Bool) → Decides r (AllInChain T (T .count)) → r ≡ goodOrder (placesOf T) (T .count) (T .heads) (T .links)
 decided T E zeros rest first past N H true D =
     sym (right-claim T E (passed T E zeros
     (ap allBlank (sym (take-all (size T - T .count) (drop (T .count) (placesOf T))

@@ -61,8 +61,8 @@ NodesFit T m = (k : ℕ) → 2 ≤ k → k < m → NodeFits T k
 abbrev pub HeadsFit : Table → ℕ → Type 0
 HeadsFit T m = (b : ℕ) → b < m → OfChain T (T .count) b (getD (T .heads) b 0)
 
-abbrev pub AllReached : Table → ℕ → Type 0
-AllReached T m = (k : ℕ) → 2 ≤ k → k < m → InChain T k
+abbrev pub AllInChain : Table → ℕ → Type 0
+AllInChain T m = (k : ℕ) → 2 ≤ k → k < m → InChain T k
 
 -- What a chain's links and heads must be for a walk to stay among the nodes.
 pub record Walkable (T : Table) : Type 0 where

@@ -7,7 +7,7 @@ ghost use Rattle.table.specs.Nodes.{at, above, allBlank, fits};
 ghost use Rattle.table.specs.Index.{goodOrder};
 ghost use Rattle.table.specs.Columns.{rows, sizeFits};
 ghost use Rattle.table.specs.Indexed.{tableOf};
-ghost use Rattle.table.specs.Tested.{Decides, LentSizes, OfChain, NodeFits, InChain, Empty, NodesFit, HeadsFit, AllReached, Walkable};
+ghost use Rattle.table.specs.Tested.{Decides, LentSizes, OfChain, NodeFits, InChain, Empty, NodesFit, HeadsFit, AllInChain, Walkable};
 
 // The most places of a table: a node's number has 16 bits.
 pub const MOST: usize = 65536;
@@ -241,7 +241,7 @@ fn reached(
 }
 
 // Whether each node is on its chain, and none is met on the way that is like it: every two of a chain are compared once.
-fn all_reached(
+fn all_in_chain(
     vars: &[u8],
     lows: &[u16],
     highs: &[u16],
@@ -253,7 +253,7 @@ fn all_reached(
     requires { ⌜ Walkable (tableOf (now vars) (now lows) (now highs) (now heads) (now links) count) ⌝ }
     ensures { λ r. ⌜ (
         let lent = tableOf (now (vars .entry)) (now (lows .entry)) (now (highs .entry)) (now (heads .entry)) (now (links .entry)) count in
-        Decides r (AllReached lent count)) ⌝ }
+        Decides r (AllInChain lent count)) ⌝ }
 {
     let mut k: usize = 2;
     while k < count {
@@ -303,5 +303,5 @@ pub fn order_fits(
     if !heads_fit(vars, lows, highs, heads, links, count) {
         return false;
     }
-    all_reached(vars, lows, highs, heads, links, count)
+    all_in_chain(vars, lows, highs, heads, links, count)
 }

@@ -54,12 +54,12 @@ full-zero s (placed t k) e = t≢f (sym e)
 
 -- ---- the clause made
 
-abbrev pub outcome : Table → Placed → Outcome
-outcome T₁ p = record { table = T₁; full = p .full; node = p .node .0 }
+abbrev pub outcomeAt : Table → Placed → Outcome
+outcomeAt T₁ p = record { table = T₁; full = p .full; node = p .node .0 }
 
-module _ (T : Table) (G : Good T) (u : Literals) (T₁ : Table) (p : Placed) (e : outcome T₁ p ≡ placeIn T (clauseOfWords u)) where
-  pub grown : Grown T (clauseOfWords u) (outcome T₁ p)
-  grown = made T G u (outcome T₁ p) e
+module _ (T : Table) (G : Good T) (u : Literals) (T₁ : Table) (p : Placed) (e : outcomeAt T₁ p ≡ placeIn T (clauseOfWords u)) where
+  pub grown : Grown T (clauseOfWords u) (outcomeAt T₁ p)
+  grown = made T G u (outcomeAt T₁ p) e
 
   node-not-one : shares 64 (u .positive) (u .negative) ≡ false → p .node .0 ≡ 1 → ⊥
   node-not-one apart q = go (p .full) refl
@@ -72,10 +72,10 @@ module _ (T : Table) (G : Good T) (u : Literals) (T₁ : Table) (p : Placed) (e 
 
 -- what the tries ask
 pub tries-ready : (L : Lent) (st : State) → Held 64 L st → (u : Literals) → shares 64 (u .positive) (u .negative) ≡ false → (T₁ : Table) (p : Placed)
-    → outcome T₁ p ≡ placeIn (tableIn L (st .count)) (clauseOfWords u) → (memo : List ℕ) → Roomy (L .vars) memo
+    → outcomeAt T₁ p ≡ placeIn (tableIn L (st .count)) (clauseOfWords u) → (memo : List ℕ) → Roomy (L .vars) memo
     → Negatable T₁ (take (st .members) (L .members)) memo (p .node .0)
 tries-ready L st H u apart T₁ p e memo room =
-    let W : Grown (tableIn L (st .count)) (clauseOfWords u) (outcome T₁ p) = grown (tableIn L (st .count)) (H .entries .good) u T₁ p e in
+    let W : Grown (tableIn L (st .count)) (clauseOfWords u) (outcomeAt T₁ p) = grown (tableIn L (st .count)) (H .entries .good) u T₁ p e in
     record {
       ready = record {
         good = W .good;
@@ -141,9 +141,9 @@ module _ (n : ℕ) (L : Lent) (st : State) (H : Held n L st) (ls : List Literal)
 
   -- ---- the clause is made
 
-  module _ (few : st .lines < 1024) (apart : shares 64 (u .positive) (u .negative) ≡ false) (T₁ : Table) (p : Placed) (e : outcome T₁ p ≡ placeIn T₀ (clauseOfWords u)) where
+  module _ (few : st .lines < 1024) (apart : shares 64 (u .positive) (u .negative) ≡ false) (T₁ : Table) (p : Placed) (e : outcomeAt T₁ p ≡ placeIn T₀ (clauseOfWords u)) where
     abbrev o : Outcome
-    o = outcome T₁ p
+    o = outcomeAt T₁ p
 
     abbrev k : ℕ
     k = p .node .0
@@ -292,7 +292,7 @@ module _ (n : ℕ) (L : Lent) (st : State) (H : Held n L st) (ls : List Literal)
 -- What the code knows of a clause once it was tried.
 pub record Added (L : Lent) (st : State) (T₁ : Table) (p : Placed) (j : Judged) (c : TextClause) : Type 0 where
   pub apart : shares 64 (c .literals .positive) (c .literals .negative) ≡ false
-  pub made : outcome T₁ p ≡ placeIn (tableIn L (st .count)) (clauseOfWords (c .literals))
+  pub made : outcomeAt T₁ p ≡ placeIn (tableIn L (st .count)) (clauseOfWords (c .literals))
   pub tried : BothTried T₁ (liveIn (L .members) (L .struck) st) c p j
 
 pub with-nodes : (st : State) (count peak : ℕ) → peak ≡ max (st .peak) count

@@ -25,8 +25,7 @@ abbrev pub prints : ℕ → ℕ → ℕ → ℕ → ℕ → Printed
 prints number place lines rounds peak = record { number = number; place = place; lines = lines; rounds = rounds; peak = peak }
 
 -- A row: what is printed of a formula and a proof with a table of s places, and the marks that the members have then; the same of a DRAT
--- text; what f
--- cofactored by g is; what U(f) is.
+-- text; what f cofactored by g is; what U(f) is.
 pub data Row : Type 0 where
   checked : (s : ℕ) (formula : String) (proof : List ℕ) (line : Printed) → Row
   marked : (s : ℕ) (formula : String) (proof : List ℕ) (line : Printed) (marks : List ℕ) → Row

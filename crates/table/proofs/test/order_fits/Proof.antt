@@ -150,7 +150,7 @@ module _ (c : tie.Then8) where
   abbrev start-from-then8 : tie.Start
   start-from-then8 = start-from-else1 else1-from-then8
 
-module _ (c : tie.After-all-reached) where
+module _ (c : tie.After-all-in-chain) where
   abbrev else7-from-return-9 : tie.Else7
   else7-from-return-9 = c .before .before .before
 
@@ -232,11 +232,11 @@ heads-fit-requires c κs = (lent _ _ _ _ _ _ (start-from-else7 c .pre) (else1-fr
 returns-8 : tie.Need-returns-8
 returns-8 c = sym (refused _ (lent _ _ _ _ _ _ (start-from-then8 c .pre) (else1-from-then8 c .if1 .left) (else2-from-then8 c .if2 .left)) (λ R. c .before .heads-fit .ensures .no (not-true _ (c .if8 .taken)) (heads-pass _ (lent _ _ _ _ _ _ (start-from-then8 c .pre) (else1-from-then8 c .if1 .left) (else2-from-then8 c .if2 .left)) R)))
 
-all-reached-requires : tie.Need-all-reached-requires
-all-reached-requires c κs = ((lent _ _ _ _ _ _ (start-from-else8 c .pre) (else1-from-else8 c .if1 .left) (else2-from-else8 c .if2 .left)), record { nodes = (nodes-fit-from-else8 c .nodes-fit .ensures .yes (not-false _ (c .before .before .if7 .left))); heads = (c .before .heads-fit .ensures .yes (not-false _ (c .if8 .left))) })
+all-in-chain-requires : tie.Need-all-in-chain-requires
+all-in-chain-requires c κs = ((lent _ _ _ _ _ _ (start-from-else8 c .pre) (else1-from-else8 c .if1 .left) (else2-from-else8 c .if2 .left)), record { nodes = (nodes-fit-from-else8 c .nodes-fit .ensures .yes (not-false _ (c .before .before .if7 .left))); heads = (c .before .heads-fit .ensures .yes (not-false _ (c .if8 .left))) })
 
 returns-9 : tie.Need-returns-9
-returns-9 c = decided _ (lent _ _ _ _ _ _ (start-from-return-9 c .pre) (else1-from-return-9 c .if1 .left) (else2-from-return-9 c .if2 .left)) (sym (blank-between-from-return-9 c .blank-between .ensures) ∙ not-false _ (else3-from-return-9 c .if3 .left)) (sym (blank-between2-from-return-9 c .blank-between2 .ensures) ∙ not-false _ (else4-from-return-9 c .if4 .left)) (links-empty-from-return-9 c .links-empty .ensures .yes (not-false _ (else5-from-return-9 c .if5 .left))) (links-empty2-from-return-9 c .links-empty2 .ensures .yes (not-false _ (else6-from-return-9 c .if6 .left))) (nodes-fit-from-return-9 c .nodes-fit .ensures .yes (not-false _ (else7-from-return-9 c .if7 .left))) (c .before .before .heads-fit .ensures .yes (not-false _ (c .before .if8 .left))) _ (c .all-reached .ensures)
+returns-9 c = decided _ (lent _ _ _ _ _ _ (start-from-return-9 c .pre) (else1-from-return-9 c .if1 .left) (else2-from-return-9 c .if2 .left)) (sym (blank-between-from-return-9 c .blank-between .ensures) ∙ not-false _ (else3-from-return-9 c .if3 .left)) (sym (blank-between2-from-return-9 c .blank-between2 .ensures) ∙ not-false _ (else4-from-return-9 c .if4 .left)) (links-empty-from-return-9 c .links-empty .ensures .yes (not-false _ (else5-from-return-9 c .if5 .left))) (links-empty2-from-return-9 c .links-empty2 .ensures .yes (not-false _ (else6-from-return-9 c .if6 .left))) (nodes-fit-from-return-9 c .nodes-fit .ensures .yes (not-false _ (else7-from-return-9 c .if7 .left))) (c .before .before .heads-fit .ensures .yes (not-false _ (c .before .if8 .left))) _ (c .all-in-chain .ensures)
 
 pub order-fits-spec : {M : Type 1} → statement M
 order-fits-spec =
@@ -256,5 +256,5 @@ order-fits-spec =
     returns-7
     heads-fit-requires
     returns-8
-    all-reached-requires
+    all-in-chain-requires
     returns-9)

@@ -14,7 +14,7 @@ use Rattle.clause.specs.Words.{clauseOfWords}
 use Rattle.entries.specs.States.{Lent, lentOf, tableIn, Held}
 use Rattle.tries.specs.Tries.{liveIn, BothTried}
 use Rattle.tries.proofs.Trying.{both-most}
-use Rattle.tries.proofs.Adding.{outcome, grown, tries-ready, Added, with-nodes, keep-fits, clause-22, code-17, code-stepped}
+use Rattle.tries.proofs.Adding.{outcomeAt, grown, tries-ready, Added, with-nodes, keep-fits, clause-22, code-17, code-stepped}
 use Rattle.tries.proofs.add.clause_step.Statement.{statement}
 use Rattle.tries.proofs.add.clause_step.Tie as tie
 
@@ -135,7 +135,7 @@ module _ (a : tie.After-make) where
   apart : shares 64 (start .args .clause .literals .positive) (start .args .clause .literals .negative) ≡ false
   apart = sym (shared-from-make a .shared .ensures) ∙ else2-from-make a .if2 .left
 
-  larger : Grown (tableIn (lent start) (start .args .st .count)) (clauseOfWords (start .args .clause .literals)) (outcome table₁ (a .make .result))
+  larger : Grown (tableIn (lent start) (start .args .st .count)) (clauseOfWords (start .args .clause .literals)) (outcomeAt table₁ (a .make .result))
   larger = grown (tableIn (lent start) (start .args .st .count)) (held start .entries .good) (start .args .clause .literals) table₁ (a .make .result) (a .make .ensures)
 
 -- it is tried

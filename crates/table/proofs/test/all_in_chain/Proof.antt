@@ -1,16 +1,16 @@
--- `all_reached` tells whether each node is on the walk down its chain, behind no node like it. Assumes nothing.
+-- `all_in_chain` tells whether each node is on the walk down its chain, behind no node like it. Assumes nothing.
 use Prim.Native.Nat.{_≤_, _-_}
 use native.Mathlib.Omega.{arith}
 use borrow.Author.Tests.{not-true, not-false}
 use Rattle.table.specs.Indexed.{tableOf}
-use Rattle.table.specs.Tested.{InChain, AllReached}
+use Rattle.table.specs.Tested.{InChain, AllInChain}
 use Rattle.table.proofs.Testing.{says-no, says-yes, one-more}
 use borrow.Author.Needs.{needs}
-use Rattle.table.proofs.test.all_reached.Statement.{statement}
-use Rattle.table.proofs.test.all_reached.Tie as tie
+use Rattle.table.proofs.test.all_in_chain.Statement.{statement}
+use Rattle.table.proofs.test.all_in_chain.Tie as tie
 
 abbrev Inv-loop : tie.InvT-loop
-Inv-loop vars lows highs heads links count k₀ k = (2 ≤ k) × (k ≤ count) × AllReached (tableOf vars lows highs heads links count) k
+Inv-loop vars lows highs heads links count k₀ k = (2 ≤ k) × (k ≤ count) × AllInChain (tableOf vars lows highs heads links count) k
 
 abbrev μ-loop : tie.MeasureT-loop
 μ-loop vars lows highs heads links count k₀ k = count - k
@@ -56,8 +56,8 @@ loop-again c = let a = start-from-else1 c .args in (search needs, search needs, 
 returns-2 : tie.Need-returns-2 Inv-loop μ-loop
 returns-2 c = says-yes (λ k a b. c .before .loop .inv .2 k a (omega (arith, c .loop-test .left)))
 
-pub all-reached-spec : {M : Type 1} → statement M
-all-reached-spec =
+pub all-in-chain-spec : {M : Type 1} → statement M
+all-in-chain-spec =
     tie.close
     (tie.spec
     Inv-loop
