@@ -26,7 +26,6 @@ use Rattle.supports.specs.Supports.{Support, Supports}
 use Rattle.walks.specs.Readable.{ListReady}
 use Rattle.table.specs.Lists.{diagramsOf}
 use Rattle.members.specs.Made.{results, AllMade}
-use Rattle.members.specs.Touching.{Touches}
 use Rattle.table.proofs.PlacedAll.{first-full, first-placed}
 use Rattle.table.proofs.Extended.{longer-extended, extended-trans, diagrams-kept}
 use Rattle.judge.specs.Lines.{Negatable, Worded, ByNegation}
@@ -89,7 +88,7 @@ module _ (T : Table) (list memo : List ℕ) (g : ℕ) (R : Negatable T list memo
 
       -- and the words are as before, with g's for not-g
       pub negation-words : (words : List ℕ) (word : ℕ) → Worded T list words g word
-          → (length words ≡ length list) × Supports (nodesOf (o .table)) list words × Touches Cofactor (diagramAt (nodesOf (o .table)) (o .node)) word
+          → (length words ≡ length list) × Supports (nodesOf (o .table)) list words × Support word (diagramAt (nodesOf (o .table)) (o .node))
       negation-words words word W = (
         W .lengths,
         supports-longer T (o .table) long list words (R .ready .inside) (W .have),

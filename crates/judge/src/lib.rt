@@ -48,7 +48,8 @@ fn copy_words(from: &[u64], to: &mut [u64])
 }
 
 // Makes not-g, and fills the list with the members' cofactors by not-g, made in order; or stops at `full`.
-// `memberwords` has the members' variables and `word` those of g; `words` then has the list's.
+// `memberwords` has the members' variables and `word` those of g; `words` then has the list's. A member without a variable that not-g
+// forces stays.
 pub fn by_negation(
     vars: &mut [u8],
     lows: &mut [u16],
@@ -101,6 +102,7 @@ pub fn by_negation(
             count: not.count,
         };
     }
+    let touching = supports::forced::forced_of(vars, lows, highs, memo, not.count, not.node, word);
     members::all_by(
         vars,
         lows,
@@ -114,5 +116,6 @@ pub fn by_negation(
         Operation::Cofactor,
         not.node,
         word,
+        touching,
     )
 }

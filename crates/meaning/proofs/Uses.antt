@@ -1,4 +1,4 @@
--- An operation's result has no other variables than its operands, and one that shares no variable with a diagram leaves it as it is. The
+-- An operation's result has no other variables than its operands, and a cofactor that sets no variable of a diagram leaves it as it is. The
 -- idea: by induction, along the recursion over the branches. Assumes nothing.
 use mathlib.Core.Path.{_≡_, refl, sym, ap, ap₂, _∙_, subst}
 use mathlib.Core.Logic.{_≢_}
@@ -14,7 +14,7 @@ use Rattle.meaning.proofs.Booleans.{t≢f, and-both, or-cases, eqb-eq}
 use Rattle.meaning.proofs.Canonical.{branch-same, branch-differ, reduced-from, side, side-reduced}
 use Rattle.meaning.proofs.PointwiseSteps.{negation-leaf, negation-node, literals-leaf, literals-high, literals-low, literals-branch}
 use Rattle.meaning.proofs.Cofactor.{cofactorFrom, cofactorFrom-leaf, sidesFrom, level-both, level-one, LiveSides, one, both, live-sides, atRoot, byBranches, cofactor-branches}
-use Rattle.meaning.specs.Uses.{Uses}
+use Rattle.meaning.specs.Uses.{Uses, Forces}
 
 -- ---- any diagram
 
@@ -53,6 +53,32 @@ module _ (S : ℕ → Bool) where
       go true (yes e) = u .2
       go false (yes e) = u .1
       go b (no n) = u
+
+  -- a diagram forces none but its own variables
+  pub uses-forces : (f : Diagram) → Uses S f → Forces S f
+  uses-forces (leaf b) u = tt
+  uses-forces (node v l h) u = ((λ e. u .0), (λ e. u .0), uses-forces l (u .1), uses-forces h (u .2))
+
+  pub forces-side : (i : ℕ) (b : Bool) (f : Diagram) → Forces S f → Forces S (side i b f)
+  unfolding side
+  forces-side i b (leaf c) u = tt
+  forces-side i b (node v l h) u = go b (ℕ-discrete v i)
+    where
+      go : (b : Bool) (d : Dec (v ≡ i)) → Forces S (elim d [ yes e ↦ cond b h l | no n ↦ node v l h ])
+      go true (yes e) = u .3
+      go false (yes e) = u .2
+      go b (no n) = u
+
+  -- a side that is 0, where the diagram is not, is forced
+  forced-side : (i : ℕ) (b : Bool) (f : Diagram) → Forces S f → f ≢ leaf false → side i b f ≡ leaf false → S i ≡ true
+  unfolding side
+  forced-side i b (leaf c) u nz z = absurd (nz z)
+  forced-side i b (node v l h) u nz z = go b (ℕ-discrete v i) z
+    where
+      go : (b : Bool) (d : Dec (v ≡ i)) → elim d [ yes e ↦ cond b h l | no n ↦ node v l h ] ≡ leaf false → S i ≡ true
+      go true (yes e) z = subst (λ (x : ℕ). S x ≡ true) e (u .1 z)
+      go false (yes e) z = subst (λ (x : ℕ). S x ≡ true) e (u .0 z)
+      go b (no n) z = absurd (nz z)
 
   uses-root : (i : ℕ) (f : Diagram) → Uses S f → atRoot i f ≡ true → S i ≡ true
   unfolding atRoot
@@ -130,14 +156,6 @@ side-own S i b (node v l h) u e = go (ℕ-discrete v i)
     go (yes q) = t≢f (sym (u .0) ∙ ap S q ∙ e)
     go (no n) = refl
 
--- a side that is not the diagram's own
-side-other : (S : ℕ → Bool) (i : ℕ) (b : Bool) (f : Diagram) → Uses S f → side i b f ≢ f → S i ≡ true
-side-other S i b f u ne = go (S i) refl
-  where
-    go : (x : Bool) → S i ≡ x → x ≡ true
-    go true e = refl
-    go false e = absurd (ne (side-own S i b f u e))
-
 -- a diagram over its two sides
 branch-sides : (i e : ℕ) (f : Diagram) → Reduced i e f → branch i (side i false f) (side i true f) ≡ f
 unfolding side
@@ -149,14 +167,14 @@ branch-sides i e (node v l h) o = go (ℕ-discrete v i)
     go (no n) = branch-same i (node v l h) (node v l h) refl
 
 module _ (S T : ℕ → Bool) (apart : (v : ℕ) → S v ≡ true → T v ≡ false) where
-  apart-from : (k i e : ℕ) (f g : Diagram) → e ≡ i + k → Reduced i e f → Reduced i e g → g ≢ leaf false → Uses S f → Uses T g → cofactorFrom k i f g ≡ f
+  apart-from : (k i e : ℕ) (f g : Diagram) → e ≡ i + k → Reduced i e f → Reduced i e g → g ≢ leaf false → Uses S f → Forces T g → cofactorFrom k i f g ≡ f
   apart-from zero i e (leaf b) g q of og nz u w = cofactorFrom-leaf zero i b g
   apart-from zero i e (node v l h) g q of og nz u w = absurd (omega arith)
   apart-from (suc k) i e f g q of og nz u w =
       go (live-sides i e g og nz)
-      (λ b m. apart-from k (suc i) e (side i b f) (side i b g) (omega arith) (side-reduced i e b f of) (side-reduced i e b g og) m (uses-side S i b f u) (uses-side T i b g w))
+      (λ b m. apart-from k (suc i) e (side i b f) (side i b g) (omega arith) (side-reduced i e b f of) (side-reduced i e b g og) m (uses-side S i b f u) (forces-side T i b g w))
     where
-      -- a variable of g is none of f
+      -- a variable that g forces is none of f
       none : T i ≡ true → S i ≡ false
       none t = go (S i) refl
         where
@@ -166,10 +184,10 @@ module _ (S T : ℕ → Bool) (apart : (v : ℕ) → S v ≡ true → T v ≡ fa
 
       go : LiveSides i g → ((b : Bool) → side i b g ≢ leaf false → sidesFrom k i f g b ≡ side i b f) → cofactorFrom (suc k) i f g ≡ f
       go (one b z m) ih =
-          level-one k i e q f g of og b z m ∙ ih (not b) m ∙ side-own S i (not b) f u (none (side-other T i b g w (λ s. nz (sym s ∙ z))))
+          level-one k i e q f g of og b z m ∙ ih (not b) m ∙ side-own S i (not b) f u (none (forced-side T i b g w nz z))
       go (both m p) ih = level-both k i e q f g of og m p ∙ ap₂ (branch i) (ih false m) (ih true p) ∙ branch-sides i e f of
 
-  pub cofactor-apart : (n : ℕ) (f g : Diagram) → Reduced 1 (suc n) f → Reduced 1 (suc n) g → g ≢ leaf false → Uses S f → Uses T g → cofactor n f g ≡ f
+  pub cofactor-apart : (n : ℕ) (f g : Diagram) → Reduced 1 (suc n) f → Reduced 1 (suc n) g → g ≢ leaf false → Uses S f → Forces T g → cofactor n f g ≡ f
   unfolding cofactor cofactorFrom
   cofactor-apart n f g of og nz u w = apart-from n 1 (suc n) f g (omega arith) of og nz u w
 
@@ -179,9 +197,9 @@ pub literals-before : (n x : ℕ) (P N : ℕ → Bool) → ((v : ℕ) → x ≤ 
 literals-before n x P N none f least o =
     literals-apart n P N (leb x) (λ v p. none v (leb-true x v p)) f (reduced-from 1 x (suc n) f least o) (uses-reduced (leb x) (suc n) x f o (λ v p q. le-leb x v p))
 
--- what f and g share is before x
+-- what f has of the variables that g forces is before x
 pub cofactor-before : (n x : ℕ) (S T : ℕ → Bool) → ((v : ℕ) → x ≤ v → S v ≡ true → T v ≡ false) → (f g : Diagram) → 1 ≤ x → Reduced x (suc n) f → Reduced 1 (suc n) g → g ≢ leaf false
-    → Uses S f → Uses T g → cofactor n f g ≡ f
+    → Uses S f → Forces T g → cofactor n f g ≡ f
 cofactor-before n x S T none f g least of og nz u w =
     cofactor-apart (λ v. leb x v && S v) T
     (λ v p. let b : (leb x v ≡ true) × (S v ≡ true) = and-both (leb x v) (S v) p in none v (leb-true x v (b .0)) (b .1))

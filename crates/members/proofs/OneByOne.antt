@@ -1,5 +1,5 @@
--- The members of a list made one by one: what holds at one of them holds at the next. The idea: one that shares no variable with the
--- operation is made by leaving it, list and word as they are. Assumes nothing.
+-- The members of a list made one by one: what holds at one of them holds at the next. The idea: one without a variable that the
+-- operation sets is made by leaving it, list and word as they are. Assumes nothing.
 use mathlib.Core.Path.{_≡_, refl, sym, subst}
 use mathlib.Core.Logic.{inr}
 use mathlib.Core.Bool.{false}
@@ -31,8 +31,8 @@ pub record Making (op : Operation) (g touching : ℕ) (T₀ : Table) (list₀ wo
   pub rewords : Rewording words₀ words touching i
   pub counts : Counting (diagramsOf (nodesOf T₀) list₀) (results op T₀ list₀ g) i written
 
-module _ (op : Operation) (g touching : ℕ) (T₀ : Table) (list₀ words₀ memo₀ : List ℕ) (R : ListReady T₀ list₀ memo₀) (g-inside : g < T₀ .count) (allowed : Allowed op g)
-    (len : length words₀ ≡ length list₀) (touches : Touches op (diagramAt (nodesOf T₀) g) touching)
+module _ (op : Operation) (g gained touching : ℕ) (T₀ : Table) (list₀ words₀ memo₀ : List ℕ) (R : ListReady T₀ list₀ memo₀) (g-inside : g < T₀ .count) (allowed : Allowed op g)
+    (len : length words₀ ≡ length list₀) (touches : Touches op (diagramAt (nodesOf T₀) g) touching) (gains : Support gained (diagramAt (nodesOf T₀) g))
     (T : Table) (list words memo : List ℕ) (i written : ℕ) (W : Making op g touching T₀ list₀ words₀ T list words memo i written) (p : i < length list) where
   words-length : length words ≡ length list
   words-length = omega (arith, W .rewords .lengths, W .members .members, len)
@@ -47,7 +47,7 @@ module _ (op : Operation) (g touching : ℕ) (T₀ : Table) (list₀ words₀ me
   touches-here = touches-now op g T₀ list₀ memo₀ R g-inside allowed T list memo i (W .members) p touching touches
 
   -- one is made
-  pub making-next : (r : Replaced) (T′ : Table) (list′ words′ memo′ : List ℕ) → OneMade op T list words g touching i r T′ list′ words′ → r .full ≡ false
+  pub making-next : (r : Replaced) (T′ : Table) (list′ words′ memo′ : List ℕ) → OneMade op T list words g gained i r T′ list′ words′ → r .full ≡ false
       → MemoRight op memo′ T′ → Making op g touching T₀ list₀ words₀ T′ list′ words′ memo′ (i + 1) (written + r .written)
   making-next r T′ list′ words′ memo′ e f right =
       record {
@@ -55,21 +55,21 @@ module _ (op : Operation) (g touching : ℕ) (T₀ : Table) (list₀ words₀ me
             (replaced op g T₀ list₀ memo₀ R g-inside allowed T list memo i (W .members) p o (e .outcome) f memo′ right);
         supports = subst (λ (x : List ℕ). Supports (nodesOf T′) x words′) (sym (e .list-is f))
             (subst (λ (x : List ℕ). Supports (nodesOf T′) (set list i (r .node .0)) x) (sym (e .words-is f))
-            (supported op g T₀ list₀ memo₀ R g-inside allowed T list memo i (W .members) p o (e .outcome) f words touching words-length (W .supports) touches));
+            (supported op g T₀ list₀ memo₀ R g-inside allowed T list memo i (W .members) p o (e .outcome) f words gained touching words-length (W .supports) touches gains));
         rewords = subst (λ (x : List ℕ). Rewording words₀ x touching (i + 1)) (sym (e .words-is f))
-            (rewording-next words₀ words touching i (getD list i 0) (r .node .0) (W .rewords) (omega (arith, W .members .members, len)));
+            (rewording-next words₀ words gained touching i (getD list i 0) (r .node .0) (W .rewords) (omega (arith, W .members .members, len)));
         counts = counted op g T₀ list₀ memo₀ R g-inside allowed T list memo i (W .members) p o (e .outcome) f written (r .written) (W .counts) (e .told f);
       }
     where
       o : Outcome
       o = record { table = T′; full = r .full; node = r .node .0 }
 
-  -- one that shares no variable is passed over
+  -- one that has no variable which the operation sets is passed over
   pub making-passed : bitAnd (getD words i 0) touching ≡ 0 → Making op g touching T₀ list₀ words₀ T list words memo (i + 1) written
   making-passed apart =
       subst (Making op g touching T₀ list₀ words₀ T list words memo (i + 1)) (plus-zero written)
       (making-next (record { full = false; node = record { 0 = k }; written = 0; count = T .count }) T list words memo
-      (one-kept op T list words g touching i (record { full = false; node = record { 0 = k }; count = T .count }) T
+      (one-kept op T list words g gained i (record { full = false; node = record { 0 = k }; count = T .count }) T
       (untouched T (ready .good) k g (ready .f-inside) (ready .g-inside) (getD words i 0) touching has op memo ready touches-here apart) (inr refl)) refl (W .members .right))
     where
       k : ℕ

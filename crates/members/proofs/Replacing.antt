@@ -162,16 +162,18 @@ module _ (op : Operation) (g : ℕ) (T₀ : Table) (list₀ memo₀ : List ℕ) 
               (has-longer T (o .table) (longer T made o outcome-grown) (getD list k 0) (getD (results op T₀ list₀ g) k (leaf false)) (W .done k (omega arith)))
 
       -- and its word with it
-      pub supported : o .full ≡ false → (words : List ℕ) (touching : ℕ) → length words ≡ length list → Supports (nodesOf T) list words → Touches op (diagramAt (nodesOf T₀) g) touching
-          → Supports (nodesOf (o .table)) (set list i (o .node)) (set words i (reworded (getD list i 0) (o .node) (getD words i 0) touching))
+      pub supported : o .full ≡ false → (words : List ℕ) (gained touching : ℕ) → length words ≡ length list → Supports (nodesOf T) list words
+          → Touches op (diagramAt (nodesOf T₀) g) touching → Support gained (diagramAt (nodesOf T₀) g)
+          → Supports (nodesOf (o .table)) (set list i (o .node)) (set words i (reworded (getD list i 0) (o .node) (getD words i 0) gained))
       unfolding Supports
-      supported f words touching len old touches =
+      supported f words gained touching len old touches gains =
           let inside = list-inside i p in
           let long = longer T made o outcome-grown in
-          supports-replaced T (o .table) long list words list-inside len old i (o .node) (reworded (getD list i 0) (o .node) (getD words i 0) touching) p
-          (word-supported T (o .table) long (getD list i 0) (o .node) (getD words i 0) touching inside (old i p)
-          (subst (Support (bitOr (getD words i 0) touching)) (sym (outcome-grown .is f))
-          (grows T (W .long .good) (getD list i 0) g inside (omega (arith, W .long .more)) (getD words i 0) touching (old i p) op allowed (touches-now touching touches))))
+          supports-replaced T (o .table) long list words list-inside len old i (o .node) (reworded (getD list i 0) (o .node) (getD words i 0) gained) p
+          (word-supported T (o .table) long (getD list i 0) (o .node) (getD words i 0) gained inside (old i p)
+          (subst (Support (bitOr (getD words i 0) gained)) (sym (outcome-grown .is f))
+          (grows T (W .long .good) (getD list i 0) g inside (omega (arith, W .long .more)) (getD words i 0) touching (old i p) op allowed (touches-now touching touches)
+          gained (subst (Support gained) (sym (W .long .kept g g-inside)) gains))))
 
       -- and it is counted where it changed
       changed : o .full ≡ false → same (getD (diagramsOf (nodesOf T₀) list₀) i (leaf false)) (getD (results op T₀ list₀ g) i (leaf false)) ≡ eqb (getD list i 0) (o .node)

@@ -1,4 +1,4 @@
--- A member that shares no variable with the operation stays as it is, and each member's word still has its variables. Assumes nothing.
+-- A member that has no variable which the operation sets stays as it is, and each member's word still has its variables. Assumes nothing.
 use mathlib.Core.Path.{_≡_, refl, sym, ap, ap₂, _∙_, subst}
 use mathlib.Core.Bool.{Bool, true, false, _&&_, cond}
 use mathlib.Core.List.{List}
@@ -26,7 +26,7 @@ use Rattle.operate.specs.Inner.{applied, Allowed, Shared, Ready}
 use Rattle.operate.proofs.Levels.{zero-is}
 use Rattle.operate.proofs.Results.{known-outcome}
 use Rattle.meaning.proofs.Words.{in-and, in-or, in-none}
-use Rattle.supports.specs.Supports.{Support, Supports}
+use Rattle.supports.specs.Supports.{Support, Forced, Supports}
 use Rattle.meaning.proofs.Uses.{literals-uses, literals-apart, cofactor-uses, cofactor-apart}
 use Rattle.supports.proofs.Words.{support-left, support-right}
 use Rattle.table.specs.Lists.{Inside}
@@ -50,7 +50,7 @@ module _ (t : Table) (G : Good t) where
 
     -- no variable in common: the member stays
     pub stays : (op : Operation) → Allowed op g → Touches op E touching → Apart word touching → result op F E ≡ F
-    unfolding result Support
+    unfolding result Support Forced
     stays Conjunction allowed touches apart = absurd touches
     stays Negation allowed touches apart = absurd touches
     stays Cofactor allowed touches apart =
@@ -59,27 +59,27 @@ module _ (t : Table) (G : Good t) where
         literals-apart 64 (inWord p) (inWord n) (inWord word)
         (λ v q. or-neither (inWord p v) (inWord n v) (sym (in-or p n v) ∙ ap (λ (w : ℕ). inWord w v) (sym touches) ∙ apart v q)) F (reduced f f-inside) has
 
-    -- else the word has the result's variables with the operation's
-    pub grows : (op : Operation) → Allowed op g → Touches op E touching → Support (bitOr word touching) (result op F E)
+    -- else the word has the result's variables with those of g
+    pub grows : (op : Operation) → Allowed op g → Touches op E touching → (gained : ℕ) → Support gained E → Support (bitOr word gained) (result op F E)
     unfolding result Support
-    grows Conjunction allowed touches = absurd touches
-    grows Negation allowed touches = absurd touches
-    grows Cofactor allowed touches =
-        cofactor-uses 64 (inWord (bitOr word touching)) F E (reduced f f-inside) (reduced g g-inside) (λ z. allowed (zero-is t G g g-inside z))
-        (support-left word touching F has) (support-right word touching E touches)
-    grows (Literals p n) allowed touches =
-        support-left word touching (cofactorLiterals 64 (inWord p) (inWord n) F) (literals-uses 64 (inWord p) (inWord n) (inWord word) F (reduced f f-inside) has)
+    grows Conjunction allowed touches gained gains = absurd touches
+    grows Negation allowed touches gained gains = absurd touches
+    grows Cofactor allowed touches gained gains =
+        cofactor-uses 64 (inWord (bitOr word gained)) F E (reduced f f-inside) (reduced g g-inside) (λ z. allowed (zero-is t G g g-inside z))
+        (support-left word gained F has) (support-right word gained E gains)
+    grows (Literals p n) allowed touches gained gains =
+        support-left word gained (cofactorLiterals 64 (inWord p) (inWord n) F) (literals-uses 64 (inWord p) (inWord n) (inWord word) F (reduced f f-inside) has)
 
     -- the word of what the member shares with the operation
     pub touched-shared : (op : Operation) → Touches op E touching → Shared op (bitAnd word touching) t f g
-    unfolding Support
+    unfolding Support Forced
     touched-shared Conjunction touches = absurd touches
     touched-shared Negation touches = absurd touches
     touched-shared Cofactor touches = record {
       first = inWord word;
       second = inWord touching;
       first-uses = has;
-      second-uses = touches;
+      second-forces = touches;
       common = λ v p q. in-and word touching v ∙ ap₂ _&&_ p q;
     }
     touched-shared (Literals p n) touches = tt
@@ -95,12 +95,12 @@ pub touches-kept : (op : Operation) (D E : Diagram) (touching : ℕ) → D ≡ E
 touches-kept op D E touching e touches = subst (λ (x : Diagram). Touches op x touching) (sym e) touches
 
 -- a member's word once its node f is k
-pub word-supported : (T T′ : Table) → Longer T T′ → (f k word touching : ℕ) → f < T .count → Support word (diagramAt (nodesOf T) f)
-    → Support (bitOr word touching) (diagramAt (nodesOf T′) k) → Support (reworded f k word touching) (diagramAt (nodesOf T′) k)
+pub word-supported : (T T′ : Table) → Longer T T′ → (f k word gained : ℕ) → f < T .count → Support word (diagramAt (nodesOf T) f)
+    → Support (bitOr word gained) (diagramAt (nodesOf T′) k) → Support (reworded f k word gained) (diagramAt (nodesOf T′) k)
 unfolding reworded
-word-supported T T′ L f k word touching inside old new = go (eqb f k) refl
+word-supported T T′ L f k word gained inside old new = go (eqb f k) refl
   where
-    go : (b : Bool) → eqb f k ≡ b → Support (cond b word (bitOr word touching)) (diagramAt (nodesOf T′) k)
+    go : (b : Bool) → eqb f k ≡ b → Support (cond b word (bitOr word gained)) (diagramAt (nodesOf T′) k)
     go true e =
         subst (λ (n : ℕ). Support word (diagramAt (nodesOf T′) n)) (eqb-true f k e) (subst (Support word) (sym (L .kept f inside)) old)
     go false e = new

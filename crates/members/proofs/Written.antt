@@ -20,11 +20,11 @@ use Rattle.members.specs.Touching.{reworded, OneMade}
 outcome : Table → Bool → ℕ → Outcome
 outcome t full k = record { table = t; full = full; node = k }
 
-module _ (op : Operation) (t : Table) (list words : List ℕ) (g touching i : ℕ) (p : Placed) (t′ : Table)
+module _ (op : Operation) (t : Table) (list words : List ℕ) (g gained i : ℕ) (p : Placed) (t′ : Table)
     (e : record { table = t′; full = p .full; node = p .node .0 } ≡ applied t op (getD list i 0) g) where
   -- it found no room, or is what it was
   pub one-kept : (p .full ≡ true) ⊎ (p .node .0 ≡ getD list i 0)
-      → OneMade op t list words g touching i (record { full = p .full; node = p .node; written = 0; count = p .count }) t′ list words
+      → OneMade op t list words g gained i (record { full = p .full; node = p .node; written = 0; count = p .count }) t′ list words
   unfolding reworded
   one-kept h =
       record {
@@ -40,8 +40,8 @@ module _ (op : Operation) (t : Table) (list words : List ℕ) (g touching i : �
 
   -- it changes
   pub one-written : p .full ≡ false → p .node .0 ≢ getD list i 0
-      → OneMade op t list words g touching i (record { full = false; node = p .node; written = 1; count = p .count }) t′
-      (set list i (p .node .0)) (set words i (bitOr (getD words i 0) touching))
+      → OneMade op t list words g gained i (record { full = false; node = p .node; written = 1; count = p .count }) t′
+      (set list i (p .node .0)) (set words i (bitOr (getD words i 0) gained))
   unfolding reworded outcome
   one-written f n =
       record {

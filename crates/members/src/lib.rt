@@ -10,7 +10,6 @@ ghost use Rattle.table.specs.Nodes.{diagramAt};
 ghost use Rattle.table.specs.Indexed.{tableOf, nodesOf, outcomeOf};
 ghost use Rattle.walks.specs.Readable.{ListReady};
 ghost use Rattle.operate.specs.Inner.{applied, Allowed, MemoRight, Ready};
-ghost use Rattle.thin.specs.Thin.{SomeTable};
 ghost use Rattle.supports.specs.Supports.{Support, Supports};
 ghost use Rattle.table.specs.Lists.{diagramsOf};
 ghost use Rattle.members.specs.Made.{results, AllMade, differing};
@@ -24,18 +23,8 @@ pub struct Made {
     pub count: usize,
 }
 
-// Whether f is thin, where it is asked for.
-fn is_quick(thin: bool, lows: &[u16], highs: &[u16], f: NodeNo) -> bool
-    requires { ⌜ SomeTable (now lows) (now highs) (f .0) ⌝ }
-{
-    if thin {
-        return thin::is_thin(lows, highs, f);
-    }
-    false
-}
-
-// The operation on the nodes f and g, where `word` has f's variables and `touching` those that the cofactor is by: f itself, at once, where
-// none is in both. Where g is thin a thin f has no use for the memo.
+// The operation on the nodes f and g, where `word` has f's variables and `touching` those that the cofactor sets: f itself, at once, where
+// none is in both. What is thin has no use for the memo.
 fn apply_touching(
     vars: &mut [u8],
     lows: &mut [u16],
@@ -49,7 +38,6 @@ fn apply_touching(
     g: NodeNo,
     word: u64,
     touching: u64,
-    thin: bool,
 ) -> Placed
     requires { ⌜ (
         let before = tableOf (now vars) (now lows) (now highs) (now heads) (now links) count in
@@ -71,8 +59,20 @@ fn apply_touching(
             count,
         };
     }
-    if is_quick(thin, lows, highs, f) {
-        return thin::apply_thin(vars, lows, highs, heads, links, count, op, f, g);
+    let tried = thin::apply_thin(
+        vars,
+        lows,
+        highs,
+        heads,
+        links,
+        count,
+        op,
+        f,
+        g,
+        word & touching,
+    );
+    if !tried.wide {
+        return tried.placed;
     }
     memo::clear_forgetful(memo);
     operate::apply_sharing(
@@ -112,8 +112,8 @@ fn member_by(
     count: usize,
     op: Operation,
     g: NodeNo,
+    gained: u64,
     touching: u64,
-    thin: bool,
     i: usize,
 ) -> Replaced
     requires { ⌜ (
@@ -126,7 +126,7 @@ fn member_by(
     ensures { λ r. ⌜ (
         let before = tableOf (now (vars .entry)) (now (lows .entry)) (now (highs .entry)) (now (heads .entry)) (now (links .entry)) count in
         let after = tableOf (now (vars .exit)) (now (lows .exit)) (now (highs .exit)) (now (heads .exit)) (now (links .exit)) (r .count) in
-        OneMade op before (now (list .entry)) (now (words .entry)) (g .0) touching i r after (now (list .exit)) (now (words .exit))) ⌝ }
+        OneMade op before (now (list .entry)) (now (words .entry)) (g .0) gained i r after (now (list .exit)) (now (words .exit))) ⌝ }
     ensures { λ r. ⌜ (
         let after = tableOf (now (vars .exit)) (now (lows .exit)) (now (highs .exit)) (now (heads .exit)) (now (links .exit)) (r .count) in
         MemoRight op (now (memo .exit)) after) ⌝ }
@@ -146,7 +146,6 @@ fn member_by(
         g,
         word,
         touching,
-        thin,
     );
     let k = p.node;
     if p.full || k.0 == f.0 {
@@ -158,7 +157,7 @@ fn member_by(
         };
     }
     list[i] = k.0;
-    words[i] = word | touching;
+    words[i] = word | gained;
     Replaced {
         full: false,
         node: k,
@@ -168,7 +167,8 @@ fn member_by(
 }
 
 // Replaces each listed node, in order, by the operation's result on it and g, or stops at `full`. One memo, cleared, serves all. The words
-// have the listed nodes' variables, and still do after it; a node that has none of the operation's is passed over.
+// have the listed nodes' variables, and still do after it, where `gained` has those of g; a node that has none of `touching`, which the
+// operation sets, is passed over.
 pub fn all_by(
     vars: &mut [u8],
     lows: &mut [u16],
@@ -181,6 +181,7 @@ pub fn all_by(
     count: usize,
     op: Operation,
     g: NodeNo,
+    gained: u64,
     touching: u64,
 ) -> Made
     requires { ⌜ (
@@ -190,7 +191,8 @@ pub fn all_by(
         let before = tableOf (now vars) (now lows) (now highs) (now heads) (now links) count in
         (length (now words) ≡ length (now list))
         × Supports (nodesOf before) (now list) (now words)
-        × Touches op (diagramAt (nodesOf before) (g .0)) touching) ⌝ }
+        × Touches op (diagramAt (nodesOf before) (g .0)) touching
+        × Support gained (diagramAt (nodesOf before) (g .0))) ⌝ }
     ensures { λ r. ⌜ (
         let before = tableOf (now (vars .entry)) (now (lows .entry)) (now (highs .entry)) (now (heads .entry)) (now (links .entry)) count in
         let after = tableOf (now (vars .exit)) (now (lows .exit)) (now (highs .exit)) (now (heads .exit)) (now (links .exit)) (r .count) in
@@ -205,7 +207,6 @@ pub fn all_by(
         r .written ≡ differing (diagramsOf (nodesOf before) (now (list .entry))) (results op before (now (list .entry)) (g .0))) ⌝ }
 {
     memo::clear_memo(memo);
-    let thin = thin::is_thin(lows, highs, g);
     let mut n = count;
     let mut written: usize = 0;
     let mut i: usize = 0;
@@ -225,8 +226,8 @@ pub fn all_by(
                 n,
                 op,
                 g,
+                gained,
                 touching,
-                thin,
                 i,
             );
             n = r.count;

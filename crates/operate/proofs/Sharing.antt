@@ -1,5 +1,5 @@
--- What two nodes share: a cofactor of f by what has no variable from f's on is f, a word of what two nodes share is one of what their sides
--- do, and the word of all variables is one for any two. The idea: Uses goes down to both sides. Assumes nothing.
+-- What f has of the variables that g forces: a cofactor of f by what forces none of them from f's first on is f, a word of them is one for
+-- the sides of f and g, and the word of all variables is one for any two. The idea: Uses and Forces go down to both sides. Assumes nothing.
 use mathlib.Core.Path.{_≡_, refl, sym, _∙_, subst}
 use mathlib.Core.Bool.{Bool, true, false}
 use Prim.Native.Nat.{ℕ, _≤_, _<_}
@@ -9,11 +9,11 @@ use lib.Bits.{bitOr}
 use borrow.Author.Tests.{le-ltb}
 use Rattle.meaning.specs.Diagram.{Diagram, Reduced}
 use Rattle.meaning.specs.Words.{inWord}
-use Rattle.meaning.specs.Uses.{Uses}
+use Rattle.meaning.specs.Uses.{Uses, Forces}
 use Rattle.meaning.proofs.Booleans.{t≢f, not-true, or-neither}
 use Rattle.meaning.proofs.Canonical.{side}
 use Rattle.meaning.proofs.Words.{in-or}
-use Rattle.meaning.proofs.Uses.{uses-side, uses-reduced, literals-before, cofactor-before}
+use Rattle.meaning.proofs.Uses.{uses-side, uses-reduced, uses-forces, forces-side, literals-before, cofactor-before}
 use Rattle.words.specs.declared.Literals as words
 use Rattle.words.specs.Sets.{allWord, endsBefore}
 use Rattle.words.proofs.Variables.{in-all, none-from}
@@ -43,7 +43,7 @@ sharing-same shared f g a b e q s = record {
   first = s .first;
   second = s .second;
   first-uses = subst (Uses (s .first)) e (s .first-uses);
-  second-uses = subst (Uses (s .second)) q (s .second-uses);
+  second-forces = subst (Forces (s .second)) q (s .second-forces);
   common = s .common;
 }
 
@@ -52,7 +52,7 @@ sharing-side shared x which f g s = record {
   first = s .first;
   second = s .second;
   first-uses = uses-side (s .first) x which f (s .first-uses);
-  second-uses = uses-side (s .second) x which g (s .second-uses);
+  second-forces = forces-side (s .second) x which g (s .second-forces);
   common = s .common;
 }
 
@@ -94,7 +94,7 @@ module _ (t : Table) (G : Good t) (f g : ℕ) (f-inside : f < t .count) (g-insid
     first = inWord (allWord 64);
     second = λ v. true;
     first-uses = uses-reduced (inWord (allWord 64)) 65 1 F (level-reduced t G f f-inside 1 (level-least t G f f-inside)) (λ v p q. in-all 64 v p (omega arith));
-    second-uses = uses-reduced (λ v. true) 65 1 E E-reduced (λ v p q. refl);
+    second-forces = uses-forces (λ v. true) E (uses-reduced (λ v. true) 65 1 E E-reduced (λ v p q. refl));
     common = λ v p q. p;
   }
   all-shared (Literals p n) = tt
@@ -128,7 +128,7 @@ module _ (t : Table) (G : Good t) (f g : ℕ) (f-inside : f < t .count) (g-insid
       by-diagram allowed s =
           right Cofactor
           (cofactor-before 64 x (s .first) (s .second) (λ v p q. not-true (s .second v) (λ r. t≢f (sym (s .common v q r) ∙ none v p .0)))
-          F E (variable-fits .0) F-reduced E-reduced (λ z. allowed (zero-is t G g g-inside z)) (s .first-uses) (s .second-uses))
+          F E (variable-fits .0) F-reduced E-reduced (λ z. allowed (zero-is t G g g-inside z)) (s .first-uses) (s .second-forces))
 
       by-literals : Right (Literals (by .positive) (by .negative)) t f g f
       unfolding result

@@ -16,7 +16,8 @@ use Rattle.meaning.proofs.Pointwise.{negation-reduced}
 use Rattle.meaning.proofs.PointwiseSteps.{negation-node, conjunction-branch, literals-high, literals-low, literals-branch}
 use Rattle.meaning.proofs.CofactorSteps.{cofactor-one, cofactor-both}
 use Rattle.table.specs.declared.NodeNo.{NodeNo}
-use Rattle.table.specs.Indexed.{Table, Good}
+use Rattle.table.specs.Nodes.{diagramAt}
+use Rattle.table.specs.Indexed.{Table, nodesOf, Good}
 use Rattle.table.proofs.Outcomes.{placeIn}
 use Rattle.operate.specs.declared.Operation.{Operation}
 use Rattle.operate.specs.declared.Operation.the-variants.{Conjunction, Negation, Cofactor, Literals}
@@ -170,6 +171,7 @@ pub record OneLeft (op : Operation) (memo : List ℕ) (t : Table) (f g a b : ℕ
   pub side-of : SideOf t f g a b
   pub most : top (t .vars) f g ≤ 64
   pub after : top (t .vars) f g < top (t .vars) a b
+  pub same : result op (diagramAt (nodesOf t) f) (diagramAt (nodesOf t) g) ≡ result op (diagramAt (nodesOf t) a) (diagramAt (nodesOf t) b)
   pub is : applied t op a b ≡ applied t op f g
 
 -- Both sides are.
@@ -178,6 +180,10 @@ pub record BothLeft (op : Operation) (memo : List ℕ) (t : Table) (f g : ℕ) (
   pub low-of : SideOf t f g (s .f0 .0) (s .g0 .0)
   pub high-of : SideOf t f g (s .f1 .0) (s .g1 .0)
   pub variable : s .x ≡ top (t .vars) f g
+  pub over : result op (diagramAt (nodesOf t) f) (diagramAt (nodesOf t) g)
+      ≡ branch (s .x)
+      (result op (diagramAt (nodesOf t) (s .f0 .0)) (diagramAt (nodesOf t) (s .g0 .0)))
+      (result op (diagramAt (nodesOf t) (s .f1 .0)) (diagramAt (nodesOf t) (s .g1 .0)))
   pub is : joinedOf t op s ≡ applied t op f g
 
 module _ (op : Operation) (memo : List ℕ) (t : Table) (f g : ℕ) (R : Ready op memo t f g) (two : 2 ≤ f) where
@@ -233,6 +239,7 @@ module _ (op : Operation) (memo : List ℕ) (t : Table) (f g : ℕ) (R : Ready o
             side-of = own-side c;
             most = top-most t (R .good) f g (R .f-inside) (R .g-inside) two;
             after = after t (R .good) f g (R .f-inside) (R .g-inside) two c;
+            same = r;
             is = ap (placeIn t) (sym r);
           }))
       go (both p q r) = let w : Both (sides t f g) ≡ One a b = sym p ∙ e in let z : _≡_ {A = ℕ} 0 1 = cc in absurd (omega arith)
@@ -263,5 +270,6 @@ module _ (op : Operation) (memo : List ℕ) (t : Table) (f g : ℕ) (R : Ready o
             low-of = own-side false;
             high-of = own-side true;
             variable = refl;
+            over = r;
             is = ap (placeIn t) (sym r);
           })

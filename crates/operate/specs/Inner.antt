@@ -7,7 +7,7 @@ use lib.ListN.{getD}
 use lib.Dec.{eqb, ltb}
 use lib.Bits.{bitOr}
 use Rattle.meaning.specs.Diagram.{Diagram, branch}
-use Rattle.meaning.specs.Uses.{Uses}
+use Rattle.meaning.specs.Uses.{Uses, Forces}
 use Rattle.table.specs.declared.Found.{Found}
 use Rattle.table.specs.declared.Found.the-variants.{At, Nothing}
 use Rattle.table.specs.Nodes.{diagramAt, place}
@@ -51,7 +51,7 @@ kindOf Negation = Not
 kindOf Cofactor = ByDiagram
 kindOf (Literals p n) = ByLiterals
 
--- The literals; for a cofactor by a diagram, as positive, the variables that the two diagrams may share.
+-- The literals; for a cofactor by a diagram, as positive, what f may have of the variables that g forces.
 abbrev pub byOf : Operation → ℕ → words.Literals
 byOf Conjunction shared = noLiterals
 byOf Negation shared = noLiterals
@@ -114,14 +114,14 @@ beyond Not by v = false
 beyond ByDiagram by v = endsBefore (bitOr (by .positive) (by .negative)) v
 beyond ByLiterals by v = endsBefore (bitOr (by .positive) (by .negative)) v
 
--- ---- what two diagrams share
+-- ---- what a diagram has of the variables that another forces
 
--- The diagrams' variables are in two sets, and the word has what is in both.
+-- The variables of f and those that g forces are in two sets, and the word has what is in both.
 pub record Sharing (shared : ℕ) (f g : Diagram) : Type 0 where
   pub first : ℕ → Bool
   pub second : ℕ → Bool
   pub first-uses : Uses first f
-  pub second-uses : Uses second g
+  pub second-forces : Forces second g
   pub common : (v : ℕ) → first v ≡ true → second v ≡ true → inWord shared v ≡ true
 
 -- What a cofactor by a diagram is told of its operands; the other operations are told nothing.

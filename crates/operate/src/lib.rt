@@ -59,7 +59,8 @@ pub fn apply(
     )
 }
 
-// As `apply`, for who knows a word of all variables that f and g share. A cofactor by a diagram goes no deeper than the last of them.
+// As `apply`, for who knows a word of what f has of the variables that g forces (`shared`). A cofactor by a diagram goes no deeper than the
+// last of them.
 pub fn apply_sharing(
     vars: &mut [u8],
     lows: &mut [u16],

@@ -43,7 +43,7 @@ pub fn kind_of(op: Operation) -> Kind
     }
 }
 
-// What a cofactor is by: its literals; for one by a diagram the variables that f and g may share, as `positive`. None for another
+// What a cofactor sets: its literals; by a diagram, as `positive`, what f may have of the variables that g forces. None for another
 // operation.
 pub fn by_of(op: Operation, shared: u64) -> Literals
     ensures { λ r. ⌜ r ≡ byOf op shared ⌝ }

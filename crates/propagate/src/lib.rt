@@ -129,6 +129,7 @@ fn round(
         positive: u.positive,
         negative: u.negative,
     };
+    // Node 1 has no variables that a member could gain.
     members::all_by(
         vars,
         lows,
@@ -141,6 +142,7 @@ fn round(
         count,
         op,
         NodeNo(1),
+        0,
         u.positive | u.negative,
     )
 }

@@ -1,1 +1,2 @@
+pub mod ForcedWords
 pub mod Words

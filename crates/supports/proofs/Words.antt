@@ -1,7 +1,7 @@
 -- The words of a node's variables, from its sides' and in the memo. Assumes nothing.
 use mathlib.Core.Path.{_≡_, refl, sym, _∙_, subst}
 use mathlib.Core.Logic.{_≢_}
-use mathlib.Core.Bool.{true}
+use mathlib.Core.Bool.{Bool, true, false}
 use mathlib.Core.List.{List}
 use Prim.Native.Nat.{ℕ, _+_, _-_, _^_, _≤_, _<_}
 use native.Mathlib.Omega.{arith}
@@ -9,7 +9,7 @@ use native.Mathlib.Decide.{ℕ-discrete}
 use lib.ListN.{length, getD, set, length-set}
 use lib.Seq.{getD-set-same, getD-set-other}
 use lib.Bits.{bitOr}
-use Rattle.meaning.specs.Diagram.{Diagram, node}
+use Rattle.meaning.specs.Diagram.{Diagram, leaf, node}
 use Rattle.meaning.specs.Words.{inWord}
 use Rattle.meaning.specs.Uses.{Uses}
 use Rattle.meaning.proofs.Booleans.{or-left, or-right, eq-eqb}
@@ -20,7 +20,7 @@ use Rattle.walks.proofs.Here.{here, node-in, ordered-in, length-in}
 use Rattle.walks.proofs.Memo.{stored}
 use Rattle.meaning.proofs.Words.{in-or, in-bit}
 use Rattle.meaning.proofs.Uses.{uses-more}
-use Rattle.supports.specs.Supports.{Support, Supports, SupportMemo}
+use Rattle.supports.specs.Supports.{Support, Supports, WordMemo, SupportMemo}
 
 -- ---- one word or the other
 
@@ -41,13 +41,17 @@ module _ (a b : ℕ) where
 
 -- ---- a node
 
+-- what holds of both constants holds of the nodes 0 and 1
+pub at-leaf : (P : Diagram → Type 0) → ((b : Bool) → P (leaf b)) → (t : List Node) (k : ℕ) → k < 2 → P (diagramAt t k)
+at-leaf P all t k p = go (ℕ-discrete k 0)
+  where
+    go : Dec (k ≡ 0) → P (diagramAt t k)
+    go (yes e) = rw (e, diagramAt-zero t) (all false)
+    go (no n) = let e : k ≡ 1 = omega arith in rw (e, diagramAt-one t) (all true)
+
 pub support-leaf : (t : List Node) (k word : ℕ) → k < 2 → Support word (diagramAt t k)
 unfolding Support
-support-leaf t k word p = go (ℕ-discrete k 0)
-  where
-    go : Dec (k ≡ 0) → Support word (diagramAt t k)
-    go (yes e) = rw (e, diagramAt-zero t) tt
-    go (no n) = let e : k ≡ 1 = omega arith in rw (e, diagramAt-one t) tt
+support-leaf t k word p = at-leaf (Support word) (λ b. tt) t k p
 
 module _ (vs ls hs : List ℕ) (count : ℕ) (R : Readable vs ls hs count) (k : ℕ) (two : 2 ≤ k) (inside : k < count) where
   abbrev t : List Node
@@ -56,7 +60,7 @@ module _ (vs ls hs : List ℕ) (count : ℕ) (R : Readable vs ls hs count) (k : 
   abbrev w : ℕ
   w = getD vs k 0
 
-  is-node : diagramAt t k ≡ node w (diagramAt t (getD ls k 0)) (diagramAt t (getD hs k 0))
+  pub is-node : diagramAt t k ≡ node w (diagramAt t (getD ls k 0)) (diagramAt t (getD hs k 0))
   is-node = rw (node-in vs ls hs count R k inside) at (diagramAt-node t (ordered-in vs ls hs count R) k two (omega (arith, length-in vs ls hs count R)))
 
   pub support-node : (a b : ℕ) → Support a (diagramAt t (getD ls k 0)) → Support b (diagramAt t (getD hs k 0)) → Support (bitOr (bitOr a b) (2 ^ (w - 1))) (diagramAt t k)
@@ -71,20 +75,21 @@ module _ (vs ls hs : List ℕ) (count : ℕ) (R : Readable vs ls hs count) (k : 
       least : 1 ≤ w
       least = here vs ls hs count R k two inside .least
 
--- ---- the memo
+-- ---- the memo of words that have P with their nodes' diagrams
 
-pub memo-cleared : (t : List Node) (memo : List ℕ) (count : ℕ) → length t ≡ count → Cleared count memo → SupportMemo memo t
-unfolding SupportMemo
-memo-cleared t memo count len zero i p ne = absurd (ne (zero i (omega arith)))
+module _ (P : ℕ → Diagram → Type 0) (t : List Node) (memo : List ℕ) where
+  pub memo-cleared : (count : ℕ) → length t ≡ count → Cleared count memo → WordMemo P memo t
+  unfolding WordMemo
+  memo-cleared count len zero i p ne = absurd (ne (zero i (omega arith)))
 
-pub memo-known : (t : List Node) (memo : List ℕ) (k : ℕ) → k < length t → SupportMemo memo t → getD memo k 0 ≢ 0 → Support (getD memo k 0) (diagramAt t k)
-unfolding SupportMemo
-memo-known t memo k p M ne = M k p ne
+  pub memo-known : (k : ℕ) → k < length t → WordMemo P memo t → getD memo k 0 ≢ 0 → P (getD memo k 0) (diagramAt t k)
+  unfolding WordMemo
+  memo-known k p M ne = M k p ne
 
-pub memo-stored : (t : List Node) (memo : List ℕ) (k word : ℕ) → k < length memo → SupportMemo memo t → Support word (diagramAt t k) → SupportMemo (set memo k word) t
-unfolding SupportMemo
-memo-stored t memo k word inside M new =
-    stored (λ (i e : ℕ). i < length t → e ≢ 0 → Support e (diagramAt t i)) memo k word inside (λ p ne. new) (λ i n. M i)
+  pub memo-stored : (k word : ℕ) → k < length memo → WordMemo P memo t → P word (diagramAt t k) → WordMemo P (set memo k word) t
+  unfolding WordMemo
+  memo-stored k word inside M new =
+      stored (λ (i e : ℕ). i < length t → e ≢ 0 → P e (diagramAt t i)) memo k word inside (λ p ne. new) (λ i n. M i)
 
 -- ---- all nodes
 
@@ -100,7 +105,7 @@ known-next t memo k word inside K new =
     stored (λ (i e : ℕ). i < k + 1 → Support e (diagramAt t i)) memo k word inside (λ p. new) (λ i n p. K i (omega (arith, n)))
 
 pub known-all : (t : List Node) (memo : List ℕ) (k : ℕ) → length t ≤ k → Known t memo k → SupportMemo memo t
-unfolding SupportMemo
+unfolding WordMemo
 known-all t memo k all K i p ne = K i (omega arith)
 
 -- ---- a list

@@ -1,4 +1,6 @@
 // The variables of a node's diagram, as a word.
+pub mod forced;
+
 use table::NodeNo;
 ghost use mathlib.Core.Path.{_≡_};
 ghost use Prim.Native.Nat.{_-_, _<_};

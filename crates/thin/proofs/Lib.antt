@@ -1,1 +1,4 @@
+pub mod Building
 pub mod Passing
+pub mod Stepping
+pub mod Descending

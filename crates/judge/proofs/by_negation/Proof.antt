@@ -1,5 +1,6 @@
 -- `by_negation` makes not-g and the members by it, in that order. Each place of the code is one law of Negations. Assumes nothing.
 use mathlib.Core.Path.{_≡_, sym, _∙_, subst}
+use mathlib.Core.Bool.{false}
 use mathlib.Core.List.{List}
 use Prim.Native.Nat.{ℕ, _<_}
 use lib.ListN.{length}
@@ -10,8 +11,9 @@ use Rattle.operate.specs.declared.Operation.the-variants.{Negation, Cofactor}
 use Rattle.operate.specs.Inner.{applied, Allowed}
 use Rattle.operate.proofs.RightMemo.{empty-right}
 use Rattle.meaning.proofs.Booleans.{t≢f}
-use Rattle.supports.specs.Supports.{Supports}
+use Rattle.supports.specs.Supports.{Support, Supports}
 use Rattle.walks.specs.Readable.{ListReady}
+use Rattle.walks.proofs.Here.{good-readable}
 use Rattle.members.specs.Made.{results, AllMade}
 use Rattle.members.specs.Touching.{Touches}
 use Rattle.judge.proofs.Negations.{negation-ready, negation-full, cofactors-ready, negation-words, cofactors-made}
@@ -61,6 +63,10 @@ module _ (c : tie.After-slice-known17) where
   abbrev apply-from-slice-known17 : tie.After-apply
   apply-from-slice-known17 = c .before .before .before .before .before .before .before .before .before .before .before .before
 
+module _ (c : tie.Else1) where
+  abbrev apply-from-else1 : tie.After-apply
+  apply-from-else1 = apply-from-slice-known17 (c .before)
+
 module _ (c : tie.Then1) where
   abbrev apply-from-then1 : tie.After-apply
   apply-from-then1 = apply-from-slice-known17 (c .before)
@@ -74,12 +80,22 @@ module _ (c : tie.Then1) where
   abbrev copy-from-then1 : tie.After-copy
   copy-from-then1 = copy-from-copy-words copy-words-from-then1
 
+module _ (c : tie.After-forced-of-arg4) where
+  abbrev else1-from-forced-of-call : tie.Else1
+  else1-from-forced-of-call = c .before .before .before .before
+
+  abbrev apply-from-forced-of-call : tie.After-apply
+  apply-from-forced-of-call = apply-from-else1 else1-from-forced-of-call
+
 module _ (c : tie.After-all-by-arg8) where
+  abbrev forced-of-from-all-by-call : tie.After-forced-of
+  forced-of-from-all-by-call = c .before .before .before .before .before .before .before .before .before .before
+
   abbrev else1-from-all-by-call : tie.Else1
-  else1-from-all-by-call = c .before .before .before .before .before .before .before .before
+  else1-from-all-by-call = else1-from-forced-of-call (forced-of-from-all-by-call .before)
 
   abbrev apply-from-all-by-call : tie.After-apply
-  apply-from-all-by-call = apply-from-slice-known17 (else1-from-all-by-call .before)
+  apply-from-all-by-call = apply-from-else1 else1-from-all-by-call
 
   abbrev copy-words-from-all-by-call : tie.After-copy-words
   copy-words-from-all-by-call = copy-words-from-clear-memo (clear-memo-from-apply-call (apply-from-all-by-call .before))
@@ -87,16 +103,19 @@ module _ (c : tie.After-all-by-arg8) where
   abbrev copy-from-all-by-call : tie.After-copy
   copy-from-all-by-call = copy-from-copy-words copy-words-from-all-by-call
 
-module _ (c : tie.After-slice-known25) where
+module _ (c : tie.After-slice-known26) where
   abbrev all-by-from-return-2 : tie.After-all-by
   all-by-from-return-2 = c .before .before .before .before .before .before .before .before .before .before .before .before .before .before
       .before .before
 
+  abbrev forced-of-from-return-2 : tie.After-forced-of
+  forced-of-from-return-2 = forced-of-from-all-by-call (all-by-from-return-2 .before)
+
   abbrev else1-from-return-2 : tie.Else1
-  else1-from-return-2 = else1-from-all-by-call (all-by-from-return-2 .before)
+  else1-from-return-2 = else1-from-forced-of-call (forced-of-from-return-2 .before)
 
   abbrev apply-from-return-2 : tie.After-apply
-  apply-from-return-2 = apply-from-slice-known17 (else1-from-return-2 .before)
+  apply-from-return-2 = apply-from-else1 else1-from-return-2
 
   abbrev clear-memo-from-return-2 : tie.After-clear-memo
   clear-memo-from-return-2 = clear-memo-from-apply apply-from-return-2
@@ -123,6 +142,16 @@ module _ (a : tie.After-apply) where
 
   memo-length : length memo₁ ≡ length (start .args .memo .now)
   memo-length = a .apply .kept .1 .1 .1 .1 .1 .0 ∙ clear-memo-from-apply a .clear-memo .kept .0
+
+  -- the members and their words, with g's for not-g
+  module _ (e : made .full ≡ false) where
+    members-ready : ListReady (made .table) (start .args .members .now) memo₁ × (made .node < made .table .count) × Allowed Cofactor (made .node)
+    members-ready = cofactors-ready (before start) (start .args .members .now) (start .args .memo .now) (start .args .g .0) (start .pre .0 .0) made made-is e memo₁ memo-length
+
+    worded : (length (start .args .memberwords .now) ≡ length (start .args .members .now))
+        × Supports (nodesOf (made .table)) (start .args .members .now) (start .args .memberwords .now)
+        × Support (start .args .word) (diagramAt (nodesOf (made .table)) (made .node))
+    worded = negation-words (before start) (start .args .members .now) (start .args .memo .now) (start .args .g .0) (start .pre .0 .0) made made-is e (start .args .memberwords .now) (start .args .word) (start .pre .1 .0)
 
 copy-requires : tie.Need-copy-requires
 copy-requires c κs =
@@ -180,15 +209,30 @@ returns c =
     let s = start a in
     (negation-full (before s) (s .args .members .now) (s .args .memo .now) (s .args .g .0) (s .pre .0 .0) (made a) (made-is a) (c .if1 .taken) (copy-from-then1 c .copy .last .1 .0), λ z. t≢f z)
 
+forced-of-requires : tie.Need-forced-of-requires
+unfolding nodesOf
+forced-of-requires c κs =
+    let a = apply-from-forced-of-call c in
+    let e = else1-from-forced-of-call c .if1 .left in
+    let R = members-ready a e in
+    (good-readable (made a .table) (R .0 .good), R .1, R .0 .room, worded a e .2)
+
 all-by-requires : tie.Need-all-by-requires
+unfolding nodesOf
 all-by-requires c κs =
     let a = apply-from-all-by-call c in
     let s = start a in
-    let e = else1-from-all-by-call c .if1 .left in (
-      subst (λ l. ListReady (made a .table) l (memo₁ a) × (made a .node < made a .table .count) × Allowed Cofactor (made a .node)) (sym (copy-from-all-by-call c .copy .ensures)) (cofactors-ready (before s) (s .args .members .now) (s .args .memo .now) (s .args .g .0) (s .pre .0 .0) (made a) (made-is a) e (memo₁ a) (memo-length a)),
-      subst (λ l. (length (copy-words-from-all-by-call c .copy-words .last .1 .0) ≡ length l) × Supports (nodesOf (made a .table)) l (copy-words-from-all-by-call c .copy-words .last .1 .0) × Touches Cofactor (diagramAt (nodesOf (made a .table)) (made a .node)) (s .args .word)) (sym (copy-from-all-by-call c .copy .ensures))
-          (subst (λ w. (length w ≡ length (s .args .members .now)) × Supports (nodesOf (made a .table)) (s .args .members .now) w × Touches Cofactor (diagramAt (nodesOf (made a .table)) (made a .node)) (s .args .word)) (sym (copy-words-from-all-by-call c .copy-words .ensures))
-          (negation-words (before s) (s .args .members .now) (s .args .memo .now) (s .args .g .0) (s .pre .0 .0) (made a) (made-is a) e (s .args .memberwords .now) (s .args .word) (s .pre .1 .0))),
+    let e = else1-from-all-by-call c .if1 .left in
+    let y = forced-of-from-all-by-call c .forced-of in
+    let words = copy-words-from-all-by-call c .copy-words .last .1 .0 in
+    let R = members-ready a e in
+    let W = worded a e in
+    let D = diagramAt (nodesOf (made a .table)) (made a .node) in (
+      subst (λ l. ListReady (made a .table) l (y .last .1 .1 .1 .0) × (made a .node < made a .table .count) × Allowed Cofactor (made a .node)) (sym (copy-from-all-by-call c .copy .ensures))
+          (record { good = R .0 .good; inside = R .0 .inside; room = omega (arith, R .0 .room, y .kept .1 .1 .1 .0) }, R .1, R .2),
+      subst (λ l. (length words ≡ length l) × Supports (nodesOf (made a .table)) l words × Touches Cofactor D (y .result) × Support (s .args .word) D) (sym (copy-from-all-by-call c .copy .ensures))
+          (subst (λ w. (length w ≡ length (s .args .members .now)) × Supports (nodesOf (made a .table)) (s .args .members .now) w × Touches Cofactor D (y .result) × Support (s .args .word) D) (sym (copy-words-from-all-by-call c .copy-words .ensures))
+          (W .0, W .1, y .ensures, W .2)),
     )
 
 same-length-9 : tie.Need-same-length-9
@@ -213,7 +257,7 @@ same-length-13 c =
 
 same-length-14 : tie.Need-same-length-14
 same-length-14 c =
-    all-by-from-return-2 c .all-by .kept .1 .1 .1 .1 .1 .0 ∙ apply-from-return-2 c .apply .kept .1 .1 .1 .1 .1 .0 ∙ clear-memo-from-return-2 c .clear-memo .kept .0
+    all-by-from-return-2 c .all-by .kept .1 .1 .1 .1 .1 .0 ∙ forced-of-from-return-2 c .forced-of .kept .1 .1 .1 .0 ∙ apply-from-return-2 c .apply .kept .1 .1 .1 .1 .1 .0 ∙ clear-memo-from-return-2 c .clear-memo .kept .0
 
 same-length-15 : tie.Need-same-length-15
 same-length-15 c =
@@ -250,6 +294,7 @@ by-negation-spec =
     same-length-7
     same-length-8
     returns
+    forced-of-requires
     all-by-requires
     same-length-9
     same-length-10

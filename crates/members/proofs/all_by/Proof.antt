@@ -8,7 +8,6 @@ use Rattle.meaning.proofs.Booleans.{t≢f}
 use Rattle.table.specs.Indexed.{Table, Outcome, tableOf, nodesOf}
 use Rattle.table.specs.Lists.{diagramsOf}
 use Rattle.operate.proofs.RightMemo.{empty-right}
-use Rattle.thin.proofs.Passing.{some-table}
 use Rattle.members.specs.Made.{results}
 use Rattle.members.proofs.Counting.{counting-none}
 use Rattle.members.proofs.Rewording.{rewording-none, rewording-all}
@@ -18,13 +17,13 @@ use Rattle.members.proofs.all_by.Statement.{statement}
 use Rattle.members.proofs.all_by.Tie as tie
 
 abbrev Inv-loop : tie.InvT-loop
-Inv-loop vars₀ lows₀ highs₀ heads₀ links₀ memo₀ list₀ words₀ count op g touching thin n₀ written₀ i₀ vars lows highs heads links memo list words n written i =
+Inv-loop vars₀ lows₀ highs₀ heads₀ links₀ memo₀ list₀ words₀ count op g gained touching n₀ written₀ i₀ vars lows highs heads links memo list words n written i =
     Making op (g .0) touching (tableOf vars₀ lows₀ highs₀ heads₀ links₀ count) list₀ words₀ (tableOf vars lows highs heads links n) list words memo i written
     × (length vars ≡ length vars₀) × (length lows ≡ length lows₀) × (length highs ≡ length highs₀) × (length heads ≡ length heads₀) × (length links ≡ length links₀)
     × (length memo ≡ length memo₀)
 
 abbrev μ-loop : tie.MeasureT-loop
-μ-loop vars₀ lows₀ highs₀ heads₀ links₀ memo₀ list₀ words₀ count op g touching thin n₀ written₀ i₀ vars lows highs heads links memo list words n written i =
+μ-loop vars₀ lows₀ highs₀ heads₀ links₀ memo₀ list₀ words₀ count op g gained touching n₀ written₀ i₀ vars lows highs heads links memo list words n written i =
     length list₀ - i
 
 abbrev entry : tie.Start Inv-loop μ-loop → Table
@@ -51,30 +50,23 @@ module _ (c : tie.After-clear-memo Inv-loop μ-loop) where
   abbrev start-from-clear-memo : tie.Start Inv-loop μ-loop
   start-from-clear-memo = start-from-clear-memo-call (c .before)
 
-module _ (c : tie.After-is-thin-arg2 Inv-loop μ-loop) where
-  abbrev clear-memo-from-is-thin-call : tie.After-clear-memo Inv-loop μ-loop
-  clear-memo-from-is-thin-call = c .before .before .before .before
-
-  abbrev start-from-is-thin-call : tie.Start Inv-loop μ-loop
-  start-from-is-thin-call = start-from-clear-memo clear-memo-from-is-thin-call
-
-module _ (c : tie.After-is-thin Inv-loop μ-loop) where
+module _ (c : tie.After-slice-known9 Inv-loop μ-loop) where
   abbrev clear-memo-from-loop-holds : tie.After-clear-memo Inv-loop μ-loop
-  clear-memo-from-loop-holds = clear-memo-from-is-thin-call (c .before)
+  clear-memo-from-loop-holds = c .before .before
 
   abbrev start-from-loop-holds : tie.Start Inv-loop μ-loop
   start-from-loop-holds = start-from-clear-memo clear-memo-from-loop-holds
 
 module _ (c : tie.At-loop Inv-loop μ-loop) where
-  abbrev start-from-at-loop : tie.Start Inv-loop μ-loop
-  start-from-at-loop = start-from-is-thin-call (c .before .before)
+  abbrev clear-memo-from-at-loop : tie.After-clear-memo Inv-loop μ-loop
+  clear-memo-from-at-loop = c .before .before .before
 
 module _ (c : tie.After-loop Inv-loop μ-loop) where
   abbrev at-loop-from-return-2 : tie.At-loop Inv-loop μ-loop
   at-loop-from-return-2 = c .before
 
   abbrev start-from-return-2 : tie.Start Inv-loop μ-loop
-  start-from-return-2 = start-from-at-loop at-loop-from-return-2
+  start-from-return-2 = start-from-clear-memo (clear-memo-from-at-loop at-loop-from-return-2)
 
 module _ (c : tie.In-loop Inv-loop μ-loop) where
   abbrev at-loop-from-in-loop : tie.At-loop Inv-loop μ-loop
@@ -88,7 +80,7 @@ module _ (c : tie.After-slice-known10 Inv-loop μ-loop) where
   at-loop-from-slice-read-if1 = at-loop-from-in-loop in-loop-from-slice-read-if1
 
   abbrev start-from-slice-read-if1 : tie.Start Inv-loop μ-loop
-  start-from-slice-read-if1 = start-from-at-loop at-loop-from-slice-read-if1
+  start-from-slice-read-if1 = start-from-clear-memo (clear-memo-from-at-loop at-loop-from-slice-read-if1)
 
 module _ (c : tie.Then1 Inv-loop μ-loop) where
   abbrev in-loop-from-then1 : tie.In-loop Inv-loop μ-loop
@@ -98,7 +90,7 @@ module _ (c : tie.Then1 Inv-loop μ-loop) where
   at-loop-from-then1 = at-loop-from-in-loop in-loop-from-then1
 
   abbrev start-from-then1 : tie.Start Inv-loop μ-loop
-  start-from-then1 = start-from-at-loop at-loop-from-then1
+  start-from-then1 = start-from-clear-memo (clear-memo-from-at-loop at-loop-from-then1)
 
 module _ (c : tie.After-member-by-arg8 Inv-loop μ-loop) where
   abbrev in-loop-from-member-by-call : tie.In-loop Inv-loop μ-loop
@@ -108,7 +100,7 @@ module _ (c : tie.After-member-by-arg8 Inv-loop μ-loop) where
   at-loop-from-member-by-call = at-loop-from-in-loop in-loop-from-member-by-call
 
   abbrev start-from-member-by-call : tie.Start Inv-loop μ-loop
-  start-from-member-by-call = start-from-at-loop at-loop-from-member-by-call
+  start-from-member-by-call = start-from-clear-memo (clear-memo-from-at-loop at-loop-from-member-by-call)
 
 module _ (c : tie.After-member-by Inv-loop μ-loop) where
   abbrev in-loop-from-member-by : tie.In-loop Inv-loop μ-loop
@@ -136,7 +128,7 @@ module _ (c : tie.Else2 Inv-loop μ-loop) where
   at-loop-from-else2 = at-loop-from-in-loop in-loop-from-else2
 
   abbrev start-from-else2 : tie.Start Inv-loop μ-loop
-  start-from-else2 = start-from-at-loop at-loop-from-else2
+  start-from-else2 = start-from-clear-memo (clear-memo-from-at-loop at-loop-from-else2)
 
 module _ (c : tie.Then2 Inv-loop μ-loop) where
   abbrev member-by-from-then2 : tie.After-member-by Inv-loop μ-loop
@@ -149,7 +141,7 @@ module _ (c : tie.Then2 Inv-loop μ-loop) where
   at-loop-from-then2 = at-loop-from-in-loop in-loop-from-then2
 
   abbrev clear-memo-from-then2 : tie.After-clear-memo Inv-loop μ-loop
-  clear-memo-from-then2 = clear-memo-from-is-thin-call (at-loop-from-then2 .before .before)
+  clear-memo-from-then2 = clear-memo-from-at-loop at-loop-from-then2
 
   abbrev start-from-then2 : tie.Start Inv-loop μ-loop
   start-from-then2 = start-from-clear-memo clear-memo-from-then2
@@ -157,10 +149,6 @@ module _ (c : tie.Then2 Inv-loop μ-loop) where
 clear-memo-requires : tie.Need-clear-memo-requires Inv-loop μ-loop
 clear-memo-requires c κs =
     omega (arith, start-from-clear-memo-call c .pre .0 .0 .room)
-
-is-thin-requires : tie.Need-is-thin-requires Inv-loop μ-loop
-is-thin-requires c κs =
-    let s = start-from-is-thin-call c in some-table (entry s) (s .pre .0 .0 .good) (s .args .g .0) (s .pre .0 .1)
 
 loop-holds : tie.Need-loop-holds Inv-loop μ-loop
 loop-holds c =
@@ -210,7 +198,7 @@ loop-again c =
     let r = s .pre in
     let l = at-loop-from-then1 c in
     let w = l .loop in (
-      making-passed (a .op) (a .g .0) (a .touching) (entry s) (a .list .now) (a .words .now) (a .memo .now) (r .0 .0) (r .0 .1) (r .0 .2) (r .1 .0) (r .1 .2) (here l) (w .list) (w .words) (w .memo) (w .i) (w .written) (w .inv .0) (in-loop-from-then1 c .loop-test .taken) (c .if1 .taken),
+      making-passed (a .op) (a .g .0) (a .gained) (a .touching) (entry s) (a .list .now) (a .words .now) (a .memo .now) (r .0 .0) (r .0 .1) (r .0 .2) (r .1 .0) (r .1 .2) (r .1 .3) (here l) (w .list) (w .words) (w .memo) (w .i) (w .written) (w .inv .0) (in-loop-from-then1 c .loop-test .taken) (c .if1 .taken),
       w .inv .1,
       w .inv .2,
       w .inv .3,
@@ -229,9 +217,9 @@ member-by-requires c κs =
     let t = in-loop-from-member-by-call c .loop-test .taken in (
       t,
       omega (arith, w .inv .0 .rewords .lengths, w .inv .0 .members .members, r .1 .0, t),
-      ready (a .op) (a .g .0) (a .touching) (entry s) (a .list .now) (a .words .now) (a .memo .now) (r .0 .0) (r .0 .1) (r .0 .2) (r .1 .0) (r .1 .2) (here l) (w .list) (w .words) (w .memo) (w .i) (w .written) (w .inv .0) t,
-      has (a .op) (a .g .0) (a .touching) (entry s) (a .list .now) (a .words .now) (a .memo .now) (r .0 .0) (r .0 .1) (r .0 .2) (r .1 .0) (r .1 .2) (here l) (w .list) (w .words) (w .memo) (w .i) (w .written) (w .inv .0) t,
-      touches-here (a .op) (a .g .0) (a .touching) (entry s) (a .list .now) (a .words .now) (a .memo .now) (r .0 .0) (r .0 .1) (r .0 .2) (r .1 .0) (r .1 .2) (here l) (w .list) (w .words) (w .memo) (w .i) (w .written) (w .inv .0) t,
+      ready (a .op) (a .g .0) (a .gained) (a .touching) (entry s) (a .list .now) (a .words .now) (a .memo .now) (r .0 .0) (r .0 .1) (r .0 .2) (r .1 .0) (r .1 .2) (r .1 .3) (here l) (w .list) (w .words) (w .memo) (w .i) (w .written) (w .inv .0) t,
+      has (a .op) (a .g .0) (a .gained) (a .touching) (entry s) (a .list .now) (a .words .now) (a .memo .now) (r .0 .0) (r .0 .1) (r .0 .2) (r .1 .0) (r .1 .2) (r .1 .3) (here l) (w .list) (w .words) (w .memo) (w .i) (w .written) (w .inv .0) t,
+      touches-here (a .op) (a .g .0) (a .gained) (a .touching) (entry s) (a .list .now) (a .words .now) (a .memo .now) (r .0 .0) (r .0 .1) (r .0 .2) (r .1 .0) (r .1 .2) (r .1 .3) (here l) (w .list) (w .words) (w .memo) (w .i) (w .written) (w .inv .0) t,
     )
 
 add-written : tie.Need-add-written Inv-loop μ-loop
@@ -300,7 +288,7 @@ loop-again-2 c =
     let w = l .loop in
     let m = member-by-from-else2 c in
     let y = m .member-by in (
-      making-next (a .op) (a .g .0) (a .touching) (entry s) (a .list .now) (a .words .now) (a .memo .now) (r .0 .0) (r .0 .1) (r .0 .2) (r .1 .0) (r .1 .2) (here l) (w .list) (w .words) (w .memo) (w .i) (w .written) (w .inv .0) (in-loop-from-else2 c .loop-test .taken) (y .result) (made m .table) (y .last .1 .1 .1 .1 .1 .1 .0) (y .last .1 .1 .1 .1 .1 .1 .1 .0) (y .last .1 .1 .1 .1 .1 .0) (y .ensures .0) (c .if2 .left) (y .ensures .1),
+      making-next (a .op) (a .g .0) (a .gained) (a .touching) (entry s) (a .list .now) (a .words .now) (a .memo .now) (r .0 .0) (r .0 .1) (r .0 .2) (r .1 .0) (r .1 .2) (r .1 .3) (here l) (w .list) (w .words) (w .memo) (w .i) (w .written) (w .inv .0) (in-loop-from-else2 c .loop-test .taken) (y .result) (made m .table) (y .last .1 .1 .1 .1 .1 .1 .0) (y .last .1 .1 .1 .1 .1 .1 .1 .0) (y .last .1 .1 .1 .1 .1 .0) (y .ensures .0) (c .if2 .left) (y .ensures .1),
       y .kept .0 ∙ w .inv .1,
       y .kept .1 .0 ∙ w .inv .2,
       y .kept .1 .1 .0 ∙ w .inv .3,
@@ -366,7 +354,6 @@ all-by-spec =
     Inv-loop
     μ-loop
     clear-memo-requires
-    is-thin-requires
     loop-holds
     mul-if1
     slice-read-if1

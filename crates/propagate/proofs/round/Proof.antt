@@ -3,6 +3,7 @@ use mathlib.Core.Path.{refl}
 use native.Mathlib.Omega.{arith}
 use borrow.Author.Needs.{needs}
 use Rattle.table.specs.Indexed.{tableOf}
+use Rattle.supports.proofs.Words.{support-leaf}
 use Rattle.propagate.proofs.Rounds.{round-writes}
 use Rattle.propagate.proofs.round.Statement.{statement}
 use Rattle.propagate.proofs.round.Tie as tie
@@ -24,7 +25,7 @@ module _ (c : tie.After-slice-known16) where
 all-by-requires : tie.Need-all-by-requires
 all-by-requires c κs =
     let r = start-from-all-by-call c .pre in
-    ((r .0, omega (arith, r .0 .good .least), refl), (r .1, r .2, refl))
+    ((r .0, omega (arith, r .0 .good .least), refl), (r .1, r .2, refl, support-leaf _ 1 0 (omega arith)))
 
 same-length : tie.Need-same-length
 same-length c = search needs

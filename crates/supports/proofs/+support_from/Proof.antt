@@ -146,7 +146,7 @@ support-from-slice-read-known t c =
 
 support-from-returns-2 : (t : ℕ) → support-from-lts.Need-returns-2 (callees t) (support-from-at t) support-from.Post
 support-from-returns-2 t c =
-    let s = start-from-then2 c in (memo-known (nodes s) (s .args .memo .now) (s .args .f .0) (in-nodes s) (right s) (c .if2 .taken), right s)
+    let s = start-from-then2 c in (memo-known Support (nodes s) (s .args .memo .now) (s .args .f .0) (in-nodes s) (right s) (c .if2 .taken), right s)
 
 support-from-shared-slice-read-v : (t : ℕ) → support-from-lts.Need-shared-slice-read-v (callees t) (support-from-at t) support-from.Post
 support-from-shared-slice-read-v t c =
@@ -200,7 +200,7 @@ support-from-returns-3 t c =
     let is : Support (c .with-variable .result) (diagramAt (nodes s) (s .args .f .0)) =
     subst (λ (x : ℕ). Support x (diagramAt (nodes s) (s .args .f .0))) (sym (c .with-variable .ensures))
     (support-node (s .args .vars .now) (s .args .lows .now) (s .args .highs .now) (s .args .count) (readable s) (s .args .f .0) (two (else1-from-return-3 c)) (inside s) (k₁ .result) (k₂ .result) (k₁ .ensures .0) (k₂ .ensures .0)) in
-    (is, memo-stored (nodes s) (k₂ .last .1 .1 .1 .0) (s .args .f .0) (c .with-variable .result) (omega (arith, cell s, k₁ .kept .1 .1 .1 .0, k₂ .kept .1 .1 .1 .0)) (k₂ .ensures .1) is)
+    (is, memo-stored Support (nodes s) (k₂ .last .1 .1 .1 .0) (s .args .f .0) (c .with-variable .result) (omega (arith, cell s, k₁ .kept .1 .1 .1 .0, k₂ .kept .1 .1 .1 .0)) (k₂ .ensures .1) is)
 
 pub +support-from-spec : {M : Type 1} → statement M
 +support-from-spec = close μ-support-from λ t. support-from-lts.spec (callees t)

@@ -9,7 +9,7 @@ use borrow.Author.Needs.{needs}
 use Rattle.table.specs.Nodes.{Node}
 use Rattle.walks.specs.Readable.{nodesIn}
 use Rattle.walks.proofs.Here.{length-in}
-use Rattle.supports.specs.Supports.{SupportMemo}
+use Rattle.supports.specs.Supports.{Support, SupportMemo}
 use Rattle.supports.proofs.Words.{memo-cleared, memo-known, Filled, filled-none, filled-next, filled-all}
 use Rattle.supports.proofs.supports_of.Statement.{statement}
 use Rattle.supports.proofs.supports_of.Tie as tie
@@ -119,7 +119,7 @@ module _ (j : tie.Joined1 Inv-loop μ-loop) where
   begun =
       let a = start-from-joined1 j .args in
       let len = length-in (a .vars .now) (a .lows .now) (a .highs .now) (a .count) (start-from-joined1 j .pre .0) in
-      ⊎-elim (λ w. subst Begun (sym (w .5)) (memo-cleared nodes _ (a .count) len (w .2 .ensures), w .2 .kept .0)) (λ w. subst Begun (sym (w .5)) (w .2 .ensures, w .2 .kept .1 .1 .1 .0)) (j .if1 .came)
+      ⊎-elim (λ w. subst Begun (sym (w .5)) (memo-cleared Support nodes _ (a .count) len (w .2 .ensures), w .2 .kept .0)) (λ w. subst Begun (sym (w .5)) (w .2 .ensures, w .2 .kept .1 .1 .1 .0)) (j .if1 .came)
 
 clear-cells-requires : tie.Need-clear-cells-requires Inv-loop μ-loop
 clear-cells-requires c κs =
@@ -179,7 +179,7 @@ loop-again c =
     let t = nodesIn (a .vars .now) (a .lows .now) (a .highs .now) (a .count) in
     let k = getD (a .list .now) (w .i) 0 in
     let inside : k < length t = omega (arith, start-from-then2 c .pre .1 (w .i) here, length-in (a .vars .now) (a .lows .now) (a .highs .now) (a .count) (start-from-then2 c .pre .0)) in
-    (filled-next t (a .list .now) (w .words) (w .i) (getD (w .memo) k 0) (w .inv .0) here (memo-known t (w .memo) k inside (w .inv .1) (c .if2 .taken)), w .inv .1, w .inv .2, length-set (w .words) (w .i) (getD (w .memo) k 0) ∙ w .inv .3)
+    (filled-next t (a .list .now) (w .words) (w .i) (getD (w .memo) k 0) (w .inv .0) here (memo-known Support t (w .memo) k inside (w .inv .1) (c .if2 .taken)), w .inv .1, w .inv .2, length-set (w .words) (w .i) (getD (w .memo) k 0) ∙ w .inv .3)
 
 support-from-requires : tie.Need-support-from-requires Inv-loop μ-loop
 support-from-requires c κs =

@@ -4,9 +4,9 @@ use Prim.Native.Nat.{ℕ, _≤_, _<_}
 use native.Mathlib.Omega.{arith}
 use lib.ListN.{length, getD}
 use borrow.Author.Needs.{needs}
-use Rattle.thin.proofs.Passing.{children-less}
-use Rattle.thin.proofs.is_thin.Statement.{statement}
-use Rattle.thin.proofs.is_thin.Tie as tie
+use Rattle.supports.proofs.ForcedWords.{children-less}
+use Rattle.supports.proofs.forced.is_thin.Statement.{statement}
+use Rattle.supports.proofs.forced.is_thin.Tie as tie
 
 abbrev Inv-loop : tie.InvT-loop
 Inv-loop lows highs k₀ k = k ≤ k₀
