@@ -14,11 +14,11 @@ use Rattle.table.specs.Indexed.{Table, nodesOf, Good, Outcome}
 use Rattle.table.proofs.Written.{length-nodes, good-ordered}
 use Rattle.table.proofs.Numbers.{diagramAt-reduced}
 use Rattle.table.proofs.Outcomes.{placeIn, putIn, Longer, Grown, longer, grown, there, put-in, high-full, low-full, joined}
-use Rattle.thin.specs.Thin.{over, wrapped, Fitting}
+use Rattle.thin.specs.Thin.{over, layer, wrapped, Fitting}
 
 -- The outcome of a node that is there.
-abbrev at : Table → ℕ → Outcome
-at t k = record { table = t; full = false; node = k }
+abbrev standing : Table → ℕ → Outcome
+standing t k = record { table = t; full = false; node = k }
 
 -- ---- one step
 
@@ -46,18 +46,18 @@ module _ (t : Table) (G : Good t) (x k : ℕ) (p : k < t .count) (D : Diagram) (
   W = grown t G D rD o e
 
   -- the node told, in the table that D left
-  still : at (o .table) k ≡ placeIn (o .table) K
+  still : standing (o .table) k ≡ placeIn (o .table) K
   still = sym (there (o .table) (W .good) k (omega (arith, W .more))) ∙ ap (placeIn (o .table)) (W .kept k p)
 
   -- no room for D is none for what stands over it
   over-full : (b : Bool) → o .full ≡ true → o ≡ placeIn t (overBy b x K D)
-  over-full true f = high-full t G x K D rK rD (at t k) (sym (there t G k p)) refl o e f
+  over-full true f = high-full t G x K D rK rD (standing t k) (sym (there t G k p)) refl o e f
   over-full false f = low-full t G x D K rD rK o e f
 
   -- both nodes are in the table that D left
   over-put : (b : Bool) → o .full ≡ false → putBy b (o .table) x k (o .node) ≡ placeIn t (overBy b x K D)
-  over-put true f = joined t G x K D rK rD (at t k) (sym (there t G k p)) refl o e f (putIn (o .table) x k (o .node)) refl
-  over-put false f = joined t G x D K rD rK o e f (at (o .table) k) still refl (putIn (o .table) x (o .node) k) refl
+  over-put true f = joined t G x K D rK rD (standing t k) (sym (there t G k p)) refl o e f (putIn (o .table) x k (o .node)) refl
+  over-put false f = joined t G x D K rD rK o e f (standing (o .table) k) still refl (putIn (o .table) x (o .node) k) refl
 
   -- what stands over D is placed from there on
   over-made : (b : Bool) → o .full ≡ false → placeIn t (overBy b x K D) ≡ placeIn (o .table) (overBy b x K D)
@@ -76,7 +76,7 @@ again t G D rD o e f =
 
 module _ (xs told sides : List ℕ) where
   abbrev next : Table → ℕ → Diagram → Diagram
-  next t d D = over (getD xs d 0) (getD sides d 0) (diagramAt (nodesOf t) (getD told d 0)) D
+  next t d D = layer t xs told sides d D
 
   reduced : (t : Table) (d : ℕ) (D : Diagram) → Fitting t xs told sides d D → Reduced 1 65 D
   reduced t zero D F = F
@@ -104,13 +104,13 @@ module _ (xs told sides : List ℕ) where
       through-full d t G (next t d D) (F .2) o (over-full t G (getD xs d 0) (getD told d 0) (F .1) D (F .0) o e (eqb (getD sides d 0) 1) f) f
 
   -- What stands over D is placed from the table on that D left.
-  abbrev GoesOn : ℕ → Type 0
-  GoesOn d =
+  abbrev PlacedOn : ℕ → Type 0
+  PlacedOn d =
       (t : Table) → Good t → (D : Diagram) → Fitting t xs told sides d D → (o : Outcome) → o ≡ placeIn t D → o .full ≡ false
       → placeIn t (wrapped t xs told sides d D) ≡ placeIn (o .table) (wrapped t xs told sides d D)
 
   -- with one step more: the next diagram is placed alike in both tables, and what stands over it goes on from there
-  module _ (d : ℕ) (goes-on : GoesOn d) (t : Table) (G : Good t) (D : Diagram) (F : Fitting t xs told sides (suc d) D) (o : Outcome) (e : o ≡ placeIn t D) (f : o .full ≡ false) where
+  module _ (d : ℕ) (placed-on : PlacedOn d) (t : Table) (G : Good t) (D : Diagram) (F : Fitting t xs told sides (suc d) D) (o : Outcome) (e : o ≡ placeIn t D) (f : o .full ≡ false) where
     abbrev D′ : Diagram
     D′ = next t d D
 
@@ -136,12 +136,12 @@ module _ (xs told sides : List ℕ) where
     one-more true f′ =
         sym (through-full d t G D′ (F .2) (placeIn t D′) refl f′) ∙ through-full d t′ (grown-once .good) D′ fitting-once (placeIn t D′) next-same f′ ∙ whole-same
     one-more false f′ =
-        goes-on t G D′ (F .2) (placeIn t D′) refl f′
+        placed-on t G D′ (F .2) (placeIn t D′) refl f′
         ∙ ap (placeIn (placeIn t D′ .table)) (sym (wrapped-longer t t′ longer-once d D′ (F .2)))
-        ∙ sym (goes-on t′ (grown-once .good) D′ fitting-once (placeIn t D′) next-same f′)
+        ∙ sym (placed-on t′ (grown-once .good) D′ fitting-once (placeIn t D′) next-same f′)
         ∙ whole-same
 
-  through-made : (d : ℕ) → GoesOn d
+  through-made : (d : ℕ) → PlacedOn d
   through-made zero t G D F o e f = again t G D F o e f
   through-made (suc d) t G D F o e f = one-more d (through-made d) t G D F o e f (placeIn t (next t d D) .full) refl
 
@@ -161,7 +161,7 @@ module _ (xs told sides : List ℕ) where
 
   module _ (before : Table) (W : Diagram) (t : Table) where
     -- with no step left the node is all
-    pub rising-last : (r : ℕ) → Rising before W t 0 r → at t r ≡ placeIn before W
+    pub rising-last : (r : ℕ) → Rising before W t 0 r → standing t r ≡ placeIn before W
     rising-last r R = sym (there t (R .good) r (R .inside)) ∙ ap (placeIn t) (R .is) ∙ R .placed
 
     -- a step that is put

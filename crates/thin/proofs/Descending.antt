@@ -17,7 +17,7 @@ use Rattle.operate.specs.Inner.{top}
 use Rattle.operate.proofs.Levels.{top-first, top-both, level-constant, level-least, level-most}
 use Rattle.operate.proofs.Results.{result-reduced}
 use Rattle.thin.specs.declared.StepDown.the-variants.{Told, One, Over}
-use Rattle.thin.specs.Thin.{Given, resultAt, over, StepSays, wrapped, Fitting, CameTo}
+use Rattle.thin.specs.Thin.{Given, resultAt, over, StepSays, layer, wrapped, Fitting, CameTo}
 
 -- ---- a step is written at place p
 
@@ -31,32 +31,28 @@ module _ (t : Table) (xs told sides : List ℕ) (p x k side : ℕ) where
   abbrev sides′ : List ℕ
   sides′ = set sides p side
 
-  -- step d over a diagram, as lists of steps say
-  abbrev layer : List ℕ → List ℕ → List ℕ → ℕ → Diagram → Diagram
-  layer us vs ws d D = over (getD us d 0) (getD ws d 0) (diagramAt (nodesOf t) (getD vs d 0)) D
-
   told-kept : (d : ℕ) → d < p → getD told′ d 0 ≡ getD told d 0
   told-kept d less = getD-set-other told p d k 0 (λ e. absurd (omega arith))
 
-  layer-kept : (d : ℕ) → d < p → (D : Diagram) → layer xs′ told′ sides′ d D ≡ layer xs told sides d D
+  layer-kept : (d : ℕ) → d < p → (D : Diagram) → layer t xs′ told′ sides′ d D ≡ layer t xs told sides d D
   layer-kept d less D =
       rw (getD-set-other xs p d x 0 (λ e. absurd (omega arith)), getD-set-other sides p d side 0 (λ e. absurd (omega arith)), told-kept d less)
 
   wrapped-kept : (d : ℕ) → d ≤ p → (D : Diagram) → wrapped t xs′ told′ sides′ d D ≡ wrapped t xs told sides d D
   wrapped-kept zero less D = refl
   wrapped-kept (suc d) less D =
-      ap (wrapped t xs′ told′ sides′ d) (layer-kept d (omega arith) D) ∙ wrapped-kept d (omega arith) (layer xs told sides d D)
+      ap (wrapped t xs′ told′ sides′ d) (layer-kept d (omega arith) D) ∙ wrapped-kept d (omega arith) (layer t xs told sides d D)
 
   fitting-kept : (d : ℕ) → d ≤ p → (D : Diagram) → Fitting t xs told sides d D → Fitting t xs′ told′ sides′ d D
   fitting-kept zero less D F = F
   fitting-kept (suc d) less D F = (
     F .0,
     omega (arith, told-kept d (omega arith), F .1),
-    subst (Fitting t xs′ told′ sides′ d) (sym (layer-kept d (omega arith) D)) (fitting-kept d (omega arith) (layer xs told sides d D) (F .2)),
+    subst (Fitting t xs′ told′ sides′ d) (sym (layer-kept d (omega arith) D)) (fitting-kept d (omega arith) (layer t xs told sides d D) (F .2)),
   )
 
   module _ (xs-room : p < length xs) (told-room : p < length told) (sides-room : p < length sides) where
-    layer-written : (D : Diagram) → layer xs′ told′ sides′ p D ≡ over x side (diagramAt (nodesOf t) k) D
+    layer-written : (D : Diagram) → layer t xs′ told′ sides′ p D ≡ over x side (diagramAt (nodesOf t) k) D
     layer-written D = rw (getD-set-same xs p x 0 xs-room, getD-set-same sides p side 0 sides-room, getD-set-same told p k 0 told-room)
 
     wrapped-more : (D : Diagram) → wrapped t xs′ told′ sides′ (suc p) D ≡ wrapped t xs told sides p (over x side (diagramAt (nodesOf t) k) D)
@@ -78,8 +74,8 @@ module _ (op : Operation) (shared : ℕ) (t : Table) (f g : ℕ) (H : Given op s
   top-least =
       top-both (t .vars) f g 1 (level-least t (H .ready .good) f (H .ready .f-inside)) (level-least t (H .ready .good) g (H .ready .g-inside))
 
-  pub top-most : top (t .vars) f g ≤ 65
-  top-most = go (decLt f 2)
+  pub top-within : top (t .vars) f g ≤ 65
+  top-within = go (decLt f 2)
     where
       go : Dec (f < 2) → top (t .vars) f g ≤ 65
       go (yes p) = omega (arith, top-first (t .vars) f g, level-constant t (H .ready .good) f p)
@@ -100,7 +96,7 @@ module _ (op : Operation) (shared : ℕ) (t : Table) (first second : ℕ) (xs to
     (W : GoingDown op shared t first second xs told sides f g depth) where
   pub going-told : (k : NodeNo) → StepSays op shared t (top (t .vars) f g) (resultAt op t f g) (Told k) → CameTo op t first second xs told sides (k .0) depth
   going-told k h = record {
-    most = omega (arith, W .before, top-most op shared t f g (W .given));
+    most = omega (arith, W .before, top-within op shared t f g (W .given));
     inside = h .0;
     fitting = subst (Fitting t xs told sides depth) (sym (h .1)) (W .fitting);
     is = ap (wrapped t xs told sides depth) (h .1) ∙ W .is;

@@ -31,17 +31,18 @@ noMemo = 0 ∷ 0 ∷ 0 ∷ []
 abbrev pub Leveled : Operation → List ℕ → ℕ → ℕ → Type 0
 Leveled op vars f g = terminalOf op f g ≡ Nothing → (f < length vars) × (1 ≤ getD vars f 0) × (getD vars f 0 ≤ 64)
 
--- What the node numbers tell, or f where it comes after all that is shared.
+-- What the node numbers tell, or f where it comes after all that is set in it.
 abbrev pub orBeyond : List ℕ → Kind → words.Literals → ℕ → Found → Found
 orBeyond vars kind by f (At k) = At k
 orBeyond vars kind by f Nothing = cond (beyond kind by (getD vars f 0)) (found f) Nothing
 
+-- The result where it is told without a step.
 abbrev pub settledOf : List ℕ → Kind → words.Literals → ℕ → ℕ → Found
 settledOf vars kind by f g = orBeyond vars kind by f (terminalOf (operationOf kind by) f g)
 
 -- ---- a step down
 
--- The operation on f and g can be done in the table, and the word has what they share.
+-- The operation on f and g can be done in the table, and the word has what f has of the variables that g forces.
 pub record Given (op : Operation) (shared : ℕ) (t : Table) (f g : ℕ) : Type 0 where
   pub ready : Ready op noMemo t f g
   pub share : Shared op shared t f g
@@ -53,12 +54,13 @@ pub record SomeGiven (op : Operation) (shared : ℕ) (vars lows highs : List ℕ
   pub count : ℕ
   pub given : Given op shared (tableOf vars lows highs heads links count) f g
 
--- The same of two sides, whose variables come after x.
+-- The same of two sides, whose variables come after their x.
 pub record SidesGiven (op : Operation) (shared : ℕ) (t : Table) (s : Sides) : Type 0 where
   pub ready : SidesReady op noMemo t s
   pub low-share : Shared op shared t (s .f0 .0) (s .g0 .0)
   pub high-share : Shared op shared t (s .f1 .0) (s .g1 .0)
 
+-- The column of variables is that of such a table.
 pub record SomeSides (op : Operation) (shared : ℕ) (vars : List ℕ) (s : Sides) : Type 0 where
   pub lows : List ℕ
   pub highs : List ℕ
@@ -79,8 +81,8 @@ joinedAt op t s = branch (s .x) (resultAt op t (s .f0 .0) (s .g0 .0)) (resultAt 
 abbrev pub over : ℕ → ℕ → Diagram → Diagram → Diagram
 over x side told rest = cond (eqb side 1) (branch x told rest) (branch x rest told)
 
--- A step from a diagram D, before which all variables are below x: it is told; it is that of another pair of nodes, which comes later; it
--- is x over a node told and that of another pair, which comes after x; or more is to come on both sides, of which nothing is said.
+-- What a step says of a diagram D, whose variables are x and later ones: D is told; it is that of another pair of nodes, which comes after
+-- x; it is a variable over a node told and over that of another pair, which comes after the variable; or, too wide, nothing.
 abbrev pub StepSays : Operation → ℕ → Table → ℕ → Diagram → StepDown → Type 0
 StepSays op shared t x D (Told k) = (k .0 < t .count) × (diagramAt (nodesOf t) (k .0) ≡ D)
 StepSays op shared t x D (One a b) = Given op shared t (a .0) (b .0) × (x < top (t .vars) (a .0) (b .0)) × (resultAt op t (a .0) (b .0) ≡ D)
@@ -95,19 +97,20 @@ StepSays op shared t x D Wide = Unit {0}
 
 -- ---- the way down and the way up
 
+-- Step d, as it is written, over a diagram.
+abbrev pub layer : Table → List ℕ → List ℕ → List ℕ → ℕ → Diagram → Diagram
+layer t xs told sides d D = over (getD xs d 0) (getD sides d 0) (diagramAt (nodesOf t) (getD told d 0)) D
+
 -- The diagram D under the first d steps that are written, the last of them next to it.
 abbrev pub wrapped : Table → List ℕ → List ℕ → List ℕ → ℕ → Diagram → Diagram
 wrapped t xs told sides zero D = D
-wrapped t xs told sides (suc d) D =
-    wrapped t xs told sides d (over (getD xs d 0) (getD sides d 0) (diagramAt (nodesOf t) (getD told d 0)) D)
+wrapped t xs told sides (suc d) D = wrapped t xs told sides d (layer t xs told sides d D)
 
 -- Each node told is in the table, and each diagram on the way up is reduced.
 abbrev pub Fitting : Table → List ℕ → List ℕ → List ℕ → ℕ → Diagram → Type 0
 Fitting t xs told sides zero D = Reduced 1 65 D
 Fitting t xs told sides (suc d) D =
-    Reduced 1 65 D
-    × (getD told d 0 < t .count)
-    × Fitting t xs told sides d (over (getD xs d 0) (getD sides d 0) (diagramAt (nodesOf t) (getD told d 0)) D)
+    Reduced 1 65 D × (getD told d 0 < t .count) × Fitting t xs told sides d (layer t xs told sides d D)
 
 -- The way down from f and g came to a node: under the steps written it is the operation's result.
 pub record CameTo (op : Operation) (t : Table) (f g : ℕ) (xs told sides : List ℕ) (node depth : ℕ) : Type 0 where

@@ -13,7 +13,7 @@ use Rattle.operate.specs.Inner.{operationOf, top}
 use Rattle.thin.specs.declared.StepDown.{StepDown}
 use Rattle.thin.specs.declared.StepDown.the-variants.{Told, One, Over}
 use Rattle.thin.specs.Thin.{Given, StepSays, resultAt}
-use Rattle.thin.proofs.Descending.{GoingDown, going-first, going-told, going-one, step-room, going-over, top-most}
+use Rattle.thin.proofs.Descending.{GoingDown, going-first, going-told, going-one, step-room, going-over, top-within}
 use Rattle.thin.proofs.go_down.Statement.{statement}
 use Rattle.thin.proofs.go_down.Tie as tie
 
@@ -195,7 +195,7 @@ loop-less c =
     let l = at-loop-from-loop-again c in
     let p = a-from-loop-again c .a .given in
     let h = says (step-down-from-loop-again c) (One (p .0 .0) (p .0 .1 .0)) (p .1) (T l .heads) (T l .links) (T l .count) (come l) in
-    omega (arith, h .1, top-most (op l) (shared l) (T l) (p .0 .0 .0) (p .0 .1 .0 .0) (h .0))
+    omega (arith, h .1, top-within (op l) (shared l) (T l) (p .0 .0 .0) (p .0 .1 .0 .0) (h .0))
 
 loop-again : tie.Need-loop-again Inv-loop μ-loop
 loop-again c =
@@ -239,7 +239,7 @@ loop-less-2 c =
     let p = x-from-loop-less-2 c in
     let l = lx p in
     let h = over-says p (T l .heads) (T l .links) (T l .count) (come l) in
-    omega (arith, h .1, h .3, top-most (op l) (shared l) (T l) (a p .0) (b p .0) (h .0))
+    omega (arith, h .1, h .3, top-within (op l) (shared l) (T l) (a p .0) (b p .0) (h .0))
 
 loop-again-2 : tie.Need-loop-again-2 Inv-loop μ-loop
 loop-again-2 c =
