@@ -15,7 +15,7 @@ WORDS = {
     "verdict": "the check, defined", "operate": "the four operations", "thin": "without a memo", "memo": "results in cells",
     "units": "U of a diagram", "negate": "negations found",
     "conflict": "rule (a)", "supports": "a node's variables", "single": "the single calls", "propagate": "unit propagation",
-    "members": "members replaced", "unit_search": "first member with units",
+    "members": "members replaced", "unit_search": "first member with units", "touched": "members to change",
     "judge": "RUP and PR lines", "steps": "a record's step", "entries": "records that make entries", "formula": "makes the clauses",
     "replay": "command after command", "session": "the whole check", "checker": "calls with no requires",
     "demands": "the demands' theorems", "order": "members in any order", "nodes": "over node structs", "report": "line and status",

@@ -2,12 +2,12 @@
 use table::Found;
 use table::NodeNo;
 ghost use mathlib.Core.Path.{_≡_};
-ghost use mathlib.Core.Bool.{false};
-ghost use Prim.Native.Nat.{_<_};
+ghost use mathlib.Core.List.{List};
+ghost use Prim.Native.Nat.{ℕ, _≤_, _<_};
 ghost use lib.ListN.{length};
 ghost use Rattle.meaning.specs.Rules as rules;
 ghost use Rattle.table.specs.Indexed.{tableOf, nodesOf, Good};
-ghost use Rattle.conflict.specs.Members.{someNegated, asks, Quiet, NegationsAsked, AskedThin};
+ghost use Rattle.conflict.specs.Members.{someNegated, asks, Asked, NegationsAsked, NegationSays, NextSays, Marked, AskedThin};
 ghost use Rattle.walks.specs.Readable.{Readable, nodesIn, ListReady};
 ghost use Rattle.table.specs.Lists.{diagramsOf, Inside};
 ghost use Rattle.conflict.specs.Marks.{isListed, unmarked, setAll, markedAt, FoundInside};
@@ -53,24 +53,113 @@ fn is_marked(marks: &[u8], found: Found) -> bool
     }
 }
 
-// Whether a member is asked for its negation: one with a variable in `touching`. Where that is all variables those that are 0 where all
-// variables are false are enough, for of two that are each other's negations one is.
-fn is_asked(
+// Whether a node is asked for its negation. Where all members may be asked, those that are 0 where all variables are false are enough, for
+// of two that are each other's negations one is.
+fn is_asked(vars: &[u8], lows: &[u16], highs: &[u16], count: usize, f: NodeNo, all: bool) -> bool
+    requires { ⌜ Readable (now vars) (now lows) (now highs) count × (f .0 < count) ⌝ }
+    ensures { λ r. ⌜ r ≡ asks (nodesIn (now (vars .entry)) (now (lows .entry)) (now (highs .entry)) count) (f .0) all ⌝ }
+{
+    if all {
+        return !walks::value_of(vars, lows, highs, count, f, 0);
+    }
+    true
+}
+
+// What is found of a node's negation without a memo: none that a list without 0 can have; a node; or nothing is known.
+enum Negation {
+    Unlisted,
+    At(NodeNo),
+    Unknown,
+}
+
+fn negation_of(
     vars: &[u8],
     lows: &[u16],
     highs: &[u16],
+    heads: &[u16],
+    links: &[u16],
     count: usize,
     f: NodeNo,
-    word: u64,
-    touching: u64,
-) -> bool
-    requires { ⌜ Readable (now vars) (now lows) (now highs) count × (f .0 < count) ⌝ }
-    ensures { λ r. ⌜ r ≡ asks (nodesIn (now (vars .entry)) (now (lows .entry)) (now (highs .entry)) count) (f .0) word touching ⌝ }
+) -> Negation
+    requires { ⌜ Good (tableOf (now vars) (now lows) (now highs) (now heads) (now links) count) × (f .0 < count) ⌝ }
+    ensures { λ r. ⌜ (
+        let before = tableOf (now (vars .entry)) (now (lows .entry)) (now (highs .entry)) (now (heads .entry)) (now (links .entry)) count in
+        NegationSays before (f .0) r) ⌝ }
 {
-    if touching == words::ALL {
-        return !walks::value_of(vars, lows, highs, count, f, 0);
+    let r = negate::negation_thin(vars, lows, highs, heads, links, count, f);
+    if !r.known {
+        return Negation::Unknown;
     }
-    word & touching != 0
+    let at = r.at;
+    match at {
+        Found::At(k) => {
+            if k.0 == 0 {
+                return Negation::Unlisted;
+            }
+            Negation::At(k)
+        }
+        Found::Nothing => Negation::Unlisted,
+    }
+}
+
+// A place of the asked, or their number; and where it is `found` the node that is the negation of the one there.
+struct NextNegation {
+    place: usize,
+    found: bool,
+    node: NodeNo,
+}
+
+// The first place from `from` on whose negation is a node other than 0, or has to be looked for with a memo.
+fn next_negation(
+    vars: &[u8],
+    lows: &[u16],
+    highs: &[u16],
+    heads: &[u16],
+    links: &[u16],
+    asked: &[u16],
+    count: usize,
+    all: bool,
+    from: usize,
+) -> NextNegation
+    requires { ⌜ Good (tableOf (now vars) (now lows) (now highs) (now heads) (now links) count)
+        × Inside count (now asked)
+        × (from ≤ length (now asked)) ⌝ }
+    ensures { λ r. ⌜ (
+        let before = tableOf (now (vars .entry)) (now (lows .entry)) (now (highs .entry)) (now (heads .entry)) (now (links .entry)) count in
+        NextSays before (now (asked .entry)) all from r) ⌝ }
+{
+    let mut i = from;
+    while i < asked.len() {
+        let f = NodeNo(asked[i]);
+        if is_asked(vars, lows, highs, count, f, all) {
+            match negation_of(vars, lows, highs, heads, links, count, f) {
+                Negation::Unlisted => {
+                    i += 1;
+                }
+                Negation::At(k) => {
+                    return NextNegation {
+                        place: i,
+                        found: true,
+                        node: k,
+                    };
+                }
+                Negation::Unknown => {
+                    return NextNegation {
+                        place: i,
+                        found: false,
+                        node: f,
+                    };
+                }
+            }
+        } else {
+            i += 1;
+        }
+    }
+    NextNegation {
+        place: i,
+        found: false,
+        node: NodeNo(0),
+    }
 }
 
 // What asking members for their negations without a memo comes to: a conflict, or none up to a place.
@@ -79,8 +168,8 @@ enum Asking {
     UpTo(usize),
 }
 
-// Asks the members in order, up to the first whose negation has to be looked for with a memo; the other arguments are those of
-// `some_negated`.
+// Asks in order, from a place before which none has its negation listed, up to the first whose negation has to be looked for with a
+// memo. The members of a list are marked; the other arguments are those of `conflicts`.
 fn thin_negated(
     vars: &[u8],
     lows: &[u16],
@@ -88,40 +177,37 @@ fn thin_negated(
     heads: &[u16],
     links: &[u16],
     marks: &[u8],
-    list: &[u16],
-    words: &[u64],
+    asked: &[u16],
     count: usize,
-    touching: u64,
+    all: bool,
+    from: usize,
 ) -> Asking
     requires { ⌜ (
         let before = tableOf (now vars) (now lows) (now highs) (now heads) (now links) count in
-        Good before
-        × Inside count (now list)
-        × (now marks ≡ setAll 1 (unmarked (length (now vars))) (now list))
-        × (length (now words) ≡ length (now list))) ⌝ }
-    ensures { λ r. ⌜ (
+        Good before × Inside count (now asked) × (from ≤ length (now asked)) × (length (now marks) ≡ length (now vars))) ⌝ }
+    ensures { λ r. ⌜ ((list : List ℕ) →
         let before = tableOf (now (vars .entry)) (now (lows .entry)) (now (highs .entry)) (now (heads .entry)) (now (links .entry)) count in
-        AskedThin (nodesOf before) (now (list .entry)) (now (words .entry)) touching r) ⌝ }
+        Marked before list (now (asked .entry)) (now (marks .entry)) all →
+        NegationsAsked (nodesOf before) list (now (asked .entry)) all from →
+        AskedThin (nodesOf before) list (now (asked .entry)) all r) ⌝ }
 {
-    let mut i: usize = 0;
-    while i < list.len() {
-        let f = NodeNo(list[i]);
-        if is_asked(vars, lows, highs, count, f, words[i], touching) {
-            let r = negate::negation_thin(vars, lows, highs, heads, links, count, f);
-            if !r.known {
-                return Asking::UpTo(i);
-            }
-            let at = r.at;
-            if is_marked(marks, at) {
-                return Asking::Conflict;
-            }
+    let mut i = from;
+    while i < asked.len() {
+        let next = next_negation(vars, lows, highs, heads, links, asked, count, all, i);
+        if !next.found {
+            return Asking::UpTo(next.place);
         }
-        i += 1;
+        let node = next.node;
+        let k = node.0 as usize;
+        if marks[k] == 1 {
+            return Asking::Conflict;
+        }
+        i = next.place + 1;
     }
     Asking::UpTo(i)
 }
 
-// The same with a memo, cleared first, from a place up to which none was.
+// The same with a memo, cleared first: whether the negation of a member is marked.
 fn rest_negated(
     vars: &[u8],
     lows: &[u16],
@@ -130,30 +216,25 @@ fn rest_negated(
     links: &[u16],
     memo: &mut [u64],
     marks: &[u8],
-    list: &[u16],
-    words: &[u64],
+    asked: &[u16],
     count: usize,
-    touching: u64,
+    all: bool,
     from: usize,
 ) -> bool
     requires { ⌜ (
         let before = tableOf (now vars) (now lows) (now highs) (now heads) (now links) count in
-        ListReady before (now list) (now memo) × (now marks ≡ setAll 1 (unmarked (length (now vars))) (now list))) ⌝ }
-    requires { ⌜ (
-        let before = tableOf (now vars) (now lows) (now highs) (now heads) (now links) count in
-        (isListed (now list) 0 ≡ false)
-        × (length (now words) ≡ length (now list))
-        × Quiet (nodesOf before) (now list) (now words) touching
-        × NegationsAsked (nodesOf before) (now list) (now words) touching from) ⌝ }
-    ensures { λ r. ⌜ (
+        ListReady before (now asked) (now memo) × (from ≤ length (now asked)) × (length (now marks) ≡ length (now vars))) ⌝ }
+    ensures { λ r. ⌜ ((list : List ℕ) →
         let before = tableOf (now (vars .entry)) (now (lows .entry)) (now (highs .entry)) (now (heads .entry)) (now (links .entry)) count in
-        r ≡ someNegated (diagramsOf (nodesOf before) (now (list .entry)))) ⌝ }
+        Marked before list (now (asked .entry)) (now (marks .entry)) all →
+        NegationsAsked (nodesOf before) list (now (asked .entry)) all from →
+        r ≡ someNegated (diagramsOf (nodesOf before) list)) ⌝ }
 {
     walks::clear_cells(memo, count);
     let mut i = from;
-    while i < list.len() {
-        let f = NodeNo(list[i]);
-        if is_asked(vars, lows, highs, count, f, words[i], touching) {
+    while i < asked.len() {
+        let f = NodeNo(asked[i]);
+        if is_asked(vars, lows, highs, count, f, all) {
             let r = negate::negation_from(vars, lows, highs, heads, links, memo, count, f);
             if is_marked(marks, r) {
                 return true;
@@ -164,8 +245,7 @@ fn rest_negated(
     false
 }
 
-// Whether the negation of some member is marked, where the members are and none is 0. Only members that `is_asked` tells are asked, with
-// a memo only from the first that wants one.
+// Whether the negation of a member is marked: with a memo only from the first asked that wants one.
 fn some_negated(
     vars: &[u8],
     lows: &[u16],
@@ -174,22 +254,19 @@ fn some_negated(
     links: &[u16],
     memo: &mut [u64],
     marks: &[u8],
-    list: &[u16],
-    words: &[u64],
+    asked: &[u16],
     count: usize,
-    touching: u64,
+    all: bool,
+    from: usize,
 ) -> bool
     requires { ⌜ (
         let before = tableOf (now vars) (now lows) (now highs) (now heads) (now links) count in
-        ListReady before (now list) (now memo) × (now marks ≡ setAll 1 (unmarked (length (now vars))) (now list))) ⌝ }
-    requires { ⌜ (
-        let before = tableOf (now vars) (now lows) (now highs) (now heads) (now links) count in
-        (isListed (now list) 0 ≡ false)
-        × (length (now words) ≡ length (now list))
-        × Quiet (nodesOf before) (now list) (now words) touching) ⌝ }
-    ensures { λ r. ⌜ (
+        ListReady before (now asked) (now memo) × (from ≤ length (now asked)) × (length (now marks) ≡ length (now vars))) ⌝ }
+    ensures { λ r. ⌜ ((list : List ℕ) →
         let before = tableOf (now (vars .entry)) (now (lows .entry)) (now (highs .entry)) (now (heads .entry)) (now (links .entry)) count in
-        r ≡ someNegated (diagramsOf (nodesOf before) (now (list .entry)))) ⌝ }
+        Marked before list (now (asked .entry)) (now (marks .entry)) all →
+        NegationsAsked (nodesOf before) list (now (asked .entry)) all from →
+        r ≡ someNegated (diagramsOf (nodesOf before) list)) ⌝ }
 {
     match thin_negated(
         vars,
@@ -198,14 +275,14 @@ fn some_negated(
         heads,
         links,
         marks,
-        list,
-        words,
+        asked,
         count,
-        touching,
+        all,
+        from,
     ) {
         Asking::Conflict => true,
         Asking::UpTo(place) => {
-            if place == list.len() {
+            if asked.len() <= place {
                 return false;
             }
             rest_negated(
@@ -216,18 +293,17 @@ fn some_negated(
                 links,
                 memo,
                 marks,
-                list,
-                words,
+                asked,
                 count,
-                touching,
+                all,
                 place,
             )
         }
     }
 }
 
-// Whether a member is 0 or the negation of another, where no two without a variable in `touching`, as their words tell, are each other's
-// negations. No place is marked before or after.
+// Whether a member is 0 or the negation of another. Only the nodes of `asked` are asked, which are enough of the members, or `all`. The
+// members are marked, and unmarked again, only where the negation of one that is asked is a node, or may be.
 pub fn conflicts(
     vars: &[u8],
     lows: &[u16],
@@ -237,23 +313,27 @@ pub fn conflicts(
     memo: &mut [u64],
     marks: &mut [u8],
     list: &[u16],
-    words: &[u64],
+    asked: &[u16],
     count: usize,
-    touching: u64,
+    all: bool,
 ) -> bool
     requires { ⌜ (
         let before = tableOf (now vars) (now lows) (now highs) (now heads) (now links) count in
         ListReady before (now list) (now memo) × (now marks ≡ unmarked (length (now vars)))) ⌝ }
     requires { ⌜ (
         let before = tableOf (now vars) (now lows) (now highs) (now heads) (now links) count in
-        (length (now words) ≡ length (now list)) × Quiet (nodesOf before) (now list) (now words) touching) ⌝ }
+        Asked (nodesOf before) (now list) (now asked) all) ⌝ }
     ensures { λ r. ⌜ (
         let before = tableOf (now (vars .entry)) (now (lows .entry)) (now (highs .entry)) (now (heads .entry)) (now (links .entry)) count in
         r ≡ rules.conflicts 64 (diagramsOf (nodesOf before) (now (list .entry)))) ⌝ }
     ensures { λ _. ⌜ now (marks .exit) ≡ unmarked (length (now (vars .entry))) ⌝ }
 {
-    if has_zero(list) {
+    if has_zero(asked) {
         return true;
+    }
+    let next = next_negation(vars, lows, highs, heads, links, asked, count, all, 0);
+    if asked.len() <= next.place {
+        return false;
     }
     set_all(marks, list, 1);
     let r = some_negated(
@@ -264,10 +344,10 @@ pub fn conflicts(
         links,
         memo,
         marks,
-        list,
-        words,
+        asked,
         count,
-        touching,
+        all,
+        next.place,
     );
     set_all(marks, list, 0);
     r

@@ -4,6 +4,7 @@ use operate::Operation;
 use table::NodeNo;
 ghost use mathlib.Core.Path.{_≡_};
 ghost use mathlib.Core.Bool.{false};
+ghost use Prim.Native.Nat.{_≤_};
 ghost use lib.ListN.{length};
 ghost use Rattle.table.specs.Nodes.{diagramAt};
 ghost use Rattle.table.specs.Indexed.{tableOf, nodesOf};
@@ -67,7 +68,7 @@ pub fn by_negation(
 ) -> Made
     requires { ⌜ (
         let before = tableOf (now vars) (now lows) (now highs) (now heads) (now links) count in
-        Negatable before (now members) (now memo) (g .0) × (length (now list) ≡ length (now members))) ⌝ }
+        Negatable before (now members) (now memo) (g .0) × (length (now list) ≡ length (now members)) × (length (now members) ≤ 2048)) ⌝ }
     requires { ⌜ (
         let before = tableOf (now vars) (now lows) (now highs) (now heads) (now links) count in
         Worded before (now members) (now memberwords) (g .0) word × (length (now words) ≡ length (now members))) ⌝ }
@@ -103,6 +104,8 @@ pub fn by_negation(
         };
     }
     let touching = supports::forced::forced_of(vars, lows, highs, memo, not.count, not.node, word);
+    let mut places = [0u16; 2048];
+    let many = touched::touched_places(words, touching, &mut places);
     members::all_by(
         vars,
         lows,
@@ -112,6 +115,7 @@ pub fn by_negation(
         memo,
         list,
         words,
+        &places[..many],
         not.count,
         Operation::Cofactor,
         not.node,

@@ -41,7 +41,8 @@ fn turn(
         ListReady before (now first) (now memo)
         × (now marks ≡ unmarked (length (now vars)))
         × (length (now second) ≡ length (now first))
-        × (f .0 < count)) ⌝ }
+        × (f .0 < count)
+        × (length (now first) ≤ 2048)) ⌝ }
     requires { ⌜ (
         let before = tableOf (now vars) (now lows) (now highs) (now heads) (now links) count in
         Worded before (now first) (now firstwords) (f .0) word × (length (now secondwords) ≡ length (now first))) ⌝ }
@@ -130,7 +131,8 @@ fn turns(
         × (now marks ≡ unmarked (length (now vars)))
         × (length (now second) ≡ length (now first))
         × Inside count (now members)
-        × (length (now members) ≤ 65536)) ⌝ }
+        × (length (now members) ≤ 2048)
+        × (length (now first) ≤ 2048)) ⌝ }
     requires { ⌜ (
         let before = tableOf (now vars) (now lows) (now highs) (now heads) (now links) count in
         (length (now memberwords) ≡ length (now members))
@@ -228,7 +230,7 @@ pub fn pr(
         × (now marks ≡ unmarked (length (now vars)))
         × (length (now first) ≡ length (now members))
         × (length (now second) ≡ length (now members))
-        × (length (now members) ≤ 65536)) ⌝ }
+        × (length (now members) ≤ 2048)) ⌝ }
     requires { ⌜ (length (now memberwords) ≡ length (now members))
         × (length (now firstwords) ≡ length (now members))
         × (length (now secondwords) ≡ length (now members)) ⌝ }

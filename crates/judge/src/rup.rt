@@ -2,6 +2,7 @@
 use table::NodeNo;
 ghost use mathlib.Core.Path.{_≡_};
 ghost use mathlib.Core.Bool.{false};
+ghost use Prim.Native.Nat.{_≤_};
 ghost use lib.ListN.{length};
 ghost use Rattle.meaning.specs.Rules.{rup};
 ghost use Rattle.table.specs.Nodes.{diagramAt};
@@ -32,7 +33,8 @@ pub fn rup_with(
         let before = tableOf (now vars) (now lows) (now highs) (now heads) (now links) count in
         Negatable before (now members) (now memo) (root .0)
         × (now marks ≡ unmarked (length (now vars)))
-        × (length (now list) ≡ length (now members))) ⌝ }
+        × (length (now list) ≡ length (now members))
+        × (length (now members) ≤ 2048)) ⌝ }
     requires { ⌜ (
         let before = tableOf (now vars) (now lows) (now highs) (now heads) (now links) count in
         Worded before (now members) (now memberwords) (root .0) word × (length (now words) ≡ length (now members))) ⌝ }
@@ -107,7 +109,8 @@ pub fn rup(
         let before = tableOf (now vars) (now lows) (now highs) (now heads) (now links) count in
         Negatable before (now members) (now memo) (root .0)
         × (now marks ≡ unmarked (length (now vars)))
-        × (length (now list) ≡ length (now members))) ⌝ }
+        × (length (now list) ≡ length (now members))
+        × (length (now members) ≤ 2048)) ⌝ }
     requires { ⌜ (length (now memberwords) ≡ length (now members)) × (length (now words) ≡ length (now members)) ⌝ }
     ensures { λ r. ⌜ (
         let before = tableOf (now (vars .entry)) (now (lows .entry)) (now (highs .entry)) (now (heads .entry)) (now (links .entry)) count in

@@ -2,10 +2,10 @@
 use mathlib.Core.Path.{_≡_}
 use mathlib.Core.Bool.{true, false, cond}
 use mathlib.Core.List.{List}
-use Prim.Native.Nat.{ℕ, _≤_, _<_}
-use lib.ListN.{length, getD, set}
+use Prim.Native.Nat.{ℕ, _≤_}
+use lib.ListN.{getD, set}
 use lib.Dec.{eqb}
-use lib.Bits.{bitAnd, bitOr}
+use lib.Bits.{bitOr}
 use Rattle.meaning.specs.Diagram.{Diagram}
 use Rattle.meaning.specs.Words.{inWord}
 use Rattle.table.specs.Indexed.{Table}
@@ -30,10 +30,6 @@ reworded f k word gained = cond (eqb f k) word (bitOr word gained)
 -- The two words have no variable in common.
 abbrev pub Apart : ℕ → ℕ → Type 0
 Apart word touching = (v : ℕ) → inWord word v ≡ true → inWord touching v ≡ false
-
--- A word that has none of the variables after a cofactor of all members had none before it.
-unfoldable pub AllTouched : List ℕ → List ℕ → ℕ → Type 0
-AllTouched words words′ touching = (i : ℕ) → i < length words → bitAnd (getD words′ i 0) touching ≡ 0 → Apart (getD words i 0) touching
 
 -- Of a list in the table t the member at i was replaced by the operation's result on it and g; list and words are written there where the
 -- node changed, and `written` tells whether it did.

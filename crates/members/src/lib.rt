@@ -13,7 +13,8 @@ ghost use Rattle.operate.specs.Inner.{applied, Allowed, MemoRight, Ready};
 ghost use Rattle.supports.specs.Supports.{Support, Supports};
 ghost use Rattle.table.specs.Lists.{diagramsOf};
 ghost use Rattle.members.specs.Made.{results, AllMade, differing};
-ghost use Rattle.members.specs.Touching.{Touches, AllTouched, OneMade};
+ghost use Rattle.touched.specs.Places.{AllBut, Untouched};
+ghost use Rattle.members.specs.Touching.{Touches, OneMade};
 
 // What making diagrams in their order gives: `full` where one of them found no room; how many members of the list were written, which are
 // those that changed; and the count.
@@ -23,8 +24,8 @@ pub struct Made {
     pub count: usize,
 }
 
-// The operation on the nodes f and g, where `word` has f's variables and `touching` those that the cofactor sets: f itself, at once, where
-// none is in both. What is thin has no use for the memo.
+// The operation on the nodes f and g, where `word` has f's variables and `touching` those that the cofactor sets. What is thin has no use
+// for the memo.
 fn apply_touching(
     vars: &mut [u8],
     lows: &mut [u16],
@@ -52,13 +53,6 @@ fn apply_touching(
         let after = tableOf (now (vars .exit)) (now (lows .exit)) (now (highs .exit)) (now (heads .exit)) (now (links .exit)) (r .count) in
         MemoRight op (now (memo .exit)) after) ⌝ }
 {
-    if word & touching == 0 {
-        return Placed {
-            full: false,
-            node: f,
-            count,
-        };
-    }
     let tried = thin::apply_thin(
         vars,
         lows,
@@ -167,8 +161,8 @@ fn member_by(
 }
 
 // Replaces each listed node, in order, by the operation's result on it and g, or stops at `full`. One memo, cleared, serves all. The words
-// have the listed nodes' variables, and still do after it, where `gained` has those of g; a node that has none of `touching`, which the
-// operation sets, is passed over.
+// have the listed nodes' variables, and still do after it, where `gained` has those of g. Only the members at the places are made: the
+// others have none of the variables of `touching`, which the operation sets.
 pub fn all_by(
     vars: &mut [u8],
     lows: &mut [u16],
@@ -178,6 +172,7 @@ pub fn all_by(
     memo: &mut [u64],
     list: &mut [u16],
     words: &mut [u64],
+    places: &[u16],
     count: usize,
     op: Operation,
     g: NodeNo,
@@ -192,7 +187,8 @@ pub fn all_by(
         (length (now words) ≡ length (now list))
         × Supports (nodesOf before) (now list) (now words)
         × Touches op (diagramAt (nodesOf before) (g .0)) touching
-        × Support gained (diagramAt (nodesOf before) (g .0))) ⌝ }
+        × Support gained (diagramAt (nodesOf before) (g .0))
+        × AllBut (length (now list)) (now places) (Untouched (now words) touching)) ⌝ }
     ensures { λ r. ⌜ (
         let before = tableOf (now (vars .entry)) (now (lows .entry)) (now (highs .entry)) (now (heads .entry)) (now (links .entry)) count in
         let after = tableOf (now (vars .exit)) (now (lows .exit)) (now (highs .exit)) (now (heads .exit)) (now (links .exit)) (r .count) in
@@ -200,7 +196,6 @@ pub fn all_by(
     ensures { λ r. ⌜ (
         let after = tableOf (now (vars .exit)) (now (lows .exit)) (now (highs .exit)) (now (heads .exit)) (now (links .exit)) (r .count) in
         r .full ≡ false → Supports (nodesOf after) (now (list .exit)) (now (words .exit))) ⌝ }
-    ensures { λ r. ⌜ (r .full ≡ false → AllTouched (now (words .entry)) (now (words .exit)) touching) ⌝ }
     ensures { λ r. ⌜ (
         let before = tableOf (now (vars .entry)) (now (lows .entry)) (now (highs .entry)) (now (heads .entry)) (now (links .entry)) count in
         r .full ≡ false →
@@ -209,38 +204,35 @@ pub fn all_by(
     memo::clear_memo(memo);
     let mut n = count;
     let mut written: usize = 0;
-    let mut i: usize = 0;
-    while i < list.len() {
-        if words[i] & touching == 0 {
-            i += 1;
-        } else {
-            let r = member_by(
-                vars,
-                lows,
-                highs,
-                heads,
-                links,
-                memo,
-                list,
-                words,
-                n,
-                op,
-                g,
-                gained,
-                touching,
-                i,
-            );
-            n = r.count;
-            written += r.written;
-            if r.full {
-                return Made {
-                    full: true,
-                    written,
-                    count: n,
-                };
-            }
-            i += 1;
+    let mut k: usize = 0;
+    while k < places.len() {
+        let i = places[k] as usize;
+        let r = member_by(
+            vars,
+            lows,
+            highs,
+            heads,
+            links,
+            memo,
+            list,
+            words,
+            n,
+            op,
+            g,
+            gained,
+            touching,
+            i,
+        );
+        n = r.count;
+        written += r.written;
+        if r.full {
+            return Made {
+                full: true,
+                written,
+                count: n,
+            };
         }
+        k += 1;
     }
     Made {
         full: false,

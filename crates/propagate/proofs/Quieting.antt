@@ -1,85 +1,112 @@
--- The words after a round tell which members it changed, and those that it did not change are no negations of each other. Assumes nothing.
+-- What is to be asked in a propagation's first look, and in one after a round. The idea: a member that stands at none of the round's places
+-- stays as it is, so that it is not 0, has the units that it had, and of two negations one stands at a place. Assumes nothing.
 use mathlib.Core.Path.{_≡_, refl, sym, ap, _∙_}
-use mathlib.Core.Logic.{_≢_}
+use mathlib.Core.Logic.{_⊎_, inl, inr}
 use mathlib.Core.Bool.{true, false}
-use mathlib.Core.List.{List}
+use mathlib.Core.List.{List, [], map}
 use Prim.Native.Nat.{ℕ, _≤_, _<_}
 use native.Mathlib.Omega.{arith}
 use lib.ListN.{length, getD, length-map}
-use lib.Bits.{bitAnd, bitOr}
-use Rattle.meaning.specs.Diagram.{Diagram, leaf, node, Reduced}
+use lib.Bits.{bitOr}
+use Rattle.meaning.specs.Diagram.{Diagram, leaf}
 use Rattle.meaning.specs.Operations.{negation}
 use Rattle.meaning.specs.Rules.{conflicts, hasUnit}
-use Rattle.meaning.specs.Words.{inWord}
 use Rattle.meaning.proofs.Booleans.{t≢f}
-use Rattle.meaning.proofs.PointwiseSteps.{negation-leaf}
-use Rattle.table.specs.Nodes.{diagramAt}
-use Rattle.table.specs.Indexed.{Table, nodesOf, Good}
-use Rattle.table.proofs.Written.{length-nodes, good-ordered}
-use Rattle.table.proofs.Numbers.{diagramAt-reduced}
-use Rattle.operate.specs.declared.Operation.the-variants.{Literals}
-use Rattle.operate.proofs.Levels.{zero-is}
-use Rattle.words.specs.declared.Literals as sets
-use Rattle.words.specs.Sets.{allWord}
-use Rattle.words.proofs.Variables.{in-all}
-use Rattle.meaning.specs.Uses.{Uses}
-use Rattle.supports.specs.Supports.{Support, Supports}
-use Rattle.conflict.specs.Members.{Quiet}
-use Rattle.walks.specs.Readable.{ListReady}
+use Rattle.table.specs.Nodes.{Node, diagramAt}
+use Rattle.table.specs.Indexed.{Table, nodesOf}
 use Rattle.table.specs.Lists.{diagramsOf}
-use Rattle.conflict.proofs.Asked.{no-conflict}
+use Rattle.table.proofs.Numbers.{diagramAt-zero}
+use Rattle.walks.specs.Readable.{ListReady}
+use Rattle.operate.specs.declared.Operation.the-variants.{Literals}
+use Rattle.words.specs.declared.Literals as sets
+use Rattle.supports.specs.Supports.{Supports}
+use Rattle.touched.specs.Places.{AllBut, Untouched}
+use Rattle.touched.proofs.Places.{but-so, place-or}
+use Rattle.conflict.specs.Marks.{isListed}
+use Rattle.conflict.specs.Members.{Asked}
+use Rattle.conflict.proofs.Asked.{listed-at, listed-here, no-conflict, no-zero}
 use Rattle.members.specs.Made.{results, AllMade}
-use Rattle.unit_search.specs.Units.{Unitless, UnitsAsked}
-use Rattle.members.specs.Touching.{AllTouched}
 use Rattle.members.proofs.Touching.{words-apart, stays}
 use Rattle.members.proofs.Replacing.{getD-map, result-at}
+use Rattle.unit_search.specs.Units.{Unitless, UnitsAsked}
 
--- ---- before the first round
+-- ---- the first look: all members are asked
 
--- A node other than 0 whose word has none of all variables is 1.
-one-of : (T : Table) → Good T → (k : ℕ) → k < T .count → k ≢ 0 → (word : ℕ) → Support word (diagramAt (nodesOf T) k) → bitAnd word (allWord 64) ≡ 0
-    → diagramAt (nodesOf T) k ≡ leaf true
-unfolding Support
-one-of T G k inside nz word has e =
-    go (diagramAt (nodesOf T) k) refl (diagramAt-reduced (nodesOf T) (good-ordered T G) k (omega (arith, length-nodes T G))) has
-  where
-    go : (d : Diagram) → diagramAt (nodesOf T) k ≡ d → Reduced 1 65 d → Uses (inWord word) d → d ≡ leaf true
-    go (leaf true) q o u = refl
-    go (leaf false) q o u = absurd (nz (zero-is T G k inside q))
-    go (node v l h) q o u = t≢f (sym (in-all 64 v (o .0) (omega arith)) ∙ words-apart word (allWord 64) e v (u .0))
+pub asked-all : (t : List Node) (list : List ℕ) → Asked t list list true
+asked-all t list = record { listed = listed-here list; whole = λ _. listed-here list; zero = λ l. l; pairs = λ i j p q e. inl (listed-here list i p) }
 
-pub quiet-all : (T : Table) (list memo words : List ℕ) → ListReady T list memo → Supports (nodesOf T) list words → Quiet (nodesOf T) list words (allWord 64)
-unfolding Quiet Supports
-quiet-all T list memo words R S i j p q x y ni nj e =
-    let one : leaf true ≡ leaf false =
-    sym (one-of T (R .good) (getD list j 0) (R .inside j q) nj (getD words j 0) (S j q) y) ∙ e
-    ∙ ap (negation 64) (one-of T (R .good) (getD list i 0) (R .inside i p) ni (getD words i 0) (S i p) x) ∙ negation-leaf 64 true in
-    let z : true ≡ false = cc in t≢f z
+pub units-all : (ms : List Diagram) → UnitsAsked ms [] 0
+units-all ms = (omega arith, record { inside = λ k p. absurd (omega arith); rising = λ k p. absurd (omega arith); others = λ k j p b q z. absurd (omega arith) })
 
 -- ---- after a round
 
-module _ (T : Table) (list memo words : List ℕ) (R : ListReady T list memo) (len : length words ≡ length list) (S : Supports (nodesOf T) list words) (u : sets.Literals)
-    (T′ : Table) (list′ : List ℕ) (A : AllMade T (results (Literals (u .positive) (u .negative)) T list 1) false T′ list′) (len′ : length list′ ≡ length list)
-    (words′ : List ℕ) (W : AllTouched words words′ (bitOr (u .positive) (u .negative))) where
-  unchanged : (i : ℕ) → i < length list → bitAnd (getD words′ i 0) (bitOr (u .positive) (u .negative)) ≡ 0 → diagramAt (nodesOf T′) (getD list′ i 0) ≡ diagramAt (nodesOf T) (getD list i 0)
-  unfolding Supports AllTouched
+module _ (T : Table) (list memo words : List ℕ) (R : ListReady T list memo) (S : Supports (nodesOf T) list words) (u : sets.Literals)
+    (places : List ℕ) (B : AllBut (length list) places (Untouched words (bitOr (u .positive) (u .negative))))
+    (T′ : Table) (list′ : List ℕ) (A : AllMade T (results (Literals (u .positive) (u .negative)) T list 1) false T′ list′) (len′ : length list′ ≡ length list) where
+  touching : ℕ
+  touching = bitOr (u .positive) (u .negative)
+
+  unchanged : (i : ℕ) → i < length list → Untouched words touching i → diagramAt (nodesOf T′) (getD list′ i 0) ≡ diagramAt (nodesOf T) (getD list i 0)
+  unfolding Supports touching
   unchanged i p e =
       sym (getD-map (diagramAt (nodesOf T′)) list′ i 0 (leaf false) (omega arith))
       ∙ ap (λ (ms : List Diagram). getD ms i (leaf false)) (A .are refl)
       ∙ result-at (Literals (u .positive) (u .negative)) 1 T list memo R (omega (arith, R .good .least)) i p
-      ∙ stays T (R .good) (getD list i 0) 1 (R .inside i p) (omega (arith, R .good .least)) (getD words i 0) (bitOr (u .positive) (u .negative)) (S i p) (Literals (u .positive) (u .negative)) refl refl
-      (W i (omega arith) e)
+      ∙ stays T (R .good) (getD list i 0) 1 (R .inside i p) (omega (arith, R .good .least)) (getD words i 0) touching (S i p) (Literals (u .positive) (u .negative)) refl refl
+      (words-apart (getD words i 0) touching e)
 
-  pub quiet-next : conflicts 64 (diagramsOf (nodesOf T) list) ≡ false → Quiet (nodesOf T′) list′ words′ (bitOr (u .positive) (u .negative))
-  unfolding Quiet
-  quiet-next c i j p q x y ni nj e =
-      no-conflict (nodesOf T) list c i j (omega arith) (omega arith)
-      (sym (unchanged j (omega arith) y) ∙ e ∙ ap (negation 64) (unchanged i (omega arith) x))
+  -- a member is at a place, and its node among those there, or it is unchanged
+  nodes : List ℕ
+  nodes = map (λ i. getD list′ i 0) places
+
+  node-at : (k : ℕ) → k < length places → getD nodes k 0 ≡ getD list′ (getD places k 0) 0
+  unfolding nodes
+  node-at k p = getD-map (λ i. getD list′ i 0) places k 0 0 p
+
+  there-or : (i : ℕ) → i < length list → (isListed nodes (getD list′ i 0) ≡ true) ⊎ Untouched words touching i
+  unfolding nodes touching
+  there-or i p = go (place-or (length list) places (Untouched words touching) B i p)
+    where
+      go : ((k : ℕ) × (k < length places) × (getD places k 0 ≡ i)) ⊎ Untouched words touching i → (isListed nodes (getD list′ i 0) ≡ true) ⊎ Untouched words touching i
+      go (inl m) =
+          inl (ap (isListed nodes) (sym (node-at (m .0) (m .1) ∙ ap (λ (j : ℕ). getD list′ j 0) (m .2)))
+          ∙ listed-here nodes (m .0) (omega (arith, m .1, length-map places (λ i. getD list′ i 0))))
+      go (inr x) = inr x
+
+  pub asked-next : conflicts 64 (diagramsOf (nodesOf T) list) ≡ false → Asked (nodesOf T′) list′ (map (λ i. getD list′ i 0) places) false
+  unfolding nodes touching
+  asked-next c = record {
+    listed = λ k q.
+        let p : k < length places = omega (arith, q, length-map places (λ i. getD list′ i 0)) in
+        ap (isListed list′) (node-at k p) ∙ listed-here list′ (getD places k 0) (omega (arith, B .inside k p));
+    whole = λ z. t≢f (sym z);
+    zero = λ l. zero-there (listed-at list′ 0 l);
+    pairs = λ i j p q e. one (there-or i (omega arith)) (there-or j (omega arith)) (λ x y.
+        no-conflict (nodesOf T) list c i j (omega arith) (omega arith) (sym (unchanged j (omega arith) y) ∙ e ∙ ap (negation 64) (unchanged i (omega arith) x)));
+  }
+    where
+      zero-there : ((i : ℕ) × (i < length list′) × (getD list′ i 0 ≡ 0)) → isListed nodes 0 ≡ true
+      zero-there m = go (there-or (m .0) (omega (arith, m .1)))
+        where
+          go : (isListed nodes (getD list′ (m .0) 0) ≡ true) ⊎ Untouched words touching (m .0) → isListed nodes 0 ≡ true
+          go (inl l) = ap (isListed nodes) (sym (m .2)) ∙ l
+          go (inr x) =
+              absurd (no-zero (nodesOf T) list c (m .0) (omega (arith, m .1))
+              (sym (unchanged (m .0) (omega (arith, m .1)) x) ∙ ap (diagramAt (nodesOf T′)) (m .2) ∙ diagramAt-zero (nodesOf T′)))
+
+      one : {P Q : Type 0} {X Y : Type 0} → P ⊎ X → Q ⊎ Y → (X → Y → ⊥) → P ⊎ Q
+      one (inl p) q no-both = inl p
+      one (inr x) (inl q) no-both = inr q
+      one (inr x) (inr y) no-both = absurd (no-both x y)
 
   -- a member that the round did not change has the units that it had
-  pub asked-next : (place : ℕ) → place ≤ length list → Unitless (diagramsOf (nodesOf T) list) place → UnitsAsked (diagramsOf (nodesOf T′) list′) words′ (bitOr (u .positive) (u .negative)) place
-  asked-next place p U = (
-    omega (arith, length-map list′ (diagramAt (nodesOf T′))),
-    λ k q e.
-        ap (hasUnit 64 64) (getD-map (diagramAt (nodesOf T′)) list′ k 0 (leaf false) (omega arith) ∙ unchanged k (omega arith) e ∙ sym (getD-map (diagramAt (nodesOf T)) list k 0 (leaf false) (omega arith))) ∙ U k q,
+  pub units-next : (place : ℕ) → place ≤ length list → Unitless (diagramsOf (nodesOf T) list) place → UnitsAsked (diagramsOf (nodesOf T′) list′) places place
+  unfolding touching
+  units-next place p U = (
+    omega (arith, same),
+    rw same (but-so (length list) places (Untouched words touching) _ B (λ j q x z.
+        ap (hasUnit 64 64) (getD-map (diagramAt (nodesOf T′)) list′ j 0 (leaf false) (omega arith) ∙ unchanged j q x ∙ sym (getD-map (diagramAt (nodesOf T)) list j 0 (leaf false) q)) ∙ U j z)),
   )
+    where
+      same : length (diagramsOf (nodesOf T′) list′) ≡ length list
+      same = length-map list′ (diagramAt (nodesOf T′)) ∙ len′

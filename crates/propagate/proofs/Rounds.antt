@@ -25,7 +25,8 @@ use Rattle.table.specs.Lists.{room, diagramsOf, Inside, Extended}
 use Rattle.conflict.specs.Marks.{unmarked}
 use Rattle.members.specs.Made.{results, AllMade, differing}
 use Rattle.unit_search.specs.Units.{UnitsTaken}
-use Rattle.propagate.specs.Rounds.{unitResults, Said, roundsLeft}
+use Rattle.supports.specs.Supports.{Supports}
+use Rattle.propagate.specs.Rounds.{unitResults, RoundDue, Said, roundsLeft}
 use Rattle.table.proofs.PlacedAll.{placed-short, placed-then}
 use Rattle.table.proofs.Extended.{extended-same, extended-trans}
 
@@ -133,6 +134,13 @@ going-first T₀ list memo marks R e =
   where
     zero-plus : (x : ℕ) → 0 + x ≡ x
     zero-plus x = omega arith
+
+-- And a round is due, by the units u of the member at `asked`; the words have the list's variables.
+pub record Due (T₀ : Table) (ms₀ : List Diagram) (T : Table) (list memo marks listwords : List ℕ) (rounds : ℕ) (u : words.Literals) (asked : ℕ) : Type 0 where
+  pub going : Going T₀ ms₀ T list memo marks rounds
+  pub worded : length listwords ≡ length list
+  pub supports : Supports (nodesOf T) list listwords
+  pub due : RoundDue (diagramsOf (nodesOf T) list) rounds u asked
 
 module _ (T₀ : Table) (G₀ : Good T₀) (ms₀ : List Diagram) (T : Table) (list memo marks : List ℕ) (rounds : ℕ) (W : Going T₀ ms₀ T list memo marks rounds) where
   pub going-ready : ListReady T list memo

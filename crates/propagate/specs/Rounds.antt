@@ -25,11 +25,14 @@ unitResults u t list = results (Literals (u .positive) (u .negative)) t list 1
 abbrev pub roundsLeft : ℕ → ℕ
 roundsLeft rounds = 64 - rounds
 
--- What comes after so many rounds: the end, with or without a conflict, or a round by the units given, of
--- the member at the place.
+-- After so many rounds there is no conflict, and a round is due by the units given, of the member at the place.
+abbrev pub RoundDue : List Diagram → ℕ → sets.Literals → ℕ → Type 0
+RoundDue ms rounds u place = (rounds < 64) × (conflicts 64 ms ≡ false) × UnitsTaken 64 ms u × (place ≤ length ms) × Unitless ms place
+
+-- What comes after so many rounds: the end, with or without a conflict, or a round.
 abbrev pub NextIs : List Diagram → ℕ → Next → Type 0
 NextIs ms rounds (End conflict) = propagate (roundsLeft rounds) 64 ms ≡ still conflict
-NextIs ms rounds (By u place) = (rounds < 64) × (conflicts 64 ms ≡ false) × UnitsTaken 64 ms u × (place ≤ length ms) × Unitless ms place
+NextIs ms rounds (By u place) = RoundDue ms rounds u place
 
 -- The propagation p over the table t: `full` exactly where what it makes finds no room, else its conflict and its rounds.
 pub record Said (t : Table) (p : Propagation) (r : Propagated) (t′ : Table) : Type 0 where

@@ -1,6 +1,7 @@
 -- A member has a unit exactly where one of the two words of its units is not 0, and the first such member is the one that a round
 -- takes. The idea: a word without variables is 0. Assumes nothing.
 use mathlib.Core.Path.{_≡_, refl, sym, ap, ap₂, _∙_, subst}
+use mathlib.Core.Logic.{inl, inr, ⊎-elim}
 use mathlib.Core.Bool.{Bool, true, false, _||_, cond}
 use mathlib.Core.List.{List, [], _∷_}
 use mathlib.Core.Option.{none, some}
@@ -8,9 +9,8 @@ use Prim.Native.Nat.{ℕ, zero, suc, _+_, _-_, _^_, _≤_, _<_}
 use native.Mathlib.Omega.{arith}
 use native.Mathlib.Numerals.{add-one}
 use native.Mathlib.Decide.{ℕ-discrete, decLt}
-use lib.ListN.{length, getD, drop, length-map, drop-of-length-le, List·getD-map}
+use lib.ListN.{length, getD, drop, length-map, drop-of-length-le, List·getD-map, List·getD-eq-default}
 use lib.Seq.{drop-cons}
-use lib.Bits.{bitAnd}
 use Rattle.meaning.specs.Diagram.{Diagram, leaf}
 use Rattle.meaning.specs.Operations.{isUnit}
 use Rattle.meaning.specs.Rules.{hasUnit, firstWithUnit}
@@ -24,7 +24,9 @@ use Rattle.words.specs.Sets.{has}
 use Rattle.words.proofs.Variables.{word-zero}
 use Rattle.units.specs.Units.{UnitsAt}
 use Rattle.table.specs.Lists.{diagramsOf}
-use Rattle.unit_search.specs.Units.{UnitsTaken, Unitless, UnitsAsked, Skips}
+use Rattle.touched.specs.Places.{behind, Rising}
+use Rattle.touched.proofs.Places.{getD-inside, getD-more}
+use Rattle.unit_search.specs.Units.{UnitsTaken, Unitless, UnitsAsked, Behind, NextPlace, Skips, UnitlessTo}
 
 -- ---- units
 
@@ -124,24 +126,46 @@ unitless-next ms i U e k p = go (ℕ-discrete k i)
     go (yes z) = ap (λ (j : ℕ). hasUnit 64 64 (getD ms j (leaf false))) z ∙ e
     go (no z) = U k (omega arith)
 
-pub unitless-skip : (ms : List Diagram) (words : List ℕ) (touching asked i r : ℕ) → UnitsAsked ms words touching asked → Skips words touching asked i r → Unitless ms i → Unitless ms r
-unitless-skip ms words touching asked i r A S U k p = go (decLt k i)
-  where
-    go : Dec (k < i) → hasUnit 64 64 (getD ms k (leaf false)) ≡ false
-    go (yes q) = U k q
-    go (no q) = let s = S .passed k (omega (arith, q)) p in A .1 k (s .0) (s .1)
+-- The next place, from `from` on, behind the first k of the places.
+module _ (places : List ℕ) (asked k from : ℕ) where
+  pub skips-none : asked ≤ from → Skips places asked k from from
+  skips-none h = record { from-on = omega arith; most = λ n p q. p; next = inr h; passed = λ j p q. absurd (omega arith) }
 
-pub skips-none : (words : List ℕ) (touching asked from : ℕ) → from ≤ length words → Skips words touching asked from from
-skips-none words touching asked from h = record { from-on = omega arith; most = h; passed = λ k p q. absurd (omega arith) }
+  module _ (B : Behind places asked k from) (before : from < asked) where
+    behind-is : (k ≤ length places) × (behind places k ≡ from)
+    behind-is = ⊎-elim (λ b. b) (λ q. absurd (omega arith)) B
 
-pub skips-next : (words : List ℕ) (touching asked from i : ℕ) → asked ≤ length words → Skips words touching asked from i → i < asked → bitAnd (getD words i 0) touching ≡ 0
-    → Skips words touching asked from (i + 1)
-skips-next words touching asked from i h S less e =
-    record { from-on = omega (arith, S .from-on); most = omega (arith, h); passed = λ k p q. go k p q (ℕ-discrete k i) }
+    pub skips-place : Rising places → k < length places → getD places k 0 < asked → Skips places asked k from (getD places k 0)
+    skips-place R less p =
+        record {
+          from-on = omega (arith, behind-is .1, R k less);
+          most = λ n _ q. omega arith;
+          next = inl (less, refl);
+          passed = λ j q r. (behind-is .0, omega (arith, behind-is .1), omega (arith, getD-inside places k 0 asked less), omega arith);
+        }
+
+    pub skips-all : (k < length places → asked ≤ getD places k 0) → Skips places asked k from asked
+    skips-all far =
+        record { from-on = omega arith; most = λ n _ q. q; next = inr (omega arith); passed = λ j q r. (behind-is .0, omega (arith, behind-is .1), up-to j r (decLt k (length places)), r) }
+      where
+        up-to : (j : ℕ) → j < asked → Dec (k < length places) → j < getD places k asked
+        up-to j r (yes p) = omega (arith, far p, getD-inside places k 0 asked p)
+        up-to j r (no p) = omega (arith, List·getD-eq-default places asked {n = k} (omega (arith, p)))
+
+pub behind-next : (places : List ℕ) (asked k place : ℕ) → NextPlace places asked k place → Behind places asked (k + 1) (place + 1)
+behind-next places asked k place =
+    ⊎-elim (λ n. inl (omega (arith, n .0), ap (behind places) (add-one k) ∙ ap suc (n .1) ∙ sym (add-one place))) (λ q. inr (omega (arith, q)))
+
+pub unitless-skip : (ms : List Diagram) (places : List ℕ) (asked k from r : ℕ) → UnitsAsked ms places asked → k ≤ from → from ≤ length ms → Unitless ms from → Skips places asked k from r
+    → UnitlessTo ms places asked r k
+unitless-skip ms places asked k from r A fewer inside U S =
+    record { most = S .most (length ms) inside (A .0); none = λ j p. go j p (decLt j from); next = S .next; fewer = omega (arith, S .from-on) }
   where
-    go : (k : ℕ) → from ≤ k → k < i + 1 → Dec (k ≡ i) → (k < asked) × (bitAnd (getD words k 0) touching ≡ 0)
-    go k p q (yes z) = (omega arith, ap (λ (j : ℕ). bitAnd (getD words j 0) touching) z ∙ e)
-    go k p q (no z) = S .passed k p (omega arith)
+    go : (j : ℕ) → j < r → Dec (j < from) → hasUnit 64 64 (getD ms j (leaf false)) ≡ false
+    go j p (yes q) = U j q
+    go j p (no q) =
+        let s = S .passed j (omega (arith, q)) p in
+        A .1 .others k j (s .0) (s .1) (omega (arith, s .2, getD-more places k asked (length ms) (A .0))) (s .3)
 
 module _ (t : List Node) (list : List ℕ) where
   member-is : (i : ℕ) → getD (diagramsOf t list) i (leaf false) ≡ diagramAt t (getD list i 0)

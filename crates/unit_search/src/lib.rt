@@ -2,12 +2,10 @@
 use table::NodeNo;
 use units::AtTop;
 use words::Literals;
-ghost use mathlib.Core.Path.{_≡_};
-ghost use Prim.Native.Nat.{_≤_};
-ghost use lib.ListN.{length};
 ghost use Rattle.walks.specs.Readable.{Readable, Roomy, nodesIn};
 ghost use Rattle.table.specs.Lists.{diagramsOf, Inside};
-ghost use Rattle.unit_search.specs.Units.{AreFirst, FirstAtTop, Unitless, UnitsAsked, Skips};
+ghost use Rattle.touched.specs.Places.{Rising};
+ghost use Rattle.unit_search.specs.Units.{AreFirst, FirstAtTop, UnitlessTo, UnitsAsked, Behind, Skips};
 
 // The units by which a round cofactors and the place of the first member that has any, if there is one.
 pub enum FirstUnits {
@@ -15,25 +13,29 @@ pub enum FirstUnits {
     Nothing,
 }
 
-// The next place to ask, from `from` on: none before `asked` is, but those that have a variable in `touching`.
-fn next_asked(words: &[u64], touching: u64, asked: usize, from: usize) -> usize
-    requires { ⌜ (asked ≤ length (now words)) × (from ≤ length (now words)) ⌝ }
-    ensures { λ r. ⌜ Skips (now (words .entry)) touching asked from r ⌝ }
+// The next place to ask, from `from` on, which is behind the first k of the places: the next of these while it is before `asked`, then each
+// from `asked` on.
+fn next_asked(places: &[u16], asked: usize, k: usize, from: usize) -> usize
+    requires { ⌜ Rising (now places) × Behind (now places) asked k from ⌝ }
+    ensures { λ r. ⌜ Skips (now (places .entry)) asked k from r ⌝ }
 {
-    let mut i = from;
-    while i < asked {
-        if words[i] & touching != 0 {
-            return i;
-        }
-        i += 1;
+    if asked <= from {
+        return from;
     }
-    i
+    if k < places.len() {
+        let place = places[k] as usize;
+        if place < asked {
+            return place;
+        }
+    }
+    asked
 }
 
-// What top nodes alone tell of the first units: the units and the place of the first member that has any, or up to where there are none.
+// What top nodes alone tell of the first units: the units and the place of the first member that has any; or up to where there are none,
+// and how many of the places are before that.
 enum TopUnits {
     Told { units: Literals, place: usize },
-    UpTo(usize),
+    UpTo { place: usize, k: usize },
 }
 
 // The units of the first listed node that has any, or the place of the first that has to be walked for them; the other arguments are those
@@ -43,25 +45,25 @@ fn first_at_top(
     lows: &[u16],
     highs: &[u16],
     list: &[u16],
-    words: &[u64],
+    places: &[u16],
     count: usize,
-    touching: u64,
     asked: usize,
 ) -> TopUnits
     requires { ⌜ Readable (now vars) (now lows) (now highs) count × Inside count (now list) ⌝ }
     requires { ⌜ (
         let nodes = nodesIn (now vars) (now lows) (now highs) count in
-        (length (now words) ≡ length (now list)) × UnitsAsked (diagramsOf nodes (now list)) (now words) touching asked) ⌝ }
+        UnitsAsked (diagramsOf nodes (now list)) (now places) asked) ⌝ }
     ensures { λ r. ⌜ (
         let nodes = nodesIn (now (vars .entry)) (now (lows .entry)) (now (highs .entry)) count in
-        FirstAtTop (diagramsOf nodes (now (list .entry))) r) ⌝ }
+        FirstAtTop (diagramsOf nodes (now (list .entry))) (now (places .entry)) asked r) ⌝ }
 {
-    let mut place = next_asked(words, touching, asked, 0);
+    let mut k: usize = 0;
+    let mut place = next_asked(places, asked, 0, 0);
     while place < list.len() {
         let member = NodeNo(list[place]);
         match units::units_at_top(vars, lows, highs, count, member) {
             AtTop::Unknown => {
-                return TopUnits::UpTo(place);
+                return TopUnits::UpTo { place, k };
             }
             AtTop::Known(u) => {
                 if u.positive != 0 || u.negative != 0 {
@@ -69,36 +71,36 @@ fn first_at_top(
                 }
             }
         }
-        place = next_asked(words, touching, asked, place + 1);
+        k += 1;
+        place = next_asked(places, asked, k, place + 1);
     }
-    TopUnits::UpTo(place)
+    TopUnits::UpTo { place, k }
 }
 
-// The same by walks, from a place before which none has a unit. Clears the memo.
+// The same by walks, from a place before which none has a unit, so many of the places being passed. Clears the memo.
 fn first_by_walks(
     vars: &[u8],
     lows: &[u16],
     highs: &[u16],
     memo: &mut [u64],
     list: &[u16],
-    words: &[u64],
+    places: &[u16],
     count: usize,
-    touching: u64,
     asked: usize,
     from: usize,
+    passed: usize,
 ) -> FirstUnits
     requires { ⌜ Readable (now vars) (now lows) (now highs) count × Inside count (now list) × Roomy (now vars) (now memo) ⌝ }
     requires { ⌜ (
         let nodes = nodesIn (now vars) (now lows) (now highs) count in
-        (length (now words) ≡ length (now list))
-        × UnitsAsked (diagramsOf nodes (now list)) (now words) touching asked
-        × (from ≤ length (now list))
-        × Unitless (diagramsOf nodes (now list)) from) ⌝ }
+        UnitsAsked (diagramsOf nodes (now list)) (now places) asked
+        × UnitlessTo (diagramsOf nodes (now list)) (now places) asked from passed) ⌝ }
     ensures { λ r. ⌜ (
         let nodes = nodesIn (now (vars .entry)) (now (lows .entry)) (now (highs .entry)) count in
         AreFirst 64 (diagramsOf nodes (now (list .entry))) r) ⌝ }
 {
     walks::clear_cells(memo, count);
+    let mut k = passed;
     let mut place = from;
     while place < list.len() {
         let member = NodeNo(list[place]);
@@ -107,36 +109,36 @@ fn first_by_walks(
         if u.positive != 0 || u.negative != 0 {
             return FirstUnits::Of { units: u, place };
         }
-        place = next_asked(words, touching, asked, place + 1);
+        k += 1;
+        place = next_asked(places, asked, k, place + 1);
     }
     FirstUnits::Nothing
 }
 
-// The units of the first listed node that has any, where of those before `asked` only such as have a variable in `touching`, as their
-// words tell, may have one. Walks, and clears the memo, only from the first whose top node does not tell its units.
+// The units of the first listed node that has any, where of those before `asked` only such as stand at the places may have one. Walks,
+// and clears the memo, only from the first whose top node does not tell its units.
 pub fn first_units(
     vars: &[u8],
     lows: &[u16],
     highs: &[u16],
     memo: &mut [u64],
     list: &[u16],
-    words: &[u64],
+    places: &[u16],
     count: usize,
-    touching: u64,
     asked: usize,
 ) -> FirstUnits
     requires { ⌜ Readable (now vars) (now lows) (now highs) count × Inside count (now list) × Roomy (now vars) (now memo) ⌝ }
     requires { ⌜ (
         let nodes = nodesIn (now vars) (now lows) (now highs) count in
-        (length (now words) ≡ length (now list)) × UnitsAsked (diagramsOf nodes (now list)) (now words) touching asked) ⌝ }
+        UnitsAsked (diagramsOf nodes (now list)) (now places) asked) ⌝ }
     ensures { λ r. ⌜ (
         let nodes = nodesIn (now (vars .entry)) (now (lows .entry)) (now (highs .entry)) count in
         AreFirst 64 (diagramsOf nodes (now (list .entry))) r) ⌝ }
 {
-    match first_at_top(vars, lows, highs, list, words, count, touching, asked) {
+    match first_at_top(vars, lows, highs, list, places, count, asked) {
         TopUnits::Told { units: u, place } => FirstUnits::Of { units: u, place },
-        TopUnits::UpTo(place) => {
-            if place == list.len() {
+        TopUnits::UpTo { place, k } => {
+            if list.len() <= place {
                 return FirstUnits::Nothing;
             }
             first_by_walks(
@@ -145,11 +147,11 @@ pub fn first_units(
                 highs,
                 memo,
                 list,
-                words,
+                places,
                 count,
-                touching,
                 asked,
                 place,
+                k,
             )
         }
     }

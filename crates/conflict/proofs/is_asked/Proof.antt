@@ -2,7 +2,6 @@
 use mathlib.Core.Path.{ap}
 use mathlib.Core.Bool.{not}
 use borrow.Author.Needs.{needs}
-use borrow.Author.Tests.{eq-eqb, ne-eqb}
 use Rattle.conflict.specs.Members.{asks}
 use Rattle.conflict.proofs.is_asked.Statement.{statement}
 use Rattle.conflict.proofs.is_asked.Tie as tie
@@ -19,12 +18,12 @@ module _ (c : tie.After-value-of) where
 returns : tie.Need-returns
 unfolding asks
 returns c =
-    rw (eq-eqb _ _ (then1-from-return c .if1 .taken)) (ap not (c .value-of .ensures))
+    rw (then1-from-return c .if1 .taken) (ap not (c .value-of .ensures))
 
 returns-2 : tie.Need-returns-2
 unfolding asks
 returns-2 c =
-    rw (ne-eqb _ _ (c .if1 .left))
+    rw (c .if1 .left)
 
 pub is-asked-spec : {M : Type 1} → statement M
 is-asked-spec =

@@ -1,61 +1,65 @@
--- The walk over the list: none asked so far has its negation listed, while the memo stays right. Assumes nothing.
+-- The walk over the asked: none of them so far has its negation listed, while the memo stays right. Assumes nothing.
 use mathlib.Core.Path.{_≡_, refl, sym, ap, _∙_, subst}
 use mathlib.Core.Logic.{⊎-elim}
 use mathlib.Core.List.{List}
 use Prim.Native.Nat.{ℕ, _-_}
 use native.Mathlib.Omega.{arith}
-use lib.ListN.{length, getD}
+use lib.ListN.{length}
 use borrow.Author.Needs.{needs}
-use Rattle.table.specs.Indexed.{tableOf, nodesOf}
-use Rattle.table.proofs.Written.{good-ordered}
-use Rattle.meaning.proofs.Booleans.{t≢f}
+use Rattle.table.specs.Indexed.{Table, tableOf, nodesOf}
 use Rattle.walks.proofs.Here.{good-readable}
 use Rattle.negate.specs.Negations.{NegationMemo}
 use Rattle.negate.proofs.Entries.{negations-cleared}
-use Rattle.conflict.specs.Members.{NegationsAsked}
 use Rattle.conflict.specs.Marks.{FoundInside}
-use Rattle.conflict.proofs.Marks.{marked-length}
-use Rattle.conflict.proofs.Asked.{negated-here, none-negated, asked-next}
-use Rattle.conflict.proofs.Marked.{in-nodes, found-inside, negation-told}
+use Rattle.conflict.proofs.Marked.{found-inside, StillAsked, still-unasked, still-unmarked, marked-conflict, still-none}
 use Rattle.conflict.proofs.rest_negated.Statement.{statement}
 use Rattle.conflict.proofs.rest_negated.Tie as tie
 
 abbrev Inv-loop : tie.InvT-loop
-Inv-loop vars lows highs heads links memo₀ marks list words count touching from i₀ memo i =
-    (length memo ≡ length memo₀) × NegationMemo memo (tableOf vars lows highs heads links count) × NegationsAsked (nodesOf (tableOf vars lows highs heads links count)) list words touching i
+Inv-loop vars lows highs heads links memo₀ marks asked count all from i₀ memo i =
+    (length memo ≡ length memo₀)
+    × NegationMemo memo (tableOf vars lows highs heads links count)
+    × StillAsked (tableOf vars lows highs heads links count) asked marks all from i
 
 abbrev μ-loop : tie.MeasureT-loop
-μ-loop vars lows highs heads links memo₀ marks list words count touching from i₀ memo i =
-    length list - i
+μ-loop vars lows highs heads links memo₀ marks asked count all from i₀ memo i = length asked - i
+
+abbrev table : tie.Start Inv-loop μ-loop → Table
+table s = let a = s .args in tableOf (a .vars .now) (a .lows .now) (a .highs .now) (a .heads .now) (a .links .now) (a .count)
 
 clear-cells-requires : tie.Need-clear-cells-requires Inv-loop μ-loop
-clear-cells-requires c κs =
-    search needs
+clear-cells-requires c κs = search needs
 
 -- The ways back, written by ways.py: TO-from-FROM leads from the place FROM of the code to the place TO before it.
 module _ (c : tie.After-clear-cells Inv-loop μ-loop) where
   abbrev start-from-clear-cells : tie.Start Inv-loop μ-loop
-  start-from-clear-cells = c .before .before .before .before .before .before .before .before .before .before .before
+  start-from-clear-cells = c .before .before .before .before .before .before .before .before .before .before
 
 module _ (c : tie.After-slice-known2 Inv-loop μ-loop) where
+  abbrev clear-cells-from-loop-holds : tie.After-clear-cells Inv-loop μ-loop
+  clear-cells-from-loop-holds = c .before .before
+
   abbrev start-from-loop-holds : tie.Start Inv-loop μ-loop
-  start-from-loop-holds = start-from-clear-cells (c .before .before)
+  start-from-loop-holds = start-from-clear-cells clear-cells-from-loop-holds
 
 module _ (c : tie.At-loop Inv-loop μ-loop) where
   abbrev clear-cells-from-at-loop : tie.After-clear-cells Inv-loop μ-loop
   clear-cells-from-at-loop = c .before .before .before
 
 module _ (c : tie.After-loop Inv-loop μ-loop) where
+  abbrev at-loop-from-return-2 : tie.At-loop Inv-loop μ-loop
+  at-loop-from-return-2 = c .before
+
   abbrev start-from-return-2 : tie.Start Inv-loop μ-loop
-  start-from-return-2 = start-from-clear-cells (clear-cells-from-at-loop (c .before))
+  start-from-return-2 = start-from-clear-cells (clear-cells-from-at-loop at-loop-from-return-2)
 
 module _ (c : tie.In-loop Inv-loop μ-loop) where
   abbrev at-loop-from-in-loop : tie.At-loop Inv-loop μ-loop
   at-loop-from-in-loop = c .before
 
-module _ (c : tie.After-shared-slice-known10 Inv-loop μ-loop) where
+module _ (c : tie.After-shared-slice-known8 Inv-loop μ-loop) where
   abbrev in-loop-from-is-asked-call : tie.In-loop Inv-loop μ-loop
-  in-loop-from-is-asked-call = c .before .before
+  in-loop-from-is-asked-call = c .before
 
   abbrev at-loop-from-is-asked-call : tie.At-loop Inv-loop μ-loop
   at-loop-from-is-asked-call = at-loop-from-in-loop in-loop-from-is-asked-call
@@ -65,7 +69,7 @@ module _ (c : tie.After-shared-slice-known10 Inv-loop μ-loop) where
 
 module _ (c : tie.After-is-asked Inv-loop μ-loop) where
   abbrev in-loop-from-is-asked : tie.In-loop Inv-loop μ-loop
-  in-loop-from-is-asked = c .before .before .before
+  in-loop-from-is-asked = c .before .before
 
 module _ (c : tie.Joined1 Inv-loop μ-loop) where
   abbrev is-asked-from-loop-again : tie.After-is-asked Inv-loop μ-loop
@@ -101,15 +105,20 @@ module _ (c : tie.After-slice-known3 Inv-loop μ-loop) where
   abbrev negation-from-from-is-marked-call : tie.After-negation-from Inv-loop μ-loop
   negation-from-from-is-marked-call = c .before .before
 
-  abbrev at-loop-from-is-marked-call : tie.At-loop Inv-loop μ-loop
-  at-loop-from-is-marked-call = at-loop-from-in-loop (in-loop-from-is-asked (is-asked-from-negation-from negation-from-from-is-marked-call))
-
   abbrev start-from-is-marked-call : tie.Start Inv-loop μ-loop
-  start-from-is-marked-call = start-from-clear-cells (clear-cells-from-at-loop at-loop-from-is-marked-call)
+  start-from-is-marked-call = start-from-clear-cells (clear-cells-from-at-loop (at-loop-from-in-loop (in-loop-from-is-asked
+      (is-asked-from-negation-from negation-from-from-is-marked-call))))
+
+module _ (c : tie.After-is-marked Inv-loop μ-loop) where
+  abbrev negation-from-from-is-marked : tie.After-negation-from Inv-loop μ-loop
+  negation-from-from-is-marked = c .before .before .before
 
 module _ (c : tie.Then2 Inv-loop μ-loop) where
+  abbrev is-marked-from-then2 : tie.After-is-marked Inv-loop μ-loop
+  is-marked-from-then2 = c .before
+
   abbrev negation-from-from-then2 : tie.After-negation-from Inv-loop μ-loop
-  negation-from-from-then2 = c .before .before .before .before
+  negation-from-from-then2 = negation-from-from-is-marked is-marked-from-then2
 
   abbrev in-loop-from-then2 : tie.In-loop Inv-loop μ-loop
   in-loop-from-then2 = in-loop-from-is-asked (is-asked-from-negation-from negation-from-from-then2)
@@ -122,99 +131,83 @@ module _ (c : tie.Then2 Inv-loop μ-loop) where
 
 loop-holds : tie.Need-loop-holds Inv-loop μ-loop
 loop-holds c =
-    let a = start-from-loop-holds c .args in
-    (refl, negations-cleared (tableOf (a .vars .now) (a .lows .now) (a .highs .now) (a .heads .now) (a .links .now) (a .count)) _ (c .before .before .clear-cells .ensures), start-from-loop-holds c .pre .1 .3)
+    (refl, negations-cleared (table (start-from-loop-holds c)) _ (clear-cells-from-loop-holds c .clear-cells .ensures), λ list M N. N)
 
-mul-is-asked : tie.Need-mul-is-asked Inv-loop μ-loop
-mul-is-asked c =
-    search needs
+mul-t18 : tie.Need-mul-t18 Inv-loop μ-loop
+mul-t18 c = search needs
 
-shared-slice-read-is-asked : tie.Need-shared-slice-read-is-asked Inv-loop μ-loop
-shared-slice-read-is-asked c =
-    omega (arith, start-from-is-asked-call c .pre .1 .1, in-loop-from-is-asked-call c .loop-test .taken)
-
-mul-t19 : tie.Need-mul-t19 Inv-loop μ-loop
-mul-t19 c =
-    search needs
-
-shared-slice-read-t22 : tie.Need-shared-slice-read-t22 Inv-loop μ-loop
-shared-slice-read-t22 c =
-    search needs
+shared-slice-read-t21 : tie.Need-shared-slice-read-t21 Inv-loop μ-loop
+shared-slice-read-t21 c = search needs
 
 is-asked-requires : tie.Need-is-asked-requires Inv-loop μ-loop
 is-asked-requires c κs =
-    let a = start-from-is-asked-call c .args in
-    let r = start-from-is-asked-call c .pre .0 .0 in
-    (good-readable (tableOf (a .vars .now) (a .lows .now) (a .highs .now) (a .heads .now) (a .links .now) (a .count)) (r .good), r .inside (at-loop-from-is-asked-call c .loop .i) (in-loop-from-is-asked-call c .loop-test .taken))
+    let s = start-from-is-asked-call c in
+    (good-readable (table s) (s .pre .0 .good), s .pre .0 .inside (at-loop-from-is-asked-call c .loop .i) (in-loop-from-is-asked-call c .loop-test .taken))
 
 negation-from-requires : tie.Need-negation-from-requires Inv-loop μ-loop
 negation-from-requires c κs =
     let r = start-from-negation-from-call c .pre in
     let w = at-loop-from-negation-from-call c .loop in
     record {
-      good = r .0 .0 .good;
-      inside = r .0 .0 .inside (w .i) (in-loop-from-negation-from-call c .loop-test .taken);
-      room = omega (arith, w .inv .0, clear-cells-from-negation-from-call c .clear-cells .kept .0, r .0 .0 .room);
+      good = r .0 .good;
+      inside = r .0 .inside (w .i) (in-loop-from-negation-from-call c .loop-test .taken);
+      room = omega (arith, w .inv .0, clear-cells-from-negation-from-call c .clear-cells .kept .0, r .0 .room);
       right = w .inv .1;
     }
 
 is-marked-requires : tie.Need-is-marked-requires Inv-loop μ-loop
 is-marked-requires c κs =
-    let a = start-from-is-marked-call c .args in
-    let r = start-from-is-marked-call c .pre in
-    let w = at-loop-from-is-marked-call c .loop in
+    let s = start-from-is-marked-call c in
     let y = negation-from-from-is-marked-call c .negation-from in
-    let len : length (a .marks .now) ≡ length (a .vars .now) = ap length (r .0 .1) ∙ marked-length (length (a .vars .now)) (a .list .now) in
-    subst (λ n. FoundInside n (y .result)) (sym len) (found-inside (tableOf (a .vars .now) (a .lows .now) (a .highs .now) (a .heads .now) (a .links .now) (a .count)) (r .0 .0 .good) (a .list .now) (r .0 .0 .inside) _ (y .result) (y .ensures .0))
+    subst (λ n. FoundInside n (y .result)) (sym (s .pre .2)) (found-inside (table s) (s .pre .0 .good) (s .args .asked .now) (s .pre .0 .inside) _ (y .result) (y .ensures .0))
 
 same-length : tie.Need-same-length Inv-loop μ-loop
-same-length c =
-    search needs
+same-length c = search needs
 
 returns : tie.Need-returns Inv-loop μ-loop
 returns c =
-    let a = start-from-then2 c .args in
-    let r = start-from-then2 c .pre in
+    let s = start-from-then2 c in
+    let a = s .args in
     let w = at-loop-from-then2 c .loop in
-    sym (negated-here (nodesOf (tableOf (a .vars .now) (a .lows .now) (a .highs .now) (a .heads .now) (a .links .now) (a .count))) (a .list .now) (w .i) (in-loop-from-then2 c .loop-test .taken) (negation-told (tableOf (a .vars .now) (a .lows .now) (a .highs .now) (a .heads .now) (a .links .now) (a .count)) (r .0 .0 .good) (a .list .now) (r .0 .0 .inside) (getD (a .list .now) (w .i) 0) (negation-from-from-then2 c .negation-from .result) (negation-from-from-then2 c .negation-from .ensures .0) (a .marks .now) (r .0 .1) _ (c .before .is-marked .ensures) ∙ c .if2 .taken))
+    let y = negation-from-from-then2 c .negation-from in
+    λ list M N. sym (marked-conflict (table s) (s .pre .0 .good) (a .asked .now) (a .marks .now) (a .all) (a .from) (w .i) (in-loop-from-then2 c .loop-test .taken) (y .result) (y .ensures .0)
+    (sym (is-marked-from-then2 c .is-marked .ensures) ∙ c .if2 .taken) list M)
 
 add-i : tie.Need-add-i Inv-loop μ-loop
-add-i c =
-    omega (arith, mul-t19 (in-loop-from-loop-again c))
+add-i c = omega (arith, mul-t18 (in-loop-from-loop-again c))
 
 loop-less : tie.Need-loop-less Inv-loop μ-loop
-loop-less c =
-    search needs
+loop-less c = search needs
 
 loop-again : tie.Need-loop-again Inv-loop μ-loop
 unfolding nodesOf
 loop-again c =
-    let a = start-from-loop-again c .args in
-    let r = start-from-loop-again c .pre in
+    let s = start-from-loop-again c in
+    let a = s .args in
     let w = at-loop-from-loop-again c .loop in
+    let p = in-loop-from-loop-again c .loop-test .taken in
     ⊎-elim
     (λ x. (
       ap length (x .7) ∙ x .2 .kept .1 .1 .1 .1 .1 .0 ∙ w .inv .0,
-      subst (λ (m : List ℕ). NegationMemo m (tableOf (a .vars .now) (a .lows .now) (a .highs .now) (a .heads .now) (a .links .now) (a .count))) (sym (x .7)) (x .2 .ensures .1),
-      asked-next (nodesOf (tableOf (a .vars .now) (a .lows .now) (a .highs .now) (a .heads .now) (a .links .now) (a .count))) (a .list .now) (a .words .now) (a .touching) (w .i) (w .inv .2) (in-loop-from-loop-again c .loop-test .taken) (λ _. negation-told (tableOf (a .vars .now) (a .lows .now) (a .highs .now) (a .heads .now) (a .links .now) (a .count)) (r .0 .0 .good) (a .list .now) (r .0 .0 .inside) (getD (a .list .now) (w .i) 0) (x .2 .result) (x .2 .ensures .0) (a .marks .now) (r .0 .1) _ (x .5 .ensures) ∙ x .6 .left),
+      subst (λ (m : List ℕ). NegationMemo m (table s)) (sym (x .7)) (x .2 .ensures .1),
+      still-unmarked (table s) (s .pre .0 .good) (a .asked .now) (a .marks .now) (a .all) (a .from) (w .i) p (x .2 .result) (x .2 .ensures .0) (sym (x .5 .ensures) ∙ x .6 .left) (w .inv .2),
     ))
     (λ x. (
       ap length (x .1) ∙ w .inv .0,
-      subst (λ (m : List ℕ). NegationMemo m (tableOf (a .vars .now) (a .lows .now) (a .highs .now) (a .heads .now) (a .links .now) (a .count))) (sym (x .1)) (w .inv .1),
-      asked-next (nodesOf (tableOf (a .vars .now) (a .lows .now) (a .highs .now) (a .heads .now) (a .links .now) (a .count))) (a .list .now) (a .words .now) (a .touching) (w .i) (w .inv .2) (in-loop-from-loop-again c .loop-test .taken) (λ e. t≢f (sym e ∙ sym (is-asked-from-loop-again c .is-asked .ensures) ∙ x .0 .left)),
+      subst (λ (m : List ℕ). NegationMemo m (table s)) (sym (x .1)) (w .inv .1),
+      still-unasked (table s) (s .pre .0 .good) (a .asked .now) (a .marks .now) (a .all) (a .from) (w .i) p (sym (is-asked-from-loop-again c .is-asked .ensures) ∙ x .0 .left) (w .inv .2),
     ))
     (c .if1 .came)
 
 same-length-2 : tie.Need-same-length-2 Inv-loop μ-loop
-same-length-2 c =
-    search needs
+same-length-2 c = search needs
 
 returns-2 : tie.Need-returns-2 Inv-loop μ-loop
 returns-2 c =
-    let a = start-from-return-2 c .args in
-    let r = start-from-return-2 c .pre in
-    let w = c .before .loop in
-    sym (none-negated (nodesOf (tableOf (a .vars .now) (a .lows .now) (a .highs .now) (a .heads .now) (a .links .now) (a .count))) (a .list .now) (good-ordered (tableOf (a .vars .now) (a .lows .now) (a .highs .now) (a .heads .now) (a .links .now) (a .count)) (r .0 .0 .good)) (in-nodes (tableOf (a .vars .now) (a .lows .now) (a .highs .now) (a .heads .now) (a .links .now) (a .count)) (r .0 .0 .good) (a .list .now) (r .0 .0 .inside)) (a .words .now) (a .touching) (r .1 .0) (r .1 .2) (λ j q. w .inv .2 .none j (omega (arith, c .loop-test .left))))
+    let s = start-from-return-2 c in
+    let a = s .args in
+    let w = at-loop-from-return-2 c .loop in
+    λ list M N. sym (still-none (table s) (s .pre .0 .good) (a .asked .now) (a .marks .now) (a .all) (a .from) (w .i) (omega (arith, c .loop-test .left)) (w .inv .2) list M N)
 
 pub rest-negated-spec : {M : Type 1} → statement M
 rest-negated-spec =
@@ -224,10 +217,8 @@ rest-negated-spec =
     μ-loop
     clear-cells-requires
     loop-holds
-    mul-t19
-    shared-slice-read-t22
-    mul-is-asked
-    shared-slice-read-is-asked
+    mul-t18
+    shared-slice-read-t21
     is-asked-requires
     negation-from-requires
     is-marked-requires

@@ -1,9 +1,10 @@
 -- `by_negation` makes not-g and the members by it, in that order. Each place of the code is one law of Negations. Assumes nothing.
-use mathlib.Core.Path.{_≡_, sym, _∙_, subst}
+use mathlib.Core.Path.{_≡_, sym, ap, _∙_, subst}
 use mathlib.Core.Bool.{false}
 use mathlib.Core.List.{List}
-use Prim.Native.Nat.{ℕ, _<_}
-use lib.ListN.{length}
+use Prim.Native.Nat.{ℕ, _≤_, _<_}
+use lib.ListN.{length, take}
+use lib.Seq.{length-take-le}
 use borrow.Author.Needs.{needs}
 use Rattle.table.specs.Nodes.{diagramAt}
 use Rattle.table.specs.Indexed.{Table, tableOf, nodesOf, Outcome, outcomeOf}
@@ -16,6 +17,7 @@ use Rattle.walks.specs.Readable.{ListReady}
 use Rattle.walks.proofs.Here.{good-readable}
 use Rattle.members.specs.Made.{results, AllMade}
 use Rattle.members.specs.Touching.{Touches}
+use Rattle.touched.specs.Places.{AllBut, Untouched}
 use Rattle.judge.proofs.Negations.{negation-ready, negation-full, cofactors-ready, negation-words, cofactors-made}
 use native.Mathlib.Omega.{arith}
 use Rattle.judge.proofs.by_negation.Statement.{statement}
@@ -87,9 +89,34 @@ module _ (c : tie.After-forced-of-arg4) where
   abbrev apply-from-forced-of-call : tie.After-apply
   apply-from-forced-of-call = apply-from-else1 else1-from-forced-of-call
 
+module _ (c : tie.After-places) where
+  abbrev forced-of-from-touched-places-call : tie.After-forced-of
+  forced-of-from-touched-places-call = c .before .before .before .before
+
+  abbrev copy-words-from-touched-places-call : tie.After-copy-words
+  copy-words-from-touched-places-call = copy-words-from-clear-memo (clear-memo-from-apply-call (apply-from-slice-known17
+      (else1-from-forced-of-call (forced-of-from-touched-places-call .before) .before) .before))
+
+  abbrev start-from-touched-places-call : tie.Start
+  start-from-touched-places-call = start-from-copy (copy-from-copy-words copy-words-from-touched-places-call)
+
+module _ (c : tie.After-touched-places) where
+  abbrev copy-words-from-touched-places : tie.After-copy-words
+  copy-words-from-touched-places = copy-words-from-touched-places-call (c .before)
+
+  abbrev start-from-touched-places : tie.Start
+  start-from-touched-places = start-from-copy (copy-from-copy-words copy-words-from-touched-places)
+
 module _ (c : tie.After-all-by-arg8) where
+  abbrev touched-places-from-array-share-prefix-places : tie.After-touched-places
+  touched-places-from-array-share-prefix-places = c .before .before .before .before .before .before .before .before .before
+
+module _ (c : tie.After-places3) where
+  abbrev touched-places-from-all-by-call : tie.After-touched-places
+  touched-places-from-all-by-call = touched-places-from-array-share-prefix-places (c .before)
+
   abbrev forced-of-from-all-by-call : tie.After-forced-of
-  forced-of-from-all-by-call = c .before .before .before .before .before .before .before .before .before .before
+  forced-of-from-all-by-call = forced-of-from-touched-places-call (touched-places-from-all-by-call .before)
 
   abbrev else1-from-all-by-call : tie.Else1
   else1-from-all-by-call = else1-from-forced-of-call (forced-of-from-all-by-call .before)
@@ -109,7 +136,8 @@ module _ (c : tie.After-slice-known26) where
       .before .before
 
   abbrev forced-of-from-return-2 : tie.After-forced-of
-  forced-of-from-return-2 = forced-of-from-all-by-call (all-by-from-return-2 .before)
+  forced-of-from-return-2 = forced-of-from-touched-places-call (touched-places-from-array-share-prefix-places (all-by-from-return-2 .before
+      .before) .before)
 
   abbrev else1-from-return-2 : tie.Else1
   else1-from-return-2 = else1-from-forced-of-call (forced-of-from-return-2 .before)
@@ -217,6 +245,38 @@ forced-of-requires c κs =
     let R = members-ready a e in
     (good-readable (made a .table) (R .0 .good), R .1, R .0 .room, worded a e .2)
 
+-- the places found among the copied words
+module _ (c : tie.After-touched-places) where
+  abbrev copied : List ℕ
+  copied = copy-words-from-touched-places c .copy-words .last .1 .0
+
+  abbrev places-found : List ℕ
+  places-found = take (c .touched-places .result) (c .touched-places .last .1 .1 .0)
+
+  copied-length : length copied ≡ length (start-from-touched-places c .args .members .now)
+  copied-length = ap length (copy-words-from-touched-places c .copy-words .ensures) ∙ start-from-touched-places c .pre .1 .0 .lengths
+
+  many-there : c .touched-places .result ≤ length (c .touched-places .last .1 .1 .0)
+  many-there = omega (arith, c .touched-places .ensures .0, copied-length, start-from-touched-places c .pre .0 .2, c .touched-places .kept .1 .1 .0)
+
+  counted : length places-found ≡ c .touched-places .result
+  counted = length-take-le _ _ many-there
+
+slice-aggregate-touched-places : tie.Need-slice-aggregate-touched-places
+slice-aggregate-touched-places c = search needs
+
+touched-places-requires : tie.Need-touched-places-requires
+touched-places-requires c κs =
+    let s = start-from-touched-places-call c in
+    let e : length (copy-words-from-touched-places-call c .copy-words .last .1 .0) ≡ length (s .args .members .now) = ap length (copy-words-from-touched-places-call c .copy-words .ensures) ∙ s .pre .1 .0 .lengths in
+    (omega (arith, e, s .pre .0 .2), omega (arith, e, s .pre .0 .2))
+
+array-share-prefix-places : tie.Need-array-share-prefix-places
+array-share-prefix-places c = many-there (touched-places-from-array-share-prefix-places c)
+
+slice-aggregate-all-by : tie.Need-slice-aggregate-all-by
+slice-aggregate-all-by c = sym (counted (touched-places-from-all-by-call c))
+
 all-by-requires : tie.Need-all-by-requires
 unfolding nodesOf
 all-by-requires c κs =
@@ -225,14 +285,20 @@ all-by-requires c κs =
     let e = else1-from-all-by-call c .if1 .left in
     let y = forced-of-from-all-by-call c .forced-of in
     let words = copy-words-from-all-by-call c .copy-words .last .1 .0 in
+    let t = touched-places-from-all-by-call c in
+    let found = places-found t in
     let R = members-ready a e in
     let W = worded a e in
     let D = diagramAt (nodesOf (made a .table)) (made a .node) in (
       subst (λ l. ListReady (made a .table) l (y .last .1 .1 .1 .0) × (made a .node < made a .table .count) × Allowed Cofactor (made a .node)) (sym (copy-from-all-by-call c .copy .ensures))
           (record { good = R .0 .good; inside = R .0 .inside; room = omega (arith, R .0 .room, y .kept .1 .1 .1 .0) }, R .1, R .2),
-      subst (λ l. (length words ≡ length l) × Supports (nodesOf (made a .table)) l words × Touches Cofactor D (y .result) × Support (s .args .word) D) (sym (copy-from-all-by-call c .copy .ensures))
-          (subst (λ w. (length w ≡ length (s .args .members .now)) × Supports (nodesOf (made a .table)) (s .args .members .now) w × Touches Cofactor D (y .result) × Support (s .args .word) D) (sym (copy-words-from-all-by-call c .copy-words .ensures))
-          (W .0, W .1, y .ensures, W .2)),
+      subst (λ l. (length words ≡ length l) × Supports (nodesOf (made a .table)) l words × Touches Cofactor D (y .result) × Support (s .args .word) D × AllBut (length l) found (Untouched words (y .result))) (sym (copy-from-all-by-call c .copy .ensures)) (
+        copied-length t,
+        subst (Supports (nodesOf (made a .table)) (s .args .members .now)) (sym (copy-words-from-all-by-call c .copy-words .ensures)) (W .1),
+        y .ensures,
+        W .2,
+        subst (λ n. AllBut n found (Untouched words (y .result))) (copied-length t) (t .touched-places .ensures .1),
+      ),
     )
 
 same-length-9 : tie.Need-same-length-9
@@ -295,6 +361,10 @@ by-negation-spec =
     same-length-8
     returns
     forced-of-requires
+    slice-aggregate-touched-places
+    touched-places-requires
+    array-share-prefix-places
+    slice-aggregate-all-by
     all-by-requires
     same-length-9
     same-length-10

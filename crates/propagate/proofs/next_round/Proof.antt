@@ -14,7 +14,7 @@ use Rattle.propagate.proofs.next_round.Tie as tie
 -- The ways back, written by ways.py: TO-from-FROM leads from the place FROM of the code to the place TO before it.
 module _ (c : tie.After-conflicts-arg2) where
   abbrev start-from-conflicts-call : tie.Start
-  start-from-conflicts-call = c .before .before .before .before .before .before .before .before .before .before .before
+  start-from-conflicts-call = c .before .before .before .before .before .before .before .before .before .before .before .before
 
 module _ (c : tie.After-conflicts) where
   abbrev start-from-conflicts : tie.Start
@@ -87,7 +87,7 @@ module _ (c : tie.After-known-told) where
 
 conflicts-requires : tie.Need-conflicts-requires
 conflicts-requires c κs =
-    let r = start-from-conflicts-call c .pre in ((r .0 .0, r .0 .1), (r .1 .0, r .1 .1))
+    let r = start-from-conflicts-call c .pre in ((r .0 .0, r .0 .1), r .1 .0)
 
 same-length : tie.Need-same-length
 same-length c =
@@ -125,7 +125,7 @@ first-units-requires c κs =
     let a = start-from-first-units-call c .args in
     let r = start-from-first-units-call c .pre in
     let y = conflicts-from-first-units-call c .conflicts in
-    ((good-readable (tableOf (a .vars .now) (a .lows .now) (a .highs .now) (a .heads .now) (a .links .now) (a .count)) (r .0 .0 .good), r .0 .0 .inside, omega (arith, y .kept .1 .1 .1 .1 .1 .0, r .0 .0 .room)), (r .1 .0, r .1 .2))
+    ((good-readable (tableOf (a .vars .now) (a .lows .now) (a .highs .now) (a .heads .now) (a .links .now) (a .count)) (r .0 .0 .good), r .0 .0 .inside, omega (arith, y .kept .1 .1 .1 .1 .1 .0, r .0 .0 .room)), r .1 .1)
 
 enum-known-u : tie.Need-enum-known-u
 enum-known-u c =

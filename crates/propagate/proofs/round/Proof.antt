@@ -12,7 +12,7 @@ use Rattle.propagate.proofs.round.Tie as tie
 module _ (c : tie.After-struct-known) where
   abbrev start-from-all-by-call : tie.Start
   start-from-all-by-call = c .before .before .before .before .before .before .before .before .before .before .before .before .before .before
-      .before .before .before
+      .before .before .before .before
 
 module _ (c : tie.After-slice-known16) where
   abbrev all-by-from-return : tie.After-all-by
@@ -25,7 +25,7 @@ module _ (c : tie.After-slice-known16) where
 all-by-requires : tie.Need-all-by-requires
 all-by-requires c κs =
     let r = start-from-all-by-call c .pre in
-    ((r .0, omega (arith, r .0 .good .least), refl), (r .1, r .2, refl, support-leaf _ 1 0 (omega arith)))
+    ((r .0, omega (arith, r .0 .good .least), refl), (r .1, r .2, refl, support-leaf _ 1 0 (omega arith), r .4))
 
 same-length : tie.Need-same-length
 same-length c = search needs
@@ -57,7 +57,7 @@ returns c =
     let r = start-from-return c .pre in
     let e = all-by-from-return c .all-by .ensures in (
       e .0,
-      (e .1 .0, (e .1 .1 .0, λ f. round-writes (tableOf (a .vars .now) (a .lows .now) (a .highs .now) (a .heads .now) (a .links .now) (a .count)) (a .list .now) (a .u) (r .3) _ (e .1 .1 .1 f))),
+      (e .1 .0, λ f. round-writes (tableOf (a .vars .now) (a .lows .now) (a .highs .now) (a .heads .now) (a .links .now) (a .count)) (a .list .now) (a .u) (r .3) _ (e .1 .1 f)),
     )
 
 pub round-spec : {M : Type 1} → statement M

@@ -1,31 +1,44 @@
 -- The walk over the list: none of the members passed has a unit, while the memo stays right. Assumes nothing.
 use mathlib.Core.Logic.{⊎-elim}
 use mathlib.Core.Path.{_≡_, refl, _∙_}
-use Prim.Native.Nat.{_+_, _-_, _≤_, _<_}
+use mathlib.Core.List.{List}
+use Prim.Native.Nat.{_+_, _-_, _<_}
 use native.Mathlib.Omega.{arith}
 use lib.ListN.{length, length-map}
 use borrow.Author.Needs.{needs}
 use borrow.Author.Tests.{eqb-true, eqb-false, not-true, not-false}
-use Rattle.table.specs.Nodes.{diagramAt}
+use Rattle.meaning.specs.Diagram.{Diagram}
+use Rattle.table.specs.Nodes.{Node, diagramAt}
 use Rattle.table.specs.Lists.{diagramsOf}
 use Rattle.walks.specs.Readable.{nodesIn}
 use Rattle.units.specs.Units.{MarksBelow}
-use Rattle.unit_search.specs.Units.{Unitless}
-use Rattle.unit_search.proofs.Taking.{first-none, first-passed, unitless-skip, taken-here, unitless-here}
+use Rattle.unit_search.specs.Units.{UnitlessTo}
+use Rattle.unit_search.proofs.Taking.{first-none, first-passed, behind-next, unitless-skip, taken-here, unitless-here}
 use Rattle.unit_search.proofs.first_by_walks.Statement.{statement}
 use Rattle.unit_search.proofs.first_by_walks.Tie as tie
 
 abbrev Inv-loop : tie.InvT-loop
-Inv-loop vars lows highs memo₀ list words count touching asked from place₀ memo place =
-    (length memo ≡ length memo₀) × (place ≤ length list) × MarksBelow count memo (place + 1)
-    × Unitless (diagramsOf (nodesIn vars lows highs count) list) place
+Inv-loop vars lows highs memo₀ list places count asked from passed k₀ place₀ memo k place =
+    (length memo ≡ length memo₀) × MarksBelow count memo (place + 1)
+    × UnitlessTo (diagramsOf (nodesIn vars lows highs count) list) places asked place k
 
 abbrev μ-loop : tie.MeasureT-loop
-μ-loop vars lows highs memo₀ list words count touching asked from place₀ memo place = length list - place
+μ-loop vars lows highs memo₀ list places count asked from passed k₀ place₀ memo k place = length list - place
 
 clear-cells-requires : tie.Need-clear-cells-requires Inv-loop μ-loop
 clear-cells-requires c κs =
     search needs
+
+-- What is told of the list.
+module _ (s : tie.Start Inv-loop μ-loop) where
+  abbrev nodes : List Node
+  nodes = let a = s .args in nodesIn (a .vars .now) (a .lows .now) (a .highs .now) (a .count)
+
+  abbrev members : List Diagram
+  members = diagramsOf nodes (s .args .list .now)
+
+  same-lengths : length members ≡ length (s .args .list .now)
+  same-lengths = length-map (s .args .list .now) (diagramAt nodes)
 
 -- The ways back, written by ways.py: TO-from-FROM leads from the place FROM of the code to the place TO before it.
 module _ (c : tie.After-clear-cells Inv-loop μ-loop) where
@@ -92,8 +105,11 @@ module _ (c : tie.Else2 Inv-loop μ-loop) where
   abbrev in-loop-from-else2 : tie.In-loop Inv-loop μ-loop
   in-loop-from-else2 = in-loop-from-units-from (units-from-from-struct-known (c .before .before .before))
 
+  abbrev at-loop-from-else2 : tie.At-loop Inv-loop μ-loop
+  at-loop-from-else2 = at-loop-from-in-loop in-loop-from-else2
+
   abbrev start-from-else2 : tie.Start Inv-loop μ-loop
-  start-from-else2 = start-from-clear-cells (clear-cells-from-at-loop (at-loop-from-in-loop in-loop-from-else2))
+  start-from-else2 = start-from-clear-cells (clear-cells-from-at-loop at-loop-from-else2)
 
 module _ (c : tie.After-next-asked Inv-loop μ-loop) where
   abbrev else2-from-loop-again : tie.Else2 Inv-loop μ-loop
@@ -116,19 +132,14 @@ module _ (c : tie.After-next-asked Inv-loop μ-loop) where
 
 loop-holds : tie.Need-loop-holds Inv-loop μ-loop
 loop-holds c =
-    let r = start-from-loop-holds c .pre in (
-      refl,
-      r .1 .2,
-      λ i p. omega (arith, clear-cells-from-loop-holds c .clear-cells .ensures i p),
-      r .1 .3,
-    )
+    (refl, λ i p. omega (arith, clear-cells-from-loop-holds c .clear-cells .ensures i p), start-from-loop-holds c .pre .1 .1)
 
-mul-t18 : tie.Need-mul-t18 Inv-loop μ-loop
-mul-t18 c =
+mul-t19 : tie.Need-mul-t19 Inv-loop μ-loop
+mul-t19 c =
     search needs
 
-shared-slice-read-t21 : tie.Need-shared-slice-read-t21 Inv-loop μ-loop
-shared-slice-read-t21 c =
+shared-slice-read-t22 : tie.Need-shared-slice-read-t22 Inv-loop μ-loop
+shared-slice-read-t22 c =
     search needs
 
 add-stamp : tie.Need-add-stamp Inv-loop μ-loop
@@ -137,10 +148,9 @@ add-stamp c =
 
 units-from-requires : tie.Need-units-from-requires Inv-loop μ-loop
 units-from-requires c κs =
-    let a = start-from-units-from-call c .args in
     let r = start-from-units-from-call c .pre in
     let w = at-loop-from-units-from-call c .loop in
-    (r .0 .0, r .0 .1 (w .place) (in-loop-from-units-from-call c .loop-test .taken), omega (arith, w .inv .0, clear-cells-from-units-from-call c .clear-cells .kept .0, r .0 .2), w .inv .2)
+    (r .0 .0, r .0 .1 (w .place) (in-loop-from-units-from-call c .loop-test .taken), omega (arith, w .inv .0, clear-cells-from-units-from-call c .clear-cells .kept .0, r .0 .2), w .inv .1)
 
 same-length : tie.Need-same-length Inv-loop μ-loop
 same-length c =
@@ -148,15 +158,19 @@ same-length c =
 
 returns : tie.Need-returns Inv-loop μ-loop
 returns c =
-    let a = start-from-return c .args in
+    let s = start-from-return c in
     let w = at-loop-from-return c .loop in
     let y = units-from-from-return c .units-from in
-    taken-here (nodesIn (a .vars .now) (a .lows .now) (a .highs .now) (a .count)) (a .list .now) (w .place) (in-loop-from-return c .loop-test .taken) (w .inv .3) (y .result) (y .ensures .0) (omega (arith, c .before .struct-known .given)) (omega (arith, c .before .struct-known .given))
+    taken-here (nodes s) (s .args .list .now) (w .place) (in-loop-from-return c .loop-test .taken) (w .inv .2 .none) (y .result) (y .ensures .0) (omega (arith, c .before .struct-known .given)) (omega (arith, c .before .struct-known .given))
     (λ z. ⊎-elim (λ s. s .taken (z .0)) (λ s. eqb-false _ _ (not-true _ (s .2 .taken)) (z .1)) (c .if1 .came))
 
 next-fits : (c : tie.In-loop Inv-loop μ-loop) → c .before .loop .place + 1 < 18446744073709551616
 next-fits c =
     omega arith
+
+add-k : tie.Need-add-k Inv-loop μ-loop
+add-k c =
+    omega (arith, next-fits (in-loop-from-else2 c), at-loop-from-else2 c .loop .inv .2 .fewer)
 
 add-next-asked : tie.Need-add-next-asked Inv-loop μ-loop
 add-next-asked c =
@@ -164,9 +178,9 @@ add-next-asked c =
 
 next-asked-requires : tie.Need-next-asked-requires Inv-loop μ-loop
 next-asked-requires c κs =
-    let a = start-from-else2 c .args in
-    let r = start-from-else2 c .pre in
-    (omega (arith, r .1 .1 .0, r .1 .0, length-map (a .list .now) (diagramAt (nodesIn (a .vars .now) (a .lows .now) (a .highs .now) (a .count)))), omega (arith, in-loop-from-else2 c .loop-test .taken, r .1 .0))
+    let s = start-from-else2 c in
+    let w = at-loop-from-else2 c .loop in
+    (s .pre .1 .0 .1 .rising, behind-next (s .args .places .now) (s .args .asked) (w .k) (w .place) (w .inv .2 .next))
 
 loop-less : tie.Need-loop-less Inv-loop μ-loop
 loop-less c =
@@ -174,17 +188,16 @@ loop-less c =
 
 loop-again : tie.Need-loop-again Inv-loop μ-loop
 loop-again c =
-    let a = start-from-loop-again c .args in
-    let r = start-from-loop-again c .pre in
+    let s = start-from-loop-again c in
     let w = at-loop-from-loop-again c .loop in
+    let less = in-loop-from-loop-again c .loop-test .taken in
     let y = units-from-from-loop-again c .units-from in
-    let z = c .next-asked in
-    let nodes = nodesIn (a .vars .now) (a .lows .now) (a .highs .now) (a .count) in (
+    let z = c .next-asked in (
       y .kept .1 .1 .1 .0 ∙ w .inv .0,
-      omega (arith, z .ensures .most, r .1 .0),
       λ i p. omega (arith, y .ensures .1 i p, z .ensures .from-on),
-      unitless-skip (diagramsOf nodes (a .list .now)) (a .words .now) (a .touching) (a .asked) (w .place + 1) (z .result) (r .1 .1) (z .ensures)
-          (unitless-here nodes (a .list .now) (w .place) (in-loop-from-loop-again c .loop-test .taken) (w .inv .3) (y .result) (y .ensures .0) (else1-from-loop-again c .if1 .left) (eqb-true _ _ (not-false _ (else2-from-loop-again c .if2 .left)))),
+      unitless-skip (members s) (s .args .places .now) (s .args .asked) (w .k + 1) (w .place + 1) (z .result) (s .pre .1 .0) (omega (arith, w .inv .2 .fewer)) (omega (arith, less, same-lengths s))
+          (unitless-here (nodes s) (s .args .list .now) (w .place) less (w .inv .2 .none) (y .result) (y .ensures .0) (else1-from-loop-again c .if1 .left) (eqb-true _ _ (not-false _ (else2-from-loop-again c .if2 .left))))
+          (z .ensures),
     )
 
 same-length-2 : tie.Need-same-length-2 Inv-loop μ-loop
@@ -193,10 +206,10 @@ same-length-2 c =
 
 returns-2 : tie.Need-returns-2 Inv-loop μ-loop
 returns-2 c =
-    let a = start-from-return-2 c .args in
+    let s = start-from-return-2 c in
     let w = at-loop-from-return-2 c .loop in
-    first-passed (nodesIn (a .vars .now) (a .lows .now) (a .highs .now) (a .count)) (a .list .now) (w .place) (w .inv .1) (w .inv .3)
-    ∙ first-none 64 (nodesIn (a .vars .now) (a .lows .now) (a .highs .now) (a .count)) (a .list .now) (w .place) (omega (arith, c .loop-test .left))
+    let list = s .args .list .now in
+    first-passed (nodes s) list (w .place) (omega (arith, w .inv .2 .most, same-lengths s)) (w .inv .2 .none) ∙ first-none 64 (nodes s) list (w .place) (omega (arith, c .loop-test .left))
 
 pub first-by-walks-spec : {M : Type 1} → statement M
 first-by-walks-spec =
@@ -206,12 +219,13 @@ first-by-walks-spec =
     μ-loop
     clear-cells-requires
     loop-holds
-    mul-t18
-    shared-slice-read-t21
+    mul-t19
+    shared-slice-read-t22
     add-stamp
     units-from-requires
     same-length
     returns
+    add-k
     add-next-asked
     next-asked-requires
     loop-less

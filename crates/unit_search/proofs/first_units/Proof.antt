@@ -29,6 +29,9 @@ module _ (c : tie.After-known-told) where
   abbrev first-at-top-from-return-2 : tie.After-first-at-top
   first-at-top-from-return-2 = u-from-return-2 .before .before
 
+  abbrev start-from-return-2 : tie.Start
+  start-from-return-2 = start-from-first-at-top first-at-top-from-return-2
+
 module _ (c : tie.Then1) where
   abbrev place-from-then1 : tie.After-place
   place-from-then1 = c .before .before
@@ -72,21 +75,24 @@ enum-known-place c = search needs
 returns : tie.Need-returns
 returns c =
     let y = first-at-top-from-then1 c in
-    let list = start-from-then1 c .args .list .now in
-    let t = subst (FirstAtTop (members y)) (place-from-then1 c .place .given .1) (y .first-at-top .ensures) in
-    let k = place-from-then1 c .place .given .0 .0 in
-    first-passed (nodes y) list k (omega (arith, t .0, same-lengths y)) (t .1) ∙ first-none 64 (nodes y) list k (omega (arith, c .if1 .taken))
+    let a = start-from-then1 c .args in
+    let list = a .list .now in
+    let t = subst (FirstAtTop (members y) (a .places .now) (a .asked)) (place-from-then1 c .place .given .1) (y .first-at-top .ensures) in
+    let place = place-from-then1 c .place .given .0 .0 in
+    first-passed (nodes y) list place (omega (arith, t .most, same-lengths y)) (t .none) ∙ first-none 64 (nodes y) list place (omega (arith, c .if1 .taken))
 
 first-by-walks-requires : tie.Need-first-by-walks-requires
 first-by-walks-requires c κs =
     let y = first-at-top-from-first-by-walks-call c in
-    let r = start-from-first-by-walks-call c .pre in
-    let t = subst (FirstAtTop (members y)) (place-from-first-by-walks-call c .place .given .1) (y .first-at-top .ensures) in
-    (r .0, (r .1 .0, r .1 .1, omega (arith, t .0, same-lengths y), t .1))
+    let s = start-from-first-by-walks-call c in
+    let t = subst (FirstAtTop (members y) (s .args .places .now) (s .args .asked)) (place-from-first-by-walks-call c .place .given .1) (y .first-at-top .ensures) in
+    (s .pre .0, (s .pre .1, t))
 
 returns-2 : tie.Need-returns-2
 returns-2 c =
-    let y = first-at-top-from-return-2 c in subst (FirstAtTop (members y)) (u-from-return-2 c .u .given .1) (y .first-at-top .ensures)
+    let y = first-at-top-from-return-2 c in
+    let a = start-from-return-2 c .args in
+    subst (FirstAtTop (members y) (a .places .now) (a .asked)) (u-from-return-2 c .u .given .1) (y .first-at-top .ensures)
 
 same-length : tie.Need-same-length
 same-length c = search needs

@@ -1,78 +1,79 @@
--- The places passed over are before `asked` and have no variable in common with `touching`. Assumes nothing.
-use Prim.Native.Nat.{_-_}
+-- The next place is one of the three ways out: the numbers passed over are before `asked` and between two of the places. Assumes nothing.
 use native.Mathlib.Omega.{arith}
 use borrow.Author.Needs.{needs}
-use Rattle.unit_search.specs.Units.{Skips}
-use Rattle.unit_search.proofs.Taking.{skips-none, skips-next}
+use Rattle.unit_search.proofs.Taking.{skips-none, skips-place, skips-all}
 use Rattle.unit_search.proofs.next_asked.Statement.{statement}
 use Rattle.unit_search.proofs.next_asked.Tie as tie
 
-abbrev Inv-loop : tie.InvT-loop
-Inv-loop words touching asked from i₀ i = Skips words touching asked from i
-
-abbrev μ-loop : tie.MeasureT-loop
-μ-loop words touching asked from i₀ i = asked - i
-
-loop-holds : tie.Need-loop-holds Inv-loop μ-loop
-loop-holds c =
-    let s = c in skips-none (s .args .words .now) (s .args .touching) (s .args .asked) (s .args .from) (s .pre .1)
-
-mul-if1 : tie.Need-mul-if1 Inv-loop μ-loop
-mul-if1 c =
-    search needs
-
-shared-slice-read-if1 : tie.Need-shared-slice-read-if1 Inv-loop μ-loop
-shared-slice-read-if1 c =
-    search needs
-
 -- The ways back, written by ways.py: TO-from-FROM leads from the place FROM of the code to the place TO before it.
-module _ (c : tie.Else1 Inv-loop μ-loop) where
-  abbrev in-loop-from-else1 : tie.In-loop Inv-loop μ-loop
-  in-loop-from-else1 = c .before .before
+module _ (c : tie.Else1) where
+  abbrev start-from-else1 : tie.Start
+  start-from-else1 = c .before
 
-  abbrev at-loop-from-else1 : tie.At-loop Inv-loop μ-loop
-  at-loop-from-else1 = in-loop-from-else1 .before
+module _ (c : tie.Then1) where
+  abbrev start-from-then1 : tie.Start
+  start-from-then1 = c .before
 
-  abbrev start-from-else1 : tie.Start Inv-loop μ-loop
-  start-from-else1 = at-loop-from-else1 .before
+module _ (c : tie.Else2) where
+  abbrev else1-from-else2 : tie.Else1
+  else1-from-else2 = c .before
 
-module _ (c : tie.Then1 Inv-loop μ-loop) where
-  abbrev at-loop-from-then1 : tie.At-loop Inv-loop μ-loop
-  at-loop-from-then1 = c .before .before .before
+  abbrev start-from-else2 : tie.Start
+  start-from-else2 = start-from-else1 else1-from-else2
 
-returns : tie.Need-returns Inv-loop μ-loop
+module _ (c : tie.After-shared-slice-known) where
+  abbrev start-from-shared-slice-read-place : tie.Start
+  start-from-shared-slice-read-place = start-from-else1 (c .before .before)
+
+module _ (c : tie.Else3) where
+  abbrev else1-from-else3 : tie.Else1
+  else1-from-else3 = c .before .before .before
+
+  abbrev start-from-else3 : tie.Start
+  start-from-else3 = start-from-else1 else1-from-else3
+
+module _ (c : tie.Then3) where
+  abbrev then2-from-then3 : tie.Then2
+  then2-from-then3 = c .before .before
+
+  abbrev else1-from-then3 : tie.Else1
+  else1-from-then3 = then2-from-then3 .before
+
+  abbrev start-from-then3 : tie.Start
+  start-from-then3 = start-from-else1 else1-from-then3
+
+returns : tie.Need-returns
 returns c =
-    at-loop-from-then1 c .loop .inv
+    let a = start-from-then1 c .args in skips-none (a .places .now) (a .asked) (a .k) (a .from) (c .if1 .taken)
 
-add-i : tie.Need-add-i Inv-loop μ-loop
-add-i c =
-    search needs
+mul-place : tie.Need-mul-place
+mul-place c = search needs
 
-loop-less : tie.Need-loop-less Inv-loop μ-loop
-loop-less c =
-    omega (arith, in-loop-from-else1 c .loop-test .taken)
+shared-slice-read-place : tie.Need-shared-slice-read-place
+shared-slice-read-place c = search needs
 
-loop-again : tie.Need-loop-again Inv-loop μ-loop
-loop-again c =
-    let s = start-from-else1 c in
-    let w = at-loop-from-else1 c .loop in
-    skips-next (s .args .words .now) (s .args .touching) (s .args .asked) (s .args .from) (w .i) (s .pre .0) (w .inv) (in-loop-from-else1 c .loop-test .taken) (c .if1 .left)
+cast-place : tie.Need-cast-place
+cast-place c = omega (arith, c .shared-slice-known .given (start-from-shared-slice-read-place c .args .k))
 
-returns-2 : tie.Need-returns-2 Inv-loop μ-loop
+returns-2 : tie.Need-returns-2
 returns-2 c =
-    c .before .loop .inv
+    let s = start-from-then3 c in
+    let a = s .args in
+    skips-place (a .places .now) (a .asked) (a .k) (a .from) (s .pre .1) (omega (arith, else1-from-then3 c .if1 .left)) (s .pre .0) (then2-from-then3 c .if2 .taken) (c .if3 .taken)
+
+returns-3 : tie.Need-returns-3
+returns-3 c =
+    let s = start-from-else3 c in
+    let a = s .args in
+    skips-all (a .places .now) (a .asked) (a .k) (a .from) (s .pre .1) (omega (arith, else1-from-else3 c .if1 .left)) (λ _. omega (arith, c .if3 .left))
+
+returns-4 : tie.Need-returns-4
+returns-4 c =
+    let s = start-from-else2 c in
+    let a = s .args in
+    skips-all (a .places .now) (a .asked) (a .k) (a .from) (s .pre .1) (omega (arith, else1-from-else2 c .if1 .left)) (λ p. absurd (omega (arith, c .if2 .left)))
 
 pub next-asked-spec : {M : Type 1} → statement M
 next-asked-spec =
     tie.close
-    (tie.spec
-    Inv-loop
-    μ-loop
-    loop-holds
-    mul-if1
-    shared-slice-read-if1
-    returns
-    add-i
-    loop-less
-    loop-again
-    returns-2)
+    (tie.spec returns mul-place shared-slice-read-place cast-place returns-2 returns-3 returns-4)

@@ -200,7 +200,7 @@ by-negation-requires : tie.Need-by-negation-requires
 by-negation-requires c κs =
     let a = support-from-from-by-negation-call c in
     let s = begun a in
-    ((negatable a, s .pre .0 .2), (worded a, s .pre .1 .1))
+    ((negatable a, s .pre .0 .2, s .pre .0 .4), (worded a, s .pre .1 .1))
 
 same-length : tie.Need-same-length
 same-length c =
@@ -266,6 +266,7 @@ turns-requires c κs =
         s .pre .0 .3 ∙ sym (first-length a),
         inside-more (before s) (table₁ a) (s .args .members .now) (by-negation a false e .extended) (s .pre .0 .0 .ready .inside),
         s .pre .0 .4,
+        omega (arith, first-length a, s .pre .0 .4),
       ),
       (
         worded (support-from-from-turns-call c) .lengths,

@@ -214,6 +214,7 @@ rup-with-requires c κs =
         turn-ready (before s) (s .args .first .now) (s .args .memo .now) (s .pre .0 .0) (s .args .f .0) (s .args .witness .positive) (s .args .witness .negative) (s .pre .0 .3) (told (is-one-from-rup-with-call c) false (else1-from-rup-with-call c .if1 .left)) (made a) (made-is a) (else2-from-rup-with-call c .if2 .left) (a .apply .last .1 .1 .1 .1 .1 .0) (memo-length a),
         s .pre .0 .1 ∙ ap unmarked (sym (a .apply .kept .0)),
         s .pre .0 .2,
+        s .pre .0 .4,
       ),
       (turn-worded (before s) (s .args .first .now) (s .args .memo .now) (s .pre .0 .0) (s .args .f .0) (s .args .witness .positive) (s .args .witness .negative) (s .pre .0 .3) (told (is-one-from-rup-with-call c) false (else1-from-rup-with-call c .if1 .left)) (made a) (made-is a) (else2-from-rup-with-call c .if2 .left) (s .args .firstwords .now) (s .args .word) (s .pre .1 .0), s .pre .1 .1),
     )

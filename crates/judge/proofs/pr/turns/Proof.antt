@@ -216,6 +216,7 @@ turn-requires c κs =
         w .inv .2 ∙ sym (ap (λ (t : Table). unmarked (length (t .vars))) (w .inv .0)),
         w .inv .4 ∙ s .pre .0 .2,
         s .pre .0 .3 (w .i) more,
+        s .pre .0 .5,
       ),
       (
         worded-again (before s) (tableOf (w .vars) (w .lows) (w .highs) (w .heads) (w .links) (s .args .count)) (s .args .first .now) (s .args .firstwords .now) (getD (s .args .members .now) (w .i) 0) (getD (s .args .memberwords .now) (w .i) 0) (w .inv .0)

@@ -92,7 +92,7 @@ rup-with-requires : tie.Need-rup-with-requires
 rup-with-requires c κs =
     let a = support-from-from-rup-with-call c in
     let s = begun a in
-    ((negatable a, s .pre .0 .1, s .pre .0 .2), (worded a, s .pre .1 .1))
+    ((negatable a, s .pre .0 .1, s .pre .0 .2, s .pre .0 .3), (worded a, s .pre .1 .1))
 
 same-length : tie.Need-same-length
 same-length c =

@@ -3,6 +3,7 @@ use mathlib.Core.Path.{_≡_, refl, sym, ap, _∙_, subst}
 use mathlib.Core.Bool.{Bool, true, false}
 use mathlib.Core.List.{List}
 use Prim.Native.Nat.{ℕ}
+use native.Mathlib.Omega.{arith}
 use lib.ListN.{length}
 use borrow.Author.Needs.{needs}
 use Rattle.meaning.specs.Diagram.{Diagram}
@@ -83,7 +84,7 @@ module _ (a : tie.After-by-negation) where
 
 by-negation-requires : tie.Need-by-negation-requires
 by-negation-requires c κs =
-    ((start-from-by-negation-call c .pre .0 .0, start-from-by-negation-call c .pre .0 .2), start-from-by-negation-call c .pre .1)
+    ((start-from-by-negation-call c .pre .0 .0, start-from-by-negation-call c .pre .0 .2, start-from-by-negation-call c .pre .0 .3), start-from-by-negation-call c .pre .1)
 
 same-length : tie.Need-same-length
 same-length c =
@@ -131,6 +132,7 @@ unit-prop-requires c κs =
       (
         list-ready (before s) (members s) (root s) (table₁ a) (list₁ a) (s .args .memo .now) (a .by-negation .last .1 .1 .1 .1 .1 .0) B (s .pre .0 .0 .ready .room) (memo-length a),
         s .pre .0 .1 ∙ ap unmarked (sym (a .by-negation .kept .0)),
+        omega (arith, a .by-negation .kept .1 .1 .1 .1 .1 .1 .1 .1 .0, s .pre .0 .2, s .pre .0 .3),
       ),
       (a .by-negation .kept .1 .1 .1 .1 .1 .1 .1 .1 .1 .0 ∙ s .pre .1 .1 ∙ sym (a .by-negation .kept .1 .1 .1 .1 .1 .1 .1 .1 .0 ∙ s .pre .0 .2), a .by-negation .ensures .1 (else1-from-unit-prop-call c .if1 .left)),
     )

@@ -151,7 +151,7 @@ slice-aggregate-rup-3 c =
 
 rup-requires : tie.Need-rup-requires
 rup-requires c κs =
-    let s = start-from-rup-call c in ((s .pre .0, s .pre .1, scratch-length s), (own-length s, own-length s))
+    let s = start-from-rup-call c in ((s .pre .0, s .pre .1, scratch-length s, s .pre .2), (own-length s, own-length s))
 
 enum-told-2 : tie.Need-enum-told-2
 enum-told-2 c =
@@ -199,7 +199,7 @@ slice-aggregate-pr-5 c =
 
 pr-requires : tie.Need-pr-requires
 pr-requires c κs =
-    let s = start-from-pr-call c in ((s .pre .0, s .pre .1, scratch-length s, own-length s, omega (arith, s .pre .2)), (own-length s, own-length s, own-length s))
+    let s = start-from-pr-call c in ((s .pre .0, s .pre .1, scratch-length s, own-length s, s .pre .2), (own-length s, own-length s, own-length s))
 
 same-length : tie.Need-same-length
 same-length c =
