@@ -2,7 +2,7 @@
 
 use crate::pairs;
 use crate::workloads::{self, Workload};
-use compare::diagram::{Diagrams, Node};
+use compare::diagram::{Diagrams, Literals, Node};
 use compare::families::{self, Problem};
 use compare::formula::Formula;
 use compare::proof::Builder;
@@ -12,6 +12,7 @@ use compare::random::Random;
 pub fn all() -> Vec<Workload> {
     let mut all = vec![
         workloads::proof("turns: 1,000 clauses, PR lines", &families::pure(&mut Random::new(3), 1_000, 20), 65_536),
+        workloads::proof("turns with rounds: 960 clauses, PR lines", &turns_with_rounds(904, 20), 4_096),
         workloads::proof("rounds: a chain of 62", &families::chain(&mut Random::new(4), 62, 1_000, 300), 65_536),
     ];
     for (first, second) in [(16, 17), (31, 32), (64, 65)] {
@@ -32,6 +33,40 @@ pub fn all() -> Vec<Workload> {
         workloads::proof("counters apart, by 130", &pairs::apart(130, 0), 65_536),
     ]);
     all
+}
+
+/// PR lines that make fact 1 false, so that each filler, which has it, gets a turn; each turn comes to its conflict by a chain of implications
+/// from fact 1 on, a fact a round. The chain stands behind the fillers, so that each round has to pass over them.
+fn turns_with_rounds(fillers: usize, lines: usize) -> Problem {
+    const LAST: i32 = 56;
+    let random = &mut Random::new(3);
+    let mut clauses: Vec<Vec<i32>> = Vec::new();
+    while clauses.len() < fillers {
+        let clause = [vec![1], some_from(random, LAST + 1, 4)].concat();
+        if !clauses.contains(&clause) {
+            clauses.push(clause);
+        }
+    }
+    clauses.extend((1..LAST).map(|fact| vec![-fact, fact + 1]));
+    clauses.push(vec![-LAST]);
+    let formula = Formula { variables: 64, clauses };
+    let mut builder = Builder::new(&formula);
+    let mut witness = Literals::default();
+    witness.set(-1);
+    while builder.lines.len() < lines {
+        let line = builder.store.clause(&[vec![-1], some_from(random, LAST + 1, 5)].concat());
+        builder.write_line(0x50, line, witness);
+    }
+    Problem { formula, builder }
+}
+
+/// Literals of so many of the facts from `first` to 64, in their order.
+fn some_from(random: &mut Random, first: i32, many: usize) -> Vec<i32> {
+    let mut facts: Vec<i32> = (first..=64).collect();
+    random.shuffle(&mut facts);
+    facts.truncate(many);
+    facts.sort_unstable();
+    facts.into_iter().map(|fact| if random.percent(50) { fact } else { -fact }).collect()
 }
 
 /// The sum of weights of the variables before 63 by a modulus picks one of two ends.
