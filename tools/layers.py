@@ -108,7 +108,7 @@ def picture():
     top = max(floor.values())
     left = {c: 24 + x[c] * ACROSS for c in crates}
     upper = {c: TOP + (top - floor[c]) * UP for c in crates}
-    width = int(24 + max(x.values()) * ACROSS + WIDTH + 130)
+    width = int(24 + max(x.values()) * ACROSS + WIDTH + 24)
     height = TOP + top * UP + 36
     out = [
         f'<svg xmlns="http://www.w3.org/2000/svg" width="{width}" height="{height}" viewBox="0 0 {width} {height}" '
@@ -140,13 +140,14 @@ def picture():
             f'<text x="{left[c] + WIDTH / 2:.0f}" y="{upper[c] + 18}" font-size="14" font-weight="bold" text-anchor="middle">{c}</text>',
             f'<text x="{left[c] + WIDTH / 2:.0f}" y="{upper[c] + 35}" font-size="11" fill="#333333" text-anchor="middle">{WORDS[c]}</text>',
         ]
-    at = width - 226
-    for i, (fill, edge, words) in enumerate((("#e2f2e3", "#2e7d32", "open to others"), ("#e7effb", "#2f5b94", "inner"), ("#fff3d6", "#a8780a", "no code: definitions, theorems"))):
-        out.append(f'<rect x="{at}" y="{TOP + 24 * i}" width="24" height="14" rx="3" fill="{fill}" stroke="{edge}"/>'
-                   f'<text x="{at + 34}" y="{TOP + 11 + 24 * i}" font-size="12">{words}</text>')
-    for i, (colour, dash, words) in enumerate(((SOLID, "", "its code stands on it"), (DASHED, ' stroke-dasharray="6 4"', "only its contracts and proofs"))):
-        y = TOP + 84 + 22 * i
-        out.append(f'<line x1="{at}" y1="{y}" x2="{at + 26}" y2="{y}" stroke="{colour}" stroke-width="1.4"{dash}/><text x="{at + 34}" y="{y + 4}" font-size="12">{words}</text>')
+    # The legend stands beside the title, above the highest crate.
+    at = 470
+    for fill, edge, words in (("#e2f2e3", "#2e7d32", "open to others"), ("#e7effb", "#2f5b94", "inner"), ("#fff3d6", "#a8780a", "no code: definitions, theorems")):
+        out.append(f'<rect x="{at}" y="24" width="24" height="14" rx="3" fill="{fill}" stroke="{edge}"/><text x="{at + 32}" y="35" font-size="12">{words}</text>')
+        at += 60 + 7 * len(words)
+    for colour, dash, words in ((SOLID, "", "its code depends on it"), (DASHED, ' stroke-dasharray="6 4"', "only its contracts and proofs do")):
+        out.append(f'<line x1="{at}" y1="31" x2="{at + 26}" y2="31" stroke="{colour}" stroke-width="1.4"{dash}/><text x="{at + 34}" y="35" font-size="12">{words}</text>')
+        at += 60 + 7 * len(words)
     out.append("</svg>\n")
     return "\n".join(out)
 
@@ -154,6 +155,6 @@ def picture():
 drawn, path = picture(), Path("docs/layers.svg")
 if "--check" in sys.argv[1:]:
     if not path.exists() or path.read_text() != drawn:
-        sys.exit("layers.py: docs/layers.svg is not the house as it stands; run tools/layers.py")
+        sys.exit("layers.py: docs/layers.svg is not what crates.txt and the files say; run tools/layers.py")
 else:
     path.write_text(drawn)
