@@ -1,6 +1,7 @@
 // The face of the library: the calls open to others. Each tests for itself all that it needs, and none has a `requires`.
 use commands::Form;
 use commands::Mode;
+use convert::Converted;
 use operate::Operation;
 use session::Checked;
 use single::Evaluated;
@@ -8,7 +9,11 @@ use single::call::Single;
 use single::least::AtLeast;
 use table::NodeNo;
 ghost use mathlib.Core.Path.{_≡_};
-ghost use Rattle.commands.specs.Commands.{inRecords, inText};
+ghost use mathlib.Core.Bool.{true};
+ghost use lib.ListN.{length};
+ghost use Rattle.commands.specs.declared.Form.the-variants.{Records, Text, Binary};
+ghost use Rattle.commands.specs.Commands.{inForm, inRecords, inText, inBinary};
+ghost use Rattle.convert.specs.Convert.{conversionOf, toBinary, toText};
 ghost use Rattle.session.specs.Checked.{checkOutcome};
 ghost use Rattle.single.specs.Single.{evaluation, madeOf, operation, countedOf, atLeastCall};
 ghost use Rattle.table.specs.Columns.{columnsMade};
@@ -232,6 +237,7 @@ pub fn check<'a>(
 {
     let mode = Mode {
         form: Form::Records,
+        consequence: false,
     };
     check_in(
         vars,
@@ -271,7 +277,10 @@ pub fn check_text<'a>(
         (now (formula .entry)) (now (proof .entry))) ⌝ }
     ensures { λ r. ⌜ (r .number ≡ 0 → Unsatisfiable (now (formula .entry))) ⌝ }
 {
-    let mode = Mode { form: Form::Text };
+    let mode = Mode {
+        form: Form::Text,
+        consequence: false,
+    };
     check_in(
         vars,
         lows,
@@ -286,4 +295,187 @@ pub fn check_text<'a>(
         formula,
         proof,
     )
+}
+
+// The same of a binary DRAT proof. (02, 9/14)
+pub fn check_binary<'a>(
+    vars: &mut [u8],
+    lows: &mut [u16],
+    highs: &mut [u16],
+    heads: &mut [u16],
+    links: &mut [u16],
+    count: usize,
+    members: &mut [u16],
+    struck: &mut [u8],
+    scratch: &mut [u16],
+    formula: &'a [u8],
+    proof: &'a [u8],
+) -> Checked
+    ensures { λ r. ⌜ (
+        let lent = columnsMade (now (vars .entry)) (now (lows .entry)) (now (highs .entry)) (now (heads .entry)) (now (links .entry)) in
+        let left = columnsMade (now (vars .exit)) (now (lows .exit)) (now (highs .exit)) (now (heads .exit)) (now (links .exit)) in
+        checkOutcome left (now (members .exit)) (now (struck .exit)) (now (scratch .exit)) r
+        ≡ check inBinary lent count (now (members .entry)) (now (struck .entry)) (now (scratch .entry))
+        (now (formula .entry)) (now (proof .entry))) ⌝ }
+    ensures { λ r. ⌜ (r .number ≡ 0 → Unsatisfiable (now (formula .entry))) ⌝ }
+{
+    let mode = Mode {
+        form: Form::Binary,
+        consequence: false,
+    };
+    check_in(
+        vars,
+        lows,
+        highs,
+        heads,
+        links,
+        count,
+        members,
+        struck,
+        scratch,
+        mode,
+        formula,
+        proof,
+    )
+}
+
+// The check of a proof in records in the consequence profile: each accepted line is true under every assignment that satisfies the formula.
+// (02, 11/14)
+pub fn check_consequence<'a>(
+    vars: &mut [u8],
+    lows: &mut [u16],
+    highs: &mut [u16],
+    heads: &mut [u16],
+    links: &mut [u16],
+    count: usize,
+    members: &mut [u16],
+    struck: &mut [u8],
+    scratch: &mut [u16],
+    formula: &'a [u8],
+    proof: &'a [u8],
+) -> Checked
+    ensures { λ r. ⌜ (
+        let lent = columnsMade (now (vars .entry)) (now (lows .entry)) (now (highs .entry)) (now (heads .entry)) (now (links .entry)) in
+        let left = columnsMade (now (vars .exit)) (now (lows .exit)) (now (highs .exit)) (now (heads .exit)) (now (links .exit)) in
+        checkOutcome left (now (members .exit)) (now (struck .exit)) (now (scratch .exit)) r
+        ≡ check (inForm Records true) lent count (now (members .entry)) (now (struck .entry)) (now (scratch .entry))
+        (now (formula .entry)) (now (proof .entry))) ⌝ }
+    ensures { λ r. ⌜ (r .number ≡ 0 → Unsatisfiable (now (formula .entry))) ⌝ }
+{
+    let mode = Mode {
+        form: Form::Records,
+        consequence: true,
+    };
+    check_in(
+        vars,
+        lows,
+        highs,
+        heads,
+        links,
+        count,
+        members,
+        struck,
+        scratch,
+        mode,
+        formula,
+        proof,
+    )
+}
+
+// The same of a DRAT text, whose clauses pass by their first try alone. (02, 11/14)
+pub fn check_text_consequence<'a>(
+    vars: &mut [u8],
+    lows: &mut [u16],
+    highs: &mut [u16],
+    heads: &mut [u16],
+    links: &mut [u16],
+    count: usize,
+    members: &mut [u16],
+    struck: &mut [u8],
+    scratch: &mut [u16],
+    formula: &'a [u8],
+    proof: &'a [u8],
+) -> Checked
+    ensures { λ r. ⌜ (
+        let lent = columnsMade (now (vars .entry)) (now (lows .entry)) (now (highs .entry)) (now (heads .entry)) (now (links .entry)) in
+        let left = columnsMade (now (vars .exit)) (now (lows .exit)) (now (highs .exit)) (now (heads .exit)) (now (links .exit)) in
+        checkOutcome left (now (members .exit)) (now (struck .exit)) (now (scratch .exit)) r
+        ≡ check (inForm Text true) lent count (now (members .entry)) (now (struck .entry)) (now (scratch .entry))
+        (now (formula .entry)) (now (proof .entry))) ⌝ }
+    ensures { λ r. ⌜ (r .number ≡ 0 → Unsatisfiable (now (formula .entry))) ⌝ }
+{
+    let mode = Mode {
+        form: Form::Text,
+        consequence: true,
+    };
+    check_in(
+        vars,
+        lows,
+        highs,
+        heads,
+        links,
+        count,
+        members,
+        struck,
+        scratch,
+        mode,
+        formula,
+        proof,
+    )
+}
+
+// The same of a binary DRAT proof. (02, 9/14 and 11/14)
+pub fn check_binary_consequence<'a>(
+    vars: &mut [u8],
+    lows: &mut [u16],
+    highs: &mut [u16],
+    heads: &mut [u16],
+    links: &mut [u16],
+    count: usize,
+    members: &mut [u16],
+    struck: &mut [u8],
+    scratch: &mut [u16],
+    formula: &'a [u8],
+    proof: &'a [u8],
+) -> Checked
+    ensures { λ r. ⌜ (
+        let lent = columnsMade (now (vars .entry)) (now (lows .entry)) (now (highs .entry)) (now (heads .entry)) (now (links .entry)) in
+        let left = columnsMade (now (vars .exit)) (now (lows .exit)) (now (highs .exit)) (now (heads .exit)) (now (links .exit)) in
+        checkOutcome left (now (members .exit)) (now (struck .exit)) (now (scratch .exit)) r
+        ≡ check (inForm Binary true) lent count (now (members .entry)) (now (struck .entry)) (now (scratch .entry))
+        (now (formula .entry)) (now (proof .entry))) ⌝ }
+    ensures { λ r. ⌜ (r .number ≡ 0 → Unsatisfiable (now (formula .entry))) ⌝ }
+{
+    let mode = Mode {
+        form: Form::Binary,
+        consequence: true,
+    };
+    check_in(
+        vars,
+        lows,
+        highs,
+        heads,
+        links,
+        count,
+        members,
+        struck,
+        scratch,
+        mode,
+        formula,
+        proof,
+    )
+}
+
+// A DRAT text in binary, in a lent output; or 3, 4, 6, 7. (02, 9/14)
+pub fn to_binary(text: &[u8], out: &mut [u8]) -> Converted
+    ensures { λ r. ⌜ conversionOf (now (out .exit)) r ≡ toBinary (length (now (out .entry))) (now (text .entry)) ⌝ }
+{
+    convert::to_binary(text, out)
+}
+
+// A binary DRAT proof as text, in a lent output; or 4, 6, 9, 31, 7.
+pub fn to_text(binary: &[u8], out: &mut [u8]) -> Converted
+    ensures { λ r. ⌜ conversionOf (now (out .exit)) r ≡ toText (length (now (out .entry))) (now (binary .entry)) ⌝ }
+{
+    convert::to_text(binary, out)
 }

@@ -1,23 +1,30 @@
-// What stands next in a proof, in each of its forms. (01, The proof; 02, 4/14)
+// What stands next in a proof, in each of its forms. (01, The proof; 02, 4/14 and 9/14)
+mod binary;
 mod text;
 
+pub use binary::GroupsRead;
+pub use binary::fault_place;
+pub use binary::groups_at;
+use dimacs::Token;
 use records::Record;
 use words::Literals;
 ghost use mathlib.Core.Path.{_≡_};
 ghost use Prim.Native.Nat.{_≤_};
 ghost use lib.ListN.{length};
 ghost use Rattle.commands.specs.Commands.{recordRead, start, commandAt};
-ghost use Rattle.commands.specs.Inner.{readOf};
+ghost use Rattle.commands.specs.Inner.{pivotAt, clauseCommand, readOf};
 
 // The forms of a proof.
 pub enum Form {
     Records,
     Text,
+    Binary,
 }
 
-// How a proof is to be read.
+// How a proof is to be read, and whether in the consequence profile.
 pub struct Mode {
     pub form: Form,
+    pub consequence: bool,
 }
 
 // A clause's first literal; nothing for the empty clause.
@@ -26,18 +33,18 @@ pub enum Pivot {
     First { variable: u8, positive: bool },
 }
 
-// A clause of a text: the set of its literals, and its pivot.
-pub struct TextClause {
+// A clause of a DRAT proof: the set of its literals, and its pivot.
+pub struct DratClause {
     pub literals: Literals,
     pub pivot: Pivot,
 }
 
 // A record, and whether a byte follows it; a clause added or struck out; a number and a place, counted from the command's first byte; the
-// end of a text.
+// end of a DRAT proof.
 pub enum Command {
     Recorded { record: Record, more: bool },
-    Added(TextClause),
-    Struck(TextClause),
+    Added(DratClause),
+    Struck(DratClause),
     Wrong { number: u8, offset: usize },
     Finished,
 }
@@ -46,6 +53,27 @@ pub enum Command {
 pub struct Read {
     pub command: Command,
     pub next: usize,
+}
+
+// The pivot of a clause, by what its first token says.
+fn pivot_of(token: Token) -> Pivot
+    ensures { λ r. ⌜ r ≡ pivotAt token ⌝ }
+{
+    match token {
+        Token::Closing => Pivot::Nothing,
+        Token::Literal { variable, positive } => Pivot::First { variable, positive },
+        Token::Wrong(_) => Pivot::Nothing,
+    }
+}
+
+// The command of a clause.
+fn clause_command(strikes: bool, clause: DratClause) -> Command
+    ensures { λ r. ⌜ r ≡ clauseCommand strikes clause ⌝ }
+{
+    if strikes {
+        return Command::Struck(clause);
+    }
+    Command::Added(clause)
 }
 
 // The record whose first byte is at `at`.
@@ -72,6 +100,7 @@ pub fn start_of(proof: &[u8], form: Form) -> usize
     match form {
         Form::Records => 0,
         Form::Text => dimacs::skip_between(proof, 0),
+        Form::Binary => 0,
     }
 }
 
@@ -83,5 +112,6 @@ pub fn command_at(proof: &[u8], at: usize, variables: u8, form: Form) -> Read
     match form {
         Form::Records => record_read(proof, at),
         Form::Text => text::text_at(proof, at, variables),
+        Form::Binary => binary::binary_at(proof, at, variables),
     }
 }

@@ -1,57 +1,31 @@
 // DRAT text: the clause that stands next, added or struck out. (02, 4/14)
 use crate::Command;
-use crate::Pivot;
+use crate::DratClause;
 use crate::Read;
-use crate::TextClause;
 use dimacs::Clause;
-use dimacs::Token;
 ghost use mathlib.Core.Path.{_≡_};
 ghost use Prim.Native.Nat.{_-_, _≤_};
 ghost use lib.ListN.{length};
-ghost use lib.Seq.{slice};
-ghost use Rattle.dimacs.specs.Text.{tokenEnd};
-ghost use Rattle.dimacs.specs.Numbers.{tokenOf};
+ghost use Rattle.dimacs.specs.Text.{between};
 ghost use Rattle.dimacs.specs.Clauses.{clauseFrom};
 ghost use Rattle.commands.specs.Commands.{clauseRead, textRead};
-ghost use Rattle.commands.specs.Inner.{pivotAt, clauseCommand, commandFor, readOf};
-
-// The pivot of a clause, by its first token.
-fn pivot_at(s: &[u8], at: usize, variables: u8) -> Pivot
-    requires { ⌜ at ≤ length (now s) ⌝ }
-    ensures { λ r. ⌜ r ≡ pivotAt (tokenOf variables (slice at (tokenEnd (now (s .entry)) at) (now (s .entry)))) ⌝ }
-{
-    match dimacs::token_at(s, at, variables) {
-        Token::Closing => Pivot::Nothing,
-        Token::Literal { variable, positive } => Pivot::First { variable, positive },
-        Token::Wrong(_) => Pivot::Nothing,
-    }
-}
-
-// The command of a clause.
-fn clause_command(strikes: bool, clause: TextClause) -> Command
-    ensures { λ r. ⌜ r ≡ clauseCommand strikes clause ⌝ }
-{
-    if strikes {
-        return Command::Struck(clause);
-    }
-    Command::Added(clause)
-}
+ghost use Rattle.commands.specs.Inner.{commandFor, readOf};
 
 // The command whose first byte is at `at` and whose literals stand from `from` on.
 fn clause_at(s: &[u8], at: usize, from: usize, variables: u8, strikes: bool) -> Read
     requires { ⌜ (at ≤ from) × (from ≤ length (now s)) × (variables ≤ 64) ⌝ }
     ensures { λ r. ⌜ (
         let next = clauseFrom (now (s .entry)) variables (length (now (s .entry)) - from) at from in
-        r ≡ readOf (clauseRead (now (s .entry)) at (commandFor strikes) next)) ⌝ }
+        r ≡ readOf (clauseRead (between (now (s .entry))) at (commandFor strikes) next)) ⌝ }
 {
     match dimacs::open_clause(s, at, from, variables) {
         Clause::Closed(closed) => {
             let literals = closed.literals;
-            let pivot = pivot_at(s, from, variables);
+            let pivot = crate::pivot_of(dimacs::token_at(s, from, variables));
             let next = dimacs::skip_between(s, closed.next);
-            let clause = TextClause { literals, pivot };
+            let clause = DratClause { literals, pivot };
             Read {
-                command: clause_command(strikes, clause),
+                command: crate::clause_command(strikes, clause),
                 next,
             }
         }

@@ -1,7 +1,7 @@
 -- Demand 2, the rules: one theorem a sentence. The idea: proved in the files named. Assumes nothing.
 use mathlib.Core.Path.{_≡_}
 use mathlib.Core.Logic.{_↔_}
-use mathlib.Core.Bool.{Bool, true}
+use mathlib.Core.Bool.{Bool, true, false}
 use mathlib.Core.List.{List, [], _∷_, map}
 use Prim.Native.Nat.{ℕ}
 use lib.ListN.{length, replicate}
@@ -15,9 +15,9 @@ use Rattle.table.specs.Columns.{Columns, columnsMade}
 use Rattle.dimacs.specs.Clauses.{formula}
 use Rattle.records.specs.declared.Rule.{Rule}
 use Rattle.clausal.specs.Drat.{Clause, Plain, AllPlain, Accepted}
-use Rattle.commands.specs.declared.Form.the-variants.{Text}
+use Rattle.commands.specs.declared.Form.{Form}
 use Rattle.commands.specs.declared.Mode.{Mode}
-use Rattle.commands.specs.Commands.{Command, added, inRecords, inText}
+use Rattle.commands.specs.Commands.{Command, added, inRecords, isDrat, inForm}
 use Rattle.operate.specs.declared.Operation.{Operation}
 use Rattle.operate.specs.declared.Operation.the-variants.{Negation, Cofactor}
 use Rattle.operate.specs.Operate.{result}
@@ -32,8 +32,10 @@ use Rattle.verdict.specs.MetFirst.{metBy, sayMet}
 use Rattle.dimacs.specs.Texts.{bytes}
 use Rattle.verdict.specs.Cases.{Gives, GivesAll, checked as row, prints, A-formula, A-proof, caseTable, numberTable, strikeTable, setTable}
 use Rattle.verdict.specs.TextRows.{textTable}
+use Rattle.verdict.specs.PathRows.{pathTable, profileTable}
 use Rattle.verdict.proofs.Cases as Tables
 use Rattle.verdict.proofs.TextRows as TextRows
+use Rattle.verdict.proofs.PathRows as PathRows
 use Rattle.verdict.proofs.Commands as Commands
 use Rattle.verdict.proofs.MetFirst as MetFirst
 use Rattle.demands.specs.Calls.{nodesOfColumns}
@@ -65,9 +67,9 @@ check-zero-exactly = Ending.check-zero-exactly
 pub check-zero-place : (i : Handed) → Fits i → (F : Refutation (i .mode) (places i) (i .text) (i .proof)) → checked i .place ≡ F .place
 check-zero-place = Ending.check-zero-place
 
--- "20, at its length as is 0": in a text that place is its length. (02, 4/14)
-pub text-zero-place : (i : Handed) → i .mode .form ≡ Text → (F : Refutation (i .mode) (places i) (i .text) (i .proof)) → F .place ≡ length (i .proof)
-text-zero-place = Ending.text-zero-place
+-- "20, at its length as is 0": in DRAT that place is its length. (02, 4/14)
+pub drat-zero-place : (i : Handed) → isDrat (i .mode .form) ≡ true → (F : Refutation (i .mode) (places i) (i .text) (i .proof)) → F .place ≡ length (i .proof)
+drat-zero-place = Ending.drat-zero-place
 
 -- "an accepted line is 0": what the refutation's `zero-line` says.
 pub zero-line-exactly : (mode : Mode) (s : ℕ) (text proof : List ℕ) {n : ℕ} {st : State} {at : ℕ} {m : Meant} → Reached mode s text proof n st at m
@@ -76,7 +78,7 @@ zero-line-exactly = ZeroLines.zero-line-exactly
 
 -- A command leads to a next state exactly where it passes what 01 and 02 ask of its kind: `NodeTaken`, `WitnessTaken`, `LineTaken`, `StrikeTaken`,
 -- `SetTaken`; of a text's, `ClauseTaken`, `ClauseStruck`.
-pub step-exactly : (n s : ℕ) (st : State) (c : Command) (st′ : State) → (step n s st c ≡ next st′) ↔ CommandTaken n s st c st′
+pub step-exactly : (profile : Bool) (n s : ℕ) (st : State) (c : Command) (st′ : State) → (step profile n s st c ≡ next st′) ↔ CommandTaken profile n s st c st′
 step-exactly = Commands.step-exactly
 
 -- "then 19 or 23, the one met first": a line is judged as its diagrams are made, in 01's making order.
@@ -104,26 +106,26 @@ pub operation-full : (op : Operation) (c : Columns) (count f g : ℕ) → operat
     → Wants (length (c .vars)) (nodesOfColumns c count) (result op (diagramAt (nodesOfColumns c count) f) (diagramAt (nodesOfColumns c count) g))
 operation-full = NoRoom.operation-full
 
--- ---- clauses of a text
+-- ---- clauses of a DRAT proof
 
 -- "Prove that for clauses and members without both signs of a variable the two tries accept exactly what RUP and RAT over clauses accept, the table having
--- room": in every state that the check of a text reaches. The members are the formula's clauses and those that the text added, by place, and the live
+-- room": in every state that the check of a DRAT proof reaches. The members are the formula's clauses and those that the proof added, by place, and the live
 -- ones are those that it has not struck out. (02, 4/14)
-pub added-exactly : (s : ℕ) (text proof : List ℕ) {n : ℕ} {st : State} {at : ℕ} {m : Meant} → Reached inText s text proof n st at m
-    → (c : Clause) → commandIn inText proof n at ≡ added c → AllPlain (liveClauses text proof at) → Plain c → (t : List Node) (k : ℕ) → HasRoom n s st c t k
-    → StepGoesOn (step n s st (commandIn inText proof n at)) ↔ Accepted (liveClauses text proof at) c
+pub added-exactly : (form : Form) → isDrat form ≡ true → (s : ℕ) (text proof : List ℕ) {n : ℕ} {st : State} {at : ℕ} {m : Meant} → Reached (inForm form false) s text proof n st at m
+    → (c : Clause) → commandIn (inForm form false) proof n at ≡ added c → AllPlain (liveClauses (inForm form false) text proof at) → Plain c → (t : List Node) (k : ℕ) → HasRoom n s st c t k
+    → StepGoesOn (step false n s st (commandIn (inForm form false) proof n at)) ↔ Accepted (liveClauses (inForm form false) text proof at) c
 added-exactly = TextRules.added-exactly
 
 -- Else it is refused with 19.
-pub added-refused : (s : ℕ) (text proof : List ℕ) {n : ℕ} {st : State} {at : ℕ} {m : Meant} → Reached inText s text proof n st at m
-    → (c : Clause) → commandIn inText proof n at ≡ added c → AllPlain (liveClauses text proof at) → Plain c → (t : List Node) (k : ℕ) → HasRoom n s st c t k
-    → (Accepted (liveClauses text proof at) c → ⊥) → (peak : ℕ) × (step n s st (commandIn inText proof n at) ≡ spent 19 peak)
+pub added-refused : (form : Form) → isDrat form ≡ true → (s : ℕ) (text proof : List ℕ) {n : ℕ} {st : State} {at : ℕ} {m : Meant} → Reached (inForm form false) s text proof n st at m
+    → (c : Clause) → commandIn (inForm form false) proof n at ≡ added c → AllPlain (liveClauses (inForm form false) text proof at) → Plain c → (t : List Node) (k : ℕ) → HasRoom n s st c t k
+    → (Accepted (liveClauses (inForm form false) text proof at) c → ⊥) → (peak : ℕ) × (step false n s st (commandIn (inForm form false) proof n at) ≡ spent 19 peak)
 added-refused = TextRules.added-refused
 
 -- What the tries look at: the diagrams of those clauses.
-pub text-live : (s : ℕ) (text proof : List ℕ) {n : ℕ} {st : State} {at : ℕ} {m : Meant} → Reached inText s text proof n st at m
-    → liveMembers st ≡ map (clause n) (liveClauses text proof at)
-text-live = TextMembers.text-live
+pub drat-live : (mode : Mode) → isDrat (mode .form) ≡ true → (s : ℕ) (text proof : List ℕ) {n : ℕ} {st : State} {at : ℕ} {m : Meant} → Reached mode s text proof n st at m
+    → liveMembers st ≡ map (clause n) (liveClauses mode text proof at)
+drat-live = TextMembers.drat-live
 
 -- ---- the rules' words
 
@@ -170,6 +172,14 @@ set-entries = Tables.set-entries
 -- 02's texts: each number that a text can get, at its place; comments, `d` lines, second tries, full tables.
 pub texts : GivesAll textTable
 texts = TextRows.texts
+
+-- 02's path lines: 10, 13, 16, 17 and 34 in their order, the one path of line 0, what RUP refuses, what is made.
+pub path-lines : GivesAll pathTable
+path-lines = PathRows.path-lines
+
+-- 02's consequence profile: 33 and its order, what passes, the first try alone.
+pub profile-lines : GivesAll profileTable
+profile-lines = PathRows.profile-lines
 
 -- "7: table of 1 place"; "21: node record 4,097 of a line"; "22: line 1,025"; "26: node 2 = 1, 0, 0"; "27: f = 1, g = 0". 24 and 25 are the program's
 -- (report/proofs/Saying: `long-formula`, `long-proof`, `no-formula`, `no-proof`).

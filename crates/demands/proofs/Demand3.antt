@@ -1,8 +1,14 @@
 -- Demand 3, values: one theorem a sentence. The idea: proved in the files named. Assumes nothing.
-use mathlib.Core.Path.{_≡_}
+use Rattle.verdict.proofs.Refuted.{AllOne}
+use Rattle.records.specs.declared.Rule.the-variants.{Path}
+use Rattle.commands.specs.Commands.{inForm}
+use Rattle.commands.specs.declared.Form.the-variants.{Records}
+use Rattle.verdict.specs.Profile.{withoutPr}
+use Rattle.verdict.specs.Check.{check}
+use mathlib.Core.Path.{_≡_, _∙_, refl}
 use mathlib.Core.Logic.{_≢_, _↔_}
 use mathlib.Core.Bool.{true, false, cond}
-use mathlib.Core.List.{[]}
+use mathlib.Core.List.{[], List}
 use Prim.Native.Nat.{ℕ, _+_, _≤_, _<_}
 use lib.ListN.{length, getD}
 use Rattle.meaning.specs.Diagram.{Assignment, holds, value}
@@ -16,18 +22,21 @@ use Rattle.table.proofs.InOrder.{good-order}
 use Rattle.operate.specs.declared.Operation.{Operation}
 use Rattle.operate.specs.declared.Operation.the-variants.{Cofactor}
 use Rattle.single.specs.Single.{evaluation, operation, atLeastCall}
-use Rattle.verdict.specs.Steps.{State, isEntry, entryNode}
-use Rattle.verdict.specs.Taken.{Meant, entryMeant}
+use Rattle.verdict.specs.Steps.{State, isEntry, entryNode, unstruck}
+use Rattle.verdict.specs.Taken.{Meant, entryMeant, LineTaken}
 use Rattle.verdict.specs.Run.{Reached, Later}
-use Rattle.verdict.specs.Satisfies.{Unsatisfiable}
+use Rattle.verdict.specs.Satisfies.{Unsatisfiable, satisfies}
 use Rattle.verdict.proofs.Refuted as Refuted
 use Rattle.verdict.proofs.Values as Values
+use Rattle.verdict.proofs.Ends as Ends
+use Rattle.verdict.proofs.Consequence as Consequence
 use Rattle.demands.specs.Calls.{nodesOfColumns, inGoodOrder, valueAt, Answers, OperationSays, answered, refused, LeastSays}
 use Rattle.demands.specs.Leaving.{Handed, checked, Fits, places, clausesRead, linesOf, Member}
 use Rattle.demands.proofs.Singles as Singles
 use Rattle.demands.proofs.Leasts as Leasts
 use Rattle.demands.proofs.Words as Words
 use Rattle.demands.proofs.Lists as Lists
+use Rattle.demands.proofs.Profile as Profile
 
 -- ---- a table in good order
 
@@ -122,3 +131,21 @@ module _ (i : Handed) {n : ℕ} {st : State} {at : ℕ} {m : Meant} (R : Reached
 -- Where 0 is said no assignment satisfies the formula's bytes, whatever the proof's bytes and whatever the lent places held.
 pub check-refuted : (i : Handed) → checked i .number ≡ 0 → Unsatisfiable (i .text)
 check-refuted i = Refuted.check-refuted (i .mode) (i .columns) (i .count) (i .members) (i .struck) (i .scratch) (i .text) (i .proof)
+
+-- ---- the consequence profile
+
+-- "each accepted line is true under every assignment that satisfies the formula": in the member list that the call leaves, the struck lines too. (02,
+-- 11/14; a path line passes there: 12/14)
+pub lines-true : (i : Handed) → Fits i → i .mode .consequence ≡ true → checked i .inProof ≡ true → (a : Assignment) → satisfies a (clausesRead i) ≡ true
+    → (j : ℕ) → j < checked i .lines → valueAt (checked i .columns) (checked i .count) (getD (checked i .members) (length (clausesRead i) + j) 0) a ≡ true
+lines-true i fits profile late a sat j p = line-left i fits late j p .1 a ∙ Profile.lines-true i profile a sat late j p
+
+-- "a proof in records without a PR one gets the results it has outside the profile": the number, the place, the counts and every lent place.
+pub profile-same : (c : Columns) (count : ℕ) (members struck scratch text proof : List ℕ) → withoutPr proof ≡ true
+    → check (inForm Records true) c count members struck scratch text proof ≡ check (inForm Records false) c count members struck scratch text proof
+profile-same = Consequence.profile-same
+
+-- "an accepted path line follows from the members": in every state that the check reaches, from the live ones, at every assignment. (02, 12/14)
+pub path-follows : (i : Handed) {n : ℕ} {st : State} {at : ℕ} {m : Meant} → Reached (i .mode) (places i) (i .text) (i .proof) n st at m
+    → (root : ℕ) (st′ : State) → LineTaken n (places i) st Path root st′ → (a : Assignment) → length a ≡ n → AllOne a (unstruck (st .struck) (m .members)) → entryMeant m root a ≡ true
+path-follows i R root st′ T = Consequence.line-follows (Ends.reached-standing (i .mode) (places i) (i .text) (i .proof) R .1) Path root st′ refl T

@@ -7,10 +7,8 @@ use Prim.Native.Nat.{ℕ}
 use native.Mathlib.Omega.{arith}
 use lib.ListN.{length}
 use Rattle.meaning.proofs.Booleans.{t≢f}
-use Rattle.commands.specs.declared.Form.{Form}
-use Rattle.commands.specs.declared.Form.the-variants.{Text}
-use Rattle.commands.specs.Commands.{Command, recorded, added, struckOut, wrong, finished, commandAt}
-use Rattle.commands.proofs.Onward.{CommandIn, text-in}
+use Rattle.commands.specs.Commands.{Command, recorded, added, struckOut, wrong, finished, isDrat}
+use Rattle.commands.proofs.Onward.{CommandIn, drat-in}
 use Rattle.verdict.specs.Check.{Verdict, verdict, CheckOutcome, lentFits, outcome, check}
 use Rattle.verdict.specs.Run.{commandIn, nextIn, Closes, Refutation}
 use Rattle.verdict.proofs.Ends.{reached-in, ended}
@@ -79,15 +77,14 @@ module _ (i : Handed) where
   unfolding outcome
   check-zero-place e F = ap (λ (o : CheckOutcome). o .place) (checked-fits e) ∙ ap (λ (v : Verdict). v .place) (refutation-said (i .mode) (places i) (i .text) (i .proof) F)
 
-  -- "at its length as is 0": a text's refutation ends at its length.
-  pub text-zero-place : i .mode .form ≡ Text → (F : Refutation (i .mode) (places i) (i .text) (i .proof)) → F .place ≡ length (i .proof)
-  text-zero-place form F =
+  -- "at its length as is 0": a DRAT proof's refutation ends at its length.
+  pub drat-zero-place : isDrat (i .mode .form) ≡ true → (F : Refutation (i .mode) (places i) (i .text) (i .proof)) → F .place ≡ length (i .proof)
+  drat-zero-place drat F =
       go (commandIn (i .mode) (i .proof) (F .variables) (F .place)) (nextIn (i .mode) (i .proof) (F .variables) (F .place))
-      (subst (λ (f : Form). CommandIn (i .proof) (F .variables) (F .place) (commandAt f (i .proof) (F .variables) (F .place) .command) (commandAt f (i .proof) (F .variables) (F .place) .next)) (sym form)
-      (text-in (i .proof) (F .variables) (F .place) (reached-in (i .mode) (places i) (i .text) (i .proof) (F .reached))))
+      (drat-in (i .mode .form) drat (i .proof) (F .variables) (F .place) (reached-in (i .mode) (places i) (i .text) (i .proof) (F .reached)))
       (F .end)
     where
-      go : (c : Command) (next : ℕ) → CommandIn (i .proof) (F .variables) (F .place) c next → Closes (F .state) c → F .place ≡ length (i .proof)
+      go : (c : Command) (next : ℕ) → CommandIn (i .mode .form) (i .proof) (F .variables) (F .place) c next → Closes (F .state) c → F .place ≡ length (i .proof)
       go (recorded r more) next I C = absurd I
       go (added ls) next I C = absurd C
       go (struckOut ls) next I C = absurd C

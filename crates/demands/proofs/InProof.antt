@@ -9,13 +9,13 @@ use native.Mathlib.Omega.{arith}
 use native.Mathlib.Decide.{ℕ-discrete}
 use Rattle.meaning.proofs.Booleans.{t≢f}
 use Rattle.commands.specs.declared.Form.{Form}
-use Rattle.commands.specs.declared.Form.the-variants.{Records, Text}
+use Rattle.commands.specs.declared.Form.the-variants.{Records, Text, Binary}
 use Rattle.commands.specs.declared.Mode.{Mode}
-use Rattle.commands.specs.Commands.{Command, recorded, added, struckOut, wrong, finished}
+use Rattle.commands.specs.Commands.{Command, recorded, added, struckOut, wrong, finished, isDrat}
 use Rattle.verdict.specs.Steps.{State, Step, next, stop, spent}
 use Rattle.verdict.specs.Check.{step, Verdict, afterStep, commands, CheckOutcome, outcome}
 use Rattle.verdict.specs.Run.{commandIn, nextIn, ProofNumber}
-use Rattle.verdict.proofs.Commands.{Fit}
+use Rattle.verdict.proofs.Commands.{DratFit}
 use Rattle.verdict.proofs.Ends.{reached-fit}
 use Rattle.verdict.proofs.Exactly.{Ahead, reached-ahead}
 use Rattle.verdict.proofs.ClauseSays.{AddedSays, StruckSays, FinishSays, added-says, struck-says, finish-says}
@@ -23,13 +23,14 @@ use Rattle.demands.specs.Leaving.{Handed, checked, Fits, places, Leaves,
 use Rattle.demands.proofs.Ending.{checked-fits}
 use Rattle.demands.proofs.Lists.{check-leaves}
 use Rattle.demands.proofs.Places.{check-place}
+use Rattle.demands.proofs.TextMembers.{fit-drat}
 
 -- ---- by the run
 
 commands-in-proof : (steps : ℕ) (mode : Mode) (n s : ℕ) (proof : List ℕ) (st : State) (at : ℕ) → commands steps mode n s proof st at .inProof ≡ true
 unfolding commands
 commands-in-proof zero mode n s proof st at = refl
-commands-in-proof (suc steps) mode n s proof st at = go (step n s st (commandIn mode proof n at)) (λ st′. commands-in-proof steps mode n s proof st′ (nextIn mode proof n at))
+commands-in-proof (suc steps) mode n s proof st at = go (step (mode .consequence) n s st (commandIn mode proof n at)) (λ st′. commands-in-proof steps mode n s proof st′ (nextIn mode proof n at))
   where
     go : (x : Step) → ((st′ : State) → commands steps mode n s proof st′ (nextIn mode proof n at) .inProof ≡ true)
         → afterStep x st at (λ st′. commands steps mode n s proof st′ (nextIn mode proof n at)) .inProof ≡ true
@@ -84,39 +85,49 @@ text-number i form late = go (check-leaves i)
     go (emptied _ E) = t≢f (sym late ∙ E .in-formula)
     go (kept _ K) = subst (λ (f : Form). ProofNumber f (checked i .number)) form (K .number)
 
+-- Those of a binary proof, which are so 0, 4, 6, 9, 17, 19, 20, 22, 23, 28 and 31.
+pub binary-number : (i : Handed) → i .mode .form ≡ Binary → checked i .inProof ≡ true → ProofNumber Binary (checked i .number)
+binary-number i form late = go (check-leaves i)
+  where
+    go : Leaves i (checked i) → ProofNumber Binary (checked i .number)
+    go (unchanged _ is) = t≢f (sym late ∙ ap (λ (o : CheckOutcome). o .inProof) is)
+    go (emptied _ E) = t≢f (sym late ∙ E .in-formula)
+    go (kept _ K) = subst (λ (f : Form). ProofNumber f (checked i .number)) form (K .number)
+
 -- ---- a fault of form
 
--- 3, 4 and 6 of a text are those of its reader, at their places.
-pub fault-only : (i : Handed) → i .mode .form ≡ Text → checked i .inProof ≡ true → checked i .number ≢ 0 → checked i .number ≤ 6 → AtFault i (checked i)
+-- 3, 4, 6, 9 and 31 of a DRAT proof are those of its reader, at their places.
+pub fault-only : (i : Handed) → isDrat (i .mode .form) ≡ true → checked i .inProof ≡ true → checked i .number ≢ 0 → (checked i .number ≢ 31 → checked i .number ≤ 9)
+    → AtFault i (checked i)
 unfolding step
-fault-only i form late some low =
+fault-only i drat late some low =
     let E : AtEnd i (checked i) = check-place i late in
-    let fit : Fit Text (E .n) (commandIn (i .mode) (i .proof) (E .n) (E .at)) = subst (λ (f : Form). Fit f (E .n) (commandIn (i .mode) (i .proof) (E .n) (E .at))) form
+    let fit : DratFit (i .mode .form) (E .n) (commandIn (i .mode) (i .proof) (E .n) (E .at)) = fit-drat (i .mode .form) drat (E .n) (commandIn (i .mode) (i .proof) (E .n) (E .at))
     (reached-fit (i .mode) (places i) (i .text) (i .proof) (E .reached)) in
     record { end = E; here = go E (commandIn (i .mode) (i .proof) (E .n) (E .at)) fit (E .says) }
   where
-    early : (x : Step) (number offset : ℕ) → number ≢ 0 → number ≤ 6 → AddedSays x → EndsWith x number offset → ⊥
+    early : (x : Step) (number offset : ℕ) → number ≢ 0 → (number ≢ 31 → number ≤ 9) → AddedSays x → EndsWith x number offset → ⊥
     early (next st) number offset some low A e = e
-    early (stop k o) number offset some low (inl q, _) e = absurd (omega (arith, e .0))
-    early (stop k o) number offset some low (inr q, _) e = absurd (omega (arith, e .0))
-    early (spent k peak) number offset some low (inl q) e = absurd (omega (arith, e .0))
-    early (spent k peak) number offset some low (inr q) e = absurd (omega (arith, e .0))
+    early (stop k o) number offset some low (inl q, _) e = absurd (omega (arith, e .0, low (λ z. omega (arith, e .0))))
+    early (stop k o) number offset some low (inr q, _) e = absurd (omega (arith, e .0, low (λ z. omega (arith, e .0))))
+    early (spent k peak) number offset some low (inl q) e = absurd (omega (arith, e .0, low (λ z. omega (arith, e .0))))
+    early (spent k peak) number offset some low (inr q) e = absurd (omega (arith, e .0, low (λ z. omega (arith, e .0))))
 
-    striking : (x : Step) (number offset : ℕ) → number ≢ 0 → number ≤ 6 → StruckSays x → EndsWith x number offset → ⊥
+    striking : (x : Step) (number offset : ℕ) → number ≢ 0 → (number ≢ 31 → number ≤ 9) → StruckSays x → EndsWith x number offset → ⊥
     striking (next st) number offset some low A e = e
-    striking (stop k o) number offset some low A e = absurd (omega (arith, e .0, A .0))
+    striking (stop k o) number offset some low A e = absurd (omega (arith, e .0, A .0, low (λ z. omega (arith, e .0, A .0))))
     striking (spent k peak) number offset some low A e = A
 
-    ending : (x : Step) (number offset : ℕ) → number ≢ 0 → number ≤ 6 → FinishSays x → EndsWith x number offset → ⊥
+    ending : (x : Step) (number offset : ℕ) → number ≢ 0 → (number ≢ 31 → number ≤ 9) → FinishSays x → EndsWith x number offset → ⊥
     ending (next st) number offset some low A e = e
     ending (stop k o) number offset some low (inl q, _) e = some (sym (e .0) ∙ q)
-    ending (stop k o) number offset some low (inr q, _) e = absurd (omega (arith, e .0))
+    ending (stop k o) number offset some low (inr q, _) e = absurd (omega (arith, e .0, low (λ z. omega (arith, e .0))))
     ending (spent k peak) number offset some low A e = A
 
-    go : (E : AtEnd i (checked i)) (c : Command) → Fit Text (E .n) c → EndsWith (step (E .n) (places i) (E .state) c) (checked i .number) (E .offset)
+    go : (E : AtEnd i (checked i)) (c : Command) → DratFit (i .mode .form) (E .n) c → EndsWith (step (i .mode .consequence) (E .n) (places i) (E .state) c) (checked i .number) (E .offset)
         → c ≡ wrong (checked i .number) (E .offset)
     go E (recorded r more) fit e = absurd fit
-    go E (added ls) fit e = absurd (early (step (E .n) (places i) (E .state) (added ls)) (checked i .number) (E .offset) some low (added-says (E .n) (places i) (E .state) ls) e)
-    go E (struckOut ls) fit e = absurd (striking (step (E .n) (places i) (E .state) (struckOut ls)) (checked i .number) (E .offset) some low (struck-says (E .n) (E .state) ls) e)
+    go E (added ls) fit e = absurd (early (step (i .mode .consequence) (E .n) (places i) (E .state) (added ls)) (checked i .number) (E .offset) some low (added-says (i .mode .consequence) (E .n) (places i) (E .state) ls) e)
+    go E (struckOut ls) fit e = absurd (striking (step (i .mode .consequence) (E .n) (places i) (E .state) (struckOut ls)) (checked i .number) (E .offset) some low (struck-says (E .n) (E .state) ls) e)
     go E (wrong k o) fit e = rw (e .0, e .1) refl
-    go E finished fit e = absurd (ending (step (E .n) (places i) (E .state) finished) (checked i .number) (E .offset) some low (finish-says (E .state)) e)
+    go E finished fit e = absurd (ending (step (i .mode .consequence) (E .n) (places i) (E .state) finished) (checked i .number) (E .offset) some low (finish-says (E .state)) e)

@@ -8,6 +8,7 @@ pub mod Offsets
 pub mod TextMembers
 pub mod TextRules
 pub mod Lists
+pub mod Profile
 pub mod Full
 pub mod LineRoom
 pub mod NoRoom
@@ -17,6 +18,8 @@ pub mod InProof
 pub mod ZeroLines
 pub mod NotShown
 pub mod Strikings
+pub mod Stays
 pub mod Demand1
 pub mod Demand2
 pub mod Demand3
+pub mod Conversions

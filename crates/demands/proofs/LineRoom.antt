@@ -1,5 +1,7 @@
 -- What a line without room wants: a node, of one of the diagrams that it makes, that is not in the full table. The idea: all that a line makes is
 -- reduced, so that a list that finds no room has a diagram that finds none. Assumes nothing.
+use Rattle.clausal.specs.Tries.{makesTrue, makesFalse}
+use Rattle.paths.specs.Paths.{paths, byPath, pathTurns, pathLine}
 use mathlib.Core.Path.{_≡_, refl, subst}
 use mathlib.Core.Bool.{Bool, true, false, _&&_, cond}
 use mathlib.Core.List.{List, [], _∷_, _++_}
@@ -8,12 +10,12 @@ use Prim.Native.Nat.{ℕ, zero, suc, _+_, _≤_}
 use native.Mathlib.Omega.{arith}
 use lib.ListN.{length}
 use Rattle.meaning.specs.Diagram.{Diagram, leaf, same, Reduced}
-use Rattle.meaning.specs.Operations.{negation, cofactorLiterals}
-use Rattle.meaning.specs.Rules.{Line, Propagation, conflicts, firstWithUnit, byUnits, round, still, taking, propagate, unitProp, byDiagram, rup, prTurns, pr}
+use Rattle.meaning.specs.Operations.{negation, cofactorLiterals, Literal}
+use Rattle.meaning.specs.Rules.{Line, Propagation, conflicts, firstWithUnit, byUnits, round, still, taking, propagate, unitProp, byDiagram, rup, prTurns, pr, afterTurn}
 use Rattle.meaning.proofs.Booleans.{t≢f}
 use Rattle.meaning.proofs.Values.{reduced-to}
 use Rattle.meaning.proofs.Pointwise.{negation-reduced, literals-reduced}
-use Rattle.meaning.proofs.Ends.{AllReduced, byDiagram-reduced, byUnits-reduced}
+use Rattle.meaning.proofs.Ends.{AllReduced, byDiagram-reduced, byUnits-reduced, map-reduced}
 use Rattle.table.specs.Nodes.{Node, Placing, full, placed, place}
 use Rattle.table.specs.Making.{Room, short, all, afterPlacing, placedAll, reached, turnsReach, keptReach, lineReach}
 use Rattle.table.proofs.Order.{Ordered}
@@ -104,6 +106,21 @@ turns-reduced n P N ms′ (f ∷ fs) = go (same h (leaf true)) (p .conflict) (tu
     go false true rec = (this-turn, rec)
     go false false rec = (this-turn, tt)
 
+path-turns-reduced : (n : ℕ) (ms : List Diagram) (cs : List (List Literal)) → AllTurns n (pathTurns n ms cs .turns)
+unfolding pathTurns unitProp afterTurn
+path-turns-reduced n ms [] = tt
+path-turns-reduced n ms (c ∷ cs) = go (unitProp n (byPath n c ms) .conflict) (path-turns-reduced n ms cs)
+  where
+    this-turn : AllReduced n (byPath n c ms ++ unitProp n (byPath n c ms) .made)
+    this-turn =
+        append-reduced n (byPath n c ms) (unitProp n (byPath n c ms) .made)
+        (map-reduced n (cofactorLiterals n (makesTrue c) (makesFalse c)) ms (λ f. literals-reduced n (makesTrue c) (makesFalse c) f)) (propagate-reduced n n (byPath n c ms))
+
+    go : (conflict : Bool) → AllTurns n (pathTurns n ms cs .turns)
+        → AllTurns n ((byPath n c ms ++ unitProp n (byPath n c ms) .made) ∷ cond conflict (pathTurns n ms cs .turns) [])
+    go true rec = (this-turn, rec)
+    go false rec = (this-turn, tt)
+
 -- ---- a line without room
 
 pub rup-reduced : (n : ℕ) (ms : List Diagram) (G : Diagram) → AllReduced n (rup n ms G .kept) × AllTurns n (rup n ms G .turns)
@@ -113,6 +130,10 @@ rup-reduced n ms G = ((negation-reduced n G, byDiagram-reduced n (negation n G) 
 pub pr-reduced : (n : ℕ) (P N : ℕ → Bool) (ms : List Diagram) (G : Diagram) → AllReduced n (pr n P N ms G .kept) × AllTurns n (pr n P N ms G .turns)
 unfolding pr
 pr-reduced n P N ms G = ((negation-reduced n G, byDiagram-reduced n (negation n G) ms), turns-reduced n P N (byDiagram n (negation n G) ms) ms)
+
+pub path-reduced : (n : ℕ) (ms : List Diagram) (G : Diagram) → AllReduced n (pathLine n ms G .kept) × AllTurns n (pathLine n ms G .turns)
+unfolding pathLine
+path-reduced n ms G = (tt, path-turns-reduced n ms (paths G))
 
 module _ (s n : ℕ) (narrow : n ≤ 64) where
   turns-want : (t : List Node) → Ordered t → length t ≤ s → (turns : List (List Diagram)) → AllTurns n turns → turnsReach s turns t .fits ≡ false → TurnWants s t turns

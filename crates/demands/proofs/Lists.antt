@@ -20,9 +20,9 @@ use Rattle.table.proofs.Growth.{ordered-dropped}
 use Rattle.table.proofs.Sizes.{Sized, sized}
 use Rattle.table.proofs.Emptied.{stored-emptied}
 use Rattle.verdict.specs.Check as verdict
-use Rattle.commands.specs.declared.Form.the-variants.{Records, Text}
+use Rattle.commands.specs.declared.Form.the-variants.{Records}
 use Rattle.commands.specs.declared.Mode.{Mode}
-use Rattle.commands.specs.Commands.{inRecords, inText}
+use Rattle.commands.specs.Commands.{isDrat, inForm}
 use Rattle.verdict.specs.Steps.{State, emptied as bare, Step, stop, isEntry, entryNode}
 use Rattle.verdict.specs.Check.{step, Verdict, CheckOutcome, lentFits, zeros, outcome, refusedFormula, left}
 use Rattle.verdict.specs.Taken.{Function, Meant, entryMeant, Valued}
@@ -37,11 +37,11 @@ use Rattle.verdict.proofs.Marks.{marks-above, marks-are, marks-stopped}
 use Rattle.verdict.proofs.Onward.{reached-onward}
 use Rattle.verdict.proofs.Peak.{Reported, peak-reported}
 use Rattle.demands.specs.Calls.{nodesOfColumns, valueAt}
-use Rattle.demands.specs.Texts.{textBefore}
+use Rattle.demands.specs.Texts.{clausesBefore}
 use Rattle.demands.specs.Leaving.{Handed, checked, Fits, places, clausesRead, linesOf, Emptied, Member, Kept, Leaves, unchanged, emptied, kept}
 use Rattle.demands.proofs.Lent.{read-back, left-good}
 use Rattle.demands.proofs.Ending.{done, fits?, checked-fits, checked-seven}
-use Rattle.demands.proofs.TextMembers.{text-matches, text-stopped}
+use Rattle.demands.proofs.TextMembers.{drat-matches, drat-stopped}
 use Rattle.demands.proofs.Modes.{mode-is}
 
 -- ---- lists
@@ -56,7 +56,7 @@ getD-past [] k i p = zero-at k i
 getD-past (x ∷ xs) k zero p = absurd (omega arith)
 getD-past (x ∷ xs) k (suc i) p = getD-past xs k i (omega arith)
 
-getD-second : (fs gs : List Function) (j : ℕ) (other : Function) → getD (fs ++ gs) (length fs + j) other ≡ getD gs j other
+pub getD-second : (fs gs : List Function) (j : ℕ) (other : Function) → getD (fs ++ gs) (length fs + j) other ≡ getD gs j other
 getD-second [] gs j other = let z : 0 + j ≡ j = omega arith in ap (λ (k : ℕ). getD gs k other) z
 getD-second (f ∷ fs) gs j other =
     let z : suc (length fs) + j ≡ suc (length fs + j) = omega arith in ap (λ (k : ℕ). getD (f ∷ (fs ++ gs)) k other) z ∙ getD-second fs gs j other
@@ -171,9 +171,9 @@ module _ (i : Handed) (S : Sizes i) {n : ℕ} {st : State} {at : ℕ} {m : Meant
   ]
 
   judged-kept : ProofNumber (i .mode .form) number → (i .mode .form ≡ Records → (k : ℕ) → getD (st .struck) k 0 ≡ markOf (strikingsBefore (i .proof) place) k)
-      → (i .mode .form ≡ Text → st .struck ≡ textBefore (i .text) (i .proof) place .marks) → Reported (places i) (S .columns .least) (i .mode) (i .text) (i .proof) (left number place peak st) → Kept i o
+      → (isDrat (i .mode .form) ≡ true → st .struck ≡ clausesBefore (i .mode) (i .text) (i .proof) place .marks) → Reported (places i) (S .columns .least) (i .mode) (i .text) (i .proof) (left number place peak st) → Kept i o
   unfolding outcome
-  judged-kept named marks text-marks P = record {
+  judged-kept named marks drat-marks P = record {
     number = named;
     in-proof = refl;
     peak = (P .left, P .most);
@@ -183,7 +183,7 @@ module _ (i : Handed) (S : Sizes i) {n : ℕ} {st : State} {at : ℕ} {m : Meant
     clauses = λ k p. subst (Member o k) (clause-there k p) (member k (omega (arith, many)));
     lines = λ j p. subst (Member o (length (clausesRead i) + j)) (line-there j p) (member (length (clausesRead i) + j) (omega (arith, many)));
     marks = λ form k. marked k ∙ marks form k;
-    text-marks = λ form k. marked k ∙ ap (λ (x : List ℕ). getD x k 0) (text-marks form);
+    drat-marks = λ form k. marked k ∙ ap (λ (x : List ℕ). getD x k 0) (drat-marks form);
     above = λ k p. (
       getD-past (st .members) (length (i .members) - length (st .members)) k (omega (arith, many)),
       marked k ∙ marks-above (i .mode) (places i) (i .text) (i .proof) R k (omega (arith, many)),
@@ -204,25 +204,24 @@ module _ (i : Handed) {n : ℕ} {st : State} {at : ℕ} {m : Meant} (R : Reached
   in-form mode is = subst (λ (x : Mode). Reached x (places i) (i .text) (i .proof) n st at m) is R
 
   abbrev Says : Mode → Step → Type 0
-  Says mode x = step n (places i) st (commandIn mode (i .proof) n at) ≡ x
+  Says mode x = step (mode .consequence) n (places i) st (commandIn mode (i .proof) n at) ≡ x
 
   says-in : (mode : Mode) → i .mode ≡ mode → (x : Step) → Says (i .mode) x → Says mode x
-  says-in mode is x q = ap (λ (y : Mode). step n (places i) st (commandIn y (i .proof) n at)) (sym is) ∙ q
+  says-in mode is x q = ap (λ (y : Mode). step (y .consequence) n (places i) st (commandIn y (i .proof) n at)) (sym is) ∙ q
 
   records-tried : i .mode .form ≡ Records → (k : ℕ) → getD (st .struck) k 0 ≡ markOf (strikingsBefore (i .proof) at) k
-  records-tried form = marks-are (places i) (i .text) (i .proof) (in-form inRecords (mode-is form))
+  records-tried form = marks-are (i .mode .consequence) (places i) (i .text) (i .proof) (in-form (inForm Records (i .mode .consequence)) (mode-is form))
 
   records-stopped : i .mode .form ≡ Records → (number offset : ℕ) → Says (i .mode) (stop number offset)
       → (k : ℕ) → getD (st .struck) k 0 ≡ markOf (strikingsBefore (i .proof) (at + offset)) k
   records-stopped form number offset q =
-      marks-stopped (places i) (i .text) (i .proof) (in-form inRecords (mode-is form)) number offset (says-in inRecords (mode-is form) (stop number offset) q)
+      marks-stopped (i .mode .consequence) (places i) (i .text) (i .proof) (in-form (inForm Records (i .mode .consequence)) (mode-is form)) number offset (says-in (inForm Records (i .mode .consequence)) (mode-is form) (stop number offset) q)
 
-  text-tried : i .mode .form ≡ Text → st .struck ≡ textBefore (i .text) (i .proof) at .marks
-  text-tried form = text-matches (places i) (i .text) (i .proof) (in-form inText (mode-is form)) .marks
+  drat-tried : isDrat (i .mode .form) ≡ true → st .struck ≡ clausesBefore (i .mode) (i .text) (i .proof) at .marks
+  drat-tried drat = drat-matches (i .mode) drat (places i) (i .text) (i .proof) R .marks
 
-  text-ended : i .mode .form ≡ Text → (number offset : ℕ) → Says (i .mode) (stop number offset) → st .struck ≡ textBefore (i .text) (i .proof) (at + offset) .marks
-  text-ended form number offset q =
-      text-stopped (places i) (i .text) (i .proof) (in-form inText (mode-is form)) number offset (says-in inText (mode-is form) (stop number offset) q) .marks
+  drat-ended : isDrat (i .mode .form) ≡ true → (number offset : ℕ) → Says (i .mode) (stop number offset) → st .struck ≡ clausesBefore (i .mode) (i .text) (i .proof) (at + offset) .marks
+  drat-ended drat number offset q = drat-stopped (i .mode) drat (places i) (i .text) (i .proof) R number offset q .marks
 
 -- For every input: what every lent place holds after the call.
 pub check-leaves : (i : Handed) → Leaves i (checked i)
@@ -234,9 +233,9 @@ check-leaves i = fits? i (Leaves i (checked i)) fit (λ other. unchanged other (
     go : Fits i → (S : Sizes i) (v : Verdict) → Reported (places i) (S .columns .least) (i .mode) (i .text) (i .proof) v → Closed (i .mode) (places i) (i .text) (i .proof) v → Leaves i (done i v)
     go e S _ P (formula-refused {number} {place} {peak} named) = emptied e (refused-emptied i S number place peak named P)
     go e S _ P (proof-ended {n} {number} {offset} {at} {st} named R q) =
-        kept e (judged-kept i S R number (at + offset) (st .peak) named (λ form. records-stopped i R form number offset q) (λ form. text-ended i R form number offset q) P)
+        kept e (judged-kept i S R number (at + offset) (st .peak) named (λ form. records-stopped i R form number offset q) (λ form. drat-ended i R form number offset q) P)
     go e S _ P (proof-tried {n} {number} {peak} {at} named R _) =
-        kept e (judged-kept i S R number at peak (named .0) (records-tried i R) (text-tried i R) P)
+        kept e (judged-kept i S R number at peak (named .0) (records-tried i R) (drat-tried i R) P)
 
     fit : Fits i → Leaves i (checked i)
     fit e =

@@ -1,5 +1,6 @@
 -- Where the calls give 8 and 23: a clause, a node record, a line or an operation whose making wants a node that is not in the full table. The idea: each
 -- is given where a placing, or a list of them, finds no room. Assumes nothing.
+use Rattle.paths.specs.Paths.{pathCount}
 use mathlib.Core.Path.{_≡_, refl, sym, _∙_, subst}
 use mathlib.Core.Bool.{Bool, true, false, not, _&&_, _||_, cond}
 use mathlib.Core.List.{List, [], _∷_}
@@ -27,12 +28,12 @@ use Rattle.table.proofs.Sizes.{Sized, sized}
 use Rattle.table.proofs.InOrder.{good-order}
 use Rattle.records.specs.declared.NodeBody.{NodeBody}
 use Rattle.records.specs.declared.Rule.{Rule}
-use Rattle.records.specs.declared.Rule.the-variants.{Rup, Pr}
+use Rattle.records.specs.declared.Rule.the-variants.{Rup, Pr, Path}
 use Rattle.records.specs.declared.Record.{Record}
 use Rattle.records.specs.declared.Record.the-variants.{NodeEntry, Witness, ProofLine, Strike, SetEntry, End, CutShort, UnknownKind, NoRecord}
 use Rattle.clausal.specs.Tries.{makesTrue, makesFalse, witness}
 use Rattle.commands.specs.declared.Form.{Form}
-use Rattle.commands.specs.declared.Form.the-variants.{Records, Text}
+use Rattle.commands.specs.declared.Form.the-variants.{Records, Text, Binary}
 use Rattle.commands.specs.Commands.{Command, recorded, added, struckOut, wrong, finished}
 use Rattle.operate.specs.declared.Operation.{Operation}
 use Rattle.operate.specs.declared.Operation.the-variants.{Conjunction, Negation, Cofactor, Literals}
@@ -41,8 +42,8 @@ use Rattle.operate.proofs.Results.{result-reduced}
 use Rattle.single.specs.Single as single
 use Rattle.single.specs.Single.{Made, refusal, sharesVariable, operandRefusal, madeBy, operation}
 use Rattle.verdict.specs.Steps.{State, withEntry, next, stop, spent, isEntry, entryNode, isVariable, entered, nodeStep, witnessStep, waiting, accepted, judged, diagramIn, liveMembers, lineStep, isLive, strikeStep, beyond, noParity, setDiagram, setStep, endStep, recordStep}
-use Rattle.verdict.specs.Clausal.{withPeak, judgedOr, secondLine, secondTry, tries, onceMade, addStep}
-use Rattle.verdict.specs.Check.{step, CheckOutcome, outcome}
+use Rattle.verdict.specs.Clausal.{withPeak, judgedOr, secondLine, secondTry, afterFirst, tries, onceMade, addStep}
+use Rattle.verdict.specs.Check.{step, CheckOutcome, outcome, shutOut}
 use Rattle.verdict.specs.Taken.{Meant, lineOf, peakWith}
 use Rattle.verdict.specs.ClauseTaken.{firstLine}
 use Rattle.verdict.specs.Run.{commandIn, no-header, not-read, no-room, stopped, tried}
@@ -62,7 +63,7 @@ use Rattle.demands.proofs.Ending.{check-ends}
 use Rattle.demands.proofs.Lists.{sizes}
 use Rattle.demands.proofs.TextMembers.{clause-made}
 use Rattle.demands.proofs.Full.{place-wants}
-use Rattle.demands.proofs.LineRoom.{AllTurns, rup-reduced, pr-reduced, line-wants}
+use Rattle.demands.proofs.LineRoom.{AllTurns, rup-reduced, pr-reduced, path-reduced, line-wants}
 
 -- ---- a record with 23
 
@@ -126,6 +127,14 @@ module _ {s n : ℕ} {m : Meant} {st : State} (S : Standing s n m st) (narrow : 
       let (p₃, e₃) = past-early (eqb g 1) 17 0 _ e₂ in
       let (p₄, e₄) = past-early (not (witnessed n (inWord (st .positive)) (inWord (st .negative)) (diagramIn st g))) 18 0 _ e₃ in
       judged-wants st (S .ordered) (S .room two) g (lineOf n st Pr g) (pr-reduced n (inWord (st .positive)) (inWord (st .negative)) (liveMembers st) (diagramIn st g)) e₄
+  line-record Path root e =
+      let g : ℕ = entryNode st root in
+      let (p₁, e₁) = past-early (not (isEntry st root)) 13 0 _ e in
+      let (p₂, e₂) = past-early (waiting st) 16 0 _ e₁ in
+      let (p₃, e₃) = past-early (leb 1024 (st .lines)) 22 0 _ e₂ in
+      let (p₄, e₄) = past-early (eqb g 1) 17 0 _ e₃ in
+      let (p₅, e₅) = past-early (ltb 4096 (pathCount (diagramIn st g))) 34 0 _ e₄ in
+      judged-wants st (S .ordered) (S .room two) g (lineOf n st Path g) (path-reduced n (liveMembers st) (diagramIn st g)) e₅
 
   record-wants : (more : Bool) (r : Record) → recordStep n s st more r ≡ spent 23 peak → RecordWants n s st r
   unfolding recordStep witnessStep strikeStep setStep endStep
@@ -157,20 +166,21 @@ module _ {s n : ℕ} {m : Meant} {st : State} (S : Standing s n m st) (narrow : 
   -- ---- a clause with 23
 
   module _ (ls : List meaning.Literal) (t : List Node) (k : ℕ) (room : place s (st .nodes) (meaning.clause n ls) ≡ placed t k) where
-    second-wants : lineReach s t (firstLine n (withEntry st t k) ls) .fits ≡ true → firstLine n (withEntry st t k) ls .shown ≡ false → (rest : List meaning.Literal) → ls ≡ rest → (most : ℕ) → secondTry n s (withEntry st t k) k rest most ≡ spent 23 peak
+    second-wants : (profile : Bool) → lineReach s t (firstLine n (withEntry st t k) ls) .fits ≡ true → firstLine n (withEntry st t k) ls .shown ≡ false → (rest : List meaning.Literal) → ls ≡ rest → (most : ℕ) → afterFirst profile n s (withEntry st t k) k rest most ≡ spent 23 peak
         → ClauseWants n s st ls
-    unfolding secondTry
-    second-wants fits failed [] is most e = spent-other 19 _ refl e
-    second-wants fits failed (p ∷ rest) is most e =
+    unfolding afterFirst secondTry
+    second-wants true fits failed rest is most e = spent-other 19 _ refl e
+    second-wants false fits failed [] is most e = spent-other 19 _ refl e
+    second-wants false fits failed (p ∷ rest) is most e =
         let M : MadeNode s (st .nodes) (meaning.clause n ls) t k = clause-made s n (st .nodes) ls t k narrow (S .ordered) room in
         let ω : List meaning.Literal = witness p (p ∷ rest) in
         in-second is room fits failed
         (judged-wants (withPeak (withEntry st t k) most) (M .kept .ordered) (M .kept .room (S .room two)) k (secondLine n (liveMembers (withEntry st t k)) p rest)
         (pr-reduced n (makesTrue ω) (makesFalse ω) (liveMembers (withEntry st t k)) (meaning.clause n (p ∷ rest))) e)
 
-    tries-want : tries n s (withEntry st t k) k ls ≡ spent 23 peak → ClauseWants n s st ls
+    tries-want : (profile : Bool) → tries profile n s (withEntry st t k) k ls ≡ spent 23 peak → ClauseWants n s st ls
     unfolding tries judgedOr
-    tries-want e = go (lineReach s t (firstLine n (withEntry st t k) ls) .fits) refl (firstLine n (withEntry st t k) ls .shown) refl e
+    tries-want profile e = go (lineReach s t (firstLine n (withEntry st t k) ls) .fits) refl (firstLine n (withEntry st t k) ls .shown) refl e
       where
         after : State
         after = withEntry st t k
@@ -182,31 +192,31 @@ module _ {s n : ℕ} {m : Meant} {st : State} (S : Standing s n m st) (narrow : 
         M = clause-made s n (st .nodes) ls t k narrow (S .ordered) room
 
         go : (fits : Bool) → lineReach s t (firstLine n (withEntry st t k) ls) .fits ≡ fits → (shown : Bool) → firstLine n (withEntry st t k) ls .shown ≡ shown
-            → cond (not fits) (spent 23 (peakWith s after first)) (cond (not shown) (secondTry n s (withEntry st t k) k ls (peakWith s after first)) (next (accepted after k first (peakWith s after first)))) ≡ spent 23 peak
+            → cond (not fits) (spent 23 (peakWith s after first)) (cond (not shown) (afterFirst profile n s (withEntry st t k) k ls (peakWith s after first)) (next (accepted after k first (peakWith s after first)))) ≡ spent 23 peak
             → ClauseWants n s st ls
         go false q shown r e =
             in-first room (line-wants s n narrow t (M .kept .ordered) (M .kept .room (S .room two)) first (rup-reduced n (liveMembers (withEntry st t k)) (meaning.clause n ls)) q)
         go true q true r e = next-not-spent _ e
-        go true q false r e = second-wants q r ls refl (peakWith s after first) e
+        go true q false r e = second-wants profile q r ls refl (peakWith s after first) e
 
-  clause-wants : (ls : List meaning.Literal) → addStep n s st ls ≡ spent 23 peak → ClauseWants n s st ls
+  clause-wants : (profile : Bool) (ls : List meaning.Literal) → addStep profile n s st ls ≡ spent 23 peak → ClauseWants n s st ls
   unfolding addStep
-  clause-wants ls e =
+  clause-wants profile ls e =
       let (p₁, e₁) = past-early (leb 1024 (st .lines)) 22 0 _ e in
       let (p₂, e₂) = past-early (same (meaning.clause n ls) (leaf true)) 17 0 _ e₁ in
       go (place s (st .nodes) (meaning.clause n ls)) refl e₂
     where
-      go : (q : Placing) → place s (st .nodes) (meaning.clause n ls) ≡ q → onceMade st q (λ st₁ k. tries n s st₁ k ls) ≡ spent 23 peak → ClauseWants n s st ls
+      go : (q : Placing) → place s (st .nodes) (meaning.clause n ls) ≡ q → onceMade st q (λ st₁ k. tries profile n s st₁ k ls) ≡ spent 23 peak → ClauseWants n s st ls
       go (full t) r e = in-clause (place-wants s (st .nodes) (S .ordered) (S .room two) (meaning.clause n ls) (clause-to n ls narrow) t r)
-      go (placed t k) r e = tries-want ls t k r e
+      go (placed t k) r e = tries-want ls t k r profile e
 
-  command-wants : (c : Command) → step n s st c ≡ spent 23 peak → CommandWants n s st c
+  command-wants : (profile : Bool) (c : Command) → step profile n s st c ≡ spent 23 peak → CommandWants n s st c
   unfolding step
-  command-wants (recorded r more) e = record-wants more r e
-  command-wants (added ls) e = clause-wants ls e
-  command-wants (struckOut ls) e = absurd (subst StruckSays e (struck-says n st ls))
-  command-wants (wrong number offset) e = stop-not-spent number offset e
-  command-wants finished e = absurd (subst FinishSays e (finish-says st))
+  command-wants profile (recorded r more) e = let (p₁, e₁) = past-early (shutOut profile r) 33 0 _ e in record-wants more r e₁
+  command-wants profile (added ls) e = clause-wants profile ls e
+  command-wants profile (struckOut ls) e = absurd (subst StruckSays e (struck-says n st ls))
+  command-wants profile (wrong number offset) e = stop-not-spent number offset e
+  command-wants profile finished e = absurd (subst FinishSays e (finish-says st))
 
 -- ---- the calls
 
@@ -266,8 +276,9 @@ eight-only i z = go (checked i) (check-ends i) z
 
 -- no command gives 23 before it makes a node
 not-early : (form : Form) (number offset : ℕ) → NumberedIn form (stop number offset) → number ≡ 23 → ⊥
-not-early Records number offset N z = absurd (omega (arith, N .0 (λ y. omega arith) (λ y. omega arith)))
+not-early Records number offset N z = absurd (omega (arith, N .0 (λ y. omega arith) (λ y. omega arith) (λ y. omega arith) (λ y. omega arith)))
 not-early Text number offset N z = absurd (omega (arith, N .0 (λ y. omega arith)))
+not-early Binary number offset N z = absurd (omega (arith, N .0 (λ y. omega arith) (λ y. omega arith)))
 
 -- 23 of the check: the command at the place.
 pub twenty-three-only : (i : Handed) → checked i .number ≡ 23 → AtCommand (i .mode) (places i) (i .text) (i .proof) (checked i .place)
@@ -285,7 +296,7 @@ twenty-three-only i z = go (checked i) (check-ends i) z
         absurd (not-early (i .mode .form) number offset (subst (NumberedIn (i .mode .form)) q (reached-numbered (i .mode) (places i) (i .text) (i .proof) R)) z)
     go _ (at-place e (tried {n} {number} {peak} {at} {st} {m} R q)) z =
         let (narrow, S) = reached-standing (i .mode) (places i) (i .text) (i .proof) R in
-        record { n = n; state = st; meant = m; reached = R; wants = command-wants S narrow (at-least-two i e) (commandIn (i .mode) (i .proof) n at) (rw z at q) }
+        record { n = n; state = st; meant = m; reached = R; wants = command-wants S narrow (at-least-two i e) (i .mode .consequence) (commandIn (i .mode) (i .proof) n at) (rw z at q) }
 
 -- 23 of a single call.
 pub operation-full : (op : Operation) (c : Columns) (count f g : ℕ) → operation op c count f g .number ≡ 23

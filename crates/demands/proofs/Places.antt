@@ -1,29 +1,28 @@
 -- The place that the check gives for a command: its first byte; for 11 the byte behind it; for 3 and 4 the token; the proof's length where no record
 -- begins and at a text's end. The idea: each number stands in the definition with its place. Assumes nothing.
-use mathlib.Core.Path.{_≡_, refl, sym, ap, _∙_, subst}
-use mathlib.Core.Bool.{true}
+use mathlib.Core.Path.{_≡_, refl, sym, _∙_, subst}
+use mathlib.Core.Bool.{true, Bool}
 use mathlib.Core.List.{List, [], _∷_}
 use Prim.Native.Nat.{ℕ, _+_, _-_, _≤_}
 use native.Mathlib.Omega.{arith}
 use lib.ListN.{length, drop, length-drop}
 use lib.Dec.{eqb, ltb}
 use borrow.Author.Tests.{ne-eqb}
-use Rattle.meaning.proofs.Booleans.{t≢f}
+use Rattle.meaning.proofs.Booleans.{t≢f, and-false}
 use Rattle.records.specs.declared.Record.{Record}
 use Rattle.records.specs.declared.Record.the-variants.{NodeEntry, Witness, ProofLine, Strike, SetEntry, End, CutShort, UnknownKind, NoRecord}
 use Rattle.records.specs.Records.{nodeIn, witnessIn, lineIn, strikeIn, setIn, whole, recordOf, recordIn, recordAt}
 use Rattle.commands.specs.declared.Form.{Form}
-use Rattle.commands.specs.declared.Form.the-variants.{Records, Text}
+use Rattle.commands.specs.declared.Form.the-variants.{Records, Text, Binary}
 use Rattle.commands.specs.declared.Mode.{Mode}
-use Rattle.commands.specs.Commands.{Command, recorded, added, struckOut, wrong, finished, commandAt, textRead}
-use Rattle.commands.proofs.Onward.{CommandIn, text-in}
-use Rattle.verdict.specs.Steps.{State, Step, stop, spent}
+use Rattle.commands.specs.Commands.{Command, recorded, added, struckOut, wrong, finished, commandAt}
+use Rattle.commands.proofs.Onward.{CommandIn, drat-in}
+use Rattle.verdict.specs.Steps.{State, Step, stop, spent, recordStep}
 use Rattle.verdict.specs.Check.{step, CheckOutcome, outcome}
 use Rattle.verdict.specs.Run.{commandIn, no-header, not-read, no-room, stopped, tried}
 use Rattle.verdict.proofs.Formula.{either}
-use Rattle.verdict.proofs.Commands.{Fit}
 use Rattle.verdict.proofs.ClauseSays.{FinishSays, finish-says}
-use Rattle.verdict.proofs.Numbers.{Numbered, record-numbered}
+use Rattle.verdict.proofs.Numbers.{Numbered, shut-numbered}
 use Rattle.verdict.proofs.Steps.{stop-not-spent}
 use Rattle.verdict.proofs.Ends.{reached-in, reached-fit}
 use Rattle.demands.specs.Leaving.{Handed, checked, places, Ends, wrong-size, at-place, EndsWith, OffsetOf, NoneBegun, AtEnd}
@@ -56,9 +55,10 @@ kind-begun kind body =
     (either Begun (eqb kind 0x46) _ _ (whole-begun 1 body _ tt)
     (either Begun (eqb kind 0x52) _ _ (whole-begun 2 body _ tt)
     (either Begun (eqb kind 0x50) _ _ (whole-begun 2 body _ tt)
+    (either Begun (eqb kind 0x51) _ _ (whole-begun 2 body _ tt)
     (either Begun (eqb kind 0x44) _ _ (whole-begun 2 body _ tt)
     (either Begun (eqb kind 0x58) _ _ (whole-begun 9 body _ tt)
-    (either Begun (eqb kind 0x4B) _ _ (whole-begun 9 body _ tt) (either Begun (eqb kind 0x45) End UnknownKind tt tt))))))))
+    (either Begun (eqb kind 0x4B) _ _ (whole-begun 9 body _ tt) (either Begun (eqb kind 0x45) End UnknownKind tt tt)))))))))
 
 none-begun : (proof : List ℕ) (at : ℕ) → recordAt proof at ≡ NoRecord → length proof ≤ at
 unfolding recordAt recordIn
@@ -68,53 +68,54 @@ none-begun proof at e = go (drop at proof) (length-drop at proof) e
     go [] len e = omega arith
     go (kind ∷ body) len e = absurd (subst Begun e (kind-begun kind body))
 
+drat-none : (form : Form) (proof : List ℕ) (n at : ℕ) (c : Command) (next : ℕ) → CommandIn form proof n at c next → NoneBegun c → at ≡ length proof
+drat-none form proof n at (recorded r more) next I none = absurd I
+drat-none form proof n at (added ls) next I none = absurd none
+drat-none form proof n at (struckOut ls) next I none = absurd none
+drat-none form proof n at (wrong k o) next I none = absurd none
+drat-none form proof n at finished next I none = I .1
+
 -- at the end of what is read
 command-none : (mode : Mode) (proof : List ℕ) (n at : ℕ) → at ≤ length proof → NoneBegun (commandIn mode proof n at) → at ≡ length proof
 command-none mode proof n at within none = go (mode .form) none
   where
     go : (form : Form) → NoneBegun (commandAt form proof n at .command) → at ≡ length proof
     go Records none = omega (arith, within, none-begun proof at none)
-    go Text none = ended (textRead proof n at .command) (textRead proof n at .next) (text-in proof n at within) none
-      where
-        ended : (c : Command) (next : ℕ) → CommandIn proof n at c next → NoneBegun c → at ≡ length proof
-        ended (recorded r more) next I none = absurd I
-        ended (added ls) next I none = absurd none
-        ended (struckOut ls) next I none = absurd none
-        ended (wrong k o) next I none = absurd none
-        ended finished next I none = I .1
+    go Text none = drat-none Text proof n at (commandAt Text proof n at .command) (commandAt Text proof n at .next) (drat-in Text refl proof n at within) none
+    go Binary none = drat-none Binary proof n at (commandAt Binary proof n at .command) (commandAt Binary proof n at .next) (drat-in Binary refl proof n at within) none
+
+-- there is none: 10, in the profile too
+none-ten : (profile : Bool) (n s : ℕ) (st : State) (r : Record) (more : Bool) → r ≡ NoRecord → step profile n s st (recorded r more) ≡ stop 10 0
+unfolding step recordStep
+none-ten profile n s st r more none = rw (none, and-false profile)
 
 -- and its number stands there
-none-offset : (n s : ℕ) (st : State) (c : Command) → NoneBegun c → (number offset : ℕ) → step n s st c ≡ stop number offset → offset ≡ 0
+none-offset : (profile : Bool) (n s : ℕ) (st : State) (c : Command) → NoneBegun c → (number offset : ℕ) → step profile n s st c ≡ stop number offset → offset ≡ 0
 unfolding step
-none-offset n s st (recorded r more) none number offset e =
-    let ten : stop 10 0 ≡ stop number offset = sym (ap (λ (x : Record). step n s st (recorded x more)) none) ∙ e in cc
-none-offset n s st (added ls) none number offset e = absurd none
-none-offset n s st (struckOut ls) none number offset e = absurd none
-none-offset n s st (wrong k o) none number offset e = absurd none
-none-offset n s st finished none number offset e = subst FinishSays e (finish-says st) .1
+none-offset profile n s st (recorded r more) none number offset e =
+    let ten : stop 10 0 ≡ stop number offset = sym (none-ten profile n s st r more none) ∙ e in cc
+none-offset profile n s st (added ls) none number offset e = absurd none
+none-offset profile n s st (struckOut ls) none number offset e = absurd none
+none-offset profile n s st (wrong k o) none number offset e = absurd none
+none-offset profile n s st finished none number offset e = subst FinishSays e (finish-says st) .1
 
-none-not-spent : {A : Type 0} (n s : ℕ) (st : State) (c : Command) → NoneBegun c → (number peak : ℕ) → step n s st c ≡ spent number peak → A
+none-not-spent : {A : Type 0} (profile : Bool) (n s : ℕ) (st : State) (c : Command) → NoneBegun c → (number peak : ℕ) → step profile n s st c ≡ spent number peak → A
 unfolding step
-none-not-spent n s st (recorded r more) none number peak e = stop-not-spent _ _ (sym (ap (λ (x : Record). step n s st (recorded x more)) none) ∙ e)
-none-not-spent n s st (added ls) none number peak e = absurd none
-none-not-spent n s st (struckOut ls) none number peak e = absurd none
-none-not-spent n s st (wrong k o) none number peak e = absurd none
-none-not-spent n s st finished none number peak e = absurd (subst FinishSays e (finish-says st))
+none-not-spent profile n s st (recorded r more) none number peak e = stop-not-spent 10 0 (sym (none-ten profile n s st r more none) ∙ e)
+none-not-spent profile n s st (added ls) none number peak e = absurd none
+none-not-spent profile n s st (struckOut ls) none number peak e = absurd none
+none-not-spent profile n s st (wrong k o) none number peak e = absurd none
+none-not-spent profile n s st finished none number peak e = absurd (subst FinishSays e (finish-says st))
 
 -- what is refused once nodes were made is refused at the first byte
-spent-offset : (form : Form) (n s : ℕ) (st : State) (c : Command) → Fit form n c → (number peak : ℕ) → step n s st c ≡ spent number peak → OffsetOf c number 0
+spent-offset : (profile : Bool) (n s : ℕ) (st : State) (c : Command) (number peak : ℕ) → step profile n s st c ≡ spent number peak → OffsetOf c number 0
 unfolding step
-spent-offset Records n s st (recorded r more) fit number peak e =
-    let N : (19 ≤ number) × (number ≤ 23) = subst Numbered e (record-numbered n s st more r) in rw (ne-eqb number 11 (λ z. omega (arith, N .0))) refl
-spent-offset Records n s st (added ls) fit number peak e = absurd fit
-spent-offset Records n s st (struckOut ls) fit number peak e = absurd fit
-spent-offset Records n s st (wrong k o) fit number peak e = absurd fit
-spent-offset Records n s st finished fit number peak e = absurd fit
-spent-offset Text n s st (recorded r more) fit number peak e = absurd fit
-spent-offset Text n s st (added ls) fit number peak e = refl
-spent-offset Text n s st (struckOut ls) fit number peak e = refl
-spent-offset Text n s st (wrong k o) fit number peak e = stop-not-spent _ _ e
-spent-offset Text n s st finished fit number peak e = refl
+spent-offset profile n s st (recorded r more) number peak e =
+    let N : (19 ≤ number) × (number ≤ 23) = subst Numbered e (shut-numbered profile n s st more r) in rw (ne-eqb number 11 (λ z. omega (arith, N .0))) refl
+spent-offset profile n s st (added ls) number peak e = refl
+spent-offset profile n s st (struckOut ls) number peak e = refl
+spent-offset profile n s st (wrong k o) number peak e = stop-not-spent _ _ e
+spent-offset profile n s st finished number peak e = refl
 
 -- ---- the call
 
@@ -140,10 +141,10 @@ check-place i late = go (checked i) (check-ends i) late
           reached = R;
           says = subst (λ (x : Step). EndsWith x number offset) (sym q) (refl, refl);
           place = refl;
-          stands = command-offset (i .mode .form) n (places i) st c (reached-fit (i .mode) (places i) (i .text) (i .proof) R) number offset q;
+          stands = command-offset (i .mode .consequence) (i .mode .form) n (places i) st c (reached-fit (i .mode) (places i) (i .text) (i .proof) R) number offset q;
           none-begun = λ none.
               let there : at ≡ length (i .proof) = command-none (i .mode) (i .proof) n at within none in
-              let here : offset ≡ 0 = none-offset n (places i) st c none number offset q in omega arith;
+              let here : offset ≡ 0 = none-offset (i .mode .consequence) n (places i) st c none number offset q in omega arith;
         }
     go _ (at-place e (tried {n} {number} {peak} {at} {st} {m} R q)) late =
         let c : Command = commandIn (i .mode) (i .proof) n at in
@@ -156,6 +157,6 @@ check-place i late = go (checked i) (check-ends i) late
           reached = R;
           says = subst (λ (x : Step). EndsWith x number 0) (sym q) (refl, refl);
           place = let z : at ≡ at + 0 = omega arith in z;
-          stands = spent-offset (i .mode .form) n (places i) st c (reached-fit (i .mode) (places i) (i .text) (i .proof) R) number peak q;
-          none-begun = λ none. none-not-spent n (places i) st c none number peak q;
+          stands = spent-offset (i .mode .consequence) n (places i) st c number peak q;
+          none-begun = λ none. none-not-spent (i .mode .consequence) n (places i) st c none number peak q;
         }

@@ -130,7 +130,7 @@ before k most (suc j) p =
     let here : recordAt (nodeRecords k) (6 * j) ≡ NodeEntry body = ap (λ (x : ℕ). recordAt (nodeRecords x) (6 * j)) rest ∙ record-there j (k - suc j) in
     let (T, E) = entered-next j (omega arith) (B .state) (B .entered) in
     let six : 6 * j + 6 ≡ 6 * suc j = omega arith in
-    let R = goes (B .reached) (subst (λ (r : Record). Taken 1 4096 (B .state) r (withEntry (B .state) one-node 2)) (sym here) T) in
+    let R = goes (B .reached) (refl, subst (λ (r : Record). Taken 1 4096 (B .state) r (withEntry (B .state) one-node 2)) (sym here) T) in
     let m : Meant = afterCommand (B .meant) (commandIn inRecords (nodeRecords k) 1 (6 * j)) in
     record {
       state = withEntry (B .state) one-node 2;
@@ -280,7 +280,7 @@ before-22 k most (suc j) p =
     let st : State = afterLine (B .state) in
     let (T, A) = accepted-next j (omega arith) (B .state) (B .accepted) in
     let three : 3 * j + 3 ≡ 3 * suc j = omega arith in
-    let R = goes (B .reached) (subst (λ (r : Record). Taken 0 4096 (B .state) r st) (sym here) T) in
+    let R = goes (B .reached) (refl, subst (λ (r : Record). Taken 0 4096 (B .state) r st) (sym here) T) in
     let m : Meant = afterCommand (B .meant) (commandIn inRecords (rupLines k) 0 (3 * j)) in
     record {
       state = st;

@@ -1,5 +1,6 @@
 -- What 02's 3/14 and 4/14 say of strikings: 28 is given exactly for a member that is not there or is struck already, and for a clause that is no live
 -- member; lines look at the live members alone. The idea: only strikings give 28, and a mark is 0 or 1. Assumes nothing.
+use Rattle.meaning.proofs.Booleans.{and-false}
 use mathlib.Core.Path.{_≡_, refl, sym, ap, _∙_, subst}
 use mathlib.Core.Logic.{_⊎_, inl, inr, _↔_}
 use mathlib.Core.Bool.{Bool, true, false, _&&_, cond}
@@ -14,9 +15,9 @@ use Rattle.meaning.specs.Diagram.{Diagram}
 use Rattle.meaning.specs.Operations as meaning
 use Rattle.records.specs.declared.Record.{Record}
 use Rattle.commands.specs.declared.Form.{Form}
-use Rattle.commands.specs.declared.Form.the-variants.{Records, Text}
+use Rattle.commands.specs.declared.Form.the-variants.{Records, Text, Binary}
 use Rattle.commands.specs.declared.Mode.{Mode}
-use Rattle.commands.specs.Commands.{Command, recorded, added, struckOut, wrong, finished, inRecords}
+use Rattle.commands.specs.Commands.{Command, recorded, added, struckOut, wrong, finished, inForm}
 use Rattle.verdict.specs.Steps.{State, Step, next, stop, spent, diagramIn, unstruck, liveMembers, isLive, strikeStep, recordStep}
 use Rattle.verdict.specs.Clausal.{firstSame, strikeFound, strikeClause}
 use Rattle.verdict.specs.Check.{step, Verdict, verdict, CheckOutcome, outcome}
@@ -26,13 +27,13 @@ use Rattle.verdict.specs.Run.{commandIn, Reached}
 use Rattle.verdict.specs.Marks.{strikingsBefore, isIn}
 use Rattle.verdict.proofs.Steps.{stop-not-next}
 use Rattle.verdict.proofs.Striking.{first-none, absent-refused}
-use Rattle.verdict.proofs.Commands.{Fit}
+use Rattle.verdict.proofs.Commands.{Fit, DratFit, Known, fit-known}
 use Rattle.verdict.proofs.ClauseSays.{AddedSays, FinishSays, added-says, finish-says}
 use Rattle.verdict.proofs.Ends.{reached-fit}
 use Rattle.verdict.proofs.Numbers.{NumberedIn, spent-number, reached-numbered}
 use Rattle.verdict.proofs.Exactly.{reached-stops}
 use Rattle.verdict.proofs.Live.{unstruck-has, unstruck-only}
-use Rattle.verdict.proofs.Offsets.{Offset, at-record, at-striking, behind-end, Placed, record-placed}
+use Rattle.verdict.proofs.Offsets.{Offset, at-record, at-striking, behind-end, Placed, shut-placed}
 use Rattle.verdict.proofs.Marks.{marks-are}
 use Rattle.demands.specs.Words.{Among, AmongLive}
 use Rattle.demands.specs.Leaving.{Handed, checked, Fits, places, EndsWith, OffsetOf, AtEnd, NotLive, not-there, struck-already, Absent, AtStriking}
@@ -64,10 +65,10 @@ live-exactly st D = (to, from)
 
 -- ---- 28
 
-module _ (s : ℕ) (text proof : List ℕ) {n : ℕ} {st : State} {at : ℕ} {m : Meant} (R : Reached inRecords s text proof n st at m) (k : ℕ) where
+module _ (profile : Bool) (s : ℕ) (text proof : List ℕ) {n : ℕ} {st : State} {at : ℕ} {m : Meant} (R : Reached (inForm Records profile) s text proof n st at m) (k : ℕ) where
   -- a mark that is not 0 is 1
   mark-one : eqb (getD (st .struck) k 0) 0 ≡ false → getD (st .struck) k 0 ≡ 1
-  mark-one other = go (isIn k (strikingsBefore proof at)) (marks-are s text proof R k)
+  mark-one other = go (isIn k (strikingsBefore proof at)) (marks-are profile s text proof R k)
     where
       go : (c : Bool) → getD (st .struck) k 0 ≡ cond c 1 0 → getD (st .struck) k 0 ≡ 1
       go true e = e
@@ -107,7 +108,7 @@ module _ (mode : Mode) (s : ℕ) (text proof : List ℕ) {n : ℕ} {st : State} 
   record-absent form r more k offset e (at-record _ _ other) = absurd (eqb-false k 28 other e)
   record-absent form r more k offset e (behind-end _ eleven _) = absurd (omega arith)
   record-absent form r more k offset e (at-striking {member} _ _ is quiet lost) =
-      (member, is, quiet, dead s text proof (subst (λ (x : Mode). Reached x s text proof n st at m) (mode-is form) R) (member .0) lost)
+      (member, is, quiet, dead (mode .consequence) s text proof (subst (λ (x : Mode). Reached x s text proof n st at m) (mode-is form) R) (member .0) lost)
 
   early-other : (k : ℕ) → ((k ≡ 17) ⊎ (k ≡ 22)) → k ≡ 28 → ⊥
   early-other k (inl q) e = absurd (omega arith)
@@ -117,28 +118,33 @@ module _ (mode : Mode) (s : ℕ) (text proof : List ℕ) {n : ℕ} {st : State} 
   end-other k (inl q) e = absurd (omega arith)
   end-other k (inr q) e = absurd (omega arith)
 
-  -- 28 is given before a node is made
-  command-absent : (form : Form) → mode .form ≡ form → (c : Command) → Fit form n c → (k offset : ℕ) → step n s st c ≡ stop k offset → k ≡ 28 → Absent n st c
+  drat-absent : (form : Form) (c : Command) → Known n c → DratFit form n c → (k offset : ℕ) → step (mode .consequence) n s st c ≡ stop k offset → k ≡ 28 → Absent n st c
   unfolding step
-  command-absent Records form (recorded r more) fit k offset q e = record-absent form r more k offset e (subst (Placed st r) q (record-placed n s st more r))
+  drat-absent form (recorded r more) known fit k offset q e = absurd fit
+  drat-absent form (added ls) known fit k offset q e = absurd (early-other k (subst AddedSays q (added-says (mode .consequence) n s st ls) .0) e)
+  drat-absent form (struckOut ls) known fit k offset q e = clause-absent n st ls k offset q
+  drat-absent form (wrong number o) known fit k offset q e = let same : number ≡ k = cc in absurd (omega (arith, known .1 (λ z. omega arith)))
+  drat-absent form finished known fit k offset q e = absurd (end-other k (subst FinishSays q (finish-says st) .0) e)
+
+  -- 28 is given before a node is made
+  command-absent : (form : Form) → mode .form ≡ form → (c : Command) → Fit form n c → (k offset : ℕ) → step (mode .consequence) n s st c ≡ stop k offset → k ≡ 28 → Absent n st c
+  unfolding step
+  command-absent Records form (recorded r more) fit k offset q e = record-absent form r more k offset e (subst (Placed st r) q (shut-placed (mode .consequence) n s st more r))
   command-absent Records form (added ls) fit k offset q e = absurd fit
   command-absent Records form (struckOut ls) fit k offset q e = absurd fit
   command-absent Records form (wrong number o) fit k offset q e = absurd fit
   command-absent Records form finished fit k offset q e = absurd fit
-  command-absent Text form (recorded r more) fit k offset q e = absurd fit
-  command-absent Text form (added ls) fit k offset q e = absurd (early-other k (subst AddedSays q (added-says n s st ls) .0) e)
-  command-absent Text form (struckOut ls) fit k offset q e = clause-absent n st ls k offset q
-  command-absent Text form (wrong number o) fit k offset q e = let same : number ≡ k = cc in absurd (omega (arith, fit .1))
-  command-absent Text form finished fit k offset q e = absurd (end-other k (subst FinishSays q (finish-says st) .0) e)
+  command-absent Text form c fit k offset q e = drat-absent Text c (fit-known Text n c fit) fit k offset q e
+  command-absent Binary form c fit k offset q e = drat-absent Binary c (fit-known Binary n c fit) fit k offset q e
 
 -- what is absent is refused
-absent-stops : (n s : ℕ) (st : State) (c : Command) → Absent n st c → step n s st c ≡ stop 28 0
+absent-stops : (profile : Bool) (n s : ℕ) (st : State) (c : Command) → Absent n st c → step profile n s st c ≡ stop 28 0
 unfolding step recordStep strikeStep
-absent-stops n s st (recorded r more) (k, is, quiet, lost) = rw (is, quiet, not-live st (k .0) lost)
-absent-stops n s st (added ls) A = absurd A
-absent-stops n s st (struckOut ls) A = absent-refused n st ls A
-absent-stops n s st (wrong number offset) A = absurd A
-absent-stops n s st finished A = absurd A
+absent-stops profile n s st (recorded r more) (k, is, quiet, lost) = rw (is, and-false profile, quiet, not-live st (k .0) lost)
+absent-stops profile n s st (added ls) A = absurd A
+absent-stops profile n s st (struckOut ls) A = absent-refused n st ls A
+absent-stops profile n s st (wrong number offset) A = absurd A
+absent-stops profile n s st finished A = absurd A
 
 absent-offset : (n : ℕ) (st : State) (c : Command) → Absent n st c → (offset : ℕ) → OffsetOf c 28 offset → offset ≡ 0
 absent-offset n st (recorded r more) A offset O = O
@@ -169,7 +175,7 @@ twenty-eight-exactly i fits at = (to, from)
         c : Command
         c = commandIn (i .mode) (i .proof) (E .n) (E .at)
 
-        given : (x : Step) → step (E .n) s (E .state) c ≡ x → NumberedIn (i .mode .form) x → EndsWith x 28 (E .offset) → Absent (E .n) (E .state) c
+        given : (x : Step) → step (i .mode .consequence) (E .n) s (E .state) c ≡ x → NumberedIn (i .mode .form) x → EndsWith x 28 (E .offset) → Absent (E .n) (E .state) c
         given (next st) q N e = absurd e
         given (stop k o) q N e =
             command-absent (i .mode) s (i .text) (i .proof) (E .reached) (i .mode .form) refl c (reached-fit (i .mode) s (i .text) (i .proof) (E .reached)) k o q (e .0)
@@ -177,8 +183,8 @@ twenty-eight-exactly i fits at = (to, from)
 
         lost : Absent (E .n) (E .state) (commandIn (i .mode) (i .proof) (E .n) (E .at))
         lost =
-            given (step (E .n) s (E .state) c) refl (reached-numbered (i .mode) s (i .text) (i .proof) (E .reached))
-            (subst (λ (k : ℕ). EndsWith (step (E .n) s (E .state) c) k (E .offset)) number (E .says))
+            given (step (i .mode .consequence) (E .n) s (E .state) c) refl (reached-numbered (i .mode) s (i .text) (i .proof) (E .reached))
+            (subst (λ (k : ℕ). EndsWith (step (i .mode .consequence) (E .n) s (E .state) c) k (E .offset)) number (E .says))
 
         here : E .at ≡ at
         here =
@@ -187,7 +193,7 @@ twenty-eight-exactly i fits at = (to, from)
 
     from : AtStriking (i .mode) s (i .text) (i .proof) at → (checked i .number ≡ 28) × (checked i .place ≡ at)
     from A =
-        let is : v ≡ _ = reached-stops (i .mode) s (i .text) (i .proof) (A .reached) 28 0 (absent-stops (A .n) s (A .state) (commandIn (i .mode) (i .proof) (A .n) at) (A .absent)) in
+        let is : v ≡ _ = reached-stops (i .mode) s (i .text) (i .proof) (A .reached) 28 0 (absent-stops (i .mode .consequence) (A .n) s (A .state) (commandIn (i .mode) (i .proof) (A .n) at) (A .absent)) in
         let z : at + 0 ≡ at = omega arith in (
           ap (λ (o : CheckOutcome). o .number) (checked-fits i fits) ∙ ap (λ (x : Verdict). x .number) is,
           ap (λ (o : CheckOutcome). o .place) (checked-fits i fits) ∙ ap (λ (x : Verdict). x .place) is ∙ z,

@@ -1,4 +1,4 @@
--- In every state that the check of a text reaches the members are the clauses that formula and text fix, and the marks are theirs. The idea: a clause's
+-- In every state that the check of a DRAT proof reaches the members are the clauses that formula and proof fix, and the marks are theirs. The idea: a clause's
 -- node is the clause's diagram, and nodes stay; the clauses read on from a place are those that the run adds. Assumes nothing.
 use mathlib.Core.Path.{_≡_, refl, sym, ap, ap₂, _∙_, subst}
 use mathlib.Core.Bool.{Bool, true, false, _&&_, cond}
@@ -10,6 +10,7 @@ use lib.Dec.{eqb, ltb}
 use borrow.Author.Tests.{lt-ltb, le-ltb}
 use Rattle.meaning.specs.Diagram.{Diagram, leaf, same}
 use Rattle.meaning.specs.Operations as meaning
+use Rattle.meaning.proofs.Booleans.{t≢f}
 use Rattle.meaning.proofs.Values.{reduced-to}
 use Rattle.meaning.specs.Literals.{OfVariables}
 use Rattle.meaning.proofs.Pointwise.{clause-reduced}
@@ -20,9 +21,11 @@ use Rattle.table.proofs.Placing.{After, Made, place-after}
 use Rattle.dimacs.specs.Clauses.{Reading, complete, formula}
 use Rattle.clausal.specs.Drat.{Clause}
 use Rattle.clausal.proofs.Literals.{AllOfVariables}
-use Rattle.commands.specs.declared.Form.the-variants.{Text}
-use Rattle.commands.specs.Commands.{Command, recorded, added, struckOut, wrong, finished, inText, start}
-use Rattle.commands.proofs.Onward.{CommandIn, text-in}
+use Rattle.commands.specs.declared.Form.{Form}
+use Rattle.commands.specs.declared.Form.the-variants.{Records, Text, Binary}
+use Rattle.commands.specs.declared.Mode.{Mode}
+use Rattle.commands.specs.Commands.{Command, recorded, added, struckOut, wrong, finished, isDrat, start}
+use Rattle.commands.proofs.Onward.{CommandIn, drat-in}
 use Rattle.verdict.specs.Steps.{State, withEntry, stop, diagramIn, unstruck, liveMembers, isLive}
 use Rattle.verdict.specs.Check.{step}
 use Rattle.verdict.specs.Taken.{Function, Meant, Valued}
@@ -33,11 +36,11 @@ use Rattle.verdict.proofs.Live.{unstruck-map}
 use Rattle.verdict.proofs.Standing.{Standing}
 use Rattle.verdict.proofs.Clauses.{underway}
 use Rattle.verdict.proofs.Added.{tries-accepted}
-use Rattle.verdict.proofs.Commands.{Fit, start-within, command-goes}
+use Rattle.verdict.proofs.Commands.{Fit, DratFit, start-within, command-goes}
 use Rattle.verdict.proofs.Ends.{reached-in, reached-fit, reached-standing}
 use Rattle.verdict.proofs.Members.{reached-variables}
 use Rattle.verdict.proofs.Refuted.{reached-within}
-use Rattle.demands.specs.Texts.{ClauseList, strikeLowest, listAfter, listFrom, formulaClauses, textBefore, liveClauses, Matches}
+use Rattle.demands.specs.Texts.{ClauseList, strikeLowest, listAfter, listFrom, formulaClauses, clausesBefore, liveClauses, Matches}
 use Rattle.demands.specs.Leaving.{OffsetOf}
 use Rattle.demands.proofs.Offsets.{command-offset}
 
@@ -130,9 +133,9 @@ pub record Stands (n : ℕ) (st : State) (l : ClauseList) : Type 0 where
   pub literals : AllOfVariables n (l .clauses)
 
 module _ {s n : ℕ} {m : Meant} {st : State} (S : Standing s n m st) (narrow : n ≤ 64) (l : ClauseList) (M : Stands n st l) where
-  added-matches : (ls : List meaning.Literal) → OfVariables n ls → (st′ : State) → ClauseTaken n s st ls st′ → Stands n st′ (listAfter n l (added ls))
-  added-matches ls w st′ T =
-      let (line, peak, is) = tries-accepted n s (withEntry st (T .nodes) (T .node)) (T .node) st′ ls (T .tried) in
+  added-matches : (profile : Bool) (ls : List meaning.Literal) → OfVariables n ls → (st′ : State) → ClauseTaken profile n s st ls st′ → Stands n st′ (listAfter n l (added ls))
+  added-matches profile ls w st′ T =
+      let (line, peak, is) = tries-accepted profile n s (withEntry st (T .nodes) (T .node)) (T .node) st′ profile ls (T .tried) in
       let N : Made s (st .nodes) (meaning.clause n ls) (T .nodes) (T .node) = clause-made s n (st .nodes) ls (T .nodes) (T .node) narrow (S .ordered) (T .room) in
       subst (λ (x : State). Stands n x (listAfter n l (added ls))) is (record {
         matches = record {
@@ -161,28 +164,34 @@ module _ {s n : ℕ} {m : Meant} {st : State} (S : Standing s n m st) (narrow : 
         literals = M .literals;
       })
 
-  command-matches : (c : Command) → Fit Text n c → (st′ : State) → CommandTaken n s st c st′ → Stands n st′ (listAfter n l c)
-  command-matches (recorded r more) fit st′ T = absurd fit
-  command-matches (added ls) fit st′ T = added-matches ls fit st′ T
-  command-matches (struckOut ls) fit st′ T = struck-matches ls st′ T
-  command-matches (wrong number offset) fit st′ T = absurd T
-  command-matches finished fit st′ T = absurd T
+  command-matches : (profile : Bool) (form : Form) (c : Command) → DratFit form n c → (st′ : State) → CommandTaken profile n s st c st′ → Stands n st′ (listAfter n l c)
+  command-matches profile form (recorded r more) fit st′ T = absurd fit
+  command-matches profile form (added ls) fit st′ T = added-matches profile ls fit st′ T
+  command-matches profile form (struckOut ls) fit st′ T = struck-matches ls st′ T
+  command-matches profile form (wrong number offset) fit st′ T = absurd T
+  command-matches profile form finished fit st′ T = absurd T
+
+-- what is known of a command of a DRAT form
+pub fit-drat : (form : Form) → isDrat form ≡ true → (n : ℕ) (c : Command) → Fit form n c → DratFit form n c
+fit-drat Records drat n c fit = t≢f (sym drat)
+fit-drat Text drat n c fit = fit
+fit-drat Binary drat n c fit = fit
 
 -- ---- the run
 
--- In a reached state: the clauses so far, as the commands read from the text's start give them.
-record Follows (text proof : List ℕ) (n : ℕ) (st : State) (at : ℕ) : Type 0 where
+-- In a reached state: the clauses so far, as the commands read from the proof's start give them.
+record Follows (mode : Mode) (text proof : List ℕ) (n : ℕ) (st : State) (at : ℕ) : Type 0 where
   steps : ℕ
   few : steps ≤ at
   within : at ≤ length proof
   so-far : ClauseList
   stands : Stands n st so-far
   run : (j end : ℕ) → at ≤ end
-      → listFrom (steps + j) n proof (start Text proof) end (formulaClauses text) ≡ listFrom j n proof at end so-far
+      → listFrom (steps + j) mode n proof (start (mode .form) proof) end (formulaClauses text) ≡ listFrom j mode n proof at end so-far
 
 -- what is refused, and the end, add nothing from there on
-module _ (proof : List ℕ) (n at end : ℕ) where
-  none-here : (j : ℕ) (l : ClauseList) → end ≤ at → listFrom j n proof at end l ≡ l
+module _ (mode : Mode) (proof : List ℕ) (n at end : ℕ) where
+  none-here : (j : ℕ) (l : ClauseList) → end ≤ at → listFrom j mode n proof at end l ≡ l
   unfolding listFrom
   none-here zero l p = refl
   none-here (suc j) l p = rw (le-ltb at end p) refl
@@ -194,12 +203,12 @@ module _ (proof : List ℕ) (n at end : ℕ) where
   Idle (wrong number offset) next = next ≡ at
   Idle finished next = next ≡ at
 
-  idle : Idle (commandIn inText proof n at) (nextIn inText proof n at) → (j : ℕ) (l : ClauseList) → listFrom j n proof at end l ≡ l
+  idle : Idle (commandIn mode proof n at) (nextIn mode proof n at) → (j : ℕ) (l : ClauseList) → listFrom j mode n proof at end l ≡ l
   unfolding listFrom
   idle I zero l = refl
-  idle I (suc j) l = go (commandIn inText proof n at) (nextIn inText proof n at) I (ltb at end) (idle I j l)
+  idle I (suc j) l = go (commandIn mode proof n at) (nextIn mode proof n at) I (ltb at end) (idle I j l)
     where
-      go : (c : Command) (next : ℕ) → Idle c next → (b : Bool) → listFrom j n proof at end l ≡ l → cond b (listFrom j n proof next end (listAfter n l c)) l ≡ l
+      go : (c : Command) (next : ℕ) → Idle c next → (b : Bool) → listFrom j mode n proof at end l ≡ l → cond b (listFrom j mode n proof next end (listAfter n l c)) l ≡ l
       go (recorded r more) next I b rec = absurd I
       go (added ls) next I b rec = absurd I
       go (struckOut ls) next I b rec = absurd I
@@ -208,27 +217,27 @@ module _ (proof : List ℕ) (n at end : ℕ) where
       go finished next I true rec = rw I rec
       go finished next I false rec = refl
 
-module _ (s : ℕ) (text proof : List ℕ) where
-  goes-follows : {m : Meant} (n : ℕ) (st st′ : State) (at : ℕ) → n ≤ 64 → Standing s n m st → Fit Text n (commandIn inText proof n at)
-      → CommandTaken n s st (commandIn inText proof n at) st′ → Follows text proof n st at → Follows text proof n st′ (nextIn inText proof n at)
+module _ (mode : Mode) (drat : isDrat (mode .form) ≡ true) (s : ℕ) (text proof : List ℕ) where
+  goes-follows : {m : Meant} (n : ℕ) (st st′ : State) (at : ℕ) → n ≤ 64 → Standing s n m st → DratFit (mode .form) n (commandIn mode proof n at)
+      → CommandTaken (mode .consequence) n s st (commandIn mode proof n at) st′ → Follows mode text proof n st at → Follows mode text proof n st′ (nextIn mode proof n at)
   unfolding listFrom
   goes-follows n st st′ at narrow S fit T F =
-      let c : Command = commandIn inText proof n at in
-      let (on, inside) = command-goes Text proof n s st st′ at (F .within) T in
+      let c : Command = commandIn mode proof n at in
+      let (on, inside) = command-goes (mode .consequence) (mode .form) proof n s st st′ at (F .within) T in
       record {
         steps = suc (F .steps);
         few = omega (arith, F .few, on);
         within = inside;
         so-far = listAfter n (F .so-far) c;
-        stands = command-matches S narrow (F .so-far) (F .stands) c fit st′ T;
+        stands = command-matches S narrow (F .so-far) (F .stands) (mode .consequence) (mode .form) c fit st′ T;
         run = λ j end p.
             let same : suc (F .steps) + j ≡ F .steps + suc j = omega arith in
-            ap (λ (k : ℕ). listFrom k n proof (start Text proof) end (formulaClauses text)) same ∙ F .run (suc j) end (omega (arith, on, p))
-            ∙ ap (λ (b : Bool). cond b (listFrom j n proof (nextIn inText proof n at) end (listAfter n (F .so-far) c)) (F .so-far)) (lt-ltb at end (omega (arith, on, p)));
+            ap (λ (k : ℕ). listFrom k mode n proof (start (mode .form) proof) end (formulaClauses text)) same ∙ F .run (suc j) end (omega (arith, on, p))
+            ∙ ap (λ (b : Bool). cond b (listFrom j mode n proof (nextIn mode proof n at) end (listAfter n (F .so-far) c)) (F .so-far)) (lt-ltb at end (omega (arith, on, p)));
       }
 
   begun-follows : {n many : ℕ} {t : List Node} {ms : List ℕ} {fs : List Function} → Making s text n many t ms fs complete → AllOfVariables n (clausesOf (formula text))
-      → (st : State) → st .nodes ≡ t → st .members ≡ ms → st .struck ≡ replicate (length ms) 0 → Follows text proof n st (start Text proof)
+      → (st : State) → st .nodes ≡ t → st .members ≡ ms → st .struck ≡ replicate (length ms) 0 → Follows mode text proof n st (start (mode .form) proof)
   unfolding clausesOf
   begun-follows {n} {many} {t} {ms} M w st nodes members struck =
       let are : map (diagramAt t) ms ≡ map (meaning.clause n) (clausesOf (formula text)) = sym (append-nil (map (diagramAt t) ms)) ∙ making-diagrams s text M in
@@ -237,58 +246,58 @@ module _ (s : ℕ) (text proof : List ℕ) where
       record {
         steps = 0;
         few = omega arith;
-        within = start-within Text proof;
+        within = start-within (mode .form) proof;
         so-far = formulaClauses text;
         stands = record { matches = record { diagrams = rw (nodes, members) are; marks = struck ∙ ap (λ (k : ℕ). replicate k 0) long }; literals = w };
-        run = λ j end p. let z : 0 + j ≡ j = omega arith in ap (λ (k : ℕ). listFrom k n proof (start Text proof) end (formulaClauses text)) z;
+        run = λ j end p. let z : 0 + j ≡ j = omega arith in ap (λ (k : ℕ). listFrom k mode n proof (start (mode .form) proof) end (formulaClauses text)) z;
       }
 
-  reached-follows : {n : ℕ} {st : State} {at : ℕ} {m : Meant} → Reached inText s text proof n st at m → Follows text proof n st at
-  reached-follows (begins {many} {t} {ms} {fs} M) = begun-follows M (reached-within inText s text proof (begins M)) _ refl refl refl
+  reached-follows : {n : ℕ} {st : State} {at : ℕ} {m : Meant} → Reached mode s text proof n st at m → Follows mode text proof n st at
+  reached-follows (begins {many} {t} {ms} {fs} M) = begun-follows M (reached-within mode s text proof (begins M)) _ refl refl refl
   reached-follows {n} (goes {st} {st′} {at} {m} R T) =
-      let (narrow, S) = reached-standing inText s text proof R in goes-follows n st st′ at narrow S (reached-fit inText s text proof R) T (reached-follows R)
+      let (narrow, S) = reached-standing mode s text proof R in goes-follows n st st′ at narrow S (fit-drat (mode .form) drat n (commandIn mode proof n at) (reached-fit mode s text proof R)) T (reached-follows R)
 
-  module _ {n : ℕ} {st : State} {at : ℕ} {m : Meant} (R : Reached inText s text proof n st at m) where
+  module _ {n : ℕ} {st : State} {at : ℕ} {m : Meant} (R : Reached mode s text proof n st at m) where
     -- where nothing is added or struck from the place on up to the end
-    stands-to : (end : ℕ) → at ≤ end → ((j : ℕ) (l : ClauseList) → listFrom j n proof at end l ≡ l) → Stands n st (textBefore text proof end)
+    stands-to : (end : ℕ) → at ≤ end → ((j : ℕ) (l : ClauseList) → listFrom j mode n proof at end l ≡ l) → Stands n st (clausesBefore mode text proof end)
     stands-to end p none =
-        let F : Follows text proof n st at = reached-follows R in
+        let F : Follows mode text proof n st at = reached-follows R in
         let rest : ℕ = length proof - F .steps in
         let all : length proof ≡ F .steps + rest = omega (arith, F .few, F .within) in
         subst (Stands n st)
-        (sym (ap (λ (w : ℕ). listFrom (length proof) w proof (start Text proof) end (formulaClauses text)) (reached-variables s text inText proof R)
-        ∙ ap (λ (k : ℕ). listFrom k n proof (start Text proof) end (formulaClauses text)) all ∙ F .run rest end p ∙ none rest (F .so-far)))
+        (sym (ap (λ (w : ℕ). listFrom (length proof) mode w proof (start (mode .form) proof) end (formulaClauses text)) (reached-variables s text mode proof R)
+        ∙ ap (λ (k : ℕ). listFrom k mode n proof (start (mode .form) proof) end (formulaClauses text)) all ∙ F .run rest end p ∙ none rest (F .so-far)))
         (F .stands)
 
-    pub text-stands : Stands n st (textBefore text proof at)
-    text-stands = stands-to at (omega arith) (λ j l. none-here proof n at at j l (omega arith))
+    pub drat-stands : Stands n st (clausesBefore mode text proof at)
+    drat-stands = stands-to at (omega arith) (λ j l. none-here mode proof n at at j l (omega arith))
 
-    -- THEOREM: the members are the clauses of formula and text up to here, and the marks are theirs.
-    pub text-matches : Matches n st (textBefore text proof at)
-    text-matches = text-stands .matches
+    -- THEOREM: the members are the clauses of formula and proof up to here, and the marks are theirs.
+    pub drat-matches : Matches n st (clausesBefore mode text proof at)
+    drat-matches = drat-stands .matches
 
     -- THEOREM: the live members' diagrams are those of the live clauses.
-    pub text-live : liveMembers st ≡ map (meaning.clause n) (liveClauses text proof at)
-    text-live =
-        let M : Matches n st (textBefore text proof at) = text-matches in
+    pub drat-live : liveMembers st ≡ map (meaning.clause n) (liveClauses mode text proof at)
+    drat-live =
+        let M : Matches n st (clausesBefore mode text proof at) = drat-matches in
         unstruck-map (diagramIn st) (st .struck) (st .members) ∙ ap₂ unstruck (M .marks) (M .diagrams)
-        ∙ sym (unstruck-map (meaning.clause n) (textBefore text proof at .marks) (textBefore text proof at .clauses))
+        ∙ sym (unstruck-map (meaning.clause n) (clausesBefore mode text proof at .marks) (clausesBefore mode text proof at .clauses))
 
-    -- The same at the place where a command is refused or ends the text.
-    pub text-stopped : (number offset : ℕ) → step n s st (commandIn inText proof n at) ≡ stop number offset → Matches n st (textBefore text proof (at + offset))
-    text-stopped number offset e =
-        go (commandIn inText proof n at) refl (text-in proof n at (reached-in inText s text proof R))
-        (command-offset Text n s st (commandIn inText proof n at) (reached-fit inText s text proof R) number offset e)
+    -- The same at the place where a command is refused or ends the proof.
+    pub drat-stopped : (number offset : ℕ) → step (mode .consequence) n s st (commandIn mode proof n at) ≡ stop number offset → Matches n st (clausesBefore mode text proof (at + offset))
+    drat-stopped number offset e =
+        go (commandIn mode proof n at) refl (drat-in (mode .form) drat proof n at (reached-in mode s text proof R))
+        (command-offset (mode .consequence) (mode .form) n s st (commandIn mode proof n at) (reached-fit mode s text proof R) number offset e)
       where
-        here : offset ≡ 0 → Matches n st (textBefore text proof (at + offset))
-        here z = let q : at ≡ at + offset = omega arith in subst (λ (x : ℕ). Matches n st (textBefore text proof x)) q text-matches
+        here : offset ≡ 0 → Matches n st (clausesBefore mode text proof (at + offset))
+        here z = let q : at ≡ at + offset = omega arith in subst (λ (x : ℕ). Matches n st (clausesBefore mode text proof x)) q drat-matches
 
-        go : (c : Command) → commandIn inText proof n at ≡ c → CommandIn proof n at (commandIn inText proof n at) (nextIn inText proof n at)
-            → OffsetOf (commandIn inText proof n at) number offset → Matches n st (textBefore text proof (at + offset))
+        go : (c : Command) → commandIn mode proof n at ≡ c → CommandIn (mode .form) proof n at (commandIn mode proof n at) (nextIn mode proof n at)
+            → OffsetOf (commandIn mode proof n at) number offset → Matches n st (clausesBefore mode text proof (at + offset))
         go (recorded r more) q I O = absurd (rw q at I)
         go (added ls) q I O = here (rw q at O)
         go (struckOut ls) q I O = here (rw q at O)
         go (wrong k o) q I O =
-            let stays : CommandIn proof n at (wrong k o) (nextIn inText proof n at) = rw q at I in
-            stands-to (at + offset) (omega arith) (idle proof n at (at + offset) (rw q (stays .0))) .matches
+            let stays : CommandIn (mode .form) proof n at (wrong k o) (nextIn mode proof n at) = rw q at I in
+            stands-to (at + offset) (omega arith) (idle mode proof n at (at + offset) (rw q (stays .0))) .matches
         go finished q I O = here (rw q at O)

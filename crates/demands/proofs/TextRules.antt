@@ -10,30 +10,30 @@ use Rattle.meaning.specs.Literals.{OfVariables}
 use Rattle.table.specs.Nodes.{Node}
 use Rattle.clausal.specs.Drat.{Clause, Plain, AllPlain, Accepted}
 use Rattle.clausal.proofs.Rest.{plain-not-one}
-use Rattle.commands.specs.declared.Form.the-variants.{Text}
-use Rattle.commands.specs.Commands.{Command, added, inText}
+use Rattle.commands.specs.declared.Form.{Form}
+use Rattle.commands.specs.Commands.{Command, added, isDrat, inForm}
 use Rattle.verdict.specs.Steps.{State, withEntry, Step, next, spent, judged, liveMembers}
-use Rattle.verdict.specs.Clausal.{judgedOr, secondLine, secondTry, tries, addStep}
+use Rattle.verdict.specs.Clausal.{judgedOr, secondLine, secondTry, afterFirst, tries, addStep}
 use Rattle.verdict.specs.Check.{step}
 use Rattle.verdict.specs.Taken.{Meant}
 use Rattle.verdict.specs.ClauseTaken.{firstLine, GoesOn, HasRoom}
 use Rattle.verdict.specs.Run.{commandIn, Reached}
-use Rattle.verdict.proofs.Commands.{Fit}
+use Rattle.verdict.proofs.Commands.{DratFit}
 use Rattle.verdict.proofs.Ends.{reached-fit, reached-standing}
 use Rattle.verdict.proofs.Added as Added
-use Rattle.demands.specs.Texts.{textBefore, liveClauses}
-use Rattle.demands.proofs.TextMembers.{Stands, text-stands, text-live, within-unstruck}
+use Rattle.demands.specs.Texts.{clausesBefore, liveClauses}
+use Rattle.demands.proofs.TextMembers.{Stands, fit-drat, drat-stands, drat-live, within-unstruck}
 
-pub added-exactly : (s : ℕ) (text proof : List ℕ) {n : ℕ} {st : State} {at : ℕ} {m : Meant} → Reached inText s text proof n st at m
-    → (c : Clause) → commandIn inText proof n at ≡ added c → AllPlain (liveClauses text proof at) → Plain c → (t : List Node) (k : ℕ) → HasRoom n s st c t k
-    → GoesOn (step n s st (commandIn inText proof n at)) ↔ Accepted (liveClauses text proof at) c
+pub added-exactly : (form : Form) → isDrat form ≡ true → (s : ℕ) (text proof : List ℕ) {n : ℕ} {st : State} {at : ℕ} {m : Meant} → Reached (inForm form false) s text proof n st at m
+    → (c : Clause) → commandIn (inForm form false) proof n at ≡ added c → AllPlain (liveClauses (inForm form false) text proof at) → Plain c → (t : List Node) (k : ℕ) → HasRoom n s st c t k
+    → GoesOn (step false n s st (commandIn (inForm form false) proof n at)) ↔ Accepted (liveClauses (inForm form false) text proof at) c
 unfolding step
-added-exactly s text proof {n} {st} {at} R c is plains plain t k room =
-    let (narrow, S) = reached-standing inText s text proof R in
-    let M : Stands n st (textBefore text proof at) = text-stands s text proof R in
-    let w : OfVariables n c = subst (Fit Text n) is (reached-fit inText s text proof R) in
-    subst (λ (x : Command). GoesOn (step n s st x) ↔ Accepted (liveClauses text proof at) c) (sym is)
-    (Added.added-exactly S narrow (liveClauses text proof at) (text-live s text proof R) (within-unstruck n (textBefore text proof at .marks) (textBefore text proof at .clauses) (M .literals))
+added-exactly form drat s text proof {n} {st} {at} R c is plains plain t k room =
+    let (narrow, S) = reached-standing (inForm form false) s text proof R in
+    let M : Stands n st (clausesBefore (inForm form false) text proof at) = drat-stands (inForm form false) drat s text proof R in
+    let w : OfVariables n c = subst (DratFit form n) is (fit-drat form drat n (commandIn (inForm form false) proof n at) (reached-fit (inForm form false) s text proof R)) in
+    subst (λ (x : Command). GoesOn (step false n s st x) ↔ Accepted (liveClauses (inForm form false) text proof at) c) (sym is)
+    (Added.added-exactly S narrow (liveClauses (inForm form false) text proof at) (drat-live (inForm form false) drat s text proof R) (within-unstruck n (clausesBefore (inForm form false) text proof at .marks) (clausesBefore (inForm form false) text proof at .clauses) (M .literals))
     plains c w plain t k room)
 
 -- ---- else 19
@@ -43,8 +43,8 @@ module _ (n s : ℕ) (st : State) (t : List Node) (k : ℕ) where
   abbrev Ends : Step → Type 0
   Ends x = GoesOn x ⊎ ((peak : ℕ) × (x ≡ spent 19 peak))
 
-  tries-end : (c : Clause) → HasRoom n s st c t k → Ends (tries n s (withEntry st t k) k c)
-  unfolding tries judgedOr secondTry judged
+  tries-end : (c : Clause) → HasRoom n s st c t k → Ends (tries false n s (withEntry st t k) k c)
+  unfolding tries judgedOr afterFirst secondTry judged
   tries-end [] R = rw (R .first-fits) (go (firstLine n (withEntry st t k) [] .shown) _ _)
     where
       go : (b : Bool) (x : State) (peak : ℕ) → Ends (cond (not b) (spent 19 peak) (next x))
@@ -58,17 +58,17 @@ module _ (n s : ℕ) (st : State) (t : List Node) (k : ℕ) where
       go false true x y peak = inl tt
       go false false x y peak = inr (peak, refl)
 
-  added-end : (c : Clause) → OfVariables n c → Plain c → HasRoom n s st c t k → Ends (addStep n s st c)
+  added-end : (c : Clause) → OfVariables n c → Plain c → HasRoom n s st c t k → Ends (addStep false n s st c)
   unfolding addStep
   added-end c w plain R = rw (lt-leb 1024 (st .lines) (R .few), plain-not-one n c w plain, R .made) (tries-end c R)
 
-pub added-refused : (s : ℕ) (text proof : List ℕ) {n : ℕ} {st : State} {at : ℕ} {m : Meant} → Reached inText s text proof n st at m
-    → (c : Clause) → commandIn inText proof n at ≡ added c → AllPlain (liveClauses text proof at) → Plain c → (t : List Node) (k : ℕ) → HasRoom n s st c t k
-    → (Accepted (liveClauses text proof at) c → ⊥) → (peak : ℕ) × (step n s st (commandIn inText proof n at) ≡ spent 19 peak)
+pub added-refused : (form : Form) → isDrat form ≡ true → (s : ℕ) (text proof : List ℕ) {n : ℕ} {st : State} {at : ℕ} {m : Meant} → Reached (inForm form false) s text proof n st at m
+    → (c : Clause) → commandIn (inForm form false) proof n at ≡ added c → AllPlain (liveClauses (inForm form false) text proof at) → Plain c → (t : List Node) (k : ℕ) → HasRoom n s st c t k
+    → (Accepted (liveClauses (inForm form false) text proof at) c → ⊥) → (peak : ℕ) × (step false n s st (commandIn (inForm form false) proof n at) ≡ spent 19 peak)
 unfolding step
-added-refused s text proof {n} {st} {at} R c is plains plain t k room other =
-    go (subst (λ (x : Command). Ends n s st t k (step n s st x)) (sym is) (added-end n s st t k c (subst (Fit Text n) is (reached-fit inText s text proof R)) plain room))
+added-refused form drat s text proof {n} {st} {at} R c is plains plain t k room other =
+    go (subst (λ (x : Command). Ends n s st t k (step false n s st x)) (sym is) (added-end n s st t k c (subst (DratFit form n) is (fit-drat form drat n (commandIn (inForm form false) proof n at) (reached-fit (inForm form false) s text proof R))) plain room))
   where
-    go : Ends n s st t k (step n s st (commandIn inText proof n at)) → (peak : ℕ) × (step n s st (commandIn inText proof n at) ≡ spent 19 peak)
-    go (inl on) = absurd (other (added-exactly s text proof R c is plains plain t k room .0 on))
+    go : Ends n s st t k (step false n s st (commandIn (inForm form false) proof n at)) → (peak : ℕ) × (step false n s st (commandIn (inForm form false) proof n at) ≡ spent 19 peak)
+    go (inl on) = absurd (other (added-exactly form drat s text proof R c is plains plain t k room .0 on))
     go (inr found) = found

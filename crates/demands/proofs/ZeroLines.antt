@@ -2,7 +2,7 @@
 -- idea: by the records taken; a line adds its root's node to the members. Assumes nothing.
 use mathlib.Core.Path.{_≡_, refl, sym, ap, _∙_, subst}
 use mathlib.Core.Logic.{_↔_}
-use mathlib.Core.Bool.{true, _||_}
+use mathlib.Core.Bool.{true, _||_, Bool}
 use mathlib.Core.List.{List, [], _∷_, _++_}
 use Prim.Native.Nat.{ℕ, suc, _+_}
 use native.Mathlib.Omega.{arith}
@@ -86,14 +86,14 @@ module _ (s n c : ℕ) (st : State) (F : Flagged c st) where
   record-flagged UnknownKind st′ T = absurd T
   record-flagged NoRecord st′ T = absurd T
 
-  step-flagged : (cmd : Command) (st′ : State) → CommandTaken n s st cmd st′ → Flagged c st′
-  step-flagged (recorded r more) st′ T = record-flagged r st′ T
-  step-flagged (added ls) st′ T =
-      let (line, peak, is) = tries-accepted n s (withEntry st (T .nodes) (T .node)) (T .node) st′ ls (T .tried) in line-flagged (T .node) st′ _ is refl refl refl
-  step-flagged (struckOut ls) st′ T =
+  step-flagged : (profile : Bool) (cmd : Command) (st′ : State) → CommandTaken profile n s st cmd st′ → Flagged c st′
+  step-flagged profile (recorded r more) st′ T = record-flagged r st′ (T .1)
+  step-flagged profile (added ls) st′ T =
+      let (line, peak, is) = tries-accepted profile n s (withEntry st (T .nodes) (T .node)) (T .node) st′ profile ls (T .tried) in line-flagged (T .node) st′ _ is refl refl refl
+  step-flagged profile (struckOut ls) st′ T =
       same-flagged c st st′ (ap (λ (x : State). x .members) (T .is)) (ap (λ (x : State). x .lines) (T .is)) (ap (λ (x : State). x .refuted) (T .is)) F
-  step-flagged (wrong number offset) st′ T = absurd T
-  step-flagged finished st′ T = absurd T
+  step-flagged profile (wrong number offset) st′ T = absurd T
+  step-flagged profile finished st′ T = absurd T
 
 module _ (mode : Mode) (s : ℕ) (text proof : List ℕ) where
   reached-flagged : {n : ℕ} {st : State} {at : ℕ} {m : Meant} → Reached mode s text proof n st at m → Flagged (length (clausesOf (formula text))) st
@@ -102,7 +102,7 @@ module _ (mode : Mode) (s : ℕ) (text proof : List ℕ) where
     to = λ e. t≢f (sym e);
     from = λ Z. absurd (omega (arith, Z .accepted));
   }
-  reached-flagged {n} (goes {st} {st′} {at} R T) = step-flagged s n (length (clausesOf (formula text))) st (reached-flagged R) (commandIn mode proof n at) st′ T
+  reached-flagged {n} (goes {st} {st′} {at} R T) = step-flagged s n (length (clausesOf (formula text))) st (reached-flagged R) (mode .consequence) (commandIn mode proof n at) st′ T
 
   -- "20: end without a 0 line": a 0 line was accepted exactly where one of the accepted lines' nodes is 0.
   pub zero-line-exactly : {n : ℕ} {st : State} {at : ℕ} {m : Meant} → Reached mode s text proof n st at m → (st .refuted ≡ true) ↔ ZeroLine (length (clausesOf (formula text))) st

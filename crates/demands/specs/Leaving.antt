@@ -1,15 +1,16 @@
 -- What the theorems on the whole check speak of: where it ends, and what every lent place holds after it. No call open to others
 -- cites this file.
+use Rattle.table.specs.Making.{lineReach}
 use mathlib.Core.Path.{_≡_}
 use mathlib.Core.Logic.{_≢_}
-use mathlib.Core.Bool.{true, false, cond}
+use mathlib.Core.Bool.{true, false, cond, Bool}
 use mathlib.Core.List.{List, [], _∷_}
 use Prim.Native.Nat.{ℕ, _+_, _≤_, _<_}
 use lib.ListN.{length, getD}
 use lib.Dec.{eqb}
 use Rattle.meaning.specs.Diagram.{Assignment, Diagram}
 use Rattle.meaning.specs.Operations.{Literal, clauseValue, clause}
-use Rattle.table.specs.Nodes.{Node}
+use Rattle.table.specs.Nodes.{Node, placed, place}
 use Rattle.table.specs.Columns.{Columns}
 use Rattle.dimacs.specs.Header.{header}
 use Rattle.dimacs.specs.Clauses.{formula}
@@ -17,20 +18,20 @@ use Rattle.records.specs.declared.EntryNo.{EntryNo}
 use Rattle.records.specs.declared.MemberNo.{MemberNo}
 use Rattle.records.specs.declared.Rule.{Rule}
 use Rattle.records.specs.declared.Record.the-variants.{ProofLine, Strike, NoRecord}
-use Rattle.commands.specs.declared.Form.the-variants.{Records, Text}
+use Rattle.commands.specs.declared.Form.the-variants.{Records}
 use Rattle.commands.specs.declared.Mode.{Mode}
-use Rattle.commands.specs.Commands.{Command, recorded, added, struckOut, wrong, finished}
+use Rattle.commands.specs.Commands.{Command, recorded, added, struckOut, wrong, finished, isDrat}
 use Rattle.verdict.specs.Steps.{State, withEntry, Step, next, stop, spent, entryNode, waiting, liveMembers}
 use Rattle.verdict.specs.Clausal.{secondLine}
 use Rattle.verdict.specs.Check.{step, Verdict, CheckOutcome, lentFits, zeros, outcome, check}
 use Rattle.verdict.specs.Taken.{Function, Meant}
-use Rattle.verdict.specs.ClauseTaken.{firstLine, HasRoom, IsThere}
+use Rattle.verdict.specs.ClauseTaken.{firstLine, IsThere, SecondFits}
 use Rattle.verdict.specs.Run.{commandIn, lineFunctions, variablesOf, Reached, Ended, ProofNumber}
 use Rattle.verdict.specs.Marks.{strikingsBefore, markOf}
 use Rattle.verdict.specs.MetFirst.{no-conflict, metBy}
 use Rattle.verdict.specs.Satisfies.{clausesOf, readToEnd}
 use Rattle.demands.specs.Calls.{valueAt, inGoodOrder}
-use Rattle.demands.specs.Texts.{textBefore}
+use Rattle.demands.specs.Texts.{clausesBefore}
 
 -- What is handed to the check: the proof's form, the columns with their index and count, the member list and its marks, the scratch list,
 -- the bytes of formula and proof.
@@ -114,10 +115,10 @@ abbrev pub Member : CheckOutcome → ℕ → Function → Type 0
 Member o k f = (getD (o .members) k 0 < o .count) × ((a : Assignment) → valueAt (o .columns) (o .count) (getD (o .members) k 0) a ≡ f a)
 
 -- "A refused proof leaves the clauses and accepted lines with their nodes (those of all their entries), zeros above. Number 0
--- leaves the same": the member list holds the clauses, in file order, and then the roots of the accepted lines (in a text, its added
+-- leaves the same": the member list holds the clauses, in file order, and then the roots of the accepted lines (in DRAT, its added
 -- clauses), in theirs, each with its value, the struck ones too ("nodes stay"); the table is in good order. A mark is "1 once struck, else
 -- 0, which stays, after a refused proof too": in records 1 exactly for the numbers in the strikings before the place where the run ends
--- (`AtEnd`: all of them taken); in a text as its clauses before that place fix it. The peak covers the count and is within the table; with
+-- (`AtEnd`: all of them taken); in DRAT as its clauses before that place fix it. The peak covers the count and is within the table; with
 -- 23 it is the size.
 pub record Kept (i : Handed) (o : CheckOutcome) : Type 0 where
   pub number : ProofNumber (i .mode .form) (o .number)
@@ -129,7 +130,7 @@ pub record Kept (i : Handed) (o : CheckOutcome) : Type 0 where
   pub clauses : (k : ℕ) → k < length (clausesRead i) → Member o k (clauseValue (getD (clausesRead i) k []))
   pub lines : (j : ℕ) → j < o .lines → Member o (length (clausesRead i) + j) (getD (linesOf i) j (λ a. false))
   pub marks : i .mode .form ≡ Records → (k : ℕ) → getD (o .struck) k 0 ≡ markOf (strikingsBefore (i .proof) (o .place)) k
-  pub text-marks : i .mode .form ≡ Text → (k : ℕ) → getD (o .struck) k 0 ≡ getD (textBefore (i .text) (i .proof) (o .place) .marks) k 0
+  pub drat-marks : isDrat (i .mode .form) ≡ true → (k : ℕ) → getD (o .struck) k 0 ≡ getD (clausesBefore (i .mode) (i .text) (i .proof) (o .place) .marks) k 0
   pub above : (k : ℕ) → length (clausesRead i) + o .lines ≤ k → (getD (o .members) k 0 ≡ 0) × (getD (o .struck) k 0 ≡ 0)
   pub long : (length (o .members) ≡ length (i .members)) × (length (o .struck) ≡ length (i .struck))
   pub scratch : o .scratch ≡ zeros (length (i .scratch))
@@ -149,7 +150,8 @@ EndsWith (stop k o) number offset = (k ≡ number) × (o ≡ offset)
 EndsWith (spent k peak) number offset = (k ≡ number) × (offset ≡ 0)
 
 -- "9 to 23 [..] the record's first byte ([..] 11: the byte after the end record)"; "3, 4 (the token), 6, 22, 17, then 23 or 19, [..] 28, at
--- the first byte of the clause or its `d`" (02, 4/14): where that place is, by the command.
+-- the first byte of the clause or its `d`" (02, 4/14); "31 and 4 at the literal, the others at the opening byte" (02,
+-- 9/14): where that place is, by the command.
 abbrev pub OffsetOf : Command → ℕ → ℕ → Type 0
 OffsetOf (recorded r more) number offset = offset ≡ cond (eqb number 11) 1 0
 OffsetOf (added ls) number offset = offset ≡ 0
@@ -173,7 +175,7 @@ pub record AtEnd (i : Handed) (o : CheckOutcome) : Type 0 where
   pub offset : ℕ
   pub meant : Meant
   pub reached : Reached (i .mode) (places i) (i .text) (i .proof) n state at meant
-  pub says : EndsWith (step n (places i) state (commandIn (i .mode) (i .proof) n at)) (o .number) offset
+  pub says : EndsWith (step (i .mode .consequence) n (places i) state (commandIn (i .mode) (i .proof) n at)) (o .number) offset
   pub place : o .place ≡ at + offset
   pub stands : OffsetOf (commandIn (i .mode) (i .proof) n at) (o .number) offset
   pub none-begun : NoneBegun (commandIn (i .mode) (i .proof) n at) → o .place ≡ length (i .proof)
@@ -186,7 +188,8 @@ pub record FormulaMade (i : Handed) : Type 0 where
   pub meant : Meant
   pub reached : Reached (i .mode) (places i) (i .text) (i .proof) n state at meant
 
--- "refused with 3, 4 (the token), 6": what the reader of the text refuses, at its place. (02, 4/14)
+-- "refused with 3, 4 (the token), 6"; "6, then [..] 31, then [..] 4 [..]; another opening byte with 9": what the reader of a DRAT proof
+-- refuses, at its place. (02, 4/14 and 9/14)
 pub record AtFault (i : Handed) (o : CheckOutcome) : Type 0 where
   pub end : AtEnd i o
   pub here : commandIn (i .mode) (i .proof) (end .n) (end .at) ≡ wrong (o .number) (end .offset)
@@ -229,22 +232,29 @@ abbrev pub SecondFails : ℕ → List Diagram → List Literal → Type 0
 SecondFails n ms [] = Unit {0}
 SecondFails n ms (p ∷ ls) = secondLine n ms p ls .shown ≡ false
 
+-- The second try has room and fails; in the consequence profile there is none. (02, 11/14)
+abbrev pub SecondNotShown : Bool → ℕ → ℕ → List Node → List Diagram → List Literal → Type 0
+SecondNotShown true n s t ms ls = Unit {0}
+SecondNotShown false n s t ms ls = SecondFits n s t ms ls × SecondFails n ms ls
+
 -- Neither try shows the clause, though both have room: "The empty clause has no pivot." (02, 4/14)
-pub record ClauseNotShown (n s : ℕ) (st : State) (ls : List Literal) : Type 0 where
+pub record ClauseNotShown (profile : Bool) (n s : ℕ) (st : State) (ls : List Literal) : Type 0 where
   pub nodes : List Node
   pub node : ℕ
-  pub room : HasRoom n s st ls nodes node
+  pub few : st .lines < 1024
+  pub made : place s (st .nodes) (clause n ls) ≡ placed nodes node
+  pub first-fits : lineReach s nodes (firstLine n (withEntry st nodes node) ls) .fits ≡ true
   pub first-fails : firstLine n (withEntry st nodes node) ls .shown ≡ false
-  pub second-fails : SecondFails n (liveMembers (withEntry st nodes node)) ls
+  pub second-fails : SecondNotShown profile n s nodes (liveMembers (withEntry st nodes node)) ls
 
 -- A line of which a propagation ends without conflict before a diagram finds no room.
-abbrev pub NotShown : ℕ → ℕ → State → Command → Type 0
-NotShown n s st (recorded r more) =
+abbrev pub NotShown : Bool → ℕ → ℕ → State → Command → Type 0
+NotShown profile n s st (recorded r more) =
     (rule : Rule) × (root : EntryNo) × (r ≡ ProofLine rule root) × (metBy n s st rule (entryNode st (root .0)) ≡ no-conflict)
-NotShown n s st (added ls) = ClauseNotShown n s st ls
-NotShown n s st (struckOut ls) = ⊥
-NotShown n s st (wrong number offset) = ⊥
-NotShown n s st finished = ⊥
+NotShown profile n s st (added ls) = ClauseNotShown profile n s st ls
+NotShown profile n s st (struckOut ls) = ⊥
+NotShown profile n s st (wrong number offset) = ⊥
+NotShown profile n s st finished = ⊥
 
 -- The line at which the run ends, at the place, all commands before it taken.
 pub record AtLine (i : Handed) (at : ℕ) : Type 0 where
@@ -252,4 +262,4 @@ pub record AtLine (i : Handed) (at : ℕ) : Type 0 where
   pub state : State
   pub meant : Meant
   pub reached : Reached (i .mode) (places i) (i .text) (i .proof) n state at meant
-  pub not-shown : NotShown n (places i) state (commandIn (i .mode) (i .proof) n at)
+  pub not-shown : NotShown (i .mode .consequence) n (places i) state (commandIn (i .mode) (i .proof) n at)

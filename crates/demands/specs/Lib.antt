@@ -3,3 +3,5 @@ pub mod Words
 pub mod Texts
 pub mod Leaving
 pub mod Full
+pub mod Stays
+pub mod Conversions

@@ -73,7 +73,7 @@ module _ (s : List ℕ) (n : ℕ) where
 
 -- ---- the code's set
 
-literal-set : (u : Literals) (v : ℕ) (b : Bool) (x : Next) → clauseAfter u (literalThen (record { variable = v; positive = b }) x) ≡ clauseAfter (withLiteral u v b) x
+pub literal-set : (u : Literals) (v : ℕ) (b : Bool) (x : Next) → clauseAfter u (literalThen (record { variable = v; positive = b }) x) ≡ clauseAfter (withLiteral u v b) x
 unfolding clauseAfter
 literal-set u v b (closed ls first next) = refl
 literal-set u v b ended = refl

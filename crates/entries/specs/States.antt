@@ -92,7 +92,7 @@ pub record Held (n : ℕ) (l : Lent) (st : State) : Type 0 where
   pub room : 2048 ≤ length (l .members)
   pub marked : length (l .struck) ≡ length (l .members)
   pub unmarked : (i : ℕ) → st .members ≤ i → getD (l .struck) i 0 ≡ 0
-  pub rounds : st .rounds ≤ st .lines * 131072
+  pub rounds : st .rounds ≤ st .lines * 262144
 
 -- A refused record leaves table, members and marks as they were.
 pub record Unmoved (l l′ : Lent) (st : State) : Type 0 where

@@ -1,6 +1,7 @@
 // The calls of the face for Rust and C to link: each has the face's contract and nothing of its own.
 use commands::Form;
 use commands::Mode;
+use convert::Converted;
 use operate::Operation;
 use report::Told;
 use session::Checked;
@@ -9,8 +10,11 @@ use single::call::Single;
 use single::least::AtLeast;
 use table::NodeNo;
 ghost use mathlib.Core.Path.{_≡_};
-ghost use lib.ListN.{take, drop};
-ghost use Rattle.commands.specs.Commands.{inRecords, inText};
+ghost use mathlib.Core.Bool.{true};
+ghost use lib.ListN.{length, take, drop};
+ghost use Rattle.commands.specs.declared.Form.the-variants.{Records, Text, Binary};
+ghost use Rattle.commands.specs.Commands.{inForm, inRecords, inText, inBinary};
+ghost use Rattle.convert.specs.Convert.{conversionOf, toBinary, toText};
 ghost use Rattle.io.specs.Counts.{Counts};
 ghost use Rattle.report.specs.Files.{said, statusOf};
 ghost use Rattle.report.specs.Line.{lineBytes};
@@ -225,6 +229,175 @@ pub extern "C" fn cablesalak_check_text<'a>(
     )
 }
 
+// The check of a formula and a binary DRAT proof. (02, 9/14) Number 0: no assignment satisfies the formula.
+#[no_mangle]
+pub extern "C" fn cablesalak_check_binary<'a>(
+    vars: &mut [u8],
+    lows: &mut [u16],
+    highs: &mut [u16],
+    heads: &mut [u16],
+    links: &mut [u16],
+    count: usize,
+    members: &mut [u16],
+    struck: &mut [u8],
+    scratch: &mut [u16],
+    formula: &'a [u8],
+    proof: &'a [u8],
+) -> Checked
+    ensures { λ r. ⌜ (
+        let lent = columnsMade (now (vars .entry)) (now (lows .entry)) (now (highs .entry)) (now (heads .entry)) (now (links .entry)) in
+        let left = columnsMade (now (vars .exit)) (now (lows .exit)) (now (highs .exit)) (now (heads .exit)) (now (links .exit)) in
+        checkOutcome left (now (members .exit)) (now (struck .exit)) (now (scratch .exit)) r
+        ≡ check inBinary lent count (now (members .entry)) (now (struck .entry)) (now (scratch .entry))
+        (now (formula .entry)) (now (proof .entry))) ⌝ }
+    ensures { λ r. ⌜ (r .number ≡ 0 → Unsatisfiable (now (formula .entry))) ⌝ }
+{
+    checker::check_binary(
+        vars,
+        lows,
+        highs,
+        heads,
+        links,
+        count,
+        members,
+        struck,
+        scratch,
+        formula,
+        proof,
+    )
+}
+
+// The check of a formula and a proof in records in the consequence profile: each accepted line is true under every assignment that
+// satisfies the formula. (02, 11/14) Number 0: none does.
+#[no_mangle]
+pub extern "C" fn cablesalak_check_consequence<'a>(
+    vars: &mut [u8],
+    lows: &mut [u16],
+    highs: &mut [u16],
+    heads: &mut [u16],
+    links: &mut [u16],
+    count: usize,
+    members: &mut [u16],
+    struck: &mut [u8],
+    scratch: &mut [u16],
+    formula: &'a [u8],
+    proof: &'a [u8],
+) -> Checked
+    ensures { λ r. ⌜ (
+        let lent = columnsMade (now (vars .entry)) (now (lows .entry)) (now (highs .entry)) (now (heads .entry)) (now (links .entry)) in
+        let left = columnsMade (now (vars .exit)) (now (lows .exit)) (now (highs .exit)) (now (heads .exit)) (now (links .exit)) in
+        checkOutcome left (now (members .exit)) (now (struck .exit)) (now (scratch .exit)) r
+        ≡ check (inForm Records true) lent count (now (members .entry)) (now (struck .entry)) (now (scratch .entry))
+        (now (formula .entry)) (now (proof .entry))) ⌝ }
+    ensures { λ r. ⌜ (r .number ≡ 0 → Unsatisfiable (now (formula .entry))) ⌝ }
+{
+    checker::check_consequence(
+        vars,
+        lows,
+        highs,
+        heads,
+        links,
+        count,
+        members,
+        struck,
+        scratch,
+        formula,
+        proof,
+    )
+}
+
+// The same of a DRAT text, whose clauses pass by their first try alone. (02, 11/14)
+#[no_mangle]
+pub extern "C" fn cablesalak_check_text_consequence<'a>(
+    vars: &mut [u8],
+    lows: &mut [u16],
+    highs: &mut [u16],
+    heads: &mut [u16],
+    links: &mut [u16],
+    count: usize,
+    members: &mut [u16],
+    struck: &mut [u8],
+    scratch: &mut [u16],
+    formula: &'a [u8],
+    proof: &'a [u8],
+) -> Checked
+    ensures { λ r. ⌜ (
+        let lent = columnsMade (now (vars .entry)) (now (lows .entry)) (now (highs .entry)) (now (heads .entry)) (now (links .entry)) in
+        let left = columnsMade (now (vars .exit)) (now (lows .exit)) (now (highs .exit)) (now (heads .exit)) (now (links .exit)) in
+        checkOutcome left (now (members .exit)) (now (struck .exit)) (now (scratch .exit)) r
+        ≡ check (inForm Text true) lent count (now (members .entry)) (now (struck .entry)) (now (scratch .entry))
+        (now (formula .entry)) (now (proof .entry))) ⌝ }
+    ensures { λ r. ⌜ (r .number ≡ 0 → Unsatisfiable (now (formula .entry))) ⌝ }
+{
+    checker::check_text_consequence(
+        vars,
+        lows,
+        highs,
+        heads,
+        links,
+        count,
+        members,
+        struck,
+        scratch,
+        formula,
+        proof,
+    )
+}
+
+// The same of a binary DRAT proof. (02, 9/14 and 11/14)
+#[no_mangle]
+pub extern "C" fn cablesalak_check_binary_consequence<'a>(
+    vars: &mut [u8],
+    lows: &mut [u16],
+    highs: &mut [u16],
+    heads: &mut [u16],
+    links: &mut [u16],
+    count: usize,
+    members: &mut [u16],
+    struck: &mut [u8],
+    scratch: &mut [u16],
+    formula: &'a [u8],
+    proof: &'a [u8],
+) -> Checked
+    ensures { λ r. ⌜ (
+        let lent = columnsMade (now (vars .entry)) (now (lows .entry)) (now (highs .entry)) (now (heads .entry)) (now (links .entry)) in
+        let left = columnsMade (now (vars .exit)) (now (lows .exit)) (now (highs .exit)) (now (heads .exit)) (now (links .exit)) in
+        checkOutcome left (now (members .exit)) (now (struck .exit)) (now (scratch .exit)) r
+        ≡ check (inForm Binary true) lent count (now (members .entry)) (now (struck .entry)) (now (scratch .entry))
+        (now (formula .entry)) (now (proof .entry))) ⌝ }
+    ensures { λ r. ⌜ (r .number ≡ 0 → Unsatisfiable (now (formula .entry))) ⌝ }
+{
+    checker::check_binary_consequence(
+        vars,
+        lows,
+        highs,
+        heads,
+        links,
+        count,
+        members,
+        struck,
+        scratch,
+        formula,
+        proof,
+    )
+}
+
+// A DRAT text in binary, in a lent output. (02, 9/14)
+#[no_mangle]
+pub extern "C" fn cablesalak_to_binary(text: &[u8], out: &mut [u8]) -> Converted
+    ensures { λ r. ⌜ conversionOf (now (out .exit)) r ≡ toBinary (length (now (out .entry))) (now (text .entry)) ⌝ }
+{
+    checker::to_binary(text, out)
+}
+
+// A binary DRAT proof as text, in a lent output.
+#[no_mangle]
+pub extern "C" fn cablesalak_to_text(binary: &[u8], out: &mut [u8]) -> Converted
+    ensures { λ r. ⌜ conversionOf (now (out .exit)) r ≡ toText (length (now (out .entry))) (now (binary .entry)) ⌝ }
+{
+    checker::to_text(binary, out)
+}
+
 // The program's line on two files, the proof in records, put at the start of `line`, and the status to end with: 0 for refuted alone, 2
 // where a file was not taken, 1 for every other refusal. `first` and `second` tell whether formula and proof could be read.
 #[no_mangle]
@@ -243,6 +416,7 @@ pub extern "C" fn cablesalak_report<'a>(
 {
     let mode = Mode {
         form: Form::Records,
+        consequence: false,
     };
     report::report(mode, first, formula, second, proof, line)
 }

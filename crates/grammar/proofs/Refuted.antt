@@ -81,9 +81,9 @@ module _ (mode : Mode) (s : ℕ) (text proof : List ℕ) where
   pub data Judged (v : Verdict) : Type 0 where
     full-at-clause : v .number ≡ 8 → Judged v
     at-command : {n at : ℕ} {st : State} {m : Meant} → Reached mode s text proof n st at m → (offset : ℕ)
-        → step n s st (commandIn mode proof n at) ≡ stop (v .number) offset → Judged v
+        → step (mode .consequence) n s st (commandIn mode proof n at) ≡ stop (v .number) offset → Judged v
     at-command-tried : {n at : ℕ} {st : State} {m : Meant} → Reached mode s text proof n st at m → (peak : ℕ)
-        → step n s st (commandIn mode proof n at) ≡ spent (v .number) peak → Judged v
+        → step (mode .consequence) n s st (commandIn mode proof n at) ≡ spent (v .number) peak → Judged v
 
   pub dimacs-judged : IsDimacs text → Judged (verdict mode s text proof)
   dimacs-judged d = go (verdict mode s text proof) (ended mode s text proof)

@@ -26,7 +26,7 @@ pub struct Judged {
 }
 
 // Fills a list with another of its length.
-fn copy(from: &[u16], to: &mut [u16])
+pub fn copy(from: &[u16], to: &mut [u16])
     requires { ⌜ length (now to) ≡ length (now from) ⌝ }
     ensures { λ _. ⌜ now (to .exit) ≡ now (from .entry) ⌝ }
 {
@@ -37,7 +37,7 @@ fn copy(from: &[u16], to: &mut [u16])
     }
 }
 
-fn copy_words(from: &[u64], to: &mut [u64])
+pub fn copy_words(from: &[u64], to: &mut [u64])
     requires { ⌜ length (now to) ≡ length (now from) ⌝ }
     ensures { λ _. ⌜ now (to .exit) ≡ now (from .entry) ⌝ }
 {

@@ -1,18 +1,21 @@
 -- RUP lines are shown or not whichever members each round takes and whatever the members' order, and are still shown where members are added;
--- PR lines are shown or not whatever the order. The idea: a line asks UnitProp of members that are each made from one member. Assumes nothing.
+-- PR lines and path lines are shown or not whatever the order. The idea: a line asks UnitProp of members that are each made from one member. Assumes nothing.
+use Rattle.paths.specs.Paths.{paths, byPath, pathTurns, pathLine}
+use Rattle.clausal.specs.Tries.{makesTrue, makesFalse}
+use Rattle.meaning.proofs.Pointwise.{literals-reduced}
 use mathlib.Core.Path.{_≡_, refl, sym, ap, _∙_}
 use mathlib.Core.Logic.{_⊎_, inl, inr}
 use mathlib.Core.Bool.{Bool, true, false, cond}
 use mathlib.Core.List.{List, [], _∷_}
 use Prim.Native.Nat.{ℕ}
 use Rattle.meaning.specs.Diagram.{Diagram, leaf, same}
-use Rattle.meaning.specs.Operations.{negation, cofactorLiterals}
+use Rattle.meaning.specs.Operations.{negation, cofactorLiterals, Literal}
 use Rattle.meaning.specs.Rules.{unitProp, byDiagram, rup, afterTurn, prTurns, pr}
 use Rattle.meaning.proofs.Booleans.{t≢f, both-ways, and-both}
 use Rattle.order.specs.Choices.{Among, Contained, Propagates}
 use Rattle.order.proofs.Members.{within-map}
 use Rattle.order.proofs.UnitProp.{own-way, any-choice, more-members}
-use Rattle.meaning.proofs.Ends.{byDiagram-reduced}
+use Rattle.meaning.proofs.Ends.{byDiagram-reduced, AllReduced, map-reduced}
 
 -- ---- RUP
 
@@ -80,3 +83,22 @@ module _ (n : ℕ) (P N : ℕ → Bool) where
 
   pub pr-same : (ms ms′ : List Diagram) (g : Diagram) → Contained ms ms′ → Contained ms′ ms → pr n P N ms g .shown ≡ pr n P N ms′ g .shown
   pr-same ms ms′ g w w′ = both-ways _ _ (pr-kept ms ms′ g w w′) (pr-kept ms′ ms g w′ w)
+
+-- ---- path lines
+
+paths-more : (n : ℕ) (ms ms′ : List Diagram) → Contained ms ms′ → (cs : List (List Literal)) → pathTurns n ms cs .shown ≡ true → pathTurns n ms′ cs .shown ≡ true
+unfolding pathTurns afterTurn
+paths-more n ms ms′ w [] e = refl
+paths-more n ms ms′ w (c ∷ cs) e =
+    let b : (unitProp n (byPath n c ms) .conflict ≡ true) × (pathTurns n ms cs .shown ≡ true) = and-both (unitProp n (byPath n c ms) .conflict) (pathTurns n ms cs .shown) e in
+    rw (more-members n (byPath n c ms) (byPath n c ms′) (by-reduced ms) (by-reduced ms′) (within-map (cofactorLiterals n (makesTrue c) (makesFalse c)) ms ms′ w) (b .0), paths-more n ms ms′ w cs (b .1))
+  where
+    by-reduced : (xs : List Diagram) → AllReduced n (byPath n c xs)
+    by-reduced xs = map-reduced n (cofactorLiterals n (makesTrue c) (makesFalse c)) xs (λ f. literals-reduced n (makesTrue c) (makesFalse c) f)
+
+pub path-more : (n : ℕ) (ms ms′ : List Diagram) (g : Diagram) → Contained ms ms′ → pathLine n ms g .shown ≡ true → pathLine n ms′ g .shown ≡ true
+unfolding pathLine
+path-more n ms ms′ g w t = paths-more n ms ms′ w (paths g) t
+
+pub path-same : (n : ℕ) (ms ms′ : List Diagram) (g : Diagram) → Contained ms ms′ → Contained ms′ ms → pathLine n ms g .shown ≡ pathLine n ms′ g .shown
+path-same n ms ms′ g w w′ = both-ways _ _ (path-more n ms ms′ g w) (path-more n ms′ ms g w′)

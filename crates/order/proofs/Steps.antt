@@ -6,18 +6,19 @@ use mathlib.Core.Bool.{Bool, true, false, not, cond}
 use mathlib.Core.List.{List}
 use Prim.Native.Nat.{ℕ, _+_, _≤_}
 use lib.ListN.{length, set}
-use lib.Dec.{eqb, leb}
-use borrow.Author.Tests.{lt-leb, ne-eqb}
+use lib.Dec.{eqb, leb, ltb}
+use borrow.Author.Tests.{lt-leb, le-ltb, ne-eqb}
 use Rattle.meaning.specs.Diagram.{Diagram}
 use Rattle.meaning.specs.Operations.{negation}
 use Rattle.meaning.specs.Rules.{Line, byDiagram, rup, pr, witnessed}
 use Rattle.meaning.specs.Words.{inWord}
 use Rattle.meaning.proofs.Booleans.{t≢f}
+use Rattle.paths.specs.Paths.{pathLine, pathCount}
 use Rattle.table.specs.Making.{lineReach}
 use Rattle.records.specs.declared.EntryNo.{EntryNo}
 use Rattle.records.specs.declared.MemberNo.{MemberNo}
 use Rattle.records.specs.declared.Rule.{Rule}
-use Rattle.records.specs.declared.Rule.the-variants.{Rup, Pr}
+use Rattle.records.specs.declared.Rule.the-variants.{Rup, Pr, Path}
 use Rattle.records.specs.declared.Record.the-variants.{ProofLine, Strike}
 use Rattle.verdict.specs.Steps.{State, Step, next, stop, spent, isEntry, entryNode, waiting, accepted, judged, diagramIn, unstruck, liveMembers, lineStep}
 use Rattle.verdict.specs.Steps.{recordStep}
@@ -28,7 +29,7 @@ use Rattle.order.specs.Choices.{Contained, Reordered, Propagates}
 use Rattle.order.specs.Lines.{RoomFor, ComesToRule, byRule, SameLine, Alike, withMembers, beside}
 use Rattle.order.proofs.Members.{within-map, reordered-within, reordered-back}
 use Rattle.order.proofs.Marks.{reordered-live, struck-within}
-use Rattle.order.proofs.Rules.{rup-any-choice, rup-more, rup-same, pr-same}
+use Rattle.order.proofs.Rules.{rup-any-choice, rup-more, rup-same, pr-same, path-same}
 use Rattle.order.proofs.Room.{lineSize, line-fits}
 use Rattle.verdict.specs.ClauseTaken.{GoesOn}
 
@@ -47,6 +48,8 @@ module _ (n s : ℕ) (st : State) where
   unfolding lineStep
   line-judged Rup root J = rw (J .entry, J .witness, lt-leb 1024 (st .lines) (J .few), ne-eqb (entryNode st root) 1 (J .not-one))
   line-judged Pr root J = rw (J .entry, lt-leb 1024 (st .lines) (J .few), ne-eqb (entryNode st root) 1 (J .not-one), J .witness)
+  line-judged Path root J =
+      rw (J .entry, J .witness .0, lt-leb 1024 (st .lines) (J .few), ne-eqb (entryNode st root) 1 (J .not-one), le-ltb 4096 (pathCount (diagramIn st (entryNode st root))) (J .witness .1))
 
   step-shown : (more : Bool) (rule : Rule) (root : EntryNo) → ComesToRule n st rule (root .0) → RoomFor n s st rule (root .0)
       → recordStep n s st more (ProofLine rule root) ≡ byRule s st (entryNode st (root .0)) (lineOf n st rule (entryNode st (root .0))) (lineOf n st rule (entryNode st (root .0)) .shown)
@@ -91,6 +94,7 @@ module _ (n : ℕ) (st st′ : State) (root root′ : ℕ) (L : SameLine st root
       ∙ ap (λ (f : Diagram). pr n (inWord (st .positive)) (inWord (st .negative)) (liveMembers st′) f .shown) (L .line)
       ∙ ap (λ (w : ℕ). pr n (inWord w) (inWord (st .negative)) (liveMembers st′) (diagramIn st′ (entryNode st′ root′)) .shown) (L .positive)
       ∙ ap (λ (w : ℕ). pr n (inWord (st′ .positive)) (inWord w) (liveMembers st′) (diagramIn st′ (entryNode st′ root′)) .shown) (L .negative)
+  shown-same Path w w′ = path-same n (liveMembers st) (liveMembers st′) g w w′ ∙ ap (λ (f : Diagram). pathLine n (liveMembers st′) f .shown) (L .line)
 
 module _ (n s s′ : ℕ) (st st′ : State) (more more′ : Bool) (root root′ : EntryNo) (L : SameLine st (root .0) st′ (root′ .0)) where
   pub lines-alike : (rule : Rule) → Contained (liveMembers st) (liveMembers st′) → Contained (liveMembers st′) (liveMembers st)
@@ -119,6 +123,10 @@ alike-tested false true c d i j k l x y e = (refl, refl)
 alike-tested false false true d i j k l x y e = (refl, refl)
 alike-tested false false false true i j k l x y e = (refl, refl)
 alike-tested false false false false i j k l x y e = e
+
+alike-one : (c : Bool) (number : ℕ) (x y : Step) → Alike x y → Alike (cond c (stop number 0) x) (cond c (stop number 0) y)
+alike-one true number x y e = (refl, refl)
+alike-one false number x y e = e
 
 module _ (n s : ℕ) (st : State) (members marks : List ℕ) where
   abbrev st′ : State
@@ -160,6 +168,11 @@ module _ (n s : ℕ) (st : State) (members marks : List ℕ) where
       let g : ℕ = entryNode st (root .0) in
       alike-tested (not (isEntry st (root .0))) (leb 1024 (st .lines)) (eqb g 1) (not (witnessed n (inWord (st .positive)) (inWord (st .negative)) (diagramIn st g))) 13 22 17 18
       (judged s st g (lineOf n st Pr g)) (judged s st′ g (lineOf n st′ Pr g)) (judged-alike Pr (root .0) r fits fits′)
+  step-any-order more Path root r fits fits′ =
+      let g : ℕ = entryNode st (root .0) in
+      let many : Bool = ltb 4096 (pathCount (diagramIn st g)) in
+      alike-tested (not (isEntry st (root .0))) (waiting st) (leb 1024 (st .lines)) (eqb g 1) 13 16 22 17
+      (cond many (stop 34 0) (judged s st g (lineOf n st Path g))) (cond many (stop 34 0) (judged s st′ g (lineOf n st′ Path g))) (alike-one many 34 _ _ (judged-alike Path (root .0) r fits fits′))
 
   pub step-more : (more : Bool) (root : EntryNo) → Contained (unstruck (st .struck) (st .members)) (unstruck marks members) → RoomFor n s st′ Rup (root .0)
       → GoesOn (recordStep n s st more (ProofLine Rup root)) → GoesOn (recordStep n s st′ more (ProofLine Rup root))

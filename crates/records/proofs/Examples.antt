@@ -5,7 +5,7 @@ use mathlib.Core.List.{List, [], _∷_}
 use Prim.Native.Nat.{ℕ}
 use Rattle.records.specs.declared.EntryNo.{EntryNo}
 use Rattle.records.specs.declared.Record.the-variants.{NodeEntry, Witness, ProofLine, Strike, SetEntry, End, CutShort, NoRecord}
-use Rattle.records.specs.declared.Rule.the-variants.{Rup, Pr}
+use Rattle.records.specs.declared.Rule.the-variants.{Rup, Pr, Path}
 use Rattle.records.specs.declared.SetKind.the-variants.{Parity, AtLeast}
 use Rattle.records.specs.Records.{recordAt, numberOf}
 
@@ -66,6 +66,15 @@ E-witness = refl
 low-byte-first : recordAt (0x52 ∷ 0x01 ∷ 0x10 ∷ []) 0 ≡ ProofLine Rup (entry 4097)
 unfolding recordAt
 low-byte-first = refl
+
+-- "Kind `51`, with a root entry of two bytes" (02, 12/14)
+path-line : recordAt (0x51 ∷ 0x02 ∷ 0x00 ∷ []) 0 ≡ ProofLine Path (entry 2)
+unfolding recordAt
+path-line = refl
+
+path-cut : recordAt (0x51 ∷ 0x02 ∷ []) 0 ≡ CutShort
+unfolding recordAt
+path-cut = refl
 
 -- "kind `44` with two bytes strikes out the member of that number" (02, 3/14)
 striking : recordAt (0x44 ∷ 0x05 ∷ 0x01 ∷ []) 0 ≡ Strike (record { 0 = 261 })

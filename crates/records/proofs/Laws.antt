@@ -9,7 +9,7 @@ use lib.ListN.{length, getD, drop, length-drop}
 use lib.Dec.{eqb, ltb}
 use borrow.Author.Tests.{ltb-true, ltb-false}
 use Rattle.records.specs.declared.Rule.{Rule}
-use Rattle.records.specs.declared.Rule.the-variants.{Rup, Pr}
+use Rattle.records.specs.declared.Rule.the-variants.{Rup, Pr, Path}
 use Rattle.records.specs.declared.SetKind.{SetKind}
 use Rattle.records.specs.declared.SetKind.the-variants.{Parity, AtLeast}
 use Rattle.records.specs.declared.Record.{Record}
@@ -51,10 +51,11 @@ module _ (P : Record → Type 0) where
       (either (eqb kind 0x46) (of-whole 1 body _ (e .cut) (e .witness false))
       (either (eqb kind 0x52) (of-whole 2 body _ (e .cut) (e .line Rup))
       (either (eqb kind 0x50) (of-whole 2 body _ (e .cut) (e .line Pr))
+      (either (eqb kind 0x51) (of-whole 2 body _ (e .cut) (e .line Path))
       (either (eqb kind 0x44) (of-whole 2 body _ (e .cut) (e .strike))
       (either (eqb kind 0x58) (of-whole 9 body _ (e .cut) (e .set Parity))
       (either (eqb kind 0x4B) (of-whole 9 body _ (e .cut) (e .set AtLeast))
-      (either (eqb kind 0x45) (e .end) (e .unknown)))))))))
+      (either (eqb kind 0x45) (e .end) (e .unknown))))))))))
 
   record-every : (proof : List ℕ) (at : ℕ) → P NoRecord → (at < length proof → Every P (drop (at + 1) proof)) → P (recordAt proof at)
   record-every proof at none here = go (ltb at (length proof)) (ltb-true at (length proof)) (ltb-false at (length proof))

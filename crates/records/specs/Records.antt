@@ -8,7 +8,7 @@ use lib.Dec.{eqb, ltb}
 use Rattle.records.specs.declared.EntryNo.{EntryNo}
 use Rattle.records.specs.declared.MemberNo.{MemberNo}
 use Rattle.records.specs.declared.Rule.{Rule}
-use Rattle.records.specs.declared.Rule.the-variants.{Rup, Pr}
+use Rattle.records.specs.declared.Rule.the-variants.{Rup, Pr, Path}
 use Rattle.records.specs.declared.SetKind.{SetKind}
 use Rattle.records.specs.declared.SetKind.the-variants.{Parity, AtLeast}
 use Rattle.records.specs.declared.Record.{Record}
@@ -46,7 +46,7 @@ unfoldable pub witnessIn : Bool → List ℕ → Record
 unfolding whole lowByteFirst
 witnessIn value body = whole 1 body (Witness (field 0 1 body) value)
 
--- "`52` RUP line: root entry (2). `50` PR line: root entry (2)."
+-- "`52` RUP line: root entry (2). `50` PR line: root entry (2)."; "Kind `51`, with a root entry of two bytes" (02, 12/14)
 unfoldable pub lineIn : Rule → List ℕ → Record
 unfolding whole lowByteFirst
 lineIn rule body = whole 2 body (ProofLine rule (entryIn body 0))
@@ -71,10 +71,11 @@ recordOf kind body =
     (cond (eqb kind 0x46) (witnessIn false body)
     (cond (eqb kind 0x52) (lineIn Rup body)
     (cond (eqb kind 0x50) (lineIn Pr body)
+    (cond (eqb kind 0x51) (lineIn Path body)
     (cond (eqb kind 0x44) (strikeIn body)
     (cond (eqb kind 0x58) (setIn Parity body)
     (cond (eqb kind 0x4B) (setIn AtLeast body)
-    (cond (eqb kind 0x45) End UnknownKind))))))))
+    (cond (eqb kind 0x45) End UnknownKind)))))))))
 
 -- The record at the front of the bytes; "10 with no record begun", where there are none.
 unfoldable pub recordIn : List ℕ → Record

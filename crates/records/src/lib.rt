@@ -20,6 +20,7 @@ pub struct NodeBody {
 pub enum Rule {
     Rup,
     Pr,
+    Path,
 }
 
 // What a set's entry wants of the set's true variables.
@@ -170,6 +171,7 @@ pub fn record_at(proof: &[u8], at: usize) -> Record
         0x46 => witness_in(body, false),
         0x52 => line_in(body, Rule::Rup),
         0x50 => line_in(body, Rule::Pr),
+        0x51 => line_in(body, Rule::Path),
         0x44 => strike_in(body),
         0x58 => set_in(body, SetKind::Parity),
         0x4B => set_in(body, SetKind::AtLeast),

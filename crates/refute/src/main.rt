@@ -7,6 +7,7 @@ fn main() {
     let mut proof = [0u8; 65537];
     let mode = Mode {
         form: Form::Records,
+        consequence: false,
     };
     program::run(mode, &mut formula, &mut proof);
 }

@@ -5,6 +5,9 @@ use commands::Mode;
 fn main() {
     let mut formula = [0u8; 65537];
     let mut proof = [0u8; 65537];
-    let mode = Mode { form: Form::Text };
+    let mode = Mode {
+        form: Form::Text,
+        consequence: false,
+    };
     program::run(mode, &mut formula, &mut proof);
 }

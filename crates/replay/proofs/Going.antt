@@ -1,7 +1,9 @@
 -- The commands read one by one: what the whole proof comes to is what is left to be said from the state reached and the place of the next
 -- command. The idea: a command that is taken has a byte, so that there are always steps enough. Assumes nothing.
+use Rattle.commands.specs.declared.Command as code
+use Rattle.profile.specs.Admitted.{admitted}
 use mathlib.Core.Path.{_≡_, refl, sym, ap, ap₂, _∙_, subst}
-use mathlib.Core.Bool.{true}
+use mathlib.Core.Bool.{true, Bool}
 use mathlib.Core.List.{List}
 use Prim.Native.Nat.{ℕ, zero, suc, _+_, _-_, _≤_, _<_}
 use native.Mathlib.Omega.{arith}
@@ -10,15 +12,13 @@ use Rattle.table.specs.Indexed.{Table, nodesOf, Good}
 use Rattle.walks.specs.Readable.{Roomy}
 use Rattle.conflict.specs.Marks.{unmarked}
 use Rattle.commands.specs.declared.Mode.{Mode}
-use Rattle.commands.specs.declared.Form.{Form}
-use Rattle.commands.specs.declared.Form.the-variants.{Records, Text}
 use Rattle.commands.specs.Commands.{Command, recorded, added, struckOut, wrong, finished, start, commandAt}
 use Rattle.commands.specs.declared.Read as code-read
 use Rattle.commands.specs.Inner.{commandOf, readOf}
 use Rattle.verdict.specs.Steps as steps
 use Rattle.verdict.specs.Check as check
 use Rattle.verdict.specs.Run.{commandIn, nextIn}
-use Rattle.verdict.proofs.Commands.{step-taken, Fit, command-fit, start-within, command-goes}
+use Rattle.verdict.proofs.Commands.{step-taken, Known, fit-known, command-fit, start-within, command-goes}
 use Rattle.entries.specs.declared.State.{State}
 use Rattle.entries.specs.declared.Step.{Step}
 use Rattle.entries.specs.declared.Step.the-variants.{Next, Stop, Spent}
@@ -28,17 +28,12 @@ use Rattle.tries.proofs.Commands.{pivot-fits}
 use Rattle.replay.specs.Ends.{Ends}
 use Rattle.replay.proofs.Near.{stop-near}
 
-fit-fits : (form : Form) (n : ℕ) (c : Command) → Fit form n c → CommandFits n c
-fit-fits Records n (recorded r more) fit = tt
-fit-fits Records n (added ls) fit = absurd fit
-fit-fits Records n (struckOut ls) fit = absurd fit
-fit-fits Records n (wrong number offset) fit = tt
-fit-fits Records n finished fit = tt
-fit-fits Text n (recorded r more) fit = tt
-fit-fits Text n (added ls) fit = fit
-fit-fits Text n (struckOut ls) fit = fit
-fit-fits Text n (wrong number offset) fit = tt
-fit-fits Text n finished fit = tt
+known-fits : (n : ℕ) (c : Command) → Known n c → CommandFits n c
+known-fits n (recorded r more) known = tt
+known-fits n (added ls) known = known
+known-fits n (struckOut ls) known = known
+known-fits n (wrong number offset) known = tt
+known-fits n finished known = tt
 
 -- ---- one step of the definition
 
@@ -50,7 +45,7 @@ pub record Remains (mode : Mode) (n s : ℕ) (proof : List ℕ) (whole : check.V
 
 module _ (mode : Mode) (n s : ℕ) (proof : List ℕ) (whole : check.Verdict) (st : steps.State) (at : ℕ) where
   abbrev said : steps.Step
-  said = check.step n s st (commandIn mode proof n at)
+  said = check.step (mode .consequence) n s st (commandIn mode proof n at)
 
   stops-with : (k : ℕ) → length proof - at < k → (number offset : ℕ) → said ≡ steps.stop number offset → whole ≡ check.commands k mode n s proof st at
       → whole ≡ check.left number (at + offset) (st .peak) st
@@ -69,7 +64,7 @@ module _ (mode : Mode) (n s : ℕ) (proof : List ℕ) (whole : check.Verdict) (s
   unfolding check.commands
   goes-with zero enough st′ e left within = absurd (omega arith)
   goes-with (suc k) enough st′ e left within =
-      let (on, inside) = command-goes (mode .form) proof n s st st′ at within (step-taken n s st (commandIn mode proof n at) st′ e) in
+      let (on, inside) = command-goes (mode .consequence) (mode .form) proof n s st st′ at within (step-taken (mode .consequence) n s st (commandIn mode proof n at) st′ e) in
       record { steps = k; enough = omega (arith, on, inside); left = left ∙ rw e }
 
   module _ (R : Remains mode n s proof whole st at) where
@@ -108,28 +103,32 @@ module _ (mode : Mode) (n s : ℕ) (proof : List ℕ) (whole : check.Verdict) wh
 
     -- the command is read: a clause's literals are the header's
     fits : CommandFits n (commandIn mode proof n at)
-    fits = fit-fits (mode .form) n (commandIn mode proof n at) (command-fit (mode .form) proof n at (G .within))
+    fits =
+        known-fits n (commandIn mode proof n at) (fit-known (mode .form) n (commandIn mode proof n at) (command-fit (mode .form) proof n at (G .within)))
 
-    module _ (r : code-read.Read) (is : r ≡ readOf (commandAt (mode .form) proof n at)) where
-      pub going-asks : Held n l st × (marks ≡ unmarked (length (l .vars))) × Roomy (l .vars) memo × PivotOfFits (r .command)
+    module _ (r : code-read.Read) (is : r ≡ readOf (commandAt (mode .form) proof n at)) (command : code.Command) (let-in : command ≡ admitted (mode .consequence) (r .command)) where
+      command-is : admitted (mode .consequence) (commandOf (commandIn mode proof n at)) ≡ command
+      command-is = sym (let-in ∙ ap (λ (x : code-read.Read). admitted (mode .consequence) (x .command)) is)
+
+      pub going-asks : Held n l st × (marks ≡ unmarked (length (l .vars))) × Roomy (l .vars) memo × PivotOfFits command
       going-asks = (
         G .held,
         G .none-marked ∙ ap unmarked (sym (G .same-size)),
         G .room,
-        subst PivotOfFits (sym (ap (λ (x : code-read.Read). x .command) is)) (pivot-fits n (G .held .entries .narrow) (commandIn mode proof n at) fits),
+        subst PivotOfFits command-is (pivot-fits (mode .consequence) n (G .held .entries .narrow) (commandIn mode proof n at) fits),
       )
 
       -- what the code's step says of its command it says of the definition's
       pub going-reads : (l′ : Lent) (x : Step)
-          → ((c : Command) → commandOf c ≡ r .command → CommandFits n c → Stepped n l l′ st (check.step n (length (l .vars)) (stateOf l st) c) x)
-          → Stepped n l l′ st (check.step n (length (l .vars)) (stateOf l st) (commandIn mode proof n at)) x
-      going-reads l′ x W = W (commandIn mode proof n at) (sym (ap (λ (x : code-read.Read). x .command) is)) fits
+          → ((profile : Bool) (c : Command) → admitted profile (commandOf c) ≡ command → CommandFits n c → Stepped n l l′ st (check.step profile n (length (l .vars)) (stateOf l st) c) x)
+          → Stepped n l l′ st (check.step (mode .consequence) n (length (l .vars)) (stateOf l st) (commandIn mode proof n at)) x
+      going-reads l′ x W = W (mode .consequence) (commandIn mode proof n at) command-is fits
 
     -- the command comes to x and leaves l′
-    module _ (l′ : Lent) (x : Step) (X : Stepped n l l′ st (check.step n (length (l .vars)) (stateOf l st) (commandIn mode proof n at)) x) where
-      says : (y : Step) → x ≡ y → check.step n s (stateOf l st) (commandIn mode proof n at) ≡ stepOf l′ y
+    module _ (l′ : Lent) (x : Step) (X : Stepped n l l′ st (check.step (mode .consequence) n (length (l .vars)) (stateOf l st) (commandIn mode proof n at)) x) where
+      says : (y : Step) → x ≡ y → check.step (mode .consequence) n s (stateOf l st) (commandIn mode proof n at) ≡ stepOf l′ y
       says y e =
-          sym (ap (λ (size : ℕ). check.step n size (stateOf l st) (commandIn mode proof n at)) (G .same-size)) ∙ sym (X .says) ∙ ap (stepOf l′) e
+          sym (ap (λ (size : ℕ). check.step (mode .consequence) n size (stateOf l st) (commandIn mode proof n at)) (G .same-size)) ∙ sym (X .says) ∙ ap (stepOf l′) e
 
       leaves : (y : Step) → x ≡ y → HeldAfter n l l′ st y
       leaves y e = subst (HeldAfter n l l′ st) e (X .leaves)
@@ -170,7 +169,7 @@ module _ (mode : Mode) (n s : ℕ) (proof : List ℕ) (whole : check.Verdict) wh
 
       module _ (number offset : ℕ) (e : x ≡ Stop number offset) where
         pub going-near : at + offset ≤ length proof
-        going-near = stop-near (mode .form) n s (stateOf l st) proof at (G .within) number offset (says (Stop number offset) e)
+        going-near = stop-near (mode .consequence) (mode .form) n s (stateOf l st) proof at (G .within) number offset (says (Stop number offset) e)
 
         pub going-stop : (whole ≡ check.left number (at + offset) (st .peak) (stateOf l′ st)) × Ends l′ st
         going-stop =
@@ -189,8 +188,8 @@ module _ (mode : Mode) (n s : ℕ) (proof : List ℕ) (whole : check.Verdict) wh
       module _ (st′ : State) (e : x ≡ Next st′) where
         pub next-in : (at < nextIn mode proof n at) × (nextIn mode proof n at ≤ length proof)
         next-in =
-            command-goes (mode .form) proof n s (stateOf l st) (stateOf l′ st′) at (G .within)
-            (step-taken n s (stateOf l st) (commandIn mode proof n at) (stateOf l′ st′) (says (Next st′) e))
+            command-goes (mode .consequence) (mode .form) proof n s (stateOf l st) (stateOf l′ st′) at (G .within)
+            (step-taken (mode .consequence) n s (stateOf l st) (commandIn mode proof n at) (stateOf l′ st′) (says (Next st′) e))
 
         pub going-next : (marks′ memo′ : List ℕ) (at′ : ℕ) → at′ ≡ nextIn mode proof n at → length (l′ .vars) ≡ length (l .vars) → marks′ ≡ unmarked (length (l .vars)) → length memo′ ≡ length memo
             → Going l′ marks′ memo′ st′ at′

@@ -51,11 +51,13 @@ pub fn read_commands(
         Ends returned (r .state)) ⌝ }
 {
     let form = mode.form;
+    let consequence = mode.consequence;
     let mut state = first;
     let mut at: usize = commands::start_of(proof, form);
     while at <= proof.len() {
         let read = commands::command_at(proof, at, variables, form);
         let command = read.command;
+        let let_in = profile::admitted(command, consequence);
         match tries::command_step(
             vars,
             lows,
@@ -69,7 +71,7 @@ pub fn read_commands(
             struck,
             state,
             variables,
-            command,
+            let_in,
         ) {
             Step::Stop { number, offset } => {
                 return Ended {

@@ -3,14 +3,15 @@
 use mathlib.Core.Path.{_≡_, refl, sym, ap, ap₂, _∙_, subst}
 use mathlib.Core.Bool.{Bool, true, false, not, _||_, cond}
 use mathlib.Core.List.{List, [], _∷_, _++_}
-use Prim.Native.Nat.{ℕ, suc, _+_, _≤_, _<_, max}
+use Prim.Native.Nat.{ℕ, suc, _+_, _-_, _≤_, _<_, max}
 use native.Mathlib.Omega.{arith}
 use lib.ListN.{length, getD, take, set, length-set}
 use lib.Dec.{eqb, leb}
 use lib.Seq.{getD-set-other, set-getD}
 use Rattle.meaning.specs.Rules.{Line, witnessed}
 use Rattle.meaning.specs.Words.{inWord}
-use Rattle.table.specs.Nodes.{Node}
+use Rattle.paths.specs.Paths.{pathCount}
+use Rattle.table.specs.Nodes.{Node, diagramAt}
 use Rattle.table.specs.Indexed.{Table, size, nodesOf, Good}
 use Rattle.walks.specs.Readable.{Roomy, nodesIn}
 use Rattle.walks.specs.Constant.{oneAt}
@@ -18,7 +19,7 @@ use Rattle.table.specs.Making.{reach, lineReach}
 use Rattle.table.proofs.Written.{length-nodes}
 use Rattle.table.proofs.Outcomes.{droppedTo, undone}
 use Rattle.records.specs.declared.Rule.{Rule}
-use Rattle.records.specs.declared.Rule.the-variants.{Rup, Pr}
+use Rattle.records.specs.declared.Rule.the-variants.{Rup, Pr, Path}
 use Rattle.verdict.specs.Steps as check
 use Rattle.verdict.specs.Steps.{next, spent, isEntry, entryNode, unstruck, waiting, judged, diagramIn, lineStep}
 use Rattle.table.specs.Lists.{Inside}
@@ -33,11 +34,13 @@ use Rattle.steps.specs.Tried.{Tried, acceptedBy, saidBy, stepBy, members
 use Rattle.steps.specs.NextStates.{withLine}
 use Rattle.entries.specs.States.{Lent, tableIn, stateOf, Held, Stepped}
 use Rattle.verdict.specs.Taken.{lineOf}
-use Rattle.steps.specs.Tests.{lineRefusal}
+use Rattle.steps.specs.Tests.{lineRefusal, FewPaths}
 use Rattle.entries.proofs.Stops.{unless, unless-refused, unless-none, stopped}
-use Rattle.steps.proofs.Stops.{line-is, LineFits, line-fits}
+use Rattle.steps.proofs.Stops.{line-is, LineFits, line-fits, line-paths}
 use Rattle.entries.proofs.Entries.{node-is-at, entry-in}
 use Rattle.steps.proofs.Strikings.{unstruck-inside}
+use Rattle.steps.proofs.PathWidths.{path-at}
+use borrow.Author.Tests.{lt-ltb, le-ltb}
 use Rattle.entries.proofs.Entering.{lentWith, inside-more, one-more}
 
 -- ---- a PR line's witness
@@ -51,6 +54,15 @@ shut-is l st e child is r b ensures told =
     ap (λ (k : ℕ). witnessed 64 (inWord (st .witness .positive)) (inWord (st .witness .negative)) (diagramIn (stateOf l st) k)) (node-is-at l st e ∙ sym is)
     ∙ sym (witnessed-walk (nodesIn (l .vars) (l .lows) (l .highs) (st .count)) (st .witness .positive) (st .witness .negative) child) ∙ sym ensures ∙ told
 
+-- ---- a path line's paths
+
+-- what the code's count of the root's paths says
+pub paths-told : (l : Lent) (st : State) (e child : ℕ) → child ≡ getD (0 ∷ 1 ∷ take (st .entries) (l .scratch)) e 0
+    → (left : ℕ) → left ≡ 4097 - pathCount (diagramAt (nodesIn (l .vars) (l .lows) (l .highs) (st .count)) child)
+    → left ≡ 4097 - pathCount (diagramIn (stateOf l st) (entryNode (stateOf l st) e))
+unfolding nodesOf
+paths-told l st e child is left told = told ∙ ap (λ (k : ℕ). 4097 - pathCount (diagramIn (stateOf l st) k)) (sym (node-is-at l st e ∙ sym is))
+
 -- ---- the tests of a line
 
 module _ (n : ℕ) (st : check.State) (root : ℕ) where
@@ -58,6 +70,7 @@ module _ (n : ℕ) (st : check.State) (root : ℕ) where
   unfolding lineRefusal
   line-13 Rup e = rw e
   line-13 Pr e = rw e
+  line-13 Path e = rw e
 
   module _ (entry : isEntry st root ≡ true) where
     pub rup-16 : waiting st ≡ true → 16 ≡ lineRefusal n st Rup root
@@ -76,6 +89,30 @@ module _ (n : ℕ) (st : check.State) (root : ℕ) where
       pub rup-0 : leb 1024 (st .lines) ≡ false → eqb (entryNode st root) 1 ≡ false → 0 ≡ lineRefusal n st Rup root
       unfolding lineRefusal
       rup-0 few e = rw (entry, none, few, e)
+
+    -- the tests of a path line
+    module _ (none : waiting st ≡ false) where
+      pub path-22 : leb 1024 (st .lines) ≡ true → 22 ≡ lineRefusal n st Path root
+      unfolding lineRefusal
+      path-22 e = rw (entry, none, e)
+
+      module _ (few : leb 1024 (st .lines) ≡ false) where
+        pub path-17 : eqb (entryNode st root) 1 ≡ true → 17 ≡ lineRefusal n st Path root
+        unfolding lineRefusal
+        path-17 e = rw (entry, none, few, e)
+
+        module _ (one : eqb (entryNode st root) 1 ≡ false) where
+          pub path-34 : 4096 < pathCount (diagramIn st (entryNode st root)) → 34 ≡ lineRefusal n st Path root
+          unfolding lineRefusal
+          path-34 e = rw (entry, none, few, one, lt-ltb 4096 (pathCount (diagramIn st (entryNode st root))) e)
+
+          pub path-0 : pathCount (diagramIn st (entryNode st root)) ≤ 4096 → 0 ≡ lineRefusal n st Path root
+          unfolding lineRefusal
+          path-0 e = rw (entry, none, few, one, le-ltb 4096 (pathCount (diagramIn st (entryNode st root))) e)
+
+    pub path-16 : waiting st ≡ true → 16 ≡ lineRefusal n st Path root
+    unfolding lineRefusal
+    path-16 w = rw (entry, w)
 
     pub pr-22 : leb 1024 (st .lines) ≡ true → 22 ≡ lineRefusal n st Pr root
     unfolding lineRefusal
@@ -117,7 +154,7 @@ pub says-most : (t : Table) (line : Line) (a b : ℕ) (r : Judged) (t′ : Table
 says-most t line a b r t′ le J = record { extended = J .extended; reaches = J .reaches; shown = J .shown; rounds = J .rounds; most = omega (arith, J .most) }
 
 -- What judging says, once its nodes are dropped.
-pub tried : (t : Table) → Good t → (line : Line) (r : Judged) (t₁ t₂ : Table) → LineSays t line 131072 r t₁ → t₂ ≡ droppedTo (t .count) t₁ → (t₂ ≡ t) × Tried t line r
+pub tried : (t : Table) → Good t → (line : Line) (r : Judged) (t₁ t₂ : Table) → LineSays t line 262144 r t₁ → t₂ ≡ droppedTo (t .count) t₁ → (t₂ ≡ t) × Tried t line r
 tried t G line r t₁ t₂ J e = (
   e ∙ undone t G t₁ (extended-longer t t₁ G (J .extended)),
   record { reaches = J .reaches; shown = J .shown; rounds = J .rounds; most = J .most },
@@ -188,6 +225,10 @@ module _ (n : ℕ) (L : Lent) (st : State) (H : Held n L st) (rule : Rule) (root
   unfolding lineRefusal
   rup-refusal = refl
 
+  path-refusal : lineRefusal 64 S Path root ≡ lineRefusal n S Path root
+  unfolding lineRefusal
+  path-refusal = refl
+
   refusal-width : lineRefusal 64 S rule root ≡ lineRefusal n S rule root
   refusal-width = go rule (isEntry S root) refl
     where
@@ -195,6 +236,7 @@ module _ (n : ℕ) (L : Lent) (st : State) (H : Held n L st) (rule : Rule) (root
       go Rup b e = rup-refusal
       go Pr true e = pr-refusal e
       go Pr false e = sym (line-13 64 S root Pr e) ∙ line-13 n S root Pr e
+      go Path b e = path-refusal
 
   line-width : (k : ℕ) → k < st .count → (k ≡ 1 → ⊥) → lineOf 64 S rule k ≡ lineOf n S rule k
   line-width k p ne = go rule
@@ -203,6 +245,7 @@ module _ (n : ℕ) (L : Lent) (st : State) (H : Held n L st) (rule : Rule) (root
       go Rup = rup-at n (H .entries .narrow) T (H .entries .good) (H .entries .uses) live live-inside k p ne
       go Pr =
           pr-at n (H .entries .narrow) T (H .entries .good) (H .entries .uses) live live-inside k p ne (inWord (st .witness .positive)) (inWord (st .witness .negative))
+      go Path = path-at n (H .entries .narrow) T (H .entries .good) (H .entries .uses) live live-inside k
 
   pub line-refused : (number : ℕ) → number ≡ lineRefusal 64 S rule root → (number ≡ 0 → ⊥) → Stepped n L L st said (Stop number 0)
   line-refused number e ne =
@@ -228,6 +271,9 @@ module _ (n : ℕ) (L : Lent) (st : State) (H : Held n L st) (rule : Rule) (root
     pub line-ready : (memo : List ℕ) → Roomy (T .vars) memo → Negatable T (take (st .members) (L .members)) memo k
     line-ready memo room = record { ready = record { good = H .entries .good; inside = members-inside; room = room }; inside = k-in; not-one = not-one }
 
+    pub few-paths : FewPaths rule (diagramAt (nodesOf T) k)
+    few-paths = subst (λ (x : ℕ). FewPaths rule (diagramAt (nodesOf T) x)) (sym is) (line-paths 64 S rule root none)
+
     pub few-members : st .members < 2048
     few-members = omega (arith, H .many, fits .few)
 
@@ -236,7 +282,7 @@ module _ (n : ℕ) (L : Lent) (st : State) (H : Held n L st) (rule : Rule) (root
 
 -- ---- a judged line is refused, or its root is the next member
 
-module _ (n : ℕ) (L : Lent) (st : State) (H : Held n L st) (few : st .lines < 1024) (k : ℕ) (k-in : k < st .count) (rounds : ℕ) (most : rounds ≤ 131072) (peak : ℕ)
+module _ (n : ℕ) (L : Lent) (st : State) (H : Held n L st) (few : st .lines < 1024) (k : ℕ) (k-in : k < st .count) (rounds : ℕ) (most : rounds ≤ 262144) (peak : ℕ)
     (cs : List ℕ) (room : 4096 ≤ length cs) where
   abbrev st′ : State
   st′ = withLine st rounds peak k
@@ -297,7 +343,7 @@ module _ (n : ℕ) (L : Lent) (st : State) (H : Held n L st) (few : st .lines < 
     rounds = omega (arith, H .rounds, most);
   }
 
-module _ (n : ℕ) (L : Lent) (st : State) (H : Held n L st) (few : st .lines < 1024) (k : ℕ) (k-in : k < st .count) (j : Judged) (most : j .rounds ≤ 131072)
+module _ (n : ℕ) (L : Lent) (st : State) (H : Held n L st) (few : st .lines < 1024) (k : ℕ) (k-in : k < st .count) (j : Judged) (most : j .rounds ≤ 262144)
     (T₂ : Table) (back : T₂ ≡ tableIn L (st .count)) (cs : List ℕ) (room : 4096 ≤ length cs) where
   -- THEOREM: where judging leaves the table as it was, what the line comes to is the definition's.
   pub line-ended : Stepped n L (lentWith T₂ (membersBy (L .members) st j k) cs (L .struck)) st (saidBy (stateOf L st) k j) (stepBy st j k)

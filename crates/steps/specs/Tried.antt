@@ -20,7 +20,7 @@ pub record Tried (t : Table) (line : Line) (r : Judged) : Type 0 where
   pub reaches : lineReach (size t) (nodesOf t) line ≡ reach (not (r .full)) (r .peak)
   pub shown : r .full ≡ false → r .shown ≡ line .shown
   pub rounds : r .full ≡ false → r .rounds ≡ line .rounds
-  pub most : r .rounds ≤ 131072
+  pub most : r .rounds ≤ 262144
 
 -- ---- what it comes to, node g being the line's root
 

@@ -1,4 +1,4 @@
-// Proof lines, by RUP and by PR.
+// Proof lines: by RUP, by PR, and over paths.
 use entries::State;
 use entries::Step;
 use judge::Judged;
@@ -22,10 +22,11 @@ ghost use Rattle.conflict.specs.Marks.{unmarked};
 ghost use Rattle.judge.specs.Lines.{Negatable, LineSays};
 ghost use Rattle.entries.specs.States.{lentOf, stateOf, Held, Stepped};
 ghost use Rattle.steps.specs.NextStates.{withLine};
-ghost use Rattle.steps.specs.Tests.{LineTested};
+ghost use Rattle.steps.specs.Tests.{LineTested, FewPaths};
 ghost use Rattle.steps.specs.Tried.{Tried, stepBy, membersBy};
 
-// What the tests of a line come to: 13, 16, 22 or 17 of a RUP line, 13, 22, 17 or 18 of a PR line, or its root's node, to be judged.
+// What the tests of a line come to: 13, 16, 22 or 17 of a RUP line, 13, 22, 17 or 18 of a PR line, a RUP line's or 34 of a path line; or
+// its root's node, to be judged.
 pub enum LineTest {
     Refused(u8),
     Fits(NodeNo),
@@ -81,6 +82,21 @@ fn line_test(
             }
             LineTest::Fits(g)
         }
+        Rule::Path => {
+            if crate::witness::waits(st.witness) {
+                return LineTest::Refused(16);
+            }
+            if 1024 <= st.lines {
+                return LineTest::Refused(22);
+            }
+            if g.0 == 1 {
+                return LineTest::Refused(17);
+            }
+            if paths::paths_left(vars, lows, highs, st.count, g, 4097) == 0 {
+                return LineTest::Refused(34);
+            }
+            LineTest::Fits(g)
+        }
     }
 }
 
@@ -104,14 +120,15 @@ fn judge_line(
         Negatable before (now live) (now memo) (g .0)
         × (now marks ≡ unmarked (length (now vars)))
         × (length (now live) ≤ 2048)
-        × (4096 ≤ length (now scratch))) ⌝ }
+        × (4096 ≤ length (now scratch))
+        × FewPaths rule (diagramAt (nodesOf before) (g .0))) ⌝ }
     ensures { λ r. ⌜ (
         let before = tableOf (now (vars .entry)) (now (lows .entry)) (now (highs .entry)) (now (heads .entry)) (now (links .entry))
         (st .count) in
         let after = tableOf (now (vars .exit)) (now (lows .exit)) (now (highs .exit)) (now (heads .exit)) (now (links .exit)) (r .count) in
         let diagrams = diagramsOf (nodesOf before) (now (live .entry)) in
         let line = lineBy 64 rule (st .witness .positive) (st .witness .negative) diagrams (diagramAt (nodesOf before) (g .0)) in
-        LineSays before line 131072 r after) ⌝ }
+        LineSays before line 262144 r after) ⌝ }
     ensures { λ _. ⌜ now (marks .exit) ≡ unmarked (length (now (vars .entry))) ⌝ }
 {
     let m = live.len();
@@ -156,6 +173,21 @@ fn judge_line(
                 st.witness,
             )
         }
+        Rule::Path => path_line::path(
+            vars,
+            lows,
+            highs,
+            heads,
+            links,
+            memo,
+            marks,
+            live,
+            &mut memberwords[..m],
+            &mut scratch[..m],
+            &mut words[..m],
+            st.count,
+            g,
+        ),
     }
 }
 
@@ -182,14 +214,15 @@ fn judge_live(
         × (st .members ≤ 2048)
         × (2048 ≤ length (now members))
         × (4096 ≤ length (now scratch))
-        × (length (now struck) ≡ length (now members))) ⌝ }
+        × (length (now struck) ≡ length (now members))
+        × FewPaths rule (diagramAt (nodesOf before) (g .0))) ⌝ }
     ensures { λ r. ⌜ (
         let before = tableOf (now (vars .entry)) (now (lows .entry)) (now (highs .entry)) (now (heads .entry)) (now (links .entry))
         (st .count) in
         let lent = lentOf (now (vars .entry)) (now (lows .entry)) (now (highs .entry)) (now (heads .entry)) (now (links .entry))
         (now (members .entry)) (now (scratch .entry)) (now (struck .entry)) in
         let after = tableOf (now (vars .exit)) (now (lows .exit)) (now (highs .exit)) (now (heads .exit)) (now (links .exit)) (r .count) in
-        LineSays before (lineOf 64 (stateOf lent st) rule (g .0)) 131072 r after) ⌝ }
+        LineSays before (lineOf 64 (stateOf lent st) rule (g .0)) 262144 r after) ⌝ }
     ensures { λ _. ⌜ now (marks .exit) ≡ unmarked (length (now (vars .entry))) ⌝ }
 {
     let mut live = [0u16; 2048];
@@ -233,7 +266,8 @@ pub fn try_line(
         × (st .members ≤ 2048)
         × (2048 ≤ length (now members))
         × (4096 ≤ length (now scratch))
-        × (length (now struck) ≡ length (now members))) ⌝ }
+        × (length (now struck) ≡ length (now members))
+        × FewPaths rule (diagramAt (nodesOf before) (g .0))) ⌝ }
     ensures { λ r. ⌜ (
         let before = tableOf (now (vars .entry)) (now (lows .entry)) (now (highs .entry)) (now (heads .entry)) (now (links .entry))
         (st .count) in
@@ -274,7 +308,7 @@ fn refutes(before: bool, g: NodeNo) -> bool
 
 // The state after a line that is shown.
 fn with_line(st: State, rounds: u64, peak: usize, g: NodeNo) -> State
-    requires { ⌜ (st .members ≤ 2048) × (st .lines ≤ 1024) × (st .rounds + rounds ≤ 1025 * 131072) ⌝ }
+    requires { ⌜ (st .members ≤ 2048) × (st .lines ≤ 1024) × (st .rounds + rounds ≤ 1025 * 262144) ⌝ }
     ensures { λ r. ⌜ r ≡ withLine st rounds peak (g .0) ⌝ }
 {
     let refuted = refutes(st.refuted, g);
@@ -299,7 +333,7 @@ pub fn ended(members: &mut [u16], st: State, j: Judged, g: NodeNo) -> Step
     requires { ⌜ (st .members < 2048)
         × (2048 ≤ length (now members))
         × (st .lines ≤ 1024)
-        × (st .rounds + j .rounds ≤ 1025 * 131072) ⌝ }
+        × (st .rounds + j .rounds ≤ 1025 * 262144) ⌝ }
     ensures { λ r. ⌜ r ≡ stepBy st j (g .0) ⌝ }
     ensures { λ _. ⌜ now (members .exit) ≡ membersBy (now (members .entry)) st j (g .0) ⌝ }
 {

@@ -1,4 +1,5 @@
 -- The step of an added clause: its tests, what its tries come to, and what is held once the nodes that are not kept are dropped. Assumes nothing.
+use Rattle.profile.specs.Admitted.{triedAs}
 use mathlib.Core.Path.{_≡_, refl, sym, ap, ap₂, _∙_, subst}
 use mathlib.Core.Bool.{Bool, true, false, not, cond}
 use mathlib.Core.List.{List, [], _∷_}
@@ -24,13 +25,13 @@ use Rattle.clause.specs.Words.{clauseOfWords}
 use Rattle.clause.proofs.Diagrams.{both-signs, not-one}
 use Rattle.clause.proofs.Literals.{clause-of-words}
 use Rattle.clause.proofs.Values.{made}
-use Rattle.commands.specs.declared.TextClause.{TextClause}
+use Rattle.commands.specs.declared.DratClause.{DratClause}
 use Rattle.commands.specs.Inner.{clauseWords}
 use Rattle.judge.specs.declared.Judged.{Judged}
 use Rattle.judge.specs.Lines.{Negatable}
 use Rattle.verdict.specs.Steps as check
 use Rattle.verdict.specs.Steps.{withEntry, next, stop, spent}
-use Rattle.verdict.specs.Clausal.{tries, judgedOr, secondTry, onceMade, addStep}
+use Rattle.verdict.specs.Clausal.{tries, judgedOr, secondTry, afterFirst, onceMade, addStep}
 use Rattle.verdict.proofs.Uses.{place-uses, uses-written}
 use Rattle.entries.specs.declared.State.{State}
 use Rattle.entries.specs.declared.Step.{Step}
@@ -104,12 +105,13 @@ withEntries st entries = record {
   refuted = st .refuted;
 }
 
-tries-entries : (n s : ℕ) (st : check.State) (es : List ℕ) (k : ℕ) (ls : List Literal) → tries n s (withEntries st es) k ls ≡ tries n s st k ls
-unfolding tries judgedOr secondTry check.judged
-tries-entries n s st es k [] = refl
-tries-entries n s st es k (p ∷ ls) = refl
+tries-entries : (profile : Bool) (n s : ℕ) (st : check.State) (es : List ℕ) (k : ℕ) (ls : List Literal) → tries profile n s (withEntries st es) k ls ≡ tries profile n s st k ls
+unfolding tries judgedOr afterFirst secondTry check.judged
+tries-entries true n s st es k ls = refl
+tries-entries false n s st es k [] = refl
+tries-entries false n s st es k (p ∷ ls) = refl
 
-module _ (n : ℕ) (L : Lent) (st : State) (H : Held n L st) (ls : List Literal) (within : OfVariables n ls) where
+module _ (profile : Bool) (n : ℕ) (L : Lent) (st : State) (H : Held n L st) (ls : List Literal) (within : OfVariables n ls) where
   abbrev T₀ : Table
   T₀ = tableIn L (st .count)
 
@@ -120,7 +122,7 @@ module _ (n : ℕ) (L : Lent) (st : State) (H : Held n L st) (ls : List Literal)
   u = literalsOf ls
 
   abbrev said : check.Step
-  said = addStep n (size T₀) S ls
+  said = addStep profile n (size T₀) S ls
 
   words-is : clauseOfWords u ≡ clause n ls
   words-is = clause-of-words n (H .entries .narrow) ls within
@@ -158,7 +160,7 @@ module _ (n : ℕ) (L : Lent) (st : State) (H : Held n L st) (ls : List Literal)
         go true q = absurd (not-one u apart (words-is ∙ same-eq (clause n ls) (leaf true) q))
         go false q = refl
 
-    said-is : said ≡ onceMade S (place (size T₀) (nodesOf T₀) (clause n ls)) (λ st₁ k. tries n (size T₀) st₁ k ls)
+    said-is : said ≡ onceMade S (place (size T₀) (nodesOf T₀) (clause n ls)) (λ st₁ k. tries profile n (size T₀) st₁ k ls)
     unfolding addStep
     said-is = rw (lt-leb 1024 (st .lines) few, different)
 
@@ -215,20 +217,20 @@ module _ (n : ℕ) (L : Lent) (st : State) (H : Held n L st) (ls : List Literal)
       refuted = st .refuted;
     }
 
-    module _ (j : Judged) (B : BothTried T₁ (liveIn (L .members) (L .struck) st) (clauseWords ls) p j) where
+    module _ (j : Judged) (B : BothTried T₁ (liveIn (L .members) (L .struck) st) (triedAs profile (clauseWords ls)) p j) where
       -- what is said where the clause finds its places
-      placed-said : (t : List Node) (m : ℕ) → o ≡ written (size T₀) (placed t m) → tries n (size T₀) (withEntry S t m) m ls ≡ saidBy S₁ k j
+      placed-said : (t : List Node) (m : ℕ) → o ≡ written (size T₀) (placed t m) → tries profile n (size T₀) (withEntry S t m) m ls ≡ saidBy S₁ k j
       unfolding written
       placed-said t m q =
           let table : nodesOf T₁ ≡ t = ap (λ (x : Outcome). nodesOf (x .table)) q ∙ nodes-indexed (size T₀) t in
           let count : T₁ .count ≡ length t = ap (λ (x : Outcome). x .table .count) q ∙ count-indexed (size T₀) t in
           let number : k ≡ m = ap (λ (x : Outcome). x .node) q in
           let room : p .full ≡ false = ap (λ (x : Outcome). x .full) q in
-          sym (tries-entries n (size T₀) (withEntry S t m) (take (st .entries) (L .scratch)) m ls)
-          ∙ ap (λ (x : ℕ). tries n (size T₀) (stateWith t (max (st .peak) (length t))) x ls) (sym number)
-          ∙ ap₂ (λ (x : List Node) (c : ℕ). tries n (size T₀) (stateWith x (max (st .peak) c)) k ls) (sym table) (sym count)
-          ∙ ap (λ (s : ℕ). tries n s S₁ k ls) (sym (W .same-size))
-          ∙ tries-said n L₁ st₁ held k (W .inside) (node-not-one T₀ (H .entries .good) u T₁ p e apart) ls within (W .is room ∙ words-is) p refl room j B
+          sym (tries-entries profile n (size T₀) (withEntry S t m) (take (st .entries) (L .scratch)) m ls)
+          ∙ ap (λ (x : ℕ). tries profile n (size T₀) (stateWith t (max (st .peak) (length t))) x ls) (sym number)
+          ∙ ap₂ (λ (x : List Node) (c : ℕ). tries profile n (size T₀) (stateWith x (max (st .peak) c)) k ls) (sym table) (sym count)
+          ∙ ap (λ (s : ℕ). tries profile n s S₁ k ls) (sym (W .same-size))
+          ∙ tries-said n L₁ st₁ held k (W .inside) (node-not-one T₀ (H .entries .good) u T₁ p e apart) profile ls within (W .is room ∙ words-is) p refl room j B
 
       -- and where it finds none
       full-said : (t : List Node) → o ≡ written (size T₀) (full t) → spent 23 (max (st .peak) (length t)) ≡ saidBy S₁ k j
@@ -238,7 +240,7 @@ module _ (n : ℕ) (L : Lent) (st : State) (H : Held n L st) (ls : List Literal)
           no-other : p .full ≡ false → ⊥
           no-other f = t≢f (sym (ap (λ (x : Outcome). x .full) q) ∙ f)
 
-          go : {i : Judged} → BothTried T₁ (liveIn (L .members) (L .struck) st) (clauseWords ls) p i → spent 23 (max (st .peak) (length t)) ≡ saidBy S₁ k i
+          go : {i : Judged} → BothTried T₁ (liveIn (L .members) (L .struck) st) (triedAs profile (clauseWords ls)) p i → spent 23 (max (st .peak) (length t)) ≡ saidBy S₁ k i
           go (no-room f) = ap (spent 23) (greatest (st .peak) (length t) (T₁ .count) (ap (λ (x : Outcome). x .table .count) q ∙ count-indexed (size T₀) t))
             where
               greatest : (a b c : ℕ) → c ≡ b → max a b ≡ max (max a c) 0
@@ -249,13 +251,13 @@ module _ (n : ℕ) (L : Lent) (st : State) (H : Held n L st) (ls : List Literal)
       clause-said : said ≡ saidBy S₁ k j
       clause-said = said-is ∙ go (place (size T₀) (nodesOf T₀) (clause n ls)) (e ∙ ap (placeIn T₀) words-is)
         where
-          go : (q : Placing) → o ≡ written (size T₀) q → onceMade S q (λ st₁ k. tries n (size T₀) st₁ k ls) ≡ saidBy S₁ k j
+          go : (q : Placing) → o ≡ written (size T₀) q → onceMade S q (λ st₁ k. tries profile n (size T₀) st₁ k ls) ≡ saidBy S₁ k j
           go (full t) r = full-said t r
           go (placed t m) r = placed-said t m r
 
       -- ---- what is left
 
-      module _ (T₂ : Table) (dropped : T₂ ≡ droppedTo (keptBy j (st .count) (T₁ .count)) T₁) (cs : List ℕ) (room : 4096 ≤ length cs) (most : j .rounds ≤ 131072) where
+      module _ (T₂ : Table) (dropped : T₂ ≡ droppedTo (keptBy j (st .count) (T₁ .count)) T₁) (cs : List ℕ) (room : 4096 ≤ length cs) (most : j .rounds ≤ 262144) where
         abbrev peak : ℕ
         peak = max (max (st .peak) (T₁ .count)) (j .peak)
 
@@ -290,7 +292,7 @@ module _ (n : ℕ) (L : Lent) (st : State) (H : Held n L st) (ls : List Literal)
 -- ---- the code's answers
 
 -- What the code knows of a clause once it was tried.
-pub record Added (L : Lent) (st : State) (T₁ : Table) (p : Placed) (j : Judged) (c : TextClause) : Type 0 where
+pub record Added (L : Lent) (st : State) (T₁ : Table) (p : Placed) (j : Judged) (c : DratClause) : Type 0 where
   pub apart : shares 64 (c .literals .positive) (c .literals .negative) ≡ false
   pub made : outcomeAt T₁ p ≡ placeIn (tableIn L (st .count)) (clauseOfWords (c .literals))
   pub tried : BothTried T₁ (liveIn (L .members) (L .struck) st) c p j
@@ -327,15 +329,15 @@ keep-fits j a b keep e two le = rw e (go (j .full) (j .shown))
     go false false = (two, le)
     go false true = (omega arith, omega arith)
 
-module _ (n : ℕ) (L : Lent) (st : State) (H : Held n L st) (ls : List Literal) (within : OfVariables n ls) (c : TextClause) (is : clauseWords ls ≡ c) where
-  pub code-17 : st .lines < 1024 → shares 64 (c .literals .positive) (c .literals .negative) ≡ true → Stepped n L L st (addStep n (size (tableIn L (st .count))) (stateOf L st) ls) (Stop 17 0)
-  code-17 few e = clause-17 n L st H ls within few (subst (λ (x : TextClause). shares 64 (x .literals .positive) (x .literals .negative) ≡ true) (sym is) e)
+module _ (profile : Bool) (n : ℕ) (L : Lent) (st : State) (H : Held n L st) (ls : List Literal) (within : OfVariables n ls) (c : DratClause) (is : triedAs profile (clauseWords ls) ≡ c) where
+  pub code-17 : st .lines < 1024 → shares 64 (c .literals .positive) (c .literals .negative) ≡ true → Stepped n L L st (addStep profile n (size (tableIn L (st .count))) (stateOf L st) ls) (Stop 17 0)
+  code-17 few e = clause-17 profile n L st H ls within few (subst (λ (x : DratClause). shares 64 (x .literals .positive) (x .literals .negative) ≡ true) (sym is) e)
 
   pub code-stepped : st .lines < 1024 → (T₁ : Table) (p : Placed) (j : Judged) → Added L st T₁ p j c
       → (keep : ℕ) → keep ≡ keptBy j (st .count) (T₁ .count) → (T₂ T₃ : Table) → T₂ ≡ T₁ → T₃ ≡ droppedTo keep T₂ → (cs : List ℕ) → 4096 ≤ length cs
       → (st₂ : State) → st₂ ≡ withNodes st (T₁ .count) → {r : Step} {ms : List ℕ} → r ≡ stepBy st₂ j (p .node .0) → ms ≡ membersBy (L .members) st₂ j (p .node .0)
-      → Stepped n L (lentWith T₃ ms cs (L .struck)) st (addStep n (size (tableIn L (st .count))) (stateOf L st) ls) r
+      → Stepped n L (lentWith T₃ ms cs (L .struck)) st (addStep profile n (size (tableIn L (st .count))) (stateOf L st) ls) r
   code-stepped few T₁ p j A keep k T₂ T₃ back d cs room st₂ s x y =
-      let A₁ : Added L st T₁ p j (clauseWords ls) = subst (Added L st T₁ p j) (sym is) A in
-      clause-stepped n L st H ls within few (A₁ .apart) T₁ p (A₁ .made) j (A₁ .tried) T₃ (d ∙ ap₂ droppedTo k back) cs room
+      let A₁ : Added L st T₁ p j (triedAs profile (clauseWords ls)) = subst (Added L st T₁ p j) (sym is) A in
+      clause-stepped profile n L st H ls within few (A₁ .apart) T₁ p (A₁ .made) j (A₁ .tried) T₃ (d ∙ ap₂ droppedTo k back) cs room
       (both-most T₁ (liveIn (L .members) (L .struck) st) c p j (A .tried)) st₂ s x y

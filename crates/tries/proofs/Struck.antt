@@ -24,7 +24,7 @@ use Rattle.table.proofs.Written.{length-nodes, good-ordered}
 use Rattle.clause.specs.Words.{clauseOfWords, Stands}
 use Rattle.clause.proofs.Literals.{clause-of-words}
 use Rattle.clause.proofs.Finding.{stands-is, stands-not}
-use Rattle.commands.specs.declared.TextClause.{TextClause}
+use Rattle.commands.specs.declared.DratClause.{DratClause}
 use Rattle.commands.specs.Inner.{clauseWords}
 use Rattle.verdict.specs.Steps as check
 use Rattle.verdict.specs.Steps.{withMarks, next, stop, diagramIn, isLive}
@@ -123,9 +123,9 @@ module _ (n : ℕ) (L : Lent) (st : State) (H : Held n L st) (ls : List Literal)
 
   -- ---- the ways out, c being the clause as the code has it
 
-  module _ (c : TextClause) (is : clauseWords ls ≡ c) where
+  module _ (c : DratClause) (is : clauseWords ls ≡ c) where
     diagram-is : clauseOfWords (c .literals) ≡ clause n ls
-    diagram-is = ap (λ (x : TextClause). clauseOfWords (x .literals)) (sym is) ∙ words-is
+    diagram-is = ap (λ (x : DratClause). clauseOfWords (x .literals)) (sym is) ∙ words-is
 
     -- its diagram is not in the table
     pub strike-absent : Stands (nodesOf T) (place (size T) (nodesOf T) (clauseOfWords (c .literals))) Nothing → Stepped n L L st (strikeClause n S ls) (Stop 28 0)

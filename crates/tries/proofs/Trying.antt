@@ -1,5 +1,6 @@
 -- What the two tries of a clause say is what the definition says of it. The idea: its lines at 64 variables are those at the header's n, and the
 -- words of its witness are its witness. Assumes nothing.
+use Rattle.profile.specs.Admitted.{triedAs}
 use mathlib.Core.Path.{_≡_, refl, sym, ap, _∙_, subst}
 use mathlib.Core.Bool.{Bool, true, false, not, _||_, cond}
 use mathlib.Core.List.{List, [], _∷_}
@@ -20,14 +21,14 @@ use Rattle.table.specs.Lists.{Inside, diagramsOf}
 use Rattle.table.specs.declared.Placed.{Placed}
 use Rattle.commands.specs.declared.Pivot.{Pivot}
 use Rattle.commands.specs.declared.Pivot.the-variants.{Nothing, First}
-use Rattle.commands.specs.declared.TextClause.{TextClause}
-use Rattle.commands.specs.Inner.{pivotOf, clauseWords}
+use Rattle.commands.specs.declared.DratClause.{DratClause}
+use Rattle.commands.specs.Inner.{clauseWords}
 use Rattle.judge.specs.declared.Judged.{Judged}
 use Rattle.judge.specs.Lines.{Negatable}
 use Rattle.judge.proofs.Widths.{rup-at, pr-at}
 use Rattle.verdict.specs.Steps as check
 use Rattle.verdict.specs.Steps.{next, spent, judged, liveMembers}
-use Rattle.verdict.specs.Clausal.{withPeak, judgedOr, secondTry, tries}
+use Rattle.verdict.specs.Clausal.{withPeak, judgedOr, secondTry, afterFirst as onFailing, tries}
 use Rattle.entries.specs.declared.State.{State}
 use Rattle.entries.specs.States.{Lent, tableIn, stateOf, Held}
 use Rattle.steps.specs.Tried.{Tried, acceptedBy, saidBy}
@@ -98,33 +99,34 @@ module _ (n : ℕ) (L : Lent) (st : State) (H : Held n L st) (k : ℕ) (k-in : k
     pr-is : (P N : ℕ → Bool) → pr n P N (liveMembers S) (clause n ls) ≡ pr 64 P N (diagramsOf (nodesOf T) live) (diagramAt (nodesOf T) k)
     pr-is P N = ap (pr n P N (liveMembers S)) (sym is) ∙ sym (pr-at n (H .entries .narrow) T (H .entries .good) (H .entries .uses) live live-inside k k-in k-one P N)
 
-  second-said : (ls : List Literal) → OfVariables n ls → diagramAt (nodesOf T) k ≡ clause n ls → (p₁ : ℕ) (r : Judged) → SecondTried T live k (literalsOf ls) (pivotOf ls) r
-      → secondTry n (size T) S k ls p₁ ≡ saidBy (withPeak S p₁) k r
-  unfolding secondTry
-  second-said [] w is p₁ r Q = ap (spent 19) (max-zero p₁) ∙ ap (saidBy (withPeak S p₁) k) (sym Q)
-  second-said (p ∷ ls) w is p₁ r Q =
+  second-said : (profile : Bool) (ls : List Literal) → OfVariables n ls → diagramAt (nodesOf T) k ≡ clause n ls → (p₁ : ℕ) (r : Judged)
+      → SecondTried T live k (literalsOf ls) (triedAs profile (clauseWords ls) .pivot) r → onFailing profile n (size T) S k ls p₁ ≡ saidBy (withPeak S p₁) k r
+  unfolding onFailing secondTry
+  second-said true ls w is p₁ r Q = ap (spent 19) (max-zero p₁) ∙ ap (saidBy (withPeak S p₁) k) (sym Q)
+  second-said false [] w is p₁ r Q = ap (spent 19) (max-zero p₁) ∙ ap (saidBy (withPeak S p₁) k) (sym Q)
+  second-said false (p ∷ ls) w is p₁ r Q =
       let words = witnessWords (literalsOf (p ∷ ls)) (p .variable) (p .positive) in
       ap (judged (size T) (withPeak S p₁) k)
       (sym (second-same n (H .entries .narrow) p ls w (liveMembers S) words refl) ∙ pr-is (p ∷ ls) is (inWord (words .positive)) (inWord (words .negative)))
       ∙ judged-said T (withPeak S p₁) refl k (prIn T live k words) r Q
 
   -- THEOREM: what both tries say is what the definition says.
-  pub tries-said : (ls : List Literal) → OfVariables n ls → diagramAt (nodesOf T) k ≡ clause n ls → (made : Placed) → made .node .0 ≡ k → made .full ≡ false
-      → (j : Judged) → BothTried T live (clauseWords ls) made j → tries n (size T) S k ls ≡ saidBy S k j
+  pub tries-said : (profile : Bool) (ls : List Literal) → OfVariables n ls → diagramAt (nodesOf T) k ≡ clause n ls → (made : Placed) → made .node .0 ≡ k → made .full ≡ false
+      → (j : Judged) → BothTried T live (triedAs profile (clauseWords ls)) made j → tries profile n (size T) S k ls ≡ saidBy S k j
   unfolding tries
-  tries-said ls w is made at f j (no-room g) = t≢f (sym g ∙ f)
-  tries-said ls w is made at f j (once r g W d) =
-      ap (judgedOr (secondTry n (size T) S k ls) (size T) S k) (rup-is ls is)
-      ∙ or-decided T S refl (secondTry n (size T) S k ls) k (rupIn T live k) r (subst (λ (x : ℕ). Tried T (rupIn T live x) r) at W) d
-  tries-said ls w is made at f j (twice i r g W d Q) =
-      ap (judgedOr (secondTry n (size T) S k ls) (size T) S k) (rup-is ls is)
-      ∙ or-failed T S refl (secondTry n (size T) S k ls) k (rupIn T live k) i (subst (λ (x : ℕ). Tried T (rupIn T live x) i) at W) d
-      ∙ second-said ls w is (max (S .peak) (i .peak)) r (subst (λ (x : ℕ). SecondTried T live x (literalsOf ls) (pivotOf ls) r) at Q)
+  tries-said profile ls w is made at f j (no-room g) = t≢f (sym g ∙ f)
+  tries-said profile ls w is made at f j (once r g W d) =
+      ap (judgedOr (onFailing profile n (size T) S k ls) (size T) S k) (rup-is ls is)
+      ∙ or-decided T S refl (onFailing profile n (size T) S k ls) k (rupIn T live k) r (subst (λ (x : ℕ). Tried T (rupIn T live x) r) at W) d
+  tries-said profile ls w is made at f j (twice i r g W d Q) =
+      ap (judgedOr (onFailing profile n (size T) S k ls) (size T) S k) (rup-is ls is)
+      ∙ or-failed T S refl (onFailing profile n (size T) S k ls) k (rupIn T live k) i (subst (λ (x : ℕ). Tried T (rupIn T live x) i) at W) d
+      ∙ second-said profile ls w is (max (S .peak) (i .peak)) r (subst (λ (x : ℕ). SecondTried T live x (literalsOf ls) (triedAs profile (clauseWords ls) .pivot) r) at Q)
       ∙ joined S k i r
 
 -- ---- the code's answers
 
-second-most : (t : Table) (live : List ℕ) (g : ℕ) (u : Literals) (pivot : Pivot) (r : Judged) → SecondTried t live g u pivot r → r .rounds ≤ 131072
+second-most : (t : Table) (live : List ℕ) (g : ℕ) (u : Literals) (pivot : Pivot) (r : Judged) → SecondTried t live g u pivot r → r .rounds ≤ 262144
 second-most t live g u Nothing r e = let z : r .rounds ≡ 0 = ap (λ (x : Judged). x .rounds) e in omega arith
 second-most t live g u (First v b) r W = W .most
 
@@ -136,13 +138,13 @@ module _ (t : Table) (live : List ℕ) where
   pub second-none : (g : ℕ) (u : Literals) (pivot : Pivot) → pivot ≡ Nothing → SecondTried t live g u pivot (untried false)
   second-none g u pivot e = subst (λ (q : Pivot). SecondTried t live g u q (untried false)) (sym e) refl
 
-  pub both-most : (c : TextClause) (made : Placed) (r : Judged) → BothTried t live c made r → r .rounds ≤ 131072
+  pub both-most : (c : DratClause) (made : Placed) (r : Judged) → BothTried t live c made r → r .rounds ≤ 262144
   both-most c made r (no-room f) = omega arith
   both-most c made r (once i f W d) = W .most
   both-most c made r (twice i k f W d Q) = second-most t live (made .node .0) (c .literals) (c .pivot) k Q
 
   -- the second try over the table that the first left
-  pub both-twice : (c : TextClause) (made : Placed) (j r : Judged) → made .full ≡ false → Tried t (rupIn t live (made .node .0)) j → decided j ≡ false
+  pub both-twice : (c : DratClause) (made : Placed) (j r : Judged) → made .full ≡ false → Tried t (rupIn t live (made .node .0)) j → decided j ≡ false
       → (t₁ : Table) → t₁ ≡ t → SecondTried t₁ live (made .node .0) (c .literals) (c .pivot) r → (peak : ℕ) → peak ≡ max (j .peak) (r .peak)
       → BothTried t live c made (record { full = r .full; shown = r .shown; rounds = r .rounds; count = r .count; peak = peak })
   both-twice c made j r f W d t₁ back Q peak e =

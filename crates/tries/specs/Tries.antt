@@ -13,7 +13,7 @@ use Rattle.table.specs.Lists.{diagramsOf}
 use Rattle.table.specs.declared.Placed.{Placed}
 use Rattle.commands.specs.declared.Pivot.{Pivot}
 use Rattle.commands.specs.declared.Pivot.the-variants.{Nothing, First}
-use Rattle.commands.specs.declared.TextClause.{TextClause}
+use Rattle.commands.specs.declared.DratClause.{DratClause}
 use Rattle.judge.specs.declared.Judged.{Judged}
 use Rattle.verdict.specs.Steps.{unstruck}
 use Rattle.entries.specs.declared.State.{State}
@@ -69,7 +69,7 @@ abbrev pub afterFirst : Judged → Judged → Judged
 afterFirst j r = record { full = r .full; shown = r .shown; rounds = r .rounds; count = r .count; peak = max (j .peak) (r .peak) }
 
 -- The clause found no room; or its first try decides; or its second does.
-pub data BothTried (t : Table) (live : List ℕ) (c : TextClause) (made : Placed) : Judged → Type 0 where
+pub data BothTried (t : Table) (live : List ℕ) (c : DratClause) (made : Placed) : Judged → Type 0 where
   no-room : made .full ≡ true → BothTried t live c made (untried true)
   once : (r : Judged) → made .full ≡ false → Tried t (rupIn t live (made .node .0)) r → decided r ≡ true → BothTried t live c made r
   twice : (j r : Judged) → made .full ≡ false → Tried t (rupIn t live (made .node .0)) j → decided j ≡ false

@@ -1,6 +1,6 @@
 // A clause added: its diagram is made, then it is tried as a RUP line and, failing with 19, as a PR line. (02, 4/14)
+use commands::DratClause;
 use commands::Pivot;
-use commands::TextClause;
 use entries::State;
 use entries::Step;
 use judge::Judged;
@@ -8,6 +8,7 @@ use records::Rule;
 use table::NodeNo;
 use table::Placed;
 ghost use mathlib.Core.Path.{_≡_};
+ghost use mathlib.Core.Bool.{Bool};
 ghost use mathlib.Core.List.{List};
 ghost use Prim.Native.Nat.{ℕ, _≤_};
 ghost use lib.ListN.{length, take};
@@ -18,6 +19,7 @@ ghost use Rattle.conflict.specs.Marks.{unmarked};
 ghost use Rattle.judge.specs.Lines.{Negatable};
 ghost use Rattle.commands.specs.Inner.{clauseWords};
 ghost use Rattle.verdict.specs.Clausal.{addStep};
+ghost use Rattle.profile.specs.Admitted.{triedAs};
 ghost use Rattle.entries.specs.States.{lentOf, stateOf, Held, Stepped};
 ghost use Rattle.tries.specs.Tries.{liveIn, PivotFits, SecondTried, decided, BothTried, keptBy};
 ghost use Rattle.meaning.specs.Literals.{OfVariables};
@@ -58,7 +60,7 @@ fn second_try(
     scratch: &mut [u16],
     struck: &[u8],
     st: State,
-    clause: TextClause,
+    clause: DratClause,
     g: NodeNo,
 ) -> Judged
     requires { ⌜ (
@@ -122,7 +124,7 @@ fn both_tries(
     scratch: &mut [u16],
     struck: &[u8],
     st: State,
-    clause: TextClause,
+    clause: DratClause,
     made: Placed,
 ) -> Judged
     requires { ⌜ (
@@ -207,7 +209,7 @@ pub fn clause_step(
     scratch: &mut [u16],
     struck: &[u8],
     st: State,
-    clause: TextClause,
+    clause: DratClause,
 ) -> Step
     requires { ⌜ (
         let lent = lentOf (now vars) (now lows) (now highs) (now heads) (now links) (now members) (now scratch)
@@ -221,8 +223,8 @@ pub fn clause_step(
         (now (members .entry)) (now (scratch .entry)) (now (struck .entry)) in
         let returned = lentOf (now (vars .exit)) (now (lows .exit)) (now (highs .exit)) (now (heads .exit)) (now (links .exit))
         (now (members .exit)) (now (scratch .exit)) (now (struck .entry)) in
-        (n : ℕ) (ls : List Literal) → Held n lent st → OfVariables n ls → clauseWords ls ≡ clause →
-        Stepped n lent returned st (addStep n (length (now (vars .entry))) (stateOf lent st) ls) r) ⌝ }
+        (profile : Bool) (n : ℕ) (ls : List Literal) → Held n lent st → OfVariables n ls → triedAs profile (clauseWords ls) ≡ clause →
+        Stepped n lent returned st (addStep profile n (length (now (vars .entry))) (stateOf lent st) ls) r) ⌝ }
     ensures { λ _. ⌜ now (marks .exit) ≡ unmarked (length (now (vars .entry))) ⌝ }
 {
     let literals = clause.literals;

@@ -3,6 +3,7 @@ use commands::Command;
 use entries::State;
 use entries::Step;
 ghost use mathlib.Core.Path.{_≡_};
+ghost use mathlib.Core.Bool.{Bool};
 ghost use Prim.Native.Nat.{ℕ};
 ghost use lib.ListN.{length};
 ghost use Rattle.walks.specs.Readable.{Roomy};
@@ -11,6 +12,7 @@ ghost use Rattle.commands.specs.Commands as read;
 ghost use Rattle.commands.specs.Inner.{commandOf};
 ghost use Rattle.verdict.specs.Check.{finish, step};
 ghost use Rattle.entries.specs.States.{Lent, lentOf, stateOf, Held, Stepped};
+ghost use Rattle.profile.specs.Admitted.{admitted};
 ghost use Rattle.tries.specs.Commands.{CommandFits, PivotOfFits};
 
 // The end of a text: 0 or 20.
@@ -29,8 +31,9 @@ fn finish_step(st: State) -> Step
     }
 }
 
-// The step that a command makes. Table, index, member list, scratch list and the members' marks (`struck`) are then the next state's; a
-// refused command leaves table, index, member list and its marks as they were. The working marks (`marks`) are clear again.
+// The step that a command makes, as it is admitted within the consequence profile or without it. Table, index, member list, scratch list
+// and the members' marks (`struck`) are then the next state's; a refused command leaves table, index, member list and its marks as they
+// were. The working marks (`marks`) are clear again.
 pub fn command_step(
     vars: &mut [u8],
     lows: &mut [u16],
@@ -55,8 +58,8 @@ pub fn command_step(
         (now (members .entry)) (now (scratch .entry)) (now (struck .entry)) in
         let returned = lentOf (now (vars .exit)) (now (lows .exit)) (now (highs .exit)) (now (heads .exit)) (now (links .exit))
         (now (members .exit)) (now (scratch .exit)) (now (struck .exit)) in
-        (c : read.Command) → commandOf c ≡ command → CommandFits variables c →
-        Stepped variables lent returned st (step variables (length (now (vars .entry))) (stateOf lent st) c) s) ⌝ }
+        (profile : Bool) (c : read.Command) → admitted profile (commandOf c) ≡ command → CommandFits variables c →
+        Stepped variables lent returned st (step profile variables (length (now (vars .entry))) (stateOf lent st) c) s) ⌝ }
     ensures { λ _. ⌜ now (marks .exit) ≡ unmarked (length (now (vars .entry))) ⌝ }
 {
     match command {

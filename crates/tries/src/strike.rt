@@ -1,5 +1,5 @@
 // A clause struck out: the live member of lowest place that is the same diagram. (02, 4/14)
-use commands::TextClause;
+use commands::DratClause;
 use entries::State;
 use entries::Step;
 use table::Found;
@@ -53,7 +53,7 @@ pub fn strike_clause(
     members: &[u16],
     struck: &mut [u8],
     st: State,
-    clause: TextClause,
+    clause: DratClause,
 ) -> Step
     requires { ⌜ Good (tableOf (now vars) (now lows) (now highs) (now heads) (now links) (st .count))
         × (st .members ≤ 2048)

@@ -19,7 +19,7 @@ use Rattle.clausal.proofs.Rest.{plain-not-one}
 use Rattle.clausal.proofs.Tries.{two-tries}
 use Rattle.verdict.specs.Steps.{State, next, spent, judged, liveMembers}
 use Rattle.verdict.specs.Steps.{withEntry}
-use Rattle.verdict.specs.Clausal.{judgedOr, secondLine, secondTry, tries, addStep}
+use Rattle.verdict.specs.Clausal.{judgedOr, secondLine, secondTry, afterFirst, tries, addStep}
 use Rattle.verdict.specs.ClauseTaken.{GoesOn, HasRoom}
 
 -- A record's line is judged so, with 19 where it is not shown.
@@ -32,14 +32,14 @@ module _ (n s : ℕ) (st : State) (t : List Node) (k : ℕ) where
   after = withEntry st t k
 
   -- the step once its tests are past
-  step-is : (c : Clause) → OfVariables n c → Plain c → HasRoom n s st c t k → addStep n s st c ≡ tries n s after k c
+  step-is : (c : Clause) → OfVariables n c → Plain c → HasRoom n s st c t k → addStep false n s st c ≡ tries false n s after k c
   unfolding addStep
   step-is c w plain R = rw (lt-leb 1024 (st .lines) (R .few), plain-not-one n c w plain, R .made) refl
 
   -- what the tries come to
   tries-shown : (c : Clause) → HasRoom n s st c t k
-      → (GoesOn (tries n s after k c) → shownBy n (liveMembers after) c ≡ true) × (shownBy n (liveMembers after) c ≡ true → GoesOn (tries n s after k c))
-  unfolding tries judgedOr secondTry judged shownBy
+      → (GoesOn (tries false n s after k c) → shownBy n (liveMembers after) c ≡ true) × (shownBy n (liveMembers after) c ≡ true → GoesOn (tries false n s after k c))
+  unfolding tries judgedOr afterFirst secondTry judged shownBy
   tries-shown [] R = rw (R .first-fits) (go (rup n (liveMembers after) (meaning.clause n []) .shown) _ _)
     where
       go : (b : Bool) (x : State) (peak : ℕ) → (GoesOn (cond (not b) (spent 19 peak) (next x)) → b ≡ true) × (b ≡ true → GoesOn (cond (not b) (spent 19 peak) (next x)))
@@ -58,7 +58,7 @@ module _ (n s : ℕ) (st : State) (t : List Node) (k : ℕ) where
   -- THEOREM: "for clauses and members without both signs of a variable the two tries accept exactly what RUP and RAT over clauses accept, the
   -- table having room." F are the clauses of the live members.
   pub clause-accepted : (F : List Clause) → liveMembers (withEntry st t k) ≡ map (meaning.clause n) F → AllOfVariables n F → AllPlain F
-      → (c : Clause) → OfVariables n c → Plain c → HasRoom n s st c t k → GoesOn (addStep n s st c) ↔ Accepted F c
+      → (c : Clause) → OfVariables n c → Plain c → HasRoom n s st c t k → GoesOn (addStep false n s st c) ↔ Accepted F c
   clause-accepted F live within plains c w plain R =
       let T = two-tries n F within plains c w plain in
       let S = tries-shown c R in (

@@ -29,7 +29,7 @@ use Rattle.clausal.proofs.SecondTry.{pivot-witnessed}
 use Rattle.verdict.specs.Steps.{State, next, accepted, judged, unstruck, liveMembers}
 use Rattle.verdict.specs.Taken.{Function, Meant, Valued, peakWith}
 use Rattle.verdict.specs.Steps.{withEntry}
-use Rattle.verdict.specs.Clausal.{withPeak, judgedOr, secondLine, secondTry, tries, onceMade, addStep}
+use Rattle.verdict.specs.Clausal.{withPeak, judgedOr, secondLine, secondTry, afterFirst, tries, onceMade, addStep}
 use Rattle.verdict.specs.ClauseTaken.{Judged, firstLine, SecondTaken, TriesTaken, ClauseTaken, GoesOn, HasRoom}
 use Rattle.verdict.proofs.Steps.{spent-not-next, passed, met-late}
 use Rattle.verdict.proofs.Live.{valued-unstruck}
@@ -54,46 +54,49 @@ taken-judged : (s : ℕ) (st : State) (g : ℕ) (line : Line) (st′ : State) �
 unfolding judged
 taken-judged s st g line st′ J = rw (J .fits, J .shown) (ap next (J .is))
 
-module _ (n s : ℕ) (st : State) (k : ℕ) (st′ : State) where
+module _ (profile : Bool) (n s : ℕ) (st : State) (k : ℕ) (st′ : State) where
   abbrev first : List meaning.Literal → Line
   first ls = firstLine n st ls
 
-  second-taken : (ls : List meaning.Literal) → lineReach s (st .nodes) (first ls) .fits ≡ true → first ls .shown ≡ false
-      → secondTry n s st k ls (peakWith s st (first ls)) ≡ next st′ → SecondTaken n s st k ls st′
-  unfolding secondTry
-  second-taken [] fits failed e = spent-not-next 19 (peakWith s st (first [])) st′ e
-  second-taken (p ∷ ls) fits failed e = record { room = fits; failed = failed; passes = judged-taken s _ k (secondLine n (liveMembers st) p ls) st′ e }
+  second-taken : (q : Bool) (ls : List meaning.Literal) → lineReach s (st .nodes) (first ls) .fits ≡ true → first ls .shown ≡ false
+      → afterFirst q n s st k ls (peakWith s st (first ls)) ≡ next st′ → SecondTaken q n s st k ls st′
+  unfolding afterFirst secondTry
+  second-taken true ls fits failed e = spent-not-next 19 (peakWith s st (first ls)) st′ e
+  second-taken false [] fits failed e = spent-not-next 19 (peakWith s st (first [])) st′ e
+  second-taken false (p ∷ ls) fits failed e = record { room = fits; failed = failed; passes = judged-taken s _ k (secondLine n (liveMembers st) p ls) st′ e }
 
-  tries-taken : (ls : List meaning.Literal) → tries n s st k ls ≡ next st′ → TriesTaken n s st k ls st′
+  tries-taken : (ls : List meaning.Literal) → tries profile n s st k ls ≡ next st′ → TriesTaken profile n s st k ls st′
   unfolding tries judgedOr
   tries-taken ls e =
       let (fits, e₁) = met-late (lineReach s (st .nodes) (first ls) .fits) 23 (peakWith s st (first ls)) _ e in
       go fits (first ls .shown) refl e₁
     where
       go : lineReach s (st .nodes) (first ls) .fits ≡ true → (b : Bool) → first ls .shown ≡ b
-          → cond (not b) (secondTry n s st k ls (peakWith s st (first ls))) (next (accepted st k (first ls) (peakWith s st (first ls)))) ≡ next st′
-          → TriesTaken n s st k ls st′
+          → cond (not b) (afterFirst profile n s st k ls (peakWith s st (first ls))) (next (accepted st k (first ls) (peakWith s st (first ls)))) ≡ next st′
+          → TriesTaken profile n s st k ls st′
       go fits true shown e = inl (record { fits = fits; shown = shown; is = next-is e })
-      go fits false failed e = inr (second-taken ls fits failed e)
+      go fits false failed e = inr (second-taken profile ls fits failed e)
 
-  taken-tries : (ls : List meaning.Literal) → TriesTaken n s st k ls st′ → tries n s st k ls ≡ next st′
-  unfolding tries judgedOr secondTry
-  taken-tries ls (inl J) = rw (J .fits, J .shown) (ap next (J .is))
-  taken-tries [] (inr T) = absurd T
-  taken-tries (p ∷ ls) (inr T) = rw (T .room, T .failed) (taken-judged s _ k (secondLine n (liveMembers st) p ls) st′ (T .passes))
+  taken-tries : (q : Bool) (ls : List meaning.Literal) → TriesTaken q n s st k ls st′ → tries q n s st k ls ≡ next st′
+  unfolding tries judgedOr afterFirst secondTry
+  taken-tries q ls (inl J) = rw (J .fits, J .shown) (ap next (J .is))
+  taken-tries true ls (inr T) = absurd T
+  taken-tries false [] (inr T) = absurd T
+  taken-tries false (p ∷ ls) (inr T) = rw (T .room, T .failed) (taken-judged s _ k (secondLine n (liveMembers st) p ls) st′ (T .passes))
 
   -- whichever passes, the clause is accepted
-  pub tries-accepted : (ls : List meaning.Literal) → TriesTaken n s st k ls st′ → (line : Line) × (peak : ℕ) × (accepted st k line peak ≡ st′)
-  tries-accepted ls (inl J) = (first ls, peakWith s st (first ls), J .is)
-  tries-accepted [] (inr T) = absurd T
-  tries-accepted (p ∷ ls) (inr T) =
+  pub tries-accepted : (q : Bool) (ls : List meaning.Literal) → TriesTaken q n s st k ls st′ → (line : Line) × (peak : ℕ) × (accepted st k line peak ≡ st′)
+  tries-accepted q ls (inl J) = (first ls, peakWith s st (first ls), J .is)
+  tries-accepted true ls (inr T) = absurd T
+  tries-accepted false [] (inr T) = absurd T
+  tries-accepted false (p ∷ ls) (inr T) =
       let line : Line = secondLine n (liveMembers st) p ls in (line, peakWith s (withPeak st (peakWith s st (first (p ∷ ls)))) line, T .passes .is)
 
-module _ (n s : ℕ) (st : State) (ls : List meaning.Literal) (st′ : State) where
+module _ (profile : Bool) (n s : ℕ) (st : State) (ls : List meaning.Literal) (st′ : State) where
   abbrev g : Diagram
   g = meaning.clause n ls
 
-  clause-taken : addStep n s st ls ≡ next st′ → ClauseTaken n s st ls st′
+  clause-taken : addStep profile n s st ls ≡ next st′ → ClauseTaken profile n s st ls st′
   unfolding addStep
   clause-taken e =
       let (few, e₁) = passed (leb 1024 (st .lines)) 22 _ e in
@@ -101,18 +104,18 @@ module _ (n s : ℕ) (st : State) (ls : List meaning.Literal) (st′ : State) wh
       go (leb-false 1024 (st .lines) few) not-one (place s (st .nodes) g) refl e₂
     where
       go : st .lines < 1024 → same g (leaf true) ≡ false → (q : Placing) → place s (st .nodes) g ≡ q
-          → onceMade st q (λ st₁ k. tries n s st₁ k ls) ≡ next st′ → ClauseTaken n s st ls st′
+          → onceMade st q (λ st₁ k. tries profile n s st₁ k ls) ≡ next st′ → ClauseTaken profile n s st ls st′
       go few not-one (full t) r e = spent-not-next 23 (max (st .peak) (length t)) st′ e
       go few not-one (placed t k) r e =
-          record { few = few; not-one = not-one; nodes = t; node = k; room = r; tried = tries-taken n s (withEntry st t k) k st′ ls e }
+          record { few = few; not-one = not-one; nodes = t; node = k; room = r; tried = tries-taken profile n s (withEntry st t k) k st′ ls e }
 
-  taken-clause : ClauseTaken n s st ls st′ → addStep n s st ls ≡ next st′
+  taken-clause : ClauseTaken profile n s st ls st′ → addStep profile n s st ls ≡ next st′
   unfolding addStep
   taken-clause T =
-      rw (lt-leb 1024 (st .lines) (T .few), T .not-one, T .room) (taken-tries n s (withEntry st (T .nodes) (T .node)) (T .node) st′ ls (T .tried))
+      rw (lt-leb 1024 (st .lines) (T .few), T .not-one, T .room) (taken-tries profile n s (withEntry st (T .nodes) (T .node)) (T .node) st′ profile ls (T .tried))
 
   -- THEOREM: an added clause is taken exactly where none of 22, 17, 23 and 19 holds.
-  pub clause-exactly : (addStep n s st ls ≡ next st′) ↔ ClauseTaken n s st ls st′
+  pub clause-exactly : (addStep profile n s st ls ≡ next st′) ↔ ClauseTaken profile n s st ls st′
   clause-exactly = (clause-taken, taken-clause)
 
 -- ---- what it keeps
@@ -128,7 +131,7 @@ module _ {s n : ℕ} {m : Meant} {st : State} (S : Standing s n m st) (narrow : 
       (place-after s (st .nodes) (S .ordered) (meaning.clause n ls) (reduced-to 1 (suc n) 65 (meaning.clause n ls) (omega (arith, narrow)) (clause-reduced n ls)))
 
   -- the live members keep their diagrams while the clause's is made
-  live-same : liveMembers (withEntry st t k) ≡ liveMembers st
+  pub live-same : liveMembers (withEntry st t k) ≡ liveMembers st
   live-same =
       go (unstruck (st .struck) (st .members)) (unstruck (st .struck) (m .members)) (valued-unstruck (st .nodes) (st .kept) (st .struck) (st .members) (m .members) (S .members))
     where
@@ -166,11 +169,11 @@ module _ {s n : ℕ} {m : Meant} {st : State} (S : Standing s n m st) (narrow : 
           many = omega (arith, length-append (st .members) (k ∷ []), S .many);
         })
 
-module _ {s n : ℕ} {m : Meant} {st : State} (S : Standing s n m st) (narrow : n ≤ 64) (ls : List meaning.Literal) (w : OfVariables n ls) (st′ : State)
-    (T : ClauseTaken n s st ls st′) where
+module _ {profile : Bool} {s n : ℕ} {m : Meant} {st : State} (S : Standing s n m st) (narrow : n ≤ 64) (ls : List meaning.Literal) (w : OfVariables n ls) (st′ : State)
+    (T : ClauseTaken profile n s st ls st′) where
   -- the line that passed, and its peak
   pub clause-line : (line : Line) × (peak : ℕ) × (accepted (withEntry st (T .nodes) (T .node)) (T .node) line peak ≡ st′)
-  clause-line = tries-accepted n s (withEntry st (T .nodes) (T .node)) (T .node) st′ ls (T .tried)
+  clause-line = tries-accepted profile n s (withEntry st (T .nodes) (T .node)) (T .node) st′ profile ls (T .tried)
 
   -- THEOREM: the state after an added clause stands, the clause being its last member.
   pub clause-standing : Standing s n (record { members = m .members ++ meaning.clauseValue ls ∷ []; entries = [] }) st′
@@ -184,15 +187,16 @@ module _ {s n : ℕ} {m : Meant} {st : State} (S : Standing s n m st) (narrow : 
   -- THEOREM: where an assignment satisfies the live members one satisfies them and the clause.
   pub clause-keeps : (a : Assignment) → length a ≡ n → Satisfies a (liveMembers st)
       → (b : Assignment) × (length b ≡ n) × Satisfies b (liveMembers st) × (meaning.clauseValue ls b ≡ true)
-  clause-keeps a len sat = go ls w (T .not-one) (live-same S narrow ls (T .nodes) (T .node) (T .room)) (T .tried)
+  clause-keeps a len sat = go profile ls w (T .not-one) (live-same S narrow ls (T .nodes) (T .node) (T .room)) (T .tried)
     where
-      go : (ls : List meaning.Literal) → OfVariables n ls → same (meaning.clause n ls) (leaf true) ≡ false → liveMembers (withEntry st (T .nodes) (T .node)) ≡ liveMembers st
-          → TriesTaken n s (withEntry st (T .nodes) (T .node)) (T .node) ls st′
+      go : (q : Bool) (ls : List meaning.Literal) → OfVariables n ls → same (meaning.clause n ls) (leaf true) ≡ false → liveMembers (withEntry st (T .nodes) (T .node)) ≡ liveMembers st
+          → TriesTaken q n s (withEntry st (T .nodes) (T .node)) (T .node) ls st′
           → (b : Assignment) × (length b ≡ n) × Satisfies b (liveMembers st) × (meaning.clauseValue ls b ≡ true)
-      go ls w not-one live (inl J) =
+      go q ls w not-one live (inl J) =
           (a, len, sat, sym (clause-value n a len ls) ∙ rup-sound n (liveMembers (withEntry st (T .nodes) (T .node))) (meaning.clause n ls) (J .shown) a len (subst (Satisfies a) (sym live) sat))
-      go [] w not-one live (inr U) = absurd U
-      go (p ∷ ls) w not-one live (inr U) =
+      go true ls w not-one live (inr U) = absurd U
+      go false [] w not-one live (inr U) = absurd U
+      go false (p ∷ ls) w not-one live (inr U) =
           let (b, lb, kept, one) = pr-sound n (makesTrue (witness p (p ∷ ls))) (makesFalse (witness p (p ∷ ls))) (liveMembers (withEntry st (T .nodes) (T .node))) (meaning.clause n (p ∷ ls))
           (pivot-witnessed n (p ∷ ls) w (not-one-plain n (p ∷ ls) not-one) p (has-here p ls)) (U .passes .shown) a len (subst (Satisfies a) (sym live) sat) in
           (b, lb, subst (Satisfies b) live kept, sym (clause-value n b lb (p ∷ ls)) ∙ one)
@@ -200,6 +204,6 @@ module _ {s n : ℕ} {m : Meant} {st : State} (S : Standing s n m st) (narrow : 
 -- THEOREM: "for clauses and members without both signs of a variable the two tries accept exactly what RUP and RAT over clauses accept, the table
 -- having room", in a state that the check reaches. F are the clauses of its live members.
 pub added-exactly : {s n : ℕ} {m : Meant} {st : State} → Standing s n m st → n ≤ 64 → (F : List Clause) → liveMembers st ≡ map (meaning.clause n) F → AllOfVariables n F → AllPlain F
-    → (c : Clause) → OfVariables n c → Plain c → (t : List Node) (k : ℕ) → HasRoom n s st c t k → GoesOn (addStep n s st c) ↔ Accepted F c
+    → (c : Clause) → OfVariables n c → Plain c → (t : List Node) (k : ℕ) → HasRoom n s st c t k → GoesOn (addStep false n s st c) ↔ Accepted F c
 added-exactly {s} {n} {m} {st} S narrow F live within plains c w plain t k R =
     clause-accepted n s st t k F (live-same S narrow c t k (R .made) ∙ live) within plains c w plain R

@@ -2,7 +2,7 @@
 -- 20. The idea: each stands in the definition where it is given. Assumes nothing.
 use mathlib.Core.Path.{_≡_, refl}
 use mathlib.Core.Logic.{_⊎_, inl, inr}
-use mathlib.Core.Bool.{true, not}
+use mathlib.Core.Bool.{Bool, true, false, not}
 use mathlib.Core.List.{List, [], _∷_}
 use mathlib.Core.Option.{Option, none, some}
 use Prim.Native.Nat.{ℕ}
@@ -14,7 +14,7 @@ use Rattle.meaning.specs.Rules.{Line, rup}
 use Rattle.table.specs.Nodes.{Placing, full, placed, place}
 use Rattle.table.specs.Making.{lineReach}
 use Rattle.verdict.specs.Steps.{State, withEntry, Step, next, stop, spent, judged, liveMembers}
-use Rattle.verdict.specs.Clausal.{withPeak, judgedOr, secondLine, secondTry, tries, onceMade, addStep, firstSame, strikeFound, strikeClause}
+use Rattle.verdict.specs.Clausal.{withPeak, judgedOr, secondLine, secondTry, afterFirst, tries, onceMade, addStep, firstSame, strikeFound, strikeClause}
 use Rattle.verdict.specs.Check.{finish}
 use Rattle.verdict.specs.Taken.{peakWith}
 use Rattle.verdict.proofs.Formula.{either}
@@ -35,22 +35,27 @@ unfolding secondTry
 second-says n s st k [] peak = inl refl
 second-says n s st k (p ∷ ls) peak = judged-says s (withPeak st peak) k (secondLine n (liveMembers st) p ls)
 
-tries-say : (n s : ℕ) (st : State) (k : ℕ) (ls : List meaning.Literal) → AddedSays (tries n s st k ls)
+first-says : (profile : Bool) (n s : ℕ) (st : State) (k : ℕ) (ls : List meaning.Literal) (peak : ℕ) → AddedSays (afterFirst profile n s st k ls peak)
+unfolding afterFirst
+first-says true n s st k ls peak = inl refl
+first-says false n s st k ls peak = second-says n s st k ls peak
+
+tries-say : (profile : Bool) (n s : ℕ) (st : State) (k : ℕ) (ls : List meaning.Literal) → AddedSays (tries profile n s st k ls)
 unfolding tries judgedOr
-tries-say n s st k ls =
+tries-say profile n s st k ls =
     let first : Line = rup n (liveMembers st) (meaning.clause n ls) in
     either AddedSays (not (lineReach s (st .nodes) first .fits)) _ _ (inr refl)
-    (either AddedSays (not (first .shown)) _ _ (second-says n s st k ls (peakWith s st first)) tt)
+    (either AddedSays (not (first .shown)) _ _ (first-says profile n s st k ls (peakWith s st first)) tt)
 
-pub added-says : (n s : ℕ) (st : State) (ls : List meaning.Literal) → AddedSays (addStep n s st ls)
+pub added-says : (profile : Bool) (n s : ℕ) (st : State) (ls : List meaning.Literal) → AddedSays (addStep profile n s st ls)
 unfolding addStep
-added-says n s st ls =
+added-says profile n s st ls =
     either AddedSays (leb 1024 (st .lines)) _ _ (inr refl, refl)
     (either AddedSays (same (meaning.clause n ls) (leaf true)) _ _ (inl refl, refl) (made (place s (st .nodes) (meaning.clause n ls))))
   where
-    made : (p : Placing) → AddedSays (onceMade st p (λ st₁ k. tries n s st₁ k ls))
+    made : (p : Placing) → AddedSays (onceMade st p (λ st₁ k. tries profile n s st₁ k ls))
     made (full t) = inr refl
-    made (placed t k) = tries-say n s (withEntry st t k) k ls
+    made (placed t k) = tries-say profile n s (withEntry st t k) k ls
 
 -- ---- a clause struck out
 

@@ -25,7 +25,7 @@ module _ (mode : Mode) (s : ℕ) (text proof : List ℕ) where
   -- The place of a reached state's command lies in the proof.
   pub reached-in : {n : ℕ} {st : State} {at : ℕ} {m : Meant} → Reached mode s text proof n st at m → at ≤ length proof
   reached-in (begins M) = start-within (mode .form) proof
-  reached-in {n} (goes {st} {st′} {at} R T) = command-goes (mode .form) proof n s st st′ at (reached-in R) T .1
+  reached-in {n} (goes {st} {st′} {at} R T) = command-goes (mode .consequence) (mode .form) proof n s st st′ at (reached-in R) T .1
 
   pub reached-fit : {n : ℕ} {st : State} {at : ℕ} {m : Meant} → Reached mode s text proof n st at m → Fit (mode .form) n (commandIn mode proof n at)
   reached-fit {n} {st} {at} R = command-fit (mode .form) proof n at (reached-in R)
@@ -34,7 +34,7 @@ module _ (mode : Mode) (s : ℕ) (text proof : List ℕ) where
   pub reached-standing : {n : ℕ} {st : State} {at : ℕ} {m : Meant} → Reached mode s text proof n st at m → (n ≤ 64) × Standing s n m st
   reached-standing {n} (begins {many} M) = let Y = underway s text n many M in (Y .narrow, Y .standing)
   reached-standing {n} (goes {st} {st′} {at} R T) =
-      let (narrow, S) = reached-standing R in (narrow, step-standing S narrow (mode .form) (commandIn mode proof n at) (reached-fit R) st′ T)
+      let (narrow, S) = reached-standing R in (narrow, step-standing S narrow (mode .consequence) (mode .form) (commandIn mode proof n at) (reached-fit R) st′ T)
 
   -- ---- commands
 
@@ -42,19 +42,19 @@ module _ (mode : Mode) (s : ℕ) (text proof : List ℕ) where
       → Ended mode s text proof (commands steps mode n s proof st at)
   unfolding commands
   commands-ended n zero st at m R enough = absurd (omega (arith, reached-in R))
-  commands-ended n (suc steps) st at m R enough = go (step n s st (commandIn mode proof n at)) refl (commands-ended n steps)
+  commands-ended n (suc steps) st at m R enough = go (step (mode .consequence) n s st (commandIn mode proof n at)) refl (commands-ended n steps)
     where
       next-at : ℕ
       next-at = nextIn mode proof n at
 
-      go : (x : Step) → step n s st (commandIn mode proof n at) ≡ x
+      go : (x : Step) → step (mode .consequence) n s st (commandIn mode proof n at) ≡ x
           → ((st′ : State) (at′ : ℕ) (m′ : Meant) → Reached mode s text proof n st′ at′ m′ → length proof - at′ < steps → Ended mode s text proof (commands steps mode n s proof st′ at′))
           → Ended mode s text proof (afterStep x st at (λ st′. commands steps mode n s proof st′ next-at))
       go (stop number offset) e rec = stopped R e
       go (spent number peak) e rec = tried R e
       go (next st′) e rec =
-          let T : CommandTaken n s st (commandIn mode proof n at) st′ = step-taken n s st (commandIn mode proof n at) st′ e in
-          let (on, inside) = command-goes (mode .form) proof n s st st′ at (reached-in R) T in
+          let T : CommandTaken (mode .consequence) n s st (commandIn mode proof n at) st′ = step-taken (mode .consequence) n s st (commandIn mode proof n at) st′ e in
+          let (on, inside) = command-goes (mode .consequence) (mode .form) proof n s st st′ at (reached-in R) T in
           rec st′ next-at _ (goes R T) (omega (arith, on, inside))
 
   -- ---- the formula

@@ -25,3 +25,6 @@ pub mod Marks
 pub mod MetFirst
 pub mod Peak
 pub mod TextRows
+pub mod PathRows
+pub mod Consequence
+pub mod BinaryRows

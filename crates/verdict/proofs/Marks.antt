@@ -18,7 +18,8 @@ use Rattle.records.specs.declared.Record.the-variants.{NodeEntry, Witness, Proo
 use Rattle.records.specs.Records.{recordAt, lengthOf}
 use Rattle.records.proofs.Laws.{record-takes, record-within}
 use Rattle.commands.specs.declared.Mode.{Mode}
-use Rattle.commands.specs.Commands.{Command, recorded, added, struckOut, wrong, finished, inRecords}
+use Rattle.commands.specs.declared.Form.the-variants.{Records}
+use Rattle.commands.specs.Commands.{Command, recorded, added, struckOut, wrong, finished, inForm}
 use Rattle.verdict.specs.Steps.{State, begun, withEntry, withMarks, stop, entryNode, isLive}
 use Rattle.verdict.specs.Check.{step}
 use Rattle.verdict.specs.Taken.{Meant, StrikeTaken, Taken}
@@ -27,7 +28,7 @@ use Rattle.verdict.specs.Marks.{struckBy, strikingsFrom, strikingsBefore
 use Rattle.verdict.proofs.Steps.{next-form, taken-record}
 use Rattle.verdict.proofs.Added.{tries-accepted}
 use Rattle.verdict.proofs.Ends.{reached-standing}
-use Rattle.verdict.proofs.Offsets.{Offset, at-record, at-striking, behind-end, Placed, record-placed}
+use Rattle.verdict.proofs.Offsets.{Offset, at-record, at-striking, behind-end, Placed, shut-placed}
 
 -- ---- lists
 
@@ -133,7 +134,7 @@ record Struck (proof : List ℕ) (st : State) (at : ℕ) : Type 0 where
   marked : Marked (length (st .members)) so-far (st .struck)
   run : (j end : ℕ) → at ≤ end → strikingsFrom (steps + j) proof 0 end ≡ so-far ++ strikingsFrom j proof at end
 
-module _ (s : ℕ) (text proof : List ℕ) where
+module _ (profile : Bool) (s : ℕ) (text proof : List ℕ) where
   goes-struck : (n : ℕ) (st st′ : State) (at : ℕ) → Taken n s st (recordAt proof at) st′ → Struck proof st at → Struck proof st′ (at + lengthOf (recordAt proof at))
   unfolding strikingsFrom
   goes-struck n st st′ at T F =
@@ -165,12 +166,12 @@ module _ (s : ℕ) (text proof : List ℕ) where
     run = λ j end p. let z : 0 + j ≡ j = omega arith in ap (λ (k : ℕ). strikingsFrom k proof 0 end) z;
   }
 
-  reached-struck : {n : ℕ} {st : State} {at : ℕ} {m : Meant} → Reached inRecords s text proof n st at m → Struck proof st at
+  reached-struck : {n : ℕ} {st : State} {at : ℕ} {m : Meant} → Reached (inForm Records profile) s text proof n st at m → Struck proof st at
   reached-struck (begins {many} {t} {ms} {fs} M) = begun-struck t ms
-  reached-struck {n} (goes {st} {st′} {at} R T) = goes-struck n st st′ at T (reached-struck R)
+  reached-struck {n} (goes {st} {st′} {at} R T) = goes-struck n st st′ at (T .1) (reached-struck R)
 
   -- where nothing is struck out from the place on up to the end
-  marks-at : {n : ℕ} {st : State} {at : ℕ} {m : Meant} → Reached inRecords s text proof n st at m → (end : ℕ) → at ≤ end → ((j : ℕ) → strikingsFrom j proof at end ≡ [])
+  marks-at : {n : ℕ} {st : State} {at : ℕ} {m : Meant} → Reached (inForm Records profile) s text proof n st at m → (end : ℕ) → at ≤ end → ((j : ℕ) → strikingsFrom j proof at end ≡ [])
       → (k : ℕ) → getD (st .struck) k 0 ≡ markOf (strikingsBefore proof end) k
   marks-at {n} {st} {at} R end p none k =
       let F : Struck proof st at = reached-struck R in
@@ -191,14 +192,15 @@ module _ (s : ℕ) (text proof : List ℕ) where
   none-at-end at is (suc j) = rw (is, none-here (at + 1) j, lt-ltb at (at + 1) (omega arith))
 
   -- In every reached state a mark is 1 exactly where a striking that was taken has the member's number, else 0.
-  pub marks-are : {n : ℕ} {st : State} {at : ℕ} {m : Meant} → Reached inRecords s text proof n st at m → (k : ℕ) → getD (st .struck) k 0 ≡ markOf (strikingsBefore proof at) k
+  pub marks-are : {n : ℕ} {st : State} {at : ℕ} {m : Meant} → Reached (inForm Records profile) s text proof n st at m → (k : ℕ) → getD (st .struck) k 0 ≡ markOf (strikingsBefore proof at) k
   marks-are {n} {st} {at} R k = marks-at R at (omega arith) (none-here at) k
 
   -- The same at the place where a record is refused or ends the proof, which for 11 is behind it.
-  pub marks-stopped : {n : ℕ} {st : State} {at : ℕ} {m : Meant} → Reached inRecords s text proof n st at m → (number offset : ℕ)
-      → step n s st (commandIn inRecords proof n at) ≡ stop number offset → (k : ℕ) → getD (st .struck) k 0 ≡ markOf (strikingsBefore proof (at + offset)) k
+  pub marks-stopped : {n : ℕ} {st : State} {at : ℕ} {m : Meant} → Reached (inForm Records profile) s text proof n st at m → (number offset : ℕ)
+      → step profile n s st (commandIn (inForm Records profile) proof n at) ≡ stop number offset → (k : ℕ) → getD (st .struck) k 0 ≡ markOf (strikingsBefore proof (at + offset)) k
   unfolding step
-  marks-stopped {n} {st} {at} R number offset e k = go (subst (Placed st (recordAt proof at)) e (record-placed n s st (ltb (at + lengthOf (recordAt proof at)) (length proof)) (recordAt proof at)))
+  marks-stopped {n} {st} {at} R number offset e k =
+      go (subst (Placed st (recordAt proof at)) e (shut-placed profile n s st (ltb (at + lengthOf (recordAt proof at)) (length proof)) (recordAt proof at)))
     where
       here-are : offset ≡ 0 → getD (st .struck) k 0 ≡ markOf (strikingsBefore proof (at + offset)) k
       here-are z = let same : at ≡ at + offset = omega arith in marks-are R k ∙ ap (λ (p : ℕ). markOf (strikingsBefore proof p) k) same
@@ -267,21 +269,21 @@ module _ (n s : ℕ) (k : ℕ) where
   record-stays st UnknownKind st′ T = absurd T
   record-stays st NoRecord st′ T = absurd T
 
-  step-stays : (st : State) (c : Command) (st′ : State) → CommandTaken n s st c st′ → Stays k st st′
-  step-stays st (recorded r more) st′ T = record-stays st r st′ T
-  step-stays st (added ls) st′ T =
-      let (line, peak, is) = tries-accepted n s (withEntry st (T .nodes) (T .node)) (T .node) st′ ls (T .tried) in
+  step-stays : (profile : Bool) (st : State) (c : Command) (st′ : State) → CommandTaken profile n s st c st′ → Stays k st st′
+  step-stays profile st (recorded r more) st′ T = record-stays st r st′ (T .1)
+  step-stays profile st (added ls) st′ T =
+      let (line, peak, is) = tries-accepted profile n s (withEntry st (T .nodes) (T .node)) (T .node) st′ profile ls (T .tried) in
       subst (Stays k st) is (appended st (T .node) refl refl)
-  step-stays st (struckOut ls) st′ C = subst (Stays k st) (C .is) (struck-stays st (C .place))
-  step-stays st (wrong number offset) st′ T = absurd T
-  step-stays st finished st′ T = absurd T
+  step-stays profile st (struckOut ls) st′ C = subst (Stays k st) (C .is) (struck-stays st (C .place))
+  step-stays profile st (wrong number offset) st′ T = absurd T
+  step-stays profile st finished st′ T = absurd T
 
 module _ (mode : Mode) (s : ℕ) (proof : List ℕ) {n : ℕ} {st : State} {at : ℕ} (k : ℕ) where
   later-stays : {st′ : State} {at′ : ℕ} → Later mode s proof n st at st′ at′ → Stays k st st′
   later-stays here = record { mark = λ one. one; member = λ p. (p, refl) }
   later-stays (after {st₁} {st₂} {at₁} L T) =
       let F : Stays k st st₁ = later-stays L in
-      let G : Stays k st₁ st₂ = step-stays n s k st₁ (commandIn mode proof n at₁) st₂ T in
+      let G : Stays k st₁ st₂ = step-stays n s k (mode .consequence) st₁ (commandIn mode proof n at₁) st₂ T in
       record {
         mark = λ one. G .mark (F .mark one);
         member = λ p. let (inside, same) = F .member p in (G .member inside .0, G .member inside .1 ∙ same);

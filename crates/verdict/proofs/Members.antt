@@ -1,5 +1,6 @@
 -- What the members stand for is fixed by the bytes: the formula's clauses, and then the accepted lines, as the proof's commands give them. The
 -- idea: the run's functions and those of the commands read on from there are the same. Assumes nothing.
+use mathlib.Core.Bool.{Bool}
 use mathlib.Core.Path.{_≡_, refl, sym, ap, _∙_}
 use mathlib.Core.List.{List, [], _∷_, _++_, append-assoc, append-nil}
 use Prim.Native.Nat.{ℕ, zero, suc, _+_, _-_, _≤_}
@@ -78,42 +79,42 @@ module _ (s : ℕ) (text : List ℕ) where
     are : m .members ≡ clauseFunctions text ++ later → afterCommand m c .members ≡ clauseFunctions text ++ later′
     apart : afterCommand (meant later (m .entries)) c ≡ meant later′ (afterCommand m c .entries)
 
-  steps-on : (n : ℕ) (st : State) (m : Meant) (later : List Function) (c : Command) (st′ : State) → CommandTaken n s st c st′ → Step m later (st .lines) (st′ .lines) c
+  steps-on : (profile : Bool) (n : ℕ) (st : State) (m : Meant) (later : List Function) (c : Command) (st′ : State) → CommandTaken profile n s st c st′ → Step m later (st .lines) (st′ .lines) c
   unfolding afterCommand afterRecord entryMeant
-  steps-on n st m later (recorded (NodeEntry b) more) st′ T = record { later′ = later; counted = λ e. e ∙ ap (λ (x : State). x .lines) (T .is); are = λ e. e; apart = refl }
-  steps-on n st m later (recorded (Witness v b) more) st′ T = record { later′ = later; counted = λ e. e ∙ ap (λ (x : State). x .lines) (T .is); are = λ e. e; apart = refl }
-  steps-on n st m later (recorded (ProofLine rule root) more) st′ T = record {
+  steps-on profile n st m later (recorded (NodeEntry b) more) st′ T = record { later′ = later; counted = λ e. e ∙ ap (λ (x : State). x .lines) (T .1 .is); are = λ e. e; apart = refl }
+  steps-on profile n st m later (recorded (Witness v b) more) st′ T = record { later′ = later; counted = λ e. e ∙ ap (λ (x : State). x .lines) (T .1 .is); are = λ e. e; apart = refl }
+  steps-on profile n st m later (recorded (ProofLine rule root) more) st′ T = record {
     later′ = later ++ entryMeant m (root .0) ∷ [];
-    counted = λ e. length-append later (entryMeant m (root .0) ∷ []) ∙ omega (arith, ap (λ (x : State). x .lines) (T .is));
+    counted = λ e. length-append later (entryMeant m (root .0) ∷ []) ∙ omega (arith, ap (λ (x : State). x .lines) (T .1 .is));
     are = λ e. ap (λ (x : List Function). x ++ entryMeant m (root .0) ∷ []) e ∙ append-assoc (clauseFunctions text) later (entryMeant m (root .0) ∷ []);
     apart = refl;
   }
-  steps-on n st m later (recorded (Strike k) more) st′ T = record { later′ = later; counted = λ e. e ∙ ap (λ (x : State). x .lines) (T .is); are = λ e. e; apart = refl }
-  steps-on n st m later (recorded (SetEntry kind b) more) st′ T = record { later′ = later; counted = λ e. e ∙ ap (λ (x : State). x .lines) (T .is); are = λ e. e; apart = refl }
-  steps-on n st m later (recorded End more) st′ T = absurd T
-  steps-on n st m later (recorded CutShort more) st′ T = absurd T
-  steps-on n st m later (recorded UnknownKind more) st′ T = absurd T
-  steps-on n st m later (recorded NoRecord more) st′ T = absurd T
-  steps-on n st m later (added ls) st′ T =
-      let (line, peak, is) = tries-accepted n s (withEntry st (T .nodes) (T .node)) (T .node) st′ ls (T .tried) in
+  steps-on profile n st m later (recorded (Strike k) more) st′ T = record { later′ = later; counted = λ e. e ∙ ap (λ (x : State). x .lines) (T .1 .is); are = λ e. e; apart = refl }
+  steps-on profile n st m later (recorded (SetEntry kind b) more) st′ T = record { later′ = later; counted = λ e. e ∙ ap (λ (x : State). x .lines) (T .1 .is); are = λ e. e; apart = refl }
+  steps-on profile n st m later (recorded End more) st′ T = absurd (T .1)
+  steps-on profile n st m later (recorded CutShort more) st′ T = absurd (T .1)
+  steps-on profile n st m later (recorded UnknownKind more) st′ T = absurd (T .1)
+  steps-on profile n st m later (recorded NoRecord more) st′ T = absurd (T .1)
+  steps-on profile n st m later (added ls) st′ T =
+      let (line, peak, is) = tries-accepted profile n s (withEntry st (T .nodes) (T .node)) (T .node) st′ profile ls (T .tried) in
       record {
         later′ = later ++ clauseValue ls ∷ [];
         counted = λ e. length-append later (clauseValue ls ∷ []) ∙ omega (arith, ap (λ (x : State). x .lines) is);
         are = λ e. ap (λ (x : List Function). x ++ clauseValue ls ∷ []) e ∙ append-assoc (clauseFunctions text) later (clauseValue ls ∷ []);
         apart = refl;
       }
-  steps-on n st m later (struckOut ls) st′ T = record { later′ = later; counted = λ e. e ∙ ap (λ (x : State). x .lines) (T .is); are = λ e. e; apart = refl }
-  steps-on n st m later (wrong number offset) st′ T = absurd T
-  steps-on n st m later finished st′ T = absurd T
+  steps-on profile n st m later (struckOut ls) st′ T = record { later′ = later; counted = λ e. e ∙ ap (λ (x : State). x .lines) (T .is); are = λ e. e; apart = refl }
+  steps-on profile n st m later (wrong number offset) st′ T = absurd T
+  steps-on profile n st m later finished st′ T = absurd T
 
   module _ (mode : Mode) (proof : List ℕ) where
-    goes-follows : (n : ℕ) (st st′ : State) (at : ℕ) (m : Meant) → CommandTaken n s st (commandIn mode proof n at) st′ → Follows mode text proof n st at m
+    goes-follows : (n : ℕ) (st st′ : State) (at : ℕ) (m : Meant) → CommandTaken (mode .consequence) n s st (commandIn mode proof n at) st′ → Follows mode text proof n st at m
         → Follows mode text proof n st′ (nextIn mode proof n at) (afterCommand m (commandIn mode proof n at))
     unfolding meantAfter
     goes-follows n st st′ at m T F =
         let c : Command = commandIn mode proof n at in
-        let (on, inside) = command-goes (mode .form) proof n s st st′ at (F .within) T in
-        let O : Step m (F .later) (st .lines) (st′ .lines) c = steps-on n st m (F .later) c st′ T in
+        let (on, inside) = command-goes (mode .consequence) (mode .form) proof n s st st′ at (F .within) T in
+        let O : Step m (F .later) (st .lines) (st′ .lines) c = steps-on (mode .consequence) n st m (F .later) c st′ T in
         record {
           steps = suc (F .steps);
           few = omega (arith, F .few, on);

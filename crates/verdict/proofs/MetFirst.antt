@@ -6,16 +6,17 @@ use mathlib.Core.List.{List, [], _∷_, _++_}
 use mathlib.Core.Option.{Option, none, some}
 use Prim.Native.Nat.{ℕ, zero, suc}
 use Rattle.meaning.specs.Diagram.{Diagram, leaf, same}
-use Rattle.meaning.specs.Operations.{negation, cofactorLiterals}
+use Rattle.meaning.specs.Operations.{Literal, negation, cofactorLiterals}
 use Rattle.meaning.specs.Rules.{Line, Propagation, conflicts, firstWithUnit, byUnits, round, still, taking, propagate, unitProp, byDiagram, rup, afterTurn, prTurns, pr}
 use Rattle.meaning.specs.Words.{inWord}
+use Rattle.paths.specs.Paths.{paths, byPath, pathTurns, pathLine}
 use Rattle.table.specs.Nodes.{Node, Placing, full, placed, place}
 use Rattle.table.specs.Making.{Room, short, all, afterPlacing, placedAll, reached, turnsReach, keptReach, lineReach}
 use Rattle.records.specs.declared.Rule.{Rule}
-use Rattle.records.specs.declared.Rule.the-variants.{Rup, Pr}
+use Rattle.records.specs.declared.Rule.the-variants.{Rup, Pr, Path}
 use Rattle.verdict.specs.Steps.{State, next, spent, accepted, judged, diagramIn, liveMembers}
 use Rattle.verdict.specs.Taken.{lineOf, peakWith}
-use Rattle.verdict.specs.MetFirst.{Met, all-shown, no-conflict, no-place, afterMade, making, inRound, propagating, metThen, turning, metBy, sayMet}
+use Rattle.verdict.specs.MetFirst.{Met, all-shown, no-conflict, no-place, afterMade, making, inRound, propagating, metThen, turning, pathing, metBy, sayMet}
 
 -- ---- making a list
 
@@ -126,6 +127,35 @@ turning-is s n P N t ms′ (f ∷ fs) = by (same h (leaf true)) (turning-is s n 
     by true rec = rec
     by false rec = ap (λ (x : Met). metThen x (turning s n P N t ms′ fs)) whole ∙ after (placedAll s t (before ++ p .made)) (p .conflict) rec
 
+-- the turns of paths
+pathing-is : (s n : ℕ) (t : List Node) (ms : List Diagram) (cs : List (List Literal))
+    → pathing s n t ms cs ≡ metTurns (turnsReach s (pathTurns n ms cs .turns) t .fits) (pathTurns n ms cs .shown)
+unfolding pathing pathTurns turnsReach afterTurn
+pathing-is s n t ms [] = refl
+pathing-is s n t ms (c ∷ cs) =
+    ap (λ (x : Met). metThen x (pathing s n t ms cs)) whole ∙ after (placedAll s t (first ++ p .made)) (p .conflict) (pathing-is s n t ms cs)
+  where
+    first : List Diagram
+    first = byPath n c ms
+
+    p : Propagation
+    p = unitProp n first
+
+    rest : Line
+    rest = pathTurns n ms cs
+
+    whole : making s t first (λ t₁. propagating s n n t₁ first) ≡ afterRoom (placedAll s t (first ++ p .made)) (λ t₁. ends (p .conflict))
+    whole =
+        making-alike s t first _ _ (λ t₁. propagating-is s n n t₁ first) ∙ sym (making-append s t first (p .made) (λ t₁. ends (p .conflict)))
+        ∙ making-room s t (first ++ p .made) (λ t₁. ends (p .conflict))
+
+    after : (room : Room) (conflict : Bool) → pathing s n t ms cs ≡ metTurns (turnsReach s (rest .turns) t .fits) (rest .shown)
+        → metThen (afterRoom room (λ t₁. ends conflict)) (pathing s n t ms cs)
+        ≡ metTurns (reached room .fits && turnsReach s (cond conflict (rest .turns) []) t .fits) (conflict && rest .shown)
+    after (short t₁) conflict rec = refl
+    after (all t₁) true rec = rec
+    after (all t₁) false rec = refl
+
 -- ---- a line
 
 -- the one propagation of RUP
@@ -149,7 +179,7 @@ line-met s t line go turns = making-room s t (line .kept) go ∙ by (placedAll s
     by (all t₁) = turns t₁
 
 met-line : (n s : ℕ) (st : State) (rule : Rule) (g : ℕ) → metBy n s st rule g ≡ metTurns (lineReach s (st .nodes) (lineOf n st rule g) .fits) (lineOf n st rule g .shown)
-unfolding metBy rup pr
+unfolding metBy rup pr pathLine
 met-line n s st Rup g =
     let ms : List Diagram = liveMembers st in
     line-met s (st .nodes) (lineOf n st Rup g) _ (λ t. propagating-turn s n t (byDiagram n (negation n (diagramIn st g)) ms))
@@ -157,6 +187,8 @@ met-line n s st Pr g =
     let ms : List Diagram = liveMembers st in
     line-met s (st .nodes) (lineOf n st Pr g) _
     (λ t. turning-is s n (inWord (st .positive)) (inWord (st .negative)) t (byDiagram n (negation n (diagramIn st g)) ms) ms)
+met-line n s st Path g =
+    line-met s (st .nodes) (lineOf n st Path g) _ (λ t. pathing-is s n t (liveMembers st) (paths (diagramIn st g)))
 
 -- "then 19 or 23, the one met first": for every state, rule and root.
 pub met-first : (n s : ℕ) (st : State) (rule : Rule) (g : ℕ) → judged s st g (lineOf n st rule g) ≡ sayMet st g (lineOf n st rule g) (peakWith s st (lineOf n st rule g)) (metBy n s st rule g)

@@ -1,17 +1,19 @@
 -- A record that is refused before it makes a node is refused at its first byte, but for 11, which is given behind the end record; 28 is given for
 -- strikings alone. The idea: each number stands in the definition with its place. Assumes nothing.
+use Rattle.verdict.specs.Check.{shutOut}
 use mathlib.Core.Path.{_≡_, refl}
 use mathlib.Core.Bool.{Bool, true, false, not, _&&_, _||_, cond}
 use Prim.Native.Nat.{ℕ}
 use lib.ListN.{length}
-use lib.Dec.{eqb, leb}
+use lib.Dec.{eqb, leb, ltb}
 use Rattle.meaning.specs.Rules.{Line, witnessed}
 use Rattle.meaning.specs.Words.{inWord}
+use Rattle.paths.specs.Paths.{pathCount}
 use Rattle.table.specs.Nodes.{above, Placing, full, placed, put, place}
 use Rattle.table.specs.Making.{lineReach}
 use Rattle.records.specs.declared.MemberNo.{MemberNo}
 use Rattle.records.specs.declared.Rule.{Rule}
-use Rattle.records.specs.declared.Rule.the-variants.{Rup, Pr}
+use Rattle.records.specs.declared.Rule.the-variants.{Rup, Pr, Path}
 use Rattle.records.specs.declared.Record.{Record}
 use Rattle.records.specs.declared.Record.the-variants.{NodeEntry, Witness, ProofLine, Strike, SetEntry, End, CutShort, UnknownKind, NoRecord}
 use Rattle.verdict.specs.Steps.{State, Step, next, stop, spent, isEntry, entryNode, isVariable, entered, nodeStep, witnessStep, waiting, judged, diagramIn, lineStep, isLive, strikeStep, beyond, noParity, setDiagram, setStep, endStep}
@@ -55,6 +57,12 @@ module _ (st : State) (r : Record) where
       (refuses (leb 1024 (st .lines)) _ _ refl refl
       (refuses (eqb g 1) _ _ refl refl
       (refuses (not (witnessed n (inWord (st .positive)) (inWord (st .negative)) (diagramIn st g))) _ _ refl refl (judged-placed s g (lineOf n st Pr g)))))
+  line-placed n s Path root =
+      let g : ℕ = entryNode st root in
+      refuses (not (isEntry st root)) _ _ refl refl
+      (refuses (waiting st) _ _ refl refl
+      (refuses (leb 1024 (st .lines)) _ _ refl refl
+      (refuses (eqb g 1) _ _ refl refl (refuses (ltb 4096 (pathCount (diagramIn st g))) _ _ refl refl (judged-placed s g (lineOf n st Path g))))))
 
 strike-placed : (st : State) (k : MemberNo) → Placed st (Strike k) (strikeStep st (k .0))
 unfolding strikeStep
@@ -89,3 +97,7 @@ record-placed n s st more End =
 record-placed n s st more CutShort = at-record refl refl refl
 record-placed n s st more UnknownKind = at-record refl refl refl
 record-placed n s st more NoRecord = at-record refl refl refl
+
+-- the same where the profile shuts the record out
+pub shut-placed : (profile : Bool) (n s : ℕ) (st : State) (more : Bool) (r : Record) → Placed st r (cond (shutOut profile r) (stop 33 0) (recordStep n s st more r))
+shut-placed profile n s st more r = refuses st r (shutOut profile r) _ _ refl refl (record-placed n s st more r)

@@ -1,5 +1,6 @@
 -- From a reached state to what the check leaves: numbers that are not dropped keep their diagrams, and no node of an accepted line is dropped. The
 -- idea: by the steps that are left; the nodes are extended until the last ones are dropped. Assumes nothing.
+use mathlib.Core.Bool.{Bool}
 use mathlib.Core.Path.{_≡_, refl, _∙_, subst}
 use mathlib.Core.List.{List}
 use Prim.Native.Nat.{ℕ, zero, suc, _+_, _-_, _≤_, _<_}
@@ -13,7 +14,6 @@ use Rattle.records.specs.declared.Record.{Record}
 use Rattle.records.specs.declared.Record.the-variants.{NodeEntry, Witness, ProofLine, Strike, SetEntry, End, CutShort, UnknownKind, NoRecord}
 use Rattle.commands.specs.declared.Mode.{Mode}
 use Rattle.commands.specs.declared.Form.{Form}
-use Rattle.commands.specs.declared.Form.the-variants.{Records, Text}
 use Rattle.commands.specs.Commands.{Command, recorded, added, struckOut, wrong, finished}
 use Rattle.verdict.specs.Steps.{State, Step, next, stop, spent}
 use Rattle.verdict.specs.Check.{step, Verdict, left, afterStep, commands, verdict}
@@ -21,7 +21,7 @@ use Rattle.verdict.specs.Taken.{Meant, Taken}
 use Rattle.verdict.specs.Run.{commandIn, nextIn, CommandTaken, Reached}
 use Rattle.verdict.proofs.Standing.{Standing}
 use Rattle.verdict.proofs.Added.{clause-line, clause-grown}
-use Rattle.verdict.proofs.Commands.{step-taken, Fit, command-fit, command-goes, step-standing, step-extends}
+use Rattle.verdict.proofs.Commands.{step-taken, Fit, Known, fit-known, command-fit, command-goes, step-standing, step-extends}
 use Rattle.verdict.proofs.Ends.{reached-standing}
 use Rattle.verdict.proofs.Exactly.{Ahead, reached-ahead}
 
@@ -48,26 +48,21 @@ module _ {s n : ℕ} (narrow : n ≤ 64) where
   record-counts S UnknownKind st′ T = absurd T
   record-counts S NoRecord st′ T = absurd T
 
-  step-counts : {m : Meant} {st : State} → Standing s n m st → (form : Form) (c : Command) → Fit form n c → (st′ : State) → CommandTaken n s st c st′ → Counts st st′
-  step-counts S Records (recorded r more) fit st′ T = record-counts S r st′ T
-  step-counts S Records (added ls) fit st′ T = absurd fit
-  step-counts S Records (struckOut ls) fit st′ T = absurd fit
-  step-counts S Records (wrong number offset) fit st′ T = absurd T
-  step-counts S Records finished fit st′ T = absurd T
-  step-counts S Text (recorded r more) fit st′ T = absurd fit
-  step-counts {m} {st} S Text (added ls) fit st′ T =
-      let (line, peak, is) = clause-line S narrow ls fit st′ T in
+  known-counts : {m : Meant} {st : State} → Standing s n m st → (profile : Bool) (c : Command) → Known n c → (st′ : State) → CommandTaken profile n s st c st′ → Counts st st′
+  known-counts S profile (recorded r more) known st′ T = record-counts S r st′ (T .1)
+  known-counts {m} {st} S profile (added ls) known st′ T =
+      let (line, peak, is) = clause-line S narrow ls known st′ T in
       let longer : length (st .nodes) ≤ length (T .nodes) = extends-length (st .nodes) (T .nodes) (clause-grown S narrow ls (T .nodes) (T .node) (T .room)) in
       subst (Counts st) is (record { kept = omega (arith, S .kept); line = λ _. longer; more = omega arith })
-  step-counts {m} {st} S Text (struckOut ls) fit st′ C = subst (Counts st) (C .is) (record { kept = omega arith; line = λ p. absurd (omega arith); more = omega arith })
-  step-counts S Text (wrong number offset) fit st′ T = absurd T
-  step-counts S Text finished fit st′ T = absurd T
+  known-counts {m} {st} S profile (struckOut ls) known st′ C = subst (Counts st) (C .is) (record { kept = omega arith; line = λ p. absurd (omega arith); more = omega arith })
+  known-counts S profile (wrong number offset) known st′ T = absurd T
+  known-counts S profile finished known st′ T = absurd T
 
-  step-onward : {m : Meant} {st : State} → Standing s n m st → (form : Form) (c : Command) → Fit form n c → (st′ : State) → CommandTaken n s st c st′
+  step-onward : {m : Meant} {st : State} → Standing s n m st → (profile : Bool) (form : Form) (c : Command) → Fit form n c → (st′ : State) → CommandTaken profile n s st c st′
       → (v : Verdict) → Onward st′ v → Onward st v
-  step-onward {m} {st} S form c fit st′ T v O =
-      let C : Counts st st′ = step-counts S form c fit st′ T in
-      let E : Extends (st .nodes) (st′ .nodes) = step-extends S narrow form c fit st′ T in
+  step-onward {m} {st} S profile form c fit st′ T v O =
+      let C : Counts st st′ = known-counts S profile c (fit-known form n c fit) st′ T in
+      let E : Extends (st .nodes) (st′ .nodes) = step-extends S narrow profile form c fit st′ T in
       let longer : length (st .nodes) ≤ length (st′ .nodes) = extends-length (st .nodes) (st′ .nodes) E in
       record {
         least = omega (arith, C .kept, O .least);
@@ -91,7 +86,7 @@ module _ {s n : ℕ} (narrow : n ≤ 64) where
       → Onward st (commands steps mode n s proof st at)
   unfolding commands
   commands-onward mode proof zero m st at within S = left-onward S 10 at (st .peak)
-  commands-onward mode proof (suc steps) m st at within S = go (step n s st c) refl (commands-onward mode proof steps)
+  commands-onward mode proof (suc steps) m st at within S = go (step (mode .consequence) n s st c) refl (commands-onward mode proof steps)
     where
       next-at : ℕ
       next-at = nextIn mode proof n at
@@ -102,15 +97,15 @@ module _ {s n : ℕ} (narrow : n ≤ 64) where
       fit : Fit (mode .form) n (commandIn mode proof n at)
       fit = command-fit (mode .form) proof n at within
 
-      go : (x : Step) → step n s st (commandIn mode proof n at) ≡ x
+      go : (x : Step) → step (mode .consequence) n s st (commandIn mode proof n at) ≡ x
           → ((m′ : Meant) (st′ : State) (at′ : ℕ) → at′ ≤ length proof → Standing s n m′ st′ → Onward st′ (commands steps mode n s proof st′ at′))
           → Onward st (afterStep x st at (λ st′. commands steps mode n s proof st′ next-at))
       go (stop number offset) e rec = left-onward S number (at + offset) (st .peak)
       go (spent number peak) e rec = left-onward S number at peak
       go (next st′) e rec =
-          let T : CommandTaken n s st (commandIn mode proof n at) st′ = step-taken n s st (commandIn mode proof n at) st′ e in
-          step-onward S (mode .form) c fit st′ T (commands steps mode n s proof st′ next-at)
-          (rec _ st′ next-at (command-goes (mode .form) proof n s st st′ at within T .1) (step-standing S narrow (mode .form) c fit st′ T))
+          let T : CommandTaken (mode .consequence) n s st (commandIn mode proof n at) st′ = step-taken (mode .consequence) n s st (commandIn mode proof n at) st′ e in
+          step-onward S (mode .consequence) (mode .form) c fit st′ T (commands steps mode n s proof st′ next-at)
+          (rec _ st′ next-at (command-goes (mode .consequence) (mode .form) proof n s st st′ at within T .1) (step-standing S narrow (mode .consequence) (mode .form) c fit st′ T))
 
 -- What the check leaves, as seen from a state that it reaches.
 pub reached-onward : (mode : Mode) (s : ℕ) (text proof : List ℕ) {n : ℕ} {st : State} {at : ℕ} {m : Meant}

@@ -16,28 +16,28 @@ use Rattle.meaning.specs.Operations as meaning
 use Rattle.meaning.specs.Rules.{Line, rup, witnessed}
 use Rattle.meaning.specs.Words.{inWord}
 use Rattle.meaning.proofs.Booleans.{t≢f}
+use Rattle.paths.specs.Paths.{pathCount}
 use Rattle.table.specs.Nodes.{Node, nodeOf, above, Placing, full, placed, find, orAppend, put, andThen, place}
 use Rattle.table.specs.Making.{Room, short, all, afterPlacing, placedAll, Reach, reached, thenReach, turnsReach, keptReach, lineReach}
 use Rattle.table.proofs.Growth.{length-new}
 use Rattle.dimacs.specs.Clauses.{Reading, clause}
 use Rattle.records.specs.declared.NodeBody.{NodeBody}
 use Rattle.records.specs.declared.Rule.{Rule}
-use Rattle.records.specs.declared.Rule.the-variants.{Rup, Pr}
+use Rattle.records.specs.declared.Rule.the-variants.{Rup, Pr, Path}
 use Rattle.records.specs.declared.SetKind.{SetKind}
 use Rattle.records.specs.declared.SetBody.{SetBody}
 use Rattle.records.specs.declared.Record.{Record}
 use Rattle.records.specs.declared.Record.the-variants.{NodeEntry, Witness, ProofLine, Strike, SetEntry, End, CutShort, UnknownKind, NoRecord}
 use Rattle.commands.specs.declared.Mode.{Mode}
 use Rattle.commands.specs.declared.Form.{Form}
-use Rattle.commands.specs.declared.Form.the-variants.{Records, Text}
 use Rattle.commands.specs.Commands.{Command, recorded, added, struckOut, wrong, finished}
 use Rattle.verdict.specs.Steps.{State, Step, next, stop, spent, isEntry, entryNode, isVariable, entered, nodeStep, witnessStep, waiting, accepted, judged, diagramIn, lineStep, isLive, strikeStep, beyond, noParity, setDiagram, setStep, endStep, withEntry, liveMembers, recordStep}
-use Rattle.verdict.specs.Clausal.{withPeak, judgedOr, secondLine, secondTry, tries, onceMade, addStep, firstSame, strikeFound, strikeClause}
-use Rattle.verdict.specs.Check.{step, Verdict, left, afterStep, commands, verdict}
+use Rattle.verdict.specs.Clausal.{withPeak, judgedOr, secondLine, secondTry, afterFirst, tries, onceMade, addStep, firstSame, strikeFound, strikeClause}
+use Rattle.verdict.specs.Check.{step, Verdict, left, afterStep, commands, verdict, shutOut}
 use Rattle.verdict.specs.Taken.{Function, Meant, lineOf, peakWith}
 use Rattle.verdict.specs.Run.{Making, commandIn, nextIn, CommandTaken, Reached, begins, goes, Ended, no-header, not-read, no-room, stopped, tried}
 use Rattle.verdict.proofs.Formula.{Early, NamedHeader, header-named, either}
-use Rattle.verdict.proofs.Commands.{step-taken, taken-step, Fit, command-fit, command-goes}
+use Rattle.verdict.proofs.Commands.{step-taken, taken-step, Fit, Known, fit-known, command-fit, command-goes}
 use Rattle.verdict.proofs.Standing.{Standing}
 use Rattle.verdict.proofs.Clauses.{underway}
 use Rattle.verdict.proofs.Ends.{reached-fit, reached-standing, ended}
@@ -189,6 +189,13 @@ module _ (s : ℕ) where
         (refuses (leb 1024 (st .lines)) 22 0 _ (λ q. omega arith)
         (refuses (eqb g 1) 17 0 _ (λ q. omega arith)
         (refuses (not (witnessed n (inWord (st .positive)) (inWord (st .negative)) (diagramIn st g))) 18 0 _ (λ q. omega arith) (judged-peaks g (lineOf n st Pr g)))))
+    line-peaks Path root =
+        let g : ℕ = entryNode st root in
+        refuses (not (isEntry st root)) 13 0 _ (λ q. omega arith)
+        (refuses (waiting st) 16 0 _ (λ q. omega arith)
+        (refuses (leb 1024 (st .lines)) 22 0 _ (λ q. omega arith)
+        (refuses (eqb g 1) 17 0 _ (λ q. omega arith)
+        (refuses (ltb 4096 (pathCount (diagramIn st g))) 34 0 _ (λ q. omega arith) (judged-peaks g (lineOf n st Path g))))))
 
     strike-peaks : (k : ℕ) → Peaks st (strikeStep st k)
     unfolding strikeStep
@@ -242,9 +249,14 @@ module _ (s : ℕ) where
         wider (stop number offset) P = P
         wider (spent number q) P = (omega (arith, P .0), P .1, P .2)
 
-    tries-peak : (k : ℕ) (ls : List meaning.Literal) → Peaks st (tries n s st k ls)
+    first-peaks : (profile : Bool) (k : ℕ) (ls : List meaning.Literal) (peak : ℕ) → st .peak ≤ peak → peak ≤ s → Peaks st (afterFirst profile n s st k ls peak)
+    unfolding afterFirst
+    first-peaks true k ls peak more most = (more, most, λ q. absurd (omega arith))
+    first-peaks false k ls peak more most = second-peaks k ls peak more most
+
+    tries-peak : (profile : Bool) (k : ℕ) (ls : List meaning.Literal) → Peaks st (tries profile n s st k ls)
     unfolding tries judgedOr
-    tries-peak k ls = go (lineReach s (st .nodes) line .fits) (line .shown) (R .none-left)
+    tries-peak profile k ls = go (lineReach s (st .nodes) line .fits) (line .shown) (R .none-left)
       where
         line : Line
         line = rup n (liveMembers st) (meaning.clause n ls)
@@ -253,15 +265,15 @@ module _ (s : ℕ) where
         R = line-reaches line
 
         go : (fits shown : Bool) → (fits ≡ false → lineReach s (st .nodes) line .peak ≡ s)
-            → Peaks st (cond (not fits) (spent 23 (peakWith s st line)) (cond (not shown) (secondTry n s st k ls (peakWith s st line)) (next (accepted st k line (peakWith s st line)))))
+            → Peaks st (cond (not fits) (spent 23 (peakWith s st line)) (cond (not shown) (afterFirst profile n s st k ls (peakWith s st line)) (next (accepted st k line (peakWith s st line)))))
         go false shown e = (omega arith, omega (arith, X .within, R .most), λ _. omega (arith, X .within, e refl))
-        go true false e = second-peaks k ls (peakWith s st line) (omega arith) (omega (arith, X .within, R .most))
+        go true false e = first-peaks profile k ls (peakWith s st line) (omega arith) (omega (arith, X .within, R .most))
         go true true e = (record { covers = omega (arith, X .covers); within = omega (arith, X .within, R .most) }, omega arith)
 
   module _ (n : ℕ) (st : State) (X : Peaked st) where
-    added-peaks : (ls : List meaning.Literal) → Peaks st (addStep n s st ls)
+    added-peaks : (profile : Bool) (ls : List meaning.Literal) → Peaks st (addStep profile n s st ls)
     unfolding addStep
-    added-peaks ls =
+    added-peaks profile ls =
         refuses n st X (leb 1024 (st .lines)) 22 0 _ (λ q. omega arith)
         (refuses n st X (same (meaning.clause n ls) (leaf true)) 17 0 _ (λ q. omega arith)
         (made (place s (st .nodes) (meaning.clause n ls)) (place-within (st .nodes) (meaning.clause n ls) (omega (arith, X .covers, X .within)))))
@@ -271,10 +283,10 @@ module _ (s : ℕ) where
         wider t k (stop number offset) P = P
         wider t k (spent number q) P = (omega (arith, P .0), P .1, P .2)
 
-        made : (p : Placing) → Within p → Peaks st (onceMade st p (λ st₁ k. tries n s st₁ k ls))
+        made : (p : Placing) → Within p → Peaks st (onceMade st p (λ st₁ k. tries profile n s st₁ k ls))
         made (full t) w = (omega arith, omega (arith, X .within), λ _. omega (arith, X .within))
         made (placed t k) w =
-            wider t k (tries n s (withEntry st t k) k ls) (tries-peak n (withEntry st t k) (record { covers = omega arith; within = omega (arith, X .within) }) k ls)
+            wider t k (tries profile n s (withEntry st t k) k ls) (tries-peak n (withEntry st t k) (record { covers = omega arith; within = omega (arith, X .within) }) profile k ls)
 
     struck-peaks : (ls : List meaning.Literal) → Peaks st (strikeClause n st ls)
     unfolding strikeClause
@@ -284,18 +296,16 @@ module _ (s : ℕ) where
         go none = λ q. omega arith
         go (some i) = (record { covers = X .covers; within = X .within }, omega arith)
 
-    step-peaks : (form : Form) (c : Command) → Fit form n c → Peaks st (step n s st c)
+    known-peaks : (profile : Bool) (c : Command) → Known n c → Peaks st (step profile n s st c)
     unfolding step
-    step-peaks Records (recorded r more) fit = record-peaks n st X more r
-    step-peaks Records (added ls) fit = absurd fit
-    step-peaks Records (struckOut ls) fit = absurd fit
-    step-peaks Records (wrong number offset) fit = absurd fit
-    step-peaks Records finished fit = absurd fit
-    step-peaks Text (recorded r more) fit = absurd fit
-    step-peaks Text (added ls) fit = added-peaks ls
-    step-peaks Text (struckOut ls) fit = struck-peaks ls
-    step-peaks Text (wrong number offset) fit = λ q. omega (arith, fit .1)
-    step-peaks Text finished fit = refuses n st X (st .refuted) 0 0 _ (λ q. omega arith) (λ q. omega arith)
+    known-peaks profile (recorded r more) known = refuses n st X (shutOut profile r) 33 0 _ (λ q. omega arith) (record-peaks n st X more r)
+    known-peaks profile (added ls) known = added-peaks profile ls
+    known-peaks profile (struckOut ls) known = struck-peaks ls
+    known-peaks profile (wrong number offset) known = λ q. omega (arith, known .1 (λ z. omega arith))
+    known-peaks profile finished known = refuses n st X (st .refuted) 0 0 _ (λ q. omega arith) (λ q. omega arith)
+
+    step-peaks : (profile : Bool) (form : Form) (c : Command) → Fit form n c → Peaks st (step profile n s st c)
+    step-peaks profile form c fit = known-peaks profile c (fit-known form n c fit)
 
   -- ---- the whole check
 
@@ -304,31 +314,31 @@ module _ (s : ℕ) where
   unfolding commands
   commands-peak mode n proof zero st at within X = omega arith
   commands-peak mode n proof (suc steps) st at within X =
-      go (step n s st (commandIn mode proof n at)) refl (step-peaks n st X (mode .form) (commandIn mode proof n at) (command-fit (mode .form) proof n at within)) (commands-peak mode n proof steps)
+      go (step (mode .consequence) n s st (commandIn mode proof n at)) refl (step-peaks n st X (mode .consequence) (mode .form) (commandIn mode proof n at) (command-fit (mode .form) proof n at within)) (commands-peak mode n proof steps)
     where
       next-at : ℕ
       next-at = nextIn mode proof n at
 
-      go : (x : Step) → step n s st (commandIn mode proof n at) ≡ x → Peaks st x
+      go : (x : Step) → step (mode .consequence) n s st (commandIn mode proof n at) ≡ x → Peaks st x
           → ((st′ : State) (at′ : ℕ) → at′ ≤ length proof → Peaked st′ → st′ .peak ≤ commands steps mode n s proof st′ at′ .peak)
           → st .peak ≤ afterStep x st at (λ st′. commands steps mode n s proof st′ next-at) .peak
       go (stop number offset) e p rec = omega arith
       go (spent number peak) e p rec = p .0
       go (next st′) e p rec =
-          let T : CommandTaken n s st (commandIn mode proof n at) st′ = step-taken n s st (commandIn mode proof n at) st′ e in
-          omega (arith, p .1, rec st′ next-at (command-goes (mode .form) proof n s st st′ at within T .1) (p .0))
+          let T : CommandTaken (mode .consequence) n s st (commandIn mode proof n at) st′ = step-taken (mode .consequence) n s st (commandIn mode proof n at) st′ e in
+          omega (arith, p .1, rec st′ next-at (command-goes (mode .consequence) (mode .form) proof n s st st′ at within T .1) (p .0))
 
   module _ (two : 2 ≤ s) (mode : Mode) (text proof : List ℕ) where
     making-count : {n many : ℕ} {t : List Node} {ms : List ℕ} {fs : List Function} {r : Reading} → Making s text n many t ms fs r → (2 ≤ length t) × (length t ≤ s)
     making-count {n} {many} M = let S = underway s text n many M .standing in (S .ordered .two, S .room two)
 
-    reached-peaks : {n : ℕ} {st : State} {at : ℕ} {m : Meant} → Reached mode s text proof n st at m → Peaked st → Peaks st (step n s st (commandIn mode proof n at))
-    reached-peaks {n} {st} {at} R X = step-peaks n st X (mode .form) (commandIn mode proof n at) (reached-fit mode s text proof R)
+    reached-peaks : {n : ℕ} {st : State} {at : ℕ} {m : Meant} → Reached mode s text proof n st at m → Peaked st → Peaks st (step (mode .consequence) n s st (commandIn mode proof n at))
+    reached-peaks {n} {st} {at} R X = step-peaks n st X (mode .consequence) (mode .form) (commandIn mode proof n at) (reached-fit mode s text proof R)
 
     reached-peaked : {n : ℕ} {st : State} {at : ℕ} {m : Meant} → Reached mode s text proof n st at m → Peaked st
     reached-peaked (begins M) = record { covers = omega arith; within = making-count M .1 }
     reached-peaked {n} (goes {st} {st′} {at} R T) =
-        subst (Peaks st) (taken-step n s st (commandIn mode proof n at) st′ T) (reached-peaks R (reached-peaked R)) .0
+        subst (Peaks st) (taken-step (mode .consequence) n s st (commandIn mode proof n at) st′ T) (reached-peaks R (reached-peaked R)) .0
 
     -- In every state that the check reaches the peak covers the count.
     pub peak-covers : {n : ℕ} {st : State} {at : ℕ} {m : Meant} → Reached mode s text proof n st at m → length (st .nodes) ≤ st .peak

@@ -14,18 +14,18 @@ use Rattle.meaning.specs.Words.{inWord}
 use Rattle.meaning.proofs.Booleans.{t≢f, not-true, and-both, or-cases}
 use Rattle.meaning.specs.Literals.{OfVariables}
 use Rattle.meaning.proofs.Soundness.{Satisfies, rup-sound, pr-sound}
+use Rattle.paths.proofs.Sound.{path-sound}
 use Rattle.table.specs.Nodes.{Node, diagramAt}
 use Rattle.table.proofs.Numbers.{diagramAt-zero}
 use Rattle.dimacs.specs.Clauses.{Reading, clause, complete, refusal, clausesFrom, formula}
 use Rattle.dimacs.proofs.Bounds.{HeaderIn, header-in}
 use Rattle.dimacs.proofs.Formula.{formula-proper}
 use Rattle.records.specs.declared.Rule.{Rule}
-use Rattle.records.specs.declared.Rule.the-variants.{Rup, Pr}
+use Rattle.records.specs.declared.Rule.the-variants.{Rup, Pr, Path}
 use Rattle.records.specs.declared.Record.{Record}
 use Rattle.records.specs.declared.Record.the-variants.{NodeEntry, Witness, ProofLine, Strike, SetEntry, End, CutShort, UnknownKind, NoRecord}
 use Rattle.commands.specs.declared.Mode.{Mode}
 use Rattle.commands.specs.declared.Form.{Form}
-use Rattle.commands.specs.declared.Form.the-variants.{Records, Text}
 use Rattle.commands.specs.Commands.{Command, recorded, added, struckOut, wrong, finished}
 use Rattle.table.specs.Columns.{Columns}
 use Rattle.clausal.proofs.Literals.{AllOfVariables}
@@ -41,7 +41,7 @@ use Rattle.verdict.proofs.Fitted.{fitted, fitted-length}
 use Rattle.verdict.proofs.Clauses.{clause-fitted, underway}
 use Rattle.verdict.specs.ClauseTaken.{ClauseTaken}
 use Rattle.verdict.proofs.Added.{clause-line, clause-keeps, clause-node}
-use Rattle.verdict.proofs.Commands.{Fit}
+use Rattle.verdict.proofs.Commands.{Fit, Known, fit-known}
 use Rattle.verdict.proofs.Ends.{reached-fit, reached-standing, ended}
 use Rattle.verdict.proofs.Refutes.{step-refutes}
 use Rattle.verdict.proofs.Numbers.{Closed, formula-refused, proof-ended, proof-tried, ended-closed}
@@ -53,7 +53,7 @@ AllOne a [] = Unit {0}
 AllOne a (f ∷ fs) = (f a ≡ true) × AllOne a fs
 
 module _ (a : Assignment) where
-  all-append : (fs : List Function) (f : Function) → AllOne a fs → f a ≡ true → AllOne a (fs ++ f ∷ [])
+  pub all-append : (fs : List Function) (f : Function) → AllOne a fs → f a ≡ true → AllOne a (fs ++ f ∷ [])
   all-append [] f all one = (one, tt)
   all-append (g ∷ fs) f all one = (all .0, all-append fs f (all .1) one)
 
@@ -75,7 +75,7 @@ module _ (a : Assignment) where
       go false rest all = rest all
 
   -- members whose functions are 1 are satisfied, and the other way round
-  members-satisfied : (t : List Node) (b : ℕ) (ks : List ℕ) (fs : List Function) → Valued t b ks fs → AllOne a fs → Satisfies a (map (diagramAt t) ks)
+  pub members-satisfied : (t : List Node) (b : ℕ) (ks : List ℕ) (fs : List Function) → Valued t b ks fs → AllOne a fs → Satisfies a (map (diagramAt t) ks)
   members-satisfied t b [] [] W all = tt
   members-satisfied t b [] (f ∷ fs) W all = absurd W
   members-satisfied t b (k ∷ ks) [] W all = absurd W
@@ -87,7 +87,7 @@ module _ (a : Assignment) where
   satisfied-members t b (k ∷ ks) [] W sat = absurd W
   satisfied-members t b (k ∷ ks) (f ∷ fs) W sat = (sym (W .1 a) ∙ sat .0, satisfied-members t b ks fs (W .2) (sat .1))
 
-  satisfied-clauses : (cs : List (List meaning.Literal)) → satisfies a cs ≡ true → AllOne a (map meaning.clauseValue cs)
+  pub satisfied-clauses : (cs : List (List meaning.Literal)) → satisfies a cs ≡ true → AllOne a (map meaning.clauseValue cs)
   unfolding satisfies
   satisfied-clauses [] e = tt
   satisfied-clauses (ls ∷ cs) e = let (one, rest) = and-both (meaning.clauseValue ls a) (satisfies a cs) e in (one, satisfied-clauses cs rest)
@@ -101,7 +101,7 @@ read-within n (suc left) (clause ls first rest) R = (R .0, read-within n left re
 read-within n left complete R = tt
 read-within n left (refusal number place) R = tt
 
-satisfies-fitted : (n : ℕ) (cs : List (List meaning.Literal)) → AllOfVariables n cs → (a : Assignment) → satisfies (fitted n a) cs ≡ satisfies a cs
+pub satisfies-fitted : (n : ℕ) (cs : List (List meaning.Literal)) → AllOfVariables n cs → (a : Assignment) → satisfies (fitted n a) cs ≡ satisfies a cs
 unfolding satisfies
 satisfies-fitted n [] w a = refl
 satisfies-fitted n (ls ∷ cs) w a = ap₂ _&&_ (clause-fitted n ls (w .0) a) (satisfies-fitted n cs (w .1) a)
@@ -109,7 +109,7 @@ satisfies-fitted n (ls ∷ cs) w a = ap₂ _&&_ (clause-fitted n ls (w .0) a) (s
 -- ---- reached states are sound
 
 -- The functions of the live members.
-abbrev liveMeant : State → Meant → List Function
+abbrev pub liveMeant : State → Meant → List Function
 liveMeant st m = unstruck (st .struck) (m .members)
 
 -- Where an assignment satisfies the formula one satisfies all live members, and none satisfies it once a 0 line is accepted, though that line
@@ -119,7 +119,7 @@ pub record Sound (text : List ℕ) (n : ℕ) (m : Meant) (st : State) : Type 0 w
   pub zero : st .refuted ≡ true → (a : Assignment) → length a ≡ n → satisfies a (clausesOf (formula text)) ≡ true → ⊥
 
 module _ {s n : ℕ} {m : Meant} {st : State} (S : Standing s n m st) where
-  live-valued : Valued (st .nodes) (st .kept) (unstruck (st .struck) (st .members)) (liveMeant st m)
+  pub live-valued : Valued (st .nodes) (st .kept) (unstruck (st .struck) (st .members)) (liveMeant st m)
   live-valued = valued-unstruck (st .nodes) (st .kept) (st .struck) (st .members) (m .members) (S .members)
 
   -- an assignment for the live members gives one for them and an accepted line
@@ -135,6 +135,11 @@ module _ {s n : ℕ} {m : Meant} {st : State} (S : Standing s n m st) where
       let (b, lb, sat, one) = pr-sound n (inWord (st .positive)) (inWord (st .negative)) (liveMembers st) (diagramIn st (entryNode st root)) (T .witness) (T .shown) a len
       (members-satisfied a (st .nodes) (st .kept) (unstruck (st .struck) (st .members)) (liveMeant st m) live-valued all) in
       (b, lb, satisfied-members b (st .nodes) (st .kept) (unstruck (st .struck) (st .members)) (liveMeant st m) live-valued sat, sym (is b) ∙ one)
+  line-keeps Path root st′ T a len all =
+      let (inside, is) = entry-valued S root (T .entry) in
+      let one : value (diagramIn st (entryNode st root)) a ≡ true = path-sound n (liveMembers st) (diagramIn st (entryNode st root)) (T .shown) a len
+      (members-satisfied a (st .nodes) (st .kept) (unstruck (st .struck) (st .members)) (liveMeant st m) live-valued all) in
+      (a, len, all, sym (is a) ∙ one)
 
   -- an accepted line is one more live member
   live-append : (f : Function) → unstruck (st .struck ++ 0 ∷ []) (m .members ++ f ∷ []) ≡ liveMeant st m ++ f ∷ []
@@ -184,10 +189,10 @@ module _ {s n : ℕ} {m : Meant} {st : State} (S : Standing s n m st) where
     record-sound NoRecord st′ T = absurd T
 
     -- the clause is one more live member, and where it is 0 no assignment is left
-    clause-sound : (ls : List meaning.Literal) → OfVariables n ls → (st′ : State) → ClauseTaken n s st ls st′
+    clause-sound : (profile : Bool) (ls : List meaning.Literal) → OfVariables n ls → (st′ : State) → ClauseTaken profile n s st ls st′
         → Sound text n (record { members = m .members ++ meaning.clauseValue ls ∷ []; entries = [] }) st′
     unfolding valueFrom
-    clause-sound ls w st′ T =
+    clause-sound profile ls w st′ T =
         let (line, peak, is) = clause-line S narrow ls w st′ T in
         let f : Function = meaning.clauseValue ls in
         subst (Sound text n (record { members = m .members ++ f ∷ []; entries = [] })) is (record {
@@ -203,26 +208,24 @@ module _ {s n : ℕ} {m : Meant} {st : State} (S : Standing s n m st) where
               ∙ ap (λ (D : Diagram). value D b) (diagramAt-zero (T .nodes))));
         })
       where
-        keeps : (ls : List meaning.Literal) → OfVariables n ls → (st′ : State) → ClauseTaken n s st ls st′ → (a : Assignment) → length a ≡ n → AllOne a (liveMeant st m)
+        keeps : (ls : List meaning.Literal) → OfVariables n ls → (st′ : State) → ClauseTaken profile n s st ls st′ → (a : Assignment) → length a ≡ n → AllOne a (liveMeant st m)
             → (b : Assignment) × (length b ≡ n) × AllOne b (liveMeant st m) × (meaning.clauseValue ls b ≡ true)
         keeps ls w st′ T a len all =
             let ks : List ℕ = unstruck (st .struck) (st .members) in
             let (b, lb, sat, one) = clause-keeps S narrow ls w st′ T a len (members-satisfied a (st .nodes) (st .kept) ks (liveMeant st m) live-valued all) in
             (b, lb, satisfied-members b (st .nodes) (st .kept) ks (liveMeant st m) live-valued sat, one)
 
-    pub step-sound : (form : Form) (c : Command) → Fit form n c → (st′ : State) → CommandTaken n s st c st′ → Sound text n (afterCommand m c) st′
+    known-sound : (profile : Bool) (c : Command) → Known n c → (st′ : State) → CommandTaken profile n s st c st′ → Sound text n (afterCommand m c) st′
     unfolding afterCommand
-    step-sound Records (recorded r more) fit st′ T = record-sound r st′ T
-    step-sound Records (added ls) fit st′ T = absurd fit
-    step-sound Records (struckOut ls) fit st′ T = absurd fit
-    step-sound Records (wrong number offset) fit st′ T = absurd T
-    step-sound Records finished fit st′ T = absurd T
-    step-sound Text (recorded r more) fit st′ T = absurd fit
-    step-sound Text (added ls) fit st′ T = clause-sound ls fit st′ T
-    step-sound Text (struckOut ls) fit st′ C =
+    known-sound profile (recorded r more) known st′ T = record-sound r st′ (T .1)
+    known-sound profile (added ls) known st′ T = clause-sound profile ls known st′ T
+    known-sound profile (struckOut ls) known st′ C =
         same-sound m st′ (λ b all. struck-are _ st′ (C .is) b (all-fewer b (st .struck) (C .place) (m .members) all)) (ap (λ (x : State). x .refuted) (C .is))
-    step-sound Text (wrong number offset) fit st′ T = absurd T
-    step-sound Text finished fit st′ T = absurd T
+    known-sound profile (wrong number offset) known st′ T = absurd T
+    known-sound profile finished known st′ T = absurd T
+
+    pub step-sound : (profile : Bool) (form : Form) (c : Command) → Fit form n c → (st′ : State) → CommandTaken profile n s st c st′ → Sound text n (afterCommand m c) st′
+    step-sound profile form c fit st′ T = known-sound profile c (fit-known form n c fit) st′ T
 
 module _ (mode : Mode) (s : ℕ) (text proof : List ℕ) where
   -- the members made are the clauses of the formula
@@ -239,7 +242,7 @@ module _ (mode : Mode) (s : ℕ) (text proof : List ℕ) where
   reached-sound {n} (begins {many} {t} {ms} {fs} M) = begun-sound n many t ms fs M
   reached-sound {n} (goes {st} {st′} {at} R T) =
       let (narrow, S) = reached-standing mode s text proof R in
-      step-sound S narrow text (reached-sound R) (mode .form) (commandIn mode proof n at) (reached-fit mode s text proof R) st′ T
+      step-sound S narrow text (reached-sound R) (mode .consequence) (mode .form) (commandIn mode proof n at) (reached-fit mode s text proof R) st′ T
 
   -- ---- the formula of a reached state
 
@@ -271,7 +274,7 @@ module _ (mode : Mode) (s : ℕ) (text proof : List ℕ) where
       go _ (proof-ended {n} {number} {offset} {at} {st} {m} _ R e) z = (
         reached-end R,
         (λ a. not-true (satisfies a (clausesOf (formula text))) (λ sat.
-            reached-sound R .zero (step-refutes (mode .form) n s st (commandIn mode proof n at) (reached-fit mode s text proof R) offset (rw z at e) .zero-line) (fitted n a) (fitted-length n a)
+            reached-sound R .zero (step-refutes (mode .consequence) (mode .form) n s st (commandIn mode proof n at) (reached-fit mode s text proof R) offset (rw z at e) .zero-line) (fitted n a) (fitted-length n a)
             (satisfies-fitted n (clausesOf (formula text)) (reached-within R) a ∙ sat))),
       )
 

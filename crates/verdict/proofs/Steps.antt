@@ -6,11 +6,12 @@ use mathlib.Core.List.{List}
 use Prim.Native.Nat.{ℕ, _^_}
 use native.Mathlib.Omega.{arith}
 use lib.ListN.{length}
-use lib.Dec.{eqb, leb}
-use borrow.Author.Tests.{leb-true, leb-false, le-leb, lt-leb, eqb-false, ne-eqb, not-false}
+use lib.Dec.{eqb, leb, ltb}
+use borrow.Author.Tests.{leb-true, leb-false, le-leb, lt-leb, ltb-false, le-ltb, eqb-false, ne-eqb, not-false}
 use Rattle.meaning.specs.Rules.{Line, witnessed}
 use Rattle.meaning.specs.Words.{inWord}
 use Rattle.meaning.proofs.Booleans.{and-both, or-neither}
+use Rattle.paths.specs.Paths.{pathCount}
 use Rattle.table.specs.Nodes.{Node, above, Placing, full, placed, put, place}
 use Rattle.table.specs.Making.{lineReach}
 use Rattle.records.specs.declared.NodeBody.{NodeBody}
@@ -19,7 +20,7 @@ use Rattle.records.specs.declared.Record.the-variants.{NodeEntry, Witness, Proo
 use Rattle.records.specs.declared.SetKind.{SetKind}
 use Rattle.records.specs.declared.SetBody.{SetBody}
 use Rattle.records.specs.declared.Rule.{Rule}
-use Rattle.records.specs.declared.Rule.the-variants.{Rup, Pr}
+use Rattle.records.specs.declared.Rule.the-variants.{Rup, Pr, Path}
 use Rattle.records.specs.Records.{numberOf}
 use Rattle.verdict.specs.Steps.{State, Step, next, stop, spent, isEntry, entryNode, isVariable, entered, nodeStep, witnessStep, waiting, accepted, judged, diagramIn, lineStep, isLive, strikeStep, beyond, noParity, setDiagram, setStep, endStep}
 use Rattle.verdict.specs.Steps.{recordStep}
@@ -146,6 +147,23 @@ line-taken n s st Pr root st′ e =
     let (witness, e₄) = met (witnessed n (inWord (st .positive)) (inWord (st .negative)) (diagramIn st g)) 18 _ e₃ in
     let (fits, shown, is) = judged-taken s st g (lineOf n st Pr g) st′ e₄ in
     record { entry = entry; few = leb-false 1024 (st .lines) few; not-one = eqb-false g 1 one; witness = witness; fits = fits; shown = shown; is = is }
+line-taken n s st Path root st′ e =
+    let g : ℕ = entryNode st root in
+    let (entry, e₁) = met (isEntry st root) 13 _ e in
+    let (none, e₂) = passed (waiting st) 16 _ e₁ in
+    let (few, e₃) = passed (leb 1024 (st .lines)) 22 _ e₂ in
+    let (one, e₄) = passed (eqb g 1) 17 _ e₃ in
+    let (paths, e₅) = passed (ltb 4096 (pathCount (diagramIn st g))) 34 _ e₄ in
+    let (fits, shown, is) = judged-taken s st g (lineOf n st Path g) st′ e₅ in
+    record {
+      entry = entry;
+      few = leb-false 1024 (st .lines) few;
+      not-one = eqb-false g 1 one;
+      witness = (none, ltb-false 4096 (pathCount (diagramIn st g)) paths);
+      fits = fits;
+      shown = shown;
+      is = is;
+    }
 
 taken-line : (n s : ℕ) (st : State) (rule : Rule) (root : ℕ) (st′ : State) → LineTaken n s st rule root st′ → lineStep n s st rule root ≡ next st′
 unfolding lineStep judged
@@ -153,6 +171,17 @@ taken-line n s st Rup root st′ T =
     rw (T .entry, T .witness, lt-leb 1024 (st .lines) (T .few), ne-eqb (entryNode st root) 1 (T .not-one), T .fits, T .shown) (ap next (T .is))
 taken-line n s st Pr root st′ T =
     rw (T .entry, lt-leb 1024 (st .lines) (T .few), ne-eqb (entryNode st root) 1 (T .not-one), T .witness, T .fits, T .shown) (ap next (T .is))
+taken-line n s st Path root st′ T =
+    rw (
+      T .entry,
+      T .witness .0,
+      lt-leb 1024 (st .lines) (T .few),
+      ne-eqb (entryNode st root) 1 (T .not-one),
+      le-ltb 4096 (pathCount (diagramIn st (entryNode st root))) (T .witness .1),
+      T .fits,
+      T .shown,
+    )
+    (ap next (T .is))
 
 -- ---- strikings
 
@@ -326,6 +355,14 @@ module _ {offset : ℕ} where
       let (p₃, e₃) = past (eqb g 1) 17 0 _ refl e₂ in
       let (p₄, e₄) = past (not (witnessed n (inWord (st .positive)) (inWord (st .negative)) (diagramIn st g))) 18 0 _ refl e₃ in
       judged-not-zero s st g (lineOf n st Pr g) e₄
+  line-not-zero n s st Path root e =
+      let g : ℕ = entryNode st root in
+      let (p₁, e₁) = past (not (isEntry st root)) 13 0 _ refl e in
+      let (p₂, e₂) = past (waiting st) 16 0 _ refl e₁ in
+      let (p₃, e₃) = past (leb 1024 (st .lines)) 22 0 _ refl e₂ in
+      let (p₄, e₄) = past (eqb g 1) 17 0 _ refl e₃ in
+      let (p₅, e₅) = past (ltb 4096 (pathCount (diagramIn st g))) 34 0 _ refl e₄ in
+      judged-not-zero s st g (lineOf n st Path g) e₅
 
   strike-not-zero : {A : Type 0} (st : State) (k : ℕ) → strikeStep st k ≡ stop 0 offset → A
   unfolding strikeStep

@@ -66,9 +66,9 @@ module _ (s : ℕ) (text : List ℕ) where
           let narrow : n ≤ 64 = reached-standing mode s text proof R .0 in
           let c : Command = commandIn mode proof n at₁ in
           let fit : Fit (mode .form) n c = command-fit (mode .form) proof n at₁ within in (
-            (afterCommand m₁ c, step-standing S₁ narrow (mode .form) c fit st₂ T),
-            extends-trans (st .nodes) (st₁ .nodes) (st₂ .nodes) E (step-extends S₁ narrow (mode .form) c fit st₂ T),
-            command-goes (mode .form) proof n s st₁ st₂ at₁ within T .1,
+            (afterCommand m₁ c, step-standing S₁ narrow (mode .consequence) (mode .form) c fit st₂ T),
+            extends-trans (st .nodes) (st₁ .nodes) (st₂ .nodes) E (step-extends S₁ narrow (mode .consequence) (mode .form) c fit st₂ T),
+            command-goes (mode .consequence) (mode .form) proof n s st₁ st₂ at₁ within T .1,
           )
 
       pub number-kept : {st′ : State} {at′ : ℕ} → Later mode s proof n st at st′ at′ → (k : ℕ) → k < length (st .nodes) → diagramAt (st′ .nodes) k ≡ diagramAt (st .nodes) k

@@ -7,7 +7,8 @@ use Prim.Native.Nat.{ℕ, zero, suc}
 use Prim.Native.String.{String}
 use Rattle.meaning.specs.Diagram.{Diagram, leaf, node}
 use Rattle.meaning.specs.Operations.{Literal, clause, conjunction, cofactor, isUnit}
-use Rattle.commands.specs.Commands.{inRecords, inText}
+use Rattle.commands.specs.declared.Form.{Form}
+use Rattle.commands.specs.Commands.{inForm, inRecords, inText, inBinary}
 use Rattle.verdict.specs.Check.{Verdict, verdict}
 use Rattle.dimacs.specs.Texts.{bytes, plus, minus}
 
@@ -25,11 +26,13 @@ abbrev pub prints : ℕ → ℕ → ℕ → ℕ → ℕ → Printed
 prints number place lines rounds peak = record { number = number; place = place; lines = lines; rounds = rounds; peak = peak }
 
 -- A row: what is printed of a formula and a proof with a table of s places, and the marks that the members have then; the same of a DRAT
--- text; what f cofactored by g is; what U(f) is.
+-- text and of a binary proof; what is printed of a proof of a form in the consequence profile; what f cofactored by g is; what U(f) is.
 pub data Row : Type 0 where
   checked : (s : ℕ) (formula : String) (proof : List ℕ) (line : Printed) → Row
   marked : (s : ℕ) (formula : String) (proof : List ℕ) (line : Printed) (marks : List ℕ) → Row
   texted : (s : ℕ) (formula text : String) (line : Printed) (marks : List ℕ) → Row
+  coded : (s : ℕ) (formula : String) (proof : List ℕ) (line : Printed) (marks : List ℕ) → Row
+  profiled : (s : ℕ) (form : Form) (formula : String) (proof : List ℕ) (line : Printed) → Row
   cofactored : (n : ℕ) (f g result : Diagram) → Row
   units : (n : ℕ) (f : Diagram) (result : List Literal) → Row
 
@@ -51,6 +54,8 @@ Gives (marked s formula proof line marks) =
     (printed (verdict inRecords s (bytes formula) proof) ≡ line) × (verdict inRecords s (bytes formula) proof .struck ≡ marks)
 Gives (texted s formula text line marks) =
     let v = verdict inText s (bytes formula) (bytes text) in (printed v ≡ line) × (v .struck ≡ marks)
+Gives (coded s formula proof line marks) = let v = verdict inBinary s (bytes formula) proof in (printed v ≡ line) × (v .struck ≡ marks)
+Gives (profiled s form formula proof line) = printed (verdict (inForm form true) s (bytes formula) proof) ≡ line
 Gives (cofactored n f g result) = cofactor n f g ≡ result
 Gives (units n f result) = unitsTo n n f ≡ result
 
@@ -89,6 +94,9 @@ rupLine root rest = 0x52 ∷ᴸ root ∷ᴸ 0 ∷ᴸ rest
 
 abbrev pub prLine : ℕ → List ℕ → List ℕ
 prLine root rest = 0x50 ∷ᴸ root ∷ᴸ 0 ∷ᴸ rest
+
+abbrev pub pathRecord : ℕ → List ℕ → List ℕ
+pathRecord root rest = 0x51 ∷ᴸ root ∷ᴸ 0 ∷ᴸ rest
 
 abbrev pub strike : ℕ → List ℕ → List ℕ
 strike k rest = 0x44 ∷ᴸ k ∷ᴸ 0 ∷ᴸ rest

@@ -1,5 +1,5 @@
 -- What the check of a formula and a proof says and leaves, in each form of a proof. Clauses become members; then command after command
--- is judged: a record, or a clause of a DRAT text. (01; 02, 4/14)
+-- is judged: a record, or a clause of a DRAT proof. (01; 02, 4/14 and 9/14)
 use mathlib.Core.Bool.{Bool, true, false, _&&_, cond}
 use mathlib.Core.List.{List, [], _∷_, _++_}
 use Prim.Native.Nat.{ℕ, zero, suc, _+_, _-_}
@@ -12,6 +12,11 @@ use Rattle.dimacs.specs.declared.Header.{Header}
 use Rattle.dimacs.specs.declared.Header.the-variants.{Proper, Improper}
 use Rattle.dimacs.specs.Header.{header}
 use Rattle.dimacs.specs.Clauses.{Reading, clause, complete, refusal, clausesFrom}
+use Rattle.records.specs.declared.Rule.{Rule}
+use Rattle.records.specs.declared.Rule.the-variants.{Rup, Pr, Path}
+use Rattle.records.specs.declared.Record.{Record}
+use Rattle.records.specs.declared.Record.the-variants.{NodeEntry, Witness, ProofLine, Strike, SetEntry, End}
+use Rattle.records.specs.declared.Record.the-variants.{CutShort, UnknownKind, NoRecord}
 use Rattle.commands.specs.declared.Mode.{Mode}
 use Rattle.commands.specs.Commands.{Command, recorded, added, struckOut, wrong, finished, start, commandAt}
 use Rattle.verdict.specs.Steps.{State, emptied, begun, Step, next, stop, spent, recordStep}
@@ -23,14 +28,37 @@ use Rattle.verdict.specs.Clausal.{addStep, strikeClause}
 abbrev pub finish : State → Step
 finish st = cond (st .refuted) (stop 0 0) (stop 20 0)
 
+abbrev pub isPr : Rule → Bool
+isPr Rup = false
+isPr Pr = true
+isPr Path = false
+
+-- Whether the record is a whole PR line.
+abbrev pub isPrLine : Record → Bool
+isPrLine (ProofLine rule root) = isPr rule
+isPrLine (NodeEntry b) = false
+isPrLine (Witness v b) = false
+isPrLine (Strike k) = false
+isPrLine (SetEntry kind b) = false
+isPrLine End = false
+isPrLine CutShort = false
+isPrLine UnknownKind = false
+isPrLine NoRecord = false
+
+-- "In this profile only RUP lines and strikings pass [..]. It refuses a PR record with 33 before all but 10." "The consequence profile
+-- admits" path lines. (02, 11/14 and 12/14)
+abbrev pub shutOut : Bool → Record → Bool
+shutOut profile r = profile && isPrLine r
+
 -- A command in a formula of n variables with a table of s places. What is wrong in form is refused where it stands.
-unfoldable pub step : ℕ → ℕ → State → Command → Step
+unfoldable pub step : Bool → ℕ → ℕ → State → Command → Step
 unfolding recordStep addStep strikeClause
-step n s st (recorded r more) = recordStep n s st more r
-step n s st (added ls) = addStep n s st ls
-step n s st (struckOut ls) = strikeClause n st ls
-step n s st (wrong number offset) = stop number offset
-step n s st finished = finish st
+step profile n s st (recorded r more) =
+    let judged = recordStep n s st more r in cond (shutOut profile r) (stop 33 0) judged
+step profile n s st (added ls) = addStep profile n s st ls
+step profile n s st (struckOut ls) = strikeClause n st ls
+step profile n s st (wrong number offset) = stop number offset
+step profile n s st finished = finish st
 
 -- ---- the proof
 
@@ -74,7 +102,7 @@ unfolding step
 commands zero mode n s proof st at = left 10 at (st .peak) st
 commands (suc steps) mode n s proof st at =
     let r = commandAt (mode .form) proof n at in
-    afterStep (step n s st (r .command)) st at (λ st′. commands steps mode n s proof st′ (r .next))
+    afterStep (step (mode .consequence) n s st (r .command)) st at (λ st′. commands steps mode n s proof st′ (r .next))
 
 -- From the first command on.
 abbrev pub proofFrom : Mode → ℕ → ℕ → List ℕ → State → Verdict

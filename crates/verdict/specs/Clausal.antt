@@ -1,5 +1,5 @@
--- The step of a clause that a DRAT text adds or strikes out. (02, 4/14)
-use mathlib.Core.Bool.{true, not, _&&_, cond}
+-- The step of a clause that a DRAT proof adds or strikes out. (02, 4/14)
+use mathlib.Core.Bool.{Bool, true, false, not, _&&_, cond}
 use mathlib.Core.List.{List, [], _∷_}
 use mathlib.Core.Option.{Option, none, some}
 use Prim.Native.Nat.{ℕ, zero, suc, max}
@@ -52,10 +52,18 @@ unfolding judged unstruck has without
 secondTry n s st k [] peak = spent 19 peak
 secondTry n s st k (p ∷ ls) peak = judged s (withPeak st peak) k (secondLine n (liveMembers st) p ls)
 
+-- What comes after a first try that fails with 19: the second; in the consequence profile "DRAT clauses only by their first try" pass. (02,
+-- 11/14)
+unfoldable pub afterFirst : Bool → ℕ → ℕ → State → ℕ → List meaning.Literal → ℕ → Step
+unfolding secondTry
+afterFirst true n s st k ls peak = spent 19 peak
+afterFirst false n s st k ls peak = secondTry n s st k ls peak
+
 -- "A clause is tried as a RUP line; failing with 19, as a PR line"
-unfoldable pub tries : ℕ → ℕ → State → ℕ → List meaning.Literal → Step
-unfolding judgedOr secondTry unstruck
-tries n s st k ls = judgedOr (secondTry n s st k ls) s st k (rup n (liveMembers st) (meaning.clause n ls))
+unfoldable pub tries : Bool → ℕ → ℕ → State → ℕ → List meaning.Literal → Step
+unfolding judgedOr afterFirst unstruck
+tries profile n s st k ls =
+    judgedOr (afterFirst profile n s st k ls) s st k (rup n (liveMembers st) (meaning.clause n ls))
 
 -- "A clause's diagram is made before the tries and counts as its line's last entry"
 abbrev pub onceMade : State → Placing → (State → ℕ → Step) → Step
@@ -63,11 +71,11 @@ onceMade st (full t) rest = spent 23 (max (st .peak) (length t))
 onceMade st (placed t k) rest = rest (withEntry st t k) k
 
 -- "A line is refused with [..] 22, 17, then 23 or 19"
-unfoldable pub addStep : ℕ → ℕ → State → List meaning.Literal → Step
+unfoldable pub addStep : Bool → ℕ → ℕ → State → List meaning.Literal → Step
 unfolding tries
-addStep n s st ls =
+addStep profile n s st ls =
     let g = meaning.clause n ls in
-    let made = onceMade st (place s (st .nodes) g) (λ st₁ k. tries n s st₁ k ls) in
+    let made = onceMade st (place s (st .nodes) g) (λ st₁ k. tries profile n s st₁ k ls) in
     cond (leb 1024 (st .lines)) (stop 22 0) (cond (same g (leaf true)) (stop 17 0) made)
 
 -- ---- a clause struck out

@@ -1,7 +1,7 @@
--- What a clause of a text has to pass to be taken, as `verdict/specs/Taken` says it of records. No call open to others cites this file.
+-- What a clause of a DRAT proof has to pass to be taken, as `verdict/specs/Taken` says it of records. No call open to others cites this file.
 use mathlib.Core.Path.{_≡_}
 use mathlib.Core.Logic.{_⊎_}
-use mathlib.Core.Bool.{true, false, _&&_}
+use mathlib.Core.Bool.{Bool, true, false, _&&_}
 use mathlib.Core.List.{List, [], _∷_}
 use Prim.Native.Nat.{ℕ, _<_}
 use lib.ListN.{length, getD, set}
@@ -30,22 +30,24 @@ pub record SecondPasses (n s : ℕ) (st : State) (k : ℕ) (p : meaning.Literal)
   pub failed : firstLine n st (p ∷ ls) .shown ≡ false
   pub passes : Judged s (withPeak st (peakWith s st (firstLine n st (p ∷ ls)))) k (secondLine n (liveMembers st) p ls) st′
 
-abbrev pub SecondTaken : ℕ → ℕ → State → ℕ → List meaning.Literal → State → Type 0
-SecondTaken n s st k [] st′ = ⊥
-SecondTaken n s st k (p ∷ ls) st′ = SecondPasses n s st k p ls st′
+-- In the consequence profile there is no second try. (02, 11/14)
+abbrev pub SecondTaken : Bool → ℕ → ℕ → State → ℕ → List meaning.Literal → State → Type 0
+SecondTaken true n s st k ls st′ = ⊥
+SecondTaken false n s st k [] st′ = ⊥
+SecondTaken false n s st k (p ∷ ls) st′ = SecondPasses n s st k p ls st′
 
 -- One of the tries passes.
-abbrev pub TriesTaken : ℕ → ℕ → State → ℕ → List meaning.Literal → State → Type 0
-TriesTaken n s st k ls st′ = Judged s st k (firstLine n st ls) st′ ⊎ SecondTaken n s st k ls st′
+abbrev pub TriesTaken : Bool → ℕ → ℕ → State → ℕ → List meaning.Literal → State → Type 0
+TriesTaken profile n s st k ls st′ = Judged s st k (firstLine n st ls) st′ ⊎ SecondTaken profile n s st k ls st′
 
 -- "22, 17, then 23 or 19": none of them holds.
-pub record ClauseTaken (n s : ℕ) (st : State) (ls : List meaning.Literal) (st′ : State) : Type 0 where
+pub record ClauseTaken (profile : Bool) (n s : ℕ) (st : State) (ls : List meaning.Literal) (st′ : State) : Type 0 where
   pub few : st .lines < 1024
   pub not-one : same (meaning.clause n ls) (leaf true) ≡ false
   pub nodes : List Node
   pub node : ℕ
   pub room : place s (st .nodes) (meaning.clause n ls) ≡ placed nodes node
-  pub tried : TriesTaken n s (withEntry st nodes node) node ls st′
+  pub tried : TriesTaken profile n s (withEntry st nodes node) node ls st′
 
 -- A step that goes on.
 abbrev pub GoesOn : Step → Type 0

@@ -9,3 +9,6 @@ pub mod Marks
 pub mod Satisfies
 pub mod MetFirst
 pub mod TextRows
+pub mod PathRows
+pub mod Profile
+pub mod BinaryRows

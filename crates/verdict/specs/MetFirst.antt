@@ -6,12 +6,13 @@ use mathlib.Core.Option.{Option, none, some}
 use mathlib.Core.Bool.{true}
 use Prim.Native.Nat.{ℕ, zero, suc}
 use Rattle.meaning.specs.Diagram.{Diagram, leaf, same}
-use Rattle.meaning.specs.Operations.{negation, cofactorLiterals}
+use Rattle.meaning.specs.Operations.{Literal, negation, cofactorLiterals}
 use Rattle.meaning.specs.Rules.{Line, conflicts, firstWithUnit, byUnits, byDiagram, base}
 use Rattle.meaning.specs.Words.{inWord}
+use Rattle.paths.specs.Paths.{paths, byPath}
 use Rattle.table.specs.Nodes.{Node, Placing, full, placed, place}
 use Rattle.records.specs.declared.Rule.{Rule}
-use Rattle.records.specs.declared.Rule.the-variants.{Rup, Pr}
+use Rattle.records.specs.declared.Rule.the-variants.{Rup, Pr, Path}
 use Rattle.verdict.specs.Steps.{State, Step, next, spent, accepted, diagramIn, liveMembers}
 
 -- What is met: a conflict in every propagation; a propagation that ends without one; a diagram that finds no room.
@@ -60,9 +61,18 @@ turning s n P N t ms′ (f ∷ fs) =
     let turn = metThen (making s t (h ∷ negation n h ∷ second) (λ t₁. propagating s n n t₁ second)) rest in
     cond (same h (leaf true)) rest turn
 
--- "Making order of a line: not-g; members by not-g, by place", then the propagation of RUP or the turns of PR.
+-- "for each path from the root to 0 [..] UnitProp of the live members cofactored by c must conflict. Paths are taken low side first and nodes
+-- are dropped between them" (02, 12/14): each path's members are made over the same nodes.
+unfoldable pub pathing : ℕ → ℕ → List Node → List Diagram → List (List Literal) → Met
+unfolding making propagating
+pathing s n t ms [] = all-shown
+pathing s n t ms (c ∷ cs) =
+    let rest = pathing s n t ms cs in metThen (making s t (byPath n c ms) (λ t₁. propagating s n n t₁ (byPath n c ms))) rest
+
+-- "Making order of a line: not-g; members by not-g, by place", then the propagation of RUP or the turns of PR. A path line makes no
+-- not-g.
 unfoldable pub metBy : ℕ → ℕ → State → Rule → ℕ → Met
-unfolding making propagating turning
+unfolding making propagating turning pathing paths
 metBy n s st Rup g =
     let ms = liveMembers st in
     making s (st .nodes) (base n ms (diagramIn st g)) (λ t. propagating s n n t (byDiagram n (negation n (diagramIn st g)) ms))
@@ -70,6 +80,7 @@ metBy n s st Pr g =
     let ms = liveMembers st in
     making s (st .nodes) (base n ms (diagramIn st g))
     (λ t. turning s n (inWord (st .positive)) (inWord (st .negative)) t (byDiagram n (negation n (diagramIn st g)) ms) ms)
+metBy n s st Path g = pathing s n (st .nodes) (liveMembers st) (paths (diagramIn st g))
 
 -- What each says: the line accepted, 19, 23; the greatest count is then `peak`.
 abbrev pub sayMet : State → ℕ → Line → ℕ → Met → Step

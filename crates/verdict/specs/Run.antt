@@ -2,7 +2,7 @@
 -- stand for, and where the run ends. No call open to others cites this file: the theorems on what `check` says do.
 use mathlib.Core.Path.{_≡_}
 use mathlib.Core.Logic.{_≢_}
-use mathlib.Core.Bool.{true, false}
+use mathlib.Core.Bool.{Bool, true, false}
 use mathlib.Core.List.{List, [], _∷_, _++_, map}
 use Prim.Native.Nat.{ℕ, zero, suc, _+_, _≤_, _<_}
 use lib.ListN.{length, take}
@@ -14,11 +14,11 @@ use Rattle.dimacs.specs.Header.{header}
 use Rattle.dimacs.specs.Clauses.{Reading, clause, complete, refusal, clausesFrom, formula}
 use Rattle.records.specs.declared.Record.the-variants.{End}
 use Rattle.commands.specs.declared.Form.{Form}
-use Rattle.commands.specs.declared.Form.the-variants.{Records, Text}
+use Rattle.commands.specs.declared.Form.the-variants.{Records, Text, Binary}
 use Rattle.commands.specs.declared.Mode.{Mode}
 use Rattle.commands.specs.Commands.{Command, recorded, added, struckOut, wrong, finished, start, commandAt}
 use Rattle.verdict.specs.Steps.{State, emptied, begun, stop, spent, waiting}
-use Rattle.verdict.specs.Check.{step, Verdict, left, refusedFormula}
+use Rattle.verdict.specs.Check.{shutOut, step, Verdict, left, refusedFormula}
 use Rattle.verdict.specs.Taken.{Function, Meant, afterRecord, Taken}
 use Rattle.verdict.specs.ClauseTaken.{ClauseTaken, ClauseStruck}
 use Rattle.verdict.specs.Satisfies.{clausesOf}
@@ -33,12 +33,13 @@ abbrev pub nextIn : Mode → List ℕ → ℕ → ℕ → ℕ
 nextIn mode proof n at = commandAt (mode .form) proof n at .next
 
 -- What a command has to pass, by its kind, and the state that it leads to. No other command is followed by a state.
-abbrev pub CommandTaken : ℕ → ℕ → State → Command → State → Type 0
-CommandTaken n s st (recorded r more) st′ = Taken n s st r st′
-CommandTaken n s st (added ls) st′ = ClauseTaken n s st ls st′
-CommandTaken n s st (struckOut ls) st′ = ClauseStruck n st ls st′
-CommandTaken n s st (wrong number offset) st′ = ⊥
-CommandTaken n s st finished st′ = ⊥
+-- In the consequence profile no PR line is. (02, 11/14)
+abbrev pub CommandTaken : Bool → ℕ → ℕ → State → Command → State → Type 0
+CommandTaken profile n s st (recorded r more) st′ = (shutOut profile r ≡ false) × Taken n s st r st′
+CommandTaken profile n s st (added ls) st′ = ClauseTaken profile n s st ls st′
+CommandTaken profile n s st (struckOut ls) st′ = ClauseStruck n st ls st′
+CommandTaken profile n s st (wrong number offset) st′ = ⊥
+CommandTaken profile n s st finished st′ = ⊥
 
 -- ---- what members and entries stand for
 
@@ -58,7 +59,7 @@ meantAfter zero mode n proof at m = m
 meantAfter (suc k) mode n proof at m =
     meantAfter k mode n proof (nextIn mode proof n at) (afterCommand m (commandIn mode proof n at))
 
--- The functions of a proof's lines, line after line, as its bytes fix them: of the roots in records, of the added clauses in a text.
+-- The functions of a proof's lines, line after line, as its bytes fix them: of the roots in records, of the added clauses in DRAT.
 -- There are no more commands than bytes.
 abbrev pub lineFunctions : Mode → ℕ → List ℕ → List Function
 lineFunctions mode n proof =
@@ -93,13 +94,13 @@ pub data Reached (mode : Mode) (s : ℕ) (text proof : List ℕ) (n : ℕ) : Sta
   begins : {many : ℕ} {t : List Node} {ms : List ℕ} {fs : List Function} → Making s text n many t ms fs complete
       → Reached mode s text proof n (begun t ms) (start (mode .form) proof) (record { members = fs; entries = [] })
   goes : {st st′ : State} {at : ℕ} {m : Meant}
-      → Reached mode s text proof n st at m → CommandTaken n s st (commandIn mode proof n at) st′
+      → Reached mode s text proof n st at m → CommandTaken (mode .consequence) n s st (commandIn mode proof n at) st′
       → Reached mode s text proof n st′ (nextIn mode proof n at) (afterCommand m (commandIn mode proof n at))
 
 -- The states that are reached from one by commands that are taken.
 pub data Later (mode : Mode) (s : ℕ) (proof : List ℕ) (n : ℕ) (st : State) (at : ℕ) : State → ℕ → Type 0 where
   here : Later mode s proof n st at st at
-  after : {st₁ st₂ : State} {at₁ : ℕ} → Later mode s proof n st at st₁ at₁ → CommandTaken n s st₁ (commandIn mode proof n at₁) st₂
+  after : {st₁ st₂ : State} {at₁ : ℕ} → Later mode s proof n st at st₁ at₁ → CommandTaken (mode .consequence) n s st₁ (commandIn mode proof n at₁) st₂
       → Later mode s proof n st at st₂ (nextIn mode proof n at₁)
 
 -- How a check ends, with what it says and leaves: there is no proper header; a token of the formula is refused, all clauses before
@@ -114,19 +115,23 @@ pub data Ended (mode : Mode) (s : ℕ) (text proof : List ℕ) : Verdict → Typ
       → Making s text n many t ms fs (clause ls first rest) → place s t (meaning.clause n ls) ≡ full t₁
       → Ended mode s text proof (refusedFormula 8 first (length t₁))
   stopped : {n number offset at : ℕ} {st : State} {m : Meant}
-      → Reached mode s text proof n st at m → step n s st (commandIn mode proof n at) ≡ stop number offset
+      → Reached mode s text proof n st at m → step (mode .consequence) n s st (commandIn mode proof n at) ≡ stop number offset
       → Ended mode s text proof (left number (at + offset) (st .peak) st)
   tried : {n number peak at : ℕ} {st : State} {m : Meant}
-      → Reached mode s text proof n st at m → step n s st (commandIn mode proof n at) ≡ spent number peak
+      → Reached mode s text proof n st at m → step (mode .consequence) n s st (commandIn mode proof n at) ≡ spent number peak
       → Ended mode s text proof (left number at peak st)
 
--- The numbers that a proof can get: 0, 9 to 23, 28 and 29 in records; 0, 3, 4, 6, 17, 19, 20, 22, 23 and 28 in a text.
+-- The numbers that a proof can get: 0, 9 to 23, 28, 29, 33 and 34 in records; 0, 3, 4, 6, 17, 19, 20, 22, 23 and 28 in a text; 0, 4, 6, 9,
+-- 17, 19, 20, 22, 23, 28 and 31 in binary.
 abbrev pub ProofNumber : Form → ℕ → Type 0
-ProofNumber Records number = (number ≢ 28 → number ≢ 29 → number ≤ 23) × (number ≢ 0 → 9 ≤ number)
+ProofNumber Records number = (number ≢ 28 → number ≢ 29 → number ≢ 33 → number ≢ 34 → number ≤ 23) × (number ≢ 0 → 9 ≤ number)
 ProofNumber Text number =
     (number ≢ 28 → number ≤ 23) × (number ≢ 0 → 3 ≤ number) × (number ≢ 5) × (6 < number → 17 ≤ number) × (number ≢ 18) × (number ≢ 21)
+ProofNumber Binary number =
+    (number ≢ 28 → number ≢ 31 → number ≤ 23) × (number ≢ 0 → 4 ≤ number) × (number ≢ 5) × (6 < number → 9 ≤ number) × (9 < number → 17 ≤ number)
+    × (number ≢ 18) × (number ≢ 21)
 
--- "End: 16, 11, 20": an end record with no witness waiting and no byte behind it; or the end of a text. (02, 4/14)
+-- "End: 16, 11, 20": an end record with no witness waiting and no byte behind it; or the end of a DRAT proof. (02, 4/14)
 abbrev pub Closes : State → Command → Type 0
 Closes st (recorded r more) = (r ≡ End) × (waiting st ≡ false) × (more ≡ false)
 Closes st (added ls) = ⊥

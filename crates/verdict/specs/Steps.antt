@@ -9,11 +9,12 @@ use Rattle.meaning.specs.Diagram.{Diagram}
 use Rattle.meaning.specs.Rules.{Line, rup, pr, witnessed}
 use Rattle.meaning.specs.Sets.{parity, atLeast}
 use Rattle.meaning.specs.Words.{inWord}
+use Rattle.paths.specs.Paths.{pathLine, pathCount}
 use Rattle.table.specs.Nodes.{Node, blank, above, diagramAt, Placing, full, placed, put, place}
 use Rattle.table.specs.Making.{lineReach}
 use Rattle.records.specs.declared.NodeBody.{NodeBody}
 use Rattle.records.specs.declared.Rule.{Rule}
-use Rattle.records.specs.declared.Rule.the-variants.{Rup, Pr}
+use Rattle.records.specs.declared.Rule.the-variants.{Rup, Pr, Path}
 use Rattle.records.specs.declared.SetKind.{SetKind}
 use Rattle.records.specs.declared.SetKind.the-variants.{Parity, AtLeast}
 use Rattle.records.specs.declared.SetBody.{SetBody}
@@ -206,9 +207,10 @@ abbrev pub liveMembers : State → List Diagram
 liveMembers st = map (diagramIn st) (unstruck (st .struck) (st .members))
 
 -- "RUP: 10, 13, 16, 22, 17, then 19 or 23, the one met first. PR: 10, 13, 22, 17, 18, then the same."
+-- "It refuses as a RUP line does, and with 34, just after 17, a diagram with more than 4,096 such paths." (02, 12/14)
 -- "17: line is always true"; "18: witness does not make the line 1"; "22: over 1,024 lines"
 unfoldable pub lineStep : ℕ → ℕ → State → Rule → ℕ → Step
-unfolding isEntry entryNode waiting judged unstruck
+unfolding isEntry entryNode waiting judged unstruck pathLine pathCount
 lineStep n s st Rup root =
     let g = entryNode st root in
     let last = judged s st g (rup n (liveMembers st) (diagramIn st g)) in
@@ -221,6 +223,12 @@ lineStep n s st Pr root =
     let last = judged s st g (pr n P N (liveMembers st) (diagramIn st g)) in
     let shut = cond (not (witnessed n P N (diagramIn st g))) (stop 18 0) last in
     cond (not (isEntry st root)) (stop 13 0) (cond (leb 1024 (st .lines)) (stop 22 0) (cond (eqb g 1) (stop 17 0) shut))
+lineStep n s st Path root =
+    let g = entryNode st root in
+    let last = judged s st g (pathLine n (liveMembers st) (diagramIn st g)) in
+    let few = cond (ltb 4096 (pathCount (diagramIn st g))) (stop 34 0) last in
+    cond (not (isEntry st root)) (stop 13 0)
+    (cond (waiting st) (stop 16 0) (cond (leb 1024 (st .lines)) (stop 22 0) (cond (eqb g 1) (stop 17 0) few)))
 
 -- ---- strikings
 

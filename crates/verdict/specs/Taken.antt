@@ -11,11 +11,12 @@ use Rattle.meaning.specs.Diagram.{Assignment, Diagram, holds, value}
 use Rattle.meaning.specs.Sets.{parityValue, atLeastValue}
 use Rattle.meaning.specs.Rules.{Line, rup, pr, witnessed}
 use Rattle.meaning.specs.Words.{inWord}
+use Rattle.paths.specs.Paths.{pathLine, pathCount}
 use Rattle.table.specs.Nodes.{Node, above, diagramAt, placed, put, place}
 use Rattle.table.specs.Making.{lineReach}
 use Rattle.records.specs.declared.NodeBody.{NodeBody}
 use Rattle.records.specs.declared.Rule.{Rule}
-use Rattle.records.specs.declared.Rule.the-variants.{Rup, Pr}
+use Rattle.records.specs.declared.Rule.the-variants.{Rup, Pr, Path}
 use Rattle.records.specs.declared.SetKind.{SetKind}
 use Rattle.records.specs.declared.SetKind.the-variants.{Parity, AtLeast}
 use Rattle.records.specs.declared.SetBody.{SetBody}
@@ -97,26 +98,29 @@ pub record WitnessTaken (n : ℕ) (st : State) (v : ℕ) (b : Bool) (st′ : Sta
   pub new-negative : inWord (st .negative) v ≡ false
   pub is : withWitness st (assigned b (st .positive) v) (assigned (not b) (st .negative) v) ≡ st′
 
--- A line by its rule: RUP, or PR with the witness of two words, of the members ms and the root g.
+-- A line by its rule: RUP, PR with the witness of two words, or a path line, of the members ms and the root g.
 abbrev pub lineBy : ℕ → Rule → ℕ → ℕ → List Diagram → Diagram → Line
 lineBy n Rup positive negative ms g = rup n ms g
 lineBy n Pr positive negative ms g = pr n (inWord positive) (inWord negative) ms g
+lineBy n Path positive negative ms g = pathLine n ms g
 
 -- The line whose root is node g, over the live members.
 abbrev pub lineOf : ℕ → State → Rule → ℕ → Line
 lineOf n st rule g = lineBy n rule (st .positive) (st .negative) (liveMembers st) (diagramIn st g)
 
--- What its rule asks of the witness: none is left at a RUP line; "g under ω is 1" at a PR line.
+-- What its rule asks of the witness, and of the paths: none is left at a RUP line and at a path line; "g under ω is 1" at a PR line; a
+-- path line has at most 4,096 paths.
 abbrev pub Witnessed : ℕ → State → Rule → ℕ → Type 0
 Witnessed n st Rup g = waiting st ≡ false
 Witnessed n st Pr g = witnessed n (inWord (st .positive)) (inWord (st .negative)) (diagramIn st g) ≡ true
+Witnessed n st Path g = (waiting st ≡ false) × (pathCount (diagramIn st g) ≤ 4096)
 
 -- The greatest count once a line is tried: what was reached before, or what the line reaches.
 abbrev pub peakWith : ℕ → State → Line → ℕ
 peakWith s st line = max (st .peak) (lineReach s (st .nodes) line .peak)
 
--- "RUP: 10, 13, 16, 22, 17, then 19 or 23 [..]. PR: 10, 13, 22, 17, 18, then the same": none of them holds: its rule shows the
--- line, and all that it makes finds room.
+-- "RUP: 10, 13, 16, 22, 17, then 19 or 23 [..]. PR: 10, 13, 22, 17, 18, then the same"; a path line has "34, just after 17" (02,
+-- 12/14): none of them holds: its rule shows the line, and all that it makes finds room.
 pub record LineTaken (n s : ℕ) (st : State) (rule : Rule) (root : ℕ) (st′ : State) : Type 0 where
   pub entry : isEntry st root ≡ true
   pub few : st .lines < 1024

@@ -49,6 +49,17 @@ pub struct Checked {
     pub peak: usize,
 }
 
+/// The answer of a conversion.
+#[repr(C)]
+#[derive(Clone, Copy, Debug, PartialEq, Eq)]
+pub struct Converted {
+    pub number: u8,
+    /// 0 if not refused.
+    pub place: usize,
+    /// Of the result; 0 with a refusal.
+    pub length: usize,
+}
+
 /// How many bytes a line can have: see [`report`].
 pub const LINE: usize = 105;
 
@@ -70,13 +81,14 @@ const _: () = {
     assert!(size_of::<Checked>() == 48 && offset_of!(Checked, place) == 8 && offset_of!(Checked, lines) == 16);
     assert!(offset_of!(Checked, in_proof) == 1);
     assert!(offset_of!(Checked, rounds) == 24 && offset_of!(Checked, count) == 32 && offset_of!(Checked, peak) == 40);
+    assert!(size_of::<Converted>() == 24 && offset_of!(Converted, place) == 8 && offset_of!(Converted, length) == 16);
     assert!(size_of::<Told>() == 16 && offset_of!(Told, status) == 8);
 };
 
 /// The declarations. A slice is handed over as its address and its length, two arguments apart: a pair that did not fit into
 /// the registers left would lie elsewhere.
 mod archive {
-    use super::{AtLeast, Checked, Evaluated, Single, Told, LINE};
+    use super::{AtLeast, Checked, Converted, Evaluated, Single, Told, LINE};
 
     extern "C" {
         pub fn cablesalak_evaluate(
@@ -223,6 +235,111 @@ mod archive {
             proof_length: usize,
         ) -> Checked;
 
+        pub fn cablesalak_check_binary(
+            vars: *mut u8,
+            vars_length: usize,
+            lows: *mut u16,
+            lows_length: usize,
+            highs: *mut u16,
+            highs_length: usize,
+            heads: *mut u16,
+            heads_length: usize,
+            links: *mut u16,
+            links_length: usize,
+            count: usize,
+            members: *mut u16,
+            members_length: usize,
+            struck: *mut u8,
+            struck_length: usize,
+            scratch: *mut u16,
+            scratch_length: usize,
+            formula: *const u8,
+            formula_length: usize,
+            proof: *const u8,
+            proof_length: usize,
+        ) -> Checked;
+
+        pub fn cablesalak_check_consequence(
+            vars: *mut u8,
+            vars_length: usize,
+            lows: *mut u16,
+            lows_length: usize,
+            highs: *mut u16,
+            highs_length: usize,
+            heads: *mut u16,
+            heads_length: usize,
+            links: *mut u16,
+            links_length: usize,
+            count: usize,
+            members: *mut u16,
+            members_length: usize,
+            struck: *mut u8,
+            struck_length: usize,
+            scratch: *mut u16,
+            scratch_length: usize,
+            formula: *const u8,
+            formula_length: usize,
+            proof: *const u8,
+            proof_length: usize,
+        ) -> Checked;
+
+        pub fn cablesalak_check_text_consequence(
+            vars: *mut u8,
+            vars_length: usize,
+            lows: *mut u16,
+            lows_length: usize,
+            highs: *mut u16,
+            highs_length: usize,
+            heads: *mut u16,
+            heads_length: usize,
+            links: *mut u16,
+            links_length: usize,
+            count: usize,
+            members: *mut u16,
+            members_length: usize,
+            struck: *mut u8,
+            struck_length: usize,
+            scratch: *mut u16,
+            scratch_length: usize,
+            formula: *const u8,
+            formula_length: usize,
+            proof: *const u8,
+            proof_length: usize,
+        ) -> Checked;
+
+        pub fn cablesalak_check_binary_consequence(
+            vars: *mut u8,
+            vars_length: usize,
+            lows: *mut u16,
+            lows_length: usize,
+            highs: *mut u16,
+            highs_length: usize,
+            heads: *mut u16,
+            heads_length: usize,
+            links: *mut u16,
+            links_length: usize,
+            count: usize,
+            members: *mut u16,
+            members_length: usize,
+            struck: *mut u8,
+            struck_length: usize,
+            scratch: *mut u16,
+            scratch_length: usize,
+            formula: *const u8,
+            formula_length: usize,
+            proof: *const u8,
+            proof_length: usize,
+        ) -> Checked;
+
+        pub fn cablesalak_to_binary(text: *const u8, text_length: usize, out: *mut u8, out_length: usize) -> Converted;
+
+        pub fn cablesalak_to_text(
+            binary: *const u8,
+            binary_length: usize,
+            out: *mut u8,
+            out_length: usize,
+        ) -> Converted;
+
         pub fn cablesalak_report(
             formula_read: bool,
             formula: *const u8,
@@ -358,6 +475,38 @@ check! {
 check! {
     /// The check of a formula and a proof that is a DRAT text. Number 0: no assignment satisfies the formula.
     check_text, cablesalak_check_text
+}
+
+check! {
+    /// The check of a formula and a binary DRAT proof. Number 0: no assignment satisfies the formula.
+    check_binary, cablesalak_check_binary
+}
+
+check! {
+    /// [`check`] in the consequence profile: each accepted line is true under every assignment that satisfies the formula.
+    check_consequence, cablesalak_check_consequence
+}
+
+check! {
+    /// [`check_text`] in the consequence profile: clauses pass by their first try alone.
+    check_text_consequence, cablesalak_check_text_consequence
+}
+
+check! {
+    /// [`check_binary`] in the consequence profile.
+    check_binary_consequence, cablesalak_check_binary_consequence
+}
+
+/// A DRAT text in binary, put at the start of `out`, which is zero behind it; or 3, 4, 6 or 7, and `out` is all zero.
+pub fn to_binary(text: &[u8], out: &mut [u8]) -> Converted {
+    // SAFETY: the slices are valid for their lengths, and `out`, being `&mut`, does not overlap the text; the call asks for nothing more.
+    unsafe { archive::cablesalak_to_binary(text.as_ptr(), text.len(), out.as_mut_ptr(), out.len()) }
+}
+
+/// A binary DRAT proof as text, likewise; or 4, 6, 9, 31 or 7.
+pub fn to_text(binary: &[u8], out: &mut [u8]) -> Converted {
+    // SAFETY: as for `to_binary`.
+    unsafe { archive::cablesalak_to_text(binary.as_ptr(), binary.len(), out.as_mut_ptr(), out.len()) }
 }
 
 /// The program's line on two files, put at the start of `line`, and the status to end with: 0 for refuted alone, 2 where a file was not taken,

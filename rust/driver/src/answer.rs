@@ -1,8 +1,8 @@
 //! Makes the calls, compares every lent place with what documents 01 and 02 say, and writes the answer.
 
-use crate::command::{Call, Check, Command, Form, Node, Table};
+use crate::command::{Call, Check, Command, Conversion, Form, Node, Table};
 use crate::lent::{Dirt, Lent, Lists};
-use cablesalak::raw::{self, AtLeast, Checked, Single};
+use cablesalak::raw::{self, AtLeast, Checked, Converted, Single};
 use std::fmt::Write;
 
 /// The answer to a command, or what the library broke. Dirt is what the lent places may hold.
@@ -11,6 +11,7 @@ pub fn answer(command: &Command, dirt: &mut Dirt) -> String {
         Command::Single(table, Call::Evaluate(node, word)) => evaluate(table, *node, *word),
         Command::Single(table, call) => single(table, call),
         Command::Check(asked) => check(asked, dirt),
+        Command::Convert(asked) => convert(asked, dirt),
     };
     answered.unwrap_or_else(|what| what)
 }
@@ -123,21 +124,44 @@ fn dirty_parts(asked: &Check, seed: u64) -> Parts {
 
 fn judge(parts: &mut Parts, asked: &Check, proof: &[u8]) -> Checked {
     let Parts { table, members, struck, scratch } = parts;
-    let call = match asked.form {
-        Form::Records => raw::check,
-        Form::Text => raw::check_text,
+    let call = match (asked.form, asked.consequence) {
+        (Form::Records, false) => raw::check,
+        (Form::Text, false) => raw::check_text,
+        (Form::Binary, false) => raw::check_binary,
+        (Form::Records, true) => raw::check_consequence,
+        (Form::Text, true) => raw::check_text_consequence,
+        (Form::Binary, true) => raw::check_binary_consequence,
     };
     let (members, struck, scratch) = (members.lend(), struck.lend(), scratch.lend());
     call(&mut table.lend(), LENT_COUNT, members, struck, scratch, &asked.formula, proof)
 }
 
-/// Which text the place must be in. 3, 4 and 6 are said of the formula and of a DRAT text; of a formula that is fine an empty text gets 20.
+/// Which text the place must be in. 3, 4 and 6 are said of the formula and of a DRAT proof; of a formula that is fine an empty proof gets 20.
 fn in_proof(asked: &Check, said: &Checked) -> bool {
     match said.number {
-        3 | 4 | 6 if asked.form == Form::Text => judge(&mut dirty_parts(asked, 0), asked, b"").number == 20,
+        3 | 4 | 6 if asked.form != Form::Records => judge(&mut dirty_parts(asked, 0), asked, b"").number == 20,
         1..=8 => false,
         _ => true,
     }
+}
+
+fn convert(asked: &Conversion, dirt: &mut Dirt) -> Answered {
+    let mut out = Lent::filled(asked.size, 0xa5, || dirt.next() as u8);
+    let call: fn(&[u8], &mut [u8]) -> Converted = if asked.from == Form::Text { raw::to_binary } else { raw::to_text };
+    let said = call(&asked.proof, out.lend());
+    expect(out.guarded(), "written outside the output")?;
+    expect(said.number == 0 || said.length == 0, "a refused conversion has a length")?;
+    expect(said.number != 0 || said.place == 0, "a conversion that is not refused has a place")?;
+    expect(out.zero_from(said.length), "the output is not zero past the result")?;
+    Ok(format!("{} {} {} | {}", said.number, said.place, said.length, hex(out.places())))
+}
+
+/// Bytes in lower-case hex, `-` for none.
+fn hex(bytes: &[u8]) -> String {
+    if bytes.is_empty() {
+        return "-".into();
+    }
+    bytes.iter().map(|byte| format!("{byte:02x}")).collect()
 }
 
 /// "Number 7 changes nothing."

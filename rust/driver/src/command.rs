@@ -41,11 +41,15 @@ pub enum Form {
     Records,
     /// A DRAT text.
     Text,
+    /// A binary DRAT proof.
+    Binary,
 }
 
 /// Sizes and bytes of a whole check.
 pub struct Check {
     pub form: Form,
+    /// In the consequence profile.
+    pub consequence: bool,
     pub size: usize,
     /// Without changes: the check may find anything in it.
     pub index: Index,
@@ -55,9 +59,17 @@ pub struct Check {
     pub proof: Vec<u8>,
 }
 
+/// A conversion of a DRAT proof from a form into the other, with an output of a size.
+pub struct Conversion {
+    pub from: Form,
+    pub size: usize,
+    pub proof: Vec<u8>,
+}
+
 pub enum Command {
     Single(Table, Call),
     Check(Check),
+    Convert(Conversion),
 }
 
 /// The largest buffer that a command may ask for.
@@ -65,18 +77,30 @@ const LARGEST: usize = 1 << 20;
 
 /// The command in a line, if it is one.
 pub fn read(line: &str) -> Option<Command> {
+    let (line, consequence) = line.strip_prefix("cons ").map_or((line, false), |rest| (rest, true));
     let words: Vec<&str> = line.split(' ').collect();
     let told = words.iter().position(|word| word.starts_with('!')).unwrap_or(words.len());
     let index = index(&words[told..])?;
     match words[..told] {
-        ["check" | "drat", ..] if !index.changes.is_empty() => None,
-        [word @ ("check" | "drat"), size, members, scratch, formula, proof] => Some(Command::Check(Check {
-            form: if word == "drat" { Form::Text } else { Form::Records },
+        ["check" | "drat" | "dratb", ..] if !index.changes.is_empty() => None,
+        [word @ ("check" | "drat" | "dratb"), size, members, scratch, formula, proof] => Some(Command::Check(Check {
+            form: match word {
+                "drat" => Form::Text,
+                "dratb" => Form::Binary,
+                _ => Form::Records,
+            },
+            consequence,
             size: places(size)?,
             index,
             members: places(members)?,
             scratch: places(scratch)?,
             formula: bytes(formula)?,
+            proof: bytes(proof)?,
+        })),
+        _ if consequence => None,
+        [word @ ("tobin" | "totext"), size, proof] if told == words.len() => Some(Command::Convert(Conversion {
+            from: if word == "tobin" { Form::Text } else { Form::Binary },
+            size: places(size)?,
             proof: bytes(proof)?,
         })),
         [word, size, count, nodes, ref operands @ ..] => {

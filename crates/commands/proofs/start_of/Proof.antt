@@ -23,5 +23,11 @@ module _ (c : tie.After-skip-between) where
 returns-2 : tie.Need-returns-2
 returns-2 c = (rw (enum-told2-from-return-2 c .enum-told2 .given .1) (c .skip-between .ensures .0), c .skip-between .ensures .1 .1)
 
+enum-told-3 : tie.Need-enum-told-3
+enum-told-3 c = search needs
+
+returns-3 : tie.Need-returns-3
+returns-3 c = search needs
+
 pub start-of-spec : {M : Type 1} → statement M
-start-of-spec = tie.close (tie.spec enum-told enum-told-2 skip-between-requires returns returns-2)
+start-of-spec = tie.close (tie.spec enum-told enum-told-2 skip-between-requires enum-told-3 returns returns-2 returns-3)

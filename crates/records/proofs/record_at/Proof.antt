@@ -40,6 +40,9 @@ line-in-requires c κs = search needs
 line-in-requires-2 : tie.Need-line-in-requires-2
 line-in-requires-2 c κs = search needs
 
+line-in-requires-3 : tie.Need-line-in-requires-3
+line-in-requires-3 c κs = search needs
+
 strike-in-requires : tie.Need-strike-in-requires
 strike-in-requires c κs = search needs
 
@@ -54,9 +57,9 @@ module _ (c : tie.After-body) where
   abbrev else1-from-body : tie.Else1
   else1-from-body = c .before .before
 
-module _ (c : tie.At-match-keys9) where
-  abbrev else1-from-at-match-keys9 : tie.Else1
-  else1-from-at-match-keys9 = else1-from-body (c .before)
+module _ (c : tie.At-match-keys10) where
+  abbrev else1-from-at-match-keys10 : tie.Else1
+  else1-from-at-match-keys10 = else1-from-body (c .before)
 
 module _ (c : tie.At-match-rest) where
   abbrev else1-from-at-match-rest : tie.Else1
@@ -70,21 +73,25 @@ module _ (c : tie.After-line-in2) where
   abbrev else1-from-return-6 : tie.Else1
   else1-from-return-6 = else1-from-body (c .before .before)
 
+module _ (c : tie.After-line-in3) where
+  abbrev else1-from-return-7 : tie.Else1
+  else1-from-return-7 = else1-from-body (c .before .before)
+
 module _ (c : tie.After-node-in) where
   abbrev else1-from-return-2 : tie.Else1
   else1-from-return-2 = else1-from-body (c .before .before)
 
 module _ (c : tie.After-set-in) where
-  abbrev else1-from-return-8 : tie.Else1
-  else1-from-return-8 = else1-from-body (c .before .before)
-
-module _ (c : tie.After-set-in2) where
   abbrev else1-from-return-9 : tie.Else1
   else1-from-return-9 = else1-from-body (c .before .before)
 
+module _ (c : tie.After-set-in2) where
+  abbrev else1-from-return-10 : tie.Else1
+  else1-from-return-10 = else1-from-body (c .before .before)
+
 module _ (c : tie.After-strike-in) where
-  abbrev else1-from-return-7 : tie.Else1
-  else1-from-return-7 = else1-from-body (c .before .before)
+  abbrev else1-from-return-8 : tie.Else1
+  else1-from-return-8 = else1-from-body (c .before .before)
 
 module _ (c : tie.After-witness-in) where
   abbrev else1-from-return-3 : tie.Else1
@@ -116,26 +123,30 @@ returns-6 c = c .line-in2 .ensures ∙ sym (record-part _ _ 0x50 (else1-from-ret
 
 returns-7 : tie.Need-returns-7
 unfolding recordOf
-returns-7 c = c .strike-in .ensures ∙ sym (record-part _ _ 0x44 (else1-from-return-7 c .if1 .left) (c .before .match .keys6))
+returns-7 c = c .line-in3 .ensures ∙ sym (record-part _ _ 0x51 (else1-from-return-7 c .if1 .left) (c .before .match .keys6))
 
 returns-8 : tie.Need-returns-8
 unfolding recordOf
-returns-8 c = c .set-in .ensures ∙ sym (record-part _ _ 0x58 (else1-from-return-8 c .if1 .left) (c .before .match .keys7))
+returns-8 c = c .strike-in .ensures ∙ sym (record-part _ _ 0x44 (else1-from-return-8 c .if1 .left) (c .before .match .keys7))
 
 returns-9 : tie.Need-returns-9
 unfolding recordOf
-returns-9 c = c .set-in2 .ensures ∙ sym (record-part _ _ 0x4B (else1-from-return-9 c .if1 .left) (c .before .match .keys8))
+returns-9 c = c .set-in .ensures ∙ sym (record-part _ _ 0x58 (else1-from-return-9 c .if1 .left) (c .before .match .keys8))
 
 returns-10 : tie.Need-returns-10
 unfolding recordOf
-returns-10 c = sym (record-part _ _ 0x45 (else1-from-at-match-keys9 c .if1 .left) (c .match .keys9))
+returns-10 c = c .set-in2 .ensures ∙ sym (record-part _ _ 0x4B (else1-from-return-10 c .if1 .left) (c .before .match .keys9))
 
 returns-11 : tie.Need-returns-11
-returns-11 c =
+unfolding recordOf
+returns-11 c = sym (record-part _ _ 0x45 (else1-from-at-match-keys10 c .if1 .left) (c .match .keys10))
+
+returns-12 : tie.Need-returns-12
+returns-12 c =
     let none = c .match .rest in
     sym (record-part _ _ _ (else1-from-at-match-rest c .if1 .left) refl
-    ∙ record-unknown _ _ (none .0 .0 .0 .0 .0 .0 .0 .0 .1) (none .0 .0 .0 .0 .0 .0 .0 .1) (none .0 .0 .0 .0 .0 .0 .1) (none .0 .0 .0 .0 .0 .1)
-    (none .0 .0 .0 .0 .1) (none .0 .0 .0 .1) (none .0 .0 .1) (none .0 .1) (none .1))
+    ∙ record-unknown _ _ (none .0 .0 .0 .0 .0 .0 .0 .0 .0 .1) (none .0 .0 .0 .0 .0 .0 .0 .0 .1) (none .0 .0 .0 .0 .0 .0 .0 .1) (none .0 .0 .0 .0 .0 .0 .1)
+    (none .0 .0 .0 .0 .0 .1) (none .0 .0 .0 .0 .1) (none .0 .0 .0 .1) (none .0 .0 .1) (none .0 .1) (none .1))
 
 pub record-at-spec : {M : Type 1} → statement M
 record-at-spec =
@@ -152,6 +163,7 @@ record-at-spec =
     witness-in-requires-2
     line-in-requires
     line-in-requires-2
+    line-in-requires-3
     strike-in-requires
     set-in-requires
     set-in-requires-2
@@ -164,4 +176,5 @@ record-at-spec =
     returns-8
     returns-9
     returns-10
-    returns-11)
+    returns-11
+    returns-12)

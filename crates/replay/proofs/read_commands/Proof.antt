@@ -12,14 +12,14 @@ use Rattle.replay.proofs.read_commands.Statement.{statement}
 use Rattle.replay.proofs.read_commands.Tie as tie
 
 abbrev Inv-loop : tie.InvT-loop
-Inv-loop vars₀ lows₀ highs₀ heads₀ links₀ memo₀ marks₀ members₀ scratch₀ struck₀ variables proof form state₀ at₀ vars lows highs heads links memo marks members scratch struck state at =
-    Going (record { form = form }) variables (length vars₀) proof
-    (proofFrom (record { form = form }) variables (length vars₀) proof (stateOf (lentOf vars₀ lows₀ highs₀ heads₀ links₀ members₀ scratch₀ struck₀) state₀))
+Inv-loop vars₀ lows₀ highs₀ heads₀ links₀ memo₀ marks₀ members₀ scratch₀ struck₀ variables proof form consequence state₀ at₀ vars lows highs heads links memo marks members scratch struck state at =
+    Going (record { form = form; consequence = consequence }) variables (length vars₀) proof
+    (proofFrom (record { form = form; consequence = consequence }) variables (length vars₀) proof (stateOf (lentOf vars₀ lows₀ highs₀ heads₀ links₀ members₀ scratch₀ struck₀) state₀))
     (lentOf vars lows highs heads links members scratch struck) marks memo state at
     × (length vars ≡ length vars₀) × (length lows ≡ length lows₀) × (length highs ≡ length highs₀) × (length heads ≡ length heads₀) × (length links ≡ length links₀) × (length memo ≡ length memo₀) × (length marks ≡ length marks₀) × (length members ≡ length members₀) × (length scratch ≡ length scratch₀) × (length struck ≡ length struck₀)
 
 abbrev μ-loop : tie.MeasureT-loop
-μ-loop vars₀ lows₀ highs₀ heads₀ links₀ memo₀ marks₀ members₀ scratch₀ struck₀ variables proof form state₀ at₀ vars lows highs heads links memo marks members scratch struck state at =
+μ-loop vars₀ lows₀ highs₀ heads₀ links₀ memo₀ marks₀ members₀ scratch₀ struck₀ variables proof form consequence state₀ at₀ vars lows highs heads links memo marks members scratch struck state at =
     length proof - at
 
 -- what a step leaves
@@ -46,16 +46,23 @@ module _ (c : tie.After-command-at Inv-loop μ-loop) where
   abbrev at-loop-from-command-at : tie.At-loop Inv-loop μ-loop
   at-loop-from-command-at = c .before .before
 
+module _ (c : tie.After-admitted Inv-loop μ-loop) where
+  abbrev command-at-from-admitted : tie.After-command-at Inv-loop μ-loop
+  command-at-from-admitted = c .before
+
 module _ (c : tie.After-command-step-arg10 Inv-loop μ-loop) where
+  abbrev admitted-from-command-step-call : tie.After-admitted Inv-loop μ-loop
+  admitted-from-command-step-call = c .before .before .before .before .before .before .before .before .before .before
+
   abbrev command-at-from-command-step-call : tie.After-command-at Inv-loop μ-loop
-  command-at-from-command-step-call = c .before .before .before .before .before .before .before .before .before .before
+  command-at-from-command-step-call = command-at-from-admitted admitted-from-command-step-call
 
   abbrev at-loop-from-command-step-call : tie.At-loop Inv-loop μ-loop
   at-loop-from-command-step-call = at-loop-from-command-at command-at-from-command-step-call
 
 module _ (c : tie.After-command-step Inv-loop μ-loop) where
-  abbrev command-at-from-command-step : tie.After-command-at Inv-loop μ-loop
-  command-at-from-command-step = command-at-from-command-step-call (c .before)
+  abbrev admitted-from-command-step : tie.After-admitted Inv-loop μ-loop
+  admitted-from-command-step = admitted-from-command-step-call (c .before)
 
 module _ (c : tie.After-slice-known20 Inv-loop μ-loop) where
   abbrev command-step-from-slice-known20 : tie.After-command-step Inv-loop μ-loop
@@ -69,8 +76,11 @@ module _ (c : tie.After-known-told Inv-loop μ-loop) where
   abbrev command-step-from-return : tie.After-command-step Inv-loop μ-loop
   command-step-from-return = command-step-from-slice-known20 slice-known20-from-return
 
+  abbrev admitted-from-return : tie.After-admitted Inv-loop μ-loop
+  admitted-from-return = admitted-from-command-step command-step-from-return
+
   abbrev command-at-from-return : tie.After-command-at Inv-loop μ-loop
-  command-at-from-return = command-at-from-command-step command-step-from-return
+  command-at-from-return = command-at-from-admitted admitted-from-return
 
   abbrev in-loop-from-return : tie.In-loop Inv-loop μ-loop
   in-loop-from-return = command-at-from-return .before
@@ -85,8 +95,11 @@ module _ (c : tie.After-known-told2 Inv-loop μ-loop) where
   abbrev command-step-from-return-2 : tie.After-command-step Inv-loop μ-loop
   command-step-from-return-2 = command-step-from-slice-known20 slice-known20-from-return-2
 
+  abbrev admitted-from-return-2 : tie.After-admitted Inv-loop μ-loop
+  admitted-from-return-2 = admitted-from-command-step command-step-from-return-2
+
   abbrev command-at-from-return-2 : tie.After-command-at Inv-loop μ-loop
-  command-at-from-return-2 = command-at-from-command-step command-step-from-return-2
+  command-at-from-return-2 = command-at-from-admitted admitted-from-return-2
 
   abbrev at-loop-from-return-2 : tie.At-loop Inv-loop μ-loop
   at-loop-from-return-2 = at-loop-from-command-at command-at-from-return-2
@@ -98,8 +111,11 @@ module _ (c : tie.After-known-told3 Inv-loop μ-loop) where
   abbrev command-step-from-loop-again : tie.After-command-step Inv-loop μ-loop
   command-step-from-loop-again = command-step-from-slice-known20 slice-known20-from-loop-again
 
+  abbrev admitted-from-loop-again : tie.After-admitted Inv-loop μ-loop
+  admitted-from-loop-again = admitted-from-command-step command-step-from-loop-again
+
   abbrev command-at-from-loop-again : tie.After-command-at Inv-loop μ-loop
-  command-at-from-loop-again = command-at-from-command-step command-step-from-loop-again
+  command-at-from-loop-again = command-at-from-admitted admitted-from-loop-again
 
   abbrev at-loop-from-loop-again : tie.At-loop Inv-loop μ-loop
   at-loop-from-loop-again = at-loop-from-command-at command-at-from-loop-again
@@ -118,22 +134,26 @@ command-at-requires c κs =
     let G = c .before .loop .inv .0 in
     (G .within, G .held .entries .narrow)
 
+admitted-requires : tie.Need-admitted-requires Inv-loop μ-loop
+admitted-requires c κs =
+    search needs
+
 command-step-requires : tie.Need-command-step-requires Inv-loop μ-loop
 command-step-requires c κs =
     let at-loop = at-loop-from-command-step-call c in
     let after-command-at = command-at-from-command-step-call c in
-    going-asks _ _ _ _ _ _ _ _ _ _ (at-loop .loop .inv .0) _ (after-command-at .command-at .ensures)
+    going-asks _ _ _ _ _ _ _ _ _ _ (at-loop .loop .inv .0) _ (after-command-at .command-at .ensures) _ (admitted-from-command-step-call c .admitted .ensures)
 
 enum-known-number : tie.Need-enum-known-number Inv-loop μ-loop
 enum-known-number c =
     search needs
 
-add-t48 : tie.Need-add-t48 Inv-loop μ-loop
-add-t48 c =
+add-t50 : tie.Need-add-t50 Inv-loop μ-loop
+add-t50 c =
     let at-loop = at-loop-from-return c in
     let after-command-at = command-at-from-return c in
     let after-command-step = command-step-from-return c in
-    let near = going-near _ _ _ _ _ _ _ _ _ _ (at-loop .loop .inv .0) (lent after-command-step) _ (going-reads _ _ _ _ _ _ _ _ _ _ (at-loop .loop .inv .0) _ (after-command-at .command-at .ensures) (lent after-command-step) _ (after-command-step .command-step .ensures .0)) _ _ (c .before .number .given .1) in
+    let near = going-near _ _ _ _ _ _ _ _ _ _ (at-loop .loop .inv .0) (lent after-command-step) _ (going-reads _ _ _ _ _ _ _ _ _ _ (at-loop .loop .inv .0) _ (after-command-at .command-at .ensures) _ (admitted-from-return c .admitted .ensures) (lent after-command-step) _ (after-command-step .command-step .ensures .0)) _ _ (c .before .number .given .1) in
     omega (arith, room (in-loop-from-return c) _ near)
 
 same-length : tie.Need-same-length Inv-loop μ-loop
@@ -202,7 +222,7 @@ returns c =
     let after-command-at = command-at-from-return c in
     let after-command-step = command-step-from-return c in
     let G = at-loop .loop .inv .0 in
-    let X = going-reads _ _ _ _ _ _ _ _ _ _ G _ (after-command-at .command-at .ensures) (lent after-command-step) _ (after-command-step .command-step .ensures .0) in
+    let X = going-reads _ _ _ _ _ _ _ _ _ _ G _ (after-command-at .command-at .ensures) _ (admitted-from-return c .admitted .ensures) (lent after-command-step) _ (after-command-step .command-step .ensures .0) in
     going-stop _ _ _ _ _ _ _ _ _ _ G (lent after-command-step) _ X _ _ (c .before .number .given .1)
 
 enum-known-number-2 : tie.Need-enum-known-number-2 Inv-loop μ-loop
@@ -275,7 +295,7 @@ returns-2 c =
     let after-command-at = command-at-from-return-2 c in
     let after-command-step = command-step-from-return-2 c in
     let G = at-loop .loop .inv .0 in
-    let X = going-reads _ _ _ _ _ _ _ _ _ _ G _ (after-command-at .command-at .ensures) (lent after-command-step) _ (after-command-step .command-step .ensures .0) in
+    let X = going-reads _ _ _ _ _ _ _ _ _ _ G _ (after-command-at .command-at .ensures) _ (admitted-from-return-2 c .admitted .ensures) (lent after-command-step) _ (after-command-step .command-step .ensures .0) in
     going-spent _ _ _ _ _ _ _ _ _ _ G (lent after-command-step) _ X _ _ (c .before .number2 .given .1)
 
 enum-known-s : tie.Need-enum-known-s Inv-loop μ-loop
@@ -288,7 +308,7 @@ loop-less c =
     let after-command-at = command-at-from-loop-again c in
     let after-command-step = command-step-from-loop-again c in
     let G = at-loop .loop .inv .0 in
-    let X = going-reads _ _ _ _ _ _ _ _ _ _ G _ (after-command-at .command-at .ensures) (lent after-command-step) _ (after-command-step .command-step .ensures .0) in
+    let X = going-reads _ _ _ _ _ _ _ _ _ _ G _ (after-command-at .command-at .ensures) _ (admitted-from-loop-again c .admitted .ensures) (lent after-command-step) _ (after-command-step .command-step .ensures .0) in
     let next = next-in _ _ _ _ _ _ _ _ _ _ G (lent after-command-step) _ X _ (c .before .s .given .1) in
     let is = ap (λ r. r .next) (after-command-at .command-at .ensures) in
     omega (arith, next .0, next .1, is)
@@ -299,7 +319,7 @@ loop-again c =
     let after-command-at = command-at-from-loop-again c in
     let after-command-step = command-step-from-loop-again c in
     let G = at-loop .loop .inv .0 in
-    let X = going-reads _ _ _ _ _ _ _ _ _ _ G _ (after-command-at .command-at .ensures) (lent after-command-step) _ (after-command-step .command-step .ensures .0) in
+    let X = going-reads _ _ _ _ _ _ _ _ _ _ G _ (after-command-at .command-at .ensures) _ (admitted-from-loop-again c .admitted .ensures) (lent after-command-step) _ (after-command-step .command-step .ensures .0) in
     let k = after-command-step .command-step .kept in
     let is = ap (λ r. r .next) (after-command-at .command-at .ensures) in
     let on = going-next _ _ _ _ _ _ _ _ _ _ G (lent after-command-step) _ X _ (c .before .s .given .1) _ _ _ is (k .0) (after-command-step .command-step .ensures .1) (k .1 .1 .1 .1 .1 .0) in
@@ -359,9 +379,10 @@ read-commands-spec =
     start-of-requires
     loop-holds
     command-at-requires
+    admitted-requires
     command-step-requires
     enum-known-number
-    add-t48
+    add-t50
     same-length
     same-length-2
     same-length-3

@@ -1,4 +1,5 @@
 -- `judge_line` judges by the line's rule, over the members in use. Assumes nothing.
+use Rattle.steps.specs.Tests.{FewPaths}
 use mathlib.Core.Path.{_≡_, sym, subst}
 use Prim.Native.Nat.{ℕ}
 use native.Mathlib.Omega.{arith}
@@ -55,6 +56,10 @@ module _ (c : tie.After-enum-told2) where
   abbrev start-from-enum-told2 : tie.Start
   start-from-enum-told2 = start-from-slice-known8 (c .before .before)
 
+module _ (c : tie.After-enum-told3) where
+  abbrev start-from-enum-told3 : tie.Start
+  start-from-enum-told3 = start-from-slice-known8 (c .before .before)
+
 module _ (c : tie.After-memberwords) where
   abbrev enum-told-from-slice-aggregate-rup : tie.After-enum-told
   enum-told-from-slice-aggregate-rup = c .before .before .before .before .before .before .before .before
@@ -68,6 +73,17 @@ module _ (c : tie.After-memberwords3) where
 
   abbrev start-from-slice-aggregate-pr : tie.Start
   start-from-slice-aggregate-pr = start-from-enum-told2 enum-told2-from-slice-aggregate-pr
+
+module _ (c : tie.After-memberwords5) where
+  abbrev enum-told3-from-slice-aggregate-path : tie.After-enum-told3
+  enum-told3-from-slice-aggregate-path = c .before .before .before .before .before .before .before .before
+
+  abbrev start-from-slice-aggregate-path : tie.Start
+  start-from-slice-aggregate-path = start-from-enum-told3 enum-told3-from-slice-aggregate-path
+
+module _ (c : tie.After-path-arg8) where
+  abbrev start-from-slice-aggregate-path-2 : tie.Start
+  start-from-slice-aggregate-path-2 = start-from-slice-aggregate-path (c .before)
 
 module _ (c : tie.After-pr-arg8) where
   abbrev start-from-slice-aggregate-pr-2 : tie.Start
@@ -84,6 +100,17 @@ module _ (c : tie.After-words) where
 module _ (c : tie.After-words3) where
   abbrev start-from-slice-aggregate-pr-3 : tie.Start
   start-from-slice-aggregate-pr-3 = start-from-slice-aggregate-pr (c .before .before)
+
+module _ (c : tie.After-words5) where
+  abbrev enum-told3-from-path-call : tie.After-enum-told3
+  enum-told3-from-path-call = enum-told3-from-slice-aggregate-path (c .before .before)
+
+  abbrev start-from-path-call : tie.Start
+  start-from-path-call = start-from-enum-told3 enum-told3-from-path-call
+
+module _ (c : tie.After-path) where
+  abbrev memberwords5-from-path : tie.After-memberwords5
+  memberwords5-from-path = c .before .before .before
 
 module _ (c : tie.After-rup) where
   abbrev memberwords-from-rup : tie.After-memberwords
@@ -117,6 +144,17 @@ module _ (c : tie.After-words2) where
 
   abbrev start-from-return : tie.Start
   start-from-return = start-from-enum-told enum-told-from-return
+
+module _ (c : tie.After-words6) where
+  abbrev path-from-return-3 : tie.After-path
+  path-from-return-3 = c .before .before .before .before .before .before .before .before .before .before .before .before .before .before
+      .before .before .before .before
+
+  abbrev enum-told3-from-return-3 : tie.After-enum-told3
+  enum-told3-from-return-3 = enum-told3-from-slice-aggregate-path (memberwords5-from-path path-from-return-3)
+
+  abbrev start-from-return-3 : tie.Start
+  start-from-return-3 = start-from-enum-told3 enum-told3-from-return-3
 
 module _ (c : tie.After-secondwords2) where
   abbrev pr-from-return-2 : tie.After-pr
@@ -201,6 +239,39 @@ pr-requires : tie.Need-pr-requires
 pr-requires c κs =
     let s = start-from-pr-call c in ((s .pre .0, s .pre .1, scratch-length s, own-length s, s .pre .2), (own-length s, own-length s, own-length s))
 
+enum-told-3 : tie.Need-enum-told-3
+enum-told-3 c =
+    search needs
+
+array-borrow-prefix-memberwords-3 : tie.Need-array-borrow-prefix-memberwords-3
+array-borrow-prefix-memberwords-3 c =
+    search needs
+
+slice-aggregate-path : tie.Need-slice-aggregate-path
+slice-aggregate-path c =
+    sym (own-length (start-from-slice-aggregate-path c))
+
+slice-relend-prefix-path : tie.Need-slice-relend-prefix-path
+slice-relend-prefix-path c =
+    search needs
+
+slice-aggregate-path-2 : tie.Need-slice-aggregate-path-2
+slice-aggregate-path-2 c =
+    sym (scratch-length (start-from-slice-aggregate-path-2 c))
+
+array-borrow-prefix-words-3 : tie.Need-array-borrow-prefix-words-3
+array-borrow-prefix-words-3 c =
+    search needs
+
+slice-aggregate-path-3 : tie.Need-slice-aggregate-path-3
+slice-aggregate-path-3 c =
+    sym (own-length (start-from-path-call c))
+
+path-requires : tie.Need-path-requires
+path-requires c κs =
+    let s = start-from-path-call c in
+    ((s .pre .0, s .pre .1, scratch-length s, s .pre .2, subst (λ (x : Rule). FewPaths x (diagramAt (nodesOf (before s)) (s .args .g .0))) (enum-told3-from-path-call c .enum-told3 .given .1) (s .pre .4)), (own-length s, own-length s))
+
 same-length : tie.Need-same-length
 same-length c =
     rup-from-return c .rup .kept .0
@@ -237,8 +308,8 @@ returns : tie.Need-returns
 returns c =
     let s = start-from-return c in
     let r = rup-from-return c .rup in (
-      subst (λ (x : Rule). LineSays (before s) (said s x) 131072 (r .result) (tableOf (r .last .0) (r .last .1 .0) (r .last .1 .1 .0) (r .last .1 .1 .1 .0) (r .last .1 .1 .1 .1 .0) (r .result .count))) (sym (enum-told-from-return c .enum-told .given .1))
-          (says-most (before s) _ _ 131072 (r .result) _ (omega arith) (r .ensures .0)),
+      subst (λ (x : Rule). LineSays (before s) (said s x) 262144 (r .result) (tableOf (r .last .0) (r .last .1 .0) (r .last .1 .1 .0) (r .last .1 .1 .1 .0) (r .last .1 .1 .1 .1 .0) (r .result .count))) (sym (enum-told-from-return c .enum-told .given .1))
+          (says-most (before s) _ _ 262144 (r .result) _ (omega arith) (r .ensures .0)),
       r .ensures .1,
     )
 
@@ -278,8 +349,49 @@ returns-2 : tie.Need-returns-2
 returns-2 c =
     let s = start-from-return-2 c in
     let r = pr-from-return-2 c .pr in (
-      subst (λ (x : Rule). LineSays (before s) (said s x) 131072 (r .result) (tableOf (r .last .0) (r .last .1 .0) (r .last .1 .1 .0) (r .last .1 .1 .1 .0) (r .last .1 .1 .1 .1 .0) (r .result .count))) (sym (enum-told2-from-return-2 c .enum-told2 .given .1))
-          (says-most (before s) _ _ 131072 (r .result) _ (omega (arith, s .pre .2)) (r .ensures .0)),
+      subst (λ (x : Rule). LineSays (before s) (said s x) 262144 (r .result) (tableOf (r .last .0) (r .last .1 .0) (r .last .1 .1 .0) (r .last .1 .1 .1 .0) (r .last .1 .1 .1 .1 .0) (r .result .count))) (sym (enum-told2-from-return-2 c .enum-told2 .given .1))
+          (says-most (before s) _ _ 262144 (r .result) _ (omega (arith, s .pre .2)) (r .ensures .0)),
+      r .ensures .1,
+    )
+
+same-length-17 : tie.Need-same-length-17
+same-length-17 c =
+    path-from-return-3 c .path .kept .0
+
+same-length-18 : tie.Need-same-length-18
+same-length-18 c =
+    path-from-return-3 c .path .kept .1 .0
+
+same-length-19 : tie.Need-same-length-19
+same-length-19 c =
+    path-from-return-3 c .path .kept .1 .1 .0
+
+same-length-20 : tie.Need-same-length-20
+same-length-20 c =
+    path-from-return-3 c .path .kept .1 .1 .1 .0
+
+same-length-21 : tie.Need-same-length-21
+same-length-21 c =
+    path-from-return-3 c .path .kept .1 .1 .1 .1 .0
+
+same-length-22 : tie.Need-same-length-22
+same-length-22 c =
+    path-from-return-3 c .path .kept .1 .1 .1 .1 .1 .0
+
+same-length-23 : tie.Need-same-length-23
+same-length-23 c =
+    path-from-return-3 c .path .kept .1 .1 .1 .1 .1 .1 .0
+
+same-length-24 : tie.Need-same-length-24
+same-length-24 c =
+    length-front (start-from-return-3 c .args .scratch .now) (path-from-return-3 c .path .last .1 .1 .1 .1 .1 .1 .1 .1 .1 .0) (m (start-from-return-3 c)) (path-from-return-3 c .path .kept .1 .1 .1 .1 .1 .1 .1 .1 .1 .0)
+
+returns-3 : tie.Need-returns-3
+returns-3 c =
+    let s = start-from-return-3 c in
+    let r = path-from-return-3 c .path in (
+      subst (λ (x : Rule). LineSays (before s) (said s x) 262144 (r .result) (tableOf (r .last .0) (r .last .1 .0) (r .last .1 .1 .0) (r .last .1 .1 .1 .0) (r .last .1 .1 .1 .1 .0) (r .result .count))) (sym (enum-told3-from-return-3 c .enum-told3 .given .1))
+          (r .ensures .0),
       r .ensures .1,
     )
 
@@ -307,6 +419,14 @@ judge-line-spec =
     array-borrow-prefix-secondwords
     slice-aggregate-pr-5
     pr-requires
+    enum-told-3
+    array-borrow-prefix-memberwords-3
+    slice-aggregate-path
+    slice-relend-prefix-path
+    slice-aggregate-path-2
+    array-borrow-prefix-words-3
+    slice-aggregate-path-3
+    path-requires
     same-length
     same-length-2
     same-length-3
@@ -324,4 +444,13 @@ judge-line-spec =
     same-length-14
     same-length-15
     same-length-16
-    returns-2)
+    returns-2
+    same-length-17
+    same-length-18
+    same-length-19
+    same-length-20
+    same-length-21
+    same-length-22
+    same-length-23
+    same-length-24
+    returns-3)

@@ -104,7 +104,7 @@ judge-line-requires : tie.Need-judge-line-requires
 judge-line-requires c κs =
     let a = live-members-from-judge-line-call c in
     let s = begun a in
-    (subst (λ (ms : List ℕ). Negatable (before s) ms (s .args .memo .now) (s .args .g .0)) (sym (gathered-is a)) (ready s), s .pre .1, omega (arith, gathered-length a, few a), s .pre .4)
+    (subst (λ (ms : List ℕ). Negatable (before s) ms (s .args .memo .now) (s .args .g .0)) (sym (gathered-is a)) (ready s), s .pre .1, omega (arith, gathered-length a, few a), s .pre .4, s .pre .6)
 
 same-length : tie.Need-same-length
 same-length c = judge-line-from-return c .judge-line .kept .0
@@ -135,7 +135,7 @@ returns c =
     let j = judge-line-from-return c .judge-line in
     let a = live-members-from-return c in
     let s = begun a in (
-      subst (λ (ms : List ℕ). LineSays (before s) (said s ms) 131072 (j .result) (tableOf (j .last .0) (j .last .1 .0) (j .last .1 .1 .0) (j .last .1 .1 .1 .0) (j .last .1 .1 .1 .1 .0) (j .result .count)))
+      subst (λ (ms : List ℕ). LineSays (before s) (said s ms) 262144 (j .result) (tableOf (j .last .0) (j .last .1 .0) (j .last .1 .1 .0) (j .last .1 .1 .1 .0) (j .last .1 .1 .1 .1 .0) (j .result .count)))
           (gathered-is a) (j .ensures .0),
       j .ensures .1,
     )

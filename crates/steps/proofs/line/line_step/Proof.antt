@@ -14,7 +14,7 @@ use Rattle.entries.specs.States.{Lent, lentOf, stateOf, Held}
 use Rattle.verdict.specs.Taken.{lineOf}
 use Rattle.steps.specs.Tests.{lineRefusal, LineTested}
 use Rattle.steps.specs.Tried.{Tried}
-use Rattle.steps.proofs.Lines.{line-refused, line-ready, few-members, line-stepped}
+use Rattle.steps.proofs.Lines.{line-refused, line-ready, few-members, few-paths, line-stepped}
 use Rattle.steps.proofs.line.line_step.Statement.{statement}
 use Rattle.steps.proofs.line.line_step.Tie as tie
 
@@ -165,6 +165,7 @@ try-line-requires c κs =
       held s .room,
       held s .entries .room,
       held s .marked,
+      few-paths 64 (lent s) (s .args .st) (held s) (s .args .rule) (s .args .root .0) (none e) (root e) (root-is e),
     )
 
 ended-requires : tie.Need-ended-requires

@@ -87,7 +87,7 @@ returns : tie.Need-returns
 returns c = let s = start-from-then1 c in ((refl, no-room (c .if1 .taken)), s .pre .1)
 
 try-line-requires : tie.Need-try-line-requires
-try-line-requires c κs = let s = start-from-try-line-call c in (s .pre .0, s .pre .1, s .pre .2, s .pre .3, s .pre .4, s .pre .5)
+try-line-requires c κs = let s = start-from-try-line-call c in (s .pre .0, s .pre .1, s .pre .2, s .pre .3, s .pre .4, s .pre .5, tt)
 
 is-decided-requires : tie.Need-is-decided-requires
 is-decided-requires c κs = search needs

@@ -155,7 +155,7 @@ module _ (b : tie.After-both-tries) where
   tried : BothTried (table₁ made) (liveIn (start made .args .members .now) (start made .args .struck .now) (start made .args .st)) (start made .args .clause) (made .make .result) (b .both-tries .result)
   tried = b .both-tries .ensures .0 .1
 
-  few-rounds : b .both-tries .result .rounds ≤ 131072
+  few-rounds : b .both-tries .result .rounds ≤ 262144
   few-rounds = both-most _ _ _ _ _ tried
 
   added : Added (lent (start made)) (start made .args .st) (table₁ made) (made .make .result) (b .both-tries .result) (start made .args .clause)
@@ -165,7 +165,7 @@ module _ (b : tie.After-both-tries) where
   scratch-room = omega (arith, b .both-tries .kept .1 .1 .1 .1 .1 .1 .1 .1 .0, held (start made) .entries .room)
 
 returns : tie.Need-returns
-returns c = let s = start-from-then1 c in ((λ n ls H w is. clause-22 n (lent s) (s .args .st) H ls w (c .if1 .taken)), s .pre .1)
+returns c = let s = start-from-then1 c in ((λ profile n ls H w is. clause-22 profile n (lent s) (s .args .st) H ls w (c .if1 .taken)), s .pre .1)
 
 shared-requires : tie.Need-shared-requires
 shared-requires c κs = search needs
@@ -173,7 +173,7 @@ shared-requires c κs = search needs
 returns-2 : tie.Need-returns-2
 returns-2 c =
     let s = start-from-then2 c in
-    ((λ n ls H w is. code-17 n (lent s) (s .args .st) H ls w (s .args .clause) is (else1-from-then2 c .if1 .left) (sym (shared-from-then2 c .shared .ensures) ∙ c .if2 .taken)), s .pre .1)
+    ((λ profile n ls H w is. code-17 profile n (lent s) (s .args .st) H ls w (s .args .clause) is (else1-from-then2 c .if1 .left) (sym (shared-from-then2 c .shared .ensures) ∙ c .if2 .taken)), s .pre .1)
 
 make-requires : tie.Need-make-requires
 make-requires c κs = held (start-from-make-call c) .entries .good
@@ -245,7 +245,7 @@ returns-3 c =
     let s = start a in
     let d = drop-to-from-return-3 c .drop-to in
     let e = ended-from-return-3 c .ended in (
-      (λ n ls H w is. code-stepped n (lent s) (s .args .st) H ls w (s .args .clause) is (few a) (table₁ a) (a .make .result) (b .both-tries .result) (added b)
+      (λ profile n ls H w is. code-stepped profile n (lent s) (s .args .st) H ls w (s .args .clause) is (few a) (table₁ a) (a .make .result) (b .both-tries .result) (added b)
           (kept-count-from-return-3 c .kept-count .result) (kept-count-from-return-3 c .kept-count .ensures) (table₂ b)
           (tableOf (d .last .0) (d .last .1 .0) (d .last .1 .1 .0) (d .last .1 .1 .1 .0) (d .last .1 .1 .1 .1 .0) (kept-count-from-return-3 c .kept-count .result)) (back b) (d .ensures) (scratch₂ b) (scratch-room b) _
           (with-nodes (s .args .st) (a .make .result .count) _ (greater-from-return-3 c .greater .ensures)) (e .ensures .0) (e .ensures .1)),

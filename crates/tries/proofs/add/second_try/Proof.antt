@@ -40,6 +40,7 @@ module _ (s : tie.Start) where
       × (2048 ≤ length (s .args .members .now))
       × (4096 ≤ length (s .args .scratch .now))
       × (length (s .args .struck .now) ≡ length (s .args .members .now))
+      × Unit {0}
 
 enum-told : tie.Need-enum-told
 enum-told c = search needs
@@ -100,7 +101,7 @@ with-witness-requires c κs = search needs
 try-line-requires : tie.Need-try-line-requires
 try-line-requires c κs =
     let s = start-from-try-line-call c in
-    subst (Asked s) (sym (c .with-witness .ensures)) (s .pre .0, s .pre .1, s .pre .2, s .pre .3, s .pre .4, s .pre .5)
+    subst (Asked s) (sym (c .with-witness .ensures)) (s .pre .0, s .pre .1, s .pre .2, s .pre .3, s .pre .4, s .pre .5, tt)
 
 returns : tie.Need-returns
 returns c = let s = start-from-return c in ((refl, second-none _ _ _ _ _ (c .enum-told .given .1)), s .pre .1)

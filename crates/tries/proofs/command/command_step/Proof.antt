@@ -212,7 +212,7 @@ returns-2 : tie.Need-returns-2
 returns-2 c =
     let a = clause-step-from-return-2 c in
     let H = start-from-return-2 c .pre .0 in
-    (says-as _ _ _ _ _ _ _ _ (command2-from-return-2 c .command2 .given .1) (says-added _ _ _ _ _ _ _ (λ ls. a .clause-step .ensures .0 _ ls H)), a .clause-step .ensures .1)
+    (says-as _ _ _ _ _ _ _ _ (command2-from-return-2 c .command2 .given .1) (says-added _ _ _ _ _ _ _ (λ profile ls. a .clause-step .ensures .0 profile _ ls H)), a .clause-step .ensures .1)
 
 same-length-21 : tie.Need-same-length-21
 same-length-21 c =

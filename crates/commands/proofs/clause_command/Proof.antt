@@ -1,6 +1,6 @@
 -- `clause_command`: struck or added, as it is told. Assumes nothing.
-use Rattle.commands.proofs.text.clause_command.Statement.{statement}
-use Rattle.commands.proofs.text.clause_command.Tie as tie
+use Rattle.commands.proofs.clause_command.Statement.{statement}
+use Rattle.commands.proofs.clause_command.Tie as tie
 
 returns : tie.Need-returns
 returns c = rw (c .if1 .taken)

@@ -1,0 +1,9 @@
+pub mod Left
+pub mod BinaryTrip
+pub mod TextTrip
+pub mod Canonical
+pub mod Plain
+pub mod ThereAndBack
+pub mod Pouring
+pub mod Clauses
+pub mod Lines

@@ -1,0 +1,4 @@
+pub mod Sound
+pub mod Widths
+pub mod Walks
+pub mod Sequence
