@@ -154,7 +154,7 @@ fn judge_line(
             // Two parts of the scratch list cannot be lent at once.
             let mut second = [0u16; 2048];
             let mut secondwords = [0u64; 2048];
-            judge::pr::pr(
+            pr_lines::pr(
                 vars,
                 lows,
                 highs,
@@ -173,7 +173,7 @@ fn judge_line(
                 st.witness,
             )
         }
-        Rule::Path => path_line::path(
+        Rule::Path => path_lines::path(
             vars,
             lows,
             highs,
