@@ -20,7 +20,7 @@ use Rattle.meaning.specs.Words.{inWord}
 use Rattle.meaning.specs.Sets.{parity}
 use Rattle.meaning.proofs.Tallies.{tally-end, tally-reduced, tally-skipped, tally-here, parity-is, parity-differ}
 use Rattle.sets.specs.Variables.{NextIn}
-use Rattle.sets.specs.Building.{placedIn, constantOf, remaining, Buildable}
+use Rattle.sets.specs.Building.{placedIn, remaining, Buildable}
 
 -- ---- the word's variables from v on
 
@@ -41,27 +41,30 @@ module _ (set : ℕ) where
   remaining-differ v odd = parity-differ (inWord set) (65 - v) v odd
 
   -- all of them are the set's
-  pub whole-made : (T : Table) (odd : Bool) (o : Outcome) → o ≡ placedIn T (remaining set 1 odd) → o ≡ placedIn T (parity 64 (inWord set) odd)
-  whole-made T odd o p = p ∙ ap (placedIn T) (sym (parity-is (inWord set) 64 odd))
+  pub whole-made : (T : Table) (odd b : Bool) → odd ≡ b → (o : Outcome) → o ≡ placedIn T (remaining set 1 b) → o ≡ placedIn T (parity 64 (inWord set) odd)
+  whole-made T odd b e o p = p ∙ ap (placedIn T) (sym (parity-is (inWord set) 64 b)) ∙ ap (λ (x : Bool). placedIn T (parity 64 (inWord set) x)) (sym e)
 
 pub whole-ready : (T : Table) → Good T → (set : ℕ) (odd : Bool) → Buildable T set 1 odd 0
 whole-ready T G set odd = record { good = G; least = omega arith; most = omega arith; inside = omega (arith, G .least); is = λ p. absurd (omega arith) }
 
+-- the constant that is left where no variable is
+abbrev pub constantOf : Bool → ℕ
+constantOf true = 0
+constantOf false = 1
+
 module _ (T : Table) (set v : ℕ) (odd : Bool) (other : ℕ) (B : Buildable T set v odd other) (w : ℕ) (N : NextIn set v w) where
   constant-is : (b : Bool) → diagramAt (nodesOf T) (constantOf b) ≡ leaf (not b)
-  unfolding constantOf
   constant-is true = diagramAt-zero (nodesOf T)
   constant-is false = diagramAt-one (nodesOf T)
 
   constant-inside : (b : Bool) → constantOf b < T .count
-  unfolding constantOf
   constant-inside true = omega (arith, B .good .least)
   constant-inside false = omega (arith, B .good .least)
 
   -- no variable is left
-  pub none-left : w ≡ 65 → (k : ℕ) → k ≡ constantOf odd → record { table = T; full = false; node = k } ≡ placedIn T (remaining set v odd)
-  none-left e k is =
-      ap (λ (x : ℕ). record { table = T; full = false; node = x }) is ∙ sym (there T (B .good) (constantOf odd) (constant-inside odd))
+  pub none-left : w ≡ 65 → record { table = T; full = false; node = constantOf odd } ≡ placedIn T (remaining set v odd)
+  none-left e =
+      sym (there T (B .good) (constantOf odd) (constant-inside odd))
       ∙ ap (placeIn T) (constant-is odd ∙ sym (skipped set v w odd N ∙ ap (λ (x : ℕ). remaining set x odd) e ∙ ended set odd))
 
   module _ (ne : w ≡ 65 → ⊥) where
