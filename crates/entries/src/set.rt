@@ -13,7 +13,7 @@ ghost use Rattle.entries.specs.States.{lentOf, stateOf, EntriesHeld, Hel
 ghost use Rattle.entries.specs.Tests.{setRefusal};
 
 // Whether the set has a variable beyond the header's.
-fn is_beyond(variables: u8, set: u64) -> bool
+pub fn is_beyond(variables: u8, set: u64) -> bool
     requires { ⌜ variables ≤ 64 ⌝ }
     ensures { λ r. ⌜ r ≡ beyond variables set ⌝ }
 {

@@ -55,7 +55,7 @@ clauseFrom-reduced P N (suc k) i e q =
     go false o = o
 
 -- the variable i has the literal that is true, or a later one has
-clauseFrom-value : (P N : ℕ → Bool) (k i : ℕ) (a : Assignment)
+pub clauseFrom-value : (P N : ℕ → Bool) (k i : ℕ) (a : Assignment)
     → value (clauseFrom P N (suc k) i) a ≡ (cond (holds a i) (P i) (N i) || value (clauseFrom P N k (suc i)) a)
 unfolding clauseFrom valueFrom
 clauseFrom-value P N k i a =

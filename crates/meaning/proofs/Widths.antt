@@ -15,25 +15,25 @@ use Rattle.meaning.proofs.PointwiseSteps.{negation-width, literals-cong
 use Rattle.meaning.proofs.Units.{eq-same, isUnit-width, isUnit-beyond}
 use Rattle.meaning.proofs.Ends.{AllReduced, byUnits-reduced, first-taken, more-rounds}
 
-any-cong : (m : ℕ) (p q : Diagram → Bool) (ms : List Diagram) → AllReduced m ms → ((f : Diagram) → Reduced 1 (suc m) f → p f ≡ q f) → any p ms ≡ any q ms
+pub any-cong : (m : ℕ) (p q : Diagram → Bool) (ms : List Diagram) → AllReduced m ms → ((f : Diagram) → Reduced 1 (suc m) f → p f ≡ q f) → any p ms ≡ any q ms
 unfolding any
 any-cong m p q [] o h = refl
 any-cong m p q (f ∷ fs) o h = ap₂ _||_ (h f (o .0)) (any-cong m p q fs (o .1) h)
 
 module _ (m n : ℕ) (more : m ≤ n) where
-  conflicts-width : (ms : List Diagram) → AllReduced m ms → conflicts n ms ≡ conflicts m ms
+  pub conflicts-width : (ms : List Diagram) → AllReduced m ms → conflicts n ms ≡ conflicts m ms
   unfolding conflicts
   conflicts-width ms o = ap (_||_ (any (same (leaf false)) ms))
       (any-cong m _ _ ms o (λ f of. any-cong m _ _ ms o (λ g og. ap (same f) (negation-width m n more g og))))
 
   -- a member other than 0 has no unit among the variables beyond its own
-  hasUnit-width : (w : ℕ) (f : Diagram) → Reduced 1 (suc m) f → w ≤ m → hasUnit n w f ≡ hasUnit m w f
+  pub hasUnit-width : (w : ℕ) (f : Diagram) → Reduced 1 (suc m) f → w ≤ m → hasUnit n w f ≡ hasUnit m w f
   unfolding hasUnit
   hasUnit-width zero f o hi = refl
   hasUnit-width (suc w) f o hi =
       rw (isUnit-width m n more f o (suc w) true (omega arith) hi, isUnit-width m n more f o (suc w) false (omega arith) hi, hasUnit-width w f o (omega arith))
 
-  hasUnit-beyond : (k : ℕ) (f : Diagram) → Reduced 1 (suc m) f → f ≢ leaf false → m + k ≤ n → hasUnit n (m + k) f ≡ hasUnit n m f
+  pub hasUnit-beyond : (k : ℕ) (f : Diagram) → Reduced 1 (suc m) f → f ≢ leaf false → m + k ≤ n → hasUnit n (m + k) f ≡ hasUnit n m f
   unfolding hasUnit
   hasUnit-beyond zero f o nz hi = let z : m + 0 ≡ m = omega arith in rw z
   hasUnit-beyond (suc k) f o nz hi =
@@ -41,19 +41,19 @@ module _ (m n : ℕ) (more : m ≤ n) where
       rw (z, isUnit-beyond m n more f o (suc (m + k)) true (omega arith) (omega arith) nz, isUnit-beyond m n more f o (suc (m + k)) false (omega arith) (omega arith) nz)
       (hasUnit-beyond k f o nz (omega arith))
 
-  units-width : (f : Diagram) → Reduced 1 (suc m) f → f ≢ leaf false → hasUnit n n f ≡ hasUnit m m f
+  pub units-width : (f : Diagram) → Reduced 1 (suc m) f → f ≢ leaf false → hasUnit n n f ≡ hasUnit m m f
   units-width f o nz =
       let z : m + (n - m) ≡ n = omega arith in
       (rw z at (hasUnit-beyond (n - m) f o nz (omega arith))) ∙ hasUnit-width m f o (omega arith)
 
-  firstWithUnit-width : (ms : List Diagram) → AllReduced m ms → any (same (leaf false)) ms ≡ false → firstWithUnit n ms ≡ firstWithUnit m ms
+  pub firstWithUnit-width : (ms : List Diagram) → AllReduced m ms → any (same (leaf false)) ms ≡ false → firstWithUnit n ms ≡ firstWithUnit m ms
   unfolding firstWithUnit any
   firstWithUnit-width [] o c = refl
   firstWithUnit-width (f ∷ fs) o c =
       let b : (same (leaf false) f ≡ false) × (any (same (leaf false)) fs ≡ false) = or-neither (same (leaf false) f) (any (same (leaf false)) fs) c in
       rw (units-width f (o .0) (λ e. t≢f (sym (eq-same (leaf false) f (sym e)) ∙ b .0)), firstWithUnit-width fs (o .1) (b .1))
 
-  byUnits-width : (u : Diagram) (ms : List Diagram) → Reduced 1 (suc m) u → AllReduced m ms → byUnits n u ms ≡ byUnits m u ms
+  pub byUnits-width : (u : Diagram) (ms : List Diagram) → Reduced 1 (suc m) u → AllReduced m ms → byUnits n u ms ≡ byUnits m u ms
   unfolding byUnits
   byUnits-width u [] ou o = refl
   byUnits-width u (f ∷ fs) ou o =

@@ -19,7 +19,7 @@ ghost use Rattle.judge.specs.Lines.{Negatable, Worded, LineSays};
 
 // A member's turn of a PR line, worked out in `second`, where `first` has the members by not-g, `firstwords` their variables
 // and `word` the member's own. Its nodes stay.
-fn turn(
+pub fn turn(
     vars: &mut [u8],
     lows: &mut [u16],
     highs: &mut [u16],

@@ -12,7 +12,7 @@ ghost use Rattle.conflict.specs.Marks.{unmarked};
 ghost use Rattle.entries.specs.States.{Lent, lentOf, stateOf, Held, Stepped};
 
 pub mod line;
-mod strike;
+pub mod strike;
 mod witness;
 
 pub use witness::with_witness;
