@@ -14,7 +14,7 @@ use Rattle.dimacs.proofs.Cases.{by}
 use Rattle.dimacs.proofs.Runs.{past-go, past-least, past-most}
 
 module _ (s : List ℕ) where
-  comment-byte : (at : ℕ) → isComment s at ≡ true → getD s at 0 ≡ 99
+  pub comment-byte : (at : ℕ) → isComment s at ≡ true → getD s at 0 ≡ 99
   unfolding isComment
   comment-byte at e = eqb-true (getD s at 0) 99 (and-both (eqb (getD s at 0) 99) (eqb at 0 || eqb (getD s (at - 1) 0) 10) e .0)
 
@@ -48,7 +48,7 @@ module _ (s : List ℕ) where
   outside at h = not-true (isComment s (past isParting s at)) (λ e. absurd (omega (arith, comment-inside (past isParting s at) e, past-least isParting s at)))
 
   -- steps for each byte left are enough
-  between-fuel : (k m at : ℕ) → length s ≤ at + k → length s ≤ at + m → betweenFrom s k at ≡ betweenFrom s m at
+  pub between-fuel : (k m at : ℕ) → length s ≤ at + k → length s ≤ at + m → betweenFrom s k at ≡ betweenFrom s m at
   between-fuel zero m at h g = between-stop zero at (outside at (omega arith)) ∙ sym (between-stop m at (outside at (omega arith)))
   between-fuel (suc k) zero at h g = between-stop (suc k) at (outside at (omega arith)) ∙ sym (between-stop zero at (outside at (omega arith)))
   between-fuel (suc k) (suc m) at h g = by (isComment s (past isParting s at))

@@ -18,7 +18,7 @@ use Rattle.meaning.specs.Sets.{atLeast}
 use Rattle.sets.specs.Variables.{lower, nth, Deep, Members}
 use Rattle.sets.specs.Building.{lastOf, Row, FirstRow}
 use Rattle.sets.proofs.Lower.{nth-zero, nth-suc, nth-falls, last-none, last-reduced, last-step, last-beyond, last-whole}
-use Rattle.table.proofs.Index.{zeros-at}
+use Rattle.table.proofs.Zeros.{zeros-at}
 
 abbrev outOf : Table → ℕ → Outcome
 outOf T n = record { table = T; full = false; node = n }

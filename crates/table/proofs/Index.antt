@@ -9,7 +9,7 @@ use mathlib.Core.Option.{none, some}
 use native.Mathlib.Omega.{arith}
 use native.Mathlib.Nat.{mod-lt}
 use native.Mathlib.Decide.{ℕ-discrete}
-use lib.ListN.{length, getD, set, replicate}
+use lib.ListN.{length, getD, set}
 use lib.Seq.{getD-set-same, getD-set-other, set-set, set-getD}
 use lib.Dec.{eqb}
 use borrow.Author.Tests.{eq-eqb, ne-eqb}
@@ -17,6 +17,7 @@ use Rattle.table.specs.Nodes.{Node, at, alike, findFrom, find}
 use Rattle.table.specs.Index.{bucket, bucketAt}
 use Rattle.table.specs.Indexed.{Index, indexMade, insert, indexFrom}
 use Rattle.table.proofs.Written.{length-indexFrom}
+use Rattle.table.proofs.Zeros.{zeros-at}
 
 pub bucket-less : (n v l h : ℕ) → 0 < n → bucket n v l h < n
 unfolding bucket
@@ -61,11 +62,6 @@ pub last-less : (f : ℕ → ℕ) (b j : ℕ) → lastIn f b j < suc (suc j)
 last-less f b j = elim (ℕ-discrete (lastIn f b j) 0) [ yes q ↦ omega arith | no q ↦ last-is f b j q .below ]
 
 -- ---- heads and links
-
-pub zeros-at : (m k : ℕ) → _≡_ {A = ℕ} (getD (replicate m 0) k 0) 0
-zeros-at zero k = refl
-zeros-at (suc m) zero = refl
-zeros-at (suc m) (suc k) = zeros-at m k
 
 module _ (t : List Node) (n m : ℕ) where
   abbrev index : ℕ → Index

@@ -5,11 +5,8 @@ use mathlib.Core.List.{List, map}
 use Prim.Native.Nat.{ℕ, _+_, _-_, _≤_}
 use native.Mathlib.Omega.{arith}
 use lib.ListN.{length, getD, take, length-map}
-use lib.Dec.{eqb}
 use lib.Seq.{length-take-le}
 use lib.Bits.{bitOr}
-use borrow.Author.Needs.{needs}
-use borrow.Author.Tests.{ne-eqb}
 use Rattle.table.specs.Nodes.{diagramAt}
 use Rattle.table.specs.Indexed.{Table, size, tableOf, nodesOf}
 use Rattle.table.specs.Lists.{diagramsOf}
@@ -19,10 +16,9 @@ use Rattle.conflict.specs.Marks.{unmarked}
 use Rattle.conflict.specs.Members.{Asked}
 use Rattle.members.specs.Made.{AllMade}
 use Rattle.unit_search.specs.Units.{UnitsAsked}
-use Rattle.propagate.specs.Rounds.{unitResults, NextIs}
+use Rattle.propagate.specs.Rounds.{unitResults}
 use Rattle.propagate.proofs.Quieting.{asked-next, units-next}
-use Rattle.propagate.proofs.Rounds.{Going, Due, going-first, going-ready, going-ends, going-full, going-on}
-use Rattle.propagate.proofs.rounds_by.Statement.{statement}
+use Rattle.propagate.proofs.Rounds.{Going, Due, going-ready, going-on}
 use Rattle.propagate.proofs.rounds_by.Tie as tie
 
 abbrev pub Inv-loop : tie.InvT-loop
