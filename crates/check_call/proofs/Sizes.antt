@@ -19,7 +19,8 @@ module _ (c : Columns) (members struck scratch : List ℕ) where
   unfolding lentFits
   unfit-columns e = rw e
 
-  pub fit-columns : fits ≡ true → lentFits c members struck scratch ≡ (leb 2048 (length members) && (eqb (length struck) (length members) && leb 4096 (length scratch)))
+  pub fit-columns : fits ≡ true → lentFits c members struck scratch
+      ≡ (leb 2048 (length members) && (eqb (length struck) (length members) && leb 4096 (length scratch)))
   unfolding lentFits
   fit-columns e = rw e
 
@@ -30,6 +31,7 @@ module _ (c : Columns) (members struck scratch : List ℕ) where
     called-7 e = rw e
 
     pub called-done : lentFits c members struck scratch ≡ true → (o : CheckOutcome)
-        → o ≡ outcome (length (c .vars)) (length members) (length scratch) (verdict mode (length (c .vars)) formula proof) → o ≡ check mode c count members struck scratch formula proof
+        → o ≡ outcome (length (c .vars)) (length members) (length scratch) (verdict mode (length (c .vars)) formula proof) → o
+        ≡ check mode c count members struck scratch formula proof
     unfolding check
     called-done e o done = done ∙ rw e

@@ -1,5 +1,7 @@
--- An index that passes the test is that of the nodes, and no two nodes are alike: each head is the last of its chain, each link the last of its
--- chain before its place. The idea: a walk is one path, so that of two places on it the greater one's walk comes to the other. Assumes nothing.
+-- An index that passes the test is that of the nodes, and no two nodes are alike: each head is the last of its chain, each link the last of
+-- its
+-- chain before its place. The idea: a walk is one path, so that of two places on it the greater one's walk comes to the other. Assumes
+-- nothing.
 use mathlib.Core.Path.{_≡_, refl, sym, ap, _∙_, subst}
 use mathlib.Core.Logic.{_≢_}
 use Prim.Native.Nat.{ℕ, zero, suc, _-_, _≤_, _<_}
@@ -31,7 +33,8 @@ pub reach-least : (l : ℕ → ℕ) (P : ℕ → Type 0) (k j : ℕ) → Reaches
 reach-least l P k _ here = omega arith
 reach-least l P k j (next lt p r) = omega arith
 
--- a right index has every node on the walk from the head of its chain: the last of the chain among those up to a place comes to all before it
+-- a right index has every node on the walk from the head of its chain: the last of the chain among those up to a place comes to all before
+-- it
 pub right-reaches : (c : ℕ) (f l : ℕ → ℕ) (P : ℕ → Type 0) (k : ℕ) → 2 ≤ k → ((j : ℕ) → k < j → j < c → P j)
     → ((j : ℕ) → 2 ≤ j → j < c → l j ≡ lastIn f (f j) (j - 2))
     → (steps m : ℕ) → m < steps → suc (suc m) ≤ c → k < suc (suc m) → Reaches l P k (lastIn f (f k) m)
@@ -43,9 +46,12 @@ right-reaches c f l P k two free links (suc steps) m lt le in′ =
       | no z ↦
           let j : ℕ = lastIn f (f k) m in
           let L : Last f (f k) m (lastIn f (f k) m) = last-is f (f k) m (λ q. absurd (omega arith)) in
-          next {j = lastIn f (f k) m} (omega (arith, least, z)) (free (lastIn f (f k) m) (omega (arith, least, z)) (omega (arith, L .below)))
-          (subst (Reaches l P k) (sym (links (lastIn f (f k) m) (L .from) (omega (arith, L .below)) ∙ ap (λ (b : ℕ). lastIn f b (lastIn f (f k) m - 2)) (L .is)))
-          (right-reaches c f l P k two free links steps (lastIn f (f k) m - 2) (omega (arith, L .below, L .from)) (omega (arith, L .below, L .from)) (omega (arith, least, z))))
+          next {j = lastIn f (f k) m} (omega (arith, least, z))
+          (free (lastIn f (f k) m) (omega (arith, least, z)) (omega (arith, L .below)))
+          (subst (Reaches l P k) (sym (links (lastIn f (f k) m) (L .from) (omega (arith, L .below))
+          ∙ ap (λ (b : ℕ). lastIn f b (lastIn f (f k) m - 2)) (L .is)))
+          (right-reaches c f l P k two free links steps (lastIn f (f k) m - 2) (omega (arith, L .below, L .from))
+          (omega (arith, L .below, L .from)) (omega (arith, least, z))))
     ]
 
 module _ (c n : ℕ) (f h l : ℕ → ℕ) (like : ℕ → ℕ → Type 0) (W : Tested c n f h l like) where
@@ -69,7 +75,8 @@ module _ (c n : ℕ) (f h l : ℕ → ℕ) (like : ℕ → ℕ → Type 0) (W : 
   head-least b two = elim (ℕ-discrete (lastIn f b (c - 2)) 0) [
     | yes z ↦ omega arith
     | no z ↦ let L : Last f b (c - 2) (lastIn f b (c - 2)) = last-is f b (c - 2) z in
-        reach-least l (Free (lastIn f b (c - 2))) (lastIn f b (c - 2)) (h b) (from-head b (lastIn f b (c - 2)) (L .from) (omega (arith, L .below)) (L .is))
+        reach-least l (Free (lastIn f b (c - 2))) (lastIn f b (c - 2)) (h b)
+        (from-head b (lastIn f b (c - 2)) (L .from) (omega (arith, L .below)) (L .is))
   ]
 
   head-most : (b : ℕ) → b < n → 2 ≤ c → h b ≤ lastIn f b (c - 2)
@@ -96,7 +103,8 @@ module _ (c n : ℕ) (f h l : ℕ → ℕ) (like : ℕ → ℕ → Type 0) (W : 
       | no z ↦
           let L : Last f (f k) (k - 2) (lastIn f (f k) (k - 2)) = last-is f (f k) (k - 2) z in
           let j : ℕ = lastIn f (f k) (k - 2) in
-          reach-least l (Free j) j (l k) (onward (Free k) (Free j) j k (h (f k)) (omega (arith, L .below)) (W .reached k two lt) (from-head (f k) j (L .from) (omega (arith, L .below)) (L .is)) .1)
+          reach-least l (Free j) j (l k) (onward (Free k) (Free j) j k (h (f k)) (omega (arith, L .below)) (W .reached k two lt)
+          (from-head (f k) j (L .from) (omega (arith, L .below)) (L .is)) .1)
     ]
 
     pub link-last : l k ≡ lastIn f (f k) (k - 2)

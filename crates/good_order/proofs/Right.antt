@@ -1,4 +1,5 @@
--- Good order with its index is what the read-only test asks: the literal heads and links are the last of their chains, a table in good order
+-- Good order with its index is what the read-only test asks: the literal heads and links are the last of their chains, a table in good
+-- order
 -- passes each test, and one that passes all is in good order. The idea: both sides are the same facts of places. Assumes nothing.
 use mathlib.Core.Path.{_≡_, refl, sym, ap, ap₂, _∙_, subst}
 use mathlib.Core.Bool.{Bool, true, false, _&&_, cond}
@@ -70,12 +71,14 @@ module _ (T : Table) (E : LentSizes T) where
       ∙ ap (λ (n : ℕ). bucketAt n places k) (sym heads-many)
 
   chain-less : (k : ℕ) → chainAt T k < length (T .heads)
-  chain-less k = bucket-less (length (T .heads)) (at places k .var) (at places k .low) (at places k .high) (omega (arith, E .heads, E .within, E .least))
+  chain-less k = bucket-less (length (T .heads)) (at places k .var) (at places k .low) (at places k .high)
+      (omega (arith, E .heads, E .within, E .least))
 
   -- ---- the literal index
 
   highest-is : (b m : ℕ) → suc (suc m) ≤ T .count → highest (2 * s) nodes b (suc (suc m)) ≡ lastIn (chainAt T) b m
-  highest-is b m le = highest-last (2 * s) nodes b m ∙ last-same (bucketAt (2 * s) nodes) (chainAt T) b m (λ k p q. chain-same k (omega arith))
+  highest-is b m le = highest-last (2 * s) nodes b m ∙ last-same (bucketAt (2 * s) nodes) (chainAt T) b m
+      (λ k p q. chain-same k (omega arith))
 
   head-literal : (b : ℕ) → b < length (T .heads) → getD (headsOf s nodes) b 0 ≡ lastIn (chainAt T) b (T .count - 2)
   unfolding headsOf
@@ -85,7 +88,8 @@ module _ (T : Table) (E : LentSizes T) where
       listed-at 0 (2 * s) (λ b. highest (2 * s) nodes b (length nodes)) b (omega (arith, heads-many))
       ∙ rw y (ap (highest (2 * s) nodes b) z ∙ highest-is b (T .count - 2) (omega (arith, E .least)))
 
-  link-listed : (k : ℕ) → k < s → getD (linksOf s nodes) k 0 ≡ cond (ltb k (length nodes)) (highest (2 * s) nodes (bucketAt (2 * s) nodes k) k) 0
+  link-listed : (k : ℕ) → k < s → getD (linksOf s nodes) k 0 ≡ cond (ltb k (length nodes))
+      (highest (2 * s) nodes (bucketAt (2 * s) nodes k) k) 0
   unfolding linksOf
   link-listed k lt =
       let y : 0 + k ≡ k = omega arith in
@@ -122,7 +126,8 @@ module _ (T : Table) (E : LentSizes T) where
   pub right : claim ≡ true → Right T
   unfolding goodOrder
   right e =
-      let p = and-both (goodPlaces places (T .count)) (sameNumbers (T .heads) (headsOf s nodes) && sameNumbers (T .links) (linksOf s nodes)) e in
+      let p = and-both (goodPlaces places (T .count)) (sameNumbers (T .heads) (headsOf s nodes) && sameNumbers (T .links) (linksOf s nodes))
+      e in
       let q = and-both (sameNumbers (T .heads) (headsOf s nodes)) (sameNumbers (T .links) (linksOf s nodes)) (p .1) in
       let d : T .heads ≡ headsOf s nodes = same-true (T .heads) (headsOf s nodes) (q .0) in
       let k : T .links ≡ linksOf s nodes = same-true (T .links) (linksOf s nodes) (q .1) in
@@ -149,8 +154,10 @@ module _ (T : Table) (E : LentSizes T) where
       both-true (goodPlaces places (T .count)) (sameNumbers (T .heads) (headsOf s nodes) && sameNumbers (T .links) (linksOf s nodes))
       (in-good-places places (T .count) (R .order))
       (both-true (sameNumbers (T .heads) (headsOf s nodes)) (sameNumbers (T .links) (linksOf s nodes))
-      (true-same (T .heads) (headsOf s nodes) (ext-getD 0 (T .heads) (headsOf s nodes) (heads-many ∙ sym length-headsOf) (λ b lt. R .heads b lt ∙ sym (head-literal b lt))))
-      (true-same (T .links) (linksOf s nodes) (ext-getD 0 (T .links) (linksOf s nodes) (E .links ∙ sym length-places ∙ sym length-linksOf) (λ k lt. link-is R k lt))))
+      (true-same (T .heads) (headsOf s nodes) (ext-getD 0 (T .heads) (headsOf s nodes) (heads-many ∙ sym length-headsOf)
+      (λ b lt. R .heads b lt ∙ sym (head-literal b lt))))
+      (true-same (T .links) (linksOf s nodes) (ext-getD 0 (T .links) (linksOf s nodes) (E .links ∙ sym length-places ∙ sym length-linksOf)
+      (λ k lt. link-is R k lt))))
 
   pub refused : (Right T → ⊥) → claim ≡ false
   refused no-right = go claim refl
@@ -163,7 +170,8 @@ module _ (T : Table) (E : LentSizes T) where
 
   fits-places : Right T → (k : ℕ) → 2 ≤ k → k < T .count → fits places k (at places k) ≡ true
   fits-places R k two lt =
-      let F : Fits nodes k (at places k) = subst (Fits nodes k) (node-at k lt) (R .order .ordered .fits k two (omega (arith, length-nodes))) in
+      let F : Fits nodes k (at places k) = subst (Fits nodes k) (node-at k lt) (R .order .ordered .fits k two (omega (arith, length-nodes)))
+      in
       true-fits places k (at places k) (record {
         least = F .least;
         most = F .most;
@@ -179,25 +187,29 @@ module _ (T : Table) (E : LentSizes T) where
     fits-places R k two lt,
     λ ne.
         let e = R .links k two lt in
-        let L : Last (chainAt T) (chainAt T k) (k - 2) (lastIn (chainAt T) (chainAt T k) (k - 2)) = last-is (chainAt T) (chainAt T k) (k - 2) (λ z. ne (e ∙ z)) in
+        let L : Last (chainAt T) (chainAt T k) (k - 2) (lastIn (chainAt T) (chainAt T k) (k - 2)) =
+        last-is (chainAt T) (chainAt T k) (k - 2) (λ z. ne (e ∙ z)) in
         (omega (arith, e, L .from), omega (arith, e, L .below), ap (chainAt T) e ∙ L .is),
   )
 
   pub heads-pass : Right T → HeadsFit T (length (T .heads))
   heads-pass R b lt ne =
       let e = R .heads b lt in
-      let L : Last (chainAt T) b (T .count - 2) (lastIn (chainAt T) b (T .count - 2)) = last-is (chainAt T) b (T .count - 2) (λ z. ne (e ∙ z)) in
+      let L : Last (chainAt T) b (T .count - 2) (lastIn (chainAt T) b (T .count - 2)) =
+      last-is (chainAt T) b (T .count - 2) (λ z. ne (e ∙ z)) in
       (omega (arith, e, L .from), omega (arith, e, L .below, E .least), ap (chainAt T) e ∙ L .is)
 
   apart : Right T → (j k : ℕ) → 2 ≤ k → k < j → j < T .count → at places j ≡ at places k → ⊥
   apart R j k two lt inside e =
-      let q : j ≡ k = R .order .ordered .alike j k (omega arith) (omega (arith, length-nodes)) two (omega (arith, length-nodes)) (node-at j inside ∙ e ∙ sym (node-at k (omega arith))) in
+      let q : j ≡ k = R .order .ordered .alike j k (omega arith) (omega (arith, length-nodes)) two (omega (arith, length-nodes))
+      (node-at j inside ∙ e ∙ sym (node-at k (omega arith))) in
       absurd (omega arith)
 
   pub all-pass : Right T → AllInChain T (T .count)
   all-pass R k two lt =
       subst (Comes T k) (sym (R .heads (chainAt T k) (chain-less k)))
-      (right-reaches (T .count) (chainAt T) (λ i. getD (T .links) i 0) (λ i. at places i ≡ at places k → ⊥) k two (λ j p q. apart R j k two p q)
+      (right-reaches (T .count) (chainAt T) (λ i. getD (T .links) i 0) (λ i. at places i ≡ at places k → ⊥) k two
+      (λ j p q. apart R j k two p q)
       (λ j p q. R .links j p q) (suc (T .count - 2)) (T .count - 2) (omega arith) (omega (arith, E .least)) (omega (arith, E .least)))
 
   -- ---- a table that passes is right
@@ -208,7 +220,8 @@ module _ (T : Table) (E : LentSizes T) where
     falls : (k : ℕ) → 2 ≤ k → k < T .count → getD (T .links) k 0 < k
     falls k two lt = elim (ℕ-discrete (getD (T .links) k 0) 0) [ yes z ↦ omega arith | no z ↦ N k two lt .1 z .1 ]
 
-    W : Tested (T .count) (length (T .heads)) (chainAt T) (λ b. getD (T .heads) b 0) (λ k. getD (T .links) k 0) (λ j k. at places j ≡ at places k)
+    W : Tested (T .count) (length (T .heads)) (chainAt T) (λ b. getD (T .heads) b 0) (λ k. getD (T .links) k 0)
+        (λ j k. at places j ≡ at places k)
     W = record {
       falls = falls;
       linked = λ k two lt ne. (N k two lt .1 ne .0, N k two lt .1 ne .2);
@@ -219,7 +232,8 @@ module _ (T : Table) (E : LentSizes T) where
     alone : (j k : ℕ) → 2 ≤ j → j < k → k < T .count → at nodes j ≡ at nodes k → ⊥
     alone j k two lt inside e =
         let q : at places j ≡ at places k = sym (node-at j (omega arith)) ∙ e ∙ node-at k inside in
-        none-alike (T .count) (length (T .heads)) (chainAt T) (λ b. getD (T .heads) b 0) (λ k. getD (T .links) k 0) (λ j k. at places j ≡ at places k) W j k two lt inside
+        none-alike (T .count) (length (T .heads)) (chainAt T) (λ b. getD (T .heads) b 0) (λ k. getD (T .links) k 0)
+        (λ j k. at places j ≡ at places k) W j k two lt inside
         (ap (λ (x : Node). bucket (length (T .heads)) (x .var) (x .low) (x .high)) q) (sym q)
 
     fits-nodes : (k : ℕ) → 2 ≤ k → k < T .count → Fits nodes k (at nodes k)
@@ -255,8 +269,10 @@ module _ (T : Table) (E : LentSizes T) where
         };
         rest = rest;
       };
-      heads = λ b lt. head-last (T .count) (length (T .heads)) (chainAt T) (λ b. getD (T .heads) b 0) (λ k. getD (T .links) k 0) (λ j k. at places j ≡ at places k) W b lt (E .least);
-      links = λ k two lt. link-last (T .count) (length (T .heads)) (chainAt T) (λ b. getD (T .heads) b 0) (λ k. getD (T .links) k 0) (λ j k. at places j ≡ at places k) W k two lt;
+      heads = λ b lt. head-last (T .count) (length (T .heads)) (chainAt T) (λ b. getD (T .heads) b 0) (λ k. getD (T .links) k 0)
+          (λ j k. at places j ≡ at places k) W b lt (E .least);
+      links = λ k two lt. link-last (T .count) (length (T .heads)) (chainAt T) (λ b. getD (T .heads) b 0) (λ k. getD (T .links) k 0)
+          (λ j k. at places j ≡ at places k) W k two lt;
       first = first;
       past = past;
     }

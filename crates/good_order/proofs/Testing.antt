@@ -19,7 +19,8 @@ use Rattle.table.proofs.Written.{length-rows}
 use Rattle.table.proofs.Chain.{rows-at}
 use Rattle.table.proofs.Sizes.{Sized, sized}
 use Rattle.table.specs.Index.{bucket, goodOrder}
-use Rattle.good_order.specs.Tested.{Decides, LentSizes, placesOf, chainAt, OfChain, NodeFits, here, next, Comes, InChain, Empty, NodesFit, HeadsFit, AllInChain, Walkable}
+use Rattle.good_order.specs.Tested.{Decides, LentSizes, placesOf, chainAt, OfChain, NodeFits, here, next, Comes, InChain, Empty}
+use Rattle.good_order.specs.Tested.{NodesFit, HeadsFit, AllInChain, Walkable}
 use Rattle.good_order.proofs.Paths.{reach-least}
 use Rattle.good_order.proofs.Right.{right-claim, refused, all-pass, passed}
 
@@ -52,7 +53,8 @@ module _ (T : Table) (E : LentSizes T) where
   chain-read : (k b : ℕ) → b ≡ bucket (length (T .heads)) (getD (T .vars) k 0) (getD (T .lows) k 0) (getD (T .highs) k 0) → b ≡ chainAt T k
   chain-read k b e = e ∙ ap (λ (x : Node). bucket (length (T .heads)) (x .var) (x .low) (x .high)) (sym (read-at k))
 
-  pub chain-decided : (top b j own : ℕ) → 2 ≤ j → j < top → own ≡ bucket (length (T .heads)) (getD (T .vars) j 0) (getD (T .lows) j 0) (getD (T .highs) j 0)
+  pub chain-decided : (top b j own : ℕ) → 2 ≤ j → j < top → own ≡ bucket (length (T .heads)) (getD (T .vars) j 0) (getD (T .lows) j 0)
+      (getD (T .highs) j 0)
       → (j ≡ 0 → ⊥) → Decides (eqb own b) (OfChain T top b j)
   chain-decided top b j own two lt e ne = record {
     yes = λ q _. (two, lt, sym (chain-read j own e) ∙ eqb-true own b q);
@@ -64,13 +66,15 @@ module _ (T : Table) (E : LentSizes T) where
       → Decides r (OfChain T k b (getD (T .links) k 0)) → Decides r (NodeFits T k)
   node-decided k b r f e D =
       let q : b ≡ chainAt T k = chain-read k b e in
-      let D′ : Decides r (OfChain T k (chainAt T k) (getD (T .links) k 0)) = subst (λ (c : ℕ). Decides r (OfChain T k c (getD (T .links) k 0))) q D in
+      let D′ : Decides r (OfChain T k (chainAt T k) (getD (T .links) k 0)) =
+      subst (λ (c : ℕ). Decides r (OfChain T k c (getD (T .links) k 0))) q D in
       record { yes = λ s. (f, D′ .yes s); no = λ s all. D′ .no s (all .1) }
 
   -- ---- the walk down a chain
 
   module _ (W : Walkable T) (k : ℕ) where
-    pub walk-start : (b : ℕ) → b < length (T .heads) → b ≡ bucket (length (T .heads)) (getD (T .vars) k 0) (getD (T .lows) k 0) (getD (T .highs) k 0)
+    pub walk-start : (b : ℕ) → b < length (T .heads) → b ≡ bucket (length (T .heads)) (getD (T .vars) k 0) (getD (T .lows) k 0)
+        (getD (T .highs) k 0)
         → Walking T k (getD (T .heads) b 0)
     walk-start b lt e =
         let q : b ≡ chainAt T k = chain-read k b e in
@@ -111,7 +115,8 @@ module _ (T : Table) (E : LentSizes T) where
 
 -- ---- the whole
 
-pub lent : (vs ls hs ds ks : List ℕ) (count : ℕ) → sizeFits vs ls hs ds ks ≡ true → 2 ≤ count → count ≤ length vs → LentSizes (tableOf vs ls hs ds ks count)
+pub lent : (vs ls hs ds ks : List ℕ) (count : ℕ) → sizeFits vs ls hs ds ks ≡ true → 2 ≤ count → count ≤ length vs →
+    LentSizes (tableOf vs ls hs ds ks count)
 lent vs ls hs ds ks count e two le =
     let S : Sized vs ls hs ds ks = sized vs ls hs ds ks e in
     record { least = two; within = le; most = S .most; lows = S .lows; highs = S .highs; links = S .links; heads = S .heads }
@@ -120,7 +125,8 @@ pub no-order : (places : List Node) (count : ℕ) (ds ks : List ℕ) → goodPla
 unfolding goodOrder
 no-order places count ds ks e = rw e
 
-pub decided : (T : Table) (E : LentSizes T) → allBlank (take 2 (placesOf T)) ≡ true → allBlank (take (size T - T .count) (drop (T .count) (placesOf T))) ≡ true
+pub decided : (T : Table) (E : LentSizes T) → allBlank (take 2 (placesOf T)) ≡ true →
+    allBlank (take (size T - T .count) (drop (T .count) (placesOf T))) ≡ true
     → Empty (T .links) 0 2 → Empty (T .links) (T .count) (length (T .links)) → NodesFit T (T .count) → HeadsFit T (length (T .heads))
     → (r : Bool) → Decides r (AllInChain T (T .count)) → r ≡ goodOrder (placesOf T) (T .count) (T .heads) (T .links)
 decided T E zeros rest first past N H true D =

@@ -7,7 +7,8 @@ ghost use Rattle.table.specs.Nodes.{at, allBlank, fits};
 ghost use Rattle.table.specs.Index.{goodOrder};
 ghost use Rattle.table.specs.Columns.{rows, sizeFits};
 ghost use Rattle.table.specs.Indexed.{tableOf};
-ghost use Rattle.good_order.specs.Tested.{Decides, LentSizes, OfChain, NodeFits, InChain, Empty, NodesFit, HeadsFit, AllInChain, Walkable};
+ghost use Rattle.good_order.specs.Tested.{Decides, LentSizes, OfChain, NodeFits, InChain, Empty};
+ghost use Rattle.good_order.specs.Tested.{NodesFit, HeadsFit, AllInChain, Walkable};
 
 // Whether the places from `from` up to `to` hold zeros.
 fn blank_between(vars: &[u8], lows: &[u16], highs: &[u16], from: usize, to: usize) -> bool

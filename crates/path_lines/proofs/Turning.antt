@@ -1,5 +1,7 @@
--- A path line's turns: one path's, and those of all, over a table that is the same before each. The idea: what is to be shown is what is left to be
--- shown, the rounds are those counted and those to come, and the peak is the greater of the one so far and the one to come. Assumes nothing.
+-- A path line's turns: one path's, and those of all, over a table that is the same before each. The idea: what is to be shown is what is
+-- left to be
+-- shown, the rounds are those counted and those to come, and the peak is the greater of the one so far and the one to come. Assumes
+-- nothing.
 use mathlib.Core.Path.{_≡_, refl, sym, ap, ap₂, _∙_, subst}
 use mathlib.Core.Bool.{Bool, true, false, not, _&&_, cond}
 use mathlib.Core.List.{List, [], _∷_, _++_}
@@ -42,9 +44,16 @@ use Rattle.path_lines.specs.Turns.{byWords, nothing, turnBy}
 -- its propagation, taken apart
 abbrev turned : Bool → ℕ → List Diagram → Line → Line
 turned conflict rounds made rest =
-    record { shown = conflict && rest .shown; rounds = cond conflict (rounds + rest .rounds) rounds; kept = []; turns = made ∷ cond conflict (rest .turns) [] }
+    record {
+      shown = conflict && rest .shown;
+      rounds = cond conflict (rounds + rest .rounds) rounds;
+      kept = [];
+      turns = made ∷
+          cond conflict (rest .turns) [];
+    }
 
-turned-reach : (s : ℕ) (t : List Node) (c : Bool) (m : ℕ) (ds : List Diagram) → lineReach s t (turned c m ds nothing) ≡ reached (placedAll s t ds)
+turned-reach : (s : ℕ) (t : List Node) (c : Bool) (m : ℕ) (ds : List Diagram) → lineReach s t (turned c m ds nothing)
+    ≡ reached (placedAll s t ds)
 unfolding lineReach placedAll
 turned-reach s t true m ds = one-reach s ds t
 turned-reach s t false m ds = one-reach s ds t
@@ -65,7 +74,8 @@ module _ (T : Table) (G : Good T) (members : List ℕ) (u : Literals) (T₁ : Ta
   made-is = refl
 
   -- a member by the literals found no room
-  pub turn-full : AllMade T (unitResults u T members) true T₁ list → LineSays T (turnBy u ms) 64 (judgedAs true false 0 (T₁ .count) (T₁ .count)) T₁
+  pub turn-full : AllMade T (unitResults u T members) true T₁ list → LineSays T (turnBy u ms) 64
+      (judgedAs true false 0 (T₁ .count) (T₁ .count)) T₁
   unfolding turnBy
   turn-full M = record {
     extended = M .extended;
@@ -79,7 +89,8 @@ module _ (T : Table) (G : Good T) (members : List ℕ) (u : Literals) (T₁ : Ta
     most = omega arith;
   }
 
-  pub turn-judged : AllMade T (unitResults u T members) false T₁ list → (r : Propagated) (T₂ : Table) → Said T₁ (unitProp 64 (diagramsOf (nodesOf T₁) list)) r T₂
+  pub turn-judged : AllMade T (unitResults u T members) false T₁ list → (r : Propagated) (T₂ : Table) →
+      Said T₁ (unitProp 64 (diagramsOf (nodesOf T₁) list)) r T₂
       → T₂ .count ≡ r .count → LineSays T (turnBy u ms) 64 (judgedAs (r .full) (r .conflict) (r .rounds) (r .count) (r .count)) T₂
   unfolding turnBy
   turn-judged M r T₂ S counted =
@@ -114,12 +125,19 @@ module _ (s : ℕ) (t : List Node) where
     rounds : all .rounds ≡ one .rounds
     reach : turnsReach s (all .turns) t ≡ turnsReach s (one .turns) t
 
-  turned-on : (c : Bool) (m : ℕ) (ds : List Diagram) (L : Line) → turned c m ds nothing .shown ≡ true → GoesOn (turned c m ds nothing) L (turned c m ds L)
+  turned-on : (c : Bool) (m : ℕ) (ds : List Diagram) (L : Line) → turned c m ds nothing .shown ≡ true →
+      GoesOn (turned c m ds nothing) L (turned c m ds L)
   unfolding turnsReach
-  turned-on true m ds L e = record { shown = refl; rounds = omega arith; reach = ap (λ (r : Reach). thenReach r (turnsReach s (L .turns) t)) (sym (one-reach s ds t)) }
+  turned-on true m ds L e = record {
+    shown = refl;
+    rounds = omega arith;
+    reach =
+        ap (λ (r : Reach). thenReach r (turnsReach s (L .turns) t)) (sym (one-reach s ds t));
+  }
   turned-on false m ds L e = t≢f (sym e)
 
-  turned-last : (c : Bool) (m : ℕ) (ds : List Diagram) (L : Line) → turned c m ds nothing .shown ≡ false → Stops (turned c m ds nothing) (turned c m ds L)
+  turned-last : (c : Bool) (m : ℕ) (ds : List Diagram) (L : Line) → turned c m ds nothing .shown ≡ false →
+      Stops (turned c m ds nothing) (turned c m ds L)
   turned-last true m ds L e = t≢f e
   turned-last false m ds L e = record { shown = refl; rounds = refl; reach = refl }
 
@@ -216,18 +234,22 @@ module _ (T : Table) (members : List ℕ) (root : ℕ) where
     -- the root is not 1
     pub next-first : (root ≡ 1 → ⊥) → (u : Literals) → u ≡ firstFrom (diagramAt (nodesOf T) root) noLiterals → Next 0 true u
     next-first other u e =
-        let one : isOne (diagramAt (nodesOf T) root) ≡ false = one-not (nodesOf T) (good-ordered T good) root (omega (arith, length-nodes T good)) other in
+        let one : isOne (diagramAt (nodesOf T) root) ≡ false = one-not (nodesOf T) (good-ordered T good) root
+        (omega (arith, length-nodes T good)) other in
         subst (Next 0 true) (sym e)
         (next-of 0 (found true (firstFrom (diagramAt (nodesOf T) root) noLiterals))
-        (sym (first-is 1 65 (diagramAt (nodesOf T) root) root-reduced noLiterals noPath ∙ ap (λ (b : Bool). cond b noPath (found true (firstFrom (diagramAt (nodesOf T) root) noLiterals))) one)))
+        (sym (first-is 1 65 (diagramAt (nodesOf T) root) root-reduced noLiterals noPath
+        ∙ ap (λ (b : Bool). cond b noPath (found true (firstFrom (diagramAt (nodesOf T) root) noLiterals))) one)))
 
-    pub next-after : (i : ℕ) (u : Literals) → Next i true u → (x : NextPath) → x ≡ afterFrom (diagramAt (nodesOf T) root) (u .positive) noLiterals noPath → Next (i + 1) (x .found) (x .literals)
+    pub next-after : (i : ℕ) (u : Literals) → Next i true u → (x : NextPath) → x
+        ≡ afterFrom (diagramAt (nodesOf T) root) (u .positive) noLiterals noPath → Next (i + 1) (x .found) (x .literals)
     next-after i u N x e =
         let q : i < length cs = N .inside refl in
         let z : suc i ≡ i + 1 = omega arith in
         next-of (i + 1) x
         (e ∙ ap (λ (w : Literals). afterFrom (diagramAt (nodesOf T) root) (w .positive) noLiterals noPath) (N .words refl)
-        ∙ after-is 1 65 (diagramAt (nodesOf T) root) root-reduced i q (literalsOf (getD cs i []) .positive) (path-along (getD cs i []) (rises i q)) noLiterals noPath
+        ∙ after-is 1 65 (diagramAt (nodesOf T) root) root-reduced i q (literalsOf (getD cs i []) .positive)
+        (path-along (getD cs i []) (rises i q)) noLiterals noPath
         ∙ ap (λ (k : ℕ). nth cs k noLiterals noPath) z)
 
     -- all are passed
@@ -238,7 +260,8 @@ module _ (T : Table) (members : List ℕ) (root : ℕ) where
         let none : drop i cs ≡ [] = drop-of-length-le cs {i = i} end in
         record {
           extended = extended-same T good;
-          reaches = whole-reach ∙ W .reach-left ∙ ap (λ (ks : List (List Literal)). raised peak (reachOf ks)) none ∙ ap (reach true) (omega (arith, W .least));
+          reaches = whole-reach ∙ W .reach-left ∙ ap (λ (ks : List (List Literal)). raised peak (reachOf ks)) none
+              ∙ ap (reach true) (omega (arith, W .least));
           shown = λ _. sym (W .shown-left ∙ ap (λ (ks : List (List Literal)). lineOf ks .shown) none);
           rounds = λ _. sym (W .rounds-left ∙ ap (λ (ks : List (List Literal)). rounds + lineOf ks .rounds) none ∙ plus-zero rounds);
           most = omega (arith, W .most, W .so-far, count-is (diagramAt (nodesOf T) root), few);
@@ -247,7 +270,8 @@ module _ (T : Table) (members : List ℕ) (root : ℕ) where
         plus-zero : (m : ℕ) → m + 0 ≡ m
         plus-zero m = omega arith
 
-    module _ (i rounds peak : ℕ) (W : Turning i rounds peak) (u : Literals) (N : Next i true u) (r : Judged) (T′ : Table) (said : LineSays T (turnBy u members-are) 64 r T′)
+    module _ (i rounds peak : ℕ) (W : Turning i rounds peak) (u : Literals) (N : Next i true u) (r : Judged) (T′ : Table)
+        (said : LineSays T (turnBy u members-are) 64 r T′)
         (few : pathCount (diagramAt (nodesOf T) root) ≤ 4096) where
       abbrev c : List Literal
       c = getD cs i []
@@ -259,7 +283,8 @@ module _ (T : Table) (members : List ℕ) (root : ℕ) where
       one = lineOf (c ∷ [])
 
       S : LineSays T one 64 r T′
-      S = subst (λ (L : Line). LineSays T L 64 r T′) (ap (λ (w : Literals). turnBy w members-are) (N .words refl) ∙ turn-is c (rises i more) members-are) said
+      S = subst (λ (L : Line). LineSays T L 64 r T′)
+          (ap (λ (w : Literals). turnBy w members-are) (N .words refl) ∙ turn-is c (rises i more) members-are) said
 
       next : drop i cs ≡ c ∷ drop (suc i) cs
       next = drop-cons cs i [] more
@@ -271,7 +296,8 @@ module _ (T : Table) (members : List ℕ) (root : ℕ) where
 
       one-reach-is : reachOf (c ∷ []) ≡ reach (not (r .full)) (r .peak)
       unfolding lineReach placedAll
-      one-reach-is = sym (ap (λ (kept : List Diagram). keptReach (size T) (one .turns) (placedAll (size T) (nodesOf T) kept)) (kept-none (c ∷ []))) ∙ S .reaches
+      one-reach-is = sym (ap (λ (kept : List Diagram). keptReach (size T) (one .turns) (placedAll (size T) (nodesOf T) kept))
+          (kept-none (c ∷ []))) ∙ S .reaches
 
       all-reach : lineReach (size T) (nodesOf T) whole ≡ raised peak (reachOf (c ∷ drop (suc i) cs))
       all-reach = whole-reach ∙ W .reach-left ∙ ap (λ (ks : List (List Literal)). raised peak (reachOf ks)) next
@@ -311,7 +337,8 @@ module _ (T : Table) (members : List ℕ) (root : ℕ) where
         has-room = one-reach-is ∙ ap (λ (b : Bool). reach (not b) (r .peak)) q
 
         -- a turn that does not conflict
-        pub turns-end : r .shown ≡ false → LineSays T whole 262144 (judgedAs false false (rounds + r .rounds) (T .count) (max peak (r .peak))) T
+        pub turns-end : r .shown ≡ false → LineSays T whole 262144
+            (judgedAs false false (rounds + r .rounds) (T .count) (max peak (r .peak))) T
         unfolding pathLine
         turns-end z =
             let e : one .shown ≡ false = sym (S .shown q) ∙ z in
@@ -319,7 +346,8 @@ module _ (T : Table) (members : List ℕ) (root : ℕ) where
               extended = extended-same T good;
               reaches = all-reach ∙ ap (raised peak) (last e .reach ∙ has-room);
               shown = λ _. sym (W .shown-left ∙ ap (λ (ks : List (List Literal)). lineOf ks .shown) next ∙ last e .shown);
-              rounds = λ _. sym (W .rounds-left ∙ ap (λ (ks : List (List Literal)). rounds + lineOf ks .rounds) next ∙ ap (λ (m : ℕ). rounds + m) (last e .rounds ∙ sym (S .rounds q)));
+              rounds = λ _. sym (W .rounds-left ∙ ap (λ (ks : List (List Literal)). rounds + lineOf ks .rounds) next
+                  ∙ ap (λ (m : ℕ). rounds + m) (last e .rounds ∙ sym (S .rounds q)));
               most = added-fits;
             }
 
@@ -332,9 +360,11 @@ module _ (T : Table) (members : List ℕ) (root : ℕ) where
               so-far = omega (arith, more);
               most = omega (arith, W .most, S .most);
               least = omega (arith, W .least);
-              shown-left = W .shown-left ∙ ap (λ (ks : List (List Literal)). lineOf ks .shown) next ∙ g .shown ∙ ap (λ (k : ℕ). lineOf (drop k cs) .shown) (sym (add-one i));
+              shown-left = W .shown-left ∙ ap (λ (ks : List (List Literal)). lineOf ks .shown) next ∙ g .shown
+                  ∙ ap (λ (k : ℕ). lineOf (drop k cs) .shown) (sym (add-one i));
               rounds-left =
-                  W .rounds-left ∙ ap (λ (ks : List (List Literal)). rounds + lineOf ks .rounds) next ∙ ap (λ (m : ℕ). rounds + m) (g .rounds)
+                  W .rounds-left ∙ ap (λ (ks : List (List Literal)). rounds + lineOf ks .rounds) next
+                  ∙ ap (λ (m : ℕ). rounds + m) (g .rounds)
                   ∙ ap (λ (m : ℕ). rounds + (m + lineOf (drop (suc i) cs) .rounds)) (sym (S .rounds q))
                   ∙ ap (λ (k : ℕ). rounds + (r .rounds + lineOf (drop k cs) .rounds)) (sym (add-one i))
                   ∙ grouped rounds (r .rounds) (lineOf (drop (i + 1) cs) .rounds);

@@ -66,7 +66,8 @@ module _ (vs ls hs : List ℕ) (count : ℕ) (R : Readable vs ls hs count) where
   -- no node but number 0 is 0
   zero-only : (k : ℕ) → k < count → diagramAt t k ≡ leaf false → k ≡ 0
   zero-only k p e =
-      diagramAt-injective t (ordered-in vs ls hs count R) k 0 (omega (arith, length-in vs ls hs count R)) (omega (arith, length-in vs ls hs count R)) (e ∙ sym (diagramAt-zero t))
+      diagramAt-injective t (ordered-in vs ls hs count R) k 0 (omega (arith, length-in vs ls hs count R))
+      (omega (arith, length-in vs ls hs count R)) (e ∙ sym (diagramAt-zero t))
 
   module _ (k : ℕ) (two : 2 ≤ k) (inside : k < count) where
     abbrev v : ℕ
@@ -88,14 +89,17 @@ module _ (vs ls hs : List ℕ) (count : ℕ) (R : Readable vs ls hs count) where
     high-tested : diagramAt t high ≡ leaf false → (eqb low 0 || eqb high 0) ≡ true
     high-tested e = or-right (eqb low 0) (eqb high 0) (eq-eqb high 0 (zero-only high (omega (arith, at-node .high-less)) e))
 
-    pub forced-node : (a b : ℕ) → Forced a (diagramAt t low) → Forced b (diagramAt t high) → Forced (withForced (bitOr a b) v low high) (diagramAt t k)
+    pub forced-node : (a b : ℕ) → Forced a (diagramAt t low) → Forced b (diagramAt t high) →
+        Forced (withForced (bitOr a b) v low high) (diagramAt t k)
     unfolding Forced
     forced-node a b x y =
         subst (Forces (inWord (withForced (bitOr a b) v low high))) (sym (is-node vs ls hs count R k two inside)) (
           (λ e. added-in (bitOr a b) v low high (at-node .least) (low-tested e)),
           (λ e. added-in (bitOr a b) v low high (at-node .least) (high-tested e)),
-          forces-more (inWord a) (inWord (withForced (bitOr a b) v low high)) (λ w e. kept-in (bitOr a b) v low high w (in-left a b w e)) (diagramAt t low) x,
-          forces-more (inWord b) (inWord (withForced (bitOr a b) v low high)) (λ w e. kept-in (bitOr a b) v low high w (in-right a b w e)) (diagramAt t high) y,
+          forces-more (inWord a) (inWord (withForced (bitOr a b) v low high)) (λ w e. kept-in (bitOr a b) v low high w (in-left a b w e))
+              (diagramAt t low) x,
+          forces-more (inWord b) (inWord (withForced (bitOr a b) v low high)) (λ w e. kept-in (bitOr a b) v low high w (in-right a b w e))
+              (diagramAt t high) y,
         )
 
 -- a walk from f comes to smaller numbers

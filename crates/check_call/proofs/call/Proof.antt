@@ -154,7 +154,8 @@ returns-2 : tie.Need-returns-2
 returns-2 c =
     let after-lent-fits = lent-fits-from-return-2 c in
     let else1 = else1-from-return-2 c in
-    called-done _ _ _ _ _ _ _ _ (sym (after-lent-fits .lent-fits .ensures) ∙ not-false _ (else1 .if1 .left)) _ (check-64-from-return-2 c .check-64 .ensures)
+    called-done _ _ _ _ _ _ _ _ (sym (after-lent-fits .lent-fits .ensures) ∙ not-false _ (else1 .if1 .left)) _
+    (check-64-from-return-2 c .check-64 .ensures)
 
 check-4096-requires : tie.Need-check-4096-requires
 check-4096-requires c κs =
@@ -198,13 +199,16 @@ returns-3 : tie.Need-returns-3
 returns-3 c =
     let after-lent-fits = lent-fits-from-return-3 c in
     let else1 = else1-from-return-3 c in
-    called-done _ _ _ _ _ _ _ _ (sym (after-lent-fits .lent-fits .ensures) ∙ not-false _ (else1 .if1 .left)) _ (check-4096-from-return-3 c .check-4096 .ensures)
+    called-done _ _ _ _ _ _ _ _ (sym (after-lent-fits .lent-fits .ensures) ∙ not-false _ (else1 .if1 .left)) _
+    (check-4096-from-return-3 c .check-4096 .ensures)
 
 check-65536-requires : tie.Need-check-65536-requires
 check-65536-requires c κs =
     let after-lent-fits = lent-fits-from-check-65536-call c in
-    let else1 = else1-from-check-65536-call c in
-    (sym (after-lent-fits .lent-fits .ensures) ∙ not-false _ (else1 .if1 .left), lent-sized _ _ _ _ (sym (after-lent-fits .lent-fits .ensures) ∙ not-false _ (else1 .if1 .left)) .columns .most)
+    let else1 = else1-from-check-65536-call c in (
+      sym (after-lent-fits .lent-fits .ensures) ∙ not-false _ (else1 .if1 .left),
+      lent-sized _ _ _ _ (sym (after-lent-fits .lent-fits .ensures) ∙ not-false _ (else1 .if1 .left)) .columns .most,
+    )
 
 same-length-25 : tie.Need-same-length-25
 same-length-25 c =
@@ -242,7 +246,12 @@ returns-4 : tie.Need-returns-4
 returns-4 c =
     let after-lent-fits = lent-fits-from-return-4 c in
     let else1 = else1-from-return-4 c in
-    called-done _ _ _ _ _ _ _ _ (sym (after-lent-fits .lent-fits .ensures) ∙ not-false _ (else1 .if1 .left)) _ (check-65536-from-return-4 c .check-65536 .ensures)
+    called-done _ _ _ _ _ _ _ _ (sym (after-lent-fits .lent-fits .ensures) ∙ not-false _ (else1 .if1 .left)) _
+    (check-65536-from-return-4 c .check-65536 .ensures)
 
 pub call-spec : {M : Type 1} → statement M
-call-spec = tie.close (tie.spec lent-fits-requires same-length same-length-2 same-length-3 same-length-4 same-length-5 same-length-6 same-length-7 same-length-8 returns check-64-requires same-length-9 same-length-10 same-length-11 same-length-12 same-length-13 same-length-14 same-length-15 same-length-16 returns-2 check-4096-requires same-length-17 same-length-18 same-length-19 same-length-20 same-length-21 same-length-22 same-length-23 same-length-24 returns-3 check-65536-requires same-length-25 same-length-26 same-length-27 same-length-28 same-length-29 same-length-30 same-length-31 same-length-32 returns-4)
+call-spec = tie.close (tie.spec lent-fits-requires same-length same-length-2 same-length-3 same-length-4 same-length-5 same-length-6
+    same-length-7 same-length-8 returns check-64-requires same-length-9 same-length-10 same-length-11 same-length-12 same-length-13
+    same-length-14 same-length-15 same-length-16 returns-2 check-4096-requires same-length-17 same-length-18 same-length-19 same-length-20
+    same-length-21 same-length-22 same-length-23 same-length-24 returns-3 check-65536-requires same-length-25 same-length-26 same-length-27
+    same-length-28 same-length-29 same-length-30 same-length-31 same-length-32 returns-4)

@@ -16,7 +16,8 @@ returns c =
 
 returns-2 : tie.Need-returns-2
 returns-2 c =
-    sym (fit-columns _ _ _ _ (sym (c .before .before .size-fits .ensures) ∙ not-false _ (c .before .if1 .left)) ∙ rw (lt-leb _ _ (c .if2 .taken)))
+    sym (fit-columns _ _ _ _ (sym (c .before .before .size-fits .ensures) ∙ not-false _ (c .before .if1 .left))
+    ∙ rw (lt-leb _ _ (c .if2 .taken)))
 
 returns-3 : tie.Need-returns-3
 returns-3 c =

@@ -42,7 +42,8 @@ reached-requires : tie.Need-reached-requires Inv-loop μ-loop
 reached-requires c κs = ((start-from-in-loop c .pre .0, c .before .loop .inv .0, c .loop-test .taken), start-from-in-loop c .pre .1)
 
 returns : tie.Need-returns Inv-loop μ-loop
-returns c = says-no (λ all. c .before .reached .ensures .no (not-true _ (c .if1 .taken)) (all _ (at-loop-from-then1 c .loop .inv .0) (c .before .before .loop-test .taken)))
+returns c = says-no (λ all. c .before .reached .ensures .no (not-true _ (c .if1 .taken))
+    (all _ (at-loop-from-then1 c .loop .inv .0) (c .before .before .loop-test .taken)))
 
 add-k : tie.Need-add-k Inv-loop μ-loop
 add-k c = search needs
@@ -51,7 +52,13 @@ loop-less : tie.Need-loop-less Inv-loop μ-loop
 loop-less c = search needs
 
 loop-again : tie.Need-loop-again Inv-loop μ-loop
-loop-again c = let a = start-from-else1 c .args in (search needs, search needs, one-more (InChain (tableOf (a .vars .now) (a .lows .now) (a .highs .now) (a .heads .now) (a .links .now) (a .count))) 2 _ (at-loop-from-else1 c .loop .inv .2) (c .before .reached .ensures .yes (not-false _ (c .if1 .left))))
+loop-again c = let a = start-from-else1 c .args in (
+  search needs,
+  search needs,
+  one-more (InChain
+      (tableOf (a .vars .now) (a .lows .now) (a .highs .now) (a .heads .now) (a .links .now) (a .count))) 2 _
+      (at-loop-from-else1 c .loop .inv .2) (c .before .reached .ensures .yes (not-false _ (c .if1 .left))),
+)
 
 returns-2 : tie.Need-returns-2 Inv-loop μ-loop
 returns-2 c = says-yes (λ k a b. c .before .loop .inv .2 k a (omega (arith, c .loop-test .left)))

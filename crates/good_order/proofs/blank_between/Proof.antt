@@ -73,7 +73,8 @@ module _ (c : tie.Then3 Inv-loop μ-loop) where
 
 returns : tie.Need-returns Inv-loop μ-loop
 returns c =
-    sym (at-loop-from-then1 c .loop .inv ∙ blank-step _ _ _ _ _ (start-from-then1 c .pre .0) (start-from-then1 c .pre .1) (c .before .before .loop-test .taken) (start-from-then1 c .pre .2) ∙ rw (ne-eqb _ _ (c .if1 .taken)))
+    sym (at-loop-from-then1 c .loop .inv ∙ blank-step _ _ _ _ _ (start-from-then1 c .pre .0) (start-from-then1 c .pre .1)
+    (c .before .before .loop-test .taken) (start-from-then1 c .pre .2) ∙ rw (ne-eqb _ _ (c .if1 .taken)))
 
 mul-if2 : tie.Need-mul-if2 Inv-loop μ-loop
 mul-if2 c = search needs
@@ -83,7 +84,8 @@ shared-slice-read-if2 c = search needs
 
 returns-2 : tie.Need-returns-2 Inv-loop μ-loop
 returns-2 c =
-    sym (at-loop-from-then2 c .loop .inv ∙ blank-step _ _ _ _ _ (start-from-then2 c .pre .0) (start-from-then2 c .pre .1) (in-loop-from-then2 c .loop-test .taken) (start-from-then2 c .pre .2) ∙ rw (ne-eqb _ _ (c .if2 .taken), and-false))
+    sym (at-loop-from-then2 c .loop .inv ∙ blank-step _ _ _ _ _ (start-from-then2 c .pre .0) (start-from-then2 c .pre .1)
+    (in-loop-from-then2 c .loop-test .taken) (start-from-then2 c .pre .2) ∙ rw (ne-eqb _ _ (c .if2 .taken), and-false))
 
 mul-if3 : tie.Need-mul-if3 Inv-loop μ-loop
 mul-if3 c = search needs
@@ -93,7 +95,8 @@ shared-slice-read-if3 c = search needs
 
 returns-3 : tie.Need-returns-3 Inv-loop μ-loop
 returns-3 c =
-    sym (at-loop-from-then3 c .loop .inv ∙ blank-step _ _ _ _ _ (start-from-then3 c .pre .0) (start-from-then3 c .pre .1) (in-loop-from-then3 c .loop-test .taken) (start-from-then3 c .pre .2) ∙ rw (ne-eqb _ _ (c .if3 .taken), and-false, and-false))
+    sym (at-loop-from-then3 c .loop .inv ∙ blank-step _ _ _ _ _ (start-from-then3 c .pre .0) (start-from-then3 c .pre .1)
+    (in-loop-from-then3 c .loop-test .taken) (start-from-then3 c .pre .2) ∙ rw (ne-eqb _ _ (c .if3 .taken), and-false, and-false))
 
 add-i : tie.Need-add-i Inv-loop μ-loop
 add-i c = search needs
@@ -103,7 +106,13 @@ loop-less c = search needs
 
 loop-again : tie.Need-loop-again Inv-loop μ-loop
 loop-again c =
-    at-loop-from-else3 c .loop .inv ∙ blank-step _ _ _ _ _ (start-from-else3 c .pre .0) (start-from-else3 c .pre .1) (in-loop-from-else3 c .loop-test .taken) (start-from-else3 c .pre .2) ∙ rw (eq-eqb _ _ (c .before .before .before .before .if1 .left), eq-eqb _ _ (c .before .before .if2 .left), eq-eqb _ _ (c .if3 .left))
+    at-loop-from-else3 c .loop .inv ∙ blank-step _ _ _ _ _ (start-from-else3 c .pre .0) (start-from-else3 c .pre .1)
+    (in-loop-from-else3 c .loop-test .taken) (start-from-else3 c .pre .2)
+    ∙ rw (
+      eq-eqb _ _ (c .before .before .before .before .if1 .left),
+      eq-eqb _ _ (c .before .before .if2 .left),
+      eq-eqb _ _ (c .if3 .left),
+    )
 
 returns-4 : tie.Need-returns-4 Inv-loop μ-loop
 returns-4 c = sym (c .before .loop .inv ∙ blank-end _ _ _ (c .loop-test .left))

@@ -137,7 +137,8 @@ stands-above-requires c κs =
 
 returns-6 : tie.Need-returns-6
 returns-6 c =
-    sym (fits-read _ _ _ (start-from-then6 c .pre .0) (start-from-then6 c .pre .1) _ ∙ unfit-above _ _ _ _ _ (sym (c .before .stands-above .ensures) ∙ not-true _ (c .if6 .taken)))
+    sym (fits-read _ _ _ (start-from-then6 c .pre .0) (start-from-then6 c .pre .1) _
+    ∙ unfit-above _ _ _ _ _ (sym (c .before .stands-above .ensures) ∙ not-true _ (c .if6 .taken)))
 
 stands-above-requires-2 : tie.Need-stands-above-requires-2
 stands-above-requires-2 c κs =
@@ -145,7 +146,10 @@ stands-above-requires-2 c κs =
 
 returns-7 : tie.Need-returns-7
 returns-7 c =
-    c .stands-above2 .ensures ∙ sym (fits-read _ _ _ (start-from-return-7 c .pre .0) (start-from-return-7 c .pre .1) _ ∙ fit-above _ _ _ _ _ (else1-from-return-7 c .if1 .left) (else2-from-return-7 c .if2 .left) (else3-from-return-7 c .if3 .left) (else4-from-return-7 c .if4 .left) (else5-from-return-7 c .if5 .left) (sym (c .before .before .stands-above .ensures) ∙ not-false _ (c .before .if6 .left)))
+    c .stands-above2 .ensures ∙ sym (fits-read _ _ _ (start-from-return-7 c .pre .0) (start-from-return-7 c .pre .1) _
+    ∙ fit-above _ _ _ _ _ (else1-from-return-7 c .if1 .left) (else2-from-return-7 c .if2 .left) (else3-from-return-7 c .if3 .left)
+    (else4-from-return-7 c .if4 .left) (else5-from-return-7 c .if5 .left)
+    (sym (c .before .before .stands-above .ensures) ∙ not-false _ (c .before .if6 .left)))
 
 pub fits-at-spec : {M : Type 1} → statement M
 fits-at-spec =

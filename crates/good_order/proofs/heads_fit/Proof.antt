@@ -61,7 +61,12 @@ loop-less : tie.Need-loop-less Inv-loop μ-loop
 loop-less c = search needs
 
 loop-again : tie.Need-loop-again Inv-loop μ-loop
-loop-again c = let a = start-from-else1 c .args in (search needs, head-more (λ (b : ℕ). OfChain (tableOf (a .vars .now) (a .lows .now) (a .highs .now) (a .heads .now) (a .links .now) (a .count)) (a .count) b (getD (a .heads .now) b 0)) _ (at-loop-from-else1 c .loop .inv .1) (c .before .of-chain .ensures .yes (not-false _ (c .if1 .left))))
+loop-again c = let a = start-from-else1 c .args in (
+  search needs,
+  head-more (λ (b : ℕ). OfChain
+      (tableOf (a .vars .now) (a .lows .now) (a .highs .now) (a .heads .now) (a .links .now) (a .count)) (a .count) b
+      (getD (a .heads .now) b 0)) _ (at-loop-from-else1 c .loop .inv .1) (c .before .of-chain .ensures .yes (not-false _ (c .if1 .left))),
+)
 
 returns-2 : tie.Need-returns-2 Inv-loop μ-loop
 returns-2 c = says-yes (λ k b. c .before .loop .inv .1 k (omega (arith, c .loop-test .left)))

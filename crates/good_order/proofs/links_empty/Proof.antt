@@ -34,7 +34,12 @@ loop-less : tie.Need-loop-less Inv-loop μ-loop
 loop-less c = search needs
 
 loop-again : tie.Need-loop-again Inv-loop μ-loop
-loop-again c = (search needs, search needs, one-more (λ k. getD (c .before .before .before .before .args .links .now) k 0 ≡ 0) _ _ (c .before .before .before .loop .inv .2) (c .if1 .left))
+loop-again c = (
+  search needs,
+  search needs,
+  one-more (λ k. getD (c .before .before .before .before .args .links .now) k 0 ≡ 0) _ _
+      (c .before .before .before .loop .inv .2) (c .if1 .left),
+)
 
 returns-2 : tie.Need-returns-2 Inv-loop μ-loop
 returns-2 c = says-yes (λ k a b. c .before .loop .inv .2 k a (omega (arith, c .loop-test .left)))

@@ -56,7 +56,9 @@ module _ (c : tie.After-of-chain) where
   start-from-return-2 = start-from-fits-at fits-at-from-return-2
 
 returns-2 : tie.Need-returns-2
-returns-2 c = node-decided _ (start-from-return-2 c .pre .0) _ _ _ (sym (fits-at-from-return-2 c .fits-at .ensures) ∙ not-false _ (else1-from-return-2 c .if1 .left)) (c .before .before .bucket-of .ensures .0) (c .of-chain .ensures)
+returns-2 c = node-decided _ (start-from-return-2 c .pre .0) _ _ _
+    (sym (fits-at-from-return-2 c .fits-at .ensures) ∙ not-false _ (else1-from-return-2 c .if1 .left))
+    (c .before .before .bucket-of .ensures .0) (c .of-chain .ensures)
 
 pub node-fits-spec : {M : Type 1} → statement M
 node-fits-spec =

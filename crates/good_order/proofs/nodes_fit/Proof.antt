@@ -22,7 +22,8 @@ node-fits-requires : tie.Need-node-fits-requires Inv-loop μ-loop
 node-fits-requires c κs = search needs
 
 returns : tie.Need-returns Inv-loop μ-loop
-returns c = says-no (λ all. c .before .node-fits .ensures .no (not-true _ (c .if1 .taken)) (all _ (c .before .before .before .loop .inv .0) (c .before .before .loop-test .taken)))
+returns c = says-no (λ all. c .before .node-fits .ensures .no (not-true _ (c .if1 .taken))
+    (all _ (c .before .before .before .loop .inv .0) (c .before .before .loop-test .taken)))
 
 add-k : tie.Need-add-k Inv-loop μ-loop
 add-k c = search needs
@@ -31,7 +32,13 @@ loop-less : tie.Need-loop-less Inv-loop μ-loop
 loop-less c = search needs
 
 loop-again : tie.Need-loop-again Inv-loop μ-loop
-loop-again c = let a = c .before .before .before .before .before .before .before .before .before .args in (search needs, search needs, one-more (NodeFits (tableOf (a .vars .now) (a .lows .now) (a .highs .now) (a .heads .now) (a .links .now) (a .count))) 2 _ (c .before .before .before .loop .inv .2) (c .before .node-fits .ensures .yes (not-false _ (c .if1 .left))))
+loop-again c = let a = c .before .before .before .before .before .before .before .before .before .args in (
+  search needs,
+  search needs,
+  one-more (NodeFits
+      (tableOf (a .vars .now) (a .lows .now) (a .highs .now) (a .heads .now) (a .links .now) (a .count))) 2 _
+      (c .before .before .before .loop .inv .2) (c .before .node-fits .ensures .yes (not-false _ (c .if1 .left))),
+)
 
 returns-2 : tie.Need-returns-2 Inv-loop μ-loop
 returns-2 c = says-yes (λ k a b. c .before .loop .inv .2 k a (omega (arith, c .loop-test .left)))

@@ -51,7 +51,8 @@ module _ (c : tie.After-bucket-of) where
   start-from-return-4 = start-from-else1 else1-from-return-4
 
 returns-4 : tie.Need-returns-4
-returns-4 c = chain-decided _ (start-from-return-4 c .pre .0) _ _ _ _ (else2-from-return-4 c .if2 .left) (else3-from-return-4 c .if3 .left) (c .bucket-of .ensures .0) (else1-from-return-4 c .if1 .left)
+returns-4 c = chain-decided _ (start-from-return-4 c .pre .0) _ _ _ _ (else2-from-return-4 c .if2 .left) (else3-from-return-4 c .if3 .left)
+    (c .bucket-of .ensures .0) (else1-from-return-4 c .if1 .left)
 
 pub of-chain-spec : {M : Type 1} → statement M
 of-chain-spec =

@@ -191,52 +191,94 @@ module _ (c : tie.After-all-in-chain) where
   start-from-return-9 = start-from-else1 else1-from-return-9
 
 returns : tie.Need-returns
-returns c = sym (no-order _ _ _ _ (too-few _ _ _ (sized _ _ _ _ _ (start-from-then1 c .pre) .lows) (sized _ _ _ _ _ (start-from-then1 c .pre) .highs) _ (c .if1 .taken)))
+returns c = sym (no-order _ _ _ _ (too-few _ _ _ (sized _ _ _ _ _ (start-from-then1 c .pre) .lows)
+    (sized _ _ _ _ _ (start-from-then1 c .pre) .highs) _ (c .if1 .taken)))
 
 returns-2 : tie.Need-returns-2
-returns-2 c = sym (no-order _ _ _ _ (too-many _ _ _ (sized _ _ _ _ _ (start-from-then2 c .pre) .lows) (sized _ _ _ _ _ (start-from-then2 c .pre) .highs) _ (c .if2 .taken)))
+returns-2 c = sym (no-order _ _ _ _ (too-many _ _ _ (sized _ _ _ _ _ (start-from-then2 c .pre) .lows)
+    (sized _ _ _ _ _ (start-from-then2 c .pre) .highs) _ (c .if2 .taken)))
 
 blank-between-requires : tie.Need-blank-between-requires
-blank-between-requires c κs = ((sized _ _ _ _ _ (start-from-else2 c .pre)) .lows, (sized _ _ _ _ _ (start-from-else2 c .pre)) .highs, (sized _ _ _ _ _ (start-from-else2 c .pre)) .least)
+blank-between-requires c κs = (
+  (sized _ _ _ _ _ (start-from-else2 c .pre)) .lows,
+  (sized _ _ _ _ _ (start-from-else2 c .pre)) .highs,
+  (sized _ _ _ _ _ (start-from-else2 c .pre)) .least,
+)
 
 returns-3 : tie.Need-returns-3
-returns-3 c = sym (no-order _ _ _ _ (bad-start _ _ _ (sized _ _ _ _ _ (start-from-then3 c .pre) .lows) (sized _ _ _ _ _ (start-from-then3 c .pre) .highs) _ (else1-from-then3 c .if1 .left) (c .before .before .if2 .left) (sym (c .before .blank-between .ensures) ∙ not-true _ (c .if3 .taken))))
+returns-3 c = sym (no-order _ _ _ _ (bad-start _ _ _ (sized _ _ _ _ _ (start-from-then3 c .pre) .lows)
+    (sized _ _ _ _ _ (start-from-then3 c .pre) .highs) _ (else1-from-then3 c .if1 .left) (c .before .before .if2 .left)
+    (sym (c .before .blank-between .ensures) ∙ not-true _ (c .if3 .taken))))
 
 blank-between-requires-2 : tie.Need-blank-between-requires-2
-blank-between-requires-2 c κs = ((sized _ _ _ _ _ (start-from-else3 c .pre)) .lows, (sized _ _ _ _ _ (start-from-else3 c .pre)) .highs, omega arith)
+blank-between-requires-2 c κs = (
+  (sized _ _ _ _ _ (start-from-else3 c .pre)) .lows,
+  (sized _ _ _ _ _ (start-from-else3 c .pre)) .highs,
+  omega arith,
+)
 
 returns-4 : tie.Need-returns-4
-returns-4 c = sym (no-order _ _ _ _ (bad-rest _ _ _ (sized _ _ _ _ _ (start-from-then4 c .pre) .lows) (sized _ _ _ _ _ (start-from-then4 c .pre) .highs) _ (else1-from-then4 c .if1 .left) (else2-from-then4 c .if2 .left) (sym (c .before .blank-between2 .ensures) ∙ not-true _ (c .if4 .taken))))
+returns-4 c = sym (no-order _ _ _ _ (bad-rest _ _ _ (sized _ _ _ _ _ (start-from-then4 c .pre) .lows)
+    (sized _ _ _ _ _ (start-from-then4 c .pre) .highs) _ (else1-from-then4 c .if1 .left) (else2-from-then4 c .if2 .left)
+    (sym (c .before .blank-between2 .ensures) ∙ not-true _ (c .if4 .taken))))
 
 links-empty-requires : tie.Need-links-empty-requires
-links-empty-requires c κs = (omega arith, omega (arith, (sized _ _ _ _ _ (start-from-else4 c .pre)) .least, (sized _ _ _ _ _ (start-from-else4 c .pre)) .links))
+links-empty-requires c κs = (
+  omega arith,
+  omega
+      (arith, (sized _ _ _ _ _ (start-from-else4 c .pre)) .least, (sized _ _ _ _ _ (start-from-else4 c .pre)) .links),
+)
 
 returns-5 : tie.Need-returns-5
-returns-5 c = sym (refused _ (lent _ _ _ _ _ _ (start-from-then5 c .pre) (else1-from-then5 c .if1 .left) (else2-from-then5 c .if2 .left)) (λ R. c .before .links-empty .ensures .no (not-true _ (c .if5 .taken)) (R .first)))
+returns-5 c = sym (refused _ (lent _ _ _ _ _ _ (start-from-then5 c .pre) (else1-from-then5 c .if1 .left) (else2-from-then5 c .if2 .left))
+    (λ R. c .before .links-empty .ensures .no (not-true _ (c .if5 .taken)) (R .first)))
 
 links-empty-requires-2 : tie.Need-links-empty-requires-2
-links-empty-requires-2 c κs = (omega (arith, else2-from-else5 c .if2 .left, (sized _ _ _ _ _ (start-from-else5 c .pre)) .links), omega arith)
+links-empty-requires-2 c κs = (
+  omega (arith, else2-from-else5 c .if2 .left, (sized _ _ _ _ _ (start-from-else5 c .pre)) .links),
+  omega arith,
+)
 
 returns-6 : tie.Need-returns-6
-returns-6 c = sym (refused _ (lent _ _ _ _ _ _ (start-from-then6 c .pre) (else1-from-then6 c .if1 .left) (else2-from-then6 c .if2 .left)) (λ R. c .before .links-empty2 .ensures .no (not-true _ (c .if6 .taken)) (λ k a b. R .past k a (omega (arith, (sized _ _ _ _ _ (start-from-then6 c .pre)) .links)))))
+returns-6 c = sym (refused _ (lent _ _ _ _ _ _ (start-from-then6 c .pre) (else1-from-then6 c .if1 .left) (else2-from-then6 c .if2 .left))
+    (λ R. c .before .links-empty2 .ensures .no (not-true _ (c .if6 .taken))
+    (λ k a b. R .past k a (omega (arith, (sized _ _ _ _ _ (start-from-then6 c .pre)) .links)))))
 
 nodes-fit-requires : tie.Need-nodes-fit-requires
 nodes-fit-requires c κs = (lent _ _ _ _ _ _ (start-from-else6 c .pre) (else1-from-else6 c .if1 .left) (else2-from-else6 c .if2 .left))
 
 returns-7 : tie.Need-returns-7
-returns-7 c = sym (refused _ (lent _ _ _ _ _ _ (start-from-then7 c .pre) (else1-from-then7 c .if1 .left) (else2-from-then7 c .if2 .left)) (λ R. c .before .nodes-fit .ensures .no (not-true _ (c .if7 .taken)) (nodes-pass _ (lent _ _ _ _ _ _ (start-from-then7 c .pre) (else1-from-then7 c .if1 .left) (else2-from-then7 c .if2 .left)) R)))
+returns-7 c = sym (refused _ (lent _ _ _ _ _ _ (start-from-then7 c .pre) (else1-from-then7 c .if1 .left) (else2-from-then7 c .if2 .left))
+    (λ R. c .before .nodes-fit .ensures .no (not-true _ (c .if7 .taken))
+    (nodes-pass _ (lent _ _ _ _ _ _ (start-from-then7 c .pre) (else1-from-then7 c .if1 .left) (else2-from-then7 c .if2 .left)) R)))
 
 heads-fit-requires : tie.Need-heads-fit-requires
 heads-fit-requires c κs = (lent _ _ _ _ _ _ (start-from-else7 c .pre) (else1-from-else7 c .if1 .left) (else2-from-else7 c .if2 .left))
 
 returns-8 : tie.Need-returns-8
-returns-8 c = sym (refused _ (lent _ _ _ _ _ _ (start-from-then8 c .pre) (else1-from-then8 c .if1 .left) (else2-from-then8 c .if2 .left)) (λ R. c .before .heads-fit .ensures .no (not-true _ (c .if8 .taken)) (heads-pass _ (lent _ _ _ _ _ _ (start-from-then8 c .pre) (else1-from-then8 c .if1 .left) (else2-from-then8 c .if2 .left)) R)))
+returns-8 c = sym (refused _ (lent _ _ _ _ _ _ (start-from-then8 c .pre) (else1-from-then8 c .if1 .left) (else2-from-then8 c .if2 .left))
+    (λ R. c .before .heads-fit .ensures .no (not-true _ (c .if8 .taken))
+    (heads-pass _ (lent _ _ _ _ _ _ (start-from-then8 c .pre) (else1-from-then8 c .if1 .left) (else2-from-then8 c .if2 .left)) R)))
 
 all-in-chain-requires : tie.Need-all-in-chain-requires
-all-in-chain-requires c κs = ((lent _ _ _ _ _ _ (start-from-else8 c .pre) (else1-from-else8 c .if1 .left) (else2-from-else8 c .if2 .left)), record { nodes = (nodes-fit-from-else8 c .nodes-fit .ensures .yes (not-false _ (c .before .before .if7 .left))); heads = (c .before .heads-fit .ensures .yes (not-false _ (c .if8 .left))) })
+all-in-chain-requires c κs = (
+  (lent _ _ _ _ _ _ (start-from-else8 c .pre) (else1-from-else8 c .if1 .left) (else2-from-else8 c .if2 .left)),
+  record {
+    nodes = (nodes-fit-from-else8 c .nodes-fit .ensures .yes (not-false _ (c .before .before .if7 .left)));
+    heads =
+        (c .before .heads-fit .ensures .yes (not-false _ (c .if8 .left)));
+  },
+)
 
 returns-9 : tie.Need-returns-9
-returns-9 c = decided _ (lent _ _ _ _ _ _ (start-from-return-9 c .pre) (else1-from-return-9 c .if1 .left) (else2-from-return-9 c .if2 .left)) (sym (blank-between-from-return-9 c .blank-between .ensures) ∙ not-false _ (else3-from-return-9 c .if3 .left)) (sym (blank-between2-from-return-9 c .blank-between2 .ensures) ∙ not-false _ (else4-from-return-9 c .if4 .left)) (links-empty-from-return-9 c .links-empty .ensures .yes (not-false _ (else5-from-return-9 c .if5 .left))) (links-empty2-from-return-9 c .links-empty2 .ensures .yes (not-false _ (else6-from-return-9 c .if6 .left))) (nodes-fit-from-return-9 c .nodes-fit .ensures .yes (not-false _ (else7-from-return-9 c .if7 .left))) (c .before .before .heads-fit .ensures .yes (not-false _ (c .before .if8 .left))) _ (c .all-in-chain .ensures)
+returns-9 c = decided _ (lent _ _ _ _ _ _ (start-from-return-9 c .pre) (else1-from-return-9 c .if1 .left)
+    (else2-from-return-9 c .if2 .left)) (sym (blank-between-from-return-9 c .blank-between .ensures)
+    ∙ not-false _ (else3-from-return-9 c .if3 .left))
+    (sym (blank-between2-from-return-9 c .blank-between2 .ensures) ∙ not-false _ (else4-from-return-9 c .if4 .left))
+    (links-empty-from-return-9 c .links-empty .ensures .yes (not-false _ (else5-from-return-9 c .if5 .left)))
+    (links-empty2-from-return-9 c .links-empty2 .ensures .yes (not-false _ (else6-from-return-9 c .if6 .left)))
+    (nodes-fit-from-return-9 c .nodes-fit .ensures .yes (not-false _ (else7-from-return-9 c .if7 .left)))
+    (c .before .before .heads-fit .ensures .yes (not-false _ (c .before .if8 .left))) _ (c .all-in-chain .ensures)
 
 pub order-fits-spec : {M : Type 1} → statement M
 order-fits-spec =

@@ -73,10 +73,17 @@ module _ (c : tie.Then3 Inv-loop μ-loop) where
   start-from-then3 = start-from-at-loop at-loop-from-then3
 
 cast-j : tie.Need-cast-j Inv-loop μ-loop
-cast-j c = omega (arith, walk-start _ (start-from-loop-holds c .pre .0 .0) (start-from-loop-holds c .pre .1) _ _ (c .before .bucket-of .ensures .1) (c .before .bucket-of .ensures .0) .below, start-from-loop-holds c .pre .0 .0 .within, start-from-loop-holds c .pre .0 .0 .most)
+cast-j c = omega (
+  arith,
+  walk-start _ (start-from-loop-holds c .pre .0 .0) (start-from-loop-holds c .pre .1) _ _
+      (c .before .bucket-of .ensures .1) (c .before .bucket-of .ensures .0) .below,
+  start-from-loop-holds c .pre .0 .0 .within,
+  start-from-loop-holds c .pre .0 .0 .most,
+)
 
 loop-holds : tie.Need-loop-holds Inv-loop μ-loop
-loop-holds c = walk-start _ (start-from-loop-holds c .pre .0 .0) (start-from-loop-holds c .pre .1) _ _ (c .before .bucket-of .ensures .1) (c .before .bucket-of .ensures .0)
+loop-holds c = walk-start _ (start-from-loop-holds c .pre .0 .0) (start-from-loop-holds c .pre .1) _ _ (c .before .bucket-of .ensures .1)
+    (c .before .bucket-of .ensures .0)
 
 shared-slice-read-if1 : tie.Need-shared-slice-read-if1 Inv-loop μ-loop
 shared-slice-read-if1 c = search needs
@@ -95,7 +102,12 @@ shared-slice-read-if3 c = search needs
 
 returns : tie.Need-returns Inv-loop μ-loop
 unfolding alike
-returns c = says-no (walk-hit _ (start-from-then3 c .pre .0 .0) (start-from-then3 c .pre .1) _ _ (in-loop-from-then3 c .loop-test .taken) (at-loop-from-then3 c .loop .inv) (rw (eq-eqb _ _ (c .before .before .before .before .if1 .taken), c .before .before .if2 .taken, c .if3 .taken)))
+returns c = says-no (walk-hit _ (start-from-then3 c .pre .0 .0) (start-from-then3 c .pre .1) _ _ (in-loop-from-then3 c .loop-test .taken)
+    (at-loop-from-then3 c .loop .inv) (rw (
+      eq-eqb _ _ (c .before .before .before .before .if1 .taken),
+      c .before .before .if2 .taken,
+      c .if3 .taken,
+    )))
 
 mul-j-2 : tie.Need-mul-j-2 Inv-loop μ-loop
 mul-j-2 c = search needs
@@ -104,14 +116,27 @@ shared-slice-read-j-2 : tie.Need-shared-slice-read-j-2 Inv-loop μ-loop
 shared-slice-read-j-2 c = search needs
 
 cast-j-2 : tie.Need-cast-j-2 Inv-loop μ-loop
-cast-j-2 c = omega (arith, link-less _ (start-from-loop-again c .pre .0 .0) (start-from-loop-again c .pre .1) (start-from-loop-again c .args .k) _ (omega (arith, in-loop-from-loop-again c .loop-test .taken, start-from-loop-again c .pre .0 .1)) (at-loop-from-loop-again c .loop .inv .below), at-loop-from-loop-again c .loop .inv .below, start-from-loop-again c .pre .0 .0 .within, start-from-loop-again c .pre .0 .0 .most)
+cast-j-2 c = omega (
+  arith,
+  link-less _ (start-from-loop-again c .pre .0 .0) (start-from-loop-again c .pre .1)
+      (start-from-loop-again c .args .k) _ (omega (arith, in-loop-from-loop-again c .loop-test .taken, start-from-loop-again c .pre .0 .1))
+      (at-loop-from-loop-again c .loop .inv .below),
+  at-loop-from-loop-again c .loop .inv .below,
+  start-from-loop-again c .pre .0 .0 .within,
+  start-from-loop-again c .pre .0 .0 .most,
+)
 
 loop-less : tie.Need-loop-less Inv-loop μ-loop
-loop-less c = link-less _ (start-from-loop-again c .pre .0 .0) (start-from-loop-again c .pre .1) (start-from-loop-again c .args .k) _ (omega (arith, in-loop-from-loop-again c .loop-test .taken, start-from-loop-again c .pre .0 .1)) (at-loop-from-loop-again c .loop .inv .below)
+loop-less c = link-less _ (start-from-loop-again c .pre .0 .0) (start-from-loop-again c .pre .1) (start-from-loop-again c .args .k) _
+    (omega (arith, in-loop-from-loop-again c .loop-test .taken, start-from-loop-again c .pre .0 .1))
+    (at-loop-from-loop-again c .loop .inv .below)
 
 loop-again : tie.Need-loop-again Inv-loop μ-loop
 unfolding alike
-loop-again c = let next = walk-next _ (start-from-loop-again c .pre .0 .0) (start-from-loop-again c .pre .1) _ _ (start-from-loop-again c .pre .0 .1) (in-loop-from-loop-again c .loop-test .taken) (at-loop-from-loop-again c .loop .inv) in ⊎-elim (λ w. next (rw (eq-eqb _ _ (w .0 .taken), w .2 .taken, w .4 .left))) (λ w. ⊎-elim (λ u. next (rw (eq-eqb _ _ (u .0 .taken), u .2 .left))) (λ u. next (rw (ne-eqb _ _ (u .left)))) w) (c .before .if1 .came)
+loop-again c = let next = walk-next _ (start-from-loop-again c .pre .0 .0) (start-from-loop-again c .pre .1) _ _
+    (start-from-loop-again c .pre .0 .1) (in-loop-from-loop-again c .loop-test .taken) (at-loop-from-loop-again c .loop .inv) in
+    ⊎-elim (λ w. next (rw (eq-eqb _ _ (w .0 .taken), w .2 .taken, w .4 .left)))
+    (λ w. ⊎-elim (λ u. next (rw (eq-eqb _ _ (u .0 .taken), u .2 .left))) (λ u. next (rw (ne-eqb _ _ (u .left)))) w) (c .before .if1 .came)
 
 returns-2 : tie.Need-returns-2 Inv-loop μ-loop
 returns-2 c = walk-end _ (start-from-return-2 c .pre .0 .0) (start-from-return-2 c .pre .1) _ _ (c .loop-test .left) (c .before .loop .inv)

@@ -23,7 +23,8 @@ use Rattle.path_lines.proofs.by_literals.Tie as tie
 
 module _ (s : tie.Start) where
   abbrev before : Table
-  before = tableOf (s .args .vars .now) (s .args .lows .now) (s .args .highs .now) (s .args .heads .now) (s .args .links .now) (s .args .count)
+  before = tableOf (s .args .vars .now) (s .args .lows .now) (s .args .highs .now) (s .args .heads .now) (s .args .links .now)
+      (s .args .count)
 
 -- The ways back, written by ways.py: TO-from-FROM leads from the place FROM of the code to the place TO before it.
 module _ (c : tie.After-copy) where
@@ -92,7 +93,13 @@ module _ (c : tie.After-touched-places) where
   copied-length = ap length (copy-words-from-touched-places c .copy-words .ensures) ∙ start-from-touched-places c .pre .1 .0
 
   many-there : c .touched-places .result ≤ length (c .touched-places .last .1 .1 .0)
-  many-there = omega (arith, c .touched-places .ensures .0, copied-length, start-from-touched-places c .pre .0 .2, c .touched-places .kept .1 .1 .0)
+  many-there = omega (
+    arith,
+    c .touched-places .ensures .0,
+    copied-length,
+    start-from-touched-places c .pre .0 .2,
+    c .touched-places .kept .1 .1 .0,
+  )
 
   counted : length places-found ≡ c .touched-places .result
   counted = length-take-le _ _ many-there
@@ -109,7 +116,8 @@ slice-aggregate-touched-places c = search needs
 touched-places-requires : tie.Need-touched-places-requires
 touched-places-requires c κs =
     let s = start-from-touched-places-call c in
-    let e : length (copy-words-from-touched-places-call c .copy-words .last .1 .0) ≡ length (s .args .members .now) = ap length (copy-words-from-touched-places-call c .copy-words .ensures) ∙ s .pre .1 .0 in
+    let e : length (copy-words-from-touched-places-call c .copy-words .last .1 .0) ≡ length (s .args .members .now) =
+    ap length (copy-words-from-touched-places-call c .copy-words .ensures) ∙ s .pre .1 .0 in
     (omega (arith, e, s .pre .0 .2), omega (arith, e, s .pre .0 .2))
 
 array-share-prefix-places : tie.Need-array-share-prefix-places
@@ -128,15 +136,18 @@ all-by-requires c κs =
     let p = s .args .literals .positive in
     let n = s .args .literals .negative in
     let D = diagramAt (nodesOf (before s)) 1 in (
-      subst (λ l. ListReady (before s) l (s .args .memo .now) × (1 < s .args .count) × Allowed (Literals p n) 1) (sym (copy-from-all-by-call c .copy .ensures))
+      subst (λ l. ListReady (before s) l (s .args .memo .now) × (1 < s .args .count) × Allowed (Literals p n) 1)
+          (sym (copy-from-all-by-call c .copy .ensures))
           (s .pre .0 .0, omega (arith, s .pre .0 .0 .good .least), refl),
-      subst (λ l. (length words ≡ length l) × Supports (nodesOf (before s)) l words × Touches (Literals p n) D (bitOr p n) × Support 0 D × AllBut (length l) found (Untouched words (bitOr p n))) (sym (copy-from-all-by-call c .copy .ensures)) (
-        copied-length t,
-        subst (Supports (nodesOf (before s)) (s .args .members .now)) (sym (copy-words-from-all-by-call c .copy-words .ensures)) (s .pre .1 .1),
-        refl,
-        support-leaf _ 1 0 (omega arith),
-        subst (λ k. AllBut k found (Untouched words (bitOr p n))) (copied-length t) (t .touched-places .ensures .1),
-      ),
+      subst (λ l. (length words ≡ length l) × Supports (nodesOf (before s)) l words × Touches (Literals p n) D (bitOr p n) × Support 0 D
+          × AllBut (length l) found (Untouched words (bitOr p n))) (sym (copy-from-all-by-call c .copy .ensures)) (
+            copied-length t,
+            subst (Supports (nodesOf (before s)) (s .args .members .now)) (sym (copy-words-from-all-by-call c .copy-words .ensures))
+                (s .pre .1 .1),
+            refl,
+            support-leaf _ 1 0 (omega arith),
+            subst (λ k. AllBut k found (Untouched words (bitOr p n))) (copied-length t) (t .touched-places .ensures .1),
+          ),
     )
 
 same-length : tie.Need-same-length
@@ -168,7 +179,8 @@ returns c =
     let s = start-from-return c in
     let b = all-by-from-return c .all-by in
     let after = tableOf (b .last .0) (b .last .1 .0) (b .last .1 .1 .0) (b .last .1 .1 .1 .0) (b .last .1 .1 .1 .1 .0) (b .result .count) in (
-      subst (λ l. AllMade (before s) (unitResults (s .args .literals) (before s) l) (b .result .full) after (b .last .1 .1 .1 .1 .1 .1 .0)) (copy-from-return c .copy .ensures) (b .ensures .0),
+      subst (λ l. AllMade (before s) (unitResults (s .args .literals) (before s) l) (b .result .full) after (b .last .1 .1 .1 .1 .1 .1 .0))
+          (copy-from-return c .copy .ensures) (b .ensures .0),
       b .ensures .1 .0,
     )
 

@@ -9,7 +9,8 @@ use Rattle.path_lines.proofs.path.Tie as tie
 
 module _ (s : tie.Start) where
   abbrev before : Table
-  before = tableOf (s .args .vars .now) (s .args .lows .now) (s .args .highs .now) (s .args .heads .now) (s .args .links .now) (s .args .count)
+  before = tableOf (s .args .vars .now) (s .args .lows .now) (s .args .highs .now) (s .args .heads .now) (s .args .links .now)
+      (s .args .count)
 
 -- The ways back, written by ways.py: TO-from-FROM leads from the place FROM of the code to the place TO before it.
 module _ (c : tie.After-supports-of-arg5) where
@@ -37,7 +38,8 @@ path-turns-requires c κs =
     let s = start-from-path-turns-call c in
     let w = supports-of-from-path-turns-call c .supports-of in (
       (
-        memo-again (before s) (s .args .members .now) (s .args .memo .now) (w .last .1 .1 .1 .0) (s .args .root .0) (w .kept .1 .1 .1 .0) (s .pre .0 .0),
+        memo-again (before s) (s .args .members .now) (s .args .memo .now) (w .last .1 .1 .1 .0) (s .args .root .0) (w .kept .1 .1 .1 .0)
+            (s .pre .0 .0),
         s .pre .0 .1,
         s .pre .0 .2,
         s .pre .0 .3,

@@ -16,7 +16,8 @@ use Rattle.path_lines.proofs.path_turn.Tie as tie
 
 module _ (s : tie.Start) where
   abbrev before : Table
-  before = tableOf (s .args .vars .now) (s .args .lows .now) (s .args .highs .now) (s .args .heads .now) (s .args .links .now) (s .args .count)
+  before = tableOf (s .args .vars .now) (s .args .lows .now) (s .args .highs .now) (s .args .heads .now) (s .args .links .now)
+      (s .args .count)
 
 -- The ways back, written by ways.py: TO-from-FROM leads from the place FROM of the code to the place TO before it.
 module _ (c : tie.After-by-literals-arg8) where
@@ -61,14 +62,17 @@ module _ (a : tie.After-by-literals) where
   start = start-from-by-literals a
 
   abbrev table₁ : Table
-  table₁ = tableOf (a .by-literals .last .0) (a .by-literals .last .1 .0) (a .by-literals .last .1 .1 .0) (a .by-literals .last .1 .1 .1 .0) (a .by-literals .last .1 .1 .1 .1 .0) (a .by-literals .result .count)
+  table₁ = tableOf (a .by-literals .last .0) (a .by-literals .last .1 .0) (a .by-literals .last .1 .1 .0) (a .by-literals .last .1 .1 .1 .0)
+      (a .by-literals .last .1 .1 .1 .1 .0) (a .by-literals .result .count)
 
   abbrev list₁ : List ℕ
   list₁ = a .by-literals .last .1 .1 .1 .1 .1 .1 .1 .1 .0
 
-  made : (b : Bool) → a .by-literals .result .full ≡ b → AllMade (before start) (unitResults (start .args .literals) (before start) (start .args .members .now)) b table₁ list₁
+  made : (b : Bool) → a .by-literals .result .full ≡ b → AllMade (before start)
+      (unitResults (start .args .literals) (before start) (start .args .members .now)) b table₁ list₁
   made b e =
-      subst (λ full. AllMade (before start) (unitResults (start .args .literals) (before start) (start .args .members .now)) full table₁ list₁) e (a .by-literals .ensures .0)
+      subst (λ full. AllMade (before start) (unitResults (start .args .literals) (before start) (start .args .members .now)) full table₁
+      list₁) e (a .by-literals .ensures .0)
 
   memo-length : length (a .by-literals .last .1 .1 .1 .1 .1 .0) ≡ length (start .args .memo .now)
   memo-length = a .by-literals .kept .1 .1 .1 .1 .1 .0
@@ -112,8 +116,11 @@ same-length-8 c =
 returns : tie.Need-returns
 returns c =
     let a = by-literals-from-then1 c in
-    let s = start a in
-    (turn-full (before s) (s .pre .0 .0 .good) (s .args .members .now) (s .args .literals) (table₁ a) (list₁ a) (made a true (c .if1 .taken)), s .pre .0 .1)
+    let s = start a in (
+      turn-full (before s) (s .pre .0 .0 .good) (s .args .members .now) (s .args .literals) (table₁ a) (list₁ a)
+          (made a true (c .if1 .taken)),
+      s .pre .0 .1,
+    )
 
 unit-prop-requires : tie.Need-unit-prop-requires
 unit-prop-requires c κs =
@@ -121,11 +128,20 @@ unit-prop-requires c κs =
     let s = start a in
     let M = made a false (else1-from-unit-prop-call c .if1 .left) in (
       (
-        record { good = M .extended .good; inside = M .inside refl; room = omega (arith, M .extended .same-size, s .pre .0 .0 .room, memo-length a) },
+        record {
+          good = M .extended .good;
+          inside = M .inside refl;
+          room =
+              omega (arith, M .extended .same-size, s .pre .0 .0 .room, memo-length a);
+        },
         s .pre .0 .1 ∙ ap unmarked (sym (a .by-literals .kept .0)),
         omega (arith, a .by-literals .kept .1 .1 .1 .1 .1 .1 .1 .1 .0, s .pre .0 .2, s .pre .0 .3),
       ),
-      (a .by-literals .kept .1 .1 .1 .1 .1 .1 .1 .1 .1 .0 ∙ s .pre .1 .2 ∙ sym (a .by-literals .kept .1 .1 .1 .1 .1 .1 .1 .1 .0 ∙ s .pre .0 .2), a .by-literals .ensures .1 (else1-from-unit-prop-call c .if1 .left)),
+      (
+        a .by-literals .kept .1 .1 .1 .1 .1 .1 .1 .1 .1 .0 ∙ s .pre .1 .2
+            ∙ sym (a .by-literals .kept .1 .1 .1 .1 .1 .1 .1 .1 .0 ∙ s .pre .0 .2),
+        a .by-literals .ensures .1 (else1-from-unit-prop-call c .if1 .left),
+      ),
     )
 
 cast-t51 : tie.Need-cast-t51
@@ -162,18 +178,23 @@ same-length-15 c =
 
 same-length-16 : tie.Need-same-length-16
 same-length-16 c =
-    unit-prop-from-return-2 c .unit-prop .kept .1 .1 .1 .1 .1 .1 .1 .0 ∙ by-literals-from-return-2 c .by-literals .kept .1 .1 .1 .1 .1 .1 .1 .1 .0
+    unit-prop-from-return-2 c .unit-prop .kept .1 .1 .1 .1 .1 .1 .1 .0 ∙ by-literals-from-return-2 c .by-literals .kept .1 .1 .1 .1 .1 .1 .1
+    .1 .0
 
 same-length-17 : tie.Need-same-length-17
 same-length-17 c =
-    unit-prop-from-return-2 c .unit-prop .kept .1 .1 .1 .1 .1 .1 .1 .1 .0 ∙ by-literals-from-return-2 c .by-literals .kept .1 .1 .1 .1 .1 .1 .1 .1 .1 .0
+    unit-prop-from-return-2 c .unit-prop .kept .1 .1 .1 .1 .1 .1 .1 .1 .0
+    ∙ by-literals-from-return-2 c .by-literals .kept .1 .1 .1 .1 .1 .1 .1 .1 .1 .0
 
 returns-2 : tie.Need-returns-2
 returns-2 c =
     let a = by-literals-from-return-2 c in
     let s = start a in
     let p = unit-prop-from-return-2 c .unit-prop in (
-      turn-judged (before s) (s .pre .0 .0 .good) (s .args .members .now) (s .args .literals) (table₁ a) (list₁ a) (made a false (else1-from-return-2 c .if1 .left)) (p .result) (tableOf (p .last .0) (p .last .1 .0) (p .last .1 .1 .0) (p .last .1 .1 .1 .0) (p .last .1 .1 .1 .1 .0) (p .result .count)) (p .ensures .0) refl,
+      turn-judged (before s) (s .pre .0 .0 .good) (s .args .members .now) (s .args .literals) (table₁ a) (list₁ a)
+          (made a false (else1-from-return-2 c .if1 .left)) (p .result)
+          (tableOf (p .last .0) (p .last .1 .0) (p .last .1 .1 .0) (p .last .1 .1 .1 .0) (p .last .1 .1 .1 .1 .0) (p .result .count))
+          (p .ensures .0) refl,
       p .ensures .1 ∙ ap unmarked (a .by-literals .kept .0),
     )
 

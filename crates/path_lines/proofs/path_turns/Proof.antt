@@ -1,4 +1,5 @@
--- `path_turns` judges the turns of all paths. The invariant: the table is as it was, what is to be shown is what is left to be shown, and the words
+-- `path_turns` judges the turns of all paths. The invariant: the table is as it was, what is to be shown is what is left to be shown, and
+-- the words
 -- at hand are the next path's (Turning). Assumes nothing.
 use mathlib.Core.Path.{_≡_, refl, sym, ap, _∙_, subst}
 use mathlib.Core.Bool.{Bool, true, false, not}
@@ -24,12 +25,14 @@ use Rattle.paths.specs.Paths.{pathLine, pathCount}
 use Rattle.paths.specs.Walk.{afterFrom, noPath}
 use Rattle.paths.proofs.Sequence.{count-is}
 use Rattle.path_lines.specs.Turns.{turnBy}
-use Rattle.path_lines.proofs.Turning.{Turning, Next, turning-none, next-first, next-after, turns-done, turns-full, turns-end, turns-on, added-fits, passed-fits}
+use Rattle.path_lines.proofs.Turning.{Turning, Next, turning-none, next-first, next-after, turns-done, turns-full, turns-end}
+use Rattle.path_lines.proofs.Turning.{turns-on, added-fits, passed-fits}
 use Rattle.path_lines.proofs.path_turns.Statement.{statement}
 use Rattle.path_lines.proofs.path_turns.Tie as tie
 
 abbrev Inv-loop : tie.InvT-loop
-Inv-loop vars₀ lows₀ highs₀ heads₀ links₀ memo₀ marks₀ members memberwords list₀ words₀ count root rounds₀ peak₀ literals₀ more₀ passed₀ vars lows highs heads links memo marks list words rounds peak literals more passed =
+Inv-loop vars₀ lows₀ highs₀ heads₀ links₀ memo₀ marks₀ members memberwords list₀ words₀ count root rounds₀ peak₀ literals₀ more₀ passed₀
+    vars lows highs heads links memo marks list words rounds peak literals more passed =
     (tableOf vars lows highs heads links count ≡ tableOf vars₀ lows₀ highs₀ heads₀ links₀ count)
     × Turning (tableOf vars₀ lows₀ highs₀ heads₀ links₀ count) members (root .0) passed rounds peak
     × (marks ≡ unmarked (length vars₀))
@@ -39,12 +42,14 @@ Inv-loop vars₀ lows₀ highs₀ heads₀ links₀ memo₀ marks₀ members mem
     × Next (tableOf vars₀ lows₀ highs₀ heads₀ links₀ count) members (root .0) passed more literals
 
 abbrev μ-loop : tie.MeasureT-loop
-μ-loop vars₀ lows₀ highs₀ heads₀ links₀ memo₀ marks₀ members memberwords list₀ words₀ count root rounds₀ peak₀ literals₀ more₀ passed₀ vars lows highs heads links memo marks list words rounds peak literals more passed =
+μ-loop vars₀ lows₀ highs₀ heads₀ links₀ memo₀ marks₀ members memberwords list₀ words₀ count root rounds₀ peak₀ literals₀ more₀ passed₀ vars
+    lows highs heads links memo marks list words rounds peak literals more passed =
     pathCount (diagramAt (nodesOf (tableOf vars₀ lows₀ highs₀ heads₀ links₀ count)) (root .0)) - passed
 
 module _ (s : tie.Start Inv-loop μ-loop) where
   abbrev before : Table
-  before = tableOf (s .args .vars .now) (s .args .lows .now) (s .args .highs .now) (s .args .heads .now) (s .args .links .now) (s .args .count)
+  before = tableOf (s .args .vars .now) (s .args .lows .now) (s .args .highs .now) (s .args .heads .now) (s .args .links .now)
+      (s .args .count)
 
   abbrev good : Good before
   good = s .pre .0 .0 .ready .good
@@ -187,21 +192,27 @@ module _ (a : tie.After-path-turn Inv-loop μ-loop) where
   reached = at-loop-from-path-turn a
 
   abbrev table₁ : Table
-  table₁ = tableOf (a .path-turn .last .0) (a .path-turn .last .1 .0) (a .path-turn .last .1 .1 .0) (a .path-turn .last .1 .1 .1 .0) (a .path-turn .last .1 .1 .1 .1 .0) (a .path-turn .result .count)
+  table₁ = tableOf (a .path-turn .last .0) (a .path-turn .last .1 .0) (a .path-turn .last .1 .1 .0) (a .path-turn .last .1 .1 .1 .0)
+      (a .path-turn .last .1 .1 .1 .1 .0) (a .path-turn .result .count)
 
-  said : LineSays (before start) (turnBy (reached .loop .literals) (diagramsOf (nodesOf (before start)) (start .args .members .now))) 64 (a .path-turn .result) table₁
+  said : LineSays (before start) (turnBy (reached .loop .literals) (diagramsOf (nodesOf (before start)) (start .args .members .now))) 64
+      (a .path-turn .result) table₁
   said =
-      subst (λ (t : Table). LineSays t (turnBy (reached .loop .literals) (diagramsOf (nodesOf t) (start .args .members .now))) 64 (a .path-turn .result) table₁)
+      subst (λ (t : Table). LineSays t (turnBy (reached .loop .literals) (diagramsOf (nodesOf t) (start .args .members .now))) 64
+      (a .path-turn .result) table₁)
       (reached .loop .inv .0) (a .path-turn .ensures .0)
 
   here : Next (before start) (start .args .members .now) (start .args .root .0) (reached .loop .passed) true (reached .loop .literals)
-  here = subst (λ (b : Bool). Next (before start) (start .args .members .now) (start .args .root .0) (reached .loop .passed) b (reached .loop .literals)) (in-loop-from-path-turn a .loop-test .taken) (reached .loop .inv .6)
+  here = subst (λ (b : Bool). Next (before start) (start .args .members .now) (start .args .root .0) (reached .loop .passed) b
+      (reached .loop .literals)) (in-loop-from-path-turn a .loop-test .taken) (reached .loop .inv .6)
 
   unmarked-again : a .path-turn .last .1 .1 .1 .1 .1 .1 .0 ≡ unmarked (length (start .args .vars .now))
   unmarked-again = a .path-turn .ensures .1 ∙ ap (λ (t : Table). unmarked (length (t .vars))) (reached .loop .inv .0)
 
   few-passed : reached .loop .passed < 4096
-  few-passed = passed-fits (before start) (start .args .members .now) (start .args .root .0) (good start) (start .pre .0 .0 .inside) (reached .loop .passed) (reached .loop .rounds) (reached .loop .peak) (reached .loop .inv .1) (reached .loop .literals) here (a .path-turn .result) table₁ said (start .pre .0 .4)
+  few-passed = passed-fits (before start) (start .args .members .now) (start .args .root .0) (good start) (start .pre .0 .0 .inside)
+      (reached .loop .passed) (reached .loop .rounds) (reached .loop .peak) (reached .loop .inv .1) (reached .loop .literals) here
+      (a .path-turn .result) table₁ said (start .pre .0 .4)
 
   not-last : reached .loop .passed < pathCount (diagramAt (nodesOf (before start)) (start .args .root .0))
   not-last = omega (arith, here .inside refl, count-is (diagramAt (nodesOf (before start)) (start .args .root .0)))
@@ -215,10 +226,12 @@ module _ (d : tie.After-drop-to Inv-loop μ-loop) where
   begun = start-from-drop-to d
 
   abbrev dropped : Table
-  dropped = tableOf (d .drop-to .last .0) (d .drop-to .last .1 .0) (d .drop-to .last .1 .1 .0) (d .drop-to .last .1 .1 .1 .0) (d .drop-to .last .1 .1 .1 .1 .0) (begun .args .count)
+  dropped = tableOf (d .drop-to .last .0) (d .drop-to .last .1 .0) (d .drop-to .last .1 .1 .0) (d .drop-to .last .1 .1 .1 .0)
+      (d .drop-to .last .1 .1 .1 .1 .0) (begun .args .count)
 
   as-before : dropped ≡ before begun
-  as-before = d .drop-to .ensures ∙ undone (before begun) (good begun) (table₁ turned) (extended-longer (before begun) (table₁ turned) (good begun) (said turned .extended))
+  as-before = d .drop-to .ensures ∙ undone (before begun) (good begun) (table₁ turned)
+      (extended-longer (before begun) (table₁ turned) (good begun) (said turned .extended))
 
 first-path-requires : tie.Need-first-path-requires Inv-loop μ-loop
 first-path-requires c κs =
@@ -234,7 +247,8 @@ loop-holds c =
       refl,
       refl,
       refl,
-      next-first (before s) (s .args .members .now) (s .args .root .0) (good s) (s .pre .0 .0 .inside) (s .pre .0 .0 .not-one) (c .first-path .result) (c .first-path .ensures),
+      next-first (before s) (s .args .members .now) (s .args .root .0) (good s) (s .pre .0 .0 .inside) (s .pre .0 .0 .not-one)
+          (c .first-path .result) (c .first-path .ensures),
     )
 
 path-turn-requires : tie.Need-path-turn-requires Inv-loop μ-loop
@@ -242,7 +256,8 @@ path-turn-requires c κs =
     let s = start-from-path-turn-call c in
     let w = at-loop-from-path-turn-call c .loop in (
       (
-        again-ready (before s) (tableOf (w .vars) (w .lows) (w .highs) (w .heads) (w .links) (s .args .count)) (s .args .members .now) (s .args .memo .now) (w .memo) (w .inv .0) (w .inv .3) (s .pre .0 .0 .ready),
+        again-ready (before s) (tableOf (w .vars) (w .lows) (w .highs) (w .heads) (w .links) (s .args .count)) (s .args .members .now)
+            (s .args .memo .now) (w .memo) (w .inv .0) (w .inv .3) (s .pre .0 .0 .ready),
         w .inv .2 ∙ sym (ap (λ (t : Table). unmarked (length (t .vars))) (w .inv .0)),
         w .inv .4 ∙ s .pre .0 .2,
         s .pre .0 .3,
@@ -284,7 +299,8 @@ same-length-6 c =
 
 same-length-7 : tie.Need-same-length-7 Inv-loop μ-loop
 same-length-7 c =
-    path-turn-from-then1 c .path-turn .kept .1 .1 .1 .1 .1 .1 .0 ∙ ap length (at-loop-from-then1 c .loop .inv .2 ∙ sym (start-from-then1 c .pre .0 .1))
+    path-turn-from-then1 c .path-turn .kept .1 .1 .1 .1 .1 .1 .0 ∙ ap length
+    (at-loop-from-then1 c .loop .inv .2 ∙ sym (start-from-then1 c .pre .0 .1))
 
 same-length-8 : tie.Need-same-length-8 Inv-loop μ-loop
 same-length-8 c =
@@ -299,8 +315,11 @@ returns c =
     let a = path-turn-from-then1 c in
     let s = start a in
     let w = reached a .loop in (
-      subst (λ (m : ℕ). LineSays (before s) (line s) 262144 (judgedAs true false 0 (a .path-turn .result .count) m) (table₁ a)) (sym (greater-from-then1 c .greater .ensures))
-          (turns-full (before s) (s .args .members .now) (s .args .root .0) (good s) (s .pre .0 .0 .inside) (w .passed) (w .rounds) (w .peak) (w .inv .1) (w .literals) (here a) (a .path-turn .result) (table₁ a) (said a) (s .pre .0 .4) (c .if1 .taken) (a .path-turn .result .count)),
+      subst (λ (m : ℕ). LineSays (before s) (line s) 262144 (judgedAs true false 0 (a .path-turn .result .count) m) (table₁ a))
+          (sym (greater-from-then1 c .greater .ensures))
+          (turns-full (before s) (s .args .members .now) (s .args .root .0) (good s) (s .pre .0 .0 .inside) (w .passed) (w .rounds)
+          (w .peak) (w .inv .1) (w .literals) (here a) (a .path-turn .result) (table₁ a) (said a) (s .pre .0 .4) (c .if1 .taken)
+          (a .path-turn .result .count)),
       unmarked-again a,
     )
 
@@ -314,27 +333,36 @@ add-rounds c =
     let a = path-turn-from-add-rounds c in
     let s = start a in
     let w = reached a .loop in
-    omega (arith, added-fits (before s) (s .args .members .now) (s .args .root .0) (good s) (s .pre .0 .0 .inside) (w .passed) (w .rounds) (w .peak) (w .inv .1) (w .literals) (here a) (a .path-turn .result) (table₁ a) (said a) (s .pre .0 .4))
+    omega (
+      arith,
+      added-fits (before s) (s .args .members .now) (s .args .root .0) (good s) (s .pre .0 .0 .inside) (w .passed) (w .rounds)
+          (w .peak) (w .inv .1) (w .literals) (here a) (a .path-turn .result) (table₁ a) (said a) (s .pre .0 .4),
+    )
 
 same-length-10 : tie.Need-same-length-10 Inv-loop μ-loop
 same-length-10 c =
-    drop-to-from-then2 c .drop-to .kept .0 ∙ path-turn-from-then2 c .path-turn .kept .0 ∙ ap (λ (t : Table). length (t .vars)) (at-loop-from-then2 c .loop .inv .0)
+    drop-to-from-then2 c .drop-to .kept .0 ∙ path-turn-from-then2 c .path-turn .kept .0
+    ∙ ap (λ (t : Table). length (t .vars)) (at-loop-from-then2 c .loop .inv .0)
 
 same-length-11 : tie.Need-same-length-11 Inv-loop μ-loop
 same-length-11 c =
-    drop-to-from-then2 c .drop-to .kept .1 .0 ∙ path-turn-from-then2 c .path-turn .kept .1 .0 ∙ ap (λ (t : Table). length (t .lows)) (at-loop-from-then2 c .loop .inv .0)
+    drop-to-from-then2 c .drop-to .kept .1 .0 ∙ path-turn-from-then2 c .path-turn .kept .1 .0
+    ∙ ap (λ (t : Table). length (t .lows)) (at-loop-from-then2 c .loop .inv .0)
 
 same-length-12 : tie.Need-same-length-12 Inv-loop μ-loop
 same-length-12 c =
-    drop-to-from-then2 c .drop-to .kept .1 .1 .0 ∙ path-turn-from-then2 c .path-turn .kept .1 .1 .0 ∙ ap (λ (t : Table). length (t .highs)) (at-loop-from-then2 c .loop .inv .0)
+    drop-to-from-then2 c .drop-to .kept .1 .1 .0 ∙ path-turn-from-then2 c .path-turn .kept .1 .1 .0
+    ∙ ap (λ (t : Table). length (t .highs)) (at-loop-from-then2 c .loop .inv .0)
 
 same-length-13 : tie.Need-same-length-13 Inv-loop μ-loop
 same-length-13 c =
-    drop-to-from-then2 c .drop-to .kept .1 .1 .1 .0 ∙ path-turn-from-then2 c .path-turn .kept .1 .1 .1 .0 ∙ ap (λ (t : Table). length (t .heads)) (at-loop-from-then2 c .loop .inv .0)
+    drop-to-from-then2 c .drop-to .kept .1 .1 .1 .0 ∙ path-turn-from-then2 c .path-turn .kept .1 .1 .1 .0
+    ∙ ap (λ (t : Table). length (t .heads)) (at-loop-from-then2 c .loop .inv .0)
 
 same-length-14 : tie.Need-same-length-14 Inv-loop μ-loop
 same-length-14 c =
-    drop-to-from-then2 c .drop-to .kept .1 .1 .1 .1 .0 ∙ path-turn-from-then2 c .path-turn .kept .1 .1 .1 .1 .0 ∙ ap (λ (t : Table). length (t .links)) (at-loop-from-then2 c .loop .inv .0)
+    drop-to-from-then2 c .drop-to .kept .1 .1 .1 .1 .0 ∙ path-turn-from-then2 c .path-turn .kept .1 .1 .1 .1 .0
+    ∙ ap (λ (t : Table). length (t .links)) (at-loop-from-then2 c .loop .inv .0)
 
 same-length-15 : tie.Need-same-length-15 Inv-loop μ-loop
 same-length-15 c =
@@ -342,7 +370,8 @@ same-length-15 c =
 
 same-length-16 : tie.Need-same-length-16 Inv-loop μ-loop
 same-length-16 c =
-    path-turn-from-then2 c .path-turn .kept .1 .1 .1 .1 .1 .1 .0 ∙ ap length (at-loop-from-then2 c .loop .inv .2 ∙ sym (start-from-then2 c .pre .0 .1))
+    path-turn-from-then2 c .path-turn .kept .1 .1 .1 .1 .1 .1 .0 ∙ ap length
+    (at-loop-from-then2 c .loop .inv .2 ∙ sym (start-from-then2 c .pre .0 .1))
 
 same-length-17 : tie.Need-same-length-17 Inv-loop μ-loop
 same-length-17 c =
@@ -358,9 +387,15 @@ returns-2 c =
     let a = turned d in
     let s = start a in
     let w = reached a .loop in (
-      subst (λ (t : Table). LineSays (before s) (line s) 262144 (judgedAs false false (w .rounds + a .path-turn .result .rounds) (s .args .count) (greater-from-then2 c .greater .result)) t) (sym (as-before d))
-          (subst (λ (m : ℕ). LineSays (before s) (line s) 262144 (judgedAs false false (w .rounds + a .path-turn .result .rounds) (s .args .count) m) (before s)) (sym (greater-from-then2 c .greater .ensures))
-          (turns-end (before s) (s .args .members .now) (s .args .root .0) (good s) (s .pre .0 .0 .inside) (w .passed) (w .rounds) (w .peak) (w .inv .1) (w .literals) (here a) (a .path-turn .result) (table₁ a) (said a) (s .pre .0 .4) (else1-from-then2 c .if1 .left) (sym (not-not (a .path-turn .result .shown)) ∙ ap not (c .if2 .taken)))),
+      subst (λ (t : Table). LineSays (before s) (line s) 262144
+          (judgedAs false false (w .rounds + a .path-turn .result .rounds) (s .args .count) (greater-from-then2 c .greater .result)) t)
+          (sym (as-before d))
+          (subst (λ (m : ℕ). LineSays (before s) (line s) 262144
+          (judgedAs false false (w .rounds + a .path-turn .result .rounds) (s .args .count) m) (before s))
+          (sym (greater-from-then2 c .greater .ensures))
+          (turns-end (before s) (s .args .members .now) (s .args .root .0) (good s) (s .pre .0 .0 .inside) (w .passed) (w .rounds) (w .peak)
+          (w .inv .1) (w .literals) (here a) (a .path-turn .result) (table₁ a) (said a) (s .pre .0 .4) (else1-from-then2 c .if1 .left)
+          (sym (not-not (a .path-turn .result .shown)) ∙ ap not (c .if2 .taken)))),
       unmarked-again a,
     )
 
@@ -386,14 +421,21 @@ loop-again c =
     let s = start a in
     let w = reached a .loop in (
       as-before d,
-      subst (Turning (before s) (s .args .members .now) (s .args .root .0) (w .passed + 1) (w .rounds + a .path-turn .result .rounds)) (sym (greater-from-loop-again c .greater .ensures))
-          (turns-on (before s) (s .args .members .now) (s .args .root .0) (good s) (s .pre .0 .0 .inside) (w .passed) (w .rounds) (w .peak) (w .inv .1) (w .literals) (here a) (a .path-turn .result) (table₁ a) (said a) (s .pre .0 .4) (else1-from-loop-again c .if1 .left) (sym (not-not (a .path-turn .result .shown)) ∙ ap not (else2-from-loop-again c .if2 .left))),
+      subst (Turning (before s) (s .args .members .now) (s .args .root .0) (w .passed + 1) (w .rounds + a .path-turn .result .rounds))
+          (sym (greater-from-loop-again c .greater .ensures))
+          (turns-on (before s) (s .args .members .now) (s .args .root .0) (good s) (s .pre .0 .0 .inside) (w .passed) (w .rounds) (w .peak)
+          (w .inv .1) (w .literals) (here a) (a .path-turn .result) (table₁ a) (said a) (s .pre .0 .4)
+          (else1-from-loop-again c .if1 .left)
+          (sym (not-not (a .path-turn .result .shown)) ∙ ap not (else2-from-loop-again c .if2 .left))),
       unmarked-again a,
       a .path-turn .kept .1 .1 .1 .1 .1 .0 ∙ w .inv .3,
       a .path-turn .kept .1 .1 .1 .1 .1 .1 .1 .1 .1 .0 ∙ w .inv .4,
       a .path-turn .kept .1 .1 .1 .1 .1 .1 .1 .1 .1 .1 .0 ∙ w .inv .5,
-      next-after (before s) (s .args .members .now) (s .args .root .0) (good s) (s .pre .0 .0 .inside) (w .passed) (w .literals) (here a) (path-after-from-loop-again c .path-after .result)
-          (path-after-from-loop-again c .path-after .ensures ∙ ap (λ (t : Table). afterFrom (diagramAt (nodesOf t) (s .args .root .0)) (w .literals .positive) noLiterals noPath) (as-before d)),
+      next-after (before s) (s .args .members .now) (s .args .root .0) (good s) (s .pre .0 .0 .inside) (w .passed) (w .literals) (here a)
+          (path-after-from-loop-again c .path-after .result)
+          (path-after-from-loop-again c .path-after .ensures ∙ ap
+          (λ (t : Table). afterFrom (diagramAt (nodesOf t) (s .args .root .0)) (w .literals .positive) noLiterals noPath)
+          (as-before d)),
     )
 
 same-length-19 : tie.Need-same-length-19 Inv-loop μ-loop
@@ -436,8 +478,11 @@ returns-3 : tie.Need-returns-3 Inv-loop μ-loop
 returns-3 c =
     let s = start-from-return-3 c in
     let w = c .before .loop in (
-      subst (λ (t : Table). LineSays (before s) (line s) 262144 (judgedAs false true (w .rounds) (s .args .count) (w .peak)) t) (sym (w .inv .0))
-          (turns-done (before s) (s .args .members .now) (s .args .root .0) (good s) (s .pre .0 .0 .inside) (w .passed) (w .rounds) (w .peak) (w .inv .1) (subst (λ (b : Bool). Next (before s) (s .args .members .now) (s .args .root .0) (w .passed) b (w .literals)) (c .loop-test .left) (w .inv .6) .past refl) (s .pre .0 .4)),
+      subst (λ (t : Table). LineSays (before s) (line s) 262144 (judgedAs false true (w .rounds) (s .args .count) (w .peak)) t)
+          (sym (w .inv .0))
+          (turns-done (before s) (s .args .members .now) (s .args .root .0) (good s) (s .pre .0 .0 .inside) (w .passed) (w .rounds)
+          (w .peak) (w .inv .1) (subst (λ (b : Bool). Next (before s) (s .args .members .now) (s .args .root .0) (w .passed) b
+          (w .literals)) (c .loop-test .left) (w .inv .6) .past refl) (s .pre .0 .4)),
       w .inv .2,
     )
 

@@ -24,7 +24,8 @@ use Rattle.pr_lines.proofs.pr.Tie as tie
 
 module _ (s : tie.Start) where
   abbrev before : Table
-  before = tableOf (s .args .vars .now) (s .args .lows .now) (s .args .highs .now) (s .args .heads .now) (s .args .links .now) (s .args .count)
+  before = tableOf (s .args .vars .now) (s .args .lows .now) (s .args .highs .now) (s .args .heads .now) (s .args .links .now)
+      (s .args .count)
 
 -- The ways back, written by ways.py: TO-from-FROM leads from the place FROM of the code to the place TO before it.
 module _ (c : tie.After-supports-of-arg5) where
@@ -139,7 +140,8 @@ module _ (a : tie.After-support-from) where
   memo-kept = a .support-from .kept .1 .1 .1 .0 ∙ supports-of-from-support-from a .supports-of .kept .1 .1 .1 .0
 
   negatable : Negatable (before begun) (begun .args .members .now) memo₁ (begun .args .root .0)
-  negatable = memo-again (before begun) (begun .args .members .now) (begun .args .memo .now) memo₁ (begun .args .root .0) memo-kept (begun .pre .0 .0)
+  negatable = memo-again (before begun) (begun .args .members .now) (begun .args .memo .now) memo₁ (begun .args .root .0) memo-kept
+      (begun .pre .0 .0)
 
 module _ (s : tie.Start) where
   abbrev members : List Diagram
@@ -154,7 +156,8 @@ module _ (a : tie.After-by-negation) where
   start = start-from-by-negation a
 
   abbrev table₁ : Table
-  table₁ = tableOf (a .by-negation .last .0) (a .by-negation .last .1 .0) (a .by-negation .last .1 .1 .0) (a .by-negation .last .1 .1 .1 .0) (a .by-negation .last .1 .1 .1 .1 .0) (a .by-negation .result .count)
+  table₁ = tableOf (a .by-negation .last .0) (a .by-negation .last .1 .0) (a .by-negation .last .1 .1 .0) (a .by-negation .last .1 .1 .1 .0)
+      (a .by-negation .last .1 .1 .1 .1 .0) (a .by-negation .result .count)
 
   abbrev list₁ : List ℕ
   list₁ = a .by-negation .last .1 .1 .1 .1 .1 .1 .1 .1 .0
@@ -163,9 +166,11 @@ module _ (a : tie.After-by-negation) where
   by-negation b e =
       subst (λ full. ByNegation (before start) (members start) (root start) full table₁ list₁) e (a .by-negation .ensures .0)
 
-  first-ready : a .by-negation .result .full ≡ false → (memo : List ℕ) → length memo ≡ length (start .args .memo .now) → ListReady table₁ list₁ memo
+  first-ready : a .by-negation .result .full ≡ false → (memo : List ℕ) → length memo ≡ length (start .args .memo .now) →
+      ListReady table₁ list₁ memo
   first-ready e memo len =
-      list-ready (before start) (members start) (root start) table₁ list₁ (start .args .memo .now) memo (by-negation false e) (start .pre .0 .0 .ready .room) len
+      list-ready (before start) (members start) (root start) table₁ list₁ (start .args .memo .now) memo (by-negation false e)
+      (start .pre .0 .0 .ready .room) len
 
   memo-length : length (a .by-negation .last .1 .1 .1 .1 .1 .0) ≡ length (start .args .memo .now)
   memo-length = a .by-negation .kept .1 .1 .1 .1 .1 .0 ∙ memo-kept (support-from-from-by-negation a)
@@ -173,14 +178,18 @@ module _ (a : tie.After-by-negation) where
   first-length : length list₁ ≡ length (start .args .members .now)
   first-length = a .by-negation .kept .1 .1 .1 .1 .1 .1 .1 .1 .0 ∙ start .pre .0 .2
 
-  memberwords-kept : a .by-negation .result .full ≡ false → Supports (nodesOf table₁) (start .args .members .now) (memberwords₁ (support-from-from-by-negation a))
+  memberwords-kept : a .by-negation .result .full ≡ false → Supports (nodesOf table₁) (start .args .members .now)
+      (memberwords₁ (support-from-from-by-negation a))
   memberwords-kept e =
       let R = start .pre .0 .0 .ready in
-      supports-longer (before start) table₁ (extended-longer (before start) table₁ (R .good) (by-negation false e .extended)) (start .args .members .now) (memberwords₁ (support-from-from-by-negation a)) (R .inside) (worded (support-from-from-by-negation a) .have)
+      supports-longer (before start) table₁ (extended-longer (before start) table₁ (R .good) (by-negation false e .extended))
+      (start .args .members .now) (memberwords₁ (support-from-from-by-negation a)) (R .inside)
+      (worded (support-from-from-by-negation a) .have)
 
 -- what the walk over the members by not-g leaves
 module _ (w : tie.After-supports-of2) where
-  firstwords : Supports (nodesOf (table₁ (by-negation-from-supports-of2 w))) (list₁ (by-negation-from-supports-of2 w)) (w .supports-of2 .last .1 .1 .1 .1 .1 .0)
+  firstwords : Supports (nodesOf (table₁ (by-negation-from-supports-of2 w))) (list₁ (by-negation-from-supports-of2 w))
+      (w .supports-of2 .last .1 .1 .1 .1 .1 .0)
   unfolding nodesOf
   firstwords = w .supports-of2 .ensures .0
 
@@ -193,8 +202,14 @@ supports-of-requires c κs =
 support-from-requires : tie.Need-support-from-requires
 support-from-requires c κs =
     let s = start-from-support-from-call c in
-    let w = supports-of-from-support-from-call c .supports-of in
-    ((good-readable (before s) (s .pre .0 .0 .ready .good), s .pre .0 .0 .inside, omega (arith, s .pre .0 .0 .ready .room, w .kept .1 .1 .1 .0)), w .ensures .1)
+    let w = supports-of-from-support-from-call c .supports-of in (
+      (
+        good-readable (before s) (s .pre .0 .0 .ready .good),
+        s .pre .0 .0 .inside,
+        omega (arith, s .pre .0 .0 .ready .room, w .kept .1 .1 .1 .0),
+      ),
+      w .ensures .1,
+    )
 
 by-negation-requires : tie.Need-by-negation-requires
 by-negation-requires c κs =
@@ -242,7 +257,8 @@ returns : tie.Need-returns
 returns c =
     let a = by-negation-from-then1 c in
     let s = start a in (
-      pr-full (before s) (s .pre .0 .0 .ready .good) (members s) (root s) (table₁ a) (list₁ a) (by-negation a true (c .if1 .taken)) (64 * length (s .args .members .now))
+      pr-full (before s) (s .pre .0 .0 .ready .good) (members s) (root s) (table₁ a) (list₁ a) (by-negation a true (c .if1 .taken))
+          (64 * length (s .args .members .now))
           (inWord (s .args .witness .positive)) (inWord (s .args .witness .negative)),
       s .pre .0 .1,
     )
@@ -251,8 +267,13 @@ supports-of-requires-2 : tie.Need-supports-of-requires-2
 supports-of-requires-2 c κs =
     let a = by-negation-from-supports-of-call-2 c in
     let s = start a in
-    let F = first-ready a (else1-from-supports-of-call-2 c .if1 .left) (a .by-negation .last .1 .1 .1 .1 .1 .0) (memo-length a) in
-    (good-readable (table₁ a) (F .good), F .inside, F .room, a .by-negation .kept .1 .1 .1 .1 .1 .1 .1 .1 .1 .0 ∙ s .pre .1 .1 ∙ sym (first-length a))
+    let F = first-ready a (else1-from-supports-of-call-2 c .if1 .left) (a .by-negation .last .1 .1 .1 .1 .1 .0) (memo-length a) in (
+      good-readable (table₁ a) (F .good),
+      F .inside,
+      F .room,
+      a .by-negation .kept .1 .1 .1 .1 .1 .1 .1 .1 .1 .0 ∙ s .pre .1 .1
+          ∙ sym (first-length a),
+    )
 
 turns-requires : tie.Need-turns-requires
 turns-requires c κs =
@@ -299,7 +320,8 @@ same-length-14 c =
 
 same-length-15 : tie.Need-same-length-15
 same-length-15 c =
-    turns-from-return-2 c .turns .kept .1 .1 .1 .1 .1 .0 ∙ supports-of2-from-return-2 c .supports-of2 .kept .1 .1 .1 .0 ∙ memo-length (by-negation-from-return-2 c)
+    turns-from-return-2 c .turns .kept .1 .1 .1 .1 .1 .0 ∙ supports-of2-from-return-2 c .supports-of2 .kept .1 .1 .1 .0
+    ∙ memo-length (by-negation-from-return-2 c)
 
 same-length-16 : tie.Need-same-length-16
 same-length-16 c =
@@ -315,7 +337,8 @@ same-length-18 c =
 
 same-length-19 : tie.Need-same-length-19
 same-length-19 c =
-    supports-of2-from-return-2 c .supports-of2 .kept .1 .1 .1 .1 .1 .0 ∙ by-negation-from-return-2 c .by-negation .kept .1 .1 .1 .1 .1 .1 .1 .1 .1 .0
+    supports-of2-from-return-2 c .supports-of2 .kept .1 .1 .1 .1 .1 .0 ∙ by-negation-from-return-2 c .by-negation .kept .1 .1 .1 .1 .1 .1 .1
+    .1 .1 .0
 
 same-length-20 : tie.Need-same-length-20
 same-length-20 c =
@@ -330,8 +353,11 @@ returns-2 c =
     let a = by-negation-from-return-2 c in
     let s = start a in
     let r = turns-from-return-2 c .turns in (
-      pr-judged (before s) (s .pre .0 .0 .ready .good) (s .args .members .now) (s .pre .0 .0 .ready .inside) (root s) (table₁ a) (list₁ a) (by-negation a false (else1-from-return-2 c .if1 .left)) (s .args .witness .positive) (s .args .witness .negative)
-          (64 * length (s .args .members .now)) (r .result) (tableOf (r .last .0) (r .last .1 .0) (r .last .1 .1 .0) (r .last .1 .1 .1 .0) (r .last .1 .1 .1 .1 .0) (r .result .count)) (r .ensures .0),
+      pr-judged (before s) (s .pre .0 .0 .ready .good) (s .args .members .now) (s .pre .0 .0 .ready .inside) (root s) (table₁ a) (list₁ a)
+          (by-negation a false (else1-from-return-2 c .if1 .left)) (s .args .witness .positive) (s .args .witness .negative)
+          (64 * length (s .args .members .now)) (r .result)
+          (tableOf (r .last .0) (r .last .1 .0) (r .last .1 .1 .0) (r .last .1 .1 .1 .0) (r .last .1 .1 .1 .1 .0) (r .result .count))
+          (r .ensures .0),
       r .ensures .1 ∙ ap unmarked (a .by-negation .kept .0),
     )
 

@@ -16,7 +16,8 @@ use Rattle.pr_lines.proofs.turn.Tie as tie
 
 module _ (s : tie.Start) where
   abbrev before : Table
-  before = tableOf (s .args .vars .now) (s .args .lows .now) (s .args .highs .now) (s .args .heads .now) (s .args .links .now) (s .args .count)
+  before = tableOf (s .args .vars .now) (s .args .lows .now) (s .args .highs .now) (s .args .heads .now) (s .args .links .now)
+      (s .args .count)
 
 -- The ways back, written by ways.py: TO-from-FROM leads from the place FROM of the code to the place TO before it.
 module _ (c : tie.After-is-one-arg4) where
@@ -122,7 +123,8 @@ module _ (a : tie.After-is-one) where
   abbrev asked : tie.Start
   asked = start-from-is-one a
 
-  told : (b : Bool) → a .is-one .result ≡ b → oneAt (nodesOf (before asked)) (asked .args .witness .positive) (asked .args .witness .negative) (asked .args .f .0) ≡ b
+  told : (b : Bool) → a .is-one .result ≡ b → oneAt (nodesOf (before asked)) (asked .args .witness .positive)
+      (asked .args .witness .negative) (asked .args .f .0) ≡ b
   unfolding nodesOf
   told b e = sym (a .is-one .ensures) ∙ e
 
@@ -132,13 +134,15 @@ module _ (a : tie.After-apply) where
   start = start-from-apply a
 
   abbrev made : Outcome
-  made = outcomeOf (a .apply .last .0) (a .apply .last .1 .0) (a .apply .last .1 .1 .0) (a .apply .last .1 .1 .1 .0) (a .apply .last .1 .1 .1 .1 .0) (a .apply .result)
+  made = outcomeOf (a .apply .last .0) (a .apply .last .1 .0) (a .apply .last .1 .1 .0) (a .apply .last .1 .1 .1 .0)
+      (a .apply .last .1 .1 .1 .1 .0) (a .apply .result)
 
   made-is : made ≡ applied (before start) (Literals (start .args .witness .positive) (start .args .witness .negative)) (start .args .f .0) 1
   made-is = a .apply .ensures .0
 
   memo-length : length (a .apply .last .1 .1 .1 .1 .1 .0) ≡ length (start .args .memo .now)
-  memo-length = a .apply .kept .1 .1 .1 .1 .1 .0 ∙ clear-memo-from-apply a .clear-memo .kept .0 ∙ is-one-from-apply a .is-one .kept .1 .1 .1 .0
+  memo-length = a .apply .kept .1 .1 .1 .1 .1 .0 ∙ clear-memo-from-apply a .clear-memo .kept .0
+      ∙ is-one-from-apply a .is-one .kept .1 .1 .1 .0
 
 is-one-requires : tie.Need-is-one-requires
 is-one-requires c κs =
@@ -163,8 +167,11 @@ same-length-4 c =
 
 returns : tie.Need-returns
 returns c =
-    let s = start-from-then1 c in
-    (turn-constant (before s) (s .args .first .now) (s .args .memo .now) (s .pre .0 .0) (s .args .f .0) (s .args .witness .positive) (s .args .witness .negative) (s .pre .0 .3) (told (is-one-from-then1 c) true (c .if1 .taken)), s .pre .0 .1)
+    let s = start-from-then1 c in (
+      turn-constant (before s) (s .args .first .now) (s .args .memo .now) (s .pre .0 .0) (s .args .f .0) (s .args .witness .positive)
+          (s .args .witness .negative) (s .pre .0 .3) (told (is-one-from-then1 c) true (c .if1 .taken)),
+      s .pre .0 .1,
+    )
 
 clear-memo-requires : tie.Need-clear-memo-requires
 clear-memo-requires c κs =
@@ -174,7 +181,9 @@ apply-requires : tie.Need-apply-requires
 apply-requires c κs =
     let s = start-from-apply-call c in
     let m = clear-memo-from-apply-call c .clear-memo in
-    literals-ready (before s) (s .args .first .now) (s .args .memo .now) (s .pre .0 .0) (s .args .f .0) (s .args .witness .positive) (s .args .witness .negative) (s .pre .0 .3) (m .last .0) (empty-right (m .ensures) (Literals (s .args .witness .positive) (s .args .witness .negative)) (before s))
+    literals-ready (before s) (s .args .first .now) (s .args .memo .now) (s .pre .0 .0) (s .args .f .0) (s .args .witness .positive)
+    (s .args .witness .negative) (s .pre .0 .3) (m .last .0)
+    (empty-right (m .ensures) (Literals (s .args .witness .positive) (s .args .witness .negative)) (before s))
 
 same-length-5 : tie.Need-same-length-5
 same-length-5 c =
@@ -198,25 +207,37 @@ same-length-9 c =
 
 same-length-10 : tie.Need-same-length-10
 same-length-10 c =
-    apply-from-then2 c .apply .kept .1 .1 .1 .1 .1 .0 ∙ clear-memo-from-then2 c .clear-memo .kept .0 ∙ is-one-from-then2 c .is-one .kept .1 .1 .1 .0
+    apply-from-then2 c .apply .kept .1 .1 .1 .1 .1 .0 ∙ clear-memo-from-then2 c .clear-memo .kept .0
+    ∙ is-one-from-then2 c .is-one .kept .1 .1 .1 .0
 
 returns-2 : tie.Need-returns-2
 returns-2 c =
     let a = apply-from-then2 c in
-    let s = start a in
-    (turn-full (before s) (s .args .first .now) (s .args .memo .now) (s .pre .0 .0) (s .args .f .0) (s .args .witness .positive) (s .args .witness .negative) (s .pre .0 .3) (told (is-one-from-then2 c) false (else1-from-then2 c .if1 .left)) (made a) (made-is a) (c .if2 .taken), s .pre .0 .1)
+    let s = start a in (
+      turn-full (before s) (s .args .first .now) (s .args .memo .now) (s .pre .0 .0) (s .args .f .0) (s .args .witness .positive)
+          (s .args .witness .negative) (s .pre .0 .3) (told (is-one-from-then2 c) false (else1-from-then2 c .if1 .left)) (made a) (made-is a)
+          (c .if2 .taken),
+      s .pre .0 .1,
+    )
 
 rup-with-requires : tie.Need-rup-with-requires
 rup-with-requires c κs =
     let a = apply-from-rup-with-call c in
     let s = start a in (
       (
-        turn-ready (before s) (s .args .first .now) (s .args .memo .now) (s .pre .0 .0) (s .args .f .0) (s .args .witness .positive) (s .args .witness .negative) (s .pre .0 .3) (told (is-one-from-rup-with-call c) false (else1-from-rup-with-call c .if1 .left)) (made a) (made-is a) (else2-from-rup-with-call c .if2 .left) (a .apply .last .1 .1 .1 .1 .1 .0) (memo-length a),
+        turn-ready (before s) (s .args .first .now) (s .args .memo .now) (s .pre .0 .0) (s .args .f .0) (s .args .witness .positive)
+            (s .args .witness .negative) (s .pre .0 .3) (told (is-one-from-rup-with-call c) false (else1-from-rup-with-call c .if1 .left))
+            (made a) (made-is a) (else2-from-rup-with-call c .if2 .left) (a .apply .last .1 .1 .1 .1 .1 .0) (memo-length a),
         s .pre .0 .1 ∙ ap unmarked (sym (a .apply .kept .0)),
         s .pre .0 .2,
         s .pre .0 .4,
       ),
-      (turn-worded (before s) (s .args .first .now) (s .args .memo .now) (s .pre .0 .0) (s .args .f .0) (s .args .witness .positive) (s .args .witness .negative) (s .pre .0 .3) (told (is-one-from-rup-with-call c) false (else1-from-rup-with-call c .if1 .left)) (made a) (made-is a) (else2-from-rup-with-call c .if2 .left) (s .args .firstwords .now) (s .args .word) (s .pre .1 .0), s .pre .1 .1),
+      (
+        turn-worded (before s) (s .args .first .now) (s .args .memo .now) (s .pre .0 .0) (s .args .f .0) (s .args .witness .positive)
+            (s .args .witness .negative) (s .pre .0 .3) (told (is-one-from-rup-with-call c) false (else1-from-rup-with-call c .if1 .left))
+            (made a) (made-is a) (else2-from-rup-with-call c .if2 .left) (s .args .firstwords .now) (s .args .word) (s .pre .1 .0),
+        s .pre .1 .1,
+      ),
     )
 
 same-length-11 : tie.Need-same-length-11
@@ -241,7 +262,8 @@ same-length-15 c =
 
 same-length-16 : tie.Need-same-length-16
 same-length-16 c =
-    rup-with-from-return-3 c .rup-with .kept .1 .1 .1 .1 .1 .0 ∙ apply-from-return-3 c .apply .kept .1 .1 .1 .1 .1 .0 ∙ clear-memo-from-return-3 c .clear-memo .kept .0 ∙ is-one-from-return-3 c .is-one .kept .1 .1 .1 .0
+    rup-with-from-return-3 c .rup-with .kept .1 .1 .1 .1 .1 .0 ∙ apply-from-return-3 c .apply .kept .1 .1 .1 .1 .1 .0
+    ∙ clear-memo-from-return-3 c .clear-memo .kept .0 ∙ is-one-from-return-3 c .is-one .kept .1 .1 .1 .0
 
 same-length-17 : tie.Need-same-length-17
 same-length-17 c =
@@ -260,7 +282,11 @@ returns-3 c =
     let a = apply-from-return-3 c in
     let s = start a in
     let r = rup-with-from-return-3 c .rup-with in (
-      turn-judged (before s) (s .args .first .now) (s .args .memo .now) (s .pre .0 .0) (s .args .f .0) (s .args .witness .positive) (s .args .witness .negative) (s .pre .0 .3) (told (is-one-from-return-3 c) false (else1-from-return-3 c .if1 .left)) (made a) (made-is a) (else2-from-return-3 c .if2 .left) (r .result) (tableOf (r .last .0) (r .last .1 .0) (r .last .1 .1 .0) (r .last .1 .1 .1 .0) (r .last .1 .1 .1 .1 .0) (r .result .count)) (r .ensures .0),
+      turn-judged (before s) (s .args .first .now) (s .args .memo .now) (s .pre .0 .0) (s .args .f .0) (s .args .witness .positive)
+          (s .args .witness .negative) (s .pre .0 .3) (told (is-one-from-return-3 c) false (else1-from-return-3 c .if1 .left)) (made a)
+          (made-is a) (else2-from-return-3 c .if2 .left) (r .result)
+          (tableOf (r .last .0) (r .last .1 .0) (r .last .1 .1 .0) (r .last .1 .1 .1 .0) (r .last .1 .1 .1 .1 .0) (r .result .count))
+          (r .ensures .0),
       r .ensures .1 ∙ ap unmarked (a .apply .kept .0),
     )
 

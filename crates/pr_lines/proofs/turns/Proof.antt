@@ -24,7 +24,8 @@ use Rattle.pr_lines.proofs.turns.Statement.{statement}
 use Rattle.pr_lines.proofs.turns.Tie as tie
 
 abbrev Inv-loop : tie.InvT-loop
-Inv-loop vars₀ lows₀ highs₀ heads₀ links₀ memo₀ marks₀ members memberwords first firstwords second₀ secondwords₀ count witness rounds₀ peak₀ i₀ vars lows highs heads links memo marks second secondwords rounds peak i =
+Inv-loop vars₀ lows₀ highs₀ heads₀ links₀ memo₀ marks₀ members memberwords first firstwords second₀ secondwords₀ count witness rounds₀ peak₀
+    i₀ vars lows highs heads links memo marks second secondwords rounds peak i =
     (tableOf vars lows highs heads links count ≡ tableOf vars₀ lows₀ highs₀ heads₀ links₀ count)
     × Turning (tableOf vars₀ lows₀ highs₀ heads₀ links₀ count) first members (witness .positive) (witness .negative) i rounds peak
     × (marks ≡ unmarked (length vars₀))
@@ -33,18 +34,21 @@ Inv-loop vars₀ lows₀ highs₀ heads₀ links₀ memo₀ marks₀ members mem
     × (length secondwords ≡ length secondwords₀)
 
 abbrev μ-loop : tie.MeasureT-loop
-μ-loop vars₀ lows₀ highs₀ heads₀ links₀ memo₀ marks₀ members memberwords first firstwords second₀ secondwords₀ count witness rounds₀ peak₀ i₀ vars lows highs heads links memo marks second secondwords rounds peak i =
+μ-loop vars₀ lows₀ highs₀ heads₀ links₀ memo₀ marks₀ members memberwords first firstwords second₀ secondwords₀ count witness rounds₀ peak₀
+    i₀ vars lows highs heads links memo marks second secondwords rounds peak i =
     length members - i
 
 module _ (s : tie.Start Inv-loop μ-loop) where
   abbrev before : Table
-  before = tableOf (s .args .vars .now) (s .args .lows .now) (s .args .highs .now) (s .args .heads .now) (s .args .links .now) (s .args .count)
+  before = tableOf (s .args .vars .now) (s .args .lows .now) (s .args .highs .now) (s .args .heads .now) (s .args .links .now)
+      (s .args .count)
 
   abbrev good : Good before
   good = s .pre .0 .0 .good
 
   abbrev line : List ℕ → Line
-  line ks = prTurns 64 (inWord (s .args .witness .positive)) (inWord (s .args .witness .negative)) (diagramsOf (nodesOf before) (s .args .first .now)) (diagramsOf (nodesOf before) ks)
+  line ks = prTurns 64 (inWord (s .args .witness .positive)) (inWord (s .args .witness .negative))
+      (diagramsOf (nodesOf before) (s .args .first .now)) (diagramsOf (nodesOf before) ks)
 
 -- The ways back, written by ways.py: TO-from-FROM leads from the place FROM of the code to the place TO before it.
 module _ (c : tie.After-slice-known9 Inv-loop μ-loop) where
@@ -159,14 +163,16 @@ module _ (a : tie.After-turn Inv-loop μ-loop) where
   reached = at-loop-from-turn a
 
   abbrev table₁ : Table
-  table₁ = tableOf (a .turn .last .0) (a .turn .last .1 .0) (a .turn .last .1 .1 .0) (a .turn .last .1 .1 .1 .0) (a .turn .last .1 .1 .1 .1 .0) (a .turn .result .count)
+  table₁ = tableOf (a .turn .last .0) (a .turn .last .1 .0) (a .turn .last .1 .1 .0) (a .turn .last .1 .1 .1 .0)
+      (a .turn .last .1 .1 .1 .1 .0) (a .turn .result .count)
 
   abbrev member : ℕ
   member = getD (start .args .members .now) (reached .loop .i) 0
 
   said : LineSays (before start) (line start (member ∷ [])) 64 (a .turn .result) table₁
   said =
-      subst (λ (t : Table). LineSays t (prTurns 64 (inWord (start .args .witness .positive)) (inWord (start .args .witness .negative)) (diagramsOf (nodesOf t) (start .args .first .now)) (diagramAt (nodesOf t) member ∷ [])) 64 (a .turn .result) table₁)
+      subst (λ (t : Table). LineSays t (prTurns 64 (inWord (start .args .witness .positive)) (inWord (start .args .witness .negative))
+      (diagramsOf (nodesOf t) (start .args .first .now)) (diagramAt (nodesOf t) member ∷ [])) 64 (a .turn .result) table₁)
       (reached .loop .inv .0) (a .turn .ensures .0)
 
   more : reached .loop .i < length (start .args .members .now)
@@ -183,12 +189,22 @@ module _ (d : tie.After-drop-to Inv-loop μ-loop) where
   abbrev begun : tie.Start Inv-loop μ-loop
   begun = start-from-drop-to d
 
-  as-before : tableOf (d .drop-to .last .0) (d .drop-to .last .1 .0) (d .drop-to .last .1 .1 .0) (d .drop-to .last .1 .1 .1 .0) (d .drop-to .last .1 .1 .1 .1 .0) (begun .args .count) ≡ before begun
-  as-before = d .drop-to .ensures ∙ undone (before begun) (good begun) (table₁ turned) (extended-longer (before begun) (table₁ turned) (good begun) (said turned .extended))
+  as-before : tableOf (d .drop-to .last .0) (d .drop-to .last .1 .0) (d .drop-to .last .1 .1 .0) (d .drop-to .last .1 .1 .1 .0)
+      (d .drop-to .last .1 .1 .1 .1 .0) (begun .args .count) ≡ before begun
+  as-before = d .drop-to .ensures ∙ undone (before begun) (good begun) (table₁ turned)
+      (extended-longer (before begun) (table₁ turned) (good begun) (said turned .extended))
 
 loop-holds : tie.Need-loop-holds Inv-loop μ-loop
 loop-holds c =
-    let s = start-from-loop-holds c in (refl, turning-none (before s) (s .args .first .now) (s .args .members .now) (s .args .witness .positive) (s .args .witness .negative) (good s), s .pre .0 .1, refl, refl, refl)
+    let s = start-from-loop-holds c in (
+      refl,
+      turning-none (before s) (s .args .first .now) (s .args .members .now)
+          (s .args .witness .positive) (s .args .witness .negative) (good s),
+      s .pre .0 .1,
+      refl,
+      refl,
+      refl,
+    )
 
 mul-t21 : tie.Need-mul-t21 Inv-loop μ-loop
 mul-t21 c =
@@ -212,15 +228,18 @@ turn-requires c κs =
     let w = at-loop-from-turn-call c .loop in
     let more = in-loop-from-turn-call c .loop-test .taken in (
       (
-        again-ready (before s) (tableOf (w .vars) (w .lows) (w .highs) (w .heads) (w .links) (s .args .count)) (s .args .first .now) (s .args .memo .now) (w .memo) (w .inv .0) (w .inv .3) (s .pre .0 .0),
+        again-ready (before s) (tableOf (w .vars) (w .lows) (w .highs) (w .heads) (w .links) (s .args .count)) (s .args .first .now)
+            (s .args .memo .now) (w .memo) (w .inv .0) (w .inv .3) (s .pre .0 .0),
         w .inv .2 ∙ sym (ap (λ (t : Table). unmarked (length (t .vars))) (w .inv .0)),
         w .inv .4 ∙ s .pre .0 .2,
         s .pre .0 .3 (w .i) more,
         s .pre .0 .5,
       ),
       (
-        worded-again (before s) (tableOf (w .vars) (w .lows) (w .highs) (w .heads) (w .links) (s .args .count)) (s .args .first .now) (s .args .firstwords .now) (getD (s .args .members .now) (w .i) 0) (getD (s .args .memberwords .now) (w .i) 0) (w .inv .0)
-            (member-worded (before s) (s .args .members .now) (s .args .memberwords .now) (s .args .first .now) (s .args .firstwords .now) (w .i) more (s .pre .1 .1) (s .pre .1 .2) (s .pre .1 .3)),
+        worded-again (before s) (tableOf (w .vars) (w .lows) (w .highs) (w .heads) (w .links) (s .args .count)) (s .args .first .now)
+            (s .args .firstwords .now) (getD (s .args .members .now) (w .i) 0) (getD (s .args .memberwords .now) (w .i) 0) (w .inv .0)
+            (member-worded (before s) (s .args .members .now) (s .args .memberwords .now) (s .args .first .now) (s .args .firstwords .now)
+            (w .i) more (s .pre .1 .1) (s .pre .1 .2) (s .pre .1 .3)),
         w .inv .5 ∙ s .pre .1 .4,
       ),
     )
@@ -255,7 +274,8 @@ same-length-6 c =
 
 same-length-7 : tie.Need-same-length-7 Inv-loop μ-loop
 same-length-7 c =
-    turn-from-then1 c .turn .kept .1 .1 .1 .1 .1 .1 .0 ∙ ap length (at-loop-from-then1 c .loop .inv .2 ∙ sym (start-from-then1 c .pre .0 .1))
+    turn-from-then1 c .turn .kept .1 .1 .1 .1 .1 .1 .0 ∙ ap length
+    (at-loop-from-then1 c .loop .inv .2 ∙ sym (start-from-then1 c .pre .0 .1))
 
 same-length-8 : tie.Need-same-length-8 Inv-loop μ-loop
 same-length-8 c =
@@ -270,8 +290,11 @@ returns c =
     let a = turn-from-then1 c in
     let s = start a in
     let w = reached a .loop in (
-      subst (λ (m : ℕ). LineSays (before s) (line s (s .args .members .now)) (64 * length (s .args .members .now)) (judgedAs true false 0 (a .turn .result .count) m) (table₁ a)) (sym (greater-from-then1 c .greater .ensures))
-          (turns-full (before s) (s .args .first .now) (s .args .members .now) (s .args .witness .positive) (s .args .witness .negative) (good s) (w .i) (w .rounds) (w .peak) (w .inv .1) (more a) (a .turn .result) (table₁ a) (said a) (c .if1 .taken) (a .turn .result .count)),
+      subst (λ (m : ℕ). LineSays (before s) (line s (s .args .members .now)) (64 * length (s .args .members .now))
+          (judgedAs true false 0 (a .turn .result .count) m) (table₁ a)) (sym (greater-from-then1 c .greater .ensures))
+          (turns-full (before s) (s .args .first .now) (s .args .members .now) (s .args .witness .positive) (s .args .witness .negative)
+          (good s) (w .i) (w .rounds) (w .peak) (w .inv .1) (more a) (a .turn .result) (table₁ a) (said a) (c .if1 .taken)
+          (a .turn .result .count)),
       unmarked-again a,
     )
 
@@ -287,23 +310,28 @@ add-rounds c =
 
 same-length-10 : tie.Need-same-length-10 Inv-loop μ-loop
 same-length-10 c =
-    drop-to-from-then2 c .drop-to .kept .0 ∙ turn-from-then2 c .turn .kept .0 ∙ ap (λ (t : Table). length (t .vars)) (at-loop-from-then2 c .loop .inv .0)
+    drop-to-from-then2 c .drop-to .kept .0 ∙ turn-from-then2 c .turn .kept .0
+    ∙ ap (λ (t : Table). length (t .vars)) (at-loop-from-then2 c .loop .inv .0)
 
 same-length-11 : tie.Need-same-length-11 Inv-loop μ-loop
 same-length-11 c =
-    drop-to-from-then2 c .drop-to .kept .1 .0 ∙ turn-from-then2 c .turn .kept .1 .0 ∙ ap (λ (t : Table). length (t .lows)) (at-loop-from-then2 c .loop .inv .0)
+    drop-to-from-then2 c .drop-to .kept .1 .0 ∙ turn-from-then2 c .turn .kept .1 .0
+    ∙ ap (λ (t : Table). length (t .lows)) (at-loop-from-then2 c .loop .inv .0)
 
 same-length-12 : tie.Need-same-length-12 Inv-loop μ-loop
 same-length-12 c =
-    drop-to-from-then2 c .drop-to .kept .1 .1 .0 ∙ turn-from-then2 c .turn .kept .1 .1 .0 ∙ ap (λ (t : Table). length (t .highs)) (at-loop-from-then2 c .loop .inv .0)
+    drop-to-from-then2 c .drop-to .kept .1 .1 .0 ∙ turn-from-then2 c .turn .kept .1 .1 .0
+    ∙ ap (λ (t : Table). length (t .highs)) (at-loop-from-then2 c .loop .inv .0)
 
 same-length-13 : tie.Need-same-length-13 Inv-loop μ-loop
 same-length-13 c =
-    drop-to-from-then2 c .drop-to .kept .1 .1 .1 .0 ∙ turn-from-then2 c .turn .kept .1 .1 .1 .0 ∙ ap (λ (t : Table). length (t .heads)) (at-loop-from-then2 c .loop .inv .0)
+    drop-to-from-then2 c .drop-to .kept .1 .1 .1 .0 ∙ turn-from-then2 c .turn .kept .1 .1 .1 .0
+    ∙ ap (λ (t : Table). length (t .heads)) (at-loop-from-then2 c .loop .inv .0)
 
 same-length-14 : tie.Need-same-length-14 Inv-loop μ-loop
 same-length-14 c =
-    drop-to-from-then2 c .drop-to .kept .1 .1 .1 .1 .0 ∙ turn-from-then2 c .turn .kept .1 .1 .1 .1 .0 ∙ ap (λ (t : Table). length (t .links)) (at-loop-from-then2 c .loop .inv .0)
+    drop-to-from-then2 c .drop-to .kept .1 .1 .1 .1 .0 ∙ turn-from-then2 c .turn .kept .1 .1 .1 .1 .0
+    ∙ ap (λ (t : Table). length (t .links)) (at-loop-from-then2 c .loop .inv .0)
 
 same-length-15 : tie.Need-same-length-15 Inv-loop μ-loop
 same-length-15 c =
@@ -311,7 +339,8 @@ same-length-15 c =
 
 same-length-16 : tie.Need-same-length-16 Inv-loop μ-loop
 same-length-16 c =
-    turn-from-then2 c .turn .kept .1 .1 .1 .1 .1 .1 .0 ∙ ap length (at-loop-from-then2 c .loop .inv .2 ∙ sym (start-from-then2 c .pre .0 .1))
+    turn-from-then2 c .turn .kept .1 .1 .1 .1 .1 .1 .0 ∙ ap length
+    (at-loop-from-then2 c .loop .inv .2 ∙ sym (start-from-then2 c .pre .0 .1))
 
 same-length-17 : tie.Need-same-length-17 Inv-loop μ-loop
 same-length-17 c =
@@ -327,9 +356,15 @@ returns-2 c =
     let a = turned d in
     let s = start a in
     let w = reached a .loop in (
-      subst (λ (t : Table). LineSays (before s) (line s (s .args .members .now)) (64 * length (s .args .members .now)) (judgedAs false false (w .rounds + a .turn .result .rounds) (s .args .count) (greater-from-then2 c .greater .result)) t) (sym (as-before d))
-          (subst (λ (m : ℕ). LineSays (before s) (line s (s .args .members .now)) (64 * length (s .args .members .now)) (judgedAs false false (w .rounds + a .turn .result .rounds) (s .args .count) m) (before s)) (sym (greater-from-then2 c .greater .ensures))
-          (turns-end (before s) (s .args .first .now) (s .args .members .now) (s .args .witness .positive) (s .args .witness .negative) (good s) (w .i) (w .rounds) (w .peak) (w .inv .1) (more a) (a .turn .result) (table₁ a) (said a) (else1-from-then2 c .if1 .left) (sym (not-not (a .turn .result .shown)) ∙ ap not (c .if2 .taken)))),
+      subst (λ (t : Table). LineSays (before s) (line s (s .args .members .now)) (64 * length (s .args .members .now))
+          (judgedAs false false (w .rounds + a .turn .result .rounds) (s .args .count) (greater-from-then2 c .greater .result)) t)
+          (sym (as-before d))
+          (subst (λ (m : ℕ). LineSays (before s) (line s (s .args .members .now)) (64 * length (s .args .members .now))
+          (judgedAs false false (w .rounds + a .turn .result .rounds) (s .args .count) m) (before s))
+          (sym (greater-from-then2 c .greater .ensures))
+          (turns-end (before s) (s .args .first .now) (s .args .members .now) (s .args .witness .positive) (s .args .witness .negative)
+          (good s) (w .i) (w .rounds) (w .peak) (w .inv .1) (more a) (a .turn .result) (table₁ a) (said a)
+          (else1-from-then2 c .if1 .left) (sym (not-not (a .turn .result .shown)) ∙ ap not (c .if2 .taken)))),
       unmarked-again a,
     )
 
@@ -348,8 +383,11 @@ loop-again c =
     let s = start a in
     let w = reached a .loop in (
       as-before d,
-      subst (Turning (before s) (s .args .first .now) (s .args .members .now) (s .args .witness .positive) (s .args .witness .negative) (w .i + 1) (w .rounds + a .turn .result .rounds)) (sym (greater-from-else2 c .greater .ensures))
-          (turns-on (before s) (s .args .first .now) (s .args .members .now) (s .args .witness .positive) (s .args .witness .negative) (good s) (w .i) (w .rounds) (w .peak) (w .inv .1) (more a) (a .turn .result) (table₁ a) (said a) (else1-from-else2 c .if1 .left) (sym (not-not (a .turn .result .shown)) ∙ ap not (c .if2 .left))),
+      subst (Turning (before s) (s .args .first .now) (s .args .members .now) (s .args .witness .positive) (s .args .witness .negative)
+          (w .i + 1) (w .rounds + a .turn .result .rounds)) (sym (greater-from-else2 c .greater .ensures))
+          (turns-on (before s) (s .args .first .now) (s .args .members .now) (s .args .witness .positive) (s .args .witness .negative)
+          (good s) (w .i) (w .rounds) (w .peak) (w .inv .1) (more a) (a .turn .result) (table₁ a) (said a)
+          (else1-from-else2 c .if1 .left) (sym (not-not (a .turn .result .shown)) ∙ ap not (c .if2 .left))),
       unmarked-again a,
       a .turn .kept .1 .1 .1 .1 .1 .0 ∙ w .inv .3,
       a .turn .kept .1 .1 .1 .1 .1 .1 .1 .1 .1 .0 ∙ w .inv .4,
@@ -396,8 +434,10 @@ returns-3 : tie.Need-returns-3 Inv-loop μ-loop
 returns-3 c =
     let s = start-from-return-3 c in
     let w = c .before .loop in (
-      subst (λ (t : Table). LineSays (before s) (line s (s .args .members .now)) (64 * length (s .args .members .now)) (judgedAs false true (w .rounds) (s .args .count) (w .peak)) t) (sym (w .inv .0))
-          (turns-done (before s) (s .args .first .now) (s .args .members .now) (s .args .witness .positive) (s .args .witness .negative) (good s) (w .i) (w .rounds) (w .peak) (w .inv .1) (omega (arith, c .loop-test .left))),
+      subst (λ (t : Table). LineSays (before s) (line s (s .args .members .now)) (64 * length (s .args .members .now))
+          (judgedAs false true (w .rounds) (s .args .count) (w .peak)) t) (sym (w .inv .0))
+          (turns-done (before s) (s .args .first .now) (s .args .members .now) (s .args .witness .positive) (s .args .witness .negative)
+          (good s) (w .i) (w .rounds) (w .peak) (w .inv .1) (omega (arith, c .loop-test .left))),
       w .inv .2,
     )
 

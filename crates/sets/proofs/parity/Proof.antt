@@ -9,7 +9,8 @@ use Rattle.sets.proofs.parity.Tie as tie
 -- the table at the start
 module _ (s : tie.Start) where
   abbrev lent : Table
-  lent = tableOf (s .args .vars .now) (s .args .lows .now) (s .args .highs .now) (s .args .heads .now) (s .args .links .now) (s .args .count)
+  lent = tableOf (s .args .vars .now) (s .args .lows .now) (s .args .highs .now) (s .args .heads .now) (s .args .links .now)
+      (s .args .count)
 
 -- The ways back, written by ways.py: TO-from-FROM leads from the place FROM of the code to the place TO before it.
 module _ (c : tie.Else1) where
@@ -81,7 +82,8 @@ same-length-5 : tie.Need-same-length-5
 same-length-5 c = search needs
 
 returns : tie.Need-returns
-returns c = whole-made (start-from-return c .args .set) (lent (start-from-return c)) _ true (then1-from-return c .if1 .taken) _ (odd-from-return c .odd .ensures)
+returns c = whole-made (start-from-return c .args .set) (lent (start-from-return c)) _ true (then1-from-return c .if1 .taken) _
+    (odd-from-return c .odd .ensures)
 
 even-requires : tie.Need-even-requires
 even-requires c κs = whole-ready _ (start-from-even-call c .pre) _ false
@@ -103,7 +105,8 @@ same-length-10 c = search needs
 
 returns-2 : tie.Need-returns-2
 returns-2 c =
-    whole-made (start-from-return-2 c .args .set) (lent (start-from-return-2 c)) _ false (else1-from-return-2 c .if1 .left) _ (even-from-return-2 c .even .ensures)
+    whole-made (start-from-return-2 c .args .set) (lent (start-from-return-2 c)) _ false (else1-from-return-2 c .if1 .left) _
+    (even-from-return-2 c .even .ensures)
 
 pub parity-spec : {M : Type 1} → statement M
 parity-spec =

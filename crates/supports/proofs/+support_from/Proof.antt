@@ -126,7 +126,8 @@ module _ {t : ℕ} (e : support-from-lts.Else1 (callees t) (support-from-at t) s
   two = omega (arith, e .if1 .left)
 
   at-node : Here (start .args .vars .now) (start .args .lows .now) (start .args .highs .now) (start .args .count) (start .args .f .0)
-  at-node = here (start .args .vars .now) (start .args .lows .now) (start .args .highs .now) (start .args .count) (readable start) (start .args .f .0) two (inside start)
+  at-node = here (start .args .vars .now) (start .args .lows .now) (start .args .highs .now) (start .args .count) (readable start)
+      (start .args .f .0) two (inside start)
 
 support-from-returns : (t : ℕ) → support-from-lts.Need-returns (callees t) (support-from-at t) support-from.Post
 support-from-returns t c =
@@ -146,7 +147,10 @@ support-from-slice-read-known t c =
 
 support-from-returns-2 : (t : ℕ) → support-from-lts.Need-returns-2 (callees t) (support-from-at t) support-from.Post
 support-from-returns-2 t c =
-    let s = start-from-then2 c in (memo-known Support (nodes s) (s .args .memo .now) (s .args .f .0) (in-nodes s) (right s) (c .if2 .taken), right s)
+    let s = start-from-then2 c in (
+      memo-known Support (nodes s) (s .args .memo .now) (s .args .f .0) (in-nodes s) (right s) (c .if2 .taken),
+      right s,
+    )
 
 support-from-shared-slice-read-v : (t : ℕ) → support-from-lts.Need-shared-slice-read-v (callees t) (support-from-at t) support-from.Post
 support-from-shared-slice-read-v t c =
@@ -164,19 +168,35 @@ support-from-mul-t16-2 : (t : ℕ) → support-from-lts.Need-mul-t16-2 (callees 
 support-from-mul-t16-2 t c =
     search needs
 
-support-from-shared-slice-read-t22-2 : (t : ℕ) → support-from-lts.Need-shared-slice-read-t22-2 (callees t) (support-from-at t) support-from.Post
+support-from-shared-slice-read-t22-2 : (t : ℕ) → support-from-lts.Need-shared-slice-read-t22-2 (callees t) (support-from-at t)
+    support-from.Post
 support-from-shared-slice-read-t22-2 t c =
     search needs
 
 support-from-support-from-requires : (t : ℕ) → support-from-lts.Need-support-from-requires (callees t) (support-from-at t) support-from.Post
 support-from-support-from-requires t c κs =
-    let s = start-from-support-from-call c in (omega (arith, measure s, at-node (else1-from-support-from-call c) .low-less), ((readable s, omega (arith, inside s, at-node (else1-from-support-from-call c) .low-less), room s), right s))
+    let s = start-from-support-from-call c in (
+      omega (arith, measure s, at-node (else1-from-support-from-call c) .low-less),
+      ((readable s, omega (arith, inside s, at-node (else1-from-support-from-call c) .low-less), room s), right s),
+    )
 
-support-from-support-from-requires-2 : (t : ℕ) → support-from-lts.Need-support-from-requires-2 (callees t) (support-from-at t) support-from.Post
+support-from-support-from-requires-2 : (t : ℕ) → support-from-lts.Need-support-from-requires-2 (callees t) (support-from-at t)
+    support-from.Post
 support-from-support-from-requires-2 t c κs =
-    let s = start-from-support-from-call-2 c in let k = support-from-from-support-from-call-2 c .support-from in (omega (arith, measure s, at-node (else1-from-support-from-call-2 c) .high-less), ((readable s, omega (arith, inside s, at-node (else1-from-support-from-call-2 c) .high-less), omega (arith, room s, k .kept .1 .1 .1 .0)), k .ensures .1))
+    let s = start-from-support-from-call-2 c in let k = support-from-from-support-from-call-2 c .support-from in (
+      omega (arith, measure s, at-node (else1-from-support-from-call-2 c) .high-less),
+      (
+        (
+          readable s,
+          omega (arith, inside s, at-node (else1-from-support-from-call-2 c) .high-less),
+          omega (arith, room s, k .kept .1 .1 .1 .0),
+        ),
+        k .ensures .1,
+      ),
+    )
 
-support-from-with-variable-requires : (t : ℕ) → support-from-lts.Need-with-variable-requires (callees t) (support-from-at t) support-from.Post
+support-from-with-variable-requires : (t : ℕ) → support-from-lts.Need-with-variable-requires (callees t) (support-from-at t)
+    support-from.Post
 support-from-with-variable-requires t c κs =
     (at-node (else1-from-with-variable-call c) .least, at-node (else1-from-with-variable-call c) .most)
 
@@ -186,11 +206,17 @@ support-from-mul-memo t c =
 
 support-from-slice-write-memo : (t : ℕ) → support-from-lts.Need-slice-write-memo (callees t) (support-from-at t) support-from.Post
 support-from-slice-write-memo t c =
-    let s = start-from-return-3 c in omega (arith, cell s, support-from-from-return-3 c .support-from .kept .1 .1 .1 .0, support-from2-from-return-3 c .support-from2 .kept .1 .1 .1 .0)
+    let s = start-from-return-3 c in omega (
+      arith,
+      cell s,
+      support-from-from-return-3 c .support-from .kept .1 .1 .1 .0,
+      support-from2-from-return-3 c .support-from2 .kept .1 .1 .1 .0,
+    )
 
 support-from-same-length : (t : ℕ) → support-from-lts.Need-same-length (callees t) (support-from-at t) support-from.Post
 support-from-same-length t c =
-    length-set (support-from2-from-return-3 c .support-from2 .last .1 .1 .1 .0) _ _ ∙ support-from2-from-return-3 c .support-from2 .kept .1 .1 .1 .0 ∙ support-from-from-return-3 c .support-from .kept .1 .1 .1 .0
+    length-set (support-from2-from-return-3 c .support-from2 .last .1 .1 .1 .0) _ _
+    ∙ support-from2-from-return-3 c .support-from2 .kept .1 .1 .1 .0 ∙ support-from-from-return-3 c .support-from .kept .1 .1 .1 .0
 
 support-from-returns-3 : (t : ℕ) → support-from-lts.Need-returns-3 (callees t) (support-from-at t) support-from.Post
 support-from-returns-3 t c =
@@ -199,8 +225,12 @@ support-from-returns-3 t c =
     let k₂ = support-from2-from-return-3 c .support-from2 in
     let is : Support (c .with-variable .result) (diagramAt (nodes s) (s .args .f .0)) =
     subst (λ (x : ℕ). Support x (diagramAt (nodes s) (s .args .f .0))) (sym (c .with-variable .ensures))
-    (support-node (s .args .vars .now) (s .args .lows .now) (s .args .highs .now) (s .args .count) (readable s) (s .args .f .0) (two (else1-from-return-3 c)) (inside s) (k₁ .result) (k₂ .result) (k₁ .ensures .0) (k₂ .ensures .0)) in
-    (is, memo-stored Support (nodes s) (k₂ .last .1 .1 .1 .0) (s .args .f .0) (c .with-variable .result) (omega (arith, cell s, k₁ .kept .1 .1 .1 .0, k₂ .kept .1 .1 .1 .0)) (k₂ .ensures .1) is)
+    (support-node (s .args .vars .now) (s .args .lows .now) (s .args .highs .now) (s .args .count) (readable s) (s .args .f .0)
+    (two (else1-from-return-3 c)) (inside s) (k₁ .result) (k₂ .result) (k₁ .ensures .0) (k₂ .ensures .0)) in (
+      is,
+      memo-stored Support (nodes s) (k₂ .last .1 .1 .1 .0) (s .args .f .0) (c .with-variable .result)
+          (omega (arith, cell s, k₁ .kept .1 .1 .1 .0, k₂ .kept .1 .1 .1 .0)) (k₂ .ensures .1) is,
+    )
 
 pub +support-from-spec : {M : Type 1} → statement M
 +support-from-spec = close μ-support-from λ t. support-from-lts.spec (callees t)

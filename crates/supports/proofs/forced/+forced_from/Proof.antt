@@ -1,4 +1,5 @@
--- `forced_from` gives a word that has the variables that the node forces, and its memo stays right. The node's number falls. Assumes nothing.
+-- `forced_from` gives a word that has the variables that the node forces, and its memo stays right. The node's number falls. Assumes
+-- nothing.
 use mathlib.Core.Path.{_≡_, sym, _∙_, subst}
 use mathlib.Core.List.{List}
 use Prim.Native.Nat.{ℕ, _≤_, _<_}
@@ -127,7 +128,8 @@ module _ {t : ℕ} (e : forced-from-lts.Else1 (callees t) (forced-from-at t) for
   two = omega (arith, e .if1 .left)
 
   at-node : Here (start .args .vars .now) (start .args .lows .now) (start .args .highs .now) (start .args .count) (start .args .f .0)
-  at-node = here (start .args .vars .now) (start .args .lows .now) (start .args .highs .now) (start .args .count) (readable start) (start .args .f .0) two (inside start)
+  at-node = here (start .args .vars .now) (start .args .lows .now) (start .args .highs .now) (start .args .count) (readable start)
+      (start .args .f .0) two (inside start)
 
 forced-from-returns : (t : ℕ) → forced-from-lts.Need-returns (callees t) (forced-from-at t) forced-from.Post
 forced-from-returns t c =
@@ -147,7 +149,10 @@ forced-from-slice-read-known t c =
 
 forced-from-returns-2 : (t : ℕ) → forced-from-lts.Need-returns-2 (callees t) (forced-from-at t) forced-from.Post
 forced-from-returns-2 t c =
-    let s = start-from-then2 c in (memo-known Forced (nodes s) (s .args .memo .now) (s .args .f .0) (in-nodes s) (right s) (c .if2 .taken), right s)
+    let s = start-from-then2 c in (
+      memo-known Forced (nodes s) (s .args .memo .now) (s .args .f .0) (in-nodes s) (right s) (c .if2 .taken),
+      right s,
+    )
 
 forced-from-shared-slice-read-v : (t : ℕ) → forced-from-lts.Need-shared-slice-read-v (callees t) (forced-from-at t) forced-from.Post
 forced-from-shared-slice-read-v t c =
@@ -171,11 +176,24 @@ forced-from-shared-slice-read-t22-2 t c =
 
 forced-from-forced-from-requires : (t : ℕ) → forced-from-lts.Need-forced-from-requires (callees t) (forced-from-at t) forced-from.Post
 forced-from-forced-from-requires t c κs =
-    let s = start-from-forced-from-call c in (omega (arith, measure s, at-node (else1-from-forced-from-call c) .low-less), ((readable s, omega (arith, inside s, at-node (else1-from-forced-from-call c) .low-less), room s), right s))
+    let s = start-from-forced-from-call c in (
+      omega (arith, measure s, at-node (else1-from-forced-from-call c) .low-less),
+      ((readable s, omega (arith, inside s, at-node (else1-from-forced-from-call c) .low-less), room s), right s),
+    )
 
 forced-from-forced-from-requires-2 : (t : ℕ) → forced-from-lts.Need-forced-from-requires-2 (callees t) (forced-from-at t) forced-from.Post
 forced-from-forced-from-requires-2 t c κs =
-    let s = start-from-forced-from-call-2 c in let k = forced-from-from-forced-from-call-2 c .forced-from in (omega (arith, measure s, at-node (else1-from-forced-from-call-2 c) .high-less), ((readable s, omega (arith, inside s, at-node (else1-from-forced-from-call-2 c) .high-less), omega (arith, room s, k .kept .1 .1 .1 .0)), k .ensures .1))
+    let s = start-from-forced-from-call-2 c in let k = forced-from-from-forced-from-call-2 c .forced-from in (
+      omega (arith, measure s, at-node (else1-from-forced-from-call-2 c) .high-less),
+      (
+        (
+          readable s,
+          omega (arith, inside s, at-node (else1-from-forced-from-call-2 c) .high-less),
+          omega (arith, room s, k .kept .1 .1 .1 .0),
+        ),
+        k .ensures .1,
+      ),
+    )
 
 forced-from-with-forced-requires : (t : ℕ) → forced-from-lts.Need-with-forced-requires (callees t) (forced-from-at t) forced-from.Post
 forced-from-with-forced-requires t c κs =
@@ -187,11 +205,17 @@ forced-from-mul-memo t c =
 
 forced-from-slice-write-memo : (t : ℕ) → forced-from-lts.Need-slice-write-memo (callees t) (forced-from-at t) forced-from.Post
 forced-from-slice-write-memo t c =
-    let s = start-from-return-3 c in omega (arith, cell s, forced-from-from-return-3 c .forced-from .kept .1 .1 .1 .0, forced-from2-from-return-3 c .forced-from2 .kept .1 .1 .1 .0)
+    let s = start-from-return-3 c in omega (
+      arith,
+      cell s,
+      forced-from-from-return-3 c .forced-from .kept .1 .1 .1 .0,
+      forced-from2-from-return-3 c .forced-from2 .kept .1 .1 .1 .0,
+    )
 
 forced-from-same-length : (t : ℕ) → forced-from-lts.Need-same-length (callees t) (forced-from-at t) forced-from.Post
 forced-from-same-length t c =
-    length-set (forced-from2-from-return-3 c .forced-from2 .last .1 .1 .1 .0) _ _ ∙ forced-from2-from-return-3 c .forced-from2 .kept .1 .1 .1 .0 ∙ forced-from-from-return-3 c .forced-from .kept .1 .1 .1 .0
+    length-set (forced-from2-from-return-3 c .forced-from2 .last .1 .1 .1 .0) _ _
+    ∙ forced-from2-from-return-3 c .forced-from2 .kept .1 .1 .1 .0 ∙ forced-from-from-return-3 c .forced-from .kept .1 .1 .1 .0
 
 forced-from-returns-3 : (t : ℕ) → forced-from-lts.Need-returns-3 (callees t) (forced-from-at t) forced-from.Post
 forced-from-returns-3 t c =
@@ -200,8 +224,12 @@ forced-from-returns-3 t c =
     let k₂ = forced-from2-from-return-3 c .forced-from2 in
     let is : Forced (c .with-forced .result) (diagramAt (nodes s) (s .args .f .0)) =
     subst (λ (x : ℕ). Forced x (diagramAt (nodes s) (s .args .f .0))) (sym (c .with-forced .ensures))
-    (forced-node (s .args .vars .now) (s .args .lows .now) (s .args .highs .now) (s .args .count) (readable s) (s .args .f .0) (two (else1-from-return-3 c)) (inside s) (k₁ .result) (k₂ .result) (k₁ .ensures .0) (k₂ .ensures .0)) in
-    (is, memo-stored Forced (nodes s) (k₂ .last .1 .1 .1 .0) (s .args .f .0) (c .with-forced .result) (omega (arith, cell s, k₁ .kept .1 .1 .1 .0, k₂ .kept .1 .1 .1 .0)) (k₂ .ensures .1) is)
+    (forced-node (s .args .vars .now) (s .args .lows .now) (s .args .highs .now) (s .args .count) (readable s) (s .args .f .0)
+    (two (else1-from-return-3 c)) (inside s) (k₁ .result) (k₂ .result) (k₁ .ensures .0) (k₂ .ensures .0)) in (
+      is,
+      memo-stored Forced (nodes s) (k₂ .last .1 .1 .1 .0) (s .args .f .0) (c .with-forced .result)
+          (omega (arith, cell s, k₁ .kept .1 .1 .1 .0, k₂ .kept .1 .1 .1 .0)) (k₂ .ensures .1) is,
+    )
 
 pub +forced-from-spec : {M : Type 1} → statement M
 +forced-from-spec = close μ-forced-from λ t. forced-from-lts.spec (callees t)

@@ -46,7 +46,8 @@ forced-from-requires c κs =
     let a = s .args in
     let k = clear-cells-from-forced-from-call c .clear-cells in (
       (s .pre .0, s .pre .1, omega (arith, s .pre .2, k .kept .0)),
-      memo-cleared Forced (nodesIn (a .vars .now) (a .lows .now) (a .highs .now) (a .count)) (k .last .0) (a .count) (length-in (a .vars .now) (a .lows .now) (a .highs .now) (a .count) (s .pre .0)) (k .ensures),
+      memo-cleared Forced (nodesIn (a .vars .now) (a .lows .now) (a .highs .now) (a .count)) (k .last .0) (a .count)
+          (length-in (a .vars .now) (a .lows .now) (a .highs .now) (a .count) (s .pre .0)) (k .ensures),
     )
 
 same-length : tie.Need-same-length

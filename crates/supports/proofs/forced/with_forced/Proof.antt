@@ -27,7 +27,8 @@ returns c =
     let l = eqb (a .low .0) 0 in
     let h = eqb (a .high .0) 0 in
     c .with-variable .ensures
-    ∙ sym (with-zero (a .word) (a .v) (a .low .0) (a .high .0) (⊎-elim (λ w. or-left l h (eq-eqb _ _ (w .taken))) (λ w. or-right l h (w .2 .taken)) (c .before .if1 .came)))
+    ∙ sym (with-zero (a .word) (a .v) (a .low .0) (a .high .0)
+    (⊎-elim (λ w. or-left l h (eq-eqb _ _ (w .taken))) (λ w. or-right l h (w .2 .taken)) (c .before .if1 .came)))
 
 returns-2 : tie.Need-returns-2
 returns-2 c =

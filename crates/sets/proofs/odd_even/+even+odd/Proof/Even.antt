@@ -12,7 +12,8 @@ use Rattle.sets.proofs.odd_even.+even+odd.Proof.Measures.{even-at, even
 
 module _ {t : ℕ} (s : even-lts.Start (even-callees t) (even-at t) even.Post) where
   abbrev e-table : Table
-  e-table = tableOf (s .args .vars .now) (s .args .lows .now) (s .args .highs .now) (s .args .heads .now) (s .args .links .now) (s .args .count)
+  e-table = tableOf (s .args .vars .now) (s .args .lows .now) (s .args .highs .now) (s .args .heads .now) (s .args .links .now)
+      (s .args .count)
 
   e-asks : Buildable e-table (s .args .set) (s .args .v) false (s .args .other .0)
   e-asks = s .pre .1

@@ -12,7 +12,8 @@ use Rattle.sets.proofs.odd_even.+even+odd.Proof.Measures.{odd-at, odd-c
 
 module _ {t : ℕ} (s : odd-lts.Start (odd-callees t) (odd-at t) odd.Post) where
   abbrev o-table : Table
-  o-table = tableOf (s .args .vars .now) (s .args .lows .now) (s .args .highs .now) (s .args .heads .now) (s .args .links .now) (s .args .count)
+  o-table = tableOf (s .args .vars .now) (s .args .lows .now) (s .args .highs .now) (s .args .heads .now) (s .args .links .now)
+      (s .args .count)
 
   o-asks : Buildable o-table (s .args .set) (s .args .v) true (s .args .other .0)
   o-asks = s .pre .1
