@@ -73,8 +73,8 @@ def imports(line, width):
     return out + [m.group(1) + "{" + ", ".join(names) + "}"]
 
 
-def comment(line, width):
-    """A comment line as several."""
+def comment(line, follows, width):
+    """A comment line as several; what is over goes to the line that follows where that is of the same comment. Gives both."""
     mark = re.match(r"\s*-- ?", line).group(0)
     out, words = [], []
     for word in line[len(mark):].split(" "):
@@ -82,17 +82,23 @@ def comment(line, width):
             out.append(mark + " ".join(words))
             words = []
         words.append(word)
-    return out + [mark + " ".join(words)]
+    if follows.startswith(mark) and re.match(r"[^\s-]", follows[len(mark):]):
+        return out, mark + " ".join(words) + " " + follows[len(mark):]
+    return out + [mark + " ".join(words)], follows
 
 
 def wrap(name):
     lines = open(name, encoding="utf-8").read().split("\n")
-    out = []
-    for line in lines:
+    out, left = [], list(lines)
+    while left:
+        line = left.pop(0)
         if len(line) <= WIDTH or "written by ways.py" in line or ROWS.fullmatch(line):
             out.append(line)
         elif line.lstrip().startswith("--"):
-            out += comment(line, WIDTH)
+            broken, follows = comment(line, left[0] if left else "", WIDTH)
+            out += broken
+            if left:
+                left[0] = follows
         elif line.lstrip().startswith(("use ", "pub use ")):
             out += imports(line, WIDTH)
         else:

@@ -1,6 +1,5 @@
 -- A clause looked for in the table: while the clause of the later variables stands there, the next node is looked up over it; where that
--- does
--- not stand there, the clause does not. The idea: a diagram that stands there has its sides there. Assumes nothing.
+-- does not stand there, the clause does not. The idea: a diagram that stands there has its sides there. Assumes nothing.
 use mathlib.Core.Path.{_≡_, refl, sym, ap, ap₂, _∙_, subst}
 use mathlib.Core.Bool.{Bool, true, false, _&&_, cond}
 use mathlib.Core.List.{List, [], _∷_, _++_}

@@ -1,6 +1,5 @@
 -- One turn of making a clause: where the clause of the later variables is placed, putting a node over it places the clause with one
--- variable
--- more; where it found no room, that clause finds none. The idea: node 1 and what is made are there already. Assumes nothing.
+-- variable more; where it found no room, that clause finds none. The idea: node 1 and what is made are there already. Assumes nothing.
 use mathlib.Core.Path.{_≡_, refl, sym, ap, _∙_}
 use mathlib.Core.Bool.{Bool, true, false, _&&_, cond}
 use Prim.Native.Nat.{ℕ, zero, suc, _+_, _-_, _≤_, _<_}

@@ -1,6 +1,5 @@
 -- Binary proofs, chosen and random, with the clauses, numbers and places that the checker written apart says. The idea: each row is
--- computed. Assumes
--- nothing.
+-- computed. Assumes nothing.
 use mathlib.Core.Path.{refl}
 use mathlib.Core.List.{List, [], _∷_}
 use Rattle.dimacs.specs.Texts.{plus, minus}

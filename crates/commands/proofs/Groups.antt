@@ -1,6 +1,6 @@
 -- Groups of a binary proof by the place of the last of them: one law for each way through the reader of a literal. The idea: all groups but
--- the
--- last have the top bit set, so the last is where their run ends; three groups whose last is not 0 make 16,384 or more. Assumes nothing.
+-- the last have the top bit set, so the last is where their run ends; three groups whose last is not 0 make 16,384 or more. Assumes
+-- nothing.
 use mathlib.Core.Path.{_≡_, refl, sym, ap, ap₂, _∙_, subst}
 use mathlib.Core.Logic.{_≢_}
 use mathlib.Core.Bool.{Bool, true, false, _&&_, _||_, cond}

@@ -1,8 +1,6 @@
 -- A command of a DRAT proof goes on: a clause ends behind its first byte and in the proof, its literals are the header's; a fault lies in
--- the proof
--- and has a number of its form; the end is the proof's length. So a loop over commands comes to an end. The idea: what is known of the
--- clause
--- read. Assumes nothing.
+-- the proof and has a number of its form; the end is the proof's length. So a loop over commands comes to an end. The idea: what is known
+-- of the clause read. Assumes nothing.
 use mathlib.Core.Path.{_≡_, refl, sym, subst}
 use mathlib.Core.Logic.{_≢_}
 use mathlib.Core.Bool.{Bool, true, false, cond}

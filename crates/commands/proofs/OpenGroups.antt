@@ -1,6 +1,5 @@
 -- One step of an open clause of a binary proof, for which the bytes left are steps enough, and the set that the code gathers: what is to be
--- read is
--- what is left to be read, with the literals so far. Assumes nothing.
+-- read is what is left to be read, with the literals so far. Assumes nothing.
 use mathlib.Core.Path.{_≡_, refl, ap, sym, _∙_, subst}
 use mathlib.Core.Bool.{Bool}
 use mathlib.Core.List.{List}

@@ -1,6 +1,5 @@
 -- What the reader of a text's clause answers: its places lie in the text and go on, its literals are the header's, its pivot is what its
--- first
--- token says; and the command that the code makes of it. The idea: by the token at hand. Assumes nothing.
+-- first token says; and the command that the code makes of it. The idea: by the token at hand. Assumes nothing.
 use mathlib.Core.Path.{_≡_, refl, sym, ap, _∙_, subst}
 use mathlib.Core.Logic.{_≢_}
 use mathlib.Core.Bool.{Bool, true, false, not, cond}

@@ -1,6 +1,5 @@
 -- One law for each way through the readers of a command: the record at a place, the end of a DRAT proof, a clause struck, a clause added.
--- The idea: the
--- definition's tests have the code's answers. Assumes nothing.
+-- The idea: the definition's tests have the code's answers. Assumes nothing.
 use mathlib.Core.Path.{_≡_, sym}
 use mathlib.Core.Logic.{_≢_}
 use mathlib.Core.Bool.{true, false}

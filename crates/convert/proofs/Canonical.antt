@@ -1,6 +1,5 @@
 -- A binary proof that is read to its end is what its clauses print: the form is canonical. The idea: groups that are not surplus, of a
--- number up to
--- 129, are its own. Assumes nothing.
+-- number up to 129, are its own. Assumes nothing.
 use mathlib.Core.Path.{_≡_, refl, sym, ap, ap₂, _∙_, subst}
 use mathlib.Core.Logic.{_≢_}
 use mathlib.Core.Bool.{Bool, true, false, cond}

@@ -1,6 +1,5 @@
 -- An open clause read token by token, in either form: what is to be read is what is left to be read, behind each literal. The idea: a
--- literal's token is
--- its own text, so that its end is known by the literal; groups have bytes. Assumes nothing.
+-- literal's token is its own text, so that its end is known by the literal; groups have bytes. Assumes nothing.
 use mathlib.Core.Path.{_≡_, refl, sym, ap, _∙_, subst}
 use mathlib.Core.Bool.{Bool, true, false, cond}
 use mathlib.Core.List.{List, [], _∷_}

@@ -1,6 +1,5 @@
 -- Clause after clause: what is to be converted is what is left to be converted, with the output so far. The idea: a clause that stands next
--- is the next
--- line read, and the rest is read behind it. Assumes nothing.
+-- is the next line read, and the rest is read behind it. Assumes nothing.
 use mathlib.Core.Path.{_≡_, refl, sym, ap, _∙_, subst}
 use mathlib.Core.Logic.{_≢_}
 use mathlib.Core.Bool.{Bool, true, false, cond}

@@ -1,6 +1,5 @@
 -- A text that is read to its end is printed as its own tokens, parted by single spaces, one clause a line. The idea: a token that says a
--- literal of a
--- variable up to 64 is the literal's own text, since a number has no leading 0. Assumes nothing.
+-- literal of a variable up to 64 is the literal's own text, since a number has no leading 0. Assumes nothing.
 use mathlib.Core.Path.{_≡_, refl, sym, ap, ap₂, _∙_, subst}
 use mathlib.Core.Logic.{_≢_}
 use mathlib.Core.Bool.{Bool, true, false, not, _&&_, _||_, cond}

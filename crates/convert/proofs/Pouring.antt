@@ -1,6 +1,5 @@
 -- The output while it is written: byte after byte, what was put is at its start, and zeros are behind it; what is left to be converted
--- comes to what
--- the definition says. The idea: the output is the first places of the bytes and zeros without end. Assumes nothing.
+-- comes to what the definition says. The idea: the output is the first places of the bytes and zeros without end. Assumes nothing.
 use mathlib.Core.Path.{_≡_, refl, sym, ap, ap₂, _∙_, subst}
 use mathlib.Core.Bool.{Bool, true, false, cond}
 use mathlib.Core.List.{List, [], _∷_, _++_, append-assoc, append-nil}

@@ -1,6 +1,6 @@
 -- There and back: binary to text and back gives the same bytes; text to binary and back gives the text's own tokens, parted by single
--- spaces, one
--- clause a line ended by LF. The idea: what is printed is read back, and both forms are what their clauses print. Assumes nothing.
+-- spaces, one clause a line ended by LF. The idea: what is printed is read back, and both forms are what their clauses print. Assumes
+-- nothing.
 use mathlib.Core.Path.{_≡_, refl, ap, _∙_}
 use mathlib.Core.Bool.{Bool, true, false, cond}
 use mathlib.Core.List.{List}

@@ -18,9 +18,9 @@ use Rattle.table.proofs.Outcomes.{Grown}
 use Rattle.verdict.specs.Steps as check
 use Rattle.verdict.specs.Steps.{next, entered}
 use Rattle.verdict.proofs.Uses.{UsesAfter}
-use Rattle.entries.specs.declared.State.{State}
-use Rattle.entries.specs.declared.Step.the-variants.{Next}
-use Rattle.entries.specs.States.{Lent, lentOf, tableIn, stateOf, stateWithEntry, Held, Stepped}
+use Rattle.state.specs.declared.State.{State}
+use Rattle.state.specs.declared.Step.the-variants.{Next}
+use Rattle.state.specs.States.{Lent, lentOf, tableIn, stateOf, stateWithEntry, Held, Stepped}
 
 -- Other lists lent with a table.
 abbrev pub lentWith : Table → List ℕ → List ℕ → List ℕ → Lent

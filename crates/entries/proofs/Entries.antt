@@ -16,8 +16,8 @@ use Rattle.records.specs.declared.NodeBody.{NodeBody}
 use Rattle.verdict.specs.Steps as check
 use Rattle.verdict.specs.Steps.{isEntry, entryNode, isVariable, waiting}
 use Rattle.table.specs.Lists.{Inside}
-use Rattle.entries.specs.declared.State.{State}
-use Rattle.entries.specs.States.{Lent, stateOf, Held}
+use Rattle.state.specs.declared.State.{State}
+use Rattle.state.specs.States.{Lent, stateOf, Held}
 use Rattle.entries.specs.Tests.{nodeRefusal}
 
 -- ---- entries in the scratch list

@@ -22,9 +22,9 @@ use Rattle.records.specs.declared.NodeBody.{NodeBody}
 use Rattle.verdict.specs.Steps as check
 use Rattle.verdict.specs.Steps.{spent, entryNode, entered, nodeStep}
 use Rattle.verdict.proofs.Uses.{UsesAfter, place-uses}
-use Rattle.entries.specs.declared.State.{State}
-use Rattle.entries.specs.declared.Step.the-variants.{Next, Stop, Spent}
-use Rattle.entries.specs.States.{Lent, tableIn, stateOf, stateWithEntry, Held, Stepped}
+use Rattle.state.specs.declared.State.{State}
+use Rattle.state.specs.declared.Step.the-variants.{Next, Stop, Spent}
+use Rattle.state.specs.States.{Lent, tableIn, stateOf, stateWithEntry, Held, Stepped}
 use Rattle.entries.specs.Tests.{nodeRefusal}
 use Rattle.entries.proofs.Stops.{unless, unless-refused, unless-none, node-is, NodeFits, node-fits, stopped}
 use Rattle.entries.proofs.Entries.{entry-in}

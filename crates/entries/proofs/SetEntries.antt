@@ -1,6 +1,5 @@
 -- Records of sets: their tests as one number; a diagram without room is dropped, so that the table is as it was; one that is placed is the
--- next
--- entry. The idea: the header's variables and 64 give one diagram where no set bit is beyond the header. Assumes nothing.
+-- next entry. The idea: the header's variables and 64 give one diagram where no set bit is beyond the header. Assumes nothing.
 use mathlib.Core.Path.{_≡_, refl, sym, ap, _∙_}
 use mathlib.Core.Bool.{Bool, true, false, cond}
 use Prim.Native.Nat.{ℕ, suc, _-_, _*_, _%_, _^_, _≤_, _<_, max}
@@ -26,9 +25,9 @@ use Rattle.verdict.specs.Steps as check
 use Rattle.verdict.specs.Steps.{stop, spent, entered, beyond, noParity, setDiagram, setStep}
 use Rattle.verdict.proofs.SetValues.{set-reduced}
 use Rattle.verdict.proofs.Uses.{place-uses}
-use Rattle.entries.specs.declared.State.{State}
-use Rattle.entries.specs.declared.Step.the-variants.{Next, Stop, Spent}
-use Rattle.entries.specs.States.{Lent, tableIn, stateOf, stateWithEntry, Held, Stepped}
+use Rattle.state.specs.declared.State.{State}
+use Rattle.state.specs.declared.Step.the-variants.{Next, Stop, Spent}
+use Rattle.state.specs.States.{Lent, tableIn, stateOf, stateWithEntry, Held, Stepped}
 use Rattle.entries.specs.Tests.{setRefusal}
 use Rattle.entries.proofs.Stops.{unless, unless-refused, unless-none, stopped}
 use Rattle.entries.proofs.Entering.{lentWith, entry-made}

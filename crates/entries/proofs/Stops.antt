@@ -11,9 +11,9 @@ use Rattle.table.specs.Nodes.{above, put}
 use Rattle.records.specs.declared.NodeBody.{NodeBody}
 use Rattle.verdict.specs.Steps as check
 use Rattle.verdict.specs.Steps.{stop, isEntry, entryNode, isVariable, entered, nodeStep}
-use Rattle.entries.specs.declared.State.{State}
-use Rattle.entries.specs.declared.Step.the-variants.{Stop}
-use Rattle.entries.specs.States.{Lent, Stepped}
+use Rattle.state.specs.declared.State.{State}
+use Rattle.state.specs.declared.Step.the-variants.{Stop}
+use Rattle.state.specs.States.{Lent, Stepped}
 use Rattle.entries.specs.Tests.{nodeRefusal}
 
 -- The lent lists are as they were.

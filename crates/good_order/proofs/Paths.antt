@@ -1,6 +1,5 @@
 -- An index that passes the test is that of the nodes, and no two nodes are alike: each head is the last of its chain, each link the last of
--- its
--- chain before its place. The idea: a walk is one path, so that of two places on it the greater one's walk comes to the other. Assumes
+-- its chain before its place. The idea: a walk is one path, so that of two places on it the greater one's walk comes to the other. Assumes
 -- nothing.
 use mathlib.Core.Path.{_≡_, refl, sym, ap, _∙_, subst}
 use mathlib.Core.Logic.{_≢_}

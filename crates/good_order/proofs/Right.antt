@@ -1,6 +1,5 @@
 -- Good order with its index is what the read-only test asks: the literal heads and links are the last of their chains, a table in good
--- order
--- passes each test, and one that passes all is in good order. The idea: both sides are the same facts of places. Assumes nothing.
+-- order passes each test, and one that passes all is in good order. The idea: both sides are the same facts of places. Assumes nothing.
 use mathlib.Core.Path.{_≡_, refl, sym, ap, ap₂, _∙_, subst}
 use mathlib.Core.Bool.{Bool, true, false, _&&_, cond}
 use mathlib.Core.List.{List}

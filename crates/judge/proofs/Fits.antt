@@ -1,6 +1,5 @@
 -- What a line reaches, whether it finds room and how far, told from the parts that the code makes one after another. The idea: a turn's
--- diagrams are
--- placed as one list, and members without a turn make nothing. Assumes nothing.
+-- diagrams are placed as one list, and members without a turn make nothing. Assumes nothing.
 use mathlib.Core.Path.{_≡_, refl, sym, ap, _∙_}
 use mathlib.Core.Bool.{Bool, true, false, _&&_, cond}
 use mathlib.Core.List.{List, [], _∷_, _++_}

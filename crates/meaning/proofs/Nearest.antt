@@ -1,7 +1,6 @@
 -- The nearest assignment that satisfies g: the literal `nearest` has the least distance, no other assignment has the same distance, and it
--- is found
--- variable by variable: keep the first as it is if g can then be satisfied, else turn it. The idea: 2^(n-i) outweighs all later variables.
--- Assumes nothing.
+-- is found variable by variable: keep the first as it is if g can then be satisfied, else turn it. The idea: 2^(n-i) outweighs all later
+-- variables. Assumes nothing.
 use mathlib.Core.Path.{_≡_, refl, sym, ap, ap₂, _∙_}
 use mathlib.Core.Logic.{_≢_, inl, inr}
 use mathlib.Core.Bool.{Bool, true, false, not, cond, Bool·beq}

@@ -1,6 +1,5 @@
 -- Each operation's diagram has the values that 01 gives it, and is reduced; from variable i on where its operands are. The idea: each is
--- the
--- diagram of a function that looks at its operands' values alone. Assumes nothing.
+-- the diagram of a function that looks at its operands' values alone. Assumes nothing.
 use mathlib.Core.Path.{_≡_, refl, ap, ap₂}
 use mathlib.Core.Logic.{_≢_}
 use mathlib.Core.Bool.{Bool, true, false, not, _&&_, cond}

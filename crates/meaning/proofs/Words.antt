@@ -1,6 +1,5 @@
 -- The variables of a word: those of its assignment, of words made by `&`, `|` and one bit, and of the word of none. The idea: each law is
--- about one
--- binary digit once the words are shifted; an assignment is taken variable by variable. Assumes nothing.
+-- about one binary digit once the words are shifted; an assignment is taken variable by variable. Assumes nothing.
 use mathlib.Core.Path.{_≡_, refl, ap, _∙_}
 use mathlib.Core.Bool.{false, _&&_, _||_}
 use Prim.Native.Nat.{ℕ, zero, suc, _+_, _-_, _*_, _/_, _%_, _^_, _≤_, _<_}

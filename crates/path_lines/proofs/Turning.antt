@@ -1,7 +1,6 @@
 -- A path line's turns: one path's, and those of all, over a table that is the same before each. The idea: what is to be shown is what is
--- left to be
--- shown, the rounds are those counted and those to come, and the peak is the greater of the one so far and the one to come. Assumes
--- nothing.
+-- left to be shown, the rounds are those counted and those to come, and the peak is the greater of the one so far and the one to come.
+-- Assumes nothing.
 use mathlib.Core.Path.{_≡_, refl, sym, ap, ap₂, _∙_, subst}
 use mathlib.Core.Bool.{Bool, true, false, not, _&&_, cond}
 use mathlib.Core.List.{List, [], _∷_, _++_}
@@ -37,6 +36,7 @@ use Rattle.paths.specs.Paths.{paths, byPath, pathTurns, pathLine, pathCount}
 use Rattle.paths.specs.Walk.{isOne, firstFrom, found, afterFrom, noPath}
 use Rattle.paths.proofs.Sequence.{count-is, nth, nth-there, nth-none, first-is, after-is, Rises, path-rises, path-along, by-words}
 use Rattle.paths.proofs.Walks.{one-not}
+use Rattle.paths.specs.Rounds.{mostRounds}
 use Rattle.path_lines.specs.Turns.{byWords, nothing, turnBy}
 
 -- ---- one path
@@ -254,7 +254,7 @@ module _ (T : Table) (members : List ℕ) (root : ℕ) where
 
     -- all are passed
     pub turns-done : (i rounds peak : ℕ) → Turning i rounds peak → length cs ≤ i → pathCount (diagramAt (nodesOf T) root) ≤ 4096
-        → LineSays T whole 262144 (judgedAs false true rounds (T .count) peak) T
+        → LineSays T whole mostRounds (judgedAs false true rounds (T .count) peak) T
     unfolding pathTurns turnsReach pathLine
     turns-done i rounds peak W end few =
         let none : drop i cs ≡ [] = drop-of-length-le cs {i = i} end in
@@ -308,14 +308,14 @@ module _ (T : Table) (members : List ℕ) (root : ℕ) where
       last : one .shown ≡ false → Stops (size T) (nodesOf T) one (lineOf (c ∷ drop (suc i) cs))
       last = stops (size T) (nodesOf T) members-are c (drop (suc i) cs)
 
-      pub added-fits : rounds + r .rounds ≤ 262144
+      pub added-fits : rounds + r .rounds ≤ mostRounds
       added-fits = omega (arith, W .most, S .most, more, count-is (diagramAt (nodesOf T) root), few)
 
       pub passed-fits : i < 4096
       passed-fits = omega (arith, more, count-is (diagramAt (nodesOf T) root), few)
 
       -- a turn that found no room
-      pub turns-full : r .full ≡ true → (count : ℕ) → LineSays T whole 262144 (judgedAs true false 0 count (max peak (r .peak))) T′
+      pub turns-full : r .full ≡ true → (count : ℕ) → LineSays T whole mostRounds (judgedAs true false 0 count (max peak (r .peak))) T′
       turns-full q count =
           record {
             extended = S .extended;
@@ -337,7 +337,7 @@ module _ (T : Table) (members : List ℕ) (root : ℕ) where
         has-room = one-reach-is ∙ ap (λ (b : Bool). reach (not b) (r .peak)) q
 
         -- a turn that does not conflict
-        pub turns-end : r .shown ≡ false → LineSays T whole 262144
+        pub turns-end : r .shown ≡ false → LineSays T whole mostRounds
             (judgedAs false false (rounds + r .rounds) (T .count) (max peak (r .peak))) T
         unfolding pathLine
         turns-end z =

@@ -19,6 +19,7 @@ ghost use Rattle.conflict.specs.Marks.{unmarked};
 ghost use Rattle.propagate.specs.Rounds.{unitResults};
 ghost use Rattle.judge.specs.Lines.{Negatable, LineSays};
 ghost use Rattle.paths.specs.Paths.{pathLine, pathCount};
+ghost use Rattle.paths.specs.Rounds.{mostRounds};
 ghost use Rattle.path_lines.specs.Turns.{turnBy};
 
 // Fills the list with the members' cofactors by the literals, made in order; or stops at `full`. `memberwords` has the members' variables;
@@ -189,8 +190,8 @@ fn path_turns(
     ensures { λ r. ⌜ (
         let before = tableOf (now (vars .entry)) (now (lows .entry)) (now (highs .entry)) (now (heads .entry)) (now (links .entry)) count in
         let after = tableOf (now (vars .exit)) (now (lows .exit)) (now (highs .exit)) (now (heads .exit)) (now (links .exit)) (r .count) in
-        LineSays before (pathLine 64 (diagramsOf (nodesOf before) (now (members .entry))) (diagramAt (nodesOf before) (root .0))) 262144 r
-        after) ⌝ }
+        LineSays before (pathLine 64 (diagramsOf (nodesOf before) (now (members .entry))) (diagramAt (nodesOf before) (root .0))) mostRounds
+        r after) ⌝ }
     ensures { λ _. ⌜ now (marks .exit) ≡ unmarked (length (now (vars .entry))) ⌝ }
 {
     let mut rounds: u64 = 0;
@@ -278,8 +279,8 @@ pub fn path(
     ensures { λ r. ⌜ (
         let before = tableOf (now (vars .entry)) (now (lows .entry)) (now (highs .entry)) (now (heads .entry)) (now (links .entry)) count in
         let after = tableOf (now (vars .exit)) (now (lows .exit)) (now (highs .exit)) (now (heads .exit)) (now (links .exit)) (r .count) in
-        LineSays before (pathLine 64 (diagramsOf (nodesOf before) (now (members .entry))) (diagramAt (nodesOf before) (root .0))) 262144 r
-        after) ⌝ }
+        LineSays before (pathLine 64 (diagramsOf (nodesOf before) (now (members .entry))) (diagramAt (nodesOf before) (root .0))) mostRounds
+        r after) ⌝ }
     ensures { λ _. ⌜ now (marks .exit) ≡ unmarked (length (now (vars .entry))) ⌝ }
 {
     supports::supports_of(vars, lows, highs, memo, members, memberwords, count);

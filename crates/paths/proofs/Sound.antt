@@ -1,6 +1,5 @@
 -- An accepted path line follows from the members. The idea: an assignment that satisfies the members and makes the line 0 goes along one of
--- the
--- paths to 0, and the members cofactored by that path's literals keep their values there. Assumes nothing.
+-- the paths to 0, and the members cofactored by that path's literals keep their values there. Assumes nothing.
 use mathlib.Core.Path.{_≡_, refl, sym, ap, _∙_, subst}
 use mathlib.Core.Logic.{_⊎_, inl, inr}
 use mathlib.Core.Bool.{Bool, true, false, cond}

@@ -19,10 +19,10 @@ use Rattle.verdict.specs.Steps as steps
 use Rattle.verdict.specs.Check as check
 use Rattle.verdict.specs.Run.{commandIn, nextIn}
 use Rattle.verdict.proofs.Commands.{step-taken, Known, fit-known, command-fit, start-within, command-goes}
-use Rattle.entries.specs.declared.State.{State}
-use Rattle.entries.specs.declared.Step.{Step}
-use Rattle.entries.specs.declared.Step.the-variants.{Next, Stop, Spent}
-use Rattle.entries.specs.States.{Lent, tableIn, stateOf, stepOf, Held, HeldAfter, Unmoved, Stepped}
+use Rattle.state.specs.declared.State.{State}
+use Rattle.state.specs.declared.Step.{Step}
+use Rattle.state.specs.declared.Step.the-variants.{Next, Stop, Spent}
+use Rattle.state.specs.States.{Lent, tableIn, stateOf, stepOf, Held, HeldAfter, Unmoved, Stepped}
 use Rattle.tries.specs.Commands.{CommandFits, PivotOfFits}
 use Rattle.tries.proofs.Commands.{pivot-fits}
 use Rattle.replay.specs.Ends.{Ends}

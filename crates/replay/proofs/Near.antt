@@ -1,6 +1,5 @@
 -- A command is refused, or ends the proof, at a place in the proof. The idea: at its first byte; at a fault's own place; for 11 at the byte
--- behind
--- the end record, which is there. Assumes nothing.
+-- behind the end record, which is there. Assumes nothing.
 use mathlib.Core.Bool.{Bool}
 use mathlib.Core.Path.{_≡_, refl, subst}
 use mathlib.Core.List.{List}

@@ -26,8 +26,8 @@ use Rattle.words.specs.Sets.{noLiterals}
 use Rattle.verdict.specs.Steps as check
 use Rattle.verdict.specs.Steps.{emptied, begun}
 use Rattle.verdict.specs.Check.{zeros, Verdict, left, proofFrom, refusedFormula, clauses, verdict, CheckOutcome, lentFits, outcome}
-use Rattle.entries.specs.declared.State.{State}
-use Rattle.entries.specs.States.{Lent, tableIn, stateOf, Held}
+use Rattle.state.specs.declared.State.{State}
+use Rattle.state.specs.States.{Lent, tableIn, stateOf, Held}
 use Rattle.session.specs.declared.Checked.{Checked}
 use Rattle.session.specs.Checked.{checkOutcome}
 use Rattle.formula.specs.declared.Start.{Start}

@@ -1,6 +1,5 @@
 -- The set's variables from the greatest down, and the diagrams of the last of them: at least j of the last i + 1 is a branch over two of
--- the
--- last i; all of them are the set's. The idea: between two of them there is none. Assumes nothing.
+-- the last i; all of them are the set's. The idea: between two of them there is none. Assumes nothing.
 use mathlib.Core.Path.{_≡_, refl, sym, ap, ap₂, _∙_, subst}
 use mathlib.Core.Bool.{Bool, true, false}
 use Prim.Native.Nat.{ℕ, zero, suc, _+_, _-_, _≤_, _<_}

@@ -1,7 +1,6 @@
 -- One diagonal after the other: what is in row j before diagonal d is there, so that each put places at least j of the last d + j
--- variables, and
--- a diagonal done is at least k of the last d + k placed, `full` included. The idea: low is there, high was placed just before. Assumes
--- nothing.
+-- variables, and a diagonal done is at least k of the last d + k placed, `full` included. The idea: low is there, high was placed just
+-- before. Assumes nothing.
 use mathlib.Core.Path.{_≡_, refl, sym, ap, ap₂, _∙_, subst}
 use mathlib.Core.Bool.{Bool, true, false}
 use mathlib.Core.List.{List, _∷_}

@@ -27,12 +27,13 @@ use Rattle.table.proofs.Extended.{extended-longer}
 use Rattle.judge.specs.declared.Judged.{Judged}
 use Rattle.judge.specs.Lines.{Negatable, LineSays}
 use Rattle.judge.proofs.Widths.{witnessed-walk, witnessed-at, rup-at, pr-at}
-use Rattle.entries.specs.declared.State.{State}
-use Rattle.entries.specs.declared.Step.{Step}
-use Rattle.entries.specs.declared.Step.the-variants.{Next, Stop, Spent}
+use Rattle.state.specs.declared.State.{State}
+use Rattle.state.specs.declared.Step.{Step}
+use Rattle.state.specs.declared.Step.the-variants.{Next, Stop, Spent}
+use Rattle.paths.specs.Rounds.{mostRounds}
 use Rattle.steps.specs.Tried.{Tried, acceptedBy, saidBy, stepBy, membersBy}
 use Rattle.steps.specs.NextStates.{withLine}
-use Rattle.entries.specs.States.{Lent, tableIn, stateOf, Held, Stepped}
+use Rattle.state.specs.States.{Lent, tableIn, stateOf, Held, Stepped}
 use Rattle.verdict.specs.Taken.{lineOf}
 use Rattle.steps.specs.Tests.{lineRefusal, FewPaths}
 use Rattle.entries.proofs.Stops.{unless, unless-refused, unless-none, stopped}
@@ -169,7 +170,7 @@ says-most t line a b r t′ le J = record {
 }
 
 -- What judging says, once its nodes are dropped.
-pub tried : (t : Table) → Good t → (line : Line) (r : Judged) (t₁ t₂ : Table) → LineSays t line 262144 r t₁ → t₂ ≡ droppedTo (t .count) t₁ →
+pub tried : (t : Table) → Good t → (line : Line) (r : Judged) (t₁ t₂ : Table) → LineSays t line mostRounds r t₁ → t₂ ≡ droppedTo (t .count) t₁ →
     (t₂ ≡ t) × Tried t line r
 tried t G line r t₁ t₂ J e = (
   e ∙ undone t G t₁ (extended-longer t t₁ G (J .extended)),
@@ -309,7 +310,7 @@ module _ (n : ℕ) (L : Lent) (st : State) (H : Held n L st) (rule : Rule) (root
 -- ---- a judged line is refused, or its root is the next member
 
 module _ (n : ℕ) (L : Lent) (st : State) (H : Held n L st) (few : st .lines < 1024) (k : ℕ) (k-in : k < st .count) (rounds : ℕ)
-    (most : rounds ≤ 262144) (peak : ℕ)
+    (most : rounds ≤ mostRounds) (peak : ℕ)
     (cs : List ℕ) (room : 4096 ≤ length cs) where
   abbrev st′ : State
   st′ = withLine st rounds peak k
@@ -373,7 +374,7 @@ module _ (n : ℕ) (L : Lent) (st : State) (H : Held n L st) (few : st .lines < 
   }
 
 module _ (n : ℕ) (L : Lent) (st : State) (H : Held n L st) (few : st .lines < 1024) (k : ℕ) (k-in : k < st .count) (j : Judged)
-    (most : j .rounds ≤ 262144)
+    (most : j .rounds ≤ mostRounds)
     (T₂ : Table) (back : T₂ ≡ tableIn L (st .count)) (cs : List ℕ) (room : 4096 ≤ length cs) where
   -- THEOREM: where judging leaves the table as it was, what the line comes to is the definition's.
   pub line-ended : Stepped n L (lentWith T₂ (membersBy (L .members) st j k) cs (L .struck)) st (saidBy (stateOf L st) k j) (stepBy st j k)

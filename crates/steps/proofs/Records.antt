@@ -14,10 +14,10 @@ use Rattle.records.specs.declared.Record.the-variants.{NoRecord}
 use Rattle.verdict.specs.Steps as check
 use Rattle.verdict.specs.Steps.{stop, nodeStep, witnessStep, lineStep, strikeStep, setStep, endStep}
 use Rattle.verdict.specs.Steps.{recordStep}
-use Rattle.entries.specs.declared.State.{State}
-use Rattle.entries.specs.declared.Step.{Step}
-use Rattle.entries.specs.declared.Step.the-variants.{Stop}
-use Rattle.entries.specs.States.{Lent, stateOf, Stepped}
+use Rattle.state.specs.declared.State.{State}
+use Rattle.state.specs.declared.Step.{Step}
+use Rattle.state.specs.declared.Step.the-variants.{Stop}
+use Rattle.state.specs.States.{Lent, stateOf, Stepped}
 use Rattle.entries.proofs.Stops.{stopped}
 
 module _ (n s : ℕ) (S : check.State) (more : Bool) where

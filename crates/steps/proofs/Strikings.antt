@@ -12,9 +12,9 @@ use borrow.Author.Tests.{eq-eqb, ne-eqb, lt-ltb, le-ltb}
 use Rattle.table.specs.Lists.{Inside}
 use Rattle.verdict.specs.Steps as check
 use Rattle.verdict.specs.Steps.{withMarks, next, unstruck, waiting, isLive, strikeStep}
-use Rattle.entries.specs.declared.State.{State}
-use Rattle.entries.specs.declared.Step.the-variants.{Next, Stop}
-use Rattle.entries.specs.States.{Lent, lentOf, stateOf, Held, Stepped}
+use Rattle.state.specs.declared.State.{State}
+use Rattle.state.specs.declared.Step.the-variants.{Next, Stop}
+use Rattle.state.specs.States.{Lent, lentOf, stateOf, Held, Stepped}
 use Rattle.entries.proofs.Stops.{stopped}
 
 -- ---- members that are not struck

@@ -7,9 +7,9 @@ use Rattle.words.specs.declared.Literals.{Literals}
 use Rattle.words.specs.Sets.{withLiteral}
 use Rattle.verdict.specs.Steps as check
 use Rattle.verdict.specs.Steps.{next, isVariable, assigned, witnessStep}
-use Rattle.entries.specs.declared.State.{State}
-use Rattle.entries.specs.declared.Step.the-variants.{Next, Stop}
-use Rattle.entries.specs.States.{Lent, stateOf, Held, Stepped}
+use Rattle.state.specs.declared.State.{State}
+use Rattle.state.specs.declared.Step.the-variants.{Next, Stop}
+use Rattle.state.specs.States.{Lent, stateOf, Held, Stepped}
 use Rattle.steps.specs.NextStates.{stateWithWitness}
 use Rattle.steps.proofs.Bits.{with-clear}
 use Rattle.entries.proofs.Stops.{stopped}

@@ -1,6 +1,5 @@
 -- The emptied table: columns and index of zeros are the table that holds the two constants alone. The idea: a place that holds no node
--- holds
--- zeros, and an index of no nodes is zeros. Assumes nothing.
+-- holds zeros, and an index of no nodes is zeros. Assumes nothing.
 use mathlib.Core.Path.{_≡_, refl, sym, ap, ap₂, _∙_}
 use mathlib.Core.List.{List, [], _∷_, map}
 use Prim.Native.Nat.{ℕ, zero, suc, _-_, _*_, _≤_}

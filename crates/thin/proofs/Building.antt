@@ -1,8 +1,6 @@
 -- The way up: putting the steps written over a node, one by one, leaves what placing the whole diagram does. The idea: a diagram that has
--- been
--- placed is there, so placing what stands over it goes on from the table that it left; where it found no room, neither does what stands
--- over
--- it. Assumes nothing.
+-- been placed is there, so placing what stands over it goes on from the table that it left; where it found no room, neither does what
+-- stands over it. Assumes nothing.
 use mathlib.Core.Path.{_≡_, refl, sym, ap, ap₂, _∙_, subst}
 use mathlib.Core.Bool.{Bool, true, false, cond}
 use mathlib.Core.List.{List}

@@ -1,6 +1,5 @@
 -- Rising places found one after another, and what holds of all others. The idea: from behind the last place on every number is passed, or
--- is
--- the next place. Assumes nothing.
+-- is the next place. Assumes nothing.
 use mathlib.Core.Path.{_≡_, refl, sym, ap, _∙_, subst}
 use mathlib.Core.Logic.{_⊎_, inl, inr}
 use mathlib.Core.List.{List, [], _∷_, _++_, map}

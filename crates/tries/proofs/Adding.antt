@@ -34,16 +34,17 @@ use Rattle.verdict.specs.Steps as check
 use Rattle.verdict.specs.Steps.{withEntry, next, stop, spent}
 use Rattle.verdict.specs.Clausal.{tries, judgedOr, secondTry, afterFirst, onceMade, addStep}
 use Rattle.verdict.proofs.Uses.{place-uses, uses-written}
-use Rattle.entries.specs.declared.State.{State}
-use Rattle.entries.specs.declared.Step.{Step}
-use Rattle.entries.specs.declared.Step.the-variants.{Next, Stop, Spent}
-use Rattle.entries.specs.States.{Lent, tableIn, stateOf, Held, Stepped}
+use Rattle.state.specs.declared.State.{State}
+use Rattle.state.specs.declared.Step.{Step}
+use Rattle.state.specs.declared.Step.the-variants.{Next, Stop, Spent}
+use Rattle.state.specs.States.{Lent, tableIn, stateOf, Held, Stepped}
 use Rattle.steps.specs.NextStates.{withLine}
 use Rattle.steps.specs.Tried.{acceptedBy, saidBy, stepBy, membersBy}
 use Rattle.entries.proofs.Stops.{stopped}
 use Rattle.entries.proofs.Entering.{lentWith}
 use Rattle.steps.proofs.Lines.{accepted-says, accepted-held}
 use Rattle.meaning.specs.Literals.{OfVariables}
+use Rattle.paths.specs.Rounds.{mostRounds}
 use Rattle.tries.specs.Tries.{liveIn, withNodes, BothTried, no-room, once, twice, keptBy}
 use Rattle.tries.proofs.Trying.{tries-said, both-most}
 
@@ -268,7 +269,7 @@ module _ (profile : Bool) (n : ℕ) (L : Lent) (st : State) (H : Held n L st) (l
       -- ---- what is left
 
       module _ (T₂ : Table) (dropped : T₂ ≡ droppedTo (keptBy j (st .count) (T₁ .count)) T₁) (cs : List ℕ) (room : 4096 ≤ length cs)
-          (most : j .rounds ≤ 262144) where
+          (most : j .rounds ≤ mostRounds) where
         abbrev peak : ℕ
         peak = max (max (st .peak) (T₁ .count)) (j .peak)
 

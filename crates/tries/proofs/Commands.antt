@@ -16,10 +16,10 @@ use Rattle.commands.specs.Inner.{clauseWords, commandOf}
 use Rattle.verdict.specs.Steps as check
 use Rattle.verdict.specs.Clausal.{addStep, strikeClause}
 use Rattle.verdict.specs.Check.{finish, step, shutOut}
-use Rattle.entries.specs.declared.State.{State}
-use Rattle.entries.specs.declared.Step.{Step}
-use Rattle.entries.specs.declared.Step.the-variants.{Stop}
-use Rattle.entries.specs.States.{Lent, stateOf, Stepped}
+use Rattle.state.specs.declared.State.{State}
+use Rattle.state.specs.declared.Step.{Step}
+use Rattle.state.specs.declared.Step.the-variants.{Stop}
+use Rattle.state.specs.States.{Lent, stateOf, Stepped}
 use Rattle.entries.proofs.Stops.{stopped}
 use Rattle.tries.specs.Tries.{PivotFits}
 use Rattle.meaning.specs.Literals.{OfVariables}

@@ -1,6 +1,5 @@
 -- The second try with the witness of the code's two words is the one with the witness of the definition. The idea: PR asks a witness for
--- the
--- variables 1 to n alone. Assumes nothing.
+-- the variables 1 to n alone. Assumes nothing.
 use mathlib.Core.Path.{_≡_, refl, ap, ap₂, _∙_}
 use mathlib.Core.Bool.{Bool, true, cond}
 use mathlib.Core.List.{List, [], _∷_}

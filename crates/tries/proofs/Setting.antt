@@ -1,6 +1,5 @@
 -- The two words of a clause's witness have just the literals that the witness sets. The idea: variable by variable and sign by sign.
--- Assumes
--- nothing.
+-- Assumes nothing.
 use mathlib.Core.Path.{_≡_, refl, sym, ap, _∙_, subst}
 use mathlib.Core.Bool.{Bool, true, false, not, _&&_, _||_, Bool·beq}
 use mathlib.Core.List.{List, [], _∷_}

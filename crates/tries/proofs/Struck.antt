@@ -1,6 +1,5 @@
 -- A clause struck out: the live member of lowest place that is its diagram, found by its node's number. The idea: two numbers are equal
--- exactly where
--- their diagrams are. Assumes nothing.
+-- exactly where their diagrams are. Assumes nothing.
 use mathlib.Core.Path.{_≡_, refl, sym, ap, _∙_, subst}
 use mathlib.Core.Bool.{true, false}
 use mathlib.Core.List.{List}
@@ -32,9 +31,9 @@ use Rattle.verdict.specs.Steps.{withMarks, next, stop, diagramIn, isLive}
 use Rattle.verdict.specs.Clausal.{firstSame, strikeFound, strikeClause}
 use Rattle.verdict.specs.ClauseTaken.{IsThere}
 use Rattle.verdict.proofs.Striking.{first-some, first-none}
-use Rattle.entries.specs.declared.State.{State}
-use Rattle.entries.specs.declared.Step.the-variants.{Next, Stop}
-use Rattle.entries.specs.States.{Lent, lentOf, tableIn, stateOf, Held, Stepped}
+use Rattle.state.specs.declared.State.{State}
+use Rattle.state.specs.declared.Step.the-variants.{Next, Stop}
+use Rattle.state.specs.States.{Lent, lentOf, tableIn, stateOf, Held, Stepped}
 use Rattle.entries.proofs.Stops.{stopped}
 use Rattle.steps.proofs.Strikings.{marked-next}
 use Rattle.meaning.specs.Literals.{OfVariables}

@@ -1,6 +1,5 @@
 -- What the two tries of a clause say is what the definition says of it. The idea: its lines at 64 variables are those at the header's n,
--- and the
--- words of its witness are its witness. Assumes nothing.
+-- and the words of its witness are its witness. Assumes nothing.
 use Rattle.profile.specs.Admitted.{triedAs}
 use mathlib.Core.Path.{_≡_, refl, sym, ap, _∙_, subst}
 use mathlib.Core.Bool.{Bool, true, false, not, _||_, cond}
@@ -30,11 +29,12 @@ use Rattle.judge.proofs.Widths.{rup-at, pr-at}
 use Rattle.verdict.specs.Steps as check
 use Rattle.verdict.specs.Steps.{next, spent, judged, liveMembers}
 use Rattle.verdict.specs.Clausal.{withPeak, judgedOr, secondTry, afterFirst as onFailing, tries}
-use Rattle.entries.specs.declared.State.{State}
-use Rattle.entries.specs.States.{Lent, tableIn, stateOf, Held}
+use Rattle.state.specs.declared.State.{State}
+use Rattle.state.specs.States.{Lent, tableIn, stateOf, Held}
 use Rattle.steps.specs.Tried.{Tried, acceptedBy, saidBy}
 use Rattle.steps.proofs.Lines.{judged-said}
 use Rattle.steps.proofs.Strikings.{unstruck-inside}
+use Rattle.paths.specs.Rounds.{mostRounds}
 use Rattle.tries.specs.Words.{witnessWords}
 use Rattle.tries.specs.Tries.{liveIn, rupIn, prIn, untried, SecondTried, decided, afterFirst, BothTried, no-room, once, twice}
 use Rattle.tries.proofs.SecondTry.{second-same}
@@ -141,7 +141,7 @@ module _ (n : ℕ) (L : Lent) (st : State) (H : Held n L st) (k : ℕ) (k-in : k
 -- ---- the code's answers
 
 second-most : (t : Table) (live : List ℕ) (g : ℕ) (u : Literals) (pivot : Pivot) (r : Judged) → SecondTried t live g u pivot r →
-    r .rounds ≤ 262144
+    r .rounds ≤ mostRounds
 second-most t live g u Nothing r e = let z : r .rounds ≡ 0 = ap (λ (x : Judged). x .rounds) e in omega arith
 second-most t live g u (First v b) r W = W .most
 
@@ -155,7 +155,7 @@ module _ (t : Table) (live : List ℕ) where
   pub second-none : (g : ℕ) (u : Literals) (pivot : Pivot) → pivot ≡ Nothing → SecondTried t live g u pivot (untried false)
   second-none g u pivot e = subst (λ (q : Pivot). SecondTried t live g u q (untried false)) (sym e) refl
 
-  pub both-most : (c : DratClause) (made : Placed) (r : Judged) → BothTried t live c made r → r .rounds ≤ 262144
+  pub both-most : (c : DratClause) (made : Placed) (r : Judged) → BothTried t live c made r → r .rounds ≤ mostRounds
   both-most c made r (no-room f) = omega arith
   both-most c made r (once i f W d) = W .most
   both-most c made r (twice i k f W d Q) = second-most t live (made .node .0) (c .literals) (c .pivot) k Q

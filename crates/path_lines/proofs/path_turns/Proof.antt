@@ -1,6 +1,5 @@
 -- `path_turns` judges the turns of all paths. The invariant: the table is as it was, what is to be shown is what is left to be shown, and
--- the words
--- at hand are the next path's (Turning). Assumes nothing.
+-- the words at hand are the next path's (Turning). Assumes nothing.
 use mathlib.Core.Path.{_≡_, refl, sym, ap, _∙_, subst}
 use mathlib.Core.Bool.{Bool, true, false, not}
 use Rattle.meaning.proofs.Booleans.{not-not}
@@ -24,6 +23,7 @@ use Rattle.judge.proofs.Turning.{judgedAs}
 use Rattle.paths.specs.Paths.{pathLine, pathCount}
 use Rattle.paths.specs.Walk.{afterFrom, noPath}
 use Rattle.paths.proofs.Sequence.{count-is}
+use Rattle.paths.specs.Rounds.{mostRounds}
 use Rattle.path_lines.specs.Turns.{turnBy}
 use Rattle.path_lines.proofs.Turning.{Turning, Next, turning-none, next-first, next-after, turns-done, turns-full, turns-end}
 use Rattle.path_lines.proofs.Turning.{turns-on, added-fits, passed-fits}
@@ -315,7 +315,7 @@ returns c =
     let a = path-turn-from-then1 c in
     let s = start a in
     let w = reached a .loop in (
-      subst (λ (m : ℕ). LineSays (before s) (line s) 262144 (judgedAs true false 0 (a .path-turn .result .count) m) (table₁ a))
+      subst (λ (m : ℕ). LineSays (before s) (line s) mostRounds (judgedAs true false 0 (a .path-turn .result .count) m) (table₁ a))
           (sym (greater-from-then1 c .greater .ensures))
           (turns-full (before s) (s .args .members .now) (s .args .root .0) (good s) (s .pre .0 .0 .inside) (w .passed) (w .rounds)
           (w .peak) (w .inv .1) (w .literals) (here a) (a .path-turn .result) (table₁ a) (said a) (s .pre .0 .4) (c .if1 .taken)
@@ -387,10 +387,10 @@ returns-2 c =
     let a = turned d in
     let s = start a in
     let w = reached a .loop in (
-      subst (λ (t : Table). LineSays (before s) (line s) 262144
+      subst (λ (t : Table). LineSays (before s) (line s) mostRounds
           (judgedAs false false (w .rounds + a .path-turn .result .rounds) (s .args .count) (greater-from-then2 c .greater .result)) t)
           (sym (as-before d))
-          (subst (λ (m : ℕ). LineSays (before s) (line s) 262144
+          (subst (λ (m : ℕ). LineSays (before s) (line s) mostRounds
           (judgedAs false false (w .rounds + a .path-turn .result .rounds) (s .args .count) m) (before s))
           (sym (greater-from-then2 c .greater .ensures))
           (turns-end (before s) (s .args .members .now) (s .args .root .0) (good s) (s .pre .0 .0 .inside) (w .passed) (w .rounds) (w .peak)
@@ -478,7 +478,7 @@ returns-3 : tie.Need-returns-3 Inv-loop μ-loop
 returns-3 c =
     let s = start-from-return-3 c in
     let w = c .before .loop in (
-      subst (λ (t : Table). LineSays (before s) (line s) 262144 (judgedAs false true (w .rounds) (s .args .count) (w .peak)) t)
+      subst (λ (t : Table). LineSays (before s) (line s) mostRounds (judgedAs false true (w .rounds) (s .args .count) (w .peak)) t)
           (sym (w .inv .0))
           (turns-done (before s) (s .args .members .now) (s .args .root .0) (good s) (s .pre .0 .0 .inside) (w .passed) (w .rounds)
           (w .peak) (w .inv .1) (subst (λ (b : Bool). Next (before s) (s .args .members .now) (s .args .root .0) (w .passed) b

@@ -1,6 +1,6 @@
 -- `end_step`: each way out is one law of Stops. Assumes nothing.
 use borrow.Author.Needs.{needs}
-use Rattle.entries.specs.States.{stateOf}
+use Rattle.state.specs.States.{stateOf}
 use Rattle.entries.proofs.Entries.{waits-is}
 use Rattle.entries.proofs.Stops.{stopped}
 use Rattle.steps.proofs.Stops.{end-16, end-11, end-0, end-20}

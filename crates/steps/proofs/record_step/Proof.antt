@@ -2,7 +2,7 @@
 use mathlib.Core.Path.{refl}
 use borrow.Author.Needs.{needs}
 use native.Mathlib.Omega.{arith}
-use Rattle.entries.specs.States.{Lent, lentOf}
+use Rattle.state.specs.States.{Lent, lentOf}
 use Rattle.steps.proofs.Lines.{held-64}
 use Rattle.steps.proofs.Records.{as-node, as-witness, as-line, as-strike, as-set, as-end, cut-short, unknown-kind, no-record}
 use Rattle.steps.proofs.record_step.Statement.{statement}

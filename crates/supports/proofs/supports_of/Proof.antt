@@ -78,29 +78,29 @@ module _ (c : tie.Then2 Inv-loop μ-loop) where
   abbrev start-from-then2 : tie.Start Inv-loop μ-loop
   start-from-then2 = start-from-joined1 (joined1-from-at-loop at-loop-from-then2)
 
-module _ (c : tie.After-support-from-arg Inv-loop μ-loop) where
-  abbrev in-loop-from-support-from-call : tie.In-loop Inv-loop μ-loop
-  in-loop-from-support-from-call = in-loop-from-slice-read-known (c .before .before)
+module _ (c : tie.After-word-from-arg Inv-loop μ-loop) where
+  abbrev in-loop-from-word-from-call : tie.In-loop Inv-loop μ-loop
+  in-loop-from-word-from-call = in-loop-from-slice-read-known (c .before .before)
 
-  abbrev at-loop-from-support-from-call : tie.At-loop Inv-loop μ-loop
-  at-loop-from-support-from-call = at-loop-from-in-loop in-loop-from-support-from-call
+  abbrev at-loop-from-word-from-call : tie.At-loop Inv-loop μ-loop
+  at-loop-from-word-from-call = at-loop-from-in-loop in-loop-from-word-from-call
 
-  abbrev joined1-from-support-from-call : tie.Joined1 Inv-loop μ-loop
-  joined1-from-support-from-call = joined1-from-at-loop at-loop-from-support-from-call
+  abbrev joined1-from-word-from-call : tie.Joined1 Inv-loop μ-loop
+  joined1-from-word-from-call = joined1-from-at-loop at-loop-from-word-from-call
 
-  abbrev start-from-support-from-call : tie.Start Inv-loop μ-loop
-  start-from-support-from-call = start-from-joined1 joined1-from-support-from-call
+  abbrev start-from-word-from-call : tie.Start Inv-loop μ-loop
+  start-from-word-from-call = start-from-joined1 joined1-from-word-from-call
 
-module _ (c : tie.After-support-from Inv-loop μ-loop) where
-  abbrev slice-known5-from-support-from : tie.After-slice-known5 Inv-loop μ-loop
-  slice-known5-from-support-from = c .before .before .before
+module _ (c : tie.After-word-from Inv-loop μ-loop) where
+  abbrev slice-known5-from-word-from : tie.After-slice-known5 Inv-loop μ-loop
+  slice-known5-from-word-from = c .before .before .before
 
 module _ (c : tie.After-slice-known6 Inv-loop μ-loop) where
-  abbrev support-from-from-loop-less-2 : tie.After-support-from Inv-loop μ-loop
-  support-from-from-loop-less-2 = c .before .before
+  abbrev word-from-from-loop-less-2 : tie.After-word-from Inv-loop μ-loop
+  word-from-from-loop-less-2 = c .before .before
 
   abbrev in-loop-from-loop-less-2 : tie.In-loop Inv-loop μ-loop
-  in-loop-from-loop-less-2 = in-loop-from-slice-read-known (slice-known5-from-support-from support-from-from-loop-less-2)
+  in-loop-from-loop-less-2 = in-loop-from-slice-read-known (slice-known5-from-word-from word-from-from-loop-less-2)
 
   abbrev at-loop-from-loop-less-2 : tie.At-loop Inv-loop μ-loop
   at-loop-from-loop-less-2 = at-loop-from-in-loop in-loop-from-loop-less-2
@@ -200,14 +200,14 @@ loop-again c =
       length-set (w .words) (w .i) (getD (w .memo) k 0) ∙ w .inv .3,
     )
 
-support-from-requires : tie.Need-support-from-requires Inv-loop μ-loop
-support-from-requires c κs =
-    let r = start-from-support-from-call c .pre in
-    let w = at-loop-from-support-from-call c .loop in (
+word-from-requires : tie.Need-word-from-requires Inv-loop μ-loop
+word-from-requires c κs =
+    let r = start-from-word-from-call c .pre in
+    let w = at-loop-from-word-from-call c .loop in (
       (
         r .0,
-        r .1 (w .i) (in-loop-from-support-from-call c .loop-test .taken),
-        omega (arith, w .inv .2, begun (joined1-from-support-from-call c) .1, r .2),
+        r .1 (w .i) (in-loop-from-word-from-call c .loop-test .taken),
+        omega (arith, w .inv .2, begun (joined1-from-word-from-call c) .1, r .2),
       ),
       w .inv .1,
     )
@@ -232,7 +232,7 @@ loop-again-2 : tie.Need-loop-again-2 Inv-loop μ-loop
 loop-again-2 c =
     let a = start-from-loop-less-2 c .args in
     let w = at-loop-from-loop-less-2 c .loop in
-    let y = support-from-from-loop-less-2 c .support-from in (
+    let y = word-from-from-loop-less-2 c .word-from in (
       filled-next (nodesIn (a .vars .now) (a .lows .now) (a .highs .now) (a .count)) (a .list .now) (w .words) (w .i) (y .result) (w .inv .0)
           (in-loop-from-loop-less-2 c .loop-test .taken) (y .ensures .0),
       y .ensures .1,
@@ -275,7 +275,7 @@ supports-of-spec =
     add-i
     loop-less
     loop-again
-    support-from-requires
+    word-from-requires
     mul-words-2
     slice-write-words-2
     add-i-2

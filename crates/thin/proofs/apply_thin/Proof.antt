@@ -1,6 +1,5 @@
 -- `apply_thin` is the way down and the way up of the operation's kind and what it is by, which make it whole again: the node that the way
--- down
--- comes to is, under the steps written, the operation's result. Assumes nothing.
+-- down comes to is, under the steps written, the operation's result. Assumes nothing.
 use mathlib.Core.Path.{_≡_, refl, sym, ap, _∙_, subst}
 use mathlib.Core.List.{List}
 use Prim.Native.Nat.{ℕ}

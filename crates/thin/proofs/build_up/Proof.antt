@@ -1,6 +1,5 @@
 -- The steps are put one by one: at each turn the node, under the steps that are left, is the diagram asked for, and placing it in the table
--- as
--- it is now is placing it in the first. Assumes nothing.
+-- as it is now is placing it in the first. Assumes nothing.
 use mathlib.Core.Logic.{⊎-elim}
 use mathlib.Core.Path.{_≡_, refl, sym, ap₂, _∙_, subst}
 use mathlib.Core.Bool.{Bool}
@@ -157,7 +156,8 @@ module _ (c : tie.After-put Inv-loop μ-loop) where
 loop-holds : tie.Need-loop-holds Inv-loop μ-loop
 loop-holds c =
     let s = start-from-loop-holds c in (
-      rising-first (s .args .xs .now) (s .args .told .now) (s .args .sides .now) (entry s) (s .pre .0 .0) (s .args .depth) (s .args .node .0)
+      rising-first (s .args .xs .now) (s .args .told .now) (s .args .sides .now) (entry s) (s .pre .0 .0) (s .args .depth)
+          (s .args .node .0)
           (s .pre .0 .1) (s .pre .0 .2),
       omega arith,
       refl,

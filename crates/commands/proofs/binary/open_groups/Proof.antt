@@ -1,6 +1,5 @@
 -- `open_groups` reads to the zero byte. The loop: what is to be read is what is left to be read, with the literals so far. The measure is
--- what is left
--- of the proof, since groups have bytes. Assumes nothing.
+-- what is left of the proof, since groups have bytes. Assumes nothing.
 use mathlib.Core.Path.{_≡_, refl, sym, ap, _∙_}
 use Prim.Native.Nat.{_≤_, _-_}
 use native.Mathlib.Omega.{arith}

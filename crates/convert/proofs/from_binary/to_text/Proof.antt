@@ -1,6 +1,5 @@
 -- `to_text` puts clause after clause. The loop: what is to be converted is what is left to be converted, with the output so far. The
--- measure is what is left of
--- the proof, since a clause has bytes. Assumes nothing.
+-- measure is what is left of the proof, since a clause has bytes. Assumes nothing.
 use mathlib.Core.Path.{refl, sym, ap, _∙_, subst}
 use mathlib.Core.List.{List}
 use Prim.Native.Nat.{ℕ, _-_}

@@ -1,6 +1,5 @@
 -- `clause_literals` puts literal after literal, up to the closing 0. The loop: what is to be written is what is left to be written. The
--- measure is what is
--- left of the text, since a token has bytes. Assumes nothing.
+-- measure is what is left of the text, since a token has bytes. Assumes nothing.
 use mathlib.Core.Path.{_≡_, refl, sym, ap, _∙_}
 use mathlib.Core.List.{List}
 use Prim.Native.Nat.{ℕ, _≤_, _+_, _-_}

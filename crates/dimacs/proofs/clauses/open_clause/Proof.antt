@@ -1,6 +1,5 @@
 -- `open_clause` reads to the closing 0. The loop: what is to be read is what is left to be read, with the literals so far. The measure is
--- what is
--- left of the text, since a literal has bytes. Assumes nothing.
+-- what is left of the text, since a literal has bytes. Assumes nothing.
 use mathlib.Core.Path.{_≡_, refl, sym, _∙_}
 use Prim.Native.Nat.{_≤_, _<_, _-_}
 use native.Mathlib.Omega.{arith}

@@ -11,7 +11,7 @@ use Rattle.walks.proofs.Here.{good-readable}
 use Rattle.verdict.specs.Steps as check
 use Rattle.verdict.specs.Steps.{entryNode}
 use Rattle.entries.specs.declared.node.NodeTest.the-variants.{Fits}
-use Rattle.entries.specs.States.{Lent, lentOf, stateOf, stateWithEntry}
+use Rattle.state.specs.States.{Lent, lentOf, stateOf, stateWithEntry}
 use Rattle.entries.specs.Tests.{NodeTested}
 use Rattle.entries.proofs.Stops.{node-fits}
 use Rattle.entries.proofs.Entering.{few-there}

@@ -9,7 +9,7 @@ use lib.Dec.{leb}
 use borrow.Author.Tests.{not-true, not-false, ltb-true}
 use Rattle.verdict.specs.Steps as check
 use Rattle.verdict.specs.Steps.{isVariable, isEntry}
-use Rattle.entries.specs.States.{Lent, lentOf, stateOf}
+use Rattle.state.specs.States.{Lent, lentOf, stateOf}
 use Rattle.entries.proofs.Entries.{is-variable, variable-zero, variable-beyond}
 use Rattle.entries.proofs.Entries.{node-inside, node-is-at, above-is, entry-told, full-entries, few-entries, node-21, node-12}
 use Rattle.entries.proofs.Entries.{node-13-low, node-13-high, node-14-low, node-14-high, node-0}

@@ -6,7 +6,7 @@ use native.Mathlib.Omega.{arith}
 use Rattle.table.specs.Indexed.{Table, tableOf, Outcome, outcomeOf}
 use Rattle.table.proofs.Outcomes.{placeIn, Grown}
 use Rattle.verdict.specs.Steps.{setDiagram}
-use Rattle.entries.specs.States.{Lent, lentOf, stateWithEntry}
+use Rattle.state.specs.States.{Lent, lentOf, stateWithEntry}
 use Rattle.entries.specs.Tests.{setRefusal}
 use Rattle.entries.proofs.SetEntries.{set-fits, made-grown, set-refused, set-full, set-made}
 use borrow.Author.Needs.{needs}

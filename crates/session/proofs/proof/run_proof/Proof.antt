@@ -4,8 +4,8 @@ use lib.ListN.{length}
 use Rattle.table.specs.Indexed.{tableOf}
 use Rattle.verdict.specs.Steps as steps
 use Rattle.verdict.specs.Check.{proofFrom}
-use Rattle.entries.specs.declared.State.{State}
-use Rattle.entries.specs.States.{Lent, lentOf}
+use Rattle.state.specs.declared.State.{State}
+use Rattle.state.specs.States.{Lent, lentOf}
 use Rattle.session.proofs.Finish.{judged-is, first-is, first-held}
 use Rattle.session.proofs.proof.run_proof.Statement.{statement}
 use Rattle.session.proofs.proof.run_proof.Tie as tie

@@ -1,4 +1,5 @@
 -- `judge_line` judges by the line's rule, over the members in use. Assumes nothing.
+use Rattle.paths.specs.Rounds.{mostRounds}
 use Rattle.steps.specs.Tests.{FewPaths}
 use mathlib.Core.Path.{_≡_, sym, subst}
 use Prim.Native.Nat.{ℕ}
@@ -323,10 +324,10 @@ returns : tie.Need-returns
 returns c =
     let s = start-from-return c in
     let r = rup-from-return c .rup in (
-      subst (λ (x : Rule). LineSays (before s) (said s x) 262144 (r .result)
+      subst (λ (x : Rule). LineSays (before s) (said s x) mostRounds (r .result)
           (tableOf (r .last .0) (r .last .1 .0) (r .last .1 .1 .0) (r .last .1 .1 .1 .0) (r .last .1 .1 .1 .1 .0) (r .result .count)))
           (sym (enum-told-from-return c .enum-told .given .1))
-          (says-most (before s) _ _ 262144 (r .result) _ (omega arith) (r .ensures .0)),
+          (says-most (before s) _ _ mostRounds (r .result) _ (omega arith) (r .ensures .0)),
       r .ensures .1,
     )
 
@@ -367,10 +368,10 @@ returns-2 : tie.Need-returns-2
 returns-2 c =
     let s = start-from-return-2 c in
     let r = pr-from-return-2 c .pr in (
-      subst (λ (x : Rule). LineSays (before s) (said s x) 262144 (r .result)
+      subst (λ (x : Rule). LineSays (before s) (said s x) mostRounds (r .result)
           (tableOf (r .last .0) (r .last .1 .0) (r .last .1 .1 .0) (r .last .1 .1 .1 .0) (r .last .1 .1 .1 .1 .0) (r .result .count)))
           (sym (enum-told2-from-return-2 c .enum-told2 .given .1))
-          (says-most (before s) _ _ 262144 (r .result) _ (omega (arith, s .pre .2)) (r .ensures .0)),
+          (says-most (before s) _ _ mostRounds (r .result) _ (omega (arith, s .pre .2)) (r .ensures .0)),
       r .ensures .1,
     )
 
@@ -411,7 +412,7 @@ returns-3 : tie.Need-returns-3
 returns-3 c =
     let s = start-from-return-3 c in
     let r = path-from-return-3 c .path in (
-      subst (λ (x : Rule). LineSays (before s) (said s x) 262144 (r .result)
+      subst (λ (x : Rule). LineSays (before s) (said s x) mostRounds (r .result)
           (tableOf (r .last .0) (r .last .1 .0) (r .last .1 .1 .0) (r .last .1 .1 .1 .0) (r .last .1 .1 .1 .1 .0) (r .result .count)))
           (sym (enum-told3-from-return-3 c .enum-told3 .given .1))
           (r .ensures .0),

@@ -13,6 +13,7 @@ use Rattle.table.specs.Lists.{diagramsOf}
 use Rattle.verdict.specs.Steps.{unstruck}
 use Rattle.verdict.specs.Taken.{lineBy}
 use Rattle.judge.specs.Lines.{Negatable, LineSays}
+use Rattle.paths.specs.Rounds.{mostRounds}
 use Rattle.steps.proofs.Strikings.{unstruck-inside}
 use Rattle.steps.proofs.line.judge_live.Statement.{statement}
 use Rattle.steps.proofs.line.judge_live.Tie as tie
@@ -145,7 +146,7 @@ returns c =
     let j = judge-line-from-return c .judge-line in
     let a = live-members-from-return c in
     let s = begun a in (
-      subst (λ (ms : List ℕ). LineSays (before s) (said s ms) 262144 (j .result)
+      subst (λ (ms : List ℕ). LineSays (before s) (said s ms) mostRounds (j .result)
           (tableOf (j .last .0) (j .last .1 .0) (j .last .1 .1 .0) (j .last .1 .1 .1 .0) (j .last .1 .1 .1 .1 .0) (j .result .count)))
           (gathered-is a) (j .ensures .0),
       j .ensures .1,

@@ -10,7 +10,7 @@ use Rattle.walks.proofs.Here.{good-readable}
 use Rattle.verdict.specs.Steps as check
 use Rattle.verdict.specs.Steps.{entryNode}
 use Rattle.steps.specs.declared.line.LineTest.the-variants.{Fits}
-use Rattle.entries.specs.States.{Lent, lentOf, stateOf, Held}
+use Rattle.state.specs.States.{Lent, lentOf, stateOf, Held}
 use Rattle.verdict.specs.Taken.{lineOf}
 use Rattle.steps.specs.Tests.{lineRefusal, LineTested}
 use Rattle.steps.specs.Tried.{Tried}

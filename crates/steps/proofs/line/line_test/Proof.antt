@@ -10,7 +10,7 @@ use borrow.Author.Needs.{needs}
 use Rattle.records.specs.declared.Rule.{Rule}
 use Rattle.verdict.specs.Steps as check
 use Rattle.verdict.specs.Steps.{isEntry}
-use Rattle.entries.specs.States.{Lent, lentOf, stateOf}
+use Rattle.state.specs.States.{Lent, lentOf, stateOf}
 use Rattle.steps.specs.Tests.{lineRefusal}
 use Rattle.entries.proofs.Entries.{node-inside, node-is-at, is-one, not-one, waits-is, entry-told}
 use Rattle.steps.proofs.Lines.{shut-is, line-13, rup-16, rup-22, rup-17, rup-0, pr-22, pr-17, pr-18, pr-0, paths-told, path-16}

@@ -1,7 +1,7 @@
 -- `strike_step`: the ways out are laws of Strikings. Assumes nothing.
 use borrow.Author.Needs.{needs}
 use native.Mathlib.Omega.{arith}
-use Rattle.entries.specs.States.{lentOf}
+use Rattle.state.specs.States.{lentOf}
 use Rattle.entries.proofs.Entries.{waits-is}
 use Rattle.steps.proofs.Strikings.{live-beyond, live-struck, live-there, strike-16, strike-28, strike-next}
 use Rattle.steps.proofs.strike.strike_step.Statement.{statement}

@@ -11,7 +11,8 @@ use Rattle.table.specs.Indexed.{Table, tableOf, Good}
 use Rattle.table.proofs.Outcomes.{Grown}
 use Rattle.conflict.specs.Marks.{unmarked}
 use Rattle.clause.specs.Words.{clauseOfWords}
-use Rattle.entries.specs.States.{Lent, lentOf, tableIn, Held}
+use Rattle.state.specs.States.{Lent, lentOf, tableIn, Held}
+use Rattle.paths.specs.Rounds.{mostRounds}
 use Rattle.tries.specs.Tries.{liveIn, BothTried}
 use Rattle.tries.proofs.Trying.{both-most}
 use Rattle.tries.proofs.Adding.{outcomeAt, grown, tries-ready, Added, with-nodes, keep-fits, clause-22, code-17, code-stepped}
@@ -161,7 +162,7 @@ module _ (b : tie.After-both-tries) where
       (start made .args .clause) (made .make .result) (b .both-tries .result)
   tried = b .both-tries .ensures .0 .1
 
-  few-rounds : b .both-tries .result .rounds ≤ 262144
+  few-rounds : b .both-tries .result .rounds ≤ mostRounds
   few-rounds = both-most _ _ _ _ _ tried
 
   added : Added (lent (start made)) (start made .args .st) (table₁ made) (made .make .result) (b .both-tries .result)

@@ -8,8 +8,8 @@ use Rattle.records.specs.declared.Rule.the-variants.{Pr}
 use Rattle.conflict.specs.Marks.{unmarked}
 use Rattle.judge.specs.Lines.{Negatable}
 use Rattle.verdict.specs.Taken.{lineOf}
-use Rattle.entries.specs.declared.State.{State}
-use Rattle.entries.specs.States.{Lent, lentOf, stateOf}
+use Rattle.state.specs.declared.State.{State}
+use Rattle.state.specs.States.{Lent, lentOf, stateOf}
 use Rattle.steps.specs.Tried.{Tried}
 use Rattle.tries.specs.Tries.{PivotFits}
 use Rattle.tries.proofs.Trying.{second-tried, second-none}

@@ -8,7 +8,7 @@ use Rattle.table.specs.Nodes.{place}
 use Rattle.table.specs.Indexed.{Table, tableOf, size, nodesOf}
 use Rattle.table.specs.declared.Found.{Found}
 use Rattle.clause.specs.Words.{clauseOfWords, Stands}
-use Rattle.entries.specs.States.{Lent, lentOf}
+use Rattle.state.specs.States.{Lent, lentOf}
 use Rattle.tries.proofs.Struck.{strike-absent, strike-none, strike-lowest}
 use Rattle.tries.proofs.strike.strike_clause.Statement.{statement}
 use Rattle.tries.proofs.strike.strike_clause.Tie as tie

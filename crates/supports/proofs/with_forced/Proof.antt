@@ -6,8 +6,8 @@ use borrow.Author.Needs.{needs}
 use borrow.Author.Tests.{ne-eqb}
 use Rattle.meaning.proofs.Booleans.{or-left, or-right, eq-eqb}
 use Rattle.supports.proofs.ForcedWords.{with-zero, with-none}
-use Rattle.supports.proofs.forced.with_forced.Statement.{statement}
-use Rattle.supports.proofs.forced.with_forced.Tie as tie
+use Rattle.supports.proofs.with_forced.Statement.{statement}
+use Rattle.supports.proofs.with_forced.Tie as tie
 
 with-variable-requires : tie.Need-with-variable-requires
 with-variable-requires c κs = search needs

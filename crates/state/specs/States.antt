@@ -7,9 +7,10 @@ use Rattle.table.specs.Nodes.{at}
 use Rattle.table.specs.Indexed.{Table, tableOf, nodesOf, Good}
 use Rattle.verdict.specs.Steps as check
 use Rattle.table.specs.Lists.{Inside}
-use Rattle.entries.specs.declared.State.{State}
-use Rattle.entries.specs.declared.Step.{Step}
-use Rattle.entries.specs.declared.Step.the-variants.{Next, Stop, Spent}
+use Rattle.paths.specs.Rounds.{mostRounds}
+use Rattle.state.specs.declared.State.{State}
+use Rattle.state.specs.declared.Step.{Step}
+use Rattle.state.specs.declared.Step.the-variants.{Next, Stop, Spent}
 
 -- ---- the definition's state
 
@@ -80,7 +81,7 @@ pub record EntriesHeld (n : ℕ) (t : Table) (scratch : List ℕ) (entries : ℕ
   pub room : 4096 ≤ length scratch
   pub narrow : n ≤ 64
 
--- Every state between records, n being the header's variables: 131,072 is 64 rounds for each of 2,048 members.
+-- Every state between records, n being the header's variables.
 pub record Held (n : ℕ) (l : Lent) (st : State) : Type 0 where
   pub entries : EntriesHeld n (tableIn l (st .count)) (l .scratch) (st .entries)
   pub least : 2 ≤ st .kept
@@ -92,7 +93,7 @@ pub record Held (n : ℕ) (l : Lent) (st : State) : Type 0 where
   pub room : 2048 ≤ length (l .members)
   pub marked : length (l .struck) ≡ length (l .members)
   pub unmarked : (i : ℕ) → st .members ≤ i → getD (l .struck) i 0 ≡ 0
-  pub rounds : st .rounds ≤ st .lines * 262144
+  pub rounds : st .rounds ≤ st .lines * mostRounds
 
 -- A refused record leaves table, members and marks as they were.
 pub record Unmoved (l l′ : Lent) (st : State) : Type 0 where
