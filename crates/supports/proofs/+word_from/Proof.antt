@@ -158,20 +158,20 @@ word-from-shared-slice-read-v : (t : ℕ) → word-from-lts.Need-shared-slice-re
 word-from-shared-slice-read-v t c =
     search needs
 
-word-from-mul-t16 : (t : ℕ) → word-from-lts.Need-mul-t16 (callees t) (word-from-at t) word-from.Post
-word-from-mul-t16 t c =
+word-from-mul-t17 : (t : ℕ) → word-from-lts.Need-mul-t17 (callees t) (word-from-at t) word-from.Post
+word-from-mul-t17 t c =
     search needs
 
-word-from-shared-slice-read-t22 : (t : ℕ) → word-from-lts.Need-shared-slice-read-t22 (callees t) (word-from-at t) word-from.Post
-word-from-shared-slice-read-t22 t c =
+word-from-shared-slice-read-t23 : (t : ℕ) → word-from-lts.Need-shared-slice-read-t23 (callees t) (word-from-at t) word-from.Post
+word-from-shared-slice-read-t23 t c =
     search needs
 
-word-from-mul-t16-2 : (t : ℕ) → word-from-lts.Need-mul-t16-2 (callees t) (word-from-at t) word-from.Post
-word-from-mul-t16-2 t c =
+word-from-mul-t17-2 : (t : ℕ) → word-from-lts.Need-mul-t17-2 (callees t) (word-from-at t) word-from.Post
+word-from-mul-t17-2 t c =
     search needs
 
-word-from-shared-slice-read-t22-2 : (t : ℕ) → word-from-lts.Need-shared-slice-read-t22-2 (callees t) (word-from-at t) word-from.Post
-word-from-shared-slice-read-t22-2 t c =
+word-from-shared-slice-read-t23-2 : (t : ℕ) → word-from-lts.Need-shared-slice-read-t23-2 (callees t) (word-from-at t) word-from.Post
+word-from-shared-slice-read-t23-2 t c =
     search needs
 
 word-from-word-from-requires : (t : ℕ) → word-from-lts.Need-word-from-requires (callees t) (word-from-at t) word-from.Post
@@ -241,10 +241,10 @@ pub +word-from-spec : {M : Type 1} → statement M
     (word-from-slice-read-known t)
     (word-from-returns-2 t)
     (word-from-shared-slice-read-v t)
-    (word-from-mul-t16 t)
-    (word-from-shared-slice-read-t22 t)
-    (word-from-mul-t16-2 t)
-    (word-from-shared-slice-read-t22-2 t)
+    (word-from-mul-t17 t)
+    (word-from-shared-slice-read-t23 t)
+    (word-from-mul-t17-2 t)
+    (word-from-shared-slice-read-t23-2 t)
     (word-from-word-from-requires t)
     (word-from-word-from-requires-2 t)
     (word-from-with-node-requires t)
