@@ -111,7 +111,8 @@ unfolding stored
 right = tt
 
 right-at : (n k : ℕ) → n ≤ 32 → k ≤ 32 → T (rule n k (entry n k))
-right-at n k p q = below-at 33 (λ k. rule n k (entry n k)) (below-at 33 (λ n. below 33 (λ k. rule n k (entry n k))) right n (omega arith)) k (omega arith)
+right-at n k p q = below-at 33 (λ k. rule n k (entry n k)) (below-at 33 (λ n. below 33 (λ k. rule n k (entry n k))) right n (omega arith)) k
+    (omega arith)
 
 -- ---- Pascal's rule over the whole table
 

@@ -48,12 +48,14 @@ module _ (S : ℕ → Bool) where
   trues-none zero i = refl
   trues-none (suc k) i = rw (and-false (S i)) (trues-none k (suc i))
 
-  step : (k i : ℕ) (b : Bool) (a : Assignment) → (length a ≡ sizeFrom S k (suc i) → truesFrom S (suc i) (spreadFrom S k (suc i) a) ≡ trues a)
+  step : (k i : ℕ) (b : Bool) (a : Assignment) →
+      (length a ≡ sizeFrom S k (suc i) → truesFrom S (suc i) (spreadFrom S k (suc i) a) ≡ trues a)
       → (length (b ∷ a) ≡ sizeFrom S k (suc i) → truesFrom S (suc i) (spreadFrom S k (suc i) (b ∷ a)) ≡ trues (b ∷ a))
       → length (b ∷ a) ≡ sizeFrom S (suc k) i → (x : Bool) → S i ≡ x → truesFrom S i (spreadFrom S (suc k) i (b ∷ a)) ≡ trues (b ∷ a)
   step k i b a one two len true e =
       let n : length a ≡ sizeFrom S k (suc i) = omega (arith, len, size-in S k i e) in
-      ap (truesFrom S i) (spread-in k i b a e) ∙ trues-in S i b (spreadFrom S k (suc i) a) e ∙ ap (λ (m : ℕ). cond b (suc m) m) (one n) ∙ sym (trues-cons b a)
+      ap (truesFrom S i) (spread-in k i b a e) ∙ trues-in S i b (spreadFrom S k (suc i) a) e ∙ ap (λ (m : ℕ). cond b (suc m) m) (one n)
+      ∙ sym (trues-cons b a)
   step k i b a one two len false e =
       ap (truesFrom S i) (spread-out k i b a e) ∙ trues-out S i false (spreadFrom S k (suc i) (b ∷ a)) e ∙ two (len ∙ size-out S k i e)
 
@@ -75,13 +77,16 @@ pick k t m n x e q = elim (decLt t k) [
   | no h ↦ rw (e ∙ le-leb k t (omega (arith, h)), le-ltb t k (omega (arith, h)), q)
 ]
 
-false-fewer : (f : Assignment → Bool) (k : ℕ) (list : List Assignment) → ((a : Assignment) → Listed a list → f a ≡ leb k (trues a)) → falseOn f list ≡ fewer k list
+false-fewer : (f : Assignment → Bool) (k : ℕ) (list : List Assignment) → ((a : Assignment) → Listed a list → f a ≡ leb k (trues a)) →
+    falseOn f list ≡ fewer k list
 unfolding falseOn fewer makesFewer
 false-fewer f k [] is = refl
-false-fewer f k (a ∷ rest) is = pick k (trues a) (falseOn f rest) (fewer k rest) (f a) (is a (inl refl)) (false-fewer f k rest (λ b h. is b (inr h)))
+false-fewer f k (a ∷ rest) is = pick k (trues a) (falseOn f rest) (fewer k rest) (f a) (is a (inl refl))
+    (false-fewer f k rest (λ b h. is b (inr h)))
 
 -- the count by binomials is the count over the diagram's values
 pub excluded-counts : (S : ℕ → Bool) (n k : ℕ) → excludedBy n S k ≡ excluded (sizeOf n S) k
 unfolding excludedBy excluded AllLong
 excluded-counts S n k =
-    false-fewer (λ a. value (atLeast n S k) (spreadFrom S n 1 a)) k (assignments (sizeOf n S)) (λ a h. excluded-values S n k a (all-long (sizeOf n S) a h))
+    false-fewer (λ a. value (atLeast n S k) (spreadFrom S n 1 a)) k (assignments (sizeOf n S))
+    (λ a h. excluded-values S n k a (all-long (sizeOf n S) a h))

@@ -197,7 +197,7 @@ pub fn check_in<'a>(
         (now (formula .entry)) (now (proof .entry))) ⌝ }
     ensures { λ r. ⌜ (r .number ≡ 0 → Unsatisfiable (now (formula .entry))) ⌝ }
 {
-    session::call::call(
+    check_call::call(
         vars,
         lows,
         highs,

@@ -47,11 +47,13 @@ module _ (u : Literals) where
     words-true zero v x y e = absurd (omega arith)
     words-true (suc k) v x y e = words-step k ∙ go (ℕ-discrete v (suc k)) (λ ne. words-true k v x (omega arith) e)
       where
-        go : Dec (v ≡ suc k) → ((v ≡ suc k → ⊥) → wordsValue u k a ≡ true) → (cond (holds a (suc k)) (inWord p (suc k)) (inWord n (suc k)) || wordsValue u k a) ≡ true
+        go : Dec (v ≡ suc k) → ((v ≡ suc k → ⊥) → wordsValue u k a ≡ true) →
+            (cond (holds a (suc k)) (inWord p (suc k)) (inWord n (suc k)) || wordsValue u k a) ≡ true
         go (yes q) ih = or-left (cond (holds a (suc k)) (inWord p (suc k)) (inWord n (suc k))) (wordsValue u k a) (rw (← q) e)
         go (no ne) ih = or-right (cond (holds a (suc k)) (inWord p (suc k)) (inWord n (suc k))) (wordsValue u k a) (ih ne)
 
-    true-words : {A : Type 0} (k : ℕ) → wordsValue u k a ≡ true → ((v : ℕ) → 1 ≤ v → v ≤ k → cond (holds a v) (inWord p v) (inWord n v) ≡ true → A) → A
+    true-words : {A : Type 0} (k : ℕ) → wordsValue u k a ≡ true →
+        ((v : ℕ) → 1 ≤ v → v ≤ k → cond (holds a v) (inWord p v) (inWord n v) ≡ true → A) → A
     unfolding wordsValue
     true-words zero e f = t≢f (sym e)
     true-words (suc k) e f =
@@ -81,9 +83,11 @@ module _ (u : Literals) where
   unfolding clauseFrom
   not-one-from apart zero i lo e q = let z : _≡_ {A = Bool} false true = cc in t≢f (sym z)
   not-one-from apart (suc k) i lo e q =
-      go (inWord n i) (inWord p i) (one-sign apart i lo (omega arith)) (clauseWords k (suc i)) (not-one-from apart k (suc i) (omega arith) (omega arith)) q
+      go (inWord n i) (inWord p i) (one-sign apart i lo (omega arith)) (clauseWords k (suc i))
+      (not-one-from apart k (suc i) (omega arith) (omega arith)) q
     where
-      go : (low high : Bool) → (low && high) ≡ false → (rest : Diagram) → (rest ≡ leaf true → ⊥) → branch i (cond low (leaf true) rest) (cond high (leaf true) rest) ≡ leaf true → ⊥
+      go : (low high : Bool) → (low && high) ≡ false → (rest : Diagram) → (rest ≡ leaf true → ⊥) →
+          branch i (cond low (leaf true) rest) (cond high (leaf true) rest) ≡ leaf true → ⊥
       go true true d rest ne q = t≢f d
       go true false d rest ne q =
           let r : node i (leaf true) rest ≡ leaf true = sym (branch-differ i (leaf true) rest (λ e. ne (sym e))) ∙ q in

@@ -1,5 +1,5 @@
--- A clause looked for in the table: while the clause of the later variables stands there, the next node is looked up over it; where that does
--- not stand there, the clause does not. The idea: a diagram that stands there has its sides there. Assumes nothing.
+-- A clause looked for in the table: while the clause of the later variables stands there, the next node is looked up over it; where that
+-- does not stand there, the clause does not. The idea: a diagram that stands there has its sides there. Assumes nothing.
 use mathlib.Core.Path.{_≡_, refl, sym, ap, ap₂, _∙_, subst}
 use mathlib.Core.Bool.{Bool, true, false, _&&_, cond}
 use mathlib.Core.List.{List, [], _∷_, _++_}
@@ -37,7 +37,8 @@ unfolding orAppend
 appended s t x k e = go (ltb (length t) s) e
   where
     go : (b : Bool) → cond b (placed (t ++ x ∷ []) (length t)) (full t) ≡ placed t k → ⊥
-    go true e = let longer : length (t ++ x ∷ []) ≡ length t = ap (λ (p : Placing). length (nodesAfter p)) e in omega (arith, length-append t (x ∷ []))
+    go true e = let longer : length (t ++ x ∷ []) ≡ length t = ap (λ (p : Placing). length (nodesAfter p)) e in
+        omega (arith, length-append t (x ∷ []))
     go false e = let z : _≡_ {A = ℕ} 0 1 = cc in omega arith
 
 module _ (s : ℕ) (t : List Node) (v l h : ℕ) where
@@ -63,7 +64,8 @@ module _ (t : List Node) (O : Ordered t) (v : ℕ) (l h : Diagram) where
   node-sides _ p e is-one = let z : _≡_ {A = ℕ} 0 1 = cc (diagramAt-one t) in absurd (omega arith)
   node-sides k p e (from-two two) =
       let F : Fits t k (at t k) = O .fits k two p in
-      let d : node (at t k .var) (diagramAt t (at t k .low)) (diagramAt t (at t k .high)) ≡ node v l h = sym (diagramAt-node t O k two p) ∙ e in
+      let d : node (at t k .var) (diagramAt t (at t k .low)) (diagramAt t (at t k .high)) ≡ node v l h = sym (diagramAt-node t O k two p)
+      ∙ e in
       let low : diagramAt t (at t k .low) ≡ l = cc in
       let high : diagramAt t (at t k .high) ≡ h = cc in
       ((at t k .low, omega (arith, F .low-less), low), (at t k .high, omega (arith, F .high-less), high))
@@ -118,7 +120,8 @@ module _ (T : Table) (G : Good T) (u : Literals) where
   -- what is given has the clause's diagram
   pub stands-is : (k : ℕ) → wanted ≡ placed t k → (k < length t) × (diagramAt t k ≡ clauseOfWords u)
   stands-is k e =
-      let M : Made (size T) t (clauseOfWords u) t k = subst (After (size T) t (clauseOfWords u)) e (place-after (size T) t (good-ordered T G) (clauseOfWords u) (of-words-reduced u)) in
+      let M : Made (size T) t (clauseOfWords u) t k = subst (After (size T) t (clauseOfWords u)) e
+      (place-after (size T) t (good-ordered T G) (clauseOfWords u) (of-words-reduced u)) in
       (M .inside, M .is)
 
   -- and where nothing is given, no node has it
@@ -130,10 +133,12 @@ module _ (T : Table) (G : Good T) (u : Literals) where
     unfolding clauseFrom
     down zero k q S = let z : 64 ≡ k = omega arith in subst (λ (x : ℕ). Standing t (clauseWords u x 1)) z S
     down (suc i) k q S =
-        rest-stands t (good-ordered T G) (suc i) (clauseWords u k (suc (suc i))) (inWord n (suc i)) (inWord p (suc i)) (one-sign u apart (suc i) (omega arith) (omega arith))
+        rest-stands t (good-ordered T G) (suc i) (clauseWords u k (suc (suc i))) (inWord n (suc i)) (inWord p (suc i))
+        (one-sign u apart (suc i) (omega arith) (omega arith))
         (down i (suc k) (omega arith) S)
 
-    module _ (v : ℕ) (some : 0 < v) (k : ℕ) (M : Making T u v (stay T k)) (l h : ℕ) (low : l ≡ cond (inWord n v) 1 k) (high : h ≡ cond (inWord p v) 1 k) where
+    module _ (v : ℕ) (some : 0 < v) (k : ℕ) (M : Making T u v (stay T k)) (l h : ℕ) (low : l ≡ cond (inWord n v) 1 k)
+        (high : h ≡ cond (inWord p v) 1 k) where
       pub find-turn : (j : ℕ) → put (size T) t v l h ≡ placed t j → Making T u (v - 1) (stay T j)
       find-turn j e =
           make-turn T G u apart v some (stay T k) M l h low high (stay T j) (stays-written T G j ∙ ap (written (size T)) (sym e)) .next refl
@@ -143,4 +148,5 @@ module _ (T : Table) (G : Good T) (u : Literals) where
           let (q, is) = stands-is j e in
           let (j′, q′, is′) = down (v - 1) (64 - (v - 1)) (omega (arith, M .most)) (j, q, is ∙ words-are u) in
           absent j′ (written-stays T (put (size T) t v l h) j′
-          (next-is T G u apart v some (stay T k) M l h low high (putIn T v l h) refl ∙ ap (placeIn T) (sym is′) ∙ there T G j′ (omega (arith, length-nodes T G))))
+          (next-is T G u apart v some (stay T k) M l h low high (putIn T v l h) refl ∙ ap (placeIn T) (sym is′)
+          ∙ there T G j′ (omega (arith, length-nodes T G))))

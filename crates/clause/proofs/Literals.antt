@@ -30,7 +30,8 @@ value-within : (n : ℕ) (ls : List Literal) (a : Assignment) → OfVariables n 
 unfolding clauseValue literalValue
 value-within n [] a i = refl
 value-within n (l ∷ ls) a i =
-    ap₂ _||_ (ap (λ (x : Bool). Bool·beq x (l .positive)) (sym (getD-take n a (l .variable - 1) false (omega arith)))) (value-within n ls a (i .2))
+    ap₂ _||_ (ap (λ (x : Bool). Bool·beq x (l .positive)) (sym (getD-take n a (l .variable - 1) false (omega arith))))
+    (value-within n ls a (i .2))
 
 clause-width : (n m : ℕ) → n ≤ m → (ls : List Literal) → OfVariables n ls → clause m ls ≡ clause n ls
 unfolding clause
@@ -39,11 +40,13 @@ clause-width n m le ls i = diagram-width n m (clauseValue ls) (clauseValue ls) l
 -- ---- the clause
 
 -- of any set that has just the literals
-words-clause : (n : ℕ) → n ≤ 64 → (ls : List Literal) → OfVariables n ls → (u : Literals) → ((v : ℕ) (s : Bool) → 1 ≤ v → v ≤ 64 → has u v s ≡ occurs ls v s)
+words-clause : (n : ℕ) → n ≤ 64 → (ls : List Literal) → OfVariables n ls → (u : Literals) →
+    ((v : ℕ) (s : Bool) → 1 ≤ v → v ≤ 64 → has u v s ≡ occurs ls v s)
     → clauseOfWords u ≡ clause n ls
 unfolding has
 words-clause n le ls i u is =
-    words-are u ∙ sym (clause-is 64 ls (inWord (u .positive)) (inWord (u .negative)) (within-more n 64 le ls i) (λ v. is v true) (λ v. is v false)) ∙ clause-width n 64 le ls i
+    words-are u ∙ sym (clause-is 64 ls (inWord (u .positive)) (inWord (u .negative)) (within-more n 64 le ls i) (λ v. is v true)
+    (λ v. is v false)) ∙ clause-width n 64 le ls i
 
 -- of the set that the reader gives
 pub clause-of-words : (n : ℕ) → n ≤ 64 → (ls : List Literal) → OfVariables n ls → clauseOfWords (literalsOf ls) ≡ clause n ls

@@ -1,5 +1,5 @@
--- One turn of making a clause: where the clause of the later variables is placed, putting a node over it places the clause with one variable
--- more; where it found no room, that clause finds none. The idea: node 1 and what is made are there already. Assumes nothing.
+-- One turn of making a clause: where the clause of the later variables is placed, putting a node over it places the clause with one
+-- variable more; where it found no room, that clause finds none. The idea: node 1 and what is made are there already. Assumes nothing.
 use mathlib.Core.Path.{_≡_, refl, sym, ap, _∙_}
 use mathlib.Core.Bool.{Bool, true, false, _&&_, cond}
 use Prim.Native.Nat.{ℕ, zero, suc, _+_, _-_, _≤_, _<_}
@@ -37,7 +37,8 @@ module _ (T : Table) (G : Good T) (v : ℕ) (rest : Diagram) (r : Reduced 1 65 r
   side-reduced true = tt
   side-reduced false = r
 
-  no-room-yet : (low high : Bool) → (low && high) ≡ false → o .full ≡ true → o ≡ placeIn T (branch v (cond low (leaf true) rest) (cond high (leaf true) rest))
+  no-room-yet : (low high : Bool) → (low && high) ≡ false → o .full ≡ true → o
+      ≡ placeIn T (branch v (cond low (leaf true) rest) (cond high (leaf true) rest))
   no-room-yet true true d f = t≢f d
   no-room-yet true false d f = high-full T G v (leaf true) rest tt r (stay T 1) (one-there T G) refl o e f
   no-room-yet false high d f = low-full T G v rest (cond high (leaf true) rest) r (side-reduced high) o e f
@@ -51,7 +52,8 @@ module _ (T : Table) (G : Good T) (v : ℕ) (rest : Diagram) (r : Reduced 1 65 r
       joined T G v rest (leaf true) r tt o e f (stay (o .table) 1) (one-there (o .table) (grown T G rest r o e .good)) refl o′ q
   one-more false false d f o′ q =
       let W : Grown T rest o = grown T G rest r o e in
-      joined T G v rest rest r r o e f (stay (o .table) (o .node)) (sym (there (o .table) (W .good) (o .node) (W .inside)) ∙ ap (placeIn (o .table)) (W .is f)) refl o′ q
+      joined T G v rest rest r r o e f (stay (o .table) (o .node))
+      (sym (there (o .table) (W .good) (o .node) (W .inside)) ∙ ap (placeIn (o .table)) (W .is f)) refl o′ q
 
 -- ---- the turns
 
@@ -81,7 +83,8 @@ module _ (T : Table) (G : Good T) (u : Literals) where
 
   made-so-far : (v : ℕ) → v ≤ 64 → (o : Outcome) → o .full ≡ false → o ≡ placeIn T (clauseWords u (64 - v) (suc v)) → Making T u v o
   made-so-far v most o f e =
-      let W : Grown T (clauseWords u (64 - v) (suc v)) o = grown T G (clauseWords u (64 - v) (suc v)) (from-one (64 - v) v (omega arith)) o e in
+      let W : Grown T (clauseWords u (64 - v) (suc v)) o = grown T G (clauseWords u (64 - v) (suc v)) (from-one (64 - v) v (omega arith)) o
+      e in
       record { most = most; going = f; good = W .good; same-size = W .same-size; is = e }
 
   pub make-start : Making T u 64 (stay T 0)
@@ -98,14 +101,17 @@ module _ (T : Table) (G : Good T) (u : Literals) where
 
   module _ (apart : shares 64 p n ≡ false) where
     -- without room once, without room to the end
-    full-on : (i k : ℕ) → suc i + k ≡ 65 → (o : Outcome) → o .full ≡ true → o ≡ placeIn T (clauseWords u k (suc i)) → o ≡ placeIn T (clauseWords u 64 1)
+    full-on : (i k : ℕ) → suc i + k ≡ 65 → (o : Outcome) → o .full ≡ true → o ≡ placeIn T (clauseWords u k (suc i)) → o
+        ≡ placeIn T (clauseWords u 64 1)
     unfolding clauseFrom
     full-on zero k q o f e = let z : k ≡ 64 = omega arith in e ∙ ap (λ (x : ℕ). placeIn T (clauseWords u x 1)) z
     full-on (suc i) k q o f e =
         full-on i (suc k) (omega arith) o f
-        (no-room-yet T G (suc i) (clauseWords u k (suc (suc i))) (from-one k (suc i) q) o e (inWord n (suc i)) (inWord p (suc i)) (one-sign u apart (suc i) (omega arith) (omega arith)) f)
+        (no-room-yet T G (suc i) (clauseWords u k (suc (suc i))) (from-one k (suc i) q) o e (inWord n (suc i)) (inWord p (suc i))
+        (one-sign u apart (suc i) (omega arith) (omega arith)) f)
 
-    module _ (v : ℕ) (some : 0 < v) (o : Outcome) (M : Making T u v o) (l h : ℕ) (low : l ≡ cond (inWord n v) 1 (o .node)) (high : h ≡ cond (inWord p v) 1 (o .node))
+    module _ (v : ℕ) (some : 0 < v) (o : Outcome) (M : Making T u v o) (l h : ℕ) (low : l ≡ cond (inWord n v) 1 (o .node))
+        (high : h ≡ cond (inWord p v) 1 (o .node))
         (o′ : Outcome) (put : o′ ≡ putIn (o .table) v l h) where
       pub next-is : o′ ≡ placeIn T (clauseWords u (64 - (v - 1)) (suc (v - 1)))
       unfolding clauseFrom
@@ -113,7 +119,8 @@ module _ (T : Table) (G : Good T) (u : Literals) where
           let z : 64 - (v - 1) ≡ suc (64 - v) = omega (arith, M .most) in
           let y : suc (v - 1) ≡ v = omega arith in
           rw (z, y)
-          (one-more T G v (clauseWords u (64 - v) (suc v)) (from-one (64 - v) v (omega (arith, M .most))) o (M .is) (inWord n v) (inWord p v) (one-sign u apart v (omega arith) (M .most))
+          (one-more T G v (clauseWords u (64 - v) (suc v)) (from-one (64 - v) v (omega (arith, M .most))) o (M .is) (inWord n v)
+          (inWord p v) (one-sign u apart v (omega arith) (M .most))
           (M .going) o′ (rw (low, high) at put))
 
       -- with room the next turn starts, without it the clause finds none

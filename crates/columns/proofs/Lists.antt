@@ -35,7 +35,8 @@ module _ (f : Node → ℕ) where
   abbrev pub column : List Node → List ℕ → ℕ → List ℕ
   column ys xs i = map f (take i ys) ++ drop i xs
 
-  pub column-step : (ys : List Node) (xs : List ℕ) (i : ℕ) → i < length ys → i < length xs → set (column ys xs i) i (f (getD ys i blank)) ≡ column ys xs (suc i)
+  pub column-step : (ys : List Node) (xs : List ℕ) (i : ℕ) → i < length ys → i < length xs → set (column ys xs i) i (f (getD ys i blank))
+      ≡ column ys xs (suc i)
   column-step [] xs i l m = absurd (omega (arith, l))
   column-step (y ∷ ys) [] i l m = absurd (omega (arith, m))
   column-step (y ∷ ys) (x ∷ xs) zero l m = refl
@@ -54,20 +55,24 @@ slice vs ls hs ys i = asNodes (take i vs) (take i ls) (take i hs) ++ drop i ys
 abbrev pub nodeAt : List ℕ → List ℕ → List ℕ → ℕ → Node
 nodeAt vs ls hs i = record { var = getD vs i 0; low = getD ls i 0; high = getD hs i 0 }
 
-pub slice-step : (vs ls hs : List ℕ) (ys : List Node) (i : ℕ) → i < length vs → i < length ls → i < length hs → i < length ys → set (slice vs ls hs ys i) i (nodeAt vs ls hs i) ≡ slice vs ls hs ys (suc i)
+pub slice-step : (vs ls hs : List ℕ) (ys : List Node) (i : ℕ) → i < length vs → i < length ls → i < length hs → i < length ys →
+    set (slice vs ls hs ys i) i (nodeAt vs ls hs i) ≡ slice vs ls hs ys (suc i)
 unfolding asNodes
 slice-step [] ls hs ys i a b c d = absurd (omega (arith, a))
 slice-step (v ∷ vs) [] hs ys i a b c d = absurd (omega (arith, b))
 slice-step (v ∷ vs) (l ∷ ls) [] ys i a b c d = absurd (omega (arith, c))
 slice-step (v ∷ vs) (l ∷ ls) (h ∷ hs) [] i a b c d = absurd (omega (arith, d))
 slice-step (v ∷ vs) (l ∷ ls) (h ∷ hs) (y ∷ ys) zero a b c d = refl
-slice-step (v ∷ vs) (l ∷ ls) (h ∷ hs) (y ∷ ys) (suc i) a b c d = ap (λ (r : List Node). record { var = v; low = l; high = h } ∷ r) (slice-step vs ls hs ys i (omega (arith, a)) (omega (arith, b)) (omega (arith, c)) (omega (arith, d)))
+slice-step (v ∷ vs) (l ∷ ls) (h ∷ hs) (y ∷ ys) (suc i) a b c d = ap (λ (r : List Node). record { var = v; low = l; high = h } ∷ r)
+    (slice-step vs ls hs ys i (omega (arith, a)) (omega (arith, b)) (omega (arith, c)) (omega (arith, d)))
 
-pub slice-length : (vs ls hs : List ℕ) (ys : List Node) (i : ℕ) → i ≤ length vs → i ≤ length ls → i ≤ length hs → i ≤ length ys → length (slice vs ls hs ys i) ≡ length ys
+pub slice-length : (vs ls hs : List ℕ) (ys : List Node) (i : ℕ) → i ≤ length vs → i ≤ length ls → i ≤ length hs → i ≤ length ys →
+    length (slice vs ls hs ys i) ≡ length ys
 unfolding asNodes
 slice-length vs ls hs ys zero a b c d = refl
 slice-length [] ls hs ys (suc i) a b c d = absurd (omega (arith, a))
 slice-length (v ∷ vs) [] hs ys (suc i) a b c d = absurd (omega (arith, b))
 slice-length (v ∷ vs) (l ∷ ls) [] ys (suc i) a b c d = absurd (omega (arith, c))
 slice-length (v ∷ vs) (l ∷ ls) (h ∷ hs) [] (suc i) a b c d = absurd (omega (arith, d))
-slice-length (v ∷ vs) (l ∷ ls) (h ∷ hs) (y ∷ ys) (suc i) a b c d = ap suc (slice-length vs ls hs ys i (omega (arith, a)) (omega (arith, b)) (omega (arith, c)) (omega (arith, d)))
+slice-length (v ∷ vs) (l ∷ ls) (h ∷ hs) (y ∷ ys) (suc i) a b c d = ap suc
+    (slice-length vs ls hs ys i (omega (arith, a)) (omega (arith, b)) (omega (arith, c)) (omega (arith, d)))

@@ -1,4 +1,5 @@
--- The call of `load` by a function that has the nodes and the three columns in memory: they are lent for the call, and come back with the columns filled.
+-- The call of `load` by a function that has the nodes and the three columns in memory: they are lent for the call, and come back with the
+-- columns filled.
 --     before       what `load` asks is had, beside what the lender keeps.        after        what `load` leaves is had again
 -- All that is known of `load` is its contract.
 -- Assumes `Given`.
@@ -19,7 +20,8 @@ use prog.Wp.{Heap}
 use ghost.Atoms.{Atoms, sem}
 use contract.Lifetimes.{Lfts}
 use contract.Monad.{Fun, fact}
-use types.Kit.{Given, Item, ‵, raw, _⊛_, some, later, ⋆, _$_, _∵_, !, qed, move, keep, use1, use2, use3, split, split3, join, pick, group, check, rewrite, fsplit, fsplit3, fjoin, feqL, frame, await, updating, now as at-once, show, done}
+use types.Kit.{Given, Item, ‵, raw, _⊛_, some, later, ⋆, _$_, _∵_, !, qed, move, keep, use1, use2, use3, split, split3, join, pick, group}
+use types.Kit.{check, rewrite, fsplit, fsplit3, fjoin, feqL, frame, await, updating, now as at-once, show, done}
 use denote.Laws.{Is}
 use denote.Plain.{uint-makes}
 use denote.Builtin.{u8, u16, usize, unit}
@@ -44,49 +46,86 @@ Load 𝓤 H A mem run = tripleOf 𝓤 H A load-fn.signature (load-fn.spec 𝓤 H
 abbrev pub Loans : Type 0
 Loans = Loan × (Loan × (Loan × Loan))
 
-module _ {M : Type 1} (𝓤 : URA M) (H : Heap 𝓤) (A : Atoms 𝓤) (W : Given 𝓤 H A) (mem : Memory → SProp 𝓤) (run : Routine → Fun 𝓤) (q : Share) (sp : Spot) (cs : Filled) (n : ℕ) (cut : Cut (length (sp .ys)) n) where
+module _ {M : Type 1} (𝓤 : URA M) (H : Heap 𝓤) (A : Atoms 𝓤) (W : Given 𝓤 H A) (mem : Memory → SProp 𝓤) (run : Routine → Fun 𝓤) (q : Share)
+    (sp : Spot) (cs : Filled) (n : ℕ) (cut : Cut (length (sp .ys)) n) where
   abbrev lfts : Loans → Lfts 4
   lfts p = (lifetime (p .0), (lifetime (p .1 .0), (lifetime (p .1 .1 .0), (lifetime (p .1 .1 .1), tt))))
 
   abbrev x : (p : Loans) → Args load-fn.signature (lfts p)
-  x p = (lent-as N.the-row (sp .bN) (sp .oN) (p .0) (sp .ys), (n, (lent-as u8 (sp .bV) 0 (p .1 .0) (cs .vs), (lent-as u16 (sp .bL) 0 (p .1 .1 .0) (cs .ls), (lent-as u16 (sp .bH) 0 (p .1 .1 .1) (cs .hs), tt)))))
+  x p = (
+    lent-as N.the-row (sp .bN) (sp .oN) (p .0) (sp .ys),
+    (
+      n,
+      (
+        lent-as u8 (sp .bV) 0 (p .1 .0) (cs .vs),
+        (lent-as u16 (sp .bL) 0 (p .1 .1 .0) (cs .ls), (lent-as u16 (sp .bH) 0 (p .1 .1 .1) (cs .hs), tt)),
+      ),
+    ),
+  )
 
   abbrev at : (p : Loans) → Vals load-fn.signature (lfts p)
-  at p = (sliceVal ((sp .bN), (sp .oN)) (length (sp .ys)) ∷ [], (vint w64 n ∷ [], (sliceVal ((sp .bV), 0) 65536 ∷ [], (sliceVal ((sp .bL), 0) 65536 ∷ [], (sliceVal ((sp .bH), 0) 65536 ∷ [], tt)))))
+  at p = (
+    sliceVal ((sp .bN), (sp .oN)) (length (sp .ys)) ∷ [],
+    (vint w64 n ∷ [], (sliceVal ((sp .bV), 0) 65536 ∷ [], (sliceVal ((sp .bL), 0) 65536 ∷ [], (sliceVal ((sp .bH), 0) 65536 ∷ [], tt)))),
+  )
 
   abbrev pub to : Loans → Load 𝓤 H A mem run .Ghost
   to p = ((lfts p, (fullShare, (fullShare, (fullShare, (fullShare, tt)))), tt, x p, at p), tt)
 
   abbrev pub Kept : Loans → Fml
-  Kept p = fsep (Sharer N.the-row (sp .bN) (sp .oN) (p .0) q (length (sp .ys)) (sp .ys)) (fsep (Lender u8 (sp .bV) 0 (p .1 .0) 65536) (fsep (Lender u16 (sp .bL) 0 (p .1 .1 .0) 65536) (Lender u16 (sp .bH) 0 (p .1 .1 .1) 65536)))
+  Kept p = fsep (Sharer N.the-row (sp .bN) (sp .oN) (p .0) q (length (sp .ys)) (sp .ys))
+      (fsep (Lender u8 (sp .bV) 0 (p .1 .0) 65536)
+      (fsep (Lender u16 (sp .bL) 0 (p .1 .1 .0) 65536) (Lender u16 (sp .bH) 0 (p .1 .1 .1) 65536)))
 
   abbrev Has : Loans → List (Item 𝓤)
-  Has p = ‵ (flft (lifetime (p .0)) fullShare) ∷ ‵ (flft (lifetime (p .1 .0)) fullShare) ∷ ‵ (flft (lifetime (p .1 .1 .0)) fullShare) ∷ ‵ (flft (lifetime (p .1 .1 .1)) fullShare)
-      ∷ ‵ (ShrSlice (named 0) (lifetime (p .0)) N.the-row .own (x p .0) (at p .0)) ∷ ‵ (MutSlice (named 1) (lifetime (p .1 .0)) u8 .own (x p .1 .1 .0) (at p .1 .1 .0))
-      ∷ ‵ (MutSlice (named 2) (lifetime (p .1 .1 .0)) u16 .own (x p .1 .1 .1 .0) (at p .1 .1 .1 .0)) ∷ ‵ (MutSlice (named 3) (lifetime (p .1 .1 .1)) u16 .own (x p .1 .1 .1 .1 .0) (at p .1 .1 .1 .1 .0)) ∷ []
+  Has p = ‵ (flft (lifetime (p .0)) fullShare) ∷ ‵ (flft (lifetime (p .1 .0)) fullShare) ∷ ‵ (flft (lifetime (p .1 .1 .0)) fullShare) ∷
+      ‵ (flft (lifetime (p .1 .1 .1)) fullShare)
+      ∷ ‵ (ShrSlice (named 0) (lifetime (p .0)) N.the-row .own (x p .0) (at p .0)) ∷
+      ‵ (MutSlice (named 1) (lifetime (p .1 .0)) u8 .own (x p .1 .1 .0) (at p .1 .1 .0))
+      ∷ ‵ (MutSlice (named 2) (lifetime (p .1 .1 .0)) u16 .own (x p .1 .1 .1 .0) (at p .1 .1 .1 .0)) ∷
+      ‵ (MutSlice (named 3) (lifetime (p .1 .1 .1)) u16 .own (x p .1 .1 .1 .1 .0) (at p .1 .1 .1 .1 .0)) ∷ []
 
   asks : (p : Loans) → ent 𝓤 (⋆ 𝓤 H A (Has p)) (Load 𝓤 H A mem run .pre (to p))
   asks p =
       qed W (Has p) ∵ says ! (cut .0, omega (arith, cut .1, cs .eV), omega (arith, cut .1, cs .eL), omega (arith, cut .1, cs .eH)) $
-      nothing ! $ move ! (4 ∷ 0 ∷ []) $ join ! $ move ! (3 ∷ 0 ∷ []) $ join ! $ move ! (2 ∷ 0 ∷ []) $ join ! $ move ! (1 ∷ 0 ∷ []) $ join ! $ frame ! $
-      nothing ! $ move ! (4 ∷ 0 ∷ []) $ fjoin ! $ move ! (3 ∷ 0 ∷ []) $ fjoin ! $ move ! (2 ∷ 0 ∷ []) $ fjoin ! $ owned ! usize (Is usize) (uint-makes 𝓤 H A W w64) n (vint w64 n ∷ []) (refl, omega (arith, cut .1)) $ fjoin ! $ move ! (1 ∷ 0 ∷ []) $ fjoin ! $ done !
+      nothing ! $ move ! (4 ∷ 0 ∷ []) $ join ! $ move ! (3 ∷ 0 ∷ []) $ join ! $ move ! (2 ∷ 0 ∷ []) $ join ! $ move ! (1 ∷ 0 ∷ []) $
+      join ! $ frame ! $
+      nothing ! $ move ! (4 ∷ 0 ∷ []) $ fjoin ! $ move ! (3 ∷ 0 ∷ []) $ fjoin ! $ move ! (2 ∷ 0 ∷ []) $ fjoin ! $
+      owned ! usize (Is usize) (uint-makes 𝓤 H A W w64) n (vint w64 n ∷ []) (refl, omega (arith, cut .1)) $ fjoin ! $
+      move ! (1 ∷ 0 ∷ []) $ fjoin ! $ done !
 
-  pub before : ent 𝓤 (sem 𝓤 H A (Table q sp (sp .ys) (cs .vs) (cs .ls) (cs .hs))) (H .⇛ (ex 𝓤 (λ (p : Loans). sep 𝓤 (Load 𝓤 H A mem run .pre (to p)) (sem 𝓤 H A (Kept p)))))
+  pub before : ent 𝓤 (sem 𝓤 H A (Table q sp (sp .ys) (cs .vs) (cs .ls) (cs .hs)))
+      (H .⇛ (ex 𝓤 (λ (p : Loans). sep 𝓤 (Load 𝓤 H A mem run .pre (to p)) (sem 𝓤 H A (Kept p)))))
   before =
       qed W (‵ (Table q sp (sp .ys) (cs .vs) (cs .ls) (cs .hs)) ∷ []) ∵ updating ! $ fsplit ! $ move ! (1 ∷ []) $ fsplit3 ! $
       -- [vars; lows; highs; nodes]
-      use1 W (later (some (λ (p : Loan). raw (Loaned u8 (sp .bV) 0 𝓤 H A W (named 1) (cs .vs) 65536 p)))) (lends u8 (sp .bV) 0 𝓤 H A W (named 1) (cs .vs) 65536 (cs .eV) room8) $ await ! tt $ pick ! (λ pV. move ! (1 ∷ []) $
-      use1 W (later (some (λ (p : Loan). raw (Loaned u16 (sp .bL) 0 𝓤 H A W (named 2) (cs .ls) 65536 p)))) (lends u16 (sp .bL) 0 𝓤 H A W (named 2) (cs .ls) 65536 (cs .eL) room16) $ await ! tt $ pick ! (λ pL. move ! (2 ∷ []) $
-      use1 W (later (some (λ (p : Loan). raw (Loaned u16 (sp .bH) 0 𝓤 H A W (named 3) (cs .hs) 65536 p)))) (lends u16 (sp .bH) 0 𝓤 H A W (named 3) (cs .hs) 65536 (cs .eH) room16) $ await ! tt $ pick ! (λ pH. move ! (3 ∷ []) $
-      use1 W (later (some (λ (p : Loan). raw (Shared N.the-row (sp .bN) (sp .oN) 𝓤 H A W (named 0) (sp .ys) q (length (sp .ys)) p)))) (shares-out N.the-row (sp .bN) (sp .oN) 𝓤 H A W (named 0) (sp .ys) q (length (sp .ys)) refl (sp .room)) $ await ! tt $ pick ! (λ pN.
+      use1 W (later (some (λ (p : Loan). raw (Loaned u8 (sp .bV) 0 𝓤 H A W (named 1) (cs .vs) 65536 p))))
+      (lends u8 (sp .bV) 0 𝓤 H A W (named 1) (cs .vs) 65536 (cs .eV) room8) $ await ! tt $ pick ! (λ pV. move ! (1 ∷ []) $
+      use1 W (later (some (λ (p : Loan). raw (Loaned u16 (sp .bL) 0 𝓤 H A W (named 2) (cs .ls) 65536 p))))
+      (lends u16 (sp .bL) 0 𝓤 H A W (named 2) (cs .ls) 65536 (cs .eL) room16) $ await ! tt $ pick ! (λ pL. move ! (2 ∷ []) $
+      use1 W (later (some (λ (p : Loan). raw (Loaned u16 (sp .bH) 0 𝓤 H A W (named 3) (cs .hs) 65536 p))))
+      (lends u16 (sp .bH) 0 𝓤 H A W (named 3) (cs .hs) 65536 (cs .eH) room16) $ await ! tt $ pick ! (λ pH. move ! (3 ∷ []) $
+      use1 W (later (some (λ (p : Loan). raw (Shared N.the-row (sp .bN) (sp .oN) 𝓤 H A W (named 0) (sp .ys) q (length (sp .ys)) p))))
+      (shares-out N.the-row (sp .bN) (sp .oN) 𝓤 H A W (named 0) (sp .ys) q (length (sp .ys)) refl (sp .room)) $ await ! tt $
+      pick ! (λ pN.
       -- [nodes'; highs'; lows'; vars']
       at-once ! $ show ! (λ (p : Loans). sep 𝓤 (Load 𝓤 H A mem run .pre (to p)) (sem 𝓤 H A (Kept p))) (pN, (pV, (pL, pH))) $
-      use1 W (‵ (flft (lifetime pN) fullShare) ⊛ ‵ (ShrSlice (named 0) (lifetime pN) N.the-row .own (lent-as N.the-row (sp .bN) (sp .oN) pN (sp .ys)) (sliceVal ((sp .bN), (sp .oN)) (length (sp .ys)) ∷ [])) ⊛ ‵ (Sharer N.the-row (sp .bN) (sp .oN) pN q (length (sp .ys)) (sp .ys))) (id⊢ 𝓤 _) $ split3 ! $ move ! (5 ∷ []) $
-      use1 W (‵ (flft (lifetime pV) fullShare) ⊛ ‵ (MutSlice (named 1) (lifetime pV) u8 .own (lent-as u8 (sp .bV) 0 pV (cs .vs)) (sliceVal ((sp .bV), 0) 65536 ∷ [])) ⊛ ‵ (Lender u8 (sp .bV) 0 pV 65536)) (id⊢ 𝓤 _) $ split3 ! $ move ! (7 ∷ []) $
-      use1 W (‵ (flft (lifetime pL) fullShare) ⊛ ‵ (MutSlice (named 2) (lifetime pL) u16 .own (lent-as u16 (sp .bL) 0 pL (cs .ls)) (sliceVal ((sp .bL), 0) 65536 ∷ [])) ⊛ ‵ (Lender u16 (sp .bL) 0 pL 65536)) (id⊢ 𝓤 _) $ split3 ! $ move ! (9 ∷ []) $
-      use1 W (‵ (flft (lifetime pH) fullShare) ⊛ ‵ (MutSlice (named 3) (lifetime pH) u16 .own (lent-as u16 (sp .bH) 0 pH (cs .hs)) (sliceVal ((sp .bH), 0) 65536 ∷ [])) ⊛ ‵ (Lender u16 (sp .bH) 0 pH 65536)) (id⊢ 𝓤 _) $ split3 ! $
+      use1 W (‵ (flft (lifetime pN) fullShare) ⊛ ‵
+      (ShrSlice (named 0) (lifetime pN) N.the-row .own (lent-as N.the-row (sp .bN) (sp .oN) pN (sp .ys))
+      (sliceVal ((sp .bN), (sp .oN)) (length (sp .ys)) ∷ [])) ⊛ ‵ (Sharer N.the-row (sp .bN) (sp .oN) pN q (length (sp .ys)) (sp .ys)))
+      (id⊢ 𝓤 _) $ split3 ! $ move ! (5 ∷ []) $
+      use1 W (‵ (flft (lifetime pV) fullShare) ⊛ ‵
+      (MutSlice (named 1) (lifetime pV) u8 .own (lent-as u8 (sp .bV) 0 pV (cs .vs)) (sliceVal ((sp .bV), 0) 65536 ∷ []))
+      ⊛ ‵ (Lender u8 (sp .bV) 0 pV 65536)) (id⊢ 𝓤 _) $ split3 ! $ move ! (7 ∷ []) $
+      use1 W (‵ (flft (lifetime pL) fullShare) ⊛ ‵
+      (MutSlice (named 2) (lifetime pL) u16 .own (lent-as u16 (sp .bL) 0 pL (cs .ls)) (sliceVal ((sp .bL), 0) 65536 ∷ []))
+      ⊛ ‵ (Lender u16 (sp .bL) 0 pL 65536)) (id⊢ 𝓤 _) $ split3 ! $ move ! (9 ∷ []) $
+      use1 W (‵ (flft (lifetime pH) fullShare) ⊛ ‵
+      (MutSlice (named 3) (lifetime pH) u16 .own (lent-as u16 (sp .bH) 0 pH (cs .hs)) (sliceVal ((sp .bH), 0) 65536 ∷ []))
+      ⊛ ‵ (Lender u16 (sp .bH) 0 pH 65536)) (id⊢ 𝓤 _) $ split3 ! $
       -- [highs: token, slice, lender; lows; vars; nodes]
-      move ! (9 ∷ 6 ∷ 3 ∷ 0 ∷ 10 ∷ 7 ∷ 4 ∷ 1 ∷ []) $ group ! 8 $ use1 W (raw (Load 𝓤 H A mem run .pre (to (pN, (pV, (pL, pH)))))) (asks (pN, (pV, (pL, pH)))) $ frame ! $
+      move ! (9 ∷ 6 ∷ 3 ∷ 0 ∷ 10 ∷ 7 ∷ 4 ∷ 1 ∷ []) $ group ! 8 $ use1 W (raw (Load 𝓤 H A mem run .pre (to (pN, (pV, (pL, pH))))))
+      (asks (pN, (pV, (pL, pH)))) $ frame ! $
       -- [the lenders of highs, lows, vars, nodes]
       move ! (1 ∷ 0 ∷ []) $ fjoin ! $ move ! (1 ∷ 0 ∷ []) $ fjoin ! $ move ! (1 ∷ 0 ∷ []) $ fjoin ! $ done !))))
 
@@ -104,28 +143,45 @@ module _ {M : Type 1} (𝓤 : URA M) (H : Heap 𝓤) (A : Atoms 𝓤) (W : Given
   Ws = Unit {0} × (Unit {0} × (List ℕ × (List ℕ × (List ℕ × Unit {0}))))
 
   abbrev Says : Ws → Type 0
-  Says zs = (zs .1 .1 .0 ≡ varsOf (take n (sp .ys)) ++ drop-list n (cs .vs)) × (zs .1 .1 .1 .0 ≡ lowsOf (take n (sp .ys)) ++ drop-list n (cs .ls)) × (zs .1 .1 .1 .1 .0 ≡ highsOf (take n (sp .ys)) ++ drop-list n (cs .hs))
+  Says zs = (zs .1 .1 .0 ≡ varsOf (take n (sp .ys)) ++ drop-list n (cs .vs))
+      × (zs .1 .1 .1 .0 ≡ lowsOf (take n (sp .ys)) ++ drop-list n (cs .ls))
+      × (zs .1 .1 .1 .1 .0 ≡ highsOf (take n (sp .ys)) ++ drop-list n (cs .hs))
 
   are : (zs : Ws) → Says zs → (zs .1 .1 .0 ≡ vs′) × (zs .1 .1 .1 .0 ≡ ls′) × (zs .1 .1 .1 .1 .0 ≡ hs′)
   unfolding varsOf lowsOf highsOf
   are zs e = e
 
-  pub after : (p : Loans) (w : Val) → ent 𝓤 (sep 𝓤 (Load 𝓤 H A mem run .post (to p) w) (sem 𝓤 H A (Kept p))) (H .⇛ (guard 𝓤 (w ≡ vunit) (sem 𝓤 H A (Table q sp (sp .ys) vs′ ls′ hs′))))
+  pub after : (p : Loans) (w : Val) → ent 𝓤 (sep 𝓤 (Load 𝓤 H A mem run .post (to p) w) (sem 𝓤 H A (Kept p)))
+      (H .⇛ (guard 𝓤 (w ≡ vunit) (sem 𝓤 H A (Table q sp (sp .ys) vs′ ls′ hs′))))
   after p w =
       qed W (raw (Load 𝓤 H A mem run .post (to p) w) ∷ ‵ (Kept p) ∷ []) ∵ updating ! $
-      use1 W (later (some (λ (r : Unit {0}). ((‵ (flft (lifetime (p .0)) fullShare) ⊛ (‵ (flft (lifetime (p .1 .0)) fullShare) ⊛ (‵ (flft (lifetime (p .1 .1 .0)) fullShare) ⊛ (‵ (flft (lifetime (p .1 .1 .1)) fullShare) ⊛ ‵ ftrue)))) ⊛ ‵ (unit .own r (w ∷ [])))
+      use1 W (later (some (λ (r : Unit {0}). ((‵ (flft (lifetime (p .0)) fullShare)
+      ⊛ (‵ (flft (lifetime (p .1 .0)) fullShare)
+      ⊛ (‵ (flft (lifetime (p .1 .1 .0)) fullShare) ⊛ (‵ (flft (lifetime (p .1 .1 .1)) fullShare) ⊛ ‵ ftrue))))
+      ⊛ ‵ (unit .own r (w ∷ [])))
       ⊛ raw (ensured 𝓤 H A load-fn.ended (load-fn.clauses 𝓤 H A mem run) (lfts p) (x p) tt r)))) (id⊢ 𝓤 _) $ await ! tt $ pick ! (λ r.
-      split ! $ move ! (1 ∷ []) $ use1 W (some (λ (zs : Ws). ‵ (lasts load-fn.ended (lfts p) (x p) zs) ⊛ raw (fact 𝓤 (Says zs)))) (id⊢ 𝓤 _) $ pick ! (λ zs.
+      split ! $ move ! (1 ∷ []) $ use1 W (some (λ (zs : Ws). ‵ (lasts load-fn.ended (lfts p) (x p) zs) ⊛ raw (fact 𝓤 (Says zs)))) (id⊢ 𝓤 _)
+      $ pick ! (λ zs.
       split ! $ move ! (1 ∷ []) $ heard ! (Says zs) (λ told. let e = are zs told in
       -- [the last values; the tokens and the result; what the lender keeps]
-      fsplit ! $ move ! (1 ∷ []) $ fsplit ! $ move ! (1 ∷ []) $ fsplit ! $ fsplit ! $ move ! (2 ∷ []) $ fsplit ! $ fsplit ! $ move ! (2 ∷ []) $ fsplit ! $ fsplit ! $
-      -- [highs' last list; its length; true; lows' last list; …; vars' last list; …; true; true; the tokens and the result; what the lender keeps]
-      rewrite ! 0 (λ (l : List ℕ). ‵ (finally u16 (p .1 .1 .1 .1) l)) (e .2) refl $ rewrite ! 3 (λ (l : List ℕ). ‵ (finally u16 (p .1 .1 .0 .1) l)) (e .1) refl $ rewrite ! 5 (λ (l : List ℕ). ‵ (finally u8 (p .1 .0 .1) l)) (e .0) refl $
+      fsplit ! $ move ! (1 ∷ []) $ fsplit ! $ move ! (1 ∷ []) $ fsplit ! $ fsplit ! $ move ! (2 ∷ []) $ fsplit ! $ fsplit ! $
+      move ! (2 ∷ []) $ fsplit ! $ fsplit ! $
+      -- [highs' last list; its length; true; lows' last list; …; vars' last list; …; true; true; the tokens and the result; what the lender
+      -- keeps]
+      rewrite ! 0 (λ (l : List ℕ). ‵ (finally u16 (p .1 .1 .1 .1) l)) (e .2) refl $
+      rewrite ! 3 (λ (l : List ℕ). ‵ (finally u16 (p .1 .1 .0 .1) l)) (e .1) refl $
+      rewrite ! 5 (λ (l : List ℕ). ‵ (finally u8 (p .1 .0 .1) l)) (e .0) refl $
       keep ! (9 ∷ 0 ∷ 3 ∷ 5 ∷ 10 ∷ []) $ split ! $ move ! (1 ∷ []) $ feqL ! (λ is.
       -- [the tokens; highs; lows; vars; what the lender keeps]
-      split ! $ move ! (1 ∷ []) $ split ! $ move ! (1 ∷ []) $ split ! $ move ! (1 ∷ []) $ split ! $ move ! (8 ∷ []) $ fsplit ! $ move ! (1 ∷ []) $ fsplit3 ! $
-      move ! (8 ∷ 3 ∷ []) $ use2 W (later (‵ (row N.the-row q (sp .ys) (sp .bN) (sp .oN)))) (whole-back N.the-row (sp .bN) (sp .oN) 𝓤 H A W (p .0) q (length (sp .ys)) (sp .ys)) $ await ! tt $
-      move ! (7 ∷ 1 ∷ 10 ∷ []) $ use3 W (later (‵ (row u8 fullShare vs′ (sp .bV) 0))) (back u8 (sp .bV) 0 𝓤 H A W (p .1 .0) 65536 vs′) $ await ! tt $
-      move ! (6 ∷ 2 ∷ 8 ∷ []) $ use3 W (later (‵ (row u16 fullShare ls′ (sp .bL) 0))) (back u16 (sp .bL) 0 𝓤 H A W (p .1 .1 .0) 65536 ls′) $ await ! tt $
-      move ! (4 ∷ 3 ∷ 6 ∷ []) $ use3 W (later (‵ (row u16 fullShare hs′ (sp .bH) 0))) (back u16 (sp .bH) 0 𝓤 H A W (p .1 .1 .1) 65536 hs′) $ await ! tt $
-      at-once ! $ check ! (ap only is) $ move ! (1 ∷ 0 ∷ []) $ fjoin ! $ move ! (1 ∷ 0 ∷ []) $ fjoin ! $ move ! (1 ∷ 0 ∷ []) $ fjoin ! $ keep ! (0 ∷ []) $ done !))))
+      split ! $ move ! (1 ∷ []) $ split ! $ move ! (1 ∷ []) $ split ! $ move ! (1 ∷ []) $ split ! $ move ! (8 ∷ []) $ fsplit ! $
+      move ! (1 ∷ []) $ fsplit3 ! $
+      move ! (8 ∷ 3 ∷ []) $ use2 W (later (‵ (row N.the-row q (sp .ys) (sp .bN) (sp .oN))))
+      (whole-back N.the-row (sp .bN) (sp .oN) 𝓤 H A W (p .0) q (length (sp .ys)) (sp .ys)) $ await ! tt $
+      move ! (7 ∷ 1 ∷ 10 ∷ []) $ use3 W (later (‵ (row u8 fullShare vs′ (sp .bV) 0))) (back u8 (sp .bV) 0 𝓤 H A W (p .1 .0) 65536 vs′) $
+      await ! tt $
+      move ! (6 ∷ 2 ∷ 8 ∷ []) $ use3 W (later (‵ (row u16 fullShare ls′ (sp .bL) 0))) (back u16 (sp .bL) 0 𝓤 H A W (p .1 .1 .0) 65536 ls′) $
+      await ! tt $
+      move ! (4 ∷ 3 ∷ 6 ∷ []) $ use3 W (later (‵ (row u16 fullShare hs′ (sp .bH) 0))) (back u16 (sp .bH) 0 𝓤 H A W (p .1 .1 .1) 65536 hs′) $
+      await ! tt $
+      at-once ! $ check ! (ap only is) $ move ! (1 ∷ 0 ∷ []) $ fjoin ! $ move ! (1 ∷ 0 ∷ []) $ fjoin ! $ move ! (1 ∷ 0 ∷ []) $ fjoin ! $
+      keep ! (0 ∷ []) $ done !))))

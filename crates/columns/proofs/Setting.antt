@@ -54,7 +54,8 @@ abbrev pub written : List Node → Filled → ℕ → List Node
 written ys cs m = slice (cs .vs) (cs .ls) (cs .hs) ys m
 
 pub written-length : (ys : List Node) (cs : Filled) (m : ℕ) → Cut (length ys) m → length (written ys cs m) ≡ length ys
-written-length ys cs m cut = slice-length (cs .vs) (cs .ls) (cs .hs) ys m (omega (arith, cut .1, cs .eV)) (omega (arith, cut .1, cs .eL)) (omega (arith, cut .1, cs .eH)) (cut .0)
+written-length ys cs m cut = slice-length (cs .vs) (cs .ls) (cs .hs) ys m (omega (arith, cut .1, cs .eV)) (omega (arith, cut .1, cs .eL))
+    (omega (arith, cut .1, cs .eH)) (cut .0)
 
 -- the arrays in memory
 abbrev pub Columns : Spot → List ℕ → List ℕ → List ℕ → Fml

@@ -1,5 +1,5 @@
--- Texts chosen for the readings of DRAT text: tokens, `d`, comment lines, places. Number and place of each fault are what the checker written
--- apart says. The idea: each row is computed. Assumes nothing.
+-- Texts chosen for the readings of DRAT text: tokens, `d`, comment lines, places. Number and place of each fault are what the checker
+-- written apart says. The idea: each row is computed. Assumes nothing.
 use mathlib.Core.Path.{refl}
 use mathlib.Core.List.{List, [], _∷_}
 use Rattle.dimacs.specs.Texts.{plus, minus}

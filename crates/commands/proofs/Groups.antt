@@ -1,5 +1,6 @@
--- Groups of a binary proof by the place of the last of them: one law for each way through the reader of a literal. The idea: all groups but the
--- last have the top bit set, so the last is where their run ends; three groups whose last is not 0 make 16,384 or more. Assumes nothing.
+-- Groups of a binary proof by the place of the last of them: one law for each way through the reader of a literal. The idea: all groups but
+-- the last have the top bit set, so the last is where their run ends; three groups whose last is not 0 make 16,384 or more. Assumes
+-- nothing.
 use mathlib.Core.Path.{_≡_, refl, sym, ap, ap₂, _∙_, subst}
 use mathlib.Core.Logic.{_≢_}
 use mathlib.Core.Bool.{Bool, true, false, _&&_, _||_, cond}
@@ -49,7 +50,8 @@ unfolding run groupsIn
 groups-none [] e = refl
 groups-none (b ∷ bs) e = go (ltb b 128) refl e (λ q. groups-none bs q)
   where
-    go : (t : Bool) → ltb b 128 ≡ t → cond (isOpenGroup b) (suc (run isOpenGroup bs)) 0 ≡ suc (length bs) → (run isOpenGroup bs ≡ length bs → groupsIn bs ≡ cut)
+    go : (t : Bool) → ltb b 128 ≡ t → cond (isOpenGroup b) (suc (run isOpenGroup bs)) 0 ≡ suc (length bs) →
+        (run isOpenGroup bs ≡ length bs → groupsIn bs ≡ cut)
         → cond (ltb b 128) (groups b 1 b) (groupThen (b - 128) (groupsIn bs)) ≡ cut
     go true t e ih = let z : _≡_ {A = ℕ} 0 (suc (length bs)) = rw (open-not-last b true t) at e in absurd (omega arith)
     go false t e ih =
@@ -82,7 +84,8 @@ number-many k (b ∷ c ∷ bs) h nz = omega (arith, some-number k bs (omega arit
 getD-drop : (at k : ℕ) (s : List ℕ) → getD (drop at s) k 0 ≡ getD s (at + k) 0
 getD-drop zero k s = ap (λ (j : ℕ). getD s j 0) (omega arith)
 getD-drop (suc at) k [] = refl
-getD-drop (suc at) k (b ∷ s) = let next : suc at + k ≡ suc (at + k) = omega arith in getD-drop at k s ∙ ap (λ (j : ℕ). getD (b ∷ s) j 0) (sym next)
+getD-drop (suc at) k (b ∷ s) = let next : suc at + k ≡ suc (at + k) = omega arith in getD-drop at k s
+    ∙ ap (λ (j : ℕ). getD (b ∷ s) j 0) (sym next)
 
 -- ---- the ways through the reader of a literal
 
@@ -111,10 +114,12 @@ module _ (s : List ℕ) (n at last : ℕ) (is : last ≡ past isOpenGroup s at) 
     here =
         let same : at + (last - at) ≡ last = omega (arith, least) in
         groups-end (drop at s) (last - at) run-is (omega (arith, length-drop at s, least))
-        ∙ ap (groups (numberIn (last - at) (drop at s)) (suc (last - at))) (getD-drop at (last - at) s ∙ ap (λ (k : ℕ). getD s k 0) same ∙ sym top-is)
+        ∙ ap (groups (numberIn (last - at) (drop at s)) (suc (last - at)))
+        (getD-drop at (last - at) s ∙ ap (λ (k : ℕ). getD s k 0) same ∙ sym top-is)
 
     module _ (end : ℕ) (end-is : end ≡ last + 1) where
-      says : (t : Token) → groupsToken n (numberIn (last - at) (drop at s)) (suc (last - at)) top ≡ t → record { token = t; end = end } ≡ groupsRead n at (groupsIn (drop at s))
+      says : (t : Token) → groupsToken n (numberIn (last - at) (drop at s)) (suc (last - at)) top ≡ t → record { token = t; end = end }
+          ≡ groupsRead n at (groupsIn (drop at s))
       says t e =
           let behind : at + suc (last - at) ≡ end = omega (arith, least, end-is) in
           sym (ap (groupsRead n at) here
@@ -127,7 +132,8 @@ module _ (s : List ℕ) (n at last : ℕ) (is : last ≡ past isOpenGroup s at) 
       one-number e =
           let none : last - at ≡ 0 = omega arith in
           let same : at + 0 ≡ last = omega arith in
-          ap (λ (k : ℕ). numberIn k (drop at s)) none ∙ number-one (drop at s) (omega (arith, length-drop at s)) ∙ getD-drop at 0 s ∙ ap (λ (k : ℕ). getD s k 0) same ∙ sym top-is
+          ap (λ (k : ℕ). numberIn k (drop at s)) none ∙ number-one (drop at s) (omega (arith, length-drop at s)) ∙ getD-drop at 0 s
+          ∙ ap (λ (k : ℕ). getD s k 0) same ∙ sym top-is
 
       pub read-closing : last ≡ at → top ≡ 0 → record { token = Closing; end = end } ≡ groupsRead n at (groupsIn (drop at s))
       read-closing e z =
@@ -140,7 +146,8 @@ module _ (s : List ℕ) (n at last : ℕ) (is : last ≡ past isOpenGroup s at) 
           let is-one : numberIn (last - at) (drop at s) ≡ 1 = one-number e ∙ z in
           says (Wrong 31) (rw (is-one, z) refl)
 
-      pub read-short : last ≡ at → top ≢ 0 → top ≢ 1 → (t : Token) → t ≡ literalCoded n top → record { token = t; end = end } ≡ groupsRead n at (groupsIn (drop at s))
+      pub read-short : last ≡ at → top ≢ 0 → top ≢ 1 → (t : Token) → t ≡ literalCoded n top → record { token = t; end = end }
+          ≡ groupsRead n at (groupsIn (drop at s))
       read-short e nz no-one t is =
           says t (rw (one-number e, ne-eqb top 0 nz, ne-eqb top 1 no-one) (sym is))
 
@@ -150,18 +157,21 @@ module _ (s : List ℕ) (n at last : ℕ) (is : last ≡ past isOpenGroup s at) 
           says (Wrong 31) (rw (many, and-false (eqb (numberIn (last - at) (drop at s)) 0), z) refl)
 
       -- a number above 1 of groups whose last is not 0
-      large : (u : ℕ) → numberIn (last - at) (drop at s) ≡ u → 2 ≤ u → top ≢ 0 → (t : Token) → t ≡ literalCoded n u → record { token = t; end = end } ≡ groupsRead n at (groupsIn (drop at s))
+      large : (u : ℕ) → numberIn (last - at) (drop at s) ≡ u → 2 ≤ u → top ≢ 0 → (t : Token) → t ≡ literalCoded n u →
+          record { token = t; end = end } ≡ groupsRead n at (groupsIn (drop at s))
       large u e two nz t is =
           says t (rw (e, ne-eqb u 0 (λ q. omega arith), ne-eqb top 0 nz, ne-eqb u 1 (λ q. omega arith)) (sym is))
 
-      pub read-two : end - at ≡ 2 → top ≢ 0 → (u : ℕ) → u ≡ getD s at 0 - 128 + 128 * top → (t : Token) → t ≡ literalCoded n u → record { token = t; end = end } ≡ groupsRead n at (groupsIn (drop at s))
+      pub read-two : end - at ≡ 2 → top ≢ 0 → (u : ℕ) → u ≡ getD s at 0 - 128 + 128 * top → (t : Token) → t ≡ literalCoded n u →
+          record { token = t; end = end } ≡ groupsRead n at (groupsIn (drop at s))
       read-two e nz u is t q =
           let one : last - at ≡ 1 = omega (arith, end-is) in
           let first : at + 0 ≡ at = omega arith in
           let second : at + 1 ≡ last = omega (arith, least) in
           let number : numberIn (last - at) (drop at s) ≡ u =
           ap (λ (k : ℕ). numberIn k (drop at s)) one ∙ number-two (drop at s) (omega (arith, length-drop at s))
-          ∙ ap₂ (λ (x y : ℕ). x - 128 + 128 * y) (getD-drop at 0 s ∙ ap (λ (k : ℕ). getD s k 0) first) (getD-drop at 1 s ∙ ap (λ (k : ℕ). getD s k 0) second ∙ sym top-is) ∙ sym is in
+          ∙ ap₂ (λ (x y : ℕ). x - 128 + 128 * y) (getD-drop at 0 s ∙ ap (λ (k : ℕ). getD s k 0) first)
+          (getD-drop at 1 s ∙ ap (λ (k : ℕ). getD s k 0) second ∙ sym top-is) ∙ sym is in
           large u number (omega (arith, nz)) nz t q
 
       -- three groups at least
@@ -171,12 +181,15 @@ module _ (s : List ℕ) (n at last : ℕ) (is : last ≡ past isOpenGroup s at) 
           let farther : last ≢ at + 1 = λ q. no-two (omega (arith, end-is)) in
           omega (arith, far, farther)
 
-      pub read-many : last ≢ at → end - at ≢ 2 → top ≢ 0 → n ≤ 64 → record { token = Wrong 4; end = end } ≡ groupsRead n at (groupsIn (drop at s))
+      pub read-many : last ≢ at → end - at ≢ 2 → top ≢ 0 → n ≤ 64 → record { token = Wrong 4; end = end }
+          ≡ groupsRead n at (groupsIn (drop at s))
       read-many more no-two nz narrow =
           let k : ℕ = last - at - 2 in
           let three : suc (suc k) ≡ last - at = omega (arith, three-groups more no-two) in
           let same : at + (last - at) ≡ last = omega (arith, least) in
-          let byte : getD (drop at s) (suc (suc k)) 0 ≢ 0 = λ z. nz (top-is ∙ sym (ap (λ (j : ℕ). getD s j 0) same) ∙ sym (getD-drop at (last - at) s) ∙ sym (ap (λ (j : ℕ). getD (drop at s) j 0) three) ∙ z) in
+          let byte : getD (drop at s) (suc (suc k)) 0 ≢ 0 = λ z. nz
+          (top-is ∙ sym (ap (λ (j : ℕ). getD s j 0) same) ∙ sym (getD-drop at (last - at) s)
+          ∙ sym (ap (λ (j : ℕ). getD (drop at s) j 0) three) ∙ z) in
           let big : 16384 ≤ numberIn (suc (suc k)) (drop at s) = number-many k (drop at s) (omega (arith, length-drop at s, least)) byte in
           let u : ℕ = numberIn (last - at) (drop at s) in
           let big′ : 16384 ≤ u = subst (λ (j : ℕ). 16384 ≤ numberIn j (drop at s)) three big in

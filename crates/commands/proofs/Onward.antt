@@ -1,6 +1,6 @@
--- A command of a DRAT proof goes on: a clause ends behind its first byte and in the proof, its literals are the header's; a fault lies in the proof
--- and has a number of its form; the end is the proof's length. So a loop over commands comes to an end. The idea: what is known of the clause
--- read. Assumes nothing.
+-- A command of a DRAT proof goes on: a clause ends behind its first byte and in the proof, its literals are the header's; a fault lies in
+-- the proof and has a number of its form; the end is the proof's length. So a loop over commands comes to an end. The idea: what is known
+-- of the clause read. Assumes nothing.
 use mathlib.Core.Path.{_≡_, refl, sym, subst}
 use mathlib.Core.Logic.{_≢_}
 use mathlib.Core.Bool.{Bool, true, false, cond}
@@ -27,7 +27,8 @@ use Rattle.commands.proofs.OpenGroups.{binary-suc}
 -- The number of a fault of form of a binary proof: 4 or 31, or 6 or 9 at the opening byte.
 abbrev pub BinaryFault : ℕ → ℕ → ℕ → Type 0
 BinaryFault first number place =
-    (4 ≤ number) × (number ≢ 5) × (6 < number → 9 ≤ number) × (9 < number → number ≡ 31) × (number ≡ 6 → place ≡ first) × (number ≡ 9 → place ≡ first)
+    (4 ≤ number) × (number ≢ 5) × (6 < number → 9 ≤ number) × (9 < number → number ≡ 31) × (number ≡ 6 → place ≡ first)
+    × (number ≡ 9 → place ≡ first)
 
 -- The faults of each form, with their place counted from the command's first byte.
 abbrev pub FaultOf : Form → ℕ → ℕ → Type 0
@@ -60,7 +61,8 @@ module _ (form : Form) (F : ℕ → ℕ → ℕ → Type 0) (s : List ℕ) (n at
   clause-read-in (refused number place) h = (refl, omega (arith, h .0, h .1), faulty number place (h .0) (h .2))
   clause-read-in ended h = absurd h
 
-read-cond : (form : Form) (s : List ℕ) (n at : ℕ) (t : Bool) (x y : Read) → (t ≡ true → ReadIn form s n at x) → (t ≡ false → ReadIn form s n at y) → ReadIn form s n at (cond t x y)
+read-cond : (form : Form) (s : List ℕ) (n at : ℕ) (t : Bool) (x y : Read) → (t ≡ true → ReadIn form s n at x) →
+    (t ≡ false → ReadIn form s n at y) → ReadIn form s n at (cond t x y)
 read-cond form s n at true x y h k = h refl
 read-cond form s n at false x y h k = k refl
 
@@ -79,8 +81,10 @@ text-in s n at h =
     let behind : at ≤ between s (at + 1) = omega (arith, between-least s (at + 1)) in
     read-cond Text s n at (ltb at (length s)) (cond (isWord s at (100 ∷ [])) striking adding) (reading finished at)
     (λ t. read-cond Text s n at (isWord s at (100 ∷ [])) striking adding
-    (λ w. clause-read-in Text Fault s n at (between s (at + 1)) behind (between s) on struckOut (λ ls next p q r. (p, q, r)) (text-faulty at)
-    (clauseFrom s n (length s - between s (at + 1)) at (between s (at + 1))) (clause-in s n at (length s - between s (at + 1)) (between s (at + 1)) behind h))
+    (λ w. clause-read-in Text Fault s n at (between s (at + 1)) behind (between s) on struckOut (λ ls next p q r. (p, q, r))
+    (text-faulty at)
+    (clauseFrom s n (length s - between s (at + 1)) at (between s (at + 1)))
+    (clause-in s n at (length s - between s (at + 1)) (between s (at + 1)) behind h))
     (λ w. clause-read-in Text Fault s n at at (omega arith) (between s) on added (λ ls next p q r. (p, q, r)) (text-faulty at)
     (clauseFrom s n (length s - at) at at) (clause-in s n at (length s - at) at (omega arith) h)))
     (λ f. (refl, omega (arith, h, ltb-false at (length s) f)))
@@ -92,23 +96,36 @@ module _ (s : List ℕ) (n first : ℕ) where
   six-first = (omega arith, (λ q. omega arith), (λ q. absurd (omega arith)), (λ q. absurd (omega arith)), (λ _. refl), λ _. refl)
 
   groups-in : (g : Groups) (at : ℕ) (rest : ℕ → Next) → first ≤ at → first ≤ length s → at ≤ length s → groupsIn (drop at s) ≡ g
-      → ((next : ℕ) → at < next → next ≤ length s → ClauseIn BinaryFault s n first next (rest next)) → ClauseIn BinaryFault s n first at (afterGroups n first at g rest)
+      → ((next : ℕ) → at < next → next ≤ length s → ClauseIn BinaryFault s n first next (rest next)) →
+      ClauseIn BinaryFault s n first at (afterGroups n first at g rest)
   groups-in cut at rest lo h hi e ih = (omega arith, h, six-first)
   groups-in (groups number many last) at rest lo h hi e ih =
       let W : Well (drop at s) number many last = groups-well (drop at s) number many last e in
       let inside : at + many ≤ length s = omega (arith, W .within, length-drop at s) in
       token-by n number many last (λ t. ClauseIn BinaryFault s n first at (afterToken t first at (at + many) (rest (at + many))))
       (λ _ _. (omega (arith, W .some), inside, tt))
-      (lo, hi, (omega arith, (λ q. omega arith), (λ q. omega arith), (λ _. refl), (λ q. absurd (omega arith)), λ q. absurd (omega arith)))
-      (lo, hi, (omega arith, (λ q. omega arith), (λ q. absurd (omega arith)), (λ q. absurd (omega arith)), (λ q. absurd (omega arith)), λ q. absurd (omega arith)))
-      (λ nz no-one most. with-in BinaryFault s n first (number / 2) (eqb (number % 2) 0) at (rest (at + many)) (omega (arith, W .more nz, no-one)) most
+      (lo, hi, (omega arith, (λ q. omega arith), (λ q. omega arith), (λ _. refl), (λ q. absurd (omega arith)), λ q. absurd (omega arith))) (
+        lo,
+        hi,
+        (
+          omega arith,
+          (λ q. omega arith),
+          (λ q. absurd (omega arith)),
+          (λ q. absurd (omega arith)),
+          (λ q. absurd (omega arith)),
+          λ q. absurd (omega arith),
+        ),
+      )
+      (λ nz no-one most. with-in BinaryFault s n first (number / 2) (eqb (number % 2) 0) at (rest (at + many))
+      (omega (arith, W .more nz, no-one)) most
       (later BinaryFault s n first at (at + many) (rest (at + many)) (omega arith) (ih (at + many) (omega (arith, W .some)) inside)))
 
   open-in : (at : ℕ) → first ≤ length s → ClauseIn BinaryFault s n first at (binaryFrom s n zero first at)
   unfolding binaryFrom
   open-in at h = (omega arith, h, six-first)
 
-  pub binary-clause-in : (k at : ℕ) → first ≤ at → first ≤ length s → at ≤ length s → ClauseIn BinaryFault s n first at (binaryFrom s n k first at)
+  pub binary-clause-in : (k at : ℕ) → first ≤ at → first ≤ length s → at ≤ length s →
+      ClauseIn BinaryFault s n first at (binaryFrom s n k first at)
   binary-clause-in zero at lo h hi = open-in at h
   binary-clause-in (suc k) at lo h hi =
       subst (ClauseIn BinaryFault s n first at) (sym (binary-suc s n k first at))
@@ -127,13 +144,17 @@ binary-in s n at h =
     let striking : Read = clauseRead (λ next. next) at struckOut body in
     let on : Onward s (λ next. next) = λ k p. (omega arith, p) in
     let behind : at ≤ at + 1 = omega arith in
-    read-cond Binary s n at (ltb at (length s)) (cond (eqb kind 0x61) adding (cond (eqb kind 0x64) striking (reading (wrong 9 0) at))) (reading finished at)
+    read-cond Binary s n at (ltb at (length s)) (cond (eqb kind 0x61) adding (cond (eqb kind 0x64) striking (reading (wrong 9 0) at)))
+    (reading finished at)
     (λ t. let inside : at < length s = ltb-true at (length s) t in
-    let is : ClauseIn BinaryFault s n at (at + 1) body = binary-clause-in s n at (length s - (at + 1)) (at + 1) behind h (omega (arith, inside)) in
+    let is : ClauseIn BinaryFault s n at (at + 1) body = binary-clause-in s n at (length s - (at + 1)) (at + 1) behind h
+    (omega (arith, inside)) in
     read-cond Binary s n at (eqb kind 0x61) adding (cond (eqb kind 0x64) striking (reading (wrong 9 0) at))
-    (λ w. clause-read-in Binary BinaryFault s n at (at + 1) behind (λ next. next) on added (λ ls next p q r. (p, q, r)) (binary-faulty at) body is)
+    (λ w. clause-read-in Binary BinaryFault s n at (at + 1) behind (λ next. next) on added (λ ls next p q r. (p, q, r)) (binary-faulty at)
+    body is)
     (λ w. read-cond Binary s n at (eqb kind 0x64) striking (reading (wrong 9 0) at)
-    (λ w. clause-read-in Binary BinaryFault s n at (at + 1) behind (λ next. next) on struckOut (λ ls next p q r. (p, q, r)) (binary-faulty at) body is)
+    (λ w. clause-read-in Binary BinaryFault s n at (at + 1) behind (λ next. next) on struckOut (λ ls next p q r. (p, q, r))
+    (binary-faulty at) body is)
     (λ w. (refl, omega arith, (omega arith, (λ q. omega arith), (λ q. omega arith), (λ q. absurd (omega arith)), (λ q. refl), λ _. refl)))))
     (λ f. (refl, omega (arith, h, ltb-false at (length s) f)))
 

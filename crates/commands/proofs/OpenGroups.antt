@@ -1,5 +1,5 @@
--- One step of an open clause of a binary proof, for which the bytes left are steps enough, and the set that the code gathers: what is to be read is
--- what is left to be read, with the literals so far. Assumes nothing.
+-- One step of an open clause of a binary proof, for which the bytes left are steps enough, and the set that the code gathers: what is to be
+-- read is what is left to be read, with the literals so far. Assumes nothing.
 use mathlib.Core.Path.{_≡_, refl, ap, sym, _∙_, subst}
 use mathlib.Core.Bool.{Bool}
 use mathlib.Core.List.{List}
@@ -57,9 +57,11 @@ module _ (s : List ℕ) (n : ℕ) where
 
   -- what is read behind groups matters only where they are a literal
   after-cong : (first at : ℕ) (g : Groups) (rest rest′ : ℕ → Next)
-      → ((number many last : ℕ) → g ≡ groups number many last → rest (at + many) ≡ rest′ (at + many)) → afterGroups n first at g rest ≡ afterGroups n first at g rest′
+      → ((number many last : ℕ) → g ≡ groups number many last → rest (at + many) ≡ rest′ (at + many)) → afterGroups n first at g rest
+      ≡ afterGroups n first at g rest′
   after-cong first at cut rest rest′ h = refl
-  after-cong first at (groups number many last) rest rest′ h = ap (afterToken (groupsToken n number many last) first at (at + many)) (h number many last refl)
+  after-cong first at (groups number many last) rest rest′ h = ap (afterToken (groupsToken n number many last) first at (at + many))
+      (h number many last refl)
 
   -- Steps for each byte left are enough.
   pub binary-fuel : (k m first at : ℕ) → length s ≤ at + k → length s ≤ at + m → binaryFrom s n k first at ≡ binaryFrom s n m first at
@@ -79,7 +81,8 @@ pub record IsLiteral (s : List ℕ) (n at : ℕ) (r : GroupsRead) (v : ℕ) : Ty
   pub moves : at < r .end
   pub within : r .end ≤ length s
 
-pub literal-in : (s : List ℕ) (n at : ℕ) (r : GroupsRead) (v : ℕ) (b : Bool) → r ≡ groupsRead n at (groupsIn (drop at s)) → r .token ≡ Literal v b → IsLiteral s n at r v
+pub literal-in : (s : List ℕ) (n at : ℕ) (r : GroupsRead) (v : ℕ) (b : Bool) → r ≡ groupsRead n at (groupsIn (drop at s)) → r .token
+    ≡ Literal v b → IsLiteral s n at r v
 literal-in s n at r v b is e = go (groupsIn (drop at s)) refl is
   where
     go : (g : Groups) → groupsIn (drop at s) ≡ g → r ≡ groupsRead n at g → IsLiteral s n at r v
@@ -126,7 +129,8 @@ module _ (s : List ℕ) (n first : ℕ) (u : Literals) (at : ℕ) where
     unfolding clauseAfter withAll
     rest-closing r is e = go (groupsIn (drop at s)) refl is
       where
-        go : (g : Groups) → groupsIn (drop at s) ≡ g → r ≡ groupsRead n at g → restIn s n first u at ≡ Closed (record { literals = u; first = first; next = r .end })
+        go : (g : Groups) → groupsIn (drop at s) ≡ g → r ≡ groupsRead n at g → restIn s n first u at
+            ≡ Closed (record { literals = u; first = first; next = r .end })
         go cut q is = other (Wrong 6) Closing (λ z. omega arith) (sym (ap (λ (x : GroupsRead). x .token) is) ∙ e)
         go (groups number many last) q is =
             let t : groupsToken n number many last ≡ Closing = sym (ap (λ (x : GroupsRead). x .token) is) ∙ e in
@@ -134,7 +138,8 @@ module _ (s : List ℕ) (n first : ℕ) (u : Literals) (at : ℕ) where
             here (groups number many last) q ∙ ap (λ (x : Token). clauseAfter u (afterToken x first at (at + many) (rest (at + many)))) t
             ∙ ap (λ (m : ℕ). Closed (record { literals = u; first = first; next = m })) (sym end)
 
-    pub rest-wrong : (r : GroupsRead) (k : ℕ) → r ≡ groupsRead n at (groupsIn (drop at s)) → r .token ≡ Wrong k → restIn s n first u at ≡ Refused k (faultPlace k first at)
+    pub rest-wrong : (r : GroupsRead) (k : ℕ) → r ≡ groupsRead n at (groupsIn (drop at s)) → r .token ≡ Wrong k → restIn s n first u at
+        ≡ Refused k (faultPlace k first at)
     unfolding clauseAfter
     rest-wrong r k is e = go (groupsIn (drop at s)) refl is
       where
@@ -151,7 +156,8 @@ module _ (s : List ℕ) (n first : ℕ) (u : Literals) (at : ℕ) where
             (λ e. ap (λ (m : ℕ). faultPlace m first at) (ap wrongIn e))
             (λ p q r e. other (Literal (number / 2) (eqb (number % 2) 0)) (Wrong k) (λ z. omega arith) e) t)
 
-    pub rest-literal : (r : GroupsRead) (v : ℕ) (b : Bool) (next : ℕ) (u′ : Literals) → r ≡ groupsRead n at (groupsIn (drop at s)) → r .token ≡ Literal v b → next ≡ r .end
+    pub rest-literal : (r : GroupsRead) (v : ℕ) (b : Bool) (next : ℕ) (u′ : Literals) → r ≡ groupsRead n at (groupsIn (drop at s)) →
+        r .token ≡ Literal v b → next ≡ r .end
         → u′ ≡ withLiteral u v b → restIn s n first u at ≡ restIn s n first u′ next
     rest-literal r v b next u′ is e here-next set = go (groupsIn (drop at s)) refl is
       where
@@ -167,17 +173,22 @@ module _ (s : List ℕ) (n first : ℕ) (u : Literals) (at : ℕ) where
             ∙ literal-set u v b (rest (at + many))
             ∙ ap (λ (w : Literals). clauseAfter w (rest (at + many))) (sym set)
             ∙ ap (λ (m : ℕ). clauseAfter u′ (rest m)) end
-            ∙ ap (clauseAfter u′) (binary-fuel s n (length s - (at + 1)) (length s - next) first next (omega (arith, L .moves, here-next)) (omega arith))
+            ∙ ap (clauseAfter u′) (binary-fuel s n (length s - (at + 1)) (length s - next) first next (omega (arith, L .moves, here-next))
+            (omega arith))
 
 -- ---- the pivot
 
-pub groups-pivot : (s : List ℕ) (n k first at : ℕ) (r : GroupsRead) → r ≡ groupsRead n at (groupsIn (drop at s)) → PivotIs (pivotAt (r .token)) (binaryFrom s n k first at)
+pub groups-pivot : (s : List ℕ) (n k first at : ℕ) (r : GroupsRead) → r ≡ groupsRead n at (groupsIn (drop at s)) →
+    PivotIs (pivotAt (r .token)) (binaryFrom s n k first at)
 unfolding binaryFrom
 groups-pivot s n zero first at r is = tt
 groups-pivot s n (suc k) first at r is = go (groupsIn (drop at s)) is
   where
-    go : (g : Groups) → r ≡ groupsRead n at g → PivotIs (pivotAt (r .token)) (afterGroups n first at g (λ next. binaryFrom s n k first next))
+    go : (g : Groups) → r ≡ groupsRead n at g → PivotIs (pivotAt (r .token))
+        (afterGroups n first at g (λ next. binaryFrom s n k first next))
     go cut is = tt
     go (groups number many last) is =
-        subst (λ (t : Token). PivotIs (pivotAt t) (afterToken (groupsToken n number many last) first at (at + many) (binaryFrom s n k first (at + many)))) (sym (ap (λ (x : GroupsRead). x .token) is))
+        subst (λ (t : Token). PivotIs (pivotAt t)
+        (afterToken (groupsToken n number many last) first at (at + many) (binaryFrom s n k first (at + many))))
+        (sym (ap (λ (x : GroupsRead). x .token) is))
         (after-pivot (groupsToken n number many last) first at (at + many) (binaryFrom s n k first (at + many)))

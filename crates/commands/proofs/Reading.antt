@@ -1,5 +1,5 @@
--- What the reader of a text's clause answers: its places lie in the text and go on, its literals are the header's, its pivot is what its first
--- token says; and the command that the code makes of it. The idea: by the token at hand. Assumes nothing.
+-- What the reader of a text's clause answers: its places lie in the text and go on, its literals are the header's, its pivot is what its
+-- first token says; and the command that the code makes of it. The idea: by the token at hand. Assumes nothing.
 use mathlib.Core.Path.{_≡_, refl, sym, ap, _∙_, subst}
 use mathlib.Core.Logic.{_≢_}
 use mathlib.Core.Bool.{Bool, true, false, not, cond}
@@ -63,7 +63,8 @@ token-fault : (n : ℕ) (bs : List ℕ) → FaultToken (tokenOf n bs)
 unfolding tokenOf
 token-fault n bs = go (isZero bs) (isNumber bs) (leb (valueOfDigits (unsigned bs)) n)
   where
-    go : (z d w : Bool) → FaultToken (cond z Closing (cond d (cond w (Literal (valueOfDigits (unsigned bs)) (not (hasMinus bs))) (Wrong 4)) (Wrong 3)))
+    go : (z d w : Bool) → FaultToken (cond z Closing
+        (cond d (cond w (Literal (valueOfDigits (unsigned bs)) (not (hasMinus bs))) (Wrong 4)) (Wrong 3)))
     go true d w = tt
     go false false w = (omega arith, omega arith)
     go false true true = tt
@@ -95,7 +96,8 @@ module _ (s : List ℕ) (n first : ℕ) where
       (lo, omega arith, (omega (arith, f .0), omega (arith, f .1), (λ q. omega (arith, f .1)), (λ q. absurd (omega (arith, f .1)))))
   after-in (Literal v b) at x lo hi e h =
       let l = literal-bounds n (slice at (tokenEnd s at) s) v b e in
-      with-in Fault s n first v b at x (l .least) (l .most) (later Fault s n first at (nextAt s n at) x (omega (arith, past-least isToken s at, between-least s (tokenEnd s at))) h)
+      with-in Fault s n first v b at x (l .least) (l .most)
+      (later Fault s n first at (nextAt s n at) x (omega (arith, past-least isToken s at, between-least s (tokenEnd s at))) h)
 
   at-first : Fault first 6 first
   at-first = (omega arith, omega arith, (λ q. omega arith), (λ _. refl))
@@ -112,7 +114,8 @@ module _ (s : List ℕ) (n first : ℕ) where
       subst (ClauseIn Fault s n first at) (sym (clause-suc s n k first at inside))
       (after-in (tokenAt s n at) at (clauseFrom s n k first (nextAt s n at)) lo inside refl
       (clause-in k (nextAt s n at) (omega (arith, past-least isToken s at, between-least s (tokenEnd s at))) h)))
-      (λ f. subst (ClauseIn Fault s n first at) (sym (clause-end s n (suc k) first at (ltb-false at (length s) f))) (omega arith, h, at-first))
+      (λ f. subst (ClauseIn Fault s n first at) (sym (clause-end s n (suc k) first at (ltb-false at (length s) f)))
+      (omega arith, h, at-first))
 
 -- ---- the pivot
 
@@ -186,15 +189,22 @@ module _ (onward : ℕ → ℕ) (first : ℕ) (strikes : Bool) where
       let same : record { literals = literalsOf ls; first = f; next = end } ≡ c = ap clauseIn e in
       sym (words strikes ls (onward end)
       ∙ ap (λ (p : Pivot). record { command = clauseCommand strikes (record { literals = literalsOf ls; pivot = p }); next = onward end }) q
-      ∙ ap (λ (c : ClosedClause). record { command = clauseCommand strikes (record { literals = c .literals; pivot = p }); next = onward (c .next) }) same
+      ∙ ap (λ (c : ClosedClause). record {
+        command = clauseCommand strikes (record { literals = c .literals; pivot = p });
+        next =
+            onward (c .next);
+      }) same
       ∙ ap (λ (m : ℕ). record { command = clauseCommand strikes (record { literals = c .literals; pivot = p }); next = m }) (sym is))
   closed-is (refused number place) c p next e q is = differs (Refused number place) (Closed c) e (λ z. omega arith)
   closed-is ended c p next e q is = differs End (Closed c) e (λ z. omega arith)
 
-  pub answer-closed : (x : Next) (c : ClosedClause) (p p′ : Pivot) (next : ℕ) (command : code.Command) → clauseOf x ≡ Closed c → p ≡ p′ → PivotIs p′ x
-      → next ≡ onward (c .next) → command ≡ clauseCommand strikes (record { literals = c .literals; pivot = p }) → record { command = command; next = next } ≡ answer x
+  pub answer-closed : (x : Next) (c : ClosedClause) (p p′ : Pivot) (next : ℕ) (command : code.Command) → clauseOf x ≡ Closed c → p ≡ p′ →
+      PivotIs p′ x
+      → next ≡ onward (c .next) → command ≡ clauseCommand strikes (record { literals = c .literals; pivot = p }) →
+      record { command = command; next = next } ≡ answer x
   answer-closed x c p p′ next command e r q is m =
-      ap (λ (m : code.Command). record { command = m; next = next }) (m ∙ ap (λ (p : Pivot). clauseCommand strikes (record { literals = c .literals; pivot = p })) r)
+      ap (λ (m : code.Command). record { command = m; next = next })
+      (m ∙ ap (λ (p : Pivot). clauseCommand strikes (record { literals = c .literals; pivot = p })) r)
       ∙ closed-is x c p′ next e q is
 
   pub answer-refused : (x : Next) (number place : ℕ) → clauseOf x ≡ Refused number place

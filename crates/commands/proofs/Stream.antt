@@ -1,5 +1,5 @@
--- One law for each way through the readers of a command: the record at a place, the end of a DRAT proof, a clause struck, a clause added. The idea: the
--- definition's tests have the code's answers. Assumes nothing.
+-- One law for each way through the readers of a command: the record at a place, the end of a DRAT proof, a clause struck, a clause added.
+-- The idea: the definition's tests have the code's answers. Assumes nothing.
 use mathlib.Core.Path.{_≡_, sym}
 use mathlib.Core.Logic.{_≢_}
 use mathlib.Core.Bool.{true, false}
@@ -13,7 +13,8 @@ use Rattle.dimacs.specs.Text.{between}
 use Rattle.dimacs.specs.Header.{isWord}
 use Rattle.dimacs.specs.Clauses.{Next, clauseFrom}
 use Rattle.records.specs.declared.Record.{Record}
-use Rattle.records.specs.declared.Record.the-variants.{NodeEntry, Witness, ProofLine, Strike, SetEntry, End, CutShort, UnknownKind, NoRecord}
+use Rattle.records.specs.declared.Record.the-variants.{NodeEntry, Witness, ProofLine, Strike, SetEntry, End, CutShort, UnknownKind}
+use Rattle.records.specs.declared.Record.the-variants.{NoRecord}
 use Rattle.records.specs.Records.{recordAt, lengthOf}
 use Rattle.commands.specs.declared.Command.the-variants as code-variants
 use Rattle.commands.specs.declared.Read as code-read
@@ -64,7 +65,8 @@ module _ (s : List ℕ) (n at : ℕ) where
   unfolding binaryRead
   binary-finished h = rw (le-ltb at (length s) h)
 
-  pub binary-adding : (r : code-read.Read) → at < length s → getD s at 0 ≡ 0x61 → r ≡ readOf (clauseRead (λ end. end) at (commandFor false) body)
+  pub binary-adding : (r : code-read.Read) → at < length s → getD s at 0 ≡ 0x61 → r
+      ≡ readOf (clauseRead (λ end. end) at (commandFor false) body)
       → r ≡ readOf (binaryRead s n at)
   unfolding binaryRead
   binary-adding r h a e = rw (lt-ltb at (length s) h, a) e

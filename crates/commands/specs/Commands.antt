@@ -78,8 +78,8 @@ unfoldable pub groupsIn : List ℕ → Groups
 groupsIn [] = cut
 groupsIn (b ∷ bs) = let more = groupThen (b - 128) (groupsIn bs) in cond (ltb b 128) (groups b 1 b) more
 
--- What groups say in a formula of n variables. "a zero byte closes"; "surplus groups or a literal 1 with 31, then one beyond [..] the header
--- with 4"; "v is 2 × v, −v is 2 × v + 1". Groups are surplus where there is more than one and the last is 0.
+-- What groups say in a formula of n variables. "a zero byte closes"; "surplus groups or a literal 1 with 31, then one beyond [..] the
+-- header with 4"; "v is 2 × v, −v is 2 × v + 1". Groups are surplus where there is more than one and the last is 0.
 abbrev pub groupsToken : ℕ → ℕ → ℕ → ℕ → Token
 groupsToken n number many last =
     cond (eqb number 0 && eqb many 1) Closing

@@ -29,16 +29,19 @@ use Rattle.conflict.specs.Marks.{isListed}
 
 -- ---- a test over the list's diagrams, place by place
 
-any-at : (p : Diagram → Bool) (t : List Node) (list : List ℕ) (k : ℕ) → k < length list → p (diagramAt t (getD list k 0)) ≡ true → any p (diagramsOf t list) ≡ true
+any-at : (p : Diagram → Bool) (t : List Node) (list : List ℕ) (k : ℕ) → k < length list → p (diagramAt t (getD list k 0)) ≡ true →
+    any p (diagramsOf t list) ≡ true
 unfolding any
 any-at p t [] k q e = absurd (omega arith)
 any-at p t (j ∷ js) zero q e = ap (λ (b : Bool). b || any p (diagramsOf t js)) e
 any-at p t (j ∷ js) (suc k) q e = or-right (p (diagramAt t j)) (any p (diagramsOf t js)) (any-at p t js k (omega arith) e)
 
-any-nowhere : (p : Diagram → Bool) (t : List Node) (list : List ℕ) → ((k : ℕ) → k < length list → p (diagramAt t (getD list k 0)) ≡ false) → any p (diagramsOf t list) ≡ false
+any-nowhere : (p : Diagram → Bool) (t : List Node) (list : List ℕ) → ((k : ℕ) → k < length list → p (diagramAt t (getD list k 0)) ≡ false) →
+    any p (diagramsOf t list) ≡ false
 unfolding any
 any-nowhere p t [] h = refl
-any-nowhere p t (j ∷ js) h = ap (λ (b : Bool). b || any p (diagramsOf t js)) (h 0 (omega arith)) ∙ any-nowhere p t js (λ k q. h (suc k) (omega arith))
+any-nowhere p t (j ∷ js) h = ap (λ (b : Bool). b || any p (diagramsOf t js)) (h 0 (omega arith))
+    ∙ any-nowhere p t js (λ k q. h (suc k) (omega arith))
 
 -- node 0 is not listed
 not-listed : (list : List ℕ) (n : ℕ) → isListed list n ≡ false → (k : ℕ) → k < length list → getD list k 0 ≢ n
@@ -90,40 +93,50 @@ negated-value t j k e z =
 -- ---- members that are not each other's negations
 
 module _ (t : List Node) (list : List ℕ) where
-  pub negated-here : (f : ℕ) → isListed list f ≡ true → negationIn (diagramsOf t list) (diagramAt t f) ≡ true → someNegated (diagramsOf t list) ≡ true
+  pub negated-here : (f : ℕ) → isListed list f ≡ true → negationIn (diagramsOf t list) (diagramAt t f) ≡ true →
+      someNegated (diagramsOf t list) ≡ true
   unfolding someNegated
   negated-here f l e =
       let m = listed-at list f l in
-      any-at (negationIn (diagramsOf t list)) t list (m .0) (m .1) (ap (λ (k : ℕ). negationIn (diagramsOf t list) (diagramAt t k)) (m .2) ∙ e)
+      any-at (negationIn (diagramsOf t list)) t list (m .0) (m .1)
+      (ap (λ (k : ℕ). negationIn (diagramsOf t list) (diagramAt t k)) (m .2) ∙ e)
 
-  negation-at : (i j : ℕ) → j < length list → diagramAt t (getD list j 0) ≡ negation 64 (diagramAt t (getD list i 0)) → negationIn (diagramsOf t list) (diagramAt t (getD list i 0)) ≡ true
+  negation-at : (i j : ℕ) → j < length list → diagramAt t (getD list j 0) ≡ negation 64 (diagramAt t (getD list i 0)) →
+      negationIn (diagramsOf t list) (diagramAt t (getD list i 0)) ≡ true
   unfolding negationIn
-  negation-at i j q e = any-at (λ f. same f (negation 64 (diagramAt t (getD list i 0)))) t list j q (eq-same (diagramAt t (getD list j 0)) (negation 64 (diagramAt t (getD list i 0))) e)
+  negation-at i j q e = any-at (λ f. same f (negation 64 (diagramAt t (getD list i 0)))) t list j q
+      (eq-same (diagramAt t (getD list j 0)) (negation 64 (diagramAt t (getD list i 0))) e)
 
   pub no-conflict : conflicts 64 (diagramsOf t list) ≡ false → (i j : ℕ) → i < length list → j < length list
       → diagramAt t (getD list j 0) ≢ negation 64 (diagramAt t (getD list i 0))
   unfolding conflicts
   no-conflict c i j p q e =
       t≢f (sym (any-at (λ f. any (λ g. same f (negation 64 g)) (diagramsOf t list)) t list j q
-      (any-at (λ g. same (diagramAt t (getD list j 0)) (negation 64 g)) t list i p (eq-same (diagramAt t (getD list j 0)) (negation 64 (diagramAt t (getD list i 0))) e)))
-      ∙ or-neither (any (same (leaf false)) (diagramsOf t list)) (any (λ f. any (λ g. same f (negation 64 g)) (diagramsOf t list)) (diagramsOf t list)) c .1)
+      (any-at (λ g. same (diagramAt t (getD list j 0)) (negation 64 g)) t list i p
+      (eq-same (diagramAt t (getD list j 0)) (negation 64 (diagramAt t (getD list i 0))) e)))
+      ∙ or-neither (any (same (leaf false)) (diagramsOf t list))
+      (any (λ f. any (λ g. same f (negation 64 g)) (diagramsOf t list)) (diagramsOf t list)) c .1)
 
   pub no-zero : conflicts 64 (diagramsOf t list) ≡ false → (i : ℕ) → i < length list → diagramAt t (getD list i 0) ≢ leaf false
   unfolding conflicts
   no-zero c i p e =
       t≢f (sym (any-at (same (leaf false)) t list i p (eq-same (leaf false) (diagramAt t (getD list i 0)) (sym e)))
-      ∙ or-neither (any (same (leaf false)) (diagramsOf t list)) (any (λ f. any (λ g. same f (negation 64 g)) (diagramsOf t list)) (diagramsOf t list)) c .0)
+      ∙ or-neither (any (same (leaf false)) (diagramsOf t list))
+      (any (λ f. any (λ g. same f (negation 64 g)) (diagramsOf t list)) (diagramsOf t list)) c .0)
 
-  nowhere-negated : (f : Diagram) → ((j : ℕ) → j < length list → diagramAt t (getD list j 0) ≢ negation 64 f) → negationIn (diagramsOf t list) f ≡ false
+  nowhere-negated : (f : Diagram) → ((j : ℕ) → j < length list → diagramAt t (getD list j 0) ≢ negation 64 f) →
+      negationIn (diagramsOf t list) f ≡ false
   unfolding negationIn
   nowhere-negated f n =
       any-nowhere (λ g. same g (negation 64 f)) t list λ j q.
       not-true (same (diagramAt t (getD list j 0)) (negation 64 f)) (λ e. n j q (same-eq (diagramAt t (getD list j 0)) (negation 64 f) e))
 
   module _ (O : Ordered t) (inside : Inside (length t) list) (asked : List ℕ) (all : Bool) (A : Asked t list asked all)
-      (unlisted : (k : ℕ) → k < length asked → asks t (getD asked k 0) all ≡ true → negationIn (diagramsOf t list) (diagramAt t (getD asked k 0)) ≡ false) where
+      (unlisted : (k : ℕ) → k < length asked → asks t (getD asked k 0) all ≡ true →
+      negationIn (diagramsOf t list) (diagramAt t (getD asked k 0)) ≡ false) where
     -- one that is asked is no member's negation
-    not-asked : (i j : ℕ) → j < length list → diagramAt t (getD list j 0) ≡ negation 64 (diagramAt t (getD list i 0)) → isListed asked (getD list i 0) ≡ true
+    not-asked : (i j : ℕ) → j < length list → diagramAt t (getD list j 0) ≡ negation 64 (diagramAt t (getD list i 0)) →
+        isListed asked (getD list i 0) ≡ true
         → asks t (getD list i 0) all ≡ true → ⊥
     not-asked i j q e l a =
         let m = listed-at asked (getD list i 0) l in
@@ -135,10 +148,12 @@ module _ (t : List Node) (list : List ℕ) where
     not-negations i j p q e = by all refl
       where
         back : diagramAt t (getD list i 0) ≡ negation 64 (diagramAt t (getD list j 0))
-        back = sym (ap (negation 64) e ∙ negation-twice 64 (diagramAt t (getD list i 0)) (diagramAt-reduced t O (getD list i 0) (inside i p)))
+        back = sym (ap (negation 64) e ∙ negation-twice 64 (diagramAt t (getD list i 0))
+            (diagramAt-reduced t O (getD list i 0) (inside i p)))
 
         by-value : all ≡ true → (b : Bool) → valueUnder t (getD list i 0) 0 ≡ b → ⊥
-        by-value s true z = not-asked j i p back (A .whole s j q) (asks-zero t (getD list j 0) all s (negated-value t (getD list i 0) (getD list j 0) e z))
+        by-value s true z = not-asked j i p back (A .whole s j q)
+            (asks-zero t (getD list j 0) all s (negated-value t (getD list i 0) (getD list j 0) e z))
         by-value s false z = not-asked i j q e (A .whole s i p) (asks-zero t (getD list i 0) all s z)
 
         by-pair : all ≡ false → (isListed asked (getD list i 0) ≡ true) ⊎ (isListed asked (getD list j 0) ≡ true) → ⊥
@@ -151,7 +166,8 @@ module _ (t : List Node) (list : List ℕ) where
 
     pub none-negated : someNegated (diagramsOf t list) ≡ false
     unfolding someNegated
-    none-negated = any-nowhere (negationIn (diagramsOf t list)) t list λ i p. nowhere-negated (diagramAt t (getD list i 0)) (λ j q. not-negations i j p q)
+    none-negated = any-nowhere (negationIn (diagramsOf t list)) t list λ i p. nowhere-negated (diagramAt t (getD list i 0))
+        (λ j q. not-negations i j p q)
 
 -- ---- the asked are members
 
@@ -160,7 +176,8 @@ module _ (t : List Node) (list asked : List ℕ) (all : Bool) (A : Asked t list 
   asked-listed f l = let m = listed-at asked f l in ap (isListed list) (sym (m .2)) ∙ A .listed (m .0) (m .1)
 
   pub asked-inside : (count : ℕ) → Inside count list → Inside count asked
-  asked-inside count h k q = let m = listed-at list (getD asked k 0) (A .listed k q) in subst (λ (f : ℕ). f < count) (m .2) (h (m .0) (m .1))
+  asked-inside count h k q = let m = listed-at list (getD asked k 0) (A .listed k q) in
+      subst (λ (f : ℕ). f < count) (m .2) (h (m .0) (m .1))
 
   pub zero-unlisted : isListed asked 0 ≡ false → isListed list 0 ≡ false
   zero-unlisted e = not-true (isListed list 0) (λ z. t≢f (sym (A .zero z) ∙ e))
@@ -171,10 +188,12 @@ pub asked-first : (t : List Node) (list asked : List ℕ) (all : Bool) → Negat
 asked-first t list asked all = record { so-far = omega arith; none = λ k p. absurd (omega arith) }
 
 pub asked-next : (t : List Node) (list asked : List ℕ) (all : Bool) (i : ℕ) → NegationsAsked t list asked all i → i < length asked
-    → (asks t (getD asked i 0) all ≡ true → negationIn (diagramsOf t list) (diagramAt t (getD asked i 0)) ≡ false) → NegationsAsked t list asked all (i + 1)
+    → (asks t (getD asked i 0) all ≡ true → negationIn (diagramsOf t list) (diagramAt t (getD asked i 0)) ≡ false) →
+    NegationsAsked t list asked all (i + 1)
 asked-next t list asked all i A p here = record { so-far = omega arith; none = λ k q. go k q (ℕ-discrete k i) }
   where
-    go : (k : ℕ) → k < i + 1 → Dec (k ≡ i) → asks t (getD asked k 0) all ≡ true → negationIn (diagramsOf t list) (diagramAt t (getD asked k 0)) ≡ false
+    go : (k : ℕ) → k < i + 1 → Dec (k ≡ i) → asks t (getD asked k 0) all ≡ true →
+        negationIn (diagramsOf t list) (diagramAt t (getD asked k 0)) ≡ false
     go k q (yes e) = rw e here
     go k q (no n) = A .none k (omega arith)
 
@@ -185,14 +204,16 @@ passed-none T asked all from h = record { from-on = omega arith; most = h; none 
 
 pub passed-next : (T : Table) (asked : List ℕ) (all : Bool) (from i : ℕ) → Passed T asked all from i → i < length asked
     → (asks (nodesOf T) (getD asked i 0) all ≡ true → Unnegated T (getD asked i 0)) → Passed T asked all from (i + 1)
-passed-next T asked all from i P p here = record { from-on = omega (arith, P .from-on); most = omega arith; none = λ k f q. go k f q (ℕ-discrete k i) }
+passed-next T asked all from i P p here = record
+    { from-on = omega (arith, P .from-on); most = omega arith; none = λ k f q. go k f q (ℕ-discrete k i) }
   where
     go : (k : ℕ) → from ≤ k → k < i + 1 → Dec (k ≡ i) → asks (nodesOf T) (getD asked k 0) all ≡ true → Unnegated T (getD asked k 0)
     go k f q (yes e) = subst (λ (j : ℕ). asks (nodesOf T) (getD asked j 0) all ≡ true → Unnegated T (getD asked j 0)) (sym e) here
     go k f q (no n) = P .none k f (omega arith)
 
 pub asked-passed : (T : Table) (list asked : List ℕ) (all : Bool) → Inside (T .count) list → isListed list 0 ≡ false
-    → (i place : ℕ) → NegationsAsked (nodesOf T) list asked all i → Passed T asked all i place → NegationsAsked (nodesOf T) list asked all place
+    → (i place : ℕ) → NegationsAsked (nodesOf T) list asked all i → Passed T asked all i place →
+    NegationsAsked (nodesOf T) list asked all place
 asked-passed T list asked all h z i place A P = record { so-far = P .most; none = λ k q. go k q (decLt k i) }
   where
     least : (j : ℕ) → j < length list → 1 ≤ getD list j 0

@@ -29,7 +29,8 @@ pub listed-none : (list : List ℕ) (i k : ℕ) → length list ≤ i → isList
 unfolding isListed
 listed-none list i k h = rw (drop-of-length-le list h)
 
-pub set-step : (m : ℕ) (marks list : List ℕ) (i : ℕ) → i < length list → setAll m marks (drop i list) ≡ setAll m (set marks (getD list i 0) m) (drop (i + 1) list)
+pub set-step : (m : ℕ) (marks list : List ℕ) (i : ℕ) → i < length list → setAll m marks (drop i list)
+    ≡ setAll m (set marks (getD list i 0) m) (drop (i + 1) list)
 unfolding setAll
 set-step m marks list i p = rw (add-one, drop-cons list i 0 p)
 
@@ -56,7 +57,8 @@ inside-rest : (s k : ℕ) (ks : List ℕ) → Inside s (k ∷ ks) → Inside s k
 inside-rest s k ks h i p = h (suc i) (omega arith)
 
 -- a place has the mark exactly where it is listed
-mark-of : (m : ℕ) (marks list : List ℕ) (j : ℕ) → Inside (length marks) list → getD (setAll m marks list) j 0 ≡ at-mark (isListed list j) m (getD marks j 0)
+mark-of : (m : ℕ) (marks list : List ℕ) (j : ℕ) → Inside (length marks) list → getD (setAll m marks list) j 0
+    ≡ at-mark (isListed list j) m (getD marks j 0)
 unfolding setAll isListed
 mark-of m marks [] j h = refl
 mark-of m marks (k ∷ ks) j h =
@@ -82,10 +84,12 @@ module _ (s : ℕ) (list : List ℕ) (h : Inside s list) where
 
   pub none-left : setAll 0 (setAll 1 (unmarked s) list) list ≡ unmarked s
   none-left =
-      ext-getD 0 (setAll 0 (setAll 1 (unmarked s) list) list) (unmarked s) (length-setAll 0 (setAll 1 (unmarked s) list) list ∙ length-setAll 1 (unmarked s) list)
+      ext-getD 0 (setAll 0 (setAll 1 (unmarked s) list) list) (unmarked s)
+      (length-setAll 0 (setAll 1 (unmarked s) list) list ∙ length-setAll 1 (unmarked s) list)
       (λ j p. mark-of 0 (setAll 1 (unmarked s) list) list j (λ i q. rw (marked-length s list) (h i q))
       ∙ ap (at-mark (isListed list j) 0) (mark-of 1 (unmarked s) list j in-marks)
-      ∙ twice (isListed list j) (getD (unmarked s) j 0) (getD-replicate {A = ℕ} s j 0 0 (omega (arith, length-setAll 0 (setAll 1 (unmarked s) list) list, marked-length s list))))
+      ∙ twice (isListed list j) (getD (unmarked s) j 0)
+      (getD-replicate {A = ℕ} s j 0 0 (omega (arith, length-setAll 0 (setAll 1 (unmarked s) list) list, marked-length s list))))
     where
       twice : (b : Bool) (z : ℕ) → z ≡ 0 → at-mark b 0 (at-mark b 1 z) ≡ z
       twice true z e = sym e

@@ -55,22 +55,26 @@ module _ (t : List Node) (O : Ordered t) where
       (λ e. eq-same (diagramAt t j) (diagramAt t k) (ap (diagramAt t) (eqb-true j k e)))
 
   -- a node's diagram is among the members where its number is listed
-  any-listed : (list : List ℕ) (k : ℕ) → k < length t → Inside (length t) list → any (λ f. same f (diagramAt t k)) (diagramsOf t list) ≡ isListed list k
+  any-listed : (list : List ℕ) (k : ℕ) → k < length t → Inside (length t) list → any (λ f. same f (diagramAt t k)) (diagramsOf t list)
+      ≡ isListed list k
   unfolding any isListed
   any-listed [] k p h = refl
   any-listed (j ∷ js) k p h = ap₂ _||_ (same-number j k (h 0 (omega arith)) p) (any-listed js k p (λ i q. h (suc i) (omega arith)))
 
   -- a diagram that no node has is not among them
-  any-absent : (list : List ℕ) (D : Diagram) → ((k : ℕ) → k < length t → diagramAt t k ≢ D) → Inside (length t) list → any (λ f. same f D) (diagramsOf t list) ≡ false
+  any-absent : (list : List ℕ) (D : Diagram) → ((k : ℕ) → k < length t → diagramAt t k ≢ D) → Inside (length t) list →
+      any (λ f. same f D) (diagramsOf t list) ≡ false
   unfolding any
   any-absent [] D n h = refl
   any-absent (j ∷ js) D n h =
-      ap₂ _||_ (not-true (same (diagramAt t j) D) (λ e. n j (h 0 (omega arith)) (same-eq (diagramAt t j) D e))) (any-absent js D n (λ i q. h (suc i) (omega arith)))
+      ap₂ _||_ (not-true (same (diagramAt t j) D) (λ e. n j (h 0 (omega arith)) (same-eq (diagramAt t j) D e)))
+      (any-absent js D n (λ i q. h (suc i) (omega arith)))
 
   zero-number : (j : ℕ) → j < length t → same (leaf false) (diagramAt t j) ≡ eqb j 0
   zero-number j p =
       both-ways (same (leaf false) (diagramAt t j)) (eqb j 0)
-      (λ e. eq-eqb j 0 (diagramAt-injective t O j 0 p (omega arith) (sym (same-eq (leaf false) (diagramAt t j) e) ∙ sym (diagramAt-zero t))))
+      (λ e. eq-eqb j 0 (diagramAt-injective t O j 0 p (omega arith)
+      (sym (same-eq (leaf false) (diagramAt t j) e) ∙ sym (diagramAt-zero t))))
       (λ e. eq-same (leaf false) (diagramAt t j) (sym (diagramAt-zero t) ∙ ap (diagramAt t) (sym (eqb-true j 0 e))))
 
   zero-listed : (list : List ℕ) → Inside (length t) list → any (same (leaf false)) (diagramsOf t list) ≡ isListed list 0
@@ -88,15 +92,18 @@ module _ (t : List Node) (O : Ordered t) where
     pub others-conflict : isListed list 0 ≡ false → conflicts 64 (diagramsOf t list) ≡ someNegated (diagramsOf t list)
     unfolding conflicts someNegated negationIn
     others-conflict e =
-        ap (λ (b : Bool). b || any (λ f. any (λ g. same f (negation 64 g)) (diagramsOf t list)) (diagramsOf t list)) (zero-listed list h ∙ e)
+        ap (λ (b : Bool). b || any (λ f. any (λ g. same f (negation 64 g)) (diagramsOf t list)) (diagramsOf t list))
+        (zero-listed list h ∙ e)
         ∙ any-swap (λ f g. same f (negation 64 g)) (diagramsOf t list) (diagramsOf t list)
 
     -- a node is the negation of g
-    pub negation-found : (g : Diagram) (k : ℕ) → k < length t → diagramAt t k ≡ negation 64 g → negationIn (diagramsOf t list) g ≡ isListed list k
+    pub negation-found : (g : Diagram) (k : ℕ) → k < length t → diagramAt t k ≡ negation 64 g → negationIn (diagramsOf t list) g
+        ≡ isListed list k
     unfolding negationIn
     negation-found g k p e = ap (λ (D : Diagram). any (λ f. same f D) (diagramsOf t list)) (sym e) ∙ any-listed list k p h
 
     -- no node is
-    pub negation-absent : (g : Diagram) → ((k : ℕ) → k < length t → diagramAt t k ≢ negation 64 g) → negationIn (diagramsOf t list) g ≡ false
+    pub negation-absent : (g : Diagram) → ((k : ℕ) → k < length t → diagramAt t k ≢ negation 64 g) → negationIn (diagramsOf t list) g
+        ≡ false
     unfolding negationIn
     negation-absent g n = any-absent list (negation 64 g) n h

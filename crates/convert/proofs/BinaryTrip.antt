@@ -13,7 +13,8 @@ use Rattle.dimacs.specs.declared.Token.{Token}
 use Rattle.dimacs.specs.declared.Token.the-variants.{Literal}
 use Rattle.dimacs.specs.Clauses.{closed, literalThen, afterToken}
 use Rattle.commands.specs.declared.Form.the-variants.{Binary}
-use Rattle.commands.specs.Commands.{Read, reading, Groups, groups, groupsIn, groupsToken, afterGroups, binaryFrom, binaryRead, added, struckOut, wrong}
+use Rattle.commands.specs.Commands.{Read, reading, Groups, groups, groupsIn, groupsToken, afterGroups, binaryFrom, binaryRead, added}
+use Rattle.commands.specs.Commands.{struckOut, wrong}
 use Rattle.commands.specs.Inner.{commandFor}
 use Rattle.convert.specs.Convert.{linesThen, linesFrom, linesOf, codeOf, groupsOf, binaryLiterals, binaryLine, printed}
 use Rattle.convert.proofs.Left.{At, at-start, at-on, at-byte, Small, AllSmall, whole}
@@ -39,7 +40,8 @@ groups-back l lo hi rest = go (l .positive) refl
             let sum : (128 + u % 128 - 128) + 128 * (u / 128) ≡ u = omega arith in
             (u / 128, rw (e, top, one, sum) refl, λ z. absurd (omega arith))
 
-    go : (b : Bool) → l .positive ≡ b → (last : ℕ) × (groupsIn (groupsOf (codeOf l) ++ rest) ≡ groups (codeOf l) (length (groupsOf (codeOf l))) last) × (last ≢ 0)
+    go : (b : Bool) → l .positive ≡ b → (last : ℕ)
+        × (groupsIn (groupsOf (codeOf l) ++ rest) ≡ groups (codeOf l) (length (groupsOf (codeOf l))) last) × (last ≢ 0)
     go true e = rw e (back (2 * l .variable) (omega arith) (omega arith))
     go false e = rw e (back (2 * l .variable + 1) (omega arith) (omega arith))
 
@@ -65,11 +67,17 @@ token-back : (l : meaning.Literal) → 1 ≤ l .variable → l .variable ≤ 64 
     → groupsToken 64 (codeOf l) many last ≡ Literal (l .variable) (l .positive)
 token-back l lo hi many last nz =
     let (two, most) = code-range l lo hi in
-    rw (ne-eqb (codeOf l) 0 (λ z. absurd (omega arith)), ne-eqb last 0 nz, ne-eqb (codeOf l) 1 (λ z. absurd (omega arith)), le-ltb 64 (codeOf l / 2) most) (code-back (l .variable) (l .positive))
+    rw (
+      ne-eqb (codeOf l) 0 (λ z. absurd (omega arith)),
+      ne-eqb last 0 nz,
+      ne-eqb (codeOf l) 1 (λ z. absurd (omega arith)),
+      le-ltb 64 (codeOf l / 2) most,
+    ) (code-back (l .variable) (l .positive))
 
 -- ---- a clause
 
-pub binary-back : (ls : List meaning.Literal) → Small ls → {s : List ℕ} {at : ℕ} (rest : List ℕ) → At s at (binaryLiterals ls ++ rest) → (k first : ℕ) → length ls < k
+pub binary-back : (ls : List meaning.Literal) → Small ls → {s : List ℕ} {at : ℕ} (rest : List ℕ) → At s at (binaryLiterals ls ++ rest) →
+    (k first : ℕ) → length ls < k
     → binaryFrom s 64 k first at ≡ closed ls first (at + length (binaryLiterals ls))
 unfolding binaryFrom groupsIn
 binary-back [] small {s} {at} rest A zero first lt = absurd (omega arith)
@@ -80,7 +88,8 @@ binary-back (l ∷ ls) small {s} {at} rest A (suc k) first lt =
     let A′ : At s at (g ++ (binaryLiterals ls ++ rest)) = subst (At s at) (append-assoc g (binaryLiterals ls) rest) A in
     let (last, is, nz) = groups-back l (small .0) (small .1) (binaryLiterals ls ++ rest) in
     ap (λ (x : Groups). afterGroups 64 first at x (λ next. binaryFrom s 64 k first next)) (ap groupsIn (A′ .is) ∙ is)
-    ∙ ap (λ (t : Token). afterToken t first at (at + length g) (binaryFrom s 64 k first (at + length g))) (token-back l (small .0) (small .1) (length g) last nz)
+    ∙ ap (λ (t : Token). afterToken t first at (at + length g) (binaryFrom s 64 k first (at + length g)))
+    (token-back l (small .0) (small .1) (length g) last nz)
     ∙ ap (literalThen l) (binary-back ls (small .2) rest (at-on g (binaryLiterals ls ++ rest) A′) k first (omega arith))
     ∙ ap (closed (l ∷ ls) first) (omega (arith, length-append g (binaryLiterals ls)))
 
@@ -95,14 +104,16 @@ binary-long (l ∷ ls) = omega (arith, binary-long ls, length-append (groupsOf (
         go true = omega arith
         go false = omega arith
 
-pub binary-line : (b : Bool) (ls : List meaning.Literal) → Small ls → {s : List ℕ} {at : ℕ} (rest : List ℕ) → At s at (binaryLine b ls ++ rest)
+pub binary-line : (b : Bool) (ls : List meaning.Literal) → Small ls → {s : List ℕ} {at : ℕ} (rest : List ℕ) →
+    At s at (binaryLine b ls ++ rest)
     → binaryRead s 64 at ≡ reading (commandFor b ls) (at + length (binaryLine b ls))
 unfolding binaryRead
 binary-line b ls small {s} {at} rest A =
     let (lt, is) = at-byte (binaryLiterals ls ++ rest) A in
     let A′ : At s (at + 1) (binaryLiterals ls ++ rest) = at-on (cond b 0x64 0x61 ∷ []) (binaryLiterals ls ++ rest) A in
     let body : binaryFrom s 64 (length s - (at + 1)) at (at + 1) ≡ closed ls at (at + 1 + length (binaryLiterals ls)) =
-    binary-back ls small rest A′ (length s - (at + 1)) at (omega (arith, A′ .size, binary-long ls, length-append (binaryLiterals ls) rest)) in
+    binary-back ls small rest A′ (length s - (at + 1)) at (omega (arith, A′ .size, binary-long ls, length-append (binaryLiterals ls) rest))
+    in
     let ends : at + 1 + length (binaryLiterals ls) ≡ at + length (binaryLine b ls) = omega arith in
     rw (lt-ltb at (length s) lt, is, body, ends) (go b)
   where
@@ -114,12 +125,14 @@ binary-line b ls small {s} {at} rest A =
 
 -- ---- all clauses
 
-binary-lines : (xs : List (Bool × List meaning.Literal)) → AllSmall xs → {s : List ℕ} {at : ℕ} → At s at (printed binaryLine xs) → (k : ℕ) → length xs < k → linesFrom k Binary s at ≡ whole xs
+binary-lines : (xs : List (Bool × List meaning.Literal)) → AllSmall xs → {s : List ℕ} {at : ℕ} → At s at (printed binaryLine xs) → (k : ℕ) →
+    length xs < k → linesFrom k Binary s at ≡ whole xs
 unfolding linesFrom binaryRead
 binary-lines xs small A zero lt = absurd (omega arith)
 binary-lines [] small {s} {at} A (suc k) lt = rw (le-ltb at (length s) (omega (arith, A .size))) refl
 binary-lines ((b, ls) ∷ xs) small {s} {at} A (suc k) lt =
-    rw (binary-line b ls (small .0) (printed binaryLine xs) A) (go b (binary-lines xs (small .1) (at-on (binaryLine b ls) (printed binaryLine xs) A) k (omega arith)))
+    rw (binary-line b ls (small .0) (printed binaryLine xs) A)
+    (go b (binary-lines xs (small .1) (at-on (binaryLine b ls) (printed binaryLine xs) A) k (omega arith)))
   where
     go : (b : Bool) → linesFrom k Binary s (at + length (binaryLine b ls)) ≡ whole xs
         → linesThen (commandFor b ls) at (linesFrom k Binary s (at + length (binaryLine b ls))) ≡ whole ((b, ls) ∷ xs)
@@ -132,4 +145,5 @@ printed-long ((b, ls) ∷ xs) = omega (arith, printed-long xs, length-append (bi
 
 -- THEOREM: what is printed in binary is read back.
 pub binary-trip : (xs : List (Bool × List meaning.Literal)) → AllSmall xs → linesOf Binary (printed binaryLine xs) ≡ whole xs
-binary-trip xs small = binary-lines xs small (at-start (printed binaryLine xs)) (suc (length (printed binaryLine xs))) (omega (arith, printed-long xs))
+binary-trip xs small = binary-lines xs small (at-start (printed binaryLine xs)) (suc (length (printed binaryLine xs)))
+    (omega (arith, printed-long xs))

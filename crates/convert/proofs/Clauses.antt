@@ -1,5 +1,5 @@
--- An open clause read token by token, in either form: what is to be read is what is left to be read, behind each literal. The idea: a literal's token is
--- its own text, so that its end is known by the literal; groups have bytes. Assumes nothing.
+-- An open clause read token by token, in either form: what is to be read is what is left to be read, behind each literal. The idea: a
+-- literal's token is its own text, so that its end is known by the literal; groups have bytes. Assumes nothing.
 use mathlib.Core.Path.{_≡_, refl, sym, ap, _∙_, subst}
 use mathlib.Core.Bool.{Bool, true, false, cond}
 use mathlib.Core.List.{List, [], _∷_}
@@ -44,13 +44,16 @@ module _ (s : List ℕ) (first at : ℕ) where
     long : length (slice at (tokenEnd s at) s) ≡ tokenEnd s at - at
     long = length-slice at (tokenEnd s at) s (past-most isToken s at (omega arith))
 
-    here : textRest s first at ≡ afterToken (tokenAt s 64 at) first at (tokenEnd s at) (clauseFrom s 64 (length s - (at + 1)) first (nextAt s 64 at))
+    here : textRest s first at ≡ afterToken (tokenAt s 64 at) first at (tokenEnd s at)
+        (clauseFrom s 64 (length s - (at + 1)) first (nextAt s 64 at))
     here =
         let steps : length s - at ≡ suc (length s - (at + 1)) = omega arith in
         ap (λ (k : ℕ). clauseFrom s 64 k first at) steps ∙ clause-suc s 64 (length s - (at + 1)) first at inside
 
-    after : (t : Token) → tokenAt s 64 at ≡ t → textRest s first at ≡ afterToken t first at (tokenEnd s at) (clauseFrom s 64 (length s - (at + 1)) first (nextAt s 64 at))
-    after t e = here ∙ ap (λ (x : Token). afterToken x first at (tokenEnd s at) (clauseFrom s 64 (length s - (at + 1)) first (nextAt s 64 at))) e
+    after : (t : Token) → tokenAt s 64 at ≡ t → textRest s first at ≡ afterToken t first at (tokenEnd s at)
+        (clauseFrom s 64 (length s - (at + 1)) first (nextAt s 64 at))
+    after t e = here ∙ ap (λ (x : Token). afterToken x first at (tokenEnd s at)
+        (clauseFrom s 64 (length s - (at + 1)) first (nextAt s 64 at))) e
 
     own : (t : Token) → tokenAt s 64 at ≡ t → OwnedBy (slice at (tokenEnd s at) s) t
     own t e = subst (OwnedBy (slice at (tokenEnd s at) s)) e (token-own (slice at (tokenEnd s at) s))
@@ -70,7 +73,8 @@ module _ (s : List ℕ) (first at : ℕ) where
       pub within : end ≤ length s
       pub goes : textRest s first at ≡ literalThen (literalMade v b) (textRest s first (between s end))
 
-    pub text-literal : (v : ℕ) (b : Bool) (end : ℕ) → tokenAt s 64 at ≡ Literal v b → end ≡ at + length (tokenText (literalMade v b)) → TextLiteral v b end
+    pub text-literal : (v : ℕ) (b : Bool) (end : ℕ) → tokenAt s 64 at ≡ Literal v b → end ≡ at + length (tokenText (literalMade v b)) →
+        TextLiteral v b end
     text-literal v b end e is =
         let O : Owned v b (slice at (tokenEnd s at) s) = own (Literal v b) e in
         let size : length (tokenText (literalMade v b)) ≡ tokenEnd s at - at = sym (ap length (O .is)) ∙ long in
@@ -81,7 +85,8 @@ module _ (s : List ℕ) (first at : ℕ) where
           within = omega (arith, same, past-most isToken s at (omega arith));
           goes = after (Literal v b) e
               ∙ ap (literalThen (literalMade v b)) (ap (λ (x : ℕ). clauseFrom s 64 (length s - (at + 1)) first (between s x)) same
-              ∙ clause-fuel s 64 (length s - (at + 1)) (length s - between s end) first (between s end) (omega (arith, is, some, between-least s end)) (omega arith));
+              ∙ clause-fuel s 64 (length s - (at + 1)) (length s - between s end) first (between s end)
+              (omega (arith, is, some, between-least s end)) (omega arith));
         }
 
 -- ---- binary
@@ -108,7 +113,8 @@ module _ (s : List ℕ) (first at : ℕ) where
   binary-open h = binary-end s 64 (length s - at) first at h
 
   module _ (inside : at < length s) (r : GroupsRead) (is : r ≡ groupsRead 64 at (groupsIn (drop at s))) where
-    there : (g : Groups) → groupsIn (drop at s) ≡ g → binaryRest s first at ≡ afterGroups 64 first at g (λ next. binaryFrom s 64 (length s - (at + 1)) first next)
+    there : (g : Groups) → groupsIn (drop at s) ≡ g → binaryRest s first at
+        ≡ afterGroups 64 first at g (λ next. binaryFrom s 64 (length s - (at + 1)) first next)
     there g e =
         let steps : length s - at ≡ suc (length s - (at + 1)) = omega arith in
         ap (λ (k : ℕ). binaryFrom s 64 k first at) steps ∙ binary-suc s 64 (length s - (at + 1)) first at
@@ -131,7 +137,9 @@ module _ (s : List ℕ) (first at : ℕ) where
         go cut q = other (Wrong 6) Closing (λ z. omega arith) (sym (said-cut q) ∙ e)
         go (groups number many last) q =
             let (token, end) = said number many last q in
-            there (groups number many last) q ∙ ap (λ (t : Token). afterToken t first at (at + many) (binaryFrom s 64 (length s - (at + 1)) first (at + many))) (sym token ∙ e) ∙ ap (closed [] first) (sym end)
+            there (groups number many last) q ∙ ap
+            (λ (t : Token). afterToken t first at (at + many) (binaryFrom s 64 (length s - (at + 1)) first (at + many))) (sym token ∙ e)
+            ∙ ap (closed [] first) (sym end)
 
     pub binary-wrong : (k : ℕ) → r .token ≡ Wrong k → binaryRest s first at ≡ refused k (faultPlace k first at)
     binary-wrong k e = go (groupsIn (drop at s)) refl
@@ -143,14 +151,16 @@ module _ (s : List ℕ) (first at : ℕ) where
         go (groups number many last) q =
             let (token, end) = said number many last q in
             there (groups number many last) q
-            ∙ ap (λ (t : Token). afterToken t first at (at + many) (binaryFrom s 64 (length s - (at + 1)) first (at + many))) (sym token ∙ e)
+            ∙ ap (λ (t : Token). afterToken t first at (at + many) (binaryFrom s 64 (length s - (at + 1)) first (at + many)))
+            (sym token ∙ e)
             ∙ ap (refused k) (token-by 64 number many last (λ x. x ≡ Wrong k → at ≡ faultPlace k first at)
             (λ p q e. other Closing (Wrong k) (λ z. omega arith) e)
             (λ e. ap (λ (m : ℕ). faultPlace m first at) (ap wrongIn e))
             (λ e. ap (λ (m : ℕ). faultPlace m first at) (ap wrongIn e))
             (λ p q r e. other (Literal (number / 2) (eqb (number % 2) 0)) (Wrong k) (λ z. omega arith) e) (sym token ∙ e))
 
-    pub binary-literal : (v : ℕ) (b : Bool) → r .token ≡ Literal v b → binaryRest s first at ≡ literalThen (literalMade v b) (binaryRest s first (r .end))
+    pub binary-literal : (v : ℕ) (b : Bool) → r .token ≡ Literal v b → binaryRest s first at
+        ≡ literalThen (literalMade v b) (binaryRest s first (r .end))
     binary-literal v b e = go (groupsIn (drop at s)) refl
       where
         L : IsLiteral s 64 at r v
@@ -161,6 +171,7 @@ module _ (s : List ℕ) (first at : ℕ) where
         go (groups number many last) q =
             let (token, end) = said number many last q in
             there (groups number many last) q
-            ∙ ap (λ (t : Token). afterToken t first at (at + many) (binaryFrom s 64 (length s - (at + 1)) first (at + many))) (sym token ∙ e)
+            ∙ ap (λ (t : Token). afterToken t first at (at + many) (binaryFrom s 64 (length s - (at + 1)) first (at + many)))
+            (sym token ∙ e)
             ∙ ap (literalThen (literalMade v b)) (ap (λ (m : ℕ). binaryFrom s 64 (length s - (at + 1)) first m) (sym end)
             ∙ binary-fuel s 64 (length s - (at + 1)) (length s - r .end) first (r .end) (omega (arith, L .moves)) (omega arith))

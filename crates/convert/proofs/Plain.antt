@@ -1,5 +1,5 @@
--- A text that is read to its end is printed as its own tokens, parted by single spaces, one clause a line. The idea: a token that says a literal of a
--- variable up to 64 is the literal's own text, since a number has no leading 0. Assumes nothing.
+-- A text that is read to its end is printed as its own tokens, parted by single spaces, one clause a line. The idea: a token that says a
+-- literal of a variable up to 64 is the literal's own text, since a number has no leading 0. Assumes nothing.
 use mathlib.Core.Path.{_≡_, refl, sym, ap, ap₂, _∙_, subst}
 use mathlib.Core.Logic.{_≢_}
 use mathlib.Core.Bool.{Bool, true, false, not, _&&_, _||_, cond}
@@ -26,7 +26,8 @@ use Rattle.dimacs.proofs.OpenClause.{tokenAt, nextAt, clause-end, clause-suc, l
 use Rattle.commands.specs.declared.Form.the-variants.{Text}
 use Rattle.commands.specs.Commands.{Command, added, struckOut, finished, Read, reading, clauseRead, textRead}
 use Rattle.commands.proofs.Reading.{Fault, ClauseIn, clause-in}
-use Rattle.convert.specs.Convert.{Lines, lineThen, linesThen, linesFrom, linesOf, digitsOf, tokenText, textLiterals, textLine, printed, plainFrom, plain}
+use Rattle.convert.specs.Convert.{Lines, lineThen, linesThen, linesFrom, linesOf, digitsOf, tokenText, textLiterals, textLine}
+use Rattle.convert.specs.Convert.{printed, plainFrom, plain}
 use Rattle.convert.proofs.Left.{AllSmall}
 
 -- ---- digits
@@ -115,7 +116,8 @@ unfolding tokenOf isNumber
 token-own bs = go (isZero bs) refl (isDigits (unsigned bs)) refl (leb (valueOfDigits (unsigned bs)) 64) refl
   where
     go : (z : Bool) → isZero bs ≡ z → (d : Bool) → isDigits (unsigned bs) ≡ d → (w : Bool) → leb (valueOfDigits (unsigned bs)) 64 ≡ w
-        → OwnedBy bs (cond z Closing (cond (z || d) (cond w (Literal (valueOfDigits (unsigned bs)) (not (hasMinus bs))) (Wrong 4)) (Wrong 3)))
+        → OwnedBy bs (cond z Closing (cond (z || d) (cond w (Literal (valueOfDigits (unsigned bs)) (not (hasMinus bs))) (Wrong 4))
+        (Wrong 3)))
     go true z d q w r = zero-is bs z
     go false z true q true r = record { is = signed-own bs q (leb-true (valueOfDigits (unsigned bs)) 64 r); not-zero = z }
     go false z true q false r = tt
@@ -125,7 +127,8 @@ token-own bs = go (isZero bs) refl (isDigits (unsigned bs)) refl (leb (valueOfDi
 
 slice-one : (s : List ℕ) (at : ℕ) → at < length s → slice at (at + 1) s ≡ getD s at 0 ∷ []
 slice-one s at inside =
-    ap (drop at) (take-add at 1 s) ∙ drop-at (take at s) (take 1 (drop at s)) at (length-take-le at s (omega arith)) ∙ ap (take 1) (drop-cons s at 0 inside)
+    ap (drop at) (take-add at 1 s) ∙ drop-at (take at s) (take 1 (drop at s)) at (length-take-le at s (omega arith))
+    ∙ ap (take 1) (drop-cons s at 0 inside)
 
 module _ (s : List ℕ) where
   abbrev token : ℕ → List ℕ
@@ -136,18 +139,21 @@ module _ (s : List ℕ) where
   plain-end zero at h = refl
   plain-end (suc m) at h = rw (le-ltb at (length s) h) refl
 
-  plain-suc : (m at : ℕ) → at < length s → plainFrom (suc m) s at ≡ token at ++ cond (isZero (token at)) 10 32 ∷ plainFrom m s (between s (tokenEnd s at))
+  plain-suc : (m at : ℕ) → at < length s → plainFrom (suc m) s at ≡ token at ++ cond (isZero (token at)) 10 32 ∷
+      plainFrom m s (between s (tokenEnd s at))
   unfolding plainFrom
   plain-suc m at h = rw (lt-ltb at (length s) h) refl
 
   -- The tokens from a place on begin with those of the clause read there.
   abbrev Plainly : ℕ → ℕ → Next → Type 0
-  Plainly at m (closed ls first end) = (m′ : ℕ) × (length s ≤ between s end + m′) × (plainFrom m s at ≡ textLiterals ls ++ plainFrom m′ s (between s end)) × (at < end)
+  Plainly at m (closed ls first end) = (m′ : ℕ) × (length s ≤ between s end + m′)
+      × (plainFrom m s at ≡ textLiterals ls ++ plainFrom m′ s (between s end)) × (at < end)
   Plainly at m (refused number place) = Unit {0}
   Plainly at m ended = Unit {0}
 
   module _ (first : ℕ) where
-    literal-plain : (v : ℕ) (b : Bool) (at m : ℕ) → at < length s → length s ≤ at + suc m → tokenAt s 64 at ≡ Literal v b → Owned v b (token at)
+    literal-plain : (v : ℕ) (b : Bool) (at m : ℕ) → at < length s → length s ≤ at + suc m → tokenAt s 64 at ≡ Literal v b →
+        Owned v b (token at)
         → (x : Next) → Plainly (nextAt s 64 at) m x → Plainly at (suc m) (literalThen (record { variable = v; positive = b }) x)
     literal-plain v b at m inside enough is O (refused number place) P = tt
     literal-plain v b at m inside enough is O ended P = tt
@@ -161,7 +167,8 @@ module _ (s : List ℕ) where
           omega (arith, past, moves, between-least s (tokenEnd s at)),
         )
 
-    closing-plain : (at m : ℕ) → at < length s → length s ≤ at + suc m → token at ≡ 48 ∷ [] → Plainly at (suc m) (closed [] first (tokenEnd s at))
+    closing-plain : (at m : ℕ) → at < length s → length s ≤ at + suc m → token at ≡ 48 ∷ [] →
+        Plainly at (suc m) (closed [] first (tokenEnd s at))
     unfolding isZero
     closing-plain at m inside enough is =
         let most : tokenEnd s at ≤ length s = past-most isToken s at (omega arith) in
@@ -173,11 +180,13 @@ module _ (s : List ℕ) where
         )
 
     after-plain : (t : Token) (at m : ℕ) → at < length s → length s ≤ at + suc m → tokenAt s 64 at ≡ t → OwnedBy (token at) t
-        → (x : Next) → (length s ≤ nextAt s 64 at + m → Plainly (nextAt s 64 at) m x) → Plainly at (suc m) (afterToken t first at (tokenEnd s at) x)
+        → (x : Next) → (length s ≤ nextAt s 64 at + m → Plainly (nextAt s 64 at) m x) →
+        Plainly at (suc m) (afterToken t first at (tokenEnd s at) x)
     after-plain Closing at m inside enough is O x P = closing-plain at m inside enough O
     after-plain (Wrong k) at m inside enough is O x P = tt
     after-plain (Literal v b) at m inside enough is O x P =
-        literal-plain v b at m inside enough is O x (P (omega (arith, literal-moves s 64 at (tokenEnd s at) v b inside refl is, between-least s (tokenEnd s at))))
+        literal-plain v b at m inside enough is O x
+        (P (omega (arith, literal-moves s 64 at (tokenEnd s at) v b inside refl is, between-least s (tokenEnd s at))))
 
     zero-plain : (at m : ℕ) → Plainly at m (clauseFrom s 64 zero first at)
     unfolding clauseFrom
@@ -190,7 +199,8 @@ module _ (s : List ℕ) where
         by (ltb at (length s))
         (λ t. let inside : at < length s = ltb-true at (length s) t in
         subst (Plainly at (suc m)) (sym (clause-suc s 64 k first at inside))
-        (after-plain (tokenAt s 64 at) at m inside enough refl (token-own (token at)) (clauseFrom s 64 k first (nextAt s 64 at)) (λ later. clause-plain k (nextAt s 64 at) m later)))
+        (after-plain (tokenAt s 64 at) at m inside enough refl (token-own (token at)) (clauseFrom s 64 k first (nextAt s 64 at))
+        (λ later. clause-plain k (nextAt s 64 at) m later)))
         (λ f. subst (Plainly at (suc m)) (sym (clause-end s 64 (suc k) first at (ltb-false at (length s) f))) tt)
 
   -- ---- all clauses
@@ -202,26 +212,30 @@ module _ (s : List ℕ) where
       → (body : Next) → Plainly from m body → ClauseIn Fault s 64 at from body
       → (c : List meaning.Literal → Command) → ((ls : List meaning.Literal) (p : ℕ) (r : Lines) → linesThen (c ls) p r ≡ lineThen b ls r)
       → ((p m′ : ℕ) → at < p → p ≤ length s → length s ≤ p + m′ → PlainLines p m′ (linesFrom k Text s p))
-      → PlainLines at m₀ (linesThen (clauseRead (between s) at c body .command) at (linesFrom k Text s (clauseRead (between s) at c body .next)))
+      → PlainLines at m₀ (linesThen (clauseRead (between s) at c body .command) at
+      (linesFrom k Text s (clauseRead (between s) at c body .next)))
   line-plain b k at from m m₀ le opens (refused number place) P I c means ih = λ z. absurd (omega (arith, I .2 .0))
   line-plain b k at from m m₀ le opens ended P I c means ih = absurd I
   line-plain b k at from m m₀ le opens (closed ls f end) (m′, enough, same, past) I c means ih =
       let rest : Lines = linesFrom k Text s (between s end) in
       subst (PlainLines at m₀) (sym (means ls at rest)) (λ z.
       let (more, smalls) = ih (between s end) m′ (omega (arith, past, between-least s end, le)) (between-most s end (I .1)) enough z in (
-        ap (λ (x : List ℕ). textLine b ls ++ x) more ∙ append-assoc (cond b (100 ∷ 32 ∷ []) []) (textLiterals ls) (plainFrom m′ s (between s end))
+        ap (λ (x : List ℕ). textLine b ls ++ x) more ∙ append-assoc (cond b (100 ∷ 32 ∷ []) []) (textLiterals ls)
+            (plainFrom m′ s (between s end))
             ∙ ap (λ (x : List ℕ). cond b (100 ∷ 32 ∷ []) [] ++ x) (sym same) ∙ sym opens,
         (I .2, smalls),
       ))
 
   -- a `d` by itself
-  word-d : (at m : ℕ) → at < length s → isWord s at (100 ∷ []) ≡ true → plainFrom (suc m) s at ≡ 100 ∷ 32 ∷ plainFrom m s (between s (at + 1))
+  word-d : (at m : ℕ) → at < length s → isWord s at (100 ∷ []) ≡ true → plainFrom (suc m) s at ≡ 100 ∷ 32 ∷
+      plainFrom m s (between s (at + 1))
   unfolding isWord isZero
   word-d at m inside w =
       let (ends, byte) = and-both (eqb (tokenEnd s at) (at + 1)) (eqb (getD s at 0) 100 && true) w in
       let (is-d, _) = and-both (eqb (getD s at 0) 100) true byte in
       let end : tokenEnd s at ≡ at + 1 = eqb-true (tokenEnd s at) (at + 1) ends in
-      let letter : token at ≡ 100 ∷ [] = ap (λ (e : ℕ). slice at e s) end ∙ slice-one s at inside ∙ ap (λ (x : ℕ). x ∷ []) (eqb-true (getD s at 0) 100 is-d) in
+      let letter : token at ≡ 100 ∷ [] = ap (λ (e : ℕ). slice at e s) end ∙ slice-one s at inside
+      ∙ ap (λ (x : ℕ). x ∷ []) (eqb-true (getD s at 0) 100 is-d) in
       plain-suc m at inside ∙ ap₂ (λ (bs : List ℕ) (e : ℕ). bs ++ cond (isZero bs) 10 32 ∷ plainFrom m s (between s e)) letter end
 
   lines-plain : (k at m : ℕ) → at ≤ length s → length s < at + k → length s ≤ at + m → PlainLines at m (linesFrom k Text s at)
@@ -235,7 +249,8 @@ module _ (s : List ℕ) where
 
       chosen : Bool → Bool → Read
       chosen t w =
-          cond t (cond w (clauseRead (between s) at struckOut (clauseFrom s 64 (length s - body) at body)) (clauseRead (between s) at added (clauseFrom s 64 (length s - at) at at))) (reading finished at)
+          cond t (cond w (clauseRead (between s) at struckOut (clauseFrom s 64 (length s - body) at body))
+          (clauseRead (between s) at added (clauseFrom s 64 (length s - at) at at))) (reading finished at)
 
       inside : (t : Bool) → ltb at (length s) ≡ t → (w : Bool) → isWord s at (100 ∷ []) ≡ w → (m : ℕ) → length s ≤ at + m
           → ((p m′ : ℕ) → at < p → p ≤ length s → length s ≤ p + m′ → PlainLines p m′ (linesFrom k Text s p))
@@ -250,10 +265,12 @@ module _ (s : List ℕ) where
           (clause-in s 64 at (length s - body) body behind (omega (arith, lt))) struckOut (λ ls p r. refl) ih
       inside true p false q (suc m) enough ih =
           let lt : at < length s = ltb-true at (length s) p in
-          line-plain false k at at (suc m) (suc m) (omega arith) refl (clauseFrom s 64 (length s - at) at at) (clause-plain at (length s - at) at (suc m) enough)
+          line-plain false k at at (suc m) (suc m) (omega arith) refl (clauseFrom s 64 (length s - at) at at)
+          (clause-plain at (length s - at) at (suc m) enough)
           (clause-in s 64 at (length s - at) at (omega arith) (omega (arith, lt))) added (λ ls p r. refl) ih
 
 -- THEOREM: a text that is read to its end is printed as its own tokens, and its literals are of the variables 1 to 64.
-pub text-own : (s : List ℕ) → linesOf Text s .number ≡ 0 → (printed textLine (linesOf Text s .lines) ≡ plain s) × AllSmall (linesOf Text s .lines)
+pub text-own : (s : List ℕ) → linesOf Text s .number ≡ 0 → (printed textLine (linesOf Text s .lines) ≡ plain s)
+    × AllSmall (linesOf Text s .lines)
 unfolding plain
 text-own s z = lines-plain s (suc (length s)) (between s 0) (length s) (between-most s 0 (omega arith)) (omega arith) (omega arith) z

@@ -1,5 +1,5 @@
--- The output while it is written: byte after byte, what was put is at its start, and zeros are behind it; what is left to be converted comes to what
--- the definition says. The idea: the output is the first places of the bytes and zeros without end. Assumes nothing.
+-- The output while it is written: byte after byte, what was put is at its start, and zeros are behind it; what is left to be converted
+-- comes to what the definition says. The idea: the output is the first places of the bytes and zeros without end. Assumes nothing.
 use mathlib.Core.Path.{_≡_, refl, sym, ap, ap₂, _∙_, subst}
 use mathlib.Core.Bool.{Bool, true, false, cond}
 use mathlib.Core.List.{List, [], _∷_, _++_, append-assoc, append-nil}
@@ -99,10 +99,12 @@ put-holding r bs b = go (leb (length bs) r) refl (leb (length bs + 1) r) refl
     long = length-append bs (b ∷ [])
 
     go : (x : Bool) → leb (length bs) r ≡ x → (y : Bool) → leb (length bs + 1) r ≡ y
-        → putByte (poured (padded r bs) (cond (leb (length bs) r) (length bs) (r + 1))) b ≡ poured (padded r (bs ++ b ∷ [])) (cond (leb (length (bs ++ b ∷ [])) r) (length (bs ++ b ∷ [])) (r + 1))
+        → putByte (poured (padded r bs) (cond (leb (length bs) r) (length bs) (r + 1))) b
+        ≡ poured (padded r (bs ++ b ∷ [])) (cond (leb (length (bs ++ b ∷ [])) r) (length (bs ++ b ∷ [])) (r + 1))
     go true e true f =
         let inside : length bs + 1 ≤ r = leb-true (length bs + 1) r f in
-        rw (e, long, f, padded-length r bs, lt-ltb (length bs) r (omega arith)) (ap (λ (o : List ℕ). poured o (length bs + 1)) (padded-set r bs b))
+        rw (e, long, f, padded-length r bs, lt-ltb (length bs) r (omega arith))
+        (ap (λ (o : List ℕ). poured o (length bs + 1)) (padded-set r bs b))
     go true e false f =
         let outside : r < length bs + 1 = leb-false (length bs + 1) r f in
         rw (e, long, f, padded-length r bs, le-ltb (length bs) r (omega arith)) (ap (λ (o : List ℕ). poured o (r + 1)) (padded-set r bs b))
@@ -117,7 +119,8 @@ put-all-holding : (r : ℕ) (xs bs : List ℕ) → putAll (holdingOf r xs) bs �
 unfolding putAll
 put-all-holding r xs [] = ap (holdingOf r) (sym (append-nil xs))
 put-all-holding r xs (b ∷ bs) =
-    ap (λ (w : Poured). putAll w bs) (put-holding r xs b) ∙ put-all-holding r (xs ++ b ∷ []) bs ∙ ap (holdingOf r) (append-assoc xs (b ∷ []) bs)
+    ap (λ (w : Poured). putAll w bs) (put-holding r xs b) ∙ put-all-holding r (xs ++ b ∷ []) bs
+    ∙ ap (holdingOf r) (append-assoc xs (b ∷ []) bs)
 
 start-holding : (r : ℕ) → poured (replicate r 0) 0 ≡ holdingOf r []
 unfolding holdingOf
@@ -127,7 +130,8 @@ finished-holding : (r : ℕ) (bs : List ℕ) → finished (holdingOf r bs) ≡ c
 unfolding holdingOf
 finished-holding r bs = go (leb (length bs) r) refl
   where
-    go : (x : Bool) → leb (length bs) r ≡ x → finished (poured (padded r bs) (cond (leb (length bs) r) (length bs) (r + 1))) ≡ cond (leb (length bs) r) (holding r bs) (refusing r 7 0)
+    go : (x : Bool) → leb (length bs) r ≡ x → finished (poured (padded r bs) (cond (leb (length bs) r) (length bs) (r + 1)))
+        ≡ cond (leb (length bs) r) (holding r bs) (refusing r 7 0)
     go true e =
         let fits : length bs ≤ r = leb-true (length bs) r e in
         rw (e, padded-length r bs, le-ltb r (length bs) fits, padded-fits r bs fits) refl
@@ -136,11 +140,14 @@ finished-holding r bs = go (leb (length bs) r) refl
 -- ---- what is left to be converted
 
 -- at the start
-pub left-start : (line : Bool → List Literal → List ℕ) (room : ℕ) (r : Lines) → leftOver line (poured (replicate room 0) 0) r ≡ convertedBy line room r
+pub left-start : (line : Bool → List Literal → List ℕ) (room : ℕ) (r : Lines) → leftOver line (poured (replicate room 0) 0) r
+    ≡ convertedBy line room r
 left-start line room r =
     let bytes : List ℕ = printed line (r .lines) in
-    let end : finished (putAll (poured (replicate room 0) 0) bytes) ≡ cond (leb (length bytes) room) (holding room bytes) (refusing room 7 0) =
-    ap (λ (w : Poured). finished (putAll w bytes)) (start-holding room) ∙ ap finished (put-all-holding room [] bytes) ∙ finished-holding room bytes in
+    let end : finished (putAll (poured (replicate room 0) 0) bytes) ≡ cond (leb (length bytes) room) (holding room bytes)
+    (refusing room 7 0) =
+    ap (λ (w : Poured). finished (putAll w bytes)) (start-holding room) ∙ ap finished (put-all-holding room [] bytes)
+    ∙ finished-holding room bytes in
     ap₂ (λ (x : Conversion) (k : ℕ). cond (eqb (r .number) 0) x (refusing k (r .number) (r .place))) end (length-replicate {A = ℕ} room 0)
 
 -- behind a clause
@@ -151,7 +158,8 @@ left-line line w b ls rest =
     (put-append w (line b ls) (printed line (rest .lines))) (sym (put-length w (line b ls)))
 
 -- at the end
-pub left-end : (line : Bool → List Literal → List ℕ) (w : Poured) (r : Lines) → r .lines ≡ [] → r .number ≡ 0 → leftOver line w r ≡ finished w
+pub left-end : (line : Bool → List Literal → List ℕ) (w : Poured) (r : Lines) → r .lines ≡ [] → r .number ≡ 0 → leftOver line w r
+    ≡ finished w
 unfolding putAll
 left-end line w r none read = rw (none, read) refl
 
@@ -159,7 +167,8 @@ left-end line w r none read = rw (none, read) refl
 
 module _ (prints : List Literal → List ℕ) (w : Poured) where
   -- a literal's bytes are put before the rest of the clause
-  pub written-literal : (l : Literal) (piece : List ℕ) → ((ls : List Literal) → prints (l ∷ ls) ≡ piece ++ prints ls) → (out : List ℕ) (x : Next) (r : Written)
+  pub written-literal : (l : Literal) (piece : List ℕ) → ((ls : List Literal) → prints (l ∷ ls) ≡ piece ++ prints ls) →
+      (out : List ℕ) (x : Next) (r : Written)
       → ClauseWritten prints (putAll w piece) out x r → ClauseWritten prints w out (literalThen l x) r
   written-literal l piece splits out (closed ls first next) r (many, is, bytes) =
       (many, is, bytes ∙ sym (put-append w piece (prints ls)) ∙ ap (putAll w) (sym (splits ls)))
@@ -171,24 +180,30 @@ abbrev pub Leads : (List Literal → List ℕ) → Poured → Next → Poured �
 Leads prints w x w′ y = (out : List ℕ) (r : Written) → ClauseWritten prints w′ out y r → ClauseWritten prints w out x r
 
 module _ (prints : List Literal → List ℕ) (w₀ : Poured) (x₀ : Next) (w : Poured) (x : Next) (L : Leads prints w₀ x₀ w x) where
-  pub leads-literal : (l : Literal) (piece : List ℕ) (y : Next) → ((ls : List Literal) → prints (l ∷ ls) ≡ piece ++ prints ls) → x ≡ literalThen l y
+  pub leads-literal : (l : Literal) (piece : List ℕ) (y : Next) → ((ls : List Literal) → prints (l ∷ ls) ≡ piece ++ prints ls) → x
+      ≡ literalThen l y
       → (w′ : Poured) → w′ ≡ putAll w piece → Leads prints w₀ x₀ w′ y
   leads-literal l piece y splits e w′ is out r W =
       L out r (subst (λ (z : Next). ClauseWritten prints w out z r) (sym e)
       (written-literal prints w l piece splits out y r (subst (λ (v : Poured). ClauseWritten prints v out y r) is W)))
 
-  pub leads-closed : (first next many : ℕ) (out : List ℕ) → x ≡ closed [] first next → poured out many ≡ putAll w (prints []) → ClauseWritten prints w₀ out x₀ (Closed next many)
-  leads-closed first next many out e is = L out (Closed next many) (subst (λ (z : Next). ClauseWritten prints w out z (Closed next many)) (sym e) (many, refl, is))
+  pub leads-closed : (first next many : ℕ) (out : List ℕ) → x ≡ closed [] first next → poured out many ≡ putAll w (prints []) →
+      ClauseWritten prints w₀ out x₀ (Closed next many)
+  leads-closed first next many out e is = L out (Closed next many)
+      (subst (λ (z : Next). ClauseWritten prints w out z (Closed next many)) (sym e) (many, refl, is))
 
-  pub leads-refused : (number place : ℕ) (out : List ℕ) → x ≡ refused number place → length out ≡ length (w .output) → ClauseWritten prints w₀ out x₀ (Refused number place)
-  leads-refused number place out e long = L out (Refused number place) (subst (λ (z : Next). ClauseWritten prints w out z (Refused number place)) (sym e) (refl, long))
+  pub leads-refused : (number place : ℕ) (out : List ℕ) → x ≡ refused number place → length out ≡ length (w .output) →
+      ClauseWritten prints w₀ out x₀ (Refused number place)
+  leads-refused number place out e long = L out (Refused number place)
+      (subst (λ (z : Next). ClauseWritten prints w out z (Refused number place)) (sym e) (refl, long))
 
 -- the places of an output stay
 pub long-as : (w w′ : Poured) (bs : List ℕ) → w′ ≡ putAll w bs → length (w′ .output) ≡ length (w .output)
 long-as w w′ bs is = ap (λ (v : Poured). length (v .output)) is ∙ put-length w bs
 
 -- an opening before a clause
-pub written-opened : (prints whole : List Literal → List ℕ) (opening : List ℕ) (w : Poured) → ((ls : List Literal) → whole ls ≡ opening ++ prints ls) → (out : List ℕ) (x : Next) (r : Written)
+pub written-opened : (prints whole : List Literal → List ℕ) (opening : List ℕ) (w : Poured) →
+    ((ls : List Literal) → whole ls ≡ opening ++ prints ls) → (out : List ℕ) (x : Next) (r : Written)
     → ClauseWritten prints (putAll w opening) out x r → ClauseWritten whole w out x r
 written-opened prints whole opening w splits out (closed ls first next) r (many, is, bytes) =
     (many, is, bytes ∙ sym (put-append w opening (prints ls)) ∙ ap (putAll w) (sym (splits ls)))
@@ -214,7 +229,8 @@ module _ (w : Poured) where
   unfolding putAll
   digits-long v h = rw (le-ltb v 10 h) refl
 
-  pub literal-spaced : (v : ℕ) (b : Bool) → putByte (putAll (putAll w (cond b [] (45 ∷ []))) (digitsOf v)) 32 ≡ putAll w (spaced (literalMade v b))
+  pub literal-spaced : (v : ℕ) (b : Bool) → putByte (putAll (putAll w (cond b [] (45 ∷ []))) (digitsOf v)) 32
+      ≡ putAll w (spaced (literalMade v b))
   literal-spaced v b =
       sym (put-one (putAll (putAll w (cond b [] (45 ∷ []))) (digitsOf v)) 32)
       ∙ ap (λ (x : Poured). putAll x (32 ∷ [])) (sym (put-append w (cond b [] (45 ∷ [])) (digitsOf v)))
@@ -240,5 +256,6 @@ code-small v false h = omega arith
 pub finish-over : (out : List ℕ) (many : ℕ) → length out < many → refusing (length out) 7 0 ≡ finished (poured out many)
 finish-over out many h = rw (lt-ltb (length out) many h) refl
 
-pub finish-fits : (out : List ℕ) (many : ℕ) → many ≤ length out → record { number = 0; place = 0; length = many; output = out } ≡ finished (poured out many)
+pub finish-fits : (out : List ℕ) (many : ℕ) → many ≤ length out → record { number = 0; place = 0; length = many; output = out }
+    ≡ finished (poured out many)
 finish-fits out many h = rw (le-ltb (length out) many h) refl

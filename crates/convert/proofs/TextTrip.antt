@@ -1,4 +1,5 @@
--- What is printed as text is read back as it was. The idea: as for binary; between tokens there is one space or LF, and no line starts with `c`.
+-- What is printed as text is read back as it was. The idea: as for binary; between tokens there is one space or LF, and no line starts with
+-- `c`.
 -- Assumes nothing.
 use mathlib.Core.Path.{_≡_, refl, sym, ap, _∙_, subst}
 use mathlib.Core.Logic.{_≢_}
@@ -40,7 +41,8 @@ run-to p [] [] a e = refl
 run-to p [] (b ∷ bs) a e = rw e refl
 run-to p (x ∷ xs) left a e = rw (a .0, run-to p xs left (a .1) e) refl
 
-past-to : (p : ℕ → Bool) {s : List ℕ} {at : ℕ} (xs left : List ℕ) → At s at (xs ++ left) → All p xs → Stops p left → past p s at ≡ at + length xs
+past-to : (p : ℕ → Bool) {s : List ℕ} {at : ℕ} (xs left : List ℕ) → At s at (xs ++ left) → All p xs → Stops p left → past p s at
+    ≡ at + length xs
 unfolding past
 past-to p {s} {at} xs left A a e = ap (λ (bs : List ℕ). at + run p bs) (A .is) ∙ ap (_+_ at) (run-to p xs left a e)
 
@@ -55,7 +57,8 @@ fresh-stops : (left : List ℕ) → Fresh left → Stops isParting left
 fresh-stops [] f = tt
 fresh-stops (b ∷ bs) f = f .0
 
-between-from : (k : ℕ) {s : List ℕ} {at : ℕ} (xs left : List ℕ) → At s at (xs ++ left) → All isParting xs → Fresh left → betweenFrom s k at ≡ at + length xs
+between-from : (k : ℕ) {s : List ℕ} {at : ℕ} (xs left : List ℕ) → At s at (xs ++ left) → All isParting xs → Fresh left → betweenFrom s k at
+    ≡ at + length xs
 unfolding betweenFrom isComment
 between-from zero xs left A a f = past-to isParting xs left A a (fresh-stops left f)
 between-from (suc k) {s} {at} xs left A a f =
@@ -85,7 +88,12 @@ record Digits (v : ℕ) (bs : List ℕ) : Type 0 where
 
 digit-token : (b : ℕ) → 48 ≤ b → b ≤ 57 → isToken b ≡ true
 digit-token b lo hi =
-    rw (ne-eqb b 32 (λ z. absurd (omega arith)), ne-eqb b 9 (λ z. absurd (omega arith)), ne-eqb b 13 (λ z. absurd (omega arith)), ne-eqb b 10 (λ z. absurd (omega arith))) refl
+    rw (
+      ne-eqb b 32 (λ z. absurd (omega arith)),
+      ne-eqb b 9 (λ z. absurd (omega arith)),
+      ne-eqb b 13 (λ z. absurd (omega arith)),
+      ne-eqb b 10 (λ z. absurd (omega arith)),
+    ) refl
 
 is-digit : (b : ℕ) → 48 ≤ b → b ≤ 57 → isDigit b ≡ true
 is-digit b lo hi = rw (le-leb 48 b lo, le-leb b 57 hi) refl
@@ -110,7 +118,11 @@ digits-of v lo hi = go (ltb v 10) refl
     go false e =
         let ge : 10 ≤ v = ltb-false v 10 e in
         record {
-          digits = rw (ne-eqb (48 + v / 10) 48 (λ z. absurd (omega arith)), is-digit (48 + v / 10) (omega arith) (omega arith), is-digit (48 + v % 10) (omega arith) (omega arith)) refl;
+          digits = rw (
+            ne-eqb (48 + v / 10) 48 (λ z. absurd (omega arith)),
+            is-digit (48 + v / 10) (omega arith) (omega arith),
+            is-digit (48 + v % 10) (omega arith) (omega arith),
+          ) refl;
           value = omega arith;
           tokens = (digit-token (48 + v / 10) (omega arith) (omega arith), (digit-token (48 + v % 10) (omega arith) (omega arith), tt));
           first = 48 + v / 10;
@@ -140,12 +152,18 @@ unfolding tokenOf isNumber isZero
 token-says v true lo hi =
     let D : Digits v (digitsOf v) = digits-of v lo hi in
     record {
-      says = subst (λ (bs : List ℕ). tokenOf 64 bs ≡ Literal v true) (sym (D .is)) (plain (D .first) (D .others) (D .least) (D .most) (subst (λ (bs : List ℕ). isDigits bs ≡ true) (D .is) (D .digits)) (sym (ap valueOfDigits (D .is)) ∙ D .value));
+      says = subst (λ (bs : List ℕ). tokenOf 64 bs ≡ Literal v true) (sym (D .is))
+          (plain (D .first) (D .others) (D .least) (D .most) (subst (λ (bs : List ℕ). isDigits bs ≡ true) (D .is) (D .digits))
+          (sym (ap valueOfDigits (D .is)) ∙ D .value));
       tokens = D .tokens;
       first = D .first;
       others = D .others;
       is = D .is;
-      fresh = (not-parting (D .first) (λ z. absurd (omega (arith, D .least, D .most))) (λ z. absurd (omega (arith, D .least))) (λ z. absurd (omega (arith, D .least))) (λ z. absurd (omega (arith, D .least))), ne-eqb (D .first) 99 (λ z. absurd (omega (arith, D .most))));
+      fresh = (
+        not-parting (D .first) (λ z. absurd (omega (arith, D .least, D .most))) (λ z. absurd (omega (arith, D .least)))
+            (λ z. absurd (omega (arith, D .least))) (λ z. absurd (omega (arith, D .least))),
+        ne-eqb (D .first) 99 (λ z. absurd (omega (arith, D .most))),
+      );
       no-d = ne-eqb (D .first) 100 (λ z. absurd (omega (arith, D .most)));
     }
   where
@@ -153,12 +171,15 @@ token-says v true lo hi =
     zero-not b [] h = ne-eqb b 48 (λ z. absurd (omega arith))
     zero-not b (c ∷ bs) h = refl
 
-    plain : (b : ℕ) (bs : List ℕ) → 49 ≤ b → b ≤ 57 → isDigits (b ∷ bs) ≡ true → valueOfDigits (b ∷ bs) ≡ v → tokenOf 64 (b ∷ bs) ≡ Literal v true
+    plain : (b : ℕ) (bs : List ℕ) → 49 ≤ b → b ≤ 57 → isDigits (b ∷ bs) ≡ true → valueOfDigits (b ∷ bs) ≡ v → tokenOf 64 (b ∷ bs)
+        ≡ Literal v true
     plain b bs least most d e = rw (zero-not b bs least, ne-eqb b 45 (λ z. absurd (omega arith)), d, e, le-leb v 64 hi) refl
 token-says v false lo hi =
     let D : Digits v (digitsOf v) = digits-of v lo hi in
     record {
-      says = subst (λ (bs : List ℕ). tokenOf 64 (45 ∷ bs) ≡ Literal v false) (sym (D .is)) (signed (D .first) (D .others) (subst (λ (bs : List ℕ). isDigits bs ≡ true) (D .is) (D .digits)) (sym (ap valueOfDigits (D .is)) ∙ D .value));
+      says = subst (λ (bs : List ℕ). tokenOf 64 (45 ∷ bs) ≡ Literal v false) (sym (D .is))
+          (signed (D .first) (D .others) (subst (λ (bs : List ℕ). isDigits bs ≡ true) (D .is) (D .digits))
+          (sym (ap valueOfDigits (D .is)) ∙ D .value));
       tokens = (refl, D .tokens);
       first = 45;
       others = digitsOf v;
@@ -172,7 +193,8 @@ token-says v false lo hi =
 
 -- ---- a token and what follows it
 
-module _ {s : List ℕ} {at : ℕ} (bs : List ℕ) (x : ℕ) (left : List ℕ) (A : At s at (bs ++ x ∷ left)) (tokens : All isToken bs) (parts : isParting x ≡ true) where
+module _ {s : List ℕ} {at : ℕ} (bs : List ℕ) (x : ℕ) (left : List ℕ) (A : At s at (bs ++ x ∷ left)) (tokens : All isToken bs)
+    (parts : isParting x ≡ true) where
   token-ends : tokenEnd s at ≡ at + length bs
   token-ends = past-to isToken bs (x ∷ left) A tokens (ap not parts)
 
@@ -194,20 +216,25 @@ literals-fresh (l ∷ ls) small rest =
     let T : Says l (tokenText l) = token-says (l .variable) (l .positive) (small .0) (small .1) in
     subst Fresh (sym (ap (λ (bs : List ℕ). (bs ++ 32 ∷ textLiterals ls) ++ rest) (T .is))) (T .fresh)
 
-pub text-back : (ls : List meaning.Literal) → Small ls → {s : List ℕ} {at : ℕ} (rest : List ℕ) → At s at (textLiterals ls ++ rest) → (k first : ℕ) → length ls < k
+pub text-back : (ls : List meaning.Literal) → Small ls → {s : List ℕ} {at : ℕ} (rest : List ℕ) → At s at (textLiterals ls ++ rest) →
+    (k first : ℕ) → length ls < k
     → (end : ℕ) → suc end ≡ at + length (textLiterals ls) → clauseFrom s 64 k first at ≡ closed ls first end
 unfolding clauseFrom
 text-back ls small rest A zero first lt end e = absurd (omega arith)
 text-back [] small {s} {at} rest A (suc k) first lt end e =
     let (inside, is) = at-byte (10 ∷ rest) A in
-    rw (lt-ltb at (length s) inside, token-is (48 ∷ []) 10 rest A (refl, tt) refl, token-ends (48 ∷ []) 10 rest A (refl, tt) refl) (ap (closed [] first) (omega arith))
+    rw (lt-ltb at (length s) inside, token-is (48 ∷ []) 10 rest A (refl, tt) refl, token-ends (48 ∷ []) 10 rest A (refl, tt) refl)
+    (ap (closed [] first) (omega arith))
 text-back (l ∷ ls) small {s} {at} rest A (suc k) first lt end e =
     let T : Says l (tokenText l) = token-says (l .variable) (l .positive) (small .0) (small .1) in
-    let split : textLiterals (l ∷ ls) ++ rest ≡ tokenText l ++ 32 ∷ (textLiterals ls ++ rest) = append-assoc (tokenText l) (32 ∷ textLiterals ls) rest in
+    let split : textLiterals (l ∷ ls) ++ rest ≡ tokenText l ++ 32 ∷ (textLiterals ls ++ rest) =
+    append-assoc (tokenText l) (32 ∷ textLiterals ls) rest in
     let B : At s at (tokenText l ++ 32 ∷ (textLiterals ls ++ rest)) = subst (At s at) split A in
     let inside : at < length s = omega (arith, B .size, length-append (tokenText l) (32 ∷ (textLiterals ls ++ rest))) in
-    let C : At s (at + length (tokenText l) + 1) (textLiterals ls ++ rest) = at-on (32 ∷ []) (textLiterals ls ++ rest) (at-on (tokenText l) (32 ∷ (textLiterals ls ++ rest)) B) in
-    let long : length (textLiterals (l ∷ ls)) ≡ length (tokenText l) + suc (length (textLiterals ls)) = length-append (tokenText l) (32 ∷ textLiterals ls) in
+    let C : At s (at + length (tokenText l) + 1) (textLiterals ls ++ rest) =
+    at-on (32 ∷ []) (textLiterals ls ++ rest) (at-on (tokenText l) (32 ∷ (textLiterals ls ++ rest)) B) in
+    let long : length (textLiterals (l ∷ ls)) ≡ length (tokenText l) + suc (length (textLiterals ls)) =
+    length-append (tokenText l) (32 ∷ textLiterals ls) in
     rw (
       lt-ltb at (length s) inside,
       after-token (tokenText l) 32 (textLiterals ls ++ rest) B (T .tokens) refl (literals-fresh ls (small .2) rest),
@@ -231,7 +258,8 @@ text-long [] = omega arith
 text-long (l ∷ ls) = omega (arith, text-long ls, length-append (tokenText l) (32 ∷ textLiterals ls))
 
 -- an added clause's first byte opens no striking
-no-strike : (ls : List meaning.Literal) → Small ls → {s : List ℕ} {at : ℕ} (rest : List ℕ) → At s at (textLiterals ls ++ rest) → eqb (getD s at 0) 100 ≡ false
+no-strike : (ls : List meaning.Literal) → Small ls → {s : List ℕ} {at : ℕ} (rest : List ℕ) → At s at (textLiterals ls ++ rest) →
+    eqb (getD s at 0) 100 ≡ false
 no-strike [] small rest A = let (lt, is) = at-byte (10 ∷ rest) A in rw is refl
 no-strike (l ∷ ls) small {s} {at} rest A =
     let T : Says l (tokenText l) = token-says (l .variable) (l .positive) (small .0) (small .1) in
@@ -245,15 +273,19 @@ after-line : {s : List ℕ} {end : ℕ} (rest : List ℕ) → At s end (10 ∷ r
 after-line rest A f = between-to (10 ∷ []) rest A (refl, tt) f
 
 -- the LF of a clause whose literals start at a place
-closing-at : (ls : List meaning.Literal) → {s : List ℕ} {at : ℕ} (rest : List ℕ) → At s at (textLiterals ls ++ rest) → (end : ℕ) → suc end ≡ at + length (textLiterals ls) → At s end (10 ∷ rest)
-closing-at [] {s} {at} rest A end e = let z : at + 1 ≡ end = omega arith in subst (λ (p : ℕ). At s p (10 ∷ rest)) z (at-on (48 ∷ []) (10 ∷ rest) A)
+closing-at : (ls : List meaning.Literal) → {s : List ℕ} {at : ℕ} (rest : List ℕ) → At s at (textLiterals ls ++ rest) → (end : ℕ) → suc end
+    ≡ at + length (textLiterals ls) → At s end (10 ∷ rest)
+closing-at [] {s} {at} rest A end e = let z : at + 1 ≡ end = omega arith in
+    subst (λ (p : ℕ). At s p (10 ∷ rest)) z (at-on (48 ∷ []) (10 ∷ rest) A)
 closing-at (l ∷ ls) {s} {at} rest A end e =
     let x : List ℕ = tokenText l in
     let B : At s at (x ++ (32 ∷ (textLiterals ls ++ rest))) = subst (At s at) (append-assoc x (32 ∷ textLiterals ls) rest) A in
-    let C : At s (at + length x + 1) (textLiterals ls ++ rest) = at-on (32 ∷ []) (textLiterals ls ++ rest) (at-on x (32 ∷ (textLiterals ls ++ rest)) B) in
+    let C : At s (at + length x + 1) (textLiterals ls ++ rest) = at-on (32 ∷ []) (textLiterals ls ++ rest)
+    (at-on x (32 ∷ (textLiterals ls ++ rest)) B) in
     closing-at ls rest C end (omega (arith, length-append x (32 ∷ textLiterals ls)))
 
-pub text-line : (b : Bool) (ls : List meaning.Literal) → Small ls → {s : List ℕ} {at : ℕ} (rest : List ℕ) → Fresh rest → At s at (textLine b ls ++ rest) → (end : ℕ)
+pub text-line : (b : Bool) (ls : List meaning.Literal) → Small ls → {s : List ℕ} {at : ℕ} (rest : List ℕ) → Fresh rest →
+    At s at (textLine b ls ++ rest) → (end : ℕ)
     → suc end ≡ at + length (textLine b ls) → textRead s 64 at ≡ reading (commandFor b ls) (end + 1)
 unfolding textRead isWord
 text-line false ls small {s} {at} rest f A end e =
@@ -269,18 +301,21 @@ text-line true ls small {s} {at} rest f A end e =
     let (inside, is) = at-byte (32 ∷ (textLiterals ls ++ rest)) A in
     let B : At s (at + 1) (32 ∷ (textLiterals ls ++ rest)) = at-on (100 ∷ []) (32 ∷ (textLiterals ls ++ rest)) A in
     let C : At s (at + 1 + 1) (textLiterals ls ++ rest) = at-on (32 ∷ []) (textLiterals ls ++ rest) B in
-    let over : between s (at + 1) ≡ at + 1 + 1 = between-to (32 ∷ []) (textLiterals ls ++ rest) B (refl, tt) (literals-fresh ls small rest) in
+    let over : between s (at + 1) ≡ at + 1 + 1 = between-to (32 ∷ []) (textLiterals ls ++ rest) B (refl, tt) (literals-fresh ls small rest)
+    in
     rw (
       lt-ltb at (length s) inside,
       token-ends (100 ∷ []) 32 (textLiterals ls ++ rest) A (refl, tt) refl,
       eq-eqb (at + 1) (at + 1) refl,
       is,
       over,
-      text-back ls small rest C (length s - (at + 1 + 1)) at (omega (arith, C .size, length-append (textLiterals ls) rest, text-long ls)) end (omega arith),
+      text-back ls small rest C (length s - (at + 1 + 1)) at (omega (arith, C .size, length-append (textLiterals ls) rest, text-long ls))
+          end (omega arith),
       after-line rest (closing-at ls rest C end (omega arith)) f,
     ) refl
 
-text-lines : (xs : List (Bool × List meaning.Literal)) → AllSmall xs → {s : List ℕ} {at : ℕ} → At s at (printed textLine xs) → (k : ℕ) → length xs < k → linesFrom k Text s at ≡ whole xs
+text-lines : (xs : List (Bool × List meaning.Literal)) → AllSmall xs → {s : List ℕ} {at : ℕ} → At s at (printed textLine xs) → (k : ℕ) →
+    length xs < k → linesFrom k Text s at ≡ whole xs
 unfolding linesFrom textRead
 text-lines xs small A zero lt = absurd (omega arith)
 text-lines [] small {s} {at} A (suc k) lt = rw (le-ltb at (length s) (omega (arith, A .size))) refl
@@ -290,13 +325,15 @@ text-lines ((b, ls) ∷ xs) small {s} {at} A (suc k) lt =
     let e : suc end ≡ at + length (textLine b ls) = omega arith in
     let next : at + length (textLine b ls) ≡ end + 1 = omega arith in
     rw (text-line b ls (small .0) (printed textLine xs) (printed-fresh xs (small .1)) A end e)
-    (go b end (text-lines xs (small .1) (subst (λ (p : ℕ). At s p (printed textLine xs)) next (at-on (textLine b ls) (printed textLine xs) A)) k (omega arith)))
+    (go b end (text-lines xs (small .1) (subst (λ (p : ℕ). At s p (printed textLine xs)) next
+    (at-on (textLine b ls) (printed textLine xs) A)) k (omega arith)))
   where
     some : (b : Bool) → 1 ≤ length (textLine b ls)
     some true = omega arith
     some false = omega (arith, text-long ls)
 
-    go : (b : Bool) (end : ℕ) → linesFrom k Text s (end + 1) ≡ whole xs → linesThen (commandFor b ls) at (linesFrom k Text s (end + 1)) ≡ whole ((b, ls) ∷ xs)
+    go : (b : Bool) (end : ℕ) → linesFrom k Text s (end + 1) ≡ whole xs → linesThen (commandFor b ls) at (linesFrom k Text s (end + 1))
+        ≡ whole ((b, ls) ∷ xs)
     go true end e = rw e refl
     go false end e = rw e refl
 
@@ -311,5 +348,6 @@ text-printed-long ((b, ls) ∷ xs) = omega (arith, text-printed-long xs, length-
 -- THEOREM: what is printed as text is read back.
 pub text-trip : (xs : List (Bool × List meaning.Literal)) → AllSmall xs → linesOf Text (printed textLine xs) ≡ whole xs
 text-trip xs small =
-    ap (λ (p : ℕ). linesFrom (suc (length (printed textLine xs))) Text (printed textLine xs) p) (between-to [] (printed textLine xs) (at-start (printed textLine xs)) tt (printed-fresh xs small))
+    ap (λ (p : ℕ). linesFrom (suc (length (printed textLine xs))) Text (printed textLine xs) p)
+    (between-to [] (printed textLine xs) (at-start (printed textLine xs)) tt (printed-fresh xs small))
     ∙ text-lines xs small (at-start (printed textLine xs)) (suc (length (printed textLine xs))) (omega (arith, text-printed-long xs))

@@ -47,7 +47,8 @@ finished w =
 
 -- What is left to be converted, with the output so far.
 abbrev pub leftOver : (Bool → List Literal → List ℕ) → Poured → Lines → Conversion
-leftOver line w r = cond (eqb (r .number) 0) (finished (putAll w (printed line (r .lines)))) (refusing (length (w .output)) (r .number) (r .place))
+leftOver line w r = cond (eqb (r .number) 0) (finished (putAll w (printed line (r .lines))))
+    (refusing (length (w .output)) (r .number) (r .place))
 
 -- ---- a clause
 
@@ -72,7 +73,8 @@ unfoldable pub textNext : List ℕ → ℕ → Opened
 unfolding isWord clauseFrom betweenFrom
 textNext s at =
     let body = between s (at + 1) in
-    cond (isWord s at (100 ∷ [])) (opened true (clauseFrom s 64 (length s - body) at body)) (opened false (clauseFrom s 64 (length s - at) at at))
+    cond (isWord s at (100 ∷ [])) (opened true (clauseFrom s 64 (length s - body) at body))
+    (opened false (clauseFrom s 64 (length s - at) at at))
 
 unfoldable pub binaryNext : List ℕ → ℕ → Opened
 unfolding binaryFrom

@@ -14,7 +14,7 @@ use Rattle.dimacs.proofs.Cases.{by}
 use Rattle.dimacs.proofs.Runs.{past-go, past-least, past-most}
 
 module _ (s : List ℕ) where
-  comment-byte : (at : ℕ) → isComment s at ≡ true → getD s at 0 ≡ 99
+  pub comment-byte : (at : ℕ) → isComment s at ≡ true → getD s at 0 ≡ 99
   unfolding isComment
   comment-byte at e = eqb-true (getD s at 0) 99 (and-both (eqb (getD s at 0) 99) (eqb at 0 || eqb (getD s (at - 1) 0) 10) e .0)
 
@@ -31,7 +31,8 @@ module _ (s : List ℕ) where
       let byte : isLine (getD s at 0) ≡ true = rw (comment-byte at e) in
       omega (arith, past-go isLine s at (comment-inside at e) byte, past-least isLine s (at + 1))
 
-  from-suc : (k at : ℕ) → betweenFrom s (suc k) at ≡ cond (isComment s (past isParting s at)) (betweenFrom s k (lineEnd s (past isParting s at))) (past isParting s at)
+  from-suc : (k at : ℕ) → betweenFrom s (suc k) at ≡ cond (isComment s (past isParting s at))
+      (betweenFrom s k (lineEnd s (past isParting s at))) (past isParting s at)
   unfolding betweenFrom
   from-suc k at = refl
 
@@ -41,19 +42,23 @@ module _ (s : List ℕ) where
   between-stop zero at e = refl
   between-stop (suc k) at e = rw e
 
-  between-comment : (k at : ℕ) → isComment s (past isParting s at) ≡ true → betweenFrom s (suc k) at ≡ betweenFrom s k (lineEnd s (past isParting s at))
+  between-comment : (k at : ℕ) → isComment s (past isParting s at) ≡ true → betweenFrom s (suc k) at
+      ≡ betweenFrom s k (lineEnd s (past isParting s at))
   between-comment k at e = from-suc k at ∙ rw e
 
   outside : (at : ℕ) → length s ≤ at → isComment s (past isParting s at) ≡ false
-  outside at h = not-true (isComment s (past isParting s at)) (λ e. absurd (omega (arith, comment-inside (past isParting s at) e, past-least isParting s at)))
+  outside at h = not-true (isComment s (past isParting s at))
+      (λ e. absurd (omega (arith, comment-inside (past isParting s at) e, past-least isParting s at)))
 
   -- steps for each byte left are enough
-  between-fuel : (k m at : ℕ) → length s ≤ at + k → length s ≤ at + m → betweenFrom s k at ≡ betweenFrom s m at
+  pub between-fuel : (k m at : ℕ) → length s ≤ at + k → length s ≤ at + m → betweenFrom s k at ≡ betweenFrom s m at
   between-fuel zero m at h g = between-stop zero at (outside at (omega arith)) ∙ sym (between-stop m at (outside at (omega arith)))
-  between-fuel (suc k) zero at h g = between-stop (suc k) at (outside at (omega arith)) ∙ sym (between-stop zero at (outside at (omega arith)))
+  between-fuel (suc k) zero at h g = between-stop (suc k) at (outside at (omega arith))
+      ∙ sym (between-stop zero at (outside at (omega arith)))
   between-fuel (suc k) (suc m) at h g = by (isComment s (past isParting s at))
       (λ e. between-comment k at e
-      ∙ between-fuel k m (lineEnd s (past isParting s at)) (omega (arith, comment-moves (past isParting s at) e, past-least isParting s at)) (omega (arith, comment-moves (past isParting s at) e, past-least isParting s at))
+      ∙ between-fuel k m (lineEnd s (past isParting s at)) (omega (arith, comment-moves (past isParting s at) e, past-least isParting s at))
+      (omega (arith, comment-moves (past isParting s at) e, past-least isParting s at))
       ∙ sym (between-comment m at e))
       (λ e. between-stop (suc k) at e ∙ sym (between-stop (suc m) at e))
 
@@ -82,7 +87,13 @@ module _ (s : List ℕ) where
   from-least : (k at : ℕ) → at ≤ betweenFrom s k at
   from-least zero at = omega (arith, zero-is at, past-least isParting s at)
   from-least (suc k) at = by (isComment s (past isParting s at))
-      (λ e. omega (arith, between-comment k at e, from-least k (lineEnd s (past isParting s at)), comment-moves (past isParting s at) e, past-least isParting s at))
+      (λ e. omega (
+        arith,
+        between-comment k at e,
+        from-least k (lineEnd s (past isParting s at)),
+        comment-moves (past isParting s at) e,
+        past-least isParting s at,
+      ))
       (λ e. omega (arith, between-stop (suc k) at e, past-least isParting s at))
 
   pub between-least : (at : ℕ) → at ≤ between s at
@@ -91,7 +102,12 @@ module _ (s : List ℕ) where
   from-most : (k at : ℕ) → at ≤ length s → betweenFrom s k at ≤ length s
   from-most zero at h = omega (arith, zero-is at, past-most isParting s at h)
   from-most (suc k) at h = by (isComment s (past isParting s at))
-      (λ e. omega (arith, between-comment k at e, from-most k (lineEnd s (past isParting s at)) (past-most isLine s (past isParting s at) (past-most isParting s at h))))
+      (λ e. omega (
+        arith,
+        between-comment k at e,
+        from-most k (lineEnd s (past isParting s at))
+            (past-most isLine s (past isParting s at) (past-most isParting s at h)),
+      ))
       (λ e. omega (arith, between-stop (suc k) at e, past-most isParting s at h))
 
   pub between-most : (at : ℕ) → at ≤ length s → between s at ≤ length s

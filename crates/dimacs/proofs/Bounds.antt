@@ -54,8 +54,10 @@ header-at-in s at h =
     let v = valueOfDigits (word s variables) in
     let c = valueOfDigits (word s clauses) in
     let end = past-most isLine s clauses (word-in s variables (word-in s cnf (word-in s at h))) in
-    cond-in s (isHeader s at cnf variables clauses) (cond (leb v 64 && leb c 1024) (Proper v c (lineEnd s clauses)) (Improper 2 at)) (Improper 1 at)
-    (λ f. cond-in s (leb v 64 && leb c 1024) (Proper v c (lineEnd s clauses)) (Improper 2 at) (λ e. (limits v c e .0, limits v c e .1, end)) h)
+    cond-in s (isHeader s at cnf variables clauses) (cond (leb v 64 && leb c 1024) (Proper v c (lineEnd s clauses)) (Improper 2 at))
+    (Improper 1 at)
+    (λ f. cond-in s (leb v 64 && leb c 1024) (Proper v c (lineEnd s clauses)) (Improper 2 at) (λ e. (limits v c e .0, limits v c e .1, end))
+    h)
     h
 
 pub header-in : (s : List ℕ) → HeaderIn s (header s)
@@ -74,13 +76,15 @@ NextIn s n (closed ls first next) = (first < length s) × (next ≤ length s) ×
 NextIn s n ended = Unit {0}
 NextIn s n (refused number place) = place ≤ length s
 
-literal-in : (s : List ℕ) (n v : ℕ) (b : Bool) (x : Next) → 1 ≤ v → v ≤ n → NextIn s n x → NextIn s n (literalThen (record { variable = v; positive = b }) x)
+literal-in : (s : List ℕ) (n v : ℕ) (b : Bool) (x : Next) → 1 ≤ v → v ≤ n → NextIn s n x →
+    NextIn s n (literalThen (record { variable = v; positive = b }) x)
 literal-in s n v b (closed ls first next) l m h = (h .0, h .1, (l, m, h .2))
 literal-in s n v b ended l m h = tt
 literal-in s n v b (refused number place) l m h = h
 
 module _ (s : List ℕ) (n first : ℕ) (inside : first < length s) where
-  after-in : (t : Token) (at end : ℕ) (x : Next) → at < length s → end ≤ length s → ((v : ℕ) (b : Bool) → t ≡ Literal v b → (1 ≤ v) × (v ≤ n)) → NextIn s n x
+  after-in : (t : Token) (at end : ℕ) (x : Next) → at < length s → end ≤ length s →
+      ((v : ℕ) (b : Bool) → t ≡ Literal v b → (1 ≤ v) × (v ≤ n)) → NextIn s n x
       → NextIn s n (afterToken t first at end x)
   after-in Closing at end x h k l i = (inside, k, tt)
   after-in (Wrong number) at end x h k l i = omega arith

@@ -40,14 +40,16 @@ capped-under v h = by (ltb 1024 v) (λ t. rw t (let q : 1024 < v = ltb-true 1024
 capped-step : (m d : ℕ) → capped (capped m * 10 + d) ≡ capped (m * 10 + d)
 capped-step m d =
     by (ltb 1024 m)
-    (λ t. let q : 1024 < m = ltb-true 1024 m t in rw t (capped-over (1025 * 10 + d) (omega arith) ∙ sym (capped-over (m * 10 + d) (omega arith))))
+    (λ t. let q : 1024 < m = ltb-true 1024 m t in rw t
+    (capped-over (1025 * 10 + d) (omega arith) ∙ sym (capped-over (m * 10 + d) (omega arith))))
     (λ f. rw f)
 
 capped-after : (bs : List ℕ) (m : ℕ) → capped (valueAfter (capped m) bs) ≡ capped (valueAfter m bs)
 unfolding valueAfter
 capped-after [] m = by (ltb 1024 m) (λ t. rw t) (λ f. rw (f, f))
 capped-after (b ∷ bs) m =
-    sym (capped-after bs (capped m * 10 + (b - 48))) ∙ ap (λ (x : ℕ). capped (valueAfter x bs)) (capped-step m (b - 48)) ∙ capped-after bs (m * 10 + (b - 48))
+    sym (capped-after bs (capped m * 10 + (b - 48))) ∙ ap (λ (x : ℕ). capped (valueAfter x bs)) (capped-step m (b - 48))
+    ∙ capped-after bs (m * 10 + (b - 48))
 
 -- ---- digits from `at` to `to`
 
@@ -65,7 +67,8 @@ module _ (s : List ℕ) (at to n : ℕ) where
   unfolding allDigits valueAfter
   digits-go m h k e is =
       rw (slice-cons at to s 0 h k, e, add-one, is)
-      (ap (λ (v : ℕ). cond (allDigits (slice (suc at) to s)) (Value v) Improper) (sym (capped-after (slice (suc at) to s) (n * 10 + (getD s at 0 - 48)))))
+      (ap (λ (v : ℕ). cond (allDigits (slice (suc at) to s)) (Value v) Improper)
+      (sym (capped-after (slice (suc at) to s) (n * 10 + (getD s at 0 - 48)))))
 
 -- ---- a number with no minus
 
@@ -96,7 +99,8 @@ module _ (s : List ℕ) (from to : ℕ) (inside : to ≤ length s) where
   natural-empty e = rw (e, slice-empty to s) natural-none
 
   pub natural-other : from < to → (getD s from 0 ≡ 48 → ⊥) → naturalOf (slice from to s) ≡ digitsAfter 0 (slice from to s)
-  natural-other h e = rw (slice-cons from to s 0 h inside) (natural-digits (getD s from 0) (slice (suc from) to s) (ne-eqb (getD s from 0) 48 e))
+  natural-other h e = rw (slice-cons from to s 0 h inside)
+      (natural-digits (getD s from 0) (slice (suc from) to s) (ne-eqb (getD s from 0) 48 e))
 
   pub natural-alone : to - from ≡ 1 → getD s from 0 ≡ 48 → naturalOf (slice from to s) ≡ Value 0
   natural-alone h e =

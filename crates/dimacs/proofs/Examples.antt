@@ -40,7 +40,8 @@ A : formula (bytes "p cnf 2 4\n1 2 0\n-1 2 0\n1 -2 0\n-1 -2 0\n")
 unfolding formula
 A = refl
 
--- Blank lines and comments before the header, CR behind lines, a clause over two lines and one with both signs, an empty clause, no LF at the end.
+-- Blank lines and comments before the header, CR behind lines, a clause over two lines and one with both signs, an empty clause, no LF at
+-- the end.
 mixed : formula (bytes "c\n \t\r\ncc p\np\tcnf  3 3 \r\n1\r\n-3\t1 0 2 -2 0\r\n0")
     ≡ clause (plus 1 ∷ᴸ minus 3 ∷ᴸ plus 1 ∷ᴸ []ᴸ) 24 (clause (plus 2 ∷ᴸ minus 2 ∷ᴸ []ᴸ) 34 (clause []ᴸ 42 complete))
 unfolding formula
@@ -58,9 +59,11 @@ each texts = map (λ t. formula (bytes t)) texts
 
 -- No header; a space before `c`; a space before `p`; words run together or too many; numbers of wrong form; CR between words.
 no-header : each
-    ("" ∷ᴸ "c\n\n" ∷ᴸ " c\np cnf 0 0" ∷ᴸ "c\n p cnf 0 0" ∷ᴸ "pcnf 1 1" ∷ᴸ "p cnf 1 1 0" ∷ᴸ "p cnf -1 1" ∷ᴸ "p cnf 01 1" ∷ᴸ "p cnf +1 1" ∷ᴸ "p cnf 1x 1"
+    ("" ∷ᴸ "c\n\n" ∷ᴸ " c\np cnf 0 0" ∷ᴸ "c\n p cnf 0 0" ∷ᴸ "pcnf 1 1" ∷ᴸ "p cnf 1 1 0" ∷ᴸ "p cnf -1 1" ∷ᴸ "p cnf 01 1" ∷ᴸ "p cnf +1 1" ∷ᴸ
+    "p cnf 1x 1"
     ∷ᴸ "p cnf 1\r 1" ∷ᴸ "p cnf 1\n1" ∷ᴸ []ᴸ)
-    ≡ (refusal 1 0 ∷ᴸ refusal 1 3 ∷ᴸ refusal 1 0 ∷ᴸ refusal 1 2 ∷ᴸ refusal 1 0 ∷ᴸ refusal 1 0 ∷ᴸ refusal 1 0 ∷ᴸ refusal 1 0 ∷ᴸ refusal 1 0 ∷ᴸ refusal 1 0
+    ≡ (refusal 1 0 ∷ᴸ refusal 1 3 ∷ᴸ refusal 1 0 ∷ᴸ refusal 1 2 ∷ᴸ refusal 1 0 ∷ᴸ refusal 1 0 ∷ᴸ refusal 1 0 ∷ᴸ refusal 1 0 ∷ᴸ refusal 1 0
+    ∷ᴸ refusal 1 0
     ∷ᴸ refusal 1 0 ∷ᴸ refusal 1 0 ∷ᴸ []ᴸ)
 unfolding formula
 no-header = refl
@@ -78,7 +81,8 @@ tokens texts = map (λ t. formula (bytes ("p cnf 1 1\n" ++ t))) texts
 
 no-number : tokens
     ("-" ∷ᴸ "--1 0" ∷ᴸ "+1 0" ∷ᴸ "00" ∷ᴸ "01 0" ∷ᴸ "1 -0 0" ∷ᴸ "1x 0" ∷ᴸ " c" ∷ᴸ " -12a 0" ∷ᴸ []ᴸ)
-    ≡ (refusal 3 10 ∷ᴸ refusal 3 10 ∷ᴸ refusal 3 10 ∷ᴸ refusal 3 10 ∷ᴸ refusal 3 10 ∷ᴸ refusal 3 12 ∷ᴸ refusal 3 10 ∷ᴸ refusal 3 11 ∷ᴸ refusal 3 11 ∷ᴸ []ᴸ)
+    ≡ (refusal 3 10 ∷ᴸ refusal 3 10 ∷ᴸ refusal 3 10 ∷ᴸ refusal 3 10 ∷ᴸ refusal 3 10 ∷ᴸ refusal 3 12 ∷ᴸ refusal 3 10 ∷ᴸ refusal 3 11 ∷ᴸ
+    refusal 3 11 ∷ᴸ []ᴸ)
 unfolding formula
 no-number = refl
 
@@ -93,7 +97,8 @@ unfolding formula
 counts = refl
 
 too-many : tokens ("1 0 0" ∷ᴸ "1 0\nx" ∷ᴸ "1 0 2" ∷ᴸ []ᴸ)
-    ≡ (clause (plus 1 ∷ᴸ []ᴸ) 10 (refusal 5 14) ∷ᴸ clause (plus 1 ∷ᴸ []ᴸ) 10 (refusal 5 14) ∷ᴸ clause (plus 1 ∷ᴸ []ᴸ) 10 (refusal 5 14) ∷ᴸ []ᴸ)
+    ≡ (clause (plus 1 ∷ᴸ []ᴸ) 10 (refusal 5 14) ∷ᴸ clause (plus 1 ∷ᴸ []ᴸ) 10 (refusal 5 14) ∷ᴸ clause (plus 1 ∷ᴸ []ᴸ) 10 (refusal 5 14) ∷ᴸ
+    []ᴸ)
 unfolding formula
 too-many = refl
 

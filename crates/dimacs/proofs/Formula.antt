@@ -58,7 +58,8 @@ pub formula-improper : (s : List ℕ) (number place : ℕ) → header s ≡ Impr
 unfolding formula
 formula-improper s number place e = rw e
 
-no-clause : (t : Bool) (place : ℕ) (ls : List meaning.Literal) (first next : ℕ) {P : Type 0} → cond t (refused 5 place) ended ≡ closed ls first next → P
+no-clause : (t : Bool) (place : ℕ) (ls : List meaning.Literal) (first next : ℕ) {P : Type 0} → cond t (refused 5 place) ended
+    ≡ closed ls first next → P
 no-clause true place ls first next e = let z : _≡_ {A = ℕ} 0 1 = cc in absurd (omega arith)
 no-clause false place ls first next e = let z : _≡_ {A = ℕ} 0 1 = cc in absurd (omega arith)
 
@@ -87,7 +88,8 @@ module _ (s : List ℕ) (n : ℕ) where
   clauses-ended zero at e = rw e
   clauses-ended (suc left) at e = rw e
 
-  pub clauses-refused : (left at number place : ℕ) → nextClause s n left at ≡ refused number place → clausesFrom s n left at ≡ refusal number place
+  pub clauses-refused : (left at number place : ℕ) → nextClause s n left at ≡ refused number place → clausesFrom s n left at
+      ≡ refusal number place
   unfolding clausesFrom
   clauses-refused zero at number place e = rw e
   clauses-refused (suc left) at number place e = rw e

@@ -85,6 +85,7 @@ header-words s at =
     at
     (lineEnd s clauses)
 
-pub header-judged : (s : List ℕ) (at cnf variables clauses : ℕ) → cnf ≡ nextWord s at → variables ≡ nextWord s cnf → clauses ≡ nextWord s variables
+pub header-judged : (s : List ℕ) (at cnf variables clauses : ℕ) → cnf ≡ nextWord s at → variables ≡ nextWord s cnf → clauses
+    ≡ nextWord s variables
     → headerAt s at ≡ judgedWords s at cnf variables clauses
 header-judged s at cnf variables clauses e f g = header-words s at ∙ rw (sym e, sym f, sym g)

@@ -45,7 +45,8 @@ module _ (s : List ℕ) (at : ℕ) (inside : at < length s) where
   judged-go e =
       rw steps
       (judged-suc s (length s - (at + 1)) at ∙ rw (lt-ltb at (length s) inside, e, add-one (lineEnd s at))
-      (judged-fuel s (length s - (at + 1)) (length s - suc (lineEnd s at)) (suc (lineEnd s at)) (omega (arith, past-least isLine s at)) (omega arith)))
+      (judged-fuel s (length s - (at + 1)) (length s - suc (lineEnd s at)) (suc (lineEnd s at)) (omega (arith, past-least isLine s at))
+      (omega arith)))
 
 -- ---- words
 

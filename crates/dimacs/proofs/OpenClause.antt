@@ -66,14 +66,17 @@ module _ (s : List ℕ) (n : ℕ) where
       (λ t. let inside : at < length s = ltb-true at (length s) t in
       clause-suc k first at inside
       ∙ after-cong (tokenAt at) first at (tokenEnd s at) (clauseFrom s n k first (nextAt at)) (clauseFrom s n m first (nextAt at))
-      (λ v b e. clause-fuel k m first (nextAt at) (omega (arith, literal-moves at (tokenEnd s at) v b inside refl e, between-least s (tokenEnd s at)))
+      (λ v b e. clause-fuel k m first (nextAt at)
+      (omega (arith, literal-moves at (tokenEnd s at) v b inside refl e, between-least s (tokenEnd s at)))
       (omega (arith, literal-moves at (tokenEnd s at) v b inside refl e, between-least s (tokenEnd s at))))
       ∙ sym (clause-suc m first at inside))
-      (λ f. let outside : length s ≤ at = ltb-false at (length s) f in clause-end (suc k) first at outside ∙ sym (clause-end (suc m) first at outside))
+      (λ f. let outside : length s ≤ at = ltb-false at (length s) f in clause-end (suc k) first at outside
+      ∙ sym (clause-end (suc m) first at outside))
 
 -- ---- the code's set
 
-pub literal-set : (u : Literals) (v : ℕ) (b : Bool) (x : Next) → clauseAfter u (literalThen (record { variable = v; positive = b }) x) ≡ clauseAfter (withLiteral u v b) x
+pub literal-set : (u : Literals) (v : ℕ) (b : Bool) (x : Next) → clauseAfter u (literalThen (record { variable = v; positive = b }) x)
+    ≡ clauseAfter (withLiteral u v b) x
 unfolding clauseAfter
 literal-set u v b (closed ls first next) = refl
 literal-set u v b ended = refl
@@ -109,7 +112,8 @@ module _ (s : List ℕ) (n first : ℕ) (u : Literals) (at : ℕ) where
       pub rest-literal : (v : ℕ) (b : Bool) (next : ℕ) (u′ : Literals) → tokenOf n (slice at end s) ≡ Literal v b → next ≡ between s end
           → u′ ≡ withLiteral u v b → restOf s n first u at ≡ restOf s n first u′ next
       rest-literal v b next u′ e f g =
-          let later : clauseFrom s n (length s - (at + 1)) first (between s end) ≡ clauseFrom s n (length s - between s end) first (between s end) =
+          let later : clauseFrom s n (length s - (at + 1)) first (between s end)
+          ≡ clauseFrom s n (length s - between s end) first (between s end) =
           clause-fuel s n (length s - (at + 1)) (length s - between s end) first (between s end)
           (omega (arith, literal-moves s n at end v b inside is e, between-least s end)) (omega arith) in
           here ∙ rw (sym is, e, literal-set u v b, later, sym f, sym g)

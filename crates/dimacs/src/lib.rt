@@ -8,7 +8,10 @@ pub use clauses::next_clause;
 pub use clauses::open_clause;
 pub use clauses::token_at;
 pub use header_line::is_letter;
+pub use header_line::judged_line;
 pub use header_line::read_header;
+pub use text::Class;
+pub use text::past_class;
 pub use text::skip_between;
 use words::Literals;
 

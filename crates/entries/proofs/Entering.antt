@@ -18,21 +18,23 @@ use Rattle.table.proofs.Outcomes.{Grown}
 use Rattle.verdict.specs.Steps as check
 use Rattle.verdict.specs.Steps.{next, entered}
 use Rattle.verdict.proofs.Uses.{UsesAfter}
-use Rattle.entries.specs.declared.State.{State}
-use Rattle.entries.specs.declared.Step.the-variants.{Next}
-use Rattle.entries.specs.States.{Lent, lentOf, tableIn, stateOf, stateWithEntry, Held, Stepped}
+use Rattle.state.specs.declared.State.{State}
+use Rattle.state.specs.declared.Step.the-variants.{Next}
+use Rattle.state.specs.States.{Lent, lentOf, tableIn, stateOf, stateWithEntry, Held, Stepped}
 
 -- Other lists lent with a table.
 abbrev pub lentWith : Table → List ℕ → List ℕ → List ℕ → Lent
 lentWith t ms cs ss = lentOf (t .vars) (t .lows) (t .highs) (t .heads) (t .links) ms cs ss
 
 -- One number more in a list whose first m places are in use.
-pub inside-more : (list : List ℕ) (m k bound bound′ : ℕ) → m < length list → Inside bound (take m list) → bound ≤ bound′ → k < bound′ → Inside bound′ (take (m + 1) (set list m k))
+pub inside-more : (list : List ℕ) (m k bound bound′ : ℕ) → m < length list → Inside bound (take m list) → bound ≤ bound′ → k < bound′ →
+    Inside bound′ (take (m + 1) (set list m k))
 inside-more list m k bound bound′ p old le new i q =
     let len : length (take (m + 1) (set list m k)) ≡ m + 1 = length-take-le (m + 1) (set list m k) (omega (arith, length-set list m k)) in
     let below : i < m + 1 = omega arith in
     rw (getD-take (m + 1) (set list m k) i 0 below) (elim (decLt i m) [
-      | yes lt ↦ rw (getD-set-other list m i k 0 (λ e. absurd (omega arith)), sym (getD-take m list i 0 lt)) (let o : getD (take m list) i 0 < bound = old i (omega (arith, length-take-le m list (omega arith))) in omega arith)
+      | yes lt ↦ rw (getD-set-other list m i k 0 (λ e. absurd (omega arith)), sym (getD-take m list i 0 lt))
+          (let o : getD (take m list) i 0 < bound = old i (omega (arith, length-take-le m list (omega arith))) in omega arith)
       | no ge ↦ let e : i ≡ m = omega arith in rw (e, getD-set-same list m k 0 p) new
     ])
 
@@ -89,7 +91,8 @@ module _ (n : ℕ) (L : Lent) (st : State) (H : Held n L st) where
   abbrev S : check.State
   S = stateOf L st
 
-  module _ (said : check.Step) (D : Diagram) (p : Placing) (o : Outcome) (made : o ≡ written (size T) p) (grown : Grown T D o) (uses : UsesAfter n p)
+  module _ (said : check.Step) (D : Diagram) (p : Placing) (o : Outcome) (made : o ≡ written (size T) p) (grown : Grown T D o)
+      (uses : UsesAfter n p)
       (few : length (S .entries) < 4096) (said-is : said ≡ entered S p) (f : o .full ≡ false) where
     goes : (entered S p ≡ next (entryMade S o)) × UsesTo n (nodesOf (o .table))
     goes =
@@ -110,7 +113,8 @@ module _ (n : ℕ) (L : Lent) (st : State) (H : Held n L st) where
       entries = record {
         good = grown .good;
         uses = goes .1;
-        inside = inside-more (L .scratch) (st .entries) (o .node) (st .count) (o .table .count) room (H .entries .inside) (grown .more) (grown .inside);
+        inside = inside-more (L .scratch) (st .entries) (o .node) (st .count) (o .table .count) room (H .entries .inside) (grown .more)
+            (grown .inside);
         few = omega (arith, few-here);
         room = omega (arith, length-set (L .scratch) (st .entries) (o .node), H .entries .room);
         narrow = H .entries .narrow;
@@ -144,5 +148,6 @@ module _ (n : ℕ) (L : Lent) (st : State) (H : Held n L st) where
         })) (one-more (L .scratch) (st .entries) (o .node) room) (sym (length-nodes (o .table) (grown .good)))
         ∙ sym (said-is ∙ goes .0)
 
-    pub entry-made : (st′ : State) → st′ ≡ stateWithEntry st (o .table .count) (max (st .peak) (o .table .count)) → Stepped n L L′ st said (Next st′)
+    pub entry-made : (st′ : State) → st′ ≡ stateWithEntry st (o .table .count) (max (st .peak) (o .table .count)) →
+        Stepped n L L′ st said (Next st′)
     entry-made st′ e = subst (λ (x : State). Stepped n L L′ st said (Next x)) (sym e) (record { says = says; leaves = held })

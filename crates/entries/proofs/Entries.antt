@@ -16,8 +16,8 @@ use Rattle.records.specs.declared.NodeBody.{NodeBody}
 use Rattle.verdict.specs.Steps as check
 use Rattle.verdict.specs.Steps.{isEntry, entryNode, isVariable, waiting}
 use Rattle.table.specs.Lists.{Inside}
-use Rattle.entries.specs.declared.State.{State}
-use Rattle.entries.specs.States.{Lent, stateOf, Held}
+use Rattle.state.specs.declared.State.{State}
+use Rattle.state.specs.States.{Lent, stateOf, Held}
 use Rattle.entries.specs.Tests.{nodeRefusal}
 
 -- ---- entries in the scratch list
@@ -26,7 +26,8 @@ module _ (scratch : List ℕ) (entries : ℕ) (room : entries ≤ length scratch
   pub entries-length : length (take entries scratch) ≡ entries
   entries-length = length-take-le entries scratch room
 
-  pub node-inside : (count : ℕ) → 2 ≤ count → Inside count (take entries scratch) → (e : ℕ) → e < entries + 2 → getD (0 ∷ 1 ∷ take entries scratch) e 0 < count
+  pub node-inside : (count : ℕ) → 2 ≤ count → Inside count (take entries scratch) → (e : ℕ) → e < entries + 2 →
+      getD (0 ∷ 1 ∷ take entries scratch) e 0 < count
   node-inside count two inside zero p = omega arith
   node-inside count two inside (suc zero) p = omega arith
   node-inside count two inside (suc (suc i)) p = inside i (omega (arith, entries-length))
@@ -34,7 +35,8 @@ module _ (scratch : List ℕ) (entries : ℕ) (room : entries ≤ length scratch
   pub node-at : (e : ℕ) → 2 ≤ e → e < entries + 2 → getD scratch (e - 2) 0 ≡ getD (0 ∷ 1 ∷ take entries scratch) e 0
   node-at zero p q = absurd (omega arith)
   node-at (suc zero) p q = absurd (omega arith)
-  node-at (suc (suc i)) p q = let e : suc (suc i) - 2 ≡ i = omega arith in ap (λ (j : ℕ). getD scratch j 0) e ∙ sym (getD-take entries scratch i 0 (omega arith))
+  node-at (suc (suc i)) p q = let e : suc (suc i) - 2 ≡ i = omega arith in ap (λ (j : ℕ). getD scratch j 0) e
+      ∙ sym (getD-take entries scratch i 0 (omega arith))
 
 -- entries 0 and 1 are the constants
 pub node-constant : (entries : List ℕ) (e : ℕ) → e < 2 → e ≡ getD (0 ∷ 1 ∷ entries) e 0
@@ -50,7 +52,8 @@ above-first count t v child p = rw (getD-take count t child blank p)
 module _ (l : Lent) (st : State) where
   pub entry-is : st .entries ≤ length (l .scratch) → (e : ℕ) → isEntry (stateOf l st) e ≡ ltb e (st .entries + 2)
   unfolding isEntry
-  entry-is room e = let len : suc (suc (length (take (st .entries) (l .scratch)))) ≡ st .entries + 2 = omega (arith, entries-length (l .scratch) (st .entries) room) in ap (ltb e) len
+  entry-is room e = let len : suc (suc (length (take (st .entries) (l .scratch)))) ≡ st .entries + 2 =
+      omega (arith, entries-length (l .scratch) (st .entries) room) in ap (ltb e) len
 
   pub node-is-at : (e : ℕ) → entryNode (stateOf l st) e ≡ getD (0 ∷ 1 ∷ take (st .entries) (l .scratch)) e 0
   unfolding entryNode
@@ -71,14 +74,17 @@ module _ (l : Lent) (st : State) where
         → above (stateOf l st .nodes) v (entryNode (stateOf l st) e) ≡ b
     unfolding nodesOf
     above-is v p r b ensures told =
-        ap (above (take (st .count) (rows (l .vars) (l .lows) (l .highs))) v) (sym child-is) ∙ above-first (st .count) (rows (l .vars) (l .lows) (l .highs)) v child p ∙ sym ensures ∙ told
+        ap (above (take (st .count) (rows (l .vars) (l .lows) (l .highs))) v) (sym child-is)
+        ∙ above-first (st .count) (rows (l .vars) (l .lows) (l .highs)) v child p ∙ sym ensures ∙ told
 
-  pub waits-is : (r b : Bool) → r ≡ not (eqb (st .witness .positive) 0 && eqb (st .witness .negative) 0) → r ≡ b → waiting (stateOf l st) ≡ b
+  pub waits-is : (r b : Bool) → r ≡ not (eqb (st .witness .positive) 0 && eqb (st .witness .negative) 0) → r ≡ b → waiting (stateOf l st)
+      ≡ b
   unfolding waiting
   waits-is r b ensures told = sym ensures ∙ told
 
   -- the test of an entry
-  pub entry-told : st .entries ≤ length (l .scratch) → (e : ℕ) (r b : Bool) → r ≡ ltb e (st .entries + 2) → r ≡ b → isEntry (stateOf l st) e ≡ b
+  pub entry-told : st .entries ≤ length (l .scratch) → (e : ℕ) (r b : Bool) → r ≡ ltb e (st .entries + 2) → r ≡ b → isEntry (stateOf l st) e
+      ≡ b
   entry-told room e r b ensures told = entry-is room e ∙ sym ensures ∙ told
 
   -- the test of the number of entries
@@ -89,11 +95,13 @@ module _ (l : Lent) (st : State) where
   few-entries room p = lt-leb 4096 (length (stateOf l st .entries)) (omega (arith, entries-length (l .scratch) (st .entries) room))
 
 -- an entry's node is in the table
-pub entry-in : (n : ℕ) (L : Lent) (st : State) → Held n L st → (e : ℕ) → isEntry (stateOf L st) e ≡ true → entryNode (stateOf L st) e < st .count
+pub entry-in : (n : ℕ) (L : Lent) (st : State) → Held n L st → (e : ℕ) → isEntry (stateOf L st) e ≡ true →
+    entryNode (stateOf L st) e < st .count
 entry-in n L st H e there =
     let room : st .entries ≤ length (L .scratch) = omega (arith, H .entries .few, H .entries .room) in
     rw (node-is-at L st e)
-    (node-inside (L .scratch) (st .entries) room (st .count) (H .entries .good .least) (H .entries .inside) e (ltb-true e (st .entries + 2) (sym (entry-is L st room e) ∙ there)))
+    (node-inside (L .scratch) (st .entries) room (st .count) (H .entries .good .least) (H .entries .inside) e
+    (ltb-true e (st .entries + 2) (sym (entry-is L st room e) ∙ there)))
 
 -- ---- the test of a variable
 

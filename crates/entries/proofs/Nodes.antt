@@ -22,9 +22,9 @@ use Rattle.records.specs.declared.NodeBody.{NodeBody}
 use Rattle.verdict.specs.Steps as check
 use Rattle.verdict.specs.Steps.{spent, entryNode, entered, nodeStep}
 use Rattle.verdict.proofs.Uses.{UsesAfter, place-uses}
-use Rattle.entries.specs.declared.State.{State}
-use Rattle.entries.specs.declared.Step.the-variants.{Next, Stop, Spent}
-use Rattle.entries.specs.States.{Lent, tableIn, stateOf, stateWithEntry, Held, Stepped}
+use Rattle.state.specs.declared.State.{State}
+use Rattle.state.specs.declared.Step.the-variants.{Next, Stop, Spent}
+use Rattle.state.specs.States.{Lent, tableIn, stateOf, stateWithEntry, Held, Stepped}
 use Rattle.entries.specs.Tests.{nodeRefusal}
 use Rattle.entries.proofs.Stops.{unless, unless-refused, unless-none, node-is, NodeFits, node-fits, stopped}
 use Rattle.entries.proofs.Entries.{entry-in}
@@ -52,7 +52,11 @@ put-full s t v l h = go (eqb l h) (find t (nodeOf v l h))
 full-stops : (st : check.State) (s : ℕ) (p : Placing) → FullSame (st .nodes) p → written s p .full ≡ true
     → (written s p .table ≡ indexed s (st .nodes)) × (entered st p ≡ spent 23 (max (st .peak) (length (nodesOf (written s p .table)))))
 unfolding written entered
-full-stops st s (full t) same f = (ap (indexed s) same, ap (λ (x : List Node). spent 23 (max (st .peak) (length x))) (sym (nodes-indexed s t)))
+full-stops st s (full t) same f = (
+  ap (indexed s) same,
+  ap (λ (x : List Node). spent 23 (max (st .peak) (length x)))
+      (sym (nodes-indexed s t)),
+)
 full-stops st s (placed t k) same f = t≢f (sym f)
 
 -- ---- the step
@@ -76,7 +80,8 @@ module _ (n : ℕ) (L : Lent) (st : State) (b : NodeBody) (H : Held n L st) wher
   pub node-refused : (number : ℕ) → number ≡ nodeRefusal n S b → (number ≡ 0 → ⊥) → Stepped n L L st said (Stop number 0)
   node-refused number e ne =
       stopped n L st said number 0
-      (node-is n (size T) S b ∙ ap (λ (k : ℕ). unless k (entered S (put (size T) (nodesOf T) (b .variable) l h))) (sym e) ∙ unless-refused number _ ne)
+      (node-is n (size T) S b ∙ ap (λ (k : ℕ). unless k (entered S (put (size T) (nodesOf T) (b .variable) l h))) (sym e)
+      ∙ unless-refused number _ ne)
 
   module _ (none : nodeRefusal n S b ≡ 0) (o : Outcome) (made : o ≡ written (size T) (put (size T) (nodesOf T) (b .variable) l h)) where
     fits : NodeFits n S b
@@ -101,7 +106,8 @@ module _ (n : ℕ) (L : Lent) (st : State) (b : NodeBody) (H : Held n L st) wher
     D = branch (b .variable) (diagramAt (nodesOf T) l) (diagramAt (nodesOf T) h)
 
     grown : Grown T D o
-    grown = put-grown T (H .entries .good) (b .variable) l h (fits .least) (omega (arith, fits .most, H .entries .narrow)) low-in high-in over-low over-high o made
+    grown = put-grown T (H .entries .good) (b .variable) l h (fits .least) (omega (arith, fits .most, H .entries .narrow)) low-in high-in
+        over-low over-high o made
 
     put-uses : UsesAfter n (put (size T) (nodesOf T) (b .variable) l h)
     put-uses =
@@ -116,10 +122,13 @@ module _ (n : ℕ) (L : Lent) (st : State) (b : NodeBody) (H : Held n L st) wher
     pub node-full : (peak : ℕ) → peak ≡ max (st .peak) (o .table .count) → o .full ≡ true
         → Stepped n L (lentWith (o .table) (L .members) (L .scratch) (L .struck)) st said (Spent 23 peak)
     node-full peak greatest f =
-        let (table, stops) = full-stops S (size T) (put (size T) (nodesOf T) (b .variable) l h) (put-full (size T) (nodesOf T) (b .variable) l h) (sym (ap (λ (x : Outcome). x .full) made) ∙ f) in
+        let (table, stops) = full-stops S (size T) (put (size T) (nodesOf T) (b .variable) l h)
+        (put-full (size T) (nodesOf T) (b .variable) l h) (sym (ap (λ (x : Outcome). x .full) made) ∙ f) in
         let same : o .table ≡ T = ap (λ (x : Outcome). x .table) made ∙ table ∙ sym (H .entries .good .written) in
         record {
-          says = ap (spent 23) (greatest ∙ ap (max (st .peak)) (sym (length-nodes (o .table) (grown .good)) ∙ ap (λ (x : Outcome). length (nodesOf (x .table))) made)) ∙ sym (said-is ∙ stops);
+          says = ap (spent 23) (greatest ∙ ap (max (st .peak))
+              (sym (length-nodes (o .table) (grown .good)) ∙ ap (λ (x : Outcome). length (nodesOf (x .table))) made))
+              ∙ sym (said-is ∙ stops);
           leaves = record {
             table = ap (λ (t : Table). tableIn (lentWith t (L .members) (L .scratch) (L .struck)) (st .count)) same;
             members = refl;

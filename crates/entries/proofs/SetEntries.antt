@@ -1,5 +1,5 @@
--- Records of sets: their tests as one number; a diagram without room is dropped, so that the table is as it was; one that is placed is the next
--- entry. The idea: the header's variables and 64 give one diagram where no set bit is beyond the header. Assumes nothing.
+-- Records of sets: their tests as one number; a diagram without room is dropped, so that the table is as it was; one that is placed is the
+-- next entry. The idea: the header's variables and 64 give one diagram where no set bit is beyond the header. Assumes nothing.
 use mathlib.Core.Path.{_≡_, refl, sym, ap, _∙_}
 use mathlib.Core.Bool.{Bool, true, false, cond}
 use Prim.Native.Nat.{ℕ, suc, _-_, _*_, _%_, _^_, _≤_, _<_, max}
@@ -25,9 +25,9 @@ use Rattle.verdict.specs.Steps as check
 use Rattle.verdict.specs.Steps.{stop, spent, entered, beyond, noParity, setDiagram, setStep}
 use Rattle.verdict.proofs.SetValues.{set-reduced}
 use Rattle.verdict.proofs.Uses.{place-uses}
-use Rattle.entries.specs.declared.State.{State}
-use Rattle.entries.specs.declared.Step.the-variants.{Next, Stop, Spent}
-use Rattle.entries.specs.States.{Lent, tableIn, stateOf, stateWithEntry, Held, Stepped}
+use Rattle.state.specs.declared.State.{State}
+use Rattle.state.specs.declared.Step.the-variants.{Next, Stop, Spent}
+use Rattle.state.specs.States.{Lent, tableIn, stateOf, stateWithEntry, Held, Stepped}
 use Rattle.entries.specs.Tests.{setRefusal}
 use Rattle.entries.proofs.Stops.{unless, unless-refused, unless-none, stopped}
 use Rattle.entries.proofs.Entering.{lentWith, entry-made}
@@ -45,7 +45,8 @@ set-is : (n s : ℕ) (st : check.State) (kind : SetKind) (b : SetBody)
     → setStep n s st kind b ≡ unless (setRefusal n (length (st .entries)) kind b) (entered st (place s (st .nodes) (setDiagram n kind b)))
 unfolding setStep setRefusal
 set-is n s st kind b =
-    three (leb 4096 (length (st .entries))) (beyond n (b .set)) (noParity kind (b .byte)) 21 12 29 (entered st (place s (st .nodes) (setDiagram n kind b))) refl refl refl
+    three (leb 4096 (length (st .entries))) (beyond n (b .set)) (noParity kind (b .byte)) 21 12 29
+    (entered st (place s (st .nodes) (setDiagram n kind b))) refl refl refl
 
 -- What is known where none refuses.
 pub record SetFits (n entries : ℕ) (b : SetBody) : Type 0 where
@@ -56,7 +57,8 @@ pub set-fits : (n entries : ℕ) (kind : SetKind) (b : SetBody) → setRefusal n
 unfolding setRefusal beyond
 set-fits n entries kind b e = go (leb 4096 entries) (leb (2 ^ n) (b .set)) refl refl (noParity kind (b .byte)) e
   where
-    go : (x y : Bool) → leb 4096 entries ≡ x → leb (2 ^ n) (b .set) ≡ y → (z : Bool) → _≡_ {A = ℕ} (cond x 21 (cond y 12 (cond z 29 0))) 0 → SetFits n entries b
+    go : (x y : Bool) → leb 4096 entries ≡ x → leb (2 ^ n) (b .set) ≡ y → (z : Bool) → _≡_ {A = ℕ} (cond x 21 (cond y 12 (cond z 29 0))) 0 →
+        SetFits n entries b
     go true y p q z e = absurd (omega arith)
     go false true p q z e = absurd (omega arith)
     go false false p q z e = record { few = leb-false 4096 entries p; within = leb-false (2 ^ n) (b .set) q }
@@ -90,10 +92,12 @@ set-64 n Parity b narrow within = parity-of-word n 64 (b .set) (eqb (b .byte) 1)
 set-64 n AtLeast b narrow within = atLeast-of-word n 64 (b .set) (b .byte) narrow within
 
 -- the diagram of a record's kind, made in the table
-pub kind-made : (T : Table) (kind kind′ : SetKind) (b : SetBody) → kind ≡ kind′ → (o : Outcome) → o ≡ placeIn T (setDiagram 64 kind′ b) → o ≡ placeIn T (setDiagram 64 kind b)
+pub kind-made : (T : Table) (kind kind′ : SetKind) (b : SetBody) → kind ≡ kind′ → (o : Outcome) → o ≡ placeIn T (setDiagram 64 kind′ b) → o
+    ≡ placeIn T (setDiagram 64 kind b)
 kind-made T kind kind′ b e o made = made ∙ ap (λ (k : SetKind). placeIn T (setDiagram 64 k b)) (sym e)
 
-pub made-grown : (T : Table) → Good T → (kind : SetKind) (b : SetBody) (o : Outcome) → o ≡ placeIn T (setDiagram 64 kind b) → Grown T (setDiagram 64 kind b) o
+pub made-grown : (T : Table) → Good T → (kind : SetKind) (b : SetBody) (o : Outcome) → o ≡ placeIn T (setDiagram 64 kind b) →
+    Grown T (setDiagram 64 kind b) o
 made-grown T G kind b o made = outcomes.grown T G (setDiagram 64 kind b) (set-reduced 64 kind b) o made
 
 -- no room: 23, with the count that was reached
@@ -158,14 +162,17 @@ module _ (n : ℕ) (L : Lent) (st : State) (kind : SetKind) (b : SetBody) (H : H
     grown : Grown T D o
     grown = outcomes.grown T (H .entries .good) D reduced o placed-is
 
-    pub set-full : (T₂ : Table) → T₂ ≡ droppedTo (st .count) (o .table) → (peak : ℕ) → peak ≡ max (st .peak) (o .table .count) → o .full ≡ true
+    pub set-full : (T₂ : Table) → T₂ ≡ droppedTo (st .count) (o .table) → (peak : ℕ) → peak ≡ max (st .peak) (o .table .count) → o .full
+        ≡ true
         → Stepped n L (lentWith T₂ (L .members) (L .scratch) (L .struck)) st said (Spent 23 peak)
     set-full T₂ dropped peak greatest f = record {
       says =
-          ap (spent 23) (greatest ∙ ap (max (st .peak)) (sym (length-nodes (o .table) (grown .good)) ∙ ap (λ (x : Outcome). length (nodesOf (x .table))) placed-is))
+          ap (spent 23) (greatest ∙ ap (max (st .peak))
+          (sym (length-nodes (o .table) (grown .good)) ∙ ap (λ (x : Outcome). length (nodesOf (x .table))) placed-is))
           ∙ sym (said-is ∙ entered-full S (size T) (place (size T) (nodesOf T) D) (sym (ap (λ (x : Outcome). x .full) placed-is) ∙ f));
       leaves = record {
-        table = ap (λ (t : Table). tableIn (lentWith t (L .members) (L .scratch) (L .struck)) (st .count)) (dropped ∙ undone T (H .entries .good) (o .table) (longer T D o grown));
+        table = ap (λ (t : Table). tableIn (lentWith t (L .members) (L .scratch) (L .struck)) (st .count))
+            (dropped ∙ undone T (H .entries .good) (o .table) (longer T D o grown));
         members = refl;
         struck = refl;
       };
@@ -174,5 +181,6 @@ module _ (n : ℕ) (L : Lent) (st : State) (kind : SetKind) (b : SetBody) (H : H
     pub set-made : o .full ≡ false → (st′ : State) → st′ ≡ stateWithEntry st (o .table .count) (max (st .peak) (o .table .count))
         → Stepped n L (lentWith (o .table) (L .members) (set (L .scratch) (st .entries) (o .node)) (L .struck)) st said (Next st′)
     set-made =
-        entry-made n L st H said D (place (size T) (nodesOf T) D) o placed-is grown (place-uses n (size T) (nodesOf T) D (H .entries .uses) (set-reduced n kind b))
+        entry-made n L st H said D (place (size T) (nodesOf T) D) o placed-is grown
+        (place-uses n (size T) (nodesOf T) D (H .entries .uses) (set-reduced n kind b))
         (omega (arith, counted, fits .few)) said-is

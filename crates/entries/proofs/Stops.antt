@@ -1,4 +1,5 @@
--- Records that are refused, and those that change nothing lent: the definition's tests as one number, 0 where none refuses. Assumes nothing.
+-- Records that are refused, and those that change nothing lent: the definition's tests as one number, 0 where none refuses. Assumes
+-- nothing.
 use mathlib.Core.Path.{_≡_, refl, sym}
 use mathlib.Core.Bool.{Bool, true, false, not, _&&_, cond}
 use Prim.Native.Nat.{ℕ, _≤_, _<_}
@@ -10,13 +11,14 @@ use Rattle.table.specs.Nodes.{above, put}
 use Rattle.records.specs.declared.NodeBody.{NodeBody}
 use Rattle.verdict.specs.Steps as check
 use Rattle.verdict.specs.Steps.{stop, isEntry, entryNode, isVariable, entered, nodeStep}
-use Rattle.entries.specs.declared.State.{State}
-use Rattle.entries.specs.declared.Step.the-variants.{Stop}
-use Rattle.entries.specs.States.{Lent, Stepped}
+use Rattle.state.specs.declared.State.{State}
+use Rattle.state.specs.declared.Step.the-variants.{Stop}
+use Rattle.state.specs.States.{Lent, Stepped}
 use Rattle.entries.specs.Tests.{nodeRefusal}
 
 -- The lent lists are as they were.
-pub stopped : (n : ℕ) (l : Lent) (st : State) (said : check.Step) (number offset : ℕ) → said ≡ stop number offset → Stepped n l l st said (Stop number offset)
+pub stopped : (n : ℕ) (l : Lent) (st : State) (said : check.Step) (number offset : ℕ) → said ≡ stop number offset →
+    Stepped n l l st said (Stop number offset)
 stopped n l st said number offset e = record { says = sym e; leaves = record { table = refl; members = refl; struck = refl } }
 
 -- ---- tests as one number
@@ -31,7 +33,8 @@ pub unless-none : (number : ℕ) (made : check.Step) → number ≡ 0 → unless
 unless-none number made e = rw (eq-eqb number 0 e)
 
 pub four : (a b c d : Bool) (i j k m : ℕ) (made : check.Step) → eqb i 0 ≡ false → eqb j 0 ≡ false → eqb k 0 ≡ false → eqb m 0 ≡ false
-    → cond a (stop i 0) (cond b (stop j 0) (cond c (stop k 0) (cond d (stop m 0) made))) ≡ unless (cond a i (cond b j (cond c k (cond d m 0)))) made
+    → cond a (stop i 0) (cond b (stop j 0) (cond c (stop k 0) (cond d (stop m 0) made)))
+    ≡ unless (cond a i (cond b j (cond c k (cond d m 0)))) made
 four true b c d i j k m made p q r s = rw p
 four false true c d i j k m made p q r s = rw q
 four false false true d i j k m made p q r s = rw r
@@ -39,14 +42,16 @@ four false false false true i j k m made p q r s = rw s
 four false false false false i j k m made p q r s = refl
 
 module _ (n s : ℕ) (st : check.State) where
-  pub node-is : (b : NodeBody) → nodeStep n s st b ≡ unless (nodeRefusal n st b) (entered st (put s (st .nodes) (b .variable) (entryNode st (b .low .0)) (entryNode st (b .high .0))))
+  pub node-is : (b : NodeBody) → nodeStep n s st b ≡ unless (nodeRefusal n st b)
+      (entered st (put s (st .nodes) (b .variable) (entryNode st (b .low .0)) (entryNode st (b .high .0))))
   unfolding nodeStep nodeRefusal
   node-is b =
       let v = b .variable in
       let l = b .low .0 in
       let h = b .high .0 in
       four (leb 4096 (length (st .entries))) (not (isVariable n v)) (not (isEntry st l && isEntry st h))
-      (not (above (st .nodes) v (entryNode st l) && above (st .nodes) v (entryNode st h))) 21 12 13 14 (entered st (put s (st .nodes) v (entryNode st l) (entryNode st h))) refl refl refl refl
+      (not (above (st .nodes) v (entryNode st l) && above (st .nodes) v (entryNode st h))) 21 12 13 14
+      (entered st (put s (st .nodes) v (entryNode st l) (entryNode st h))) refl refl refl refl
 
 -- ---- no test refused
 

@@ -1,6 +1,8 @@
 // Node records, and the entries that they make.
 use records::EntryNo;
 use records::NodeBody;
+use state::State;
+use state::Step;
 use table::NodeNo;
 ghost use mathlib.Core.Path.{_≡_};
 ghost use mathlib.Core.List.{List, _∷_};
@@ -11,7 +13,7 @@ ghost use Rattle.table.specs.Indexed.{tableOf};
 ghost use Rattle.walks.specs.Readable.{Readable};
 ghost use Rattle.verdict.specs.Steps.{nodeStep};
 ghost use Rattle.table.specs.Lists.{Inside};
-ghost use Rattle.entries.specs.States.{lentOf, stateOf, stateWithEntry, EntriesHeld, Held, Stepped};
+ghost use Rattle.state.specs.States.{lentOf, stateOf, stateWithEntry, EntriesHeld, Held, Stepped};
 ghost use Rattle.entries.specs.Tests.{NodeTested};
 
 // Whether there is such an entry: 0, 1 or one of the line's.
@@ -47,7 +49,7 @@ fn node_test(
     lows: &[u16],
     highs: &[u16],
     scratch: &[u16],
-    st: crate::State,
+    st: State,
     variables: u8,
     b: NodeBody,
 ) -> NodeTest
@@ -88,12 +90,12 @@ fn node_test(
 }
 
 // The state with one entry more.
-pub fn with_entry(st: crate::State, count: usize, peak: usize) -> crate::State
+pub fn with_entry(st: State, count: usize, peak: usize) -> State
     requires { ⌜ st .entries ≤ 4096 ⌝ }
     ensures { λ r. ⌜ r ≡ stateWithEntry st count peak ⌝ }
 {
     let witness = st.witness;
-    crate::State {
+    State {
         count,
         kept: st.kept,
         members: st.members,
@@ -114,10 +116,10 @@ pub fn node_step(
     heads: &mut [u16],
     links: &mut [u16],
     scratch: &mut [u16],
-    st: crate::State,
+    st: State,
     variables: u8,
     b: NodeBody,
-) -> crate::Step
+) -> Step
     requires { ⌜ (
         let before = tableOf (now vars) (now lows) (now highs) (now heads) (now links) (st .count) in
         EntriesHeld variables before (now scratch) (st .entries)) ⌝ }
@@ -130,7 +132,7 @@ pub fn node_step(
         Stepped variables lent returned st (nodeStep variables (length (now (vars .entry))) (stateOf lent st) b) r)) ⌝ }
 {
     match node_test(vars, lows, highs, scratch, st, variables, b) {
-        NodeTest::Refused(number) => crate::Step::Stop { number, offset: 0 },
+        NodeTest::Refused(number) => Step::Stop { number, offset: 0 },
         NodeTest::Fits { low, high } => {
             let p = table::put(
                 vars,
@@ -145,12 +147,12 @@ pub fn node_step(
             );
             let peak = table::greater(st.peak, p.count);
             if p.full {
-                return crate::Step::Spent { number: 23, peak };
+                return Step::Spent { number: 23, peak };
             }
             let k = p.node;
             let entries = st.entries;
             scratch[entries] = k.0;
-            crate::Step::Next(with_entry(st, p.count, peak))
+            Step::Next(with_entry(st, p.count, peak))
         }
     }
 }

@@ -1,6 +1,8 @@
 // Records that make an entry of a set's diagram: an odd or even number of its variables, or at least k of them.
 use records::SetBody;
 use records::SetKind;
+use state::State;
+use state::Step;
 use table::Placed;
 ghost use mathlib.Core.Path.{_≡_};
 ghost use mathlib.Core.List.{List};
@@ -9,11 +11,11 @@ ghost use lib.ListN.{length};
 ghost use Rattle.table.specs.Indexed.{tableOf, Good, outcomeOf};
 ghost use Rattle.sets.specs.Building.{placedIn};
 ghost use Rattle.verdict.specs.Steps.{beyond, setDiagram, setStep};
-ghost use Rattle.entries.specs.States.{lentOf, stateOf, EntriesHeld, Held, Stepped};
+ghost use Rattle.state.specs.States.{lentOf, stateOf, EntriesHeld, Held, Stepped};
 ghost use Rattle.entries.specs.Tests.{setRefusal};
 
 // Whether the set has a variable beyond the header's.
-fn is_beyond(variables: u8, set: u64) -> bool
+pub fn is_beyond(variables: u8, set: u64) -> bool
     requires { ⌜ variables ≤ 64 ⌝ }
     ensures { λ r. ⌜ r ≡ beyond variables set ⌝ }
 {
@@ -81,11 +83,11 @@ pub fn set_step(
     heads: &mut [u16],
     links: &mut [u16],
     scratch: &mut [u16],
-    st: crate::State,
+    st: State,
     variables: u8,
     kind: SetKind,
     b: SetBody,
-) -> crate::Step
+) -> Step
     requires { ⌜ (
         let before = tableOf (now vars) (now lows) (now highs) (now heads) (now links) (st .count) in
         EntriesHeld variables before (now scratch) (st .entries)) ⌝ }
@@ -99,16 +101,16 @@ pub fn set_step(
 {
     let number = set_test(st.entries, variables, kind, b);
     if number != 0 {
-        return crate::Step::Stop { number, offset: 0 };
+        return Step::Stop { number, offset: 0 };
     }
     let p = set_made(vars, lows, highs, heads, links, st.count, kind, b);
     let peak = table::greater(st.peak, p.count);
     if p.full {
         table::drop_to(vars, lows, highs, heads, links, p.count, st.count);
-        return crate::Step::Spent { number: 23, peak };
+        return Step::Spent { number: 23, peak };
     }
     let k = p.node;
     let entries = st.entries;
     scratch[entries] = k.0;
-    crate::Step::Next(crate::node::with_entry(st, p.count, peak))
+    Step::Next(crate::node::with_entry(st, p.count, peak))
 }

@@ -35,18 +35,20 @@ use Rattle.table.proofs.Zeros.{zeros-at}
 
 -- ---- one clause of the definition, by the outcome of its placing
 
-module _ (mode : Mode) (n s : ℕ) (proof : List ℕ) (t : List Node) (ms : List ℕ) (ls : List meaning.Literal) (first : ℕ) (rest : Reading) where
-  clause-full : (p : Placing) → place s t (meaning.clause n ls) ≡ p → written s p .full ≡ true
-      → clauses mode n s proof t ms (clause ls first rest) ≡ refusedFormula 8 first (length (nodesOf (written s p .table)))
-  unfolding clauses written
-  clause-full (full t₁) e f = rw (e, nodes-indexed s t₁)
-  clause-full (placed t₁ k) e f = t≢f (sym f)
+module _ (mode : Mode) (n s : ℕ) (proof : List ℕ) (t : List Node) (ms : List ℕ) (ls : List meaning.Literal) (first : ℕ) (rest : Reading)
+  where
+    clause-full : (p : Placing) → place s t (meaning.clause n ls) ≡ p → written s p .full ≡ true
+        → clauses mode n s proof t ms (clause ls first rest) ≡ refusedFormula 8 first (length (nodesOf (written s p .table)))
+    unfolding clauses written
+    clause-full (full t₁) e f = rw (e, nodes-indexed s t₁)
+    clause-full (placed t₁ k) e f = t≢f (sym f)
 
-  clause-placed : (p : Placing) → place s t (meaning.clause n ls) ≡ p → written s p .full ≡ false
-      → clauses mode n s proof t ms (clause ls first rest) ≡ clauses mode n s proof (nodesOf (written s p .table)) (ms ++ written s p .node ∷ []) rest
-  unfolding clauses written
-  clause-placed (full t₁) e f = t≢f f
-  clause-placed (placed t₁ k) e f = rw (e, nodes-indexed s t₁)
+    clause-placed : (p : Placing) → place s t (meaning.clause n ls) ≡ p → written s p .full ≡ false
+        → clauses mode n s proof t ms (clause ls first rest) ≡ clauses mode n s proof (nodesOf (written s p .table))
+        (ms ++ written s p .node ∷ []) rest
+    unfolding clauses written
+    clause-placed (full t₁) e f = t≢f f
+    clause-placed (placed t₁ k) e f = rw (e, nodes-indexed s t₁)
 
 clause-reduced : (n : ℕ) (ls : List meaning.Literal) → Reduced 1 (suc n) (meaning.clause n ls)
 unfolding meaning.clause
@@ -68,9 +70,11 @@ module _ (n wanted from : ℕ) (formula : List ℕ) (s : ℕ) where
     pub built : Built n T members made
     pub counted : made ≤ wanted
     pub within : at ≤ length formula
-    pub left : (mode : Mode) (proof : List ℕ) → Whole mode proof ≡ clauses mode n s proof (nodesOf T) (take made members) (clausesFrom formula n (wanted - made) at)
+    pub left : (mode : Mode) (proof : List ℕ) → Whole mode proof ≡ clauses mode n s proof (nodesOf T) (take made members)
+        (clausesFrom formula n (wanted - made) at)
 
-  pub building-start : n ≤ 64 → wanted ≤ 1024 → from ≤ length formula → (T : Table) (members : List ℕ) → size T ≡ s → Opened T members → Building T members 0 from
+  pub building-start : n ≤ 64 → wanted ≤ 1024 → from ≤ length formula → (T : Table) (members : List ℕ) → size T ≡ s → Opened T members →
+      Building T members 0 from
   building-start narrow limit within T members same O =
       let none-made : wanted ≡ wanted - 0 = omega arith in
       let nodes : nodesOf T ≡ emptied = ap nodesOf (O .written) ∙ nodes-indexed (size T) emptied in
@@ -88,7 +92,8 @@ module _ (n wanted from : ℕ) (formula : List ℕ) (s : ℕ) where
         };
         counted = omega arith;
         within = within;
-        left = λ mode proof. ap₂ (λ (t : List Node) (k : ℕ). clauses mode n s proof t [] (clausesFrom formula n k from)) (sym nodes) none-made;
+        left = λ mode proof. ap₂ (λ (t : List Node) (k : ℕ). clauses mode n s proof t [] (clausesFrom formula n k from)) (sym nodes)
+            none-made;
       }
 
   module _ (T : Table) (members : List ℕ) (made at : ℕ) (B : Building T members made at) where
@@ -99,10 +104,12 @@ module _ (n wanted from : ℕ) (formula : List ℕ) (s : ℕ) where
         → Whole mode proof ≡ proofFrom mode n (size T) proof (begun (nodesOf T) (take made members))
     unfolding clauses
     building-end e mode proof =
-        B .left mode proof ∙ ap (clauses mode n s proof (nodesOf T) (take made members)) (clauses-ended formula n remaining at (ended-is (nextClause formula n remaining at) e))
+        B .left mode proof ∙ ap (clauses mode n s proof (nodesOf T) (take made members))
+        (clauses-ended formula n remaining at (ended-is (nextClause formula n remaining at) e))
         ∙ ap (λ (k : ℕ). proofFrom mode n k proof (begun (nodesOf T) (take made members))) (sym (B .same-size))
 
-    pub building-refused : (number place : ℕ) → clauseOf (nextClause formula n remaining at) ≡ Refused number place → (mode : Mode) (proof : List ℕ)
+    pub building-refused : (number place : ℕ) → clauseOf (nextClause formula n remaining at) ≡ Refused number place →
+        (mode : Mode) (proof : List ℕ)
         → Whole mode proof ≡ refusedFormula number place (T .count)
     unfolding clauses
     building-refused number place e mode proof =
@@ -138,19 +145,24 @@ module _ (n wanted from : ℕ) (formula : List ℕ) (s : ℕ) where
         abbrev rest : Reading
         rest = clausesFrom formula n (remaining - 1) (c .next)
 
-        before : (mode : Mode) (proof : List ℕ) → Whole mode proof ≡ clauses mode n s proof (nodesOf T) (take made members) (clause ls (c .first) rest)
+        before : (mode : Mode) (proof : List ℕ) → Whole mode proof ≡ clauses mode n s proof (nodesOf T) (take made members)
+            (clause ls (c .first) rest)
         before mode proof =
-            B .left mode proof ∙ ap (clauses mode n s proof (nodesOf T) (take made members)) (clauses-closed formula n remaining at ls (c .first) (c .next) (closes .is))
+            B .left mode proof ∙ ap (clauses mode n s proof (nodesOf T) (take made members))
+            (clauses-closed formula n remaining at ls (c .first) (c .next) (closes .is))
 
         grown-so : Grown T (meaning.clause n ls) o
-        grown-so = grown T (B .built .good) (meaning.clause n ls) (reduced-to 1 (suc n) 65 (meaning.clause n ls) (omega (arith, B .narrow)) (clause-reduced n ls)) o placed-is
+        grown-so = grown T (B .built .good) (meaning.clause n ls)
+            (reduced-to 1 (suc n) 65 (meaning.clause n ls) (omega (arith, B .narrow)) (clause-reduced n ls)) o placed-is
 
-        pub building-full : o .full ≡ true → (mode : Mode) (proof : List ℕ) → Whole mode proof ≡ refusedFormula 8 (c .first) (o .table .count)
+        pub building-full : o .full ≡ true → (mode : Mode) (proof : List ℕ) → Whole mode proof
+            ≡ refusedFormula 8 (c .first) (o .table .count)
         building-full f mode proof =
             before mode proof
             ∙ clause-full mode n s proof (nodesOf T) (take made members) ls (c .first) rest (place s (nodesOf T) (meaning.clause n ls)) refl
             (sym (ap (λ (x : Outcome). x .full) placed-s) ∙ f)
-            ∙ ap (λ (x : Outcome). refusedFormula 8 (c .first) (length (nodesOf (x .table)))) (sym placed-s) ∙ ap (refusedFormula 8 (c .first)) (length-nodes (o .table) (grown-so .good))
+            ∙ ap (λ (x : Outcome). refusedFormula 8 (c .first) (length (nodesOf (x .table)))) (sym placed-s)
+            ∙ ap (refusedFormula 8 (c .first)) (length-nodes (o .table) (grown-so .good))
 
         pub building-next : o .full ≡ false → Building (o .table) (set members made (o .node)) (made + 1) (c .next)
         building-next f =
@@ -167,7 +179,8 @@ module _ (n wanted from : ℕ) (formula : List ℕ) (s : ℕ) where
               built = record {
                 good = grown-so .good;
                 uses = subst (λ (x : Outcome). UsesTo n (nodesOf (x .table))) (sym placed-s)
-                    (uses-written n s (place s (nodesOf T) (meaning.clause n ls)) (place-uses n s (nodesOf T) (meaning.clause n ls) (B .built .uses) (clause-reduced n ls)));
+                    (uses-written n s (place s (nodesOf T) (meaning.clause n ls))
+                    (place-uses n s (nodesOf T) (meaning.clause n ls) (B .built .uses) (clause-reduced n ls)));
                 inside = λ i p. with-node i (ℕ-discrete i made) p;
                 few = omega (arith, B .limit);
                 rest = λ i p. getD-set-other members made i (o .node) 0 (λ z. absurd (omega arith)) ∙ B .built .rest i (omega arith);
@@ -175,12 +188,19 @@ module _ (n wanted from : ℕ) (formula : List ℕ) (s : ℕ) where
               counted = omega arith;
               within = subst (NextIn formula n) (closes .is) inside-text .1;
               left = λ mode proof. before mode proof
-                  ∙ clause-placed mode n s proof (nodesOf T) (take made members) ls (c .first) rest (place s (nodesOf T) (meaning.clause n ls)) refl (sym (ap (λ (x : Outcome). x .full) placed-s) ∙ f)
-                  ∙ ap (λ (x : Outcome). clauses mode n s proof (nodesOf (x .table)) (take made members ++ x .node ∷ []) rest) (sym placed-s)
+                  ∙ clause-placed mode n s proof (nodesOf T) (take made members) ls (c .first) rest
+                  (place s (nodesOf T) (meaning.clause n ls)) refl (sym (ap (λ (x : Outcome). x .full) placed-s) ∙ f)
+                  ∙ ap (λ (x : Outcome). clauses mode n s proof (nodesOf (x .table)) (take made members ++ x .node ∷ []) rest)
+                  (sym placed-s)
                   ∙ ap₂ (λ (ms : List ℕ) (k : ℕ). clauses mode n s proof (nodesOf (o .table)) ms (clausesFrom formula n k (c .next)))
                   (sym (ap (λ (k : ℕ). take k (set members made (o .node))) one ∙ take-suc-set members made (o .node) inside)) less;
             }
           where
             with-node : (i : ℕ) → Dec (i ≡ made) → i < made + 1 → getD (set members made (o .node)) i 0 < o .table .count
-            with-node i (yes z) p = rw (z, getD-set-same members made (o .node) 0 (omega (arith, B .room, B .limit, B .counted, building-more))) (grown-so .inside)
-            with-node i (no ne) p = rw (getD-set-other members made i (o .node) 0 ne) (omega (arith, B .built .inside i (omega (arith, ne)), grown-so .more))
+            with-node i (yes z) p = rw (
+              z,
+              getD-set-same members made (o .node) 0
+                  (omega (arith, B .room, B .limit, B .counted, building-more)),
+            ) (grown-so .inside)
+            with-node i (no ne) p = rw (getD-set-other members made i (o .node) 0 ne)
+                (omega (arith, B .built .inside i (omega (arith, ne)), grown-so .more))

@@ -2,7 +2,7 @@
 -- a time, in both directions. Assumes nothing.
 use mathlib.Core.Path.{_≡_, refl, ap, ap₂, sym, _∙_}
 use mathlib.Core.Logic.{_≢_}
-use mathlib.Core.Bool.{true, false, _||_}
+use mathlib.Core.Bool.{true, false}
 use mathlib.Core.List.{List, [], _∷_, _++_}
 use Prim.Native.Nat.{ℕ, zero, suc, _+_, _-_, _≤_, _<_}
 use native.Mathlib.Omega.{arith}
@@ -11,12 +11,11 @@ use lib.ListN.{length, getD, drop}
 use lib.Seq.{slice, drop-cons}
 use lib.Dec.{eqb}
 use borrow.Author.Tests.{eq-eqb, ne-eqb, eqb-true, not-false}
-use Rattle.meaning.proofs.Booleans.{and-both}
 use Rattle.meaning.proofs.Booleans as booleans
 use Rattle.dimacs.specs.Text.{isParting, isToken, isLine, past, lineEnd, isComment, betweenFrom, between}
 use Rattle.dimacs.proofs.Cases.{by, clash}
 use Rattle.dimacs.proofs.Runs.{past-end, past-stop, past-go, past-least}
-use Rattle.dimacs.proofs.Between.{comment-inside, between-stop, between-left, left-comment, between-least, other-byte, behind as comment-behind}
+use Rattle.dimacs.proofs.Between.{comment-byte, comment-inside, between-stop, between-left, left-comment, between-least, other-byte, behind as comment-behind}
 use Rattle.grammar.specs.Parts.{Blank, blankByte, Comment, comment, comments, Piece, blank, newLine, gap}
 use Rattle.grammar.specs.Formula.{Ending, plain, lastComment, ending}
 use Rattle.grammar.proofs.Places.{Stops, outside, inside, byte, behind, past-rest, past-all, past-stops, past-split}
@@ -184,17 +183,13 @@ module _ (s : List ℕ) where
       (λ f. let x = parting-of b t f in blank-before at b r e (between-on at b r e t) (x .0) (x .1) (ih .0 (inner at b r e f))))
       (λ t. rests at (between-rests at (stays at b r e t) n))
 
-  comment-byte : (at : ℕ) → isComment s at ≡ true → getD s at 0 ≡ 99
-  unfolding isComment
-  comment-byte at e = eqb-true (getD s at 0) 99 (and-both (eqb (getD s at 0) 99) (eqb at 0 || eqb (getD s (at - 1) 0) 10) e .0)
-
   -- The comment line at `at`, up to its end `to`.
   module _ (at : ℕ) (t : isComment s at ≡ true) (ih : (later : ℕ) → at < later → Known later) where
     abbrev to : ℕ
     to = past isLine s (suc at)
 
     here : drop at s ≡ 99 ∷ drop (suc at) s
-    here = drop-cons s at 0 (comment-inside s at t) ∙ ap (λ (b : ℕ). b ∷ drop (suc at) s) (comment-byte at t)
+    here = drop-cons s at 0 (comment-inside s at t) ∙ ap (λ (b : ℕ). b ∷ drop (suc at) s) (comment-byte s at t)
 
     abbrev line : Comment
     line = record { bytes = slice (suc at) to s; inLine = line-of (slice (suc at) to s) (past-all s (suc at) isLine) }
@@ -204,7 +199,7 @@ module _ (s : List ℕ) where
 
     line-ends : lineEnd s at ≡ to
     line-ends =
-        past-go isLine s at (comment-inside s at t) (ap isLine (comment-byte at t))
+        past-go isLine s at (comment-inside s at t) (ap isLine (comment-byte s at t))
         ∙ ap (past isLine s) (add-one at)
 
     line-skipped : between s at ≡ between s to

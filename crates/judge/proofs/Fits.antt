@@ -1,5 +1,5 @@
--- What a line reaches, whether it finds room and how far, told from the parts that the code makes one after another. The idea: a turn's diagrams are
--- placed as one list, and members without a turn make nothing. Assumes nothing.
+-- What a line reaches, whether it finds room and how far, told from the parts that the code makes one after another. The idea: a turn's
+-- diagrams are placed as one list, and members without a turn make nothing. Assumes nothing.
 use mathlib.Core.Path.{_≡_, refl, sym, ap, _∙_}
 use mathlib.Core.Bool.{Bool, true, false, _&&_, cond}
 use mathlib.Core.List.{List, [], _∷_, _++_}
@@ -44,9 +44,11 @@ module _ (n : ℕ) (P N : ℕ → Bool) (ms′ : List Diagram) where
   turns-kept : (fs : List Diagram) → prTurns n P N ms′ fs .kept ≡ []
   unfolding prTurns
   turns-kept [] = refl
-  turns-kept (f ∷ fs) = kept-cond (same (cofactorLiterals n P N f) (leaf true)) (cofactorLiterals n P N f) (prTurns n P N ms′ fs) (turns-kept fs)
+  turns-kept (f ∷ fs) = kept-cond (same (cofactorLiterals n P N f) (leaf true)) (cofactorLiterals n P N f) (prTurns n P N ms′ fs)
+      (turns-kept fs)
 
-  pub turns-reach : (s : ℕ) (t : List Node) (fs : List Diagram) → lineReach s t (prTurns n P N ms′ fs) ≡ turnsReach s (prTurns n P N ms′ fs .turns) t
+  pub turns-reach : (s : ℕ) (t : List Node) (fs : List Diagram) → lineReach s t (prTurns n P N ms′ fs)
+      ≡ turnsReach s (prTurns n P N ms′ fs .turns) t
   unfolding lineReach placedAll
   turns-reach s t fs = ap (λ (kept : List Diagram). keptReach s (prTurns n P N ms′ fs .turns) (placedAll s t kept)) (turns-kept fs)
 
@@ -79,7 +81,8 @@ module _ (n : ℕ) (P N : ℕ → Bool) (ms′ : List Diagram) where
               choose false m = refl
 
       pub turn-reach : (s : ℕ) (t : List Node) → lineReach s t (prTurns n P N ms′ (f ∷ []))
-          ≡ reached (placedAll s t (cofactorLiterals n P N f ∷ (base n ms′ (cofactorLiterals n P N f) ++ propagation n ms′ (cofactorLiterals n P N f) .made)))
+          ≡ reached (placedAll s t (cofactorLiterals n P N f ∷
+          (base n ms′ (cofactorLiterals n P N f) ++ propagation n ms′ (cofactorLiterals n P N f) .made)))
       unfolding afterTurn
       turn-reach s t =
           turns-reach s t (f ∷ [])
@@ -112,17 +115,35 @@ pub record Stops (s : ℕ) (t : List Node) (one all : Line) : Type 0 where
 -- A turn taken apart: whether h is 1, and if not whether it conflicts, its rounds and what it makes.
 abbrev turned : Bool → Bool → ℕ → List Diagram → Line → Line
 turned constant conflict rounds made rest =
-    cond constant rest (record { shown = conflict && rest .shown; rounds = cond conflict (rounds + rest .rounds) rounds; kept = []; turns = made ∷ cond conflict (rest .turns) [] })
+    cond constant rest (record {
+      shown = conflict && rest .shown;
+      rounds = cond conflict (rounds + rest .rounds) rounds;
+      kept = [];
+      turns =
+          made ∷ cond conflict (rest .turns) [];
+    })
 
 module _ (s : ℕ) (t : List Node) where
-  turned-on : (b c : Bool) (m : ℕ) (ds : List Diagram) (L : Line) → turned b c m ds nothing .shown ≡ true → GoesOn s t (turned b c m ds nothing) L (turned b c m ds L)
+  turned-on : (b c : Bool) (m : ℕ) (ds : List Diagram) (L : Line) → turned b c m ds nothing .shown ≡ true →
+      GoesOn s t (turned b c m ds nothing) L (turned b c m ds L)
   unfolding turnsReach
-  turned-on true c m ds L e = record { shown = refl; rounds = omega arith; reach = sym (after-nothing (length t) (turnsReach s (L .turns) t) (turns-peak s (L .turns) t)) }
+  turned-on true c m ds L e = record {
+    shown = refl;
+    rounds = omega arith;
+    reach =
+        sym (after-nothing (length t) (turnsReach s (L .turns) t) (turns-peak s (L .turns) t));
+  }
   turned-on false true m ds L e =
-      record { shown = refl; rounds = omega arith; reach = ap (λ (r : Reach). thenReach r (turnsReach s (L .turns) t)) (sym (one-reach s ds t)) }
+      record {
+        shown = refl;
+        rounds = omega arith;
+        reach = ap (λ (r : Reach). thenReach r (turnsReach s (L .turns) t))
+            (sym (one-reach s ds t));
+      }
   turned-on false false m ds L e = t≢f (sym e)
 
-  turned-last : (b c : Bool) (m : ℕ) (ds : List Diagram) (L : Line) → turned b c m ds nothing .shown ≡ false → Stops s t (turned b c m ds nothing) (turned b c m ds L)
+  turned-last : (b c : Bool) (m : ℕ) (ds : List Diagram) (L : Line) → turned b c m ds nothing .shown ≡ false →
+      Stops s t (turned b c m ds nothing) (turned b c m ds L)
   turned-last true c m ds L e = t≢f e
   turned-last false true m ds L e = t≢f e
   turned-last false false m ds L e = record { shown = refl; rounds = refl; reach = refl }
@@ -131,12 +152,15 @@ module _ (s : ℕ) (t : List Node) where
     abbrev h : Diagram
     h = cofactorLiterals n P N f
 
-    pub goes-on : prTurns n P N ms′ (f ∷ []) .shown ≡ true → GoesOn s t (prTurns n P N ms′ (f ∷ [])) (prTurns n P N ms′ fs) (prTurns n P N ms′ (f ∷ fs))
+    pub goes-on : prTurns n P N ms′ (f ∷ []) .shown ≡ true → GoesOn s t (prTurns n P N ms′ (f ∷ [])) (prTurns n P N ms′ fs)
+        (prTurns n P N ms′ (f ∷ fs))
     unfolding prTurns afterTurn
     goes-on =
-        turned-on (same h (leaf true)) (propagation n ms′ h .conflict) (propagation n ms′ h .rounds) (h ∷ (base n ms′ h ++ propagation n ms′ h .made)) (prTurns n P N ms′ fs)
+        turned-on (same h (leaf true)) (propagation n ms′ h .conflict) (propagation n ms′ h .rounds)
+        (h ∷ (base n ms′ h ++ propagation n ms′ h .made)) (prTurns n P N ms′ fs)
 
     pub stops : prTurns n P N ms′ (f ∷ []) .shown ≡ false → Stops s t (prTurns n P N ms′ (f ∷ [])) (prTurns n P N ms′ (f ∷ fs))
     unfolding prTurns afterTurn
     stops =
-        turned-last (same h (leaf true)) (propagation n ms′ h .conflict) (propagation n ms′ h .rounds) (h ∷ (base n ms′ h ++ propagation n ms′ h .made)) (prTurns n P N ms′ fs)
+        turned-last (same h (leaf true)) (propagation n ms′ h .conflict) (propagation n ms′ h .rounds)
+        (h ∷ (base n ms′ h ++ propagation n ms′ h .made)) (prTurns n P N ms′ fs)

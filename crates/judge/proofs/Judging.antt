@@ -26,7 +26,8 @@ use Rattle.judge.proofs.Turning.{judgedAs}
 module _ (T : Table) (G : Good T) (ms : List Diagram) (g : Diagram) (T₁ : Table) (list : List ℕ) where
   -- not-g or a member by it found no room
   module _ (B : ByNegation T ms g true T₁ list) (bound : ℕ) where
-    said-full : (line : Line) → lineReach (size T) (nodesOf T) line ≡ reach false (length (nodesOf T₁)) → LineSays T line bound (judgedAs true false 0 (T₁ .count) (T₁ .count)) T₁
+    said-full : (line : Line) → lineReach (size T) (nodesOf T) line ≡ reach false (length (nodesOf T₁)) →
+        LineSays T line bound (judgedAs true false 0 (T₁ .count) (T₁ .count)) T₁
     said-full line e = record {
       extended = B .extended;
       reaches = e ∙ ap (reach false) (length-nodes T₁ (B .extended .good));
@@ -52,7 +53,8 @@ module _ (T : Table) (G : Good T) (ms : List Diagram) (g : Diagram) (T₁ : Tabl
         → LineSays T (rup 64 ms g) 64 (judgedAs (p .full) (p .conflict) (p .rounds) (p .count) (p .count)) T₂
     unfolding rup lineReach
     rup-judged p T₂ S counted =
-        let e : unitProp 64 (diagramsOf (nodesOf T₁) list) ≡ unitProp 64 (byDiagram 64 (negation 64 g) ms) = ap (unitProp 64) (B .are refl) in
+        let e : unitProp 64 (diagramsOf (nodesOf T₁) list) ≡ unitProp 64 (byDiagram 64 (negation 64 g) ms) =
+        ap (unitProp 64) (B .are refl) in
         let u : Propagation = unitProp 64 (byDiagram 64 (negation 64 g) ms) in
         record {
           extended = extended-trans T T₁ T₂ G (B .extended) (S .extended);
@@ -75,9 +77,11 @@ module _ (T : Table) (G : Good T) (members : List ℕ) (inside : Inside (T .coun
 
   turns-are : prTurns 64 (inWord p) (inWord n) (diagramsOf (nodesOf T₁) list) (diagramsOf (nodesOf T₁) members)
       ≡ prTurns 64 (inWord p) (inWord n) (byDiagram 64 (negation 64 g) ms) ms
-  turns-are = ap₂ (prTurns 64 (inWord p) (inWord n)) (B .are refl) (diagrams-kept T T₁ (extended-longer T T₁ G (B .extended)) members inside)
+  turns-are = ap₂ (prTurns 64 (inWord p) (inWord n)) (B .are refl)
+      (diagrams-kept T T₁ (extended-longer T T₁ G (B .extended)) members inside)
 
-  pub pr-judged : (bound : ℕ) (r : Judged) (T₂ : Table) → LineSays T₁ (prTurns 64 (inWord p) (inWord n) (diagramsOf (nodesOf T₁) list) (diagramsOf (nodesOf T₁) members)) bound r T₂
+  pub pr-judged : (bound : ℕ) (r : Judged) (T₂ : Table) → LineSays T₁
+      (prTurns 64 (inWord p) (inWord n) (diagramsOf (nodesOf T₁) list) (diagramsOf (nodesOf T₁) members)) bound r T₂
       → LineSays T (pr 64 (inWord p) (inWord n) ms g) bound r T₂
   unfolding pr lineReach
   pr-judged bound r T₂ S =

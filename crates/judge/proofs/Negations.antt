@@ -34,7 +34,8 @@ use Rattle.judge.proofs.Worded.{negation-has, supports-longer}
 -- A number that is not 1 has not the diagram 1.
 pub not-one : (T : Table) → Good T → (g : ℕ) → g < T .count → (g ≡ 1 → ⊥) → diagramAt (nodesOf T) g ≢ leaf true
 not-one T G g inside ne e =
-    ne (diagramAt-injective (nodesOf T) (good-ordered T G) g 1 (omega (arith, length-nodes T G)) (omega (arith, length-nodes T G, G .least)) (e ∙ sym (diagramAt-one (nodesOf T))))
+    ne (diagramAt-injective (nodesOf T) (good-ordered T G) g 1 (omega (arith, length-nodes T G)) (omega (arith, length-nodes T G, G .least))
+    (e ∙ sym (diagramAt-one (nodesOf T))))
 
 module _ (T : Table) (list memo : List ℕ) (g : ℕ) (R : Negatable T list memo g) where
   pub negation-ready : (memo′ : List ℕ) → MemoRight Negation memo′ T → Ready Negation memo′ T g 1
@@ -50,13 +51,15 @@ module _ (T : Table) (list memo : List ℕ) (g : ℕ) (R : Negatable T list memo
   module _ (o : Outcome) (e : o ≡ applied T Negation g 1) where
     made : Grown T (negation 64 (diagramAt (nodesOf T) g)) o
     unfolding result
-    made = grown T (R .ready .good) (negation 64 (diagramAt (nodesOf T) g)) (result-reduced Negation (diagramAt (nodesOf T) g) (diagramAt (nodesOf T) 1)) o e
+    made = grown T (R .ready .good) (negation 64 (diagramAt (nodesOf T) g))
+        (result-reduced Negation (diagramAt (nodesOf T) g) (diagramAt (nodesOf T) 1)) o e
 
     long : Longer T (o .table)
     long = longer T (negation 64 (diagramAt (nodesOf T) g)) o made
 
     -- not-g found no room
-    pub negation-full : o .full ≡ true → (list′ : List ℕ) → ByNegation T (diagramsOf (nodesOf T) list) (diagramAt (nodesOf T) g) true (o .table) list′
+    pub negation-full : o .full ≡ true → (list′ : List ℕ) → ByNegation T (diagramsOf (nodesOf T) list) (diagramAt (nodesOf T) g) true
+        (o .table) list′
     unfolding result
     negation-full f list′ =
         record {
@@ -70,12 +73,15 @@ module _ (T : Table) (list memo : List ℕ) (g : ℕ) (R : Negatable T list memo
     module _ (f : o .full ≡ false) where
       not-zero : o .node ≡ 0 → ⊥
       not-zero z =
-          negation-some 64 (diagramAt (nodesOf T) g) (diagramAt-reduced (nodesOf T) (good-ordered T (R .ready .good)) g (omega (arith, length-nodes T (R .ready .good), R .inside)))
+          negation-some 64 (diagramAt (nodesOf T) g)
+          (diagramAt-reduced (nodesOf T) (good-ordered T (R .ready .good)) g
+          (omega (arith, length-nodes T (R .ready .good), R .inside)))
           (not-one T (R .ready .good) g (R .inside) (R .not-one))
           (sym (made .is f) ∙ ap (diagramAt (nodesOf (o .table))) z ∙ diagramAt-zero (nodesOf (o .table)))
 
       -- the members can be cofactored by it
-      pub cofactors-ready : (memo′ : List ℕ) → length memo′ ≡ length memo → ListReady (o .table) list memo′ × (o .node < o .table .count) × Allowed Cofactor (o .node)
+      pub cofactors-ready : (memo′ : List ℕ) → length memo′ ≡ length memo → ListReady (o .table) list memo′ × (o .node < o .table .count)
+          × Allowed Cofactor (o .node)
       cofactors-ready memo′ len = (
         record {
           good = made .good;
@@ -88,19 +94,23 @@ module _ (T : Table) (list memo : List ℕ) (g : ℕ) (R : Negatable T list memo
 
       -- and the words are as before, with g's for not-g
       pub negation-words : (words : List ℕ) (word : ℕ) → Worded T list words g word
-          → (length words ≡ length list) × Supports (nodesOf (o .table)) list words × Support word (diagramAt (nodesOf (o .table)) (o .node))
+          → (length words ≡ length list) × Supports (nodesOf (o .table)) list words
+          × Support word (diagramAt (nodesOf (o .table)) (o .node))
       negation-words words word W = (
         W .lengths,
         supports-longer T (o .table) long list words (R .ready .inside) (W .have),
         subst (Support word) (sym (made .is f)) (negation-has T (R .ready .good) g (R .inside) word (W .has)),
       )
 
-      cofactors : results Cofactor (o .table) list (o .node) ≡ byDiagram 64 (negation 64 (diagramAt (nodesOf T) g)) (diagramsOf (nodesOf T) list)
+      cofactors : results Cofactor (o .table) list (o .node) ≡ byDiagram 64 (negation 64 (diagramAt (nodesOf T) g))
+          (diagramsOf (nodesOf T) list)
       unfolding result
       cofactors =
-          ap₂ (λ (h : Diagram) (ms : List Diagram). byDiagram 64 h ms) (made .is f) (diagrams-kept T (o .table) long list (R .ready .inside))
+          ap₂ (λ (h : Diagram) (ms : List Diagram). byDiagram 64 h ms) (made .is f)
+          (diagrams-kept T (o .table) long list (R .ready .inside))
 
-      pub cofactors-made : (full : Bool) (T′ : Table) (list′ : List ℕ) → AllMade (o .table) (results Cofactor (o .table) list (o .node)) full T′ list′
+      pub cofactors-made : (full : Bool) (T′ : Table) (list′ : List ℕ) →
+          AllMade (o .table) (results Cofactor (o .table) list (o .node)) full T′ list′
           → ByNegation T (diagramsOf (nodesOf T) list) (diagramAt (nodesOf T) g) full T′ list′
       unfolding result
       cofactors-made full T′ list′ A =

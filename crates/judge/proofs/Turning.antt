@@ -34,7 +34,8 @@ use Rattle.table.proofs.Extended.{longer-extended, extended-same, extended-tran
 use Rattle.judge.specs.declared.Judged.{Judged}
 use Rattle.judge.specs.Lines.{Negatable, Worded, LineSays}
 use Rattle.judge.proofs.Worded.{literals-has, supports-longer}
-use Rattle.judge.proofs.Fits.{propagation, rup-reach, turns-reach, constant-turn, turn-shown, turn-rounds, turn-reach, GoesOn, Stops, goes-on, stops}
+use Rattle.judge.proofs.Fits.{propagation, rup-reach, turns-reach, constant-turn, turn-shown, turn-rounds, turn-reach, GoesOn, Stops}
+use Rattle.judge.proofs.Fits.{goes-on, stops}
 
 abbrev pub judgedAs : Bool → Bool → ℕ → ℕ → ℕ → Judged
 judgedAs full shown rounds count peak = record { full = full; shown = shown; rounds = rounds; count = count; peak = peak }
@@ -82,7 +83,8 @@ module _ (T : Table) (list memo : List ℕ) (R : ListReady T list memo) (f p n :
     long : Longer T (o .table)
     long = longer T h o made
 
-    reach-is : lineReach (size T) (nodesOf T) One ≡ reached (placedAll (size T) (nodesOf T) (h ∷ (base 64 ms h ++ propagation 64 ms h .made)))
+    reach-is : lineReach (size T) (nodesOf T) One ≡ reached
+        (placedAll (size T) (nodesOf T) (h ∷ (base 64 ms h ++ propagation 64 ms h .made)))
     unfolding oneAt
     reach-is = turn-reach 64 (inWord p) (inWord n) ms (diagramAt (nodesOf T) f) other (size T) (nodesOf T)
 
@@ -105,7 +107,8 @@ module _ (T : Table) (list memo : List ℕ) (R : ListReady T list memo) (f p n :
       not-one : o .node ≡ 1 → ⊥
       unfolding oneAt
       not-one z =
-          t≢f (sym (eq-same h (leaf true) (sym (made .is q) ∙ ap (diagramAt (nodesOf (o .table))) z ∙ diagramAt-one (nodesOf (o .table)))) ∙ other)
+          t≢f (sym (eq-same h (leaf true) (sym (made .is q) ∙ ap (diagramAt (nodesOf (o .table))) z ∙ diagramAt-one (nodesOf (o .table))))
+          ∙ other)
 
       -- the members by not-g can be propagated after a cofactor by not-h
       pub turn-ready : (memo′ : List ℕ) → length memo′ ≡ length memo → Negatable (o .table) list memo′ (o .node)
@@ -149,8 +152,10 @@ module _ (T : Table) (list memo : List ℕ) (R : ListReady T list memo) (f p n :
           record {
             extended = extended-trans T (o .table) T′ (R .good) (longer-extended T (o .table) long) (S .extended);
             reaches = reach-both ∙ S .reaches;
-            shown = λ z. S .shown z ∙ ap (λ (L : Line). L .shown) rup-is ∙ sym (turn-shown 64 (inWord p) (inWord n) ms (diagramAt (nodesOf T) f) other);
-            rounds = λ z. S .rounds z ∙ ap (λ (L : Line). L .rounds) rup-is ∙ sym (turn-rounds 64 (inWord p) (inWord n) ms (diagramAt (nodesOf T) f) other);
+            shown = λ z. S .shown z ∙ ap (λ (L : Line). L .shown) rup-is
+                ∙ sym (turn-shown 64 (inWord p) (inWord n) ms (diagramAt (nodesOf T) f) other);
+            rounds = λ z. S .rounds z ∙ ap (λ (L : Line). L .rounds) rup-is
+                ∙ sym (turn-rounds 64 (inWord p) (inWord n) ms (diagramAt (nodesOf T) f) other);
             most = S .most;
           }
 
@@ -201,7 +206,8 @@ module _ (T : Table) (list members : List ℕ) (p n : ℕ) where
         let none : drop i members ≡ [] = drop-of-length-le members {i = i} end in
         record {
           extended = extended-same T good;
-          reaches = line-reach members ∙ W .reach-left ∙ ap (λ (ks : List ℕ). raised peak (reachOf ks)) none ∙ ap (reach true) (omega (arith, W .least));
+          reaches = line-reach members ∙ W .reach-left ∙ ap (λ (ks : List ℕ). raised peak (reachOf ks)) none
+              ∙ ap (reach true) (omega (arith, W .least));
           shown = λ _. sym (W .shown-left ∙ ap (λ (ks : List ℕ). lineOf ks .shown) none);
           rounds = λ _. sym (W .rounds-left ∙ ap (λ (ks : List ℕ). rounds + lineOf ks .rounds) none ∙ plus-zero rounds);
           most = omega (arith, W .most, W .so-far);
@@ -210,7 +216,8 @@ module _ (T : Table) (list members : List ℕ) (p n : ℕ) where
         plus-zero : (m : ℕ) → m + 0 ≡ m
         plus-zero m = omega arith
 
-    module _ (i rounds peak : ℕ) (W : Turning i rounds peak) (more : i < length members) (r : Judged) (T′ : Table) (S : LineSays T (lineOf (getD members i 0 ∷ [])) 64 r T′) where
+    module _ (i rounds peak : ℕ) (W : Turning i rounds peak) (more : i < length members) (r : Judged) (T′ : Table)
+        (S : LineSays T (lineOf (getD members i 0 ∷ [])) 64 r T′) where
       abbrev one : Line
       one = lineOf (getD members i 0 ∷ [])
 
@@ -223,16 +230,20 @@ module _ (T : Table) (list members : List ℕ) (p n : ℕ) where
       all-reach : lineReach (size T) (nodesOf T) (lineOf members) ≡ raised peak (reachOf (getD members i 0 ∷ drop (suc i) members))
       all-reach = line-reach members ∙ W .reach-left ∙ ap (λ (ks : List ℕ). raised peak (reachOf ks)) next
 
-      onward : one .shown ≡ true → GoesOn (size T) (nodesOf T) one (lineOf (drop (suc i) members)) (lineOf (getD members i 0 ∷ drop (suc i) members))
+      onward : one .shown ≡ true → GoesOn (size T) (nodesOf T) one (lineOf (drop (suc i) members))
+          (lineOf (getD members i 0 ∷ drop (suc i) members))
       onward =
-          goes-on (size T) (nodesOf T) 64 (inWord p) (inWord n) (diagramsOf (nodesOf T) list) (diagramAt (nodesOf T) (getD members i 0)) (diagramsOf (nodesOf T) (drop (suc i) members))
+          goes-on (size T) (nodesOf T) 64 (inWord p) (inWord n) (diagramsOf (nodesOf T) list) (diagramAt (nodesOf T) (getD members i 0))
+          (diagramsOf (nodesOf T) (drop (suc i) members))
 
       last : one .shown ≡ false → Stops (size T) (nodesOf T) one (lineOf (getD members i 0 ∷ drop (suc i) members))
       last =
-          stops (size T) (nodesOf T) 64 (inWord p) (inWord n) (diagramsOf (nodesOf T) list) (diagramAt (nodesOf T) (getD members i 0)) (diagramsOf (nodesOf T) (drop (suc i) members))
+          stops (size T) (nodesOf T) 64 (inWord p) (inWord n) (diagramsOf (nodesOf T) list) (diagramAt (nodesOf T) (getD members i 0))
+          (diagramsOf (nodesOf T) (drop (suc i) members))
 
       -- a turn that found no room
-      pub turns-full : r .full ≡ true → (count : ℕ) → LineSays T (lineOf members) (64 * length members) (judgedAs true false 0 count (max peak (r .peak))) T′
+      pub turns-full : r .full ≡ true → (count : ℕ) → LineSays T (lineOf members) (64 * length members)
+          (judgedAs true false 0 count (max peak (r .peak))) T′
       turns-full q count =
           record {
             extended = S .extended;
@@ -254,14 +265,16 @@ module _ (T : Table) (list members : List ℕ) (p n : ℕ) where
         has-room = one-reach ∙ ap (λ (b : Bool). reach (not b) (r .peak)) q
 
         -- a turn that does not conflict
-        pub turns-end : r .shown ≡ false → LineSays T (lineOf members) (64 * length members) (judgedAs false false (rounds + r .rounds) (T .count) (max peak (r .peak))) T
+        pub turns-end : r .shown ≡ false → LineSays T (lineOf members) (64 * length members)
+            (judgedAs false false (rounds + r .rounds) (T .count) (max peak (r .peak))) T
         turns-end z =
             let e : one .shown ≡ false = sym (S .shown q) ∙ z in
             record {
               extended = extended-same T good;
               reaches = all-reach ∙ ap (raised peak) (last e .reach ∙ has-room);
               shown = λ _. sym (W .shown-left ∙ ap (λ (ks : List ℕ). lineOf ks .shown) next ∙ last e .shown);
-              rounds = λ _. sym (W .rounds-left ∙ ap (λ (ks : List ℕ). rounds + lineOf ks .rounds) next ∙ ap (λ (m : ℕ). rounds + m) (last e .rounds ∙ sym (S .rounds q)));
+              rounds = λ _. sym (W .rounds-left ∙ ap (λ (ks : List ℕ). rounds + lineOf ks .rounds) next
+                  ∙ ap (λ (m : ℕ). rounds + m) (last e .rounds ∙ sym (S .rounds q)));
               most = omega (arith, W .most, S .most);
             }
 
@@ -274,7 +287,8 @@ module _ (T : Table) (list members : List ℕ) (p n : ℕ) where
               so-far = omega arith;
               most = omega (arith, W .most, S .most);
               least = omega (arith, W .least);
-              shown-left = W .shown-left ∙ ap (λ (ks : List ℕ). lineOf ks .shown) next ∙ g .shown ∙ ap (λ (k : ℕ). lineOf (drop k members) .shown) (sym (add-one i));
+              shown-left = W .shown-left ∙ ap (λ (ks : List ℕ). lineOf ks .shown) next ∙ g .shown
+                  ∙ ap (λ (k : ℕ). lineOf (drop k members) .shown) (sym (add-one i));
               rounds-left =
                   W .rounds-left ∙ ap (λ (ks : List ℕ). rounds + lineOf ks .rounds) next ∙ ap (λ (m : ℕ). rounds + m) (g .rounds)
                   ∙ ap (λ (m : ℕ). rounds + (m + lineOf (drop (suc i) members) .rounds)) (sym (S .rounds q))

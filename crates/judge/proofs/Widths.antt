@@ -36,10 +36,14 @@ module _ (n : ℕ) (most : n ≤ 64) (T : Table) (G : Good T) (uses : UsesTo n (
     witnessed-at P N = witnessed-width n 64 most P N (diagramAt (nodesOf T) g) (reduced g g-inside)
 
     module _ (ne : g ≡ 1 → ⊥) where
-      pub rup-at : rup 64 (diagramsOf (nodesOf T) members) (diagramAt (nodesOf T) g) ≡ rup n (diagramsOf (nodesOf T) members) (diagramAt (nodesOf T) g)
+      pub rup-at : rup 64 (diagramsOf (nodesOf T) members) (diagramAt (nodesOf T) g)
+          ≡ rup n (diagramsOf (nodesOf T) members) (diagramAt (nodesOf T) g)
       rup-at =
-          rup-width n 64 most (diagramAt (nodesOf T) g) (reduced g g-inside) (not-one T G g g-inside ne) (diagramsOf (nodesOf T) members) (members-reduced members inside)
+          rup-width n 64 most (diagramAt (nodesOf T) g) (reduced g g-inside) (not-one T G g g-inside ne) (diagramsOf (nodesOf T) members)
+          (members-reduced members inside)
 
-      pub pr-at : (P N : ℕ → Bool) → pr 64 P N (diagramsOf (nodesOf T) members) (diagramAt (nodesOf T) g) ≡ pr n P N (diagramsOf (nodesOf T) members) (diagramAt (nodesOf T) g)
+      pub pr-at : (P N : ℕ → Bool) → pr 64 P N (diagramsOf (nodesOf T) members) (diagramAt (nodesOf T) g)
+          ≡ pr n P N (diagramsOf (nodesOf T) members) (diagramAt (nodesOf T) g)
       pr-at P N =
-          pr-width n 64 most P N (diagramsOf (nodesOf T) members) (members-reduced members inside) (diagramAt (nodesOf T) g) (reduced g g-inside) (not-one T G g g-inside ne)
+          pr-width n 64 most P N (diagramsOf (nodesOf T) members) (members-reduced members inside) (diagramAt (nodesOf T) g)
+          (reduced g g-inside) (not-one T G g g-inside ne)

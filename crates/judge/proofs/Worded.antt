@@ -33,12 +33,14 @@ module _ (T : Table) (G : Good T) (g : ℕ) (inside : g < T .count) (word : ℕ)
 
 -- ---- lists
 
-pub supports-longer : (T T′ : Table) → Longer T T′ → (list words : List ℕ) → Inside (T .count) list → Supports (nodesOf T) list words → Supports (nodesOf T′) list words
+pub supports-longer : (T T′ : Table) → Longer T T′ → (list words : List ℕ) → Inside (T .count) list → Supports (nodesOf T) list words →
+    Supports (nodesOf T′) list words
 unfolding Supports
 supports-longer T T′ L list words inside S i p = subst (Support (getD words i 0)) (sym (L .kept (getD list i 0) (inside i p))) (S i p)
 
 -- a member's turn over the first list
-pub member-worded : (T : Table) (members words first firstwords : List ℕ) (i : ℕ) → i < length members → Supports (nodesOf T) members words → length firstwords ≡ length first
+pub member-worded : (T : Table) (members words first firstwords : List ℕ) (i : ℕ) → i < length members →
+    Supports (nodesOf T) members words → length firstwords ≡ length first
     → Supports (nodesOf T) first firstwords → Worded T first firstwords (getD members i 0) (getD words i 0)
 unfolding Supports
 member-worded T members words first firstwords i p M len F = record { lengths = len; have = F; has = M i p }

@@ -12,7 +12,6 @@ ghost use Rattle.table.specs.Lists.{diagramsOf};
 ghost use Rattle.supports.specs.Supports.{Supports};
 ghost use Rattle.judge.specs.Lines.{Negatable, Worded, ByNegation};
 
-pub mod pr;
 pub mod rup;
 
 // What judging says: `full` where a node found no room, else whether the line is shown, and its rounds; the count, and the greatest

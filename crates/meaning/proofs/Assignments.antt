@@ -1,4 +1,5 @@
--- `assignments n` lists every assignment of n variables and no other; so what is tested of all that are listed holds of all. Assumes nothing.
+-- `assignments n` lists every assignment of n variables and no other; so what is tested of all that are listed holds of all. Assumes
+-- nothing.
 use mathlib.Core.Path.{_≡_, refl, ap}
 use mathlib.Core.Logic.{_⊎_, inl, inr}
 use mathlib.Core.Bool.{Bool, true, false}
@@ -34,8 +35,10 @@ unfolding assignments
 listed zero [] p = inl refl
 listed zero (x ∷ a) p = absurd (omega arith)
 listed (suc n) [] p = absurd (omega arith)
-listed (suc n) (false ∷ a) p = listed-left (false ∷ a) (map (_∷_ false) (assignments n)) (map (_∷_ true) (assignments n)) (listed-map false a (assignments n) (listed n a (omega arith)))
-listed (suc n) (true ∷ a) p = listed-right (true ∷ a) (map (_∷_ false) (assignments n)) (map (_∷_ true) (assignments n)) (listed-map true a (assignments n) (listed n a (omega arith)))
+listed (suc n) (false ∷ a) p = listed-left (false ∷ a) (map (_∷_ false) (assignments n)) (map (_∷_ true) (assignments n))
+    (listed-map false a (assignments n) (listed n a (omega arith)))
+listed (suc n) (true ∷ a) p = listed-right (true ∷ a) (map (_∷_ false) (assignments n)) (map (_∷_ true) (assignments n))
+    (listed-map true a (assignments n) (listed n a (omega arith)))
 
 unfoldable pub AllLong : ℕ → List Assignment → Type 0
 AllLong n bs = (a : Assignment) → Listed a bs → length a ≡ n

@@ -53,11 +53,13 @@ value-root i e l h b a ol oh =
     rw (m, value-skip i e l b a ol, value-skip i e h b a oh)
 
 -- diagramFrom looks at f on the assignments of its k variables alone
-pub diagramFrom-cong : (k i : ℕ) (f g : Assignment → Bool) → ((a : Assignment) → length a ≡ k → f a ≡ g a) → diagramFrom k i f ≡ diagramFrom k i g
+pub diagramFrom-cong : (k i : ℕ) (f g : Assignment → Bool) → ((a : Assignment) → length a ≡ k → f a ≡ g a) → diagramFrom k i f
+    ≡ diagramFrom k i g
 unfolding diagramFrom
 diagramFrom-cong zero i f g h = ap leaf (h [] refl)
 diagramFrom-cong (suc k) i f g h =
-    ap₂ (branch i) (diagramFrom-cong k (suc i) _ _ (λ a p. h (false ∷ a) (ap suc p))) (diagramFrom-cong k (suc i) _ _ (λ a p. h (true ∷ a) (ap suc p)))
+    ap₂ (branch i) (diagramFrom-cong k (suc i) _ _ (λ a p. h (false ∷ a) (ap suc p)))
+    (diagramFrom-cong k (suc i) _ _ (λ a p. h (true ∷ a) (ap suc p)))
 
 -- where variable i stands in a diagram of variables from i on: nowhere, or at the root
 pub data View (i e : ℕ) : Diagram → Type 0 where
@@ -76,7 +78,8 @@ canonical-step : (k i e : ℕ) → ((t : Diagram) → Reduced (suc i) e t → di
     → (t : Diagram) → View i e t → diagramFrom (suc k) i (valueFrom i t) ≡ t
 unfolding diagramFrom
 canonical-step k i e ih t (below o) =
-    let q : (b : Bool) → diagramFrom k (suc i) (λ a. valueFrom i t (b ∷ a)) ≡ t = λ b. diagramFrom-cong k (suc i) _ _ (λ a _. value-skip i e t b a o) ∙ ih t o in
+    let q : (b : Bool) → diagramFrom k (suc i) (λ a. valueFrom i t (b ∷ a)) ≡ t =
+    λ b. diagramFrom-cong k (suc i) _ _ (λ a _. value-skip i e t b a o) ∙ ih t o in
     branch-same i _ _ (q false ∙ sym (q true)) ∙ q false
 canonical-step k i e ih _ (root {l} {h} p n ol oh) =
     ap₂ (branch i) (diagramFrom-cong k (suc i) _ _ (λ a _. value-root i e l h false a ol oh) ∙ ih l ol)
@@ -106,7 +109,8 @@ branch-reduced v e l h p ol oh = go (same? l h)
 pub diagramFrom-reduced : (k i e : ℕ) (f : Assignment → Bool) → e ≡ i + k → Reduced i e (diagramFrom k i f)
 unfolding diagramFrom
 diagramFrom-reduced zero i e f q = tt
-diagramFrom-reduced (suc k) i e f q = branch-reduced i e _ _ (omega arith) (diagramFrom-reduced k (suc i) e _ (omega arith)) (diagramFrom-reduced k (suc i) e _ (omega arith))
+diagramFrom-reduced (suc k) i e f q = branch-reduced i e _ _ (omega arith) (diagramFrom-reduced k (suc i) e _ (omega arith))
+    (diagramFrom-reduced k (suc i) e _ (omega arith))
 
 -- and its value is f
 branch-value : (v e : ℕ) (l h : Diagram) (b : Bool) (a : Assignment) → Reduced (suc v) e l → Reduced (suc v) e h
@@ -114,7 +118,8 @@ branch-value : (v e : ℕ) (l h : Diagram) (b : Bool) (a : Assignment) → Reduc
 unfolding branch
 branch-value v e l h b a ol oh = go (same? l h) b
   where
-    go : (d : Dec (l ≡ h)) (b : Bool) → valueFrom v (elim d [ yes _ ↦ l | no _ ↦ node v l h ]) (b ∷ a) ≡ cond b (valueFrom (suc v) h a) (valueFrom (suc v) l a)
+    go : (d : Dec (l ≡ h)) (b : Bool) → valueFrom v (elim d [ yes _ ↦ l | no _ ↦ node v l h ]) (b ∷ a)
+        ≡ cond b (valueFrom (suc v) h a) (valueFrom (suc v) l a)
     go (yes p) true = rw (← p) (value-skip v e l true a ol)
     go (yes p) false = value-skip v e l false a ol
     go (no n) b = value-root v e l h b a ol oh
@@ -125,10 +130,12 @@ diagramFrom-value zero i f [] q = refl
 diagramFrom-value zero i f (b ∷ a) q = absurd (omega arith)
 diagramFrom-value (suc k) i f [] q = absurd (omega arith)
 diagramFrom-value (suc k) i f (true ∷ a) q =
-    branch-value i (suc i + k) _ _ true a (diagramFrom-reduced k (suc i) (suc i + k) _ refl) (diagramFrom-reduced k (suc i) (suc i + k) _ refl)
+    branch-value i (suc i + k) _ _ true a (diagramFrom-reduced k (suc i) (suc i + k) _ refl)
+    (diagramFrom-reduced k (suc i) (suc i + k) _ refl)
     ∙ diagramFrom-value k (suc i) (λ a. f (true ∷ a)) a (omega arith)
 diagramFrom-value (suc k) i f (false ∷ a) q =
-    branch-value i (suc i + k) _ _ false a (diagramFrom-reduced k (suc i) (suc i + k) _ refl) (diagramFrom-reduced k (suc i) (suc i + k) _ refl)
+    branch-value i (suc i + k) _ _ false a (diagramFrom-reduced k (suc i) (suc i + k) _ refl)
+    (diagramFrom-reduced k (suc i) (suc i + k) _ refl)
     ∙ diagramFrom-value k (suc i) (λ a. f (false ∷ a)) a (omega arith)
 
 -- ---- the two sides of a diagram at variable i
@@ -147,12 +154,14 @@ side-reduced i e b (node v l h) o = go b (ℕ-discrete v i)
     go false (yes p) = rw p at (o .3)
     go b (no n) = (omega arith, o .1, o .2, o .3, o .4)
 
-pub side-value : (i e : ℕ) (b : Bool) (a : Assignment) (t : Diagram) → Reduced i e t → valueFrom i t (b ∷ a) ≡ valueFrom (suc i) (side i b t) a
+pub side-value : (i e : ℕ) (b : Bool) (a : Assignment) (t : Diagram) → Reduced i e t → valueFrom i t (b ∷ a)
+    ≡ valueFrom (suc i) (side i b t) a
 unfolding side valueFrom
 side-value i e b a (leaf c) o = refl
 side-value i e b a (node v l h) o = go b (ℕ-discrete v i)
   where
-    go : (b : Bool) (d : Dec (v ≡ i)) → valueFrom i (node v l h) (b ∷ a) ≡ valueFrom (suc i) (elim d [ yes e ↦ cond b h l | no n ↦ node v l h ]) a
+    go : (b : Bool) (d : Dec (v ≡ i)) → valueFrom i (node v l h) (b ∷ a)
+        ≡ valueFrom (suc i) (elim d [ yes e ↦ cond b h l | no n ↦ node v l h ]) a
     go true (yes p) = let z : v - i ≡ 0 = omega arith in rw z (value-skip i e h true a (rw p at (o .4)))
     go false (yes p) = let z : v - i ≡ 0 = omega arith in rw z (value-skip i e l false a (rw p at (o .3)))
     go b (no n) = value-skip i e (node v l h) b a (omega arith, o .1, o .2, o .3, o .4)
@@ -163,6 +172,7 @@ unfolding side
 side-zero i e (leaf c) o p q = p
 side-zero i e (node v l h) o p q = go (ℕ-discrete v i) p q
   where
-    go : (d : Dec (v ≡ i)) → elim d [ yes _ ↦ l | no _ ↦ node v l h ] ≡ leaf false → elim d [ yes e ↦ h | no n ↦ node v l h ] ≡ leaf false → node v l h ≡ leaf false
+    go : (d : Dec (v ≡ i)) → elim d [ yes _ ↦ l | no _ ↦ node v l h ] ≡ leaf false → elim d [ yes e ↦ h | no n ↦ node v l h ] ≡ leaf false →
+        node v l h ≡ leaf false
     go (yes e) p q = absurd (o .2 (p ∙ sym q))
     go (no n) p q = p

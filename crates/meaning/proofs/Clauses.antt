@@ -48,18 +48,20 @@ unfolding clauseFrom
 clauseFrom-reduced P N zero i e q = tt
 clauseFrom-reduced P N (suc k) i e q =
     let o : Reduced (suc i) e (clauseFrom P N k (suc i)) = clauseFrom-reduced P N k (suc i) e (omega arith) in
-    branch-reduced i e (cond (N i) (leaf true) (clauseFrom P N k (suc i))) (cond (P i) (leaf true) (clauseFrom P N k (suc i))) (omega arith) (go (N i) o) (go (P i) o)
+    branch-reduced i e (cond (N i) (leaf true) (clauseFrom P N k (suc i))) (cond (P i) (leaf true) (clauseFrom P N k (suc i))) (omega arith)
+    (go (N i) o) (go (P i) o)
   where
     go : (b : Bool) → Reduced (suc i) e (clauseFrom P N k (suc i)) → Reduced (suc i) e (cond b (leaf true) (clauseFrom P N k (suc i)))
     go true o = tt
     go false o = o
 
 -- the variable i has the literal that is true, or a later one has
-clauseFrom-value : (P N : ℕ → Bool) (k i : ℕ) (a : Assignment)
+pub clauseFrom-value : (P N : ℕ → Bool) (k i : ℕ) (a : Assignment)
     → value (clauseFrom P N (suc k) i) a ≡ (cond (holds a i) (P i) (N i) || value (clauseFrom P N k (suc i)) a)
 unfolding clauseFrom valueFrom
 clauseFrom-value P N k i a =
-    branch-at 1 i (cond (N i) (leaf true) (clauseFrom P N k (suc i))) (cond (P i) (leaf true) (clauseFrom P N k (suc i))) a ∙ go (holds a i) (P i) (N i)
+    branch-at 1 i (cond (N i) (leaf true) (clauseFrom P N k (suc i))) (cond (P i) (leaf true) (clauseFrom P N k (suc i))) a
+    ∙ go (holds a i) (P i) (N i)
   where
     rest : Diagram
     rest = clauseFrom P N k (suc i)
@@ -77,7 +79,8 @@ module _ (P N : ℕ → Bool) (a : Assignment) where
   clauseFrom-true (suc k) i v lo hi t =
       clauseFrom-value P N k i a ∙ go (ℕ-discrete i v) (λ ne. clauseFrom-true k (suc i) v (omega arith) (omega arith) t)
     where
-      go : Dec (i ≡ v) → (i ≢ v → value (clauseFrom P N k (suc i)) a ≡ true) → (cond (holds a i) (P i) (N i) || value (clauseFrom P N k (suc i)) a) ≡ true
+      go : Dec (i ≡ v) → (i ≢ v → value (clauseFrom P N k (suc i)) a ≡ true) →
+          (cond (holds a i) (P i) (N i) || value (clauseFrom P N k (suc i)) a) ≡ true
       go (yes e) ih = or-left (cond (holds a i) (P i) (N i)) (value (clauseFrom P N k (suc i)) a) (rw e t)
       go (no ne) ih = or-right (cond (holds a i) (P i) (N i)) (value (clauseFrom P N k (suc i)) a) (ih ne)
 
@@ -97,7 +100,8 @@ unfolding occurs clauseValue literalValue
 occurs-true [] a v e = e
 occurs-true (l ∷ ls) a v e =
     or-cases (eqb (l .variable) v && Bool·beq (l .positive) (holds a v)) (occurs ls v (holds a v)) e
-    (λ t. let b : (eqb (l .variable) v ≡ true) × (Bool·beq (l .positive) (holds a v) ≡ true) = and-both (eqb (l .variable) v) (Bool·beq (l .positive) (holds a v)) t in
+    (λ t. let b : (eqb (l .variable) v ≡ true) × (Bool·beq (l .positive) (holds a v) ≡ true) =
+    and-both (eqb (l .variable) v) (Bool·beq (l .positive) (holds a v)) t in
     let q : l .variable ≡ v = eqb-eq (l .variable) v (b .0) in
     or-left (Bool·beq (holds a (l .variable)) (l .positive)) (clauseValue ls a)
     (rw q (eq-beq (holds a v) (l .positive) (sym (beq-eq (l .positive) (holds a v) (b .1))))))
@@ -109,9 +113,12 @@ unfolding occurs clauseValue literalValue
 true-occurs n [] a w e f = t≢f (sym e)
 true-occurs n (l ∷ ls) a w e f =
     or-cases (Bool·beq (holds a (l .variable)) (l .positive)) (clauseValue ls a) e
-    (λ t. f (l .variable) (w .0) (w .1) (or-left (eqb (l .variable) (l .variable) && Bool·beq (l .positive) (holds a (l .variable))) (occurs ls (l .variable) (holds a (l .variable)))
-    (rw (eq-eqb (l .variable) (l .variable) refl) (eq-beq (l .positive) (holds a (l .variable)) (sym (beq-eq (holds a (l .variable)) (l .positive) t))))))
-    (λ t. true-occurs n ls a (w .2) t (λ v x y o. f v x y (or-right (eqb (l .variable) v && Bool·beq (l .positive) (holds a v)) (occurs ls v (holds a v)) o)))
+    (λ t. f (l .variable) (w .0) (w .1) (or-left (eqb (l .variable) (l .variable) && Bool·beq (l .positive) (holds a (l .variable)))
+    (occurs ls (l .variable) (holds a (l .variable)))
+    (rw (eq-eqb (l .variable) (l .variable) refl)
+    (eq-beq (l .positive) (holds a (l .variable)) (sym (beq-eq (holds a (l .variable)) (l .positive) t))))))
+    (λ t. true-occurs n ls a (w .2) t (λ v x y o. f v x y
+    (or-right (eqb (l .variable) v && Bool·beq (l .positive) (holds a v)) (occurs ls v (holds a v)) o)))
 
 pub clause-is : (n : ℕ) (ls : List Literal) (P N : ℕ → Bool) → OfVariables n ls → ((v : ℕ) → 1 ≤ v → v ≤ n → P v ≡ occurs ls v true)
     → ((v : ℕ) → 1 ≤ v → v ≤ n → N v ≡ occurs ls v false) → clause n ls ≡ clauseFrom P N n 1

@@ -12,7 +12,8 @@ use lib.Dec.{eqb}
 use borrow.Author.Tests.{eqb-false}
 use Rattle.meaning.specs.Diagram.{Assignment, Diagram, leaf, node, same?, valueFrom, value, Reduced, branch, diagramFrom}
 use Rattle.meaning.specs.Operations.{nearest, cofactor}
-use Rattle.meaning.proofs.Canonical.{canonical, branch-same, reduced-from, diagramFrom-cong, diagramFrom-reduced, diagramFrom-value, side, side-reduced, side-value, side-zero}
+use Rattle.meaning.proofs.Canonical.{canonical, branch-same, reduced-from, diagramFrom-cong, diagramFrom-reduced, diagramFrom-value}
+use Rattle.meaning.proofs.Canonical.{side, side-reduced, side-value, side-zero}
 use Rattle.meaning.proofs.Nearest.{nearest-self, nearest-stay, nearest-turn, Satisfied, sat-of}
 use Rattle.meaning.proofs.Booleans.{or-neither}
 
@@ -62,22 +63,26 @@ module _ (k i e : ℕ) (q : e ≡ i + suc k) (f g : Diagram) (of : Reduced i e f
   above-stay : (b : Bool) → side i b g ≢ leaf false → above b ≡ sidesFrom k i f g b
   unfolding cofactorFrom above
   above-stay b nz = diagramFrom-cong k (suc i) _ _ (λ a p.
-      ap (valueFrom i f) (nearest-stay k (valueFrom i g) b a p (satisfied b nz) ∙ ap (λ (h : Assignment → Bool). b ∷ nearest k h a) (side-values b))
+      ap (valueFrom i f) (nearest-stay k (valueFrom i g) b a p (satisfied b nz)
+      ∙ ap (λ (h : Assignment → Bool). b ∷ nearest k h a) (side-values b))
       ∙ side-value i e b (nearest k (valueFrom (suc i) (side i b g)) a) f of)
 
   above-turn : (b : Bool) → side i b g ≡ leaf false → side i (not b) g ≢ leaf false → above b ≡ sidesFrom k i f g (not b)
   unfolding cofactorFrom above valueFrom
   above-turn b z nz = diagramFrom-cong k (suc i) _ _ (λ a p.
       ap (valueFrom i f)
-      (nearest-turn k (valueFrom i g) b a p (λ c _. side-value i e b c g og ∙ ap (λ (t : Diagram). valueFrom (suc i) t c) z) (satisfied (not b) nz)
+      (nearest-turn k (valueFrom i g) b a p (λ c _. side-value i e b c g og ∙ ap (λ (t : Diagram). valueFrom (suc i) t c) z)
+      (satisfied (not b) nz)
       ∙ ap (λ (h : Assignment → Bool). not b ∷ nearest k h a) (side-values (not b)))
       ∙ side-value i e (not b) (nearest k (valueFrom (suc i) (side i (not b) g)) a) f of)
 
-  pub level-both : side i false g ≢ leaf false → side i true g ≢ leaf false → cofactorFrom (suc k) i f g ≡ branch i (sidesFrom k i f g false) (sidesFrom k i f g true)
+  pub level-both : side i false g ≢ leaf false → side i true g ≢ leaf false → cofactorFrom (suc k) i f g
+      ≡ branch i (sidesFrom k i f g false) (sidesFrom k i f g true)
   unfolding cofactorFrom diagramFrom above
   level-both n m = ap₂ (branch i) (above-stay false n) (above-stay true m)
 
-  pub level-one : (b : Bool) → side i b g ≡ leaf false → side i (not b) g ≢ leaf false → cofactorFrom (suc k) i f g ≡ sidesFrom k i f g (not b)
+  pub level-one : (b : Bool) → side i b g ≡ leaf false → side i (not b) g ≢ leaf false → cofactorFrom (suc k) i f g
+      ≡ sidesFrom k i f g (not b)
   unfolding cofactorFrom diagramFrom above
   level-one true z n = ap₂ (branch i) (above-stay false n) (above-turn true z n) ∙ branch-same i _ _ refl
   level-one false z n = ap₂ (branch i) (above-turn false z n) (above-stay true n) ∙ branch-same i _ _ refl
@@ -99,7 +104,8 @@ live-sides i e g og nz = go (same? (side i false g) (leaf false)) (same? (side i
 level-skip : (k i e : ℕ) (f g : Diagram) → e ≡ i + suc k → Reduced (suc i) e f → Reduced (suc i) e g → g ≢ leaf false
     → cofactorFrom (suc k) i f g ≡ cofactorFrom k (suc i) f g
 level-skip k i e f g q of og nz =
-    level-both k i e q f g (reduced-from i (suc i) e f (omega arith) of) (reduced-from i (suc i) e g (omega arith) og) (other false) (other true)
+    level-both k i e q f g (reduced-from i (suc i) e f (omega arith) of) (reduced-from i (suc i) e g (omega arith) og) (other false)
+    (other true)
     ∙ branch-same i _ _ (same-side false ∙ sym (same-side true)) ∙ same-side false
   where
     other : (b : Bool) → side i b g ≢ leaf false
@@ -170,7 +176,8 @@ cofactorFrom-branches (suc k) i e f g q of og nz =
     B b = byBranches k (suc i) (side i b f) (side i b g)
 
     go : (r : Bool) → (atRoot i f || atRoot i g) ≡ r → (x : Dec (side i false g ≡ leaf false)) (y : Dec (side i true g ≡ leaf false))
-        → ((f g : Diagram) → Reduced (suc i) e f → Reduced (suc i) e g → g ≢ leaf false → cofactorFrom k (suc i) f g ≡ byBranches k (suc i) f g)
+        → ((f g : Diagram) → Reduced (suc i) e f → Reduced (suc i) e g → g ≢ leaf false → cofactorFrom k (suc i) f g
+        ≡ byBranches k (suc i) f g)
         → _≡_ {A = Diagram} (cofactorFrom (suc k) i f g) (elim r [
           | false ↦ byBranches k (suc i) f g
           | true ↦ elim x [ yes _ ↦ B true | no _ ↦ elim y [ yes _ ↦ B false | no _ ↦ branch i (B false) (B true) ] ]
@@ -182,12 +189,15 @@ cofactorFrom-branches (suc k) i e f g q of og nz =
         level-skip k i e f g (omega arith) of′ og′ nz ∙ ih f g of′ og′ nz
     go true p (yes z) (yes w) ih = absurd (nz (side-zero i e g og z w))
     go true p (yes z) (no m) ih = level-one k i e q f g of og false z m ∙ ih _ _ (side-reduced i e true f of) (side-reduced i e true g og) m
-    go true p (no n) (yes w) ih = level-one k i e q f g of og true w n ∙ ih _ _ (side-reduced i e false f of) (side-reduced i e false g og) n
+    go true p (no n) (yes w) ih = level-one k i e q f g of og true w n ∙ ih _ _ (side-reduced i e false f of) (side-reduced i e false g og)
+        n
     go true p (no n) (no m) ih =
         level-both k i e q f g of og n m
-        ∙ ap₂ (branch i) (ih _ _ (side-reduced i e false f of) (side-reduced i e false g og) n) (ih _ _ (side-reduced i e true f of) (side-reduced i e true g og) m)
+        ∙ ap₂ (branch i) (ih _ _ (side-reduced i e false f of) (side-reduced i e false g og) n)
+        (ih _ _ (side-reduced i e true f of) (side-reduced i e true g og) m)
 
 -- THEOREM: the recursion over the branches is the literal cofactor
-pub cofactor-branches : (n : ℕ) (f g : Diagram) → Reduced 1 (suc n) f → Reduced 1 (suc n) g → g ≢ leaf false → cofactor n f g ≡ byBranches n 1 f g
+pub cofactor-branches : (n : ℕ) (f g : Diagram) → Reduced 1 (suc n) f → Reduced 1 (suc n) g → g ≢ leaf false → cofactor n f g
+    ≡ byBranches n 1 f g
 unfolding cofactor cofactorFrom
 cofactor-branches n f g of og nz = cofactorFrom-branches n 1 (suc n) f g (omega arith) of og nz

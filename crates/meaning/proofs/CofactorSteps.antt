@@ -9,7 +9,8 @@ use Rattle.meaning.specs.Diagram.{Diagram, leaf, node, valueFrom, value,
 use Rattle.meaning.specs.Operations.{cofactor}
 use Rattle.meaning.proofs.Canonical.{unique, side, side-reduced, side-zero}
 use Rattle.meaning.proofs.Nearest.{nearest-is, sat-of}
-use Rattle.meaning.proofs.Cofactor.{cofactor-value, cofactor-reduced, cofactor-where, cofactorFrom, cofactorFrom-leaf, sidesFrom, level-both, level-one, cofactor-from, LiveSides, one, both, live-sides}
+use Rattle.meaning.proofs.Cofactor.{cofactor-value, cofactor-reduced, cofactor-where, cofactorFrom, cofactorFrom-leaf, sidesFrom}
+use Rattle.meaning.proofs.Cofactor.{level-both, level-one, cofactor-from, LiveSides, one, both, live-sides}
 use Rattle.meaning.proofs.Values.{reduced-to}
 
 -- ---- at variable x, from which on all variables of f and g are
@@ -18,7 +19,8 @@ module _ (n x : ℕ) (f g : Diagram) (least : 1 ≤ x) (most : x ≤ n) (of : Re
   of-sides : (b : Bool) → side x b g ≢ leaf false → sidesFrom (n - x) x f g b ≡ cofactor n (side x b f) (side x b g)
   of-sides b nz =
       let s : suc n - suc x ≡ n - x = omega arith in
-      rw (← s) (sym (cofactor-from n (suc x) (side x b f) (side x b g) (omega arith) (omega arith) (side-reduced x (suc n) b f of) (side-reduced x (suc n) b g og) nz))
+      rw (← s) (sym (cofactor-from n (suc x) (side x b f) (side x b g) (omega arith) (omega arith) (side-reduced x (suc n) b f of)
+      (side-reduced x (suc n) b g og) nz))
 
   at-level : g ≢ leaf false → cofactor n f g ≡ cofactorFrom (suc (n - x)) x f g
   at-level nz =
@@ -26,7 +28,8 @@ module _ (n x : ℕ) (f g : Diagram) (least : 1 ≤ x) (most : x ≤ n) (of : Re
       rw s (cofactor-from n x f g least (omega arith) of og nz)
 
   -- g is 0 on side b: the cofactor of the other sides
-  pub cofactor-one : (b : Bool) → g ≢ leaf false → side x b g ≡ leaf false → cofactor n f g ≡ cofactor n (side x (not b) f) (side x (not b) g)
+  pub cofactor-one : (b : Bool) → g ≢ leaf false → side x b g ≡ leaf false → cofactor n f g
+      ≡ cofactor n (side x (not b) f) (side x (not b) g)
   cofactor-one b nz z =
       at-level nz ∙ level-one (n - x) x (suc n) (omega arith) f g of og b z other ∙ of-sides (not b) other
     where
@@ -54,7 +57,8 @@ cofactor-leaf n b g = cofactorFrom-leaf n 1 b g
 pub cofactor-true : (n : ℕ) (f : Diagram) → Reduced 1 (suc n) f → cofactor n f (leaf true) ≡ f
 unfolding valueFrom
 cofactor-true n f of =
-    unique n 1 (suc n) (cofactor n f (leaf true)) f (omega arith) (cofactor-reduced n f (leaf true)) of (λ a p. cofactor-where n f (leaf true) a p refl)
+    unique n 1 (suc n) (cofactor n f (leaf true)) f (omega arith) (cofactor-reduced n f (leaf true)) of
+    (λ a p. cofactor-where n f (leaf true) a p refl)
 
 pub cofactor-self : (n : ℕ) (g : Diagram) → Reduced 1 (suc n) g → g ≢ leaf false → cofactor n g g ≡ leaf true
 unfolding valueFrom
@@ -70,17 +74,22 @@ levels-more zero j i e m (leaf b) g p q of og nz = cofactorFrom-leaf m i b g ∙
 levels-more zero j i e m (node v l h) g p q of og nz = absurd (omega arith)
 levels-more (suc k) j i e m f g p q of og nz =
     let s : m ≡ suc (k + j) = omega arith in
-    rw s (go (live-sides i e g og nz) (λ b. levels-more k j (suc i) e (k + j) (side i b f) (side i b g) (omega arith) refl (side-reduced i e b f of) (side-reduced i e b g og)))
+    rw s (go (live-sides i e g og nz) (λ b. levels-more k j (suc i) e (k + j) (side i b f) (side i b g) (omega arith) refl
+    (side-reduced i e b f of) (side-reduced i e b g og)))
   where
     wide : (t : Diagram) → Reduced i e t → Reduced i (e + j) t
     wide t o = reduced-to i e (e + j) t (omega arith) o
 
-    go : LiveSides i g → ((b : Bool) → side i b g ≢ leaf false → sidesFrom (k + j) i f g b ≡ sidesFrom k i f g b) → cofactorFrom (suc (k + j)) i f g ≡ cofactorFrom (suc k) i f g
-    go (one b z n) ih = level-one (k + j) i (e + j) (omega arith) f g (wide f of) (wide g og) b z n ∙ ih (not b) n ∙ sym (level-one k i e p f g of og b z n)
+    go : LiveSides i g → ((b : Bool) → side i b g ≢ leaf false → sidesFrom (k + j) i f g b ≡ sidesFrom k i f g b) →
+        cofactorFrom (suc (k + j)) i f g ≡ cofactorFrom (suc k) i f g
+    go (one b z n) ih = level-one (k + j) i (e + j) (omega arith) f g (wide f of) (wide g og) b z n ∙ ih (not b) n
+        ∙ sym (level-one k i e p f g of og b z n)
     go (both n m) ih =
-        level-both (k + j) i (e + j) (omega arith) f g (wide f of) (wide g og) n m ∙ ap₂ (branch i) (ih false n) (ih true m) ∙ sym (level-both k i e p f g of og n m)
+        level-both (k + j) i (e + j) (omega arith) f g (wide f of) (wide g og) n m ∙ ap₂ (branch i) (ih false n) (ih true m)
+        ∙ sym (level-both k i e p f g of og n m)
 
 -- "any smaller n that no variable in use exceeds gives the same values" (01, Values)
-pub cofactor-width : (m n : ℕ) (f g : Diagram) → m ≤ n → Reduced 1 (suc m) f → Reduced 1 (suc m) g → g ≢ leaf false → cofactor n f g ≡ cofactor m f g
+pub cofactor-width : (m n : ℕ) (f g : Diagram) → m ≤ n → Reduced 1 (suc m) f → Reduced 1 (suc m) g → g ≢ leaf false → cofactor n f g
+    ≡ cofactor m f g
 unfolding cofactor cofactorFrom
 cofactor-width m n f g p of og nz = levels-more m (n - m) 1 (suc m) n f g (omega arith) (omega arith) of og nz

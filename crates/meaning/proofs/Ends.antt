@@ -11,7 +11,8 @@ use native.Mathlib.Decide.{ℕ-discrete}
 use lib.Dec.{eqb}
 use Rattle.meaning.specs.Diagram.{Diagram, leaf, node, same?, same, Reduced, branch}
 use Rattle.meaning.specs.Operations.{cofactorLiterals, isUnit}
-use Rattle.meaning.specs.Rules.{any, conflicts, hasUnit, firstWithUnit, byDiagram, byUnits, Propagation, round, still, taking, propagate}
+use Rattle.meaning.specs.Rules.{any, conflicts, hasUnit, firstWithUnit, byDiagram, byUnits, Propagation, round, still, taking}
+use Rattle.meaning.specs.Rules.{propagate}
 use Rattle.meaning.proofs.Canonical.{reduced-from}
 use Rattle.meaning.proofs.Cofactor.{cofactor-reduced}
 use Rattle.meaning.proofs.Booleans.{t≢f, not-true, or-cases, or-left, or-right, or-neither, eqb-eq}
@@ -61,7 +62,8 @@ unfolding count
 count-le zero p q h = omega arith
 count-le (suc n) p q h = omega (arith, count-le n p q h, one-more (p (suc n)) (q (suc n)) (h (suc n)))
 
-count-less : (n : ℕ) (p q : ℕ → Bool) → ((v : ℕ) → p v ≡ true → q v ≡ true) → (v : ℕ) → 1 ≤ v → v ≤ n → q v ≡ true → p v ≡ false → count n p < count n q
+count-less : (n : ℕ) (p q : ℕ → Bool) → ((v : ℕ) → p v ≡ true → q v ≡ true) → (v : ℕ) → 1 ≤ v → v ≤ n → q v ≡ true → p v ≡ false →
+    count n p < count n q
 unfolding count
 count-less zero p q h v lo hi x y = absurd (omega arith)
 count-less (suc n) p q h v lo hi x y = go (ℕ-discrete v (suc n)) (λ c. count-less n p q h v lo c x y)
@@ -82,15 +84,18 @@ branch-in : (v w : ℕ) (l h : Diagram) → variableIn v (branch w l h) ≡ true
 unfolding variableIn branch
 branch-in v w l h = go (same? l h)
   where
-    go : (d : Dec (l ≡ h)) → variableIn v (elim d [ yes _ ↦ l | no _ ↦ node w l h ]) ≡ true → (eqb w v || (variableIn v l || variableIn v h)) ≡ true
+    go : (d : Dec (l ≡ h)) → variableIn v (elim d [ yes _ ↦ l | no _ ↦ node w l h ]) ≡ true →
+        (eqb w v || (variableIn v l || variableIn v h)) ≡ true
     go (yes _) e = or-right (eqb w v) (variableIn v l || variableIn v h) (or-left (variableIn v l) (variableIn v h) e)
     go (no _) e = e
 
-literals-in : (n : ℕ) (P N : ℕ → Bool) (v : ℕ) (f : Diagram) → Reduced 1 (suc n) f → variableIn v (cofactorLiterals n P N f) ≡ true → Left P N v (variableIn v f)
+literals-in : (n : ℕ) (P N : ℕ → Bool) (v : ℕ) (f : Diagram) → Reduced 1 (suc n) f → variableIn v (cofactorLiterals n P N f) ≡ true →
+    Left P N v (variableIn v f)
 unfolding variableIn
 literals-in n P N v (leaf b) o e = t≢f (sym e ∙ ap (variableIn v) (literals-leaf n P N b))
 literals-in n P N v (node w l h) o e =
-    go (P w) refl (N w) refl (literals-in n P N v l (reduced-from 1 (suc w) (suc n) l (omega arith) (o .3))) (literals-in n P N v h (reduced-from 1 (suc w) (suc n) h (omega arith) (o .4)))
+    go (P w) refl (N w) refl (literals-in n P N v l (reduced-from 1 (suc w) (suc n) l (omega arith) (o .3)))
+    (literals-in n P N v h (reduced-from 1 (suc w) (suc n) h (omega arith) (o .4)))
   where
     L : Diagram
     L = cofactorLiterals n P N l
@@ -104,25 +109,30 @@ literals-in n P N v (node w l h) o e =
     under-h : Left P N v (variableIn v h) → Left P N v (variableIn v (node w l h))
     under-h x = (or-right (eqb w v) (variableIn v l || variableIn v h) (or-right (variableIn v l) (variableIn v h) (x .0)), x .1, x .2)
 
-    go : (x : Bool) → P w ≡ x → (y : Bool) → N w ≡ y → (variableIn v L ≡ true → Left P N v (variableIn v l)) → (variableIn v H ≡ true → Left P N v (variableIn v h))
+    go : (x : Bool) → P w ≡ x → (y : Bool) → N w ≡ y → (variableIn v L ≡ true → Left P N v (variableIn v l)) →
+        (variableIn v H ≡ true → Left P N v (variableIn v h))
         → Left P N v (variableIn v (node w l h))
     go true p y q fl fh = under-h (fh (sym (ap (variableIn v) (literals-high n P N w l h (o .0) (omega arith) p)) ∙ e))
     go false p true q fl fh = under-l (fl (sym (ap (variableIn v) (literals-low n P N w l h (o .0) (omega arith) p q)) ∙ e))
     go false p false q fl fh =
-        or-cases (eqb w v) (variableIn v L || variableIn v H) (branch-in v w L H (sym (ap (variableIn v) (literals-branch n P N w l h o p q)) ∙ e))
+        or-cases (eqb w v) (variableIn v L || variableIn v H)
+        (branch-in v w L H (sym (ap (variableIn v) (literals-branch n P N w l h o p q)) ∙ e))
         (λ z. let w=v : w ≡ v = eqb-eq w v z in (or-left (eqb w v) (variableIn v l || variableIn v h) z, (rw w=v at p), (rw w=v at q)))
         (λ z. or-cases (variableIn v L) (variableIn v H) z (λ z. under-l (fl z)) (λ z. under-h (fh z)))
 
 -- ---- the members
 
-literals-in-any : (n : ℕ) (P N : ℕ → Bool) (v : ℕ) (ms : List Diagram) → AllReduced n ms → any (variableIn v) (map (cofactorLiterals n P N) ms) ≡ true
+literals-in-any : (n : ℕ) (P N : ℕ → Bool) (v : ℕ) (ms : List Diagram) → AllReduced n ms →
+    any (variableIn v) (map (cofactorLiterals n P N) ms) ≡ true
     → Left P N v (any (variableIn v) ms)
 unfolding any
 literals-in-any n P N v [] o e = t≢f (sym e)
 literals-in-any n P N v (f ∷ fs) o e =
     or-cases (variableIn v (cofactorLiterals n P N f)) (any (variableIn v) (map (cofactorLiterals n P N) fs)) e
-    (λ z. let x : Left P N v (variableIn v f) = literals-in n P N v f (o .0) z in (or-left (variableIn v f) (any (variableIn v) fs) (x .0), x .1, x .2))
-    (λ z. let x : Left P N v (any (variableIn v) fs) = literals-in-any n P N v fs (o .1) z in (or-right (variableIn v f) (any (variableIn v) fs) (x .0), x .1, x .2))
+    (λ z. let x : Left P N v (variableIn v f) = literals-in n P N v f (o .0) z in
+    (or-left (variableIn v f) (any (variableIn v) fs) (x .0), x .1, x .2))
+    (λ z. let x : Left P N v (any (variableIn v) fs) = literals-in-any n P N v fs (o .1) z in
+    (or-right (variableIn v f) (any (variableIn v) fs) (x .0), x .1, x .2))
 
 -- the member that is taken: it has a unit and is one of them
 abbrev UnitMember : ℕ → List Diagram → Diagram → Type 0
@@ -133,7 +143,8 @@ unfolding firstWithUnit any
 first-taken n [] u e o = let z : _≡_ {A = ℕ} 0 1 = cc in absurd (omega arith)
 first-taken n (f ∷ fs) u e o = go (hasUnit n n f) refl e (λ e′. first-taken n fs u e′ (o .1))
   where
-    go : (b : Bool) → hasUnit n n f ≡ b → cond b (some f) (firstWithUnit n fs) ≡ some u → (firstWithUnit n fs ≡ some u → UnitMember n fs u) → UnitMember n (f ∷ fs) u
+    go : (b : Bool) → hasUnit n n f ≡ b → cond b (some f) (firstWithUnit n fs) ≡ some u →
+        (firstWithUnit n fs ≡ some u → UnitMember n fs u) → UnitMember n (f ∷ fs) u
     go true h e ih = let q : f ≡ u = cc in (rw q at h, rw q at (o .0), λ p x. or-left (p f) (any p fs) (rw q x))
     go false h e ih = let r : UnitMember n fs u = ih e in (r .0, r .1, λ p x. or-right (p f) (any p fs) (r .2 p x))
 
@@ -142,20 +153,24 @@ unfolding hasUnit
 a-unit n zero f e = t≢f (sym e)
 a-unit n (suc w) f e =
     or-cases (isUnit n f (suc w) true || isUnit n f (suc w) false) (hasUnit n w f) e
-    (λ z. or-cases (isUnit n f (suc w) true) (isUnit n f (suc w) false) z (λ y. (suc w, true, omega arith, omega arith, y)) (λ y. (suc w, false, omega arith, omega arith, y)))
-    (λ z. let r : (v : ℕ) × (s : Bool) × (1 ≤ v) × (v ≤ w) × (isUnit n f v s ≡ true) = a-unit n w f z in (r .0, r .1, r .2, omega arith, r .4))
+    (λ z. or-cases (isUnit n f (suc w) true) (isUnit n f (suc w) false) z (λ y. (suc w, true, omega arith, omega arith, y))
+    (λ y. (suc w, false, omega arith, omega arith, y)))
+    (λ z. let r : (v : ℕ) × (s : Bool) × (1 ≤ v) × (v ≤ w) × (isUnit n f v s ≡ true) = a-unit n w f z in
+    (r .0, r .1, r .2, omega arith, r .4))
 
 -- How many variables stand in the members.
 unfoldable pub inUse : ℕ → List Diagram → ℕ
 unfolding count any variableIn
 inUse n ms = count n (λ v. any (variableIn v) ms)
 
-pub fewer : (n : ℕ) (ms : List Diagram) (u : Diagram) → conflicts n ms ≡ false → AllReduced n ms → firstWithUnit n ms ≡ some u → inUse n (byUnits n u ms) < inUse n ms
+pub fewer : (n : ℕ) (ms : List Diagram) (u : Diagram) → conflicts n ms ≡ false → AllReduced n ms → firstWithUnit n ms ≡ some u →
+    inUse n (byUnits n u ms) < inUse n ms
 unfolding conflicts inUse byUnits
 fewer n ms u c o e =
     let T : UnitMember n ms u = first-taken n ms u e o in
     let (v, s, lo, hi, un) = a-unit n n u (T .0) in
-    let nz : u ≢ leaf false = λ q. t≢f (sym (T .2 (same (leaf false)) (eq-same (leaf false) u (sym q))) ∙ or-neither (any (same (leaf false)) ms) _ c .0) in
+    let nz : u ≢ leaf false = λ q. t≢f (sym (T .2 (same (leaf false)) (eq-same (leaf false) u (sym q)))
+    ∙ or-neither (any (same (leaf false)) ms) _ c .0) in
     let stood : variableIn v u ≡ true = unit-in 1 (suc n) v s u (T .1) nz (sym (isUnit-is n u v s (T .1) lo hi) ∙ un) in
     count-less n _ _ (λ w x. literals-in-any n _ _ w ms o x .0) v lo hi (T .2 (variableIn v) stood) (not-true _ (gone v s un))
   where

@@ -51,7 +51,8 @@ unfolding H-diagram clause diagramFrom valueFrom ℕ-discrete same?
 H-root = refl
 
 -- which of 1, -1, 2, -2, 3, -3 are its units
-H-units : (isUnit 3 H-diagram 1 true ∷ isUnit 3 H-diagram 1 false ∷ isUnit 3 H-diagram 2 true ∷ isUnit 3 H-diagram 2 false ∷ isUnit 3 H-diagram 3 true ∷ isUnit 3 H-diagram 3 false ∷ [])
+H-units : (isUnit 3 H-diagram 1 true ∷ isUnit 3 H-diagram 1 false ∷ isUnit 3 H-diagram 2 true ∷ isUnit 3 H-diagram 2 false ∷
+    isUnit 3 H-diagram 3 true ∷ isUnit 3 H-diagram 3 false ∷ [])
     ≡ false ∷ false ∷ true ∷ false ∷ false ∷ false ∷ []
 unfolding isUnit H-diagram clause diagramFrom valueFrom ℕ-discrete same?
 H-units = refl

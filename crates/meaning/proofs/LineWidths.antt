@@ -22,7 +22,8 @@ pub negation-some : (m : ℕ) (g : Diagram) → Reduced 1 (suc m) g → g ≢ le
 negation-some m g o ne e = ne (sym (negation-twice m g o) ∙ ap (negation m) e ∙ negation-leaf m false)
 
 module _ (m n : ℕ) (more : m ≤ n) where
-  byDiagram-width : (h : Diagram) → Reduced 1 (suc m) h → h ≢ leaf false → (ms : List Diagram) → AllReduced m ms → byDiagram n h ms ≡ byDiagram m h ms
+  byDiagram-width : (h : Diagram) → Reduced 1 (suc m) h → h ≢ leaf false → (ms : List Diagram) → AllReduced m ms → byDiagram n h ms
+      ≡ byDiagram m h ms
   byDiagram-width h oh nz [] o = refl
   byDiagram-width h oh nz (f ∷ fs) o = ap₂ _∷_ (cofactor-width m n f h more (o .0) oh nz) (byDiagram-width h oh nz fs (o .1))
 
@@ -34,7 +35,8 @@ module _ (m n : ℕ) (more : m ≤ n) where
         ∙ byDiagram-width (negation m g) (negation-reduced m g) (negation-some m g og ng) ms o
 
     propagated : unitProp n (byDiagram n (negation n g) ms) ≡ unitProp m (byDiagram m (negation m g) ms)
-    propagated = ap (unitProp n) by-negation ∙ unitProp-width m n more (byDiagram m (negation m g) ms) (map-reduced m _ ms (λ f. cofactor-reduced m f (negation m g)))
+    propagated = ap (unitProp n) by-negation ∙ unitProp-width m n more (byDiagram m (negation m g) ms)
+        (map-reduced m _ ms (λ f. cofactor-reduced m f (negation m g)))
 
     pub base-width : base n ms g ≡ base m ms g
     base-width = ap₂ _∷_ (negation-width m n more g og) by-negation
@@ -60,9 +62,11 @@ module _ (m n : ℕ) (more : m ≤ n) where
       go false e =
           let oh : Reduced 1 (suc m) h = literals-reduced m P N f in
           let ne : h ≢ leaf true = λ q. t≢f (sym (eq-same h (leaf true) q) ∙ e) in
-          ap₂ (λ (p : Propagation) (made : List Diagram). afterTurn p (h ∷ made) (prTurns m P N ms′ fs)) (propagated h oh ne ms′ o′) (base-width h oh ne ms′ o′)
+          ap₂ (λ (p : Propagation) (made : List Diagram). afterTurn p (h ∷ made) (prTurns m P N ms′ fs)) (propagated h oh ne ms′ o′)
+          (base-width h oh ne ms′ o′)
 
-  turns-width : (P N : ℕ → Bool) (ms′ : List Diagram) → AllReduced m ms′ → (fs : List Diagram) → AllReduced m fs → prTurns n P N ms′ fs ≡ prTurns m P N ms′ fs
+  turns-width : (P N : ℕ → Bool) (ms′ : List Diagram) → AllReduced m ms′ → (fs : List Diagram) → AllReduced m fs → prTurns n P N ms′ fs
+      ≡ prTurns m P N ms′ fs
   unfolding prTurns
   turns-width P N ms′ o′ [] o = refl
   turns-width P N ms′ o′ (f ∷ fs) o = turn-width P N ms′ o′ f (o .0) fs (turns-width P N ms′ o′ fs (o .1))
@@ -71,7 +75,8 @@ module _ (m n : ℕ) (more : m ≤ n) where
   unfolding witnessed
   witnessed-width P N g og = rw (literals-width m n more P N g og)
 
-  pub pr-width : (P N : ℕ → Bool) (ms : List Diagram) → AllReduced m ms → (g : Diagram) → Reduced 1 (suc m) g → g ≢ leaf true → pr n P N ms g ≡ pr m P N ms g
+  pub pr-width : (P N : ℕ → Bool) (ms : List Diagram) → AllReduced m ms → (g : Diagram) → Reduced 1 (suc m) g → g ≢ leaf true →
+      pr n P N ms g ≡ pr m P N ms g
   unfolding pr
   pr-width P N ms o g og ng =
       rw (

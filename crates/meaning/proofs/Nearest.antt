@@ -1,6 +1,6 @@
--- The nearest assignment that satisfies g: the literal `nearest` has the least distance, no other assignment has the same distance, and it is found
--- variable by variable: keep the first as it is if g can then be satisfied, else turn it. The idea: 2^(n-i) outweighs all later variables.
--- Assumes nothing.
+-- The nearest assignment that satisfies g: the literal `nearest` has the least distance, no other assignment has the same distance, and it
+-- is found variable by variable: keep the first as it is if g can then be satisfied, else turn it. The idea: 2^(n-i) outweighs all later
+-- variables. Assumes nothing.
 use mathlib.Core.Path.{_≡_, refl, sym, ap, ap₂, _∙_}
 use mathlib.Core.Logic.{_≢_, inl, inr}
 use mathlib.Core.Bool.{Bool, true, false, not, cond, Bool·beq}
@@ -43,7 +43,8 @@ distance-first n x y a b =
     first : suc n - 1 ≡ n
     first = omega arith
 
-    later : (i : ℕ) → 1 ≤ i → cost (holds (x ∷ a) (suc i)) (holds (y ∷ b) (suc i)) (2 ^ (suc n - suc i)) ≡ cost (holds a i) (holds b i) (2 ^ (n - i))
+    later : (i : ℕ) → 1 ≤ i → cost (holds (x ∷ a) (suc i)) (holds (y ∷ b) (suc i)) (2 ^ (suc n - suc i))
+        ≡ cost (holds a i) (holds b i) (2 ^ (n - i))
     later i h =
         let e : suc i - 1 ≡ suc (i - 1) = omega arith in
         let d : suc n - suc i ≡ n - i = omega arith in
@@ -115,7 +116,8 @@ pub record Nearest (n : ℕ) (g : Assignment → Bool) (a b : Assignment) : Type
 
 pub nearest-unique : (n : ℕ) (g : Assignment → Bool) (a b c : Assignment) → length a ≡ n → Nearest n g a b → Nearest n g a c → b ≡ c
 nearest-unique n g a b c p N M =
-    distance-injective n a b c p (N .long) (M .long) (omega (arith, N .least c (M .long) (M .satisfies), M .least b (N .long) (N .satisfies)))
+    distance-injective n a b c p (N .long) (M .long)
+    (omega (arith, N .least c (M .long) (M .satisfies), M .least b (N .long) (N .satisfies)))
 
 -- ---- the literal `nearest` is the nearest
 
@@ -129,9 +131,20 @@ unfolding nearestOf nearer
 nearestOf-best n g a [] = λ c h. absurd h
 nearestOf-best n g a (b ∷ bs) = go (g b) refl (nearestOf n g a bs) (nearestOf-best n g a bs)
   where
-    close : (d : Assignment) → g b ≡ true → Best n g a bs (some d) → (t : Bool) → leb (distance n a b) (distance n a d) ≡ t → Best n g a (b ∷ bs) (cond t (some b) (some d))
-    close d p B true q = (inl refl, p, λ c h e. elim h [ inl s ↦ rw s (omega arith) | inr h′ ↦ omega (arith, B .2 c h′ e, leb-true (distance n a b) (distance n a d) q) ])
-    close d p B false q = (inr (B .0), B .1, λ c h e. elim h [ inl s ↦ rw s (omega (arith, leb-false (distance n a b) (distance n a d) q)) | inr h′ ↦ B .2 c h′ e ])
+    close : (d : Assignment) → g b ≡ true → Best n g a bs (some d) → (t : Bool) → leb (distance n a b) (distance n a d) ≡ t →
+        Best n g a (b ∷ bs) (cond t (some b) (some d))
+    close d p B true q = (
+      inl refl,
+      p,
+      λ c h e. elim h
+          [ inl s ↦ rw s (omega arith) | inr h′ ↦ omega (arith, B .2 c h′ e, leb-true (distance n a b) (distance n a d) q) ],
+    )
+    close d p B false q = (
+      inr (B .0),
+      B .1,
+      λ c h e. elim h
+          [ inl s ↦ rw s (omega (arith, leb-false (distance n a b) (distance n a d) q)) | inr h′ ↦ B .2 c h′ e ],
+    )
 
     go : (t : Bool) → g b ≡ t → (o : Option Assignment) → Best n g a bs o → Best n g a (b ∷ bs) (cond t (nearer n a b o) o)
     go true p none B = (inl refl, p, λ c h e. elim h [ inl s ↦ rw s (omega arith) | inr h′ ↦ t≢f (sym e ∙ B c h′) ])
@@ -154,7 +167,8 @@ nearest-is n g a w = go (nearestOf n g a (assignments n)) (nearestOf-best n g a 
 -- an assignment that satisfies g is its own nearest
 pub nearest-self : (n : ℕ) (g : Assignment → Bool) (a : Assignment) → length a ≡ n → g a ≡ true → nearest n g a ≡ a
 nearest-self n g a p e =
-    nearest-unique n g a (nearest n g a) a p (nearest-is n g a (a, p, e)) (record { long = p; satisfies = e; least = λ c q f. omega (arith, distance-self n a p) })
+    nearest-unique n g a (nearest n g a) a p (nearest-is n g a (a, p, e))
+    (record { long = p; satisfies = e; least = λ c q f. omega (arith, distance-self n a p) })
 
 -- ---- the nearest, the first variable apart
 
@@ -162,7 +176,8 @@ module _ (k : ℕ) (g : Assignment → Bool) (t : Bool) (a : Assignment) (p : le
   stay-is : (b : Assignment) → Nearest k (λ c. g (t ∷ c)) a b → Nearest (suc k) g (t ∷ a) (t ∷ b)
   stay-is b N = record { long = omega (arith, N .long); satisfies = N .satisfies; least = least }
     where
-      least-by : (r : Bool) (c : Assignment) → Turn t r → length c ≡ k → g (r ∷ c) ≡ true → distance (suc k) (t ∷ a) (t ∷ b) ≤ distance (suc k) (t ∷ a) (r ∷ c)
+      least-by : (r : Bool) (c : Assignment) → Turn t r → length c ≡ k → g (r ∷ c) ≡ true →
+          distance (suc k) (t ∷ a) (t ∷ b) ≤ distance (suc k) (t ∷ a) (r ∷ c)
       least-by _ c stay q e = omega (arith, distance-stay k t a b, distance-stay k t a c, N .least c q e)
       least-by _ c turn q e = omega (arith, distance-stay k t a b, distance-turn k t a c, distance-below k a b p (N .long))
 
@@ -170,10 +185,12 @@ module _ (k : ℕ) (g : Assignment → Bool) (t : Bool) (a : Assignment) (p : le
       least [] q e = absurd (omega arith)
       least (r ∷ c) q e = least-by r c (turn? t r) (omega arith) e
 
-  turn-is : ((c : Assignment) → length c ≡ k → g (t ∷ c) ≡ false) → (b : Assignment) → Nearest k (λ c. g (not t ∷ c)) a b → Nearest (suc k) g (t ∷ a) (not t ∷ b)
+  turn-is : ((c : Assignment) → length c ≡ k → g (t ∷ c) ≡ false) → (b : Assignment) → Nearest k (λ c. g (not t ∷ c)) a b →
+      Nearest (suc k) g (t ∷ a) (not t ∷ b)
   turn-is z b N = record { long = omega (arith, N .long); satisfies = N .satisfies; least = least }
     where
-      least-by : (r : Bool) (c : Assignment) → Turn t r → length c ≡ k → g (r ∷ c) ≡ true → distance (suc k) (t ∷ a) (not t ∷ b) ≤ distance (suc k) (t ∷ a) (r ∷ c)
+      least-by : (r : Bool) (c : Assignment) → Turn t r → length c ≡ k → g (r ∷ c) ≡ true →
+          distance (suc k) (t ∷ a) (not t ∷ b) ≤ distance (suc k) (t ∷ a) (r ∷ c)
       least-by _ c stay q e = t≢f (sym e ∙ z c q)
       least-by _ c turn q e = omega (arith, distance-turn k t a b, distance-turn k t a c, N .least c q e)
 
@@ -195,7 +212,8 @@ module _ (k : ℕ) (g : Assignment → Bool) (t : Bool) (a : Assignment) (p : le
 -- ---- diagrams other than 0 are satisfied
 
 -- a reduced ordered diagram that no assignment satisfies is 0
-zero-by : (k i e : ℕ) (t : Diagram) → e ≡ i + k → Reduced i e t → ((a : Assignment) → length a ≡ k → valueFrom i t a ≡ false) → t ≡ leaf false
+zero-by : (k i e : ℕ) (t : Diagram) → e ≡ i + k → Reduced i e t → ((a : Assignment) → length a ≡ k → valueFrom i t a ≡ false) → t
+    ≡ leaf false
 unfolding valueFrom
 zero-by k i e t q o h = unique k i e t (leaf false) q o tt h
 

@@ -1,5 +1,5 @@
--- Each operation's diagram has the values that 01 gives it, and is reduced; from variable i on where its operands are. The idea: each is the
--- diagram of a function that looks at its operands' values alone. Assumes nothing.
+-- Each operation's diagram has the values that 01 gives it, and is reduced; from variable i on where its operands are. The idea: each is
+-- the diagram of a function that looks at its operands' values alone. Assumes nothing.
 use mathlib.Core.Path.{_≡_, refl, ap, ap₂}
 use mathlib.Core.Logic.{_≢_}
 use mathlib.Core.Bool.{Bool, true, false, not, _&&_, cond}
@@ -25,7 +25,8 @@ unfolding forced
 forced-at P N i [] v p q = absurd (omega arith)
 forced-at P N i (b ∷ a) v p q = go (ℕ-discrete i v) (λ ne. forced-at P N (suc i) a v (omega arith) (omega arith))
   where
-    go : Dec (i ≡ v) → (i ≢ v → getD (forced P N (suc i) a) (v - suc i) false ≡ cond (P v) true (cond (N v) false (getD a (v - suc i) false)))
+    go : Dec (i ≡ v) → (i ≢ v → getD (forced P N (suc i) a) (v - suc i) false
+        ≡ cond (P v) true (cond (N v) false (getD a (v - suc i) false)))
         → getD (forced P N i (b ∷ a)) (v - i) false ≡ cond (P v) true (cond (N v) false (getD (b ∷ a) (v - i) false))
     go (yes e) ih = let z : v - v ≡ 0 = omega arith in rw (e, z)
     go (no n) ih = let z : v - i ≡ suc (v - suc i) = omega arith in rw z (ih n)
@@ -85,7 +86,8 @@ module _ (n : ℕ) where
 module _ (n i : ℕ) where
   pub conjunction-from : (f g : Diagram) → Reduced i (suc n) f → Reduced i (suc n) g → Reduced i (suc n) (conjunction n f g)
   unfolding conjunction
-  conjunction-from f g of og = diagram-from n i _ (λ a b la lb p. ap₂ _&&_ (value-from n i f of a b la lb p) (value-from n i g og a b la lb p))
+  conjunction-from f g of og = diagram-from n i _
+      (λ a b la lb p. ap₂ _&&_ (value-from n i f of a b la lb p) (value-from n i g og a b la lb p))
 
   pub negation-from : (f : Diagram) → Reduced i (suc n) f → Reduced i (suc n) (negation n f)
   unfolding negation

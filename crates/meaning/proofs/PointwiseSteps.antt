@@ -12,10 +12,12 @@ use Rattle.meaning.specs.Operations.{conjunction, negation, forced, cofa
 use Rattle.meaning.proofs.Canonical.{reduced-from, branch-reduced, side, side-reduced}
 use Rattle.meaning.proofs.Booleans.{not-not, not-cond, and-cond, and-same, and-commutes}
 use Rattle.meaning.proofs.Values.{value-agree, value-take, branch-at, side-at, diagram-cong, diagram-is, diagram-width}
-use Rattle.meaning.proofs.Pointwise.{forced-at, forced-cong, conjunction-value, conjunction-from, negation-value, negation-from, literals-value, literals-from}
+use Rattle.meaning.proofs.Pointwise.{forced-at, forced-cong, conjunction-value, conjunction-from, negation-value, negation-from}
+use Rattle.meaning.proofs.Pointwise.{literals-value, literals-from}
 
 -- a branch at variable v of the variables 1 to n
-reduced-branch : (n v : ℕ) (l h : Diagram) → 1 ≤ v → v ≤ n → Reduced (suc v) (suc n) l → Reduced (suc v) (suc n) h → Reduced 1 (suc n) (branch v l h)
+reduced-branch : (n v : ℕ) (l h : Diagram) → 1 ≤ v → v ≤ n → Reduced (suc v) (suc n) l → Reduced (suc v) (suc n) h →
+    Reduced 1 (suc n) (branch v l h)
 reduced-branch n v l h lo hi ol oh = reduced-from 1 v (suc n) (branch v l h) lo (branch-reduced v (suc n) l h (omega arith) ol oh)
 
 -- ---- negation
@@ -29,10 +31,12 @@ module _ (n : ℕ) where
   unfolding negation
   negation-twice f o = diagram-is n _ f o (λ a len. ap not (negation-value n a len f) ∙ not-not (value f a))
 
-  pub negation-node : (v : ℕ) (l h : Diagram) → Reduced 1 (suc n) (node v l h) → negation n (node v l h) ≡ node v (negation n l) (negation n h)
+  pub negation-node : (v : ℕ) (l h : Diagram) → Reduced 1 (suc n) (node v l h) → negation n (node v l h)
+      ≡ node v (negation n l) (negation n h)
   unfolding negation valueFrom
   negation-node v l h o =
-      diagram-is n _ (node v (negation n l) (negation n h)) (o .0, o .1, differ, negation-from n (suc v) l (o .3), negation-from n (suc v) h (o .4)) λ a len.
+      diagram-is n _ (node v (negation n l) (negation n h))
+      (o .0, o .1, differ, negation-from n (suc v) l (o .3), negation-from n (suc v) h (o .4)) λ a len.
       not-cond (holds a v) (value h a) (value l a) ∙ sym (ap₂ (cond (holds a v)) (negation-value n a len h) (negation-value n a len l))
     where
       differ : negation n l ≢ negation n h
@@ -69,11 +73,13 @@ module _ (n : ℕ) where
       → conjunction n f g ≡ branch x (conjunction n (side x false f) (side x false g)) (conjunction n (side x true f) (side x true g))
   unfolding conjunction
   conjunction-branch x f g lo hi of og =
-      diagram-is n _ (branch x (both false) (both true)) (reduced-branch n x (both false) (both true) lo hi (both-from false) (both-from true)) λ a len.
+      diagram-is n _ (branch x (both false) (both true))
+      (reduced-branch n x (both false) (both true) lo hi (both-from false) (both-from true)) λ a len.
       ap₂ _&&_ (side-at 1 x f a) (side-at 1 x g a)
       ∙ and-cond (holds a x) (value (side x true f) a) (value (side x false f) a) (value (side x true g) a) (value (side x false g) a)
       ∙ sym (branch-at 1 x (both false) (both true) a
-      ∙ ap₂ (cond (holds a x)) (conjunction-value n a len (side x true f) (side x true g)) (conjunction-value n a len (side x false f) (side x false g)))
+      ∙ ap₂ (cond (holds a x)) (conjunction-value n a len (side x true f) (side x true g))
+      (conjunction-value n a len (side x false f) (side x false g)))
     where
       both : Bool → Diagram
       both b = conjunction n (side x b f) (side x b g)
@@ -94,7 +100,8 @@ module _ (n : ℕ) (P N : ℕ → Bool) where
   unfolding cofactorLiterals valueFrom
   literals-high v l h lo hi p = diagram-cong n _ _ λ a len. rw (forced-at P N 1 a v lo (omega arith), p)
 
-  pub literals-low : (v : ℕ) (l h : Diagram) → 1 ≤ v → v ≤ n → P v ≡ false → N v ≡ true → cofactorLiterals n P N (node v l h) ≡ cofactorLiterals n P N l
+  pub literals-low : (v : ℕ) (l h : Diagram) → 1 ≤ v → v ≤ n → P v ≡ false → N v ≡ true → cofactorLiterals n P N (node v l h)
+      ≡ cofactorLiterals n P N l
   unfolding cofactorLiterals valueFrom
   literals-low v l h lo hi p q = diagram-cong n _ _ λ a len. rw (forced-at P N 1 a v lo (omega arith), p, q)
 
@@ -117,7 +124,8 @@ module _ (n : ℕ) (P N : ℕ → Bool) where
       ap (value f) (forced-cong P N P′ N′ 1 a (λ v x y. p v x (omega arith)) (λ v x y. q v x (omega arith)))
 
   -- nor those above the diagram
-  pub literals-none : (i : ℕ) (f : Diagram) → 1 ≤ i → Reduced i (suc n) f → ((v : ℕ) → i ≤ v → v ≤ n → (P v ≡ false) × (N v ≡ false)) → cofactorLiterals n P N f ≡ f
+  pub literals-none : (i : ℕ) (f : Diagram) → 1 ≤ i → Reduced i (suc n) f → ((v : ℕ) → i ≤ v → v ≤ n → (P v ≡ false) × (N v ≡ false)) →
+      cofactorLiterals n P N f ≡ f
   unfolding cofactorLiterals
   literals-none i f lo o none = diagram-is n _ f (reduced-from 1 i (suc n) f lo o) λ a len.
       value-agree 1 i (suc n) f (forced P N 1 a) a o λ v x y.
@@ -138,7 +146,11 @@ module _ (m n : ℕ) (more : m ≤ n) where
   unfolding cofactorLiterals
   literals-width P N f o = diagram-width m n _ _ more λ a len.
       value-agree 1 1 (suc m) f (forced P N 1 a) (forced P N 1 (take m a)) o λ v x y.
-      rw (forced-at P N 1 a v x (omega arith), forced-at P N 1 (take m a) v x (omega (arith, taken a len)), getD-take m a (v - 1) false (omega arith))
+      rw (
+        forced-at P N 1 a v x (omega arith),
+        forced-at P N 1 (take m a) v x (omega (arith, taken a len)),
+        getD-take m a (v - 1) false (omega arith),
+      )
     where
       taken : (a : Assignment) → length a ≡ n → length (take m a) ≡ m
       taken a len = length-take-le m a (omega arith)

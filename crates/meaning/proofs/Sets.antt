@@ -19,7 +19,8 @@ use Rattle.meaning.proofs.Values.{diagram-value, diagram-is, diagram-wi
 module _ (S : ℕ → Bool) where
   -- ---- one variable
 
-  pub trues-in : (i : ℕ) (b : Bool) (a : Assignment) → S i ≡ true → truesFrom S i (b ∷ a) ≡ cond b (suc (truesFrom S (suc i) a)) (truesFrom S (suc i) a)
+  pub trues-in : (i : ℕ) (b : Bool) (a : Assignment) → S i ≡ true → truesFrom S i (b ∷ a)
+      ≡ cond b (suc (truesFrom S (suc i) a)) (truesFrom S (suc i) a)
   unfolding truesFrom
   trues-in i b a e = rw e
 
@@ -47,14 +48,17 @@ module _ (S : ℕ → Bool) where
 
   no-trues : (i : ℕ) (a : Assignment) → ((u : ℕ) → i ≤ u → u < i + length a → S u ≡ false) → truesFrom S i a ≡ 0
   no-trues i [] none = trues-end i
-  no-trues i (b ∷ a) none = trues-out i b a (none i (omega arith) (omega arith)) ∙ no-trues (suc i) a (λ u p q. none u (omega arith) (omega arith))
+  no-trues i (b ∷ a) none = trues-out i b a (none i (omega arith) (omega arith))
+      ∙ no-trues (suc i) a (λ u p q. none u (omega arith) (omega arith))
 
-  trues-cons : (i : ℕ) (b : Bool) (a c : Assignment) → truesFrom S (suc i) a ≡ truesFrom S (suc i) c → truesFrom S i (b ∷ a) ≡ truesFrom S i (b ∷ c)
+  trues-cons : (i : ℕ) (b : Bool) (a c : Assignment) → truesFrom S (suc i) a ≡ truesFrom S (suc i) c → truesFrom S i (b ∷ a)
+      ≡ truesFrom S i (b ∷ c)
   unfolding truesFrom
   trues-cons i b a c e = ap (λ (m : ℕ). cond (S i && b) (suc m) m) e
 
   -- none of the set comes behind the first m
-  pub trues-take : (m i : ℕ) (a : Assignment) → ((u : ℕ) → i + m ≤ u → u < i + length a → S u ≡ false) → truesFrom S i a ≡ truesFrom S i (take m a)
+  pub trues-take : (m i : ℕ) (a : Assignment) → ((u : ℕ) → i + m ≤ u → u < i + length a → S u ≡ false) → truesFrom S i a
+      ≡ truesFrom S i (take m a)
   trues-take zero i a none = no-trues i a (λ u p q. none u (omega arith) q) ∙ sym (trues-end i)
   trues-take (suc m) i [] none = refl
   trues-take (suc m) i (b ∷ a) none = trues-cons i b a (take m a) (trues-take m (suc i) a (λ u p q. none u (omega arith) (omega arith)))
@@ -115,7 +119,8 @@ module _ (S : ℕ → Bool) where
 
     pub parity-width : (odd : Bool) → parity n S odd ≡ parity m S odd
     unfolding parity parityValue
-    parity-width odd = diagram-width m n (parityValue S odd) (parityValue S odd) more (λ a len. ap (λ (t : ℕ). Bool·beq (isOdd t) odd) (beyond a len))
+    parity-width odd = diagram-width m n (parityValue S odd) (parityValue S odd) more
+        (λ a len. ap (λ (t : ℕ). Bool·beq (isOdd t) odd) (beyond a len))
 
     pub atLeast-width : (k : ℕ) → atLeast n S k ≡ atLeast m S k
     unfolding atLeast atLeastValue

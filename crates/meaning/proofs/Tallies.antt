@@ -38,18 +38,22 @@ module _ {A : Type 0} (met : A → Bool) (less : A → A) (S : ℕ → Bool) whe
   module _ (f : ℕ → A → Assignment → Bool) (f-end : (i : ℕ) (x : A) → f i x [] ≡ met x)
       (f-in : (i : ℕ) (x : A) (b : Bool) (a : Assignment) → S i ≡ true → f i x (b ∷ a) ≡ f (suc i) (cond b (less x) x) a)
       (f-out : (i : ℕ) (x : A) (b : Bool) (a : Assignment) → S i ≡ false → f i x (b ∷ a) ≡ f (suc i) x a) where
-    expand : (k i : ℕ) (g : Assignment → Bool) → diagramFrom (suc k) i g ≡ branch i (diagramFrom k (suc i) (λ a. g (false ∷ a))) (diagramFrom k (suc i) (λ a. g (true ∷ a)))
+    expand : (k i : ℕ) (g : Assignment → Bool) → diagramFrom (suc k) i g
+        ≡ branch i (diagramFrom k (suc i) (λ a. g (false ∷ a))) (diagramFrom k (suc i) (λ a. g (true ∷ a)))
     unfolding diagramFrom
     expand k i g = refl
 
-    step : (k i : ℕ) (x : A) → ((x : A) → diagramFrom k (suc i) (f (suc i) x) ≡ from k (suc i) x) → (b : Bool) → S i ≡ b → diagramFrom (suc k) i (f i x) ≡ from (suc k) i x
+    step : (k i : ℕ) (x : A) → ((x : A) → diagramFrom k (suc i) (f (suc i) x) ≡ from k (suc i) x) → (b : Bool) → S i ≡ b →
+        diagramFrom (suc k) i (f i x) ≡ from (suc k) i x
     step k i x ih true e =
         expand k i (f i x)
-        ∙ ap₂ (branch i) (diagramFrom-cong k (suc i) _ _ (λ a len. f-in i x false a e) ∙ ih x) (diagramFrom-cong k (suc i) _ _ (λ a len. f-in i x true a e) ∙ ih (less x))
+        ∙ ap₂ (branch i) (diagramFrom-cong k (suc i) _ _ (λ a len. f-in i x false a e) ∙ ih x)
+        (diagramFrom-cong k (suc i) _ _ (λ a len. f-in i x true a e) ∙ ih (less x))
         ∙ sym (tally-in k i x e)
     step k i x ih false e =
         expand k i (f i x)
-        ∙ ap₂ (branch i) (diagramFrom-cong k (suc i) _ _ (λ a len. f-out i x false a e) ∙ ih x) (diagramFrom-cong k (suc i) _ _ (λ a len. f-out i x true a e) ∙ ih x)
+        ∙ ap₂ (branch i) (diagramFrom-cong k (suc i) _ _ (λ a len. f-out i x false a e) ∙ ih x)
+        (diagramFrom-cong k (suc i) _ _ (λ a len. f-out i x true a e) ∙ ih x)
         ∙ branch-same i _ _ refl ∙ sym (tally-out k i x e)
 
     leaf-is : (i : ℕ) (x : A) → diagramFrom 0 i (f i x) ≡ from 0 i x
@@ -62,10 +66,12 @@ module _ {A : Type 0} (met : A → Bool) (less : A → A) (S : ℕ → Bool) whe
 
   -- ---- reduced
 
-  reduced-step : (k i e : ℕ) (x : A) → i < e → ((x : A) → Reduced (suc i) e (from k (suc i) x)) → (b : Bool) → S i ≡ b → Reduced i e (from (suc k) i x)
+  reduced-step : (k i e : ℕ) (x : A) → i < e → ((x : A) → Reduced (suc i) e (from k (suc i) x)) → (b : Bool) → S i ≡ b →
+      Reduced i e (from (suc k) i x)
   reduced-step k i e x h ih true s =
       subst (Reduced i e) (sym (tally-in k i x s)) (branch-reduced i e (from k (suc i) x) (from k (suc i) (less x)) h (ih x) (ih (less x)))
-  reduced-step k i e x h ih false s = subst (Reduced i e) (sym (tally-out k i x s)) (reduced-from i (suc i) e (from k (suc i) x) (omega arith) (ih x))
+  reduced-step k i e x h ih false s = subst (Reduced i e) (sym (tally-out k i x s))
+      (reduced-from i (suc i) e (from k (suc i) x) (omega arith) (ih x))
 
   pub tally-reduced : (k i e : ℕ) (x : A) → e ≡ i + k → Reduced i e (from k i x)
   unfolding tallyFrom
@@ -79,7 +85,8 @@ module _ {A : Type 0} (met : A → Bool) (less : A → A) (S : ℕ → Bool) whe
   skip (suc d) k i x none =
       let z : suc d + k ≡ suc (d + k) = omega arith in
       let w : suc i + d ≡ i + suc d = omega arith in
-      rw z (tally-out (d + k) i x (none i (omega arith) (omega arith)) ∙ skip d k (suc i) x (λ u p q. none u (omega arith) (omega arith)) ∙ rw w)
+      rw z (tally-out (d + k) i x (none i (omega arith) (omega arith)) ∙ skip d k (suc i) x (λ u p q. none u (omega arith) (omega arith))
+      ∙ rw w)
 
   -- of the variables from v on below e: those up to w are none of the set's
   pub tally-skipped : (e v w : ℕ) (x : A) → v ≤ w → w ≤ e → ((u : ℕ) → v ≤ u → u < w → S u ≡ false) → from (e - v) v x ≡ from (e - w) w x
@@ -89,7 +96,8 @@ module _ {A : Type 0} (met : A → Bool) (less : A → A) (S : ℕ → Bool) whe
       rw p (skip (w - v) (e - w) v x (λ u a b. none u a (omega arith)) ∙ rw q)
 
   -- w is one of the set's
-  pub tally-here : (e w : ℕ) (x : A) → w < e → S w ≡ true → from (e - w) w x ≡ branch w (from (e - suc w) (suc w) x) (from (e - suc w) (suc w) (less x))
+  pub tally-here : (e w : ℕ) (x : A) → w < e → S w ≡ true → from (e - w) w x
+      ≡ branch w (from (e - suc w) (suc w) x) (from (e - suc w) (suc w) (less x))
   tally-here e w x most s = let z : e - w ≡ suc (e - suc w) = omega arith in rw z (tally-in (e - suc w) w x s)
 
 -- ---- parity
@@ -132,7 +140,8 @@ module _ (S : ℕ → Bool) where
   parity-differ zero i odd = leaves-differ i odd
   parity-differ (suc k) i odd = go (S i) refl (parity-differ k (suc i) odd)
     where
-      go : (b : Bool) → S i ≡ b → parityFrom S k (suc i) odd ≢ parityFrom S k (suc i) (not odd) → parityFrom S (suc k) i odd ≢ parityFrom S (suc k) i (not odd)
+      go : (b : Bool) → S i ≡ b → parityFrom S k (suc i) odd ≢ parityFrom S k (suc i) (not odd) →
+          parityFrom S (suc k) i odd ≢ parityFrom S (suc k) i (not odd)
       go false s ih e = ih (sym (tally-out not not S k i odd s) ∙ e ∙ tally-out not not S k i (not odd) s)
       go true s ih e =
           let A : Diagram = parityFrom S k (suc i) odd in

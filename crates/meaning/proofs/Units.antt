@@ -1,5 +1,6 @@
 -- U(f), read off the branches, is the U(f) of all assignments; and variables that f does not have change nothing. The idea: a literal that
--- is forced at a node of another variable is forced in both branches; at a node of its own the branch where it is false is 0. Assumes nothing.
+-- is forced at a node of another variable is forced in both branches; at a node of its own the branch where it is false is 0. Assumes
+-- nothing.
 use mathlib.Core.Path.{_≡_, refl, sym, ap, _∙_}
 use mathlib.Core.Logic.{_≢_}
 use mathlib.Core.Bool.{Bool, true, false, not, _&&_, _||_, cond, Bool·beq}
@@ -36,7 +37,8 @@ eq-same f g p = go (same? f g)
     go (no n) = absurd (n p)
 
 -- an assignment that satisfies f makes its units true
-pub unit-holds : (n : ℕ) (f : Diagram) (v : ℕ) (s : Bool) (a : Assignment) → isUnit n f v s ≡ true → length a ≡ n → value f a ≡ true → holds a v ≡ s
+pub unit-holds : (n : ℕ) (f : Diagram) (v : ℕ) (s : Bool) (a : Assignment) → isUnit n f v s ≡ true → length a ≡ n → value f a ≡ true →
+    holds a v ≡ s
 unfolding isUnit
 unit-holds n f v s a u len t =
     or-cases (Bool·beq (holds a v) s) (not (value f a)) (every-all n _ u a len) (beq-eq (holds a v) s) (λ e. t≢f (sym e ∙ ap not t))
@@ -71,9 +73,11 @@ module _ (w : ℕ) (l h : Diagram) (v : ℕ) (s : Bool) where
 
   root-unit : w ≡ v → cond s l h ≡ leaf false → unitAt (node w l h) v s ≡ true
   unfolding unitAt
-  root-unit p q = or-right (unitAt l v s && unitAt h v s) (eqb w v && same (cond s l h) (leaf false)) (rw (eq-eqb w v p, eq-same (cond s l h) (leaf false) q))
+  root-unit p q = or-right (unitAt l v s && unitAt h v s) (eqb w v && same (cond s l h) (leaf false))
+      (rw (eq-eqb w v p, eq-same (cond s l h) (leaf false) q))
 
-  unit-cases : {A : Type 0} → unitAt (node w l h) v s ≡ true → (unitAt l v s ≡ true → unitAt h v s ≡ true → A) → (w ≡ v → cond s l h ≡ leaf false → A) → A
+  unit-cases : {A : Type 0} → unitAt (node w l h) v s ≡ true → (unitAt l v s ≡ true → unitAt h v s ≡ true → A) →
+      (w ≡ v → cond s l h ≡ leaf false → A) → A
   unfolding unitAt
   unit-cases u below root =
       or-cases (unitAt l v s && unitAt h v s) (eqb w v && same (cond s l h) (leaf false)) u
@@ -88,7 +92,8 @@ unfolding unitAt valueFrom
 unitAt-forced (leaf true) v s a u e = sym u
 unitAt-forced (leaf false) v s a u e = refl
 unitAt-forced (node w l h) v s a u e =
-    unit-cases w l h v s u (λ p q. both (holds a w) (value h a) (value l a) (unitAt-forced h v s a q e) (unitAt-forced l v s a p e)) (λ p q. here s (rw p e) q)
+    unit-cases w l h v s u (λ p q. both (holds a w) (value h a) (value l a) (unitAt-forced h v s a q e) (unitAt-forced l v s a p e))
+    (λ p q. here s (rw p e) q)
   where
     both : (x y z : Bool) → y ≡ false → z ≡ false → cond x y z ≡ false
     both true y z p q = p
@@ -136,7 +141,8 @@ module _ (n v w : ℕ) (s : Bool) (l h : Diagram) (o : Reduced 1 (suc n) (node w
 
 forced-unitAt : (n : ℕ) (f : Diagram) (v : ℕ) (s : Bool) → Reduced 1 (suc n) f → 1 ≤ v → v ≤ n → Forced n f v s → unitAt f v s ≡ true
 unfolding unitAt valueFrom
-forced-unitAt n (leaf true) v s o lo hi F = sym (F (replicate n (not s)) (length-replicate n (not s)) (getD-replicate n (v - 1) (not s) false (omega arith)))
+forced-unitAt n (leaf true) v s o lo hi F = sym
+    (F (replicate n (not s)) (length-replicate n (not s)) (getD-replicate n (v - 1) (not s) false (omega arith)))
 forced-unitAt n (leaf false) v s o lo hi F = refl
 forced-unitAt n (node w l h) v s o lo hi F = go (ℕ-discrete w v)
     (λ ne. forced-unitAt n l v s (reduced-from 1 (suc w) (suc n) l (omega arith) (o .3)) lo hi (forced-side n v w s l h o F ne lo false))
@@ -148,7 +154,8 @@ forced-unitAt n (node w l h) v s o lo hi F = go (ℕ-discrete w v)
 
 pub isUnit-is : (n : ℕ) (f : Diagram) (v : ℕ) (s : Bool) → Reduced 1 (suc n) f → 1 ≤ v → v ≤ n → isUnit n f v s ≡ unitAt f v s
 isUnit-is n f v s o lo hi =
-    both-ways (isUnit n f v s) (unitAt f v s) (λ u. forced-unitAt n f v s o lo hi (unit-forced n f v s u)) (λ u. forced-unit n f v s (λ a len e. unitAt-forced f v s a u e))
+    both-ways (isUnit n f v s) (unitAt f v s) (λ u. forced-unitAt n f v s o lo hi (unit-forced n f v s u))
+    (λ u. forced-unit n f v s (λ a len e. unitAt-forced f v s a u e))
 
 -- ---- variables that f does not have
 
@@ -171,10 +178,12 @@ unit-in i e v s (leaf true) o nz u = u
 unit-in i e v s (leaf false) o nz u = absurd (nz refl)
 unit-in i e v s (node w l h) o nz u =
     unit-cases w l h v s u
-    (λ p q. or-right (eqb w v) (variableIn v l || variableIn v h) (go (same? l (leaf false)) (λ n. unit-in (suc w) e v s l (o .3) n p) (λ n. unit-in (suc w) e v s h (o .4) n q)))
+    (λ p q. or-right (eqb w v) (variableIn v l || variableIn v h)
+    (go (same? l (leaf false)) (λ n. unit-in (suc w) e v s l (o .3) n p) (λ n. unit-in (suc w) e v s h (o .4) n q)))
     (λ p q. or-left (eqb w v) (variableIn v l || variableIn v h) (eq-eqb w v p))
   where
-    go : Dec (l ≡ leaf false) → (l ≢ leaf false → variableIn v l ≡ true) → (h ≢ leaf false → variableIn v h ≡ true) → (variableIn v l || variableIn v h) ≡ true
+    go : Dec (l ≡ leaf false) → (l ≢ leaf false → variableIn v l ≡ true) → (h ≢ leaf false → variableIn v h ≡ true) →
+        (variableIn v l || variableIn v h) ≡ true
     go (yes p) fl fh = or-right (variableIn v l) (variableIn v h) (fh (λ q. o .2 (p ∙ sym q)))
     go (no n) fl fh = or-left (variableIn v l) (variableIn v h) (fl n)
 

@@ -13,7 +13,8 @@ use Rattle.meaning.specs.Operations.{negation, cofactorLiterals, cofacto
 use Rattle.meaning.proofs.Booleans.{t≢f, and-both, or-cases, eqb-eq}
 use Rattle.meaning.proofs.Canonical.{branch-same, branch-differ, reduced-from, side, side-reduced}
 use Rattle.meaning.proofs.PointwiseSteps.{negation-leaf, negation-node, literals-leaf, literals-high, literals-low, literals-branch}
-use Rattle.meaning.proofs.Cofactor.{cofactorFrom, cofactorFrom-leaf, sidesFrom, level-both, level-one, LiveSides, one, both, live-sides, atRoot, byBranches, cofactor-branches}
+use Rattle.meaning.proofs.Cofactor.{cofactorFrom, cofactorFrom-leaf, sidesFrom, level-both, level-one, LiveSides, one, both}
+use Rattle.meaning.proofs.Cofactor.{live-sides, atRoot, byBranches, cofactor-branches}
 use Rattle.meaning.specs.Uses.{Uses, Forces}
 
 -- ---- any diagram
@@ -97,7 +98,8 @@ high-reduced n v l h o = reduced-from 1 (suc v) (suc n) h (omega arith) (o .4)
 pub negation-uses : (n : ℕ) (S : ℕ → Bool) (f : Diagram) → Reduced 1 (suc n) f → Uses S f → Uses S (negation n f)
 negation-uses n S (leaf b) o u = subst (Uses S) (sym (negation-leaf n b)) tt
 negation-uses n S (node v l h) o u =
-    subst (Uses S) (sym (negation-node n v l h o)) (u .0, negation-uses n S l (low-reduced n v l h o) (u .1), negation-uses n S h (high-reduced n v l h o) (u .2))
+    subst (Uses S) (sym (negation-node n v l h o))
+    (u .0, negation-uses n S l (low-reduced n v l h o) (u .1), negation-uses n S h (high-reduced n v l h o) (u .2))
 
 -- ---- the cofactor by literals
 
@@ -107,13 +109,16 @@ module _ (n : ℕ) (P N S : ℕ → Bool) where
   literals-uses (node v l h) o u =
       go (P v) refl (N v) refl (literals-uses l (low-reduced n v l h o) (u .1)) (literals-uses h (high-reduced n v l h o) (u .2))
     where
-      go : (p : Bool) → P v ≡ p → (q : Bool) → N v ≡ q → Uses S (cofactorLiterals n P N l) → Uses S (cofactorLiterals n P N h) → Uses S (cofactorLiterals n P N (node v l h))
+      go : (p : Bool) → P v ≡ p → (q : Bool) → N v ≡ q → Uses S (cofactorLiterals n P N l) → Uses S (cofactorLiterals n P N h) →
+          Uses S (cofactorLiterals n P N (node v l h))
       go true x q y ul uh = subst (Uses S) (sym (literals-high n P N v l h (o .0) (omega arith) x)) uh
       go false x true y ul uh = subst (Uses S) (sym (literals-low n P N v l h (o .0) (omega arith) x y)) ul
       go false x false y ul uh =
-          subst (Uses S) (sym (literals-branch n P N v l h o x y)) (uses-branch S v (cofactorLiterals n P N l) (cofactorLiterals n P N h) (u .0) ul uh)
+          subst (Uses S) (sym (literals-branch n P N v l h o x y))
+          (uses-branch S v (cofactorLiterals n P N l) (cofactorLiterals n P N h) (u .0) ul uh)
 
-  pub literals-apart : ((v : ℕ) → S v ≡ true → (P v ≡ false) × (N v ≡ false)) → (f : Diagram) → Reduced 1 (suc n) f → Uses S f → cofactorLiterals n P N f ≡ f
+  pub literals-apart : ((v : ℕ) → S v ≡ true → (P v ≡ false) × (N v ≡ false)) → (f : Diagram) → Reduced 1 (suc n) f → Uses S f →
+      cofactorLiterals n P N f ≡ f
   literals-apart apart (leaf b) o u = literals-leaf n P N b
   literals-apart apart (node v l h) o u =
       literals-branch n P N v l h o (apart v (u .0) .0) (apart v (u .0) .1)
@@ -126,13 +131,15 @@ branches-use : (S : ℕ → Bool) (k i : ℕ) (f g : Diagram) → Uses S f → U
 unfolding byBranches
 branches-use S zero i f g u w = u
 branches-use S (suc k) i f g u w =
-    go (atRoot i f || atRoot i g) refl (same? (side i false g) (leaf false)) (same? (side i true g) (leaf false)) (branches-use S k (suc i) f g u w)
+    go (atRoot i f || atRoot i g) refl (same? (side i false g) (leaf false)) (same? (side i true g) (leaf false))
+    (branches-use S k (suc i) f g u w)
     (λ b. branches-use S k (suc i) (side i b f) (side i b g) (uses-side S i b f u) (uses-side S i b g w))
   where
     B : Bool → Diagram
     B b = byBranches k (suc i) (side i b f) (side i b g)
 
-    go : (r : Bool) → (atRoot i f || atRoot i g) ≡ r → (x : Dec (side i false g ≡ leaf false)) (y : Dec (side i true g ≡ leaf false)) → Uses S (byBranches k (suc i) f g)
+    go : (r : Bool) → (atRoot i f || atRoot i g) ≡ r → (x : Dec (side i false g ≡ leaf false)) (y : Dec (side i true g ≡ leaf false)) →
+        Uses S (byBranches k (suc i) f g)
         → ((b : Bool) → Uses S (B b))
         → Uses S (elim r [
           | false ↦ byBranches k (suc i) f g
@@ -141,9 +148,11 @@ branches-use S (suc k) i f g u w =
     go false p x y skipped ih = skipped
     go true p (yes z) y skipped ih = ih true
     go true p (no m) (yes z) skipped ih = ih false
-    go true p (no m) (no q) skipped ih = uses-branch S i (B false) (B true) (or-cases (atRoot i f) (atRoot i g) p (uses-root S i f u) (uses-root S i g w)) (ih false) (ih true)
+    go true p (no m) (no q) skipped ih = uses-branch S i (B false) (B true)
+        (or-cases (atRoot i f) (atRoot i g) p (uses-root S i f u) (uses-root S i g w)) (ih false) (ih true)
 
-pub cofactor-uses : (n : ℕ) (S : ℕ → Bool) (f g : Diagram) → Reduced 1 (suc n) f → Reduced 1 (suc n) g → g ≢ leaf false → Uses S f → Uses S g → Uses S (cofactor n f g)
+pub cofactor-uses : (n : ℕ) (S : ℕ → Bool) (f g : Diagram) → Reduced 1 (suc n) f → Reduced 1 (suc n) g → g ≢ leaf false → Uses S f →
+    Uses S g → Uses S (cofactor n f g)
 cofactor-uses n S f g of og nz u w = subst (Uses S) (sym (cofactor-branches n f g of og nz)) (branches-use S n 1 f g u w)
 
 -- a diagram without variable i is its own side
@@ -167,12 +176,14 @@ branch-sides i e (node v l h) o = go (ℕ-discrete v i)
     go (no n) = branch-same i (node v l h) (node v l h) refl
 
 module _ (S T : ℕ → Bool) (apart : (v : ℕ) → S v ≡ true → T v ≡ false) where
-  apart-from : (k i e : ℕ) (f g : Diagram) → e ≡ i + k → Reduced i e f → Reduced i e g → g ≢ leaf false → Uses S f → Forces T g → cofactorFrom k i f g ≡ f
+  apart-from : (k i e : ℕ) (f g : Diagram) → e ≡ i + k → Reduced i e f → Reduced i e g → g ≢ leaf false → Uses S f → Forces T g →
+      cofactorFrom k i f g ≡ f
   apart-from zero i e (leaf b) g q of og nz u w = cofactorFrom-leaf zero i b g
   apart-from zero i e (node v l h) g q of og nz u w = absurd (omega arith)
   apart-from (suc k) i e f g q of og nz u w =
       go (live-sides i e g og nz)
-      (λ b m. apart-from k (suc i) e (side i b f) (side i b g) (omega arith) (side-reduced i e b f of) (side-reduced i e b g og) m (uses-side S i b f u) (forces-side T i b g w))
+      (λ b m. apart-from k (suc i) e (side i b f) (side i b g) (omega arith) (side-reduced i e b f of) (side-reduced i e b g og) m
+      (uses-side S i b f u) (forces-side T i b g w))
     where
       -- a variable that g forces is none of f
       none : T i ≡ true → S i ≡ false
@@ -187,20 +198,25 @@ module _ (S T : ℕ → Bool) (apart : (v : ℕ) → S v ≡ true → T v ≡ fa
           level-one k i e q f g of og b z m ∙ ih (not b) m ∙ side-own S i (not b) f u (none (forced-side T i b g w nz z))
       go (both m p) ih = level-both k i e q f g of og m p ∙ ap₂ (branch i) (ih false m) (ih true p) ∙ branch-sides i e f of
 
-  pub cofactor-apart : (n : ℕ) (f g : Diagram) → Reduced 1 (suc n) f → Reduced 1 (suc n) g → g ≢ leaf false → Uses S f → Forces T g → cofactor n f g ≡ f
+  pub cofactor-apart : (n : ℕ) (f g : Diagram) → Reduced 1 (suc n) f → Reduced 1 (suc n) g → g ≢ leaf false → Uses S f → Forces T g →
+      cofactor n f g ≡ f
   unfolding cofactor cofactorFrom
   cofactor-apart n f g of og nz u w = apart-from n 1 (suc n) f g (omega arith) of og nz u w
 
 -- ---- diagrams that begin at a variable x
 
-pub literals-before : (n x : ℕ) (P N : ℕ → Bool) → ((v : ℕ) → x ≤ v → (P v ≡ false) × (N v ≡ false)) → (f : Diagram) → 1 ≤ x → Reduced x (suc n) f → cofactorLiterals n P N f ≡ f
+pub literals-before : (n x : ℕ) (P N : ℕ → Bool) → ((v : ℕ) → x ≤ v → (P v ≡ false) × (N v ≡ false)) → (f : Diagram) → 1 ≤ x →
+    Reduced x (suc n) f → cofactorLiterals n P N f ≡ f
 literals-before n x P N none f least o =
-    literals-apart n P N (leb x) (λ v p. none v (leb-true x v p)) f (reduced-from 1 x (suc n) f least o) (uses-reduced (leb x) (suc n) x f o (λ v p q. le-leb x v p))
+    literals-apart n P N (leb x) (λ v p. none v (leb-true x v p)) f (reduced-from 1 x (suc n) f least o)
+    (uses-reduced (leb x) (suc n) x f o (λ v p q. le-leb x v p))
 
 -- what f has of the variables that g forces is before x
-pub cofactor-before : (n x : ℕ) (S T : ℕ → Bool) → ((v : ℕ) → x ≤ v → S v ≡ true → T v ≡ false) → (f g : Diagram) → 1 ≤ x → Reduced x (suc n) f → Reduced 1 (suc n) g → g ≢ leaf false
+pub cofactor-before : (n x : ℕ) (S T : ℕ → Bool) → ((v : ℕ) → x ≤ v → S v ≡ true → T v ≡ false) → (f g : Diagram) → 1 ≤ x →
+    Reduced x (suc n) f → Reduced 1 (suc n) g → g ≢ leaf false
     → Uses S f → Forces T g → cofactor n f g ≡ f
 cofactor-before n x S T none f g least of og nz u w =
     cofactor-apart (λ v. leb x v && S v) T
     (λ v p. let b : (leb x v ≡ true) × (S v ≡ true) = and-both (leb x v) (S v) p in none v (leb-true x v (b .0)) (b .1))
-    n f g (reduced-from 1 x (suc n) f least of) og nz (uses-both (leb x) S f (uses-reduced (leb x) (suc n) x f of (λ v p q. le-leb x v p)) u) w
+    n f g (reduced-from 1 x (suc n) f least of) og nz
+    (uses-both (leb x) S f (uses-reduced (leb x) (suc n) x f of (λ v p q. le-leb x v p)) u) w

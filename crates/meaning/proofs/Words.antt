@@ -1,5 +1,5 @@
--- The variables of a word: those of its assignment, of words made by `&`, `|` and one bit, and of the word of none. The idea: each law is about one
--- binary digit once the words are shifted; an assignment is taken variable by variable. Assumes nothing.
+-- The variables of a word: those of its assignment, of words made by `&`, `|` and one bit, and of the word of none. The idea: each law is
+-- about one binary digit once the words are shifted; an assignment is taken variable by variable. Assumes nothing.
 use mathlib.Core.Path.{_≡_, refl, ap, _∙_}
 use mathlib.Core.Bool.{false, _&&_, _||_}
 use Prim.Native.Nat.{ℕ, zero, suc, _+_, _-_, _*_, _/_, _%_, _^_, _≤_, _<_}
@@ -46,11 +46,13 @@ module _ (a b v : ℕ) where
 
   pub in-and : inWord (bitAnd a b) v ≡ (inWord a v && inWord b v)
   unfolding inWord
-  in-and = ap (λ (d : ℕ). eqb d 1) (ap (λ (d : ℕ). d % 2) (and-shr a b (v - 1)) ∙ and-mod x y 1) ∙ and-digit (x % 2) (y % 2) (omega arith) (omega arith)
+  in-and = ap (λ (d : ℕ). eqb d 1) (ap (λ (d : ℕ). d % 2) (and-shr a b (v - 1)) ∙ and-mod x y 1)
+      ∙ and-digit (x % 2) (y % 2) (omega arith) (omega arith)
 
   pub in-or : inWord (bitOr a b) v ≡ (inWord a v || inWord b v)
   unfolding inWord
-  in-or = ap (λ (d : ℕ). eqb d 1) (ap (λ (d : ℕ). d % 2) (or-shr a b (v - 1)) ∙ or-mod x y 1) ∙ or-digit (x % 2) (y % 2) (omega arith) (omega arith)
+  in-or = ap (λ (d : ℕ). eqb d 1) (ap (λ (d : ℕ). d % 2) (or-shr a b (v - 1)) ∙ or-mod x y 1)
+      ∙ or-digit (x % 2) (y % 2) (omega arith) (omega arith)
 
 even-above : (d j : ℕ) → 2 ^ (suc d + j) / 2 ^ j % 2 ≡ 0
 even-above d j =

@@ -21,7 +21,8 @@ use Rattle.table.proofs.Numbers.{diagramAt-injective}
 use Rattle.members.specs.Made.{differing}
 
 -- numbers differ exactly where diagrams do
-pub same-numbers : (T : Table) → Good T → (j k : ℕ) → j < T .count → k < T .count → same (diagramAt (nodesOf T) j) (diagramAt (nodesOf T) k) ≡ eqb j k
+pub same-numbers : (T : Table) → Good T → (j k : ℕ) → j < T .count → k < T .count → same (diagramAt (nodesOf T) j) (diagramAt (nodesOf T) k)
+    ≡ eqb j k
 same-numbers T G j k p q = go (ℕ-discrete j k)
   where
     go : Dec (j ≡ k) → same (diagramAt (nodesOf T) j) (diagramAt (nodesOf T) k) ≡ eqb j k
@@ -37,7 +38,8 @@ pub record Counting (ms rs : List Diagram) (i written : ℕ) : Type 0 where
   pub most : written ≤ i
   pub counted : differing ms rs ≡ written + differing (drop i ms) (drop i rs)
 
-differing-cons : (f g : Diagram) (fs gs : List Diagram) → differing (f ∷ fs) (g ∷ gs) ≡ cond (same f g) (differing fs gs) (suc (differing fs gs))
+differing-cons : (f g : Diagram) (fs gs : List Diagram) → differing (f ∷ fs) (g ∷ gs)
+    ≡ cond (same f g) (differing fs gs) (suc (differing fs gs))
 unfolding differing
 differing-cons f g fs gs = refl
 
@@ -62,7 +64,8 @@ module _ (ms rs : List Diagram) where
             ∙ ap (λ (x : ℕ). written + x)
             (ap₂ differing (drop-cons ms i (leaf false) p) (drop-cons rs i (leaf false) q)
             ∙ differing-cons (getD ms i (leaf false)) (getD rs i (leaf false)) (drop (suc i) ms) (drop (suc i) rs)
-            ∙ ap (λ (x : Bool). cond x (differing (drop (suc i) ms) (drop (suc i) rs)) (suc (differing (drop (suc i) ms) (drop (suc i) rs)))) e)
+            ∙ ap (λ (x : Bool). cond x (differing (drop (suc i) ms) (drop (suc i) rs))
+            (suc (differing (drop (suc i) ms) (drop (suc i) rs)))) e)
             ∙ moved b (differing (drop (suc i) ms) (drop (suc i) rs))
             ∙ ap (λ (j : ℕ). written + cond b 0 1 + differing (drop j ms) (drop j rs)) (sym (add-one i));
       }

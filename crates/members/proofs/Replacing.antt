@@ -56,11 +56,14 @@ pub record Replacing (op : Operation) (g : ℕ) (T₀ : Table) (list₀ : List �
 
 module _ (op : Operation) (g : ℕ) (T₀ : Table) (list₀ memo₀ : List ℕ) (R : ListReady T₀ list₀ memo₀) (g-inside : g < T₀ .count) where
   results-length : length (results op T₀ list₀ g) ≡ length list₀
-  results-length = length-map (diagramsOf (nodesOf T₀) list₀) (λ f. result op f (diagramAt (nodesOf T₀) g)) ∙ length-map list₀ (diagramAt (nodesOf T₀))
+  results-length = length-map (diagramsOf (nodesOf T₀) list₀) (λ f. result op f (diagramAt (nodesOf T₀) g))
+      ∙ length-map list₀ (diagramAt (nodesOf T₀))
 
-  pub result-at : (k : ℕ) → k < length list₀ → getD (results op T₀ list₀ g) k (leaf false) ≡ result op (diagramAt (nodesOf T₀) (getD list₀ k 0)) (diagramAt (nodesOf T₀) g)
+  pub result-at : (k : ℕ) → k < length list₀ → getD (results op T₀ list₀ g) k (leaf false)
+      ≡ result op (diagramAt (nodesOf T₀) (getD list₀ k 0)) (diagramAt (nodesOf T₀) g)
   result-at k p =
-      getD-map (λ f. result op f (diagramAt (nodesOf T₀) g)) (diagramsOf (nodesOf T₀) list₀) k (leaf false) (leaf false) (omega (arith, length-map list₀ (diagramAt (nodesOf T₀))))
+      getD-map (λ f. result op f (diagramAt (nodesOf T₀) g)) (diagramsOf (nodesOf T₀) list₀) k (leaf false) (leaf false)
+      (omega (arith, length-map list₀ (diagramAt (nodesOf T₀))))
       ∙ ap (λ (f : Diagram). result op f (diagramAt (nodesOf T₀) g)) (getD-map (diagramAt (nodesOf T₀)) list₀ k 0 (leaf false) p)
 
   pub replacing-none : (memo : List ℕ) → MemoRight op memo T₀ → Replacing op g T₀ list₀ T₀ list₀ memo 0
@@ -77,7 +80,8 @@ module _ (op : Operation) (g : ℕ) (T₀ : Table) (list₀ memo₀ : List ℕ) 
 
   -- ---- one member
 
-  module _ (allowed : Allowed op g) (T : Table) (list memo : List ℕ) (i : ℕ) (W : Replacing op g T₀ list₀ T list memo i) (p : i < length list) where
+  module _ (allowed : Allowed op g) (T : Table) (list memo : List ℕ) (i : ℕ) (W : Replacing op g T₀ list₀ T list memo i)
+      (p : i < length list) where
     member-inside : getD list i 0 < T₀ .count
     member-inside = rw (W .ahead i (omega arith)) (R .inside i (omega (arith, W .members)))
 
@@ -97,13 +101,15 @@ module _ (op : Operation) (g : ℕ) (T₀ : Table) (list₀ memo₀ : List ℕ) 
       | no r ↦ rw (W .ahead k (omega arith)) (omega (arith, R .inside k (omega (arith, W .members)), W .long .more))
     ]
 
-    pub member-supported : (words : List ℕ) → Supports (nodesOf T) list words → Support (getD words i 0) (diagramAt (nodesOf T) (getD list i 0))
+    pub member-supported : (words : List ℕ) → Supports (nodesOf T) list words →
+        Support (getD words i 0) (diagramAt (nodesOf T) (getD list i 0))
     unfolding Supports
     member-supported words S = S i p
 
     -- the operation has the variables that it had
     pub touches-now : (touching : ℕ) → Touches op (diagramAt (nodesOf T₀) g) touching → Touches op (diagramAt (nodesOf T) g) touching
-    touches-now touching touches = touches-kept op (diagramAt (nodesOf T) g) (diagramAt (nodesOf T₀) g) touching (W .long .kept g g-inside) touches
+    touches-now touching touches = touches-kept op (diagramAt (nodesOf T) g) (diagramAt (nodesOf T₀) g) touching (W .long .kept g g-inside)
+        touches
 
     -- what the operation makes of the member
     abbrev made : Diagram
@@ -111,14 +117,18 @@ module _ (op : Operation) (g : ℕ) (T₀ : Table) (list₀ memo₀ : List ℕ) 
 
     member-result : made ≡ getD (results op T₀ list₀ g) i (leaf false)
     member-result =
-        ap₂ (result op) (W .long .kept (getD list i 0) member-inside ∙ ap (diagramAt (nodesOf T₀)) (W .ahead i (omega arith))) (W .long .kept g g-inside)
+        ap₂ (result op) (W .long .kept (getD list i 0) member-inside ∙ ap (diagramAt (nodesOf T₀)) (W .ahead i (omega arith)))
+        (W .long .kept g g-inside)
         ∙ sym (result-at i (omega (arith, W .members)))
 
-    left-to-place : placedAll (size T₀) (nodesOf T₀) (results op T₀ list₀ g) ≡ placedAll (size T) (nodesOf T) (made ∷ drop (suc i) (results op T₀ list₀ g))
+    left-to-place : placedAll (size T₀) (nodesOf T₀) (results op T₀ list₀ g)
+        ≡ placedAll (size T) (nodesOf T) (made ∷ drop (suc i) (results op T₀ list₀ g))
     left-to-place =
         W .to-place
-        ∙ ap (placedAll (size T₀) (nodesOf T)) (drop-cons (results op T₀ list₀ g) i (leaf false) (omega (arith, results-length, W .members)))
-        ∙ ap₂ (λ (s : ℕ) (D : Diagram). placedAll s (nodesOf T) (D ∷ drop (suc i) (results op T₀ list₀ g))) (sym (W .long .same-size)) (sym member-result)
+        ∙ ap (placedAll (size T₀) (nodesOf T)) (drop-cons (results op T₀ list₀ g) i (leaf false)
+        (omega (arith, results-length, W .members)))
+        ∙ ap₂ (λ (s : ℕ) (D : Diagram). placedAll s (nodesOf T) (D ∷ drop (suc i) (results op T₀ list₀ g))) (sym (W .long .same-size))
+        (sym member-result)
 
     module _ (o : Outcome) (e : o ≡ applied T op (getD list i 0) g) where
       outcome-grown : Grown T made o
@@ -151,60 +161,77 @@ module _ (op : Operation) (g : ℕ) (T₀ : Table) (list₀ memo₀ : List ℕ) 
             to-place =
                 left-to-place
                 ∙ first-placed (size T) (nodesOf T) _ (drop (suc i) (results op T₀ list₀ g)) o e f
-                ∙ ap₂ (λ (s k : ℕ). placedAll s (nodesOf (o .table)) (drop k (results op T₀ list₀ g))) (W .long .same-size) (sym (add-one i));
+                ∙ ap₂ (λ (s k : ℕ). placedAll s (nodesOf (o .table)) (drop k (results op T₀ list₀ g))) (W .long .same-size)
+                (sym (add-one i));
           }
         where
-          now-done : (k : ℕ) → k < i + 1 → Dec (k ≡ i) → Has (o .table) (getD (set list i (o .node)) k 0) (getD (results op T₀ list₀ g) k (leaf false))
+          now-done : (k : ℕ) → k < i + 1 → Dec (k ≡ i) → Has (o .table) (getD (set list i (o .node)) k 0)
+              (getD (results op T₀ list₀ g) k (leaf false))
           now-done k q (yes z) =
-              rw (z, getD-set-same list i (o .node) 0 p) (record { inside = outcome-grown .inside; is = outcome-grown .is f ∙ member-result })
+              rw (z, getD-set-same list i (o .node) 0 p)
+              (record { inside = outcome-grown .inside; is = outcome-grown .is f ∙ member-result })
           now-done k q (no z) =
               rw (getD-set-other list i k (o .node) 0 z)
-              (has-longer T (o .table) (longer T made o outcome-grown) (getD list k 0) (getD (results op T₀ list₀ g) k (leaf false)) (W .done k (omega arith)))
+              (has-longer T (o .table) (longer T made o outcome-grown) (getD list k 0) (getD (results op T₀ list₀ g) k (leaf false))
+              (W .done k (omega arith)))
 
       -- and its word with it
-      pub supported : o .full ≡ false → (words : List ℕ) (gained touching : ℕ) → length words ≡ length list → Supports (nodesOf T) list words
+      pub supported : o .full ≡ false → (words : List ℕ) (gained touching : ℕ) → length words ≡ length list →
+          Supports (nodesOf T) list words
           → Touches op (diagramAt (nodesOf T₀) g) touching → Support gained (diagramAt (nodesOf T₀) g)
           → Supports (nodesOf (o .table)) (set list i (o .node)) (set words i (reworded (getD list i 0) (o .node) (getD words i 0) gained))
       unfolding Supports
       supported f words gained touching len old touches gains =
           let inside = list-inside i p in
           let long = longer T made o outcome-grown in
-          supports-replaced T (o .table) long list words list-inside len old i (o .node) (reworded (getD list i 0) (o .node) (getD words i 0) gained) p
+          supports-replaced T (o .table) long list words list-inside len old i (o .node)
+          (reworded (getD list i 0) (o .node) (getD words i 0) gained) p
           (word-supported T (o .table) long (getD list i 0) (o .node) (getD words i 0) gained inside (old i p)
           (subst (Support (bitOr (getD words i 0) gained)) (sym (outcome-grown .is f))
-          (grows T (W .long .good) (getD list i 0) g inside (omega (arith, W .long .more)) (getD words i 0) touching (old i p) op allowed (touches-now touching touches)
+          (grows T (W .long .good) (getD list i 0) g inside (omega (arith, W .long .more)) (getD words i 0) touching (old i p) op allowed
+          (touches-now touching touches)
           gained (subst (Support gained) (sym (W .long .kept g g-inside)) gains))))
 
       -- and it is counted where it changed
-      changed : o .full ≡ false → same (getD (diagramsOf (nodesOf T₀) list₀) i (leaf false)) (getD (results op T₀ list₀ g) i (leaf false)) ≡ eqb (getD list i 0) (o .node)
+      changed : o .full ≡ false → same (getD (diagramsOf (nodesOf T₀) list₀) i (leaf false)) (getD (results op T₀ list₀ g) i (leaf false))
+          ≡ eqb (getD list i 0) (o .node)
       changed f =
           ap₂ same
           (getD-map (diagramAt (nodesOf T₀)) list₀ i 0 (leaf false) (omega (arith, W .members))
           ∙ ap (diagramAt (nodesOf T₀)) (sym (W .ahead i (omega arith)))
           ∙ sym (long-after .kept (getD list i 0) member-inside))
           (sym member-result ∙ sym (outcome-grown .is f))
-          ∙ same-numbers (o .table) (long-after .good) (getD list i 0) (o .node) (omega (arith, member-inside, long-after .more)) (outcome-grown .inside)
+          ∙ same-numbers (o .table) (long-after .good) (getD list i 0) (o .node) (omega (arith, member-inside, long-after .more))
+          (outcome-grown .inside)
 
       pub counted : o .full ≡ false → (written w : ℕ) → Counting (diagramsOf (nodesOf T₀) list₀) (results op T₀ list₀ g) i written
-          → w ≡ cond (eqb (getD list i 0) (o .node)) 0 1 → Counting (diagramsOf (nodesOf T₀) list₀) (results op T₀ list₀ g) (i + 1) (written + w)
+          → w ≡ cond (eqb (getD list i 0) (o .node)) 0 1 → Counting (diagramsOf (nodesOf T₀) list₀) (results op T₀ list₀ g) (i + 1)
+          (written + w)
       counted f written w N e =
-          rw e (counting-next (diagramsOf (nodesOf T₀) list₀) (results op T₀ list₀ g) i written N (omega (arith, length-map list₀ (diagramAt (nodesOf T₀)), W .members))
+          rw e (counting-next (diagramsOf (nodesOf T₀) list₀) (results op T₀ list₀ g) i written N
+          (omega (arith, length-map list₀ (diagramAt (nodesOf T₀)), W .members))
           (omega (arith, results-length, W .members)) (eqb (getD list i 0) (o .node)) (changed f))
 
   -- ---- all members
 
-  pub all-replaced : (T : Table) (list memo : List ℕ) (i : ℕ) → Replacing op g T₀ list₀ T list memo i → length list ≤ i → AllMade T₀ (results op T₀ list₀ g) false T list
+  pub all-replaced : (T : Table) (list memo : List ℕ) (i : ℕ) → Replacing op g T₀ list₀ T list memo i → length list ≤ i →
+      AllMade T₀ (results op T₀ list₀ g) false T list
   unfolding placedAll
   all-replaced T list memo i W h =
       record {
         extended = longer-extended T₀ T (W .long);
-        places = W .to-place ∙ ap (placedAll (size T₀) (nodesOf T)) (drop-of-length-le (results op T₀ list₀ g) {i = i} (omega (arith, results-length, W .members)));
+        places = W .to-place ∙ ap (placedAll (size T₀) (nodesOf T))
+            (drop-of-length-le (results op T₀ list₀ g) {i = i} (omega (arith, results-length, W .members)));
         inside = λ _ k q. W .done k (omega arith) .inside;
-        are = λ _. ext-getD (leaf false) (diagramsOf (nodesOf T) list) (results op T₀ list₀ g) (length-map list (diagramAt (nodesOf T)) ∙ W .members ∙ sym results-length)
-            (λ k q. getD-map (diagramAt (nodesOf T)) list k 0 (leaf false) (omega (arith, length-map list (diagramAt (nodesOf T)))) ∙ W .done k (omega (arith, length-map list (diagramAt (nodesOf T)))) .is);
+        are = λ _. ext-getD (leaf false) (diagramsOf (nodesOf T) list) (results op T₀ list₀ g)
+            (length-map list (diagramAt (nodesOf T)) ∙ W .members ∙ sym results-length)
+            (λ k q. getD-map (diagramAt (nodesOf T)) list k 0 (leaf false) (omega (arith, length-map list (diagramAt (nodesOf T))))
+            ∙ W .done k (omega (arith, length-map list (diagramAt (nodesOf T)))) .is);
       }
 
   pub all-counted : (T : Table) (list memo : List ℕ) (i written : ℕ) → Replacing op g T₀ list₀ T list memo i → length list ≤ i
-      → Counting (diagramsOf (nodesOf T₀) list₀) (results op T₀ list₀ g) i written → written ≡ differing (diagramsOf (nodesOf T₀) list₀) (results op T₀ list₀ g)
+      → Counting (diagramsOf (nodesOf T₀) list₀) (results op T₀ list₀ g) i written → written
+      ≡ differing (diagramsOf (nodesOf T₀) list₀) (results op T₀ list₀ g)
   all-counted T list memo i written W h =
-      counting-all (diagramsOf (nodesOf T₀) list₀) (results op T₀ list₀ g) i written (omega (arith, length-map list₀ (diagramAt (nodesOf T₀)), W .members))
+      counting-all (diagramsOf (nodesOf T₀) list₀) (results op T₀ list₀ g) i written
+      (omega (arith, length-map list₀ (diagramAt (nodesOf T₀)), W .members))

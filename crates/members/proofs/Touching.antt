@@ -41,53 +41,65 @@ module _ (t : Table) (G : Good t) where
   reduced : (k : ℕ) → k < t .count → Reduced 1 65 (diagramAt (nodesOf t) k)
   reduced k p = diagramAt-reduced (nodesOf t) (good-ordered t G) k (omega (arith, length-nodes t G))
 
-  module _ (f g : ℕ) (f-inside : f < t .count) (g-inside : g < t .count) (word touching : ℕ) (has : Support word (diagramAt (nodesOf t) f)) where
-    abbrev F : Diagram
-    F = diagramAt (nodesOf t) f
+  module _ (f g : ℕ) (f-inside : f < t .count) (g-inside : g < t .count) (word touching : ℕ) (has : Support word (diagramAt (nodesOf t) f))
+    where
+      abbrev F : Diagram
+      F = diagramAt (nodesOf t) f
 
-    abbrev E : Diagram
-    E = diagramAt (nodesOf t) g
+      abbrev E : Diagram
+      E = diagramAt (nodesOf t) g
 
-    -- no variable in common: the member stays
-    pub stays : (op : Operation) → Allowed op g → Touches op E touching → Apart word touching → result op F E ≡ F
-    unfolding result Support Forced
-    stays Conjunction allowed touches apart = absurd touches
-    stays Negation allowed touches apart = absurd touches
-    stays Cofactor allowed touches apart =
-        cofactor-apart (inWord word) (inWord touching) apart 64 F E (reduced f f-inside) (reduced g g-inside) (λ z. allowed (zero-is t G g g-inside z)) has touches
-    stays (Literals p n) allowed touches apart =
-        literals-apart 64 (inWord p) (inWord n) (inWord word)
-        (λ v q. or-neither (inWord p v) (inWord n v) (sym (in-or p n v) ∙ ap (λ (w : ℕ). inWord w v) (sym touches) ∙ apart v q)) F (reduced f f-inside) has
+      -- no variable in common: the member stays
+      pub stays : (op : Operation) → Allowed op g → Touches op E touching → Apart word touching → result op F E ≡ F
+      unfolding result Support Forced
+      stays Conjunction allowed touches apart = absurd touches
+      stays Negation allowed touches apart = absurd touches
+      stays Cofactor allowed touches apart =
+          cofactor-apart (inWord word) (inWord touching) apart 64 F E (reduced f f-inside) (reduced g g-inside)
+          (λ z. allowed (zero-is t G g g-inside z)) has touches
+      stays (Literals p n) allowed touches apart =
+          literals-apart 64 (inWord p) (inWord n) (inWord word)
+          (λ v q. or-neither (inWord p v) (inWord n v) (sym (in-or p n v) ∙ ap (λ (w : ℕ). inWord w v) (sym touches) ∙ apart v q)) F
+          (reduced f f-inside) has
 
-    -- else the word has the result's variables with those of g
-    pub grows : (op : Operation) → Allowed op g → Touches op E touching → (gained : ℕ) → Support gained E → Support (bitOr word gained) (result op F E)
-    unfolding result Support
-    grows Conjunction allowed touches gained gains = absurd touches
-    grows Negation allowed touches gained gains = absurd touches
-    grows Cofactor allowed touches gained gains =
-        cofactor-uses 64 (inWord (bitOr word gained)) F E (reduced f f-inside) (reduced g g-inside) (λ z. allowed (zero-is t G g g-inside z))
-        (support-left word gained F has) (support-right word gained E gains)
-    grows (Literals p n) allowed touches gained gains =
-        support-left word gained (cofactorLiterals 64 (inWord p) (inWord n) F) (literals-uses 64 (inWord p) (inWord n) (inWord word) F (reduced f f-inside) has)
+      -- else the word has the result's variables with those of g
+      pub grows : (op : Operation) → Allowed op g → Touches op E touching → (gained : ℕ) → Support gained E →
+          Support (bitOr word gained) (result op F E)
+      unfolding result Support
+      grows Conjunction allowed touches gained gains = absurd touches
+      grows Negation allowed touches gained gains = absurd touches
+      grows Cofactor allowed touches gained gains =
+          cofactor-uses 64 (inWord (bitOr word gained)) F E (reduced f f-inside) (reduced g g-inside)
+          (λ z. allowed (zero-is t G g g-inside z))
+          (support-left word gained F has) (support-right word gained E gains)
+      grows (Literals p n) allowed touches gained gains =
+          support-left word gained (cofactorLiterals 64 (inWord p) (inWord n) F)
+          (literals-uses 64 (inWord p) (inWord n) (inWord word) F (reduced f f-inside) has)
 
-    -- the word of what the member shares with the operation
-    pub touched-shared : (op : Operation) → Touches op E touching → Shared op (bitAnd word touching) t f g
-    unfolding Support Forced
-    touched-shared Conjunction touches = absurd touches
-    touched-shared Negation touches = absurd touches
-    touched-shared Cofactor touches = record {
-      first = inWord word;
-      second = inWord touching;
-      first-uses = has;
-      second-forces = touches;
-      common = λ v p q. in-and word touching v ∙ ap₂ _&&_ p q;
-    }
-    touched-shared (Literals p n) touches = tt
+      -- the word of what the member shares with the operation
+      pub touched-shared : (op : Operation) → Touches op E touching → Shared op (bitAnd word touching) t f g
+      unfolding Support Forced
+      touched-shared Conjunction touches = absurd touches
+      touched-shared Negation touches = absurd touches
+      touched-shared Cofactor touches = record {
+        first = inWord word;
+        second = inWord touching;
+        first-uses = has;
+        second-forces = touches;
+        common = λ v p q. in-and word touching v ∙ ap₂ _&&_ p q;
+      }
+      touched-shared (Literals p n) touches = tt
 
-    pub untouched : (op : Operation) (memo : List ℕ) → Ready op memo t f g → Touches op E touching → bitAnd word touching ≡ 0
-        → record { table = t; full = false; node = f } ≡ applied t op f g
-    untouched op memo R touches e =
-        known-outcome op memo t f g R f (record { f-inside = f-inside; g-inside = g-inside; inside = f-inside; is = sym (stays op (R .allowed) touches (words-apart word touching e)) })
+      pub untouched : (op : Operation) (memo : List ℕ) → Ready op memo t f g → Touches op E touching → bitAnd word touching ≡ 0
+          → record { table = t; full = false; node = f } ≡ applied t op f g
+      untouched op memo R touches e =
+          known-outcome op memo t f g R f (record {
+            f-inside = f-inside;
+            g-inside = g-inside;
+            inside = f-inside;
+            is =
+                sym (stays op (R .allowed) touches (words-apart word touching e));
+          })
 
 -- ---- the list's words
 
@@ -106,7 +118,8 @@ word-supported T T′ L f k word gained inside old new = go (eqb f k) refl
     go false e = new
 
 -- one member replaced in a table that has grown
-pub supports-replaced : (T T′ : Table) → Longer T T′ → (list words : List ℕ) → Inside (T .count) list → length words ≡ length list → Supports (nodesOf T) list words
+pub supports-replaced : (T T′ : Table) → Longer T T′ → (list words : List ℕ) → Inside (T .count) list → length words ≡ length list →
+    Supports (nodesOf T) list words
     → (i k word : ℕ) → i < length list → Support word (diagramAt (nodesOf T′) k) → Supports (nodesOf T′) (set list i k) (set words i word)
 unfolding Supports
 supports-replaced T T′ L list words inside len old i k word p new j q = go (ℕ-discrete j i)

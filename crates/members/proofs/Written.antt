@@ -1,4 +1,5 @@
--- One member written only where it changes. The idea: a list in which a place is written with what it has there is the list. Assumes nothing.
+-- One member written only where it changes. The idea: a list in which a place is written with what it has there is the list. Assumes
+-- nothing.
 use mathlib.Core.Path.{_≡_, refl, sym, ap, _∙_}
 use mathlib.Core.Logic.{_≢_, _⊎_, ⊎-elim}
 use mathlib.Core.Bool.{Bool, true, false}

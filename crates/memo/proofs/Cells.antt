@@ -35,7 +35,8 @@ cell-tells memo c f g inside less two = go (ℕ-discrete (e / 65536) (f * 65536 
     go : Dec (e / 65536 ≡ f * 65536 + g) → Tells memo f g (toldBy e f g)
     go (yes q) =
         let told : toldBy e f g ≡ At (record { 0 = e % 65536 }) = rw (eq-eqb _ _ q) in
-        let holds : Holds memo f g (e % 65536) = record { cell = c; inside = inside; has = unpack e f g q; no-constant = two; g-fits = less; r-fits = low-part e } in
+        let holds : Holds memo f g (e % 65536) = record
+        { cell = c; inside = inside; has = unpack e f g q; no-constant = two; g-fits = less; r-fits = low-part e } in
         subst (Tells memo f g) (sym told) holds
     go (no n) = let told : toldBy e f g ≡ Nothing = rw (ne-eqb _ _ n) in subst (Tells memo f g) (sym told) tt
 
@@ -64,13 +65,15 @@ memo-stored before memo F u c f g r inside lg lr =
     len = length-set counted (3 + c) (pack f g r) ∙ length-set memo 1 u
 
     header : live after ≡ live memo
-    header = getD-set-other counted (3 + c) 0 (pack f g r) 0 (λ z. absurd (omega arith)) ∙ getD-set-other memo 1 0 u 0 (λ z. absurd (omega arith))
+    header = getD-set-other counted (3 + c) 0 (pack f g r) 0 (λ z. absurd (omega arith))
+        ∙ getD-set-other memo 1 0 u 0 (λ z. absurd (omega arith))
 
     stored : getD after (3 + c) 0 ≡ pack f g r
     stored = getD-set-same counted (3 + c) (pack f g r) 0 (omega (arith, length-set memo 1 u, F .shaped .room))
 
     other : (i : ℕ) → (i ≡ c → ⊥) → getD after (3 + i) 0 ≡ getD memo (3 + i) 0
-    other i n = getD-set-other counted (3 + c) (3 + i) (pack f g r) 0 (λ z. n (omega arith)) ∙ getD-set-other memo 1 (3 + i) u 0 (λ z. absurd (omega arith))
+    other i n = getD-set-other counted (3 + c) (3 + i) (pack f g r) 0 (λ z. n (omega arith))
+        ∙ getD-set-other memo 1 (3 + i) u 0 (λ z. absurd (omega arith))
 
     go : (f′ g′ r′ : ℕ) (h : Holds after f′ g′ r′) → Dec (h .cell ≡ c) → ((f ≡ f′) × (g ≡ g′) × (r ≡ r′)) ⊎ Holds before f′ g′ r′
     go f′ g′ r′ h (yes q) =
@@ -103,8 +106,10 @@ pub memo-fresh : (memo : List ℕ) → 3 ≤ length memo → memo ≡ replicate 
 memo-fresh memo three e = memo-none memo three (ap (λ (m : List ℕ). getD m 0 0) e ∙ zeros-at (length memo) 0)
 
 -- one whose live cells are zeros, with its header
-pub memo-zeros : (memo : List ℕ) (n step : ℕ) → 3 + n ≤ length memo → n ≤ 1048576 → ZerosBelow memo (3 + n) → EmptyMemo (set (set memo 0 n) 2 step)
-memo-zeros memo n step room few zero-cells = record { shaped = record { room = rw (header, len) room; few = rw header few }; none = nothing }
+pub memo-zeros : (memo : List ℕ) (n step : ℕ) → 3 + n ≤ length memo → n ≤ 1048576 → ZerosBelow memo (3 + n) →
+    EmptyMemo (set (set memo 0 n) 2 step)
+memo-zeros memo n step room few zero-cells = record
+    { shaped = record { room = rw (header, len) room; few = rw header few }; none = nothing }
   where
     begun : List ℕ
     begun = set memo 0 n
@@ -120,7 +125,8 @@ memo-zeros memo n step room few zero-cells = record { shaped = record { room = r
 
     empty : (i : ℕ) → i < n → _≡_ {A = ℕ} (getD after (3 + i) 0) 0
     empty i p =
-        getD-set-other begun 2 (3 + i) step 0 (λ z. absurd (omega arith)) ∙ getD-set-other memo 0 (3 + i) n 0 (λ z. absurd (omega arith)) ∙ zero-cells (3 + i) (omega arith)
+        getD-set-other begun 2 (3 + i) step 0 (λ z. absurd (omega arith)) ∙ getD-set-other memo 0 (3 + i) n 0 (λ z. absurd (omega arith))
+        ∙ zero-cells (3 + i) (omega arith)
 
     nothing : (f g r : ℕ) → Holds after f g r → ⊥
     nothing f g r h = absurd (omega (arith, h .has, h .no-constant, empty (h .cell) (omega (arith, header, h .inside))))

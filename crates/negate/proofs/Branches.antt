@@ -16,17 +16,26 @@ use Rattle.table.specs.declared.Found.the-variants.{At, Nothing}
 use Rattle.table.specs.Nodes.{Node, nodeOf, at, diagramAt, find}
 use Rattle.table.specs.Indexed.{Table, nodesOf, Good, foundOf}
 use Rattle.table.proofs.Order.{same-node, Ordered, Fits}
-use Rattle.table.proofs.Numbers.{Kind, is-zero, is-one, from-two, kind, diagramAt-zero, diagramAt-one, diagramAt-node, diagramAt-injective, diagramAt-reduced}
+use Rattle.table.proofs.Numbers.{Kind, is-zero, is-one, from-two, kind, diagramAt-zero, diagramAt-one, diagramAt-node, diagramAt-injective}
+use Rattle.table.proofs.Numbers.{diagramAt-reduced}
 use Rattle.table.proofs.Placing as placing
 use Rattle.walks.proofs.Here.{length-in, ordered-in, node-in, good-readable}
 use Rattle.negate.specs.Negations.{Negates}
 
 module _ (T : Table) where
   pub negates-zero : Good T → Negates T 0 (At (record { 0 = 1 }))
-  negates-zero G = (omega (arith, G .least), diagramAt-one (nodesOf T) ∙ sym (ap (negation 64) (diagramAt-zero (nodesOf T)) ∙ negation-leaf 64 false))
+  negates-zero G = (
+    omega (arith, G .least),
+    diagramAt-one (nodesOf T) ∙ sym
+        (ap (negation 64) (diagramAt-zero (nodesOf T)) ∙ negation-leaf 64 false),
+  )
 
   pub negates-one : Good T → Negates T 1 (At (record { 0 = 0 }))
-  negates-one G = (omega (arith, G .least), diagramAt-zero (nodesOf T) ∙ sym (ap (negation 64) (diagramAt-one (nodesOf T)) ∙ negation-leaf 64 true))
+  negates-one G = (
+    omega (arith, G .least),
+    diagramAt-zero (nodesOf T) ∙ sym
+        (ap (negation 64) (diagramAt-one (nodesOf T)) ∙ negation-leaf 64 true),
+  )
 
 module _ (T : Table) (G : Good T) where
   abbrev t : List Node
@@ -61,7 +70,8 @@ module _ (T : Table) (G : Good T) where
       go is-one p e = let z : _≡_ {A = ℕ} 0 1 = cc (diagramAt-one t) in absurd (omega arith)
       go {j} (from-two two) p e =
           let F : Fits t j (at t j) = O .fits j two (omega (arith, count-is)) in
-          let same : node (at t j .var) (diagramAt t (at t j .low)) (diagramAt t (at t j .high)) ≡ node v a b = sym (diagramAt-node t O j two (omega (arith, count-is))) ∙ e in
+          let same : node (at t j .var) (diagramAt t (at t j .low)) (diagramAt t (at t j .high)) ≡ node v a b =
+          sym (diagramAt-node t O j two (omega (arith, count-is))) ∙ e in
           record { two = two; var = cc; low = cc; high = cc; low-less = F .low-less; high-less = F .high-less }
 
   module _ (k : ℕ) (two : 2 ≤ k) (inside : k < T .count) where
@@ -82,7 +92,8 @@ module _ (T : Table) (G : Good T) where
         let r : Reduced 1 65 (node v (diagramAt t l) (diagramAt t h)) = rw is-node at (diagramAt-reduced t O k (omega (arith, count-is))) in
         ap (negation 64) is-node ∙ negation-node 64 v (diagramAt t l) (diagramAt t h) r
 
-    over-negation : (j : ℕ) → j < T .count → diagramAt t j ≡ negation 64 (diagramAt t k) → Over j v (negation 64 (diagramAt t l)) (negation 64 (diagramAt t h))
+    over-negation : (j : ℕ) → j < T .count → diagramAt t j ≡ negation 64 (diagramAt t k) →
+        Over j v (negation 64 (diagramAt t l)) (negation 64 (diagramAt t h))
     over-negation j p e = over j v (negation 64 (diagramAt t l)) (negation 64 (diagramAt t h)) p (e ∙ negation-is)
 
     -- a side's negation is not there
@@ -93,8 +104,10 @@ module _ (T : Table) (G : Good T) where
     negates-high absent j p e = let o = over-negation j p e in absent (at t j .high) (omega (arith, o .high-less)) (o .high)
 
     -- both are, and the node over them is looked up
-    pub negates-lookup : (a b : NodeNo) (r : Found) → Negates T l (At a) → Negates T h (At b) → r ≡ foundOf (find t (nodeOf v (a .0) (b .0))) → Negates T k r
-    negates-lookup a b r A B e = subst (Negates T k) (sym e) (go (find t (nodeOf v (a .0) (b .0))) (placing.found t (nodeOf v (a .0) (b .0))))
+    pub negates-lookup : (a b : NodeNo) (r : Found) → Negates T l (At a) → Negates T h (At b) → r
+        ≡ foundOf (find t (nodeOf v (a .0) (b .0))) → Negates T k r
+    negates-lookup a b r A B e = subst (Negates T k) (sym e)
+        (go (find t (nodeOf v (a .0) (b .0))) (placing.found t (nodeOf v (a .0) (b .0))))
       where
         equal : (i j : ℕ) (d : Diagram) → i < T .count → j < T .count → diagramAt t i ≡ d → diagramAt t j ≡ d → i ≡ j
         equal i j d p q e f = diagramAt-injective t O i j (omega (arith, count-is)) (omega (arith, count-is)) (e ∙ sym f)

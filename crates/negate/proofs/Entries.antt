@@ -28,14 +28,17 @@ module _ (T : Table) (memo : List ℕ) where
   unfolding NegationMemo
   negations-cleared C i inside two = absurd (omega (arith, C i inside))
 
-  pub negation-known : (f : ℕ) → f < T .count → NegationMemo memo T → getD memo f 0 / 131072 ≡ f → 2 ≤ f → Negates T f (foundIn (getD memo f 0))
+  pub negation-known : (f : ℕ) → f < T .count → NegationMemo memo T → getD memo f 0 / 131072 ≡ f → 2 ≤ f →
+      Negates T f (foundIn (getD memo f 0))
   unfolding NegationMemo
   negation-known f inside M e two = subst (λ (k : ℕ). Negates T k (foundIn (getD memo f 0))) e (M f inside (omega arith))
 
-  pub negation-stored : Good T → (f : ℕ) (r : Found) → f < length memo → NegationMemo memo T → Negates T f r → NegationMemo (set memo f (entryOf f r)) T
+  pub negation-stored : Good T → (f : ℕ) (r : Found) → f < length memo → NegationMemo memo T → Negates T f r →
+      NegationMemo (set memo f (entryOf f r)) T
   unfolding NegationMemo
   negation-stored G f r inside M N =
-      stored (λ i e. i < T .count → 2 ≤ e / 131072 → Negates T (e / 131072) (foundIn e)) memo f (entryOf f r) inside (λ _ _. new) (λ i _. M i)
+      stored (λ i e. i < T .count → 2 ≤ e / 131072 → Negates T (e / 131072) (foundIn e)) memo f (entryOf f r) inside (λ _ _. new)
+      (λ i _. M i)
     where
       new : Negates T (entryOf f r / 131072) (foundIn (entryOf f r))
       new = rw (read-back T G f r N .0, read-back T G f r N .1) N

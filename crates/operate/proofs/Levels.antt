@@ -131,7 +131,8 @@ module _ (t : Table) (G : Good t) where
     own-inside false = omega (arith, low-at t G f, F .low-less)
 
     own-after : (b : Bool) → getD (t .vars) f 0 < level (t .vars) (own b)
-    own-after true = rw (high-at t G f, var-at t G f) (child-level (at (nodesOf t) f .var) (at (nodesOf t) f .high) (F .most) (F .above-high))
+    own-after true = rw (high-at t G f, var-at t G f)
+        (child-level (at (nodesOf t) f .var) (at (nodesOf t) f .high) (F .most) (F .above-high))
     own-after false = rw (low-at t G f, var-at t G f) (child-level (at (nodesOf t) f .var) (at (nodesOf t) f .low) (F .most) (F .above-low))
 
     pub node-is : diagramOf f ≡ node (getD (t .vars) f 0) (diagramOf (own false)) (diagramOf (own true))
@@ -142,7 +143,11 @@ module _ (t : Table) (G : Good t) where
     own-is b = ap (side (getD (t .vars) f 0) b) node-is ∙ go b (ℕ-discrete (getD (t .vars) f 0) (getD (t .vars) f 0))
       where
         go : (b : Bool) (d : Dec (getD (t .vars) f 0 ≡ getD (t .vars) f 0))
-            → elim d [ yes e ↦ cond b (diagramOf (own true)) (diagramOf (own false)) | no n ↦ node (getD (t .vars) f 0) (diagramOf (own false)) (diagramOf (own true)) ]
+            → elim d [
+              | yes e ↦ cond b (diagramOf (own true)) (diagramOf (own false))
+              | no n ↦ node (getD (t .vars) f 0)
+                  (diagramOf (own false)) (diagramOf (own true))
+            ]
             ≡ diagramOf (own b)
         go true (yes e) = refl
         go false (yes e) = refl

@@ -37,7 +37,8 @@ pub record SideKept (op : Operation) (memo : List ℕ) (t : Table) (f g : ℕ) (
 
 module _ {op : Operation} {memo : List ℕ} {t : Table} {f g : ℕ} where
   -- a result that the memo tells leaves table and memo as they are
-  pub home-kept : Ready op memo t f g → (r : NodeNo) → Tells memo f g (At r) → SideKept op memo t f g (record { table = t; full = false; node = r .0 }) memo
+  pub home-kept : Ready op memo t f g → (r : NodeNo) → Tells memo f g (At r) →
+      SideKept op memo t f g (record { table = t; full = false; node = r .0 }) memo
   home-kept R r tells = record {
     left = record {
       is = known-outcome op memo t f g R (r .0) (R .right .entries f g (r .0) tells);

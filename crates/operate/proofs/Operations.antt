@@ -15,7 +15,8 @@ joined-again Cofactor shared = refl
 joined-again (Literals p n) shared = refl
 
 -- the word is handed on where it is asked for
-handed-on : (op : Operation) (shared : ℕ) (t : Table) (f g : ℕ) → Shared op shared t f g → Shared (operationOf (kindOf op) (byOf op shared)) (byOf op shared .positive) t f g
+handed-on : (op : Operation) (shared : ℕ) (t : Table) (f g : ℕ) → Shared op shared t f g →
+    Shared (operationOf (kindOf op) (byOf op shared)) (byOf op shared .positive) t f g
 handed-on Conjunction shared t f g s = tt
 handed-on Negation shared t f g s = tt
 handed-on Cofactor shared t f g s = s

@@ -9,7 +9,8 @@ use lib.ListN.{length, getD}
 use lib.Seq.{getD-take}
 use Rattle.meaning.specs.Diagram.{Diagram, node, Reduced}
 use Rattle.meaning.proofs.Canonical.{diagramFrom-reduced}
-use Rattle.meaning.proofs.Pointwise.{conjunction-reduced, negation-reduced, literals-reduced, conjunction-from, negation-from, literals-from}
+use Rattle.meaning.proofs.Pointwise.{conjunction-reduced, negation-reduced, literals-reduced, conjunction-from, negation-from}
+use Rattle.meaning.proofs.Pointwise.{literals-from}
 use Rattle.meaning.proofs.Cofactor.{cofactor-reduced, cofactorFrom, cofactor-from}
 use Rattle.table.specs.Nodes.{Node, blank, at, diagramAt}
 use Rattle.table.specs.Indexed.{Table, nodesOf, Good, Outcome}
@@ -37,7 +38,8 @@ result-reduced (Literals p n) f g = literals-reduced 64 (inWord p) (inWord n) f
 
 -- from variable i on, where both operands are
 result-from : (t : Table) (G : Good t) (op : Operation) (f g : ℕ) → f < t .count → g < t .count → Allowed op g
-    → (i : ℕ) → 1 ≤ i → i ≤ 65 → Reduced i 65 (diagramOf t G f) → Reduced i 65 (diagramOf t G g) → Reduced i 65 (result op (diagramOf t G f) (diagramOf t G g))
+    → (i : ℕ) → 1 ≤ i → i ≤ 65 → Reduced i 65 (diagramOf t G f) → Reduced i 65 (diagramOf t G g) →
+    Reduced i 65 (result op (diagramOf t G f) (diagramOf t G g))
 unfolding result cofactorFrom
 result-from t G Conjunction f g p q allowed i lo hi rf rg = conjunction-from 64 i (diagramOf t G f) (diagramOf t G g) rf rg
 result-from t G Negation f g p q allowed i lo hi rf rg = negation-from 64 i (diagramOf t G f) rf
@@ -52,7 +54,8 @@ result-from t G (Literals m n) f g p q allowed i lo hi rf rg = literals-from 64 
 level-kept : (t t′ : Table) → Good t → Longer t t′ → (f : ℕ) → f < t .count → level (t′ .vars) f ≡ level (t .vars) f
 level-kept t t′ G L f inside =
     let e : getD (t′ .vars) f 0 ≡ getD (t .vars) f 0 =
-    var-at t′ (L .good) f ∙ ap (λ (x : Node). x .var) (sym (getD-take (t .count) (nodesOf t′) f blank inside) ∙ ap (λ (u : List Node). at u f) (L .first)) ∙ sym (var-at t G f) in
+    var-at t′ (L .good) f ∙ ap (λ (x : Node). x .var)
+    (sym (getD-take (t .count) (nodesOf t′) f blank inside) ∙ ap (λ (u : List Node). at u f) (L .first)) ∙ sym (var-at t G f) in
     rw e
 
 top-kept : (t t′ : Table) → Good t → Longer t t′ → (f g : ℕ) → f < t .count → g < t .count → top (t′ .vars) f g ≡ top (t .vars) f g
@@ -68,7 +71,8 @@ module _ (op : Operation) (memo : List ℕ) (t : Table) (f g : ℕ) (R : Ready o
   E = diagramAt (nodesOf t) g
 
   -- the columns hold both numbers
-  pub columns-hold : (f < length (t .vars)) × (g < length (t .vars)) × (length (t .lows) ≡ length (t .vars)) × (length (t .highs) ≡ length (t .vars))
+  pub columns-hold : (f < length (t .vars)) × (g < length (t .vars)) × (length (t .lows) ≡ length (t .vars))
+      × (length (t .highs) ≡ length (t .vars))
   columns-hold = (omega (arith, R .f-inside, R .good .within), omega (arith, R .g-inside, R .good .within), R .good .lows, R .good .highs)
 
   -- a result that is there places nothing
@@ -95,7 +99,8 @@ module _ (op : Operation) (memo : List ℕ) (t : Table) (f g : ℕ) (R : Ready o
 
 -- ---- two sides
 
-module _ (op : Operation) (memo : List ℕ) (t : Table) (s : Sides) (R : SidesReady op memo t s) (o₁ : Outcome) (e₁ : o₁ ≡ applied t op (s .f0 .0) (s .g0 .0)) where
+module _ (op : Operation) (memo : List ℕ) (t : Table) (s : Sides) (R : SidesReady op memo t s) (o₁ : Outcome)
+    (e₁ : o₁ ≡ applied t op (s .f0 .0) (s .g0 .0)) where
   abbrev D : ℕ → Diagram
   D k = diagramAt (nodesOf t) k
 
@@ -129,14 +134,16 @@ module _ (op : Operation) (memo : List ℕ) (t : Table) (s : Sides) (R : SidesRe
 
   pub high-shared : (shared : ℕ) → Shared op shared t (s .f1 .0) (s .g1 .0) → Shared op shared (o₁ .table) (s .f1 .0) (s .g1 .0)
   high-shared shared =
-      shared-kept op shared t (s .f1 .0) (s .g1 .0) (o₁ .table) (low-grown .kept (s .f1 .0) (R .high .f-inside)) (low-grown .kept (s .g1 .0) (R .high .g-inside))
+      shared-kept op shared t (s .f1 .0) (s .g1 .0) (o₁ .table) (low-grown .kept (s .f1 .0) (R .high .f-inside))
+      (low-grown .kept (s .g1 .0) (R .high .g-inside))
 
   pub high-top : s .x < top (o₁ .table .vars) (s .f1 .0) (s .g1 .0)
   high-top = rw (top-kept t (o₁ .table) good low-longer (s .f1 .0) (s .g1 .0) (R .high .f-inside) (R .high .g-inside)) (R .high-after)
 
   module _ (made₁ : o₁ .full ≡ false) (o₂ : Outcome) (e₂ : o₂ ≡ applied (o₁ .table) op (s .f1 .0) (s .g1 .0)) where
     high-is : o₂ ≡ placeIn (o₁ .table) high
-    high-is = e₂ ∙ ap (placeIn (o₁ .table)) (ap₂ (result op) (low-grown .kept (s .f1 .0) (R .high .f-inside)) (low-grown .kept (s .g1 .0) (R .high .g-inside)))
+    high-is = e₂ ∙ ap (placeIn (o₁ .table)) (ap₂ (result op) (low-grown .kept (s .f1 .0) (R .high .f-inside))
+        (low-grown .kept (s .g1 .0) (R .high .g-inside)))
 
     high-grown : Grown (o₁ .table) high o₂
     high-grown = grown (o₁ .table) (low-grown .good) high (result-reduced op _ _) o₂ high-is
@@ -154,23 +161,32 @@ module _ (op : Operation) (memo : List ℕ) (t : Table) (s : Sides) (R : SidesRe
       -- the sides' results come after x
       low-after : Reduced (suc (s .x)) 65 low
       low-after =
-          result-from t good op (s .f0 .0) (s .g0 .0) (R .low .f-inside) (R .low .g-inside) (R .low .allowed) (suc (s .x)) (omega arith) (omega (arith, R .most))
-          (level-reduced t good (s .f0 .0) (R .low .f-inside) (suc (s .x)) (omega (arith, R .low-after, top-first (t .vars) (s .f0 .0) (s .g0 .0))))
-          (level-reduced t good (s .g0 .0) (R .low .g-inside) (suc (s .x)) (omega (arith, R .low-after, top-second (t .vars) (s .f0 .0) (s .g0 .0))))
+          result-from t good op (s .f0 .0) (s .g0 .0) (R .low .f-inside) (R .low .g-inside) (R .low .allowed) (suc (s .x)) (omega arith)
+          (omega (arith, R .most))
+          (level-reduced t good (s .f0 .0) (R .low .f-inside) (suc (s .x))
+          (omega (arith, R .low-after, top-first (t .vars) (s .f0 .0) (s .g0 .0))))
+          (level-reduced t good (s .g0 .0) (R .low .g-inside) (suc (s .x))
+          (omega (arith, R .low-after, top-second (t .vars) (s .f0 .0) (s .g0 .0))))
 
       high-after : Reduced (suc (s .x)) 65 high
       high-after =
-          result-from t good op (s .f1 .0) (s .g1 .0) (R .high .f-inside) (R .high .g-inside) (R .high .allowed) (suc (s .x)) (omega arith) (omega (arith, R .most))
-          (level-reduced t good (s .f1 .0) (R .high .f-inside) (suc (s .x)) (omega (arith, R .high-after, top-first (t .vars) (s .f1 .0) (s .g1 .0))))
-          (level-reduced t good (s .g1 .0) (R .high .g-inside) (suc (s .x)) (omega (arith, R .high-after, top-second (t .vars) (s .f1 .0) (s .g1 .0))))
+          result-from t good op (s .f1 .0) (s .g1 .0) (R .high .f-inside) (R .high .g-inside) (R .high .allowed) (suc (s .x)) (omega arith)
+          (omega (arith, R .most))
+          (level-reduced t good (s .f1 .0) (R .high .f-inside) (suc (s .x))
+          (omega (arith, R .high-after, top-first (t .vars) (s .f1 .0) (s .g1 .0))))
+          (level-reduced t good (s .g1 .0) (R .high .g-inside) (suc (s .x))
+          (omega (arith, R .high-after, top-second (t .vars) (s .f1 .0) (s .g1 .0))))
 
       put-longer : Longer (o₂ .table) (o₃ .table)
       put-longer =
           longer (o₂ .table) _ o₃
-          (put-grown (o₂ .table) high-good (s .x) (o₁ .node) (o₂ .node) (R .least) (R .most) (omega (arith, low-grown .inside, high-grown .more)) (high-grown .inside)
-          (root-variable (nodesOf (o₂ .table)) (good-ordered (o₂ .table) high-good) (suc (s .x)) 65 (o₁ .node) (omega (arith, low-grown .inside, high-grown .more, length-nodes (o₂ .table) high-good))
+          (put-grown (o₂ .table) high-good (s .x) (o₁ .node) (o₂ .node) (R .least) (R .most)
+          (omega (arith, low-grown .inside, high-grown .more)) (high-grown .inside)
+          (root-variable (nodesOf (o₂ .table)) (good-ordered (o₂ .table) high-good) (suc (s .x)) 65 (o₁ .node)
+          (omega (arith, low-grown .inside, high-grown .more, length-nodes (o₂ .table) high-good))
           (subst (Reduced (suc (s .x)) 65) (sym (high-grown .kept (o₁ .node) (low-grown .inside) ∙ low-grown .is made₁)) low-after))
-          (root-variable (nodesOf (o₂ .table)) (good-ordered (o₂ .table) high-good) (suc (s .x)) 65 (o₂ .node) (omega (arith, high-grown .inside, length-nodes (o₂ .table) high-good))
+          (root-variable (nodesOf (o₂ .table)) (good-ordered (o₂ .table) high-good) (suc (s .x)) 65 (o₂ .node)
+          (omega (arith, high-grown .inside, length-nodes (o₂ .table) high-good))
           (subst (Reduced (suc (s .x)) 65) (sym (high-grown .is made₂)) high-after))
           o₃ e₃)
 

@@ -43,5 +43,6 @@ module _ (op : Operation) (memo : List ℕ) (t : Table) (ok : MemoRight op memo 
     where
       go : (f′ g′ r′ : ℕ) → ((f ≡ f′) × (g ≡ g′) × (r ≡ r′)) ⊎ Holds memo f′ g′ r′ → Right op t f′ g′ r′
       go f′ g′ r′ (inl d) =
-          subst (λ (k : ℕ). Right op t k g′ r′) (d .0) (subst (λ (k : ℕ). Right op t f k r′) (d .1) (subst (λ (k : ℕ). Right op t f g k) (d .2) R))
+          subst (λ (k : ℕ). Right op t k g′ r′) (d .0)
+          (subst (λ (k : ℕ). Right op t f k r′) (d .1) (subst (λ (k : ℕ). Right op t f g k) (d .2) R))
       go f′ g′ r′ (inr h) = ok .entries f′ g′ r′ h

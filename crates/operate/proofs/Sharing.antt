@@ -31,7 +31,8 @@ use Rattle.operate.proofs.Levels.{diagramOf, zero-is, level-least, leve
 
 -- what is asked of a cofactor by a diagram alone
 for-cofactor : (op : Operation) (shared : ℕ) (t u : Table) (f g a b : ℕ)
-    → (Sharing shared (diagramAt (nodesOf t) f) (diagramAt (nodesOf t) g) → Sharing shared (diagramAt (nodesOf u) a) (diagramAt (nodesOf u) b))
+    → (Sharing shared (diagramAt (nodesOf t) f) (diagramAt (nodesOf t) g) →
+    Sharing shared (diagramAt (nodesOf u) a) (diagramAt (nodesOf u) b))
     → Shared op shared t f g → Shared op shared u a b
 for-cofactor Conjunction shared t u f g a b k s = tt
 for-cofactor Negation shared t u f g a b k s = tt
@@ -67,13 +68,16 @@ module _ (op : Operation) (shared : ℕ) (t : Table) (f g : ℕ) where
   pub shared-side : (a b : ℕ) → SideOf t f g a b → Shared op shared t f g → Shared op shared t a b
   shared-side a b o =
       for-cofactor op shared t t f g a b
-      (λ s. sharing-same shared (side (o .variable) (o .which) (diagramAt (nodesOf t) f)) (side (o .variable) (o .which) (diagramAt (nodesOf t) g)) _ _ (o .first) (o .second)
+      (λ s. sharing-same shared (side (o .variable) (o .which) (diagramAt (nodesOf t) f))
+      (side (o .variable) (o .which) (diagramAt (nodesOf t) g)) _ _ (o .first) (o .second)
       (sharing-side shared (o .variable) (o .which) (diagramAt (nodesOf t) f) (diagramAt (nodesOf t) g) s))
 
   -- in a table that has grown
-  pub shared-kept : (u : Table) → diagramAt (nodesOf u) f ≡ diagramAt (nodesOf t) f → diagramAt (nodesOf u) g ≡ diagramAt (nodesOf t) g → Shared op shared t f g → Shared op shared u f g
+  pub shared-kept : (u : Table) → diagramAt (nodesOf u) f ≡ diagramAt (nodesOf t) f → diagramAt (nodesOf u) g ≡ diagramAt (nodesOf t) g →
+      Shared op shared t f g → Shared op shared u f g
   shared-kept u e q =
-      for-cofactor op shared t u f g f g (sharing-same shared (diagramAt (nodesOf t) f) (diagramAt (nodesOf t) g) (diagramAt (nodesOf u) f) (diagramAt (nodesOf u) g) (sym e) (sym q))
+      for-cofactor op shared t u f g f g (sharing-same shared (diagramAt (nodesOf t) f) (diagramAt (nodesOf t) g) (diagramAt (nodesOf u) f)
+      (diagramAt (nodesOf u) g) (sym e) (sym q))
 
 module _ (t : Table) (G : Good t) (f g : ℕ) (f-inside : f < t .count) (g-inside : g < t .count) where
   abbrev F : Diagram
@@ -93,7 +97,8 @@ module _ (t : Table) (G : Good t) (f g : ℕ) (f-inside : f < t .count) (g-insid
   all-shared Cofactor = record {
     first = inWord (allWord 64);
     second = λ v. true;
-    first-uses = uses-reduced (inWord (allWord 64)) 65 1 F (level-reduced t G f f-inside 1 (level-least t G f f-inside)) (λ v p q. in-all 64 v p (omega arith));
+    first-uses = uses-reduced (inWord (allWord 64)) 65 1 F (level-reduced t G f f-inside 1 (level-least t G f f-inside))
+        (λ v p q. in-all 64 v p (omega arith));
     second-forces = uses-forces (λ v. true) E (uses-reduced (λ v. true) 65 1 E E-reduced (λ v p q. refl));
     common = λ v p q. p;
   }
@@ -133,9 +138,11 @@ module _ (t : Table) (G : Good t) (f g : ℕ) (f-inside : f < t .count) (g-insid
       by-literals : Right (Literals (by .positive) (by .negative)) t f g f
       unfolding result
       by-literals =
-          right (Literals (by .positive) (by .negative)) (literals-before 64 x (inWord (by .positive)) (inWord (by .negative)) none F (variable-fits .0) F-reduced)
+          right (Literals (by .positive) (by .negative))
+          (literals-before 64 x (inWord (by .positive)) (inWord (by .negative)) none F (variable-fits .0) F-reduced)
 
-    pub beyond-right : (kind : Kind) (by : words.Literals) → Allowed (operationOf kind by) g → Shared (operationOf kind by) (by .positive) t f g → beyond kind by x ≡ true
+    pub beyond-right : (kind : Kind) (by : words.Literals) → Allowed (operationOf kind by) g →
+        Shared (operationOf kind by) (by .positive) t f g → beyond kind by x ≡ true
         → Right (operationOf kind by) t f g f
     beyond-right And by allowed s e = t≢f (sym e)
     beyond-right Not by allowed s e = t≢f (sym e)

@@ -27,7 +27,8 @@ use Rattle.operate.specs.declared.step.Descent.the-variants.{One, Both}
 use Rattle.meaning.specs.Words.{inWord}
 use Rattle.operate.specs.Operate.{result}
 use Rattle.operate.specs.Inner.{applied, joinedOf, Allowed, level, top, sidesOf, descentOf, Ready, SidesReady}
-use Rattle.operate.proofs.Levels.{top-first, top-second, top-both, top-is-first, diagramOf, is-zero, is-one, zero-is, one-is, level-constant, level-least, level-most, level-reduced, child, Child, child-of, own, node-is}
+use Rattle.operate.proofs.Levels.{top-first, top-second, top-both, top-is-first, diagramOf, is-zero, is-one, zero-is, one-is}
+use Rattle.operate.proofs.Levels.{level-constant, level-least, level-most, level-reduced, child, Child, child-of, own, node-is}
 use Rattle.operate.proofs.Sharing.{SideOf}
 
 negation-branch : (x : ℕ) (l h : Diagram) → Reduced 1 65 (node x l h) → negation 64 (node x l h) ≡ branch x (negation 64 l) (negation 64 h)
@@ -98,7 +99,8 @@ module _ (t : Table) (G : Good t) (f g : ℕ) (f-inside : f < t .count) (g-insid
     one : (b : Bool) → descentOf op (sides t f g) ≡ One (record { 0 = f-side b }) (record { 0 = g-side b }) → Allowed op (g-side b)
         → result op (D f) (D g) ≡ result op (D (f-side b)) (D (g-side b)) → Stepped op
     both : descentOf op (sides t f g) ≡ Both (sides t f g) → ((b : Bool) → Allowed op (g-side b))
-        → result op (D f) (D g) ≡ branch x (result op (D (f-side false)) (D (g-side false))) (result op (D (f-side true)) (D (g-side true))) → Stepped op
+        → result op (D f) (D g) ≡ branch x (result op (D (f-side false)) (D (g-side false))) (result op (D (f-side true)) (D (g-side true)))
+        → Stepped op
 
   stepped-cofactor : (g ≡ 0 → ⊥) → Stepped Cofactor
   unfolding descentOf sidesOf result
@@ -142,21 +144,26 @@ module _ (t : Table) (G : Good t) (f g : ℕ) (f-inside : f < t .count) (g-insid
       go : (a b : Bool) → inWord p x ≡ a → inWord n x ≡ b → Stepped (Literals p n)
       go true b q r =
           one true (rw q) (still-one e true)
-          (ap (cofactorLiterals 64 (inWord p) (inWord n)) (root e) ∙ literals-high 64 (inWord p) (inWord n) x (D (f-side false)) (D (f-side true)) top-least top-most q)
+          (ap (cofactorLiterals 64 (inWord p) (inWord n)) (root e) ∙ literals-high 64 (inWord p) (inWord n) x (D (f-side false))
+          (D (f-side true)) top-least top-most q)
       go false true q r =
           one false (rw (q, r)) (still-one e false)
-          (ap (cofactorLiterals 64 (inWord p) (inWord n)) (root e) ∙ literals-low 64 (inWord p) (inWord n) x (D (f-side false)) (D (f-side true)) top-least top-most q r)
+          (ap (cofactorLiterals 64 (inWord p) (inWord n)) (root e) ∙ literals-low 64 (inWord p) (inWord n) x (D (f-side false))
+          (D (f-side true)) top-least top-most q r)
       go false false q r =
           both (rw (q, r)) (still-one e)
-          (ap (cofactorLiterals 64 (inWord p) (inWord n)) (root e) ∙ literals-branch 64 (inWord p) (inWord n) x (D (f-side false)) (D (f-side true)) (root-reduced e) q r)
+          (ap (cofactorLiterals 64 (inWord p) (inWord n)) (root e) ∙ literals-branch 64 (inWord p) (inWord n) x (D (f-side false))
+          (D (f-side true)) (root-reduced e) q r)
 
   stepped : (op : Operation) → Allowed op g → Stepped op
   unfolding descentOf sidesOf result
   stepped Conjunction allowed =
       both refl (λ b. tt) (conjunction-branch 64 x (D f) (D g) top-least top-most f-reduced g-reduced
-      ∙ ap₂ (branch x) (ap₂ (conjunction 64) (f-child false .is) (g-child false .is)) (ap₂ (conjunction 64) (f-child true .is) (g-child true .is)))
+      ∙ ap₂ (branch x) (ap₂ (conjunction 64) (f-child false .is) (g-child false .is))
+      (ap₂ (conjunction 64) (f-child true .is) (g-child true .is)))
   stepped Negation allowed =
-      both refl (still-one allowed) (ap (negation 64) (root allowed) ∙ negation-branch x (D (f-side false)) (D (f-side true)) (root-reduced allowed))
+      both refl (still-one allowed) (ap (negation 64) (root allowed) ∙ negation-branch x (D (f-side false)) (D (f-side true))
+      (root-reduced allowed))
   stepped Cofactor allowed = stepped-cofactor allowed
   stepped (Literals p n) allowed = stepped-literals p n allowed
 

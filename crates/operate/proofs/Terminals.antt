@@ -8,7 +8,8 @@ use native.Mathlib.Decide.{ℕ-discrete}
 use borrow.Author.Tests.{eq-eqb, ne-eqb, lt-ltb, le-ltb}
 use Rattle.meaning.specs.Diagram.{Diagram, leaf, Reduced}
 use Rattle.meaning.specs.Operations.{conjunction, cofactor}
-use Rattle.meaning.proofs.PointwiseSteps.{negation-leaf, zero-conjunction, one-conjunction, conjunction-zero, conjunction-one, conjunction-same, literals-leaf}
+use Rattle.meaning.proofs.PointwiseSteps.{negation-leaf, zero-conjunction, one-conjunction, conjunction-zero, conjunction-one}
+use Rattle.meaning.proofs.PointwiseSteps.{conjunction-same, literals-leaf}
 use Rattle.meaning.proofs.CofactorSteps.{cofactor-leaf, cofactor-true, cofactor-self}
 use Rattle.table.specs.declared.Found.{Found}
 use Rattle.table.specs.declared.Found.the-variants.{At, Nothing}
@@ -65,16 +66,21 @@ module _ (t : Table) (G : Good t) (f g : ℕ) (f-inside : f < t .count) (g-insid
     where
       go : Dec (f ≡ 0) → Dec (g ≡ 0) → Dec (f ≡ 1) → Dec (g ≡ 1) → Dec (f ≡ g) → Told Conjunction t f g
       go (yes a) b c d e =
-          known 0 (rw (eq-eqb f 0 a)) (right Conjunction 0 (omega (arith, two-there)) (is-zero t G 0 refl ∙ sym (rw (is-zero t G f a) (zero-conjunction 64 E))))
+          known 0 (rw (eq-eqb f 0 a)) (right Conjunction 0 (omega (arith, two-there))
+          (is-zero t G 0 refl ∙ sym (rw (is-zero t G f a) (zero-conjunction 64 E))))
       go (no a) (yes b) c d e =
-          known 0 (rw (ne-eqb f 0 a, eq-eqb g 0 b)) (right Conjunction 0 (omega (arith, two-there)) (is-zero t G 0 refl ∙ sym (rw (is-zero t G g b) (conjunction-zero 64 F))))
+          known 0 (rw (ne-eqb f 0 a, eq-eqb g 0 b))
+          (right Conjunction 0 (omega (arith, two-there)) (is-zero t G 0 refl ∙ sym (rw (is-zero t G g b) (conjunction-zero 64 F))))
       go (no a) (no b) (yes c) d e =
-          known g (rw (ne-eqb f 0 a, ne-eqb g 0 b, eq-eqb f 1 c)) (right Conjunction g g-inside (sym (rw (is-one t G f c) (one-conjunction 64 E E-reduced))))
+          known g (rw (ne-eqb f 0 a, ne-eqb g 0 b, eq-eqb f 1 c))
+          (right Conjunction g g-inside (sym (rw (is-one t G f c) (one-conjunction 64 E E-reduced))))
       go (no a) (no b) (no c) (yes d) e =
-          known f (rw (ne-eqb f 0 a, ne-eqb g 0 b, ne-eqb f 1 c, eq-eqb g 1 d)) (right Conjunction f f-inside (sym (rw (is-one t G g d) (conjunction-one 64 F F-reduced))))
+          known f (rw (ne-eqb f 0 a, ne-eqb g 0 b, ne-eqb f 1 c, eq-eqb g 1 d))
+          (right Conjunction f f-inside (sym (rw (is-one t G g d) (conjunction-one 64 F F-reduced))))
       go (no a) (no b) (no c) (no d) (yes e) =
           known f (rw (ne-eqb f 0 a, ne-eqb g 0 b, ne-eqb f 1 c, ne-eqb g 1 d, eq-eqb f g e))
-          (right Conjunction f f-inside (sym (ap (λ (k : ℕ). conjunction 64 F (diagramOf t G k)) (sym e) ∙ conjunction-same 64 F F-reduced)))
+          (right Conjunction f f-inside (sym (ap (λ (k : ℕ). conjunction 64 F (diagramOf t G k)) (sym e)
+          ∙ conjunction-same 64 F F-reduced)))
       go (no a) (no b) (no c) (no d) (no e) =
           unknown (rw (ne-eqb f 0 a, ne-eqb g 0 b, ne-eqb f 1 c, ne-eqb g 1 d, ne-eqb f g e)) (from-two f a c)
 
@@ -84,9 +90,11 @@ module _ (t : Table) (G : Good t) (f g : ℕ) (f-inside : f < t .count) (g-insid
     where
       go : Dec (f ≡ 0) → Dec (f ≡ 1) → Told Negation t f g
       go (yes a) b =
-          known 1 (rw (eq-eqb f 0 a)) (right Negation 1 (omega (arith, two-there)) (is-one t G 1 refl ∙ sym (rw (is-zero t G f a) (negation-leaf 64 false))))
+          known 1 (rw (eq-eqb f 0 a)) (right Negation 1 (omega (arith, two-there))
+          (is-one t G 1 refl ∙ sym (rw (is-zero t G f a) (negation-leaf 64 false))))
       go (no a) (yes b) =
-          known 0 (rw (ne-eqb f 0 a, eq-eqb f 1 b)) (right Negation 0 (omega (arith, two-there)) (is-zero t G 0 refl ∙ sym (rw (is-one t G f b) (negation-leaf 64 true))))
+          known 0 (rw (ne-eqb f 0 a, eq-eqb f 1 b))
+          (right Negation 0 (omega (arith, two-there)) (is-zero t G 0 refl ∙ sym (rw (is-one t G f b) (negation-leaf 64 true))))
       go (no a) (no b) = unknown (rw (ne-eqb f 0 a, ne-eqb f 1 b)) (from-two f a b)
 
   told-cofactor : (g ≡ 0 → ⊥) → Told Cofactor t f g
@@ -100,11 +108,13 @@ module _ (t : Table) (G : Good t) (f g : ℕ) (f-inside : f < t .count) (g-insid
       go (yes a) b c d = constant false (omega arith) (is-zero t G f a)
       go (no a) (yes b) c d = constant true (omega arith) (is-one t G f b)
       go (no a) (no b) (yes c) d =
-          known f (rw (le-ltb f 2 (from-two f a b), eq-eqb g 1 c)) (right Cofactor f f-inside (sym (rw (is-one t G g c) (cofactor-true 64 F F-reduced))))
+          known f (rw (le-ltb f 2 (from-two f a b), eq-eqb g 1 c))
+          (right Cofactor f f-inside (sym (rw (is-one t G g c) (cofactor-true 64 F F-reduced))))
       go (no a) (no b) (no c) (yes d) =
           known 1 (rw (le-ltb f 2 (from-two f a b), ne-eqb g 1 c, eq-eqb f g d))
           (right Cofactor 1 (omega (arith, two-there))
-          (is-one t G 1 refl ∙ sym (ap (λ (k : ℕ). cofactor 64 F (diagramOf t G k)) (sym d) ∙ cofactor-self 64 F F-reduced (λ z. a (zero-is t G f f-inside z)))))
+          (is-one t G 1 refl ∙ sym (ap (λ (k : ℕ). cofactor 64 F (diagramOf t G k)) (sym d)
+          ∙ cofactor-self 64 F F-reduced (λ z. a (zero-is t G f f-inside z)))))
       go (no a) (no b) (no c) (no d) = unknown (rw (le-ltb f 2 (from-two f a b), ne-eqb g 1 c, ne-eqb f g d)) (from-two f a b)
 
   told-literals : (p n : ℕ) → Told (Literals p n) t f g
@@ -112,7 +122,8 @@ module _ (t : Table) (G : Good t) (f g : ℕ) (f-inside : f < t .count) (g-insid
   told-literals p n = go (ℕ-discrete f 0) (ℕ-discrete f 1)
     where
       constant : (b : Bool) → f < 2 → F ≡ leaf b → Told (Literals p n) t f g
-      constant b q e = known f (rw (lt-ltb f 2 q)) (right (Literals p n) f f-inside (e ∙ sym (rw e (literals-leaf 64 (inWord p) (inWord n) b))))
+      constant b q e = known f (rw (lt-ltb f 2 q))
+          (right (Literals p n) f f-inside (e ∙ sym (rw e (literals-leaf 64 (inWord p) (inWord n) b))))
 
       go : Dec (f ≡ 0) → Dec (f ≡ 1) → Told (Literals p n) t f g
       go (yes a) b = constant false (omega arith) (is-zero t G f a)

@@ -1,4 +1,5 @@
--- The paths are found one after another: the first, and each next one from the words of the one before it; their number is `pathCount`. The idea:
+-- The paths are found one after another: the first, and each next one from the words of the one before it; their number is `pathCount`. The
+-- idea:
 -- by the diagram's cases; a node's paths are those of its low side and then those of its high side. Assumes nothing.
 use mathlib.Core.Path.{_≡_, refl, sym, ap, ap₂, _∙_, subst}
 use mathlib.Core.Logic.{_≢_}
@@ -44,13 +45,15 @@ nth [] j u other = other
 nth (c ∷ cs) zero u other = found true (withAll u c)
 nth (c ∷ cs) (suc j) u other = nth cs j u other
 
-nth-map : (v : ℕ) (s : Bool) (cs : List (List Literal)) (j : ℕ) (u : Literals) (other : NextPath) → nth (map (_∷_ (literal v s)) cs) j u other ≡ nth cs j (withLiteral u v s) other
+nth-map : (v : ℕ) (s : Bool) (cs : List (List Literal)) (j : ℕ) (u : Literals) (other : NextPath) →
+    nth (map (_∷_ (literal v s)) cs) j u other ≡ nth cs j (withLiteral u v s) other
 unfolding nth withAll
 nth-map v s [] j u other = refl
 nth-map v s (c ∷ cs) zero u other = refl
 nth-map v s (c ∷ cs) (suc j) u other = nth-map v s cs j u other
 
-nth-append : (cs ds : List (List Literal)) (j : ℕ) (u : Literals) (other : NextPath) → nth (cs ++ ds) j u other ≡ nth cs j u (nth ds (j - length cs) u other)
+nth-append : (cs ds : List (List Literal)) (j : ℕ) (u : Literals) (other : NextPath) → nth (cs ++ ds) j u other
+    ≡ nth cs j u (nth ds (j - length cs) u other)
 unfolding nth
 nth-append [] ds j u other = let z : j ≡ j - 0 = omega arith in ap (λ (k : ℕ). nth ds k u other) z
 nth-append (c ∷ cs) ds zero u other = refl
@@ -64,7 +67,8 @@ nth-past [] j u other p = refl
 nth-past (c ∷ cs) zero u other p = absurd (omega arith)
 nth-past (c ∷ cs) (suc j) u other p = nth-past cs j u other (omega arith)
 
-pub nth-there : (cs : List (List Literal)) (j : ℕ) (u : Literals) (other : NextPath) → j < length cs → nth cs j u other ≡ found true (withAll u (getD cs j []))
+pub nth-there : (cs : List (List Literal)) (j : ℕ) (u : Literals) (other : NextPath) → j < length cs → nth cs j u other
+    ≡ found true (withAll u (getD cs j []))
 unfolding nth
 nth-there [] j u other p = absurd (omega arith)
 nth-there (c ∷ cs) zero u other p = refl
@@ -82,7 +86,8 @@ one-alike (leaf true) (node v l h) p q = t≢f (sym q)
 one-alike (leaf false) h p q = t≢f (sym p)
 one-alike (node v l r) h p q = t≢f (sym p)
 
-pub first-is : (i e : ℕ) (g : Diagram) → Reduced i e g → (u : Literals) (other : NextPath) → nth (paths g) 0 u other ≡ cond (isOne g) other (found true (firstFrom g u))
+pub first-is : (i e : ℕ) (g : Diagram) → Reduced i e g → (u : Literals) (other : NextPath) → nth (paths g) 0 u other
+    ≡ cond (isOne g) other (found true (firstFrom g u))
 unfolding paths nth firstFrom withAll
 first-is i e (leaf true) o u other = refl
 first-is i e (leaf false) o u other = refl
@@ -92,7 +97,8 @@ first-is i e (node v l h) o u other =
     ∙ ap (λ (k : ℕ). nth (map (_∷_ (literal v false)) (paths l)) 0 u (nth (map (_∷_ (literal v true)) (paths h)) k u other)) z
     ∙ nth-map v false (paths l) 0 u (nth (map (_∷_ (literal v true)) (paths h)) 0 u other)
     ∙ first-is (suc v) e l (o .3) (withLiteral u v false) (nth (map (_∷_ (literal v true)) (paths h)) 0 u other)
-    ∙ ap (λ (x : NextPath). cond (isOne l) x (found true (firstFrom l (withLiteral u v false)))) (nth-map v true (paths h) 0 u other ∙ first-is (suc v) e h (o .4) (withLiteral u v true) other)
+    ∙ ap (λ (x : NextPath). cond (isOne l) x (found true (firstFrom l (withLiteral u v false))))
+    (nth-map v true (paths h) 0 u other ∙ first-is (suc v) e h (o .4) (withLiteral u v true) other)
     ∙ go (isOne l) refl (isOne h) refl
   where
     go : (a : Bool) → isOne l ≡ a → (b : Bool) → isOne h ≡ b
@@ -141,7 +147,8 @@ module _ (v : ℕ) (l h : Diagram) (j : ℕ) where
 
   through : {A : Type 0} → j < length (paths (node v l h))
       → (j < length (paths l) → getD (paths (node v l h)) j [] ≡ literal v false ∷ getD (paths l) j [] → A)
-      → (length (paths l) ≤ j → j - length (paths l) < length (paths h) → getD (paths (node v l h)) j [] ≡ literal v true ∷ getD (paths h) (j - length (paths l)) [] → A)
+      → (length (paths l) ≤ j → j - length (paths l) < length (paths h) → getD (paths (node v l h)) j [] ≡ literal v true ∷
+      getD (paths h) (j - length (paths l)) [] → A)
       → A
   unfolding paths
   through {A} p low high = go (decLt j (length (paths l)))
@@ -151,9 +158,11 @@ module _ (v : ℕ) (l h : Diagram) (j : ℕ) where
       go (no q) =
           let inside : j - length (paths l) < length (paths h) = omega (arith, p, length-append lows highs, low-length, high-length) in
           high (omega arith) inside
-          (getD-right lows highs j (omega (arith, low-length)) ∙ ap (λ (k : ℕ). getD highs (j - k) []) low-length ∙ getD-map (literal v true) (paths h) (j - length (paths l)) inside)
+          (getD-right lows highs j (omega (arith, low-length)) ∙ ap (λ (k : ℕ). getD highs (j - k) []) low-length
+          ∙ getD-map (literal v true) (paths h) (j - length (paths l)) inside)
 
-pub after-is : (i e : ℕ) (g : Diagram) → Reduced i e g → (j : ℕ) → j < length (paths g) → (word : ℕ) → Along word (getD (paths g) j []) → (u : Literals) (other : NextPath)
+pub after-is : (i e : ℕ) (g : Diagram) → Reduced i e g → (j : ℕ) → j < length (paths g) → (word : ℕ) → Along word (getD (paths g) j []) →
+    (u : Literals) (other : NextPath)
     → afterFrom g word u other ≡ nth (paths g) (suc j) u other
 unfolding paths nth afterFrom
 after-is i e (leaf true) o j p word a u other = refl
@@ -165,7 +174,8 @@ after-is i e (node v l h) o j p word a u other =
     let z : suc j - length (lows v l h j) ≡ 0 = omega (arith, low-length v l h j) in
     ap (λ (x : Bool). cond x (afterFrom h word (withLiteral u v true) other) (afterFrom l word (withLiteral u v false) turned)) (b .0)
     ∙ after-is (suc v) e l (o .3) j q word (b .1) (withLiteral u v false) turned
-    ∙ ap (nth (paths l) (suc j) (withLiteral u v false)) (sym (first-is (suc v) e h (o .4) (withLiteral u v true) other) ∙ sym (nth-map v true (paths h) 0 u other))
+    ∙ ap (nth (paths l) (suc j) (withLiteral u v false))
+    (sym (first-is (suc v) e h (o .4) (withLiteral u v true) other) ∙ sym (nth-map v true (paths h) 0 u other))
     ∙ sym (nth-map v false (paths l) (suc j) u (nth (highs v l h j) 0 u other))
     ∙ ap (λ (k : ℕ). nth (lows v l h j) (suc j) u (nth (highs v l h j) k u other)) (sym z)
     ∙ sym (nth-append (lows v l h j) (highs v l h j) (suc j) u other))
@@ -176,7 +186,8 @@ after-is i e (node v l h) o j p word a u other =
     ∙ after-is (suc v) e h (o .4) (j - length (paths l)) q word (b .1) (withLiteral u v true) other
     ∙ sym (nth-map v true (paths h) (suc (j - length (paths l))) u other)
     ∙ ap (λ (k : ℕ). nth (highs v l h j) k u other) (sym z)
-    ∙ sym (nth-past (lows v l h j) (suc j) u (nth (highs v l h j) (suc j - length (lows v l h j)) u other) (omega (arith, low-length v l h j)))
+    ∙ sym (nth-past (lows v l h j) (suc j) u (nth (highs v l h j) (suc j - length (lows v l h j)) u other)
+    (omega (arith, low-length v l h j)))
     ∙ sym (nth-append (lows v l h j) (highs v l h j) (suc j) u other))
   where
     turned : NextPath
@@ -205,15 +216,22 @@ rises-within i (l ∷ c) one r = (omega (arith, r .0), omega (arith, r .1), rise
 rises-above : (i e : ℕ) (c : List Literal) → Rises i e c → (v : ℕ) (s : Bool) → v < i → occurs c v s ≡ false
 unfolding occurs
 rises-above i e [] r v s p = refl
-rises-above i e (l ∷ c) r v s p = rw (ne-eqb (l .variable) v (λ q. omega (arith, r .0)), rises-above (suc (l .variable)) e c (r .2) v s (omega (arith, r .0)))
+rises-above i e (l ∷ c) r v s p = rw (
+  ne-eqb (l .variable) v (λ q. omega (arith, r .0)),
+  rises-above (suc (l .variable)) e c (r .2) v s (omega (arith, r .0)),
+)
 
 -- what the path has of each variable, told by the word from some variable on
 along-occurs : (word i e : ℕ) (c : List Literal) → Rises i e c → ((v : ℕ) → i ≤ v → inWord word v ≡ occurs c v true) → Along word c
 unfolding occurs
 along-occurs word i e [] r told = tt
 along-occurs word i e (l ∷ c) r told = (
-  told (l .variable) (r .0) ∙ rw (eq-eqb (l .variable) (l .variable) refl, rises-above (suc (l .variable)) e c (r .2) (l .variable) true (omega arith)) (only (l .positive)),
-  along-occurs word (suc (l .variable)) e c (r .2) (λ v p. told v (omega (arith, r .0)) ∙ rw (ne-eqb (l .variable) v (λ q. omega (arith, p)))),
+  told (l .variable) (r .0) ∙ rw (
+    eq-eqb (l .variable) (l .variable) refl,
+    rises-above (suc (l .variable)) e c (r .2) (l .variable) true (omega arith),
+  ) (only (l .positive)),
+  along-occurs word (suc (l .variable)) e c (r .2)
+      (λ v p. told v (omega (arith, r .0)) ∙ rw (ne-eqb (l .variable) v (λ q. omega (arith, p)))),
 )
   where
     only : (s : Bool) → (Bool·beq s true || false) ≡ s
@@ -235,6 +253,7 @@ pub by-words : (c : List Literal) → Rises 1 65 c → (ms : List Diagram)
 unfolding hasWord
 by-words c r [] = refl
 by-words c r (f ∷ fs) =
-    ap₂ _∷_ (literals-cong 64 (makesTrue c) (makesFalse c) (inWord (literalsOf c .positive)) (inWord (literalsOf c .negative)) f (λ v p q. has-occurs c v true ∙ sym (in-set 64 c v true (rises-within 1 c (omega arith) r) p))
+    ap₂ _∷_ (literals-cong 64 (makesTrue c) (makesFalse c) (inWord (literalsOf c .positive)) (inWord (literalsOf c .negative)) f
+    (λ v p q. has-occurs c v true ∙ sym (in-set 64 c v true (rises-within 1 c (omega arith) r) p))
     (λ v p q. has-occurs c v false ∙ sym (in-set 64 c v false (rises-within 1 c (omega arith) r) p)))
     (by-words c r fs)

@@ -1,4 +1,5 @@
--- What the walks over a table's nodes read, in terms of diagrams: a node and its sides, how many paths, where a diagram is 1. Assumes nothing.
+-- What the walks over a table's nodes read, in terms of diagrams: a node and its sides, how many paths, where a diagram is 1. Assumes
+-- nothing.
 use mathlib.Core.Path.{_≡_, refl}
 use mathlib.Core.Bool.{true, false, cond}
 use mathlib.Core.List.{List}
@@ -27,7 +28,10 @@ pub branch-is : (vs ls hs : List ℕ) (count : ℕ) → Readable vs ls hs count 
 branch-is vs ls hs count R k two inside =
     let H : Here vs ls hs count k = here vs ls hs count R k two inside in
     record {
-      is = rw (diagramAt-node (nodesIn vs ls hs count) (ordered-in vs ls hs count R) k two (omega (arith, length-in vs ls hs count R)), node-in vs ls hs count R k inside);
+      is = rw (
+        diagramAt-node (nodesIn vs ls hs count) (ordered-in vs ls hs count R) k two (omega (arith, length-in vs ls hs count R)),
+        node-in vs ls hs count R k inside,
+      );
       least = H .least;
       most = H .most;
       low-less = H .low-less;
@@ -44,7 +48,8 @@ pub count-one : (t : List Node) (k : ℕ) → k ≡ 1 → pathCount (diagramAt t
 unfolding pathCount
 count-one t k e = rw (e, diagramAt-one t)
 
-pub count-branch : (t : List Node) (k : ℕ) (r : Branch) → BranchAt t k r → pathCount (diagramAt t k) ≡ pathCount (diagramAt t (r .low .0)) + pathCount (diagramAt t (r .high .0))
+pub count-branch : (t : List Node) (k : ℕ) (r : Branch) → BranchAt t k r → pathCount (diagramAt t k)
+    ≡ pathCount (diagramAt t (r .low .0)) + pathCount (diagramAt t (r .high .0))
 unfolding pathCount
 count-branch t k r B = rw (B .is)
 
@@ -68,7 +73,8 @@ first-leaf t (suc (suc k)) u p = absurd (omega arith)
 
 pub first-branch : (t : List Node) (k : ℕ) (r : Branch) (u : Literals) → BranchAt t k r
     → firstFrom (diagramAt t k) u
-    ≡ cond (isOne (diagramAt t (r .low .0))) (firstFrom (diagramAt t (r .high .0)) (withLiteral u (r .variable) true)) (firstFrom (diagramAt t (r .low .0)) (withLiteral u (r .variable) false))
+    ≡ cond (isOne (diagramAt t (r .low .0))) (firstFrom (diagramAt t (r .high .0)) (withLiteral u (r .variable) true))
+    (firstFrom (diagramAt t (r .low .0)) (withLiteral u (r .variable) false))
 unfolding firstFrom
 first-branch t k r u B = rw (B .is)
 
@@ -85,15 +91,18 @@ module _ (t : List Node) (k word : ℕ) (r : Branch) (u : Literals) (other : Nex
   abbrev high : Diagram
   high = diagramAt t (r .high .0)
 
-  pub after-high : inWord word (r .variable) ≡ true → afterFrom (diagramAt t k) word u other ≡ afterFrom high word (withLiteral u (r .variable) true) other
+  pub after-high : inWord word (r .variable) ≡ true → afterFrom (diagramAt t k) word u other
+      ≡ afterFrom high word (withLiteral u (r .variable) true) other
   unfolding afterFrom
   after-high e = rw (B .is, e)
 
-  pub after-low : inWord word (r .variable) ≡ false → isOne high ≡ true → afterFrom (diagramAt t k) word u other ≡ afterFrom low word (withLiteral u (r .variable) false) other
+  pub after-low : inWord word (r .variable) ≡ false → isOne high ≡ true → afterFrom (diagramAt t k) word u other
+      ≡ afterFrom low word (withLiteral u (r .variable) false) other
   unfolding afterFrom
   after-low e one = rw (B .is, e, one)
 
   pub after-fork : inWord word (r .variable) ≡ false → isOne high ≡ false
-      → afterFrom (diagramAt t k) word u other ≡ afterFrom low word (withLiteral u (r .variable) false) (found true (firstFrom high (withLiteral u (r .variable) true)))
+      → afterFrom (diagramAt t k) word u other ≡ afterFrom low word (withLiteral u (r .variable) false)
+      (found true (firstFrom high (withLiteral u (r .variable) true)))
   unfolding afterFrom
   after-fork e one = rw (B .is, e, one)

@@ -18,8 +18,8 @@ paths (node v l h) = map (_∷_ (literal v false)) (paths l) ++ map (_∷_ (lite
 abbrev pub byPath : ℕ → List Literal → List Diagram → List Diagram
 byPath n c ms = map (cofactorLiterals n (makesTrue c) (makesFalse c)) ms
 
--- The turns of the paths listed: "for each path [..] UnitProp of the live members cofactored by c must conflict"; "nodes are dropped between
--- them; rounds are summed".
+-- The turns of the paths listed: "for each path [..] UnitProp of the live members cofactored by c must conflict"; "nodes are dropped
+-- between them; rounds are summed".
 unfoldable pub pathTurns : ℕ → List Diagram → List (List Literal) → Line
 unfolding has cofactorLiterals unitProp afterTurn
 pathTurns n ms [] = record { shown = true; rounds = 0; kept = []; turns = [] }

@@ -1,5 +1,5 @@
--- What is judged of a command in the consequence profile, as the code has it: no PR record, and of a clause its first try alone. (02, 11/14)
--- No call open to others cites this file.
+-- What is judged of a command in the consequence profile, as the code has it: no PR record, and of a clause its first try alone. (02,
+-- 11/14) No call open to others cites this file.
 use mathlib.Core.Bool.{Bool, cond}
 use Rattle.commands.specs.declared.Pivot.the-variants.{Nothing}
 use Rattle.commands.specs.declared.DratClause.{DratClause}

@@ -33,26 +33,43 @@ use Rattle.unit_search.specs.Units.{Unitless, UnitsAsked}
 -- ---- the first look: all members are asked
 
 pub asked-all : (t : List Node) (list : List ℕ) → Asked t list list true
-asked-all t list = record { listed = listed-here list; whole = λ _. listed-here list; zero = λ l. l; pairs = λ i j p q e. inl (listed-here list i p) }
+asked-all t list = record {
+  listed = listed-here list;
+  whole = λ _. listed-here list;
+  zero = λ l. l;
+  pairs =
+      λ i j p q e. inl (listed-here list i p);
+}
 
 pub units-all : (ms : List Diagram) → UnitsAsked ms [] 0
-units-all ms = (omega arith, record { inside = λ k p. absurd (omega arith); rising = λ k p. absurd (omega arith); others = λ k j p b q z. absurd (omega arith) })
+units-all ms = (
+  omega arith,
+  record {
+    inside = λ k p. absurd (omega arith);
+    rising = λ k p. absurd (omega arith);
+    others =
+        λ k j p b q z. absurd (omega arith);
+  },
+)
 
 -- ---- after a round
 
 module _ (T : Table) (list memo words : List ℕ) (R : ListReady T list memo) (S : Supports (nodesOf T) list words) (u : sets.Literals)
     (places : List ℕ) (B : AllBut (length list) places (Untouched words (bitOr (u .positive) (u .negative))))
-    (T′ : Table) (list′ : List ℕ) (A : AllMade T (results (Literals (u .positive) (u .negative)) T list 1) false T′ list′) (len′ : length list′ ≡ length list) where
+    (T′ : Table) (list′ : List ℕ) (A : AllMade T (results (Literals (u .positive) (u .negative)) T list 1) false T′ list′)
+    (len′ : length list′ ≡ length list) where
   touching : ℕ
   touching = bitOr (u .positive) (u .negative)
 
-  unchanged : (i : ℕ) → i < length list → Untouched words touching i → diagramAt (nodesOf T′) (getD list′ i 0) ≡ diagramAt (nodesOf T) (getD list i 0)
+  unchanged : (i : ℕ) → i < length list → Untouched words touching i → diagramAt (nodesOf T′) (getD list′ i 0)
+      ≡ diagramAt (nodesOf T) (getD list i 0)
   unfolding Supports touching
   unchanged i p e =
       sym (getD-map (diagramAt (nodesOf T′)) list′ i 0 (leaf false) (omega arith))
       ∙ ap (λ (ms : List Diagram). getD ms i (leaf false)) (A .are refl)
       ∙ result-at (Literals (u .positive) (u .negative)) 1 T list memo R (omega (arith, R .good .least)) i p
-      ∙ stays T (R .good) (getD list i 0) 1 (R .inside i p) (omega (arith, R .good .least)) (getD words i 0) touching (S i p) (Literals (u .positive) (u .negative)) refl refl
+      ∙ stays T (R .good) (getD list i 0) 1 (R .inside i p) (omega (arith, R .good .least)) (getD words i 0) touching (S i p)
+      (Literals (u .positive) (u .negative)) refl refl
       (words-apart (getD words i 0) touching e)
 
   -- a member is at a place, and its node among those there, or it is unchanged
@@ -67,7 +84,8 @@ module _ (T : Table) (list memo words : List ℕ) (R : ListReady T list memo) (S
   unfolding nodes touching
   there-or i p = go (place-or (length list) places (Untouched words touching) B i p)
     where
-      go : ((k : ℕ) × (k < length places) × (getD places k 0 ≡ i)) ⊎ Untouched words touching i → (isListed nodes (getD list′ i 0) ≡ true) ⊎ Untouched words touching i
+      go : ((k : ℕ) × (k < length places) × (getD places k 0 ≡ i)) ⊎ Untouched words touching i →
+          (isListed nodes (getD list′ i 0) ≡ true) ⊎ Untouched words touching i
       go (inl m) =
           inl (ap (isListed nodes) (sym (node-at (m .0) (m .1) ∙ ap (λ (j : ℕ). getD list′ j 0) (m .2)))
           ∙ listed-here nodes (m .0) (omega (arith, m .1, length-map places (λ i. getD list′ i 0))))
@@ -82,7 +100,8 @@ module _ (T : Table) (list memo words : List ℕ) (R : ListReady T list memo) (S
     whole = λ z. t≢f (sym z);
     zero = λ l. zero-there (listed-at list′ 0 l);
     pairs = λ i j p q e. one (there-or i (omega arith)) (there-or j (omega arith)) (λ x y.
-        no-conflict (nodesOf T) list c i j (omega arith) (omega arith) (sym (unchanged j (omega arith) y) ∙ e ∙ ap (negation 64) (unchanged i (omega arith) x)));
+        no-conflict (nodesOf T) list c i j (omega arith) (omega arith)
+        (sym (unchanged j (omega arith) y) ∙ e ∙ ap (negation 64) (unchanged i (omega arith) x)));
   }
     where
       zero-there : ((i : ℕ) × (i < length list′) × (getD list′ i 0 ≡ 0)) → isListed nodes 0 ≡ true
@@ -100,12 +119,14 @@ module _ (T : Table) (list memo words : List ℕ) (R : ListReady T list memo) (S
       one (inr x) (inr y) no-both = absurd (no-both x y)
 
   -- a member that the round did not change has the units that it had
-  pub units-next : (place : ℕ) → place ≤ length list → Unitless (diagramsOf (nodesOf T) list) place → UnitsAsked (diagramsOf (nodesOf T′) list′) places place
+  pub units-next : (place : ℕ) → place ≤ length list → Unitless (diagramsOf (nodesOf T) list) place →
+      UnitsAsked (diagramsOf (nodesOf T′) list′) places place
   unfolding touching
   units-next place p U = (
     omega (arith, same),
     rw same (but-so (length list) places (Untouched words touching) _ B (λ j q x z.
-        ap (hasUnit 64 64) (getD-map (diagramAt (nodesOf T′)) list′ j 0 (leaf false) (omega arith) ∙ unchanged j q x ∙ sym (getD-map (diagramAt (nodesOf T)) list j 0 (leaf false) q)) ∙ U j z)),
+        ap (hasUnit 64 64) (getD-map (diagramAt (nodesOf T′)) list′ j 0 (leaf false) (omega arith) ∙ unchanged j q x
+        ∙ sym (getD-map (diagramAt (nodesOf T)) list j 0 (leaf false) q)) ∙ U j z)),
   )
     where
       same : length (diagramsOf (nodesOf T′) list′) ≡ length list

@@ -35,17 +35,21 @@ use Rattle.table.proofs.Extended.{extended-same, extended-trans}
 module _ (most n : ℕ) (ms : List Diagram) where
   propagate-conflict : conflicts n ms ≡ true → propagate (suc most) n ms ≡ still true
   unfolding propagate
-  propagate-conflict c = ap (λ (b : Bool). cond b (still true) (taking (firstWithUnit n ms) (λ u. round (byUnits n u ms) (propagate most n (byUnits n u ms))))) c
+  propagate-conflict c = ap (λ (b : Bool). cond b (still true)
+      (taking (firstWithUnit n ms) (λ u. round (byUnits n u ms) (propagate most n (byUnits n u ms))))) c
 
   propagate-none : conflicts n ms ≡ false → firstWithUnit n ms ≡ none → propagate (suc most) n ms ≡ still false
   unfolding propagate
   propagate-none c e =
-      ap₂ (λ (b : Bool) (x : Option Diagram). cond b (still true) (taking x (λ u. round (byUnits n u ms) (propagate most n (byUnits n u ms))))) c e
+      ap₂ (λ (b : Bool) (x : Option Diagram). cond b (still true)
+      (taking x (λ u. round (byUnits n u ms) (propagate most n (byUnits n u ms))))) c e
 
-  propagate-round : (u : Diagram) → conflicts n ms ≡ false → firstWithUnit n ms ≡ some u → propagate (suc most) n ms ≡ round (byUnits n u ms) (propagate most n (byUnits n u ms))
+  propagate-round : (u : Diagram) → conflicts n ms ≡ false → firstWithUnit n ms ≡ some u → propagate (suc most) n ms
+      ≡ round (byUnits n u ms) (propagate most n (byUnits n u ms))
   unfolding propagate
   propagate-round u c e =
-      ap₂ (λ (b : Bool) (x : Option Diagram). cond b (still true) (taking x (λ u. round (byUnits n u ms) (propagate most n (byUnits n u ms))))) c e
+      ap₂ (λ (b : Bool) (x : Option Diagram). cond b (still true)
+      (taking x (λ u. round (byUnits n u ms) (propagate most n (byUnits n u ms))))) c e
 
 propagate-last : (n : ℕ) (ms : List Diagram) → propagate zero n ms ≡ still (conflicts n ms)
 unfolding propagate
@@ -79,7 +83,8 @@ literals-result : (p n : ℕ) (f g : Diagram) → result (Literals p n) f g ≡ 
 unfolding result
 literals-result p n f g = refl
 
-byUnits-is : (n : ℕ) (u : Diagram) (ms : List Diagram) → byUnits n u ms ≡ map (cofactorLiterals n (λ v. isUnit n u v true) (λ v. isUnit n u v false)) ms
+byUnits-is : (n : ℕ) (u : Diagram) (ms : List Diagram) → byUnits n u ms
+    ≡ map (cofactorLiterals n (λ v. isUnit n u v true) (λ v. isUnit n u v false)) ms
 unfolding byUnits
 byUnits-is n u ms = refl
 
@@ -87,9 +92,11 @@ units-made : (T : Table) (list : List ℕ) (u : words.Literals) (K : UnitsTaken 
     → results (Literals (u .positive) (u .negative)) T list 1 ≡ byUnits 64 (K .member) (diagramsOf (nodesOf T) list)
 unfolding has
 units-made T list u K =
-    map-cong (λ f. result (Literals (u .positive) (u .negative)) f (diagramAt (nodesOf T) 1)) (cofactorLiterals 64 (λ v. isUnit 64 (K .member) v true) (λ v. isUnit 64 (K .member) v false)) (diagramsOf (nodesOf T) list)
+    map-cong (λ f. result (Literals (u .positive) (u .negative)) f (diagramAt (nodesOf T) 1))
+    (cofactorLiterals 64 (λ v. isUnit 64 (K .member) v true) (λ v. isUnit 64 (K .member) v false)) (diagramsOf (nodesOf T) list)
     (λ f. literals-result (u .positive) (u .negative) f (diagramAt (nodesOf T) 1)
-    ∙ literals-cong 64 (inWord (u .positive)) (inWord (u .negative)) (λ v. isUnit 64 (K .member) v true) (λ v. isUnit 64 (K .member) v false) f (λ v. K .holds v true) (λ v. K .holds v false))
+    ∙ literals-cong 64 (inWord (u .positive)) (inWord (u .negative)) (λ v. isUnit 64 (K .member) v true)
+    (λ v. isUnit 64 (K .member) v false) f (λ v. K .holds v true) (λ v. K .holds v false))
     ∙ sym (byUnits-is 64 (K .member) (diagramsOf (nodesOf T) list))
 
 -- What a round writes: as many members as differ from their cofactor by its U.
@@ -116,11 +123,14 @@ pub record Going (T₀ : Table) (ms₀ : List Diagram) (T : Table) (list memo ma
   pub most : rounds ≤ 64
   pub conflict : unitProp 64 ms₀ .conflict ≡ propagate (roundsLeft rounds) 64 (diagramsOf (nodesOf T) list) .conflict
   pub counted : unitProp 64 ms₀ .rounds ≡ rounds + propagate (roundsLeft rounds) 64 (diagramsOf (nodesOf T) list) .rounds
-  pub to-place : placedAll (size T₀) (nodesOf T₀) (unitProp 64 ms₀ .made) ≡ placedAll (size T₀) (nodesOf T) (propagate (roundsLeft rounds) 64 (diagramsOf (nodesOf T) list) .made)
+  pub to-place : placedAll (size T₀) (nodesOf T₀) (unitProp 64 ms₀ .made)
+      ≡ placedAll (size T₀) (nodesOf T) (propagate (roundsLeft rounds) 64 (diagramsOf (nodesOf T) list) .made)
 
-pub going-first : (T₀ : Table) (list memo marks : List ℕ) → ListReady T₀ list memo → marks ≡ unmarked (size T₀) → Going T₀ (diagramsOf (nodesOf T₀) list) T₀ list memo marks 0
+pub going-first : (T₀ : Table) (list memo marks : List ℕ) → ListReady T₀ list memo → marks ≡ unmarked (size T₀) →
+    Going T₀ (diagramsOf (nodesOf T₀) list) T₀ list memo marks 0
 going-first T₀ list memo marks R e =
-    let u : unitProp 64 (diagramsOf (nodesOf T₀) list) ≡ propagate 64 64 (diagramsOf (nodesOf T₀) list) = unitProp-is 64 (diagramsOf (nodesOf T₀) list) in
+    let u : unitProp 64 (diagramsOf (nodesOf T₀) list) ≡ propagate 64 64 (diagramsOf (nodesOf T₀) list) =
+    unitProp-is 64 (diagramsOf (nodesOf T₀) list) in
     record {
       extended = extended-same T₀ (R .good);
       inside = R .inside;
@@ -136,13 +146,15 @@ going-first T₀ list memo marks R e =
     zero-plus x = omega arith
 
 -- And a round is due, by the units u of the member at `asked`; the words have the list's variables.
-pub record Due (T₀ : Table) (ms₀ : List Diagram) (T : Table) (list memo marks listwords : List ℕ) (rounds : ℕ) (u : words.Literals) (asked : ℕ) : Type 0 where
+pub record Due (T₀ : Table) (ms₀ : List Diagram) (T : Table) (list memo marks listwords : List ℕ) (rounds : ℕ) (u : words.Literals)
+    (asked : ℕ) : Type 0 where
   pub going : Going T₀ ms₀ T list memo marks rounds
   pub worded : length listwords ≡ length list
   pub supports : Supports (nodesOf T) list listwords
   pub due : RoundDue (diagramsOf (nodesOf T) list) rounds u asked
 
-module _ (T₀ : Table) (G₀ : Good T₀) (ms₀ : List Diagram) (T : Table) (list memo marks : List ℕ) (rounds : ℕ) (W : Going T₀ ms₀ T list memo marks rounds) where
+module _ (T₀ : Table) (G₀ : Good T₀) (ms₀ : List Diagram) (T : Table) (list memo marks : List ℕ) (rounds : ℕ)
+    (W : Going T₀ ms₀ T list memo marks rounds) where
   pub going-ready : ListReady T list memo
   going-ready = record { good = W .extended .good; inside = W .inside; room = omega (arith, W .room, W .extended .same-size) }
 
@@ -164,64 +176,72 @@ module _ (T₀ : Table) (G₀ : Good T₀) (ms₀ : List Diagram) (T : Table) (l
 
   -- one round more
 
-  module _ (less : rounds < 64) (quiet : conflicts 64 (diagramsOf (nodesOf T) list) ≡ false) (u : words.Literals) (K : UnitsTaken 64 (diagramsOf (nodesOf T) list) u)
-      (full : Bool) (T′ : Table) (list′ : List ℕ) (A : AllMade T (results (Literals (u .positive) (u .negative)) T list 1) full T′ list′) where
-    made : List Diagram
-    made = byUnits 64 (K .member) (diagramsOf (nodesOf T) list)
+  module _ (less : rounds < 64) (quiet : conflicts 64 (diagramsOf (nodesOf T) list) ≡ false) (u : words.Literals)
+      (K : UnitsTaken 64 (diagramsOf (nodesOf T) list) u)
+      (full : Bool) (T′ : Table) (list′ : List ℕ) (A : AllMade T (results (Literals (u .positive) (u .negative)) T list 1) full T′ list′)
+    where
+      made : List Diagram
+      made = byUnits 64 (K .member) (diagramsOf (nodesOf T) list)
 
-    this-round : propagate (roundsLeft rounds) 64 (diagramsOf (nodesOf T) list) ≡ round made (propagate (roundsLeft (rounds + 1)) 64 made)
-    unfolding made
-    this-round =
-        let q : roundsLeft rounds ≡ suc (roundsLeft (rounds + 1)) = omega arith in
-        ap (λ (k : ℕ). propagate k 64 (diagramsOf (nodesOf T) list)) q ∙ propagate-round (roundsLeft (rounds + 1)) 64 (diagramsOf (nodesOf T) list) (K .member) quiet (K .is)
+      this-round : propagate (roundsLeft rounds) 64 (diagramsOf (nodesOf T) list) ≡ round made (propagate (roundsLeft (rounds + 1)) 64 made)
+      unfolding made
+      this-round =
+          let q : roundsLeft rounds ≡ suc (roundsLeft (rounds + 1)) = omega arith in
+          ap (λ (k : ℕ). propagate k 64 (diagramsOf (nodesOf T) list)) q ∙ propagate-round (roundsLeft (rounds + 1)) 64
+          (diagramsOf (nodesOf T) list) (K .member) quiet (K .is)
 
-    long : Extended T₀ T′
-    long = extended-trans T₀ T T′ G₀ (W .extended) (A .extended)
+      long : Extended T₀ T′
+      long = extended-trans T₀ T T′ G₀ (W .extended) (A .extended)
 
-    all-to-place : placedAll (size T₀) (nodesOf T₀) (unitProp 64 ms₀ .made) ≡ placedAll (size T) (nodesOf T) (made ++ propagate (roundsLeft (rounds + 1)) 64 made .made)
-    unfolding round
-    all-to-place =
-        W .to-place ∙ ap₂ (λ (s : ℕ) (p : Propagation). placedAll s (nodesOf T) (p .made)) (sym (W .extended .same-size)) this-round
+      all-to-place : placedAll (size T₀) (nodesOf T₀) (unitProp 64 ms₀ .made)
+          ≡ placedAll (size T) (nodesOf T) (made ++ propagate (roundsLeft (rounds + 1)) 64 made .made)
+      unfolding round
+      all-to-place =
+          W .to-place ∙ ap₂ (λ (s : ℕ) (p : Propagation). placedAll s (nodesOf T) (p .made)) (sym (W .extended .same-size)) this-round
 
-    made-placed : placedAll (size T) (nodesOf T) made ≡ room full (nodesOf T′)
-    unfolding made
-    made-placed = ap (placedAll (size T) (nodesOf T)) (sym (units-made T list u K)) ∙ A .places
+      made-placed : placedAll (size T) (nodesOf T) made ≡ room full (nodesOf T′)
+      unfolding made
+      made-placed = ap (placedAll (size T) (nodesOf T)) (sym (units-made T list u K)) ∙ A .places
 
-    -- a node found no room
-    pub going-full : full ≡ true → (conflict : Bool) → Said T₀ (unitProp 64 ms₀) (record { full = true; conflict = conflict; rounds = rounds; count = T′ .count }) T′
-    going-full f conflict =
-        record {
-          extended = long;
-          places =
-              all-to-place ∙ placed-short (size T) (nodesOf T) made (propagate (roundsLeft (rounds + 1)) 64 made .made) (nodesOf T′)
-              (made-placed ∙ ap (λ (b : Bool). room b (nodesOf T′)) f);
-          conflict = λ z. t≢f z;
-          rounds = λ z. t≢f z;
-          most = W .most;
-        }
+      -- a node found no room
+      pub going-full : full ≡ true → (conflict : Bool) → Said T₀ (unitProp 64 ms₀)
+          (record { full = true; conflict = conflict; rounds = rounds; count = T′ .count }) T′
+      going-full f conflict =
+          record {
+            extended = long;
+            places =
+                all-to-place ∙ placed-short (size T) (nodesOf T) made (propagate (roundsLeft (rounds + 1)) 64 made .made) (nodesOf T′)
+                (made-placed ∙ ap (λ (b : Bool). room b (nodesOf T′)) f);
+            conflict = λ z. t≢f z;
+            rounds = λ z. t≢f z;
+            most = W .most;
+          }
 
-    now-are : full ≡ false → diagramsOf (nodesOf T′) list′ ≡ made
-    unfolding made
-    now-are f = A .are f ∙ units-made T list u K
+      now-are : full ≡ false → diagramsOf (nodesOf T′) list′ ≡ made
+      unfolding made
+      now-are f = A .are f ∙ units-made T list u K
 
-    pub going-on : full ≡ false → (memo′ : List ℕ) → length memo′ ≡ length memo → (marks′ : List ℕ) → marks′ ≡ unmarked (size T₀) → Going T₀ ms₀ T′ list′ memo′ marks′ (rounds + 1)
-    unfolding round
-    going-on f memo′ len marks′ e =
-        let later = propagate (roundsLeft (rounds + 1)) 64 made in
-        let same : propagate (roundsLeft (rounds + 1)) 64 (diagramsOf (nodesOf T′) list′) ≡ later = ap (propagate (roundsLeft (rounds + 1)) 64) (now-are f) in
-        record {
-          extended = long;
-          inside = A .inside f;
-          room = omega (arith, W .room);
-          clear = e;
-          most = omega arith;
-          conflict = W .conflict ∙ ap (λ (p : Propagation). p .conflict) this-round ∙ sym (ap (λ (p : Propagation). p .conflict) same);
-          counted = W .counted ∙ ap (λ (p : Propagation). rounds + p .rounds) this-round ∙ moved rounds (later .rounds) ∙ sym (ap (λ (p : Propagation). rounds + 1 + p .rounds) same);
-          to-place =
-              all-to-place
-              ∙ placed-then (size T) (nodesOf T) made (later .made) (nodesOf T′) (made-placed ∙ ap (λ (b : Bool). room b (nodesOf T′)) f)
-              ∙ ap₂ (λ (s : ℕ) (p : Propagation). placedAll s (nodesOf T′) (p .made)) (W .extended .same-size) (sym same);
-        }
-      where
-        moved : (x y : ℕ) → x + suc y ≡ x + 1 + y
-        moved x y = omega arith
+      pub going-on : full ≡ false → (memo′ : List ℕ) → length memo′ ≡ length memo → (marks′ : List ℕ) → marks′ ≡ unmarked (size T₀) →
+          Going T₀ ms₀ T′ list′ memo′ marks′ (rounds + 1)
+      unfolding round
+      going-on f memo′ len marks′ e =
+          let later = propagate (roundsLeft (rounds + 1)) 64 made in
+          let same : propagate (roundsLeft (rounds + 1)) 64 (diagramsOf (nodesOf T′) list′) ≡ later =
+          ap (propagate (roundsLeft (rounds + 1)) 64) (now-are f) in
+          record {
+            extended = long;
+            inside = A .inside f;
+            room = omega (arith, W .room);
+            clear = e;
+            most = omega arith;
+            conflict = W .conflict ∙ ap (λ (p : Propagation). p .conflict) this-round ∙ sym (ap (λ (p : Propagation). p .conflict) same);
+            counted = W .counted ∙ ap (λ (p : Propagation). rounds + p .rounds) this-round ∙ moved rounds (later .rounds)
+                ∙ sym (ap (λ (p : Propagation). rounds + 1 + p .rounds) same);
+            to-place =
+                all-to-place
+                ∙ placed-then (size T) (nodesOf T) made (later .made) (nodesOf T′) (made-placed ∙ ap (λ (b : Bool). room b (nodesOf T′)) f)
+                ∙ ap₂ (λ (s : ℕ) (p : Propagation). placedAll s (nodesOf T′) (p .made)) (W .extended .same-size) (sym same);
+          }
+        where
+          moved : (x y : ℕ) → x + suc y ≡ x + 1 + y
+          moved x y = omega arith

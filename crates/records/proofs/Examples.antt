@@ -82,11 +82,13 @@ unfolding recordAt
 striking = refl
 
 -- "eight bytes of variable set (bit i−1 for variable i) and one byte": variables 1, 2, 9 and 64 (02, 5/14)
-set-parity : recordAt (0x58 ∷ 0x03 ∷ 0x01 ∷ 0 ∷ 0 ∷ 0 ∷ 0 ∷ 0 ∷ 0x80 ∷ 0x01 ∷ []) 0 ≡ SetEntry Parity (record { set = 9223372036854776067; byte = 1 })
+set-parity : recordAt (0x58 ∷ 0x03 ∷ 0x01 ∷ 0 ∷ 0 ∷ 0 ∷ 0 ∷ 0 ∷ 0x80 ∷ 0x01 ∷ []) 0
+    ≡ SetEntry Parity (record { set = 9223372036854776067; byte = 1 })
 unfolding recordAt
 set-parity = refl
 
-set-at-least : recordAt (0x4B ∷ 0x03 ∷ 0x01 ∷ 0 ∷ 0 ∷ 0 ∷ 0 ∷ 0 ∷ 0x80 ∷ 0x07 ∷ []) 0 ≡ SetEntry AtLeast (record { set = 9223372036854776067; byte = 7 })
+set-at-least : recordAt (0x4B ∷ 0x03 ∷ 0x01 ∷ 0 ∷ 0 ∷ 0 ∷ 0 ∷ 0 ∷ 0x80 ∷ 0x07 ∷ []) 0
+    ≡ SetEntry AtLeast (record { set = 9223372036854776067; byte = 7 })
 unfolding recordAt
 set-at-least = refl
 

@@ -64,8 +64,20 @@ module _ (proof : List ℕ) (at : ℕ) where
 
 -- ---- kinds
 
-pub record-unknown : (kind : ℕ) (body : List ℕ) → (kind ≡ 0x4E → ⊥) → (kind ≡ 0x54 → ⊥) → (kind ≡ 0x46 → ⊥) → (kind ≡ 0x52 → ⊥) → (kind ≡ 0x50 → ⊥)
+pub record-unknown : (kind : ℕ) (body : List ℕ) → (kind ≡ 0x4E → ⊥) → (kind ≡ 0x54 → ⊥) → (kind ≡ 0x46 → ⊥) → (kind ≡ 0x52 → ⊥) →
+    (kind ≡ 0x50 → ⊥)
     → (kind ≡ 0x51 → ⊥) → (kind ≡ 0x44 → ⊥) → (kind ≡ 0x58 → ⊥) → (kind ≡ 0x4B → ⊥) → (kind ≡ 0x45 → ⊥) → recordOf kind body ≡ UnknownKind
 unfolding recordOf
 record-unknown kind body n t f r p q d x k e =
-    rw (ne-eqb _ _ n, ne-eqb _ _ t, ne-eqb _ _ f, ne-eqb _ _ r, ne-eqb _ _ p, ne-eqb _ _ q, ne-eqb _ _ d, ne-eqb _ _ x, ne-eqb _ _ k, ne-eqb _ _ e)
+    rw (
+      ne-eqb _ _ n,
+      ne-eqb _ _ t,
+      ne-eqb _ _ f,
+      ne-eqb _ _ r,
+      ne-eqb _ _ p,
+      ne-eqb _ _ q,
+      ne-eqb _ _ d,
+      ne-eqb _ _ x,
+      ne-eqb _ _ k,
+      ne-eqb _ _ e,
+    )

@@ -19,10 +19,10 @@ use Rattle.verdict.specs.Steps as steps
 use Rattle.verdict.specs.Check as check
 use Rattle.verdict.specs.Run.{commandIn, nextIn}
 use Rattle.verdict.proofs.Commands.{step-taken, Known, fit-known, command-fit, start-within, command-goes}
-use Rattle.entries.specs.declared.State.{State}
-use Rattle.entries.specs.declared.Step.{Step}
-use Rattle.entries.specs.declared.Step.the-variants.{Next, Stop, Spent}
-use Rattle.entries.specs.States.{Lent, tableIn, stateOf, stepOf, Held, HeldAfter, Unmoved, Stepped}
+use Rattle.state.specs.declared.State.{State}
+use Rattle.state.specs.declared.Step.{Step}
+use Rattle.state.specs.declared.Step.the-variants.{Next, Stop, Spent}
+use Rattle.state.specs.States.{Lent, tableIn, stateOf, stepOf, Held, HeldAfter, Unmoved, Stepped}
 use Rattle.tries.specs.Commands.{CommandFits, PivotOfFits}
 use Rattle.tries.proofs.Commands.{pivot-fits}
 use Rattle.replay.specs.Ends.{Ends}
@@ -47,13 +47,15 @@ module _ (mode : Mode) (n s : ℕ) (proof : List ℕ) (whole : check.Verdict) (s
   abbrev said : steps.Step
   said = check.step (mode .consequence) n s st (commandIn mode proof n at)
 
-  stops-with : (k : ℕ) → length proof - at < k → (number offset : ℕ) → said ≡ steps.stop number offset → whole ≡ check.commands k mode n s proof st at
+  stops-with : (k : ℕ) → length proof - at < k → (number offset : ℕ) → said ≡ steps.stop number offset → whole
+      ≡ check.commands k mode n s proof st at
       → whole ≡ check.left number (at + offset) (st .peak) st
   unfolding check.commands
   stops-with zero enough number offset e left = absurd (omega arith)
   stops-with (suc k) enough number offset e left = left ∙ rw e
 
-  spends-with : (k : ℕ) → length proof - at < k → (number peak : ℕ) → said ≡ steps.spent number peak → whole ≡ check.commands k mode n s proof st at
+  spends-with : (k : ℕ) → length proof - at < k → (number peak : ℕ) → said ≡ steps.spent number peak → whole
+      ≡ check.commands k mode n s proof st at
       → whole ≡ check.left number at peak st
   unfolding check.commands
   spends-with zero enough number peak e left = absurd (omega arith)
@@ -64,7 +66,8 @@ module _ (mode : Mode) (n s : ℕ) (proof : List ℕ) (whole : check.Verdict) (s
   unfolding check.commands
   goes-with zero enough st′ e left within = absurd (omega arith)
   goes-with (suc k) enough st′ e left within =
-      let (on, inside) = command-goes (mode .consequence) (mode .form) proof n s st st′ at within (step-taken (mode .consequence) n s st (commandIn mode proof n at) st′ e) in
+      let (on, inside) = command-goes (mode .consequence) (mode .form) proof n s st st′ at within
+      (step-taken (mode .consequence) n s st (commandIn mode proof n at) st′ e) in
       record { steps = k; enough = omega (arith, on, inside); left = left ∙ rw e }
 
   module _ (R : Remains mode n s proof whole st at) where
@@ -74,7 +77,8 @@ module _ (mode : Mode) (n s : ℕ) (proof : List ℕ) (whole : check.Verdict) (s
     remains-spent : (number peak : ℕ) → said ≡ steps.spent number peak → whole ≡ check.left number at peak st
     remains-spent number peak e = spends-with (R .steps) (R .enough) number peak e (R .left)
 
-    remains-next : (st′ : steps.State) → said ≡ steps.next st′ → at ≤ length proof → Remains mode n s proof whole st′ (nextIn mode proof n at)
+    remains-next : (st′ : steps.State) → said ≡ steps.next st′ → at ≤ length proof →
+        Remains mode n s proof whole st′ (nextIn mode proof n at)
     remains-next st′ e = goes-with (R .steps) (R .enough) st′ e (R .left)
 
 -- ---- the commands read so far
@@ -104,9 +108,11 @@ module _ (mode : Mode) (n s : ℕ) (proof : List ℕ) (whole : check.Verdict) wh
     -- the command is read: a clause's literals are the header's
     fits : CommandFits n (commandIn mode proof n at)
     fits =
-        known-fits n (commandIn mode proof n at) (fit-known (mode .form) n (commandIn mode proof n at) (command-fit (mode .form) proof n at (G .within)))
+        known-fits n (commandIn mode proof n at)
+        (fit-known (mode .form) n (commandIn mode proof n at) (command-fit (mode .form) proof n at (G .within)))
 
-    module _ (r : code-read.Read) (is : r ≡ readOf (commandAt (mode .form) proof n at)) (command : code.Command) (let-in : command ≡ admitted (mode .consequence) (r .command)) where
+    module _ (r : code-read.Read) (is : r ≡ readOf (commandAt (mode .form) proof n at)) (command : code.Command)
+        (let-in : command ≡ admitted (mode .consequence) (r .command)) where
       command-is : admitted (mode .consequence) (commandOf (commandIn mode proof n at)) ≡ command
       command-is = sym (let-in ∙ ap (λ (x : code-read.Read). admitted (mode .consequence) (x .command)) is)
 
@@ -120,21 +126,25 @@ module _ (mode : Mode) (n s : ℕ) (proof : List ℕ) (whole : check.Verdict) wh
 
       -- what the code's step says of its command it says of the definition's
       pub going-reads : (l′ : Lent) (x : Step)
-          → ((profile : Bool) (c : Command) → admitted profile (commandOf c) ≡ command → CommandFits n c → Stepped n l l′ st (check.step profile n (length (l .vars)) (stateOf l st) c) x)
+          → ((profile : Bool) (c : Command) → admitted profile (commandOf c) ≡ command → CommandFits n c →
+          Stepped n l l′ st (check.step profile n (length (l .vars)) (stateOf l st) c) x)
           → Stepped n l l′ st (check.step (mode .consequence) n (length (l .vars)) (stateOf l st) (commandIn mode proof n at)) x
       going-reads l′ x W = W (mode .consequence) (commandIn mode proof n at) command-is fits
 
     -- the command comes to x and leaves l′
-    module _ (l′ : Lent) (x : Step) (X : Stepped n l l′ st (check.step (mode .consequence) n (length (l .vars)) (stateOf l st) (commandIn mode proof n at)) x) where
+    module _ (l′ : Lent) (x : Step) (X : Stepped n l l′ st
+        (check.step (mode .consequence) n (length (l .vars)) (stateOf l st) (commandIn mode proof n at)) x) where
       says : (y : Step) → x ≡ y → check.step (mode .consequence) n s (stateOf l st) (commandIn mode proof n at) ≡ stepOf l′ y
       says y e =
-          sym (ap (λ (size : ℕ). check.step (mode .consequence) n size (stateOf l st) (commandIn mode proof n at)) (G .same-size)) ∙ sym (X .says) ∙ ap (stepOf l′) e
+          sym (ap (λ (size : ℕ). check.step (mode .consequence) n size (stateOf l st) (commandIn mode proof n at)) (G .same-size))
+          ∙ sym (X .says) ∙ ap (stepOf l′) e
 
       leaves : (y : Step) → x ≡ y → HeldAfter n l l′ st y
       leaves y e = subst (HeldAfter n l l′ st) e (X .leaves)
 
       -- a refused command leaves table, members and marks as they were
-      left-same : (number place peak : ℕ) → Unmoved l l′ st → check.left number place peak (stateOf l st) ≡ check.left number place peak (stateOf l′ st)
+      left-same : (number place peak : ℕ) → Unmoved l l′ st → check.left number place peak (stateOf l st)
+          ≡ check.left number place peak (stateOf l′ st)
       left-same number place peak same =
           ap₂ (λ (t : Table) (ms : List ℕ). leftOf t ms (l .struck)) (sym (same .table)) (sym (same .members))
           ∙ ap (leftOf (tableIn l′ (st .count)) (l′ .members)) (sym (same .struck))
@@ -169,19 +179,22 @@ module _ (mode : Mode) (n s : ℕ) (proof : List ℕ) (whole : check.Verdict) wh
 
       module _ (number offset : ℕ) (e : x ≡ Stop number offset) where
         pub going-near : at + offset ≤ length proof
-        going-near = stop-near (mode .consequence) (mode .form) n s (stateOf l st) proof at (G .within) number offset (says (Stop number offset) e)
+        going-near = stop-near (mode .consequence) (mode .form) n s (stateOf l st) proof at (G .within) number offset
+            (says (Stop number offset) e)
 
         pub going-stop : (whole ≡ check.left number (at + offset) (st .peak) (stateOf l′ st)) × Ends l′ st
         going-stop =
             let same = leaves (Stop number offset) e in (
-              remains-stop mode n s proof whole (stateOf l st) at (G .remains) number offset (says (Stop number offset) e) ∙ left-same number (at + offset) (st .peak) same,
+              remains-stop mode n s proof whole (stateOf l st) at (G .remains) number offset (says (Stop number offset) e)
+                  ∙ left-same number (at + offset) (st .peak) same,
               ends-same same,
             )
 
       pub going-spent : (number peak : ℕ) → x ≡ Spent number peak → (whole ≡ check.left number at peak (stateOf l′ st)) × Ends l′ st
       going-spent number peak e =
           let same = leaves (Spent number peak) e in (
-            remains-spent mode n s proof whole (stateOf l st) at (G .remains) number peak (says (Spent number peak) e) ∙ left-same number at peak same,
+            remains-spent mode n s proof whole (stateOf l st) at (G .remains) number peak (says (Spent number peak) e)
+                ∙ left-same number at peak same,
             ends-same same,
           )
 
@@ -191,7 +204,8 @@ module _ (mode : Mode) (n s : ℕ) (proof : List ℕ) (whole : check.Verdict) wh
             command-goes (mode .consequence) (mode .form) proof n s (stateOf l st) (stateOf l′ st′) at (G .within)
             (step-taken (mode .consequence) n s (stateOf l st) (commandIn mode proof n at) (stateOf l′ st′) (says (Next st′) e))
 
-        pub going-next : (marks′ memo′ : List ℕ) (at′ : ℕ) → at′ ≡ nextIn mode proof n at → length (l′ .vars) ≡ length (l .vars) → marks′ ≡ unmarked (length (l .vars)) → length memo′ ≡ length memo
+        pub going-next : (marks′ memo′ : List ℕ) (at′ : ℕ) → at′ ≡ nextIn mode proof n at → length (l′ .vars) ≡ length (l .vars) → marks′
+            ≡ unmarked (length (l .vars)) → length memo′ ≡ length memo
             → Going l′ marks′ memo′ st′ at′
         going-next marks′ memo′ at′ here size-kept marks-kept memo-kept = record {
           same-size = size-kept ∙ G .same-size;
@@ -203,7 +217,8 @@ module _ (mode : Mode) (n s : ℕ) (proof : List ℕ) (whole : check.Verdict) wh
               (remains-next mode n s proof whole (stateOf l st) at (G .remains) (stateOf l′ st′) (says (Next st′) e) (G .within));
         }
 
-pub going-start : (mode : Mode) (n : ℕ) (proof : List ℕ) (l : Lent) (marks memo : List ℕ) (st : State) (at : ℕ) → at ≡ start (mode .form) proof
+pub going-start : (mode : Mode) (n : ℕ) (proof : List ℕ) (l : Lent) (marks memo : List ℕ) (st : State) (at : ℕ) → at
+    ≡ start (mode .form) proof
     → Held n l st × (marks ≡ unmarked (length (l .vars))) × Roomy (l .vars) memo
     → Going mode n (length (l .vars)) proof (check.proofFrom mode n (length (l .vars)) proof (stateOf l st)) l marks memo st at
 going-start mode n proof l marks memo st at here h = record {
@@ -212,5 +227,10 @@ going-start mode n proof l marks memo st at here h = record {
   none-marked = h .1;
   room = h .2;
   within = omega (arith, start-within (mode .form) proof);
-  remains = record { steps = suc (length proof); enough = omega arith; left = ap (check.commands (suc (length proof)) mode n (length (l .vars)) proof (stateOf l st)) (sym here) };
+  remains = record {
+    steps = suc (length proof);
+    enough = omega arith;
+    left =
+        ap (check.commands (suc (length proof)) mode n (length (l .vars)) proof (stateOf l st)) (sym here);
+  };
 }

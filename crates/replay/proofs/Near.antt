@@ -1,5 +1,5 @@
--- A command is refused, or ends the proof, at a place in the proof. The idea: at its first byte; at a fault's own place; for 11 at the byte behind
--- the end record, which is there. Assumes nothing.
+-- A command is refused, or ends the proof, at a place in the proof. The idea: at its first byte; at a fault's own place; for 11 at the byte
+-- behind the end record, which is there. Assumes nothing.
 use mathlib.Core.Bool.{Bool}
 use mathlib.Core.Path.{_≡_, refl, subst}
 use mathlib.Core.List.{List}
@@ -25,7 +25,8 @@ end-inside proof at is =
     let one : lengthOf (recordAt proof at) ≡ 1 = rw is in
     omega (arith, record-within proof at refl right)
 
-drat-near : (profile : Bool) (form : Form) (n s : ℕ) (st : State) (proof : List ℕ) (at : ℕ) (c : Command) (after : ℕ) → CommandIn form proof n at c after → (number offset : ℕ)
+drat-near : (profile : Bool) (form : Form) (n s : ℕ) (st : State) (proof : List ℕ) (at : ℕ) (c : Command) (after : ℕ) →
+    CommandIn form proof n at c after → (number offset : ℕ)
     → step profile n s st c ≡ stop number offset → at + offset ≤ length proof
 unfolding step
 drat-near profile form n s st proof at (recorded r more) after h number offset e = absurd h
@@ -41,13 +42,16 @@ pub stop-near : (profile : Bool) (form : Form) (n s : ℕ) (st : State) (proof :
     → step profile n s st (commandAt form proof n at .command) ≡ stop number offset → at + offset ≤ length proof
 unfolding step
 stop-near profile Records n s st proof at within number offset e =
-    go (subst (Placed st (recordAt proof at)) e (shut-placed profile n s st (ltb (at + lengthOf (recordAt proof at)) (length proof)) (recordAt proof at)))
+    go (subst (Placed st (recordAt proof at)) e
+    (shut-placed profile n s st (ltb (at + lengthOf (recordAt proof at)) (length proof)) (recordAt proof at)))
   where
     go : Offset st (recordAt proof at) number offset → at + offset ≤ length proof
     go (at-record z _ _) = omega arith
     go (at-striking z _ _ _ _) = omega arith
     go (behind-end z _ is) = omega (arith, end-inside proof at is)
 stop-near profile Text n s st proof at within number offset e =
-    drat-near profile Text n s st proof at (commandAt Text proof n at .command) (commandAt Text proof n at .next) (drat-in Text refl proof n at within) number offset e
+    drat-near profile Text n s st proof at (commandAt Text proof n at .command) (commandAt Text proof n at .next)
+    (drat-in Text refl proof n at within) number offset e
 stop-near profile Binary n s st proof at within number offset e =
-    drat-near profile Binary n s st proof at (commandAt Binary proof n at .command) (commandAt Binary proof n at .next) (drat-in Binary refl proof n at within) number offset e
+    drat-near profile Binary n s st proof at (commandAt Binary proof n at .command) (commandAt Binary proof n at .next)
+    (drat-in Binary refl proof n at within) number offset e

@@ -3,8 +3,8 @@ use mathlib.Core.Path.{_≡_}
 use Prim.Native.Nat.{ℕ, _≤_}
 use lib.ListN.{length, getD}
 use Rattle.table.specs.Indexed.{Good}
-use Rattle.entries.specs.declared.State.{State}
-use Rattle.entries.specs.States.{Lent, tableIn}
+use Rattle.state.specs.declared.State.{State}
+use Rattle.state.specs.States.{Lent, tableIn}
 
 -- What the last command leaves: a good table with the nodes that stay, and zeros behind the members and their marks.
 pub record Ends (l : Lent) (st : State) : Type 0 where

@@ -1,13 +1,13 @@
 // The proof's commands judged one after another, up to the one that ends the proof.
 use commands::Mode;
-use entries::State;
-use entries::Step;
+use state::State;
+use state::Step;
 ghost use mathlib.Core.Path.{_≡_};
 ghost use lib.ListN.{length};
 ghost use Rattle.walks.specs.Readable.{Roomy};
 ghost use Rattle.conflict.specs.Marks.{unmarked};
 ghost use Rattle.verdict.specs.Check.{left, proofFrom};
-ghost use Rattle.entries.specs.States.{lentOf, stateOf, Held};
+ghost use Rattle.state.specs.States.{lentOf, stateOf, Held};
 ghost use Rattle.replay.specs.Ends.{Ends};
 
 // How the proof ends: 01's number, its place, the greatest count reached, and the state before the command that ended it.

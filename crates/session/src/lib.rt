@@ -17,7 +17,6 @@ ghost use Rattle.verdict.specs.Check.{clauses, verdict, zeros, lentFits, outcom
 ghost use Rattle.session.specs.Checked.{checkOutcome};
 ghost use Rattle.formula.specs.Formula.{Opened};
 
-pub mod call;
 pub mod proof;
 
 // What the check says: 01's number, whether its place is in the proof (else in the formula), the place, the accepted lines, their rounds,

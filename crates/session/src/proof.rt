@@ -1,7 +1,7 @@
 // The proof judged once the clauses are made, and what it leaves.
 use crate::Checked;
 use commands::Mode;
-use entries::State;
+use state::State;
 use words::Literals;
 ghost use mathlib.Core.Path.{_≡_};
 ghost use Prim.Native.Nat.{_≤_};

@@ -1,4 +1,5 @@
--- The two ways to say how much an at-least diagram excludes: no count, and the count by binomials, which is that of the diagram's own values.
+-- The two ways to say how much an at-least diagram excludes: no count, and the count by binomials, which is that of the diagram's own
+-- values.
 -- Assumes nothing.
 use mathlib.Core.Path.{_≡_, sym, ap, _∙_, subst}
 use mathlib.Core.Bool.{true, false}
@@ -19,4 +20,5 @@ module _ (set m : ℕ) (many : m ≡ sizeOf 64 (inWord set)) where
   unfolding countOf
   counted k r le q =
       rw (le-leb (sizeOf 64 (inWord set)) 32 (subst (λ (n : ℕ). n ≤ 32) many le))
-      (ap (λ (n : ℕ). record { counted = true; excluded = n }) (q ∙ ap (λ (n : ℕ). excluded n k) many ∙ sym (excluded-counts (inWord set) 64 k)))
+      (ap (λ (n : ℕ). record { counted = true; excluded = n })
+      (q ∙ ap (λ (n : ℕ). excluded n k) many ∙ sym (excluded-counts (inWord set) 64 k)))

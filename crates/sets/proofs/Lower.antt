@@ -1,5 +1,5 @@
--- The set's variables from the greatest down, and the diagrams of the last of them: at least j of the last i + 1 is a branch over two of the
--- last i; all of them are the set's. The idea: between two of them there is none. Assumes nothing.
+-- The set's variables from the greatest down, and the diagrams of the last of them: at least j of the last i + 1 is a branch over two of
+-- the last i; all of them are the set's. The idea: between two of them there is none. Assumes nothing.
 use mathlib.Core.Path.{_≡_, refl, sym, ap, ap₂, _∙_, subst}
 use mathlib.Core.Bool.{Bool, true, false}
 use Prim.Native.Nat.{ℕ, zero, suc, _+_, _-_, _≤_, _<_}
@@ -39,11 +39,13 @@ pub record Lower (set v w : ℕ) : Type 0 where
 
 pub lower-is : (set v : ℕ) → 1 ≤ v → Lower set v (lower set v)
 lower-is set zero p = absurd (omega arith)
-lower-is set (suc zero) p = subst (Lower set 1) (sym (lower-one set)) (record { less = omega arith; none = λ u a b. absurd (omega arith); here = λ q. absurd (omega arith) })
+lower-is set (suc zero) p = subst (Lower set 1) (sym (lower-one set))
+    (record { less = omega arith; none = λ u a b. absurd (omega arith); here = λ q. absurd (omega arith) })
 lower-is set (suc (suc v)) p = go (inWord set (suc v)) refl (lower-is set (suc v) (omega arith))
   where
     go : (b : Bool) → inWord set (suc v) ≡ b → Lower set (suc v) (lower set (suc v)) → Lower set (suc (suc v)) (lower set (suc (suc v)))
-    go true e L = subst (Lower set (suc (suc v))) (sym (lower-hit set (suc v) (omega arith) e)) (record { less = omega arith; none = λ u a b. absurd (omega arith); here = λ _. e })
+    go true e L = subst (Lower set (suc (suc v))) (sym (lower-hit set (suc v) (omega arith) e))
+        (record { less = omega arith; none = λ u a b. absurd (omega arith); here = λ _. e })
     go false e L =
         subst (Lower set (suc (suc v))) (sym (lower-miss set (suc v) e))
         (record {
@@ -91,7 +93,8 @@ module _ (set : ℕ) where
   pub last-reduced : (i j : ℕ) → Deep set i → Reduced 1 65 (lastOf set i j)
   last-reduced i j D =
       let n : nth set i ≤ 65 = omega (arith, nth-falls set i D) in
-      reduced-from 1 (nth set i) 65 (lastOf set i j) (D i (omega arith)) (tally-reduced met less S (65 - nth set i) (nth set i) 65 j (omega arith))
+      reduced-from 1 (nth set i) 65 (lastOf set i j) (D i (omega arith))
+      (tally-reduced met less S (65 - nth set i) (nth set i) 65 j (omega arith))
 
   -- at least j of the last i + 1 variables
   pub last-step : (i j : ℕ) → Deep set (suc i) → lastOf set (suc i) j ≡ branch (nth set (suc i)) (lastOf set i j) (lastOf set i (j - 1))
@@ -101,7 +104,8 @@ module _ (set : ℕ) where
       tally-here met less S 65 (nth set (suc i)) j (omega (arith, L .less)) (L .here (D (suc i) (omega arith)))
       ∙ ap₂ (branch (nth set (suc i)))
       (tally-skipped met less S 65 (suc (nth set (suc i))) (nth set i) j (omega (arith, L .less)) n (λ u a b. L .none u (omega arith) b))
-      (tally-skipped met less S 65 (suc (nth set (suc i))) (nth set i) (j - 1) (omega (arith, L .less)) n (λ u a b. L .none u (omega arith) b))
+      (tally-skipped met less S 65 (suc (nth set (suc i))) (nth set i) (j - 1) (omega (arith, L .less)) n
+      (λ u a b. L .none u (omega arith) b))
 
   -- "k above the set's size gives 0"
   pub last-beyond : (i j : ℕ) → Deep set i → i < j → lastOf set i j ≡ leaf false
@@ -117,7 +121,8 @@ module _ (set : ℕ) where
   last-whole m j M =
       let L : Lower set (nth set m) (nth set (suc m)) = nth-is set m (M .there m (omega arith)) in
       let n : nth set m ≤ 65 = omega (arith, nth-falls set m (M .there)) in
-      sym (atLeast-is S 64 j ∙ tally-skipped met less S 65 1 (nth set m) j (M .there m (omega arith)) n (λ u a b. L .none u (omega (arith, M .end)) b))
+      sym (atLeast-is S 64 j ∙ tally-skipped met less S 65 1 (nth set m) j (M .there m (omega arith)) n
+      (λ u a b. L .none u (omega (arith, M .end)) b))
 
   -- ---- how many they are
 
@@ -126,7 +131,8 @@ module _ (set : ℕ) where
   size-skip (suc d) k i none =
       let z : suc d + k ≡ suc (d + k) = omega arith in
       let w : suc i + d ≡ i + suc d = omega arith in
-      rw z (size-out S (d + k) i (none i (omega arith) (omega arith)) ∙ size-skip d k (suc i) (λ u p q. none u (omega arith) (omega arith)) ∙ rw w)
+      rw z (size-out S (d + k) i (none i (omega arith) (omega arith)) ∙ size-skip d k (suc i) (λ u p q. none u (omega arith) (omega arith))
+      ∙ rw w)
 
   size-skipped : (v w : ℕ) → v ≤ w → w ≤ 65 → ((u : ℕ) → v ≤ u → u < w → S u ≡ false) → sizeFrom S (65 - v) v ≡ sizeFrom S (65 - w) w
   size-skipped v w least most none =
@@ -143,7 +149,8 @@ module _ (set : ℕ) where
       let z : 65 - nth set (suc i) ≡ suc (65 - suc (nth set (suc i))) = omega (arith, L .less) in
       ap (λ (m : ℕ). sizeFrom S m (nth set (suc i))) z
       ∙ size-in S (65 - suc (nth set (suc i))) (nth set (suc i)) (L .here (D (suc i) (omega arith)))
-      ∙ ap suc (size-skipped (suc (nth set (suc i))) (nth set i) (omega (arith, L .less)) n (λ u a b. L .none u (omega arith) b) ∙ size-nth i D′)
+      ∙ ap suc (size-skipped (suc (nth set (suc i))) (nth set i) (omega (arith, L .less)) n (λ u a b. L .none u (omega arith) b)
+      ∙ size-nth i D′)
 
   size-whole : (m : ℕ) → Deep set m → nth set (suc m) ≡ 0 → m ≡ sizeOf 64 (inWord set)
   unfolding sizeOf

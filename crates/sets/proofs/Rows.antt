@@ -1,5 +1,6 @@
--- One diagonal after the other: what is in row j before diagonal d is there, so that each put places at least j of the last d + j variables, and
--- a diagonal done is at least k of the last d + k placed, `full` included. The idea: low is there, high was placed just before. Assumes nothing.
+-- One diagonal after the other: what is in row j before diagonal d is there, so that each put places at least j of the last d + j
+-- variables, and a diagonal done is at least k of the last d + k placed, `full` included. The idea: low is there, high was placed just
+-- before. Assumes nothing.
 use mathlib.Core.Path.{_≡_, refl, sym, ap, ap₂, _∙_, subst}
 use mathlib.Core.Bool.{Bool, true, false}
 use mathlib.Core.List.{List, _∷_}
@@ -18,7 +19,7 @@ use Rattle.meaning.specs.Sets.{atLeast}
 use Rattle.sets.specs.Variables.{lower, nth, Deep, Members}
 use Rattle.sets.specs.Building.{lastOf, Row, FirstRow}
 use Rattle.sets.proofs.Lower.{nth-zero, nth-suc, nth-falls, last-none, last-reduced, last-step, last-beyond, last-whole}
-use Rattle.table.proofs.Index.{zeros-at}
+use Rattle.table.proofs.Zeros.{zeros-at}
 
 abbrev outOf : Table → ℕ → Outcome
 outOf T n = record { table = T; full = false; node = n }
@@ -27,7 +28,8 @@ less-deep : (w n m : ℕ) → Deep w n → m ≤ n → Deep w m
 less-deep w n m D le i p = D i (omega arith)
 
 -- at least j of the last d + j variables, over what row j and row j - 1 have
-over : (w d j : ℕ) → 1 ≤ j → Deep w (d + j) → lastOf w (d + j) j ≡ branch (nth w (d + j)) (lastOf w (d + j - 1) j) (lastOf w (d + j - 1) (j - 1))
+over : (w d j : ℕ) → 1 ≤ j → Deep w (d + j) → lastOf w (d + j) j ≡ branch (nth w (d + j)) (lastOf w (d + j - 1) j)
+    (lastOf w (d + j - 1) (j - 1))
 over w d j least D =
     let z : suc (d + j - 1) ≡ d + j = omega arith in
     subst (λ (n : ℕ). lastOf w n j ≡ branch (nth w n) (lastOf w (d + j - 1) j) (lastOf w (d + j - 1) (j - 1))) z
@@ -66,23 +68,27 @@ module _ (T₀ : Table) (w d k : ℕ) (row₀ : List ℕ) (R : Row T₀ w d k ro
         rest = λ i _. refl;
         inside = λ i p. R .inside i (omega (arith, R .some));
         is = λ i p. let q : i ≡ 0 = omega arith in
-            subst (λ (i : ℕ). diagramAt (nodesOf T₀) (getD row₀ i 0) ≡ lastOf w (d + i) i) (sym q) (R .is 0 (omega arith) ∙ last-none w (d + 0 - 1) ∙ sym (last-none w (d + 0)));
+            subst (λ (i : ℕ). diagramAt (nodesOf T₀) (getD row₀ i 0) ≡ lastOf w (d + i) i) (sym q)
+            (R .is 0 (omega arith) ∙ last-none w (d + 0 - 1) ∙ sym (last-none w (d + 0)));
       }
 
   -- a diagonal that found no room at row j would find none at the rows above
-  full-up : (o : Outcome) → o .full ≡ true → (n j : ℕ) → j + n ≡ k → o ≡ placeIn T₀ (lastOf w (d + j) j) → o ≡ placeIn T₀ (lastOf w (d + k) k)
+  full-up : (o : Outcome) → o .full ≡ true → (n j : ℕ) → j + n ≡ k → o ≡ placeIn T₀ (lastOf w (d + j) j) → o
+      ≡ placeIn T₀ (lastOf w (d + k) k)
   full-up o f zero j e is = let z : j ≡ k = omega arith in subst (λ (i : ℕ). o ≡ placeIn T₀ (lastOf w (d + i) i)) z is
   full-up o f (suc n) j e is =
       let a : d + j ≡ d + suc j - 1 = omega arith in
       let b : j ≡ suc j - 1 = omega arith in
       full-up o f n (suc j) (omega arith)
-      (high-full T₀ (R .good) (nth w (d + suc j)) (lastOf w (d + suc j - 1) (suc j)) (lastOf w (d + suc j - 1) (suc j - 1)) (reduced (d + suc j - 1) (suc j) (omega arith)) (reduced (d + suc j - 1) (suc j - 1) (omega arith))
+      (high-full T₀ (R .good) (nth w (d + suc j)) (lastOf w (d + suc j - 1) (suc j)) (lastOf w (d + suc j - 1) (suc j - 1))
+      (reduced (d + suc j - 1) (suc j) (omega arith)) (reduced (d + suc j - 1) (suc j - 1) (omega arith))
       (outOf T₀ (getD row₀ (suc j) 0)) (row-there (suc j) (omega arith)) refl o (is ∙ ap₂ (λ (n i : ℕ). placeIn T₀ (lastOf w n i)) a b) f
       ∙ ap (placeIn T₀) (sym (over w d (suc j) (omega arith) (less-deep w (d + k) (d + suc j) D (omega arith)))))
 
   module _ (T : Table) (row : List ℕ) (node j v : ℕ) (I : Along T₀ w d k row₀ T row node j v) where
     made-grown : Grown T₀ (lastOf w (d + j - 1) (j - 1)) (outOf T node)
-    made-grown = grown T₀ (R .good) (lastOf w (d + j - 1) (j - 1)) (reduced (d + j - 1) (j - 1) (omega (arith, I .most, I .least))) (outOf T node) (I .made)
+    made-grown = grown T₀ (R .good) (lastOf w (d + j - 1) (j - 1)) (reduced (d + j - 1) (j - 1) (omega (arith, I .most, I .least)))
+        (outOf T node) (I .made)
 
     pub along-good : Good T
     along-good = made-grown .good
@@ -111,7 +117,8 @@ module _ (T₀ : Table) (w d k : ℕ) (row₀ : List ℕ) (R : Row T₀ w d k ro
       variable-least = subst (λ (x : ℕ). 1 ≤ x) (sym (I .at)) (D (d + j - 1) (omega arith))
 
       pub variable-most : v ≤ 65
-      variable-most = let e : v ≡ nth w (d + j - 1) = I .at in omega (arith, nth-falls w (d + j - 1) (less-deep w (d + k) (d + j - 1) D (omega arith)))
+      variable-most = let e : v ≡ nth w (d + j - 1) = I .at in omega
+          (arith, nth-falls w (d + j - 1) (less-deep w (d + k) (d + j - 1) D (omega arith)))
 
       variable : (u : ℕ) → u ≡ lower w v → u ≡ nth w (d + j)
       variable u e =
@@ -131,7 +138,8 @@ module _ (T₀ : Table) (w d k : ℕ) (row₀ : List ℕ) (R : Row T₀ w d k ro
         -- the put places at least j of the last d + j
         pub row-placed : o ≡ placeIn T₀ (lastOf w (d + j) j)
         row-placed =
-            joined T₀ (R .good) (nth w (d + j)) (lastOf w (d + j - 1) j) (lastOf w (d + j - 1) (j - 1)) (reduced (d + j - 1) j (omega arith)) (reduced (d + j - 1) (j - 1) (omega arith))
+            joined T₀ (R .good) (nth w (d + j)) (lastOf w (d + j - 1) j) (lastOf w (d + j - 1) (j - 1))
+            (reduced (d + j - 1) j (omega arith)) (reduced (d + j - 1) (j - 1) (omega arith))
             (outOf T₀ (getD row₀ j 0)) (row-there j le) refl (outOf T node) (I .made) refl o put-is
             ∙ ap (placeIn T₀) (sym (over w d j (I .least) deep))
 
@@ -142,7 +150,8 @@ module _ (T₀ : Table) (w d k : ℕ) (row₀ : List ℕ) (R : Row T₀ w d k ro
         put-grown =
             grown T along-good (lastOf w (d + j) j) (reduced (d + j) j (omega arith)) o
             (put-is ∙ put-in T along-good (nth w (d + j)) (getD row₀ j 0) node low-inside along-inside
-            ∙ ap₂ (λ (x y : Diagram). placeIn T (branch (nth w (d + j)) x y)) (made-grown .kept (getD row₀ j 0) (R .inside j le) ∙ R .is j le) (made-grown .is refl)
+            ∙ ap₂ (λ (x y : Diagram). placeIn T (branch (nth w (d + j)) x y))
+            (made-grown .kept (getD row₀ j 0) (R .inside j le) ∙ R .is j le) (made-grown .is refl)
             ∙ ap (placeIn T) (sym (over w d j (I .least) deep)))
 
         module _ (f : o .full ≡ false) where
@@ -152,14 +161,17 @@ module _ (T₀ : Table) (w d k : ℕ) (row₀ : List ℕ) (R : Row T₀ w d k ro
           set-inside : (i : ℕ) → i < j + 1 → getD (set row j (o .node)) i 0 < o .table .count
           set-inside i lt = elim (ℕ-discrete i j) [
             | yes q ↦ subst (λ (i : ℕ). getD (set row j (o .node)) i 0 < o .table .count) (sym q)
-                (let z : getD (set row j (o .node)) j 0 ≡ o .node = getD-set-same row j (o .node) 0 (omega (arith, I .same-length, R .room)) in omega (arith, put-grown .inside))
-            | no q ↦ let z : getD (set row j (o .node)) i 0 ≡ getD row i 0 = getD-set-other row j i (o .node) 0 q in omega (arith, I .inside i (omega (arith, q)), put-grown .more)
+                (let z : getD (set row j (o .node)) j 0 ≡ o .node = getD-set-same row j (o .node) 0 (omega (arith, I .same-length, R .room))
+                in omega (arith, put-grown .inside))
+            | no q ↦ let z : getD (set row j (o .node)) i 0 ≡ getD row i 0 = getD-set-other row j i (o .node) 0 q in
+                omega (arith, I .inside i (omega (arith, q)), put-grown .more)
           ]
 
           set-is : (i : ℕ) → i < j + 1 → diagramAt (nodesOf (o .table)) (getD (set row j (o .node)) i 0) ≡ lastOf w (d + i) i
           set-is i lt = elim (ℕ-discrete i j) [
             | yes q ↦ subst (λ (i : ℕ). diagramAt (nodesOf (o .table)) (getD (set row j (o .node)) i 0) ≡ lastOf w (d + i) i) (sym q)
-                (ap (diagramAt (nodesOf (o .table))) (getD-set-same row j (o .node) 0 (omega (arith, I .same-length, R .room))) ∙ put-grown .is f)
+                (ap (diagramAt (nodesOf (o .table))) (getD-set-same row j (o .node) 0 (omega (arith, I .same-length, R .room)))
+                ∙ put-grown .is f)
             | no q ↦
                 ap (diagramAt (nodesOf (o .table))) (getD-set-other row j i (o .node) 0 q)
                 ∙ put-grown .kept (getD row i 0) (I .inside i (omega (arith, q))) ∙ I .is i (omega (arith, q))
@@ -183,21 +195,25 @@ module _ (T₀ : Table) (w d k : ℕ) (row₀ : List ℕ) (R : Row T₀ w d k ro
 -- ---- all diagonals
 
 -- low placed first, then the whole: the same as the whole
-again : (T : Table) → Good T → (v : ℕ) (l h : Diagram) → Reduced 1 65 l → Reduced 1 65 h → (o₁ : Outcome) → o₁ ≡ placeIn T l → o₁ .full ≡ false
+again : (T : Table) → Good T → (v : ℕ) (l h : Diagram) → Reduced 1 65 l → Reduced 1 65 h → (o₁ : Outcome) → o₁ ≡ placeIn T l → o₁ .full
+    ≡ false
     → placeIn (o₁ .table) (branch v l h) ≡ placeIn T (branch v l h)
 again T G v l h rl rh o₁ e₁ f₁ =
     let W : Grown T l o₁ = grown T G l rl o₁ e₁ in
-    let t : outOf (o₁ .table) (o₁ .node) ≡ placeIn (o₁ .table) l = sym (there (o₁ .table) (W .good) (o₁ .node) (W .inside)) ∙ ap (placeIn (o₁ .table)) (W .is f₁) in
+    let t : outOf (o₁ .table) (o₁ .node) ≡ placeIn (o₁ .table) l = sym (there (o₁ .table) (W .good) (o₁ .node) (W .inside))
+    ∙ ap (placeIn (o₁ .table)) (W .is f₁) in
     go W t (placeIn (o₁ .table) h .full) refl
   where
-    go : Grown T l o₁ → outOf (o₁ .table) (o₁ .node) ≡ placeIn (o₁ .table) l → (b : Bool) → placeIn (o₁ .table) h .full ≡ b → placeIn (o₁ .table) (branch v l h) ≡ placeIn T (branch v l h)
+    go : Grown T l o₁ → outOf (o₁ .table) (o₁ .node) ≡ placeIn (o₁ .table) l → (b : Bool) → placeIn (o₁ .table) h .full ≡ b →
+        placeIn (o₁ .table) (branch v l h) ≡ placeIn T (branch v l h)
     go W t true f =
         sym (high-full (o₁ .table) (W .good) v l h rl rh (outOf (o₁ .table) (o₁ .node)) t refl (placeIn (o₁ .table) h) refl f)
         ∙ high-full T G v l h rl rh o₁ e₁ f₁ (placeIn (o₁ .table) h) refl f
     go W t false f =
         sym (joined (o₁ .table) (W .good) v l h rl rh (outOf (o₁ .table) (o₁ .node)) t refl (placeIn (o₁ .table) h) refl f
         (putIn (placeIn (o₁ .table) h .table) v (o₁ .node) (placeIn (o₁ .table) h .node)) refl)
-        ∙ joined T G v l h rl rh o₁ e₁ f₁ (placeIn (o₁ .table) h) refl f (putIn (placeIn (o₁ .table) h .table) v (o₁ .node) (placeIn (o₁ .table) h .node)) refl
+        ∙ joined T G v l h rl rh o₁ e₁ f₁ (placeIn (o₁ .table) h) refl f
+        (putIn (placeIn (o₁ .table) h .table) v (o₁ .node) (placeIn (o₁ .table) h .node)) refl
 
 -- what has been done before diagonal d
 pub record Before (T₀ : Table) (w k m : ℕ) (T : Table) (row : List ℕ) (node d v : ℕ) : Type 0 where
@@ -211,7 +227,8 @@ module _ (T₀ : Table) (G : Good T₀) (w k m : ℕ) (M : Members w m) (some : 
   deep-to n le = less-deep w m n (M .there) le
 
   -- the row at first: 1, then 0
-  pub before-start : k ≤ m → (row : List ℕ) → k < length row → getD row 0 0 ≡ 1 → ((j : ℕ) → 1 ≤ j → getD row j 0 ≡ 0) → Before T₀ w k m T₀ row 0 0 65
+  pub before-start : k ≤ m → (row : List ℕ) → k < length row → getD row 0 0 ≡ 1 → ((j : ℕ) → 1 ≤ j → getD row j 0 ≡ 0) →
+      Before T₀ w k m T₀ row 0 0 65
   before-start le row room one zeros = record {
     rows = record {
       good = G;
@@ -230,7 +247,8 @@ module _ (T₀ : Table) (G : Good T₀) (w k m : ℕ) (M : Members w m) (some : 
     };
     within = omega arith;
     at = sym (nth-zero w);
-    made = sym (there T₀ G 0 (omega (arith, G .least))) ∙ ap (placeIn T₀) (diagramAt-zero (nodesOf T₀) ∙ sym (last-beyond w (0 + k - 1) k (deep-to (0 + k - 1) (omega arith)) (omega arith)));
+    made = sym (there T₀ G 0 (omega (arith, G .least))) ∙ ap (placeIn T₀)
+        (diagramAt-zero (nodesOf T₀) ∙ sym (last-beyond w (0 + k - 1) k (deep-to (0 + k - 1) (omega arith)) (omega arith)));
   }
 
   -- no room for at least k of the last n: none for at least k of more
@@ -238,7 +256,8 @@ module _ (T₀ : Table) (G : Good T₀) (w k m : ℕ) (M : Members w m) (some : 
   full-on o f zero n e is = let z : n ≡ m = omega arith in subst (λ (i : ℕ). o ≡ placeIn T₀ (lastOf w i k)) z is
   full-on o f (suc e) n q is =
       full-on o f e (suc n) (omega arith)
-      (low-full T₀ G (nth w (suc n)) (lastOf w n k) (lastOf w n (k - 1)) (last-reduced w n k (deep-to n (omega arith))) (last-reduced w n (k - 1) (deep-to n (omega arith))) o is f
+      (low-full T₀ G (nth w (suc n)) (lastOf w n k) (lastOf w n (k - 1)) (last-reduced w n k (deep-to n (omega arith)))
+      (last-reduced w n (k - 1) (deep-to n (omega arith))) o is f
       ∙ ap (placeIn T₀) (sym (last-step w n k (deep-to (suc n) (omega arith)))))
 
   module _ (T : Table) (row : List ℕ) (node d v : ℕ) (B : Before T₀ w k m T row node d v) where
@@ -262,14 +281,16 @@ module _ (T₀ : Table) (G : Good T₀) (w k m : ℕ) (M : Members w m) (some : 
         whole : o ≡ placeIn T₀ (lastOf w (d + k) k)
         whole =
             p ∙ ap (placeIn T) (over w d k some deep-here)
-            ∙ again T₀ G (nth w (d + k)) (lastOf w (d + k - 1) k) (lastOf w (d + k - 1) (k - 1)) (last-reduced w (d + k - 1) k (deep-to (d + k - 1) (omega arith)))
+            ∙ again T₀ G (nth w (d + k)) (lastOf w (d + k - 1) k) (lastOf w (d + k - 1) (k - 1))
+            (last-reduced w (d + k - 1) k (deep-to (d + k - 1) (omega arith)))
             (last-reduced w (d + k - 1) (k - 1) (deep-to (d + k - 1) (omega arith))) (outOf T node) (B .made) refl
             ∙ ap (placeIn T₀) (sym (over w d k some deep-here))
 
         pub diagonal-full : o .full ≡ true → o ≡ placeIn T₀ (atLeast 64 (inWord w) k)
         diagonal-full f = full-on o f (m - (d + k)) (d + k) (omega arith) whole ∙ ap (placeIn T₀) (last-whole w m k M)
 
-        pub before-next : o .full ≡ false → (row′ : List ℕ) → Row (o .table) w (d + 1) k row′ → (u : ℕ) → u ≡ lower w v → Before T₀ w k m (o .table) row′ (o .node) (d + 1) u
+        pub before-next : o .full ≡ false → (row′ : List ℕ) → Row (o .table) w (d + 1) k row′ → (u : ℕ) → u ≡ lower w v →
+            Before T₀ w k m (o .table) row′ (o .node) (d + 1) u
         before-next f row′ R u e =
             let a : d + k ≡ d + 1 + k - 1 = omega arith in
             let b : suc d ≡ d + 1 = omega arith in
@@ -277,7 +298,8 @@ module _ (T₀ : Table) (G : Good T₀) (w k m : ℕ) (M : Members w m) (some : 
               rows = R;
               within = omega arith;
               at = e ∙ ap (lower w) (B .at) ∙ sym (nth-suc w d) ∙ ap (nth w) b;
-              made = ap (λ (b : Bool). record { table = o .table; full = b; node = o .node }) (sym f) ∙ whole ∙ ap (λ (n : ℕ). placeIn T₀ (lastOf w n k)) a;
+              made = ap (λ (b : Bool). record { table = o .table; full = b; node = o .node }) (sym f) ∙ whole
+                  ∙ ap (λ (n : ℕ). placeIn T₀ (lastOf w n k)) a;
             }
 
 -- ---- the edges
@@ -291,7 +313,8 @@ none-wanted T G w m k M e =
 -- "k above the set's size gives 0"
 pub too-many-wanted : (T : Table) → Good T → (w m k : ℕ) → Members w m → m < k → outOf T 0 ≡ placeIn T (atLeast 64 (inWord w) k)
 too-many-wanted T G w m k M lt =
-    sym (there T G 0 (omega (arith, G .least))) ∙ ap (placeIn T) (diagramAt-zero (nodesOf T) ∙ sym (last-beyond w m k (M .there) lt) ∙ last-whole w m k M)
+    sym (there T G 0 (omega (arith, G .least))) ∙ ap (placeIn T)
+    (diagramAt-zero (nodesOf T) ∙ sym (last-beyond w m k (M .there) lt) ∙ last-whole w m k M)
 
 -- ---- the row at first
 

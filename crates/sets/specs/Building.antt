@@ -1,6 +1,6 @@
 -- What the builders ask and leave. No call open to others cites this file.
 use mathlib.Core.Path.{_≡_}
-use mathlib.Core.Bool.{Bool, true, false, not}
+use mathlib.Core.Bool.{Bool, not}
 use mathlib.Core.List.{List}
 use Prim.Native.Nat.{ℕ, _+_, _-_, _≤_, _<_}
 use lib.ListN.{length, getD}
@@ -21,12 +21,7 @@ placedIn T f = written (size T) (place (size T) (nodesOf T) f)
 abbrev pub remaining : ℕ → ℕ → Bool → Diagram
 remaining set v odd = parityFrom (inWord set) (65 - v) v odd
 
--- The node of the constant that is left where no variable is: none is an even number of them.
-unfoldable pub constantOf : Bool → ℕ
-constantOf true = 0
-constantOf false = 1
-
--- What the builder asks: `other`, where it is a node, is the other parity's diagram of the same variables.
+-- What a builder asks: `other`, where it is a node, is the other parity's diagram of the same variables.
 pub record Buildable (T : Table) (set v : ℕ) (odd : Bool) (other : ℕ) : Type 0 where
   pub good : Good T
   pub least : 1 ≤ v

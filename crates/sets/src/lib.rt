@@ -35,18 +35,10 @@ pub fn parity(
         outcomeOf (now (vars .exit)) (now (lows .exit)) (now (highs .exit)) (now (heads .exit)) (now (links .exit)) r
         ≡ placedIn before (parity 64 (inWord set) odd)) ⌝ }
 {
-    odd_even::parity_from(
-        vars,
-        lows,
-        highs,
-        heads,
-        links,
-        count,
-        set,
-        1,
-        odd,
-        NodeNo(0),
-    )
+    if odd {
+        return odd_even::odd(vars, lows, highs, heads, links, count, set, 1, NodeNo(0));
+    }
+    odd_even::even(vars, lows, highs, heads, links, count, set, 1, NodeNo(0))
 }
 
 // The diagram of "at least k of the set's variables", or `full`.

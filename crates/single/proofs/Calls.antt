@@ -68,7 +68,8 @@ module _ (c : Columns) (count : ℕ) where
   done-is o (full t) e L n = t≢f (sym (ap (λ (x : Outcome). x .full) e) ∙ n)
   done-is o (placed t k) e L n =
       let left : listsOf (o .table) ≡ storedAs (length (c .vars)) t =
-      good-stored (o .table) (L .good) ∙ ap₂ storedAs (L .same-size) (ap (λ (x : Outcome). nodesOf (x .table)) e ∙ nodes-indexed (length (c .vars)) t) in
+      good-stored (o .table) (L .good) ∙ ap₂ storedAs (L .same-size)
+      (ap (λ (x : Outcome). nodesOf (x .table)) e ∙ nodes-indexed (length (c .vars)) t) in
       ap (answered o) left ∙ ap (λ (x : Outcome). answered x (storedAs (length (c .vars)) t)) e
 
   -- One that did not.
@@ -78,5 +79,6 @@ module _ (c : Columns) (count : ℕ) where
   full-is o (placed t k) e n = t≢f (sym n ∙ ap (λ (x : Outcome). x .full) e)
 
 -- Dropping what was placed leaves the table as lent, its index too.
-pub dropped-is : (T T′ D : Table) → Good T → Longer T T′ → D ≡ droppedTo (T .count) T′ → unchanged (listsOf D) (D .count) 23 ≡ unchanged (listsOf T) (T .count) 23
+pub dropped-is : (T T′ D : Table) → Good T → Longer T T′ → D ≡ droppedTo (T .count) T′ → unchanged (listsOf D) (D .count) 23
+    ≡ unchanged (listsOf T) (T .count) 23
 dropped-is T T′ D G L e = ap (λ (t : Table). unchanged (listsOf t) (t .count) 23) (e ∙ undone T G T′ L)

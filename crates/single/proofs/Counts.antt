@@ -37,7 +37,8 @@ module _ (c : Columns) (count set k : ℕ) where
     least-26 o = rw (e, o) (no-count (unchanged c count 26) set k (λ z. absurd (omega arith)))
 
     pub least-made : ordered c count ≡ true
-        → withCount (madeBy c count (place (length (c .vars)) (nodesOf (tableOf (c .vars) (c .lows) (c .highs) (c .heads) (c .links) count)) (atLeast 64 (inWord set) k))) set k
+        → withCount (madeBy c count (place (length (c .vars)) (nodesOf (tableOf (c .vars) (c .lows) (c .highs) (c .heads) (c .links) count))
+        (atLeast 64 (inWord set) k))) set k
         ≡ atLeastCall c count set k
     unfolding atLeastCall nodesOf
     least-made o = rw (e, o)
@@ -54,19 +55,34 @@ module _ (T : Table) (G : Good T) (set k : ℕ) (o : Outcome) (e : o ≡ placeIn
 
 -- 23: no count
 least-full : (c : Columns) (count set k : ℕ) (m : Made) → unchanged c count 23 ≡ m → refusedWith c count 23 ≡ withCount m set k
-least-full c count set k m e = subst (λ (x : Made). refusedWith c count 23 ≡ withCount x set k) e (no-count (unchanged c count 23) set k (λ z. absurd (omega arith)))
+least-full c count set k m e = subst (λ (x : Made). refusedWith c count 23 ≡ withCount x set k) e
+    (no-count (unchanged c count 23) set k (λ z. absurd (omega arith)))
 
-pub least-23 : (T T′ T₂ : Table) → Good T → Longer T T′ → T₂ ≡ droppedTo (T .count) T′ → (set k : ℕ) (m : Made) → unchanged (listsOf T) (T .count) 23 ≡ m
+pub least-23 : (T T′ T₂ : Table) → Good T → Longer T T′ → T₂ ≡ droppedTo (T .count) T′ → (set k : ℕ) (m : Made) →
+    unchanged (listsOf T) (T .count) 23 ≡ m
     → (r : AtLeast) → r ≡ record { number = 23; node = record { 0 = 0 }; count = T .count; counted = false; excluded = 0 }
     → countedOf (listsOf T₂) r ≡ withCount m set k
 least-23 T T′ T₂ G L dropped set k m is r e =
-    ap (countedOf (listsOf T₂)) e ∙ ap (λ (t : Table). refusedWith (listsOf t) (T .count) 23) (dropped ∙ undone T G T′ L) ∙ least-full (listsOf T) (T .count) set k m is
+    ap (countedOf (listsOf T₂)) e ∙ ap (λ (t : Table). refusedWith (listsOf t) (T .count) 23) (dropped ∙ undone T G T′ L)
+    ∙ least-full (listsOf T) (T .count) set k m is
 
 -- the diagram's node, and what it excludes
-pub least-done : (set k : ℕ) (node count : ℕ) (left : Columns) (m : Made) → record { number = 0; node = node; count = count; columns = left } ≡ m
+pub least-done : (set k : ℕ) (node count : ℕ) (left : Columns) (m : Made) →
+    record { number = 0; node = node; count = count; columns = left } ≡ m
     → (e : Count) → e ≡ countOf set k
-    → record { made = record { number = 0; node = node; count = count; columns = left }; counted = e .counted; excluded = e .excluded } ≡ withCount m set k
+    → record { made = record { number = 0; node = node; count = count; columns = left }; counted = e .counted; excluded = e .excluded }
+    ≡ withCount m set k
 unfolding withCount countOf
 least-done set k node count left m is e counted =
-    subst (λ (x : Made). record { made = record { number = 0; node = node; count = count; columns = left }; counted = e .counted; excluded = e .excluded } ≡ withCount x set k) is
-    (ap (λ (x : Count). record { made = record { number = 0; node = node; count = count; columns = left }; counted = x .counted; excluded = x .excluded }) counted)
+    subst (λ (x : Made). record {
+      made = record { number = 0; node = node; count = count; columns = left };
+      counted = e .counted;
+      excluded =
+          e .excluded;
+    } ≡ withCount x set k) is
+    (ap (λ (x : Count). record {
+      made = record { number = 0; node = node; count = count; columns = left };
+      counted = x .counted;
+      excluded =
+          x .excluded;
+    }) counted)

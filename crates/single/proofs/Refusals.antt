@@ -63,7 +63,8 @@ module _ (c : Columns) (count : ℕ) where
   pub readable : fits ≡ true → ordered ≡ true → Readable (c .vars) (c .lows) (c .highs) count
   readable e o =
       let S : Sized (c .vars) (c .lows) (c .highs) (c .heads) (c .links) = sized (c .vars) (c .lows) (c .highs) (c .heads) (c .links) e in
-      let G : GoodPlaces (rows (c .vars) (c .lows) (c .highs)) count = good-order (rows (c .vars) (c .lows) (c .highs)) count (c .heads) (c .links) o in
+      let G : GoodPlaces (rows (c .vars) (c .lows) (c .highs)) count = good-order (rows (c .vars) (c .lows) (c .highs)) count (c .heads)
+      (c .links) o in
       record {
         least = G .least;
         within = omega (arith, G .within, length-rows (c .vars) (c .lows) (c .highs) (S .lows) (S .highs));

@@ -21,7 +21,8 @@ module _ (p n : ℕ) where
   shares-below : (k : ℕ) → shares k p n ≡ not (allBelow k parted)
   unfolding shares allBelow
   shares-below zero = refl
-  shares-below (suc k) = ap (_||_ (inWord p (suc k) && inWord n (suc k))) (shares-below k) ∙ one-more (inWord p (suc k) && inWord n (suc k)) (allBelow k parted)
+  shares-below (suc k) = ap (_||_ (inWord p (suc k) && inWord n (suc k))) (shares-below k)
+      ∙ one-more (inWord p (suc k) && inWord n (suc k)) (allBelow k parted)
 
   pub shares-is : shares 64 p n ≡ sharesVariable p n
   unfolding sharesVariable

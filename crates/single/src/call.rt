@@ -106,7 +106,7 @@ fn judged(
         let after = columnsMade (now (vars .exit)) (now (lows .exit)) (now (highs .exit)) (now (heads .exit)) (now (links .exit)) in
         madeOf after r ≡ operation op before count (f .0) (g .0)) ⌝ }
 {
-    if !table::test::order_fits(vars, lows, highs, heads, links, count) {
+    if !good_order::order_fits(vars, lows, highs, heads, links, count) {
         return Single {
             number: 26,
             node: NodeNo(0),

@@ -85,7 +85,7 @@ pub fn at_least(
     if !table::test::size_fits(vars, lows, highs, heads, links) {
         return refused(7, count);
     }
-    if !table::test::order_fits(vars, lows, highs, heads, links, count) {
+    if !good_order::order_fits(vars, lows, highs, heads, links, count) {
         return refused(26, count);
     }
     made(vars, lows, highs, heads, links, count, set, k)

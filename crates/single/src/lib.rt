@@ -37,7 +37,7 @@ pub fn evaluate(
             count,
         };
     }
-    if !table::test::order_fits(vars, lows, highs, heads, links, count) {
+    if !good_order::order_fits(vars, lows, highs, heads, links, count) {
         return Evaluated {
             number: 26,
             yes: false,

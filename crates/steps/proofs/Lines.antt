@@ -27,12 +27,13 @@ use Rattle.table.proofs.Extended.{extended-longer}
 use Rattle.judge.specs.declared.Judged.{Judged}
 use Rattle.judge.specs.Lines.{Negatable, LineSays}
 use Rattle.judge.proofs.Widths.{witnessed-walk, witnessed-at, rup-at, pr-at}
-use Rattle.entries.specs.declared.State.{State}
-use Rattle.entries.specs.declared.Step.{Step}
-use Rattle.entries.specs.declared.Step.the-variants.{Next, Stop, Spent}
+use Rattle.state.specs.declared.State.{State}
+use Rattle.state.specs.declared.Step.{Step}
+use Rattle.state.specs.declared.Step.the-variants.{Next, Stop, Spent}
+use Rattle.paths.specs.Rounds.{mostRounds}
 use Rattle.steps.specs.Tried.{Tried, acceptedBy, saidBy, stepBy, membersBy}
 use Rattle.steps.specs.NextStates.{withLine}
-use Rattle.entries.specs.States.{Lent, tableIn, stateOf, Held, Stepped}
+use Rattle.state.specs.States.{Lent, tableIn, stateOf, Held, Stepped}
 use Rattle.verdict.specs.Taken.{lineOf}
 use Rattle.steps.specs.Tests.{lineRefusal, FewPaths}
 use Rattle.entries.proofs.Stops.{unless, unless-refused, unless-none, stopped}
@@ -47,12 +48,16 @@ use Rattle.entries.proofs.Entering.{lentWith, inside-more, one-more}
 
 -- what the code's test of the root's node says
 pub shut-is : (l : Lent) (st : State) (e child : ℕ) → child ≡ getD (0 ∷ 1 ∷ take (st .entries) (l .scratch)) e 0
-    → (r b : Bool) → r ≡ oneAt (nodesIn (l .vars) (l .lows) (l .highs) (st .count)) (st .witness .positive) (st .witness .negative) child → r ≡ b
-    → witnessed 64 (inWord (st .witness .positive)) (inWord (st .witness .negative)) (diagramIn (stateOf l st) (entryNode (stateOf l st) e)) ≡ b
+    → (r b : Bool) → r ≡ oneAt (nodesIn (l .vars) (l .lows) (l .highs) (st .count)) (st .witness .positive) (st .witness .negative) child →
+    r ≡ b
+    → witnessed 64 (inWord (st .witness .positive)) (inWord (st .witness .negative)) (diagramIn (stateOf l st) (entryNode (stateOf l st) e))
+    ≡ b
 unfolding nodesOf
 shut-is l st e child is r b ensures told =
-    ap (λ (k : ℕ). witnessed 64 (inWord (st .witness .positive)) (inWord (st .witness .negative)) (diagramIn (stateOf l st) k)) (node-is-at l st e ∙ sym is)
-    ∙ sym (witnessed-walk (nodesIn (l .vars) (l .lows) (l .highs) (st .count)) (st .witness .positive) (st .witness .negative) child) ∙ sym ensures ∙ told
+    ap (λ (k : ℕ). witnessed 64 (inWord (st .witness .positive)) (inWord (st .witness .negative)) (diagramIn (stateOf l st) k))
+    (node-is-at l st e ∙ sym is)
+    ∙ sym (witnessed-walk (nodesIn (l .vars) (l .lows) (l .highs) (st .count)) (st .witness .positive) (st .witness .negative) child)
+    ∙ sym ensures ∙ told
 
 -- ---- a path line's paths
 
@@ -61,7 +66,8 @@ pub paths-told : (l : Lent) (st : State) (e child : ℕ) → child ≡ getD (0 �
     → (left : ℕ) → left ≡ 4097 - pathCount (diagramAt (nodesIn (l .vars) (l .lows) (l .highs) (st .count)) child)
     → left ≡ 4097 - pathCount (diagramIn (stateOf l st) (entryNode (stateOf l st) e))
 unfolding nodesOf
-paths-told l st e child is left told = told ∙ ap (λ (k : ℕ). 4097 - pathCount (diagramIn (stateOf l st) k)) (sym (node-is-at l st e ∙ sym is))
+paths-told l st e child is left told = told ∙ ap (λ (k : ℕ). 4097 - pathCount (diagramIn (stateOf l st) k))
+    (sym (node-is-at l st e ∙ sym is))
 
 -- ---- the tests of a line
 
@@ -138,23 +144,34 @@ module _ (n : ℕ) (st : check.State) (root : ℕ) where
 -- ---- what judging says
 
 -- Judging says what the line comes to.
-pub judged-said : (T : Table) (st : check.State) → st .nodes ≡ nodesOf T → (g : ℕ) (line : Line) (j : Judged) → Tried T line j → judged (size T) st g line ≡ saidBy st g j
+pub judged-said : (T : Table) (st : check.State) → st .nodes ≡ nodesOf T → (g : ℕ) (line : Line) (j : Judged) → Tried T line j →
+    judged (size T) st g line ≡ saidBy st g j
 unfolding judged
 judged-said T st same g line j W =
-    let at : lineReach (size T) (st .nodes) line ≡ reach (not (j .full)) (j .peak) = ap (λ (t : List Node). lineReach (size T) t line) same ∙ W .reaches in
+    let at : lineReach (size T) (st .nodes) line ≡ reach (not (j .full)) (j .peak) = ap (λ (t : List Node). lineReach (size T) t line) same
+    ∙ W .reaches in
     go (j .full) refl at
   where
     go : (b : Bool) → j .full ≡ b → lineReach (size T) (st .nodes) line ≡ reach (not b) (j .peak)
-        → judged (size T) st g line ≡ cond b (spent 23 (max (st .peak) (j .peak))) (cond (not (j .shown)) (spent 19 (max (st .peak) (j .peak))) (next (acceptedBy st g (j .rounds) (max (st .peak) (j .peak)))))
+        → judged (size T) st g line ≡ cond b (spent 23 (max (st .peak) (j .peak)))
+        (cond (not (j .shown)) (spent 19 (max (st .peak) (j .peak))) (next (acceptedBy st g (j .rounds) (max (st .peak) (j .peak)))))
     go true f e = rw e
     go false f e = rw (e, W .shown f, W .rounds f)
 
 -- A line judged with fewer rounds at most.
 pub says-most : (t : Table) (line : Line) (a b : ℕ) (r : Judged) (t′ : Table) → a ≤ b → LineSays t line a r t′ → LineSays t line b r t′
-says-most t line a b r t′ le J = record { extended = J .extended; reaches = J .reaches; shown = J .shown; rounds = J .rounds; most = omega (arith, J .most) }
+says-most t line a b r t′ le J = record {
+  extended = J .extended;
+  reaches = J .reaches;
+  shown = J .shown;
+  rounds = J .rounds;
+  most =
+      omega (arith, J .most);
+}
 
 -- What judging says, once its nodes are dropped.
-pub tried : (t : Table) → Good t → (line : Line) (r : Judged) (t₁ t₂ : Table) → LineSays t line 262144 r t₁ → t₂ ≡ droppedTo (t .count) t₁ → (t₂ ≡ t) × Tried t line r
+pub tried : (t : Table) → Good t → (line : Line) (r : Judged) (t₁ t₂ : Table) → LineSays t line mostRounds r t₁ → t₂ ≡ droppedTo (t .count) t₁ →
+    (t₂ ≡ t) × Tried t line r
 tried t G line r t₁ t₂ J e = (
   e ∙ undone t G t₁ (extended-longer t t₁ G (J .extended)),
   record { reaches = J .reaches; shown = J .shown; rounds = J .rounds; most = J .most },
@@ -212,14 +229,17 @@ module _ (n : ℕ) (L : Lent) (st : State) (H : Held n L st) (rule : Rule) (root
   pub root-in : isEntry S root ≡ true → g < st .count
   root-in = entry-in n L st H root
 
-  witness-width : g < st .count → witnessed 64 (inWord (st .witness .positive)) (inWord (st .witness .negative)) (diagramIn S g) ≡ witnessed n (inWord (st .witness .positive)) (inWord (st .witness .negative)) (diagramIn S g)
+  witness-width : g < st .count → witnessed 64 (inWord (st .witness .positive)) (inWord (st .witness .negative)) (diagramIn S g)
+      ≡ witnessed n (inWord (st .witness .positive)) (inWord (st .witness .negative)) (diagramIn S g)
   witness-width p =
-      witnessed-at n (H .entries .narrow) T (H .entries .good) (H .entries .uses) (take (st .members) (L .members)) members-inside g p (inWord (st .witness .positive)) (inWord (st .witness .negative))
+      witnessed-at n (H .entries .narrow) T (H .entries .good) (H .entries .uses) (take (st .members) (L .members)) members-inside g p
+      (inWord (st .witness .positive)) (inWord (st .witness .negative))
 
   pr-refusal : isEntry S root ≡ true → lineRefusal 64 S Pr root ≡ lineRefusal n S Pr root
   unfolding lineRefusal
   pr-refusal e =
-      ap (λ (w : Bool). cond {A = ℕ} (not (isEntry S root)) 13 (cond (leb 1024 (st .lines)) 22 (cond (eqb g 1) 17 (cond (not w) 18 0)))) (witness-width (root-in e))
+      ap (λ (w : Bool). cond {A = ℕ} (not (isEntry S root)) 13 (cond (leb 1024 (st .lines)) 22 (cond (eqb g 1) 17 (cond (not w) 18 0))))
+      (witness-width (root-in e))
 
   rup-refusal : lineRefusal 64 S Rup root ≡ lineRefusal n S Rup root
   unfolding lineRefusal
@@ -244,12 +264,14 @@ module _ (n : ℕ) (L : Lent) (st : State) (H : Held n L st) (rule : Rule) (root
       go : (r : Rule) → lineOf 64 S r k ≡ lineOf n S r k
       go Rup = rup-at n (H .entries .narrow) T (H .entries .good) (H .entries .uses) live live-inside k p ne
       go Pr =
-          pr-at n (H .entries .narrow) T (H .entries .good) (H .entries .uses) live live-inside k p ne (inWord (st .witness .positive)) (inWord (st .witness .negative))
+          pr-at n (H .entries .narrow) T (H .entries .good) (H .entries .uses) live live-inside k p ne (inWord (st .witness .positive))
+          (inWord (st .witness .negative))
       go Path = path-at n (H .entries .narrow) T (H .entries .good) (H .entries .uses) live live-inside k
 
   pub line-refused : (number : ℕ) → number ≡ lineRefusal 64 S rule root → (number ≡ 0 → ⊥) → Stepped n L L st said (Stop number 0)
   line-refused number e ne =
-      stopped n L st said number 0 (line-is n (size T) S rule root ∙ ap (λ (k : ℕ). unless k (judged (size T) S g (lineOf n S rule g))) (sym (e ∙ refusal-width)) ∙ unless-refused number _ ne)
+      stopped n L st said number 0 (line-is n (size T) S rule root ∙ ap (λ (k : ℕ). unless k (judged (size T) S g (lineOf n S rule g)))
+      (sym (e ∙ refusal-width)) ∙ unless-refused number _ ne)
 
   -- ---- the line is judged, k being its root's node
 
@@ -269,7 +291,12 @@ module _ (n : ℕ) (L : Lent) (st : State) (H : Held n L st) (rule : Rule) (root
         ∙ ap (λ (x : ℕ). judged (size T) S x (lineOf n S rule x)) (sym is) ∙ ap (judged (size T) S k) (sym (line-width k k-in not-one))
 
     pub line-ready : (memo : List ℕ) → Roomy (T .vars) memo → Negatable T (take (st .members) (L .members)) memo k
-    line-ready memo room = record { ready = record { good = H .entries .good; inside = members-inside; room = room }; inside = k-in; not-one = not-one }
+    line-ready memo room = record {
+      ready = record { good = H .entries .good; inside = members-inside; room = room };
+      inside =
+          k-in;
+      not-one = not-one;
+    }
 
     pub few-paths : FewPaths rule (diagramAt (nodesOf T) k)
     few-paths = subst (λ (x : ℕ). FewPaths rule (diagramAt (nodesOf T) x)) (sym is) (line-paths 64 S rule root none)
@@ -282,7 +309,8 @@ module _ (n : ℕ) (L : Lent) (st : State) (H : Held n L st) (rule : Rule) (root
 
 -- ---- a judged line is refused, or its root is the next member
 
-module _ (n : ℕ) (L : Lent) (st : State) (H : Held n L st) (few : st .lines < 1024) (k : ℕ) (k-in : k < st .count) (rounds : ℕ) (most : rounds ≤ 262144) (peak : ℕ)
+module _ (n : ℕ) (L : Lent) (st : State) (H : Held n L st) (few : st .lines < 1024) (k : ℕ) (k-in : k < st .count) (rounds : ℕ)
+    (most : rounds ≤ mostRounds) (peak : ℕ)
     (cs : List ℕ) (room : 4096 ≤ length cs) where
   abbrev st′ : State
   st′ = withLine st rounds peak k
@@ -311,7 +339,8 @@ module _ (n : ℕ) (L : Lent) (st : State) (H : Held n L st) (few : st .lines < 
   -- the new member's mark is there already
   mark-more : take (st .members + 1) (L .struck) ≡ take (st .members) (L .struck) ++ 0 ∷ []
   mark-more =
-      ap (λ (ss : List ℕ). take (st .members + 1) ss) (sym (set-getD (L .struck) (st .members) 0) ∙ ap (set (L .struck) (st .members)) (H .unmarked (st .members) (omega arith)))
+      ap (λ (ss : List ℕ). take (st .members + 1) ss)
+      (sym (set-getD (L .struck) (st .members) 0) ∙ ap (set (L .struck) (st .members)) (H .unmarked (st .members) (omega arith)))
       ∙ one-more (L .struck) (st .members) 0 (omega (arith, member-room, H .marked))
 
   pub accepted-says : stateOf L′ st′ ≡ acceptedBy (stateOf L st) k rounds peak
@@ -319,7 +348,8 @@ module _ (n : ℕ) (L : Lent) (st : State) (H : Held n L st) (few : st .lines < 
       let one : st .lines + 1 ≡ suc (st .lines) = omega arith in
       ap₂ (λ (kept : ℕ) (ms : List ℕ). stateWith kept ms (take (st .members + 1) (L .struck)) (st .lines + 1))
       (sym (length-nodes (tableIn L (st .count)) (H .entries .good))) (one-more (L .members) (st .members) k member-room)
-      ∙ ap₂ (λ (ss : List ℕ) (lines : ℕ). stateWith (length (nodesOf (tableIn L (st .count)))) (take (st .members) (L .members) ++ k ∷ []) ss lines) mark-more one
+      ∙ ap₂ (λ (ss : List ℕ) (lines : ℕ). stateWith (length (nodesOf (tableIn L (st .count)))) (take (st .members) (L .members) ++ k ∷ [])
+      ss lines) mark-more one
 
   pub accepted-held : Held n L′ st′
   accepted-held = record {
@@ -343,18 +373,21 @@ module _ (n : ℕ) (L : Lent) (st : State) (H : Held n L st) (few : st .lines < 
     rounds = omega (arith, H .rounds, most);
   }
 
-module _ (n : ℕ) (L : Lent) (st : State) (H : Held n L st) (few : st .lines < 1024) (k : ℕ) (k-in : k < st .count) (j : Judged) (most : j .rounds ≤ 262144)
+module _ (n : ℕ) (L : Lent) (st : State) (H : Held n L st) (few : st .lines < 1024) (k : ℕ) (k-in : k < st .count) (j : Judged)
+    (most : j .rounds ≤ mostRounds)
     (T₂ : Table) (back : T₂ ≡ tableIn L (st .count)) (cs : List ℕ) (room : 4096 ≤ length cs) where
   -- THEOREM: where judging leaves the table as it was, what the line comes to is the definition's.
   pub line-ended : Stepped n L (lentWith T₂ (membersBy (L .members) st j k) cs (L .struck)) st (saidBy (stateOf L st) k j) (stepBy st j k)
-  line-ended = subst (λ (t : Table). Stepped n L (lentWith t (membersBy (L .members) st j k) cs (L .struck)) st (saidBy (stateOf L st) k j) (stepBy st j k)) (sym back) (go (j .full) (j .shown))
+  line-ended = subst (λ (t : Table). Stepped n L (lentWith t (membersBy (L .members) st j k) cs (L .struck)) st (saidBy (stateOf L st) k j)
+      (stepBy st j k)) (sym back) (go (j .full) (j .shown))
     where
       peak : ℕ
       peak = max (st .peak) (j .peak)
 
       go : (full shown : Bool)
           → Stepped n L
-          (lentWith (tableIn L (st .count)) (cond full (L .members) (cond (not shown) (L .members) (set (L .members) (st .members) k))) cs (L .struck)) st
+          (lentWith (tableIn L (st .count)) (cond full (L .members) (cond (not shown) (L .members) (set (L .members) (st .members) k))) cs
+          (L .struck)) st
           (cond full (spent 23 peak) (cond (not shown) (spent 19 peak) (next (acceptedBy (stateOf L st) k (j .rounds) peak))))
           (cond full (Spent 23 peak) (cond (not shown) (Spent 19 peak) (Next (withLine st (j .rounds) peak k))))
       go true shown = record { says = refl; leaves = record { table = refl; members = refl; struck = refl } }
@@ -377,11 +410,14 @@ module _ (members : List ℕ) (st : State) (j : Judged) (g peak : ℕ) (greatest
       → (Next st′ ≡ stepBy st j g) × (set members (st .members) g ≡ membersBy members st j g)
   ended-next f e st′ is = (ap Next is ∙ rw (greatest, f, e), rw (f, e))
 
-module _ (n : ℕ) (L : Lent) (st : State) (H : Held n L st) (rule : Rule) (root : ℕ) (none : lineRefusal 64 (stateOf L st) rule root ≡ 0) (k : ℕ) (is : k ≡ entryNode (stateOf L st) root) where
+module _ (n : ℕ) (L : Lent) (st : State) (H : Held n L st) (rule : Rule) (root : ℕ) (none : lineRefusal 64 (stateOf L st) rule root ≡ 0)
+    (k : ℕ) (is : k ≡ entryNode (stateOf L st) root) where
   -- a line that was tried
-  pub line-stepped : (j : Judged) → Tried (tableIn L (st .count)) (lineOf 64 (stateOf L st) rule k) j → (T₂ : Table) → T₂ ≡ tableIn L (st .count) → (cs : List ℕ) → 4096 ≤ length cs
+  pub line-stepped : (j : Judged) → Tried (tableIn L (st .count)) (lineOf 64 (stateOf L st) rule k) j → (T₂ : Table) → T₂
+      ≡ tableIn L (st .count) → (cs : List ℕ) → 4096 ≤ length cs
       → {r : Step} {ms : List ℕ} → r ≡ stepBy st j k → ms ≡ membersBy (L .members) st j k
       → Stepped n L (lentWith T₂ ms cs (L .struck)) st (lineStep n (size (tableIn L (st .count))) (stateOf L st) rule root) r
   line-stepped j W T₂ back cs room {r} {ms} e f =
       let few : st .lines < 1024 = line-fits 64 (stateOf L st) rule root none .few in
-      rw (e, f, line-said n L st H rule root none k is j W) (line-ended n L st H few k (k-in n L st H rule root none k is) j (W .most) T₂ back cs room)
+      rw (e, f, line-said n L st H rule root none k is j W)
+      (line-ended n L st H few k (k-in n L st H rule root none k is) j (W .most) T₂ back cs room)

@@ -15,9 +15,13 @@ use Rattle.table.proofs.Numbers.{UsesTo, reduced-to}
 module _ (n : ℕ) (most : n ≤ 64) (T : Table) (G : Good T) (uses : UsesTo n (nodesOf T)) where
   members-reduced : (members : List ℕ) → Inside (T .count) members → AllReduced n (diagramsOf (nodesOf T) members)
   members-reduced [] inside = tt
-  members-reduced (k ∷ ks) inside =
-      (reduced-to n (nodesOf T) (good-ordered T G) uses k (omega (arith, length-nodes T G, inside 0 (omega arith))), members-reduced ks (λ i p. inside (suc i) (omega arith)))
+  members-reduced (k ∷ ks) inside = (
+    reduced-to n (nodesOf T) (good-ordered T G) uses k (omega (arith, length-nodes T G, inside 0 (omega arith))),
+    members-reduced ks (λ i p. inside (suc i) (omega arith)),
+  )
 
   pub path-at : (members : List ℕ) → Inside (T .count) members → (g : ℕ)
-      → pathLine 64 (diagramsOf (nodesOf T) members) (diagramAt (nodesOf T) g) ≡ pathLine n (diagramsOf (nodesOf T) members) (diagramAt (nodesOf T) g)
-  path-at members inside g = path-width n 64 most (diagramsOf (nodesOf T) members) (members-reduced members inside) (diagramAt (nodesOf T) g)
+      → pathLine 64 (diagramsOf (nodesOf T) members) (diagramAt (nodesOf T) g)
+      ≡ pathLine n (diagramsOf (nodesOf T) members) (diagramAt (nodesOf T) g)
+  path-at members inside g = path-width n 64 most (diagramsOf (nodesOf T) members) (members-reduced members inside)
+      (diagramAt (nodesOf T) g)

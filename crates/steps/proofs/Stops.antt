@@ -18,7 +18,8 @@ use Rattle.entries.proofs.Stops.{unless, unless-refused, unless-none, four, pas
 -- ---- a line
 
 -- five tests, and then x
-five : (a b c d e : Bool) (i j k l m : ℕ) (x : check.Step) → eqb i 0 ≡ false → eqb j 0 ≡ false → eqb k 0 ≡ false → eqb l 0 ≡ false → eqb m 0 ≡ false
+five : (a b c d e : Bool) (i j k l m : ℕ) (x : check.Step) → eqb i 0 ≡ false → eqb j 0 ≡ false → eqb k 0 ≡ false → eqb l 0 ≡ false → eqb m 0
+    ≡ false
     → cond a (stop i 0) (cond b (stop j 0) (cond c (stop k 0) (cond d (stop l 0) (cond e (stop m 0) x))))
     ≡ unless (cond a i (cond b j (cond c k (cond d l (cond e m 0))))) x
 five true b c d e i j k l m x p q r s t = sym (unless-refused i x (eqb-false i 0 p))
@@ -29,15 +30,19 @@ five false false false false true i j k l m x p q r s t = sym (unless-refused m 
 five false false false false false i j k l m x p q r s t = sym (unless-none 0 x refl)
 
 module _ (n s : ℕ) (st : check.State) where
-  pub line-is : (rule : Rule) (root : ℕ) → lineStep n s st rule root ≡ unless (lineRefusal n st rule root) (judged s st (entryNode st root) (lineOf n st rule (entryNode st root)))
+  pub line-is : (rule : Rule) (root : ℕ) → lineStep n s st rule root ≡ unless (lineRefusal n st rule root)
+      (judged s st (entryNode st root) (lineOf n st rule (entryNode st root)))
   unfolding lineStep lineRefusal
   line-is Rup root =
-      four (not (isEntry st root)) (waiting st) (leb 1024 (st .lines)) (eqb (entryNode st root) 1) 13 16 22 17 (judged s st (entryNode st root) (lineOf n st Rup (entryNode st root))) refl refl refl refl
+      four (not (isEntry st root)) (waiting st) (leb 1024 (st .lines)) (eqb (entryNode st root) 1) 13 16 22 17
+      (judged s st (entryNode st root) (lineOf n st Rup (entryNode st root))) refl refl refl refl
   line-is Pr root =
       four (not (isEntry st root)) (leb 1024 (st .lines)) (eqb (entryNode st root) 1)
-      (not (witnessed n (inWord (st .positive)) (inWord (st .negative)) (diagramIn st (entryNode st root)))) 13 22 17 18 (judged s st (entryNode st root) (lineOf n st Pr (entryNode st root))) refl refl refl refl
+      (not (witnessed n (inWord (st .positive)) (inWord (st .negative)) (diagramIn st (entryNode st root)))) 13 22 17 18
+      (judged s st (entryNode st root) (lineOf n st Pr (entryNode st root))) refl refl refl refl
   line-is Path root =
-      five (not (isEntry st root)) (waiting st) (leb 1024 (st .lines)) (eqb (entryNode st root) 1) (ltb 4096 (pathCount (diagramIn st (entryNode st root))))
+      five (not (isEntry st root)) (waiting st) (leb 1024 (st .lines)) (eqb (entryNode st root) 1)
+      (ltb 4096 (pathCount (diagramIn st (entryNode st root))))
       13 16 22 17 34 (judged s st (entryNode st root) (lineOf n st Path (entryNode st root))) refl refl refl refl refl
 
 -- What a line that is to be judged has.
@@ -67,7 +72,8 @@ line-fits n st Path root e =
     record { entry = not-false _ entry; few = leb-false 1024 (st .lines) few; not-one = eqb-false (entryNode st root) 1 one }
 
 -- and at most 4,096 paths, where it is a path line
-pub line-paths : (n : ℕ) (st : check.State) (rule : Rule) (root : ℕ) → lineRefusal n st rule root ≡ 0 → FewPaths rule (diagramIn st (entryNode st root))
+pub line-paths : (n : ℕ) (st : check.State) (rule : Rule) (root : ℕ) → lineRefusal n st rule root ≡ 0 →
+    FewPaths rule (diagramIn st (entryNode st root))
 unfolding lineRefusal
 line-paths n st Rup root e = tt
 line-paths n st Pr root e = tt

@@ -12,9 +12,9 @@ use borrow.Author.Tests.{eq-eqb, ne-eqb, lt-ltb, le-ltb}
 use Rattle.table.specs.Lists.{Inside}
 use Rattle.verdict.specs.Steps as check
 use Rattle.verdict.specs.Steps.{withMarks, next, unstruck, waiting, isLive, strikeStep}
-use Rattle.entries.specs.declared.State.{State}
-use Rattle.entries.specs.declared.Step.the-variants.{Next, Stop}
-use Rattle.entries.specs.States.{Lent, lentOf, stateOf, Held, Stepped}
+use Rattle.state.specs.declared.State.{State}
+use Rattle.state.specs.declared.Step.the-variants.{Next, Stop}
+use Rattle.state.specs.States.{Lent, lentOf, stateOf, Held, Stepped}
 use Rattle.entries.proofs.Stops.{stopped}
 
 -- ---- members that are not struck
@@ -73,12 +73,14 @@ module _ (marks ks : List ℕ) (m : ℕ) (live₀ : List ℕ) where
   unfolding unstruck
   gathered-none = record { few = omega arith; within = omega arith; room = refl; held = refl }
 
-  module _ (live : List ℕ) (i count : ℕ) (G : Gathered marks ks m live₀ live i count) (more : i < m) (marked : m ≤ length marks) (there : m ≤ length ks)
+  module _ (live : List ℕ) (i count : ℕ) (G : Gathered marks ks m live₀ live i count) (more : i < m) (marked : m ≤ length marks)
+      (there : m ≤ length ks)
       (fits : m ≤ length live₀) where
     next-place : unstruck (take (i + 1) marks) (take (i + 1) ks) ≡ unstruck (take i marks) (take i ks) ++ liveAt marks ks i
     next-place =
         let e : i + 1 ≡ suc i = omega arith in
-        ap (λ (j : ℕ). unstruck (take j marks) (take j ks)) e ∙ unstruck-more i marks ks (omega (arith, more, marked)) (omega (arith, more, there))
+        ap (λ (j : ℕ). unstruck (take j marks) (take j ks)) e ∙ unstruck-more i marks ks (omega (arith, more, marked))
+        (omega (arith, more, there))
 
     pub gathered-live : getD marks i 0 ≡ 0 → Gathered marks ks m live₀ (set live count (getD ks i 0)) (i + 1) (count + 1)
     gathered-live zero-mark =
@@ -88,9 +90,11 @@ module _ (marks ks : List ℕ) (m : ℕ) (live₀ : List ℕ) where
           within = omega (arith, more);
           room = length-set live count (getD ks i 0) ∙ G .room;
           held =
-              ap (λ (j : ℕ). take j (set live count (getD ks i 0))) e ∙ take-suc-set live count (getD ks i 0) (omega (arith, G .few, G .room, more, fits))
+              ap (λ (j : ℕ). take j (set live count (getD ks i 0))) e ∙ take-suc-set live count (getD ks i 0)
+              (omega (arith, G .few, G .room, more, fits))
               ∙ ap (λ (l : List ℕ). l ++ getD ks i 0 ∷ []) (G .held)
-              ∙ sym (next-place ∙ ap (λ (c : Bool). unstruck (take i marks) (take i ks) ++ cond c (getD ks i 0 ∷ []) []) (eq-eqb (getD marks i 0) 0 zero-mark));
+              ∙ sym (next-place ∙ ap (λ (c : Bool). unstruck (take i marks) (take i ks) ++ cond c (getD ks i 0 ∷ []) [])
+              (eq-eqb (getD marks i 0) 0 zero-mark));
         }
 
     pub gathered-struck : getD marks i 0 ≢ 0 → Gathered marks ks m live₀ live (i + 1) count
@@ -100,11 +104,13 @@ module _ (marks ks : List ℕ) (m : ℕ) (live₀ : List ℕ) where
       room = G .room;
       held =
           G .held ∙ sym (append-nil (unstruck (take i marks) (take i ks)))
-          ∙ sym (next-place ∙ ap (λ (c : Bool). unstruck (take i marks) (take i ks) ++ cond c (getD ks i 0 ∷ []) []) (ne-eqb (getD marks i 0) 0 ne));
+          ∙ sym (next-place ∙ ap (λ (c : Bool). unstruck (take i marks) (take i ks) ++ cond c (getD ks i 0 ∷ []) [])
+          (ne-eqb (getD marks i 0) 0 ne));
     }
 
   -- all m places seen
-  pub gathered-all : (live : List ℕ) (i count : ℕ) → Gathered marks ks m live₀ live i count → m ≤ i → (count ≤ m) × (take count live ≡ unstruck (take m marks) (take m ks))
+  pub gathered-all : (live : List ℕ) (i count : ℕ) → Gathered marks ks m live₀ live i count → m ≤ i → (count ≤ m)
+      × (take count live ≡ unstruck (take m marks) (take m ks))
   gathered-all live i count G p =
       let e : i ≡ m = omega (arith, G .within) in
       (omega (arith, G .few, G .within), G .held ∙ ap (λ (j : ℕ). unstruck (take j marks) (take j ks)) e)
@@ -179,5 +185,6 @@ module _ (n : ℕ) (l : Lent) (st : State) (k : ℕ) where
       unfolding strikeStep
       says = rw (none, live)
 
-      pub strike-next : Stepped n l (lentOf (l .vars) (l .lows) (l .highs) (l .heads) (l .links) (l .members) (l .scratch) (set (l .struck) k 1)) st said (Next st)
+      pub strike-next : Stepped n l (lentOf (l .vars) (l .lows) (l .highs) (l .heads) (l .links) (l .members) (l .scratch)
+          (set (l .struck) k 1)) st said (Next st)
       strike-next = rw says (marked-next n l st k below H)

@@ -7,9 +7,9 @@ use Rattle.words.specs.declared.Literals.{Literals}
 use Rattle.words.specs.Sets.{withLiteral}
 use Rattle.verdict.specs.Steps as check
 use Rattle.verdict.specs.Steps.{next, isVariable, assigned, witnessStep}
-use Rattle.entries.specs.declared.State.{State}
-use Rattle.entries.specs.declared.Step.the-variants.{Next, Stop}
-use Rattle.entries.specs.States.{Lent, stateOf, Held, Stepped}
+use Rattle.state.specs.declared.State.{State}
+use Rattle.state.specs.declared.Step.the-variants.{Next, Stop}
+use Rattle.state.specs.States.{Lent, stateOf, Held, Stepped}
 use Rattle.steps.specs.NextStates.{stateWithWitness}
 use Rattle.steps.proofs.Bits.{with-clear}
 use Rattle.entries.proofs.Stops.{stopped}
@@ -49,7 +49,8 @@ held-witness n l st witness H = record {
   rounds = H .rounds;
 }
 
-module _ (n : ℕ) (l : Lent) (st : State) (v : ℕ) (b : Bool) (H : Held n l st) (variable : isVariable n v ≡ true) (positive : inWord (st .witness .positive) v ≡ false)
+module _ (n : ℕ) (l : Lent) (st : State) (v : ℕ) (b : Bool) (H : Held n l st) (variable : isVariable n v ≡ true)
+    (positive : inWord (st .witness .positive) v ≡ false)
     (negative : inWord (st .witness .negative) v ≡ false) where
   abbrev set : Literals
   set = record { positive = assigned b (st .witness .positive) v; negative = assigned (not b) (st .witness .negative) v }
@@ -66,8 +67,10 @@ module _ (n : ℕ) (l : Lent) (st : State) (v : ℕ) (b : Bool) (H : Held n l st
       ap₂ pair (ap (λ (c : Bool). assigned c (st .witness .positive) v) e)
       (with-clear (st .witness .negative) v lo negative ∙ ap (λ (c : Bool). assigned (not c) (st .witness .negative) v) e)
 
-  pub witness-taken : 1 ≤ v → (witness : Literals) (st′ : State) → st′ ≡ stateWithWitness st witness → witness ≡ withLiteral (st .witness) v b
+  pub witness-taken : 1 ≤ v → (witness : Literals) (st′ : State) → st′ ≡ stateWithWitness st witness → witness
+      ≡ withLiteral (st .witness) v b
       → Stepped n l l st (witnessStep n (stateOf l st) v b) (Next st′)
   witness-taken lo witness st′ e is =
-      subst (λ (x : State). Stepped n l l st (witnessStep n (stateOf l st) v b) (Next x)) (sym (e ∙ ap (stateWithWitness st) (is ∙ set-is lo b refl)))
+      subst (λ (x : State). Stepped n l l st (witnessStep n (stateOf l st) v b) (Next x))
+      (sym (e ∙ ap (stateWithWitness st) (is ∙ set-is lo b refl)))
       (record { says = sym taken-is; leaves = held-witness n l st set H })

@@ -4,7 +4,7 @@ use Prim.Native.Nat.{ℕ, _+_}
 use lib.Dec.{eqb}
 use Rattle.words.specs.declared.Literals.{Literals}
 use Rattle.words.specs.Sets.{noLiterals}
-use Rattle.entries.specs.declared.State.{State}
+use Rattle.state.specs.declared.State.{State}
 
 -- The state with another witness.
 abbrev pub stateWithWitness : State → Literals → State

@@ -13,7 +13,8 @@ use Rattle.steps.specs.declared.line.LineTest.{LineTest}
 use Rattle.steps.specs.declared.line.LineTest.the-variants as line
 use Rattle.verdict.specs.Steps.{State, isEntry, entryNode, waiting, diagramIn}
 
--- "RUP: 10, 13, 16, 22, 17, [..]. PR: 10, 13, 22, 17, 18, [..]." A path line "refuses as a RUP line does, and with 34, just after 17" (02, 12/14).
+-- "RUP: 10, 13, 16, 22, 17, [..]. PR: 10, 13, 22, 17, 18, [..]." A path line "refuses as a RUP line does, and with 34, just after 17" (02,
+-- 12/14).
 unfoldable pub lineRefusal : ℕ → State → Rule → ℕ → ℕ
 lineRefusal n st Rup root =
     cond (not (isEntry st root)) 13 (cond (waiting st) 16 (cond (leb 1024 (st .lines)) 22 (cond (eqb (entryNode st root) 1) 17 0)))

@@ -10,17 +10,18 @@ use Rattle.table.specs.Indexed.{Table, size, nodesOf}
 use Rattle.table.specs.Making.{reach, lineReach}
 use Rattle.judge.specs.declared.Judged.{Judged}
 use Rattle.verdict.specs.Steps as check
-use Rattle.entries.specs.declared.State.{State}
-use Rattle.entries.specs.declared.Step.{Step}
-use Rattle.entries.specs.declared.Step.the-variants.{Next, Spent}
+use Rattle.state.specs.declared.State.{State}
+use Rattle.state.specs.declared.Step.{Step}
+use Rattle.state.specs.declared.Step.the-variants.{Next, Spent}
+use Rattle.paths.specs.Rounds.{mostRounds}
 use Rattle.steps.specs.NextStates.{withLine}
 
--- As `Says` (judge/specs/Lines) has it, once the nodes made are dropped: 131,072 is 64 rounds for each of 2,048 members.
+-- As `Says` (judge/specs/Lines) has it, once the nodes made are dropped.
 pub record Tried (t : Table) (line : Line) (r : Judged) : Type 0 where
   pub reaches : lineReach (size t) (nodesOf t) line ≡ reach (not (r .full)) (r .peak)
   pub shown : r .full ≡ false → r .shown ≡ line .shown
   pub rounds : r .full ≡ false → r .rounds ≡ line .rounds
-  pub most : r .rounds ≤ 262144
+  pub most : r .rounds ≤ mostRounds
 
 -- ---- what it comes to, node g being the line's root
 

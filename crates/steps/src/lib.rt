@@ -1,7 +1,7 @@
 // One record of a proof: the next state, or the number and the place of the proof's end.
-use entries::State;
-use entries::Step;
 use records::Record;
+use state::State;
+use state::Step;
 ghost use mathlib.Core.Path.{_≡_};
 ghost use Prim.Native.Nat.{ℕ};
 ghost use lib.ListN.{length};
@@ -9,10 +9,10 @@ ghost use Rattle.verdict.specs.Steps.{endStep};
 ghost use Rattle.verdict.specs.Steps.{recordStep};
 ghost use Rattle.walks.specs.Readable.{Roomy};
 ghost use Rattle.conflict.specs.Marks.{unmarked};
-ghost use Rattle.entries.specs.States.{Lent, lentOf, stateOf, Held, Stepped};
+ghost use Rattle.state.specs.States.{Lent, lentOf, stateOf, Held, Stepped};
 
 pub mod line;
-mod strike;
+pub mod strike;
 mod witness;
 
 pub use witness::with_witness;

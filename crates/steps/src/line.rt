@@ -1,9 +1,9 @@
 // Proof lines: by RUP, by PR, and over paths.
-use entries::State;
-use entries::Step;
 use judge::Judged;
 use records::EntryNo;
 use records::Rule;
+use state::State;
+use state::Step;
 use table::NodeNo;
 use words::Literals;
 ghost use mathlib.Core.Path.{_≡_};
@@ -20,7 +20,8 @@ ghost use Rattle.verdict.specs.Taken.{lineBy, lineOf};
 ghost use Rattle.table.specs.Lists.{Inside, diagramsOf};
 ghost use Rattle.conflict.specs.Marks.{unmarked};
 ghost use Rattle.judge.specs.Lines.{Negatable, LineSays};
-ghost use Rattle.entries.specs.States.{lentOf, stateOf, Held, Stepped};
+ghost use Rattle.state.specs.States.{lentOf, stateOf, Held, Stepped};
+ghost use Rattle.paths.specs.Rounds.{mostRounds};
 ghost use Rattle.steps.specs.NextStates.{withLine};
 ghost use Rattle.steps.specs.Tests.{LineTested, FewPaths};
 ghost use Rattle.steps.specs.Tried.{Tried, stepBy, membersBy};
@@ -128,7 +129,7 @@ fn judge_line(
         let after = tableOf (now (vars .exit)) (now (lows .exit)) (now (highs .exit)) (now (heads .exit)) (now (links .exit)) (r .count) in
         let diagrams = diagramsOf (nodesOf before) (now (live .entry)) in
         let line = lineBy 64 rule (st .witness .positive) (st .witness .negative) diagrams (diagramAt (nodesOf before) (g .0)) in
-        LineSays before line 262144 r after) ⌝ }
+        LineSays before line mostRounds r after) ⌝ }
     ensures { λ _. ⌜ now (marks .exit) ≡ unmarked (length (now (vars .entry))) ⌝ }
 {
     let m = live.len();
@@ -154,7 +155,7 @@ fn judge_line(
             // Two parts of the scratch list cannot be lent at once.
             let mut second = [0u16; 2048];
             let mut secondwords = [0u64; 2048];
-            judge::pr::pr(
+            pr_lines::pr(
                 vars,
                 lows,
                 highs,
@@ -173,7 +174,7 @@ fn judge_line(
                 st.witness,
             )
         }
-        Rule::Path => path_line::path(
+        Rule::Path => path_lines::path(
             vars,
             lows,
             highs,
@@ -222,7 +223,7 @@ fn judge_live(
         let lent = lentOf (now (vars .entry)) (now (lows .entry)) (now (highs .entry)) (now (heads .entry)) (now (links .entry))
         (now (members .entry)) (now (scratch .entry)) (now (struck .entry)) in
         let after = tableOf (now (vars .exit)) (now (lows .exit)) (now (highs .exit)) (now (heads .exit)) (now (links .exit)) (r .count) in
-        LineSays before (lineOf 64 (stateOf lent st) rule (g .0)) 262144 r after) ⌝ }
+        LineSays before (lineOf 64 (stateOf lent st) rule (g .0)) mostRounds r after) ⌝ }
     ensures { λ _. ⌜ now (marks .exit) ≡ unmarked (length (now (vars .entry))) ⌝ }
 {
     let mut live = [0u16; 2048];
@@ -308,7 +309,7 @@ fn refutes(before: bool, g: NodeNo) -> bool
 
 // The state after a line that is shown.
 fn with_line(st: State, rounds: u64, peak: usize, g: NodeNo) -> State
-    requires { ⌜ (st .members ≤ 2048) × (st .lines ≤ 1024) × (st .rounds + rounds ≤ 1025 * 262144) ⌝ }
+    requires { ⌜ (st .members ≤ 2048) × (st .lines ≤ 1024) × (st .rounds + rounds ≤ 1025 * mostRounds) ⌝ }
     ensures { λ r. ⌜ r ≡ withLine st rounds peak (g .0) ⌝ }
 {
     let refuted = refutes(st.refuted, g);
@@ -333,7 +334,7 @@ pub fn ended(members: &mut [u16], st: State, j: Judged, g: NodeNo) -> Step
     requires { ⌜ (st .members < 2048)
         × (2048 ≤ length (now members))
         × (st .lines ≤ 1024)
-        × (st .rounds + j .rounds ≤ 1025 * 262144) ⌝ }
+        × (st .rounds + j .rounds ≤ 1025 * mostRounds) ⌝ }
     ensures { λ r. ⌜ r ≡ stepBy st j (g .0) ⌝ }
     ensures { λ _. ⌜ now (members .exit) ≡ membersBy (now (members .entry)) st j (g .0) ⌝ }
 {

@@ -1,13 +1,13 @@
 // Strikings, and the members that no striking has taken out.
-use entries::State;
-use entries::Step;
 use records::MemberNo;
+use state::State;
+use state::Step;
 ghost use mathlib.Core.Path.{_≡_};
 ghost use mathlib.Core.List.{List};
 ghost use Prim.Native.Nat.{ℕ, _≤_};
 ghost use lib.ListN.{length, take};
 ghost use Rattle.verdict.specs.Steps.{unstruck, strikeStep};
-ghost use Rattle.entries.specs.States.{lentOf, stateOf, Held, Stepped};
+ghost use Rattle.state.specs.States.{lentOf, stateOf, Held, Stepped};
 
 // The striking marks its member; or 16, 28. The code's state holds no marks, so it stays.
 pub fn strike_step(struck: &mut [u8], st: State, k: MemberNo) -> Step

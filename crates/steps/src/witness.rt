@@ -1,13 +1,13 @@
 // Witness records.
-use entries::State;
-use entries::Step;
+use state::State;
+use state::Step;
 use words::Literals;
 ghost use mathlib.Core.Path.{_≡_};
 ghost use mathlib.Core.Bool.{not, _&&_};
 ghost use Prim.Native.Nat.{_≤_};
 ghost use lib.Dec.{eqb};
 ghost use Rattle.verdict.specs.Steps.{witnessStep};
-ghost use Rattle.entries.specs.States.{Lent, stateOf, Held, Stepped};
+ghost use Rattle.state.specs.States.{Lent, stateOf, Held, Stepped};
 ghost use Rattle.steps.specs.NextStates.{stateWithWitness};
 
 // Whether a witness waits for its line.

@@ -19,8 +19,8 @@ use Rattle.table.specs.Nodes.{Node, diagramAt}
 use Rattle.table.proofs.Numbers.{diagramAt-zero, diagramAt-injective}
 use Rattle.walks.specs.Readable.{Readable, nodesIn}
 use Rattle.walks.proofs.Here.{Here, here, ordered-in, length-in}
-use Rattle.supports.specs.Supports.{Support, Forced, withForced, SomeNodes}
-use Rattle.supports.proofs.Words.{in-left, in-right, at-leaf, is-node}
+use Rattle.supports.specs.Supports.{Support, Forced, withForced, withNode, WordOf, SomeNodes}
+use Rattle.supports.proofs.Words.{in-left, in-right, at-leaf, is-node, support-leaf, support-node}
 
 -- ---- any diagram
 
@@ -66,7 +66,8 @@ module _ (vs ls hs : List ℕ) (count : ℕ) (R : Readable vs ls hs count) where
   -- no node but number 0 is 0
   zero-only : (k : ℕ) → k < count → diagramAt t k ≡ leaf false → k ≡ 0
   zero-only k p e =
-      diagramAt-injective t (ordered-in vs ls hs count R) k 0 (omega (arith, length-in vs ls hs count R)) (omega (arith, length-in vs ls hs count R)) (e ∙ sym (diagramAt-zero t))
+      diagramAt-injective t (ordered-in vs ls hs count R) k 0 (omega (arith, length-in vs ls hs count R))
+      (omega (arith, length-in vs ls hs count R)) (e ∙ sym (diagramAt-zero t))
 
   module _ (k : ℕ) (two : 2 ≤ k) (inside : k < count) where
     abbrev v : ℕ
@@ -88,15 +89,40 @@ module _ (vs ls hs : List ℕ) (count : ℕ) (R : Readable vs ls hs count) where
     high-tested : diagramAt t high ≡ leaf false → (eqb low 0 || eqb high 0) ≡ true
     high-tested e = or-right (eqb low 0) (eqb high 0) (eq-eqb high 0 (zero-only high (omega (arith, at-node .high-less)) e))
 
-    pub forced-node : (a b : ℕ) → Forced a (diagramAt t low) → Forced b (diagramAt t high) → Forced (withForced (bitOr a b) v low high) (diagramAt t k)
+    pub forced-node : (a b : ℕ) → Forced a (diagramAt t low) → Forced b (diagramAt t high) →
+        Forced (withForced (bitOr a b) v low high) (diagramAt t k)
     unfolding Forced
     forced-node a b x y =
         subst (Forces (inWord (withForced (bitOr a b) v low high))) (sym (is-node vs ls hs count R k two inside)) (
           (λ e. added-in (bitOr a b) v low high (at-node .least) (low-tested e)),
           (λ e. added-in (bitOr a b) v low high (at-node .least) (high-tested e)),
-          forces-more (inWord a) (inWord (withForced (bitOr a b) v low high)) (λ w e. kept-in (bitOr a b) v low high w (in-left a b w e)) (diagramAt t low) x,
-          forces-more (inWord b) (inWord (withForced (bitOr a b) v low high)) (λ w e. kept-in (bitOr a b) v low high w (in-right a b w e)) (diagramAt t high) y,
+          forces-more (inWord a) (inWord (withForced (bitOr a b) v low high)) (λ w e. kept-in (bitOr a b) v low high w (in-left a b w e))
+              (diagramAt t low) x,
+          forces-more (inWord b) (inWord (withForced (bitOr a b) v low high)) (λ w e. kept-in (bitOr a b) v low high w (in-right a b w e))
+              (diagramAt t high) y,
         )
+
+-- ---- either word
+
+module _ (word v low high : ℕ) where
+  pub with-all : (all : Bool) → all ≡ true → withNode all word v low high ≡ withVariable word v
+  unfolding withNode
+  with-all all e = rw e
+
+  pub with-some : (all : Bool) → all ≡ false → withNode all word v low high ≡ withForced word v low high
+  unfolding withNode
+  with-some all e = rw e
+
+pub word-leaf : (all : Bool) (t : List Node) (k word : ℕ) → k < 2 → WordOf all word (diagramAt t k)
+word-leaf true t k word p = support-leaf t k word p
+word-leaf false t k word p = forced-leaf t k word p
+
+pub word-node : (all : Bool) (vs ls hs : List ℕ) (count : ℕ) (R : Readable vs ls hs count) (k : ℕ) (two : 2 ≤ k) (inside : k < count) (a b : ℕ)
+    → WordOf all a (diagramAt (nodesIn vs ls hs count) (getD ls k 0)) → WordOf all b (diagramAt (nodesIn vs ls hs count) (getD hs k 0))
+    → WordOf all (withNode all (bitOr a b) (getD vs k 0) (getD ls k 0) (getD hs k 0)) (diagramAt (nodesIn vs ls hs count) k)
+unfolding withNode
+word-node true vs ls hs count R k two inside a b u x = support-node vs ls hs count R k two inside a b u x
+word-node false vs ls hs count R k two inside a b u x = forced-node vs ls hs count R k two inside a b u x
 
 -- a walk from f comes to smaller numbers
 pub children-less : (lows highs : List ℕ) (f : ℕ) → SomeNodes lows highs f → (k : ℕ) → 2 ≤ k → k ≤ f

@@ -61,9 +61,11 @@ module _ (vs ls hs : List ℕ) (count : ℕ) (R : Readable vs ls hs count) (k : 
   w = getD vs k 0
 
   pub is-node : diagramAt t k ≡ node w (diagramAt t (getD ls k 0)) (diagramAt t (getD hs k 0))
-  is-node = rw (node-in vs ls hs count R k inside) at (diagramAt-node t (ordered-in vs ls hs count R) k two (omega (arith, length-in vs ls hs count R)))
+  is-node = rw (node-in vs ls hs count R k inside) at
+      (diagramAt-node t (ordered-in vs ls hs count R) k two (omega (arith, length-in vs ls hs count R)))
 
-  pub support-node : (a b : ℕ) → Support a (diagramAt t (getD ls k 0)) → Support b (diagramAt t (getD hs k 0)) → Support (bitOr (bitOr a b) (2 ^ (w - 1))) (diagramAt t k)
+  pub support-node : (a b : ℕ) → Support a (diagramAt t (getD ls k 0)) → Support b (diagramAt t (getD hs k 0)) →
+      Support (bitOr (bitOr a b) (2 ^ (w - 1))) (diagramAt t k)
   unfolding Support
   support-node a b u x =
       subst (Uses (inWord (bitOr (bitOr a b) (2 ^ (w - 1))))) (sym is-node) (
@@ -100,7 +102,8 @@ Known t memo k = (i : ℕ) → i < k → Support (getD memo i 0) (diagramAt t i)
 pub known-leaves : (t : List Node) (memo : List ℕ) → Known t memo 2
 known-leaves t memo i p = support-leaf t i (getD memo i 0) p
 
-pub known-next : (t : List Node) (memo : List ℕ) (k word : ℕ) → k < length memo → Known t memo k → Support word (diagramAt t k) → Known t (set memo k word) (k + 1)
+pub known-next : (t : List Node) (memo : List ℕ) (k word : ℕ) → k < length memo → Known t memo k → Support word (diagramAt t k) →
+    Known t (set memo k word) (k + 1)
 known-next t memo k word inside K new =
     stored (λ (i e : ℕ). i < k + 1 → Support e (diagramAt t i)) memo k word inside (λ p. new) (λ i n p. K i (omega (arith, n)))
 
@@ -119,7 +122,8 @@ pub record Filled (t : List Node) (list words : List ℕ) (i : ℕ) : Type 0 whe
 pub filled-none : (t : List Node) (list words : List ℕ) → length words ≡ length list → Filled t list words 0
 filled-none t list words e = record { lengths = e; so-far = omega arith; done = λ k p. absurd (omega arith) }
 
-pub filled-next : (t : List Node) (list words : List ℕ) (i word : ℕ) → Filled t list words i → i < length list → Support word (diagramAt t (getD list i 0)) → Filled t list (set words i word) (i + 1)
+pub filled-next : (t : List Node) (list words : List ℕ) (i word : ℕ) → Filled t list words i → i < length list →
+    Support word (diagramAt t (getD list i 0)) → Filled t list (set words i word) (i + 1)
 filled-next t list words i word F p new =
     record {
       lengths = length-set words i word ∙ F .lengths;

@@ -1,7 +1,7 @@
 -- Words that hold the variables of a diagram, or those that it forces, and the memos of the walks that find them. No call open to others
 -- cites this file.
 use mathlib.Core.Logic.{_≢_}
-use mathlib.Core.Bool.{_||_, cond}
+use mathlib.Core.Bool.{Bool, true, false, _||_, cond}
 use mathlib.Core.List.{List}
 use Prim.Native.Nat.{ℕ, _<_}
 use lib.Dec.{eqb}
@@ -32,6 +32,17 @@ Forced word f = Forces (inWord word) f
 unfoldable pub withForced : ℕ → ℕ → ℕ → ℕ → ℕ
 withForced word v low high = cond (eqb low 0 || eqb high 0) (withVariable word v) word
 
+-- What the traversal adds of a node: its variable, or its variable where one of its children is 0.
+unfoldable pub withNode : Bool → ℕ → ℕ → ℕ → ℕ → ℕ
+unfolding withForced
+withNode true word v low high = withVariable word v
+withNode false word v low high = withForced word v low high
+
+-- The word has all variables of the diagram, or those that it forces.
+abbrev pub WordOf : Bool → ℕ → Diagram → Type 0
+WordOf true = Support
+WordOf false = Forced
+
 -- Each node's cell of the memo that is not 0 holds a word that has P with the node's diagram.
 unfoldable pub WordMemo : (ℕ → Diagram → Type 0) → List ℕ → List Node → Type 0
 WordMemo P memo t = (i : ℕ) → i < length t → getD memo i 0 ≢ 0 → P (getD memo i 0) (diagramAt t i)
@@ -39,10 +50,6 @@ WordMemo P memo t = (i : ℕ) → i < length t → getD memo i 0 ≢ 0 → P (ge
 -- Each node's cell of the memo that is not 0 has every variable of the node.
 abbrev pub SupportMemo : List ℕ → List Node → Type 0
 SupportMemo memo t = WordMemo Support memo t
-
--- Each node's cell of the memo that is not 0 has every variable that the node forces.
-abbrev pub ForcedMemo : List ℕ → List Node → Type 0
-ForcedMemo memo t = WordMemo Forced memo t
 
 -- The columns are those of nodes in good order, of which f is one.
 pub record SomeNodes (lows highs : List ℕ) (f : ℕ) : Type 0 where

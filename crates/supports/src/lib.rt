@@ -1,28 +1,51 @@
-// The variables of a node's diagram, as a word.
+// The variables of a node's diagram, or those that it forces, as a word.
 pub mod forced;
 
 use table::NodeNo;
 ghost use mathlib.Core.Path.{_≡_};
-ghost use Prim.Native.Nat.{_-_, _<_};
+ghost use Prim.Native.Nat.{_-_, _≤_, _<_};
 ghost use lib.ListN.{length};
 ghost use Rattle.table.specs.Nodes.{diagramAt};
 ghost use Rattle.walks.specs.Readable.{Readable, Roomy, nodesIn};
 ghost use Rattle.table.specs.Lists.{Inside};
-ghost use Rattle.supports.specs.Supports.{Support, Supports, SupportMemo};
+ghost use Rattle.supports.specs.Supports.{Supports, WordOf, WordMemo, SupportMemo, withForced, withNode};
 
-// The variables of a node, where the memo holds those of nodes already known; it stays so.
-pub fn support_from(
+// The word with a node's variable v where one of the node's children is 0.
+fn with_forced(word: u64, v: u8, low: NodeNo, high: NodeNo) -> u64
+    requires { ⌜ (1 ≤ v) × (v ≤ 64) ⌝ }
+    ensures { λ r. ⌜ r ≡ withForced word v (low .0) (high .0) ⌝ }
+{
+    if low.0 == 0 || high.0 == 0 {
+        return words::with_variable(word, v);
+    }
+    word
+}
+
+// The word with what a node of variable v adds: the variable where all are asked for, else where one of the node's children is 0.
+fn with_node(word: u64, v: u8, low: NodeNo, high: NodeNo, all: bool) -> u64
+    requires { ⌜ (1 ≤ v) × (v ≤ 64) ⌝ }
+    ensures { λ r. ⌜ r ≡ withNode all word v (low .0) (high .0) ⌝ }
+{
+    if all {
+        return words::with_variable(word, v);
+    }
+    with_forced(word, v, low, high)
+}
+
+// All variables of a node, or those that it forces, where the memo holds those of nodes already known; it stays so.
+fn word_from(
     vars: &[u8],
     lows: &[u16],
     highs: &[u16],
     memo: &mut [u64],
     count: usize,
     f: NodeNo,
+    all: bool,
 ) -> u64
     requires { ⌜ Readable (now vars) (now lows) (now highs) count × (f .0 < count) × Roomy (now vars) (now memo) ⌝ }
-    requires { ⌜ SupportMemo (now memo) (nodesIn (now vars) (now lows) (now highs) count) ⌝ }
-    ensures { λ r. ⌜ Support r (diagramAt (nodesIn (now (vars .entry)) (now (lows .entry)) (now (highs .entry)) count) (f .0)) ⌝ }
-    ensures { λ _. ⌜ SupportMemo (now (memo .exit)) (nodesIn (now (vars .entry)) (now (lows .entry)) (now (highs .entry)) count) ⌝ }
+    requires { ⌜ WordMemo (WordOf all) (now memo) (nodesIn (now vars) (now lows) (now highs) count) ⌝ }
+    ensures { λ r. ⌜ WordOf all r (diagramAt (nodesIn (now (vars .entry)) (now (lows .entry)) (now (highs .entry)) count) (f .0)) ⌝ }
+    ensures { λ _. ⌜ WordMemo (WordOf all) (now (memo .exit)) (nodesIn (now (vars .entry)) (now (lows .entry)) (now (highs .entry)) count) ⌝ }
 {
     if f.0 < 2 {
         return 0;
@@ -35,9 +58,9 @@ pub fn support_from(
     let v = vars[i];
     let low = NodeNo(lows[i]);
     let high = NodeNo(highs[i]);
-    let a = support_from(vars, lows, highs, memo, count, low);
-    let b = support_from(vars, lows, highs, memo, count, high);
-    let word = words::with_variable(a | b, v);
+    let a = word_from(vars, lows, highs, memo, count, low, all);
+    let b = word_from(vars, lows, highs, memo, count, high, all);
+    let word = with_node(a | b, v, low, high, all);
     memo[i] = word;
     word
 }
@@ -90,7 +113,7 @@ pub fn supports_of(
             words[i] = known;
             i += 1;
         } else {
-            words[i] = support_from(vars, lows, highs, memo, count, f);
+            words[i] = word_from(vars, lows, highs, memo, count, f, true);
             i += 1;
         }
     }

@@ -16,22 +16,26 @@ use Rattle.table.specs.Indexed.{Index, indexMade, indexFrom, indexOf, Ta
 use Rattle.table.proofs.Order.{alike-true, differ-alike}
 use Rattle.table.proofs.Written.{columns-rows, length-nodes, good-ordered}
 use Rattle.table.proofs.Placing.{Found, found}
-use Rattle.table.proofs.Index.{bucket-less, lastIn, last-is, last-less, last-here, last-before, last-none, heads-is, links-is, find-miss, find-short}
+use Rattle.table.proofs.Index.{bucket-less, lastIn, last-is, last-less, last-here, last-before, last-none, heads-is, links-is}
+use Rattle.table.proofs.Index.{find-miss, find-short}
 
 -- ---- the columns' reads
 
 module _ (vs ls hs : List ℕ) (p : length ls ≡ length vs) (q : length hs ≡ length vs) (k : ℕ) where
   pub rows-var : at (rows vs ls hs) k .var ≡ getD vs k 0
   unfolding columnsOf
-  rows-var = sym (List·getD-map (λ x. x .var) (rows vs ls hs) k blank) ∙ ap (λ (c : NodeColumns). getD (c .vars) k 0) (columns-rows vs ls hs p q)
+  rows-var = sym (List·getD-map (λ x. x .var) (rows vs ls hs) k blank) ∙ ap (λ (c : NodeColumns). getD (c .vars) k 0)
+      (columns-rows vs ls hs p q)
 
   rows-low : at (rows vs ls hs) k .low ≡ getD ls k 0
   unfolding columnsOf
-  rows-low = sym (List·getD-map (λ x. x .low) (rows vs ls hs) k blank) ∙ ap (λ (c : NodeColumns). getD (c .lows) k 0) (columns-rows vs ls hs p q)
+  rows-low = sym (List·getD-map (λ x. x .low) (rows vs ls hs) k blank) ∙ ap (λ (c : NodeColumns). getD (c .lows) k 0)
+      (columns-rows vs ls hs p q)
 
   rows-high : at (rows vs ls hs) k .high ≡ getD hs k 0
   unfolding columnsOf
-  rows-high = sym (List·getD-map (λ x. x .high) (rows vs ls hs) k blank) ∙ ap (λ (c : NodeColumns). getD (c .highs) k 0) (columns-rows vs ls hs p q)
+  rows-high = sym (List·getD-map (λ x. x .high) (rows vs ls hs) k blank)
+      ∙ ap (λ (c : NodeColumns). getD (c .highs) k 0) (columns-rows vs ls hs p q)
 
   pub rows-at : at (rows vs ls hs) k ≡ nodeOf (getD vs k 0) (getD ls k 0) (getD hs k 0)
   rows-at = rw (sym rows-var, sym rows-low, sym rows-high)
@@ -56,12 +60,14 @@ module _ (T : Table) (G : Good T) where
 
   head-last : (b : ℕ) → b < 2 * size T → getD (T .heads) b 0 ≡ lastIn chainOf b (T .count - 2)
   head-last b lt =
-      ap (λ (x : Index). getD (x .heads) b 0) index-is ∙ ap (λ (n : ℕ). getD (indexFrom nodes (2 * size T) (size T) (n - 2) .heads) b 0) (length-nodes T G)
+      ap (λ (x : Index). getD (x .heads) b 0) index-is ∙ ap (λ (n : ℕ). getD (indexFrom nodes (2 * size T) (size T) (n - 2) .heads) b 0)
+      (length-nodes T G)
       ∙ heads-is nodes (2 * size T) (size T) (T .count - 2) b lt
 
   link-last : (k : ℕ) → 2 ≤ k → k < T .count → getD (T .links) k 0 ≡ lastIn chainOf (chainOf k) (k - 2)
   link-last k two lt =
-      ap (λ (x : Index). getD (x .links) k 0) index-is ∙ ap (λ (n : ℕ). getD (indexFrom nodes (2 * size T) (size T) (n - 2) .links) k 0) (length-nodes T G)
+      ap (λ (x : Index). getD (x .links) k 0) index-is ∙ ap (λ (n : ℕ). getD (indexFrom nodes (2 * size T) (size T) (n - 2) .links) k 0)
+      (length-nodes T G)
       ∙ links-is nodes (2 * size T) (size T) (omega (arith, G .within, G .least)) (T .count - 2) k
       (omega (arith, G .within, G .least)) two (omega (arith, G .least))
 
@@ -82,7 +88,8 @@ module _ (T : Table) (G : Good T) where
       ∙ find-short (take 1 nodes) x (omega (arith, length-take-le 1 nodes (omega (arith, length-nodes T G)))))
   find-last x (suc j) h =
       elim (ℕ-discrete (chainOf (suc (suc j))) (bucket (2 * size T) (x .var) (x .low) (x .high))) [
-        | yes q ↦ ap (λ (k : ℕ). find (take (suc k) nodes) x) (sym (last-here chainOf (bucket (2 * size T) (x .var) (x .low) (x .high)) j q))
+        | yes q ↦ ap (λ (k : ℕ). find (take (suc k) nodes) x)
+            (sym (last-here chainOf (bucket (2 * size T) (x .var) (x .low) (x .high)) j q))
         | no q ↦
             find-end x (suc (suc j)) (omega arith) (omega arith)
             (differ-alike (at nodes (suc (suc j))) x (λ e. q (ap (λ (y : Node). bucket (2 * size T) (y .var) (y .low) (y .high)) e)))
@@ -106,7 +113,8 @@ module _ (T : Table) (G : Good T) (x : Node) where
   abbrev home : ℕ
   home = bucket (2 * size T) (x .var) (x .low) (x .high)
 
-  chain-last : (j : ℕ) → suc (suc j) ≤ T .count → find (nodesOf T) x ≡ find (take (suc (suc j)) (nodesOf T)) x → Chain T x (lastIn (chainOf T G) home j)
+  chain-last : (j : ℕ) → suc (suc j) ≤ T .count → find (nodesOf T) x ≡ find (take (suc (suc j)) (nodesOf T)) x →
+      Chain T x (lastIn (chainOf T G) home j)
   chain-last j h rest = record {
     below = omega (arith, last-less (chainOf T G) home j);
     inner = λ ne. let r = last-is (chainOf T G) home j ne in record { from = r .from; is = r .is };
@@ -117,8 +125,10 @@ module _ (T : Table) (G : Good T) (x : Node) where
   chain-start b e =
       let q : suc (suc (T .count - 2)) ≡ length (nodesOf T) = omega (arith, length-nodes T G, G .least) in
       let is : b ≡ home = e ∙ ap (λ (n : ℕ). bucket n (x .var) (x .low) (x .high)) (G .heads) in
-      subst (Chain T x) (sym (ap (λ (i : ℕ). getD (T .heads) i 0) is ∙ head-last T G home (bucket-less (2 * size T) (x .var) (x .low) (x .high) (omega (arith, G .within, G .least)))))
-      (chain-last (T .count - 2) (omega (arith, G .least)) (ap (λ (u : List Node). find u x) (sym (ap (λ (n : ℕ). take n (nodesOf T)) q ∙ take-length (nodesOf T)))))
+      subst (Chain T x) (sym (ap (λ (i : ℕ). getD (T .heads) i 0) is ∙ head-last T G home
+      (bucket-less (2 * size T) (x .var) (x .low) (x .high) (omega (arith, G .within, G .least)))))
+      (chain-last (T .count - 2) (omega (arith, G .least))
+      (ap (λ (u : List Node). find u x) (sym (ap (λ (n : ℕ). take n (nodesOf T)) q ∙ take-length (nodesOf T)))))
 
   module _ (k : ℕ) (ne : k ≡ 0 → ⊥) (C : Chain T x k) where
     pub chain-less : getD (T .links) k 0 < k
@@ -126,7 +136,8 @@ module _ (T : Table) (G : Good T) (x : Node) where
         let two : 2 ≤ k = C .inner ne .from in
         omega (arith, link-last T G k two (C .below), last-less (chainOf T G) (chainOf T G k) (k - 2))
 
-    pub chain-next : alike (nodeOf (getD (T .vars) k 0) (getD (T .lows) k 0) (getD (T .highs) k 0)) x ≡ false → Chain T x (getD (T .links) k 0)
+    pub chain-next : alike (nodeOf (getD (T .vars) k 0) (getD (T .lows) k 0) (getD (T .highs) k 0)) x ≡ false →
+        Chain T x (getD (T .links) k 0)
     chain-next miss =
         let two : 2 ≤ k = C .inner ne .from in
         let s : suc (suc (k - 2)) ≡ k = omega arith in
@@ -143,7 +154,8 @@ module _ (T : Table) (G : Good T) (x : Node) where
 
         go : (o : Option ℕ) → Found (nodesOf T) x o → o ≡ some k
         go none f = absurd (f k (C .inner ne .from) (omega (arith, length-nodes T G, C .below)) here)
-        go (some m) f = ap some (good-ordered T G .alike m k (f .0) (f .1) (C .inner ne .from) (omega (arith, length-nodes T G, C .below)) (f .2 ∙ sym here))
+        go (some m) f = ap some (good-ordered T G .alike m k (f .0) (f .1) (C .inner ne .from) (omega (arith, length-nodes T G, C .below))
+            (f .2 ∙ sym here))
 
   pub chain-end : (k : ℕ) → k ≡ 0 → Chain T x k → find (nodesOf T) x ≡ none
   chain-end k e C =

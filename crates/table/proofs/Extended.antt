@@ -16,8 +16,11 @@ longer-extended T T′ L = record { good = L .good; same-size = L .same-size; mo
 
 pub extended-longer : (T T′ : Table) → Good T → Extended T T′ → Longer T T′
 extended-longer T T′ G E =
-    let X : Extends (nodesOf T) (nodesOf T′) =
-    (drop (T .count) (nodesOf T′), sym (take-append-drop (T .count) (nodesOf T′)) ∙ ap (λ (u : List Node). u ++ drop (T .count) (nodesOf T′)) (E .first)) in
+    let X : Extends (nodesOf T) (nodesOf T′) = (
+      drop (T .count) (nodesOf T′),
+      sym (take-append-drop (T .count) (nodesOf T′))
+          ∙ ap (λ (u : List Node). u ++ drop (T .count) (nodesOf T′)) (E .first),
+    ) in
     record {
       good = E .good;
       same-size = E .same-size;
@@ -33,6 +36,7 @@ pub extended-trans : (T T′ T″ : Table) → Good T → Extended T T′ → Ex
 extended-trans T T′ T″ G E F = longer-extended T T″ (longer-trans T T′ T″ (extended-longer T T′ G E) (extended-longer T′ T″ (E .good) F))
 
 -- the listed nodes keep their diagrams
-pub diagrams-kept : (T T′ : Table) → Longer T T′ → (list : List ℕ) → Inside (T .count) list → diagramsOf (nodesOf T′) list ≡ diagramsOf (nodesOf T) list
+pub diagrams-kept : (T T′ : Table) → Longer T T′ → (list : List ℕ) → Inside (T .count) list → diagramsOf (nodesOf T′) list
+    ≡ diagramsOf (nodesOf T) list
 diagrams-kept T T′ L [] h = refl
 diagrams-kept T T′ L (k ∷ ks) h = ap₂ _∷_ (L .kept k (h 0 (omega arith))) (diagrams-kept T T′ L ks (λ i p. h (suc i) (omega arith)))

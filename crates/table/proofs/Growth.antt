@@ -71,7 +71,8 @@ fits-more t y k x p F =
       differ = F .differ;
     }
 
-pub ordered-more : (t : List Node) (x : Node) → Ordered t → Fits t (length t) x → ((k : ℕ) → 2 ≤ k → k < length t → at t k ≢ x) → Ordered (t ++ x ∷ [])
+pub ordered-more : (t : List Node) (x : Node) → Ordered t → Fits t (length t) x → ((k : ℕ) → 2 ≤ k → k < length t → at t k ≢ x) →
+    Ordered (t ++ x ∷ [])
 ordered-more t x O F new =
     let len : length (t ++ x ∷ []) ≡ suc (length t) = length-new t x in
     let two : 2 ≤ length t = O .two in
@@ -118,9 +119,11 @@ module _ (t : List Node) (O : Ordered t) (m : ℕ) (two : 2 ≤ m) (within : m �
         first = rw (getD-take m t 0 blank (omega arith)) (O .first);
         second = rw (getD-take m t 1 blank (omega arith)) (O .second);
         fits = λ k a b. rw (getD-take m t k blank (omega arith)) (fits-dropped t m k (at t k) (omega arith) (O .fits k a (omega arith)));
-        alike = λ j k a b c d e. O .alike j k a (omega arith) c (omega arith) (sym (getD-take m t j blank (omega arith)) ∙ e ∙ getD-take m t k blank (omega arith));
+        alike = λ j k a b c d e. O .alike j k a (omega arith) c (omega arith)
+            (sym (getD-take m t j blank (omega arith)) ∙ e ∙ getD-take m t k blank (omega arith));
       }
 
   -- what is kept keeps its diagram
   pub diagramAt-dropped : (k : ℕ) → k < m → diagramAt (take m t) k ≡ diagramAt t k
-  diagramAt-dropped k r = sym (diagramAt-grown (take m t) t ordered-dropped (drop m t, sym (take-append-drop m t)) k (omega (arith, length-take-le m t within)))
+  diagramAt-dropped k r = sym (diagramAt-grown (take m t) t ordered-dropped (drop m t, sym (take-append-drop m t)) k
+      (omega (arith, length-take-le m t within)))

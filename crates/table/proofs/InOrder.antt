@@ -20,39 +20,44 @@ use Rattle.table.proofs.Literal.{same-true, true-same, heads-literal, l
 -- ---- a table lent in good order
 
 module _ (places : List Node) (count : ℕ) (ds ks : List ℕ) (e : goodOrder places count ds ks ≡ true) where
-  parts : (goodPlaces places count ≡ true) × (ds ≡ headsOf (length places) (take count places)) × (ks ≡ linksOf (length places) (take count places))
+  parts : (goodPlaces places count ≡ true) × (ds ≡ headsOf (length places) (take count places))
+      × (ks ≡ linksOf (length places) (take count places))
   unfolding goodOrder
   parts =
-      let (p, i) = and-both (goodPlaces places count) (sameNumbers ds (headsOf (length places) (take count places)) && sameNumbers ks (linksOf (length places) (take count places))) e in
-      let (d, k) = and-both (sameNumbers ds (headsOf (length places) (take count places))) (sameNumbers ks (linksOf (length places) (take count places))) i in
+      let (p, i) = and-both (goodPlaces places count)
+      (sameNumbers ds (headsOf (length places) (take count places)) && sameNumbers ks (linksOf (length places) (take count places))) e
+      in
+      let (d, k) = and-both (sameNumbers ds (headsOf (length places) (take count places)))
+      (sameNumbers ks (linksOf (length places) (take count places))) i in
       (p, same-true ds (headsOf (length places) (take count places)) d, same-true ks (linksOf (length places) (take count places)) k)
 
   -- its places are in good order
   pub good-order : GoodPlaces places count
   good-order = good-places places count (parts .0)
 
-module _ (vs ls hs ds ks : List ℕ) (count : ℕ) (fits : sizeFits vs ls hs ds ks ≡ true) (e : goodOrder (rows vs ls hs) count ds ks ≡ true) where
-  abbrev T : Table
-  T = tableOf vs ls hs ds ks count
+module _ (vs ls hs ds ks : List ℕ) (count : ℕ) (fits : sizeFits vs ls hs ds ks ≡ true) (e : goodOrder (rows vs ls hs) count ds ks ≡ true)
+  where
+    abbrev T : Table
+    T = tableOf vs ls hs ds ks count
 
-  -- it is what the inner functions work on
-  pub lent-good : Good T
-  unfolding nodesOf
-  lent-good =
-      let S : Sized vs ls hs ds ks = sized vs ls hs ds ks fits in
-      let G : GoodPlaces (rows vs ls hs) count = good-order (rows vs ls hs) count ds ks e in
-      let many : length (rows vs ls hs) ≡ length vs = length-rows vs ls hs (S .lows) (S .highs) in
-      let nodes : length (take count (rows vs ls hs)) ≡ count = length-take-le count (rows vs ls hs) (G .within) in
-      good-table T (S .lows) (S .highs) (S .most) G
-      (parts (rows vs ls hs) count ds ks e .1 ∙ ap (λ (m : ℕ). headsOf m (nodesOf T)) many
-      ∙ sym (heads-literal (length vs) (nodesOf T) (omega (arith, nodes, G .least))))
-      (parts (rows vs ls hs) count ds ks e .2 ∙ ap (λ (m : ℕ). linksOf m (nodesOf T)) many
-      ∙ sym (links-literal (length vs) (nodesOf T) (omega (arith, nodes, G .least)) (omega (arith, nodes, many, G .within))))
+    -- it is what the inner functions work on
+    pub lent-good : Good T
+    unfolding nodesOf
+    lent-good =
+        let S : Sized vs ls hs ds ks = sized vs ls hs ds ks fits in
+        let G : GoodPlaces (rows vs ls hs) count = good-order (rows vs ls hs) count ds ks e in
+        let many : length (rows vs ls hs) ≡ length vs = length-rows vs ls hs (S .lows) (S .highs) in
+        let nodes : length (take count (rows vs ls hs)) ≡ count = length-take-le count (rows vs ls hs) (G .within) in
+        good-table T (S .lows) (S .highs) (S .most) G
+        (parts (rows vs ls hs) count ds ks e .1 ∙ ap (λ (m : ℕ). headsOf m (nodesOf T)) many
+        ∙ sym (heads-literal (length vs) (nodesOf T) (omega (arith, nodes, G .least))))
+        (parts (rows vs ls hs) count ds ks e .2 ∙ ap (λ (m : ℕ). linksOf m (nodesOf T)) many
+        ∙ sym (links-literal (length vs) (nodesOf T) (omega (arith, nodes, G .least)) (omega (arith, nodes, many, G .within))))
 
-  -- "lookup by index and by a walk from place 2 agree on every table in good order" (02, 7/14)
-  pub lookup-in-good-order : (x : Node) → findByIndex ds ks (take count (rows vs ls hs)) x ≡ find (take count (rows vs ls hs)) x
-  unfolding nodesOf
-  lookup-in-good-order x = lookup-agrees T lent-good x
+    -- "lookup by index and by a walk from place 2 agree on every table in good order" (02, 7/14)
+    pub lookup-in-good-order : (x : Node) → findByIndex ds ks (take count (rows vs ls hs)) x ≡ find (take count (rows vs ls hs)) x
+    unfolding nodesOf
+    lookup-in-good-order x = lookup-agrees T lent-good x
 
 -- ---- a table left
 
@@ -79,15 +84,18 @@ module _ (s : ℕ) (t : List Node) where
 
   -- "each call leaves them so"
   pub stored-in-order : Ordered t → length t ≤ s
-      → goodOrder (rows (storedAs s t .vars) (storedAs s t .lows) (storedAs s t .highs)) (length t) (storedAs s t .heads) (storedAs s t .links) ≡ true
+      → goodOrder (rows (storedAs s t .vars) (storedAs s t .lows) (storedAs s t .highs)) (length t) (storedAs s t .heads)
+      (storedAs s t .links) ≡ true
   unfolding storedAs goodOrder
   stored-in-order O room =
       let many : length (padded s t) ≡ s = length-padded s t room in
       ap (λ (u : List Node). goodOrder u (length t) (headsOf s t) (linksOf s t)) (rows-columns (padded s t))
       ∙ both-true (goodPlaces (padded s t) (length t))
-      (sameNumbers (headsOf s t) (headsOf (length (padded s t)) (take (length t) (padded s t))) && sameNumbers (linksOf s t) (linksOf (length (padded s t)) (take (length t) (padded s t))))
+      (sameNumbers (headsOf s t) (headsOf (length (padded s t)) (take (length t) (padded s t)))
+      && sameNumbers (linksOf s t) (linksOf (length (padded s t)) (take (length t) (padded s t))))
       (in-good-places (padded s t) (length t) (padded-good O room))
-      (both-true (sameNumbers (headsOf s t) (headsOf (length (padded s t)) (take (length t) (padded s t)))) (sameNumbers (linksOf s t) (linksOf (length (padded s t)) (take (length t) (padded s t))))
+      (both-true (sameNumbers (headsOf s t) (headsOf (length (padded s t)) (take (length t) (padded s t))))
+      (sameNumbers (linksOf s t) (linksOf (length (padded s t)) (take (length t) (padded s t))))
       (true-same (headsOf s t) (headsOf (length (padded s t)) (take (length t) (padded s t))) (sym (ap₂ headsOf many padded-take)))
       (true-same (linksOf s t) (linksOf (length (padded s t)) (take (length t) (padded s t))) (sym (ap₂ linksOf many padded-take))))
 

@@ -9,7 +9,7 @@ use mathlib.Core.Option.{none, some}
 use native.Mathlib.Omega.{arith}
 use native.Mathlib.Nat.{mod-lt}
 use native.Mathlib.Decide.{ℕ-discrete}
-use lib.ListN.{length, getD, set, replicate}
+use lib.ListN.{length, getD, set}
 use lib.Seq.{getD-set-same, getD-set-other, set-set, set-getD}
 use lib.Dec.{eqb}
 use borrow.Author.Tests.{eq-eqb, ne-eqb}
@@ -17,6 +17,7 @@ use Rattle.table.specs.Nodes.{Node, at, alike, findFrom, find}
 use Rattle.table.specs.Index.{bucket, bucketAt}
 use Rattle.table.specs.Indexed.{Index, indexMade, insert, indexFrom}
 use Rattle.table.proofs.Written.{length-indexFrom}
+use Rattle.table.proofs.Zeros.{zeros-at}
 
 pub bucket-less : (n v l h : ℕ) → 0 < n → bucket n v l h < n
 unfolding bucket
@@ -61,11 +62,6 @@ pub last-less : (f : ℕ → ℕ) (b j : ℕ) → lastIn f b j < suc (suc j)
 last-less f b j = elim (ℕ-discrete (lastIn f b j) 0) [ yes q ↦ omega arith | no q ↦ last-is f b j q .below ]
 
 -- ---- heads and links
-
-pub zeros-at : (m k : ℕ) → _≡_ {A = ℕ} (getD (replicate m 0) k 0) 0
-zeros-at zero k = refl
-zeros-at (suc m) zero = refl
-zeros-at (suc m) (suc k) = zeros-at m k
 
 module _ (t : List Node) (n m : ℕ) where
   abbrev index : ℕ → Index
@@ -114,7 +110,8 @@ module _ (t : List Node) (n m : ℕ) where
   links-same : (j : ℕ) → suc (suc j) < m → getD (index (suc j) .links) (suc (suc j)) 0 ≡ getD (index j .heads) (chain (suc (suc j))) 0
   links-same j lt =
       ap (λ (x : Index). getD (x .links) (suc (suc j)) 0) (index-suc j)
-      ∙ getD-set-same (index j .links) (suc (suc j)) (getD (index j .heads) (chain (suc (suc j))) 0) 0 (omega (arith, length-indexFrom t n m j .1))
+      ∙ getD-set-same (index j .links) (suc (suc j)) (getD (index j .heads) (chain (suc (suc j))) 0) 0
+      (omega (arith, length-indexFrom t n m j .1))
 
   links-other : (j k : ℕ) → (k ≡ suc (suc j) → ⊥) → getD (index (suc j) .links) k 0 ≡ getD (index j .links) k 0
   links-other j k ne =
@@ -143,7 +140,8 @@ unfolding indexFrom
 index-same t u n m zero same = refl
 index-same t u n m (suc j) same =
     let before : indexFrom u n m j ≡ indexFrom t n m j = index-same t u n m j (λ k h. same k (omega arith)) in
-    let here : bucketAt n u (suc (suc j)) ≡ bucketAt n t (suc (suc j)) = ap (λ (x : Node). bucket n (x .var) (x .low) (x .high)) (same (suc (suc j)) (omega arith)) in
+    let here : bucketAt n u (suc (suc j)) ≡ bucketAt n t (suc (suc j)) =
+    ap (λ (x : Node). bucket n (x .var) (x .low) (x .high)) (same (suc (suc j)) (omega arith)) in
     rw (before, here)
 
 -- ---- an insertion taken back
@@ -154,17 +152,20 @@ remove x b k = indexMade (set (x .heads) b (getD (x .links) k 0)) (set (x .links
 remove-insert : (x : Index) (b k : ℕ) → k < length (x .links) → getD (x .links) k 0 ≡ 0 → remove (insert x b k) b k ≡ x
 remove-insert x b k lt z =
     let e : getD (insert x b k .links) k 0 ≡ getD (x .heads) b 0 = getD-set-same (x .links) k (getD (x .heads) b 0) 0 lt in
-    let d : set (set (x .heads) b k) b (getD (x .heads) b 0) ≡ x .heads = set-set (x .heads) b k (getD (x .heads) b 0) ∙ set-getD (x .heads) b 0 in
+    let d : set (set (x .heads) b k) b (getD (x .heads) b 0) ≡ x .heads = set-set (x .heads) b k (getD (x .heads) b 0)
+    ∙ set-getD (x .heads) b 0 in
     let s : set (set (x .links) k (getD (x .heads) b 0)) k 0 ≡ x .links =
     set-set (x .links) k (getD (x .heads) b 0) 0 ∙ ap (set (x .links) k) (sym z) ∙ set-getD (x .links) k 0 in
     ap (λ (y : ℕ). indexMade (set (set (x .heads) b k) b y) (set (set (x .links) k (getD (x .heads) b 0)) k 0)) e
     ∙ ap (λ (y : List ℕ). indexMade y (set (set (x .links) k (getD (x .heads) b 0)) k 0)) d ∙ ap (λ (y : List ℕ). indexMade (x .heads) y) s
 
 -- the index of the nodes below k + 1 without place k is that of the nodes below k
-pub index-remove : (t : List Node) (n m k : ℕ) → 2 ≤ k → k < m → remove (indexFrom t n m (k - 1)) (bucketAt n t k) k ≡ indexFrom t n m (k - 2)
+pub index-remove : (t : List Node) (n m k : ℕ) → 2 ≤ k → k < m → remove (indexFrom t n m (k - 1)) (bucketAt n t k) k
+    ≡ indexFrom t n m (k - 2)
 index-remove t n m k two lt =
     ap (λ (x : Index). remove x (bucketAt n t k) k) (index-last t n m k two)
-    ∙ remove-insert (indexFrom t n m (k - 2)) (bucketAt n t k) k (omega (arith, length-indexFrom t n m (k - 2) .1)) (links-rest t n m (k - 2) k (omega arith))
+    ∙ remove-insert (indexFrom t n m (k - 2)) (bucketAt n t k) k (omega (arith, length-indexFrom t n m (k - 2) .1))
+    (links-rest t n m (k - 2) k (omega arith))
 
 -- ---- the walk from place 2
 

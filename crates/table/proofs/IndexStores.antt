@@ -8,14 +8,16 @@ use mathlib.Core.List.{List, [], _∷_, _++_, map}
 use mathlib.Core.Option.{Option, none, some}
 use native.Mathlib.Omega.{arith}
 use lib.ListN.{length, getD, set, take, replicate, length-append, length-set, List·getD-append, List·getD-eq-default}
-use lib.Seq.{take-suc, getD-take, length-take-le, take-take, take-length, take-all, set-set, set-getD, set-append-seam, append-snoc, getD-append-seam}
+use lib.Seq.{take-suc, getD-take, length-take-le, take-take, take-length, take-all, set-set, set-getD, set-append-seam, append-snoc}
+use lib.Seq.{getD-append-seam}
 use borrow.Author.Tests.{lt-ltb, le-ltb}
 use Rattle.table.specs.declared.NodeNo.{NodeNo}
 use Rattle.table.specs.declared.Found.the-variants.{At, Nothing}
 use Rattle.table.specs.Nodes.{Node, nodeOf, blank, at, find, put, orAppend, placed, full, tookPlace}
 use Rattle.table.specs.Columns.{padded, NodeColumns, columnsOf}
 use Rattle.table.specs.Index.{bucket, bucketAt}
-use Rattle.table.specs.Indexed.{Index, indexMade, insert, indexFrom, indexOf, Table, tableOf, size, nodesOf, indexed, Good, Outcome, written, foundOf}
+use Rattle.table.specs.Indexed.{Index, indexMade, insert, indexFrom, indexOf, Table, tableOf, size, nodesOf, indexed, Good, Outcome}
+use Rattle.table.specs.Indexed.{written, foundOf}
 use Rattle.table.proofs.Written.{at-padded, rows-columns, length-nodes, size-indexed, lows-indexed, highs-indexed}
 use Rattle.table.proofs.Growth.{length-new}
 use Rattle.table.proofs.Placing.{put-same, put-differ}
@@ -51,7 +53,8 @@ padded-less : (s : ℕ) (u : List Node) (k : ℕ) → length u ≡ suc k → k <
 padded-less s u k e lt =
     let len : length (take k u) ≡ k = length-take-le k u (omega arith) in
     let last : padded s u ≡ set (padded s (take k u)) k (at u k) =
-    ap (padded s) (split-last u k e) ∙ sym (padded-more s (take k u) (at u k) (omega arith)) ∙ ap (λ (i : ℕ). set (padded s (take k u)) i (at u k)) len in
+    ap (padded s) (split-last u k e) ∙ sym (padded-more s (take k u) (at u k) (omega arith))
+    ∙ ap (λ (i : ℕ). set (padded s (take k u)) i (at u k)) len in
     let was : at (padded s (take k u)) k ≡ blank = at-padded s (take k u) k ∙ List·getD-eq-default (take k u) blank (omega arith) in
     ap (λ (p : List Node). set p k blank) last ∙ set-set (padded s (take k u)) k (at u k) blank
     ∙ ap (set (padded s (take k u)) k) (sym was) ∙ set-getD (padded s (take k u)) k blank
@@ -63,11 +66,13 @@ index-more : (s : ℕ) (t : List Node) (x : Node) → 2 ≤ length t
 index-more s t x two =
     let n : length (t ++ x ∷ []) - 2 ≡ length t - 1 = omega (arith, length-append t (x ∷ [])) in
     ap (indexFrom (t ++ x ∷ []) (2 * s) s) n ∙ index-last (t ++ x ∷ []) (2 * s) s (length t) two
-    ∙ ap (λ (y : Node). insert (indexFrom (t ++ x ∷ []) (2 * s) s (length t - 2)) (bucket (2 * s) (y .var) (y .low) (y .high)) (length t)) (getD-append-seam t x [] blank)
+    ∙ ap (λ (y : Node). insert (indexFrom (t ++ x ∷ []) (2 * s) s (length t - 2)) (bucket (2 * s) (y .var) (y .low) (y .high)) (length t))
+    (getD-append-seam t x [] blank)
     ∙ ap (λ (i : Index). insert i (bucket (2 * s) (x .var) (x .low) (x .high)) (length t))
     (index-same t (t ++ x ∷ []) (2 * s) s (length t - 2) (λ k h. List·getD-append t (x ∷ []) blank k (omega arith)))
 
-index-less : (s : ℕ) (u : List Node) (k : ℕ) → length u ≡ suc k → 2 ≤ k → k < s → remove (indexOf s u) (bucketAt (2 * s) u k) k ≡ indexOf s (take k u)
+index-less : (s : ℕ) (u : List Node) (k : ℕ) → length u ≡ suc k → 2 ≤ k → k < s → remove (indexOf s u) (bucketAt (2 * s) u k) k
+    ≡ indexOf s (take k u)
 index-less s u k e two lt =
     let m : length u - 2 ≡ k - 1 = omega arith in
     let m′ : k - 2 ≡ length (take k u) - 2 = omega (arith, length-take-le k u (omega arith)) in
@@ -83,21 +88,30 @@ module _ (T : Table) (G : Good T) where
 
   pub appended : (v l h : ℕ) (ds ks : List ℕ) → T .count < size T
       → indexMade ds ks ≡ insert (indexMade (T .heads) (T .links)) (bucket (length (T .heads)) v l h) (T .count)
-      → tableOf (set (T .vars) (T .count) v) (set (T .lows) (T .count) l) (set (T .highs) (T .count) h) ds ks (T .count + 1) ≡ indexed (size T) (nodesOf T ++ nodeOf v l h ∷ [])
+      → tableOf (set (T .vars) (T .count) v) (set (T .lows) (T .count) l) (set (T .highs) (T .count) h) ds ks (T .count + 1)
+      ≡ indexed (size T) (nodesOf T ++ nodeOf v l h ∷ [])
   unfolding indexed
   appended v l h ds ks lt e =
       let len : length (nodesOf T) ≡ T .count = length-nodes T G in
-      let columns : storedAt (columnsOf (padded (size T) (nodesOf T))) (length (nodesOf T)) (nodeOf v l h) ≡ columnsOf (padded (size T) (nodesOf T ++ nodeOf v l h ∷ [])) =
-      sym (columns-set (padded (size T) (nodesOf T)) (length (nodesOf T)) (nodeOf v l h)) ∙ ap columnsOf (padded-more (size T) (nodesOf T) (nodeOf v l h) (omega arith)) in
+      let columns : storedAt (columnsOf (padded (size T) (nodesOf T))) (length (nodesOf T)) (nodeOf v l h)
+      ≡ columnsOf (padded (size T) (nodesOf T ++ nodeOf v l h ∷ [])) =
+      sym (columns-set (padded (size T) (nodesOf T)) (length (nodesOf T)) (nodeOf v l h))
+      ∙ ap columnsOf (padded-more (size T) (nodesOf T) (nodeOf v l h) (omega arith)) in
       let index : indexMade ds ks ≡ indexOf (size T) (nodesOf T ++ nodeOf v l h ∷ []) =
       e ∙ ap (λ (x : Index). insert x (bucket (length (T .heads)) v l h) (T .count)) good-index
       ∙ ap (λ (n : ℕ). insert (indexOf (size T) (nodesOf T)) (bucket n v l h) (T .count)) (G .heads)
       ∙ ap (insert (indexOf (size T) (nodesOf T)) (bucket (2 * size T) v l h)) (sym len)
       ∙ sym (index-more (size T) (nodesOf T) (nodeOf v l h) (omega (arith, G .least))) in
-      ap (λ (w : Table). tableOf (set (w .vars) (w .count) v) (set (w .lows) (w .count) l) (set (w .highs) (w .count) h) ds ks (w .count + 1)) (G .written)
+      ap (λ (w : Table). tableOf (set (w .vars) (w .count) v) (set (w .lows) (w .count) l) (set (w .highs) (w .count) h) ds ks
+      (w .count + 1)) (G .written)
       ∙ ap (λ (c : NodeColumns). tableOf (c .vars) (c .lows) (c .highs) ds ks (length (nodesOf T) + 1)) columns
-      ∙ ap (λ (x : Index). tableOf (columnsOf (padded (size T) (nodesOf T ++ nodeOf v l h ∷ [])) .vars) (columnsOf (padded (size T) (nodesOf T ++ nodeOf v l h ∷ [])) .lows) (columnsOf (padded (size T) (nodesOf T ++ nodeOf v l h ∷ [])) .highs) (x .heads) (x .links) (length (nodesOf T) + 1)) index
-      ∙ ap (tableOf (columnsOf (padded (size T) (nodesOf T ++ nodeOf v l h ∷ [])) .vars) (columnsOf (padded (size T) (nodesOf T ++ nodeOf v l h ∷ [])) .lows) (columnsOf (padded (size T) (nodesOf T ++ nodeOf v l h ∷ [])) .highs) (indexOf (size T) (nodesOf T ++ nodeOf v l h ∷ []) .heads) (indexOf (size T) (nodesOf T ++ nodeOf v l h ∷ []) .links))
+      ∙ ap (λ (x : Index). tableOf (columnsOf (padded (size T) (nodesOf T ++ nodeOf v l h ∷ [])) .vars)
+      (columnsOf (padded (size T) (nodesOf T ++ nodeOf v l h ∷ [])) .lows)
+      (columnsOf (padded (size T) (nodesOf T ++ nodeOf v l h ∷ [])) .highs) (x .heads) (x .links) (length (nodesOf T) + 1)) index
+      ∙ ap (tableOf (columnsOf (padded (size T) (nodesOf T ++ nodeOf v l h ∷ [])) .vars)
+      (columnsOf (padded (size T) (nodesOf T ++ nodeOf v l h ∷ [])) .lows)
+      (columnsOf (padded (size T) (nodesOf T ++ nodeOf v l h ∷ [])) .highs) (indexOf (size T) (nodesOf T ++ nodeOf v l h ∷ []) .heads)
+      (indexOf (size T) (nodesOf T ++ nodeOf v l h ∷ []) .links))
       (sym (length-append (nodesOf T) (nodeOf v l h ∷ [])))
 
 -- ---- the four ways of `put`
@@ -142,14 +156,16 @@ module _ (T : Table) (G : Good T) (v l h : ℕ) where
     put-new w e lt is =
         let len : length (nodesOf T) ≡ T .count = length-nodes T G in
         ap (λ (u : Table). outcome u false (T .count)) is ∙ ap (outcome (indexed (size T) (nodesOf T ++ nodeOf v l h ∷ [])) false) (sym len)
-        ∙ ap (written (size T)) (sym (put-differ (size T) (nodesOf T) v l h ne ∙ ap (orAppend (size T) (nodesOf T) (nodeOf v l h)) e ∙ append-room (size T) (nodesOf T) (nodeOf v l h) (omega arith)))
+        ∙ ap (written (size T)) (sym (put-differ (size T) (nodesOf T) v l h ne ∙ ap (orAppend (size T) (nodesOf T) (nodeOf v l h)) e
+        ∙ append-room (size T) (nodesOf T) (nodeOf v l h) (omega arith)))
 
     pub put-full : find (nodesOf T) (nodeOf v l h) ≡ none → size T ≤ T .count → outcome T true 0 ≡ putting
     unfolding written
     put-full e le =
         let len : length (nodesOf T) ≡ T .count = length-nodes T G in
         ap (λ (w : Table). outcome w true 0) (G .written)
-        ∙ ap (written (size T)) (sym (put-differ (size T) (nodesOf T) v l h ne ∙ ap (orAppend (size T) (nodesOf T) (nodeOf v l h)) e ∙ append-full (size T) (nodesOf T) (nodeOf v l h) (omega arith)))
+        ∙ ap (written (size T)) (sym (put-differ (size T) (nodesOf T) v l h ne ∙ ap (orAppend (size T) (nodesOf T) (nodeOf v l h)) e
+        ∙ append-full (size T) (nodesOf T) (nodeOf v l h) (omega arith)))
 
   -- ---- whether the place is new
 
@@ -173,14 +189,17 @@ module _ (T : Table) (G : Good T) (v l h : ℕ) where
     took-new e lt =
         let len : length (nodesOf T) ≡ T .count = length-nodes T G in
         let is : put (size T) (nodesOf T) v l h ≡ placed (nodesOf T ++ nodeOf v l h ∷ []) (length (nodesOf T)) =
-        put-differ (size T) (nodesOf T) v l h ne ∙ ap (orAppend (size T) (nodesOf T) (nodeOf v l h)) e ∙ append-room (size T) (nodesOf T) (nodeOf v l h) (omega arith) in
-        rw is (sym (lt-ltb (length (nodesOf T)) (length (nodesOf T ++ nodeOf v l h ∷ [])) (omega (arith, length-new (nodesOf T) (nodeOf v l h)))))
+        put-differ (size T) (nodesOf T) v l h ne ∙ ap (orAppend (size T) (nodesOf T) (nodeOf v l h)) e
+        ∙ append-room (size T) (nodesOf T) (nodeOf v l h) (omega arith) in
+        rw is (sym (lt-ltb (length (nodesOf T)) (length (nodesOf T ++ nodeOf v l h ∷ []))
+        (omega (arith, length-new (nodesOf T) (nodeOf v l h)))))
 
     pub took-full : find (nodesOf T) (nodeOf v l h) ≡ none → size T ≤ T .count → false ≡ took
     unfolding tookPlace
     took-full e le =
         let len : length (nodesOf T) ≡ T .count = length-nodes T G in
-        rw (put-differ (size T) (nodesOf T) v l h ne ∙ ap (orAppend (size T) (nodesOf T) (nodeOf v l h)) e ∙ append-full (size T) (nodesOf T) (nodeOf v l h) (omega arith)) refl
+        rw (put-differ (size T) (nodesOf T) v l h ne ∙ ap (orAppend (size T) (nodesOf T) (nodeOf v l h)) e
+        ∙ append-full (size T) (nodesOf T) (nodeOf v l h) (omega arith)) refl
 
 -- ---- dropping
 
@@ -209,14 +228,16 @@ drop-start T keep G h = record {
 
 -- what the loop stores, b the chain of the last place k
 abbrev popped : Table → ℕ → ℕ → Table
-popped T k b = tableOf (set (T .vars) k 0) (set (T .lows) k 0) (set (T .highs) k 0) (set (T .heads) b (getD (T .links) k 0)) (set (T .links) k 0) k
+popped T k b = tableOf (set (T .vars) k 0) (set (T .lows) k 0) (set (T .highs) k 0) (set (T .heads) b (getD (T .links) k 0))
+    (set (T .links) k 0) k
 
 module _ (s : ℕ) (u : List Node) (k : ℕ) (e : length u ≡ suc k) (two : 2 ≤ k) (lt : k < s) where
   read-last : nodeOf (getD (indexed s u .vars) k 0) (getD (indexed s u .lows) k 0) (getD (indexed s u .highs) k 0) ≡ at u k
   unfolding indexed
   read-last =
       let room : length u ≤ s = omega arith in
-      sym (rows-at (indexed s u .vars) (indexed s u .lows) (indexed s u .highs) (lows-indexed s u room ∙ sym (size-indexed s u room)) (highs-indexed s u room ∙ sym (size-indexed s u room)) k)
+      sym (rows-at (indexed s u .vars) (indexed s u .lows) (indexed s u .highs) (lows-indexed s u room ∙ sym (size-indexed s u room))
+      (highs-indexed s u room ∙ sym (size-indexed s u room)) k)
       ∙ ap (λ (r : List Node). at r k) (rows-columns (padded s u)) ∙ at-padded s u k
 
   popped-is : popped (indexed s u) k (bucketAt (2 * s) u k) ≡ indexed s (take k u)
@@ -224,12 +245,16 @@ module _ (s : ℕ) (u : List Node) (k : ℕ) (e : length u ≡ suc k) (two : 2 �
   popped-is =
       let columns : storedAt (columnsOf (padded s u)) k blank ≡ columnsOf (padded s (take k u)) =
       sym (columns-set (padded s u) k blank) ∙ ap columnsOf (padded-less s u k e lt) in
-      ap (λ (c : NodeColumns). tableOf (c .vars) (c .lows) (c .highs) (remove (indexOf s u) (bucketAt (2 * s) u k) k .heads) (remove (indexOf s u) (bucketAt (2 * s) u k) k .links) k) columns
-      ∙ ap (λ (x : Index). tableOf (columnsOf (padded s (take k u)) .vars) (columnsOf (padded s (take k u)) .lows) (columnsOf (padded s (take k u)) .highs) (x .heads) (x .links) k) (index-less s u k e two lt)
-      ∙ ap (tableOf (columnsOf (padded s (take k u)) .vars) (columnsOf (padded s (take k u)) .lows) (columnsOf (padded s (take k u)) .highs) (indexOf s (take k u) .heads) (indexOf s (take k u) .links))
+      ap (λ (c : NodeColumns). tableOf (c .vars) (c .lows) (c .highs) (remove (indexOf s u) (bucketAt (2 * s) u k) k .heads)
+      (remove (indexOf s u) (bucketAt (2 * s) u k) k .links) k) columns
+      ∙ ap (λ (x : Index). tableOf (columnsOf (padded s (take k u)) .vars) (columnsOf (padded s (take k u)) .lows)
+      (columnsOf (padded s (take k u)) .highs) (x .heads) (x .links) k) (index-less s u k e two lt)
+      ∙ ap (tableOf (columnsOf (padded s (take k u)) .vars) (columnsOf (padded s (take k u)) .lows) (columnsOf (padded s (take k u)) .highs)
+      (indexOf s (take k u) .heads) (indexOf s (take k u) .links))
       (sym (length-take-le k u (omega arith)))
 
-module _ (T₀ T : Table) (keep b n : ℕ) (G : Good T₀) (two : 2 ≤ keep) (lt : keep < T .count) (D : Dropping T₀ T keep) (heads : n ≡ length (T₀ .heads))
+module _ (T₀ T : Table) (keep b n : ℕ) (G : Good T₀) (two : 2 ≤ keep) (lt : keep < T .count) (D : Dropping T₀ T keep)
+    (heads : n ≡ length (T₀ .heads))
     (chain : b ≡ bucket n (getD (T .vars) (T .count - 1) 0) (getD (T .lows) (T .count - 1) 0) (getD (T .highs) (T .count - 1) 0)) where
   abbrev left : List Node
   left = take (T .count) (nodesOf T₀)
@@ -239,9 +264,12 @@ module _ (T₀ T : Table) (keep b n : ℕ) (G : Good T₀) (two : 2 ≤ keep) (l
 
   chain-is : b ≡ bucketAt (2 * size T₀) left (T .count - 1)
   chain-is =
-      chain ∙ ap (λ (m : ℕ). bucket m (getD (T .vars) (T .count - 1) 0) (getD (T .lows) (T .count - 1) 0) (getD (T .highs) (T .count - 1) 0)) (heads ∙ G .heads)
-      ∙ ap (λ (w : Table). bucket (2 * size T₀) (getD (w .vars) (T .count - 1) 0) (getD (w .lows) (T .count - 1) 0) (getD (w .highs) (T .count - 1) 0)) (D .is)
-      ∙ ap (λ (x : Node). bucket (2 * size T₀) (x .var) (x .low) (x .high)) (read-last (size T₀) left (T .count - 1) length-left (omega arith) (omega (arith, D .within, G .within)))
+      chain ∙ ap (λ (m : ℕ). bucket m (getD (T .vars) (T .count - 1) 0) (getD (T .lows) (T .count - 1) 0)
+      (getD (T .highs) (T .count - 1) 0)) (heads ∙ G .heads)
+      ∙ ap (λ (w : Table). bucket (2 * size T₀) (getD (w .vars) (T .count - 1) 0) (getD (w .lows) (T .count - 1) 0)
+      (getD (w .highs) (T .count - 1) 0)) (D .is)
+      ∙ ap (λ (x : Node). bucket (2 * size T₀) (x .var) (x .low) (x .high))
+      (read-last (size T₀) left (T .count - 1) length-left (omega arith) (omega (arith, D .within, G .within)))
 
   pub drop-next : Dropping T₀ (popped T (T .count - 1) b) keep
   drop-next = record {
@@ -252,7 +280,8 @@ module _ (T₀ T : Table) (keep b n : ℕ) (G : Good T₀) (two : 2 ≤ keep) (l
     highs = length-set (T .highs) (T .count - 1) 0 ∙ D .highs;
     heads = length-set (T .heads) b (getD (T .links) (T .count - 1) 0) ∙ D .heads;
     links = length-set (T .links) (T .count - 1) 0 ∙ D .links;
-    is = ap (popped T (T .count - 1)) chain-is ∙ ap (λ (w : Table). popped w (T .count - 1) (bucketAt (2 * size T₀) left (T .count - 1))) (D .is)
+    is = ap (popped T (T .count - 1)) chain-is ∙ ap (λ (w : Table). popped w (T .count - 1) (bucketAt (2 * size T₀) left (T .count - 1)))
+        (D .is)
         ∙ popped-is (size T₀) left (T .count - 1) length-left (omega arith) (omega (arith, D .within, G .within))
         ∙ ap (indexed (size T₀)) (take-take (T .count - 1) (T .count) (nodesOf T₀) (omega arith));
   }
@@ -261,4 +290,5 @@ pub drop-end : (T₀ T : Table) (keep : ℕ) → T .count ≤ keep → Dropping 
     → tableOf (T .vars) (T .lows) (T .highs) (T .heads) (T .links) keep ≡ indexed (size T₀) (take keep (nodesOf T₀))
 drop-end T₀ T keep le D =
     let e : T .count ≡ keep = omega (arith, D .least) in
-    ap (tableOf (T .vars) (T .lows) (T .highs) (T .heads) (T .links)) (sym e) ∙ D .is ∙ ap (λ (c : ℕ). indexed (size T₀) (take c (nodesOf T₀))) e
+    ap (tableOf (T .vars) (T .lows) (T .highs) (T .heads) (T .links)) (sym e) ∙ D .is
+    ∙ ap (λ (c : ℕ). indexed (size T₀) (take c (nodesOf T₀))) e

@@ -58,7 +58,8 @@ module _ (n : ℕ) (t : List Node) (b : ℕ) where
   pub highest-last : (j : ℕ) → highest n t b (suc (suc j)) ≡ lastIn (bucketAt n t) b j
   highest-last zero = highest-none ∙ sym (last-none (bucketAt n t) b)
   highest-last (suc j) =
-      highest-suc (suc (suc j)) (omega arith) ∙ ap (λ (m : ℕ). cond (eqb (bucketAt n t (suc (suc j))) b) (suc (suc j)) m) (highest-last j) ∙ sym (last-suc j)
+      highest-suc (suc (suc j)) (omega arith) ∙ ap (λ (m : ℕ). cond (eqb (bucketAt n t (suc (suc j))) b) (suc (suc j)) m) (highest-last j)
+      ∙ sym (last-suc j)
 
 pub highest-few : (n : ℕ) (t : List Node) (b k : ℕ) → k < 2 → highest n t b k ≡ 0
 unfolding highest
@@ -85,7 +86,9 @@ heads-literal s t two =
     let q : b < 2 * s = omega (arith, length-indexFrom t (2 * s) s (length t - 2) .0) in
     let z : length t ≡ suc (suc (length t - 2)) = omega arith in
     let y : 0 + b ≡ b = omega arith in
-    heads-is t (2 * s) s (length t - 2) b q ∙ sym (listed-at 0 (2 * s) (λ b. highest (2 * s) t b (length t)) b q ∙ rw y (ap (highest (2 * s) t b) z ∙ highest-last (2 * s) t b (length t - 2))))
+    heads-is t (2 * s) s (length t - 2) b q ∙ sym
+    (listed-at 0 (2 * s) (λ b. highest (2 * s) t b (length t)) b q ∙ rw y
+    (ap (highest (2 * s) t b) z ∙ highest-last (2 * s) t b (length t - 2))))
 
 -- ---- the links are literal
 
@@ -94,10 +97,12 @@ unlinked : (t : List Node) (n m j k : ℕ) → (k < 2) ⊎ (suc (suc j) ≤ k) �
 unfolding indexFrom
 unlinked t n m zero k out = zeros-at m k
 unlinked t n m (suc j) k (inl lt) =
-    getD-set-other (indexFrom t n m j .links) (suc (suc j)) k (getD (indexFrom t n m j .heads) (bucketAt n t (suc (suc j))) 0) 0 (λ q. omega arith)
+    getD-set-other (indexFrom t n m j .links) (suc (suc j)) k (getD (indexFrom t n m j .heads) (bucketAt n t (suc (suc j))) 0) 0
+    (λ q. omega arith)
     ∙ unlinked t n m j k (inl lt)
 unlinked t n m (suc j) k (inr le) =
-    getD-set-other (indexFrom t n m j .links) (suc (suc j)) k (getD (indexFrom t n m j .heads) (bucketAt n t (suc (suc j))) 0) 0 (λ q. omega arith)
+    getD-set-other (indexFrom t n m j .links) (suc (suc j)) k (getD (indexFrom t n m j .heads) (bucketAt n t (suc (suc j))) 0) 0
+    (λ q. omega arith)
     ∙ unlinked t n m j k (inr (omega arith))
 
 module _ (s : ℕ) (t : List Node) (two : 2 ≤ length t) (room : length t ≤ s) where
@@ -124,7 +129,8 @@ module _ (s : ℕ) (t : List Node) (two : 2 ≤ length t) (room : length t ≤ s
         ∙ sym (listed k lt ∙ rw (lt-ltb k (length t) (omega arith)) (highest-few (2 * s) t (bucketAt (2 * s) t k) k a))
     | no a ↦ elim (decLt k (length t)) [
       | yes b ↦ inner k (omega (arith, a)) b
-      | no b ↦ unlinked t (2 * s) s (length t - 2) k (inr (omega (arith, b))) ∙ sym (listed k lt ∙ rw (le-ltb k (length t) (omega (arith, b))))
+      | no b ↦ unlinked t (2 * s) s (length t - 2) k (inr (omega (arith, b)))
+          ∙ sym (listed k lt ∙ rw (le-ltb k (length t) (omega (arith, b))))
     ]
   ]
 
@@ -144,7 +150,8 @@ module _ (T : Table) (G : Good T) (x : Node) where
   chain-zero zero k e = refl
   chain-zero (suc steps) k e = rw (eq-eqb k 0 e)
 
-  chain-step : (steps k : ℕ) → (k ≡ 0 → ⊥) → chainFrom (suc steps) (T .links) t k x ≡ cond (alike (at t k) x) (some k) (chainFrom steps (T .links) t (getD (T .links) k 0) x)
+  chain-step : (steps k : ℕ) → (k ≡ 0 → ⊥) → chainFrom (suc steps) (T .links) t k x
+      ≡ cond (alike (at t k) x) (some k) (chainFrom steps (T .links) t (getD (T .links) k 0) x)
   unfolding chainFrom
   chain-step steps k ne = rw (ne-eqb k 0 ne)
 
@@ -152,13 +159,15 @@ module _ (T : Table) (G : Good T) (x : Node) where
   found zero k p C = absurd (omega arith)
   found (suc steps) k p C = elim (ℕ-discrete k 0) [
     | yes z ↦ chain-zero (suc steps) k z ∙ sym (chain-end T G x k z C)
-    | no z ↦ chain-step steps k z ∙ go (alike (at t k) x) refl z (λ C′. found steps (getD (T .links) k 0) (omega (arith, chain-less T G x k z C)) C′)
+    | no z ↦ chain-step steps k z ∙ go (alike (at t k) x) refl z
+        (λ C′. found steps (getD (T .links) k 0) (omega (arith, chain-less T G x k z C)) C′)
   ]
     where
       here : (b : Bool) → alike (at t k) x ≡ b → alike (nodeOf (getD (T .vars) k 0) (getD (T .lows) k 0) (getD (T .highs) k 0)) x ≡ b
       here b e = ap (λ (y : Node). alike y x) (sym (node-at T G k (C .below))) ∙ e
 
-      go : (b : Bool) → alike (at t k) x ≡ b → (ne : k ≡ 0 → ⊥) → (Chain T x (getD (T .links) k 0) → chainFrom steps (T .links) t (getD (T .links) k 0) x ≡ find t x)
+      go : (b : Bool) → alike (at t k) x ≡ b → (ne : k ≡ 0 → ⊥) →
+          (Chain T x (getD (T .links) k 0) → chainFrom steps (T .links) t (getD (T .links) k 0) x ≡ find t x)
           → cond b (some k) (chainFrom steps (T .links) t (getD (T .links) k 0) x) ≡ find t x
       go true e ne ih = sym (chain-hit T G x k ne C (here true e))
       go false e ne ih = ih (chain-next T G x k ne C (here false e))
@@ -168,4 +177,5 @@ module _ (T : Table) (G : Good T) (x : Node) where
   unfolding findByIndex
   lookup-agrees =
       let C = chain-start T G x (bucket (length (T .heads)) (x .var) (x .low) (x .high)) refl in
-      found (length t) (getD (T .heads) (bucket (length (T .heads)) (x .var) (x .low) (x .high)) 0) (omega (arith, C .below, length-nodes T G)) C
+      found (length t) (getD (T .heads) (bucket (length (T .heads)) (x .var) (x .low) (x .high)) 0)
+      (omega (arith, C .below, length-nodes T G)) C

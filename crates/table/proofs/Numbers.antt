@@ -72,7 +72,8 @@ diagramAt-node t O (suc (suc j)) a b =
 abbrev Injective : List Node → ℕ → Type 0
 Injective t j = (k : ℕ) → j < length t → k < length t → diagramAt t j ≡ diagramAt t k → j ≡ k
 
-injective-step : (t : List Node) → Ordered t → (j : ℕ) → ((i : ℕ) → i < j → Injective t i) → Kind j → (k : ℕ) → Kind k → j < length t → k < length t
+injective-step : (t : List Node) → Ordered t → (j : ℕ) → ((i : ℕ) → i < j → Injective t i) → Kind j → (k : ℕ) → Kind k → j < length t →
+    k < length t
     → diagramAt t j ≡ diagramAt t k → j ≡ k
 injective-step t O _ ih is-zero _ is-zero p q e = refl
 injective-step t O _ ih is-zero _ is-one p q e = let z : _≡_ {A = ℕ} 0 1 = cc (diagramAt-zero t, diagramAt-one t) in z
@@ -85,7 +86,9 @@ injective-step t O j ih (from-two a) _ is-one p q e = cc (diagramAt-one t, diagr
 injective-step t O j ih (from-two a) k (from-two b) p q e =
     let J : Fits t j (at t j) = O .fits j a p in
     let K : Fits t k (at t k) = O .fits k b q in
-    let nodes-equal : node (at t j .var) (diagramAt t (at t j .low)) (diagramAt t (at t j .high)) ≡ node (at t k .var) (diagramAt t (at t k .low)) (diagramAt t (at t k .high)) = sym (diagramAt-node t O j a p) ∙ e ∙ diagramAt-node t O k b q in
+    let nodes-equal : node (at t j .var) (diagramAt t (at t j .low)) (diagramAt t (at t j .high))
+    ≡ node (at t k .var) (diagramAt t (at t k .low)) (diagramAt t (at t k .high)) = sym (diagramAt-node t O j a p) ∙ e
+    ∙ diagramAt-node t O k b q in
     let low : at t j .low ≡ at t k .low = ih (at t j .low) (J .low-less) (at t k .low) (omega arith) (omega arith) (cc) in
     let high : at t j .high ≡ at t k .high = ih (at t j .high) (J .high-less) (at t k .high) (omega arith) (omega arith) (cc) in
     O .alike j k a p b q (same-node (at t j) (at t k) (cc) low high)
@@ -146,7 +149,8 @@ root-variable t O v e k p r h = go (rw (diagramAt-node t O k h p) at r)
 same-values : (n : ℕ) (t : List Node) → Ordered t → UsesTo n t → (j k : ℕ) → j < length t → k < length t
     → ((a : Assignment) → length a ≡ n → value (diagramAt t j) a ≡ value (diagramAt t k) a) → j ≡ k
 same-values n t O uses j k p q h =
-    diagramAt-injective t O j k p q (unique n 1 (suc n) (diagramAt t j) (diagramAt t k) (omega arith) (reduced-to n t O uses j p) (reduced-to n t O uses k q) h)
+    diagramAt-injective t O j k p q (unique n 1 (suc n) (diagramAt t j) (diagramAt t k) (omega arith) (reduced-to n t O uses j p)
+    (reduced-to n t O uses k q) h)
 
 -- For any n that no variable in use exceeds.
 pub numbers-equal-to : (n : ℕ) (rows : List Node) (count : ℕ) → GoodPlaces rows count → ((i : ℕ) → 2 ≤ i → i < count → at rows i .var ≤ n)
@@ -155,7 +159,8 @@ pub numbers-equal-to : (n : ℕ) (rows : List Node) (count : ℕ) → GoodPlaces
 numbers-equal-to n rows count G uses j k p q =
     let len : length (take count rows) ≡ count = length-take-le count rows (G .within) in (
       (λ same a _. ap (λ (i : ℕ). value (diagramAt (take count rows) i) a) same),
-      same-values n (take count rows) (G .ordered) (λ i h l. rw (getD-take count rows i blank (omega arith)) (uses i h (omega arith))) j k (omega arith) (omega arith),
+      same-values n (take count rows) (G .ordered) (λ i h l. rw (getD-take count rows i blank (omega arith)) (uses i h (omega arith))) j k
+          (omega arith) (omega arith),
     )
 
 -- Demand 3, first part: in a table in good order two node numbers are equal exactly where their values are equal under every

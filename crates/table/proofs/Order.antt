@@ -43,13 +43,19 @@ same-node x y v l h = ap₂ (nodeOf (x .var)) l h ∙ ap (λ (w : ℕ). nodeOf w
 pub alike-true : (x y : Node) → alike x y ≡ true → x ≡ y
 unfolding alike
 alike-true x y e =
-    let p : (eqb (x .var) (y .var) ≡ true) × ((eqb (x .low) (y .low) && eqb (x .high) (y .high)) ≡ true) = and-both (eqb (x .var) (y .var)) (eqb (x .low) (y .low) && eqb (x .high) (y .high)) e in
-    let q : (eqb (x .low) (y .low) ≡ true) × (eqb (x .high) (y .high) ≡ true) = and-both (eqb (x .low) (y .low)) (eqb (x .high) (y .high)) (p .1) in
+    let p : (eqb (x .var) (y .var) ≡ true) × ((eqb (x .low) (y .low) && eqb (x .high) (y .high)) ≡ true) =
+    and-both (eqb (x .var) (y .var)) (eqb (x .low) (y .low) && eqb (x .high) (y .high)) e in
+    let q : (eqb (x .low) (y .low) ≡ true) × (eqb (x .high) (y .high) ≡ true) =
+    and-both (eqb (x .low) (y .low)) (eqb (x .high) (y .high)) (p .1) in
     same-node x y (eqb-true (x .var) (y .var) (p .0)) (eqb-true (x .low) (y .low) (q .0)) (eqb-true (x .high) (y .high) (q .1))
 
 same-alike : (x y : Node) → x ≡ y → alike x y ≡ true
 unfolding alike
-same-alike x y e = rw (eq-eqb (x .var) (y .var) (ap (λ (z : Node). z .var) e), eq-eqb (x .low) (y .low) (ap (λ (z : Node). z .low) e), eq-eqb (x .high) (y .high) (ap (λ (z : Node). z .high) e))
+same-alike x y e = rw (
+  eq-eqb (x .var) (y .var) (ap (λ (z : Node). z .var) e),
+  eq-eqb (x .low) (y .low) (ap (λ (z : Node). z .low) e),
+  eq-eqb (x .high) (y .high) (ap (λ (z : Node). z .high) e),
+)
 
 pub alike-false : (x y : Node) → alike x y ≡ false → x ≢ y
 alike-false x y e q = t≢f (sym (same-alike x y q) ∙ e)
@@ -72,7 +78,8 @@ all-blank (x ∷ xs) e (suc k) = all-blank xs (and-both (alike x blank) (allBlan
 pub every-blank : (xs : List Node) → ((k : ℕ) → k < length xs → at xs k ≡ blank) → allBlank xs ≡ true
 unfolding allBlank
 every-blank [] h = refl
-every-blank (x ∷ xs) h = both-true (alike x blank) (allBlank xs) (same-alike x blank (h 0 (omega arith))) (every-blank xs (λ k p. h (suc k) (omega arith)))
+every-blank (x ∷ xs) h = both-true (alike x blank) (allBlank xs) (same-alike x blank (h 0 (omega arith)))
+    (every-blank xs (λ k p. h (suc k) (omega arith)))
 
 -- ---- one node
 
@@ -101,9 +108,12 @@ true-above t v child h = go (ltb child 2) refl
 pub fits-true : (t : List Node) (k : ℕ) (x : Node) → fits t k x ≡ true → Fits t k x
 unfolding fits
 fits-true t k x e =
-    let p = and-both (leb 1 (x .var) && leb (x .var) 64) ((above t (x .var) (x .low) && above t (x .var) (x .high)) && ((ltb (x .low) k && ltb (x .high) k) && not (eqb (x .low) (x .high)))) e in
+    let p = and-both (leb 1 (x .var) && leb (x .var) 64)
+    ((above t (x .var) (x .low) && above t (x .var) (x .high)) && ((ltb (x .low) k && ltb (x .high) k) && not (eqb (x .low) (x .high))))
+    e in
     let v = and-both (leb 1 (x .var)) (leb (x .var) 64) (p .0) in
-    let q = and-both (above t (x .var) (x .low) && above t (x .var) (x .high)) ((ltb (x .low) k && ltb (x .high) k) && not (eqb (x .low) (x .high))) (p .1) in
+    let q = and-both (above t (x .var) (x .low) && above t (x .var) (x .high))
+    ((ltb (x .low) k && ltb (x .high) k) && not (eqb (x .low) (x .high))) (p .1) in
     let a = and-both (above t (x .var) (x .low)) (above t (x .var) (x .high)) (q .0) in
     let r = and-both (ltb (x .low) k && ltb (x .high) k) (not (eqb (x .low) (x .high))) (q .1) in
     let c = and-both (ltb (x .low) k) (ltb (x .high) k) (r .0) in
@@ -143,7 +153,9 @@ pub record Ordered (t : List Node) : Type 0 where
 is-new : (t : List Node) (k : ℕ) → isNew t k ≡ true → (j : ℕ) → 2 ≤ j → j < k → at t j ≢ at t k
 unfolding isNew
 is-new t k e j h p =
-    alike-false (at t j) (at t k) (not-true (alike (at t j) (at t k)) (or-second (ltb j 2) (not (alike (at t j) (at t k))) (all-below k (λ i. ltb i 2 || not (alike (at t i) (at t k))) e j p) (le-ltb j 2 h)))
+    alike-false (at t j) (at t k) (not-true (alike (at t j) (at t k))
+    (or-second (ltb j 2) (not (alike (at t j) (at t k))) (all-below k (λ i. ltb i 2 || not (alike (at t i) (at t k))) e j p)
+    (le-ltb j 2 h)))
 
 new-is : (t : List Node) (k : ℕ) → ((j : ℕ) → 2 ≤ j → j < k → at t j ≢ at t k) → isNew t k ≡ true
 unfolding isNew
@@ -164,7 +176,8 @@ module _ (t : List Node) (e : nodesInOrder t ≡ true) (two : 2 ≤ length t) wh
   node-parts : (k : ℕ) → 2 ≤ k → k < length t → (fits t k (at t k) ≡ true) × (isNew t k ≡ true)
   node-parts k h p =
       and-both (fits t k (at t k)) (isNew t k)
-      (or-second (ltb k 2) (fits t k (at t k) && isNew t k) (all-below (length t) (λ k. ltb k 2 || (fits t k (at t k) && isNew t k)) (parts .1) k p) (le-ltb k 2 h))
+      (or-second (ltb k 2) (fits t k (at t k) && isNew t k)
+      (all-below (length t) (λ k. ltb k 2 || (fits t k (at t k) && isNew t k)) (parts .1) k p) (le-ltb k 2 h))
 
   pub ordered : Ordered t
   ordered =

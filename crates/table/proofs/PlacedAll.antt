@@ -18,12 +18,14 @@ use Rattle.table.proofs.Written.{nodes-indexed}
 
 -- ---- one diagram, told by its outcome
 
-after-full : (s : ℕ) (p : Placing) (rest : List Node → Room) → written s p .full ≡ true → afterPlacing p rest ≡ short (nodesOf (written s p .table))
+after-full : (s : ℕ) (p : Placing) (rest : List Node → Room) → written s p .full ≡ true → afterPlacing p rest
+    ≡ short (nodesOf (written s p .table))
 unfolding written
 after-full s (full t) rest e = ap short (sym (nodes-indexed s t))
 after-full s (placed t k) rest e = t≢f (sym e)
 
-after-placed : (s : ℕ) (p : Placing) (rest : List Node → Room) → written s p .full ≡ false → afterPlacing p rest ≡ rest (nodesOf (written s p .table))
+after-placed : (s : ℕ) (p : Placing) (rest : List Node → Room) → written s p .full ≡ false → afterPlacing p rest
+    ≡ rest (nodesOf (written s p .table))
 unfolding written
 after-placed s (full t) rest e = t≢f e
 after-placed s (placed t k) rest e = ap rest (sym (nodes-indexed s t))
@@ -43,22 +45,26 @@ module _ (s : ℕ) (t : List Node) (D : Diagram) (Ds : List Diagram) (o : Outcom
 
 -- ---- one list after another
 
-pub placed-short : (s : ℕ) (t : List Node) (Ds Es : List Diagram) (t′ : List Node) → placedAll s t Ds ≡ short t′ → placedAll s t (Ds ++ Es) ≡ short t′
+pub placed-short : (s : ℕ) (t : List Node) (Ds Es : List Diagram) (t′ : List Node) → placedAll s t Ds ≡ short t′ → placedAll s t (Ds ++ Es)
+    ≡ short t′
 unfolding placedAll
 placed-short s t [] Es t′ e = cc
 placed-short s t (D ∷ Ds) Es t′ e = go (place s t D) (λ t₁ q. placed-short s t₁ Ds Es t′ q) e
   where
-    go : (p : Placing) → ((t₁ : List Node) → placedAll s t₁ Ds ≡ short t′ → placedAll s t₁ (Ds ++ Es) ≡ short t′) → afterPlacing p (λ t₁. placedAll s t₁ Ds) ≡ short t′
+    go : (p : Placing) → ((t₁ : List Node) → placedAll s t₁ Ds ≡ short t′ → placedAll s t₁ (Ds ++ Es) ≡ short t′) →
+        afterPlacing p (λ t₁. placedAll s t₁ Ds) ≡ short t′
         → afterPlacing p (λ t₁. placedAll s t₁ (Ds ++ Es)) ≡ short t′
     go (full t₁) ih q = q
     go (placed t₁ k) ih q = ih t₁ q
 
-pub placed-then : (s : ℕ) (t : List Node) (Ds Es : List Diagram) (t′ : List Node) → placedAll s t Ds ≡ all t′ → placedAll s t (Ds ++ Es) ≡ placedAll s t′ Es
+pub placed-then : (s : ℕ) (t : List Node) (Ds Es : List Diagram) (t′ : List Node) → placedAll s t Ds ≡ all t′ → placedAll s t (Ds ++ Es)
+    ≡ placedAll s t′ Es
 unfolding placedAll
 placed-then s t [] Es t′ e = let q : t ≡ t′ = cc in ap (λ (u : List Node). placedAll s u Es) q
 placed-then s t (D ∷ Ds) Es t′ e = go (place s t D) (λ t₁ q. placed-then s t₁ Ds Es t′ q) e
   where
-    go : (p : Placing) → ((t₁ : List Node) → placedAll s t₁ Ds ≡ all t′ → placedAll s t₁ (Ds ++ Es) ≡ placedAll s t′ Es) → afterPlacing p (λ t₁. placedAll s t₁ Ds) ≡ all t′
+    go : (p : Placing) → ((t₁ : List Node) → placedAll s t₁ Ds ≡ all t′ → placedAll s t₁ (Ds ++ Es) ≡ placedAll s t′ Es) →
+        afterPlacing p (λ t₁. placedAll s t₁ Ds) ≡ all t′
         → afterPlacing p (λ t₁. placedAll s t₁ (Ds ++ Es)) ≡ placedAll s t′ Es
     go (full t₁) ih q = cc
     go (placed t₁ k) ih q = ih t₁ q
@@ -85,7 +91,8 @@ put-more s t v l h = go (eqb l h) (find t (nodeOf v l h)) (ltb (length t) s)
         appended true = rw length-append (omega arith)
         appended false = omega arith
 
-then-more : (m : ℕ) (p : Placing) (next : List Node → ℕ → Placing) → m ≤ length (nodesAfter p) → ((t : List Node) (k : ℕ) → length t ≤ length (nodesAfter (next t k)))
+then-more : (m : ℕ) (p : Placing) (next : List Node → ℕ → Placing) → m ≤ length (nodesAfter p) →
+    ((t : List Node) (k : ℕ) → length t ≤ length (nodesAfter (next t k)))
     → m ≤ length (nodesAfter (andThen p next))
 unfolding andThen nodesAfter
 then-more m (full t) next h more = h
@@ -96,7 +103,8 @@ unfolding place nodesAfter
 place-more s t (leaf false) = omega arith
 place-more s t (leaf true) = omega arith
 place-more s t (node v l h) =
-    then-more (length t) (place s t l) _ (place-more s t l) (λ t₁ a. then-more (length t₁) (place s t₁ h) _ (place-more s t₁ h) (λ t₂ b. put-more s t₂ v a b))
+    then-more (length t) (place s t l) _ (place-more s t l)
+    (λ t₁ a. then-more (length t₁) (place s t₁ h) _ (place-more s t₁ h) (λ t₂ b. put-more s t₂ v a b))
 
 -- LAW: the count after placing is the greatest that there was.
 pub count-greatest : (s : ℕ) (t : List Node) (Ds : List Diagram) → length t ≤ reached (placedAll s t Ds) .peak

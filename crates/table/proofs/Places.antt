@@ -1,4 +1,5 @@
--- What each test of a place says of the rows: zeros, a node's parts, the count. The idea: a failed test is a false factor of the definition.
+-- What each test of a place says of the rows: zeros, a node's parts, the count. The idea: a failed test is a false factor of the
+-- definition.
 -- Assumes nothing.
 use Prim.Native.Nat.{ℕ, suc, _+_, _-_, _≤_, _<_}
 use mathlib.Core.Path.{_≡_, ap, sym, _∙_}
@@ -19,12 +20,14 @@ use Rattle.table.proofs.Chain.{rows-var, rows-at}
 
 pub blank-step : (vs ls hs : List ℕ) (i to : ℕ) → length ls ≡ length vs → length hs ≡ length vs → i < to → to ≤ length vs
     → allBlank (take (to - i) (drop i (rows vs ls hs)))
-    ≡ ((eqb (getD vs i 0) 0 && (eqb (getD ls i 0) 0 && eqb (getD hs i 0) 0)) && allBlank (take (to - (i + 1)) (drop (i + 1) (rows vs ls hs))))
+    ≡ ((eqb (getD vs i 0) 0 && (eqb (getD ls i 0) 0 && eqb (getD hs i 0) 0))
+    && allBlank (take (to - (i + 1)) (drop (i + 1) (rows vs ls hs))))
 unfolding allBlank
 blank-step vs ls hs i to p q lt within =
     let n : to - i ≡ suc (to - (i + 1)) = omega arith in
     ap (λ (m : ℕ). allBlank (take m (drop i (rows vs ls hs)))) n
-    ∙ ap (λ (u : List Node). allBlank (take (suc (to - (i + 1))) u)) (drop-cons (rows vs ls hs) i blank (omega (arith, length-rows vs ls hs p q)))
+    ∙ ap (λ (u : List Node). allBlank (take (suc (to - (i + 1))) u))
+    (drop-cons (rows vs ls hs) i blank (omega (arith, length-rows vs ls hs p q)))
     ∙ rw (add-one, rows-at vs ls hs p q i)
 
 pub blank-end : (t : List Node) (i to : ℕ) → to ≤ i → allBlank (take (to - i) (drop i t)) ≡ true
@@ -108,4 +111,5 @@ module _ (vs ls hs : List ℕ) (p : length ls ≡ length vs) (q : length hs ≡ 
     rest-whole = take-all (length vs - count) (drop count all) (omega (arith, length-drop count all, length-all))
 
     pub bad-rest : allBlank (take (length vs - count) (drop count all)) ≡ false → goodPlaces all count ≡ false
-    bad-rest e = order-parts ∙ ap (λ (b : Bool). nodesInOrder (take count all) && b) (sym (ap allBlank rest-whole) ∙ e) ∙ and-false (nodesInOrder (take count all))
+    bad-rest e = order-parts ∙ ap (λ (b : Bool). nodesInOrder (take count all) && b) (sym (ap allBlank rest-whole) ∙ e)
+        ∙ and-false (nodesInOrder (take count all))

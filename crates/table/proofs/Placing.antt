@@ -1,5 +1,6 @@
 -- Placing a reduced diagram: good order is kept, the nodes are extended, the number given has that diagram, and `full` is given only with
--- every place taken. A diagram that is there is found again. The idea: a predicate on the outcome, by induction on the diagram. Assumes nothing.
+-- every place taken. A diagram that is there is found again. The idea: a predicate on the outcome, by induction on the diagram. Assumes
+-- nothing.
 use mathlib.Core.Path.{_≡_, refl, sym, ap, _∙_}
 use mathlib.Core.Logic.{_≢_}
 use mathlib.Core.Bool.{Bool, true, false, cond}
@@ -14,10 +15,13 @@ use lib.Dec.{ltb}
 use borrow.Author.Tests.{ltb-true, ltb-false, eq-eqb, ne-eqb}
 use Rattle.meaning.specs.Diagram.{Diagram, leaf, node, Reduced, branch}
 use Rattle.meaning.proofs.Canonical.{reduced-from, branch-same, branch-differ}
-use Rattle.table.specs.Nodes.{Node, nodeOf, blank, at, alike, diagramAt, Placing, full, placed, findFrom, find, orAppend, put, andThen, place}
+use Rattle.table.specs.Nodes.{Node, nodeOf, blank, at, alike, diagramAt, Placing, full, placed, findFrom, find, orAppend, put}
+use Rattle.table.specs.Nodes.{andThen, place}
 use Rattle.table.proofs.Order.{alike-true, alike-false, Fits, Ordered}
-use Rattle.table.proofs.Numbers.{strong, Kind, is-zero, is-one, from-two, kind, diagramAt-zero, diagramAt-one, diagramAt-node, diagramAt-injective, root-variable}
-use Rattle.table.proofs.Growth.{Extends, extends-same, extends-trans, extends-length, diagramAt-grown, at-new, length-new, ordered-more}
+use Rattle.table.proofs.Numbers.{strong, Kind, is-zero, is-one, from-two, kind, diagramAt-zero, diagramAt-one, diagramAt-node}
+use Rattle.table.proofs.Numbers.{diagramAt-injective, root-variable}
+use Rattle.table.proofs.Growth.{Extends, extends-same, extends-trans, extends-length, diagramAt-grown, at-new, length-new}
+use Rattle.table.proofs.Growth.{ordered-more}
 
 -- ---- finding
 
@@ -86,7 +90,12 @@ kept-same : (s : ℕ) (t : List Node) → Ordered t → Kept s t t
 kept-same s t O = record { ordered = O; extends = extends-same t; room = λ h. h }
 
 kept-trans : (s : ℕ) (t t′ t″ : List Node) → Kept s t t′ → Kept s t′ t″ → Kept s t t″
-kept-trans s t t′ t″ K L = record { ordered = L .ordered; extends = extends-trans t t′ t″ (K .extends) (L .extends); room = λ h. L .room (K .room h) }
+kept-trans s t t′ t″ K L = record {
+  ordered = L .ordered;
+  extends = extends-trans t t′ t″ (K .extends) (L .extends);
+  room =
+      λ h. L .room (K .room h);
+}
 
 -- What comes after nodes that were kept.
 after-kept : (s : ℕ) (t t′ : List Node) (D : Diagram) (p : Placing) → Kept s t t′ → After s t′ D p → After s t D p
@@ -118,7 +127,12 @@ module _ (s : ℕ) (t : List Node) (O : Ordered t) (v a b : ℕ) (pa : a < lengt
       record {
         kept = record { ordered = O′; extends = E; room = λ _. omega arith };
         inside = omega arith;
-        is = rw (diagramAt-node (t ++ nodeOf v a b ∷ []) O′ (length t) (O .two) (omega arith), at-new t (nodeOf v a b), diagramAt-grown t _ O E a pa, diagramAt-grown t _ O E b pb);
+        is = rw (
+          diagramAt-node (t ++ nodeOf v a b ∷ []) O′ (length t) (O .two) (omega arith),
+          at-new t (nodeOf v a b),
+          diagramAt-grown t _ O E a pa,
+          diagramAt-grown t _ O E b pb,
+        );
       }
 
   put-after : After s t D (put s t v a b)
@@ -136,7 +150,8 @@ module _ (s : ℕ) (t : List Node) (O : Ordered t) (v a b : ℕ) (pa : a < lengt
 
 -- after the low side, the high side, then the node itself
 module _ (s v : ℕ) (l h : Diagram) (pv : 1 ≤ v) (o : Reduced v 65 (node v l h)) where
-  node-after : (t t₁ : List Node) (a : ℕ) → Made s t l t₁ a → (t₂ : List Node) (b : ℕ) → Made s t₁ h t₂ b → After s t (node v l h) (put s t₂ v a b)
+  node-after : (t t₁ : List Node) (a : ℕ) → Made s t l t₁ a → (t₂ : List Node) (b : ℕ) → Made s t₁ h t₂ b →
+      After s t (node v l h) (put s t₂ v a b)
   node-after t t₁ a A t₂ b B =
       let ea : diagramAt t₂ a ≡ l = diagramAt-grown t₁ t₂ (A .kept .ordered) (B .kept .extends) a (A .inside) ∙ A .is in
       let eb : diagramAt t₂ b ≡ h = B .is in
@@ -144,7 +159,8 @@ module _ (s v : ℕ) (l h : Diagram) (pv : 1 ≤ v) (o : Reduced v 65 (node v l 
       after-kept s t t₂ (node v l h) (put s t₂ v a b) (kept-trans s t t₁ t₂ (A .kept) (B .kept))
       (rw (ea, eb) at (put-after s t₂ (B .kept .ordered) v a b (omega (arith, A .inside)) (B .inside) pv (rw (ea, eb) o)))
 
-  high-after : (t t₁ : List Node) (a : ℕ) → Made s t l t₁ a → (q : Placing) → After s t₁ h q → After s t (node v l h) (andThen q (λ t₂ b. put s t₂ v a b))
+  high-after : (t t₁ : List Node) (a : ℕ) → Made s t l t₁ a → (q : Placing) → After s t₁ h q →
+      After s t (node v l h) (andThen q (λ t₂ b. put s t₂ v a b))
   unfolding andThen
   high-after t t₁ a A (full t₂) B = after-kept s t t₁ (node v l h) (full t₂) (A .kept) B
   high-after t t₁ a A (placed t₂ b) B = node-after t t₁ a A t₂ b B
@@ -161,14 +177,17 @@ unfolding place
 place-after s t O (leaf false) o = record { kept = kept-same s t O; inside = omega (arith, O .two); is = diagramAt-zero t }
 place-after s t O (leaf true) o = record { kept = kept-same s t O; inside = omega (arith, O .two); is = diagramAt-one t }
 place-after s t O (node v l h) o =
-    low-after s v l h (o .0) (omega arith, o .1, o .2, o .3, o .4) t (place s t l) (place-after s t O l (reduced-from 1 (suc v) 65 l (omega arith) (o .3)))
+    low-after s v l h (o .0) (omega arith, o .1, o .2, o .3, o .4) t (place s t l)
+    (place-after s t O l (reduced-from 1 (suc v) 65 l (omega arith) (o .3)))
     (λ t₁ O₁. place-after s t₁ O₁ h (reduced-from 1 (suc v) 65 h (omega arith) (o .4)))
 
 -- ---- a diagram that is there
 
-put-there : (s : ℕ) (t : List Node) → Ordered t → (k : ℕ) → 2 ≤ k → k < length t → put s t (at t k .var) (at t k .low) (at t k .high) ≡ placed t k
+put-there : (s : ℕ) (t : List Node) → Ordered t → (k : ℕ) → 2 ≤ k → k < length t → put s t (at t k .var) (at t k .low) (at t k .high)
+    ≡ placed t k
 unfolding orAppend
-put-there s t O k a p = put-differ s t (at t k .var) (at t k .low) (at t k .high) (O .fits k a p .differ) ∙ go (find t (at t k)) (found t (at t k))
+put-there s t O k a p = put-differ s t (at t k .var) (at t k .low) (at t k .high) (O .fits k a p .differ)
+    ∙ go (find t (at t k)) (found t (at t k))
   where
     go : (r : Option ℕ) → Found t (at t k) r → orAppend s t (at t k) r ≡ placed t k
     go none new = absurd (new k a p refl)
@@ -181,7 +200,8 @@ there-step s t O _ ih is-zero p = rw diagramAt-zero
 there-step s t O _ ih is-one p = rw diagramAt-one
 there-step s t O k ih (from-two a) p =
     let F : Fits t k (at t k) = O .fits k a p in
-    rw (diagramAt-node t O k a p, ih (at t k .low) (F .low-less) (omega arith), ih (at t k .high) (F .high-less) (omega arith)) (put-there s t O k a p)
+    rw (diagramAt-node t O k a p, ih (at t k .low) (F .low-less) (omega arith), ih (at t k .high) (F .high-less) (omega arith))
+    (put-there s t O k a p)
 
 -- Placing the diagram of a number that is there places nothing and gives that number.
 pub place-there : (s : ℕ) (t : List Node) → Ordered t → (k : ℕ) → k < length t → place s t (diagramAt t k) ≡ placed t k
@@ -194,6 +214,11 @@ unfolding place
 put-place s t O v l h p q = go (ℕ-discrete l h)
   where
     go : Dec (l ≡ h) → put s t v l h ≡ place s t (branch v (diagramAt t l) (diagramAt t h))
-    go (yes e) = put-same s t v l h e ∙ sym (rw (branch-same v (diagramAt t l) (diagramAt t h) (ap (diagramAt t) e)) (place-there s t O l p))
+    go (yes e) = put-same s t v l h e ∙ sym (rw (branch-same v (diagramAt t l) (diagramAt t h) (ap (diagramAt t) e))
+        (place-there s t O l p))
     go (no n) =
-        rw (branch-differ v (diagramAt t l) (diagramAt t h) (λ e. n (diagramAt-injective t O l h p q e)), place-there s t O l p, place-there s t O h q)
+        rw (
+          branch-differ v (diagramAt t l) (diagramAt t h) (λ e. n (diagramAt-injective t O l h p q e)),
+          place-there s t O l p,
+          place-there s t O h q,
+        )

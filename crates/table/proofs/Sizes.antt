@@ -21,9 +21,11 @@ module _ (vs ls hs ds ks : List ℕ) where
   pub sized : sizeFits vs ls hs ds ks ≡ true → Sized
   unfolding sizeFits
   sized e =
-      let (columns, index) = and-both ((eqb (length ls) (length vs) && eqb (length hs) (length vs)) && (leb 2 (length vs) && leb (length vs) 65536))
+      let (columns, index) = and-both ((eqb (length ls) (length vs) && eqb (length hs) (length vs))
+      && (leb 2 (length vs) && leb (length vs) 65536))
       (eqb (length ds) (2 * length vs) && eqb (length ks) (length vs)) e in
-      let (equal, within) = and-both (eqb (length ls) (length vs) && eqb (length hs) (length vs)) (leb 2 (length vs) && leb (length vs) 65536) columns in
+      let (equal, within) = and-both (eqb (length ls) (length vs) && eqb (length hs) (length vs))
+      (leb 2 (length vs) && leb (length vs) 65536) columns in
       let (l, h) = and-both (eqb (length ls) (length vs)) (eqb (length hs) (length vs)) equal in
       let (a, b) = and-both (leb 2 (length vs)) (leb (length vs) 65536) within in
       let (d, k) = and-both (eqb (length ds) (2 * length vs)) (eqb (length ks) (length vs)) index in

@@ -5,7 +5,8 @@ use mathlib.Core.Path.{_≡_, refl, sym, ap, ap₂, _∙_, subst}
 use mathlib.Core.List.{List, [], _∷_, _++_, map}
 use Prim.Native.Nat.{ℕ, zero, suc, _+_, _-_, _*_, _≤_}
 use native.Mathlib.Omega.{arith}
-use lib.ListN.{length, getD, take, drop, replicate, length-append, length-replicate, length-set, length-map, take-append-drop, length-drop, List·getD-map}
+use lib.ListN.{length, getD, take, drop, replicate, length-append, length-replicate, length-set, length-map, take-append-drop, length-drop}
+use lib.ListN.{List·getD-map}
 use lib.Seq.{take-append-seam, length-take-le, ext-getD}
 use Rattle.table.specs.Nodes.{Node, blank, at, nodesInOrder}
 use Rattle.table.specs.Columns.{rows, padded, NodeColumns, columnsOf}
@@ -40,7 +41,8 @@ unfolding rows columnsOf
 rows-columns [] = refl
 rows-columns (x ∷ t) = ap (λ (u : List Node). x ∷ u) (rows-columns t)
 
-pub columns-rows : (vs ls hs : List ℕ) → length ls ≡ length vs → length hs ≡ length vs → columnsOf (rows vs ls hs) ≡ record { vars = vs; lows = ls; highs = hs }
+pub columns-rows : (vs ls hs : List ℕ) → length ls ≡ length vs → length hs ≡ length vs → columnsOf (rows vs ls hs)
+    ≡ record { vars = vs; lows = ls; highs = hs }
 unfolding rows columnsOf
 columns-rows [] [] [] p q = refl
 columns-rows [] (l ∷ ls) hs p q = absurd (omega arith)
@@ -48,18 +50,21 @@ columns-rows [] [] (h ∷ hs) p q = absurd (omega arith)
 columns-rows (v ∷ vs) [] hs p q = absurd (omega arith)
 columns-rows (v ∷ vs) (l ∷ ls) [] p q = absurd (omega arith)
 columns-rows (v ∷ vs) (l ∷ ls) (h ∷ hs) p q =
-    ap (λ (c : NodeColumns). record { vars = v ∷ c .vars; lows = l ∷ c .lows; highs = h ∷ c .highs }) (columns-rows vs ls hs (omega arith) (omega arith))
+    ap (λ (c : NodeColumns). record { vars = v ∷ c .vars; lows = l ∷ c .lows; highs = h ∷ c .highs })
+    (columns-rows vs ls hs (omega arith) (omega arith))
 
 pub length-rows : (vs ls hs : List ℕ) → length ls ≡ length vs → length hs ≡ length vs → length (rows vs ls hs) ≡ length vs
 unfolding columnsOf
-length-rows vs ls hs p q = sym (length-map (rows vs ls hs) (λ x. x .var)) ∙ ap (λ (c : NodeColumns). length (c .vars)) (columns-rows vs ls hs p q)
+length-rows vs ls hs p q = sym (length-map (rows vs ls hs) (λ x. x .var))
+    ∙ ap (λ (c : NodeColumns). length (c .vars)) (columns-rows vs ls hs p q)
 
 -- a table lent in good order is its nodes and zeros
 rows-padded : (places : List Node) (count : ℕ) → GoodPlaces places count → places ≡ padded (length places) (take count places)
 unfolding padded
 rows-padded places count G =
     let len : length (take count places) ≡ count = length-take-le count places (G .within) in
-    sym (take-append-drop count places) ∙ ap (λ (u : List Node). take count places ++ u) (ext-getD blank (drop count places) (replicate (length places - length (take count places)) blank)
+    sym (take-append-drop count places) ∙ ap (λ (u : List Node). take count places ++ u)
+    (ext-getD blank (drop count places) (replicate (length places - length (take count places)) blank)
     (length-drop count places ∙ rw len (sym (length-replicate (length places - count) blank)))
     (λ k _. all-blank (drop count places) (G .rest) k ∙ sym (at-blanks (length places - length (take count places)) k)))
 
@@ -133,7 +138,8 @@ module _ (T : Table) (G : Good T) where
   -- a column reads as that part of the nodes, past the count too
   column-at : (part : Node → ℕ) → part blank ≡ 0 → (k : ℕ) → getD (map part (padded (size T) (nodesOf T))) k 0 ≡ part (at (nodesOf T) k)
   column-at part zero-of-blank k =
-      ap (getD (map part (padded (size T) (nodesOf T))) k) (sym zero-of-blank) ∙ List·getD-map part (padded (size T) (nodesOf T)) k blank ∙ ap part (at-padded (size T) (nodesOf T) k)
+      ap (getD (map part (padded (size T) (nodesOf T))) k) (sym zero-of-blank) ∙ List·getD-map part (padded (size T) (nodesOf T)) k blank
+      ∙ ap part (at-padded (size T) (nodesOf T) k)
 
   pub var-at : (k : ℕ) → getD (T .vars) k 0 ≡ at (nodesOf T) k .var
   unfolding indexed columnsOf
@@ -156,7 +162,8 @@ module _ (T : Table) (p : length (T .lows) ≡ size T) (q : length (T .highs) �
 
   lent-padded : padded (size T) (nodesOf T) ≡ places
   unfolding nodesOf
-  lent-padded = sym (rows-padded places (T .count) O ∙ ap (λ (s : ℕ). padded s (take (T .count) places)) (length-rows (T .vars) (T .lows) (T .highs) p q))
+  lent-padded = sym (rows-padded places (T .count) O ∙ ap (λ (s : ℕ). padded s (take (T .count) places))
+      (length-rows (T .vars) (T .lows) (T .highs) p q))
 
   lent-count : length (nodesOf T) ≡ T .count
   unfolding nodesOf
@@ -174,8 +181,10 @@ module _ (T : Table) (p : length (T .lows) ≡ size T) (q : length (T .highs) �
     unfolding indexed
     lent-written =
         ap₂ (λ (a b : List ℕ). tableOf (T .vars) (T .lows) (T .highs) a b (T .count)) ds ks
-        ∙ ap (tableOf (T .vars) (T .lows) (T .highs) (indexOf (size T) (nodesOf T) .heads) (indexOf (size T) (nodesOf T) .links)) (sym lent-count)
-        ∙ ap (λ (c : NodeColumns). tableOf (c .vars) (c .lows) (c .highs) (indexOf (size T) (nodesOf T) .heads) (indexOf (size T) (nodesOf T) .links) (length (nodesOf T)))
+        ∙ ap (tableOf (T .vars) (T .lows) (T .highs) (indexOf (size T) (nodesOf T) .heads) (indexOf (size T) (nodesOf T) .links))
+        (sym lent-count)
+        ∙ ap (λ (c : NodeColumns). tableOf (c .vars) (c .lows) (c .highs) (indexOf (size T) (nodesOf T) .heads)
+        (indexOf (size T) (nodesOf T) .links) (length (nodesOf T)))
         (sym (ap columnsOf lent-padded ∙ columns-rows (T .vars) (T .lows) (T .highs) p q))
 
     -- Columns in good order with the index of their nodes are a good table.

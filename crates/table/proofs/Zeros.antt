@@ -1,4 +1,5 @@
--- Lists of zeros: a part of one is all zeros and as long as was asked, and a list cleared place by place is one in the end. Assumes nothing.
+-- Lists of zeros: a part of one is all zeros and as long as was asked, and a list cleared place by place is one in the end. Assumes
+-- nothing.
 use mathlib.Core.Path.{_≡_, refl, sym, ap, _∙_}
 use mathlib.Core.List.{List, _∷_}
 use Prim.Native.Nat.{ℕ, zero, suc, _+_, _≤_, _<_}

@@ -2,6 +2,5 @@ pub mod Nodes
 pub mod Index
 pub mod Columns
 pub mod Indexed
-pub mod Tested
 pub mod Making
 pub mod Lists

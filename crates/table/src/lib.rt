@@ -56,7 +56,7 @@ fn wrapping_product(a: u32, b: u32) -> u32
 const MOST_HEADS: usize = 131072;
 
 // The chain of a node among `heads`. Their greatest number is a case of its own: a remainder by a constant is no division.
-fn bucket_of(heads: usize, v: u8, l: u16, h: u16) -> usize
+pub fn bucket_of(heads: usize, v: u8, l: u16, h: u16) -> usize
     requires { ⌜ 0 < heads ⌝ }
     ensures { λ r. ⌜ r ≡ bucket heads v l h ⌝ }
     ensures { λ r. ⌜ r < heads ⌝ }

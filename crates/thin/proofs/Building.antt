@@ -1,6 +1,6 @@
--- The way up: putting the steps written over a node, one by one, leaves what placing the whole diagram does. The idea: a diagram that has been
--- placed is there, so placing what stands over it goes on from the table that it left; where it found no room, neither does what stands over
--- it. Assumes nothing.
+-- The way up: putting the steps written over a node, one by one, leaves what placing the whole diagram does. The idea: a diagram that has
+-- been placed is there, so placing what stands over it goes on from the table that it left; where it found no room, neither does what
+-- stands over it. Assumes nothing.
 use mathlib.Core.Path.{_≡_, refl, sym, ap, ap₂, _∙_, subst}
 use mathlib.Core.Bool.{Bool, true, false, cond}
 use mathlib.Core.List.{List}
@@ -67,10 +67,12 @@ module _ (t : Table) (G : Good t) (x k : ℕ) (p : k < t .count) (D : Diagram) (
       ∙ ap₂ (λ (A B : Diagram). placeIn (o .table) (overBy b x A B)) (W .kept k p) (W .is f)
 
 -- a diagram placed again
-again : (t : Table) (G : Good t) (D : Diagram) (rD : Reduced 1 65 D) (o : Outcome) → o ≡ placeIn t D → o .full ≡ false → placeIn t D ≡ placeIn (o .table) D
+again : (t : Table) (G : Good t) (D : Diagram) (rD : Reduced 1 65 D) (o : Outcome) → o ≡ placeIn t D → o .full ≡ false → placeIn t D
+    ≡ placeIn (o .table) D
 again t G D rD o e f =
     let W : Grown t D o = grown t G D rD o e in
-    sym e ∙ ap (λ (b : Bool). record { table = o .table; full = b; node = o .node }) f ∙ sym (there (o .table) (W .good) (o .node) (W .inside)) ∙ ap (placeIn (o .table)) (W .is f)
+    sym e ∙ ap (λ (b : Bool). record { table = o .table; full = b; node = o .node }) f
+    ∙ sym (there (o .table) (W .good) (o .node) (W .inside)) ∙ ap (placeIn (o .table)) (W .is f)
 
 -- ---- all steps
 
@@ -93,15 +95,21 @@ module _ (xs told sides : List ℕ) where
 
     fitting-longer : (d : ℕ) (D : Diagram) → Fitting t xs told sides d D → Fitting t′ xs told sides d D
     fitting-longer zero D F = F
-    fitting-longer (suc d) D F =
-        (F .0, omega (arith, F .1, L .more), subst (Fitting t′ xs told sides d) (sym (next-longer d (F .1) D)) (fitting-longer d (next t d D) (F .2)))
+    fitting-longer (suc d) D F = (
+      F .0,
+      omega (arith, F .1, L .more),
+      subst (Fitting t′ xs told sides d) (sym (next-longer d (F .1) D))
+          (fitting-longer d (next t d D) (F .2)),
+    )
 
   -- no room for D is none for what stands over it
-  through-full : (d : ℕ) (t : Table) → Good t → (D : Diagram) → Fitting t xs told sides d D → (o : Outcome) → o ≡ placeIn t D → o .full ≡ true
+  through-full : (d : ℕ) (t : Table) → Good t → (D : Diagram) → Fitting t xs told sides d D → (o : Outcome) → o ≡ placeIn t D → o .full
+      ≡ true
       → o ≡ placeIn t (wrapped t xs told sides d D)
   through-full zero t G D F o e f = e
   through-full (suc d) t G D F o e f =
-      through-full d t G (next t d D) (F .2) o (over-full t G (getD xs d 0) (getD told d 0) (F .1) D (F .0) o e (eqb (getD sides d 0) 1) f) f
+      through-full d t G (next t d D) (F .2) o (over-full t G (getD xs d 0) (getD told d 0) (F .1) D (F .0) o e (eqb (getD sides d 0) 1) f)
+      f
 
   -- What stands over D is placed from the table on that D left.
   abbrev PlacedOn : ℕ → Type 0
@@ -110,7 +118,8 @@ module _ (xs told sides : List ℕ) where
       → placeIn t (wrapped t xs told sides d D) ≡ placeIn (o .table) (wrapped t xs told sides d D)
 
   -- with one step more: the next diagram is placed alike in both tables, and what stands over it goes on from there
-  module _ (d : ℕ) (placed-on : PlacedOn d) (t : Table) (G : Good t) (D : Diagram) (F : Fitting t xs told sides (suc d) D) (o : Outcome) (e : o ≡ placeIn t D) (f : o .full ≡ false) where
+  module _ (d : ℕ) (placed-on : PlacedOn d) (t : Table) (G : Good t) (D : Diagram) (F : Fitting t xs told sides (suc d) D) (o : Outcome)
+      (e : o ≡ placeIn t D) (f : o .full ≡ false) where
     abbrev D′ : Diagram
     D′ = next t d D
 
@@ -134,7 +143,8 @@ module _ (xs told sides : List ℕ) where
 
     one-more : (b : Bool) → placeIn t D′ .full ≡ b → placeIn t (wrapped t xs told sides d D′) ≡ placeIn t′ (wrapped t xs told sides d D′)
     one-more true f′ =
-        sym (through-full d t G D′ (F .2) (placeIn t D′) refl f′) ∙ through-full d t′ (grown-once .good) D′ fitting-once (placeIn t D′) next-same f′ ∙ whole-same
+        sym (through-full d t G D′ (F .2) (placeIn t D′) refl f′) ∙ through-full d t′ (grown-once .good) D′ fitting-once (placeIn t D′)
+        next-same f′ ∙ whole-same
     one-more false f′ =
         placed-on t G D′ (F .2) (placeIn t D′) refl f′
         ∙ ap (placeIn (placeIn t D′ .table)) (sym (wrapped-longer t t′ longer-once d D′ (F .2)))
@@ -165,7 +175,8 @@ module _ (xs told sides : List ℕ) where
     rising-last r R = sym (there t (R .good) r (R .inside)) ∙ ap (placeIn t) (R .is) ∙ R .placed
 
     -- a step that is put
-    module _ (d r : ℕ) (R : Rising before W t (suc d) r) (o : Outcome) (e : o ≡ putBy (eqb (getD sides d 0) 1) t (getD xs d 0) (getD told d 0) r) where
+    module _ (d r : ℕ) (R : Rising before W t (suc d) r) (o : Outcome)
+        (e : o ≡ putBy (eqb (getD sides d 0) 1) t (getD xs d 0) (getD told d 0) r) where
       abbrev now : Diagram
       now = next t d (diagramAt (nodesOf t) r)
 
@@ -185,9 +196,12 @@ module _ (xs told sides : List ℕ) where
       rising-next f = record {
         good = put-grown .good;
         inside = put-grown .inside;
-        fitting = subst (Fitting (o .table) xs told sides d) (sym (put-grown .is f)) (fitting-longer t (o .table) put-longer d now (R .fitting .2));
+        fitting = subst (Fitting (o .table) xs told sides d) (sym (put-grown .is f))
+            (fitting-longer t (o .table) put-longer d now (R .fitting .2));
         is =
-            ap (wrapped (o .table) xs told sides d) (put-grown .is f) ∙ wrapped-longer t (o .table) put-longer d now (R .fitting .2) ∙ R .is;
+            ap (wrapped (o .table) xs told sides d) (put-grown .is f) ∙ wrapped-longer t (o .table) put-longer d now (R .fitting .2)
+            ∙ R .is;
         placed =
-            sym (subst (λ (D : Diagram). placeIn t D ≡ placeIn (o .table) D) (R .is) (through-made d t (R .good) now (R .fitting .2) o put-is f)) ∙ R .placed;
+            sym (subst (λ (D : Diagram). placeIn t D ≡ placeIn (o .table) D) (R .is)
+            (through-made d t (R .good) now (R .fitting .2) o put-is f)) ∙ R .placed;
       }

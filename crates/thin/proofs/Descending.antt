@@ -36,7 +36,11 @@ module _ (t : Table) (xs told sides : List ℕ) (p x k side : ℕ) where
 
   layer-kept : (d : ℕ) → d < p → (D : Diagram) → layer t xs′ told′ sides′ d D ≡ layer t xs told sides d D
   layer-kept d less D =
-      rw (getD-set-other xs p d x 0 (λ e. absurd (omega arith)), getD-set-other sides p d side 0 (λ e. absurd (omega arith)), told-kept d less)
+      rw (
+        getD-set-other xs p d x 0 (λ e. absurd (omega arith)),
+        getD-set-other sides p d side 0 (λ e. absurd (omega arith)),
+        told-kept d less,
+      )
 
   wrapped-kept : (d : ℕ) → d ≤ p → (D : Diagram) → wrapped t xs′ told′ sides′ d D ≡ wrapped t xs told sides d D
   wrapped-kept zero less D = refl
@@ -48,14 +52,16 @@ module _ (t : Table) (xs told sides : List ℕ) (p x k side : ℕ) where
   fitting-kept (suc d) less D F = (
     F .0,
     omega (arith, told-kept d (omega arith), F .1),
-    subst (Fitting t xs′ told′ sides′ d) (sym (layer-kept d (omega arith) D)) (fitting-kept d (omega arith) (layer t xs told sides d D) (F .2)),
+    subst (Fitting t xs′ told′ sides′ d) (sym (layer-kept d (omega arith) D))
+        (fitting-kept d (omega arith) (layer t xs told sides d D) (F .2)),
   )
 
   module _ (xs-room : p < length xs) (told-room : p < length told) (sides-room : p < length sides) where
     layer-written : (D : Diagram) → layer t xs′ told′ sides′ p D ≡ over x side (diagramAt (nodesOf t) k) D
     layer-written D = rw (getD-set-same xs p x 0 xs-room, getD-set-same sides p side 0 sides-room, getD-set-same told p k 0 told-room)
 
-    wrapped-more : (D : Diagram) → wrapped t xs′ told′ sides′ (suc p) D ≡ wrapped t xs told sides p (over x side (diagramAt (nodesOf t) k) D)
+    wrapped-more : (D : Diagram) → wrapped t xs′ told′ sides′ (suc p) D
+        ≡ wrapped t xs told sides p (over x side (diagramAt (nodesOf t) k) D)
     wrapped-more D =
         ap (wrapped t xs′ told′ sides′ p) (layer-written D) ∙ wrapped-kept p (omega arith) (over x side (diagramAt (nodesOf t) k) D)
 
@@ -64,7 +70,8 @@ module _ (t : Table) (xs told sides : List ℕ) (p x k side : ℕ) where
     fitting-more D reduced inside F = (
       reduced,
       omega (arith, getD-set-same told p k 0 told-room, inside),
-      subst (Fitting t xs′ told′ sides′ p) (sym (layer-written D)) (fitting-kept p (omega arith) (over x side (diagramAt (nodesOf t) k) D) F),
+      subst (Fitting t xs′ told′ sides′ p) (sym (layer-written D))
+          (fitting-kept p (omega arith) (over x side (diagramAt (nodesOf t) k) D) F),
     )
 
 -- ---- the way
@@ -72,7 +79,8 @@ module _ (t : Table) (xs told sides : List ℕ) (p x k side : ℕ) where
 module _ (op : Operation) (shared : ℕ) (t : Table) (f g : ℕ) (H : Given op shared t f g) where
   top-least : 1 ≤ top (t .vars) f g
   top-least =
-      top-both (t .vars) f g 1 (level-least t (H .ready .good) f (H .ready .f-inside)) (level-least t (H .ready .good) g (H .ready .g-inside))
+      top-both (t .vars) f g 1 (level-least t (H .ready .good) f (H .ready .f-inside))
+      (level-least t (H .ready .good) g (H .ready .g-inside))
 
   pub top-within : top (t .vars) f g ≤ 65
   top-within = go (decLt f 2)
@@ -88,13 +96,15 @@ pub record GoingDown (op : Operation) (shared : ℕ) (t : Table) (first second :
   pub fitting : Fitting t xs told sides depth (resultAt op t f g)
   pub is : wrapped t xs told sides depth (resultAt op t f g) ≡ resultAt op t first second
 
-pub going-first : (op : Operation) (shared : ℕ) (t : Table) (xs told sides : List ℕ) (f g : ℕ) → Given op shared t f g → GoingDown op shared t f g xs told sides f g 0
+pub going-first : (op : Operation) (shared : ℕ) (t : Table) (xs told sides : List ℕ) (f g : ℕ) → Given op shared t f g →
+    GoingDown op shared t f g xs told sides f g 0
 going-first op shared t xs told sides f g H =
     record { given = H; before = top-least op shared t f g H; fitting = result-reduced op _ _; is = refl }
 
 module _ (op : Operation) (shared : ℕ) (t : Table) (first second : ℕ) (xs told sides : List ℕ) (f g depth : ℕ)
     (W : GoingDown op shared t first second xs told sides f g depth) where
-  pub going-told : (k : NodeNo) → StepSays op shared t (top (t .vars) f g) (resultAt op t f g) (Told k) → CameTo op t first second xs told sides (k .0) depth
+  pub going-told : (k : NodeNo) → StepSays op shared t (top (t .vars) f g) (resultAt op t f g) (Told k) →
+      CameTo op t first second xs told sides (k .0) depth
   going-told k h = record {
     most = omega (arith, W .before, top-within op shared t f g (W .given));
     inside = h .0;
@@ -111,7 +121,8 @@ module _ (op : Operation) (shared : ℕ) (t : Table) (first second : ℕ) (xs to
     is = ap (wrapped t xs told sides depth) (h .2) ∙ W .is;
   }
 
-  module _ (x : ℕ) (k : NodeNo) (side : ℕ) (a b : NodeNo) (h : StepSays op shared t (top (t .vars) f g) (resultAt op t f g) (Over x k side a b)) where
+  module _ (x : ℕ) (k : NodeNo) (side : ℕ) (a b : NodeNo)
+      (h : StepSays op shared t (top (t .vars) f g) (resultAt op t f g) (Over x k side a b)) where
     pub step-room : depth < 64
     step-room = omega (arith, W .before, h .1, h .2)
 
@@ -125,7 +136,8 @@ module _ (op : Operation) (shared : ℕ) (t : Table) (first second : ℕ) (xs to
           given = h .0;
           before = omega (arith, W .before, h .1, h .3);
           fitting =
-              fitting-more t xs told sides depth x (k .0) side xs-room told-room sides-room (resultAt op t (a .0) (b .0)) (result-reduced op _ _) (h .4)
+              fitting-more t xs told sides depth x (k .0) side xs-room told-room sides-room (resultAt op t (a .0) (b .0))
+              (result-reduced op _ _) (h .4)
               (subst (Fitting t xs told sides depth) (sym (h .5)) (W .fitting));
           is =
               wrapped-more t xs told sides depth x (k .0) side xs-room told-room sides-room (resultAt op t (a .0) (b .0))

@@ -64,13 +64,15 @@ module _ (kind : Kind) (by : words.Literals) (t : Table) (f g : ℕ) (H : Given 
       beyond-all p true q =
           let w : found f ≡ At k = is-beyond (t .vars) kind by f g p q ∙ e in
           subst (Right op t f g) (ap number w)
-          (beyond-right t (H .ready .good) f g (H .ready .f-inside) (H .ready .g-inside) (given-two op (by .positive) t f g H p) kind by (H .ready .allowed) (H .share) q)
+          (beyond-right t (H .ready .good) f g (H .ready .f-inside) (H .ready .g-inside) (given-two op (by .positive) t f g H p) kind by
+          (H .ready .allowed) (H .share) q)
       beyond-all p false q =
           let w : Nothing ≡ At k = not-beyond (t .vars) kind by f g p q ∙ e in let z : _≡_ {A = ℕ} 0 1 = cc in absurd (omega arith)
 
       go : (r : Found) → terminalOf op f g ≡ r → Right op t f g (k .0)
       go (At j) p =
-          terminal-right t (H .ready .good) f g (H .ready .f-inside) (H .ready .g-inside) op (H .ready .allowed) (k .0) (p ∙ numbers-tell (t .vars) kind by f g j p ∙ e)
+          terminal-right t (H .ready .good) f g (H .ready .f-inside) (H .ready .g-inside) op (H .ready .allowed) (k .0)
+          (p ∙ numbers-tell (t .vars) kind by f g j p ∙ e)
       go Nothing p = beyond-all p (beyond kind by (getD (t .vars) f 0)) refl
 
   pub settled-two : settledOf (t .vars) kind by f g ≡ Nothing → 2 ≤ f
@@ -103,8 +105,14 @@ module _ (kind : Kind) (by : words.Literals) (t : Table) (s : Sides) (H : SidesG
   pub low-told : (k : NodeNo) → settledOf (t .vars) kind by (s .f0 .0) (s .g0 .0) ≡ At k
       → StepSays op₂ (by .positive) t (s .x) (joinedAt op₂ t s) (Over (s .x) k 1 (s .f1) (s .g1))
   low-told k e =
-      let r = settled-right kind by t (s .f0 .0) (s .g0 .0) (low-given op₂ (by .positive) t s H) k e in
-      (high-given op₂ (by .positive) t s H, omega arith, H .ready .most, H .ready .high-after, r .inside, ap (λ (d : Diagram). branch (s .x) d high) (r .is))
+      let r = settled-right kind by t (s .f0 .0) (s .g0 .0) (low-given op₂ (by .positive) t s H) k e in (
+        high-given op₂ (by .positive) t s H,
+        omega arith,
+        H .ready .most,
+        H .ready .high-after,
+        r .inside,
+        ap (λ (d : Diagram). branch (s .x) d high) (r .is),
+      )
 
   pub high-told : (k : NodeNo) → settledOf (t .vars) kind by (s .f1 .0) (s .g1 .0) ≡ At k
       → StepSays op₂ (by .positive) t (s .x) (joinedAt op₂ t s) (Over (s .x) k 0 (s .f0) (s .g0))
@@ -128,8 +136,11 @@ module _ (kind : Kind) (by : words.Literals) (t : Table) (f g : ℕ) (H : Given 
   module _ (nothing : settledOf (t .vars) kind by f g ≡ Nothing) where
     pub pair-left : (a b : NodeNo) → descentOf op₃ (sides t f g) ≡ descent.One a b → Says (One a b)
     pair-left a b e =
-        let L : OneLeft op₃ noMemo t f g (a .0) (b .0) = step-one op₃ noMemo t f g (H .ready) (settled-two kind by t f g H nothing) a b e in
-        (record { ready = L .ready; share = shared-side op₃ (by .positive) t f g (a .0) (b .0) (L .side-of) (H .share) }, L .after, sym (L .same))
+        let L : OneLeft op₃ noMemo t f g (a .0) (b .0) = step-one op₃ noMemo t f g (H .ready) (settled-two kind by t f g H nothing) a b e in (
+          record { ready = L .ready; share = shared-side op₃ (by .positive) t f g (a .0) (b .0) (L .side-of) (H .share) },
+          L .after,
+          sym (L .same),
+        )
 
     module _ (s : Sides) (e : descentOf op₃ (sides t f g) ≡ descent.Both s) where
       both-left : BothLeft op₃ noMemo t f g s

@@ -1,5 +1,5 @@
--- Rising places found one after another, and what holds of all others. The idea: from behind the last place on every number is passed, or is
--- the next place. Assumes nothing.
+-- Rising places found one after another, and what holds of all others. The idea: from behind the last place on every number is passed, or
+-- is the next place. Assumes nothing.
 use mathlib.Core.Path.{_≡_, refl, sym, ap, _∙_, subst}
 use mathlib.Core.Logic.{_⊎_, inl, inr}
 use mathlib.Core.List.{List, [], _∷_, _++_, map}
@@ -37,12 +37,22 @@ behind-append places more (suc k) p = ap suc (List·getD-append places more 0 k 
 
 module _ (P : ℕ → Type 0) where
   but-none : AllBut 0 [] P
-  but-none = record { inside = λ k p. absurd (omega arith); rising = λ k p. absurd (omega arith); others = λ k j p b q. absurd (omega arith) }
+  but-none = record {
+    inside = λ k p. absurd (omega arith);
+    rising = λ k p. absurd (omega arith);
+    others =
+        λ k j p b q. absurd (omega arith);
+  }
 
   module _ (n : ℕ) (places : List ℕ) (A : AllBut n places P) where
     -- it is passed over
     pub but-passed : P n → AllBut (n + 1) places P
-    but-passed here = record { inside = λ k p. omega (arith, A .inside k p); rising = A .rising; others = λ k j p b q. go k j p b q (decLt k (length places)) (ℕ-discrete j n) }
+    but-passed here = record {
+      inside = λ k p. omega (arith, A .inside k p);
+      rising = A .rising;
+      others =
+          λ k j p b q. go k j p b q (decLt k (length places)) (ℕ-discrete j n);
+    }
       where
         go : (k j : ℕ) → k ≤ length places → behind places k ≤ j → j < getD places k (n + 1) → Dec (k < length places) → Dec (j ≡ n) → P j
         go k j p b q (yes less) e = A .others k j p b (subst (λ (x : ℕ). j < x) (getD-inside places k (n + 1) n less) q)
@@ -84,7 +94,8 @@ module _ (P : ℕ → Type 0) where
             let b = behind-append places (n ∷ []) k (omega arith) in
             omega (arith, e, b, behind-most n places k (omega arith) (A .inside))
 
-        rest : (k j : ℕ) → Dec (k < length places) → Dec (k ≡ length places) → k ≤ length places + 1 → behind (places ++ n ∷ []) k ≤ j → j < getD (places ++ n ∷ []) k (n + 1) → P j
+        rest : (k j : ℕ) → Dec (k < length places) → Dec (k ≡ length places) → k ≤ length places + 1 → behind (places ++ n ∷ []) k ≤ j →
+            j < getD (places ++ n ∷ []) k (n + 1) → P j
         rest k j (yes p) e h b q =
             A .others k j (omega arith) (subst (λ (x : ℕ). x ≤ j) (behind-append places (n ∷ []) k (omega arith)) b)
             (subst (λ (x : ℕ). j < x) (first k (n + 1) p ∙ getD-inside places k (n + 1) n p) q)
@@ -95,8 +106,10 @@ module _ (P : ℕ → Type 0) where
           where
             beyond : (k : ℕ) → k ≡ suc (length places) → behind (places ++ n ∷ []) k ≤ j → j < getD (places ++ n ∷ []) k (n + 1) → P j
             beyond k z b q =
-                let s : suc n ≤ j = subst (λ (x : ℕ). x ≤ j) (ap (λ (m : ℕ). behind (places ++ n ∷ []) m) z ∙ ap suc (last (length places) 0 refl)) b in
-                let t : j < n + 1 = subst (λ (x : ℕ). j < x) (List·getD-eq-default (places ++ n ∷ []) (n + 1) (omega (arith, z, longer))) q in
+                let s : suc n ≤ j = subst (λ (x : ℕ). x ≤ j)
+                (ap (λ (m : ℕ). behind (places ++ n ∷ []) m) z ∙ ap suc (last (length places) 0 refl)) b in
+                let t : j < n + 1 = subst (λ (x : ℕ). j < x) (List·getD-eq-default (places ++ n ∷ []) (n + 1) (omega (arith, z, longer))) q
+                in
                 absurd (omega (arith, s, t))
 
 -- ---- from behind some of the places to the next
@@ -120,19 +133,27 @@ module _ (n : ℕ) (places : List ℕ) (P : ℕ → Type 0) (A : AllBut n places
 
 pub but-so : (n : ℕ) (places : List ℕ) (P Q : ℕ → Type 0) → AllBut n places P → ((j : ℕ) → j < n → P j → Q j) → AllBut n places Q
 but-so n places P Q A f =
-    record { inside = A .inside; rising = A .rising; others = λ k j p b q. f j (omega (arith, q, next-most n places P A k)) (A .others k j p b q) }
+    record {
+      inside = A .inside;
+      rising = A .rising;
+      others = λ k j p b q. f j (omega (arith, q, next-most n places P A k))
+          (A .others k j p b q);
+    }
 
 -- ---- each number is a place, or P holds of it
 
-pub place-or : (n : ℕ) (places : List ℕ) (P : ℕ → Type 0) → AllBut n places P → (i : ℕ) → i < n → ((k : ℕ) × (k < length places) × (getD places k 0 ≡ i)) ⊎ P i
-place-or n places P A i p = from (length places) (omega arith) (subst (λ (x : ℕ). i < x) (sym (List·getD-eq-default places n (omega arith))) p)
+pub place-or : (n : ℕ) (places : List ℕ) (P : ℕ → Type 0) → AllBut n places P → (i : ℕ) → i < n →
+    ((k : ℕ) × (k < length places) × (getD places k 0 ≡ i)) ⊎ P i
+place-or n places P A i p = from (length places) (omega arith)
+    (subst (λ (x : ℕ). i < x) (sym (List·getD-eq-default places n (omega arith))) p)
   where
     -- i is before the next place after the first k
     from : (k : ℕ) → k ≤ length places → i < getD places k n → ((k : ℕ) × (k < length places) × (getD places k 0 ≡ i)) ⊎ P i
     from zero h q = inr (A .others 0 i h (omega arith) q)
     from (suc k) h q = go (decLt (getD places k 0) i) (ℕ-discrete (getD places k 0) i) (from k (omega arith))
       where
-        go : Dec (getD places k 0 < i) → Dec (getD places k 0 ≡ i) → (i < getD places k n → ((k : ℕ) × (k < length places) × (getD places k 0 ≡ i)) ⊎ P i)
+        go : Dec (getD places k 0 < i) → Dec (getD places k 0 ≡ i) →
+            (i < getD places k n → ((k : ℕ) × (k < length places) × (getD places k 0 ≡ i)) ⊎ P i)
             → ((k : ℕ) × (k < length places) × (getD places k 0 ≡ i)) ⊎ P i
         go (yes less) e later = inr (A .others (suc k) i h (omega arith) q)
         go (no l) (yes e) later = inl (k, omega arith, e)

@@ -1,4 +1,5 @@
--- The step of an added clause: its tests, what its tries come to, and what is held once the nodes that are not kept are dropped. Assumes nothing.
+-- The step of an added clause: its tests, what its tries come to, and what is held once the nodes that are not kept are dropped. Assumes
+-- nothing.
 use Rattle.profile.specs.Admitted.{triedAs}
 use mathlib.Core.Path.{_≡_, refl, sym, ap, ap₂, _∙_, subst}
 use mathlib.Core.Bool.{Bool, true, false, not, cond}
@@ -33,16 +34,17 @@ use Rattle.verdict.specs.Steps as check
 use Rattle.verdict.specs.Steps.{withEntry, next, stop, spent}
 use Rattle.verdict.specs.Clausal.{tries, judgedOr, secondTry, afterFirst, onceMade, addStep}
 use Rattle.verdict.proofs.Uses.{place-uses, uses-written}
-use Rattle.entries.specs.declared.State.{State}
-use Rattle.entries.specs.declared.Step.{Step}
-use Rattle.entries.specs.declared.Step.the-variants.{Next, Stop, Spent}
-use Rattle.entries.specs.States.{Lent, tableIn, stateOf, Held, Stepped}
+use Rattle.state.specs.declared.State.{State}
+use Rattle.state.specs.declared.Step.{Step}
+use Rattle.state.specs.declared.Step.the-variants.{Next, Stop, Spent}
+use Rattle.state.specs.States.{Lent, tableIn, stateOf, Held, Stepped}
 use Rattle.steps.specs.NextStates.{withLine}
 use Rattle.steps.specs.Tried.{acceptedBy, saidBy, stepBy, membersBy}
 use Rattle.entries.proofs.Stops.{stopped}
 use Rattle.entries.proofs.Entering.{lentWith}
 use Rattle.steps.proofs.Lines.{accepted-says, accepted-held}
 use Rattle.meaning.specs.Literals.{OfVariables}
+use Rattle.paths.specs.Rounds.{mostRounds}
 use Rattle.tries.specs.Tries.{liveIn, withNodes, BothTried, no-room, once, twice, keptBy}
 use Rattle.tries.proofs.Trying.{tries-said, both-most}
 
@@ -67,12 +69,14 @@ module _ (T : Table) (G : Good T) (u : Literals) (T₁ : Table) (p : Placed) (e 
     where
       go : (b : Bool) → p .full ≡ b → ⊥
       go true f =
-          let z : p .node .0 ≡ 0 = ap (λ (o : Outcome). o .node) e ∙ full-zero (size T) (place (size T) (nodesOf T) (clauseOfWords u)) (sym (ap (λ (o : Outcome). o .full) e) ∙ f) in
+          let z : p .node .0 ≡ 0 = ap (λ (o : Outcome). o .node) e ∙ full-zero (size T) (place (size T) (nodesOf T) (clauseOfWords u))
+          (sym (ap (λ (o : Outcome). o .full) e) ∙ f) in
           omega arith
       go false f = not-one u apart (sym (grown .is f) ∙ ap (diagramAt (nodesOf T₁)) q ∙ diagramAt-one (nodesOf T₁))
 
 -- what the tries ask
-pub tries-ready : (L : Lent) (st : State) → Held 64 L st → (u : Literals) → shares 64 (u .positive) (u .negative) ≡ false → (T₁ : Table) (p : Placed)
+pub tries-ready : (L : Lent) (st : State) → Held 64 L st → (u : Literals) → shares 64 (u .positive) (u .negative) ≡ false →
+    (T₁ : Table) (p : Placed)
     → outcomeAt T₁ p ≡ placeIn (tableIn L (st .count)) (clauseOfWords u) → (memo : List ℕ) → Roomy (L .vars) memo
     → Negatable T₁ (take (st .members) (L .members)) memo (p .node .0)
 tries-ready L st H u apart T₁ p e memo room =
@@ -105,7 +109,8 @@ withEntries st entries = record {
   refuted = st .refuted;
 }
 
-tries-entries : (profile : Bool) (n s : ℕ) (st : check.State) (es : List ℕ) (k : ℕ) (ls : List Literal) → tries profile n s (withEntries st es) k ls ≡ tries profile n s st k ls
+tries-entries : (profile : Bool) (n s : ℕ) (st : check.State) (es : List ℕ) (k : ℕ) (ls : List Literal) →
+    tries profile n s (withEntries st es) k ls ≡ tries profile n s st k ls
 unfolding tries judgedOr afterFirst secondTry check.judged
 tries-entries true n s st es k ls = refl
 tries-entries false n s st es k [] = refl
@@ -143,7 +148,8 @@ module _ (profile : Bool) (n : ℕ) (L : Lent) (st : State) (H : Held n L st) (l
 
   -- ---- the clause is made
 
-  module _ (few : st .lines < 1024) (apart : shares 64 (u .positive) (u .negative) ≡ false) (T₁ : Table) (p : Placed) (e : outcomeAt T₁ p ≡ placeIn T₀ (clauseOfWords u)) where
+  module _ (few : st .lines < 1024) (apart : shares 64 (u .positive) (u .negative) ≡ false) (T₁ : Table) (p : Placed)
+      (e : outcomeAt T₁ p ≡ placeIn T₀ (clauseOfWords u)) where
     abbrev o : Outcome
     o = outcomeAt T₁ p
 
@@ -168,7 +174,8 @@ module _ (profile : Bool) (n : ℕ) (L : Lent) (st : State) (H : Held n L st) (l
     uses =
         subst (λ (x : Outcome). UsesTo n (nodesOf (x .table))) (sym e)
         (uses-written n (size T₀) (place (size T₀) (nodesOf T₀) (clauseOfWords u))
-        (place-uses n (size T₀) (nodesOf T₀) (clauseOfWords u) (H .entries .uses) (subst (Reduced 1 (suc n)) (sym words-is) (clause-reduced n ls))))
+        (place-uses n (size T₀) (nodesOf T₀) (clauseOfWords u) (H .entries .uses)
+        (subst (Reduced 1 (suc n)) (sym words-is) (clause-reduced n ls))))
 
     -- the state with the clause's nodes is held
     abbrev L₁ : Lent
@@ -219,7 +226,8 @@ module _ (profile : Bool) (n : ℕ) (L : Lent) (st : State) (H : Held n L st) (l
 
     module _ (j : Judged) (B : BothTried T₁ (liveIn (L .members) (L .struck) st) (triedAs profile (clauseWords ls)) p j) where
       -- what is said where the clause finds its places
-      placed-said : (t : List Node) (m : ℕ) → o ≡ written (size T₀) (placed t m) → tries profile n (size T₀) (withEntry S t m) m ls ≡ saidBy S₁ k j
+      placed-said : (t : List Node) (m : ℕ) → o ≡ written (size T₀) (placed t m) → tries profile n (size T₀) (withEntry S t m) m ls
+          ≡ saidBy S₁ k j
       unfolding written
       placed-said t m q =
           let table : nodesOf T₁ ≡ t = ap (λ (x : Outcome). nodesOf (x .table)) q ∙ nodes-indexed (size T₀) t in
@@ -230,7 +238,8 @@ module _ (profile : Bool) (n : ℕ) (L : Lent) (st : State) (H : Held n L st) (l
           ∙ ap (λ (x : ℕ). tries profile n (size T₀) (stateWith t (max (st .peak) (length t))) x ls) (sym number)
           ∙ ap₂ (λ (x : List Node) (c : ℕ). tries profile n (size T₀) (stateWith x (max (st .peak) c)) k ls) (sym table) (sym count)
           ∙ ap (λ (s : ℕ). tries profile n s S₁ k ls) (sym (W .same-size))
-          ∙ tries-said n L₁ st₁ held k (W .inside) (node-not-one T₀ (H .entries .good) u T₁ p e apart) profile ls within (W .is room ∙ words-is) p refl room j B
+          ∙ tries-said n L₁ st₁ held k (W .inside) (node-not-one T₀ (H .entries .good) u T₁ p e apart) profile ls within
+          (W .is room ∙ words-is) p refl room j B
 
       -- and where it finds none
       full-said : (t : List Node) → o ≡ written (size T₀) (full t) → spent 23 (max (st .peak) (length t)) ≡ saidBy S₁ k j
@@ -240,8 +249,10 @@ module _ (profile : Bool) (n : ℕ) (L : Lent) (st : State) (H : Held n L st) (l
           no-other : p .full ≡ false → ⊥
           no-other f = t≢f (sym (ap (λ (x : Outcome). x .full) q) ∙ f)
 
-          go : {i : Judged} → BothTried T₁ (liveIn (L .members) (L .struck) st) (triedAs profile (clauseWords ls)) p i → spent 23 (max (st .peak) (length t)) ≡ saidBy S₁ k i
-          go (no-room f) = ap (spent 23) (greatest (st .peak) (length t) (T₁ .count) (ap (λ (x : Outcome). x .table .count) q ∙ count-indexed (size T₀) t))
+          go : {i : Judged} → BothTried T₁ (liveIn (L .members) (L .struck) st) (triedAs profile (clauseWords ls)) p i →
+              spent 23 (max (st .peak) (length t)) ≡ saidBy S₁ k i
+          go (no-room f) = ap (spent 23) (greatest (st .peak) (length t) (T₁ .count)
+              (ap (λ (x : Outcome). x .table .count) q ∙ count-indexed (size T₀) t))
             where
               greatest : (a b c : ℕ) → c ≡ b → max a b ≡ max (max a c) 0
               greatest a b c q = omega arith
@@ -257,7 +268,8 @@ module _ (profile : Bool) (n : ℕ) (L : Lent) (st : State) (H : Held n L st) (l
 
       -- ---- what is left
 
-      module _ (T₂ : Table) (dropped : T₂ ≡ droppedTo (keptBy j (st .count) (T₁ .count)) T₁) (cs : List ℕ) (room : 4096 ≤ length cs) (most : j .rounds ≤ 262144) where
+      module _ (T₂ : Table) (dropped : T₂ ≡ droppedTo (keptBy j (st .count) (T₁ .count)) T₁) (cs : List ℕ) (room : 4096 ≤ length cs)
+          (most : j .rounds ≤ mostRounds) where
         abbrev peak : ℕ
         peak = max (max (st .peak) (T₁ .count)) (j .peak)
 
@@ -272,10 +284,27 @@ module _ (profile : Bool) (n : ℕ) (L : Lent) (st : State) (H : Held n L st) (l
             (lentWith T₂ (cond full (L .members) (cond (not shown) (L .members) (set (L .members) (st .members) k))) cs (L .struck)) st
             (cond full (spent 23 peak) (cond (not shown) (spent 19 peak) (next (acceptedBy S₁ k (j .rounds) peak))))
             (cond full (Spent 23 peak) (cond (not shown) (Spent 19 peak) (Next (withLine st₁ (j .rounds) peak k))))
-        ended true shown d = record { says = refl; leaves = record { table = ap (λ (t : Table). tableIn (lentWith t (L .members) cs (L .struck)) (st .count)) (d ∙ gone); members = refl; struck = refl } }
-        ended false false d = record { says = refl; leaves = record { table = ap (λ (t : Table). tableIn (lentWith t (L .members) cs (L .struck)) (st .count)) (d ∙ gone); members = refl; struck = refl } }
+        ended true shown d = record {
+          says = refl;
+          leaves = record {
+            table = ap (λ (t : Table). tableIn (lentWith t (L .members) cs (L .struck)) (st .count)) (d ∙ gone);
+            members = refl;
+            struck =
+                refl;
+          };
+        }
+        ended false false d = record {
+          says = refl;
+          leaves = record {
+            table = ap (λ (t : Table). tableIn (lentWith t (L .members) cs (L .struck)) (st .count)) (d ∙ gone);
+            members = refl;
+            struck =
+                refl;
+          };
+        }
         ended false true d =
-            subst (λ (t : Table). Stepped n L (lentWith t (set (L .members) (st .members) k) cs (L .struck)) st (next (acceptedBy S₁ k (j .rounds) peak)) (Next (withLine st₁ (j .rounds) peak k))) (sym (d ∙ kept))
+            subst (λ (t : Table). Stepped n L (lentWith t (set (L .members) (st .members) k) cs (L .struck)) st
+            (next (acceptedBy S₁ k (j .rounds) peak)) (Next (withLine st₁ (j .rounds) peak k))) (sym (d ∙ kept))
             (record {
               says = ap next (accepted-says n L₁ st₁ held few k (W .inside) (j .rounds) most peak cs room);
               leaves = accepted-held n L₁ st₁ held few k (W .inside) (j .rounds) most peak cs room;
@@ -329,13 +358,18 @@ keep-fits j a b keep e two le = rw e (go (j .full) (j .shown))
     go false false = (two, le)
     go false true = (omega arith, omega arith)
 
-module _ (profile : Bool) (n : ℕ) (L : Lent) (st : State) (H : Held n L st) (ls : List Literal) (within : OfVariables n ls) (c : DratClause) (is : triedAs profile (clauseWords ls) ≡ c) where
-  pub code-17 : st .lines < 1024 → shares 64 (c .literals .positive) (c .literals .negative) ≡ true → Stepped n L L st (addStep profile n (size (tableIn L (st .count))) (stateOf L st) ls) (Stop 17 0)
-  code-17 few e = clause-17 profile n L st H ls within few (subst (λ (x : DratClause). shares 64 (x .literals .positive) (x .literals .negative) ≡ true) (sym is) e)
+module _ (profile : Bool) (n : ℕ) (L : Lent) (st : State) (H : Held n L st) (ls : List Literal) (within : OfVariables n ls) (c : DratClause)
+    (is : triedAs profile (clauseWords ls) ≡ c) where
+  pub code-17 : st .lines < 1024 → shares 64 (c .literals .positive) (c .literals .negative) ≡ true →
+      Stepped n L L st (addStep profile n (size (tableIn L (st .count))) (stateOf L st) ls) (Stop 17 0)
+  code-17 few e = clause-17 profile n L st H ls within few
+      (subst (λ (x : DratClause). shares 64 (x .literals .positive) (x .literals .negative) ≡ true) (sym is) e)
 
   pub code-stepped : st .lines < 1024 → (T₁ : Table) (p : Placed) (j : Judged) → Added L st T₁ p j c
-      → (keep : ℕ) → keep ≡ keptBy j (st .count) (T₁ .count) → (T₂ T₃ : Table) → T₂ ≡ T₁ → T₃ ≡ droppedTo keep T₂ → (cs : List ℕ) → 4096 ≤ length cs
-      → (st₂ : State) → st₂ ≡ withNodes st (T₁ .count) → {r : Step} {ms : List ℕ} → r ≡ stepBy st₂ j (p .node .0) → ms ≡ membersBy (L .members) st₂ j (p .node .0)
+      → (keep : ℕ) → keep ≡ keptBy j (st .count) (T₁ .count) → (T₂ T₃ : Table) → T₂ ≡ T₁ → T₃ ≡ droppedTo keep T₂ → (cs : List ℕ) →
+      4096 ≤ length cs
+      → (st₂ : State) → st₂ ≡ withNodes st (T₁ .count) → {r : Step} {ms : List ℕ} → r ≡ stepBy st₂ j (p .node .0) → ms
+      ≡ membersBy (L .members) st₂ j (p .node .0)
       → Stepped n L (lentWith T₃ ms cs (L .struck)) st (addStep profile n (size (tableIn L (st .count))) (stateOf L st) ls) r
   code-stepped few T₁ p j A keep k T₂ T₃ back d cs room st₂ s x y =
       let A₁ : Added L st T₁ p j (triedAs profile (clauseWords ls)) = subst (Added L st T₁ p j) (sym is) A in

@@ -1,5 +1,5 @@
--- The second try with the witness of the code's two words is the one with the witness of the definition. The idea: PR asks a witness for the
--- variables 1 to n alone. Assumes nothing.
+-- The second try with the witness of the code's two words is the one with the witness of the definition. The idea: PR asks a witness for
+-- the variables 1 to n alone. Assumes nothing.
 use mathlib.Core.Path.{_≡_, refl, ap, ap₂, _∙_}
 use mathlib.Core.Bool.{Bool, true, cond}
 use mathlib.Core.List.{List, [], _∷_}
@@ -25,7 +25,8 @@ module _ (n : ℕ) (P N P′ N′ : ℕ → Bool) (p : (v : ℕ) → 1 ≤ v →
     where
       turn : Diagram → Line → Line
       turn h rest =
-          cond (same h (leaf true)) rest (afterTurn (unitProp n (byDiagram n (negation n h) ms′)) (h ∷ negation n h ∷ byDiagram n (negation n h) ms′) rest)
+          cond (same h (leaf true)) rest (afterTurn (unitProp n (byDiagram n (negation n h) ms′))
+          (h ∷ negation n h ∷ byDiagram n (negation n h) ms′) rest)
 
   pub pr-same : (ms : List Diagram) (g : Diagram) → pr n P N ms g ≡ pr n P′ N′ ms g
   unfolding pr
@@ -36,9 +37,12 @@ module _ (n : ℕ) (P N P′ N′ : ℕ → Bool) (p : (v : ℕ) → 1 ≤ v →
 -- THEOREM: PR by the words that the code makes is PR by the clause's witness.
 pub second-same : (n : ℕ) → n ≤ 64 → (p : Literal) (ls : List Literal) → OfVariables n (p ∷ ls) → (ms : List Diagram) → (u : Literals)
     → u ≡ witnessWords (literalsOf (p ∷ ls)) (p .variable) (p .positive)
-    → pr n (inWord (u .positive)) (inWord (u .negative)) ms (clause n (p ∷ ls)) ≡ pr n (makesTrue (witness p (p ∷ ls))) (makesFalse (witness p (p ∷ ls))) ms (clause n (p ∷ ls))
+    → pr n (inWord (u .positive)) (inWord (u .negative)) ms (clause n (p ∷ ls))
+    ≡ pr n (makesTrue (witness p (p ∷ ls))) (makesFalse (witness p (p ∷ ls))) ms (clause n (p ∷ ls))
 second-same n narrow p ls w ms u is =
     pr-same n (inWord (u .positive)) (inWord (u .negative)) (makesTrue (witness p (p ∷ ls))) (makesFalse (witness p (p ∷ ls)))
-    (λ v lo hi. ap (λ (u : Literals). inWord (u .positive) v) is ∙ witness-true n (p ∷ ls) w narrow (p .variable) (w .0) (omega (arith, w .1)) v lo (omega arith) (p .positive))
-    (λ v lo hi. ap (λ (u : Literals). inWord (u .negative) v) is ∙ witness-false n (p ∷ ls) w narrow (p .variable) (w .0) (omega (arith, w .1)) v lo (omega arith) (p .positive))
+    (λ v lo hi. ap (λ (u : Literals). inWord (u .positive) v) is ∙ witness-true n (p ∷ ls) w narrow (p .variable) (w .0)
+    (omega (arith, w .1)) v lo (omega arith) (p .positive))
+    (λ v lo hi. ap (λ (u : Literals). inWord (u .negative) v) is ∙ witness-false n (p ∷ ls) w narrow (p .variable) (w .0)
+    (omega (arith, w .1)) v lo (omega arith) (p .positive))
     ms (clause n (p ∷ ls))

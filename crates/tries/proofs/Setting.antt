@@ -1,5 +1,5 @@
--- The two words of a clause's witness have just the literals that the witness sets. The idea: variable by variable and sign by sign. Assumes
--- nothing.
+-- The two words of a clause's witness have just the literals that the witness sets. The idea: variable by variable and sign by sign.
+-- Assumes nothing.
 use mathlib.Core.Path.{_≡_, refl, sym, ap, _∙_, subst}
 use mathlib.Core.Bool.{Bool, true, false, not, _&&_, _||_, Bool·beq}
 use mathlib.Core.List.{List, [], _∷_}
@@ -19,7 +19,8 @@ use Rattle.words.proofs.Variables.{in-without}
 use Rattle.words.proofs.LiteralSets.{in-set}
 use Rattle.clausal.specs.Drat.{Clause, literal, negated, alike, has, without}
 use Rattle.clausal.specs.Tries.{makesTrue, makesFalse, witness}
-use Rattle.clausal.proofs.Literals.{alike-eq, eq-alike, negated-twice, has-here, has-cases, has-there, negations, has-negation, negation-has, has-without, without-has}
+use Rattle.clausal.proofs.Literals.{alike-eq, eq-alike, negated-twice, has-here, has-cases, has-there, negations, has-negation}
+use Rattle.clausal.proofs.Literals.{negation-has, has-without, without-has}
 use Rattle.tries.specs.Words.{witnessWords}
 use Rattle.words.proofs.LiteralSets.{in-with}
 
@@ -41,7 +42,8 @@ sets p l c = both-ways (has (witness p c) l) (alike p l || (has c (negated l) &&
         (λ x. let (y, ne) = without-has p c (negated l) (negation-has (without p c) l x) in
         or-right (alike p l) (has c (negated l) && not (alike (negated l) p)) (go y (alike (negated l) p) refl ne))
       where
-        go : has c (negated l) ≡ true → (b : Bool) → alike (negated l) p ≡ b → (negated l ≡ p → ⊥) → (has c (negated l) && not (alike (negated l) p)) ≡ true
+        go : has c (negated l) ≡ true → (b : Bool) → alike (negated l) p ≡ b → (negated l ≡ p → ⊥) →
+            (has c (negated l) && not (alike (negated l) p)) ≡ true
         go y true e ne = absurd (ne (alike-eq (negated l) p e))
         go y false e ne = rw (y, e) refl
 
@@ -51,7 +53,8 @@ sets p l c = both-ways (has (witness p c) l) (alike p l || (has c (negated l) &&
         (λ x. let (y, ne) = and-both (has c (negated l)) (not (alike (negated l) p)) x in
         has-there p (negations (without p c)) l
         (subst (λ (m : Literal). has (negations (without p c)) m ≡ true) (negated-twice l)
-        (has-negation (without p c) (negated l) (has-without p c (negated l) y (λ q. differ (alike (negated l) p) (eq-alike (negated l) p q) ne)))))
+        (has-negation (without p c) (negated l)
+        (has-without p c (negated l) y (λ q. differ (alike (negated l) p) (eq-alike (negated l) p q) ne)))))
       where
         differ : (b : Bool) → b ≡ true → not b ≡ true → ⊥
         differ true e f = t≢f (sym f)
@@ -90,7 +93,8 @@ left-out true false false = refl
 left-out false true f = refl
 left-out false false f = refl
 
-module _ (n : ℕ) (c : Clause) (w : OfVariables n c) (narrow : n ≤ 64) (x : ℕ) (lo : 1 ≤ x) (hi : x ≤ 64) (v : ℕ) (one : 1 ≤ v) (most : v ≤ 64) where
+module _ (n : ℕ) (c : Clause) (w : OfVariables n c) (narrow : n ≤ 64) (x : ℕ) (lo : 1 ≤ x) (hi : x ≤ 64) (v : ℕ) (one : 1 ≤ v)
+    (most : v ≤ 64) where
   positives : inWord (literalsOf c .positive) v ≡ has c (literal v true)
   unfolding has-word
   positives = in-set n c v true w one ∙ sym (has-occurs c v true)
@@ -105,21 +109,27 @@ module _ (n : ℕ) (c : Clause) (w : OfVariables n c) (narrow : n ≤ 64) (x : �
   -- THEOREM: the words have just what the witness sets.
   pub witness-true : (b : Bool) → inWord (witnessWords (literalsOf c) x b .positive) v ≡ makesTrue (witness (literal x b) c) v
   unfolding witnessWords alike
-  witness-true true = in-with (literalsOf c .negative) x v lo one ∙ rw (negatives) (swapped (has c (literal v false)) (eqb x v) (eqb v x)) ∙ sym (sets (literal x true) (literal v true) c)
-  witness-true false = without-is (literalsOf c .negative) ∙ rw (negatives) (left-out (has c (literal v false)) (eqb x v) (eqb v x)) ∙ sym (sets (literal x false) (literal v true) c)
+  witness-true true = in-with (literalsOf c .negative) x v lo one ∙ rw (negatives) (swapped (has c (literal v false)) (eqb x v) (eqb v x))
+      ∙ sym (sets (literal x true) (literal v true) c)
+  witness-true false = without-is (literalsOf c .negative) ∙ rw (negatives) (left-out (has c (literal v false)) (eqb x v) (eqb v x))
+      ∙ sym (sets (literal x false) (literal v true) c)
 
   pub witness-false : (b : Bool) → inWord (witnessWords (literalsOf c) x b .negative) v ≡ makesFalse (witness (literal x b) c) v
   unfolding witnessWords alike
-  witness-false false = in-with (literalsOf c .positive) x v lo one ∙ rw (positives) (swapped (has c (literal v true)) (eqb x v) (eqb v x)) ∙ sym (sets (literal x false) (literal v false) c)
-  witness-false true = without-is (literalsOf c .positive) ∙ rw (positives) (left-out (has c (literal v true)) (eqb x v) (eqb v x)) ∙ sym (sets (literal x true) (literal v false) c)
+  witness-false false = in-with (literalsOf c .positive) x v lo one ∙ rw (positives) (swapped (has c (literal v true)) (eqb x v) (eqb v x))
+      ∙ sym (sets (literal x false) (literal v false) c)
+  witness-false true = without-is (literalsOf c .positive) ∙ rw (positives) (left-out (has c (literal v true)) (eqb x v) (eqb v x))
+      ∙ sym (sets (literal x true) (literal v false) c)
 
 -- ---- the code's answers
 
 module _ (u : Literals) (v : ℕ) (sign : Bool) (p q : ℕ) where
-  pub words-true : sign ≡ true → p ≡ withVariable (u .negative) v → q ≡ without-word 64 (u .positive) v (v + 1) → record { positive = p; negative = q } ≡ witnessWords u v sign
+  pub words-true : sign ≡ true → p ≡ withVariable (u .negative) v → q ≡ without-word 64 (u .positive) v (v + 1) →
+      record { positive = p; negative = q } ≡ witnessWords u v sign
   unfolding witnessWords
   words-true e a b = rw (e, a, b) refl
 
-  pub words-false : sign ≡ false → p ≡ without-word 64 (u .negative) v (v + 1) → q ≡ withVariable (u .positive) v → record { positive = p; negative = q } ≡ witnessWords u v sign
+  pub words-false : sign ≡ false → p ≡ without-word 64 (u .negative) v (v + 1) → q ≡ withVariable (u .positive) v →
+      record { positive = p; negative = q } ≡ witnessWords u v sign
   unfolding witnessWords
   words-false e a b = rw (e, a, b) refl

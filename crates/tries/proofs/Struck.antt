@@ -1,5 +1,5 @@
--- A clause struck out: the live member of lowest place that is its diagram, found by its node's number. The idea: two numbers are equal exactly where
--- their diagrams are. Assumes nothing.
+-- A clause struck out: the live member of lowest place that is its diagram, found by its node's number. The idea: two numbers are equal
+-- exactly where their diagrams are. Assumes nothing.
 use mathlib.Core.Path.{_≡_, refl, sym, ap, _∙_, subst}
 use mathlib.Core.Bool.{true, false}
 use mathlib.Core.List.{List}
@@ -31,9 +31,9 @@ use Rattle.verdict.specs.Steps.{withMarks, next, stop, diagramIn, isLive}
 use Rattle.verdict.specs.Clausal.{firstSame, strikeFound, strikeClause}
 use Rattle.verdict.specs.ClauseTaken.{IsThere}
 use Rattle.verdict.proofs.Striking.{first-some, first-none}
-use Rattle.entries.specs.declared.State.{State}
-use Rattle.entries.specs.declared.Step.the-variants.{Next, Stop}
-use Rattle.entries.specs.States.{Lent, lentOf, tableIn, stateOf, Held, Stepped}
+use Rattle.state.specs.declared.State.{State}
+use Rattle.state.specs.declared.Step.the-variants.{Next, Stop}
+use Rattle.state.specs.States.{Lent, lentOf, tableIn, stateOf, Held, Stepped}
 use Rattle.entries.proofs.Stops.{stopped}
 use Rattle.steps.proofs.Strikings.{marked-next}
 use Rattle.meaning.specs.Literals.{OfVariables}
@@ -45,17 +45,20 @@ use Rattle.tries.specs.Lowest.{isAt, Lowest}
 abbrev pub NoneBelow : List ℕ → List ℕ → ℕ → ℕ → Type 0
 NoneBelow members struck g i = (k : ℕ) → k < i → isAt members struck g k ≡ false
 
-pub none-more : (members struck : List ℕ) (g i : ℕ) → NoneBelow members struck g i → isAt members struck g i ≡ false → NoneBelow members struck g (i + 1)
+pub none-more : (members struck : List ℕ) (g i : ℕ) → NoneBelow members struck g i → isAt members struck g i ≡ false →
+    NoneBelow members struck g (i + 1)
 none-more members struck g i passed not-here k p = elim (ℕ-discrete k i) [
   | yes e ↦ subst (λ (x : ℕ). isAt members struck g x ≡ false) (sym e) not-here
   | no ne ↦ passed k (omega (arith, ne))
 ]
 
-pub there-lowest : (members struck : List ℕ) (m g i : ℕ) → i ≤ m → NoneBelow members struck g i → isAt members struck g i ≡ true → Lowest members struck m g i
+pub there-lowest : (members struck : List ℕ) (m g i : ℕ) → i ≤ m → NoneBelow members struck g i → isAt members struck g i ≡ true →
+    Lowest members struck m g i
 there-lowest members struck m g i le passed here = record { most = le; there = λ p. here; lowest = passed }
 
 pub none-lowest : (members struck : List ℕ) (m g i : ℕ) → m ≤ i → NoneBelow members struck g i → Lowest members struck m g m
-none-lowest members struck m g i le passed = record { most = omega arith; there = λ p. absurd (omega arith); lowest = λ k p. passed k (omega arith) }
+none-lowest members struck m g i le passed = record
+    { most = omega arith; there = λ p. absurd (omega arith); lowest = λ k p. passed k (omega arith) }
 
 -- ---- the clause that is struck
 
@@ -79,7 +82,8 @@ module _ (n : ℕ) (L : Lent) (st : State) (H : Held n L st) (ls : List Literal)
       omega (arith, H .kept)
 
   -- a member that is there, by its place in the lists lent
-  there-is : (i : ℕ) → IsThere S (clause n ls) i → (i < st .members) × (eqb (getD (L .struck) i 0) 0 ≡ true) × (diagramAt (nodesOf T) (getD (L .members) i 0) ≡ clause n ls)
+  there-is : (i : ℕ) → IsThere S (clause n ls) i → (i < st .members) × (eqb (getD (L .struck) i 0) 0 ≡ true)
+      × (diagramAt (nodesOf T) (getD (L .members) i 0) ≡ clause n ls)
   unfolding isLive
   there-is i t =
       let (live, eq) = and-both (isLive S i) (same (diagramIn S (getD (S .members) i 0)) (clause n ls)) t in
@@ -87,16 +91,19 @@ module _ (n : ℕ) (L : Lent) (st : State) (H : Held n L st) (ls : List Literal)
       let p : i < st .members = omega (arith, ltb-true i (length (S .members)) less, many) in (
         p,
         sym (ap (λ (x : ℕ). eqb x 0) (getD-take (st .members) (L .struck) i 0 p)) ∙ mark,
-        sym (ap (diagramAt (nodesOf T)) (getD-take (st .members) (L .members) i 0 p)) ∙ same-eq (diagramIn S (getD (S .members) i 0)) (clause n ls) eq,
+        sym (ap (diagramAt (nodesOf T)) (getD-take (st .members) (L .members) i 0 p))
+            ∙ same-eq (diagramIn S (getD (S .members) i 0)) (clause n ls) eq,
       )
 
-  is-there : (i : ℕ) → i < st .members → eqb (getD (L .struck) i 0) 0 ≡ true → diagramAt (nodesOf T) (getD (L .members) i 0) ≡ clause n ls → IsThere S (clause n ls) i
+  is-there : (i : ℕ) → i < st .members → eqb (getD (L .struck) i 0) 0 ≡ true → diagramAt (nodesOf T) (getD (L .members) i 0) ≡ clause n ls →
+      IsThere S (clause n ls) i
   unfolding isLive
   is-there i p mark eq = rw (
     lt-ltb i (length (S .members)) (omega (arith, many)),
     getD-take (st .members) (L .struck) i 0 p,
     mark,
-    eq-same (diagramIn S (getD (S .members) i 0)) (clause n ls) (ap (diagramAt (nodesOf T)) (getD-take (st .members) (L .members) i 0 p) ∙ eq),
+    eq-same (diagramIn S (getD (S .members) i 0)) (clause n ls)
+        (ap (diagramAt (nodesOf T)) (getD-take (st .members) (L .members) i 0 p) ∙ eq),
   ) refl
 
   -- no member is there
@@ -108,11 +115,13 @@ module _ (n : ℕ) (L : Lent) (st : State) (H : Held n L st) (ls : List Literal)
       go none e = refl
       go (some i) e = absurd (absent i (first-some S (clause n ls) (length (S .members)) 0 i e .2))
 
-  first-is : (r : ℕ) → r < length (S .members) → IsThere S (clause n ls) r → ((i : ℕ) → i < r → IsThere S (clause n ls) i → ⊥) → strikeClause n S ls ≡ next (withMarks S (set (S .struck) r 1))
+  first-is : (r : ℕ) → r < length (S .members) → IsThere S (clause n ls) r → ((i : ℕ) → i < r → IsThere S (clause n ls) i → ⊥) →
+      strikeClause n S ls ≡ next (withMarks S (set (S .struck) r 1))
   unfolding strikeClause
   first-is r p there lowest = go (firstSame (length (S .members)) S 0 (clause n ls)) refl
     where
-      go : (o : Option ℕ) → firstSame (length (S .members)) S 0 (clause n ls) ≡ o → strikeFound S o ≡ next (withMarks S (set (S .struck) r 1))
+      go : (o : Option ℕ) → firstSame (length (S .members)) S 0 (clause n ls) ≡ o → strikeFound S o
+          ≡ next (withMarks S (set (S .struck) r 1))
       go none e = absurd (first-none S (clause n ls) (length (S .members)) 0 e r (omega arith) (omega arith) there)
       go (some i) e =
           let f = first-some S (clause n ls) (length (S .members)) 0 i e in
@@ -128,14 +137,17 @@ module _ (n : ℕ) (L : Lent) (st : State) (H : Held n L st) (ls : List Literal)
     diagram-is = ap (λ (x : DratClause). clauseOfWords (x .literals)) (sym is) ∙ words-is
 
     -- its diagram is not in the table
-    pub strike-absent : Stands (nodesOf T) (place (size T) (nodesOf T) (clauseOfWords (c .literals))) Nothing → Stepped n L L st (strikeClause n S ls) (Stop 28 0)
+    pub strike-absent : Stands (nodesOf T) (place (size T) (nodesOf T) (clauseOfWords (c .literals))) Nothing →
+        Stepped n L L st (strikeClause n S ls) (Stop 28 0)
     strike-absent absent =
         stopped n L st (strikeClause n S ls) 28 0
         (first-not λ i t.
         let (p, mark, eq) = there-is i t in
-        stands-not T (H .entries .good) (c .literals) absent (getD (L .members) i 0) (omega (arith, length-nodes T (H .entries .good), member-in i p)) (eq ∙ sym diagram-is))
+        stands-not T (H .entries .good) (c .literals) absent (getD (L .members) i 0)
+        (omega (arith, length-nodes T (H .entries .good), member-in i p)) (eq ∙ sym diagram-is))
 
-    module _ (g r : ℕ) (stands : place (size T) (nodesOf T) (clauseOfWords (c .literals)) ≡ placed (nodesOf T) g) (F : Lowest (L .members) (L .struck) (st .members) g r) where
+    module _ (g r : ℕ) (stands : place (size T) (nodesOf T) (clauseOfWords (c .literals)) ≡ placed (nodesOf T) g)
+        (F : Lowest (L .members) (L .struck) (st .members) g r) where
       g-is : (g < length (nodesOf T)) × (diagramAt (nodesOf T) g ≡ clauseOfWords (c .literals))
       g-is = stands-is T (H .entries .good) (c .literals) g stands
 
@@ -147,8 +159,15 @@ module _ (n : ℕ) (L : Lent) (st : State) (H : Held n L st) (ls : List Literal)
       there-at : (i : ℕ) → IsThere S (clause n ls) i → (i < st .members) × (isAt (L .members) (L .struck) g i ≡ true)
       there-at i t =
           let (p, mark, eq) = there-is i t in
-          let q : getD (L .members) i 0 < length (nodesOf T) = omega (arith, length-nodes T (H .entries .good), member-in i p) in
-          (p, rw (mark, eq-eqb (getD (L .members) i 0) g (diagramAt-injective (nodesOf T) (good-ordered T (H .entries .good)) (getD (L .members) i 0) g q (g-is .0) (eq ∙ sym (g-is .1 ∙ diagram-is)))) refl)
+          let q : getD (L .members) i 0 < length (nodesOf T) = omega (arith, length-nodes T (H .entries .good), member-in i p) in (
+            p,
+            rw (
+              mark,
+              eq-eqb (getD (L .members) i 0) g
+                  (diagramAt-injective (nodesOf T) (good-ordered T (H .entries .good)) (getD (L .members) i 0) g q (g-is .0)
+                  (eq ∙ sym (g-is .1 ∙ diagram-is))),
+            ) refl,
+          )
 
       -- none of the live members is its diagram
       pub strike-none : st .members ≤ r → Stepped n L L st (strikeClause n S ls) (Stop 28 0)
@@ -157,7 +176,8 @@ module _ (n : ℕ) (L : Lent) (st : State) (H : Held n L st) (ls : List Literal)
 
       -- the lowest is struck
       pub strike-lowest : r < st .members
-          → Stepped n L (lentOf (L .vars) (L .lows) (L .highs) (L .heads) (L .links) (L .members) (L .scratch) (set (L .struck) r 1)) st (strikeClause n S ls) (Next st)
+          → Stepped n L (lentOf (L .vars) (L .lows) (L .highs) (L .heads) (L .links) (L .members) (L .scratch) (set (L .struck) r 1)) st
+          (strikeClause n S ls) (Next st)
       strike-lowest lt =
           rw (first-is r (omega (arith, many)) (at-there r lt (F .there lt)) (λ i p t. t≢f (sym (there-at i t .1) ∙ F .lowest i p)))
           (marked-next n L st r lt H)

@@ -16,7 +16,7 @@ use Rattle.commands.specs.declared.Pivot.the-variants.{Nothing, First}
 use Rattle.commands.specs.declared.DratClause.{DratClause}
 use Rattle.judge.specs.declared.Judged.{Judged}
 use Rattle.verdict.specs.Steps.{unstruck}
-use Rattle.entries.specs.declared.State.{State}
+use Rattle.state.specs.declared.State.{State}
 use Rattle.steps.specs.Tried.{Tried}
 use Rattle.tries.specs.Words.{witnessWords}
 

@@ -1,10 +1,10 @@
 // A clause added: its diagram is made, then it is tried as a RUP line and, failing with 19, as a PR line. (02, 4/14)
 use commands::DratClause;
 use commands::Pivot;
-use entries::State;
-use entries::Step;
 use judge::Judged;
 use records::Rule;
+use state::State;
+use state::Step;
 use table::NodeNo;
 use table::Placed;
 ghost use mathlib.Core.Path.{_≡_};
@@ -20,7 +20,7 @@ ghost use Rattle.judge.specs.Lines.{Negatable};
 ghost use Rattle.commands.specs.Inner.{clauseWords};
 ghost use Rattle.verdict.specs.Clausal.{addStep};
 ghost use Rattle.profile.specs.Admitted.{triedAs};
-ghost use Rattle.entries.specs.States.{lentOf, stateOf, Held, Stepped};
+ghost use Rattle.state.specs.States.{lentOf, stateOf, Held, Stepped};
 ghost use Rattle.tries.specs.Tries.{liveIn, PivotFits, SecondTried, decided, BothTried, keptBy};
 ghost use Rattle.meaning.specs.Literals.{OfVariables};
 

@@ -1,7 +1,7 @@
 // The step of a command, whatever its form. (02, 4/14)
 use commands::Command;
-use entries::State;
-use entries::Step;
+use state::State;
+use state::Step;
 ghost use mathlib.Core.Path.{_≡_};
 ghost use mathlib.Core.Bool.{Bool};
 ghost use Prim.Native.Nat.{ℕ};
@@ -11,7 +11,7 @@ ghost use Rattle.conflict.specs.Marks.{unmarked};
 ghost use Rattle.commands.specs.Commands as read;
 ghost use Rattle.commands.specs.Inner.{commandOf};
 ghost use Rattle.verdict.specs.Check.{finish, step};
-ghost use Rattle.entries.specs.States.{Lent, lentOf, stateOf, Held, Stepped};
+ghost use Rattle.state.specs.States.{Lent, lentOf, stateOf, Held, Stepped};
 ghost use Rattle.profile.specs.Admitted.{admitted};
 ghost use Rattle.tries.specs.Commands.{CommandFits, PivotOfFits};
 

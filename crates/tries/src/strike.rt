@@ -1,7 +1,7 @@
 // A clause struck out: the live member of lowest place that is the same diagram. (02, 4/14)
 use commands::DratClause;
-use entries::State;
-use entries::Step;
+use state::State;
+use state::Step;
 use table::Found;
 use table::NodeNo;
 ghost use mathlib.Core.Path.{_≡_};
@@ -14,7 +14,7 @@ ghost use Rattle.meaning.specs.Operations.{Literal};
 ghost use Rattle.table.specs.Indexed.{tableOf, Good};
 ghost use Rattle.commands.specs.Inner.{clauseWords};
 ghost use Rattle.verdict.specs.Clausal.{strikeClause};
-ghost use Rattle.entries.specs.States.{lentOf, stateOf, Held, Stepped};
+ghost use Rattle.state.specs.States.{lentOf, stateOf, Held, Stepped};
 ghost use Rattle.meaning.specs.Literals.{OfVariables};
 ghost use Rattle.tries.specs.Lowest.{Lowest};
 

@@ -51,9 +51,11 @@ no-units n (suc k) f h =
 units-none : (n k : ℕ) (f : Diagram) → hasUnit n k f ≡ false → (v : ℕ) → 1 ≤ v → v ≤ k → NoUnit n f v
 units-none n zero f e v lo hi = absurd (omega arith)
 units-none n (suc k) f e v lo hi =
-    go (or-neither (isUnit n f (suc k) true || isUnit n f (suc k) false) (hasUnit n k f) (sym (has-step n k f) ∙ e)) (λ z less. units-none n k f z v lo less) (ℕ-discrete v (suc k))
+    go (or-neither (isUnit n f (suc k) true || isUnit n f (suc k) false) (hasUnit n k f) (sym (has-step n k f) ∙ e))
+    (λ z less. units-none n k f z v lo less) (ℕ-discrete v (suc k))
   where
-    go : ((isUnit n f (suc k) true || isUnit n f (suc k) false) ≡ false) × (hasUnit n k f ≡ false) → (hasUnit n k f ≡ false → v ≤ k → NoUnit n f v) → Dec (v ≡ suc k) → NoUnit n f v
+    go : ((isUnit n f (suc k) true || isUnit n f (suc k) false) ≡ false) × (hasUnit n k f ≡ false) →
+        (hasUnit n k f ≡ false → v ≤ k → NoUnit n f v) → Dec (v ≡ suc k) → NoUnit n f v
     go z ih (yes q) = subst (NoUnit n f) (sym q) (or-neither (isUnit n f (suc k) true) (isUnit n f (suc k) false) (z .0))
     go z ih (no q) = ih (z .1) (omega arith)
 
@@ -95,22 +97,28 @@ first-nil n = refl
 
 module _ (n : ℕ) (t : List Node) (list : List ℕ) (i : ℕ) where
   module _ (inside : i < length list) where
-    first-step : firstWithUnit n (diagramsOf t (drop i list)) ≡ cond (hasUnit n n (diagramAt t (getD list i 0))) (some (diagramAt t (getD list i 0))) (firstWithUnit n (diagramsOf t (drop (i + 1) list)))
+    first-step : firstWithUnit n (diagramsOf t (drop i list)) ≡ cond (hasUnit n n (diagramAt t (getD list i 0)))
+        (some (diagramAt t (getD list i 0))) (firstWithUnit n (diagramsOf t (drop (i + 1) list)))
     first-step =
         ap (λ (l : List ℕ). firstWithUnit n (diagramsOf t l)) (drop-cons list i 0 inside)
         ∙ first-cons n (diagramAt t (getD list i 0)) (diagramsOf t (drop (suc i) list))
-        ∙ ap (λ (k : ℕ). cond (hasUnit n n (diagramAt t (getD list i 0))) (some (diagramAt t (getD list i 0))) (firstWithUnit n (diagramsOf t (drop k list)))) (sym (add-one i))
+        ∙ ap (λ (k : ℕ). cond (hasUnit n n (diagramAt t (getD list i 0))) (some (diagramAt t (getD list i 0)))
+        (firstWithUnit n (diagramsOf t (drop k list)))) (sym (add-one i))
 
-    pub first-later : hasUnit n n (diagramAt t (getD list i 0)) ≡ false → firstWithUnit n (diagramsOf t (drop i list)) ≡ firstWithUnit n (diagramsOf t (drop (i + 1) list))
-    first-later e = first-step ∙ ap (λ (b : Bool). cond b (some (diagramAt t (getD list i 0))) (firstWithUnit n (diagramsOf t (drop (i + 1) list)))) e
+    pub first-later : hasUnit n n (diagramAt t (getD list i 0)) ≡ false → firstWithUnit n (diagramsOf t (drop i list))
+        ≡ firstWithUnit n (diagramsOf t (drop (i + 1) list))
+    first-later e = first-step ∙ ap (λ (b : Bool). cond b (some (diagramAt t (getD list i 0)))
+        (firstWithUnit n (diagramsOf t (drop (i + 1) list)))) e
 
-    pub first-here : firstWithUnit n (diagramsOf t list) ≡ firstWithUnit n (diagramsOf t (drop i list)) → hasUnit n n (diagramAt t (getD list i 0)) ≡ true
+    pub first-here : firstWithUnit n (diagramsOf t list) ≡ firstWithUnit n (diagramsOf t (drop i list)) →
+        hasUnit n n (diagramAt t (getD list i 0)) ≡ true
         → (u : Literals) → UnitsAt n t (getD list i 0) u → UnitsTaken n (diagramsOf t list) u
     unfolding UnitsAt
     first-here so-far e u U =
         record {
           member = diagramAt t (getD list i 0);
-          is = so-far ∙ first-step ∙ ap (λ (b : Bool). cond b (some (diagramAt t (getD list i 0))) (firstWithUnit n (diagramsOf t (drop (i + 1) list)))) e;
+          is = so-far ∙ first-step ∙ ap (λ (b : Bool). cond b (some (diagramAt t (getD list i 0)))
+              (firstWithUnit n (diagramsOf t (drop (i + 1) list)))) e;
           holds = U;
         }
 
@@ -146,7 +154,13 @@ module _ (places : List ℕ) (asked k from : ℕ) where
 
     pub skips-all : (k < length places → asked ≤ getD places k 0) → Skips places asked k from asked
     skips-all far =
-        record { from-on = omega arith; most = λ n _ q. q; next = inr (omega arith); passed = λ j q r. (behind-is .0, omega (arith, behind-is .1), up-to j r (decLt k (length places)), r) }
+        record {
+          from-on = omega arith;
+          most = λ n _ q. q;
+          next = inr (omega arith);
+          passed =
+              λ j q r. (behind-is .0, omega (arith, behind-is .1), up-to j r (decLt k (length places)), r);
+        }
       where
         up-to : (j : ℕ) → j < asked → Dec (k < length places) → j < getD places k asked
         up-to j r (yes p) = omega (arith, far p, getD-inside places k 0 asked p)
@@ -154,12 +168,20 @@ module _ (places : List ℕ) (asked k from : ℕ) where
 
 pub behind-next : (places : List ℕ) (asked k place : ℕ) → NextPlace places asked k place → Behind places asked (k + 1) (place + 1)
 behind-next places asked k place =
-    ⊎-elim (λ n. inl (omega (arith, n .0), ap (behind places) (add-one k) ∙ ap suc (n .1) ∙ sym (add-one place))) (λ q. inr (omega (arith, q)))
+    ⊎-elim (λ n. inl (omega (arith, n .0), ap (behind places) (add-one k) ∙ ap suc (n .1) ∙ sym (add-one place)))
+    (λ q. inr (omega (arith, q)))
 
-pub unitless-skip : (ms : List Diagram) (places : List ℕ) (asked k from r : ℕ) → UnitsAsked ms places asked → k ≤ from → from ≤ length ms → Unitless ms from → Skips places asked k from r
+pub unitless-skip : (ms : List Diagram) (places : List ℕ) (asked k from r : ℕ) → UnitsAsked ms places asked → k ≤ from → from ≤ length ms →
+    Unitless ms from → Skips places asked k from r
     → UnitlessTo ms places asked r k
 unitless-skip ms places asked k from r A fewer inside U S =
-    record { most = S .most (length ms) inside (A .0); none = λ j p. go j p (decLt j from); next = S .next; fewer = omega (arith, S .from-on) }
+    record {
+      most = S .most (length ms) inside (A .0);
+      none = λ j p. go j p (decLt j from);
+      next = S .next;
+      fewer =
+          omega (arith, S .from-on);
+    }
   where
     go : (j : ℕ) → j < r → Dec (j < from) → hasUnit 64 64 (getD ms j (leaf false)) ≡ false
     go j p (yes q) = U j q
@@ -171,7 +193,8 @@ module _ (t : List Node) (list : List ℕ) where
   member-is : (i : ℕ) → getD (diagramsOf t list) i (leaf false) ≡ diagramAt t (getD list i 0)
   member-is i = ap (getD (diagramsOf t list) i) (sym (diagramAt-zero t)) ∙ List·getD-map (diagramAt t) list i 0
 
-  pub first-passed : (i : ℕ) → i ≤ length list → Unitless (diagramsOf t list) i → firstWithUnit 64 (diagramsOf t list) ≡ firstWithUnit 64 (diagramsOf t (drop i list))
+  pub first-passed : (i : ℕ) → i ≤ length list → Unitless (diagramsOf t list) i → firstWithUnit 64 (diagramsOf t list)
+      ≡ firstWithUnit 64 (diagramsOf t (drop i list))
   first-passed zero h U = refl
   first-passed (suc i) h U =
       first-passed i (omega arith) (λ k p. U k (omega arith))
@@ -180,14 +203,17 @@ module _ (t : List Node) (list : List ℕ) where
 
 -- ---- the member at a place before which none has a unit
 
-module _ (t : List Node) (list : List ℕ) (i : ℕ) (inside : i < length list) (U : Unitless (diagramsOf t list) i) (u : Literals) (units : UnitsAt 64 t (getD list i 0) u) where
+module _ (t : List Node) (list : List ℕ) (i : ℕ) (inside : i < length list) (U : Unitless (diagramsOf t list) i) (u : Literals)
+    (units : UnitsAt 64 t (getD list i 0) u) where
   pub taken-here : u .positive < 2 ^ 64 → u .negative < 2 ^ 64 → ((u .positive ≡ 0) × (u .negative ≡ 0) → ⊥)
       → UnitsTaken 64 (diagramsOf t list) u × (i ≤ length (diagramsOf t list)) × Unitless (diagramsOf t list) i
   taken-here fits-p fits-n any = (
-    first-here 64 t list i inside (first-passed t list i (omega arith) U) (words-some 64 t (getD list i 0) u units fits-p fits-n any) u units,
+    first-here 64 t list i inside (first-passed t list i (omega arith) U) (words-some 64 t (getD list i 0) u units fits-p fits-n any) u
+        units,
     omega (arith, length-map list (diagramAt t)),
     U,
   )
 
   pub unitless-here : u .positive ≡ 0 → u .negative ≡ 0 → Unitless (diagramsOf t list) (i + 1)
-  unitless-here p q = unitless-next (diagramsOf t list) i U (ap (hasUnit 64 64) (member-is t list i) ∙ words-empty 64 t (getD list i 0) u units p q)
+  unitless-here p q = unitless-next (diagramsOf t list) i U
+      (ap (hasUnit 64 64) (member-is t list i) ∙ words-empty 64 t (getD list i 0) u units p q)

@@ -39,9 +39,11 @@ unit-absent (leaf true) i e v s o n p = refl
 unit-absent (leaf false) i e v s o n p = absurd (n refl)
 unit-absent (node w l h) i e v s o n p =
     rw (ne-eqb w v (λ q. absurd (omega arith)))
-    (sides (same? l (leaf false)) (λ d. unit-absent l (suc w) e v s (o .3) d (omega arith)) (λ d. unit-absent h (suc w) e v s (o .4) d (omega arith)))
+    (sides (same? l (leaf false)) (λ d. unit-absent l (suc w) e v s (o .3) d (omega arith))
+    (λ d. unit-absent h (suc w) e v s (o .4) d (omega arith)))
   where
-    sides : Dec (l ≡ leaf false) → (l ≢ leaf false → unitAt l v s ≡ false) → (h ≢ leaf false → unitAt h v s ≡ false) → ((unitAt l v s && unitAt h v s) || false) ≡ false
+    sides : Dec (l ≡ leaf false) → (l ≢ leaf false → unitAt l v s ≡ false) → (h ≢ leaf false → unitAt h v s ≡ false) →
+        ((unitAt l v s && unitAt h v s) || false) ≡ false
     sides (yes z) low high = rw (high (λ q. o .2 (z ∙ sym q)), and-false (unitAt l v s))
     sides (no d) low high = rw (low d)
 
@@ -50,7 +52,8 @@ unit-absent (node w l h) i e v s o n p =
 -- a number's diagram is 0 exactly where the number is
 zero-number : (t : List Node) → Ordered t → (k : ℕ) → k < length t → same (diagramAt t k) (leaf false) ≡ eqb k 0
 zero-number t O k p = both-ways (same (diagramAt t k) (leaf false)) (eqb k 0)
-    (λ e. eq-eqb k 0 (diagramAt-injective t O k 0 p (omega (arith, O .two)) (same-eq (diagramAt t k) (leaf false) e ∙ sym (diagramAt-zero t))))
+    (λ e. eq-eqb k 0 (diagramAt-injective t O k 0 p (omega (arith, O .two))
+    (same-eq (diagramAt t k) (leaf false) e ∙ sym (diagramAt-zero t))))
     (λ e. eq-same (diagramAt t k) (leaf false) (rw (eqb-true k 0 e) (diagramAt-zero t)))
 
 past-zero : (v side : ℕ) → side ≡ 0 → past v side ≡ v
@@ -82,7 +85,8 @@ or-false false = refl
 pub of-64 : (vs ls hs : List ℕ) (count : ℕ) → Readable vs ls hs count → OfVariables 64 (nodesIn vs ls hs count)
 of-64 vs ls hs count R = diagramAt-reduced (nodesIn vs ls hs count) (ordered-in vs ls hs count R)
 
-module _ (n : ℕ) (vs ls hs : List ℕ) (count : ℕ) (R : Readable vs ls hs count) (narrow : OfVariables n (nodesIn vs ls hs count)) (k : ℕ) (two : 2 ≤ k) (inside : k < count) where
+module _ (n : ℕ) (vs ls hs : List ℕ) (count : ℕ) (R : Readable vs ls hs count) (narrow : OfVariables n (nodesIn vs ls hs count)) (k : ℕ)
+    (two : 2 ≤ k) (inside : k < count) where
   abbrev t : List Node
   t = nodesIn vs ls hs count
 
@@ -115,11 +119,15 @@ module _ (n : ℕ) (vs ls hs : List ℕ) (count : ℕ) (R : Readable vs ls hs co
   unfolding unitAt
   unit-node v s lo hi =
       unit-of k v s inside lo hi ∙ ap (λ (d : Diagram). unitAt d v s) is-node ∙ branches s
-      ∙ ap₂ (λ (x y : Bool). (x && y) || (eqb w v && eqb (cond s l h) 0)) (sym (unit-of l v s (omega (arith, H .low-less)) lo hi)) (sym (unit-of h v s (omega (arith, H .high-less)) lo hi))
+      ∙ ap₂ (λ (x y : Bool). (x && y) || (eqb w v && eqb (cond s l h) 0)) (sym (unit-of l v s (omega (arith, H .low-less)) lo hi))
+      (sym (unit-of h v s (omega (arith, H .high-less)) lo hi))
     where
-      branches : (s : Bool) → unitAt (node w (diagramAt t l) (diagramAt t h)) v s ≡ ((unitAt (diagramAt t l) v s && unitAt (diagramAt t h) v s) || (eqb w v && eqb (cond s l h) 0))
-      branches true = ap (λ (z : Bool). (unitAt (diagramAt t l) v true && unitAt (diagramAt t h) v true) || (eqb w v && z)) (zero-number t O l (within l (omega (arith, H .low-less))))
-      branches false = ap (λ (z : Bool). (unitAt (diagramAt t l) v false && unitAt (diagramAt t h) v false) || (eqb w v && z)) (zero-number t O h (within h (omega (arith, H .high-less))))
+      branches : (s : Bool) → unitAt (node w (diagramAt t l) (diagramAt t h)) v s
+          ≡ ((unitAt (diagramAt t l) v s && unitAt (diagramAt t h) v s) || (eqb w v && eqb (cond s l h) 0))
+      branches true = ap (λ (z : Bool). (unitAt (diagramAt t l) v true && unitAt (diagramAt t h) v true) || (eqb w v && z))
+          (zero-number t O l (within l (omega (arith, H .low-less))))
+      branches false = ap (λ (z : Bool). (unitAt (diagramAt t l) v false && unitAt (diagramAt t h) v false) || (eqb w v && z))
+          (zero-number t O h (within h (omega (arith, H .high-less))))
 
   reduced : Reduced 1 (suc n) (node w (diagramAt t l) (diagramAt t h))
   reduced = rw is-node at (narrow k (within k inside))
@@ -128,15 +136,18 @@ module _ (n : ℕ) (vs ls hs : List ℕ) (count : ℕ) (R : Readable vs ls hs co
   top-within = omega (arith, reduced .1)
 
   -- v's literal is no unit of a side that is not 0 where v is the node's variable or before it
-  side-absent : (j v : ℕ) (s : Bool) → j < count → Reduced (suc w) (suc n) (diagramAt t j) → 1 ≤ v → v ≤ w → j ≢ 0 → isUnit n (diagramAt t j) v s ≡ false
+  side-absent : (j v : ℕ) (s : Bool) → j < count → Reduced (suc w) (suc n) (diagramAt t j) → 1 ≤ v → v ≤ w → j ≢ 0 →
+      isUnit n (diagramAt t j) v s ≡ false
   side-absent j v s p o lo hi some =
       unit-of j v s p lo (omega (arith, reduced .1))
-      ∙ unit-absent (diagramAt t j) (suc w) (suc n) v s o (λ z. some (eqb-true j 0 (sym (zero-number t O j (within j p)) ∙ eq-same (diagramAt t j) (leaf false) z))) (omega arith)
+      ∙ unit-absent (diagramAt t j) (suc w) (suc n) v s o
+      (λ z. some (eqb-true j 0 (sym (zero-number t O j (within j p)) ∙ eq-same (diagramAt t j) (leaf false) z))) (omega arith)
 
   -- the units of the node are what its two edges leave
   pub unit-edges : (v : ℕ) (s : Bool) → 1 ≤ v → v ≤ n
       → isUnit n (diagramAt t k) v s
-      ≡ (leb (past w (cond s l h)) v && ((ltb v (w + 1) || isUnit n (diagramAt t l) v s) && (ltb v (w + 1) || isUnit n (diagramAt t h) v s)))
+      ≡ (leb (past w (cond s l h)) v && ((ltb v (w + 1) || isUnit n (diagramAt t l) v s)
+      && (ltb v (w + 1) || isUnit n (diagramAt t h) v s)))
   unit-edges v s lo hi = go (decLt v w) (ℕ-discrete v w) (ℕ-discrete (cond s l h) 0)
     where
       Ul : Bool
@@ -155,18 +166,30 @@ module _ (n : ℕ) (vs ls hs : List ℕ) (count : ℕ) (R : Readable vs ls hs co
       neither : v ≡ w → (s : Bool) → cond s l h ≢ 0 → (isUnit n (diagramAt t l) v s && isUnit n (diagramAt t h) v s) ≡ false
       neither e true d = rw (side-absent l v true (omega (arith, H .low-less)) (reduced .3) lo (omega arith) d)
       neither e false d =
-          rw (side-absent h v false (omega (arith, H .high-less)) (reduced .4) lo (omega arith) d) (and-false (isUnit n (diagramAt t l) v false))
+          rw (side-absent h v false (omega (arith, H .high-less)) (reduced .4) lo (omega arith) d)
+          (and-false (isUnit n (diagramAt t l) v false))
 
       go : Dec (v < w) → Dec (v ≡ w) → Dec (cond s l h ≡ 0)
           → isUnit n (diagramAt t k) v s ≡ (leb (past w (cond s l h)) v && ((ltb v (w + 1) || Ul) && (ltb v (w + 1) || Uh)))
       go (yes p) e z =
-          below p ∙ sym (ap (λ (x : Bool). x && ((ltb v (w + 1) || Ul) && (ltb v (w + 1) || Uh))) (lt-leb (past w (cond s l h)) v (omega (arith, past-least w (cond s l h)))))
+          below p ∙ sym (ap (λ (x : Bool). x && ((ltb v (w + 1) || Ul) && (ltb v (w + 1) || Uh)))
+          (lt-leb (past w (cond s l h)) v (omega (arith, past-least w (cond s l h)))))
       go (no p) (yes e) (yes z) =
           unit-node v s lo hi
-          ∙ (rw (eq-eqb w v (sym e), eq-eqb (cond s l h) 0 z, past-zero w (cond s l h) z, le-leb w v (omega arith), lt-ltb v (w + 1) (omega arith)) (or-right (Ul && Uh) true refl))
+          ∙ (rw (
+            eq-eqb w v (sym e),
+            eq-eqb (cond s l h) 0 z,
+            past-zero w (cond s l h) z,
+            le-leb w v (omega arith),
+            lt-ltb v (w + 1) (omega arith),
+          ) (or-right (Ul && Uh) true refl))
       go (no p) (yes e) (no d) =
           unit-node v s lo hi
           ∙ (rw (eq-eqb w v (sym e), ne-eqb (cond s l h) 0 d, past-other w (cond s l h) d, lt-leb (w + 1) v (omega arith), neither e s d))
       go (no p) (no d) z =
           unit-node v s lo hi
-          ∙ (rw (ne-eqb w v (λ e. d (sym e)), le-leb (past w (cond s l h)) v (omega (arith, past-most w (cond s l h), d)), le-ltb v (w + 1) (omega (arith, d))) (or-false (Ul && Uh)))
+          ∙ (rw (
+            ne-eqb w v (λ e. d (sym e)),
+            le-leb (past w (cond s l h)) v (omega (arith, past-most w (cond s l h), d)),
+            le-ltb v (w + 1) (omega (arith, d)),
+          ) (or-false (Ul && Uh)))

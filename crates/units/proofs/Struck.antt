@@ -36,9 +36,11 @@ has-struck n u from p q v false a b c d e lo hi = in-without n (u .negative) fro
 
 pub struck-zero : (n : ℕ) (t : List Node) (from : ℕ) (alive : Literals) → Struck n t 0 from alive alive
 unfolding Struck
-struck-zero n t from alive v s lo hi = sym (ap (_&&_ (has alive v s)) (or-right (ltb v from) _ (zero-units n t v s lo hi)) ∙ and-true (has alive v s))
+struck-zero n t from alive v s lo hi = sym (ap (_&&_ (has alive v s)) (or-right (ltb v from) _ (zero-units n t v s lo hi))
+    ∙ and-true (has alive v s))
 
-pub struck-one : (n : ℕ) (t : List Node) (from : ℕ) (alive left : Literals) → 1 ≤ from → left ≡ struckTo n alive from (n + 1) (n + 1) → Struck n t 1 from alive left
+pub struck-one : (n : ℕ) (t : List Node) (from : ℕ) (alive left : Literals) → 1 ≤ from → left ≡ struckTo n alive from (n + 1) (n + 1) →
+    Struck n t 1 from alive left
 unfolding Struck
 struck-one n t from alive left a e v s lo hi =
     ap (λ (u : Literals). has u v s) e
@@ -50,7 +52,8 @@ struck-one n t from alive left a e v s lo hi =
     none false = lt-leb (n + 1) v (omega arith)
 
 -- from all literals the units are left
-pub struck-all : (n : ℕ) (t : List Node) (k : ℕ) (left : Literals) → Struck n t k 1 (record { positive = allWord n; negative = allWord n }) left → UnitsAt n t k left
+pub struck-all : (n : ℕ) (t : List Node) (k : ℕ) (left : Literals) → Struck n t k 1 (record { positive = allWord n; negative = allWord n })
+    left → UnitsAt n t k left
 unfolding Struck UnitsAt has
 struck-all n t k left S v s lo hi = S v s lo hi ∙ ap₂ (λ (x y : Bool). x && (y || isUnit n (diagramAt t k) v s)) (all s) (le-ltb v 1 lo)
   where
@@ -60,23 +63,27 @@ struck-all n t k left S v s lo hi = S v s lo hi ∙ ap₂ (λ (x y : Bool). x &&
 
 -- ---- marks
 
-pub marked-new : (n : ℕ) (t : List Node) (memo : List ℕ) (stamp : ℕ) (alive : Literals) → MarksBelow (length t) memo stamp → Marked n memo t stamp alive
+pub marked-new : (n : ℕ) (t : List Node) (memo : List ℕ) (stamp : ℕ) (alive : Literals) → MarksBelow (length t) memo stamp →
+    Marked n memo t stamp alive
 unfolding Marked
 marked-new n t memo stamp alive M k inside e v s lo hi above h = absurd (omega (arith, M k inside))
 
 -- what is struck of the literals alive leaves the marks right
-pub marked-less : (n : ℕ) (t : List Node) (memo : List ℕ) (stamp k from : ℕ) (alive left : Literals) → Struck n t k from alive left → Marked n memo t stamp alive → Marked n memo t stamp left
+pub marked-less : (n : ℕ) (t : List Node) (memo : List ℕ) (stamp k from : ℕ) (alive left : Literals) → Struck n t k from alive left →
+    Marked n memo t stamp alive → Marked n memo t stamp left
 unfolding Marked Struck
 marked-less n t memo stamp k from alive left S M j inside e v s lo hi above h =
     M j inside e v s lo hi above (and-both (has alive v s) (ltb v from || isUnit n (diagramAt t k) v s) (sym (S v s lo hi) ∙ h) .0)
 
-pub marks-stored : (memo : List ℕ) (count k stamp : ℕ) → k < length memo → MarksBelow count memo (stamp + 1) → MarksBelow count (set memo k stamp) (stamp + 1)
+pub marks-stored : (memo : List ℕ) (count k stamp : ℕ) → k < length memo → MarksBelow count memo (stamp + 1) →
+    MarksBelow count (set memo k stamp) (stamp + 1)
 marks-stored memo count k stamp inside M = stored (λ i x. i < count → x < stamp + 1) memo k stamp inside (λ _. omega arith) (λ i _. M i)
 
 -- ---- a node
 
 -- the Booleans of a literal: whether it is alive, before `from`, left by the node's own variable, above its sides, and a unit of each
-left-both : (A F E X L H : Bool) → (F ≡ true → X ≡ true) → (((A && (F || E)) && (X || L)) && (X || H)) ≡ (A && (F || (E && ((X || L) && (X || H)))))
+left-both : (A F E X L H : Bool) → (F ≡ true → X ≡ true) → (((A && (F || E)) && (X || L)) && (X || H))
+    ≡ (A && (F || (E && ((X || L) && (X || H)))))
 left-both false F E X L H p = refl
 left-both true true E true L H p = refl
 left-both true true E false L H p = t≢f (sym (p refl))
@@ -95,7 +102,8 @@ left-none true true E U p q = refl
 left-none true false true U p q = t≢f q
 left-none true false false U p q = sym (p refl)
 
-module _ (n : ℕ) (vs ls hs : List ℕ) (count : ℕ) (R : Readable vs ls hs count) (narrow : OfVariables n (nodesIn vs ls hs count)) (k : ℕ) (two : 2 ≤ k) (inside : k < count) where
+module _ (n : ℕ) (vs ls hs : List ℕ) (count : ℕ) (R : Readable vs ls hs count) (narrow : OfVariables n (nodesIn vs ls hs count)) (k : ℕ)
+    (two : 2 ≤ k) (inside : k < count) where
   abbrev t : List Node
   t = nodesIn vs ls hs count
 
@@ -126,11 +134,13 @@ module _ (n : ℕ) (vs ls hs : List ℕ) (count : ℕ) (R : Readable vs ls hs co
       side : (j : ℕ) → j < count → w < at t j .var → w + 1 ≤ getD vs j 0
       side j p less = let q : w < getD vs j 0 = rw (node-in vs ls hs count R j p) at less in omega arith
 
-  module _ (from : ℕ) (alive : Literals) (a : Literals) (least : 1 ≤ from) (reached : from ≤ w) (is : a ≡ struckTo n alive from (past w l) (past w h)) where
+  module _ (from : ℕ) (alive : Literals) (a : Literals) (least : 1 ≤ from) (reached : from ≤ w)
+      (is : a ≡ struckTo n alive from (past w l) (past w h)) where
     has-left : (v : ℕ) (s : Bool) → 1 ≤ v → v ≤ n → has a v s ≡ (has alive v s && (ltb v from || leb (past w (cond s l h)) v))
     has-left v s lo hi =
         ap (λ (u : Literals). has u v s) is
-        ∙ has-struck n alive from (past w l) (past w h) v s least (omega (arith, H .least, past-least w l)) (omega (arith, within, past-most w l))
+        ∙ has-struck n alive from (past w l) (past w h) v s least (omega (arith, H .least, past-least w l))
+        (omega (arith, within, past-most w l))
         (omega (arith, H .least, past-least w h)) (omega (arith, within, past-most w h)) lo hi
         ∙ ap (λ (x : ℕ). has alive v s && (ltb v from || leb x v)) (side s)
       where
@@ -155,7 +165,8 @@ module _ (n : ℕ) (vs ls hs : List ℕ) (count : ℕ) (R : Readable vs ls hs co
     struck-node b c B C v s lo hi =
         C v s lo hi ∙ ap (λ (x : Bool). x && (ltb v (w + 1) || isUnit n (diagramAt t h) v s))
         (B v s lo hi ∙ ap (λ (x : Bool). x && (ltb v (w + 1) || isUnit n (diagramAt t l) v s)) (has-left v s lo hi))
-        ∙ left-both (has alive v s) (ltb v from) (leb (past w (cond s l h)) v) (ltb v (w + 1)) (isUnit n (diagramAt t l) v s) (isUnit n (diagramAt t h) v s)
+        ∙ left-both (has alive v s) (ltb v from) (leb (past w (cond s l h)) v) (ltb v (w + 1)) (isUnit n (diagramAt t l) v s)
+        (isUnit n (diagramAt t h) v s)
         (λ e. lt-ltb v (w + 1) (omega (arith, ltb-true v from e)))
         ∙ ap (λ (x : Bool). has alive v s && (ltb v from || x)) (sym (unit-edges n vs ls hs count R narrow k two inside v s lo hi))
 
@@ -175,17 +186,21 @@ module _ (n : ℕ) (vs ls hs : List ℕ) (count : ℕ) (R : Readable vs ls hs co
     unfolding Struck
     struck-none e v s lo hi =
         has-left v s lo hi
-        ∙ left-none (has alive v s) (ltb v from) (leb (past w (cond s l h)) v) (isUnit n (diagramAt t k) v s) (no-unit v s lo hi) (sym (has-left v s lo hi) ∙ has-none a e v s)
+        ∙ left-none (has alive v s) (ltb v from) (leb (past w (cond s l h)) v) (isUnit n (diagramAt t k) v s) (no-unit v s lo hi)
+        (sym (has-left v s lo hi) ∙ has-none a e v s)
 
   -- the node is done with
-  pub marked-stored : (from : ℕ) (alive left : Literals) (memo : List ℕ) (stamp : ℕ) → from ≤ w → k < length memo → Struck n t k from alive left → Marked n memo t stamp left
+  pub marked-stored : (from : ℕ) (alive left : Literals) (memo : List ℕ) (stamp : ℕ) → from ≤ w → k < length memo →
+      Struck n t k from alive left → Marked n memo t stamp left
       → Marked n (set memo k stamp) t stamp left
   unfolding Marked Struck
   marked-stored from alive left memo stamp reached room S M =
-      stored (λ j x. j < length t → x ≡ stamp → (v : ℕ) (s : Bool) → 1 ≤ v → v ≤ n → at t j .var ≤ v → has left v s ≡ true → isUnit n (diagramAt t j) v s ≡ true) memo k stamp room
+      stored (λ j x. j < length t → x ≡ stamp → (v : ℕ) (s : Bool) → 1 ≤ v → v ≤ n → at t j .var ≤ v → has left v s ≡ true →
+      isUnit n (diagramAt t j) v s ≡ true) memo k stamp room
       (λ _ _ v s lo hi above x. unit v s lo hi (rw (node-in vs ls hs count R k inside) at above) x) (λ j _. M j)
     where
       unit : (v : ℕ) (s : Bool) → 1 ≤ v → v ≤ n → w ≤ v → has left v s ≡ true → isUnit n (diagramAt t k) v s ≡ true
       unit v s lo hi above x =
-          let y : (ltb v from || isUnit n (diagramAt t k) v s) ≡ true = and-both (has alive v s) (ltb v from || isUnit n (diagramAt t k) v s) (sym (S v s lo hi) ∙ x) .1 in
+          let y : (ltb v from || isUnit n (diagramAt t k) v s) ≡ true =
+          and-both (has alive v s) (ltb v from || isUnit n (diagramAt t k) v s) (sym (S v s lo hi) ∙ x) .1 in
           sym (ap (λ (z : Bool). z || isUnit n (diagramAt t k) v s) (le-ltb v from (omega arith))) ∙ y

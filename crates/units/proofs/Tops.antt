@@ -31,7 +31,8 @@ unfolding UnitsAt has
 one-known n t v true lo hi = in-none v ∙ sym (one-units n t v true lo hi)
 one-known n t v false lo hi = in-none v ∙ sym (one-units n t v false lo hi)
 
-module _ (n : ℕ) (vs ls hs : List ℕ) (count : ℕ) (R : Readable vs ls hs count) (narrow : OfVariables n (nodesIn vs ls hs count)) (k : ℕ) (two : 2 ≤ k) (inside : k < count) where
+module _ (n : ℕ) (vs ls hs : List ℕ) (count : ℕ) (R : Readable vs ls hs count) (narrow : OfVariables n (nodesIn vs ls hs count)) (k : ℕ)
+    (two : 2 ≤ k) (inside : k < count) where
   abbrev t : List Node
   t = nodesIn vs ls hs count
 
@@ -56,7 +57,8 @@ module _ (n : ℕ) (vs ls hs : List ℕ) (count : ℕ) (R : Readable vs ls hs co
   own : (l ≡ 1) ⊎ (h ≡ 1) → (v : ℕ) (s : Bool) → 1 ≤ v → v ≤ n → inWord (literalWhere w (cond s l h)) v ≡ U k v s
   own one v s lo hi =
       literal-in w (cond s l h) v (here vs ls hs count R k two inside .least) lo
-      ∙ sym (unit-node n vs ls hs count R narrow k two inside v s lo hi ∙ ap (λ (x : Bool). x || (eqb w v && eqb (cond s l h) 0)) (none-common one v s lo hi))
+      ∙ sym (unit-node n vs ls hs count R narrow k two inside v s lo hi
+      ∙ ap (λ (x : Bool). x || (eqb w v && eqb (cond s l h) 0)) (none-common one v s lo hi))
 
   pub top-units : (l ≡ 1) ⊎ (h ≡ 1) → UnitsAt n t k (record { positive = literalWhere w l; negative = literalWhere w h })
   unfolding UnitsAt has

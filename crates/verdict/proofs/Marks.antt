@@ -7,12 +7,13 @@ use mathlib.Core.List.{List, [], _∷_, _++_, append-assoc, append-nil}
 use Prim.Native.Nat.{ℕ, zero, suc, _+_, _-_, _≤_, _<_}
 use native.Mathlib.Omega.{arith}
 use native.Mathlib.Decide.{decLt, ℕ-discrete}
-use lib.ListN.{length, getD, set, replicate, length-append, length-replicate, length-set, List·getD-append, List·getD-eq-default}
+use lib.ListN.{length, getD, set, length-append, length-replicate, length-set, List·getD-append, List·getD-eq-default}
 use lib.Seq.{getD-append-seam, getD-set-same, getD-set-other}
 use lib.Dec.{eqb, ltb}
 use borrow.Author.Tests.{lt-ltb, le-ltb, ltb-true, eq-eqb, ne-eqb}
 use Rattle.meaning.proofs.Booleans.{and-both}
 use Rattle.table.specs.Nodes.{Node}
+use Rattle.table.proofs.Zeros.{zeros-at}
 use Rattle.records.specs.declared.Record.{Record}
 use Rattle.records.specs.declared.Record.the-variants.{NodeEntry, Witness, ProofLine, Strike, SetEntry, End, CutShort, UnknownKind, NoRecord}
 use Rattle.records.specs.Records.{recordAt, lengthOf}
@@ -44,11 +45,6 @@ isIn-append k j (i ∷ js) = go (eqb k i) (isIn-append k j js)
     go : (c : Bool) → isIn k (js ++ j ∷ []) ≡ (isIn k js || eqb k j) → (c || isIn k (js ++ j ∷ [])) ≡ ((c || isIn k js) || eqb k j)
     go true e = refl
     go false e = e
-
-zero-at : (many k : ℕ) → _≡_ {A = ℕ} (getD (replicate many 0) k 0) 0
-zero-at zero k = refl
-zero-at (suc many) zero = refl
-zero-at (suc many) (suc k) = zero-at many k
 
 -- ---- one record
 
@@ -162,7 +158,7 @@ module _ (profile : Bool) (s : ℕ) (text proof : List ℕ) where
     few = omega arith;
     within = omega arith;
     so-far = [];
-    marked = record { long = length-replicate (length ms) 0; among = λ k p. refl; are = λ k. zero-at (length ms) k };
+    marked = record { long = length-replicate (length ms) 0; among = λ k p. refl; are = λ k. zeros-at (length ms) k };
     run = λ j end p. let z : 0 + j ≡ j = omega arith in ap (λ (k : ℕ). strikingsFrom k proof 0 end) z;
   }
 

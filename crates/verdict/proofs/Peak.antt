@@ -126,12 +126,12 @@ module _ (s : ℕ) where
   -- ---- one record
 
   -- A state's peak covers its count and is no more than the places of the table.
-  record Peaked (st : State) : Type 0 where
-    covers : length (st .nodes) ≤ st .peak
-    within : st .peak ≤ s
+  pub record Peaked (st : State) : Type 0 where
+    pub covers : length (st .nodes) ≤ st .peak
+    pub within : st .peak ≤ s
 
   -- What a record comes to: the peak only grows, 23 is given with every place taken, and never where no node was made.
-  abbrev Peaks : State → Step → Type 0
+  abbrev pub Peaks : State → Step → Type 0
   Peaks st (next st′) = Peaked st′ × (st .peak ≤ st′ .peak)
   Peaks st (stop number offset) = number ≢ 23
   Peaks st (spent number peak) = (st .peak ≤ peak) × (peak ≤ s) × (number ≡ 23 → peak ≡ s)
@@ -217,7 +217,7 @@ module _ (s : ℕ) where
         refuses (waiting st) 16 0 _ (λ q. omega arith)
         (refuses more 11 1 _ (λ q. omega arith) (refuses (st .refuted) 0 0 _ (λ q. omega arith) (λ q. omega arith)))
 
-    record-peaks : (more : Bool) (r : Record) → Peaks st (recordStep n s st more r)
+    pub record-peaks : (more : Bool) (r : Record) → Peaks st (recordStep n s st more r)
     unfolding recordStep
     record-peaks more (NodeEntry b) = node-peaks b
     record-peaks more (Witness v b) = witness-peaks v b

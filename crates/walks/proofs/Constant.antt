@@ -91,7 +91,8 @@ module _ (vs ls hs : List ℕ) (count p n : ℕ) (R : Readable vs ls hs count) (
   side-less = side-both (λ j. j < k) (H .low-less) (H .high-less)
 
   is-node : diagramAt t k ≡ node (getD vs k 0) (diagramAt t (getD ls k 0)) (diagramAt t (getD hs k 0))
-  is-node = rw (node-in vs ls hs count R k inside) at (diagramAt-node t (ordered-in vs ls hs count R) k two (omega (arith, length-in vs ls hs count R)))
+  is-node = rw (node-in vs ls hs count R k inside) at
+      (diagramAt-node t (ordered-in vs ls hs count R) k two (omega (arith, length-in vs ls hs count R)))
 
   pub constant-node : oneAt t p n k ≡ (oneAt t p n (S .low .0) && oneAt t p n (S .high .0))
   unfolding oneAt sidesUnder
@@ -112,6 +113,9 @@ module _ (vs ls hs : List ℕ) (count p n : ℕ) (R : Readable vs ls hs count) (
       go : (x y : Bool) → inWord p (getD vs k 0) ≡ x → inWord n (getD vs k 0) ≡ y
           → (let s : SidesUnder = sidesBy x y (getD ls k 0) (getD hs k 0) in
           same (cofactor (node (getD vs k 0) l h)) (leaf true) ≡ (oneAt t p n (s .low .0) && oneAt t p n (s .high .0)))
-      go true y e f = rw (literals-high 64 (inWord p) (inWord n) (getD vs k 0) l h (H .least) (H .most) e) (sym (and-same (same (cofactor h) (leaf true))))
-      go false true e f = rw (literals-low 64 (inWord p) (inWord n) (getD vs k 0) l h (H .least) (H .most) e f) (sym (and-same (same (cofactor l) (leaf true))))
-      go false false e f = rw (literals-branch 64 (inWord p) (inWord n) (getD vs k 0) l h reduced e f) (branch-constant (getD vs k 0) (cofactor l) (cofactor h) true)
+      go true y e f = rw (literals-high 64 (inWord p) (inWord n) (getD vs k 0) l h (H .least) (H .most) e)
+          (sym (and-same (same (cofactor h) (leaf true))))
+      go false true e f = rw (literals-low 64 (inWord p) (inWord n) (getD vs k 0) l h (H .least) (H .most) e f)
+          (sym (and-same (same (cofactor l) (leaf true))))
+      go false false e f = rw (literals-branch 64 (inWord p) (inWord n) (getD vs k 0) l h reduced e f)
+          (branch-constant (getD vs k 0) (cofactor l) (cofactor h) true)

@@ -8,7 +8,8 @@ use lib.ListN.{length, getD, set}
 use lib.Seq.{getD-set-same, getD-set-other}
 
 -- what holds of the entry stored and of every other entry holds of every entry there is
-pub stored : (P : ℕ → ℕ → Type 0) (memo : List ℕ) (s e : ℕ) → s < length memo → P s e → ((i : ℕ) → s ≢ i → P i (getD memo i 0)) → (i : ℕ) → P i (getD (set memo s e) i 0)
+pub stored : (P : ℕ → ℕ → Type 0) (memo : List ℕ) (s e : ℕ) → s < length memo → P s e → ((i : ℕ) → s ≢ i → P i (getD memo i 0)) → (i : ℕ) →
+    P i (getD (set memo s e) i 0)
 stored P memo s e inside new old i = go (ℕ-discrete s i)
   where
     go : Dec (s ≡ i) → P i (getD (set memo s e) i 0)

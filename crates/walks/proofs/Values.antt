@@ -27,7 +27,11 @@ module _ (vs ls hs : List ℕ) (count k w : ℕ) (R : Readable vs ls hs count) (
       let v : 1 + (getD vs k 0 - 1) ≡ getD vs k 0 = omega arith in
       let b : getD (truthFrom 1 64 w) (getD vs k 0 - 1) false ≡ inWord w (getD vs k 0) =
       truth-at 1 64 w (getD vs k 0 - 1) (omega arith) ∙ ap (inWord w) v in
-      rw (diagramAt-node t (ordered-in vs ls hs count R) k two (omega (arith, length-in vs ls hs count R)), node-in vs ls hs count R k inside, b)
+      rw (
+        diagramAt-node t (ordered-in vs ls hs count R) k two (omega (arith, length-in vs ls hs count R)),
+        node-in vs ls hs count R k inside,
+        b,
+      )
 
   pub value-high : w / 2 ^ (getD vs k 0 - 1) % 2 ≡ 1 → valueUnder t (getD hs k 0) w ≡ valueUnder t k w
   unfolding inWord

@@ -17,14 +17,16 @@ use Rattle.words.specs.Sets.{withVariable, has, noLiterals, withLiteral,
 pub in-with : (w x v : ℕ) → 1 ≤ x → 1 ≤ v → inWord (withVariable w x) v ≡ (inWord w v || eqb x v)
 in-with w x v h k = in-or w (2 ^ (x - 1)) v ∙ ap (_||_ (inWord w v)) (in-bit x v h k)
 
-has-with : (u : Literals) (x : ℕ) (t : Bool) (v : ℕ) (s : Bool) → 1 ≤ x → 1 ≤ v → has (withLiteral u x t) v s ≡ (has u v s || (eqb x v && Bool·beq t s))
+has-with : (u : Literals) (x : ℕ) (t : Bool) (v : ℕ) (s : Bool) → 1 ≤ x → 1 ≤ v → has (withLiteral u x t) v s
+    ≡ (has u v s || (eqb x v && Bool·beq t s))
 unfolding has
 has-with u x true v true h k = in-with (u .positive) x v h k ∙ ap (_||_ (inWord (u .positive) v)) (sym (and-true (eqb x v)))
 has-with u x false v false h k = in-with (u .negative) x v h k ∙ ap (_||_ (inWord (u .negative) v)) (sym (and-true (eqb x v)))
 has-with u x true v false h k = sym (ap (_||_ (inWord (u .negative) v)) (and-false (eqb x v)) ∙ or-false (inWord (u .negative) v))
 has-with u x false v true h k = sym (ap (_||_ (inWord (u .positive) v)) (and-false (eqb x v)) ∙ or-false (inWord (u .positive) v))
 
-has-all : (n : ℕ) (u : Literals) (ls : List Literal) (v : ℕ) (s : Bool) → OfVariables n ls → 1 ≤ v → has (withAll u ls) v s ≡ (has u v s || occurs ls v s)
+has-all : (n : ℕ) (u : Literals) (ls : List Literal) (v : ℕ) (s : Bool) → OfVariables n ls → 1 ≤ v → has (withAll u ls) v s
+    ≡ (has u v s || occurs ls v s)
 unfolding withAll occurs
 has-all n u [] v s h k = sym (or-false (has u v s))
 has-all n u (l ∷ ls) v s h k =
@@ -36,10 +38,12 @@ has-all n u (l ∷ ls) v s h k =
 pub has-none : (u : Literals) → bitOr (u .positive) (u .negative) ≡ 0 → (v : ℕ) (s : Bool) → has u v s ≡ false
 unfolding has
 has-none u e v s =
-    let n : (inWord (u .positive) v || inWord (u .negative) v) ≡ false = sym (in-or (u .positive) (u .negative) v) ∙ ap (λ (x : ℕ). inWord x v) e ∙ in-none v in
+    let n : (inWord (u .positive) v || inWord (u .negative) v) ≡ false = sym (in-or (u .positive) (u .negative) v)
+    ∙ ap (λ (x : ℕ). inWord x v) e ∙ in-none v in
     go s (or-neither (inWord (u .positive) v) (inWord (u .negative) v) n)
   where
-    go : (s : Bool) → (inWord (u .positive) v ≡ false) × (inWord (u .negative) v ≡ false) → inWord (cond s (u .positive) (u .negative)) v ≡ false
+    go : (s : Bool) → (inWord (u .positive) v ≡ false) × (inWord (u .negative) v ≡ false) → inWord (cond s (u .positive) (u .negative)) v
+        ≡ false
     go true n = n .0
     go false n = n .1
 

@@ -39,7 +39,8 @@ digit i j = go (decLt j i)
 even-below : (x e j : ℕ) → x * 2 ^ (suc e + j) / 2 ^ j % 2 ≡ 0
 even-below x e j =
     ap (λ (m : ℕ). x * m / 2 ^ j % 2) (pow-add 2 (suc e) j) ∙ ap (λ (m : ℕ). m / 2 ^ j % 2) (sym (mul-assoc x (2 ^ suc e) (2 ^ j)))
-    ∙ ap (λ (m : ℕ). m % 2) (shl-shr (x * 2 ^ suc e) j ∙ ap (λ (m : ℕ). x * m) (pow-suc 2 e) ∙ sym (mul-assoc x (2 ^ e) 2)) ∙ mul-mod-left (x * 2 ^ e) 2
+    ∙ ap (λ (m : ℕ). m % 2) (shl-shr (x * 2 ^ suc e) j ∙ ap (λ (m : ℕ). x * m) (pow-suc 2 e) ∙ sym (mul-assoc x (2 ^ e) 2))
+    ∙ mul-mod-left (x * 2 ^ e) 2
 
 -- the digit j of (2^d − 1)·2^i
 high-digit : (d i j : ℕ) → j < d + i → eqb ((2 ^ d - 1) * 2 ^ i / 2 ^ j % 2) 1 ≡ leb i j
@@ -54,7 +55,8 @@ high-digit d i j inside = go (decLt j i)
     go (no more) =
         let is : j ≡ i + (j - i) = omega arith in
         let over : (2 ^ d - 1) * 2 ^ i / 2 ^ j ≡ (2 ^ d - 1) / 2 ^ (j - i) =
-        ap (λ (k : ℕ). (2 ^ d - 1) * 2 ^ i / 2 ^ k) is ∙ sym (shr-shr ((2 ^ d - 1) * 2 ^ i) i (j - i)) ∙ ap (λ (m : ℕ). m / 2 ^ (j - i)) (shl-shr (2 ^ d - 1) i) in
+        ap (λ (k : ℕ). (2 ^ d - 1) * 2 ^ i / 2 ^ k) is ∙ sym (shr-shr ((2 ^ d - 1) * 2 ^ i) i (j - i))
+        ∙ ap (λ (m : ℕ). m / 2 ^ (j - i)) (shl-shr (2 ^ d - 1) i) in
         rw (over, digit d (j - i), lt-ltb (j - i) d (omega arith), le-leb i j (omega arith))
 
 -- ---- sets
@@ -81,17 +83,20 @@ above-is n i le =
 pub in-above : (n b v : ℕ) → 1 ≤ b → b ≤ n + 1 → 1 ≤ v → v ≤ n → inWord (allWord n - belowWord b) v ≡ leb b v
 unfolding inWord belowWord
 in-above n b v least last one most =
-    ap (λ (w : ℕ). eqb (w / 2 ^ (v - 1) % 2) 1) (above-is n (b - 1) (omega arith)) ∙ high-digit (n - (b - 1)) (b - 1) (v - 1) (omega arith) ∙ go (decLt v b)
+    ap (λ (w : ℕ). eqb (w / 2 ^ (v - 1) % 2) 1) (above-is n (b - 1) (omega arith)) ∙ high-digit (n - (b - 1)) (b - 1) (v - 1) (omega arith)
+    ∙ go (decLt v b)
   where
     go : Dec (v < b) → leb (b - 1) (v - 1) ≡ leb b v
     go (yes p) = rw (lt-leb b v p, lt-leb (b - 1) (v - 1) (omega arith))
     go (no p) = rw (le-leb b v (omega arith), le-leb (b - 1) (v - 1) (omega arith))
 
-pub in-without : (n word from to v : ℕ) → 1 ≤ from → 1 ≤ to → to ≤ n + 1 → 1 ≤ v → v ≤ n → inWord (without n word from to) v ≡ (inWord word v && (ltb v from || leb to v))
+pub in-without : (n word from to v : ℕ) → 1 ≤ from → 1 ≤ to → to ≤ n + 1 → 1 ≤ v → v ≤ n → inWord (without n word from to) v
+    ≡ (inWord word v && (ltb v from || leb to v))
 unfolding without
 in-without n word from to v a b c one most =
     in-and word (bitOr (belowWord from) (allWord n - belowWord to)) v
-    ∙ ap (_&&_ (inWord word v)) (in-or (belowWord from) (allWord n - belowWord to) v ∙ ap₂ _||_ (in-below from v a one) (in-above n to v b c one most))
+    ∙ ap (_&&_ (inWord word v)) (in-or (belowWord from) (allWord n - belowWord to) v
+    ∙ ap₂ _||_ (in-below from v a one) (in-above n to v b c one most))
 
 -- a word that ends before v
 pub none-from : (w v : ℕ) → 1 ≤ v → endsBefore w v ≡ true → (u : ℕ) → v ≤ u → inWord w u ≡ false
@@ -99,7 +104,8 @@ unfolding inWord endsBefore
 none-from w v one e u le =
     let is : u - 1 ≡ (v - 1) + (u - v) = omega arith in
     let none : w / 2 ^ (u - 1) ≡ 0 =
-    ap (λ (k : ℕ). w / 2 ^ k) is ∙ sym (shr-shr w (v - 1) (u - v)) ∙ ap (λ (m : ℕ). m / 2 ^ (u - v)) (eqb-true _ _ e) ∙ zero-div (2 ^ (u - v)) in
+    ap (λ (k : ℕ). w / 2 ^ k) is ∙ sym (shr-shr w (v - 1) (u - v)) ∙ ap (λ (m : ℕ). m / 2 ^ (u - v)) (eqb-true _ _ e)
+    ∙ zero-div (2 ^ (u - v)) in
     rw none
 
 -- ---- words other than 0
@@ -135,7 +141,8 @@ shares-some zero a b v lo hi e = absurd (omega arith)
 shares-some (suc k) a b v lo hi e = go (ℕ-discrete v (suc k)) (λ less. shares-some k a b v lo less e)
   where
     go : Dec (v ≡ suc k) → (v ≤ k → shares k a b ≡ true) → ((inWord a (suc k) && inWord b (suc k)) || shares k a b) ≡ true
-    go (yes q) ih = or-left (inWord a (suc k) && inWord b (suc k)) (shares k a b) (sym (in-and a b (suc k)) ∙ ap (inWord (bitAnd a b)) (sym q) ∙ e)
+    go (yes q) ih = or-left (inWord a (suc k) && inWord b (suc k)) (shares k a b)
+        (sym (in-and a b (suc k)) ∙ ap (inWord (bitAnd a b)) (sym q) ∙ e)
     go (no ne) ih = or-right (inWord a (suc k) && inWord b (suc k)) (shares k a b) (ih (omega arith))
 
 pub shares-none : (k a b : ℕ) → bitAnd a b ≡ 0 → shares k a b ≡ false
@@ -144,12 +151,14 @@ shares-none zero a b e = refl
 shares-none (suc k) a b e = ap₂ _||_ (sym (in-and a b (suc k)) ∙ ap (λ (w : ℕ). inWord w (suc k)) e ∙ in-none (suc k)) (shares-none k a b e)
 
 -- a variable that both have
-pub shares-found : {A : Type 0} (k a b : ℕ) → shares k a b ≡ true → ((v : ℕ) → 1 ≤ v → v ≤ k → inWord a v ≡ true → inWord b v ≡ true → A) → A
+pub shares-found : {A : Type 0} (k a b : ℕ) → shares k a b ≡ true → ((v : ℕ) → 1 ≤ v → v ≤ k → inWord a v ≡ true → inWord b v ≡ true → A) →
+    A
 unfolding shares
 shares-found zero a b e f = t≢f (sym e)
 shares-found (suc k) a b e f =
     or-cases (inWord a (suc k) && inWord b (suc k)) (shares k a b) e
-    (λ t. let x : (inWord a (suc k) ≡ true) × (inWord b (suc k) ≡ true) = and-both (inWord a (suc k)) (inWord b (suc k)) t in f (suc k) (omega arith) (omega arith) (x .0) (x .1))
+    (λ t. let x : (inWord a (suc k) ≡ true) × (inWord b (suc k) ≡ true) = and-both (inWord a (suc k)) (inWord b (suc k)) t in
+    f (suc k) (omega arith) (omega arith) (x .0) (x .1))
     (λ t. shares-found k a b t (λ v lo hi. f v lo (omega arith)))
 
 -- no variable is in both
@@ -157,9 +166,11 @@ pub shares-apart : (k a b : ℕ) → shares k a b ≡ false → (v : ℕ) → 1 
 unfolding shares
 shares-apart zero a b e v lo hi = absurd (omega arith)
 shares-apart (suc k) a b e v lo hi =
-    go (ℕ-discrete v (suc k)) (or-neither (inWord a (suc k) && inWord b (suc k)) (shares k a b) e) (λ t less. shares-apart k a b t v lo less)
+    go (ℕ-discrete v (suc k)) (or-neither (inWord a (suc k) && inWord b (suc k)) (shares k a b) e)
+    (λ t less. shares-apart k a b t v lo less)
   where
-    go : Dec (v ≡ suc k) → ((inWord a (suc k) && inWord b (suc k)) ≡ false) × (shares k a b ≡ false) → (shares k a b ≡ false → v ≤ k → (inWord a v && inWord b v) ≡ false)
+    go : Dec (v ≡ suc k) → ((inWord a (suc k) && inWord b (suc k)) ≡ false) × (shares k a b ≡ false) →
+        (shares k a b ≡ false → v ≤ k → (inWord a v && inWord b v) ≡ false)
         → (inWord a v && inWord b v) ≡ false
     go (yes q) z ih = ap (λ (x : ℕ). inWord a x && inWord b x) q ∙ z .0
     go (no ne) z ih = ih (z .1) (omega arith)

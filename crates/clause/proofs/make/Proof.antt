@@ -9,7 +9,8 @@ use Rattle.clause.proofs.make.Tie as tie
 
 abbrev Inv-loop : tie.InvT-loop
 Inv-loop vars₀ lows₀ highs₀ heads₀ links₀ count positive negative made₀ v₀ vars lows highs heads links made v =
-    Making (tableOf vars₀ lows₀ highs₀ heads₀ links₀ count) (record { positive = positive; negative = negative }) v (outcomeOf vars lows highs heads links made)
+    Making (tableOf vars₀ lows₀ highs₀ heads₀ links₀ count) (record { positive = positive; negative = negative }) v
+    (outcomeOf vars lows highs heads links made)
 
 abbrev μ-loop : tie.MeasureT-loop
 μ-loop vars₀ lows₀ highs₀ heads₀ links₀ count positive negative made₀ v₀ vars lows highs heads links made v =
@@ -77,7 +78,8 @@ module _ (a : tie.After-put Inv-loop μ-loop) where
 
   turn : Turn lent (start-from-put a .args .literals) (at-loop-from-put a .loop .v) left
   turn =
-      make-turn _ (start-from-put a .pre) _ (sym (else1-from-put a .before .shared .ensures) ∙ else1-from-put a .if1 .left) _ (in-loop-from-put a .loop-test .taken) _ (at-loop-from-put a .loop .inv) _ _
+      make-turn _ (start-from-put a .pre) _ (sym (else1-from-put a .before .shared .ensures) ∙ else1-from-put a .if1 .left) _
+      (in-loop-from-put a .loop-test .taken) _ (at-loop-from-put a .loop .inv) _ _
       (side-from-put a .side .ensures) (side2-from-put a .side2 .ensures) _ (a .put .ensures)
 
 shared-requires : tie.Need-shared-requires Inv-loop μ-loop
@@ -104,16 +106,20 @@ same-length : tie.Need-same-length Inv-loop μ-loop
 same-length c = search needs
 
 same-length-2 : tie.Need-same-length-2 Inv-loop μ-loop
-same-length-2 c = let a = put-from-then2 c in omega (arith, a .put .kept, at-loop-from-put a .loop .inv .good, at-loop-from-put a .loop .inv .same-size, start-from-put a .pre)
+same-length-2 c = let a = put-from-then2 c in omega
+    (arith, a .put .kept, at-loop-from-put a .loop .inv .good, at-loop-from-put a .loop .inv .same-size, start-from-put a .pre)
 
 same-length-3 : tie.Need-same-length-3 Inv-loop μ-loop
-same-length-3 c = let a = put-from-then2 c in omega (arith, a .put .kept, at-loop-from-put a .loop .inv .good, at-loop-from-put a .loop .inv .same-size, start-from-put a .pre)
+same-length-3 c = let a = put-from-then2 c in omega
+    (arith, a .put .kept, at-loop-from-put a .loop .inv .good, at-loop-from-put a .loop .inv .same-size, start-from-put a .pre)
 
 same-length-4 : tie.Need-same-length-4 Inv-loop μ-loop
-same-length-4 c = let a = put-from-then2 c in omega (arith, a .put .kept, at-loop-from-put a .loop .inv .good, at-loop-from-put a .loop .inv .same-size, start-from-put a .pre)
+same-length-4 c = let a = put-from-then2 c in omega
+    (arith, a .put .kept, at-loop-from-put a .loop .inv .good, at-loop-from-put a .loop .inv .same-size, start-from-put a .pre)
 
 same-length-5 : tie.Need-same-length-5 Inv-loop μ-loop
-same-length-5 c = let a = put-from-then2 c in omega (arith, a .put .kept, at-loop-from-put a .loop .inv .good, at-loop-from-put a .loop .inv .same-size, start-from-put a .pre)
+same-length-5 c = let a = put-from-then2 c in omega
+    (arith, a .put .kept, at-loop-from-put a .loop .inv .good, at-loop-from-put a .loop .inv .same-size, start-from-put a .pre)
 
 returns-2 : tie.Need-returns-2 Inv-loop μ-loop
 returns-2 c = turn (put-from-then2 c) .last (c .if2 .taken)

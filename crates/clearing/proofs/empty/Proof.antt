@@ -78,8 +78,21 @@ returns c =
     let after-clear-numbers = clear-numbers-from-return c in
     let after-clear-numbers2 = clear-numbers2-from-return c in
     let after-clear-numbers3 = clear-numbers3-from-return c in
-    let after-clear-numbers4 = clear-numbers4-from-return c in
-    (after-clear-bytes .clear-bytes .ensures, (after-clear-numbers .clear-numbers .ensures, (after-clear-numbers2 .clear-numbers2 .ensures, (after-clear-numbers3 .clear-numbers3 .ensures, (after-clear-numbers4 .clear-numbers4 .ensures, c .before .before .clear-numbers5 .ensures)))))
+    let after-clear-numbers4 = clear-numbers4-from-return c in (
+      after-clear-bytes .clear-bytes .ensures,
+      (
+        after-clear-numbers .clear-numbers .ensures,
+        (
+          after-clear-numbers2 .clear-numbers2 .ensures,
+          (
+            after-clear-numbers3 .clear-numbers3 .ensures,
+            (after-clear-numbers4 .clear-numbers4 .ensures, c .before .before .clear-numbers5 .ensures),
+          ),
+        ),
+      ),
+    )
 
 pub empty-spec : {M : Type 1} → statement M
-empty-spec = tie.close (tie.spec clear-bytes-requires clear-numbers-requires clear-numbers-requires-2 clear-numbers-requires-3 clear-numbers-requires-4 clear-numbers-requires-5 same-length same-length-2 same-length-3 same-length-4 same-length-5 same-length-6 returns)
+empty-spec = tie.close (tie.spec clear-bytes-requires clear-numbers-requires clear-numbers-requires-2 clear-numbers-requires-3
+    clear-numbers-requires-4 clear-numbers-requires-5 same-length same-length-2 same-length-3 same-length-4 same-length-5 same-length-6
+    returns)

@@ -20,7 +20,12 @@ module _ (c : tie.After-record-length) where
   start-from-return = record-from-from-return .before .before
 
 add-next : tie.Need-add-next
-add-next c = omega (arith, start-from-return c .pre, c .record-length .ensures, record-short (record-from-from-return c .record-from .result))
+add-next c = omega (
+  arith,
+  start-from-return c .pre,
+  c .record-length .ensures,
+  record-short (record-from-from-return c .record-from .result),
+)
 
 returns : tie.Need-returns
 returns c = record-read-is _ _ _ _ (record-from-from-return c .record-from .ensures) (c .record-length .ensures)

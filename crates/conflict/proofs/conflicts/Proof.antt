@@ -116,11 +116,13 @@ module _ (c : tie.Else1) where
   no-zero : isListed (start-from-else1 c .args .list .now) 0 ≡ false
   no-zero =
       let s = start-from-else1 c in
-      zero-unlisted (nodesOf (table s)) (s .args .list .now) (s .args .asked .now) (s .args .all) (s .pre .1) (sym (has-zero-from-else1 c .has-zero .ensures) ∙ c .if1 .left)
+      zero-unlisted (nodesOf (table s)) (s .args .list .now) (s .args .asked .now) (s .args .all) (s .pre .1)
+      (sym (has-zero-from-else1 c .has-zero .ensures) ∙ c .if1 .left)
 
 -- none asked before the place told has its negation listed
 module _ (c : tie.After-next-negation) where
-  asked-to : let a = start-from-next-negation c .args in NegationsAsked (nodesOf (table (start-from-next-negation c))) (a .list .now) (a .asked .now) (a .all) (c .next-negation .result .place)
+  asked-to : let a = start-from-next-negation c .args in NegationsAsked (nodesOf (table (start-from-next-negation c))) (a .list .now)
+      (a .asked .now) (a .all) (c .next-negation .result .place)
   asked-to =
       let s = start-from-next-negation c in
       let a = s .args in
@@ -132,7 +134,8 @@ module _ (c : tie.After-set-all) where
   marks-are : let s = start-from-set-all c in c .set-all .last .0 ≡ setAll 1 (unmarked (length (s .args .vars .now))) (s .args .list .now)
   marks-are = let s = start-from-set-all c in c .set-all .ensures ∙ ap (λ m. setAll 1 m (s .args .list .now)) (s .pre .0 .1)
 
-  members-marked : let s = start-from-set-all c in Marked (table s) (s .args .list .now) (s .args .asked .now) (c .set-all .last .0) (s .args .all)
+  members-marked : let s = start-from-set-all c in Marked (table s) (s .args .list .now) (s .args .asked .now) (c .set-all .last .0)
+      (s .args .all)
   members-marked =
       let s = start-from-set-all c in
       record { inside = s .pre .0 .0 .inside; marked = marks-are; none = no-zero (else1-from-set-all c); enough = s .pre .1 }
@@ -145,16 +148,22 @@ returns c =
     let s = start-from-then1 c in
     let a = s .args in
     let r = s .pre .0 .0 in (
-      sym (zero-conflicts (nodesOf (table s)) (good-ordered (table s) (r .good)) (a .list .now) (in-nodes (table s) (r .good) (a .list .now) (r .inside))
-          (asked-listed (nodesOf (table s)) (a .list .now) (a .asked .now) (a .all) (s .pre .1) 0 (sym (has-zero-from-then1 c .has-zero .ensures) ∙ c .if1 .taken))),
+      sym (zero-conflicts (nodesOf (table s)) (good-ordered (table s) (r .good)) (a .list .now)
+          (in-nodes (table s) (r .good) (a .list .now) (r .inside))
+          (asked-listed (nodesOf (table s)) (a .list .now) (a .asked .now) (a .all) (s .pre .1) 0
+          (sym (has-zero-from-then1 c .has-zero .ensures) ∙ c .if1 .taken))),
       s .pre .0 .1,
     )
 
 next-negation-requires : tie.Need-next-negation-requires
 next-negation-requires c κs =
     let s = start-from-else1 c in
-    let a = s .args in
-    (s .pre .0 .0 .good, asked-inside (nodesOf (table s)) (a .list .now) (a .asked .now) (a .all) (s .pre .1) (a .count) (s .pre .0 .0 .inside), omega arith)
+    let a = s .args in (
+      s .pre .0 .0 .good,
+      asked-inside (nodesOf (table s)) (a .list .now) (a .asked .now) (a .all) (s .pre .1) (a .count)
+          (s .pre .0 .0 .inside),
+      omega arith,
+    )
 
 returns-2 : tie.Need-returns-2
 returns-2 c =
@@ -164,7 +173,8 @@ returns-2 c =
     let ordered = good-ordered (table s) (r .good) in
     let inside = in-nodes (table s) (r .good) (a .list .now) (r .inside) in (
       sym (others-conflict (nodesOf (table s)) ordered (a .list .now) inside (no-zero (else1-from-then2 c))
-          ∙ none-negated (nodesOf (table s)) (a .list .now) ordered inside (a .asked .now) (a .all) (s .pre .1) (λ k q. asked-to (next-negation-from-then2 c) .none k (omega (arith, c .if2 .taken)))),
+          ∙ none-negated (nodesOf (table s)) (a .list .now) ordered inside (a .asked .now) (a .all) (s .pre .1)
+          (λ k q. asked-to (next-negation-from-then2 c) .none k (omega (arith, c .if2 .taken)))),
       s .pre .0 .1,
     )
 
@@ -178,7 +188,12 @@ some-negated-requires c κs =
     let s = start-from-some-negated-call c in
     let a = s .args in
     let r = s .pre .0 .0 in (
-      record { good = r .good; inside = asked-inside (nodesOf (table s)) (a .list .now) (a .asked .now) (a .all) (s .pre .1) (a .count) (r .inside); room = r .room },
+      record {
+        good = r .good;
+        inside = asked-inside (nodesOf (table s)) (a .list .now) (a .asked .now) (a .all) (s .pre .1) (a .count)
+            (r .inside);
+        room = r .room;
+      },
       next-negation-from-some-negated-call c .next-negation .ensures .0 .most,
       ap length (marks-are (set-all-from-some-negated-call c)) ∙ marked-length (length (a .vars .now)) (a .list .now),
     )
@@ -186,7 +201,8 @@ some-negated-requires c κs =
 set-all-requires-2 : tie.Need-set-all-requires-2
 set-all-requires-2 c κs =
     let s = start-from-set-all-call-2 c in
-    in-marked (table s) (s .pre .0 .0 .good) (s .args .list .now) (s .pre .0 .0 .inside) (set-all-from-set-all-call-2 c .set-all .last .0) (marks-are (set-all-from-set-all-call-2 c))
+    in-marked (table s) (s .pre .0 .0 .good) (s .args .list .now) (s .pre .0 .0 .inside) (set-all-from-set-all-call-2 c .set-all .last .0)
+    (marks-are (set-all-from-set-all-call-2 c))
 
 same-length : tie.Need-same-length
 same-length c = search needs
@@ -201,8 +217,10 @@ returns-3 c =
     let r = s .pre .0 .0 in
     let y = set-all-from-return-3 c in (
       some-negated-from-return-3 c .some-negated .ensures (a .list .now) (members-marked y) (asked-to (next-negation-from-return-3 c))
-          ∙ sym (others-conflict (nodesOf (table s)) (good-ordered (table s) (r .good)) (a .list .now) (in-nodes (table s) (r .good) (a .list .now) (r .inside)) (no-zero (else1-from-return-3 c))),
-      set-all2-from-return-3 c .set-all2 .ensures ∙ ap (λ m. setAll 0 m (a .list .now)) (marks-are y) ∙ none-left (length (a .vars .now)) (a .list .now) (in-size (table s) (r .good) (a .list .now) (r .inside)),
+          ∙ sym (others-conflict (nodesOf (table s)) (good-ordered (table s) (r .good)) (a .list .now)
+          (in-nodes (table s) (r .good) (a .list .now) (r .inside)) (no-zero (else1-from-return-3 c))),
+      set-all2-from-return-3 c .set-all2 .ensures ∙ ap (λ m. setAll 0 m (a .list .now)) (marks-are y)
+          ∙ none-left (length (a .vars .now)) (a .list .now) (in-size (table s) (r .good) (a .list .now) (r .inside)),
     )
 
 pub conflicts-spec : {M : Type 1} → statement M

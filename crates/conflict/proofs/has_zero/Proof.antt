@@ -41,11 +41,16 @@ loop-less c = search needs
 
 -- src/lib.rt:17:5
 loop-again : tie.Need-loop-again Inv-loop μ-loop
-loop-again c = (search needs, c .before .before .before .loop .inv .1 ∙ listed-later _ _ (c .before .before .loop-test .taken) 0 (c .if1 .left))
+loop-again c = (
+  search needs,
+  c .before .before .before .loop .inv .1 ∙ listed-later _ _ (c .before .before .loop-test .taken) 0
+      (c .if1 .left),
+)
 
 -- src/lib.rt:13:1
 returns-2 : tie.Need-returns-2 Inv-loop μ-loop
-returns-2 c = sym (c .before .loop .inv .1 ∙ listed-none (c .before .before .args .list .now) (c .before .loop .i) 0 (omega (arith, c .loop-test .left)))
+returns-2 c = sym (c .before .loop .inv .1 ∙ listed-none (c .before .before .args .list .now) (c .before .loop .i) 0
+    (omega (arith, c .loop-test .left)))
 
 pub has-zero-spec : {M : Type 1} → statement M
 has-zero-spec =

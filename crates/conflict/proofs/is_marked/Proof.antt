@@ -24,7 +24,8 @@ module _ (c : tie.After-shared-slice-known) where
 
 -- src/lib.rt:47:13
 shared-slice-read-result : tie.Need-shared-slice-read-result
-shared-slice-read-result c = subst (FoundInside (length (start-from-return c .args .marks .now))) (found-from-return c .found .given .1) (start-from-return c .pre)
+shared-slice-read-result c = subst (FoundInside (length (start-from-return c .args .marks .now))) (found-from-return c .found .given .1)
+    (start-from-return c .pre)
 
 -- src/lib.rt:49:27
 enum-told : tie.Need-enum-told

@@ -73,7 +73,8 @@ returns-2 : tie.Need-returns-2
 returns-2 c =
     let s = start-from-then2 c in
     zero-negates (table s) (s .pre .0) (s .args .f .0) _ (c .if2 .taken)
-    (subst (Negates (table s) (s .args .f .0)) (at-from-then2 c .at .given .1) (negation-thin-from-then2 c .negation-thin .ensures (not-false _ (else1-from-then2 c .if1 .left))))
+    (subst (Negates (table s) (s .args .f .0)) (at-from-then2 c .at .given .1)
+    (negation-thin-from-then2 c .negation-thin .ensures (not-false _ (else1-from-then2 c .if1 .left))))
 
 enum-told : tie.Need-enum-told
 enum-told c = search needs
@@ -81,12 +82,14 @@ enum-told c = search needs
 returns-3 : tie.Need-returns-3
 returns-3 c =
     let s = start-from-else2 c in
-    subst (Negates (table s) (s .args .f .0)) (at-from-else2 c .at .given .1) (negation-thin-from-else2 c .negation-thin .ensures (not-false _ (else1-from-else2 c .if1 .left)))
+    subst (Negates (table s) (s .args .f .0)) (at-from-else2 c .at .given .1)
+    (negation-thin-from-else2 c .negation-thin .ensures (not-false _ (else1-from-else2 c .if1 .left)))
 
 returns-4 : tie.Need-returns-4
 returns-4 c =
     let s = start-from-return-4 c in
-    let n = subst (Negates (table s) (s .args .f .0)) (c .enum-told .given .1) (negation-thin-from-return-4 c .negation-thin .ensures (not-false _ (else1-from-return-4 c .if1 .left))) in
+    let n = subst (Negates (table s) (s .args .f .0)) (c .enum-told .given .1)
+    (negation-thin-from-return-4 c .negation-thin .ensures (not-false _ (else1-from-return-4 c .if1 .left))) in
     λ k _ p. n k p
 
 pub negation-of-spec : {M : Type 1} → statement M

@@ -123,8 +123,11 @@ shared-slice-read-t16 c = search needs
 
 is-asked-requires : tie.Need-is-asked-requires Inv-loop μ-loop
 is-asked-requires c κs =
-    let s = start-from-is-asked-call c in
-    (good-readable (table s) (s .pre .0), s .pre .1 (at-loop-from-is-asked-call c .loop .i) (in-loop-from-is-asked-call c .loop-test .taken))
+    let s = start-from-is-asked-call c in (
+      good-readable (table s) (s .pre .0),
+      s .pre .1 (at-loop-from-is-asked-call c .loop .i)
+          (in-loop-from-is-asked-call c .loop-test .taken),
+    )
 
 negation-of-requires : tie.Need-negation-of-requires Inv-loop μ-loop
 negation-of-requires c κs =
@@ -146,7 +149,8 @@ loop-again c =
     let a = s .args in
     let w = at-loop-from-loop-again c .loop in
     passed-next (table s) (a .asked .now) (a .all) (a .from) (w .i) (w .inv) (in-loop-from-loop-again c .loop-test .taken)
-    (λ _. subst (NegationSays (table s) (getD (a .asked .now) (w .i) 0)) (c .enum-told .given .1) (negation-of-from-loop-again c .negation-of .ensures))
+    (λ _. subst (NegationSays (table s) (getD (a .asked .now) (w .i) 0)) (c .enum-told .given .1)
+    (negation-of-from-loop-again c .negation-of .ensures))
 
 enum-known-k : tie.Need-enum-known-k Inv-loop μ-loop
 enum-known-k c = search needs
@@ -154,8 +158,14 @@ enum-known-k c = search needs
 returns : tie.Need-returns Inv-loop μ-loop
 returns c =
     let s = start-from-return c in
-    let w = at-loop-from-return c .loop in
-    (w .inv, λ _. (in-loop-from-return c .loop-test .taken, subst (NegationSays (table s) (getD (s .args .asked .now) (w .i) 0)) (k-from-return c .k .given .1) (negation-of-from-return c .negation-of .ensures)))
+    let w = at-loop-from-return c .loop in (
+      w .inv,
+      λ _. (
+        in-loop-from-return c .loop-test .taken,
+        subst (NegationSays (table s) (getD (s .args .asked .now) (w .i) 0))
+            (k-from-return c .k .given .1) (negation-of-from-return c .negation-of .ensures),
+      ),
+    )
 
 enum-told-2 : tie.Need-enum-told-2 Inv-loop μ-loop
 enum-told-2 c = search needs

@@ -141,8 +141,11 @@ shared-slice-read-t21 c = search needs
 
 is-asked-requires : tie.Need-is-asked-requires Inv-loop μ-loop
 is-asked-requires c κs =
-    let s = start-from-is-asked-call c in
-    (good-readable (table s) (s .pre .0 .good), s .pre .0 .inside (at-loop-from-is-asked-call c .loop .i) (in-loop-from-is-asked-call c .loop-test .taken))
+    let s = start-from-is-asked-call c in (
+      good-readable (table s) (s .pre .0 .good),
+      s .pre .0 .inside (at-loop-from-is-asked-call c .loop .i)
+          (in-loop-from-is-asked-call c .loop-test .taken),
+    )
 
 negation-from-requires : tie.Need-negation-from-requires Inv-loop μ-loop
 negation-from-requires c κs =
@@ -159,7 +162,8 @@ is-marked-requires : tie.Need-is-marked-requires Inv-loop μ-loop
 is-marked-requires c κs =
     let s = start-from-is-marked-call c in
     let y = negation-from-from-is-marked-call c .negation-from in
-    subst (λ n. FoundInside n (y .result)) (sym (s .pre .2)) (found-inside (table s) (s .pre .0 .good) (s .args .asked .now) (s .pre .0 .inside) _ (y .result) (y .ensures .0))
+    subst (λ n. FoundInside n (y .result)) (sym (s .pre .2))
+    (found-inside (table s) (s .pre .0 .good) (s .args .asked .now) (s .pre .0 .inside) _ (y .result) (y .ensures .0))
 
 same-length : tie.Need-same-length Inv-loop μ-loop
 same-length c = search needs
@@ -170,7 +174,8 @@ returns c =
     let a = s .args in
     let w = at-loop-from-then2 c .loop in
     let y = negation-from-from-then2 c .negation-from in
-    λ list M N. sym (marked-conflict (table s) (s .pre .0 .good) (a .asked .now) (a .marks .now) (a .all) (a .from) (w .i) (in-loop-from-then2 c .loop-test .taken) (y .result) (y .ensures .0)
+    λ list M N. sym (marked-conflict (table s) (s .pre .0 .good) (a .asked .now) (a .marks .now) (a .all) (a .from) (w .i)
+    (in-loop-from-then2 c .loop-test .taken) (y .result) (y .ensures .0)
     (sym (is-marked-from-then2 c .is-marked .ensures) ∙ c .if2 .taken) list M)
 
 add-i : tie.Need-add-i Inv-loop μ-loop
@@ -190,12 +195,14 @@ loop-again c =
     (λ x. (
       ap length (x .7) ∙ x .2 .kept .1 .1 .1 .1 .1 .0 ∙ w .inv .0,
       subst (λ (m : List ℕ). NegationMemo m (table s)) (sym (x .7)) (x .2 .ensures .1),
-      still-unmarked (table s) (s .pre .0 .good) (a .asked .now) (a .marks .now) (a .all) (a .from) (w .i) p (x .2 .result) (x .2 .ensures .0) (sym (x .5 .ensures) ∙ x .6 .left) (w .inv .2),
+      still-unmarked (table s) (s .pre .0 .good) (a .asked .now) (a .marks .now) (a .all) (a .from) (w .i) p (x .2 .result)
+          (x .2 .ensures .0) (sym (x .5 .ensures) ∙ x .6 .left) (w .inv .2),
     ))
     (λ x. (
       ap length (x .1) ∙ w .inv .0,
       subst (λ (m : List ℕ). NegationMemo m (table s)) (sym (x .1)) (w .inv .1),
-      still-unasked (table s) (s .pre .0 .good) (a .asked .now) (a .marks .now) (a .all) (a .from) (w .i) p (sym (is-asked-from-loop-again c .is-asked .ensures) ∙ x .0 .left) (w .inv .2),
+      still-unasked (table s) (s .pre .0 .good) (a .asked .now) (a .marks .now) (a .all) (a .from) (w .i) p
+          (sym (is-asked-from-loop-again c .is-asked .ensures) ∙ x .0 .left) (w .inv .2),
     ))
     (c .if1 .came)
 
@@ -207,7 +214,8 @@ returns-2 c =
     let s = start-from-return-2 c in
     let a = s .args in
     let w = at-loop-from-return-2 c .loop in
-    λ list M N. sym (still-none (table s) (s .pre .0 .good) (a .asked .now) (a .marks .now) (a .all) (a .from) (w .i) (omega (arith, c .loop-test .left)) (w .inv .2) list M N)
+    λ list M N. sym (still-none (table s) (s .pre .0 .good) (a .asked .now) (a .marks .now) (a .all) (a .from) (w .i)
+    (omega (arith, c .loop-test .left)) (w .inv .2) list M N)
 
 pub rest-negated-spec : {M : Type 1} → statement M
 rest-negated-spec =

@@ -10,7 +10,8 @@ use Rattle.conflict.proofs.set_all.Statement.{statement}
 use Rattle.conflict.proofs.set_all.Tie as tie
 
 abbrev Inv-loop : tie.InvT-loop
-Inv-loop marks₀ list mark i₀ marks i = (length marks ≡ length marks₀) × (i ≤ length list) × (setAll mark marks₀ list ≡ setAll mark marks (drop i list))
+Inv-loop marks₀ list mark i₀ marks i = (length marks ≡ length marks₀) × (i ≤ length list)
+    × (setAll mark marks₀ list ≡ setAll mark marks (drop i list))
 
 abbrev μ-loop : tie.MeasureT-loop
 μ-loop marks₀ list mark i₀ marks i = length list - i
@@ -33,7 +34,8 @@ cast-k c = omega (arith, c .shared-slice-known .given (c .before .before .loop .
 
 -- src/lib.rt:34:9
 slice-write-marks : tie.Need-slice-write-marks Inv-loop μ-loop
-slice-write-marks c = rw (c .before .before .loop .inv .0) (c .before .before .before .pre (c .before .before .loop .i) (c .before .loop-test .taken))
+slice-write-marks c = rw (c .before .before .loop .inv .0)
+    (c .before .before .before .pre (c .before .before .loop .i) (c .before .loop-test .taken))
 
 -- src/lib.rt:35:9
 add-i : tie.Need-add-i Inv-loop μ-loop
@@ -59,7 +61,8 @@ same-length c = search needs
 
 -- src/lib.rt:27:1
 returns : tie.Need-returns Inv-loop μ-loop
-returns c = sym (c .before .loop .inv .2 ∙ set-end (c .before .before .args .mark) (c .before .loop .marks) (c .before .before .args .list .now) (c .before .loop .i) (omega (arith, c .loop-test .left)))
+returns c = sym (c .before .loop .inv .2 ∙ set-end (c .before .before .args .mark) (c .before .loop .marks)
+    (c .before .before .args .list .now) (c .before .loop .i) (omega (arith, c .loop-test .left)))
 
 pub set-all-spec : {M : Type 1} → statement M
 set-all-spec =

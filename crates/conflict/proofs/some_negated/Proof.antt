@@ -49,10 +49,12 @@ module _ (c : tie.After-slice-known2) where
 
 -- none up to the place
 asked-to : (c : tie.After-place)
-    → let a = start-from-place c .args in StillAsked (table (start-from-place c)) (a .asked .now) (a .marks .now) (a .all) (a .from) (c .place .given .0 .0)
+    → let a = start-from-place c .args in StillAsked (table (start-from-place c)) (a .asked .now) (a .marks .now) (a .all) (a .from)
+    (c .place .given .0 .0)
 asked-to c list M N =
     let s = start-from-place c in
-    subst (AskedThin (nodesOf (table s)) list (s .args .asked .now) (s .args .all)) (c .place .given .1) (thin-negated-from-place c .thin-negated .ensures list M N)
+    subst (AskedThin (nodesOf (table s)) list (s .args .asked .now) (s .args .all)) (c .place .given .1)
+    (thin-negated-from-place c .thin-negated .ensures list M N)
 
 thin-negated-requires : tie.Need-thin-negated-requires
 thin-negated-requires c κs = search needs
@@ -67,7 +69,8 @@ returns : tie.Need-returns
 returns c =
     let s = start-from-then1 c in
     let a = s .args in
-    λ list M N. sym (still-none (table s) (s .pre .0 .good) (a .asked .now) (a .marks .now) (a .all) (a .from) _ (c .if1 .taken) (asked-to (place-from-then1 c)) list M N)
+    λ list M N. sym (still-none (table s) (s .pre .0 .good) (a .asked .now) (a .marks .now) (a .all) (a .from) _ (c .if1 .taken)
+    (asked-to (place-from-then1 c)) list M N)
 
 rest-negated-requires : tie.Need-rest-negated-requires
 rest-negated-requires c κs = search needs
@@ -75,7 +78,8 @@ rest-negated-requires c κs = search needs
 returns-2 : tie.Need-returns-2
 returns-2 c =
     let s = start-from-return-2 c in
-    λ list M N. sym (subst (AskedThin (nodesOf (table s)) list (s .args .asked .now) (s .args .all)) (c .enum-told .given .1) (thin-negated-from-return-2 c .thin-negated .ensures list M N))
+    λ list M N. sym (subst (AskedThin (nodesOf (table s)) list (s .args .asked .now) (s .args .all)) (c .enum-told .given .1)
+    (thin-negated-from-return-2 c .thin-negated .ensures list M N))
 
 same-length : tie.Need-same-length
 same-length c = search needs

@@ -94,7 +94,8 @@ module _ (c : tie.After-struct-known3 Inv-loop μ-loop) where
 -- the node found
 module _ (c : tie.Else1 Inv-loop μ-loop) where
   there : (next-negation-from-else1 c .next-negation .result .place < length (start-from-else1 c .args .asked .now))
-      × NegatedBy (table (start-from-else1 c)) (getD (start-from-else1 c .args .asked .now) (next-negation-from-else1 c .next-negation .result .place) 0) (next-negation-from-else1 c .next-negation .result .node .0)
+      × NegatedBy (table (start-from-else1 c)) (getD (start-from-else1 c .args .asked .now)
+      (next-negation-from-else1 c .next-negation .result .place) 0) (next-negation-from-else1 c .next-negation .result .node .0)
   there = next-negation-from-else1 c .next-negation .ensures .1 (not-false _ (c .if1 .left))
 
 loop-holds : tie.Need-loop-holds Inv-loop μ-loop
@@ -108,7 +109,8 @@ returns c =
     let s = start-from-then1 c in
     let a = s .args in
     let w = at-loop-from-then1 c .loop in
-    λ list M N. still-passed (table s) (s .pre .0) (a .asked .now) (a .marks .now) (a .all) (a .from) (w .i) _ (next-negation-from-then1 c .next-negation .ensures .0) (w .inv .1) list M N
+    λ list M N. still-passed (table s) (s .pre .0) (a .asked .now) (a .marks .now) (a .all) (a .from) (w .i) _
+    (next-negation-from-then1 c .next-negation .ensures .0) (w .inv .1) list M N
 
 cast-k : tie.Need-cast-k Inv-loop μ-loop
 cast-k c = search needs
@@ -123,7 +125,8 @@ returns-2 c =
     let s = start-from-then2 c in
     let a = s .args in
     let y = next-negation-from-then2 c .next-negation .result in
-    λ list M N. marked-conflict (table s) (s .pre .0) (a .asked .now) (a .marks .now) (a .all) (a .from) (y .place) (there e .0) (At (y .node)) (there e .1) (eq-eqb _ _ (c .if2 .taken)) list M
+    λ list M N. marked-conflict (table s) (s .pre .0) (a .asked .now) (a .marks .now) (a .all) (a .from) (y .place) (there e .0)
+    (At (y .node)) (there e .1) (eq-eqb _ _ (c .if2 .taken)) list M
 
 length-fits : (c : tie.In-loop Inv-loop μ-loop) → length (start-from-in-loop c .args .asked .now) < 18446744073709551616
 length-fits c = omega arith
@@ -143,8 +146,10 @@ loop-again c =
     let w = at-loop-from-loop-again c .loop in
     let y = next-negation-from-loop-again c .next-negation in (
       omega (arith, there e .0),
-      still-unmarked (table s) (s .pre .0) (a .asked .now) (a .marks .now) (a .all) (a .from) (y .result .place) (there e .0) (At (y .result .node)) (there e .1) (ne-eqb _ _ (else2-from-loop-again c .if2 .left))
-          (still-passed (table s) (s .pre .0) (a .asked .now) (a .marks .now) (a .all) (a .from) (w .i) (y .result .place) (y .ensures .0) (w .inv .1)),
+      still-unmarked (table s) (s .pre .0) (a .asked .now) (a .marks .now) (a .all) (a .from) (y .result .place) (there e .0)
+          (At (y .result .node)) (there e .1) (ne-eqb _ _ (else2-from-loop-again c .if2 .left))
+          (still-passed (table s) (s .pre .0) (a .asked .now) (a .marks .now) (a .all) (a .from) (w .i) (y .result .place) (y .ensures .0)
+          (w .inv .1)),
     )
 
 returns-3 : tie.Need-returns-3 Inv-loop μ-loop

@@ -6,18 +6,21 @@ use native.Mathlib.Omega.{arith}
 use lib.ListN.{length, length-set}
 use borrow.Author.Needs.{needs}
 use Rattle.table.specs.Indexed.{tableOf, Outcome, outcomeOf}
-use Rattle.formula.proofs.Building.{Building, building-start, building-end, building-refused, building-more, building-full, building-next}
+use Rattle.formula.proofs.Building.{Building, building-start, building-end, building-refused, building-more, building-full}
+use Rattle.formula.proofs.Building.{building-next}
 use Rattle.formula.proofs.read_clauses.Statement.{statement}
 use Rattle.formula.proofs.read_clauses.Tie as tie
 
 abbrev Inv-loop : tie.InvT-loop
-Inv-loop vars₀ lows₀ highs₀ heads₀ links₀ members₀ formula variables wanted from count₀ made₀ at₀ vars lows highs heads links members count made at =
+Inv-loop vars₀ lows₀ highs₀ heads₀ links₀ members₀ formula variables wanted from count₀ made₀ at₀ vars lows highs heads links members count
+    made at =
     Building variables wanted from formula (length vars₀) (tableOf vars lows highs heads links count) members made at
     × (length vars ≡ length vars₀) × (length lows ≡ length lows₀) × (length highs ≡ length highs₀) × (length heads ≡ length heads₀)
     × (length links ≡ length links₀) × (length members ≡ length members₀)
 
 abbrev μ-loop : tie.MeasureT-loop
-μ-loop vars₀ lows₀ highs₀ heads₀ links₀ members₀ formula variables wanted from count₀ made₀ at₀ vars lows highs heads links members count made at =
+μ-loop vars₀ lows₀ highs₀ heads₀ links₀ members₀ formula variables wanted from count₀ made₀ at₀ vars lows highs heads links members count
+    made at =
     wanted - made
 
 -- what making the clause leaves
@@ -90,8 +93,15 @@ module _ (c : tie.After-node Inv-loop μ-loop) where
 
 loop-holds : tie.Need-loop-holds Inv-loop μ-loop
 loop-holds c =
-    let start = start-from-loop-holds c in
-    (building-start _ _ _ _ _ (omega (arith, start .pre)) (omega (arith, start .pre)) (omega (arith, start .pre)) _ _ refl (start .pre .0), refl, refl, refl, refl, refl, refl)
+    let start = start-from-loop-holds c in (
+      building-start _ _ _ _ _ (omega (arith, start .pre)) (omega (arith, start .pre)) (omega (arith, start .pre)) _ _ refl (start .pre .0),
+      refl,
+      refl,
+      refl,
+      refl,
+      refl,
+      refl,
+    )
 
 sub-next-clause : tie.Need-sub-next-clause Inv-loop μ-loop
 sub-next-clause c =
@@ -130,8 +140,11 @@ same-length-6 c =
     at-loop-from-return c .loop .inv .6
 
 returns : tie.Need-returns Inv-loop μ-loop
-returns c =
-    (building-end _ _ _ _ _ _ _ _ _ (at-loop-from-return c .loop .inv .0) (sym (c .before .before .next-clause .ensures) ∙ c .enum-told .given .1), (at-loop-from-return c .loop .inv .0) .built)
+returns c = (
+  building-end _ _ _ _ _ _ _ _ _ (at-loop-from-return c .loop .inv .0)
+      (sym (c .before .before .next-clause .ensures) ∙ c .enum-told .given .1),
+  (at-loop-from-return c .loop .inv .0) .built,
+)
 
 enum-known-number : tie.Need-enum-known-number Inv-loop μ-loop
 enum-known-number c =
@@ -169,8 +182,11 @@ same-length-12 c =
 
 returns-2 : tie.Need-returns-2 Inv-loop μ-loop
 returns-2 c =
-    let at-loop = at-loop-from-return-2 c in
-    (building-refused _ _ _ _ _ _ _ _ _ (at-loop .loop .inv .0) _ _ (sym (next-clause-from-return-2 c .next-clause .ensures) ∙ c .before .number .given .1), tt)
+    let at-loop = at-loop-from-return-2 c in (
+      building-refused _ _ _ _ _ _ _ _ _ (at-loop .loop .inv .0) _ _
+          (sym (next-clause-from-return-2 c .next-clause .ensures) ∙ c .before .number .given .1),
+      tt,
+    )
 
 enum-known-c : tie.Need-enum-known-c Inv-loop μ-loop
 enum-known-c c =
@@ -221,8 +237,11 @@ returns-3 c =
     let at-loop = at-loop-from-then1 c in
     let after-next-clause = next-clause-from-then1 c in
     let after-c = c-from-then1 c in
-    let after-make = make-from-then1 c in
-    (building-full _ _ _ _ _ _ _ _ _ (at-loop .loop .inv .0) _ (sym (after-next-clause .next-clause .ensures) ∙ after-c .c .given .1) (left after-make) (after-make .make .ensures) (c .if1 .taken), tt)
+    let after-make = make-from-then1 c in (
+      building-full _ _ _ _ _ _ _ _ _ (at-loop .loop .inv .0) _ (sym (after-next-clause .next-clause .ensures) ∙ after-c .c .given .1)
+          (left after-make) (after-make .make .ensures) (c .if1 .taken),
+      tt,
+    )
 
 mul-members : tie.Need-mul-members Inv-loop μ-loop
 mul-members c =
@@ -234,7 +253,12 @@ slice-write-members c =
     let at-loop = at-loop-from-loop-again c in
     let after-next-clause = next-clause-from-loop-again c in
     let after-c = c-from-loop-again c in
-    omega (arith, (at-loop .loop .inv .0) .limit, (at-loop .loop .inv .0) .room, building-more _ _ _ _ _ _ _ _ _ (at-loop .loop .inv .0) _ (sym (after-next-clause .next-clause .ensures) ∙ after-c .c .given .1))
+    omega (
+      arith,
+      (at-loop .loop .inv .0) .limit,
+      (at-loop .loop .inv .0) .room,
+      building-more _ _ _ _ _ _ _ _ _ (at-loop .loop .inv .0) _ (sym (after-next-clause .next-clause .ensures) ∙ after-c .c .given .1),
+    )
 
 add-made : tie.Need-add-made Inv-loop μ-loop
 add-made c =
@@ -246,15 +270,27 @@ loop-less c =
     let at-loop = at-loop-from-loop-again c in
     let after-next-clause = next-clause-from-loop-again c in
     let after-c = c-from-loop-again c in
-    omega (arith, building-more _ _ _ _ _ _ _ _ _ (at-loop .loop .inv .0) _ (sym (after-next-clause .next-clause .ensures) ∙ after-c .c .given .1))
+    omega (
+      arith,
+      building-more _ _ _ _ _ _ _ _ _ (at-loop .loop .inv .0) _
+          (sym (after-next-clause .next-clause .ensures) ∙ after-c .c .given .1),
+    )
 
 loop-again : tie.Need-loop-again Inv-loop μ-loop
 loop-again c =
     let at-loop = at-loop-from-loop-again c in
     let after-next-clause = next-clause-from-loop-again c in
     let after-c = c-from-loop-again c in
-    let after-make = make-from-loop-again c in
-    (building-next _ _ _ _ _ _ _ _ _ (at-loop .loop .inv .0) _ (sym (after-next-clause .next-clause .ensures) ∙ after-c .c .given .1) (left after-make) (after-make .make .ensures) (c .before .if1 .left), after-make .make .kept .0 ∙ at-loop .loop .inv .1, after-make .make .kept .1 .0 ∙ at-loop .loop .inv .2, after-make .make .kept .1 .1 .0 ∙ at-loop .loop .inv .3, after-make .make .kept .1 .1 .1 .0 ∙ at-loop .loop .inv .4, after-make .make .kept .1 .1 .1 .1 .0 ∙ at-loop .loop .inv .5, length-set (at-loop .loop .members) (at-loop .loop .made) _ ∙ at-loop .loop .inv .6)
+    let after-make = make-from-loop-again c in (
+      building-next _ _ _ _ _ _ _ _ _ (at-loop .loop .inv .0) _ (sym (after-next-clause .next-clause .ensures) ∙ after-c .c .given .1)
+          (left after-make) (after-make .make .ensures) (c .before .if1 .left),
+      after-make .make .kept .0 ∙ at-loop .loop .inv .1,
+      after-make .make .kept .1 .0 ∙ at-loop .loop .inv .2,
+      after-make .make .kept .1 .1 .0 ∙ at-loop .loop .inv .3,
+      after-make .make .kept .1 .1 .1 .0 ∙ at-loop .loop .inv .4,
+      after-make .make .kept .1 .1 .1 .1 .0 ∙ at-loop .loop .inv .5,
+      length-set (at-loop .loop .members) (at-loop .loop .made) _ ∙ at-loop .loop .inv .6,
+    )
 
 pub read-clauses-spec : {M : Type 1} → statement M
 read-clauses-spec =

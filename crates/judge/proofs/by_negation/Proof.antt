@@ -25,7 +25,8 @@ use Rattle.judge.proofs.by_negation.Tie as tie
 
 module _ (s : tie.Start) where
   abbrev before : Table
-  before = tableOf (s .args .vars .now) (s .args .lows .now) (s .args .highs .now) (s .args .heads .now) (s .args .links .now) (s .args .count)
+  before = tableOf (s .args .vars .now) (s .args .lows .now) (s .args .highs .now) (s .args .heads .now) (s .args .links .now)
+      (s .args .count)
 
 -- The ways back, written by ways.py: TO-from-FROM leads from the place FROM of the code to the place TO before it.
 module _ (c : tie.After-copy) where
@@ -160,7 +161,8 @@ module _ (a : tie.After-apply) where
   start = start-from-apply a
 
   abbrev made : Outcome
-  made = outcomeOf (a .apply .last .0) (a .apply .last .1 .0) (a .apply .last .1 .1 .0) (a .apply .last .1 .1 .1 .0) (a .apply .last .1 .1 .1 .1 .0) (a .apply .result)
+  made = outcomeOf (a .apply .last .0) (a .apply .last .1 .0) (a .apply .last .1 .1 .0) (a .apply .last .1 .1 .1 .0)
+      (a .apply .last .1 .1 .1 .1 .0) (a .apply .result)
 
   abbrev memo₁ : List ℕ
   memo₁ = a .apply .last .1 .1 .1 .1 .1 .0
@@ -173,13 +175,16 @@ module _ (a : tie.After-apply) where
 
   -- the members and their words, with g's for not-g
   module _ (e : made .full ≡ false) where
-    members-ready : ListReady (made .table) (start .args .members .now) memo₁ × (made .node < made .table .count) × Allowed Cofactor (made .node)
-    members-ready = cofactors-ready (before start) (start .args .members .now) (start .args .memo .now) (start .args .g .0) (start .pre .0 .0) made made-is e memo₁ memo-length
+    members-ready : ListReady (made .table) (start .args .members .now) memo₁ × (made .node < made .table .count)
+        × Allowed Cofactor (made .node)
+    members-ready = cofactors-ready (before start) (start .args .members .now) (start .args .memo .now) (start .args .g .0)
+        (start .pre .0 .0) made made-is e memo₁ memo-length
 
     worded : (length (start .args .memberwords .now) ≡ length (start .args .members .now))
         × Supports (nodesOf (made .table)) (start .args .members .now) (start .args .memberwords .now)
         × Support (start .args .word) (diagramAt (nodesOf (made .table)) (made .node))
-    worded = negation-words (before start) (start .args .members .now) (start .args .memo .now) (start .args .g .0) (start .pre .0 .0) made made-is e (start .args .memberwords .now) (start .args .word) (start .pre .1 .0)
+    worded = negation-words (before start) (start .args .members .now) (start .args .memo .now) (start .args .g .0) (start .pre .0 .0) made
+        made-is e (start .args .memberwords .now) (start .args .word) (start .pre .1 .0)
 
 copy-requires : tie.Need-copy-requires
 copy-requires c κs =
@@ -197,7 +202,8 @@ apply-requires : tie.Need-apply-requires
 apply-requires c κs =
     let s = start-from-apply-call c in
     let m = clear-memo-from-apply-call c .clear-memo in
-    negation-ready (before s) (s .args .members .now) (s .args .memo .now) (s .args .g .0) (s .pre .0 .0) (m .last .0) (empty-right (m .ensures) Negation (before s))
+    negation-ready (before s) (s .args .members .now) (s .args .memo .now) (s .args .g .0) (s .pre .0 .0) (m .last .0)
+    (empty-right (m .ensures) Negation (before s))
 
 same-length : tie.Need-same-length
 same-length c =
@@ -234,8 +240,11 @@ same-length-8 c =
 returns : tie.Need-returns
 returns c =
     let a = apply-from-then1 c in
-    let s = start a in
-    (negation-full (before s) (s .args .members .now) (s .args .memo .now) (s .args .g .0) (s .pre .0 .0) (made a) (made-is a) (c .if1 .taken) (copy-from-then1 c .copy .last .1 .0), λ z. t≢f z)
+    let s = start a in (
+      negation-full (before s) (s .args .members .now) (s .args .memo .now) (s .args .g .0) (s .pre .0 .0) (made a) (made-is a)
+          (c .if1 .taken) (copy-from-then1 c .copy .last .1 .0),
+      λ z. t≢f z,
+    )
 
 forced-of-requires : tie.Need-forced-of-requires
 unfolding nodesOf
@@ -257,7 +266,13 @@ module _ (c : tie.After-touched-places) where
   copied-length = ap length (copy-words-from-touched-places c .copy-words .ensures) ∙ start-from-touched-places c .pre .1 .0 .lengths
 
   many-there : c .touched-places .result ≤ length (c .touched-places .last .1 .1 .0)
-  many-there = omega (arith, c .touched-places .ensures .0, copied-length, start-from-touched-places c .pre .0 .2, c .touched-places .kept .1 .1 .0)
+  many-there = omega (
+    arith,
+    c .touched-places .ensures .0,
+    copied-length,
+    start-from-touched-places c .pre .0 .2,
+    c .touched-places .kept .1 .1 .0,
+  )
 
   counted : length places-found ≡ c .touched-places .result
   counted = length-take-le _ _ many-there
@@ -268,7 +283,8 @@ slice-aggregate-touched-places c = search needs
 touched-places-requires : tie.Need-touched-places-requires
 touched-places-requires c κs =
     let s = start-from-touched-places-call c in
-    let e : length (copy-words-from-touched-places-call c .copy-words .last .1 .0) ≡ length (s .args .members .now) = ap length (copy-words-from-touched-places-call c .copy-words .ensures) ∙ s .pre .1 .0 .lengths in
+    let e : length (copy-words-from-touched-places-call c .copy-words .last .1 .0) ≡ length (s .args .members .now) =
+    ap length (copy-words-from-touched-places-call c .copy-words .ensures) ∙ s .pre .1 .0 .lengths in
     (omega (arith, e, s .pre .0 .2), omega (arith, e, s .pre .0 .2))
 
 array-share-prefix-places : tie.Need-array-share-prefix-places
@@ -290,15 +306,19 @@ all-by-requires c κs =
     let R = members-ready a e in
     let W = worded a e in
     let D = diagramAt (nodesOf (made a .table)) (made a .node) in (
-      subst (λ l. ListReady (made a .table) l (y .last .1 .1 .1 .0) × (made a .node < made a .table .count) × Allowed Cofactor (made a .node)) (sym (copy-from-all-by-call c .copy .ensures))
+      subst (λ l. ListReady (made a .table) l (y .last .1 .1 .1 .0) × (made a .node < made a .table .count)
+          × Allowed Cofactor (made a .node)) (sym (copy-from-all-by-call c .copy .ensures))
           (record { good = R .0 .good; inside = R .0 .inside; room = omega (arith, R .0 .room, y .kept .1 .1 .1 .0) }, R .1, R .2),
-      subst (λ l. (length words ≡ length l) × Supports (nodesOf (made a .table)) l words × Touches Cofactor D (y .result) × Support (s .args .word) D × AllBut (length l) found (Untouched words (y .result))) (sym (copy-from-all-by-call c .copy .ensures)) (
-        copied-length t,
-        subst (Supports (nodesOf (made a .table)) (s .args .members .now)) (sym (copy-words-from-all-by-call c .copy-words .ensures)) (W .1),
-        y .ensures,
-        W .2,
-        subst (λ n. AllBut n found (Untouched words (y .result))) (copied-length t) (t .touched-places .ensures .1),
-      ),
+      subst (λ l. (length words ≡ length l) × Supports (nodesOf (made a .table)) l words × Touches Cofactor D (y .result)
+          × Support (s .args .word) D × AllBut (length l) found (Untouched words (y .result)))
+          (sym (copy-from-all-by-call c .copy .ensures)) (
+            copied-length t,
+            subst (Supports (nodesOf (made a .table)) (s .args .members .now)) (sym (copy-words-from-all-by-call c .copy-words .ensures))
+                (W .1),
+            y .ensures,
+            W .2,
+            subst (λ n. AllBut n found (Untouched words (y .result))) (copied-length t) (t .touched-places .ensures .1),
+          ),
     )
 
 same-length-9 : tie.Need-same-length-9
@@ -323,7 +343,8 @@ same-length-13 c =
 
 same-length-14 : tie.Need-same-length-14
 same-length-14 c =
-    all-by-from-return-2 c .all-by .kept .1 .1 .1 .1 .1 .0 ∙ forced-of-from-return-2 c .forced-of .kept .1 .1 .1 .0 ∙ apply-from-return-2 c .apply .kept .1 .1 .1 .1 .1 .0 ∙ clear-memo-from-return-2 c .clear-memo .kept .0
+    all-by-from-return-2 c .all-by .kept .1 .1 .1 .1 .1 .0 ∙ forced-of-from-return-2 c .forced-of .kept .1 .1 .1 .0
+    ∙ apply-from-return-2 c .apply .kept .1 .1 .1 .1 .1 .0 ∙ clear-memo-from-return-2 c .clear-memo .kept .0
 
 same-length-15 : tie.Need-same-length-15
 same-length-15 c =
@@ -338,8 +359,13 @@ returns-2 c =
     let a = apply-from-return-2 c in
     let s = start a in
     let b = all-by-from-return-2 c .all-by in (
-      cofactors-made (before s) (s .args .members .now) (s .args .memo .now) (s .args .g .0) (s .pre .0 .0) (made a) (made-is a) (else1-from-return-2 c .if1 .left) (b .result .full) (tableOf (b .last .0) (b .last .1 .0) (b .last .1 .1 .0) (b .last .1 .1 .1 .0) (b .last .1 .1 .1 .1 .0) (b .result .count)) (b .last .1 .1 .1 .1 .1 .1 .0)
-          (subst (λ l. AllMade (made a .table) (results Cofactor (made a .table) l (made a .node)) (b .result .full) (tableOf (b .last .0) (b .last .1 .0) (b .last .1 .1 .0) (b .last .1 .1 .1 .0) (b .last .1 .1 .1 .1 .0) (b .result .count)) (b .last .1 .1 .1 .1 .1 .1 .0)) (copy-from-return-2 c .copy .ensures) (b .ensures .0)),
+      cofactors-made (before s) (s .args .members .now) (s .args .memo .now) (s .args .g .0) (s .pre .0 .0) (made a) (made-is a)
+          (else1-from-return-2 c .if1 .left) (b .result .full)
+          (tableOf (b .last .0) (b .last .1 .0) (b .last .1 .1 .0) (b .last .1 .1 .1 .0) (b .last .1 .1 .1 .1 .0) (b .result .count))
+          (b .last .1 .1 .1 .1 .1 .1 .0)
+          (subst (λ l. AllMade (made a .table) (results Cofactor (made a .table) l (made a .node)) (b .result .full)
+          (tableOf (b .last .0) (b .last .1 .0) (b .last .1 .1 .0) (b .last .1 .1 .1 .0) (b .last .1 .1 .1 .1 .0) (b .result .count))
+          (b .last .1 .1 .1 .1 .1 .1 .0)) (copy-from-return-2 c .copy .ensures) (b .ensures .0)),
       b .ensures .1 .0,
     )
 

@@ -56,4 +56,5 @@ returns c =
     alike-all from (w .to) (w .i) len (omega (arith, c .loop-test .left)) (w .inv .2)
 
 pub copy-words-spec : {M : Type 1} → statement M
-copy-words-spec = tie.close (tie.spec Inv-loop μ-loop loop-holds mul-to shared-slice-read-to mul-to-2 slice-write-to add-i loop-less loop-again same-length returns)
+copy-words-spec = tie.close (tie.spec Inv-loop μ-loop loop-holds mul-to shared-slice-read-to mul-to-2 slice-write-to add-i loop-less
+    loop-again same-length returns)

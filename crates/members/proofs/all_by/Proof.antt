@@ -19,13 +19,17 @@ use Rattle.members.proofs.all_by.Statement.{statement}
 use Rattle.members.proofs.all_by.Tie as tie
 
 abbrev Inv-loop : tie.InvT-loop
-Inv-loop vars₀ lows₀ highs₀ heads₀ links₀ memo₀ list₀ words₀ places count op g gained touching n₀ written₀ k₀ vars lows highs heads links memo list words n written k =
-    Making op (g .0) (tableOf vars₀ lows₀ highs₀ heads₀ links₀ count) list₀ words₀ (tableOf vars lows highs heads links n) list words memo (getD places k (length list₀)) written
-    × (length vars ≡ length vars₀) × (length lows ≡ length lows₀) × (length highs ≡ length highs₀) × (length heads ≡ length heads₀) × (length links ≡ length links₀)
+Inv-loop vars₀ lows₀ highs₀ heads₀ links₀ memo₀ list₀ words₀ places count op g gained touching n₀ written₀ k₀ vars lows highs heads links
+    memo list words n written k =
+    Making op (g .0) (tableOf vars₀ lows₀ highs₀ heads₀ links₀ count) list₀ words₀ (tableOf vars lows highs heads links n) list words memo
+    (getD places k (length list₀)) written
+    × (length vars ≡ length vars₀) × (length lows ≡ length lows₀) × (length highs ≡ length highs₀) × (length heads ≡ length heads₀)
+    × (length links ≡ length links₀)
     × (length memo ≡ length memo₀)
 
 abbrev μ-loop : tie.MeasureT-loop
-μ-loop vars₀ lows₀ highs₀ heads₀ links₀ memo₀ list₀ words₀ places count op g gained touching n₀ written₀ k₀ vars lows highs heads links memo list words n written k = length places - k
+μ-loop vars₀ lows₀ highs₀ heads₀ links₀ memo₀ list₀ words₀ places count op g gained touching n₀ written₀ k₀ vars lows highs heads links memo
+    list words n written k = length places - k
 
 abbrev entry : tie.Start Inv-loop μ-loop → Table
 entry s = let a = s .args in tableOf (a .vars .now) (a .lows .now) (a .highs .now) (a .heads .now) (a .links .now) (a .count)
@@ -143,7 +147,8 @@ module _ (c : tie.In-loop Inv-loop μ-loop) where
       let a = s .args in
       let l = at-loop-from-in-loop c in
       let w = l .loop in
-      subst (λ (x : ℕ). Making (a .op) (a .g .0) (entry s) (a .list .now) (a .words .now) (here l) (w .list) (w .words) (w .memo) x (w .written))
+      subst (λ (x : ℕ). Making (a .op) (a .g .0) (entry s) (a .list .now) (a .words .now) (here l) (w .list) (w .words) (w .memo) x
+      (w .written))
       (getD-inside (a .places .now) (w .k) (length (a .list .now)) 0 (c .loop-test .taken)) (w .inv .0)
 
   this-inside : this < length (at-loop-from-in-loop c .loop .list)
@@ -165,9 +170,12 @@ loop-holds c =
     let a = s .args in
     let r = s .pre in
     let y = clear-memo-from-loop-holds c .clear-memo in (
-      making-to-next (a .op) (a .g .0) (a .gained) (a .touching) (entry s) (a .list .now) (a .words .now) (a .memo .now) (r .0 .0) (r .0 .1) (r .0 .2) (r .1 .0) (r .1 .2) (r .1 .3) (entry s) (a .list .now) (a .words .now) (y .last .0) 0 (a .places .now) (r .1 .4) 0 (omega arith)
+      making-to-next (a .op) (a .g .0) (a .gained) (a .touching) (entry s) (a .list .now) (a .words .now) (a .memo .now) (r .0 .0) (r .0 .1)
+          (r .0 .2) (r .1 .0) (r .1 .2) (r .1 .3) (entry s) (a .list .now) (a .words .now) (y .last .0) 0 (a .places .now) (r .1 .4) 0
+          (omega arith)
           (record {
-            members = replacing-none (a .op) (a .g .0) (entry s) (a .list .now) (a .memo .now) (r .0 .0) (r .0 .1) (y .last .0) (empty-right (y .ensures) (a .op) (entry s));
+            members = replacing-none (a .op) (a .g .0) (entry s) (a .list .now) (a .memo .now) (r .0 .0) (r .0 .1) (y .last .0)
+                (empty-right (y .ensures) (a .op) (entry s));
             supports = r .1 .1;
             rewords = rewording-none (a .words .now);
             counts = counting-none (diagramsOf (nodesOf (entry s)) (a .list .now)) (results (a .op) (entry s) (a .list .now) (a .g .0));
@@ -199,9 +207,12 @@ member-by-requires c κs =
     let w = l .loop in (
       this-inside i,
       omega (arith, so-far i .rewords .lengths, so-far i .members .members, r .1 .0, this-inside i),
-      ready (a .op) (a .g .0) (a .gained) (a .touching) (entry s) (a .list .now) (a .words .now) (a .memo .now) (r .0 .0) (r .0 .1) (r .0 .2) (r .1 .0) (r .1 .2) (r .1 .3) (here l) (w .list) (w .words) (w .memo) (this i) (w .written) (so-far i) (this-inside i),
-      has (a .op) (a .g .0) (a .gained) (a .touching) (entry s) (a .list .now) (a .words .now) (a .memo .now) (r .0 .0) (r .0 .1) (r .0 .2) (r .1 .0) (r .1 .2) (r .1 .3) (here l) (w .list) (w .words) (w .memo) (this i) (w .written) (so-far i) (this-inside i),
-      touches-here (a .op) (a .g .0) (a .gained) (a .touching) (entry s) (a .list .now) (a .words .now) (a .memo .now) (r .0 .0) (r .0 .1) (r .0 .2) (r .1 .0) (r .1 .2) (r .1 .3) (here l) (w .list) (w .words) (w .memo) (this i) (w .written) (so-far i) (this-inside i),
+      ready (a .op) (a .g .0) (a .gained) (a .touching) (entry s) (a .list .now) (a .words .now) (a .memo .now) (r .0 .0) (r .0 .1)
+          (r .0 .2) (r .1 .0) (r .1 .2) (r .1 .3) (here l) (w .list) (w .words) (w .memo) (this i) (w .written) (so-far i) (this-inside i),
+      has (a .op) (a .g .0) (a .gained) (a .touching) (entry s) (a .list .now) (a .words .now) (a .memo .now) (r .0 .0) (r .0 .1) (r .0 .2)
+          (r .1 .0) (r .1 .2) (r .1 .3) (here l) (w .list) (w .words) (w .memo) (this i) (w .written) (so-far i) (this-inside i),
+      touches-here (a .op) (a .g .0) (a .gained) (a .touching) (entry s) (a .list .now) (a .words .now) (a .memo .now) (r .0 .0) (r .0 .1)
+          (r .0 .2) (r .1 .0) (r .1 .2) (r .1 .3) (here l) (w .list) (w .words) (w .memo) (this i) (w .written) (so-far i) (this-inside i),
     )
 
 add-written : tie.Need-add-written Inv-loop μ-loop
@@ -231,7 +242,8 @@ same-length-5 c =
 
 same-length-6 : tie.Need-same-length-6 Inv-loop μ-loop
 same-length-6 c =
-    member-by-from-then1 c .member-by .kept .1 .1 .1 .1 .1 .0 ∙ at-loop-from-then1 c .loop .inv .6 ∙ clear-memo-from-then1 c .clear-memo .kept .0
+    member-by-from-then1 c .member-by .kept .1 .1 .1 .1 .1 .0 ∙ at-loop-from-then1 c .loop .inv .6
+    ∙ clear-memo-from-then1 c .clear-memo .kept .0
 
 same-length-7 : tie.Need-same-length-7 Inv-loop μ-loop
 same-length-7 c =
@@ -250,7 +262,9 @@ returns c =
     let l = at-loop-from-then1 c in
     let w = l .loop in
     let m = member-by-from-then1 c in (
-      stopped (a .op) (a .g .0) (entry s) (a .list .now) (a .memo .now) (r .0 .0) (r .0 .1) (r .0 .2) (here l) (w .list) (w .memo) (this i) (so-far i .members) (this-inside i) (made m) (m .member-by .ensures .0 .outcome) (c .if1 .taken) (m .member-by .last .1 .1 .1 .1 .1 .1 .0),
+      stopped (a .op) (a .g .0) (entry s) (a .list .now) (a .memo .now) (r .0 .0) (r .0 .1) (r .0 .2) (here l) (w .list) (w .memo) (this i)
+          (so-far i .members) (this-inside i) (made m) (m .member-by .ensures .0 .outcome) (c .if1 .taken)
+          (m .member-by .last .1 .1 .1 .1 .1 .1 .0),
       (λ z. t≢f z, λ z. t≢f z),
     )
 
@@ -271,9 +285,17 @@ loop-again c =
     let m = member-by-from-else1 c in
     let y = m .member-by in (
       rw (add-one (w .k))
-          (making-to-next (a .op) (a .g .0) (a .gained) (a .touching) (entry s) (a .list .now) (a .words .now) (a .memo .now) (r .0 .0) (r .0 .1) (r .0 .2) (r .1 .0) (r .1 .2) (r .1 .3) (made m .table) (y .last .1 .1 .1 .1 .1 .1 .0) (y .last .1 .1 .1 .1 .1 .1 .1 .0) (y .last .1 .1 .1 .1 .1 .0) (w .written + y .result .written) (a .places .now) (r .1 .4) (suc (w .k)) (omega (arith, i .loop-test .taken))
-          (subst (λ (x : ℕ). Making (a .op) (a .g .0) (entry s) (a .list .now) (a .words .now) (made m .table) (y .last .1 .1 .1 .1 .1 .1 .0) (y .last .1 .1 .1 .1 .1 .1 .1 .0) (y .last .1 .1 .1 .1 .1 .0) x (w .written + y .result .written)) (add-one (this i))
-          (making-next (a .op) (a .g .0) (a .gained) (a .touching) (entry s) (a .list .now) (a .words .now) (a .memo .now) (r .0 .0) (r .0 .1) (r .0 .2) (r .1 .0) (r .1 .2) (r .1 .3) (here l) (w .list) (w .words) (w .memo) (this i) (w .written) (so-far i) (this-inside i) (y .result) (made m .table) (y .last .1 .1 .1 .1 .1 .1 .0) (y .last .1 .1 .1 .1 .1 .1 .1 .0) (y .last .1 .1 .1 .1 .1 .0) (y .ensures .0) (c .if1 .left) (y .ensures .1)))),
+          (making-to-next (a .op) (a .g .0) (a .gained) (a .touching) (entry s) (a .list .now) (a .words .now) (a .memo .now) (r .0 .0)
+          (r .0 .1) (r .0 .2) (r .1 .0) (r .1 .2) (r .1 .3) (made m .table) (y .last .1 .1 .1 .1 .1 .1 .0)
+          (y .last .1 .1 .1 .1 .1 .1 .1 .0) (y .last .1 .1 .1 .1 .1 .0) (w .written + y .result .written) (a .places .now) (r .1 .4)
+          (suc (w .k)) (omega (arith, i .loop-test .taken))
+          (subst (λ (x : ℕ). Making (a .op) (a .g .0) (entry s) (a .list .now) (a .words .now) (made m .table)
+          (y .last .1 .1 .1 .1 .1 .1 .0) (y .last .1 .1 .1 .1 .1 .1 .1 .0) (y .last .1 .1 .1 .1 .1 .0) x
+          (w .written + y .result .written)) (add-one (this i))
+          (making-next (a .op) (a .g .0) (a .gained) (a .touching) (entry s) (a .list .now) (a .words .now) (a .memo .now) (r .0 .0)
+          (r .0 .1) (r .0 .2) (r .1 .0) (r .1 .2) (r .1 .3) (here l) (w .list) (w .words) (w .memo) (this i) (w .written) (so-far i)
+          (this-inside i) (y .result) (made m .table) (y .last .1 .1 .1 .1 .1 .1 .0) (y .last .1 .1 .1 .1 .1 .1 .1 .0)
+          (y .last .1 .1 .1 .1 .1 .0) (y .ensures .0) (c .if1 .left) (y .ensures .1)))),
       y .kept .0 ∙ w .inv .1,
       y .kept .1 .0 ∙ w .inv .2,
       y .kept .1 .1 .0 ∙ w .inv .3,
@@ -314,11 +336,18 @@ returns-2 c =
     let l = at-loop-from-return-2 c in
     let w = l .loop in
     let i : ℕ = getD (a .places .now) (w .k) (length (a .list .now)) in
-    let t : length (w .list) ≤ i = omega (arith, List·getD-eq-default (a .places .now) (length (a .list .now)) {n = w .k} (omega (arith, c .loop-test .left)), w .inv .0 .members .members) in (
-      all-replaced (a .op) (a .g .0) (entry s) (a .list .now) (a .memo .now) (r .0 .0) (r .0 .1) (here l) (w .list) (w .memo) i (w .inv .0 .members) t,
+    let t : length (w .list) ≤ i = omega (
+      arith,
+      List·getD-eq-default (a .places .now) (length (a .list .now)) {n = w .k}
+          (omega (arith, c .loop-test .left)),
+      w .inv .0 .members .members,
+    ) in (
+      all-replaced (a .op) (a .g .0) (entry s) (a .list .now) (a .memo .now) (r .0 .0) (r .0 .1) (here l) (w .list) (w .memo) i
+          (w .inv .0 .members) t,
       (
         λ z. w .inv .0 .supports,
-        λ z. all-counted (a .op) (a .g .0) (entry s) (a .list .now) (a .memo .now) (r .0 .0) (r .0 .1) (here l) (w .list) (w .memo) i (w .written) (w .inv .0 .members) t (w .inv .0 .counts),
+        λ z. all-counted (a .op) (a .g .0) (entry s) (a .list .now) (a .memo .now) (r .0 .0) (r .0 .1) (here l) (w .list) (w .memo) i
+            (w .written) (w .inv .0 .members) t (w .inv .0 .counts),
       ),
     )
 

@@ -21,7 +21,8 @@ shares : (s : tie.Start) → let a = s .args in Shared (a .op) (bitAnd (a .word)
 shares s =
     let a = s .args in
     let r = s .pre .0 in
-    touched-shared (entry s) (r .good) (a .f .0) (a .g .0) (r .f-inside) (r .g-inside) (a .word) (a .touching) (s .pre .1) (a .op) (s .pre .2)
+    touched-shared (entry s) (r .good) (a .f .0) (a .g .0) (r .f-inside) (r .g-inside) (a .word) (a .touching) (s .pre .1) (a .op)
+    (s .pre .2)
 
 -- The ways back, written by ways.py: TO-from-FROM leads from the place FROM of the code to the place TO before it.
 module _ (c : tie.After-apply-thin-arg5) where
@@ -81,7 +82,9 @@ module _ (c : tie.After-slice-known18) where
   start-from-return-2 = start-from-apply-thin apply-thin-from-return-2
 
 -- where it is wide the table is left as it was
-left : (c : tie.Else1) → let y = apply-thin-from-else1 c .apply-thin in tableOf (y .last .0) (y .last .1 .0) (y .last .1 .1 .0) (y .last .1 .1 .1 .0) (y .last .1 .1 .1 .1 .0) (start-from-else1 c .args .count) ≡ entry (start-from-else1 c)
+left : (c : tie.Else1) → let y = apply-thin-from-else1 c .apply-thin in
+    tableOf (y .last .0) (y .last .1 .0) (y .last .1 .1 .0) (y .last .1 .1 .1 .0) (y .last .1 .1 .1 .1 .0) (start-from-else1 c .args .count)
+    ≡ entry (start-from-else1 c)
 left c = apply-thin-from-else1 c .apply-thin .ensures .1 (not-false _ (c .if1 .left))
 
 apply-thin-requires : tie.Need-apply-thin-requires
@@ -112,8 +115,11 @@ returns c =
     let r = s .pre .0 in
     let y = apply-thin-from-return c .apply-thin in
     let o = outcomeOf (y .last .0) (y .last .1 .0) (y .last .1 .1 .0) (y .last .1 .1 .1 .0) (y .last .1 .1 .1 .1 .0) (y .result .placed) in
-    let e = y .ensures .0 (not-true _ (then1-from-return c .if1 .taken)) in
-    (e, memo-kept (a .op) (a .memo .now) (entry s) (r .right) (o .table) (applied-longer (a .op) (a .memo .now) (entry s) (a .f .0) (a .g .0) r o e))
+    let e = y .ensures .0 (not-true _ (then1-from-return c .if1 .taken)) in (
+      e,
+      memo-kept (a .op) (a .memo .now) (entry s) (r .right) (o .table)
+          (applied-longer (a .op) (a .memo .now) (entry s) (a .f .0) (a .g .0) r o e),
+    )
 
 clear-forgetful-requires : tie.Need-clear-forgetful-requires
 clear-forgetful-requires c κs =
@@ -124,7 +130,8 @@ apply-sharing-requires c κs =
     let s = start-from-apply-sharing-call c in
     let a = s .args in
     let r = s .pre .0 in
-    subst (λ (t : Table). Ready (a .op) (clear-forgetful-from-apply-sharing-call c .clear-forgetful .last .0) t (a .f .0) (a .g .0) × Shared (a .op) (bitAnd (a .word) (a .touching)) t (a .f .0) (a .g .0)) (sym (left (else1-from-apply-sharing-call c))) (
+    subst (λ (t : Table). Ready (a .op) (clear-forgetful-from-apply-sharing-call c .clear-forgetful .last .0) t (a .f .0) (a .g .0)
+    × Shared (a .op) (bitAnd (a .word) (a .touching)) t (a .f .0) (a .g .0)) (sym (left (else1-from-apply-sharing-call c))) (
       record {
         good = r .good;
         f-inside = r .f-inside;
@@ -148,7 +155,8 @@ same-length-9 : tie.Need-same-length-9
 same-length-9 c = apply-sharing-from-return-2 c .apply-sharing .kept .1 .1 .1 .0 ∙ apply-thin-from-return-2 c .apply-thin .kept .1 .1 .1 .0
 
 same-length-10 : tie.Need-same-length-10
-same-length-10 c = apply-sharing-from-return-2 c .apply-sharing .kept .1 .1 .1 .1 .0 ∙ apply-thin-from-return-2 c .apply-thin .kept .1 .1 .1 .1 .0
+same-length-10 c = apply-sharing-from-return-2 c .apply-sharing .kept .1 .1 .1 .1 .0
+    ∙ apply-thin-from-return-2 c .apply-thin .kept .1 .1 .1 .1 .0
 
 same-length-11 : tie.Need-same-length-11
 same-length-11 c = search needs

@@ -79,8 +79,13 @@ module _ (c : tie.Else2) where
 returns : tie.Need-returns
 returns c =
     let a = start-from-return c .args in
-    let y = apply-touching-from-return c .apply-touching in
-    (one-kept (a .op) (tableOf (a .vars .now) (a .lows .now) (a .highs .now) (a .heads .now) (a .links .now) (a .count)) (a .list .now) (a .words .now) (a .g .0) (a .gained) (a .i) (y .result) (tableOf (y .last .0) (y .last .1 .0) (y .last .1 .1 .0) (y .last .1 .1 .1 .0) (y .last .1 .1 .1 .1 .0) (y .result .count)) (y .ensures .0) (⊎-elim (λ s. inl (s .taken)) (λ s. inr (eqb-true _ _ (s .3 .taken))) (c .if1 .came)), y .ensures .1)
+    let y = apply-touching-from-return c .apply-touching in (
+      one-kept (a .op) (tableOf (a .vars .now) (a .lows .now) (a .highs .now) (a .heads .now) (a .links .now) (a .count)) (a .list .now)
+          (a .words .now) (a .g .0) (a .gained) (a .i) (y .result)
+          (tableOf (y .last .0) (y .last .1 .0) (y .last .1 .1 .0) (y .last .1 .1 .1 .0) (y .last .1 .1 .1 .1 .0) (y .result .count))
+          (y .ensures .0) (⊎-elim (λ s. inl (s .taken)) (λ s. inr (eqb-true _ _ (s .3 .taken))) (c .if1 .came)),
+      y .ensures .1,
+    )
 
 mul-list : tie.Need-mul-list
 mul-list c =
@@ -125,8 +130,13 @@ same-length-14 c = search needs
 returns-2 : tie.Need-returns-2
 returns-2 c =
     let a = start-from-else2 c .args in
-    let y = apply-touching-from-else2 c .apply-touching in
-    (one-written (a .op) (tableOf (a .vars .now) (a .lows .now) (a .highs .now) (a .heads .now) (a .links .now) (a .count)) (a .list .now) (a .words .now) (a .g .0) (a .gained) (a .i) (y .result) (tableOf (y .last .0) (y .last .1 .0) (y .last .1 .1 .0) (y .last .1 .1 .1 .0) (y .last .1 .1 .1 .1 .0) (y .result .count)) (y .ensures .0) (else1-from-else2 c .if1 .left) (eqb-false _ _ (c .if2 .left)), y .ensures .1)
+    let y = apply-touching-from-else2 c .apply-touching in (
+      one-written (a .op) (tableOf (a .vars .now) (a .lows .now) (a .highs .now) (a .heads .now) (a .links .now) (a .count)) (a .list .now)
+          (a .words .now) (a .g .0) (a .gained) (a .i) (y .result)
+          (tableOf (y .last .0) (y .last .1 .0) (y .last .1 .1 .0) (y .last .1 .1 .1 .0) (y .last .1 .1 .1 .1 .0) (y .result .count))
+          (y .ensures .0) (else1-from-else2 c .if1 .left) (eqb-false _ _ (c .if2 .left)),
+      y .ensures .1,
+    )
 
 pub member-by-spec : {M : Type 1} → statement M
 member-by-spec =

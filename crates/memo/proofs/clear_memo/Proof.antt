@@ -19,7 +19,8 @@ same-length c = search needs
 returns : tie.Need-returns
 returns c =
     let memo = set (c .args .memo .now) 2 1 in
-    memo-none (set memo 0 0) (omega (arith, length-set memo 0 0, length-set (c .args .memo .now) 2 1, c .pre)) (getD-set-same memo 0 0 0 (omega (arith, length-set (c .args .memo .now) 2 1, c .pre)))
+    memo-none (set memo 0 0) (omega (arith, length-set memo 0 0, length-set (c .args .memo .now) 2 1, c .pre))
+    (getD-set-same memo 0 0 0 (omega (arith, length-set (c .args .memo .now) 2 1, c .pre)))
 
 pub clear-memo-spec : {M : Type 1} → statement M
 clear-memo-spec = tie.close (tie.spec slice-write-memo slice-write-memo-2 same-length returns)

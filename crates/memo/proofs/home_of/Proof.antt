@@ -7,7 +7,8 @@ use Rattle.memo.proofs.home_of.Statement.{statement}
 use Rattle.memo.proofs.home_of.Tie as tie
 
 product-fits : (x m : ℕ) → x < 4294967296 → m ≤ 1048576 → x * m < 18446744073709551616
-product-fits x m less few = let p : x * m ≤ 4294967295 * 1048576 = mul-le-mul {n₁ = x} {m₁ = m} {n₂ = 4294967295} {m₂ = 1048576} (omega arith) few in omega arith
+product-fits x m less few = let p : x * m ≤ 4294967295 * 1048576 = mul-le-mul {n₁ = x} {m₁ = m} {n₂ = 4294967295} {m₂ = 1048576}
+    (omega arith) few in omega arith
 
 scaled : (x m : ℕ) → x < 4294967296 → x * m / 4294967296 ≤ m
 scaled x m less = div-le-of-le-mul 4294967296 (mul-le-mul-right m (omega arith))

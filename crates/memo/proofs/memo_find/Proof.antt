@@ -60,7 +60,8 @@ returns-3 c =
     let a = s .args in
     let y = c .told-by .ensures in
     subst (Tells (a .memo .now) (a .f .0) (a .g .0)) (sym (y .0))
-    (cell-tells (a .memo .now) (cell-of-from-return-3 c .cell-of .result) (a .f .0) (a .g .0) (else3-from-return-3 c .if3 .left) (y .1) (s .pre .1))
+    (cell-tells (a .memo .now) (cell-of-from-return-3 c .cell-of .result) (a .f .0) (a .g .0) (else3-from-return-3 c .if3 .left) (y .1)
+    (s .pre .1))
 
 pub memo-find-spec : {M : Type 1} → statement M
 memo-find-spec =

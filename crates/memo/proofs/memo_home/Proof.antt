@@ -52,7 +52,8 @@ returns-2 c =
     let a = start-from-return-2 c .args in
     let y = c .told-by .ensures in
     subst (Tells (a .memo .now) (a .f .0) (a .g .0)) (sym (y .0))
-    (cell-tells (a .memo .now) (home-of-from-return-2 c .home-of .result) (a .f .0) (a .g .0) (omega (arith, else1-from-return-2 c .if1 .left)) (y .1) (ltb-false _ _ (else2-from-return-2 c .if2 .left)))
+    (cell-tells (a .memo .now) (home-of-from-return-2 c .home-of .result) (a .f .0) (a .g .0)
+    (omega (arith, else1-from-return-2 c .if1 .left)) (y .1) (ltb-false _ _ (else2-from-return-2 c .if2 .left)))
 
 pub memo-home-spec : {M : Type 1} → statement M
 memo-home-spec =

@@ -98,7 +98,12 @@ mul-memo-3 c = search needs
 slice-write-memo-2 : tie.Need-slice-write-memo-2
 slice-write-memo-2 c =
     let m = make-room-from-return-3 c .make-room in
-    omega (arith, length-set (m .last .0) 1 (wrapping-add-u64-from-return-3 c .wrapping-add-u64 .result), m .ensures .shaped .room, else2-from-return-3 c .if2 .left)
+    omega (
+      arith,
+      length-set (m .last .0) 1 (wrapping-add-u64-from-return-3 c .wrapping-add-u64 .result),
+      m .ensures .shaped .room,
+      else2-from-return-3 c .if2 .left,
+    )
 
 same-length-2 : tie.Need-same-length-2
 same-length-2 c = search needs
@@ -107,7 +112,9 @@ returns-3 : tie.Need-returns-3
 returns-3 c =
     let s = start-from-return-3 c in
     let m = make-room-from-return-3 c .make-room in
-    memo-stored (s .args .memo .now) (m .last .0) (m .ensures) (wrapping-add-u64-from-return-3 c .wrapping-add-u64 .result) (cell-for-from-return-3 c .cell-for .result) (s .args .f .0) (s .args .g .0) (s .args .r .0) (else2-from-return-3 c .if2 .left) (omega (arith, c .before .struct-known2 .given)) (omega (arith, c .struct-known3 .given))
+    memo-stored (s .args .memo .now) (m .last .0) (m .ensures) (wrapping-add-u64-from-return-3 c .wrapping-add-u64 .result)
+    (cell-for-from-return-3 c .cell-for .result) (s .args .f .0) (s .args .g .0) (s .args .r .0) (else2-from-return-3 c .if2 .left)
+    (omega (arith, c .before .struct-known2 .given)) (omega (arith, c .struct-known3 .given))
 
 pub memo-put-spec : {M : Type 1} → statement M
 memo-put-spec =

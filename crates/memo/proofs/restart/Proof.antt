@@ -53,7 +53,8 @@ returns : tie.Need-returns Inv-loop μ-loop
 returns c =
     let w = c .before .loop in
     let s = c .before .before in
-    memo-zeros (w .memo) (s .args .n) (s .args .step) (omega (arith, w .inv .0, s .pre .0)) (s .pre .1) (λ k p. w .inv .1 k (omega (arith, c .loop-test .left)))
+    memo-zeros (w .memo) (s .args .n) (s .args .step) (omega (arith, w .inv .0, s .pre .0)) (s .pre .1)
+    (λ k p. w .inv .1 k (omega (arith, c .loop-test .left)))
 
 pub restart-spec : {M : Type 1} → statement M
 restart-spec =

@@ -40,7 +40,8 @@ callees t = (negation-thin-below t, negation-thin.Post, lookup-reads.Asked, look
 -- where it starts
 module _ {t : ℕ} (s : negation-thin-lts.Start (callees t) (negation-thin-at t) negation-thin.Post) where
   abbrev table : Table
-  table = tableOf (s .args .vars .now) (s .args .lows .now) (s .args .highs .now) (s .args .heads .now) (s .args .links .now) (s .args .count)
+  table = tableOf (s .args .vars .now) (s .args .lows .now) (s .args .highs .now) (s .args .heads .now) (s .args .links .now)
+      (s .args .count)
 
   good : Good table
   good = s .pre .1 .0
@@ -159,7 +160,8 @@ module _ {t : ℕ} (e : negation-thin-lts.Else2 (callees t) (negation-thin-at t)
   two : 2 ≤ start-from-else2 e .args .f .0
   two = omega (arith, else1-from-else2 e .if1 .left, e .if2 .left)
 
-  at-node : Here (start-from-else2 e .args .vars .now) (start-from-else2 e .args .lows .now) (start-from-else2 e .args .highs .now) (start-from-else2 e .args .count) (start-from-else2 e .args .f .0)
+  at-node : Here (start-from-else2 e .args .vars .now) (start-from-else2 e .args .lows .now) (start-from-else2 e .args .highs .now)
+      (start-from-else2 e .args .count) (start-from-else2 e .args .f .0)
   at-node = here _ _ _ _ (good-readable (table (start-from-else2 e)) (good (start-from-else2 e))) _ two (inside (start-from-else2 e))
 
 negation-thin-returns : (t : ℕ) → negation-thin-lts.Need-returns (callees t) (negation-thin-at t) negation-thin.Post
@@ -181,19 +183,24 @@ negation-thin-shared-slice-read-v t c = let s = start-from-shared-slice-read-v c
 negation-thin-mul-t25 : (t : ℕ) → negation-thin-lts.Need-mul-t25 (callees t) (negation-thin-at t) negation-thin.Post
 negation-thin-mul-t25 t c = search needs
 
-negation-thin-shared-slice-read-t27 : (t : ℕ) → negation-thin-lts.Need-shared-slice-read-t27 (callees t) (negation-thin-at t) negation-thin.Post
-negation-thin-shared-slice-read-t27 t c = let s = start-from-shared-slice-read-t27 c in omega (arith, inside s, good s .within, good s .lows)
+negation-thin-shared-slice-read-t27 : (t : ℕ) → negation-thin-lts.Need-shared-slice-read-t27 (callees t) (negation-thin-at t)
+    negation-thin.Post
+negation-thin-shared-slice-read-t27 t c = let s = start-from-shared-slice-read-t27 c in
+    omega (arith, inside s, good s .within, good s .lows)
 
 negation-thin-mul-t25-2 : (t : ℕ) → negation-thin-lts.Need-mul-t25-2 (callees t) (negation-thin-at t) negation-thin.Post
 negation-thin-mul-t25-2 t c = search needs
 
-negation-thin-shared-slice-read-t27-2 : (t : ℕ) → negation-thin-lts.Need-shared-slice-read-t27-2 (callees t) (negation-thin-at t) negation-thin.Post
-negation-thin-shared-slice-read-t27-2 t c = let s = start-from-shared-slice-read-t27-2 c in omega (arith, inside s, good s .within, good s .highs)
+negation-thin-shared-slice-read-t27-2 : (t : ℕ) → negation-thin-lts.Need-shared-slice-read-t27-2 (callees t) (negation-thin-at t)
+    negation-thin.Post
+negation-thin-shared-slice-read-t27-2 t c = let s = start-from-shared-slice-read-t27-2 c in
+    omega (arith, inside s, good s .within, good s .highs)
 
 negation-thin-returns-3 : (t : ℕ) → negation-thin-lts.Need-returns-3 (callees t) (negation-thin-at t) negation-thin.Post
 negation-thin-returns-3 t c = λ z. t≢f (sym z)
 
-negation-thin-negation-thin-requires : (t : ℕ) → negation-thin-lts.Need-negation-thin-requires (callees t) (negation-thin-at t) negation-thin.Post
+negation-thin-negation-thin-requires : (t : ℕ) → negation-thin-lts.Need-negation-thin-requires (callees t) (negation-thin-at t)
+    negation-thin.Post
 negation-thin-negation-thin-requires t c κs =
     let e = else2-from-negation-thin-call c in
     let s = start-from-else2 e in
@@ -208,7 +215,8 @@ negation-thin-enum-told t c = search needs
 negation-thin-enum-known-low-at : (t : ℕ) → negation-thin-lts.Need-enum-known-low-at (callees t) (negation-thin-at t) negation-thin.Post
 negation-thin-enum-known-low-at t c = search needs
 
-negation-thin-negation-thin-requires-2 : (t : ℕ) → negation-thin-lts.Need-negation-thin-requires-2 (callees t) (negation-thin-at t) negation-thin.Post
+negation-thin-negation-thin-requires-2 : (t : ℕ) → negation-thin-lts.Need-negation-thin-requires-2 (callees t) (negation-thin-at t)
+    negation-thin.Post
 negation-thin-negation-thin-requires-2 t c κs =
     let e = else2-from-negation-thin-call-2 c in
     let s = start-from-else2 e in
@@ -232,7 +240,8 @@ negation-thin-returns-6 t c =
     let s = start-from-else2 e in
     let a = negation-thin-from-return-6 c .negation-thin in
     λ z. subst (Negates (table s) (s .args .f .0)) (sym (c .enum-told .given .1))
-    (negates-low (table s) (good s) (s .args .f .0) (two e) (inside s) (subst (Negates (table s) _) (c .enum-told .given .1) (a .ensures z)))
+    (negates-low (table s) (good s) (s .args .f .0) (two e) (inside s)
+    (subst (Negates (table s) _) (c .enum-told .given .1) (a .ensures z)))
 
 negation-thin-returns-7 : (t : ℕ) → negation-thin-lts.Need-returns-7 (callees t) (negation-thin-at t) negation-thin.Post
 negation-thin-returns-7 t c =
@@ -240,7 +249,8 @@ negation-thin-returns-7 t c =
     let s = start-from-else2 e in
     let b = negation-thin2-from-return-7 c .negation-thin2 in
     λ z. subst (Negates (table s) (s .args .f .0)) (sym (c .enum-told2 .given .1))
-    (negates-high (table s) (good s) (s .args .f .0) (two e) (inside s) (subst (Negates (table s) _) (c .enum-told2 .given .1) (b .ensures z)))
+    (negates-high (table s) (good s) (s .args .f .0) (two e) (inside s)
+    (subst (Negates (table s) _) (c .enum-told2 .given .1) (b .ensures z)))
 
 negation-thin-returns-8 : (t : ℕ) → negation-thin-lts.Need-returns-8 (callees t) (negation-thin-at t) negation-thin.Post
 negation-thin-returns-8 t c =
@@ -250,7 +260,8 @@ negation-thin-returns-8 t c =
     let b = negation-thin2-from-return-8 c .negation-thin2 in
     λ _. negates-lookup (table s) (good s) (s .args .f .0) (two e) (inside s) _ _ _
     (subst (Negates (table s) _) (low-at-from-return-8 c .low-at .given .1) (a .ensures (not-false _ (else5-from-return-8 c .if5 .left))))
-    (subst (Negates (table s) _) (high-at-from-return-8 c .high-at .given .1) (b .ensures (not-false _ (else6-from-return-8 c .if6 .left)))) (c .lookup .ensures)
+    (subst (Negates (table s) _) (high-at-from-return-8 c .high-at .given .1) (b .ensures (not-false _ (else6-from-return-8 c .if6 .left))))
+    (c .lookup .ensures)
 
 pub +negation-thin-spec : {M : Type 1} → statement M
 +negation-thin-spec = close μ-negation-thin λ t. negation-thin-lts.spec

@@ -16,8 +16,11 @@ module _ (c : tie.After-slice-known12) where
 apply-sharing-requires : tie.Need-apply-sharing-requires
 apply-sharing-requires c κs =
     let a = start-from-apply-sharing-call c .args in
-    let r = start-from-apply-sharing-call c .pre in
-    (r, all-shared (tableOf (a .vars .now) (a .lows .now) (a .highs .now) (a .heads .now) (a .links .now) (a .count)) (r .good) (a .f .0) (a .g .0) (r .f-inside) (r .g-inside) (a .op))
+    let r = start-from-apply-sharing-call c .pre in (
+      r,
+      all-shared (tableOf (a .vars .now) (a .lows .now) (a .highs .now) (a .heads .now) (a .links .now) (a .count)) (r .good) (a .f .0)
+          (a .g .0) (r .f-inside) (r .g-inside) (a .op),
+    )
 
 same-length : tie.Need-same-length
 same-length c = apply-sharing-from-return c .apply-sharing .kept .0

@@ -40,7 +40,8 @@ module _ (c : tie.After-slice-known12) where
 -- the operation, of what was taken from it
 module _ (c : tie.After-by-of) where
   same : operationOf (kind-of-from-by-of c .kind-of .result) (c .by-of .result) ≡ start-from-by-of c .args .op
-  same = whole-again (start-from-by-of c .args .op) (start-from-by-of c .args .shared) _ _ (kind-of-from-by-of c .kind-of .ensures) (c .by-of .ensures)
+  same = whole-again (start-from-by-of c .args .op) (start-from-by-of c .args .shared) _ _ (kind-of-from-by-of c .kind-of .ensures)
+      (c .by-of .ensures)
 
 kind-of-requires : tie.Need-kind-of-requires
 kind-of-requires c κs = search needs
@@ -54,7 +55,8 @@ work-out-requires c κs =
     let b = by-of-from-work-out-call c in
     let before = tableOf (a .vars .now) (a .lows .now) (a .highs .now) (a .heads .now) (a .links .now) (a .count) in (
       subst (λ (op : Operation). Ready op (a .memo .now) before (a .f .0) (a .g .0)) (sym (same b)) (start-from-work-out-call c .pre .0),
-      shared-again (a .op) (a .shared) _ _ (kind-of-from-by-of b .kind-of .ensures) (b .by-of .ensures) before (a .f .0) (a .g .0) (start-from-work-out-call c .pre .1),
+      shared-again (a .op) (a .shared) _ _ (kind-of-from-by-of b .kind-of .ensures) (b .by-of .ensures) before (a .f .0) (a .g .0)
+          (start-from-work-out-call c .pre .1),
     )
 
 same-length : tie.Need-same-length
@@ -80,7 +82,8 @@ returns c =
     let a = start-from-return c .args in
     let y = work-out-from-return c .work-out in
     let before : Table = tableOf (a .vars .now) (a .lows .now) (a .highs .now) (a .heads .now) (a .links .now) (a .count) in
-    let out : Outcome = outcomeOf (y .last .0) (y .last .1 .0) (y .last .1 .1 .0) (y .last .1 .1 .1 .0) (y .last .1 .1 .1 .1 .0) (y .result) in (
+    let out : Outcome = outcomeOf (y .last .0) (y .last .1 .0) (y .last .1 .1 .0) (y .last .1 .1 .1 .0) (y .last .1 .1 .1 .1 .0) (y .result)
+    in (
       subst (λ (op : Operation). out ≡ applied before op (a .f .0) (a .g .0)) (same (by-of-from-return c)) (y .ensures .0),
       subst (λ (op : Operation). MemoRight op (y .last .1 .1 .1 .1 .1 .0) (out .table)) (same (by-of-from-return c)) (y .ensures .1),
     )

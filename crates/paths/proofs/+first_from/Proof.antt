@@ -30,7 +30,14 @@ abbrev first-from-below : ℕ → In 3 first-from-kinds.ps
 first-from-below t = and 3 first-from-kinds.ps (falls 3 first-from-kinds.ps _<_ μ-first-from t) first-from.Pre
 
 abbrev first-from-callees : ℕ → first-from-lts.Claims
-first-from-callees t = (branch-at-reads.Asked, branch-at-reads.Learnt, with-literal-reads.Asked, with-literal-reads.Learnt, first-from-below t, first-from.Post)
+first-from-callees t = (
+  branch-at-reads.Asked,
+  branch-at-reads.Learnt,
+  with-literal-reads.Asked,
+  with-literal-reads.Learnt,
+  first-from-below t,
+  first-from.Post,
+)
 
 module _ {t : ℕ} (s : first-from-lts.Start (first-from-callees t) (first-from-at t) first-from.Post) where
   abbrev nodes : List Node
@@ -118,14 +125,16 @@ first-from-branch-at-requires : (t : ℕ) → first-from-lts.Need-branch-at-requ
 first-from-branch-at-requires t c κs =
     let s = start-from-else1 c in (readable s, omega (arith, c .if1 .left), inside s)
 
-first-from-with-literal-requires : (t : ℕ) → first-from-lts.Need-with-literal-requires (first-from-callees t) (first-from-at t) first-from.Post
+first-from-with-literal-requires : (t : ℕ) → first-from-lts.Need-with-literal-requires (first-from-callees t) (first-from-at t)
+    first-from.Post
 first-from-with-literal-requires t c κs =
     let B = branch-at-from-then2 c .branch-at .ensures in (B .least, B .most)
 
 first-from-first-from-requires : (t : ℕ) → first-from-lts.Need-first-from-requires (first-from-callees t) (first-from-at t) first-from.Post
 first-from-first-from-requires t c κs =
     let s = start-from-first-from-call c in
-    let B = branch-at-from-first-from-call c .branch-at .ensures in (omega (arith, B .high-less, measure s), (readable s, omega (arith, B .high-less, inside s)))
+    let B = branch-at-from-first-from-call c .branch-at .ensures in
+    (omega (arith, B .high-less, measure s), (readable s, omega (arith, B .high-less, inside s)))
 
 first-from-returns-2 : (t : ℕ) → first-from-lts.Need-returns-2 (first-from-callees t) (first-from-at t) first-from.Post
 first-from-returns-2 t c =
@@ -137,16 +146,20 @@ first-from-returns-2 t c =
     let v = b .branch-at .result .variable in
     c .first-from .ensures ∙ ap (firstFrom (diagramAt (nodes s) h)) (with-literal-from-return-2 c .with-literal .ensures)
     ∙ sym (first-branch (nodes s) (s .args .f .0) (b .branch-at .result) (s .args .set) B
-    ∙ ap (λ (x : Bool). cond x (firstFrom (diagramAt (nodes s) h) (withLiteral (s .args .set) v true)) (firstFrom (diagramAt (nodes s) l) (withLiteral (s .args .set) v false))) (one-is (nodes s) l (then2-from-return-2 c .if2 .taken)))
+    ∙ ap (λ (x : Bool). cond x (firstFrom (diagramAt (nodes s) h) (withLiteral (s .args .set) v true))
+    (firstFrom (diagramAt (nodes s) l) (withLiteral (s .args .set) v false))) (one-is (nodes s) l (then2-from-return-2 c .if2 .taken)))
 
-first-from-with-literal-requires-2 : (t : ℕ) → first-from-lts.Need-with-literal-requires-2 (first-from-callees t) (first-from-at t) first-from.Post
+first-from-with-literal-requires-2 : (t : ℕ) → first-from-lts.Need-with-literal-requires-2 (first-from-callees t) (first-from-at t)
+    first-from.Post
 first-from-with-literal-requires-2 t c κs =
     let B = branch-at-from-else2 c .branch-at .ensures in (B .least, B .most)
 
-first-from-first-from-requires-2 : (t : ℕ) → first-from-lts.Need-first-from-requires-2 (first-from-callees t) (first-from-at t) first-from.Post
+first-from-first-from-requires-2 : (t : ℕ) → first-from-lts.Need-first-from-requires-2 (first-from-callees t) (first-from-at t)
+    first-from.Post
 first-from-first-from-requires-2 t c κs =
     let s = start-from-first-from-call-2 c in
-    let B = branch-at-from-first-from-call-2 c .branch-at .ensures in (omega (arith, B .low-less, measure s), (readable s, omega (arith, B .low-less, inside s)))
+    let B = branch-at-from-first-from-call-2 c .branch-at .ensures in
+    (omega (arith, B .low-less, measure s), (readable s, omega (arith, B .low-less, inside s)))
 
 first-from-returns-3 : (t : ℕ) → first-from-lts.Need-returns-3 (first-from-callees t) (first-from-at t) first-from.Post
 first-from-returns-3 t c =
@@ -159,8 +172,10 @@ first-from-returns-3 t c =
     let below : l < s .args .count = omega (arith, B .low-less, inside s) in
     c .first-from2 .ensures ∙ ap (firstFrom (diagramAt (nodes s) l)) (with-literal2-from-return-3 c .with-literal2 .ensures)
     ∙ sym (first-branch (nodes s) (s .args .f .0) (b .branch-at .result) (s .args .set) B
-    ∙ ap (λ (x : Bool). cond x (firstFrom (diagramAt (nodes s) h) (withLiteral (s .args .set) v true)) (firstFrom (diagramAt (nodes s) l) (withLiteral (s .args .set) v false)))
-    (one-not (nodes s) (ordered-in _ _ _ _ (readable s)) l (omega (arith, length-in _ _ _ _ (readable s))) (else2-from-return-3 c .if2 .left)))
+    ∙ ap (λ (x : Bool). cond x (firstFrom (diagramAt (nodes s) h) (withLiteral (s .args .set) v true))
+    (firstFrom (diagramAt (nodes s) l) (withLiteral (s .args .set) v false)))
+    (one-not (nodes s) (ordered-in _ _ _ _ (readable s)) l (omega (arith, length-in _ _ _ _ (readable s)))
+    (else2-from-return-3 c .if2 .left)))
 
 pub +first-from-spec : {M : Type 1} → statement M
 +first-from-spec =

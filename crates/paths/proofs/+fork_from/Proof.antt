@@ -33,7 +33,16 @@ abbrev fork-from-below : ℕ → In 3 fork-from-kinds.ps
 fork-from-below t = and 3 fork-from-kinds.ps (falls 3 fork-from-kinds.ps _<_ μ-fork-from t) fork-from.Pre
 
 abbrev fork-from-callees : ℕ → fork-from-lts.Claims
-fork-from-callees t = (branch-at-reads.Asked, branch-at-reads.Learnt, with-literal-reads.Asked, with-literal-reads.Learnt, in-word-reads.Asked, in-word-reads.Learnt, fork-from-below t, fork-from.Post)
+fork-from-callees t = (
+  branch-at-reads.Asked,
+  branch-at-reads.Learnt,
+  with-literal-reads.Asked,
+  with-literal-reads.Learnt,
+  in-word-reads.Asked,
+  in-word-reads.Learnt,
+  fork-from-below t,
+  fork-from.Post,
+)
 
 module _ {t : ℕ} (s : fork-from-lts.Start (fork-from-callees t) (fork-from-at t) fork-from.Post) where
   abbrev nodes : List Node
@@ -163,7 +172,10 @@ module _ {t : ℕ} (c : fork-from-lts.After-fork-from3 (fork-from-callees t) (fo
 
 fork-from-returns : (t : ℕ) → fork-from-lts.Need-returns (fork-from-callees t) (fork-from-at t) fork-from.Post
 fork-from-returns t c =
-    let s = start-from-then1 c in (sym (after-leaf (nodes s) (s .args .f .0) (s .args .word) (s .args .set) (other s) (c .if1 .taken)), fork-inside s)
+    let s = start-from-then1 c in (
+      sym (after-leaf (nodes s) (s .args .f .0) (s .args .word) (s .args .set) (other s) (c .if1 .taken)),
+      fork-inside s,
+    )
 
 fork-from-branch-at-requires : (t : ℕ) → fork-from-lts.Need-branch-at-requires (fork-from-callees t) (fork-from-at t) fork-from.Post
 fork-from-branch-at-requires t c κs =
@@ -180,7 +192,8 @@ fork-from-in-word-requires t c κs =
 fork-from-fork-from-requires : (t : ℕ) → fork-from-lts.Need-fork-from-requires (fork-from-callees t) (fork-from-at t) fork-from.Post
 fork-from-fork-from-requires t c κs =
     let s = start-from-then2 c in
-    let B = branch-at-from-then2 c .branch-at .ensures in (omega (arith, B .high-less, measure s), (readable s, omega (arith, B .high-less, inside s), fork-inside s))
+    let B = branch-at-from-then2 c .branch-at .ensures in
+    (omega (arith, B .high-less, measure s), (readable s, omega (arith, B .high-less, inside s), fork-inside s))
 
 fork-from-returns-2 : (t : ℕ) → fork-from-lts.Need-returns-2 (fork-from-callees t) (fork-from-at t) fork-from.Post
 fork-from-returns-2 t c =
@@ -188,19 +201,23 @@ fork-from-returns-2 t c =
     let b = branch-at-from-return-2 c in
     let r = b .branch-at .result in (
       c .fork-from .ensures .0
-          ∙ ap (λ (u : Literals). afterFrom (diagramAt (nodes s) (r .high .0)) (s .args .word) u (other s)) (with-literal-from-return-2 c .with-literal .ensures)
-          ∙ sym (after-high (nodes s) (s .args .f .0) (s .args .word) r (s .args .set) (other s) (b .branch-at .ensures) (sym (in-word-from-return-2 c .in-word .ensures) ∙ then2-from-return-2 c .if2 .taken)),
+          ∙ ap (λ (u : Literals). afterFrom (diagramAt (nodes s) (r .high .0)) (s .args .word) u (other s))
+          (with-literal-from-return-2 c .with-literal .ensures)
+          ∙ sym (after-high (nodes s) (s .args .f .0) (s .args .word) r (s .args .set) (other s) (b .branch-at .ensures)
+          (sym (in-word-from-return-2 c .in-word .ensures) ∙ then2-from-return-2 c .if2 .taken)),
       c .fork-from .ensures .1,
     )
 
-fork-from-with-literal-requires-2 : (t : ℕ) → fork-from-lts.Need-with-literal-requires-2 (fork-from-callees t) (fork-from-at t) fork-from.Post
+fork-from-with-literal-requires-2 : (t : ℕ) → fork-from-lts.Need-with-literal-requires-2 (fork-from-callees t) (fork-from-at t)
+    fork-from.Post
 fork-from-with-literal-requires-2 t c κs =
     let B = branch-at-from-else2 c .branch-at .ensures in (B .least, B .most)
 
 fork-from-fork-from-requires-2 : (t : ℕ) → fork-from-lts.Need-fork-from-requires-2 (fork-from-callees t) (fork-from-at t) fork-from.Post
 fork-from-fork-from-requires-2 t c κs =
     let s = start-from-then3 c in
-    let B = branch-at-from-then3 c .branch-at .ensures in (omega (arith, B .low-less, measure s), (readable s, omega (arith, B .low-less, inside s), fork-inside s))
+    let B = branch-at-from-then3 c .branch-at .ensures in
+    (omega (arith, B .low-less, measure s), (readable s, omega (arith, B .low-less, inside s), fork-inside s))
 
 fork-from-returns-3 : (t : ℕ) → fork-from-lts.Need-returns-3 (fork-from-callees t) (fork-from-at t) fork-from.Post
 fork-from-returns-3 t c =
@@ -208,15 +225,19 @@ fork-from-returns-3 t c =
     let b = branch-at-from-return-3 c in
     let r = b .branch-at .result in (
       c .fork-from2 .ensures .0
-          ∙ ap (λ (u : Literals). afterFrom (diagramAt (nodes s) (r .low .0)) (s .args .word) u (other s)) (with-literal2-from-return-3 c .with-literal2 .ensures)
-          ∙ sym (after-low (nodes s) (s .args .f .0) (s .args .word) r (s .args .set) (other s) (b .branch-at .ensures) (sym (in-word-from-return-3 c .in-word .ensures) ∙ else2-from-return-3 c .if2 .left) (one-is (nodes s) (r .high .0) (then3-from-return-3 c .if3 .taken))),
+          ∙ ap (λ (u : Literals). afterFrom (diagramAt (nodes s) (r .low .0)) (s .args .word) u (other s))
+          (with-literal2-from-return-3 c .with-literal2 .ensures)
+          ∙ sym (after-low (nodes s) (s .args .f .0) (s .args .word) r (s .args .set) (other s) (b .branch-at .ensures)
+          (sym (in-word-from-return-3 c .in-word .ensures) ∙ else2-from-return-3 c .if2 .left)
+          (one-is (nodes s) (r .high .0) (then3-from-return-3 c .if3 .taken))),
       c .fork-from2 .ensures .1,
     )
 
 fork-from-fork-from-requires-3 : (t : ℕ) → fork-from-lts.Need-fork-from-requires-3 (fork-from-callees t) (fork-from-at t) fork-from.Post
 fork-from-fork-from-requires-3 t c κs =
     let s = start-from-fork-from-call-3 c in
-    let B = branch-at-from-fork-from-call-3 c .branch-at .ensures in (omega (arith, B .low-less, measure s), (readable s, omega (arith, B .low-less, inside s), omega (arith, B .high-less, inside s)))
+    let B = branch-at-from-fork-from-call-3 c .branch-at .ensures in
+    (omega (arith, B .low-less, measure s), (readable s, omega (arith, B .low-less, inside s), omega (arith, B .high-less, inside s)))
 
 fork-from-returns-4 : (t : ℕ) → fork-from-lts.Need-returns-4 (fork-from-callees t) (fork-from-at t) fork-from.Post
 fork-from-returns-4 t c =
@@ -226,10 +247,16 @@ fork-from-returns-4 t c =
     let B = b .branch-at .ensures in
     let below : r .high .0 < s .args .count = omega (arith, B .high-less, inside s) in (
       c .fork-from3 .ensures .0
-          ∙ ap (λ (u : Literals). afterFrom (diagramAt (nodes s) (r .low .0)) (s .args .word) (with-literal2-from-return-4 c .with-literal2 .result) (found true (firstFrom (diagramAt (nodes s) (r .high .0)) u))) (with-literal-from-return-4 c .with-literal .ensures)
-          ∙ ap (λ (u : Literals). afterFrom (diagramAt (nodes s) (r .low .0)) (s .args .word) u (found true (firstFrom (diagramAt (nodes s) (r .high .0)) (withLiteral (s .args .set) (r .variable) true)))) (with-literal2-from-return-4 c .with-literal2 .ensures)
-          ∙ sym (after-fork (nodes s) (s .args .f .0) (s .args .word) r (s .args .set) (other s) B (sym (in-word-from-return-4 c .in-word .ensures) ∙ else2-from-return-4 c .if2 .left)
-          (one-not (nodes s) (ordered-in _ _ _ _ (readable s)) (r .high .0) (omega (arith, length-in _ _ _ _ (readable s))) (else3-from-return-4 c .if3 .left))),
+          ∙ ap (λ (u : Literals). afterFrom (diagramAt (nodes s) (r .low .0)) (s .args .word)
+          (with-literal2-from-return-4 c .with-literal2 .result) (found true (firstFrom (diagramAt (nodes s) (r .high .0)) u)))
+          (with-literal-from-return-4 c .with-literal .ensures)
+          ∙ ap (λ (u : Literals). afterFrom (diagramAt (nodes s) (r .low .0)) (s .args .word) u
+          (found true (firstFrom (diagramAt (nodes s) (r .high .0)) (withLiteral (s .args .set) (r .variable) true))))
+          (with-literal2-from-return-4 c .with-literal2 .ensures)
+          ∙ sym (after-fork (nodes s) (s .args .f .0) (s .args .word) r (s .args .set) (other s) B
+          (sym (in-word-from-return-4 c .in-word .ensures) ∙ else2-from-return-4 c .if2 .left)
+          (one-not (nodes s) (ordered-in _ _ _ _ (readable s)) (r .high .0) (omega (arith, length-in _ _ _ _ (readable s)))
+          (else3-from-return-4 c .if3 .left))),
       c .fork-from3 .ensures .1,
     )
 

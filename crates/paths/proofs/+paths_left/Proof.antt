@@ -114,16 +114,23 @@ paths-left-paths-left-requires t c κs =
     let s = start-from-paths-left-call c in
     let B = c .branch-at .ensures in (omega (arith, B .low-less, measure s), (readable s, omega (arith, B .low-less, inside s)))
 
-paths-left-paths-left-requires-2 : (t : ℕ) → paths-left-lts.Need-paths-left-requires-2 (paths-left-callees t) (paths-left-at t) paths-left.Post
+paths-left-paths-left-requires-2 : (t : ℕ) → paths-left-lts.Need-paths-left-requires-2 (paths-left-callees t) (paths-left-at t)
+    paths-left.Post
 paths-left-paths-left-requires-2 t c κs =
     let s = start-from-paths-left-call-2 c in
-    let B = branch-at-from-paths-left-call-2 c .branch-at .ensures in (omega (arith, B .high-less, measure s), (readable s, omega (arith, B .high-less, inside s)))
+    let B = branch-at-from-paths-left-call-2 c .branch-at .ensures in
+    (omega (arith, B .high-less, measure s), (readable s, omega (arith, B .high-less, inside s)))
 
 paths-left-returns-4 : (t : ℕ) → paths-left-lts.Need-returns-4 (paths-left-callees t) (paths-left-at t) paths-left.Post
 paths-left-returns-4 t c =
     let s = start-from-return-4 c in
     let b = branch-at-from-return-4 c in
-    omega (arith, c .paths-left2 .ensures, paths-left-from-return-4 c .paths-left .ensures, count-branch (nodes s) (s .args .f .0) (b .branch-at .result) (b .branch-at .ensures))
+    omega (
+      arith,
+      c .paths-left2 .ensures,
+      paths-left-from-return-4 c .paths-left .ensures,
+      count-branch (nodes s) (s .args .f .0) (b .branch-at .result) (b .branch-at .ensures),
+    )
 
 pub +paths-left-spec : {M : Type 1} → statement M
 +paths-left-spec =

@@ -40,7 +40,8 @@ returns c =
     let s = start-from-return c in
     let k = fork-from-from-return c .fork-from in
     ap (found (k .result .found)) (c .first-from .ensures) ∙ k .ensures .0
-    ∙ ap (λ (u : Literals). afterFrom (diagramAt (nodes s) (s .args .f .0)) (s .args .word) noLiterals (found false u)) (first-leaf (nodes s) 0 noLiterals (omega arith))
+    ∙ ap (λ (u : Literals). afterFrom (diagramAt (nodes s) (s .args .f .0)) (s .args .word) noLiterals (found false u))
+    (first-leaf (nodes s) 0 noLiterals (omega arith))
 
 pub path-after-spec : {M : Type 1} → statement M
 path-after-spec = tie.close (tie.spec fork-from-requires first-from-requires returns)

@@ -48,7 +48,8 @@ returns c =
 
 returns-2 : tie.Need-returns-2
 returns-2 c =
-    ap Added (c .clause-in .ensures) ∙ sym (ap (admitted (start-from-return-2 c .args .consequence)) (command2-from-return-2 c .command2 .given .1))
+    ap Added (c .clause-in .ensures) ∙ sym (ap (admitted (start-from-return-2 c .args .consequence))
+    (command2-from-return-2 c .command2 .given .1))
 
 returns-3 : tie.Need-returns-3
 returns-3 c = search needs

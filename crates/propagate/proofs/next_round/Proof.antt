@@ -101,8 +101,12 @@ returns : tie.Need-returns
 returns c =
     let a = start-from-then1 c .args in
     let r = start-from-then1 c .pre in
-    let y = conflicts-from-then1 c .conflicts in
-    (ends-conflict (64 - a .rounds) (diagramsOf (nodesOf (tableOf (a .vars .now) (a .lows .now) (a .highs .now) (a .heads .now) (a .links .now) (a .count))) (a .list .now)) (sym (y .ensures .0) ∙ c .if1 .taken), y .ensures .1)
+    let y = conflicts-from-then1 c .conflicts in (
+      ends-conflict (64 - a .rounds) (diagramsOf
+          (nodesOf (tableOf (a .vars .now) (a .lows .now) (a .highs .now) (a .heads .now) (a .links .now) (a .count))) (a .list .now))
+          (sym (y .ensures .0) ∙ c .if1 .taken),
+      y .ensures .1,
+    )
 
 same-length-3 : tie.Need-same-length-3
 same-length-3 c =
@@ -116,16 +120,26 @@ returns-2 : tie.Need-returns-2
 returns-2 c =
     let a = start-from-then2 c .args in
     let r = start-from-then2 c .pre in
-    let y = conflicts-from-then2 c .conflicts in
-    (ends-last (64 - a .rounds) (diagramsOf (nodesOf (tableOf (a .vars .now) (a .lows .now) (a .highs .now) (a .heads .now) (a .links .now) (a .count))) (a .list .now)) (omega (arith, c .if2 .taken)) (sym (y .ensures .0) ∙ c .before .if1 .left), y .ensures .1)
+    let y = conflicts-from-then2 c .conflicts in (
+      ends-last (64 - a .rounds) (diagramsOf (nodesOf
+          (tableOf (a .vars .now) (a .lows .now) (a .highs .now) (a .heads .now) (a .links .now) (a .count))) (a .list .now))
+          (omega (arith, c .if2 .taken)) (sym (y .ensures .0) ∙ c .before .if1 .left),
+      y .ensures .1,
+    )
 
 first-units-requires : tie.Need-first-units-requires
 unfolding nodesOf
 first-units-requires c κs =
     let a = start-from-first-units-call c .args in
     let r = start-from-first-units-call c .pre in
-    let y = conflicts-from-first-units-call c .conflicts in
-    ((good-readable (tableOf (a .vars .now) (a .lows .now) (a .highs .now) (a .heads .now) (a .links .now) (a .count)) (r .0 .0 .good), r .0 .0 .inside, omega (arith, y .kept .1 .1 .1 .1 .1 .0, r .0 .0 .room)), r .1 .1)
+    let y = conflicts-from-first-units-call c .conflicts in (
+      (
+        good-readable (tableOf (a .vars .now) (a .lows .now) (a .highs .now) (a .heads .now) (a .links .now) (a .count)) (r .0 .0 .good),
+        r .0 .0 .inside,
+        omega (arith, y .kept .1 .1 .1 .1 .1 .0, r .0 .0 .room),
+      ),
+      r .1 .1,
+    )
 
 enum-known-u : tie.Need-enum-known-u
 enum-known-u c =
@@ -149,8 +163,12 @@ returns-3 c =
     let a = start-from-return-3 c .args in
     let r = start-from-return-3 c .pre in
     let y = conflicts-from-return-3 c .conflicts in
-    let f = subst (AreFirst 64 (diagramsOf (nodesOf (tableOf (a .vars .now) (a .lows .now) (a .highs .now) (a .heads .now) (a .links .now) (a .count))) (a .list .now))) (u-from-return-3 c .u .given .1) (first-units-from-return-3 c .first-units .ensures) in
-    ((omega (arith, r .0 .2, else2-from-return-3 c .if2 .left), (sym (y .ensures .0) ∙ else1-from-return-3 c .if1 .left), f .0, f .1, f .2), y .ensures .1)
+    let f = subst (AreFirst 64 (diagramsOf (nodesOf
+    (tableOf (a .vars .now) (a .lows .now) (a .highs .now) (a .heads .now) (a .links .now) (a .count))) (a .list .now)))
+    (u-from-return-3 c .u .given .1) (first-units-from-return-3 c .first-units .ensures) in (
+      (omega (arith, r .0 .2, else2-from-return-3 c .if2 .left), (sym (y .ensures .0) ∙ else1-from-return-3 c .if1 .left), f .0, f .1, f .2),
+      y .ensures .1,
+    )
 
 same-length-7 : tie.Need-same-length-7
 same-length-7 c =
@@ -165,8 +183,15 @@ unfolding nodesOf
 returns-4 c =
     let a = start-from-return-4 c .args in
     let r = start-from-return-4 c .pre in
-    let y = conflicts-from-return-4 c .conflicts in
-    (ends-still (64 - a .rounds) (diagramsOf (nodesOf (tableOf (a .vars .now) (a .lows .now) (a .highs .now) (a .heads .now) (a .links .now) (a .count))) (a .list .now)) (sym (y .ensures .0) ∙ else1-from-return-4 c .if1 .left) (subst (AreFirst 64 (diagramsOf (nodesOf (tableOf (a .vars .now) (a .lows .now) (a .highs .now) (a .heads .now) (a .links .now) (a .count))) (a .list .now))) (c .enum-told .given .1) (first-units-from-return-4 c .first-units .ensures)), y .ensures .1)
+    let y = conflicts-from-return-4 c .conflicts in (
+      ends-still (64 - a .rounds) (diagramsOf (nodesOf
+          (tableOf (a .vars .now) (a .lows .now) (a .highs .now) (a .heads .now) (a .links .now) (a .count))) (a .list .now))
+          (sym (y .ensures .0) ∙ else1-from-return-4 c .if1 .left)
+          (subst (AreFirst 64 (diagramsOf (nodesOf
+          (tableOf (a .vars .now) (a .lows .now) (a .highs .now) (a .heads .now) (a .links .now) (a .count))) (a .list .now)))
+          (c .enum-told .given .1) (first-units-from-return-4 c .first-units .ensures)),
+      y .ensures .1,
+    )
 
 pub next-round-spec : {M : Type 1} → statement M
 next-round-spec =

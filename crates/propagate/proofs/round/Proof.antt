@@ -57,7 +57,11 @@ returns c =
     let r = start-from-return c .pre in
     let e = all-by-from-return c .all-by .ensures in (
       e .0,
-      (e .1 .0, λ f. round-writes (tableOf (a .vars .now) (a .lows .now) (a .highs .now) (a .heads .now) (a .links .now) (a .count)) (a .list .now) (a .u) (r .3) _ (e .1 .1 f)),
+      (
+        e .1 .0,
+        λ f. round-writes (tableOf (a .vars .now) (a .lows .now) (a .highs .now) (a .heads .now) (a .links .now) (a .count))
+            (a .list .now) (a .u) (r .3) _ (e .1 .1 f),
+      ),
     )
 
 pub round-spec : {M : Type 1} → statement M

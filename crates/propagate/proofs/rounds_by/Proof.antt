@@ -17,7 +17,9 @@ use Rattle.propagate.specs.Rounds.{NextIs}
 use Rattle.propagate.proofs.Rounds.{going-first, going-ready, going-ends, going-full}
 use Rattle.propagate.proofs.rounds_by.Statement.{statement}
 use Rattle.propagate.proofs.rounds_by.Tie as tie
-use Rattle.propagate.proofs.rounds_by.Proof.Known.{Inv-loop, μ-loop, entry, here, after, list-after, few, ready, many-fit, places-long, many-there, counted, all-but, same-list, goes-on, asks, asks-units, many, nodes-long, nodes-are}
+use Rattle.propagate.proofs.rounds_by.Proof.Known.{Inv-loop, μ-loop, entry, here, after, list-after, few, ready, many-fit}
+use Rattle.propagate.proofs.rounds_by.Proof.Known.{places-long, many-there, counted, all-but, same-list, goes-on, asks, asks-units}
+use Rattle.propagate.proofs.rounds_by.Proof.Known.{many, nodes-long, nodes-are}
 mod Known
 
 -- The ways back, written by ways.py: TO-from-FROM leads from the place FROM of the code to the place TO before it.
@@ -262,7 +264,8 @@ returns c =
     let w = l .loop in
     let d = w .inv .0 in
     let y = round-from-then1 c in (
-      going-full (entry s) (s .pre .0 .0 .good) (diagramsOf (nodesOf (entry s)) (s .args .list .now)) (here l) (w .list) (w .memo) (w .marks) (w .rounds) (d .going) (d .due .0) (d .due .1) (w .u) (d .due .2)
+      going-full (entry s) (s .pre .0 .0 .good) (diagramsOf (nodesOf (entry s)) (s .args .list .now)) (here l) (w .list) (w .memo)
+          (w .marks) (w .rounds) (d .going) (d .due .0) (d .due .1) (w .u) (d .due .2)
           (y .round .result .full) (after y) (list-after y) (y .round .ensures .0) (c .if1 .taken) false,
       d .going .clear,
     )
@@ -293,7 +296,11 @@ slice-aggregate-next-round : tie.Need-slice-aggregate-next-round Inv-loop μ-loo
 slice-aggregate-next-round c = sym (counted (touched-places-from-slice-aggregate-next-round c))
 
 array-share-prefix-nodes : tie.Need-array-share-prefix-nodes Inv-loop μ-loop
-array-share-prefix-nodes c = omega (arith, many-fit (touched-places-from-slice-aggregate-next-round c), nodes-long (nodes-at-from-slice-aggregate-next-round c))
+array-share-prefix-nodes c = omega (
+  arith,
+  many-fit (touched-places-from-slice-aggregate-next-round c),
+  nodes-long (nodes-at-from-slice-aggregate-next-round c),
+)
 
 slice-aggregate-next-round-2 : tie.Need-slice-aggregate-next-round-2 Inv-loop μ-loop
 slice-aggregate-next-round-2 c =
@@ -309,13 +316,16 @@ next-round-requires c κs =
     let on = goes-on e (y .round .last .1 .1 .1 .1 .1 .0) (y .round .kept .1 .1 .1 .1 .1 .0) (w .marks) (w .inv .0 .going .clear) in
     let later : eqb (w .rounds + 1) 0 ≡ false = ne-eqb (w .rounds + 1) 0 (λ z. absurd (omega (arith, z))) in (
       (
-        going-ready (entry s) (s .pre .0 .0 .good) (diagramsOf (nodesOf (entry s)) (s .args .list .now)) (after y) (list-after y) _ (w .marks) (w .rounds + 1) on,
+        going-ready (entry s) (s .pre .0 .0 .good) (diagramsOf (nodesOf (entry s)) (s .args .list .now)) (after y) (list-after y) _
+            (w .marks) (w .rounds + 1) on,
         w .inv .0 .going .clear ∙ ap unmarked (sym (y .round .kept .0 ∙ w .inv .1)),
         omega (arith, w .inv .0 .due .0),
       ),
       (
-        subst (λ (b : Bool). Asked (nodesOf (after y)) (list-after y) (take (many (nodes-at-from-next-round-call c)) (nodes-at-from-next-round-call c .nodes-at .last .1 .1 .0)) b) (sym later)
-            (subst (λ (nodes : List ℕ). Asked (nodesOf (after y)) (list-after y) nodes false) (sym (nodes-are (nodes-at-from-next-round-call c))) (asks e)),
+        subst (λ (b : Bool). Asked (nodesOf (after y)) (list-after y)
+            (take (many (nodes-at-from-next-round-call c)) (nodes-at-from-next-round-call c .nodes-at .last .1 .1 .0)) b) (sym later)
+            (subst (λ (nodes : List ℕ). Asked (nodesOf (after y)) (list-after y) nodes false)
+            (sym (nodes-are (nodes-at-from-next-round-call c))) (asks e)),
         asks-units e,
       ),
     )
@@ -339,7 +349,8 @@ same-length-14 : tie.Need-same-length-14 Inv-loop μ-loop
 same-length-14 c = round-from-return-2 c .round .kept .1 .1 .1 .1 .0 ∙ at-loop-from-return-2 c .loop .inv .5
 
 same-length-15 : tie.Need-same-length-15 Inv-loop μ-loop
-same-length-15 c = next-round-from-return-2 c .next-round .kept .1 .1 .1 .1 .1 .0 ∙ round-from-return-2 c .round .kept .1 .1 .1 .1 .1 .0 ∙ at-loop-from-return-2 c .loop .inv .6
+same-length-15 c = next-round-from-return-2 c .next-round .kept .1 .1 .1 .1 .1 .0 ∙ round-from-return-2 c .round .kept .1 .1 .1 .1 .1 .0
+    ∙ at-loop-from-return-2 c .loop .inv .6
 
 same-length-16 : tie.Need-same-length-16 Inv-loop μ-loop
 same-length-16 c = next-round-from-return-2 c .next-round .kept .1 .1 .1 .1 .1 .1 .0 ∙ at-loop-from-return-2 c .loop .inv .7
@@ -358,8 +369,10 @@ returns-2 c =
     let z = next-round-from-return-2 c .next-round in
     let ms = diagramsOf (nodesOf (after y)) (list-after y) in
     let ends = subst (NextIs ms (w .rounds + 1)) (conflict-from-return-2 c .conflict .given .1) (z .ensures .0) in (
-      going-ends (entry s) (s .pre .0 .0 .good) (diagramsOf (nodesOf (entry s)) (s .args .list .now)) (after y) (list-after y) (y .round .last .1 .1 .1 .1 .1 .0) (w .marks) (w .rounds + 1)
-          (goes-on (else1-from-return-2 c) (y .round .last .1 .1 .1 .1 .1 .0) (y .round .kept .1 .1 .1 .1 .1 .0) (w .marks) (w .inv .0 .going .clear)) _ ends,
+      going-ends (entry s) (s .pre .0 .0 .good) (diagramsOf (nodesOf (entry s)) (s .args .list .now)) (after y) (list-after y)
+          (y .round .last .1 .1 .1 .1 .1 .0) (w .marks) (w .rounds + 1)
+          (goes-on (else1-from-return-2 c) (y .round .last .1 .1 .1 .1 .1 .0) (y .round .kept .1 .1 .1 .1 .1 .0) (w .marks)
+          (w .inv .0 .going .clear)) _ ends,
       z .ensures .1 ∙ ap unmarked (y .round .kept .0 ∙ w .inv .1),
     )
 
@@ -379,7 +392,8 @@ loop-again c =
     let ms = diagramsOf (nodesOf (after y)) (list-after y) in
     let due = subst (NextIs ms (w .rounds + 1)) (v-from-loop-again c .v .given .1) (z .ensures .0) in (
       record {
-        going = goes-on e (z .last .1 .1 .1 .1 .1 .0) (z .kept .1 .1 .1 .1 .1 .0 ∙ r .kept .1 .1 .1 .1 .1 .0) (z .last .1 .1 .1 .1 .1 .1 .0) (z .ensures .1 ∙ ap unmarked (r .kept .0 ∙ w .inv .1));
+        going = goes-on e (z .last .1 .1 .1 .1 .1 .0) (z .kept .1 .1 .1 .1 .1 .0 ∙ r .kept .1 .1 .1 .1 .1 .0) (z .last .1 .1 .1 .1 .1 .1 .0)
+            (z .ensures .1 ∙ ap unmarked (r .kept .0 ∙ w .inv .1));
         worded = r .kept .1 .1 .1 .1 .1 .1 .1 .0 ∙ w .inv .0 .worded ∙ sym (same-list e);
         supports = r .ensures .1 .0 (e .if1 .left);
         due = due;

@@ -64,8 +64,15 @@ rounds-by-requires c κs =
     let s = start-from-rounds-by-call c in
     let r = s .pre in
     let y = first-round-from-rounds-by-call c .first-round in
-    let due = subst (NextIs (diagramsOf (nodesOf (table s)) (s .args .list .now)) 0) (u-from-rounds-by-call c .u .given .1) (y .ensures .0) in
-    ((record { good = r .0 .0 .good; inside = r .0 .0 .inside; room = omega (arith, r .0 .0 .room, y .kept .1 .1 .1 .1 .1 .0) }, y .ensures .1, r .0 .2), (r .1 .0, r .1 .1, due))
+    let due = subst (NextIs (diagramsOf (nodesOf (table s)) (s .args .list .now)) 0) (u-from-rounds-by-call c .u .given .1) (y .ensures .0)
+    in (
+      (
+        record { good = r .0 .0 .good; inside = r .0 .0 .inside; room = omega (arith, r .0 .0 .room, y .kept .1 .1 .1 .1 .1 .0) },
+        y .ensures .1,
+        r .0 .2,
+      ),
+      (r .1 .0, r .1 .1, due),
+    )
 
 same-length : tie.Need-same-length
 same-length c = search needs
@@ -98,8 +105,11 @@ returns c =
     let r = s .pre in
     let y = first-round-from-return c .first-round in
     let ms = diagramsOf (nodesOf (table s)) (a .list .now) in
-    let ends = subst (NextIs ms 0) (conflict-from-return c .conflict .given .1) (y .ensures .0) in
-    (going-ends (table s) (r .0 .0 .good) ms (table s) (a .list .now) (a .memo .now) (a .marks .now) 0 (going-first (table s) (a .list .now) (a .memo .now) (a .marks .now) (r .0 .0) (r .0 .1)) _ ends, y .ensures .1)
+    let ends = subst (NextIs ms 0) (conflict-from-return c .conflict .given .1) (y .ensures .0) in (
+      going-ends (table s) (r .0 .0 .good) ms (table s) (a .list .now) (a .memo .now) (a .marks .now) 0
+          (going-first (table s) (a .list .now) (a .memo .now) (a .marks .now) (r .0 .0) (r .0 .1)) _ ends,
+      y .ensures .1,
+    )
 
 same-length-9 : tie.Need-same-length-9
 same-length-9 c = search needs
@@ -117,7 +127,8 @@ same-length-13 : tie.Need-same-length-13
 same-length-13 c = search needs
 
 same-length-14 : tie.Need-same-length-14
-same-length-14 c = rounds-by-from-return-2 c .rounds-by .kept .1 .1 .1 .1 .1 .0 ∙ first-round-from-return-2 c .first-round .kept .1 .1 .1 .1 .1 .0
+same-length-14 c = rounds-by-from-return-2 c .rounds-by .kept .1 .1 .1 .1 .1 .0
+    ∙ first-round-from-return-2 c .first-round .kept .1 .1 .1 .1 .1 .0
 
 same-length-15 : tie.Need-same-length-15
 same-length-15 c = search needs

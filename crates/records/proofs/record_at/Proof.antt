@@ -145,7 +145,8 @@ returns-12 : tie.Need-returns-12
 returns-12 c =
     let none = c .match .rest in
     sym (record-part _ _ _ (else1-from-at-match-rest c .if1 .left) refl
-    ∙ record-unknown _ _ (none .0 .0 .0 .0 .0 .0 .0 .0 .0 .1) (none .0 .0 .0 .0 .0 .0 .0 .0 .1) (none .0 .0 .0 .0 .0 .0 .0 .1) (none .0 .0 .0 .0 .0 .0 .1)
+    ∙ record-unknown _ _ (none .0 .0 .0 .0 .0 .0 .0 .0 .0 .1) (none .0 .0 .0 .0 .0 .0 .0 .0 .1) (none .0 .0 .0 .0 .0 .0 .0 .1)
+    (none .0 .0 .0 .0 .0 .0 .1)
     (none .0 .0 .0 .0 .0 .1) (none .0 .0 .0 .0 .1) (none .0 .0 .0 .1) (none .0 .0 .1) (none .0 .1) (none .1))
 
 pub record-at-spec : {M : Type 1} → statement M

@@ -6,20 +6,26 @@ use native.Mathlib.Omega.{arith}
 use lib.ListN.{length}
 use borrow.Author.Needs.{needs}
 use Rattle.verdict.specs.Check.{proofFrom}
-use Rattle.entries.specs.States.{Lent, lentOf, stateOf}
-use Rattle.replay.proofs.Going.{Going, going-start, going-asks, going-reads, going-near, going-stop, going-spent, next-in, going-next}
+use Rattle.state.specs.States.{Lent, lentOf, stateOf}
+use Rattle.replay.proofs.Going.{Going, going-start, going-asks, going-reads, going-near, going-stop, going-spent, next-in}
+use Rattle.replay.proofs.Going.{going-next}
 use Rattle.replay.proofs.read_commands.Statement.{statement}
 use Rattle.replay.proofs.read_commands.Tie as tie
 
 abbrev Inv-loop : tie.InvT-loop
-Inv-loop vars₀ lows₀ highs₀ heads₀ links₀ memo₀ marks₀ members₀ scratch₀ struck₀ variables proof form consequence state₀ at₀ vars lows highs heads links memo marks members scratch struck state at =
+Inv-loop vars₀ lows₀ highs₀ heads₀ links₀ memo₀ marks₀ members₀ scratch₀ struck₀ variables proof form consequence state₀ at₀ vars lows highs
+    heads links memo marks members scratch struck state at =
     Going (record { form = form; consequence = consequence }) variables (length vars₀) proof
-    (proofFrom (record { form = form; consequence = consequence }) variables (length vars₀) proof (stateOf (lentOf vars₀ lows₀ highs₀ heads₀ links₀ members₀ scratch₀ struck₀) state₀))
+    (proofFrom (record { form = form; consequence = consequence }) variables (length vars₀) proof
+    (stateOf (lentOf vars₀ lows₀ highs₀ heads₀ links₀ members₀ scratch₀ struck₀) state₀))
     (lentOf vars lows highs heads links members scratch struck) marks memo state at
-    × (length vars ≡ length vars₀) × (length lows ≡ length lows₀) × (length highs ≡ length highs₀) × (length heads ≡ length heads₀) × (length links ≡ length links₀) × (length memo ≡ length memo₀) × (length marks ≡ length marks₀) × (length members ≡ length members₀) × (length scratch ≡ length scratch₀) × (length struck ≡ length struck₀)
+    × (length vars ≡ length vars₀) × (length lows ≡ length lows₀) × (length highs ≡ length highs₀) × (length heads ≡ length heads₀)
+    × (length links ≡ length links₀) × (length memo ≡ length memo₀) × (length marks ≡ length marks₀)
+    × (length members ≡ length members₀) × (length scratch ≡ length scratch₀) × (length struck ≡ length struck₀)
 
 abbrev μ-loop : tie.MeasureT-loop
-μ-loop vars₀ lows₀ highs₀ heads₀ links₀ memo₀ marks₀ members₀ scratch₀ struck₀ variables proof form consequence state₀ at₀ vars lows highs heads links memo marks members scratch struck state at =
+μ-loop vars₀ lows₀ highs₀ heads₀ links₀ memo₀ marks₀ members₀ scratch₀ struck₀ variables proof form consequence state₀ at₀ vars lows highs
+    heads links memo marks members scratch struck state at =
     length proof - at
 
 -- what a step leaves
@@ -27,7 +33,8 @@ module _ (a : tie.After-command-step Inv-loop μ-loop) where
   abbrev lent : Lent
   lent =
       let x = a .command-step .last in
-      lentOf (x .0) (x .1 .0) (x .1 .1 .0) (x .1 .1 .1 .0) (x .1 .1 .1 .1 .0) (x .1 .1 .1 .1 .1 .1 .1 .0) (x .1 .1 .1 .1 .1 .1 .1 .1 .0) (x .1 .1 .1 .1 .1 .1 .1 .1 .1 .0)
+      lentOf (x .0) (x .1 .0) (x .1 .1 .0) (x .1 .1 .1 .0) (x .1 .1 .1 .1 .0) (x .1 .1 .1 .1 .1 .1 .1 .0) (x .1 .1 .1 .1 .1 .1 .1 .1 .0)
+      (x .1 .1 .1 .1 .1 .1 .1 .1 .1 .0)
 
 start-of-requires : tie.Need-start-of-requires Inv-loop μ-loop
 start-of-requires c κs =
@@ -142,7 +149,8 @@ command-step-requires : tie.Need-command-step-requires Inv-loop μ-loop
 command-step-requires c κs =
     let at-loop = at-loop-from-command-step-call c in
     let after-command-at = command-at-from-command-step-call c in
-    going-asks _ _ _ _ _ _ _ _ _ _ (at-loop .loop .inv .0) _ (after-command-at .command-at .ensures) _ (admitted-from-command-step-call c .admitted .ensures)
+    going-asks _ _ _ _ _ _ _ _ _ _ (at-loop .loop .inv .0) _ (after-command-at .command-at .ensures) _
+    (admitted-from-command-step-call c .admitted .ensures)
 
 enum-known-number : tie.Need-enum-known-number Inv-loop μ-loop
 enum-known-number c =
@@ -153,7 +161,10 @@ add-t50 c =
     let at-loop = at-loop-from-return c in
     let after-command-at = command-at-from-return c in
     let after-command-step = command-step-from-return c in
-    let near = going-near _ _ _ _ _ _ _ _ _ _ (at-loop .loop .inv .0) (lent after-command-step) _ (going-reads _ _ _ _ _ _ _ _ _ _ (at-loop .loop .inv .0) _ (after-command-at .command-at .ensures) _ (admitted-from-return c .admitted .ensures) (lent after-command-step) _ (after-command-step .command-step .ensures .0)) _ _ (c .before .number .given .1) in
+    let near = going-near _ _ _ _ _ _ _ _ _ _ (at-loop .loop .inv .0) (lent after-command-step) _
+    (going-reads _ _ _ _ _ _ _ _ _ _ (at-loop .loop .inv .0) _ (after-command-at .command-at .ensures) _
+    (admitted-from-return c .admitted .ensures) (lent after-command-step) _ (after-command-step .command-step .ensures .0)) _ _
+    (c .before .number .given .1) in
     omega (arith, room (in-loop-from-return c) _ near)
 
 same-length : tie.Need-same-length Inv-loop μ-loop
@@ -222,7 +233,8 @@ returns c =
     let after-command-at = command-at-from-return c in
     let after-command-step = command-step-from-return c in
     let G = at-loop .loop .inv .0 in
-    let X = going-reads _ _ _ _ _ _ _ _ _ _ G _ (after-command-at .command-at .ensures) _ (admitted-from-return c .admitted .ensures) (lent after-command-step) _ (after-command-step .command-step .ensures .0) in
+    let X = going-reads _ _ _ _ _ _ _ _ _ _ G _ (after-command-at .command-at .ensures) _ (admitted-from-return c .admitted .ensures)
+    (lent after-command-step) _ (after-command-step .command-step .ensures .0) in
     going-stop _ _ _ _ _ _ _ _ _ _ G (lent after-command-step) _ X _ _ (c .before .number .given .1)
 
 enum-known-number-2 : tie.Need-enum-known-number-2 Inv-loop μ-loop
@@ -295,7 +307,8 @@ returns-2 c =
     let after-command-at = command-at-from-return-2 c in
     let after-command-step = command-step-from-return-2 c in
     let G = at-loop .loop .inv .0 in
-    let X = going-reads _ _ _ _ _ _ _ _ _ _ G _ (after-command-at .command-at .ensures) _ (admitted-from-return-2 c .admitted .ensures) (lent after-command-step) _ (after-command-step .command-step .ensures .0) in
+    let X = going-reads _ _ _ _ _ _ _ _ _ _ G _ (after-command-at .command-at .ensures) _ (admitted-from-return-2 c .admitted .ensures)
+    (lent after-command-step) _ (after-command-step .command-step .ensures .0) in
     going-spent _ _ _ _ _ _ _ _ _ _ G (lent after-command-step) _ X _ _ (c .before .number2 .given .1)
 
 enum-known-s : tie.Need-enum-known-s Inv-loop μ-loop
@@ -308,7 +321,8 @@ loop-less c =
     let after-command-at = command-at-from-loop-again c in
     let after-command-step = command-step-from-loop-again c in
     let G = at-loop .loop .inv .0 in
-    let X = going-reads _ _ _ _ _ _ _ _ _ _ G _ (after-command-at .command-at .ensures) _ (admitted-from-loop-again c .admitted .ensures) (lent after-command-step) _ (after-command-step .command-step .ensures .0) in
+    let X = going-reads _ _ _ _ _ _ _ _ _ _ G _ (after-command-at .command-at .ensures) _ (admitted-from-loop-again c .admitted .ensures)
+    (lent after-command-step) _ (after-command-step .command-step .ensures .0) in
     let next = next-in _ _ _ _ _ _ _ _ _ _ G (lent after-command-step) _ X _ (c .before .s .given .1) in
     let is = ap (λ r. r .next) (after-command-at .command-at .ensures) in
     omega (arith, next .0, next .1, is)
@@ -319,11 +333,26 @@ loop-again c =
     let after-command-at = command-at-from-loop-again c in
     let after-command-step = command-step-from-loop-again c in
     let G = at-loop .loop .inv .0 in
-    let X = going-reads _ _ _ _ _ _ _ _ _ _ G _ (after-command-at .command-at .ensures) _ (admitted-from-loop-again c .admitted .ensures) (lent after-command-step) _ (after-command-step .command-step .ensures .0) in
+    let X = going-reads _ _ _ _ _ _ _ _ _ _ G _ (after-command-at .command-at .ensures) _ (admitted-from-loop-again c .admitted .ensures)
+    (lent after-command-step) _ (after-command-step .command-step .ensures .0) in
     let k = after-command-step .command-step .kept in
     let is = ap (λ r. r .next) (after-command-at .command-at .ensures) in
-    let on = going-next _ _ _ _ _ _ _ _ _ _ G (lent after-command-step) _ X _ (c .before .s .given .1) _ _ _ is (k .0) (after-command-step .command-step .ensures .1) (k .1 .1 .1 .1 .1 .0) in
-    (on, k .0 ∙ at-loop .loop .inv .1, k .1 .0 ∙ at-loop .loop .inv .2, k .1 .1 .0 ∙ at-loop .loop .inv .3, k .1 .1 .1 .0 ∙ at-loop .loop .inv .4, k .1 .1 .1 .1 .0 ∙ at-loop .loop .inv .5, k .1 .1 .1 .1 .1 .0 ∙ at-loop .loop .inv .6, k .1 .1 .1 .1 .1 .1 .0 ∙ at-loop .loop .inv .7, k .1 .1 .1 .1 .1 .1 .1 .0 ∙ at-loop .loop .inv .8, k .1 .1 .1 .1 .1 .1 .1 .1 .0 ∙ at-loop .loop .inv .9, k .1 .1 .1 .1 .1 .1 .1 .1 .1 .0 ∙ at-loop .loop .inv .10)
+    let on = going-next _ _ _ _ _ _ _ _ _ _ G (lent after-command-step) _ X _ (c .before .s .given .1) _ _ _ is (k .0)
+    (after-command-step .command-step .ensures .1) (k .1 .1 .1 .1 .1 .0) in (
+      on,
+      k .0 ∙ at-loop .loop .inv .1,
+      k .1 .0 ∙ at-loop .loop .inv .2,
+      k .1 .1 .0 ∙ at-loop .loop .inv .3,
+      k .1 .1 .1 .0
+          ∙ at-loop .loop .inv .4,
+      k .1 .1 .1 .1 .0 ∙ at-loop .loop .inv .5,
+      k .1 .1 .1 .1 .1 .0 ∙ at-loop .loop .inv .6,
+      k .1 .1 .1 .1 .1 .1 .0 ∙ at-loop .loop .inv .7,
+      k .1 .1 .1 .1 .1 .1 .1 .0 ∙ at-loop .loop .inv .8,
+      k .1 .1 .1 .1 .1 .1 .1 .1 .0
+          ∙ at-loop .loop .inv .9,
+      k .1 .1 .1 .1 .1 .1 .1 .1 .1 .0 ∙ at-loop .loop .inv .10,
+    )
 
 same-length-21 : tie.Need-same-length-21 Inv-loop μ-loop
 same-length-21 c =

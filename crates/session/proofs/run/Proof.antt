@@ -59,7 +59,10 @@ run-header-requires c κs =
     let a = start .args in
     let z = lent-sized _ _ _ _ (start .pre .0) in (
       emptied-opened (length (a .vars .now)) (length (a .members .now)) (z .columns .least) (z .columns .most) (z .member-room) _ _ _ _ _ _
-          (after-empty .empty .ensures .0) (after-empty .empty .ensures .1 .0 ∙ ap zeros (z .columns .lows)) (after-empty .empty .ensures .1 .1 .0 ∙ ap zeros (z .columns .highs)) (after-empty .empty .ensures .1 .1 .1 .0 ∙ ap zeros (z .columns .heads)) (after-empty .empty .ensures .1 .1 .1 .1 .0 ∙ ap zeros (z .columns .links)) (after-empty .empty .ensures .1 .1 .1 .1 .1),
+          (after-empty .empty .ensures .0) (after-empty .empty .ensures .1 .0 ∙ ap zeros (z .columns .lows))
+          (after-empty .empty .ensures .1 .1 .0 ∙ ap zeros (z .columns .highs))
+          (after-empty .empty .ensures .1 .1 .1 .0 ∙ ap zeros (z .columns .heads))
+          (after-empty .empty .ensures .1 .1 .1 .1 .0 ∙ ap zeros (z .columns .links)) (after-empty .empty .ensures .1 .1 .1 .1 .1),
       (
         z .scratch-room,
         start .pre .1 .0 ∙ ap unmarked (sym (after-empty .empty .kept .0)),
@@ -135,8 +138,11 @@ returns c =
     let after-empty = empty-from-return c in
     let after-run-header = run-header-from-return c in
     let a = start .args in
-    run-is (a .mode) (length (a .vars .now)) (length (a .members .now)) (length (a .scratch .now)) (a .formula .now) (a .proof .now) _ _ _ _ _ _ _ _
-    (after-run-header .run-header .ensures) (after-empty .empty .kept .0) (after-empty .empty .kept .1 .1 .1 .1 .1 .0) (c .before .before .clear-numbers .ensures) (after-run-header .run-header .kept .1 .1 .1 .1 .1 .1 .1 .1 .0)
+    run-is (a .mode) (length (a .vars .now)) (length (a .members .now)) (length (a .scratch .now)) (a .formula .now) (a .proof .now) _ _ _ _
+    _ _ _ _
+    (after-run-header .run-header .ensures) (after-empty .empty .kept .0) (after-empty .empty .kept .1 .1 .1 .1 .1 .0)
+    (c .before .before .clear-numbers .ensures) (after-run-header .run-header .kept .1 .1 .1 .1 .1 .1 .1 .1 .0)
 
 pub run-spec : {M : Type 1} → statement M
-run-spec = tie.close (tie.spec empty-requires clear-bytes-requires run-header-requires clear-numbers-requires same-length same-length-2 same-length-3 same-length-4 same-length-5 same-length-6 same-length-7 same-length-8 same-length-9 same-length-10 returns)
+run-spec = tie.close (tie.spec empty-requires clear-bytes-requires run-header-requires clear-numbers-requires same-length same-length-2
+    same-length-3 same-length-4 same-length-5 same-length-6 same-length-7 same-length-8 same-length-9 same-length-10 returns)

@@ -93,7 +93,8 @@ run-proof-requires c κs =
     let after-read-clauses = read-clauses-from-run-proof-call c in
     let after-count = count-from-run-proof-call c in
     let x = after-read-clauses .read-clauses .last in (
-      subst (Begins (start .args .variables) (x .0) (x .1 .0) (x .1 .1 .0) (x .1 .1 .1 .0) (x .1 .1 .1 .1 .0) (x .1 .1 .1 .1 .1 .0)) (after-count .count .given .1) (after-read-clauses .read-clauses .ensures .1),
+      subst (Begins (start .args .variables) (x .0) (x .1 .0) (x .1 .1 .0) (x .1 .1 .1 .0) (x .1 .1 .1 .1 .0) (x .1 .1 .1 .1 .1 .0))
+          (after-count .count .given .1) (after-read-clauses .read-clauses .ensures .1),
       start .pre .1 .0,
       omega (arith, start .pre .0 .room, after-read-clauses .read-clauses .kept .1 .1 .1 .1 .1 .0),
       start .pre .1 .3,
@@ -155,7 +156,9 @@ returns c =
     (after-empty .empty .ensures .1 .1 .1 .1 .0 ∙ ap zeros (after-read-clauses .read-clauses .kept .1 .1 .1 .1 .0 ∙ G .links))
     (length (a .members .now)) (length (a .scratch .now)) _ _ _ _ _
     (after-empty .empty .ensures .1 .1 .1 .1 .1 ∙ ap zeros (after-read-clauses .read-clauses .kept .1 .1 .1 .1 .1 .0)) (start .pre .1 .6)
-    ∙ unbegun-is (a .mode) (a .variables) (a .proof .now) (x .0) (x .1 .0) (x .1 .1 .0) (x .1 .1 .1 .0) (x .1 .1 .1 .1 .0) (x .1 .1 .1 .1 .1 .0) (length (a .vars .now)) (length (a .members .now)) (length (a .scratch .now)) _ _ (after-read-clauses .read-clauses .ensures .0 (a .mode) (a .proof .now)) _ _ _ (after-number .number .given .1)
+    ∙ unbegun-is (a .mode) (a .variables) (a .proof .now) (x .0) (x .1 .0) (x .1 .1 .0) (x .1 .1 .1 .0) (x .1 .1 .1 .1 .0)
+    (x .1 .1 .1 .1 .1 .0) (length (a .vars .now)) (length (a .members .now)) (length (a .scratch .now)) _ _
+    (after-read-clauses .read-clauses .ensures .0 (a .mode) (a .proof .now)) _ _ _ (after-number .number .given .1)
 
 same-length-7 : tie.Need-same-length-7
 same-length-7 c =
@@ -221,7 +224,12 @@ returns-2 c =
     let after-run-proof = run-proof-from-return-2 c in
     let a = start .args in
     let x = after-read-clauses .read-clauses .last in
-    after-run-proof .run-proof .ensures ∙ begun-is (a .mode) (a .variables) (a .proof .now) (x .0) (x .1 .0) (x .1 .1 .0) (x .1 .1 .1 .0) (x .1 .1 .1 .1 .0) (x .1 .1 .1 .1 .1 .0) (length (a .vars .now)) (length (a .members .now)) (length (a .scratch .now)) _ _ (after-read-clauses .read-clauses .ensures .0 (a .mode) (a .proof .now)) _ _ (after-count .count .given .1) (after-read-clauses .read-clauses .kept .0) (after-read-clauses .read-clauses .kept .1 .1 .1 .1 .1 .0)
+    after-run-proof .run-proof .ensures ∙ begun-is (a .mode) (a .variables) (a .proof .now) (x .0) (x .1 .0) (x .1 .1 .0) (x .1 .1 .1 .0)
+    (x .1 .1 .1 .1 .0) (x .1 .1 .1 .1 .1 .0) (length (a .vars .now)) (length (a .members .now)) (length (a .scratch .now)) _ _
+    (after-read-clauses .read-clauses .ensures .0 (a .mode) (a .proof .now)) _ _ (after-count .count .given .1)
+    (after-read-clauses .read-clauses .kept .0) (after-read-clauses .read-clauses .kept .1 .1 .1 .1 .1 .0)
 
 pub run-clauses-spec : {M : Type 1} → statement M
-run-clauses-spec = tie.close (tie.spec read-clauses-requires enum-known-number empty-requires enum-known-count run-proof-requires same-length same-length-2 same-length-3 same-length-4 same-length-5 same-length-6 returns same-length-7 same-length-8 same-length-9 same-length-10 same-length-11 same-length-12 same-length-13 same-length-14 same-length-15 same-length-16 returns-2)
+run-clauses-spec = tie.close (tie.spec read-clauses-requires enum-known-number empty-requires enum-known-count run-proof-requires
+    same-length same-length-2 same-length-3 same-length-4 same-length-5 same-length-6 returns same-length-7 same-length-8 same-length-9
+    same-length-10 same-length-11 same-length-12 same-length-13 same-length-14 same-length-15 same-length-16 returns-2)

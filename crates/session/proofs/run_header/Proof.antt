@@ -68,7 +68,9 @@ returns c =
     let start = start-from-return c in
     let a = start .args in
     unopened-is _ _ _ (start .pre .0) (start .pre .1 .3) (length (a .scratch .now)) _ _
-    ∙ ap (outcome (length (a .vars .now)) (length (a .members .now)) (length (a .scratch .now))) (sym (verdict-improper (a .mode) (length (a .vars .now)) _ (a .proof .now) _ _ (sym (read-header-from-return c .read-header .ensures) ∙ c .before .number .given .1)))
+    ∙ ap (outcome (length (a .vars .now)) (length (a .members .now)) (length (a .scratch .now)))
+    (sym (verdict-improper (a .mode) (length (a .vars .now)) _ (a .proof .now) _ _
+    (sym (read-header-from-return c .read-header .ensures) ∙ c .before .number .given .1)))
 
 same-length : tie.Need-same-length
 same-length c =
@@ -128,7 +130,11 @@ returns-2 c =
     let after-run-clauses = run-clauses-from-return-2 c in
     let a = start .args in
     after-run-clauses .run-clauses .ensures
-    ∙ ap (outcome (length (a .vars .now)) (length (a .members .now)) (length (a .scratch .now))) (sym (verdict-proper (a .mode) (length (a .vars .now)) _ (a .proof .now) _ _ _ (sym (after-read-header .read-header .ensures) ∙ after-variables .variables .given .1)))
+    ∙ ap (outcome (length (a .vars .now)) (length (a .members .now)) (length (a .scratch .now)))
+    (sym (verdict-proper (a .mode) (length (a .vars .now)) _ (a .proof .now) _ _ _
+    (sym (after-read-header .read-header .ensures) ∙ after-variables .variables .given .1)))
 
 pub run-header-spec : {M : Type 1} → statement M
-run-header-spec = tie.close (tie.spec read-header-requires enum-known-number enum-known-variables run-clauses-requires returns same-length same-length-2 same-length-3 same-length-4 same-length-5 same-length-6 same-length-7 same-length-8 same-length-9 same-length-10 returns-2)
+run-header-spec = tie.close (tie.spec read-header-requires enum-known-number enum-known-variables run-clauses-requires returns same-length
+    same-length-2 same-length-3 same-length-4 same-length-5 same-length-6 same-length-7 same-length-8 same-length-9 same-length-10
+    returns-2)

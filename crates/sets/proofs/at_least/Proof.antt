@@ -48,7 +48,12 @@ slice-aggregate-diagonals c = search needs
 
 diagonals-requires : tie.Need-diagonals-requires
 diagonals-requires c κs = (
-  (start-from-diagonals-call c .pre, (size-of-from-diagonals-call c .size-of .ensures), omega (arith, else1-from-diagonals-call c .if1 .left), else2-from-diagonals-call c .if2 .left),
+  (
+    start-from-diagonals-call c .pre,
+    (size-of-from-diagonals-call c .size-of .ensures),
+    omega (arith, else1-from-diagonals-call c .if1 .left),
+    else2-from-diagonals-call c .if2 .left,
+  ),
   first-row 64 _ (omega (arith, else2-from-diagonals-call c .if2 .left, (size-of-from-diagonals-call c .size-of .ensures) .most)),
 )
 

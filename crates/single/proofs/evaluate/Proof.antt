@@ -81,22 +81,31 @@ module _ (c : tie.After-value-of) where
 
 returns-2 : tie.Need-returns-2
 returns-2 c =
-    evaluated-26 _ _ _ _ (sym (size-fits-from-then2 c .size-fits .ensures) ∙ not-false _ (c .before .before .if1 .left)) (sym (c .before .order-fits .ensures) ∙ not-true _ (c .if2 .taken))
+    evaluated-26 _ _ _ _ (sym (size-fits-from-then2 c .size-fits .ensures) ∙ not-false _ (c .before .before .if1 .left))
+    (sym (c .before .order-fits .ensures) ∙ not-true _ (c .if2 .taken))
 
 cast-if3 : tie.Need-cast-if3
 cast-if3 c = search needs
 
 returns-3 : tie.Need-returns-3
 returns-3 c =
-    evaluated-13 _ _ _ _ (sym (size-fits-from-then3 c .size-fits .ensures) ∙ not-false _ (else1-from-then3 c .if1 .left)) (sym (order-fits-from-then3 c .order-fits .ensures) ∙ not-false _ (c .before .before .if2 .left)) (c .if3 .taken)
+    evaluated-13 _ _ _ _ (sym (size-fits-from-then3 c .size-fits .ensures) ∙ not-false _ (else1-from-then3 c .if1 .left))
+    (sym (order-fits-from-then3 c .order-fits .ensures) ∙ not-false _ (c .before .before .if2 .left)) (c .if3 .taken)
 
 value-of-requires : tie.Need-value-of-requires
-value-of-requires c κs =
-    (readable (columnsMade (start-from-else3 c .args .vars .now) (start-from-else3 c .args .lows .now) (start-from-else3 c .args .highs .now) (start-from-else3 c .args .heads .now) (start-from-else3 c .args .links .now)) _ (sym (size-fits-from-else3 c .size-fits .ensures) ∙ not-false _ (else1-from-else3 c .if1 .left)) (sym (order-fits-from-else3 c .order-fits .ensures) ∙ not-false _ (c .before .before .if2 .left)), c .if3 .left)
+value-of-requires c κs = (
+  readable (columnsMade (start-from-else3 c .args .vars .now) (start-from-else3 c .args .lows .now)
+      (start-from-else3 c .args .highs .now) (start-from-else3 c .args .heads .now) (start-from-else3 c .args .links .now)) _
+      (sym (size-fits-from-else3 c .size-fits .ensures) ∙ not-false _ (else1-from-else3 c .if1 .left))
+      (sym (order-fits-from-else3 c .order-fits .ensures) ∙ not-false _ (c .before .before .if2 .left)),
+  c .if3 .left,
+)
 
 returns-4 : tie.Need-returns-4
 returns-4 c =
-    ap (λ (b : Bool). record { number = 0; yes = b; count = start-from-return-4 c .args .count }) (c .value-of .ensures) ∙ evaluated-0 _ _ _ _ (sym (size-fits-from-return-4 c .size-fits .ensures) ∙ not-false _ (else1-from-return-4 c .if1 .left)) (sym (order-fits-from-return-4 c .order-fits .ensures) ∙ not-false _ (else2-from-return-4 c .if2 .left)) (c .before .if3 .left)
+    ap (λ (b : Bool). record { number = 0; yes = b; count = start-from-return-4 c .args .count }) (c .value-of .ensures)
+    ∙ evaluated-0 _ _ _ _ (sym (size-fits-from-return-4 c .size-fits .ensures) ∙ not-false _ (else1-from-return-4 c .if1 .left))
+    (sym (order-fits-from-return-4 c .order-fits .ensures) ∙ not-false _ (else2-from-return-4 c .if2 .left)) (c .before .if3 .left)
 
 pub evaluate-spec : {M : Type 1} → statement M
 evaluate-spec =

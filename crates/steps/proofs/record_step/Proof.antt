@@ -2,7 +2,7 @@
 use mathlib.Core.Path.{refl}
 use borrow.Author.Needs.{needs}
 use native.Mathlib.Omega.{arith}
-use Rattle.entries.specs.States.{Lent, lentOf}
+use Rattle.state.specs.States.{Lent, lentOf}
 use Rattle.steps.proofs.Lines.{held-64}
 use Rattle.steps.proofs.Records.{as-node, as-witness, as-line, as-strike, as-set, as-end, cut-short, unknown-kind, no-record}
 use Rattle.steps.proofs.record_step.Statement.{statement}
@@ -10,7 +10,8 @@ use Rattle.steps.proofs.record_step.Tie as tie
 
 module _ (s : tie.Start) where
   abbrev lent : Lent
-  lent = lentOf (s .args .vars .now) (s .args .lows .now) (s .args .highs .now) (s .args .heads .now) (s .args .links .now) (s .args .members .now) (s .args .scratch .now) (s .args .struck .now)
+  lent = lentOf (s .args .vars .now) (s .args .lows .now) (s .args .highs .now) (s .args .heads .now) (s .args .links .now)
+      (s .args .members .now) (s .args .scratch .now) (s .args .struck .now)
 
 enum-known-r : tie.Need-enum-known-r
 enum-known-r c = search needs
@@ -149,13 +150,15 @@ enum-known-r-3 : tie.Need-enum-known-r-3
 enum-known-r-3 c = search needs
 
 line-step-requires : tie.Need-line-step-requires
-line-step-requires c κs = let s = start-from-line-step-call c in (held-64 (s .args .variables) (lent s) (s .args .st) (s .pre .0), s .pre .1, s .pre .2)
+line-step-requires c κs = let s = start-from-line-step-call c in
+    (held-64 (s .args .variables) (lent s) (s .args .st) (s .pre .0), s .pre .1, s .pre .2)
 
 enum-known-r-4 : tie.Need-enum-known-r-4
 enum-known-r-4 c = search needs
 
 strike-step-requires : tie.Need-strike-step-requires
-strike-step-requires c κs = let s = start-from-strike-step-call c in omega (arith, s .pre .0 .many, s .pre .0 .lines, s .pre .0 .room, s .pre .0 .marked)
+strike-step-requires c κs = let s = start-from-strike-step-call c in omega
+    (arith, s .pre .0 .many, s .pre .0 .lines, s .pre .0 .room, s .pre .0 .marked)
 
 enum-known-r-5 : tie.Need-enum-known-r-5
 enum-known-r-5 c = search needs
@@ -197,10 +200,18 @@ same-length-6 : tie.Need-same-length-6
 same-length-6 c = node-step-from-return c .node-step .kept .1 .1 .1 .1 .1 .0
 
 returns : tie.Need-returns
-returns c = let s = start-from-return c in (as-node _ _ _ _ _ _ _ _ _ (r-from-return c .r .given .1) (node-step-from-return c .node-step .ensures (s .args .members .now) (s .args .struck .now) (s .pre .0)), s .pre .1)
+returns c = let s = start-from-return c in (
+  as-node _ _ _ _ _ _ _ _ _ (r-from-return c .r .given .1)
+      (node-step-from-return c .node-step .ensures (s .args .members .now) (s .args .struck .now) (s .pre .0)),
+  s .pre .1,
+)
 
 returns-2 : tie.Need-returns-2
-returns-2 c = let s = start-from-return-2 c in (as-witness _ _ _ _ _ _ _ _ _ _ (c .before .before .r2 .given .1) (c .witness-step .ensures (lent s) (s .pre .0)), s .pre .1)
+returns-2 c = let s = start-from-return-2 c in (
+  as-witness _ _ _ _ _ _ _ _ _ _ (c .before .before .r2 .given .1)
+      (c .witness-step .ensures (lent s) (s .pre .0)),
+  s .pre .1,
+)
 
 same-length-7 : tie.Need-same-length-7
 same-length-7 c = line-step-from-return-3 c .line-step .kept .0
@@ -233,7 +244,11 @@ same-length-16 : tie.Need-same-length-16
 same-length-16 c = refl
 
 returns-3 : tie.Need-returns-3
-returns-3 c = let s = start-from-return-3 c in (as-line _ _ _ _ _ _ _ _ _ _ (r3-from-return-3 c .r3 .given .1) (line-step-from-return-3 c .line-step .ensures .0 (s .args .variables) (s .pre .0)), line-step-from-return-3 c .line-step .ensures .1)
+returns-3 c = let s = start-from-return-3 c in (
+  as-line _ _ _ _ _ _ _ _ _ _ (r3-from-return-3 c .r3 .given .1)
+      (line-step-from-return-3 c .line-step .ensures .0 (s .args .variables) (s .pre .0)),
+  line-step-from-return-3 c .line-step .ensures .1,
+)
 
 same-length-17 : tie.Need-same-length-17
 same-length-17 c = strike-step-from-return-4 c .strike-step .kept .0
@@ -242,7 +257,9 @@ returns-4 : tie.Need-returns-4
 returns-4 c =
     let s = start-from-return-4 c in (
       as-strike _ _ _ _ _ _ _ _ _ (r4-from-return-4 c .r4 .given .1)
-          (strike-step-from-return-4 c .strike-step .ensures (s .args .variables) (s .args .vars .now) (s .args .lows .now) (s .args .highs .now) (s .args .heads .now) (s .args .links .now) (s .args .members .now) (s .args .scratch .now) (s .pre .0)),
+          (strike-step-from-return-4 c .strike-step .ensures (s .args .variables) (s .args .vars .now) (s .args .lows .now)
+          (s .args .highs .now) (s .args .heads .now) (s .args .links .now) (s .args .members .now) (s .args .scratch .now)
+          (s .pre .0)),
       s .pre .1,
     )
 
@@ -266,11 +283,18 @@ same-length-23 c = set-step-from-return-5 c .set-step .kept .1 .1 .1 .1 .1 .0
 
 returns-5 : tie.Need-returns-5
 returns-5 c =
-    let s = start-from-return-5 c in
-    (as-set _ _ _ _ _ _ _ _ _ _ (r5-from-return-5 c .r5 .given .1) (set-step-from-return-5 c .set-step .ensures (s .args .members .now) (s .args .struck .now) (s .pre .0)), s .pre .1)
+    let s = start-from-return-5 c in (
+      as-set _ _ _ _ _ _ _ _ _ _ (r5-from-return-5 c .r5 .given .1)
+          (set-step-from-return-5 c .set-step .ensures (s .args .members .now) (s .args .struck .now) (s .pre .0)),
+      s .pre .1,
+    )
 
 returns-6 : tie.Need-returns-6
-returns-6 c = let s = start-from-return-6 c in (as-end _ _ _ _ _ _ _ _ (c .before .enum-told .given .1) (c .end-step .ensures (s .args .variables) (lent s)), s .pre .1)
+returns-6 c = let s = start-from-return-6 c in (
+  as-end _ _ _ _ _ _ _ _ (c .before .enum-told .given .1)
+      (c .end-step .ensures (s .args .variables) (lent s)),
+  s .pre .1,
+)
 
 returns-7 : tie.Need-returns-7
 returns-7 c = let s = start-from-return-7 c in (cut-short _ _ _ _ _ _ (c .enum-told2 .given .1), s .pre .1)

@@ -73,22 +73,39 @@ module _ (c : tie.After-with-variable Inv-loop μ-loop) where
 
 -- The node that the loop is at: what good order says of it, and that the memo has cells up to it.
 module _ (l : tie.In-loop Inv-loop μ-loop) where
-  at-node : Here (start-from-in-loop l .args .vars .now) (start-from-in-loop l .args .lows .now) (start-from-in-loop l .args .highs .now) (start-from-in-loop l .args .count) (l .before .loop .k)
+  at-node : Here (start-from-in-loop l .args .vars .now) (start-from-in-loop l .args .lows .now) (start-from-in-loop l .args .highs .now)
+      (start-from-in-loop l .args .count) (l .before .loop .k)
   at-node = here _ _ _ _ (start-from-in-loop l .pre .0) _ (l .before .loop .inv .1) (l .loop-test .taken)
 
   small : l .before .loop .k < 65536
   small = omega (arith, l .loop-test .taken, start-from-in-loop l .pre .0 .within, start-from-in-loop l .pre .0 .most)
 
   cell : l .before .loop .k < length (l .before .loop .memo)
-  cell = omega (arith, l .loop-test .taken, l .before .loop .inv .3, clear-cells-from-in-loop l .clear-cells .kept .0, start-from-in-loop l .pre .1, start-from-in-loop l .pre .0 .within)
+  cell = omega (
+    arith,
+    l .loop-test .taken,
+    l .before .loop .inv .3,
+    clear-cells-from-in-loop l .clear-cells .kept .0,
+    start-from-in-loop l .pre .1,
+    start-from-in-loop l .pre .0 .within,
+  )
 
 clear-cells-requires : tie.Need-clear-cells-requires Inv-loop μ-loop
-clear-cells-requires c κs = omega (arith, start-from-clear-cells-call c .pre .0 .least, start-from-clear-cells-call c .pre .0 .within, start-from-clear-cells-call c .pre .1)
+clear-cells-requires c κs = omega (
+  arith,
+  start-from-clear-cells-call c .pre .0 .least,
+  start-from-clear-cells-call c .pre .0 .within,
+  start-from-clear-cells-call c .pre .1,
+)
 
 loop-holds : tie.Need-loop-holds Inv-loop μ-loop
 loop-holds c =
-    let a = start-from-loop-holds c .args in
-    (known-leaves (nodesIn (a .vars .now) (a .lows .now) (a .highs .now) (a .count)) (c .before .before .clear-cells .last .0), omega arith, start-from-loop-holds c .pre .0 .least, refl)
+    let a = start-from-loop-holds c .args in (
+      known-leaves (nodesIn (a .vars .now) (a .lows .now) (a .highs .now) (a .count)) (c .before .before .clear-cells .last .0),
+      omega arith,
+      start-from-loop-holds c .pre .0 .least,
+      refl,
+    )
 
 mul-low : tie.Need-mul-low Inv-loop μ-loop
 mul-low c = search needs
@@ -112,13 +129,21 @@ mul-with-variable : tie.Need-mul-with-variable Inv-loop μ-loop
 mul-with-variable c = omega (arith, at-node (in-loop-from-shared-slice-read-high c), small (in-loop-from-shared-slice-read-high c))
 
 slice-read-with-variable : tie.Need-slice-read-with-variable Inv-loop μ-loop
-slice-read-with-variable c = omega (arith, at-node (in-loop-from-slice-read-with-variable c), cell (in-loop-from-slice-read-with-variable c))
+slice-read-with-variable c = omega (
+  arith,
+  at-node (in-loop-from-slice-read-with-variable c),
+  cell (in-loop-from-slice-read-with-variable c),
+)
 
 mul-with-variable-2 : tie.Need-mul-with-variable-2 Inv-loop μ-loop
 mul-with-variable-2 c = omega (arith, at-node (in-loop-from-slice-read-with-variable c), small (in-loop-from-slice-read-with-variable c))
 
 slice-read-with-variable-2 : tie.Need-slice-read-with-variable-2 Inv-loop μ-loop
-slice-read-with-variable-2 c = omega (arith, at-node (in-loop-from-slice-read-with-variable-2 c), cell (in-loop-from-slice-read-with-variable-2 c))
+slice-read-with-variable-2 c = omega (
+  arith,
+  at-node (in-loop-from-slice-read-with-variable-2 c),
+  cell (in-loop-from-slice-read-with-variable-2 c),
+)
 
 shared-slice-read-with-variable : tie.Need-shared-slice-read-with-variable Inv-loop μ-loop
 shared-slice-read-with-variable c = search needs
@@ -143,8 +168,15 @@ loop-again c =
     let l = in-loop-from-loop-again c in
     let a = start-from-in-loop l .args in
     let w = l .before .loop in
-    let new = support-node (a .vars .now) (a .lows .now) (a .highs .now) (a .count) (start-from-in-loop l .pre .0) (w .k) (w .inv .1) (l .loop-test .taken) _ _ (w .inv .0 _ (at-node l .low-less)) (w .inv .0 _ (at-node l .high-less)) in
-    (known-next _ (w .memo) (w .k) _ (cell l) (w .inv .0) (subst (λ (x : ℕ). Support x (diagramAt (nodesIn (a .vars .now) (a .lows .now) (a .highs .now) (a .count)) (w .k))) (sym (c .with-variable .ensures)) new), omega arith, omega (arith, l .loop-test .taken), length-set (w .memo) (w .k) _ ∙ w .inv .3)
+    let new = support-node (a .vars .now) (a .lows .now) (a .highs .now) (a .count) (start-from-in-loop l .pre .0) (w .k) (w .inv .1)
+    (l .loop-test .taken) _ _ (w .inv .0 _ (at-node l .low-less)) (w .inv .0 _ (at-node l .high-less)) in (
+      known-next _ (w .memo) (w .k) _ (cell l) (w .inv .0)
+          (subst (λ (x : ℕ). Support x (diagramAt (nodesIn (a .vars .now) (a .lows .now) (a .highs .now) (a .count)) (w .k)))
+          (sym (c .with-variable .ensures)) new),
+      omega arith,
+      omega (arith, l .loop-test .taken),
+      length-set (w .memo) (w .k) _ ∙ w .inv .3,
+    )
 
 same-length : tie.Need-same-length Inv-loop μ-loop
 same-length c = c .before .loop .inv .3 ∙ clear-cells-from-return c .clear-cells .kept .0
@@ -152,7 +184,12 @@ same-length c = c .before .loop .inv .3 ∙ clear-cells-from-return c .clear-cel
 returns : tie.Need-returns Inv-loop μ-loop
 returns c =
     let s = start-from-return c in
-    known-all _ _ (c .before .loop .k) (omega (arith, length-in (s .args .vars .now) (s .args .lows .now) (s .args .highs .now) (s .args .count) (s .pre .0), c .loop-test .left)) (c .before .loop .inv .0)
+    known-all _ _ (c .before .loop .k) (omega (
+      arith,
+      length-in (s .args .vars .now) (s .args .lows .now) (s .args .highs .now)
+          (s .args .count) (s .pre .0),
+      c .loop-test .left,
+    )) (c .before .loop .inv .0)
 
 pub all-supports-spec : {M : Type 1} → statement M
 all-supports-spec =

@@ -16,7 +16,8 @@ use Rattle.supports.proofs.supports_of.Tie as tie
 
 abbrev Inv-loop : tie.InvT-loop
 Inv-loop vars lows highs memo₀ list words₀ count i₀ memo words i =
-    Filled (nodesIn vars lows highs count) list words i × SupportMemo memo (nodesIn vars lows highs count) × (length memo ≡ length memo₀) × (length words ≡ length words₀)
+    Filled (nodesIn vars lows highs count) list words i × SupportMemo memo (nodesIn vars lows highs count) × (length memo ≡ length memo₀)
+    × (length words ≡ length words₀)
 
 abbrev μ-loop : tie.MeasureT-loop
 μ-loop vars lows highs memo₀ list words₀ count i₀ memo words i =
@@ -77,29 +78,29 @@ module _ (c : tie.Then2 Inv-loop μ-loop) where
   abbrev start-from-then2 : tie.Start Inv-loop μ-loop
   start-from-then2 = start-from-joined1 (joined1-from-at-loop at-loop-from-then2)
 
-module _ (c : tie.After-support-from-arg Inv-loop μ-loop) where
-  abbrev in-loop-from-support-from-call : tie.In-loop Inv-loop μ-loop
-  in-loop-from-support-from-call = in-loop-from-slice-read-known (c .before .before)
+module _ (c : tie.After-word-from-arg Inv-loop μ-loop) where
+  abbrev in-loop-from-word-from-call : tie.In-loop Inv-loop μ-loop
+  in-loop-from-word-from-call = in-loop-from-slice-read-known (c .before .before)
 
-  abbrev at-loop-from-support-from-call : tie.At-loop Inv-loop μ-loop
-  at-loop-from-support-from-call = at-loop-from-in-loop in-loop-from-support-from-call
+  abbrev at-loop-from-word-from-call : tie.At-loop Inv-loop μ-loop
+  at-loop-from-word-from-call = at-loop-from-in-loop in-loop-from-word-from-call
 
-  abbrev joined1-from-support-from-call : tie.Joined1 Inv-loop μ-loop
-  joined1-from-support-from-call = joined1-from-at-loop at-loop-from-support-from-call
+  abbrev joined1-from-word-from-call : tie.Joined1 Inv-loop μ-loop
+  joined1-from-word-from-call = joined1-from-at-loop at-loop-from-word-from-call
 
-  abbrev start-from-support-from-call : tie.Start Inv-loop μ-loop
-  start-from-support-from-call = start-from-joined1 joined1-from-support-from-call
+  abbrev start-from-word-from-call : tie.Start Inv-loop μ-loop
+  start-from-word-from-call = start-from-joined1 joined1-from-word-from-call
 
-module _ (c : tie.After-support-from Inv-loop μ-loop) where
-  abbrev slice-known5-from-support-from : tie.After-slice-known5 Inv-loop μ-loop
-  slice-known5-from-support-from = c .before .before .before
+module _ (c : tie.After-word-from Inv-loop μ-loop) where
+  abbrev slice-known5-from-word-from : tie.After-slice-known5 Inv-loop μ-loop
+  slice-known5-from-word-from = c .before .before .before
 
 module _ (c : tie.After-slice-known6 Inv-loop μ-loop) where
-  abbrev support-from-from-loop-less-2 : tie.After-support-from Inv-loop μ-loop
-  support-from-from-loop-less-2 = c .before .before
+  abbrev word-from-from-loop-less-2 : tie.After-word-from Inv-loop μ-loop
+  word-from-from-loop-less-2 = c .before .before
 
   abbrev in-loop-from-loop-less-2 : tie.In-loop Inv-loop μ-loop
-  in-loop-from-loop-less-2 = in-loop-from-slice-read-known (slice-known5-from-support-from support-from-from-loop-less-2)
+  in-loop-from-loop-less-2 = in-loop-from-slice-read-known (slice-known5-from-word-from word-from-from-loop-less-2)
 
   abbrev at-loop-from-loop-less-2 : tie.At-loop Inv-loop μ-loop
   at-loop-from-loop-less-2 = at-loop-from-in-loop in-loop-from-loop-less-2
@@ -110,7 +111,8 @@ module _ (c : tie.After-slice-known6 Inv-loop μ-loop) where
 -- What the memo holds before the list is gone through, cleared or filled.
 module _ (j : tie.Joined1 Inv-loop μ-loop) where
   abbrev nodes : List Node
-  nodes = nodesIn (start-from-joined1 j .args .vars .now) (start-from-joined1 j .args .lows .now) (start-from-joined1 j .args .highs .now) (start-from-joined1 j .args .count)
+  nodes = nodesIn (start-from-joined1 j .args .vars .now) (start-from-joined1 j .args .lows .now) (start-from-joined1 j .args .highs .now)
+      (start-from-joined1 j .args .count)
 
   abbrev Begun : List ℕ → Type 0
   Begun memo = SupportMemo memo nodes × (length memo ≡ length (start-from-joined1 j .args .memo .now))
@@ -119,7 +121,8 @@ module _ (j : tie.Joined1 Inv-loop μ-loop) where
   begun =
       let a = start-from-joined1 j .args in
       let len = length-in (a .vars .now) (a .lows .now) (a .highs .now) (a .count) (start-from-joined1 j .pre .0) in
-      ⊎-elim (λ w. subst Begun (sym (w .5)) (memo-cleared Support nodes _ (a .count) len (w .2 .ensures), w .2 .kept .0)) (λ w. subst Begun (sym (w .5)) (w .2 .ensures, w .2 .kept .1 .1 .1 .0)) (j .if1 .came)
+      ⊎-elim (λ w. subst Begun (sym (w .5)) (memo-cleared Support nodes _ (a .count) len (w .2 .ensures), w .2 .kept .0))
+      (λ w. subst Begun (sym (w .5)) (w .2 .ensures, w .2 .kept .1 .1 .1 .0)) (j .if1 .came)
 
 clear-cells-requires : tie.Need-clear-cells-requires Inv-loop μ-loop
 clear-cells-requires c κs =
@@ -153,7 +156,14 @@ slice-read-known : tie.Need-slice-read-known Inv-loop μ-loop
 slice-read-known c =
     let r = start-from-slice-read-known c .pre in
     let w = at-loop-from-slice-read-known c .loop in
-    omega (arith, r .1 (w .i) (in-loop-from-slice-read-known c .loop-test .taken), r .0 .within, r .2, w .inv .2, begun (joined1-from-slice-read-known c) .1)
+    omega (
+      arith,
+      r .1 (w .i) (in-loop-from-slice-read-known c .loop-test .taken),
+      r .0 .within,
+      r .2,
+      w .inv .2,
+      begun (joined1-from-slice-read-known c) .1,
+    )
 
 mul-words : tie.Need-mul-words Inv-loop μ-loop
 mul-words c =
@@ -178,14 +188,29 @@ loop-again c =
     let here = in-loop-from-then2 c .loop-test .taken in
     let t = nodesIn (a .vars .now) (a .lows .now) (a .highs .now) (a .count) in
     let k = getD (a .list .now) (w .i) 0 in
-    let inside : k < length t = omega (arith, start-from-then2 c .pre .1 (w .i) here, length-in (a .vars .now) (a .lows .now) (a .highs .now) (a .count) (start-from-then2 c .pre .0)) in
-    (filled-next t (a .list .now) (w .words) (w .i) (getD (w .memo) k 0) (w .inv .0) here (memo-known Support t (w .memo) k inside (w .inv .1) (c .if2 .taken)), w .inv .1, w .inv .2, length-set (w .words) (w .i) (getD (w .memo) k 0) ∙ w .inv .3)
+    let inside : k < length t = omega (
+      arith,
+      start-from-then2 c .pre .1 (w .i) here,
+      length-in (a .vars .now) (a .lows .now) (a .highs .now) (a .count) (start-from-then2 c .pre .0),
+    ) in (
+      filled-next t (a .list .now) (w .words) (w .i) (getD (w .memo) k 0) (w .inv .0) here
+          (memo-known Support t (w .memo) k inside (w .inv .1) (c .if2 .taken)),
+      w .inv .1,
+      w .inv .2,
+      length-set (w .words) (w .i) (getD (w .memo) k 0) ∙ w .inv .3,
+    )
 
-support-from-requires : tie.Need-support-from-requires Inv-loop μ-loop
-support-from-requires c κs =
-    let r = start-from-support-from-call c .pre in
-    let w = at-loop-from-support-from-call c .loop in
-    ((r .0, r .1 (w .i) (in-loop-from-support-from-call c .loop-test .taken), omega (arith, w .inv .2, begun (joined1-from-support-from-call c) .1, r .2)), w .inv .1)
+word-from-requires : tie.Need-word-from-requires Inv-loop μ-loop
+word-from-requires c κs =
+    let r = start-from-word-from-call c .pre in
+    let w = at-loop-from-word-from-call c .loop in (
+      (
+        r .0,
+        r .1 (w .i) (in-loop-from-word-from-call c .loop-test .taken),
+        omega (arith, w .inv .2, begun (joined1-from-word-from-call c) .1, r .2),
+      ),
+      w .inv .1,
+    )
 
 mul-words-2 : tie.Need-mul-words-2 Inv-loop μ-loop
 mul-words-2 c =
@@ -207,8 +232,13 @@ loop-again-2 : tie.Need-loop-again-2 Inv-loop μ-loop
 loop-again-2 c =
     let a = start-from-loop-less-2 c .args in
     let w = at-loop-from-loop-less-2 c .loop in
-    let y = support-from-from-loop-less-2 c .support-from in
-    (filled-next (nodesIn (a .vars .now) (a .lows .now) (a .highs .now) (a .count)) (a .list .now) (w .words) (w .i) (y .result) (w .inv .0) (in-loop-from-loop-less-2 c .loop-test .taken) (y .ensures .0), y .ensures .1, y .kept .1 .1 .1 .0 ∙ w .inv .2, length-set (w .words) (w .i) (y .result) ∙ w .inv .3)
+    let y = word-from-from-loop-less-2 c .word-from in (
+      filled-next (nodesIn (a .vars .now) (a .lows .now) (a .highs .now) (a .count)) (a .list .now) (w .words) (w .i) (y .result) (w .inv .0)
+          (in-loop-from-loop-less-2 c .loop-test .taken) (y .ensures .0),
+      y .ensures .1,
+      y .kept .1 .1 .1 .0 ∙ w .inv .2,
+      length-set (w .words) (w .i) (y .result) ∙ w .inv .3,
+    )
 
 same-length : tie.Need-same-length Inv-loop μ-loop
 same-length c = c .before .loop .inv .2 ∙ begun (joined1-from-return c) .1
@@ -220,8 +250,11 @@ same-length-2 c =
 returns : tie.Need-returns Inv-loop μ-loop
 returns c =
     let a = start-from-return c .args in
-    let w = c .before .loop in
-    (filled-all (nodesIn (a .vars .now) (a .lows .now) (a .highs .now) (a .count)) (a .list .now) (w .words) (w .i) (w .inv .0) (omega (arith, c .loop-test .left)), w .inv .1)
+    let w = c .before .loop in (
+      filled-all (nodesIn (a .vars .now) (a .lows .now) (a .highs .now) (a .count)) (a .list .now) (w .words) (w .i) (w .inv .0)
+          (omega (arith, c .loop-test .left)),
+      w .inv .1,
+    )
 
 pub supports-of-spec : {M : Type 1} → statement M
 supports-of-spec =
@@ -242,7 +275,7 @@ supports-of-spec =
     add-i
     loop-less
     loop-again
-    support-from-requires
+    word-from-requires
     mul-words-2
     slice-write-words-2
     add-i-2

@@ -53,7 +53,8 @@ module _ (c : tie.After-slice-known7) where
 returns : tie.Need-returns
 returns c =
     let a = start-from-return c .args in
-    appended (tableOf (a .vars .now) (a .lows .now) (a .highs .now) (a .heads .now) (a .links .now) (a .count)) (start-from-return c .pre .0) (a .v) (a .l) (a .h) _ _ (start-from-return c .pre .1) (link-from-return c .link .ensures)
+    appended (tableOf (a .vars .now) (a .lows .now) (a .highs .now) (a .heads .now) (a .links .now) (a .count))
+    (start-from-return c .pre .0) (a .v) (a .l) (a .h) _ _ (start-from-return c .pre .1) (link-from-return c .link .ensures)
 
 pub append-spec : {M : Type 1} → statement M
 append-spec =

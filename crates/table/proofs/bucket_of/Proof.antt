@@ -11,7 +11,8 @@ use Rattle.table.proofs.bucket_of.Tie as tie
 key-is : (v l h low high sum key : ℕ) → low ≡ (l * 12582917) % 4294967296 → high ≡ (h * 4256249) % 4294967296
     → sum ≡ (v + low) % 2 ^ 32 → key ≡ (sum + high) % 2 ^ 32 → key ≡ (v + l * 12582917 + h * 4256249) % 4294967296
 key-is v l h low high sum key a b d e =
-    e ∙ ap (λ (k : ℕ). (k + high) % 4294967296) d ∙ ap (λ (k : ℕ). ((v + k) % 4294967296 + high) % 4294967296) a ∙ ap (λ (k : ℕ). ((v + (l * 12582917) % 4294967296) % 4294967296 + k) % 4294967296) b
+    e ∙ ap (λ (k : ℕ). (k + high) % 4294967296) d ∙ ap (λ (k : ℕ). ((v + k) % 4294967296 + high) % 4294967296) a
+    ∙ ap (λ (k : ℕ). ((v + (l * 12582917) % 4294967296) % 4294967296 + k) % 4294967296) b
     ∙ ap (λ (k : ℕ). (k + (h * 4256249) % 4294967296) % 4294967296) (add-mod-mod v (l * 12582917) 4294967296)
     ∙ add-mod-mod ((v + l * 12582917) % 4294967296) (h * 4256249) 4294967296 ∙ mod-add-mod (v + l * 12582917) 4294967296 (h * 4256249)
 
@@ -46,10 +47,12 @@ module _ (c : tie.After-wrapping-add-u322) where
 
 -- The remainder of the key by n is the chain among n heads.
 module _ (c : tie.After-wrapping-add-u322) where
-  chain-is : (n : ℕ) → c .wrapping-add-u322 .result % n ≡ bucket n (start-from-wrapping-add-u322 c .args .v) (start-from-wrapping-add-u322 c .args .l) (start-from-wrapping-add-u322 c .args .h)
+  chain-is : (n : ℕ) → c .wrapping-add-u322 .result % n ≡ bucket n (start-from-wrapping-add-u322 c .args .v)
+      (start-from-wrapping-add-u322 c .args .l) (start-from-wrapping-add-u322 c .args .h)
   unfolding bucket
   chain-is n =
-      ap (λ (k : ℕ). k % n) (key-is _ _ _ _ _ _ _ (wrapping-product-from-wrapping-add-u322 c .wrapping-product .ensures) (c .before .before .wrapping-product2 .ensures) (c .before .wrapping-add-u32 .ensures) (c .wrapping-add-u322 .ensures))
+      ap (λ (k : ℕ). k % n) (key-is _ _ _ _ _ _ _ (wrapping-product-from-wrapping-add-u322 c .wrapping-product .ensures)
+      (c .before .before .wrapping-product2 .ensures) (c .before .wrapping-add-u32 .ensures) (c .wrapping-add-u322 .ensures))
 
 returns : tie.Need-returns
 returns c =

@@ -92,7 +92,8 @@ loop-less c = search needs
 
 loop-again : tie.Need-loop-again Inv-loop μ-loop
 loop-again c =
-    drop-next _ _ _ _ _ (start-from-loop-again c .pre .0) (start-from-loop-again c .pre .1) (in-loop-from-loop-again c .loop-test .taken) (at-loop-from-loop-again c .loop .inv) refl (c .before .bucket-of .ensures .0)
+    drop-next _ _ _ _ _ (start-from-loop-again c .pre .0) (start-from-loop-again c .pre .1) (in-loop-from-loop-again c .loop-test .taken)
+    (at-loop-from-loop-again c .loop .inv) refl (c .before .bucket-of .ensures .0)
 
 same-length : tie.Need-same-length Inv-loop μ-loop
 same-length c = search needs

@@ -44,7 +44,9 @@ module _ (c : tie.After-slice-known3) where
 
 returns : tie.Need-returns
 returns c =
-    ap (λ (b : ℕ). indexMade (set (start-from-return c .args .heads .now) b (start-from-return c .args .k)) (set (start-from-return c .args .links .now) (start-from-return c .args .k) (getD (start-from-return c .args .heads .now) b 0))) (c .before .bucket-of .ensures .0)
+    ap (λ (b : ℕ). indexMade (set (start-from-return c .args .heads .now) b (start-from-return c .args .k))
+    (set (start-from-return c .args .links .now) (start-from-return c .args .k) (getD (start-from-return c .args .heads .now) b 0)))
+    (c .before .bucket-of .ensures .0)
 
 pub link-spec : {M : Type 1} → statement M
 link-spec =

@@ -61,7 +61,9 @@ module _ (c : tie.Then3 Inv-loop μ-loop) where
 
 loop-holds : tie.Need-loop-holds Inv-loop μ-loop
 loop-holds c =
-    chain-start _ (start-from-loop-holds c .pre) (nodeOf (start-from-loop-holds c .args .v) (start-from-loop-holds c .args .l .0) (start-from-loop-holds c .args .h .0)) _ (c .before .bucket-of .ensures .0)
+    chain-start _ (start-from-loop-holds c .pre)
+    (nodeOf (start-from-loop-holds c .args .v) (start-from-loop-holds c .args .l .0) (start-from-loop-holds c .args .h .0)) _
+    (c .before .bucket-of .ensures .0)
 
 cast-i : tie.Need-cast-i Inv-loop μ-loop
 cast-i c = search needs
@@ -85,7 +87,11 @@ returns : tie.Need-returns Inv-loop μ-loop
 unfolding alike
 returns c =
     ap foundOf (sym (chain-hit _ (start-from-then3 c .pre) _ _ (in-loop-from-then3 c .loop-test .taken) (at-loop-from-then3 c .loop .inv)
-    (rw (eq-eqb _ _ (c .before .before .before .before .before .before .if1 .taken), c .before .before .before .if2 .taken, c .if3 .taken))))
+    (rw (
+      eq-eqb _ _ (c .before .before .before .before .before .before .if1 .taken),
+      c .before .before .before .if2 .taken,
+      c .if3 .taken,
+    ))))
 
 mul-k-2 : tie.Need-mul-k-2 Inv-loop μ-loop
 mul-k-2 c = search needs
@@ -100,7 +106,8 @@ loop-less c =
 loop-again : tie.Need-loop-again Inv-loop μ-loop
 unfolding alike
 loop-again c =
-    let next = chain-next _ (start-from-loop-again c .pre) _ _ (in-loop-from-loop-again c .loop-test .taken) (at-loop-from-loop-again c .loop .inv) in
+    let next = chain-next _ (start-from-loop-again c .pre) _ _ (in-loop-from-loop-again c .loop-test .taken)
+    (at-loop-from-loop-again c .loop .inv) in
     ⊎-elim
     (λ w. next (rw (eq-eqb _ _ (w .0 .taken), w .3 .taken, w .6 .left)))
     (λ w. ⊎-elim (λ u. next (rw (eq-eqb _ _ (u .0 .taken), u .3 .left))) (λ u. next (rw (ne-eqb _ _ (u .left)))) w)

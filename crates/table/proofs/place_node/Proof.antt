@@ -1,7 +1,8 @@
 -- `place_node` gives the child, the place found, a new place, or `full`, as the definition does, and tells which. Assumes nothing.
 use mathlib.Core.Path.{sym, _∙_}
 use native.Mathlib.Omega.{arith}
-use Rattle.table.proofs.IndexStores.{found-some, found-none, put-equal, put-found, put-new, put-full, took-equal, took-found, took-new, took-full}
+use Rattle.table.proofs.IndexStores.{found-some, found-none, put-equal, put-found, put-new, put-full, took-equal, took-found}
+use Rattle.table.proofs.IndexStores.{took-new, took-full}
 use borrow.Author.Needs.{needs}
 use Rattle.table.proofs.place_node.Statement.{statement}
 use Rattle.table.proofs.place_node.Tie as tie

@@ -1,5 +1,5 @@
--- `apply_thin` is the way down and the way up of the operation's kind and what it is by, which make it whole again: the node that the way down
--- comes to is, under the steps written, the operation's result. Assumes nothing.
+-- `apply_thin` is the way down and the way up of the operation's kind and what it is by, which make it whole again: the node that the way
+-- down comes to is, under the steps written, the operation's result. Assumes nothing.
 use mathlib.Core.Path.{_≡_, refl, sym, ap, _∙_, subst}
 use mathlib.Core.List.{List}
 use Prim.Native.Nat.{ℕ}
@@ -77,7 +77,8 @@ module _ (c : tie.After-by-of) where
   given = record {
     ready = subst (λ (o : Operation). Ready o noMemo (entry s) (s .args .f .0) (s .args .g .0)) (sym same) (s .pre .0);
     share =
-        shared-again (s .args .op) (s .args .shared) _ _ (kind-of-from-by-of c .kind-of .ensures) (c .by-of .ensures) (entry s) (s .args .f .0) (s .args .g .0) (s .pre .1);
+        shared-again (s .args .op) (s .args .shared) _ _ (kind-of-from-by-of c .kind-of .ensures) (c .by-of .ensures) (entry s)
+        (s .args .f .0) (s .args .g .0) (s .pre .1);
   }
 
 -- the way down came to a node
@@ -149,7 +150,11 @@ build-up-requires c κs =
     let C = came (node-from-build-up-call c) in
     let y = go-down-from-build-up-call c .go-down in (
       (start-from-build-up-call c .pre .0 .good, C .inside, C .fitting),
-      (omega (arith, C .most, y .kept .1 .1 .1 .0), omega (arith, C .most, y .kept .1 .1 .1 .1 .0), omega (arith, C .most, y .kept .1 .1 .1 .1 .1 .0)),
+      (
+        omega (arith, C .most, y .kept .1 .1 .1 .0),
+        omega (arith, C .most, y .kept .1 .1 .1 .1 .0),
+        omega (arith, C .most, y .kept .1 .1 .1 .1 .1 .0),
+      ),
     )
 
 enum-told : tie.Need-enum-told

@@ -1,5 +1,5 @@
--- The steps are put one by one: at each turn the node, under the steps that are left, is the diagram asked for, and placing it in the table as
--- it is now is placing it in the first. Assumes nothing.
+-- The steps are put one by one: at each turn the node, under the steps that are left, is the diagram asked for, and placing it in the table
+-- as it is now is placing it in the first. Assumes nothing.
 use mathlib.Core.Logic.{⊎-elim}
 use mathlib.Core.Path.{_≡_, refl, sym, ap₂, _∙_, subst}
 use mathlib.Core.Bool.{Bool}
@@ -22,9 +22,11 @@ use Rattle.thin.proofs.build_up.Tie as tie
 abbrev Inv-loop : tie.InvT-loop
 Inv-loop vars₀ lows₀ highs₀ heads₀ links₀ xs told sides count depth n₀ r₀ d₀ vars lows highs heads links n r d =
     let before = tableOf vars₀ lows₀ highs₀ heads₀ links₀ count in
-    Rising xs told sides before (wrapped before xs told sides depth (diagramAt (nodesOf before) (r₀ .0))) (tableOf vars lows highs heads links n) d (r .0)
+    Rising xs told sides before (wrapped before xs told sides depth (diagramAt (nodesOf before) (r₀ .0)))
+    (tableOf vars lows highs heads links n) d (r .0)
     × (d ≤ depth)
-    × (length vars ≡ length vars₀) × (length lows ≡ length lows₀) × (length highs ≡ length highs₀) × (length heads ≡ length heads₀) × (length links ≡ length links₀)
+    × (length vars ≡ length vars₀) × (length lows ≡ length lows₀) × (length highs ≡ length highs₀) × (length heads ≡ length heads₀)
+    × (length links ≡ length links₀)
 
 abbrev μ-loop : tie.MeasureT-loop
 μ-loop vars₀ lows₀ highs₀ heads₀ links₀ xs told sides count depth n₀ r₀ d₀ vars lows highs heads links n r d =
@@ -35,7 +37,8 @@ entry s = let a = s .args in tableOf (a .vars .now) (a .lows .now) (a .highs .no
 
 -- the diagram that is asked for
 abbrev whole : tie.Start Inv-loop μ-loop → Diagram
-whole s = let a = s .args in wrapped (entry s) (a .xs .now) (a .told .now) (a .sides .now) (a .depth) (diagramAt (nodesOf (entry s)) (a .node .0))
+whole s = let a = s .args in wrapped (entry s) (a .xs .now) (a .told .now) (a .sides .now) (a .depth)
+    (diagramAt (nodesOf (entry s)) (a .node .0))
 
 abbrev here : tie.At-loop Inv-loop μ-loop → Table
 here c = let w = c .loop in tableOf (w .vars) (w .lows) (w .highs) (w .heads) (w .links) (w .n)
@@ -128,28 +131,41 @@ module _ (c : tie.After-put Inv-loop μ-loop) where
   side = getD (s .args .sides .now) left 0
 
   abbrev made : Outcome
-  made = let y = c .put in outcomeOf (y .last .0) (y .last .1 .0) (y .last .1 .1 .0) (y .last .1 .1 .1 .0) (y .last .1 .1 .1 .1 .0) (y .result)
+  made = let y = c .put in outcomeOf (y .last .0) (y .last .1 .0) (y .last .1 .1 .0) (y .last .1 .1 .1 .0) (y .last .1 .1 .1 .1 .0)
+      (y .result)
 
   rising : Rising (s .args .xs .now) (s .args .told .now) (s .args .sides .now) (entry s) (whole s) (here l) (suc left) (l .loop .r .0)
   rising =
       let e : l .loop .d ≡ suc left = omega (arith, in-loop-from-put c .loop-test .taken) in
-      subst (λ (d : ℕ). Rising (s .args .xs .now) (s .args .told .now) (s .args .sides .now) (entry s) (whole s) (here l) d (l .loop .r .0)) e (l .loop .inv .0)
+      subst (λ (d : ℕ). Rising (s .args .xs .now) (s .args .told .now) (s .args .sides .now) (entry s) (whole s) (here l) d (l .loop .r .0))
+      e (l .loop .inv .0)
 
   -- the node told is put on its side
   made-is : made ≡ putBy (eqb side 1) (here l) x k (l .loop .r .0)
   made-is =
       c .put .ensures
       ∙ ⊎-elim
-      (λ w. subst (λ (b : Bool). putIn (here l) x (joined1-from-put c .if1 .low .0) (joined1-from-put c .if1 .high .0) ≡ putBy b (here l) x k (l .loop .r .0)) (sym (eq-eqb side 1 (w .0 .taken)))
+      (λ w. subst (λ (b : Bool). putIn (here l) x (joined1-from-put c .if1 .low .0) (joined1-from-put c .if1 .high .0)
+      ≡ putBy b (here l) x k (l .loop .r .0)) (sym (eq-eqb side 1 (w .0 .taken)))
       (ap₂ (λ (low high : NodeNo). putIn (here l) x (low .0) (high .0)) (w .1) (w .2)))
-      (λ w. subst (λ (b : Bool). putIn (here l) x (joined1-from-put c .if1 .low .0) (joined1-from-put c .if1 .high .0) ≡ putBy b (here l) x k (l .loop .r .0)) (sym (ne-eqb side 1 (w .0 .left)))
+      (λ w. subst (λ (b : Bool). putIn (here l) x (joined1-from-put c .if1 .low .0) (joined1-from-put c .if1 .high .0)
+      ≡ putBy b (here l) x k (l .loop .r .0)) (sym (ne-eqb side 1 (w .0 .left)))
       (ap₂ (λ (low high : NodeNo). putIn (here l) x (low .0) (high .0)) (w .1) (w .2)))
       (joined1-from-put c .if1 .came)
 
 loop-holds : tie.Need-loop-holds Inv-loop μ-loop
 loop-holds c =
-    let s = start-from-loop-holds c in
-    (rising-first (s .args .xs .now) (s .args .told .now) (s .args .sides .now) (entry s) (s .pre .0 .0) (s .args .depth) (s .args .node .0) (s .pre .0 .1) (s .pre .0 .2), omega arith, refl, refl, refl, refl, refl)
+    let s = start-from-loop-holds c in (
+      rising-first (s .args .xs .now) (s .args .told .now) (s .args .sides .now) (entry s) (s .pre .0 .0) (s .args .depth)
+          (s .args .node .0)
+          (s .pre .0 .1) (s .pre .0 .2),
+      omega arith,
+      refl,
+      refl,
+      refl,
+      refl,
+      refl,
+    )
 
 sub-d : tie.Need-sub-d Inv-loop μ-loop
 sub-d c = search needs
@@ -188,7 +204,8 @@ returns : tie.Need-returns Inv-loop μ-loop
 returns c =
     let p = put-from-then2 c in
     let s = start-from-then2 c in
-    rising-full (s .args .xs .now) (s .args .told .now) (s .args .sides .now) (entry s) (whole s) (here (at-loop-from-then2 c)) (left p) (at-loop-from-then2 c .loop .r .0) (rising p) (made p) (made-is p) (c .if2 .taken)
+    rising-full (s .args .xs .now) (s .args .told .now) (s .args .sides .now) (entry s) (whole s) (here (at-loop-from-then2 c)) (left p)
+    (at-loop-from-then2 c .loop .r .0) (rising p) (made p) (made-is p) (c .if2 .taken)
 
 loop-less : tie.Need-loop-less Inv-loop μ-loop
 loop-less c = search needs
@@ -198,7 +215,8 @@ loop-again c =
     let p = put-from-loop-again c in
     let s = start-from-loop-again c in
     let i = at-loop-from-loop-again c .loop .inv in (
-      rising-next (s .args .xs .now) (s .args .told .now) (s .args .sides .now) (entry s) (whole s) (here (at-loop-from-loop-again c)) (left p) (at-loop-from-loop-again c .loop .r .0) (rising p) (made p) (made-is p) (else2-from-loop-again c .if2 .left),
+      rising-next (s .args .xs .now) (s .args .told .now) (s .args .sides .now) (entry s) (whole s) (here (at-loop-from-loop-again c))
+          (left p) (at-loop-from-loop-again c .loop .r .0) (rising p) (made p) (made-is p) (else2-from-loop-again c .if2 .left),
       omega (arith, i .1),
       p .put .kept .0 ∙ i .2,
       p .put .kept .1 .0 ∙ i .3,
@@ -228,7 +246,8 @@ returns-2 c =
     let l = at-loop-from-return-2 c in
     let none : l .loop .d ≡ 0 = omega (arith, c .loop-test .left) in
     rising-last (s .args .xs .now) (s .args .told .now) (s .args .sides .now) (entry s) (whole s) (here l) (l .loop .r .0)
-    (subst (λ (d : ℕ). Rising (s .args .xs .now) (s .args .told .now) (s .args .sides .now) (entry s) (whole s) (here l) d (l .loop .r .0)) none (l .loop .inv .0))
+    (subst (λ (d : ℕ). Rising (s .args .xs .now) (s .args .told .now) (s .args .sides .now) (entry s) (whole s) (here l) d (l .loop .r .0))
+    none (l .loop .inv .0))
 
 pub build-up-spec : {M : Type 1} → statement M
 build-up-spec =

@@ -24,7 +24,8 @@ Inv-loop vars lows highs xs₀ told₀ sides₀ kind by f₀ g₀ depth₀ xs to
     × (length sides ≡ 64)
     × ((heads links : List ℕ) (count : ℕ)
     → Given (operationOf kind by) (by .positive) (tableOf vars lows highs heads links count) (f₀ .0) (g₀ .0)
-    → GoingDown (operationOf kind by) (by .positive) (tableOf vars lows highs heads links count) (f₀ .0) (g₀ .0) xs told sides (f .0) (g .0) depth)
+    → GoingDown (operationOf kind by) (by .positive) (tableOf vars lows highs heads links count) (f₀ .0) (g₀ .0) xs told sides (f .0) (g .0)
+    depth)
 
 abbrev μ-loop : tie.MeasureT-loop
 μ-loop vars lows highs xs₀ told₀ sides₀ kind by f₀ g₀ depth₀ xs told sides f g depth = 65 - top vars (f .0) (g .0)
@@ -149,7 +150,8 @@ module _ (c : tie.After-x Inv-loop μ-loop) where
 
   room : lx .loop .depth < 64
   room =
-      step-room (op lx) (shared lx) (T lx) (first lx) (second lx) (lx .loop .xs) (lx .loop .told) (lx .loop .sides) (f lx) (g lx) (lx .loop .depth) (come lx) x k side a b
+      step-room (op lx) (shared lx) (T lx) (first lx) (second lx) (lx .loop .xs) (lx .loop .told) (lx .loop .sides) (f lx) (g lx)
+      (lx .loop .depth) (come lx) x k side a b
       (over-says (T lx .heads) (T lx .links) (T lx .count) (come lx))
 
 loop-holds : tie.Need-loop-holds Inv-loop μ-loop
@@ -183,7 +185,8 @@ returns c =
     let k = node-from-return c .node .given in
     λ heads links count H.
     let W = l .loop .inv .3 heads links count H in
-    going-told (op l) (shared l) (t l heads links count) (first l) (second l) (l .loop .xs) (l .loop .told) (l .loop .sides) (f l) (g l) (l .loop .depth) W (k .0 .0)
+    going-told (op l) (shared l) (t l heads links count) (first l) (second l) (l .loop .xs) (l .loop .told) (l .loop .sides) (f l) (g l)
+    (l .loop .depth) W (k .0 .0)
     (says (step-down-from-return c) (Told (k .0 .0)) (k .1) heads links count W)
 
 enum-known-a : tie.Need-enum-known-a Inv-loop μ-loop
@@ -206,7 +209,8 @@ loop-again c =
       l .loop .inv .2,
       λ heads links count H.
           let W = l .loop .inv .3 heads links count H in
-          going-one (op l) (shared l) (t l heads links count) (first l) (second l) (l .loop .xs) (l .loop .told) (l .loop .sides) (f l) (g l) (l .loop .depth) W (p .0 .0) (p .0 .1 .0)
+          going-one (op l) (shared l) (t l heads links count) (first l) (second l) (l .loop .xs) (l .loop .told) (l .loop .sides) (f l)
+          (g l) (l .loop .depth) W (p .0 .0) (p .0 .1 .0)
           (says (step-down-from-loop-again c) (One (p .0 .0) (p .0 .1 .0)) (p .1) heads links count W),
     )
 
@@ -250,8 +254,10 @@ loop-again-2 c =
       length-set (l .loop .sides) (l .loop .depth) _ ∙ l .loop .inv .2,
       λ heads links count H.
           let W = l .loop .inv .3 heads links count H in
-          going-over (op l) (shared l) (t l heads links count) (first l) (second l) (l .loop .xs) (l .loop .told) (l .loop .sides) (f l) (g l) (l .loop .depth) W (x p) (k p) (side p) (a p) (b p)
-          (over-says p heads links count W) (omega (arith, room p, l .loop .inv .0)) (omega (arith, room p, l .loop .inv .1)) (omega (arith, room p, l .loop .inv .2)),
+          going-over (op l) (shared l) (t l heads links count) (first l) (second l) (l .loop .xs) (l .loop .told) (l .loop .sides) (f l)
+          (g l) (l .loop .depth) W (x p) (k p) (side p) (a p) (b p)
+          (over-says p heads links count W) (omega (arith, room p, l .loop .inv .0)) (omega (arith, room p, l .loop .inv .1))
+          (omega (arith, room p, l .loop .inv .2)),
     )
 
 enum-told : tie.Need-enum-told Inv-loop μ-loop

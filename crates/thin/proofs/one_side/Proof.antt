@@ -97,14 +97,16 @@ returns c =
     let b = start-from-return c in
     let k = told-from-return c .told .given in
     λ lows highs heads links count H.
-    low-told (b .args .kind) (b .args .by) (t b lows highs heads links count) (s b) H (k .0 .0) (sym (settled-from-return c .settled .ensures) ∙ k .1)
+    low-told (b .args .kind) (b .args .by) (t b lows highs heads links count) (s b) H (k .0 .0)
+    (sym (settled-from-return c .settled .ensures) ∙ k .1)
 
 returns-2 : tie.Need-returns-2
 returns-2 c =
     let b = start-from-return-2 c in
     let k = told2-from-return-2 c .told2 .given in
     λ lows highs heads links count H.
-    high-told (b .args .kind) (b .args .by) (t b lows highs heads links count) (s b) H (k .0 .0) (sym (settled2-from-return-2 c .settled2 .ensures) ∙ k .1)
+    high-told (b .args .kind) (b .args .by) (t b lows highs heads links count) (s b) H (k .0 .0)
+    (sym (settled2-from-return-2 c .settled2 .ensures) ∙ k .1)
 
 returns-3 : tie.Need-returns-3
 returns-3 c =

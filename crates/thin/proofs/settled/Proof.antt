@@ -54,11 +54,14 @@ module _ (c : tie.Then1) where
   start-from-then1 = start-from-enum-told enum-told-from-then1
 
 -- what the numbers tell
-told : (c : tie.After-terminal) → let s = start-from-terminal c in terminalOf (operationOf (s .args .kind) (s .args .by)) (s .args .f .0) (s .args .g .0) ≡ c .terminal .result
+told : (c : tie.After-terminal) → let s = start-from-terminal c in terminalOf (operationOf (s .args .kind) (s .args .by)) (s .args .f .0)
+    (s .args .g .0) ≡ c .terminal .result
 told c =
-    told-of _ (operation-of-from-terminal c .operation-of .result) _ _ (c .terminal .result) (c .terminal .ensures) (operation-of-from-terminal c .operation-of .ensures)
+    told-of _ (operation-of-from-terminal c .operation-of .result) _ _ (c .terminal .result) (c .terminal .ensures)
+    (operation-of-from-terminal c .operation-of .ensures)
 
-nothing : (c : tie.After-enum-told) → let s = start-from-enum-told c in terminalOf (operationOf (s .args .kind) (s .args .by)) (s .args .f .0) (s .args .g .0) ≡ Nothing
+nothing : (c : tie.After-enum-told) → let s = start-from-enum-told c in
+    terminalOf (operationOf (s .args .kind) (s .args .by)) (s .args .f .0) (s .args .g .0) ≡ Nothing
 nothing c =
     told (terminal-from-enum-told c) ∙ c .enum-told .given .1
 

@@ -118,14 +118,17 @@ module _ (c : tie.After-one-side) where
   start-from-return-3 = start-from-enum-told enum-told-from-return-3
 
 -- where nothing is told
-nothing : (c : tie.After-enum-told) → let b = start-from-enum-told c in settledOf (b .args .vars .now) (b .args .kind) (b .args .by) (f b) (g b) ≡ Nothing
+nothing : (c : tie.After-enum-told) → let b = start-from-enum-told c in
+    settledOf (b .args .vars .now) (b .args .kind) (b .args .by) (f b) (g b) ≡ Nothing
 nothing c =
     sym (settled-from-enum-told c .settled .ensures) ∙ c .enum-told .given .1
 
 -- the step that the code takes
-stepped : (c : tie.After-descent-of) → let b = start-from-descent-of c in descentOf (op b) (sidesOf (T b .vars) (T b .lows) (T b .highs) (f b) (g b)) ≡ c .descent-of .result
+stepped : (c : tie.After-descent-of) → let b = start-from-descent-of c in
+    descentOf (op b) (sidesOf (T b .vars) (T b .lows) (T b .highs) (f b) (g b)) ≡ c .descent-of .result
 stepped c =
-    sym (c .descent-of .ensures ∙ ap (λ (o : Operation). descentOf o (sides-of-from-descent-of c .sides-of .result)) (operation-of-from-descent-of c .operation-of .ensures)
+    sym (c .descent-of .ensures ∙ ap (λ (o : Operation). descentOf o (sides-of-from-descent-of c .sides-of .result))
+    (operation-of-from-descent-of c .operation-of .ensures)
     ∙ ap (descentOf (op (start-from-descent-of c))) (sides-of-from-descent-of c .sides-of .ensures))
 
 settled-requires : tie.Need-settled-requires
@@ -153,7 +156,8 @@ descent-of-requires c κs =
     let b = start-from-descent-of-call c in
     let y = sides-of-from-descent-of-call c .sides-of in
     sides-ask (op b) noMemo (T b) (f b) (g b) (b .pre .given .ready)
-    (settled-two (b .args .kind) (b .args .by) (T b) (f b) (g b) (b .pre .given) (nothing (enum-told-from-descent-of-call c))) (y .result) (y .ensures)
+    (settled-two (b .args .kind) (b .args .by) (T b) (f b) (g b) (b .pre .given) (nothing (enum-told-from-descent-of-call c))) (y .result)
+    (y .ensures)
 
 enum-known-a : tie.Need-enum-known-a
 enum-known-a c =
@@ -183,14 +187,16 @@ returns c =
     let b = start-from-return c in
     let k = k-from-return c .k .given in
     λ heads links count H.
-    step-told (b .args .kind) (b .args .by) (t b heads links count) (f b) (g b) H (k .0 .0) (sym (settled-from-return c .settled .ensures) ∙ k .1)
+    step-told (b .args .kind) (b .args .by) (t b heads links count) (f b) (g b) H (k .0 .0)
+    (sym (settled-from-return c .settled .ensures) ∙ k .1)
 
 returns-2 : tie.Need-returns-2
 returns-2 c =
     let b = start-from-return-2 c in
     let a = a-from-return-2 c .a .given in
     λ heads links count H.
-    pair-left (b .args .kind) (b .args .by) (t b heads links count) (f b) (g b) H (nothing (enum-told-from-return-2 c)) (a .0 .0) (a .0 .1 .0)
+    pair-left (b .args .kind) (b .args .by) (t b heads links count) (f b) (g b) H (nothing (enum-told-from-return-2 c)) (a .0 .0)
+    (a .0 .1 .0)
     (stepped (descent-of-from-return-2 c) ∙ a .1)
 
 returns-3 : tie.Need-returns-3
@@ -201,7 +207,8 @@ returns-3 c =
     let e = stepped (descent-of-from-return-3 c) ∙ s .1 in
     λ heads links count H.
     sides-say (b .args .kind) (b .args .by) (t b heads links count) (f b) (g b) H n (s .0 .0) e (c .one-side .result)
-    (c .one-side .ensures (T b .lows) (T b .highs) heads links count (sides-left (b .args .kind) (b .args .by) (t b heads links count) (f b) (g b) H n (s .0 .0) e))
+    (c .one-side .ensures (T b .lows) (T b .highs) heads links count
+    (sides-left (b .args .kind) (b .args .by) (t b heads links count) (f b) (g b) H n (s .0 .0) e))
 
 pub step-down-spec : {M : Type 1} → statement M
 step-down-spec =

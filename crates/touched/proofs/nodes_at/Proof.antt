@@ -58,7 +58,12 @@ mul-nodes-2 : tie.Need-mul-nodes-2 Inv-loop μ-loop
 mul-nodes-2 c = search needs
 
 slice-write-nodes : tie.Need-slice-write-nodes Inv-loop μ-loop
-slice-write-nodes c = omega (arith, start-from-loop-again c .pre .1, at-loop-from-loop-again c .loop .inv .room, in-loop-from-loop-again c .loop-test .taken)
+slice-write-nodes c = omega (
+  arith,
+  start-from-loop-again c .pre .1,
+  at-loop-from-loop-again c .loop .inv .room,
+  in-loop-from-loop-again c .loop-test .taken,
+)
 
 add-k : tie.Need-add-k Inv-loop μ-loop
 add-k c = search needs
@@ -70,7 +75,8 @@ loop-again : tie.Need-loop-again Inv-loop μ-loop
 loop-again c =
     let s = start-from-loop-again c in
     let w = at-loop-from-loop-again c .loop in
-    filling-next (s .args .list .now) (s .args .places .now) (s .args .nodes .now) (w .nodes) (w .k) (w .inv) (in-loop-from-loop-again c .loop-test .taken) (s .pre .1)
+    filling-next (s .args .list .now) (s .args .places .now) (s .args .nodes .now) (w .nodes) (w .k) (w .inv)
+    (in-loop-from-loop-again c .loop-test .taken) (s .pre .1)
 
 same-length : tie.Need-same-length Inv-loop μ-loop
 same-length c = search needs
@@ -79,7 +85,8 @@ returns : tie.Need-returns Inv-loop μ-loop
 returns c =
     let s = start-from-return c in
     let w = at-loop-from-return c .loop in
-    filling-all (s .args .list .now) (s .args .places .now) (s .args .nodes .now) (w .nodes) (w .k) (w .inv) (omega (arith, c .loop-test .left)) (s .pre .1)
+    filling-all (s .args .list .now) (s .args .places .now) (s .args .nodes .now) (w .nodes) (w .k) (w .inv)
+    (omega (arith, c .loop-test .left)) (s .pre .1)
 
 pub nodes-at-spec : {M : Type 1} → statement M
 nodes-at-spec =

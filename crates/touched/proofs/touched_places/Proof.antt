@@ -85,7 +85,8 @@ returns : tie.Need-returns Inv-loop μ-loop
 returns c =
     let s = start-from-return c in
     let w = at-loop-from-return c .loop in
-    finding-all (s .args .words .now) (s .args .touching) (s .args .places .now) (w .places) (w .i) (w .count) (w .inv) (omega (arith, c .loop-test .left))
+    finding-all (s .args .words .now) (s .args .touching) (s .args .places .now) (w .places) (w .i) (w .count) (w .inv)
+    (omega (arith, c .loop-test .left))
 
 pub touched-places-spec : {M : Type 1} → statement M
 touched-places-spec =

@@ -29,7 +29,8 @@ module _ (c : tie.After-without) where
   then1-from-return = with-variable-from-return .before
 
 returns : tie.Need-returns
-returns c = words-true _ _ _ _ _ (then1-from-return c .if1 .taken) (with-variable-from-return c .with-variable .ensures) (c .without .ensures)
+returns c = words-true _ _ _ _ _ (then1-from-return c .if1 .taken) (with-variable-from-return c .with-variable .ensures)
+    (c .without .ensures)
 
 without-requires-2 : tie.Need-without-requires-2
 without-requires-2 c κs = search needs
@@ -38,7 +39,8 @@ with-variable-requires-2 : tie.Need-with-variable-requires-2
 with-variable-requires-2 c κs = search needs
 
 returns-2 : tie.Need-returns-2
-returns-2 c = words-false _ _ _ _ _ (else1-from-return-2 c .if1 .left) (without2-from-return-2 c .without2 .ensures) (c .with-variable2 .ensures)
+returns-2 c = words-false _ _ _ _ _ (else1-from-return-2 c .if1 .left) (without2-from-return-2 c .without2 .ensures)
+    (c .with-variable2 .ensures)
 
 pub witness-spec : {M : Type 1} → statement M
 witness-spec =

@@ -137,7 +137,8 @@ loop-holds : tie.Need-loop-holds Inv-loop μ-loop
 loop-holds c =
     let s = start-from-loop-holds c in
     let y = c .next-asked in
-    unitless-skip (members s) (s .args .places .now) (s .args .asked) 0 0 (y .result) (s .pre .1) (omega arith) (omega arith) (λ k p. absurd (omega arith)) (y .ensures)
+    unitless-skip (members s) (s .args .places .now) (s .args .asked) 0 0 (y .result) (s .pre .1) (omega arith) (omega arith)
+    (λ k p. absurd (omega arith)) (y .ensures)
 
 mul-t12 : tie.Need-mul-t12 Inv-loop μ-loop
 mul-t12 c = search needs
@@ -165,7 +166,9 @@ returns-2 c =
     let s = start-from-return-2 c in
     let w = at-loop-from-return-2 c .loop in
     let y = units-at-top-from-return-2 c .units-at-top in
-    taken-here (nodes s) (s .args .list .now) (w .place) (in-loop-from-return-2 c .loop-test .taken) (w .inv .none) _ (subst (KnownAt 64 (nodes s) (getD (s .args .list .now) (w .place) 0)) (u-from-return-2 c .u .given .1) (y .ensures)) (omega (arith, known-told-from-return-2 c .known-told .given)) (omega (arith, known-told-from-return-2 c .known-told .given))
+    taken-here (nodes s) (s .args .list .now) (w .place) (in-loop-from-return-2 c .loop-test .taken) (w .inv .none) _
+    (subst (KnownAt 64 (nodes s) (getD (s .args .list .now) (w .place) 0)) (u-from-return-2 c .u .given .1) (y .ensures))
+    (omega (arith, known-told-from-return-2 c .known-told .given)) (omega (arith, known-told-from-return-2 c .known-told .given))
     (λ z. ⊎-elim (λ s. s .taken (z .0)) (λ s. eqb-false _ _ (not-true _ (s .2 .taken)) (z .1)) (c .if1 .came))
 
 next-fits : (c : tie.In-loop Inv-loop μ-loop) → c .before .loop .place + 1 < 18446744073709551616
@@ -194,8 +197,11 @@ loop-again c =
     let less = in-loop-from-loop-again c .loop-test .taken in
     let y = units-at-top-from-loop-again c .units-at-top in
     let z = c .next-asked2 in
-    unitless-skip (members s) (s .args .places .now) (s .args .asked) (w .k + 1) (w .place + 1) (z .result) (s .pre .1) (omega (arith, w .inv .fewer)) (omega (arith, less, same-lengths s))
-    (unitless-here (nodes s) (s .args .list .now) (w .place) less (w .inv .none) _ (subst (KnownAt 64 (nodes s) (getD (s .args .list .now) (w .place) 0)) (u-from-loop-again c .u .given .1) (y .ensures)) (else1-from-loop-again c .if1 .left) (eqb-true _ _ (not-false _ (else2-from-loop-again c .if2 .left))))
+    unitless-skip (members s) (s .args .places .now) (s .args .asked) (w .k + 1) (w .place + 1) (z .result) (s .pre .1)
+    (omega (arith, w .inv .fewer)) (omega (arith, less, same-lengths s))
+    (unitless-here (nodes s) (s .args .list .now) (w .place) less (w .inv .none) _
+    (subst (KnownAt 64 (nodes s) (getD (s .args .list .now) (w .place) 0)) (u-from-loop-again c .u .given .1) (y .ensures))
+    (else1-from-loop-again c .if1 .left) (eqb-true _ _ (not-false _ (else2-from-loop-again c .if2 .left))))
     (z .ensures)
 
 returns-3 : tie.Need-returns-3 Inv-loop μ-loop

@@ -149,8 +149,12 @@ add-stamp c =
 units-from-requires : tie.Need-units-from-requires Inv-loop μ-loop
 units-from-requires c κs =
     let r = start-from-units-from-call c .pre in
-    let w = at-loop-from-units-from-call c .loop in
-    (r .0 .0, r .0 .1 (w .place) (in-loop-from-units-from-call c .loop-test .taken), omega (arith, w .inv .0, clear-cells-from-units-from-call c .clear-cells .kept .0, r .0 .2), w .inv .1)
+    let w = at-loop-from-units-from-call c .loop in (
+      r .0 .0,
+      r .0 .1 (w .place) (in-loop-from-units-from-call c .loop-test .taken),
+      omega (arith, w .inv .0, clear-cells-from-units-from-call c .clear-cells .kept .0, r .0 .2),
+      w .inv .1,
+    )
 
 same-length : tie.Need-same-length Inv-loop μ-loop
 same-length c =
@@ -161,7 +165,8 @@ returns c =
     let s = start-from-return c in
     let w = at-loop-from-return c .loop in
     let y = units-from-from-return c .units-from in
-    taken-here (nodes s) (s .args .list .now) (w .place) (in-loop-from-return c .loop-test .taken) (w .inv .2 .none) (y .result) (y .ensures .0) (omega (arith, c .before .struct-known .given)) (omega (arith, c .before .struct-known .given))
+    taken-here (nodes s) (s .args .list .now) (w .place) (in-loop-from-return c .loop-test .taken) (w .inv .2 .none) (y .result)
+    (y .ensures .0) (omega (arith, c .before .struct-known .given)) (omega (arith, c .before .struct-known .given))
     (λ z. ⊎-elim (λ s. s .taken (z .0)) (λ s. eqb-false _ _ (not-true _ (s .2 .taken)) (z .1)) (c .if1 .came))
 
 next-fits : (c : tie.In-loop Inv-loop μ-loop) → c .before .loop .place + 1 < 18446744073709551616
@@ -195,8 +200,10 @@ loop-again c =
     let z = c .next-asked in (
       y .kept .1 .1 .1 .0 ∙ w .inv .0,
       λ i p. omega (arith, y .ensures .1 i p, z .ensures .from-on),
-      unitless-skip (members s) (s .args .places .now) (s .args .asked) (w .k + 1) (w .place + 1) (z .result) (s .pre .1 .0) (omega (arith, w .inv .2 .fewer)) (omega (arith, less, same-lengths s))
-          (unitless-here (nodes s) (s .args .list .now) (w .place) less (w .inv .2 .none) (y .result) (y .ensures .0) (else1-from-loop-again c .if1 .left) (eqb-true _ _ (not-false _ (else2-from-loop-again c .if2 .left))))
+      unitless-skip (members s) (s .args .places .now) (s .args .asked) (w .k + 1) (w .place + 1) (z .result) (s .pre .1 .0)
+          (omega (arith, w .inv .2 .fewer)) (omega (arith, less, same-lengths s))
+          (unitless-here (nodes s) (s .args .list .now) (w .place) less (w .inv .2 .none) (y .result) (y .ensures .0)
+          (else1-from-loop-again c .if1 .left) (eqb-true _ _ (not-false _ (else2-from-loop-again c .if2 .left))))
           (z .ensures),
     )
 
@@ -209,7 +216,8 @@ returns-2 c =
     let s = start-from-return-2 c in
     let w = at-loop-from-return-2 c .loop in
     let list = s .args .list .now in
-    first-passed (nodes s) list (w .place) (omega (arith, w .inv .2 .most, same-lengths s)) (w .inv .2 .none) ∙ first-none 64 (nodes s) list (w .place) (omega (arith, c .loop-test .left))
+    first-passed (nodes s) list (w .place) (omega (arith, w .inv .2 .most, same-lengths s)) (w .inv .2 .none)
+    ∙ first-none 64 (nodes s) list (w .place) (omega (arith, c .loop-test .left))
 
 pub first-by-walks-spec : {M : Type 1} → statement M
 first-by-walks-spec =

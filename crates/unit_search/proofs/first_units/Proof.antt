@@ -79,13 +79,15 @@ returns c =
     let list = a .list .now in
     let t = subst (FirstAtTop (members y) (a .places .now) (a .asked)) (place-from-then1 c .place .given .1) (y .first-at-top .ensures) in
     let place = place-from-then1 c .place .given .0 .0 in
-    first-passed (nodes y) list place (omega (arith, t .most, same-lengths y)) (t .none) ∙ first-none 64 (nodes y) list place (omega (arith, c .if1 .taken))
+    first-passed (nodes y) list place (omega (arith, t .most, same-lengths y)) (t .none)
+    ∙ first-none 64 (nodes y) list place (omega (arith, c .if1 .taken))
 
 first-by-walks-requires : tie.Need-first-by-walks-requires
 first-by-walks-requires c κs =
     let y = first-at-top-from-first-by-walks-call c in
     let s = start-from-first-by-walks-call c in
-    let t = subst (FirstAtTop (members y) (s .args .places .now) (s .args .asked)) (place-from-first-by-walks-call c .place .given .1) (y .first-at-top .ensures) in
+    let t = subst (FirstAtTop (members y) (s .args .places .now) (s .args .asked)) (place-from-first-by-walks-call c .place .given .1)
+    (y .first-at-top .ensures) in
     (s .pre .0, (s .pre .1, t))
 
 returns-2 : tie.Need-returns-2

@@ -59,19 +59,22 @@ returns-2 : tie.Need-returns-2
 returns-2 c =
     let s = start-from-then3 c in
     let a = s .args in
-    skips-place (a .places .now) (a .asked) (a .k) (a .from) (s .pre .1) (omega (arith, else1-from-then3 c .if1 .left)) (s .pre .0) (then2-from-then3 c .if2 .taken) (c .if3 .taken)
+    skips-place (a .places .now) (a .asked) (a .k) (a .from) (s .pre .1) (omega (arith, else1-from-then3 c .if1 .left)) (s .pre .0)
+    (then2-from-then3 c .if2 .taken) (c .if3 .taken)
 
 returns-3 : tie.Need-returns-3
 returns-3 c =
     let s = start-from-else3 c in
     let a = s .args in
-    skips-all (a .places .now) (a .asked) (a .k) (a .from) (s .pre .1) (omega (arith, else1-from-else3 c .if1 .left)) (λ _. omega (arith, c .if3 .left))
+    skips-all (a .places .now) (a .asked) (a .k) (a .from) (s .pre .1) (omega (arith, else1-from-else3 c .if1 .left))
+    (λ _. omega (arith, c .if3 .left))
 
 returns-4 : tie.Need-returns-4
 returns-4 c =
     let s = start-from-else2 c in
     let a = s .args in
-    skips-all (a .places .now) (a .asked) (a .k) (a .from) (s .pre .1) (omega (arith, else1-from-else2 c .if1 .left)) (λ p. absurd (omega (arith, c .if2 .left)))
+    skips-all (a .places .now) (a .asked) (a .k) (a .from) (s .pre .1) (omega (arith, else1-from-else2 c .if1 .left))
+    (λ p. absurd (omega (arith, c .if2 .left)))
 
 pub next-asked-spec : {M : Type 1} → statement M
 next-asked-spec =

@@ -13,7 +13,8 @@ use Rattle.walks.specs.Readable.{nodesIn}
 use Rattle.walks.proofs.Here.{Here, here}
 use Rattle.units.specs.Units.{OfVariables, struckTo, past, Struck, StrikeReady}
 use Rattle.units.proofs.Branches.{past-least, past-most, of-64}
-use Rattle.units.proofs.Struck.{struck-zero, struck-one, marked-less, marks-stored, sides-after, marked-here, struck-node, struck-marked, struck-none, marked-stored}
+use Rattle.units.proofs.Struck.{struck-zero, struck-one, marked-less, marks-stored, sides-after, marked-here, struck-node}
+use Rattle.units.proofs.Struck.{struck-marked, struck-none, marked-stored}
 use Rattle.units.proofs.strike.Reads as strike
 use Rattle.units.proofs.strike.Kinds as strike-kinds
 use Rattle.units.proofs.+strike.Lts-strike as strike-lts
@@ -38,7 +39,8 @@ module _ {t : ℕ} (s : strike-lts.Start (strike-callees t) (strike-at t) strike
   abbrev nodes : List Node
   nodes = nodesIn (s .args .vars .now) (s .args .lows .now) (s .args .highs .now) (s .args .count)
 
-  ready : StrikeReady (s .args .vars .now) (s .args .lows .now) (s .args .highs .now) (s .args .memo .now) (s .args .count) (s .args .f .0) (s .args .from) (s .args .stamp) (s .args .alive)
+  ready : StrikeReady (s .args .vars .now) (s .args .lows .now) (s .args .highs .now) (s .args .memo .now) (s .args .count) (s .args .f .0)
+      (s .args .from) (s .args .stamp) (s .args .alive)
   ready = s .pre .1
 
   narrow : OfVariables 64 nodes
@@ -173,7 +175,8 @@ module _ {t : ℕ} (e : strike-lts.Else2 (strike-callees t) (strike-at t) strike
   two = omega (arith, e .before .before .if1 .left, e .if2 .left)
 
   at-node : Here (start .args .vars .now) (start .args .lows .now) (start .args .highs .now) (start .args .count) (start .args .f .0)
-  at-node = here (start .args .vars .now) (start .args .lows .now) (start .args .highs .now) (start .args .count) (ready start .readable) (start .args .f .0) two (ready start .inside)
+  at-node = here (start .args .vars .now) (start .args .lows .now) (start .args .highs .now) (start .args .count) (ready start .readable)
+      (start .args .f .0) two (ready start .inside)
 
 -- where the literals that the node itself strikes are struck
 module _ {t : ℕ} (a : strike-lts.After-strike-to2 (strike-callees t) (strike-at t) strike.Post) where
@@ -193,12 +196,16 @@ module _ {t : ℕ} (a : strike-lts.After-strike-to2 (strike-callees t) (strike-a
   high = getD (begun .args .highs .now) (begun .args .f .0) 0
 
   left-is : a .strike-to2 .result ≡ struckTo 64 (begun .args .alive) (begun .args .from) (past v low) (past v high)
-  left-is = a .strike-to2 .ensures ∙ ap₂ (λ (p n : ℕ). struckTo 64 (begun .args .alive) (begun .args .from) p n) (a .before .before .past .ensures) (a .before .past2 .ensures)
+  left-is = a .strike-to2 .ensures ∙ ap₂ (λ (p n : ℕ). struckTo 64 (begun .args .alive) (begun .args .from) p n)
+      (a .before .before .past .ensures) (a .before .past2 .ensures)
 
 strike-returns : (t : ℕ) → strike-lts.Need-returns (strike-callees t) (strike-at t) strike.Post
 strike-returns t c =
-    let s = start-from-then1 c in
-    (subst (λ (k : ℕ). Struck 64 (nodes s) k (s .args .from) (s .args .alive) (s .args .alive)) (sym (c .if1 .taken)) (struck-zero 64 (nodes s) (s .args .from) (s .args .alive)), (ready s .right, ready s .marks))
+    let s = start-from-then1 c in (
+      subst (λ (k : ℕ). Struck 64 (nodes s) k (s .args .from) (s .args .alive) (s .args .alive)) (sym (c .if1 .taken))
+          (struck-zero 64 (nodes s) (s .args .from) (s .args .alive)),
+      (ready s .right, ready s .marks),
+    )
 
 strike-strike-to-requires : (t : ℕ) → strike-lts.Need-strike-to-requires (strike-callees t) (strike-at t) strike.Post
 strike-strike-to-requires t c κs =
@@ -209,8 +216,14 @@ strike-returns-2 : (t : ℕ) → strike-lts.Need-returns-2 (strike-callees t) (s
 strike-returns-2 t c =
     let s = start-from-return-2 c in
     let k = c .strike-to in
-    let is : Struck 64 (nodes s) 1 (s .args .from) (s .args .alive) (k .result) = struck-one 64 (nodes s) (s .args .from) (s .args .alive) (k .result) (ready s .least) (k .ensures) in
-    (subst (λ (j : ℕ). Struck 64 (nodes s) j (s .args .from) (s .args .alive) (k .result)) (sym (c .before .if2 .taken)) is, (marked-less 64 (nodes s) (s .args .memo .now) (s .args .stamp) 1 (s .args .from) (s .args .alive) (k .result) is (ready s .right), ready s .marks))
+    let is : Struck 64 (nodes s) 1 (s .args .from) (s .args .alive) (k .result) =
+    struck-one 64 (nodes s) (s .args .from) (s .args .alive) (k .result) (ready s .least) (k .ensures) in (
+      subst (λ (j : ℕ). Struck 64 (nodes s) j (s .args .from) (s .args .alive) (k .result)) (sym (c .before .if2 .taken)) is,
+      (
+        marked-less 64 (nodes s) (s .args .memo .now) (s .args .stamp) 1 (s .args .from) (s .args .alive) (k .result) is (ready s .right),
+        ready s .marks,
+      ),
+    )
 
 strike-cast-i : (t : ℕ) → strike-lts.Need-cast-i (strike-callees t) (strike-at t) strike.Post
 strike-cast-i t c =
@@ -252,14 +265,29 @@ strike-strike-to-requires-2 t c κs =
     let H = at-node (else2-from-strike-to-call-2 c) in
     let v = getD (s .args .vars .now) (s .args .f .0) 0 in
     let l = getD (s .args .lows .now) (s .args .f .0) 0 in
-    let h = getD (s .args .highs .now) (s .args .f .0) 0 in
-    (ready s .least, ready s .most, omega (arith, p, H .least, past-least v l), omega (arith, p, H .most, past-most v l), omega (arith, n, H .least, past-least v h), omega (arith, n, H .most, past-most v h))
+    let h = getD (s .args .highs .now) (s .args .f .0) 0 in (
+      ready s .least,
+      ready s .most,
+      omega (arith, p, H .least, past-least v l),
+      omega (arith, p, H .most, past-most v l),
+      omega (arith, n, H .least, past-least v h),
+      omega (arith, n, H .most, past-most v h),
+    )
 
 strike-returns-3 : (t : ℕ) → strike-lts.Need-returns-3 (strike-callees t) (strike-at t) strike.Post
 strike-returns-3 t c =
     let s = start-from-then3 c in
-    let a = c .before .before in
-    (struck-none 64 (s .args .vars .now) (s .args .lows .now) (s .args .highs .now) (s .args .count) (ready s .readable) (narrow s) (s .args .f .0) (two (here-else a)) (ready s .inside) (s .args .from) (s .args .alive) (a .strike-to2 .result) (ready s .least) (ready s .reached (two (here-else a))) (left-is a) (c .if3 .taken), (marked-here 64 (s .args .vars .now) (s .args .lows .now) (s .args .highs .now) (s .args .count) (ready s .readable) (narrow s) (s .args .f .0) (two (here-else a)) (ready s .inside) (s .args .from) (s .args .alive) (a .strike-to2 .result) (ready s .least) (ready s .reached (two (here-else a))) (left-is a) (s .args .memo .now) (s .args .stamp) (ready s .right), ready s .marks))
+    let a = c .before .before in (
+      struck-none 64 (s .args .vars .now) (s .args .lows .now) (s .args .highs .now) (s .args .count) (ready s .readable) (narrow s)
+          (s .args .f .0) (two (here-else a)) (ready s .inside) (s .args .from) (s .args .alive) (a .strike-to2 .result) (ready s .least)
+          (ready s .reached (two (here-else a))) (left-is a) (c .if3 .taken),
+      (
+        marked-here 64 (s .args .vars .now) (s .args .lows .now) (s .args .highs .now) (s .args .count) (ready s .readable) (narrow s)
+            (s .args .f .0) (two (here-else a)) (ready s .inside) (s .args .from) (s .args .alive) (a .strike-to2 .result) (ready s .least)
+            (ready s .reached (two (here-else a))) (left-is a) (s .args .memo .now) (s .args .stamp) (ready s .right),
+        ready s .marks,
+      ),
+    )
 
 strike-mul-if4 : (t : ℕ) → strike-lts.Need-mul-if4 (strike-callees t) (strike-at t) strike.Post
 strike-mul-if4 t c =
@@ -272,8 +300,17 @@ strike-slice-read-if4 t c =
 strike-returns-4 : (t : ℕ) → strike-lts.Need-returns-4 (strike-callees t) (strike-at t) strike.Post
 strike-returns-4 t c =
     let s = start-from-then4 c in
-    let a = strike-to2-from-then4 c in
-    (struck-marked 64 (s .args .vars .now) (s .args .lows .now) (s .args .highs .now) (s .args .count) (ready s .readable) (narrow s) (s .args .f .0) (two (here-else a)) (ready s .inside) (s .args .from) (s .args .alive) (a .strike-to2 .result) (ready s .least) (ready s .reached (two (here-else a))) (left-is a) (s .args .memo .now) (s .args .stamp) (ready s .right) (c .if4 .taken), (marked-here 64 (s .args .vars .now) (s .args .lows .now) (s .args .highs .now) (s .args .count) (ready s .readable) (narrow s) (s .args .f .0) (two (here-else a)) (ready s .inside) (s .args .from) (s .args .alive) (a .strike-to2 .result) (ready s .least) (ready s .reached (two (here-else a))) (left-is a) (s .args .memo .now) (s .args .stamp) (ready s .right), ready s .marks))
+    let a = strike-to2-from-then4 c in (
+      struck-marked 64 (s .args .vars .now) (s .args .lows .now) (s .args .highs .now) (s .args .count) (ready s .readable) (narrow s)
+          (s .args .f .0) (two (here-else a)) (ready s .inside) (s .args .from) (s .args .alive) (a .strike-to2 .result) (ready s .least)
+          (ready s .reached (two (here-else a))) (left-is a) (s .args .memo .now) (s .args .stamp) (ready s .right) (c .if4 .taken),
+      (
+        marked-here 64 (s .args .vars .now) (s .args .lows .now) (s .args .highs .now) (s .args .count) (ready s .readable) (narrow s)
+            (s .args .f .0) (two (here-else a)) (ready s .inside) (s .args .from) (s .args .alive) (a .strike-to2 .result) (ready s .least)
+            (ready s .reached (two (here-else a))) (left-is a) (s .args .memo .now) (s .args .stamp) (ready s .right),
+        ready s .marks,
+      ),
+    )
 
 strike-add-strike : (t : ℕ) → strike-lts.Need-add-strike (strike-callees t) (strike-at t) strike.Post
 strike-add-strike t c =
@@ -291,8 +328,11 @@ strike-strike-requires t c κs =
         room = ready s .room;
         least = omega arith;
         most = omega (arith, H .most);
-        reached = sides-after 64 (s .args .vars .now) (s .args .lows .now) (s .args .highs .now) (s .args .count) (ready s .readable) (narrow s) (s .args .f .0) (two (here-else a)) (ready s .inside) .0;
-        right = marked-here 64 (s .args .vars .now) (s .args .lows .now) (s .args .highs .now) (s .args .count) (ready s .readable) (narrow s) (s .args .f .0) (two (here-else a)) (ready s .inside) (s .args .from) (s .args .alive) (a .strike-to2 .result) (ready s .least) (ready s .reached (two (here-else a))) (left-is a) (s .args .memo .now) (s .args .stamp) (ready s .right);
+        reached = sides-after 64 (s .args .vars .now) (s .args .lows .now) (s .args .highs .now) (s .args .count) (ready s .readable)
+            (narrow s) (s .args .f .0) (two (here-else a)) (ready s .inside) .0;
+        right = marked-here 64 (s .args .vars .now) (s .args .lows .now) (s .args .highs .now) (s .args .count) (ready s .readable)
+            (narrow s) (s .args .f .0) (two (here-else a)) (ready s .inside) (s .args .from) (s .args .alive) (a .strike-to2 .result)
+            (ready s .least) (ready s .reached (two (here-else a))) (left-is a) (s .args .memo .now) (s .args .stamp) (ready s .right);
         marks = ready s .marks;
       },
     )
@@ -314,7 +354,8 @@ strike-strike-requires-2 t c κs =
         room = omega (arith, ready s .room, k .kept .1 .1 .1 .0);
         least = omega arith;
         most = omega (arith, H .most);
-        reached = sides-after 64 (s .args .vars .now) (s .args .lows .now) (s .args .highs .now) (s .args .count) (ready s .readable) (narrow s) (s .args .f .0) (two (here-else a)) (ready s .inside) .1;
+        reached = sides-after 64 (s .args .vars .now) (s .args .lows .now) (s .args .highs .now) (s .args .count) (ready s .readable)
+            (narrow s) (s .args .f .0) (two (here-else a)) (ready s .inside) .1;
         right = k .ensures .1 .0;
         marks = k .ensures .1 .1;
       },
@@ -326,11 +367,17 @@ strike-mul-memo t c =
 
 strike-slice-write-memo : (t : ℕ) → strike-lts.Need-slice-write-memo (strike-callees t) (strike-at t) strike.Post
 strike-slice-write-memo t c =
-    omega (arith, cell-inside (start-from-return-5 c), strike-from-return-5 c .strike .kept .1 .1 .1 .0, c .before .before .strike2 .kept .1 .1 .1 .0)
+    omega (
+      arith,
+      cell-inside (start-from-return-5 c),
+      strike-from-return-5 c .strike .kept .1 .1 .1 .0,
+      c .before .before .strike2 .kept .1 .1 .1 .0,
+    )
 
 strike-same-length : (t : ℕ) → strike-lts.Need-same-length (strike-callees t) (strike-at t) strike.Post
 strike-same-length t c =
-    length-set (c .before .before .strike2 .last .1 .1 .1 .0) _ _ ∙ c .before .before .strike2 .kept .1 .1 .1 .0 ∙ strike-from-return-5 c .strike .kept .1 .1 .1 .0
+    length-set (c .before .before .strike2 .last .1 .1 .1 .0) _ _ ∙ c .before .before .strike2 .kept .1 .1 .1 .0
+    ∙ strike-from-return-5 c .strike .kept .1 .1 .1 .0
 
 strike-returns-5 : (t : ℕ) → strike-lts.Need-returns-5 (strike-callees t) (strike-at t) strike.Post
 strike-returns-5 t c =
@@ -339,10 +386,15 @@ strike-returns-5 t c =
     let k₁ = strike-from-return-5 c .strike in
     let k₂ = c .before .before .strike2 in
     let room : s .args .f .0 < length (k₂ .last .1 .1 .1 .0) = omega (arith, cell-inside s, k₁ .kept .1 .1 .1 .0, k₂ .kept .1 .1 .1 .0) in
-    let is : Struck 64 (nodes s) (s .args .f .0) (s .args .from) (s .args .alive) (k₂ .result) = struck-node 64 (s .args .vars .now) (s .args .lows .now) (s .args .highs .now) (s .args .count) (ready s .readable) (narrow s) (s .args .f .0) (two (here-else a)) (ready s .inside) (s .args .from) (s .args .alive) (a .strike-to2 .result) (ready s .least) (ready s .reached (two (here-else a))) (left-is a) (k₁ .result) (k₂ .result) (k₁ .ensures .0) (k₂ .ensures .0) in (
+    let is : Struck 64 (nodes s) (s .args .f .0) (s .args .from) (s .args .alive) (k₂ .result) =
+    struck-node 64 (s .args .vars .now) (s .args .lows .now) (s .args .highs .now) (s .args .count) (ready s .readable) (narrow s)
+    (s .args .f .0) (two (here-else a)) (ready s .inside) (s .args .from) (s .args .alive) (a .strike-to2 .result) (ready s .least)
+    (ready s .reached (two (here-else a))) (left-is a) (k₁ .result) (k₂ .result) (k₁ .ensures .0) (k₂ .ensures .0) in (
       is,
       (
-        marked-stored 64 (s .args .vars .now) (s .args .lows .now) (s .args .highs .now) (s .args .count) (ready s .readable) (narrow s) (s .args .f .0) (two (here-else a)) (ready s .inside) (s .args .from) (s .args .alive) (k₂ .result) (k₂ .last .1 .1 .1 .0) (s .args .stamp) (ready s .reached (two (here-else a))) room is (k₂ .ensures .1 .0),
+        marked-stored 64 (s .args .vars .now) (s .args .lows .now) (s .args .highs .now) (s .args .count) (ready s .readable) (narrow s)
+            (s .args .f .0) (two (here-else a)) (ready s .inside) (s .args .from) (s .args .alive) (k₂ .result) (k₂ .last .1 .1 .1 .0)
+            (s .args .stamp) (ready s .reached (two (here-else a))) room is (k₂ .ensures .1 .0),
         marks-stored (k₂ .last .1 .1 .1 .0) (s .args .count) (s .args .f .0) (s .args .stamp) room (k₂ .ensures .1 .1),
       ),
     )

@@ -46,7 +46,8 @@ module _ (e : tie.Else2) where
   two : 2 ≤ start-from-else2 e .args .f .0
   two = omega (arith, else1-from-else2 e .if1 .left, e .if2 .left)
 
-  at-node : Here (start-from-else2 e .args .vars .now) (start-from-else2 e .args .lows .now) (start-from-else2 e .args .highs .now) (start-from-else2 e .args .count) (start-from-else2 e .args .f .0)
+  at-node : Here (start-from-else2 e .args .vars .now) (start-from-else2 e .args .lows .now) (start-from-else2 e .args .highs .now)
+      (start-from-else2 e .args .count) (start-from-else2 e .args .f .0)
   at-node = here _ _ _ _ (start-from-else2 e .pre .0) _ two (start-from-else2 e .pre .1)
 
 returns : tie.Need-returns
@@ -89,7 +90,8 @@ returns-3 c =
     let a = s .args in
     subst (UnitsAt 64 (nodesIn (a .vars .now) (a .lows .now) (a .highs .now) (a .count)) (a .f .0))
     (sym (ap₂ (λ (p n : ℕ). record { positive = p; negative = n }) (c .before .literal-where .ensures) (c .literal-where2 .ensures)))
-    (top-units 64 (a .vars .now) (a .lows .now) (a .highs .now) (a .count) (s .pre .0) (of-64 (a .vars .now) (a .lows .now) (a .highs .now) (a .count) (s .pre .0)) (a .f .0) (two e) (s .pre .1)
+    (top-units 64 (a .vars .now) (a .lows .now) (a .highs .now) (a .count) (s .pre .0)
+    (of-64 (a .vars .now) (a .lows .now) (a .highs .now) (a .count) (s .pre .0)) (a .f .0) (two e) (s .pre .1)
     (⊎-elim (λ w. inl (w .taken)) (λ w. inr (eqb-true _ _ (w .1 .taken))) (c .before .before .if3 .came)))
 
 returns-4 : tie.Need-returns-4

@@ -22,7 +22,8 @@ strike-requires c κs =
       most = omega arith;
       reached = λ two. here (a .vars .now) (a .lows .now) (a .highs .now) (a .count) (s .pre .0) (a .f .0) two (s .pre .1) .least;
       right = marked-new 64 (nodesIn (a .vars .now) (a .lows .now) (a .highs .now) (a .count)) (a .memo .now) (a .stamp) _
-          (subst (λ (m : ℕ). MarksBelow m (a .memo .now) (a .stamp)) (sym (length-in (a .vars .now) (a .lows .now) (a .highs .now) (a .count) (s .pre .0))) (s .pre .3));
+          (subst (λ (m : ℕ). MarksBelow m (a .memo .now) (a .stamp))
+          (sym (length-in (a .vars .now) (a .lows .now) (a .highs .now) (a .count) (s .pre .0))) (s .pre .3));
       marks = λ i p. omega (arith, s .pre .3 i p);
     }
 

@@ -52,7 +52,8 @@ module _ {t : ℕ} (s : one-from-lts.Start (one-from-callees t) (one-from-at t) 
   Right memo = OneMemo memo nodes (s .args .literals .positive) (s .args .literals .negative)
 
   abbrev sides : SidesUnder
-  sides = sidesUnder (s .args .vars .now) (s .args .lows .now) (s .args .highs .now) (s .args .f .0) (s .args .literals .positive) (s .args .literals .negative)
+  sides = sidesUnder (s .args .vars .now) (s .args .lows .now) (s .args .highs .now) (s .args .f .0) (s .args .literals .positive)
+      (s .args .literals .negative)
 
   readable : Readable (s .args .vars .now) (s .args .lows .now) (s .args .highs .now) (s .args .count)
   readable = s .pre .1 .0 .0
@@ -193,10 +194,12 @@ module _ {t : ℕ} (e : one-from-lts.Else2 (one-from-callees t) (one-from-at t) 
   two = omega (arith, e .before .before .if1 .left, e .if2 .left)
 
   less : (sides start .low .0 < start .args .f .0) × (sides start .high .0 < start .args .f .0)
-  less = side-less (start .args .vars .now) (start .args .lows .now) (start .args .highs .now) (start .args .count) (start .args .literals .positive) (start .args .literals .negative) (readable start) (start .args .f .0) two (inside start)
+  less = side-less (start .args .vars .now) (start .args .lows .now) (start .args .highs .now) (start .args .count)
+      (start .args .literals .positive) (start .args .literals .negative) (readable start) (start .args .f .0) two (inside start)
 
   from-sides : constant start (start .args .f .0) ≡ (constant start (sides start .low .0) && constant start (sides start .high .0))
-  from-sides = constant-node (start .args .vars .now) (start .args .lows .now) (start .args .highs .now) (start .args .count) (start .args .literals .positive) (start .args .literals .negative) (readable start) (start .args .f .0) two (inside start)
+  from-sides = constant-node (start .args .vars .now) (start .args .lows .now) (start .args .highs .now) (start .args .count)
+      (start .args .literals .positive) (start .args .literals .negative) (readable start) (start .args .f .0) two (inside start)
 
 -- where the sides are known
 module _ {t : ℕ} (a : one-from-lts.After-sides-under (one-from-callees t) (one-from-at t) one-from.Post) where
@@ -210,18 +213,27 @@ module _ {t : ℕ} (a : one-from-lts.After-sides-under (one-from-callees t) (one
   at-start = start-from-sides-under a
 
   both-less : (low < at-start .args .f .0) × (high < at-start .args .f .0)
-  both-less = subst (λ (x : SidesUnder). (x .low .0 < at-start .args .f .0) × (x .high .0 < at-start .args .f .0)) (sym (a .sides-under .ensures)) (less (else2-from-sides-under a))
+  both-less = subst (λ (x : SidesUnder). (x .low .0 < at-start .args .f .0) × (x .high .0 < at-start .args .f .0))
+      (sym (a .sides-under .ensures)) (less (else2-from-sides-under a))
 
   from-both : constant at-start (at-start .args .f .0) ≡ (constant at-start low && constant at-start high)
-  from-both = subst (λ (x : SidesUnder). constant at-start (at-start .args .f .0) ≡ (constant at-start (x .low .0) && constant at-start (x .high .0))) (sym (a .sides-under .ensures)) (from-sides (else2-from-sides-under a))
+  from-both = subst (λ (x : SidesUnder). constant at-start (at-start .args .f .0)
+      ≡ (constant at-start (x .low .0) && constant at-start (x .high .0))) (sym (a .sides-under .ensures))
+      (from-sides (else2-from-sides-under a))
 
 one-from-returns : (t : ℕ) → one-from-lts.Need-returns (one-from-callees t) (one-from-at t) one-from.Post
-one-from-returns t c =
-    (sym (ap (constant (start-from-then1 c)) (c .if1 .taken) ∙ constant-zero (nodes (start-from-then1 c)) (start-from-then1 c .args .literals .positive) (start-from-then1 c .args .literals .negative)), right (start-from-then1 c))
+one-from-returns t c = (
+  sym (ap (constant (start-from-then1 c)) (c .if1 .taken) ∙ constant-zero (nodes (start-from-then1 c))
+      (start-from-then1 c .args .literals .positive) (start-from-then1 c .args .literals .negative)),
+  right (start-from-then1 c),
+)
 
 one-from-returns-2 : (t : ℕ) → one-from-lts.Need-returns-2 (one-from-callees t) (one-from-at t) one-from.Post
-one-from-returns-2 t c =
-    (sym (ap (constant (start-from-then2 c)) (c .if2 .taken) ∙ constant-one (nodes (start-from-then2 c)) (start-from-then2 c .args .literals .positive) (start-from-then2 c .args .literals .negative)), right (start-from-then2 c))
+one-from-returns-2 t c = (
+  sym (ap (constant (start-from-then2 c)) (c .if2 .taken) ∙ constant-one (nodes (start-from-then2 c))
+      (start-from-then2 c .args .literals .positive) (start-from-then2 c .args .literals .negative)),
+  right (start-from-then2 c),
+)
 
 one-from-cast-i : (t : ℕ) → one-from-lts.Need-cast-i (one-from-callees t) (one-from-at t) one-from.Post
 one-from-cast-i t c = search needs
@@ -237,8 +249,12 @@ one-from-cast-if3 : (t : ℕ) → one-from-lts.Need-cast-if3 (one-from-callees t
 one-from-cast-if3 t c = search needs
 
 one-from-returns-3 : (t : ℕ) → one-from-lts.Need-returns-3 (one-from-callees t) (one-from-at t) one-from.Post
-one-from-returns-3 t c =
-    (sym (constant-known (nodes (start-from-then3 c)) (start-from-then3 c .args .literals .positive) (start-from-then3 c .args .literals .negative) (start-from-then3 c .args .memo .now) _ (in-nodes (start-from-then3 c)) (right (start-from-then3 c)) (c .if3 .taken) (two (else2-from-then3 c))), right (start-from-then3 c))
+one-from-returns-3 t c = (
+  sym (constant-known (nodes (start-from-then3 c)) (start-from-then3 c .args .literals .positive)
+      (start-from-then3 c .args .literals .negative) (start-from-then3 c .args .memo .now) _ (in-nodes (start-from-then3 c))
+      (right (start-from-then3 c)) (c .if3 .taken) (two (else2-from-then3 c))),
+  right (start-from-then3 c),
+)
 
 one-from-sides-under-requires : (t : ℕ) → one-from-lts.Need-sides-under-requires (one-from-callees t) (one-from-at t) one-from.Post
 one-from-sides-under-requires t c κs =
@@ -255,14 +271,21 @@ one-from-same-length t c = one-from-from-then4 c .one-from .kept .1 .1 .1 .0
 one-from-returns-4 : (t : ℕ) → one-from-lts.Need-returns-4 (one-from-callees t) (one-from-at t) one-from.Post
 one-from-returns-4 t c =
     let a = sides-under-from-then4 c in
-    let k = one-from-from-then4 c .one-from in
-    (sym (from-both a ∙ ap (λ (x : Bool). x && constant (start-from-then4 c) (high a)) (sym (k .ensures .0) ∙ not-true _ (c .if4 .taken))), k .ensures .1)
+    let k = one-from-from-then4 c .one-from in (
+      sym (from-both a ∙ ap (λ (x : Bool). x && constant (start-from-then4 c) (high a)) (sym (k .ensures .0) ∙ not-true _ (c .if4 .taken))),
+      k .ensures .1,
+    )
 
 one-from-one-from-requires-2 : (t : ℕ) → one-from-lts.Need-one-from-requires-2 (one-from-callees t) (one-from-at t) one-from.Post
 one-from-one-from-requires-2 t c κs =
     let s = start-from-one-from-call-2 c in
-    let k = one-from-from-one-from-call-2 c .one-from in
-    (omega (arith, measure s, both-less (sides-under-from-one-from-call-2 c)), ((readable s, omega (arith, inside s, both-less (sides-under-from-one-from-call-2 c)), omega (arith, room s, k .kept .1 .1 .1 .0)), k .ensures .1))
+    let k = one-from-from-one-from-call-2 c .one-from in (
+      omega (arith, measure s, both-less (sides-under-from-one-from-call-2 c)),
+      (
+        (readable s, omega (arith, inside s, both-less (sides-under-from-one-from-call-2 c)), omega (arith, room s, k .kept .1 .1 .1 .0)),
+        k .ensures .1,
+      ),
+    )
 
 one-from-same-length-2 : (t : ℕ) → one-from-lts.Need-same-length-2 (one-from-callees t) (one-from-at t) one-from.Post
 one-from-same-length-2 t c =
@@ -271,8 +294,11 @@ one-from-same-length-2 t c =
 one-from-returns-5 : (t : ℕ) → one-from-lts.Need-returns-5 (one-from-callees t) (one-from-at t) one-from.Post
 one-from-returns-5 t c =
     let a = sides-under-from-then5 c in
-    let k = one-from2-from-then5 c .one-from2 in
-    (sym (from-both a ∙ ap (_&&_ (constant (start-from-then5 c) (low a))) (sym (k .ensures .0) ∙ not-true _ (c .if5 .taken)) ∙ and-false (constant (start-from-then5 c) (low a))), k .ensures .1)
+    let k = one-from2-from-then5 c .one-from2 in (
+      sym (from-both a ∙ ap (_&&_ (constant (start-from-then5 c) (low a))) (sym (k .ensures .0) ∙ not-true _ (c .if5 .taken))
+          ∙ and-false (constant (start-from-then5 c) (low a))),
+      k .ensures .1,
+    )
 
 one-from-cast-memo : (t : ℕ) → one-from-lts.Need-cast-memo (one-from-callees t) (one-from-at t) one-from.Post
 one-from-cast-memo t c = search needs
@@ -283,11 +309,17 @@ one-from-mul-memo t c =
 
 one-from-slice-write-memo : (t : ℕ) → one-from-lts.Need-slice-write-memo (one-from-callees t) (one-from-at t) one-from.Post
 one-from-slice-write-memo t c =
-    omega (arith, cell-inside (start-from-return-6 c), one-from-from-return-6 c .one-from .kept .1 .1 .1 .0, one-from2-from-return-6 c .one-from2 .kept .1 .1 .1 .0)
+    omega (
+      arith,
+      cell-inside (start-from-return-6 c),
+      one-from-from-return-6 c .one-from .kept .1 .1 .1 .0,
+      one-from2-from-return-6 c .one-from2 .kept .1 .1 .1 .0,
+    )
 
 one-from-same-length-3 : (t : ℕ) → one-from-lts.Need-same-length-3 (one-from-callees t) (one-from-at t) one-from.Post
 one-from-same-length-3 t c =
-    length-set (one-from2-from-return-6 c .one-from2 .last .1 .1 .1 .0) _ _ ∙ one-from2-from-return-6 c .one-from2 .kept .1 .1 .1 .0 ∙ one-from-from-return-6 c .one-from .kept .1 .1 .1 .0
+    length-set (one-from2-from-return-6 c .one-from2 .last .1 .1 .1 .0) _ _ ∙ one-from2-from-return-6 c .one-from2 .kept .1 .1 .1 .0
+    ∙ one-from-from-return-6 c .one-from .kept .1 .1 .1 .0
 
 one-from-returns-6 : (t : ℕ) → one-from-lts.Need-returns-6 (one-from-callees t) (one-from-at t) one-from.Post
 one-from-returns-6 t c =
@@ -296,7 +328,8 @@ one-from-returns-6 t c =
     let k₁ = one-from-from-return-6 c .one-from in
     let k₂ = one-from2-from-return-6 c .one-from2 in
     let is : constant s (s .args .f .0) ≡ true = from-both a
-    ∙ ap₂ _&&_ (sym (k₁ .ensures .0) ∙ not-false _ (else4-from-return-6 c .if4 .left)) (sym (k₂ .ensures .0) ∙ not-false _ (c .before .if5 .left)) in (
+    ∙ ap₂ _&&_ (sym (k₁ .ensures .0) ∙ not-false _ (else4-from-return-6 c .if4 .left))
+    (sym (k₂ .ensures .0) ∙ not-false _ (c .before .if5 .left)) in (
       sym is,
       constant-stored (nodes s) (s .args .literals .positive) (s .args .literals .negative) (k₂ .last .1 .1 .1 .0) (s .args .f .0)
           (omega (arith, cell-inside s, k₁ .kept .1 .1 .1 .0, k₂ .kept .1 .1 .1 .0)) (k₂ .ensures .1) is,

@@ -33,8 +33,11 @@ loop-less c = search needs
 loop-again : tie.Need-loop-again Inv-loop μ-loop
 loop-again c =
     let l = c .before .loop in
-    let inside : l .i < length (l .memo) = omega (arith, l .inv .2, c .loop-test .taken, c .before .before .pre) in
-    (stored (λ j x. j < l .i + 1 → x ≡ 0) (l .memo) (l .i) 0 inside (λ _. refl) (λ j n p. l .inv .0 j (omega (arith, n))), omega arith, length-set (l .memo) (l .i) 0 ∙ l .inv .2)
+    let inside : l .i < length (l .memo) = omega (arith, l .inv .2, c .loop-test .taken, c .before .before .pre) in (
+      stored (λ j x. j < l .i + 1 → x ≡ 0) (l .memo) (l .i) 0 inside (λ _. refl) (λ j n p. l .inv .0 j (omega (arith, n))),
+      omega arith,
+      length-set (l .memo) (l .i) 0 ∙ l .inv .2,
+    )
 
 same-length : tie.Need-same-length Inv-loop μ-loop
 same-length c = search needs

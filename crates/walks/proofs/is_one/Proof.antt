@@ -27,8 +27,12 @@ module _ (c : tie.After-one-from-arg) where
 one-from-requires : tie.Need-one-from-requires
 one-from-requires c κs =
     let s = start-from-one-from-call c in
-    let k = clear-cells-from-one-from-call c .clear-cells in
-    ((s .pre .0, s .pre .1, omega (arith, s .pre .2, k .kept)), constant-cleared (nodesIn (s .args .vars .now) (s .args .lows .now) (s .args .highs .now) (s .args .count)) _ _ _ (subst (λ (m : ℕ). Cleared m (k .last .0)) (sym (length-in _ _ _ _ (s .pre .0))) (k .ensures)))
+    let k = clear-cells-from-one-from-call c .clear-cells in (
+      (s .pre .0, s .pre .1, omega (arith, s .pre .2, k .kept)),
+      constant-cleared
+          (nodesIn (s .args .vars .now) (s .args .lows .now) (s .args .highs .now) (s .args .count)) _ _ _
+          (subst (λ (m : ℕ). Cleared m (k .last .0)) (sym (length-in _ _ _ _ (s .pre .0))) (k .ensures)),
+    )
 
 same-length : tie.Need-same-length
 same-length c = search needs

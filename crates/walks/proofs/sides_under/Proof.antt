@@ -53,7 +53,11 @@ in-word-requires-2 c κs =
 returns-2 : tie.Need-returns-2
 unfolding sidesUnder
 returns-2 c =
-    rw (sym (c .before .before .before .in-word .ensures) ∙ c .before .before .if1 .left, sym (c .before .in-word2 .ensures) ∙ c .if2 .taken)
+    rw (
+      sym (c .before .before .before .in-word .ensures) ∙ c .before .before .if1 .left,
+      sym (c .before .in-word2 .ensures)
+          ∙ c .if2 .taken,
+    )
 
 returns-3 : tie.Need-returns-3
 unfolding sidesUnder

@@ -12,7 +12,8 @@ use Rattle.walks.proofs.value_of.Reads as reads
 use Rattle.walks.proofs.value_of.Lts as lts
 
 abbrev Inv-loop : tie.InvT-loop
-Inv-loop vars lows highs count word k₀ k = (k < count) × (valueUnder (nodesIn vars lows highs count) k word ≡ valueUnder (nodesIn vars lows highs count) k₀ word)
+Inv-loop vars lows highs count word k₀ k = (k < count)
+    × (valueUnder (nodesIn vars lows highs count) k word ≡ valueUnder (nodesIn vars lows highs count) k₀ word)
 
 abbrev μ-loop : tie.MeasureT-loop
 μ-loop vars lows highs count word k₀ k = k
@@ -44,7 +45,8 @@ module _ (c : tie.After-shared-slice-known3 Inv-loop μ-loop) where
 
 -- what good order says of the node that the walk is at
 at-node : (c : lts.After-shared-slice-known reads.Pre reads.Post Inv-loop μ-loop)
-    → Here (start-from-shared-slice-read-v c .args .vars .now) (start-from-shared-slice-read-v c .args .lows .now) (start-from-shared-slice-read-v c .args .highs .now) (start-from-shared-slice-read-v c .args .count) (c .before .before .loop .k)
+    → Here (start-from-shared-slice-read-v c .args .vars .now) (start-from-shared-slice-read-v c .args .lows .now)
+    (start-from-shared-slice-read-v c .args .highs .now) (start-from-shared-slice-read-v c .args .count) (c .before .before .loop .k)
 at-node c = here _ _ _ _ (start-from-shared-slice-read-v c .pre .0) _ (c .before .loop-test .taken) (c .before .before .loop .inv .0)
 
 -- src/lib.rt:12:17
@@ -89,7 +91,12 @@ loop-less c = omega (arith, at-node (c .before .before))
 
 -- src/lib.rt:13:5
 loop-again : tie.Need-loop-again Inv-loop μ-loop
-loop-again c = (omega (arith, at-node (c .before .before)), value-high _ _ _ _ _ _ (start-from-loop-again c .pre .0) (in-loop-from-loop-again c .loop-test .taken) (at-loop-from-loop-again c .loop .inv .0) (c .before .if1 .taken) ∙ at-loop-from-loop-again c .loop .inv .1)
+loop-again c = (
+  omega (arith, at-node (c .before .before)),
+  value-high _ _ _ _ _ _ (start-from-loop-again c .pre .0)
+      (in-loop-from-loop-again c .loop-test .taken) (at-loop-from-loop-again c .loop .inv .0) (c .before .if1 .taken)
+      ∙ at-loop-from-loop-again c .loop .inv .1,
+)
 
 -- src/lib.rt:18:17
 mul-k-2 : tie.Need-mul-k-2 Inv-loop μ-loop
@@ -109,7 +116,12 @@ loop-less-2 c = omega (arith, at-node (c .before .before))
 
 -- src/lib.rt:13:5
 loop-again-2 : tie.Need-loop-again-2 Inv-loop μ-loop
-loop-again-2 c = (omega (arith, at-node (c .before .before)), value-low _ _ _ _ _ _ (start-from-loop-less-2 c .pre .0) (in-loop-from-loop-less-2 c .loop-test .taken) (at-loop-from-loop-less-2 c .loop .inv .0) (c .before .if1 .left) ∙ at-loop-from-loop-less-2 c .loop .inv .1)
+loop-again-2 c = (
+  omega (arith, at-node (c .before .before)),
+  value-low _ _ _ _ _ _ (start-from-loop-less-2 c .pre .0)
+      (in-loop-from-loop-less-2 c .loop-test .taken) (at-loop-from-loop-less-2 c .loop .inv .0) (c .before .if1 .left)
+      ∙ at-loop-from-loop-less-2 c .loop .inv .1,
+)
 
 -- src/lib.rt:8:1
 returns : tie.Need-returns Inv-loop μ-loop

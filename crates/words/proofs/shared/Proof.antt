@@ -17,7 +17,8 @@ shares-is a b fa fb = go (ℕ-discrete (bitAnd a b) 0)
   where
     go : Dec (bitAnd a b ≡ 0) → not (eqb (bitAnd a b) 0) ≡ shares 64 a b
     go (yes e) = rw (eq-eqb (bitAnd a b) 0 e) (sym (shares-none 64 a b e))
-    go (no ne) = rw (ne-eqb (bitAnd a b) 0 ne) (some-in-word 64 (bitAnd a b) (and-lt 64 a b fa fb) ne (λ v lo hi e. sym (shares-some 64 a b v lo hi e)))
+    go (no ne) = rw (ne-eqb (bitAnd a b) 0 ne) (some-in-word 64 (bitAnd a b) (and-lt 64 a b fa fb) ne
+        (λ v lo hi e. sym (shares-some 64 a b v lo hi e)))
 
 returns : tie.Need-returns
 returns c = shares-is (c .args .a) (c .args .b) (omega (arith, c .fits .a)) (omega (arith, c .fits .b))

@@ -19,7 +19,8 @@ sub-result c = search needs
 returns : tie.Need-returns
 unfolding without
 returns c =
-    ap₂ (λ (x y : ℕ). bitAnd (c .before .before .args .word) (bitOr x (18446744073709551615 - y))) (c .before .below .ensures) (c .below2 .ensures)
+    ap₂ (λ (x y : ℕ). bitAnd (c .before .before .args .word) (bitOr x (18446744073709551615 - y))) (c .before .below .ensures)
+    (c .below2 .ensures)
 
 pub without-spec : {M : Type 1} → statement M
 without-spec = tie.close (tie.spec below-requires below-requires-2 sub-result returns)

@@ -1,4 +1,5 @@
--- `find` finds where the clause's diagram stands: at the start of each turn the clause of the later variables does (Making). Assumes nothing.
+-- `find` finds where the clause's diagram stands: at the start of each turn the clause of the later variables does (Making). Assumes
+-- nothing.
 use mathlib.Core.Path.{_≡_, sym, _∙_, subst}
 use borrow.Author.Needs.{needs}
 use Prim.Native.Nat.{ℕ, _-_}
@@ -13,14 +14,16 @@ use Rattle.clause.proofs.search.find.Tie as tie
 
 abbrev Inv-loop : tie.InvT-loop
 Inv-loop vars lows highs heads links count positive negative node₀ v₀ node v =
-    Making (tableOf vars lows highs heads links count) (record { positive = positive; negative = negative }) v (stay (tableOf vars lows highs heads links count) (node .0))
+    Making (tableOf vars lows highs heads links count) (record { positive = positive; negative = negative }) v
+    (stay (tableOf vars lows highs heads links count) (node .0))
 
 abbrev μ-loop : tie.MeasureT-loop
 μ-loop vars lows highs heads links count positive negative node₀ v₀ node v = v
 
 module _ (s : tie.Start Inv-loop μ-loop) where
   abbrev lent : Table
-  lent = tableOf (s .args .vars .now) (s .args .lows .now) (s .args .highs .now) (s .args .heads .now) (s .args .links .now) (s .args .count)
+  lent = tableOf (s .args .vars .now) (s .args .lows .now) (s .args .highs .now) (s .args .heads .now) (s .args .links .now)
+      (s .args .count)
 
 -- The ways back, written by ways.py: TO-from-FROM leads from the place FROM of the code to the place TO before it.
 module _ (c : tie.After-shared Inv-loop μ-loop) where
@@ -86,24 +89,32 @@ module _ (a : tie.After-over Inv-loop μ-loop) where
 
   abbrev wanted : Placing
   wanted =
-      put (size (lent start)) (nodesOf (lent start)) (at-loop-from-over a .loop .v) (side-from-over a .side .result .0) (side2-from-over a .side2 .result .0)
+      put (size (lent start)) (nodesOf (lent start)) (at-loop-from-over a .loop .v) (side-from-over a .side .result .0)
+      (side2-from-over a .side2 .result .0)
 
   abbrev stands : Found → Type 0
   stands r = Stands (nodesOf (lent start)) wanted r
 
-  turned : ((j : ℕ) → wanted ≡ placed (nodesOf (lent start)) j → Making (lent start) (start .args .literals) (at-loop-from-over a .loop .v - 1) (stay (lent start) j))
-      × (((j : ℕ) → wanted ≡ placed (nodesOf (lent start)) j → ⊥) → (j : ℕ) → place (size (lent start)) (nodesOf (lent start)) (clauseOfWords (start .args .literals)) ≡ placed (nodesOf (lent start)) j → ⊥)
+  turned : ((j : ℕ) → wanted ≡ placed (nodesOf (lent start)) j → Making (lent start) (start .args .literals)
+      (at-loop-from-over a .loop .v - 1) (stay (lent start) j))
+      × (((j : ℕ) → wanted ≡ placed (nodesOf (lent start)) j → ⊥) → (j : ℕ) →
+      place (size (lent start)) (nodesOf (lent start)) (clauseOfWords (start .args .literals)) ≡ placed (nodesOf (lent start)) j → ⊥)
   turned =
       let apart = sym (else1-from-over a .before .shared .ensures) ∙ else1-from-over a .if1 .left in (
-        find-turn (lent start) (start .pre) (start .args .literals) apart (at-loop-from-over a .loop .v) (in-loop-from-over a .loop-test .taken) (at-loop-from-over a .loop .node .0) (at-loop-from-over a .loop .inv) _ _ (side-from-over a .side .ensures) (side2-from-over a .side2 .ensures),
-        find-absent (lent start) (start .pre) (start .args .literals) apart (at-loop-from-over a .loop .v) (in-loop-from-over a .loop-test .taken) (at-loop-from-over a .loop .node .0) (at-loop-from-over a .loop .inv) _ _ (side-from-over a .side .ensures) (side2-from-over a .side2 .ensures),
+        find-turn (lent start) (start .pre) (start .args .literals) apart (at-loop-from-over a .loop .v)
+            (in-loop-from-over a .loop-test .taken) (at-loop-from-over a .loop .node .0) (at-loop-from-over a .loop .inv) _ _
+            (side-from-over a .side .ensures) (side2-from-over a .side2 .ensures),
+        find-absent (lent start) (start .pre) (start .args .literals) apart (at-loop-from-over a .loop .v)
+            (in-loop-from-over a .loop-test .taken) (at-loop-from-over a .loop .node .0) (at-loop-from-over a .loop .inv) _ _
+            (side-from-over a .side .ensures) (side2-from-over a .side2 .ensures),
       )
 
 shared-requires : tie.Need-shared-requires Inv-loop μ-loop
 shared-requires c κs = search needs
 
 returns : tie.Need-returns Inv-loop μ-loop
-returns c = find-both (lent (start-from-then1 c)) (start-from-then1 c .pre) (start-from-then1 c .args .literals) (sym (shared-from-then1 c .shared .ensures) ∙ c .if1 .taken)
+returns c = find-both (lent (start-from-then1 c)) (start-from-then1 c .pre) (start-from-then1 c .args .literals)
+    (sym (shared-from-then1 c .shared .ensures) ∙ c .if1 .taken)
 
 loop-holds : tie.Need-loop-holds Inv-loop μ-loop
 loop-holds c = make-start _ (start-from-else1 c .pre) _
@@ -141,7 +152,8 @@ loop-again c =
 
 returns-3 : tie.Need-returns-3 Inv-loop μ-loop
 returns-3 c =
-    find-end (lent (start-from-return-3 c)) (start-from-return-3 c .pre) (start-from-return-3 c .args .literals) _ (c .loop-test .left) _ (at-loop-from-return-3 c .loop .inv)
+    find-end (lent (start-from-return-3 c)) (start-from-return-3 c .pre) (start-from-return-3 c .args .literals) _ (c .loop-test .left) _
+    (at-loop-from-return-3 c .loop .inv)
 
 pub find-spec : {M : Type 1} → statement M
 find-spec =

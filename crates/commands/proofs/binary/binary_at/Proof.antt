@@ -46,7 +46,8 @@ clause-in-requires-2 : tie.Need-clause-in-requires-2
 clause-in-requires-2 c κs = search needs
 
 returns-2 : tie.Need-returns-2
-returns-2 c = binary-striking _ _ _ _ (then1-from-return-2 c .if1 .taken) (else2-from-return-2 c .if2 .left) (then3-from-return-2 c .if3 .taken) (c .clause-in2 .ensures)
+returns-2 c = binary-striking _ _ _ _ (then1-from-return-2 c .if1 .taken) (else2-from-return-2 c .if2 .left)
+    (then3-from-return-2 c .if3 .taken) (c .clause-in2 .ensures)
 
 returns-3 : tie.Need-returns-3
 returns-3 c = binary-unknown _ _ _ (then1-from-else3 c .if1 .taken) (else2-from-else3 c .if2 .left) (c .if3 .left)

@@ -79,19 +79,24 @@ module _ (c : tie.After-clause-command) where
 
 sub-t20 : tie.Need-sub-t20
 sub-t20 c =
-    refused-in BinaryFault _ _ _ _ _ _ _ (binary-clause-in _ _ _ _ _ (omega arith) (omega (arith, start-from-return-3 c .pre .0)) (omega (arith, start-from-return-3 c .pre .0)))
+    refused-in BinaryFault _ _ _ _ _ _ _ (binary-clause-in _ _ _ _ _ (omega arith) (omega (arith, start-from-return-3 c .pre .0))
+    (omega (arith, start-from-return-3 c .pre .0)))
     (sym (open-groups-from-return-3 c .open-groups .ensures) ∙ number-from-return-3 c .number .given .1)
 
 returns : tie.Need-returns
 returns c =
-    answer-closed (λ end. end) _ (start-from-return c .args .strikes) _ _ _ _ _ _ (sym (open-groups-from-return c .open-groups .ensures) ∙ closed-from-return c .closed .given .1)
-    (pivot-of-from-return c .pivot-of .ensures) (groups-pivot _ _ _ _ _ _ (groups-at-from-return c .groups-at .ensures)) refl (c .clause-command .ensures)
+    answer-closed (λ end. end) _ (start-from-return c .args .strikes) _ _ _ _ _ _
+    (sym (open-groups-from-return c .open-groups .ensures) ∙ closed-from-return c .closed .given .1)
+    (pivot-of-from-return c .pivot-of .ensures) (groups-pivot _ _ _ _ _ _ (groups-at-from-return c .groups-at .ensures)) refl
+    (c .clause-command .ensures)
 
 returns-2 : tie.Need-returns-2
-returns-2 c = answer-end (λ end. end) _ (start-from-return-2 c .args .strikes) _ (sym (open-groups-from-return-2 c .open-groups .ensures) ∙ c .enum-told .given .1)
+returns-2 c = answer-end (λ end. end) _ (start-from-return-2 c .args .strikes) _
+    (sym (open-groups-from-return-2 c .open-groups .ensures) ∙ c .enum-told .given .1)
 
 returns-3 : tie.Need-returns-3
-returns-3 c = answer-refused (λ end. end) _ (start-from-return-3 c .args .strikes) _ _ _ (sym (open-groups-from-return-3 c .open-groups .ensures) ∙ number-from-return-3 c .number .given .1)
+returns-3 c = answer-refused (λ end. end) _ (start-from-return-3 c .args .strikes) _ _ _
+    (sym (open-groups-from-return-3 c .open-groups .ensures) ∙ number-from-return-3 c .number .given .1)
 
 pub clause-in-spec : {M : Type 1} → statement M
 clause-in-spec =

@@ -148,24 +148,32 @@ inside : (c : tie.Else1) → last-group-from-else1 c .last-group .result < lengt
 inside c = omega (arith, last-group-from-else1 c .last-group .ensures .1 .1, c .if1 .left)
 
 returns-2 : tie.Need-returns-2
-returns-2 c = read-closing _ _ _ _ (last-group-from-then3 c .last-group .ensures .0) (inside (else1-from-then3 c)) _ refl _ refl (then2-from-then3 c .if2 .taken) (c .if3 .taken)
+returns-2 c = read-closing _ _ _ _ (last-group-from-then3 c .last-group .ensures .0) (inside (else1-from-then3 c)) _ refl _ refl
+    (then2-from-then3 c .if2 .taken) (c .if3 .taken)
 
 returns-3 : tie.Need-returns-3
-returns-3 c = read-one _ _ _ _ (last-group-from-then4 c .last-group .ensures .0) (inside (else1-from-then4 c)) _ refl _ refl (then2-from-then4 c .if2 .taken) (c .if4 .taken)
+returns-3 c = read-one _ _ _ _ (last-group-from-then4 c .last-group .ensures .0) (inside (else1-from-then4 c)) _ refl _ refl
+    (then2-from-then4 c .if2 .taken) (c .if4 .taken)
 
 cast-literal-of : tie.Need-cast-literal-of
-cast-literal-of c = omega (arith, shared-slice-known2-from-else4 c .shared-slice-known2 .given (last-group-from-else4 c .last-group .result))
+cast-literal-of c = omega (
+  arith,
+  shared-slice-known2-from-else4 c .shared-slice-known2 .given
+      (last-group-from-else4 c .last-group .result),
+)
 
 literal-of-requires : tie.Need-literal-of-requires
 literal-of-requires c κs = search needs
 
 returns-4 : tie.Need-returns-4
 returns-4 c =
-    read-short _ _ _ _ (last-group-from-return-4 c .last-group .ensures .0) (inside (else1-from-return-4 c)) _ refl _ refl (then2-from-return-4 c .if2 .taken)
+    read-short _ _ _ _ (last-group-from-return-4 c .last-group .ensures .0) (inside (else1-from-return-4 c)) _ refl _ refl
+    (then2-from-return-4 c .if2 .taken)
     (else3-from-return-4 c .if3 .left) (else4-from-return-4 c .if4 .left) _ (c .literal-of .ensures)
 
 returns-5 : tie.Need-returns-5
-returns-5 c = read-surplus _ _ _ _ (last-group-from-then5 c .last-group .ensures .0) (inside (else1-from-then5 c)) _ refl _ refl (else2-from-then5 c .if2 .left) (c .if5 .taken)
+returns-5 c = read-surplus _ _ _ _ (last-group-from-then5 c .last-group .ensures .0) (inside (else1-from-then5 c)) _ refl _ refl
+    (else2-from-then5 c .if2 .left) (c .if5 .taken)
 
 sub-if6 : tie.Need-sub-if6
 sub-if6 c = search needs
@@ -174,13 +182,16 @@ shared-slice-read-number : tie.Need-shared-slice-read-number
 shared-slice-read-number c = search needs
 
 -- two bytes, of which the first is an open group
-low-byte : (c : tie.After-shared-slice-known3) → getD (start-from-literal-of-call-2 c .args .s .now) (start-from-literal-of-call-2 c .args .at) 0 < 256
+low-byte : (c : tie.After-shared-slice-known3) → getD (start-from-literal-of-call-2 c .args .s .now)
+    (start-from-literal-of-call-2 c .args .at) 0 < 256
 low-byte c = omega (arith, c .shared-slice-known3 .given (start-from-literal-of-call-2 c .args .at))
 
-top-byte : (c : tie.After-shared-slice-known3) → getD (start-from-literal-of-call-2 c .args .s .now) (last-group-from-literal-of-call-2 c .last-group .result) 0 < 256
+top-byte : (c : tie.After-shared-slice-known3) → getD (start-from-literal-of-call-2 c .args .s .now)
+    (last-group-from-literal-of-call-2 c .last-group .result) 0 < 256
 top-byte c = omega (arith, c .shared-slice-known3 .given (last-group-from-literal-of-call-2 c .last-group .result))
 
-first-open : (c : tie.After-shared-slice-known3) → 128 ≤ getD (start-from-literal-of-call-2 c .args .s .now) (start-from-literal-of-call-2 c .args .at) 0
+first-open : (c : tie.After-shared-slice-known3) → 128 ≤ getD (start-from-literal-of-call-2 c .args .s .now)
+    (start-from-literal-of-call-2 c .args .at) 0
 first-open c =
     open-first _ _ _ (last-group-from-literal-of-call-2 c .last-group .ensures .0) (else2-from-literal-of-call-2 c .if2 .left)
     (omega (arith, inside (else1-from-literal-of-call-2 c), last-group-from-literal-of-call-2 c .last-group .ensures .1 .0))
@@ -205,12 +216,14 @@ literal-of-requires-2 c κs = search needs
 
 returns-6 : tie.Need-returns-6
 returns-6 c =
-    read-two _ _ _ _ (last-group-from-return-6 c .last-group .ensures .0) (inside (else1-from-return-6 c)) _ refl _ refl (then6-from-return-6 c .if6 .taken)
+    read-two _ _ _ _ (last-group-from-return-6 c .last-group .ensures .0) (inside (else1-from-return-6 c)) _ refl _ refl
+    (then6-from-return-6 c .if6 .taken)
     (else5-from-return-6 c .if5 .left) _ refl _ (c .literal-of2 .ensures)
 
 returns-7 : tie.Need-returns-7
 returns-7 c =
-    read-many _ _ _ _ (last-group-from-else6 c .last-group .ensures .0) (inside (else1-from-else6 c)) _ refl _ refl (else2-from-else6 c .if2 .left) (c .if6 .left)
+    read-many _ _ _ _ (last-group-from-else6 c .last-group .ensures .0) (inside (else1-from-else6 c)) _ refl _ refl
+    (else2-from-else6 c .if2 .left) (c .if6 .left)
     (else5-from-else6 c .if5 .left) (start-from-else6 c .pre .1)
 
 pub groups-at-spec : {M : Type 1} → statement M

@@ -1,4 +1,5 @@
--- `last_group` ends where the run of open groups ends. The loop: what is left of the run is the run. The measure is what is left of the proof.
+-- `last_group` ends where the run of open groups ends. The loop: what is left of the run is the run. The measure is what is left of the
+-- proof.
 -- Assumes nothing.
 use mathlib.Core.Path.{_≡_, refl, sym, _∙_}
 use Prim.Native.Nat.{_≤_, _-_}
@@ -40,8 +41,10 @@ module _ (c : tie.Then1 Inv-loop μ-loop) where
   at-loop-from-then1 = in-loop-from-then1 .before
 
 returns : tie.Need-returns Inv-loop μ-loop
-returns c = let k = at-loop-from-then1 c in
-    (sym (k .loop .inv .2 ∙ past-stop _ _ _ (in-loop-from-then1 c .loop-test .taken) (lt-leb _ _ (c .if1 .taken))), (omega arith, omega arith))
+returns c = let k = at-loop-from-then1 c in (
+  sym (k .loop .inv .2 ∙ past-stop _ _ _ (in-loop-from-then1 c .loop-test .taken) (lt-leb _ _ (c .if1 .taken))),
+  (omega arith, omega arith),
+)
 
 add-i : tie.Need-add-i Inv-loop μ-loop
 add-i c = search needs

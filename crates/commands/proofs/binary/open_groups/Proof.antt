@@ -1,5 +1,5 @@
--- `open_groups` reads to the zero byte. The loop: what is to be read is what is left to be read, with the literals so far. The measure is what is left
--- of the proof, since groups have bytes. Assumes nothing.
+-- `open_groups` reads to the zero byte. The loop: what is to be read is what is left to be read, with the literals so far. The measure is
+-- what is left of the proof, since groups have bytes. Assumes nothing.
 use mathlib.Core.Path.{_≡_, refl, sym, ap, _∙_}
 use Prim.Native.Nat.{_≤_, _-_}
 use native.Mathlib.Omega.{arith}
@@ -12,7 +12,8 @@ use Rattle.commands.proofs.binary.open_groups.Statement.{statement}
 use Rattle.commands.proofs.binary.open_groups.Tie as tie
 
 abbrev Inv-loop : tie.InvT-loop
-Inv-loop s first from variables literals₀ at₀ literals at = (at ≤ length s) × (restIn s variables first noLiterals from ≡ restIn s variables first literals at)
+Inv-loop s first from variables literals₀ at₀ literals at = (at ≤ length s)
+    × (restIn s variables first noLiterals from ≡ restIn s variables first literals at)
 
 abbrev μ-loop : tie.MeasureT-loop
 μ-loop s first from variables literals₀ at₀ literals at = length s - at
@@ -84,7 +85,8 @@ module _ (c : tie.After-with-literal Inv-loop μ-loop) where
 returns : tie.Need-returns Inv-loop μ-loop
 returns c = sym
     (at-loop-from-return c .loop .inv .1
-    ∙ rest-closing _ _ _ _ _ (in-loop-from-return c .loop-test .taken) _ (groups-at-from-return c .groups-at .ensures) (c .enum-told .given .1))
+    ∙ rest-closing _ _ _ _ _ (in-loop-from-return c .loop-test .taken) _ (groups-at-from-return c .groups-at .ensures)
+    (c .enum-told .given .1))
 
 enum-known-token : tie.Need-enum-known-token Inv-loop μ-loop
 enum-known-token c = search needs
@@ -95,14 +97,16 @@ fault-place-requires c κs = search needs
 returns-2 : tie.Need-returns-2 Inv-loop μ-loop
 returns-2 c = sym
     (at-loop-from-return-2 c .loop .inv .1
-    ∙ rest-wrong _ _ _ _ _ (in-loop-from-return-2 c .loop-test .taken) _ _ (groups-at-from-return-2 c .groups-at .ensures) (token-from-return-2 c .token .given .1)
+    ∙ rest-wrong _ _ _ _ _ (in-loop-from-return-2 c .loop-test .taken) _ _ (groups-at-from-return-2 c .groups-at .ensures)
+    (token-from-return-2 c .token .given .1)
     ∙ ap (Refused (token-from-return-2 c .token .given .0 .0)) (sym (c .fault-place .ensures)))
 
 enum-known-token-2 : tie.Need-enum-known-token-2 Inv-loop μ-loop
 enum-known-token-2 c = search needs
 
 literal : (c : tie.After-token2 Inv-loop μ-loop)
-    → IsLiteral (start-from-token2 c .args .s .now) (start-from-token2 c .args .variables) (at-loop-from-token2 c .loop .at) (groups-at-from-token2 c .groups-at .result) (c .token2 .given .0 .0)
+    → IsLiteral (start-from-token2 c .args .s .now) (start-from-token2 c .args .variables) (at-loop-from-token2 c .loop .at)
+    (groups-at-from-token2 c .groups-at .result) (c .token2 .given .0 .0)
 literal c = literal-in _ _ _ _ _ _ (groups-at-from-token2 c .groups-at .ensures) (c .token2 .given .1)
 
 with-literal-requires : tie.Need-with-literal-requires Inv-loop μ-loop
@@ -115,7 +119,8 @@ loop-again : tie.Need-loop-again Inv-loop μ-loop
 loop-again c = (
   literal (token2-from-loop-again c) .within,
   at-loop-from-loop-again c .loop .inv .1
-      ∙ rest-literal _ _ _ _ _ (in-loop-from-loop-again c .loop-test .taken) _ _ _ _ _ (groups-at-from-loop-again c .groups-at .ensures) (token2-from-loop-again c .token2 .given .1) refl (c .with-literal .ensures),
+      ∙ rest-literal _ _ _ _ _ (in-loop-from-loop-again c .loop-test .taken) _ _ _ _ _ (groups-at-from-loop-again c .groups-at .ensures)
+      (token2-from-loop-again c .token2 .given .1) refl (c .with-literal .ensures),
 )
 
 returns-3 : tie.Need-returns-3 Inv-loop μ-loop

@@ -1,4 +1,5 @@
--- `clause_at`: the clause as the reader of a formula gives it, with its pivot; a refusal with its place from the command's first byte. Assumes nothing.
+-- `clause_at`: the clause as the reader of a formula gives it, with its pivot; a refusal with its place from the command's first byte.
+-- Assumes nothing.
 use mathlib.Core.Path.{sym, ap, _∙_}
 use native.Mathlib.Omega.{arith}
 use Rattle.dimacs.specs.Text.{between}
@@ -81,7 +82,8 @@ module _ (c : tie.After-clause-command) where
 
 skip-between-requires : tie.Need-skip-between-requires
 skip-between-requires c κs =
-    closed-in Fault _ _ _ _ _ _ (clause-in _ _ _ _ _ (start-from-skip-between-call c .pre .0) (omega (arith, start-from-skip-between-call c .pre .0, start-from-skip-between-call c .pre .1)))
+    closed-in Fault _ _ _ _ _ _ (clause-in _ _ _ _ _ (start-from-skip-between-call c .pre .0)
+    (omega (arith, start-from-skip-between-call c .pre .0, start-from-skip-between-call c .pre .1)))
     (sym (open-clause-from-skip-between-call c .open-clause .ensures) ∙ closed-from-skip-between-call c .closed .given .1)
 
 clause-command-requires : tie.Need-clause-command-requires
@@ -95,19 +97,24 @@ enum-known-number c = search needs
 
 sub-t18 : tie.Need-sub-t18
 sub-t18 c =
-    refused-in Fault _ _ _ _ _ _ _ (clause-in _ _ _ _ _ (start-from-return-3 c .pre .0) (omega (arith, start-from-return-3 c .pre .0, start-from-return-3 c .pre .1)))
+    refused-in Fault _ _ _ _ _ _ _ (clause-in _ _ _ _ _ (start-from-return-3 c .pre .0)
+    (omega (arith, start-from-return-3 c .pre .0, start-from-return-3 c .pre .1)))
     (sym (open-clause-from-return-3 c .open-clause .ensures) ∙ number-from-return-3 c .number .given .1)
 
 returns : tie.Need-returns
 returns c =
-    answer-closed (between _) _ (start-from-return c .args .strikes) _ _ _ _ _ _ (sym (open-clause-from-return c .open-clause .ensures) ∙ closed-from-return c .closed .given .1) (pivot-of-from-return c .pivot-of .ensures ∙ ap pivotAt (token-at-from-return c .token-at .ensures))
+    answer-closed (between _) _ (start-from-return c .args .strikes) _ _ _ _ _ _
+    (sym (open-clause-from-return c .open-clause .ensures) ∙ closed-from-return c .closed .given .1)
+    (pivot-of-from-return c .pivot-of .ensures ∙ ap pivotAt (token-at-from-return c .token-at .ensures))
     (pivot-is _ _ _ _ _) (skip-between-from-return c .skip-between .ensures .0) (c .clause-command .ensures)
 
 returns-2 : tie.Need-returns-2
-returns-2 c = answer-end (between _) _ (start-from-return-2 c .args .strikes) _ (sym (open-clause-from-return-2 c .open-clause .ensures) ∙ c .enum-told .given .1)
+returns-2 c = answer-end (between _) _ (start-from-return-2 c .args .strikes) _
+    (sym (open-clause-from-return-2 c .open-clause .ensures) ∙ c .enum-told .given .1)
 
 returns-3 : tie.Need-returns-3
-returns-3 c = answer-refused (between _) _ (start-from-return-3 c .args .strikes) _ _ _ (sym (open-clause-from-return-3 c .open-clause .ensures) ∙ number-from-return-3 c .number .given .1)
+returns-3 c = answer-refused (between _) _ (start-from-return-3 c .args .strikes) _ _ _
+    (sym (open-clause-from-return-3 c .open-clause .ensures) ∙ number-from-return-3 c .number .given .1)
 
 pub clause-at-spec : {M : Type 1} → statement M
 clause-at-spec =

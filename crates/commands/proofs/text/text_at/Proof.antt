@@ -43,7 +43,8 @@ module _ (c : tie.After-clause-at) where
 
 returns : tie.Need-returns
 returns c =
-    text-striking _ _ _ _ _ (then1-from-return c .if1 .taken) (sym (is-letter-from-return c .is-letter .ensures) ∙ then2-from-return c .if2 .taken)
+    text-striking _ _ _ _ _ (then1-from-return c .if1 .taken)
+    (sym (is-letter-from-return c .is-letter .ensures) ∙ then2-from-return c .if2 .taken)
     (skip-between-from-return c .skip-between .ensures .0) (c .clause-at .ensures)
 
 clause-at-requires-2 : tie.Need-clause-at-requires-2
@@ -51,7 +52,8 @@ clause-at-requires-2 c κs = search needs
 
 returns-2 : tie.Need-returns-2
 returns-2 c =
-    text-adding _ _ _ _ (then1-from-return-2 c .if1 .taken) (sym (is-letter-from-return-2 c .is-letter .ensures) ∙ else2-from-return-2 c .if2 .left) (c .clause-at2 .ensures)
+    text-adding _ _ _ _ (then1-from-return-2 c .if1 .taken)
+    (sym (is-letter-from-return-2 c .is-letter .ensures) ∙ else2-from-return-2 c .if2 .left) (c .clause-at2 .ensures)
 
 returns-3 : tie.Need-returns-3
 returns-3 c = text-finished _ _ _ (c .if1 .left)

@@ -76,8 +76,10 @@ returns : tie.Need-returns
 returns c =
     let a = start-from-return c .args in
     let x = clause-literals-from-return c .clause-literals in
-    subst (λ (y : Opened). LineWritten textLine (poured (a .out .now) (a .many)) (x .last .1 .1 .1 .0) y (x .result)) (binary-adding _ _ (then1-from-return c .if1 .taken))
-    (opened-none textLine textLiterals false (poured (a .out .now) (a .many)) (x .last .1 .1 .1 .0) (binaryRest (a .binary .now) (a .at) (a .at + 1)) (x .result) (λ ls. refl) (x .ensures))
+    subst (λ (y : Opened). LineWritten textLine (poured (a .out .now) (a .many)) (x .last .1 .1 .1 .0) y (x .result))
+    (binary-adding _ _ (then1-from-return c .if1 .taken))
+    (opened-none textLine textLiterals false (poured (a .out .now) (a .many)) (x .last .1 .1 .1 .0)
+    (binaryRest (a .binary .now) (a .at) (a .at + 1)) (x .result) (λ ls. refl) (x .ensures))
 
 put-requires : tie.Need-put-requires
 put-requires c κs = search needs
@@ -100,13 +102,15 @@ returns-2 c =
     let x = clause-literals2-from-return-2 c .clause-literals2 in
     subst (λ (y : Opened). LineWritten textLine (poured (a .out .now) (a .many)) (x .last .1 .1 .1 .0) y (x .result))
     (binary-striking _ _ (else1-from-return-2 c .if1 .left) (then2-from-return-2 c .if2 .taken))
-    (opened-two textLine textLiterals true (poured (a .out .now) (a .many)) (x .last .1 .1 .1 .0) (binaryRest (a .binary .now) (a .at) (a .at + 1)) (x .result) 100 32 (λ ls. refl) _ _
+    (opened-two textLine textLiterals true (poured (a .out .now) (a .many)) (x .last .1 .1 .1 .0)
+    (binaryRest (a .binary .now) (a .at) (a .at + 1)) (x .result) 100 32 (λ ls. refl) _ _
     (put-from-return-2 c .put .ensures) (put2-from-return-2 c .put2 .ensures) (x .ensures))
 
 returns-3 : tie.Need-returns-3
 returns-3 c =
     let a = start-from-else2 c .args in
-    subst (λ (x : Opened). LineWritten textLine (poured (a .out .now) (a .many)) (a .out .now) x (Refused 9 (a .at))) (binary-unknown _ _ (else1-from-else2 c .if1 .left) (c .if2 .left)) (refl, refl)
+    subst (λ (x : Opened). LineWritten textLine (poured (a .out .now) (a .many)) (a .out .now) x (Refused 9 (a .at)))
+    (binary-unknown _ _ (else1-from-else2 c .if1 .left) (c .if2 .left)) (refl, refl)
 
 pub clause-line-spec : {M : Type 1} → statement M
 clause-line-spec =

@@ -1,5 +1,5 @@
--- `clause_literals` puts literal after literal, up to the zero byte. The loop: what is to be written is what is left to be written. The measure is what is
--- left of the proof, since groups have bytes. Assumes nothing.
+-- `clause_literals` puts literal after literal, up to the zero byte. The loop: what is to be written is what is left to be written. The
+-- measure is what is left of the proof, since groups have bytes. Assumes nothing.
 use mathlib.Core.Path.{_≡_, refl, sym, ap, _∙_}
 use mathlib.Core.List.{List, [], _∷_, _++_, append-assoc}
 use Prim.Native.Nat.{ℕ, _≤_, _-_}
@@ -152,7 +152,8 @@ module _ (c : tie.After-slice-known3 Inv-loop μ-loop) where
 returns : tie.Need-returns Inv-loop μ-loop
 returns c =
     leads-closed textLiterals (before (start-from-return c)) (whole (start-from-return c)) _ _ (at-loop-from-return c .loop .inv .2) _ _ _ _
-    (binary-closing _ _ _ (in-loop-from-return c .loop-test .taken) _ (groups-at-from-return c .groups-at .ensures) (enum-told-from-return c .enum-told .given .1))
+    (binary-closing _ _ _ (in-loop-from-return c .loop-test .taken) _ (groups-at-from-return c .groups-at .ensures)
+    (enum-told-from-return c .enum-told .given .1))
     (put2-from-return c .put2 .ensures ∙ ap (λ (w : Poured). putByte w 10) (put-from-return c .put .ensures) ∙ put-two _ 48 10)
 
 enum-known-token : tie.Need-enum-known-token Inv-loop μ-loop
@@ -166,15 +167,18 @@ same-length-2 c = search needs
 
 returns-2 : tie.Need-returns-2 Inv-loop μ-loop
 returns-2 c =
-    leads-refused textLiterals (before (start-from-return-2 c)) (whole (start-from-return-2 c)) _ _ (at-loop-from-return-2 c .loop .inv .2) _ _ (at-loop-from-return-2 c .loop .out)
-    (binary-wrong _ _ _ (in-loop-from-return-2 c .loop-test .taken) _ (groups-at-from-return-2 c .groups-at .ensures) _ (token-from-return-2 c .token .given .1)
+    leads-refused textLiterals (before (start-from-return-2 c)) (whole (start-from-return-2 c)) _ _ (at-loop-from-return-2 c .loop .inv .2)
+    _ _ (at-loop-from-return-2 c .loop .out)
+    (binary-wrong _ _ _ (in-loop-from-return-2 c .loop-test .taken) _ (groups-at-from-return-2 c .groups-at .ensures) _
+    (token-from-return-2 c .token .given .1)
     ∙ ap (refused (token-from-return-2 c .token .given .0 .0)) (sym (c .fault-place .ensures))) refl
 
 enum-known-token-2 : tie.Need-enum-known-token-2 Inv-loop μ-loop
 enum-known-token-2 c = search needs
 
 literal : (c : tie.After-token2 Inv-loop μ-loop)
-    → IsLiteral (start-from-token2 c .args .binary .now) 64 (at-loop-from-token2 c .loop .at) (groups-at-from-token2 c .groups-at .result) (c .token2 .given .0 .0)
+    → IsLiteral (start-from-token2 c .args .binary .now) 64 (at-loop-from-token2 c .loop .at) (groups-at-from-token2 c .groups-at .result)
+    (c .token2 .given .0 .0)
 literal c = literal-in _ _ _ _ _ _ (groups-at-from-token2 c .groups-at .ensures) (c .token2 .given .1)
 
 put-literal-requires : tie.Need-put-literal-requires Inv-loop μ-loop
@@ -195,9 +199,12 @@ loop-again c =
     let t = token2-from-loop-again c in (
       literal t .within,
       long-as _ _ _ (put-literal-from-loop-again c .put-literal .ensures) ∙ at-loop-from-loop-again c .loop .inv .1,
-      leads-literal textLiterals (before (start-from-loop-again c)) (whole (start-from-loop-again c)) _ _ (at-loop-from-loop-again c .loop .inv .2) (made t) (bytes (made t))
-          (binaryRest (start-from-loop-again c .args .binary .now) (start-from-loop-again c .args .first) (groups-at-from-loop-again c .groups-at .result .end)) (splits (made t))
-          (binary-literal _ _ _ (in-loop-from-loop-again c .loop-test .taken) _ (groups-at-from-loop-again c .groups-at .ensures) _ _ (t .token2 .given .1)) _
+      leads-literal textLiterals (before (start-from-loop-again c)) (whole (start-from-loop-again c)) _ _
+          (at-loop-from-loop-again c .loop .inv .2) (made t) (bytes (made t))
+          (binaryRest (start-from-loop-again c .args .binary .now) (start-from-loop-again c .args .first)
+          (groups-at-from-loop-again c .groups-at .result .end)) (splits (made t))
+          (binary-literal _ _ _ (in-loop-from-loop-again c .loop-test .taken) _ (groups-at-from-loop-again c .groups-at .ensures) _ _
+          (t .token2 .given .1)) _
           (put-literal-from-loop-again c .put-literal .ensures),
     )
 
@@ -205,7 +212,8 @@ same-length-3 : tie.Need-same-length-3 Inv-loop μ-loop
 same-length-3 c = search needs
 
 returns-3 : tie.Need-returns-3 Inv-loop μ-loop
-returns-3 c = leads-refused textLiterals (before (start-from-return-3 c)) (whole (start-from-return-3 c)) _ _ (c .before .loop .inv .2) _ _ (c .before .loop .out) (binary-open _ _ _ (c .loop-test .left)) refl
+returns-3 c = leads-refused textLiterals (before (start-from-return-3 c)) (whole (start-from-return-3 c)) _ _ (c .before .loop .inv .2) _ _
+    (c .before .loop .out) (binary-open _ _ _ (c .loop-test .left)) refl
 
 pub clause-literals-spec : {M : Type 1} → statement M
 clause-literals-spec =

@@ -61,7 +61,8 @@ same-length-2 c = search needs
 
 returns-2 : tie.Need-returns-2
 returns-2 c =
-    put3-from-return-2 c .put3 .ensures ∙ ap (λ (w : Poured). putByte w (48 + start-from-return-2 c .args .variable % 10)) (put2-from-return-2 c .put2 .ensures)
+    put3-from-return-2 c .put3 .ensures ∙ ap (λ (w : Poured). putByte w (48 + start-from-return-2 c .args .variable % 10))
+    (put2-from-return-2 c .put2 .ensures)
     ∙ digits-long _ _ (else1-from-return-2 c .if1 .left)
 
 pub put-digits-spec : {M : Type 1} → statement M

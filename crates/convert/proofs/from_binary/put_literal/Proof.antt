@@ -48,7 +48,8 @@ module _ (c : tie.After-slice-known4) where
 returns : tie.Need-returns
 returns c =
     put-from-return c .put .ensures
-    ∙ ap (λ (w : Poured). putByte w 32) (put-digits-from-return c .put-digits .ensures ∙ ap (λ (w : Poured). putAll w (digitsOf (start-from-return c .args .variable))) (put-sign-from-return c .put-sign .ensures))
+    ∙ ap (λ (w : Poured). putByte w 32) (put-digits-from-return c .put-digits .ensures
+    ∙ ap (λ (w : Poured). putAll w (digitsOf (start-from-return c .args .variable))) (put-sign-from-return c .put-sign .ensures))
     ∙ literal-spaced _ (start-from-return c .args .variable) (start-from-return c .args .positive)
 
 pub put-literal-spec : {M : Type 1} → statement M

@@ -1,5 +1,5 @@
--- `to_text` puts clause after clause. The loop: what is to be converted is what is left to be converted, with the output so far. The measure is what is left of
--- the proof, since a clause has bytes. Assumes nothing.
+-- `to_text` puts clause after clause. The loop: what is to be converted is what is left to be converted, with the output so far. The
+-- measure is what is left of the proof, since a clause has bytes. Assumes nothing.
 use mathlib.Core.Path.{refl, sym, ap, _∙_, subst}
 use mathlib.Core.List.{List}
 use Prim.Native.Nat.{ℕ, _-_}
@@ -9,7 +9,8 @@ use borrow.Author.Needs.{needs}
 use Rattle.commands.specs.declared.Form.the-variants.{Binary}
 use Rattle.convert.specs.Convert.{linesOf, textLine, convertedBy, toText}
 use Rattle.convert.specs.Inner.{poured, ClauseWritten, binaryNext}
-use Rattle.convert.proofs.Lines.{binary-lines-at, binary-past, Remains, remains-start, remains-end, remains-refused, Behind, remains-closed, cleared-long, cleared-own}
+use Rattle.convert.proofs.Lines.{binary-lines-at, binary-past, Remains, remains-start, remains-end, remains-refused, Behind}
+use Rattle.convert.proofs.Lines.{remains-closed, cleared-long, cleared-own}
 use Rattle.convert.proofs.from_binary.to_text.Statement.{statement}
 use Rattle.convert.proofs.from_binary.to_text.Tie as tie
 
@@ -107,7 +108,9 @@ module _ (c : tie.After-slice-known4 Inv-loop μ-loop) where
   start-from-return = start-from-clear-bytes clear-bytes-from-return
 
 loop-holds : tie.Need-loop-holds Inv-loop μ-loop
-loop-holds c = remains-start textLine Binary _ _ _ _ (cleared-own (clear-bytes-from-loop-holds c .clear-bytes .last .0) (length (start-from-loop-holds c .args .out .now)) (clear-bytes-from-loop-holds c .clear-bytes .ensures)) refl (omega arith)
+loop-holds c = remains-start textLine Binary _ _ _ _
+    (cleared-own (clear-bytes-from-loop-holds c .clear-bytes .last .0) (length (start-from-loop-holds c .args .out .now))
+    (clear-bytes-from-loop-holds c .clear-bytes .ensures)) refl (omega arith)
 
 clause-line-requires : tie.Need-clause-line-requires Inv-loop μ-loop
 clause-line-requires c κs = search needs
@@ -120,12 +123,16 @@ module _ (c : tie.After-next Inv-loop μ-loop) where
   abbrev proof-in-next : List ℕ
   proof-in-next = start-from-next c .args .binary .now
 
-  behind : Behind textLine Binary proof-in-next _ _ _ _ (at-loop-from-next c .loop .inv) (λ k. k) (binaryNext proof-in-next (at-loop-from-next c .loop .at) .strikes) (clause-line-from-next c .clause-line .last .1 .1 .0)
+  behind : Behind textLine Binary proof-in-next _ _ _ _ (at-loop-from-next c .loop .inv) (λ k. k)
+      (binaryNext proof-in-next (at-loop-from-next c .loop .at) .strikes) (clause-line-from-next c .clause-line .last .1 .1 .0)
       (c .next .given .0 .0) (c .next .given .0 .1 .0)
   behind =
-      remains-closed textLine Binary proof-in-next _ _ _ _ (at-loop-from-next c .loop .inv) (λ k. k) (binaryNext proof-in-next (at-loop-from-next c .loop .at) .strikes) (clause-line-from-next c .clause-line .last .1 .1 .0)
+      remains-closed textLine Binary proof-in-next _ _ _ _ (at-loop-from-next c .loop .inv) (λ k. k)
+      (binaryNext proof-in-next (at-loop-from-next c .loop .at) .strikes) (clause-line-from-next c .clause-line .last .1 .1 .0)
       (binaryNext proof-in-next (at-loop-from-next c .loop .at) .body) (binary-lines-at _ _ (in-loop-from-next c .loop-test .taken)) _ _
-      (subst (ClauseWritten (textLine (binaryNext proof-in-next (at-loop-from-next c .loop .at) .strikes)) _ _ (binaryNext proof-in-next (at-loop-from-next c .loop .at) .body)) (c .next .given .1) (clause-line-from-next c .clause-line .ensures))
+      (subst (ClauseWritten (textLine (binaryNext proof-in-next (at-loop-from-next c .loop .at) .strikes)) _ _
+      (binaryNext proof-in-next (at-loop-from-next c .loop .at) .body)) (c .next .given .1)
+      (clause-line-from-next c .clause-line .ensures))
 
 loop-less : tie.Need-loop-less Inv-loop μ-loop
 loop-less c =
@@ -151,9 +158,13 @@ returns c =
     let at = at-loop-from-return c .loop .at in
     let x = clause-line-from-return c .clause-line in
     refuse-from-return c .refuse .ensures
-    ∙ sym (remains-refused textLine Binary s _ _ _ at (at-loop-from-return c .loop .inv) (λ k. k) (binaryNext s at .strikes) (x .last .1 .1 .0) (binaryNext s at .body) (binary-lines-at s at (in-loop-from-return c .loop-test .taken)) _ _
-    (subst (ClauseWritten (textLine (binaryNext s at .strikes)) _ (x .last .1 .1 .0) (binaryNext s at .body)) (number-from-return c .number .given .1) (x .ensures)))
-    ∙ ap (λ (n : ℕ). convertedBy textLine n (linesOf Binary s)) (cleared-long (clear-bytes-from-return c .clear-bytes .last .0) (length (start-from-return c .args .out .now)) (clear-bytes-from-return c .clear-bytes .ensures))
+    ∙ sym (remains-refused textLine Binary s _ _ _ at (at-loop-from-return c .loop .inv) (λ k. k) (binaryNext s at .strikes)
+    (x .last .1 .1 .0) (binaryNext s at .body) (binary-lines-at s at (in-loop-from-return c .loop-test .taken)) _ _
+    (subst (ClauseWritten (textLine (binaryNext s at .strikes)) _ (x .last .1 .1 .0) (binaryNext s at .body))
+    (number-from-return c .number .given .1) (x .ensures)))
+    ∙ ap (λ (n : ℕ). convertedBy textLine n (linesOf Binary s))
+    (cleared-long (clear-bytes-from-return c .clear-bytes .last .0) (length (start-from-return c .args .out .now))
+    (clear-bytes-from-return c .clear-bytes .ensures))
 
 finish-requires : tie.Need-finish-requires Inv-loop μ-loop
 finish-requires c κs = search needs
@@ -165,8 +176,12 @@ returns-2 : tie.Need-returns-2 Inv-loop μ-loop
 unfolding toText
 returns-2 c =
     finish-from-return-2 c .finish .ensures
-    ∙ sym (remains-end textLine Binary _ _ _ _ _ (at-loop-from-return-2 c .loop .inv) (λ k. binary-past (start-from-return-2 c .args .binary .now) (at-loop-from-return-2 c .loop .at) k (after-loop-from-return-2 c .loop-test .left)))
-    ∙ ap (λ (n : ℕ). convertedBy textLine n (linesOf Binary (start-from-return-2 c .args .binary .now))) (cleared-long (clear-bytes-from-return-2 c .clear-bytes .last .0) (length (start-from-return-2 c .args .out .now)) (clear-bytes-from-return-2 c .clear-bytes .ensures))
+    ∙ sym (remains-end textLine Binary _ _ _ _ _ (at-loop-from-return-2 c .loop .inv)
+    (λ k. binary-past (start-from-return-2 c .args .binary .now) (at-loop-from-return-2 c .loop .at) k
+    (after-loop-from-return-2 c .loop-test .left)))
+    ∙ ap (λ (n : ℕ). convertedBy textLine n (linesOf Binary (start-from-return-2 c .args .binary .now)))
+    (cleared-long (clear-bytes-from-return-2 c .clear-bytes .last .0) (length (start-from-return-2 c .args .out .now))
+    (clear-bytes-from-return-2 c .clear-bytes .ensures))
 
 pub to-text-spec : {M : Type 1} → statement M
 to-text-spec =

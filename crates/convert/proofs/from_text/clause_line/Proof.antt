@@ -80,8 +80,10 @@ returns c =
     let a = start-from-return c .args in
     let x = clause-literals-from-return c .clause-literals in
     subst (λ (y : Opened). LineWritten binaryLine (poured (a .out .now) (a .many)) (x .last .1 .1 .1 .0) y (x .result))
-    (text-striking _ _ _ (skip-between-from-return c .skip-between .ensures .0) (sym (is-letter-from-return c .is-letter .ensures) ∙ then1-from-return c .if1 .taken))
-    (opened-one binaryLine binaryLiterals true (poured (a .out .now) (a .many)) (x .last .1 .1 .1 .0) (textRest (a .text .now) (a .at) (skip-between-from-return c .skip-between .result)) (x .result) 100 (λ ls. refl) _
+    (text-striking _ _ _ (skip-between-from-return c .skip-between .ensures .0)
+    (sym (is-letter-from-return c .is-letter .ensures) ∙ then1-from-return c .if1 .taken))
+    (opened-one binaryLine binaryLiterals true (poured (a .out .now) (a .many)) (x .last .1 .1 .1 .0)
+    (textRest (a .text .now) (a .at) (skip-between-from-return c .skip-between .result)) (x .result) 100 (λ ls. refl) _
     (put-from-return c .put .ensures) (x .ensures))
 
 put-requires-2 : tie.Need-put-requires-2
@@ -99,7 +101,8 @@ returns-2 c =
     let x = clause-literals2-from-return-2 c .clause-literals2 in
     subst (λ (y : Opened). LineWritten binaryLine (poured (a .out .now) (a .many)) (x .last .1 .1 .1 .0) y (x .result))
     (text-adding _ _ (sym (is-letter-from-return-2 c .is-letter .ensures) ∙ else1-from-return-2 c .if1 .left))
-    (opened-one binaryLine binaryLiterals false (poured (a .out .now) (a .many)) (x .last .1 .1 .1 .0) (textRest (a .text .now) (a .at) (a .at)) (x .result) 97 (λ ls. refl) _
+    (opened-one binaryLine binaryLiterals false (poured (a .out .now) (a .many)) (x .last .1 .1 .1 .0)
+    (textRest (a .text .now) (a .at) (a .at)) (x .result) 97 (λ ls. refl) _
     (put2-from-return-2 c .put2 .ensures) (x .ensures))
 
 pub clause-line-spec : {M : Type 1} → statement M

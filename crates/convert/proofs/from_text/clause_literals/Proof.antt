@@ -1,5 +1,5 @@
--- `clause_literals` puts literal after literal, up to the closing 0. The loop: what is to be written is what is left to be written. The measure is what is
--- left of the text, since a token has bytes. Assumes nothing.
+-- `clause_literals` puts literal after literal, up to the closing 0. The loop: what is to be written is what is left to be written. The
+-- measure is what is left of the text, since a token has bytes. Assumes nothing.
 use mathlib.Core.Path.{_≡_, refl, sym, ap, _∙_}
 use mathlib.Core.List.{List}
 use Prim.Native.Nat.{ℕ, _≤_, _+_, _-_}
@@ -149,8 +149,10 @@ module _ (c : tie.After-skip-between Inv-loop μ-loop) where
 
 returns : tie.Need-returns Inv-loop μ-loop
 returns c =
-    leads-closed binaryLiterals (before (start-from-return c)) (whole (start-from-return c)) _ _ (at-loop-from-return c .loop .inv .2) _ _ _ _
-    (text-closing _ _ _ (in-loop-from-return c .loop-test .taken) (sym (token-at-from-return c .token-at .ensures) ∙ enum-told-from-return c .enum-told .given .1))
+    leads-closed binaryLiterals (before (start-from-return c)) (whole (start-from-return c)) _ _ (at-loop-from-return c .loop .inv .2) _ _ _
+    _
+    (text-closing _ _ _ (in-loop-from-return c .loop-test .taken)
+    (sym (token-at-from-return c .token-at .ensures) ∙ enum-told-from-return c .enum-told .given .1))
     (put-from-return c .put .ensures ∙ sym (put-one _ 0))
 
 enum-known-number : tie.Need-enum-known-number Inv-loop μ-loop
@@ -161,19 +163,23 @@ same-length-2 c = search needs
 
 returns-2 : tie.Need-returns-2 Inv-loop μ-loop
 returns-2 c =
-    leads-refused binaryLiterals (before (start-from-return-2 c)) (whole (start-from-return-2 c)) _ _ (at-loop-from-return-2 c .loop .inv .2) _ _ (at-loop-from-return-2 c .loop .out)
-    (text-wrong _ _ _ (in-loop-from-return-2 c .loop-test .taken) _ (sym (token-at-from-return-2 c .token-at .ensures) ∙ number-from-return-2 c .number .given .1)) refl
+    leads-refused binaryLiterals (before (start-from-return-2 c)) (whole (start-from-return-2 c)) _ _
+    (at-loop-from-return-2 c .loop .inv .2) _ _ (at-loop-from-return-2 c .loop .out)
+    (text-wrong _ _ _ (in-loop-from-return-2 c .loop-test .taken) _
+    (sym (token-at-from-return-2 c .token-at .ensures) ∙ number-from-return-2 c .number .given .1)) refl
 
 enum-known-variable : tie.Need-enum-known-variable Inv-loop μ-loop
 enum-known-variable c = search needs
 
 says : (c : tie.After-variable Inv-loop μ-loop)
-    → tokenAt (start-from-variable c .args .text .now) 64 (at-loop-from-variable c .loop .at) ≡ Literal (c .variable .given .0 .0) (c .variable .given .0 .1 .0)
+    → tokenAt (start-from-variable c .args .text .now) 64 (at-loop-from-variable c .loop .at)
+    ≡ Literal (c .variable .given .0 .0) (c .variable .given .0 .1 .0)
 says c = sym (token-at-from-variable c .token-at .ensures) ∙ c .variable .given .1
 
 literal : (c : tie.After-variable Inv-loop μ-loop) (end : ℕ)
     → end ≡ at-loop-from-variable c .loop .at + length (tokenText (literalMade (c .variable .given .0 .0) (c .variable .given .0 .1 .0)))
-    → TextLiteral (start-from-variable c .args .text .now) (start-from-variable c .args .first) (at-loop-from-variable c .loop .at) (in-loop-from-variable c .loop-test .taken)
+    → TextLiteral (start-from-variable c .args .text .now) (start-from-variable c .args .first) (at-loop-from-variable c .loop .at)
+    (in-loop-from-variable c .loop-test .taken)
     (c .variable .given .0 .0) (c .variable .given .0 .1 .0) end
 literal c end is = text-literal _ _ _ (in-loop-from-variable c .loop-test .taken) _ _ end (says c) is
 
@@ -186,7 +192,9 @@ token-length-requires c κs = search needs
 -- the end of the token
 end-is : (c : tie.After-token-length Inv-loop μ-loop)
     → at-loop-from-skip-between-call c .loop .at + c .token-length .result
-    ≡ at-loop-from-skip-between-call c .loop .at + length (tokenText (literalMade (variable-from-skip-between-call c .variable .given .0 .0) (variable-from-skip-between-call c .variable .given .0 .1 .0)))
+    ≡ at-loop-from-skip-between-call c .loop .at + length
+    (tokenText (literalMade (variable-from-skip-between-call c .variable .given .0 .0)
+    (variable-from-skip-between-call c .variable .given .0 .1 .0)))
 end-is c = ap (λ (k : ℕ). at-loop-from-skip-between-call c .loop .at + k) (c .token-length .ensures)
 
 add-end : tie.Need-add-end Inv-loop μ-loop
@@ -198,11 +206,17 @@ skip-between-requires c κs = literal (variable-from-skip-between-call c) _ (end
 loop-less : tie.Need-loop-less Inv-loop μ-loop
 loop-less c =
     let t = token-length-from-loop-again c in
-    omega (arith, literal (variable-from-skip-between-call t) _ (end-is t) .moves, c .skip-between .ensures .1 .0, c .skip-between .ensures .1 .1)
+    omega (
+      arith,
+      literal (variable-from-skip-between-call t) _ (end-is t) .moves,
+      c .skip-between .ensures .1 .0,
+      c .skip-between .ensures .1 .1,
+    )
 
 -- the literal, and what is put of it
 abbrev made : tie.After-token-length Inv-loop μ-loop → meaning.Literal
-made c = literalMade (variable-from-skip-between-call c .variable .given .0 .0) (variable-from-skip-between-call c .variable .given .0 .1 .0)
+made c = literalMade (variable-from-skip-between-call c .variable .given .0 .0)
+    (variable-from-skip-between-call c .variable .given .0 .1 .0)
 
 abbrev bytes : meaning.Literal → List ℕ
 bytes l = groupsOf (codeOf l)
@@ -212,17 +226,22 @@ loop-again c =
     let t = token-length-from-loop-again c in (
       c .skip-between .ensures .1 .1,
       long-as _ _ _ (put-groups-from-loop-again c .put-groups .ensures) ∙ at-loop-from-loop-again c .loop .inv .1,
-      leads-literal binaryLiterals (before (start-from-loop-again c)) (whole (start-from-loop-again c)) _ _ (at-loop-from-loop-again c .loop .inv .2) (made t) (bytes (made t))
-          (textRest (start-from-loop-again c .args .text .now) (start-from-loop-again c .args .first) (c .skip-between .result)) (λ ls. refl)
+      leads-literal binaryLiterals (before (start-from-loop-again c)) (whole (start-from-loop-again c)) _ _
+          (at-loop-from-loop-again c .loop .inv .2) (made t) (bytes (made t))
+          (textRest (start-from-loop-again c .args .text .now) (start-from-loop-again c .args .first) (c .skip-between .result))
+          (λ ls. refl)
           (literal (variable-from-skip-between-call t) _ (end-is t) .goes
-          ∙ ap (λ (p : ℕ). literalThen (made t) (textRest (start-from-loop-again c .args .text .now) (start-from-loop-again c .args .first) p)) (sym (c .skip-between .ensures .0))) _ (put-groups-from-loop-again c .put-groups .ensures),
+          ∙ ap (λ (p : ℕ). literalThen (made t)
+          (textRest (start-from-loop-again c .args .text .now) (start-from-loop-again c .args .first) p))
+          (sym (c .skip-between .ensures .0))) _ (put-groups-from-loop-again c .put-groups .ensures),
     )
 
 same-length-3 : tie.Need-same-length-3 Inv-loop μ-loop
 same-length-3 c = search needs
 
 returns-3 : tie.Need-returns-3 Inv-loop μ-loop
-returns-3 c = leads-refused binaryLiterals (before (start-from-return-3 c)) (whole (start-from-return-3 c)) _ _ (c .before .loop .inv .2) _ _ (c .before .loop .out) (text-open _ _ _ (c .loop-test .left)) refl
+returns-3 c = leads-refused binaryLiterals (before (start-from-return-3 c)) (whole (start-from-return-3 c)) _ _ (c .before .loop .inv .2) _
+    _ (c .before .loop .out) (text-open _ _ _ (c .loop-test .left)) refl
 
 pub clause-literals-spec : {M : Type 1} → statement M
 clause-literals-spec =

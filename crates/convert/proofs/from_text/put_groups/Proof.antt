@@ -56,7 +56,9 @@ module _ (c : tie.After-slice-known4) where
   start-from-return-2 = start-from-code-of code-of-from-return-2
 
 returns : tie.Need-returns
-returns c = put-from-return c .put .ensures ∙ groups-short _ _ (then1-from-return c .if1 .taken) ∙ ap (λ (u : ℕ). putAll (poured (start-from-return c .args .out .now) (start-from-return c .args .many)) (groupsOf u)) (code-of-from-return c .code-of .ensures)
+returns c = put-from-return c .put .ensures ∙ groups-short _ _ (then1-from-return c .if1 .taken)
+    ∙ ap (λ (u : ℕ). putAll (poured (start-from-return c .args .out .now) (start-from-return c .args .many)) (groupsOf u))
+    (code-of-from-return c .code-of .ensures)
 
 put-requires-2 : tie.Need-put-requires-2
 put-requires-2 c κs = search needs
@@ -71,7 +73,9 @@ returns-2 : tie.Need-returns-2
 returns-2 c =
     let a = start-from-return-2 c .args in
     put3-from-return-2 c .put3 .ensures ∙ ap (λ (w : Poured). putByte w 1) (put2-from-return-2 c .put2 .ensures)
-    ∙ groups-long _ _ (else1-from-return-2 c .if1 .left) (subst (λ (u : ℕ). u < 256) (sym (code-of-from-return-2 c .code-of .ensures)) (code-small (a .variable) (a .positive) (start-from-return-2 c .pre)))
+    ∙ groups-long _ _ (else1-from-return-2 c .if1 .left)
+    (subst (λ (u : ℕ). u < 256) (sym (code-of-from-return-2 c .code-of .ensures))
+    (code-small (a .variable) (a .positive) (start-from-return-2 c .pre)))
     ∙ ap (λ (u : ℕ). putAll (poured (a .out .now) (a .many)) (groupsOf u)) (code-of-from-return-2 c .code-of .ensures)
 
 pub put-groups-spec : {M : Type 1} → statement M

@@ -1,5 +1,5 @@
--- `to_binary` puts clause after clause. The loop: what is to be converted is what is left to be converted, with the output so far. The measure is what is left of
--- the proof, since a clause has bytes. Assumes nothing.
+-- `to_binary` puts clause after clause. The loop: what is to be converted is what is left to be converted, with the output so far. The
+-- measure is what is left of the proof, since a clause has bytes. Assumes nothing.
 use mathlib.Core.Path.{sym, ap, _∙_, subst}
 use mathlib.Core.List.{List}
 use Prim.Native.Nat.{ℕ, _-_}
@@ -10,7 +10,8 @@ use Rattle.dimacs.specs.Text.{between}
 use Rattle.commands.specs.declared.Form.the-variants.{Text}
 use Rattle.convert.specs.Convert.{linesOf, binaryLine, convertedBy, toBinary}
 use Rattle.convert.specs.Inner.{poured, ClauseWritten, textNext}
-use Rattle.convert.proofs.Lines.{text-lines-at, text-past, Remains, remains-start, remains-end, remains-refused, Behind, remains-closed, cleared-long, cleared-own}
+use Rattle.convert.proofs.Lines.{text-lines-at, text-past, Remains, remains-start, remains-end, remains-refused, Behind}
+use Rattle.convert.proofs.Lines.{remains-closed, cleared-long, cleared-own}
 use Rattle.convert.proofs.from_text.to_binary.Statement.{statement}
 use Rattle.convert.proofs.from_text.to_binary.Tie as tie
 
@@ -111,7 +112,9 @@ module _ (c : tie.After-slice-known4 Inv-loop μ-loop) where
   start-from-return = start-from-clear-bytes clear-bytes-from-return
 
 loop-holds : tie.Need-loop-holds Inv-loop μ-loop
-loop-holds c = remains-start binaryLine Text _ _ _ _ (cleared-own (clear-bytes-from-loop-holds c .clear-bytes .last .0) (length (start-from-loop-holds c .args .out .now)) (clear-bytes-from-loop-holds c .clear-bytes .ensures)) (c .skip-between .ensures .0) (c .skip-between .ensures .1 .1)
+loop-holds c = remains-start binaryLine Text _ _ _ _
+    (cleared-own (clear-bytes-from-loop-holds c .clear-bytes .last .0) (length (start-from-loop-holds c .args .out .now))
+    (clear-bytes-from-loop-holds c .clear-bytes .ensures)) (c .skip-between .ensures .0) (c .skip-between .ensures .1 .1)
 
 clause-line-requires : tie.Need-clause-line-requires Inv-loop μ-loop
 clause-line-requires c κs = search needs
@@ -124,12 +127,16 @@ module _ (c : tie.After-next Inv-loop μ-loop) where
   abbrev proof-in-next : List ℕ
   proof-in-next = start-from-next c .args .text .now
 
-  behind : Behind binaryLine Text proof-in-next _ _ _ _ (at-loop-from-next c .loop .inv) (between proof-in-next) (textNext proof-in-next (at-loop-from-next c .loop .at) .strikes) (clause-line-from-next c .clause-line .last .1 .1 .0)
+  behind : Behind binaryLine Text proof-in-next _ _ _ _ (at-loop-from-next c .loop .inv) (between proof-in-next)
+      (textNext proof-in-next (at-loop-from-next c .loop .at) .strikes) (clause-line-from-next c .clause-line .last .1 .1 .0)
       (c .next .given .0 .0) (c .next .given .0 .1 .0)
   behind =
-      remains-closed binaryLine Text proof-in-next _ _ _ _ (at-loop-from-next c .loop .inv) (between proof-in-next) (textNext proof-in-next (at-loop-from-next c .loop .at) .strikes) (clause-line-from-next c .clause-line .last .1 .1 .0)
+      remains-closed binaryLine Text proof-in-next _ _ _ _ (at-loop-from-next c .loop .inv) (between proof-in-next)
+      (textNext proof-in-next (at-loop-from-next c .loop .at) .strikes) (clause-line-from-next c .clause-line .last .1 .1 .0)
       (textNext proof-in-next (at-loop-from-next c .loop .at) .body) (text-lines-at _ _ (in-loop-from-next c .loop-test .taken)) _ _
-      (subst (ClauseWritten (binaryLine (textNext proof-in-next (at-loop-from-next c .loop .at) .strikes)) _ _ (textNext proof-in-next (at-loop-from-next c .loop .at) .body)) (c .next .given .1) (clause-line-from-next c .clause-line .ensures))
+      (subst (ClauseWritten (binaryLine (textNext proof-in-next (at-loop-from-next c .loop .at) .strikes)) _ _
+      (textNext proof-in-next (at-loop-from-next c .loop .at) .body)) (c .next .given .1)
+      (clause-line-from-next c .clause-line .ensures))
 
 skip-between-requires-2 : tie.Need-skip-between-requires-2 Inv-loop μ-loop
 skip-between-requires-2 c κs = behind (next-from-skip-between-call-2 c) .behind
@@ -158,9 +165,13 @@ returns c =
     let at = at-loop-from-return c .loop .at in
     let x = clause-line-from-return c .clause-line in
     refuse-from-return c .refuse .ensures
-    ∙ sym (remains-refused binaryLine Text s _ _ _ at (at-loop-from-return c .loop .inv) (between s) (textNext s at .strikes) (x .last .1 .1 .0) (textNext s at .body) (text-lines-at s at (in-loop-from-return c .loop-test .taken)) _ _
-    (subst (ClauseWritten (binaryLine (textNext s at .strikes)) _ (x .last .1 .1 .0) (textNext s at .body)) (number-from-return c .number .given .1) (x .ensures)))
-    ∙ ap (λ (n : ℕ). convertedBy binaryLine n (linesOf Text s)) (cleared-long (clear-bytes-from-return c .clear-bytes .last .0) (length (start-from-return c .args .out .now)) (clear-bytes-from-return c .clear-bytes .ensures))
+    ∙ sym (remains-refused binaryLine Text s _ _ _ at (at-loop-from-return c .loop .inv) (between s) (textNext s at .strikes)
+    (x .last .1 .1 .0) (textNext s at .body) (text-lines-at s at (in-loop-from-return c .loop-test .taken)) _ _
+    (subst (ClauseWritten (binaryLine (textNext s at .strikes)) _ (x .last .1 .1 .0) (textNext s at .body))
+    (number-from-return c .number .given .1) (x .ensures)))
+    ∙ ap (λ (n : ℕ). convertedBy binaryLine n (linesOf Text s))
+    (cleared-long (clear-bytes-from-return c .clear-bytes .last .0) (length (start-from-return c .args .out .now))
+    (clear-bytes-from-return c .clear-bytes .ensures))
 
 finish-requires : tie.Need-finish-requires Inv-loop μ-loop
 finish-requires c κs = search needs
@@ -172,8 +183,12 @@ returns-2 : tie.Need-returns-2 Inv-loop μ-loop
 unfolding toBinary
 returns-2 c =
     finish-from-return-2 c .finish .ensures
-    ∙ sym (remains-end binaryLine Text _ _ _ _ _ (at-loop-from-return-2 c .loop .inv) (λ k. text-past (start-from-return-2 c .args .text .now) (at-loop-from-return-2 c .loop .at) k (after-loop-from-return-2 c .loop-test .left)))
-    ∙ ap (λ (n : ℕ). convertedBy binaryLine n (linesOf Text (start-from-return-2 c .args .text .now))) (cleared-long (clear-bytes-from-return-2 c .clear-bytes .last .0) (length (start-from-return-2 c .args .out .now)) (clear-bytes-from-return-2 c .clear-bytes .ensures))
+    ∙ sym (remains-end binaryLine Text _ _ _ _ _ (at-loop-from-return-2 c .loop .inv)
+    (λ k. text-past (start-from-return-2 c .args .text .now) (at-loop-from-return-2 c .loop .at) k
+    (after-loop-from-return-2 c .loop-test .left)))
+    ∙ ap (λ (n : ℕ). convertedBy binaryLine n (linesOf Text (start-from-return-2 c .args .text .now)))
+    (cleared-long (clear-bytes-from-return-2 c .clear-bytes .last .0) (length (start-from-return-2 c .args .out .now))
+    (clear-bytes-from-return-2 c .clear-bytes .ensures))
 
 pub to-binary-spec : {M : Type 1} → statement M
 to-binary-spec =

@@ -26,7 +26,8 @@ module _ (c : tie.After-slice-known2) where
   start-from-return = start-from-clear-bytes clear-bytes-from-return
 
 returns : tie.Need-returns
-returns c = let a = start-from-return c .args in ap (λ (o : List ℕ). shown (a .number) (a .place) o) (clear-bytes-from-return c .clear-bytes .ensures)
+returns c = let a = start-from-return c .args in ap (λ (o : List ℕ). shown (a .number) (a .place) o)
+    (clear-bytes-from-return c .clear-bytes .ensures)
   where
     shown : ℕ → ℕ → List ℕ → Conversion
     shown number place out = record { number = number; place = place; length = 0; output = out }

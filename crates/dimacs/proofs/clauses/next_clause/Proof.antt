@@ -16,7 +16,8 @@ open-clause-requires : tie.Need-open-clause-requires
 open-clause-requires c κs = search needs
 
 returns-2 : tie.Need-returns-2
-returns-2 c = c .open-clause .ensures ∙ sym (next-here _ _ _ _ (c .before .before .before .skip-between .ensures .0) _ (c .before .before .if1 .taken) (c .before .if2 .left))
+returns-2 c = c .open-clause .ensures ∙ sym (next-here _ _ _ _ (c .before .before .before .skip-between .ensures .0) _
+    (c .before .before .if1 .taken) (c .before .if2 .left))
 
 returns-3 : tie.Need-returns-3
 returns-3 c = sym (next-end _ _ _ _ (c .before .before .skip-between .ensures .0) _ (c .before .if1 .left) (c .if3 .taken))

@@ -1,5 +1,5 @@
--- `open_clause` reads to the closing 0. The loop: what is to be read is what is left to be read, with the literals so far. The measure is what is
--- left of the text, since a literal has bytes. Assumes nothing.
+-- `open_clause` reads to the closing 0. The loop: what is to be read is what is left to be read, with the literals so far. The measure is
+-- what is left of the text, since a literal has bytes. Assumes nothing.
 use mathlib.Core.Path.{_≡_, refl, sym, _∙_}
 use Prim.Native.Nat.{_≤_, _<_, _-_}
 use native.Mathlib.Omega.{arith}
@@ -15,7 +15,8 @@ use Rattle.dimacs.proofs.clauses.open_clause.Statement.{statement}
 use Rattle.dimacs.proofs.clauses.open_clause.Tie as tie
 
 abbrev Inv-loop : tie.InvT-loop
-Inv-loop s first from variables literals₀ at₀ literals at = (at ≤ length s) × (restOf s variables first noLiterals from ≡ restOf s variables first literals at)
+Inv-loop s first from variables literals₀ at₀ literals at = (at ≤ length s)
+    × (restOf s variables first noLiterals from ≡ restOf s variables first literals at)
 
 abbrev μ-loop : tie.MeasureT-loop
 μ-loop s first from variables literals₀ at₀ literals at = length s - at
@@ -83,17 +84,21 @@ module _ (c : tie.After-skip-between Inv-loop μ-loop) where
   at-loop-from-loop-again = at-loop-from-in-loop in-loop-from-loop-again
 
 literal : (a : tie.After-variable Inv-loop μ-loop)
-    → tokenOf (start-from-variable a .args .variables) (slice (at-loop-from-variable a .loop .at) (past-class-from-variable a .past-class .result) (start-from-variable a .args .s .now))
+    → tokenOf (start-from-variable a .args .variables)
+    (slice (at-loop-from-variable a .loop .at) (past-class-from-variable a .past-class .result) (start-from-variable a .args .s .now))
     ≡ Literal (a .variable .given .0 .0) (a .variable .given .0 .1 .0)
 literal a = sym (a .before .before .read-token .ensures) ∙ a .variable .given .1
 
 within : (a : tie.After-variable Inv-loop μ-loop)
-    → IsLiteral (start-from-variable a .args .variables) (slice (at-loop-from-variable a .loop .at) (past-class-from-variable a .past-class .result) (start-from-variable a .args .s .now)) (a .variable .given .0 .0)
+    → IsLiteral (start-from-variable a .args .variables)
+    (slice (at-loop-from-variable a .loop .at) (past-class-from-variable a .past-class .result) (start-from-variable a .args .s .now))
+    (a .variable .given .0 .0)
 within a = literal-bounds _ _ _ _ (literal a)
 
 -- The next token lies behind this one.
 moves : (a : tie.After-variable Inv-loop μ-loop) → at-loop-from-variable a .loop .at < past-class-from-variable a .past-class .result
-moves a = literal-moves _ _ _ _ _ _ (in-loop-from-variable a .loop-test .taken) (past-class-from-variable a .past-class .ensures .0) (literal a)
+moves a = literal-moves _ _ _ _ _ _ (in-loop-from-variable a .loop-test .taken) (past-class-from-variable a .past-class .ensures .0)
+    (literal a)
 
 loop-holds : tie.Need-loop-holds Inv-loop μ-loop
 loop-holds c = (omega arith, refl)
@@ -110,7 +115,8 @@ enum-told c = search needs
 returns : tie.Need-returns Inv-loop μ-loop
 returns c = sym
     (at-loop-from-return c .loop .inv .1
-    ∙ rest-closing _ _ _ _ _ (in-loop-from-return c .loop-test .taken) _ (past-class-from-return c .past-class .ensures .0) (sym (c .before .before .read-token .ensures) ∙ c .enum-told .given .1))
+    ∙ rest-closing _ _ _ _ _ (in-loop-from-return c .loop-test .taken) _ (past-class-from-return c .past-class .ensures .0)
+    (sym (c .before .before .read-token .ensures) ∙ c .enum-told .given .1))
 
 enum-known-number : tie.Need-enum-known-number Inv-loop μ-loop
 enum-known-number c = search needs
@@ -118,7 +124,8 @@ enum-known-number c = search needs
 returns-2 : tie.Need-returns-2 Inv-loop μ-loop
 returns-2 c = sym
     (at-loop-from-return-2 c .loop .inv .1
-    ∙ rest-wrong _ _ _ _ _ (in-loop-from-return-2 c .loop-test .taken) _ (past-class-from-return-2 c .past-class .ensures .0) _ (sym (read-token-from-return-2 c .read-token .ensures) ∙ c .before .number .given .1))
+    ∙ rest-wrong _ _ _ _ _ (in-loop-from-return-2 c .loop-test .taken) _ (past-class-from-return-2 c .past-class .ensures .0) _
+    (sym (read-token-from-return-2 c .read-token .ensures) ∙ c .before .number .given .1))
 
 enum-known-variable : tie.Need-enum-known-variable Inv-loop μ-loop
 enum-known-variable c = search needs
@@ -136,7 +143,8 @@ loop-again : tie.Need-loop-again Inv-loop μ-loop
 loop-again c = (
   omega arith,
   at-loop-from-loop-again c .loop .inv .1
-      ∙ rest-literal _ _ _ _ _ (in-loop-from-loop-again c .loop-test .taken) _ (past-class-from-loop-again c .past-class .ensures .0) _ _ _ _ (literal (variable-from-loop-again c)) (c .skip-between .ensures .0)
+      ∙ rest-literal _ _ _ _ _ (in-loop-from-loop-again c .loop-test .taken) _ (past-class-from-loop-again c .past-class .ensures .0) _ _ _
+      _ (literal (variable-from-loop-again c)) (c .skip-between .ensures .0)
       (c .before .with-literal .ensures),
 )
 

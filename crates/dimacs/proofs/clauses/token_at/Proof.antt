@@ -13,7 +13,8 @@ read-token-requires : tie.Need-read-token-requires
 read-token-requires c κs = search needs
 
 returns : tie.Need-returns
-returns c = let a = c .before .before .before .args in c .read-token .ensures ∙ ap (λ e. tokenOf (a .variables) (slice (a .at) e (a .s .now))) (c .before .past-class .ensures .0)
+returns c = let a = c .before .before .before .args in c .read-token .ensures
+    ∙ ap (λ e. tokenOf (a .variables) (slice (a .at) e (a .s .now))) (c .before .past-class .ensures .0)
 
 pub token-at-spec : {M : Type 1} → statement M
 token-at-spec = tie.close (tie.spec past-class-requires read-token-requires returns)

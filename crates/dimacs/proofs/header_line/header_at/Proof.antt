@@ -104,7 +104,8 @@ module _ (c : tie.After-past-class) where
 -- The words' places.
 words : (a : tie.After-next-word3)
     → headerAt (start-from-next-word3 a .args .s .now) (start-from-next-word3 a .args .at)
-    ≡ judgedWords (start-from-next-word3 a .args .s .now) (start-from-next-word3 a .args .at) (a .before .before .next-word .result) (a .before .next-word2 .result) (a .next-word3 .result)
+    ≡ judgedWords (start-from-next-word3 a .args .s .now) (start-from-next-word3 a .args .at) (a .before .before .next-word .result)
+    (a .before .next-word2 .result) (a .next-word3 .result)
 words a = header-judged _ _ _ _ _ (a .before .before .next-word .ensures .0) (a .before .next-word2 .ensures .0) (a .next-word3 .ensures .0)
 
 is-p : (a : tie.Else1) → isWord (start-from-else1 a .args .s .now) (start-from-else1 a .args .at) (112 ∷ []) ≡ true
@@ -120,16 +121,22 @@ spelled : (a : tie.Else2)
     (lineEnd (start-from-else2 a .args .s .now) (next-word3-from-else2 a .next-word3 .result))
 spelled a = words (next-word3-from-else2 a) ∙ rw (is-p (a .before .before), sym (a .before .is-cnf .ensures) ∙ not-false _ (a .if2 .left))
 
-first-is : (a : tie.After-v) → naturalOf (word (start-from-v a .args .s .now) (next-word2-from-v a .next-word2 .result)) ≡ Value (a .v .given .0 .0)
+first-is : (a : tie.After-v) → naturalOf (word (start-from-v a .args .s .now) (next-word2-from-v a .next-word2 .result))
+    ≡ Value (a .v .given .0 .0)
 first-is a = sym (a .before .before .word-number .ensures) ∙ a .v .given .1
 
 -- Both numbers are there: the line's end and the limits decide.
 counted : (a : tie.After-c)
     → headerAt (start-from-c a .args .s .now) (start-from-c a .args .at)
     ≡ cond (endsLine (start-from-c a .args .s .now) (next-word3-from-c a .next-word3 .result))
-    (within (v-from-c a .v .given .0 .0) (a .c .given .0 .0) (start-from-c a .args .at) (lineEnd (start-from-c a .args .s .now) (next-word3-from-c a .next-word3 .result)))
+    (within (v-from-c a .v .given .0 .0) (a .c .given .0 .0) (start-from-c a .args .at)
+    (lineEnd (start-from-c a .args .s .now) (next-word3-from-c a .next-word3 .result)))
     (Improper 1 (start-from-c a .args .at))
-counted a = spelled (else2-from-c a) ∙ rw (first-is (a .before .before .before .before), sym (a .before .before .word-number2 .ensures) ∙ a .c .given .1)
+counted a = spelled (else2-from-c a) ∙ rw (
+  first-is (a .before .before .before .before),
+  sym (a .before .before .word-number2 .ensures)
+      ∙ a .c .given .1,
+)
 
 ends : (a : tie.Else3) → endsLine (start-from-else3 a .args .s .now) (next-word3-from-else3 a .next-word3 .result) ≡ true
 ends a = sym (a .before .ends-line .ensures) ∙ not-false _ (a .if3 .left)
@@ -153,7 +160,8 @@ is-cnf-requires : tie.Need-is-cnf-requires
 is-cnf-requires c κs = search needs
 
 returns-2 : tie.Need-returns-2
-returns-2 c = sym (words (next-word3-from-then2 c) ∙ rw (is-p (c .before .before), sym (c .before .is-cnf .ensures) ∙ not-true _ (c .if2 .taken)))
+returns-2 c = sym (words (next-word3-from-then2 c) ∙ rw
+    (is-p (c .before .before), sym (c .before .is-cnf .ensures) ∙ not-true _ (c .if2 .taken)))
 
 word-number-requires : tie.Need-word-number-requires
 word-number-requires c κs = search needs
@@ -177,7 +185,8 @@ enum-told-2 : tie.Need-enum-told-2
 enum-told-2 c = search needs
 
 returns-4 : tie.Need-returns-4
-returns-4 c = sym (spelled (else2-from-return-4 c) ∙ rw (first-is (c .before .before .before .before), sym (c .before .before .word-number2 .ensures) ∙ c .enum-told2 .given .1))
+returns-4 c = sym (spelled (else2-from-return-4 c) ∙ rw
+    (first-is (c .before .before .before .before), sym (c .before .before .word-number2 .ensures) ∙ c .enum-told2 .given .1))
 
 ends-line-requires : tie.Need-ends-line-requires
 ends-line-requires c κs = search needs
@@ -203,7 +212,12 @@ past-class-requires c κs = search needs
 returns-8 : tie.Need-returns-8
 returns-8 c = sym
     (counted (c-from-return-8 c)
-    ∙ rw (ends (c .before .before .before), le-ltb _ _ (c .before .before .if4 .left), le-ltb _ _ (c .before .if5 .left), sym (c .past-class .ensures .0)))
+    ∙ rw (
+      ends (c .before .before .before),
+      le-ltb _ _ (c .before .before .if4 .left),
+      le-ltb _ _ (c .before .if5 .left),
+      sym (c .past-class .ensures .0),
+    ))
 
 pub header-at-spec : {M : Type 1} → statement M
 header-at-spec =

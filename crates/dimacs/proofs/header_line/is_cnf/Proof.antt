@@ -32,7 +32,8 @@ module _ (c : tie.After-shared-slice-known4) where
   else1-from-return-4 = else1-from-shared-slice-read-if3 (c .before .before)
 
 -- A word of three bytes is `cnf` where they are.
-cnf : (c : tie.Else1) → isWord (start-from-else1 c .args .s .now) (start-from-else1 c .args .at) letters ≡ spells (start-from-else1 c .args .s .now) (start-from-else1 c .args .at) letters
+cnf : (c : tie.Else1) → isWord (start-from-else1 c .args .s .now) (start-from-else1 c .args .at) letters
+    ≡ spells (start-from-else1 c .args .s .now) (start-from-else1 c .args .at) letters
 cnf c = word-is _ _ _ letters (c .before .past-class .ensures .0) (omega arith) (c .if1 .left)
 
 past-class-requires : tie.Need-past-class-requires

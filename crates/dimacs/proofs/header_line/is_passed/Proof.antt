@@ -21,7 +21,11 @@ returns c = rw (sym (c .before .before .past-class .ensures .0), sym (c .before 
 
 returns-2 : tie.Need-returns-2
 unfolding isPassed
-returns-2 c = rw (sym (c .before .before .before .past-class .ensures .0), sym (c .before .before .past-class2 .ensures .0), ne-eqb _ _ (c .before .if1 .left))
+returns-2 c = rw (
+  sym (c .before .before .before .past-class .ensures .0),
+  sym (c .before .before .past-class2 .ensures .0),
+  ne-eqb _ _ (c .before .if1 .left),
+)
 
 pub is-passed-spec : {M : Type 1} → statement M
 is-passed-spec =

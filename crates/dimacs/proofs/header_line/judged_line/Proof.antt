@@ -49,7 +49,8 @@ passed : (c : tie.After-past-class Inv-loop μ-loop)
     judgedFrom s (length s) 0 ≡ judgedFrom s (length s - (c .past-class .result + 1)) (c .past-class .result + 1)
 passed c =
     at-loop-from-past-class c .loop .inv .1
-    ∙ judged-go _ _ (in-loop-from-past-class c .loop-test .taken) (sym (c .before .before .is-passed .ensures) ∙ not-false _ (c .before .if1 .left))
+    ∙ judged-go _ _ (in-loop-from-past-class c .loop-test .taken)
+    (sym (c .before .before .is-passed .ensures) ∙ not-false _ (c .before .if1 .left))
     ∙ rw (sym (c .past-class .ensures .0))
 
 loop-holds : tie.Need-loop-holds Inv-loop μ-loop
@@ -59,8 +60,11 @@ is-passed-requires : tie.Need-is-passed-requires Inv-loop μ-loop
 is-passed-requires c κs = search needs
 
 returns : tie.Need-returns Inv-loop μ-loop
-returns c = let k = at-loop-from-then1 c in
-    (sym (k .loop .inv .1 ∙ judged-stop _ _ (c .before .before .loop-test .taken) (sym (c .before .is-passed .ensures) ∙ not-true _ (c .if1 .taken))), k .loop .inv .0)
+returns c = let k = at-loop-from-then1 c in (
+  sym (k .loop .inv .1 ∙ judged-stop _ _ (c .before .before .loop-test .taken)
+      (sym (c .before .is-passed .ensures) ∙ not-true _ (c .if1 .taken))),
+  k .loop .inv .0,
+)
 
 past-class-requires : tie.Need-past-class-requires Inv-loop μ-loop
 past-class-requires c κs = search needs

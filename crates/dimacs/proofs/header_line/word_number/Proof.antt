@@ -13,7 +13,8 @@ read-natural-requires : tie.Need-read-natural-requires
 read-natural-requires c κs = search needs
 
 returns : tie.Need-returns
-returns c = let a = c .before .before .before .args in c .read-natural .ensures ∙ ap (λ e. naturalOf (slice (a .at) e (a .s .now))) (c .before .past-class .ensures .0)
+returns c = let a = c .before .before .before .args in c .read-natural .ensures
+    ∙ ap (λ e. naturalOf (slice (a .at) e (a .s .now))) (c .before .past-class .ensures .0)
 
 pub word-number-spec : {M : Type 1} → statement M
 word-number-spec = tie.close (tie.spec past-class-requires read-natural-requires returns)

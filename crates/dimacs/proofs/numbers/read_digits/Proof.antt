@@ -48,10 +48,12 @@ module _ (c : tie.After-with-digit Inv-loop μ-loop) where
 returns : tie.Need-returns Inv-loop μ-loop
 returns c = sym
     (at-loop-from-then1 c .loop .inv .3
-    ∙ digits-stop _ _ _ _ (in-loop-from-then1 c .loop-test .taken) (omega arith) (sym (c .before .is-digit .ensures) ∙ not-true _ (c .if1 .taken)))
+    ∙ digits-stop _ _ _ _ (in-loop-from-then1 c .loop-test .taken) (omega arith)
+    (sym (c .before .is-digit .ensures) ∙ not-true _ (c .if1 .taken)))
 
 with-digit-requires : tie.Need-with-digit-requires Inv-loop μ-loop
-with-digit-requires c κs = let d = sym (c .before .is-digit .ensures) ∙ not-false _ (c .if1 .left) in (omega arith, digit-least _ d, digit-most _ d)
+with-digit-requires c κs = let d = sym (c .before .is-digit .ensures) ∙ not-false _ (c .if1 .left) in
+    (omega arith, digit-least _ d, digit-most _ d)
 
 add-at : tie.Need-add-at Inv-loop μ-loop
 add-at c = search needs
@@ -65,13 +67,15 @@ loop-again c = let k = at-loop-from-loop-again c in (
   omega arith,
   c .with-digit .ensures .1,
   k .loop .inv .3
-      ∙ digits-go _ _ _ _ _ (in-loop-from-loop-again c .loop-test .taken) (omega arith) (sym (c .before .before .is-digit .ensures) ∙ not-false _ (c .before .if1 .left))
+      ∙ digits-go _ _ _ _ _ (in-loop-from-loop-again c .loop-test .taken) (omega arith)
+      (sym (c .before .before .is-digit .ensures) ∙ not-false _ (c .before .if1 .left))
       (c .with-digit .ensures .0),
 )
 
 returns-2 : tie.Need-returns-2 Inv-loop μ-loop
 returns-2 c = let a = start-from-return-2 c .args in
-    sym (c .before .loop .inv .3 ∙ digits-end (a .s .now) (c .before .loop .at) (a .to) (c .before .loop .n) (omega arith) (c .before .loop .inv .2))
+    sym (c .before .loop .inv .3 ∙ digits-end (a .s .now) (c .before .loop .at) (a .to) (c .before .loop .n) (omega arith)
+    (c .before .loop .inv .2))
 
 pub read-digits-spec : {M : Type 1} → statement M
 read-digits-spec =

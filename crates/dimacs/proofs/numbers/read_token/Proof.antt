@@ -26,7 +26,8 @@ signed-token-requires c κs = search needs
 returns-2 : tie.Need-returns-2
 returns-2 c = let a = c .before .before .before .before .before .before .args in
     c .signed-token .ensures ∙ ap (signedToken (a .variables) false) (c .before .read-natural .ensures)
-    ∙ sym (token-signed (a .variables) (a .s .now) (a .from) (a .to) (omega arith) (omega arith) (omega arith) (c .before .before .if2 .taken))
+    ∙ sym (token-signed (a .variables) (a .s .now) (a .from) (a .to) (omega arith) (omega arith) (omega arith)
+    (c .before .before .if2 .taken))
 
 read-natural-requires-2 : tie.Need-read-natural-requires-2
 read-natural-requires-2 c κs = search needs
@@ -37,7 +38,8 @@ signed-token-requires-2 c κs = search needs
 returns-3 : tie.Need-returns-3
 returns-3 c = let a = c .before .before .before .before .before .before .args in
     c .signed-token2 .ensures ∙ ap (signedToken (a .variables) true) (c .before .read-natural2 .ensures)
-    ∙ sym (token-unsigned (a .variables) (a .s .now) (a .from) (a .to) (omega arith) (omega arith) (omega arith) (c .before .before .if2 .left))
+    ∙ sym (token-unsigned (a .variables) (a .s .now) (a .from) (a .to) (omega arith) (omega arith) (omega arith)
+    (c .before .before .if2 .left))
 
 pub read-token-spec : {M : Type 1} → statement M
 read-token-spec =

@@ -43,8 +43,11 @@ module _ (c : tie.Then1 Inv-loop μ-loop) where
   at-loop-from-then1 = in-loop-from-then1 .before
 
 returns : tie.Need-returns Inv-loop μ-loop
-returns c = let k = at-loop-from-then1 c in
-    (sym (k .loop .inv .2 ∙ past-stop _ _ _ (in-loop-from-then1 c .loop-test .taken) (sym (c .before .admits .ensures) ∙ not-true _ (c .if1 .taken))), (omega arith, omega arith))
+returns c = let k = at-loop-from-then1 c in (
+  sym (k .loop .inv .2 ∙ past-stop _ _ _ (in-loop-from-then1 c .loop-test .taken)
+      (sym (c .before .admits .ensures) ∙ not-true _ (c .if1 .taken))),
+  (omega arith, omega arith),
+)
 
 add-i : tie.Need-add-i Inv-loop μ-loop
 add-i c = search needs
@@ -53,8 +56,12 @@ loop-less : tie.Need-loop-less Inv-loop μ-loop
 loop-less c = search needs
 
 loop-again : tie.Need-loop-again Inv-loop μ-loop
-loop-again c = let k = at-loop-from-else1 c in
-    (omega arith, omega arith, k .loop .inv .2 ∙ past-go _ _ _ (in-loop-from-else1 c .loop-test .taken) (sym (c .before .admits .ensures) ∙ not-false _ (c .if1 .left)))
+loop-again c = let k = at-loop-from-else1 c in (
+  omega arith,
+  omega arith,
+  k .loop .inv .2 ∙ past-go _ _ _ (in-loop-from-else1 c .loop-test .taken)
+      (sym (c .before .admits .ensures) ∙ not-false _ (c .if1 .left)),
+)
 
 returns-2 : tie.Need-returns-2 Inv-loop μ-loop
 returns-2 c = (sym (c .before .loop .inv .2 ∙ past-end _ _ _ (c .loop-test .left)), (omega arith, omega arith))

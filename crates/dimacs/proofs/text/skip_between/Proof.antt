@@ -45,8 +45,10 @@ returns : tie.Need-returns Inv-loop μ-loop
 returns c =
     let k = at-loop-from-then1 c in
     let first = c .before .before .past-class in
-    let none = ap (isComment _) (sym (first .ensures .0)) ∙ sym (c .before .is-comment .ensures) ∙ not-true _ (c .if1 .taken) in
-    (sym (k .loop .inv .2 ∙ between-stop _ _ _ none ∙ sym (first .ensures .0)), (omega (arith, k .loop .inv .0, first .ensures .1 .0), first .ensures .1 .1))
+    let none = ap (isComment _) (sym (first .ensures .0)) ∙ sym (c .before .is-comment .ensures) ∙ not-true _ (c .if1 .taken) in (
+      sym (k .loop .inv .2 ∙ between-stop _ _ _ none ∙ sym (first .ensures .0)),
+      (omega (arith, k .loop .inv .0, first .ensures .1 .0), first .ensures .1 .1),
+    )
 
 past-class-requires-2 : tie.Need-past-class-requires-2 Inv-loop μ-loop
 past-class-requires-2 c κs = search needs
@@ -56,15 +58,28 @@ loop-less c =
     let w = at-loop-from-loop-again c in
     let first = past-class-from-loop-again c .past-class in
     let some = sym (c .before .before .is-comment .ensures) ∙ not-false _ (c .before .if1 .left) in
-    omega (arith, comment-moves _ _ some, c .past-class2 .ensures .0, first .ensures .1 .0, first .ensures .1 .1, w .loop .inv .1, c .past-class2 .ensures .1 .1)
+    omega (
+      arith,
+      comment-moves _ _ some,
+      c .past-class2 .ensures .0,
+      first .ensures .1 .0,
+      first .ensures .1 .1,
+      w .loop .inv .1,
+      c .past-class2 .ensures .1 .1,
+    )
 
 loop-again : tie.Need-loop-again Inv-loop μ-loop
 loop-again c =
     let s = start-from-loop-again c .args .s .now in
     let w = at-loop-from-loop-again c in
     let first = past-class-from-loop-again c .past-class in
-    let some = ap (isComment _) (sym (first .ensures .0)) ∙ sym (c .before .before .is-comment .ensures) ∙ not-false _ (c .before .if1 .left) in
-    (omega (arith, w .loop .inv .0, first .ensures .1 .0, c .past-class2 .ensures .1 .0), c .past-class2 .ensures .1 .1, w .loop .inv .2 ∙ left-comment _ _ some ∙ ap (left s) (sym (c .past-class2 .ensures .0 ∙ ap (lineEnd s) (first .ensures .0))))
+    let some = ap (isComment _) (sym (first .ensures .0)) ∙ sym (c .before .before .is-comment .ensures)
+    ∙ not-false _ (c .before .if1 .left) in (
+      omega (arith, w .loop .inv .0, first .ensures .1 .0, c .past-class2 .ensures .1 .0),
+      c .past-class2 .ensures .1 .1,
+      w .loop .inv .2
+          ∙ left-comment _ _ some ∙ ap (left s) (sym (c .past-class2 .ensures .0 ∙ ap (lineEnd s) (first .ensures .0))),
+    )
 
 pub skip-between-spec : {M : Type 1} → statement M
 skip-between-spec =

@@ -11,7 +11,7 @@ use Rattle.walks.proofs.Here.{good-readable}
 use Rattle.verdict.specs.Steps as check
 use Rattle.verdict.specs.Steps.{entryNode}
 use Rattle.entries.specs.declared.node.NodeTest.the-variants.{Fits}
-use Rattle.entries.specs.States.{Lent, lentOf, stateOf, stateWithEntry}
+use Rattle.state.specs.States.{Lent, lentOf, stateOf, stateWithEntry}
 use Rattle.entries.specs.Tests.{NodeTested}
 use Rattle.entries.proofs.Stops.{node-fits}
 use Rattle.entries.proofs.Entering.{few-there}
@@ -21,13 +21,15 @@ use Rattle.entries.proofs.node.node_step.Tie as tie
 
 module _ (s : tie.Start) (ms ss : List ℕ) where
   abbrev lent : Lent
-  lent = lentOf (s .args .vars .now) (s .args .lows .now) (s .args .highs .now) (s .args .heads .now) (s .args .links .now) ms (s .args .scratch .now) ss
+  lent = lentOf (s .args .vars .now) (s .args .lows .now) (s .args .highs .now) (s .args .heads .now) (s .args .links .now) ms
+      (s .args .scratch .now) ss
 
   abbrev state : check.State
   state = stateOf lent (s .args .st)
 
   abbrev before : Table
-  before = tableOf (s .args .vars .now) (s .args .lows .now) (s .args .highs .now) (s .args .heads .now) (s .args .links .now) (s .args .st .count)
+  before = tableOf (s .args .vars .now) (s .args .lows .now) (s .args .highs .now) (s .args .heads .now) (s .args .links .now)
+      (s .args .st .count)
 
   room : s .args .st .entries ≤ length (s .args .scratch .now)
   room = omega (arith, s .pre .few, s .pre .room)
@@ -120,7 +122,8 @@ module _ (c : tie.After-low) (ms ss : List ℕ) where
       (node-test-from-low c .node-test .ensures (start .args .heads .now) (start .args .links .now) ms ss)
 
   few : start .args .st .entries < 4096
-  few = few-there (lent start ms ss) (start .args .st) (room start ms ss) (node-fits (start .args .variables) (state start ms ss) (start .args .b) (tested .0) .few)
+  few = few-there (lent start ms ss) (start .args .st) (room start ms ss)
+      (node-fits (start .args .variables) (state start ms ss) (start .args .b) (tested .0) .few)
 
 -- what placing the node leaves
 module _ (c : tie.After-put) (ms ss : List ℕ) where
@@ -128,16 +131,21 @@ module _ (c : tie.After-put) (ms ss : List ℕ) where
   begun = start-from-put c
 
   abbrev outcome : Outcome
-  outcome = outcomeOf (c .put .last .0) (c .put .last .1 .0) (c .put .last .1 .1 .0) (c .put .last .1 .1 .1 .0) (c .put .last .1 .1 .1 .1 .0) (c .put .result)
+  outcome = outcomeOf (c .put .last .0) (c .put .last .1 .0) (c .put .last .1 .1 .0) (c .put .last .1 .1 .1 .0)
+      (c .put .last .1 .1 .1 .1 .0) (c .put .result)
 
-  made : outcome ≡ written (size (before begun ms ss)) (put (size (before begun ms ss)) (nodesOf (before begun ms ss)) (begun .args .b .variable) (entryNode (state begun ms ss) (begun .args .b .low .0)) (entryNode (state begun ms ss) (begun .args .b .high .0)))
+  made : outcome ≡ written (size (before begun ms ss))
+      (put (size (before begun ms ss)) (nodesOf (before begun ms ss)) (begun .args .b .variable)
+      (entryNode (state begun ms ss) (begun .args .b .low .0)) (entryNode (state begun ms ss) (begun .args .b .high .0)))
   made =
       c .put .ensures
-      ∙ ap₂ (λ (l h : ℕ). written (size (before begun ms ss)) (put (size (before begun ms ss)) (nodesOf (before begun ms ss)) (begun .args .b .variable) l h))
+      ∙ ap₂ (λ (l h : ℕ). written (size (before begun ms ss))
+      (put (size (before begun ms ss)) (nodesOf (before begun ms ss)) (begun .args .b .variable) l h))
       (tested (low-from-put c) ms ss .1) (tested (low-from-put c) ms ss .2)
 
 node-test-requires : tie.Need-node-test-requires
-node-test-requires c κs = let s = start-from-node-test-call c in (good-readable (before s [] []) (s .pre .good), s .pre .inside, s .pre .few, s .pre .room)
+node-test-requires c κs = let s = start-from-node-test-call c in
+    (good-readable (before s [] []) (s .pre .good), s .pre .inside, s .pre .few, s .pre .room)
 
 enum-known-number : tie.Need-enum-known-number
 enum-known-number c = search needs
@@ -171,7 +179,9 @@ greater-requires c κs =
     search needs
 
 returns : tie.Need-returns
-returns c = λ ms ss H. let s = start-from-then1 c in node-full _ (lent s ms ss) (s .args .st) (s .args .b) H (tested (low-from-then1 c) ms ss .0) (outcome (put-from-then1 c) ms ss) (made (put-from-then1 c) ms ss) _ (greater-from-then1 c .greater .ensures) (c .if1 .taken)
+returns c = λ ms ss H. let s = start-from-then1 c in node-full _ (lent s ms ss) (s .args .st) (s .args .b) H
+    (tested (low-from-then1 c) ms ss .0) (outcome (put-from-then1 c) ms ss) (made (put-from-then1 c) ms ss) _
+    (greater-from-then1 c .greater .ensures) (c .if1 .taken)
 
 mul-scratch : tie.Need-mul-scratch
 mul-scratch c = omega (arith, few (low-from-with-entry-call c) [] [])
@@ -197,7 +207,8 @@ same-length-10 c = refl
 returns-2 : tie.Need-returns-2
 returns-2 c = λ ms ss H.
     let s = start-from-return-2 c in
-    let told = subst (NodeTested (s .args .variables) (state s ms ss) (s .args .b)) (number-from-return-2 c .number .given .1) (node-test-from-return-2 c .node-test .ensures (s .args .heads .now) (s .args .links .now) ms ss) in
+    let told = subst (NodeTested (s .args .variables) (state s ms ss) (s .args .b)) (number-from-return-2 c .number .given .1)
+    (node-test-from-return-2 c .node-test .ensures (s .args .heads .now) (s .args .links .now) ms ss) in
     node-refused _ (lent s ms ss) (s .args .st) (s .args .b) H _ (told .0) (told .1)
 
 same-length-11 : tie.Need-same-length-11
@@ -216,11 +227,19 @@ same-length-15 : tie.Need-same-length-15
 same-length-15 c = put-from-return-3 c .put .kept .1 .1 .1 .1 .0
 
 same-length-16 : tie.Need-same-length-16
-same-length-16 c = length-set (start-from-return-3 c .args .scratch .now) (start-from-return-3 c .args .st .entries) (put-from-return-3 c .put .result .node .0)
+same-length-16 c = length-set (start-from-return-3 c .args .scratch .now) (start-from-return-3 c .args .st .entries)
+    (put-from-return-3 c .put .result .node .0)
 
 returns-3 : tie.Need-returns-3
-returns-3 c = λ ms ss H. let s = start-from-return-3 c in node-made _ (lent s ms ss) (s .args .st) (s .args .b) H (tested (low-from-return-3 c) ms ss .0) (outcome (put-from-return-3 c) ms ss) (made (put-from-return-3 c) ms ss) (c .before .before .if1 .left) (c .with-entry .result) (c .with-entry .ensures ∙ ap (stateWithEntry (s .args .st) (outcome (put-from-return-3 c) ms ss .table .count)) (greater-from-return-3 c .greater .ensures))
+returns-3 c = λ ms ss H. let s = start-from-return-3 c in node-made _ (lent s ms ss) (s .args .st) (s .args .b) H
+    (tested (low-from-return-3 c) ms ss .0) (outcome (put-from-return-3 c) ms ss) (made (put-from-return-3 c) ms ss)
+    (c .before .before .if1 .left) (c .with-entry .result)
+    (c .with-entry .ensures ∙ ap (stateWithEntry (s .args .st) (outcome (put-from-return-3 c) ms ss .table .count))
+    (greater-from-return-3 c .greater .ensures))
 
 pub node-step-spec : {M : Type 1} → statement M
 node-step-spec =
-    tie.close (tie.spec node-test-requires enum-known-number enum-known-low put-requires greater-requires same-length same-length-2 same-length-3 same-length-4 same-length-5 same-length-6 returns mul-scratch slice-write-scratch with-entry-requires same-length-7 same-length-8 same-length-9 same-length-10 returns-2 same-length-11 same-length-12 same-length-13 same-length-14 same-length-15 same-length-16 returns-3)
+    tie.close (tie.spec node-test-requires enum-known-number enum-known-low put-requires greater-requires same-length same-length-2
+    same-length-3 same-length-4 same-length-5 same-length-6 returns mul-scratch slice-write-scratch with-entry-requires same-length-7
+    same-length-8 same-length-9 same-length-10 returns-2 same-length-11 same-length-12 same-length-13 same-length-14 same-length-15
+    same-length-16 returns-3)

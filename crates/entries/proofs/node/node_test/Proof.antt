@@ -9,9 +9,10 @@ use lib.Dec.{leb}
 use borrow.Author.Tests.{not-true, not-false, ltb-true}
 use Rattle.verdict.specs.Steps as check
 use Rattle.verdict.specs.Steps.{isVariable, isEntry}
-use Rattle.entries.specs.States.{Lent, lentOf, stateOf}
+use Rattle.state.specs.States.{Lent, lentOf, stateOf}
 use Rattle.entries.proofs.Entries.{is-variable, variable-zero, variable-beyond}
-use Rattle.entries.proofs.Entries.{node-inside, node-is-at, above-is, entry-told, full-entries, few-entries, node-21, node-12, node-13-low, node-13-high, node-14-low, node-14-high, node-0}
+use Rattle.entries.proofs.Entries.{node-inside, node-is-at, above-is, entry-told, full-entries, few-entries, node-21, node-12}
+use Rattle.entries.proofs.Entries.{node-13-low, node-13-high, node-14-low, node-14-high, node-0}
 use Rattle.entries.proofs.node.node_test.Statement.{statement}
 use Rattle.entries.proofs.node.node_test.Tie as tie
 
@@ -168,10 +169,12 @@ module _ (c : tie.Else5) (ds ks ms ss : List ℕ) where
   begun = start-from-else5 c
 
   low : isEntry (state begun ds ks ms ss) (begun .args .b .low .0) ≡ true
-  low = entry-told (lent begun ds ks ms ss) (begun .args .st) (room begun ds ks ms ss) _ _ _ (is-entry-from-else5 c .is-entry .ensures) (not-false _ (c .before .before .if4 .left))
+  low = entry-told (lent begun ds ks ms ss) (begun .args .st) (room begun ds ks ms ss) _ _ _ (is-entry-from-else5 c .is-entry .ensures)
+      (not-false _ (c .before .before .if4 .left))
 
   high : isEntry (state begun ds ks ms ss) (begun .args .b .high .0) ≡ true
-  high = entry-told (lent begun ds ks ms ss) (begun .args .st) (room begun ds ks ms ss) _ _ _ (c .before .is-entry2 .ensures) (not-false _ (c .if5 .left))
+  high = entry-told (lent begun ds ks ms ss) (begun .args .st) (room begun ds ks ms ss) _ _ _ (c .before .is-entry2 .ensures)
+      (not-false _ (c .if5 .left))
 
   low-there : begun .args .b .low .0 < begun .args .st .entries + 2
   low-there = ltb-true _ _ (sym (is-entry-from-else5 c .is-entry .ensures) ∙ not-false _ (c .before .before .if4 .left))
@@ -184,10 +187,12 @@ module _ (c : tie.After-entry-node2) where
   abbrev read : tie.Start
   read = start-from-entry-node2 c
 
-  inside : (e k : ℕ) → e < read .args .st .entries + 2 → k ≡ getD (0 ∷ 1 ∷ take (read .args .st .entries) (read .args .scratch .now)) e 0 → k < read .args .st .count
+  inside : (e k : ℕ) → e < read .args .st .entries + 2 → k ≡ getD (0 ∷ 1 ∷ take (read .args .st .entries) (read .args .scratch .now)) e 0 →
+      k < read .args .st .count
   inside e k there is =
       subst (λ (x : ℕ). x < read .args .st .count) (sym is)
-      (node-inside (read .args .scratch .now) (read .args .st .entries) (omega (arith, read .pre .2, read .pre .3)) (read .args .st .count) (read .pre .0 .least) (read .pre .1) e there)
+      (node-inside (read .args .scratch .now) (read .args .st .entries) (omega (arith, read .pre .2, read .pre .3)) (read .args .st .count)
+      (read .pre .0 .least) (read .pre .1) e there)
 
   low-inside : c .before .entry-node .result .0 < read .args .st .count
   low-inside = inside (read .args .b .low .0) _ (low-there (c .before .before) [] [] [] []) (c .before .entry-node .ensures)
@@ -196,25 +201,42 @@ module _ (c : tie.After-entry-node2) where
   high-inside = inside (read .args .b .high .0) _ (high-there (c .before .before) [] [] [] []) (c .entry-node2 .ensures)
 
 returns : tie.Need-returns
-returns c = λ ds ks ms ss. let s = start-from-then1 c in (node-21 _ _ _ (full-entries (lent s ds ks ms ss) (s .args .st) (room s ds ks ms ss) (c .if1 .taken)), λ e. omega (arith, e))
+returns c = λ ds ks ms ss. let s = start-from-then1 c in
+    (node-21 _ _ _ (full-entries (lent s ds ks ms ss) (s .args .st) (room s ds ks ms ss) (c .if1 .taken)), λ e. omega (arith, e))
 
 returns-2 : tie.Need-returns-2
-returns-2 c = λ ds ks ms ss. let s = start-from-then2 c in (node-12 _ _ _ (few-entries (lent s ds ks ms ss) (s .args .st) (room s ds ks ms ss) (c .before .if1 .left)) (variable-zero _ _ (c .if2 .taken)), λ e. omega (arith, e))
+returns-2 c = λ ds ks ms ss. let s = start-from-then2 c in (
+  node-12 _ _ _ (few-entries (lent s ds ks ms ss) (s .args .st) (room s ds ks ms ss) (c .before .if1 .left))
+      (variable-zero _ _ (c .if2 .taken)),
+  λ e. omega (arith, e),
+)
 
 returns-3 : tie.Need-returns-3
-returns-3 c = λ ds ks ms ss. let s = start-from-then3 c in (node-12 _ _ _ (few-entries (lent s ds ks ms ss) (s .args .st) (room s ds ks ms ss) (c .before .before .if1 .left)) (variable-beyond _ _ (omega (arith, c .before .if2 .left)) (c .if3 .taken)), λ e. omega (arith, e))
+returns-3 c = λ ds ks ms ss. let s = start-from-then3 c in (
+  node-12 _ _ _ (few-entries (lent s ds ks ms ss) (s .args .st) (room s ds ks ms ss) (c .before .before .if1 .left))
+      (variable-beyond _ _ (omega (arith, c .before .if2 .left)) (c .if3 .taken)),
+  λ e. omega (arith, e),
+)
 
 is-entry-requires : tie.Need-is-entry-requires
 is-entry-requires c κs = start-from-else3 c .pre .2
 
 returns-4 : tie.Need-returns-4
-returns-4 c = λ ds ks ms ss. let s = start-from-then4 c in (node-13-low _ _ _ (few (else3-from-then4 c) ds ks ms ss) (variable (else3-from-then4 c) ds ks ms ss) (entry-told (lent s ds ks ms ss) (s .args .st) (room s ds ks ms ss) _ _ _ (c .before .is-entry .ensures) (not-true _ (c .if4 .taken))), λ e. omega (arith, e))
+returns-4 c = λ ds ks ms ss. let s = start-from-then4 c in (
+  node-13-low _ _ _ (few (else3-from-then4 c) ds ks ms ss) (variable (else3-from-then4 c) ds ks ms ss)
+      (entry-told (lent s ds ks ms ss) (s .args .st) (room s ds ks ms ss) _ _ _ (c .before .is-entry .ensures) (not-true _ (c .if4 .taken))),
+  λ e. omega (arith, e),
+)
 
 is-entry-requires-2 : tie.Need-is-entry-requires-2
 is-entry-requires-2 c κs = start-from-else4 c .pre .2
 
 returns-5 : tie.Need-returns-5
-returns-5 c = λ ds ks ms ss. let s = start-from-then5 c in (node-13-high _ _ _ (few (else3-from-then5 c) ds ks ms ss) (variable (else3-from-then5 c) ds ks ms ss) (entry-told (lent s ds ks ms ss) (s .args .st) (room s ds ks ms ss) _ _ _ (c .before .is-entry2 .ensures) (not-true _ (c .if5 .taken))), λ e. omega (arith, e))
+returns-5 c = λ ds ks ms ss. let s = start-from-then5 c in (
+  node-13-high _ _ _ (few (else3-from-then5 c) ds ks ms ss) (variable (else3-from-then5 c) ds ks ms ss)
+      (entry-told (lent s ds ks ms ss) (s .args .st) (room s ds ks ms ss) _ _ _ (c .before .is-entry2 .ensures) (not-true _ (c .if5 .taken))),
+  λ e. omega (arith, e),
+)
 
 entry-node-requires : tie.Need-entry-node-requires
 entry-node-requires c κs = (room (start-from-else5 c) [] [] [] [], low-there (c) [] [] [] [])
@@ -223,33 +245,44 @@ entry-node-requires-2 : tie.Need-entry-node-requires-2
 entry-node-requires-2 c κs = (room (start-from-entry-node c) [] [] [] [], high-there (c .before) [] [] [] [])
 
 stands-above-requires : tie.Need-stands-above-requires
-stands-above-requires c κs = let s = start-from-entry-node2 c in (s .pre .0 .lows, s .pre .0 .highs, omega (arith, low-inside (c), s .pre .0 .within))
+stands-above-requires c κs = let s = start-from-entry-node2 c in
+    (s .pre .0 .lows, s .pre .0 .highs, omega (arith, low-inside (c), s .pre .0 .within))
 
 returns-6 : tie.Need-returns-6
 returns-6 c = λ ds ks ms ss. let s = start-from-then6 c in (
-  node-14-low _ _ _ (few (else3-from-then6 c) ds ks ms ss) (variable (else3-from-then6 c) ds ks ms ss) (low (else5-from-then6 c) ds ks ms ss) (high (else5-from-then6 c) ds ks ms ss)
-      (above-is (lent s ds ks ms ss) (s .args .st) _ _ (entry-node-from-then6 c .entry-node .ensures) _ (low-inside (c .before .before)) _ _ (c .before .stands-above .ensures) (not-true _ (c .if6 .taken))),
+  node-14-low _ _ _ (few (else3-from-then6 c) ds ks ms ss) (variable (else3-from-then6 c) ds ks ms ss)
+      (low (else5-from-then6 c) ds ks ms ss) (high (else5-from-then6 c) ds ks ms ss)
+      (above-is (lent s ds ks ms ss) (s .args .st) _ _ (entry-node-from-then6 c .entry-node .ensures) _ (low-inside (c .before .before)) _ _
+      (c .before .stands-above .ensures) (not-true _ (c .if6 .taken))),
   λ e. omega (arith, e),
 )
 
 stands-above-requires-2 : tie.Need-stands-above-requires-2
-stands-above-requires-2 c κs = let s = start-from-else6 c in (s .pre .0 .lows, s .pre .0 .highs, omega (arith, high-inside (c .before .before), s .pre .0 .within))
+stands-above-requires-2 c κs = let s = start-from-else6 c in
+    (s .pre .0 .lows, s .pre .0 .highs, omega (arith, high-inside (c .before .before), s .pre .0 .within))
 
 returns-7 : tie.Need-returns-7
 returns-7 c = λ ds ks ms ss. let s = start-from-then7 c in (
-  node-14-high _ _ _ (few (else3-from-then7 c) ds ks ms ss) (variable (else3-from-then7 c) ds ks ms ss) (low (else5-from-then7 c) ds ks ms ss) (high (else5-from-then7 c) ds ks ms ss)
-      (above-is (lent s ds ks ms ss) (s .args .st) _ _ (entry-node2-from-then7 c .entry-node2 .ensures) _ (high-inside (entry-node2-from-then7 c)) _ _ (c .before .stands-above2 .ensures) (not-true _ (c .if7 .taken))),
+  node-14-high _ _ _ (few (else3-from-then7 c) ds ks ms ss) (variable (else3-from-then7 c) ds ks ms ss)
+      (low (else5-from-then7 c) ds ks ms ss) (high (else5-from-then7 c) ds ks ms ss)
+      (above-is (lent s ds ks ms ss) (s .args .st) _ _ (entry-node2-from-then7 c .entry-node2 .ensures) _
+      (high-inside (entry-node2-from-then7 c)) _ _ (c .before .stands-above2 .ensures) (not-true _ (c .if7 .taken))),
   λ e. omega (arith, e),
 )
 
 returns-8 : tie.Need-returns-8
 returns-8 c = λ ds ks ms ss. let s = start-from-else7 c in (
-  sym (node-0 _ _ _ (few (else3-from-else7 c) ds ks ms ss) (variable (else3-from-else7 c) ds ks ms ss) (low (else5-from-else7 c) ds ks ms ss) (high (else5-from-else7 c) ds ks ms ss)
-      (above-is (lent s ds ks ms ss) (s .args .st) _ _ (entry-node-from-else7 c .entry-node .ensures) _ (low-inside (entry-node2-from-else7 c)) _ _ (stands-above-from-else7 c .stands-above .ensures) (not-false _ (c .before .before .if6 .left)))
-      (above-is (lent s ds ks ms ss) (s .args .st) _ _ (entry-node2-from-else7 c .entry-node2 .ensures) _ (high-inside (entry-node2-from-else7 c)) _ _ (c .before .stands-above2 .ensures) (not-false _ (c .if7 .left)))),
+  sym (node-0 _ _ _ (few (else3-from-else7 c) ds ks ms ss) (variable (else3-from-else7 c) ds ks ms ss)
+      (low (else5-from-else7 c) ds ks ms ss) (high (else5-from-else7 c) ds ks ms ss)
+      (above-is (lent s ds ks ms ss) (s .args .st) _ _ (entry-node-from-else7 c .entry-node .ensures) _
+      (low-inside (entry-node2-from-else7 c)) _ _ (stands-above-from-else7 c .stands-above .ensures)
+      (not-false _ (c .before .before .if6 .left)))
+      (above-is (lent s ds ks ms ss) (s .args .st) _ _ (entry-node2-from-else7 c .entry-node2 .ensures) _
+      (high-inside (entry-node2-from-else7 c)) _ _ (c .before .stands-above2 .ensures) (not-false _ (c .if7 .left)))),
   entry-node-from-else7 c .entry-node .ensures ∙ sym (node-is-at (lent s ds ks ms ss) (s .args .st) (s .args .b .low .0)),
   entry-node2-from-else7 c .entry-node2 .ensures ∙ sym (node-is-at (lent s ds ks ms ss) (s .args .st) (s .args .b .high .0)),
 )
 
 pub node-test-spec : {M : Type 1} → statement M
-node-test-spec = tie.close (tie.spec returns returns-2 returns-3 is-entry-requires returns-4 is-entry-requires-2 returns-5 entry-node-requires entry-node-requires-2 stands-above-requires returns-6 stands-above-requires-2 returns-7 returns-8)
+node-test-spec = tie.close (tie.spec returns returns-2 returns-3 is-entry-requires returns-4 is-entry-requires-2 returns-5
+    entry-node-requires entry-node-requires-2 stands-above-requires returns-6 stands-above-requires-2 returns-7 returns-8)

@@ -6,7 +6,8 @@ use Rattle.entries.proofs.set.is_beyond.Statement.{statement}
 use Rattle.entries.proofs.set.is_beyond.Tie as tie
 
 returns : tie.Need-returns
-returns c = beyond-none (c .before .args .variables) (c .before .args .set) (c .if1 .taken) (c .before .pre) (omega (arith, c .before .fits .set))
+returns c = beyond-none (c .before .args .variables) (c .before .args .set) (c .if1 .taken) (c .before .pre)
+    (omega (arith, c .before .fits .set))
 
 shl-bit : tie.Need-shl-bit
 shl-bit c = search needs

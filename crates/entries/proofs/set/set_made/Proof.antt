@@ -7,7 +7,8 @@ use Rattle.entries.proofs.set.set_made.Tie as tie
 
 module _ (s : tie.Start) where
   abbrev before : Table
-  before = tableOf (s .args .vars .now) (s .args .lows .now) (s .args .highs .now) (s .args .heads .now) (s .args .links .now) (s .args .count)
+  before = tableOf (s .args .vars .now) (s .args .lows .now) (s .args .highs .now) (s .args .heads .now) (s .args .links .now)
+      (s .args .count)
 
 enum-told : tie.Need-enum-told
 enum-told c = search needs
@@ -70,7 +71,8 @@ module _ (c : tie.After-slice-known10) where
   start-from-return = start-from-slice-known5 (enum-told-from-return .before .before)
 
 returns : tie.Need-returns
-returns c = kind-made (before (start-from-return c)) _ _ _ (enum-told-from-return c .enum-told .given .1) _ (parity-from-return c .parity .ensures)
+returns c = kind-made (before (start-from-return c)) _ _ _ (enum-told-from-return c .enum-told .given .1) _
+    (parity-from-return c .parity .ensures)
 
 same-length-6 : tie.Need-same-length-6
 same-length-6 c = search needs
@@ -88,7 +90,8 @@ same-length-10 : tie.Need-same-length-10
 same-length-10 c = search needs
 
 returns-2 : tie.Need-returns-2
-returns-2 c = kind-made (before (start-from-return-2 c)) _ _ _ (enum-told2-from-return-2 c .enum-told2 .given .1) _ (at-least-from-return-2 c .at-least .ensures)
+returns-2 c = kind-made (before (start-from-return-2 c)) _ _ _ (enum-told2-from-return-2 c .enum-told2 .given .1) _
+    (at-least-from-return-2 c .at-least .ensures)
 
 pub set-made-spec : {M : Type 1} → statement M
 set-made-spec =

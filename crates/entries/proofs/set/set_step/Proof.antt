@@ -6,7 +6,7 @@ use native.Mathlib.Omega.{arith}
 use Rattle.table.specs.Indexed.{Table, tableOf, Outcome, outcomeOf}
 use Rattle.table.proofs.Outcomes.{placeIn, Grown}
 use Rattle.verdict.specs.Steps.{setDiagram}
-use Rattle.entries.specs.States.{Lent, lentOf, stateWithEntry}
+use Rattle.state.specs.States.{Lent, lentOf, stateWithEntry}
 use Rattle.entries.specs.Tests.{setRefusal}
 use Rattle.entries.proofs.SetEntries.{set-fits, made-grown, set-refused, set-full, set-made}
 use borrow.Author.Needs.{needs}
@@ -15,11 +15,13 @@ use Rattle.entries.proofs.set.set_step.Tie as tie
 
 module _ (s : tie.Start) where
   abbrev before : Table
-  before = tableOf (s .args .vars .now) (s .args .lows .now) (s .args .highs .now) (s .args .heads .now) (s .args .links .now) (s .args .st .count)
+  before = tableOf (s .args .vars .now) (s .args .lows .now) (s .args .highs .now) (s .args .heads .now) (s .args .links .now)
+      (s .args .st .count)
 
 module _ (s : tie.Start) (ms ss : List ℕ) where
   abbrev lent : Lent
-  lent = lentOf (s .args .vars .now) (s .args .lows .now) (s .args .highs .now) (s .args .heads .now) (s .args .links .now) ms (s .args .scratch .now) ss
+  lent = lentOf (s .args .vars .now) (s .args .lows .now) (s .args .highs .now) (s .args .heads .now) (s .args .links .now) ms
+      (s .args .scratch .now) ss
 
 -- The ways back, written by ways.py: TO-from-FROM leads from the place FROM of the code to the place TO before it.
 module _ (c : tie.After-set-test) where
@@ -102,7 +104,8 @@ module _ (c : tie.After-slice-known16) where
 
 -- the record is not refused
 module _ (c : tie.Else1) where
-  none : setRefusal (start-from-else1 c .args .variables) (start-from-else1 c .args .st .entries) (start-from-else1 c .args .kind) (start-from-else1 c .args .b) ≡ 0
+  none : setRefusal (start-from-else1 c .args .variables) (start-from-else1 c .args .st .entries) (start-from-else1 c .args .kind)
+      (start-from-else1 c .args .b) ≡ 0
   none = sym (set-test-from-else1 c .set-test .ensures) ∙ c .if1 .left
 
 -- what making its diagram leaves
@@ -124,7 +127,8 @@ set-test-requires c κs = search needs
 
 returns : tie.Need-returns
 returns c = λ ms ss H.
-    let s = start-from-then1 c in set-refused _ (lent s ms ss) (s .args .st) (s .args .kind) (s .args .b) H _ (set-test-from-then1 c .set-test .ensures) (c .if1 .taken)
+    let s = start-from-then1 c in set-refused _ (lent s ms ss) (s .args .st) (s .args .kind) (s .args .b) H _
+    (set-test-from-then1 c .set-test .ensures) (c .if1 .taken)
 
 set-made-requires : tie.Need-set-made-requires
 set-made-requires c κs = search needs
@@ -155,7 +159,8 @@ returns-2 : tie.Need-returns-2
 returns-2 c = λ ms ss H.
     let s = start-from-return-2 c in
     let m = set-made-from-return-2 c in
-    set-full _ (lent s ms ss) (s .args .st) (s .args .kind) (s .args .b) H (none (else1-from-return-2 c)) (outcome m) (made m) _ (drop-to-from-return-2 c .drop-to .ensures) _
+    set-full _ (lent s ms ss) (s .args .st) (s .args .kind) (s .args .b) H (none (else1-from-return-2 c)) (outcome m) (made m) _
+    (drop-to-from-return-2 c .drop-to .ensures) _
     (greater-from-return-2 c .greater .ensures) (then2-from-return-2 c .if2 .taken)
 
 mul-scratch : tie.Need-mul-scratch
@@ -164,7 +169,12 @@ mul-scratch c = search needs
 slice-write-scratch : tie.Need-slice-write-scratch
 slice-write-scratch c =
     let s = start-from-with-entry-call c in
-    omega (arith, set-fits (s .args .variables) (s .args .st .entries) (s .args .kind) (s .args .b) (none (else1-from-with-entry-call c)) .few, s .pre .room)
+    omega (
+      arith,
+      set-fits (s .args .variables) (s .args .st .entries) (s .args .kind) (s .args .b) (none (else1-from-with-entry-call c))
+          .few,
+      s .pre .room,
+    )
 
 with-entry-requires : tie.Need-with-entry-requires
 with-entry-requires c κs = search needs
@@ -191,7 +201,8 @@ returns-3 : tie.Need-returns-3
 returns-3 c = λ ms ss H.
     let s = start-from-return-3 c in
     let m = set-made-from-return-3 c in
-    set-made _ (lent s ms ss) (s .args .st) (s .args .kind) (s .args .b) H (none (else1-from-return-3 c)) (outcome m) (made m) (else2-from-return-3 c .if2 .left) (c .with-entry .result)
+    set-made _ (lent s ms ss) (s .args .st) (s .args .kind) (s .args .b) H (none (else1-from-return-3 c)) (outcome m) (made m)
+    (else2-from-return-3 c .if2 .left) (c .with-entry .result)
     (c .with-entry .ensures ∙ ap (stateWithEntry (s .args .st) (outcome m .table .count)) (greater-from-return-3 c .greater .ensures))
 
 pub set-step-spec : {M : Type 1} → statement M

@@ -67,18 +67,21 @@ enum-told c = search needs
 
 returns-3 : tie.Need-returns-3
 returns-3 c =
-    refuse-29 _ _ _ _ (else1-from-then3 c .if1 .left) (sym (is-beyond-from-then3 c .is-beyond .ensures) ∙ else2-from-then3 c .if2 .left) (enum-told-from-then3 c .enum-told .given .1) (c .if3 .taken)
+    refuse-29 _ _ _ _ (else1-from-then3 c .if1 .left) (sym (is-beyond-from-then3 c .is-beyond .ensures) ∙ else2-from-then3 c .if2 .left)
+    (enum-told-from-then3 c .enum-told .given .1) (c .if3 .taken)
 
 enum-told-2 : tie.Need-enum-told-2
 enum-told-2 c = search needs
 
 returns-4 : tie.Need-returns-4
 returns-4 c =
-    refuse-none _ _ _ _ (else1-from-else3 c .if1 .left) (sym (is-beyond-from-else3 c .is-beyond .ensures) ∙ else2-from-else3 c .if2 .left) (enum-told-from-else3 c .enum-told .given .1) (c .if3 .left)
+    refuse-none _ _ _ _ (else1-from-else3 c .if1 .left) (sym (is-beyond-from-else3 c .is-beyond .ensures) ∙ else2-from-else3 c .if2 .left)
+    (enum-told-from-else3 c .enum-told .given .1) (c .if3 .left)
 
 returns-5 : tie.Need-returns-5
 returns-5 c =
-    any-byte _ _ _ _ (else1-from-return-5 c .if1 .left) (sym (is-beyond-from-return-5 c .is-beyond .ensures) ∙ else2-from-return-5 c .if2 .left) (c .enum-told2 .given .1)
+    any-byte _ _ _ _ (else1-from-return-5 c .if1 .left)
+    (sym (is-beyond-from-return-5 c .is-beyond .ensures) ∙ else2-from-return-5 c .if2 .left) (c .enum-told2 .given .1)
 
 pub set-test-spec : {M : Type 1} → statement M
 set-test-spec =

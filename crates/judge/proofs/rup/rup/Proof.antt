@@ -13,7 +13,8 @@ use Rattle.judge.proofs.rup.rup.Tie as tie
 
 module _ (s : tie.Start) where
   abbrev before : Table
-  before = tableOf (s .args .vars .now) (s .args .lows .now) (s .args .highs .now) (s .args .heads .now) (s .args .links .now) (s .args .count)
+  before = tableOf (s .args .vars .now) (s .args .lows .now) (s .args .highs .now) (s .args .heads .now) (s .args .links .now)
+      (s .args .count)
 
 -- The ways back, written by ways.py: TO-from-FROM leads from the place FROM of the code to the place TO before it.
 module _ (c : tie.After-supports-of-arg5) where
@@ -74,7 +75,8 @@ module _ (a : tie.After-support-from) where
   memo-kept = a .support-from .kept .1 .1 .1 .0 ∙ supports-of-from-support-from a .supports-of .kept .1 .1 .1 .0
 
   negatable : Negatable (before begun) (begun .args .members .now) memo₁ (begun .args .root .0)
-  negatable = memo-again (before begun) (begun .args .members .now) (begun .args .memo .now) memo₁ (begun .args .root .0) memo-kept (begun .pre .0 .0)
+  negatable = memo-again (before begun) (begun .args .members .now) (begun .args .memo .now) memo₁ (begun .args .root .0) memo-kept
+      (begun .pre .0 .0)
 
 supports-of-requires : tie.Need-supports-of-requires
 supports-of-requires c κs =
@@ -85,8 +87,14 @@ supports-of-requires c κs =
 support-from-requires : tie.Need-support-from-requires
 support-from-requires c κs =
     let s = start-from-support-from-call c in
-    let w = supports-of-from-support-from-call c .supports-of in
-    ((good-readable (before s) (s .pre .0 .0 .ready .good), s .pre .0 .0 .inside, omega (arith, s .pre .0 .0 .ready .room, w .kept .1 .1 .1 .0)), w .ensures .1)
+    let w = supports-of-from-support-from-call c .supports-of in (
+      (
+        good-readable (before s) (s .pre .0 .0 .ready .good),
+        s .pre .0 .0 .inside,
+        omega (arith, s .pre .0 .0 .ready .room, w .kept .1 .1 .1 .0),
+      ),
+      w .ensures .1,
+    )
 
 rup-with-requires : tie.Need-rup-with-requires
 rup-with-requires c κs =

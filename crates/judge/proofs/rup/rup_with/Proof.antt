@@ -19,7 +19,8 @@ use Rattle.judge.proofs.rup.rup_with.Tie as tie
 
 module _ (s : tie.Start) where
   abbrev before : Table
-  before = tableOf (s .args .vars .now) (s .args .lows .now) (s .args .highs .now) (s .args .heads .now) (s .args .links .now) (s .args .count)
+  before = tableOf (s .args .vars .now) (s .args .lows .now) (s .args .highs .now) (s .args .heads .now) (s .args .links .now)
+      (s .args .count)
 
   abbrev members : List Diagram
   members = diagramsOf (nodesOf before) (s .args .members .now)
@@ -70,7 +71,8 @@ module _ (a : tie.After-by-negation) where
   start = start-from-by-negation a
 
   abbrev table₁ : Table
-  table₁ = tableOf (a .by-negation .last .0) (a .by-negation .last .1 .0) (a .by-negation .last .1 .1 .0) (a .by-negation .last .1 .1 .1 .0) (a .by-negation .last .1 .1 .1 .1 .0) (a .by-negation .result .count)
+  table₁ = tableOf (a .by-negation .last .0) (a .by-negation .last .1 .0) (a .by-negation .last .1 .1 .0) (a .by-negation .last .1 .1 .1 .0)
+      (a .by-negation .last .1 .1 .1 .1 .0) (a .by-negation .result .count)
 
   abbrev list₁ : List ℕ
   list₁ = a .by-negation .last .1 .1 .1 .1 .1 .1 .1 .1 .0
@@ -83,8 +85,10 @@ module _ (a : tie.After-by-negation) where
   memo-length = a .by-negation .kept .1 .1 .1 .1 .1 .0
 
 by-negation-requires : tie.Need-by-negation-requires
-by-negation-requires c κs =
-    ((start-from-by-negation-call c .pre .0 .0, start-from-by-negation-call c .pre .0 .2, start-from-by-negation-call c .pre .0 .3), start-from-by-negation-call c .pre .1)
+by-negation-requires c κs = (
+  (start-from-by-negation-call c .pre .0 .0, start-from-by-negation-call c .pre .0 .2, start-from-by-negation-call c .pre .0 .3),
+  start-from-by-negation-call c .pre .1,
+)
 
 same-length : tie.Need-same-length
 same-length c =
@@ -121,8 +125,10 @@ same-length-8 c =
 returns : tie.Need-returns
 returns c =
     let a = by-negation-from-then1 c in
-    let s = start a in
-    (rup-full (before s) (s .pre .0 .0 .ready .good) (members s) (root s) (table₁ a) (list₁ a) (by-negation a true (c .if1 .taken)) 64, s .pre .0 .1)
+    let s = start a in (
+      rup-full (before s) (s .pre .0 .0 .ready .good) (members s) (root s) (table₁ a) (list₁ a) (by-negation a true (c .if1 .taken)) 64,
+      s .pre .0 .1,
+    )
 
 unit-prop-requires : tie.Need-unit-prop-requires
 unit-prop-requires c κs =
@@ -130,11 +136,16 @@ unit-prop-requires c κs =
     let s = start a in
     let B = by-negation a false (else1-from-unit-prop-call c .if1 .left) in (
       (
-        list-ready (before s) (members s) (root s) (table₁ a) (list₁ a) (s .args .memo .now) (a .by-negation .last .1 .1 .1 .1 .1 .0) B (s .pre .0 .0 .ready .room) (memo-length a),
+        list-ready (before s) (members s) (root s) (table₁ a) (list₁ a) (s .args .memo .now) (a .by-negation .last .1 .1 .1 .1 .1 .0) B
+            (s .pre .0 .0 .ready .room) (memo-length a),
         s .pre .0 .1 ∙ ap unmarked (sym (a .by-negation .kept .0)),
         omega (arith, a .by-negation .kept .1 .1 .1 .1 .1 .1 .1 .1 .0, s .pre .0 .2, s .pre .0 .3),
       ),
-      (a .by-negation .kept .1 .1 .1 .1 .1 .1 .1 .1 .1 .0 ∙ s .pre .1 .1 ∙ sym (a .by-negation .kept .1 .1 .1 .1 .1 .1 .1 .1 .0 ∙ s .pre .0 .2), a .by-negation .ensures .1 (else1-from-unit-prop-call c .if1 .left)),
+      (
+        a .by-negation .kept .1 .1 .1 .1 .1 .1 .1 .1 .1 .0 ∙ s .pre .1 .1
+            ∙ sym (a .by-negation .kept .1 .1 .1 .1 .1 .1 .1 .1 .0 ∙ s .pre .0 .2),
+        a .by-negation .ensures .1 (else1-from-unit-prop-call c .if1 .left),
+      ),
     )
 
 cast-t52 : tie.Need-cast-t52
@@ -171,18 +182,23 @@ same-length-15 c =
 
 same-length-16 : tie.Need-same-length-16
 same-length-16 c =
-    unit-prop-from-return-2 c .unit-prop .kept .1 .1 .1 .1 .1 .1 .1 .0 ∙ by-negation-from-return-2 c .by-negation .kept .1 .1 .1 .1 .1 .1 .1 .1 .0
+    unit-prop-from-return-2 c .unit-prop .kept .1 .1 .1 .1 .1 .1 .1 .0 ∙ by-negation-from-return-2 c .by-negation .kept .1 .1 .1 .1 .1 .1 .1
+    .1 .0
 
 same-length-17 : tie.Need-same-length-17
 same-length-17 c =
-    unit-prop-from-return-2 c .unit-prop .kept .1 .1 .1 .1 .1 .1 .1 .1 .0 ∙ by-negation-from-return-2 c .by-negation .kept .1 .1 .1 .1 .1 .1 .1 .1 .1 .0
+    unit-prop-from-return-2 c .unit-prop .kept .1 .1 .1 .1 .1 .1 .1 .1 .0
+    ∙ by-negation-from-return-2 c .by-negation .kept .1 .1 .1 .1 .1 .1 .1 .1 .1 .0
 
 returns-2 : tie.Need-returns-2
 returns-2 c =
     let a = by-negation-from-return-2 c in
     let s = start a in
     let p = unit-prop-from-return-2 c .unit-prop in (
-      rup-judged (before s) (s .pre .0 .0 .ready .good) (members s) (root s) (table₁ a) (list₁ a) (by-negation a false (else1-from-return-2 c .if1 .left)) (p .result) (tableOf (p .last .0) (p .last .1 .0) (p .last .1 .1 .0) (p .last .1 .1 .1 .0) (p .last .1 .1 .1 .1 .0) (p .result .count)) (p .ensures .0) refl,
+      rup-judged (before s) (s .pre .0 .0 .ready .good) (members s) (root s) (table₁ a) (list₁ a)
+          (by-negation a false (else1-from-return-2 c .if1 .left)) (p .result)
+          (tableOf (p .last .0) (p .last .1 .0) (p .last .1 .1 .0) (p .last .1 .1 .1 .0) (p .last .1 .1 .1 .1 .0) (p .result .count))
+          (p .ensures .0) refl,
       p .ensures .1 ∙ ap unmarked (a .by-negation .kept .0),
     )
 

@@ -19,7 +19,8 @@ use Rattle.operate.proofs.+descend+join+work_out.Proof.Measures.{descen
 -- where descend starts
 module _ {t : ℕ} (s : descend-lts.Start (descend-callees t) (descend-at t) descend.Post) where
   abbrev d-table : Table
-  d-table = tableOf (s .args .vars .now) (s .args .lows .now) (s .args .highs .now) (s .args .heads .now) (s .args .links .now) (s .args .count)
+  d-table = tableOf (s .args .vars .now) (s .args .lows .now) (s .args .highs .now) (s .args .heads .now) (s .args .links .now)
+      (s .args .count)
 
   abbrev d-memo : List ℕ
   d-memo = s .args .memo .now
@@ -116,7 +117,8 @@ module _ {t : ℕ} (d : descend-lts.After-descent-of (descend-callees t) (descen
 
   d-step : descentOf (d-op ds) (sidesOf (d-table ds .vars) (d-table ds .lows) (d-table ds .highs) (d-f ds) (d-g ds)) ≡ d .descent-of .result
   d-step =
-      sym (d .descent-of .ensures ∙ ap (λ (op : Operation). descentOf op (sides-of-from-descent-of d .sides-of .result)) (operation-of-from-descent-of d .operation-of .ensures)
+      sym (d .descent-of .ensures ∙ ap (λ (op : Operation). descentOf op (sides-of-from-descent-of d .sides-of .result))
+      (operation-of-from-descent-of d .operation-of .ensures)
       ∙ ap (descentOf (d-op ds)) (sides-of-from-descent-of d .sides-of .ensures))
 
 -- one pair is left
@@ -125,7 +127,8 @@ module _ {t : ℕ} (d : descend-lts.After-a (descend-callees t) (descend-at t) d
   ds₁ = start-from-a d
 
   d-one : OneLeft (d-op ds₁) (d-memo ds₁) (d-table ds₁) (d-f ds₁) (d-g ds₁) (d .a .given .0 .0 .0) (d .a .given .0 .1 .0 .0)
-  d-one = step-one (d-op ds₁) (d-memo ds₁) (d-table ds₁) (d-f ds₁) (d-g ds₁) (d-ready ds₁) (d-two ds₁) (d .a .given .0 .0) (d .a .given .0 .1 .0) (d-step (descent-of-from-a d) ∙ d .a .given .1)
+  d-one = step-one (d-op ds₁) (d-memo ds₁) (d-table ds₁) (d-f ds₁) (d-g ds₁) (d-ready ds₁) (d-two ds₁) (d .a .given .0 .0)
+      (d .a .given .0 .1 .0) (d-step (descent-of-from-a d) ∙ d .a .given .1)
 
   d-one-shared : Shared (d-op ds₁) (ds₁ .args .by .positive) (d-table ds₁) (d .a .given .0 .0 .0) (d .a .given .0 .1 .0 .0)
   d-one-shared = shared-side (d-op ds₁) (ds₁ .args .by .positive) (d-table ds₁) (d-f ds₁) (d-g ds₁) _ _ (d-one .side-of) (d-shared ds₁)
@@ -136,7 +139,8 @@ module _ {t : ℕ} (d : descend-lts.After-s (descend-callees t) (descend-at t) d
   ds₂ = start-from-s d
 
   d-both : BothLeft (d-op ds₂) (d-memo ds₂) (d-table ds₂) (d-f ds₂) (d-g ds₂) (d .s .given .0 .0)
-  d-both = step-both (d-op ds₂) (d-memo ds₂) (d-table ds₂) (d-f ds₂) (d-g ds₂) (d-ready ds₂) (d-two ds₂) (d .s .given .0 .0) (d-step (descent-of-from-s d) ∙ d .s .given .1)
+  d-both = step-both (d-op ds₂) (d-memo ds₂) (d-table ds₂) (d-f ds₂) (d-g ds₂) (d-ready ds₂) (d-two ds₂) (d .s .given .0 .0)
+      (d-step (descent-of-from-s d) ∙ d .s .given .1)
 
   d-side-shared : (a b : ℕ) → SideOf (d-table ds₂) (d-f ds₂) (d-g ds₂) a b → Shared (d-op ds₂) (ds₂ .args .by .positive) (d-table ds₂) a b
   d-side-shared a b o = shared-side (d-op ds₂) (ds₂ .args .by .positive) (d-table ds₂) (d-f ds₂) (d-g ds₂) a b o (d-shared ds₂)
@@ -170,8 +174,10 @@ enum-known-s t c =
 
 join-requires : (t : ℕ) → descend-lts.Need-join-requires (descend-callees t) (descend-at t) descend.Post
 join-requires t c κs =
-    let d = s-from-join-call c in
-    (omega (arith, d-measure (start-from-join-call c), d-both d .variable), (d-both d .ready, d-side-shared d _ _ (d-both d .low-of), d-side-shared d _ _ (d-both d .high-of)))
+    let d = s-from-join-call c in (
+      omega (arith, d-measure (start-from-join-call c), d-both d .variable),
+      (d-both d .ready, d-side-shared d _ _ (d-both d .low-of), d-side-shared d _ _ (d-both d .high-of)),
+    )
 
 same-length : (t : ℕ) → descend-lts.Need-same-length (descend-callees t) (descend-at t) descend.Post
 same-length t c =

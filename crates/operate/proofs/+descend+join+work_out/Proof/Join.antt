@@ -19,7 +19,8 @@ use Rattle.operate.proofs.+descend+join+work_out.Proof.Measures.{join-a
 -- where join starts
 module _ {t : ℕ} (s : join-lts.Start (join-callees t) (join-at t) join.Post) where
   abbrev j-table : Table
-  j-table = tableOf (s .args .vars .now) (s .args .lows .now) (s .args .highs .now) (s .args .heads .now) (s .args .links .now) (s .args .count)
+  j-table = tableOf (s .args .vars .now) (s .args .lows .now) (s .args .highs .now) (s .args .heads .now) (s .args .links .now)
+      (s .args .count)
 
   abbrev j-memo : List ℕ
   j-memo = s .args .memo .now
@@ -161,10 +162,19 @@ module _ {t : ℕ} (m : join-lts.At-match-came (join-callees t) (join-at t) join
   kept₁ =
       ⊎-elim
       (λ w. side-same (outcome-same (w .3) (w .4) (w .5) (w .6) (w .7) (w .9)) (w .8)
-      (home-kept (j-ready js .low) _ (subst (Tells (j-memo js) (j-sides js .f0 .0) (j-sides js .g0 .0)) (w .1 .given .1) (memo-home-from-at-match-came m .memo-home .ensures))))
+      (home-kept (j-ready js .low) _ (subst (Tells (j-memo js) (j-sides js .f0 .0) (j-sides js .g0 .0)) (w .1 .given .1)
+      (memo-home-from-at-match-came m .memo-home .ensures))))
       (λ w. side-same (outcome-same (w .21) (w .22) (w .23) (w .24) (w .25) (w .27)) (w .26)
       (record {
-        left = record { is = w .8 .ensures .0; vars = w .8 .kept .0; lows = w .8 .kept .1 .0; highs = w .8 .kept .1 .1 .0; heads = w .8 .kept .1 .1 .1 .0; links = w .8 .kept .1 .1 .1 .1 .0 };
+        left = record {
+          is = w .8 .ensures .0;
+          vars = w .8 .kept .0;
+          lows = w .8 .kept .1 .0;
+          highs = w .8 .kept .1 .1 .0;
+          heads =
+              w .8 .kept .1 .1 .1 .0;
+          links = w .8 .kept .1 .1 .1 .1 .0;
+        };
         right = w .8 .ensures .1;
         cells = w .8 .kept .1 .1 .1 .1 .1 .0;
       }))
@@ -177,7 +187,8 @@ module _ {t : ℕ} (m : join-lts.At-match-came (join-callees t) (join-at t) join
   ready₁ = high-ready (j-op js) (j-memo js) (j-table js) (j-sides js) (j-ready js) out₁ (left₁ .is) (m .match .memo) (kept₁ .right)
 
   shared₁ : Shared (j-op js) (js .args .by .positive) (out₁ .table) (j-sides js .f1 .0) (j-sides js .g1 .0)
-  shared₁ = high-shared (j-op js) (j-memo js) (j-table js) (j-sides js) (j-ready js) out₁ (left₁ .is) (js .args .by .positive) (j-high-shared js)
+  shared₁ = high-shared (j-op js) (j-memo js) (j-table js) (j-sides js) (j-ready js) out₁ (left₁ .is) (js .args .by .positive)
+      (j-high-shared js)
 
   after₁ : j-sides js .x < top (out₁ .table .vars) (j-sides js .f1 .0) (j-sides js .g1 .0)
   after₁ = high-top (j-op js) (j-memo js) (j-table js) (j-sides js) (j-ready js) out₁ (left₁ .is)
@@ -190,14 +201,24 @@ module _ {t : ℕ} (n : join-lts.At-match2-came (join-callees t) (join-at t) joi
   abbrev out₂ : Outcome
   out₂ = outcomeOf (n .match2 .vars) (n .match2 .lows) (n .match2 .highs) (n .match2 .heads) (n .match2 .links) (n .match2 .q)
 
-  kept₂ : SideKept (j-op (js jm)) (jm .match .memo) (out₁ jm .table) (j-sides (js jm) .f1 .0) (j-sides (js jm) .g1 .0) out₂ (n .match2 .memo)
+  kept₂ : SideKept (j-op (js jm)) (jm .match .memo) (out₁ jm .table) (j-sides (js jm) .f1 .0) (j-sides (js jm) .g1 .0) out₂
+      (n .match2 .memo)
   kept₂ =
       ⊎-elim
       (λ w. side-same (outcome-same (w .3) (w .4) (w .5) (w .6) (w .7) (w .9)) (w .8)
-      (home-kept (ready₁ jm) _ (subst (Tells (jm .match .memo) (j-sides (js jm) .f1 .0) (j-sides (js jm) .g1 .0)) (w .1 .given .1) (memo-home2-from-at-match2-came n .memo-home2 .ensures))))
+      (home-kept (ready₁ jm) _ (subst (Tells (jm .match .memo) (j-sides (js jm) .f1 .0) (j-sides (js jm) .g1 .0)) (w .1 .given .1)
+      (memo-home2-from-at-match2-came n .memo-home2 .ensures))))
       (λ w. side-same (outcome-same (w .21) (w .22) (w .23) (w .24) (w .25) (w .27)) (w .26)
       (record {
-        left = record { is = w .8 .ensures .0; vars = w .8 .kept .0; lows = w .8 .kept .1 .0; highs = w .8 .kept .1 .1 .0; heads = w .8 .kept .1 .1 .1 .0; links = w .8 .kept .1 .1 .1 .1 .0 };
+        left = record {
+          is = w .8 .ensures .0;
+          vars = w .8 .kept .0;
+          lows = w .8 .kept .1 .0;
+          highs = w .8 .kept .1 .1 .0;
+          heads =
+              w .8 .kept .1 .1 .1 .0;
+          links = w .8 .kept .1 .1 .1 .1 .0;
+        };
         right = w .8 .ensures .1;
         cells = w .8 .kept .1 .1 .1 .1 .1 .0;
       }))
@@ -220,7 +241,10 @@ enum-told t c =
 
 work-out-requires : (t : ℕ) → join-lts.Need-work-out-requires (join-callees t) (join-at t) join.Post
 work-out-requires t c κs =
-    let s = start-from-work-out-call c in (omega (arith, j-measure s, j-ready s .low-after, j-ready s .most), (j-ready s .low, j-low-shared s))
+    let s = start-from-work-out-call c in (
+      omega (arith, j-measure s, j-ready s .low-after, j-ready s .most),
+      (j-ready s .low, j-low-shared s),
+    )
 
 same-length : (t : ℕ) → join-lts.Need-same-length (join-callees t) (join-at t) join.Post
 same-length t c =
@@ -298,35 +322,44 @@ returns-2 : (t : ℕ) → join-lts.Need-returns-2 (join-callees t) (join-at t) j
 returns-2 t c =
     let s = start-from-then2 c in
     let m = at-match-came-from-then2 c in
-    let n = at-match2-came-from-then2 c in
-    (high-done (j-op s) (j-memo s) (j-table s) (j-sides s) (j-ready s) (out₁ m) (left₁ m .is) (else1-from-then2 c .if1 .left) (out₂ n) (left₂ n .is) (c .if2 .taken), kept₂ n .right)
+    let n = at-match2-came-from-then2 c in (
+      high-done (j-op s) (j-memo s) (j-table s) (j-sides s) (j-ready s) (out₁ m) (left₁ m .is) (else1-from-then2 c .if1 .left) (out₂ n)
+          (left₂ n .is) (c .if2 .taken),
+      kept₂ n .right,
+    )
 
 put-requires : (t : ℕ) → join-lts.Need-put-requires (join-callees t) (join-at t) join.Post
 put-requires t c κs =
     let s = start-from-put-call c in
     let m = at-match-came-from-put-call c in
     let n = at-match2-came-from-put-call c in
-    high-good (j-op s) (j-memo s) (j-table s) (j-sides s) (j-ready s) (out₁ m) (left₁ m .is) (else1-from-put-call c .if1 .left) (out₂ n) (left₂ n .is)
+    high-good (j-op s) (j-memo s) (j-table s) (j-sides s) (j-ready s) (out₁ m) (left₁ m .is) (else1-from-put-call c .if1 .left) (out₂ n)
+    (left₂ n .is)
 
 same-length-13 : (t : ℕ) → join-lts.Need-same-length-13 (join-callees t) (join-at t) join.Post
 same-length-13 t c =
-    put-from-return-3 c .put .kept .0 ∙ kept₂ (at-match2-came-from-return-3 c) .left .vars ∙ kept₁ (at-match-came-from-return-3 c) .left .vars
+    put-from-return-3 c .put .kept .0 ∙ kept₂ (at-match2-came-from-return-3 c) .left .vars
+    ∙ kept₁ (at-match-came-from-return-3 c) .left .vars
 
 same-length-14 : (t : ℕ) → join-lts.Need-same-length-14 (join-callees t) (join-at t) join.Post
 same-length-14 t c =
-    put-from-return-3 c .put .kept .1 .0 ∙ kept₂ (at-match2-came-from-return-3 c) .left .lows ∙ kept₁ (at-match-came-from-return-3 c) .left .lows
+    put-from-return-3 c .put .kept .1 .0 ∙ kept₂ (at-match2-came-from-return-3 c) .left .lows
+    ∙ kept₁ (at-match-came-from-return-3 c) .left .lows
 
 same-length-15 : (t : ℕ) → join-lts.Need-same-length-15 (join-callees t) (join-at t) join.Post
 same-length-15 t c =
-    put-from-return-3 c .put .kept .1 .1 .0 ∙ kept₂ (at-match2-came-from-return-3 c) .left .highs ∙ kept₁ (at-match-came-from-return-3 c) .left .highs
+    put-from-return-3 c .put .kept .1 .1 .0 ∙ kept₂ (at-match2-came-from-return-3 c) .left .highs
+    ∙ kept₁ (at-match-came-from-return-3 c) .left .highs
 
 same-length-16 : (t : ℕ) → join-lts.Need-same-length-16 (join-callees t) (join-at t) join.Post
 same-length-16 t c =
-    put-from-return-3 c .put .kept .1 .1 .1 .0 ∙ kept₂ (at-match2-came-from-return-3 c) .left .heads ∙ kept₁ (at-match-came-from-return-3 c) .left .heads
+    put-from-return-3 c .put .kept .1 .1 .1 .0 ∙ kept₂ (at-match2-came-from-return-3 c) .left .heads
+    ∙ kept₁ (at-match-came-from-return-3 c) .left .heads
 
 same-length-17 : (t : ℕ) → join-lts.Need-same-length-17 (join-callees t) (join-at t) join.Post
 same-length-17 t c =
-    put-from-return-3 c .put .kept .1 .1 .1 .1 .0 ∙ kept₂ (at-match2-came-from-return-3 c) .left .links ∙ kept₁ (at-match-came-from-return-3 c) .left .links
+    put-from-return-3 c .put .kept .1 .1 .1 .1 .0 ∙ kept₂ (at-match2-came-from-return-3 c) .left .links
+    ∙ kept₁ (at-match-came-from-return-3 c) .left .links
 
 same-length-18 : (t : ℕ) → join-lts.Need-same-length-18 (join-callees t) (join-at t) join.Post
 same-length-18 t c =
@@ -339,8 +372,10 @@ returns-3 t c =
     let n = at-match2-came-from-return-3 c in
     let y = put-from-return-3 c .put in
     let placed = outcomeOf (y .last .0) (y .last .1 .0) (y .last .1 .1 .0) (y .last .1 .1 .1 .0) (y .last .1 .1 .1 .1 .0) (y .result) in (
-      both-done (j-op s) (j-memo s) (j-table s) (j-sides s) (j-ready s) (out₁ m) (left₁ m .is) (else1-from-return-3 c .if1 .left) (out₂ n) (left₂ n .is) (else2-from-return-3 c .if2 .left) placed (y .ensures),
-      memo-joined (j-op s) (j-memo s) (j-table s) (j-sides s) (j-ready s) (out₁ m) (left₁ m .is) (else1-from-return-3 c .if1 .left) (out₂ n) (left₂ n .is) (else2-from-return-3 c .if2 .left) placed (y .ensures) (n .match2 .memo) (kept₂ n .right),
+      both-done (j-op s) (j-memo s) (j-table s) (j-sides s) (j-ready s) (out₁ m) (left₁ m .is) (else1-from-return-3 c .if1 .left) (out₂ n)
+          (left₂ n .is) (else2-from-return-3 c .if2 .left) placed (y .ensures),
+      memo-joined (j-op s) (j-memo s) (j-table s) (j-sides s) (j-ready s) (out₁ m) (left₁ m .is) (else1-from-return-3 c .if1 .left) (out₂ n)
+          (left₂ n .is) (else2-from-return-3 c .if2 .left) placed (y .ensures) (n .match2 .memo) (kept₂ n .right),
     )
 
 pub join-met : {M : Type 1} (t : ℕ) → join-lts.Closed (join-callees t) (join-at t) join.Post M

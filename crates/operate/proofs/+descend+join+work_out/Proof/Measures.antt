@@ -51,10 +51,36 @@ abbrev join-below : ℕ → In 6 join-kinds.ps
 join-below t = and 6 join-kinds.ps (falls 6 join-kinds.ps _<_ μ-join t) join.Pre
 
 abbrev pub work-out-callees : ℕ → work-out-lts.Claims
-work-out-callees t = (operation-of-reads.Asked, operation-of-reads.Learnt, terminal-reads.Asked, terminal-reads.Learnt, top-of-reads.Asked, top-of-reads.Learnt, memo-find-reads.Asked, memo-find-reads.Learnt, is-beyond-reads.Asked, is-beyond-reads.Learnt, descend-below t, descend.Post, memo-put-reads.Asked, memo-put-reads.Learnt)
+work-out-callees t = (
+  operation-of-reads.Asked,
+  operation-of-reads.Learnt,
+  terminal-reads.Asked,
+  terminal-reads.Learnt,
+  top-of-reads.Asked,
+  top-of-reads.Learnt,
+  memo-find-reads.Asked,
+  memo-find-reads.Learnt,
+  is-beyond-reads.Asked,
+  is-beyond-reads.Learnt,
+  descend-below t,
+  descend.Post,
+  memo-put-reads.Asked,
+  memo-put-reads.Learnt,
+)
 
 abbrev pub descend-callees : ℕ → descend-lts.Claims
-descend-callees t = (sides-of-reads.Asked, sides-of-reads.Learnt, operation-of-reads.Asked, operation-of-reads.Learnt, descent-of-reads.Asked, descent-of-reads.Learnt, work-out-below t, work-out.Post, join-below t, join.Post)
+descend-callees t = (
+  sides-of-reads.Asked,
+  sides-of-reads.Learnt,
+  operation-of-reads.Asked,
+  operation-of-reads.Learnt,
+  descent-of-reads.Asked,
+  descent-of-reads.Learnt,
+  work-out-below t,
+  work-out.Post,
+  join-below t,
+  join.Post,
+)
 
 abbrev pub join-callees : ℕ → join-lts.Claims
 join-callees t = (memo-home-reads.Asked, memo-home-reads.Learnt, work-out-below t, work-out.Post, put-reads.Asked, put-reads.Learnt)

@@ -22,7 +22,8 @@ use Rattle.operate.proofs.+descend+join+work_out.Proof.Measures.{work-o
 -- where work-out starts
 module _ {t : ℕ} (s : work-out-lts.Start (work-out-callees t) (work-out-at t) work-out.Post) where
   abbrev a-table : Table
-  a-table = tableOf (s .args .vars .now) (s .args .lows .now) (s .args .highs .now) (s .args .heads .now) (s .args .links .now) (s .args .count)
+  a-table = tableOf (s .args .vars .now) (s .args .lows .now) (s .args .highs .now) (s .args .heads .now) (s .args .links .now)
+      (s .args .count)
 
   abbrev a-memo : List ℕ
   a-memo = s .args .memo .now
@@ -52,7 +53,8 @@ module _ {t : ℕ} (s : work-out-lts.Start (work-out-callees t) (work-out-at t) 
   a-variable = variable-fits a-table (a-ready .good) a-f a-g (a-ready .f-inside) (a-ready .g-inside)
 
   a-beyond : 2 ≤ a-f → beyond (s .args .kind) (s .args .by) (getD (a-table .vars) a-f 0) ≡ true → Right a-op a-table a-f a-g a-f
-  a-beyond two = beyond-right a-table (a-ready .good) a-f a-g (a-ready .f-inside) (a-ready .g-inside) two (s .args .kind) (s .args .by) (a-ready .allowed) a-shared
+  a-beyond two = beyond-right a-table (a-ready .good) a-f a-g (a-ready .f-inside) (a-ready .g-inside) two (s .args .kind) (s .args .by)
+      (a-ready .allowed) a-shared
 
 -- The ways back, written by ways.py: TO-from-FROM leads from the place FROM of the code to the place TO before it.
 module _ {t : ℕ} (c : work-out-lts.After-operation-of (work-out-callees t) (work-out-at t) work-out.Post) where
@@ -162,7 +164,8 @@ module _ {t : ℕ} (c : work-out-lts.After-slice-known13 (work-out-callees t) (w
 module _ {t : ℕ} (e : work-out-lts.After-terminal (work-out-callees t) (work-out-at t) work-out.Post) where
   told : let s = start-from-terminal e in terminalOf (a-op s) (a-f s) (a-g s) ≡ e .terminal .result
   told =
-      let s = start-from-terminal e in told-of (a-op s) _ (a-f s) (a-g s) _ (e .terminal .ensures) (operation-of-from-terminal e .operation-of .ensures)
+      let s = start-from-terminal e in told-of (a-op s) _ (a-f s) (a-g s) _ (e .terminal .ensures)
+      (operation-of-from-terminal e .operation-of .ensures)
 
 -- where they tell nothing
 module _ {t : ℕ} (e : work-out-lts.After-enum-told (work-out-callees t) (work-out-at t) work-out.Post) where
@@ -175,7 +178,8 @@ module _ {t : ℕ} (a : work-out-lts.After-descend (work-out-callees t) (work-ou
   a-start = start-from-descend a
 
   abbrev a-out : Outcome
-  a-out = outcomeOf (a .descend .last .0) (a .descend .last .1 .0) (a .descend .last .1 .1 .0) (a .descend .last .1 .1 .1 .0) (a .descend .last .1 .1 .1 .1 .0) (a .descend .result)
+  a-out = outcomeOf (a .descend .last .0) (a .descend .last .1 .0) (a .descend .last .1 .1 .0) (a .descend .last .1 .1 .1 .0)
+      (a .descend .last .1 .1 .1 .1 .0) (a .descend .result)
 
   abbrev a-memo₁ : List ℕ
   a-memo₁ = a .descend .last .1 .1 .1 .1 .1 .0
@@ -233,8 +237,11 @@ same-length-2 t c =
 returns : (t : ℕ) → work-out-lts.Need-returns (work-out-callees t) (work-out-at t) work-out.Post
 returns t c =
     let s = start-from-then1 c in
-    let beyond = sym (is-beyond-from-then1 c .is-beyond .ensures) ∙ c .if1 .taken in
-    (known-outcome (a-op s) (a-memo s) (a-table s) (a-f s) (a-g s) (a-ready s) (a-f s) (a-beyond s (a-two s (nothing (enum-told-from-then1 c))) beyond), a-ready s .right)
+    let beyond = sym (is-beyond-from-then1 c .is-beyond .ensures) ∙ c .if1 .taken in (
+      known-outcome (a-op s) (a-memo s) (a-table s) (a-f s) (a-g s) (a-ready s) (a-f s)
+          (a-beyond s (a-two s (nothing (enum-told-from-then1 c))) beyond),
+      a-ready s .right,
+    )
 
 descend-requires : (t : ℕ) → work-out-lts.Need-descend-requires (work-out-callees t) (work-out-at t) work-out.Post
 descend-requires t c κs =
@@ -276,8 +283,11 @@ memo-put-requires t c κs =
 
 returns-3 : (t : ℕ) → work-out-lts.Need-returns-3 (work-out-callees t) (work-out-at t) work-out.Post
 returns-3 t c =
-    let s = start-from-return-3 c in
-    (known-outcome (a-op s) (a-memo s) (a-table s) (a-f s) (a-g s) (a-ready s) _ (a-terminal s _ (told (terminal-from-return-3 c) ∙ c .before .r .given .1)), a-ready s .right)
+    let s = start-from-return-3 c in (
+      known-outcome (a-op s) (a-memo s) (a-table s) (a-f s) (a-g s) (a-ready s) _
+          (a-terminal s _ (told (terminal-from-return-3 c) ∙ c .before .r .given .1)),
+      a-ready s .right,
+    )
 
 same-length-9 : (t : ℕ) → work-out-lts.Need-same-length-9 (work-out-callees t) (work-out-at t) work-out.Post
 same-length-9 t c =

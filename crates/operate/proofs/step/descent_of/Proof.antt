@@ -43,7 +43,13 @@ in-word-requires-2 c κs =
 returns-4 : tie.Need-returns-4
 unfolding descentOf
 returns-4 c =
-    rw (c .before .before .before .before .before .op .given .1, ← c .before .before .before .in-word .ensures, c .before .before .if3 .left, ← c .before .in-word2 .ensures, c .if4 .taken)
+    rw (
+      c .before .before .before .before .before .op .given .1,
+      ← c .before .before .before .in-word .ensures,
+      c .before .before .if3 .left,
+      ← c .before .in-word2 .ensures,
+      c .if4 .taken,
+    )
 
 returns-5 : tie.Need-returns-5
 unfolding descentOf
@@ -63,7 +69,13 @@ returns-7 c =
 returns-8 : tie.Need-returns-8
 unfolding descentOf
 returns-8 c =
-    rw (c .before .before .before .before .before .op .given .1, ← c .before .before .before .in-word .ensures, c .before .before .if3 .left, ← c .before .in-word2 .ensures, c .if4 .left)
+    rw (
+      c .before .before .before .before .before .op .given .1,
+      ← c .before .before .before .in-word .ensures,
+      c .before .before .if3 .left,
+      ← c .before .in-word2 .ensures,
+      c .if4 .left,
+    )
 
 pub descent-of-spec : {M : Type 1} → statement M
 descent-of-spec =

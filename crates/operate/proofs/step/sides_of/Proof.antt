@@ -22,7 +22,13 @@ child-or-requires-4 c κs = search needs
 returns : tie.Need-returns
 unfolding sidesOf
 returns c =
-    rw (c .before .before .before .child-or .ensures, c .before .before .child-or2 .ensures, c .before .child-or3 .ensures, c .child-or4 .ensures, c .before .before .before .before .top-of .ensures)
+    rw (
+      c .before .before .before .child-or .ensures,
+      c .before .before .child-or2 .ensures,
+      c .before .child-or3 .ensures,
+      c .child-or4 .ensures,
+      c .before .before .before .before .top-of .ensures,
+    )
 
 pub sides-of-spec : {M : Type 1} → statement M
 sides-of-spec =

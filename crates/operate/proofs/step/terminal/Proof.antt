@@ -31,12 +31,18 @@ enum-told-3 c = search needs
 returns-3 : tie.Need-returns-3
 unfolding terminalOf
 returns-3 c =
-    ⊎-elim (λ w. rw (c .before .before .enum-told3 .given .1, lt-ltb _ _ (w .taken))) (λ w. rw (c .before .before .enum-told3 .given .1, le-ltb _ _ (w .0 .left), w .2 .taken)) (c .if3 .came)
+    ⊎-elim (λ w. rw (c .before .before .enum-told3 .given .1, lt-ltb _ _ (w .taken)))
+    (λ w. rw (c .before .before .enum-told3 .given .1, le-ltb _ _ (w .0 .left), w .2 .taken)) (c .if3 .came)
 
 returns-4 : tie.Need-returns-4
 unfolding terminalOf
 returns-4 c =
-    rw (c .before .before .before .before .before .before .before .enum-told3 .given .1, le-ltb _ _ (c .before .before .before .before .before .if3 .left), c .before .before .before .if4 .left, eq-eqb _ _ (c .if5 .taken))
+    rw (
+      c .before .before .before .before .before .before .before .enum-told3 .given .1,
+      le-ltb _ _ (c .before .before .before .before .before .if3 .left),
+      c .before .before .before .if4 .left,
+      eq-eqb _ _ (c .if5 .taken),
+    )
 
 enum-told-4 : tie.Need-enum-told-4
 enum-told-4 c = search needs
@@ -59,7 +65,12 @@ returns-7 c =
 returns-8 : tie.Need-returns-8
 unfolding terminalOf
 returns-8 c =
-    rw (c .before .before .before .before .before .before .before .enum-told3 .given .1, le-ltb _ _ (c .before .before .before .before .before .if3 .left), c .before .before .before .if4 .left, ne-eqb _ _ (c .if5 .left))
+    rw (
+      c .before .before .before .before .before .before .before .enum-told3 .given .1,
+      le-ltb _ _ (c .before .before .before .before .before .if3 .left),
+      c .before .before .before .if4 .left,
+      ne-eqb _ _ (c .if5 .left),
+    )
 
 returns-9 : tie.Need-returns-9
 unfolding terminalOf

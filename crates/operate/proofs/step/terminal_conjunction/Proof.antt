@@ -19,14 +19,31 @@ returns-3 : tie.Need-returns-3
 unfolding terminalOf
 returns-3 c =
     ⊎-elim
-    (λ w. rw (ne-eqb _ _ (c .before .before .before .before .before .before .if1 .left), c .before .before .before .before .if2 .left, ne-eqb _ _ (c .before .before .if3 .left), eq-eqb _ _ (w .taken)))
-    (λ w. rw (ne-eqb _ _ (c .before .before .before .before .before .before .if1 .left), c .before .before .before .before .if2 .left, ne-eqb _ _ (c .before .before .if3 .left), ne-eqb _ _ (w .0 .left), w .3 .taken))
+    (λ w. rw (
+      ne-eqb _ _ (c .before .before .before .before .before .before .if1 .left),
+      c .before .before .before .before .if2 .left,
+      ne-eqb _ _ (c .before .before .if3 .left),
+      eq-eqb _ _ (w .taken),
+    ))
+    (λ w. rw (
+      ne-eqb _ _ (c .before .before .before .before .before .before .if1 .left),
+      c .before .before .before .before .if2 .left,
+      ne-eqb _ _ (c .before .before .if3 .left),
+      ne-eqb _ _ (w .0 .left),
+      w .3 .taken,
+    ))
     (c .if4 .came)
 
 returns-4 : tie.Need-returns-4
 unfolding terminalOf
 returns-4 c =
-    rw (ne-eqb _ _ (c .before .before .before .before .before .before .before .before .before .if1 .left), c .before .before .before .before .before .before .before .if2 .left, ne-eqb _ _ (c .before .before .before .before .before .if3 .left), ne-eqb _ _ (c .before .before .before .if4 .left), c .if5 .left)
+    rw (
+      ne-eqb _ _ (c .before .before .before .before .before .before .before .before .before .if1 .left),
+      c .before .before .before .before .before .before .before .if2 .left,
+      ne-eqb _ _ (c .before .before .before .before .before .if3 .left),
+      ne-eqb _ _ (c .before .before .before .if4 .left),
+      c .if5 .left,
+    )
 
 pub terminal-conjunction-spec : {M : Type 1} → statement M
 terminal-conjunction-spec = tie.close (tie.spec returns returns-2 returns-3 returns-4)

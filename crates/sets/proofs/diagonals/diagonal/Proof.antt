@@ -5,7 +5,8 @@ use lib.ListN.{length}
 use native.Mathlib.Omega.{arith}
 use Rattle.meaning.proofs.Booleans.{t≢f}
 use Rattle.table.specs.Indexed.{tableOf}
-use Rattle.sets.proofs.Rows.{Along, along-start, along-good, along-end, along-next, next-row, variable-least, variable-most, row-full, few}
+use Rattle.sets.proofs.Rows.{Along, along-start, along-good, along-end, along-next, next-row, variable-least, variable-most}
+use Rattle.sets.proofs.Rows.{row-full, few}
 use borrow.Author.Needs.{needs}
 use Rattle.sets.proofs.diagonals.diagonal.Statement.{statement}
 use Rattle.sets.proofs.diagonals.diagonal.Tie as tie

@@ -80,8 +80,10 @@ module _ (c : tie.After-slice-known20) where
   judged-65536-from-return-4 = c .before .before .before .before .before .before .before .before .before .before
 
 judged-64-requires : tie.Need-judged-64-requires
-judged-64-requires c κs =
-    (sym (size-fits-from-judged-64-call c .size-fits .ensures) ∙ not-false _ (else1-from-judged-64-call c .if1 .left), start-from-judged-64-call c .pre)
+judged-64-requires c κs = (
+  sym (size-fits-from-judged-64-call c .size-fits .ensures) ∙ not-false _ (else1-from-judged-64-call c .if1 .left),
+  start-from-judged-64-call c .pre,
+)
 
 same-length-6 : tie.Need-same-length-6
 same-length-6 c =
@@ -108,8 +110,10 @@ returns-2 c =
     judged-64-from-return-2 c .judged-64 .ensures
 
 judged-4096-requires : tie.Need-judged-4096-requires
-judged-4096-requires c κs =
-    (sym (size-fits-from-judged-4096-call c .size-fits .ensures) ∙ not-false _ (else1-from-judged-4096-call c .if1 .left), start-from-judged-4096-call c .pre)
+judged-4096-requires c κs = (
+  sym (size-fits-from-judged-4096-call c .size-fits .ensures) ∙ not-false _ (else1-from-judged-4096-call c .if1 .left),
+  start-from-judged-4096-call c .pre,
+)
 
 same-length-11 : tie.Need-same-length-11
 same-length-11 c =
@@ -136,8 +140,10 @@ returns-3 c =
     judged-4096-from-return-3 c .judged-4096 .ensures
 
 judged-65536-requires : tie.Need-judged-65536-requires
-judged-65536-requires c κs =
-    (sym (size-fits-from-judged-65536-call c .size-fits .ensures) ∙ not-false _ (else1-from-judged-65536-call c .if1 .left), start-from-judged-65536-call c .pre)
+judged-65536-requires c κs = (
+  sym (size-fits-from-judged-65536-call c .size-fits .ensures) ∙ not-false _ (else1-from-judged-65536-call c .if1 .left),
+  start-from-judged-65536-call c .pre,
+)
 
 same-length-16 : tie.Need-same-length-16
 same-length-16 c =
@@ -164,4 +170,7 @@ returns-4 c =
     judged-65536-from-return-4 c .judged-65536 .ensures
 
 pub call-spec : {M : Type 1} → statement M
-call-spec = tie.close (tie.spec size-fits-requires same-length same-length-2 same-length-3 same-length-4 same-length-5 returns judged-64-requires same-length-6 same-length-7 same-length-8 same-length-9 same-length-10 returns-2 judged-4096-requires same-length-11 same-length-12 same-length-13 same-length-14 same-length-15 returns-3 judged-65536-requires same-length-16 same-length-17 same-length-18 same-length-19 same-length-20 returns-4)
+call-spec = tie.close (tie.spec size-fits-requires same-length same-length-2 same-length-3 same-length-4 same-length-5 returns
+    judged-64-requires same-length-6 same-length-7 same-length-8 same-length-9 same-length-10 returns-2 judged-4096-requires same-length-11
+    same-length-12 same-length-13 same-length-14 same-length-15 returns-3 judged-65536-requires same-length-16 same-length-17 same-length-18
+    same-length-19 same-length-20 returns-4)

@@ -168,7 +168,8 @@ same-length-10 c =
 
 returns-2 : tie.Need-returns-2
 returns-2 c =
-    called-13-first _ _ _ _ _ (start-from-then2 c .pre .0) (sym (order-fits-from-then2 c .order-fits .ensures) ∙ not-false _ (c .before .before .if1 .left)) (c .if2 .taken)
+    called-13-first _ _ _ _ _ (start-from-then2 c .pre .0)
+    (sym (order-fits-from-then2 c .order-fits .ensures) ∙ not-false _ (c .before .before .if1 .left)) (c .if2 .taken)
 
 cast-if3 : tie.Need-cast-if3
 cast-if3 c =
@@ -196,7 +197,9 @@ same-length-15 c =
 
 returns-3 : tie.Need-returns-3
 returns-3 c =
-    called-13-second _ _ _ _ _ (start-from-then3 c .pre .0) (sym (order-fits-from-then3 c .order-fits .ensures) ∙ not-false _ (else1-from-then3 c .if1 .left)) (c .before .before .if2 .left) (c .if3 .taken)
+    called-13-second _ _ _ _ _ (start-from-then3 c .pre .0)
+    (sym (order-fits-from-then3 c .order-fits .ensures) ∙ not-false _ (else1-from-then3 c .if1 .left)) (c .before .before .if2 .left)
+    (c .if3 .taken)
 
 operand-refusal-requires : tie.Need-operand-refusal-requires
 operand-refusal-requires c κs =
@@ -224,15 +227,19 @@ same-length-20 c =
 
 returns-4 : tie.Need-returns-4
 returns-4 c =
-    called-second _ _ _ _ _ (start-from-then4 c .pre .0) (sym (order-fits-from-then4 c .order-fits .ensures) ∙ not-false _ (else1-from-then4 c .if1 .left)) (else2-from-then4 c .if2 .left) (c .before .before .if3 .left) _ (c .before .operand-refusal .ensures) (c .if4 .taken)
+    called-second _ _ _ _ _ (start-from-then4 c .pre .0)
+    (sym (order-fits-from-then4 c .order-fits .ensures) ∙ not-false _ (else1-from-then4 c .if1 .left)) (else2-from-then4 c .if2 .left)
+    (c .before .before .if3 .left) _ (c .before .operand-refusal .ensures) (c .if4 .taken)
 
 made-requires : tie.Need-made-requires
 made-requires c κs =
     record {
-      good = lent-good _ _ _ _ _ _ (start-from-made-call c .pre .0) (sym (order-fits-from-made-call c .order-fits .ensures) ∙ not-false _ (else1-from-made-call c .if1 .left));
+      good = lent-good _ _ _ _ _ _ (start-from-made-call c .pre .0)
+          (sym (order-fits-from-made-call c .order-fits .ensures) ∙ not-false _ (else1-from-made-call c .if1 .left));
       f-inside = else2-from-made-call c .if2 .left;
       g-inside = else3-from-made-call c .if3 .left;
-      allowed = allowed-by _ _ (start-from-made-call c .pre .3) (sym (operand-refusal-from-made-call c .operand-refusal .ensures) ∙ else4-from-made-call c .if4 .left);
+      allowed = allowed-by _ _ (start-from-made-call c .pre .3)
+          (sym (operand-refusal-from-made-call c .operand-refusal .ensures) ∙ else4-from-made-call c .if4 .left);
       right = memo-fresh _ (start-from-made-call c .pre .2) (start-from-made-call c .pre .1) _ _;
     }
 
@@ -262,7 +269,14 @@ same-length-26 c =
 
 returns-5 : tie.Need-returns-5
 returns-5 c =
-    made-from-return-5 c .made .ensures ∙ called-made _ _ _ _ _ (start-from-return-5 c .pre .0) (sym (order-fits-from-return-5 c .order-fits .ensures) ∙ not-false _ (else1-from-return-5 c .if1 .left)) (else2-from-return-5 c .if2 .left) (else3-from-return-5 c .if3 .left) (sym (operand-refusal-from-return-5 c .operand-refusal .ensures) ∙ else4-from-return-5 c .if4 .left)
+    made-from-return-5 c .made .ensures ∙ called-made _ _ _ _ _ (start-from-return-5 c .pre .0)
+    (sym (order-fits-from-return-5 c .order-fits .ensures) ∙ not-false _ (else1-from-return-5 c .if1 .left))
+    (else2-from-return-5 c .if2 .left) (else3-from-return-5 c .if3 .left)
+    (sym (operand-refusal-from-return-5 c .operand-refusal .ensures) ∙ else4-from-return-5 c .if4 .left)
 
 pub judged-spec : {M : Type 1} → statement M
-judged-spec = tie.close (tie.spec order-fits-requires same-length same-length-2 same-length-3 same-length-4 same-length-5 returns cast-if2 same-length-6 same-length-7 same-length-8 same-length-9 same-length-10 returns-2 cast-if3 same-length-11 same-length-12 same-length-13 same-length-14 same-length-15 returns-3 operand-refusal-requires same-length-16 same-length-17 same-length-18 same-length-19 same-length-20 returns-4 made-requires same-length-21 same-length-22 same-length-23 same-length-24 same-length-25 same-length-26 returns-5)
+judged-spec = tie.close (tie.spec order-fits-requires same-length same-length-2 same-length-3 same-length-4 same-length-5 returns cast-if2
+    same-length-6 same-length-7 same-length-8 same-length-9 same-length-10 returns-2 cast-if3 same-length-11 same-length-12 same-length-13
+    same-length-14 same-length-15 returns-3 operand-refusal-requires same-length-16 same-length-17 same-length-18 same-length-19
+    same-length-20 returns-4 made-requires same-length-21 same-length-22 same-length-23 same-length-24 same-length-25 same-length-26
+    returns-5)

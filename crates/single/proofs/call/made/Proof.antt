@@ -16,11 +16,13 @@ callees = (apply-reads.Asked, apply-reads.Learnt, drop-to-reads.Asked, drop-to-r
 -- The table lent, and what `apply` leaves.
 module _ (s : lts.Start callees reads.Pre reads.Post) where
   abbrev t-of : Table
-  t-of = tableOf (s .args .vars .now) (s .args .lows .now) (s .args .highs .now) (s .args .heads .now) (s .args .links .now) (s .args .count)
+  t-of = tableOf (s .args .vars .now) (s .args .lows .now) (s .args .highs .now) (s .args .heads .now) (s .args .links .now)
+      (s .args .count)
 
 module _ (a : lts.After-apply callees reads.Pre reads.Post) where
   abbrev o-of : Outcome
-  o-of = outcomeOf (a .apply .last .0) (a .apply .last .1 .0) (a .apply .last .1 .1 .0) (a .apply .last .1 .1 .1 .0) (a .apply .last .1 .1 .1 .1 .0) (a .apply .result)
+  o-of = outcomeOf (a .apply .last .0) (a .apply .last .1 .0) (a .apply .last .1 .1 .0) (a .apply .last .1 .1 .1 .0)
+      (a .apply .last .1 .1 .1 .1 .0) (a .apply .result)
 
 -- The ways back, written by ways.py: TO-from-FROM leads from the place FROM of the code to the place TO before it.
 module _ (c : tie.After-apply-arg6) where
@@ -71,7 +73,8 @@ apply-requires c κs =
 
 drop-to-requires : tie.Need-drop-to-requires
 drop-to-requires c κs =
-    let W = applied-grown _ _ _ _ _ (start-from-drop-to-call c .pre) (o-of (apply-from-drop-to-call c)) (apply-from-drop-to-call c .apply .ensures .0) in (W .good, start-from-drop-to-call c .pre .good .least, W .more)
+    let W = applied-grown _ _ _ _ _ (start-from-drop-to-call c .pre) (o-of (apply-from-drop-to-call c))
+    (apply-from-drop-to-call c .apply .ensures .0) in (W .good, start-from-drop-to-call c .pre .good .least, W .more)
 
 same-length : tie.Need-same-length
 same-length c =
@@ -102,7 +105,9 @@ returns c =
     let s = start-from-return c in
     let a = apply-from-return c in
     let L = applied-longer _ _ _ _ _ (s .pre) (o-of a) (a .apply .ensures .0) in
-    dropped-is (t-of s) (o-of a .table) (tableOf (drop-to-from-return c .drop-to .last .0) (drop-to-from-return c .drop-to .last .1 .0) (drop-to-from-return c .drop-to .last .1 .1 .0) (drop-to-from-return c .drop-to .last .1 .1 .1 .0) (drop-to-from-return c .drop-to .last .1 .1 .1 .1 .0) (s .args .count)) (s .pre .good) L (drop-to-from-return c .drop-to .ensures)
+    dropped-is (t-of s) (o-of a .table) (tableOf (drop-to-from-return c .drop-to .last .0) (drop-to-from-return c .drop-to .last .1 .0)
+    (drop-to-from-return c .drop-to .last .1 .1 .0) (drop-to-from-return c .drop-to .last .1 .1 .1 .0)
+    (drop-to-from-return c .drop-to .last .1 .1 .1 .1 .0) (s .args .count)) (s .pre .good) L (drop-to-from-return c .drop-to .ensures)
     ∙ full-is (listsOf (t-of s)) (s .args .count) (o-of a) _ (a .apply .ensures .0) (then1-from-return c .if1 .taken)
 
 same-length-7 : tie.Need-same-length-7
@@ -133,7 +138,9 @@ returns-2 : tie.Need-returns-2
 returns-2 c =
     let s = start-from-return-2 c in
     let a = apply-from-return-2 c in
-    done-is (listsOf (t-of s)) (s .args .count) (o-of a) _ (a .apply .ensures .0) (applied-longer _ _ _ _ _ (s .pre) (o-of a) (a .apply .ensures .0)) (c .before .if1 .left)
+    done-is (listsOf (t-of s)) (s .args .count) (o-of a) _ (a .apply .ensures .0)
+    (applied-longer _ _ _ _ _ (s .pre) (o-of a) (a .apply .ensures .0)) (c .before .if1 .left)
 
 pub made-spec : {M : Type 1} → statement M
-made-spec = tie.close (tie.spec apply-requires drop-to-requires same-length same-length-2 same-length-3 same-length-4 same-length-5 same-length-6 returns same-length-7 same-length-8 same-length-9 same-length-10 same-length-11 same-length-12 returns-2)
+made-spec = tie.close (tie.spec apply-requires drop-to-requires same-length same-length-2 same-length-3 same-length-4 same-length-5
+    same-length-6 returns same-length-7 same-length-8 same-length-9 same-length-10 same-length-11 same-length-12 returns-2)

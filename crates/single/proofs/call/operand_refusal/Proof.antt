@@ -51,4 +51,5 @@ returns-6 c =
     literals-none _ _ _ _ (c .before .before .before .op .given .1) (sym (shares-is _ _) ∙ sym (c .before .shared .ensures) ∙ c .if2 .left)
 
 pub operand-refusal-spec : {M : Type 1} → statement M
-operand-refusal-spec = tie.close (tie.spec enum-told enum-told-2 enum-told-3 returns enum-known-op shared-requires returns-2 returns-3 returns-4 returns-5 returns-6)
+operand-refusal-spec = tie.close (tie.spec enum-told enum-told-2 enum-told-3 returns enum-known-op shared-requires returns-2 returns-3
+    returns-4 returns-5 returns-6)

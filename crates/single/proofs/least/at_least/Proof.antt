@@ -120,7 +120,8 @@ returns : tie.Need-returns
 returns c =
     let s = start-from-return c in
     ap (countedOf (lists s)) (c .refused .ensures)
-    ∙ least-7 (lists s) (s .args .count) (s .args .set) (s .args .k) (sym (size-fits-from-return c .size-fits .ensures) ∙ not-true _ (then1-from-return c .if1 .taken))
+    ∙ least-7 (lists s) (s .args .count) (s .args .set) (s .args .k)
+    (sym (size-fits-from-return c .size-fits .ensures) ∙ not-true _ (then1-from-return c .if1 .taken))
 
 order-fits-requires : tie.Need-order-fits-requires
 order-fits-requires c κs = fit (else1-from-order-fits-call c)
@@ -171,7 +172,8 @@ same-length-15 c = search needs
 returns-3 : tie.Need-returns-3
 returns-3 c =
     let s = start-from-return-3 c in
-    made-from-return-3 c .made .ensures ∙ least-made (lists s) (s .args .count) (s .args .set) (s .args .k) (fit (else1-from-return-3 c)) (good (else2-from-return-3 c))
+    made-from-return-3 c .made .ensures ∙ least-made (lists s) (s .args .count) (s .args .set) (s .args .k) (fit (else1-from-return-3 c))
+    (good (else2-from-return-3 c))
 
 pub at-least-spec : {M : Type 1} → statement M
 at-least-spec =

@@ -11,7 +11,8 @@ use Rattle.single.proofs.least.made.Tie as tie
 
 module _ (s : tie.Start) where
   abbrev before : Table
-  before = tableOf (s .args .vars .now) (s .args .lows .now) (s .args .highs .now) (s .args .heads .now) (s .args .links .now) (s .args .count)
+  before = tableOf (s .args .vars .now) (s .args .lows .now) (s .args .highs .now) (s .args .heads .now) (s .args .links .now)
+      (s .args .count)
 
 -- The ways back, written by ways.py: TO-from-FROM leads from the place FROM of the code to the place TO before it.
 module _ (c : tie.After-at-least) where
@@ -108,7 +109,8 @@ returns c =
     let a = at-least-from-return c in
     let d = drop-to-from-return c in
     least-23 (before s) (outcome a .table) (dropped d) (s .pre) (further a) (d .drop-to .ensures) (s .args .set) (s .args .k) _
-    (full-is (listsOf (before s)) (s .args .count) (outcome a) _ (a .at-least .ensures) (then1-from-return c .if1 .taken)) _ (c .refused .ensures)
+    (full-is (listsOf (before s)) (s .args .count) (outcome a) _ (a .at-least .ensures) (then1-from-return c .if1 .taken)) _
+    (c .refused .ensures)
 
 excluded-by-requires : tie.Need-excluded-by-requires
 excluded-by-requires c κs = search needs
@@ -133,7 +135,8 @@ returns-2 c =
     let s = start-from-return-2 c in
     let a = at-least-from-return-2 c in
     least-done (s .args .set) (s .args .k) _ _ _ _
-    (done-is (listsOf (before s)) (s .args .count) (outcome a) _ (a .at-least .ensures) (further a) (else1-from-return-2 c .if1 .left)) _ (c .excluded-by .ensures)
+    (done-is (listsOf (before s)) (s .args .count) (outcome a) _ (a .at-least .ensures) (further a) (else1-from-return-2 c .if1 .left)) _
+    (c .excluded-by .ensures)
 
 pub made-spec : {M : Type 1} → statement M
 made-spec =

@@ -44,12 +44,14 @@ module _ (c : tie.After-with-line) where
   start-from-return-3 = start-from-greater greater-from-return-3
 
 returns : tie.Need-returns
-returns c = let s = start-from-then1 c .args in ended-23 (s .members .now) (s .st) (s .j) (s .g .0) _ (greater-from-then1 c .greater .ensures) (c .if1 .taken)
+returns c = let s = start-from-then1 c .args in ended-23 (s .members .now) (s .st) (s .j) (s .g .0) _
+    (greater-from-then1 c .greater .ensures) (c .if1 .taken)
 
 returns-2 : tie.Need-returns-2
 returns-2 c =
     let s = start-from-then2 c .args in
-    ended-19 (s .members .now) (s .st) (s .j) (s .g .0) _ (greater-from-then2 c .greater .ensures) (else1-from-then2 c .if1 .left) (not-true _ (c .if2 .taken))
+    ended-19 (s .members .now) (s .st) (s .j) (s .g .0) _ (greater-from-then2 c .greater .ensures) (else1-from-then2 c .if1 .left)
+    (not-true _ (c .if2 .taken))
 
 mul-members : tie.Need-mul-members
 mul-members c = search needs
@@ -66,7 +68,8 @@ same-length c = search needs
 returns-3 : tie.Need-returns-3
 returns-3 c =
     let s = start-from-return-3 c .args in
-    ended-next (s .members .now) (s .st) (s .j) (s .g .0) _ (greater-from-return-3 c .greater .ensures) (else1-from-return-3 c .if1 .left) (not-false _ (else2-from-return-3 c .if2 .left)) (c .with-line .result)
+    ended-next (s .members .now) (s .st) (s .j) (s .g .0) _ (greater-from-return-3 c .greater .ensures) (else1-from-return-3 c .if1 .left)
+    (not-false _ (else2-from-return-3 c .if2 .left)) (c .with-line .result)
     (c .with-line .ensures)
 
 pub ended-spec : {M : Type 1} → statement M

@@ -1,4 +1,5 @@
 -- `judge_line` judges by the line's rule, over the members in use. Assumes nothing.
+use Rattle.paths.specs.Rounds.{mostRounds}
 use Rattle.steps.specs.Tests.{FewPaths}
 use mathlib.Core.Path.{_≡_, sym, subst}
 use Prim.Native.Nat.{ℕ}
@@ -19,14 +20,16 @@ use Rattle.steps.proofs.line.judge_line.Tie as tie
 
 module _ (s : tie.Start) where
   abbrev before : Table
-  before = tableOf (s .args .vars .now) (s .args .lows .now) (s .args .highs .now) (s .args .heads .now) (s .args .links .now) (s .args .st .count)
+  before = tableOf (s .args .vars .now) (s .args .lows .now) (s .args .highs .now) (s .args .heads .now) (s .args .links .now)
+      (s .args .st .count)
 
   -- how many members there are
   abbrev m : ℕ
   m = length (s .args .live .now)
 
   abbrev said : Rule → Line
-  said rule = lineBy 64 rule (s .args .st .witness .positive) (s .args .st .witness .negative) (diagramsOf (nodesOf before) (s .args .live .now)) (diagramAt (nodesOf before) (s .args .g .0))
+  said rule = lineBy 64 rule (s .args .st .witness .positive) (s .args .st .witness .negative)
+      (diagramsOf (nodesOf before) (s .args .live .now)) (diagramAt (nodesOf before) (s .args .g .0))
 
   scratch-length : length (take m (s .args .scratch .now)) ≡ m
   scratch-length = length-take-le m (s .args .scratch .now) (omega (arith, s .pre .2, s .pre .3))
@@ -237,7 +240,10 @@ slice-aggregate-pr-5 c =
 
 pr-requires : tie.Need-pr-requires
 pr-requires c κs =
-    let s = start-from-pr-call c in ((s .pre .0, s .pre .1, scratch-length s, own-length s, s .pre .2), (own-length s, own-length s, own-length s))
+    let s = start-from-pr-call c in (
+      (s .pre .0, s .pre .1, scratch-length s, own-length s, s .pre .2),
+      (own-length s, own-length s, own-length s),
+    )
 
 enum-told-3 : tie.Need-enum-told-3
 enum-told-3 c =
@@ -269,8 +275,17 @@ slice-aggregate-path-3 c =
 
 path-requires : tie.Need-path-requires
 path-requires c κs =
-    let s = start-from-path-call c in
-    ((s .pre .0, s .pre .1, scratch-length s, s .pre .2, subst (λ (x : Rule). FewPaths x (diagramAt (nodesOf (before s)) (s .args .g .0))) (enum-told3-from-path-call c .enum-told3 .given .1) (s .pre .4)), (own-length s, own-length s))
+    let s = start-from-path-call c in (
+      (
+        s .pre .0,
+        s .pre .1,
+        scratch-length s,
+        s .pre .2,
+        subst (λ (x : Rule). FewPaths x (diagramAt (nodesOf (before s)) (s .args .g .0)))
+            (enum-told3-from-path-call c .enum-told3 .given .1) (s .pre .4),
+      ),
+      (own-length s, own-length s),
+    )
 
 same-length : tie.Need-same-length
 same-length c =
@@ -302,14 +317,17 @@ same-length-7 c =
 
 same-length-8 : tie.Need-same-length-8
 same-length-8 c =
-    length-front (start-from-return c .args .scratch .now) (rup-from-return c .rup .last .1 .1 .1 .1 .1 .1 .1 .1 .1 .0) (m (start-from-return c)) (rup-from-return c .rup .kept .1 .1 .1 .1 .1 .1 .1 .1 .1 .0)
+    length-front (start-from-return c .args .scratch .now) (rup-from-return c .rup .last .1 .1 .1 .1 .1 .1 .1 .1 .1 .0)
+    (m (start-from-return c)) (rup-from-return c .rup .kept .1 .1 .1 .1 .1 .1 .1 .1 .1 .0)
 
 returns : tie.Need-returns
 returns c =
     let s = start-from-return c in
     let r = rup-from-return c .rup in (
-      subst (λ (x : Rule). LineSays (before s) (said s x) 262144 (r .result) (tableOf (r .last .0) (r .last .1 .0) (r .last .1 .1 .0) (r .last .1 .1 .1 .0) (r .last .1 .1 .1 .1 .0) (r .result .count))) (sym (enum-told-from-return c .enum-told .given .1))
-          (says-most (before s) _ _ 262144 (r .result) _ (omega arith) (r .ensures .0)),
+      subst (λ (x : Rule). LineSays (before s) (said s x) mostRounds (r .result)
+          (tableOf (r .last .0) (r .last .1 .0) (r .last .1 .1 .0) (r .last .1 .1 .1 .0) (r .last .1 .1 .1 .1 .0) (r .result .count)))
+          (sym (enum-told-from-return c .enum-told .given .1))
+          (says-most (before s) _ _ mostRounds (r .result) _ (omega arith) (r .ensures .0)),
       r .ensures .1,
     )
 
@@ -343,14 +361,17 @@ same-length-15 c =
 
 same-length-16 : tie.Need-same-length-16
 same-length-16 c =
-    length-front (start-from-return-2 c .args .scratch .now) (pr-from-return-2 c .pr .last .1 .1 .1 .1 .1 .1 .1 .1 .1 .0) (m (start-from-return-2 c)) (pr-from-return-2 c .pr .kept .1 .1 .1 .1 .1 .1 .1 .1 .1 .0)
+    length-front (start-from-return-2 c .args .scratch .now) (pr-from-return-2 c .pr .last .1 .1 .1 .1 .1 .1 .1 .1 .1 .0)
+    (m (start-from-return-2 c)) (pr-from-return-2 c .pr .kept .1 .1 .1 .1 .1 .1 .1 .1 .1 .0)
 
 returns-2 : tie.Need-returns-2
 returns-2 c =
     let s = start-from-return-2 c in
     let r = pr-from-return-2 c .pr in (
-      subst (λ (x : Rule). LineSays (before s) (said s x) 262144 (r .result) (tableOf (r .last .0) (r .last .1 .0) (r .last .1 .1 .0) (r .last .1 .1 .1 .0) (r .last .1 .1 .1 .1 .0) (r .result .count))) (sym (enum-told2-from-return-2 c .enum-told2 .given .1))
-          (says-most (before s) _ _ 262144 (r .result) _ (omega (arith, s .pre .2)) (r .ensures .0)),
+      subst (λ (x : Rule). LineSays (before s) (said s x) mostRounds (r .result)
+          (tableOf (r .last .0) (r .last .1 .0) (r .last .1 .1 .0) (r .last .1 .1 .1 .0) (r .last .1 .1 .1 .1 .0) (r .result .count)))
+          (sym (enum-told2-from-return-2 c .enum-told2 .given .1))
+          (says-most (before s) _ _ mostRounds (r .result) _ (omega (arith, s .pre .2)) (r .ensures .0)),
       r .ensures .1,
     )
 
@@ -384,13 +405,16 @@ same-length-23 c =
 
 same-length-24 : tie.Need-same-length-24
 same-length-24 c =
-    length-front (start-from-return-3 c .args .scratch .now) (path-from-return-3 c .path .last .1 .1 .1 .1 .1 .1 .1 .1 .1 .0) (m (start-from-return-3 c)) (path-from-return-3 c .path .kept .1 .1 .1 .1 .1 .1 .1 .1 .1 .0)
+    length-front (start-from-return-3 c .args .scratch .now) (path-from-return-3 c .path .last .1 .1 .1 .1 .1 .1 .1 .1 .1 .0)
+    (m (start-from-return-3 c)) (path-from-return-3 c .path .kept .1 .1 .1 .1 .1 .1 .1 .1 .1 .0)
 
 returns-3 : tie.Need-returns-3
 returns-3 c =
     let s = start-from-return-3 c in
     let r = path-from-return-3 c .path in (
-      subst (λ (x : Rule). LineSays (before s) (said s x) 262144 (r .result) (tableOf (r .last .0) (r .last .1 .0) (r .last .1 .1 .0) (r .last .1 .1 .1 .0) (r .last .1 .1 .1 .1 .0) (r .result .count))) (sym (enum-told3-from-return-3 c .enum-told3 .given .1))
+      subst (λ (x : Rule). LineSays (before s) (said s x) mostRounds (r .result)
+          (tableOf (r .last .0) (r .last .1 .0) (r .last .1 .1 .0) (r .last .1 .1 .1 .0) (r .last .1 .1 .1 .1 .0) (r .result .count)))
+          (sym (enum-told3-from-return-3 c .enum-told3 .given .1))
           (r .ensures .0),
       r .ensures .1,
     )

@@ -13,26 +13,30 @@ use Rattle.table.specs.Lists.{diagramsOf}
 use Rattle.verdict.specs.Steps.{unstruck}
 use Rattle.verdict.specs.Taken.{lineBy}
 use Rattle.judge.specs.Lines.{Negatable, LineSays}
+use Rattle.paths.specs.Rounds.{mostRounds}
 use Rattle.steps.proofs.Strikings.{unstruck-inside}
 use Rattle.steps.proofs.line.judge_live.Statement.{statement}
 use Rattle.steps.proofs.line.judge_live.Tie as tie
 
 module _ (s : tie.Start) where
   abbrev before : Table
-  before = tableOf (s .args .vars .now) (s .args .lows .now) (s .args .highs .now) (s .args .heads .now) (s .args .links .now) (s .args .st .count)
+  before = tableOf (s .args .vars .now) (s .args .lows .now) (s .args .highs .now) (s .args .heads .now) (s .args .links .now)
+      (s .args .st .count)
 
   -- the members that are not struck
   abbrev live : List ℕ
   live = unstruck (take (s .args .st .members) (s .args .struck .now)) (take (s .args .st .members) (s .args .members .now))
 
   abbrev said : List ℕ → Line
-  said ms = lineBy 64 (s .args .rule) (s .args .st .witness .positive) (s .args .st .witness .negative) (diagramsOf (nodesOf before) ms) (diagramAt (nodesOf before) (s .args .g .0))
+  said ms = lineBy 64 (s .args .rule) (s .args .st .witness .positive) (s .args .st .witness .negative) (diagramsOf (nodesOf before) ms)
+      (diagramAt (nodesOf before) (s .args .g .0))
 
   ready : Negatable before live (s .args .memo .now) (s .args .g .0)
   ready = record {
     ready = record {
       good = s .pre .0 .ready .good;
-      inside = unstruck-inside (s .args .st .count) (take (s .args .st .members) (s .args .struck .now)) (take (s .args .st .members) (s .args .members .now)) (s .pre .0 .ready .inside);
+      inside = unstruck-inside (s .args .st .count) (take (s .args .st .members) (s .args .struck .now))
+          (take (s .args .st .members) (s .args .members .now)) (s .pre .0 .ready .inside);
       room = s .pre .0 .ready .room;
     };
     inside = s .pre .0 .inside;
@@ -86,13 +90,15 @@ module _ (c : tie.After-live-members) where
   gathered-is = c .live-members .ensures .1
 
   gathered-length : length gathered ≡ c .live-members .result
-  gathered-length = length-take-le (c .live-members .result) (c .live-members .last .1 .1 .1 .0) (omega (arith, few, c .live-members .kept .1 .1 .1 .0))
+  gathered-length = length-take-le (c .live-members .result) (c .live-members .last .1 .1 .1 .0)
+      (omega (arith, few, c .live-members .kept .1 .1 .1 .0))
 
 slice-aggregate-live-members : tie.Need-slice-aggregate-live-members
 slice-aggregate-live-members c = search needs
 
 live-members-requires : tie.Need-live-members-requires
-live-members-requires c κs = let s = start-from-live-members-call c in (omega (arith, s .pre .2, s .pre .3), omega (arith, s .pre .2, s .pre .3, s .pre .5), omega (arith, s .pre .2))
+live-members-requires c κs = let s = start-from-live-members-call c in
+    (omega (arith, s .pre .2, s .pre .3), omega (arith, s .pre .2, s .pre .3, s .pre .5), omega (arith, s .pre .2))
 
 array-share-prefix-live : tie.Need-array-share-prefix-live
 array-share-prefix-live c = let a = live-members-from-array-share-prefix-live c in omega (arith, few a, a .live-members .kept .1 .1 .1 .0)
@@ -103,8 +109,13 @@ slice-aggregate-judge-line c = sym (gathered-length (live-members-from-slice-agg
 judge-line-requires : tie.Need-judge-line-requires
 judge-line-requires c κs =
     let a = live-members-from-judge-line-call c in
-    let s = begun a in
-    (subst (λ (ms : List ℕ). Negatable (before s) ms (s .args .memo .now) (s .args .g .0)) (sym (gathered-is a)) (ready s), s .pre .1, omega (arith, gathered-length a, few a), s .pre .4, s .pre .6)
+    let s = begun a in (
+      subst (λ (ms : List ℕ). Negatable (before s) ms (s .args .memo .now) (s .args .g .0)) (sym (gathered-is a)) (ready s),
+      s .pre .1,
+      omega (arith, gathered-length a, few a),
+      s .pre .4,
+      s .pre .6,
+    )
 
 same-length : tie.Need-same-length
 same-length c = judge-line-from-return c .judge-line .kept .0
@@ -135,7 +146,8 @@ returns c =
     let j = judge-line-from-return c .judge-line in
     let a = live-members-from-return c in
     let s = begun a in (
-      subst (λ (ms : List ℕ). LineSays (before s) (said s ms) 262144 (j .result) (tableOf (j .last .0) (j .last .1 .0) (j .last .1 .1 .0) (j .last .1 .1 .1 .0) (j .last .1 .1 .1 .1 .0) (j .result .count)))
+      subst (λ (ms : List ℕ). LineSays (before s) (said s ms) mostRounds (j .result)
+          (tableOf (j .last .0) (j .last .1 .0) (j .last .1 .1 .0) (j .last .1 .1 .1 .0) (j .last .1 .1 .1 .1 .0) (j .result .count)))
           (gathered-is a) (j .ensures .0),
       j .ensures .1,
     )

@@ -10,7 +10,7 @@ use Rattle.walks.proofs.Here.{good-readable}
 use Rattle.verdict.specs.Steps as check
 use Rattle.verdict.specs.Steps.{entryNode}
 use Rattle.steps.specs.declared.line.LineTest.the-variants.{Fits}
-use Rattle.entries.specs.States.{Lent, lentOf, stateOf, Held}
+use Rattle.state.specs.States.{Lent, lentOf, stateOf, Held}
 use Rattle.verdict.specs.Taken.{lineOf}
 use Rattle.steps.specs.Tests.{lineRefusal, LineTested}
 use Rattle.steps.specs.Tried.{Tried}
@@ -20,13 +20,15 @@ use Rattle.steps.proofs.line.line_step.Tie as tie
 
 module _ (s : tie.Start) where
   abbrev lent : Lent
-  lent = lentOf (s .args .vars .now) (s .args .lows .now) (s .args .highs .now) (s .args .heads .now) (s .args .links .now) (s .args .members .now) (s .args .scratch .now) (s .args .struck .now)
+  lent = lentOf (s .args .vars .now) (s .args .lows .now) (s .args .highs .now) (s .args .heads .now) (s .args .links .now)
+      (s .args .members .now) (s .args .scratch .now) (s .args .struck .now)
 
   abbrev state : check.State
   state = stateOf lent (s .args .st)
 
   abbrev before : Table
-  before = tableOf (s .args .vars .now) (s .args .lows .now) (s .args .highs .now) (s .args .heads .now) (s .args .links .now) (s .args .st .count)
+  before = tableOf (s .args .vars .now) (s .args .lows .now) (s .args .highs .now) (s .args .heads .now) (s .args .links .now)
+      (s .args .st .count)
 
   abbrev held : Held 64 lent (s .args .st)
   held = s .pre .0
@@ -117,7 +119,8 @@ module _ (c : tie.After-g) where
   tested : LineTested 64 (state begun) (begun .args .rule) (begun .args .root .0) (Fits (c .g .given .0 .0))
   tested =
       subst (LineTested 64 (state begun) (begun .args .rule) (begun .args .root .0)) (c .g .given .1)
-      (line-test-from-g c .line-test .ensures (begun .args .heads .now) (begun .args .links .now) (begun .args .members .now) (begun .args .struck .now))
+      (line-test-from-g c .line-test .ensures (begun .args .heads .now) (begun .args .links .now) (begun .args .members .now)
+      (begun .args .struck .now))
 
   none : lineRefusal 64 (state begun) (begun .args .rule) (begun .args .root .0) ≡ 0
   none = tested .0
@@ -131,7 +134,8 @@ module _ (c : tie.After-try-line) where
   trying = start-from-try-line c
 
   abbrev table₁ : Table
-  table₁ = tableOf (c .try-line .last .0) (c .try-line .last .1 .0) (c .try-line .last .1 .1 .0) (c .try-line .last .1 .1 .1 .0) (c .try-line .last .1 .1 .1 .1 .0) (trying .args .st .count)
+  table₁ = tableOf (c .try-line .last .0) (c .try-line .last .1 .0) (c .try-line .last .1 .1 .0) (c .try-line .last .1 .1 .1 .0)
+      (c .try-line .last .1 .1 .1 .1 .0) (trying .args .st .count)
 
   abbrev scratch₁ : List ℕ
   scratch₁ = c .try-line .last .1 .1 .1 .1 .1 .1 .1 .1 .0
@@ -146,7 +150,8 @@ module _ (c : tie.After-try-line) where
   scratch-room = omega (arith, c .try-line .kept .1 .1 .1 .1 .1 .1 .1 .1 .0, held trying .entries .room)
 
 line-test-requires : tie.Need-line-test-requires
-line-test-requires c κs = let s = start-from-line-test-call c in (good-readable (before s) (held s .entries .good), held s .entries .inside, held s .entries .few, held s .entries .room, s .pre .2)
+line-test-requires c κs = let s = start-from-line-test-call c in
+    (good-readable (before s) (held s .entries .good), held s .entries .inside, held s .entries .few, held s .entries .room, s .pre .2)
 
 enum-known-number : tie.Need-enum-known-number
 enum-known-number c = search needs
@@ -159,7 +164,9 @@ try-line-requires c κs =
     let s = start-from-try-line-call c in
     let e = g-from-try-line-call c in
     let few = few-members 64 (lent s) (s .args .st) (held s) (s .args .rule) (s .args .root .0) (none e) (root e) (root-is e) in (
-      line-ready 64 (lent s) (s .args .st) (held s) (s .args .rule) (s .args .root .0) (none e) (root e) (root-is e) (line-test-from-try-line-call c .line-test .last .1 .1 .1 .0) (omega (arith, s .pre .2, line-test-from-try-line-call c .line-test .kept .1 .1 .1 .0)),
+      line-ready 64 (lent s) (s .args .st) (held s) (s .args .rule) (s .args .root .0) (none e) (root e) (root-is e)
+          (line-test-from-try-line-call c .line-test .last .1 .1 .1 .0)
+          (omega (arith, s .pre .2, line-test-from-try-line-call c .line-test .kept .1 .1 .1 .0)),
       s .pre .1,
       omega (arith, few),
       held s .room,
@@ -193,7 +200,9 @@ same-length-5 c = refl
 returns : tie.Need-returns
 returns c =
     let s = start-from-return c in
-    let told = subst (LineTested 64 (state s) (s .args .rule) (s .args .root .0)) (number-from-return c .number .given .1) (line-test-from-return c .line-test .ensures (s .args .heads .now) (s .args .links .now) (s .args .members .now) (s .args .struck .now)) in
+    let told = subst (LineTested 64 (state s) (s .args .rule) (s .args .root .0)) (number-from-return c .number .given .1)
+    (line-test-from-return c .line-test .ensures (s .args .heads .now) (s .args .links .now) (s .args .members .now)
+    (s .args .struck .now)) in
     ((λ n H. line-refused n (lent s) (s .args .st) H (s .args .rule) (s .args .root .0) _ (told .0) (told .1)), s .pre .1)
 
 same-length-6 : tie.Need-same-length-6
@@ -229,7 +238,8 @@ returns-2 c =
     let e = g-from-return-2 c in
     let j = try-line-from-return-2 c in
     let d = ended-from-return-2 c in (
-      (λ n H. line-stepped n (lent s) (s .args .st) H (s .args .rule) (s .args .root .0) (none e) (root e) (root-is e) (j .try-line .result) (said j) (table₁ j) (back j) (scratch₁ j) (scratch-room j) (d .ended .ensures .0) (d .ended .ensures .1)),
+      (λ n H. line-stepped n (lent s) (s .args .st) H (s .args .rule) (s .args .root .0) (none e) (root e) (root-is e) (j .try-line .result)
+          (said j) (table₁ j) (back j) (scratch₁ j) (scratch-room j) (d .ended .ensures .0) (d .ended .ensures .1)),
       j .try-line .ensures .1,
     )
 

@@ -10,10 +10,11 @@ use borrow.Author.Needs.{needs}
 use Rattle.records.specs.declared.Rule.{Rule}
 use Rattle.verdict.specs.Steps as check
 use Rattle.verdict.specs.Steps.{isEntry}
-use Rattle.entries.specs.States.{Lent, lentOf, stateOf}
+use Rattle.state.specs.States.{Lent, lentOf, stateOf}
 use Rattle.steps.specs.Tests.{lineRefusal}
 use Rattle.entries.proofs.Entries.{node-inside, node-is-at, is-one, not-one, waits-is, entry-told}
-use Rattle.steps.proofs.Lines.{shut-is, line-13, rup-16, rup-22, rup-17, rup-0, pr-22, pr-17, pr-18, pr-0, paths-told, path-16, path-22, path-17, path-34, path-0}
+use Rattle.steps.proofs.Lines.{shut-is, line-13, rup-16, rup-22, rup-17, rup-0, pr-22, pr-17, pr-18, pr-0, paths-told, path-16}
+use Rattle.steps.proofs.Lines.{path-22, path-17, path-34, path-0}
 use Rattle.steps.proofs.line.line_test.Statement.{statement}
 use Rattle.steps.proofs.line.line_test.Tie as tie
 
@@ -350,7 +351,8 @@ module _ (c : tie.Else1) (ds ks ms ss : List ℕ) where
   start = start-from-else1 c
 
   entry : isEntry (state start ds ks ms ss) (start .args .root .0) ≡ true
-  entry = entry-told (lent start ds ks ms ss) (start .args .st) (room start ds ks ms ss) _ _ _ (c .before .is-entry .ensures) (not-false _ (c .if1 .left))
+  entry = entry-told (lent start ds ks ms ss) (start .args .st) (room start ds ks ms ss) _ _ _ (c .before .is-entry .ensures)
+      (not-false _ (c .if1 .left))
 
   there : start .args .root .0 < start .args .st .entries + 2
   there = ltb-true _ _ (sym (c .before .is-entry .ensures) ∙ not-false _ (c .if1 .left))
@@ -359,7 +361,11 @@ is-entry-requires : tie.Need-is-entry-requires
 is-entry-requires c κs = start-from-is-entry-call c .pre .2
 
 returns : tie.Need-returns
-returns c = λ ds ks ms ss. let s = start-from-then1 c in (line-13 64 (state s ds ks ms ss) (s .args .root .0) (s .args .rule) (entry-told (lent s ds ks ms ss) (s .args .st) (room s ds ks ms ss) _ _ _ (c .before .is-entry .ensures) (not-true _ (c .if1 .taken))), λ e. omega (arith, e))
+returns c = λ ds ks ms ss. let s = start-from-then1 c in (
+  line-13 64 (state s ds ks ms ss) (s .args .root .0) (s .args .rule)
+      (entry-told (lent s ds ks ms ss) (s .args .st) (room s ds ks ms ss) _ _ _ (c .before .is-entry .ensures) (not-true _ (c .if1 .taken))),
+  λ e. omega (arith, e),
+)
 
 entry-node-requires : tie.Need-entry-node-requires
 entry-node-requires c κs = (room (start-from-else1 c) [] [] [] [], there (c) [] [] [] [])
@@ -371,31 +377,71 @@ waits-requires : tie.Need-waits-requires
 waits-requires c κs = search needs
 
 returns-2 : tie.Need-returns-2
-returns-2 c = λ ds ks ms ss. let s = start-from-then2 c in (rup-16 64 _ _ (entry (else1-from-then2 c) ds ks ms ss) (waits-is (lent s ds ks ms ss) (s .args .st) _ _ (c .before .waits .ensures) (c .if2 .taken)) ∙ ap (λ (r : Rule). lineRefusal 64 (state s ds ks ms ss) r (s .args .root .0)) (sym (c .before .before .enum-told .given .1)), λ e. omega (arith, e))
+returns-2 c = λ ds ks ms ss. let s = start-from-then2 c in (
+  rup-16 64 _ _ (entry (else1-from-then2 c) ds ks ms ss)
+      (waits-is (lent s ds ks ms ss) (s .args .st) _ _ (c .before .waits .ensures) (c .if2 .taken))
+      ∙ ap (λ (r : Rule). lineRefusal 64 (state s ds ks ms ss) r (s .args .root .0)) (sym (c .before .before .enum-told .given .1)),
+  λ e. omega (arith, e),
+)
 
 returns-3 : tie.Need-returns-3
-returns-3 c = λ ds ks ms ss. let s = start-from-then3 c in (rup-22 64 _ _ (entry (else1-from-then3 c) ds ks ms ss) (waits-is (lent s ds ks ms ss) (s .args .st) _ _ (waits-from-then3 c .waits .ensures) (c .before .before .if2 .left)) (le-leb 1024 _ (c .if3 .taken)) ∙ ap (λ (r : Rule). lineRefusal 64 (state s ds ks ms ss) r (s .args .root .0)) (sym (enum-told-from-then3 c .enum-told .given .1)), λ e. omega (arith, e))
+returns-3 c = λ ds ks ms ss. let s = start-from-then3 c in (
+  rup-22 64 _ _ (entry (else1-from-then3 c) ds ks ms ss)
+      (waits-is (lent s ds ks ms ss) (s .args .st) _ _ (waits-from-then3 c .waits .ensures) (c .before .before .if2 .left))
+      (le-leb 1024 _ (c .if3 .taken)) ∙ ap (λ (r : Rule). lineRefusal 64 (state s ds ks ms ss) r (s .args .root .0))
+      (sym (enum-told-from-then3 c .enum-told .given .1)),
+  λ e. omega (arith, e),
+)
 
 returns-4 : tie.Need-returns-4
-returns-4 c = λ ds ks ms ss. let s = start-from-then4 c in (rup-17 64 _ _ (entry (else1-from-then4 c) ds ks ms ss) (waits-is (lent s ds ks ms ss) (s .args .st) _ _ (waits-from-then4 c .waits .ensures) (else2-from-then4 c .if2 .left)) (lt-leb 1024 _ (c .before .before .if3 .left)) (is-one (lent s ds ks ms ss) (s .args .st) _ _ (entry-node-from-then4 c .entry-node .ensures) (c .if4 .taken)) ∙ ap (λ (r : Rule). lineRefusal 64 (state s ds ks ms ss) r (s .args .root .0)) (sym (enum-told-from-then4 c .enum-told .given .1)), λ e. omega (arith, e))
+returns-4 c = λ ds ks ms ss. let s = start-from-then4 c in (
+  rup-17 64 _ _ (entry (else1-from-then4 c) ds ks ms ss)
+      (waits-is (lent s ds ks ms ss) (s .args .st) _ _ (waits-from-then4 c .waits .ensures) (else2-from-then4 c .if2 .left))
+      (lt-leb 1024 _ (c .before .before .if3 .left))
+      (is-one (lent s ds ks ms ss) (s .args .st) _ _ (entry-node-from-then4 c .entry-node .ensures) (c .if4 .taken))
+      ∙ ap (λ (r : Rule). lineRefusal 64 (state s ds ks ms ss) r (s .args .root .0)) (sym (enum-told-from-then4 c .enum-told .given .1)),
+  λ e. omega (arith, e),
+)
 
 enum-told-2 : tie.Need-enum-told-2
 enum-told-2 c = search needs
 
 returns-5 : tie.Need-returns-5
-returns-5 c = λ ds ks ms ss. let s = start-from-then5 c in (pr-22 64 _ _ (entry (else1-from-then5 c) ds ks ms ss) (le-leb 1024 _ (c .if5 .taken)) ∙ ap (λ (r : Rule). lineRefusal 64 (state s ds ks ms ss) r (s .args .root .0)) (sym (c .before .before .enum-told2 .given .1)), λ e. omega (arith, e))
+returns-5 c = λ ds ks ms ss. let s = start-from-then5 c in (
+  pr-22 64 _ _ (entry (else1-from-then5 c) ds ks ms ss) (le-leb 1024 _ (c .if5 .taken))
+      ∙ ap (λ (r : Rule). lineRefusal 64 (state s ds ks ms ss) r (s .args .root .0)) (sym (c .before .before .enum-told2 .given .1)),
+  λ e. omega (arith, e),
+)
 
 returns-6 : tie.Need-returns-6
-returns-6 c = λ ds ks ms ss. let s = start-from-then6 c in (pr-17 64 _ _ (entry (else1-from-then6 c) ds ks ms ss) (lt-leb 1024 _ (c .before .before .if5 .left)) (is-one (lent s ds ks ms ss) (s .args .st) _ _ (entry-node-from-then6 c .entry-node .ensures) (c .if6 .taken)) ∙ ap (λ (r : Rule). lineRefusal 64 (state s ds ks ms ss) r (s .args .root .0)) (sym (enum-told2-from-then6 c .enum-told2 .given .1)), λ e. omega (arith, e))
+returns-6 c = λ ds ks ms ss. let s = start-from-then6 c in (
+  pr-17 64 _ _ (entry (else1-from-then6 c) ds ks ms ss) (lt-leb 1024 _ (c .before .before .if5 .left))
+      (is-one (lent s ds ks ms ss) (s .args .st) _ _ (entry-node-from-then6 c .entry-node .ensures) (c .if6 .taken))
+      ∙ ap (λ (r : Rule). lineRefusal 64 (state s ds ks ms ss) r (s .args .root .0)) (sym (enum-told2-from-then6 c .enum-told2 .given .1)),
+  λ e. omega (arith, e),
+)
 
 is-one-requires : tie.Need-is-one-requires
-is-one-requires c κs = let s = start-from-is-one-call c in (s .pre .0, subst (λ (x : ℕ). x < s .args .st .count) (sym (entry-node-from-is-one-call c .entry-node .ensures)) (node-inside (s .args .scratch .now) (s .args .st .entries) (room s [] [] [] []) (s .args .st .count) (s .pre .0 .least) (s .pre .1) (s .args .root .0) (there (else1-from-is-one-call c) [] [] [] [])), omega (arith, s .pre .4))
+is-one-requires c κs = let s = start-from-is-one-call c in (
+  s .pre .0,
+  subst (λ (x : ℕ). x < s .args .st .count) (sym (entry-node-from-is-one-call c .entry-node .ensures))
+      (node-inside (s .args .scratch .now) (s .args .st .entries) (room s [] [] [] []) (s .args .st .count) (s .pre .0 .least) (s .pre .1)
+      (s .args .root .0) (there (else1-from-is-one-call c) [] [] [] [])),
+  omega (arith, s .pre .4),
+)
 
 same-length : tie.Need-same-length
 same-length c = search needs
 
 returns-7 : tie.Need-returns-7
-returns-7 c = λ ds ks ms ss. let s = start-from-then7 c in (pr-18 64 _ _ (entry (else1-from-then7 c) ds ks ms ss) (lt-leb 1024 _ (else5-from-then7 c .if5 .left)) (not-one (lent s ds ks ms ss) (s .args .st) _ _ (entry-node-from-then7 c .entry-node .ensures) (else6-from-then7 c .if6 .left)) (shut-is (lent s ds ks ms ss) (s .args .st) _ _ (entry-node-from-then7 c .entry-node .ensures) _ _ (is-one-from-then7 c .is-one .ensures) (not-true _ (c .if7 .taken))) ∙ ap (λ (r : Rule). lineRefusal 64 (state s ds ks ms ss) r (s .args .root .0)) (sym (enum-told2-from-then7 c .enum-told2 .given .1)), λ e. omega (arith, e))
+returns-7 c = λ ds ks ms ss. let s = start-from-then7 c in (
+  pr-18 64 _ _ (entry (else1-from-then7 c) ds ks ms ss) (lt-leb 1024 _ (else5-from-then7 c .if5 .left))
+      (not-one (lent s ds ks ms ss) (s .args .st) _ _ (entry-node-from-then7 c .entry-node .ensures) (else6-from-then7 c .if6 .left))
+      (shut-is (lent s ds ks ms ss) (s .args .st) _ _ (entry-node-from-then7 c .entry-node .ensures) _ _
+      (is-one-from-then7 c .is-one .ensures) (not-true _ (c .if7 .taken)))
+      ∙ ap (λ (r : Rule). lineRefusal 64 (state s ds ks ms ss) r (s .args .root .0)) (sym (enum-told2-from-then7 c .enum-told2 .given .1)),
+  λ e. omega (arith, e),
+)
 
 enum-told-3 : tie.Need-enum-told-3
 enum-told-3 c = search needs
@@ -404,31 +450,94 @@ waits-requires-2 : tie.Need-waits-requires-2
 waits-requires-2 c κs = search needs
 
 returns-8 : tie.Need-returns-8
-returns-8 c = λ ds ks ms ss. let s = start-from-then8 c in (path-16 64 _ _ (entry (else1-from-then8 c) ds ks ms ss) (waits-is (lent s ds ks ms ss) (s .args .st) _ _ (waits2-from-then8 c .waits2 .ensures) (c .if8 .taken)) ∙ ap (λ (r : Rule). lineRefusal 64 (state s ds ks ms ss) r (s .args .root .0)) (sym (enum-told3-from-then8 c .enum-told3 .given .1)), λ e. omega (arith, e))
+returns-8 c = λ ds ks ms ss. let s = start-from-then8 c in (
+  path-16 64 _ _ (entry (else1-from-then8 c) ds ks ms ss)
+      (waits-is (lent s ds ks ms ss) (s .args .st) _ _ (waits2-from-then8 c .waits2 .ensures) (c .if8 .taken))
+      ∙ ap (λ (r : Rule). lineRefusal 64 (state s ds ks ms ss) r (s .args .root .0)) (sym (enum-told3-from-then8 c .enum-told3 .given .1)),
+  λ e. omega (arith, e),
+)
 
 returns-9 : tie.Need-returns-9
-returns-9 c = λ ds ks ms ss. let s = start-from-then9 c in (path-22 64 _ _ (entry (else1-from-then9 c) ds ks ms ss) (waits-is (lent s ds ks ms ss) (s .args .st) _ _ (waits2-from-then9 c .waits2 .ensures) (else8-from-then9 c .if8 .left)) (le-leb 1024 _ (c .if9 .taken)) ∙ ap (λ (r : Rule). lineRefusal 64 (state s ds ks ms ss) r (s .args .root .0)) (sym (enum-told3-from-then9 c .enum-told3 .given .1)), λ e. omega (arith, e))
+returns-9 c = λ ds ks ms ss. let s = start-from-then9 c in (
+  path-22 64 _ _ (entry (else1-from-then9 c) ds ks ms ss)
+      (waits-is (lent s ds ks ms ss) (s .args .st) _ _ (waits2-from-then9 c .waits2 .ensures) (else8-from-then9 c .if8 .left))
+      (le-leb 1024 _ (c .if9 .taken)) ∙ ap (λ (r : Rule). lineRefusal 64 (state s ds ks ms ss) r (s .args .root .0))
+      (sym (enum-told3-from-then9 c .enum-told3 .given .1)),
+  λ e. omega (arith, e),
+)
 
 returns-10 : tie.Need-returns-10
-returns-10 c = λ ds ks ms ss. let s = start-from-then10 c in (path-17 64 _ _ (entry (else1-from-then10 c) ds ks ms ss) (waits-is (lent s ds ks ms ss) (s .args .st) _ _ (waits2-from-then10 c .waits2 .ensures) (else8-from-then10 c .if8 .left)) (lt-leb 1024 _ (else9-from-then10 c .if9 .left)) (is-one (lent s ds ks ms ss) (s .args .st) _ _ (entry-node-from-then10 c .entry-node .ensures) (c .if10 .taken)) ∙ ap (λ (r : Rule). lineRefusal 64 (state s ds ks ms ss) r (s .args .root .0)) (sym (enum-told3-from-then10 c .enum-told3 .given .1)), λ e. omega (arith, e))
+returns-10 c = λ ds ks ms ss. let s = start-from-then10 c in (
+  path-17 64 _ _ (entry (else1-from-then10 c) ds ks ms ss)
+      (waits-is (lent s ds ks ms ss) (s .args .st) _ _ (waits2-from-then10 c .waits2 .ensures) (else8-from-then10 c .if8 .left))
+      (lt-leb 1024 _ (else9-from-then10 c .if9 .left))
+      (is-one (lent s ds ks ms ss) (s .args .st) _ _ (entry-node-from-then10 c .entry-node .ensures) (c .if10 .taken))
+      ∙ ap (λ (r : Rule). lineRefusal 64 (state s ds ks ms ss) r (s .args .root .0)) (sym (enum-told3-from-then10 c .enum-told3 .given .1)),
+  λ e. omega (arith, e),
+)
 
 paths-left-requires : tie.Need-paths-left-requires
-paths-left-requires c κs = let s = start-from-paths-left-call c in (s .pre .0, subst (λ (x : ℕ). x < s .args .st .count) (sym (entry-node-from-paths-left-call c .entry-node .ensures)) (node-inside (s .args .scratch .now) (s .args .st .entries) (room s [] [] [] []) (s .args .st .count) (s .pre .0 .least) (s .pre .1) (s .args .root .0) (there (else1-from-paths-left-call c) [] [] [] [])))
+paths-left-requires c κs = let s = start-from-paths-left-call c in (
+  s .pre .0,
+  subst (λ (x : ℕ). x < s .args .st .count) (sym (entry-node-from-paths-left-call c .entry-node .ensures))
+      (node-inside (s .args .scratch .now) (s .args .st .entries) (room s [] [] [] []) (s .args .st .count) (s .pre .0 .least) (s .pre .1)
+      (s .args .root .0) (there (else1-from-paths-left-call c) [] [] [] [])),
+)
 
 returns-11 : tie.Need-returns-11
-returns-11 c = λ ds ks ms ss. let s = start-from-then11 c in (path-34 64 _ _ (entry (else1-from-then11 c) ds ks ms ss) (waits-is (lent s ds ks ms ss) (s .args .st) _ _ (waits2-from-then11 c .waits2 .ensures) (else8-from-then11 c .if8 .left)) (lt-leb 1024 _ (else9-from-then11 c .if9 .left)) (not-one (lent s ds ks ms ss) (s .args .st) _ _ (entry-node-from-then11 c .entry-node .ensures) (else10-from-then11 c .if10 .left)) (omega (arith, (paths-told (lent s ds ks ms ss) (s .args .st) (s .args .root .0) _ (entry-node-from-then11 c .entry-node .ensures) _ (paths-left-from-then11 c .paths-left .ensures)), c .if11 .taken)) ∙ ap (λ (r : Rule). lineRefusal 64 (state s ds ks ms ss) r (s .args .root .0)) (sym (enum-told3-from-then11 c .enum-told3 .given .1)), λ e. omega (arith, e))
+returns-11 c = λ ds ks ms ss. let s = start-from-then11 c in (
+  path-34 64 _ _ (entry (else1-from-then11 c) ds ks ms ss)
+      (waits-is (lent s ds ks ms ss) (s .args .st) _ _ (waits2-from-then11 c .waits2 .ensures) (else8-from-then11 c .if8 .left))
+      (lt-leb 1024 _ (else9-from-then11 c .if9 .left))
+      (not-one (lent s ds ks ms ss) (s .args .st) _ _ (entry-node-from-then11 c .entry-node .ensures) (else10-from-then11 c .if10 .left))
+      (omega (
+        arith,
+        (paths-told (lent s ds ks ms ss) (s .args .st) (s .args .root .0) _ (entry-node-from-then11 c .entry-node .ensures) _
+            (paths-left-from-then11 c .paths-left .ensures)),
+        c .if11 .taken,
+      )) ∙ ap
+      (λ (r : Rule). lineRefusal 64 (state s ds ks ms ss) r (s .args .root .0)) (sym (enum-told3-from-then11 c .enum-told3 .given .1)),
+  λ e. omega (arith, e),
+)
 
 returns-12 : tie.Need-returns-12
-returns-12 c = λ ds ks ms ss. let s = start-from-else4 c in (sym (rup-0 64 _ _ (entry (else1-from-else4 c) ds ks ms ss) (waits-is (lent s ds ks ms ss) (s .args .st) _ _ (waits-from-else4 c .waits .ensures) (else2-from-else4 c .if2 .left)) (lt-leb 1024 _ (c .before .before .if3 .left)) (not-one (lent s ds ks ms ss) (s .args .st) _ _ (entry-node-from-else4 c .entry-node .ensures) (c .if4 .left)) ∙ ap (λ (r : Rule). lineRefusal 64 (state s ds ks ms ss) r (s .args .root .0)) (sym (enum-told-from-else4 c .enum-told .given .1))), entry-node-from-else4 c .entry-node .ensures ∙ sym (node-is-at (lent s ds ks ms ss) (s .args .st) (s .args .root .0)))
+returns-12 c = λ ds ks ms ss. let s = start-from-else4 c in (
+  sym (rup-0 64 _ _ (entry (else1-from-else4 c) ds ks ms ss)
+      (waits-is (lent s ds ks ms ss) (s .args .st) _ _ (waits-from-else4 c .waits .ensures) (else2-from-else4 c .if2 .left))
+      (lt-leb 1024 _ (c .before .before .if3 .left))
+      (not-one (lent s ds ks ms ss) (s .args .st) _ _ (entry-node-from-else4 c .entry-node .ensures) (c .if4 .left))
+      ∙ ap (λ (r : Rule). lineRefusal 64 (state s ds ks ms ss) r (s .args .root .0)) (sym (enum-told-from-else4 c .enum-told .given .1))),
+  entry-node-from-else4 c .entry-node .ensures ∙ sym (node-is-at (lent s ds ks ms ss) (s .args .st) (s .args .root .0)),
+)
 
 same-length-2 : tie.Need-same-length-2
 same-length-2 c = search needs
 
 returns-13 : tie.Need-returns-13
-returns-13 c = λ ds ks ms ss. let s = start-from-else7 c in (sym (pr-0 64 _ _ (entry (else1-from-else7 c) ds ks ms ss) (lt-leb 1024 _ (else5-from-else7 c .if5 .left)) (not-one (lent s ds ks ms ss) (s .args .st) _ _ (entry-node-from-else7 c .entry-node .ensures) (else6-from-else7 c .if6 .left)) (shut-is (lent s ds ks ms ss) (s .args .st) _ _ (entry-node-from-else7 c .entry-node .ensures) _ _ (is-one-from-else7 c .is-one .ensures) (not-false _ (c .if7 .left))) ∙ ap (λ (r : Rule). lineRefusal 64 (state s ds ks ms ss) r (s .args .root .0)) (sym (enum-told2-from-else7 c .enum-told2 .given .1))), entry-node-from-else7 c .entry-node .ensures ∙ sym (node-is-at (lent s ds ks ms ss) (s .args .st) (s .args .root .0)))
+returns-13 c = λ ds ks ms ss. let s = start-from-else7 c in (
+  sym (pr-0 64 _ _ (entry (else1-from-else7 c) ds ks ms ss) (lt-leb 1024 _ (else5-from-else7 c .if5 .left))
+      (not-one (lent s ds ks ms ss) (s .args .st) _ _ (entry-node-from-else7 c .entry-node .ensures) (else6-from-else7 c .if6 .left))
+      (shut-is (lent s ds ks ms ss) (s .args .st) _ _ (entry-node-from-else7 c .entry-node .ensures) _ _
+      (is-one-from-else7 c .is-one .ensures) (not-false _ (c .if7 .left)))
+      ∙ ap (λ (r : Rule). lineRefusal 64 (state s ds ks ms ss) r (s .args .root .0)) (sym (enum-told2-from-else7 c .enum-told2 .given .1))),
+  entry-node-from-else7 c .entry-node .ensures ∙ sym (node-is-at (lent s ds ks ms ss) (s .args .st) (s .args .root .0)),
+)
 
 returns-14 : tie.Need-returns-14
-returns-14 c = λ ds ks ms ss. let s = start-from-else11 c in (sym (path-0 64 _ _ (entry (else1-from-else11 c) ds ks ms ss) (waits-is (lent s ds ks ms ss) (s .args .st) _ _ (waits2-from-else11 c .waits2 .ensures) (else8-from-else11 c .if8 .left)) (lt-leb 1024 _ (else9-from-else11 c .if9 .left)) (not-one (lent s ds ks ms ss) (s .args .st) _ _ (entry-node-from-else11 c .entry-node .ensures) (else10-from-else11 c .if10 .left)) (omega (arith, (paths-told (lent s ds ks ms ss) (s .args .st) (s .args .root .0) _ (entry-node-from-else11 c .entry-node .ensures) _ (paths-left-from-else11 c .paths-left .ensures)), c .if11 .left)) ∙ ap (λ (r : Rule). lineRefusal 64 (state s ds ks ms ss) r (s .args .root .0)) (sym (enum-told3-from-else11 c .enum-told3 .given .1))), entry-node-from-else11 c .entry-node .ensures ∙ sym (node-is-at (lent s ds ks ms ss) (s .args .st) (s .args .root .0)))
+returns-14 c = λ ds ks ms ss. let s = start-from-else11 c in (
+  sym (path-0 64 _ _ (entry (else1-from-else11 c) ds ks ms ss)
+      (waits-is (lent s ds ks ms ss) (s .args .st) _ _ (waits2-from-else11 c .waits2 .ensures) (else8-from-else11 c .if8 .left))
+      (lt-leb 1024 _ (else9-from-else11 c .if9 .left))
+      (not-one (lent s ds ks ms ss) (s .args .st) _ _ (entry-node-from-else11 c .entry-node .ensures) (else10-from-else11 c .if10 .left))
+      (omega (
+        arith,
+        (paths-told (lent s ds ks ms ss) (s .args .st) (s .args .root .0) _ (entry-node-from-else11 c .entry-node .ensures) _
+            (paths-left-from-else11 c .paths-left .ensures)),
+        c .if11 .left,
+      )) ∙ ap
+      (λ (r : Rule). lineRefusal 64 (state s ds ks ms ss) r (s .args .root .0)) (sym (enum-told3-from-else11 c .enum-told3 .given .1))),
+  entry-node-from-else11 c .entry-node .ensures ∙ sym (node-is-at (lent s ds ks ms ss) (s .args .st) (s .args .root .0)),
+)
 
 pub line-test-spec : {M : Type 1} → statement M
 line-test-spec =

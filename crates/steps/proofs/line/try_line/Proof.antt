@@ -8,7 +8,8 @@ use Rattle.steps.proofs.line.try_line.Tie as tie
 -- the table that judging leaves
 module _ (c : tie.After-judge-live) where
   abbrev judged : Table
-  judged = tableOf (c .judge-live .last .0) (c .judge-live .last .1 .0) (c .judge-live .last .1 .1 .0) (c .judge-live .last .1 .1 .1 .0) (c .judge-live .last .1 .1 .1 .1 .0) (c .judge-live .result .count)
+  judged = tableOf (c .judge-live .last .0) (c .judge-live .last .1 .0) (c .judge-live .last .1 .1 .0) (c .judge-live .last .1 .1 .1 .0)
+      (c .judge-live .last .1 .1 .1 .1 .0) (c .judge-live .result .count)
 
 -- The ways back, written by ways.py: TO-from-FROM leads from the place FROM of the code to the place TO before it.
 module _ (c : tie.After-judge-live-arg8) where
@@ -73,7 +74,8 @@ same-length-8 c = judge-live-from-return c .judge-live .kept .1 .1 .1 .1 .1 .1 .
 returns : tie.Need-returns
 returns c =
     let j = judge-live-from-return c in (
-      tried _ (start-from-return c .pre .0 .ready .good) _ _ (judged j) _ (j .judge-live .ensures .0) (drop-to-from-return c .drop-to .ensures),
+      tried _ (start-from-return c .pre .0 .ready .good) _ _ (judged j) _ (j .judge-live .ensures .0)
+          (drop-to-from-return c .drop-to .ensures),
       j .judge-live .ensures .1,
     )
 

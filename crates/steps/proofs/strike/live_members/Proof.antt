@@ -55,11 +55,13 @@ loop-again c =
     let k = at-loop-from-loop-again c in
     ⊎-elim
     (λ w.
-    subst (λ (live : List ℕ). Gathered (s .args .struck .now) (s .args .members .now) (s .args .m) (s .args .live .now) live (k .loop .i + 1) (c .if1 .count)) (sym (w .2))
+    subst (λ (live : List ℕ). Gathered (s .args .struck .now) (s .args .members .now) (s .args .m) (s .args .live .now) live
+    (k .loop .i + 1) (c .if1 .count)) (sym (w .2))
     (subst (Gathered (s .args .struck .now) (s .args .members .now) (s .args .m) (s .args .live .now) _ (k .loop .i + 1)) (sym (w .3))
     (gathered-live _ _ _ _ _ _ _ (k .loop .inv) (c .before .before .loop-test .taken) (s .pre .1) (s .pre .0) (s .pre .2) (w .0 .taken))))
     (λ w.
-    subst (λ (live : List ℕ). Gathered (s .args .struck .now) (s .args .members .now) (s .args .m) (s .args .live .now) live (k .loop .i + 1) (c .if1 .count)) (sym (w .1))
+    subst (λ (live : List ℕ). Gathered (s .args .struck .now) (s .args .members .now) (s .args .m) (s .args .live .now) live
+    (k .loop .i + 1) (c .if1 .count)) (sym (w .1))
     (subst (Gathered (s .args .struck .now) (s .args .members .now) (s .args .m) (s .args .live .now) _ (k .loop .i + 1)) (sym (w .2))
     (gathered-struck _ _ _ _ _ _ _ (k .loop .inv) (c .before .before .loop-test .taken) (s .pre .1) (s .pre .0) (s .pre .2) (w .0 .left))))
     (c .if1 .came)

@@ -1,7 +1,7 @@
 -- `strike_step`: the ways out are laws of Strikings. Assumes nothing.
 use borrow.Author.Needs.{needs}
 use native.Mathlib.Omega.{arith}
-use Rattle.entries.specs.States.{lentOf}
+use Rattle.state.specs.States.{lentOf}
 use Rattle.entries.proofs.Entries.{waits-is}
 use Rattle.steps.proofs.Strikings.{live-beyond, live-struck, live-there, strike-16, strike-28, strike-next}
 use Rattle.steps.proofs.strike.strike_step.Statement.{statement}
@@ -62,7 +62,8 @@ returns-2 : tie.Need-returns-2
 returns-2 c = λ n vs ls hs ds ks ms cs H.
     let s = start-from-then2 c in
     let l = lentOf vs ls hs ds ks ms cs (s .args .struck .now) in
-    strike-28 n l (s .args .st) (s .args .k .0) (waits-is l (s .args .st) _ _ (waits-from-then2 c .waits .ensures) (else1-from-then2 c .if1 .left))
+    strike-28 n l (s .args .st) (s .args .k .0)
+    (waits-is l (s .args .st) _ _ (waits-from-then2 c .waits .ensures) (else1-from-then2 c .if1 .left))
     (live-beyond l (s .args .st) (s .pre) (omega (arith, s .pre, H .marked)) (s .args .k .0) (c .if2 .taken))
 
 slice-read-if3 : tie.Need-slice-read-if3
@@ -72,7 +73,8 @@ returns-3 : tie.Need-returns-3
 returns-3 c = λ n vs ls hs ds ks ms cs H.
     let s = start-from-then3 c in
     let l = lentOf vs ls hs ds ks ms cs (s .args .struck .now) in
-    strike-28 n l (s .args .st) (s .args .k .0) (waits-is l (s .args .st) _ _ (waits-from-then3 c .waits .ensures) (else1-from-then3 c .if1 .left))
+    strike-28 n l (s .args .st) (s .args .k .0)
+    (waits-is l (s .args .st) _ _ (waits-from-then3 c .waits .ensures) (else1-from-then3 c .if1 .left))
     (live-struck l (s .args .st) (s .pre) (omega (arith, s .pre, H .marked)) (s .args .k .0) (c .before .before .if2 .left) (c .if3 .taken))
 
 slice-write-struck : tie.Need-slice-write-struck
@@ -85,8 +87,10 @@ returns-4 : tie.Need-returns-4
 returns-4 c = λ n vs ls hs ds ks ms cs H.
     let s = start-from-else3 c in
     let l = lentOf vs ls hs ds ks ms cs (s .args .struck .now) in
-    strike-next n l (s .args .st) (s .args .k .0) (waits-is l (s .args .st) _ _ (waits-from-else3 c .waits .ensures) (else1-from-else3 c .if1 .left))
-    (live-there l (s .args .st) (s .pre) (omega (arith, s .pre, H .marked)) (s .args .k .0) (c .before .before .if2 .left) (c .if3 .left)) (c .before .before .if2 .left) H
+    strike-next n l (s .args .st) (s .args .k .0)
+    (waits-is l (s .args .st) _ _ (waits-from-else3 c .waits .ensures) (else1-from-else3 c .if1 .left))
+    (live-there l (s .args .st) (s .pre) (omega (arith, s .pre, H .marked)) (s .args .k .0) (c .before .before .if2 .left) (c .if3 .left))
+    (c .before .before .if2 .left) H
 
 pub strike-step-spec : {M : Type 1} → statement M
 strike-step-spec =

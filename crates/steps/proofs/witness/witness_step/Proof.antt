@@ -78,13 +78,15 @@ in-word-requires : tie.Need-in-word-requires
 in-word-requires c κs = (is-one (c .before), omega (arith, c .before .if2 .left, start-from-in-word-call c .pre))
 
 returns-3 : tie.Need-returns-3
-returns-3 c = λ l H. refused-15 _ _ _ _ _ (is-variable _ _ (is-one (else2-from-then3 c)) (else2-from-then3 c .if2 .left)) (sym (c .before .in-word .ensures) ∙ c .if3 .taken)
+returns-3 c = λ l H. refused-15 _ _ _ _ _ (is-variable _ _ (is-one (else2-from-then3 c)) (else2-from-then3 c .if2 .left))
+    (sym (c .before .in-word .ensures) ∙ c .if3 .taken)
 
 in-word-requires-2 : tie.Need-in-word-requires-2
 in-word-requires-2 c κs = (is-one (else2-from-else3 c), omega (arith, else2-from-else3 c .if2 .left, start-from-else3 c .pre))
 
 returns-4 : tie.Need-returns-4
-returns-4 c = λ l H. refused-15-negative _ _ _ _ _ (is-variable _ _ (is-one (else2-from-then4 c)) (else2-from-then4 c .if2 .left)) (sym (c .before .in-word2 .ensures) ∙ c .if4 .taken)
+returns-4 c = λ l H. refused-15-negative _ _ _ _ _ (is-variable _ _ (is-one (else2-from-then4 c)) (else2-from-then4 c .if2 .left))
+    (sym (c .before .in-word2 .ensures) ∙ c .if4 .taken)
 
 with-literal-requires : tie.Need-with-literal-requires
 with-literal-requires c κs = (is-one (else2-from-else4 c), omega (arith, else2-from-else4 c .if2 .left, start-from-else4 c .pre))
@@ -94,9 +96,12 @@ with-witness-requires c κs = search needs
 
 returns-5 : tie.Need-returns-5
 returns-5 c =
-    λ l H. witness-taken _ _ _ _ _ H (is-variable _ _ (is-one (else2-from-return-5 c)) (else2-from-return-5 c .if2 .left)) (sym (in-word-from-return-5 c .in-word .ensures) ∙ else3-from-return-5 c .if3 .left)
-    (sym (in-word2-from-return-5 c .in-word2 .ensures) ∙ else4-from-return-5 c .if4 .left) (is-one (else2-from-return-5 c)) (c .before .with-literal .result) (c .with-witness .result) (c .with-witness .ensures)
+    λ l H. witness-taken _ _ _ _ _ H (is-variable _ _ (is-one (else2-from-return-5 c)) (else2-from-return-5 c .if2 .left))
+    (sym (in-word-from-return-5 c .in-word .ensures) ∙ else3-from-return-5 c .if3 .left)
+    (sym (in-word2-from-return-5 c .in-word2 .ensures) ∙ else4-from-return-5 c .if4 .left) (is-one (else2-from-return-5 c))
+    (c .before .with-literal .result) (c .with-witness .result) (c .with-witness .ensures)
     (c .before .with-literal .ensures)
 
 pub witness-step-spec : {M : Type 1} → statement M
-witness-step-spec = tie.close (tie.spec returns returns-2 in-word-requires returns-3 in-word-requires-2 returns-4 with-literal-requires with-witness-requires returns-5)
+witness-step-spec = tie.close (tie.spec returns returns-2 in-word-requires returns-3 in-word-requires-2 returns-4 with-literal-requires
+    with-witness-requires returns-5)

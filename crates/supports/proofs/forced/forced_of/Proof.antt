@@ -22,12 +22,12 @@ module _ (c : tie.After-clear-cells) where
   abbrev slice-known-from-clear-cells : tie.After-slice-known
   slice-known-from-clear-cells = c .before .before .before .before
 
-module _ (c : tie.After-forced-from-arg) where
-  abbrev clear-cells-from-forced-from-call : tie.After-clear-cells
-  clear-cells-from-forced-from-call = c .before .before .before
+module _ (c : tie.After-word-from-arg) where
+  abbrev clear-cells-from-word-from-call : tie.After-clear-cells
+  clear-cells-from-word-from-call = c .before .before .before
 
-  abbrev start-from-forced-from-call : tie.Start
-  start-from-forced-from-call = start-from-is-thin-call (slice-known-from-clear-cells clear-cells-from-forced-from-call)
+  abbrev start-from-word-from-call : tie.Start
+  start-from-word-from-call = start-from-is-thin-call (slice-known-from-clear-cells clear-cells-from-word-from-call)
 
 is-thin-requires : tie.Need-is-thin-requires
 is-thin-requires c κs =
@@ -40,13 +40,14 @@ returns c = support-forced _ _ (start-from-then1 c .pre .3)
 clear-cells-requires : tie.Need-clear-cells-requires
 clear-cells-requires c κs = search needs
 
-forced-from-requires : tie.Need-forced-from-requires
-forced-from-requires c κs =
-    let s = start-from-forced-from-call c in
+word-from-requires : tie.Need-word-from-requires
+word-from-requires c κs =
+    let s = start-from-word-from-call c in
     let a = s .args in
-    let k = clear-cells-from-forced-from-call c .clear-cells in (
+    let k = clear-cells-from-word-from-call c .clear-cells in (
       (s .pre .0, s .pre .1, omega (arith, s .pre .2, k .kept .0)),
-      memo-cleared Forced (nodesIn (a .vars .now) (a .lows .now) (a .highs .now) (a .count)) (k .last .0) (a .count) (length-in (a .vars .now) (a .lows .now) (a .highs .now) (a .count) (s .pre .0)) (k .ensures),
+      memo-cleared Forced (nodesIn (a .vars .now) (a .lows .now) (a .highs .now) (a .count)) (k .last .0) (a .count)
+          (length-in (a .vars .now) (a .lows .now) (a .highs .now) (a .count) (s .pre .0)) (k .ensures),
     )
 
 same-length : tie.Need-same-length
@@ -57,4 +58,4 @@ returns-2 c = search needs
 
 pub forced-of-spec : {M : Type 1} → statement M
 forced-of-spec =
-    tie.close (tie.spec is-thin-requires returns clear-cells-requires forced-from-requires same-length returns-2)
+    tie.close (tie.spec is-thin-requires returns clear-cells-requires word-from-requires same-length returns-2)

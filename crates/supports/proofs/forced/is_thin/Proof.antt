@@ -53,7 +53,8 @@ module _ (c : tie.In-loop Inv-loop μ-loop) where
   highs = start-from-in-loop c .args .highs .now
 
   here : (k < length lows) × (k < length highs) × (getD lows k 0 < k) × (getD highs k 0 < k)
-  here = children-less lows highs (start-from-in-loop c .args .f .0) (start-from-in-loop c .pre) k (c .loop-test .taken) (c .before .loop .inv)
+  here = children-less lows highs (start-from-in-loop c .args .f .0) (start-from-in-loop c .pre) k (c .loop-test .taken)
+      (c .before .loop .inv)
 
 cast-k : tie.Need-cast-k Inv-loop μ-loop
 cast-k c =

@@ -23,7 +23,12 @@ returns-3 c =
 returns-4 : tie.Need-returns-4
 unfolding sizeFits
 returns-4 c =
-    sym (rw (eq-eqb _ _ (c .before .before .before .if1 .left), eq-eqb _ _ (c .before .before .if2 .left), le-leb _ _ (c .before .if3 .left), lt-leb _ _ (c .if4 .taken)))
+    sym (rw (
+      eq-eqb _ _ (c .before .before .before .if1 .left),
+      eq-eqb _ _ (c .before .before .if2 .left),
+      le-leb _ _ (c .before .if3 .left),
+      lt-leb _ _ (c .if4 .taken),
+    ))
 
 mul-if5 : tie.Need-mul-if5
 mul-if5 c = search needs
@@ -31,12 +36,24 @@ mul-if5 c = search needs
 returns-5 : tie.Need-returns-5
 unfolding sizeFits
 returns-5 c =
-    sym (rw (eq-eqb _ _ (c .before .before .before .before .if1 .left), eq-eqb _ _ (c .before .before .before .if2 .left), le-leb _ _ (c .before .before .if3 .left), le-leb _ _ (c .before .if4 .left), eq-eqb _ _ (c .if5 .taken)))
+    sym (rw (
+      eq-eqb _ _ (c .before .before .before .before .if1 .left),
+      eq-eqb _ _ (c .before .before .before .if2 .left),
+      le-leb _ _ (c .before .before .if3 .left),
+      le-leb _ _ (c .before .if4 .left),
+      eq-eqb _ _ (c .if5 .taken),
+    ))
 
 returns-6 : tie.Need-returns-6
 unfolding sizeFits
 returns-6 c =
-    sym (rw (eq-eqb _ _ (c .before .before .before .before .if1 .left), eq-eqb _ _ (c .before .before .before .if2 .left), le-leb _ _ (c .before .before .if3 .left), le-leb _ _ (c .before .if4 .left), ne-eqb _ _ (c .if5 .left)))
+    sym (rw (
+      eq-eqb _ _ (c .before .before .before .before .if1 .left),
+      eq-eqb _ _ (c .before .before .before .if2 .left),
+      le-leb _ _ (c .before .before .if3 .left),
+      le-leb _ _ (c .before .if4 .left),
+      ne-eqb _ _ (c .if5 .left),
+    ))
 
 pub size-fits-spec : {M : Type 1} → statement M
 size-fits-spec =

@@ -81,7 +81,8 @@ module _ (c : tie.After-greater) where
 -- the table that the first try leaves
 module _ (a : tie.After-try-line) where
   abbrev left : Table
-  left = tableOf (a .try-line .last .0) (a .try-line .last .1 .0) (a .try-line .last .1 .1 .0) (a .try-line .last .1 .1 .1 .0) (a .try-line .last .1 .1 .1 .1 .0) (start-from-try-line a .args .st .count)
+  left = tableOf (a .try-line .last .0) (a .try-line .last .1 .0) (a .try-line .last .1 .1 .0) (a .try-line .last .1 .1 .1 .0)
+      (a .try-line .last .1 .1 .1 .1 .0) (start-from-try-line a .args .st .count)
 
 returns : tie.Need-returns
 returns c = let s = start-from-then1 c in ((refl, no-room (c .if1 .taken)), s .pre .1)
@@ -118,8 +119,14 @@ same-length-8 c = try-line-from-then2 c .try-line .kept .1 .1 .1 .1 .1 .1 .1 .1 
 
 returns-2 : tie.Need-returns-2
 returns-2 c =
-    let a = try-line-from-then2 c .try-line in
-    ((a .ensures .0 .0, once _ (else1-from-then2 c .if1 .left) (a .ensures .0 .1) (sym (is-decided-from-then2 c .is-decided .ensures) ∙ c .if2 .taken)), a .ensures .1)
+    let a = try-line-from-then2 c .try-line in (
+      (
+        a .ensures .0 .0,
+        once _ (else1-from-then2 c .if1 .left) (a .ensures .0 .1)
+            (sym (is-decided-from-then2 c .is-decided .ensures) ∙ c .if2 .taken),
+      ),
+      a .ensures .1,
+    )
 
 second-try-requires : tie.Need-second-try-requires
 second-try-requires c κs =
@@ -153,13 +160,16 @@ same-length-13 : tie.Need-same-length-13
 same-length-13 c = second-try-from-return-3 c .second-try .kept .1 .1 .1 .1 .0 ∙ try-line-from-return-3 c .try-line .kept .1 .1 .1 .1 .0
 
 same-length-14 : tie.Need-same-length-14
-same-length-14 c = second-try-from-return-3 c .second-try .kept .1 .1 .1 .1 .1 .0 ∙ try-line-from-return-3 c .try-line .kept .1 .1 .1 .1 .1 .0
+same-length-14 c = second-try-from-return-3 c .second-try .kept .1 .1 .1 .1 .1 .0
+    ∙ try-line-from-return-3 c .try-line .kept .1 .1 .1 .1 .1 .0
 
 same-length-15 : tie.Need-same-length-15
-same-length-15 c = second-try-from-return-3 c .second-try .kept .1 .1 .1 .1 .1 .1 .0 ∙ try-line-from-return-3 c .try-line .kept .1 .1 .1 .1 .1 .1 .0
+same-length-15 c = second-try-from-return-3 c .second-try .kept .1 .1 .1 .1 .1 .1 .0
+    ∙ try-line-from-return-3 c .try-line .kept .1 .1 .1 .1 .1 .1 .0
 
 same-length-16 : tie.Need-same-length-16
-same-length-16 c = second-try-from-return-3 c .second-try .kept .1 .1 .1 .1 .1 .1 .1 .1 .0 ∙ try-line-from-return-3 c .try-line .kept .1 .1 .1 .1 .1 .1 .1 .1 .0
+same-length-16 c = second-try-from-return-3 c .second-try .kept .1 .1 .1 .1 .1 .1 .1 .1 .0
+    ∙ try-line-from-return-3 c .try-line .kept .1 .1 .1 .1 .1 .1 .1 .1 .0
 
 returns-3 : tie.Need-returns-3
 returns-3 c =
@@ -168,7 +178,8 @@ returns-3 c =
     let e = else2-from-return-3 c in (
       (
         b .ensures .0 .0 ∙ a .ensures .0 .0,
-        both-twice _ _ _ _ (a .result) (b .result) (else1-from-return-3 c .if1 .left) (a .ensures .0 .1) (sym (is-decided-from-else2 e .is-decided .ensures) ∙ e .if2 .left) (left (try-line-from-return-3 c)) (a .ensures .0 .0)
+        both-twice _ _ _ _ (a .result) (b .result) (else1-from-return-3 c .if1 .left) (a .ensures .0 .1)
+            (sym (is-decided-from-else2 e .is-decided .ensures) ∙ e .if2 .left) (left (try-line-from-return-3 c)) (a .ensures .0 .0)
             (b .ensures .0 .1) _ (c .greater .ensures),
       ),
       b .ensures .1 ∙ ap unmarked (a .kept .0),

@@ -8,8 +8,8 @@ use Rattle.records.specs.declared.Rule.the-variants.{Pr}
 use Rattle.conflict.specs.Marks.{unmarked}
 use Rattle.judge.specs.Lines.{Negatable}
 use Rattle.verdict.specs.Taken.{lineOf}
-use Rattle.entries.specs.declared.State.{State}
-use Rattle.entries.specs.States.{Lent, lentOf, stateOf}
+use Rattle.state.specs.declared.State.{State}
+use Rattle.state.specs.States.{Lent, lentOf, stateOf}
 use Rattle.steps.specs.Tried.{Tried}
 use Rattle.tries.specs.Tries.{PivotFits}
 use Rattle.tries.proofs.Trying.{second-tried, second-none}
@@ -21,12 +21,14 @@ module _ (s : tie.Start) where
   table st = tableOf (s .args .vars .now) (s .args .lows .now) (s .args .highs .now) (s .args .heads .now) (s .args .links .now) (st .count)
 
   abbrev lent : Lent
-  lent = lentOf (s .args .vars .now) (s .args .lows .now) (s .args .highs .now) (s .args .heads .now) (s .args .links .now) (s .args .members .now) (s .args .scratch .now) (s .args .struck .now)
+  lent = lentOf (s .args .vars .now) (s .args .lows .now) (s .args .highs .now) (s .args .heads .now) (s .args .links .now)
+      (s .args .members .now) (s .args .scratch .now) (s .args .struck .now)
 
   -- what it tells of a state
   module _ (a : tie.After-try-line) where
     abbrev after : State → Table
-    after st = tableOf (a .try-line .last .0) (a .try-line .last .1 .0) (a .try-line .last .1 .1 .0) (a .try-line .last .1 .1 .1 .0) (a .try-line .last .1 .1 .1 .1 .0) (st .count)
+    after st = tableOf (a .try-line .last .0) (a .try-line .last .1 .0) (a .try-line .last .1 .1 .0) (a .try-line .last .1 .1 .1 .0)
+        (a .try-line .last .1 .1 .1 .1 .0) (st .count)
 
     abbrev Told : State → Type 0
     Told st = (after st ≡ table st) × Tried (table st) (lineOf 64 (stateOf lent st) Pr (s .args .g .0)) (a .try-line .result)
@@ -134,8 +136,14 @@ returns-2 : tie.Need-returns-2
 returns-2 c =
     let s = start-from-return-2 c in
     let a = try-line-from-return-2 c in
-    let told = subst (Told s a) (with-witness-from-return-2 c .with-witness .ensures) (a .try-line .ensures .0) in
-    ((told .0, second-tried _ _ _ _ _ _ _ (pivot-from-return-2 c .pivot .given .1) _ (witness-from-return-2 c .witness .ensures) _ (told .1)), a .try-line .ensures .1)
+    let told = subst (Told s a) (with-witness-from-return-2 c .with-witness .ensures) (a .try-line .ensures .0) in (
+      (
+        told .0,
+        second-tried _ _ _ _ _ _ _ (pivot-from-return-2 c .pivot .given .1) _ (witness-from-return-2 c .witness .ensures) _
+            (told .1),
+      ),
+      a .try-line .ensures .1,
+    )
 
 pub second-try-spec : {M : Type 1} → statement M
 second-try-spec =

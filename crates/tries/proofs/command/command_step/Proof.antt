@@ -108,8 +108,12 @@ enum-known-command-3 c =
 
 strike-clause-requires : tie.Need-strike-clause-requires
 strike-clause-requires c κs =
-    let H = start-from-strike-clause-call c .pre .0 in
-    (H .entries .good, omega (arith, H .many, H .lines), omega (arith, H .many, H .lines, H .room), omega (arith, H .many, H .lines, H .room, H .marked))
+    let H = start-from-strike-clause-call c .pre .0 in (
+      H .entries .good,
+      omega (arith, H .many, H .lines),
+      omega (arith, H .many, H .lines, H .room),
+      omega (arith, H .many, H .lines, H .room, H .marked),
+    )
 
 enum-known-command-4 : tie.Need-enum-known-command-4
 enum-known-command-4 c =
@@ -165,8 +169,10 @@ same-length-10 c =
 
 returns : tie.Need-returns
 returns c =
-    let a = record-step-from-return c in
-    (says-as _ _ _ _ _ _ _ _ (command-from-return c .command .given .1) (says-recorded _ _ _ _ _ _ _ _ (a .record-step .ensures .0)), a .record-step .ensures .1)
+    let a = record-step-from-return c in (
+      says-as _ _ _ _ _ _ _ _ (command-from-return c .command .given .1) (says-recorded _ _ _ _ _ _ _ _ (a .record-step .ensures .0)),
+      a .record-step .ensures .1,
+    )
 
 same-length-11 : tie.Need-same-length-11
 same-length-11 c =
@@ -211,8 +217,11 @@ same-length-20 c =
 returns-2 : tie.Need-returns-2
 returns-2 c =
     let a = clause-step-from-return-2 c in
-    let H = start-from-return-2 c .pre .0 in
-    (says-as _ _ _ _ _ _ _ _ (command2-from-return-2 c .command2 .given .1) (says-added _ _ _ _ _ _ _ (λ profile ls. a .clause-step .ensures .0 profile _ ls H)), a .clause-step .ensures .1)
+    let H = start-from-return-2 c .pre .0 in (
+      says-as _ _ _ _ _ _ _ _ (command2-from-return-2 c .command2 .given .1)
+          (says-added _ _ _ _ _ _ _ (λ profile ls. a .clause-step .ensures .0 profile _ ls H)),
+      a .clause-step .ensures .1,
+    )
 
 same-length-21 : tie.Need-same-length-21
 same-length-21 c =
@@ -245,16 +254,21 @@ same-length-27 c =
 returns-3 : tie.Need-returns-3
 returns-3 c =
     let a = strike-clause-from-return-3 c in
-    let s = start-from-return-3 c in
-    (says-as _ _ _ _ _ _ _ _ (command3-from-return-3 c .command3 .given .1) (says-struck _ _ _ _ _ _ _ (λ ls. a .strike-clause .ensures _ (s .args .scratch .now) ls (s .pre .0))), s .pre .1)
+    let s = start-from-return-3 c in (
+      says-as _ _ _ _ _ _ _ _ (command3-from-return-3 c .command3 .given .1)
+          (says-struck _ _ _ _ _ _ _ (λ ls. a .strike-clause .ensures _ (s .args .scratch .now) ls (s .pre .0))),
+      s .pre .1,
+    )
 
 returns-4 : tie.Need-returns-4
 returns-4 c =
     (says-as _ _ _ _ _ _ _ _ (command4-from-return-4 c .command4 .given .1) (says-wrong _ _ _ _ _ _), start-from-return-4 c .pre .1)
 
 returns-5 : tie.Need-returns-5
-returns-5 c =
-    (says-as _ _ _ _ _ _ _ _ (enum-told-from-return-5 c .enum-told .given .1) (says-finished _ _ _ _ _ _ (c .finish-step .ensures _ _)), start-from-return-5 c .pre .1)
+returns-5 c = (
+  says-as _ _ _ _ _ _ _ _ (enum-told-from-return-5 c .enum-told .given .1) (says-finished _ _ _ _ _ _ (c .finish-step .ensures _ _)),
+  start-from-return-5 c .pre .1,
+)
 
 pub command-step-spec : {M : Type 1} → statement M
 command-step-spec =

@@ -75,8 +75,11 @@ loop-less c = search needs
 loop-again : tie.Need-loop-again Inv-loop μ-loop
 loop-again c =
     let l = at-loop-from-else1 c .loop in
-    let s = start-from-else1 c .args in
-    (omega (arith, in-loop-from-else1 c .loop-test .taken), none-more (s .members .now) (s .struck .now) (s .g .0) _ (l .inv .1) (sym (is-there-from-else1 c .is-there .ensures) ∙ c .if1 .left))
+    let s = start-from-else1 c .args in (
+      omega (arith, in-loop-from-else1 c .loop-test .taken),
+      none-more (s .members .now) (s .struck .now) (s .g .0) _ (l .inv .1)
+          (sym (is-there-from-else1 c .is-there .ensures) ∙ c .if1 .left),
+    )
 
 returns-2 : tie.Need-returns-2 Inv-loop μ-loop
 returns-2 c = none-lowest _ _ _ _ _ (c .loop-test .left) (at-loop-from-return-2 c .loop .inv .1)

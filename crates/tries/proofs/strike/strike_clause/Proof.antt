@@ -8,17 +8,19 @@ use Rattle.table.specs.Nodes.{place}
 use Rattle.table.specs.Indexed.{Table, tableOf, size, nodesOf}
 use Rattle.table.specs.declared.Found.{Found}
 use Rattle.clause.specs.Words.{clauseOfWords, Stands}
-use Rattle.entries.specs.States.{Lent, lentOf}
+use Rattle.state.specs.States.{Lent, lentOf}
 use Rattle.tries.proofs.Struck.{strike-absent, strike-none, strike-lowest}
 use Rattle.tries.proofs.strike.strike_clause.Statement.{statement}
 use Rattle.tries.proofs.strike.strike_clause.Tie as tie
 
 module _ (s : tie.Start) where
   abbrev lent : List ℕ → Lent
-  lent cs = lentOf (s .args .vars .now) (s .args .lows .now) (s .args .highs .now) (s .args .heads .now) (s .args .links .now) (s .args .members .now) cs (s .args .struck .now)
+  lent cs = lentOf (s .args .vars .now) (s .args .lows .now) (s .args .highs .now) (s .args .heads .now) (s .args .links .now)
+      (s .args .members .now) cs (s .args .struck .now)
 
   abbrev table : Table
-  table = tableOf (s .args .vars .now) (s .args .lows .now) (s .args .highs .now) (s .args .heads .now) (s .args .links .now) (s .args .st .count)
+  table = tableOf (s .args .vars .now) (s .args .lows .now) (s .args .highs .now) (s .args .heads .now) (s .args .links .now)
+      (s .args .st .count)
 
   abbrev stands : Found → Type 0
   stands r = Stands (nodesOf table) (place (size table) (nodesOf table) (clauseOfWords (s .args .clause .literals))) r
@@ -93,7 +95,8 @@ returns : tie.Need-returns
 returns c =
     let s = start-from-then1 c in
     let found = subst (stands s) (g-from-then1 c .g .given .1) (find-from-then1 c .find .ensures) in
-    λ n cs ls H w is. strike-none n (lent s cs) (s .args .st) H ls w (s .args .clause) is _ _ found (lowest-from-then1 c .lowest .ensures) (c .if1 .taken)
+    λ n cs ls H w is. strike-none n (lent s cs) (s .args .st) H ls w (s .args .clause) is _ _ found (lowest-from-then1 c .lowest .ensures)
+    (c .if1 .taken)
 
 slice-write-struck : tie.Need-slice-write-struck
 slice-write-struck c = omega (arith, c .if1 .left, start-from-else1 c .pre .3)
@@ -108,12 +111,14 @@ returns-2 : tie.Need-returns-2
 returns-2 c =
     let s = start-from-else1 c in
     let found = subst (stands s) (g-from-else1 c .g .given .1) (find-from-else1 c .find .ensures) in
-    λ n cs ls H w is. strike-lowest n (lent s cs) (s .args .st) H ls w (s .args .clause) is _ _ found (lowest-from-else1 c .lowest .ensures) (c .if1 .left)
+    λ n cs ls H w is. strike-lowest n (lent s cs) (s .args .st) H ls w (s .args .clause) is _ _ found (lowest-from-else1 c .lowest .ensures)
+    (c .if1 .left)
 
 returns-3 : tie.Need-returns-3
 returns-3 c =
     let s = start-from-return-3 c in
-    λ n cs ls H w is. strike-absent n (lent s cs) (s .args .st) H ls w (s .args .clause) is (subst (stands s) (c .enum-told .given .1) (find-from-return-3 c .find .ensures))
+    λ n cs ls H w is. strike-absent n (lent s cs) (s .args .st) H ls w (s .args .clause) is
+    (subst (stands s) (c .enum-told .given .1) (find-from-return-3 c .find .ensures))
 
 pub strike-clause-spec : {M : Type 1} → statement M
 strike-clause-spec =

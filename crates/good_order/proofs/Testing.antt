@@ -1,0 +1,137 @@
+-- What each return of the test says, in the code's own terms. The idea: a test's answer decides its fact; a refusal contradicts good order.
+-- Assumes nothing.
+use mathlib.Core.Path.{_≡_, refl, sym, ap, _∙_, subst}
+use mathlib.Core.Bool.{Bool, true, false}
+use mathlib.Core.List.{List}
+use Prim.Native.Nat.{ℕ, _+_, _-_, _≤_, _<_}
+use native.Mathlib.Omega.{arith}
+use native.Mathlib.Decide.{ℕ-discrete}
+use lib.ListN.{length, getD, take, drop, length-drop}
+use lib.Seq.{take-all}
+use lib.Dec.{eqb}
+use borrow.Author.Tests.{eqb-true, eqb-false}
+use Rattle.table.specs.Nodes.{Node, nodeOf, at, alike, allBlank, fits, goodPlaces}
+use Rattle.table.specs.Columns.{sizeFits}
+use Rattle.table.specs.Indexed.{Table, tableOf, size}
+use Rattle.meaning.proofs.Booleans.{t≢f}
+use Rattle.table.proofs.Order.{alike-true, alike-false}
+use Rattle.table.proofs.Written.{length-rows}
+use Rattle.table.proofs.Chain.{rows-at}
+use Rattle.table.proofs.Sizes.{Sized, sized}
+use Rattle.table.specs.Index.{bucket, goodOrder}
+use Rattle.good_order.specs.Tested.{Decides, LentSizes, placesOf, chainAt, OfChain, NodeFits, here, next, Comes, InChain, Empty}
+use Rattle.good_order.specs.Tested.{NodesFit, HeadsFit, AllInChain, Walkable}
+use Rattle.good_order.proofs.Paths.{reach-least}
+use Rattle.good_order.proofs.Right.{right-claim, refused, all-pass, passed}
+
+pub says-no : {P : Type 0} → (P → ⊥) → Decides false P
+says-no n = record { yes = λ e. t≢f (sym e); no = λ _. n }
+
+pub says-yes : {P : Type 0} → P → Decides true P
+says-yes p = record { yes = λ _. p; no = λ e. t≢f e }
+
+-- one place more
+pub one-more : (Q : ℕ → Type 0) (from k : ℕ) → ((j : ℕ) → from ≤ j → j < k → Q j) → Q k → (j : ℕ) → from ≤ j → j < k + 1 → Q j
+one-more Q from k before q j a b = elim (ℕ-discrete j k) [ yes e ↦ subst Q (sym e) q | no e ↦ before j a (omega (arith, e)) ]
+
+pub head-more : (Q : ℕ → Type 0) (k : ℕ) → ((j : ℕ) → j < k → Q j) → Q k → (j : ℕ) → j < k + 1 → Q j
+head-more Q k before q j b = elim (ℕ-discrete j k) [ yes e ↦ subst Q (sym e) q | no e ↦ before j (omega (arith, e)) ]
+
+-- the walk to place k has come to place j
+pub record Walking (T : Table) (k j : ℕ) : Type 0 where
+  pub below : j < T .count
+  pub on : Comes T k j → InChain T k
+  pub back : InChain T k → Comes T k j
+
+module _ (T : Table) (E : LentSizes T) where
+  abbrev read : ℕ → Node
+  read k = nodeOf (getD (T .vars) k 0) (getD (T .lows) k 0) (getD (T .highs) k 0)
+
+  read-at : (k : ℕ) → at (placesOf T) k ≡ nodeOf (getD (T .vars) k 0) (getD (T .lows) k 0) (getD (T .highs) k 0)
+  read-at k = rows-at (T .vars) (T .lows) (T .highs) (E .lows) (E .highs) k
+
+  chain-read : (k b : ℕ) → b ≡ bucket (length (T .heads)) (getD (T .vars) k 0) (getD (T .lows) k 0) (getD (T .highs) k 0) → b ≡ chainAt T k
+  chain-read k b e = e ∙ ap (λ (x : Node). bucket (length (T .heads)) (x .var) (x .low) (x .high)) (sym (read-at k))
+
+  pub chain-decided : (top b j own : ℕ) → 2 ≤ j → j < top → own ≡ bucket (length (T .heads)) (getD (T .vars) j 0) (getD (T .lows) j 0)
+      (getD (T .highs) j 0)
+      → (j ≡ 0 → ⊥) → Decides (eqb own b) (OfChain T top b j)
+  chain-decided top b j own two lt e ne = record {
+    yes = λ q _. (two, lt, sym (chain-read j own e) ∙ eqb-true own b q);
+    no = λ q all. eqb-false own b q (chain-read j own e ∙ all ne .2);
+  }
+
+  pub node-decided : (k b : ℕ) (r : Bool) → fits (placesOf T) k (at (placesOf T) k) ≡ true
+      → b ≡ bucket (length (T .heads)) (getD (T .vars) k 0) (getD (T .lows) k 0) (getD (T .highs) k 0)
+      → Decides r (OfChain T k b (getD (T .links) k 0)) → Decides r (NodeFits T k)
+  node-decided k b r f e D =
+      let q : b ≡ chainAt T k = chain-read k b e in
+      let D′ : Decides r (OfChain T k (chainAt T k) (getD (T .links) k 0)) =
+      subst (λ (c : ℕ). Decides r (OfChain T k c (getD (T .links) k 0))) q D in
+      record { yes = λ s. (f, D′ .yes s); no = λ s all. D′ .no s (all .1) }
+
+  -- ---- the walk down a chain
+
+  module _ (W : Walkable T) (k : ℕ) where
+    pub walk-start : (b : ℕ) → b < length (T .heads) → b ≡ bucket (length (T .heads)) (getD (T .vars) k 0) (getD (T .lows) k 0)
+        (getD (T .highs) k 0)
+        → Walking T k (getD (T .heads) b 0)
+    walk-start b lt e =
+        let q : b ≡ chainAt T k = chain-read k b e in
+        record {
+          below = elim (ℕ-discrete (getD (T .heads) b 0) 0) [ yes z ↦ omega (arith, z, E .least) | no z ↦ W .heads b lt z .1 ];
+          on = subst (λ (c : ℕ). Comes T k (getD (T .heads) c 0)) q;
+          back = subst (λ (c : ℕ). Comes T k (getD (T .heads) c 0)) (sym q);
+        }
+
+    pub link-less : (j : ℕ) → 2 ≤ j → j < T .count → getD (T .links) j 0 < j
+    link-less j two lt = elim (ℕ-discrete (getD (T .links) j 0) 0) [ yes z ↦ omega (arith, z) | no z ↦ W .nodes j two lt .1 z .1 ]
+
+    onward : (j : ℕ) → k < j → Comes T k j → (at (placesOf T) j ≡ at (placesOf T) k → ⊥) × Comes T k (getD (T .links) j 0)
+    onward _ lt here = absurd (omega arith)
+    onward j lt (next p free r) = (free, r)
+
+    same-read : (j : ℕ) → read j ≡ read k → at (placesOf T) j ≡ at (placesOf T) k
+    same-read j e = read-at j ∙ e ∙ sym (read-at k)
+
+    read-same : (j : ℕ) → at (placesOf T) j ≡ at (placesOf T) k → read j ≡ read k
+    read-same j e = sym (read-at j) ∙ e ∙ read-at k
+
+    pub walk-next : (j : ℕ) → 2 ≤ k → k < j → Walking T k j → alike (read j) (read k) ≡ false → Walking T k (getD (T .links) j 0)
+    walk-next j two lt S miss = record {
+      below = omega (arith, link-less j (omega arith) (S .below), S .below);
+      on = λ r. S .on (next {j = j} lt (λ e. alike-false (read j) (read k) miss (read-same j e)) r);
+      back = λ r. onward j lt (S .back r) .1;
+    }
+
+    pub walk-hit : (j : ℕ) → k < j → Walking T k j → alike (read j) (read k) ≡ true → InChain T k → ⊥
+    walk-hit j lt S hit r = onward j lt (S .back r) .0 (same-read j (alike-true (read j) (read k) hit))
+
+    pub walk-end : (j : ℕ) → j ≤ k → Walking T k j → Decides (eqb j k) (InChain T k)
+    walk-end j le S = record {
+      yes = λ e. S .on (subst (Comes T k) (sym (eqb-true j k e)) here);
+      no = λ e r. eqb-false j k e (let p : k ≤ j = reach-least _ _ k j (S .back r) in omega arith);
+    }
+
+-- ---- the whole
+
+pub lent : (vs ls hs ds ks : List ℕ) (count : ℕ) → sizeFits vs ls hs ds ks ≡ true → 2 ≤ count → count ≤ length vs →
+    LentSizes (tableOf vs ls hs ds ks count)
+lent vs ls hs ds ks count e two le =
+    let S : Sized vs ls hs ds ks = sized vs ls hs ds ks e in
+    record { least = two; within = le; most = S .most; lows = S .lows; highs = S .highs; links = S .links; heads = S .heads }
+
+pub no-order : (places : List Node) (count : ℕ) (ds ks : List ℕ) → goodPlaces places count ≡ false → goodOrder places count ds ks ≡ false
+unfolding goodOrder
+no-order places count ds ks e = rw e
+
+pub decided : (T : Table) (E : LentSizes T) → allBlank (take 2 (placesOf T)) ≡ true →
+    allBlank (take (size T - T .count) (drop (T .count) (placesOf T))) ≡ true
+    → Empty (T .links) 0 2 → Empty (T .links) (T .count) (length (T .links)) → NodesFit T (T .count) → HeadsFit T (length (T .heads))
+    → (r : Bool) → Decides r (AllInChain T (T .count)) → r ≡ goodOrder (placesOf T) (T .count) (T .heads) (T .links)
+decided T E zeros rest first past N H true D =
+    sym (right-claim T E (passed T E zeros
+    (ap allBlank (sym (take-all (size T - T .count) (drop (T .count) (placesOf T))
+    (omega (arith, length-drop (T .count) (placesOf T), length-rows (T .vars) (T .lows) (T .highs) (E .lows) (E .highs))))) ∙ rest)
+    first (λ k a b. past k a (omega (arith, E .links))) N H (D .yes refl)))
+decided T E zeros rest first past N H false D = sym (refused T E (λ R. D .no refl (all-pass T E R)))

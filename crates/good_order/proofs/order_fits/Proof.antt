@@ -1,0 +1,302 @@
+-- `order_fits` is the definition's test: each refusal contradicts good order, and a table that passes is in good order. Assumes nothing.
+use mathlib.Core.Path.{sym, _∙_}
+use native.Mathlib.Omega.{arith}
+use borrow.Author.Tests.{not-true, not-false}
+use Rattle.table.proofs.Sizes.{sized}
+use Rattle.table.proofs.Places.{too-few, too-many, bad-start, bad-rest}
+use Rattle.good_order.proofs.Right.{refused, nodes-pass, heads-pass}
+use Rattle.good_order.proofs.Testing.{lent, no-order, decided}
+use Rattle.good_order.proofs.order_fits.Statement.{statement}
+use Rattle.good_order.proofs.order_fits.Tie as tie
+
+-- The ways back, written by ways.py: TO-from-FROM leads from the place FROM of the code to the place TO before it.
+module _ (c : tie.After-shared-slice-known5) where
+  abbrev start-from-shared-slice-known5 : tie.Start
+  start-from-shared-slice-known5 = c .before .before .before .before .before
+
+module _ (c : tie.Else1) where
+  abbrev start-from-else1 : tie.Start
+  start-from-else1 = start-from-shared-slice-known5 (c .before)
+
+module _ (c : tie.Then1) where
+  abbrev start-from-then1 : tie.Start
+  start-from-then1 = start-from-shared-slice-known5 (c .before)
+
+module _ (c : tie.Else2) where
+  abbrev else1-from-else2 : tie.Else1
+  else1-from-else2 = c .before
+
+  abbrev start-from-else2 : tie.Start
+  start-from-else2 = start-from-else1 else1-from-else2
+
+module _ (c : tie.Then2) where
+  abbrev start-from-then2 : tie.Start
+  start-from-then2 = start-from-else1 (c .before)
+
+module _ (c : tie.Else3) where
+  abbrev start-from-else3 : tie.Start
+  start-from-else3 = start-from-else2 (c .before .before)
+
+module _ (c : tie.Then3) where
+  abbrev else1-from-then3 : tie.Else1
+  else1-from-then3 = else1-from-else2 (c .before .before)
+
+  abbrev start-from-then3 : tie.Start
+  start-from-then3 = start-from-else1 else1-from-then3
+
+module _ (c : tie.After-blank-between2) where
+  abbrev else2-from-blank-between2 : tie.Else2
+  else2-from-blank-between2 = c .before .before .before
+
+module _ (c : tie.Else4) where
+  abbrev start-from-else4 : tie.Start
+  start-from-else4 = start-from-else3 (c .before .before)
+
+module _ (c : tie.Then4) where
+  abbrev else2-from-then4 : tie.Else2
+  else2-from-then4 = else2-from-blank-between2 (c .before)
+
+  abbrev else1-from-then4 : tie.Else1
+  else1-from-then4 = else1-from-else2 else2-from-then4
+
+  abbrev start-from-then4 : tie.Start
+  start-from-then4 = start-from-else1 else1-from-then4
+
+module _ (c : tie.After-links-empty) where
+  abbrev else2-from-links-empty : tie.Else2
+  else2-from-links-empty = else2-from-blank-between2 (c .before .before)
+
+module _ (c : tie.Else5) where
+  abbrev else2-from-else5 : tie.Else2
+  else2-from-else5 = else2-from-links-empty (c .before)
+
+  abbrev start-from-else5 : tie.Start
+  start-from-else5 = start-from-else2 else2-from-else5
+
+module _ (c : tie.Then5) where
+  abbrev else2-from-then5 : tie.Else2
+  else2-from-then5 = else2-from-links-empty (c .before)
+
+  abbrev else1-from-then5 : tie.Else1
+  else1-from-then5 = else1-from-else2 else2-from-then5
+
+  abbrev start-from-then5 : tie.Start
+  start-from-then5 = start-from-else1 else1-from-then5
+
+module _ (c : tie.Else6) where
+  abbrev else2-from-else6 : tie.Else2
+  else2-from-else6 = else2-from-else5 (c .before .before)
+
+  abbrev else1-from-else6 : tie.Else1
+  else1-from-else6 = else1-from-else2 else2-from-else6
+
+  abbrev start-from-else6 : tie.Start
+  start-from-else6 = start-from-else1 else1-from-else6
+
+module _ (c : tie.Then6) where
+  abbrev else2-from-then6 : tie.Else2
+  else2-from-then6 = else2-from-else5 (c .before .before)
+
+  abbrev else1-from-then6 : tie.Else1
+  else1-from-then6 = else1-from-else2 else2-from-then6
+
+  abbrev start-from-then6 : tie.Start
+  start-from-then6 = start-from-else1 else1-from-then6
+
+module _ (c : tie.After-nodes-fit) where
+  abbrev else2-from-nodes-fit : tie.Else2
+  else2-from-nodes-fit = else2-from-else6 (c .before)
+
+module _ (c : tie.Else7) where
+  abbrev else2-from-else7 : tie.Else2
+  else2-from-else7 = else2-from-nodes-fit (c .before)
+
+  abbrev else1-from-else7 : tie.Else1
+  else1-from-else7 = else1-from-else2 else2-from-else7
+
+  abbrev start-from-else7 : tie.Start
+  start-from-else7 = start-from-else1 else1-from-else7
+
+module _ (c : tie.Then7) where
+  abbrev else2-from-then7 : tie.Else2
+  else2-from-then7 = else2-from-nodes-fit (c .before)
+
+  abbrev else1-from-then7 : tie.Else1
+  else1-from-then7 = else1-from-else2 else2-from-then7
+
+  abbrev start-from-then7 : tie.Start
+  start-from-then7 = start-from-else1 else1-from-then7
+
+module _ (c : tie.Else8) where
+  abbrev nodes-fit-from-else8 : tie.After-nodes-fit
+  nodes-fit-from-else8 = c .before .before .before
+
+  abbrev else2-from-else8 : tie.Else2
+  else2-from-else8 = else2-from-nodes-fit nodes-fit-from-else8
+
+  abbrev else1-from-else8 : tie.Else1
+  else1-from-else8 = else1-from-else2 else2-from-else8
+
+  abbrev start-from-else8 : tie.Start
+  start-from-else8 = start-from-else1 else1-from-else8
+
+module _ (c : tie.Then8) where
+  abbrev else2-from-then8 : tie.Else2
+  else2-from-then8 = else2-from-else7 (c .before .before)
+
+  abbrev else1-from-then8 : tie.Else1
+  else1-from-then8 = else1-from-else2 else2-from-then8
+
+  abbrev start-from-then8 : tie.Start
+  start-from-then8 = start-from-else1 else1-from-then8
+
+module _ (c : tie.After-all-in-chain) where
+  abbrev else7-from-return-9 : tie.Else7
+  else7-from-return-9 = c .before .before .before
+
+  abbrev nodes-fit-from-return-9 : tie.After-nodes-fit
+  nodes-fit-from-return-9 = else7-from-return-9 .before
+
+  abbrev else6-from-return-9 : tie.Else6
+  else6-from-return-9 = nodes-fit-from-return-9 .before
+
+  abbrev links-empty2-from-return-9 : tie.After-links-empty2
+  links-empty2-from-return-9 = else6-from-return-9 .before
+
+  abbrev else5-from-return-9 : tie.Else5
+  else5-from-return-9 = links-empty2-from-return-9 .before
+
+  abbrev links-empty-from-return-9 : tie.After-links-empty
+  links-empty-from-return-9 = else5-from-return-9 .before
+
+  abbrev else4-from-return-9 : tie.Else4
+  else4-from-return-9 = links-empty-from-return-9 .before
+
+  abbrev blank-between2-from-return-9 : tie.After-blank-between2
+  blank-between2-from-return-9 = else4-from-return-9 .before
+
+  abbrev else3-from-return-9 : tie.Else3
+  else3-from-return-9 = blank-between2-from-return-9 .before
+
+  abbrev blank-between-from-return-9 : tie.After-blank-between
+  blank-between-from-return-9 = else3-from-return-9 .before
+
+  abbrev else2-from-return-9 : tie.Else2
+  else2-from-return-9 = blank-between-from-return-9 .before
+
+  abbrev else1-from-return-9 : tie.Else1
+  else1-from-return-9 = else1-from-else2 else2-from-return-9
+
+  abbrev start-from-return-9 : tie.Start
+  start-from-return-9 = start-from-else1 else1-from-return-9
+
+returns : tie.Need-returns
+returns c = sym (no-order _ _ _ _ (too-few _ _ _ (sized _ _ _ _ _ (start-from-then1 c .pre) .lows)
+    (sized _ _ _ _ _ (start-from-then1 c .pre) .highs) _ (c .if1 .taken)))
+
+returns-2 : tie.Need-returns-2
+returns-2 c = sym (no-order _ _ _ _ (too-many _ _ _ (sized _ _ _ _ _ (start-from-then2 c .pre) .lows)
+    (sized _ _ _ _ _ (start-from-then2 c .pre) .highs) _ (c .if2 .taken)))
+
+blank-between-requires : tie.Need-blank-between-requires
+blank-between-requires c κs = (
+  (sized _ _ _ _ _ (start-from-else2 c .pre)) .lows,
+  (sized _ _ _ _ _ (start-from-else2 c .pre)) .highs,
+  (sized _ _ _ _ _ (start-from-else2 c .pre)) .least,
+)
+
+returns-3 : tie.Need-returns-3
+returns-3 c = sym (no-order _ _ _ _ (bad-start _ _ _ (sized _ _ _ _ _ (start-from-then3 c .pre) .lows)
+    (sized _ _ _ _ _ (start-from-then3 c .pre) .highs) _ (else1-from-then3 c .if1 .left) (c .before .before .if2 .left)
+    (sym (c .before .blank-between .ensures) ∙ not-true _ (c .if3 .taken))))
+
+blank-between-requires-2 : tie.Need-blank-between-requires-2
+blank-between-requires-2 c κs = (
+  (sized _ _ _ _ _ (start-from-else3 c .pre)) .lows,
+  (sized _ _ _ _ _ (start-from-else3 c .pre)) .highs,
+  omega arith,
+)
+
+returns-4 : tie.Need-returns-4
+returns-4 c = sym (no-order _ _ _ _ (bad-rest _ _ _ (sized _ _ _ _ _ (start-from-then4 c .pre) .lows)
+    (sized _ _ _ _ _ (start-from-then4 c .pre) .highs) _ (else1-from-then4 c .if1 .left) (else2-from-then4 c .if2 .left)
+    (sym (c .before .blank-between2 .ensures) ∙ not-true _ (c .if4 .taken))))
+
+links-empty-requires : tie.Need-links-empty-requires
+links-empty-requires c κs = (
+  omega arith,
+  omega
+      (arith, (sized _ _ _ _ _ (start-from-else4 c .pre)) .least, (sized _ _ _ _ _ (start-from-else4 c .pre)) .links),
+)
+
+returns-5 : tie.Need-returns-5
+returns-5 c = sym (refused _ (lent _ _ _ _ _ _ (start-from-then5 c .pre) (else1-from-then5 c .if1 .left) (else2-from-then5 c .if2 .left))
+    (λ R. c .before .links-empty .ensures .no (not-true _ (c .if5 .taken)) (R .first)))
+
+links-empty-requires-2 : tie.Need-links-empty-requires-2
+links-empty-requires-2 c κs = (
+  omega (arith, else2-from-else5 c .if2 .left, (sized _ _ _ _ _ (start-from-else5 c .pre)) .links),
+  omega arith,
+)
+
+returns-6 : tie.Need-returns-6
+returns-6 c = sym (refused _ (lent _ _ _ _ _ _ (start-from-then6 c .pre) (else1-from-then6 c .if1 .left) (else2-from-then6 c .if2 .left))
+    (λ R. c .before .links-empty2 .ensures .no (not-true _ (c .if6 .taken))
+    (λ k a b. R .past k a (omega (arith, (sized _ _ _ _ _ (start-from-then6 c .pre)) .links)))))
+
+nodes-fit-requires : tie.Need-nodes-fit-requires
+nodes-fit-requires c κs = (lent _ _ _ _ _ _ (start-from-else6 c .pre) (else1-from-else6 c .if1 .left) (else2-from-else6 c .if2 .left))
+
+returns-7 : tie.Need-returns-7
+returns-7 c = sym (refused _ (lent _ _ _ _ _ _ (start-from-then7 c .pre) (else1-from-then7 c .if1 .left) (else2-from-then7 c .if2 .left))
+    (λ R. c .before .nodes-fit .ensures .no (not-true _ (c .if7 .taken))
+    (nodes-pass _ (lent _ _ _ _ _ _ (start-from-then7 c .pre) (else1-from-then7 c .if1 .left) (else2-from-then7 c .if2 .left)) R)))
+
+heads-fit-requires : tie.Need-heads-fit-requires
+heads-fit-requires c κs = (lent _ _ _ _ _ _ (start-from-else7 c .pre) (else1-from-else7 c .if1 .left) (else2-from-else7 c .if2 .left))
+
+returns-8 : tie.Need-returns-8
+returns-8 c = sym (refused _ (lent _ _ _ _ _ _ (start-from-then8 c .pre) (else1-from-then8 c .if1 .left) (else2-from-then8 c .if2 .left))
+    (λ R. c .before .heads-fit .ensures .no (not-true _ (c .if8 .taken))
+    (heads-pass _ (lent _ _ _ _ _ _ (start-from-then8 c .pre) (else1-from-then8 c .if1 .left) (else2-from-then8 c .if2 .left)) R)))
+
+all-in-chain-requires : tie.Need-all-in-chain-requires
+all-in-chain-requires c κs = (
+  (lent _ _ _ _ _ _ (start-from-else8 c .pre) (else1-from-else8 c .if1 .left) (else2-from-else8 c .if2 .left)),
+  record {
+    nodes = (nodes-fit-from-else8 c .nodes-fit .ensures .yes (not-false _ (c .before .before .if7 .left)));
+    heads =
+        (c .before .heads-fit .ensures .yes (not-false _ (c .if8 .left)));
+  },
+)
+
+returns-9 : tie.Need-returns-9
+returns-9 c = decided _ (lent _ _ _ _ _ _ (start-from-return-9 c .pre) (else1-from-return-9 c .if1 .left)
+    (else2-from-return-9 c .if2 .left)) (sym (blank-between-from-return-9 c .blank-between .ensures)
+    ∙ not-false _ (else3-from-return-9 c .if3 .left))
+    (sym (blank-between2-from-return-9 c .blank-between2 .ensures) ∙ not-false _ (else4-from-return-9 c .if4 .left))
+    (links-empty-from-return-9 c .links-empty .ensures .yes (not-false _ (else5-from-return-9 c .if5 .left)))
+    (links-empty2-from-return-9 c .links-empty2 .ensures .yes (not-false _ (else6-from-return-9 c .if6 .left)))
+    (nodes-fit-from-return-9 c .nodes-fit .ensures .yes (not-false _ (else7-from-return-9 c .if7 .left)))
+    (c .before .before .heads-fit .ensures .yes (not-false _ (c .before .if8 .left))) _ (c .all-in-chain .ensures)
+
+pub order-fits-spec : {M : Type 1} → statement M
+order-fits-spec =
+    tie.close
+    (tie.spec
+    returns
+    returns-2
+    blank-between-requires
+    returns-3
+    blank-between-requires-2
+    returns-4
+    links-empty-requires
+    returns-5
+    links-empty-requires-2
+    returns-6
+    nodes-fit-requires
+    returns-7
+    heads-fit-requires
+    returns-8
+    all-in-chain-requires
+    returns-9)
