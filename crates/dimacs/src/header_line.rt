@@ -20,7 +20,7 @@ fn is_passed(s: &[u8], at: usize) -> bool
 }
 
 // The start of the first line that is neither blank nor a comment; the length where there is none.
-fn judged_line(s: &[u8]) -> usize
+pub fn judged_line(s: &[u8]) -> usize
     ensures { λ r. ⌜ r ≡ judgedFrom (now (s .entry)) (length (now (s .entry))) 0 ⌝ }
     ensures { λ r. ⌜ r ≤ length (now (s .entry)) ⌝ }
 {

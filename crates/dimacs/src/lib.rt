@@ -8,6 +8,7 @@ pub use clauses::next_clause;
 pub use clauses::open_clause;
 pub use clauses::token_at;
 pub use header_line::is_letter;
+pub use header_line::judged_line;
 pub use header_line::read_header;
 pub use text::skip_between;
 use words::Literals;
