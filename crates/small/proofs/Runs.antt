@@ -37,7 +37,7 @@ use Rattle.verdict.proofs.Commands.{step-taken, command-goes, step-standing}
 use Rattle.verdict.proofs.Clauses.{Underway, underway}
 use Rattle.truth.specs.Tables.{diagramOf}
 use Rattle.truth_entries.proofs.MadeValues.{diagramOf-clause, clause-word}
-use Rattle.room.proofs.Roomy.{Fine, Found, place-found}
+use Rattle.small_room.proofs.Roomy.{Fine, Found, place-found}
 use Rattle.small.specs.Small.{enough, sixOnly, small}
 use Rattle.small.specs.Agrees.{Said, said}
 use Rattle.small.specs.WordSteps.{WordState, WordStep, onward, halt, wordsBegun, wordStep, sayAt, afterWord, wordRecords, formulaRefused, wordOfClause, wordClauses, wordsAfterHeader, wordVerdict}
@@ -71,8 +71,8 @@ module _ (s n : ℕ) (large : 2 ^ 64 < s) (six : n ≤ 6) (proof : List ℕ) whe
           → said (commands steps inRecords n s proof st′ at′) ≡ wordRecords steps n proof ws′ at′)
           → said (afterStep x st at (λ st′. commands steps inRecords n s proof st′ next-at)) ≡ afterWord y ws at (λ ws′. wordRecords steps n proof ws′ next-at)
       go (next st′) e (onward ws′) A rec =
-          let T : CommandTaken n s st (recorded r more) st′ = step-taken n s st (recorded r more) st′ e in
-          rec _ st′ next-at (command-goes Records proof n s st st′ at within T .1) (step-standing S (omega arith) Records (recorded r more) tt st′ T) ws′ A
+          let T : CommandTaken false n s st (recorded r more) st′ = step-taken false n s st (recorded r more) st′ e in
+          rec _ st′ next-at (command-goes false Records proof n s st st′ at within T .1) (step-standing S (omega arith) false Records (recorded r more) tt st′ T) ws′ A
       go (next st′) e (halt number offset) A rec = absurd A
       go (stop number offset) e (onward ws′) A rec = absurd A
       go (stop number offset) e (halt number′ offset′) A rec =

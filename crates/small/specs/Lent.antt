@@ -7,6 +7,7 @@ use Prim.Native.Nat.{ℕ, suc, _+_, _*_, _≤_, _<_}
 use lib.ListN.{length, take}
 use lib.Dec.{eqb, leb}
 use Rattle.words.specs.declared.Literals.{Literals}
+use Rattle.meaning.specs.Rules.{Line}
 use Rattle.meaning.specs.Words.{inWord}
 use Rattle.records.specs.declared.Rule.{Rule}
 use Rattle.records.specs.declared.Rule.the-variants.{Rup, Pr, Path}
@@ -142,10 +143,13 @@ rootTest Rup = quietTest
 rootTest Pr = witnessTest
 rootTest Path = quietTest
 
--- The tests refuse, or the line is judged.
+-- The tests refuse, or the line of the root's word is judged.
+abbrev pub Tested : WordState → WordStep → (ℕ → Line) → Made → Type 0
+Tested ws step by (made.Refused number) = step ≡ halt number 0
+Tested ws step by (made.Word g) = (step ≡ wordJudged ws g (by g)) × (g ≢ ones) × (ws .lines < 1024)
+
 abbrev pub LineTested : WordState → Rule → ℕ → Made → Type 0
-LineTested ws rule root (made.Refused number) = wordLine ws rule root ≡ halt number 0
-LineTested ws rule root (made.Word g) = (wordLine ws rule root ≡ wordJudged ws g (lineOf ws rule g)) × (g ≢ ones) × (ws .lines < 1024)
+LineTested ws rule root m = Tested ws (wordLine ws rule root) (lineOf ws rule) m
 
 -- ---- the call
 

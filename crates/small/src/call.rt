@@ -26,16 +26,6 @@ fn clear_words(list: &mut [u64])
     }
 }
 
-fn clear_marks(list: &mut [u8])
-    ensures { λ _. ⌜ now (list .exit) ≡ replicate (length (now (list .entry))) 0 ⌝ }
-{
-    let mut i: usize = 0;
-    while i < list.len() {
-        list[i] = 0;
-        i += 1;
-    }
-}
-
 // Whether member list, its marks and scratch list are of proper size.
 fn lent_fits(members: &[u64], struck: &[u8], scratch: &[u64]) -> bool
     ensures { λ r. ⌜ r ≡ smallFits (now (members .entry)) (now (struck .entry)) (now (scratch .entry)) ⌝ }
@@ -87,7 +77,7 @@ fn run_clauses<'a>(
         × (2048 ≤ length (now members)) × (length (now struck) ≡ length (now members)) × (4096 ≤ length (now scratch)) ⌝ }
     ensures { λ r. ⌜ wordClauses variables (now (proof .entry)) [] (clausesFrom (now (formula .entry)) variables wanted from) ≡ saidOf r ⌝ }
 {
-    clear_marks(struck);
+    clearing::clear_bytes(struck);
     match crate::formula::read_clauses(members, formula, variables, wanted, from) {
         Start::Refused { number, place } => SmallChecked {
             number,
@@ -171,7 +161,7 @@ pub fn call<'a>(
     }
     let r = run(members, struck, scratch, formula, proof);
     clear_words(members);
-    clear_marks(struck);
+    clearing::clear_bytes(struck);
     clear_words(scratch);
     r
 }
