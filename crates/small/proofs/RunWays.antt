@@ -46,8 +46,8 @@ use Rattle.small.specs.declared.Made.{Made}
 use Rattle.small.specs.declared.SmallChecked.{SmallChecked}
 use Rattle.small.specs.declared.Start.{Start}
 use Rattle.small.specs.declared.Start.the-variants.{Begun, Refused}
-use Rattle.small.specs.Small.{sixOnly, small, SmallOutcome, smallFits, smallCall}
-use Rattle.small.specs.Agrees.{Said, said}
+use Rattle.small_verdict.specs.Small.{sixOnly, small, SmallOutcome, smallFits, smallCall}
+use Rattle.small_verdict.specs.Agrees.{Said, said}
 use Rattle.small.specs.WordSteps.{WordState, WordStep, onward, halt, wordsBegun, isWordEntry, entryWord, wordNode, wordWitness, wordWaits, wordLine, isLiveWord, wordStrike, wordSet, wordEnd, wordStep, sayAt, wordRecords, formulaRefused, wordOfClause, wordClauses, wordsAfterHeader, wordVerdict}
 use Rattle.small.specs.Lent.{WordsLent, wordsLent, stateOf, madeStep, Held, Stepped, saidOf, saidFrom, Begins, smallOutcome}
 use Rattle.small.proofs.Runs.{words-agree}

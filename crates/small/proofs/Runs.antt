@@ -37,9 +37,9 @@ use Rattle.verdict.proofs.Commands.{step-taken, command-goes, step-standing}
 use Rattle.verdict.proofs.Clauses.{Underway, underway}
 use Rattle.truth.specs.Tables.{diagramOf}
 use Rattle.truth_entries.proofs.MadeValues.{diagramOf-clause, clause-word}
-use Rattle.small_room.proofs.Roomy.{Fine, Found, place-found}
-use Rattle.small.specs.Small.{enough, sixOnly, small}
-use Rattle.small.specs.Agrees.{Said, said}
+use Rattle.small_verdict.proofs.Roomy.{Fine, Found, place-found}
+use Rattle.small_verdict.specs.Small.{enough, sixOnly, small}
+use Rattle.small_verdict.specs.Agrees.{Said, said}
 use Rattle.small.specs.WordSteps.{WordState, WordStep, onward, halt, wordsBegun, wordStep, sayAt, afterWord, wordRecords, formulaRefused, wordOfClause, wordClauses, wordsAfterHeader, wordVerdict}
 use Rattle.small.proofs.Worded.{Has, Worded, worded-append, worded-grown, worded-length}
 use Rattle.small.proofs.Stands.{Stands, Alike, step-alike}

@@ -20,8 +20,8 @@ use Rattle.small.specs.declared.Made.the-variants as made
 use Rattle.small.specs.declared.Start.{Start}
 use Rattle.small.specs.declared.Start.the-variants as start
 use Rattle.small.specs.declared.SmallChecked.{SmallChecked}
-use Rattle.small.specs.Agrees.{Said}
-use Rattle.small.specs.Small.{SmallOutcome}
+use Rattle.small_verdict.specs.Agrees.{Said}
+use Rattle.small_verdict.specs.Small.{SmallOutcome}
 use Rattle.small.specs.WordSteps.{WordState, WordStep, onward, halt, withWord, wordsBegun, lineOf, wordJudged, wordLine, wordRecords, formulaRefused}
 
 pub record WordsLent : Type 0 where

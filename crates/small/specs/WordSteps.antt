@@ -28,8 +28,8 @@ use Rattle.verdict.specs.Steps.{isVariable, assigned, unstruck, beyond, noParit
 use Rattle.truth.specs.Tables.{diagramOf, ones, byLiterals}
 use Rattle.truth_rules.specs.Lists.{diagramsOf}
 use Rattle.truth_entries.specs.Made.{over, freeTo, clauseWord, parityWord, leastWord}
-use Rattle.small.specs.Agrees.{Said}
-use Rattle.small.specs.Small.{sixOnly}
+use Rattle.small_verdict.specs.Agrees.{Said}
+use Rattle.small_verdict.specs.Small.{sixOnly}
 
 -- ---- the state
 

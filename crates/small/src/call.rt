@@ -12,7 +12,7 @@ ghost use lib.ListN.{length, replicate};
 ghost use Rattle.dimacs.specs.declared.Header.{Header};
 ghost use Rattle.dimacs.specs.Header.{header};
 ghost use Rattle.dimacs.specs.Clauses.{clausesFrom};
-ghost use Rattle.small.specs.Small.{sixOnly, smallFits, smallCall};
+ghost use Rattle.small_verdict.specs.Small.{sixOnly, smallFits, smallCall};
 ghost use Rattle.small.specs.WordSteps.{wordClauses, wordVerdict};
 ghost use Rattle.small.specs.Lent.{saidOf, smallOutcome};
 

@@ -1,5 +1,6 @@
--- A check in records of a formula of at most six variables is not refused for room in a table of more than 2^64 places. The idea: a table in good
--- order of six variables has at most 2^64 nodes, so that no placing finds it full. Assumes nothing.
+-- A check in records of a formula of at most six variables is not refused for room in a table of more than 2^64 places, nor for the paths of a
+-- line. The idea: a table in good order of six variables has at most 2^64 nodes, so that no placing finds it full; a diagram of six variables has at
+-- most 64 paths. Assumes nothing.
 use mathlib.Core.Path.{_≡_, refl, sym, ap, ap₂, _∙_, subst}
 use mathlib.Core.Logic.{_≢_}
 use mathlib.Core.Bool.{Bool, true, false, not, _&&_, _||_, cond}
@@ -8,12 +9,12 @@ use Prim.Native.Nat.{ℕ, zero, suc, _+_, _^_, _≤_, _<_, max}
 use native.Mathlib.Omega.{arith}
 use lib.ListN.{length}
 use lib.Dec.{eqb, ltb, leb}
-use borrow.Author.Tests.{leb-true}
+use borrow.Author.Tests.{leb-true, le-ltb, ne-eqb}
 use Rattle.meaning.specs.Diagram.{Diagram, Reduced}
 use Rattle.meaning.specs.Operations as meaning
 use Rattle.meaning.specs.Rules.{Line, rup, pr, witnessed}
 use Rattle.meaning.specs.Words.{inWord}
-use Rattle.meaning.proofs.Booleans.{and-both}
+use Rattle.meaning.proofs.Booleans.{t≢f, and-both}
 use Rattle.meaning.proofs.Values.{reduced-to, diagram-reduced}
 use Rattle.meaning.proofs.Ends.{AllReduced}
 use Rattle.paths.specs.Paths.{pathLine, pathCount}
@@ -21,6 +22,7 @@ use Rattle.table.specs.Nodes.{Node, at, above, Placing, full, placed, put, plac
 use Rattle.table.specs.Making.{Room, short, all, afterPlacing, placedAll, Reach, reached, thenReach, turnsReach, keptReach, lineReach}
 use Rattle.table.proofs.Order.{Ordered, above-true}
 use Rattle.table.proofs.Numbers.{UsesTo}
+use Rattle.table.proofs.Numbers as numbers
 use Rattle.table.proofs.Placing.{After, place-after, put-place}
 use Rattle.dimacs.specs.declared.Header.{Header}
 use Rattle.dimacs.specs.declared.Header.the-variants.{Proper, Improper}
@@ -46,8 +48,16 @@ use Rattle.verdict.proofs.SetValues.{set-reduced}
 use Rattle.verdict.proofs.Clauses.{underway}
 use Rattle.verdict.proofs.Ends.{reached-standing, ended}
 use Rattle.verdict.proofs.Numbers.{making-refused}
-use Rattle.small_room.proofs.Never.{never-full}
-use Rattle.small_room.proofs.Reduced.{AllTurns, rup-reduced, pr-reduced, path-reduced}
+use Rattle.small_verdict.proofs.FewPaths.{few-paths}
+use Rattle.small_verdict.proofs.Never.{never-full}
+use Rattle.small_verdict.proofs.Reduced.{AllTurns, rup-reduced, pr-reduced, path-reduced}
+
+-- The numbers that speak of sizes: of the lent lists (7), of the table (8, 23), of a line's paths (34).
+abbrev pub isOfSize : ℕ → Bool
+isOfSize number = eqb number 7 || (eqb number 8 || (eqb number 23 || eqb number 34))
+
+pub not-of-size : (number : ℕ) → isOfSize number ≡ false → (number ≢ 7) × (number ≢ 8) × (number ≢ 23) × (number ≢ 34)
+not-of-size number e = (λ q. t≢f (sym (ap isOfSize q) ∙ e), λ q. t≢f (sym (ap isOfSize q) ∙ e), λ q. t≢f (sym (ap isOfSize q) ∙ e), λ q. t≢f (sym (ap isOfSize q) ∙ e))
 
 module _ (s n : ℕ) (large : 2 ^ 64 < s) (six : n ≤ 6) where
   -- ---- nodes
@@ -114,19 +124,23 @@ module _ (s n : ℕ) (large : 2 ^ 64 < s) (six : n ≤ 6) where
 
   -- ---- one record
 
-  -- What a record comes to: neither 8 nor 23.
+  -- What a record results in: none of the four numbers.
   abbrev Roomy : Step → Type 0
   Roomy (next st) = Unit {0}
-  Roomy (stop number offset) = (number ≢ 8) × (number ≢ 23)
+  Roomy (stop number offset) = isOfSize number ≡ false
   Roomy (spent number peak) = number ≡ 19
 
-  refuses : (c : Bool) (number offset : ℕ) (r : Step) → (number ≢ 8) × (number ≢ 23) → (c ≡ false → Roomy r) → Roomy (cond c (stop number offset) r)
+  refuses : (c : Bool) (number offset : ℕ) (r : Step) → isOfSize number ≡ false → (c ≡ false → Roomy r) → Roomy (cond c (stop number offset) r)
   refuses true number offset r p q = p
   refuses false number offset r p q = q refl
 
-  requires-of : (c : Bool) (number offset : ℕ) (r : Step) → (number ≢ 8) × (number ≢ 23) → (c ≡ true → Roomy r) → Roomy (cond (not c) (stop number offset) r)
+  requires-of : (c : Bool) (number offset : ℕ) (r : Step) → isOfSize number ≡ false → (c ≡ true → Roomy r) → Roomy (cond (not c) (stop number offset) r)
   requires-of true number offset r p q = q refl
   requires-of false number offset r p q = p
+
+  -- a test that does not refuse
+  passes : (c : Bool) (number offset : ℕ) (r : Step) → c ≡ false → Roomy r → Roomy (cond c (stop number offset) r)
+  passes c number offset r e q = subst (λ (b : Bool). Roomy (cond b (stop number offset) r)) (sym e) q
 
   module _ (m : Meant) (st : State) (S : Standing s n m st) where
     abbrev fine : Fine (st .nodes)
@@ -162,10 +176,10 @@ module _ (s n : ℕ) (large : 2 ^ 64 < s) (six : n ≤ 6) where
     node-roomy b =
         let l : ℕ = entryNode st (b .low .0) in
         let h : ℕ = entryNode st (b .high .0) in
-        refuses (leb 4096 (length (st .entries))) 21 0 _ (λ q. omega arith, λ q. omega arith) λ few.
-        requires-of (leb 1 (b .variable) && leb (b .variable) n) 12 0 _ (λ q. omega arith, λ q. omega arith) λ variable.
-        requires-of (isEntry st (b .low .0) && isEntry st (b .high .0)) 13 0 _ (λ q. omega arith, λ q. omega arith) λ entries.
-        requires-of (above (st .nodes) (b .variable) l && above (st .nodes) (b .variable) h) 14 0 _ (λ q. omega arith, λ q. omega arith) λ over.
+        refuses (leb 4096 (length (st .entries))) 21 0 _ refl λ few.
+        requires-of (leb 1 (b .variable) && leb (b .variable) n) 12 0 _ refl λ variable.
+        requires-of (isEntry st (b .low .0) && isEntry st (b .high .0)) 13 0 _ refl λ entries.
+        requires-of (above (st .nodes) (b .variable) l && above (st .nodes) (b .variable) h) 14 0 _ refl λ over.
         let (least, most) = and-both (leb 1 (b .variable)) (leb (b .variable) n) variable in
         let (low, high) = and-both (isEntry st (b .low .0)) (isEntry st (b .high .0)) entries in
         let (over-low, over-high) = and-both (above (st .nodes) (b .variable) l) (above (st .nodes) (b .variable) h) over in
@@ -174,56 +188,63 @@ module _ (s n : ℕ) (large : 2 ^ 64 < s) (six : n ≤ 6) where
     witness-roomy : (v : ℕ) (b : Bool) → Roomy (witnessStep n st v b)
     unfolding witnessStep
     witness-roomy v b =
-        refuses (not (isVariable n v)) 12 0 _ (λ q. omega arith, λ q. omega arith) λ _.
-        refuses (inWord (st .positive) v || inWord (st .negative) v) 15 0 _ (λ q. omega arith, λ q. omega arith) λ _. tt
+        refuses (not (isVariable n v)) 12 0 _ refl λ _.
+        refuses (inWord (st .positive) v || inWord (st .negative) v) 15 0 _ refl λ _. tt
+
+    -- a root's diagram has at most 64 paths
+    root-few : (root : ℕ) → isEntry st root ≡ true → ltb 4096 (pathCount (diagramIn st (entryNode st root))) ≡ false
+    root-few root there =
+        let g : ℕ = entryNode st root in
+        let o : Reduced 1 (suc n) (diagramIn st g) = numbers.reduced-to n (st .nodes) (S .ordered) (S .uses) g (entry-valued S root there .0) in
+        le-ltb 4096 (pathCount (diagramIn st g)) (omega (arith, few-paths (diagramIn st g) (reduced-to 1 (suc n) 7 (diagramIn st g) (omega arith) o)))
 
     line-roomy : (rule : Rule) (root : ℕ) → Roomy (lineStep n s st rule root)
     unfolding lineStep
     line-roomy Rup root =
         let g : ℕ = entryNode st root in
-        refuses (not (isEntry st root)) 13 0 _ (λ q. omega arith, λ q. omega arith) λ _.
-        refuses (waiting st) 16 0 _ (λ q. omega arith, λ q. omega arith) λ _.
-        refuses (leb 1024 (st .lines)) 22 0 _ (λ q. omega arith, λ q. omega arith) λ _.
-        refuses (eqb g 1) 17 0 _ (λ q. omega arith, λ q. omega arith) λ _.
+        refuses (not (isEntry st root)) 13 0 _ refl λ _.
+        refuses (waiting st) 16 0 _ refl λ _.
+        refuses (leb 1024 (st .lines)) 22 0 _ refl λ _.
+        refuses (eqb g 1) 17 0 _ refl λ _.
         judged-roomy g (rup n (liveMembers st) (diagramIn st g)) (rup-reduced n (liveMembers st) (diagramIn st g))
     line-roomy Pr root =
         let g : ℕ = entryNode st root in
         let P : ℕ → Bool = inWord (st .positive) in
         let N : ℕ → Bool = inWord (st .negative) in
-        refuses (not (isEntry st root)) 13 0 _ (λ q. omega arith, λ q. omega arith) λ _.
-        refuses (leb 1024 (st .lines)) 22 0 _ (λ q. omega arith, λ q. omega arith) λ _.
-        refuses (eqb g 1) 17 0 _ (λ q. omega arith, λ q. omega arith) λ _.
-        refuses (not (witnessed n P N (diagramIn st g))) 18 0 _ (λ q. omega arith, λ q. omega arith) λ _.
+        refuses (not (isEntry st root)) 13 0 _ refl λ _.
+        refuses (leb 1024 (st .lines)) 22 0 _ refl λ _.
+        refuses (eqb g 1) 17 0 _ refl λ _.
+        refuses (not (witnessed n P N (diagramIn st g))) 18 0 _ refl λ _.
         judged-roomy g (pr n P N (liveMembers st) (diagramIn st g)) (pr-reduced n P N (liveMembers st) (diagramIn st g))
     line-roomy Path root =
         let g : ℕ = entryNode st root in
-        refuses (not (isEntry st root)) 13 0 _ (λ q. omega arith, λ q. omega arith) λ _.
-        refuses (waiting st) 16 0 _ (λ q. omega arith, λ q. omega arith) λ _.
-        refuses (leb 1024 (st .lines)) 22 0 _ (λ q. omega arith, λ q. omega arith) λ _.
-        refuses (eqb g 1) 17 0 _ (λ q. omega arith, λ q. omega arith) λ _.
-        refuses (ltb 4096 (pathCount (diagramIn st g))) 34 0 _ (λ q. omega arith, λ q. omega arith) λ _.
-        judged-roomy g (pathLine n (liveMembers st) (diagramIn st g)) (path-reduced n (liveMembers st) (diagramIn st g))
+        requires-of (isEntry st root) 13 0 _ refl λ there.
+        refuses (waiting st) 16 0 _ refl λ _.
+        refuses (leb 1024 (st .lines)) 22 0 _ refl λ _.
+        refuses (eqb g 1) 17 0 _ refl λ _.
+        passes (ltb 4096 (pathCount (diagramIn st g))) 34 0 _ (root-few root there)
+        (judged-roomy g (pathLine n (liveMembers st) (diagramIn st g)) (path-reduced n (liveMembers st) (diagramIn st g)))
 
     strike-roomy : (k : ℕ) → Roomy (strikeStep st k)
     unfolding strikeStep
     strike-roomy k =
-        refuses (waiting st) 16 0 _ (λ q. omega arith, λ q. omega arith) λ _.
-        refuses (not (isLive st k)) 28 0 _ (λ q. omega arith, λ q. omega arith) λ _. tt
+        refuses (waiting st) 16 0 _ refl λ _.
+        refuses (not (isLive st k)) 28 0 _ refl λ _. tt
 
     set-roomy : (kind : SetKind) (b : SetBody) → Roomy (setStep n s st kind b)
     unfolding setStep
     set-roomy kind b =
-        refuses (leb 4096 (length (st .entries))) 21 0 _ (λ q. omega arith, λ q. omega arith) λ _.
-        refuses (beyond n (b .set)) 12 0 _ (λ q. omega arith, λ q. omega arith) λ _.
-        refuses (noParity kind (b .byte)) 29 0 _ (λ q. omega arith, λ q. omega arith) λ _.
+        refuses (leb 4096 (length (st .entries))) 21 0 _ refl λ _.
+        refuses (beyond n (b .set)) 12 0 _ refl λ _.
+        refuses (noParity kind (b .byte)) 29 0 _ refl λ _.
         entered-roomy (place s (st .nodes) (setDiagram n kind b)) (place-found (st .nodes) fine (setDiagram n kind b) (set-reduced n kind b))
 
     end-roomy : (more : Bool) → Roomy (endStep st more)
     unfolding endStep
     end-roomy more =
-        refuses (waiting st) 16 0 _ (λ q. omega arith, λ q. omega arith) λ _.
-        refuses more 11 1 _ (λ q. omega arith, λ q. omega arith) λ _.
-        refuses (st .refuted) 0 0 _ (λ q. omega arith, λ q. omega arith) λ _. (λ q. omega arith, λ q. omega arith)
+        refuses (waiting st) 16 0 _ refl λ _.
+        refuses more 11 1 _ refl λ _.
+        refuses (st .refuted) 0 0 _ refl λ _. refl
 
     -- LAW: no record is refused for room.
     pub record-roomy : (more : Bool) (r : Record) → Roomy (recordStep n s st more r)
@@ -234,9 +255,9 @@ module _ (s n : ℕ) (large : 2 ^ 64 < s) (six : n ≤ 6) where
     record-roomy more (Strike k) = strike-roomy (k .0)
     record-roomy more (SetEntry kind b) = set-roomy kind b
     record-roomy more End = end-roomy more
-    record-roomy more CutShort = (λ q. omega arith, λ q. omega arith)
-    record-roomy more UnknownKind = (λ q. omega arith, λ q. omega arith)
-    record-roomy more NoRecord = (λ q. omega arith, λ q. omega arith)
+    record-roomy more CutShort = refl
+    record-roomy more UnknownKind = refl
+    record-roomy more NoRecord = refl
 
 -- ---- the check
 
@@ -260,10 +281,11 @@ AtMostSix (Improper number place) = Unit {0}
 
 module _ (s : ℕ) (large : 2 ^ 64 < s) (text proof : List ℕ) (small : AtMostSix (header text)) where
   abbrev NotRoom : Verdict → Type 0
-  NotRoom v = (v .number ≢ 8) × (v .number ≢ 23)
+  NotRoom v = isOfSize (v .number) ≡ false
 
-  early-roomy : (number : ℕ) → Early number → (number ≢ 8) × (number ≢ 23)
-  early-roomy number named = (λ q. omega arith, λ q. omega arith)
+  early-roomy : (number : ℕ) → Early number → isOfSize number ≡ false
+  early-roomy number named =
+      rw (ne-eqb number 7 (λ q. omega arith), ne-eqb number 8 (λ q. omega arith), ne-eqb number 23 (λ q. omega arith), ne-eqb number 34 (λ q. omega arith))
 
   ended-roomy : (v : Verdict) → Ended inRecords s text proof v → NotRoom v
   unfolding step
@@ -280,8 +302,8 @@ module _ (s : ℕ) (large : 2 ^ 64 < s) (text proof : List ℕ) (small : AtMostS
   ended-roomy _ (tried {n} {number} {peak} {at} {st} {m} R e) =
       let six : n ≤ 6 = subst AtMostSix (reached-header s text proof R .2) small in
       let is : number ≡ 19 = subst (Roomy s n large six) e (record-roomy s n large six m st (reached-standing inRecords s text proof R .1) (ltb (at + lengthOf (recordAt proof at)) (length proof)) (recordAt proof at)) in
-      (λ q. omega arith, λ q. omega arith)
+      ap isOfSize is
 
-  -- THEOREM: with more than 2^64 places a check of at most six variables is not refused for room.
+  -- THEOREM: with more than 2^64 places a check of at most six variables is refused neither for room nor for the paths of a line.
   pub not-for-room : NotRoom (verdict inRecords s text proof)
   not-for-room = ended-roomy (verdict inRecords s text proof) (ended inRecords s text proof)

@@ -1,3 +1,0 @@
-pub mod Never
-pub mod Reduced
-pub mod Roomy

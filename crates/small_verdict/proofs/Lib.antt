@@ -1,0 +1,6 @@
+pub mod Never
+pub mod Reduced
+pub mod FewPaths
+pub mod Roomy
+pub mod Agreement
+pub mod Rows

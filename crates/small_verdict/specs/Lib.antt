@@ -1,0 +1,3 @@
+pub mod Small
+pub mod Agrees
+pub mod Rows
