@@ -5,14 +5,18 @@ mod check;
 mod dimacs;
 mod drat;
 mod index;
+mod judge;
 mod operate;
+mod paths;
 mod protocol;
 mod records;
 mod rules;
 #[cfg(test)]
 mod selftest;
+mod single;
 mod table;
 mod tally;
+mod words;
 
 use std::io::{self, BufRead, BufReader, BufWriter, Write};
 
