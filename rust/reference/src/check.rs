@@ -3,7 +3,7 @@
 use crate::dimacs::{Formula, Refusal};
 use crate::drat;
 use crate::index::Sizes;
-use crate::judge::{Judge, Member};
+use crate::judge::{Judge, Member, Profile};
 use crate::operate::Diagrams;
 use crate::table::{Full, SMALLEST};
 
@@ -35,26 +35,35 @@ pub struct Verdict {
     pub members: Vec<Member>,
 }
 
-/// A proof in one of its forms.
-pub enum Proof<'a> {
-    Records(&'a [u8]),
-    Drat(&'a [u8]),
+/// The form of a proof.
+#[derive(Clone, Copy, PartialEq, Eq, Debug)]
+pub enum Form {
+    Records,
+    Text,
+}
+
+/// What is to be checked, and how.
+pub struct Task {
+    pub form: Form,
+    pub profile: Profile,
+    pub formula: Vec<u8>,
+    pub proof: Vec<u8>,
 }
 
 /// "Order: 7, formula, proof."
-pub fn check(d: &mut Diagrams, lent: &Lent, formula: &[u8], proof: Proof) -> Verdict {
+pub fn check(d: &mut Diagrams, lent: &Lent, task: &Task) -> Verdict {
     let sizes = lent.are_right();
     d.reset(if sizes { lent.table.places as usize } else { SMALLEST as usize });
     if !sizes {
         return refused_early(Refusal { number: 7, place: 0 }, 0);
     }
-    match read_formula(d, formula) {
+    match read_formula(d, &task.formula) {
         Err(refusal) => {
             // "A refused formula leaves table and lists all zero, count 2."
             d.drop_to(2);
             refused_early(refusal, d.table.peak())
         }
-        Ok((variables, members)) => judge(d, Judge::new(variables, members, d.table.count()), proof),
+        Ok((variables, members)) => judge(d, Judge::new(task.profile, variables, members, d.table.count()), task),
     }
 }
 
@@ -73,10 +82,10 @@ fn read_formula(d: &mut Diagrams, bytes: &[u8]) -> Result<(u32, Vec<Member>), Re
     Ok((formula.variables(), members))
 }
 
-fn judge(d: &mut Diagrams, mut judge: Judge, proof: Proof) -> Verdict {
-    let (number, place) = match proof {
-        Proof::Records(bytes) => judge.records(d, bytes),
-        Proof::Drat(text) => drat::judge(d, &mut judge, text),
+fn judge(d: &mut Diagrams, mut judge: Judge, task: &Task) -> Verdict {
+    let (number, place) = match task.form {
+        Form::Records => judge.records(d, &task.proof),
+        Form::Text => drat::judge(d, &mut judge, &task.proof),
     };
     // "Nodes of entries after the last accepted line are dropped in both."
     d.drop_to(judge.kept());

@@ -2,7 +2,7 @@
 //! leading `d`, parted likewise, strikes out; lines beginning with `c` are skipped".
 
 use crate::dimacs::{Clause, Clauses, Refusal};
-use crate::judge::Judge;
+use crate::judge::{Judge, Profile};
 use crate::operate::Diagrams;
 use crate::rules;
 use crate::table::{Full, Literals};
@@ -53,7 +53,8 @@ fn add(d: &mut Diagrams, judge: &mut Judge, clause: &Clause) -> Result<(), u32> 
     let live = judge.live();
     let mut shown = rules::rup(d, &live, g);
     // "The empty clause has no pivot", hence no second try.
-    if shown == Ok(None) && !clause.pivot.is_empty() {
+    let again = judge.profile() == Profile::Redundance && !clause.pivot.is_empty();
+    if shown == Ok(None) && again {
         d.drop_to(kept);
         shown = rules::pr(d, &live, g, witness(clause));
     }

@@ -25,7 +25,16 @@ impl Member {
     }
 }
 
+/// What lines may pass. "In this profile only RUP lines and strikings pass, and DRAT clauses only by their
+/// first try"; it admits path lines.
+#[derive(Clone, Copy, PartialEq, Eq, Debug)]
+pub enum Profile {
+    Redundance,
+    Consequence,
+}
+
 pub struct Judge {
+    profile: Profile,
     variables: u32,
     /// Clauses and accepted lines; "numbers are not reused", so struck ones keep their places.
     members: Vec<Member>,
@@ -42,8 +51,9 @@ pub struct Judge {
 
 impl Judge {
     /// After the clauses, which took the places below the count.
-    pub fn new(variables: u32, members: Vec<Member>, count: usize) -> Judge {
+    pub fn new(profile: Profile, variables: u32, members: Vec<Member>, count: usize) -> Judge {
         Judge {
+            profile,
             variables,
             members,
             entries: vec![ZERO, ONE],
@@ -53,6 +63,10 @@ impl Judge {
             rounds: 0,
             refuted: false,
         }
+    }
+
+    pub fn profile(&self) -> Profile {
+        self.profile
     }
 
     pub fn variables(&self) -> u32 {
@@ -168,8 +182,12 @@ impl Judge {
         self.close(d, g, kept, shown)
     }
 
-    /// "PR: 10, 13, 22, 17, 18, then the same."
+    /// "PR: 10, 13, 22, 17, 18, then the same." The consequence profile "refuses a PR record with 33 before
+    /// all but 10".
     fn pr(&mut self, d: &mut Diagrams, root: EntryId) -> Result<(), u32> {
+        if self.profile == Profile::Consequence {
+            return Err(33);
+        }
         let g = self.entry(root)?;
         self.may_be_line(g == ONE)?;
         if !d.is_one_under(g, self.witness) {

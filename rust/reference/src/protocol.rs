@@ -1,7 +1,7 @@
 //! The line protocol: a command line in, an answer line out.
 
-use crate::check::{check, Lent, Proof};
-use crate::judge::Member;
+use crate::check::{check, Form, Lent, Task, Verdict};
+use crate::judge::{Member, Profile};
 use crate::operate::Diagrams;
 use crate::single;
 use crate::words::{decimal, hex, push_list, push_number};
@@ -19,29 +19,45 @@ fn command(d: &mut Diagrams, line: &[u8], out: &mut Vec<u8>) -> Option<()> {
     let mut words = line.split(|&b| b == b' ');
     let name = words.next()?;
     match name {
-        b"check" => check_command(d, words, |bytes| Proof::Records(bytes), out),
-        b"drat" => check_command(d, words, |bytes| Proof::Drat(bytes), out),
+        b"cons" => profiled(d, Profile::Consequence, words.next()?, words, out),
+        b"check" | b"drat" => profiled(d, Profile::Redundance, name, words, out),
         _ => single::command(d, name, words, out),
     }
 }
 
-fn check_command<'a>(
+/// A command that is given in each profile.
+fn profiled<'a>(
     d: &mut Diagrams,
-    mut words: impl Iterator<Item = &'a [u8]>,
-    form: fn(&[u8]) -> Proof,
+    profile: Profile,
+    name: &[u8],
+    words: impl Iterator<Item = &'a [u8]>,
     out: &mut Vec<u8>,
 ) -> Option<()> {
+    let form = match name {
+        b"check" => Form::Records,
+        b"drat" => Form::Text,
+        _ => return None,
+    };
+    let (lent, task) = task(profile, form, words)?;
+    let verdict = check(d, &lent, &task);
+    push_verdict(d, &verdict, out);
+    Some(())
+}
+
+/// The words SIZE MEMBERS SCRATCH FORMULA PROOF and those that lend an index.
+fn task<'a>(profile: Profile, form: Form, mut words: impl Iterator<Item = &'a [u8]>) -> Option<(Lent, Task)> {
     let mut size = || decimal(words.next()?);
     let (places, members, scratch) = (size()?, size()?, size()?);
-    let formula = hex(words.next()?)?;
-    let proof = hex(words.next()?)?;
+    let (formula, proof) = (hex(words.next()?)?, hex(words.next()?)?);
     let index = single::lent_index(words)?;
     // The check empties the index, so only its sizes can be named.
     if !index.changes.is_empty() {
         return None;
     }
-    let lent = Lent { table: index.sizes(places), members, scratch };
-    let verdict = check(d, &lent, &formula, form(&proof));
+    Some((Lent { table: index.sizes(places), members, scratch }, Task { form, profile, formula, proof }))
+}
+
+fn push_verdict(d: &Diagrams, verdict: &Verdict, out: &mut Vec<u8>) {
     push_number(out, verdict.number.into());
     let (count, peak) = (d.table.count() as u64, verdict.peak as u64);
     for value in [verdict.place as u64, verdict.lines as u64, verdict.rounds, count, peak] {
@@ -54,7 +70,6 @@ fn check_command<'a>(
     push_list(out, b',', &verdict.members, |out, member| push_number(out, member.node.0.into()));
     out.extend(b" | ");
     push_marks(out, &verdict.members);
-    Some(())
 }
 
 fn push_marks(out: &mut Vec<u8>, members: &[Member]) {

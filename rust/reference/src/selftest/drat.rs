@@ -28,6 +28,8 @@ fn drat_texts_are_what_the_two_tries_say() {
         let clauses: Vec<Function> = made.iter().map(|clause| clause.1).collect();
         let size = if random.one_in(2) { 200 } else { 2 + random.below(40) as usize };
         let mut model = opened(variables, size, &clauses);
+        let cons = random.one_in(4);
+        model.iter_mut().for_each(|model| model.cons = cons);
         let mut text = between(&mut random).to_string();
         let mut judged = Ok(());
         for step in 0..random.below(8) {
@@ -49,7 +51,8 @@ fn drat_texts_are_what_the_two_tries_say() {
             }
         }
         let formula = formula(&mut random, variables, &made);
-        let line = format!("drat {size} 2048 4096 {} {}", hex(formula.as_bytes()), hex(text.as_bytes()));
+        let cons = if cons { "cons " } else { "" };
+        let line = format!("{cons}drat {size} 2048 4096 {} {}", hex(formula.as_bytes()), hex(text.as_bytes()));
         let said = ask(&mut d, &line);
         match model {
             Some(model) => {

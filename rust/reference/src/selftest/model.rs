@@ -56,15 +56,17 @@ pub(super) fn paths_to_0(f: Function) -> Vec<Literals> {
 
 /// The proof's part of document 01, word for word, on functions, with the records of document 02.
 pub(super) struct Model {
+    /// The consequence profile.
+    pub(super) cons: bool,
     variables: u32,
     table: Plain,
-    members: Vec<Function>,
+    pub(super) members: Vec<Function>,
     /// The numbers of the struck members.
     struck: Vec<usize>,
     entries: Vec<Function>,
     witness: Literals,
     kept: usize,
-    lines: u64,
+    pub(super) lines: u64,
     rounds: u64,
     line_rounds: u64,
     pub(super) refuted: bool,
@@ -124,6 +126,9 @@ impl Model {
     }
 
     fn line(&mut self, root: u16, rule: Rule) -> Result<(), u32> {
+        if self.cons && rule == Rule::Pr {
+            return Err(33);
+        }
         let g = *self.entries.get(root as usize).ok_or(13u32)?;
         if rule != Rule::Pr && self.witness != Literals::default() {
             return Err(16);
@@ -164,7 +169,7 @@ impl Model {
         let last_entry = self.table.nodes.len();
         self.line_rounds = 0;
         let mut shown = self.shown(g, Rule::Rup)?;
-        if let (false, Some(&pivot)) = (shown, literals.first()) {
+        if let (false, false, Some(&pivot)) = (self.cons, shown, literals.first()) {
             self.table.nodes.truncate(last_entry);
             self.line_rounds = 0;
             for &literal in literals {
@@ -267,6 +272,7 @@ pub(super) fn opened(variables: u32, size: usize, clauses: &[Function]) -> Optio
         table.build(clause).ok()?;
     }
     Some(Model {
+        cons: false,
         variables,
         kept: table.nodes.len(),
         table,

@@ -81,49 +81,107 @@ fn noise(random: &mut Random) -> Step {
     }
 }
 
-/// What document 01 says of a check whose formula is well written and fits the table.
-fn judged(variables: u32, size: usize, clauses: &[Function], steps: &[Step]) -> Option<String> {
-    let mut model = opened(variables, size, clauses)?;
-    let mut place = 0;
-    for &step in steps {
-        if let Err(number) = model.take(step) {
-            return Some(report(number, place, model));
-        }
-        place += bytes(step).len();
+/// A formula that is well written, and a proof.
+pub(super) struct Given {
+    pub(super) variables: u32,
+    pub(super) clauses: Vec<Function>,
+    pub(super) text: String,
+    pub(super) steps: Vec<Step>,
+    pub(super) size: usize,
+}
+
+impl Given {
+    pub(super) fn random(random: &mut Random) -> Given {
+        let variables = 1 + random.below(N as u64) as u32;
+        let made: Vec<_> = (0..random.below(9)).map(|_| random_clause(random, variables)).collect();
+        let clauses: Vec<Function> = made.iter().map(|clause| clause.1).collect();
+        let steps = proof(random, variables, &clauses);
+        let size = if random.one_in(2) { 200 } else { 2 + random.below(40) as usize };
+        Given { variables, text: formula(random, variables, &made), clauses, steps, size }
     }
-    unreachable!("every proof has an end record")
+
+    pub(super) fn proof(&self) -> Vec<u8> {
+        self.steps.iter().flat_map(|&step| bytes(step)).collect()
+    }
+
+    /// The words after the name of a command that checks it.
+    pub(super) fn words(&self) -> String {
+        format!("{} 2048 4096 {} {}", self.size, hex(self.text.as_bytes()), hex(&self.proof()))
+    }
+
+    pub(super) fn models(&self) -> Function {
+        self.clauses.iter().fold(ALL, |all, clause| all & clause)
+    }
+
+    /// The model after the first refusal or the end, its number and place; none where a clause finds no room.
+    pub(super) fn judged(&self, cons: bool) -> Option<(u32, usize, Model)> {
+        let mut model = opened(self.variables, self.size, &self.clauses)?;
+        model.cons = cons;
+        let mut place = 0;
+        for &step in &self.steps {
+            if let Err(number) = model.take(step) {
+                return Some((number, place, model));
+            }
+            place += bytes(step).len();
+        }
+        unreachable!("every proof has an end record")
+    }
+}
+
+/// Whether an answer is 8 as it must be.
+fn no_room(said: &str, size: usize) -> bool {
+    said.starts_with("8 ") && said.ends_with(&format!("0 0 2 {size} | - | - | -"))
 }
 
 #[test]
 fn checks_are_what_the_rules_say_and_0_is_said_of_nothing_satisfiable() {
     let mut random = Random(0xC0FFEE);
     let mut d = Diagrams::new();
-    let mut seen = [0u32; 32];
+    let mut seen = [0u32; 36];
     let (mut accepted_pr, mut refuted_struck) = (0, 0);
     for _ in 0..40_000 {
-        let variables = 1 + random.below(N as u64) as u32;
-        let made: Vec<_> = (0..random.below(9)).map(|_| random_clause(&mut random, variables)).collect();
-        let clauses: Vec<Function> = made.iter().map(|clause| clause.1).collect();
-        let steps = proof(&mut random, variables, &clauses);
-        let size = if random.one_in(2) { 200 } else { 2 + random.below(40) as usize };
-        let text = formula(&mut random, variables, &made);
-        let proof: Vec<u8> = steps.iter().flat_map(|&step| bytes(step)).collect();
-        let line = format!("check {size} 2048 4096 {} {}", hex(text.as_bytes()), hex(&proof));
+        let given = Given::random(&mut random);
+        let line = format!("check {}", given.words());
         let said = ask(&mut d, &line);
-        match judged(variables, size, &clauses, &steps) {
-            Some(judged) => assert_eq!(said, judged, "{line}"),
-            None => assert!(said.starts_with("8 ") && said.ends_with(&format!("0 0 2 {size} | - | - | -")), "{line}"),
+        match given.judged(false) {
+            Some((number, place, model)) => assert_eq!(said, report(number, place, model), "{line}"),
+            None => assert!(no_room(&said, given.size), "{line}"),
         }
         let number: usize = said.split(' ').next().unwrap().parse().unwrap();
         seen[number] += 1;
-        accepted_pr += (number == 0 && proof.contains(&0x50)) as u32;
-        refuted_struck += (number == 0 && proof.contains(&0x44)) as u32;
-        let models = clauses.iter().fold(ALL, |all, clause| all & clause);
-        assert!(number != 0 || models == 0, "0 said of a satisfiable formula: {line}");
+        accepted_pr += (number == 0 && given.proof().contains(&0x50)) as u32;
+        refuted_struck += (number == 0 && given.proof().contains(&0x44)) as u32;
+        assert!(number != 0 || given.models() == 0, "0 said of a satisfiable formula: {line}");
     }
     for number in [0, 8, 12, 13, 14, 15, 16, 17, 18, 19, 20, 23, 28, 29] {
         assert!(seen[number] > 20, "{number} seen {} times only", seen[number]);
     }
     assert!(accepted_pr > 50, "{accepted_pr}");
     assert!(refuted_struck > 50, "{refuted_struck}");
+}
+
+#[test]
+fn in_the_profile_every_accepted_line_follows_from_the_formula() {
+    let mut random = Random(0xC045);
+    let mut d = Diagrams::new();
+    let (mut refused, mut followed, mut cut_off) = (0, 0, 0);
+    for _ in 0..20_000 {
+        let given = Given::random(&mut random);
+        let line = format!("cons check {}", given.words());
+        let said = ask(&mut d, &line);
+        let Some((number, place, model)) = given.judged(true) else {
+            assert!(no_room(&said, given.size), "{line}");
+            continue;
+        };
+        assert!(model.members.iter().all(|member| given.models() & !member == 0), "{line}");
+        followed += (given.models() != 0 && model.lines > 0) as u32;
+        refused += (number == 33) as u32;
+        assert_eq!(said, report(number, place, model), "{line}");
+        let outside = ask(&mut d, line.strip_prefix("cons ").unwrap());
+        let pr = given.steps.iter().any(|step| matches!(step, Step::Line(_, Rule::Pr)));
+        assert!(pr || said == outside, "{line}");
+        let (.., model) = given.judged(false).unwrap();
+        cut_off += model.members.iter().any(|member| given.models() & !member != 0) as u32;
+    }
+    assert!(refused > 1_000 && followed > 1_000 && cut_off > 100, "{refused} {followed} {cut_off}");
 }

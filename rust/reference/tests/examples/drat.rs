@@ -2,7 +2,7 @@
 
 use crate::{expect, hex, FOUR, ONE};
 
-fn drat_sized(size: u64, formula: &str, text: &str) -> String {
+pub fn drat_sized(size: u64, formula: &str, text: &str) -> String {
     format!("drat {size} 2048 4096 {} {}", hex(formula.as_bytes()), hex(text.as_bytes()))
 }
 

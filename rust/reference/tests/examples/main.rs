@@ -6,6 +6,7 @@ mod drat;
 mod formula;
 mod index;
 mod paths;
+mod profile;
 mod room;
 mod single;
 mod striking;
