@@ -1,6 +1,7 @@
 //! The check of a formula and a proof.
 
-use crate::dimacs::{Formula, Refusal};
+use crate::binary;
+use crate::dimacs::{Clauses, Formula, Refusal};
 use crate::drat;
 use crate::index::Sizes;
 use crate::judge::{Judge, Member, Profile};
@@ -40,6 +41,7 @@ pub struct Verdict {
 pub enum Form {
     Records,
     Text,
+    Binary,
 }
 
 /// What is to be checked, and how.
@@ -83,9 +85,17 @@ fn read_formula(d: &mut Diagrams, bytes: &[u8]) -> Result<(u32, Vec<Member>), Re
 }
 
 fn judge(d: &mut Diagrams, mut judge: Judge, task: &Task) -> Verdict {
+    let (proof, variables) = (&task.proof, judge.variables());
     let (number, place) = match task.form {
-        Form::Records => judge.records(d, &task.proof),
-        Form::Text => drat::judge(d, &mut judge, &task.proof),
+        Form::Records => judge.records(d, proof),
+        Form::Text => {
+            let mut clauses = Clauses::new(proof, variables);
+            drat::judge(d, &mut judge, proof.len(), || drat::take(&mut clauses))
+        }
+        Form::Binary => {
+            let mut clauses = binary::Reader::new(proof, variables);
+            drat::judge(d, &mut judge, proof.len(), || clauses.take())
+        }
     };
     // "Nodes of entries after the last accepted line are dropped in both."
     d.drop_to(judge.kept());

@@ -1,4 +1,4 @@
-//! DRAT text proofs: "literals parted as in the formula and closed by 0, the first being the pivot; a
+//! DRAT proofs, clause by clause, and their text form: "literals parted as in the formula and closed by 0, the first being the pivot; a
 //! leading `d`, parted likewise, strikes out; lines beginning with `c` are skipped".
 
 use crate::dimacs::{Clause, Clauses, Refusal};
@@ -14,7 +14,7 @@ pub struct Step {
 }
 
 /// The next clause of a text as it closes; none at the text's end.
-fn take(text: &mut Clauses) -> Result<Option<Step>, Refusal> {
+pub fn take(text: &mut Clauses) -> Result<Option<Step>, Refusal> {
     let Some((place, token)) = text.token() else {
         return Ok(None);
     };
@@ -23,14 +23,18 @@ fn take(text: &mut Clauses) -> Result<Option<Step>, Refusal> {
     Ok(Some(Step { clause: text.clause(place, first)?, strikes }))
 }
 
-/// Takes clauses of a DRAT text up to its end or a refusal: its number and place. "A text that never
+/// Takes the clauses of a proof up to its end or a refusal: its number and place. "A text that never
 /// reaches the empty clause" is refused "with 20, at its length as is 0".
-pub fn judge(d: &mut Diagrams, judge: &mut Judge, text: &[u8]) -> (u32, usize) {
-    let mut clauses = Clauses::new(text, judge.variables());
+pub fn judge(
+    d: &mut Diagrams,
+    judge: &mut Judge,
+    length: usize,
+    mut take: impl FnMut() -> Result<Option<Step>, Refusal>,
+) -> (u32, usize) {
     loop {
-        let step = match take(&mut clauses) {
+        let step = match take() {
             Err(refusal) => return (refusal.number, refusal.place),
-            Ok(None) => return (if judge.refuted() { 0 } else { 20 }, text.len()),
+            Ok(None) => return (if judge.refuted() { 0 } else { 20 }, length),
             Ok(Some(step)) => step,
         };
         let taken = match step.strikes {

@@ -1,7 +1,9 @@
 //! A checker of diagram refutations that is not proved, to hold the proved library against. It renders
 //! documents 01 and 02 directly. A filter: one command a line, one answer a command.
 
+mod binary;
 mod check;
+mod convert;
 mod dimacs;
 mod drat;
 mod index;

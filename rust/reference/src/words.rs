@@ -70,3 +70,23 @@ pub fn push_number(out: &mut Vec<u8>, mut value: u64) {
     }
     out.extend_from_slice(&digits[at..]);
 }
+
+/// Numbers with a space between.
+pub fn push_numbers(out: &mut Vec<u8>, values: &[u64]) {
+    for (at, &value) in values.iter().enumerate() {
+        if at > 0 {
+            out.push(b' ');
+        }
+        push_number(out, value);
+    }
+}
+
+pub fn push_hex(out: &mut Vec<u8>, bytes: &[u8]) {
+    const DIGITS: &[u8; 16] = b"0123456789abcdef";
+    if bytes.is_empty() {
+        out.push(b'-');
+    }
+    for byte in bytes {
+        out.extend([DIGITS[usize::from(byte >> 4)], DIGITS[usize::from(byte & 15)]]);
+    }
+}

@@ -2,6 +2,7 @@
 //! sentences and of document 02's, asked of the filter itself.
 
 mod base;
+mod binary;
 mod drat;
 mod formula;
 mod index;
