@@ -140,5 +140,5 @@ fn parity_sums(variables: usize, striking: bool) -> families::Problem {
             constraints.push((chosen, random.percent(50)));
         }
     }
-    families::parities(variables, &constraints, striking)
+    families::parities(variables, &constraints, striking, false)
 }
