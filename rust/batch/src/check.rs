@@ -4,7 +4,7 @@ use crate::files::{Refusal, Room, Source, LONGEST};
 use crate::form::Form;
 use crate::pairs::Pair;
 use crate::sha256::hex;
-use cablesalak::{check, check_text, Number, Text, Workspace};
+use cablesalak::{Mode, Number, Text, Workspace};
 use std::time::Instant;
 
 pub use cablesalak::PLACES;
@@ -107,13 +107,14 @@ impl Checker {
 
     /// The call of the library on the two files that were read.
     fn judge(&mut self, form: Form, answer: &mut Answer) {
-        let _ = self.settings.consequence;
-        let call = match form {
-            Form::Records => check,
-            _ => check_text,
+        let form = match form {
+            Form::Records => cablesalak::Form::Records,
+            Form::Text => cablesalak::Form::Text,
+            Form::Binary => cablesalak::Form::Binary,
         };
+        let mode = Mode { form, consequence: self.settings.consequence };
         let began = Instant::now();
-        let said = call(&mut self.workspace, self.formula.text(), self.proof.text());
+        let said = self.workspace.check(mode, self.formula.text(), self.proof.text());
         answer.nanoseconds = began.elapsed().as_nanos() as u64;
         answer.number = said.number.code();
         answer.file = match said.text {
