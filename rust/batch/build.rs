@@ -9,8 +9,9 @@ use std::{env, fs};
 
 const FOLDER: &str = "CABLESALAK_ARCHIVE_FOLDER";
 
-fn commit() -> Option<String> {
-    let said = Command::new("git").args(["describe", "--always", "--dirty=+"]).output().ok()?;
+/// What git says; nothing where there is no git or no repository.
+fn git(words: &[&str]) -> Option<String> {
+    let said = Command::new("git").args(words).output().ok()?;
     let text = String::from_utf8(said.stdout).ok()?;
     said.status.success().then(|| text.trim().to_string())
 }
@@ -21,8 +22,13 @@ fn main() {
     let bytes = fs::read(&archive).unwrap_or_else(|error| {
         panic!("{archive}: {error}: write it with `rt staticlib export`, or name its folder in {FOLDER}")
     });
-    println!("cargo:rerun-if-changed={archive}");
+    // A `+` after the commit means that files differ from it. It is asked for when the commit, the archive or a source linked here changes.
+    let commit = git(&["describe", "--always", "--dirty=+"]);
+    let head = git(&["rev-parse", "--path-format=absolute", "--git-path", "logs/HEAD"]);
+    for path in [&archive, "src", "../cablesalak/src", "../proof/src"].into_iter().chain(head.as_deref()) {
+        println!("cargo:rerun-if-changed={path}");
+    }
     println!("cargo:rerun-if-env-changed={FOLDER}");
     println!("cargo:rustc-env=ARCHIVE={}", sha256::hex(&sha256::of(&bytes)));
-    println!("cargo:rustc-env=COMMIT={}", commit().as_deref().unwrap_or("unknown"));
+    println!("cargo:rustc-env=COMMIT={}", commit.as_deref().unwrap_or("unknown"));
 }
