@@ -37,6 +37,11 @@ impl Diagrams {
         self.nodes[f].0
     }
 
+    /// The diagram's first variable, low side and high side; of a constant nothing to rely on.
+    pub fn row(&self, f: Diagram) -> (u8, Diagram, Diagram) {
+        self.nodes[f]
+    }
+
     /// The diagrams below f and f itself, children first.
     fn below(&self, f: Diagram) -> Vec<Diagram> {
         let mut found = BTreeSet::from([f]);
