@@ -30,7 +30,7 @@ use Rattle.verdict.specs.Run.{commandIn, CommandTaken, Reached, Refutation}
 use Rattle.verdict.specs.Satisfies.{clausesOf}
 use Rattle.verdict.specs.MetFirst.{metBy, sayMet}
 use Rattle.dimacs.specs.Texts.{bytes}
-use Rattle.verdict.specs.Cases.{Gives, GivesAll, checked as row, prints, A-formula, A-proof, caseTable, numberTable, strikeTable, setTable}
+use Rattle.verdict.specs.Cases.{Gives, GivesAll, over, rupLine, A-formula, A-proof, caseTable, numberTable, strikeTable, setTable}
 use Rattle.verdict.specs.TextRows.{textTable}
 use Rattle.verdict.specs.PathRows.{pathTable, profileTable}
 use Rattle.verdict.proofs.Cases as Tables
@@ -43,6 +43,7 @@ use Rattle.demands.specs.Words.{Conflict, Among, AmongLive}
 use Rattle.demands.specs.Leaving.{Handed, checked, Fits, places, ZeroLine, AtStriking, AtLine}
 use Rattle.demands.specs.Texts.{liveClauses}
 use Rattle.demands.specs.Full.{Wants, AtClause, AtCommand}
+use Rattle.demands.specs.LongRows.{entriesRow, linesRow, entriesOrder, linesOrder}
 use Rattle.demands.proofs.Words as Words
 use Rattle.demands.proofs.Words.{GoesOn}
 use Rattle.demands.proofs.Ending as Ending
@@ -53,7 +54,7 @@ use Rattle.demands.proofs.ZeroLines as ZeroLines
 use Rattle.demands.proofs.NotShown as NotShown
 use Rattle.demands.proofs.Strikings as Strikings
 use Rattle.demands.proofs.Rows as Rows
-use Rattle.demands.proofs.Rows.{nodeRecords, rupLines}
+use Rattle.demands.proofs.LineRows as LineRows
 
 -- ---- the check
 
@@ -191,11 +192,18 @@ pub seven : (sized (columnsMade (0 ∷ []) (0 ∷ []) (0 ∷ []) (0 ∷ 0 ∷ []
     × (sized (columnsMade (0 ∷ 0 ∷ []) (0 ∷ 0 ∷ []) (0 ∷ 0 ∷ []) (0 ∷ 0 ∷ 0 ∷ 0 ∷ []) (0 ∷ 0 ∷ 0 ∷ [])) ≡ 7)
 seven = Tables.seven
 
-pub twenty-one : Gives (row 4096 "p cnf 1 0\n" (nodeRecords 4097) (prints 21 24576 0 0 3))
+pub twenty-one : Gives (entriesRow (over 1 0 1 []) 21)
 twenty-one = Rows.twenty-one
 
-pub twenty-two : Gives (row 4096 "p cnf 0 1\n0\n" (rupLines 1025) (prints 22 3072 1024 0 2))
-twenty-two = Rows.twenty-two
+pub twenty-two : Gives (linesRow (rupLine 0 []) 22 3072)
+twenty-two = LineRows.twenty-two
+
+-- Two faults at that place: 10 before 21, 21 before 12, 13 and 29; 13 and 16 before 22, 22 before 17 and 18.
+pub entries-order : GivesAll entriesOrder
+entries-order = Rows.entries-order
+
+pub lines-order : GivesAll linesOrder
+lines-order = LineRows.lines-order
 
 pub twenty-six : operation Negation (columnsMade (0 ∷ 0 ∷ 1 ∷ []) (0 ∷ 0 ∷ 0 ∷ []) (0 ∷ 0 ∷ 0 ∷ []) (0 ∷ 2 ∷ 0 ∷ 0 ∷ 0 ∷ 0 ∷ []) (0 ∷ 0 ∷ 0 ∷ [])) 3 2 1 .number ≡ 26
 twenty-six = Rows.twenty-six

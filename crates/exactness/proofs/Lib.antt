@@ -1,0 +1,9 @@
+pub mod Orders
+pub mod Counted
+pub mod Nodes
+pub mod Passing
+pub mod RunPasses
+pub mod InOrder
+pub mod Refusals
+pub mod EndPasses
+pub mod FormulaPeak
