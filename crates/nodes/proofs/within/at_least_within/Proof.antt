@@ -1,7 +1,8 @@
 -- `at_least_within` says 7, or lends the arrays' first n places to the call. Assumes nothing.
 use native.Mathlib.Omega.{arith}
 use borrow.Author.Needs.{needs}
-use Rattle.nodes.proofs.First.{first-length, at-least-past, at-least-first}
+use Rattle.columns.proofs.First.{first-length}
+use Rattle.nodes.proofs.First.{at-least-past, at-least-first}
 use Rattle.nodes.proofs.within.at_least_within.Statement.{statement}
 use Rattle.nodes.proofs.within.at_least_within.Tie as tie
 

@@ -1,7 +1,8 @@
 -- `evaluate_within` says 7, or lends the arrays' first n places to the evaluation. Assumes nothing.
 use native.Mathlib.Omega.{arith}
 use borrow.Author.Needs.{needs}
-use Rattle.nodes.proofs.First.{first-length, evaluation-past, evaluation-first}
+use Rattle.columns.proofs.First.{first-length}
+use Rattle.nodes.proofs.First.{evaluation-past, evaluation-first}
 use Rattle.nodes.proofs.within.evaluate_within.Statement.{statement}
 use Rattle.nodes.proofs.within.evaluate_within.Tie as tie
 

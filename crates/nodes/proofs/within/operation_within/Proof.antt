@@ -1,7 +1,8 @@
 -- `operation_within` says 7, or lends the arrays' first n places to the operation. Assumes nothing.
 use native.Mathlib.Omega.{arith}
 use borrow.Author.Needs.{needs}
-use Rattle.nodes.proofs.First.{first-length, operation-past, operation-first}
+use Rattle.columns.proofs.First.{first-length}
+use Rattle.nodes.proofs.First.{operation-past, operation-first}
 use Rattle.nodes.proofs.within.operation_within.Statement.{statement}
 use Rattle.nodes.proofs.within.operation_within.Tie as tie
 
