@@ -18,6 +18,7 @@ mod selftest;
 mod single;
 mod table;
 mod tally;
+mod why;
 mod words;
 
 use std::io::{self, BufRead, BufReader, BufWriter, Write};

@@ -6,6 +6,8 @@ use crate::dimacs::Refusal;
 use crate::judge::{Member, Profile};
 use crate::operate::Diagrams;
 use crate::single;
+use crate::table::{bit, Literals, VARIABLES};
+use crate::why::{self, Cause, Why};
 use crate::words::{decimal, hex, push_hex, push_list, push_number, push_numbers};
 
 /// The largest output list that a conversion is asked to fill: an answer shows the whole of it.
@@ -25,7 +27,7 @@ fn command(d: &mut Diagrams, line: &[u8], out: &mut Vec<u8>) -> Option<()> {
     let name = words.next()?;
     match name {
         b"cons" => profiled(d, Profile::Consequence, words.next()?, words, out),
-        b"check" | b"drat" | b"dratb" => profiled(d, Profile::Redundance, name, words, out),
+        b"check" | b"drat" | b"dratb" | b"why" => profiled(d, Profile::Redundance, name, words, out),
         b"tobin" => conversion(convert::to_binary, words, out),
         b"totext" => conversion(convert::to_text, words, out),
         _ => single::command(d, name, words, out),
@@ -53,19 +55,33 @@ fn profiled<'a>(
     d: &mut Diagrams,
     profile: Profile,
     name: &[u8],
-    words: impl Iterator<Item = &'a [u8]>,
+    mut words: impl Iterator<Item = &'a [u8]>,
     out: &mut Vec<u8>,
 ) -> Option<()> {
     let form = match name {
         b"check" => Form::Records,
         b"drat" => Form::Text,
         b"dratb" => Form::Binary,
+        b"why" => form(words.next()?)?,
         _ => return None,
     };
     let (lent, task) = task(profile, form, words)?;
     let verdict = check(d, &lent, &task);
-    push_verdict(d, &verdict, out);
+    if name == b"why" {
+        push_why(&why::why(&task, &verdict), out);
+    } else {
+        push_verdict(d, &verdict, out);
+    }
     Some(())
+}
+
+fn form(word: &[u8]) -> Option<Form> {
+    match word {
+        b"r" => Some(Form::Records),
+        b"t" => Some(Form::Text),
+        b"b" => Some(Form::Binary),
+        _ => None,
+    }
 }
 
 /// The words SIZE MEMBERS SCRATCH FORMULA PROOF and those that lend an index.
@@ -91,6 +107,38 @@ fn push_verdict(d: &Diagrams, verdict: &Verdict, out: &mut Vec<u8>) {
     push_list(out, b',', &verdict.members, |out, member| push_number(out, member.node.0.into()));
     out.extend(b" | ");
     push_marks(out, &verdict.members);
+}
+
+fn push_why(why: &Why, out: &mut Vec<u8>) {
+    push_number(out, why.number.into());
+    out.extend(if why.in_proof { b" | p " } else { b" | f " });
+    push_numbers(out, &[why.start as u64, why.length as u64]);
+    out.extend(b" | ");
+    match why.cause {
+        Cause::None => out.push(b'-'),
+        Cause::Variables(own, child) => {
+            push_list(out, b',', &[*own, *child], |out, &level| push_number(out, level.into()))
+        }
+        Cause::Assignment(word) => push_number(out, *word),
+        Cause::Unshown { fixed, member } => {
+            push_list(out, b';', fixed, |out, &literals| push_literals(out, literals));
+            if let Some(member) = member {
+                out.extend(b" m");
+                push_number(out, *member as u64);
+            }
+        }
+    }
+}
+
+/// In order of variable, a minus before the false ones.
+fn push_literals(out: &mut Vec<u8>, literals: Literals) {
+    let variables: Vec<u32> = (1..=VARIABLES).filter(|&v| literals.variables() & bit(v) != 0).collect();
+    push_list(out, b',', &variables, |out, &variable| {
+        if literals.no & bit(variable) != 0 {
+            out.push(b'-');
+        }
+        push_number(out, variable.into());
+    });
 }
 
 fn push_marks(out: &mut Vec<u8>, members: &[Member]) {

@@ -49,7 +49,12 @@ pub struct Reader<'a> {
 
 impl<'a> Reader<'a> {
     pub fn new(bytes: &'a [u8]) -> Reader<'a> {
-        Reader { bytes, place: 0 }
+        Reader::at(bytes, 0)
+    }
+
+    /// From a place on.
+    pub fn at(bytes: &'a [u8], place: usize) -> Reader<'a> {
+        Reader { bytes, place }
     }
 
     pub fn place(&self) -> usize {

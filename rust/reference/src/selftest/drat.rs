@@ -23,6 +23,8 @@ struct Written {
     text: String,
     binary: Vec<u8>,
     places: Vec<(usize, usize)>,
+    /// Where each clause ends, its 0 included.
+    ends: Vec<(usize, usize)>,
 }
 
 impl Written {
@@ -31,10 +33,24 @@ impl Written {
         if strikes {
             self.text.push_str(&format!("d{}", between(random)));
         }
-        push_clause(random, literals, &mut self.text);
+        for literal in literals {
+            self.text.push_str(&format!("{literal}{}", between(random)));
+        }
+        self.text.push('0');
+        let text_end = self.text.len();
+        self.text.push_str(between(random));
         self.binary.push(if strikes { b'd' } else { b'a' });
         self.binary.extend(literals.iter().map(|&l| (2 * l.unsigned_abs()) as u8 + (l < 0) as u8));
         self.binary.push(0);
+        self.ends.push((text_end, self.binary.len()));
+    }
+
+    /// What `why` shows of a clause that is refused, or of the end.
+    fn shown(&self, places: (usize, usize)) -> (String, String) {
+        let step = self.places.iter().position(|&other| other == places);
+        let ends = step.map_or(places, |step| self.ends[step]);
+        let part = |start, end| format!("p {start} {}", end - start);
+        (part(places.0, ends.0), part(places.1, ends.1))
     }
 }
 
@@ -76,13 +92,21 @@ fn drat_proofs_are_what_the_two_tries_say() {
         let cons = if cons { "cons " } else { "" };
         let line = format!("{cons}drat {size} 2048 4096 {formula} {}", hex(proof.text.as_bytes()));
         let said = ask(&mut d, &line);
-        let binary = ask(&mut d, &format!("{cons}dratb {size} 2048 4096 {formula} {}", hex(&proof.binary)));
+        let in_binary = format!("{cons}dratb {size} 2048 4096 {formula} {}", hex(&proof.binary));
+        let binary = ask(&mut d, &in_binary);
         let Some(model) = model else {
             assert!(said.starts_with("8 ") && binary == said, "{line}");
             continue;
         };
         let end = (proof.text.len(), proof.binary.len());
         let (number, places) = judged.err().unwrap_or((if model.refuted { 0 } else { 20 }, end));
+        let cause = if number == 19 { model.unshown() } else { "-".into() };
+        let shown = match number {
+            0 => ["30 | f 0 0 | -".to_string(), "30 | f 0 0 | -".to_string()],
+            _ => [proof.shown(places).0, proof.shown(places).1].map(|part| format!("{number} | {part} | {cause}")),
+        };
+        assert_eq!(ask(&mut d, &line.replacen("drat ", "why t ", 1)), shown[0], "{line}\n{}", proof.text);
+        assert_eq!(ask(&mut d, &in_binary.replacen("dratb ", "why b ", 1)), shown[1], "{line}");
         let wanted = report(number, places.0, model);
         assert_eq!(said, wanted, "{line}\n{}", proof.text);
         let place = |place| format!("{number} {place} ");

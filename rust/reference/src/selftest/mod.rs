@@ -8,6 +8,7 @@ mod paths;
 mod records;
 mod single;
 mod tallies;
+mod why;
 
 use crate::operate::Diagrams;
 use crate::protocol::answer;

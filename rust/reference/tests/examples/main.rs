@@ -12,6 +12,7 @@ mod room;
 mod single;
 mod striking;
 mod tallies;
+mod why;
 
 use std::io::{BufRead, BufReader, Write};
 use std::process::{Command, Stdio};
