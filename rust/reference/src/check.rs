@@ -6,7 +6,7 @@ use crate::drat;
 use crate::index::Sizes;
 use crate::judge::{Judge, Member, Profile};
 use crate::operate::Diagrams;
-use crate::table::{Full, SMALLEST};
+use crate::table::{Full, SMALLEST, VARIABLES};
 use crate::why::Cause;
 
 const MEMBERS: u64 = 2_048;
@@ -21,8 +21,13 @@ pub struct Lent {
 
 impl Lent {
     fn are_right(&self) -> bool {
-        self.table.are_right() && self.members >= MEMBERS && self.scratch >= SCRATCH
+        self.table.are_right() && lists_are_right(self.members, self.scratch)
     }
+}
+
+/// "The member list has 2,048 or more, the scratch list 4,096 or more."
+pub fn lists_are_right(members: u64, scratch: u64) -> bool {
+    members >= MEMBERS && scratch >= SCRATCH
 }
 
 /// What the call says, and the member list as it leaves it; the table is left in the diagrams.
@@ -88,7 +93,7 @@ fn refused_early(refusal: Refusal, peak: usize) -> Verdict {
 
 /// The number of variables and the members; "a clause is made as it closes".
 fn read_formula(d: &mut Diagrams, bytes: &[u8]) -> Result<(u32, Vec<Member>), Refusal> {
-    let mut formula = Formula::open(bytes)?;
+    let mut formula = Formula::open(bytes, VARIABLES)?;
     let mut members = Vec::new();
     while let Some(clause) = formula.next_clause()? {
         let node = d.clause(clause.literals).map_err(|Full| Refusal { number: 8, place: clause.place })?;

@@ -1,6 +1,6 @@
 //! "The formula": the header, then clause by clause in file order.
 
-use crate::table::{Literals, VARIABLES};
+use crate::table::Literals;
 
 const CLAUSES: u64 = 1_024;
 
@@ -103,8 +103,8 @@ pub struct Formula<'a> {
 }
 
 impl<'a> Formula<'a> {
-    /// Reads up to the end of the header line.
-    pub fn open(bytes: &'a [u8]) -> Result<Formula<'a>, Refusal> {
+    /// Reads up to the end of the header line, which may name so many variables.
+    pub fn open(bytes: &'a [u8], most: u32) -> Result<Formula<'a>, Refusal> {
         let mut start = 0;
         while start < bytes.len() {
             let rest = &bytes[start..];
@@ -115,7 +115,7 @@ impl<'a> Formula<'a> {
                 continue;
             }
             let (variables, clauses_left) = header(line).ok_or(Refusal { number: 1, place: start })?;
-            if variables > VARIABLES as u64 || clauses_left > CLAUSES {
+            if variables > most.into() || clauses_left > CLAUSES {
                 return Err(Refusal { number: 2, place: start });
             }
             let clauses = Clauses { bytes, place: next.min(bytes.len()), variables };

@@ -8,8 +8,8 @@ use crate::table::{bit, Full, Literals, NodeId, ONE, ZERO};
 use crate::tally::{self, Tally};
 use crate::why::{Cause, Outcome, Refused};
 
-const ENTRIES: usize = 4_096;
-const LINES: usize = 1_024;
+pub const ENTRIES: usize = 4_096;
+pub const LINES: usize = 1_024;
 /// The most paths to 0 of a path line.
 const PATHS: usize = 4_096;
 

@@ -16,8 +16,10 @@ mod rules;
 #[cfg(test)]
 mod selftest;
 mod single;
+mod small;
 mod table;
 mod tally;
+mod truth;
 mod why;
 mod words;
 

@@ -1,11 +1,12 @@
 //! The line protocol: a command line in, an answer line out.
 
-use crate::check::{check, Form, Lent, Task, Verdict};
+use crate::check::{self, check, Form, Lent, Task, Verdict};
 use crate::convert;
 use crate::dimacs::Refusal;
 use crate::judge::{Member, Profile};
 use crate::operate::Diagrams;
 use crate::single;
+use crate::small;
 use crate::table::{bit, Literals, VARIABLES};
 use crate::why::{self, Cause, Why};
 use crate::words::{decimal, hex, push_hex, push_list, push_number, push_numbers};
@@ -28,10 +29,26 @@ fn command(d: &mut Diagrams, line: &[u8], out: &mut Vec<u8>) -> Option<()> {
     match name {
         b"cons" => profiled(d, Profile::Consequence, words.next()?, words, out),
         b"check" | b"drat" | b"dratb" | b"why" => profiled(d, Profile::Redundance, name, words, out),
+        b"small" => small_command(words, out),
         b"tobin" => conversion(convert::to_binary, words, out),
         b"totext" => conversion(convert::to_text, words, out),
         _ => single::command(d, name, words, out),
     }
+}
+
+/// The words MEMBERS SCRATCH FORMULA PROOF.
+fn small_command<'a>(mut words: impl Iterator<Item = &'a [u8]>, out: &mut Vec<u8>) -> Option<()> {
+    let (members, scratch) = (decimal(words.next()?)?, decimal(words.next()?)?);
+    let (formula, proof) = (hex(words.next()?)?, hex(words.next()?)?);
+    if words.next().is_some() {
+        return None;
+    }
+    let verdict = match check::lists_are_right(members, scratch) {
+        true => small::check(&formula, &proof),
+        false => small::Verdict { number: 7, place: 0, lines: 0, rounds: 0 },
+    };
+    push_numbers(out, &[verdict.number.into(), verdict.place as u64, verdict.lines as u64, verdict.rounds]);
+    Some(())
 }
 
 type Convert = fn(&[u8]) -> Result<Vec<u8>, Refusal>;

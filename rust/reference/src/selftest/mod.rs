@@ -7,6 +7,7 @@ mod model;
 mod paths;
 mod records;
 mod single;
+mod small;
 mod tallies;
 mod why;
 

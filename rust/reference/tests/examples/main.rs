@@ -10,6 +10,7 @@ mod paths;
 mod profile;
 mod room;
 mod single;
+mod small;
 mod striking;
 mod tallies;
 mod why;
