@@ -92,7 +92,7 @@ fn refused_early(refusal: Refusal, peak: usize) -> Verdict {
 }
 
 /// The number of variables and the members; "a clause is made as it closes".
-fn read_formula(d: &mut Diagrams, bytes: &[u8]) -> Result<(u32, Vec<Member>), Refusal> {
+pub fn read_formula(d: &mut Diagrams, bytes: &[u8]) -> Result<(u32, Vec<Member>), Refusal> {
     let mut formula = Formula::open(bytes, VARIABLES)?;
     let mut members = Vec::new();
     while let Some(clause) = formula.next_clause()? {

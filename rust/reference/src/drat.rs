@@ -34,8 +34,8 @@ pub fn judge(
 ) -> Outcome {
     loop {
         let step = match take() {
-            Err(refusal) => return Refused::from(refusal.number).at(refusal.place),
-            Ok(None) => return Refused::from(if judge.refuted() { 0 } else { 20 }).at(length),
+            Err(refusal) => return Outcome::plain(refusal.number, refusal.place),
+            Ok(None) => return Outcome::plain(if judge.refuted() { 0 } else { 20 }, length),
             Ok(Some(step)) => step,
         };
         let taken = match step.strikes {

@@ -74,6 +74,10 @@ impl Judge {
         self.variables
     }
 
+    pub fn members(&self) -> &[Member] {
+        &self.members
+    }
+
     pub fn into_members(self) -> Vec<Member> {
         self.members
     }
@@ -106,6 +110,28 @@ impl Judge {
             };
             if let Err(refused) = taken {
                 return refused.at(start);
+            }
+        }
+    }
+
+    /// Takes the records of a book's call, "a whole line or the end": "35, at the length of the call's bytes,
+    /// means accepted so far; bytes after a line are 11, just after 10".
+    pub fn call(&mut self, d: &mut Diagrams, bytes: &[u8]) -> Outcome {
+        let mut reader = Reader::new(bytes);
+        loop {
+            let start = reader.place();
+            let record = match reader.take() {
+                Err(number) => return Outcome::plain(number, start),
+                Ok(Record::End) => return self.end(&reader, start),
+                Ok(record) => record,
+            };
+            if record.is_line() && !reader.at_end() {
+                return Outcome::plain(11, reader.place());
+            }
+            match self.record(d, record) {
+                Err(refused) => return refused.at(start),
+                Ok(()) if record.is_line() => return Outcome::plain(35, bytes.len()),
+                Ok(()) => (),
             }
         }
     }
@@ -242,7 +268,7 @@ impl Judge {
         } else {
             (0, start)
         };
-        Refused::from(number).at(place)
+        Outcome::plain(number, place)
     }
 
     /// "Making, propagation and PR pass over struck members."

@@ -42,6 +42,12 @@ pub enum Record {
     End,
 }
 
+impl Record {
+    pub fn is_line(self) -> bool {
+        matches!(self, Record::Rup { .. } | Record::Pr { .. } | Record::Path { .. })
+    }
+}
+
 pub struct Reader<'a> {
     bytes: &'a [u8],
     place: usize,

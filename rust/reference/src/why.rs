@@ -42,6 +42,12 @@ pub struct Outcome {
     pub cause: Cause,
 }
 
+impl Outcome {
+    pub fn plain(number: u32, place: usize) -> Outcome {
+        Outcome { number, place, cause: Cause::None }
+    }
+}
+
 impl Refused {
     pub fn at(self, place: usize) -> Outcome {
         Outcome { number: self.number, place, cause: self.cause }

@@ -68,7 +68,7 @@ fn random_step(random: &mut Random, variables: u32, made: &[(Vec<i32>, Function)
 #[test]
 fn drat_proofs_are_what_the_two_tries_say() {
     let mut random = Random(0xD2A7);
-    let mut d = Diagrams::new();
+    let mut d = Session::new();
     let mut seen = [0u32; 32];
     for _ in 0..20_000 {
         let variables = 1 + random.below(N as u64) as u32;
@@ -123,7 +123,7 @@ fn drat_proofs_are_what_the_two_tries_say() {
 #[test]
 fn there_and_back() {
     let mut random = Random(0xB1A);
-    let mut d = Diagrams::new();
+    let mut d = Session::new();
     for _ in 0..5_000 {
         let mut proof = Written { text: between(&mut random).to_string(), ..Default::default() };
         let mut plain = String::new();
@@ -159,7 +159,7 @@ fn there_and_back() {
 #[test]
 fn every_binary_proof_that_is_read_comes_back() {
     const BYTES: [u8; 9] = [0x61, 0x64, 0, 1, 2, 3, 0x80, 0x81, 0xFF];
-    let mut d = Diagrams::new();
+    let mut d = Session::new();
     let mut read = 0;
     for number in 0..9u32.pow(6) {
         let bytes: Vec<u8> = (0..6).map(|at| BYTES[(number / 9u32.pow(at) % 9) as usize]).collect();
@@ -214,7 +214,7 @@ fn rat_over_clauses(clauses: &[Vec<i32>], clause: &[i32]) -> bool {
 #[test]
 fn the_two_tries_accept_what_rup_and_rat_over_clauses_accept() {
     let mut random = Random(0xAA7);
-    let mut d = Diagrams::new();
+    let mut d = Session::new();
     let mut seen = [0u32; 3];
     for _ in 0..20_000 {
         let variables = 1 + random.below(10) as u32;

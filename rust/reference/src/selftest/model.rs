@@ -278,6 +278,14 @@ impl Model {
 }
 
 impl Model {
+    pub(super) fn last_entry(&self) -> Function {
+        self.entries[self.entries.len() - 1]
+    }
+
+    pub(super) fn is_struck(&self, member: usize) -> bool {
+        self.struck.contains(&member)
+    }
+
     /// The cause of 19.
     pub(super) fn unshown(&self) -> String {
         let literal = |by: &Literals, v: u32| {

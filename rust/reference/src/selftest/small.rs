@@ -165,7 +165,7 @@ fn random_book(random: &mut Random) -> (String, Vec<u8>) {
 #[test]
 fn the_small_method_says_what_the_check_says() {
     let mut random = Random(0x511A);
-    let mut d = Diagrams::new();
+    let mut d = Session::new();
     let mut seen = [0u32; 36];
     let (mut lines, mut rounds) = (0, 0);
     for _ in 0..30_000 {

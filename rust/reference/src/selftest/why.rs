@@ -33,7 +33,7 @@ fn wanted(given: &Given, number: u32, place: usize, model: &Model) -> String {
 #[test]
 fn causes_are_those_of_the_definitions() {
     let mut random = Random(0x3A4);
-    let mut d = Diagrams::new();
+    let mut d = Session::new();
     let mut seen = [0u32; 36];
     let (mut with_rounds, mut with_member) = (0, 0);
     for _ in 0..40_000 {

@@ -3,6 +3,7 @@
 
 mod base;
 mod binary;
+mod books;
 mod drat;
 mod formula;
 mod index;
