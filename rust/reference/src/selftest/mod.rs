@@ -1,6 +1,7 @@
 //! The checker held against the words of document 01 by brute force, over at most four variables: a
 //! function is a word of 16 values, one for each assignment, and the table is searched from end to end.
 
+mod binary;
 mod books;
 mod drat;
 mod index;

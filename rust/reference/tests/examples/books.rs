@@ -98,6 +98,10 @@ fn openings() {
         row(call("A", "45"), "20 0 0 0 2"),
         row("book B -", "1 0 0 0 0"),
     ]);
+}
+
+#[test]
+fn what_names_no_book() {
     let errors = [
         "open",
         "open 4 2048 2048 4096 0",

@@ -138,7 +138,7 @@ fn causes_of_19() {
 }
 
 #[test]
-fn pieces_and_causes_of_drat() {
+fn pieces_and_causes_of_drat_texts() {
     let zero = "p cnf 2 1\n0\n";
     expect(texts(&[
         (zero, "", "20 | p 0 0 | -"),
@@ -165,6 +165,11 @@ fn pieces_and_causes_of_drat() {
         (ONE, "1 0\n", "19 | p 0 3 | 2"),
     ]);
     expect(cons.into_iter().map(|(command, wanted)| (format!("cons {command}"), wanted)).collect());
+}
+
+#[test]
+fn pieces_and_causes_of_binary_drat() {
+    let zero = "p cnf 2 1\n0\n";
     expect(binaries(&[
         (zero, "", "20 | p 0 0 | -"),
         (zero, "61 00 64 00", "30 | f 0 0 | -"),
