@@ -6,7 +6,8 @@ use crate::drat;
 use crate::index::Sizes;
 use crate::judge::{Judge, Member, Profile};
 use crate::operate::Diagrams;
-use crate::table::{Full, SMALLEST};
+use crate::table::{Full, SMALLEST, VARIABLES};
+use crate::why::Cause;
 
 const MEMBERS: u64 = 2_048;
 const SCRATCH: u64 = 4_096;
@@ -20,8 +21,13 @@ pub struct Lent {
 
 impl Lent {
     fn are_right(&self) -> bool {
-        self.table.are_right() && self.members >= MEMBERS && self.scratch >= SCRATCH
+        self.table.are_right() && lists_are_right(self.members, self.scratch)
     }
+}
+
+/// "The member list has 2,048 or more, the scratch list 4,096 or more."
+pub fn lists_are_right(members: u64, scratch: u64) -> bool {
+    members >= MEMBERS && scratch >= SCRATCH
 }
 
 /// What the call says, and the member list as it leaves it; the table is left in the diagrams.
@@ -34,6 +40,9 @@ pub struct Verdict {
     /// placed before; with 7 [..] it is 0."
     pub peak: usize,
     pub members: Vec<Member>,
+    /// Whether the place is one of the proof.
+    pub in_proof: bool,
+    pub cause: Cause,
 }
 
 /// The form of a proof.
@@ -70,12 +79,21 @@ pub fn check(d: &mut Diagrams, lent: &Lent, task: &Task) -> Verdict {
 }
 
 fn refused_early(refusal: Refusal, peak: usize) -> Verdict {
-    Verdict { number: refusal.number, place: refusal.place, lines: 0, rounds: 0, peak, members: Vec::new() }
+    Verdict {
+        number: refusal.number,
+        place: refusal.place,
+        lines: 0,
+        rounds: 0,
+        peak,
+        members: Vec::new(),
+        in_proof: false,
+        cause: Cause::None,
+    }
 }
 
 /// The number of variables and the members; "a clause is made as it closes".
-fn read_formula(d: &mut Diagrams, bytes: &[u8]) -> Result<(u32, Vec<Member>), Refusal> {
-    let mut formula = Formula::open(bytes)?;
+pub fn read_formula(d: &mut Diagrams, bytes: &[u8]) -> Result<(u32, Vec<Member>), Refusal> {
+    let mut formula = Formula::open(bytes, VARIABLES)?;
     let mut members = Vec::new();
     while let Some(clause) = formula.next_clause()? {
         let node = d.clause(clause.literals).map_err(|Full| Refusal { number: 8, place: clause.place })?;
@@ -86,7 +104,7 @@ fn read_formula(d: &mut Diagrams, bytes: &[u8]) -> Result<(u32, Vec<Member>), Re
 
 fn judge(d: &mut Diagrams, mut judge: Judge, task: &Task) -> Verdict {
     let (proof, variables) = (&task.proof, judge.variables());
-    let (number, place) = match task.form {
+    let outcome = match task.form {
         Form::Records => judge.records(d, proof),
         Form::Text => {
             let mut clauses = Clauses::new(proof, variables);
@@ -99,6 +117,14 @@ fn judge(d: &mut Diagrams, mut judge: Judge, task: &Task) -> Verdict {
     };
     // "Nodes of entries after the last accepted line are dropped in both."
     d.drop_to(judge.kept());
-    let (lines, rounds) = (judge.lines(), judge.rounds());
-    Verdict { number, place, lines, rounds, peak: d.table.peak(), members: judge.into_members() }
+    Verdict {
+        number: outcome.number,
+        place: outcome.place,
+        lines: judge.lines(),
+        rounds: judge.rounds(),
+        peak: d.table.peak(),
+        members: judge.into_members(),
+        in_proof: true,
+        cause: outcome.cause,
+    }
 }

@@ -4,8 +4,9 @@
 use crate::dimacs::{Clause, Clauses, Refusal};
 use crate::judge::{Judge, Profile};
 use crate::operate::Diagrams;
-use crate::rules;
+use crate::rules::{self, Fault};
 use crate::table::{Full, Literals};
+use crate::why::{Outcome, Refused};
 
 /// A clause of the text, to be added or to be struck.
 pub struct Step {
@@ -30,19 +31,19 @@ pub fn judge(
     judge: &mut Judge,
     length: usize,
     mut take: impl FnMut() -> Result<Option<Step>, Refusal>,
-) -> (u32, usize) {
+) -> Outcome {
     loop {
         let step = match take() {
-            Err(refusal) => return (refusal.number, refusal.place),
-            Ok(None) => return (if judge.refuted() { 0 } else { 20 }, length),
+            Err(refusal) => return Outcome::plain(refusal.number, refusal.place),
+            Ok(None) => return Outcome::plain(if judge.refuted() { 0 } else { 20 }, length),
             Ok(Some(step)) => step,
         };
         let taken = match step.strikes {
-            true => judge.strike_same(d.find_clause(step.clause.literals)),
+            true => judge.strike_same(d.find_clause(step.clause.literals)).map_err(Refused::from),
             false => add(d, judge, &step.clause),
         };
-        if let Err(number) = taken {
-            return (number, step.clause.place);
+        if let Err(refused) = taken {
+            return refused.at(step.clause.place);
         }
     }
 }
@@ -50,7 +51,7 @@ pub fn judge(
 /// "22, 17, then 23 or 19." The clause "is tried as a RUP line; failing with 19, as a PR line [..], the
 /// first try's nodes dropped"; its diagram "is made before the tries and counts as its line's last
 /// entry".
-fn add(d: &mut Diagrams, judge: &mut Judge, clause: &Clause) -> Result<(), u32> {
+fn add(d: &mut Diagrams, judge: &mut Judge, clause: &Clause) -> Result<(), Refused> {
     judge.may_be_line(clause.literals.clash())?;
     let g = d.clause(clause.literals).map_err(|Full| 23u32)?;
     let kept = d.table.count();
@@ -58,7 +59,7 @@ fn add(d: &mut Diagrams, judge: &mut Judge, clause: &Clause) -> Result<(), u32> 
     let mut shown = rules::rup(d, &live, g);
     // "The empty clause has no pivot", hence no second try.
     let again = judge.profile() == Profile::Redundance && !clause.pivot.is_empty();
-    if shown == Ok(None) && again {
+    if again && matches!(shown, Err(Fault::Unshown(_))) {
         d.drop_to(kept);
         shown = rules::pr(d, &live, g, witness(clause));
     }

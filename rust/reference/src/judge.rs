@@ -3,12 +3,13 @@
 use crate::operate::Diagrams;
 use crate::paths;
 use crate::records::{EntryId, MemberId, Reader, Record};
-use crate::rules;
+use crate::rules::{self, Fault};
 use crate::table::{bit, Full, Literals, NodeId, ONE, ZERO};
 use crate::tally::{self, Tally};
+use crate::why::{Cause, Outcome, Refused};
 
-const ENTRIES: usize = 4_096;
-const LINES: usize = 1_024;
+pub const ENTRIES: usize = 4_096;
+pub const LINES: usize = 1_024;
 /// The most paths to 0 of a path line.
 const PATHS: usize = 4_096;
 
@@ -73,6 +74,10 @@ impl Judge {
         self.variables
     }
 
+    pub fn members(&self) -> &[Member] {
+        &self.members
+    }
+
     pub fn into_members(self) -> Vec<Member> {
         self.members
     }
@@ -94,30 +99,52 @@ impl Judge {
     }
 
     /// Takes records up to the end record or a refusal: its number and place.
-    pub fn records(&mut self, d: &mut Diagrams, proof: &[u8]) -> (u32, usize) {
+    pub fn records(&mut self, d: &mut Diagrams, proof: &[u8]) -> Outcome {
         let mut reader = Reader::new(proof);
         loop {
             let start = reader.place();
             let taken = match reader.take() {
-                Err(number) => Err(number),
+                Err(number) => Err(number.into()),
                 Ok(Record::End) => return self.end(&reader, start),
                 Ok(record) => self.record(d, record),
             };
-            if let Err(number) = taken {
-                return (number, start);
+            if let Err(refused) = taken {
+                return refused.at(start);
+            }
+        }
+    }
+
+    /// Takes the records of a book's call, "a whole line or the end": "35, at the length of the call's bytes,
+    /// means accepted so far; bytes after a line are 11, just after 10".
+    pub fn call(&mut self, d: &mut Diagrams, bytes: &[u8]) -> Outcome {
+        let mut reader = Reader::new(bytes);
+        loop {
+            let start = reader.place();
+            let record = match reader.take() {
+                Err(number) => return Outcome::plain(number, start),
+                Ok(Record::End) => return self.end(&reader, start),
+                Ok(record) => record,
+            };
+            if record.is_line() && !reader.at_end() {
+                return Outcome::plain(11, reader.place());
+            }
+            match self.record(d, record) {
+                Err(refused) => return refused.at(start),
+                Ok(()) if record.is_line() => return Outcome::plain(35, bytes.len()),
+                Ok(()) => (),
             }
         }
     }
 
     /// Takes a record other than the end.
-    fn record(&mut self, d: &mut Diagrams, record: Record) -> Result<(), u32> {
+    fn record(&mut self, d: &mut Diagrams, record: Record) -> Result<(), Refused> {
         match record {
             Record::Node { variable, low, high } => self.node(d, variable.into(), low, high),
-            Record::Witness { variable, value } => self.witness(variable.into(), value),
+            Record::Witness { variable, value } => Ok(self.witness(variable.into(), value)?),
             Record::Rup { root } => self.rup(d, root),
             Record::Pr { root } => self.pr(d, root),
             Record::Path { root } => self.path(d, root),
-            Record::Strike { member } => self.strike(member),
+            Record::Strike { member } => Ok(self.strike(member)?),
             Record::Parity { set, odd } => self.parity(d, set, odd),
             Record::AtLeast { set, least } => self.at_least(d, set, least),
             Record::End => Ok(()),
@@ -125,12 +152,13 @@ impl Judge {
     }
 
     /// "Node: 10, 21, 12, 13, 14, 23."
-    fn node(&mut self, d: &mut Diagrams, variable: u32, low: EntryId, high: EntryId) -> Result<(), u32> {
+    fn node(&mut self, d: &mut Diagrams, variable: u32, low: EntryId, high: EntryId) -> Result<(), Refused> {
         self.may_be_entry()?;
         self.known_variable(variable)?;
         let (low, high) = (self.entry(low)?, self.entry(high)?);
-        if variable >= d.table.level(low).min(d.table.level(high)) {
-            return Err(14);
+        let mut levels = [low, high].into_iter().map(|child| d.table.level(child));
+        if let Some(level) = levels.find(|&level| variable >= level) {
+            return Err(Refused { number: 14, cause: Cause::Variables(variable, level) });
         }
         let node = d.table.make(variable, low, high).map_err(|Full| 23u32)?;
         self.entries.push(node);
@@ -139,24 +167,24 @@ impl Judge {
 
     /// "It refuses, after 10 and 21, a set bit beyond the header with 12, a parity byte above 1 with 29,
     /// then 23."
-    fn parity(&mut self, d: &mut Diagrams, set: u64, odd: u8) -> Result<(), u32> {
+    fn parity(&mut self, d: &mut Diagrams, set: u64, odd: u8) -> Result<(), Refused> {
         self.may_be_entry()?;
         self.known_set(set)?;
         let tally = match odd {
             0 => Tally::Even,
             1 => Tally::Odd,
-            _ => return Err(29),
+            _ => return Err(29.into()),
         };
         self.tally(d, set, tally)
     }
 
-    fn at_least(&mut self, d: &mut Diagrams, set: u64, least: u8) -> Result<(), u32> {
+    fn at_least(&mut self, d: &mut Diagrams, set: u64, least: u8) -> Result<(), Refused> {
         self.may_be_entry()?;
         self.known_set(set)?;
         self.tally(d, set, Tally::AtLeast(least))
     }
 
-    fn tally(&mut self, d: &mut Diagrams, set: u64, tally: Tally) -> Result<(), u32> {
+    fn tally(&mut self, d: &mut Diagrams, set: u64, tally: Tally) -> Result<(), Refused> {
         let node = tally::make(d, set, tally).map_err(|Full| 23u32)?;
         self.entries.push(node);
         Ok(())
@@ -173,7 +201,7 @@ impl Judge {
     }
 
     /// "RUP: 10, 13, 16, 22, 17, then 19 or 23, the one met first."
-    fn rup(&mut self, d: &mut Diagrams, root: EntryId) -> Result<(), u32> {
+    fn rup(&mut self, d: &mut Diagrams, root: EntryId) -> Result<(), Refused> {
         let g = self.entry(root)?;
         self.no_witness()?;
         self.may_be_line(g == ONE)?;
@@ -184,14 +212,14 @@ impl Judge {
 
     /// "PR: 10, 13, 22, 17, 18, then the same." The consequence profile "refuses a PR record with 33 before
     /// all but 10".
-    fn pr(&mut self, d: &mut Diagrams, root: EntryId) -> Result<(), u32> {
+    fn pr(&mut self, d: &mut Diagrams, root: EntryId) -> Result<(), Refused> {
         if self.profile == Profile::Consequence {
-            return Err(33);
+            return Err(33.into());
         }
         let g = self.entry(root)?;
         self.may_be_line(g == ONE)?;
-        if !d.is_one_under(g, self.witness) {
-            return Err(18);
+        if let Some(word) = d.false_under(g, self.witness) {
+            return Err(Refused { number: 18, cause: Cause::Assignment(word) });
         }
         let kept = d.table.count();
         let shown = rules::pr(d, &self.live(), g, self.witness);
@@ -200,12 +228,12 @@ impl Judge {
 
     /// "It refuses as a RUP line does, and with 34, just after 17, a diagram with more than 4,096 such
     /// paths."
-    fn path(&mut self, d: &mut Diagrams, root: EntryId) -> Result<(), u32> {
+    fn path(&mut self, d: &mut Diagrams, root: EntryId) -> Result<(), Refused> {
         let g = self.entry(root)?;
         self.no_witness()?;
         self.may_be_line(g == ONE)?;
         if paths::more_than(&d.table, g, PATHS) {
-            return Err(34);
+            return Err(34.into());
         }
         let kept = d.table.count();
         let shown = rules::path(d, &self.live(), g);
@@ -230,8 +258,8 @@ impl Judge {
     }
 
     /// "End: 16, 11, 20."
-    fn end(&self, reader: &Reader, start: usize) -> (u32, usize) {
-        if self.no_witness().is_err() {
+    fn end(&self, reader: &Reader, start: usize) -> Outcome {
+        let (number, place) = if self.no_witness().is_err() {
             (16, start)
         } else if !reader.at_end() {
             (11, reader.place())
@@ -239,7 +267,8 @@ impl Judge {
             (20, start)
         } else {
             (0, start)
-        }
+        };
+        Outcome::plain(number, place)
     }
 
     /// "Making, propagation and PR pass over struck members."
@@ -297,9 +326,9 @@ impl Judge {
         d: &mut Diagrams,
         g: NodeId,
         kept: usize,
-        shown: Result<Option<u64>, Full>,
-    ) -> Result<(), u32> {
-        let rounds = shown.map_err(|Full| 23u32)?.ok_or(19u32)?;
+        shown: Result<u64, Fault>,
+    ) -> Result<(), Refused> {
+        let rounds = shown.map_err(|fault| self.refused(fault))?;
         d.drop_to(kept);
         self.kept = kept;
         self.lines += 1;
@@ -309,5 +338,15 @@ impl Judge {
         self.entries.truncate(2);
         self.witness = Literals::default();
         Ok(())
+    }
+
+    /// "19 or 23"; the member of a turn by its number, struck ones counted.
+    fn refused(&self, fault: Fault) -> Refused {
+        let Fault::Unshown(unshown) = fault else {
+            return Refused::from(23);
+        };
+        let mut live = (0..self.members.len()).filter(|&at| !self.members[at].struck);
+        let member = unshown.turn.and_then(|turn| live.nth(turn));
+        Refused { number: 19, cause: Cause::Unshown { fixed: unshown.fixed, member } }
     }
 }

@@ -42,6 +42,12 @@ pub enum Record {
     End,
 }
 
+impl Record {
+    pub fn is_line(self) -> bool {
+        matches!(self, Record::Rup { .. } | Record::Pr { .. } | Record::Path { .. })
+    }
+}
+
 pub struct Reader<'a> {
     bytes: &'a [u8],
     place: usize,
@@ -49,7 +55,12 @@ pub struct Reader<'a> {
 
 impl<'a> Reader<'a> {
     pub fn new(bytes: &'a [u8]) -> Reader<'a> {
-        Reader { bytes, place: 0 }
+        Reader::at(bytes, 0)
+    }
+
+    /// From a place on.
+    pub fn at(bytes: &'a [u8], place: usize) -> Reader<'a> {
+        Reader { bytes, place }
     }
 
     pub fn place(&self) -> usize {

@@ -1,4 +1,4 @@
-//! DRAT texts.
+//! DRAT proofs, in text and in binary.
 
 use super::model::*;
 use super::*;
@@ -19,22 +19,42 @@ fn written_clause(random: &mut Random, variables: u32) -> Vec<i32> {
 
 /// A DRAT proof in both forms, with the places of its clauses in each.
 #[derive(Default)]
-struct Written {
-    text: String,
-    binary: Vec<u8>,
+pub(super) struct Written {
+    pub(super) text: String,
+    pub(super) binary: Vec<u8>,
     places: Vec<(usize, usize)>,
+    /// Where each clause ends, its 0 included.
+    ends: Vec<(usize, usize)>,
 }
 
 impl Written {
-    fn push(&mut self, random: &mut Random, strikes: bool, literals: &[i32]) {
+    pub(super) fn new(random: &mut Random) -> Written {
+        Written { text: between(random).to_string(), ..Default::default() }
+    }
+
+    pub(super) fn push(&mut self, random: &mut Random, strikes: bool, literals: &[i32]) {
         self.places.push((self.text.len(), self.binary.len()));
         if strikes {
             self.text.push_str(&format!("d{}", between(random)));
         }
-        push_clause(random, literals, &mut self.text);
+        for literal in literals {
+            self.text.push_str(&format!("{literal}{}", between(random)));
+        }
+        self.text.push('0');
+        let text_end = self.text.len();
+        self.text.push_str(between(random));
         self.binary.push(if strikes { b'd' } else { b'a' });
         self.binary.extend(literals.iter().map(|&l| (2 * l.unsigned_abs()) as u8 + (l < 0) as u8));
         self.binary.push(0);
+        self.ends.push((text_end, self.binary.len()));
+    }
+
+    /// What `why` shows of a clause that is refused, or of the end.
+    fn shown(&self, places: (usize, usize)) -> (String, String) {
+        let step = self.places.iter().position(|&other| other == places);
+        let ends = step.map_or(places, |step| self.ends[step]);
+        let part = |start, end| format!("p {start} {}", end - start);
+        (part(places.0, ends.0), part(places.1, ends.1))
     }
 }
 
@@ -49,108 +69,84 @@ fn random_step(random: &mut Random, variables: u32, made: &[(Vec<i32>, Function)
     }
 }
 
-#[test]
-fn drat_proofs_are_what_the_two_tries_say() {
-    let mut random = Random(0xD2A7);
-    let mut d = Diagrams::new();
-    let mut seen = [0u32; 32];
-    for _ in 0..20_000 {
+/// A formula, a DRAT proof and the model after its first refusal or its end.
+struct Case {
+    cons: bool,
+    size: usize,
+    clauses: Vec<Function>,
+    formula: String,
+    proof: Written,
+    /// The number, the places in text and in binary, the model; none where a clause of the formula finds no room.
+    judged: Option<(u32, (usize, usize), Model)>,
+}
+
+impl Case {
+    fn random(random: &mut Random) -> Case {
         let variables = 1 + random.below(N as u64) as u32;
-        let made: Vec<_> = (0..random.below(10)).map(|_| random_clause(&mut random, variables)).collect();
+        let made: Vec<_> = (0..random.below(10)).map(|_| random_clause(random, variables)).collect();
         let clauses: Vec<Function> = made.iter().map(|clause| clause.1).collect();
         let size = if random.one_in(2) { 200 } else { 2 + random.below(40) as usize };
         let cons = random.one_in(4);
-        let mut model = opened(variables, size, &clauses);
-        model.iter_mut().for_each(|model| model.cons = cons);
-        let mut proof = Written { text: between(&mut random).to_string(), ..Default::default() };
-        let mut judged = Ok(());
-        for step in 0..random.below(8) {
-            let (strikes, literals) = random_step(&mut random, variables, &made, step > 4);
-            proof.push(&mut random, strikes, &literals);
-            if let (Ok(()), Some(model)) = (judged, &mut model) {
-                let taken = if strikes { model.strike(&literals) } else { model.add(&literals) };
-                judged = taken.map_err(|number| (number, proof.places[step as usize]));
-            }
+        let mut proof = Written::new(random);
+        let steps: Vec<_> = (0..random.below(8)).map(|step| random_step(random, variables, &made, step > 4)).collect();
+        steps.iter().for_each(|(strikes, literals)| proof.push(random, *strikes, literals));
+        let formula = hex(formula(random, variables, &made).as_bytes());
+        let judged = opened(variables, size, &clauses).map(|mut model| {
+            model.cons = cons;
+            judged(model, &steps, &proof)
+        });
+        Case { cons, size, clauses, formula, proof, judged }
+    }
+
+    fn line(&self, name: &str, proof: &[u8]) -> String {
+        let cons = if self.cons { "cons " } else { "" };
+        format!("{cons}{name} {} 2048 4096 {} {}", self.size, self.formula, hex(proof))
+    }
+}
+
+fn judged(mut model: Model, steps: &[(bool, Vec<i32>)], proof: &Written) -> (u32, (usize, usize), Model) {
+    for ((strikes, literals), &places) in steps.iter().zip(&proof.places) {
+        let taken = if *strikes { model.strike(literals) } else { model.add(literals) };
+        if let Err(number) = taken {
+            return (number, places, model);
         }
-        let formula = hex(formula(&mut random, variables, &made).as_bytes());
-        let cons = if cons { "cons " } else { "" };
-        let line = format!("{cons}drat {size} 2048 4096 {formula} {}", hex(proof.text.as_bytes()));
-        let said = ask(&mut d, &line);
-        let binary = ask(&mut d, &format!("{cons}dratb {size} 2048 4096 {formula} {}", hex(&proof.binary)));
-        let Some(model) = model else {
-            assert!(said.starts_with("8 ") && binary == said, "{line}");
+    }
+    (if model.refuted { 0 } else { 20 }, (proof.text.len(), proof.binary.len()), model)
+}
+
+#[test]
+fn drat_proofs_are_what_the_two_tries_say() {
+    let mut random = Random(0xD2A7);
+    let mut session = Session::new();
+    let mut seen = [0u32; 32];
+    for _ in 0..20_000 {
+        let case = Case::random(&mut random);
+        let (text, binary) = (case.proof.text.as_bytes(), &case.proof.binary);
+        let [t, b, why_t, why_b] = [("drat", text), ("dratb", binary), ("why t", text), ("why b", binary)]
+            .map(|(name, proof)| ask(&mut session, &case.line(name, proof)));
+        let line = case.line("drat", text);
+        let Some((number, places, model)) = case.judged else {
+            assert!(t.starts_with("8 ") && b == t && why_t.starts_with("8 | f ") && why_b == why_t, "{line}");
             continue;
         };
-        let end = (proof.text.len(), proof.binary.len());
-        let (number, places) = judged.err().unwrap_or((if model.refuted { 0 } else { 20 }, end));
+        let cause = if number == 19 { model.unshown() } else { "-".into() };
+        let why = |part: String| match number {
+            0 => "30 | f 0 0 | -".to_string(),
+            _ => format!("{number} | {part} | {cause}"),
+        };
+        let shown = case.proof.shown(places);
+        assert_eq!((why_t, why_b), (why(shown.0), why(shown.1)), "{line}");
         let wanted = report(number, places.0, model);
-        assert_eq!(said, wanted, "{line}\n{}", proof.text);
+        assert_eq!(t, wanted, "{line}");
         let place = |place| format!("{number} {place} ");
-        assert_eq!(binary, wanted.replacen(&place(places.0), &place(places.1), 1), "{line}");
-        let models = clauses.iter().fold(ALL, |all, clause| all & clause);
+        assert_eq!(b, wanted.replacen(&place(places.0), &place(places.1), 1), "{line}");
+        let models = case.clauses.iter().fold(ALL, |all, clause| all & clause);
         assert!(number != 0 || models == 0, "0 said of a satisfiable formula: {line}");
         seen[number as usize] += 1;
     }
     for number in [0, 17, 19, 20, 23, 28] {
         assert!(seen[number] > 100, "{number} seen {} times only", seen[number]);
     }
-}
-
-#[test]
-fn there_and_back() {
-    let mut random = Random(0xB1A);
-    let mut d = Diagrams::new();
-    for _ in 0..5_000 {
-        let mut proof = Written { text: between(&mut random).to_string(), ..Default::default() };
-        let mut plain = String::new();
-        for _ in 0..random.below(5) {
-            let (strikes, mut literals) = (random.one_in(3), Vec::new());
-            for _ in 0..random.below(6) {
-                literals.push((1 + random.below(63) as i32) * if random.one_in(2) { 1 } else { -1 });
-            }
-            proof.push(&mut random, strikes, &literals);
-            let words: Vec<String> = literals.iter().map(|literal| format!("{literal} ")).collect();
-            plain.push_str(&format!("{}{}0\n", if strikes { "d " } else { "" }, words.concat()));
-        }
-        let (binary, plain) = (hex(&proof.binary), hex(plain.as_bytes()));
-        let answer = |length: &str, bytes: &str| match length {
-            "-" => "0 0 0 | -".to_string(),
-            _ => format!("0 0 {} | {bytes}", length.len() / 2),
-        };
-        let size = |bytes: &str| if bytes == "-" { 0 } else { bytes.len() / 2 };
-        let line = format!("tobin {} {}", size(&binary), hex(proof.text.as_bytes()));
-        assert_eq!(ask(&mut d, &line), answer(&binary, &binary), "{line}");
-        let line = format!("totext {} {binary}", size(&plain));
-        assert_eq!(ask(&mut d, &line), answer(&plain, &plain), "{line}");
-        assert_eq!(ask(&mut d, &format!("tobin {} {plain}", size(&binary))), answer(&binary, &binary));
-        if size(&plain) > 0 {
-            let short = size(&plain) - 1;
-            let zeros = hex(&vec![0; short]);
-            assert_eq!(ask(&mut d, &format!("totext {short} {binary}")), format!("7 0 0 | {zeros}"));
-        }
-    }
-}
-
-/// A literal has one form only, so what is read is written again.
-#[test]
-fn every_binary_proof_that_is_read_comes_back() {
-    const BYTES: [u8; 9] = [0x61, 0x64, 0, 1, 2, 3, 0x80, 0x81, 0xFF];
-    let mut d = Diagrams::new();
-    let mut read = 0;
-    for number in 0..9u32.pow(6) {
-        let bytes: Vec<u8> = (0..6).map(|at| BYTES[(number / 9u32.pow(at) % 9) as usize]).collect();
-        let said = ask(&mut d, &format!("totext 64 {}", hex(&bytes)));
-        let words: Vec<&str> = said.split(' ').collect();
-        if words[0] == "0" {
-            let length: usize = words[2].parse().unwrap();
-            let back = ask(&mut d, &format!("tobin 6 {}", &words[4][..2 * length]));
-            assert_eq!(back, format!("0 0 6 | {}", hex(&bytes)));
-            read += 1;
-        } else {
-            assert_eq!(said, format!("{} {} 0 | {}", words[0], words[1], "00".repeat(64)));
-        }
-    }
-    assert!(read > 200, "{read}");
 }
 
 /// RUP over clauses: with the clause's literals false, unit propagation makes some clause empty.
@@ -190,7 +186,7 @@ fn rat_over_clauses(clauses: &[Vec<i32>], clause: &[i32]) -> bool {
 #[test]
 fn the_two_tries_accept_what_rup_and_rat_over_clauses_accept() {
     let mut random = Random(0xAA7);
-    let mut d = Diagrams::new();
+    let mut d = Session::new();
     let mut seen = [0u32; 3];
     for _ in 0..20_000 {
         let variables = 1 + random.below(10) as u32;

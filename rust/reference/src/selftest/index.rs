@@ -25,7 +25,7 @@ fn index_by_chains(table: &Plain) -> Index {
 #[test]
 fn a_lent_index_is_right_only_with_every_chain_from_the_highest_number_down() {
     let mut random = Random(0x1DE);
-    let mut d = Diagrams::new();
+    let mut d = Session::new();
     let mut longest = 0;
     for _ in 0..300 {
         let mut table = Plain::new(256);
@@ -36,7 +36,7 @@ fn a_lent_index_is_right_only_with_every_chain_from_the_highest_number_down() {
         let head = format!("{} {} {}", table.size, table.nodes.len(), table.text());
         ask(&mut d, &format!("not {head} 0"));
         let right = index_by_chains(&table);
-        assert_eq!(Index::of(&d.table, table.size), right);
+        assert_eq!(Index::of(&d.diagrams.table, table.size), right);
         longest = (0..2 * table.size as u64).map(|head| chain(&table, head).len()).chain([longest]).max().unwrap();
         for _ in 0..40 {
             let (name, list) = if random.one_in(2) { ('H', &right.heads) } else { ('L', &right.links) };
@@ -67,8 +67,8 @@ fn an_index_key_runs_over_the_top() {
     let product = |child: u32, factor: u64| child as u64 * factor >= 1 << 32;
     assert!(table.nodes.iter().any(|node| product(node[1], 12_582_917)));
     assert!(table.nodes.iter().any(|node| product(node[2], 4_256_249)));
-    let mut d = Diagrams::new();
+    let mut d = Session::new();
     ask(&mut d, &format!("not {} {} {} 0", table.size, table.nodes.len(), table.text()));
-    assert_eq!(d.table.count(), table.nodes.len());
-    assert_eq!(Index::of(&d.table, table.size), index_by_chains(&table));
+    assert_eq!(d.diagrams.table.count(), table.nodes.len());
+    assert_eq!(Index::of(&d.diagrams.table, table.size), index_by_chains(&table));
 }

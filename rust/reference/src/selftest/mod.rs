@@ -1,16 +1,20 @@
 //! The checker held against the words of document 01 by brute force, over at most four variables: a
 //! function is a word of 16 values, one for each assignment, and the table is searched from end to end.
 
+mod binary;
+mod books;
 mod drat;
 mod index;
 mod model;
 mod paths;
 mod records;
 mod single;
+mod small;
 mod tallies;
+mod why;
 
 use crate::operate::Diagrams;
-use crate::protocol::answer;
+use crate::protocol::{answer, Session};
 use crate::table::{bit, Literals};
 
 const N: u32 = 4;
@@ -138,9 +142,9 @@ impl Plain {
     }
 }
 
-fn ask(d: &mut Diagrams, line: &str) -> String {
+fn ask(session: &mut Session, line: &str) -> String {
     let mut out = Vec::new();
-    answer(d, line.as_bytes(), &mut out);
+    answer(session, line.as_bytes(), &mut out);
     String::from_utf8(out).unwrap()
 }
 

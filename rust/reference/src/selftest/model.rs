@@ -69,6 +69,9 @@ pub(super) struct Model {
     pub(super) lines: u64,
     rounds: u64,
     line_rounds: u64,
+    /// The literals fixed in the last propagation, round by round, and the member whose turn it was in PR.
+    fixed: Vec<Literals>,
+    turn: Option<usize>,
     pub(super) refuted: bool,
 }
 
@@ -200,14 +203,19 @@ impl Model {
         Ok(())
     }
 
-    pub(super) fn live(&self) -> Vec<Function> {
-        (0..self.members.len()).filter(|at| !self.struck.contains(at)).map(|at| self.members[at]).collect()
+    fn live(&self) -> Vec<Function> {
+        self.live_numbers().into_iter().map(|at| self.members[at]).collect()
+    }
+
+    fn live_numbers(&self) -> Vec<usize> {
+        (0..self.members.len()).filter(|at| !self.struck.contains(at)).collect()
     }
 
     pub(super) fn shown(&mut self, g: Function, rule: Rule) -> Result<bool, NoRoom> {
         if rule == Rule::Path {
             return self.shown_by_paths(g);
         }
+        self.turn = None;
         self.table.build(!g)?;
         let members = self.live();
         let first = self.each(&members, |f| nearest(f, !g))?;
@@ -215,8 +223,9 @@ impl Model {
             return self.conflicts(first);
         }
         let before = self.table.nodes.len();
-        for f in members {
-            let h = under(f, self.witness);
+        for at in self.live_numbers() {
+            self.turn = Some(at);
+            let h = under(self.members[at], self.witness);
             if h != ALL {
                 self.table.build(h)?;
                 self.table.build(!h)?;
@@ -231,6 +240,7 @@ impl Model {
     }
 
     fn shown_by_paths(&mut self, g: Function) -> Result<bool, NoRoom> {
+        self.turn = None;
         let members = self.live();
         let before = self.table.nodes.len();
         for path in paths_to_0(g) {
@@ -252,6 +262,7 @@ impl Model {
     }
 
     pub(super) fn conflicts(&mut self, mut members: Vec<Function>) -> Result<bool, NoRoom> {
+        self.fixed.clear();
         loop {
             if members.iter().any(|&f| f == 0 || members.contains(&!f)) {
                 return Ok(true);
@@ -260,8 +271,47 @@ impl Model {
                 return Ok(false);
             };
             members = self.each(&members, |f| under(f, by))?;
+            self.fixed.push(by);
             self.line_rounds += 1;
         }
+    }
+}
+
+impl Model {
+    pub(super) fn last_entry(&self) -> Function {
+        self.entries[self.entries.len() - 1]
+    }
+
+    pub(super) fn is_struck(&self, member: usize) -> bool {
+        self.struck.contains(&member)
+    }
+
+    /// The cause of 19.
+    pub(super) fn unshown(&self) -> String {
+        let literal = |by: &Literals, v: u32| {
+            let signs = [(by.yes, ""), (by.no, "-")];
+            signs.into_iter().filter(|(set, _)| set & bit(v) != 0).map(|(_, sign)| format!("{sign}{v}")).next()
+        };
+        let round = |by: &Literals| (1..=N).filter_map(|v| literal(by, v)).collect::<Vec<String>>().join(",");
+        let rounds: Vec<String> = self.fixed.iter().map(round).collect();
+        let rounds = if rounds.is_empty() { "-".into() } else { rounds.join(";") };
+        rounds + &self.turn.map(|member| format!(" m{member}")).unwrap_or_default()
+    }
+
+    /// The cause of 14: the record's variable and that of the child, the low one's if both offend.
+    pub(super) fn not_before(&self, v: u32, low: u16, high: u16) -> String {
+        let roots = [low, high].map(|entry| Model::root(self.entries[entry as usize]));
+        let offending = roots.into_iter().find(|&root| root <= v).unwrap();
+        format!("{v},{offending}")
+    }
+
+    /// The cause of 18: of all assignments that agree with the witness and make the line false, the smallest
+    /// with variable 1 as the top digit.
+    pub(super) fn falsified(&self, root: u16) -> String {
+        let g = self.entries[root as usize];
+        let agrees = |a: u32| a as u64 & self.witness.yes == self.witness.yes && a as u64 & self.witness.no == 0;
+        let reads = |a: &u32| (1..=N).fold(0, |read, v| 2 * read + (a >> (v - 1) & 1));
+        (0..16u32).filter(|&a| agrees(a) && !value(g, a)).min_by_key(reads).unwrap().to_string()
     }
 }
 
@@ -283,6 +333,8 @@ pub(super) fn opened(variables: u32, size: usize, clauses: &[Function]) -> Optio
         lines: 0,
         rounds: 0,
         line_rounds: 0,
+        fixed: Vec::new(),
+        turn: None,
         refuted: false,
     })
 }

@@ -8,7 +8,7 @@ use crate::table::NodeId;
 #[test]
 fn paths_are_those_of_the_function_low_side_first() {
     let mut random = Random(0x9A75);
-    let mut d = Diagrams::new();
+    let mut d = Session::new();
     for _ in 0..2_000 {
         let mut table = Plain::new(256);
         for _ in 0..2 {
@@ -18,10 +18,10 @@ fn paths_are_those_of_the_function_low_side_first() {
         for node in 0..table.nodes.len() as u32 {
             let wanted = paths_to_0(table.function(node));
             let mut paths = Paths::new(NodeId(node));
-            let given: Vec<Literals> = std::iter::from_fn(|| paths.next(&d.table)).collect();
+            let given: Vec<Literals> = std::iter::from_fn(|| paths.next(&d.diagrams.table)).collect();
             assert_eq!(given, wanted);
             for most in 0..10 {
-                assert_eq!(paths::more_than(&d.table, NodeId(node), most), wanted.len() > most);
+                assert_eq!(paths::more_than(&d.diagrams.table, NodeId(node), most), wanted.len() > most);
             }
         }
     }
@@ -31,7 +31,7 @@ fn paths_are_those_of_the_function_low_side_first() {
 #[test]
 fn an_accepted_path_line_follows_from_the_clauses() {
     let mut random = Random(0xFA7);
-    let mut d = Diagrams::new();
+    let mut d = Session::new();
     let mut accepted = 0;
     for _ in 0..20_000 {
         let made: Vec<_> = (0..random.below(9)).map(|_| random_clause(&mut random, N)).collect();

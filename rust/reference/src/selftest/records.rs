@@ -136,7 +136,7 @@ fn no_room(said: &str, size: usize) -> bool {
 #[test]
 fn checks_are_what_the_rules_say_and_0_is_said_of_nothing_satisfiable() {
     let mut random = Random(0xC0FFEE);
-    let mut d = Diagrams::new();
+    let mut d = Session::new();
     let mut seen = [0u32; 36];
     let (mut accepted_pr, mut refuted_struck) = (0, 0);
     for _ in 0..40_000 {
@@ -163,7 +163,7 @@ fn checks_are_what_the_rules_say_and_0_is_said_of_nothing_satisfiable() {
 #[test]
 fn in_the_profile_every_accepted_line_follows_from_the_formula() {
     let mut random = Random(0xC045);
-    let mut d = Diagrams::new();
+    let mut d = Session::new();
     let (mut refused, mut followed, mut cut_off) = (0, 0, 0);
     for _ in 0..20_000 {
         let given = Given::random(&mut random);

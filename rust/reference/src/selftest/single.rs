@@ -15,7 +15,7 @@ fn expected(table: &Plain, f: Function) -> String {
 #[test]
 fn single_calls_are_what_the_definitions_say() {
     let mut random = Random(0x5EED);
-    let mut d = Diagrams::new();
+    let mut d = Session::new();
     for _ in 0..10_000 {
         let mut table = Plain::new(256);
         for _ in 0..1 + random.below(3) {
@@ -46,7 +46,7 @@ fn single_calls_are_what_the_definitions_say() {
         let seen = value(ff, word as u32) as u32;
         assert_eq!(ask(&mut d, &format!("eval {head} {f} {word}")), format!("0 {seen} {count}"));
         for node in 0..count as u32 {
-            facts_hold(&mut d, &table, node, by);
+            facts_hold(&mut d.diagrams, &table, node, by);
         }
     }
 }

@@ -53,13 +53,23 @@ fn clauses_are_judged_as_in_text() {
     ]);
 }
 
+/// Each in a check of two variables and in a conversion: number and place are the same.
+fn refused_bytes(rows: &[(&str, &str)]) {
+    for (bytes, wanted) in rows {
+        let lines = bytes.starts_with("61 00") as u32;
+        expect(vec![
+            (dratb_sized(4096, "p cnf 2 1\n0\n", bytes), format!("{wanted} {lines} 0")),
+            (format!("totext 3 {}", squeezed(bytes)), format!("{wanted} 0 | 000000")),
+        ]);
+    }
+}
+
 #[test]
 fn refusals_of_bytes() {
-    let zero = "p cnf 2 1\n0\n";
     let endless = format!("61 {} 01 00", "FF".repeat(200));
     let zeros = format!("61 {} 01 00", "80".repeat(200));
     let surplus = format!("61 {} 00 00", "FF".repeat(200));
-    let refused = [
+    refused_bytes(&[
         ("00", "9 0"),
         ("62", "9 0"),
         ("41", "9 0"),
@@ -83,15 +93,9 @@ fn refusals_of_bytes() {
         ("61 82 01", "4 1"),
         ("61 83 01", "4 1"),
         ("64 02 82 01", "4 2"),
-    ];
-    for (bytes, wanted) in refused {
-        let lines = bytes.starts_with("61 00") as u32;
-        expect(vec![
-            (dratb_sized(4096, zero, bytes), format!("{wanted} {lines} 0")),
-            (format!("totext 3 {}", squeezed(bytes)), format!("{wanted} 0 | 000000")),
-        ]);
-    }
+    ]);
     // The check knows the header, a conversion only the limit of 64.
+    let zero = "p cnf 2 1\n0\n";
     expect(rows(&[
         (zero, "61 04 06 00", "4 2"),
         (zero, "61 07", "4 1"),

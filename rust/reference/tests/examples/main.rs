@@ -3,6 +3,7 @@
 
 mod base;
 mod binary;
+mod books;
 mod drat;
 mod formula;
 mod index;
@@ -10,8 +11,10 @@ mod paths;
 mod profile;
 mod room;
 mod single;
+mod small;
 mod striking;
 mod tallies;
+mod why;
 
 use std::io::{BufRead, BufReader, Write};
 use std::process::{Command, Stdio};

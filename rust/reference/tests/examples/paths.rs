@@ -3,7 +3,7 @@
 use crate::tallies::odd;
 use crate::{check, expect, rows, sized, FOUR};
 
-const XOR: &str = "p cnf 3 4\n1 2 3 0\n1 -2 -3 0\n-1 2 -3 0\n-1 -2 3 0\n";
+pub const XOR: &str = "p cnf 3 4\n1 2 3 0\n1 -2 -3 0\n-1 2 -3 0\n-1 -2 3 0\n";
 
 #[test]
 fn a_parity_line_from_plain_clauses() {

@@ -15,7 +15,7 @@ fn even(set: u64) -> String {
     counting("58", set, 0)
 }
 
-fn at_least(set: u64, least: u8) -> String {
+pub fn at_least(set: u64, least: u8) -> String {
     counting("4B", set, least)
 }
 
