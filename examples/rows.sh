@@ -1,4 +1,4 @@
-# What examples/test-program, examples/test-start and examples/test-install share: each sets `test` (its name) and reads this file at the root of
+# What examples/test-program, test-forms, test-start and test-install share: each sets `test` (its name) and reads this file at the root of
 # the repository. `command` is what a row starts, `out` a folder for its files.
 rows=0
 command=bin/refute
