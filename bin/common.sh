@@ -61,7 +61,8 @@ else
                 continue
             fi
             printf '%s\n' "$said" 2>/dev/null >>"$log" || kept=
-            last=("${last[@]: -19}" "$said")
+            last+=("$said")
+            [ "${#last[@]}" -le 20 ] || last=("${last[@]:1}")
             [[ $said =~ ^rt:\ ([a-z_0-9]+)\ proved(.*) ]] && [ "$at" -lt "$total" ] || continue
             at=$((at + 1))
             # What stands since an earlier proof is counted and not told.

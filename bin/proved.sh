@@ -50,8 +50,9 @@ ensure() {
     if is_proved "$files" "$name" "$product"; then return; fi
     lock
     if ! is_proved "$files" "$name" "$product"; then
-        # `rt check` passes over a program that it has proved already: one that is missing, or not as noted, is made again.
-        if [[ $product == */bin/* ]] && { [ ! -f "$product" ] || [ "$(noted files "$name")" = "$files" ]; }; then
+        # `rt check` passes over a program that it has proved already: one that is missing, or is another than the noted one of the same files,
+        # is made again.
+        if [ ! -f "$product" ] || { [ "$(noted files "$name")" = "$files" ] && [ "$(noted product "$name")" != "$(digest "$product")" ]; }; then
             rm -f "$root/target/stamp/$name"
         fi
         "$@"
