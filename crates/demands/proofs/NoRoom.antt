@@ -63,7 +63,8 @@ use Rattle.demands.proofs.Ending.{check-ends}
 use Rattle.demands.proofs.Lists.{sizes}
 use Rattle.demands.proofs.TextMembers.{clause-made}
 use Rattle.demands.proofs.Full.{place-wants}
-use Rattle.demands.proofs.LineRoom.{AllTurns, rup-reduced, pr-reduced, path-reduced, line-wants}
+use Rattle.room.proofs.Reduced.{AllTurns, rup-reduced, pr-reduced, path-reduced}
+use Rattle.demands.proofs.LineRoom.{line-wants}
 
 -- ---- a record with 23
 

@@ -1,11 +1,11 @@
--- A check that is not refused for room comes to the same in every larger table, whatever the form of its proof. The idea: room is asked in one
+-- A check that is not refused for room gives the same result in every larger table, whatever the form of its proof. The idea: room is needed in one
 -- place, where a node is appended. Assumes nothing.
 use mathlib.Core.Path.{_≡_, refl, sym, ap, ap₂, _∙_, subst}
 use mathlib.Core.Logic.{_≢_, _⊎_, inl, inr}
-use mathlib.Core.Bool.{Bool, true, false, not, _&&_, _||_, cond}
+use mathlib.Core.Bool.{Bool, true, false, not, _&&_, cond}
 use mathlib.Core.List.{List, [], _∷_, _++_}
 use mathlib.Core.Option.{Option, none, some}
-use Prim.Native.Nat.{ℕ, zero, suc, _+_, _≤_, _<_, max}
+use Prim.Native.Nat.{ℕ, zero, suc, _≤_, _<_, max}
 use native.Mathlib.Omega.{arith}
 use lib.ListN.{length}
 use lib.Dec.{eqb, ltb, leb}
@@ -22,18 +22,14 @@ use Rattle.dimacs.specs.Clauses.{Reading, clause, complete, refusal, clausesFro
 use Rattle.dimacs.specs.declared.Header.{Header}
 use Rattle.dimacs.specs.declared.Header.the-variants.{Proper, Improper}
 use Rattle.dimacs.specs.Header.{header}
-use Rattle.records.specs.declared.NodeBody.{NodeBody}
-use Rattle.records.specs.declared.SetKind.{SetKind}
-use Rattle.records.specs.declared.SetBody.{SetBody}
-use Rattle.records.specs.declared.Rule.{Rule}
 use Rattle.records.specs.declared.Rule.the-variants.{Rup, Pr, Path}
 use Rattle.records.specs.declared.Record.{Record}
 use Rattle.records.specs.declared.Record.the-variants.{NodeEntry, Witness, ProofLine, Strike, SetEntry, End, CutShort, UnknownKind, NoRecord}
 use Rattle.commands.specs.declared.Mode.{Mode}
 use Rattle.commands.specs.Commands.{Command, recorded, added, struckOut, wrong, finished, Read, start, commandAt}
 use Rattle.verdict.specs.Steps.{State, withEntry, Step, next, stop, spent, emptied, begun, isEntry, entryNode, isVariable, entered, nodeStep, waiting, accepted, judged, diagramIn, liveMembers, lineStep, beyond, noParity, setDiagram, setStep, recordStep}
-use Rattle.verdict.specs.Clausal.{withPeak, judgedOr, secondLine, secondTry, afterFirst, tries, onceMade, addStep, strikeClause}
-use Rattle.verdict.specs.Check.{shutOut, step, Verdict, left, afterStep, commands, refusedFormula, afterClause, clauses, checkAfterHeader, verdict}
+use Rattle.verdict.specs.Clausal.{withPeak, judgedOr, secondLine, secondTry, afterFirst, tries, onceMade, addStep}
+use Rattle.verdict.specs.Check.{shutOut, step, Verdict, afterStep, commands, afterClause, clauses, checkAfterHeader, verdict}
 
 module _ (s s′ : ℕ) (more : s ≤ s′) where
   -- ---- placing

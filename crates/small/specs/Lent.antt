@@ -1,8 +1,8 @@
 -- The lists that the code works in, as the state that they hold. No call open to others cites this file.
 use mathlib.Core.Path.{_≡_}
 use mathlib.Core.Logic.{_≢_}
-use mathlib.Core.Bool.{Bool, true, false, not, _&&_, _||_, cond}
-use mathlib.Core.List.{List, [], _∷_}
+use mathlib.Core.Bool.{not, _&&_, _||_, cond}
+use mathlib.Core.List.{List}
 use Prim.Native.Nat.{ℕ, suc, _+_, _*_, _≤_, _<_}
 use lib.ListN.{length, take}
 use lib.Dec.{eqb, leb}
@@ -22,7 +22,8 @@ use Rattle.small.specs.declared.Start.the-variants as start
 use Rattle.small.specs.declared.SmallChecked.{SmallChecked}
 use Rattle.small_verdict.specs.Agrees.{Said}
 use Rattle.small_verdict.specs.Small.{SmallOutcome}
-use Rattle.small.specs.WordSteps.{WordState, WordStep, onward, halt, withWord, wordsBegun, lineOf, wordJudged, wordLine, wordRecords, formulaRefused}
+use Rattle.small.specs.WordSteps.{WordState, WordStep, onward, halt, withWord, wordsBegun, lineOf, wordJudged, wordLine}
+use Rattle.small.specs.WordSteps.{wordRecords, formulaRefused}
 
 pub record WordsLent : Type 0 where
   pub members : List ℕ

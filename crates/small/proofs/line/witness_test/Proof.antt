@@ -1,5 +1,5 @@
 -- `witness_test`: the tests of a PR line's root. The idea: each test taken is the definition's. Assumes nothing.
-use mathlib.Core.Path.{sym, _∙_}
+use mathlib.Core.Path.{sym}
 use borrow.Author.Tests.{le-leb, lt-leb, eq-eqb, ne-eqb}
 use borrow.Author.Needs.{needs}
 use Rattle.small.proofs.line.witness_test.Statement.{statement}
@@ -16,10 +16,22 @@ by-literals-requires : tie.Need-by-literals-requires
 by-literals-requires c κs = search needs
 
 returns-3 : tie.Need-returns-3
-returns-3 c = rw (lt-leb _ _ (c .before .before .before .if1 .left), ne-eqb _ _ (c .before .before .if2 .left), sym (c .before .by-literals .ensures), ne-eqb _ _ (c .if3 .taken))
+returns-3 c = rw (
+  lt-leb _ _ (c .before .before .before .if1 .left),
+  ne-eqb _ _ (c .before .before .if2 .left),
+  sym
+      (c .before .by-literals .ensures),
+  ne-eqb _ _ (c .if3 .taken),
+)
 
 returns-4 : tie.Need-returns-4
-returns-4 c = rw (lt-leb _ _ (c .before .before .before .if1 .left), ne-eqb _ _ (c .before .before .if2 .left), sym (c .before .by-literals .ensures), eq-eqb _ _ (c .if3 .left))
+returns-4 c = rw (
+  lt-leb _ _ (c .before .before .before .if1 .left),
+  ne-eqb _ _ (c .before .before .if2 .left),
+  sym
+      (c .before .by-literals .ensures),
+  eq-eqb _ _ (c .if3 .left),
+)
 
 pub witness-test-spec : {M : Type 1} → statement M
 witness-test-spec =

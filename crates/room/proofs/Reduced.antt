@@ -49,7 +49,10 @@ turns-reduced n P N ms′ (f ∷ fs) = go (same h (leaf true)) (p .conflict) (tu
 
     this-turn : AllReduced n ((h ∷ negation n h ∷ second) ++ p .made)
     this-turn =
-        append-reduced n (h ∷ negation n h ∷ second) (p .made) (literals-reduced n P N f, (negation-reduced n h, byDiagram-reduced n (negation n h) ms′)) (propagate-reduced n n second)
+        append-reduced n (h ∷ negation n h ∷ second) (p .made) (
+          literals-reduced n P N f,
+          (negation-reduced n h, byDiagram-reduced n (negation n h) ms′),
+        ) (propagate-reduced n n second)
 
     go : (c conflict : Bool) → AllTurns n (rest .turns)
         → AllTurns n (cond c rest (record {
@@ -70,7 +73,8 @@ path-turns-reduced n ms (c ∷ cs) = go (unitProp n (byPath n c ms) .conflict) (
     this-turn : AllReduced n (byPath n c ms ++ unitProp n (byPath n c ms) .made)
     this-turn =
         append-reduced n (byPath n c ms) (unitProp n (byPath n c ms) .made)
-        (map-reduced n (cofactorLiterals n (makesTrue c) (makesFalse c)) ms (λ f. literals-reduced n (makesTrue c) (makesFalse c) f)) (propagate-reduced n n (byPath n c ms))
+        (map-reduced n (cofactorLiterals n (makesTrue c) (makesFalse c)) ms (λ f. literals-reduced n (makesTrue c) (makesFalse c) f))
+        (propagate-reduced n n (byPath n c ms))
 
     go : (conflict : Bool) → AllTurns n (pathTurns n ms cs .turns)
         → AllTurns n ((byPath n c ms ++ unitProp n (byPath n c ms) .made) ∷ cond conflict (pathTurns n ms cs .turns) [])
@@ -79,11 +83,19 @@ path-turns-reduced n ms (c ∷ cs) = go (unitProp n (byPath n c ms) .conflict) (
 
 pub rup-reduced : (n : ℕ) (ms : List Diagram) (G : Diagram) → AllReduced n (rup n ms G .kept) × AllTurns n (rup n ms G .turns)
 unfolding rup unitProp
-rup-reduced n ms G = ((negation-reduced n G, byDiagram-reduced n (negation n G) ms), (propagate-reduced n n (byDiagram n (negation n G) ms), tt))
+rup-reduced n ms G = (
+  (negation-reduced n G, byDiagram-reduced n (negation n G) ms),
+  (propagate-reduced n n (byDiagram n (negation n G) ms), tt),
+)
 
-pub pr-reduced : (n : ℕ) (P N : ℕ → Bool) (ms : List Diagram) (G : Diagram) → AllReduced n (pr n P N ms G .kept) × AllTurns n (pr n P N ms G .turns)
+pub pr-reduced : (n : ℕ) (P N : ℕ → Bool) (ms : List Diagram) (G : Diagram) → AllReduced n (pr n P N ms G .kept) × AllTurns n
+    (pr n P N ms G .turns)
 unfolding pr
-pr-reduced n P N ms G = ((negation-reduced n G, byDiagram-reduced n (negation n G) ms), turns-reduced n P N (byDiagram n (negation n G) ms) ms)
+pr-reduced n P N ms G = (
+  (negation-reduced n G, byDiagram-reduced n (negation n G) ms),
+  turns-reduced n P N (byDiagram n (negation n G) ms)
+      ms,
+)
 
 pub path-reduced : (n : ℕ) (ms : List Diagram) (G : Diagram) → AllReduced n (pathLine n ms G .kept) × AllTurns n (pathLine n ms G .turns)
 unfolding pathLine
