@@ -7,3 +7,5 @@ pub mod InOrder
 pub mod Refusals
 pub mod EndPasses
 pub mod FormulaPeak
+pub mod Widths
+pub mod Rounds
