@@ -9,3 +9,6 @@ pub mod EndPasses
 pub mod FormulaPeak
 pub mod Widths
 pub mod Rounds
+pub mod Alike
+pub mod EnoughRoom
+pub mod EnoughPlaces
