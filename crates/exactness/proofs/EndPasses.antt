@@ -17,6 +17,7 @@ use Rattle.meaning.proofs.Booleans.{t≢f}
 use Rattle.table.specs.Nodes.{Node, Placing, full, placed, put, place}
 use Rattle.table.specs.Making.{Room, short, reached, placedAll, lineReach}
 use Rattle.table.proofs.Placing.{put-place}
+use Rattle.table.proofs.PlacedAll.{nodesAfter}
 use Rattle.records.specs.declared.Rule.the-variants.{Rup, Pr, Path}
 use Rattle.records.specs.declared.Record.{Record}
 use Rattle.records.specs.declared.Record.the-variants.{NodeEntry, Witness, ProofLine, Strike, SetEntry, End, CutShort, UnknownKind}
@@ -44,7 +45,7 @@ use Rattle.exactness.proofs.Refusals.{chain, record-proceeds, struck-pr
 
 -- ---- steps
 
-abbrev peakIn : Step → ℕ
+abbrev pub peakIn : Step → ℕ
 peakIn (next st) = 0
 peakIn (stop number offset) = 0
 peakIn (spent number peak) = peak
@@ -54,11 +55,11 @@ IsSpent (next st) = ⊥
 IsSpent (stop number offset) = ⊥
 IsSpent (spent number peak) = Unit {0}
 
-next-not : {A : Type 0} {st : State} {k p : ℕ} → next st ≡ spent k p → A
+pub next-not : {A : Type 0} {st : State} {k p : ℕ} → next st ≡ spent k p → A
 next-not e = absurd (subst IsSpent (sym e) tt)
 
 -- what is refused once nodes were made passed every test
-chain-spent : (ts : List Test) (last : Step) (k p : ℕ) → chain ts last ≡ spent k p → last ≡ spent k p
+pub chain-spent : (ts : List Test) (last : Step) (k p : ℕ) → chain ts last ≡ spent k p → last ≡ spent k p
 chain-spent [] last k p e = e
 chain-spent (t ∷ ts) last k p e = go (t .holds) e (chain-spent ts last k p)
   where
@@ -161,10 +162,6 @@ isFull (placed t k) = false
 full-not : {A : Type 0} {t t₁ : List Node} {k : ℕ} (q : Placing) → q ≡ full t → q ≡ placed t₁ k → A
 full-not q e f = t≢f (sym (ap isFull e) ∙ ap isFull f)
 
-abbrev nodesIn : Placing → List Node
-nodesIn (full t) = t
-nodesIn (placed t k) = t
-
 abbrev numberOf : Placing → ℕ
 numberOf (full t) = 0
 numberOf (placed t k) = k
@@ -210,7 +207,7 @@ module _ (profile : Bool) {s n : ℕ} {m : Meant} {st : State} (S : Standing s n
     p₁ = max (max (st .peak) (length t)) (lineReach s t first .peak)
 
     to-here : {t₂ : List Node} {i : ℕ} → place s (st .nodes) D ≡ placed t₂ i → (t₂ ≡ t) × (i ≡ j)
-    to-here f = (ap nodesIn (sym f ∙ e), ap numberOf (sym f ∙ e))
+    to-here f = (ap nodesAfter (sym f ∙ e), ap numberOf (sym f ∙ e))
 
     first-here : {t₂ : List Node} {i k : ℕ} → place s (st .nodes) D ≡ placed t₂ i → LinePasses s t₂ (firstLine n (withEntry st t₂ i) ls) k →
         F k

@@ -11,26 +11,22 @@ use Rattle.meaning.specs.Rules.{Line}
 use Rattle.meaning.proofs.Booleans.{t≢f}
 use Rattle.table.specs.Nodes.{Node, Placing, full, placed, place}
 use Rattle.table.specs.Making.{Room, short, all, afterPlacing, placedAll, reached, thenReach, turnsReach, keptReach, lineReach}
-use Rattle.table.proofs.PlacedAll.{count-greatest, turns-peak}
+use Rattle.table.proofs.PlacedAll.{nodesAfter, count-greatest, turns-peak}
 use Rattle.exactness.specs.Passing.{Passes, now, stuck, later, TurnPasses, before, this, next, LinePasses, in-base, in-turn, Greatest}
 
 abbrev isFull : Placing → Bool
 isFull (full t) = true
 isFull (placed t k) = false
 
-abbrev nodesOf : Placing → List Node
-nodesOf (full t) = t
-nodesOf (placed t k) = t
-
 not-both : {A : Type 0} {t t₁ : List Node} {k : ℕ} (p : Placing) → p ≡ full t → p ≡ placed t₁ k → A
 not-both p e f = let z : _≡_ {A = Bool} true false = sym (ap isFull e) ∙ ap isFull f in t≢f z
 
 module _ (s : ℕ) where
-  place-longer : (t : List Node) (D : Diagram) → length t ≤ length (nodesOf (place s t D))
+  pub place-longer : (t : List Node) (D : Diagram) → length t ≤ length (nodesAfter (place s t D))
   unfolding placedAll
   place-longer t D = go (place s t D) (count-greatest s t (D ∷ []))
     where
-      go : (p : Placing) → length t ≤ reached (afterPlacing p (λ t₁. all t₁)) .peak → length t ≤ length (nodesOf p)
+      go : (p : Placing) → length t ≤ reached (afterPlacing p (λ t₁. all t₁)) .peak → length t ≤ length (nodesAfter p)
       go (full t₁) h = h
       go (placed t₁ k) h = h
 
@@ -47,19 +43,19 @@ module _ (s : ℕ) where
       go (full t₁) e rec = record { is = stuck e; most = λ j p. most j p }
         where
           most : (j : ℕ) → Passes s t (D ∷ Ds) j → j ≤ length t₁
-          most _ now = subst (λ (p : Placing). length t ≤ length (nodesOf p)) e (place-longer t D)
-          most _ (stuck {u} f) = let q : length u ≡ length t₁ = ap (λ (p : Placing). length (nodesOf p)) (sym f ∙ e) in omega arith
+          most _ now = subst (λ (p : Placing). length t ≤ length (nodesAfter p)) e (place-longer t D)
+          most _ (stuck {u} f) = let q : length u ≡ length t₁ = ap (λ (p : Placing). length (nodesAfter p)) (sym f ∙ e) in omega arith
           most j (later f P) = not-both (place s t D) e f
       go (placed t₁ k) e rec = record { is = later e (rec t₁ .is); most = λ j p. most j p }
         where
           longer : length t ≤ length t₁
-          longer = subst (λ (p : Placing). length t ≤ length (nodesOf p)) e (place-longer t D)
+          longer = subst (λ (p : Placing). length t ≤ length (nodesAfter p)) e (place-longer t D)
 
           most : (j : ℕ) → Passes s t (D ∷ Ds) j → j ≤ reached (placedAll s t₁ Ds) .peak
           most _ now = omega (arith, longer, count-greatest s t₁ Ds)
           most j (stuck f) = not-both (place s t D) f e
           most j (later {u} f P) =
-              let q : u ≡ t₁ = ap nodesOf (sym f ∙ e) in rec t₁ .most j (subst (λ (x : List Node). Passes s x Ds j) q P)
+              let q : u ≡ t₁ = ap nodesAfter (sym f ∙ e) in rec t₁ .most j (subst (λ (x : List Node). Passes s x Ds j) q P)
 
   not-room : {A : Type 0} {t t₁ : List Node} (r : Room) → r ≡ short t → r ≡ all t₁ → A
   not-room r e f = let z : _≡_ {A = Bool} false true = sym (ap (λ (x : Room). reached x .fits) e) ∙ ap (λ (x : Room). reached x .fits) f in
