@@ -150,7 +150,8 @@ mod tests {
     /// Document 002's point: a parity from plain clauses fails as RUP and passes as a path line.
     #[test]
     fn a_parity_from_its_clauses() {
-        let formula = Formula { variables: 3, clauses: vec![vec![1, 2, 3], vec![1, -2, -3], vec![-1, 2, -3], vec![-1, -2, 3]] };
+        let formula =
+            Formula { variables: 3, clauses: vec![vec![1, 2, 3], vec![1, -2, -3], vec![-1, 2, -3], vec![-1, -2, 3]] };
         let mut builder = crate::proof::Builder::new(&formula);
         let odd = builder.store.parity(&[1, 2, 3], true);
         assert!(!builder.rup(odd) && builder.path(odd));
