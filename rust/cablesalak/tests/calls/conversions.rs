@@ -110,6 +110,23 @@ fn to_text_refusals() {
     assert_eq!(to_text(b"\x61\x80\0").unwrap_err().to_string(), "31 at byte 1: surplus groups, or a literal 1");
 }
 
+/// CaDiCaL's own binary proofs are its texts converted, and are accepted as it writes them, in the consequence profile too.
+#[test]
+fn as_cadical_writes_them() {
+    let mut workspace = Workspace::new(4_096).unwrap();
+    for (text, binary, line) in [
+        (OUTSIDE[0], &include_bytes!("../../../../examples/drat/pigeons-cadical.bdrat")[..], "0 247 48 461 149"),
+        (OUTSIDE[2], include_bytes!("../../../../examples/drat/parities-cadical.bdrat"), "0 389 52 256 231"),
+        (OUTSIDE[3], include_bytes!("../../../../examples/drat/rota-cadical.bdrat"), "0 326 59 492 707"),
+        (OUTSIDE[5], include_bytes!("../../../../examples/drat/three-sat-cadical.bdrat"), "0 1643 201 3162 1369"),
+    ] {
+        let (formula, text, _) = text;
+        assert_eq!(to_binary(text).as_deref(), Ok(binary));
+        assert_eq!(workspace.check(Mode::BINARY, formula, binary).to_string(), line);
+        assert_eq!(workspace.check(Mode::BINARY.in_consequence_profile(), formula, binary).to_string(), line);
+    }
+}
+
 /// As much room as the wrapper lends is enough where a proof grows most.
 #[test]
 fn room_enough() {
