@@ -87,7 +87,8 @@ pub fn with_fault(random: &mut Random, steps: &[Step], variables: usize) -> Vec<
             }
         }
         _ => {
-            let openings = [0, 1, 2, 0x60, 0x62, 0x63, 0x65, 0x41, 0x44, 0xe1, 0x80, 0x81, 0xff, b'\n', b'0', b'c', b'-'];
+            let openings =
+                [0, 1, 2, 0x60, 0x62, 0x63, 0x65, 0x41, 0x44, 0xe1, 0x80, 0x81, 0xff, b'\n', b'0', b'c', b'-'];
             proof.push(random.pick(&openings));
             proof.extend(random.pick(&[&b""[..], b"\0", b"\x02\0"]));
         }
@@ -207,7 +208,8 @@ mod tests {
             let problem = drat::small(random);
             let (formula, text) = (problem.formula.text(), problem.tokens().join(" "));
             let ask = |form, proof: &[u8]| {
-                says(Asked { form, consequence: false }, &formula, proof).map(|said| (said.number, said.lines, said.by_rat))
+                says(Asked { form, consequence: false }, &formula, proof)
+                    .map(|said| (said.number, said.lines, said.by_rat))
             };
             assert_eq!(ask(Form::Text, text.as_bytes()), ask(Form::Binary, &of_steps(&problem.steps)));
         }

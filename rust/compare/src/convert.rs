@@ -156,7 +156,8 @@ mod tests {
         let back = |command, answer| super::back(&mut Random::new(1), command, answer);
         assert!(back("tobin 5 2d36342030", "0 0 4 | 6181010000").unwrap().starts_with("totext "));
         assert_eq!(back("tobin 3 2d36342030", "7 0 0 | 000000"), None);
-        let (command, answer) = in_other_form("cons drat 64 2048 4096 70 2d36342030 !HS=3", "19 0 0 0 3 4 | - | 2 | 0").unwrap();
+        let (command, answer) =
+            in_other_form("cons drat 64 2048 4096 70 2d36342030 !HS=3", "19 0 0 0 3 4 | - | 2 | 0").unwrap();
         assert_eq!(command, "cons dratb 64 2048 4096 70 61810100 !HS=3");
         assert_eq!(answer, "19 0 0 3 4 | - | 2 | 0");
         assert_eq!(in_other_form("drat 64 2048 4096 70 78", "3 0 0 0 3 4 | - | 2 | 0"), None);

@@ -197,7 +197,8 @@ impl Tally {
         let (profile, asked) = command.strip_prefix("cons ").map_or(("", command), |rest| ("cons ", rest));
         let word = format!("{profile}{}", asked.split(' ').next().unwrap_or(""));
         let mut add = |what: String| self.count(&what, answer);
-        // The checks that struck out a member, those with a record of a set or a path line, and the proofs compared with clauses, once more.
+        // The checks that struck out a member, those with a record of a set or a path line, those that end at a path line, and the proofs
+        // compared with clauses, once more.
         if answer.split(" | ").nth(3).is_some_and(|marks| marks.contains('1')) {
             add(format!("{word}, struck"));
         }
@@ -207,6 +208,9 @@ impl Tally {
         }
         if paths::stands_in(proof) {
             add(format!("{word}, paths"));
+        }
+        if paths::ended_at(proof, answer) {
+            add(format!("{word}, at a path line"));
         }
         if held.is_some() {
             add(format!("{word}, by clauses"));

@@ -113,10 +113,27 @@ pub fn stands_in(proof: &str) -> bool {
     }
 }
 
+/// Whether an answer's place is that of a path line's own record, in a proof in hex: refused there, with 23 while a path is tried.
+pub fn ended_at(proof: &str, answer: &str) -> bool {
+    let mut words = answer.split(' ').map_while(|word| word.parse::<usize>().ok());
+    match (words.next(), words.next()) {
+        (Some(0..=8) | None, _) | (_, None) => false,
+        (_, Some(place)) => proof.get(2 * place..2 * place + 2) == Some("51"),
+    }
+}
+
 #[cfg(test)]
 mod tests {
     use super::*;
     use crate::families;
+
+    #[test]
+    fn places_of_path_lines() {
+        assert!(ended_at("4e0200000100510200", "23 6 0 0 3 3 | - | - | -"));
+        assert!(!ended_at("4e0200000100510200", "23 0 0 0 3 3 | - | - | -"));
+        assert!(!ended_at("4e0200000100510200", "3 6 0 0 2 2 | - | - | -"));
+        assert!(!ended_at("", "20 6 0 0 2 2 | - | - | -") && !ended_at("51", "error: not a command"));
+    }
 
     #[test]
     fn counts_are_exact() {
@@ -150,7 +167,8 @@ mod tests {
     /// Document 002's point: a parity from plain clauses fails as RUP and passes as a path line.
     #[test]
     fn a_parity_from_its_clauses() {
-        let formula = Formula { variables: 3, clauses: vec![vec![1, 2, 3], vec![1, -2, -3], vec![-1, 2, -3], vec![-1, -2, 3]] };
+        let formula =
+            Formula { variables: 3, clauses: vec![vec![1, 2, 3], vec![1, -2, -3], vec![-1, 2, -3], vec![-1, -2, 3]] };
         let mut builder = crate::proof::Builder::new(&formula);
         let odd = builder.store.parity(&[1, 2, 3], true);
         assert!(!builder.rup(odd) && builder.path(odd));
