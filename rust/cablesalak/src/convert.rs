@@ -47,11 +47,7 @@ pub fn to_text(binary: &[u8]) -> Result<Vec<u8>, NotConverted> {
 }
 
 /// Converts with so many times the proof's length as room.
-fn converted(
-    convert: fn(&[u8], &mut [u8]) -> Converted,
-    proof: &[u8],
-    growth: usize,
-) -> Result<Vec<u8>, NotConverted> {
+fn converted(convert: fn(&[u8], &mut [u8]) -> Converted, proof: &[u8], growth: usize) -> Result<Vec<u8>, NotConverted> {
     let mut out = vec![0; growth * proof.len()];
     let Converted { number, place, length } = convert(proof, &mut out);
     match Number::said(number) {

@@ -100,9 +100,9 @@ pub use node::{Node, NodeNo, Variables};
 #[cfg(feature = "nodes")]
 pub use nodes::NodesMut;
 pub use number::{NoSuchNumber, Number, OtherNumber};
+pub use raw::{Columns, ColumnsMut, ListsMut};
 #[cfg(feature = "nodes")]
 pub use raw::{Rows, RowsMut};
-pub use raw::{Columns, ColumnsMut, ListsMut};
 pub use report::{report, Report, LONGEST};
 pub use table::Table;
 

@@ -238,7 +238,16 @@ pub fn check_nodes(
 ) -> Checked {
     let (RowsMut { nodes, heads, links }, ListsMut { members, struck, scratch }) = (table, lists);
     call!(
-        cablesalak_check_nodes, mut nodes, mut heads, mut links, count, mut members, mut struck, mut scratch, ref formula, ref proof,
+        cablesalak_check_nodes,
+        mut nodes,
+        mut heads,
+        mut links,
+        count,
+        mut members,
+        mut struck,
+        mut scratch,
+        ref formula,
+        ref proof,
     )
 }
 
@@ -255,7 +264,17 @@ pub fn check_nodes_in(
     let RawMode { form, consequence } = mode;
     let (RowsMut { nodes, heads, links }, ListsMut { members, struck, scratch }) = (table, lists);
     call!(
-        cablesalak_check_nodes_in, mut nodes, mut heads, mut links, count, mut members, mut struck, mut scratch,
-        ref formula, ref proof, form, consequence,
+        cablesalak_check_nodes_in,
+        mut nodes,
+        mut heads,
+        mut links,
+        count,
+        mut members,
+        mut struck,
+        mut scratch,
+        ref formula,
+        ref proof,
+        form,
+        consequence,
     )
 }

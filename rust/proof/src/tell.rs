@@ -54,6 +54,16 @@ impl Diagrams {
         found.into_iter().filter(|&g| g > 1).collect()
     }
 
+    /// How many paths lead from f to 0, at most what a word holds.
+    pub fn paths(&self, f: Diagram) -> u64 {
+        let mut counts: HashMap<Diagram, u64> = HashMap::from([(0, 1), (1, 0)]);
+        for g in self.below(f) {
+            let (_, low, high) = self.nodes[g];
+            counts.insert(g, counts[&low].saturating_add(counts[&high]));
+        }
+        counts[&f]
+    }
+
     /// f with the variable set to the value.
     fn set(&mut self, f: Diagram, variable: u8, value: bool) -> Diagram {
         let mut become_of: HashMap<Diagram, Diagram> = HashMap::from([(0, 0), (1, 1)]);

@@ -1,6 +1,6 @@
 //! "The formula": the header, then clause by clause in file order.
 
-use crate::table::{bit, Literals, VARIABLES};
+use crate::table::{Literals, VARIABLES};
 
 const CLAUSES: u64 = 1_024;
 
@@ -18,6 +18,17 @@ pub struct Clause {
     pub pivot: Literals,
     /// The offset of its first token, or of the `d` before it.
     pub place: usize,
+}
+
+impl Clause {
+    /// Adds a literal that is alone in its set.
+    pub fn add(&mut self, literal: Literals) {
+        if self.pivot.is_empty() {
+            self.pivot = literal;
+        }
+        self.literals.yes |= literal.yes;
+        self.literals.no |= literal.no;
+    }
 }
 
 /// Takes tokens and clauses from the formula behind its header, or from a DRAT text.
@@ -43,17 +54,13 @@ impl<'a> Clauses<'a> {
             if literal.is_empty() {
                 return Ok(clause);
             }
-            if clause.pivot.is_empty() {
-                clause.pivot = literal;
-            }
-            clause.literals.yes |= literal.yes;
-            clause.literals.no |= literal.no;
+            clause.add(literal);
             token = self.token();
         }
     }
 
     /// The literal of a token, alone in its set; none for the closing `0`.
-    fn literal(&self, (place, token): Token) -> Result<Literals, Refusal> {
+    pub fn literal(&self, (place, token): Token) -> Result<Literals, Refusal> {
         let (minus, digits) = match token {
             [b'-', digits @ ..] => (true, digits),
             _ => (false, token),
@@ -62,8 +69,7 @@ impl<'a> Clauses<'a> {
         Ok(match value.ok_or(Refusal { number: 3, place })? {
             0 => Literals::default(),
             value if value > self.variables => return Err(Refusal { number: 4, place }),
-            value if minus => Literals { yes: 0, no: bit(value as u32) },
-            value => Literals { yes: bit(value as u32), no: 0 },
+            value => Literals::default().with(value as u32, !minus),
         })
     }
 

@@ -1,18 +1,24 @@
 //! A checker of diagram refutations that is not proved, to hold the proved library against. It renders
 //! documents 01 and 02 directly. A filter: one command a line, one answer a command.
 
+mod binary;
 mod check;
+mod convert;
 mod dimacs;
 mod drat;
 mod index;
+mod judge;
 mod operate;
+mod paths;
 mod protocol;
 mod records;
 mod rules;
 #[cfg(test)]
 mod selftest;
+mod single;
 mod table;
 mod tally;
+mod words;
 
 use std::io::{self, BufRead, BufReader, BufWriter, Write};
 

@@ -24,6 +24,9 @@ pub enum Record {
     Pr {
         root: EntryId,
     },
+    Path {
+        root: EntryId,
+    },
     Strike {
         member: MemberId,
     },
@@ -68,6 +71,7 @@ impl<'a> Reader<'a> {
             0x54 | 0x46 => Record::Witness { value: kind == 0x54, variable: self.body::<1>()?[0] },
             0x52 => Record::Rup { root: entry(self.body()?) },
             0x50 => Record::Pr { root: entry(self.body()?) },
+            0x51 => Record::Path { root: entry(self.body()?) },
             0x44 => Record::Strike { member: MemberId(u16::from_le_bytes(self.body()?)) },
             0x58 => Record::Parity { set: u64::from_le_bytes(self.body()?), odd: self.body::<1>()?[0] },
             0x4B => Record::AtLeast { set: u64::from_le_bytes(self.body()?), least: self.body::<1>()?[0] },

@@ -1,9 +1,10 @@
-//! Unit propagation and the two rules for a line.
+//! Unit propagation and the three rules for a line.
 //!
 //! Each answers with the rounds where it conflicts everywhere it must, with none where it does not, and
 //! with `Full` where a node finds no room first.
 
 use crate::operate::Diagrams;
+use crate::paths::Paths;
 use crate::table::{Full, Literals, NodeId, ONE};
 
 /// "UnitProp": (a) conflict, (b) a round by the units of the lowest member that has any, (c) none left.
@@ -67,6 +68,25 @@ fn turn(
     propagate(d, second)
 }
 
+/// Path lines: "for each path from the root to 0, with its literals c, UnitProp of the live members
+/// cofactored by c must conflict. Paths are taken low side first and nodes are dropped between them;
+/// rounds are summed."
+pub fn path(d: &mut Diagrams, members: &[NodeId], g: NodeId) -> Result<Option<u64>, Full> {
+    let kept = d.table.count();
+    let mut cofactored = Vec::with_capacity(members.len());
+    let mut rounds = 0;
+    let mut paths = Paths::new(g);
+    while let Some(way) = paths.next(&d.table) {
+        restrict_all(d, members, way, &mut cofactored)?;
+        match propagate(d, &mut cofactored)? {
+            Some(more) => rounds += more,
+            None => return Ok(None),
+        }
+        d.drop_to(kept);
+    }
+    Ok(Some(rounds))
+}
+
 fn by_negation(d: &mut Diagrams, members: &[NodeId], g: NodeId) -> Result<Vec<NodeId>, Full> {
     let not_g = d.negate(g)?;
     let mut cofactored = Vec::with_capacity(members.len());
@@ -78,6 +98,14 @@ fn cofactor_all(d: &mut Diagrams, members: &[NodeId], by: NodeId, into: &mut Vec
     into.clear();
     for &member in members {
         into.push(d.cofactor(member, by)?);
+    }
+    Ok(())
+}
+
+fn restrict_all(d: &mut Diagrams, members: &[NodeId], by: Literals, into: &mut Vec<NodeId>) -> Result<(), Full> {
+    into.clear();
+    for &member in members {
+        into.push(d.restrict(member, by)?);
     }
     Ok(())
 }

@@ -179,19 +179,9 @@ extern "C" {
         consequence: bool,
     ) -> Checked;
 
-    pub fn cablesalak_to_binary(
-        text: *const u8,
-        text_length: usize,
-        out: *mut u8,
-        out_length: usize,
-    ) -> Converted;
+    pub fn cablesalak_to_binary(text: *const u8, text_length: usize, out: *mut u8, out_length: usize) -> Converted;
 
-    pub fn cablesalak_to_text(
-        binary: *const u8,
-        binary_length: usize,
-        out: *mut u8,
-        out_length: usize,
-    ) -> Converted;
+    pub fn cablesalak_to_text(binary: *const u8, binary_length: usize, out: *mut u8, out_length: usize) -> Converted;
 
     pub fn cablesalak_report(
         formula_read: bool,

@@ -2,7 +2,9 @@
 
 mod at_least;
 mod checks;
+mod conversions;
 mod lent;
+mod modes;
 mod numbers;
 mod rows;
 mod singles;
