@@ -1,93 +1,13 @@
-//! `damage FROM TO COUNT SEED`: so many pairs, each made from one of the pairs of a folder and damaged at random, written to a new folder. One
-//! in sixteen is left whole; some are longer than a file may be, empty, or lack the proof.
+//! `damage FROM TO COUNT SEED`: writes so many pairs to a new folder, each made from a pair of the folder FROM and damaged at random.
 
-use batch::form::Form;
-use batch::pairs::{Found, Pair};
-use std::io;
-use std::path::{Path, PathBuf};
-use std::{env, fs};
+#[path = "../tests/common/damage.rs"]
+mod damage;
 
-/// Numbers that the seed settles (xorshift).
-struct Random(u64);
-
-impl Random {
-    fn below(&mut self, end: usize) -> usize {
-        self.0 ^= self.0 << 13;
-        self.0 ^= self.0 >> 7;
-        self.0 ^= self.0 << 17;
-        (self.0 >> 11) as usize % end.max(1)
-    }
-
-    fn byte(&mut self, bytes: &[u8]) -> u8 {
-        match self.below(3) {
-            0 => self.below(256) as u8,
-            1 => b"0123456789- \n\tcdp"[self.below(17)],
-            _ => bytes.get(self.below(bytes.len())).copied().unwrap_or(0),
-        }
-    }
-
-    fn range(&mut self, bytes: &[u8]) -> std::ops::Range<usize> {
-        let from = self.below(bytes.len() + 1);
-        from..(from + self.below(24)).min(bytes.len())
-    }
-}
-
-/// One change: a bit, a byte, a piece that goes, comes twice or moves, the end.
-fn change(bytes: &mut Vec<u8>, random: &mut Random) {
-    let (at, byte) = (random.below(bytes.len()), random.byte(bytes));
-    match random.below(8) {
-        0 | 1 if !bytes.is_empty() => bytes[at] ^= 1 << random.below(8),
-        2 | 3 if !bytes.is_empty() => bytes[at] = byte,
-        4 => bytes.insert(at, byte),
-        5 => drop(bytes.drain(random.range(bytes))),
-        6 => {
-            let piece = bytes[random.range(bytes)].to_vec();
-            let at = random.below(bytes.len() + 1);
-            bytes.splice(at..at, piece);
-        }
-        _ => bytes.truncate(at),
-    }
-}
-
-fn damaged(bytes: &mut Vec<u8>, random: &mut Random) {
-    match random.below(100) {
-        0 => bytes.clear(),
-        1 => bytes.resize(65_536 + random.below(2), b'\n'),
-        _ => (0..1 + random.below(3)).for_each(|_| change(bytes, random)),
-    }
-}
-
-fn write(to: &Path, at: usize, pair: &Pair, random: &mut Random) -> io::Result<()> {
-    let read = |path: &Option<PathBuf>| fs::read(path.as_deref().unwrap_or(Path::new("")));
-    let (mut formula, mut proof) = (read(&pair.formula)?, read(&pair.proof)?);
-    match random.below(16) {
-        0 => {}
-        1..6 => damaged(&mut formula, random),
-        _ => damaged(&mut proof, random),
-    }
-    let ending = match pair.form {
-        Form::Records => "proof",
-        Form::Text => "drat",
-        Form::Binary => "bdrat",
-    };
-    fs::write(to.join(format!("{at:06}.cnf")), formula)?;
-    match random.below(200) {
-        0 => Ok(()),
-        _ => fs::write(to.join(format!("{at:06}.{ending}")), proof),
-    }
-}
+use std::path::Path;
+use std::{env, io};
 
 fn main() -> io::Result<()> {
     let words: Vec<String> = env::args().skip(1).collect();
     let [from, to, count, seed] = &words[..] else { panic!("damage FROM TO COUNT SEED") };
-    let mut found = Found::default();
-    found.look(Path::new(from));
-    found.pairs.retain(|pair| pair.formula.is_some() && pair.proof.is_some());
-    let mut random = Random(seed.parse::<u64>().expect("a seed").wrapping_mul(0x9e37_79b9_7f4a_7c15) | 1);
-    fs::create_dir(to)?;
-    for at in 0..count.parse().expect("a count") {
-        let pair = &found.pairs[random.below(found.pairs.len())];
-        write(Path::new(to), at, pair, &mut random)?;
-    }
-    Ok(())
+    damage::damage(Path::new(from), Path::new(to), count.parse().expect("a count"), seed.parse().expect("a seed"))
 }
