@@ -2,7 +2,7 @@
 
 use crate::sha256::{self, Digest};
 use std::fs::OpenOptions;
-use std::io::Read;
+use std::io::{self, ErrorKind, Read};
 use std::os::unix::fs::OpenOptionsExt;
 use std::path::Path;
 
@@ -56,17 +56,22 @@ impl Room {
         Ok(Source { digest: Some(sha256::of(self.text())), bytes: self.length as u64 })
     }
 
-    fn fill(&mut self, path: &Path) -> std::io::Result<()> {
+    /// Reads as many bytes as the file has when it is opened, or one more than it may have.
+    fn fill(&mut self, path: &Path) -> io::Result<()> {
         let mut file = OpenOptions::new().read(true).custom_flags(NONBLOCK).open(path)?;
-        if !file.metadata()?.is_file() {
-            return Err(std::io::ErrorKind::InvalidInput.into());
+        let metadata = file.metadata()?;
+        if !metadata.is_file() {
+            return Err(ErrorKind::InvalidInput.into());
         }
         loop {
             match file.read(&mut self.bytes[self.length..]) {
                 Ok(0) => return Ok(()),
                 Ok(more) => self.length += more,
-                Err(error) if error.kind() == std::io::ErrorKind::Interrupted => {}
+                Err(error) if error.kind() == ErrorKind::Interrupted => continue,
                 Err(error) => return Err(error),
+            }
+            if self.length as u64 == metadata.len() {
+                return Ok(());
             }
         }
     }

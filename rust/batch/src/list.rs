@@ -85,28 +85,55 @@ fn nameless() -> io::Result<File> {
     Ok(file)
 }
 
-/// The workers' side.
-pub struct Entries(File);
+/// How much of the list a worker reads at once.
+const WINDOW: usize = 1 << 16;
+
+/// The workers' side: the file, and a piece of it.
+pub struct Entries {
+    file: File,
+    offset: u64,
+    piece: Vec<u8>,
+}
 
 impl Entries {
     /// Opens the list of a pool, by the pool's process and the number there.
     pub fn open(pool: u32, descriptor: i32) -> io::Result<Entries> {
-        File::open(format!("/proc/{pool}/fd/{descriptor}")).map(Entries)
+        let file = File::open(format!("/proc/{pool}/fd/{descriptor}"))?;
+        Ok(Entries { file, offset: 0, piece: Vec::new() })
     }
 
     /// The pair of a task, and the digests of its known verdict.
-    pub fn read(&self, task: Task) -> io::Result<(Pair, String)> {
-        let mut bytes = vec![0; task.length as usize];
-        self.0.read_exact_at(&mut bytes, task.offset)?;
-        unpacked(&bytes).ok_or(io::ErrorKind::InvalidData.into())
+    pub fn read(&mut self, task: Task) -> io::Result<(Pair, String)> {
+        if self.within(task).is_none() {
+            self.offset = task.offset;
+            self.piece.resize(WINDOW.max(task.length as usize), 0);
+            let mut held = 0;
+            while let more @ 1.. = self.file.read_at(&mut self.piece[held..], task.offset + held as u64)? {
+                held += more;
+            }
+            self.piece.truncate(held);
+        }
+        let entry = self.within(task).and_then(unpacked);
+        entry.ok_or(io::ErrorKind::InvalidData.into())
+    }
+
+    /// The task's entry, where the piece has it.
+    fn within(&self, task: Task) -> Option<&[u8]> {
+        let from = usize::try_from(task.offset.checked_sub(self.offset)?).ok()?;
+        self.piece.get(from..from.checked_add(task.length as usize)?)
     }
 }
 
 /// Form, formula, proof and digests, each closed by a zero byte, which no name has. A name that is absent is empty.
 fn packed(pair: &Pair, known: &str) -> Vec<u8> {
-    let name = |path: &Option<PathBuf>| path.as_ref().map_or(Vec::new(), |path| path.as_os_str().as_bytes().to_vec());
-    let fields = [pair.form.name().into(), name(&pair.formula), name(&pair.proof), known.into()];
-    fields.into_iter().flat_map(|field: Vec<u8>| field.into_iter().chain([0])).collect()
+    let [formula, proof] =
+        [&pair.formula, &pair.proof].map(|path| path.as_ref().map_or(&b""[..], |path| path.as_os_str().as_bytes()));
+    let mut out = Vec::with_capacity(16 + formula.len() + proof.len() + known.len());
+    for field in [pair.form.name().as_bytes(), formula, proof, known.as_bytes()] {
+        out.extend_from_slice(field);
+        out.push(0);
+    }
+    out
 }
 
 fn unpacked(bytes: &[u8]) -> Option<(Pair, String)> {
@@ -121,17 +148,32 @@ fn unpacked(bytes: &[u8]) -> Option<(Pair, String)> {
 mod tests {
     use super::*;
 
+    /// More entries than a piece has, in an order of their own.
+    #[test]
+    fn many_entries() -> io::Result<()> {
+        let pair = |at: usize| Pair { formula: Some(format!("{at:0>200}").into()), proof: None, form: Form::Records };
+        let pairs: Vec<Pair> = (0..1_000).map(pair).collect();
+        let list = List::new(pairs.iter().map(|pair| (pair, "")))?;
+        let mut entries = Entries::open(process::id(), list.descriptor())?;
+        for at in (0..1_000).map(|at| at * 377 % 1_000) {
+            assert_eq!(entries.read(list.task(at as u32))?.0, pairs[at]);
+        }
+        Ok(())
+    }
+
     #[test]
     fn there_and_back() -> io::Result<()> {
         let path = |bytes: &[u8]| Some(PathBuf::from(OsString::from_vec(bytes.to_vec())));
         let one = Pair { formula: path(b"a b\n.cnf"), proof: path(b"\xff.drat"), form: Form::Text };
         let two = Pair { formula: None, proof: path(b"x"), form: Form::Binary };
         let list = List::new([(&one, "0123"), (&two, "")].into_iter())?;
-        let entries = Entries::open(process::id(), list.descriptor())?;
+        let mut entries = Entries::open(process::id(), list.descriptor())?;
         let task = |pair| Task::unpacked(list.task(pair).packed());
         assert_eq!((list.len(), task(1)), (2, list.task(1)));
         assert_eq!(entries.read(task(1))?, (two, String::new()));
         assert_eq!(entries.read(task(0))?, (one, "0123".to_string()));
+        assert!(entries.read(Task { offset: 1, ..task(0) }).is_err());
+        assert!(entries.read(Task { length: 1_000, ..task(1) }).is_err());
         Ok(())
     }
 }

@@ -5,7 +5,7 @@ use crate::files::Source;
 use crate::json::Quoted;
 use crate::pairs::Pair;
 use crate::pool::Outcome;
-use crate::sha256::hex;
+use crate::sha256::put_hex;
 use std::borrow::Cow;
 use std::fmt::{self, Write};
 use std::path::PathBuf;
@@ -148,7 +148,9 @@ fn put_answer(out: &mut String, answer: &Answer) {
     let _ = write!(out, r#","file":{file},"place":{place},"lines":{lines},"rounds":{rounds},"peak":{peak}"#);
     for (name, source) in [("formula", formula), ("proof", proof)] {
         if let Source { digest: Some(digest), bytes } = source {
-            let _ = write!(out, r#","{name}_sha256":"{}","{name}_bytes":{bytes}"#, hex(digest));
+            let _ = write!(out, r#","{name}_sha256":""#);
+            put_hex(out, digest);
+            let _ = write!(out, r#"","{name}_bytes":{bytes}"#);
         }
     }
     let _ = write!(out, r#","seconds":{}.{:06}"#, nanoseconds / 1_000_000_000, nanoseconds / 1_000 % 1_000_000);

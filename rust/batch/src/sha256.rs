@@ -16,59 +16,61 @@ const K: [u32; 64] = [
     0xc67178f2,
 ];
 
-/// The message schedule's next sixteen words, from the last sixteen.
-#[inline(always)]
-fn next_words(w: &mut [u32; 16]) {
-    for i in 0..16 {
-        let (x, y) = (w[(i + 1) % 16], w[(i + 14) % 16]);
+/// The sixteen words of a block, and the 48 that follow from them.
+fn schedule(block: &[u8; 64]) -> [u32; 64] {
+    let mut w = [0; 64];
+    for (word, four) in w.iter_mut().zip(block.as_chunks().0) {
+        *word = u32::from_be_bytes(*four);
+    }
+    for i in 16..64 {
+        let (x, y) = (w[i - 15], w[i - 2]);
         let x = x.rotate_right(7) ^ x.rotate_right(18) ^ (x >> 3);
         let y = y.rotate_right(17) ^ y.rotate_right(19) ^ (y >> 10);
-        w[i] = w[i].wrapping_add(x).wrapping_add(w[(i + 9) % 16]).wrapping_add(y);
+        w[i] = w[i - 16].wrapping_add(x).wrapping_add(w[i - 7]).wrapping_add(y);
     }
+    w
 }
 
-/// Sixteen rounds. Each names the eight words of the state from another start, so that none of them is moved.
-#[inline(always)]
-fn sixteen_rounds(state: &mut [u32; 8], w: &[u32; 16], k: &[u32]) {
-    for i in 0..16 {
-        let at = |word: usize| (word + 16 - i) % 8;
-        let [a, b, c, e, f, g, h] = [0, 1, 2, 4, 5, 6, 7].map(|word| state[at(word)]);
-        let one = e.rotate_right(6) ^ e.rotate_right(11) ^ e.rotate_right(25);
-        let one = h.wrapping_add(one).wrapping_add(g ^ (e & (f ^ g))).wrapping_add(k[i]).wrapping_add(w[i]);
-        let two = a.rotate_right(2) ^ a.rotate_right(13) ^ a.rotate_right(22);
-        let two = two.wrapping_add((a & b) | (c & (a | b)));
-        state[at(3)] = state[at(3)].wrapping_add(one);
-        state[at(7)] = one.wrapping_add(two);
-    }
+/// A round. The eight words of the state are named from another start each time, so that none of them is moved.
+macro_rules! round {
+    ($a:ident $b:ident $c:ident $d:ident $e:ident $f:ident $g:ident $h:ident, $added:expr) => {
+        let one = $e.rotate_right(6) ^ $e.rotate_right(11) ^ $e.rotate_right(25);
+        let one = $h.wrapping_add($added).wrapping_add($g ^ ($e & ($f ^ $g))).wrapping_add(one);
+        let two = $a.rotate_right(2) ^ $a.rotate_right(13) ^ $a.rotate_right(22);
+        $d = $d.wrapping_add(one);
+        $h = one.wrapping_add(two).wrapping_add(($a & $b) | ($c & ($a | $b)));
+    };
 }
 
-fn take_block(state: &mut [u32; 8], block: &[u8]) {
-    let mut w = [0u32; 16];
-    for (word, bytes) in w.iter_mut().zip(block.chunks_exact(4)) {
-        *word = u32::from_be_bytes([bytes[0], bytes[1], bytes[2], bytes[3]]);
+fn take_block(state: &mut [u32; 8], block: &[u8; 64]) {
+    let w = schedule(block);
+    let [mut a, mut b, mut c, mut d, mut e, mut f, mut g, mut h] = *state;
+    for (w, k) in w.as_chunks::<8>().0.iter().zip(K.as_chunks::<8>().0) {
+        round!(a b c d e f g h, w[0].wrapping_add(k[0]));
+        round!(h a b c d e f g, w[1].wrapping_add(k[1]));
+        round!(g h a b c d e f, w[2].wrapping_add(k[2]));
+        round!(f g h a b c d e, w[3].wrapping_add(k[3]));
+        round!(e f g h a b c d, w[4].wrapping_add(k[4]));
+        round!(d e f g h a b c, w[5].wrapping_add(k[5]));
+        round!(c d e f g h a b, w[6].wrapping_add(k[6]));
+        round!(b c d e f g h a, w[7].wrapping_add(k[7]));
     }
-    let mut worked = *state;
-    sixteen_rounds(&mut worked, &w, &K[..16]);
-    for k in K[16..].chunks_exact(16) {
-        next_words(&mut w);
-        sixteen_rounds(&mut worked, &w, k);
-    }
-    for (word, more) in state.iter_mut().zip(worked) {
+    for (word, more) in state.iter_mut().zip([a, b, c, d, e, f, g, h]) {
         *word = word.wrapping_add(more);
     }
 }
 
 pub fn of(bytes: &[u8]) -> Digest {
     let mut state = START;
-    let (blocks, rest) = bytes.split_at(bytes.len() - bytes.len() % 64);
-    blocks.chunks_exact(64).for_each(|block| take_block(&mut state, block));
+    let (blocks, rest) = bytes.as_chunks();
+    blocks.iter().for_each(|block| take_block(&mut state, block));
     // The rest, a one bit, zeros and the length in bits, in one block or two.
     let mut last = [0u8; 128];
     let length = if rest.len() < 56 { 64 } else { 128 };
     last[..rest.len()].copy_from_slice(rest);
     last[rest.len()] = 0x80;
     last[length - 8..length].copy_from_slice(&(8 * bytes.len() as u64).to_be_bytes());
-    last[..length].chunks_exact(64).for_each(|block| take_block(&mut state, block));
+    last[..length].as_chunks().0.iter().for_each(|block| take_block(&mut state, block));
     let mut digest = [0; 32];
     for (four, word) in digest.chunks_exact_mut(4).zip(state) {
         four.copy_from_slice(&word.to_be_bytes());
@@ -76,9 +78,19 @@ pub fn of(bytes: &[u8]) -> Digest {
     digest
 }
 
-pub fn hex(digest: &[u8]) -> String {
+pub fn hex(digest: &Digest) -> String {
+    let mut out = String::with_capacity(2 * digest.len());
+    put_hex(&mut out, digest);
+    out
+}
+
+/// Writes the digest after the text.
+pub fn put_hex(out: &mut String, digest: &Digest) {
     let digit = |four: u8| char::from(b"0123456789abcdef"[usize::from(four)]);
-    digest.iter().flat_map(|byte| [digit(byte >> 4), digit(byte & 15)]).collect()
+    for byte in digest {
+        out.push(digit(byte >> 4));
+        out.push(digit(byte & 15));
+    }
 }
 
 #[cfg(test)]

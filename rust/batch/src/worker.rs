@@ -56,7 +56,7 @@ impl Start {
 pub fn work(start: Start) -> io::Result<()> {
     let entries = Entries::open(start.pool, start.list)?;
     thread::spawn(move || end_with(start.pool));
-    let checking = thread::Builder::new().stack_size(STACK).spawn(move || check_all(start, &entries))?;
+    let checking = thread::Builder::new().stack_size(STACK).spawn(move || check_all(start, entries))?;
     checking.join().unwrap_or(Err(io::ErrorKind::Other.into()))
 }
 
@@ -68,7 +68,7 @@ fn end_with(pool: u32) {
     process::exit(1);
 }
 
-fn check_all(start: Start, entries: &Entries) -> io::Result<()> {
+fn check_all(start: Start, mut entries: Entries) -> io::Result<()> {
     // Without a buffer: a task that is taken is taken from all others.
     let mut tasks = File::from(io::stdin().as_fd().try_clone_to_owned()?);
     let mut out = File::from(io::stdout().as_fd().try_clone_to_owned()?);

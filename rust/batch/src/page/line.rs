@@ -54,7 +54,7 @@ impl Open {
 /// The root entry of a record that closes a line.
 fn root(record: Record) -> Option<u16> {
     match record {
-        Record::Rup { root } | Record::Pr { root } => Some(root),
+        Record::Rup { root } | Record::Pr { root } | Record::Path { root } => Some(root),
         _ => None,
     }
 }
@@ -63,6 +63,7 @@ fn root(record: Record) -> Option<u16> {
 pub fn kind(record: Option<Record>) -> &'static str {
     match record {
         Some(Record::Rup { .. }) => "a claim that is to follow from the rules (RUP line)",
+        Some(Record::Path { .. }) => "a claim that is to follow from the rules, path by path (path line)",
         Some(Record::Pr { .. }) => "a claim that may be assumed without loss (PR line)",
         Some(Record::Node { .. } | Record::Parity { .. } | Record::AtLeast { .. }) => "a part of a claim",
         Some(Record::Witness { .. }) => "a part of a claim's witness",
