@@ -1,5 +1,5 @@
--- What a line without room wants: a node, of one of the diagrams that it makes, that is not in the full table. The idea: all that a line makes is
--- reduced, so that a list that finds no room has a diagram that finds none. Assumes nothing.
+-- What a line without room wants: a node, of one of the diagrams that it makes, that is not in the full table. The idea: all that a line
+-- makes is reduced, so that a list that finds no room has a diagram that finds none. Assumes nothing.
 use mathlib.Core.Path.{_≡_, refl, subst}
 use mathlib.Core.Bool.{false, _&&_}
 use mathlib.Core.List.{List, [], _∷_}
@@ -52,21 +52,26 @@ module _ (s n : ℕ) (narrow : n ≤ 64) where
 -- ---- a line without room
 
 module _ (s n : ℕ) (narrow : n ≤ 64) where
-  turns-want : (t : List Node) → Ordered t → length t ≤ s → (turns : List (List Diagram)) → AllTurns n turns → turnsReach s turns t .fits ≡ false → TurnWants s t turns
+  turns-want : (t : List Node) → Ordered t → length t ≤ s → (turns : List (List Diagram)) → AllTurns n turns → turnsReach s turns t .fits
+      ≡ false → TurnWants s t turns
   unfolding turnsReach
   turns-want t O room [] o e = t≢f e
-  turns-want t O room (made ∷ turns) o e = go (placedAll s t made) (list-after s n narrow t O room made (o .0)) e (turns-want t O room turns (o .1))
+  turns-want t O room (made ∷ turns) o e = go (placedAll s t made) (list-after s n narrow t O room made (o .0)) e
+      (turns-want t O room turns (o .1))
     where
-      go : (r : Room) → ListAfter s t made r → (reached r .fits && turnsReach s turns t .fits) ≡ false → (turnsReach s turns t .fits ≡ false → TurnWants s t turns)
+      go : (r : Room) → ListAfter s t made r → (reached r .fits && turnsReach s turns t .fits) ≡ false →
+          (turnsReach s turns t .fits ≡ false → TurnWants s t turns)
           → TurnWants s t (made ∷ turns)
       go (short t′) W e rec = this W
       go (all t′) W e rec = next-turn (rec e)
 
   -- A line that finds no room wants a node.
-  pub line-wants : (t : List Node) → Ordered t → length t ≤ s → (line : Line) → AllReduced n (line .kept) × AllTurns n (line .turns) → lineReach s t line .fits ≡ false → LineWants s t line
+  pub line-wants : (t : List Node) → Ordered t → length t ≤ s → (line : Line) → AllReduced n (line .kept) × AllTurns n (line .turns) →
+      lineReach s t line .fits ≡ false → LineWants s t line
   unfolding lineReach
   line-wants t O room line o e = go (placedAll s t (line .kept)) refl (list-after s n narrow t O room (line .kept) (o .0)) e
     where
-      go : (r : Room) → placedAll s t (line .kept) ≡ r → ListAfter s t (line .kept) r → keptReach s (line .turns) r .fits ≡ false → LineWants s t line
+      go : (r : Room) → placedAll s t (line .kept) ≡ r → ListAfter s t (line .kept) r → keptReach s (line .turns) r .fits ≡ false →
+          LineWants s t line
       go (short t′) q W e = in-base W
       go (all t′) q W e = in-turn q (turns-want t′ (W .0) (W .1) (line .turns) (o .1) e)

@@ -317,7 +317,8 @@ lines-order = (
               (
                 behind-witness (pathRecord 0 []) (ProofLine Path (record { 0 = 0 })) 16 refl (λ st more w e. rw (e, w)),
                 (
-                  behind-lines (pathRecord 1 []) (ProofLine Path (record { 0 = 1 })) 22 refl (λ st more F. rw (F .entries, F .none-waits, F .lines)),
+                  behind-lines (pathRecord 1 []) (ProofLine Path (record { 0 = 1 })) 22 refl
+                      (λ st more F. rw (F .entries, F .none-waits, F .lines)),
                   tt,
                 ),
               ),

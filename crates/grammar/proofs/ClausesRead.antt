@@ -1,5 +1,5 @@
--- The clauses of a text of the grammar are read as those clauses, and nothing is refused. The idea: token by token, a gap behind each; the bytes
--- left are steps enough. Assumes nothing.
+-- The clauses of a text of the grammar are read as those clauses, and nothing is refused. The idea: token by token, a gap behind each; the
+-- bytes left are steps enough. Assumes nothing.
 use mathlib.Core.Path.{_≡_, refl, ap, sym, subst, _∙_}
 use mathlib.Core.Bool.{Bool, true, false}
 use mathlib.Core.List.{List, [], _∷_, _++_}
@@ -17,8 +17,10 @@ use Rattle.dimacs.specs.Clauses.{Next, closed, ended, literalThen, afterToken, 
 use Rattle.dimacs.proofs.Between.{between-least}
 use Rattle.dimacs.proofs.OpenClause.{tokenAt, nextAt, clause-suc, literal-moves}
 use Rattle.dimacs.proofs.Formula.{clauses-closed, clauses-ended}
-use Rattle.grammar.specs.Parts.{spaced, carriage, space, tab, Piece, blank, newLine, gap, Parting, parting, Decimal, decimalThen, Signed, sign, signed, literal}
-use Rattle.grammar.specs.Formula.{Item, clause, literals, Ending, plain, lastComment, ending, Body, end, clauseThen, body, clauses, Within, AllWithin}
+use Rattle.grammar.specs.Parts.{spaced, carriage, space, tab, Piece, blank, newLine, gap, Parting, parting, Decimal, decimalThen}
+use Rattle.grammar.specs.Parts.{Signed, sign, signed, literal}
+use Rattle.grammar.specs.Formula.{Item, clause, literals, Ending, plain, lastComment, ending, Body, end, clauseThen, body, clauses}
+use Rattle.grammar.specs.Formula.{Within, AllWithin}
 use Rattle.grammar.specs.Reads.{Gives}
 use Rattle.grammar.proofs.Places.{Stops, inside, past-part, past-rest}
 use Rattle.grammar.proofs.Numbers.{token-byte}
@@ -47,7 +49,10 @@ body-stops (end e) = ending-stops e
 body-stops (clauseThen p is b) = parting-stops p (clause is (body b))
 
 sign-fresh : (b : Bool) (m : Decimal) (r : List ℕ) → Fresh (sign b (decimalThen m r))
-sign-fresh true m r = (not-true (isParting (48 + m .first)) (token-byte (48 + m .first) (omega arith)), λ e. absurd (omega (arith, m .most)))
+sign-fresh true m r = (
+  not-true (isParting (48 + m .first)) (token-byte (48 + m .first) (omega arith)),
+  λ e. absurd (omega (arith, m .most)),
+)
 sign-fresh false m r = (refl, λ e. absurd (omega arith))
 
 clause-fresh : (is : List Item) (r : List ℕ) → Fresh (clause is r)
@@ -89,13 +94,15 @@ module _ (s : List ℕ) (n : ℕ) where
 
       said : tokenAt s n at ≡ Literal (literal x .variable) (x .isPositive)
       said =
-          ap (tokenOf n) (past-part s at isToken (signed x []) (parting p (clause is r)) split (signed-token x) (parting-stops p (clause is r)))
+          ap (tokenOf n) (past-part s at isToken (signed x []) (parting p (clause is r)) split (signed-token x)
+          (parting-stops p (clause is r)))
           ∙ signed-says n x within
 
       literal-next : drop (nextAt s n at) s ≡ clause is r
       literal-next =
           gap-passed s (p .first ∷ p .more) (clause is r) (tokenEnd s at)
-          (past-rest s at isToken (signed x []) (parting p (clause is r)) split (signed-token x) (parting-stops p (clause is r))) (clause-fresh is r)
+          (past-rest s at isToken (signed x []) (parting p (clause is r)) split (signed-token x) (parting-stops p (clause is r)))
+          (clause-fresh is r)
 
       -- The rest of the clause is read behind its literal.
       literal-read : (k first : ℕ) → at < length s → ((at < nextAt s n at) → Closes (literals is) k first (nextAt s n at) r)
@@ -134,7 +141,8 @@ module _ (s : List ℕ) (n : ℕ) where
   next-ended at h = rw (le-ltb (between s at) (length s) h)
 
   -- The clauses of a text of the grammar are read, in their order, and nothing is refused.
-  pub body-read : (b : Body) (at : ℕ) → drop at s ≡ body b → AllWithin n (clauses b) → Gives (clauses b) (clausesFrom s n (length (clauses b)) at)
+  pub body-read : (b : Body) (at : ℕ) → drop at s ≡ body b → AllWithin n (clauses b) →
+      Gives (clauses b) (clausesFrom s n (length (clauses b)) at)
   body-read (end e) at h w = subst (Gives []) (sym (clauses-ended s n 0 at (next-ended at (ending-passed s e at h)))) tt
   body-read (clauseThen p is b) at h w =
       let m = length (clauses b) in

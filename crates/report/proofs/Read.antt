@@ -84,5 +84,6 @@ line-refuted mode f p formula proof rest e =
 
 -- "case A now prints `0 12 2 1 10`" (02, 2/14)
 pub case-A : lineBytes (said inRecords true (bytes A-formula) true A-proof) ≡ bytes "0 12 2 1 10\n"
-unfolding lineBytes decimalBy said ofFiles verdict clausesFrom place clause diagramFrom same? recordAt above rup valueFrom diagramAt ℕ-discrete conjunction cofactor unitsTo
+unfolding lineBytes decimalBy said ofFiles verdict clausesFrom place clause diagramFrom same? recordAt above rup valueFrom diagramAt
+    ℕ-discrete conjunction cofactor unitsTo
 case-A = refl

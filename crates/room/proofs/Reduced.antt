@@ -5,7 +5,8 @@ use mathlib.Core.Option.{Option, none, some}
 use Prim.Native.Nat.{ℕ, zero, suc, _+_}
 use Rattle.meaning.specs.Diagram.{Diagram, leaf, same}
 use Rattle.meaning.specs.Operations.{Literal, negation, cofactorLiterals}
-use Rattle.meaning.specs.Rules.{Line, Propagation, conflicts, firstWithUnit, byUnits, round, still, taking, propagate, unitProp, byDiagram, rup, prTurns, pr, afterTurn}
+use Rattle.meaning.specs.Rules.{Line, Propagation, conflicts, firstWithUnit, byUnits, round, still, taking, propagate, unitProp, byDiagram}
+use Rattle.meaning.specs.Rules.{rup, prTurns, pr, afterTurn}
 use Rattle.meaning.proofs.Pointwise.{negation-reduced, literals-reduced}
 use Rattle.meaning.proofs.Ends.{AllReduced, byDiagram-reduced, byUnits-reduced, map-reduced}
 use Rattle.clausal.specs.Tries.{makesTrue, makesFalse}

@@ -1,5 +1,5 @@
--- The run over words in the code's own terms: every record, the records of a proof, the clauses of a formula, and the call. The idea: what is to
--- be said is what is left to be said. Assumes nothing.
+-- The run over words in the code's own terms: every record, the records of a proof, the clauses of a formula, and the call. The idea: what
+-- is to be said is what is left to be said. Assumes nothing.
 use mathlib.Core.Path.{_≡_, refl, sym, ap, ap₂, _∙_, subst}
 use mathlib.Core.Bool.{Bool, true, false, _&&_, cond}
 use mathlib.Core.List.{List, [], _∷_, _++_, map}
@@ -28,7 +28,8 @@ use Rattle.records.specs.declared.SetKind.{SetKind}
 use Rattle.records.specs.declared.SetBody.{SetBody}
 use Rattle.records.specs.declared.Rule.{Rule}
 use Rattle.records.specs.declared.Record.{Record}
-use Rattle.records.specs.declared.Record.the-variants.{NodeEntry, Witness, ProofLine, Strike, SetEntry, End, CutShort, UnknownKind, NoRecord}
+use Rattle.records.specs.declared.Record.the-variants.{NodeEntry, Witness, ProofLine, Strike, SetEntry, End, CutShort, UnknownKind}
+use Rattle.records.specs.declared.Record.the-variants.{NoRecord}
 use Rattle.records.specs.Records.{recordAt, lengthOf, numberOf}
 use Rattle.records.proofs.Laws.{record-takes, record-within}
 use Rattle.small.specs.declared.State.{State}
@@ -40,7 +41,9 @@ use Rattle.small.specs.declared.Start.{Start}
 use Rattle.small.specs.declared.Start.the-variants.{Begun, Refused}
 use Rattle.small_verdict.specs.Small.{sixOnly, small, smallFits, smallCall}
 use Rattle.small_verdict.specs.Agrees.{Said, said}
-use Rattle.small.specs.WordSteps.{WordState, WordStep, onward, halt, wordsBegun, wordNode, wordWitness, wordLine, wordStrike, wordSet, wordEnd, wordStep, sayAt, wordRecords, formulaRefused, wordOfClause, wordClauses, wordsAfterHeader, wordVerdict}
+use Rattle.small.specs.WordSteps.{WordState, WordStep, onward, halt, wordsBegun, wordNode, wordWitness, wordLine, wordStrike, wordSet}
+use Rattle.small.specs.WordSteps.{wordEnd, wordStep, sayAt, wordRecords, formulaRefused, wordOfClause, wordClauses, wordsAfterHeader}
+use Rattle.small.specs.WordSteps.{wordVerdict}
 use Rattle.small.specs.Lent.{WordsLent, wordsLent, stateOf, madeStep, Held, Stepped, saidOf, saidFrom, Begins, smallOutcome}
 use Rattle.small.proofs.Runs.{words-agree}
 

@@ -1,4 +1,5 @@
--- The run over words says what the check says in a table that cannot be full. The idea: record by record and clause by clause. Assumes nothing.
+-- The run over words says what the check says in a table that cannot be full. The idea: record by record and clause by clause. Assumes
+-- nothing.
 use mathlib.Core.Path.{_≡_, refl, sym, ap, ap₂, _∙_}
 use mathlib.Core.Bool.{Bool, true, false, cond}
 use mathlib.Core.List.{List, [], _∷_, _++_}
@@ -39,7 +40,8 @@ use Rattle.truth_entries.proofs.MadeValues.{diagramOf-clause, clause-word}
 use Rattle.small_verdict.proofs.Roomy.{Fine, Found, place-found}
 use Rattle.small_verdict.specs.Small.{enough, sixOnly, small}
 use Rattle.small_verdict.specs.Agrees.{said}
-use Rattle.small.specs.WordSteps.{WordState, WordStep, onward, halt, wordsBegun, wordStep, sayAt, afterWord, wordRecords, wordOfClause, wordClauses, wordsAfterHeader, wordVerdict}
+use Rattle.small.specs.WordSteps.{WordState, WordStep, onward, halt, wordsBegun, wordStep, sayAt, afterWord, wordRecords}
+use Rattle.small.specs.WordSteps.{wordOfClause, wordClauses, wordsAfterHeader, wordVerdict}
 use Rattle.small.proofs.Worded.{Worded, worded-append, worded-grown, worded-length}
 use Rattle.small.proofs.Stands.{Stands, Alike, step-alike}
 

@@ -1,6 +1,6 @@
--- A check in records of a formula of at most six variables is not refused for room in a table of more than 2^64 places, nor for the paths of a
--- line. The idea: a table in good order of six variables has at most 2^64 nodes, so that no placing finds it full; a diagram of six variables has at
--- most 64 paths. Assumes nothing.
+-- A check in records of a formula of at most six variables is not refused for room in a table of more than 2^64 places, nor for the paths
+-- of a line. The idea: a table in good order of six variables has at most 2^64 nodes, so that no placing finds it full; a diagram of six
+-- variables has at most 64 paths. Assumes nothing.
 use mathlib.Core.Path.{_≡_, refl, sym, ap, ap₂, _∙_, subst}
 use mathlib.Core.Logic.{_≢_}
 use mathlib.Core.Bool.{Bool, true, false, not, _&&_, _||_, cond}
@@ -34,10 +34,13 @@ use Rattle.records.specs.declared.SetBody.{SetBody}
 use Rattle.records.specs.declared.Rule.{Rule}
 use Rattle.records.specs.declared.Rule.the-variants.{Rup, Pr, Path}
 use Rattle.records.specs.declared.Record.{Record}
-use Rattle.records.specs.declared.Record.the-variants.{NodeEntry, Witness, ProofLine, Strike, SetEntry, End, CutShort, UnknownKind, NoRecord}
+use Rattle.records.specs.declared.Record.the-variants.{NodeEntry, Witness, ProofLine, Strike, SetEntry, End, CutShort, UnknownKind}
+use Rattle.records.specs.declared.Record.the-variants.{NoRecord}
 use Rattle.records.specs.Records.{recordAt, lengthOf}
 use Rattle.commands.specs.Commands.{inRecords}
-use Rattle.verdict.specs.Steps.{State, Step, next, stop, spent, isEntry, entryNode, isVariable, entered, nodeStep, witnessStep, waiting, accepted, judged, diagramIn, liveMembers, lineStep, isLive, strikeStep, beyond, noParity, setDiagram, setStep, endStep, recordStep}
+use Rattle.verdict.specs.Steps.{State, Step, next, stop, spent, isEntry, entryNode, isVariable, entered, nodeStep, witnessStep, waiting}
+use Rattle.verdict.specs.Steps.{accepted, judged, diagramIn, liveMembers, lineStep, isLive, strikeStep, beyond, noParity, setDiagram}
+use Rattle.verdict.specs.Steps.{setStep, endStep, recordStep}
 use Rattle.verdict.specs.Check.{step, Verdict, verdict}
 use Rattle.verdict.specs.Taken.{Function, Meant}
 use Rattle.verdict.specs.Run.{Making, opened, made, Reached, begins, goes, Ended, no-header, not-read, no-room, stopped, tried}

@@ -48,8 +48,8 @@ sizeTable =
     ∷ᴸ []ᴸ
 
 -- Each kind of record: node entries and RUP lines (case A); path lines; a witness and a PR line, accepted (case E) and refused (case D);
--- a striking; a parity that a path line shows and a RUP line does not; at least two of three by an at-least entry (case I); an odd number of
--- six variables. Two faults at once: a waiting witness (16) before a member that does not exist (28); a byte after the end record (11)
+-- a striking; a parity that a path line shows and a RUP line does not; at least two of three by an at-least entry (case I); an odd number
+-- of six variables. Two faults at once: a waiting witness (16) before a member that does not exist (28); a byte after the end record (11)
 -- before 20. An unknown kind (9).
 abbrev pub recordTable : List SmallRow
 recordTable =

@@ -1,5 +1,5 @@
--- 01's cases A to J, the examples of its table of numbers, and 02's strikings and sets, by computation from the definitions that the contracts cite.
--- Assumes nothing.
+-- 01's cases A to J, the examples of its table of numbers, and 02's strikings and sets, by computation from the definitions that the
+-- contracts cite. Assumes nothing.
 use mathlib.Core.Path.{_≡_, refl}
 use mathlib.Core.Bool.{true}
 use mathlib.Core.List.{[], _∷_}
@@ -23,7 +23,8 @@ use Rattle.verdict.specs.Cases.{GivesAll, caseTable, numberTable, strike
 
 -- "A to J form one table, and one theorem says that the rules give each row." (01, Conditions of acceptance)
 pub cases : GivesAll caseTable
-unfolding verdict clausesFrom place clause diagramFrom same? recordAt above rup valueFrom diagramAt ℕ-discrete conjunction cofactor unitsTo pr witnessed inWord
+unfolding verdict clausesFrom place clause diagramFrom same? recordAt above rup valueFrom diagramAt ℕ-discrete conjunction cofactor unitsTo
+    pr witnessed inWord
 cases = (refl, (refl, (refl, (refl, (refl, (refl, (refl, (refl, (refl, (refl, (refl, tt)))))))))))
 
 pub numbers : GivesAll numberTable
@@ -37,10 +38,12 @@ strikings = ((refl, refl), ((refl, refl), ((refl, refl), ((refl, refl), ((refl, 
 
 -- 02's 5/14: the number, the place, the counts and the peak.
 pub set-entries : GivesAll setTable
-unfolding verdict clausesFrom place clause diagramFrom same? recordAt above rup pr witnessed valueFrom diagramAt ℕ-discrete inWord parity atLeast
+unfolding verdict clausesFrom place clause diagramFrom same? recordAt above rup pr witnessed valueFrom diagramAt ℕ-discrete inWord parity
+    atLeast
 set-entries = (refl, (refl, (refl, (refl, (refl, (refl, (refl, (refl, (refl, (refl, (refl, (refl, (refl, (refl, (refl, (refl, (refl, (refl, tt))))))))))))))))))
 
--- "7: a lent part of wrong size: table of 1 place"; "It refuses an index of the wrong size with 7": one head too few, one link too many (02, 7/14)
+-- "7: a lent part of wrong size: table of 1 place"; "It refuses an index of the wrong size with 7": one head too few, one link too many
+-- (02, 7/14)
 abbrev sized : Columns → ℕ
 sized c = check inRecords c 2 (replicate 2048 0) (replicate 2048 0) (replicate 4096 0) (bytes A-formula) A-proof .number
 
@@ -55,7 +58,9 @@ abbrev left-A : CheckOutcome
 left-A = outcome 16 2048 4096 (verdict inRecords 16 (bytes A-formula) A-proof)
 
 pub index-left : (left-A .count ≡ 8)
-    × (goodOrder (rows (left-A .columns .vars) (left-A .columns .lows) (left-A .columns .highs)) (left-A .count) (left-A .columns .heads) (left-A .columns .links) ≡ true)
-unfolding verdict clausesFrom place clause diagramFrom same? recordAt above rup valueFrom diagramAt ℕ-discrete conjunction cofactor unitsTo pr witnessed inWord
+    × (goodOrder (rows (left-A .columns .vars) (left-A .columns .lows) (left-A .columns .highs)) (left-A .count) (left-A .columns .heads)
+    (left-A .columns .links) ≡ true)
+unfolding verdict clausesFrom place clause diagramFrom same? recordAt above rup valueFrom diagramAt ℕ-discrete conjunction cofactor unitsTo
+    pr witnessed inWord
     outcome storedAs rows goodOrder bucket
 index-left = (refl, refl)

@@ -48,7 +48,8 @@ module _ (c : tie.After-refused4) where
 returns-3 : tie.Need-returns-3
 returns-3 c =
     c .refused3 .ensures
-    ∙ sym (no-proof _ _ _ _ (not-false _ (else1-from-return-3 c .if1 .left)) (c .before .before .if2 .left) (not-true _ (c .before .if3 .taken)))
+    ∙ sym (no-proof _ _ _ _ (not-false _ (else1-from-return-3 c .if1 .left)) (c .before .before .if2 .left)
+    (not-true _ (c .before .if3 .taken)))
 
 refused-requires-4 : tie.Need-refused-requires-4
 refused-requires-4 c κs = search needs

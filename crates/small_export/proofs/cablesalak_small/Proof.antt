@@ -1,5 +1,5 @@
--- `cablesalak_small`: the call's contract, and what number 0 means. The idea: `small-call-refuted` about the definition that the contract cites.
--- Assumes nothing.
+-- `cablesalak_small`: the call's contract, and what number 0 means. The idea: `small-call-refuted` about the definition that the contract
+-- cites. Assumes nothing.
 use mathlib.Core.Path.{sym, ap, _∙_}
 use borrow.Author.Needs.{needs}
 use Rattle.small_verdict.specs.Small.{SmallOutcome}

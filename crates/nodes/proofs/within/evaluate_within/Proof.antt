@@ -37,7 +37,8 @@ slice-aggregate-evaluate : tie.Need-slice-aggregate-evaluate
 slice-aggregate-evaluate c = first-length _ _ (omega (arith, c .before .if1 .left)) (start-from-slice-aggregate-evaluate c .pre .0)
 
 slice-aggregate-evaluate-2 : tie.Need-slice-aggregate-evaluate-2
-slice-aggregate-evaluate-2 c = first-length _ _ (omega (arith, c .before .before .if1 .left)) (start-from-slice-aggregate-evaluate-2 c .pre .1)
+slice-aggregate-evaluate-2 c = first-length _ _ (omega (arith, c .before .before .if1 .left))
+    (start-from-slice-aggregate-evaluate-2 c .pre .1)
 
 slice-aggregate-evaluate-3 : tie.Need-slice-aggregate-evaluate-3
 slice-aggregate-evaluate-3 c = first-length _ _ (omega (arith, else1-from-evaluate-call c .if1 .left)) (start-from-evaluate-call c .pre .2)
