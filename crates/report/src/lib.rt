@@ -3,6 +3,7 @@
 mod put;
 
 use commands::Mode;
+pub use put::put_field;
 pub use put::put_line;
 ghost use mathlib.Core.Path.{_≡_};
 ghost use lib.ListN.{length, take, drop};
