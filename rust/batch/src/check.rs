@@ -7,7 +7,7 @@ use crate::sha256::hex;
 use cablesalak::{Mode, Number, Text, Workspace};
 use std::time::Instant;
 
-pub use cablesalak::PLACES;
+pub use cablesalak::{PLACES, VERSION};
 
 /// What a verdict depends on beside the two files and the proof's form.
 #[derive(Clone, Copy, Debug, PartialEq, Eq)]
