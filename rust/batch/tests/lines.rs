@@ -1,5 +1,5 @@
-//! The batch's lines are those of the proved call `report`, on pairs damaged at random, in every form and in both profiles. `examples/test-batch`
-//! compares them with the programs' lines.
+//! The batch's lines are those of the proved call `report`, on pairs damaged at random, in every form and in both profiles.
+//! `examples/test-batch` compares them with the programs' lines.
 
 mod common;
 #[path = "common/damage.rs"]

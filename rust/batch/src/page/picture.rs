@@ -30,7 +30,8 @@ pub fn picture(diagrams: &Diagrams, f: Diagram, words: &Words, said: &str, id: u
     let layout = layout(diagrams, &nodes, words);
     let (width, height) = (layout.width, layout.height);
     let mut out = format!(
-        "<svg role=\"img\" aria-labelledby=\"t{id} d{id}\" viewBox=\"0 0 {width:.0} {height:.0}\" width=\"{width:.0}\" height=\"{height:.0}\">\
+        "<svg role=\"img\" aria-labelledby=\"t{id} d{id}\" viewBox=\"0 0 {width:.0} {height:.0}\" width=\"{width:.0}\" \
+         height=\"{height:.0}\">\
          <title id=\"t{id}\">The line as a decision diagram</title><desc id=\"d{id}\">{}</desc>\n",
         escaped(said)
     );

@@ -78,8 +78,8 @@ impl Question {
         }
         let clauses = if count == 1 { "clause" } else { "clauses" };
         let mut out = format!(
-            "<details><summary>{count} {clauses}, one by one</summary>\n<table><thead><tr><th scope=\"col\">Rule, and its clauses in words</th>\
-             <th scope=\"col\" class=\"n\">clause</th></tr></thead>\n<tbody>"
+            "<details><summary>{count} {clauses}, one by one</summary>\n<table><thead><tr>\
+             <th scope=\"col\">Rule, and its clauses in words</th><th scope=\"col\" class=\"n\">clause</th></tr></thead>\n<tbody>"
         );
         for (said, clauses) in words.rules.iter().filter(|(_, clauses)| !clauses.is_empty()) {
             if !said.is_empty() {

@@ -103,8 +103,8 @@ fn in_records(pair: &Pair, mut found: Found, place: usize, id: usize) -> String 
     out += &format!("\n<p>It claims: {}.</p>", escaped(&words));
     if let Some(drawn) = picture::picture(&found.diagrams, f, &pair.words, &words, id).filter(|_| f > 1) {
         out += &format!(
-            "\n<figure>{drawn}<figcaption>The claim as a diagram. From the top: where the fact holds follow the full line, else the broken one. \
-             At 1 the claim holds, at 0 it does not.</figcaption></figure>"
+            "\n<figure>{drawn}<figcaption>The claim as a diagram. From the top: where the fact holds follow the full line, else the \
+             broken one. At 1 the claim holds, at 0 it does not.</figcaption></figure>"
         );
     }
     out
