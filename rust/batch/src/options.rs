@@ -8,7 +8,7 @@ use std::time::Duration;
 
 pub const USAGE: &str = "usage: refute-all [OPTIONS] FOLDER|MANIFEST..
   FOLDER    every NAME.cnf below it with NAME.proof (records), NAME.drat (DRAT text), NAME.bdrat (binary DRAT), NAME-MORE.proof, ..
-  MANIFEST  a line a pair: FORMULA, tab, PROOF and, where its name does not tell the form, tab and 'records', 'text' or 'binary'
+  MANIFEST  a line a pair: FORMULA, tab, PROOF and, where its name does not show the form, tab and 'records', 'text' or 'binary'
   -o FILE   results as JSON lines; FILE must not exist
   -r FILE   the same, resuming: pairs whose files have a verdict in FILE are not checked again
   -j N      number of workers (default: one for each core)

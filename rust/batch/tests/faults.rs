@@ -1,5 +1,5 @@
 //! What goes wrong: a killed worker, a killed pool, a full disk, two runs on one file, files that cannot be read, a wrong manifest. No
-//! pair is lost, none is told twice, and the others go on.
+//! pair is lost, none is reported twice, and the others go on.
 
 mod common;
 

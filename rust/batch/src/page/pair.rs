@@ -13,7 +13,7 @@ use std::path::Path;
 
 pub struct Pair {
     result: Value,
-    /// The number of its run on the page, where that can be told.
+    /// The number of its run on the page, where that is known.
     run: Option<usize>,
     pub formula: Option<Vec<u8>>,
     pub proof: Option<Vec<u8>>,
@@ -30,7 +30,7 @@ fn quoted(name: Option<&str>, digest: Option<&str>) -> Option<Vec<u8>> {
 
 impl Pair {
     pub fn new(result: Value, run: Option<usize>) -> Pair {
-        // Where no check came to its end there is no digest, and nothing is said of the bytes: the question may be quoted as it is now.
+        // Where no check came to its end there is no digest and no verdict on any bytes: the question is quoted as it is now.
         let is_unread = matches!(result.text("outcome"), Some("time limit" | "ended"));
         let digest = |name| result.text(name).or((!is_unread).then_some("not read"));
         let formula = quoted(result.text("formula"), digest("formula_sha256"));

@@ -34,7 +34,7 @@ type Key = (String, String, String, bool);
 #[derive(Default)]
 struct Reading {
     runs: Vec<Run>,
-    /// The run that the next record is of; none where that cannot be told.
+    /// The run that the next record is of; none where that is not known.
     run: Option<usize>,
     pairs: BTreeMap<Key, (Value, Option<usize>)>,
 }

@@ -1,7 +1,7 @@
 //! A formula in words: what its comment lines say of the question, the facts and the clauses.
 //!
 //! `c question TEXT` asks, `c fact N TEXT` names a fact (and so does `c N TEXT` before the header, as exporters of feature models write it),
-//! and any other comment says in words what the clauses after it say. Nothing here is judged: the check passes over comments.
+//! and any other comment is the heading of the clauses after it. Nothing here is judged: the check passes over comments.
 
 use std::collections::BTreeMap;
 
