@@ -1,5 +1,5 @@
-//! What the cores allow: `plain FOLDER` checks the pairs of a folder in threads, with no digest, no result and no limit. It is the measure that
-//! docs/BATCH.md compares `refute-all` with.
+//! What the cores allow: `plain FOLDER` checks the pairs of a folder in threads, with no digest, no result and no limit. It is the
+//! measure that docs/BATCH.md compares `refute-all` with.
 
 use batch::form::Form;
 use batch::pairs::Found;

@@ -7,9 +7,9 @@ use crate::sha256::hex;
 use cablesalak::{Mode, Number, Text, Workspace};
 use std::time::Instant;
 
-pub use cablesalak::PLACES;
+pub use cablesalak::{PLACES, VERSION};
 
-/// What a verdict depends on beside the two files and the proof's form.
+/// What a verdict depends on besides the two files and the proof's form.
 #[derive(Clone, Copy, Debug, PartialEq, Eq)]
 pub struct Settings {
     /// The places of the table.
@@ -33,7 +33,7 @@ pub enum Place {
     Proof,
 }
 
-/// What is said of a pair: the program's line, the file that its place is in, and the two files.
+/// The answer on a pair: the program's line, the file that its place is in, and the two files.
 #[derive(Clone, Copy, Debug, PartialEq, Eq)]
 pub struct Answer {
     pub number: u8,
@@ -84,7 +84,7 @@ impl Checker {
         Some(Checker { settings, workspace, formula: Room::default(), proof: Room::default() })
     }
 
-    /// Says of the pair what the program says. `known` is the two digests, in hex, of a verdict that is known; or nothing.
+    /// The answer on the pair, with the program's line. `known` is the two digests, in hex, of a verdict that is known; or nothing.
     pub fn check(&mut self, pair: &Pair, known: &str) -> Answer {
         let sources = [self.formula.read(pair.formula.as_deref()), self.proof.read(pair.proof.as_deref())];
         let [formula, proof] = sources.map(Result::unwrap_or_default);

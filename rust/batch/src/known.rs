@@ -9,8 +9,8 @@ use std::collections::HashMap;
 /// Two SHA-256 in hex.
 const DIGESTS: usize = 128;
 
-/// By names and form: the two digests and the class. A verdict is a function of the two files' bytes, the form, the settings and the archive,
-/// so only runs of this archive with these settings count, and only where there was a verdict.
+/// By names and form: the two digests and the class. A verdict is a function of the two files' bytes, the form, the settings and the
+/// archive, so only runs of this archive with these settings count, and only where there was a verdict.
 #[derive(Default)]
 pub struct Known(HashMap<(String, String, String), (String, Class)>);
 
@@ -19,7 +19,7 @@ impl Known {
         let mut known = HashMap::new();
         let mut counts = false;
         for line in text.lines() {
-            // Where a file that was cut short is followed by another, the other's run may be in the broken line: what follows counts for nothing.
+            // Where a file that was cut short is followed by another, the other's run may be in the broken line: what follows does not count.
             let Some(value) = Value::read(line) else {
                 counts = false;
                 continue;

@@ -75,7 +75,7 @@ impl List {
     }
 }
 
-/// A new file whose name is gone already: whatever ends this process, nothing is left behind.
+/// A new file whose name is gone already: whatever ends this process, no file is left.
 fn nameless() -> io::Result<File> {
     let time = SystemTime::now().duration_since(UNIX_EPOCH).map_or(0, |since| since.as_nanos());
     let path = env::temp_dir().join(format!("refute-all.{}.{time}", process::id()));

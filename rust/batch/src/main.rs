@@ -4,6 +4,7 @@ mod options;
 mod progress;
 mod run;
 
+use batch::check::VERSION;
 use batch::pairs::Found;
 use batch::record::{ARCHIVE, COMMIT};
 use batch::worker::{self, Start};
@@ -21,7 +22,11 @@ fn main() -> ExitCode {
     }
     match Options::read(words.into_iter()) {
         None => explain(2, USAGE),
-        Some(options) if options.version => version(),
+        // 0 is kept for what is refuted.
+        Some(options) if options.help => print(2, USAGE),
+        Some(options) if options.version => {
+            print(0, &format!("refute-all {VERSION} commit {COMMIT} archive {ARCHIVE}"))
+        }
         Some(options) => check(&options),
     }
 }
@@ -32,10 +37,10 @@ fn explain(status: u8, what: impl std::fmt::Display) -> ExitCode {
     ExitCode::from(status)
 }
 
-fn version() -> ExitCode {
-    let line = format!("refute-all {} commit {COMMIT} archive {ARCHIVE}", env!("CARGO_PKG_VERSION"));
-    match writeln!(io::stdout(), "{line}") {
-        Ok(()) => ExitCode::SUCCESS,
+/// A text on standard output, and the status; 3 where it cannot be written.
+fn print(status: u8, what: &str) -> ExitCode {
+    match writeln!(io::stdout(), "{what}") {
+        Ok(()) => ExitCode::from(status),
         Err(_) => ExitCode::from(3),
     }
 }

@@ -8,7 +8,7 @@ use std::time::Duration;
 
 pub const USAGE: &str = "usage: refute-all [OPTIONS] FOLDER|MANIFEST..
   FOLDER    every NAME.cnf below it with NAME.proof (records), NAME.drat (DRAT text), NAME.bdrat (binary DRAT), NAME-MORE.proof, ..
-  MANIFEST  a line a pair: FORMULA, tab, PROOF and, where its name does not tell the form, tab and 'records', 'text' or 'binary'
+  MANIFEST  a line a pair: FORMULA, tab, PROOF and, where its name does not show the form, tab and 'records', 'text' or 'binary'
   -o FILE   results as JSON lines; FILE must not exist
   -r FILE   the same, resuming: pairs whose files have a verdict in FILE are not checked again
   -j N      number of workers (default: one for each core)
@@ -17,7 +17,7 @@ pub const USAGE: &str = "usage: refute-all [OPTIONS] FOLDER|MANIFEST..
   -q        no lines and no progress
   --consequence  only lines pass that follow from the formula
   --places N     places of the table, 2 to 65536 (default: 4096)
-  --version
+  --version, --help
 Prints a line a pair as it comes: 'number place lines rounds peak', or '-' and why there is none; tab, formula, tab, proof.
 Status: 0 every pair is refuted; 1 each has a verdict, not all are refuted; 2 some pair has no verdict, something named could
 not be read, there is no pair, or wrong use; 3 the results could not be written.";
@@ -39,6 +39,7 @@ pub struct Options {
     pub settings: Settings,
     pub quiet: bool,
     pub version: bool,
+    pub help: bool,
 }
 
 impl Default for Options {
@@ -52,6 +53,7 @@ impl Default for Options {
             settings: Settings::default(),
             quiet: false,
             version: false,
+            help: false,
         }
     }
 }
@@ -69,7 +71,7 @@ impl Options {
                 _ => options.names.push(word.into()),
             }
         }
-        (options.version || !options.names.is_empty()).then_some(options)
+        (options.version || options.help || !options.names.is_empty()).then_some(options)
     }
 
     /// Takes an option and the value that follows it, in the same word or in the next.
@@ -83,6 +85,7 @@ impl Options {
         match option {
             "-q" => self.quiet = true,
             "--version" => self.version = true,
+            "--help" => self.help = true,
             "--consequence" => self.settings.consequence = true,
             "-j" => self.workers = word()?.parse().ok().filter(|workers| (1..=1_024).contains(workers))?,
             "-p" => self.part = Some(part(&word()?)?),
@@ -124,12 +127,13 @@ mod tests {
         assert_eq!(options.names, [PathBuf::from("a"), PathBuf::from("-b")]);
         assert!(options.quiet && matches!(options.results, Results::Resumed(path) if path == *"out"));
         assert_eq!(read("-t0 a").unwrap().limit, None);
-        assert!(read("--version").unwrap().version);
+        assert!(read("--version").unwrap().version && read("--help").unwrap().help);
     }
 
     #[test]
     fn wrong_lines() {
-        let wrong = ["-q", "-x a", "--help", "-j 0 a", "-j x a", "-j", "-t -1 a", "-t nan a", "-p 0/2 a", "-p 3/2 a"];
+        let wrong =
+            ["-q", "-x a", "--wrong a", "-j 0 a", "-j x a", "-j", "-t -1 a", "-t nan a", "-p 0/2 a", "-p 3/2 a"];
         for words in wrong.into_iter().chain(["-p 1 a", "--places 1 a", "--places 65537 a", "-o"]) {
             assert!(read(words).is_none(), "{words}");
         }

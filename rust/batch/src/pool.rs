@@ -8,7 +8,7 @@ use crate::list::List;
 use crate::message::Message;
 use crate::worker::Start;
 use std::io::{self, PipeReader, PipeWriter, Read, Write};
-use std::os::unix::process::ExitStatusExt;
+use std::os::unix::process::{CommandExt, ExitStatusExt};
 use std::process::{self, Child, Command, ExitStatus};
 use std::sync::mpsc::{self, Receiver, RecvTimeoutError};
 use std::thread;
@@ -30,7 +30,7 @@ pub enum Outcome {
     Ended(Option<i32>),
 }
 
-/// Who is told what comes.
+/// Receives what comes of the pairs.
 pub trait Observer {
     fn outcome(&mut self, pair: u32, outcome: Outcome) -> io::Result<()>;
     /// Called a few times a second at least.
@@ -45,7 +45,7 @@ pub struct Pool<'a> {
 }
 
 impl Pool<'_> {
-    /// Checks every pair of the list and tells each outcome as it comes, once.
+    /// Checks every pair of the list and reports each outcome as it comes, once.
     pub fn run(&self, observer: &mut impl Observer) -> io::Result<()> {
         let mut left: Vec<u32> = (0..self.list.len() as u32).collect();
         let mut told = vec![false; left.len()];
@@ -133,6 +133,7 @@ impl<'a> Round<'a> {
         let (number, list) = (self.started, self.pool.list.descriptor());
         let start = Start { pool: process::id(), list, settings: self.pool.settings, worker: number };
         let process = Command::new("/proc/self/exe")
+            .arg0("refute-all")
             .args(start.words())
             .stdin(self.tasks.try_clone()?)
             .stdout(self.messages.try_clone()?)
@@ -181,7 +182,7 @@ impl<'a> Round<'a> {
         Ok(())
     }
 
-    /// Tells what came of the pairs of workers that ended, and starts others in their place.
+    /// Reports what came of the pairs of workers that ended, and starts others in their place.
     fn replace(&mut self, observer: &mut impl Observer) -> io::Result<()> {
         let (gone, crew): (Vec<Worker>, Vec<Worker>) = self.crew.drain(..).partition(|worker| worker.drained);
         self.crew = crew;

@@ -159,12 +159,10 @@ fn put_answer(out: &mut String, answer: &Answer) {
 pub fn put_run(out: &mut String, settings: Settings, limit: Option<Duration>, workers: usize, pairs: usize) {
     let Settings { places, consequence } = settings;
     let limit = limit.map_or("null".into(), |limit| limit.as_secs_f64().to_string());
-    let _ = writeln!(
-        out,
-        r#"{{"type":"run","checker":"cablesalak","commit":{},"archive_sha256":"{ARCHIVE}","places":{places},"consequence":{consequence},"limit_seconds":{limit},"workers":{workers},"pairs":{pairs},"began":"{}"}}"#,
-        Quoted(COMMIT),
-        now()
-    );
+    let commit = Quoted(COMMIT);
+    let _ = write!(out, r#"{{"type":"run","checker":"cablesalak","commit":{commit},"archive_sha256":"{ARCHIVE}""#);
+    let _ = write!(out, r#","places":{places},"consequence":{consequence},"limit_seconds":{limit}"#);
+    let _ = writeln!(out, r#","workers":{workers},"pairs":{pairs},"began":"{}"}}"#, now());
 }
 
 /// What could not be read on the way to the pairs.

@@ -4,7 +4,7 @@ use std::fs::{File, OpenOptions, TryLockError};
 use std::io::{self, Read, Write};
 use std::path::{Path, PathBuf};
 
-/// Opens the file anew; one that is there is not written over.
+/// Creates the file; one that exists is not written over.
 pub fn create(path: &Path) -> io::Result<File> {
     let file = OpenOptions::new().append(true).create_new(true).open(path)?;
     alone(&file)?;
@@ -38,7 +38,7 @@ fn alone(file: &File) -> io::Result<()> {
 /// Holds a text back and writes it a few times a second.
 pub struct Out<W: Write> {
     out: W,
-    /// What a fault is told of.
+    /// The name that errors are reported with.
     name: PathBuf,
     pub held: String,
 }

@@ -16,21 +16,6 @@ const K: [u32; 64] = [
     0xc67178f2,
 ];
 
-/// The sixteen words of a block, and the 48 that follow from them.
-fn schedule(block: &[u8; 64]) -> [u32; 64] {
-    let mut w = [0; 64];
-    for (word, four) in w.iter_mut().zip(block.as_chunks().0) {
-        *word = u32::from_be_bytes(*four);
-    }
-    for i in 16..64 {
-        let (x, y) = (w[i - 15], w[i - 2]);
-        let x = x.rotate_right(7) ^ x.rotate_right(18) ^ (x >> 3);
-        let y = y.rotate_right(17) ^ y.rotate_right(19) ^ (y >> 10);
-        w[i] = w[i - 16].wrapping_add(x).wrapping_add(w[i - 7]).wrapping_add(y);
-    }
-    w
-}
-
 /// A round. The eight words of the state are named from another start each time, so that none of them is moved.
 macro_rules! round {
     ($a:ident $b:ident $c:ident $d:ident $e:ident $f:ident $g:ident $h:ident, $added:expr) => {
@@ -38,22 +23,48 @@ macro_rules! round {
         let one = $h.wrapping_add($added).wrapping_add($g ^ ($e & ($f ^ $g))).wrapping_add(one);
         let two = $a.rotate_right(2) ^ $a.rotate_right(13) ^ $a.rotate_right(22);
         $d = $d.wrapping_add(one);
-        $h = one.wrapping_add(two).wrapping_add(($a & $b) | ($c & ($a | $b)));
+        $h = one.wrapping_add(two).wrapping_add(($a & $b).wrapping_add($c & ($a ^ $b)));
     };
 }
 
+/// Eight rounds, from constant and word number `$from`, after which the names are as before.
+macro_rules! eight_rounds {
+    ($a:ident $b:ident $c:ident $d:ident $e:ident $f:ident $g:ident $h:ident, $k:ident, $word:ident, $from:literal) => {
+        round!($a $b $c $d $e $f $g $h, $word($from).wrapping_add($k[$from]));
+        round!($h $a $b $c $d $e $f $g, $word($from + 1).wrapping_add($k[$from + 1]));
+        round!($g $h $a $b $c $d $e $f, $word($from + 2).wrapping_add($k[$from + 2]));
+        round!($f $g $h $a $b $c $d $e, $word($from + 3).wrapping_add($k[$from + 3]));
+        round!($e $f $g $h $a $b $c $d, $word($from + 4).wrapping_add($k[$from + 4]));
+        round!($d $e $f $g $h $a $b $c, $word($from + 5).wrapping_add($k[$from + 5]));
+        round!($c $d $e $f $g $h $a $b, $word($from + 6).wrapping_add($k[$from + 6]));
+        round!($b $c $d $e $f $g $h $a, $word($from + 7).wrapping_add($k[$from + 7]));
+    };
+}
+
+/// The next word of the message schedule, put in the place of the one sixteen before it.
+#[inline(always)]
+fn next_word(w: &mut [u32; 16], i: usize) -> u32 {
+    let (x, y) = (w[(i + 1) % 16], w[(i + 14) % 16]);
+    let x = x.rotate_right(7) ^ x.rotate_right(18) ^ (x >> 3);
+    let y = y.rotate_right(17) ^ y.rotate_right(19) ^ (y >> 10);
+    w[i] = w[i].wrapping_add(x).wrapping_add(w[(i + 9) % 16]).wrapping_add(y);
+    w[i]
+}
+
 fn take_block(state: &mut [u32; 8], block: &[u8; 64]) {
-    let w = schedule(block);
+    let mut w = [0; 16];
+    for (word, four) in w.iter_mut().zip(block.as_chunks().0) {
+        *word = u32::from_be_bytes(*four);
+    }
     let [mut a, mut b, mut c, mut d, mut e, mut f, mut g, mut h] = *state;
-    for (w, k) in w.as_chunks::<8>().0.iter().zip(K.as_chunks::<8>().0) {
-        round!(a b c d e f g h, w[0].wrapping_add(k[0]));
-        round!(h a b c d e f g, w[1].wrapping_add(k[1]));
-        round!(g h a b c d e f, w[2].wrapping_add(k[2]));
-        round!(f g h a b c d e, w[3].wrapping_add(k[3]));
-        round!(e f g h a b c d, w[4].wrapping_add(k[4]));
-        round!(d e f g h a b c, w[5].wrapping_add(k[5]));
-        round!(c d e f g h a b, w[6].wrapping_add(k[6]));
-        round!(b c d e f g h a, w[7].wrapping_add(k[7]));
+    let [first, others @ ..] = K.as_chunks::<16>().0 else { unreachable!() };
+    let word = |i: usize| w[i];
+    eight_rounds!(a b c d e f g h, first, word, 0);
+    eight_rounds!(a b c d e f g h, first, word, 8);
+    for k in others {
+        let mut word = |i: usize| next_word(&mut w, i);
+        eight_rounds!(a b c d e f g h, k, word, 0);
+        eight_rounds!(a b c d e f g h, k, word, 8);
     }
     for (word, more) in state.iter_mut().zip([a, b, c, d, e, f, g, h]) {
         *word = word.wrapping_add(more);

@@ -122,7 +122,7 @@ fn the_time_limit() {
     copy(&folder, &["case-a.cnf", "case-a.proof"]);
     slow(&folder);
     let wanted = ["- time limit\t./slow.cnf\t./slow.proof", "0 12 2 1 10\t./case-a.cnf\t./case-a.proof"];
-    all(&folder, &["-t", "0.2", "-o", "results", "."]).is(2, &wanted);
+    all(&folder, &["-t", "1", "-o", "results", "."]).is(2, &wanted);
     // It has no verdict, so it is tried again.
-    all(&folder, &["-t", "0.2", "-r", "results", "."]).is(2, &wanted[..1]);
+    all(&folder, &["-t", "1", "-r", "results", "."]).is(2, &wanted[..1]);
 }

@@ -1,14 +1,15 @@
-//! What goes wrong: a killed worker, a killed pool, a full disk, two runs on one file, files that cannot be read, a wrong manifest. No pair is
-//! lost, none is told twice, and the others go on.
+//! What goes wrong: a killed worker, a killed pool, a full disk, two runs on one file, files that cannot be read, a wrong manifest. No
+//! pair is lost, none is reported twice, and the others go on.
 
 mod common;
 
 use common::{all, children, copies, folder, kill, records, runs, slow, start, until, Said, ALL};
+use std::env;
 use std::fs;
 use std::os::unix::fs::{MetadataExt, PermissionsExt};
 use std::os::unix::process::CommandExt;
 use std::path::Path;
-use std::process::Command;
+use std::process::{self, Command};
 
 #[test]
 fn a_killed_worker() {
@@ -127,7 +128,10 @@ fn files_that_are_none() {
 
 #[test]
 fn no_permission() {
-    let folder = folder("no-permission");
+    // Where everybody may look, which the repository need not be.
+    let folder = env::temp_dir().join(format!("refute-all-test.{}", process::id()));
+    fs::create_dir(&folder).unwrap();
+    fs::set_permissions(&folder, fs::Permissions::from_mode(0o755)).unwrap();
     copies(&folder, 2);
     fs::create_dir(folder.join("shut")).unwrap();
     for (name, mode) in [("copy0001.proof", 0o000), ("shut", 0o000)] {
@@ -141,6 +145,7 @@ fn no_permission() {
     }
     let said = Said::of(command.current_dir(&folder).arg(".").output().unwrap());
     fs::set_permissions(folder.join("shut"), fs::Permissions::from_mode(0o700)).unwrap();
+    fs::remove_dir_all(&folder).unwrap();
     let wanted = ["0 12 2 1 10\t./copy0000.cnf\t./copy0000.proof", "25 0 0 0 0\t./copy0001.cnf\t./copy0001.proof"];
     said.is(2, &wanted);
     assert!(said.error.starts_with("refute-all: ./shut: Permission denied"), "{}", said.error);

@@ -1,5 +1,5 @@
-//! The batch's lines are those of the proved call `report`, on pairs damaged at random, in every form and in both profiles. `examples/test-batch`
-//! compares them with the programs' lines.
+//! The batch's lines are those of the proved call `report`, on pairs damaged at random, in every form and in both profiles.
+//! `examples/test-batch` compares them with the programs' lines.
 
 mod common;
 #[path = "common/damage.rs"]
@@ -8,15 +8,19 @@ mod damage;
 use cablesalak::{Form, Mode, Workspace};
 use common::{all, folder, EXAMPLES};
 use std::collections::BTreeSet;
+use std::env;
 use std::fs;
 use std::path::Path;
 
-const PAIRS: usize = 2_000;
+/// How many pairs: 1,000, or what the variable PAIRS says.
+fn pairs() -> usize {
+    env::var("PAIRS").map_or(1_000, |count| count.parse().expect("a number"))
+}
 
 fn compare(folder: &Path, consequence: bool) -> BTreeSet<String> {
     let words: &[&str] = if consequence { &["--consequence", "pairs"] } else { &["pairs"] };
     let said = all(folder, words);
-    assert_eq!((said.status, said.lines.len()), (Some(2), PAIRS), "{}", said.error);
+    assert_eq!((said.status, said.lines.len()), (Some(2), pairs()), "{}", said.error);
     let mut workspace = Workspace::new(4_096).unwrap();
     let mut numbers = BTreeSet::new();
     for line in &said.lines {
@@ -38,7 +42,7 @@ fn compare(folder: &Path, consequence: bool) -> BTreeSet<String> {
 #[test]
 fn lines_are_the_proved_calls() {
     let folder = folder("lines");
-    damage::damage(Path::new(EXAMPLES), &folder.join("pairs"), PAIRS, 1).unwrap();
+    damage::damage(Path::new(EXAMPLES), &folder.join("pairs"), pairs(), 1).unwrap();
     let (outside, inside) = (compare(&folder, false), compare(&folder, true));
     assert!(outside.len() > 18, "{outside:?}");
     for number in ["0", "9", "19", "24", "25", "28", "31", "33"] {

@@ -131,6 +131,21 @@ fn what_is_missing_is_told() {
     let said = page(&folder, &["results"]);
     assert!(said.contains("<li>Run 2 was interrupted"));
     assert!(!said.contains("no-such-folder"), "only the last run's");
+    // A proof whose check did not come to its end stays with the others of its formula.
+    fs::copy(folder.join("slow.proof"), folder.join("slow-2.proof")).unwrap();
+    fs::write(folder.join("slow.proof"), b"\x45").unwrap();
+    fs::write(
+        folder.join("alone.cnf"),
+        format!("c question Alone?\n{}", fs::read_to_string(folder.join("slow.cnf")).unwrap()),
+    )
+    .unwrap();
+    fs::copy(folder.join("slow-2.proof"), folder.join("alone.proof")).unwrap();
+    all(&folder, &["-t", "1", "-o", "limited", "."]);
+    let limited = page(&folder, &["limited"]);
+    is_sound(&limited);
+    assert!(limited.contains("<title>Refutations: 1 of 3 questions</title>"));
+    assert_eq!(limited.matches("The time limit was reached.").count(), 2);
+    assert!(limited.contains("<h3>Alone?</h3>"));
     // A file that has changed since is not quoted.
     assert!(said.contains("always one of"));
     fs::write(folder.join("case-a.cnf"), "p cnf 1 1\n1 0\n").unwrap();

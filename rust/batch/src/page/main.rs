@@ -14,6 +14,7 @@ mod refusal;
 mod sentence;
 mod words;
 
+use batch::check::VERSION;
 use batch::record::{ARCHIVE, COMMIT};
 use std::env;
 use std::ffi::OsString;
@@ -34,8 +35,11 @@ fn write(text: &str) -> io::Result<()> {
 fn main() -> ExitCode {
     let mut names: Vec<OsString> = env::args_os().skip(1).collect();
     if names == ["--version"] {
-        let line = format!("refute-page {} commit {COMMIT} archive {ARCHIVE}\n", env!("CARGO_PKG_VERSION"));
+        let line = format!("refute-page {VERSION} commit {COMMIT} archive {ARCHIVE}\n");
         return ExitCode::from(if write(&line).is_ok() { 0 } else { 3 });
+    }
+    if names == ["--help"] {
+        return ExitCode::from(if write(&format!("{USAGE}\n")).is_ok() { 2 } else { 3 });
     }
     let is_option = |name: &OsString| name.as_encoded_bytes().starts_with(b"-");
     if names.first().is_some_and(|name| name == "--") {

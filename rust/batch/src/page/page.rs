@@ -9,20 +9,22 @@ use std::fmt::Write;
 /// A page of more questions than this would be too large for a browser with every rule in it.
 const MOST_IN_FULL: usize = 500;
 
-const INTRODUCTION: &str = "<p>Each question below asks whether some case can meet all rules of a rule book. A solver said “impossible” and sent \
-a proof. A checker whose own correctness is proved by machine checked the proofs";
+const INTRODUCTION: &str =
+    "<p>Each question below asks whether some case can meet all rules of a rule book. A solver said \
+“impossible” and sent a proof. A checker whose own correctness is proved by machine checked the proofs";
 
 const RELIED_ON: &str = "<h2>What may be relied on</h2>
-<p><strong>Refuted</strong> (number 0) means: no assignment at all satisfies the formula as it was handed in. It is proved that the checker says so \
-only where it is true, for every formula and every proof, damaged or hostile ones too.</p>
+<p><strong>Refuted</strong> (number 0) means: no assignment at all satisfies the formula as it was handed in. It is proved that the \
+checker says so only where it is true, for every formula and every proof, damaged or hostile ones too.</p>
 <p><strong>Not shown</strong> means only that these proofs do not show it. Do not act on a refused proof as if it were half a proof.</p>
-<p><strong>Nobody shows here</strong> that the formula says what the scheme’s rules mean. Read the rules in words for that: the words are the \
-author’s own comments in the formula, which the checker passes over. Under each of them its clauses are put in words by their literals alone.</p>
+<p><strong>Nobody shows here</strong> that the formula says what the scheme’s rules mean. Read the rules in words for that: the words \
+are the author’s own comments in the formula, which the checker passes over. Under each of them its clauses are put in words by their \
+literals alone.</p>
 ";
 
-const FUNCTION: &str = "<p class=\"soft\">A verdict is a function of the bytes of formula and proof, the proof’s form, the table’s places, the profile \
-and the checker: whoever has the two files, with these sums, gets the same line from the same checker. This page repeats what the results file \
-says; where somebody else made that file, check the proofs anew.</p>
+const FUNCTION: &str = "<p class=\"soft\">A verdict is a function of the bytes of formula and proof, the proof’s form, the table’s \
+places, the profile and the checker: whoever has the two files, with these sums, gets the same line from the same checker. This page \
+repeats what the results file says; where somebody else made that file, check the proofs anew.</p>
 ";
 
 pub fn page(results: &Results) -> String {
@@ -31,8 +33,9 @@ pub fn page(results: &Results) -> String {
     let mut out = head(questions);
     out += &notices(&results.runs);
     out += RELIED_ON;
-    out += "<h2>The questions</h2>\n<table><caption>Those that are not refuted come first.</caption>\n<thead><tr><th scope=\"col\">Question</th>\
-            <th scope=\"col\" class=\"n\">Proofs</th><th scope=\"col\">Result</th></tr></thead>\n<tbody>\n";
+    out += "<h2>The questions</h2>\n<table><caption>Those that are not refuted come first.</caption>\n\
+            <thead><tr><th scope=\"col\">Question</th><th scope=\"col\" class=\"n\">Proofs</th>\
+            <th scope=\"col\">Result</th></tr></thead>\n<tbody>\n";
     questions.iter().enumerate().for_each(|(at, question)| out += &question.row(at));
     out += "</tbody></table>\n<h2>One by one</h2>\n";
     questions.iter().enumerate().for_each(|(at, question)| out += &question.article(at, brief));

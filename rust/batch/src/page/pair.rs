@@ -13,24 +13,28 @@ use std::path::Path;
 
 pub struct Pair {
     result: Value,
-    /// The number of its run on the page, where that can be told.
+    /// The number of its run on the page, where that is known.
     run: Option<usize>,
     pub formula: Option<Vec<u8>>,
     pub proof: Option<Vec<u8>>,
     pub words: Words,
 }
 
-/// A file's bytes, where they have the digest.
+/// A file's bytes, where they have the digest, or none is asked for.
 fn quoted(name: Option<&str>, digest: Option<&str>) -> Option<Vec<u8>> {
     let mut room = Room::default();
     let source = room.read(Some(Path::new(name?))).ok()?;
-    (sha256::hex(&source.digest?) == digest?).then(|| room.text().to_vec())
+    let is_right = digest.is_none_or(|digest| source.digest.is_some_and(|found| sha256::hex(&found) == digest));
+    is_right.then(|| room.text().to_vec())
 }
 
 impl Pair {
     pub fn new(result: Value, run: Option<usize>) -> Pair {
-        let formula = quoted(result.text("formula"), result.text("formula_sha256"));
-        let proof = quoted(result.text("proof"), result.text("proof_sha256"));
+        // Where no check came to its end there is no digest and no verdict on any bytes: the question is quoted as it is now.
+        let is_unread = matches!(result.text("outcome"), Some("time limit" | "ended"));
+        let digest = |name| result.text(name).or((!is_unread).then_some("not read"));
+        let formula = quoted(result.text("formula"), digest("formula_sha256"));
+        let proof = quoted(result.text("proof"), Some(result.text("proof_sha256").unwrap_or("not read")));
         let words = Words::of(&formula.as_deref().map_or("".into(), String::from_utf8_lossy));
         Pair { result, run, formula, proof, words }
     }

@@ -3,11 +3,11 @@
 use crate::html::escaped;
 use crate::words::Words;
 use proof::{Diagram, Diagrams};
-use std::collections::{BTreeMap, HashMap};
+use std::collections::{BTreeMap, HashMap, HashSet};
 use std::fmt::Write;
 
 /// More nodes than this make no picture that helps.
-const MOST_NODES: usize = 60;
+pub const MOST_NODES: usize = 60;
 
 const ROW: f64 = 64.0;
 const COLUMN: f64 = 72.0;
@@ -26,11 +26,12 @@ struct Layout {
 
 /// The picture; none where the diagram has too many nodes. `id` is the picture's own, `said` the diagram in words.
 pub fn picture(diagrams: &Diagrams, f: Diagram, words: &Words, said: &str, id: usize) -> Option<String> {
-    let nodes = below(diagrams, f)?;
+    let nodes = below(diagrams, f, MOST_NODES)?;
     let layout = layout(diagrams, &nodes, words);
     let (width, height) = (layout.width, layout.height);
     let mut out = format!(
-        "<svg role=\"img\" aria-labelledby=\"t{id} d{id}\" viewBox=\"0 0 {width:.0} {height:.0}\" width=\"{width:.0}\" height=\"{height:.0}\">\
+        "<svg role=\"img\" aria-labelledby=\"t{id} d{id}\" viewBox=\"0 0 {width:.0} {height:.0}\" width=\"{width:.0}\" \
+         height=\"{height:.0}\">\
          <title id=\"t{id}\">The line as a decision diagram</title><desc id=\"d{id}\">{}</desc>\n",
         escaped(said)
     );
@@ -40,19 +41,17 @@ pub fn picture(diagrams: &Diagrams, f: Diagram, words: &Words, said: &str, id: u
     Some(out + "</svg>\n")
 }
 
-/// The diagrams below f, f first; none where they are too many.
-fn below(diagrams: &Diagrams, f: Diagram) -> Option<Vec<Diagram>> {
-    let mut found = vec![f];
+/// The diagrams below f, f first, the constants among them; none where there are more nodes than this.
+pub fn below(diagrams: &Diagrams, f: Diagram, most: usize) -> Option<Vec<Diagram>> {
+    let (mut found, mut seen) = (vec![f], HashSet::from([f]));
     let mut at = 0;
     while at < found.len() {
         let (_, low, high) = diagrams.row(found[at]);
-        for child in [low, high] {
-            if found[at] > 1 && !found.contains(&child) {
-                found.push(child);
-            }
-        }
+        let children = [low, high].into_iter().filter(|_| found[at] > 1);
+        let new: Vec<Diagram> = children.filter(|&child| seen.insert(child)).collect();
+        found.extend(new);
         at += 1;
-        if found.len() > MOST_NODES + 2 {
+        if found.len() > most + 2 {
             return None;
         }
     }

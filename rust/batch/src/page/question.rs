@@ -16,8 +16,13 @@ impl Question {
         [Class::Refuted, Class::Refused].into_iter().find(|&class| has(class)).unwrap_or(Class::NoVerdict)
     }
 
+    /// A pair whose formula can be quoted, if there is one.
+    fn first(&self) -> &Pair {
+        self.pairs.iter().find(|pair| pair.formula.is_some()).unwrap_or(&self.pairs[0])
+    }
+
     pub fn words(&self) -> String {
-        let first = &self.pairs[0];
+        let first = self.first();
         match first.words.question.as_str() {
             "" if first.text("formula").is_empty() => format!("The proof {} has no formula", first.text("proof")),
             "" => format!("Can the rules of {} all be met?", first.text("formula")),
@@ -56,7 +61,7 @@ impl Question {
         let name = class_name(class);
         let mut out =
             format!("<article class=\"{name}\" id=\"q{id}\">\n<h3>{words}</h3>\n<p class=\"verdict\">{verdict}</p>\n");
-        let first = &self.pairs[0];
+        let first = self.first();
         if !first.text("formula").is_empty() {
             let rules = if brief && class == Class::Refuted { String::new() } else { self.rules() };
             let _ = writeln!(out, "<dl>{}</dl>\n{rules}", first.file("formula"));
@@ -71,15 +76,15 @@ impl Question {
 
     /// Every clause in words, under its comment.
     fn rules(&self) -> String {
-        let words = &self.pairs[0].words;
+        let words = &self.first().words;
         let count: usize = words.rules.iter().map(|(_, clauses)| clauses.len()).sum();
         if count == 0 {
             return String::new();
         }
         let clauses = if count == 1 { "clause" } else { "clauses" };
         let mut out = format!(
-            "<details><summary>{count} {clauses}, one by one</summary>\n<table><thead><tr><th scope=\"col\">Rule, and its clauses in words</th>\
-             <th scope=\"col\" class=\"n\">clause</th></tr></thead>\n<tbody>"
+            "<details><summary>{count} {clauses}, one by one</summary>\n<table><thead><tr>\
+             <th scope=\"col\">Rule, and its clauses in words</th><th scope=\"col\" class=\"n\">clause</th></tr></thead>\n<tbody>"
         );
         for (said, clauses) in words.rules.iter().filter(|(_, clauses)| !clauses.is_empty()) {
             if !said.is_empty() {

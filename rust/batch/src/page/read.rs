@@ -34,7 +34,7 @@ type Key = (String, String, String, bool);
 #[derive(Default)]
 struct Reading {
     runs: Vec<Run>,
-    /// The run that the next record is of; none where that cannot be told.
+    /// The run that the next record is of; none where that is not known.
     run: Option<usize>,
     pairs: BTreeMap<Key, (Value, Option<usize>)>,
 }
@@ -64,13 +64,18 @@ impl Reading {
         }
     }
 
-    /// The pairs by formula and its digest. A proof without a formula is a question of its own.
+    /// The pairs by formula and its digest; one whose check did not come to its end has no digest, and joins the others of the formula. A
+    /// proof without a formula is a question of its own.
     fn questions(self) -> Results {
+        let word = |value: &Value, name| value.text(name).unwrap_or("").to_string();
+        let read = self.pairs.values().filter(|(value, _)| value.text("formula_sha256").is_some());
+        let digests: BTreeMap<String, String> =
+            read.map(|(value, _)| (word(value, "formula"), word(value, "formula_sha256"))).collect();
         let mut questions: BTreeMap<(String, String), Question> = BTreeMap::new();
         for (value, run) in self.pairs.into_values() {
-            let word = |name| value.text(name).unwrap_or("").to_string();
-            let which = if word("formula").is_empty() { word("proof") } else { word("formula_sha256") };
-            let key = (word("formula"), which);
+            let (formula, proof) = (word(&value, "formula"), word(&value, "proof"));
+            let digest = value.text("formula_sha256").or(digests.get(&formula).map(String::as_str)).unwrap_or("");
+            let key = (formula.clone(), if formula.is_empty() { proof } else { digest.to_string() });
             let question = questions.entry(key).or_insert(Question { pairs: Vec::new() });
             question.pairs.push(Pair::new(value, run.map(|run| run + 1)));
         }

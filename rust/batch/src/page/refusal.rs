@@ -9,10 +9,12 @@ use crate::{binary, picture};
 /// The most bytes of a text that are quoted before the place, and after it.
 const BEFORE: usize = 200;
 const AFTER: usize = 400;
+/// A claim with more nodes is not put in words, which would take long.
+const MOST_IN_WORDS: usize = 1_000;
 /// The most bytes that are quoted in hex.
 const MOST_HEX: usize = 64;
 
-/// Numbers about a whole clause of a DRAT proof, which can be said in words.
+/// Numbers about a whole clause of a DRAT proof, which can be put in words.
 fn is_about_a_clause(number: u64) -> bool {
     matches!(number, 17 | 19 | 22 | 23 | 28)
 }
@@ -94,17 +96,20 @@ fn in_records(pair: &Pair, mut found: Found, place: usize, id: usize) -> String 
         out += &format!("\n<p>Its witness: {}.</p>", escaped(&literals.join(", ")));
     }
     let Some(f) = found.diagram else { return out };
-    let words = match (f, found.diagrams.tell(f)) {
+    let said = picture::below(&found.diagrams, f, MOST_IN_WORDS).and_then(|_| found.diagrams.tell(f));
+    let words = match (f, said) {
         (0, _) => "the contradiction itself: what the whole proof is for".into(),
         (1, _) => "nothing: it is always true".into(),
         (_, Some(said)) => pair.words.named(&said),
-        _ => "what the picture shows".into(),
+        _ if picture::below(&found.diagrams, f, picture::MOST_NODES).is_some() => "what the picture shows".into(),
+        _ => "what its diagram says, which is too large to be shown".into(),
     };
     out += &format!("\n<p>It claims: {}.</p>", escaped(&words));
-    if let Some(drawn) = picture::picture(&found.diagrams, f, &pair.words, &words, id).filter(|_| f > 1) {
+    let drawn = picture::picture(&found.diagrams, f, &pair.words, &words, id);
+    if let Some(drawn) = drawn.filter(|_| f > 1) {
         out += &format!(
-            "\n<figure>{drawn}<figcaption>The claim as a diagram. From the top: where the fact holds follow the full line, else the broken one. \
-             At 1 the claim holds, at 0 it does not.</figcaption></figure>"
+            "\n<figure>{drawn}<figcaption>The claim as a diagram. From the top: where the fact holds follow the full line, else the \
+             broken one. At 1 the claim holds, at 0 it does not.</figcaption></figure>"
         );
     }
     out

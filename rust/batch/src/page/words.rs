@@ -1,7 +1,7 @@
 //! A formula in words: what its comment lines say of the question, the facts and the clauses.
 //!
-//! `c question TEXT` asks, `c fact N TEXT` (or `c N TEXT`, as exporters of feature models write it) names a fact, and any other comment
-//! says in words what the clauses after it say. Nothing here is judged: the check passes over comments.
+//! `c question TEXT` asks, `c fact N TEXT` names a fact (and so does `c N TEXT` before the header, as exporters of feature models write it),
+//! and any other comment is the heading of the clauses after it. Nothing here is judged: the check passes over comments.
 
 use std::collections::BTreeMap;
 
@@ -39,27 +39,40 @@ impl Words {
     /// Of a formula, read by lines and as far as it can be read.
     pub fn of(formula: &str) -> Words {
         let mut words = Words::default();
-        let mut clause = Vec::new();
+        let (mut clause, mut headed) = (Vec::new(), false);
         for line in formula.lines() {
             if let Some(comment) = line.strip_prefix('c') {
-                words.comment(comment.trim());
-            } else if !line.starts_with('p') {
+                words.comment(comment.trim(), headed);
+            } else if line.starts_with('p') {
+                headed = true;
+            } else {
                 words.literals(line, &mut clause);
             }
         }
         words
     }
 
-    fn comment(&mut self, text: &str) {
+    fn comment(&mut self, text: &str, headed: bool) {
+        let fact = text.strip_prefix("fact ").or((!headed).then_some(text));
         if let Some(asked) = text.strip_prefix("question ") {
             append(&mut self.question, asked.trim());
-        } else if let Some(named) = facts(text.strip_prefix("fact ").unwrap_or(text)) {
-            self.facts.extend(named);
+        } else if let Some(named) = fact.and_then(facts) {
+            named.into_iter().for_each(|(number, name)| self.name(number, name));
         } else if !text.is_empty() {
             match self.rules.last_mut() {
                 Some((said, clauses)) if clauses.is_empty() => append(said, text),
                 _ => self.rules.push((text.to_string(), Vec::new())),
             }
+        }
+    }
+
+    /// A fact that is named twice has both names.
+    fn name(&mut self, number: u8, name: String) {
+        let known = self.facts.entry(number).or_default();
+        if known.is_empty() {
+            *known = name;
+        } else if *known != name {
+            *known += &format!(" / {name}");
         }
     }
 
@@ -135,5 +148,9 @@ mod tests {
         assert_eq!(words.clause(&[-1, -3]), "never all of “a man”, “has fur”");
         assert_eq!(words.literal(-1), "not “a man”");
         assert_eq!(words.named("at least 2 of x1, x2, x64"), "at least 2 of “a man”, “a cat”, fact 64");
+        // After the header a number begins a rule; a name never takes another's place.
+        let words = Words::of("c fact 2 a cat\np cnf 2 1\nc 2 cats are enough.\n1 2 0\nc fact 2 a dog\n");
+        assert_eq!(words.rules, [("2 cats are enough.".into(), vec![vec![1, 2]])]);
+        assert_eq!(words.fact(2), "“a cat / a dog”");
     }
 }

@@ -1,5 +1,5 @@
-//! Pairs damaged at random: each is made from one of the pairs of a folder. One in sixteen is left whole; some are longer than a file may be, empty,
-//! or lack the proof.
+//! Pairs damaged at random: each is made from one of the pairs of a folder. One in sixteen is left whole; some are longer than a file
+//! may be, empty, or lack the proof.
 
 use batch::form::Form;
 use batch::pairs::{Found, Pair};

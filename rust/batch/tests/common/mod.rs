@@ -83,11 +83,11 @@ pub fn start(folder: &Path, words: &[&str]) -> Child {
     command.spawn().unwrap()
 }
 
-/// Waits until it holds; fails after ten seconds.
+/// Waits until it holds; fails after a minute.
 pub fn until(what: &str, holds: impl Fn() -> bool) {
     let began = Instant::now();
     while !holds() {
-        assert!(began.elapsed() < Duration::from_secs(10), "not within ten seconds: {what}");
+        assert!(began.elapsed() < Duration::from_secs(60), "not within a minute: {what}");
         thread::sleep(Duration::from_millis(5));
     }
 }
