@@ -30,7 +30,7 @@ use Rattle.verdict.specs.Run.{commandIn, CommandTaken, Reached, Refutation}
 use Rattle.verdict.specs.Satisfies.{clausesOf}
 use Rattle.verdict.specs.MetFirst.{metBy, sayMet}
 use Rattle.dimacs.specs.Texts.{bytes}
-use Rattle.verdict.specs.Cases.{Gives, GivesAll, over, rupLine, A-formula, A-proof, caseTable, numberTable, strikeTable, setTable}
+use Rattle.verdict.specs.Cases.{Gives, GivesAll, over, rupLine, A-formula, A-proof, caseTable, numberTable, waitingTable, strikeTable, setTable}
 use Rattle.verdict.specs.TextRows.{textTable}
 use Rattle.verdict.specs.PathRows.{pathTable, profileTable}
 use Rattle.verdict.proofs.Cases as Tables
@@ -204,6 +204,18 @@ pub seven : (sized (columnsMade (0 ∷ []) (0 ∷ []) (0 ∷ []) (0 ∷ 0 ∷ []
     × (sized (columnsMade (0 ∷ 0 ∷ []) (0 ∷ 0 ∷ []) (0 ∷ 0 ∷ []) (0 ∷ 0 ∷ 0 ∷ []) (0 ∷ 0 ∷ [])) ≡ 7)
     × (sized (columnsMade (0 ∷ 0 ∷ []) (0 ∷ 0 ∷ []) (0 ∷ 0 ∷ []) (0 ∷ 0 ∷ 0 ∷ 0 ∷ []) (0 ∷ 0 ∷ 0 ∷ [])) ≡ 7)
 seven = Tables.seven
+
+-- What a waiting witness is: one of false variables waits too.
+pub witnesses-wait : GivesAll waitingTable
+witnesses-wait = Tables.witnesses-wait
+
+-- The count and the peak that are left, where all entries are of accepted lines, and where one is not.
+abbrev left : List ℕ → CheckOutcome
+left proof = outcome 16 2048 4096 (verdict inRecords 16 (bytes A-formula) proof)
+
+pub counts-left : (left A-proof .count ≡ 8) × (left A-proof .peak ≡ 10) × (left (over 1 0 1 []) .count ≡ 8)
+    × (left (over 1 0 1 []) .peak ≡ 9)
+counts-left = Tables.counts-left
 
 pub twenty-one : Gives (entriesRow (over 1 0 1 []) 21)
 twenty-one = Rows.twenty-one

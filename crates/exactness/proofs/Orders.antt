@@ -13,7 +13,7 @@ use Rattle.records.specs.Records.{recordAt}
 use Rattle.commands.specs.Commands.{textRead, binaryRead}
 use Rattle.verdict.specs.Check.{verdict}
 use Rattle.verdict.specs.Cases.{GivesAll}
-use Rattle.exactness.specs.Orders.{formulaOrder, entryOrder, lineOrder, otherOrder, textOrder, falseWaits, pathOrder, profileOrder}
+use Rattle.exactness.specs.Orders.{formulaOrder, entryOrder, lineOrder, otherOrder, textOrder, pathOrder, profileOrder}
 use Rattle.exactness.specs.Orders.{binaryOrder}
 
 pub formula-order : GivesAll formulaOrder
@@ -36,10 +36,6 @@ other-order = (refl, (refl, (refl, (refl, (refl, (refl, (refl, tt)))))))
 pub text-order : GivesAll textOrder
 unfolding verdict clausesFrom textRead place clause diagramFrom same? rup pr valueFrom diagramAt ℕ-discrete
 text-order = ((refl, refl), ((refl, refl), ((refl, refl), ((refl, refl), tt))))
-
-pub false-waits : GivesAll falseWaits
-unfolding verdict clausesFrom place clause diagramFrom same? recordAt above rup pr witnessed valueFrom diagramAt ℕ-discrete inWord
-false-waits = (refl, (refl, (refl, (refl, tt))))
 
 pub path-order : GivesAll pathOrder
 unfolding verdict clausesFrom place clause diagramFrom same? recordAt above rup valueFrom diagramAt ℕ-discrete inWord parity pathLine

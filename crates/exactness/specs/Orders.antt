@@ -64,16 +64,6 @@ textOrder =
     ∷ᴸ texted 4096 D-formula "d 1 x 0" (prints 3 4 0 0 4) (0 ∷ᴸ []ᴸ)
     ∷ᴸ []ᴸ
 
--- "16: witness left at a RUP line or the end", at a striking (02, 3/14) and at a path line (02, 12/14): of one that only makes variables
--- false too.
-abbrev pub falseWaits : List Row
-falseWaits =
-    checked 4096 D-formula (0x46 ∷ᴸ 1 ∷ᴸ rupLine 0 []ᴸ) (prints 16 2 0 0 4)
-    ∷ᴸ checked 4096 D-formula (0x46 ∷ᴸ 1 ∷ᴸ strike 0 []ᴸ) (prints 16 2 0 0 4)
-    ∷ᴸ checked 4096 D-formula (0x46 ∷ᴸ 1 ∷ᴸ pathRecord 0 []ᴸ) (prints 16 2 0 0 4)
-    ∷ᴸ checked 4096 D-formula (0x46 ∷ᴸ 1 ∷ᴸ end) (prints 16 2 0 0 4)
-    ∷ᴸ []ᴸ
-
 -- An odd number of the variables 2 to 8 and of those in the second byte of the set.
 abbrev pub oddFrom2 : ℕ → List ℕ → List ℕ
 oddFrom2 more rest = 0x58 ∷ᴸ 254 ∷ᴸ more ∷ᴸ 0 ∷ᴸ 0 ∷ᴸ 0 ∷ᴸ 0 ∷ᴸ 0 ∷ᴸ 0 ∷ᴸ 1 ∷ᴸ rest

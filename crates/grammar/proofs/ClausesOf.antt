@@ -28,7 +28,7 @@ use Rattle.grammar.proofs.Gaps.{Between, parts, last, between-of}
 
 -- ---- answers that clash
 
-not-closed : (number place f next : ℕ) (ls : List meaning.Literal) {P : Type 0} → refused number place ≡ closed ls f next → P
+pub not-closed : (number place f next : ℕ) (ls : List meaning.Literal) {P : Type 0} → refused number place ≡ closed ls f next → P
 not-closed number place f next ls e = let z : _≡_ {A = ℕ} 0 1 = cc in absurd (omega arith)
 
 ended-not : (f next : ℕ) (ls : List meaning.Literal) {P : Type 0} → ended ≡ closed ls f next → P
@@ -49,7 +49,7 @@ sign-starts : (b : Bool) (m : Decimal) (r : List ℕ) → Stops isToken (sign b 
 sign-starts true m r h = clash (sym (token-byte (48 + m .first) (omega arith)) ∙ h)
 sign-starts false m r h = clash h
 
-clause-starts : (is : List Item) (r : List ℕ) → Stops isToken (clause is r) → ⊥
+pub clause-starts : (is : List Item) (r : List ℕ) → Stops isToken (clause is r) → ⊥
 clause-starts [] r h = clash h
 clause-starts (i ∷ is) r h = sign-starts (i .said .isPositive) (i .said .magnitude) (parting (i .behind) (clause is r)) h
 
@@ -65,7 +65,7 @@ module _ (s : List ℕ) (n : ℕ) where
     pub stops : Stops isToken (drop next s)
 
   -- A gap before a clause is not empty where a token has just ended.
-  some-gap : (at : ℕ) (items : List Item) (r : List ℕ) → Stops isToken (drop at s) → drop (between s at) s ≡ clause items r
+  pub some-gap : (at : ℕ) (items : List Item) (r : List ℕ) → Stops isToken (drop at s) → drop (between s at) s ≡ clause items r
       → (g : List Piece) → drop at s ≡ gap g (drop (between s at) s) → (p : Parting) × (drop at s ≡ parting p (clause items r))
   some-gap at items r h e [] q = absurd (clause-starts items r (subst (Stops isToken) (q ∙ e) h))
   some-gap at items r h e (p ∷ g) q = (record { first = p; more = g }, q ∙ ap (gap (p ∷ g)) e)
@@ -128,7 +128,7 @@ module _ (s : List ℕ) (n : ℕ) where
   unfolding clauseFrom
   clause-none first at f next ls e = not-closed 6 first f next ls e
 
-  clause-of : (k first at f next : ℕ) (ls : List meaning.Literal) → clauseFrom s n k first at ≡ closed ls f next → ClauseOf at next ls
+  pub clause-of : (k first at f next : ℕ) (ls : List meaning.Literal) → clauseFrom s n k first at ≡ closed ls f next → ClauseOf at next ls
   clause-of zero first at f next ls e = clause-none first at f next ls e
   clause-of (suc k) first at f next ls e =
       by (ltb at (length s))

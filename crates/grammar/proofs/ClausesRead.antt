@@ -35,10 +35,10 @@ piece-stops (blank (spaced tab)) g r = refl
 piece-stops (blank carriage) g r = refl
 piece-stops (newLine cs) g r = refl
 
-parting-stops : (p : Parting) (r : List ℕ) → Stops isToken (parting p r)
+pub parting-stops : (p : Parting) (r : List ℕ) → Stops isToken (parting p r)
 parting-stops p r = piece-stops (p .first) (p .more) r
 
-ending-stops : (e : Ending) → Stops isToken (ending e)
+pub ending-stops : (e : Ending) → Stops isToken (ending e)
 ending-stops (plain []) = tt
 ending-stops (plain (p ∷ g)) = piece-stops p g []
 ending-stops (lastComment [] cs c) = refl
@@ -55,7 +55,7 @@ sign-fresh true m r = (
 )
 sign-fresh false m r = (refl, λ e. absurd (omega arith))
 
-clause-fresh : (is : List Item) (r : List ℕ) → Fresh (clause is r)
+pub clause-fresh : (is : List Item) (r : List ℕ) → Fresh (clause is r)
 clause-fresh [] r = (refl, λ e. absurd (omega arith))
 clause-fresh (i ∷ is) r = sign-fresh (i .said .isPositive) (i .said .magnitude) (parting (i .behind) (clause is r))
 
@@ -70,11 +70,11 @@ fresh-inside s at (i ∷ is) r l e q = go (i .said .isPositive) (e ∙ q)
 -- ---- one clause
 
 module _ (s : List ℕ) (n : ℕ) where
-  clause-inside : (at : ℕ) (is : List Item) (r : List ℕ) → drop at s ≡ clause is r → at < length s
+  pub clause-inside : (at : ℕ) (is : List Item) (r : List ℕ) → drop at s ≡ clause is r → at < length s
   clause-inside at is r e = fresh-inside s at is r (clause is r) e refl
 
   -- The clause ls from `at` on closes, and the bytes r are left.
-  abbrev Closes : List meaning.Literal → ℕ → ℕ → ℕ → List ℕ → Type 0
+  abbrev pub Closes : List meaning.Literal → ℕ → ℕ → ℕ → List ℕ → Type 0
   Closes ls k first at r = (next : ℕ) × (clauseFrom s n k first at ≡ closed ls first next) × (drop next s ≡ r)
 
   closing-read : (r : List ℕ) (k first at : ℕ) → drop at s ≡ 48 ∷ r → Stops isToken r → Closes [] (suc k) first at r
@@ -117,7 +117,7 @@ module _ (s : List ℕ) (n : ℕ) where
             later .2,
           )
 
-  clause-read : (is : List Item) (r : List ℕ) (k first at : ℕ) → length s ≤ at + k → drop at s ≡ clause is r → Within n (literals is)
+  pub clause-read : (is : List Item) (r : List ℕ) (k first at : ℕ) → length s ≤ at + k → drop at s ≡ clause is r → Within n (literals is)
       → Stops isToken r → Closes (literals is) k first at r
   clause-read is r zero first at h e w t = absurd (omega (arith, clause-inside at is r e))
   clause-read [] r (suc k) first at h e w t = closing-read r k first at e t

@@ -81,13 +81,13 @@ module _ (s : List ℕ) where
   abbrev Reaches : ℕ → List ℕ → Type 0
   Reaches at x = (p : ℕ) × (drop p s ≡ x) × (between s at ≡ between s p)
 
-  comments-skipped : (cs : List Comment) (x : List ℕ) (at : ℕ) → drop at s ≡ 10 ∷ comments cs x → Reaches at (10 ∷ x)
+  pub comments-skipped : (cs : List Comment) (x : List ℕ) (at : ℕ) → drop at s ≡ 10 ∷ comments cs x → Reaches at (10 ∷ x)
   comments-skipped [] x at e = (at, e, refl)
   comments-skipped (c ∷ cs) x at e =
       let later = comments-skipped cs x (lineEnd s (suc at)) (comment-rest at (10 ∷ comments cs x) c e refl) in
       (later .0, later .1, comment-skipped at (10 ∷ comments cs x) c e ∙ later .2)
 
-  gap-skipped : (g : List Piece) (x : List ℕ) (at : ℕ) → drop at s ≡ gap g x → Reaches at x
+  pub gap-skipped : (g : List Piece) (x : List ℕ) (at : ℕ) → drop at s ≡ gap g x → Reaches at x
   gap-skipped [] x at e = (at, e, refl)
   gap-skipped (blank b ∷ g) x at e =
       let later = gap-skipped g x (suc at) (behind s at (blankByte b) (gap g x) e) in
@@ -119,6 +119,51 @@ module _ (s : List ℕ) where
       let same : between s at ≡ between s last = first .2 ∙ second .2 ∙ comment-skipped (second .0) [] c (second .1) in
       omega (arith, between-least s last)
 
+  -- ---- where the text starts
+
+  -- a comment line at the text's start
+  module _ (c : Comment) (r : List ℕ) (e : s ≡ comment c r) (h : Stops isLine r) where
+    start-comment : isComment s 0 ≡ true
+    unfolding isComment
+    start-comment = rw (eq-eqb (getD s 0 0) 99 (byte s 0 99 (c .bytes ++ r) e))
+
+    start-passed : between s 0 ≡ between s (lineEnd s 0)
+    start-passed = between-skips 0 99 (c .bytes ++ r) e refl start-comment
+
+    start-rest : drop (lineEnd s 0) s ≡ r
+    start-rest = past-rest s 0 isLine (99 ∷ c .bytes) r e (refl, line-all (c .bytes) (c .inLine)) h
+
+  pub start-skipped : (ks : List Comment) (x : List ℕ) → s ≡ comments ks x → Reaches 0 x
+  start-skipped [] x e = (0, e, refl)
+  start-skipped (c ∷ ks) x e =
+      let later = comments-skipped ks x (lineEnd s 0) (start-rest c (10 ∷ comments ks x) e refl) in (
+        suc (later .0),
+        behind s (later .0) 10 x (later .1),
+        start-passed c (10 ∷ comments ks x) e refl ∙ later .2 ∙ between-on (later .0) 10 x (later .1) refl,
+      )
+
+  -- A text of comment lines alone, the last without its LF.
+  pub comment-alone : (ks : List Comment) (c : Comment) → s ≡ comments ks (comment c []) → length s ≤ between s 0
+  comment-alone [] c e =
+      let none : length s ≤ lineEnd s 0 = outside s (lineEnd s 0) (start-rest c [] e tt) in
+      omega (arith, start-passed c [] e tt, between-least s (lineEnd s 0))
+  comment-alone (k ∷ ks) c e =
+      let r : List ℕ = 10 ∷ comments ks (comment c []) in
+      let second = comments-skipped ks (comment c []) (lineEnd s 0) (start-rest k r e refl) in
+      let last = lineEnd s (suc (second .0)) in
+      let none : length s ≤ last = outside s last (comment-rest (second .0) [] c (second .1) tt) in
+      let same : between s 0 ≡ between s last = start-passed k r e refl ∙ second .2 ∙ comment-skipped (second .0) [] c (second .1) in
+      omega (arith, between-least s last)
+
+  pub start-ends : (ks : List Comment) (e : Ending) → s ≡ comments ks (ending e) → length s ≤ between s 0
+  start-ends ks e q =
+      let first = start-skipped ks (ending e) q in omega (arith, first .2, ending-passed e (first .0) (first .1))
+
+  pub start-gap : (ks : List Comment) (g : List Piece) (x : List ℕ) → s ≡ comments ks (gap g x) → Fresh x → drop (between s 0) s ≡ x
+  start-gap ks g x e h =
+      let first = start-skipped ks (gap g x) e in
+      ap (λ (p : ℕ). drop p s) (first .2) ∙ gap-passed g x (first .0) (first .1) h
+
   -- ---- what is passed over is a gap, or the text's end
 
   pub data Between (at : ℕ) : Type 0 where
@@ -127,7 +172,7 @@ module _ (s : List ℕ) where
         length s ≤ between s at → Between at
 
   -- The same where a line starts.
-  data Line (at : ℕ) : Type 0 where
+  pub data Line (at : ℕ) : Type 0 where
     lines : (ks : List Comment) (g : List Piece) → drop at s ≡ comments ks (gap g (drop (between s at) s)) → Line at
     lastLine : (ks : List Comment) (c : Comment) → drop at s ≡ comments ks (comment c []) → length s ≤ between s at → Line at
     later : (ks : List Comment) (g : List Piece) (cs : List Comment) (c : Comment) → drop at s
@@ -240,6 +285,10 @@ module _ (s : List ℕ) where
   no-token : (at : ℕ) (l : List ℕ) → drop at s ≡ l → Stops isToken l → isComment s at ≡ false
   no-token at [] e h = comment-not at (outside s at e)
   no-token at (b ∷ r) e h = sym (other-byte s at (λ q. clash (sym (ap isToken (sym (byte s at b r e) ∙ q)) ∙ h)))
+
+  -- The same from a line's start on, which the text's start is: comment lines first.
+  pub line-of-start : (at : ℕ) → Line at
+  line-of-start at = known (length s) at (omega arith) .1
 
   -- What the reader passes over from a token's end on is a gap, or all that is left and a comment is its last line.
   pub between-of : (at : ℕ) → Stops isToken (drop at s) → Between at
