@@ -23,7 +23,7 @@ use Rattle.operate.specs.declared.Operation.the-variants.{Negation, Cofactor}
 use Rattle.operate.specs.Operate.{result}
 use Rattle.single.specs.Single.{operation}
 use Rattle.verdict.specs.Steps.{State, next, spent, judged, liveMembers}
-use Rattle.verdict.specs.Check.{step, check}
+use Rattle.verdict.specs.Check.{step, verdict, CheckOutcome, outcome, check}
 use Rattle.verdict.specs.Taken.{Meant, lineOf, peakWith}
 use Rattle.verdict.specs.ClauseTaken.{GoesOn as StepGoesOn, HasRoom}
 use Rattle.verdict.specs.Run.{commandIn, CommandTaken, Reached, Refutation}
