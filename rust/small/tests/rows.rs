@@ -42,9 +42,12 @@ fn rows() {
 
 #[test]
 fn seven_changes_nothing() {
-    for (members, struck, scratch) in
-        [(MEMBERS - 1, MEMBERS - 1, SCRATCH), (MEMBERS, MEMBERS - 1, SCRATCH), (MEMBERS, MEMBERS, SCRATCH - 1), (0, 0, 0)]
-    {
+    for (members, struck, scratch) in [
+        (MEMBERS - 1, MEMBERS - 1, SCRATCH),
+        (MEMBERS, MEMBERS - 1, SCRATCH),
+        (MEMBERS, MEMBERS, SCRATCH - 1),
+        (0, 0, 0),
+    ] {
         let mut lists = (vec![3; members], vec![4; struck], vec![5; scratch]);
         let before = lists.clone();
         let verdict = small_lent(&mut lists.0, &mut lists.1, &mut lists.2, A, b"E");
