@@ -25,9 +25,12 @@ WORDS = {
     "cases": "runs 01's examples", "changes": "runs 02's examples",
     "sets": "parity, at least", "binomial": "C(n, k), stored",
     "clearing": "lists made all zero", "columns": "nodes to columns, back",
+    "room": "more room, same result", "truth": "words of 64 bits", "truth_entries": "words of entries",
+    "truth_rules": "RUP, PR over words", "truth_paths": "paths over words", "small_verdict": "six variables, defined",
+    "small": "the check over words", "small_export": "its own archive",
     "clausal": "RUP, RAT on clauses", "commands": "what stands next", "convert": "DRAT, text and binary", "tries": "a clause's step",
 }
-OPEN = {"checker", "nodes", "export", "refute", "refute_drat", "cases", "changes"}
+OPEN = {"checker", "nodes", "export", "small_export", "refute", "refute_drat", "cases", "changes"}
 WIDTH, HEIGHT, ACROSS, UP, TOP = 158, 44, 190, 78, 64
 SOLID, DASHED = "#444444", "#3b6fb5"
 

@@ -44,7 +44,8 @@ use Rattle.small_verdict.specs.Agrees.{Said, said}
 use Rattle.small.specs.WordSteps.{WordState, WordStep, onward, halt, wordsBegun, wordNode, wordWitness, wordLine, wordStrike, wordSet}
 use Rattle.small.specs.WordSteps.{wordEnd, wordStep, sayAt, wordRecords, formulaRefused, wordOfClause, wordClauses, wordsAfterHeader}
 use Rattle.small.specs.WordSteps.{wordVerdict}
-use Rattle.small.specs.Lent.{WordsLent, wordsLent, stateOf, madeStep, Held, Stepped, saidOf, saidFrom, Begins, smallOutcome}
+use Rattle.small.specs.Checked.{smallOutcome}
+use Rattle.small.specs.Lent.{WordsLent, wordsLent, stateOf, madeStep, Held, Stepped, saidOf, saidFrom, Begins}
 use Rattle.small.proofs.Runs.{words-agree}
 
 -- ---- every record

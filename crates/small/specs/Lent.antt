@@ -21,7 +21,6 @@ use Rattle.small.specs.declared.Start.{Start}
 use Rattle.small.specs.declared.Start.the-variants as start
 use Rattle.small.specs.declared.SmallChecked.{SmallChecked}
 use Rattle.small_verdict.specs.Agrees.{Said}
-use Rattle.small_verdict.specs.Small.{SmallOutcome}
 use Rattle.small.specs.WordSteps.{WordState, WordStep, onward, halt, withWord, wordsBegun, lineOf, wordJudged, wordLine}
 use Rattle.small.specs.WordSteps.{wordRecords, formulaRefused}
 
@@ -151,17 +150,3 @@ Tested ws step by (made.Word g) = (step ≡ wordJudged ws g (by g)) × (g ≢ on
 
 abbrev pub LineTested : WordState → Rule → ℕ → Made → Type 0
 LineTested ws rule root m = Tested ws (wordLine ws rule root) (lineOf ws rule) m
-
--- ---- the call
-
-abbrev pub smallOutcome : List ℕ → List ℕ → List ℕ → SmallChecked → SmallOutcome
-smallOutcome members struck scratch r = record {
-  number = r .number;
-  inProof = r .in_proof;
-  place = r .place;
-  lines = r .lines;
-  rounds = r .rounds;
-  members = members;
-  struck = struck;
-  scratch = scratch;
-}

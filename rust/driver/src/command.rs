@@ -149,12 +149,12 @@ fn number<T: std::str::FromStr>(word: &str) -> Option<T> {
     }
 }
 
-fn places(word: &str) -> Option<usize> {
+pub fn places(word: &str) -> Option<usize> {
     number(word).filter(|size| *size <= LARGEST)
 }
 
 /// Bytes in lower-case hex, `-` for none.
-fn bytes(word: &str) -> Option<Vec<u8>> {
+pub fn bytes(word: &str) -> Option<Vec<u8>> {
     if word == "-" {
         return Some(Vec::new());
     }
