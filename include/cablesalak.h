@@ -3,8 +3,9 @@
  * Link target/staticlib/libexport.a, which `rt staticlib export` writes once every function is proved. docs/LINKING.md has
  * the commands, docs/THEOREMS.md what is proved, crates/export/src/lib.rt the contracts that the words below render.
  *
- * Contents: results; single calls; the check (cablesalak_check_in, and two calls with fewer parameters); conversions of DRAT proofs; the
- * program's line; all lists in one struct (cablesalak_workspace: the short way to check and to report); the table as one list of records.
+ * Contents: results; single calls; the check (cablesalak_check_in, and two calls with fewer parameters); conversions of DRAT proofs;
+ * the program's line; the table as one list of records. cablesalak_workspace.h has all lists in one struct: the short way to check
+ * and to report.
  *
  * What is lent. The library allocates nothing and keeps nothing between calls: the caller lends every list as an address and
  * a length, counted in places, not bytes. An address is aligned for its type and not null, also where the length is 0. A
@@ -196,14 +197,15 @@ cablesalak_at_least_made cablesalak_at_least(
 enum cablesalak_form {
     /* Records (docs/FORMAT.md). 1 to 6 and 8 are the formula's. At most 4,096 entries in a line, and 4,096 paths of a path line. */
     CABLESALAK_RECORDS = 0,
-    /* DRAT text: clauses of literals separated as in the formula, each closed by 0, the first literal being the pivot; a `d` before a clause
-     * strikes out a member that is this clause; lines whose first byte is c are comments. An added clause is a line whose one entry is its
-     * diagram: it passes by RUP, or by PR with the witness that makes the pivot true and its other literals false. Of the proof's numbers 3
-     * and 4 are at the token, 0 and 20 at the text's length, all others at the first byte of the clause or of its `d`. */
+    /* DRAT text: clauses of literals separated as in the formula, each closed by 0, the first literal being the pivot; a `d` before
+     * a clause strikes out a member that is this clause; lines whose first byte is c are comments. An added clause is a line whose
+     * one entry is its diagram: it passes by RUP, or by PR with the witness that makes the pivot true and its other literals false.
+     * Of the proof's numbers 3 and 4 are at the token, 0 and 20 at the text's length, all others at the first byte of the clause or
+     * of its `d`. */
     CABLESALAK_DRAT_TEXT = 1,
-    /* Binary DRAT: the same clauses, opened by 61 (added) or 64 (struck out) and closed by a zero byte; variable v is 2 * v, its negation
-     * 2 * v + 1, in groups of seven bits, lowest first, the top bit set on all but the last. Of the proof's numbers 9 is at the byte, 31 and
-     * 4 at the literal, 0 and 20 at the proof's length, all others at the byte that opens the clause. */
+    /* Binary DRAT: the same clauses, opened by 61 (added) or 64 (struck out) and closed by a zero byte; variable v is 2 * v, its
+     * negation 2 * v + 1, in groups of seven bits, lowest first, the top bit set on all but the last. Of the proof's numbers 9 is at
+     * the byte, 31 and 4 at the literal, 0 and 20 at the proof's length, all others at the byte that opens the clause. */
     CABLESALAK_DRAT_BINARY = 2
 };
 
@@ -259,9 +261,9 @@ cablesalak_checked cablesalak_check_text(
 
 /* ---- Conversions of DRAT proofs.
  *
- * The result is put at the start of `out`, and zeros after it to its end. No clause is judged: both signs of a variable and repeats stay.
- * A refusal leaves `out` all zero. 7, that the result does not fit, comes last, with place 0. Twice the length of a text and four times that
- * of a binary proof are always room enough. */
+ * The result is put at the start of `out`, and zeros after it to its end. No clause is judged: both signs of a variable and repeats
+ * stay. A refusal leaves `out` all zero. 7, that the result does not fit, comes last, with place 0. Twice the length of a text and
+ * four times that of a binary proof are always room enough. */
 
 /* A DRAT text in binary, without its comments. Gives 0, 3, 4 (a variable above 64), 6, 7. */
 cablesalak_converted cablesalak_to_binary(const uint8_t *text, size_t text_length, uint8_t *out, size_t out_length);
@@ -302,79 +304,6 @@ cablesalak_told cablesalak_report_in(
     bool proof_read, const uint8_t *proof, size_t proof_length,
     uint8_t form, bool consequence,
     uint8_t line[CABLESALAK_LINE]);
-
-/* ---- All lists in one struct.
- *
- * A workspace lays the lists of a check, as short as they may be, into one piece of the caller's memory, static or allocated:
- *
- *     static uint16_t memory[CABLESALAK_WORDS(4096)];
- *     cablesalak_workspace work = cablesalak_workspace_in(memory, 4096);
- *     cablesalak_checked said = cablesalak_workspace_check(&work, formula, formula_length, proof, proof_length, CABLESALAK_RECORDS, false);
- *
- * What the memory holds before a check does not matter. */
-#define CABLESALAK_WORDS(places) \
-    (5 * (size_t)(places) + CABLESALAK_LEAST_MEMBERS + CABLESALAK_LEAST_SCRATCH + ((size_t)(places) + CABLESALAK_LEAST_MEMBERS + 1) / 2)
-
-typedef struct {
-    size_t places, count; /* of the table */
-    uint16_t *lows, *highs, *heads, *links;
-    uint16_t *members, *scratch;
-    uint8_t *vars, *struck;
-} cablesalak_workspace;
-
-/* The workspace of a table with so many places in CABLESALAK_WORDS(places) words. */
-static inline cablesalak_workspace cablesalak_workspace_in(uint16_t *memory, size_t places)
-{
-    cablesalak_workspace work;
-    work.places = places;
-    work.count = 2;
-    work.lows = memory;
-    work.highs = work.lows + places;
-    work.links = work.highs + places;
-    work.heads = work.links + CABLESALAK_LINKS(places);
-    work.members = work.heads + CABLESALAK_HEADS(places);
-    work.scratch = work.members + CABLESALAK_LEAST_MEMBERS;
-    work.vars = (uint8_t *)(work.scratch + CABLESALAK_LEAST_SCRATCH);
-    work.struck = work.vars + places;
-    return work;
-}
-
-/* The lists of a workspace's table as arguments of a single call: cablesalak_negation(CABLESALAK_TABLE(&work), work.count, f). */
-#define CABLESALAK_TABLE(work) \
-    (work)->vars, (work)->places, (work)->lows, (work)->places, (work)->highs, (work)->places, (work)->heads, \
-        CABLESALAK_HEADS((work)->places), (work)->links, CABLESALAK_LINKS((work)->places)
-
-/* Its member list, marks and scratch list as arguments. */
-#define CABLESALAK_LISTS(work) \
-    (work)->members, CABLESALAK_LEAST_MEMBERS, (work)->struck, CABLESALAK_LEAST_MEMBERS, (work)->scratch, CABLESALAK_LEAST_SCRATCH
-
-/* cablesalak_check_in over a workspace. */
-static inline cablesalak_checked cablesalak_workspace_check(
-    cablesalak_workspace *work,
-    const uint8_t *formula, size_t formula_length,
-    const uint8_t *proof, size_t proof_length,
-    enum cablesalak_form form, bool consequence)
-{
-    cablesalak_checked said = cablesalak_check_in(
-        CABLESALAK_TABLE(work), work->count, CABLESALAK_LISTS(work), formula, formula_length, proof, proof_length, (uint8_t)form,
-        consequence);
-    work->count = said.count;
-    return said;
-}
-
-/* cablesalak_report_in over a workspace. The line does not give the table's count: the table must not be used for single calls before the
- * next check. */
-static inline cablesalak_told cablesalak_workspace_report(
-    cablesalak_workspace *work,
-    bool formula_read, const uint8_t *formula, size_t formula_length,
-    bool proof_read, const uint8_t *proof, size_t proof_length,
-    enum cablesalak_form form, bool consequence,
-    uint8_t line[CABLESALAK_LINE])
-{
-    return cablesalak_report_in(
-        CABLESALAK_TABLE(work), CABLESALAK_LISTS(work), formula_read, formula, formula_length, proof_read, proof, proof_length,
-        (uint8_t)form, consequence, line);
-}
 
 /* ---- The table as one list of records. The first two calls are in target/staticlib/libnodes.a (`rt staticlib nodes`), the checks in
  * libnode_check.a (`rt staticlib node_check`); the archives can be linked together.

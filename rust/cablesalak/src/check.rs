@@ -96,8 +96,8 @@ impl Workspace {
         &mut self.table
     }
 
-    /// The members as the last check left them: the clauses in their order, then the accepted lines, struck out or not. There are none where
-    /// the formula was refused.
+    /// The members as the last check left them: the clauses in their order, then the accepted lines, struck out or not. There are
+    /// none where the formula was refused.
     pub fn members(&self) -> impl ExactSizeIterator<Item = NodeNo> + '_ {
         self.members[..self.member_count].iter().copied().map(NodeNo)
     }
@@ -117,8 +117,8 @@ impl Workspace {
         self.members().enumerate().filter(|(place, _)| self.struck[*place] == 0)
     }
 
-    /// Checks a proof of a formula, of the form and in the profile that the mode names. Refuted: no assignment satisfies the formula, whatever the
-    /// proof's bytes and whatever the workspace held before.
+    /// Checks a proof of a formula, of the form and in the profile that the mode names. Refuted: no assignment satisfies the
+    /// formula, whatever the proof's bytes and whatever the workspace held before.
     ///
     /// ```
     /// use cablesalak::{Mode, Number, Workspace};
@@ -182,7 +182,8 @@ pub fn check_text(workspace: &mut Workspace, formula: &[u8], proof: &[u8]) -> Ve
     workspace.check(Mode::TEXT, formula, proof)
 }
 
-/// The header's number of clauses, in a formula that the check has read: the fourth word of the first line that is neither blank nor a comment.
+/// The header's number of clauses, in a formula that the check has read: the fourth word of the first line that is neither blank
+/// nor a comment.
 fn clause_count(formula: &[u8]) -> usize {
     let mut lines = formula.split(|&byte| byte == b'\n').filter(|line| line.first() != Some(&b'c'));
     let header = lines.find(|line| !line.trim_ascii().is_empty()).unwrap_or_default();

@@ -39,8 +39,8 @@ pub fn to_binary(text: &[u8]) -> Result<Vec<u8>, NotConverted> {
     converted(raw::to_binary, text, 2)
 }
 
-/// A binary DRAT proof as text: single spaces, a clause a line. Text there and back is the text without comments and with single spaces; binary
-/// there and back is the same bytes.
+/// A binary DRAT proof as text: single spaces, a clause a line. Text there and back is the text without comments and with single
+/// spaces; binary there and back is the same bytes.
 pub fn to_text(binary: &[u8]) -> Result<Vec<u8>, NotConverted> {
     // -63 is one byte in binary and four in text, its space with it; nothing grows more.
     converted(raw::to_text, binary, 4)

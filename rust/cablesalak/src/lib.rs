@@ -25,13 +25,13 @@
 //! # Ok::<(), Number>(())
 //! ```
 //!
-//! [`Workspace::check`] takes proofs of every form, records, DRAT text and binary DRAT, in the consequence profile and outside it, as a [`Mode`]
-//! names them. [`to_binary`] and [`to_text`] convert DRAT proofs.
+//! [`Workspace::check`] takes proofs of every form, records, DRAT text and binary DRAT, in the consequence profile and outside
+//! it, as a [`Mode`] names them. [`to_binary`] and [`to_text`] convert DRAT proofs.
 //!
 //! # A program
 //!
-//! [`report`] gives the line that `bin/refute` prints of two files, and the status to end with; both are proved. [`Workspace::report`] does so
-//! for every mode, with a table of any size.
+//! [`report`] gives the line that `bin/refute` prints of two files, and the status to end with; both are proved.
+//! [`Workspace::report`] does so for every mode, with a table of any size.
 //!
 //! ```
 //! use cablesalak::report;
@@ -106,7 +106,8 @@ pub use raw::{Rows, RowsMut};
 pub use report::{report, Report, LONGEST};
 pub use table::Table;
 
-/// The library's version; the header's `CABLESALAK_VERSION` is the same. An archive whose calls are laid out in another way does not link.
+/// The library's version; the header's `CABLESALAK_VERSION` is the same. An archive whose calls are laid out in another way does
+/// not link.
 pub const VERSION: &str = env!("CARGO_PKG_VERSION");
 
 /// The examples of the page for those who link the library are run with the others.

@@ -25,8 +25,8 @@ pub enum Form {
 #[derive(Clone, Copy, Debug, Default, PartialEq, Eq, Hash)]
 pub struct Mode {
     pub form: Form,
-    /// The consequence profile: each accepted line is true under every assignment that satisfies the formula. A PR line is refused with 33, and
-    /// a DRAT clause has its first try alone.
+    /// The consequence profile: each accepted line is true under every assignment that satisfies the formula. A PR line is
+    /// refused with 33, and a DRAT clause has its first try alone.
     pub consequence: bool,
 }
 

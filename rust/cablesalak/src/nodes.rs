@@ -5,9 +5,9 @@ use crate::raw::{self, AtLeast, ListsMut, Rows, RowsMut};
 use crate::view::granted;
 use crate::{chain, Mode, NodeNo, Number, Variables, PLACES};
 
-/// A table over one list of rows of the caller's, 2 to 65,536, with the index that goes with it (twice as many heads, as many links) and the
-/// count. Its calls are those of [`TableMut`](crate::TableMut) of the same names. Each copies the rows into columns and back, which takes
-/// 320 KiB of stack more.
+/// A table over one list of rows of the caller's, 2 to 65,536, with the index that goes with it (twice as many heads, as many
+/// links) and the count. Its calls are those of [`TableMut`](crate::TableMut) of the same names. Each copies the rows into
+/// columns and back, which takes 320 KiB of stack more.
 ///
 /// ```
 /// use cablesalak::{ListsMut, Mode, Node, NodesMut, MEMBERS, SCRATCH};

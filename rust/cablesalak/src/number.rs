@@ -53,8 +53,8 @@ numbers! {
     /// A token behind the header, or of a DRAT text, is neither `0` nor an optional minus with digits that do not start with 0, nor a
     /// text's `d` before a clause. Lines whose first byte is `c` are comments, wherever they stand, and have no tokens.
     NotANumber = 3, "not a number";
-    /// A literal's variable, in the formula or in a DRAT proof, is greater than the header's number of variables; in a conversion, greater
-    /// than 64.
+    /// A literal's variable, in the formula or in a DRAT proof, is greater than the header's number of variables; in a
+    /// conversion, greater than 64.
     LiteralBeyondHeader = 4, "literal beyond the header";
     /// The formula has fewer clauses than the header names, or a token after the last one.
     ClauseCount = 5, "clauses too few or too many";
@@ -64,8 +64,8 @@ numbers! {
     WrongSize = 7, "a lent part of wrong size";
     /// A clause wants a new node and every place of the table is taken.
     FullAtClause = 8, "table full at a clause";
-    /// A record's first byte is none of `4E`, `58`, `4B`, `54`, `46`, `52`, `50`, `51`, `44`, `45`; a clause of a binary DRAT proof opens with
-    /// neither `61` nor `64`.
+    /// A record's first byte is none of `4E`, `58`, `4B`, `54`, `46`, `52`, `50`, `51`, `44`, `45`; a clause of a binary DRAT
+    /// proof opens with neither `61` nor `64`.
     UnknownKind = 9, "unknown kind";
     /// The proof ends within a record, or without an end record.
     CutShort = 10, "record cut short, or no end record";
@@ -85,8 +85,8 @@ numbers! {
     AlwaysTrue = 17, "line is always true";
     /// The PR line's diagram under its witness is not 1.
     WitnessFails = 18, "witness does not make the line 1";
-    /// Unit propagation meets no conflict, so that the line is not shown, a path line at one of its paths; a DRAT clause by neither of its
-    /// tries.
+    /// Unit propagation meets no conflict, so that the line is not shown, a path line at one of its paths; a DRAT clause by
+    /// neither of its tries.
     NotShown = 19, "not shown: no conflict";
     /// The proof ends and no accepted line was the diagram 0.
     NoZeroLine = 20, "end without a 0 line";

@@ -170,8 +170,8 @@ pub fn to_text(binary: &[u8], out: &mut [u8]) -> Converted {
     call!(cablesalak_to_text, ref binary, mut out,)
 }
 
-/// The program's line on two files, put at the start of `line`, and the status to end with: 0 for refuted alone, 2 where a file was not taken,
-/// 1 for every other refusal. `None` is a file that could not be read.
+/// The program's line on two files, put at the start of `line`, and the status to end with: 0 for refuted alone, 2 where a file
+/// was not taken, 1 for every other refusal. `None` is a file that could not be read.
 pub fn report(formula: Option<&[u8]>, proof: Option<&[u8]>, line: &mut [u8; LINE]) -> Told {
     let (first, second) = (formula.is_some(), proof.is_some());
     let (formula, proof) = (formula.unwrap_or_default(), proof.unwrap_or_default());

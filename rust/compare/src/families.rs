@@ -70,8 +70,8 @@ fn parity_clauses((variables, odd): &Parity) -> Vec<Vec<i32>> {
     (0..1 << variables.len()).filter(wrong).map(clause).collect()
 }
 
-/// Parity constraints by their clauses. The proof makes each of them a line, by steps or as one path line, and then sums them one by one; it may
-/// strike out what went into a sum once that stands, so that members do not pile up.
+/// Parity constraints by their clauses. The proof makes each of them a line, by steps or as one path line, and then sums them one
+/// by one; it may strike out what went into a sum once that stands, so that members do not pile up.
 pub fn parities(variables: usize, constraints: &[Parity], striking: bool, by_paths: bool) -> Problem {
     let clauses = constraints.iter().flat_map(parity_clauses).collect();
     let formula = Formula { variables, clauses };
@@ -82,7 +82,8 @@ pub fn parities(variables: usize, constraints: &[Parity], striking: bool, by_pat
         let first = next_clause;
         next_clause += parity_clauses(constraint).len();
         let lines = builder.members.len();
-        if !(by_paths && path_parity(&mut builder, constraint)) && !one_parity(&mut builder, constraint) {
+        let by_path = by_paths && path_parity(&mut builder, constraint);
+        if !by_path && !one_parity(&mut builder, constraint) {
             break;
         }
         served.extend((first..next_clause).chain(lines..builder.members.len()));
@@ -256,8 +257,8 @@ pub fn pure(random: &mut Random, clauses: usize, lines: usize) -> Problem {
     Problem { formula, builder }
 }
 
-/// A rule book of two contribution bands, facts 1 and 2: each band asks for a chain of facts, and both bands are asserted. The chains end in
-/// one fact, with both signs where no worker can be in both bands.
+/// A rule book of two contribution bands, facts 1 and 2: each band asks for a chain of facts, and both bands are asserted. The
+/// chains end in one fact, with both signs where no worker can be in both bands.
 pub fn rule_book(random: &mut Random, facts: usize, satisfiable: bool) -> Problem {
     let mut asked: Vec<i32> = (3..facts as i32).collect();
     random.shuffle(&mut asked);

@@ -243,8 +243,8 @@ fn over_set(random: &mut Random, writer: &mut Writer, variables: usize) {
     writer.line(0x52, root);
 }
 
-/// Path lines: a random diagram, which some path refuses with 19; one that the members imply; more paths than there may be, be it of an entry
-/// that does not exist, of the constant 1 or behind a witness.
+/// Path lines: a random diagram, which some path refuses with 19; one that the members imply; more paths than there may be, be it
+/// of an entry that does not exist, of the constant 1 or behind a witness.
 fn path_lines(random: &mut Random, writer: &mut Writer, problem: &Problem) {
     let variables = problem.formula.variables;
     let mut builder = problem.builder.clone();

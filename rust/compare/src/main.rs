@@ -1,10 +1,11 @@
 //! `compare [COUNT] [SEED] [--left COMMAND] [--right COMMAND] [--only WORD,WORD,..]`
 //!
-//! Asks two filters the same random commands, COUNT of them, and some again: checks in tables around their peak, checks of DRAT proofs in the
-//! other form, conversions back. Compares what they say of DRAT proofs with RUP and RAT over clauses, what they say in the other form with
-//! what they said (all but the place), and conversions byte by byte with its own. Says how often each number came; ends with status 1 and
-//! shows the command where the answers differ. The filters are `driver` and `reference` beside this program where none are named. A WORD is
-//! a single call, `check`, `drat`, `dratb`, `convert`, or `cons` before one of the checks.
+//! Asks two filters the same random commands, COUNT of them, and some again: checks in tables around their peak, checks of DRAT
+//! proofs in the other form, conversions back. Compares what they say of DRAT proofs with RUP and RAT over clauses, what they say
+//! in the other form with what they said (all but the place), and conversions byte by byte with its own. Says how often each
+//! number came; ends with status 1 and shows the command where the answers differ. The filters are `driver` and `reference`
+//! beside this program where none are named. A WORD is a single call, `check`, `drat`, `dratb`, `convert`, or `cons` before one
+//! of the checks.
 
 use compare::filter::Filter;
 use compare::random::Random;

@@ -37,7 +37,8 @@ pub fn strewn(random: &mut Random, problem: &Problem) -> Problem {
     Problem { formula: formula.clone(), builder: start }
 }
 
-/// A diagram with just so many paths to 0 over the variables from `first` on: a half of them on each side, down to a literal of variable 64.
+/// A diagram with just so many paths to 0 over the variables from `first` on: a half of them on each side, down to a literal of
+/// variable 64.
 pub fn with_paths(store: &mut Diagrams, first: u8, count: usize, positive: bool) -> Node {
     match count {
         0 => 1,
@@ -50,7 +51,8 @@ pub fn with_paths(store: &mut Diagrams, first: u8, count: usize, positive: bool)
     }
 }
 
-/// Path lines of many paths, at the limit of 4,096 and far above it. Members show every path at once, after some rounds, or not the last one.
+/// Path lines of many paths, at the limit of 4,096 and far above it. Members show every path at once, after some rounds, or not
+/// the last one.
 pub fn wide(random: &mut Random) -> Vec<String> {
     let edges = [2, 3, 100, 1_000, 2_048, MOST - 1, MOST, MOST, MOST + 1, MOST + 1, MOST + 2, 2 * MOST, 100_000];
     let paths = random.pick(&edges);

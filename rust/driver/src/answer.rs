@@ -88,7 +88,7 @@ fn check(asked: &Check, dirt: &mut Dirt) -> Answered {
     let seed = dirt.next();
     let mut parts = dirty_parts(asked, seed);
     // One call and the other in turn.
-    let said = judge(&mut parts, asked, &asked.proof, seed % 2 == 0);
+    let said = judge(&mut parts, asked, &asked.proof, seed & 1 == 0);
     expect(parts.table.guarded(), "written outside the table")?;
     expect(parts.members.guarded(), "written outside the member list")?;
     expect(parts.struck.guarded(), "written outside the marks")?;
@@ -123,7 +123,8 @@ fn dirty_parts(asked: &Check, seed: u64) -> Parts {
     }
 }
 
-/// The check by the call that takes a mode. Records and texts outside the profile have calls of their own besides, which `plainly` asks for.
+/// The check by the call that takes a mode. Records and texts outside the profile have calls of their own besides, which
+/// `plainly` asks for.
 fn judge(parts: &mut Parts, asked: &Check, proof: &[u8], plainly: bool) -> Checked {
     let Parts { table, members, struck, scratch } = parts;
     let lists = &mut ListsMut { members: members.lend(), struck: struck.lend(), scratch: scratch.lend() };
@@ -139,7 +140,8 @@ fn judge(parts: &mut Parts, asked: &Check, proof: &[u8], plainly: bool) -> Check
     raw::check_in(RawMode { form, consequence: asked.consequence }, table, LENT_COUNT, lists, formula, proof)
 }
 
-/// Which text the place must be in. 3, 4 and 6 are said of the formula and of a DRAT proof; of a formula that is fine an empty proof gets 20.
+/// Which text the place must be in. 3, 4 and 6 are said of the formula and of a DRAT proof; of a formula that is fine an empty
+/// proof gets 20.
 fn in_proof(asked: &Check, said: &Checked) -> bool {
     match said.number {
         3 | 4 | 6 if asked.form != Form::Records => judge(&mut dirty_parts(asked, 0), asked, b"", false).number == 20,
@@ -176,8 +178,8 @@ fn unchanged(parts: &Parts, before: &Parts) -> Result<(), String> {
     expect(parts.scratch.places() == before.scratch.places(), "7 changed the scratch list")
 }
 
-/// What every other number leaves: the index of the nodes; zeros past the count, past the members kept and their marks, and in the scratch
-/// list.
+/// What every other number leaves: the index of the nodes; zeros past the count, past the members kept and their marks, and in
+/// the scratch list.
 fn left(parts: &Parts, count: usize, kept: usize) -> Result<(), String> {
     let Parts { table, members, struck, scratch } = parts;
     expect(2 <= count && count <= table.size(), "the count is out of range")?;

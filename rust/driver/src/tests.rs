@@ -62,6 +62,7 @@ fn what_is_no_command() {
         "tobin -1 -",
         "totext 4 6",
         "totext 4 6A",
+        "totext 16777217 -",
     ];
     for line in lines {
         assert!(command::read(line).is_none(), "{line}");
@@ -87,7 +88,7 @@ fn what_is_a_command() {
         "cons dratb 0 0 0 - -",
         "tobin 0 -",
         "tobin 9 312030",
-        "totext 70000 610200",
+        "totext 16777216 610200",
     ];
     for line in lines {
         assert!(command::read(line).is_some(), "{line}");

@@ -1,6 +1,6 @@
 /* The calls that take a mode, the conversions and the workspace, from C: answers, and what every lent place holds. The version on
  * standard output. */
-#include "cablesalak.h"
+#include "cablesalak_workspace.h"
 #include <stdio.h>
 #include <stdlib.h>
 #include <string.h>

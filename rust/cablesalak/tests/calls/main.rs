@@ -5,6 +5,7 @@ mod checks;
 mod conversions;
 mod lent;
 mod modes;
+mod nodes;
 mod numbers;
 mod rows;
 mod singles;

@@ -1,5 +1,5 @@
-//! Path lines, the consequence profile and binary DRAT: rows by every call, over dirty lists. Numbers and places are document 02's; rounds,
-//! counts and peaks are as the reference checker, written apart, gives them.
+//! Path lines, the consequence profile and binary DRAT: rows by every call, over dirty lists. Numbers and places are document
+//! 02's; rounds, counts and peaks are as the reference checker, written apart, gives them.
 
 use crate::rows::{self, Row};
 use cablesalak::{Form, Mode, Number, Text, Variables, Workspace};
@@ -93,7 +93,8 @@ fn too_many_paths() {
     );
 }
 
-/// "2 and 4" has two paths: not-2, and 2 with not-4. Each makes nodes, which are dropped before the next: full within a path below 20 places.
+/// "2 and 4" has two paths: not-2, and 2 with not-4. Each makes nodes, which are dropped before the next: full within a path
+/// below 20 places.
 #[test]
 fn full_within_a_path() {
     let formula = b"p cnf 4 6\n1 2 3 0\n-1 2 3 0\n2 -3 0\n1 3 4 0\n-1 3 4 0\n-3 4 0\n";

@@ -1,4 +1,5 @@
-//! A row of a check's table by every call that can be asked: over dirty lists, over a list of rows, over a workspace that other rows have used.
+//! A row of a check's table by every call that can be asked: over dirty lists, over a list of rows, over a workspace that other
+//! rows have used.
 
 use crate::lent::Lists;
 use cablesalak::{check, check_text, Mode, NodeNo, Text, Variables, Verdict, Workspace};

@@ -1,5 +1,5 @@
-//! Every call fits a thread of 1.25 MiB, the report with a table of its own one of 1.375 MiB, those over a list of rows one of 320 KiB more; and
-//! threads may call at the same time.
+//! Every call fits a thread of 1.25 MiB, the report with a table of its own one of 1.375 MiB, those over a list of rows one of
+//! 320 KiB more; and threads may call at the same time.
 
 use crate::lent::Lists;
 use cablesalak::{check, check_text, report, to_binary, to_text, Mode, Node, NodeNo, Table, Variables, Workspace};
