@@ -30,7 +30,8 @@ use Rattle.verdict.specs.Run.{commandIn, CommandTaken, Reached, Refutation}
 use Rattle.verdict.specs.Satisfies.{clausesOf}
 use Rattle.verdict.specs.MetFirst.{metBy, sayMet}
 use Rattle.dimacs.specs.Texts.{bytes}
-use Rattle.verdict.specs.Cases.{Gives, GivesAll, over, rupLine, A-formula, A-proof, caseTable, numberTable, waitingTable, strikeTable, setTable}
+use Rattle.verdict.specs.Cases.{Gives, GivesAll, over, rupLine, A-formula, A-proof, caseTable, numberTable, waitingTable, strikeTable}
+use Rattle.verdict.specs.Cases.{setTable}
 use Rattle.verdict.specs.TextRows.{textTable}
 use Rattle.verdict.specs.PathRows.{pathTable, profileTable}
 use Rattle.verdict.proofs.Cases as Tables

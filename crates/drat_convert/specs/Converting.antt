@@ -41,7 +41,8 @@ conversionTo ToBinary file = toBinary 262144 file
 conversionTo ToText file = toText 262144 file
 conversionTo Unknown file = toText 262144 file
 
--- A file as the check's: 25 where it cannot be read, 24 with place 65,536 where it has more than 65,536 bytes. Else the line and the result.
+-- A file as the check's: 25 where it cannot be read, 24 with place 65,536 where it has more than 65,536 bytes. Else the line and the
+-- result.
 unfoldable pub writtenFor : Direction → Bool → List ℕ → List ℕ
 unfolding toBinary toText
 writtenFor direction isRead file =

@@ -9,7 +9,6 @@ use lib.ListN.{length, set, take, replicate, length-set}
 use lib.Seq.{take-suc-set, length-take-le}
 use lib.Dec.{eqb, ltb, leb}
 use borrow.Author.Tests.{leb-true, eqb-true, lt-leb, le-leb, eq-eqb, ne-eqb}
-use Rattle.meaning.specs.Operations as meaning
 use Rattle.meaning.proofs.Booleans.{and-both}
 use Rattle.words.specs.Sets.{literalsOf}
 use Rattle.dimacs.specs.declared.Header.{Header}

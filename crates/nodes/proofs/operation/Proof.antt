@@ -505,7 +505,10 @@ module _ {M : Type 1} (𝓤 : URA M) (H : Heap 𝓤) (A : Atoms 𝓤) (W : Given
               goes-none 𝓤 H A W 3 (λ _. usize) yes (λ κs x f. refl),
               (
                 goes-none 𝓤 H A W 3 (λ _. O.the-row) yes (λ κs x f. refl),
-                (goes-none 𝓤 H A W 3 (λ _. D.the-row) yes (λ κs x f. refl), (goes-none 𝓤 H A W 3 (λ _. D.the-row) yes (λ κs x f. refl), tt)),
+                (
+                  goes-none 𝓤 H A W 3 (λ _. D.the-row) yes (λ κs x f. refl),
+                  (goes-none 𝓤 H A W 3 (λ _. D.the-row) yes (λ κs x f. refl), tt),
+                ),
               ),
             ),
           ),

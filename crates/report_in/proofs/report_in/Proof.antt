@@ -1,5 +1,5 @@
 -- The line put and the status are those of the report over the lent table. By the callees' contracts alone. Assumes nothing.
-use mathlib.Core.Path.{_≡_, sym, ap, _∙_}
+use mathlib.Core.Path.{sym, ap, _∙_}
 use lib.ListN.{length}
 use borrow.Author.Needs.{needs}
 use Rattle.report.specs.declared.Line.{Line}

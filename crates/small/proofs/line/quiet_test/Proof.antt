@@ -4,7 +4,6 @@ use borrow.Author.Tests.{le-leb, lt-leb, eq-eqb, ne-eqb}
 use borrow.Author.Needs.{needs}
 use Rattle.small.proofs.line.quiet_test.Statement.{statement}
 use Rattle.small.proofs.line.quiet_test.Tie as tie
-use Rattle.small.proofs.line.quiet_test.Lts as lts
 
 waits-requires : tie.Need-waits-requires
 waits-requires c κs = search needs

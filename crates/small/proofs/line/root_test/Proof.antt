@@ -5,7 +5,6 @@ use Rattle.small.specs.Lent.{rootTest}
 use borrow.Author.Needs.{needs}
 use Rattle.small.proofs.line.root_test.Statement.{statement}
 use Rattle.small.proofs.line.root_test.Tie as tie
-use Rattle.small.proofs.line.root_test.Lts as lts
 
 enum-told : tie.Need-enum-told
 enum-told c = search needs

@@ -4,7 +4,6 @@ use borrow.Author.Tests.{le-leb, lt-leb, eq-eqb, ne-eqb}
 use borrow.Author.Needs.{needs}
 use Rattle.small.proofs.line.witness_test.Statement.{statement}
 use Rattle.small.proofs.line.witness_test.Tie as tie
-use Rattle.small.proofs.line.witness_test.Lts as lts
 
 returns : tie.Need-returns
 returns c = rw (le-leb _ _ (c .if1 .taken))
