@@ -18,7 +18,7 @@ WORDS = {
     "members": "members replaced", "unit_search": "first member with units", "touched": "members to change",
     "judge": "RUP and PR lines", "path_line": "path lines", "paths": "paths to 0, in order", "profile": "what the profile admits", "steps": "a record's step", "entries": "records that make entries", "formula": "makes the clauses",
     "replay": "command after command", "session": "the whole check", "checker": "calls with no requires",
-    "demands": "the demands' theorems", "order": "members in any order", "nodes": "over node structs", "report": "line and status",
+    "demands": "the demands' theorems", "exactness": "orders, counts, room", "order": "members in any order", "nodes": "over node structs", "report": "line and status",
     "export": "the archive for C, Rust", "program": "two files, one line", "refute": "the program, records", "refute_drat": "the program, DRAT", "rows": "an example's line",
     "cases": "runs 01's examples", "changes": "runs 02's examples",
     "sets": "parity, at least", "binomial": "C(n, k), stored",

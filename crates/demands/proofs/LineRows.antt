@@ -2,13 +2,13 @@
 -- are all 0, by induction
 -- on those taken so far. Assumes nothing.
 use mathlib.Core.Path.{_≡_, refl, sym, ap, _∙_, subst}
-use mathlib.Core.Bool.{Bool, true, false, not, cond}
+use mathlib.Core.Bool.{Bool, true, false, cond}
 use mathlib.Core.List.{List, [], _∷_, _++_, map}
 use Prim.Native.Nat.{ℕ, zero, suc, _+_, _-_, _*_, _≤_, _<_}
 use native.Mathlib.Decide.{ℕ-discrete}
 use native.Mathlib.Omega.{arith}
 use lib.ListN.{length, drop}
-use lib.Dec.{eqb, ltb, leb}
+use lib.Dec.{eqb, leb}
 use borrow.Author.Tests.{lt-ltb, le-ltb, le-leb}
 use Rattle.meaning.specs.Diagram.{Diagram, leaf, same, same?, valueFrom, diagramFrom}
 use Rattle.meaning.specs.Operations as meaning
@@ -25,7 +25,7 @@ use Rattle.records.specs.declared.Record.{Record}
 use Rattle.records.specs.declared.Record.the-variants.{Witness, ProofLine, CutShort}
 use Rattle.records.specs.Records.{lowByteFirst, recordIn, recordAt, lengthOf}
 use Rattle.commands.specs.Commands.{inRecords}
-use Rattle.verdict.specs.Steps.{State, emptied, begun, stop, isEntry, entryNode, assigned, waiting, withWitness, accepted, unstruck}
+use Rattle.verdict.specs.Steps.{State, emptied, begun, stop, isEntry, entryNode, waiting, withWitness, accepted, unstruck}
 use Rattle.verdict.specs.Steps.{lineStep, recordStep}
 use Rattle.verdict.specs.Check.{step}
 use Rattle.verdict.specs.Taken.{Meant, lineOf, peakWith, WitnessTaken, LineTaken, Taken}

@@ -6,7 +6,7 @@ use mathlib.Core.Logic.{_≢_, inl, inr}
 use mathlib.Core.Bool.{Bool, true, false, not, cond}
 use mathlib.Core.List.{List, [], _∷_}
 use mathlib.Core.Option.{Option, none, some}
-use Prim.Native.Nat.{ℕ, _+_, _≤_, max}
+use Prim.Native.Nat.{ℕ, _≤_, max}
 use native.Mathlib.Omega.{arith}
 use lib.ListN.{length}
 use Rattle.meaning.specs.Operations as meaning
@@ -21,7 +21,7 @@ use Rattle.records.specs.declared.Record.the-variants.{NodeEntry, Witness, Proo
 use Rattle.records.specs.declared.Record.the-variants.{NoRecord}
 use Rattle.commands.specs.declared.Mode.{Mode}
 use Rattle.commands.specs.Commands.{Command, recorded, added, struckOut, wrong, finished}
-use Rattle.verdict.specs.Steps.{State, Step, next, stop, spent, withEntry, entered, entryNode, accepted, judged, diagramIn, liveMembers}
+use Rattle.verdict.specs.Steps.{State, Step, next, stop, spent, withEntry, entered, entryNode, accepted, judged, liveMembers}
 use Rattle.verdict.specs.Steps.{setDiagram}
 use Rattle.verdict.specs.Clausal.{withPeak, judgedOr, secondLine, secondTry, afterFirst, tries, onceMade, firstSame}
 use Rattle.verdict.specs.Check.{step, Verdict, verdict}

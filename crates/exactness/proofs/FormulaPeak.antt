@@ -1,7 +1,7 @@
 -- The peak of a check whose formula is refused: the greatest count while the clauses were made. The idea: the clauses before the refusal
 -- are placed one after
 -- the other, and the one that finds no room is the last. Assumes nothing.
-use mathlib.Core.Path.{_≡_, refl, sym, ap, _∙_, subst}
+use mathlib.Core.Path.{_≡_, sym, ap, _∙_, subst}
 use mathlib.Core.Bool.{false}
 use mathlib.Core.List.{List, [], _∷_, _++_, map, append-nil}
 use Prim.Native.Nat.{ℕ}

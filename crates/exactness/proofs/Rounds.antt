@@ -1,7 +1,7 @@
 -- What a round of the check writes, at the header's n: the contract of `propagate::round` says it at 64 variables, and the two are the same
 -- in every round of
 -- every propagation of a line that the check judges. The idea: the members of a round have variables 1 to n alone. Assumes nothing.
-use mathlib.Core.Path.{_≡_, refl, sym, ap, _∙_, subst}
+use mathlib.Core.Path.{_≡_, refl, ap, _∙_, subst}
 use mathlib.Core.Logic.{_↔_}
 use mathlib.Core.Bool.{Bool, true, false, cond}
 use mathlib.Core.List.{List}

@@ -1,9 +1,9 @@
 -- The first member with units, and the cofactors by its units, are the same over more variables. Copied from meaning/proofs/Widths, where
 -- these laws are not
 -- open: to be dropped once they are (`firstWithUnit-width`, `byUnits-width`). Assumes nothing.
-use mathlib.Core.Path.{_≡_, refl, sym, ap, ap₂, _∙_}
+use mathlib.Core.Path.{_≡_, refl, sym, ap₂, _∙_}
 use mathlib.Core.Logic.{_≢_}
-use mathlib.Core.Bool.{Bool, true, false, _||_}
+use mathlib.Core.Bool.{true, false}
 use mathlib.Core.List.{List, [], _∷_}
 use Prim.Native.Nat.{ℕ, zero, suc, _+_, _-_, _≤_}
 use native.Mathlib.Omega.{arith}

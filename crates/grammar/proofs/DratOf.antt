@@ -2,8 +2,8 @@
 -- each answer of the
 -- reader is traced back to the bytes that it passed. Assumes nothing.
 use mathlib.Core.Path.{_≡_, refl, ap, ap₂, sym, subst, _∙_}
-use mathlib.Core.Logic.{_⊎_, inl, inr, _↔_}
-use mathlib.Core.Bool.{Bool, true, false, _&&_, cond}
+use mathlib.Core.Logic.{_↔_}
+use mathlib.Core.Bool.{Bool, true, false, _&&_}
 use mathlib.Core.List.{List, [], _∷_}
 use Prim.Native.Nat.{ℕ, suc, _+_, _-_, _≤_, _<_}
 use native.Mathlib.Omega.{arith}
@@ -19,10 +19,10 @@ use Rattle.dimacs.specs.Clauses.{Next, closed, ended, refused, clauseFrom}
 use Rattle.dimacs.proofs.Cases.{clash}
 use Rattle.commands.specs.declared.Form.the-variants.{Text}
 use Rattle.commands.specs.Commands.{Command, recorded, added, struckOut, wrong, finished, Read, reading, clauseRead, textRead, commandAt}
-use Rattle.grammar.specs.Parts.{Comment, comment, comments, Piece, gap, Parting, parting}
-use Rattle.grammar.specs.Formula.{Item, clause, literals, plain, lastComment, Within}
+use Rattle.grammar.specs.Parts.{comments, Piece, gap, Parting, parting}
+use Rattle.grammar.specs.Formula.{clause, plain, lastComment, Within}
 use Rattle.grammar.specs.DratText.{Entry, adds, strikes, entry, said, EntryWithin, Rest, end, entryThen, rest, restSaid, RestWithin}
-use Rattle.grammar.specs.DratText.{Proof, opens, empty, commentAlone, proof, proofSaid, ProofWithin, Drat, IsClause, ReadsFrom}
+use Rattle.grammar.specs.DratText.{opens, empty, commentAlone, Drat, IsClause, ReadsFrom}
 use Rattle.grammar.specs.DratText.{ReadsDrat}
 use Rattle.grammar.proofs.Places.{Stops, past-stops}
 use Rattle.grammar.proofs.Gaps.{Between, parts, last, Line, lines, lastLine, later, between-of, line-of-start}

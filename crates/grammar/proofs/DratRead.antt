@@ -2,20 +2,20 @@
 -- nothing.
 use mathlib.Core.Path.{_≡_, refl, ap, sym, subst, _∙_}
 use mathlib.Core.Bool.{Bool, true, false, _&&_}
-use mathlib.Core.List.{List, [], _∷_, _++_}
-use Prim.Native.Nat.{ℕ, suc, _+_, _-_, _≤_, _<_}
+use mathlib.Core.List.{List, [], _∷_}
+use Prim.Native.Nat.{ℕ, suc, _+_, _-_, _≤_}
 use native.Mathlib.Omega.{arith}
 use lib.ListN.{length, getD, drop}
-use lib.Dec.{eqb, ltb}
-use borrow.Author.Tests.{lt-ltb, le-ltb, eq-eqb, ne-eqb, not-true}
+use lib.Dec.{eqb}
+use borrow.Author.Tests.{lt-ltb, le-ltb, eq-eqb, ne-eqb}
 use Rattle.meaning.proofs.Booleans.{and-false}
-use Rattle.dimacs.specs.Text.{isParting, isToken, tokenEnd, between}
-use Rattle.dimacs.specs.Header.{spells, isWord}
-use Rattle.dimacs.specs.Clauses.{Next, closed, clauseFrom}
+use Rattle.dimacs.specs.Text.{isToken, tokenEnd, between}
+use Rattle.dimacs.specs.Header.{isWord}
+use Rattle.dimacs.specs.Clauses.{Next}
 use Rattle.commands.specs.declared.Form.the-variants.{Text}
-use Rattle.commands.specs.Commands.{Command, added, struckOut, finished, Read, reading, clauseRead, textRead, start, commandAt}
-use Rattle.grammar.specs.Parts.{Piece, gap, Parting, parting, Decimal, decimalThen, sign}
-use Rattle.grammar.specs.Formula.{Item, clause, literals, Ending, ending, Within}
+use Rattle.commands.specs.Commands.{Command, added, struckOut, finished, Read, reading, clauseRead, textRead, commandAt}
+use Rattle.grammar.specs.Parts.{Parting, parting, Decimal, decimalThen, sign}
+use Rattle.grammar.specs.Formula.{Item, clause}
 use Rattle.grammar.specs.DratText.{Entry, adds, strikes, entry, said, EntryWithin, Rest, end, entryThen, rest, restSaid, RestWithin}
 use Rattle.grammar.specs.DratText.{Proof, opens, empty, commentAlone, proof, proofSaid, ProofWithin, IsClause, ReadsFrom, ReadsDrat}
 use Rattle.grammar.proofs.Places.{Stops, outside, inside, byte, behind, past-length}

@@ -4,7 +4,6 @@
 use mathlib.Core.Path.{_≡_}
 use mathlib.Core.List.{List, [], _∷_}
 use Prim.Native.Nat.{ℕ}
-use Rattle.meaning.specs.Operations as meaning
 use Rattle.commands.specs.declared.Form.the-variants.{Text}
 use Rattle.commands.specs.Commands.{Command, recorded, added, struckOut, wrong, finished, start, commandAt}
 use Rattle.grammar.specs.Parts.{Comment, comment, comments, Piece, gap, Parting, parting}
