@@ -54,6 +54,7 @@ module _ (c : Columns) (count set k : ℕ) where
         values = λ a long. rw back (ap (λ (E : Diagram). value E a) (A .is) ∙ atLeast-value (inWord set) 64 k a long);
         counted = refl;
         excluded = λ e. rw e;
+        no-count = λ e. rw e;
       })
 
   refused-says : (number : ℕ) → number ≢ 0 → LeastSays c count set k (withCount (unchanged c count number) set k)

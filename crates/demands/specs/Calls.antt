@@ -70,6 +70,7 @@ pub record LeastAnswers (c : Columns) (count set k : ℕ) (o : Counted) : Type 0
       → valueAt (o .made .columns) (o .made .count) (o .made .node) a ≡ atLeastValue (inWord set) k a
   pub counted : o .counted ≡ leb (sizeOf 64 (inWord set)) 32
   pub excluded : o .counted ≡ true → o .excluded ≡ excludedBy 64 (inWord set) k
+  pub no-count : o .counted ≡ false → o .excluded ≡ 0
 
 -- "(no count for larger ones or with a refusal)"
 pub data LeastSays (c : Columns) (count set k : ℕ) (o : Counted) : Type 0 where

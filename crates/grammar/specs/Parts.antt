@@ -1,4 +1,5 @@
--- The parts of a DIMACS text as trees, with what each prints: every printer puts its part's bytes before the bytes r. (01, The formula)
+-- The parts of a DIMACS text as trees, with what each prints: every printer puts its part's bytes before the bytes r. (01, The formula) No
+-- call open to others cites this file.
 use mathlib.Core.Logic.{_≢_}
 use mathlib.Core.Bool.{Bool, true, false}
 use mathlib.Core.List.{List, [], _∷_, _++_}

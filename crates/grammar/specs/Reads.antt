@@ -1,4 +1,5 @@
--- What the reader makes of a text that it accepts: the header's variables, and the clauses in file order. (dimacs/specs)
+-- What the reader makes of a text that it accepts: the header's variables, and the clauses in file order. (dimacs/specs) No call open to
+-- others cites this file.
 use mathlib.Core.Path.{_≡_}
 use mathlib.Core.List.{List, [], _∷_}
 use Prim.Native.Nat.{ℕ}
