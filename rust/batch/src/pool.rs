@@ -17,7 +17,7 @@ use std::time::{Duration, Instant};
 /// How often the pool looks at what the workers wrote, and how often at the workers.
 const TICK: Duration = Duration::from_millis(4);
 const LOOK: Duration = Duration::from_millis(20);
-/// How many workers may be lost that were at no pair.
+/// How many workers may be lost one after another before any begins a pair.
 const MOST_IDLE: usize = 16;
 
 /// What came of a pair.
@@ -85,7 +85,7 @@ impl Drop for Worker {
 struct Round<'a> {
     pool: &'a Pool<'a>,
     told: &'a mut [bool],
-    /// How many workers were lost that were at no pair.
+    /// How many workers were lost at no pair since the last message.
     idle: usize,
     crew: Vec<Worker>,
     started: u32,
@@ -161,6 +161,7 @@ impl<'a> Round<'a> {
         match message {
             Message::Drained { .. } => worker.drained = true,
             Message::Turn { answered, begun, .. } => {
+                self.idle = 0;
                 worker.at = begun.map(|pair| (pair, Instant::now()));
                 if let Some((pair, answer)) = answered {
                     self.tell(pair, Outcome::Answered(answer), observer)?;
