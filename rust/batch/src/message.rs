@@ -6,45 +6,46 @@ use crate::sha256::Digest;
 
 #[derive(Clone, Copy, Debug, PartialEq, Eq)]
 pub enum Message {
-    Begun {
-        worker: u32,
-        pair: u32,
-    },
-    Answered {
-        worker: u32,
-        pair: u32,
-        answer: Answer,
-    },
+    /// What came of the pair that the worker was at, and the next one, which it begins; at the start and at the end one of the two.
+    Turn { worker: u32, answered: Option<(u32, Answer)>, begun: Option<u32> },
     /// The pool's own, after the worker has ended: everything that the worker wrote is read.
-    Drained {
-        worker: u32,
-    },
+    Drained { worker: u32 },
 }
 
-/// Fifteen words of eight bytes, then the two digests.
-const WORDS: usize = 15;
+/// Words of eight bytes, then the two digests.
+const WORDS: usize = 16;
+/// What a message has, as bits of its first word.
+const ANSWERED: u64 = 1;
+const BEGUN: u64 = 2;
+const DRAINED: u64 = 4;
 
 impl Message {
     pub const BYTES: usize = 8 * WORDS + 64;
 
     pub fn worker(&self) -> u32 {
-        let (Message::Begun { worker, .. } | Message::Answered { worker, .. } | Message::Drained { worker }) = self;
+        let (Message::Turn { worker, .. } | Message::Drained { worker }) = self;
         *worker
     }
 
     fn words(&self) -> [u64; WORDS] {
         let mut words = [0; WORDS];
-        match *self {
-            Message::Begun { worker, pair } => words[..3].copy_from_slice(&[0, worker.into(), pair.into()]),
-            Message::Drained { worker } => words[..2].copy_from_slice(&[2, worker.into()]),
-            Message::Answered { worker, pair, answer: a } => {
-                words[..3].copy_from_slice(&[1, worker.into(), pair.into()]);
-                let line = [a.number.into(), a.file as u64, a.place, a.lines, a.rounds, a.peak, a.nanoseconds];
-                words[3..10].copy_from_slice(&line);
-                words[10] = a.known.into();
-                for (two, source) in words[11..].chunks_exact_mut(2).zip([a.formula, a.proof]) {
-                    two.copy_from_slice(&[source.digest.is_some().into(), source.bytes]);
-                }
+        words[1] = self.worker().into();
+        let Message::Turn { answered, begun, .. } = *self else {
+            words[0] = DRAINED;
+            return words;
+        };
+        if let Some(pair) = begun {
+            words[0] |= BEGUN;
+            words[2] = pair.into();
+        }
+        if let Some((pair, a)) = answered {
+            words[0] |= ANSWERED;
+            words[3] = pair.into();
+            let line = [a.number.into(), a.file as u64, a.place, a.lines, a.rounds, a.peak, a.nanoseconds];
+            words[4..11].copy_from_slice(&line);
+            words[11] = a.known.into();
+            for (two, source) in words[12..].chunks_exact_mut(2).zip([a.formula, a.proof]) {
+                two.copy_from_slice(&[source.digest.is_some().into(), source.bytes]);
             }
         }
         words
@@ -55,7 +56,7 @@ impl Message {
         for (eight, word) in out.chunks_exact_mut(8).zip(self.words()) {
             eight.copy_from_slice(&word.to_le_bytes());
         }
-        if let Message::Answered { answer, .. } = self {
+        if let Message::Turn { answered: Some((_, answer)), .. } = self {
             let digests = out[8 * WORDS..].chunks_exact_mut(32);
             for (digest, source) in digests.zip([answer.formula, answer.proof]) {
                 digest.copy_from_slice(&source.digest.unwrap_or_default());
@@ -64,26 +65,26 @@ impl Message {
         out
     }
 
-    /// The message of so many bytes; a kind that no worker writes is read as `Drained`.
     pub fn unpacked(bytes: &[u8; Message::BYTES]) -> Message {
         let word = |at: usize| u64::from_le_bytes(bytes[8 * at..8 * at + 8].try_into().expect("eight bytes"));
-        let (worker, pair) = (word(1) as u32, word(2) as u32);
+        let worker = word(1) as u32;
+        if word(0) & DRAINED != 0 {
+            return Message::Drained { worker };
+        }
         let source = |number: usize| {
             let from = 8 * WORDS + 32 * number;
             let digest = Digest::try_from(&bytes[from..from + 32]).expect("32 bytes");
-            Source { digest: (word(11 + 2 * number) != 0).then_some(digest), bytes: word(12 + 2 * number) }
+            Source { digest: (word(12 + 2 * number) != 0).then_some(digest), bytes: word(13 + 2 * number) }
         };
-        match word(0) {
-            0 => Message::Begun { worker, pair },
-            1 => {
-                let file = [Place::Nowhere, Place::Formula, Place::Proof][word(4) as usize % 3];
-                let (number, place, lines, rounds, peak) = (word(3) as u8, word(5), word(6), word(7), word(8));
-                let (nanoseconds, known, formula, proof) = (word(9), word(10) != 0, source(0), source(1));
-                let answer = Answer { number, file, place, lines, rounds, peak, nanoseconds, formula, proof, known };
-                Message::Answered { worker, pair, answer }
-            }
-            _ => Message::Drained { worker },
-        }
+        let answer = || {
+            let file = [Place::Nowhere, Place::Formula, Place::Proof][word(5) as usize % 3];
+            let (number, place, lines, rounds, peak) = (word(4) as u8, word(6), word(7), word(8), word(9));
+            let (nanoseconds, known, formula, proof) = (word(10), word(11) != 0, source(0), source(1));
+            Answer { number, file, place, lines, rounds, peak, nanoseconds, formula, proof, known }
+        };
+        let answered = (word(0) & ANSWERED != 0).then(|| (word(3) as u32, answer()));
+        let begun = (word(0) & BEGUN != 0).then(|| word(2) as u32);
+        Message::Turn { worker, answered, begun }
     }
 }
 
@@ -108,14 +109,15 @@ mod tests {
             known: true,
         };
         let messages = [
-            Message::Begun { worker: 1, pair: u32::MAX },
-            Message::Answered { worker: 2, pair: 3, answer },
+            Message::Turn { worker: 1, answered: None, begun: Some(u32::MAX) },
+            Message::Turn { worker: 2, answered: Some((3, answer)), begun: Some(0) },
+            Message::Turn { worker: 3, answered: Some((3, Answer { formula: proof, ..answer })), begun: None },
             Message::Drained { worker: 4 },
         ];
         for message in messages {
             assert_eq!(Message::unpacked(&message.packed()), message);
         }
-        // POSIX promises that a pipe keeps writes of at most 512 bytes whole; a worker writes two messages at once.
-        const { assert!(2 * Message::BYTES <= 512) };
+        // POSIX promises that a pipe keeps writes of at most 512 bytes whole.
+        const { assert!(Message::BYTES <= 512) };
     }
 }

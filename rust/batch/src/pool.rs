@@ -14,10 +14,10 @@ use std::sync::mpsc::{self, Receiver, RecvTimeoutError};
 use std::thread;
 use std::time::{Duration, Instant};
 
-/// How often the pool looks at what the workers wrote, and how often at least at the workers.
+/// How often the pool looks at what the workers wrote, and how often at the workers.
 const TICK: Duration = Duration::from_millis(4);
-const LOOK: Duration = Duration::from_millis(50);
-/// How many workers may be lost that were at no pair.
+const LOOK: Duration = Duration::from_millis(20);
+/// How many workers may be lost one after another before any begins a pair.
 const MOST_IDLE: usize = 16;
 
 /// What came of a pair.
@@ -85,7 +85,7 @@ impl Drop for Worker {
 struct Round<'a> {
     pool: &'a Pool<'a>,
     told: &'a mut [bool],
-    /// How many workers were lost that were at no pair.
+    /// How many workers were lost at no pair since the last message.
     idle: usize,
     crew: Vec<Worker>,
     started: u32,
@@ -110,8 +110,11 @@ impl<'a> Round<'a> {
     }
 
     fn run(mut self, observer: &mut impl Observer) -> io::Result<usize> {
+        let mut looked = Instant::now();
         while !self.crew.is_empty() {
-            let said = match self.said.recv_timeout(LOOK) {
+            // A worker that is at no pair begins or ends.
+            let often = if self.crew.iter().any(|worker| worker.at.is_none()) { TICK } else { LOOK };
+            let said = match self.said.recv_timeout(often) {
                 Ok(said) => said,
                 Err(RecvTimeoutError::Timeout) => Vec::new(),
                 Err(RecvTimeoutError::Disconnected) => return Err(io::ErrorKind::BrokenPipe.into()),
@@ -120,9 +123,12 @@ impl<'a> Round<'a> {
             for message in messages.iter().map(Message::unpacked) {
                 self.take(message, observer)?;
             }
-            self.look()?;
+            if looked.elapsed() >= often {
+                looked = Instant::now();
+                self.look()?;
+                observer.tick()?;
+            }
             self.replace(observer)?;
-            observer.tick()?;
         }
         Ok(self.idle)
     }
@@ -153,11 +159,13 @@ impl<'a> Round<'a> {
     fn take(&mut self, message: Message, observer: &mut impl Observer) -> io::Result<()> {
         let Some(worker) = self.crew.iter_mut().find(|worker| worker.number == message.worker()) else { return Ok(()) };
         match message {
-            Message::Begun { pair, .. } => worker.at = Some((pair, Instant::now())),
             Message::Drained { .. } => worker.drained = true,
-            Message::Answered { pair, answer, .. } => {
-                worker.at = None;
-                self.tell(pair, Outcome::Answered(answer), observer)?;
+            Message::Turn { answered, begun, .. } => {
+                self.idle = 0;
+                worker.at = begun.map(|pair| (pair, Instant::now()));
+                if let Some((pair, answer)) = answered {
+                    self.tell(pair, Outcome::Answered(answer), observer)?;
+                }
             }
         }
         Ok(())
@@ -184,6 +192,9 @@ impl<'a> Round<'a> {
 
     /// Reports what came of the pairs of workers that ended, and starts others in their place.
     fn replace(&mut self, observer: &mut impl Observer) -> io::Result<()> {
+        if !self.crew.iter().any(|worker| worker.drained) {
+            return Ok(());
+        }
         let (gone, crew): (Vec<Worker>, Vec<Worker>) = self.crew.drain(..).partition(|worker| worker.drained);
         self.crew = crew;
         for worker in gone {

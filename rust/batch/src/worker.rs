@@ -74,18 +74,13 @@ fn check_all(start: Start, mut entries: Entries) -> io::Result<()> {
     let mut out = File::from(io::stdout().as_fd().try_clone_to_owned()?);
     let mut checker = Checker::new(start.settings).ok_or(io::ErrorKind::InvalidInput)?;
     let worker = start.worker;
-    let mut said = Vec::with_capacity(2 * Message::BYTES);
+    let mut answered = None;
     while let Some(task) = next(&mut tasks)? {
-        let pair = task.pair;
-        // What came of the last pair, and that this one is begun, are one write.
-        said.extend(Message::Begun { worker, pair }.packed());
-        out.write_all(&said)?;
-        said.clear();
-        let (asked, known) = entries.read(task)?;
-        let answer = checker.check(&asked, &known);
-        said.extend(Message::Answered { worker, pair, answer }.packed());
+        out.write_all(&Message::Turn { worker, answered, begun: Some(task.pair) }.packed())?;
+        let (pair, known) = entries.read(task)?;
+        answered = Some((task.pair, checker.check(&pair, &known)));
     }
-    out.write_all(&said)
+    out.write_all(&Message::Turn { worker, answered, begun: None }.packed())
 }
 
 /// The next task; none at the pipe's end.
