@@ -19,9 +19,9 @@ rupLines (suc k) rest = rupLine 0 (rupLines k rest)
 abbrev pub entriesRow : List ℕ → ℕ → Row
 entriesRow rest number = checked 4096 "p cnf 1 0\n" (nodeRecords 4096 rest) (prints number 24576 0 0 3)
 
--- What is printed where the proof is refused so many bytes after 1,024 lines.
+-- What is printed where the proof is refused at the place, after 1,024 lines.
 abbrev pub linesRow : List ℕ → ℕ → ℕ → Row
-linesRow rest number behind = checked 4096 "p cnf 1 1\n0\n" (rupLines 1024 rest) (prints number behind 1024 0 2)
+linesRow rest number place = checked 4096 "p cnf 1 1\n0\n" (rupLines 1024 rest) (prints number place 1024 0 2)
 
 -- "Node: 10, 21, 12, 13, 14, 23"; "after 10 and 21, a set bit beyond the header with 12, a parity byte above 1 with 29" (02, 5/14): 10
 -- before 21; 21 before 12 and 13; 21 before 12 and 29.

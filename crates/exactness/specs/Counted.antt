@@ -1,4 +1,4 @@
--- What a run counts, told by its lines and not by the state that counts them: the accepted lines, and "A line's rounds are the sum over its
+-- What a run counts, by its lines and not by the state that counts them: the accepted lines, and "A line's rounds are the sum over its
 -- propagations". (01, The rules; 02, 4/14: "the rounds are those of the try that passes") No call open to others cites this file.
 use mathlib.Core.Logic.{inl, inr}
 use mathlib.Core.Bool.{Bool, true, false}
