@@ -18,14 +18,16 @@ WORDS = {
     "members": "members replaced", "unit_search": "first member with units", "touched": "members to change",
     "judge": "RUP and PR lines", "path_line": "path lines", "paths": "paths to 0, in order", "profile": "what the profile admits", "steps": "a record's step", "entries": "records that make entries", "formula": "makes the clauses",
     "replay": "command after command", "session": "the whole check", "checker": "calls with no requires",
-    "demands": "the demands' theorems", "order": "members in any order", "nodes": "over node structs", "report": "line and status",
-    "export": "the archive for C, Rust", "program": "two files, one line", "refute": "the program, records", "refute_drat": "the program, DRAT", "rows": "an example's line",
+    "demands": "the demands' theorems", "order": "members in any order", "nodes": "single calls, node structs", "node_check": "the check, node structs", "report": "line and status",
+    "report_in": "in the caller's table",
+    "export": "the archive for C, Rust", "program": "two files, one line", "refute": "the program, records", "refute_drat": "the program, DRAT",
+    "refute_in": "the program, a mode", "drat_convert": "the converter", "rows": "an example's line",
     "cases": "runs 01's examples", "changes": "runs 02's examples",
     "sets": "parity, at least", "binomial": "C(n, k), stored",
     "clearing": "lists made all zero", "columns": "nodes to columns, back",
     "clausal": "RUP, RAT on clauses", "commands": "what stands next", "convert": "DRAT, text and binary", "tries": "a clause's step",
 }
-OPEN = {"checker", "nodes", "export", "refute", "refute_drat", "cases", "changes"}
+OPEN = {"checker", "nodes", "node_check", "export", "refute", "refute_drat", "refute_in", "drat_convert", "cases", "changes"}
 WIDTH, HEIGHT, ACROSS, UP, TOP = 158, 44, 190, 78, 64
 SOLID, DASHED = "#444444", "#3b6fb5"
 
