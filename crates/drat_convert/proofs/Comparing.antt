@@ -27,7 +27,8 @@ all-alike [] (y ∷ ys) e f = absurd (omega arith)
 all-alike (x ∷ xs) b e f = absurd (omega arith)
 
 drop-past : (a : List ℕ) (i : ℕ) → length a ≤ i → length (drop i a) ≡ 0
-drop-past [] i h = refl
+drop-past [] zero h = refl
+drop-past [] (suc i) h = refl
 drop-past (x ∷ xs) zero h = absurd (omega arith)
 drop-past (x ∷ xs) (suc i) h = drop-past xs i (omega arith)
 

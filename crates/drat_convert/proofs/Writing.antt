@@ -25,14 +25,14 @@ three-fields number place length f g h = put-then f (put-then g h)
 
 -- ---- the file's refusal
 
-pub unread : (d : Bool) (isRead : Bool) (file out : List ℕ) → isRead ≡ false → conversionLine 25 0 0 ++ take 0 out ≡ writtenFor d isRead file
+pub unread : (d : Bool) (isRead : Bool) (file : List ℕ) → isRead ≡ false → conversionLine 25 0 0 ++ [] ≡ writtenFor d isRead file
 unfolding writtenFor
-unread d isRead file out e = append-nil (conversionLine 25 0 0) ∙ rw e
+unread d isRead file e = append-nil (conversionLine 25 0 0) ∙ rw e
 
-pub too-long : (d : Bool) (isRead : Bool) (file out : List ℕ) → isRead ≡ true → 65536 < length file
-    → conversionLine 24 65536 0 ++ take 0 out ≡ writtenFor d isRead file
+pub too-long : (d : Bool) (isRead : Bool) (file : List ℕ) → isRead ≡ true → 65536 < length file
+    → conversionLine 24 65536 0 ++ [] ≡ writtenFor d isRead file
 unfolding writtenFor
-too-long d isRead file out e h = append-nil (conversionLine 24 65536 0) ∙ rw (e, lt-ltb 65536 (length file) h)
+too-long d isRead file e h = append-nil (conversionLine 24 65536 0) ∙ rw (e, lt-ltb 65536 (length file) h)
 
 -- ---- the conversion
 

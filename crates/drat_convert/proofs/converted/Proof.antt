@@ -7,10 +7,10 @@ use Rattle.drat_convert.proofs.converted.Statement.{statement}
 use Rattle.drat_convert.proofs.converted.Tie as tie
 
 returns : tie.Need-returns
-returns c = (unread _ _ _ _ (not-true _ (c .if1 .taken)), omega arith)
+returns c = (unread _ _ _ (not-true _ (c .if1 .taken)), omega arith)
 
 returns-2 : tie.Need-returns-2
-returns-2 c = (too-long _ _ _ _ (not-false _ (c .before .if1 .left)) (c .if2 .taken), omega arith)
+returns-2 c = (too-long _ _ _ (not-false _ (c .before .if1 .left)) (c .if2 .taken), omega arith)
 
 to-binary-requires : tie.Need-to-binary-requires
 to-binary-requires c κs = search needs
