@@ -35,17 +35,15 @@ directionNamed word = cond (sameBytes word toBinaryWord) ToBinary (cond (sameByt
 abbrev pub conversionLine : ℕ → ℕ → ℕ → List ℕ
 conversionLine number place length = fieldText number 32 ++ (fieldText place 32 ++ fieldText length 10)
 
--- The conversion with room for 262,144 bytes, four times a file's most.
-abbrev pub conversionTo : Direction → List ℕ → Conversion
-conversionTo ToBinary file = toBinary 262144 file
-conversionTo ToText file = toText 262144 file
-conversionTo Unknown file = toText 262144 file
+-- The conversion, to binary or to text, with room for 262,144 bytes, four times a file's most.
+abbrev pub conversionTo : Bool → List ℕ → Conversion
+conversionTo binary file = cond binary (toBinary 262144 file) (toText 262144 file)
 
 -- A file as the check's: 25 where it cannot be read, 24 with place 65,536 where it has more than 65,536 bytes. Else the line and the
 -- result.
-unfoldable pub writtenFor : Direction → Bool → List ℕ → List ℕ
+unfoldable pub writtenFor : Bool → Bool → List ℕ → List ℕ
 unfolding toBinary toText
-writtenFor direction isRead file =
-    let c = conversionTo direction file in
+writtenFor binary isRead file =
+    let c = conversionTo binary file in
     let all = conversionLine (c .number) (c .place) (c .length) ++ take (c .length) (c .output) in
     ofFile (λ number place. conversionLine number place 0) isRead file all

@@ -51,10 +51,10 @@ fn direction_of(word: &[u8]) -> Direction
 }
 
 // The file's refusal, which leaves the output, else the conversion.
-fn converted(direction: Direction, read: bool, file: &[u8], out: &mut [u8]) -> Converted
+fn converted(binary: bool, read: bool, file: &[u8], out: &mut [u8]) -> Converted
     requires { ⌜ length (now out) ≡ 262144 ⌝ }
     ensures { λ r. ⌜ conversionLine (r .number) (r .place) (r .length) ++ take (r .length) (now (out .exit))
-        ≡ writtenFor direction read (now (file .entry)) ⌝ }
+        ≡ writtenFor binary read (now (file .entry)) ⌝ }
     ensures { λ r. ⌜ r .length ≤ 262144 ⌝ }
 {
     if !read {
@@ -71,11 +71,10 @@ fn converted(direction: Direction, read: bool, file: &[u8], out: &mut [u8]) -> C
             length: 0,
         };
     }
-    match direction {
-        Direction::ToBinary => convert::to_binary(file, out),
-        Direction::ToText => convert::to_text(file, out),
-        Direction::Unknown => convert::to_text(file, out),
+    if binary {
+        return convert::to_binary(file, out);
     }
+    convert::to_text(file, out)
 }
 
 // The line at the start of the array, and where it ends.
@@ -90,14 +89,8 @@ fn put_line(told: Converted, line: &mut [u8]) -> usize
 }
 
 // The writes to standard output. They are passed nothing but the definition's bytes for the file that was read: the caller has shown that.
-fn deliver<'a>(
-    line: &'a [u8],
-    result: &'a [u8],
-    direction: Direction,
-    read: bool,
-    file: &'a [u8],
-) -> bool
-    requires { ⌜ now line ++ now result ≡ writtenFor direction read (now file) ⌝ }
+fn deliver<'a>(line: &'a [u8], result: &'a [u8], binary: bool, read: bool, file: &'a [u8]) -> bool
+    requires { ⌜ now line ++ now result ≡ writtenFor binary read (now file) ⌝ }
 {
     if io::write_all(STDOUT_FILENO, line) {
         return io::write_all(STDOUT_FILENO, result);
@@ -105,29 +98,39 @@ fn deliver<'a>(
     false
 }
 
-// The file that the second argument names, converted in the direction that the first one names.
-fn answer<'a>(direction: Direction, f: Text, file: &'a [u8], out: &mut [u8]) -> bool
+// The line and the result for what was read: the second argument names the file.
+fn answer<'a>(binary: bool, f: Text, file: &'a [u8], out: &mut [u8]) -> bool
     requires { ⌜ (f .argument ≡ 2) × (length (now out) ≡ 262144) ⌝ }
 {
     let read = f.read;
-    let told = converted(direction, read, file, out);
+    let told = converted(binary, read, file, out);
     let mut line = [0u8; 63];
     let end = put_line(told, &mut line);
     let length = told.length;
-    deliver(&line[..end], &out[..length], direction, read, file)
+    deliver(&line[..end], &out[..length], binary, read, file)
 }
 
-fn start(given: Text, word: &[u8], file: &mut [u8], out: &mut [u8])
-    requires { ⌜ (given .argument ≡ 1) × (length (now out) ≡ 262144) ⌝ }
+// A buffer has one byte more than a file may have, so that a file that is too long fills more than 65,536 bytes of it.
+fn run(binary: bool, file: &mut [u8], out: &mut [u8]) -> bool
+    requires { ⌜ length (now out) ≡ 262144 ⌝ }
 {
-    let direction = direction_of(word);
-    if let Direction::Unknown = direction {
-        io::write_all(STDERR_FILENO, b"drat_convert to-binary|to-text FILE\n");
-        return;
-    }
     let f = program::read_argument(2, file);
     let length = f.length;
-    answer(direction, f, &file[..length], out);
+    answer(binary, f, &file[..length], out)
+}
+
+// The first argument names the direction.
+fn start(given: Text, word: &[u8], file: &mut [u8], out: &mut [u8]) -> bool
+    requires { ⌜ (given .argument ≡ 1) × (length (now out) ≡ 262144) ⌝ }
+{
+    match direction_of(word) {
+        Direction::ToBinary => run(true, file, out),
+        Direction::ToText => run(false, file, out),
+        Direction::Unknown => io::write_all(
+            STDERR_FILENO,
+            b"drat_convert to-binary|to-text FILE\n",
+        ),
+    }
 }
 
 fn main() {

@@ -17,23 +17,14 @@ pub record ReportOutcome : Type 0 where
   pub scratch : List ℕ
 
 abbrev pub reportOutcome : Columns → List ℕ → List ℕ → List ℕ → Line → ReportOutcome
-reportOutcome columns members struck scratch line = record {
-  line = line;
-  columns = columns;
-  members = members;
-  struck = struck;
-  scratch = scratch;
-}
+reportOutcome columns members struck scratch line =
+    record { line = line; columns = columns; members = members; struck = struck; scratch = scratch }
 
 -- "number, place, accepted lines, rounds" and the peak of the check, and what it leaves.
 abbrev pub ofCheck : CheckOutcome → ReportOutcome
-ofCheck o = record {
-  line = record { number = o .number; place = o .place; lines = o .lines; rounds = o .rounds; peak = o .peak };
-  columns = o .columns;
-  members = o .members;
-  struck = o .struck;
-  scratch = o .scratch;
-}
+ofCheck o =
+    let line : Line = record { number = o .number; place = o .place; lines = o .lines; rounds = o .rounds; peak = o .peak } in
+    reportOutcome (o .columns) (o .members) (o .struck) (o .scratch) line
 
 -- As the program's line, but of the check in the lent table: a file that is not taken (24, 25) changes nothing lent. The check empties the
 -- table, so that the count before it does not matter.
