@@ -38,7 +38,8 @@ module _ (s : List ℕ) where
   module _ (at b : ℕ) (r : List ℕ) (e : drop at s ≡ b ∷ r) where
     between-on : isParting b ≡ true → between s at ≡ between s (suc at)
     between-on p =
-        from-past (length s) at (suc at) (past-go isParting s at (inside s at b r e) (ap isParting (byte s at b r e) ∙ p) ∙ ap (past isParting s) (add-one at))
+        from-past (length s) at (suc at) (past-go isParting s at (inside s at b r e) (ap isParting (byte s at b r e) ∙ p)
+        ∙ ap (past isParting s) (add-one at))
 
     stays : isParting b ≡ false → past isParting s at ≡ at
     stays p = past-stop isParting s at (inside s at b r e) (ap isParting (byte s at b r e) ∙ p)
@@ -167,13 +168,15 @@ module _ (s : List ℕ) where
 
   pub data Between (at : ℕ) : Type 0 where
     parts : (g : List Piece) → drop at s ≡ gap g (drop (between s at) s) → Between at
-    last : (g : List Piece) (cs : List Comment) (c : Comment) → drop at s ≡ gap g (10 ∷ comments cs (comment c [])) → length s ≤ between s at → Between at
+    last : (g : List Piece) (cs : List Comment) (c : Comment) → drop at s ≡ gap g (10 ∷ comments cs (comment c [])) →
+        length s ≤ between s at → Between at
 
   -- The same where a line starts.
   pub data Line (at : ℕ) : Type 0 where
     lines : (ks : List Comment) (g : List Piece) → drop at s ≡ comments ks (gap g (drop (between s at) s)) → Line at
     lastLine : (ks : List Comment) (c : Comment) → drop at s ≡ comments ks (comment c []) → length s ≤ between s at → Line at
-    later : (ks : List Comment) (g : List Piece) (cs : List Comment) (c : Comment) → drop at s ≡ comments ks (gap g (10 ∷ comments cs (comment c [])))
+    later : (ks : List Comment) (g : List Piece) (cs : List Comment) (c : Comment) → drop at s
+        ≡ comments ks (gap g (10 ∷ comments cs (comment c [])))
         → length s ≤ between s at → Line at
 
   rests : (at : ℕ) → between s at ≡ at → Between at
@@ -191,7 +194,8 @@ module _ (s : List ℕ) where
 
     line-before : b ≡ 10 → Line (suc at) → Between at
     line-before q (lines ks g h) =
-        parts (newLine ks ∷ g) (rest ∙ ap₂ (λ (c : ℕ) (l : List ℕ). c ∷ l) q (h ∙ ap (λ (p : ℕ). comments ks (gap g (drop p s))) (sym same)))
+        parts (newLine ks ∷ g) (rest ∙ ap₂ (λ (c : ℕ) (l : List ℕ). c ∷ l) q
+        (h ∙ ap (λ (p : ℕ). comments ks (gap g (drop p s))) (sym same)))
     line-before q (lastLine ks c h k) = last [] ks c (rest ∙ ap₂ (λ (d : ℕ) (l : List ℕ). d ∷ l) q h) (omega arith)
     line-before q (later ks g cs c h k) = last (newLine ks ∷ g) cs c (rest ∙ ap₂ (λ (d : ℕ) (l : List ℕ). d ∷ l) q h) (omega arith)
 
@@ -213,7 +217,8 @@ module _ (s : List ℕ) where
   unfolding isComment
   inner at b r e n =
       let z : suc at - 1 ≡ at = omega arith in
-      let q : eqb (getD s (suc at - 1) 0) 10 ≡ false = ap (λ (k : ℕ). eqb (getD s k 0) 10) z ∙ ap (λ (c : ℕ). eqb c 10) (byte s at b r e) ∙ n in
+      let q : eqb (getD s (suc at - 1) 0) 10 ≡ false = ap (λ (k : ℕ). eqb (getD s k 0) 10) z ∙ ap (λ (c : ℕ). eqb c 10) (byte s at b r e)
+      ∙ n in
       rw (ne-eqb (suc at) 0 (λ w. absurd (omega arith)), q) (booleans.and-false (eqb (getD s (suc at) 0) 99))
 
   -- What is known of a place: what lies between, if no comment line starts there; and the same as at a line's start.
@@ -269,8 +274,10 @@ module _ (s : List ℕ) where
 
   known : (m at : ℕ) → length s ≤ at + m → Known at
   known zero at h =
-      let none : length s ≤ at = omega arith in
-      (λ n. rests at (between-rests at (past-end isParting s at none) n), starts at (rests at (between-rests at (past-end isParting s at none) (comment-not at none))))
+      let none : length s ≤ at = omega arith in (
+        λ n. rests at (between-rests at (past-end isParting s at none) n),
+        starts at (rests at (between-rests at (past-end isParting s at none) (comment-not at none))),
+      )
   known (suc m) at h =
       let here : isComment s at ≡ false → Between at = λ n. between-step at (known m (suc at) (omega arith)) n (drop at s) refl in
       (here, line-step at here (λ later lt. known m later (omega arith)))

@@ -1,5 +1,5 @@
--- DIMACS CNF: which texts say a formula, and which formula. (01, The formula; 02, 1/14) No call open to others cites this file: the theorems
--- on the reader do.
+-- DIMACS CNF: which texts say a formula, and which formula. (01, The formula; 02, 1/14) No call open to others cites this file: the
+-- theorems on the reader do.
 use mathlib.Core.Path.{_≡_}
 use mathlib.Core.List.{List, [], _∷_}
 use Prim.Native.Nat.{ℕ, _≤_}
