@@ -7,7 +7,6 @@ pub mod InOrder
 pub mod Refusals
 pub mod EndPasses
 pub mod FormulaPeak
-pub mod Widths
 pub mod Rounds
 pub mod Alike
 pub mod EnoughRoom

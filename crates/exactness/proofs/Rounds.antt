@@ -21,7 +21,7 @@ use Rattle.verdict.specs.Run.{Reached}
 use Rattle.verdict.proofs.Ends.{reached-standing}
 use Rattle.members.specs.Made.{differing}
 use Rattle.exactness.specs.Rounds.{RoundOf, first, later, Starts, of-rup, of-pr, of-path, writes}
-use Rattle.exactness.proofs.Widths.{firstWithUnit-width, byUnits-width}
+use Rattle.meaning.proofs.Widths.{firstWithUnit-width, byUnits-width}
 
 -- ---- the rounds are those of UnitProp
 
