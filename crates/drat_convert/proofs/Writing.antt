@@ -1,6 +1,6 @@
 -- What the converter writes, case by case: the file's refusal, or the conversion's line and result; and the result fits in its room.
 -- Assumes nothing.
-use mathlib.Core.Path.{_≡_, refl, sym, ap, _∙_, subst}
+use mathlib.Core.Path.{_≡_, sym, ap, _∙_, subst}
 use mathlib.Core.Bool.{Bool, true, false}
 use mathlib.Core.List.{List, [], _++_, append-nil}
 use Prim.Native.Nat.{ℕ, _≤_, _<_}
@@ -11,7 +11,8 @@ use borrow.Author.Tests.{lt-ltb, le-ltb, leb-true}
 use Rattle.convert.specs.declared.Converted.{Converted}
 use Rattle.meaning.specs.Operations.{Literal}
 use Rattle.commands.specs.declared.Form.the-variants.{Text, Binary}
-use Rattle.convert.specs.Convert.{Lines, linesOf, binaryLine, textLine, printed, Conversion, conversionOf, settled, convertedBy, toBinary, toText}
+use Rattle.convert.specs.Convert.{Lines, linesOf, binaryLine, textLine, printed, Conversion, conversionOf, settled, convertedBy, toBinary}
+use Rattle.convert.specs.Convert.{toText}
 use Rattle.report.specs.Line.{fieldText, Put}
 use Rattle.report.proofs.Digits.{by}
 use Rattle.report.proofs.Putting.{put-then}
@@ -19,7 +20,8 @@ use Rattle.drat_convert.specs.Converting.{conversionLine, conversionTo, 
 
 -- ---- the line
 
-pub three-fields : {xs ws bs es : List ℕ} {a b e : ℕ} (number place length : ℕ) → Put xs 0 (fieldText number 32) ws a → Put ws a (fieldText place 32) bs b
+pub three-fields : {xs ws bs es : List ℕ} {a b e : ℕ} (number place length : ℕ) → Put xs 0 (fieldText number 32) ws a →
+    Put ws a (fieldText place 32) bs b
     → Put bs b (fieldText length 10) es e → Put xs 0 (conversionLine number place length) es e
 three-fields number place length f g h = put-then f (put-then g h)
 

@@ -39,7 +39,8 @@ conversionLine number place length = fieldText number 32 ++ (fieldText place 32 
 abbrev pub conversionTo : Bool → List ℕ → Conversion
 conversionTo binary file = cond binary (toBinary 262144 file) (toText 262144 file)
 
--- A file as the check's: 25 where it cannot be read, 24 with place 65,536 where it has more than 65,536 bytes. Else the line and the result.
+-- A file as the check's: 25 where it cannot be read, 24 with place 65,536 where it has more than 65,536 bytes. Else the line and the
+-- result.
 unfoldable pub writtenFor : Bool → Bool → List ℕ → List ℕ
 unfolding toBinary toText
 writtenFor binary isRead file =

@@ -312,8 +312,8 @@ pub extern "C" fn cablesalak_report<'a>(
     report::report(mode, first, formula, second, proof, line)
 }
 
-// The same in the form and the profile that the caller names (form 0 is records, 1 a DRAT text, any other binary DRAT) and in a table of the
-// caller's. A file that is not taken changes nothing lent.
+// The same in the form and the profile that the caller names (form 0 is records, 1 a DRAT text, any other binary DRAT) and in a table of
+// the caller's. A file that is not taken changes nothing lent.
 #[no_mangle]
 pub extern "C" fn cablesalak_report_in<'a>(
     vars: &mut [u8],

@@ -9,7 +9,8 @@ use Rattle.commands.specs.declared.Mode.{Mode}
 use Rattle.verdict.specs.Check.{CheckOutcome, check}
 
 -- "The table has 2 to 65,536 places": 7 where the slice has more, and the arrays stay.
-unfoldable pub checkWithin : Mode → ℕ → List ℕ → List ℕ → List ℕ → List ℕ → List ℕ → ℕ → List ℕ → List ℕ → List ℕ → List ℕ → List ℕ → CheckOutcome
+unfoldable pub checkWithin : Mode → ℕ → List ℕ → List ℕ → List ℕ → List ℕ → List ℕ → ℕ → List ℕ → List ℕ → List ℕ → List ℕ
+    → List ℕ → CheckOutcome
 checkWithin mode n vars lows highs heads links count members struck scratch formula proof =
     let first = columnsMade (take n vars) (take n lows) (take n highs) heads links in
     let seven : CheckOutcome = record {

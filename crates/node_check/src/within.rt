@@ -30,7 +30,8 @@ pub fn check_within<'a>(
         let left = columnsMade (take n (now (vars .exit))) (take n (now (lows .exit))) (take n (now (highs .exit)))
         (now (heads .exit)) (now (links .exit)) in
         checkOutcome left (now (members .exit)) (now (struck .exit)) (now (scratch .exit)) r
-        ≡ checkWithin (inForm (formOf form) consequence) n (now (vars .entry)) (now (lows .entry)) (now (highs .entry)) (now (heads .entry)) (now (links .entry)) count
+        ≡ checkWithin (inForm (formOf form) consequence) n (now (vars .entry)) (now (lows .entry)) (now (highs .entry))
+        (now (heads .entry)) (now (links .entry)) count
         (now (members .entry)) (now (struck .entry)) (now (scratch .entry)) (now (formula .entry)) (now (proof .entry))) ⌝ }
 {
     if MOST < n {

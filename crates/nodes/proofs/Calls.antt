@@ -1,6 +1,6 @@
 -- Each call over the arrays, with the nodes loaded before and written back after, is the call over the slice's own columns: `whole` of
 -- columns/proofs/Whole, since columns of wrong size make each call say 7 and leave them. Assumes nothing.
-use mathlib.Core.Path.{_≡_, sym, ap, _∙_}
+use mathlib.Core.Path.{_≡_, ap, _∙_}
 use mathlib.Core.Bool.{false}
 use Prim.Native.Nat.{ℕ, _≤_}
 use native.Mathlib.Omega.{arith}

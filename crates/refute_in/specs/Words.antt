@@ -1,5 +1,5 @@
 -- The words that name a form and a profile on a command line. No call open to others cites this file: the word is the program's own.
-use mathlib.Core.Bool.{Bool, true, false, _&&_, cond}
+use mathlib.Core.Bool.{Bool, true, false, cond}
 use mathlib.Core.List.{List}
 use Prim.Native.Nat.{ℕ}
 use lib.ListN.{length, getD}

@@ -68,7 +68,8 @@ file-taken refuse true text rest l e =
     by (ltb 65536 (length text)) (λ t. absurd (let z : _≡_ {A = ℕ} 24 0 = sym (rw t) ∙ e in omega arith)) (λ u. (rw u, sym (rw u) ∙ e))
 
 -- Where the refusal's number is 0 both files are taken: what follows counts.
-pub files-taken : {A : Type 0} (refuse : ℕ → ℕ → A) (f p : Bool) (formula proof : List ℕ) (rest : A) → refusalOf f p formula proof .number ≡ 0
+pub files-taken : {A : Type 0} (refuse : ℕ → ℕ → A) (f p : Bool) (formula proof : List ℕ) (rest : A) → refusalOf f p formula proof .number
+    ≡ 0
     → ofFiles refuse f formula p proof rest ≡ rest
 unfolding ofFiles
 files-taken refuse f p formula proof rest e =
@@ -82,7 +83,8 @@ second-refused h false proof rest d = refl
 second-refused h true proof rest d = by (ltb 65536 (length proof)) (λ t. rw t) (λ u. absurd (d (rw u)))
 
 -- Else it is what a report of its own gives for it, whatever follows.
-pub files-refused : {A : Type 0} (h : Line → A) (f p : Bool) (formula proof : List ℕ) (rest : A) → (refusalOf f p formula proof .number ≡ 0 → ⊥)
+pub files-refused : {A : Type 0} (h : Line → A) (f p : Bool) (formula proof : List ℕ) (rest : A) →
+    (refusalOf f p formula proof .number ≡ 0 → ⊥)
     → ofFiles (λ n o. h (fileRefused n o)) f formula p proof rest ≡ h (refusalOf f p formula proof)
 unfolding ofFiles
 files-refused h false p formula proof rest d = refl
@@ -108,7 +110,8 @@ pub said-refuted : (mode : Mode) (f p : Bool) (formula proof : List ℕ) → sai
     → (readToEnd (dimacs.formula formula) ≡ true) × ((a : Assignment) → satisfies a (clausesOf (dimacs.formula formula)) ≡ false)
 unfolding said ofFiles
 said-refuted mode f p formula proof e =
-    refuted mode 4096 formula proof (file-zero p proof (ofVerdict (verdict mode 4096 formula proof)) (file-zero f formula (ofFile fileRefused p proof (ofVerdict (verdict mode 4096 formula proof))) e))
+    refuted mode 4096 formula proof (file-zero p proof (ofVerdict (verdict mode 4096 formula proof))
+    (file-zero f formula (ofFile fileRefused p proof (ofVerdict (verdict mode 4096 formula proof))) e))
 
 pub status-0 : (n : ℕ) → n ≡ 0 → 0 ≡ statusOf n
 status-0 n e = rw (eq-eqb n 0 e)

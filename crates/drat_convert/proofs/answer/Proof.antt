@@ -28,7 +28,8 @@ slice-aggregate-deliver-2 : tie.Need-slice-aggregate-deliver-2
 slice-aggregate-deliver-2 c = sym (length-take-le _ _ (search needs))
 
 deliver-requires : tie.Need-deliver-requires
-deliver-requires c κs = onto _ _ _ _ (c .before .before .before .put-line .ensures .0) (c .before .before .before .before .before .before .before .converted .ensures .0)
+deliver-requires c κs = onto _ _ _ _ (c .before .before .before .put-line .ensures .0)
+    (c .before .before .before .before .before .before .before .converted .ensures .0)
 
 same-length : tie.Need-same-length
 same-length c = search needs

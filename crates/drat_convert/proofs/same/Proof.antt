@@ -1,7 +1,6 @@
 -- Two texts are compared byte by byte: what is left to be compared is the same throughout. Assumes nothing.
 use mathlib.Core.Path.{_≡_, refl, _∙_, sym}
 use Prim.Native.Nat.{_-_, _≤_}
-use native.Mathlib.Omega.{arith}
 use lib.ListN.{length, drop}
 use borrow.Author.Needs.{needs}
 use Rattle.drat_convert.specs.Converting.{sameBytes}

@@ -1,6 +1,6 @@
 -- `node_check::cablesalak_check_nodes` meets its contract: a proof by hand, following its MIR. It passes on what it is lent to `cablesalak_check_nodes_in`, with form 0 and no profile (`Passing.antt`).
 -- Assumes nothing.
-use mathlib.Core.Path.{_≡_, refl}
+use mathlib.Core.Path.{refl}
 use Prim.Native.Nat.{ℕ, _<_, _^_}
 use mathlib.Core.List.{List, [], _∷_}
 use lib.ListN.{length}

@@ -7,7 +7,8 @@ use Rattle.report_in.proofs.line_in.Tie as tie
 -- The ways back, written by ways.py: TO-from-FROM leads from the place FROM of the code to the place TO before it.
 module _ (c : tie.After-slice-known16) where
   abbrev check-form-from-return-2 : tie.After-check-form
-  check-form-from-return-2 = c .before .before .before .before .before .before .before .before .before .before .before .before .before .before .before .before
+  check-form-from-return-2 = c .before .before .before .before .before .before .before .before .before .before .before .before .before
+      .before .before .before
 
   abbrev else1-from-return-2 : tie.Else1
   else1-from-return-2 = check-form-from-return-2 .before .before .before .before .before .before .before .before .before

@@ -1,5 +1,5 @@
 -- The line put and the status are those of the report over the lent table. By the callees' contracts alone. Assumes nothing.
-use mathlib.Core.Path.{_≡_, sym, ap, _∙_}
+use mathlib.Core.Path.{sym, ap, _∙_}
 use lib.ListN.{length}
 use borrow.Author.Needs.{needs}
 use Rattle.report.specs.declared.Line.{Line}
@@ -13,7 +13,8 @@ use Rattle.report_in.proofs.report_in.Tie as tie
 -- The ways back, written by ways.py: TO-from-FROM leads from the place FROM of the code to the place TO before it.
 module _ (c : tie.After-put-line) where
   abbrev line-in-from-return : tie.After-line-in
-  line-in-from-return = c .before .before .before .before .before .before .before .before .before .before .before .before .before .before .before .before .before .before .before
+  line-in-from-return = c .before .before .before .before .before .before .before .before .before .before .before .before .before .before
+      .before .before .before .before .before
 
 line-in-requires : tie.Need-line-in-requires
 line-in-requires c κs = search needs

@@ -105,7 +105,9 @@ returns-2 : tie.Need-returns-2
 returns-2 c =
     let start = start-from-return-2 c in
     let after-check = check-from-return-2 c in
-    check-first _ _ _ _ _ _ _ _ _ _ _ _ _ _ _ _ _ _ _ _ _ _ (omega (arith, else1-from-return-2 c .if1 .left)) (start .pre) (after-check .check-form .kept .0) (after-check .check-form .kept .1 .0) (after-check .check-form .kept .1 .1 .0) (after-check .check-form .ensures .0)
+    check-first _ _ _ _ _ _ _ _ _ _ _ _ _ _ _ _ _ _ _ _ _ _ (omega (arith, else1-from-return-2 c .if1 .left)) (start .pre)
+    (after-check .check-form .kept .0) (after-check .check-form .kept .1 .0) (after-check .check-form .kept .1 .1 .0)
+    (after-check .check-form .ensures .0)
 
 pub check-within-spec : {M : Type 1} → statement M
 check-within-spec =
