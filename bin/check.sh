@@ -3,15 +3,16 @@
 . "$(dirname "$(readlink -f "${BASH_SOURCE[0]}")")/common.sh"
 
 usage() {
-    local options='[-q] [-s] [--consequence]' proof="records" binary=
+    local options='[-q] [-s] [--consequence | --twice]' proof="records" binary= twice="
+  --twice        check by truth table too, which must answer the same: at most six variables"
     if [ "$name" = refute-drat ]; then
-        options='[-q] [-s] [--binary] [--consequence]' proof="a DRAT text"
+        options='[-q] [-s] [--binary] [--consequence]' proof="a DRAT text" twice=
         binary="
   --binary       the proof is binary DRAT"
     fi
     echo "usage: $title $options FORMULA PROOF
   FORMULA  DIMACS CNF, at most 65,536 bytes    PROOF  $proof, at most 65,536 bytes$binary
-  --consequence  accept a line only if it follows from the formula: no PR line, no RAT clause
+  --consequence  accept a line only if it follows from the formula: no PR line, no RAT clause$twice
   -s             print 's VERIFIED' or 's NOT VERIFIED' after the line
   -q             no words beside the line
   --version      print what runs here; --help  print this
@@ -19,13 +20,14 @@ Prints 'number place lines rounds peak'. Number 0: refuted, no assignment satisf
 Status: 0 refuted, 1 refused, 2 a file was not taken, wrong use, --help or --version, 3 no line could be written."
 }
 
-consequence='' verified='' asked=
+consequence='' verified='' twice='' asked=
 while [ $# -gt 0 ]; do
     case $name:$1 in
     *:-q) quiet=1 ;;
     *:-s) verified=1 ;;
     *:--consequence) consequence=c ;;
     refute-drat:--binary) form=b ;;
+    refute:--twice) twice=1 ;;
     *:--version) asked=version ;;
     *:--help) usage; end 2 ;;
     *:--) shift; break ;;
@@ -34,7 +36,7 @@ while [ $# -gt 0 ]; do
     esac
     shift
 done
-[ $# -le 2 ] || { usage >&2 || true; end 2; }
+[ $# -le 2 ] && [ -z "$twice" -o -z "$consequence" ] || { usage >&2 || true; end 2; }
 
 # The program of the form and profile; the two that 01 and 02 name are programs of their own.
 case $form$consequence in
@@ -61,6 +63,23 @@ if ! [[ $line =~ ^([0-9]+)\ ([0-9]+)(\ [0-9]+){3}$ ]]; then
     exit
 fi
 number=${BASH_REMATCH[1]} place=${BASH_REMATCH[2]}
+
+# The second method: truth tables, no nodes. It has no table that could be full, so that 8 and 23 have no second opinion.
+if [ -n "$twice" ] && [[ $number != @(8|23|24|25) ]]; then
+    if [ ! -f "$1" ] || [ ! -f "$2" ]; then
+        tell "$title: --twice reads both files twice: they must be plain files"
+        end 2
+    fi
+    need_small
+    second=$("$small" "$1" "$2" 2>/dev/null) || true
+    if [[ $second == "2 "* && $number != 2 ]]; then
+        tell "$title: --twice is for formulas of at most six variables"
+        end 2
+    elif [ "$second" != "${line% *}" ]; then
+        tell "$title: the two methods disagree: '$line' over diagrams, '$second' by truth table"
+        exit
+    fi
+fi
 if [ -n "$verified" ]; then
     verified=$'\n''s NOT VERIFIED'
     [ "$number" != 0 ] || verified=$'\n''s VERIFIED'

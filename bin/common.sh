@@ -23,6 +23,11 @@ if [ -d "$here/programs" ]; then
         program=$programs/$1
     }
 
+    # need_small: the program of the check by truth table, `small`.
+    need_small() {
+        small=$programs/terminal
+    }
+
     identity() {
         cat "$here/identity"
     }
@@ -82,6 +87,22 @@ else
     need() {
         program=$programs/$1
         ensure "$1" "$program" build "$1"
+    }
+
+    # staticlib CRATE: the crate proved, and its archive for C and Rust. What rt says is told where it fails.
+    staticlib() {
+        local log=$root/target/$1.out
+        [ -n "$quiet" ] || tell "$title: proving and building the archive of $1"
+        (cd "$root" && rt staticlib "$1") >"$log" 2>&1 || { tail -n 20 "$log" >&2; tell "$title: not built; target/$1.out says why"; exit; }
+    }
+
+    # need_small: the program of the check by truth table, `small`: examples/c/terminal.c over its proved archive.
+    need_small() {
+        local archive=$root/target/staticlib/libsmall_export.a
+        ensure libsmall_export.a "$archive" staticlib small_export
+        small=$root/target/terminal
+        cc -std=c11 -O2 -I"$root/include" "$root/examples/c/terminal.c" "$archive" -o "$small.$$"
+        mv -f "$small.$$" "$small"
     }
 
     identity() {
