@@ -13,12 +13,13 @@ use Rattle.meaning.specs.Words.{inWord}
 use Rattle.table.specs.Nodes.{at, above}
 use Rattle.records.specs.declared.NodeBody.{NodeBody}
 use Rattle.records.specs.declared.Rule.{Rule}
-use Rattle.records.specs.declared.Rule.the-variants.{Rup, Pr}
+use Rattle.records.specs.declared.Rule.the-variants.{Rup, Pr, Path}
 use Rattle.records.specs.declared.Record.{Record}
 use Rattle.records.specs.declared.Record.the-variants.{NodeEntry, Witness, ProofLine, Strike, SetEntry, End}
 use Rattle.records.specs.declared.Record.the-variants.{CutShort, UnknownKind, NoRecord}
 use Rattle.clausal.specs.Drat.{has, without}
 use Rattle.clausal.specs.Tries.{makesTrue, makesFalse, witness}
+use Rattle.paths.specs.Paths.{paths, byPath, pathTurns}
 use Rattle.commands.specs.Commands.{Command, recorded, added, struckOut, wrong, finished}
 use Rattle.verdict.specs.Steps.{State, entryNode, diagramIn, unstruck, liveMembers, isLive}
 use Rattle.verdict.specs.Cases.{unitsTo}
@@ -108,6 +109,19 @@ unfoldable pub prCause : ℕ → (ℕ → Bool) → (ℕ → Bool) → State →
 unfolding negation unstruck unshown
 prCause n P N st g = unshown (length (st .members)) n P N (byDiagram n (negation n g) (liveMembers st)) st 0
 
+-- Of the paths listed the first that does not conflict: the literals fixed in its propagation, which is the last. (02, 12/14)
+unfoldable pub pathFails : ℕ → List Diagram → List (List Literal) → Cause
+unfolding pathTurns fixes has cofactorLiterals
+pathFails n ms [] = plain
+pathFails n ms (c ∷ cs) =
+    let here = fixed (fixes n (byPath n c ms)) none in
+    let later = pathFails n ms cs in cond (pathTurns n ms (c ∷ []) .shown) later here
+
+-- Of a path line g.
+unfoldable pub pathCause : ℕ → List Diagram → Diagram → Cause
+unfolding pathFails paths
+pathCause n ms g = pathFails n ms (paths g)
+
 -- ---- every command
 
 -- The cause where the number is the one wanted; else the number alone tells it.
@@ -115,7 +129,7 @@ abbrev pub only : ℕ → ℕ → Cause → Cause
 only wanted number c = cond (eqb number wanted) c plain
 
 unfoldable pub lineCause : ℕ → ℕ → State → Rule → Diagram → Cause
-unfolding rupCause prCause unstruck smallest inWord
+unfolding rupCause prCause pathCause unstruck smallest inWord
 lineCause n number st Rup g = let unit = rupCause n (liveMembers st) g in only 19 number unit
 lineCause n number st Pr g =
     let P = inWord (st .positive) in
@@ -123,6 +137,7 @@ lineCause n number st Pr g =
     let shut = assignment (smallest n P N g) in
     let failed = prCause n P N st g in
     cond (eqb number 18) shut (only 19 number failed)
+lineCause n number st Path g = let path = pathCause n (liveMembers st) g in only 19 number path
 
 unfoldable pub recordCause : ℕ → ℕ → State → Record → Cause
 unfolding variablesOf entryNode lineCause
@@ -136,18 +151,20 @@ recordCause n number st CutShort = plain
 recordCause n number st UnknownKind = plain
 recordCause n number st NoRecord = plain
 
--- An added clause is refused with 19 by its last try: the second, or the first of the empty clause, which has no other.
-unfoldable pub clauseCause : ℕ → State → List Literal → Cause
+-- An added clause is refused with 19 by its last try: the second, or the first, which the empty clause and a clause in the consequence
+-- profile have alone.
+unfoldable pub clauseCause : Bool → ℕ → State → List Literal → Cause
 unfolding rupCause prCause unstruck has without
-clauseCause n st [] = rupCause n (liveMembers st) (meaning.clause n [])
-clauseCause n st (p ∷ ls) =
+clauseCause true n st ls = rupCause n (liveMembers st) (meaning.clause n ls)
+clauseCause false n st [] = rupCause n (liveMembers st) (meaning.clause n [])
+clauseCause false n st (p ∷ ls) =
     let ω = witness p (p ∷ ls) in prCause n (makesTrue ω) (makesFalse ω) st (meaning.clause n (p ∷ ls))
 
 -- The true cause of a number that a command was refused with, in a formula of n variables and the state before the command.
-unfoldable pub cause : ℕ → ℕ → State → Command → Cause
+unfoldable pub cause : Bool → ℕ → ℕ → State → Command → Cause
 unfolding recordCause clauseCause
-cause n number st (recorded r more) = recordCause n number st r
-cause n number st (added ls) = let tried = clauseCause n st ls in only 19 number tried
-cause n number st (struckOut ls) = plain
-cause n number st (wrong k offset) = plain
-cause n number st finished = plain
+cause profile n number st (recorded r more) = recordCause n number st r
+cause profile n number st (added ls) = let tried = clauseCause profile n st ls in only 19 number tried
+cause profile n number st (struckOut ls) = plain
+cause profile n number st (wrong k offset) = plain
+cause profile n number st finished = plain

@@ -36,7 +36,7 @@ unfolding step
 commandsEnding zero mode n s proof st at = ended n st at
 commandsEnding (suc steps) mode n s proof st at =
     let r = commandAt (mode .form) proof n at in
-    endsAfter (step n s st (r .command)) (ended n st at) (λ st′. commandsEnding steps mode n s proof st′ (r .next))
+    endsAfter (step (mode .consequence) n s st (r .command)) (ended n st at) (λ st′. commandsEnding steps mode n s proof st′ (r .next))
 
 abbrev pub afterPlacing : Placing → (List Node → ℕ → Ending) → Ending
 afterPlacing (full t) rest = unread
@@ -73,7 +73,7 @@ explained number part cause = record { number = number; part = part; cause = cau
 -- The cause of a number, by where the proof ends.
 abbrev pub causeIn : Mode → ℕ → List ℕ → Ending → Cause
 causeIn mode number proof unread = plain
-causeIn mode number proof (ended n st at) = cause n number st (commandAt (mode .form) proof n at .command)
+causeIn mode number proof (ended n st at) = cause (mode .consequence) n number st (commandAt (mode .form) proof n at .command)
 
 -- "For a refused check a new call shows the offending piece [..] with the true cause. [..] It refuses with 30, showing an empty part, a
 -- check that did not refuse."

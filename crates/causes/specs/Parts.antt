@@ -1,9 +1,9 @@
 -- The piece of the formula or of the proof that is shown for a refused check: it starts at the check's place, and its end is told by the
 -- number and the bytes there. (02, 8/14)
-use mathlib.Core.Bool.{Bool, false, cond}
+use mathlib.Core.Bool.{Bool, false, _||_, cond}
 use mathlib.Core.List.{List, [], _∷_}
 use Prim.Native.Nat.{ℕ, _+_, _-_}
-use lib.ListN.{length}
+use lib.ListN.{length, drop}
 use lib.Dec.{eqb, ltb, leb}
 use Rattle.dimacs.specs.Text.{tokenEnd, lineEnd, past, between, betweenFrom}
 use Rattle.dimacs.specs.Header.{isWord}
@@ -11,8 +11,9 @@ use Rattle.dimacs.specs.Clauses.{Next, closed, ended, refused, clauseFrom}
 use Rattle.records.specs.declared.Record.{Record}
 use Rattle.records.specs.Records.{recordAt, lengthOf, numberOf}
 use Rattle.commands.specs.declared.Form.{Form}
-use Rattle.commands.specs.declared.Form.the-variants.{Records, Text}
+use Rattle.commands.specs.declared.Form.the-variants.{Records, Text, Binary}
 use Rattle.commands.specs.declared.Mode.{Mode}
+use Rattle.commands.specs.Commands.{Groups, cut, groups, groupsIn, binaryFrom}
 use Rattle.verdict.specs.Check.{Verdict}
 
 -- A part of the formula or of the proof: where it starts, and the place behind its last byte.
@@ -48,15 +49,29 @@ clauseEnd s at =
     let added = closedEnd s (clauseFrom s 64 (length s - at) at at) in
     cond (ltb at (length s)) (cond (isWord s at (100 ∷ [])) struck added) (length s)
 
+-- The end of the groups at a place, or of the bytes where they are cut.
+abbrev pub groupsEnd : List ℕ → ℕ → Groups → ℕ
+groupsEnd s at cut = length s
+groupsEnd s at (groups number many last) = at + many
+
+-- The end of the clause whose opening byte is at a place.
+unfoldable pub binaryEnd : List ℕ → ℕ → ℕ
+unfolding binaryFrom
+binaryEnd s at =
+    let clause = closedEnd s (binaryFrom s 64 (length s - (at + 1)) at (at + 1)) in cond (ltb at (length s)) clause (length s)
+
 -- The end of the piece that starts at a place of the proof. Records: "one byte for [..] 11". A text: 3 and 4 show the token; "a cut [..]
--- DRAT clause to the end, a closed DRAT clause to its 0".
+-- DRAT clause to the end, a closed DRAT clause to its 0". Binary DRAT: 4 and 31 show the literal's groups, 9 one byte. (02, 9/14)
 abbrev pub proofEnd : Form → ℕ → List ℕ → ℕ → ℕ
 proofEnd Records number s at = cond (eqb number 11) (at + 1) (recordEnd s at (recordAt s at))
 proofEnd Text number s at = let clause = clauseEnd s at in cond (leb number 4) (tokenEnd s at) clause
+proofEnd Binary number s at =
+    let literal = groupsEnd s at (groupsIn (drop at s)) in
+    let clause = binaryEnd s at in cond (eqb number 9) (at + 1) (cond (eqb number 4 || eqb number 31) literal clause)
 
 -- The piece that is shown for what a check says.
 unfoldable pub partOf : Mode → List ℕ → List ℕ → Verdict → Part
-unfolding past clauseEnd recordAt
+unfolding past clauseEnd recordAt binaryEnd groupsIn
 partOf mode formula proof v =
     let inFormula = formulaEnd (v .number) formula (v .place) in
     let inTheProof = proofEnd (mode .form) (v .number) proof (v .place) in

@@ -3,7 +3,7 @@
 use mathlib.Core.Path.{_≡_}
 use mathlib.Core.Logic.{_≢_, _⊎_}
 use mathlib.Core.Bool.{Bool, true, false, cond}
-use mathlib.Core.List.{List, [], _∷_}
+use mathlib.Core.List.{List, [], _∷_, _++_}
 use mathlib.Core.Option.{none, some}
 use Prim.Native.Nat.{ℕ, _+_, _^_, _≤_, _<_}
 use lib.ListN.{length, getD}
@@ -15,9 +15,10 @@ use Rattle.meaning.specs.Words.{inWord}
 use Rattle.table.specs.Nodes.{at, above}
 use Rattle.records.specs.declared.NodeBody.{NodeBody}
 use Rattle.records.specs.declared.EntryNo.{EntryNo}
-use Rattle.records.specs.declared.Rule.the-variants.{Rup, Pr}
+use Rattle.records.specs.declared.Rule.the-variants.{Rup, Pr, Path}
 use Rattle.records.specs.declared.Record.the-variants.{NodeEntry, ProofLine}
 use Rattle.clausal.specs.Tries.{makesTrue, makesFalse, witness}
+use Rattle.paths.specs.Paths.{paths, byPath, pathTurns}
 use Rattle.commands.specs.declared.Mode.{Mode}
 use Rattle.commands.specs.Commands.{Command, recorded, added}
 use Rattle.verdict.specs.Steps.{State, stop, spent, entryNode, diagramIn, liveMembers, isLive}
@@ -36,10 +37,10 @@ pub data EndsAt (mode : Mode) (s : ℕ) (text proof : List ℕ) : Verdict → En
   formula-refused : {number place peak : ℕ} → (1 ≤ number) × (number ≤ 8) → place ≤ length text
       → EndsAt mode s text proof (refusedFormula number place peak) unread
   proof-stopped : {n number offset at : ℕ} {st : State} {m : Meant}
-      → Reached mode s text proof n st at m → step n s st (commandIn mode proof n at) ≡ stop number offset
+      → Reached mode s text proof n st at m → step (mode .consequence) n s st (commandIn mode proof n at) ≡ stop number offset
       → EndsAt mode s text proof (left number (at + offset) (st .peak) st) (ended n st at)
   proof-spent : {n number peak at : ℕ} {st : State} {m : Meant}
-      → Reached mode s text proof n st at m → step n s st (commandIn mode proof n at) ≡ spent number peak
+      → Reached mode s text proof n st at m → step (mode .consequence) n s st (commandIn mode proof n at) ≡ spent number peak
       → EndsAt mode s text proof (left number at peak st) (ended n st at)
 
 -- ---- the piece
@@ -110,24 +111,35 @@ pub record PrFails (n : ℕ) (P N : ℕ → Bool) (st : State) (g : Diagram) (ro
   pub lowest : (j : ℕ) → j < i → isLive st j ≡ true
       → prTurns n P N (byDiagram n (negation n g) (liveMembers st)) (memberIn st j ∷ []) .shown ≡ true
 
+-- A path line fails at the path c: its propagation does not conflict, and every path before it is shown. (02, 12/14)
+pub record PathFails (n : ℕ) (st : State) (g : Diagram) (rounds : List (List Literal)) : Type 0 where
+  pub before : List (List Literal)
+  pub path : List Literal
+  pub after : List (List Literal)
+  pub of : paths g ≡ before ++ path ∷ after
+  pub fixes : Fixed n (byPath n path (liveMembers st)) rounds
+  pub shown : pathTurns n (liveMembers st) before .shown ≡ true
+
 -- ---- the cause
 
 -- What a cause says of the command that is refused with a number, in the state before it. Of a clause its last try.
-pub data Caused (n : ℕ) (st : State) : Command → ℕ → Cause → Type 0 where
-  not-before : {b : NodeBody} {more : Bool} {v w : ℕ} → Offends st b v w → Caused n st (recorded (NodeEntry b) more) 14 (variables v w)
+pub data Caused (profile : Bool) (n : ℕ) (st : State) : Command → ℕ → Cause → Type 0 where
+  not-before : {b : NodeBody} {more : Bool} {v w : ℕ} → Offends st b v w → Caused profile n st (recorded (NodeEntry b) more) 14 (variables v w)
   not-witnessed : {root : EntryNo} {more : Bool} {a : Assignment}
       → Smallest n (inWord (st .positive)) (inWord (st .negative)) (diagramIn st (entryNode st (root .0))) a
-      → Caused n st (recorded (ProofLine Pr root) more) 18 (assignment a)
+      → Caused profile n st (recorded (ProofLine Pr root) more) 18 (assignment a)
   rup-fails : {root : EntryNo} {more : Bool} {rounds : List (List Literal)} → RupFails n st (diagramIn st (entryNode st (root .0))) rounds
-      → Caused n st (recorded (ProofLine Rup root) more) 19 (fixed rounds none)
+      → Caused profile n st (recorded (ProofLine Rup root) more) 19 (fixed rounds none)
   pr-fails : {root : EntryNo} {more : Bool} {rounds : List (List Literal)} {i : ℕ}
       → PrFails n (inWord (st .positive)) (inWord (st .negative)) st (diagramIn st (entryNode st (root .0))) rounds i
-      → Caused n st (recorded (ProofLine Pr root) more) 19 (fixed rounds (some i))
-  empty-fails : {rounds : List (List Literal)} → RupFails n st (meaning.clause n []) rounds
-      → Caused n st (added []) 19 (fixed rounds none)
-  clause-fails : {p : Literal} {ls : List Literal} {rounds : List (List Literal)} {i : ℕ}
+      → Caused profile n st (recorded (ProofLine Pr root) more) 19 (fixed rounds (some i))
+  path-fails : {root : EntryNo} {more : Bool} {rounds : List (List Literal)} → PathFails n st (diagramIn st (entryNode st (root .0))) rounds
+      → Caused profile n st (recorded (ProofLine Path root) more) 19 (fixed rounds none)
+  first-try-fails : {ls : List Literal} {rounds : List (List Literal)} → (profile ≡ true) ⊎ (ls ≡ []) → RupFails n st (meaning.clause n ls) rounds
+      → Caused profile n st (added ls) 19 (fixed rounds none)
+  clause-fails : {p : Literal} {ls : List Literal} {rounds : List (List Literal)} {i : ℕ} → profile ≡ false
       → PrFails n (makesTrue (witness p (p ∷ ls))) (makesFalse (witness p (p ∷ ls))) st (meaning.clause n (p ∷ ls)) rounds i
-      → Caused n st (added (p ∷ ls)) 19 (fixed rounds (some i))
+      → Caused profile n st (added (p ∷ ls)) 19 (fixed rounds (some i))
 
 -- The command that is refused, in the state reached, and what the cause says of it.
 pub record TrueCause (mode : Mode) (s : ℕ) (text proof : List ℕ) (number : ℕ) (c : Cause) : Type 0 where
@@ -136,4 +148,4 @@ pub record TrueCause (mode : Mode) (s : ℕ) (text proof : List ℕ) (number : �
   pub place : ℕ
   pub meant : Meant
   pub reached : Reached mode s text proof n state place meant
-  pub caused : Caused n state (commandIn mode proof n place) number c
+  pub caused : Caused (mode .consequence) n state (commandIn mode proof n place) number c
