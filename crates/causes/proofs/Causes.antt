@@ -1,7 +1,7 @@
 -- The cause that is told of 14, 18 and 19 is what it is called. The idea: each number stands in the definition behind the test that tells its
 -- cause. Assumes nothing.
 use mathlib.Core.Path.{_≡_, refl, sym, ap, ap₂, _∙_, subst}
-use mathlib.Core.Logic.{_⊎_, inl, inr}
+use mathlib.Core.Logic.{_≢_, _⊎_, inl, inr}
 use mathlib.Core.Bool.{Bool, true, false, not, _&&_, _||_, cond}
 use mathlib.Core.List.{List, [], _∷_, map}
 use mathlib.Core.Option.{Option, none, some}
@@ -26,30 +26,32 @@ use Rattle.table.proofs.Placing.{After, Made, place-after}
 use Rattle.records.specs.declared.NodeBody.{NodeBody}
 use Rattle.records.specs.declared.EntryNo.{EntryNo}
 use Rattle.records.specs.declared.Rule.{Rule}
-use Rattle.records.specs.declared.Rule.the-variants.{Rup, Pr}
+use Rattle.records.specs.declared.Rule.the-variants.{Rup, Pr, Path}
 use Rattle.records.specs.declared.Record.{Record}
 use Rattle.records.specs.declared.Record.the-variants.{NodeEntry, Witness, ProofLine, Strike, SetEntry, End, CutShort, UnknownKind, NoRecord}
 use Rattle.clausal.specs.Tries.{makesTrue, makesFalse, witness}
 use Rattle.commands.specs.declared.Form.{Form}
-use Rattle.commands.specs.declared.Form.the-variants.{Records, Text}
+use Rattle.commands.specs.declared.Form.the-variants.{Records, Text, Binary}
 use Rattle.commands.specs.declared.Mode.{Mode}
 use Rattle.commands.specs.Commands.{Command, recorded, added, struckOut, wrong, finished}
 use Rattle.verdict.specs.Steps.{State, withEntry, Step, next, stop, spent, isEntry, entryNode, isVariable, entered, nodeStep, witnessStep, waiting, judged, diagramIn, unstruck, liveMembers, lineStep, isLive, strikeStep, beyond, noParity, setDiagram, setStep, endStep, recordStep}
-use Rattle.verdict.specs.Clausal.{withPeak, judgedOr, secondLine, secondTry, tries, onceMade, addStep, firstSame, strikeFound, strikeClause}
-use Rattle.verdict.specs.Check.{finish, step, Verdict, verdict}
+use Rattle.verdict.specs.Clausal.{withPeak, judgedOr, secondLine, secondTry, afterFirst, tries, onceMade, addStep, firstSame, strikeFound, strikeClause}
+use Rattle.verdict.specs.Check.{finish, shutOut, step, Verdict, verdict}
 use Rattle.verdict.specs.Taken.{Function, Meant, Valued, lineOf, peakWith}
 use Rattle.verdict.specs.Run.{commandIn, Reached}
 use Rattle.verdict.proofs.Live.{valued-unstruck}
 use Rattle.verdict.proofs.Standing.{Standing}
 use Rattle.verdict.proofs.Ends.{reached-standing, reached-fit}
-use Rattle.verdict.proofs.Commands.{Fit}
+use Rattle.verdict.proofs.Commands.{Fit, DratFit, Known, fit-known}
 use Rattle.causes.specs.Parts.{nothing, partOf}
-use Rattle.causes.specs.Causes.{Cause, plain, variables, assignment, fixed, offender, variablesOf, smallest, fixes, rupCause, prCause, lineCause, recordCause, clauseCause, only, cause}
+use Rattle.causes.specs.Causes.{Cause, plain, variables, assignment, fixed, offender, variablesOf, smallest, fixes, rupCause, prCause, pathCause, lineCause, recordCause, clauseCause, only, cause}
 use Rattle.causes.specs.Explanation.{Ending, unread, ended, ending, causeIn, Explanation, explained, explanation}
-use Rattle.causes.specs.Shows.{EndsAt, formula-refused, proof-stopped, proof-spent, Offends, Fixed, RupFails, Caused, not-before, not-witnessed, rup-fails, pr-fails, empty-fails, clause-fails, TrueCause}
+use Rattle.causes.specs.Shows.{EndsAt, formula-refused, proof-stopped, proof-spent, Offends, Fixed, RupFails, Caused, not-before, not-witnessed, rup-fails, pr-fails, first-try-fails, clause-fails, path-fails, TrueCause}
 use Rattle.causes.proofs.Fixes.{fixes-so}
 use Rattle.causes.proofs.Smallest.{smallest-so}
 use Rattle.causes.proofs.Turns.{pr-so}
+use Rattle.causes.proofs.PathFails.{path-so}
+use Rattle.paths.specs.Paths.{paths, pathLine, pathCount}
 use Rattle.causes.proofs.Ending.{ending-is}
 
 -- The numbers whose cause is told.
@@ -61,29 +63,39 @@ no-cause number small h =
     or-cases (eqb number 14) (eqb number 18 || eqb number 19) h (λ e. absurd (omega (arith, small, eqb-eq number 14 e)))
     (λ q. or-cases (eqb number 18) (eqb number 19) q (λ e. absurd (omega (arith, small, eqb-eq number 18 e))) (λ e. absurd (omega (arith, small, eqb-eq number 19 e))))
 
--- What is known of a step that refuses its command with such a number.
-abbrev Told : ℕ → State → Command → Step → Type 0
-Told n st c (next st′) = Unit {0}
-Told n st c (stop number offset) = hasCause number ≡ true → Caused n st c number (cause n number st c)
-Told n st c (spent number peak) = hasCause number ≡ true → Caused n st c number (cause n number st c)
+-- A fault of form has no such cause: it is at most 9, or 31.
+no-fault : {A : Type 0} (number : ℕ) → (number ≢ 31 → number ≤ 9) → hasCause number ≡ true → A
+no-fault number small h =
+    or-cases (eqb number 14) (eqb number 18 || eqb number 19) h (λ e. other 14 (omega arith) (omega arith) (eqb-eq number 14 e))
+    (λ q. or-cases (eqb number 18) (eqb number 19) q (λ e. other 18 (omega arith) (omega arith) (eqb-eq number 18 e))
+    (λ e. other 19 (omega arith) (omega arith) (eqb-eq number 19 e)))
+  where
+    other : {A : Type 0} (k : ℕ) → 9 < k → k < 31 → number ≡ k → A
+    other k least most e = absurd (omega (arith, small (λ q. omega (arith, most, e, q)), least, e))
 
-module _ (n : ℕ) (st : State) (c : Command) where
+-- What is known of a step that refuses its command with such a number.
+abbrev Told : Bool → ℕ → State → Command → Step → Type 0
+Told profile n st c (next st′) = Unit {0}
+Told profile n st c (stop number offset) = hasCause number ≡ true → Caused profile n st c number (cause profile n number st c)
+Told profile n st c (spent number peak) = hasCause number ≡ true → Caused profile n st c number (cause profile n number st c)
+
+module _ (profile : Bool) (n : ℕ) (st : State) (c : Command) where
   -- a test, and what is known on each of its sides
-  tests : (t : Bool) (x y : Step) → (t ≡ true → Told n st c x) → (t ≡ false → Told n st c y) → Told n st c (cond t x y)
+  tests : (t : Bool) (x y : Step) → (t ≡ true → Told profile n st c x) → (t ≡ false → Told profile n st c y) → Told profile n st c (cond t x y)
   tests true x y h k = h refl
   tests false x y h k = k refl
 
   -- a test that refuses with a number without such a cause
-  passes : (t : Bool) (number offset : ℕ) (y : Step) → hasCause number ≡ false → (t ≡ false → Told n st c y) → Told n st c (cond t (stop number offset) y)
+  passes : (t : Bool) (number offset : ℕ) (y : Step) → hasCause number ≡ false → (t ≡ false → Told profile n st c y) → Told profile n st c (cond t (stop number offset) y)
   passes t number offset y other k = tests t (stop number offset) y (λ _ h. t≢f (sym h ∙ other)) k
 
-  judged-told : (s g : ℕ) (st₁ : State) (line : Line) → (line .shown ≡ false → Caused n st c 19 (cause n 19 st c)) → Told n st c (judged s st₁ g line)
+  judged-told : (s g : ℕ) (st₁ : State) (line : Line) → (line .shown ≡ false → Caused profile n st c 19 (cause profile n 19 st c)) → Told profile n st c (judged s st₁ g line)
   unfolding judged
   judged-told s g st₁ line fails =
       tests (not (lineReach s (st₁ .nodes) line .fits)) _ _ (λ _ h. t≢f (sym h))
       (λ _. tests (not (line .shown)) _ _ (λ q _. fails (sym (not-not (line .shown)) ∙ ap not q)) (λ _. tt))
 
-  entered-told : (st₁ : State) (p : Placing) → Told n st c (entered st₁ p)
+  entered-told : (st₁ : State) (p : Placing) → Told profile n st c (entered st₁ p)
   unfolding entered
   entered-told st₁ (full t) = λ h. t≢f (sym h)
   entered-told st₁ (placed t k) = tt
@@ -119,17 +131,17 @@ offender-so st b e = go (above (st .nodes) (b .variable) l) (above (st .nodes) (
     go true false p q e = offends h q (inr refl) (λ f. t≢f (sym p ∙ f))
     go false y p q e = offends l p (inl refl) (λ _. refl)
 
-node-told : (n s : ℕ) (st : State) (more : Bool) (b : NodeBody) → Told n st (recorded (NodeEntry b) more) (nodeStep n s st b)
+node-told : (profile : Bool) (n s : ℕ) (st : State) (more : Bool) (b : NodeBody) → Told profile n st (recorded (NodeEntry b) more) (nodeStep n s st b)
 unfolding nodeStep cause recordCause variablesOf
-node-told n s st more b =
+node-told profile n s st more b =
     let c : Command = recorded (NodeEntry b) more in
     let l : ℕ = entryNode st (b .low .0) in
     let h : ℕ = entryNode st (b .high .0) in
-    passes n st c (leb 4096 (length (st .entries))) 21 0 _ refl
-    (λ _. passes n st c (not (isVariable n (b .variable))) 12 0 _ refl
-    (λ _. passes n st c (not (isEntry st (b .low .0) && isEntry st (b .high .0))) 13 0 _ refl
-    (λ _. tests n st c (not (above (st .nodes) (b .variable) l && above (st .nodes) (b .variable) h)) (stop 14 0) _ (λ q _. not-before (offender-so st b q))
-    (λ _. entered-told n st c st (put s (st .nodes) (b .variable) l h)))))
+    passes profile n st c (leb 4096 (length (st .entries))) 21 0 _ refl
+    (λ _. passes profile n st c (not (isVariable n (b .variable))) 12 0 _ refl
+    (λ _. passes profile n st c (not (isEntry st (b .low .0) && isEntry st (b .high .0))) 13 0 _ refl
+    (λ _. tests profile n st c (not (above (st .nodes) (b .variable) l && above (st .nodes) (b .variable) h)) (stop 14 0) _ (λ q _. not-before (offender-so st b q))
+    (λ _. entered-told profile n st c st (put s (st .nodes) (b .variable) l h)))))
 
 -- ---- lines
 
@@ -138,65 +150,78 @@ rup-so : (n : ℕ) (st : State) (g : Diagram) → rup n (liveMembers st) g .show
 unfolding rup
 rup-so n st g fails = fixes-so n (byDiagram n (negation n g) (liveMembers st)) (byDiagram-reduced n (negation n g) (liveMembers st)) fails
 
-module _ (n s : ℕ) (st : State) (marked : length (st .struck) ≡ length (st .members)) (more : Bool) (root : EntryNo) where
+module _ (profile : Bool) (n s : ℕ) (st : State) (marked : length (st .struck) ≡ length (st .members)) (more : Bool) (root : EntryNo) where
   abbrev g : ℕ
   g = entryNode st (root .0)
 
-  rup-told : Told n st (recorded (ProofLine Rup root) more) (lineStep n s st Rup (root .0))
+  rup-told : Told profile n st (recorded (ProofLine Rup root) more) (lineStep n s st Rup (root .0))
   unfolding lineStep cause recordCause lineCause rupCause
   rup-told =
       let c : Command = recorded (ProofLine Rup root) more in
-      passes n st c (not (isEntry st (root .0))) 13 0 _ refl
-      (λ _. passes n st c (waiting st) 16 0 _ refl
-      (λ _. passes n st c (leb 1024 (st .lines)) 22 0 _ refl
-      (λ _. passes n st c (eqb g 1) 17 0 _ refl
-      (λ _. judged-told n st c s g st (rup n (liveMembers st) (diagramIn st g)) (λ fails. rup-fails (rup-so n st (diagramIn st g) fails))))))
+      passes profile n st c (not (isEntry st (root .0))) 13 0 _ refl
+      (λ _. passes profile n st c (waiting st) 16 0 _ refl
+      (λ _. passes profile n st c (leb 1024 (st .lines)) 22 0 _ refl
+      (λ _. passes profile n st c (eqb g 1) 17 0 _ refl
+      (λ _. judged-told profile n st c s g st (rup n (liveMembers st) (diagramIn st g)) (λ fails. rup-fails (rup-so n st (diagramIn st g) fails))))))
 
-  pr-told : Told n st (recorded (ProofLine Pr root) more) (lineStep n s st Pr (root .0))
+  pr-told : Told profile n st (recorded (ProofLine Pr root) more) (lineStep n s st Pr (root .0))
   unfolding lineStep cause recordCause lineCause
   pr-told =
       let c : Command = recorded (ProofLine Pr root) more in
       let P : ℕ → Bool = inWord (st .positive) in
       let N : ℕ → Bool = inWord (st .negative) in
-      passes n st c (not (isEntry st (root .0))) 13 0 _ refl
-      (λ _. passes n st c (leb 1024 (st .lines)) 22 0 _ refl
-      (λ _. passes n st c (eqb g 1) 17 0 _ refl
-      (λ _. tests n st c (not (witnessed n P N (diagramIn st g))) (stop 18 0) _
+      passes profile n st c (not (isEntry st (root .0))) 13 0 _ refl
+      (λ _. passes profile n st c (leb 1024 (st .lines)) 22 0 _ refl
+      (λ _. passes profile n st c (eqb g 1) 17 0 _ refl
+      (λ _. tests profile n st c (not (witnessed n P N (diagramIn st g))) (stop 18 0) _
       (λ q _. not-witnessed (smallest-so n P N (diagramIn st g) (sym (not-not (witnessed n P N (diagramIn st g))) ∙ ap not q)))
-      (λ _. judged-told n st c s g st (pr n P N (liveMembers st) (diagramIn st g)) (λ fails.
-      let (rounds, i, is, so) = pr-so n P N st (diagramIn st g) marked fails in subst (Caused n st c 19) (sym is) (pr-fails so))))))
+      (λ _. judged-told profile n st c s g st (pr n P N (liveMembers st) (diagramIn st g)) (λ fails.
+      let (rounds, i, is, so) = pr-so n P N st (diagramIn st g) marked fails in subst (Caused profile n st c 19) (sym is) (pr-fails so))))))
+
+  path-told : Told profile n st (recorded (ProofLine Path root) more) (lineStep n s st Path (root .0))
+  unfolding lineStep pathLine cause recordCause lineCause pathCause
+  path-told =
+      let c : Command = recorded (ProofLine Path root) more in
+      passes profile n st c (not (isEntry st (root .0))) 13 0 _ refl
+      (λ _. passes profile n st c (waiting st) 16 0 _ refl
+      (λ _. passes profile n st c (leb 1024 (st .lines)) 22 0 _ refl
+      (λ _. passes profile n st c (eqb g 1) 17 0 _ refl
+      (λ _. passes profile n st c (ltb 4096 (pathCount (diagramIn st g))) 34 0 _ refl
+      (λ _. judged-told profile n st c s g st (pathLine n (liveMembers st) (diagramIn st g)) (λ fails.
+      let (rounds, is, so) = path-so n (liveMembers st) (paths (diagramIn st g)) fails in subst (Caused profile n st c 19) (sym is) (path-fails so)))))))
 
 -- ---- every record
 
-line-told : (n s : ℕ) (st : State) → length (st .struck) ≡ length (st .members) → (more : Bool) (rule : Rule) (root : EntryNo)
-    → Told n st (recorded (ProofLine rule root) more) (lineStep n s st rule (root .0))
-line-told n s st marked more Rup root = rup-told n s st marked more root
-line-told n s st marked more Pr root = pr-told n s st marked more root
+line-told : (profile : Bool) (n s : ℕ) (st : State) → length (st .struck) ≡ length (st .members) → (more : Bool) (rule : Rule) (root : EntryNo)
+    → Told profile n st (recorded (ProofLine rule root) more) (lineStep n s st rule (root .0))
+line-told profile n s st marked more Rup root = rup-told profile n s st marked more root
+line-told profile n s st marked more Pr root = pr-told profile n s st marked more root
+line-told profile n s st marked more Path root = path-told profile n s st marked more root
 
-record-told : (n s : ℕ) (st : State) → length (st .struck) ≡ length (st .members) → (more : Bool) (r : Record) → Told n st (recorded r more) (recordStep n s st more r)
+record-told : (profile : Bool) (n s : ℕ) (st : State) → length (st .struck) ≡ length (st .members) → (more : Bool) (r : Record) → Told profile n st (recorded r more) (recordStep n s st more r)
 unfolding recordStep witnessStep strikeStep setStep endStep
-record-told n s st marked more (NodeEntry b) = node-told n s st more b
-record-told n s st marked more (Witness v b) =
+record-told profile n s st marked more (NodeEntry b) = node-told profile n s st more b
+record-told profile n s st marked more (Witness v b) =
     let c : Command = recorded (Witness v b) more in
-    passes n st c (not (isVariable n v)) 12 0 _ refl (λ _. passes n st c (inWord (st .positive) v || inWord (st .negative) v) 15 0 _ refl (λ _. tt))
-record-told n s st marked more (ProofLine rule root) = line-told n s st marked more rule root
-record-told n s st marked more (Strike k) =
-    let c : Command = recorded (Strike k) more in passes n st c (waiting st) 16 0 _ refl (λ _. passes n st c (not (isLive st (k .0))) 28 0 _ refl (λ _. tt))
-record-told n s st marked more (SetEntry kind b) =
+    passes profile n st c (not (isVariable n v)) 12 0 _ refl (λ _. passes profile n st c (inWord (st .positive) v || inWord (st .negative) v) 15 0 _ refl (λ _. tt))
+record-told profile n s st marked more (ProofLine rule root) = line-told profile n s st marked more rule root
+record-told profile n s st marked more (Strike k) =
+    let c : Command = recorded (Strike k) more in passes profile n st c (waiting st) 16 0 _ refl (λ _. passes profile n st c (not (isLive st (k .0))) 28 0 _ refl (λ _. tt))
+record-told profile n s st marked more (SetEntry kind b) =
     let c : Command = recorded (SetEntry kind b) more in
-    passes n st c (leb 4096 (length (st .entries))) 21 0 _ refl
-    (λ _. passes n st c (beyond n (b .set)) 12 0 _ refl
-    (λ _. passes n st c (noParity kind (b .byte)) 29 0 _ refl (λ _. entered-told n st c st (place s (st .nodes) (setDiagram n kind b)))))
-record-told n s st marked more End =
+    passes profile n st c (leb 4096 (length (st .entries))) 21 0 _ refl
+    (λ _. passes profile n st c (beyond n (b .set)) 12 0 _ refl
+    (λ _. passes profile n st c (noParity kind (b .byte)) 29 0 _ refl (λ _. entered-told profile n st c st (place s (st .nodes) (setDiagram n kind b)))))
+record-told profile n s st marked more End =
     let c : Command = recorded End more in
-    passes n st c (waiting st) 16 0 _ refl (λ _. passes n st c more 11 1 _ refl (λ _. passes n st c (st .refuted) 0 0 _ refl (λ _ h. t≢f (sym h))))
-record-told n s st marked more CutShort = λ h. t≢f (sym h)
-record-told n s st marked more UnknownKind = λ h. t≢f (sym h)
-record-told n s st marked more NoRecord = λ h. t≢f (sym h)
+    passes profile n st c (waiting st) 16 0 _ refl (λ _. passes profile n st c more 11 1 _ refl (λ _. passes profile n st c (st .refuted) 0 0 _ refl (λ _ h. t≢f (sym h))))
+record-told profile n s st marked more CutShort = λ h. t≢f (sym h)
+record-told profile n s st marked more UnknownKind = λ h. t≢f (sym h)
+record-told profile n s st marked more NoRecord = λ h. t≢f (sym h)
 
 -- ---- clauses
 
-module _ {s n : ℕ} {m : Meant} {st : State} (S : Standing s n m st) (narrow : n ≤ 64) where
+module _ (profile : Bool) {s n : ℕ} {m : Meant} {st : State} (S : Standing s n m st) (narrow : n ≤ 64) where
   -- the live members keep their diagrams while a clause's is made
   live-same : (ls : List Literal) (t : List Node) (k : ℕ) → place s (st .nodes) (meaning.clause n ls) ≡ placed t k → liveMembers (withEntry st t k) ≡ liveMembers st
   live-same ls t k room =
@@ -214,70 +239,85 @@ module _ {s n : ℕ} {m : Meant} {st : State} (S : Standing s n m st) (narrow : 
 
   -- the tries of a clause in the state st₁ in which its diagram is made
   module _ (st₁ : State) (k : ℕ) (live : liveMembers st₁ ≡ liveMembers st) where
-    second-told : (ls : List Literal) → rup n (liveMembers st₁) (meaning.clause n ls) .shown ≡ false → (peak : ℕ) → Told n st (added ls) (secondTry n s st₁ k ls peak)
-    unfolding secondTry cause clauseCause rupCause
-    second-told [] fails peak = λ h. empty-fails (rup-so n st (meaning.clause n []) (subst (λ (ms : List Diagram). rup n ms (meaning.clause n []) .shown ≡ false) live fails))
-    second-told (p ∷ ls) fails peak =
+    first-fails : (ls : List Literal) → (profile ≡ true) ⊎ (ls ≡ []) → rup n (liveMembers st₁) (meaning.clause n ls) .shown ≡ false
+        → Caused profile n st (added ls) 19 (rupCause n (liveMembers st) (meaning.clause n ls))
+    unfolding rupCause
+    first-fails ls last fails =
+        first-try-fails last
+        (rup-so n st (meaning.clause n ls) (subst (λ (ms : List Diagram). rup n ms (meaning.clause n ls) .shown ≡ false) live fails))
+
+    second-told : (b : Bool) → profile ≡ b → (ls : List Literal) → rup n (liveMembers st₁) (meaning.clause n ls) .shown ≡ false → (peak : ℕ)
+        → Told b n st (added ls) (afterFirst b n s st₁ k ls peak)
+    unfolding afterFirst secondTry cause clauseCause
+    second-told true e ls fails peak = λ h. subst (λ (b : Bool). Caused b n st (added ls) 19 (rupCause n (liveMembers st) (meaning.clause n ls))) e (first-fails ls (inl e) fails)
+    second-told false e [] fails peak = λ h. subst (λ (b : Bool). Caused b n st (added []) 19 (rupCause n (liveMembers st) (meaning.clause n []))) e (first-fails [] (inr refl) fails)
+    second-told false e (p ∷ ls) fails peak =
         let P : ℕ → Bool = makesTrue (witness p (p ∷ ls)) in
         let N : ℕ → Bool = makesFalse (witness p (p ∷ ls)) in
-        judged-told n st (added (p ∷ ls)) s k (withPeak st₁ peak) (secondLine n (liveMembers st₁) p ls) (λ unshown.
+        judged-told false n st (added (p ∷ ls)) s k (withPeak st₁ peak) (secondLine n (liveMembers st₁) p ls) (λ unshown.
         let (rounds, i, is, so) = pr-so n P N st (meaning.clause n (p ∷ ls)) (S .marks) (subst (λ (ms : List Diagram). secondLine n ms p ls .shown ≡ false) live unshown) in
-        subst (Caused n st (added (p ∷ ls)) 19) (sym is) (clause-fails so))
+        subst (Caused false n st (added (p ∷ ls)) 19) (sym is) (clause-fails refl so))
 
-    tries-told : (ls : List Literal) → Told n st (added ls) (tries n s st₁ k ls)
+    tries-told : (ls : List Literal) → Told profile n st (added ls) (tries profile n s st₁ k ls)
     unfolding tries judgedOr
     tries-told ls =
         let c : Command = added ls in
         let first : Line = rup n (liveMembers st₁) (meaning.clause n ls) in
-        tests n st c (not (lineReach s (st₁ .nodes) first .fits)) _ _ (λ _ h. t≢f (sym h))
-        (λ _. tests n st c (not (first .shown)) _ _ (λ q. second-told ls (sym (not-not (first .shown)) ∙ ap not q) (peakWith s st₁ first)) (λ _. tt))
+        tests profile n st c (not (lineReach s (st₁ .nodes) first .fits)) _ _ (λ _ h. t≢f (sym h))
+        (λ _. tests profile n st c (not (first .shown)) _ _ (λ q. second-told profile refl ls (sym (not-not (first .shown)) ∙ ap not q) (peakWith s st₁ first)) (λ _. tt))
 
-  added-told : (ls : List Literal) → Told n st (added ls) (addStep n s st ls)
+  added-told : (ls : List Literal) → Told profile n st (added ls) (addStep profile n s st ls)
   unfolding addStep
   added-told ls =
       let c : Command = added ls in
-      passes n st c (leb 1024 (st .lines)) 22 0 _ refl
-      (λ _. passes n st c (same (meaning.clause n ls) (leaf true)) 17 0 _ refl (λ _. go (place s (st .nodes) (meaning.clause n ls)) refl))
+      passes profile n st c (leb 1024 (st .lines)) 22 0 _ refl
+      (λ _. passes profile n st c (same (meaning.clause n ls) (leaf true)) 17 0 _ refl (λ _. go (place s (st .nodes) (meaning.clause n ls)) refl))
     where
-      go : (p : Placing) → place s (st .nodes) (meaning.clause n ls) ≡ p → Told n st (added ls) (onceMade st p (λ st₁ k. tries n s st₁ k ls))
+      go : (p : Placing) → place s (st .nodes) (meaning.clause n ls) ≡ p → Told profile n st (added ls) (onceMade st p (λ st₁ k. tries profile n s st₁ k ls))
       go (full t) e = λ h. t≢f (sym h)
       go (placed t k) e = tries-told (withEntry st t k) k (live-same ls t k e) ls
 
-  struck-told : (ls : List Literal) → Told n st (struckOut ls) (strikeClause n st ls)
+  struck-told : (ls : List Literal) → Told profile n st (struckOut ls) (strikeClause n st ls)
   unfolding strikeClause
   struck-told ls = go (firstSame (length (st .members)) st 0 (meaning.clause n ls))
     where
-      go : (o : Option ℕ) → Told n st (struckOut ls) (strikeFound st o)
+      go : (o : Option ℕ) → Told profile n st (struckOut ls) (strikeFound st o)
       go none = λ h. t≢f (sym h)
       go (some i) = tt
 
-  step-told : (form : Form) (c : Command) → Fit form n c → Told n st c (step n s st c)
+  drat-told : (form : Form) (c : Command) → Known n c → DratFit form n c → Told profile n st c (step profile n s st c)
   unfolding step
-  step-told Records (recorded r more) fit = record-told n s st (S .marks) more r
+  drat-told form (recorded r more) known fit = absurd fit
+  drat-told form (added ls) known fit = added-told ls
+  drat-told form (struckOut ls) known fit = struck-told ls
+  drat-told form (wrong number offset) known fit = λ h. no-fault number (known .1) h
+  drat-told form finished known fit = passes profile n st finished (st .refuted) 0 0 (stop 20 0) refl (λ _ h. t≢f (sym h))
+
+  step-told : (form : Form) (c : Command) → Fit form n c → Told profile n st c (step profile n s st c)
+  unfolding step
+  step-told Records (recorded r more) fit =
+      passes profile n st (recorded r more) (shutOut profile r) 33 0 _ refl (λ _. record-told profile n s st (S .marks) more r)
   step-told Records (added ls) fit = absurd fit
   step-told Records (struckOut ls) fit = absurd fit
   step-told Records (wrong number offset) fit = absurd fit
   step-told Records finished fit = absurd fit
-  step-told Text (recorded r more) fit = absurd fit
-  step-told Text (added ls) fit = added-told ls
-  step-told Text (struckOut ls) fit = struck-told ls
-  step-told Text (wrong number offset) fit = λ h. no-cause number (omega (arith, fit .1)) h
-  step-told Text finished fit = passes n st finished (st .refuted) 0 0 (stop 20 0) refl (λ _ h. t≢f (sym h))
+  step-told Text c fit = drat-told Text c (fit-known Text n c fit) fit
+  step-told Binary c fit = drat-told Binary c (fit-known Binary n c fit) fit
 
 -- ---- the theorem
 
 module _ (mode : Mode) (s : ℕ) (text proof : List ℕ) where
-  told-at : (n at : ℕ) (st : State) (m : Meant) → Reached mode s text proof n st at m → Told n st (commandIn mode proof n at) (step n s st (commandIn mode proof n at))
-  told-at n at st m R = let (narrow, S) = reached-standing mode s text proof R in step-told S narrow (mode .form) (commandIn mode proof n at) (reached-fit mode s text proof R)
+  told-at : (n at : ℕ) (st : State) (m : Meant) → Reached mode s text proof n st at m → Told (mode .consequence) n st (commandIn mode proof n at) (step (mode .consequence) n s st (commandIn mode proof n at))
+  told-at n at st m R = let (narrow, S) = reached-standing mode s text proof R in step-told (mode .consequence) S narrow (mode .form) (commandIn mode proof n at) (reached-fit mode s text proof R)
 
-  told : (n number at : ℕ) (st : State) (m : Meant) → Reached mode s text proof n st at m → Caused n st (commandIn mode proof n at) number (cause n number st (commandIn mode proof n at))
-      → TrueCause mode s text proof number (cause n number st (commandIn mode proof n at))
+  told : (n number at : ℕ) (st : State) (m : Meant) → Reached mode s text proof n st at m → Caused (mode .consequence) n st (commandIn mode proof n at) number (cause (mode .consequence) n number st (commandIn mode proof n at))
+      → TrueCause mode s text proof number (cause (mode .consequence) n number st (commandIn mode proof n at))
   told n number at st m R so = record { n = n; state = st; place = at; meant = m; reached = R; caused = so }
 
   ends-so : (v : Verdict) (x : Ending) → EndsAt mode s text proof v x → hasCause (v .number) ≡ true → TrueCause mode s text proof (v .number) (causeIn mode (v .number) proof x)
   ends-so _ _ (formula-refused {number} k i) h = no-cause number (k .1) h
-  ends-so _ _ (proof-stopped {n} {number} {offset} {at} {st} {m} R e) h = told n number at st m R (subst (Told n st (commandIn mode proof n at)) e (told-at n at st m R) h)
-  ends-so _ _ (proof-spent {n} {number} {peak} {at} {st} {m} R e) h = told n number at st m R (subst (Told n st (commandIn mode proof n at)) e (told-at n at st m R) h)
+  ends-so _ _ (proof-stopped {n} {number} {offset} {at} {st} {m} R e) h = told n number at st m R (subst (Told (mode .consequence) n st (commandIn mode proof n at)) e (told-at n at st m R) h)
+  ends-so _ _ (proof-spent {n} {number} {peak} {at} {st} {m} R e) h = told n number at st m R (subst (Told (mode .consequence) n st (commandIn mode proof n at)) e (told-at n at st m R) h)
 
   -- THEOREM: the cause of 14, 18 or 19 is true of the command that is refused, in the state reached.
   pub cause-so : hasCause (explanation mode s text proof .number) ≡ true
@@ -298,17 +338,18 @@ module _ (mode : Mode) (s : ℕ) (text proof : List ℕ) where
 only-other : (wanted number : ℕ) (c : Cause) → eqb number wanted ≡ false → only wanted number c ≡ plain
 only-other wanted number c e = rw e
 
-pub cause-plain : (n number : ℕ) (st : State) (c : Command) → hasCause number ≡ false → cause n number st c ≡ plain
+pub cause-plain : (profile : Bool) (n number : ℕ) (st : State) (c : Command) → hasCause number ≡ false → cause profile n number st c ≡ plain
 unfolding cause recordCause lineCause
-cause-plain n number st c other =
+cause-plain profile n number st c other =
     let (a, rest) = or-neither (eqb number 14) (eqb number 18 || eqb number 19) other in
     let (b, d) = or-neither (eqb number 18) (eqb number 19) rest in go a b d c
   where
-    go : eqb number 14 ≡ false → eqb number 18 ≡ false → eqb number 19 ≡ false → (c : Command) → cause n number st c ≡ plain
+    go : eqb number 14 ≡ false → eqb number 18 ≡ false → eqb number 19 ≡ false → (c : Command) → cause profile n number st c ≡ plain
     go a b d (recorded (NodeEntry x) more) = only-other 14 number _ a
     go a b d (recorded (Witness v x) more) = refl
     go a b d (recorded (ProofLine Rup root) more) = only-other 19 number _ d
     go a b d (recorded (ProofLine Pr root) more) = rw b (only-other 19 number _ d)
+    go a b d (recorded (ProofLine Path root) more) = only-other 19 number _ d
     go a b d (recorded (Strike k) more) = refl
     go a b d (recorded (SetEntry kind x) more) = refl
     go a b d (recorded End more) = refl

@@ -48,20 +48,20 @@ module _ (mode : Mode) (s : ℕ) (text proof : List ℕ) where
       → EndsAt mode s text proof (commands steps mode n s proof st at) (commandsEnding steps mode n s proof st at)
   unfolding commands commandsEnding
   commands-end n zero st at m R enough = absurd (omega (arith, reached-in mode s text proof R))
-  commands-end n (suc steps) st at m R enough = go (step n s st (commandIn mode proof n at)) refl (commands-end n steps)
+  commands-end n (suc steps) st at m R enough = go (step (mode .consequence) n s st (commandIn mode proof n at)) refl (commands-end n steps)
     where
       next-at : ℕ
       next-at = nextIn mode proof n at
 
-      go : (x : Step) → step n s st (commandIn mode proof n at) ≡ x
+      go : (x : Step) → step (mode .consequence) n s st (commandIn mode proof n at) ≡ x
           → ((st′ : State) (at′ : ℕ) (m′ : Meant) → Reached mode s text proof n st′ at′ m′ → length proof - at′ < steps
           → EndsAt mode s text proof (commands steps mode n s proof st′ at′) (commandsEnding steps mode n s proof st′ at′))
           → EndsAt mode s text proof (afterStep x st at (λ st′. commands steps mode n s proof st′ next-at)) (endsAfter x (ended n st at) (λ st′. commandsEnding steps mode n s proof st′ next-at))
       go (stop number offset) e rec = proof-stopped R e
       go (spent number peak) e rec = proof-spent R e
       go (next st′) e rec =
-          let T : CommandTaken n s st (commandIn mode proof n at) st′ = step-taken n s st (commandIn mode proof n at) st′ e in
-          let (on, inside) = command-goes (mode .form) proof n s st st′ at (reached-in mode s text proof R) T in
+          let T : CommandTaken (mode .consequence) n s st (commandIn mode proof n at) st′ = step-taken (mode .consequence) n s st (commandIn mode proof n at) st′ e in
+          let (on, inside) = command-goes (mode .consequence) (mode .form) proof n s st st′ at (reached-in mode s text proof R) T in
           rec st′ next-at _ (goes R T) (omega (arith, on, inside))
 
   module _ (n many : ℕ) where

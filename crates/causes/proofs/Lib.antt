@@ -1,6 +1,7 @@
 pub mod Fixes
 pub mod Smallest
 pub mod Turns
+pub mod PathFails
 pub mod Ending
 pub mod Pieces
 pub mod Causes

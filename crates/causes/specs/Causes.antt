@@ -8,7 +8,7 @@ use lib.Dec.{eqb}
 use Rattle.meaning.specs.Diagram.{Assignment, Diagram, value}
 use Rattle.meaning.specs.Operations as meaning
 use Rattle.meaning.specs.Operations.{Literal, assignments, negation, cofactorLiterals}
-use Rattle.meaning.specs.Rules.{conflicts, firstWithUnit, byUnits, byDiagram, prTurns}
+use Rattle.meaning.specs.Rules.{conflicts, firstWithUnit, byUnits, unitProp, byDiagram, prTurns}
 use Rattle.meaning.specs.Words.{inWord}
 use Rattle.table.specs.Nodes.{at, above}
 use Rattle.records.specs.declared.NodeBody.{NodeBody}
@@ -19,7 +19,7 @@ use Rattle.records.specs.declared.Record.the-variants.{NodeEntry, Witness, Proo
 use Rattle.records.specs.declared.Record.the-variants.{CutShort, UnknownKind, NoRecord}
 use Rattle.clausal.specs.Drat.{has, without}
 use Rattle.clausal.specs.Tries.{makesTrue, makesFalse, witness}
-use Rattle.paths.specs.Paths.{paths, byPath, pathTurns}
+use Rattle.paths.specs.Paths.{paths, byPath}
 use Rattle.commands.specs.Commands.{Command, recorded, added, struckOut, wrong, finished}
 use Rattle.verdict.specs.Steps.{State, entryNode, diagramIn, unstruck, liveMembers, isLive}
 use Rattle.verdict.specs.Cases.{unitsTo}
@@ -109,13 +109,13 @@ unfoldable pub prCause : ℕ → (ℕ → Bool) → (ℕ → Bool) → State →
 unfolding negation unstruck unshown
 prCause n P N st g = unshown (length (st .members)) n P N (byDiagram n (negation n g) (liveMembers st)) st 0
 
--- Of the paths listed the first that does not conflict: the literals fixed in its propagation, which is the last. (02, 12/14)
+-- Of the paths listed the first whose propagation does not conflict, which is the last: the literals fixed in it. (02, 12/14)
 unfoldable pub pathFails : ℕ → List Diagram → List (List Literal) → Cause
-unfolding pathTurns fixes has cofactorLiterals
+unfolding unitProp fixes has cofactorLiterals
 pathFails n ms [] = plain
 pathFails n ms (c ∷ cs) =
     let here = fixed (fixes n (byPath n c ms)) none in
-    let later = pathFails n ms cs in cond (pathTurns n ms (c ∷ []) .shown) later here
+    let later = pathFails n ms cs in cond (unitProp n (byPath n c ms) .conflict) later here
 
 -- Of a path line g.
 unfoldable pub pathCause : ℕ → List Diagram → Diagram → Cause

@@ -54,24 +54,24 @@ abbrev pub groupsEnd : List ℕ → ℕ → Groups → ℕ
 groupsEnd s at cut = length s
 groupsEnd s at (groups number many last) = at + many
 
--- The end of the clause whose opening byte is at a place.
-unfoldable pub binaryEnd : List ℕ → ℕ → ℕ
-unfolding binaryFrom
-binaryEnd s at =
-    let clause = closedEnd s (binaryFrom s 64 (length s - (at + 1)) at (at + 1)) in cond (ltb at (length s)) clause (length s)
+-- The end of the piece of a binary DRAT proof: 4 and 31 show the literal's groups, 9 one byte, all else the clause from its opening byte.
+unfoldable pub binaryEnd : ℕ → List ℕ → ℕ → ℕ
+unfolding groupsIn binaryFrom
+binaryEnd number s at =
+    let literal = groupsEnd s at (groupsIn (drop at s)) in
+    let clause = closedEnd s (binaryFrom s 64 (length s - (at + 1)) at (at + 1)) in
+    let piece = cond (eqb number 9) (at + 1) (cond (eqb number 4 || eqb number 31) literal clause) in cond (ltb at (length s)) piece (length s)
 
 -- The end of the piece that starts at a place of the proof. Records: "one byte for [..] 11". A text: 3 and 4 show the token; "a cut [..]
--- DRAT clause to the end, a closed DRAT clause to its 0". Binary DRAT: 4 and 31 show the literal's groups, 9 one byte. (02, 9/14)
+-- DRAT clause to the end, a closed DRAT clause to its 0".
 abbrev pub proofEnd : Form → ℕ → List ℕ → ℕ → ℕ
 proofEnd Records number s at = cond (eqb number 11) (at + 1) (recordEnd s at (recordAt s at))
 proofEnd Text number s at = let clause = clauseEnd s at in cond (leb number 4) (tokenEnd s at) clause
-proofEnd Binary number s at =
-    let literal = groupsEnd s at (groupsIn (drop at s)) in
-    let clause = binaryEnd s at in cond (eqb number 9) (at + 1) (cond (eqb number 4 || eqb number 31) literal clause)
+proofEnd Binary number s at = binaryEnd number s at
 
 -- The piece that is shown for what a check says.
 unfoldable pub partOf : Mode → List ℕ → List ℕ → Verdict → Part
-unfolding past clauseEnd recordAt binaryEnd groupsIn
+unfolding past clauseEnd recordAt binaryEnd
 partOf mode formula proof v =
     let inFormula = formulaEnd (v .number) formula (v .place) in
     let inTheProof = proofEnd (mode .form) (v .number) proof (v .place) in

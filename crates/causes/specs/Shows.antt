@@ -111,14 +111,14 @@ pub record PrFails (n : ℕ) (P N : ℕ → Bool) (st : State) (g : Diagram) (ro
   pub lowest : (j : ℕ) → j < i → isLive st j ≡ true
       → prTurns n P N (byDiagram n (negation n g) (liveMembers st)) (memberIn st j ∷ []) .shown ≡ true
 
--- A path line fails at the path c: its propagation does not conflict, and every path before it is shown. (02, 12/14)
-pub record PathFails (n : ℕ) (st : State) (g : Diagram) (rounds : List (List Literal)) : Type 0 where
+-- Of the paths cs of a path line one fails: its propagation does not conflict, and every path before it is shown. (02, 12/14)
+pub record PathFails (n : ℕ) (ms : List Diagram) (cs : List (List Literal)) (rounds : List (List Literal)) : Type 0 where
   pub before : List (List Literal)
   pub path : List Literal
   pub after : List (List Literal)
-  pub of : paths g ≡ before ++ path ∷ after
-  pub fixes : Fixed n (byPath n path (liveMembers st)) rounds
-  pub shown : pathTurns n (liveMembers st) before .shown ≡ true
+  pub parts : cs ≡ before ++ path ∷ after
+  pub fixes : Fixed n (byPath n path ms) rounds
+  pub shown : pathTurns n ms before .shown ≡ true
 
 -- ---- the cause
 
@@ -133,7 +133,8 @@ pub data Caused (profile : Bool) (n : ℕ) (st : State) : Command → ℕ → Ca
   pr-fails : {root : EntryNo} {more : Bool} {rounds : List (List Literal)} {i : ℕ}
       → PrFails n (inWord (st .positive)) (inWord (st .negative)) st (diagramIn st (entryNode st (root .0))) rounds i
       → Caused profile n st (recorded (ProofLine Pr root) more) 19 (fixed rounds (some i))
-  path-fails : {root : EntryNo} {more : Bool} {rounds : List (List Literal)} → PathFails n st (diagramIn st (entryNode st (root .0))) rounds
+  path-fails : {root : EntryNo} {more : Bool} {rounds : List (List Literal)} 
+      → PathFails n (liveMembers st) (paths (diagramIn st (entryNode st (root .0)))) rounds
       → Caused profile n st (recorded (ProofLine Path root) more) 19 (fixed rounds none)
   first-try-fails : {ls : List Literal} {rounds : List (List Literal)} → (profile ≡ true) ⊎ (ls ≡ []) → RupFails n st (meaning.clause n ls) rounds
       → Caused profile n st (added ls) 19 (fixed rounds none)
