@@ -2,7 +2,7 @@
 -- clause there. Assumes nothing.
 use mathlib.Core.Path.{_≡_, refl, sym, ap, _∙_, subst}
 use mathlib.Core.Logic.{_⊎_, inl, inr}
-use mathlib.Core.Bool.{Bool, true, false, not, _||_, cond}
+use mathlib.Core.Bool.{Bool, true, false, not, _&&_, _||_, cond}
 use mathlib.Core.List.{List, [], _∷_}
 use Prim.Native.Nat.{ℕ, _+_, _-_, _≤_, _<_}
 use native.Mathlib.Omega.{arith}
@@ -10,6 +10,7 @@ use lib.ListN.{length, drop, length-drop}
 use lib.Dec.{eqb, ltb, leb}
 use borrow.Author.Tests.{ltb-true, ltb-false, eqb-true}
 use Rattle.meaning.specs.Operations.{Literal}
+use Rattle.meaning.proofs.Booleans.{and-both}
 use Rattle.dimacs.specs.Text.{isToken, isLine, tokenEnd, lineEnd, past, between}
 use Rattle.dimacs.specs.Header.{isWord}
 use Rattle.dimacs.specs.Clauses.{Next, closed, ended, refused, clauseFrom}
@@ -24,10 +25,10 @@ use Rattle.commands.specs.declared.Form.{Form}
 use Rattle.commands.specs.declared.Form.the-variants.{Records, Text, Binary}
 use Rattle.commands.specs.declared.Mode.{Mode}
 use Rattle.commands.specs.Commands.{Command, recorded, added, struckOut, wrong, finished, commandAt, isDrat}
-use Rattle.commands.specs.Commands.{Groups, cut, groups, groupsIn, binaryFrom}
+use Rattle.commands.specs.Commands.{Groups, cut, groups, groupsIn, binaryRead}
 use Rattle.commands.proofs.Groups.{Well, groups-well}
 use Rattle.commands.proofs.Reading.{Fault, ClauseIn, clause-in}
-use Rattle.commands.proofs.Onward.{BinaryFault, CommandIn, binary-clause-in, drat-in}
+use Rattle.commands.proofs.Onward.{CommandIn, drat-in}
 use Rattle.verdict.specs.Steps.{State, Step, next, stop, spent, waiting, recordStep, endStep}
 use Rattle.verdict.specs.Clausal.{addStep, strikeClause}
 use Rattle.verdict.specs.Check.{shutOut, finish, step, Verdict, verdict}
@@ -37,7 +38,7 @@ use Rattle.verdict.proofs.Offsets.{Offset, at-record, at-striking, behind-end, 
 use Rattle.verdict.proofs.ClauseSays.{AddedSays, added-says, StruckSays, struck-says, FinishSays, finish-says}
 use Rattle.verdict.proofs.Ends.{reached-in}
 use Rattle.verdict.proofs.Numbers.{NumberedIn, reached-numbered, spent-number}
-use Rattle.causes.specs.Parts.{Part, nothing, formulaEnd, recordEnd, closedEnd, clauseEnd, groupsEnd, binaryEnd, proofEnd, partOf}
+use Rattle.causes.specs.Parts.{Part, nothing, formulaEnd, recordEnd, closedEnd, clauseEnd, groupsEnd, readEnd, binaryEnd, proofEnd, partOf}
 use Rattle.causes.specs.Causes.{plain}
 use Rattle.causes.specs.Explanation.{Ending, Explanation, explained, explanation, causeIn, ending}
 use Rattle.causes.specs.Shows.{EndsAt, formula-refused, proof-stopped, proof-spent, textOf, Inside}
@@ -175,24 +176,27 @@ text-ends : (number : ℕ) (s : List ℕ) (at : ℕ) → at ≤ length s → End
 text-ends number s at h = either s at (leb number 4) (tokenEnd s at) (clauseEnd s at) (λ _. token-ends s at h) (λ _. clause-ends s at h)
 
 -- The piece of a binary proof ends in it, wherever it starts.
-groups-ends : (s : List ℕ) (at : ℕ) → at ≤ length s → (g : Groups) → groupsIn (drop at s) ≡ g → Ends s at (groupsEnd s at g)
-groups-ends s at h cut e = (h, omega arith)
+groups-ends : (s : List ℕ) (at : ℕ) → at ≤ length s → (g : Groups) → groupsIn (drop at s) ≡ g → Ends s at (groupsEnd at g)
+groups-ends s at h cut e = (omega arith, h)
 groups-ends s at h (groups number many last) e =
     let W : Well (drop at s) number many last = groups-well (drop at s) number many last e in
     (omega arith, omega (arith, W .within, length-drop at s))
 
+read-ends : (s : List ℕ) (at : ℕ) → at ≤ length s → (c : Command) (after : ℕ) → CommandIn Binary s 64 at c after → Ends s at (readEnd s c after)
+read-ends s at h (recorded r more) after i = absurd i
+read-ends s at h (added ls) after i = (omega (arith, i .0), i .1)
+read-ends s at h (struckOut ls) after i = (omega (arith, i .0), i .1)
+read-ends s at h (wrong number offset) after i = (h, omega arith)
+read-ends s at h finished after i = (h, omega arith)
+
 binary-ends : (number : ℕ) (s : List ℕ) (at : ℕ) → at ≤ length s → Ends s at (proofEnd Binary number s at)
 unfolding binaryEnd
 binary-ends number s at h =
-    let literal : ℕ = groupsEnd s at (groupsIn (drop at s)) in
-    let clause : ℕ = closedEnd s (binaryFrom s 64 (length s - (at + 1)) at (at + 1)) in
-    either s at (ltb at (length s)) _ (length s)
-    (λ t. let lt : at < length s = ltb-true at (length s) t in
-    either s at (eqb number 9) (at + 1) _ (λ _. (omega arith, omega (arith, lt)))
-    (λ _. either s at (eqb number 4 || eqb number 31) literal clause (λ _. groups-ends s at h (groupsIn (drop at s)) refl)
-    (λ _. closed-ends BinaryFault s 64 at at (at + 1) (omega arith) (omega (arith, lt)) (binaryFrom s 64 (length s - (at + 1)) at (at + 1))
-    (binary-clause-in s 64 at (length s - (at + 1)) (at + 1) (omega arith) h (omega (arith, lt))))))
-    (λ _. (h, omega arith))
+    either s at (eqb number 9 && ltb at (length s)) (at + 1) _
+    (λ t. let lt : at < length s = ltb-true at (length s) (and-both (eqb number 9) (ltb at (length s)) t .1) in (omega arith, omega (arith, lt)))
+    (λ _. either s at (eqb number 4 || eqb number 31) (groupsEnd at (groupsIn (drop at s))) _
+    (λ _. groups-ends s at h (groupsIn (drop at s)) refl)
+    (λ _. read-ends s at h (binaryRead s 64 at .command) (binaryRead s 64 at .next) (drat-in Binary refl s 64 at h)))
 
 -- A command of a DRAT proof is refused in the proof.
 drat-stops : (profile : Bool) (form : Form) → isDrat form ≡ true → (n s : ℕ) (st : State) (proof : List ℕ) (at : ℕ) → at ≤ length proof → (number offset : ℕ) → step profile n s st (commandAt form proof n at .command) ≡ stop number offset

@@ -1,6 +1,6 @@
 -- The piece of the formula or of the proof that is shown for a refused check: it starts at the check's place, and its end is told by the
 -- number and the bytes there. (02, 8/14)
-use mathlib.Core.Bool.{Bool, false, _||_, cond}
+use mathlib.Core.Bool.{Bool, false, _&&_, _||_, cond}
 use mathlib.Core.List.{List, [], _∷_}
 use Prim.Native.Nat.{ℕ, _+_, _-_}
 use lib.ListN.{length, drop}
@@ -13,7 +13,7 @@ use Rattle.records.specs.Records.{recordAt, lengthOf, numberOf}
 use Rattle.commands.specs.declared.Form.{Form}
 use Rattle.commands.specs.declared.Form.the-variants.{Records, Text, Binary}
 use Rattle.commands.specs.declared.Mode.{Mode}
-use Rattle.commands.specs.Commands.{Groups, cut, groups, groupsIn, binaryFrom}
+use Rattle.commands.specs.Commands.{Command, recorded, added, struckOut, wrong, finished, Groups, cut, groups, groupsIn, binaryRead}
 use Rattle.verdict.specs.Check.{Verdict}
 
 -- A part of the formula or of the proof: where it starts, and the place behind its last byte.
@@ -49,18 +49,27 @@ clauseEnd s at =
     let added = closedEnd s (clauseFrom s 64 (length s - at) at at) in
     cond (ltb at (length s)) (cond (isWord s at (100 ∷ [])) struck added) (length s)
 
--- The end of the groups at a place, or of the bytes where they are cut.
-abbrev pub groupsEnd : List ℕ → ℕ → Groups → ℕ
-groupsEnd s at cut = length s
-groupsEnd s at (groups number many last) = at + many
+-- The end of the groups at a place. 4 and 31 are of groups that are not cut.
+abbrev pub groupsEnd : ℕ → Groups → ℕ
+groupsEnd at cut = at
+groupsEnd at (groups number many last) = at + many
+
+-- The end of what is read as a clause; the proof's end where it is none.
+abbrev pub readEnd : List ℕ → Command → ℕ → ℕ
+readEnd s (recorded r more) next = length s
+readEnd s (added ls) next = next
+readEnd s (struckOut ls) next = next
+readEnd s (wrong number offset) next = length s
+readEnd s finished next = length s
 
 -- The end of the piece of a binary DRAT proof: 4 and 31 show the literal's groups, 9 one byte, all else the clause from its opening byte.
 unfoldable pub binaryEnd : ℕ → List ℕ → ℕ → ℕ
-unfolding groupsIn binaryFrom
+unfolding groupsIn binaryRead
 binaryEnd number s at =
-    let literal = groupsEnd s at (groupsIn (drop at s)) in
-    let clause = closedEnd s (binaryFrom s 64 (length s - (at + 1)) at (at + 1)) in
-    let piece = cond (eqb number 9) (at + 1) (cond (eqb number 4 || eqb number 31) literal clause) in cond (ltb at (length s)) piece (length s)
+    let literal = groupsEnd at (groupsIn (drop at s)) in
+    let clause = binaryRead s 64 at in
+    let piece = cond (eqb number 4 || eqb number 31) literal (readEnd s (clause .command) (clause .next)) in
+    cond (eqb number 9 && ltb at (length s)) (at + 1) piece
 
 -- The end of the piece that starts at a place of the proof. Records: "one byte for [..] 11". A text: 3 and 4 show the token; "a cut [..]
 -- DRAT clause to the end, a closed DRAT clause to its 0".

@@ -1,16 +1,18 @@
 // The piece of the formula or of the proof that is shown for a refused check, as a part of the caller's own bytes. (02, 8/14)
+use commands::Command;
 use commands::Form;
 use dimacs::Clause;
 use records::Record;
 ghost use mathlib.Core.Path.{_≡_};
 ghost use mathlib.Core.Bool.{true};
 ghost use Prim.Native.Nat.{_-_, _≤_};
-ghost use lib.ListN.{length};
+ghost use lib.ListN.{length, drop};
 ghost use denote.Ref.{ptr};
 ghost use Rattle.dimacs.specs.Text.{isParting, tokenEnd, lineEnd};
 ghost use Rattle.dimacs.specs.Clauses.{clauseFrom};
 ghost use Rattle.records.specs.Records.{recordAt, numberOf};
-ghost use Rattle.causes.specs.Parts.{formulaEnd, recordEnd, closedEnd, clauseEnd, proofEnd};
+ghost use Rattle.commands.specs.Commands.{groupsIn, binaryRead};
+ghost use Rattle.causes.specs.Parts.{formulaEnd, recordEnd, closedEnd, clauseEnd, groupsEnd, readEnd, binaryEnd, proofEnd};
 ghost use Rattle.causes.specs.Shows.{textOf};
 ghost use Rattle.pieces.specs.Shown.{pieceEnd, isPart, bytesOf, placeIn};
 
@@ -140,6 +142,53 @@ fn clause_end(s: &[u8], at: usize) -> usize
     s.len()
 }
 
+// The end of the binary clause whose opening byte is at `at`; the proof's where there is none.
+fn binary_clause_end(s: &[u8], at: usize) -> usize
+    requires { ⌜ at ≤ length (now s) ⌝ }
+    ensures { λ r. ⌜ (
+        let read = binaryRead (now (s .entry)) 64 at in
+        r ≡ readEnd (now (s .entry)) (read .command) (read .next)) ⌝ }
+{
+    let read = commands::command_at(s, at, 64, Form::Binary);
+    let next = read.next;
+    let command = read.command;
+    match command {
+        Command::Added(_) => next,
+        Command::Struck(_) => next,
+        Command::Recorded { .. } => s.len(),
+        Command::Wrong { .. } => s.len(),
+        Command::Finished => s.len(),
+    }
+}
+
+// The end of the groups at `at`.
+fn groups_end(s: &[u8], at: usize) -> usize
+    requires { ⌜ at ≤ length (now s) ⌝ }
+    ensures { λ r. ⌜ r ≡ groupsEnd at (groupsIn (drop at (now (s .entry)))) ⌝ }
+{
+    let groups = commands::groups_at(s, at, 64);
+    groups.end
+}
+
+// The end of the piece of a binary proof that starts at the place of a number.
+fn binary_end(s: &[u8], number: u8, at: usize) -> usize
+    requires { ⌜ at ≤ length (now s) ⌝ }
+    ensures { λ r. ⌜ r ≡ binaryEnd number (now (s .entry)) at ⌝ }
+{
+    if number == 9 {
+        if at < s.len() {
+            return at + 1;
+        }
+    }
+    if number == 4 {
+        return groups_end(s, at);
+    }
+    if number == 31 {
+        return groups_end(s, at);
+    }
+    binary_clause_end(s, at)
+}
+
 // The end of the piece of the proof that starts at the place of a number.
 fn proof_end(s: &[u8], form: Form, number: u8, at: usize) -> usize
     requires { ⌜ at ≤ length (now s) ⌝ }
@@ -158,6 +207,7 @@ fn proof_end(s: &[u8], form: Form, number: u8, at: usize) -> usize
             }
             clause_end(s, at)
         }
+        Form::Binary => binary_end(s, number, at),
     }
 }
 
