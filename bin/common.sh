@@ -1,148 +1,151 @@
-# What bin/refute and bin/refute-drat share, each of which sets `name` (its own), `crate` (the program) and `form` (what the proof is), and reads
-# this file. It builds what is missing, runs the program, passes its line on and ends with the line's status: a Rattle program cannot end with
-# a status of its own, so the line's number is read here.
+# What bin/refute, bin/refute-drat and bin/drat-convert share. Each sets `name` (its own) and ends, whatever happens, with `status`, which is 3
+# until a line is written. It runs from a checkout, where what is missing is proved and built, and where bin/install has put it.
 set -euo pipefail
 export LC_ALL=C
-root=$(cd "$(dirname "${BASH_SOURCE[0]}")/.." && pwd)
-program=$root/target/bin/$crate
-built=$root/target/$crate.built
+here=$(dirname "$(readlink -f "${BASH_SOURCE[0]}")")
+quiet=
 
 tell() {
     echo "$*" >&2 || true
 }
 
-# How to use it, for --help too. It ends with 2, since 0 is kept for what is refuted.
-usage() {
-    tell "usage: bin/$name [-q] FORMULA PROOF
-  FORMULA  DIMACS CNF, at most 65,536 bytes    PROOF  $form, at most 65,536 bytes
-  -q       no words beside the line
-Prints 'number place lines rounds peak'. Number 0: refuted, no assignment satisfies the formula. docs/OPERATING.md tells every other number.
-Status: 0 refuted, 1 refused, 2 a file was not taken or wrong use, 3 no line could be written."
-    exit 2
+# end STATUS
+end() {
+    status=$1
+    exit
 }
 
-quiet=
-while [ $# -gt 0 ]; do
-    case $1 in
-    -q) quiet=1 ;;
-    --) shift; break ;;
-    -*) usage ;;
-    *) break ;;
-    esac
-    shift
-done
-[ $# -le 2 ] || usage
+if [ -d "$here/programs" ]; then
+    title=$name programs=$here/programs manual="man $name"
 
-# How many crates of the repository the program stands on, itself among them.
-crates() {
-    awk -v program="$crate" '
-        { sub(/#.*/, "") } match($0, /:/) { name = substr($0, 1, RSTART - 1); gsub(/[ \t]/, "", name); under[name] = substr($0, RSTART + 1) }
-        function reach(name, k, i, names) {
-            if (!(name in under) || seen[name]++) return
-            count++
-            k = split(under[name], names, " ")
-            for (i = 1; i <= k; i++) reach(names[i])
-        }
-        END { reach(program); print count }' "$root/crates.txt"
-}
+    # need CRATE: the proved program, which stands ready.
+    need() {
+        program=$programs/$1
+    }
 
-# Proves and builds the program; tells which crate of how many is being proved. What rt says is kept in a file.
-build() {
-    local total at=1 said
-    total=$(crates)
-    [ -n "$quiet" ] || tell "bin/$name: proving and building the program, which takes some minutes: crate 1 of $total"
-    (cd "$root" && exec rt check "$crate" 2>&1) | while IFS= read -r said; do
-        printf '%s\n' "$said"
-        if [[ $said =~ ^rt:\ ([a-z_]+)\ proved ]] && [ "$at" -lt "$total" ]; then
+    identity() {
+        cat "$here/identity"
+    }
+else
+    title=bin/$name root=$(cd "$here/.." && pwd) manual=docs/OPERATING.md
+    programs=$root/target/bin
+    . "$here/proved.sh"
+
+    waiting() {
+        [ -n "$quiet" ] || tell "$title: another start is proving; waiting for it"
+    }
+
+    # How many crates of the repository a program stands on, itself among them.
+    crates() {
+        awk -v program="$1" '
+            { sub(/#.*/, "") } match($0, /:/) { name = substr($0, 1, RSTART - 1); gsub(/[ \t]/, "", name); under[name] = substr($0, RSTART + 1) }
+            function reach(name, k, i, names) {
+                if (!(name in under) || seen[name]++) return
+                count++
+                k = split(under[name], names, " ")
+                for (i = 1; i <= k; i++) reach(names[i])
+            }
+            END { reach(program); print count + 0 }' "$root/crates.txt"
+    }
+
+    # Proves and builds a program; tells which crate of how many is being proved. What rt says is kept in a file, and its last lines are told
+    # where it fails: the file may have found no room.
+    build() {
+        local total at=1 said last=() kept=1 ended=1 log=$root/target/$1.out
+        total=$(crates "$1")
+        [ -n "$quiet" ] || tell "$title: proving and building the program, from nothing about 15 minutes on 2 cores: crate 1 of $total"
+        : >"$log" || kept=
+        while IFS= read -r said; do
+            if [[ $said =~ ^ended\ with\ ([0-9]+)$ ]]; then
+                ended=${BASH_REMATCH[1]}
+                continue
+            fi
+            printf '%s\n' "$said" 2>/dev/null >>"$log" || kept=
+            last+=("$said")
+            [ "${#last[@]}" -le 20 ] || last=("${last[@]:1}")
+            [[ $said =~ ^rt:\ ([a-z_0-9]+)\ proved(.*) ]] && [ "$at" -lt "$total" ] || continue
             at=$((at + 1))
-            [ -n "$quiet" ] || tell "bin/$name: ${BASH_REMATCH[1]} is proved; crate $at of $total"
+            # What stands since an earlier proof is counted and not told.
+            [ -n "$quiet" ] || [[ ${BASH_REMATCH[2]} == *unchanged* ]] || tell "$title: ${BASH_REMATCH[1]} is proved; crate $at of $total"
+        done < <(cd "$root" && { rt check "$1" 2>&1 && echo "ended with 0" || echo "ended with $?"; })
+        [ "$ended" = 0 ] && [ -f "$programs/$1" ] && return
+        printf '%s\n' "${last[@]}" >&2 || true
+        if [ -n "$kept" ]; then
+            tell "$title: not built; target/$1.out says why"
+        else
+            tell "$title: not built; what rt says could not be written to target/$1.out: is the disk full?"
         fi
-    done >"$root/target/$crate.out"
-}
+        exit
+    }
 
-is_stale() {
-    [ ! -x "$program" ] || [ ! -e "$built" ] || [ -n "$(find "$root/crates" "$root/crates.txt" -newer "$built" -print -quit)" ]
-}
+    # need CRATE: the proved program, made first where it is not the one of this checkout's files.
+    need() {
+        program=$programs/$1
+        ensure "$1" "$program" build "$1"
+    }
 
-# Built anew where a file of a crate is newer than the last build; one start at a time does it, of whichever program.
-if is_stale; then
-    mkdir -p "$root/target"
-    exec 9>"$root/target/refute.lock"
-    flock 9
-    if is_stale; then
-        began=$(mktemp)
-        if ! build; then
-            tail -n 20 "$root/target/$crate.out" >&2
-            tell "bin/$name: not built; target/$crate.out says why"
-            rm -f "$began"
-            exit 3
+    identity() {
+        local commit changed=
+        echo "version $(cat "$root/VERSION")"
+        if commit=$(git -C "$root" rev-parse --short=12 HEAD 2>/dev/null); then
+            [ -z "$(git -C "$root" status --porcelain 2>/dev/null)" ] || changed=" with changes"
+            echo "commit $commit$changed"
         fi
-        mv "$began" "$built"
-    fi
-    exec 9>&-
+        echo "files $(digest_files)"
+        echo "toolchain $(rt version 2>/dev/null || echo none)"
+    }
 fi
 
-# The line, whole and of its form, or nothing at all.
-line=$("$program" "$@") || line=
-if ! [[ $line =~ ^([0-9]+)\ ([0-9]+)(\ [0-9]+){3}$ ]]; then
-    tell "bin/$name: the program gave no line"
-    exit 3
-fi
-number=${BASH_REMATCH[1]} place=${BASH_REMATCH[2]}
-if ! printf '%s\n' "$line" 2>/dev/null; then
-    tell "bin/$name: the line could not be written"
-    exit 3
-fi
-
-# Whether a file can be seen to be the one that 24 or 25 is about; the line does not say which it was.
-is_the_one() {
-    if [ "$number" = 24 ]; then
-        [ -f "$1" ] && [ "$(wc -c <"$1")" -gt 65536 ]
-    else
-        [ ! -e "$1" ] || [ -d "$1" ] || [ ! -r "$1" ]
-    fi
-}
-
-# The file that 3, 4 or 6 is about, which a DRAT text can be too: where it is the formula, an empty proof gets the same line. A formula that is
-# no plain file cannot be read again.
-either() {
-    if [ "$crate" = refute ]; then
-        echo "$1"
-    elif [ ! -f "$1" ]; then
-        echo "$1 or of $2"
-    elif [ "$("$program" "$1" /dev/null)" = "$line" ]; then
-        echo "$1"
-    else
-        echo "$2"
-    fi
-}
-
-# Which file and which byte of it.
-where() {
-    case $number in
-    [1258]) echo " at byte $place of $1" ;;
-    [346]) echo " at byte $place of $(either "$@")" ;;
-    24 | 25)
-        if is_the_one "${1:-}"; then
-            echo ", ${1:-no formula is named}"
-        elif is_the_one "${2:-}"; then
-            echo ", ${2:-no proof is named}"
+# What runs here, so that two results can be known to be of one checker. It ends with 2, since 0 is kept for what is shown.
+version() {
+    local file
+    echo "$title of Cablesalak"
+    identity
+    for file in "$@"; do
+        if [ -f "$programs/$file" ]; then
+            echo "program $file $(sha256sum <"$programs/$file" | cut -d ' ' -f 1)"
+        else
+            echo "program $file is not built yet"
         fi
-        ;;
-    *) echo " at byte $place of $2" ;;
+    done
+    end 2
+}
+
+# sentence NUMBER: the number in words, as docs/OPERATING.md has them.
+sentence() {
+    sed -n "s/^$1 //p" "$here/words.txt" || true
+}
+
+# What a file looks like by its bytes: compressed, mark (a byte order mark), frat, binary (DRAT), text (DRAT), records; nothing where it cannot
+# be told or read again. A guess for a hint, which decides nothing.
+look() {
+    local first
+    [ -f "$1" ] && [ -s "$1" ] || return 0
+    first=$(head -c 6 -- "$1" | od -An -v -tx1 | tr -d ' \n')
+    case $first in
+    1f8b* | fd377a585a00 | 425a68* | 28b52ffd*) echo compressed ;;
+    efbbbf* | fffe* | feff*) echo mark ;;
+    6f*) echo frat ;;
+    6[14]*[0-9a-f]) if [ "$(tr -cd '\0' <"$1" | head -c 1 | wc -c)" = 1 ]; then echo binary; else is_text "$1"; fi ;;
+    4[4-6be]* | 5[0-248]*) echo records ;;
+    *) is_text "$1" ;;
     esac
 }
 
-# The number in words, as docs/OPERATING.md has them.
-if [ "$number" -ne 0 ] && [ -z "$quiet" ]; then
-    words=$(awk -F ' *[|] *' -v number="$number" '$2 == number { print $3; exit }' "$root/docs/OPERATING.md" || true)
-    if [ "$number" = 1 ] && [ -f "$2" ] && grep -aq '^p[[:blank:]]*cnf' -- "$2"; then
-        words="$words The second file has one: are the two names in the wrong order?"
-    fi
-    tell "refused: $number$(where "$@"): $words"
-fi
-case $number in
-0) exit 0 ;;
-24 | 25) exit 2 ;;
-*) exit 1 ;;
-esac
+is_text() {
+    grep -qavE '^(c.*|[-0-9d[:blank:]]*)'$'\r''?$' -- "$1" || echo text
+}
+
+# hint FORM FILE: words for a file that is not of the form r, t or b (records, DRAT text, binary DRAT).
+hint() {
+    case $1:$(look "$2") in
+    *:compressed) echo " It is compressed: name <(zcat FILE), or what unpacks it, in its place." ;;
+    *:mark) echo " It begins with a byte order mark: save it without one." ;;
+    [rtb]:frat) echo " It looks like FRAT: keep its added and deleted clauses alone, without their numbers and hints." ;;
+    r:text) echo " It looks like DRAT text, which refute-drat reads." ;;
+    r:binary) echo " It looks like binary DRAT, which refute-drat --binary reads." ;;
+    t:binary) echo " It looks like binary DRAT, which --binary reads." ;;
+    b:text) echo " It looks like DRAT text: leave out --binary." ;;
+    [tb]:records) echo " It looks like records, which refute reads." ;;
+    esac
+}

@@ -3,6 +3,10 @@
  * Link target/staticlib/libexport.a, which `rt staticlib export` writes once every function is proved. docs/LINKING.md has
  * the commands, docs/THEOREMS.md what is proved, crates/export/src/lib.rt the contracts that the words below render.
  *
+ * Contents: results; single calls; the check (cablesalak_check_in, and two calls with fewer parameters); conversions of DRAT proofs;
+ * the program's line; the table as one list of records. cablesalak_workspace.h has all lists in one struct: the short way to check
+ * and to report.
+ *
  * What is lent. The library allocates nothing and keeps nothing between calls: the caller lends every list as an address and
  * a length, counted in places, not bytes. An address is aligned for its type and not null, also where the length is 0. A
  * list that a call writes to overlaps no other list of the call. Nothing else is asked: whatever the lengths, the count, the
@@ -35,6 +39,9 @@
 #include <stddef.h>
 #include <stdint.h>
 
+/* The version of header and library; the Rust crate has the same. */
+#define CABLESALAK_VERSION "0.2.0"
+
 /* Sizes of what is lent. Member list and scratch list may be longer; the marks are as many as the member list's places. */
 #define CABLESALAK_LEAST_PLACES 2
 #define CABLESALAK_MOST_PLACES 65536
@@ -46,6 +53,10 @@
 #ifdef __cplusplus
 extern "C" {
 #endif
+
+/* The name has the version of the layout: parameters and results. An archive of another layout has another name, and a program that
+ * includes this header does not link with it. Gives 2. */
+uint32_t cablesalak_layout_2(void);
 
 /* Evaluation's answer. */
 typedef struct {
@@ -81,7 +92,14 @@ typedef struct {
     size_t peak;     /* the greatest count that the check reached, dropped nodes included; 0 with 7 */
 } cablesalak_checked;
 
-/* The chain of a node in an index with so many heads, which are not none. Who writes rows himself puts node after node into its
+/* The answer of a conversion. */
+typedef struct {
+    uint8_t number; /* 0, or why it is refused */
+    size_t place;   /* byte offset of what is refused; 0 with 0 and with 7 */
+    size_t length;  /* of the result; 0 with a refusal */
+} cablesalak_converted;
+
+/* The chain of a node in an index with so many heads, which are not none. A caller who writes rows puts node after node into its
  * chain, in the order of their numbers: links[k] = heads[chain], heads[chain] = k. */
 static inline size_t cablesalak_chain(uint8_t var, uint16_t low, uint16_t high, size_t heads)
 {
@@ -175,7 +193,45 @@ cablesalak_at_least_made cablesalak_at_least(
  *                           each member's place its mark, 1 once the proof struck it out, else 0; zeros above. The scratch list:
  *                           zeros. */
 
-/* The proof is records. Gives 0 to 23, 28 and 29; 1 to 6 and 8 are the formula's. At most 4,096 entries in a line. */
+/* The form of the proof. */
+enum cablesalak_form {
+    /* Records (docs/FORMAT.md). 1 to 6 and 8 are the formula's. At most 4,096 entries in a line, and 4,096 paths of a path line. */
+    CABLESALAK_RECORDS = 0,
+    /* DRAT text: clauses of literals separated as in the formula, each closed by 0, the first literal being the pivot; a `d` before
+     * a clause strikes out a member that is this clause; lines whose first byte is c are comments. An added clause is a line whose
+     * one entry is its diagram: it passes by RUP, or by PR with the witness that makes the pivot true and its other literals false.
+     * Of the proof's numbers 3 and 4 are at the token, 0 and 20 at the text's length, all others at the first byte of the clause or
+     * of its `d`. */
+    CABLESALAK_DRAT_TEXT = 1,
+    /* Binary DRAT: the same clauses, opened by 61 (added) or 64 (struck out) and closed by a zero byte; variable v is 2 * v, its
+     * negation 2 * v + 1, in groups of seven bits, lowest first, the top bit set on all but the last. Of the proof's numbers 9 is at
+     * the byte, 31 and 4 at the literal, 0 and 20 at the proof's length, all others at the byte that opens the clause. */
+    CABLESALAK_DRAT_BINARY = 2
+};
+
+/* The check of a proof in the form that is named (any above 2 is binary DRAT). With `consequence` it is in the consequence profile: each
+ * accepted line is true under every assignment that satisfies the formula. There a PR line is refused with 33, and a DRAT clause with 19
+ * where RUP does not show it; a proof in records without a PR line gets what it gets outside the profile.
+ *
+ *   form       gives
+ *   records    0 to 23, 28, 29, 34; 33 in the profile
+ *   text       0 to 8, 17, 19, 20, 22, 23, 28; 3, 4 and 6 are the formula's or the proof's, as `in_proof` tells
+ *   binary     0 to 9, 17, 19, 20, 22, 23, 28, 31; 4 and 6 are the formula's or the proof's */
+cablesalak_checked cablesalak_check_in(
+    uint8_t *vars, size_t vars_length,
+    uint16_t *lows, size_t lows_length,
+    uint16_t *highs, size_t highs_length,
+    uint16_t *heads, size_t heads_length,
+    uint16_t *links, size_t links_length,
+    size_t count,
+    uint16_t *members, size_t members_length,
+    uint8_t *struck, size_t struck_length,
+    uint16_t *scratch, size_t scratch_length,
+    const uint8_t *formula, size_t formula_length,
+    const uint8_t *proof, size_t proof_length,
+    uint8_t form, bool consequence);
+
+/* cablesalak_check_in of records, outside the profile. */
 cablesalak_checked cablesalak_check(
     uint8_t *vars, size_t vars_length,
     uint16_t *lows, size_t lows_length,
@@ -189,11 +245,7 @@ cablesalak_checked cablesalak_check(
     const uint8_t *formula, size_t formula_length,
     const uint8_t *proof, size_t proof_length);
 
-/* The proof is a DRAT text: clauses of literals parted as in the formula, each closed by 0, the first literal being the pivot; a
- * `d` before a clause strikes out a member that is this clause; lines whose first byte is c are comments. An added clause is a line
- * whose one entry is its diagram: it passes by RUP, or by PR with the witness that makes the pivot true and its other literals false.
- * Gives 0 to 8, 17, 19, 20, 22, 23 and 28. 3, 4 and 6 are the formula's or the proof's, as `in_proof` tells; of the proof's
- * numbers 3 and 4 are at the token, 0 and 20 at the text's length, all others at the first byte of the clause or of its `d`. */
+/* cablesalak_check_in of a DRAT text, outside the profile. */
 cablesalak_checked cablesalak_check_text(
     uint8_t *vars, size_t vars_length,
     uint16_t *lows, size_t lows_length,
@@ -207,12 +259,23 @@ cablesalak_checked cablesalak_check_text(
     const uint8_t *formula, size_t formula_length,
     const uint8_t *proof, size_t proof_length);
 
+/* ---- Conversions of DRAT proofs.
+ *
+ * The result is put at the start of `out`, and zeros after it to its end. No clause is judged: both signs of a variable and repeats
+ * stay. A refusal leaves `out` all zero. 7, that the result does not fit, comes last, with place 0. Twice the length of a text and
+ * four times that of a binary proof are always room enough. */
+
+/* A DRAT text in binary, without its comments. Gives 0, 3, 4 (a variable above 64), 6, 7. */
+cablesalak_converted cablesalak_to_binary(const uint8_t *text, size_t text_length, uint8_t *out, size_t out_length);
+
+/* A binary DRAT proof as text: single spaces, one clause a line ended by LF. Gives 0, 4, 6, 7, 9, 31. */
+cablesalak_converted cablesalak_to_text(const uint8_t *binary, size_t binary_length, uint8_t *out, size_t out_length);
+
 /* ---- The program's line.
  *
- * What bin/refute prints of two files, with a table of 4,096 places of its own: `number place lines rounds peak` and LF at the start of
- * `line`; the places behind it stay as they are. `formula_read` and `proof_read` tell whether the files could be read (25 where not); a text
- * of over 65,536 bytes gives 24, so that of a longer file the first 65,537 bytes are enough. The status is 0 for number 0 alone, 2 for 24
- * and 25, 1 for every other number. Takes less than 1.375 MiB of stack. */
+ * `number place lines rounds peak` and LF at the start of `line`; the places after it stay as they are. `formula_read` and `proof_read` say
+ * whether the files could be read (25 where not); a text of over 65,536 bytes gives 24, so that of a longer file the first 65,537 bytes are
+ * enough. The status is 0 for number 0 alone, 2 for 24 and 25, 1 for every other number. */
 #define CABLESALAK_LINE 105
 
 typedef struct {
@@ -220,13 +283,30 @@ typedef struct {
     uint8_t status; /* to end a program with */
 } cablesalak_told;
 
+/* What bin/refute prints of two files, the proof in records, with a table of 4,096 places of its own: takes less than 1.375 MiB of
+ * stack. */
 cablesalak_told cablesalak_report(
     bool formula_read, const uint8_t *formula, size_t formula_length,
     bool proof_read, const uint8_t *proof, size_t proof_length,
     uint8_t line[CABLESALAK_LINE]);
 
-/* ---- The table as one list of records. These three are in target/staticlib/libnodes.a (`rt staticlib nodes`), which can be linked
- * beside the other archive.
+/* The line of cablesalak_check_in over the lent lists. They end as that leaves them; with 24 and 25 they stay as they are. */
+cablesalak_told cablesalak_report_in(
+    uint8_t *vars, size_t vars_length,
+    uint16_t *lows, size_t lows_length,
+    uint16_t *highs, size_t highs_length,
+    uint16_t *heads, size_t heads_length,
+    uint16_t *links, size_t links_length,
+    uint16_t *members, size_t members_length,
+    uint8_t *struck, size_t struck_length,
+    uint16_t *scratch, size_t scratch_length,
+    bool formula_read, const uint8_t *formula, size_t formula_length,
+    bool proof_read, const uint8_t *proof, size_t proof_length,
+    uint8_t form, bool consequence,
+    uint8_t line[CABLESALAK_LINE]);
+
+/* ---- The table as one list of records. The first two calls are in target/staticlib/libnodes.a (`rt staticlib nodes`), the checks in
+ * libnode_check.a (`rt staticlib node_check`); the archives can be linked together.
  *
  * Each is the call of the same name over the list's three columns, with the index lent beside it: numbers, places, counts and
  * what the lists hold afterwards are those told there. A list of fewer than 2 or more than 65,536 places is refused with 7 and
@@ -251,6 +331,19 @@ cablesalak_at_least_made cablesalak_at_least_nodes(
     uint16_t *links, size_t links_length,
     size_t count, uint64_t set, uint8_t k);
 
+/* As cablesalak_check_in. */
+cablesalak_checked cablesalak_check_nodes_in(
+    cablesalak_node *nodes, size_t nodes_length,
+    uint16_t *heads, size_t heads_length,
+    uint16_t *links, size_t links_length,
+    size_t count,
+    uint16_t *members, size_t members_length,
+    uint8_t *struck, size_t struck_length,
+    uint16_t *scratch, size_t scratch_length,
+    const uint8_t *formula, size_t formula_length,
+    const uint8_t *proof, size_t proof_length,
+    uint8_t form, bool consequence);
+
 /* As cablesalak_check. */
 cablesalak_checked cablesalak_check_nodes(
     cablesalak_node *nodes, size_t nodes_length,
@@ -262,6 +355,11 @@ cablesalak_checked cablesalak_check_nodes(
     uint16_t *scratch, size_t scratch_length,
     const uint8_t *formula, size_t formula_length,
     const uint8_t *proof, size_t proof_length);
+
+/* Refers to the layout's symbol from every object that includes this header. */
+#if defined(__GNUC__)
+__attribute__((used)) static uint32_t (*const cablesalak_layout)(void) = cablesalak_layout_2;
+#endif
 
 #ifdef __cplusplus
 }
@@ -289,6 +387,9 @@ CABLESALAK_LAYOUT(offsetof(cablesalak_checked, in_proof) == 1);
 CABLESALAK_LAYOUT(offsetof(cablesalak_checked, place) == 8 && offsetof(cablesalak_checked, lines) == 16);
 CABLESALAK_LAYOUT(offsetof(cablesalak_checked, rounds) == 24 && offsetof(cablesalak_checked, count) == 32);
 CABLESALAK_LAYOUT(offsetof(cablesalak_checked, peak) == 40);
+CABLESALAK_LAYOUT(sizeof(cablesalak_converted) == 24 && offsetof(cablesalak_converted, number) == 0);
+CABLESALAK_LAYOUT(offsetof(cablesalak_converted, place) == 8 && offsetof(cablesalak_converted, length) == 16);
+CABLESALAK_LAYOUT(sizeof(cablesalak_told) == 16 && offsetof(cablesalak_told, length) == 0 && offsetof(cablesalak_told, status) == 8);
 #undef CABLESALAK_LAYOUT
 #endif
 

@@ -21,13 +21,17 @@ WORDS = {
     "steps": "a record's step", "entries": "records that make entries", "formula": "makes the clauses",
     "replay": "command after command", "session": "the whole check", "checker": "calls with no requires",
     "demands": "the demands' theorems", "order": "members in any order", "nodes": "over node structs", "report": "line and status",
-    "export": "the archive for C, Rust", "program": "two files, one line", "refute": "the program, records", "refute_drat": "the program, DRAT", "rows": "an example's line",
+    "export": "the archive for C, Rust", "program": "two files, one line", "refute": "the program, records", "refute_drat": "the program, DRAT", "refute_in": "any form, profile", "drat_convert": "DRAT there and back", "rows": "an example's line",
     "cases": "runs 01's examples", "changes": "runs 02's examples",
     "sets": "parity, at least", "binomial": "C(n, k), stored",
     "clearing": "lists made all zero", "columns": "nodes to columns, back",
+    "room": "more room, same result", "truth": "words of 64 bits", "truth_entries": "words of entries",
+    "truth_rules": "RUP, PR over words", "truth_paths": "paths over words", "small_verdict": "six variables, defined",
+    "exactness": "which, in what order", "node_check": "check, node structs", "report_in": "line, caller's table",
+    "small": "the check over words", "small_export": "its own archive",
     "clausal": "RUP, RAT on clauses", "commands": "what stands next", "convert": "DRAT, text and binary", "tries": "a clause's step",
 }
-OPEN = {"checker", "nodes", "export", "refute", "refute_drat", "cases", "changes"}
+OPEN = {"checker", "nodes", "node_check", "export", "small_export", "refute", "refute_drat", "refute_in", "drat_convert", "cases", "changes"}
 WIDTH, HEIGHT, ACROSS, UP, TOP = 158, 44, 190, 78, 64
 SOLID, DASHED = "#444444", "#3b6fb5"
 

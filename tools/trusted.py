@@ -1,7 +1,7 @@
 #!/usr/bin/env python3
 """trusted.py [--check]: the files of definitions that the contracts of the open calls rest on, with their lines. Run it at the repository's root.
 
-It begins with the `specs/` files that the sources of checker, nodes, export and report name, and follows what these name in turn. Lines are counted
+It begins with the `specs/` files that the sources of checker, nodes, export, report and small_export name, and follows what these name in turn. Lines are counted
 without comments, imports and `unfolding` lines, which are hints to the prover. --check: ends with status 1 where docs/THEOREMS.md does not name
 each of the files, or not their number of lines.
 """
@@ -10,6 +10,7 @@ import sys
 from pathlib import Path
 
 PROGRAM = {("report", "Files"), ("report", "Line")}
+SMALL = {("small_verdict", "Small"), ("small", "Checked")}
 
 
 def named(path):
@@ -28,22 +29,21 @@ def lines(f):
 
 def main():
     todo, trusted = set(), set()
-    for path in ["crates/checker/src/lib.rt", "crates/nodes/src/lib.rt", "crates/export/src/lib.rt"] + sorted(Path("crates/report/src").glob("*.rt")):
+    for path in ["crates/checker/src/lib.rt", "crates/nodes/src/lib.rt", "crates/export/src/lib.rt", "crates/small_export/src/lib.rt"] + sorted(Path("crates/report/src").glob("*.rt")):
         todo |= named(Path(path))
     while todo:
         f = todo.pop()
         trusted.add(f)
         todo |= named(file(f)) - trusted
-    library = sum(lines(f) for f in trusted - PROGRAM)
-    program = sum(lines(f) for f in trusted & PROGRAM)
+    library, program, small = (sum(lines(f) for f in fs) for fs in (trusted - PROGRAM - SMALL, trusted & PROGRAM, trusted & SMALL))
     for f in sorted(trusted):
         print(f"{lines(f):4} {file(f)}")
-    print(f"{library:4} lines for the library, {program} more for the program")
+    print(f"{library:4} lines for the library, {program} more for the program, {small} more for the check by truth table")
     if "--check" in sys.argv[1:]:
         text = Path("docs/THEOREMS.md").read_text()
         table = text[text.index("## What has to be believed"):text.index("## Demand 1")]
         wrong = [str(file(f)) for f in sorted(trusted) if not re.search(rf"`(?:{f[0]}/specs/)?{f[1]}`", table)]
-        wrong += [f"{n} lines" for n in (library, program) if not re.search(rf"\b{n}\b", table)]
+        wrong += [f"{n} lines" for n in (library, program, small) if not re.search(rf"\b{n}\b", table)]
         if wrong:
             sys.exit("docs/THEOREMS.md, What has to be believed: lacks " + ", ".join(wrong))
 

@@ -1,4 +1,4 @@
-//! Links the archive that `rt staticlib export` writes. No other crate links it.
+//! Links the archives that `rt staticlib` writes of `export`, `nodes` and `node_check`. No other crate links them.
 
 use std::env;
 use std::path::Path;
@@ -6,16 +6,28 @@ use std::path::Path;
 const FOLDER: &str = "CABLESALAK_ARCHIVE_FOLDER";
 
 fn main() {
-    let beside = || format!("{}/../../target/staticlib", env::var("CARGO_MANIFEST_DIR").unwrap());
+    // The repository's, or where `bin/install` puts it beside this crate.
+    let own = env::var("CARGO_MANIFEST_DIR").unwrap();
+    let in_repository = Path::new(&own).join("../../crates.txt").exists();
+    let beside =
+        || format!("{own}/{}", if in_repository { "../../target/staticlib" } else { "../../../../lib/cablesalak" });
     let folder = env::var(FOLDER).unwrap_or_else(|_| beside());
     println!("cargo:rerun-if-env-changed={FOLDER}");
-    println!("cargo:rerun-if-changed={folder}/libexport.a");
     println!("cargo:rustc-link-search=native={folder}");
-    println!("cargo:rustc-link-lib=static=export");
-    println!("cargo:rustc-env=CABLESALAK_ARCHIVE={folder}/libexport.a");
-    println!("cargo:rustc-env=CABLESALAK_NODES_ARCHIVE={folder}/libnodes.a");
+    link(&folder, "export");
+    if env::var_os("CARGO_FEATURE_NODES").is_some() {
+        link(&folder, "nodes");
+        link(&folder, "node_check");
+    }
+    // For the tests, which link C programs too.
+    println!("cargo:rustc-env=CABLESALAK_FOLDER={folder}");
+}
+
+fn link(folder: &str, name: &str) {
+    println!("cargo:rerun-if-changed={folder}/lib{name}.a");
+    println!("cargo:rustc-link-lib=static={name}");
     assert!(
-        Path::new(&folder).join("libexport.a").exists(),
-        "no libexport.a in {folder}: write it with `rt staticlib export`, or name its folder in {FOLDER}"
+        Path::new(folder).join(format!("lib{name}.a")).exists(),
+        "no lib{name}.a in {folder}: write it with `rt staticlib {name}`, or name its folder in {FOLDER}"
     );
 }

@@ -1,4 +1,4 @@
-// The face of the library: the calls open to others. Each tests for itself all that it needs, and none has a `requires`.
+// The public calls of the library, open to others. Each tests for itself all that it needs, and none has a `requires`.
 use commands::Form;
 use commands::Mode;
 use convert::Converted;
@@ -9,10 +9,9 @@ use single::call::Single;
 use single::least::AtLeast;
 use table::NodeNo;
 ghost use mathlib.Core.Path.{_≡_};
-ghost use mathlib.Core.Bool.{true};
 ghost use lib.ListN.{length};
-ghost use Rattle.commands.specs.declared.Form.the-variants.{Records, Text, Binary};
-ghost use Rattle.commands.specs.Commands.{inForm, inRecords, inText, inBinary};
+ghost use Rattle.checker.specs.Forms.{formOf};
+ghost use Rattle.commands.specs.Commands.{inForm, inRecords, inText};
 ghost use Rattle.convert.specs.Convert.{conversionOf, toBinary, toText};
 ghost use Rattle.session.specs.Checked.{checkOutcome};
 ghost use Rattle.single.specs.Single.{evaluation, madeOf, operation, countedOf, atLeastCall};
@@ -213,6 +212,70 @@ pub fn check_in<'a>(
     )
 }
 
+// The mode that a caller names by numbers: form 0 is records, 1 a DRAT text, any other binary DRAT. (02, 4/14, 9/14 and 11/14)
+pub fn mode_of(form: u8, consequence: bool) -> Mode
+    ensures { λ r. ⌜ r ≡ inForm (formOf form) consequence ⌝ }
+{
+    if form == 0 {
+        return Mode {
+            form: Form::Records,
+            consequence,
+        };
+    }
+    if form == 1 {
+        return Mode {
+            form: Form::Text,
+            consequence,
+        };
+    }
+    Mode {
+        form: Form::Binary,
+        consequence,
+    }
+}
+
+// The same where form and profile are named by a number and a flag: the one check for every form, within the consequence profile or
+// without it.
+pub fn check_form<'a>(
+    vars: &mut [u8],
+    lows: &mut [u16],
+    highs: &mut [u16],
+    heads: &mut [u16],
+    links: &mut [u16],
+    count: usize,
+    members: &mut [u16],
+    struck: &mut [u8],
+    scratch: &mut [u16],
+    formula: &'a [u8],
+    proof: &'a [u8],
+    form: u8,
+    consequence: bool,
+) -> Checked
+    ensures { λ r. ⌜ (
+        let lent = columnsMade (now (vars .entry)) (now (lows .entry)) (now (highs .entry)) (now (heads .entry)) (now (links .entry)) in
+        let left = columnsMade (now (vars .exit)) (now (lows .exit)) (now (highs .exit)) (now (heads .exit)) (now (links .exit)) in
+        checkOutcome left (now (members .exit)) (now (struck .exit)) (now (scratch .exit)) r
+        ≡ check (inForm (formOf form) consequence) lent count (now (members .entry)) (now (struck .entry)) (now (scratch .entry))
+        (now (formula .entry)) (now (proof .entry))) ⌝ }
+    ensures { λ r. ⌜ (r .number ≡ 0 → Unsatisfiable (now (formula .entry))) ⌝ }
+{
+    let mode = mode_of(form, consequence);
+    check_in(
+        vars,
+        lows,
+        highs,
+        heads,
+        links,
+        count,
+        members,
+        struck,
+        scratch,
+        mode,
+        formula,
+        proof,
+    )
+}
+
 // The same of a proof in records.
 pub fn check<'a>(
     vars: &mut [u8],
@@ -280,175 +343,6 @@ pub fn check_text<'a>(
     let mode = Mode {
         form: Form::Text,
         consequence: false,
-    };
-    check_in(
-        vars,
-        lows,
-        highs,
-        heads,
-        links,
-        count,
-        members,
-        struck,
-        scratch,
-        mode,
-        formula,
-        proof,
-    )
-}
-
-// The same of a binary DRAT proof. (02, 9/14)
-pub fn check_binary<'a>(
-    vars: &mut [u8],
-    lows: &mut [u16],
-    highs: &mut [u16],
-    heads: &mut [u16],
-    links: &mut [u16],
-    count: usize,
-    members: &mut [u16],
-    struck: &mut [u8],
-    scratch: &mut [u16],
-    formula: &'a [u8],
-    proof: &'a [u8],
-) -> Checked
-    ensures { λ r. ⌜ (
-        let lent = columnsMade (now (vars .entry)) (now (lows .entry)) (now (highs .entry)) (now (heads .entry)) (now (links .entry)) in
-        let left = columnsMade (now (vars .exit)) (now (lows .exit)) (now (highs .exit)) (now (heads .exit)) (now (links .exit)) in
-        checkOutcome left (now (members .exit)) (now (struck .exit)) (now (scratch .exit)) r
-        ≡ check inBinary lent count (now (members .entry)) (now (struck .entry)) (now (scratch .entry))
-        (now (formula .entry)) (now (proof .entry))) ⌝ }
-    ensures { λ r. ⌜ (r .number ≡ 0 → Unsatisfiable (now (formula .entry))) ⌝ }
-{
-    let mode = Mode {
-        form: Form::Binary,
-        consequence: false,
-    };
-    check_in(
-        vars,
-        lows,
-        highs,
-        heads,
-        links,
-        count,
-        members,
-        struck,
-        scratch,
-        mode,
-        formula,
-        proof,
-    )
-}
-
-// The check of a proof in records in the consequence profile: each accepted line is true under every assignment that satisfies the formula.
-// (02, 11/14)
-pub fn check_consequence<'a>(
-    vars: &mut [u8],
-    lows: &mut [u16],
-    highs: &mut [u16],
-    heads: &mut [u16],
-    links: &mut [u16],
-    count: usize,
-    members: &mut [u16],
-    struck: &mut [u8],
-    scratch: &mut [u16],
-    formula: &'a [u8],
-    proof: &'a [u8],
-) -> Checked
-    ensures { λ r. ⌜ (
-        let lent = columnsMade (now (vars .entry)) (now (lows .entry)) (now (highs .entry)) (now (heads .entry)) (now (links .entry)) in
-        let left = columnsMade (now (vars .exit)) (now (lows .exit)) (now (highs .exit)) (now (heads .exit)) (now (links .exit)) in
-        checkOutcome left (now (members .exit)) (now (struck .exit)) (now (scratch .exit)) r
-        ≡ check (inForm Records true) lent count (now (members .entry)) (now (struck .entry)) (now (scratch .entry))
-        (now (formula .entry)) (now (proof .entry))) ⌝ }
-    ensures { λ r. ⌜ (r .number ≡ 0 → Unsatisfiable (now (formula .entry))) ⌝ }
-{
-    let mode = Mode {
-        form: Form::Records,
-        consequence: true,
-    };
-    check_in(
-        vars,
-        lows,
-        highs,
-        heads,
-        links,
-        count,
-        members,
-        struck,
-        scratch,
-        mode,
-        formula,
-        proof,
-    )
-}
-
-// The same of a DRAT text, whose clauses pass by their first try alone. (02, 11/14)
-pub fn check_text_consequence<'a>(
-    vars: &mut [u8],
-    lows: &mut [u16],
-    highs: &mut [u16],
-    heads: &mut [u16],
-    links: &mut [u16],
-    count: usize,
-    members: &mut [u16],
-    struck: &mut [u8],
-    scratch: &mut [u16],
-    formula: &'a [u8],
-    proof: &'a [u8],
-) -> Checked
-    ensures { λ r. ⌜ (
-        let lent = columnsMade (now (vars .entry)) (now (lows .entry)) (now (highs .entry)) (now (heads .entry)) (now (links .entry)) in
-        let left = columnsMade (now (vars .exit)) (now (lows .exit)) (now (highs .exit)) (now (heads .exit)) (now (links .exit)) in
-        checkOutcome left (now (members .exit)) (now (struck .exit)) (now (scratch .exit)) r
-        ≡ check (inForm Text true) lent count (now (members .entry)) (now (struck .entry)) (now (scratch .entry))
-        (now (formula .entry)) (now (proof .entry))) ⌝ }
-    ensures { λ r. ⌜ (r .number ≡ 0 → Unsatisfiable (now (formula .entry))) ⌝ }
-{
-    let mode = Mode {
-        form: Form::Text,
-        consequence: true,
-    };
-    check_in(
-        vars,
-        lows,
-        highs,
-        heads,
-        links,
-        count,
-        members,
-        struck,
-        scratch,
-        mode,
-        formula,
-        proof,
-    )
-}
-
-// The same of a binary DRAT proof. (02, 9/14 and 11/14)
-pub fn check_binary_consequence<'a>(
-    vars: &mut [u8],
-    lows: &mut [u16],
-    highs: &mut [u16],
-    heads: &mut [u16],
-    links: &mut [u16],
-    count: usize,
-    members: &mut [u16],
-    struck: &mut [u8],
-    scratch: &mut [u16],
-    formula: &'a [u8],
-    proof: &'a [u8],
-) -> Checked
-    ensures { λ r. ⌜ (
-        let lent = columnsMade (now (vars .entry)) (now (lows .entry)) (now (highs .entry)) (now (heads .entry)) (now (links .entry)) in
-        let left = columnsMade (now (vars .exit)) (now (lows .exit)) (now (highs .exit)) (now (heads .exit)) (now (links .exit)) in
-        checkOutcome left (now (members .exit)) (now (struck .exit)) (now (scratch .exit)) r
-        ≡ check (inForm Binary true) lent count (now (members .entry)) (now (struck .entry)) (now (scratch .entry))
-        (now (formula .entry)) (now (proof .entry))) ⌝ }
-    ensures { λ r. ⌜ (r .number ≡ 0 → Unsatisfiable (now (formula .entry))) ⌝ }
-{
-    let mode = Mode {
-        form: Form::Binary,
-        consequence: true,
     };
     check_in(
         vars,

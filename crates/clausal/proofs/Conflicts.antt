@@ -16,7 +16,8 @@ use Rattle.meaning.proofs.Pointwise.{negation-value}
 use Rattle.meaning.proofs.Units.{same-eq}
 use Rattle.meaning.specs.Literals.{OfVariables}
 use Rattle.clausal.specs.Drat.{Clause, negated, alike, has, In, Plain, allFalse, Refutes, falsified, propagated, negation}
-use Rattle.clausal.proofs.Literals.{alike-eq, eq-alike, negated-twice, has-here, has-there, has-within, each-allFalse, each-allFalseBut, not-allFalse, AllOfVariables, in-within}
+use Rattle.clausal.proofs.Literals.{alike-eq, eq-alike, negated-twice, has-here, has-there, has-within, each-allFalse}
+use Rattle.clausal.proofs.Literals.{each-allFalseBut, not-allFalse, AllOfVariables, in-within}
 use Rattle.clausal.proofs.Under.{under, making, making-length, making-true, making-other, under-some, under-false}
 use Rattle.clausal.proofs.Rounds.{any-in}
 
@@ -24,7 +25,8 @@ use Rattle.clausal.proofs.Rounds.{any-in}
 
 module _ (n : ℕ) (α : List Literal) (plain : Plain α) (F : List Clause) (within : AllOfVariables n F) where
   -- two members that are each other's negations: one literal left each, opposite ones
-  module _ (c d : Clause) (ic : In c F) (id : In d F) (opposite : (a : Assignment) → length a ≡ n → value (under n α c) a ≡ not (value (under n α d) a)) where
+  module _ (c d : Clause) (ic : In c F) (id : In d F)
+      (opposite : (a : Assignment) → length a ≡ n → value (under n α c) a ≡ not (value (under n α d) a)) where
     wc : OfVariables n c
     wc = in-within n F c within ic
 
@@ -67,16 +69,19 @@ module _ (n : ℕ) (α : List Literal) (plain : Plain α) (F : List Clause) (wit
         go true e = alike-eq l (negated k) e
         go false e =
             let ne : k ≢ negated l = λ q. t≢f (sym (eq-alike l (negated k) (sym (negated-twice l) ∙ ap negated (sym q))) ∙ e) in
-            let tl : value (under n α c) b ≡ true = under-some n α plain c wc l hl fl b b-long (making-true l b₀ (rl .0) (omega (arith, rl .1, b₀-long))) in
+            let tl : value (under n α c) b ≡ true = under-some n α plain c wc l hl fl b b-long
+            (making-true l b₀ (rl .0) (omega (arith, rl .1, b₀-long))) in
             let tk : value (under n α d) b ≡ true = under-some n α plain d wd k hk fk b b-long
-            (making-other l k b₀ (rl .0) (rk .0) (omega (arith, rl .1, b₀-long)) ne (making-true k some-assignment (rk .0) (omega (arith, rk .1, some-long)))) in
+            (making-other l k b₀ (rl .0) (rk .0) (omega (arith, rl .1, b₀-long)) ne
+            (making-true k some-assignment (rk .0) (omega (arith, rk .1, some-long)))) in
             t≢f (sym tl ∙ opposite b b-long ∙ ap not tk)
 
     opposed : Refutes F α
     opposed = go (allFalse α c) refl (allFalse α d) refl
       where
         step : (l k : Literal) → has c l ≡ true → has α (negated l) ≡ false → has d k ≡ true → has α (negated k) ≡ false → Refutes F α
-        step l k hl fl hk fk = propagated c l ic hl (each-allFalseBut α l c (λ j h ne. other j h ne (has α (negated j)) refl)) (falsified d id (each-allFalse (l ∷ α) d (λ j h. left j h (has α (negated j)) refl)))
+        step l k hl fl hk fk = propagated c l ic hl (each-allFalseBut α l c (λ j h ne. other j h ne (has α (negated j)) refl))
+            (falsified d id (each-allFalse (l ∷ α) d (λ j h. left j h (has α (negated j)) refl)))
           where
             other : (j : Literal) → has c j ≡ true → j ≢ l → (b : Bool) → has α (negated j) ≡ b → has α (negated j) ≡ true
             other j h ne true e = e
@@ -97,9 +102,11 @@ module _ (n : ℕ) (α : List Literal) (plain : Plain α) (F : List Clause) (wit
   pub conflict-refutes : conflicts n (map (under n α) F) ≡ true → Refutes F α
   unfolding conflicts
   conflict-refutes e =
-      or-cases (any (same (leaf false)) (map (under n α) F)) (any (λ f. any (λ g. same f (meaning.negation n g)) (map (under n α) F)) (map (under n α) F)) e
+      or-cases (any (same (leaf false)) (map (under n α) F))
+      (any (λ f. any (λ g. same f (meaning.negation n g)) (map (under n α) F)) (map (under n α) F)) e
       (λ x. let (c, i, z) = any-in (same (leaf false)) (under n α) F x in
       falsified c i (under-false n α plain c (in-within n F c within i) (sym (same-eq (leaf false) (under n α c) z))))
       (λ x. let (c, i, z) = any-in (λ f. any (λ g. same f (meaning.negation n g)) (map (under n α) F)) (under n α) F x in
       let (d, j, y) = any-in (λ g. same (under n α c) (meaning.negation n g)) (under n α) F z in
-      opposed c d i j (λ a len. ap (λ (f : Diagram). value f a) (same-eq (under n α c) (meaning.negation n (under n α d)) y) ∙ negation-value n a len (under n α d)))
+      opposed c d i j (λ a len. ap (λ (f : Diagram). value f a) (same-eq (under n α c) (meaning.negation n (under n α d)) y)
+      ∙ negation-value n a len (under n α d)))

@@ -1,5 +1,5 @@
--- The cofactor by the negation of a clause is the cofactor by the negations of its literals. The idea: the nearest assignment that makes all
--- literals of the clause false differs from the given one at the clause's variables alone. Assumes nothing.
+-- The cofactor by the negation of a clause is the cofactor by the negations of its literals. The idea: the nearest assignment that makes
+-- all literals of the clause false differs from the given one at the clause's variables alone. Assumes nothing.
 use mathlib.Core.Path.{_≡_, refl, sym, ap, _∙_}
 use mathlib.Core.Logic.{_≢_}
 use mathlib.Core.Bool.{Bool, true, false, not, cond, Bool·beq}
@@ -45,7 +45,8 @@ module _ (n : ℕ) (c : Clause) (w : OfVariables n c) (plain : Plain c) (a : Ass
       false-there n (negations c) (negations-plain c plain) a len l (r .0) (r .1) (has-negation c l h)))
 
   -- an assignment that satisfies it has made's value at each of its variables
-  agrees : (b : Assignment) → value cube b ≡ true → length b ≡ n → (v : ℕ) (s : Bool) → has (negations c) (literal v s) ≡ true → holds b v ≡ s
+  agrees : (b : Assignment) → value cube b ≡ true → length b ≡ n → (v : ℕ) (s : Bool) → has (negations c) (literal v s) ≡ true → holds b v
+      ≡ s
   unfolding literalValue
   agrees b e lb v s h = go (holds b v) s refl (negation-has c (literal v s) h)
     where
@@ -70,7 +71,8 @@ module _ (n : ℕ) (c : Clause) (w : OfVariables n c) (plain : Plain c) (a : Ass
           → cond (Bool·beq (holds a i) (holds made i)) 0 (2 ^ (n - i)) ≤ cond (Bool·beq (holds a i) (holds b i)) 0 (2 ^ (n - i))
       near b lb e i lo hi =
           rw (forced-holds (negations c) a i lo (omega arith))
-          (go (makesTrue (negations c) i) (makesFalse (negations c) i) (λ p. agrees b e lb i true p) (λ p. agrees b e lb i false p) (holds a i) (holds b i) refl)
+          (go (makesTrue (negations c) i) (makesFalse (negations c) i) (λ p. agrees b e lb i true p) (λ p. agrees b e lb i false p)
+          (holds a i) (holds b i) refl)
         where
           go : (p q : Bool) → (p ≡ true → holds b i ≡ true) → (q ≡ true → holds b i ≡ false) → (x y : Bool) → holds b i ≡ y
               → cond (Bool·beq x (cond p true (cond q false x))) 0 (2 ^ (n - i)) ≤ cond (Bool·beq x y) 0 (2 ^ (n - i))
@@ -80,10 +82,13 @@ module _ (n : ℕ) (c : Clause) (w : OfVariables n c) (plain : Plain c) (a : Ass
           go false false f g false y e = omega arith
 
   nearest-made : nearest n (value cube) a ≡ made
-  nearest-made = nearest-unique n (value cube) a (nearest n (value cube) a) made len (nearest-is n (value cube) a (made, made-long, made-satisfies)) made-nearest
+  nearest-made = nearest-unique n (value cube) a (nearest n (value cube) a) made len
+      (nearest-is n (value cube) a (made, made-long, made-satisfies)) made-nearest
 
 pub cube-cofactor : (n : ℕ) (c : Clause) → OfVariables n c → Plain c → (f : Diagram)
     → cofactor n f (meaning.negation n (clause n c)) ≡ cofactorLiterals n (makesTrue (negations c)) (makesFalse (negations c)) f
 cube-cofactor n c w plain f =
-    unique n 1 (suc n) _ _ (omega arith) (cofactor-reduced n f (meaning.negation n (clause n c))) (literals-reduced n (makesTrue (negations c)) (makesFalse (negations c)) f) λ a len.
-    cofactor-value n f (meaning.negation n (clause n c)) a len ∙ ap (value f) (nearest-made n c w plain a len) ∙ sym (literals-value n a len (makesTrue (negations c)) (makesFalse (negations c)) f)
+    unique n 1 (suc n) _ _ (omega arith) (cofactor-reduced n f (meaning.negation n (clause n c)))
+    (literals-reduced n (makesTrue (negations c)) (makesFalse (negations c)) f) λ a len.
+    cofactor-value n f (meaning.negation n (clause n c)) a len ∙ ap (value f) (nearest-made n c w plain a len)
+    ∙ sym (literals-value n a len (makesTrue (negations c)) (makesFalse (negations c)) f)

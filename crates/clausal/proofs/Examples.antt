@@ -1,4 +1,5 @@
--- The definitions at work on small formulas: a clause by its first try, by its second alone, by neither. The idea: each is computed. Assumes nothing.
+-- The definitions at work on small formulas: a clause by its first try, by its second alone, by neither. The idea: each is computed.
+-- Assumes nothing.
 use mathlib.Core.Path.{_≡_, refl}
 use mathlib.Core.Logic.{inl, inr}
 use mathlib.Core.Bool.{true, false}

@@ -1,5 +1,5 @@
--- The first try of a DRAT clause, as a RUP line over the diagrams of clauses, is RUP over the clauses. The idea: the members by not-g are the
--- clauses under g's negated literals, and UnitProp over those is clausal. Assumes nothing.
+-- The first try of a DRAT clause, as a RUP line over the diagrams of clauses, is RUP over the clauses. The idea: the members by not-g are
+-- the clauses under g's negated literals, and UnitProp over those is clausal. Assumes nothing.
 use mathlib.Core.Path.{_≡_, refl, sym, ap₂, subst}
 use mathlib.Core.Bool.{Bool, true, false}
 use mathlib.Core.List.{List, [], _∷_, map}
@@ -31,9 +31,11 @@ module _ (n : ℕ) (c : Clause) (w : OfVariables n c) (plain : Plain c) where
 
     pub rup-all : Rup F c → rup n (map (clause n) F) (clause n c) .shown ≡ true
     unfolding rup
-    rup-all r = subst (λ (ms : List Diagram). unitProp n ms .conflict ≡ true) (sym (members-by F)) (go (unitProp n (map (under n (negations c)) F) .conflict) refl)
+    rup-all r = subst (λ (ms : List Diagram). unitProp n ms .conflict ≡ true) (sym (members-by F))
+        (go (unitProp n (map (under n (negations c)) F) .conflict) refl)
       where
-        go : (b : Bool) → unitProp n (map (under n (negations c)) F) .conflict ≡ b → unitProp n (map (under n (negations c)) F) .conflict ≡ true
+        go : (b : Bool) → unitProp n (map (under n (negations c)) F) .conflict ≡ b → unitProp n (map (under n (negations c)) F) .conflict
+            ≡ true
         go true e = e
         go false e =
             let (β, pl, le, C) = unitProp-closes n F within (negations c) (negations-plain c plain) e in

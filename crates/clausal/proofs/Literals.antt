@@ -1,5 +1,5 @@
--- Literals and lists of them: equality of literals, membership, and what `allFalse` and `allFalseBut` say literal by literal. The idea: by the
--- list's cases. Assumes nothing.
+-- Literals and lists of them: equality of literals, membership, and what `allFalse` and `allFalseBut` say literal by literal. The idea: by
+-- the list's cases. Assumes nothing.
 use mathlib.Core.Path.{_≡_, refl, sym, ap, _∙_, subst}
 use mathlib.Core.Logic.{_⊎_, inl, inr, _≢_}
 use mathlib.Core.Bool.{Bool, true, false, not, _&&_, _||_, cond, Bool·beq}
@@ -14,7 +14,8 @@ use Rattle.clausal.specs.Drat.{Clause, literal, negated, alike, has, wit
 pub alike-eq : (k l : Literal) → alike k l ≡ true → k ≡ l
 unfolding alike
 alike-eq k l e =
-    let b : (eqb (k .variable) (l .variable) ≡ true) × (Bool·beq (k .positive) (l .positive) ≡ true) = and-both (eqb (k .variable) (l .variable)) (Bool·beq (k .positive) (l .positive)) e in
+    let b : (eqb (k .variable) (l .variable) ≡ true) × (Bool·beq (k .positive) (l .positive) ≡ true) =
+    and-both (eqb (k .variable) (l .variable)) (Bool·beq (k .positive) (l .positive)) e in
     go (eqb-eq (k .variable) (l .variable) (b .0)) (beq-eq (k .positive) (l .positive) (b .1))
   where
     go : k .variable ≡ l .variable → k .positive ≡ l .positive → k ≡ l
@@ -40,7 +41,8 @@ pub has-here : (l : Literal) (ls : List Literal) → has (l ∷ ls) l ≡ true
 unfolding has
 has-here l ls = or-left (alike l l) (has ls l) (eq-alike l l refl)
 
-pub has-cases : {A : Type 0} (k : Literal) (ls : List Literal) (l : Literal) → has (k ∷ ls) l ≡ true → (k ≡ l → A) → (has ls l ≡ true → A) → A
+pub has-cases : {A : Type 0} (k : Literal) (ls : List Literal) (l : Literal) → has (k ∷ ls) l ≡ true → (k ≡ l → A) → (has ls l ≡ true → A) →
+    A
 unfolding has
 has-cases k ls l e f g = or-cases (alike k l) (has ls l) e (λ x. f (alike-eq k l x)) g
 
@@ -48,7 +50,8 @@ pub has-there : (k : Literal) (ls : List Literal) (l : Literal) → has ls l ≡
 unfolding has
 has-there k ls l e = or-right (alike k l) (has ls l) e
 
-pub has-append : {A : Type 0} (xs ys : List Literal) (l : Literal) → has (xs ++ ys) l ≡ true → (has xs l ≡ true → A) → (has ys l ≡ true → A) → A
+pub has-append : {A : Type 0} (xs ys : List Literal) (l : Literal) → has (xs ++ ys) l ≡ true → (has xs l ≡ true → A) →
+    (has ys l ≡ true → A) → A
 has-append [] ys l e f g = g e
 has-append (k ∷ xs) ys l e f g =
     has-cases k (xs ++ ys) l e (λ x. f (subst (λ (m : Literal). has (k ∷ xs) m ≡ true) x (has-here k xs)))
@@ -67,7 +70,8 @@ pub has-left : (xs ys : List Literal) (l : Literal) → has xs l ≡ true → ha
 unfolding has
 has-left [] ys l e = t≢f (sym e)
 has-left (k ∷ xs) ys l e =
-    has-cases k xs l e (λ x. subst (λ (m : Literal). has (k ∷ (xs ++ ys)) m ≡ true) x (has-here k (xs ++ ys))) (λ x. has-there k (xs ++ ys) l (has-left xs ys l x))
+    has-cases k xs l e (λ x. subst (λ (m : Literal). has (k ∷ (xs ++ ys)) m ≡ true) x (has-here k (xs ++ ys)))
+    (λ x. has-there k (xs ++ ys) l (has-left xs ys l x))
 
 pub has-right : (xs ys : List Literal) (l : Literal) → has ys l ≡ true → has (xs ++ ys) l ≡ true
 has-right [] ys l e = e
@@ -97,7 +101,8 @@ negation-has (k ∷ ls) l e =
     (λ x. has-there k ls (negated l) (negation-has ls l x))
 
 pub negations-plain : (ls : List Literal) → Plain ls → Plain (negations ls)
-negations-plain ls p l x y = p l (subst (λ (m : Literal). has ls m ≡ true) (negated-twice l) (negation-has ls (negated l) y)) (negation-has ls l x)
+negations-plain ls p l x y = p l (subst (λ (m : Literal). has ls m ≡ true) (negated-twice l) (negation-has ls (negated l) y))
+    (negation-has ls l x)
 
 -- ---- within
 
@@ -121,16 +126,20 @@ unfolding allFalse
 each-allFalse α [] h = refl
 each-allFalse α (k ∷ c) h = rw (h k (has-here k c)) (each-allFalse α c (λ l x. h l (has-there k c l x)))
 
-pub allFalseBut-each : (α : List Literal) (l : Literal) (c : Clause) → allFalseBut α l c ≡ true → (k : Literal) → has c k ≡ true → k ≢ l → has α (negated k) ≡ true
+pub allFalseBut-each : (α : List Literal) (l : Literal) (c : Clause) → allFalseBut α l c ≡ true → (k : Literal) → has c k ≡ true → k ≢ l →
+    has α (negated k) ≡ true
 unfolding allFalseBut has
 allFalseBut-each α l [] e k h ne = t≢f (sym h)
 allFalseBut-each α l (j ∷ c) e k h ne =
-    let b : ((alike j l || has α (negated j)) ≡ true) × (allFalseBut α l c ≡ true) = and-both (alike j l || has α (negated j)) (allFalseBut α l c) e in
+    let b : ((alike j l || has α (negated j)) ≡ true) × (allFalseBut α l c ≡ true) =
+    and-both (alike j l || has α (negated j)) (allFalseBut α l c) e in
     has-cases j c k h
-    (λ x. or-cases (alike j l) (has α (negated j)) (b .0) (λ y. absurd (ne (sym x ∙ alike-eq j l y))) (λ y. subst (λ (m : Literal). has α (negated m) ≡ true) x y))
+    (λ x. or-cases (alike j l) (has α (negated j)) (b .0) (λ y. absurd (ne (sym x ∙ alike-eq j l y)))
+    (λ y. subst (λ (m : Literal). has α (negated m) ≡ true) x y))
     (λ x. allFalseBut-each α l c (b .1) k x ne)
 
-pub each-allFalseBut : (α : List Literal) (l : Literal) (c : Clause) → ((k : Literal) → has c k ≡ true → k ≢ l → has α (negated k) ≡ true) → allFalseBut α l c ≡ true
+pub each-allFalseBut : (α : List Literal) (l : Literal) (c : Clause) → ((k : Literal) → has c k ≡ true → k ≢ l → has α (negated k) ≡ true) →
+    allFalseBut α l c ≡ true
 unfolding allFalseBut
 each-allFalseBut α l [] h = refl
 each-allFalseBut α l (k ∷ c) h = rw (here (alike k l) refl) (each-allFalseBut α l c (λ j x. h j (has-there k c j x)))
@@ -145,7 +154,8 @@ unfolding allFalse
 not-allFalse α [] e = t≢f e
 not-allFalse α (k ∷ c) e = go (has α (negated k)) refl e (not-allFalse α c)
   where
-    go : (b : Bool) → has α (negated k) ≡ b → (b && allFalse α c) ≡ false → (allFalse α c ≡ false → (l : Literal) × (has c l ≡ true) × (has α (negated l) ≡ false))
+    go : (b : Bool) → has α (negated k) ≡ b → (b && allFalse α c) ≡ false →
+        (allFalse α c ≡ false → (l : Literal) × (has c l ≡ true) × (has α (negated l) ≡ false))
         → (l : Literal) × (has (k ∷ c) l ≡ true) × (has α (negated l) ≡ false)
     go true p e ih = let (l, h, f) = ih e in (l, has-there k c l h, f)
     go false p e ih = (k, has-here k c, p)
@@ -172,28 +182,33 @@ unfolding without has
 has-without l [] k h ne = h
 has-without l (j ∷ c) k h ne = go (alike j l) refl (has-without l c k)
   where
-    go : (b : Bool) → alike j l ≡ b → (has c k ≡ true → k ≢ l → has (without l c) k ≡ true) → has (cond b (without l c) (j ∷ without l c)) k ≡ true
+    go : (b : Bool) → alike j l ≡ b → (has c k ≡ true → k ≢ l → has (without l c) k ≡ true) → has (cond b (without l c) (j ∷ without l c)) k
+        ≡ true
     go true e ih = has-cases j c k h (λ q. absurd (ne (sym q ∙ alike-eq j l e))) (λ x. ih x ne)
-    go false e ih = has-cases j c k h (λ q. subst (λ (m : Literal). has (j ∷ without l c) m ≡ true) q (has-here j (without l c))) (λ x. has-there j (without l c) k (ih x ne))
+    go false e ih = has-cases j c k h (λ q. subst (λ (m : Literal). has (j ∷ without l c) m ≡ true) q (has-here j (without l c)))
+        (λ x. has-there j (without l c) k (ih x ne))
 
 pub without-has : (l : Literal) (c : Clause) (k : Literal) → has (without l c) k ≡ true → (has c k ≡ true) × (k ≢ l)
 unfolding without has
 without-has l [] k h = t≢f (sym h)
 without-has l (j ∷ c) k h = go (alike j l) refl h (without-has l c k)
   where
-    go : (b : Bool) → alike j l ≡ b → has (cond b (without l c) (j ∷ without l c)) k ≡ true → (has (without l c) k ≡ true → (has c k ≡ true) × (k ≢ l)) → (has (j ∷ c) k ≡ true) × (k ≢ l)
+    go : (b : Bool) → alike j l ≡ b → has (cond b (without l c) (j ∷ without l c)) k ≡ true →
+        (has (without l c) k ≡ true → (has c k ≡ true) × (k ≢ l)) → (has (j ∷ c) k ≡ true) × (k ≢ l)
     go true e h ih = let (x, ne) = ih h in (has-there j c k x, ne)
     go false e h ih = has-cases j (without l c) k h
         (λ q. (subst (λ (m : Literal). has (j ∷ c) m ≡ true) q (has-here j c), λ z. t≢f (sym (eq-alike j l (q ∙ z)) ∙ e)))
         (λ x. let (y, ne) = ih x in (has-there j c k y, ne))
 
 -- a clause has a literal that is true, or none of its literals is
-pub some-true : (α : List Literal) (c : Clause) → ((k : Literal) × (has c k ≡ true) × (has α k ≡ true)) ⊎ ((k : Literal) → has c k ≡ true → has α k ≡ false)
+pub some-true : (α : List Literal) (c : Clause) → ((k : Literal) × (has c k ≡ true) × (has α k ≡ true)) ⊎
+    ((k : Literal) → has c k ≡ true → has α k ≡ false)
 unfolding has
 some-true α [] = inr (λ k h. t≢f (sym h))
 some-true α (l ∷ c) = go (has α l) refl (some-true α c)
   where
-    go : (b : Bool) → has α l ≡ b → ((k : Literal) × (has c k ≡ true) × (has α k ≡ true)) ⊎ ((k : Literal) → has c k ≡ true → has α k ≡ false)
+    go : (b : Bool) → has α l ≡ b → ((k : Literal) × (has c k ≡ true) × (has α k ≡ true)) ⊎
+        ((k : Literal) → has c k ≡ true → has α k ≡ false)
         → ((k : Literal) × (has (l ∷ c) k ≡ true) × (has α k ≡ true)) ⊎ ((k : Literal) → has (l ∷ c) k ≡ true → has α k ≡ false)
     go true e r = inl (l, has-here l c, e)
     go false e (inl (k, h, t)) = inl (k, has-there l c k h, t)

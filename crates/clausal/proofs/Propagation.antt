@@ -1,5 +1,5 @@
--- UnitProp over the diagrams of clauses under an assignment conflicts exactly where clausal unit propagation does. The idea: each round is a
--- clausal step; where the rounds end without a conflict the assignment reached is closed, and no clausal propagation leaves it. Assumes
+-- UnitProp over the diagrams of clauses under an assignment conflicts exactly where clausal unit propagation does. The idea: each round is
+-- a clausal step; where the rounds end without a conflict the assignment reached is closed, and no clausal propagation leaves it. Assumes
 -- nothing.
 use mathlib.Core.Path.{_≡_, refl, sym, ap, _∙_, subst}
 use mathlib.Core.Logic.{_≢_}
@@ -16,8 +16,10 @@ use Rattle.meaning.proofs.Booleans.{t≢f, or-neither}
 use Rattle.meaning.proofs.Units.{eq-same}
 use Rattle.meaning.proofs.Ends.{inUse, fewer, more-rounds}
 use Rattle.meaning.specs.Literals.{OfVariables}
-use Rattle.clausal.specs.Drat.{Clause, literal, negated, has, In, Plain, allFalse, allFalseBut, Refutes, falsified, propagated, negation}
-use Rattle.clausal.proofs.Literals.{has-cases, has-there, Among, has-within, allFalse-each, each-allFalse, allFalseBut-each, each-allFalseBut, AllOfVariables, in-within}
+use Rattle.clausal.specs.Drat.{Clause, literal, negated, has, In, Plain, allFalse, allFalseBut, Refutes, falsified, propagated}
+use Rattle.clausal.specs.Drat.{negation}
+use Rattle.clausal.proofs.Literals.{has-cases, has-there, Among, has-within, allFalse-each, each-allFalse, allFalseBut-each}
+use Rattle.clausal.proofs.Literals.{each-allFalseBut, AllOfVariables, in-within}
 use Rattle.clausal.proofs.Under.{under, false-under, Left, unit-left, left-unit}
 use Rattle.clausal.proofs.Rounds.{plain-more, round-is, in-any, under-all-reduced, first-in, none-in, unit-has}
 use Rattle.clausal.proofs.Conflicts.{conflict-refutes}
@@ -47,7 +49,8 @@ module _ (n : ℕ) (F : List Clause) (within : AllOfVariables n F) where
   unfolding conflicts
   quiet α plain calm c i e =
       t≢f (sym (in-any (same (leaf false)) (under n α) F c i (eq-same (leaf false) (under n α c) (sym e)))
-      ∙ or-neither (any (same (leaf false)) (members α)) (any (λ f. any (λ g. same f (meaning.negation n g)) (members α)) (members α)) calm .0)
+      ∙ or-neither (any (same (leaf false)) (members α)) (any (λ f. any (λ g. same f (meaning.negation n g)) (members α)) (members α)) calm
+      .0)
 
   -- no conflict and no unit
   ends-closed : (α : List Literal) → Plain α → conflicts n (members α) ≡ false → firstWithUnit n (members α) ≡ none → Closed F α
@@ -61,7 +64,8 @@ module _ (n : ℕ) (F : List Clause) (within : AllOfVariables n F) where
       go c l i h f false t =
           let w : OfVariables n c = in-within n F c within i in
           let r : (1 ≤ l .variable) × (l .variable ≤ n) = has-within n c l w h in
-          t≢f (sym (unit-has n n (under n α c) (l .variable) (l .positive) (r .0) (r .1) (left-unit n α plain c w l (r .0) (r .1) t f)) ∙ none-in n (under n α) F e c i)
+          t≢f (sym (unit-has n n (under n α c) (l .variable) (l .positive) (r .0) (r .1) (left-unit n α plain c w l (r .0) (r .1) t f))
+          ∙ none-in n (under n α) F e c i)
 
   -- the member that a round takes, with the literal that is left of it
   record UnitClause (α : List Literal) (plain : Plain α) (u : Diagram) : Type 0 where
@@ -72,7 +76,8 @@ module _ (n : ℕ) (F : List Clause) (within : AllOfVariables n F) where
     pub unit : Literal
     pub left : Left n α plain clause (in-within n F clause within inside) unit
 
-  taken : (α : List Literal) (plain : Plain α) (u : Diagram) → conflicts n (members α) ≡ false → firstWithUnit n (members α) ≡ some u → UnitClause α plain u
+  taken : (α : List Literal) (plain : Plain α) (u : Diagram) → conflicts n (members α) ≡ false → firstWithUnit n (members α) ≡ some u →
+      UnitClause α plain u
   taken α plain u calm e =
       let (c, i, q, h) = first-in n (under n α) F u e in
       let (v, s, lo, hi, un) = a-unit n n u h in
@@ -83,7 +88,8 @@ module _ (n : ℕ) (F : List Clause) (within : AllOfVariables n F) where
         is = q;
         some = nz;
         unit = literal v s;
-        left = unit-left n α plain c (in-within n F c within i) (literal v s) lo hi (subst (λ (f : Diagram). isUnit n f v s ≡ true) (sym q) un) nz;
+        left = unit-left n α plain c (in-within n F c within i) (literal v s) lo hi
+            (subst (λ (f : Diagram). isUnit n f v s ≡ true) (sym q) un) nz;
       }
 
   module _ (α : List Literal) (plain : Plain α) (u : Diagram) (T : UnitClause α plain u) where
@@ -113,7 +119,8 @@ module _ (n : ℕ) (F : List Clause) (within : AllOfVariables n F) where
   propagate-refutes : (k : ℕ) (α : List Literal) → Plain α → propagate k n (members α) .conflict ≡ true → Refutes F α
   unfolding propagate
   propagate-refutes zero α plain e = conflict-refutes n α plain F within e
-  propagate-refutes (suc k) α plain e = go (conflicts n (members α)) refl (firstWithUnit n (members α)) refl e (λ β p x. propagate-refutes k β p x)
+  propagate-refutes (suc k) α plain e = go (conflicts n (members α)) refl (firstWithUnit n (members α)) refl e
+      (λ β p x. propagate-refutes k β p x)
     where
       go : (b : Bool) → conflicts n (members α) ≡ b → (x : Option Diagram) → firstWithUnit n (members α) ≡ x
           → cond b (still true) (taking x (λ u. round (byUnits n u (members α)) (propagate k n (byUnits n u (members α))))) .conflict ≡ true
@@ -123,13 +130,15 @@ module _ (n : ℕ) (F : List Clause) (within : AllOfVariables n F) where
       go false c (some u) f e ih =
           let T : UnitClause α plain u = taken α plain u c f in
           next-refutes α plain u T
-          (ih (next α plain u T) (next-plain α plain u T) (subst (λ (ms : List Diagram). propagate k n ms .conflict ≡ true) (next-members α plain u T) e))
+          (ih (next α plain u T) (next-plain α plain u T)
+          (subst (λ (ms : List Diagram). propagate k n ms .conflict ≡ true) (next-members α plain u T) e))
 
   -- an assignment above α that is closed
   abbrev pub Reaches : List Literal → Type 0
   Reaches α = (β : List Literal) × Plain β × Among α β × Closed F β
 
-  propagate-closes : (k : ℕ) (α : List Literal) → Plain α → inUse n (members α) ≤ k → propagate k n (members α) .conflict ≡ false → Reaches α
+  propagate-closes : (k : ℕ) (α : List Literal) → Plain α → inUse n (members α) ≤ k → propagate k n (members α) .conflict ≡ false →
+      Reaches α
   unfolding propagate
   propagate-closes zero α plain most e = go (firstWithUnit n (members α)) refl
     where
@@ -140,14 +149,18 @@ module _ (n : ℕ) (F : List Clause) (within : AllOfVariables n F) where
       go (conflicts n (members α)) refl (firstWithUnit n (members α)) refl e (λ β p q x. propagate-closes k β p q x)
     where
       go : (b : Bool) → conflicts n (members α) ≡ b → (x : Option Diagram) → firstWithUnit n (members α) ≡ x
-          → cond b (still true) (taking x (λ u. round (byUnits n u (members α)) (propagate k n (byUnits n u (members α))))) .conflict ≡ false
+          → cond b (still true) (taking x (λ u. round (byUnits n u (members α)) (propagate k n (byUnits n u (members α))))) .conflict
+          ≡ false
           → ((β : List Literal) → Plain β → inUse n (members β) ≤ k → propagate k n (members β) .conflict ≡ false → Reaches β) → Reaches α
       go true c x f e ih = t≢f e
       go false c none f e ih = (α, plain, (λ l h. h), ends-closed α plain c f)
       go false c (some u) f e ih =
           let T : UnitClause α plain u = taken α plain u c f in
-          let less : inUse n (members (next α plain u T)) < inUse n (members α) = subst (λ (ms : List Diagram). inUse n ms < inUse n (members α)) (next-members α plain u T) (fewer n (members α) u c (under-all-reduced n α F) f) in
-          let (β, pl, le, C) = ih (next α plain u T) (next-plain α plain u T) (omega arith) (subst (λ (ms : List Diagram). propagate k n ms .conflict ≡ false) (next-members α plain u T) e) in
+          let less : inUse n (members (next α plain u T)) < inUse n (members α) =
+          subst (λ (ms : List Diagram). inUse n ms < inUse n (members α)) (next-members α plain u T)
+          (fewer n (members α) u c (under-all-reduced n α F) f) in
+          let (β, pl, le, C) = ih (next α plain u T) (next-plain α plain u T) (omega arith)
+          (subst (λ (ms : List Diagram). propagate k n ms .conflict ≡ false) (next-members α plain u T) e) in
           (β, pl, (λ l h. le l (next-wider α plain u T l h)), C)
 
   pub unitProp-refutes : (α : List Literal) → Plain α → unitProp n (members α) .conflict ≡ true → Refutes F α

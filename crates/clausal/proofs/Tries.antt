@@ -16,11 +16,13 @@ use Rattle.clausal.proofs.FirstTry.{rup-only, rup-all}
 use Rattle.clausal.proofs.SecondTry.{rat-only, rat-all}
 
 -- THEOREM: for clauses and members without both signs of a variable the two tries accept exactly what RUP and RAT over clauses accept.
-pub two-tries : (n : ℕ) (F : List Clause) → AllOfVariables n F → AllPlain F → (c : Clause) → OfVariables n c → Plain c → (shownBy n (map (clause n) F) c ≡ true) ↔ Accepted F c
+pub two-tries : (n : ℕ) (F : List Clause) → AllOfVariables n F → AllPlain F → (c : Clause) → OfVariables n c → Plain c →
+    (shownBy n (map (clause n) F) c ≡ true) ↔ Accepted F c
 unfolding shownBy
 two-tries n F within plains [] w plain = (rup-only n [] w plain F within, rup-all n [] w plain F within)
 two-tries n F within plains (p ∷ ls) w plain = (
-  (λ e. or-cases first second e (λ x. inl (rup-only n (p ∷ ls) w plain F within x)) (λ x. inr (rat-only n (p ∷ ls) w plain p (has-here p ls) F within plains x))),
+  (λ e. or-cases first second e (λ x. inl (rup-only n (p ∷ ls) w plain F within x))
+      (λ x. inr (rat-only n (p ∷ ls) w plain p (has-here p ls) F within plains x))),
   go,
 )
   where

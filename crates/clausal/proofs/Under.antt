@@ -20,7 +20,9 @@ use Rattle.meaning.proofs.Units.{unit-holds}
 use Rattle.meaning.specs.Literals.{OfVariables}
 use Rattle.clausal.specs.Drat.{Clause, literal, negated, alike, has, Plain, allFalse, allFalseBut}
 use Rattle.clausal.specs.Tries.{makesTrue, makesFalse}
-use Rattle.clausal.proofs.Literals.{alike-eq, eq-alike, negated-twice, negated-differs, has-here, has-cases, has-there, has-within, allFalse-each, each-allFalse, allFalseBut-each, each-allFalseBut, not-allFalse, Said, is-true, is-false, open-yet, said}
+use Rattle.clausal.proofs.Literals.{alike-eq, eq-alike, negated-twice, negated-differs, has-here, has-cases, has-there, has-within}
+use Rattle.clausal.proofs.Literals.{allFalse-each, each-allFalse, allFalseBut-each, each-allFalseBut, not-allFalse, Said, is-true}
+use Rattle.clausal.proofs.Literals.{is-false, open-yet, said}
 
 -- ---- the assignment that makes the literals of α true
 abbrev pub forcedBy : List Literal → Assignment → Assignment
@@ -30,10 +32,12 @@ forcedBy α a = forced (makesTrue α) (makesFalse α) 1 a
 unfoldable pub under : ℕ → List Literal → Clause → Diagram
 under n α c = cofactorLiterals n (makesTrue α) (makesFalse α) (clause n c)
 
-pub under-value : (n : ℕ) (α : List Literal) (c : Clause) (a : Assignment) → length a ≡ n → value (under n α c) a ≡ clauseValue c (forcedBy α a)
+pub under-value : (n : ℕ) (α : List Literal) (c : Clause) (a : Assignment) → length a ≡ n → value (under n α c) a
+    ≡ clauseValue c (forcedBy α a)
 unfolding under
 under-value n α c a len =
-    literals-value n a len (makesTrue α) (makesFalse α) (clause n c) ∙ clause-value n (forcedBy α a) (forced-length (makesTrue α) (makesFalse α) 1 a ∙ len) c
+    literals-value n a len (makesTrue α) (makesFalse α) (clause n c) ∙ clause-value n (forcedBy α a)
+    (forced-length (makesTrue α) (makesFalse α) 1 a ∙ len) c
 
 pub under-reduced : (n : ℕ) (α : List Literal) (c : Clause) → Reduced 1 (suc n) (under n α c)
 unfolding under
@@ -45,8 +49,10 @@ pub forced-holds : (α : List Literal) (a : Assignment) (v : ℕ) → 1 ≤ v �
     → holds (forcedBy α a) v ≡ cond (makesTrue α v) true (cond (makesFalse α v) false (holds a v))
 forced-holds α a v lo hi = forced-at (makesTrue α) (makesFalse α) 1 a v lo (omega arith)
 
-module _ (n : ℕ) (α : List Literal) (plain : Plain α) (a : Assignment) (len : length a ≡ n) (l : Literal) (lo : 1 ≤ l .variable) (hi : l .variable ≤ n) where
-  at-l : holds (forcedBy α a) (l .variable) ≡ cond (makesTrue α (l .variable)) true (cond (makesFalse α (l .variable)) false (holds a (l .variable)))
+module _ (n : ℕ) (α : List Literal) (plain : Plain α) (a : Assignment) (len : length a ≡ n) (l : Literal) (lo : 1 ≤ l .variable)
+    (hi : l .variable ≤ n) where
+  at-l : holds (forcedBy α a) (l .variable) ≡ cond (makesTrue α (l .variable)) true
+      (cond (makesFalse α (l .variable)) false (holds a (l .variable)))
   at-l = forced-holds α a (l .variable) lo (omega arith)
 
   true-there : has α l ≡ true → literalValue l (forcedBy α a) ≡ true
@@ -79,7 +85,8 @@ module _ (n : ℕ) (α : List Literal) (plain : Plain α) (a : Assignment) (len 
   unfolding literalValue
   same-there h k = go (l .positive) refl
     where
-      go : (s : Bool) → l .positive ≡ s → Bool·beq (holds (forcedBy α a) (l .variable)) (l .positive) ≡ Bool·beq (holds a (l .variable)) (l .positive)
+      go : (s : Bool) → l .positive ≡ s → Bool·beq (holds (forcedBy α a) (l .variable)) (l .positive)
+          ≡ Bool·beq (holds a (l .variable)) (l .positive)
       go true e =
           let p : makesTrue α (l .variable) ≡ false = ap (λ (s : Bool). has α (literal (l .variable) s)) (sym e) ∙ h in
           let q : makesFalse α (l .variable) ≡ false = ap (λ (s : Bool). has α (literal (l .variable) (not s))) (sym e) ∙ k in
@@ -114,10 +121,12 @@ making-length l a = length-set a (l .variable - 1) (l .positive)
 
 pub making-true : (l : Literal) (a : Assignment) → 1 ≤ l .variable → l .variable ≤ length a → literalValue l (making l a) ≡ true
 unfolding literalValue
-making-true l a lo hi = eq-beq (holds (making l a) (l .variable)) (l .positive) (getD-set-same a (l .variable - 1) (l .positive) false (omega arith))
+making-true l a lo hi = eq-beq (holds (making l a) (l .variable)) (l .positive)
+    (getD-set-same a (l .variable - 1) (l .positive) false (omega arith))
 
 -- another literal that is true stays so, if it is not the negation
-pub making-other : (l k : Literal) (a : Assignment) → 1 ≤ l .variable → 1 ≤ k .variable → l .variable ≤ length a → k ≢ negated l → literalValue k a ≡ true → literalValue k (making l a) ≡ true
+pub making-other : (l k : Literal) (a : Assignment) → 1 ≤ l .variable → 1 ≤ k .variable → l .variable ≤ length a → k ≢ negated l →
+    literalValue k a ≡ true → literalValue k (making l a) ≡ true
 unfolding literalValue
 making-other l k a lo lk hi ne t = go (ℕ-discrete (k .variable) (l .variable))
   where
@@ -130,9 +139,11 @@ making-other l k a lo lk hi ne t = go (ℕ-discrete (k .variable) (l .variable))
     go : Dec (k .variable ≡ l .variable) → Bool·beq (holds (making l a) (k .variable)) (k .positive) ≡ true
     go (yes e) = eq-beq (holds (making l a) (k .variable)) (k .positive)
         (ap (λ (v : ℕ). holds (making l a) v) e ∙ getD-set-same a (l .variable - 1) (l .positive) false (omega arith)
-        ∙ differ (k .positive) (l .positive) (λ q. ne (ap (λ (v : ℕ). literal v (k .positive)) e ∙ ap (λ (s : Bool). literal (l .variable) s) q)))
+        ∙ differ (k .positive) (l .positive) (λ q. ne
+        (ap (λ (v : ℕ). literal v (k .positive)) e ∙ ap (λ (s : Bool). literal (l .variable) s) q)))
     go (no d) = eq-beq (holds (making l a) (k .variable)) (k .positive)
-        (getD-set-other a (l .variable - 1) (k .variable - 1) (l .positive) false (omega arith) ∙ beq-eq (holds a (k .variable)) (k .positive) t)
+        (getD-set-other a (l .variable - 1) (k .variable - 1) (l .positive) false (omega arith)
+        ∙ beq-eq (holds a (k .variable)) (k .positive) t)
 
 -- ---- what the diagram is
 
@@ -144,13 +155,15 @@ module _ (n : ℕ) (α : List Literal) (plain : Plain α) (c : Clause) (w : OfVa
       under-value n α c a len ∙ clause-some c (forcedBy α a) l h (true-there n α plain a len l (r .0) (r .1) t)
 
   -- 1 where an open literal is
-  under-open : (l : Literal) → has c l ≡ true → has α l ≡ false → has α (negated l) ≡ false → (a : Assignment) → length a ≡ n → literalValue l a ≡ true → value (under n α c) a ≡ true
+  under-open : (l : Literal) → has c l ≡ true → has α l ≡ false → has α (negated l) ≡ false → (a : Assignment) → length a ≡ n →
+      literalValue l a ≡ true → value (under n α c) a ≡ true
   under-open l h p q a len t =
       let r = has-within n c l w h in
       under-value n α c a len ∙ clause-some c (forcedBy α a) l h (same-there n α plain a len l (r .0) (r .1) p q ∙ t)
 
   -- a literal that is not false is made true by some assignment near a
-  pub under-some : (l : Literal) → has c l ≡ true → has α (negated l) ≡ false → (a : Assignment) → length a ≡ n → literalValue l a ≡ true → value (under n α c) a ≡ true
+  pub under-some : (l : Literal) → has c l ≡ true → has α (negated l) ≡ false → (a : Assignment) → length a ≡ n → literalValue l a ≡ true →
+      value (under n α c) a ≡ true
   under-some l h q a len t = go (said α l)
     where
       go : Said α l → value (under n α c) a ≡ true
@@ -161,7 +174,8 @@ module _ (n : ℕ) (α : List Literal) (plain : Plain α) (c : Clause) (w : OfVa
   pub false-under : allFalse α c ≡ true → under n α c ≡ leaf false
   unfolding valueFrom
   false-under e = unique n 1 (suc n) (under n α c) (leaf false) (omega arith) (under-reduced n α c) tt λ a len.
-      under-value n α c a len ∙ clause-none c (forcedBy α a) (λ l h. let r = has-within n c l w h in false-there n α plain a len l (r .0) (r .1) (allFalse-each α c e l h))
+      under-value n α c a len ∙ clause-none c (forcedBy α a)
+      (λ l h. let r = has-within n c l w h in false-there n α plain a len l (r .0) (r .1) (allFalse-each α c e l h))
 
   -- some assignment of n variables
   abbrev start : Assignment
@@ -179,7 +193,8 @@ module _ (n : ℕ) (α : List Literal) (plain : Plain α) (c : Clause) (w : OfVa
       go false e =
           let (l, h, q) = not-allFalse α c e in
           let r : (1 ≤ l .variable) × (l .variable ≤ n) = has-within n c l w h in
-          t≢f (sym (under-some l h q (making l start) (making-length l start ∙ start-long) (making-true l start (r .0) (omega (arith, r .1, start-long))))
+          t≢f (sym (under-some l h q (making l start) (making-length l start ∙ start-long)
+          (making-true l start (r .0) (omega (arith, r .1, start-long))))
           ∙ z (making l start) (making-length l start ∙ start-long))
 
   pub under-false : under n α c ≡ leaf false → allFalse α c ≡ true
@@ -212,7 +227,8 @@ module _ (n : ℕ) (α : List Literal) (plain : Plain α) (c : Clause) (w : OfVa
     false-against : (a : Assignment) → literalValue (negated l) a ≡ true → literalValue l a ≡ true → ⊥
     unfolding literalValue
     false-against a p q =
-        negated-differs l (ap (λ (s : Bool). literal (l .variable) s) (sym (beq-eq (holds a (l .variable)) (l .positive) q) ∙ beq-eq (holds a (l .variable)) (not (l .positive)) p))
+        negated-differs l (ap (λ (s : Bool). literal (l .variable) s)
+        (sym (beq-eq (holds a (l .variable)) (l .positive) q) ∙ beq-eq (holds a (l .variable)) (not (l .positive)) p))
 
     -- another literal that is not false can be made true against the unit
     other-false : (k : Literal) → has c k ≡ true → k ≢ l → has α (negated k) ≡ true
@@ -234,8 +250,10 @@ module _ (n : ℕ) (α : List Literal) (plain : Plain α) (c : Clause) (w : OfVa
         go : (x : Bool) → has α (negated k) ≡ x → has α (negated k) ≡ true
         go true e = e
         go false e =
-            let t : literalValue k b ≡ true = making-other (negated l) k (making k start) lo (r .0) (omega (arith, k-long)) (λ q. ne (q ∙ negated-twice l)) (making-true k start (r .0) (omega (arith, r .1, start-long))) in
-            absurd (false-against b (making-true (negated l) (making k start) lo (omega (arith, k-long))) (unit-true b b-long (under-some k h e b b-long t)))
+            let t : literalValue k b ≡ true = making-other (negated l) k (making k start) lo (r .0) (omega (arith, k-long))
+            (λ q. ne (q ∙ negated-twice l)) (making-true k start (r .0) (omega (arith, r .1, start-long))) in
+            absurd (false-against b (making-true (negated l) (making k start) lo (omega (arith, k-long)))
+            (unit-true b b-long (under-some k h e b b-long t)))
 
     pub unit-left : under n α c ≢ leaf false → Left l
     unfolding against
@@ -244,7 +262,8 @@ module _ (n : ℕ) (α : List Literal) (plain : Plain α) (c : Clause) (w : OfVa
         let in-clause : has c l ≡ true = inside (has c l) refl in
         record {
           in-clause = in-clause;
-          not-true = not-true (has α l) (λ t. false-against against (making-true (negated l) start lo (omega (arith, start-long))) (unit-true against against-long (under-true l in-clause t against against-long)));
+          not-true = not-true (has α l) (λ t. false-against against (making-true (negated l) start lo (omega (arith, start-long)))
+              (unit-true against against-long (under-true l in-clause t against against-long)));
           not-false = not-true (has α (negated l)) (λ f. nz (false-under (each-allFalse α c (λ k h. each k h f (alike k l) refl))));
           others = others;
         }
@@ -258,11 +277,13 @@ module _ (n : ℕ) (α : List Literal) (plain : Plain α) (c : Clause) (w : OfVa
         each k h f false e = other-false k h (λ q. t≢f (sym (eq-alike k l q) ∙ e))
 
   -- and the other way round: the one open literal is a unit
-  pub left-unit : (l : Literal) → 1 ≤ l .variable → l .variable ≤ n → has α l ≡ false → allFalseBut α l c ≡ true → isUnit n (under n α c) (l .variable) (l .positive) ≡ true
+  pub left-unit : (l : Literal) → 1 ≤ l .variable → l .variable ≤ n → has α l ≡ false → allFalseBut α l c ≡ true →
+      isUnit n (under n α c) (l .variable) (l .positive) ≡ true
   unfolding isUnit literalValue
   left-unit l lo hi nt others = all-every n _ λ a len. go a len (Bool·beq (holds a (l .variable)) (l .positive)) refl
     where
-      at : (a : Assignment) → length a ≡ n → literalValue l a ≡ false → (k : Literal) → has c k ≡ true → (b : Bool) → alike k l ≡ b → literalValue k (forcedBy α a) ≡ false
+      at : (a : Assignment) → length a ≡ n → literalValue l a ≡ false → (k : Literal) → has c k ≡ true → (b : Bool) → alike k l ≡ b →
+          literalValue k (forcedBy α a) ≡ false
       at a len f k h true e =
           subst (λ (m : Literal). literalValue m (forcedBy α a) ≡ false) (sym (alike-eq k l e)) (here (said α l))
         where
@@ -274,6 +295,7 @@ module _ (n : ℕ) (α : List Literal) (plain : Plain α) (c : Clause) (w : OfVa
           let r : (1 ≤ k .variable) × (k .variable ≤ n) = has-within n c k w h in
           false-there n α plain a len k (r .0) (r .1) (allFalseBut-each α l c others k h (λ q. t≢f (sym (eq-alike k l q) ∙ e)))
 
-      go : (a : Assignment) → length a ≡ n → (x : Bool) → Bool·beq (holds a (l .variable)) (l .positive) ≡ x → (x || not (value (under n α c) a)) ≡ true
+      go : (a : Assignment) → length a ≡ n → (x : Bool) → Bool·beq (holds a (l .variable)) (l .positive) ≡ x →
+          (x || not (value (under n α c) a)) ≡ true
       go a len true e = refl
       go a len false e = ap not (under-value n α c a len ∙ clause-none c (forcedBy α a) (λ k h. at a len e k h (alike k l) refl))

@@ -1,5 +1,6 @@
 pub mod Arrays
 pub mod Clipping
+pub mod First
 pub mod Lending
 pub mod Lent
 pub mod Lists

@@ -1,5 +1,5 @@
--- The call ends in exactly one way, says what that way says, and gives 0 exactly where the run is a refutation. The idea: the sizes are tested
--- first, and the rest is the verdict (verdict/proofs/Exactly). Assumes nothing.
+-- The call ends in exactly one way, says what that way says, and gives 0 exactly where the run is a refutation. The idea: the sizes are
+-- tested first, and the rest is the verdict (verdict/proofs/Exactly). Assumes nothing.
 use mathlib.Core.Path.{_≡_, refl, sym, ap, _∙_, subst}
 use mathlib.Core.Logic.{_≢_, _↔_}
 use mathlib.Core.Bool.{Bool, true, false, cond}
@@ -55,8 +55,8 @@ module _ (i : Handed) where
       back _ (wrong-size other) = checked-seven other
       back _ (at-place {v} e E) = checked-fits e ∙ ap done (ended-is (i .mode) (places i) (i .text) (i .proof) v E)
 
-  -- "0: refuted": given exactly where the sizes fit, the formula is read and made, each record in turn passes what its kind asks, an accepted
-  -- line is 0, and the end record ends the proof.
+  -- "0: refuted": given exactly where the sizes fit, the formula is read and made, each record in turn passes what its kind asks, an
+  -- accepted line is 0, and the end record ends the proof.
   pub check-zero-exactly : (checked i .number ≡ 0) ↔ (Fits i × Refutation (i .mode) (places i) (i .text) (i .proof))
   unfolding outcome
   check-zero-exactly = (to, from)
@@ -66,7 +66,11 @@ module _ (i : Handed) where
 
       to : checked i .number ≡ 0 → R
       to z =
-          fits? R (λ e. (e, zero-exactly (i .mode) (places i) (i .text) (i .proof) .0 (sym (ap (λ (o : CheckOutcome). o .number) (checked-fits e)) ∙ z)))
+          fits? R (λ e. (
+            e,
+            zero-exactly (i .mode) (places i) (i .text) (i .proof) .0
+                (sym (ap (λ (o : CheckOutcome). o .number) (checked-fits e)) ∙ z),
+          ))
           (λ other. let n : _≡_ {A = ℕ} 7 0 = sym (ap (λ (o : CheckOutcome). o .number) (checked-seven other)) ∙ z in absurd (omega arith))
 
       from : R → checked i .number ≡ 0
@@ -75,16 +79,20 @@ module _ (i : Handed) where
   -- "place of the end record"
   pub check-zero-place : (e : Fits i) (F : Refutation (i .mode) (places i) (i .text) (i .proof)) → checked i .place ≡ F .place
   unfolding outcome
-  check-zero-place e F = ap (λ (o : CheckOutcome). o .place) (checked-fits e) ∙ ap (λ (v : Verdict). v .place) (refutation-said (i .mode) (places i) (i .text) (i .proof) F)
+  check-zero-place e F = ap (λ (o : CheckOutcome). o .place) (checked-fits e)
+      ∙ ap (λ (v : Verdict). v .place) (refutation-said (i .mode) (places i) (i .text) (i .proof) F)
 
   -- "at its length as is 0": a DRAT proof's refutation ends at its length.
-  pub drat-zero-place : isDrat (i .mode .form) ≡ true → (F : Refutation (i .mode) (places i) (i .text) (i .proof)) → F .place ≡ length (i .proof)
+  pub drat-zero-place : isDrat (i .mode .form) ≡ true → (F : Refutation (i .mode) (places i) (i .text) (i .proof)) → F .place
+      ≡ length (i .proof)
   drat-zero-place drat F =
       go (commandIn (i .mode) (i .proof) (F .variables) (F .place)) (nextIn (i .mode) (i .proof) (F .variables) (F .place))
-      (drat-in (i .mode .form) drat (i .proof) (F .variables) (F .place) (reached-in (i .mode) (places i) (i .text) (i .proof) (F .reached)))
+      (drat-in (i .mode .form) drat (i .proof) (F .variables) (F .place)
+      (reached-in (i .mode) (places i) (i .text) (i .proof) (F .reached)))
       (F .end)
     where
-      go : (c : Command) (next : ℕ) → CommandIn (i .mode .form) (i .proof) (F .variables) (F .place) c next → Closes (F .state) c → F .place ≡ length (i .proof)
+      go : (c : Command) (next : ℕ) → CommandIn (i .mode .form) (i .proof) (F .variables) (F .place) c next → Closes (F .state) c → F .place
+          ≡ length (i .proof)
       go (recorded r more) next I C = absurd I
       go (added ls) next I C = absurd C
       go (struckOut ls) next I C = absurd C

@@ -1,5 +1,6 @@
--- 8 and 23 are given only where a node that is not in the table is to be placed and the count equals the size. The idea: a placing that ends without
--- room has just looked for a node and not found it; so by induction on the diagram, and along the lists that a line makes. Assumes nothing.
+-- 8 and 23 are given only where a node that is not in the table is to be placed and the count equals the size. The idea: a placing that
+-- ends without room has just looked for a node and not found it; so by induction on the diagram, and along the lists that a line makes.
+-- Assumes nothing.
 use mathlib.Core.Path.{_≡_, sym, _∙_, subst}
 use mathlib.Core.Logic.{_≢_}
 use mathlib.Core.Bool.{Bool, true, false, cond}
@@ -34,7 +35,8 @@ placed-not-full t t′ k e = let z : _≡_ {A = ℕ} 0 1 = cc in absurd (omega a
 
 -- a node that is looked for and not found: no number has its diagram
 module _ (s : ℕ) (t : List Node) (O : Ordered t) (v a b : ℕ) (pa : a < length t) (pb : b < length t) where
-  none-has : ((k : ℕ) → 2 ≤ k → k < length t → at t k ≢ nodeOf v a b) → (k : ℕ) → k < length t → diagramAt t k ≢ node v (diagramAt t a) (diagramAt t b)
+  none-has : ((k : ℕ) → 2 ≤ k → k < length t → at t k ≢ nodeOf v a b) → (k : ℕ) → k < length t →
+      diagramAt t k ≢ node v (diagramAt t a) (diagramAt t b)
   none-has new k p e = go k (kind k) p e
     where
       go : (k : ℕ) → Kind k → k < length t → diagramAt t k ≡ node v (diagramAt t a) (diagramAt t b) → ⊥
@@ -45,7 +47,8 @@ module _ (s : ℕ) (t : List Node) (O : Ordered t) (v a b : ℕ) (pa : a < lengt
           let z : leaf true ≡ node v (diagramAt t a) (diagramAt t b) = sym (diagramAt-one t) ∙ e in
           let q : _≡_ {A = ℕ} 0 1 = cc in absurd (omega arith)
       go k (from-two two) p e =
-          let z : node (at t k .var) (diagramAt t (at t k .low)) (diagramAt t (at t k .high)) ≡ node v (diagramAt t a) (diagramAt t b) = sym (diagramAt-node t O k two p) ∙ e in
+          let z : node (at t k .var) (diagramAt t (at t k .low)) (diagramAt t (at t k .high)) ≡ node v (diagramAt t a) (diagramAt t b) =
+          sym (diagramAt-node t O k two p) ∙ e in
           let F = O .fits k two p in
           let low : diagramAt t (at t k .low) ≡ diagramAt t a = cc in
           let high : diagramAt t (at t k .high) ≡ diagramAt t b = cc in
@@ -62,18 +65,22 @@ module _ (s : ℕ) (t : List Node) (O : Ordered t) (v a b : ℕ) (pa : a < lengt
       room? true e = placed-not-full _ t′ _ e
       room? false e = full-same t t′ e
 
-      go : (c : Bool) (o : Option ℕ) → Found t (nodeOf v a b) o → cond c (placed t a) (orAppend s t (nodeOf v a b) o) ≡ full t′ → Missing (node v (diagramAt t a) (diagramAt t b)) t′
+      go : (c : Bool) (o : Option ℕ) → Found t (nodeOf v a b) o → cond c (placed t a) (orAppend s t (nodeOf v a b) o) ≡ full t′ →
+          Missing (node v (diagramAt t a) (diagramAt t b)) t′
       go true o f e = placed-not-full t t′ a e
       go false none new e =
-          subst (Missing (node v (diagramAt t a) (diagramAt t b))) (room? (ltb (length t) s) e) (record { part = _; of-it = whole; missing = none-has new })
+          subst (Missing (node v (diagramAt t a) (diagramAt t b))) (room? (ltb (length t) s) e)
+          (record { part = _; of-it = whole; missing = none-has new })
       go false (some m) f e = placed-not-full t t′ m e
 
 -- after the low side, the high side, then the node itself
 module _ (s v : ℕ) (l h : Diagram) (t′ : List Node) where
-  high-missing : (t₁ : List Node) (a : ℕ) → Ordered t₁ → a < length t₁ → diagramAt t₁ a ≡ l → (q : Placing) → After s t₁ h q → (q ≡ full t′ → Missing h t′)
+  high-missing : (t₁ : List Node) (a : ℕ) → Ordered t₁ → a < length t₁ → diagramAt t₁ a ≡ l → (q : Placing) → After s t₁ h q →
+      (q ≡ full t′ → Missing h t′)
       → andThen q (λ t₂ b. put s t₂ v a b) ≡ full t′ → Missing (node v l h) t′
   unfolding andThen
-  high-missing t₁ a O pa ea (full t₂) A high e = let M = high e in record { part = M .part; of-it = in-high (M .of-it); missing = M .missing }
+  high-missing t₁ a O pa ea (full t₂) A high e = let M = high e in record
+      { part = M .part; of-it = in-high (M .of-it); missing = M .missing }
   high-missing t₁ a O pa ea (placed t₂ b) A high e =
       let longer : length t₁ ≤ length t₂ = extends-length t₁ t₂ (A .kept .extends) in
       let low : diagramAt t₂ a ≡ l = diagramAt-grown t₁ t₂ O (A .kept .extends) a pa ∙ ea in
@@ -88,7 +95,8 @@ module _ (s v : ℕ) (l h : Diagram) (t′ : List Node) where
       let O : Ordered t₁ = A .kept .ordered in
       high-missing t₁ a O (A .inside) (A .is) (place s t₁ h) (high t₁ O .0) (high t₁ O .1) e
 
-place-missing : (s : ℕ) (t : List Node) → Ordered t → (D : Diagram) → Reduced 1 65 D → (t′ : List Node) → place s t D ≡ full t′ → Missing D t′
+place-missing : (s : ℕ) (t : List Node) → Ordered t → (D : Diagram) → Reduced 1 65 D → (t′ : List Node) → place s t D ≡ full t′ →
+    Missing D t′
 unfolding place
 place-missing s t O (leaf false) o t′ e = placed-not-full t t′ 0 e
 place-missing s t O (leaf true) o t′ e = placed-not-full t t′ 1 e
@@ -99,7 +107,8 @@ place-missing s t O (node v l h) o t′ e =
     (λ t₁ O₁. (place-after s t₁ O₁ h oh, place-missing s t₁ O₁ h oh t′)) e
 
 -- A placing that ends without room: every place is taken, and a node of the diagram is not there.
-pub place-wants : (s : ℕ) (t : List Node) → Ordered t → length t ≤ s → (D : Diagram) → Reduced 1 65 D → (t′ : List Node) → place s t D ≡ full t′ → Wants s t D
+pub place-wants : (s : ℕ) (t : List Node) → Ordered t → length t ≤ s → (D : Diagram) → Reduced 1 65 D → (t′ : List Node) → place s t D
+    ≡ full t′ → Wants s t D
 place-wants s t O room D o t′ e =
     let M : Missing D t′ = place-missing s t O D o t′ e in
     let A : After s t D (full t′) = subst (After s t D) e (place-after s t O D o) in

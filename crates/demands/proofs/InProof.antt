@@ -1,5 +1,5 @@
--- Which of the two texts a place is in: the proof's exactly where the formula was read and its clauses made; in records the number tells it. The idea:
--- from a reached state on every end is the proof's. Assumes nothing.
+-- Which of the two texts a place is in: the proof's exactly where the formula was read and its clauses made; in records the number tells
+-- it. The idea: from a reached state on every end is the proof's. Assumes nothing.
 use mathlib.Core.Path.{_≡_, refl, sym, ap, _∙_, subst}
 use mathlib.Core.Logic.{_≢_, _⊎_, inl, inr, _↔_}
 use mathlib.Core.Bool.{true}
@@ -19,7 +19,8 @@ use Rattle.verdict.proofs.Commands.{DratFit}
 use Rattle.verdict.proofs.Ends.{reached-fit}
 use Rattle.verdict.proofs.Exactly.{Ahead, reached-ahead}
 use Rattle.verdict.proofs.ClauseSays.{AddedSays, StruckSays, FinishSays, added-says, struck-says, finish-says}
-use Rattle.demands.specs.Leaving.{Handed, checked, Fits, places, Leaves, unchanged, emptied, kept, EndsWith, AtEnd, FormulaMade, AtFault}
+use Rattle.demands.specs.Leaving.{Handed, checked, Fits, places, Leaves, unchanged, emptied, kept, EndsWith, AtEnd, FormulaMade}
+use Rattle.demands.specs.Leaving.{AtFault}
 use Rattle.demands.proofs.Ending.{checked-fits}
 use Rattle.demands.proofs.Lists.{check-leaves}
 use Rattle.demands.proofs.Places.{check-place}
@@ -27,10 +28,12 @@ use Rattle.demands.proofs.TextMembers.{fit-drat}
 
 -- ---- by the run
 
-commands-in-proof : (steps : ℕ) (mode : Mode) (n s : ℕ) (proof : List ℕ) (st : State) (at : ℕ) → commands steps mode n s proof st at .inProof ≡ true
+commands-in-proof : (steps : ℕ) (mode : Mode) (n s : ℕ) (proof : List ℕ) (st : State) (at : ℕ) →
+    commands steps mode n s proof st at .inProof ≡ true
 unfolding commands
 commands-in-proof zero mode n s proof st at = refl
-commands-in-proof (suc steps) mode n s proof st at = go (step (mode .consequence) n s st (commandIn mode proof n at)) (λ st′. commands-in-proof steps mode n s proof st′ (nextIn mode proof n at))
+commands-in-proof (suc steps) mode n s proof st at = go (step (mode .consequence) n s st (commandIn mode proof n at))
+    (λ st′. commands-in-proof steps mode n s proof st′ (nextIn mode proof n at))
   where
     go : (x : Step) → ((st′ : State) → commands steps mode n s proof st′ (nextIn mode proof n at) .inProof ≡ true)
         → afterStep x st at (λ st′. commands steps mode n s proof st′ (nextIn mode proof n at)) .inProof ≡ true
@@ -44,11 +47,13 @@ unfolding outcome
 in-proof-exactly i fits = (to, from)
   where
     to : checked i .inProof ≡ true → FormulaMade i
-    to late = let E : AtEnd i (checked i) = check-place i late in record { n = E .n; state = E .state; at = E .at; meant = E .meant; reached = E .reached }
+    to late = let E : AtEnd i (checked i) = check-place i late in record
+        { n = E .n; state = E .state; at = E .at; meant = E .meant; reached = E .reached }
 
     from : FormulaMade i → checked i .inProof ≡ true
     from J =
-        let A : Ahead (i .mode) (places i) (i .text) (i .proof) (J .n) (J .state) (J .at) = reached-ahead (i .mode) (places i) (i .text) (i .proof) (J .reached) in
+        let A : Ahead (i .mode) (places i) (i .text) (i .proof) (J .n) (J .state) (J .at) =
+        reached-ahead (i .mode) (places i) (i .text) (i .proof) (J .reached) in
         ap (λ (o : CheckOutcome). o .inProof) (checked-fits i fits) ∙ ap (λ (v : Verdict). v .inProof) (A .is)
         ∙ commands-in-proof (A .steps) (i .mode) (J .n) (places i) (i .proof) (J .state) (J .at)
 
@@ -66,7 +71,8 @@ in-proof-said i said = go (checked i) (check-leaves i) said
     go o (kept _ K) _ = K .in-proof
 
 -- In records the number tells it.
-pub in-records-exactly : (i : Handed) → i .mode .form ≡ Records → (checked i .inProof ≡ true) ↔ ((checked i .number ≡ 0) ⊎ (9 ≤ checked i .number))
+pub in-records-exactly : (i : Handed) → i .mode .form ≡ Records → (checked i .inProof ≡ true) ↔
+    ((checked i .number ≡ 0) ⊎ (9 ≤ checked i .number))
 in-records-exactly i form = ((λ late. go (check-leaves i) late), in-proof-said i)
   where
     go : Leaves i (checked i) → checked i .inProof ≡ true → (checked i .number ≡ 0) ⊎ (9 ≤ checked i .number)
@@ -97,12 +103,14 @@ binary-number i form late = go (check-leaves i)
 -- ---- a fault of form
 
 -- 3, 4, 6, 9 and 31 of a DRAT proof are those of its reader, at their places.
-pub fault-only : (i : Handed) → isDrat (i .mode .form) ≡ true → checked i .inProof ≡ true → checked i .number ≢ 0 → (checked i .number ≢ 31 → checked i .number ≤ 9)
+pub fault-only : (i : Handed) → isDrat (i .mode .form) ≡ true → checked i .inProof ≡ true → checked i .number ≢ 0 →
+    (checked i .number ≢ 31 → checked i .number ≤ 9)
     → AtFault i (checked i)
 unfolding step
 fault-only i drat late some low =
     let E : AtEnd i (checked i) = check-place i late in
-    let fit : DratFit (i .mode .form) (E .n) (commandIn (i .mode) (i .proof) (E .n) (E .at)) = fit-drat (i .mode .form) drat (E .n) (commandIn (i .mode) (i .proof) (E .n) (E .at))
+    let fit : DratFit (i .mode .form) (E .n) (commandIn (i .mode) (i .proof) (E .n) (E .at)) =
+    fit-drat (i .mode .form) drat (E .n) (commandIn (i .mode) (i .proof) (E .n) (E .at))
     (reached-fit (i .mode) (places i) (i .text) (i .proof) (E .reached)) in
     record { end = E; here = go E (commandIn (i .mode) (i .proof) (E .n) (E .at)) fit (E .says) }
   where
@@ -124,10 +132,14 @@ fault-only i drat late some low =
     ending (stop k o) number offset some low (inr q, _) e = absurd (omega (arith, e .0, low (λ z. omega (arith, e .0))))
     ending (spent k peak) number offset some low A e = A
 
-    go : (E : AtEnd i (checked i)) (c : Command) → DratFit (i .mode .form) (E .n) c → EndsWith (step (i .mode .consequence) (E .n) (places i) (E .state) c) (checked i .number) (E .offset)
+    go : (E : AtEnd i (checked i)) (c : Command) → DratFit (i .mode .form) (E .n) c →
+        EndsWith (step (i .mode .consequence) (E .n) (places i) (E .state) c) (checked i .number) (E .offset)
         → c ≡ wrong (checked i .number) (E .offset)
     go E (recorded r more) fit e = absurd fit
-    go E (added ls) fit e = absurd (early (step (i .mode .consequence) (E .n) (places i) (E .state) (added ls)) (checked i .number) (E .offset) some low (added-says (i .mode .consequence) (E .n) (places i) (E .state) ls) e)
-    go E (struckOut ls) fit e = absurd (striking (step (i .mode .consequence) (E .n) (places i) (E .state) (struckOut ls)) (checked i .number) (E .offset) some low (struck-says (E .n) (E .state) ls) e)
+    go E (added ls) fit e = absurd (early (step (i .mode .consequence) (E .n) (places i) (E .state) (added ls)) (checked i .number)
+        (E .offset) some low (added-says (i .mode .consequence) (E .n) (places i) (E .state) ls) e)
+    go E (struckOut ls) fit e = absurd (striking (step (i .mode .consequence) (E .n) (places i) (E .state) (struckOut ls))
+        (checked i .number) (E .offset) some low (struck-says (E .n) (E .state) ls) e)
     go E (wrong k o) fit e = rw (e .0, e .1) refl
-    go E finished fit e = absurd (ending (step (i .mode .consequence) (E .n) (places i) (E .state) finished) (checked i .number) (E .offset) some low (finish-says (E .state)) e)
+    go E finished fit e = absurd (ending (step (i .mode .consequence) (E .n) (places i) (E .state) finished) (checked i .number) (E .offset)
+        some low (finish-says (E .state)) e)

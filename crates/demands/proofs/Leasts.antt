@@ -1,5 +1,5 @@
--- The call that makes an at-least diagram: whatever columns, count, set and k are handed in, it is refused and changes nothing, or its node has
--- exactly 02's value, and the excluded assignments are counted where the set has at most 32 variables. Assumes nothing.
+-- The call that makes an at-least diagram: whatever columns, count, set and k are handed in, it is refused and changes nothing, or its node
+-- has exactly 02's value, and the excluded assignments are counted where the set has at most 32 variables. Assumes nothing.
 use mathlib.Core.Path.{_≡_, refl, ap, _∙_}
 use mathlib.Core.Logic.{_≢_}
 use mathlib.Core.Bool.{Bool, true, false, cond}
@@ -37,7 +37,8 @@ module _ (c : Columns) (count set k : ℕ) where
   unfolding atLeast
   at-least-reduced = diagram-reduced 64 (atLeastValue (inWord set) k)
 
-  made-says : (S : Sized (c .vars) (c .lows) (c .highs) (c .heads) (c .links)) (G : GoodPlaces (rows (c .vars) (c .lows) (c .highs)) count) (p : Placing)
+  made-says : (S : Sized (c .vars) (c .lows) (c .highs) (c .heads) (c .links)) (G : GoodPlaces (rows (c .vars) (c .lows) (c .highs)) count)
+      (p : Placing)
       → After (length (c .vars)) t₀ D p → LeastSays c count set k (withCount (madeBy c count p) set k)
   unfolding madeBy withCount
   made-says S G (full t) A = let other : _≢_ {A = ℕ} 23 0 = λ z. omega arith in least-refused other refl
@@ -65,9 +66,12 @@ module _ (c : Columns) (count set k : ℕ) where
   at-least-says = go (sizeFits (c .vars) (c .lows) (c .highs) (c .heads) (c .links)) refl (inGoodOrder c count) refl
     where
       go : (p : Bool) → sizeFits (c .vars) (c .lows) (c .highs) (c .heads) (c .links) ≡ p → (q : Bool) → inGoodOrder c count ≡ q
-          → LeastSays c count set k (withCount (cond p (cond q (madeBy c count (place (length (c .vars)) t₀ D)) (unchanged c count 26)) (unchanged c count 7)) set k)
+          → LeastSays c count set k (withCount (cond p (cond q (madeBy c count (place (length (c .vars)) t₀ D)) (unchanged c count 26))
+          (unchanged c count 7)) set k)
       go true fits true order =
-          let G : GoodPlaces (rows (c .vars) (c .lows) (c .highs)) count = good-order (rows (c .vars) (c .lows) (c .highs)) count (c .heads) (c .links) order in
-          made-says (sized (c .vars) (c .lows) (c .highs) (c .heads) (c .links) fits) G (place (length (c .vars)) t₀ D) (place-after (length (c .vars)) t₀ (G .ordered) D at-least-reduced)
+          let G : GoodPlaces (rows (c .vars) (c .lows) (c .highs)) count =
+          good-order (rows (c .vars) (c .lows) (c .highs)) count (c .heads) (c .links) order in
+          made-says (sized (c .vars) (c .lows) (c .highs) (c .heads) (c .links) fits) G (place (length (c .vars)) t₀ D)
+          (place-after (length (c .vars)) t₀ (G .ordered) D at-least-reduced)
       go true fits false order = refused-says 26 (λ z. omega arith)
       go false fits q order = refused-says 7 (λ z. omega arith)

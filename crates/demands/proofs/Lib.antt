@@ -13,6 +13,7 @@ pub mod Full
 pub mod LineRoom
 pub mod NoRoom
 pub mod Rows
+pub mod LineRows
 pub mod Places
 pub mod InProof
 pub mod ZeroLines

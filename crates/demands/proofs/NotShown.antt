@@ -1,5 +1,5 @@
--- 19 is given only for a line of which a propagation ends without conflict before any diagram finds no room, or for a clause that neither of its tries
--- shows. The idea: the tests before it have other numbers, and a line is judged by what is met first. Assumes nothing.
+-- 19 is given only for a line of which a propagation ends without conflict before any diagram finds no room, or for a clause that neither
+-- of its tries shows. The idea: the tests before it have other numbers, and a line is judged by what is met first. Assumes nothing.
 use Rattle.paths.specs.Paths.{pathCount}
 use mathlib.Core.Path.{_≡_, refl, sym, ap, _∙_, subst}
 use mathlib.Core.Logic.{inr}
@@ -21,11 +21,14 @@ use Rattle.records.specs.declared.NodeBody.{NodeBody}
 use Rattle.records.specs.declared.Rule.{Rule}
 use Rattle.records.specs.declared.Rule.the-variants.{Rup, Pr, Path}
 use Rattle.records.specs.declared.Record.{Record}
-use Rattle.records.specs.declared.Record.the-variants.{NodeEntry, Witness, ProofLine, Strike, SetEntry, End, CutShort, UnknownKind, NoRecord}
+use Rattle.records.specs.declared.Record.the-variants.{NodeEntry, Witness, ProofLine, Strike, SetEntry, End, CutShort, UnknownKind}
+use Rattle.records.specs.declared.Record.the-variants.{NoRecord}
 use Rattle.commands.specs.declared.Form.{Form}
 use Rattle.commands.specs.declared.Form.the-variants.{Records, Text, Binary}
 use Rattle.commands.specs.Commands.{Command, recorded, added, struckOut, wrong, finished}
-use Rattle.verdict.specs.Steps.{State, withEntry, Step, next, stop, spent, isEntry, entryNode, isVariable, entered, nodeStep, witnessStep, waiting, accepted, judged, diagramIn, liveMembers, lineStep, isLive, strikeStep, beyond, noParity, setDiagram, setStep, endStep, recordStep}
+use Rattle.verdict.specs.Steps.{State, withEntry, Step, next, stop, spent, isEntry, entryNode, isVariable, entered, nodeStep, witnessStep}
+use Rattle.verdict.specs.Steps.{waiting, accepted, judged, diagramIn, liveMembers, lineStep, isLive, strikeStep, beyond, noParity}
+use Rattle.verdict.specs.Steps.{setDiagram, setStep, endStep, recordStep}
 use Rattle.verdict.specs.Clausal.{withPeak, judgedOr, secondLine, secondTry, afterFirst, tries, onceMade, addStep}
 use Rattle.verdict.specs.Check.{step, shutOut}
 use Rattle.verdict.specs.Taken.{lineOf, peakWith}
@@ -36,7 +39,8 @@ use Rattle.verdict.proofs.Steps.{spent-other, next-not-spent, stop-not-spent, p
 use Rattle.verdict.proofs.ClauseSays.{StruckSays, FinishSays, struck-says, finish-says}
 use Rattle.verdict.proofs.Numbers.{NumberedIn, reached-numbered}
 use Rattle.verdict.proofs.MetFirst.{met-first}
-use Rattle.demands.specs.Leaving.{Handed, checked, places, EndsWith, AtEnd, SecondFails, ClauseNotShown, NotShown, AtLine, SecondNotShown}
+use Rattle.demands.specs.Leaving.{Handed, checked, places, EndsWith, AtEnd, SecondFails, ClauseNotShown, NotShown, AtLine}
+use Rattle.demands.specs.Leaving.{SecondNotShown}
 use Rattle.demands.proofs.Places.{check-place}
 use Rattle.demands.proofs.InProof.{in-proof-said}
 
@@ -119,12 +123,14 @@ module _ (n s : ℕ) (st : State) {peak : ℕ} where
 
   -- ---- a clause
 
-  judged-fails : (x : State) (g : ℕ) (line : Line) → judged s x g line ≡ spent 19 peak → (lineReach s (x .nodes) line .fits ≡ true) × (line .shown ≡ false)
+  judged-fails : (x : State) (g : ℕ) (line : Line) → judged s x g line ≡ spent 19 peak → (lineReach s (x .nodes) line .fits ≡ true)
+      × (line .shown ≡ false)
   unfolding judged
   judged-fails x g line e = go (lineReach s (x .nodes) line .fits) refl (line .shown) refl e
     where
       go : (fits : Bool) → lineReach s (x .nodes) line .fits ≡ fits → (shown : Bool) → line .shown ≡ shown
-          → cond (not fits) (spent 23 (peakWith s x line)) (cond (not shown) (spent 19 (peakWith s x line)) (next (accepted x g line (peakWith s x line)))) ≡ spent 19 peak
+          → cond (not fits) (spent 23 (peakWith s x line))
+          (cond (not shown) (spent 19 (peakWith s x line)) (next (accepted x g line (peakWith s x line)))) ≡ spent 19 peak
           → (lineReach s (x .nodes) line .fits ≡ true) × (line .shown ≡ false)
       go false q shown r e = spent-other 23 _ refl e
       go true q true r e = next-not-spent _ e
@@ -136,14 +142,16 @@ module _ (n s : ℕ) (st : State) {peak : ℕ} where
   second-fails x k [] most e = (tt, tt)
   second-fails x k (p ∷ ls) most e = judged-fails (withPeak x most) k (secondLine n (liveMembers x) p ls) e
 
-  later-fails : (profile : Bool) (x : State) (k : ℕ) (ls : List meaning.Literal) (most : ℕ) → afterFirst profile n s x k ls most ≡ spent 19 peak
+  later-fails : (profile : Bool) (x : State) (k : ℕ) (ls : List meaning.Literal) (most : ℕ) → afterFirst profile n s x k ls most
+      ≡ spent 19 peak
       → SecondNotShown profile n s (x .nodes) (liveMembers x) ls
   unfolding afterFirst
   later-fails true x k ls most e = tt
   later-fails false x k ls most e = second-fails x k ls most e
 
   tries-fail : (profile : Bool) (x : State) (k : ℕ) (ls : List meaning.Literal) → tries profile n s x k ls ≡ spent 19 peak
-      → (lineReach s (x .nodes) (firstLine n x ls) .fits ≡ true) × (firstLine n x ls .shown ≡ false) × SecondNotShown profile n s (x .nodes) (liveMembers x) ls
+      → (lineReach s (x .nodes) (firstLine n x ls) .fits ≡ true) × (firstLine n x ls .shown ≡ false)
+      × SecondNotShown profile n s (x .nodes) (liveMembers x) ls
   unfolding tries judgedOr
   tries-fail profile x k ls e = go (lineReach s (x .nodes) first .fits) refl (first .shown) refl e
     where
@@ -151,8 +159,11 @@ module _ (n s : ℕ) (st : State) {peak : ℕ} where
       first = firstLine n x ls
 
       go : (fits : Bool) → lineReach s (x .nodes) (firstLine n x ls) .fits ≡ fits → (shown : Bool) → firstLine n x ls .shown ≡ shown
-          → cond (not fits) (spent 23 (peakWith s x first)) (cond (not shown) (afterFirst profile n s x k ls (peakWith s x first)) (next (accepted x k first (peakWith s x first)))) ≡ spent 19 peak
-          → (lineReach s (x .nodes) (firstLine n x ls) .fits ≡ true) × (firstLine n x ls .shown ≡ false) × SecondNotShown profile n s (x .nodes) (liveMembers x) ls
+          → cond (not fits) (spent 23 (peakWith s x first))
+          (cond (not shown) (afterFirst profile n s x k ls (peakWith s x first)) (next (accepted x k first (peakWith s x first))))
+          ≡ spent 19 peak
+          → (lineReach s (x .nodes) (firstLine n x ls) .fits ≡ true) × (firstLine n x ls .shown ≡ false)
+          × SecondNotShown profile n s (x .nodes) (liveMembers x) ls
       go false q shown r e = spent-other 23 _ refl e
       go true q true r e = next-not-spent _ e
       go true q false r e = (q, r, later-fails profile x k ls (peakWith s x first) e)
@@ -164,7 +175,8 @@ module _ (n s : ℕ) (st : State) {peak : ℕ} where
       let (p₂, e₂) = past-early (same (meaning.clause n ls) (leaf true)) 17 0 _ e₁ in
       go (leb-false 1024 (st .lines) p₁) (place s (st .nodes) (meaning.clause n ls)) refl e₂
     where
-      go : st .lines < 1024 → (q : Placing) → place s (st .nodes) (meaning.clause n ls) ≡ q → onceMade st q (λ st₁ k. tries profile n s st₁ k ls) ≡ spent 19 peak → ClauseNotShown profile n s st ls
+      go : st .lines < 1024 → (q : Placing) → place s (st .nodes) (meaning.clause n ls) ≡ q →
+          onceMade st q (λ st₁ k. tries profile n s st₁ k ls) ≡ spent 19 peak → ClauseNotShown profile n s st ls
       go few (full t) r e = spent-other 23 _ refl e
       go few (placed t k) r e =
           let (fits, failed, second) = tries-fail profile (withEntry st t k) k ls e in
@@ -184,21 +196,28 @@ not-early Records number offset N z = N .2 z
 not-early Text number offset N z = N .5 z
 not-early Binary number offset N z = N .6 z
 
--- "19: not shown: no conflict": the line or clause at the place, all commands before it taken; no conflict is met before a diagram without room.
+-- "19: not shown: no conflict": the line or clause at the place, all commands before it taken; no conflict is met before a diagram without
+-- room.
 pub nineteen-only : (i : Handed) → checked i .number ≡ 19 → AtLine i (checked i .place)
 nineteen-only i z = go (check-place i (in-proof-said i (inr (omega arith))))
   where
-    tried : (n : ℕ) (st : State) (c : Command) (x : Step) → step (i .mode .consequence) n (places i) st c ≡ x → NumberedIn (i .mode .form) x → (offset : ℕ) → EndsWith x 19 offset
+    tried : (n : ℕ) (st : State) (c : Command) (x : Step) → step (i .mode .consequence) n (places i) st c ≡ x →
+        NumberedIn (i .mode .form) x → (offset : ℕ) → EndsWith x 19 offset
         → NotShown (i .mode .consequence) n (places i) st c × (offset ≡ 0)
     tried n st c (next st′) q N offset e = absurd e
     tried n st c (stop k o) q N offset e = absurd (not-early (i .mode .form) k o N (e .0))
-    tried n st c (spent k peak) q N offset e = (command-met n (places i) st (i .mode .consequence) c (q ∙ ap (λ (m : ℕ). spent m peak) (e .0)), e .1)
+    tried n st c (spent k peak) q N offset e = (
+      command-met n (places i) st (i .mode .consequence) c
+          (q ∙ ap (λ (m : ℕ). spent m peak) (e .0)),
+      e .1,
+    )
 
     go : AtEnd i (checked i) → AtLine i (checked i .place)
     go E =
         let c : Command = commandIn (i .mode) (i .proof) (E .n) (E .at) in
         let x : Step = step (i .mode .consequence) (E .n) (places i) (E .state) c in
-        let (fails, here) = tried (E .n) (E .state) c x refl (reached-numbered (i .mode) (places i) (i .text) (i .proof) (E .reached)) (E .offset)
+        let (fails, here) = tried (E .n) (E .state) c x refl (reached-numbered (i .mode) (places i) (i .text) (i .proof) (E .reached))
+        (E .offset)
         (subst (λ (k : ℕ). EndsWith x k (E .offset)) z (E .says)) in
         let place : E .at ≡ checked i .place = omega (arith, E .place) in
         subst (AtLine i) place (record { n = E .n; state = E .state; meant = E .meant; reached = E .reached; not-shown = fails })

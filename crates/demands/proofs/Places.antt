@@ -1,5 +1,5 @@
--- The place that the check gives for a command: its first byte; for 11 the byte behind it; for 3 and 4 the token; the proof's length where no record
--- begins and at a text's end. The idea: each number stands in the definition with its place. Assumes nothing.
+-- The place that the check gives for a command: its first byte; for 11 the byte behind it; for 3 and 4 the token; the proof's length where
+-- no record begins and at a text's end. The idea: each number stands in the definition with its place. Assumes nothing.
 use mathlib.Core.Path.{_≡_, refl, sym, _∙_, subst}
 use mathlib.Core.Bool.{true, Bool}
 use mathlib.Core.List.{List, [], _∷_}
@@ -10,7 +10,8 @@ use lib.Dec.{eqb, ltb}
 use borrow.Author.Tests.{ne-eqb}
 use Rattle.meaning.proofs.Booleans.{t≢f, and-false}
 use Rattle.records.specs.declared.Record.{Record}
-use Rattle.records.specs.declared.Record.the-variants.{NodeEntry, Witness, ProofLine, Strike, SetEntry, End, CutShort, UnknownKind, NoRecord}
+use Rattle.records.specs.declared.Record.the-variants.{NodeEntry, Witness, ProofLine, Strike, SetEntry, End, CutShort, UnknownKind}
+use Rattle.records.specs.declared.Record.the-variants.{NoRecord}
 use Rattle.records.specs.Records.{nodeIn, witnessIn, lineIn, strikeIn, setIn, whole, recordOf, recordIn, recordAt}
 use Rattle.commands.specs.declared.Form.{Form}
 use Rattle.commands.specs.declared.Form.the-variants.{Records, Text, Binary}
@@ -68,7 +69,8 @@ none-begun proof at e = go (drop at proof) (length-drop at proof) e
     go [] len e = omega arith
     go (kind ∷ body) len e = absurd (subst Begun e (kind-begun kind body))
 
-drat-none : (form : Form) (proof : List ℕ) (n at : ℕ) (c : Command) (next : ℕ) → CommandIn form proof n at c next → NoneBegun c → at ≡ length proof
+drat-none : (form : Form) (proof : List ℕ) (n at : ℕ) (c : Command) (next : ℕ) → CommandIn form proof n at c next → NoneBegun c → at
+    ≡ length proof
 drat-none form proof n at (recorded r more) next I none = absurd I
 drat-none form proof n at (added ls) next I none = absurd none
 drat-none form proof n at (struckOut ls) next I none = absurd none
@@ -81,16 +83,20 @@ command-none mode proof n at within none = go (mode .form) none
   where
     go : (form : Form) → NoneBegun (commandAt form proof n at .command) → at ≡ length proof
     go Records none = omega (arith, within, none-begun proof at none)
-    go Text none = drat-none Text proof n at (commandAt Text proof n at .command) (commandAt Text proof n at .next) (drat-in Text refl proof n at within) none
-    go Binary none = drat-none Binary proof n at (commandAt Binary proof n at .command) (commandAt Binary proof n at .next) (drat-in Binary refl proof n at within) none
+    go Text none = drat-none Text proof n at (commandAt Text proof n at .command) (commandAt Text proof n at .next)
+        (drat-in Text refl proof n at within) none
+    go Binary none = drat-none Binary proof n at (commandAt Binary proof n at .command) (commandAt Binary proof n at .next)
+        (drat-in Binary refl proof n at within) none
 
 -- there is none: 10, in the profile too
-none-ten : (profile : Bool) (n s : ℕ) (st : State) (r : Record) (more : Bool) → r ≡ NoRecord → step profile n s st (recorded r more) ≡ stop 10 0
+none-ten : (profile : Bool) (n s : ℕ) (st : State) (r : Record) (more : Bool) → r ≡ NoRecord → step profile n s st (recorded r more)
+    ≡ stop 10 0
 unfolding step recordStep
 none-ten profile n s st r more none = rw (none, and-false profile)
 
 -- and its number stands there
-none-offset : (profile : Bool) (n s : ℕ) (st : State) (c : Command) → NoneBegun c → (number offset : ℕ) → step profile n s st c ≡ stop number offset → offset ≡ 0
+none-offset : (profile : Bool) (n s : ℕ) (st : State) (c : Command) → NoneBegun c → (number offset : ℕ) → step profile n s st c
+    ≡ stop number offset → offset ≡ 0
 unfolding step
 none-offset profile n s st (recorded r more) none number offset e =
     let ten : stop 10 0 ≡ stop number offset = sym (none-ten profile n s st r more none) ∙ e in cc
@@ -99,7 +105,8 @@ none-offset profile n s st (struckOut ls) none number offset e = absurd none
 none-offset profile n s st (wrong k o) none number offset e = absurd none
 none-offset profile n s st finished none number offset e = subst FinishSays e (finish-says st) .1
 
-none-not-spent : {A : Type 0} (profile : Bool) (n s : ℕ) (st : State) (c : Command) → NoneBegun c → (number peak : ℕ) → step profile n s st c ≡ spent number peak → A
+none-not-spent : {A : Type 0} (profile : Bool) (n s : ℕ) (st : State) (c : Command) → NoneBegun c → (number peak : ℕ) →
+    step profile n s st c ≡ spent number peak → A
 unfolding step
 none-not-spent profile n s st (recorded r more) none number peak e = stop-not-spent 10 0 (sym (none-ten profile n s st r more none) ∙ e)
 none-not-spent profile n s st (added ls) none number peak e = absurd none
@@ -108,10 +115,12 @@ none-not-spent profile n s st (wrong k o) none number peak e = absurd none
 none-not-spent profile n s st finished none number peak e = absurd (subst FinishSays e (finish-says st))
 
 -- what is refused once nodes were made is refused at the first byte
-spent-offset : (profile : Bool) (n s : ℕ) (st : State) (c : Command) (number peak : ℕ) → step profile n s st c ≡ spent number peak → OffsetOf c number 0
+spent-offset : (profile : Bool) (n s : ℕ) (st : State) (c : Command) (number peak : ℕ) → step profile n s st c ≡ spent number peak →
+    OffsetOf c number 0
 unfolding step
 spent-offset profile n s st (recorded r more) number peak e =
-    let N : (19 ≤ number) × (number ≤ 23) = subst Numbered e (shut-numbered profile n s st more r) in rw (ne-eqb number 11 (λ z. omega (arith, N .0))) refl
+    let N : (19 ≤ number) × (number ≤ 23) = subst Numbered e (shut-numbered profile n s st more r) in
+    rw (ne-eqb number 11 (λ z. omega (arith, N .0))) refl
 spent-offset profile n s st (added ls) number peak e = refl
 spent-offset profile n s st (struckOut ls) number peak e = refl
 spent-offset profile n s st (wrong k o) number peak e = stop-not-spent _ _ e
@@ -141,7 +150,8 @@ check-place i late = go (checked i) (check-ends i) late
           reached = R;
           says = subst (λ (x : Step). EndsWith x number offset) (sym q) (refl, refl);
           place = refl;
-          stands = command-offset (i .mode .consequence) (i .mode .form) n (places i) st c (reached-fit (i .mode) (places i) (i .text) (i .proof) R) number offset q;
+          stands = command-offset (i .mode .consequence) (i .mode .form) n (places i) st c
+              (reached-fit (i .mode) (places i) (i .text) (i .proof) R) number offset q;
           none-begun = λ none.
               let there : at ≡ length (i .proof) = command-none (i .mode) (i .proof) n at within none in
               let here : offset ≡ 0 = none-offset (i .mode .consequence) n (places i) st c none number offset q in omega arith;

@@ -1,6 +1,6 @@
--- The consequence profile, of the call: each accepted line that is left in the member list is 1 under every assignment that satisfies the formula,
--- and a proof in records without a PR record leaves the same. The idea: so it is in every reached state, and the list is what the last one leaves.
--- Assumes nothing.
+-- The consequence profile, of the call: each accepted line that is left in the member list is 1 under every assignment that satisfies the
+-- formula, and a proof in records without a PR record leaves the same. The idea: so it is in every reached state, and the list is what the
+-- last one leaves. Assumes nothing.
 use mathlib.Core.Path.{_≡_, sym, ap, _∙_, subst}
 use mathlib.Core.Bool.{Bool, true, false}
 use mathlib.Core.List.{List, [], _∷_, _++_}
@@ -40,7 +40,8 @@ module _ (i : Handed) (profile : i .mode .consequence ≡ true) (a : Assignment)
       let there = lines-there (places i) (i .text) (i .mode) (i .proof) R in
       let few : length (take (st .lines) (linesOf i)) ≡ st .lines = length-take-le (st .lines) (linesOf i) there in
       let k : ℕ = length (clauseFunctions (i .text)) + j in
-      sym (ap (λ (f : Function). f a) (getD-second (clauseFunctions (i .text)) (take (st .lines) (linesOf i)) j (λ a. false) ∙ getD-take (st .lines) (linesOf i) j (λ a. false) p))
+      sym (ap (λ (f : Function). f a) (getD-second (clauseFunctions (i .text)) (take (st .lines) (linesOf i)) j (λ a. false)
+      ∙ getD-take (st .lines) (linesOf i) j (λ a. false) p))
       ∙ one-at a (clauseFunctions (i .text) ++ take (st .lines) (linesOf i)) (subst (AllOne a) are all) k
       (omega (arith, length-append (clauseFunctions (i .text)) (take (st .lines) (linesOf i)), few, p))
 

@@ -1,5 +1,6 @@
 -- The single calls: whatever columns, count and operands are handed in, a call is refused and changes nothing, or its node has exactly 01's
--- value of the operation. The idea: placing keeps good order and every old diagram, and gives the operation's diagram a number. Assumes nothing.
+-- value of the operation. The idea: placing keeps good order and every old diagram, and gives the operation's diagram a number. Assumes
+-- nothing.
 use mathlib.Core.Path.{_≡_, refl, sym, ap, _∙_}
 use mathlib.Core.Logic.{_≢_}
 use mathlib.Core.Bool.{Bool, true, false, not, _&&_, cond}
@@ -35,7 +36,8 @@ use Rattle.single.specs.Single.{refusal, evaluation, operandRefusal, madeBy, op
 use Rattle.demands.specs.Calls.{nodesOfColumns, inGoodOrder, valueAt, valueOf, OperationSays, answered, refused}
 use Rattle.demands.proofs.Lent.{read-back, left-good}
 
-result-value : (op : Operation) (f g : Diagram) (a : Assignment) → length a ≡ 64 → value (result op f g) a ≡ valueOf op (value f) (value g) a
+result-value : (op : Operation) (f g : Diagram) (a : Assignment) → length a ≡ 64 → value (result op f g) a
+    ≡ valueOf op (value f) (value g) a
 unfolding result valueOf
 result-value Conjunction f g a len = conjunction-value 64 a len f g
 result-value Negation f g a len = negation-value 64 a len f
@@ -56,7 +58,8 @@ module _ (op : Operation) (c : Columns) (count f g : ℕ) where
   abbrev D : Diagram
   D = result op (diagramAt t₀ f) (diagramAt t₀ g)
 
-  made-says : (S : Sized (c .vars) (c .lows) (c .highs) (c .heads) (c .links)) (G : GoodPlaces (rows (c .vars) (c .lows) (c .highs)) count) (p : Placing)
+  made-says : (S : Sized (c .vars) (c .lows) (c .highs) (c .heads) (c .links)) (G : GoodPlaces (rows (c .vars) (c .lows) (c .highs)) count)
+      (p : Placing)
       → After (length (c .vars)) t₀ D p → OperationSays op c count f g (madeBy c count p)
   unfolding madeBy
   made-says S G (full t) A = let other : _≢_ {A = ℕ} 23 0 = λ z. omega arith in refused other refl
@@ -91,14 +94,17 @@ module _ (op : Operation) (c : Columns) (count f g : ℕ) where
 
       go : (p : Bool) → eqb n 0 ≡ p → (q : Bool) → eqb m 0 ≡ q → OperationSays op c count f g (cond p (cond q done (same m)) (same n))
       go true e true h =
-          let (fits, order, _) = not-refused (sizeFits (c .vars) (c .lows) (c .highs) (c .heads) (c .links)) (inGoodOrder c count) (ltb f count && ltb g count) (eqb-true n 0 e) in
-          let G : GoodPlaces (rows (c .vars) (c .lows) (c .highs)) count = good-order (rows (c .vars) (c .lows) (c .highs)) count (c .heads) (c .links) order in
-          made-says (sized (c .vars) (c .lows) (c .highs) (c .heads) (c .links) fits) G (place (length (c .vars)) t₀ D) (place-after (length (c .vars)) t₀ (G .ordered) D (result-reduced op (diagramAt t₀ f) (diagramAt t₀ g)))
+          let (fits, order, _) = not-refused (sizeFits (c .vars) (c .lows) (c .highs) (c .heads) (c .links)) (inGoodOrder c count)
+          (ltb f count && ltb g count) (eqb-true n 0 e) in
+          let G : GoodPlaces (rows (c .vars) (c .lows) (c .highs)) count =
+          good-order (rows (c .vars) (c .lows) (c .highs)) count (c .heads) (c .links) order in
+          made-says (sized (c .vars) (c .lows) (c .highs) (c .heads) (c .links) fits) G (place (length (c .vars)) t₀ D)
+          (place-after (length (c .vars)) t₀ (G .ordered) D (result-reduced op (diagramAt t₀ f) (diagramAt t₀ g)))
       go true e false h = refused (eqb-false m 0 h) refl
       go false e q h = refused (eqb-false n 0 e) refl
 
--- "f cofactored by g, g not 0, has at each assignment f's value at the nearest one that satisfies g." (01, The rules): where the call is not
--- refused, the assignment that its value is taken at satisfies g, and no other that does is nearer.
+-- "f cofactored by g, g not 0, has at each assignment f's value at the nearest one that satisfies g." (01, The rules): where the call is
+-- not refused, the assignment that its value is taken at satisfies g, and no other that does is nearer.
 pub cofactor-nearest : (c : Columns) (count f g : ℕ) → operation Cofactor c count f g .number ≡ 0
     → (a : Assignment) → Nearest 64 (valueAt c count g) a (nearest 64 (valueAt c count g) a)
 unfolding operation refusal operandRefusal
@@ -116,16 +122,20 @@ cofactor-nearest c count f g z a = go (eqb n 0) refl (eqb g 0) refl z
     done : single.Made
     done = madeBy c count (place (length (c .vars)) t₀ (result Cofactor (diagramAt t₀ f) (diagramAt t₀ g)))
 
-    go : (p : Bool) → eqb n 0 ≡ p → (q : Bool) → eqb g 0 ≡ q → cond p (cond (eqb (cond q 27 0) 0) done (same (cond q 27 0))) (same n) .number ≡ 0
+    go : (p : Bool) → eqb n 0 ≡ p → (q : Bool) → eqb g 0 ≡ q → cond p (cond (eqb (cond q 27 0) 0) done (same (cond q 27 0))) (same n)
+        .number ≡ 0
         → Nearest 64 (valueAt c count g) a (nearest 64 (valueAt c count g) a)
     go false e q h z = absurd (eqb-false n 0 e z)
     go true e true h z = absurd (omega arith)
     go true e false h z =
-        let (fits, order, inside) = not-refused (sizeFits (c .vars) (c .lows) (c .highs) (c .heads) (c .links)) (inGoodOrder c count) (ltb f count && ltb g count) (eqb-true n 0 e) in
-        let G : GoodPlaces (rows (c .vars) (c .lows) (c .highs)) count = good-order (rows (c .vars) (c .lows) (c .highs)) count (c .heads) (c .links) order in
+        let (fits, order, inside) = not-refused (sizeFits (c .vars) (c .lows) (c .highs) (c .heads) (c .links)) (inGoodOrder c count)
+        (ltb f count && ltb g count) (eqb-true n 0 e) in
+        let G : GoodPlaces (rows (c .vars) (c .lows) (c .highs)) count =
+        good-order (rows (c .vars) (c .lows) (c .highs)) count (c .heads) (c .links) order in
         let len : length t₀ ≡ count = length-take-le count (rows (c .vars) (c .lows) (c .highs)) (G .within) in
         let below : g < length t₀ = omega (arith, ltb-true g count (and-both (ltb f count) (ltb g count) inside .1)) in
-        let other : diagramAt t₀ g ≢ leaf false = λ is. eqb-false g 0 h (diagramAt-injective t₀ (G .ordered) g 0 below (omega (arith, G .least)) (is ∙ sym (diagramAt-zero t₀))) in
+        let other : diagramAt t₀ g ≢ leaf false = λ is. eqb-false g 0 h
+        (diagramAt-injective t₀ (G .ordered) g 0 below (omega (arith, G .least)) (is ∙ sym (diagramAt-zero t₀))) in
         nearest-is 64 (valueAt c count g) a (sat-of 64 1 65 (diagramAt t₀ g) refl (diagramAt-reduced t₀ (G .ordered) g below) other)
 
 -- "Evaluation, where it does not refuse, says yes exactly when the node's value under the word's assignment is 1"; "(evaluation: no)"

@@ -1,5 +1,5 @@
--- What 02's 3/14 and 4/14 say of strikings: 28 is given exactly for a member that is not there or is struck already, and for a clause that is no live
--- member; lines look at the live members alone. The idea: only strikings give 28, and a mark is 0 or 1. Assumes nothing.
+-- What 02's 3/14 and 4/14 say of strikings: 28 is given exactly for a member that is not there or is struck already, and for a clause that
+-- is no live member; lines look at the live members alone. The idea: only strikings give 28, and a mark is 0 or 1. Assumes nothing.
 use Rattle.meaning.proofs.Booleans.{and-false}
 use mathlib.Core.Path.{_≡_, refl, sym, ap, _∙_, subst}
 use mathlib.Core.Logic.{_⊎_, inl, inr, _↔_}
@@ -36,7 +36,8 @@ use Rattle.verdict.proofs.Live.{unstruck-has, unstruck-only}
 use Rattle.verdict.proofs.Offsets.{Offset, at-record, at-striking, behind-end, Placed, shut-placed}
 use Rattle.verdict.proofs.Marks.{marks-are}
 use Rattle.demands.specs.Words.{Among, AmongLive}
-use Rattle.demands.specs.Leaving.{Handed, checked, Fits, places, EndsWith, OffsetOf, AtEnd, NotLive, not-there, struck-already, Absent, AtStriking}
+use Rattle.demands.specs.Leaving.{Handed, checked, Fits, places, EndsWith, OffsetOf, AtEnd, NotLive, not-there, struck-already}
+use Rattle.demands.specs.Leaving.{Absent, AtStriking}
 use Rattle.demands.proofs.Modes.{mode-is}
 use Rattle.demands.proofs.Ending.{checked-fits}
 use Rattle.demands.proofs.TextMembers.{map-at}
@@ -45,7 +46,8 @@ use Rattle.demands.proofs.InProof.{in-proof-said}
 
 -- ---- live members
 
--- "Making, propagation and PR pass over struck members": a diagram is among those that a line looks at exactly where a member that is not struck has it.
+-- "Making, propagation and PR pass over struck members": a diagram is among those that a line looks at exactly where a member that is not
+-- struck has it.
 pub live-exactly : (st : State) (D : Diagram) → Among (liveMembers st) D ↔ AmongLive st D
 live-exactly st D = (to, from)
   where
@@ -65,7 +67,8 @@ live-exactly st D = (to, from)
 
 -- ---- 28
 
-module _ (profile : Bool) (s : ℕ) (text proof : List ℕ) {n : ℕ} {st : State} {at : ℕ} {m : Meant} (R : Reached (inForm Records profile) s text proof n st at m) (k : ℕ) where
+module _ (profile : Bool) (s : ℕ) (text proof : List ℕ) {n : ℕ} {st : State} {at : ℕ} {m : Meant}
+    (R : Reached (inForm Records profile) s text proof n st at m) (k : ℕ) where
   -- a mark that is not 0 is 1
   mark-one : eqb (getD (st .struck) k 0) 0 ≡ false → getD (st .struck) k 0 ≡ 1
   mark-one other = go (isIn k (strikingsBefore proof at)) (marks-are profile s text proof R k)
@@ -103,39 +106,51 @@ clause-absent n st ls number offset e = go (firstSame (length (st .members)) st 
     go none q e k p there = first-none st (meaning.clause n ls) (length (st .members)) 0 q k (omega arith) (omega arith) there
     go (some j) q e k p there = stop-not-next number offset _ (sym e)
 
-module _ (mode : Mode) (s : ℕ) (text proof : List ℕ) {n : ℕ} {st : State} {at : ℕ} {m : Meant} (R : Reached mode s text proof n st at m) where
-  record-absent : mode .form ≡ Records → (r : Record) (more : Bool) (k offset : ℕ) → k ≡ 28 → Offset st r k offset → Absent n st (recorded r more)
-  record-absent form r more k offset e (at-record _ _ other) = absurd (eqb-false k 28 other e)
-  record-absent form r more k offset e (behind-end _ eleven _) = absurd (omega arith)
-  record-absent form r more k offset e (at-striking {member} _ _ is quiet lost) =
-      (member, is, quiet, dead (mode .consequence) s text proof (subst (λ (x : Mode). Reached x s text proof n st at m) (mode-is form) R) (member .0) lost)
+module _ (mode : Mode) (s : ℕ) (text proof : List ℕ) {n : ℕ} {st : State} {at : ℕ} {m : Meant} (R : Reached mode s text proof n st at m)
+  where
+    record-absent : mode .form ≡ Records → (r : Record) (more : Bool) (k offset : ℕ) → k ≡ 28 → Offset st r k offset →
+        Absent n st (recorded r more)
+    record-absent form r more k offset e (at-record _ _ other) = absurd (eqb-false k 28 other e)
+    record-absent form r more k offset e (behind-end _ eleven _) = absurd (omega arith)
+    record-absent form r more k offset e (at-striking {member} _ _ is quiet lost) = (
+      member,
+      is,
+      quiet,
+      dead (mode .consequence) s text proof (subst (λ (x : Mode). Reached x s text proof n st at m) (mode-is form) R)
+          (member .0) lost,
+    )
 
-  early-other : (k : ℕ) → ((k ≡ 17) ⊎ (k ≡ 22)) → k ≡ 28 → ⊥
-  early-other k (inl q) e = absurd (omega arith)
-  early-other k (inr q) e = absurd (omega arith)
+    early-other : (k : ℕ) → ((k ≡ 17) ⊎ (k ≡ 22)) → k ≡ 28 → ⊥
+    early-other k (inl q) e = absurd (omega arith)
+    early-other k (inr q) e = absurd (omega arith)
 
-  end-other : (k : ℕ) → ((k ≡ 0) ⊎ (k ≡ 20)) → k ≡ 28 → ⊥
-  end-other k (inl q) e = absurd (omega arith)
-  end-other k (inr q) e = absurd (omega arith)
+    end-other : (k : ℕ) → ((k ≡ 0) ⊎ (k ≡ 20)) → k ≡ 28 → ⊥
+    end-other k (inl q) e = absurd (omega arith)
+    end-other k (inr q) e = absurd (omega arith)
 
-  drat-absent : (form : Form) (c : Command) → Known n c → DratFit form n c → (k offset : ℕ) → step (mode .consequence) n s st c ≡ stop k offset → k ≡ 28 → Absent n st c
-  unfolding step
-  drat-absent form (recorded r more) known fit k offset q e = absurd fit
-  drat-absent form (added ls) known fit k offset q e = absurd (early-other k (subst AddedSays q (added-says (mode .consequence) n s st ls) .0) e)
-  drat-absent form (struckOut ls) known fit k offset q e = clause-absent n st ls k offset q
-  drat-absent form (wrong number o) known fit k offset q e = let same : number ≡ k = cc in absurd (omega (arith, known .1 (λ z. omega arith)))
-  drat-absent form finished known fit k offset q e = absurd (end-other k (subst FinishSays q (finish-says st) .0) e)
+    drat-absent : (form : Form) (c : Command) → Known n c → DratFit form n c → (k offset : ℕ) → step (mode .consequence) n s st c
+        ≡ stop k offset → k ≡ 28 → Absent n st c
+    unfolding step
+    drat-absent form (recorded r more) known fit k offset q e = absurd fit
+    drat-absent form (added ls) known fit k offset q e = absurd
+        (early-other k (subst AddedSays q (added-says (mode .consequence) n s st ls) .0) e)
+    drat-absent form (struckOut ls) known fit k offset q e = clause-absent n st ls k offset q
+    drat-absent form (wrong number o) known fit k offset q e = let same : number ≡ k = cc in
+        absurd (omega (arith, known .1 (λ z. omega arith)))
+    drat-absent form finished known fit k offset q e = absurd (end-other k (subst FinishSays q (finish-says st) .0) e)
 
-  -- 28 is given before a node is made
-  command-absent : (form : Form) → mode .form ≡ form → (c : Command) → Fit form n c → (k offset : ℕ) → step (mode .consequence) n s st c ≡ stop k offset → k ≡ 28 → Absent n st c
-  unfolding step
-  command-absent Records form (recorded r more) fit k offset q e = record-absent form r more k offset e (subst (Placed st r) q (shut-placed (mode .consequence) n s st more r))
-  command-absent Records form (added ls) fit k offset q e = absurd fit
-  command-absent Records form (struckOut ls) fit k offset q e = absurd fit
-  command-absent Records form (wrong number o) fit k offset q e = absurd fit
-  command-absent Records form finished fit k offset q e = absurd fit
-  command-absent Text form c fit k offset q e = drat-absent Text c (fit-known Text n c fit) fit k offset q e
-  command-absent Binary form c fit k offset q e = drat-absent Binary c (fit-known Binary n c fit) fit k offset q e
+    -- 28 is given before a node is made
+    command-absent : (form : Form) → mode .form ≡ form → (c : Command) → Fit form n c → (k offset : ℕ) → step (mode .consequence) n s st c
+        ≡ stop k offset → k ≡ 28 → Absent n st c
+    unfolding step
+    command-absent Records form (recorded r more) fit k offset q e = record-absent form r more k offset e
+        (subst (Placed st r) q (shut-placed (mode .consequence) n s st more r))
+    command-absent Records form (added ls) fit k offset q e = absurd fit
+    command-absent Records form (struckOut ls) fit k offset q e = absurd fit
+    command-absent Records form (wrong number o) fit k offset q e = absurd fit
+    command-absent Records form finished fit k offset q e = absurd fit
+    command-absent Text form c fit k offset q e = drat-absent Text c (fit-known Text n c fit) fit k offset q e
+    command-absent Binary form c fit k offset q e = drat-absent Binary c (fit-known Binary n c fit) fit k offset q e
 
 -- what is absent is refused
 absent-stops : (profile : Bool) (n s : ℕ) (st : State) (c : Command) → Absent n st c → step profile n s st c ≡ stop 28 0
@@ -153,9 +168,10 @@ absent-offset n st (struckOut ls) A offset O = O
 absent-offset n st (wrong number o) A offset O = absurd A
 absent-offset n st finished A offset O = O
 
--- "It refuses with 28 a member that does not exist or is struck already, after 10 and then 16 for a waiting witness", at the record; "an absent clause
--- to strike with 28", at its `d`.
-pub twenty-eight-exactly : (i : Handed) → Fits i → (at : ℕ) → ((checked i .number ≡ 28) × (checked i .place ≡ at)) ↔ AtStriking (i .mode) (places i) (i .text) (i .proof) at
+-- "It refuses with 28 a member that does not exist or is struck already, after 10 and then 16 for a waiting witness", at the record; "an
+-- absent clause to strike with 28", at its `d`.
+pub twenty-eight-exactly : (i : Handed) → Fits i → (at : ℕ) → ((checked i .number ≡ 28) × (checked i .place ≡ at)) ↔ AtStriking (i .mode)
+    (places i) (i .text) (i .proof) at
 unfolding outcome
 twenty-eight-exactly i fits at = (to, from)
   where
@@ -167,7 +183,8 @@ twenty-eight-exactly i fits at = (to, from)
 
     to : (checked i .number ≡ 28) × (checked i .place ≡ at) → AtStriking (i .mode) s (i .text) (i .proof) at
     to (number, place) =
-        subst (AtStriking (i .mode) s (i .text) (i .proof)) here (record { n = E .n; state = E .state; meant = E .meant; reached = E .reached; absent = lost })
+        subst (AtStriking (i .mode) s (i .text) (i .proof)) here
+        (record { n = E .n; state = E .state; meant = E .meant; reached = E .reached; absent = lost })
       where
         E : AtEnd i (checked i)
         E = check-place i (in-proof-said i (inr (omega arith)))
@@ -175,10 +192,12 @@ twenty-eight-exactly i fits at = (to, from)
         c : Command
         c = commandIn (i .mode) (i .proof) (E .n) (E .at)
 
-        given : (x : Step) → step (i .mode .consequence) (E .n) s (E .state) c ≡ x → NumberedIn (i .mode .form) x → EndsWith x 28 (E .offset) → Absent (E .n) (E .state) c
+        given : (x : Step) → step (i .mode .consequence) (E .n) s (E .state) c ≡ x → NumberedIn (i .mode .form) x →
+            EndsWith x 28 (E .offset) → Absent (E .n) (E .state) c
         given (next st) q N e = absurd e
         given (stop k o) q N e =
-            command-absent (i .mode) s (i .text) (i .proof) (E .reached) (i .mode .form) refl c (reached-fit (i .mode) s (i .text) (i .proof) (E .reached)) k o q (e .0)
+            command-absent (i .mode) s (i .text) (i .proof) (E .reached) (i .mode .form) refl c
+            (reached-fit (i .mode) s (i .text) (i .proof) (E .reached)) k o q (e .0)
         given (spent k peak) q N e = absurd (omega (arith, e .0, spent-number (i .mode .form) k peak N .1))
 
         lost : Absent (E .n) (E .state) (commandIn (i .mode) (i .proof) (E .n) (E .at))
@@ -188,12 +207,14 @@ twenty-eight-exactly i fits at = (to, from)
 
         here : E .at ≡ at
         here =
-            let zero-there : E .offset ≡ 0 = absent-offset (E .n) (E .state) c lost (E .offset) (subst (λ (k : ℕ). OffsetOf c k (E .offset)) number (E .stands)) in
+            let zero-there : E .offset ≡ 0 = absent-offset (E .n) (E .state) c lost (E .offset)
+            (subst (λ (k : ℕ). OffsetOf c k (E .offset)) number (E .stands)) in
             omega (arith, E .place, place)
 
     from : AtStriking (i .mode) s (i .text) (i .proof) at → (checked i .number ≡ 28) × (checked i .place ≡ at)
     from A =
-        let is : v ≡ _ = reached-stops (i .mode) s (i .text) (i .proof) (A .reached) 28 0 (absent-stops (i .mode .consequence) (A .n) s (A .state) (commandIn (i .mode) (i .proof) (A .n) at) (A .absent)) in
+        let is : v ≡ _ = reached-stops (i .mode) s (i .text) (i .proof) (A .reached) 28 0
+        (absent-stops (i .mode .consequence) (A .n) s (A .state) (commandIn (i .mode) (i .proof) (A .n) at) (A .absent)) in
         let z : at + 0 ≡ at = omega arith in (
           ap (λ (o : CheckOutcome). o .number) (checked-fits i fits) ∙ ap (λ (x : Verdict). x .number) is,
           ap (λ (o : CheckOutcome). o .place) (checked-fits i fits) ∙ ap (λ (x : Verdict). x .place) is ∙ z,

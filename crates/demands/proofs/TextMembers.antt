@@ -1,5 +1,6 @@
--- In every state that the check of a DRAT proof reaches the members are the clauses that formula and proof fix, and the marks are theirs. The idea: a clause's
--- node is the clause's diagram, and nodes stay; the clauses read on from a place are those that the run adds. Assumes nothing.
+-- In every state that the check of a DRAT proof reaches the members are the clauses that formula and proof fix, and the marks are theirs.
+-- The idea: a clause's node is the clause's diagram, and nodes stay; the clauses read on from a place are those that the run adds. Assumes
+-- nothing.
 use mathlib.Core.Path.{_≡_, refl, sym, ap, ap₂, _∙_, subst}
 use mathlib.Core.Bool.{Bool, true, false, _&&_, cond}
 use mathlib.Core.List.{List, [], _∷_, _++_, map, append-assoc, append-nil}
@@ -92,22 +93,26 @@ module _ (g : Diagram) where
 -- ---- diagrams
 
 -- members keep their diagrams while nodes are added
-kept-diagrams : (t t₁ : List Node) → Ordered t → Extends t t₁ → (b : ℕ) → b ≤ length t → (ks : List ℕ) (fs : List Function) → Valued t b ks fs
+kept-diagrams : (t t₁ : List Node) → Ordered t → Extends t t₁ → (b : ℕ) → b ≤ length t → (ks : List ℕ) (fs : List Function) →
+    Valued t b ks fs
     → map (diagramAt t₁) ks ≡ map (diagramAt t) ks
 kept-diagrams t t₁ O E b p [] fs W = refl
 kept-diagrams t t₁ O E b p (k ∷ ks) [] W = absurd W
 kept-diagrams t t₁ O E b p (k ∷ ks) (f ∷ fs) W =
     ap₂ _∷_ (diagramAt-grown t t₁ O E k (omega (arith, W .0))) (kept-diagrams t t₁ O E b p ks fs (W .2))
 
-pub clause-made : (s n : ℕ) (t : List Node) (ls : List meaning.Literal) (t₁ : List Node) (k : ℕ) → n ≤ 64 → Ordered t → place s t (meaning.clause n ls) ≡ placed t₁ k
+pub clause-made : (s n : ℕ) (t : List Node) (ls : List meaning.Literal) (t₁ : List Node) (k : ℕ) → n ≤ 64 → Ordered t →
+    place s t (meaning.clause n ls) ≡ placed t₁ k
     → Made s t (meaning.clause n ls) t₁ k
 clause-made s n t ls t₁ k narrow O e =
     subst (After s t (meaning.clause n ls)) e
     (place-after s t O (meaning.clause n ls) (reduced-to 1 (suc n) 65 (meaning.clause n ls) (omega (arith, narrow)) (clause-reduced n ls)))
 
 -- one more member, a clause
-one-more : (s n : ℕ) (t : List Node) (ls : List meaning.Literal) (t₁ : List Node) (k : ℕ) → Ordered t → Made s t (meaning.clause n ls) t₁ k → (b : ℕ) → b ≤ length t
-    → (ks : List ℕ) (fs : List Function) → Valued t b ks fs → map (diagramAt t₁) (ks ++ k ∷ []) ≡ map (diagramAt t) ks ++ meaning.clause n ls ∷ []
+one-more : (s n : ℕ) (t : List Node) (ls : List meaning.Literal) (t₁ : List Node) (k : ℕ) → Ordered t →
+    Made s t (meaning.clause n ls) t₁ k → (b : ℕ) → b ≤ length t
+    → (ks : List ℕ) (fs : List Function) → Valued t b ks fs → map (diagramAt t₁) (ks ++ k ∷ []) ≡ map (diagramAt t) ks
+    ++ meaning.clause n ls ∷ []
 one-more s n t ls t₁ k O M b p ks fs W =
     map-append (diagramAt t₁) ks (k ∷ [])
     ∙ ap₂ _++_ (kept-diagrams t t₁ O (M .kept .extends) b p ks fs W) (ap (λ (D : Diagram). D ∷ []) (M .is))
@@ -133,14 +138,18 @@ pub record Stands (n : ℕ) (st : State) (l : ClauseList) : Type 0 where
   pub literals : AllOfVariables n (l .clauses)
 
 module _ {s n : ℕ} {m : Meant} {st : State} (S : Standing s n m st) (narrow : n ≤ 64) (l : ClauseList) (M : Stands n st l) where
-  added-matches : (profile : Bool) (ls : List meaning.Literal) → OfVariables n ls → (st′ : State) → ClauseTaken profile n s st ls st′ → Stands n st′ (listAfter n l (added ls))
+  added-matches : (profile : Bool) (ls : List meaning.Literal) → OfVariables n ls → (st′ : State) → ClauseTaken profile n s st ls st′ →
+      Stands n st′ (listAfter n l (added ls))
   added-matches profile ls w st′ T =
       let (line, peak, is) = tries-accepted profile n s (withEntry st (T .nodes) (T .node)) (T .node) st′ profile ls (T .tried) in
-      let N : Made s (st .nodes) (meaning.clause n ls) (T .nodes) (T .node) = clause-made s n (st .nodes) ls (T .nodes) (T .node) narrow (S .ordered) (T .room) in
+      let N : Made s (st .nodes) (meaning.clause n ls) (T .nodes) (T .node) =
+      clause-made s n (st .nodes) ls (T .nodes) (T .node) narrow (S .ordered) (T .room) in
       subst (λ (x : State). Stands n x (listAfter n l (added ls))) is (record {
         matches = record {
-          diagrams = one-more s n (st .nodes) ls (T .nodes) (T .node) (S .ordered) N (st .kept) (S .kept) (st .members) (m .members) (S .members)
-              ∙ ap (λ (x : List Diagram). x ++ meaning.clause n ls ∷ []) (M .matches .diagrams) ∙ sym (map-append (meaning.clause n) (l .clauses) (ls ∷ []));
+          diagrams = one-more s n (st .nodes) ls (T .nodes) (T .node) (S .ordered) N (st .kept) (S .kept) (st .members) (m .members)
+              (S .members)
+              ∙ ap (λ (x : List Diagram). x ++ meaning.clause n ls ∷ []) (M .matches .diagrams)
+              ∙ sym (map-append (meaning.clause n) (l .clauses) (ls ∷ []));
           marks = ap (λ (x : List ℕ). x ++ 0 ∷ []) (M .matches .marks);
         };
         literals = within-append n (l .clauses) ls (M .literals) w;
@@ -148,7 +157,8 @@ module _ {s n : ℕ} {m : Meant} {st : State} (S : Standing s n m st) (narrow : 
 
   -- what a `d` clause looks for, by the clauses
   there-is : (g : Diagram) (i : ℕ) → i < length (st .members)
-      → (isLive st i && same (diagramIn st (getD (st .members) i 0)) g) ≡ (eqb (getD (st .struck) i 0) 0 && same (getD (map (diagramIn st) (st .members)) i (leaf false)) g)
+      → (isLive st i && same (diagramIn st (getD (st .members) i 0)) g)
+      ≡ (eqb (getD (st .struck) i 0) 0 && same (getD (map (diagramIn st) (st .members)) i (leaf false)) g)
   unfolding isLive
   there-is g i p = rw (lt-ltb i (length (st .members)) p, map-at (diagramIn st) (st .members) i p) refl
 
@@ -156,15 +166,21 @@ module _ {s n : ℕ} {m : Meant} {st : State} (S : Standing s n m st) (narrow : 
   struck-matches ls st′ C =
       let g : Diagram = meaning.clause n ls in
       let ds : List Diagram = map (diagramIn st) (st .members) in
-      let set-is : strikeLowest g ds (st .struck) ≡ set (st .struck) (C .place) 1 = lowest-set g ds (st .struck) (C .place) (omega (arith, C .inside, length-map (st .members) (diagramIn st)))
+      let set-is : strikeLowest g ds (st .struck) ≡ set (st .struck) (C .place) 1 =
+      lowest-set g ds (st .struck) (C .place) (omega (arith, C .inside, length-map (st .members) (diagramIn st)))
       (S .marks ∙ sym (length-map (st .members) (diagramIn st))) (sym (there-is g (C .place) (C .inside)) ∙ C .there)
       (λ j p f. C .lowest j p (there-is g j (omega (arith, C .inside)) ∙ f)) in
       subst (λ (x : State). Stands n x (listAfter n l (struckOut ls))) (C .is) (record {
-        matches = record { diagrams = M .matches .diagrams; marks = sym set-is ∙ ap₂ (strikeLowest g) (M .matches .diagrams) (M .matches .marks) };
+        matches = record {
+          diagrams = M .matches .diagrams;
+          marks = sym set-is
+              ∙ ap₂ (strikeLowest g) (M .matches .diagrams) (M .matches .marks);
+        };
         literals = M .literals;
       })
 
-  command-matches : (profile : Bool) (form : Form) (c : Command) → DratFit form n c → (st′ : State) → CommandTaken profile n s st c st′ → Stands n st′ (listAfter n l c)
+  command-matches : (profile : Bool) (form : Form) (c : Command) → DratFit form n c → (st′ : State) → CommandTaken profile n s st c st′ →
+      Stands n st′ (listAfter n l c)
   command-matches profile form (recorded r more) fit st′ T = absurd fit
   command-matches profile form (added ls) fit st′ T = added-matches profile ls fit st′ T
   command-matches profile form (struckOut ls) fit st′ T = struck-matches ls st′ T
@@ -208,7 +224,8 @@ module _ (mode : Mode) (proof : List ℕ) (n at end : ℕ) where
   idle I zero l = refl
   idle I (suc j) l = go (commandIn mode proof n at) (nextIn mode proof n at) I (ltb at end) (idle I j l)
     where
-      go : (c : Command) (next : ℕ) → Idle c next → (b : Bool) → listFrom j mode n proof at end l ≡ l → cond b (listFrom j mode n proof next end (listAfter n l c)) l ≡ l
+      go : (c : Command) (next : ℕ) → Idle c next → (b : Bool) → listFrom j mode n proof at end l ≡ l →
+          cond b (listFrom j mode n proof next end (listAfter n l c)) l ≡ l
       go (recorded r more) next I b rec = absurd I
       go (added ls) next I b rec = absurd I
       go (struckOut ls) next I b rec = absurd I
@@ -218,8 +235,10 @@ module _ (mode : Mode) (proof : List ℕ) (n at end : ℕ) where
       go finished next I false rec = refl
 
 module _ (mode : Mode) (drat : isDrat (mode .form) ≡ true) (s : ℕ) (text proof : List ℕ) where
-  goes-follows : {m : Meant} (n : ℕ) (st st′ : State) (at : ℕ) → n ≤ 64 → Standing s n m st → DratFit (mode .form) n (commandIn mode proof n at)
-      → CommandTaken (mode .consequence) n s st (commandIn mode proof n at) st′ → Follows mode text proof n st at → Follows mode text proof n st′ (nextIn mode proof n at)
+  goes-follows : {m : Meant} (n : ℕ) (st st′ : State) (at : ℕ) → n ≤ 64 → Standing s n m st →
+      DratFit (mode .form) n (commandIn mode proof n at)
+      → CommandTaken (mode .consequence) n s st (commandIn mode proof n at) st′ → Follows mode text proof n st at →
+      Follows mode text proof n st′ (nextIn mode proof n at)
   unfolding listFrom
   goes-follows n st st′ at narrow S fit T F =
       let c : Command = commandIn mode proof n at in
@@ -232,15 +251,20 @@ module _ (mode : Mode) (drat : isDrat (mode .form) ≡ true) (s : ℕ) (text pro
         stands = command-matches S narrow (F .so-far) (F .stands) (mode .consequence) (mode .form) c fit st′ T;
         run = λ j end p.
             let same : suc (F .steps) + j ≡ F .steps + suc j = omega arith in
-            ap (λ (k : ℕ). listFrom k mode n proof (start (mode .form) proof) end (formulaClauses text)) same ∙ F .run (suc j) end (omega (arith, on, p))
-            ∙ ap (λ (b : Bool). cond b (listFrom j mode n proof (nextIn mode proof n at) end (listAfter n (F .so-far) c)) (F .so-far)) (lt-ltb at end (omega (arith, on, p)));
+            ap (λ (k : ℕ). listFrom k mode n proof (start (mode .form) proof) end (formulaClauses text)) same
+            ∙ F .run (suc j) end (omega (arith, on, p))
+            ∙ ap (λ (b : Bool). cond b (listFrom j mode n proof (nextIn mode proof n at) end (listAfter n (F .so-far) c)) (F .so-far))
+            (lt-ltb at end (omega (arith, on, p)));
       }
 
-  begun-follows : {n many : ℕ} {t : List Node} {ms : List ℕ} {fs : List Function} → Making s text n many t ms fs complete → AllOfVariables n (clausesOf (formula text))
-      → (st : State) → st .nodes ≡ t → st .members ≡ ms → st .struck ≡ replicate (length ms) 0 → Follows mode text proof n st (start (mode .form) proof)
+  begun-follows : {n many : ℕ} {t : List Node} {ms : List ℕ} {fs : List Function} → Making s text n many t ms fs complete →
+      AllOfVariables n (clausesOf (formula text))
+      → (st : State) → st .nodes ≡ t → st .members ≡ ms → st .struck ≡ replicate (length ms) 0 →
+      Follows mode text proof n st (start (mode .form) proof)
   unfolding clausesOf
   begun-follows {n} {many} {t} {ms} M w st nodes members struck =
-      let are : map (diagramAt t) ms ≡ map (meaning.clause n) (clausesOf (formula text)) = sym (append-nil (map (diagramAt t) ms)) ∙ making-diagrams s text M in
+      let are : map (diagramAt t) ms ≡ map (meaning.clause n) (clausesOf (formula text)) = sym (append-nil (map (diagramAt t) ms))
+      ∙ making-diagrams s text M in
       let long : length ms ≡ length (clausesOf (formula text)) =
       sym (length-map ms (diagramAt t)) ∙ ap length are ∙ length-map (clausesOf (formula text)) (meaning.clause n) in
       record {
@@ -248,25 +272,33 @@ module _ (mode : Mode) (drat : isDrat (mode .form) ≡ true) (s : ℕ) (text pro
         few = omega arith;
         within = start-within (mode .form) proof;
         so-far = formulaClauses text;
-        stands = record { matches = record { diagrams = rw (nodes, members) are; marks = struck ∙ ap (λ (k : ℕ). replicate k 0) long }; literals = w };
-        run = λ j end p. let z : 0 + j ≡ j = omega arith in ap (λ (k : ℕ). listFrom k mode n proof (start (mode .form) proof) end (formulaClauses text)) z;
+        stands = record {
+          matches = record { diagrams = rw (nodes, members) are; marks = struck ∙ ap (λ (k : ℕ). replicate k 0) long };
+          literals = w;
+        };
+        run = λ j end p. let z : 0 + j ≡ j = omega arith in ap
+            (λ (k : ℕ). listFrom k mode n proof (start (mode .form) proof) end (formulaClauses text)) z;
       }
 
   reached-follows : {n : ℕ} {st : State} {at : ℕ} {m : Meant} → Reached mode s text proof n st at m → Follows mode text proof n st at
   reached-follows (begins {many} {t} {ms} {fs} M) = begun-follows M (reached-within mode s text proof (begins M)) _ refl refl refl
   reached-follows {n} (goes {st} {st′} {at} {m} R T) =
-      let (narrow, S) = reached-standing mode s text proof R in goes-follows n st st′ at narrow S (fit-drat (mode .form) drat n (commandIn mode proof n at) (reached-fit mode s text proof R)) T (reached-follows R)
+      let (narrow, S) = reached-standing mode s text proof R in goes-follows n st st′ at narrow S
+      (fit-drat (mode .form) drat n (commandIn mode proof n at) (reached-fit mode s text proof R)) T (reached-follows R)
 
   module _ {n : ℕ} {st : State} {at : ℕ} {m : Meant} (R : Reached mode s text proof n st at m) where
     -- where nothing is added or struck from the place on up to the end
-    stands-to : (end : ℕ) → at ≤ end → ((j : ℕ) (l : ClauseList) → listFrom j mode n proof at end l ≡ l) → Stands n st (clausesBefore mode text proof end)
+    stands-to : (end : ℕ) → at ≤ end → ((j : ℕ) (l : ClauseList) → listFrom j mode n proof at end l ≡ l) →
+        Stands n st (clausesBefore mode text proof end)
     stands-to end p none =
         let F : Follows mode text proof n st at = reached-follows R in
         let rest : ℕ = length proof - F .steps in
         let all : length proof ≡ F .steps + rest = omega (arith, F .few, F .within) in
         subst (Stands n st)
-        (sym (ap (λ (w : ℕ). listFrom (length proof) mode w proof (start (mode .form) proof) end (formulaClauses text)) (reached-variables s text mode proof R)
-        ∙ ap (λ (k : ℕ). listFrom k mode n proof (start (mode .form) proof) end (formulaClauses text)) all ∙ F .run rest end p ∙ none rest (F .so-far)))
+        (sym (ap (λ (w : ℕ). listFrom (length proof) mode w proof (start (mode .form) proof) end (formulaClauses text))
+        (reached-variables s text mode proof R)
+        ∙ ap (λ (k : ℕ). listFrom k mode n proof (start (mode .form) proof) end (formulaClauses text)) all ∙ F .run rest end p
+        ∙ none rest (F .so-far)))
         (F .stands)
 
     pub drat-stands : Stands n st (clausesBefore mode text proof at)
@@ -284,15 +316,18 @@ module _ (mode : Mode) (drat : isDrat (mode .form) ≡ true) (s : ℕ) (text pro
         ∙ sym (unstruck-map (meaning.clause n) (clausesBefore mode text proof at .marks) (clausesBefore mode text proof at .clauses))
 
     -- The same at the place where a command is refused or ends the proof.
-    pub drat-stopped : (number offset : ℕ) → step (mode .consequence) n s st (commandIn mode proof n at) ≡ stop number offset → Matches n st (clausesBefore mode text proof (at + offset))
+    pub drat-stopped : (number offset : ℕ) → step (mode .consequence) n s st (commandIn mode proof n at) ≡ stop number offset →
+        Matches n st (clausesBefore mode text proof (at + offset))
     drat-stopped number offset e =
         go (commandIn mode proof n at) refl (drat-in (mode .form) drat proof n at (reached-in mode s text proof R))
-        (command-offset (mode .consequence) (mode .form) n s st (commandIn mode proof n at) (reached-fit mode s text proof R) number offset e)
+        (command-offset (mode .consequence) (mode .form) n s st (commandIn mode proof n at) (reached-fit mode s text proof R) number offset
+        e)
       where
         here : offset ≡ 0 → Matches n st (clausesBefore mode text proof (at + offset))
         here z = let q : at ≡ at + offset = omega arith in subst (λ (x : ℕ). Matches n st (clausesBefore mode text proof x)) q drat-matches
 
-        go : (c : Command) → commandIn mode proof n at ≡ c → CommandIn (mode .form) proof n at (commandIn mode proof n at) (nextIn mode proof n at)
+        go : (c : Command) → commandIn mode proof n at ≡ c → CommandIn (mode .form) proof n at (commandIn mode proof n at)
+            (nextIn mode proof n at)
             → OffsetOf (commandIn mode proof n at) number offset → Matches n st (clausesBefore mode text proof (at + offset))
         go (recorded r more) q I O = absurd (rw q at I)
         go (added ls) q I O = here (rw q at O)

@@ -1,5 +1,5 @@
--- Definitions that compute in another form than 01's words, brought back to its words: "the negation of another", "go to (a)", a node's value by
--- its children's. The idea: no diagram is its own negation; n rounds are enough. Assumes nothing.
+-- Definitions that compute in another form than 01's words, brought back to its words: "the negation of another", "go to (a)", a node's
+-- value by its children's. The idea: no diagram is its own negation; n rounds are enough. Assumes nothing.
 use mathlib.Core.Path.{_≡_, sym, ap, _∙_}
 use mathlib.Core.Logic.{_≢_, _↔_}
 use mathlib.Core.Bool.{Bool, true, false, not, _||_, cond}
@@ -76,9 +76,11 @@ conflicts-exactly n ms = (to, from)
 
 -- ---- "go to (a)"
 
--- "(a) .. conflict; (b) else .. count one round, go to (a); (c) else no conflict", with no bound on the rounds: what it does with members from then on.
+-- "(a) .. conflict; (b) else .. count one round, go to (a); (c) else no conflict", with no bound on the rounds: what it does with members
+-- from then on.
 abbrev pub GoesOn : ℕ → List Diagram → Type 0
-GoesOn n ms = unitProp n ms ≡ cond (conflicts n ms) (still true) (taking (firstWithUnit n ms) (λ u. round (byUnits n u ms) (unitProp n (byUnits n u ms))))
+GoesOn n ms = unitProp n ms ≡ cond (conflicts n ms) (still true)
+    (taking (firstWithUnit n ms) (λ u. round (byUnits n u ms) (unitProp n (byUnits n u ms))))
 
 unitProp-goes-on : (n : ℕ) (ms : List Diagram) → AllReduced n ms → GoesOn n ms
 unfolding unitProp propagate
@@ -104,9 +106,11 @@ unfolding valueFrom
 one-value c count a = ap (λ (D : Diagram). value D a) (diagramAt-one (nodesOfColumns c count))
 
 pub node-value : (c : Columns) (count : ℕ) → inGoodOrder c count ≡ true → (k : ℕ) → 2 ≤ k → k < count → (a : Assignment)
-    → valueAt c count k a ≡ cond (holds a (at (nodesOfColumns c count) k .var)) (valueAt c count (at (nodesOfColumns c count) k .high) a) (valueAt c count (at (nodesOfColumns c count) k .low) a)
+    → valueAt c count k a ≡ cond (holds a (at (nodesOfColumns c count) k .var)) (valueAt c count (at (nodesOfColumns c count) k .high) a)
+    (valueAt c count (at (nodesOfColumns c count) k .low) a)
 unfolding valueFrom
 node-value c count order k two inside a =
-    let G : GoodPlaces (rows (c .vars) (c .lows) (c .highs)) count = good-order (rows (c .vars) (c .lows) (c .highs)) count (c .heads) (c .links) order in
+    let G : GoodPlaces (rows (c .vars) (c .lows) (c .highs)) count = good-order (rows (c .vars) (c .lows) (c .highs)) count (c .heads)
+    (c .links) order in
     let len : length (nodesOfColumns c count) ≡ count = length-take-le count (rows (c .vars) (c .lows) (c .highs)) (G .within) in
     ap (λ (D : Diagram). value D a) (diagramAt-node (nodesOfColumns c count) (G .ordered) k two (omega arith))

@@ -130,7 +130,8 @@ pub record Kept (i : Handed) (o : CheckOutcome) : Type 0 where
   pub clauses : (k : ℕ) → k < length (clausesRead i) → Member o k (clauseValue (getD (clausesRead i) k []))
   pub lines : (j : ℕ) → j < o .lines → Member o (length (clausesRead i) + j) (getD (linesOf i) j (λ a. false))
   pub marks : i .mode .form ≡ Records → (k : ℕ) → getD (o .struck) k 0 ≡ markOf (strikingsBefore (i .proof) (o .place)) k
-  pub drat-marks : isDrat (i .mode .form) ≡ true → (k : ℕ) → getD (o .struck) k 0 ≡ getD (clausesBefore (i .mode) (i .text) (i .proof) (o .place) .marks) k 0
+  pub drat-marks : isDrat (i .mode .form) ≡ true → (k : ℕ) → getD (o .struck) k 0
+      ≡ getD (clausesBefore (i .mode) (i .text) (i .proof) (o .place) .marks) k 0
   pub above : (k : ℕ) → length (clausesRead i) + o .lines ≤ k → (getD (o .members) k 0 ≡ 0) × (getD (o .struck) k 0 ≡ 0)
   pub long : (length (o .members) ≡ length (i .members)) × (length (o .struck) ≡ length (i .struck))
   pub scratch : o .scratch ≡ zeros (length (i .scratch))

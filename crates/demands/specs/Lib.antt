@@ -5,3 +5,4 @@ pub mod Leaving
 pub mod Full
 pub mod Stays
 pub mod Conversions
+pub mod LongRows

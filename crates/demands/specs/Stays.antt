@@ -1,5 +1,5 @@
--- What stays between a proof as text and in binary: all that a check says and leaves but the place. (02, 9/14) No call open to others cites this
--- file.
+-- What stays between a proof as text and in binary: all that a check says and leaves but the place. (02, 9/14) No call open to others cites
+-- this file.
 use Rattle.verdict.specs.Check.{Verdict, CheckOutcome}
 
 -- "verdict, lines and rounds stay, the place not": without the place.

@@ -1,23 +1,22 @@
-// The calls of the face for Rust and C to link: each has the face's contract and nothing of its own.
+// The public calls for Rust and C to link: each has the contract of the call of `checker` or `report` and nothing of its own.
 use commands::Form;
 use commands::Mode;
 use convert::Converted;
 use operate::Operation;
-use report::Told;
+use report::Reported;
 use session::Checked;
 use single::Evaluated;
 use single::call::Single;
 use single::least::AtLeast;
 use table::NodeNo;
 ghost use mathlib.Core.Path.{_≡_};
-ghost use mathlib.Core.Bool.{true};
 ghost use lib.ListN.{length, take, drop};
-ghost use Rattle.commands.specs.declared.Form.the-variants.{Records, Text, Binary};
-ghost use Rattle.commands.specs.Commands.{inForm, inRecords, inText, inBinary};
+ghost use Rattle.checker.specs.Forms.{formOf};
+ghost use Rattle.commands.specs.Commands.{inForm, inRecords, inText};
 ghost use Rattle.convert.specs.Convert.{conversionOf, toBinary, toText};
-ghost use Rattle.io.specs.Counts.{Counts};
 ghost use Rattle.report.specs.Files.{said, statusOf};
 ghost use Rattle.report.specs.Line.{lineBytes};
+ghost use Rattle.report_in.specs.Lent.{reportOutcome, reportOn};
 ghost use Rattle.session.specs.Checked.{checkOutcome};
 ghost use Rattle.single.specs.Single.{evaluation, madeOf, operation, countedOf, atLeastCall};
 ghost use Rattle.table.specs.Columns.{columnsMade};
@@ -229,9 +228,11 @@ pub extern "C" fn cablesalak_check_text<'a>(
     )
 }
 
-// The check of a formula and a binary DRAT proof. (02, 9/14) Number 0: no assignment satisfies the formula.
+// The check of a formula and a proof in the form and the profile that the caller names: form 0 is records, 1 a DRAT text, any other binary
+// DRAT; in the consequence profile each accepted line is true under every assignment that satisfies the formula. (02, 9/14 and 11/14)
+// Number 0: no assignment satisfies the formula.
 #[no_mangle]
-pub extern "C" fn cablesalak_check_binary<'a>(
+pub extern "C" fn cablesalak_check_in<'a>(
     vars: &mut [u8],
     lows: &mut [u16],
     highs: &mut [u16],
@@ -243,16 +244,18 @@ pub extern "C" fn cablesalak_check_binary<'a>(
     scratch: &mut [u16],
     formula: &'a [u8],
     proof: &'a [u8],
+    form: u8,
+    consequence: bool,
 ) -> Checked
     ensures { λ r. ⌜ (
         let lent = columnsMade (now (vars .entry)) (now (lows .entry)) (now (highs .entry)) (now (heads .entry)) (now (links .entry)) in
         let left = columnsMade (now (vars .exit)) (now (lows .exit)) (now (highs .exit)) (now (heads .exit)) (now (links .exit)) in
         checkOutcome left (now (members .exit)) (now (struck .exit)) (now (scratch .exit)) r
-        ≡ check inBinary lent count (now (members .entry)) (now (struck .entry)) (now (scratch .entry))
+        ≡ check (inForm (formOf form) consequence) lent count (now (members .entry)) (now (struck .entry)) (now (scratch .entry))
         (now (formula .entry)) (now (proof .entry))) ⌝ }
     ensures { λ r. ⌜ (r .number ≡ 0 → Unsatisfiable (now (formula .entry))) ⌝ }
 {
-    checker::check_binary(
+    checker::check_form(
         vars,
         lows,
         highs,
@@ -264,121 +267,8 @@ pub extern "C" fn cablesalak_check_binary<'a>(
         scratch,
         formula,
         proof,
-    )
-}
-
-// The check of a formula and a proof in records in the consequence profile: each accepted line is true under every assignment that
-// satisfies the formula. (02, 11/14) Number 0: none does.
-#[no_mangle]
-pub extern "C" fn cablesalak_check_consequence<'a>(
-    vars: &mut [u8],
-    lows: &mut [u16],
-    highs: &mut [u16],
-    heads: &mut [u16],
-    links: &mut [u16],
-    count: usize,
-    members: &mut [u16],
-    struck: &mut [u8],
-    scratch: &mut [u16],
-    formula: &'a [u8],
-    proof: &'a [u8],
-) -> Checked
-    ensures { λ r. ⌜ (
-        let lent = columnsMade (now (vars .entry)) (now (lows .entry)) (now (highs .entry)) (now (heads .entry)) (now (links .entry)) in
-        let left = columnsMade (now (vars .exit)) (now (lows .exit)) (now (highs .exit)) (now (heads .exit)) (now (links .exit)) in
-        checkOutcome left (now (members .exit)) (now (struck .exit)) (now (scratch .exit)) r
-        ≡ check (inForm Records true) lent count (now (members .entry)) (now (struck .entry)) (now (scratch .entry))
-        (now (formula .entry)) (now (proof .entry))) ⌝ }
-    ensures { λ r. ⌜ (r .number ≡ 0 → Unsatisfiable (now (formula .entry))) ⌝ }
-{
-    checker::check_consequence(
-        vars,
-        lows,
-        highs,
-        heads,
-        links,
-        count,
-        members,
-        struck,
-        scratch,
-        formula,
-        proof,
-    )
-}
-
-// The same of a DRAT text, whose clauses pass by their first try alone. (02, 11/14)
-#[no_mangle]
-pub extern "C" fn cablesalak_check_text_consequence<'a>(
-    vars: &mut [u8],
-    lows: &mut [u16],
-    highs: &mut [u16],
-    heads: &mut [u16],
-    links: &mut [u16],
-    count: usize,
-    members: &mut [u16],
-    struck: &mut [u8],
-    scratch: &mut [u16],
-    formula: &'a [u8],
-    proof: &'a [u8],
-) -> Checked
-    ensures { λ r. ⌜ (
-        let lent = columnsMade (now (vars .entry)) (now (lows .entry)) (now (highs .entry)) (now (heads .entry)) (now (links .entry)) in
-        let left = columnsMade (now (vars .exit)) (now (lows .exit)) (now (highs .exit)) (now (heads .exit)) (now (links .exit)) in
-        checkOutcome left (now (members .exit)) (now (struck .exit)) (now (scratch .exit)) r
-        ≡ check (inForm Text true) lent count (now (members .entry)) (now (struck .entry)) (now (scratch .entry))
-        (now (formula .entry)) (now (proof .entry))) ⌝ }
-    ensures { λ r. ⌜ (r .number ≡ 0 → Unsatisfiable (now (formula .entry))) ⌝ }
-{
-    checker::check_text_consequence(
-        vars,
-        lows,
-        highs,
-        heads,
-        links,
-        count,
-        members,
-        struck,
-        scratch,
-        formula,
-        proof,
-    )
-}
-
-// The same of a binary DRAT proof. (02, 9/14 and 11/14)
-#[no_mangle]
-pub extern "C" fn cablesalak_check_binary_consequence<'a>(
-    vars: &mut [u8],
-    lows: &mut [u16],
-    highs: &mut [u16],
-    heads: &mut [u16],
-    links: &mut [u16],
-    count: usize,
-    members: &mut [u16],
-    struck: &mut [u8],
-    scratch: &mut [u16],
-    formula: &'a [u8],
-    proof: &'a [u8],
-) -> Checked
-    ensures { λ r. ⌜ (
-        let lent = columnsMade (now (vars .entry)) (now (lows .entry)) (now (highs .entry)) (now (heads .entry)) (now (links .entry)) in
-        let left = columnsMade (now (vars .exit)) (now (lows .exit)) (now (highs .exit)) (now (heads .exit)) (now (links .exit)) in
-        checkOutcome left (now (members .exit)) (now (struck .exit)) (now (scratch .exit)) r
-        ≡ check (inForm Binary true) lent count (now (members .entry)) (now (struck .entry)) (now (scratch .entry))
-        (now (formula .entry)) (now (proof .entry))) ⌝ }
-    ensures { λ r. ⌜ (r .number ≡ 0 → Unsatisfiable (now (formula .entry))) ⌝ }
-{
-    checker::check_binary_consequence(
-        vars,
-        lows,
-        highs,
-        heads,
-        links,
-        count,
-        members,
-        struck,
-        scratch,
-        formula,
-        proof,
+        form,
+        consequence,
     )
 }
 
@@ -407,16 +297,77 @@ pub extern "C" fn cablesalak_report<'a>(
     second: bool,
     proof: &'a [u8],
     line: &mut [u8; 105],
-) -> Told
+) -> Reported
     ensures { λ r. ⌜ take (r .length) (now (line .exit))
         ≡ lineBytes (said inRecords first (now (formula .entry)) second (now (proof .entry))) ⌝ }
     ensures { λ r. ⌜ drop (r .length) (now (line .exit)) ≡ drop (r .length) (now (line .entry)) ⌝ }
     ensures { λ r. ⌜ r .status ≡ statusOf (said inRecords first (now (formula .entry)) second (now (proof .entry)) .number) ⌝ }
-    ensures { λ r. ⌜ Counts (r .length) (now (line .exit)) ⌝ }
+    ensures { λ r. ⌜ r .length ≡ length (lineBytes (said inRecords first (now (formula .entry)) second (now (proof .entry)))) ⌝ }
+    ensures { λ r. ⌜ (r .status ≡ 0 → Unsatisfiable (now (formula .entry))) ⌝ }
 {
     let mode = Mode {
         form: Form::Records,
         consequence: false,
     };
     report::report(mode, first, formula, second, proof, line)
+}
+
+// The same in the form and the profile that the caller names (form 0 is records, 1 a DRAT text, any other binary DRAT) and in a table
+// of the caller's. A file that is not taken changes nothing lent.
+#[no_mangle]
+pub extern "C" fn cablesalak_report_in<'a>(
+    vars: &mut [u8],
+    lows: &mut [u16],
+    highs: &mut [u16],
+    heads: &mut [u16],
+    links: &mut [u16],
+    members: &mut [u16],
+    struck: &mut [u8],
+    scratch: &mut [u16],
+    first: bool,
+    formula: &'a [u8],
+    second: bool,
+    proof: &'a [u8],
+    form: u8,
+    consequence: bool,
+    line: &mut [u8; 105],
+) -> Reported
+    ensures { λ r. ⌜ (
+        let lent = columnsMade (now (vars .entry)) (now (lows .entry)) (now (highs .entry)) (now (heads .entry)) (now (links .entry)) in
+        let left = columnsMade (now (vars .exit)) (now (lows .exit)) (now (highs .exit)) (now (heads .exit)) (now (links .exit)) in
+        let told = reportOn (inForm (formOf form) consequence) lent (now (members .entry)) (now (struck .entry)) (now (scratch .entry))
+        first (now (formula .entry)) second (now (proof .entry)) in
+        (reportOutcome left (now (members .exit)) (now (struck .exit)) (now (scratch .exit)) (told .line) ≡ told)
+        × (take (r .length) (now (line .exit)) ≡ lineBytes (told .line))
+        × (drop (r .length) (now (line .exit)) ≡ drop (r .length) (now (line .entry)))
+        × (r .length ≡ length (lineBytes (told .line)))
+        × (r .status ≡ statusOf (told .line .number))) ⌝ }
+    ensures { λ r. ⌜ (r .status ≡ 0 → Unsatisfiable (now (formula .entry))) ⌝ }
+{
+    report_in::report_in(
+        vars,
+        lows,
+        highs,
+        heads,
+        links,
+        members,
+        struck,
+        scratch,
+        first,
+        formula,
+        second,
+        proof,
+        form,
+        consequence,
+        line,
+    )
+}
+
+// The layout of the calls: parameters and result structs. Header and Rust crate refer to this symbol, so that an archive of another layout
+// does not link with them; its number goes up whenever a parameter list or a result struct changes.
+#[no_mangle]
+pub extern "C" fn cablesalak_layout_2() -> u32
+    ensures { λ r. ⌜ r ≡ 2 ⌝ }
+{
+    2
 }

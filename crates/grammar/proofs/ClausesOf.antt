@@ -1,5 +1,5 @@
--- What the reader takes for clauses, to the end and with nothing refused, is printed by clauses of the grammar. The idea: each answer of the
--- reader is traced back to the bytes that it passed. Assumes nothing.
+-- What the reader takes for clauses, to the end and with nothing refused, is printed by clauses of the grammar. The idea: each answer of
+-- the reader is traced back to the bytes that it passed. Assumes nothing.
 use mathlib.Core.Path.{_≡_, refl, ap, ap₂, sym, subst, _∙_}
 use mathlib.Core.Bool.{Bool, true, false, cond}
 use mathlib.Core.List.{List, [], _∷_, _++_}
@@ -13,7 +13,8 @@ use Rattle.meaning.specs.Operations as meaning
 use Rattle.dimacs.specs.declared.Token.{Token}
 use Rattle.dimacs.specs.declared.Token.the-variants.{Closing, Literal, Wrong}
 use Rattle.dimacs.specs.Text.{isToken, tokenEnd, between}
-use Rattle.dimacs.specs.Clauses.{Next, closed, ended, refused, literalThen, afterToken, clauseFrom, nextClause, clause as andNext, complete, readingThen, clausesFrom}
+use Rattle.dimacs.specs.Clauses.{Next, closed, ended, refused, literalThen, afterToken, clauseFrom, nextClause, clause as andNext, complete}
+use Rattle.dimacs.specs.Clauses.{readingThen, clausesFrom}
 use Rattle.dimacs.proofs.Cases.{by, clash}
 use Rattle.dimacs.proofs.OpenClause.{tokenAt, nextAt, clause-suc, clause-end}
 use Rattle.dimacs.proofs.Formula.{clauses-closed, clauses-ended, clauses-refused}
@@ -27,7 +28,7 @@ use Rattle.grammar.proofs.Gaps.{Between, parts, last, between-of}
 
 -- ---- answers that clash
 
-not-closed : (number place f next : ℕ) (ls : List meaning.Literal) {P : Type 0} → refused number place ≡ closed ls f next → P
+pub not-closed : (number place f next : ℕ) (ls : List meaning.Literal) {P : Type 0} → refused number place ≡ closed ls f next → P
 not-closed number place f next ls e = let z : _≡_ {A = ℕ} 0 1 = cc in absurd (omega arith)
 
 ended-not : (f next : ℕ) (ls : List meaning.Literal) {P : Type 0} → ended ≡ closed ls f next → P
@@ -48,7 +49,7 @@ sign-starts : (b : Bool) (m : Decimal) (r : List ℕ) → Stops isToken (sign b 
 sign-starts true m r h = clash (sym (token-byte (48 + m .first) (omega arith)) ∙ h)
 sign-starts false m r h = clash h
 
-clause-starts : (is : List Item) (r : List ℕ) → Stops isToken (clause is r) → ⊥
+pub clause-starts : (is : List Item) (r : List ℕ) → Stops isToken (clause is r) → ⊥
 clause-starts [] r h = clash h
 clause-starts (i ∷ is) r h = sign-starts (i .said .isPositive) (i .said .magnitude) (parting (i .behind) (clause is r)) h
 
@@ -64,7 +65,7 @@ module _ (s : List ℕ) (n : ℕ) where
     pub stops : Stops isToken (drop next s)
 
   -- A gap before a clause is not empty where a token has just ended.
-  some-gap : (at : ℕ) (items : List Item) (r : List ℕ) → Stops isToken (drop at s) → drop (between s at) s ≡ clause items r
+  pub some-gap : (at : ℕ) (items : List Item) (r : List ℕ) → Stops isToken (drop at s) → drop (between s at) s ≡ clause items r
       → (g : List Piece) → drop at s ≡ gap g (drop (between s at) s) → (p : Parting) × (drop at s ≡ parting p (clause items r))
   some-gap at items r h e [] q = absurd (clause-starts items r (subst (Stops isToken) (q ∙ e) h))
   some-gap at items r h e (p ∷ g) q = (record { first = p; more = g }, q ∙ ap (gap (p ∷ g)) e)
@@ -78,24 +79,25 @@ module _ (s : List ℕ) (n : ℕ) where
     stops = past-stops s at isToken;
   }
 
-  module _ (at next v : ℕ) (b : Bool) (ms : List meaning.Literal) (q : tokenAt s n at ≡ Literal v b) (C : ClauseOf (nextAt s n at) next ms) where
-    abbrev found : IsSigned n (slice at (tokenEnd s at) s) v b
-    found = literal-of n (slice at (tokenEnd s at) s) v b q
+  module _ (at next v : ℕ) (b : Bool) (ms : List meaning.Literal) (q : tokenAt s n at ≡ Literal v b) (C : ClauseOf (nextAt s n at) next ms)
+    where
+      abbrev found : IsSigned n (slice at (tokenEnd s at) s) v b
+      found = literal-of n (slice at (tokenEnd s at) s) v b q
 
-    literal-found : (g : List Piece) → drop (tokenEnd s at) s ≡ gap g (drop (between s (tokenEnd s at)) s)
-        → ClauseOf at next (record { variable = v; positive = b } ∷ ms)
-    literal-found g e =
-        let x = found .tree in
-        let p = some-gap (tokenEnd s at) (C .items) (drop next s) (past-stops s at isToken) (C .is) g e in
-        let w : v ≤ n = subst (λ l. l .variable ≤ n) (found .says) (found .within) in
-        record {
-          items = record { said = x; behind = p .0 } ∷ C .items;
-          is = past-split s at isToken ∙ ap₂ (λ (l r : List ℕ). l ++ r) (sym (found .is)) (p .1)
-              ∙ sym (signed-then x (parting (p .0) (clause (C .items) (drop next s))));
-          are = ap₂ (λ (l : meaning.Literal) (ls : List meaning.Literal). l ∷ ls) (found .says) (C .are);
-          within = (w, C .within);
-          stops = C .stops;
-        }
+      literal-found : (g : List Piece) → drop (tokenEnd s at) s ≡ gap g (drop (between s (tokenEnd s at)) s)
+          → ClauseOf at next (record { variable = v; positive = b } ∷ ms)
+      literal-found g e =
+          let x = found .tree in
+          let p = some-gap (tokenEnd s at) (C .items) (drop next s) (past-stops s at isToken) (C .is) g e in
+          let w : v ≤ n = subst (λ l. l .variable ≤ n) (found .says) (found .within) in
+          record {
+            items = record { said = x; behind = p .0 } ∷ C .items;
+            is = past-split s at isToken ∙ ap₂ (λ (l r : List ℕ). l ++ r) (sym (found .is)) (p .1)
+                ∙ sym (signed-then x (parting (p .0) (clause (C .items) (drop next s))));
+            are = ap₂ (λ (l : meaning.Literal) (ls : List meaning.Literal). l ∷ ls) (found .says) (C .are);
+            within = (w, C .within);
+            stops = C .stops;
+          }
 
   -- What the rest of a clause gives, once its first token is read.
   abbrev Rest : ℕ → ℕ → ℕ → ℕ → ℕ → Type 0
@@ -103,7 +105,8 @@ module _ (s : List ℕ) (n : ℕ) where
 
   module _ (k first at f next : ℕ) (ls : List meaning.Literal) (ih : Rest k first (nextAt s n at) f next) where
     literal-step : (v : ℕ) (b : Bool) → tokenAt s n at ≡ Literal v b
-        → literalThen (record { variable = v; positive = b }) (clauseFrom s n k first (nextAt s n at)) ≡ closed ls f next → ClauseOf at next ls
+        → literalThen (record { variable = v; positive = b }) (clauseFrom s n k first (nextAt s n at)) ≡ closed ls f next →
+        ClauseOf at next ls
     literal-step v b q e =
         let rest = with-closed (record { variable = v; positive = b }) (clauseFrom s n k first (nextAt s n at)) ls f next e in
         let go : Between s (tokenEnd s at) → ClauseOf at next (record { variable = v; positive = b } ∷ rest .0) = λ w. elim w [
@@ -112,7 +115,8 @@ module _ (s : List ℕ) (n : ℕ) where
         ] in
         subst (ClauseOf at next) (rest .2) (go (between-of s (tokenEnd s at) (past-stops s at isToken)))
 
-    token-step : (t : Token) → tokenAt s n at ≡ t → afterToken t first at (tokenEnd s at) (clauseFrom s n k first (nextAt s n at)) ≡ closed ls f next
+    token-step : (t : Token) → tokenAt s n at ≡ t → afterToken t first at (tokenEnd s at) (clauseFrom s n k first (nextAt s n at))
+        ≡ closed ls f next
         → ClauseOf at next ls
     token-step Closing q e =
         let same = closed-same [] ls first f (tokenEnd s at) next e in
@@ -124,7 +128,7 @@ module _ (s : List ℕ) (n : ℕ) where
   unfolding clauseFrom
   clause-none first at f next ls e = not-closed 6 first f next ls e
 
-  clause-of : (k first at f next : ℕ) (ls : List meaning.Literal) → clauseFrom s n k first at ≡ closed ls f next → ClauseOf at next ls
+  pub clause-of : (k first at f next : ℕ) (ls : List meaning.Literal) → clauseFrom s n k first at ≡ closed ls f next → ClauseOf at next ls
   clause-of zero first at f next ls e = clause-none first at f next ls e
   clause-of (suc k) first at f next ls e =
       by (ltb at (length s))
@@ -144,7 +148,8 @@ module _ (s : List ℕ) (n : ℕ) where
   unfolding clausesFrom
   none-left at g = go (ltb (between s at) (length s)) refl g
     where
-      go : (t : Bool) → ltb (between s at) (length s) ≡ t → Gives [] (readingThen (cond t (refused 5 (between s at)) ended) (λ next. complete)) → length s ≤ between s at
+      go : (t : Bool) → ltb (between s at) (length s) ≡ t → Gives []
+          (readingThen (cond t (refused 5 (between s at)) ended) (λ next. complete)) → length s ≤ between s at
       go true e h = absurd h
       go false e h = ltb-false (between s at) (length s) e
 
@@ -162,7 +167,8 @@ module _ (s : List ℕ) (n : ℕ) where
       (λ t. (ltb-true first (length s) t, clause-of (length s - first) first first f next ls (sym (rw t) ∙ e)))
       (λ t. not-closed 5 (length s) f next ls (sym (rw t) ∙ e))
 
-  clause-before : (at next : ℕ) (ls : List meaning.Literal) (cs : List (List meaning.Literal)) → Stops isToken (drop at s) → between s at < length s
+  clause-before : (at next : ℕ) (ls : List meaning.Literal) (cs : List (List meaning.Literal)) → Stops isToken (drop at s) →
+      between s at < length s
       → ClauseOf (between s at) next ls → BodyOf next cs → Between s at → BodyOf at (ls ∷ cs)
   clause-before at next ls cs h lt C B (last g ks c e none) = absurd (omega arith)
   clause-before at next ls cs h lt C B (parts g e) =
@@ -186,9 +192,11 @@ module _ (s : List ℕ) (n : ℕ) where
       subst (λ l. BodyOf at (l ∷ cs)) (k .0)
       (clause-before at next ls cs h (found .0) (found .1) (ih next (found .1 .stops) (k .1)) (between-of s at h))
   body-step at c cs h ih ended e g = absurd (subst (Gives (c ∷ cs)) (clauses-ended s n (suc (length cs)) at e) g)
-  body-step at c cs h ih (refused number place) e g = absurd (subst (Gives (c ∷ cs)) (clauses-refused s n (suc (length cs)) at number place e) g)
+  body-step at c cs h ih (refused number place) e g = absurd
+      (subst (Gives (c ∷ cs)) (clauses-refused s n (suc (length cs)) at number place e) g)
 
   -- What is read to the end is the text of those clauses.
-  pub body-of : (cs : List (List meaning.Literal)) (at : ℕ) → Stops isToken (drop at s) → Gives cs (clausesFrom s n (length cs) at) → BodyOf at cs
+  pub body-of : (cs : List (List meaning.Literal)) (at : ℕ) → Stops isToken (drop at s) → Gives cs (clausesFrom s n (length cs) at) →
+      BodyOf at cs
   body-of [] at h g = end-of at (none-left at g) (between-of s at h)
   body-of (c ∷ cs) at h g = body-step at c cs h (λ next k j. body-of cs next k j) (nextClause s n (suc (length cs)) at) refl g

@@ -1,5 +1,5 @@
--- The clauses of a text of the grammar are read as those clauses, and nothing is refused. The idea: token by token, a gap behind each; the bytes
--- left are steps enough. Assumes nothing.
+-- The clauses of a text of the grammar are read as those clauses, and nothing is refused. The idea: token by token, a gap behind each; the
+-- bytes left are steps enough. Assumes nothing.
 use mathlib.Core.Path.{_≡_, refl, ap, sym, subst, _∙_}
 use mathlib.Core.Bool.{Bool, true, false}
 use mathlib.Core.List.{List, [], _∷_, _++_}
@@ -17,8 +17,10 @@ use Rattle.dimacs.specs.Clauses.{Next, closed, ended, literalThen, afterToken, 
 use Rattle.dimacs.proofs.Between.{between-least}
 use Rattle.dimacs.proofs.OpenClause.{tokenAt, nextAt, clause-suc, literal-moves}
 use Rattle.dimacs.proofs.Formula.{clauses-closed, clauses-ended}
-use Rattle.grammar.specs.Parts.{spaced, carriage, space, tab, Piece, blank, newLine, gap, Parting, parting, Decimal, decimalThen, Signed, sign, signed, literal}
-use Rattle.grammar.specs.Formula.{Item, clause, literals, Ending, plain, lastComment, ending, Body, end, clauseThen, body, clauses, Within, AllWithin}
+use Rattle.grammar.specs.Parts.{spaced, carriage, space, tab, Piece, blank, newLine, gap, Parting, parting, Decimal, decimalThen}
+use Rattle.grammar.specs.Parts.{Signed, sign, signed, literal}
+use Rattle.grammar.specs.Formula.{Item, clause, literals, Ending, plain, lastComment, ending, Body, end, clauseThen, body, clauses}
+use Rattle.grammar.specs.Formula.{Within, AllWithin}
 use Rattle.grammar.specs.Reads.{Gives}
 use Rattle.grammar.proofs.Places.{Stops, inside, past-part, past-rest}
 use Rattle.grammar.proofs.Numbers.{token-byte}
@@ -33,10 +35,10 @@ piece-stops (blank (spaced tab)) g r = refl
 piece-stops (blank carriage) g r = refl
 piece-stops (newLine cs) g r = refl
 
-parting-stops : (p : Parting) (r : List ℕ) → Stops isToken (parting p r)
+pub parting-stops : (p : Parting) (r : List ℕ) → Stops isToken (parting p r)
 parting-stops p r = piece-stops (p .first) (p .more) r
 
-ending-stops : (e : Ending) → Stops isToken (ending e)
+pub ending-stops : (e : Ending) → Stops isToken (ending e)
 ending-stops (plain []) = tt
 ending-stops (plain (p ∷ g)) = piece-stops p g []
 ending-stops (lastComment [] cs c) = refl
@@ -47,10 +49,13 @@ body-stops (end e) = ending-stops e
 body-stops (clauseThen p is b) = parting-stops p (clause is (body b))
 
 sign-fresh : (b : Bool) (m : Decimal) (r : List ℕ) → Fresh (sign b (decimalThen m r))
-sign-fresh true m r = (not-true (isParting (48 + m .first)) (token-byte (48 + m .first) (omega arith)), λ e. absurd (omega (arith, m .most)))
+sign-fresh true m r = (
+  not-true (isParting (48 + m .first)) (token-byte (48 + m .first) (omega arith)),
+  λ e. absurd (omega (arith, m .most)),
+)
 sign-fresh false m r = (refl, λ e. absurd (omega arith))
 
-clause-fresh : (is : List Item) (r : List ℕ) → Fresh (clause is r)
+pub clause-fresh : (is : List Item) (r : List ℕ) → Fresh (clause is r)
 clause-fresh [] r = (refl, λ e. absurd (omega arith))
 clause-fresh (i ∷ is) r = sign-fresh (i .said .isPositive) (i .said .magnitude) (parting (i .behind) (clause is r))
 
@@ -65,11 +70,11 @@ fresh-inside s at (i ∷ is) r l e q = go (i .said .isPositive) (e ∙ q)
 -- ---- one clause
 
 module _ (s : List ℕ) (n : ℕ) where
-  clause-inside : (at : ℕ) (is : List Item) (r : List ℕ) → drop at s ≡ clause is r → at < length s
+  pub clause-inside : (at : ℕ) (is : List Item) (r : List ℕ) → drop at s ≡ clause is r → at < length s
   clause-inside at is r e = fresh-inside s at is r (clause is r) e refl
 
   -- The clause ls from `at` on closes, and the bytes r are left.
-  abbrev Closes : List meaning.Literal → ℕ → ℕ → ℕ → List ℕ → Type 0
+  abbrev pub Closes : List meaning.Literal → ℕ → ℕ → ℕ → List ℕ → Type 0
   Closes ls k first at r = (next : ℕ) × (clauseFrom s n k first at ≡ closed ls first next) × (drop next s ≡ r)
 
   closing-read : (r : List ℕ) (k first at : ℕ) → drop at s ≡ 48 ∷ r → Stops isToken r → Closes [] (suc k) first at r
@@ -89,13 +94,15 @@ module _ (s : List ℕ) (n : ℕ) where
 
       said : tokenAt s n at ≡ Literal (literal x .variable) (x .isPositive)
       said =
-          ap (tokenOf n) (past-part s at isToken (signed x []) (parting p (clause is r)) split (signed-token x) (parting-stops p (clause is r)))
+          ap (tokenOf n) (past-part s at isToken (signed x []) (parting p (clause is r)) split (signed-token x)
+          (parting-stops p (clause is r)))
           ∙ signed-says n x within
 
       literal-next : drop (nextAt s n at) s ≡ clause is r
       literal-next =
           gap-passed s (p .first ∷ p .more) (clause is r) (tokenEnd s at)
-          (past-rest s at isToken (signed x []) (parting p (clause is r)) split (signed-token x) (parting-stops p (clause is r))) (clause-fresh is r)
+          (past-rest s at isToken (signed x []) (parting p (clause is r)) split (signed-token x) (parting-stops p (clause is r)))
+          (clause-fresh is r)
 
       -- The rest of the clause is read behind its literal.
       literal-read : (k first : ℕ) → at < length s → ((at < nextAt s n at) → Closes (literals is) k first (nextAt s n at) r)
@@ -110,7 +117,7 @@ module _ (s : List ℕ) (n : ℕ) where
             later .2,
           )
 
-  clause-read : (is : List Item) (r : List ℕ) (k first at : ℕ) → length s ≤ at + k → drop at s ≡ clause is r → Within n (literals is)
+  pub clause-read : (is : List Item) (r : List ℕ) (k first at : ℕ) → length s ≤ at + k → drop at s ≡ clause is r → Within n (literals is)
       → Stops isToken r → Closes (literals is) k first at r
   clause-read is r zero first at h e w t = absurd (omega (arith, clause-inside at is r e))
   clause-read [] r (suc k) first at h e w t = closing-read r k first at e t
@@ -134,7 +141,8 @@ module _ (s : List ℕ) (n : ℕ) where
   next-ended at h = rw (le-ltb (between s at) (length s) h)
 
   -- The clauses of a text of the grammar are read, in their order, and nothing is refused.
-  pub body-read : (b : Body) (at : ℕ) → drop at s ≡ body b → AllWithin n (clauses b) → Gives (clauses b) (clausesFrom s n (length (clauses b)) at)
+  pub body-read : (b : Body) (at : ℕ) → drop at s ≡ body b → AllWithin n (clauses b) →
+      Gives (clauses b) (clausesFrom s n (length (clauses b)) at)
   body-read (end e) at h w = subst (Gives []) (sym (clauses-ended s n 0 at (next-ended at (ending-passed s e at h)))) tt
   body-read (clauseThen p is b) at h w =
       let m = length (clauses b) in

@@ -1,5 +1,5 @@
--- The reading is DIMACS: a text is read as n variables and the clauses cs, and accepted, exactly when it is a text of the grammar that says them;
--- so the grammar is unambiguous. The idea: header and clauses each way, put together. Assumes nothing.
+-- The reading is DIMACS: a text is read as n variables and the clauses cs, and accepted, exactly when it is a text of the grammar that says
+-- them; so the grammar is unambiguous. The idea: header and clauses each way, put together. Assumes nothing.
 use mathlib.Core.Path.{_≡_, refl, ap, ap₂, sym, subst, _∙_}
 use mathlib.Core.Bool.{Bool, true, false, cond}
 use mathlib.Core.List.{List, [], _∷_}
@@ -15,7 +15,8 @@ use Rattle.dimacs.specs.declared.Token.{Token}
 use Rattle.dimacs.specs.declared.Token.the-variants.{Closing, Literal, Wrong}
 use Rattle.dimacs.specs.Text.{isToken, tokenEnd, lineEnd, between}
 use Rattle.dimacs.specs.Header.{judgedFrom, nextWord, headerAt, header}
-use Rattle.dimacs.specs.Clauses.{Next, closed, ended, refused, afterToken, clauseFrom, nextClause, Reading, clause, complete, refusal, readingThen, clausesFrom, formula}
+use Rattle.dimacs.specs.Clauses.{Next, closed, ended, refused, afterToken, clauseFrom, nextClause, Reading, clause, complete, refusal}
+use Rattle.dimacs.specs.Clauses.{readingThen, clausesFrom, formula}
 use Rattle.dimacs.proofs.Cases.{by}
 use Rattle.dimacs.proofs.OpenClause.{tokenAt, nextAt, clause-suc, clause-end}
 use Rattle.dimacs.proofs.Formula.{clauses-closed, clauses-refused, formula-proper, formula-improper}
@@ -54,7 +55,8 @@ module _ (s : List ℕ) (n : ℕ) (cs : List (List meaning.Literal)) (D : Dimacs
   given : Gives cs (clausesFrom s n (length cs) lineEndsAt)
   given =
       subst (λ x. Gives x (clausesFrom s n (length x) lineEndsAt)) (D .are)
-      (body-read s n (D .behind) lineEndsAt (header-rest s (D .line) rest (D .lineEnds) place at-header) (subst (AllWithin n) (sym (D .are)) (D .within)))
+      (body-read s n (D .behind) lineEndsAt (header-rest s (D .line) rest (D .lineEnds) place at-header)
+      (subst (AllWithin n) (sym (D .are)) (D .within)))
 
   -- Every text of the grammar is read as what it says, and nothing is refused.
   pub print-and-read : Reads s n cs
@@ -79,7 +81,8 @@ module _ (s : List ℕ) (n : ℕ) where
   clause-ended zero first at e = none-ended first at e
   clause-ended (suc k) first at e =
       by (ltb at (length s))
-      (λ t. after-ended (tokenAt s n at) first at (tokenEnd s at) (clauseFrom s n k first (nextAt s n at)) (clause-ended k first (nextAt s n at))
+      (λ t. after-ended (tokenAt s n at) first at (tokenEnd s at) (clauseFrom s n k first (nextAt s n at))
+      (clause-ended k first (nextAt s n at))
       (sym (clause-suc s n k first at (ltb-true at (length s) t)) ∙ e))
       (λ t. let q : refused 6 first ≡ ended = sym (clause-end s n (suc k) first at (ltb-false at (length s) t)) ∙ e in
       let z : _≡_ {A = ℕ} 0 1 = cc in absurd (omega arith))
@@ -97,12 +100,14 @@ module _ (s : List ℕ) (n : ℕ) where
   unfolding clausesFrom
   none-wanted at cs g = go cs (ltb (between s at) (length s)) g
     where
-      go : (cs : List (List meaning.Literal)) (t : Bool) → Gives cs (readingThen (cond t (refused 5 (between s at)) ended) (λ next. complete)) → 0 ≡ length cs
+      go : (cs : List (List meaning.Literal)) (t : Bool) → Gives cs
+          (readingThen (cond t (refused 5 (between s at)) ended) (λ next. complete)) → 0 ≡ length cs
       go [] t h = refl
       go (c ∷ cs) true h = absurd h
       go (c ∷ cs) false h = absurd h
 
-  count-step : (left at : ℕ) (cs : List (List meaning.Literal)) → ((next : ℕ) (ds : List (List meaning.Literal)) → Gives ds (clausesFrom s n left next) → left ≡ length ds)
+  count-step : (left at : ℕ) (cs : List (List meaning.Literal)) →
+      ((next : ℕ) (ds : List (List meaning.Literal)) → Gives ds (clausesFrom s n left next) → left ≡ length ds)
       → (x : Next) → nextClause s n (suc left) at ≡ x → Gives cs (clausesFrom s n (suc left) at) → suc left ≡ length cs
   count-step left at cs ih ended e g = absurd (next-ended left at e)
   count-step left at [] ih (refused k p) e g = absurd (subst (Gives []) (clauses-refused s n (suc left) at k p e) g)
@@ -146,7 +151,8 @@ module _ (s : List ℕ) (n : ℕ) (cs : List (List meaning.Literal)) where
       let L = lines-of s (length s) 0 (H .inText) in
       let found = header-at-of s p (omega arith) n (R .wanted) (R .at) (H .judged) in
       let line = found .2 in
-      let B = body-of s n cs (R .at) (ends-token (drop (R .at) s) (line .ends)) (subst (λ k. Gives cs (clausesFrom s n k (R .at))) many (R .gives)) in
+      let B = body-of s n cs (R .at) (ends-token (drop (R .at) s) (line .ends))
+      (subst (λ k. Gives cs (clausesFrom s n k (R .at))) many (R .gives)) in
       record {
         before = L .0;
         line = line .tree;

@@ -1,5 +1,5 @@
--- Texts of the grammar with CRLF, spacing of all kinds, comments in an open clause and no LF at the end, printed and read; and texts that are
--- no DIMACS. By computation. Assumes nothing.
+-- Texts of the grammar with CRLF, spacing of all kinds, comments in an open clause and no LF at the end, printed and read; and texts that
+-- are no DIMACS. By computation. Assumes nothing.
 use mathlib.Core.Path.{_≡_, refl}
 use mathlib.Core.Bool.{true, false}
 use mathlib.Core.List.{List, [] as []ᴸ, _∷_ as _∷ᴸ_}
@@ -8,7 +8,8 @@ use Prim.Native.String.{String}
 use native.Mathlib.Omega.{arith}
 use Rattle.meaning.specs.Operations.{Literal}
 use Rattle.dimacs.specs.Clauses.{formula, clause, complete}
-use Rattle.grammar.specs.Parts.{space, tab, spaced, carriage, Spaces, Comment, Piece, blank, newLine, Parting, Decimal, nought, positive}
+use Rattle.grammar.specs.Parts.{space, tab, spaced, carriage, Spaces, Comment, Piece, blank, newLine, Parting, Decimal, nought}
+use Rattle.grammar.specs.Parts.{positive}
 use Rattle.grammar.specs.Formula.{blankLine, commentLine, Item, plain, lastComment, end, clauseThen, Dimacs}
 use Rattle.grammar.specs.Reads.{Gives}
 use Rattle.grammar.proofs.Exact.{formula-exactly}
@@ -51,7 +52,11 @@ negatively m p = record { said = record { isPositive = false; magnitude = m }; b
 -- CR before each LF, a comment and a blank line before the header.
 windows : Dimacs (bytes "c x\r\n \t\r\np cnf 2 2\r\n1 -2 0\r\n2 0\r\n") 2 ((plus 1 ∷ᴸ minus 2 ∷ᴸ []ᴸ) ∷ᴸ (plus 2 ∷ᴸ []ᴸ) ∷ᴸ []ᴸ)
 windows = record {
-  before = commentLine (record { bytes = bytes " x\r"; inLine = (λ e. absurd (omega arith), (λ e. absurd (omega arith), (λ e. absurd (omega arith), tt))) })
+  before = commentLine (record {
+    bytes = bytes " x\r";
+    inLine =
+        (λ e. absurd (omega arith), (λ e. absurd (omega arith), (λ e. absurd (omega arith), tt)));
+  })
       ∷ᴸ blankLine (spaced space ∷ᴸ spaced tab ∷ᴸ carriage ∷ᴸ []ᴸ) ∷ᴸ []ᴸ;
   line = record {
     behindP = one;
@@ -73,7 +78,8 @@ windows = record {
   within = ((omega arith, (omega arith, tt)), ((omega arith, tt), tt));
 }
 
-windows-read : formula (bytes "c x\r\n \t\r\np cnf 2 2\r\n1 -2 0\r\n2 0\r\n") ≡ clause (plus 1 ∷ᴸ minus 2 ∷ᴸ []ᴸ) 20 (clause (plus 2 ∷ᴸ []ᴸ) 28 complete)
+windows-read : formula (bytes "c x\r\n \t\r\np cnf 2 2\r\n1 -2 0\r\n2 0\r\n")
+    ≡ clause (plus 1 ∷ᴸ minus 2 ∷ᴸ []ᴸ) 20 (clause (plus 2 ∷ᴸ []ᴸ) 28 complete)
 unfolding formula
 windows-read = refl
 

@@ -1,5 +1,5 @@
--- What parts two tokens: the reader passes over a gap of the grammar, and what it passes over is one. The idea: byte by byte, a comment line at
--- a time, in both directions. Assumes nothing.
+-- What parts two tokens: the reader passes over a gap of the grammar, and what it passes over is one. The idea: byte by byte, a comment
+-- line at a time, in both directions. Assumes nothing.
 use mathlib.Core.Path.{_≡_, refl, ap, ap₂, sym, _∙_}
 use mathlib.Core.Logic.{_≢_}
 use mathlib.Core.Bool.{true, false}
@@ -15,7 +15,8 @@ use Rattle.meaning.proofs.Booleans as booleans
 use Rattle.dimacs.specs.Text.{isParting, isToken, isLine, past, lineEnd, isComment, betweenFrom, between}
 use Rattle.dimacs.proofs.Cases.{by, clash}
 use Rattle.dimacs.proofs.Runs.{past-end, past-stop, past-go, past-least}
-use Rattle.dimacs.proofs.Between.{comment-byte, comment-inside, between-stop, between-left, left-comment, between-least, other-byte, behind as comment-behind}
+use Rattle.dimacs.proofs.Between.{comment-byte, comment-inside, between-stop, between-left, left-comment, between-least, other-byte}
+use Rattle.dimacs.proofs.Between.{behind as comment-behind}
 use Rattle.grammar.specs.Parts.{Blank, blankByte, Comment, comment, comments, Piece, blank, newLine, gap}
 use Rattle.grammar.specs.Formula.{Ending, plain, lastComment, ending}
 use Rattle.grammar.proofs.Places.{Stops, outside, inside, byte, behind, past-rest, past-all, past-stops, past-split}
@@ -37,7 +38,8 @@ module _ (s : List ℕ) where
   module _ (at b : ℕ) (r : List ℕ) (e : drop at s ≡ b ∷ r) where
     between-on : isParting b ≡ true → between s at ≡ between s (suc at)
     between-on p =
-        from-past (length s) at (suc at) (past-go isParting s at (inside s at b r e) (ap isParting (byte s at b r e) ∙ p) ∙ ap (past isParting s) (add-one at))
+        from-past (length s) at (suc at) (past-go isParting s at (inside s at b r e) (ap isParting (byte s at b r e) ∙ p)
+        ∙ ap (past isParting s) (add-one at))
 
     stays : isParting b ≡ false → past isParting s at ≡ at
     stays p = past-stop isParting s at (inside s at b r e) (ap isParting (byte s at b r e) ∙ p)
@@ -79,13 +81,13 @@ module _ (s : List ℕ) where
   abbrev Reaches : ℕ → List ℕ → Type 0
   Reaches at x = (p : ℕ) × (drop p s ≡ x) × (between s at ≡ between s p)
 
-  comments-skipped : (cs : List Comment) (x : List ℕ) (at : ℕ) → drop at s ≡ 10 ∷ comments cs x → Reaches at (10 ∷ x)
+  pub comments-skipped : (cs : List Comment) (x : List ℕ) (at : ℕ) → drop at s ≡ 10 ∷ comments cs x → Reaches at (10 ∷ x)
   comments-skipped [] x at e = (at, e, refl)
   comments-skipped (c ∷ cs) x at e =
       let later = comments-skipped cs x (lineEnd s (suc at)) (comment-rest at (10 ∷ comments cs x) c e refl) in
       (later .0, later .1, comment-skipped at (10 ∷ comments cs x) c e ∙ later .2)
 
-  gap-skipped : (g : List Piece) (x : List ℕ) (at : ℕ) → drop at s ≡ gap g x → Reaches at x
+  pub gap-skipped : (g : List Piece) (x : List ℕ) (at : ℕ) → drop at s ≡ gap g x → Reaches at x
   gap-skipped [] x at e = (at, e, refl)
   gap-skipped (blank b ∷ g) x at e =
       let later = gap-skipped g x (suc at) (behind s at (blankByte b) (gap g x) e) in
@@ -117,17 +119,64 @@ module _ (s : List ℕ) where
       let same : between s at ≡ between s last = first .2 ∙ second .2 ∙ comment-skipped (second .0) [] c (second .1) in
       omega (arith, between-least s last)
 
+  -- ---- where the text starts
+
+  -- a comment line at the text's start
+  module _ (c : Comment) (r : List ℕ) (e : s ≡ comment c r) (h : Stops isLine r) where
+    start-comment : isComment s 0 ≡ true
+    unfolding isComment
+    start-comment = rw (eq-eqb (getD s 0 0) 99 (byte s 0 99 (c .bytes ++ r) e))
+
+    start-passed : between s 0 ≡ between s (lineEnd s 0)
+    start-passed = between-skips 0 99 (c .bytes ++ r) e refl start-comment
+
+    start-rest : drop (lineEnd s 0) s ≡ r
+    start-rest = past-rest s 0 isLine (99 ∷ c .bytes) r e (refl, line-all (c .bytes) (c .inLine)) h
+
+  pub start-skipped : (ks : List Comment) (x : List ℕ) → s ≡ comments ks x → Reaches 0 x
+  start-skipped [] x e = (0, e, refl)
+  start-skipped (c ∷ ks) x e =
+      let later = comments-skipped ks x (lineEnd s 0) (start-rest c (10 ∷ comments ks x) e refl) in (
+        suc (later .0),
+        behind s (later .0) 10 x (later .1),
+        start-passed c (10 ∷ comments ks x) e refl ∙ later .2 ∙ between-on (later .0) 10 x (later .1) refl,
+      )
+
+  -- A text of comment lines alone, the last without its LF.
+  pub comment-alone : (ks : List Comment) (c : Comment) → s ≡ comments ks (comment c []) → length s ≤ between s 0
+  comment-alone [] c e =
+      let none : length s ≤ lineEnd s 0 = outside s (lineEnd s 0) (start-rest c [] e tt) in
+      omega (arith, start-passed c [] e tt, between-least s (lineEnd s 0))
+  comment-alone (k ∷ ks) c e =
+      let r : List ℕ = 10 ∷ comments ks (comment c []) in
+      let second = comments-skipped ks (comment c []) (lineEnd s 0) (start-rest k r e refl) in
+      let last = lineEnd s (suc (second .0)) in
+      let none : length s ≤ last = outside s last (comment-rest (second .0) [] c (second .1) tt) in
+      let same : between s 0 ≡ between s last = start-passed k r e refl ∙ second .2 ∙ comment-skipped (second .0) [] c (second .1) in
+      omega (arith, between-least s last)
+
+  pub start-ends : (ks : List Comment) (e : Ending) → s ≡ comments ks (ending e) → length s ≤ between s 0
+  start-ends ks e q =
+      let first = start-skipped ks (ending e) q in omega (arith, first .2, ending-passed e (first .0) (first .1))
+
+  pub start-gap : (ks : List Comment) (g : List Piece) (x : List ℕ) → s ≡ comments ks (gap g x) → Fresh x → drop (between s 0) s ≡ x
+  start-gap ks g x e h =
+      let first = start-skipped ks (gap g x) e in
+      ap (λ (p : ℕ). drop p s) (first .2) ∙ gap-passed g x (first .0) (first .1) h
+
   -- ---- what is passed over is a gap, or the text's end
 
   pub data Between (at : ℕ) : Type 0 where
     parts : (g : List Piece) → drop at s ≡ gap g (drop (between s at) s) → Between at
-    last : (g : List Piece) (cs : List Comment) (c : Comment) → drop at s ≡ gap g (10 ∷ comments cs (comment c [])) → length s ≤ between s at → Between at
+    last : (g : List Piece) (cs : List Comment) (c : Comment) → drop at s ≡ gap g (10 ∷ comments cs (comment c [])) →
+        length s ≤ between s at → Between at
 
   -- The same where a line starts.
-  data Line (at : ℕ) : Type 0 where
+  pub data Line (at : ℕ) : Type 0 where
     lines : (ks : List Comment) (g : List Piece) → drop at s ≡ comments ks (gap g (drop (between s at) s)) → Line at
     lastLine : (ks : List Comment) (c : Comment) → drop at s ≡ comments ks (comment c []) → length s ≤ between s at → Line at
-    later : (ks : List Comment) (g : List Piece) (cs : List Comment) (c : Comment) → drop at s ≡ comments ks (gap g (10 ∷ comments cs (comment c [])))
+    later : (ks : List Comment) (g : List Piece) (cs : List Comment) (c : Comment) → drop at s
+        ≡ comments ks (gap g (10 ∷ comments cs (comment c [])))
         → length s ≤ between s at → Line at
 
   rests : (at : ℕ) → between s at ≡ at → Between at
@@ -145,7 +194,8 @@ module _ (s : List ℕ) where
 
     line-before : b ≡ 10 → Line (suc at) → Between at
     line-before q (lines ks g h) =
-        parts (newLine ks ∷ g) (rest ∙ ap₂ (λ (c : ℕ) (l : List ℕ). c ∷ l) q (h ∙ ap (λ (p : ℕ). comments ks (gap g (drop p s))) (sym same)))
+        parts (newLine ks ∷ g) (rest ∙ ap₂ (λ (c : ℕ) (l : List ℕ). c ∷ l) q
+        (h ∙ ap (λ (p : ℕ). comments ks (gap g (drop p s))) (sym same)))
     line-before q (lastLine ks c h k) = last [] ks c (rest ∙ ap₂ (λ (d : ℕ) (l : List ℕ). d ∷ l) q h) (omega arith)
     line-before q (later ks g cs c h k) = last (newLine ks ∷ g) cs c (rest ∙ ap₂ (λ (d : ℕ) (l : List ℕ). d ∷ l) q h) (omega arith)
 
@@ -167,7 +217,8 @@ module _ (s : List ℕ) where
   unfolding isComment
   inner at b r e n =
       let z : suc at - 1 ≡ at = omega arith in
-      let q : eqb (getD s (suc at - 1) 0) 10 ≡ false = ap (λ (k : ℕ). eqb (getD s k 0) 10) z ∙ ap (λ (c : ℕ). eqb c 10) (byte s at b r e) ∙ n in
+      let q : eqb (getD s (suc at - 1) 0) 10 ≡ false = ap (λ (k : ℕ). eqb (getD s k 0) 10) z ∙ ap (λ (c : ℕ). eqb c 10) (byte s at b r e)
+      ∙ n in
       rw (ne-eqb (suc at) 0 (λ w. absurd (omega arith)), q) (booleans.and-false (eqb (getD s (suc at) 0) 99))
 
   -- What is known of a place: what lies between, if no comment line starts there; and the same as at a line's start.
@@ -223,8 +274,10 @@ module _ (s : List ℕ) where
 
   known : (m at : ℕ) → length s ≤ at + m → Known at
   known zero at h =
-      let none : length s ≤ at = omega arith in
-      (λ n. rests at (between-rests at (past-end isParting s at none) n), starts at (rests at (between-rests at (past-end isParting s at none) (comment-not at none))))
+      let none : length s ≤ at = omega arith in (
+        λ n. rests at (between-rests at (past-end isParting s at none) n),
+        starts at (rests at (between-rests at (past-end isParting s at none) (comment-not at none))),
+      )
   known (suc m) at h =
       let here : isComment s at ≡ false → Between at = λ n. between-step at (known m (suc at) (omega arith)) n (drop at s) refl in
       (here, line-step at here (λ later lt. known m later (omega arith)))
@@ -232,6 +285,10 @@ module _ (s : List ℕ) where
   no-token : (at : ℕ) (l : List ℕ) → drop at s ≡ l → Stops isToken l → isComment s at ≡ false
   no-token at [] e h = comment-not at (outside s at e)
   no-token at (b ∷ r) e h = sym (other-byte s at (λ q. clash (sym (ap isToken (sym (byte s at b r e) ∙ q)) ∙ h)))
+
+  -- The same from a line's start on, which the text's start is: comment lines first.
+  pub line-of-start : (at : ℕ) → Line at
+  line-of-start at = known (length s) at (omega arith) .1
 
   -- What the reader passes over from a token's end on is a gap, or all that is left and a comment is its last line.
   pub between-of : (at : ℕ) → Stops isToken (drop at s) → Between at

@@ -45,7 +45,8 @@ module _ (s : List ℕ) where
   blank-of-line at e =
       let xs = blanks-of (slice at (past isBlank s at) s) (past-all s at isBlank) in (
         blankLine (xs .0),
-        past-split s at isBlank ∙ ap₂ (λ (l r : List ℕ). l ++ r) (sym (xs .1)) (ap (λ (p : ℕ). drop p s) e) ∙ sym (blanks-then (xs .0) (drop (lineEnd s at) s)),
+        past-split s at isBlank ∙ ap₂ (λ (l r : List ℕ). l ++ r) (sym (xs .1)) (ap (λ (p : ℕ). drop p s) e)
+            ∙ sym (blanks-then (xs .0) (drop (lineEnd s at) s)),
       )
 
   comment-of-line : (at : ℕ) → at < length s → getD s at 0 ≡ 99 → LineOf at
@@ -75,12 +76,14 @@ module _ (s : List ℕ) where
   )
 
   module _ (k at : ℕ) where
-    judged-suc : judgedFrom s (suc k) at ≡ cond (ltb at (length s)) (cond (isPassed s at) (judgedFrom s k (suc (lineEnd s at))) at) (length s)
+    judged-suc : judgedFrom s (suc k) at ≡ cond (ltb at (length s)) (cond (isPassed s at) (judgedFrom s k (suc (lineEnd s at))) at)
+        (length s)
     unfolding judgedFrom
     judged-suc = refl
 
     -- A line that is passed over ends with an LF, if the header comes behind it.
-    ended : judgedFrom s k (suc (lineEnd s at)) < length s → (l : List ℕ) → drop (lineEnd s at) s ≡ l → Stops isLine l → (r : List ℕ) × (drop (lineEnd s at) s ≡ 10 ∷ r)
+    ended : judgedFrom s k (suc (lineEnd s at)) < length s → (l : List ℕ) → drop (lineEnd s at) s ≡ l → Stops isLine l → (r : List ℕ)
+        × (drop (lineEnd s at) s ≡ 10 ∷ r)
     ended h [] e t =
         let none : length s ≤ lineEnd s at = outside s (lineEnd s at) e in
         absurd (omega (arith, judged-end s k (suc (lineEnd s at)) (omega arith)))
@@ -95,7 +98,8 @@ module _ (s : List ℕ) where
         let later : judgedFrom s k (suc (lineEnd s at)) < length s = omega arith in
         let lf = ended later (drop (lineEnd s at) s) refl (past-stops s at isLine) in
         subst (LinesOf at) (sym same)
-        (line-before at (judgedFrom s k (suc (lineEnd s at))) (line-found at (ltb-true at (length s) t) p) (lf .0) (lf .1) (ih (suc (lineEnd s at)) later)))
+        (line-before at (judgedFrom s k (suc (lineEnd s at))) (line-found at (ltb-true at (length s) t) p) (lf .0) (lf .1)
+        (ih (suc (lineEnd s at)) later)))
         (λ p. let same : judgedFrom s (suc k) at ≡ at = judged-suc ∙ rw (t, p) in subst (LinesOf at) (sym same) ([], refl)))
         (λ t. let same : judgedFrom s (suc k) at ≡ length s = judged-suc ∙ rw t in absurd (omega arith))
 
@@ -127,7 +131,8 @@ module _ (s : List ℕ) where
       spelled bs at (omega (arith, past-most isToken s at h)) (k .1) ∙ ap (λ (p : ℕ). bs ++ drop p s) (sym same)
 
   -- What parts a word from the next: at least one space, since a word follows.
-  spacing-of : (at : ℕ) → (Stops isToken (drop (nextWord s at) s) → ⊥) → (x : Spaces) × (drop (tokenEnd s at) s ≡ spacing x (drop (nextWord s at) s))
+  spacing-of : (at : ℕ) → (Stops isToken (drop (nextWord s at) s) → ⊥) → (x : Spaces)
+      × (drop (tokenEnd s at) s ≡ spacing x (drop (nextWord s at) s))
   unfolding nextWord
   spacing-of at h =
       let to = past isSpace s (tokenEnd s at) in
@@ -145,7 +150,8 @@ module _ (s : List ℕ) where
   number-found at e =
       let x = number-of (word s at) e in (
         x .0,
-        past-split s at isToken ∙ ap (λ (l : List ℕ). l ++ drop (tokenEnd s at) s) (sym (x .1)) ∙ sym (number-then (x .0) (drop (tokenEnd s at) s)),
+        past-split s at isToken ∙ ap (λ (l : List ℕ). l ++ drop (tokenEnd s at) s) (sym (x .1))
+            ∙ sym (number-then (x .0) (drop (tokenEnd s at) s)),
         ap valueOfDigits (sym (x .1)) ∙ number-value (x .0),
       )
 
@@ -185,11 +191,14 @@ module _ (s : List ℕ) where
     unfolding nextWord
     word-in p h = past-most isSpace s (tokenEnd s p) (past-most isToken s p h)
 
-    form-of : isHeader s at cnf variables wanted ≡ true → HeaderOf at (lineEnd s wanted) (valueOfDigits (word s variables)) (valueOfDigits (word s wanted))
+    form-of : isHeader s at cnf variables wanted ≡ true → HeaderOf at (lineEnd s wanted) (valueOfDigits (word s variables))
+        (valueOfDigits (word s wanted))
     unfolding isHeader
     form-of e =
-        let a = and-both (isWord s at (112 ∷ [])) (isWord s cnf (99 ∷ 110 ∷ 102 ∷ []) && (isNatural (word s variables) && (isNatural (word s wanted) && endsLine s wanted))) e in
-        let b = and-both (isWord s cnf (99 ∷ 110 ∷ 102 ∷ [])) (isNatural (word s variables) && (isNatural (word s wanted) && endsLine s wanted)) (a .1) in
+        let a = and-both (isWord s at (112 ∷ []))
+        (isWord s cnf (99 ∷ 110 ∷ 102 ∷ []) && (isNatural (word s variables) && (isNatural (word s wanted) && endsLine s wanted))) e in
+        let b = and-both (isWord s cnf (99 ∷ 110 ∷ 102 ∷ []))
+        (isNatural (word s variables) && (isNatural (word s wanted) && endsLine s wanted)) (a .1) in
         let c = and-both (isNatural (word s variables)) (isNatural (word s wanted) && endsLine s wanted) (b .1) in
         let d = and-both (isNatural (word s wanted)) (endsLine s wanted) (c .1) in
         let p = word-of at (112 ∷ []) inside (a .0) in
@@ -209,7 +218,8 @@ module _ (s : List ℕ) where
             clauses = w .0;
             behindClauses = t .0;
           };
-          is = p ∙ ap (λ (l : List ℕ). 112 ∷ l) (x .1 ∙ ap (spacing (x .0)) (q ∙ ap (λ (l : List ℕ). 99 ∷ 110 ∷ 102 ∷ l) (y .1 ∙ ap (spacing (y .0))
+          is = p ∙ ap (λ (l : List ℕ). 112 ∷ l)
+              (x .1 ∙ ap (spacing (x .0)) (q ∙ ap (λ (l : List ℕ). 99 ∷ 110 ∷ 102 ∷ l) (y .1 ∙ ap (spacing (y .0))
               (v .1 ∙ ap (number (v .0)) (z .1 ∙ ap (spacing (z .0)) (w .1 ∙ ap (number (w .0)) (t .1)))))));
           variables = sym (v .2);
           clauses = sym (w .2);
@@ -231,7 +241,8 @@ module _ (s : List ℕ) where
         let few = and-both (leb v 64) (leb c 1024) l in (
           omega (arith, leb-true v 64 (few .0)),
           omega (arith, leb-true c 1024 (few .1)),
-          subst (λ a. HeaderOf at a n m) k (subst (λ a. HeaderOf at (lineEnd s wanted) n a) j (subst (λ a. HeaderOf at (lineEnd s wanted) a c) i (form-of t))),
+          subst (λ a. HeaderOf at a n m) k (subst (λ a. HeaderOf at (lineEnd s wanted) n a) j
+              (subst (λ a. HeaderOf at (lineEnd s wanted) a c) i (form-of t))),
         ))
         (λ l. let q : Improper 2 at ≡ Proper n m to = sym (rw (t, l)) ∙ e in let z : _≡_ {A = ℕ} 0 1 = cc in absurd (omega arith)))
         (λ t. let q : Improper 1 at ≡ Proper n m to = sym (rw t) ∙ e in let z : _≡_ {A = ℕ} 0 1 = cc in absurd (omega arith))

@@ -1,5 +1,5 @@
--- The lines before the header and the header line of a text of the grammar are read as they say. The idea: each line, each word and each gap
--- is a run of bytes of one class. Assumes nothing.
+-- The lines before the header and the header line of a text of the grammar are read as they say. The idea: each line, each word and each
+-- gap is a run of bytes of one class. Assumes nothing.
 use mathlib.Core.Path.{_≡_, refl, ap, sym, _∙_}
 use mathlib.Core.Bool.{Bool, true, false, not}
 use mathlib.Core.List.{List, [], _∷_, _++_, append-assoc}
@@ -15,7 +15,8 @@ use Rattle.dimacs.specs.Text.{isSpace, isBlank, isToken, isLine, past, tokenEnd
 use Rattle.dimacs.specs.Header.{isPassed, judgedFrom, nextWord, word, spells, isWord, endsLine, isHeader, headerAt}
 use Rattle.dimacs.proofs.Cases.{by, clash}
 use Rattle.dimacs.proofs.Runs.{past-stop, past-go, past-least}
-use Rattle.grammar.specs.Parts.{Space, space, tab, spaceByte, Blank, spaces, blanks, Spaces, spacing, Number, nought, positive, number, numberValue}
+use Rattle.grammar.specs.Parts.{Space, space, tab, spaceByte, Blank, spaces, blanks, Spaces, spacing, Number, nought, positive}
+use Rattle.grammar.specs.Parts.{number, numberValue}
 use Rattle.grammar.specs.Formula.{Passed, blankLine, commentLine, passedLine, passed, HeaderLine, headerLine, LineEnds}
 use Rattle.grammar.proofs.Places.{All, Stops, inside, byte, behind, past-length, past-part, past-rest}
 use Rattle.grammar.proofs.Numbers.{number-then, number-token, number-is, number-value}
@@ -44,7 +45,10 @@ spacing-stops x r = go (x .first)
 
 number-stops : (x : Number) (r : List ℕ) → Stops isSpace (number x r)
 number-stops nought r = refl
-number-stops (positive m) r = rw (ne-eqb (48 + m .first) 32 (λ e. absurd (omega arith)), ne-eqb (48 + m .first) 9 (λ e. absurd (omega arith)))
+number-stops (positive m) r = rw (
+  ne-eqb (48 + m .first) 32 (λ e. absurd (omega arith)),
+  ne-eqb (48 + m .first) 9 (λ e. absurd (omega arith)),
+)
 
 ends-stops : (r : List ℕ) → LineEnds r → Stops isLine r
 ends-stops [] h = tt
@@ -78,7 +82,10 @@ module _ (s : List ℕ) where
         let lt : at < length s = inside s at 112 r e in
         let here : past isBlank s at ≡ at = past-stop isBlank s at lt (ap isBlank c) in
         let later : lineEnd s at ≡ past isLine s (at + 1) = past-go isLine s at lt (ap isLine c) in
-        rw (ne-eqb (past isBlank s at) (lineEnd s at) (λ q. absurd (omega (arith, past-least isLine s (at + 1)))), ne-eqb (getD s at 0) 99 (λ q. absurd (omega arith)))
+        rw (
+          ne-eqb (past isBlank s at) (lineEnd s at) (λ q. absurd (omega (arith, past-least isLine s (at + 1)))),
+          ne-eqb (getD s at 0) 99 (λ q. absurd (omega arith)),
+        )
 
     judged-on : (k : ℕ) → at < length s → isPassed s at ≡ true → judgedFrom s (suc k) at ≡ judgedFrom s k (suc (lineEnd s at))
     unfolding judgedFrom
@@ -88,7 +95,8 @@ module _ (s : List ℕ) where
     unfolding judgedFrom
     judged-here k h e = rw (lt-ltb at (length s) h, e)
 
-  line-passed : (l : Passed) (r : List ℕ) (at : ℕ) → drop at s ≡ passedLine l (10 ∷ r) → (isPassed s at ≡ true) × (drop (lineEnd s at) s ≡ 10 ∷ r)
+  line-passed : (l : Passed) (r : List ℕ) (at : ℕ) → drop at s ≡ passedLine l (10 ∷ r) → (isPassed s at ≡ true)
+      × (drop (lineEnd s at) s ≡ 10 ∷ r)
   line-passed (blankLine bs) r at e =
       let split : drop at s ≡ blanks bs [] ++ 10 ∷ r = e ∙ blanks-then bs (10 ∷ r) in (
         passed-blank at (past-length s at isBlank (blanks bs []) (10 ∷ r) split (blanks-all bs) refl
@@ -114,7 +122,8 @@ module _ (s : List ℕ) where
   lines-passed (l ∷ ls) r (suc k) at h e =
       let here = line-passed l (passed ls (112 ∷ r)) at e in
       ap (λ (p : ℕ). drop p s) (judged-on at k (passed-inside (l ∷ ls) r at e) (here .0))
-      ∙ lines-passed ls r k (suc (lineEnd s at)) (omega (arith, past-least isLine s at)) (behind s (lineEnd s at) 10 (passed ls (112 ∷ r)) (here .1))
+      ∙ lines-passed ls r k (suc (lineEnd s at)) (omega (arith, past-least isLine s at))
+      (behind s (lineEnd s at) 10 (passed ls (112 ∷ r)) (here .1))
 
   -- ---- words
 
@@ -135,7 +144,8 @@ module _ (s : List ℕ) where
   unfolding nextWord
   next-word at bs x r e a h =
       past-rest s (tokenEnd s at) isSpace (spaces (x .first ∷ x .more) []) r
-      (past-rest s at isToken bs (spacing x r) e a (spacing-stops x r) ∙ spaces-then (x .first ∷ x .more) r) (spaces-all (x .first ∷ x .more)) h
+      (past-rest s at isToken bs (spacing x r) e a (spacing-stops x r) ∙ spaces-then (x .first ∷ x .more) r)
+      (spaces-all (x .first ∷ x .more)) h
 
   -- ---- the header line
 
@@ -155,12 +165,14 @@ module _ (s : List ℕ) where
     ends-is : endsLine s at ≡ true
     unfolding endsLine
     ends-is =
-        let token : tokenEnd s at ≡ at + length (number x []) = past-length s at isToken (number x []) (blanks bs r) split (number-token x) (blanks-token bs r h) in
+        let token : tokenEnd s at ≡ at + length (number x []) = past-length s at isToken (number x []) (blanks bs r) split (number-token x)
+        (blanks-token bs r h) in
         let rest : drop (tokenEnd s at) s ≡ blanks bs [] ++ r =
         past-rest s at isToken (number x []) (blanks bs r) split (number-token x) (blanks-token bs r h) ∙ blanks-then bs r in
         let blank : past isBlank s (tokenEnd s at) ≡ tokenEnd s at + length (blanks bs []) =
         past-length s (tokenEnd s at) isBlank (blanks bs []) r rest (blanks-all bs) (ends-blank r h) in
-        let line : lineEnd s at ≡ at + length (number x [] ++ blanks bs []) = past-length s at isLine (number x [] ++ blanks bs []) r whole in-line (ends-stops r h) in
+        let line : lineEnd s at ≡ at + length (number x [] ++ blanks bs []) =
+        past-length s at isLine (number x [] ++ blanks bs []) r whole in-line (ends-stops r h) in
         eq-eqb (past isBlank s (tokenEnd s at)) (lineEnd s at) (omega (arith, length-append (number x []) (blanks bs [])))
 
     last-word : word s at ≡ number x []
@@ -190,7 +202,8 @@ module _ (s : List ℕ) where
     at-cnf = next-word at (112 ∷ []) (h .behindP) fromCnf e (refl, tt) refl
 
     at-variables : drop variables s ≡ fromVariables
-    at-variables = next-word cnf (99 ∷ 110 ∷ 102 ∷ []) (h .behindCnf) fromVariables at-cnf (refl, (refl, (refl, tt))) (number-stops (h .variables) (spacing (h .behindVariables) fromClauses))
+    at-variables = next-word cnf (99 ∷ 110 ∷ 102 ∷ []) (h .behindCnf) fromVariables at-cnf (refl, (refl, (refl, tt)))
+        (number-stops (h .variables) (spacing (h .behindVariables) fromClauses))
 
     at-split : drop variables s ≡ number (h .variables) [] ++ spacing (h .behindVariables) fromClauses
     at-split = at-variables ∙ number-then (h .variables) (spacing (h .behindVariables) fromClauses)
@@ -202,7 +215,8 @@ module _ (s : List ℕ) where
 
     variables-word : word s variables ≡ number (h .variables) []
     variables-word =
-        past-part s variables isToken (number (h .variables) []) (spacing (h .behindVariables) fromClauses) at-split (number-token (h .variables))
+        past-part s variables isToken (number (h .variables) []) (spacing (h .behindVariables) fromClauses) at-split
+        (number-token (h .variables))
         (spacing-stops (h .behindVariables) fromClauses)
 
     clauses-word : word s wanted ≡ number (h .clauses) []
@@ -213,7 +227,8 @@ module _ (s : List ℕ) where
     form =
         rw (
           word-is at (112 ∷ []) (spacing (h .behindP) fromCnf) e (refl, tt) (spacing-stops (h .behindP) fromCnf),
-          word-is cnf (99 ∷ 110 ∷ 102 ∷ []) (spacing (h .behindCnf) fromVariables) at-cnf (refl, (refl, (refl, tt))) (spacing-stops (h .behindCnf) fromVariables),
+          word-is cnf (99 ∷ 110 ∷ 102 ∷ []) (spacing (h .behindCnf) fromVariables) at-cnf (refl, (refl, (refl, tt)))
+              (spacing-stops (h .behindCnf) fromVariables),
           variables-word,
           clauses-word,
           number-is (h .variables),

@@ -13,3 +13,5 @@ pub mod Examples
 pub mod Refuted
 pub mod Written
 pub mod Numerals
+pub mod DratRead
+pub mod DratOf

@@ -1,5 +1,5 @@
--- Decimal numbers: what the reader takes for a number, and its value, are the grammar's, digit by digit in both directions. The idea: reading
--- digits behind the value m adds their worth to m times ten for each of them. Assumes nothing.
+-- Decimal numbers: what the reader takes for a number, and its value, are the grammar's, digit by digit in both directions. The idea:
+-- reading digits behind the value m adds their worth to m times ten for each of them. Assumes nothing.
 use mathlib.Core.Path.{_≡_, refl, ap, ap₂, sym, _∙_}
 use mathlib.Core.Bool.{true, false, not, _&&_}
 use mathlib.Core.List.{List, [], _∷_, _++_}
@@ -29,7 +29,12 @@ number-then (positive m) r = digits-then (m .first ∷ m .more) r
 
 -- Bytes above the blanks belong to tokens.
 pub token-byte : (b : ℕ) → 33 ≤ b → isToken b ≡ true
-token-byte b h = rw (ne-eqb b 32 (λ e. absurd (omega arith)), ne-eqb b 9 (λ e. absurd (omega arith)), ne-eqb b 13 (λ e. absurd (omega arith)), ne-eqb b 10 (λ e. absurd (omega arith)))
+token-byte b h = rw (
+  ne-eqb b 32 (λ e. absurd (omega arith)),
+  ne-eqb b 9 (λ e. absurd (omega arith)),
+  ne-eqb b 13 (λ e. absurd (omega arith)),
+  ne-eqb b 10 (λ e. absurd (omega arith)),
+)
 
 digit-byte : (d : ℕ) → d ≤ 9 → isDigit (48 + d) ≡ true
 digit-byte d h = rw (le-leb 48 (48 + d) (omega arith), le-leb (48 + d) 57 (omega arith))

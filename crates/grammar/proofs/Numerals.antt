@@ -1,5 +1,5 @@
--- A number has one numeral: digits that start with no 0 and have the same worth are the same digits. The idea: k digits are worth less than ten to
--- the k, and with a first digit that is no 0 not less than a tenth of that. Assumes nothing.
+-- A number has one numeral: digits that start with no 0 and have the same worth are the same digits. The idea: k digits are worth less than
+-- ten to the k, and with a first digit that is no 0 not less than a tenth of that. Assumes nothing.
 use mathlib.Core.Path.{_≡_, refl, ap, ap₂, sym, _∙_}
 use mathlib.Core.List.{List, [], _∷_}
 use Prim.Native.Nat.{ℕ, suc, _+_, _*_, _^_, _≤_, _<_}
@@ -46,7 +46,8 @@ worth-same (d ∷ ds) (e ∷ es) h k l q =
 
 decimal-least : (m : Decimal) → 10 ^ length (m .more) ≤ decimalValue m
 decimal-least m =
-    let one : 1 * 10 ^ length (m .more) ≤ m .first * 10 ^ length (m .more) = mul-le-mul-right (10 ^ length (m .more)) (m .least) in omega arith
+    let one : 1 * 10 ^ length (m .more) ≤ m .first * 10 ^ length (m .more) = mul-le-mul-right (10 ^ length (m .more)) (m .least) in
+    omega arith
 
 decimal-most : (m : Decimal) → decimalValue m < 10 ^ suc (length (m .more))
 decimal-most m = worth-most (m .first ∷ m .more) (m .most, m .areDigits)

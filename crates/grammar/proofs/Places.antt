@@ -1,5 +1,5 @@
--- A place of a text by the bytes that lie from it on: what `past` passes over and what it leaves. The idea: a place's bytes are `drop at s`, and
--- those split into what a class admits and the rest. Assumes nothing.
+-- A place of a text by the bytes that lie from it on: what `past` passes over and what it leaves. The idea: a place's bytes are `drop at
+-- s`, and those split into what a class admits and the rest. Assumes nothing.
 use mathlib.Core.Path.{_≡_, refl, ap, sym, _∙_}
 use mathlib.Core.Bool.{Bool, true, false, cond}
 use mathlib.Core.List.{List, [], _∷_, _++_}
@@ -19,7 +19,8 @@ drop-drop (suc i) j (x ∷ xs) = ap (λ (k : ℕ). drop k (x ∷ xs)) (let z : s
 slice-front : (i j : ℕ) (l : List ℕ) → slice i (i + j) l ≡ take j (drop i l)
 slice-front zero j l = ap (λ (k : ℕ). take k l) (let z : 0 + j ≡ j = omega arith in z)
 slice-front (suc i) j [] = ap (drop (suc i)) (take-nil (suc i + j)) ∙ sym (take-nil j)
-slice-front (suc i) j (x ∷ xs) = ap (λ (k : ℕ). drop (suc i) (take k (x ∷ xs))) (let z : suc i + j ≡ suc (i + j) = omega arith in z) ∙ slice-front i j xs
+slice-front (suc i) j (x ∷ xs) = ap (λ (k : ℕ). drop (suc i) (take k (x ∷ xs))) (let z : suc i + j ≡ suc (i + j) = omega arith in z)
+    ∙ slice-front i j xs
 
 -- ---- classes of bytes
 

@@ -1,6 +1,6 @@
--- What the check says of a text, in the grammar's words: 0 only where the text is DIMACS and no assignment satisfies the clauses that it says; a
--- text that is no DIMACS gets a number of the formula; a DIMACS text none but 8. The idea: a reading that ends with nothing refused gives its
--- clauses (`formula-exactly`). Assumes nothing.
+-- What the check says of a text, in the grammar's words: 0 only where the text is DIMACS and no assignment satisfies the clauses that it
+-- says; a text that is no DIMACS gets a number of the formula; a DIMACS text none but 8. The idea: a reading that ends with nothing refused
+-- gives its clauses (`formula-exactly`). Assumes nothing.
 use mathlib.Core.Path.{_≡_, refl, sym, _∙_}
 use mathlib.Core.Bool.{true, false}
 use mathlib.Core.List.{List, [], _∷_}
@@ -52,7 +52,8 @@ reads-to-end text = (
   (λ d. gives-end (d .0) (formula text) (formula-exactly text (d .0) .1 (d .1) (d .2))),
 )
 
--- The call says 0 only of a DIMACS text whose formula no assignment satisfies, whatever the proof's bytes and whatever the lent places held.
+-- The call says 0 only of a DIMACS text whose formula no assignment satisfies, whatever the proof's bytes and whatever the lent places
+-- held.
 pub refuted-dimacs : (mode : Mode) (c : Columns) (count : ℕ) (members struck scratch text proof : List ℕ)
     → check mode c count members struck scratch text proof .number ≡ 0
     → (cs : List (List meaning.Literal)) × (n : ℕ) × Dimacs text n cs × ((a : Assignment) → satisfies a cs ≡ false)
@@ -70,7 +71,8 @@ refusal-ends number place r e = rw e
 module _ (mode : Mode) (s : ℕ) (text proof : List ℕ) where
   -- A text that is no DIMACS is refused with a number of the formula: 1 to 6, or 8 where the table is full at a clause before the fault.
   pub not-dimacs-refused : (IsDimacs text → ⊥) → FormulaNumber (verdict mode s text proof .number)
-  not-dimacs-refused no-text = go (verdict mode s text proof) (ended-closed mode s text proof (verdict mode s text proof) (ended mode s text proof))
+  not-dimacs-refused no-text = go (verdict mode s text proof)
+      (ended-closed mode s text proof (verdict mode s text proof) (ended mode s text proof))
     where
       go : (v : Verdict) → Closed mode s text proof v → FormulaNumber (v .number)
       go _ (formula-refused named) = named
@@ -92,8 +94,10 @@ module _ (mode : Mode) (s : ℕ) (text proof : List ℕ) where
       whole = reads-to-end text .1 d
 
       go : (v : Verdict) → Ended mode s text proof v → Judged v
-      go _ (no-header {number} {place} e) = t≢f (sym whole ∙ refusal-ends number place (formula text) (formula-improper text number place e))
-      go _ (not-read {n} {many} {number} {place} M) = t≢f (sym whole ∙ sym (underway s text n many M .end) ∙ refusal-ends number place (refusal number place) refl)
+      go _ (no-header {number} {place} e) = t≢f
+          (sym whole ∙ refusal-ends number place (formula text) (formula-improper text number place e))
+      go _ (not-read {n} {many} {number} {place} M) = t≢f
+          (sym whole ∙ sym (underway s text n many M .end) ∙ refusal-ends number place (refusal number place) refl)
       go _ (no-room M e) = full-at-clause refl
       go _ (stopped {n} {number} {offset} R e) = at-command R offset e
       go _ (tried {n} {number} {peak} R e) = at-command-tried R peak e

@@ -1,5 +1,5 @@
--- Tokens: a literal of the grammar is what the reader takes for that literal, and what the reader takes for a literal or a closing `0` is the
--- grammar's. The idea: the reader's tests, one after the other. Assumes nothing.
+-- Tokens: a literal of the grammar is what the reader takes for that literal, and what the reader takes for a literal or a closing `0` is
+-- the grammar's. The idea: the reader's tests, one after the other. Assumes nothing.
 use mathlib.Core.Path.{_≡_, refl, ap, ap₂, sym, _∙_}
 use mathlib.Core.Bool.{Bool, true, false, not}
 use mathlib.Core.List.{List, [], _∷_, _++_}

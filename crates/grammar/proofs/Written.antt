@@ -1,5 +1,5 @@
--- Every formula within the limits has a text, which is read back as that formula: each number a numeral, single spaces, a line for each clause.
--- The idea: the numeral of a number's successor is its numeral raised by one, from the last digit on. Assumes nothing.
+-- Every formula within the limits has a text, which is read back as that formula: each number a numeral, single spaces, a line for each
+-- clause. The idea: the numeral of a number's successor is its numeral raised by one, from the last digit on. Assumes nothing.
 use mathlib.Core.Path.{_≡_, refl, ap, ap₂, sym, _∙_}
 use mathlib.Core.List.{List, [], _∷_}
 use Prim.Native.Nat.{ℕ, zero, suc, _*_, _^_, _≤_}
@@ -8,8 +8,10 @@ use native.Mathlib.Nat.{suc-mul, zero-mul, pow-succ'}
 use native.Mathlib.Decide.{decLt}
 use lib.ListN.{length, replicate, length-replicate}
 use Rattle.meaning.specs.Operations as meaning
-use Rattle.grammar.specs.Parts.{Digits, worth, Decimal, decimalValue, Number, nought, positive, numberValue, Spaces, space, spaced, blank, newLine, Parting, literal}
-use Rattle.grammar.specs.Formula.{passed, HeaderLine, headerLine, LineEnds, Item, literals, plain, Body, end, clauseThen, body, clauses, Within, AllWithin, Dimacs}
+use Rattle.grammar.specs.Parts.{Digits, worth, Decimal, decimalValue, Number, nought, positive, numberValue, Spaces, space, spaced}
+use Rattle.grammar.specs.Parts.{blank, newLine, Parting, literal}
+use Rattle.grammar.specs.Formula.{passed, HeaderLine, headerLine, LineEnds, Item, literals, plain, Body, end, clauseThen, body}
+use Rattle.grammar.specs.Formula.{clauses, Within, AllWithin, Dimacs}
 use Rattle.grammar.specs.Reads.{Reads}
 use Rattle.grammar.proofs.Exact.{print-and-read}
 use Rattle.meaning.specs.Literals.{OfVariables}
@@ -44,7 +46,8 @@ raise-digit d ds h (raised es e l w) = raised (d ∷ es) (h, e) (ap suc l) (omeg
 raise-digit d ds h (over o) = elim (decLt d 9) [
   | yes lt ↦ raised (suc d ∷ noughts (length ds)) (omega arith, noughts-digits (length ds)) (ap suc (noughts-length (length ds)))
       (omega (arith, round-worth (suc d) (length ds), suc-mul d (10 ^ length ds), o))
-  | no ge ↦ let nine : d ≡ 9 = omega (arith, ge) in over (omega (arith, ap (λ (x : ℕ). x * 10 ^ length ds) nine, pow-succ' 10 (length ds), o))
+  | no ge ↦ let nine : d ≡ 9 = omega (arith, ge) in over
+      (omega (arith, ap (λ (x : ℕ). x * 10 ^ length ds) nine, pow-succ' 10 (length ds), o))
 ]
 
 raise : (ds : List ℕ) → Digits ds → Raised ds
@@ -53,8 +56,10 @@ raise (d ∷ ds) h = raise-digit d ds (h .0) (raise ds (h .1))
 
 -- The numeral of the next number.
 next-decimal : (m : Decimal) → Raised (m .more) → (k : Decimal) × (decimalValue k ≡ suc (decimalValue m))
-next-decimal m (raised es e l w) =
-    (record { first = m .first; more = es; least = m .least; most = m .most; areDigits = e }, omega (arith, ap (λ (j : ℕ). m .first * 10 ^ j) l, w))
+next-decimal m (raised es e l w) = (
+  record { first = m .first; more = es; least = m .least; most = m .most; areDigits = e },
+  omega (arith, ap (λ (j : ℕ). m .first * 10 ^ j) l, w),
+)
 next-decimal m (over o) =
     let k = length (m .more) in
     elim (decLt (m .first) 9) [

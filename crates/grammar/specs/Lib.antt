@@ -1,3 +1,4 @@
 pub mod Parts
 pub mod Formula
 pub mod Reads
+pub mod DratText

@@ -1,6 +1,6 @@
 -- Each call over the arrays, with the nodes loaded before and written back after, is the call over the slice's own columns: `whole` of
 -- columns/proofs/Whole, since columns of wrong size make each call say 7 and leave them. Assumes nothing.
-use mathlib.Core.Path.{_≡_, sym, ap, _∙_}
+use mathlib.Core.Path.{_≡_, ap, _∙_}
 use mathlib.Core.Bool.{false}
 use Prim.Native.Nat.{ℕ, _≤_}
 use native.Mathlib.Omega.{arith}
@@ -14,53 +14,13 @@ use Rattle.single.specs.declared.Evaluated.{Evaluated}
 use Rattle.single.specs.declared.call.Single.{Single}
 use Rattle.single.specs.declared.least.AtLeast.{AtLeast}
 use Rattle.single.specs.Single.{Made, madeOf, unchanged, refusal, operation, Counted, countedOf, withCount, atLeastCall, evaluation}
-use Rattle.commands.specs.Commands.{inRecords}
-use Rattle.verdict.specs.Check.{CheckOutcome, lentFits, check}
-use Rattle.verdict.specs.Satisfies.{Unsatisfiable}
-use Rattle.verdict.proofs.Refuted.{check-refuted}
-use Rattle.session.specs.declared.Checked.{Checked}
-use Rattle.session.specs.Checked.{checkOutcome}
 use Rattle.columns.specs.declared.Node.{Node}
 use Rattle.columns.specs.Slice.{varsOf, lowsOf, highsOf}
 use Rattle.nodes.specs.Second.{secondOf}
-use Rattle.nodes.specs.Within.{checkWithin, operationWithin, atLeastWithin, evaluationWithin}
+use Rattle.nodes.specs.Within.{operationWithin, atLeastWithin, evaluationWithin}
 use Rattle.columns.proofs.Lists.{by-test, varOf, lowOf, highOf, column, slice}
 use Rattle.columns.proofs.Setting.{Cut}
 use Rattle.columns.proofs.Whole.{Sized, columns-before, unfit, vars-past, whole}
-
--- ---- the check
-module _ (ds js : List ℕ) (count : ℕ) (ms ks ss formula proof ds′ js′ ms′ ks′ ss′ : List ℕ) (r : Checked) where
-  abbrev seven : List ℕ → List ℕ → List ℕ → CheckOutcome
-  seven v l h = record { number = 7; inProof = false; place = 0; lines = 0; rounds = 0; count = count; peak = 0; columns = columnsMade v l h ds js; members = ms; struck = ks; scratch = ss }
-
-  abbrev out : List ℕ → List ℕ → List ℕ → CheckOutcome
-  out v l h = checkOutcome (columnsMade v l h ds′ js′) ms′ ks′ ss′ r
-
-  check-refused : (v l h : List ℕ) → sizeFits v l h ds js ≡ false → check inRecords (columnsMade v l h ds js) count ms ks ss formula proof ≡ seven v l h
-  unfolding check lentFits
-  check-refused v l h e = rw e
-
-  check-moved : (a b c v l h : List ℕ) → out a b c ≡ seven v l h → ((a ≡ v) × (b ≡ l) × (c ≡ h)) × ((v l h : List ℕ) → out v l h ≡ seven v l h)
-  check-moved a b c v l h e = (
-    (ap (λ (o : CheckOutcome). o .columns .vars) e, ap (λ (o : CheckOutcome). o .columns .lows) e, ap (λ (o : CheckOutcome). o .columns .highs) e),
-    (λ v l h. ap (λ (o : CheckOutcome). record { number = o .number; inProof = o .inProof; place = o .place; lines = o .lines; rounds = o .rounds; count = o .count; peak = o .peak; columns = columnsMade v l h (o .columns .heads) (o .columns .links); members = o .members; struck = o .struck; scratch = o .scratch }) e),
-  )
-
-  check-whole : (ys : List Node) (m : ℕ) (vs₀ ls₀ hs₀ vs ls hs : List ℕ) → Cut (length ys) m → Sized vs ls hs
-      → out (take (length ys) vs) (take (length ys) ls) (take (length ys) hs) ≡ checkWithin (length ys) (column varOf ys vs₀ m) (column lowOf ys ls₀ m) (column highOf ys hs₀ m) ds js count ms ks ss formula proof
-      → out (varsOf (slice vs ls hs ys m)) (lowsOf (slice vs ls hs ys m)) (highsOf (slice vs ls hs ys m)) ≡ check inRecords (columnsMade (varsOf ys) (lowsOf ys) (highsOf ys) ds js) count ms ks ss formula proof
-  unfolding checkWithin
-  check-whole ys m vs₀ ls₀ hs₀ vs ls hs cut e told =
-      whole ds js out (λ v l h. check inRecords (columnsMade v l h ds js) count ms ks ss formula proof) seven check-refused check-moved ys vs₀ ls₀ hs₀ vs ls hs e m cut told
-
-  -- The same with what 0 means.
-  pub check-told : (ys : List Node) (m : ℕ) (vs₀ ls₀ hs₀ vs ls hs : List ℕ) → Cut (length ys) m → Sized vs ls hs
-      → out (take (length ys) vs) (take (length ys) ls) (take (length ys) hs) ≡ checkWithin (length ys) (column varOf ys vs₀ m) (column lowOf ys ls₀ m) (column highOf ys hs₀ m) ds js count ms ks ss formula proof
-      → (out (varsOf (slice vs ls hs ys m)) (lowsOf (slice vs ls hs ys m)) (highsOf (slice vs ls hs ys m)) ≡ check inRecords (columnsMade (varsOf ys) (lowsOf ys) (highsOf ys) ds js) count ms ks ss formula proof)
-      × (r .number ≡ 0 → Unsatisfiable formula)
-  check-told ys m vs₀ ls₀ hs₀ vs ls hs cut e told =
-      let is = check-whole ys m vs₀ ls₀ hs₀ vs ls hs cut e told in
-      (is, λ z. check-refuted inRecords (columnsMade (varsOf ys) (lowsOf ys) (highsOf ys) ds js) count ms ks ss formula proof (sym (ap (λ (o : CheckOutcome). o .number) is) ∙ z))
 
 -- ---- conjunction, negation, both cofactors
 module _ (op : Operation) (ds js : List ℕ) (count f g : ℕ) (ds′ js′ : List ℕ) (r : Single) where
@@ -70,22 +30,33 @@ module _ (op : Operation) (ds js : List ℕ) (count f g : ℕ) (ds′ js′ : Li
   abbrev kept : List ℕ → List ℕ → List ℕ → Made
   kept v l h = unchanged (columnsMade v l h ds js) count 7
 
-  operation-refused : (v l h : List ℕ) → sizeFits v l h ds js ≡ false → operation op (columnsMade v l h ds js) count f (secondOf op g) ≡ kept v l h
+  operation-refused : (v l h : List ℕ) → sizeFits v l h ds js ≡ false → operation op (columnsMade v l h ds js) count f (secondOf op g)
+      ≡ kept v l h
   unfolding operation refusal
   operation-refused v l h e = rw e
 
-  operation-moved : (a b c v l h : List ℕ) → said a b c ≡ kept v l h → ((a ≡ v) × (b ≡ l) × (c ≡ h)) × ((v l h : List ℕ) → said v l h ≡ kept v l h)
+  operation-moved : (a b c v l h : List ℕ) → said a b c ≡ kept v l h → ((a ≡ v) × (b ≡ l) × (c ≡ h))
+      × ((v l h : List ℕ) → said v l h ≡ kept v l h)
   operation-moved a b c v l h e = (
     (ap (λ (o : Made). o .columns .vars) e, ap (λ (o : Made). o .columns .lows) e, ap (λ (o : Made). o .columns .highs) e),
-    (λ v l h. ap (λ (o : Made). record { number = o .number; node = o .node; count = o .count; columns = columnsMade v l h (o .columns .heads) (o .columns .links) }) e),
+    (λ v l h. ap (λ (o : Made). record {
+      number = o .number;
+      node = o .node;
+      count = o .count;
+      columns =
+          columnsMade v l h (o .columns .heads) (o .columns .links);
+    }) e),
   )
 
   pub operation-whole : (ys : List Node) (m : ℕ) (vs₀ ls₀ hs₀ vs ls hs : List ℕ) → Cut (length ys) m → Sized vs ls hs
-      → said (take (length ys) vs) (take (length ys) ls) (take (length ys) hs) ≡ operationWithin op (length ys) (column varOf ys vs₀ m) (column lowOf ys ls₀ m) (column highOf ys hs₀ m) ds js count f g
-      → said (varsOf (slice vs ls hs ys m)) (lowsOf (slice vs ls hs ys m)) (highsOf (slice vs ls hs ys m)) ≡ operation op (columnsMade (varsOf ys) (lowsOf ys) (highsOf ys) ds js) count f (secondOf op g)
+      → said (take (length ys) vs) (take (length ys) ls) (take (length ys) hs)
+      ≡ operationWithin op (length ys) (column varOf ys vs₀ m) (column lowOf ys ls₀ m) (column highOf ys hs₀ m) ds js count f g
+      → said (varsOf (slice vs ls hs ys m)) (lowsOf (slice vs ls hs ys m)) (highsOf (slice vs ls hs ys m))
+      ≡ operation op (columnsMade (varsOf ys) (lowsOf ys) (highsOf ys) ds js) count f (secondOf op g)
   unfolding operationWithin
   operation-whole ys m vs₀ ls₀ hs₀ vs ls hs cut e told =
-      whole ds js said (λ v l h. operation op (columnsMade v l h ds js) count f (secondOf op g)) kept operation-refused operation-moved ys vs₀ ls₀ hs₀ vs ls hs e m cut told
+      whole ds js said (λ v l h. operation op (columnsMade v l h ds js) count f (secondOf op g)) kept operation-refused operation-moved ys
+      vs₀ ls₀ hs₀ vs ls hs e m cut told
 
 -- ---- at least
 module _ (ds js : List ℕ) (count set k : ℕ) (ds′ js′ : List ℕ) (r : AtLeast) where
@@ -99,21 +70,40 @@ module _ (ds js : List ℕ) (count set k : ℕ) (ds′ js′ : List ℕ) (r : At
   unfolding atLeastCall withCount
   at-least-refused v l h e = rw e
 
-  at-least-moved : (a b c v l h : List ℕ) → told-of a b c ≡ uncounted v l h → ((a ≡ v) × (b ≡ l) × (c ≡ h)) × ((v l h : List ℕ) → told-of v l h ≡ uncounted v l h)
+  at-least-moved : (a b c v l h : List ℕ) → told-of a b c ≡ uncounted v l h → ((a ≡ v) × (b ≡ l) × (c ≡ h))
+      × ((v l h : List ℕ) → told-of v l h ≡ uncounted v l h)
   at-least-moved a b c v l h e = (
-    (ap (λ (o : Counted). o .made .columns .vars) e, ap (λ (o : Counted). o .made .columns .lows) e, ap (λ (o : Counted). o .made .columns .highs) e),
-    (λ v l h. ap (λ (o : Counted). record { made = record { number = o .made .number; node = o .made .node; count = o .made .count; columns = columnsMade v l h (o .made .columns .heads) (o .made .columns .links) }; counted = o .counted; excluded = o .excluded }) e),
+    (
+      ap (λ (o : Counted). o .made .columns .vars) e,
+      ap (λ (o : Counted). o .made .columns .lows) e,
+      ap (λ (o : Counted). o .made .columns .highs) e,
+    ),
+    (λ v l h. ap (λ (o : Counted). record {
+      made = record {
+        number = o .made .number;
+        node = o .made .node;
+        count = o .made .count;
+        columns =
+            columnsMade v l h (o .made .columns .heads) (o .made .columns .links);
+      };
+      counted = o .counted;
+      excluded = o .excluded;
+    }) e),
   )
 
   pub at-least-whole : (ys : List Node) (m : ℕ) (vs₀ ls₀ hs₀ vs ls hs : List ℕ) → Cut (length ys) m → Sized vs ls hs
-      → told-of (take (length ys) vs) (take (length ys) ls) (take (length ys) hs) ≡ atLeastWithin (length ys) (column varOf ys vs₀ m) (column lowOf ys ls₀ m) (column highOf ys hs₀ m) ds js count set k
-      → told-of (varsOf (slice vs ls hs ys m)) (lowsOf (slice vs ls hs ys m)) (highsOf (slice vs ls hs ys m)) ≡ atLeastCall (columnsMade (varsOf ys) (lowsOf ys) (highsOf ys) ds js) count set k
+      → told-of (take (length ys) vs) (take (length ys) ls) (take (length ys) hs)
+      ≡ atLeastWithin (length ys) (column varOf ys vs₀ m) (column lowOf ys ls₀ m) (column highOf ys hs₀ m) ds js count set k
+      → told-of (varsOf (slice vs ls hs ys m)) (lowsOf (slice vs ls hs ys m)) (highsOf (slice vs ls hs ys m))
+      ≡ atLeastCall (columnsMade (varsOf ys) (lowsOf ys) (highsOf ys) ds js) count set k
   unfolding atLeastWithin
   at-least-whole ys m vs₀ ls₀ hs₀ vs ls hs cut e told =
-      whole ds js told-of (λ v l h. atLeastCall (columnsMade v l h ds js) count set k) uncounted at-least-refused at-least-moved ys vs₀ ls₀ hs₀ vs ls hs e m cut told
+      whole ds js told-of (λ v l h. atLeastCall (columnsMade v l h ds js) count set k) uncounted at-least-refused at-least-moved ys vs₀ ls₀
+      hs₀ vs ls hs e m cut told
 
 -- ---- evaluation, which leaves the columns
-pub evaluation-whole : (ys : List Node) (m : ℕ) (ds js : List ℕ) (count f word : ℕ) (vs₀ ls₀ hs₀ : List ℕ) (r : Evaluated) → Cut (length ys) m
+pub evaluation-whole : (ys : List Node) (m : ℕ) (ds js : List ℕ) (count f word : ℕ) (vs₀ ls₀ hs₀ : List ℕ) (r : Evaluated) →
+    Cut (length ys) m
     → r ≡ evaluationWithin (length ys) (column varOf ys vs₀ m) (column lowOf ys ls₀ m) (column highOf ys hs₀ m) ds js count f word
     → r ≡ evaluation (columnsMade (varsOf ys) (lowsOf ys) (highsOf ys) ds js) count f word
 unfolding evaluationWithin evaluation refusal

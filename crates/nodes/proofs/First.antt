@@ -1,79 +1,66 @@
--- The first n places of an array, and what the inner calls' definitions say of them. Assumes nothing.
+-- What the inner calls' definitions say of the first n places of an array. Assumes nothing.
 use mathlib.Core.Path.{_≡_, sym, ap, _∙_, subst}
 use Prim.Native.Nat.{ℕ, _≤_, _<_}
-use native.Mathlib.Omega.{arith}
 use mathlib.Core.List.{List, _++_}
 use lib.ListN.{length, take, drop}
-use lib.Seq.{length-take-le, take-all, take-at}
 use borrow.Author.Tests.{le-leb, lt-leb}
 use mathlib.Core.Bool.{false}
 use Rattle.table.specs.Columns.{columnsMade}
 use Rattle.operate.specs.declared.Operation.{Operation}
-use Rattle.commands.specs.Commands.{inRecords}
-use Rattle.verdict.specs.Check.{check}
-use Rattle.session.specs.declared.Checked.{Checked}
-use Rattle.session.specs.Checked.{checkOutcome}
+use Rattle.columns.proofs.First.{first-written, first-all}
 use Rattle.single.specs.declared.Evaluated.{Evaluated}
 use Rattle.single.specs.declared.call.Single.{Single}
 use Rattle.single.specs.declared.least.AtLeast.{AtLeast}
 use Rattle.single.specs.Inner.{OneOperand}
 use Rattle.single.specs.Single.{madeOf, operation, countedOf, atLeastCall, evaluation}
 use Rattle.nodes.specs.Second.{secondOf}
-use Rattle.nodes.specs.Within.{checkWithin, operationWithin, atLeastWithin, evaluationWithin}
-
-pub first-length : (n : ℕ) (xs : List ℕ) → n ≤ 65536 → length xs ≡ 65536 → n ≡ length (take n xs)
-first-length n xs h e = sym (length-take-le n xs (omega (arith, h, e)))
-
--- what is written to the first n places is what they then hold
-first-written : (n : ℕ) (xs a : List ℕ) → n ≤ 65536 → length xs ≡ 65536 → length a ≡ length (take n xs) → take n (a ++ drop n xs) ≡ a
-first-written n xs a h e l = take-at a (drop n xs) n (l ∙ sym (first-length n xs h e))
-
--- more than 65,536 places stay
-first-all : (n : ℕ) (xs : List ℕ) → 65536 < n → length xs ≡ 65536 → take n xs ≡ xs
-first-all n xs h e = take-all n xs (omega (arith, h, e))
-
-pub check-past : (n : ℕ) (vs ls hs ds js : List ℕ) (count : ℕ) (ms ks ss formula proof : List ℕ) → 65536 < n → length vs ≡ 65536 → length ls ≡ 65536 → length hs ≡ 65536
-    → checkOutcome (columnsMade (take n vs) (take n ls) (take n hs) ds js) ms ks ss (record { number = 7; «in_proof» = false; place = 0; lines = 0; rounds = 0; count = count; peak = 0 }) ≡ checkWithin n vs ls hs ds js count ms ks ss formula proof
-unfolding checkWithin
-check-past n vs ls hs ds js count ms ks ss formula proof h a b c = rw (first-all n vs h a, first-all n ls h b, first-all n hs h c, lt-leb n 65536 h)
-
-pub check-first : (n : ℕ) (vs ls hs ds js a b c d j : List ℕ) (count : ℕ) (ms ks ss formula proof ms′ ks′ ss′ : List ℕ) (r : Checked) → n ≤ 65536 → (length vs ≡ 65536) × (length ls ≡ 65536) × (length hs ≡ 65536)
-    → length a ≡ length (take n vs) → length b ≡ length (take n ls) → length c ≡ length (take n hs) → checkOutcome (columnsMade a b c d j) ms′ ks′ ss′ r ≡ check inRecords (columnsMade (take n vs) (take n ls) (take n hs) ds js) count ms ks ss formula proof
-    → checkOutcome (columnsMade (take n (a ++ drop n vs)) (take n (b ++ drop n ls)) (take n (c ++ drop n hs)) d j) ms′ ks′ ss′ r ≡ checkWithin n vs ls hs ds js count ms ks ss formula proof
-unfolding checkWithin
-check-first n vs ls hs ds js a b c d j count ms ks ss formula proof ms′ ks′ ss′ r h e ea eb ec told = rw (first-written n vs a h (e .0) ea, first-written n ls b h (e .1) eb, first-written n hs c h (e .2) ec, le-leb n 65536 h) told
+use Rattle.nodes.specs.Within.{operationWithin, atLeastWithin, evaluationWithin}
 
 pub kind-second : (op o : Operation) (g k : ℕ) → op ≡ o → k ≡ secondOf o g → OneOperand o k → (k ≡ secondOf op g) × OneOperand op k
 kind-second op o g k e s t = subst (λ (x : Operation). (k ≡ secondOf x g) × OneOperand x k) (sym e) (s, t)
 
-pub operation-past : (op : Operation) (n : ℕ) (vs ls hs ds js : List ℕ) (count f g : ℕ) → 65536 < n → length vs ≡ 65536 → length ls ≡ 65536 → length hs ≡ 65536
-    → madeOf (columnsMade (take n vs) (take n ls) (take n hs) ds js) (record { number = 7; node = record { 0 = 0 }; count = count }) ≡ operationWithin op n vs ls hs ds js count f g
+pub operation-past : (op : Operation) (n : ℕ) (vs ls hs ds js : List ℕ) (count f g : ℕ) → 65536 < n → length vs ≡ 65536 → length ls
+    ≡ 65536 → length hs ≡ 65536
+    → madeOf (columnsMade (take n vs) (take n ls) (take n hs) ds js) (record { number = 7; node = record { 0 = 0 }; count = count })
+    ≡ operationWithin op n vs ls hs ds js count f g
 unfolding operationWithin
 operation-past op n vs ls hs ds js count f g h a b c = rw (first-all n vs h a, first-all n ls h b, first-all n hs h c, lt-leb n 65536 h)
 
-pub operation-first : (op : Operation) (n : ℕ) (vs ls hs ds js a b c d j : List ℕ) (count f g k : ℕ) (r : Single) → n ≤ 65536 → (length vs ≡ 65536) × (length ls ≡ 65536) × (length hs ≡ 65536)
-    → length a ≡ length (take n vs) → length b ≡ length (take n ls) → length c ≡ length (take n hs) → k ≡ secondOf op g → madeOf (columnsMade a b c d j) r ≡ operation op (columnsMade (take n vs) (take n ls) (take n hs) ds js) count f k
-    → madeOf (columnsMade (take n (a ++ drop n vs)) (take n (b ++ drop n ls)) (take n (c ++ drop n hs)) d j) r ≡ operationWithin op n vs ls hs ds js count f g
+pub operation-first : (op : Operation) (n : ℕ) (vs ls hs ds js a b c d j : List ℕ) (count f g k : ℕ) (r : Single) → n ≤ 65536 →
+    (length vs ≡ 65536) × (length ls ≡ 65536) × (length hs ≡ 65536)
+    → length a ≡ length (take n vs) → length b ≡ length (take n ls) → length c ≡ length (take n hs) → k ≡ secondOf op g →
+    madeOf (columnsMade a b c d j) r ≡ operation op (columnsMade (take n vs) (take n ls) (take n hs) ds js) count f k
+    → madeOf (columnsMade (take n (a ++ drop n vs)) (take n (b ++ drop n ls)) (take n (c ++ drop n hs)) d j) r
+    ≡ operationWithin op n vs ls hs ds js count f g
 unfolding operationWithin
 operation-first op n vs ls hs ds js a b c d j count f g k r h e ea eb ec s told =
     rw (first-written n vs a h (e .0) ea, first-written n ls b h (e .1) eb, first-written n hs c h (e .2) ec, le-leb n 65536 h)
     (told ∙ ap (operation op (columnsMade (take n vs) (take n ls) (take n hs) ds js) count f) s)
 
-pub at-least-past : (n : ℕ) (vs ls hs ds js : List ℕ) (count set k : ℕ) → 65536 < n → length vs ≡ 65536 → length ls ≡ 65536 → length hs ≡ 65536
-    → countedOf (columnsMade (take n vs) (take n ls) (take n hs) ds js) (record { number = 7; node = record { 0 = 0 }; count = count; counted = false; excluded = 0 }) ≡ atLeastWithin n vs ls hs ds js count set k
+pub at-least-past : (n : ℕ) (vs ls hs ds js : List ℕ) (count set k : ℕ) → 65536 < n → length vs ≡ 65536 → length ls ≡ 65536 → length hs
+    ≡ 65536
+    → countedOf (columnsMade (take n vs) (take n ls) (take n hs) ds js)
+    (record { number = 7; node = record { 0 = 0 }; count = count; counted = false; excluded = 0 })
+    ≡ atLeastWithin n vs ls hs ds js count set k
 unfolding atLeastWithin
 at-least-past n vs ls hs ds js count set k h a b c = rw (first-all n vs h a, first-all n ls h b, first-all n hs h c, lt-leb n 65536 h)
 
-pub at-least-first : (n : ℕ) (vs ls hs ds js a b c d j : List ℕ) (count set k : ℕ) (r : AtLeast) → n ≤ 65536 → (length vs ≡ 65536) × (length ls ≡ 65536) × (length hs ≡ 65536)
-    → length a ≡ length (take n vs) → length b ≡ length (take n ls) → length c ≡ length (take n hs) → countedOf (columnsMade a b c d j) r ≡ atLeastCall (columnsMade (take n vs) (take n ls) (take n hs) ds js) count set k
-    → countedOf (columnsMade (take n (a ++ drop n vs)) (take n (b ++ drop n ls)) (take n (c ++ drop n hs)) d j) r ≡ atLeastWithin n vs ls hs ds js count set k
+pub at-least-first : (n : ℕ) (vs ls hs ds js a b c d j : List ℕ) (count set k : ℕ) (r : AtLeast) → n ≤ 65536 → (length vs ≡ 65536)
+    × (length ls ≡ 65536) × (length hs ≡ 65536)
+    → length a ≡ length (take n vs) → length b ≡ length (take n ls) → length c ≡ length (take n hs) → countedOf (columnsMade a b c d j) r
+    ≡ atLeastCall (columnsMade (take n vs) (take n ls) (take n hs) ds js) count set k
+    → countedOf (columnsMade (take n (a ++ drop n vs)) (take n (b ++ drop n ls)) (take n (c ++ drop n hs)) d j) r
+    ≡ atLeastWithin n vs ls hs ds js count set k
 unfolding atLeastWithin
-at-least-first n vs ls hs ds js a b c d j count set k r h e ea eb ec told = rw (first-written n vs a h (e .0) ea, first-written n ls b h (e .1) eb, first-written n hs c h (e .2) ec, le-leb n 65536 h) told
+at-least-first n vs ls hs ds js a b c d j count set k r h e ea eb ec told =
+    rw (first-written n vs a h (e .0) ea, first-written n ls b h (e .1) eb, first-written n hs c h (e .2) ec, le-leb n 65536 h) told
 
-pub evaluation-past : (n : ℕ) (vs ls hs ds js : List ℕ) (count f word : ℕ) → 65536 < n → _≡_ {A = Evaluated} (record { number = 7; yes = false; count = count }) (evaluationWithin n vs ls hs ds js count f word)
+pub evaluation-past : (n : ℕ) (vs ls hs ds js : List ℕ) (count f word : ℕ) → 65536 < n →
+    _≡_ {A = Evaluated} (record { number = 7; yes = false; count = count }) (evaluationWithin n vs ls hs ds js count f word)
 unfolding evaluationWithin
 evaluation-past n vs ls hs ds js count f word h = rw (lt-leb n 65536 h)
 
-pub evaluation-first : (n : ℕ) (vs ls hs ds js : List ℕ) (count f word : ℕ) (r : Evaluated) → n ≤ 65536 → r ≡ evaluation (columnsMade (take n vs) (take n ls) (take n hs) ds js) count f word → r ≡ evaluationWithin n vs ls hs ds js count f word
+pub evaluation-first : (n : ℕ) (vs ls hs ds js : List ℕ) (count f word : ℕ) (r : Evaluated) → n ≤ 65536 → r
+    ≡ evaluation (columnsMade (take n vs) (take n ls) (take n hs) ds js) count f word → r ≡ evaluationWithin n vs ls hs ds js count f word
 unfolding evaluationWithin
 evaluation-first n vs ls hs ds js count f word r h told = rw (le-leb n 65536 h) told

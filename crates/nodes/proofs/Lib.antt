@@ -1,5 +1,4 @@
 pub mod Calls
-pub mod Checking
 pub mod Counting
 pub mod Evaluating
 pub mod First

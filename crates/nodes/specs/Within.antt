@@ -8,29 +8,9 @@ use Rattle.table.specs.Columns.{columnsMade}
 use Rattle.operate.specs.declared.Operation.{Operation}
 use Rattle.single.specs.declared.Evaluated.{Evaluated}
 use Rattle.single.specs.Single.{Made, unchanged, operation, Counted, atLeastCall, evaluation}
-use Rattle.commands.specs.Commands.{inRecords}
-use Rattle.verdict.specs.Check.{CheckOutcome, check}
 use Rattle.nodes.specs.Second.{secondOf}
 
 -- "The table has 2 to 65,536 places": 7 where the slice has more, and the arrays stay.
-unfoldable pub checkWithin : ℕ → List ℕ → List ℕ → List ℕ → List ℕ → List ℕ → ℕ → List ℕ → List ℕ → List ℕ → List ℕ → List ℕ → CheckOutcome
-checkWithin n vars lows highs heads links count members struck scratch formula proof =
-    let first = columnsMade (take n vars) (take n lows) (take n highs) heads links in
-    let seven : CheckOutcome = record {
-      number = 7;
-      inProof = false;
-      place = 0;
-      lines = 0;
-      rounds = 0;
-      count = count;
-      peak = 0;
-      columns = columnsMade vars lows highs heads links;
-      members = members;
-      struck = struck;
-      scratch = scratch;
-    } in
-    cond (leb n 65536) (check inRecords first count members struck scratch formula proof) seven
-
 unfoldable pub operationWithin : Operation → ℕ → List ℕ → List ℕ → List ℕ → List ℕ → List ℕ → ℕ → ℕ → ℕ → Made
 operationWithin op n vars lows highs heads links count f g =
     let first = columnsMade (take n vars) (take n lows) (take n highs) heads links in

@@ -1,10 +1,9 @@
-// The calls of the face over the node table as one lent slice of node structs, with its index. Each tests for itself all that it needs,
-// and none has a `requires`.
+// The single calls over the node table as one lent slice of node structs, with its index; crate `node_check` has the check. Each tests for
+// itself all that it needs, and none has a `requires`.
 mod within;
 
 pub use columns::Node;
 use operate::Operation;
-use session::Checked;
 use single::Evaluated;
 use single::call::Single;
 use single::least::AtLeast;
@@ -12,60 +11,9 @@ use table::NodeNo;
 use table::test::MOST;
 ghost use mathlib.Core.Path.{_≡_};
 ghost use Rattle.table.specs.Columns.{columnsMade};
-ghost use Rattle.commands.specs.Commands.{inRecords};
-ghost use Rattle.session.specs.Checked.{checkOutcome};
 ghost use Rattle.single.specs.Single.{evaluation, madeOf, operation, countedOf, atLeastCall};
-ghost use Rattle.verdict.specs.Check.{check};
-ghost use Rattle.verdict.specs.Satisfies.{Unsatisfiable};
 ghost use Rattle.columns.specs.Slice.{varsOf, lowsOf, highsOf};
 ghost use Rattle.nodes.specs.Second.{secondOf};
-
-// The whole check of a formula and a proof. What it says and leaves is the definition's, and number 0 means that no assignment
-// satisfies the formula's bytes.
-#[no_mangle]
-pub extern "C" fn cablesalak_check_nodes<'a>(
-    nodes: &mut [Node],
-    heads: &mut [u16],
-    links: &mut [u16],
-    count: usize,
-    members: &mut [u16],
-    struck: &mut [u8],
-    scratch: &mut [u16],
-    formula: &'a [u8],
-    proof: &'a [u8],
-) -> Checked
-    ensures { λ r. ⌜ (
-        let lent = columnsMade (varsOf (now (nodes .entry))) (lowsOf (now (nodes .entry))) (highsOf (now (nodes .entry)))
-        (now (heads .entry)) (now (links .entry)) in
-        let left = columnsMade (varsOf (now (nodes .exit))) (lowsOf (now (nodes .exit))) (highsOf (now (nodes .exit)))
-        (now (heads .exit)) (now (links .exit)) in
-        (checkOutcome left (now (members .exit)) (now (struck .exit)) (now (scratch .exit)) r
-        ≡ check inRecords lent count (now (members .entry)) (now (struck .entry)) (now (scratch .entry))
-        (now (formula .entry)) (now (proof .entry)))
-        × (r .number ≡ 0 → Unsatisfiable (now (formula .entry)))) ⌝ }
-{
-    let mut vars = [0u8; MOST];
-    let mut lows = [0u16; MOST];
-    let mut highs = [0u16; MOST];
-    let n = columns::places(nodes.len());
-    columns::load(nodes, n, &mut vars, &mut lows, &mut highs);
-    let r = within::check_within(
-        &mut vars,
-        &mut lows,
-        &mut highs,
-        heads,
-        links,
-        nodes.len(),
-        count,
-        members,
-        scratch,
-        struck,
-        formula,
-        proof,
-    );
-    columns::save(nodes, n, &vars, &lows, &highs);
-    r
-}
 
 // Conjunction, negation and the two cofactors; an operation of one diagram looks at f alone. Or 7, 26, 13, 27, 15, 23.
 pub fn operation(

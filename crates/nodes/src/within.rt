@@ -1,6 +1,5 @@
 // The calls over arrays whose first n places are the columns; 7 where the slice has more nodes than a table can.
 use operate::Operation;
-use session::Checked;
 use single::Evaluated;
 use single::call::Single;
 use single::least::AtLeast;
@@ -9,60 +8,10 @@ use table::test::MOST;
 ghost use mathlib.Core.Path.{_≡_};
 ghost use lib.ListN.{length, take};
 ghost use Rattle.table.specs.Columns.{columnsMade};
-ghost use Rattle.session.specs.Checked.{checkOutcome};
 ghost use Rattle.single.specs.Single.{madeOf, countedOf};
 ghost use Rattle.single.specs.Inner.{OneOperand};
 ghost use Rattle.nodes.specs.Second.{secondOf};
-ghost use Rattle.nodes.specs.Within.{checkWithin, operationWithin, atLeastWithin, evaluationWithin};
-
-// The whole check.
-pub fn check_within<'a>(
-    vars: &mut [u8],
-    lows: &mut [u16],
-    highs: &mut [u16],
-    heads: &mut [u16],
-    links: &mut [u16],
-    n: usize,
-    count: usize,
-    members: &mut [u16],
-    scratch: &mut [u16],
-    struck: &mut [u8],
-    formula: &'a [u8],
-    proof: &'a [u8],
-) -> Checked
-    requires { ⌜ (length (now vars) ≡ 65536) × (length (now lows) ≡ 65536) × (length (now highs) ≡ 65536) ⌝ }
-    ensures { λ r. ⌜ (
-        let left = columnsMade (take n (now (vars .exit))) (take n (now (lows .exit))) (take n (now (highs .exit)))
-        (now (heads .exit)) (now (links .exit)) in
-        checkOutcome left (now (members .exit)) (now (struck .exit)) (now (scratch .exit)) r
-        ≡ checkWithin n (now (vars .entry)) (now (lows .entry)) (now (highs .entry)) (now (heads .entry)) (now (links .entry)) count
-        (now (members .entry)) (now (struck .entry)) (now (scratch .entry)) (now (formula .entry)) (now (proof .entry))) ⌝ }
-{
-    if MOST < n {
-        return Checked {
-            number: 7,
-            in_proof: false,
-            place: 0,
-            lines: 0,
-            rounds: 0,
-            count,
-            peak: 0,
-        };
-    }
-    checker::check(
-        &mut vars[..n],
-        &mut lows[..n],
-        &mut highs[..n],
-        heads,
-        links,
-        count,
-        members,
-        struck,
-        scratch,
-        formula,
-        proof,
-    )
-}
+ghost use Rattle.nodes.specs.Within.{operationWithin, atLeastWithin, evaluationWithin};
 
 // The second operand: node 1 where the operation is of one diagram.
 fn second(op: Operation, g: NodeNo) -> NodeNo

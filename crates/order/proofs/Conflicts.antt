@@ -23,7 +23,8 @@ clash : (n : ℕ) (ms : List Diagram) → conflicts n ms ≡ true → Clash n ms
 unfolding conflicts
 clash n ms e =
     or-cases (any (same (leaf false)) ms) (any (λ f. any (λ g. same f (negation n g)) ms) ms) e
-    (λ x. let (f, i, is) = any-among (same (leaf false)) ms x in zero-member (subst (λ (h : Diagram). Among h ms) (sym (same-eq (leaf false) f is)) i))
+    (λ x. let (f, i, is) = any-among (same (leaf false)) ms x in zero-member
+    (subst (λ (h : Diagram). Among h ms) (sym (same-eq (leaf false) f is)) i))
     (λ x.
     let (f, i, found) = any-among (λ f. any (λ g. same f (negation n g)) ms) ms x in
     let (g, j, is) = any-among (λ g. same f (negation n g)) ms found in
@@ -32,10 +33,12 @@ clash n ms e =
 clashes : (n : ℕ) (ms : List Diagram) → Clash n ms → conflicts n ms ≡ true
 unfolding conflicts
 clashes n ms (zero-member i) =
-    or-left (any (same (leaf false)) ms) (any (λ f. any (λ g. same f (negation n g)) ms) ms) (among-any (same (leaf false)) ms (leaf false) i (eq-same (leaf false) (leaf false) refl))
+    or-left (any (same (leaf false)) ms) (any (λ f. any (λ g. same f (negation n g)) ms) ms)
+    (among-any (same (leaf false)) ms (leaf false) i (eq-same (leaf false) (leaf false) refl))
 clashes n ms (negations g i j) =
     or-right (any (same (leaf false)) ms) (any (λ f. any (λ g. same f (negation n g)) ms) ms)
-    (among-any (λ f. any (λ g. same f (negation n g)) ms) ms (negation n g) j (among-any (λ h. same (negation n g) (negation n h)) ms g i (eq-same (negation n g) (negation n g) refl)))
+    (among-any (λ f. any (λ g. same f (negation n g)) ms) ms (negation n g) j
+    (among-any (λ h. same (negation n g) (negation n h)) ms g i (eq-same (negation n g) (negation n g) refl)))
 
 pub zero-conflicts : (n : ℕ) (ms : List Diagram) → Among (leaf false) ms → conflicts n ms ≡ true
 zero-conflicts n ms i = clashes n ms (zero-member i)
@@ -49,14 +52,16 @@ conflicts-within n ms ms′ w e = clashes n ms′ (go (clash n ms e))
     go (negations g i j) = negations g (w g i) (w (negation n g) j)
 
 -- a cofactor by literals keeps a conflict
-pub conflicts-literals : (n : ℕ) (P N : ℕ → Bool) (ms : List Diagram) → conflicts n ms ≡ true → conflicts n (map (cofactorLiterals n P N) ms) ≡ true
+pub conflicts-literals : (n : ℕ) (P N : ℕ → Bool) (ms : List Diagram) → conflicts n ms ≡ true →
+    conflicts n (map (cofactorLiterals n P N) ms) ≡ true
 conflicts-literals n P N ms e = clashes n after (go (clash n ms e))
   where
     after : List Diagram
     after = map (cofactorLiterals n P N) ms
 
     go : Clash n ms → Clash n after
-    go (zero-member i) = zero-member (subst (λ (h : Diagram). Among h after) (literals-leaf n P N false) (among-map (cofactorLiterals n P N) ms (leaf false) i))
+    go (zero-member i) = zero-member (subst (λ (h : Diagram). Among h after) (literals-leaf n P N false)
+        (among-map (cofactorLiterals n P N) ms (leaf false) i))
     go (negations g i j) =
         negations (cofactorLiterals n P N g) (among-map (cofactorLiterals n P N) ms g i)
         (subst (λ (h : Diagram). Among h after) (literals-negation n P N g) (among-map (cofactorLiterals n P N) ms (negation n g) j))

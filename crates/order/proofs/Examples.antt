@@ -38,7 +38,8 @@ with-member : pr 1 (inWord 1) (inWord 0) (not-x1 ∷ []) x1 .shown ≡ false
 unfolding pr inWord same? ℕ-discrete diagramFrom valueFrom
 with-member = refl
 
-pub pr-not-kept : ((ms ms′ : List Diagram) → Contained ms ms′ → pr 1 (inWord 1) (inWord 0) ms x1 .shown ≡ true → pr 1 (inWord 1) (inWord 0) ms′ x1 .shown ≡ true) → ⊥
+pub pr-not-kept : ((ms ms′ : List Diagram) → Contained ms ms′ → pr 1 (inWord 1) (inWord 0) ms x1 .shown ≡ true →
+    pr 1 (inWord 1) (inWord 0) ms′ x1 .shown ≡ true) → ⊥
 pr-not-kept h = t≢f (sym (h [] (not-x1 ∷ []) (λ f i. absurd i) alone) ∙ with-member)
 
 pub rows : GivesAll orderTable

@@ -32,12 +32,14 @@ module _ (P N P′ N′ : ℕ → Bool) where
   forced-then i [] = refl
   forced-then i (b ∷ a) = ap₂ _∷_ (go (P i) (N i) (P′ i) (N′ i)) (forced-then (suc i) a)
     where
-      go : (p q p′ q′ : Bool) → cond p true (cond q false (cond p′ true (cond q′ false b))) ≡ cond (p || (not q && p′)) true (cond (q || q′) false b)
+      go : (p q p′ q′ : Bool) → cond p true (cond q false (cond p′ true (cond q′ false b)))
+          ≡ cond (p || (not q && p′)) true (cond (q || q′) false b)
       go true q p′ q′ = refl
       go false true p′ q′ = refl
       go false false p′ q′ = refl
 
-  pub literals-then : (n : ℕ) (f : Diagram) → cofactorLiterals n P′ N′ (cofactorLiterals n P N f) ≡ cofactorLiterals n (thenTrue P N P′) (thenFalse N N′) f
+  pub literals-then : (n : ℕ) (f : Diagram) → cofactorLiterals n P′ N′ (cofactorLiterals n P N f)
+      ≡ cofactorLiterals n (thenTrue P N P′) (thenFalse N N′) f
   unfolding cofactorLiterals
   literals-then n f = diagram-cong n _ _ λ a len.
       literals-value n (forced P′ N′ 1 a) (forced-length P′ N′ 1 a ∙ len) P N f ∙ ap (value f) (forced-then 1 a)
@@ -62,14 +64,17 @@ module _ (P N P′ N′ : ℕ → Bool) where
       go false true p′ q′ x y = rw (y refl .0, y refl .1)
       go false false p′ q′ x y = refl
 
-  pub literals-set : (n : ℕ) (f : Diagram) → SetBy P N P′ N′ 1 n → cofactorLiterals n P′ N′ (cofactorLiterals n P N f) ≡ cofactorLiterals n P′ N′ f
+  pub literals-set : (n : ℕ) (f : Diagram) → SetBy P N P′ N′ 1 n → cofactorLiterals n P′ N′ (cofactorLiterals n P N f)
+      ≡ cofactorLiterals n P′ N′ f
   unfolding cofactorLiterals
   literals-set n f S = diagram-cong n _ _ λ a len.
-      literals-value n (forced P′ N′ 1 a) (forced-length P′ N′ 1 a ∙ len) P N f ∙ ap (value f) (forced-set 1 a (λ v p q. S v p (omega arith)))
+      literals-value n (forced P′ N′ 1 a) (forced-length P′ N′ 1 a ∙ len) P N f
+      ∙ ap (value f) (forced-set 1 a (λ v p q. S v p (omega arith)))
 
 -- ---- negation
 
-pub literals-negation : (n : ℕ) (P N : ℕ → Bool) (g : Diagram) → cofactorLiterals n P N (negation n g) ≡ negation n (cofactorLiterals n P N g)
+pub literals-negation : (n : ℕ) (P N : ℕ → Bool) (g : Diagram) → cofactorLiterals n P N (negation n g)
+    ≡ negation n (cofactorLiterals n P N g)
 unfolding cofactorLiterals negation
 literals-negation n P N g = diagram-cong n _ _ λ a len.
     negation-value n (forced P N 1 a) (forced-length P N 1 a ∙ len) g ∙ ap not (sym (literals-value n a len P N g))
@@ -77,7 +82,8 @@ literals-negation n P N g = diagram-cong n _ _ λ a len.
 -- ---- units under literals
 
 -- a literal that holds wherever f is 1 is a unit
-unit-by : (n : ℕ) (f : Diagram) (v : ℕ) (s : Bool) → ((a : Assignment) → length a ≡ n → value f a ≡ true → holds a v ≡ s) → isUnit n f v s ≡ true
+unit-by : (n : ℕ) (f : Diagram) (v : ℕ) (s : Bool) → ((a : Assignment) → length a ≡ n → value f a ≡ true → holds a v ≡ s) → isUnit n f v s
+    ≡ true
 unfolding isUnit
 unit-by n f v s h = all-every n _ (λ a len. go (value f a) (h a len))
   where
@@ -95,7 +101,8 @@ module _ (n : ℕ) (P N : ℕ → Bool) (u : Diagram) (some : cofactorLiterals n
 
   module _ (v : ℕ) (lo : 1 ≤ v) (hi : v ≤ n) where
     -- where what is left of u is 1, u's units hold in the assignment with the literals made true
-    held : (s : Bool) → isUnit n u v s ≡ true → (a : Assignment) → length a ≡ n → value left a ≡ true → cond (P v) true (cond (N v) false (holds a v)) ≡ s
+    held : (s : Bool) → isUnit n u v s ≡ true → (a : Assignment) → length a ≡ n → value left a ≡ true →
+        cond (P v) true (cond (N v) false (holds a v)) ≡ s
     held s x a len t =
         sym (forced-at P N 1 a v lo (omega arith))
         ∙ unit-holds n u v s (forced P N 1 a) x (forced-length P N 1 a ∙ len) (sym (literals-value n a len P N u) ∙ t)
@@ -103,12 +110,14 @@ module _ (n : ℕ) (P N : ℕ → Bool) (u : Diagram) (some : cofactorLiterals n
     held-true : isUnit n u v true ≡ true → thenTrue P N (λ v. isUnit n left v true) v ≡ true
     held-true x = go (P v) (N v) (held true x)
       where
-        go : (p q : Bool) → ((a : Assignment) → length a ≡ n → value left a ≡ true → cond p true (cond q false (holds a v)) ≡ true) → (p || (not q && isUnit n left v true)) ≡ true
+        go : (p q : Bool) → ((a : Assignment) → length a ≡ n → value left a ≡ true → cond p true (cond q false (holds a v)) ≡ true) →
+            (p || (not q && isUnit n left v true)) ≡ true
         go true q h = refl
         go false true h = t≢f (sym (h (satisfied .0) (satisfied .1) (satisfied .2)))
         go false false h = unit-by n left v true h
 
-    held-false : isUnit n u v false ≡ true → (thenTrue P N (λ v. isUnit n left v true) v ≡ false) × (thenFalse N (λ v. isUnit n left v false) v ≡ true)
+    held-false : isUnit n u v false ≡ true → (thenTrue P N (λ v. isUnit n left v true) v ≡ false)
+        × (thenFalse N (λ v. isUnit n left v false) v ≡ true)
     held-false x = go (P v) (N v) (held false x)
       where
         go : (p q : Bool) → ((a : Assignment) → length a ≡ n → value left a ≡ true → cond p true (cond q false (holds a v)) ≡ false)
@@ -120,5 +129,6 @@ module _ (n : ℕ) (P N : ℕ → Bool) (u : Diagram) (some : cofactorLiterals n
             (not-true (isUnit n left v true) (λ y. t≢f (sym (unit-holds n left v true a y len t) ∙ h a len t)), unit-by n left v false h)
 
   -- u's units are set by the literals and then the units of what these leave of u
-  pub units-set : SetBy (λ v. isUnit n u v true) (λ v. isUnit n u v false) (thenTrue P N (λ v. isUnit n left v true)) (thenFalse N (λ v. isUnit n left v false)) 1 n
+  pub units-set : SetBy (λ v. isUnit n u v true) (λ v. isUnit n u v false) (thenTrue P N (λ v. isUnit n left v true))
+      (thenFalse N (λ v. isUnit n left v false)) 1 n
   units-set v lo hi = (held-true v lo (omega arith), held-false v lo (omega arith))

@@ -52,7 +52,8 @@ module _ {A : Type 0} where
       go false false = as-it-is (keep rest)
   keep-reordered (orders.again r s) = orders.again (keep-reordered r) (keep-reordered s)
 
-  pub reordered-live : (marks marks′ : List ℕ) (xs ys : List A) → Reordered (beside marks xs) (beside marks′ ys) → Reordered (unstruck marks xs) (unstruck marks′ ys)
+  pub reordered-live : (marks marks′ : List ℕ) (xs ys : List A) → Reordered (beside marks xs) (beside marks′ ys) →
+      Reordered (unstruck marks xs) (unstruck marks′ ys)
   reordered-live marks marks′ xs ys r = rw (unstruck-keep marks xs, unstruck-keep marks′ ys) (keep-reordered r)
 
   -- ---- a striking less
@@ -70,7 +71,8 @@ module _ {A : Type 0} where
   struck-within (m ∷ marks) (suc k) (y ∷ ys) x i = go (eqb m 0) (struck-within marks k ys x) i
     where
       go : (b : Bool) → (Among x (unstruck (set marks k 1) ys) → Among x (unstruck marks ys))
-          → Among x (cond b (y ∷ unstruck (set marks k 1) ys) (unstruck (set marks k 1) ys)) → Among x (cond b (y ∷ unstruck marks ys) (unstruck marks ys))
+          → Among x (cond b (y ∷ unstruck (set marks k 1) ys) (unstruck (set marks k 1) ys)) →
+          Among x (cond b (y ∷ unstruck marks ys) (unstruck marks ys))
       go true ih (inl q) = inl q
       go true ih (inr i) = inr (ih i)
       go false ih i = ih i

@@ -30,7 +30,8 @@ among-reduced n [] u o i = absurd i
 among-reduced n (f ∷ fs) u o (inl q) = rw q (o .0)
 among-reduced n (f ∷ fs) u o (inr i) = among-reduced n fs u (o .1) i
 
-module _ (n : ℕ) (ms : List Diagram) (u : Diagram) (c : conflicts n ms ≡ false) (o : AllReduced n ms) (i : Among u ms) (h : hasUnit n n u ≡ true) where
+module _ (n : ℕ) (ms : List Diagram) (u : Diagram) (c : conflicts n ms ≡ false) (o : AllReduced n ms) (i : Among u ms)
+    (h : hasUnit n n u ≡ true) where
   -- the member that is taken, put before the others
   front : Contained (u ∷ ms) ms
   front f (inl q) = subst (λ (x : Diagram). Among x ms) (sym q) i
@@ -70,7 +71,8 @@ unfolding firstWithUnit
 first-among n [] u e = let z : _≡_ {A = ℕ} 0 1 = cc in absurd (omega arith)
 first-among n (f ∷ fs) u e = go (hasUnit n n f) refl e (first-among n fs u)
   where
-    go : (b : Bool) → hasUnit n n f ≡ b → cond b (some f) (firstWithUnit n fs) ≡ some u → (firstWithUnit n fs ≡ some u → Among u fs × (hasUnit n n u ≡ true))
+    go : (b : Bool) → hasUnit n n f ≡ b → cond b (some f) (firstWithUnit n fs) ≡ some u →
+        (firstWithUnit n fs ≡ some u → Among u fs × (hasUnit n n u ≡ true))
         → Among u (f ∷ fs) × (hasUnit n n u ≡ true)
     go true h e ih = let q : f ≡ u = cc in (inl (sym q), sym (ap (hasUnit n n) q) ∙ h)
     go false h e ih = let (i, x) = ih e in (inr i, x)
@@ -87,7 +89,8 @@ propagate-way zero n ms o p = go (conflicts n ms) refl (firstWithUnit n ms) refl
     go true c x e = way.conflict c
     go false c none e = way.none c (first-none n ms e)
     go false c (some u) e = absurd (omega (arith, fewer n ms u c o e))
-propagate-way (suc most) n ms o p = go (conflicts n ms) refl (firstWithUnit n ms) refl (λ u h. propagate-way most n (byUnits n u ms) (byUnits-reduced n u ms) h)
+propagate-way (suc most) n ms o p = go (conflicts n ms) refl (firstWithUnit n ms) refl
+    (λ u h. propagate-way most n (byUnits n u ms) (byUnits-reduced n u ms) h)
   where
     go : (b : Bool) → conflicts n ms ≡ b → (x : Option Diagram) → firstWithUnit n ms ≡ x
         → ((u : Diagram) → inUse n (byUnits n u ms) ≤ most → IsWay n (byUnits n u ms) (propagate most n (byUnits n u ms)))
@@ -104,9 +107,12 @@ own-way n ms o = subst (IsWay n ms) (more-rounds n (inUse n ms) ms o) (propagate
 -- ---- choice, order, more members
 
 -- Whichever member with units each round takes, the propagation conflicts or not as UnitProp does.
-pub any-choice : (n : ℕ) (ms : List Diagram) (rounds : ℕ) (b : Bool) → AllReduced n ms → Propagates n ms rounds b → b ≡ unitProp n ms .conflict
-any-choice n ms rounds b o R = both-ways b (unitProp n ms .conflict) (λ t. conflict-comes R t (λ f i. i) (own-way n ms o)) (λ t. conflict-comes (own-way n ms o) t (λ f i. i) R)
+pub any-choice : (n : ℕ) (ms : List Diagram) (rounds : ℕ) (b : Bool) → AllReduced n ms → Propagates n ms rounds b → b
+    ≡ unitProp n ms .conflict
+any-choice n ms rounds b o R = both-ways b (unitProp n ms .conflict) (λ t. conflict-comes R t (λ f i. i) (own-way n ms o))
+    (λ t. conflict-comes (own-way n ms o) t (λ f i. i) R)
 
 -- Members that are added never take a conflict away.
-pub more-members : (n : ℕ) (ms ms′ : List Diagram) → AllReduced n ms → AllReduced n ms′ → Contained ms ms′ → unitProp n ms .conflict ≡ true → unitProp n ms′ .conflict ≡ true
+pub more-members : (n : ℕ) (ms ms′ : List Diagram) → AllReduced n ms → AllReduced n ms′ → Contained ms ms′ → unitProp n ms .conflict
+    ≡ true → unitProp n ms′ .conflict ≡ true
 more-members n ms ms′ o o′ w t = conflict-comes (own-way n ms o) t w (own-way n ms′ o′)

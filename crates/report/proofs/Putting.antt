@@ -36,7 +36,8 @@ put-then {xs} {ys} {zs} {bs} {cs} {at} {p} {r} f g = record {
 pub put-small : {xs ys : List ℕ} {at n r : ℕ} → n < 10 → Put xs at ((48 + n) ∷ []) ys r → Put xs at (decimal n) ys r
 put-small {xs} {ys} {at} {n} {r} h f = subst (λ (bs : List ℕ). Put xs at bs ys r) (sym (decimal-small n h)) f
 
-pub put-more : {xs ys zs : List ℕ} {at p n r : ℕ} → 10 ≤ n → Put xs at (decimal (n / 10)) ys p → Put ys p ((48 + n % 10) ∷ []) zs r → Put xs at (decimal n) zs r
+pub put-more : {xs ys zs : List ℕ} {at p n r : ℕ} → 10 ≤ n → Put xs at (decimal (n / 10)) ys p → Put ys p ((48 + n % 10) ∷ []) zs r →
+    Put xs at (decimal n) zs r
 put-more {xs} {ys} {zs} {at} {p} {n} {r} h f g = subst (λ (bs : List ℕ). Put xs at bs zs r) (sym (decimal-more n h)) (put-then f g)
 
 pub put-whole : {xs ws bs cs ds es : List ℕ} {a b c d e : ℕ} (l : Line)

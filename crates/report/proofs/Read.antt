@@ -24,7 +24,7 @@ use Rattle.verdict.specs.Cases.{unitsTo, A-formula, A-proof}
 use Rattle.verdict.specs.Satisfies.{clausesOf, readToEnd, satisfies}
 use Rattle.report.specs.declared.Line.{Line}
 use Rattle.report.specs.Line.{decimalBy, decimal, fieldText, lineBytes, numbersAfter, numbersOf}
-use Rattle.report.specs.Files.{said}
+use Rattle.report.specs.Files.{ofFiles, said}
 use Rattle.report.proofs.Digits.{by, decimal-small, decimal-more}
 use Rattle.report.proofs.Saying.{said-refuted}
 
@@ -84,5 +84,6 @@ line-refuted mode f p formula proof rest e =
 
 -- "case A now prints `0 12 2 1 10`" (02, 2/14)
 pub case-A : lineBytes (said inRecords true (bytes A-formula) true A-proof) ≡ bytes "0 12 2 1 10\n"
-unfolding lineBytes decimalBy said verdict clausesFrom place clause diagramFrom same? recordAt above rup valueFrom diagramAt ℕ-discrete conjunction cofactor unitsTo
+unfolding lineBytes decimalBy said ofFiles verdict clausesFrom place clause diagramFrom same? recordAt above rup valueFrom diagramAt
+    ℕ-discrete conjunction cofactor unitsTo
 case-A = refl

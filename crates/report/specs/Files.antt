@@ -15,17 +15,21 @@ fileRefused number place = record { number = number; place = place; lines = 0; r
 abbrev pub ofVerdict : Verdict → Line
 ofVerdict v = record { number = v .number; place = v .place; lines = v .lines; rounds = v .rounds; peak = v .peak }
 
--- A file: whether it could be read, and the bytes that came. 25 where it could not, 24 where they are over 65,536; else what follows.
-abbrev pub ofFile : Bool → List ℕ → Line → Line
-ofFile isRead text rest = cond (not isRead) (fileRefused 25 0) (cond (ltb 65536 (length text)) (fileRefused 24 65536) rest)
+-- A file: whether it could be read, and the bytes that came. 25 where it could not, 24 where they are over 65,536, each with its place;
+-- else what follows.
+abbrev pub ofFile : {A : Type 0} → (ℕ → ℕ → A) → Bool → List ℕ → A → A
+ofFile refuse isRead text rest = cond (not isRead) (refuse 25 0) (cond (ltb 65536 (length text)) (refuse 24 65536) rest)
 
--- "Both files are read before the check, the formula first"; the check has "a table of 4,096 places".
+-- "Both files are read before the check, the formula first"
+unfoldable pub ofFiles : {A : Type 0} → (ℕ → ℕ → A) → Bool → List ℕ → Bool → List ℕ → A → A
+ofFiles refuse isFormula formula isProof proof rest =
+    let second = ofFile refuse isProof proof rest in ofFile refuse isFormula formula second
+
+-- The program's check has "a table of 4,096 places".
 unfoldable pub said : Mode → Bool → List ℕ → Bool → List ℕ → Line
-unfolding verdict
+unfolding verdict ofFiles
 said mode isFormula formula isProof proof =
-    let checked = ofVerdict (verdict mode 4096 formula proof) in
-    let second = ofFile isProof proof checked in
-    ofFile isFormula formula second
+    let checked = ofVerdict (verdict mode 4096 formula proof) in ofFiles fileRefused isFormula formula isProof proof checked
 
 -- The status of a number: 0 for refuted alone, 2 where a file was not taken (24 and 25), 1 for every other refusal.
 abbrev pub statusOf : ℕ → ℕ

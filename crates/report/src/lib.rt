@@ -1,15 +1,16 @@
-// What the programs say: the verdict on two files, its line of bytes and the status to end with. The programs (`refute`, `refute_drat`),
-// the exported call and the hosts over it share this, so that the line and the status are proved once and nobody formats or maps them
-// again.
+// What the programs report: the verdict on two files, its line of bytes and the status to end with. The programs, the exported calls and
+// the hosts over them share this, so that the line and the status are proved once and nobody formats or maps them again.
 mod put;
 
 use commands::Mode;
+pub use put::put_field;
 pub use put::put_line;
 ghost use mathlib.Core.Path.{_≡_};
-ghost use lib.ListN.{take, drop};
+ghost use lib.ListN.{length, take, drop};
 ghost use Rattle.io.specs.Counts.{Counts};
 ghost use Rattle.verdict.specs.Check.{verdict};
-ghost use Rattle.report.specs.Files.{said, fileRefused, ofVerdict, statusOf};
+ghost use Rattle.verdict.specs.Satisfies.{Unsatisfiable};
+ghost use Rattle.report.specs.Files.{fileRefused, ofVerdict, ofFiles, said, statusOf};
 ghost use Rattle.report.specs.Line.{lineBytes};
 
 // The most bytes of a file.
@@ -26,7 +27,7 @@ pub struct Line {
 
 // How many bytes the line has, and the status to end with.
 #[repr(C)]
-pub struct Told {
+pub struct Reported {
     pub length: usize,
     pub status: u8,
 }
@@ -66,7 +67,7 @@ pub fn check<'a>(mode: Mode, formula: &'a [u8], proof: &'a [u8]) -> Line
     }
 }
 
-// The line of a file that was not taken.
+// The line of a file that is not taken.
 fn refused(number: u8, place: usize) -> Line
     ensures { λ r. ⌜ r ≡ fileRefused number place ⌝ }
 {
@@ -79,10 +80,10 @@ fn refused(number: u8, place: usize) -> Line
     }
 }
 
-// The line on two files: 25 and 24 of the formula, then of the proof, then the check's. `first` and `second` tell whether the
-// formula and the proof could be read.
-fn line_on<'a>(mode: Mode, first: bool, formula: &'a [u8], second: bool, proof: &'a [u8]) -> Line
-    ensures { λ r. ⌜ r ≡ said mode first (now (formula .entry)) second (now (proof .entry)) ⌝ }
+// The refusal of the two files: 25 and 24 of the formula, then of the proof; number 0 where both are taken. `first` and `second` tell
+// whether the formula and the proof could be read.
+pub fn files<'a>(first: bool, formula: &'a [u8], second: bool, proof: &'a [u8]) -> Line
+    ensures { λ r. ⌜ r ≡ ofFiles fileRefused first (now (formula .entry)) second (now (proof .entry)) (fileRefused 0 0) ⌝ }
 {
     if !first {
         return refused(25, 0);
@@ -96,11 +97,22 @@ fn line_on<'a>(mode: Mode, first: bool, formula: &'a [u8], second: bool, proof: 
     if proof.len() > LONGEST {
         return refused(24, LONGEST);
     }
+    refused(0, 0)
+}
+
+// The line on two files: their refusal, else the check's.
+fn line_on<'a>(mode: Mode, first: bool, formula: &'a [u8], second: bool, proof: &'a [u8]) -> Line
+    ensures { λ r. ⌜ r ≡ said mode first (now (formula .entry)) second (now (proof .entry)) ⌝ }
+{
+    let untaken = files(first, formula, second, proof);
+    if untaken.number != 0 {
+        return untaken;
+    }
     check(mode, formula, proof)
 }
 
 // 0 for refuted alone, 2 where a file was not taken, 1 for every other refusal.
-fn status_of(number: u8) -> u8
+pub fn status_of(number: u8) -> u8
     ensures { λ r. ⌜ r ≡ statusOf number ⌝ }
 {
     if number == 0 {
@@ -123,15 +135,17 @@ pub fn report<'a>(
     second: bool,
     proof: &'a [u8],
     line: &mut [u8; 105],
-) -> Told
+) -> Reported
     ensures { λ r. ⌜ take (r .length) (now (line .exit))
         ≡ lineBytes (said mode first (now (formula .entry)) second (now (proof .entry))) ⌝ }
     ensures { λ r. ⌜ drop (r .length) (now (line .exit)) ≡ drop (r .length) (now (line .entry)) ⌝ }
     ensures { λ r. ⌜ r .status ≡ statusOf (said mode first (now (formula .entry)) second (now (proof .entry)) .number) ⌝ }
     ensures { λ r. ⌜ Counts (r .length) (now (line .exit)) ⌝ }
+    ensures { λ r. ⌜ r .length ≡ length (lineBytes (said mode first (now (formula .entry)) second (now (proof .entry)))) ⌝ }
+    ensures { λ r. ⌜ (r .status ≡ 0 → Unsatisfiable (now (formula .entry))) ⌝ }
 {
     let told = line_on(mode, first, formula, second, proof);
     let status = status_of(told.number);
     let length = put_line(told, line);
-    Told { length, status }
+    Reported { length, status }
 }

@@ -27,8 +27,8 @@ fn put_number(n: u64, line: &mut [u8], at: usize) -> usize
     put_byte(48 + (n % 10) as u8, line, next)
 }
 
-// A number's decimal digits and the byte that parts it from what follows.
-fn put_field(n: u64, parting: u8, line: &mut [u8], at: usize) -> usize
+// A number's decimal digits and the byte that separates it from what follows.
+pub fn put_field(n: u64, parting: u8, line: &mut [u8], at: usize) -> usize
     requires { ⌜ at + 21 ≤ length (now line) ⌝ }
     ensures { λ r. ⌜ Put (now (line .entry)) at (fieldText n parting) (now (line .exit)) r ⌝ }
     ensures { λ r. ⌜ r ≤ at + 21 ⌝ }

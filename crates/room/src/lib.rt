@@ -1,1 +1,1 @@
-// A check that is not refused for room comes to the same with more room: laws, no code.
+// A check that is not refused for room gives the same result with more room: theorems, no code.

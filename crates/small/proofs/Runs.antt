@@ -1,5 +1,6 @@
--- The run over words says what the check says in a table that cannot be full. The idea: record by record and clause by clause. Assumes nothing.
-use mathlib.Core.Path.{_≡_, refl, sym, ap, ap₂, _∙_, subst}
+-- The run over words says what the check says in a table that cannot be full. The idea: record by record and clause by clause. Assumes
+-- nothing.
+use mathlib.Core.Path.{_≡_, refl, sym, ap, ap₂, _∙_}
 use mathlib.Core.Bool.{Bool, true, false, cond}
 use mathlib.Core.List.{List, [], _∷_, _++_}
 use Prim.Native.Nat.{ℕ, zero, suc, _+_, _^_, _≤_, _<_}
@@ -10,13 +11,12 @@ use borrow.Author.Tests.{leb-true}
 use Rattle.meaning.specs.Operations as meaning
 use Rattle.meaning.specs.Literals.{OfVariables}
 use Rattle.meaning.specs.Words.{inWord}
-use Rattle.meaning.proofs.Clauses.{occurs}
 use Rattle.words.specs.Sets.{has, literalsOf}
 use Rattle.words.proofs.LiteralSets.{in-set}
 use Rattle.table.specs.Nodes.{Node, Placing, full, placed, place}
 use Rattle.table.proofs.Order.{Ordered}
 use Rattle.table.proofs.Placing.{After, place-after}
-use Rattle.meaning.specs.Diagram.{Diagram, Reduced}
+use Rattle.meaning.specs.Diagram.{Reduced}
 use Rattle.meaning.proofs.Values.{reduced-to, diagram-reduced}
 use Rattle.clause.proofs.Literals.{within-more, clause-of-words}
 use Rattle.dimacs.specs.declared.Header.{Header}
@@ -28,7 +28,7 @@ use Rattle.records.specs.Records.{recordAt, lengthOf}
 use Rattle.commands.specs.declared.Form.the-variants.{Records}
 use Rattle.commands.specs.Commands.{recorded, inRecords}
 use Rattle.verdict.specs.Steps.{State, Step, next, stop, spent, emptied, begun, recordStep}
-use Rattle.verdict.specs.Check.{step, Verdict, left, afterStep, commands, refusedFormula, afterClause, clauses, checkAfterHeader}
+use Rattle.verdict.specs.Check.{step, left, afterStep, commands, afterClause, clauses, checkAfterHeader}
 use Rattle.verdict.specs.Taken.{Function, Meant}
 use Rattle.verdict.specs.Run.{CommandTaken, Making, opened, made}
 use Rattle.verdict.proofs.Formula.{Read}
@@ -39,16 +39,19 @@ use Rattle.truth.specs.Tables.{diagramOf}
 use Rattle.truth_entries.proofs.MadeValues.{diagramOf-clause, clause-word}
 use Rattle.small_verdict.proofs.Roomy.{Fine, Found, place-found}
 use Rattle.small_verdict.specs.Small.{enough, sixOnly, small}
-use Rattle.small_verdict.specs.Agrees.{Said, said}
-use Rattle.small.specs.WordSteps.{WordState, WordStep, onward, halt, wordsBegun, wordStep, sayAt, afterWord, wordRecords, formulaRefused, wordOfClause, wordClauses, wordsAfterHeader, wordVerdict}
-use Rattle.small.proofs.Worded.{Has, Worded, worded-append, worded-grown, worded-length}
+use Rattle.small_verdict.specs.Agrees.{said}
+use Rattle.small.specs.WordSteps.{WordState, WordStep, onward, halt, wordsBegun, wordStep, sayAt, afterWord, wordRecords}
+use Rattle.small.specs.WordSteps.{wordOfClause, wordClauses, wordsAfterHeader, wordVerdict}
+use Rattle.small.proofs.Worded.{Worded, worded-append, worded-grown, worded-length}
 use Rattle.small.proofs.Stands.{Stands, Alike, step-alike}
 
 module _ (s n : ℕ) (large : 2 ^ 64 < s) (six : n ≤ 6) (proof : List ℕ) where
   -- ---- records
 
-  left-said : (number place peak : ℕ) (st : State) (ws : WordState) → Stands st ws → said (left number place peak st) ≡ sayAt number place ws
-  left-said number place peak st ws W = ap₂ (λ (l r : ℕ). record { number = number; inProof = true; place = place; lines = l; rounds = r }) (sym (W .lines)) (sym (W .rounds))
+  left-said : (number place peak : ℕ) (st : State) (ws : WordState) → Stands st ws → said (left number place peak st) ≡ sayAt number place
+      ws
+  left-said number place peak st ws W = ap₂ (λ (l r : ℕ). record { number = number; inProof = true; place = place; lines = l; rounds = r })
+      (sym (W .lines)) (sym (W .rounds))
 
   records-said : (steps : ℕ) (m : Meant) (st : State) (at : ℕ) → at ≤ length proof → Standing s n m st → (ws : WordState) → Stands st ws
       → said (commands steps inRecords n s proof st at) ≡ wordRecords steps n proof ws at
@@ -69,10 +72,12 @@ module _ (s n : ℕ) (large : 2 ^ 64 < s) (six : n ≤ 6) (proof : List ℕ) whe
       go : (x : Step) → recordStep n s st more r ≡ x → (y : WordStep) → Alike x y
           → ((m′ : Meant) (st′ : State) (at′ : ℕ) → at′ ≤ length proof → Standing s n m′ st′ → (ws′ : WordState) → Stands st′ ws′
           → said (commands steps inRecords n s proof st′ at′) ≡ wordRecords steps n proof ws′ at′)
-          → said (afterStep x st at (λ st′. commands steps inRecords n s proof st′ next-at)) ≡ afterWord y ws at (λ ws′. wordRecords steps n proof ws′ next-at)
+          → said (afterStep x st at (λ st′. commands steps inRecords n s proof st′ next-at)) ≡ afterWord y ws at
+          (λ ws′. wordRecords steps n proof ws′ next-at)
       go (next st′) e (onward ws′) A rec =
           let T : CommandTaken false n s st (recorded r more) st′ = step-taken false n s st (recorded r more) st′ e in
-          rec _ st′ next-at (command-goes false Records proof n s st st′ at within T .1) (step-standing S (omega arith) false Records (recorded r more) tt st′ T) ws′ A
+          rec _ st′ next-at (command-goes false Records proof n s st st′ at within T .1)
+          (step-standing S (omega arith) false Records (recorded r more) tt st′ T) ws′ A
       go (next st′) e (halt number offset) A rec = absurd A
       go (stop number offset) e (onward ws′) A rec = absurd A
       go (stop number offset) e (halt number′ offset′) A rec =
@@ -96,7 +101,8 @@ module _ (s n : ℕ) (large : 2 ^ 64 < s) (six : n ≤ 6) (proof : List ℕ) whe
   unfolding meaning.clause
   clause-reduced ls = diagram-reduced n (meaning.clauseValue ls)
 
-  clauses-said : (text : List ℕ) (many : ℕ) (r : Reading) (t : List Node) (ms : List ℕ) (fs : List Function) → Making s text n many t ms fs r → (ws : List ℕ) → Worded t ms ws
+  clauses-said : (text : List ℕ) (many : ℕ) (r : Reading) (t : List Node) (ms : List ℕ) (fs : List Function) → Making s text n many t ms fs
+      r → (ws : List ℕ) → Worded t ms ws
       → said (clauses inRecords n s proof t ms r) ≡ wordClauses n proof ws r
   unfolding clauses wordClauses
   clauses-said text many complete t ms fs M ws W =
@@ -114,7 +120,8 @@ module _ (s n : ℕ) (large : 2 ^ 64 < s) (six : n ≤ 6) (proof : List ℕ) whe
   clauses-said text many (refusal number place) t ms fs M ws W = refl
   clauses-said text many (clause ls first rest) t ms fs M ws W =
       go (place s t (meaning.clause n ls)) refl (place-found s n large six t fine (meaning.clause n ls) (clause-reduced ls))
-      (place-after s t O (meaning.clause n ls) (reduced-to 1 (suc n) 65 (meaning.clause n ls) (omega arith) (clause-reduced ls))) (clauses-said text many rest)
+      (place-after s t O (meaning.clause n ls) (reduced-to 1 (suc n) 65 (meaning.clause n ls) (omega arith) (clause-reduced ls)))
+      (clauses-said text many rest)
     where
       Y : Underway s text n many t ms fs (clause ls first rest)
       Y = underway s text n many M
@@ -133,9 +140,11 @@ module _ (s n : ℕ) (large : 2 ^ 64 < s) (six : n ≤ 6) (proof : List ℕ) whe
           read-of (suc left) R = R .0
 
       go : (p : Placing) → place s t (meaning.clause n ls) ≡ p → Found s n large six p → After s t (meaning.clause n ls) p
-          → ((t₁ : List Node) (ms₁ : List ℕ) (fs₁ : List Function) → Making s text n many t₁ ms₁ fs₁ rest → (ws₁ : List ℕ) → Worded t₁ ms₁ ws₁
+          → ((t₁ : List Node) (ms₁ : List ℕ) (fs₁ : List Function) → Making s text n many t₁ ms₁ fs₁ rest → (ws₁ : List ℕ) → Worded t₁ ms₁
+          ws₁
           → said (clauses inRecords n s proof t₁ ms₁ rest) ≡ wordClauses n proof ws₁ rest)
-          → said (afterClause p (λ t₁ k. clauses inRecords n s proof t₁ (ms ++ k ∷ []) rest) first) ≡ wordClauses n proof (ws ++ wordOfClause (literalsOf ls) ∷ []) rest
+          → said (afterClause p (λ t₁ k. clauses inRecords n s proof t₁ (ms ++ k ∷ []) rest) first) ≡ wordClauses n proof
+          (ws ++ wordOfClause (literalsOf ls) ∷ []) rest
       go (full t₁) e F A rec = absurd F
       go (placed t₁ k) e F A rec =
           rec t₁ (ms ++ k ∷ []) _ (made M e) (ws ++ wordOfClause (literalsOf ls) ∷ [])
@@ -149,7 +158,8 @@ module _ (formula proof : List ℕ) where
   proper-stands : (h : Header) (n many at : ℕ) → sixOnly formula h ≡ Proper n many at → (h ≡ Proper n many at) × (n ≤ 6)
   proper-stands (Proper n₀ many₀ at₀) n many at e = go (leb n₀ 6) refl e
     where
-      go : (c : Bool) → leb n₀ 6 ≡ c → cond c (Proper n₀ many₀ at₀) (Improper 2 (judgedFrom formula (length formula) 0)) ≡ Proper n many at → (Proper n₀ many₀ at₀ ≡ Proper n many at) × (n ≤ 6)
+      go : (c : Bool) → leb n₀ 6 ≡ c → cond c (Proper n₀ many₀ at₀) (Improper 2 (judgedFrom formula (length formula) 0)) ≡ Proper n many at
+          → (Proper n₀ many₀ at₀ ≡ Proper n many at) × (n ≤ 6)
       go true l q = let z : n₀ ≡ n = cc in (q, omega (arith, z, leb-true n₀ 6 l))
       go false l q = let z : _≡_ {A = ℕ} 0 1 = cc in absurd (omega arith)
   proper-stands (Improper number place) n many at e = let z : _≡_ {A = ℕ} 0 1 = cc in absurd (omega arith)
@@ -159,7 +169,8 @@ module _ (formula proof : List ℕ) where
   unfolding small wordVerdict
   words-agree = go (sixOnly formula (header formula)) refl
     where
-      go : (h : Header) → sixOnly formula (header formula) ≡ h → said (checkAfterHeader inRecords enough formula proof h) ≡ wordsAfterHeader formula proof h
+      go : (h : Header) → sixOnly formula (header formula) ≡ h → said (checkAfterHeader inRecords enough formula proof h) ≡ wordsAfterHeader
+          formula proof h
       go (Proper n many at) e =
           let (is, six) = proper-stands (header formula) n many at e in
           clauses-said enough n (omega arith) six proof formula many (clausesFrom formula n many at) emptied [] [] (opened is) [] tt

@@ -1,8 +1,8 @@
 -- The lists that the code works in, as the state that they hold. No call open to others cites this file.
 use mathlib.Core.Path.{_≡_}
 use mathlib.Core.Logic.{_≢_}
-use mathlib.Core.Bool.{Bool, true, false, not, _&&_, _||_, cond}
-use mathlib.Core.List.{List, [], _∷_}
+use mathlib.Core.Bool.{not, _&&_, _||_, cond}
+use mathlib.Core.List.{List}
 use Prim.Native.Nat.{ℕ, suc, _+_, _*_, _≤_, _<_}
 use lib.ListN.{length, take}
 use lib.Dec.{eqb, leb}
@@ -21,8 +21,8 @@ use Rattle.small.specs.declared.Start.{Start}
 use Rattle.small.specs.declared.Start.the-variants as start
 use Rattle.small.specs.declared.SmallChecked.{SmallChecked}
 use Rattle.small_verdict.specs.Agrees.{Said}
-use Rattle.small_verdict.specs.Small.{SmallOutcome}
-use Rattle.small.specs.WordSteps.{WordState, WordStep, onward, halt, withWord, wordsBegun, lineOf, wordJudged, wordLine, wordRecords, formulaRefused}
+use Rattle.small.specs.WordSteps.{WordState, WordStep, onward, halt, withWord, wordsBegun, lineOf, wordJudged, wordLine}
+use Rattle.small.specs.WordSteps.{wordRecords, formulaRefused}
 
 pub record WordsLent : Type 0 where
   pub members : List ℕ
@@ -150,17 +150,3 @@ Tested ws step by (made.Word g) = (step ≡ wordJudged ws g (by g)) × (g ≢ on
 
 abbrev pub LineTested : WordState → Rule → ℕ → Made → Type 0
 LineTested ws rule root m = Tested ws (wordLine ws rule root) (lineOf ws rule) m
-
--- ---- the call
-
-abbrev pub smallOutcome : List ℕ → List ℕ → List ℕ → SmallChecked → SmallOutcome
-smallOutcome members struck scratch r = record {
-  number = r .number;
-  inProof = r .in_proof;
-  place = r .place;
-  lines = r .lines;
-  rounds = r .rounds;
-  members = members;
-  struck = struck;
-  scratch = scratch;
-}

@@ -1,8 +1,8 @@
--- The check over words: the state between records, what each record comes to, and the whole run. Theorem `words-agree` says that it comes to
--- what `small` says. No call open to others cites this file.
+-- The check over words: the state between records, the result of each record, and the whole run. Theorem `words-agree` shows that it is
+-- `small`. No call open to others cites this file.
 use mathlib.Core.Bool.{Bool, true, false, not, _&&_, _||_, cond}
 use mathlib.Core.List.{List, [], _∷_, _++_}
-use Prim.Native.Nat.{ℕ, zero, suc, _+_, _-_, _^_}
+use Prim.Native.Nat.{ℕ, zero, suc, _+_}
 use lib.ListN.{length, getD, set, replicate}
 use lib.Dec.{eqb, ltb, leb}
 use Rattle.meaning.specs.Rules.{Line, rup, pr}

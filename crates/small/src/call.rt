@@ -6,7 +6,7 @@ use dimacs::Header;
 use words::Literals;
 ghost use mathlib.Core.Path.{_≡_};
 ghost use mathlib.Core.Bool.{true};
-ghost use mathlib.Core.List.{List, []};
+ghost use mathlib.Core.List.{[]};
 ghost use Prim.Native.Nat.{_≤_};
 ghost use lib.ListN.{length, replicate};
 ghost use Rattle.dimacs.specs.declared.Header.{Header};
@@ -14,7 +14,8 @@ ghost use Rattle.dimacs.specs.Header.{header};
 ghost use Rattle.dimacs.specs.Clauses.{clausesFrom};
 ghost use Rattle.small_verdict.specs.Small.{sixOnly, smallFits, smallCall};
 ghost use Rattle.small.specs.WordSteps.{wordClauses, wordVerdict};
-ghost use Rattle.small.specs.Lent.{saidOf, smallOutcome};
+ghost use Rattle.small.specs.Checked.{smallOutcome};
+ghost use Rattle.small.specs.Lent.{saidOf};
 
 fn clear_words(list: &mut [u64])
     ensures { λ _. ⌜ now (list .exit) ≡ replicate (length (now (list .entry))) 0 ⌝ }
@@ -139,7 +140,7 @@ fn run<'a>(
     }
 }
 
-// The check of a small book. What it says and leaves is the definition's.
+// The check of a formula of at most six variables: the definition's outcome.
 pub fn call<'a>(
     members: &mut [u64],
     struck: &mut [u8],

@@ -1,4 +1,4 @@
-// Small books by truth table: the check of a formula of at most six variables over 64-bit words, with no nodes.
+// The check of a formula of at most six variables by truth table: each function is a 64-bit word, and there are no nodes. (02, 14/14)
 use words::Literals;
 
 pub mod call;
@@ -37,7 +37,7 @@ pub enum Start {
     Refused { number: u8, place: usize },
 }
 
-// What the check says: 01's number, whether its place is in the proof (else in the formula), the place, the accepted lines and their rounds.
+// The answer: 01's number, whether its place is in the proof (else in the formula), the place, the accepted lines and their rounds.
 #[repr(C)]
 pub struct SmallChecked {
     pub number: u8,

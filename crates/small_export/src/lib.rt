@@ -1,7 +1,7 @@
 // The check by truth table for Rust and C to link, alone: it has the call's contract, and what number 0 means.
 use small::SmallChecked;
 ghost use mathlib.Core.Path.{_≡_};
-ghost use Rattle.small.specs.Lent.{smallOutcome};
+ghost use Rattle.small.specs.Checked.{smallOutcome};
 ghost use Rattle.small_verdict.specs.Small.{smallCall};
 ghost use Rattle.verdict.specs.Satisfies.{Unsatisfiable};
 

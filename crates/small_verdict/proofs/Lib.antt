@@ -1,5 +1,4 @@
 pub mod Never
-pub mod Reduced
 pub mod FewPaths
 pub mod Roomy
 pub mod Agreement

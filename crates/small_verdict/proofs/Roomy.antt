@@ -1,11 +1,11 @@
--- A check in records of a formula of at most six variables is not refused for room in a table of more than 2^64 places, nor for the paths of a
--- line. The idea: a table in good order of six variables has at most 2^64 nodes, so that no placing finds it full; a diagram of six variables has at
--- most 64 paths. Assumes nothing.
+-- A check in records of a formula of at most six variables is not refused for room in a table of more than 2^64 places, nor for the paths
+-- of a line. The idea: a table in good order of six variables has at most 2^64 nodes, so that no placing finds it full; a diagram of six
+-- variables has at most 64 paths. Assumes nothing.
 use mathlib.Core.Path.{_≡_, refl, sym, ap, ap₂, _∙_, subst}
 use mathlib.Core.Logic.{_≢_}
 use mathlib.Core.Bool.{Bool, true, false, not, _&&_, _||_, cond}
-use mathlib.Core.List.{List, [], _∷_, _++_}
-use Prim.Native.Nat.{ℕ, zero, suc, _+_, _^_, _≤_, _<_, max}
+use mathlib.Core.List.{List, [], _∷_}
+use Prim.Native.Nat.{ℕ, suc, _+_, _^_, _≤_, _<_, max}
 use native.Mathlib.Omega.{arith}
 use lib.ListN.{length}
 use lib.Dec.{eqb, ltb, leb}
@@ -19,7 +19,7 @@ use Rattle.meaning.proofs.Values.{reduced-to, diagram-reduced}
 use Rattle.meaning.proofs.Ends.{AllReduced}
 use Rattle.paths.specs.Paths.{pathLine, pathCount}
 use Rattle.table.specs.Nodes.{Node, at, above, Placing, full, placed, put, place}
-use Rattle.table.specs.Making.{Room, short, all, afterPlacing, placedAll, Reach, reached, thenReach, turnsReach, keptReach, lineReach}
+use Rattle.table.specs.Making.{Room, short, all, afterPlacing, placedAll, reached, turnsReach, keptReach, lineReach}
 use Rattle.table.proofs.Order.{Ordered, above-true}
 use Rattle.table.proofs.Numbers.{UsesTo}
 use Rattle.table.proofs.Numbers as numbers
@@ -34,14 +34,17 @@ use Rattle.records.specs.declared.SetBody.{SetBody}
 use Rattle.records.specs.declared.Rule.{Rule}
 use Rattle.records.specs.declared.Rule.the-variants.{Rup, Pr, Path}
 use Rattle.records.specs.declared.Record.{Record}
-use Rattle.records.specs.declared.Record.the-variants.{NodeEntry, Witness, ProofLine, Strike, SetEntry, End, CutShort, UnknownKind, NoRecord}
+use Rattle.records.specs.declared.Record.the-variants.{NodeEntry, Witness, ProofLine, Strike, SetEntry, End, CutShort, UnknownKind}
+use Rattle.records.specs.declared.Record.the-variants.{NoRecord}
 use Rattle.records.specs.Records.{recordAt, lengthOf}
 use Rattle.commands.specs.Commands.{inRecords}
-use Rattle.verdict.specs.Steps.{State, Step, next, stop, spent, isEntry, entryNode, isVariable, entered, nodeStep, witnessStep, waiting, accepted, judged, diagramIn, liveMembers, lineStep, isLive, strikeStep, beyond, noParity, setDiagram, setStep, endStep, recordStep}
+use Rattle.verdict.specs.Steps.{State, Step, next, stop, spent, isEntry, entryNode, isVariable, entered, nodeStep, witnessStep, waiting}
+use Rattle.verdict.specs.Steps.{accepted, judged, diagramIn, liveMembers, lineStep, isLive, strikeStep, beyond, noParity, setDiagram}
+use Rattle.verdict.specs.Steps.{setStep, endStep, recordStep}
 use Rattle.verdict.specs.Check.{step, Verdict, verdict}
 use Rattle.verdict.specs.Taken.{Function, Meant}
-use Rattle.verdict.specs.Run.{Making, opened, made, commandIn, Reached, begins, goes, Ended, no-header, not-read, no-room, stopped, tried}
-use Rattle.verdict.proofs.Formula.{Early, NamedHeader, header-named, either}
+use Rattle.verdict.specs.Run.{Making, opened, made, Reached, begins, goes, Ended, no-header, not-read, no-room, stopped, tried}
+use Rattle.verdict.proofs.Formula.{Early, NamedHeader, header-named}
 use Rattle.verdict.proofs.Uses.{UsesAfter, place-uses}
 use Rattle.verdict.proofs.Standing.{Standing, entry-valued, over-reduced}
 use Rattle.verdict.proofs.SetValues.{set-reduced}
@@ -50,14 +53,20 @@ use Rattle.verdict.proofs.Ends.{reached-standing, ended}
 use Rattle.verdict.proofs.Numbers.{making-refused}
 use Rattle.small_verdict.proofs.FewPaths.{few-paths}
 use Rattle.small_verdict.proofs.Never.{never-full}
-use Rattle.small_verdict.proofs.Reduced.{AllTurns, rup-reduced, pr-reduced, path-reduced}
+use Rattle.room.proofs.Reduced.{AllTurns, rup-reduced, pr-reduced, path-reduced}
 
 -- The numbers that speak of sizes: of the lent lists (7), of the table (8, 23), of a line's paths (34).
 abbrev pub isOfSize : ℕ → Bool
 isOfSize number = eqb number 7 || (eqb number 8 || (eqb number 23 || eqb number 34))
 
 pub not-of-size : (number : ℕ) → isOfSize number ≡ false → (number ≢ 7) × (number ≢ 8) × (number ≢ 23) × (number ≢ 34)
-not-of-size number e = (λ q. t≢f (sym (ap isOfSize q) ∙ e), λ q. t≢f (sym (ap isOfSize q) ∙ e), λ q. t≢f (sym (ap isOfSize q) ∙ e), λ q. t≢f (sym (ap isOfSize q) ∙ e))
+not-of-size number e = (
+  λ q. t≢f (sym (ap isOfSize q) ∙ e),
+  λ q. t≢f (sym (ap isOfSize q) ∙ e),
+  λ q. t≢f (sym (ap isOfSize q) ∙ e),
+  λ q. t≢f
+      (sym (ap isOfSize q) ∙ e),
+)
 
 module _ (s n : ℕ) (large : 2 ^ 64 < s) (six : n ≤ 6) where
   -- ---- nodes
@@ -100,7 +109,8 @@ module _ (s n : ℕ) (large : 2 ^ 64 < s) (six : n ≤ 6) where
   list-found [] t F o = F
   list-found (f ∷ fs) t F o = go (place s t f) (place-found t F f (o .0)) (λ t₁ F₁. list-found fs t₁ F₁ (o .1))
     where
-      go : (p : Placing) → Found p → ((t₁ : List Node) → Fine t₁ → AllFound (placedAll s t₁ fs)) → AllFound (afterPlacing p (λ t₁. placedAll s t₁ fs))
+      go : (p : Placing) → Found p → ((t₁ : List Node) → Fine t₁ → AllFound (placedAll s t₁ fs)) → AllFound
+          (afterPlacing p (λ t₁. placedAll s t₁ fs))
       go (full t₁) F₁ rec = absurd F₁
       go (placed t₁ k) F₁ rec = rec t₁ F₁
 
@@ -114,7 +124,8 @@ module _ (s n : ℕ) (large : 2 ^ 64 < s) (six : n ≤ 6) where
   turns-fit (fs ∷ later) t F o = ap₂ _&&_ (reached-fits (placedAll s t fs) (list-found fs t F (o .0))) (turns-fit later t F (o .1))
 
   -- LAW: what a line makes finds room.
-  pub line-fits : (t : List Node) → Fine t → (line : Line) → AllReduced n (line .kept) × AllTurns n (line .turns) → lineReach s t line .fits ≡ true
+  pub line-fits : (t : List Node) → Fine t → (line : Line) → AllReduced n (line .kept) × AllTurns n (line .turns) → lineReach s t line .fits
+      ≡ true
   unfolding lineReach
   line-fits t F line o = go (placedAll s t (line .kept)) (list-found (line .kept) t F (o .0))
     where
@@ -130,11 +141,13 @@ module _ (s n : ℕ) (large : 2 ^ 64 < s) (six : n ≤ 6) where
   Roomy (stop number offset) = isOfSize number ≡ false
   Roomy (spent number peak) = number ≡ 19
 
-  refuses : (c : Bool) (number offset : ℕ) (r : Step) → isOfSize number ≡ false → (c ≡ false → Roomy r) → Roomy (cond c (stop number offset) r)
+  refuses : (c : Bool) (number offset : ℕ) (r : Step) → isOfSize number ≡ false → (c ≡ false → Roomy r) → Roomy
+      (cond c (stop number offset) r)
   refuses true number offset r p q = p
   refuses false number offset r p q = q refl
 
-  requires-of : (c : Bool) (number offset : ℕ) (r : Step) → isOfSize number ≡ false → (c ≡ true → Roomy r) → Roomy (cond (not c) (stop number offset) r)
+  requires-of : (c : Bool) (number offset : ℕ) (r : Step) → isOfSize number ≡ false → (c ≡ true → Roomy r) → Roomy
+      (cond (not c) (stop number offset) r)
   requires-of true number offset r p q = q refl
   requires-of false number offset r p q = p
 
@@ -152,7 +165,8 @@ module _ (s n : ℕ) (large : 2 ^ 64 < s) (six : n ≤ 6) where
     entered-roomy (placed t k) F = tt
 
     node-put : (b : NodeBody) → isEntry st (b .low .0) ≡ true → isEntry st (b .high .0) ≡ true
-        → above (st .nodes) (b .variable) (entryNode st (b .low .0)) ≡ true → above (st .nodes) (b .variable) (entryNode st (b .high .0)) ≡ true
+        → above (st .nodes) (b .variable) (entryNode st (b .low .0)) ≡ true → above (st .nodes) (b .variable) (entryNode st (b .high .0)) ≡
+        true
         → 1 ≤ b .variable → b .variable ≤ n → Found (put s (st .nodes) (b .variable) (entryNode st (b .low .0)) (entryNode st (b .high .0)))
     node-put b low high over-low over-high least most =
         let l : ℕ = entryNode st (b .low .0) in
@@ -161,7 +175,8 @@ module _ (s n : ℕ) (large : 2 ^ 64 < s) (six : n ≤ 6) where
         let high-in : h < length (st .nodes) = entry-valued S (b .high .0) high .0 in
         subst Found (sym (put-place s (st .nodes) (S .ordered) (b .variable) l h low-in high-in))
         (place-found (st .nodes) fine _
-        (over-reduced S (b .variable) l h low-in high-in least (above-true (st .nodes) (b .variable) l over-low) (above-true (st .nodes) (b .variable) h over-high) n (S .uses) most))
+        (over-reduced S (b .variable) l h low-in high-in least (above-true (st .nodes) (b .variable) l over-low)
+        (above-true (st .nodes) (b .variable) h over-high) n (S .uses) most))
 
     judged-roomy : (g : ℕ) (line : Line) → AllReduced n (line .kept) × AllTurns n (line .turns) → Roomy (judged s st g line)
     unfolding judged
@@ -183,7 +198,8 @@ module _ (s n : ℕ) (large : 2 ^ 64 < s) (six : n ≤ 6) where
         let (least, most) = and-both (leb 1 (b .variable)) (leb (b .variable) n) variable in
         let (low, high) = and-both (isEntry st (b .low .0)) (isEntry st (b .high .0)) entries in
         let (over-low, over-high) = and-both (above (st .nodes) (b .variable) l) (above (st .nodes) (b .variable) h) over in
-        entered-roomy (put s (st .nodes) (b .variable) l h) (node-put b low high over-low over-high (leb-true 1 (b .variable) least) (leb-true (b .variable) n most))
+        entered-roomy (put s (st .nodes) (b .variable) l h) (node-put b low high over-low over-high (leb-true 1 (b .variable) least)
+        (leb-true (b .variable) n most))
 
     witness-roomy : (v : ℕ) (b : Bool) → Roomy (witnessStep n st v b)
     unfolding witnessStep
@@ -195,8 +211,13 @@ module _ (s n : ℕ) (large : 2 ^ 64 < s) (six : n ≤ 6) where
     root-few : (root : ℕ) → isEntry st root ≡ true → ltb 4096 (pathCount (diagramIn st (entryNode st root))) ≡ false
     root-few root there =
         let g : ℕ = entryNode st root in
-        let o : Reduced 1 (suc n) (diagramIn st g) = numbers.reduced-to n (st .nodes) (S .ordered) (S .uses) g (entry-valued S root there .0) in
-        le-ltb 4096 (pathCount (diagramIn st g)) (omega (arith, few-paths (diagramIn st g) (reduced-to 1 (suc n) 7 (diagramIn st g) (omega arith) o)))
+        let o : Reduced 1 (suc n) (diagramIn st g) = numbers.reduced-to n (st .nodes) (S .ordered) (S .uses) g
+        (entry-valued S root there .0) in
+        le-ltb 4096 (pathCount (diagramIn st g)) (omega (
+          arith,
+          few-paths (diagramIn st g)
+              (reduced-to 1 (suc n) 7 (diagramIn st g) (omega arith) o),
+        ))
 
     line-roomy : (rule : Rule) (root : ℕ) → Roomy (lineStep n s st rule root)
     unfolding lineStep
@@ -237,7 +258,8 @@ module _ (s n : ℕ) (large : 2 ^ 64 < s) (six : n ≤ 6) where
         refuses (leb 4096 (length (st .entries))) 21 0 _ refl λ _.
         refuses (beyond n (b .set)) 12 0 _ refl λ _.
         refuses (noParity kind (b .byte)) 29 0 _ refl λ _.
-        entered-roomy (place s (st .nodes) (setDiagram n kind b)) (place-found (st .nodes) fine (setDiagram n kind b) (set-reduced n kind b))
+        entered-roomy (place s (st .nodes) (setDiagram n kind b)) (place-found (st .nodes) fine (setDiagram n kind b)
+        (set-reduced n kind b))
 
     end-roomy : (more : Bool) → Roomy (endStep st more)
     unfolding endStep
@@ -266,11 +288,13 @@ unfolding meaning.clause
 clause-reduced n ls = diagram-reduced n (meaning.clauseValue ls)
 
 module _ (s : ℕ) (text proof : List ℕ) where
-  making-header : {n many : ℕ} {t : List Node} {ms : List ℕ} {fs : List Function} {r : Reading} → Making s text n many t ms fs r → (at : ℕ) × (header text ≡ Proper n many at)
+  making-header : {n many : ℕ} {t : List Node} {ms : List ℕ} {fs : List Function} {r : Reading} → Making s text n many t ms fs r → (at : ℕ)
+      × (header text ≡ Proper n many at)
   making-header (opened {at} e) = (at, e)
   making-header (made M e) = making-header M
 
-  reached-header : {n : ℕ} {st : State} {at : ℕ} {m : Meant} → Reached inRecords s text proof n st at m → (many : ℕ) × (end : ℕ) × (header text ≡ Proper n many end)
+  reached-header : {n : ℕ} {st : State} {at : ℕ} {m : Meant} → Reached inRecords s text proof n st at m → (many : ℕ) × (end : ℕ) ×
+      (header text ≡ Proper n many end)
   reached-header (begins {many} M) = let (end, e) = making-header M in (many, end, e)
   reached-header (goes R T) = reached-header R
 
@@ -285,7 +309,13 @@ module _ (s : ℕ) (large : 2 ^ 64 < s) (text proof : List ℕ) (small : AtMostS
 
   early-roomy : (number : ℕ) → Early number → isOfSize number ≡ false
   early-roomy number named =
-      rw (ne-eqb number 7 (λ q. omega arith), ne-eqb number 8 (λ q. omega arith), ne-eqb number 23 (λ q. omega arith), ne-eqb number 34 (λ q. omega arith))
+      rw (
+        ne-eqb number 7 (λ q. omega arith),
+        ne-eqb number 8 (λ q. omega arith),
+        ne-eqb number 23 (λ q. omega arith),
+        ne-eqb number 34
+            (λ q. omega arith),
+      )
 
   ended-roomy : (v : Verdict) → Ended inRecords s text proof v → NotRoom v
   unfolding step
@@ -295,13 +325,16 @@ module _ (s : ℕ) (large : 2 ^ 64 < s) (text proof : List ℕ) (small : AtMostS
       let six : n ≤ 6 = subst AtMostSix (making-header s text proof M .1) small in
       let S : Standing s n _ _ = underway s text n many M .standing in
       absurd (subst (Found s n large six) e
-      (place-found s n large six t (record { ordered = S .ordered; uses = S .uses; room = S .room (omega arith) }) (meaning.clause n ls) (clause-reduced n ls)))
+      (place-found s n large six t (record { ordered = S .ordered; uses = S .uses; room = S .room (omega arith) }) (meaning.clause n ls)
+      (clause-reduced n ls)))
   ended-roomy _ (stopped {n} {number} {offset} {at} {st} {m} R e) =
       let six : n ≤ 6 = subst AtMostSix (reached-header s text proof R .2) small in
-      subst (Roomy s n large six) e (record-roomy s n large six m st (reached-standing inRecords s text proof R .1) (ltb (at + lengthOf (recordAt proof at)) (length proof)) (recordAt proof at))
+      subst (Roomy s n large six) e (record-roomy s n large six m st (reached-standing inRecords s text proof R .1)
+      (ltb (at + lengthOf (recordAt proof at)) (length proof)) (recordAt proof at))
   ended-roomy _ (tried {n} {number} {peak} {at} {st} {m} R e) =
       let six : n ≤ 6 = subst AtMostSix (reached-header s text proof R .2) small in
-      let is : number ≡ 19 = subst (Roomy s n large six) e (record-roomy s n large six m st (reached-standing inRecords s text proof R .1) (ltb (at + lengthOf (recordAt proof at)) (length proof)) (recordAt proof at)) in
+      let is : number ≡ 19 = subst (Roomy s n large six) e (record-roomy s n large six m st (reached-standing inRecords s text proof R .1)
+      (ltb (at + lengthOf (recordAt proof at)) (length proof)) (recordAt proof at)) in
       ap isOfSize is
 
   -- THEOREM: with more than 2^64 places a check of at most six variables is refused neither for room nor for the paths of a line.

@@ -10,7 +10,6 @@ use Rattle.paths.specs.Paths.{pathLine, pathCount}
 use Rattle.table.specs.Nodes.{place, above, diagramAt}
 use Rattle.dimacs.specs.Clauses.{clausesFrom}
 use Rattle.records.specs.Records.{recordAt}
-use Rattle.verdict.specs.Check.{verdict}
 use Rattle.small_verdict.specs.Small.{small}
 use Rattle.small_verdict.specs.Rows.{SmallGivesAll, sizeTable, recordTable}
 
@@ -21,5 +20,6 @@ sizes = (refl, (refl, (refl, (refl, (refl, tt)))))
 
 -- "reads records as before"
 pub records : SmallGivesAll recordTable
-unfolding small clausesFrom place clause diagramFrom same? recordAt above rup pr witnessed valueFrom diagramAt ℕ-discrete inWord parity atLeast pathLine pathCount
+unfolding small clausesFrom place clause diagramFrom same? recordAt above rup pr witnessed valueFrom diagramAt ℕ-discrete inWord parity
+    atLeast pathLine pathCount
 records = (refl, (refl, (refl, (refl, (refl, (refl, (refl, (refl, (refl, (refl, (refl, (refl, tt))))))))))))

@@ -1,6 +1,6 @@
 -- Rows of the check by truth table: what is said of a formula and a proof. (02, 14/14)
 use mathlib.Core.Path.{_≡_}
-use mathlib.Core.Bool.{Bool, true, false}
+use mathlib.Core.Bool.{true, false}
 use mathlib.Core.List.{List, [] as []ᴸ, _∷_ as _∷ᴸ_}
 use Prim.Native.Nat.{ℕ}
 use Prim.Native.String.{String}
@@ -36,8 +36,8 @@ abbrev pub SmallGivesAll : List SmallRow → Type 0
 SmallGivesAll []ᴸ = Unit {0}
 SmallGivesAll (row ∷ᴸ rows) = (said (small (bytes (row .formula)) (row .proof)) ≡ row .says) × SmallGivesAll rows
 
--- Seven variables: with a literal beyond the header as well (4), with none used and no end record (10), with 1,025 clauses, after a comment;
--- an incomplete header comes first (1). Six variables and a literal beyond them.
+-- Seven variables: with a literal beyond the header as well (4); with none used and no end record (10); with 1,025 clauses, after a
+-- comment. An incomplete header is refused first (1). Six variables, and a literal beyond them.
 abbrev pub sizeTable : List SmallRow
 sizeTable =
     formulaRow "p cnf 7 1\n8 0\n" end 2 0
@@ -47,10 +47,10 @@ sizeTable =
     ∷ᴸ formulaRow "p cnf 6 1\n7 0\n" end 4 10
     ∷ᴸ []ᴸ
 
--- Each kind of record: node entries and RUP lines (case A); path lines; a witness and a PR line, taken (case E) and refused (case D); a striking;
--- a parity that follows by its paths, of RUP lines not; at least two of three by an at-least entry (case I); an odd number of six variables. Two
--- faults at once: a waiting witness (16) before a member that does not exist (28); an end record with a byte after it (11) before 20; an unknown
--- kind (9).
+-- Each kind of record: node entries and RUP lines (case A); path lines; a witness and a PR line, accepted (case E) and refused (case D);
+-- a striking; a parity that a path line shows and a RUP line does not; at least two of three by an at-least entry (case I); an odd number
+-- of six variables. Two faults at once: a waiting witness (16) before a member that does not exist (28); a byte after the end record (11)
+-- before 20. An unknown kind (9).
 abbrev pub recordTable : List SmallRow
 recordTable =
     proofRow A-formula A-proof 0 12 2 1

@@ -1,1 +1,1 @@
-// A table of six variables never has more than 2^64 nodes, so that a larger one is never full: laws, no code.
+// The check of a formula of at most six variables by truth table, defined; and theorems about it: no code. (02, 14/14)

@@ -170,7 +170,8 @@ says-most t line a b r t′ le J = record {
 }
 
 -- What judging says, once its nodes are dropped.
-pub tried : (t : Table) → Good t → (line : Line) (r : Judged) (t₁ t₂ : Table) → LineSays t line mostRounds r t₁ → t₂ ≡ droppedTo (t .count) t₁ →
+pub tried : (t : Table) → Good t → (line : Line) (r : Judged) (t₁ t₂ : Table) → LineSays t line mostRounds r t₁ → t₂
+    ≡ droppedTo (t .count) t₁ →
     (t₂ ≡ t) × Tried t line r
 tried t G line r t₁ t₂ J e = (
   e ∙ undone t G t₁ (extended-longer t t₁ G (J .extended)),

@@ -1,4 +1,5 @@
--- A clause that a text adds is accepted exactly where RUP or RAT over clauses accepts it, the table having room. The idea: the step asks the two
+-- A clause that a text adds is accepted exactly where RUP or RAT over clauses accepts it, the table having room. The idea: the step asks
+-- the two
 -- tries one after the other, and clausal/proofs/Tries says what they come to. Assumes nothing.
 use mathlib.Core.Path.{_≡_, refl, sym, subst}
 use mathlib.Core.Logic.{_↔_}
@@ -11,13 +12,14 @@ use Rattle.meaning.specs.Operations as meaning
 use Rattle.meaning.specs.Rules.{Line, rup}
 use Rattle.meaning.proofs.Booleans.{t≢f}
 use Rattle.meaning.specs.Literals.{OfVariables}
+use Rattle.table.specs.Making.{lineReach}
 use Rattle.table.specs.Nodes.{Node}
 use Rattle.clausal.specs.Drat.{Clause, Plain, AllPlain, Accepted}
 use Rattle.clausal.specs.Tries.{shownBy}
 use Rattle.clausal.proofs.Literals.{AllOfVariables}
 use Rattle.clausal.proofs.Rest.{plain-not-one}
 use Rattle.clausal.proofs.Tries.{two-tries}
-use Rattle.verdict.specs.Steps.{State, next, spent, judged, liveMembers}
+use Rattle.verdict.specs.Steps.{State, Step, next, spent, judged, liveMembers}
 use Rattle.verdict.specs.Steps.{withEntry}
 use Rattle.verdict.specs.Clausal.{judgedOr, secondLine, secondTry, afterFirst, tries, addStep}
 use Rattle.verdict.specs.ClauseTaken.{GoesOn, HasRoom}
@@ -38,24 +40,31 @@ module _ (n s : ℕ) (st : State) (t : List Node) (k : ℕ) where
 
   -- what the tries come to
   tries-shown : (c : Clause) → HasRoom n s st c t k
-      → (GoesOn (tries false n s after k c) → shownBy n (liveMembers after) c ≡ true) × (shownBy n (liveMembers after) c ≡ true → GoesOn (tries false n s after k c))
+      → (GoesOn (tries false n s after k c) → shownBy n (liveMembers after) c ≡ true)
+      × (shownBy n (liveMembers after) c ≡ true → GoesOn (tries false n s after k c))
   unfolding tries judgedOr afterFirst secondTry judged shownBy
   tries-shown [] R = rw (R .first-fits) (go (rup n (liveMembers after) (meaning.clause n []) .shown) _ _)
     where
-      go : (b : Bool) (x : State) (peak : ℕ) → (GoesOn (cond (not b) (spent 19 peak) (next x)) → b ≡ true) × (b ≡ true → GoesOn (cond (not b) (spent 19 peak) (next x)))
+      go : (b : Bool) (x : State) (peak : ℕ) → (GoesOn (cond (not b) (spent 19 peak) (next x)) → b ≡ true)
+          × (b ≡ true → GoesOn (cond (not b) (spent 19 peak) (next x)))
       go true x peak = ((λ g. refl), (λ e. tt))
       go false x peak = ((λ g. absurd g), (λ e. t≢f (sym e)))
   tries-shown (p ∷ ls) R =
-      rw (R .first-fits, R .second-fits) (go (rup n (liveMembers after) (meaning.clause n (p ∷ ls)) .shown) (secondLine n (liveMembers after) p ls .shown) _ _ _)
+      rw (R .first-fits) (go (rup n (liveMembers after) (meaning.clause n (p ∷ ls)) .shown) (secondLine n (liveMembers after) p ls .shown)
+      (lineReach s t (secondLine n (liveMembers after) p ls) .fits) (R .second-fits) _ _ _)
     where
-      go : (a b : Bool) (x y : State) (peak : ℕ)
-          → (GoesOn (cond (not a) (cond (not b) (spent 19 peak) (next y)) (next x)) → (a || b) ≡ true)
-          × ((a || b) ≡ true → GoesOn (cond (not a) (cond (not b) (spent 19 peak) (next y)) (next x)))
-      go true b x y peak = ((λ g. refl), (λ e. tt))
-      go false true x y peak = ((λ g. refl), (λ e. tt))
-      go false false x y peak = ((λ g. absurd g), (λ e. t≢f (sym e)))
+      judgedBy : (a b fits : Bool) (x y : State) (peak : ℕ) → Step
+      judgedBy a b fits x y peak = cond (not a) (cond (not fits) (spent 23 peak) (cond (not b) (spent 19 peak) (next y))) (next x)
 
-  -- THEOREM: "for clauses and members without both signs of a variable the two tries accept exactly what RUP and RAT over clauses accept, the
+      go : (a b fits : Bool) → (a ≡ false → fits ≡ true) → (x y : State) (peak : ℕ)
+          → (GoesOn (judgedBy a b fits x y peak) → (a || b) ≡ true) × ((a || b) ≡ true → GoesOn (judgedBy a b fits x y peak))
+      go true b fits room x y peak = ((λ g. refl), (λ e. tt))
+      go false b false room x y peak = t≢f (sym (room refl))
+      go false true true room x y peak = ((λ g. refl), (λ e. tt))
+      go false false true room x y peak = ((λ g. absurd g), (λ e. t≢f (sym e)))
+
+  -- THEOREM: "for clauses and members without both signs of a variable the two tries accept exactly what RUP and RAT over clauses accept,
+  -- the
   -- table having room." F are the clauses of the live members.
   pub clause-accepted : (F : List Clause) → liveMembers (withEntry st t k) ≡ map (meaning.clause n) F → AllOfVariables n F → AllPlain F
       → (c : Clause) → OfVariables n c → Plain c → HasRoom n s st c t k → GoesOn (addStep false n s st c) ↔ Accepted F c

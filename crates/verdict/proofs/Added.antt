@@ -1,6 +1,6 @@
--- A clause that a text adds is taken exactly where it passes what `ClauseTaken` names; it keeps what holds in every state, and an assignment for the
--- live members gives one for them and the clause. The idea: `rup-sound` for the first try, `pr-sound` for the second, whose witness makes the clause
--- 1 by its pivot. Assumes nothing.
+-- A clause that a text adds is taken exactly where it passes what `ClauseTaken` names; it keeps what holds in every state, and an
+-- assignment for the live members gives one for them and the clause. The idea: `rup-sound` for the first try, `pr-sound` for the second,
+-- whose witness makes the clause 1 by its pivot. Assumes nothing.
 use mathlib.Core.Path.{_≡_, refl, sym, ap, ap₂, _∙_, subst}
 use mathlib.Core.Logic.{inl, inr, _↔_}
 use mathlib.Core.Bool.{Bool, true, false, not, cond}
@@ -63,7 +63,8 @@ module _ (profile : Bool) (n s : ℕ) (st : State) (k : ℕ) (st′ : State) whe
   unfolding afterFirst secondTry
   second-taken true ls fits failed e = spent-not-next 19 (peakWith s st (first ls)) st′ e
   second-taken false [] fits failed e = spent-not-next 19 (peakWith s st (first [])) st′ e
-  second-taken false (p ∷ ls) fits failed e = record { room = fits; failed = failed; passes = judged-taken s _ k (secondLine n (liveMembers st) p ls) st′ e }
+  second-taken false (p ∷ ls) fits failed e = record
+      { room = fits; failed = failed; passes = judged-taken s _ k (secondLine n (liveMembers st) p ls) st′ e }
 
   tries-taken : (ls : List meaning.Literal) → tries profile n s st k ls ≡ next st′ → TriesTaken profile n s st k ls st′
   unfolding tries judgedOr
@@ -72,7 +73,8 @@ module _ (profile : Bool) (n s : ℕ) (st : State) (k : ℕ) (st′ : State) whe
       go fits (first ls .shown) refl e₁
     where
       go : lineReach s (st .nodes) (first ls) .fits ≡ true → (b : Bool) → first ls .shown ≡ b
-          → cond (not b) (afterFirst profile n s st k ls (peakWith s st (first ls))) (next (accepted st k (first ls) (peakWith s st (first ls)))) ≡ next st′
+          → cond (not b) (afterFirst profile n s st k ls (peakWith s st (first ls)))
+          (next (accepted st k (first ls) (peakWith s st (first ls)))) ≡ next st′
           → TriesTaken profile n s st k ls st′
       go fits true shown e = inl (record { fits = fits; shown = shown; is = next-is e })
       go fits false failed e = inr (second-taken profile ls fits failed e)
@@ -85,12 +87,14 @@ module _ (profile : Bool) (n s : ℕ) (st : State) (k : ℕ) (st′ : State) whe
   taken-tries false (p ∷ ls) (inr T) = rw (T .room, T .failed) (taken-judged s _ k (secondLine n (liveMembers st) p ls) st′ (T .passes))
 
   -- whichever passes, the clause is accepted
-  pub tries-accepted : (q : Bool) (ls : List meaning.Literal) → TriesTaken q n s st k ls st′ → (line : Line) × (peak : ℕ) × (accepted st k line peak ≡ st′)
+  pub tries-accepted : (q : Bool) (ls : List meaning.Literal) → TriesTaken q n s st k ls st′ → (line : Line) × (peak : ℕ)
+      × (accepted st k line peak ≡ st′)
   tries-accepted q ls (inl J) = (first ls, peakWith s st (first ls), J .is)
   tries-accepted true ls (inr T) = absurd T
   tries-accepted false [] (inr T) = absurd T
   tries-accepted false (p ∷ ls) (inr T) =
-      let line : Line = secondLine n (liveMembers st) p ls in (line, peakWith s (withPeak st (peakWith s st (first (p ∷ ls)))) line, T .passes .is)
+      let line : Line = secondLine n (liveMembers st) p ls in
+      (line, peakWith s (withPeak st (peakWith s st (first (p ∷ ls)))) line, T .passes .is)
 
 module _ (profile : Bool) (n s : ℕ) (st : State) (ls : List meaning.Literal) (st′ : State) where
   abbrev g : Diagram
@@ -107,12 +111,21 @@ module _ (profile : Bool) (n s : ℕ) (st : State) (ls : List meaning.Literal) (
           → onceMade st q (λ st₁ k. tries profile n s st₁ k ls) ≡ next st′ → ClauseTaken profile n s st ls st′
       go few not-one (full t) r e = spent-not-next 23 (max (st .peak) (length t)) st′ e
       go few not-one (placed t k) r e =
-          record { few = few; not-one = not-one; nodes = t; node = k; room = r; tried = tries-taken profile n s (withEntry st t k) k st′ ls e }
+          record {
+            few = few;
+            not-one = not-one;
+            nodes = t;
+            node = k;
+            room = r;
+            tried =
+                tries-taken profile n s (withEntry st t k) k st′ ls e;
+          }
 
   taken-clause : ClauseTaken profile n s st ls st′ → addStep profile n s st ls ≡ next st′
   unfolding addStep
   taken-clause T =
-      rw (lt-leb 1024 (st .lines) (T .few), T .not-one, T .room) (taken-tries profile n s (withEntry st (T .nodes) (T .node)) (T .node) st′ profile ls (T .tried))
+      rw (lt-leb 1024 (st .lines) (T .few), T .not-one, T .room)
+      (taken-tries profile n s (withEntry st (T .nodes) (T .node)) (T .node) st′ profile ls (T .tried))
 
   -- THEOREM: an added clause is taken exactly where none of 22, 17, 23 and 19 holds.
   pub clause-exactly : (addStep profile n s st ls ≡ next st′) ↔ ClauseTaken profile n s st ls st′
@@ -128,17 +141,20 @@ module _ {s n : ℕ} {m : Meant} {st : State} (S : Standing s n m st) (narrow : 
   made : Made s (st .nodes) (meaning.clause n ls) t k
   made =
       subst (After s (st .nodes) (meaning.clause n ls)) room
-      (place-after s (st .nodes) (S .ordered) (meaning.clause n ls) (reduced-to 1 (suc n) 65 (meaning.clause n ls) (omega (arith, narrow)) (clause-reduced n ls)))
+      (place-after s (st .nodes) (S .ordered) (meaning.clause n ls)
+      (reduced-to 1 (suc n) 65 (meaning.clause n ls) (omega (arith, narrow)) (clause-reduced n ls)))
 
   -- the live members keep their diagrams while the clause's is made
   pub live-same : liveMembers (withEntry st t k) ≡ liveMembers st
   live-same =
-      go (unstruck (st .struck) (st .members)) (unstruck (st .struck) (m .members)) (valued-unstruck (st .nodes) (st .kept) (st .struck) (st .members) (m .members) (S .members))
+      go (unstruck (st .struck) (st .members)) (unstruck (st .struck) (m .members))
+      (valued-unstruck (st .nodes) (st .kept) (st .struck) (st .members) (m .members) (S .members))
     where
       go : (ks : List ℕ) (fs : List Function) → Valued (st .nodes) (st .kept) ks fs → map (diagramAt t) ks ≡ map (diagramAt (st .nodes)) ks
       go [] fs W = refl
       go (j ∷ ks) [] W = absurd W
-      go (j ∷ ks) (f ∷ fs) W = ap₂ _∷_ (diagramAt-grown (st .nodes) t (S .ordered) (made .kept .extends) j (omega (arith, W .0, S .kept))) (go ks fs (W .2))
+      go (j ∷ ks) (f ∷ fs) W = ap₂ _∷_ (diagramAt-grown (st .nodes) t (S .ordered) (made .kept .extends) j (omega (arith, W .0, S .kept)))
+          (go ks fs (W .2))
 
   pub clause-grown : Extends (st .nodes) t
   clause-grown = made .kept .extends
@@ -160,7 +176,8 @@ module _ {s n : ℕ} {m : Meant} {st : State} (S : Standing s n m st) (narrow : 
           least = made .kept .ordered .two;
           kept = omega arith;
           members = valued-append t (length t) (st .members) (m .members) k (meaning.clauseValue ls)
-              (valued-grown (st .nodes) t (st .kept) (length t) (S .ordered) (made .kept .extends) (S .kept) (omega (arith, S .kept)) (st .members) (m .members) (S .members))
+              (valued-grown (st .nodes) t (st .kept) (length t) (S .ordered) (made .kept .extends) (S .kept) (omega (arith, S .kept))
+              (st .members) (m .members) (S .members))
               (made .inside) (clause-node w);
           marks = omega (arith, length-append (st .struck) (0 ∷ []), length-append (st .members) (k ∷ []), S .marks);
           entries = tt;
@@ -169,7 +186,8 @@ module _ {s n : ℕ} {m : Meant} {st : State} (S : Standing s n m st) (narrow : 
           many = omega (arith, length-append (st .members) (k ∷ []), S .many);
         })
 
-module _ {profile : Bool} {s n : ℕ} {m : Meant} {st : State} (S : Standing s n m st) (narrow : n ≤ 64) (ls : List meaning.Literal) (w : OfVariables n ls) (st′ : State)
+module _ {profile : Bool} {s n : ℕ} {m : Meant} {st : State} (S : Standing s n m st) (narrow : n ≤ 64) (ls : List meaning.Literal)
+    (w : OfVariables n ls) (st′ : State)
     (T : ClauseTaken profile n s st ls st′) where
   -- the line that passed, and its peak
   pub clause-line : (line : Line) × (peak : ℕ) × (accepted (withEntry st (T .nodes) (T .node)) (T .node) line peak ≡ st′)
@@ -177,7 +195,8 @@ module _ {profile : Bool} {s n : ℕ} {m : Meant} {st : State} (S : Standing s n
 
   -- THEOREM: the state after an added clause stands, the clause being its last member.
   pub clause-standing : Standing s n (record { members = m .members ++ meaning.clauseValue ls ∷ []; entries = [] }) st′
-  clause-standing = let (line, peak, is) = clause-line in taken-standing S narrow ls (T .nodes) (T .node) (T .room) w (T .few) line peak st′ is
+  clause-standing = let (line, peak, is) = clause-line in taken-standing S narrow ls (T .nodes) (T .node) (T .room) w (T .few) line peak st′
+      is
 
   pub clause-extends : Extends (st .nodes) (st′ .nodes)
   clause-extends =
@@ -189,21 +208,31 @@ module _ {profile : Bool} {s n : ℕ} {m : Meant} {st : State} (S : Standing s n
       → (b : Assignment) × (length b ≡ n) × Satisfies b (liveMembers st) × (meaning.clauseValue ls b ≡ true)
   clause-keeps a len sat = go profile ls w (T .not-one) (live-same S narrow ls (T .nodes) (T .node) (T .room)) (T .tried)
     where
-      go : (q : Bool) (ls : List meaning.Literal) → OfVariables n ls → same (meaning.clause n ls) (leaf true) ≡ false → liveMembers (withEntry st (T .nodes) (T .node)) ≡ liveMembers st
+      go : (q : Bool) (ls : List meaning.Literal) → OfVariables n ls → same (meaning.clause n ls) (leaf true) ≡ false →
+          liveMembers (withEntry st (T .nodes) (T .node)) ≡ liveMembers st
           → TriesTaken q n s (withEntry st (T .nodes) (T .node)) (T .node) ls st′
           → (b : Assignment) × (length b ≡ n) × Satisfies b (liveMembers st) × (meaning.clauseValue ls b ≡ true)
-      go q ls w not-one live (inl J) =
-          (a, len, sat, sym (clause-value n a len ls) ∙ rup-sound n (liveMembers (withEntry st (T .nodes) (T .node))) (meaning.clause n ls) (J .shown) a len (subst (Satisfies a) (sym live) sat))
+      go q ls w not-one live (inl J) = (
+        a,
+        len,
+        sat,
+        sym (clause-value n a len ls) ∙ rup-sound n (liveMembers (withEntry st (T .nodes) (T .node))) (meaning.clause n ls)
+            (J .shown) a len (subst (Satisfies a) (sym live) sat),
+      )
       go true ls w not-one live (inr U) = absurd U
       go false [] w not-one live (inr U) = absurd U
       go false (p ∷ ls) w not-one live (inr U) =
-          let (b, lb, kept, one) = pr-sound n (makesTrue (witness p (p ∷ ls))) (makesFalse (witness p (p ∷ ls))) (liveMembers (withEntry st (T .nodes) (T .node))) (meaning.clause n (p ∷ ls))
-          (pivot-witnessed n (p ∷ ls) w (not-one-plain n (p ∷ ls) not-one) p (has-here p ls)) (U .passes .shown) a len (subst (Satisfies a) (sym live) sat) in
+          let (b, lb, kept, one) = pr-sound n (makesTrue (witness p (p ∷ ls))) (makesFalse (witness p (p ∷ ls)))
+          (liveMembers (withEntry st (T .nodes) (T .node))) (meaning.clause n (p ∷ ls))
+          (pivot-witnessed n (p ∷ ls) w (not-one-plain n (p ∷ ls) not-one) p (has-here p ls)) (U .passes .shown) a len
+          (subst (Satisfies a) (sym live) sat) in
           (b, lb, subst (Satisfies b) live kept, sym (clause-value n b lb (p ∷ ls)) ∙ one)
 
--- THEOREM: "for clauses and members without both signs of a variable the two tries accept exactly what RUP and RAT over clauses accept, the table
--- having room", in a state that the check reaches. F are the clauses of its live members.
-pub added-exactly : {s n : ℕ} {m : Meant} {st : State} → Standing s n m st → n ≤ 64 → (F : List Clause) → liveMembers st ≡ map (meaning.clause n) F → AllOfVariables n F → AllPlain F
-    → (c : Clause) → OfVariables n c → Plain c → (t : List Node) (k : ℕ) → HasRoom n s st c t k → GoesOn (addStep false n s st c) ↔ Accepted F c
+-- THEOREM: "for clauses and members without both signs of a variable the two tries accept exactly what RUP and RAT over clauses accept, the
+-- table having room", in a state that the check reaches. F are the clauses of its live members.
+pub added-exactly : {s n : ℕ} {m : Meant} {st : State} → Standing s n m st → n ≤ 64 → (F : List Clause) → liveMembers st
+    ≡ map (meaning.clause n) F → AllOfVariables n F → AllPlain F
+    → (c : Clause) → OfVariables n c → Plain c → (t : List Node) (k : ℕ) → HasRoom n s st c t k →
+    GoesOn (addStep false n s st c) ↔ Accepted F c
 added-exactly {s} {n} {m} {st} S narrow F live within plains c w plain t k R =
     clause-accepted n s st t k F (live-same S narrow c t k (R .made) ∙ live) within plains c w plain R

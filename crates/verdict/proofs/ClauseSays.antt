@@ -1,5 +1,5 @@
--- The numbers that a clause of a text, and the text's end, can give, each at the first byte: 22 and 17 before a node is made, then 19 and 23; 28; 0 and
--- 20. The idea: each stands in the definition where it is given. Assumes nothing.
+-- The numbers that a clause of a text, and the text's end, can give, each at the first byte: 22 and 17 before a node is made, then 19 and
+-- 23; 28; 0 and 20. The idea: each stands in the definition where it is given. Assumes nothing.
 use mathlib.Core.Path.{_≡_, refl}
 use mathlib.Core.Logic.{_⊎_, inl, inr}
 use mathlib.Core.Bool.{Bool, true, false, not}
@@ -14,7 +14,8 @@ use Rattle.meaning.specs.Rules.{Line, rup}
 use Rattle.table.specs.Nodes.{Placing, full, placed, place}
 use Rattle.table.specs.Making.{lineReach}
 use Rattle.verdict.specs.Steps.{State, withEntry, Step, next, stop, spent, judged, liveMembers}
-use Rattle.verdict.specs.Clausal.{withPeak, judgedOr, secondLine, secondTry, afterFirst, tries, onceMade, addStep, firstSame, strikeFound, strikeClause}
+use Rattle.verdict.specs.Clausal.{withPeak, judgedOr, secondLine, secondTry, afterFirst, tries, onceMade, addStep, firstSame}
+use Rattle.verdict.specs.Clausal.{strikeFound, strikeClause}
 use Rattle.verdict.specs.Check.{finish}
 use Rattle.verdict.specs.Taken.{peakWith}
 use Rattle.verdict.proofs.Formula.{either}
@@ -28,14 +29,16 @@ AddedSays (spent number peak) = (number ≡ 19) ⊎ (number ≡ 23)
 
 judged-says : (s : ℕ) (st : State) (g : ℕ) (line : Line) → AddedSays (judged s st g line)
 unfolding judged
-judged-says s st g line = either AddedSays (not (lineReach s (st .nodes) line .fits)) _ _ (inr refl) (either AddedSays (not (line .shown)) _ _ (inl refl) tt)
+judged-says s st g line = either AddedSays (not (lineReach s (st .nodes) line .fits)) _ _ (inr refl)
+    (either AddedSays (not (line .shown)) _ _ (inl refl) tt)
 
 second-says : (n s : ℕ) (st : State) (k : ℕ) (ls : List meaning.Literal) (peak : ℕ) → AddedSays (secondTry n s st k ls peak)
 unfolding secondTry
 second-says n s st k [] peak = inl refl
 second-says n s st k (p ∷ ls) peak = judged-says s (withPeak st peak) k (secondLine n (liveMembers st) p ls)
 
-first-says : (profile : Bool) (n s : ℕ) (st : State) (k : ℕ) (ls : List meaning.Literal) (peak : ℕ) → AddedSays (afterFirst profile n s st k ls peak)
+first-says : (profile : Bool) (n s : ℕ) (st : State) (k : ℕ) (ls : List meaning.Literal) (peak : ℕ) →
+    AddedSays (afterFirst profile n s st k ls peak)
 unfolding afterFirst
 first-says true n s st k ls peak = inl refl
 first-says false n s st k ls peak = second-says n s st k ls peak

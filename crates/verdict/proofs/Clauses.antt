@@ -31,14 +31,16 @@ use Rattle.verdict.proofs.Formula.{Read, clauses-read}
 -- ---- clauses under assignments of any length
 
 -- a clause looks at the variables of its literals alone
-clause-agree : (n : ℕ) (ls : List meaning.Literal) → OfVariables n ls → (a b : Assignment) → ((v : ℕ) → 1 ≤ v → v ≤ n → holds a v ≡ holds b v)
+clause-agree : (n : ℕ) (ls : List meaning.Literal) → OfVariables n ls → (a b : Assignment) →
+    ((v : ℕ) → 1 ≤ v → v ≤ n → holds a v ≡ holds b v)
     → meaning.clauseValue ls a ≡ meaning.clauseValue ls b
 unfolding meaning.clauseValue meaning.literalValue
 clause-agree n [] w a b same = refl
 clause-agree n (l ∷ ls) w a b same =
     ap₂ _||_ (ap (λ (x : Bool). Bool·beq x (l .positive)) (same (l .variable) (w .0) (w .1))) (clause-agree n ls (w .2) a b same)
 
-pub clause-fitted : (n : ℕ) (ls : List meaning.Literal) → OfVariables n ls → (a : Assignment) → meaning.clauseValue ls (fitted n a) ≡ meaning.clauseValue ls a
+pub clause-fitted : (n : ℕ) (ls : List meaning.Literal) → OfVariables n ls → (a : Assignment) → meaning.clauseValue ls (fitted n a)
+    ≡ meaning.clauseValue ls a
 clause-fitted n ls w a = clause-agree n ls w (fitted n a) a (fitted-holds n a)
 
 module _ (n : ℕ) (ls : List meaning.Literal) where
@@ -106,7 +108,8 @@ module _ (s : ℕ) (text : List ℕ) (n many : ℕ) where
         end = rw e;
       }
 
-  made-standing : (t t₁ : List Node) (ms : List ℕ) (k : ℕ) (fs : List Function) (ls : List meaning.Literal) → n ≤ 64 → length ms < 1024 → OfVariables n ls
+  made-standing : (t t₁ : List Node) (ms : List ℕ) (k : ℕ) (fs : List Function) (ls : List meaning.Literal) → n ≤ 64 → length ms < 1024 →
+      OfVariables n ls
       → Standing s n (meantMembers fs) (begun t ms) → After s t (meaning.clause n ls) (placed t₁ k) → UsesAfter n (placed t₁ k)
       → Standing s n (meantMembers (fs ++ meaning.clauseValue ls ∷ [])) (begun t₁ (ms ++ k ∷ []))
   made-standing t t₁ ms k fs ls narrow few w S A u =
@@ -137,12 +140,15 @@ module _ (s : ℕ) (text : List ℕ) (n many : ℕ) where
       S = Y .standing
 
       A : After s t (meaning.clause n ls) (placed t₁ k)
-      A = subst (After s t (meaning.clause n ls)) e (place-after s t (S .ordered) (meaning.clause n ls) (reduced-to 1 (suc n) 65 (meaning.clause n ls) (omega (arith, Y .narrow)) (clause-reduced n ls)))
+      A = subst (After s t (meaning.clause n ls)) e
+          (place-after s t (S .ordered) (meaning.clause n ls)
+          (reduced-to 1 (suc n) 65 (meaning.clause n ls) (omega (arith, Y .narrow)) (clause-reduced n ls)))
 
       u : UsesAfter n (placed t₁ k)
       u = subst (UsesAfter n) e (place-uses n s t (meaning.clause n ls) (S .uses) (clause-reduced n ls))
 
-      go : (left : ℕ) → length ms + left ≡ many → Read n left (clause ls first rest) → Underway s text n many t₁ (ms ++ k ∷ []) (fs ++ meaning.clauseValue ls ∷ []) rest
+      go : (left : ℕ) → length ms + left ≡ many → Read n left (clause ls first rest) →
+          Underway s text n many t₁ (ms ++ k ∷ []) (fs ++ meaning.clauseValue ls ∷ []) rest
       go zero counted read = absurd read
       go (suc left) counted read = record {
         narrow = Y .narrow;
@@ -155,6 +161,7 @@ module _ (s : ℕ) (text : List ℕ) (n many : ℕ) where
         end = Y .end;
       }
 
-  pub underway : {t : List Node} {ms : List ℕ} {fs : List Function} {r : Reading} → Making s text n many t ms fs r → Underway s text n many t ms fs r
+  pub underway : {t : List Node} {ms : List ℕ} {fs : List Function} {r : Reading} → Making s text n many t ms fs r →
+      Underway s text n many t ms fs r
   underway (opened {at} e) = opened-underway at e
   underway (made {t} {t₁} {ms} {k} {fs} {ls} {first} {rest} M e) = made-underway t t₁ ms k fs ls first rest (underway M) e

@@ -1,6 +1,6 @@
--- In the consequence profile each accepted line is true under every assignment that satisfies the formula, and a proof in records without a PR
--- record has there the results that it has outside. The idea: RUP lines and path lines follow from the live members at the same assignment;
--- without a PR record no step differs. Assumes nothing.
+-- In the consequence profile each accepted line is true under every assignment that satisfies the formula, and a proof in records without a
+-- PR record has there the results that it has outside. The idea: RUP lines and path lines follow from the live members at the same
+-- assignment; without a PR record no step differs. Assumes nothing.
 use mathlib.Core.Path.{_≡_, refl, sym, _∙_, subst}
 use mathlib.Core.Logic.{inl, inr}
 use mathlib.Core.Bool.{Bool, true, false, not, cond}
@@ -26,14 +26,17 @@ use Rattle.dimacs.specs.Clauses.{Reading, clause, complete, refusal, clausesFro
 use Rattle.records.specs.declared.Rule.{Rule}
 use Rattle.records.specs.declared.Rule.the-variants.{Rup, Pr, Path}
 use Rattle.records.specs.declared.Record.{Record}
-use Rattle.records.specs.declared.Record.the-variants.{NodeEntry, Witness, ProofLine, Strike, SetEntry, End, CutShort, UnknownKind, NoRecord}
+use Rattle.records.specs.declared.Record.the-variants.{NodeEntry, Witness, ProofLine, Strike, SetEntry, End, CutShort, UnknownKind}
+use Rattle.records.specs.declared.Record.the-variants.{NoRecord}
 use Rattle.records.specs.Records.{recordAt, lengthOf}
 use Rattle.commands.specs.declared.Mode.{Mode}
 use Rattle.commands.specs.declared.Form.{Form}
 use Rattle.commands.specs.declared.Form.the-variants.{Records}
 use Rattle.commands.specs.Commands.{Command, recorded, added, struckOut, wrong, finished, inForm}
-use Rattle.verdict.specs.Steps.{State, emptied, begun, withEntry, Step, next, stop, spent, waiting, entryNode, diagramIn, unstruck, liveMembers, nodeStep, witnessStep, lineStep, strikeStep, setStep, endStep, recordStep}
-use Rattle.verdict.specs.Check.{isPr, isPrLine, step, Verdict, afterStep, commands, afterClause, clauses, checkAfterHeader, verdict, check}
+use Rattle.verdict.specs.Steps.{State, emptied, begun, withEntry, Step, next, stop, spent, waiting, entryNode, diagramIn, unstruck}
+use Rattle.verdict.specs.Steps.{liveMembers, nodeStep, witnessStep, lineStep, strikeStep, setStep, endStep, recordStep}
+use Rattle.verdict.specs.Check.{isPr, isPrLine, step, Verdict, afterStep, commands, afterClause, clauses, checkAfterHeader, verdict}
+use Rattle.verdict.specs.Check.{check}
 use Rattle.verdict.specs.Taken.{Function, Meant, entryMeant, afterRecord, Valued, LineTaken, Taken}
 use Rattle.verdict.specs.ClauseTaken.{TriesTaken, ClauseTaken}
 use Rattle.verdict.specs.Run.{Making, commandIn, CommandTaken, afterCommand, Reached, begins, goes}
@@ -44,7 +47,8 @@ use Rattle.verdict.proofs.Clauses.{underway}
 use Rattle.verdict.proofs.Fitted.{fitted, fitted-length, fitted-holds}
 use Rattle.verdict.proofs.Ends.{reached-standing}
 use Rattle.verdict.proofs.Added.{live-same}
-use Rattle.verdict.proofs.Refuted.{AllOne, all-append, members-satisfied, satisfied-clauses, liveMeant, live-valued, satisfies-fitted, reached-within}
+use Rattle.verdict.proofs.Refuted.{AllOne, all-append, members-satisfied, satisfied-clauses, liveMeant, live-valued}
+use Rattle.verdict.proofs.Refuted.{satisfies-fitted, reached-within}
 
 -- ---- an accepted line follows from the live members
 
@@ -63,15 +67,18 @@ module _ {s n : ℕ} {m : Meant} {st : State} (S : Standing s n m st) where
   Live a = AllOne a (liveMeant st m)
 
   live-satisfied : (a : Assignment) → Live a → Satisfies a (liveMembers st)
-  live-satisfied a all = members-satisfied a (st .nodes) (st .kept) (unstruck (st .struck) (st .members)) (liveMeant st m) (live-valued S) all
+  live-satisfied a all = members-satisfied a (st .nodes) (st .kept) (unstruck (st .struck) (st .members)) (liveMeant st m) (live-valued S)
+      all
 
   -- THEOREM: "an accepted path line follows from the members"; so does a RUP line.
   pub line-follows : (rule : Rule) (root : ℕ) (st′ : State) → isPr rule ≡ false → LineTaken n s st rule root st′
       → (a : Assignment) → length a ≡ n → Live a → entryMeant m root a ≡ true
   line-follows Rup root st′ e T a len all =
-      sym (entry-valued S root (T .entry) .1 a) ∙ rup-sound n (liveMembers st) (diagramIn st (entryNode st root)) (T .shown) a len (live-satisfied a all)
+      sym (entry-valued S root (T .entry) .1 a) ∙ rup-sound n (liveMembers st) (diagramIn st (entryNode st root)) (T .shown) a len
+      (live-satisfied a all)
   line-follows Path root st′ e T a len all =
-      sym (entry-valued S root (T .entry) .1 a) ∙ path-sound n (liveMembers st) (diagramIn st (entryNode st root)) (T .shown) a len (live-satisfied a all)
+      sym (entry-valued S root (T .entry) .1 a) ∙ path-sound n (liveMembers st) (diagramIn st (entryNode st root)) (T .shown) a len
+      (live-satisfied a all)
   line-follows Pr root st′ e T a len all = t≢f e
 
   -- a clause that its first try shows follows too
@@ -99,7 +106,8 @@ module _ {s n : ℕ} {m : Meant} {st : State} (S : Standing s n m st) where
     unfolding afterRecord
     record-follows (NodeEntry b) st′ e T = all
     record-follows (Witness v b) st′ e T = all
-    record-follows (ProofLine rule root) st′ e T = all-append a (m .members) (entryMeant m (root .0)) all (line-follows rule (root .0) st′ e T a len live)
+    record-follows (ProofLine rule root) st′ e T = all-append a (m .members) (entryMeant m (root .0)) all
+        (line-follows rule (root .0) st′ e T a len live)
     record-follows (Strike k) st′ e T = all
     record-follows (SetEntry kind b) st′ e T = all
     record-follows End st′ e T = absurd T
@@ -140,7 +148,8 @@ module _ (form : Form) (s : ℕ) (text proof : List ℕ) where
       → (a : Assignment) → satisfies a (clausesOf (formula text)) ≡ true → AllOne a (m .members)
   lines-follow {n} {st} {at} {m} R a sat =
       go (st .members) (m .members) (S .members)
-      (reached-follow R (fitted n a) (fitted-length n a) (satisfies-fitted n (clausesOf (formula text)) (reached-within profile s text proof R) a ∙ sat))
+      (reached-follow R (fitted n a) (fitted-length n a)
+      (satisfies-fitted n (clausesOf (formula text)) (reached-within profile s text proof R) a ∙ sat))
     where
       S : Standing s n m st
       S = reached-standing profile s text proof R .1
@@ -160,7 +169,8 @@ module _ (form : Form) (s : ℕ) (text proof : List ℕ) where
 
 -- ---- the same results without a PR record
 
-end-alike : (st : State) (more : Bool) (at : ℕ) (f g : State → Verdict) → afterStep (endStep st more) st at f ≡ afterStep (endStep st more) st at g
+end-alike : (st : State) (more : Bool) (at : ℕ) (f g : State → Verdict) → afterStep (endStep st more) st at f
+    ≡ afterStep (endStep st more) st at g
 unfolding endStep
 end-alike st more at f g = go (waiting st) more (st .refuted)
   where
@@ -172,7 +182,8 @@ end-alike st more at f g = go (waiting st) more (st .refuted)
     go false false true = refl
     go false false false = refl
 
-on-alike : (x : Step) (st : State) (at : ℕ) (f g : State → Verdict) → ((st′ : State) → f st′ ≡ g st′) → afterStep x st at f ≡ afterStep x st at g
+on-alike : (x : Step) (st : State) (at : ℕ) (f g : State → Verdict) → ((st′ : State) → f st′ ≡ g st′) → afterStep x st at f
+    ≡ afterStep x st at g
 on-alike (next st′) st at f g e = e st′
 on-alike (stop number offset) st at f g e = refl
 on-alike (spent number peak) st at f g e = refl
@@ -185,7 +196,8 @@ module _ (n s : ℕ) (proof : List ℕ) where
   record-alike st more at f g (ProofLine rule root) behind e rest = go rule (and-both (not (isPr rule)) behind e)
     where
       go : (rule : Rule) → (not (isPr rule) ≡ true) × (behind ≡ true)
-          → afterStep (step true n s st (recorded (ProofLine rule root) more)) st at f ≡ afterStep (step false n s st (recorded (ProofLine rule root) more)) st at g
+          → afterStep (step true n s st (recorded (ProofLine rule root) more)) st at f
+          ≡ afterStep (step false n s st (recorded (ProofLine rule root) more)) st at g
       go Rup b = on-alike (lineStep n s st Rup (root .0)) st at f g (rest (b .1))
       go Path b = on-alike (lineStep n s st Path (root .0)) st at f g (rest (b .1))
       go Pr b = t≢f (sym (b .0))
@@ -210,14 +222,16 @@ module _ (n s : ℕ) (proof : List ℕ) where
       r (noPrFrom steps proof (at + lengthOf r)) e (λ b st′. commands-alike steps st′ (at + lengthOf r) b)
 
 module _ (s : ℕ) (text proof : List ℕ) (none : withoutPr proof ≡ true) where
-  clauses-alike : (n : ℕ) (t : List Node) (ms : List ℕ) (r : Reading) → clauses (inForm Records true) n s proof t ms r ≡ clauses (inForm Records false) n s proof t ms r
+  clauses-alike : (n : ℕ) (t : List Node) (ms : List ℕ) (r : Reading) → clauses (inForm Records true) n s proof t ms r
+      ≡ clauses (inForm Records false) n s proof t ms r
   unfolding clauses
   clauses-alike n t ms complete = commands-alike n s proof (suc (length proof)) (begun t ms) 0 none
   clauses-alike n t ms (refusal number place) = refl
   clauses-alike n t ms (clause ls first rest) = go (place s t (meaning.clause n ls)) (λ t₁ k. clauses-alike n t₁ (ms ++ k ∷ []) rest)
     where
       go : (p : Placing)
-          → ((t₁ : List Node) (k : ℕ) → clauses (inForm Records true) n s proof t₁ (ms ++ k ∷ []) rest ≡ clauses (inForm Records false) n s proof t₁ (ms ++ k ∷ []) rest)
+          → ((t₁ : List Node) (k : ℕ) → clauses (inForm Records true) n s proof t₁ (ms ++ k ∷ []) rest
+          ≡ clauses (inForm Records false) n s proof t₁ (ms ++ k ∷ []) rest)
           → afterClause p (λ t₁ k. clauses (inForm Records true) n s proof t₁ (ms ++ k ∷ []) rest) first
           ≡ afterClause p (λ t₁ k. clauses (inForm Records false) n s proof t₁ (ms ++ k ∷ []) rest) first
       go (full t₁) rec = refl
@@ -231,9 +245,10 @@ module _ (s : ℕ) (text proof : List ℕ) (none : withoutPr proof ≡ true) whe
       go (Proper n many at) = clauses-alike n emptied [] (clausesFrom text n many at)
       go (Improper number place) = refl
 
--- THEOREM: "a proof in records without a PR one gets the results it has outside the profile": the number, the place, the counts, and every lent
--- place.
+-- THEOREM: "a proof in records without a PR one gets the results it has outside the profile": the number, the place, the counts, and every
+-- lent place.
 pub profile-same : (c : Columns) (count : ℕ) (members struck scratch text proof : List ℕ) → withoutPr proof ≡ true
-    → check (inForm Records true) c count members struck scratch text proof ≡ check (inForm Records false) c count members struck scratch text proof
+    → check (inForm Records true) c count members struck scratch text proof
+    ≡ check (inForm Records false) c count members struck scratch text proof
 unfolding check
 profile-same c count members struck scratch text proof none = rw (verdict-alike (length (c .vars)) text proof none)

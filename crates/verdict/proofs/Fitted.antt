@@ -1,5 +1,5 @@
--- Assignments of any length, cut off or filled up with false to n variables: a diagram of n variables has there the value that it has under the
--- assignment itself. The idea: missing variables are read as false, and a value looks at n variables alone. Assumes nothing.
+-- Assignments of any length, cut off or filled up with false to n variables: a diagram of n variables has there the value that it has under
+-- the assignment itself. The idea: missing variables are read as false, and a value looks at n variables alone. Assumes nothing.
 use mathlib.Core.Path.{_≡_, refl, sym, _∙_}
 use mathlib.Core.Bool.{Bool, false}
 use mathlib.Core.List.{[], _∷_, _++_}

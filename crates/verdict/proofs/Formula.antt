@@ -1,5 +1,5 @@
--- The formula read: its clauses are no more than the header says and have its variables alone, and a refusal has a number from 1 to 6. The idea:
--- a predicate on what is read, shown token by token. Assumes nothing.
+-- The formula read: its clauses are no more than the header says and have its variables alone, and a refusal has a number from 1 to 6. The
+-- idea: a predicate on what is read, shown token by token. Assumes nothing.
 use mathlib.Core.Bool.{Bool, true, false, not, _&&_, cond}
 use mathlib.Core.List.{List}
 use Prim.Native.Nat.{ℕ, zero, suc, _-_, _≤_}
@@ -15,7 +15,8 @@ use Rattle.dimacs.specs.declared.Token.the-variants.{Closing, Literal, Wrong}
 use Rattle.dimacs.specs.Text.{tokenEnd, between}
 use Rattle.dimacs.specs.Numbers.{isZero, isNumber, unsigned, hasMinus, valueOfDigits, tokenOf}
 use Rattle.dimacs.specs.Header.{judgedFrom, nextWord, word, isHeader, headerAt, header}
-use Rattle.dimacs.specs.Clauses.{Next, closed, ended, refused, literalThen, afterToken, clauseFrom, clauseAt, nextClause, Reading, clause, complete, refusal, readingThen, clausesFrom}
+use Rattle.dimacs.specs.Clauses.{Next, closed, ended, refused, literalThen, afterToken, clauseFrom, clauseAt, nextClause, Reading, clause}
+use Rattle.dimacs.specs.Clauses.{complete, refusal, readingThen, clausesFrom}
 use Rattle.dimacs.proofs.Bounds.{NextIn, next-in}
 
 -- ---- a refusal has a number from 1 to 6
@@ -47,7 +48,9 @@ token-named n bs =
     let v : ℕ = valueOfDigits (unsigned bs) in
     let literal : Token = cond (leb v n) (Literal v (not (hasMinus bs))) (Wrong 4) in
     either NamedToken (isZero bs) Closing (cond (isNumber bs) literal (Wrong 3)) tt
-    (either NamedToken (isNumber bs) literal (Wrong 3) (either NamedToken (leb v n) (Literal v (not (hasMinus bs))) (Wrong 4) tt ((omega arith, omega arith))) ((omega arith, omega arith)))
+    (either NamedToken (isNumber bs) literal (Wrong 3)
+    (either NamedToken (leb v n) (Literal v (not (hasMinus bs))) (Wrong 4) tt ((omega arith, omega arith)))
+    ((omega arith, omega arith)))
 
 literal-named : (v : ℕ) (b : Bool) (x : Next) → NamedNext x → NamedNext (literalThen (record { variable = v; positive = b }) x)
 literal-named v b (closed ls first next) h = tt
@@ -66,7 +69,8 @@ clause-named s n (suc k) first at =
     let end : ℕ = tokenEnd s at in
     let rest : Next = clauseFrom s n k first (between s end) in
     either NamedNext (ltb at (length s)) (afterToken (tokenOf n (slice at end s)) first at end rest) (refused 6 first)
-    (after-named (tokenOf n (slice at end s)) first at end rest (token-named n (slice at end s)) (clause-named s n k first (between s end))) ((omega arith, omega arith))
+    (after-named (tokenOf n (slice at end s)) first at end rest (token-named n (slice at end s)) (clause-named s n k first (between s end)))
+    ((omega arith, omega arith))
 
 next-named : (s : List ℕ) (n left at : ℕ) → NamedNext (nextClause s n left at)
 unfolding nextClause clauseAt
@@ -120,5 +124,6 @@ pub clauses-read : (s : List ℕ) (n left at : ℕ) → at ≤ length s → Read
 unfolding clausesFrom
 clauses-read s n zero at h = none-closed s n at (λ next. complete)
 clauses-read s n (suc left) at h =
-    closed-read s n left (nextClause s n (suc left) at) (λ next. clausesFrom s n left next) (next-in s n (suc left) at h) (next-named s n (suc left) at)
+    closed-read s n left (nextClause s n (suc left) at) (λ next. clausesFrom s n left next) (next-in s n (suc left) at h)
+    (next-named s n (suc left) at)
     (λ next i. clauses-read s n left next i)

@@ -33,7 +33,8 @@ unstruck-append (m ∷ marks) [] x same = absurd (omega arith)
 unstruck-append {A} (m ∷ marks) (y ∷ xs) x same = go (eqb m 0) (unstruck-append marks xs x (omega arith))
   where
     go : (c : Bool) → unstruck (marks ++ 0 ∷ []) (xs ++ x ∷ []) ≡ unstruck marks xs ++ x ∷ []
-        → cond c (y ∷ unstruck (marks ++ 0 ∷ []) (xs ++ x ∷ [])) (unstruck (marks ++ 0 ∷ []) (xs ++ x ∷ [])) ≡ cond c (y ∷ unstruck marks xs) (unstruck marks xs) ++ x ∷ []
+        → cond c (y ∷ unstruck (marks ++ 0 ∷ []) (xs ++ x ∷ [])) (unstruck (marks ++ 0 ∷ []) (xs ++ x ∷ []))
+        ≡ cond c (y ∷ unstruck marks xs) (unstruck marks xs) ++ x ∷ []
     go true e = ap (λ (ys : List A). y ∷ ys) e
     go false e = e
 
@@ -55,7 +56,8 @@ unstruck-has (m ∷ marks) (x ∷ xs) other zero p e = rw (eq-eqb m 0 e) (0, ome
 unstruck-has {A} (m ∷ marks) (x ∷ xs) other (suc k) p e = go (eqb m 0) (unstruck-has marks xs other k (omega arith) e)
   where
     go : (c : Bool) → (i : ℕ) × (i < length (unstruck marks xs)) × (getD (unstruck marks xs) i other ≡ getD xs k other)
-        → (i : ℕ) × (i < length (cond c (x ∷ unstruck marks xs) (unstruck marks xs))) × (getD (cond c (x ∷ unstruck marks xs) (unstruck marks xs)) i other ≡ getD xs k other)
+        → (i : ℕ) × (i < length (cond c (x ∷ unstruck marks xs) (unstruck marks xs)))
+        × (getD (cond c (x ∷ unstruck marks xs) (unstruck marks xs)) i other ≡ getD xs k other)
     go true (i, q, same) = (suc i, omega arith, same)
     go false found = found
 
@@ -70,14 +72,16 @@ unstruck-only {A} (m ∷ marks) (x ∷ xs) other i p = go (eqb m 0) refl i p (un
     Found live i = (k : ℕ) × (k < length (x ∷ xs)) × (getD (m ∷ marks) k 0 ≡ 0) × (getD live i other ≡ getD (x ∷ xs) k other)
 
     go : (c : Bool) → eqb m 0 ≡ c → (i : ℕ) → i < length (cond c (x ∷ unstruck marks xs) (unstruck marks xs))
-        → ((i : ℕ) → i < length (unstruck marks xs) → (k : ℕ) × (k < length xs) × (getD marks k 0 ≡ 0) × (getD (unstruck marks xs) i other ≡ getD xs k other))
+        → ((i : ℕ) → i < length (unstruck marks xs) → (k : ℕ) × (k < length xs) × (getD marks k 0 ≡ 0)
+        × (getD (unstruck marks xs) i other ≡ getD xs k other))
         → Found (cond c (x ∷ unstruck marks xs) (unstruck marks xs)) i
     go true e zero p rec = (0, omega arith, eqb-true m 0 e, refl)
     go true e (suc i) p rec = let (k, q, mark, same) = rec i (omega arith) in (suc k, omega arith, mark, same)
     go false e i p rec = let (k, q, mark, same) = rec i p in (suc k, omega arith, mark, same)
 
 -- The live numbers have the live functions' values.
-pub valued-unstruck : (t : List Node) (b : ℕ) (marks ks : List ℕ) (fs : List Function) → Valued t b ks fs → Valued t b (unstruck marks ks) (unstruck marks fs)
+pub valued-unstruck : (t : List Node) (b : ℕ) (marks ks : List ℕ) (fs : List Function) → Valued t b ks fs →
+    Valued t b (unstruck marks ks) (unstruck marks fs)
 unfolding unstruck
 valued-unstruck t b marks [] [] W = tt
 valued-unstruck t b marks [] (f ∷ fs) W = absurd W

@@ -1,5 +1,5 @@
--- The marks of every reached state are those that the proof's bytes fix: 1 for the members that the records taken strike out, else 0. The idea: a
--- record adds its striking, a line a mark of 0; the record that is refused begins at the place that is given. Assumes nothing.
+-- The marks of every reached state are those that the proof's bytes fix: 1 for the members that the records taken strike out, else 0. The
+-- idea: a record adds its striking, a line a mark of 0; the record that is refused begins at the place that is given. Assumes nothing.
 use mathlib.Core.Path.{_≡_, refl, sym, ap, _∙_, subst}
 use mathlib.Core.Logic.{_≢_}
 use mathlib.Core.Bool.{Bool, true, false, _||_, cond}
@@ -15,7 +15,8 @@ use Rattle.meaning.proofs.Booleans.{and-both}
 use Rattle.table.specs.Nodes.{Node}
 use Rattle.table.proofs.Zeros.{zeros-at}
 use Rattle.records.specs.declared.Record.{Record}
-use Rattle.records.specs.declared.Record.the-variants.{NodeEntry, Witness, ProofLine, Strike, SetEntry, End, CutShort, UnknownKind, NoRecord}
+use Rattle.records.specs.declared.Record.the-variants.{NodeEntry, Witness, ProofLine, Strike, SetEntry, End, CutShort, UnknownKind}
+use Rattle.records.specs.declared.Record.the-variants.{NoRecord}
 use Rattle.records.specs.Records.{recordAt, lengthOf}
 use Rattle.records.proofs.Laws.{record-takes, record-within}
 use Rattle.commands.specs.declared.Mode.{Mode}
@@ -67,7 +68,8 @@ line-marked many ks marks M = record {
   where
     above : (k : ℕ) → length marks ≤ k → getD (marks ++ 0 ∷ []) k 0 ≡ 0
     above k p = elim (decLt k (length (marks ++ 0 ∷ []))) [
-      | yes q ↦ let here : k ≡ length marks = omega (arith, length-append marks (0 ∷ [])) in ap (λ (j : ℕ). getD (marks ++ 0 ∷ []) j 0) here ∙ getD-append-seam marks 0 [] 0
+      | yes q ↦ let here : k ≡ length marks = omega (arith, length-append marks (0 ∷ [])) in ap (λ (j : ℕ). getD (marks ++ 0 ∷ []) j 0) here
+          ∙ getD-append-seam marks 0 [] 0
       | no q ↦ List·getD-eq-default (marks ++ 0 ∷ []) 0 (omega arith)
     ]
 
@@ -98,7 +100,8 @@ strike-marked many ks marks j inside M = record {
 
 module _ (n s : ℕ) (st : State) (ks : List ℕ) (M : Marked (length (st .members)) ks (st .struck)) where
   -- neither member nor mark
-  same-marked : (st₁ st′ : State) → st₁ ≡ st′ → st₁ .members ≡ st .members → st₁ .struck ≡ st .struck → Marked (length (st′ .members)) (ks ++ []) (st′ .struck)
+  same-marked : (st₁ st′ : State) → st₁ ≡ st′ → st₁ .members ≡ st .members → st₁ .struck ≡ st .struck →
+      Marked (length (st′ .members)) (ks ++ []) (st′ .struck)
   same-marked st₁ st′ is m e = subst (λ (x : State). Marked (length (x .members)) (ks ++ []) (x .struck)) is (rw (append-nil ks, m, e) M)
 
   record-marked : (r : Record) (st′ : State) → Taken n s st r st′ → Marked (length (st′ .members)) (ks ++ struckBy r) (st′ .struck)
@@ -108,7 +111,8 @@ module _ (n s : ℕ) (st : State) (ks : List ℕ) (M : Marked (length (st .membe
   record-marked (ProofLine rule root) st′ T =
       let g : ℕ = entryNode st (root .0) in
       let more : length (st .members ++ g ∷ []) ≡ suc (length (st .members)) = length-append (st .members) (g ∷ []) ∙ omega arith in
-      subst (λ (x : State). Marked (length (x .members)) (ks ++ []) (x .struck)) (T .is) (rw (append-nil ks, more) (line-marked (length (st .members)) ks (st .struck) M))
+      subst (λ (x : State). Marked (length (x .members)) (ks ++ []) (x .struck)) (T .is)
+      (rw (append-nil ks, more) (line-marked (length (st .members)) ks (st .struck) M))
   record-marked (Strike k) st′ T =
       let (inside, _) = and-both (ltb (k .0) (length (st .members))) _ (T .live) in
       subst (λ (x : State). Marked (length (x .members)) (ks ++ k .0 ∷ []) (x .struck)) (T .is)
@@ -131,7 +135,8 @@ record Struck (proof : List ℕ) (st : State) (at : ℕ) : Type 0 where
   run : (j end : ℕ) → at ≤ end → strikingsFrom (steps + j) proof 0 end ≡ so-far ++ strikingsFrom j proof at end
 
 module _ (profile : Bool) (s : ℕ) (text proof : List ℕ) where
-  goes-struck : (n : ℕ) (st st′ : State) (at : ℕ) → Taken n s st (recordAt proof at) st′ → Struck proof st at → Struck proof st′ (at + lengthOf (recordAt proof at))
+  goes-struck : (n : ℕ) (st st′ : State) (at : ℕ) → Taken n s st (recordAt proof at) st′ → Struck proof st at →
+      Struck proof st′ (at + lengthOf (recordAt proof at))
   unfolding strikingsFrom
   goes-struck n st st′ at T F =
       let r : Record = recordAt proof at in
@@ -147,7 +152,8 @@ module _ (profile : Bool) (s : ℕ) (text proof : List ℕ) where
         run = λ j end p.
             let same : suc (F .steps) + j ≡ F .steps + suc j = omega arith in
             ap (λ (k : ℕ). strikingsFrom k proof 0 end) same ∙ F .run (suc j) end (omega arith)
-            ∙ ap (λ (c : Bool). F .so-far ++ cond c (struckBy r ++ strikingsFrom j proof (at + lengthOf r) end) []) (lt-ltb at end (omega arith))
+            ∙ ap (λ (c : Bool). F .so-far ++ cond c (struckBy r ++ strikingsFrom j proof (at + lengthOf r) end) [])
+            (lt-ltb at end (omega arith))
             ∙ sym (append-assoc (F .so-far) (struckBy r) (strikingsFrom j proof (at + lengthOf r) end));
       }
 
@@ -167,20 +173,23 @@ module _ (profile : Bool) (s : ℕ) (text proof : List ℕ) where
   reached-struck {n} (goes {st} {st′} {at} R T) = goes-struck n st st′ at (T .1) (reached-struck R)
 
   -- where nothing is struck out from the place on up to the end
-  marks-at : {n : ℕ} {st : State} {at : ℕ} {m : Meant} → Reached (inForm Records profile) s text proof n st at m → (end : ℕ) → at ≤ end → ((j : ℕ) → strikingsFrom j proof at end ≡ [])
+  marks-at : {n : ℕ} {st : State} {at : ℕ} {m : Meant} → Reached (inForm Records profile) s text proof n st at m → (end : ℕ) → at ≤ end →
+      ((j : ℕ) → strikingsFrom j proof at end ≡ [])
       → (k : ℕ) → getD (st .struck) k 0 ≡ markOf (strikingsBefore proof end) k
   marks-at {n} {st} {at} R end p none k =
       let F : Struck proof st at = reached-struck R in
       let rest : ℕ = length proof - F .steps in
       let all : length proof ≡ F .steps + rest = omega (arith, F .few, F .within) in
       let whole : strikingsBefore proof end ≡ F .so-far =
-      ap (λ (j : ℕ). strikingsFrom j proof 0 end) all ∙ F .run rest end p ∙ ap (λ (x : List ℕ). F .so-far ++ x) (none rest) ∙ append-nil (F .so-far) in
+      ap (λ (j : ℕ). strikingsFrom j proof 0 end) all ∙ F .run rest end p ∙ ap (λ (x : List ℕ). F .so-far ++ x) (none rest)
+      ∙ append-nil (F .so-far) in
       F .marked .are k ∙ ap (λ (x : List ℕ). markOf x k) (sym whole)
 
   none-here : (at j : ℕ) → strikingsFrom j proof at at ≡ []
   unfolding strikingsFrom
   none-here at zero = refl
-  none-here at (suc j) = ap (λ (c : Bool). cond c (struckBy (recordAt proof at) ++ strikingsFrom j proof (at + lengthOf (recordAt proof at)) at) []) (le-ltb at at (omega arith))
+  none-here at (suc j) = ap (λ (c : Bool). cond c
+      (struckBy (recordAt proof at) ++ strikingsFrom j proof (at + lengthOf (recordAt proof at)) at) []) (le-ltb at at (omega arith))
 
   none-at-end : (at : ℕ) → recordAt proof at ≡ End → (j : ℕ) → strikingsFrom j proof at (at + 1) ≡ []
   unfolding strikingsFrom
@@ -188,15 +197,19 @@ module _ (profile : Bool) (s : ℕ) (text proof : List ℕ) where
   none-at-end at is (suc j) = rw (is, none-here (at + 1) j, lt-ltb at (at + 1) (omega arith))
 
   -- In every reached state a mark is 1 exactly where a striking that was taken has the member's number, else 0.
-  pub marks-are : {n : ℕ} {st : State} {at : ℕ} {m : Meant} → Reached (inForm Records profile) s text proof n st at m → (k : ℕ) → getD (st .struck) k 0 ≡ markOf (strikingsBefore proof at) k
+  pub marks-are : {n : ℕ} {st : State} {at : ℕ} {m : Meant} → Reached (inForm Records profile) s text proof n st at m → (k : ℕ) →
+      getD (st .struck) k 0 ≡ markOf (strikingsBefore proof at) k
   marks-are {n} {st} {at} R k = marks-at R at (omega arith) (none-here at) k
 
   -- The same at the place where a record is refused or ends the proof, which for 11 is behind it.
-  pub marks-stopped : {n : ℕ} {st : State} {at : ℕ} {m : Meant} → Reached (inForm Records profile) s text proof n st at m → (number offset : ℕ)
-      → step profile n s st (commandIn (inForm Records profile) proof n at) ≡ stop number offset → (k : ℕ) → getD (st .struck) k 0 ≡ markOf (strikingsBefore proof (at + offset)) k
+  pub marks-stopped : {n : ℕ} {st : State} {at : ℕ} {m : Meant} → Reached (inForm Records profile) s text proof n st at m →
+      (number offset : ℕ)
+      → step profile n s st (commandIn (inForm Records profile) proof n at) ≡ stop number offset → (k : ℕ) → getD (st .struck) k 0
+      ≡ markOf (strikingsBefore proof (at + offset)) k
   unfolding step
   marks-stopped {n} {st} {at} R number offset e k =
-      go (subst (Placed st (recordAt proof at)) e (shut-placed profile n s st (ltb (at + lengthOf (recordAt proof at)) (length proof)) (recordAt proof at)))
+      go (subst (Placed st (recordAt proof at)) e
+      (shut-placed profile n s st (ltb (at + lengthOf (recordAt proof at)) (length proof)) (recordAt proof at)))
     where
       here-are : offset ≡ 0 → getD (st .struck) k 0 ≡ markOf (strikingsBefore proof (at + offset)) k
       here-are z = let same : at ≡ at + offset = omega arith in marks-are R k ∙ ap (λ (p : ℕ). markOf (strikingsBefore proof p) k) same
@@ -214,14 +227,20 @@ module _ (mode : Mode) (s : ℕ) (text proof : List ℕ) where
   marks-long R = reached-standing mode s text proof R .1 .marks
 
   -- No member is struck that is not there.
-  pub marks-above : {n : ℕ} {st : State} {at : ℕ} {m : Meant} → Reached mode s text proof n st at m → (k : ℕ) → length (st .members) ≤ k → getD (st .struck) k 0 ≡ 0
+  pub marks-above : {n : ℕ} {st : State} {at : ℕ} {m : Meant} → Reached mode s text proof n st at m → (k : ℕ) → length (st .members) ≤ k →
+      getD (st .struck) k 0 ≡ 0
   marks-above {n} {st} R k p = List·getD-eq-default (st .struck) 0 (omega (arith, marks-long R))
 
 -- ---- what stays
 
 -- "numbers are not reused, nodes stay": a striking changes the mark alone.
-pub members-kept : {st st′ : State} {k : ℕ} → StrikeTaken st k st′ → (st′ .members ≡ st .members) × (st′ .nodes ≡ st .nodes) × (st′ .entries ≡ st .entries)
-members-kept T = (sym (ap (λ (x : State). x .members) (T .is)), sym (ap (λ (x : State). x .nodes) (T .is)), sym (ap (λ (x : State). x .entries) (T .is)))
+pub members-kept : {st st′ : State} {k : ℕ} → StrikeTaken st k st′ → (st′ .members ≡ st .members) × (st′ .nodes ≡ st .nodes)
+    × (st′ .entries ≡ st .entries)
+members-kept T = (
+  sym (ap (λ (x : State). x .members) (T .is)),
+  sym (ap (λ (x : State). x .nodes) (T .is)),
+  sym (ap (λ (x : State). x .entries) (T .is)),
+)
 
 -- "a mark [..], 1 once struck, [..] which stays"; a member's number is its own.
 record Stays (k : ℕ) (st st′ : State) : Type 0 where
@@ -290,5 +309,6 @@ module _ (mode : Mode) (s : ℕ) (proof : List ℕ) {n : ℕ} {st : State} {at :
   mark-stays L = later-stays L .mark
 
   -- and a member's number names it to the end.
-  pub member-stays : {st′ : State} {at′ : ℕ} → Later mode s proof n st at st′ at′ → k < length (st .members) → getD (st′ .members) k 0 ≡ getD (st .members) k 0
+  pub member-stays : {st′ : State} {at′ : ℕ} → Later mode s proof n st at st′ at′ → k < length (st .members) → getD (st′ .members) k 0
+      ≡ getD (st .members) k 0
   member-stays L p = later-stays L .member p .1

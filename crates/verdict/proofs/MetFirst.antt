@@ -1,5 +1,5 @@
--- A line is judged as its diagrams are made one after the other, and is refused with 19 or 23, the one met first. The idea: a turn that ends without
--- conflict is the last that makes anything. Assumes nothing.
+-- A line is judged as its diagrams are made one after the other, and is refused with 19 or 23, the one met first. The idea: a turn that
+-- ends without conflict is the last that makes anything. Assumes nothing.
 use mathlib.Core.Path.{_≡_, refl, sym, ap, _∙_}
 use mathlib.Core.Bool.{Bool, true, false, not, _&&_, cond}
 use mathlib.Core.List.{List, [], _∷_, _++_}
@@ -7,7 +7,8 @@ use mathlib.Core.Option.{Option, none, some}
 use Prim.Native.Nat.{ℕ, zero, suc}
 use Rattle.meaning.specs.Diagram.{Diagram, leaf, same}
 use Rattle.meaning.specs.Operations.{Literal, negation, cofactorLiterals}
-use Rattle.meaning.specs.Rules.{Line, Propagation, conflicts, firstWithUnit, byUnits, round, still, taking, propagate, unitProp, byDiagram, rup, afterTurn, prTurns, pr}
+use Rattle.meaning.specs.Rules.{Line, Propagation, conflicts, firstWithUnit, byUnits, round, still, taking, propagate, unitProp, byDiagram}
+use Rattle.meaning.specs.Rules.{rup, afterTurn, prTurns, pr}
 use Rattle.meaning.specs.Words.{inWord}
 use Rattle.paths.specs.Paths.{paths, byPath, pathTurns, pathLine}
 use Rattle.table.specs.Nodes.{Node, Placing, full, placed, place}
@@ -16,7 +17,8 @@ use Rattle.records.specs.declared.Rule.{Rule}
 use Rattle.records.specs.declared.Rule.the-variants.{Rup, Pr, Path}
 use Rattle.verdict.specs.Steps.{State, next, spent, accepted, judged, diagramIn, liveMembers}
 use Rattle.verdict.specs.Taken.{lineOf, peakWith}
-use Rattle.verdict.specs.MetFirst.{Met, all-shown, no-conflict, no-place, afterMade, making, inRound, propagating, metThen, turning, pathing, metBy, sayMet}
+use Rattle.verdict.specs.MetFirst.{Met, all-shown, no-conflict, no-place, afterMade, making, inRound, propagating, metThen, turning}
+use Rattle.verdict.specs.MetFirst.{pathing, metBy, sayMet}
 
 -- ---- making a list
 
@@ -35,7 +37,8 @@ making-room s t (f ∷ fs) go = by (place s t f) (λ t₁. making-room s t₁ fs
     by (full t₁) rec = refl
     by (placed t₁ k) rec = rec t₁
 
-making-append : (s : ℕ) (t : List Node) (fs gs : List Diagram) (go : List Node → Met) → making s t (fs ++ gs) go ≡ making s t fs (λ t₁. making s t₁ gs go)
+making-append : (s : ℕ) (t : List Node) (fs gs : List Diagram) (go : List Node → Met) → making s t (fs ++ gs) go
+    ≡ making s t fs (λ t₁. making s t₁ gs go)
 unfolding making
 making-append s t [] gs go = refl
 making-append s t (f ∷ fs) gs go = by (place s t f) (λ t₁. making-append s t₁ fs gs go)
@@ -45,12 +48,14 @@ making-append s t (f ∷ fs) gs go = by (place s t f) (λ t₁. making-append s 
     by (full t₁) rec = refl
     by (placed t₁ k) rec = rec t₁
 
-making-alike : (s : ℕ) (t : List Node) (fs : List Diagram) (go go′ : List Node → Met) → ((t₁ : List Node) → go t₁ ≡ go′ t₁) → making s t fs go ≡ making s t fs go′
+making-alike : (s : ℕ) (t : List Node) (fs : List Diagram) (go go′ : List Node → Met) → ((t₁ : List Node) → go t₁ ≡ go′ t₁) →
+    making s t fs go ≡ making s t fs go′
 unfolding making
 making-alike s t [] go go′ alike = alike t
 making-alike s t (f ∷ fs) go go′ alike = by (place s t f) (λ t₁. making-alike s t₁ fs go go′ alike)
   where
-    by : (p : Placing) → ((t₁ : List Node) → making s t₁ fs go ≡ making s t₁ fs go′) → afterMade p (λ t₁. making s t₁ fs go) ≡ afterMade p (λ t₁. making s t₁ fs go′)
+    by : (p : Placing) → ((t₁ : List Node) → making s t₁ fs go ≡ making s t₁ fs go′) → afterMade p (λ t₁. making s t₁ fs go)
+        ≡ afterMade p (λ t₁. making s t₁ fs go′)
     by (full t₁) rec = refl
     by (placed t₁ k) rec = rec t₁
 
@@ -70,12 +75,16 @@ propagating-is s (suc most) n t ms = by (conflicts n ms) (firstWithUnit n ms) (�
     P c o = cond c (still true) (taking o (λ u. round (byUnits n u ms) (propagate most n (byUnits n u ms))))
 
     by : (c : Bool) (o : Option Diagram)
-        → ((u : Diagram) (t₁ : List Node) → propagating s most n t₁ (byUnits n u ms) ≡ making s t₁ (propagate most n (byUnits n u ms) .made) (λ t₂. ends (propagate most n (byUnits n u ms) .conflict)))
-        → cond c all-shown (inRound o (λ u. making s t (byUnits n u ms) (λ t₁. propagating s most n t₁ (byUnits n u ms)))) ≡ making s t (P c o .made) (λ t₁. ends (P c o .conflict))
+        → ((u : Diagram) (t₁ : List Node) → propagating s most n t₁ (byUnits n u ms)
+        ≡ making s t₁ (propagate most n (byUnits n u ms) .made) (λ t₂. ends (propagate most n (byUnits n u ms) .conflict)))
+        → cond c all-shown (inRound o (λ u. making s t (byUnits n u ms) (λ t₁. propagating s most n t₁ (byUnits n u ms))))
+        ≡ making s t (P c o .made) (λ t₁. ends (P c o .conflict))
     by true o rec = refl
     by false none rec = refl
     by false (some u) rec =
-        making-alike s t (byUnits n u ms) _ _ (rec u) ∙ sym (making-append s t (byUnits n u ms) (propagate most n (byUnits n u ms) .made) (λ t₂. ends (propagate most n (byUnits n u ms) .conflict)))
+        making-alike s t (byUnits n u ms) _ _ (rec u) ∙ sym
+        (making-append s t (byUnits n u ms) (propagate most n (byUnits n u ms) .made)
+        (λ t₂. ends (propagate most n (byUnits n u ms) .conflict)))
 
 -- ---- turns
 
@@ -112,7 +121,8 @@ turning-is s n P N t ms′ (f ∷ fs) = by (same h (leaf true)) (turning-is s n 
 
     whole : turn ≡ afterRoom (placedAll s t (before ++ p .made)) (λ t₁. ends (p .conflict))
     whole =
-        making-alike s t before _ _ (λ t₁. propagating-is s n n t₁ second) ∙ sym (making-append s t before (p .made) (λ t₁. ends (p .conflict)))
+        making-alike s t before _ _ (λ t₁. propagating-is s n n t₁ second)
+        ∙ sym (making-append s t before (p .made) (λ t₁. ends (p .conflict)))
         ∙ making-room s t (before ++ p .made) (λ t₁. ends (p .conflict))
 
     after : (room : Room) (conflict : Bool) → turning s n P N t ms′ fs ≡ metTurns (turnsReach s (rest .turns) t .fits) (rest .shown)
@@ -123,9 +133,11 @@ turning-is s n P N t ms′ (f ∷ fs) = by (same h (leaf true)) (turning-is s n 
     after (all t₁) false rec = refl
 
     by : (c : Bool) → turning s n P N t ms′ fs ≡ metTurns (turnsReach s (rest .turns) t .fits) (rest .shown)
-        → cond c (turning s n P N t ms′ fs) (metThen turn (turning s n P N t ms′ fs)) ≡ metTurns (turnsReach s (line c .turns) t .fits) (line c .shown)
+        → cond c (turning s n P N t ms′ fs) (metThen turn (turning s n P N t ms′ fs))
+        ≡ metTurns (turnsReach s (line c .turns) t .fits) (line c .shown)
     by true rec = rec
-    by false rec = ap (λ (x : Met). metThen x (turning s n P N t ms′ fs)) whole ∙ after (placedAll s t (before ++ p .made)) (p .conflict) rec
+    by false rec = ap (λ (x : Met). metThen x (turning s n P N t ms′ fs)) whole
+        ∙ after (placedAll s t (before ++ p .made)) (p .conflict) rec
 
 -- the turns of paths
 pathing-is : (s n : ℕ) (t : List Node) (ms : List Diagram) (cs : List (List Literal))
@@ -133,7 +145,8 @@ pathing-is : (s n : ℕ) (t : List Node) (ms : List Diagram) (cs : List (List Li
 unfolding pathing pathTurns turnsReach afterTurn
 pathing-is s n t ms [] = refl
 pathing-is s n t ms (c ∷ cs) =
-    ap (λ (x : Met). metThen x (pathing s n t ms cs)) whole ∙ after (placedAll s t (first ++ p .made)) (p .conflict) (pathing-is s n t ms cs)
+    ap (λ (x : Met). metThen x (pathing s n t ms cs)) whole ∙ after (placedAll s t (first ++ p .made)) (p .conflict)
+    (pathing-is s n t ms cs)
   where
     first : List Diagram
     first = byPath n c ms
@@ -146,7 +159,8 @@ pathing-is s n t ms (c ∷ cs) =
 
     whole : making s t first (λ t₁. propagating s n n t₁ first) ≡ afterRoom (placedAll s t (first ++ p .made)) (λ t₁. ends (p .conflict))
     whole =
-        making-alike s t first _ _ (λ t₁. propagating-is s n n t₁ first) ∙ sym (making-append s t first (p .made) (λ t₁. ends (p .conflict)))
+        making-alike s t first _ _ (λ t₁. propagating-is s n n t₁ first)
+        ∙ sym (making-append s t first (p .made) (λ t₁. ends (p .conflict)))
         ∙ making-room s t (first ++ p .made) (λ t₁. ends (p .conflict))
 
     after : (room : Room) (conflict : Bool) → pathing s n t ms cs ≡ metTurns (turnsReach s (rest .turns) t .fits) (rest .shown)
@@ -159,17 +173,20 @@ pathing-is s n t ms (c ∷ cs) =
 -- ---- a line
 
 -- the one propagation of RUP
-propagating-turn : (s n : ℕ) (t : List Node) (ms : List Diagram) → propagating s n n t ms ≡ metTurns (turnsReach s (unitProp n ms .made ∷ []) t .fits) (unitProp n ms .conflict)
+propagating-turn : (s n : ℕ) (t : List Node) (ms : List Diagram) → propagating s n n t ms
+    ≡ metTurns (turnsReach s (unitProp n ms .made ∷ []) t .fits) (unitProp n ms .conflict)
 unfolding turnsReach unitProp
 propagating-turn s n t ms =
-    propagating-is s n n t ms ∙ making-room s t (propagate n n ms .made) (λ t₁. ends (propagate n n ms .conflict)) ∙ by (placedAll s t (propagate n n ms .made)) (propagate n n ms .conflict)
+    propagating-is s n n t ms ∙ making-room s t (propagate n n ms .made) (λ t₁. ends (propagate n n ms .conflict))
+    ∙ by (placedAll s t (propagate n n ms .made)) (propagate n n ms .conflict)
   where
     by : (room : Room) (conflict : Bool) → afterRoom room (λ t₁. ends conflict) ≡ metTurns (reached room .fits && true) conflict
     by (short t₁) conflict = refl
     by (all t₁) conflict = refl
 
 -- what is made first, then the turns over it
-line-met : (s : ℕ) (t : List Node) (line : Line) (go : List Node → Met) → ((t₁ : List Node) → go t₁ ≡ metTurns (turnsReach s (line .turns) t₁ .fits) (line .shown))
+line-met : (s : ℕ) (t : List Node) (line : Line) (go : List Node → Met) →
+    ((t₁ : List Node) → go t₁ ≡ metTurns (turnsReach s (line .turns) t₁ .fits) (line .shown))
     → making s t (line .kept) go ≡ metTurns (lineReach s t line .fits) (line .shown)
 unfolding lineReach
 line-met s t line go turns = making-room s t (line .kept) go ∙ by (placedAll s t (line .kept))
@@ -178,7 +195,8 @@ line-met s t line go turns = making-room s t (line .kept) go ∙ by (placedAll s
     by (short t₁) = refl
     by (all t₁) = turns t₁
 
-met-line : (n s : ℕ) (st : State) (rule : Rule) (g : ℕ) → metBy n s st rule g ≡ metTurns (lineReach s (st .nodes) (lineOf n st rule g) .fits) (lineOf n st rule g .shown)
+met-line : (n s : ℕ) (st : State) (rule : Rule) (g : ℕ) → metBy n s st rule g
+    ≡ metTurns (lineReach s (st .nodes) (lineOf n st rule g) .fits) (lineOf n st rule g .shown)
 unfolding metBy rup pr pathLine
 met-line n s st Rup g =
     let ms : List Diagram = liveMembers st in
@@ -191,7 +209,8 @@ met-line n s st Path g =
     line-met s (st .nodes) (lineOf n st Path g) _ (λ t. pathing-is s n t (liveMembers st) (paths (diagramIn st g)))
 
 -- "then 19 or 23, the one met first": for every state, rule and root.
-pub met-first : (n s : ℕ) (st : State) (rule : Rule) (g : ℕ) → judged s st g (lineOf n st rule g) ≡ sayMet st g (lineOf n st rule g) (peakWith s st (lineOf n st rule g)) (metBy n s st rule g)
+pub met-first : (n s : ℕ) (st : State) (rule : Rule) (g : ℕ) → judged s st g (lineOf n st rule g)
+    ≡ sayMet st g (lineOf n st rule g) (peakWith s st (lineOf n st rule g)) (metBy n s st rule g)
 unfolding judged
 met-first n s st rule g =
     by (lineReach s (st .nodes) line .fits) (line .shown) ∙ sym (ap (sayMet st g line (peakWith s st line)) (met-line n s st rule g))
@@ -202,7 +221,8 @@ met-first n s st rule g =
     peak : ℕ
     peak = peakWith s st line
 
-    by : (fits shown : Bool) → cond (not fits) (spent 23 peak) (cond (not shown) (spent 19 peak) (next (accepted st g line peak))) ≡ sayMet st g line peak (metTurns fits shown)
+    by : (fits shown : Bool) → cond (not fits) (spent 23 peak) (cond (not shown) (spent 19 peak) (next (accepted st g line peak)))
+        ≡ sayMet st g line peak (metTurns fits shown)
     by true true = refl
     by true false = refl
     by false shown = refl

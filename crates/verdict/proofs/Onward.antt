@@ -1,5 +1,5 @@
--- From a reached state to what the check leaves: numbers that are not dropped keep their diagrams, and no node of an accepted line is dropped. The
--- idea: by the steps that are left; the nodes are extended until the last ones are dropped. Assumes nothing.
+-- From a reached state to what the check leaves: numbers that are not dropped keep their diagrams, and no node of an accepted line is
+-- dropped. The idea: by the steps that are left; the nodes are extended until the last ones are dropped. Assumes nothing.
 use mathlib.Core.Bool.{Bool}
 use mathlib.Core.Path.{_≡_, refl, _∙_, subst}
 use mathlib.Core.List.{List}
@@ -11,7 +11,8 @@ use lib.Seq.{length-take-le}
 use Rattle.table.specs.Nodes.{diagramAt}
 use Rattle.table.proofs.Growth.{Extends, extends-length, diagramAt-grown, diagramAt-dropped}
 use Rattle.records.specs.declared.Record.{Record}
-use Rattle.records.specs.declared.Record.the-variants.{NodeEntry, Witness, ProofLine, Strike, SetEntry, End, CutShort, UnknownKind, NoRecord}
+use Rattle.records.specs.declared.Record.the-variants.{NodeEntry, Witness, ProofLine, Strike, SetEntry, End, CutShort, UnknownKind}
+use Rattle.records.specs.declared.Record.the-variants.{NoRecord}
 use Rattle.commands.specs.declared.Mode.{Mode}
 use Rattle.commands.specs.declared.Form.{Form}
 use Rattle.commands.specs.Commands.{Command, recorded, added, struckOut, wrong, finished}
@@ -38,27 +39,36 @@ record Counts (st st′ : State) : Type 0 where
 
 module _ {s n : ℕ} (narrow : n ≤ 64) where
   record-counts : {m : Meant} {st : State} → Standing s n m st → (r : Record) (st′ : State) → Taken n s st r st′ → Counts st st′
-  record-counts {m} {st} S (NodeEntry b) st′ T = subst (Counts st) (T .is) (record { kept = omega arith; line = λ p. absurd (omega arith); more = omega arith })
-  record-counts {m} {st} S (Witness v b) st′ T = subst (Counts st) (T .is) (record { kept = omega arith; line = λ p. absurd (omega arith); more = omega arith })
-  record-counts {m} {st} S (ProofLine rule root) st′ T = subst (Counts st) (T .is) (record { kept = S .kept; line = λ _. omega arith; more = omega arith })
-  record-counts {m} {st} S (Strike k) st′ T = subst (Counts st) (T .is) (record { kept = omega arith; line = λ p. absurd (omega arith); more = omega arith })
-  record-counts {m} {st} S (SetEntry kind b) st′ T = subst (Counts st) (T .is) (record { kept = omega arith; line = λ p. absurd (omega arith); more = omega arith })
+  record-counts {m} {st} S (NodeEntry b) st′ T = subst (Counts st) (T .is)
+      (record { kept = omega arith; line = λ p. absurd (omega arith); more = omega arith })
+  record-counts {m} {st} S (Witness v b) st′ T = subst (Counts st) (T .is)
+      (record { kept = omega arith; line = λ p. absurd (omega arith); more = omega arith })
+  record-counts {m} {st} S (ProofLine rule root) st′ T = subst (Counts st) (T .is)
+      (record { kept = S .kept; line = λ _. omega arith; more = omega arith })
+  record-counts {m} {st} S (Strike k) st′ T = subst (Counts st) (T .is)
+      (record { kept = omega arith; line = λ p. absurd (omega arith); more = omega arith })
+  record-counts {m} {st} S (SetEntry kind b) st′ T = subst (Counts st) (T .is)
+      (record { kept = omega arith; line = λ p. absurd (omega arith); more = omega arith })
   record-counts S End st′ T = absurd T
   record-counts S CutShort st′ T = absurd T
   record-counts S UnknownKind st′ T = absurd T
   record-counts S NoRecord st′ T = absurd T
 
-  known-counts : {m : Meant} {st : State} → Standing s n m st → (profile : Bool) (c : Command) → Known n c → (st′ : State) → CommandTaken profile n s st c st′ → Counts st st′
+  known-counts : {m : Meant} {st : State} → Standing s n m st → (profile : Bool) (c : Command) → Known n c → (st′ : State) →
+      CommandTaken profile n s st c st′ → Counts st st′
   known-counts S profile (recorded r more) known st′ T = record-counts S r st′ (T .1)
   known-counts {m} {st} S profile (added ls) known st′ T =
       let (line, peak, is) = clause-line S narrow ls known st′ T in
-      let longer : length (st .nodes) ≤ length (T .nodes) = extends-length (st .nodes) (T .nodes) (clause-grown S narrow ls (T .nodes) (T .node) (T .room)) in
+      let longer : length (st .nodes) ≤ length (T .nodes) = extends-length (st .nodes) (T .nodes)
+      (clause-grown S narrow ls (T .nodes) (T .node) (T .room)) in
       subst (Counts st) is (record { kept = omega (arith, S .kept); line = λ _. longer; more = omega arith })
-  known-counts {m} {st} S profile (struckOut ls) known st′ C = subst (Counts st) (C .is) (record { kept = omega arith; line = λ p. absurd (omega arith); more = omega arith })
+  known-counts {m} {st} S profile (struckOut ls) known st′ C = subst (Counts st) (C .is)
+      (record { kept = omega arith; line = λ p. absurd (omega arith); more = omega arith })
   known-counts S profile (wrong number offset) known st′ T = absurd T
   known-counts S profile finished known st′ T = absurd T
 
-  step-onward : {m : Meant} {st : State} → Standing s n m st → (profile : Bool) (form : Form) (c : Command) → Fit form n c → (st′ : State) → CommandTaken profile n s st c st′
+  step-onward : {m : Meant} {st : State} → Standing s n m st → (profile : Bool) (form : Form) (c : Command) → Fit form n c → (st′ : State) →
+      CommandTaken profile n s st c st′
       → (v : Verdict) → Onward st′ v → Onward st v
   step-onward {m} {st} S profile form c fit st′ T v O =
       let C : Counts st st′ = known-counts S profile c (fit-known form n c fit) st′ T in
@@ -98,14 +108,17 @@ module _ {s n : ℕ} (narrow : n ≤ 64) where
       fit = command-fit (mode .form) proof n at within
 
       go : (x : Step) → step (mode .consequence) n s st (commandIn mode proof n at) ≡ x
-          → ((m′ : Meant) (st′ : State) (at′ : ℕ) → at′ ≤ length proof → Standing s n m′ st′ → Onward st′ (commands steps mode n s proof st′ at′))
+          → ((m′ : Meant) (st′ : State) (at′ : ℕ) → at′ ≤ length proof → Standing s n m′ st′ →
+          Onward st′ (commands steps mode n s proof st′ at′))
           → Onward st (afterStep x st at (λ st′. commands steps mode n s proof st′ next-at))
       go (stop number offset) e rec = left-onward S number (at + offset) (st .peak)
       go (spent number peak) e rec = left-onward S number at peak
       go (next st′) e rec =
-          let T : CommandTaken (mode .consequence) n s st (commandIn mode proof n at) st′ = step-taken (mode .consequence) n s st (commandIn mode proof n at) st′ e in
+          let T : CommandTaken (mode .consequence) n s st (commandIn mode proof n at) st′ =
+          step-taken (mode .consequence) n s st (commandIn mode proof n at) st′ e in
           step-onward S (mode .consequence) (mode .form) c fit st′ T (commands steps mode n s proof st′ next-at)
-          (rec _ st′ next-at (command-goes (mode .consequence) (mode .form) proof n s st st′ at within T .1) (step-standing S narrow (mode .consequence) (mode .form) c fit st′ T))
+          (rec _ st′ next-at (command-goes (mode .consequence) (mode .form) proof n s st st′ at within T .1)
+          (step-standing S narrow (mode .consequence) (mode .form) c fit st′ T))
 
 -- What the check leaves, as seen from a state that it reaches.
 pub reached-onward : (mode : Mode) (s : ℕ) (text proof : List ℕ) {n : ℕ} {st : State} {at : ℕ} {m : Meant}

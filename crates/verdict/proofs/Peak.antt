@@ -1,5 +1,6 @@
--- The peak is the greatest count reached: no reached state has more nodes, the table is never exceeded, and with 8 and 23 every place is taken. The
--- idea: a placing leaves at most as many nodes as the table has places, and just as many where it finds no room. Assumes nothing.
+-- The peak is the greatest count reached: no reached state has more nodes, the table is never exceeded, and with 8 and 23 every place is
+-- taken. The idea: a placing leaves at most as many nodes as the table has places, and just as many where it finds no room. Assumes
+-- nothing.
 use mathlib.Core.Path.{_≡_, refl, sym, subst}
 use mathlib.Core.Logic.{_≢_}
 use mathlib.Core.Bool.{Bool, true, false, not, _&&_, _||_, cond}
@@ -27,15 +28,20 @@ use Rattle.records.specs.declared.Rule.the-variants.{Rup, Pr, Path}
 use Rattle.records.specs.declared.SetKind.{SetKind}
 use Rattle.records.specs.declared.SetBody.{SetBody}
 use Rattle.records.specs.declared.Record.{Record}
-use Rattle.records.specs.declared.Record.the-variants.{NodeEntry, Witness, ProofLine, Strike, SetEntry, End, CutShort, UnknownKind, NoRecord}
+use Rattle.records.specs.declared.Record.the-variants.{NodeEntry, Witness, ProofLine, Strike, SetEntry, End, CutShort, UnknownKind}
+use Rattle.records.specs.declared.Record.the-variants.{NoRecord}
 use Rattle.commands.specs.declared.Mode.{Mode}
 use Rattle.commands.specs.declared.Form.{Form}
 use Rattle.commands.specs.Commands.{Command, recorded, added, struckOut, wrong, finished}
-use Rattle.verdict.specs.Steps.{State, Step, next, stop, spent, isEntry, entryNode, isVariable, entered, nodeStep, witnessStep, waiting, accepted, judged, diagramIn, lineStep, isLive, strikeStep, beyond, noParity, setDiagram, setStep, endStep, withEntry, liveMembers, recordStep}
-use Rattle.verdict.specs.Clausal.{withPeak, judgedOr, secondLine, secondTry, afterFirst, tries, onceMade, addStep, firstSame, strikeFound, strikeClause}
+use Rattle.verdict.specs.Steps.{State, Step, next, stop, spent, isEntry, entryNode, isVariable, entered, nodeStep, witnessStep}
+use Rattle.verdict.specs.Steps.{waiting, accepted, judged, diagramIn, lineStep, isLive, strikeStep, beyond, noParity, setDiagram}
+use Rattle.verdict.specs.Steps.{setStep, endStep, withEntry, liveMembers, recordStep}
+use Rattle.verdict.specs.Clausal.{withPeak, judgedOr, secondLine, secondTry, afterFirst, tries, onceMade, addStep, firstSame}
+use Rattle.verdict.specs.Clausal.{strikeFound, strikeClause}
 use Rattle.verdict.specs.Check.{step, Verdict, left, afterStep, commands, verdict, shutOut}
 use Rattle.verdict.specs.Taken.{Function, Meant, lineOf, peakWith}
-use Rattle.verdict.specs.Run.{Making, commandIn, nextIn, CommandTaken, Reached, begins, goes, Ended, no-header, not-read, no-room, stopped, tried}
+use Rattle.verdict.specs.Run.{Making, commandIn, nextIn, CommandTaken, Reached, begins, goes, Ended, no-header, not-read, no-room}
+use Rattle.verdict.specs.Run.{stopped, tried}
 use Rattle.verdict.proofs.Formula.{Early, NamedHeader, header-named, either}
 use Rattle.verdict.proofs.Commands.{step-taken, taken-step, Fit, Known, fit-known, command-fit, command-goes}
 use Rattle.verdict.proofs.Standing.{Standing}
@@ -65,7 +71,8 @@ module _ (s : ℕ) where
       go false none = appended (ltb (length t) s) refl
       go false (some k) = p
 
-  then-within : (p : Placing) (rest : List Node → ℕ → Placing) → Within p → ((t : List Node) (k : ℕ) → length t ≤ s → Within (rest t k)) → Within (andThen p rest)
+  then-within : (p : Placing) (rest : List Node → ℕ → Placing) → Within p → ((t : List Node) (k : ℕ) → length t ≤ s → Within (rest t k)) →
+      Within (andThen p rest)
   unfolding andThen
   then-within (full t) rest w h = w
   then-within (placed t k) rest w h = h t k w
@@ -94,7 +101,8 @@ module _ (s : ℕ) where
   all-within t [] p = p
   all-within t (D ∷ Ds) p = go (place s t D) (place-within t D p) (λ t₁. all-within t₁ Ds)
     where
-      go : (x : Placing) → Within x → ((t₁ : List Node) → length t₁ ≤ s → RoomWithin (placedAll s t₁ Ds)) → RoomWithin (afterPlacing x (λ t₁. placedAll s t₁ Ds))
+      go : (x : Placing) → Within x → ((t₁ : List Node) → length t₁ ≤ s → RoomWithin (placedAll s t₁ Ds)) →
+          RoomWithin (afterPlacing x (λ t₁. placedAll s t₁ Ds))
       go (full t₁) w rest = w
       go (placed t₁ k) w rest = rest t₁ w
 
@@ -105,7 +113,8 @@ module _ (s : ℕ) where
   then-reach-within : (x y : Reach) → ReachWithin x → ReachWithin y → ReachWithin (thenReach x y)
   then-reach-within x y X Y = go (x .fits) (X .none-left)
     where
-      go : (c : Bool) → (c ≡ false → x .peak ≡ s) → ReachWithin (record { fits = c && y .fits; peak = cond c (max (x .peak) (y .peak)) (x .peak) })
+      go : (c : Bool) → (c ≡ false → x .peak ≡ s) → ReachWithin
+          (record { fits = c && y .fits; peak = cond c (max (x .peak) (y .peak)) (x .peak) })
       go true e = record { most = omega (arith, X .most, Y .most); none-left = λ f. omega (arith, X .most, Y .none-left f) }
       go false e = record { most = X .most; none-left = λ _. e refl }
 
@@ -113,7 +122,8 @@ module _ (s : ℕ) where
   unfolding turnsReach
   turns-within [] t p = record { most = p; none-left = λ e. t≢f e }
   turns-within (made ∷ later) t p =
-      then-reach-within (reached (placedAll s t made)) (turnsReach s later t) (reached-within (placedAll s t made) (all-within t made p)) (turns-within later t p)
+      then-reach-within (reached (placedAll s t made)) (turnsReach s later t) (reached-within (placedAll s t made) (all-within t made p))
+      (turns-within later t p)
 
   line-within : (t : List Node) (line : Line) → length t ≤ s → ReachWithin (lineReach s t line)
   unfolding lineReach
@@ -155,13 +165,15 @@ module _ (s : ℕ) where
         (refuses (not (isVariable n (b .variable))) 12 0 _ (λ q. omega arith)
         (refuses (not (isEntry st (b .low .0) && isEntry st (b .high .0))) 13 0 _ (λ q. omega arith)
         (refuses (not (above (st .nodes) (b .variable) l && above (st .nodes) (b .variable) h)) 14 0 _ (λ q. omega arith)
-        (entered-peaks (put s (st .nodes) (b .variable) l h) (put-within (st .nodes) (b .variable) l h (omega (arith, X .covers, X .within)))))))
+        (entered-peaks (put s (st .nodes) (b .variable) l h)
+        (put-within (st .nodes) (b .variable) l h (omega (arith, X .covers, X .within)))))))
 
     witness-peaks : (v : ℕ) (b : Bool) → Peaks st (witnessStep n st v b)
     unfolding witnessStep
     witness-peaks v b =
         refuses (not (isVariable n v)) 12 0 _ (λ q. omega arith)
-        (refuses (inWord (st .positive) v || inWord (st .negative) v) 15 0 _ (λ q. omega arith) (record { covers = X .covers; within = X .within }, omega arith))
+        (refuses (inWord (st .positive) v || inWord (st .negative) v) 15 0 _ (λ q. omega arith)
+        (record { covers = X .covers; within = X .within }, omega arith))
 
     judged-peaks : (g : ℕ) (line : Line) → Peaks st (judged s st g line)
     unfolding judged
@@ -171,7 +183,8 @@ module _ (s : ℕ) where
         R = line-within (st .nodes) line (omega (arith, X .covers, X .within))
 
         go : (fits shown : Bool) → (fits ≡ false → lineReach s (st .nodes) line .peak ≡ s)
-            → Peaks st (cond (not fits) (spent 23 (peakWith s st line)) (cond (not shown) (spent 19 (peakWith s st line)) (next (accepted st g line (peakWith s st line)))))
+            → Peaks st (cond (not fits) (spent 23 (peakWith s st line))
+            (cond (not shown) (spent 19 (peakWith s st line)) (next (accepted st g line (peakWith s st line)))))
         go false shown e = (omega arith, omega (arith, X .within, R .most), λ _. omega (arith, X .within, e refl))
         go true false e = (omega arith, omega (arith, X .within, R .most), λ q. absurd (omega arith))
         go true true e = (record { covers = omega (arith, X .covers); within = omega (arith, X .within, R .most) }, omega arith)
@@ -182,13 +195,15 @@ module _ (s : ℕ) where
         let g : ℕ = entryNode st root in
         refuses (not (isEntry st root)) 13 0 _ (λ q. omega arith)
         (refuses (waiting st) 16 0 _ (λ q. omega arith)
-        (refuses (leb 1024 (st .lines)) 22 0 _ (λ q. omega arith) (refuses (eqb g 1) 17 0 _ (λ q. omega arith) (judged-peaks g (lineOf n st Rup g)))))
+        (refuses (leb 1024 (st .lines)) 22 0 _ (λ q. omega arith)
+        (refuses (eqb g 1) 17 0 _ (λ q. omega arith) (judged-peaks g (lineOf n st Rup g)))))
     line-peaks Pr root =
         let g : ℕ = entryNode st root in
         refuses (not (isEntry st root)) 13 0 _ (λ q. omega arith)
         (refuses (leb 1024 (st .lines)) 22 0 _ (λ q. omega arith)
         (refuses (eqb g 1) 17 0 _ (λ q. omega arith)
-        (refuses (not (witnessed n (inWord (st .positive)) (inWord (st .negative)) (diagramIn st g))) 18 0 _ (λ q. omega arith) (judged-peaks g (lineOf n st Pr g)))))
+        (refuses (not (witnessed n (inWord (st .positive)) (inWord (st .negative)) (diagramIn st g))) 18 0 _ (λ q. omega arith)
+        (judged-peaks g (lineOf n st Pr g)))))
     line-peaks Path root =
         let g : ℕ = entryNode st root in
         refuses (not (isEntry st root)) 13 0 _ (λ q. omega arith)
@@ -209,7 +224,8 @@ module _ (s : ℕ) where
         refuses (leb 4096 (length (st .entries))) 21 0 _ (λ q. omega arith)
         (refuses (beyond n (b .set)) 12 0 _ (λ q. omega arith)
         (refuses (noParity kind (b .byte)) 29 0 _ (λ q. omega arith)
-        (entered-peaks (place s (st .nodes) (setDiagram n kind b)) (place-within (st .nodes) (setDiagram n kind b) (omega (arith, X .covers, X .within))))))
+        (entered-peaks (place s (st .nodes) (setDiagram n kind b))
+        (place-within (st .nodes) (setDiagram n kind b) (omega (arith, X .covers, X .within))))))
 
     end-peaks : (more : Bool) → Peaks st (endStep st more)
     unfolding endStep
@@ -239,7 +255,8 @@ module _ (s : ℕ) where
     unfolding secondTry
     second-peaks k [] peak more most = (more, most, λ q. absurd (omega arith))
     second-peaks k (p ∷ ls) peak more most =
-        wider (judged s (withPeak st peak) k line) (judged-peaks n (withPeak st peak) (record { covers = omega (arith, X .covers); within = most }) k line)
+        wider (judged s (withPeak st peak) k line)
+        (judged-peaks n (withPeak st peak) (record { covers = omega (arith, X .covers); within = most }) k line)
       where
         line : Line
         line = secondLine n (liveMembers st) p ls
@@ -249,7 +266,8 @@ module _ (s : ℕ) where
         wider (stop number offset) P = P
         wider (spent number q) P = (omega (arith, P .0), P .1, P .2)
 
-    first-peaks : (profile : Bool) (k : ℕ) (ls : List meaning.Literal) (peak : ℕ) → st .peak ≤ peak → peak ≤ s → Peaks st (afterFirst profile n s st k ls peak)
+    first-peaks : (profile : Bool) (k : ℕ) (ls : List meaning.Literal) (peak : ℕ) → st .peak ≤ peak → peak ≤ s →
+        Peaks st (afterFirst profile n s st k ls peak)
     unfolding afterFirst
     first-peaks true k ls peak more most = (more, most, λ q. absurd (omega arith))
     first-peaks false k ls peak more most = second-peaks k ls peak more most
@@ -265,7 +283,8 @@ module _ (s : ℕ) where
         R = line-reaches line
 
         go : (fits shown : Bool) → (fits ≡ false → lineReach s (st .nodes) line .peak ≡ s)
-            → Peaks st (cond (not fits) (spent 23 (peakWith s st line)) (cond (not shown) (afterFirst profile n s st k ls (peakWith s st line)) (next (accepted st k line (peakWith s st line)))))
+            → Peaks st (cond (not fits) (spent 23 (peakWith s st line))
+            (cond (not shown) (afterFirst profile n s st k ls (peakWith s st line)) (next (accepted st k line (peakWith s st line)))))
         go false shown e = (omega arith, omega (arith, X .within, R .most), λ _. omega (arith, X .within, e refl))
         go true false e = first-peaks profile k ls (peakWith s st line) (omega arith) (omega (arith, X .within, R .most))
         go true true e = (record { covers = omega (arith, X .covers); within = omega (arith, X .within, R .most) }, omega arith)
@@ -276,7 +295,8 @@ module _ (s : ℕ) where
     added-peaks profile ls =
         refuses n st X (leb 1024 (st .lines)) 22 0 _ (λ q. omega arith)
         (refuses n st X (same (meaning.clause n ls) (leaf true)) 17 0 _ (λ q. omega arith)
-        (made (place s (st .nodes) (meaning.clause n ls)) (place-within (st .nodes) (meaning.clause n ls) (omega (arith, X .covers, X .within)))))
+        (made (place s (st .nodes) (meaning.clause n ls))
+        (place-within (st .nodes) (meaning.clause n ls) (omega (arith, X .covers, X .within)))))
       where
         wider : (t : List Node) (k : ℕ) (x : Step) → Peaks (withEntry st t k) x → Peaks st x
         wider t k (next st′) (P, grows) = (P, omega arith)
@@ -286,7 +306,8 @@ module _ (s : ℕ) where
         made : (p : Placing) → Within p → Peaks st (onceMade st p (λ st₁ k. tries profile n s st₁ k ls))
         made (full t) w = (omega arith, omega (arith, X .within), λ _. omega (arith, X .within))
         made (placed t k) w =
-            wider t k (tries profile n s (withEntry st t k) k ls) (tries-peak n (withEntry st t k) (record { covers = omega arith; within = omega (arith, X .within) }) profile k ls)
+            wider t k (tries profile n s (withEntry st t k) k ls)
+            (tries-peak n (withEntry st t k) (record { covers = omega arith; within = omega (arith, X .within) }) profile k ls)
 
     struck-peaks : (ls : List meaning.Literal) → Peaks st (strikeClause n st ls)
     unfolding strikeClause
@@ -310,11 +331,14 @@ module _ (s : ℕ) where
   -- ---- the whole check
 
   -- The peak only grows to the end.
-  commands-peak : (mode : Mode) (n : ℕ) (proof : List ℕ) (steps : ℕ) (st : State) (at : ℕ) → at ≤ length proof → Peaked st → st .peak ≤ commands steps mode n s proof st at .peak
+  commands-peak : (mode : Mode) (n : ℕ) (proof : List ℕ) (steps : ℕ) (st : State) (at : ℕ) → at ≤ length proof → Peaked st →
+      st .peak ≤ commands steps mode n s proof st at .peak
   unfolding commands
   commands-peak mode n proof zero st at within X = omega arith
   commands-peak mode n proof (suc steps) st at within X =
-      go (step (mode .consequence) n s st (commandIn mode proof n at)) refl (step-peaks n st X (mode .consequence) (mode .form) (commandIn mode proof n at) (command-fit (mode .form) proof n at within)) (commands-peak mode n proof steps)
+      go (step (mode .consequence) n s st (commandIn mode proof n at)) refl
+      (step-peaks n st X (mode .consequence) (mode .form) (commandIn mode proof n at) (command-fit (mode .form) proof n at within))
+      (commands-peak mode n proof steps)
     where
       next-at : ℕ
       next-at = nextIn mode proof n at
@@ -325,15 +349,19 @@ module _ (s : ℕ) where
       go (stop number offset) e p rec = omega arith
       go (spent number peak) e p rec = p .0
       go (next st′) e p rec =
-          let T : CommandTaken (mode .consequence) n s st (commandIn mode proof n at) st′ = step-taken (mode .consequence) n s st (commandIn mode proof n at) st′ e in
+          let T : CommandTaken (mode .consequence) n s st (commandIn mode proof n at) st′ =
+          step-taken (mode .consequence) n s st (commandIn mode proof n at) st′ e in
           omega (arith, p .1, rec st′ next-at (command-goes (mode .consequence) (mode .form) proof n s st st′ at within T .1) (p .0))
 
   module _ (two : 2 ≤ s) (mode : Mode) (text proof : List ℕ) where
-    making-count : {n many : ℕ} {t : List Node} {ms : List ℕ} {fs : List Function} {r : Reading} → Making s text n many t ms fs r → (2 ≤ length t) × (length t ≤ s)
+    making-count : {n many : ℕ} {t : List Node} {ms : List ℕ} {fs : List Function} {r : Reading} → Making s text n many t ms fs r →
+        (2 ≤ length t) × (length t ≤ s)
     making-count {n} {many} M = let S = underway s text n many M .standing in (S .ordered .two, S .room two)
 
-    reached-peaks : {n : ℕ} {st : State} {at : ℕ} {m : Meant} → Reached mode s text proof n st at m → Peaked st → Peaks st (step (mode .consequence) n s st (commandIn mode proof n at))
-    reached-peaks {n} {st} {at} R X = step-peaks n st X (mode .consequence) (mode .form) (commandIn mode proof n at) (reached-fit mode s text proof R)
+    reached-peaks : {n : ℕ} {st : State} {at : ℕ} {m : Meant} → Reached mode s text proof n st at m → Peaked st →
+        Peaks st (step (mode .consequence) n s st (commandIn mode proof n at))
+    reached-peaks {n} {st} {at} R X = step-peaks n st X (mode .consequence) (mode .form) (commandIn mode proof n at)
+        (reached-fit mode s text proof R)
 
     reached-peaked : {n : ℕ} {st : State} {at : ℕ} {m : Meant} → Reached mode s text proof n st at m → Peaked st
     reached-peaked (begins M) = record { covers = omega arith; within = making-count M .1 }
@@ -345,13 +373,15 @@ module _ (s : ℕ) where
     peak-covers R = reached-peaked R .covers
 
     -- "the greatest count reached, dropped nodes included": what the check reports covers every state that it reaches.
-    pub peak-greatest : {n : ℕ} {st : State} {at : ℕ} {m : Meant} → Reached mode s text proof n st at m → length (st .nodes) ≤ verdict mode s text proof .peak
+    pub peak-greatest : {n : ℕ} {st : State} {at : ℕ} {m : Meant} → Reached mode s text proof n st at m →
+        length (st .nodes) ≤ verdict mode s text proof .peak
     peak-greatest {n} {st} {at} R =
         let X : Peaked st = reached-peaked R in
         let A : Ahead mode s text proof n st at = reached-ahead mode s text proof R in
         rw (A .is) (omega (arith, X .covers, commands-peak mode n proof (A .steps) st at (A .within) X))
 
-    -- What the check reports: at least the constants and the count that it leaves, at most the table's places, and all of them with 8 and 23.
+    -- What the check reports: at least the constants and the count that it leaves, at most the table's places, and all of them with 8 and
+    -- 23.
     pub record Reported (v : Verdict) : Type 0 where
       pub least : 2 ≤ v .peak
       pub most : v .peak ≤ s
@@ -359,7 +389,8 @@ module _ (s : ℕ) where
       pub clause-full : v .number ≡ 8 → v .peak ≡ s
       pub proof-full : v .number ≡ 23 → v .peak ≡ s
 
-    reached-reported : {n : ℕ} {st : State} {at : ℕ} {m : Meant} → Reached mode s text proof n st at m → (number place peak : ℕ) → st .peak ≤ peak → peak ≤ s
+    reached-reported : {n : ℕ} {st : State} {at : ℕ} {m : Meant} → Reached mode s text proof n st at m → (number place peak : ℕ) →
+        st .peak ≤ peak → peak ≤ s
         → number ≢ 8 → (number ≡ 23 → peak ≡ s) → Reported (left number place peak st)
     reached-reported {n} {st} {at} {m} R number place peak more most other filled =
         let S : Standing s n m st = reached-standing mode s text proof R .1 in
@@ -374,7 +405,14 @@ module _ (s : ℕ) where
 
     early-reported : (v : Verdict) → Early (v .number) → length (v .nodes) ≡ 2 → 2 ≤ v .peak → v .peak ≤ s → Reported v
     early-reported v named emptied least most =
-        record { least = least; most = most; left = omega arith; clause-full = λ e. absurd (omega arith); proof-full = λ e. absurd (omega arith) }
+        record {
+          least = least;
+          most = most;
+          left = omega arith;
+          clause-full = λ e. absurd (omega arith);
+          proof-full =
+              λ e. absurd (omega arith);
+        }
 
     -- a number of the proof is not 8
     not-eight : {v : Verdict} → Closed mode s text proof v → v .inProof ≡ true → v .number ≢ 8
@@ -387,10 +425,18 @@ module _ (s : ℕ) where
     ended-reported _ (not-read M) = early-reported _ (making-refused s text M) refl (making-count M .0) (making-count M .1)
     ended-reported _ (no-room {n} {many} {first} {t} {t₁} {ms} {fs} {ls} {rest} M e) =
         let filled : length t₁ ≡ s = subst Within e (place-within t (meaning.clause n ls) (making-count M .1)) in
-        record { least = omega arith; most = omega arith; left = omega arith; clause-full = λ _. filled; proof-full = λ q. absurd (omega arith) }
+        record {
+          least = omega arith;
+          most = omega arith;
+          left = omega arith;
+          clause-full = λ _. filled;
+          proof-full =
+              λ q. absurd (omega arith);
+        }
     ended-reported _ (stopped {n} {number} {offset} {at} {st} R e) =
         let P : number ≢ 23 = subst (Peaks st) e (reached-peaks R (reached-peaked R)) in
-        reached-reported R number (at + offset) (st .peak) (omega arith) (reached-peaked R .within) (not-eight (ended-closed mode s text proof _ (stopped R e)) refl) (λ q. absurd (P q))
+        reached-reported R number (at + offset) (st .peak) (omega arith) (reached-peaked R .within)
+        (not-eight (ended-closed mode s text proof _ (stopped R e)) refl) (λ q. absurd (P q))
     ended-reported _ (tried {n} {number} {peak} {at} {st} R e) =
         let P : Peaks st (spent number peak) = subst (Peaks st) e (reached-peaks R (reached-peaked R)) in
         reached-reported R number at peak (P .0) (P .1) (not-eight (ended-closed mode s text proof _ (tried R e)) refl) (P .2)
@@ -403,5 +449,6 @@ module _ (s : ℕ) where
     peak-within = (peak-reported .least, peak-reported .most)
 
     -- With 8 and with 23 every place was taken.
-    pub peak-full : (verdict mode s text proof .number ≡ 8 → verdict mode s text proof .peak ≡ s) × (verdict mode s text proof .number ≡ 23 → verdict mode s text proof .peak ≡ s)
+    pub peak-full : (verdict mode s text proof .number ≡ 8 → verdict mode s text proof .peak ≡ s)
+        × (verdict mode s text proof .number ≡ 23 → verdict mode s text proof .peak ≡ s)
     peak-full = (peak-reported .clause-full, peak-reported .proof-full)

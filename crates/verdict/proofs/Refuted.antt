@@ -1,5 +1,6 @@
--- Number 0 is given only where no assignment satisfies the formula, whatever the proof's bytes. The idea: where one satisfies the formula an
--- accepted line or clause keeps the live members satisfiable (meaning/proofs/Soundness), so that none is 0; a striking only leaves fewer. Assumes nothing.
+-- Number 0 is given only where no assignment satisfies the formula, whatever the proof's bytes. The idea: where one satisfies the formula
+-- an accepted line or clause keeps the live members satisfiable (meaning/proofs/Soundness), so that none is 0; a striking only leaves
+-- fewer. Assumes nothing.
 use mathlib.Core.Path.{_≡_, refl, sym, ap, ap₂, _∙_, subst}
 use mathlib.Core.Bool.{Bool, true, false, _&&_, cond}
 use mathlib.Core.List.{List, [], _∷_, _++_, map, append-nil}
@@ -23,7 +24,8 @@ use Rattle.dimacs.proofs.Formula.{formula-proper}
 use Rattle.records.specs.declared.Rule.{Rule}
 use Rattle.records.specs.declared.Rule.the-variants.{Rup, Pr, Path}
 use Rattle.records.specs.declared.Record.{Record}
-use Rattle.records.specs.declared.Record.the-variants.{NodeEntry, Witness, ProofLine, Strike, SetEntry, End, CutShort, UnknownKind, NoRecord}
+use Rattle.records.specs.declared.Record.the-variants.{NodeEntry, Witness, ProofLine, Strike, SetEntry, End, CutShort, UnknownKind}
+use Rattle.records.specs.declared.Record.the-variants.{NoRecord}
 use Rattle.commands.specs.declared.Mode.{Mode}
 use Rattle.commands.specs.declared.Form.{Form}
 use Rattle.commands.specs.Commands.{Command, recorded, added, struckOut, wrong, finished}
@@ -69,19 +71,22 @@ module _ (a : Assignment) where
       go false all = all
   all-fewer (m ∷ marks) (suc k) (f ∷ fs) all = go (eqb m 0) (all-fewer marks k fs) all
     where
-      go : (c : Bool) → (AllOne a (unstruck marks fs) → AllOne a (unstruck (set marks k 1) fs)) → AllOne a (cond c (f ∷ unstruck marks fs) (unstruck marks fs))
+      go : (c : Bool) → (AllOne a (unstruck marks fs) → AllOne a (unstruck (set marks k 1) fs)) →
+          AllOne a (cond c (f ∷ unstruck marks fs) (unstruck marks fs))
           → AllOne a (cond c (f ∷ unstruck (set marks k 1) fs) (unstruck (set marks k 1) fs))
       go true rest all = (all .0, rest (all .1))
       go false rest all = rest all
 
   -- members whose functions are 1 are satisfied, and the other way round
-  pub members-satisfied : (t : List Node) (b : ℕ) (ks : List ℕ) (fs : List Function) → Valued t b ks fs → AllOne a fs → Satisfies a (map (diagramAt t) ks)
+  pub members-satisfied : (t : List Node) (b : ℕ) (ks : List ℕ) (fs : List Function) → Valued t b ks fs → AllOne a fs →
+      Satisfies a (map (diagramAt t) ks)
   members-satisfied t b [] [] W all = tt
   members-satisfied t b [] (f ∷ fs) W all = absurd W
   members-satisfied t b (k ∷ ks) [] W all = absurd W
   members-satisfied t b (k ∷ ks) (f ∷ fs) W all = (W .1 a ∙ all .0, members-satisfied t b ks fs (W .2) (all .1))
 
-  satisfied-members : (t : List Node) (b : ℕ) (ks : List ℕ) (fs : List Function) → Valued t b ks fs → Satisfies a (map (diagramAt t) ks) → AllOne a fs
+  satisfied-members : (t : List Node) (b : ℕ) (ks : List ℕ) (fs : List Function) → Valued t b ks fs → Satisfies a (map (diagramAt t) ks) →
+      AllOne a fs
   satisfied-members t b [] [] W sat = tt
   satisfied-members t b [] (f ∷ fs) W sat = absurd W
   satisfied-members t b (k ∷ ks) [] W sat = absurd W
@@ -90,7 +95,8 @@ module _ (a : Assignment) where
   pub satisfied-clauses : (cs : List (List meaning.Literal)) → satisfies a cs ≡ true → AllOne a (map meaning.clauseValue cs)
   unfolding satisfies
   satisfied-clauses [] e = tt
-  satisfied-clauses (ls ∷ cs) e = let (one, rest) = and-both (meaning.clauseValue ls a) (satisfies a cs) e in (one, satisfied-clauses cs rest)
+  satisfied-clauses (ls ∷ cs) e = let (one, rest) = and-both (meaning.clauseValue ls a) (satisfies a cs) e in
+      (one, satisfied-clauses cs rest)
 
 -- ---- clauses of n variables
 
@@ -101,7 +107,8 @@ read-within n (suc left) (clause ls first rest) R = (R .0, read-within n left re
 read-within n left complete R = tt
 read-within n left (refusal number place) R = tt
 
-pub satisfies-fitted : (n : ℕ) (cs : List (List meaning.Literal)) → AllOfVariables n cs → (a : Assignment) → satisfies (fitted n a) cs ≡ satisfies a cs
+pub satisfies-fitted : (n : ℕ) (cs : List (List meaning.Literal)) → AllOfVariables n cs → (a : Assignment) → satisfies (fitted n a) cs
+    ≡ satisfies a cs
 unfolding satisfies
 satisfies-fitted n [] w a = refl
 satisfies-fitted n (ls ∷ cs) w a = ap₂ _&&_ (clause-fitted n ls (w .0) a) (satisfies-fitted n cs (w .1) a)
@@ -112,10 +119,11 @@ satisfies-fitted n (ls ∷ cs) w a = ap₂ _&&_ (clause-fitted n ls (w .0) a) (s
 abbrev pub liveMeant : State → Meant → List Function
 liveMeant st m = unstruck (st .struck) (m .members)
 
--- Where an assignment satisfies the formula one satisfies all live members, and none satisfies it once a 0 line is accepted, though that line
--- be struck later.
+-- Where an assignment satisfies the formula one satisfies all live members, and none satisfies it once a 0 line is accepted, though that
+-- line be struck later.
 pub record Sound (text : List ℕ) (n : ℕ) (m : Meant) (st : State) : Type 0 where
-  pub kept : (a : Assignment) → length a ≡ n → satisfies a (clausesOf (formula text)) ≡ true → (b : Assignment) × (length b ≡ n) × AllOne b (liveMeant st m)
+  pub kept : (a : Assignment) → length a ≡ n → satisfies a (clausesOf (formula text)) ≡ true → (b : Assignment) × (length b ≡ n)
+      × AllOne b (liveMeant st m)
   pub zero : st .refuted ≡ true → (a : Assignment) → length a ≡ n → satisfies a (clausesOf (formula text)) ≡ true → ⊥
 
 module _ {s n : ℕ} {m : Meant} {st : State} (S : Standing s n m st) where
@@ -123,27 +131,37 @@ module _ {s n : ℕ} {m : Meant} {st : State} (S : Standing s n m st) where
   live-valued = valued-unstruck (st .nodes) (st .kept) (st .struck) (st .members) (m .members) (S .members)
 
   -- an assignment for the live members gives one for them and an accepted line
-  line-keeps : (rule : Rule) (root : ℕ) (st′ : State) → LineTaken n s st rule root st′ → (a : Assignment) → length a ≡ n → AllOne a (liveMeant st m)
+  line-keeps : (rule : Rule) (root : ℕ) (st′ : State) → LineTaken n s st rule root st′ → (a : Assignment) → length a ≡ n →
+      AllOne a (liveMeant st m)
       → (b : Assignment) × (length b ≡ n) × AllOne b (liveMeant st m) × (entryMeant m root b ≡ true)
   line-keeps Rup root st′ T a len all =
       let (inside, is) = entry-valued S root (T .entry) in
-      let one : value (diagramIn st (entryNode st root)) a ≡ true = rup-sound n (liveMembers st) (diagramIn st (entryNode st root)) (T .shown) a len
+      let one : value (diagramIn st (entryNode st root)) a ≡ true = rup-sound n (liveMembers st) (diagramIn st (entryNode st root))
+      (T .shown) a len
       (members-satisfied a (st .nodes) (st .kept) (unstruck (st .struck) (st .members)) (liveMeant st m) live-valued all) in
       (a, len, all, sym (is a) ∙ one)
   line-keeps Pr root st′ T a len all =
       let (inside, is) = entry-valued S root (T .entry) in
-      let (b, lb, sat, one) = pr-sound n (inWord (st .positive)) (inWord (st .negative)) (liveMembers st) (diagramIn st (entryNode st root)) (T .witness) (T .shown) a len
-      (members-satisfied a (st .nodes) (st .kept) (unstruck (st .struck) (st .members)) (liveMeant st m) live-valued all) in
-      (b, lb, satisfied-members b (st .nodes) (st .kept) (unstruck (st .struck) (st .members)) (liveMeant st m) live-valued sat, sym (is b) ∙ one)
+      let (b, lb, sat, one) = pr-sound n (inWord (st .positive)) (inWord (st .negative)) (liveMembers st) (diagramIn st (entryNode st root))
+      (T .witness) (T .shown) a len
+      (members-satisfied a (st .nodes) (st .kept) (unstruck (st .struck) (st .members)) (liveMeant st m) live-valued all) in (
+        b,
+        lb,
+        satisfied-members b (st .nodes) (st .kept) (unstruck (st .struck) (st .members)) (liveMeant st m) live-valued sat,
+        sym (is b)
+            ∙ one,
+      )
   line-keeps Path root st′ T a len all =
       let (inside, is) = entry-valued S root (T .entry) in
-      let one : value (diagramIn st (entryNode st root)) a ≡ true = path-sound n (liveMembers st) (diagramIn st (entryNode st root)) (T .shown) a len
+      let one : value (diagramIn st (entryNode st root)) a ≡ true = path-sound n (liveMembers st) (diagramIn st (entryNode st root))
+      (T .shown) a len
       (members-satisfied a (st .nodes) (st .kept) (unstruck (st .struck) (st .members)) (liveMeant st m) live-valued all) in
       (a, len, all, sym (is a) ∙ one)
 
   -- an accepted line is one more live member
   live-append : (f : Function) → unstruck (st .struck ++ 0 ∷ []) (m .members ++ f ∷ []) ≡ liveMeant st m ++ f ∷ []
-  live-append f = unstruck-append (st .struck) (m .members) f (S .marks ∙ valued-length (st .nodes) (st .kept) (st .members) (m .members) (S .members))
+  live-append f = unstruck-append (st .struck) (m .members) f
+      (S .marks ∙ valued-length (st .nodes) (st .kept) (st .members) (m .members) (S .members))
 
   module _ (narrow : n ≤ 64) (text : List ℕ) (H : Sound text n m st) where
     line-sound : (rule : Rule) (root : ℕ) (st′ : State) → LineTaken n s st rule root st′
@@ -164,7 +182,8 @@ module _ {s n : ℕ} {m : Meant} {st : State} (S : Standing s n m st) where
         })
 
     -- no line is accepted, and no member becomes live
-    same-sound : (m′ : Meant) (st′ : State) → ((b : Assignment) → AllOne b (liveMeant st m) → AllOne b (liveMeant st′ m′)) → st .refuted ≡ st′ .refuted
+    same-sound : (m′ : Meant) (st′ : State) → ((b : Assignment) → AllOne b (liveMeant st m) → AllOne b (liveMeant st′ m′)) → st .refuted
+        ≡ st′ .refuted
         → Sound text n m′ st′
     same-sound m′ st′ fewer e = record {
       kept = λ a len sat. let (b, lb, all) = H .kept a len sat in (b, lb, fewer b all);
@@ -172,17 +191,21 @@ module _ {s n : ℕ} {m : Meant} {st : State} (S : Standing s n m st) where
     }
 
     -- the marks of a state that is one of the others
-    struck-are : (st₁ st′ : State) → st₁ ≡ st′ → (b : Assignment) → AllOne b (unstruck (st₁ .struck) (m .members)) → AllOne b (unstruck (st′ .struck) (m .members))
+    struck-are : (st₁ st′ : State) → st₁ ≡ st′ → (b : Assignment) → AllOne b (unstruck (st₁ .struck) (m .members)) →
+        AllOne b (unstruck (st′ .struck) (m .members))
     struck-are st₁ st′ is b all = subst (λ (x : State). AllOne b (unstruck (x .struck) (m .members))) is all
 
     record-sound : (r : Record) (st′ : State) → Taken n s st r st′ → Sound text n (afterRecord m r) st′
     unfolding afterRecord
-    record-sound (NodeEntry b) st′ T = same-sound (afterRecord m (NodeEntry b)) st′ (struck-are _ st′ (T .is)) (ap (λ (x : State). x .refuted) (T .is))
+    record-sound (NodeEntry b) st′ T = same-sound (afterRecord m (NodeEntry b)) st′ (struck-are _ st′ (T .is))
+        (ap (λ (x : State). x .refuted) (T .is))
     record-sound (Witness v b) st′ T = same-sound m st′ (struck-are _ st′ (T .is)) (ap (λ (x : State). x .refuted) (T .is))
     record-sound (ProofLine rule root) st′ T = line-sound rule (root .0) st′ T
     record-sound (Strike k) st′ T =
-        same-sound m st′ (λ b all. struck-are _ st′ (T .is) b (all-fewer b (st .struck) (k .0) (m .members) all)) (ap (λ (x : State). x .refuted) (T .is))
-    record-sound (SetEntry kind b) st′ T = same-sound (afterRecord m (SetEntry kind b)) st′ (struck-are _ st′ (T .is)) (ap (λ (x : State). x .refuted) (T .is))
+        same-sound m st′ (λ b all. struck-are _ st′ (T .is) b (all-fewer b (st .struck) (k .0) (m .members) all))
+        (ap (λ (x : State). x .refuted) (T .is))
+    record-sound (SetEntry kind b) st′ T = same-sound (afterRecord m (SetEntry kind b)) st′ (struck-are _ st′ (T .is))
+        (ap (λ (x : State). x .refuted) (T .is))
     record-sound End st′ T = absurd T
     record-sound CutShort st′ T = absurd T
     record-sound UnknownKind st′ T = absurd T
@@ -208,23 +231,28 @@ module _ {s n : ℕ} {m : Meant} {st : State} (S : Standing s n m st) where
               ∙ ap (λ (D : Diagram). value D b) (diagramAt-zero (T .nodes))));
         })
       where
-        keeps : (ls : List meaning.Literal) → OfVariables n ls → (st′ : State) → ClauseTaken profile n s st ls st′ → (a : Assignment) → length a ≡ n → AllOne a (liveMeant st m)
+        keeps : (ls : List meaning.Literal) → OfVariables n ls → (st′ : State) → ClauseTaken profile n s st ls st′ → (a : Assignment) →
+            length a ≡ n → AllOne a (liveMeant st m)
             → (b : Assignment) × (length b ≡ n) × AllOne b (liveMeant st m) × (meaning.clauseValue ls b ≡ true)
         keeps ls w st′ T a len all =
             let ks : List ℕ = unstruck (st .struck) (st .members) in
-            let (b, lb, sat, one) = clause-keeps S narrow ls w st′ T a len (members-satisfied a (st .nodes) (st .kept) ks (liveMeant st m) live-valued all) in
+            let (b, lb, sat, one) = clause-keeps S narrow ls w st′ T a len
+            (members-satisfied a (st .nodes) (st .kept) ks (liveMeant st m) live-valued all) in
             (b, lb, satisfied-members b (st .nodes) (st .kept) ks (liveMeant st m) live-valued sat, one)
 
-    known-sound : (profile : Bool) (c : Command) → Known n c → (st′ : State) → CommandTaken profile n s st c st′ → Sound text n (afterCommand m c) st′
+    known-sound : (profile : Bool) (c : Command) → Known n c → (st′ : State) → CommandTaken profile n s st c st′ →
+        Sound text n (afterCommand m c) st′
     unfolding afterCommand
     known-sound profile (recorded r more) known st′ T = record-sound r st′ (T .1)
     known-sound profile (added ls) known st′ T = clause-sound profile ls known st′ T
     known-sound profile (struckOut ls) known st′ C =
-        same-sound m st′ (λ b all. struck-are _ st′ (C .is) b (all-fewer b (st .struck) (C .place) (m .members) all)) (ap (λ (x : State). x .refuted) (C .is))
+        same-sound m st′ (λ b all. struck-are _ st′ (C .is) b (all-fewer b (st .struck) (C .place) (m .members) all))
+        (ap (λ (x : State). x .refuted) (C .is))
     known-sound profile (wrong number offset) known st′ T = absurd T
     known-sound profile finished known st′ T = absurd T
 
-    pub step-sound : (profile : Bool) (form : Form) (c : Command) → Fit form n c → (st′ : State) → CommandTaken profile n s st c st′ → Sound text n (afterCommand m c) st′
+    pub step-sound : (profile : Bool) (form : Form) (c : Command) → Fit form n c → (st′ : State) → CommandTaken profile n s st c st′ →
+        Sound text n (afterCommand m c) st′
     step-sound profile form c fit st′ T = known-sound profile c (fit-known form n c fit) st′ T
 
 module _ (mode : Mode) (s : ℕ) (text proof : List ℕ) where
@@ -233,8 +261,13 @@ module _ (mode : Mode) (s : ℕ) (text proof : List ℕ) where
       → Sound text n (record { members = fs; entries = [] }) (begun t ms)
   unfolding clausesOf
   begun-sound n many t ms fs M = record {
-    kept = λ a len sat.
-        (a, len, rw (unstruck-none (length ms) fs) (subst (AllOne a) (sym (sym (append-nil fs) ∙ underway s text n many M .clauses)) (satisfied-clauses a (clausesOf (formula text)) sat)));
+    kept = λ a len sat. (
+      a,
+      len,
+      rw (unstruck-none (length ms) fs)
+          (subst (AllOne a) (sym (sym (append-nil fs) ∙ underway s text n many M .clauses))
+          (satisfied-clauses a (clausesOf (formula text)) sat)),
+    );
     zero = λ e a len sat. t≢f (sym e);
   }
 
@@ -242,18 +275,21 @@ module _ (mode : Mode) (s : ℕ) (text proof : List ℕ) where
   reached-sound {n} (begins {many} {t} {ms} {fs} M) = begun-sound n many t ms fs M
   reached-sound {n} (goes {st} {st′} {at} R T) =
       let (narrow, S) = reached-standing mode s text proof R in
-      step-sound S narrow text (reached-sound R) (mode .consequence) (mode .form) (commandIn mode proof n at) (reached-fit mode s text proof R) st′ T
+      step-sound S narrow text (reached-sound R) (mode .consequence) (mode .form) (commandIn mode proof n at)
+      (reached-fit mode s text proof R) st′ T
 
   -- ---- the formula of a reached state
 
-  making-within : {n many : ℕ} {t : List Node} {ms : List ℕ} {fs : List Function} {r : Reading} → Making s text n many t ms fs r → AllOfVariables n (clausesOf (formula text))
+  making-within : {n many : ℕ} {t : List Node} {ms : List ℕ} {fs : List Function} {r : Reading} → Making s text n many t ms fs r →
+      AllOfVariables n (clausesOf (formula text))
   making-within {n} {many} (opened {at} e) =
       let h : (n ≤ 64) × (many ≤ 1024) × (at ≤ length text) = subst (HeaderIn text) e (header-in text) in
       rw (formula-proper text n many at e) (read-within n many (clausesFrom text n many at) (clauses-read text n many at (h .2)))
   making-within (made M e) = making-within M
 
   -- Its literals are the header's.
-  pub reached-within : {n : ℕ} {st : State} {at : ℕ} {m : Meant} → Reached mode s text proof n st at m → AllOfVariables n (clausesOf (formula text))
+  pub reached-within : {n : ℕ} {st : State} {at : ℕ} {m : Meant} → Reached mode s text proof n st at m →
+      AllOfVariables n (clausesOf (formula text))
   reached-within (begins M) = making-within M
   reached-within (goes R e) = reached-within R
 
@@ -266,7 +302,8 @@ module _ (mode : Mode) (s : ℕ) (text proof : List ℕ) where
 
   -- The number 0 is given: the formula was read to its end, and no assignment, of as many variables as one likes, satisfies it.
   pub refuted : verdict mode s text proof .number ≡ 0 → Unsatisfiable text
-  refuted zero-said = go (verdict mode s text proof) (ended-closed mode s text proof (verdict mode s text proof) (ended mode s text proof)) zero-said
+  refuted zero-said = go (verdict mode s text proof) (ended-closed mode s text proof (verdict mode s text proof) (ended mode s text proof))
+      zero-said
     where
       go : (v : Verdict) → Closed mode s text proof v → v .number ≡ 0 → Unsatisfiable text
       go _ (formula-refused named) z = absurd (omega arith)
@@ -274,7 +311,8 @@ module _ (mode : Mode) (s : ℕ) (text proof : List ℕ) where
       go _ (proof-ended {n} {number} {offset} {at} {st} {m} _ R e) z = (
         reached-end R,
         (λ a. not-true (satisfies a (clausesOf (formula text))) (λ sat.
-            reached-sound R .zero (step-refutes (mode .consequence) (mode .form) n s st (commandIn mode proof n at) (reached-fit mode s text proof R) offset (rw z at e) .zero-line) (fitted n a) (fitted-length n a)
+            reached-sound R .zero (step-refutes (mode .consequence) (mode .form) n s st (commandIn mode proof n at)
+            (reached-fit mode s text proof R) offset (rw z at e) .zero-line) (fitted n a) (fitted-length n a)
             (satisfies-fitted n (clausesOf (formula text)) (reached-within R) a ∙ sat))),
       )
 
@@ -291,4 +329,5 @@ pub check-refuted : (mode : Mode) (c : Columns) (count : ℕ) (members struck sc
 unfolding check outcome
 check-refuted mode c count members struck scratch text proof e =
     refuted mode (length (c .vars)) text proof
-    (said-zero (lentFits c members struck scratch) (outcome (length (c .vars)) (length members) (length scratch) (verdict mode (length (c .vars)) text proof)) _ refl e)
+    (said-zero (lentFits c members struck scratch)
+    (outcome (length (c .vars)) (length members) (length scratch) (verdict mode (length (c .vars)) text proof)) _ refl e)

@@ -1,5 +1,5 @@
--- The diagram of a set's entry: reduced, with the header's variables alone, and with the value that 02 gives it under every assignment, whatever its
--- length. The idea: variables beyond the set, and those that are missing, add no true one. Assumes nothing.
+-- The diagram of a set's entry: reduced, with the header's variables alone, and with the value that 02 gives it under every assignment,
+-- whatever its length. The idea: variables beyond the set, and those that are missing, add no true one. Assumes nothing.
 use mathlib.Core.Path.{_≡_, refl, sym, ap, _∙_}
 use mathlib.Core.Bool.{Bool, false, _&&_, cond, Bool·beq, and-false}
 use mathlib.Core.List.{[], _∷_, _++_}
@@ -35,7 +35,8 @@ set-reduced n Parity b = diagram-reduced n (parityValue (inWord (b .set)) (eqb (
 set-reduced n AtLeast b = diagram-reduced n (atLeastValue (inWord (b .set)) (b .byte))
 
 -- "its value [..] is 1 where the number of the set's true variables is odd or even, as the byte says, or at least k; else 0" (02, 5/14)
-pub set-valued : (n : ℕ) (kind : SetKind) (b : SetBody) → b .set < 2 ^ n → (a : Assignment) → value (setDiagram n kind b) a ≡ setMeant kind b a
+pub set-valued : (n : ℕ) (kind : SetKind) (b : SetBody) → b .set < 2 ^ n → (a : Assignment) → value (setDiagram n kind b) a
+    ≡ setMeant kind b a
 unfolding parity parityValue atLeast atLeastValue
 set-valued n Parity b within a =
     diagram-fitted n (parityValue (inWord (b .set)) (eqb (b .byte) 1)) a

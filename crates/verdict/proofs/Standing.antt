@@ -21,10 +21,12 @@ use Rattle.records.specs.declared.SetKind.{SetKind}
 use Rattle.records.specs.declared.SetBody.{SetBody}
 use Rattle.records.specs.declared.Rule.{Rule}
 use Rattle.records.specs.declared.Record.{Record}
-use Rattle.records.specs.declared.Record.the-variants.{NodeEntry, Witness, ProofLine, Strike, SetEntry, End, CutShort, UnknownKind, NoRecord}
+use Rattle.records.specs.declared.Record.the-variants.{NodeEntry, Witness, ProofLine, Strike, SetEntry, End, CutShort, UnknownKind}
+use Rattle.records.specs.declared.Record.the-variants.{NoRecord}
 use Rattle.verdict.specs.Steps.{State, numbered, isEntry, entryNode, setDiagram}
 use Rattle.verdict.specs.Steps.{withEntry, withMarks}
-use Rattle.verdict.specs.Taken.{Function, Meant, numberedMeant, entryMeant, nodeMeant, setMeant, afterRecord, Valued, NodeTaken, WitnessTaken, LineTaken, SetTaken, Taken}
+use Rattle.verdict.specs.Taken.{Function, Meant, numberedMeant, entryMeant, nodeMeant, setMeant, afterRecord, Valued, NodeTaken}
+use Rattle.verdict.specs.Taken.{WitnessTaken, LineTaken, SetTaken, Taken}
 use Rattle.verdict.proofs.SetValues.{set-reduced, set-valued}
 use Rattle.verdict.proofs.Uses.{UsesAfter, place-uses}
 
@@ -50,7 +52,8 @@ pub valued-grown : (t t′ : List Node) (b b′ : ℕ) → Ordered t → Extends
     → (ks : List ℕ) (fs : List Function) → Valued t b ks fs → Valued t′ b′ ks fs
 valued-grown t t′ b b′ O E within le = valued-along t t′ b b′ le (λ k p. diagramAt-grown t t′ O E k (omega arith))
 
-pub valued-dropped : (t : List Node) (b : ℕ) → Ordered t → 2 ≤ b → b ≤ length t → (ks : List ℕ) (fs : List Function) → Valued t b ks fs → Valued (take b t) b ks fs
+pub valued-dropped : (t : List Node) (b : ℕ) → Ordered t → 2 ≤ b → b ≤ length t → (ks : List ℕ) (fs : List Function) → Valued t b ks fs →
+    Valued (take b t) b ks fs
 valued-dropped t b O two within = valued-along t (take b t) b b (omega arith) (λ k p. diagramAt-dropped t O b two within k p)
 
 pub valued-at : (t : List Node) (b : ℕ) (ks : List ℕ) (fs : List Function) → Valued t b ks fs → (i : ℕ) → i < length ks → (other : Function)
@@ -95,7 +98,8 @@ module _ {s n : ℕ} {m : Meant} {st : State} (S : Standing s n m st) where
   pub entry-valued : (e : ℕ) → isEntry st e ≡ true
       → (entryNode st e < length (st .nodes)) × ((a : Assignment) → value (diagramAt (st .nodes) (entryNode st e)) a ≡ entryMeant m e a)
   unfolding isEntry entryNode entryMeant
-  entry-valued e there = valued-at (st .nodes) (length (st .nodes)) (numbered st) (numberedMeant m) numbered-valued e (ltb-true e (length (numbered st)) there) (λ a. false)
+  entry-valued e there = valued-at (st .nodes) (length (st .nodes)) (numbered st) (numberedMeant m) numbered-valued e
+      (ltb-true e (length (numbered st)) there) (λ a. false)
 
 -- ---- one entry more
 
@@ -112,10 +116,12 @@ module _ {s n : ℕ} {m : Meant} {st : State} (S : Standing s n m st) (D : Diagr
         room = λ two. A .kept .room (S .room two);
         least = S .least;
         kept = omega (arith, S .kept);
-        members = valued-grown (st .nodes) t (st .kept) (st .kept) (S .ordered) (A .kept .extends) (S .kept) (omega arith) (st .members) (m .members) (S .members);
+        members = valued-grown (st .nodes) t (st .kept) (st .kept) (S .ordered) (A .kept .extends) (S .kept) (omega arith) (st .members)
+            (m .members) (S .members);
         marks = S .marks;
         entries = valued-append t (length t) (st .entries) (m .entries) k f
-            (valued-grown (st .nodes) t (length (st .nodes)) (length t) (S .ordered) (A .kept .extends) (omega arith) longer (st .entries) (m .entries) (S .entries))
+            (valued-grown (st .nodes) t (length (st .nodes)) (length t) (S .ordered) (A .kept .extends) (omega arith) longer (st .entries)
+            (m .entries) (S .entries))
             (A .inside) (λ a. ap (λ (D : Diagram). value D a) (A .is) ∙ values a);
         few = omega (arith, length-append (st .entries) (k ∷ []));
         lines = S .lines;
@@ -124,7 +130,8 @@ module _ {s n : ℕ} {m : Meant} {st : State} (S : Standing s n m st) (D : Diagr
 
 -- ---- node records
 
-module _ {s n : ℕ} {m : Meant} {st : State} (S : Standing s n m st) (v l h : ℕ) (low-in : l < length (st .nodes)) (high-in : h < length (st .nodes))
+module _ {s n : ℕ} {m : Meant} {st : State} (S : Standing s n m st) (v l h : ℕ) (low-in : l < length (st .nodes))
+    (high-in : h < length (st .nodes))
     (least : 1 ≤ v) (over-low : 2 ≤ l → v < at (st .nodes) l .var) (over-high : 2 ≤ h → v < at (st .nodes) h .var) where
   abbrev pub over : Diagram
   over = branch v (diagramAt (st .nodes) l) (diagramAt (st .nodes) h)
@@ -170,8 +177,10 @@ module _ {s n : ℕ} {m : Meant} {st : State} (S : Standing s n m st) (narrow : 
     over-high : 2 ≤ h → b .variable < at (st .nodes) h .var
     over-high = above-true (st .nodes) (b .variable) h (T .over-high)
 
-    node-after : After s (st .nodes) (branch (b .variable) (diagramAt (st .nodes) l) (diagramAt (st .nodes) h)) (placed (T .nodes) (T .entry))
-    node-after = subst (After s (st .nodes) _) (T .room) (put-after S (b .variable) l h low-in high-in (T .least) over-low over-high (T .most) narrow)
+    node-after : After s (st .nodes) (branch (b .variable) (diagramAt (st .nodes) l) (diagramAt (st .nodes) h))
+        (placed (T .nodes) (T .entry))
+    node-after = subst (After s (st .nodes) _) (T .room)
+        (put-after S (b .variable) l h low-in high-in (T .least) over-low over-high (T .most) narrow)
 
     node-standing : Standing s n (afterRecord m (NodeEntry b)) st′
     unfolding afterRecord
@@ -180,7 +189,8 @@ module _ {s n : ℕ} {m : Meant} {st : State} (S : Standing s n m st) (narrow : 
         (λ a. branch-at 1 (b .variable) (diagramAt (st .nodes) l) (diagramAt (st .nodes) h) a
         ∙ rw (entry-valued S (b .low .0) (T .low) .1 a, entry-valued S (b .high .0) (T .high) .1 a))
         (T .few) (T .nodes) (T .entry) node-after
-        (subst (UsesAfter n) (T .room) (put-uses S (b .variable) l h low-in high-in (T .least) over-low over-high (T .most) narrow)) st′ (T .is)
+        (subst (UsesAfter n) (T .room) (put-uses S (b .variable) l h low-in high-in (T .least) over-low over-high (T .most) narrow)) st′
+        (T .is)
 
     node-extends : Extends (st .nodes) (st′ .nodes)
     node-extends = subst (λ (x : State). Extends (st .nodes) (x .nodes)) (T .is) (node-after .kept .extends)
@@ -189,12 +199,14 @@ module _ {s n : ℕ} {m : Meant} {st : State} (S : Standing s n m st) (narrow : 
     set-after : After s (st .nodes) (setDiagram n kind b) (placed (T .nodes) (T .entry))
     set-after =
         subst (After s (st .nodes) _) (T .room)
-        (place-after s (st .nodes) (S .ordered) (setDiagram n kind b) (reduced-to 1 (suc n) 65 (setDiagram n kind b) (omega arith) (set-reduced n kind b)))
+        (place-after s (st .nodes) (S .ordered) (setDiagram n kind b)
+        (reduced-to 1 (suc n) 65 (setDiagram n kind b) (omega arith) (set-reduced n kind b)))
 
     set-standing : Standing s n (afterRecord m (SetEntry kind b)) st′
     unfolding afterRecord
     set-standing =
-        entered-standing S (setDiagram n kind b) (setMeant kind b) (set-valued n kind b (T .within)) (T .few) (T .nodes) (T .entry) set-after
+        entered-standing S (setDiagram n kind b) (setMeant kind b) (set-valued n kind b (T .within)) (T .few) (T .nodes) (T .entry)
+        set-after
         (subst (UsesAfter n) (T .room) (place-uses n s (st .nodes) (setDiagram n kind b) (S .uses) (set-reduced n kind b))) st′ (T .is)
 
     set-extends : Extends (st .nodes) (st′ .nodes)
@@ -242,7 +254,8 @@ module _ {s n : ℕ} {m : Meant} {st : State} (S : Standing s n m st) (narrow : 
         least = S .ordered .two;
         kept = omega arith;
         members = valued-append (st .nodes) (length (st .nodes)) (st .members) (m .members) (entryNode st root) (entryMeant m root)
-            (valued-along (st .nodes) (st .nodes) (st .kept) (length (st .nodes)) (S .kept) (λ k p. refl) (st .members) (m .members) (S .members)) inside is;
+            (valued-along (st .nodes) (st .nodes) (st .kept) (length (st .nodes)) (S .kept) (λ k p. refl) (st .members) (m .members)
+            (S .members)) inside is;
         marks = omega (arith, length-append (st .struck) (0 ∷ []), length-append (st .members) (entryNode st root ∷ []), S .marks);
         entries = tt;
         few = omega arith;

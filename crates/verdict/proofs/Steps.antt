@@ -1,5 +1,5 @@
--- A record gives a next state exactly where it passes what 01 asks of its kind, and the number 0 exactly where it ends a refutation. The idea: each
--- test that refuses gives `stop` or `spent`, so that `next` lies behind all of them. Assumes nothing.
+-- A record gives a next state exactly where it passes what 01 asks of its kind, and the number 0 exactly where it ends a refutation. The
+-- idea: each test that refuses gives `stop` or `spent`, so that `next` lies behind all of them. Assumes nothing.
 use mathlib.Core.Path.{_≡_, refl, sym, ap}
 use mathlib.Core.Bool.{Bool, true, false, not, _&&_, _||_, cond}
 use mathlib.Core.List.{List}
@@ -16,13 +16,16 @@ use Rattle.table.specs.Nodes.{Node, above, Placing, full, placed, put, place}
 use Rattle.table.specs.Making.{lineReach}
 use Rattle.records.specs.declared.NodeBody.{NodeBody}
 use Rattle.records.specs.declared.Record.{Record}
-use Rattle.records.specs.declared.Record.the-variants.{NodeEntry, Witness, ProofLine, Strike, SetEntry, End, CutShort, UnknownKind, NoRecord}
+use Rattle.records.specs.declared.Record.the-variants.{NodeEntry, Witness, ProofLine, Strike, SetEntry, End, CutShort, UnknownKind}
+use Rattle.records.specs.declared.Record.the-variants.{NoRecord}
 use Rattle.records.specs.declared.SetKind.{SetKind}
 use Rattle.records.specs.declared.SetBody.{SetBody}
 use Rattle.records.specs.declared.Rule.{Rule}
 use Rattle.records.specs.declared.Rule.the-variants.{Rup, Pr, Path}
 use Rattle.records.specs.Records.{numberOf}
-use Rattle.verdict.specs.Steps.{State, Step, next, stop, spent, isEntry, entryNode, isVariable, entered, nodeStep, witnessStep, waiting, accepted, judged, diagramIn, lineStep, isLive, strikeStep, beyond, noParity, setDiagram, setStep, endStep}
+use Rattle.verdict.specs.Steps.{State, Step, next, stop, spent, isEntry, entryNode, isVariable, entered, nodeStep, witnessStep}
+use Rattle.verdict.specs.Steps.{waiting, accepted, judged, diagramIn, lineStep, isLive, strikeStep, beyond, noParity, setDiagram}
+use Rattle.verdict.specs.Steps.{setStep, endStep}
 use Rattle.verdict.specs.Steps.{recordStep}
 use Rattle.verdict.specs.Steps.{withEntry}
 use Rattle.verdict.specs.Taken.{NodeTaken, WitnessTaken, lineOf, peakWith, LineTaken, StrikeTaken, SetTaken, Taken}
@@ -50,7 +53,8 @@ module _ {st′ : State} where
 
 -- ---- node records
 
-entered-taken : (st : State) (p : Placing) (st′ : State) → entered st p ≡ next st′ → (t : List Node) × (k : ℕ) × (p ≡ placed t k) × (withEntry st t k ≡ st′)
+entered-taken : (st : State) (p : Placing) (st′ : State) → entered st p ≡ next st′ → (t : List Node) × (k : ℕ) × (p ≡ placed t k)
+    × (withEntry st t k ≡ st′)
 unfolding entered
 entered-taken st (full t) st′ e = spent-not-next 23 _ st′ e
 entered-taken st (placed t k) st′ e = (t, k, refl, cc)
@@ -129,7 +133,8 @@ judged-taken s st g line st′ e =
     let (shown, e₂) = met-late (line .shown) 19 (peakWith s st line) _ e₁ in
     (fits, shown, cc)
 
-line-taken : (n s : ℕ) (st : State) (rule : Rule) (root : ℕ) (st′ : State) → lineStep n s st rule root ≡ next st′ → LineTaken n s st rule root st′
+line-taken : (n s : ℕ) (st : State) (rule : Rule) (root : ℕ) (st′ : State) → lineStep n s st rule root ≡ next st′ →
+    LineTaken n s st rule root st′
 unfolding lineStep
 line-taken n s st Rup root st′ e =
     let g : ℕ = entryNode st root in
@@ -138,7 +143,16 @@ line-taken n s st Rup root st′ e =
     let (few, e₃) = passed (leb 1024 (st .lines)) 22 _ e₂ in
     let (one, e₄) = passed (eqb g 1) 17 _ e₃ in
     let (fits, shown, is) = judged-taken s st g (lineOf n st Rup g) st′ e₄ in
-    record { entry = entry; few = leb-false 1024 (st .lines) few; not-one = eqb-false g 1 one; witness = none; fits = fits; shown = shown; is = is }
+    record {
+      entry = entry;
+      few = leb-false 1024 (st .lines) few;
+      not-one = eqb-false g 1 one;
+      witness = none;
+      fits = fits;
+      shown =
+          shown;
+      is = is;
+    }
 line-taken n s st Pr root st′ e =
     let g : ℕ = entryNode st root in
     let (entry, e₁) = met (isEntry st root) 13 _ e in
@@ -146,7 +160,16 @@ line-taken n s st Pr root st′ e =
     let (one, e₃) = passed (eqb g 1) 17 _ e₂ in
     let (witness, e₄) = met (witnessed n (inWord (st .positive)) (inWord (st .negative)) (diagramIn st g)) 18 _ e₃ in
     let (fits, shown, is) = judged-taken s st g (lineOf n st Pr g) st′ e₄ in
-    record { entry = entry; few = leb-false 1024 (st .lines) few; not-one = eqb-false g 1 one; witness = witness; fits = fits; shown = shown; is = is }
+    record {
+      entry = entry;
+      few = leb-false 1024 (st .lines) few;
+      not-one = eqb-false g 1 one;
+      witness = witness;
+      fits = fits;
+      shown =
+          shown;
+      is = is;
+    }
 line-taken n s st Path root st′ e =
     let g : ℕ = entryNode st root in
     let (entry, e₁) = met (isEntry st root) 13 _ e in
@@ -165,12 +188,15 @@ line-taken n s st Path root st′ e =
       is = is;
     }
 
-taken-line : (n s : ℕ) (st : State) (rule : Rule) (root : ℕ) (st′ : State) → LineTaken n s st rule root st′ → lineStep n s st rule root ≡ next st′
+taken-line : (n s : ℕ) (st : State) (rule : Rule) (root : ℕ) (st′ : State) → LineTaken n s st rule root st′ → lineStep n s st rule root
+    ≡ next st′
 unfolding lineStep judged
 taken-line n s st Rup root st′ T =
-    rw (T .entry, T .witness, lt-leb 1024 (st .lines) (T .few), ne-eqb (entryNode st root) 1 (T .not-one), T .fits, T .shown) (ap next (T .is))
+    rw (T .entry, T .witness, lt-leb 1024 (st .lines) (T .few), ne-eqb (entryNode st root) 1 (T .not-one), T .fits, T .shown)
+    (ap next (T .is))
 taken-line n s st Pr root st′ T =
-    rw (T .entry, lt-leb 1024 (st .lines) (T .few), ne-eqb (entryNode st root) 1 (T .not-one), T .witness, T .fits, T .shown) (ap next (T .is))
+    rw (T .entry, lt-leb 1024 (st .lines) (T .few), ne-eqb (entryNode st root) 1 (T .not-one), T .witness, T .fits, T .shown)
+    (ap next (T .is))
 taken-line n s st Path root st′ T =
     rw (
       T .entry,
@@ -198,7 +224,8 @@ taken-strike st k st′ T = rw (T .none-waits, T .live) (ap next (T .is))
 
 -- ---- entries of sets
 
-set-taken : (n s : ℕ) (st : State) (kind : SetKind) (b : SetBody) (st′ : State) → setStep n s st kind b ≡ next st′ → SetTaken n s st kind b st′
+set-taken : (n s : ℕ) (st : State) (kind : SetKind) (b : SetBody) (st′ : State) → setStep n s st kind b ≡ next st′ →
+    SetTaken n s st kind b st′
 unfolding setStep beyond
 set-taken n s st kind b st′ e =
     let (few, e₁) = passed (leb 4096 (length (st .entries))) 21 _ e in
@@ -215,7 +242,8 @@ set-taken n s st kind b st′ e =
       is = is;
     }
 
-taken-set : (n s : ℕ) (st : State) (kind : SetKind) (b : SetBody) (st′ : State) → SetTaken n s st kind b st′ → setStep n s st kind b ≡ next st′
+taken-set : (n s : ℕ) (st : State) (kind : SetKind) (b : SetBody) (st′ : State) → SetTaken n s st kind b st′ → setStep n s st kind b
+    ≡ next st′
 unfolding setStep beyond entered
 taken-set n s st kind b st′ T =
     rw (lt-leb 4096 (length (st .entries)) (T .few), lt-leb (2 ^ n) (b .set) (T .within), T .byte, T .room) (ap next (T .is))
@@ -235,7 +263,8 @@ end-not-next st more st′ e = go (waiting st) more (st .refuted) e
 -- ---- every record
 
 -- A record gives a next state exactly where it passes what its kind asks.
-pub record-taken : (n s : ℕ) (st : State) (more : Bool) (r : Record) (st′ : State) → recordStep n s st more r ≡ next st′ → Taken n s st r st′
+pub record-taken : (n s : ℕ) (st : State) (more : Bool) (r : Record) (st′ : State) → recordStep n s st more r ≡ next st′ →
+    Taken n s st r st′
 unfolding recordStep
 record-taken n s st more (NodeEntry b) st′ e = node-taken n s st b st′ e
 record-taken n s st more (Witness v b) st′ e = witness-taken n st v b st′ e
@@ -247,7 +276,8 @@ record-taken n s st more CutShort st′ e = stop-not-next 10 0 st′ e
 record-taken n s st more UnknownKind st′ e = stop-not-next 9 0 st′ e
 record-taken n s st more NoRecord st′ e = stop-not-next 10 0 st′ e
 
-pub taken-record : (n s : ℕ) (st : State) (more : Bool) (r : Record) (st′ : State) → Taken n s st r st′ → recordStep n s st more r ≡ next st′
+pub taken-record : (n s : ℕ) (st : State) (more : Bool) (r : Record) (st′ : State) → Taken n s st r st′ → recordStep n s st more r
+    ≡ next st′
 unfolding recordStep
 taken-record n s st more (NodeEntry b) st′ T = taken-node n s st b st′ T
 taken-record n s st more (Witness v b) st′ T = taken-witness n st v b st′ T
@@ -285,11 +315,13 @@ module _ {wanted offset : ℕ} where
   spent-not-stop number peak e = let z : _≡_ {A = ℕ} 0 1 = cc in absurd (omega arith)
 
   -- A test that refuses with another number was passed.
-  pub past : (c : Bool) (number at : ℕ) (r : Step) → eqb number wanted ≡ false → cond c (stop number at) r ≡ stop wanted offset → (c ≡ false) × (r ≡ stop wanted offset)
+  pub past : (c : Bool) (number at : ℕ) (r : Step) → eqb number wanted ≡ false → cond c (stop number at) r ≡ stop wanted offset →
+      (c ≡ false) × (r ≡ stop wanted offset)
   past true number at r other e = stop-other number at other e
   past false number at r other e = (refl, e)
 
-  past-late : (c : Bool) (number peak : ℕ) (r : Step) → cond c (spent number peak) r ≡ stop wanted offset → (c ≡ false) × (r ≡ stop wanted offset)
+  past-late : (c : Bool) (number peak : ℕ) (r : Step) → cond c (spent number peak) r ≡ stop wanted offset → (c ≡ false)
+      × (r ≡ stop wanted offset)
   past-late true number peak r e = spent-not-stop number peak e
   past-late false number peak r e = (refl, e)
 
@@ -304,7 +336,8 @@ module _ {wanted peak : ℕ} where
   pub stop-not-spent : {A : Type 0} (number at : ℕ) → stop number at ≡ spent wanted peak → A
   stop-not-spent number at e = let z : _≡_ {A = ℕ} 0 1 = cc in absurd (omega arith)
 
-  pub past-early : (c : Bool) (number at : ℕ) (r : Step) → cond c (stop number at) r ≡ spent wanted peak → (c ≡ false) × (r ≡ spent wanted peak)
+  pub past-early : (c : Bool) (number at : ℕ) (r : Step) → cond c (stop number at) r ≡ spent wanted peak → (c ≡ false)
+      × (r ≡ spent wanted peak)
   past-early true number at r e = stop-not-spent number at e
   past-early false number at r e = (refl, e)
 
@@ -399,7 +432,8 @@ end-refutes st more offset e =
     go true e = (refl, cc)
     go false e = stop-other 20 0 refl e
 
-pub record-refutes : (n s : ℕ) (st : State) (more : Bool) (r : Record) (offset : ℕ) → recordStep n s st more r ≡ stop 0 offset → EndRefutes st more r offset
+pub record-refutes : (n s : ℕ) (st : State) (more : Bool) (r : Record) (offset : ℕ) → recordStep n s st more r ≡ stop 0 offset →
+    EndRefutes st more r offset
 unfolding recordStep
 record-refutes n s st more (NodeEntry b) offset e = node-not-zero n s st b e
 record-refutes n s st more (Witness v b) offset e = witness-not-zero n st v b e
@@ -411,6 +445,7 @@ record-refutes n s st more CutShort offset e = stop-other 10 0 refl e
 record-refutes n s st more UnknownKind offset e = stop-other 9 0 refl e
 record-refutes n s st more NoRecord offset e = stop-other 10 0 refl e
 
-pub refutes-record : (n s : ℕ) (st : State) (more : Bool) (r : Record) (offset : ℕ) → EndRefutes st more r offset → recordStep n s st more r ≡ stop 0 offset
+pub refutes-record : (n s : ℕ) (st : State) (more : Bool) (r : Record) (offset : ℕ) → EndRefutes st more r offset → recordStep n s st more r
+    ≡ stop 0 offset
 unfolding recordStep endStep
 refutes-record n s st more r offset F = rw (F .end, F .none-waits, F .last, F .zero-line, F .here)

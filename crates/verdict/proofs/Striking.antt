@@ -1,5 +1,5 @@
--- A clause that a text strikes is the live member of lowest place with its diagram, and 28 is given exactly where there is none. The idea: place
--- after place. Assumes nothing.
+-- A clause that a text strikes is the live member of lowest place with its diagram, and 28 is given exactly where there is none. The idea:
+-- place after place. Assumes nothing.
 use mathlib.Core.Path.{_≡_, refl, sym, ap, _∙_, subst}
 use mathlib.Core.Bool.{Bool, true, false, _&&_, cond}
 use mathlib.Core.List.{List}
@@ -20,18 +20,27 @@ use Rattle.verdict.proofs.Steps.{stop-not-next}
 
 module _ (st : State) (g : Diagram) where
   -- what is found is live and the diagram, and none before it is
-  pub first-some : (k i j : ℕ) → firstSame k st i g ≡ some j → (i ≤ j) × (j < i + k) × IsThere st g j × ((m : ℕ) → i ≤ m → m < j → IsThere st g m → ⊥)
+  pub first-some : (k i j : ℕ) → firstSame k st i g ≡ some j → (i ≤ j) × (j < i + k) × IsThere st g j
+      × ((m : ℕ) → i ≤ m → m < j → IsThere st g m → ⊥)
   unfolding firstSame
   first-some zero i j e = let z : _≡_ {A = ℕ} 0 1 = cc in absurd (omega arith)
   first-some (suc k) i j e = go (isLive st i && same (diagramIn st (getD (st .members) i 0)) g) refl e (first-some k (suc i) j)
     where
-      here : (b : Bool) → (isLive st i && same (diagramIn st (getD (st .members) i 0)) g) ≡ b → (m : ℕ) → b ≡ false → i ≡ m → IsThere st g m → ⊥
+      here : (b : Bool) → (isLive st i && same (diagramIn st (getD (st .members) i 0)) g) ≡ b → (m : ℕ) → b ≡ false → i ≡ m →
+          IsThere st g m → ⊥
       here b q m f is t = t≢f (sym (subst (λ (x : ℕ). IsThere st g x) (sym is) t) ∙ q ∙ f)
 
-      go : (b : Bool) → (isLive st i && same (diagramIn st (getD (st .members) i 0)) g) ≡ b → cond b (some i) (firstSame k st (suc i) g) ≡ some j
-          → (firstSame k st (suc i) g ≡ some j → (suc i ≤ j) × (j < suc i + k) × IsThere st g j × ((m : ℕ) → suc i ≤ m → m < j → IsThere st g m → ⊥))
+      go : (b : Bool) → (isLive st i && same (diagramIn st (getD (st .members) i 0)) g) ≡ b → cond b (some i) (firstSame k st (suc i) g)
+          ≡ some j
+          → (firstSame k st (suc i) g ≡ some j → (suc i ≤ j) × (j < suc i + k) × IsThere st g j
+          × ((m : ℕ) → suc i ≤ m → m < j → IsThere st g m → ⊥))
           → (i ≤ j) × (j < i + suc k) × IsThere st g j × ((m : ℕ) → i ≤ m → m < j → IsThere st g m → ⊥)
-      go true q e ih = let is : i ≡ j = cc in (omega arith, omega arith, subst (λ (x : ℕ). IsThere st g x) is q, λ m lo hi t. absurd (omega arith))
+      go true q e ih = let is : i ≡ j = cc in (
+        omega arith,
+        omega arith,
+        subst (λ (x : ℕ). IsThere st g x) is q,
+        λ m lo hi t. absurd (omega arith),
+      )
       go false q e ih =
           let r = ih e in
           (omega (arith, r .0), omega (arith, r .1), r .2, λ m lo hi t. before m lo hi t (r .3) (ℕ-discrete i m))
@@ -44,9 +53,11 @@ module _ (st : State) (g : Diagram) where
   pub first-none : (k i : ℕ) → firstSame k st i g ≡ none → (m : ℕ) → i ≤ m → m < i + k → IsThere st g m → ⊥
   unfolding firstSame
   first-none zero i e m lo hi t = omega arith
-  first-none (suc k) i e m lo hi t = go (isLive st i && same (diagramIn st (getD (st .members) i 0)) g) refl e (ℕ-discrete i m) (first-none k (suc i))
+  first-none (suc k) i e m lo hi t = go (isLive st i && same (diagramIn st (getD (st .members) i 0)) g) refl e (ℕ-discrete i m)
+      (first-none k (suc i))
     where
-      go : (b : Bool) → (isLive st i && same (diagramIn st (getD (st .members) i 0)) g) ≡ b → cond b (some i) (firstSame k st (suc i) g) ≡ none → Dec (i ≡ m)
+      go : (b : Bool) → (isLive st i && same (diagramIn st (getD (st .members) i 0)) g) ≡ b → cond b (some i) (firstSame k st (suc i) g)
+          ≡ none → Dec (i ≡ m)
           → (firstSame k st (suc i) g ≡ none → (m : ℕ) → suc i ≤ m → m < suc i + k → IsThere st g m → ⊥) → ⊥
       go true q e d ih = let z : _≡_ {A = ℕ} 0 1 = cc in omega arith
       go false q e (yes is) ih = t≢f (sym (subst (λ (x : ℕ). IsThere st g x) (sym is) t) ∙ q)

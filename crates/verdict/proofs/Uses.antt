@@ -42,7 +42,8 @@ module _ (n : ℕ) where
       go false none = appended (ltb (length t) s)
       go false (some k) = u
 
-  then-uses : (p : Placing) (next : List Node → ℕ → Placing) → UsesAfter p → ((t : List Node) (k : ℕ) → UsesTo n t → UsesAfter (next t k)) → UsesAfter (andThen p next)
+  then-uses : (p : Placing) (next : List Node → ℕ → Placing) → UsesAfter p → ((t : List Node) (k : ℕ) → UsesTo n t → UsesAfter (next t k)) →
+      UsesAfter (andThen p next)
   unfolding andThen
   then-uses (full t) next u h = u
   then-uses (placed t k) next u h = h t k u
@@ -52,8 +53,10 @@ module _ (n : ℕ) where
   place-uses s t (leaf false) u o = u
   place-uses s t (leaf true) u o = u
   place-uses s t (node v l h) u o =
-      then-uses (place s t l) (λ t₁ a. andThen (place s t₁ h) (λ t₂ b. put s t₂ v a b)) (place-uses s t l u (reduced-from 1 (suc v) (suc n) l (omega arith) (o .3)))
-      (λ t₁ a u₁. then-uses (place s t₁ h) (λ t₂ b. put s t₂ v a b) (place-uses s t₁ h u₁ (reduced-from 1 (suc v) (suc n) h (omega arith) (o .4)))
+      then-uses (place s t l) (λ t₁ a. andThen (place s t₁ h) (λ t₂ b. put s t₂ v a b))
+      (place-uses s t l u (reduced-from 1 (suc v) (suc n) l (omega arith) (o .3)))
+      (λ t₁ a u₁. then-uses (place s t₁ h) (λ t₂ b. put s t₂ v a b)
+      (place-uses s t₁ h u₁ (reduced-from 1 (suc v) (suc n) h (omega arith) (o .4)))
       (λ t₂ b u₂. put-uses s t₂ v a b u₂ (omega arith)))
 
 -- as the columns have it

@@ -26,7 +26,8 @@ module _ (s : ℕ) (text : List ℕ) where
   -- ---- clauses
 
   -- While clauses are made, each that is made has its clause's value, under every assignment.
-  pub clause-values : {n many : ℕ} {t : List Node} {ms : List ℕ} {fs : List Function} {r : Reading} → Making s text n many t ms fs r → Valued t (length t) ms fs
+  pub clause-values : {n many : ℕ} {t : List Node} {ms : List ℕ} {fs : List Function} {r : Reading} → Making s text n many t ms fs r →
+      Valued t (length t) ms fs
   clause-values {n} {many} M = underway s text n many M .standing .members
 
   -- When all are made, the members are the formula's clauses, by place.
@@ -48,7 +49,8 @@ module _ (s : ℕ) (text : List ℕ) where
       member-value i p a = valued-at (st .nodes) (st .kept) (st .members) (m .members) (stands .members) i p (λ a. false) .1 a
 
       -- The node of entry e, the constants 0 and 1 among them, has the value of the entry.
-      pub entry-value : (e : ℕ) → isEntry st e ≡ true → (a : Assignment) → value (diagramAt (st .nodes) (entryNode st e)) a ≡ entryMeant m e a
+      pub entry-value : (e : ℕ) → isEntry st e ≡ true → (a : Assignment) → value (diagramAt (st .nodes) (entryNode st e)) a
+          ≡ entryMeant m e a
       entry-value e there a = entry-valued stands e there .1 a
 
       -- In the nodes that are left the members keep their values.
@@ -56,10 +58,12 @@ module _ (s : ℕ) (text : List ℕ) where
           → value (diagramAt (take (st .kept) (st .nodes)) (getD (st .members) i 0)) a ≡ getD (m .members) i (λ a. false) a
       left-value i p a =
           valued-at (take (st .kept) (st .nodes)) (st .kept) (st .members) (m .members)
-          (valued-dropped (st .nodes) (st .kept) (stands .ordered) (stands .least) (stands .kept) (st .members) (m .members) (stands .members)) i p (λ a. false) .1 a
+          (valued-dropped (st .nodes) (st .kept) (stands .ordered) (stands .least) (stands .kept) (st .members) (m .members)
+          (stands .members)) i p (λ a. false) .1 a
 
       -- Numbers of the table keep their diagrams in every state reached later.
-      later-standing : {st′ : State} {at′ : ℕ} → Later mode s proof n st at st′ at′ → ((m′ : Meant) × Standing s n m′ st′) × Extends (st .nodes) (st′ .nodes) × (at′ ≤ length proof)
+      later-standing : {st′ : State} {at′ : ℕ} → Later mode s proof n st at st′ at′ → ((m′ : Meant) × Standing s n m′ st′)
+          × Extends (st .nodes) (st′ .nodes) × (at′ ≤ length proof)
       later-standing here = ((m, stands), extends-same (st .nodes), reached-in mode s text proof R)
       later-standing (after {st₁} {st₂} {at₁} L T) =
           let ((m₁, S₁), E, within) = later-standing L in
@@ -71,7 +75,8 @@ module _ (s : ℕ) (text : List ℕ) where
             command-goes (mode .consequence) (mode .form) proof n s st₁ st₂ at₁ within T .1,
           )
 
-      pub number-kept : {st′ : State} {at′ : ℕ} → Later mode s proof n st at st′ at′ → (k : ℕ) → k < length (st .nodes) → diagramAt (st′ .nodes) k ≡ diagramAt (st .nodes) k
+      pub number-kept : {st′ : State} {at′ : ℕ} → Later mode s proof n st at st′ at′ → (k : ℕ) → k < length (st .nodes) →
+          diagramAt (st′ .nodes) k ≡ diagramAt (st .nodes) k
       number-kept {st′} L k p = diagramAt-grown (st .nodes) (st′ .nodes) (stands .ordered) (later-standing L .1) k p
 
       -- "an entry's node [has its value] from its making until it is dropped": in every state reached later.

@@ -162,6 +162,16 @@ numberTable =
     ∷ᴸ checked 4096 "p cnf 2 1\n-1 2 0\n" (over 1 0 1 (0x54 ∷ᴸ 1 ∷ᴸ prLine 2 end)) (prints 19 8 0 0 7)
     ∷ᴸ []ᴸ
 
+-- "16: witness left at a RUP line or the end", at a striking (02, 3/14) and at a path line (02, 12/14): of a witness that only makes a
+-- variable false too.
+abbrev pub waitingTable : List Row
+waitingTable =
+    checked 4096 D-formula (0x46 ∷ᴸ 1 ∷ᴸ rupLine 0 []ᴸ) (prints 16 2 0 0 4)
+    ∷ᴸ checked 4096 D-formula (0x46 ∷ᴸ 1 ∷ᴸ strike 0 []ᴸ) (prints 16 2 0 0 4)
+    ∷ᴸ checked 4096 D-formula (0x46 ∷ᴸ 1 ∷ᴸ pathRecord 0 []ᴸ) (prints 16 2 0 0 4)
+    ∷ᴸ checked 4096 D-formula (0x46 ∷ᴸ 1 ∷ᴸ end) (prints 16 2 0 0 4)
+    ∷ᴸ []ᴸ
+
 -- The marks of four members, none struck.
 abbrev pub noneOf4 : List ℕ
 noneOf4 = 0 ∷ᴸ 0 ∷ᴸ 0 ∷ᴸ 0 ∷ᴸ []ᴸ

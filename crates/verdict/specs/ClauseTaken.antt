@@ -1,4 +1,5 @@
--- What a clause of a DRAT proof has to pass to be taken, as `verdict/specs/Taken` says it of records. No call open to others cites this file.
+-- What a clause of a DRAT proof has to pass to be taken, as `verdict/specs/Taken` says it of records. No call open to others cites this
+-- file.
 use mathlib.Core.Path.{_≡_}
 use mathlib.Core.Logic.{_⊎_}
 use mathlib.Core.Bool.{Bool, true, false, _&&_}
@@ -59,12 +60,13 @@ abbrev pub SecondFits : ℕ → ℕ → List Node → List Diagram → List mean
 SecondFits n s t ms [] = Unit {0}
 SecondFits n s t ms (p ∷ ls) = lineReach s t (secondLine n ms p ls) .fits ≡ true
 
--- "the table having room": for a line more, for the clause's diagram, and for what either try makes.
+-- "the table having room": for a line more, for the clause's diagram, for what the first try makes, and, where that one fails, for what the
+-- second makes.
 pub record HasRoom (n s : ℕ) (st : State) (ls : List meaning.Literal) (t : List Node) (k : ℕ) : Type 0 where
   pub few : st .lines < 1024
   pub made : place s (st .nodes) (meaning.clause n ls) ≡ placed t k
   pub first-fits : lineReach s t (firstLine n (withEntry st t k) ls) .fits ≡ true
-  pub second-fits : SecondFits n s t (liveMembers (withEntry st t k)) ls
+  pub second-fits : firstLine n (withEntry st t k) ls .shown ≡ false → SecondFits n s t (liveMembers (withEntry st t k)) ls
 
 -- The member of that place is live and is the diagram.
 abbrev pub IsThere : State → Diagram → ℕ → Type 0

@@ -61,8 +61,8 @@ turning s n P N t ms′ (f ∷ fs) =
     let turn = metThen (making s t (h ∷ negation n h ∷ second) (λ t₁. propagating s n n t₁ second)) rest in
     cond (same h (leaf true)) rest turn
 
--- "for each path from the root to 0 [..] UnitProp of the live members cofactored by c must conflict. Paths are taken low side first and nodes
--- are dropped between them" (02, 12/14): each path's members are made over the same nodes.
+-- "for each path from the root to 0 [..] UnitProp of the live members cofactored by c must conflict. Paths are taken low side first and
+-- nodes are dropped between them" (02, 12/14): each path's members are made over the same nodes.
 unfoldable pub pathing : ℕ → ℕ → List Node → List Diagram → List (List Literal) → Met
 unfolding making propagating
 pathing s n t ms [] = all-shown

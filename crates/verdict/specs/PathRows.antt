@@ -4,7 +4,8 @@ use Prim.Native.Nat.{ℕ}
 use Prim.Native.String.{String}
 use Rattle.dimacs.specs.Texts.{bytes}
 use Rattle.commands.specs.declared.Form.the-variants.{Records, Text}
-use Rattle.verdict.specs.Cases.{Row, checked, profiled, prints, A-formula, D-formula, A-proof, over, rupLine, prLine, pathRecord, strike, oddEven, end}
+use Rattle.verdict.specs.Cases.{Row, checked, profiled, prints, A-formula, D-formula, A-proof, over, rupLine, prLine, pathRecord}
+use Rattle.verdict.specs.Cases.{strike, oddEven, end}
 
 -- x1 xor x2, in clauses.
 abbrev pub xor-formula : String
@@ -22,9 +23,9 @@ parities = "p cnf 4 6\n1 2 3 0\n-1 -2 3 0\n-1 2 -3 0\n1 -2 -3 0\n3 4 0\n-3 -4 0\
 abbrev pub oddOf : ℕ → List ℕ → List ℕ
 oddOf more rest = 0x58 ∷ᴸ 255 ∷ᴸ more ∷ᴸ 0 ∷ᴸ 0 ∷ᴸ 0 ∷ᴸ 0 ∷ᴸ 0 ∷ᴸ 0 ∷ᴸ 1 ∷ᴸ rest
 
--- The xor of two variables as a path line, which makes no node, and as a RUP line, which makes three; case A by path lines; line 0, whose one
--- path has no literal; 17, 16, 13, 10; a parity that follows by its paths, and not by RUP; a struck member; 4,096 paths and 8,192; a full
--- table in a later path.
+-- The xor of two variables as a path line, which makes no node, and as a RUP line, which makes three; case A by path lines; line 0, whose
+-- one path has no literal; 17, 16, 13, 10; a parity that follows by its paths, and not by RUP; a struck member; 4,096 paths and 8,192; a
+-- full table in a later path.
 abbrev pub pathTable : List Row
 pathTable =
     checked 4096 xor-formula (xor-entries (pathRecord 4 end)) (prints 20 21 1 0 7)
@@ -43,8 +44,8 @@ pathTable =
     ∷ᴸ checked 4096 "p cnf 14 0\n" (oddOf 63 (pathRecord 2 end)) (prints 34 10 0 0 29)
     ∷ᴸ []ᴸ
 
--- A PR record gets 33, before 13, 17 and 18 but not before 10 and 9; a waiting witness 16 as ever; RUP lines, path lines and strikings pass;
--- a clause of a text that only its second try would show.
+-- A PR record gets 33, before 13, 17 and 18 but not before 10 and 9; a waiting witness 16 as ever; RUP lines, path lines and strikings
+-- pass; a clause of a text that only its second try would show.
 abbrev pub profileTable : List Row
 profileTable =
     profiled 4096 Records D-formula (over 1 0 1 (0x54 ∷ᴸ 1 ∷ᴸ prLine 2 end)) (prints 33 8 0 0 5)

@@ -100,7 +100,8 @@ pub data Reached (mode : Mode) (s : ℕ) (text proof : List ℕ) (n : ℕ) : Sta
 -- The states that are reached from one by commands that are taken.
 pub data Later (mode : Mode) (s : ℕ) (proof : List ℕ) (n : ℕ) (st : State) (at : ℕ) : State → ℕ → Type 0 where
   here : Later mode s proof n st at st at
-  after : {st₁ st₂ : State} {at₁ : ℕ} → Later mode s proof n st at st₁ at₁ → CommandTaken (mode .consequence) n s st₁ (commandIn mode proof n at₁) st₂
+  after : {st₁ st₂ : State} {at₁ : ℕ} → Later mode s proof n st at st₁ at₁ →
+      CommandTaken (mode .consequence) n s st₁ (commandIn mode proof n at₁) st₂
       → Later mode s proof n st at st₂ (nextIn mode proof n at₁)
 
 -- How a check ends, with what it says and leaves: there is no proper header; a token of the formula is refused, all clauses before
@@ -128,7 +129,8 @@ ProofNumber Records number = (number ≢ 28 → number ≢ 29 → number ≢ 33 
 ProofNumber Text number =
     (number ≢ 28 → number ≤ 23) × (number ≢ 0 → 3 ≤ number) × (number ≢ 5) × (6 < number → 17 ≤ number) × (number ≢ 18) × (number ≢ 21)
 ProofNumber Binary number =
-    (number ≢ 28 → number ≢ 31 → number ≤ 23) × (number ≢ 0 → 4 ≤ number) × (number ≢ 5) × (6 < number → 9 ≤ number) × (9 < number → 17 ≤ number)
+    (number ≢ 28 → number ≢ 31 → number ≤ 23) × (number ≢ 0 → 4 ≤ number) × (number ≢ 5) × (6 < number → 9 ≤ number)
+    × (9 < number → 17 ≤ number)
     × (number ≢ 18) × (number ≢ 21)
 
 -- "End: 16, 11, 20": an end record with no witness waiting and no byte behind it; or the end of a DRAT proof. (02, 4/14)

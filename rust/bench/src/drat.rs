@@ -1,10 +1,11 @@
-//! DRAT texts: proofs from outside, and proofs in records whose lines are clauses, written as texts.
+//! DRAT proofs: those from outside, text and binary, proofs in records whose lines are clauses, written as texts, and conversions.
 
 use crate::workloads::{self, Workload};
 use compare::diagram::{Diagrams, Node};
 use compare::families::{self, Problem};
 use compare::outside::PROOFS;
 use compare::random::Random;
+use compare::read::{read, to_bytes, Form};
 
 const NAMES: [&str; 7] = [
     "pigeons, CaDiCaL",
@@ -33,7 +34,30 @@ pub fn all() -> Vec<Workload> {
         let name = format!("text: {name} (65536 places)");
         all.push(workloads::whole(name, "drat", 65_536, &problem.formula.text(), &text(problem)));
     }
+    let (formula, proof) = PROOFS[THREE_SAT];
+    let binary = to_bytes(&read(Form::Text, proof.as_bytes(), 64).clauses);
+    let name = format!("binary: {} (4096 places)", NAMES[THREE_SAT]);
+    all.push(workloads::whole(name, "dratb", 4_096, formula.as_bytes(), &binary));
+    let long = text(&rounds);
+    let binary = to_bytes(&read(Form::Text, &long, 64).clauses);
+    let name = "binary: rounds: 1,000 clauses, 500 RUP lines (65536 places)".into();
+    all.push(workloads::whole(name, "dratb", 65_536, &rounds.formula.text(), &binary));
+    all.push(conversion("tobin", &long, 2 * long.len()));
+    all.push(conversion("totext", &binary, 4 * binary.len()));
     all
+}
+
+/// The place of CaDiCaL's proof of three-sat, the longest, among those from outside.
+const THREE_SAT: usize = 5;
+
+/// A conversion, without the reading and writing of as many digits: a check that is refused at once.
+fn conversion(word: &str, proof: &[u8], size: usize) -> Workload {
+    let hex: String = proof.iter().map(|byte| format!("{byte:02x}")).collect();
+    Workload {
+        name: format!("{word} of {} bytes", proof.len()),
+        command: format!("{word} {size} {hex}"),
+        text: format!("drat 1 2048 4096 - {hex}"),
+    }
 }
 
 /// The lines, which are clauses, as a text: first the literal that a line's witness makes true.

@@ -1,7 +1,9 @@
 //! What is timed: each command beside one with the same text that asks for next to no work.
 
-use compare::diagram::{Diagrams, Node};
+use compare::diagram::{Diagrams, Literals, Node};
 use compare::families::{self, Parity};
+use compare::paths::{self, with_paths};
+use compare::proof::{Builder, Writer};
 use compare::random::Random;
 use compare::table::Table;
 use compare::tally;
@@ -103,6 +105,11 @@ pub fn check() -> Vec<Workload> {
         proof("parity sums of 64", &sums, 65_536),
         proof("parity sums of 64, by sets", &tally::shortened(&mut Random::new(1), &sums, u64::MAX), 65_536),
         proof("parity sums of 64, struck out", &parity_sums(64, true), 65_536),
+        proof("parity sums of 64, each constraint one path line", &parity_sums_by_paths(64), 65_536),
+        proof("parity of 10 from its 512 clauses, one path line", &parity_by_paths(10), 65_536),
+        path_line("512", 512),
+        path_line("4,096", 4_096),
+        refused_paths(),
         proof("pigeonhole 7", &families::pigeonhole(8, 7), 65_536),
         proof("rounds: 1,000 clauses, 500 RUP lines", &families::chain(&mut Random::new(1), 40, 1_000, 500), 65_536),
         proof("1,000 clauses, 200 PR lines", &families::pure(&mut Random::new(2), 1_000, 200), 65_536),
@@ -128,8 +135,51 @@ pub fn whole(name: String, word: &str, places: usize, formula: &[u8], proof: &[u
     }
 }
 
+/// A path line of so many paths, each of which makes one of two members 0, without the check of the same records of which none is a line.
+fn path_line(name: &str, paths: usize) -> Workload {
+    let mut store = Diagrams::default();
+    let g = with_paths(&mut store, 1, paths, true);
+    let mut writer = Writer::default();
+    let root = writer.entry(&store, g);
+    writer.line(paths::KIND, root);
+    let asked = |proof: &[u8]| {
+        let hex: String = proof.iter().map(|byte| format!("{byte:02x}")).collect();
+        // "p cnf 64 2 64 0 -64 0"
+        format!("check 4096 2048 4096 7020636e6620363420320a363420300a2d363420300a {hex}45")
+    };
+    let entries = &writer.bytes[..writer.bytes.len() - 3];
+    let name = format!("one path line of {name} paths, 4096 places");
+    Workload { name, command: asked(&writer.bytes), text: asked(entries) }
+}
+
+/// A path line whose parity of 64 has 2^63 paths, without the check of its entry.
+fn refused_paths() -> Workload {
+    let asked = |line: &str| format!("check 4096 2048 4096 7020636e6620363420300a 58ffffffffffffffff01{line}45");
+    let name = "one path line of 2^63 paths, refused with 34, 4096 places".into();
+    Workload { name, command: asked("510200"), text: asked("") }
+}
+
+/// "An odd number" of so many variables from its clauses.
+fn parity_by_paths(variables: usize) -> families::Problem {
+    let constraint = ((1..=variables as u8).collect(), true);
+    let formula = families::parities(variables, std::slice::from_ref(&constraint), false, false).formula;
+    let mut builder = Builder::new(&formula);
+    let line = builder.store.parity(&constraint.0, constraint.1);
+    builder.write_line(paths::KIND, line, Literals::default());
+    families::Problem { formula, builder }
+}
+
 /// Parity constraints of three variables, summed: about 250 lines, with what went into a sum struck out or not.
 fn parity_sums(variables: usize, striking: bool) -> families::Problem {
+    families::parities(variables, &constraints(variables), striking, false)
+}
+
+/// The same with one path line for the steps from a constraint's clauses to it.
+fn parity_sums_by_paths(variables: usize) -> families::Problem {
+    families::parities(variables, &constraints(variables), false, true)
+}
+
+fn constraints(variables: usize) -> Vec<Parity> {
     let random = &mut Random::new(variables as u64);
     let mut constraints: Vec<Parity> = Vec::new();
     while constraints.len() < 62 {
@@ -140,5 +190,5 @@ fn parity_sums(variables: usize, striking: bool) -> families::Problem {
             constraints.push((chosen, random.percent(50)));
         }
     }
-    families::parities(variables, &constraints, striking)
+    constraints
 }

@@ -1,7 +1,7 @@
 //! The check of a formula and a proof.
 
-use crate::raw::{self, Checked, ColumnsMut};
-use crate::{NodeNo, Number, Table, TableMut};
+use crate::raw::{self, Checked, ListsMut};
+use crate::{Mode, NodeNo, Number, Table, TableMut};
 use std::fmt;
 
 /// The least length of the member list, and of the marks beside it.
@@ -22,7 +22,7 @@ pub enum Text {
 pub struct Verdict {
     /// Refuted, or why not.
     pub number: Number,
-    /// The text that the place is in; none with [`Number::WrongSize`]. In a check of a DRAT text a number alone does not tell it.
+    /// The text that the place is in; none with [`Number::WrongSize`]. In a check of a DRAT proof a number alone does not tell it.
     pub text: Option<Text>,
     /// A byte offset: what is refused, or the end record; the text's length where it has none.
     pub place: usize,
@@ -40,6 +40,17 @@ impl Verdict {
     /// Whether it is shown that no assignment satisfies the formula.
     pub fn refuted(&self) -> bool {
         self.number == Number::Refuted
+    }
+
+    pub(crate) fn of(said: Checked) -> Verdict {
+        let Checked { number, in_proof, place, lines, rounds, count, peak } = said;
+        let number = Number::said(number);
+        let text = match number {
+            Number::WrongSize => None,
+            _ if in_proof => Some(Text::Proof),
+            _ => Some(Text::Formula),
+        };
+        Verdict { number, text, place, lines, rounds, count, peak }
     }
 }
 
@@ -85,8 +96,8 @@ impl Workspace {
         &mut self.table
     }
 
-    /// The members as the last check left them: the clauses in their order, then the accepted lines, struck out or not. There are none where
-    /// the formula was refused.
+    /// The members as the last check left them: the clauses in their order, then the accepted lines, struck out or not. There are
+    /// none where the formula was refused.
     pub fn members(&self) -> impl ExactSizeIterator<Item = NodeNo> + '_ {
         self.members[..self.member_count].iter().copied().map(NodeNo)
     }
@@ -106,27 +117,52 @@ impl Workspace {
         self.members().enumerate().filter(|(place, _)| self.struck[*place] == 0)
     }
 
-    fn check_by(&mut self, call: Call, formula: &[u8], proof: &[u8]) -> Verdict {
-        let Workspace { table, members, struck, member_count, scratch } = self;
-        let verdict = lent(call, &mut table.lend(), members, struck, scratch, formula, proof);
-        *member_count = match verdict.text {
-            Some(Text::Proof) => (clause_count(formula) + verdict.lines).min(members.len()),
+    /// Checks a proof of a formula, of the form and in the profile that the mode names. Refuted: no assignment satisfies the
+    /// formula, whatever the proof's bytes and whatever the workspace held before.
+    ///
+    /// ```
+    /// use cablesalak::{Mode, Number, Workspace};
+    ///
+    /// let formula = b"p cnf 2 1\n1 2 0\n";
+    /// let mut workspace = Workspace::new(4_096)?;
+    /// // "1" in binary DRAT: RUP does not show it, RAT on 1 does.
+    /// let verdict = workspace.check(Mode::BINARY, formula, b"\x61\x02\0");
+    /// assert_eq!((verdict.number, verdict.lines), (Number::NoZeroLine, 1));
+    /// // It does not follow from the formula, so the consequence profile refuses it.
+    /// let verdict = workspace.check(Mode::BINARY.in_consequence_profile(), formula, b"\x61\x02\0");
+    /// assert_eq!((verdict.number, verdict.lines), (Number::NotShown, 0));
+    /// # Ok::<(), Number>(())
+    /// ```
+    pub fn check(&mut self, mode: Mode, formula: &[u8], proof: &[u8]) -> Verdict {
+        let (mut table, mut lists) = self.lend();
+        let verdict = check_lent_in(mode, &mut table, &mut lists, formula, proof);
+        self.member_count = match verdict.text {
+            Some(Text::Proof) => (clause_count(formula) + verdict.lines).min(self.members.len()),
             _ => 0,
         };
         verdict
     }
+
+    pub(crate) fn lend(&mut self) -> (TableMut<'_>, ListsMut<'_>) {
+        let Workspace { table, members, struck, scratch, .. } = self;
+        (table.lend(), ListsMut { members, struck, scratch })
+    }
+
+    /// Leaves the constants alone, and no member.
+    pub(crate) fn clear(&mut self) {
+        self.table.clear();
+        self.members.fill(0);
+        self.struck.fill(0);
+        self.member_count = 0;
+    }
 }
 
-/// A call of the archive, for one form of proof.
-type Call = fn(&mut ColumnsMut<'_>, usize, &mut [u16], &mut [u8], &mut [u16], &[u8], &[u8]) -> Checked;
-
-/// Checks a proof in records of a formula. Refuted: no assignment satisfies the formula, whatever the proof's bytes and whatever
-/// the workspace held before.
+/// [`Workspace::check`] of a proof in records.
 pub fn check(workspace: &mut Workspace, formula: &[u8], proof: &[u8]) -> Verdict {
-    workspace.check_by(raw::check, formula, proof)
+    workspace.check(Mode::RECORDS, formula, proof)
 }
 
-/// The same with a proof that is a DRAT text.
+/// [`Workspace::check`] of a proof that is a DRAT text.
 ///
 /// ```
 /// use cablesalak::{check_text, Number, Text, Workspace};
@@ -143,10 +179,11 @@ pub fn check(workspace: &mut Workspace, formula: &[u8], proof: &[u8]) -> Verdict
 /// # Ok::<(), Number>(())
 /// ```
 pub fn check_text(workspace: &mut Workspace, formula: &[u8], proof: &[u8]) -> Verdict {
-    workspace.check_by(raw::check_text, formula, proof)
+    workspace.check(Mode::TEXT, formula, proof)
 }
 
-/// The header's number of clauses, in a formula that the check has read: the fourth word of the first line that is neither blank nor a comment.
+/// The header's number of clauses, in a formula that the check has read: the fourth word of the first line that is neither blank
+/// nor a comment.
 fn clause_count(formula: &[u8]) -> usize {
     let mut lines = formula.split(|&byte| byte == b'\n').filter(|line| line.first() != Some(&b'c'));
     let header = lines.find(|line| !line.trim_ascii().is_empty()).unwrap_or_default();
@@ -154,9 +191,22 @@ fn clause_count(formula: &[u8]) -> usize {
     clauses.and_then(|word| word.parse().ok()).unwrap_or(0)
 }
 
-/// [`check`] over lists of the caller's, whatever they hold. 7, and nothing is changed, where the member list has fewer than
+/// [`Workspace::check`] over lists of the caller's, whatever they hold. 7, and nothing is changed, where the member list has fewer than
 /// 2,048 places, `struck` has more or fewer than the member list, or the scratch list has fewer than 4,096. Else the scratch
 /// list ends as zeros, and the table, the member list and the marks hold what [`Workspace`] tells, with zeros above the members.
+pub fn check_lent_in(
+    mode: Mode,
+    table: &mut TableMut<'_>,
+    lists: &mut ListsMut<'_>,
+    formula: &[u8],
+    proof: &[u8],
+) -> Verdict {
+    let said = raw::check_in(mode.raw(), &mut table.lists, *table.count, lists, formula, proof);
+    *table.count = said.count;
+    Verdict::of(said)
+}
+
+/// [`check_lent_in`] of a proof in records.
 pub fn check_lent(
     table: &mut TableMut<'_>,
     members: &mut [u16],
@@ -165,10 +215,10 @@ pub fn check_lent(
     formula: &[u8],
     proof: &[u8],
 ) -> Verdict {
-    lent(raw::check, table, members, struck, scratch, formula, proof)
+    check_lent_in(Mode::RECORDS, table, &mut ListsMut { members, struck, scratch }, formula, proof)
 }
 
-/// [`check_text`] over lists of the caller's, as [`check_lent`].
+/// [`check_lent_in`] of a proof that is a DRAT text.
 pub fn check_text_lent(
     table: &mut TableMut<'_>,
     members: &mut [u16],
@@ -177,26 +227,5 @@ pub fn check_text_lent(
     formula: &[u8],
     proof: &[u8],
 ) -> Verdict {
-    lent(raw::check_text, table, members, struck, scratch, formula, proof)
-}
-
-fn lent(
-    call: Call,
-    table: &mut TableMut<'_>,
-    members: &mut [u16],
-    struck: &mut [u8],
-    scratch: &mut [u16],
-    formula: &[u8],
-    proof: &[u8],
-) -> Verdict {
-    let said = call(&mut table.lists, *table.count, members, struck, scratch, formula, proof);
-    *table.count = said.count;
-    let Checked { number, in_proof, place, lines, rounds, count, peak } = said;
-    let number = Number::said(number);
-    let text = match number {
-        Number::WrongSize => None,
-        _ if in_proof => Some(Text::Proof),
-        _ => Some(Text::Formula),
-    };
-    Verdict { number, text, place, lines, rounds, count, peak }
+    check_lent_in(Mode::TEXT, table, &mut ListsMut { members, struck, scratch }, formula, proof)
 }

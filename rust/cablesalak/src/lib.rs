@@ -25,11 +25,13 @@
 //! # Ok::<(), Number>(())
 //! ```
 //!
-//! A proof of a SAT solver, a DRAT text, is checked by [`check_text`].
+//! [`Workspace::check`] takes proofs of every form, records, DRAT text and binary DRAT, in the consequence profile and outside
+//! it, as a [`Mode`] names them. [`to_binary`] and [`to_text`] convert DRAT proofs.
 //!
 //! # A program
 //!
 //! [`report`] gives the line that `bin/refute` prints of two files, and the status to end with; both are proved.
+//! [`Workspace::report`] does so for every mode, with a table of any size.
 //!
 //! ```
 //! use cablesalak::report;
@@ -70,24 +72,43 @@
 //! A call takes less than 1.25 MiB of stack, whatever the table ([`report`], which has a table of its own, less than 1.375 MiB). The
 //! library keeps nothing between calls, so that threads may call it at the same time, each with its own places.
 
+#![deny(unsafe_code)]
+
 mod check;
+mod convert;
 mod index;
 mod lent;
+mod mode;
 mod node;
+#[cfg(feature = "nodes")]
+mod nodes;
 mod number;
+#[allow(unsafe_code)]
 pub mod raw;
 mod report;
 mod table;
 mod view;
 
-pub use check::{check, check_lent, check_text, check_text_lent, Text, Verdict, Workspace, MEMBERS, SCRATCH};
+pub use check::{
+    check, check_lent, check_lent_in, check_text, check_text_lent, Text, Verdict, Workspace, MEMBERS, SCRATCH,
+};
+pub use convert::{to_binary, to_text, NotConverted};
 pub use index::chain;
 pub use lent::{TableMut, PLACES};
+pub use mode::{Form, Mode};
 pub use node::{Node, NodeNo, Variables};
-pub use number::{NoSuchNumber, Number};
-pub use raw::{Columns, ColumnsMut};
+#[cfg(feature = "nodes")]
+pub use nodes::NodesMut;
+pub use number::{NoSuchNumber, Number, OtherNumber};
+pub use raw::{Columns, ColumnsMut, ListsMut};
+#[cfg(feature = "nodes")]
+pub use raw::{Rows, RowsMut};
 pub use report::{report, Report, LONGEST};
 pub use table::Table;
+
+/// The library's version; the header's `CABLESALAK_VERSION` is the same. An archive whose calls are laid out in another way does
+/// not link.
+pub const VERSION: &str = env!("CARGO_PKG_VERSION");
 
 /// The examples of the page for those who link the library are run with the others.
 #[cfg(doctest)]

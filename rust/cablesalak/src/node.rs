@@ -1,7 +1,10 @@
 //! Node numbers, rows of the table, sets of variables.
 
+use std::mem::{offset_of, size_of};
+
 /// A node's number: its place in the table.
-#[derive(Clone, Copy, Debug, PartialEq, Eq, PartialOrd, Ord, Hash)]
+#[repr(transparent)]
+#[derive(Clone, Copy, Debug, Default, PartialEq, Eq, PartialOrd, Ord, Hash)]
 pub struct NodeNo(pub u16);
 
 impl NodeNo {
@@ -11,13 +14,17 @@ impl NodeNo {
     pub const ONE: NodeNo = NodeNo(1);
 }
 
-/// A row of the table. Its value is `high`'s where the variable is true, else `low`'s.
-#[derive(Clone, Copy, Debug, PartialEq, Eq, Hash)]
+/// A row of the table. Its value is `high`'s where the variable is true, else `low`'s. It is laid out as C's `cablesalak_node`, so
+/// that a list of rows can be lent as it is.
+#[repr(C)]
+#[derive(Clone, Copy, Debug, Default, PartialEq, Eq, Hash)]
 pub struct Node {
     pub variable: u8,
     pub low: NodeNo,
     pub high: NodeNo,
 }
+
+const _: () = assert!(size_of::<Node>() == 6 && offset_of!(Node, low) == 2 && offset_of!(Node, high) == 4);
 
 impl Node {
     pub fn new(variable: u8, low: NodeNo, high: NodeNo) -> Node {

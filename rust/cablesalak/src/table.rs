@@ -77,6 +77,15 @@ impl Table {
         self.lend().lists.link(place);
     }
 
+    /// Leaves the constants alone.
+    pub(crate) fn clear(&mut self) {
+        self.vars.fill(0);
+        for list in [&mut self.lows, &mut self.highs, &mut self.heads, &mut self.links] {
+            list.fill(0);
+        }
+        self.count = 2;
+    }
+
     /// Asked of the library: it evaluates a constant in no table that is not in good order.
     fn in_order(&self) -> Result<(), Number> {
         self.evaluate(NodeNo::ZERO, Variables::NONE).map(|_| ())

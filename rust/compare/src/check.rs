@@ -6,6 +6,7 @@ use crate::fault;
 use crate::formula::Formula;
 use crate::index;
 use crate::large;
+use crate::paths;
 use crate::proof::{strewn, Builder, Writer};
 use crate::random::Random;
 use crate::strike;
@@ -19,7 +20,8 @@ pub fn commands(random: &mut Random) -> Vec<String> {
             let text = problem.formula.faulty(random);
             vec![command(random, 4096, &text, &finished(&problem))]
         }
-        14..=17 => wrong_sizes(random),
+        14..=16 => wrong_sizes(random),
+        17 => paths::wide(random),
         18..=52 => faulty_proof(random),
         53..=61 => mutated(random),
         62..=65 => renumbered(random),
@@ -37,7 +39,8 @@ pub fn commands(random: &mut Random) -> Vec<String> {
     }
 }
 
-fn hex(bytes: &[u8]) -> String {
+/// Bytes in hex, `-` for none.
+pub fn hex(bytes: &[u8]) -> String {
     if bytes.is_empty() {
         return "-".into();
     }
@@ -68,9 +71,12 @@ fn plain(random: &mut Random, problem: &Problem) -> String {
     command(random, size, &text, &finished(problem))
 }
 
-/// A problem of a family, some of them with entries of sets or with strikings.
+/// A problem of a family, some of them with path lines, with entries of sets or with strikings.
 fn family(random: &mut Random) -> Problem {
     let mut problem = families::any(random);
+    if random.percent(30) {
+        problem = paths::strewn(random, &problem);
+    }
     let sets = tally::dice(random);
     if sets > 0 {
         problem = tally::shortened(random, &problem, sets);
@@ -86,10 +92,11 @@ fn some_struck(random: &mut Random, problem: Problem, often: usize) -> Problem {
     }
 }
 
-/// A random formula of few variables with a proof of random lines, which often ends in a 0 line, and of strikings.
+/// A random formula of few variables with a proof of random lines, which often ends in a 0 line, and of strikings. Half of them have no PR
+/// line, so that the consequence profile has more to accept.
 fn small(random: &mut Random) -> Problem {
     let formula = small_formula(random);
-    let mut builder = Builder::new(&formula);
+    let mut builder = Builder { consequence: random.percent(50), ..Builder::new(&formula) };
     builder.writer.sets = tally::dice(random);
     let striking = random.pick(&[0, 0, 20, 60]);
     for _ in 0..random.below(6) {
@@ -104,7 +111,11 @@ fn small(random: &mut Random) -> Problem {
     if random.percent(10) {
         line(random, &mut builder, formula.variables);
     }
-    some_struck(random, Problem { formula, builder }, 25)
+    let mut problem = some_struck(random, Problem { formula, builder }, 25);
+    if random.percent(15) {
+        problem = paths::strewn(random, &problem);
+    }
+    problem
 }
 
 pub fn small_formula(random: &mut Random) -> Formula {
@@ -138,7 +149,7 @@ fn spread(random: &mut Random, formula: &mut Formula) {
     formula.variables = random.between(numbers.last().map_or(0, |last| *last as usize), 64);
 }
 
-/// One more line: implied and accepted by RUP, or a PR line with a witness.
+/// One more line: implied and accepted by RUP or as a path line, or a PR line with a witness.
 fn line(random: &mut Random, builder: &mut Builder, variables: usize) {
     let whole = builder.whole();
     if random.percent(10) {
@@ -150,7 +161,7 @@ fn line(random: &mut Random, builder: &mut Builder, variables: usize) {
         } else {
             strewn(random, &mut builder.store, variables)
         };
-        let done = match random.below(4) {
+        let done = match random.below(5) {
             0 => {
                 let implied = builder.store.or(whole, any);
                 implied != 1 && builder.rup(implied)
@@ -162,6 +173,10 @@ fn line(random: &mut Random, builder: &mut Builder, variables: usize) {
             2 if builder.members.len() > 1 => {
                 let (f, g) = (random.pick(&builder.members), random.pick(&builder.members));
                 families::both(builder, f, g)
+            }
+            3 => {
+                let implied = builder.store.or(whole, any);
+                builder.path(implied)
             }
             _ => builder.pr(any, witness(random, variables)),
         };
@@ -221,8 +236,9 @@ pub fn small_sizes(random: &mut Random) -> std::ops::Range<usize> {
 /// each at another making. None where the answer tells no peak, or the peak of an empty table.
 pub fn around_peak(random: &mut Random, command: &str, answer: &str) -> Vec<String> {
     let peak = answer.split(' ').nth(5).and_then(|word| word.parse::<usize>().ok()).unwrap_or(0);
-    let mut words = command.splitn(3, ' ');
-    let (Some(word @ ("check" | "drat")), Some(_), Some(rest), true) =
+    let (profile, asked) = command.strip_prefix("cons ").map_or(("", command), |rest| ("cons ", rest));
+    let mut words = asked.splitn(3, ' ');
+    let (Some(word @ ("check" | "drat" | "dratb")), Some(_), Some(rest), true) =
         (words.next(), words.next(), words.next(), peak > 2)
     else {
         return Vec::new();
@@ -232,7 +248,7 @@ pub fn around_peak(random: &mut Random, command: &str, answer: &str) -> Vec<Stri
     sizes.extend((2..peak - 1).rev().take(if random.percent(20) { 20 } else { 2 }));
     sizes.sort_unstable();
     sizes.dedup();
-    sizes.iter().map(|size| format!("{word} {size} {rest}")).collect()
+    sizes.iter().map(|size| format!("{profile}{word} {size} {rest}")).collect()
 }
 
 /// A few bytes of the formula or of the proof changed, taken away or put in.
@@ -252,8 +268,8 @@ fn mutated(random: &mut Random) -> Vec<String> {
 /// What stands in a formula, and in a text with `d`.
 pub const LETTERS: &[u8] = b" \n\t\r0123456789-cdpx";
 
-const KINDS_AND_NUMBERS: [u8; 19] =
-    [0x4e, 0x58, 0x4b, 0x54, 0x46, 0x52, 0x50, 0x44, 0x45, 0, 1, 2, 3, 4, 5, 6, 7, 64, 255];
+const KINDS_AND_NUMBERS: [u8; 20] =
+    [0x4e, 0x58, 0x4b, 0x54, 0x46, 0x52, 0x50, 0x51, 0x44, 0x45, 0, 1, 2, 3, 4, 5, 6, 7, 64, 255];
 
 pub fn mutate(random: &mut Random, bytes: &mut Vec<u8>, alphabet: &[u8]) {
     if bytes.is_empty() {
@@ -287,7 +303,7 @@ fn renumbered(random: &mut Random) -> Vec<String> {
     vec![command(random, 4096, &text, &proof)]
 }
 
-/// A proof that is fine up to a line, where one fault of the numbers 9 to 21, 28 or 29 follows.
+/// A proof that is fine up to a line, where one fault of the numbers 9 to 21, 28, 29 or 34 follows.
 fn faulty_proof(random: &mut Random) -> Vec<String> {
     let problem = small(random);
     let whole = &problem.builder.writer;
@@ -325,6 +341,16 @@ mod tests {
             assert!(peak == 65_536 || sizes.contains(&(peak + 1)), "{sizes:?}");
             assert!(sizes.iter().all(|size| (2..=65_536).contains(size)), "{sizes:?}");
             assert!(peak < 5 || sizes.contains(&(peak - 2)), "{sizes:?}");
+        }
+    }
+
+    /// In the profile and of binary proofs too.
+    #[test]
+    fn other_words_around_the_peak() {
+        let mut random = Random::new(1);
+        for word in ["cons check", "drat", "dratb", "cons dratb"] {
+            let commands = around_peak(&mut random, &format!("{word} 4096 2048 4096 70 45"), "0 12 2 1 3 9 | - | -");
+            assert!(commands.contains(&format!("{word} 8 2048 4096 70 45")), "{commands:?}");
         }
     }
 

@@ -1,7 +1,9 @@
-//! What RUP and RAT over clauses say of a DRAT text: sets of literals, unit propagation and no diagrams. Written from the public
-//! definitions (Heule, Hunt, Wetzler: "Trimming while Checking Clausal Proofs", FMCAD 2013, and "Verifying Refutations with Extended
+//! What RUP and RAT over clauses say of a DRAT proof, text or binary: sets of literals, unit propagation and no diagrams. Written from the
+//! public definitions (Heule, Hunt, Wetzler: "Trimming while Checking Clausal Proofs", FMCAD 2013, and "Verifying Refutations with Extended
 //! Resolution", CADE 2013). Document 02, 4/14: where no clause has both signs of a variable the check must accept just these clauses,
-//! given room.
+//! given room; 11/14: in the consequence profile just those that are RUP.
+
+use crate::read::{literal, read, tokens, Form};
 
 /// A set of literals: bit i - 1 of a word for variable i, plain or negated.
 #[derive(Clone, Copy, Debug, Default, PartialEq, Eq)]
@@ -94,39 +96,6 @@ pub struct Said {
     pub by_rat: usize,
 }
 
-/// Tokens with their places: lines whose first byte is `c` have none.
-fn tokens(text: &[u8]) -> Vec<(usize, &[u8])> {
-    let mut found = Vec::new();
-    let mut start = 0;
-    for line in text.split(|byte| *byte == b'\n') {
-        if line.first() != Some(&b'c') {
-            let mut at = start;
-            for word in line.split(|byte| b" \t\r".contains(byte)) {
-                if !word.is_empty() {
-                    found.push((at, word));
-                }
-                at += word.len() + 1;
-            }
-        }
-        start += line.len() + 1;
-    }
-    found
-}
-
-/// A literal or the closing 0, or the number that refuses the token.
-fn literal(token: &[u8], variables: i32) -> Result<i32, u8> {
-    let digits = token.strip_prefix(b"-").unwrap_or(token);
-    match digits {
-        b"0" if token == b"0" => return Ok(0),
-        [b'1'..=b'9', rest @ ..] if rest.iter().all(u8::is_ascii_digit) => {}
-        _ => return Err(3),
-    }
-    // More digits than 9 are beyond every header.
-    let number =
-        std::str::from_utf8(token).ok().filter(|_| digits.len() < 10).and_then(|word| word.parse::<i32>().ok());
-    number.filter(|literal| literal.abs() <= variables).ok_or(4)
-}
-
 /// The variables and the clauses of a formula that the check has read.
 fn formula(text: &[u8]) -> Option<(i32, Vec<Literals>)> {
     let lines = text.split_inclusive(|byte| *byte == b'\n').scan(0, |start, line| {
@@ -143,64 +112,79 @@ fn formula(text: &[u8]) -> Option<(i32, Vec<Literals>)> {
     Some((variables, clauses))
 }
 
-/// What is said of a DRAT text for a formula that the check has read; none where a clause of either has both signs of a variable.
-pub fn says(formula: &[u8], text: &[u8]) -> Option<Said> {
+/// How a proof is asked for: its form, and whether the check is in the consequence profile.
+#[derive(Clone, Copy, Debug, PartialEq, Eq)]
+pub struct Asked {
+    pub form: Form,
+    pub consequence: bool,
+}
+
+impl Asked {
+    /// By the words of a command that checks a DRAT proof.
+    pub fn of(command: &str) -> Option<Asked> {
+        let (command, consequence) = command.strip_prefix("cons ").map_or((command, false), |rest| (rest, true));
+        let form = match command.split(' ').next()? {
+            "drat" => Form::Text,
+            "dratb" => Form::Binary,
+            _ => return None,
+        };
+        Some(Asked { form, consequence })
+    }
+}
+
+/// What is said of a DRAT proof for a formula that the check has read; none where a clause of either has both signs of a variable.
+pub fn says(asked: Asked, formula: &[u8], proof: &[u8]) -> Option<Said> {
     let (variables, clauses) = self::formula(formula)?;
     if clauses.iter().any(|clause| clause.both_signs()) {
         return None;
     }
     let mut live = clauses;
-    let mut said = Said { number: 0, place: text.len(), lines: 0, by_rat: 0 };
+    let mut said = Said { number: 0, place: proof.len(), lines: 0, by_rat: 0 };
     let refused = |said: Said, number, place| Some(Said { number, place, ..said });
-    let (mut refuted, mut tokens) = (false, tokens(text).into_iter().peekable());
-    while let Some(&(first, token)) = tokens.peek() {
-        let strikes = token == b"d";
-        if strikes {
-            tokens.next();
-        }
-        let mut literals = Vec::new();
-        loop {
-            let Some((place, token)) = tokens.next() else { return refused(said, 6, first) };
-            match literal(token, variables) {
-                Err(number) => return refused(said, number, place),
-                Ok(0) => break,
-                Ok(literal) => literals.push(literal),
-            }
-        }
-        let clause = Literals::of(&literals);
+    let mut refuted = false;
+    let proof = read(asked.form, proof, variables);
+    for written in &proof.clauses {
+        let clause = Literals::of(&written.literals);
         if clause.both_signs() {
             return None;
         }
-        if strikes {
-            let Some(at) = live.iter().position(|member| *member == clause) else { return refused(said, 28, first) };
-            live.remove(at);
+        if written.strikes {
+            match live.iter().position(|member| *member == clause) {
+                Some(at) => live.remove(at),
+                None => return refused(said, 28, written.place),
+            };
             continue;
         }
         if said.lines == 1024 {
-            return refused(said, 22, first);
+            return refused(said, 22, written.place);
         }
         if !rup(&live, clause) {
-            if !literals.first().is_some_and(|pivot| rat(&live, *pivot, clause)) {
-                return refused(said, 19, first);
+            let pivot = written.literals.first();
+            if asked.consequence || !pivot.is_some_and(|pivot| rat(&live, *pivot, clause)) {
+                return refused(said, 19, written.place);
             }
             said.by_rat += 1;
         }
         said.lines += 1;
-        refuted |= literals.is_empty();
+        refuted |= written.literals.is_empty();
         live.push(clause);
     }
-    Some(Said { number: if refuted { 0 } else { 20 }, ..said })
+    match proof.fault {
+        Some((number, place)) => refused(said, number, place),
+        None => Some(Said { number: if refuted { 0 } else { 20 }, ..said }),
+    }
 }
 
-/// What clauses say where they are asked, and whether an answer of the line protocol agrees. Asked of a `drat` command whose formula was
-/// read, which shows in the members; where the table was full, the lines before must be among the accepted ones.
+/// What clauses say where they are asked, and whether an answer of the line protocol agrees. Asked of a check of a DRAT proof whose formula
+/// was read, which shows in the members; where the table was full, the lines before must be among the accepted ones.
 pub fn hold(command: &str, answer: &str) -> Option<(Said, bool)> {
-    let words: Vec<&str> = command.split(' ').collect();
+    let asked = Asked::of(command)?;
+    let words: Vec<&str> = command.strip_prefix("cons ").unwrap_or(command).split(' ').collect();
     let parts: Vec<&str> = answer.split(" | ").collect();
-    if words[0] != "drat" || parts.get(2).is_none_or(|members| *members == "-") {
+    if parts.get(2).is_none_or(|members| *members == "-") {
         return None;
     }
-    let said = says(&bytes(words[4])?, &bytes(words[5])?)?;
+    let said = says(asked, &bytes(words[4])?, &bytes(words[5])?)?;
     let numbers: Vec<usize> = parts[0].split(' ').map_while(|word| word.parse().ok()).collect();
     let agrees = match numbers[..] {
         [23, _, lines, ..] => lines <= said.lines,
@@ -211,7 +195,7 @@ pub fn hold(command: &str, answer: &str) -> Option<(Said, bool)> {
 }
 
 /// Bytes from hex, `-` for none.
-fn bytes(hex: &str) -> Option<Vec<u8>> {
+pub fn bytes(hex: &str) -> Option<Vec<u8>> {
     if hex == "-" {
         return Some(Vec::new());
     }
@@ -222,8 +206,15 @@ fn bytes(hex: &str) -> Option<Vec<u8>> {
 mod tests {
     use super::*;
 
+    const TEXT: Asked = Asked { form: Form::Text, consequence: false };
+    const BINARY: Asked = Asked { form: Form::Binary, consequence: false };
+
+    fn told_in(asked: Asked, formula: &str, proof: &[u8]) -> Option<(u8, usize, usize, usize)> {
+        says(asked, formula.as_bytes(), proof).map(|said| (said.number, said.place, said.lines, said.by_rat))
+    }
+
     fn told(formula: &str, text: &str) -> Option<(u8, usize, usize, usize)> {
-        says(formula.as_bytes(), text.as_bytes()).map(|said| (said.number, said.place, said.lines, said.by_rat))
+        told_in(TEXT, formula, text.as_bytes())
     }
 
     const ALL_FOUR: &str = "p cnf 2 4\n1 2 0\n-1 2 0\n1 -2 0\n-1 -2 0\n";
@@ -254,6 +245,20 @@ mod tests {
             assert_eq!(told(formula, text), said, "{formula} {text}");
         }
         assert_eq!(told("p cnf 0 1\n0\n", &"0 ".repeat(1_025)), Some((22, 2_048, 1_024, 0)));
+    }
+
+    /// The same clauses in binary; RAT clauses in the profile.
+    #[test]
+    fn other_modes() {
+        assert_eq!(told_in(BINARY, ALL_FOUR, b"\x61\x04\0\x61\0"), Some((0, 5, 2, 0)));
+        assert_eq!(told_in(BINARY, ALL_FOUR, b"\x61\x04\0\x64\x04\x02\x04\0\x61\0"), Some((0, 10, 2, 0)));
+        assert_eq!(told_in(BINARY, CHAIN, b"\x61\x06\x02\0"), Some((20, 4, 1, 1)));
+        assert_eq!(told_in(BINARY, CHAIN, b"\x61\x02\x06\0"), Some((19, 0, 0, 0)));
+        assert_eq!(told_in(BINARY, CHAIN, b"\x61\x06\x02\0\x61\x09\0"), Some((4, 5, 1, 1)));
+        let profile = |asked| Asked { consequence: true, ..asked };
+        assert_eq!(told_in(profile(TEXT), CHAIN, b"3 1 0"), Some((19, 0, 0, 0)));
+        assert_eq!(told_in(profile(BINARY), CHAIN, b"\x61\x06\x02\0"), Some((19, 0, 0, 0)));
+        assert_eq!(told_in(profile(BINARY), ALL_FOUR, b"\x61\x04\0\x61\0"), Some((0, 5, 2, 0)));
     }
 
     /// Both by every assignment: a RUP clause follows, and a RAT clause leaves what can be met so.

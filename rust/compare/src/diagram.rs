@@ -258,6 +258,51 @@ impl Diagrams {
         self.conflicts(by_line)
     }
 
+    /// How many paths lead from the root to 0, at most what a word holds.
+    pub fn path_count(&self, f: Node) -> u64 {
+        // Children stand before their parents.
+        let mut counts = vec![1, 0];
+        for (_, low, high) in self.nodes.iter().take(f + 1).skip(2) {
+            counts.push(u64::saturating_add(counts[*low], counts[*high]));
+        }
+        counts[f]
+    }
+
+    /// The literals of each path to 0, low side first; none where there are more than so many.
+    pub fn paths(&self, f: Node, most: usize) -> Option<Vec<Literals>> {
+        if self.path_count(f) > most as u64 {
+            return None;
+        }
+        let (mut found, mut open) = (Vec::new(), vec![(f, Literals::default())]);
+        while let Some((node, path)) = open.pop() {
+            match node {
+                0 => found.push(path),
+                1 => {}
+                _ => {
+                    let (variable, low, high) = self.nodes[node];
+                    let side = |literal: i32| {
+                        let mut path = path;
+                        path.set(literal);
+                        path
+                    };
+                    open.extend([(high, side(i32::from(variable))), (low, side(-i32::from(variable)))]);
+                }
+            }
+        }
+        Some(found)
+    }
+
+    /// Whether the members accept g as a path line; no where it has more paths than the generator tries.
+    pub fn path(&mut self, members: &[Node], g: Node) -> bool {
+        const TRIED: usize = 200;
+        let Some(paths) = self.paths(g, TRIED) else { return false };
+        g != 1
+            && paths.into_iter().all(|path| {
+                let by_path = members.iter().map(|member| self.restrict(*member, path)).collect();
+                self.conflicts(by_path)
+            })
+    }
+
     /// Whether the members accept g as a PR line with this witness.
     pub fn pr(&mut self, members: &[Node], g: Node, witness: Literals) -> bool {
         let not_g = self.not(g);

@@ -69,7 +69,7 @@ fn plain(random: &mut Random, problem: &Problem) -> String {
 }
 
 /// Tokens as a text, with comments or without.
-fn strewn(random: &mut Random, tokens: &[String]) -> Vec<u8> {
+pub fn strewn(random: &mut Random, tokens: &[String]) -> Vec<u8> {
     let mut text = String::new();
     let often = random.pick(&[0, 10, 50]);
     formula::strew(random, &mut text, tokens, often);
@@ -133,7 +133,7 @@ impl Problem {
 }
 
 /// A text of few clauses or a longer one.
-fn any(random: &mut Random) -> Problem {
+pub fn any(random: &mut Random) -> Problem {
     if random.percent(80) {
         small(random)
     } else {
@@ -169,7 +169,7 @@ pub fn small(random: &mut Random) -> Problem {
 }
 
 /// A formula of a family with a text that is longer.
-fn long(random: &mut Random) -> Problem {
+pub fn long(random: &mut Random) -> Problem {
     let formula = match random.below(3) {
         0 => {
             let variables = random.between(8, 64);
@@ -348,7 +348,10 @@ fn limits(random: &mut Random) -> Vec<String> {
 #[cfg(test)]
 mod tests {
     use super::*;
-    use crate::clausal::says;
+    use crate::clausal::{says, Asked};
+    use crate::read::Form;
+
+    const TEXT: Asked = Asked { form: Form::Text, consequence: false };
 
     /// Among the small texts all endings are often: refuted, 17, 19, 20 and 28; RAT clauses and strikings stand in many.
     #[test]
@@ -359,7 +362,7 @@ mod tests {
             let problem = small(random);
             let text = strewn(random, &problem.tokens());
             struck += usize::from(problem.steps.iter().any(|step| step.strikes));
-            if let Some(said) = says(&problem.formula.text(), &text) {
+            if let Some(said) = says(TEXT, &problem.formula.text(), &text) {
                 told += 1;
                 numbers[usize::from(said.number)] += 1;
                 by_rat += usize::from(said.by_rat > 0);

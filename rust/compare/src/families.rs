@@ -70,9 +70,9 @@ fn parity_clauses((variables, odd): &Parity) -> Vec<Vec<i32>> {
     (0..1 << variables.len()).filter(wrong).map(clause).collect()
 }
 
-/// Parity constraints by their clauses. The proof makes each of them a line and then sums them one by one; it may strike out what went into a
-/// sum once that stands, so that members do not pile up.
-pub fn parities(variables: usize, constraints: &[Parity], striking: bool) -> Problem {
+/// Parity constraints by their clauses. The proof makes each of them a line, by steps or as one path line, and then sums them one
+/// by one; it may strike out what went into a sum once that stands, so that members do not pile up.
+pub fn parities(variables: usize, constraints: &[Parity], striking: bool, by_paths: bool) -> Problem {
     let clauses = constraints.iter().flat_map(parity_clauses).collect();
     let formula = Formula { variables, clauses };
     let mut builder = Builder::new(&formula);
@@ -82,7 +82,8 @@ pub fn parities(variables: usize, constraints: &[Parity], striking: bool) -> Pro
         let first = next_clause;
         next_clause += parity_clauses(constraint).len();
         let lines = builder.members.len();
-        if !one_parity(&mut builder, constraint) {
+        let by_path = by_paths && path_parity(&mut builder, constraint);
+        if !by_path && !one_parity(&mut builder, constraint) {
             break;
         }
         served.extend((first..next_clause).chain(lines..builder.members.len()));
@@ -94,6 +95,12 @@ pub fn parities(variables: usize, constraints: &[Parity], striking: bool) -> Pro
         }
     }
     Problem { formula, builder }
+}
+
+/// A constraint from its clauses as one path line: a path to 0 has all of the variables, and one clause against it.
+fn path_parity(builder: &mut Builder, (variables, odd): &Parity) -> bool {
+    let line = builder.store.parity(variables, *odd);
+    line == 1 || builder.path(line)
 }
 
 /// A constraint from its clauses: pairs that differ in their last variables are joined, level by level.
@@ -144,7 +151,7 @@ pub fn tseitin(random: &mut Random, vertices: usize, satisfiable: bool) -> Probl
     }
     let odd = constraints.iter().filter(|constraint| constraint.1).count() % 2 == 1;
     constraints[0].1 ^= odd == satisfiable;
-    parities(edges.len(), &constraints, random.percent(40))
+    parities(edges.len(), &constraints, random.percent(40), random.percent(30))
 }
 
 /// At least `least` and at most `most` of the variables, each by its clauses.
@@ -250,8 +257,8 @@ pub fn pure(random: &mut Random, clauses: usize, lines: usize) -> Problem {
     Problem { formula, builder }
 }
 
-/// A rule book of two contribution bands, facts 1 and 2: each band asks for a chain of facts, and both bands are asserted. The chains end in
-/// one fact, with both signs where no worker can be in both bands.
+/// A rule book of two contribution bands, facts 1 and 2: each band asks for a chain of facts, and both bands are asserted. The
+/// chains end in one fact, with both signs where no worker can be in both bands.
 pub fn rule_book(random: &mut Random, facts: usize, satisfiable: bool) -> Problem {
     let mut asked: Vec<i32> = (3..facts as i32).collect();
     random.shuffle(&mut asked);
@@ -330,7 +337,7 @@ fn wide_parities(random: &mut Random) -> Problem {
         chosen.dedup();
         constraints.push((chosen, random.percent(50)));
     }
-    parities(variables, &constraints, random.percent(40))
+    parities(variables, &constraints, random.percent(40), random.percent(30))
 }
 
 /// A line that says that two members hold.

@@ -3,6 +3,7 @@
 use crate::check::witness;
 use crate::diagram::Literals;
 use crate::families::Problem;
+use crate::paths::{self, with_paths};
 use crate::proof::{strewn, Writer};
 use crate::random::Random;
 use crate::tally::{self, Tally};
@@ -11,8 +12,8 @@ use crate::tally::{self, Tally};
 pub fn write(random: &mut Random, writer: &mut Writer, problem: &Problem, lines: usize) {
     let variables = problem.formula.variables;
     let some = random.between(1, variables.max(1)) as u8;
-    match random.below(24) {
-        0 => writer.bytes.push(random.pick(&[0, 1, 0x43, 0x4a, 0x4c, 0x4d, 0x4f, 0x51, 0x53, 0x55, 0x57, 0x59, 0xff])),
+    match random.below(27) {
+        0 => writer.bytes.push(random.pick(&[0, 1, 0x43, 0x4a, 0x4c, 0x4d, 0x4f, 0x53, 0x55, 0x56, 0x57, 0x59, 0xff])),
         1 => cut_short(random, writer, some),
         2 => after_end(random, writer),
         3 => wrong_variable(random, writer, variables),
@@ -26,16 +27,23 @@ pub fn write(random: &mut Random, writer: &mut Writer, problem: &Problem, lines:
         11 | 14 | 15 => not_shown(random, writer, problem),
         12 => zero_lines(random, writer),
         16..=19 => strikings(random, writer, problem, problem.formula.clauses.len() + lines),
-        _ => sets(random, writer, variables),
+        20..=23 => sets(random, writer, variables),
+        _ => path_lines(random, writer, problem),
     }
+}
+
+/// A kind of line: most often RUP.
+fn line_kind(random: &mut Random) -> u8 {
+    random.pick(&[0x52, 0x52, 0x50, paths::KIND])
 }
 
 /// 10: a record cut short. Nothing may follow it, so what follows makes of it another record or another fault.
 fn cut_short(random: &mut Random, writer: &mut Writer, some: u8) {
-    match random.below(7) {
+    match random.below(8) {
         0 => drop(writer.node(some, 0, 1)),
         1 => writer.line(0x52, 0),
         2 => writer.line(0x50, 0),
+        7 => writer.line(paths::KIND, 0),
         3 => writer.strike(0),
         4 | 5 => drop(writer.set(random.pick(&[0x58, 0x4b]), random.pick(&[0, 1, u64::MAX]), random.below(3) as u8)),
         _ => writer.witness(Literals { positive: 1 << (some - 1), negative: 0 }),
@@ -70,8 +78,7 @@ fn no_entry(random: &mut Random, writer: &mut Writer, some: u8) {
     match random.below(4) {
         0 => drop(writer.node(some, entry, 1)),
         1 => drop(writer.node(some, 0, entry)),
-        2 => writer.line(0x52, entry),
-        _ => writer.line(0x50, entry),
+        _ => writer.line(line_kind(random), entry),
     }
 }
 
@@ -112,7 +119,7 @@ fn left_over(random: &mut Random, writer: &mut Writer, some: u8) {
         _ => {}
     }
     let root = if random.percent(50) { writer.node(some, 0, 1) } else { random.below(2) as u16 };
-    writer.line(0x52, root);
+    writer.line(random.pick(&[0x52, 0x52, paths::KIND]), root);
 }
 
 fn always_true(random: &mut Random, writer: &mut Writer, some: u8) {
@@ -121,7 +128,7 @@ fn always_true(random: &mut Random, writer: &mut Writer, some: u8) {
         writer.witness(Literals { positive: 1 << (some - 1), negative: 0 });
         return writer.line(0x50, root);
     }
-    writer.line(random.pick(&[0x50, 0x52]), root);
+    writer.line(random.pick(&[0x50, 0x52, paths::KIND]), root);
 }
 
 /// 18, mostly: a random diagram under a random witness.
@@ -145,7 +152,8 @@ fn not_shown(random: &mut Random, writer: &mut Writer, problem: &Problem) {
             if pr {
                 writer.witness(literals);
             }
-            return writer.line(if pr { 0x50 } else { 0x52 }, root);
+            let other = random.pick(&[0x52, 0x52, paths::KIND]);
+            return writer.line(if pr { 0x50 } else { other }, root);
         }
     }
     writer.line(0x52, 0);
@@ -153,8 +161,8 @@ fn not_shown(random: &mut Random, writer: &mut Writer, problem: &Problem) {
 
 /// Lines 0 of both kinds: 18, 19, or accepted.
 fn zero_lines(random: &mut Random, writer: &mut Writer) {
-    writer.line(random.pick(&[0x52, 0x50]), 0);
-    writer.line(0x52, 0);
+    writer.line(random.pick(&[0x52, 0x50, paths::KIND]), 0);
+    writer.line(random.pick(&[0x52, paths::KIND]), 0);
 }
 
 /// 28, or a striking that is fine: twice, beyond the members, within a line, all members, the last one.
@@ -217,7 +225,7 @@ fn sets(random: &mut Random, writer: &mut Writer, variables: usize) {
         _ => {
             tally::strew(random, writer, variables);
             let root = writer.tally(set, tally);
-            writer.line(random.pick(&[0x52, 0x52, 0x50]), root);
+            writer.line(line_kind(random), root);
         }
     }
 }
@@ -233,4 +241,41 @@ fn over_set(random: &mut Random, writer: &mut Writer, variables: usize) {
     let root =
         if random.percent(50) { writer.node(variable, child, other) } else { writer.node(variable, other, child) };
     writer.line(0x52, root);
+}
+
+/// Path lines: a random diagram, which some path refuses with 19; one that the members imply; more paths than there may be, be it
+/// of an entry that does not exist, of the constant 1 or behind a witness.
+fn path_lines(random: &mut Random, writer: &mut Writer, problem: &Problem) {
+    let variables = problem.formula.variables;
+    let mut builder = problem.builder.clone();
+    match random.below(5) {
+        0 => {
+            let g = strewn(random, &mut builder.store, variables);
+            let root = writer.entry(&builder.store, g);
+            writer.line(paths::KIND, root);
+        }
+        1 | 2 => {
+            let (whole, any) = (builder.whole(), strewn(random, &mut builder.store, variables));
+            let g = builder.store.or(whole, any);
+            let root = writer.entry(&builder.store, g);
+            writer.line(paths::KIND, root);
+        }
+        3 if variables == 64 => {
+            let count = random.pick(&[4_096, 4_097, 5_000]);
+            let g = with_paths(&mut builder.store, random.between(1, 30) as u8, count, true);
+            let root = writer.entry(&builder.store, g);
+            if random.percent(20) {
+                writer.witness(Literals { positive: 1, negative: 0 });
+            }
+            let other = random.pick(&[0, 1, root + 1]);
+            writer.line(paths::KIND, if random.percent(80) { root } else { other });
+        }
+        _ => {
+            // A parity of 14 or more has over 4,096 paths.
+            let size = random.pick(&[13, 14, 20]).min(variables);
+            let set = tally::set(random, variables, size);
+            let root = writer.tally(set, Tally::Parity(random.percent(50)));
+            writer.line(paths::KIND, root);
+        }
+    }
 }

@@ -69,7 +69,7 @@ fn entries(random: &mut Random, writer: &mut Writer) {
     for (variable, low, high) in store.nodes.iter().skip(2).take(many) {
         writer.node(*variable, *low as u16, *high as u16);
     }
-    writer.line(random.pick(&[0x52, 0x50]), random.between(2, many + 1) as u16);
+    writer.line(random.pick(&[0x52, 0x50, 0x51]), random.between(2, many + 1) as u16);
 }
 
 /// About 1,024 lines that repeat a member. Some strike out the line before each time, some the last of all members.
@@ -78,7 +78,7 @@ fn lines(random: &mut Random, writer: &mut Writer, clauses: usize) {
     let striking = random.percent(50);
     for line in 0..lines {
         let root = writer.node(2, 1, 0);
-        writer.line(0x52, root);
+        writer.line(random.pick(&[0x52, 0x52, 0x51]), root);
         if striking && line > 0 {
             writer.strike(clauses + line - 1);
         }

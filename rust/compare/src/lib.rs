@@ -1,7 +1,9 @@
 //! Generators of commands for the filters of the line protocol, and the filters as child processes.
 
+pub mod binary;
 pub mod check;
 pub mod clausal;
+pub mod convert;
 pub mod diagram;
 pub mod drat;
 pub mod families;
@@ -11,8 +13,10 @@ pub mod formula;
 mod index;
 mod large;
 pub mod outside;
+pub mod paths;
 pub mod proof;
 pub mod random;
+pub mod read;
 pub mod single;
 mod strike;
 pub mod table;

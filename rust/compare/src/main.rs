@@ -1,12 +1,15 @@
 //! `compare [COUNT] [SEED] [--left COMMAND] [--right COMMAND] [--only WORD,WORD,..]`
 //!
-//! Asks two filters the same random commands, COUNT of them, and some of the checks again in tables around their peak; holds what they
-//! say of DRAT texts to RUP and RAT over clauses. Says how often each number came; ends with status 1 and shows the command where the
-//! answers differ. The filters are `driver` and `reference` beside this program where none are named.
+//! Asks two filters the same random commands, COUNT of them, and some again: checks in tables around their peak, checks of DRAT
+//! proofs in the other form, conversions back. Compares what they say of DRAT proofs with RUP and RAT over clauses, what they say
+//! in the other form with what they said (all but the place), and conversions byte by byte with its own. Says how often each
+//! number came; ends with status 1 and shows the command where the answers differ. The filters are `driver` and `reference`
+//! beside this program where none are named. A WORD is a single call, `check`, `drat`, `dratb`, `convert`, or `cons` before one
+//! of the checks.
 
 use compare::filter::Filter;
 use compare::random::Random;
-use compare::{check, clausal, drat, single, tally};
+use compare::{binary, check, clausal, convert, drat, paths, single, tally};
 use std::collections::BTreeMap;
 use std::process::exit;
 
@@ -30,6 +33,7 @@ fn main() {
         let answers = agreed(&options, &mut filters, &commands, &mut tally);
         let again = refilled(&mut sizes, &commands, &answers);
         agreed(&options, &mut filters, &again, &mut tally);
+        in_other_form(&options, &mut filters, &mut sizes, &commands, &answers, &mut tally);
     }
     print!("{}", tally.text());
     if !filters.into_iter().all(Filter::end) {
@@ -52,25 +56,52 @@ fn agreed(options: &Options, filters: &mut [Filter; 2], commands: &[String], tal
             println!("compare: by RUP and RAT over clauses: {said:?}");
             differ(options, command, [left, right]);
         }
+        if convert::hold(command, left.unwrap()) == Some(false) {
+            println!("compare: not what the conversion must give");
+            differ(options, command, [left, right]);
+        }
         tally.add(command, left.unwrap(), held.map(|(said, _)| said.by_rat > 0));
     }
     left
 }
 
-/// Some of the checks again, in tables that are just large enough or fill.
+/// Some of the checks again, in tables that are just large enough or fill, and what was converted back.
 fn refilled(random: &mut Random, commands: &[String], answers: &[String]) -> Vec<String> {
     let mut again = Vec::new();
     for (command, answer) in commands.iter().zip(answers) {
-        if ["check ", "drat "].iter().any(|word| command.starts_with(word)) && random.percent(5) {
+        if random.percent(5) {
             again.extend(check::around_peak(random, command, answer));
         }
+        again.extend(convert::back(random, command, answer));
     }
     again
 }
 
+/// Some of the checks of DRAT proofs again, in the other form: the answers are the same but for the place.
+fn in_other_form(
+    options: &Options,
+    filters: &mut [Filter; 2],
+    random: &mut Random,
+    commands: &[String],
+    answers: &[String],
+    tally: &mut Tally,
+) {
+    let asked = commands.iter().zip(answers).filter(|_| random.percent(20));
+    let pairs = asked.filter_map(|(command, answer)| convert::in_other_form(command, answer));
+    let (again, wanted): (Vec<String>, Vec<String>) = pairs.unzip();
+    let answers = agreed(options, filters, &again, tally);
+    for ((command, answer), wanted) in again.iter().zip(&answers).zip(&wanted) {
+        if convert::placeless(answer).as_ref() != Some(wanted) {
+            println!("compare: in the other form all but the place was: {wanted}");
+            differ(options, command, [Some(answer), Some(answer)]);
+        }
+        tally.count("in the other form", answer);
+    }
+}
+
 fn options() -> Options {
     let beside = |name: &str| std::env::current_exe().unwrap().with_file_name(name).display().to_string();
-    let words = single::WORDS.iter().chain(&["check", "drat"]).map(|word| word.to_string()).collect();
+    let words = single::WORDS.iter().chain(&KINDS.map(|(word, _)| word)).map(|word| word.to_string()).collect();
     let mut options = Options { count: 2000, seed: 1, filters: [beside("driver"), beside("reference")], words };
     let mut numbers = 0;
     let mut given = std::env::args().skip(1);
@@ -99,22 +130,30 @@ fn usage() -> ! {
     exit(2)
 }
 
+/// The kinds of commands that are no single calls, each with its share.
+const KINDS: [(&str, usize); 7] =
+    [("check", 9), ("cons check", 4), ("drat", 4), ("cons drat", 2), ("dratb", 3), ("cons dratb", 2), ("convert", 2)];
+
 /// Some commands, at most so many.
 fn batch(random: &mut Random, words: &[String], most: usize) -> Vec<String> {
-    let singles: Vec<&str> =
-        words.iter().map(String::as_str).filter(|word| !["check", "drat"].contains(word)).collect();
-    // Each kind that is wanted as often as it stands here.
+    let kind = |word: &str| KINDS.iter().any(|(kind, _)| *kind == word);
+    let singles: Vec<&str> = words.iter().map(String::as_str).filter(|word| !kind(word)).collect();
     let wanted = |word: &str| words.iter().any(|other| other == word);
-    let shares = [("check", 9), ("drat", 5)].into_iter().filter(|(word, _)| wanted(word));
+    let shares = KINDS.into_iter().filter(|(word, _)| wanted(word));
     let mut kinds: Vec<&str> = shares.flat_map(|(word, share)| vec![word; share]).collect();
     kinds.extend(vec![""; if singles.is_empty() { 0 } else { 9 }]);
     let mut commands = Vec::new();
     while commands.len() < most.min(200) {
-        commands.extend(match random.pick(&kinds) {
+        let kind = random.pick(&kinds);
+        let (profile, word) = kind.strip_prefix("cons ").map_or(("", kind), |rest| ("cons ", rest));
+        let more = match word {
             "check" => check::commands(random),
             "drat" => drat::commands(random),
+            "dratb" => binary::commands(random),
+            "convert" => convert::commands(random),
             _ => single::commands(random, &singles),
-        });
+        };
+        commands.extend(more.into_iter().map(|command| format!("{profile}{command}")));
     }
     commands.truncate(most);
     commands
@@ -156,23 +195,37 @@ impl Tally {
     /// `held` where clauses were asked too: whether a clause is RAT and not RUP.
     fn add(&mut self, command: &str, answer: &str, held: Option<bool>) {
         self.asked += 1;
-        let first = |line: &str| line.split(' ').next().unwrap_or("").to_string();
-        let (word, number) = (first(command), first(answer).parse().unwrap_or(99));
-        let mut add = |what: String| *self.numbers.entry(what).or_default().entry(number).or_default() += 1;
-        // The checks that struck out a member, those with a record of a set, and the texts that were held to clauses, once more.
+        let (profile, asked) = command.strip_prefix("cons ").map_or(("", command), |rest| ("cons ", rest));
+        let word = format!("{profile}{}", asked.split(' ').next().unwrap_or(""));
+        let mut add = |what: String| self.count(&what, answer);
+        // The checks that struck out a member, those with a record of a set or a path line, those that end at a path line, and the proofs
+        // compared with clauses, once more.
         if answer.split(" | ").nth(3).is_some_and(|marks| marks.contains('1')) {
             add(format!("{word}, struck"));
         }
-        if word == "check" && command.split(' ').nth(5).is_some_and(tally::stands_in) {
-            add("check, sets".into());
+        let proof = if word.ends_with("check") { asked.split(' ').nth(5).unwrap_or("") } else { "" };
+        if tally::stands_in(proof) {
+            add(format!("{word}, sets"));
+        }
+        if paths::stands_in(proof) {
+            add(format!("{word}, paths"));
+        }
+        if paths::ended_at(proof, answer) {
+            add(format!("{word}, at a path line"));
         }
         if held.is_some() {
-            add("drat, by clauses".into());
+            add(format!("{word}, by clauses"));
         }
         if held == Some(true) {
-            add("drat, by clauses, RAT".into());
+            add(format!("{word}, by clauses, RAT"));
         }
         add(word);
+    }
+
+    /// Counts an answer by its number.
+    fn count(&mut self, what: &str, answer: &str) {
+        let number = answer.split(' ').next().and_then(|word| word.parse().ok()).unwrap_or(99);
+        *self.numbers.entry(what.into()).or_default().entry(number).or_default() += 1;
     }
 
     fn text(&self) -> String {

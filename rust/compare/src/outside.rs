@@ -84,7 +84,10 @@ fn damage(random: &mut Random, problem: &mut Problem) {
 #[cfg(test)]
 mod tests {
     use super::*;
-    use crate::clausal::{says, Said};
+    use crate::clausal::{says, Asked, Said};
+    use crate::read::Form;
+
+    const TEXT: Asked = Asked { form: Form::Text, consequence: false };
 
     /// By RUP and RAT over clauses each is a refutation. The solvers' clauses are all RUP; of Cook's that define a variable most are not.
     #[test]
@@ -93,7 +96,7 @@ mod tests {
         for (at, (formula, proof)) in PROOFS.iter().enumerate() {
             let lines = proof.lines().filter(|line| !line.starts_with('d')).count();
             let by_rat = if at == extended { 60 } else { 0 };
-            let said = says(formula.as_bytes(), proof.as_bytes());
+            let said = says(TEXT, formula.as_bytes(), proof.as_bytes());
             assert_eq!(said, Some(Said { number: 0, place: proof.len(), lines, by_rat }), "{at}");
         }
     }
@@ -106,7 +109,7 @@ mod tests {
         for _ in 0..300 {
             let problem = damaged(random);
             let text = problem.tokens().join(" ");
-            if let Some(said) = says(&problem.formula.text(), text.as_bytes()) {
+            if let Some(said) = says(TEXT, &problem.formula.text(), text.as_bytes()) {
                 numbers[usize::from(said.number)] += 1;
             }
         }

@@ -2,6 +2,7 @@
 
 use crate::diagram::{Diagrams, Literals, Node};
 use crate::formula::Formula;
+use crate::paths;
 use crate::random::Random;
 use crate::tally::{self, Tally};
 use std::collections::HashMap;
@@ -90,7 +91,7 @@ impl Writer {
         self.strike_at(at, member);
     }
 
-    /// A line of kind `52` or `50`.
+    /// A line of kind `52`, `50` or `51`.
     pub fn line(&mut self, kind: u8, root: u16) {
         self.record(kind, &root.to_le_bytes());
         self.entries.clear();
@@ -149,6 +150,8 @@ pub struct Builder {
     pub writer: Writer,
     pub lines: Vec<Line>,
     pub strikings: Vec<Striking>,
+    /// No PR lines.
+    pub consequence: bool,
 }
 
 impl Builder {
@@ -156,7 +159,15 @@ impl Builder {
         let mut store = Diagrams::default();
         let members: Vec<Node> = formula.clauses.iter().map(|clause| store.clause(clause)).collect();
         let struck = vec![false; members.len()];
-        Builder { store, members, struck, writer: Writer::default(), lines: Vec::new(), strikings: Vec::new() }
+        Builder {
+            store,
+            members,
+            struck,
+            writer: Writer::default(),
+            lines: Vec::new(),
+            strikings: Vec::new(),
+            consequence: false,
+        }
     }
 
     /// The same with no line and no striking yet, over the first members, which are so many clauses.
@@ -168,6 +179,7 @@ impl Builder {
             writer: Writer { sets: self.writer.sets, ..Writer::default() },
             lines: Vec::new(),
             strikings: Vec::new(),
+            consequence: self.consequence,
         }
     }
 
@@ -219,6 +231,7 @@ impl Builder {
         let live = self.live();
         match line.kind {
             0x52 => self.store.rup(&live, line.g),
+            paths::KIND => self.store.path(&live, line.g),
             _ => self.store.pr(&live, line.g, line.witness),
         }
     }
@@ -232,9 +245,18 @@ impl Builder {
         holds
     }
 
+    /// Writes g as a path line if it is accepted as one.
+    pub fn path(&mut self, g: Node) -> bool {
+        let holds = self.accepts(Line { kind: paths::KIND, g, witness: Literals::default() });
+        if holds {
+            self.write_line(paths::KIND, g, Literals::default());
+        }
+        holds
+    }
+
     /// Writes g as a PR line with this witness if it is accepted as one.
     pub fn pr(&mut self, g: Node, witness: Literals) -> bool {
-        let holds = self.accepts(Line { kind: 0x50, g, witness });
+        let holds = !self.consequence && self.accepts(Line { kind: 0x50, g, witness });
         if holds {
             self.write_line(0x50, g, witness);
         }

@@ -85,8 +85,9 @@ mod tests {
             let Builder { writer, lines, strikings, .. } = &problem.builder;
             let kinds: Vec<u8> = writer.records.iter().map(|start| writer.bytes[*start]).collect();
             let count = |kind: u8| kinds.iter().filter(|other| **other == kind).count();
-            assert_eq!((count(0x44), count(0x52) + count(0x50)), (strikings.len(), plain.builder.lines.len()));
-            assert!(writer.lines.windows(2).all(|pair| [0x52, 0x50].contains(&writer.bytes[pair[1] - 3])));
+            let closing = count(0x52) + count(0x50) + count(0x51);
+            assert_eq!((count(0x44), closing), (strikings.len(), plain.builder.lines.len()));
+            assert!(writer.lines.windows(2).all(|pair| [0x52, 0x50, 0x51].contains(&writer.bytes[pair[1] - 3])));
             let mut again = problem.builder.anew(problem.formula.clauses.len());
             struck += usize::from(!strikings.is_empty());
             accepted += usize::from(!strikings.is_empty() && pass(&mut again, lines, strikings));

@@ -160,7 +160,7 @@ pub fn stands_in(proof: &str) -> bool {
             Some("58" | "4b") => return rest.len() >= 20,
             Some("4e") => 12,
             Some("54" | "46") => 4,
-            Some("52" | "50" | "44") => 6,
+            Some("52" | "50" | "51" | "44") => 6,
             _ => return false,
         };
         let Some(left) = rest.get(length..) else { return false };

@@ -2,7 +2,7 @@
 
 use crate::command::{Call, Check, Command, Conversion, Form, Node, Table};
 use crate::lent::{Dirt, Lent, Lists};
-use cablesalak::raw::{self, AtLeast, Checked, Converted, Single};
+use cablesalak::raw::{self, AtLeast, Checked, Converted, ListsMut, RawMode, Single};
 use std::fmt::Write;
 
 /// The answer to a command, or what the library broke. Dirt is what the lent places may hold.
@@ -87,7 +87,8 @@ const LENT_COUNT: usize = 2;
 fn check(asked: &Check, dirt: &mut Dirt) -> Answered {
     let seed = dirt.next();
     let mut parts = dirty_parts(asked, seed);
-    let said = judge(&mut parts, asked, &asked.proof);
+    // One call and the other in turn.
+    let said = judge(&mut parts, asked, &asked.proof, seed & 1 == 0);
     expect(parts.table.guarded(), "written outside the table")?;
     expect(parts.members.guarded(), "written outside the member list")?;
     expect(parts.struck.guarded(), "written outside the marks")?;
@@ -122,24 +123,28 @@ fn dirty_parts(asked: &Check, seed: u64) -> Parts {
     }
 }
 
-fn judge(parts: &mut Parts, asked: &Check, proof: &[u8]) -> Checked {
+/// The check by the call that takes a mode. Records and texts outside the profile have calls of their own besides, which
+/// `plainly` asks for.
+fn judge(parts: &mut Parts, asked: &Check, proof: &[u8], plainly: bool) -> Checked {
     let Parts { table, members, struck, scratch } = parts;
-    let call = match (asked.form, asked.consequence) {
-        (Form::Records, false) => raw::check,
-        (Form::Text, false) => raw::check_text,
-        (Form::Binary, false) => raw::check_binary,
-        (Form::Records, true) => raw::check_consequence,
-        (Form::Text, true) => raw::check_text_consequence,
-        (Form::Binary, true) => raw::check_binary_consequence,
+    let lists = &mut ListsMut { members: members.lend(), struck: struck.lend(), scratch: scratch.lend() };
+    let (table, formula) = (&mut table.lend(), &asked.formula);
+    let form = match (asked.form, asked.consequence) {
+        (Form::Records, false) if plainly => return raw::check(table, LENT_COUNT, lists, formula, proof),
+        (Form::Text, false) if plainly => return raw::check_text(table, LENT_COUNT, lists, formula, proof),
+        (Form::Records, _) => 0,
+        (Form::Text, _) => 1,
+        // Any other number is binary DRAT.
+        (Form::Binary, _) => [2, 3, 255][proof.len() % 3],
     };
-    let (members, struck, scratch) = (members.lend(), struck.lend(), scratch.lend());
-    call(&mut table.lend(), LENT_COUNT, members, struck, scratch, &asked.formula, proof)
+    raw::check_in(RawMode { form, consequence: asked.consequence }, table, LENT_COUNT, lists, formula, proof)
 }
 
-/// Which text the place must be in. 3, 4 and 6 are said of the formula and of a DRAT proof; of a formula that is fine an empty proof gets 20.
+/// Which text the place must be in. 3, 4 and 6 are said of the formula and of a DRAT proof; of a formula that is fine an empty
+/// proof gets 20.
 fn in_proof(asked: &Check, said: &Checked) -> bool {
     match said.number {
-        3 | 4 | 6 if asked.form != Form::Records => judge(&mut dirty_parts(asked, 0), asked, b"").number == 20,
+        3 | 4 | 6 if asked.form != Form::Records => judge(&mut dirty_parts(asked, 0), asked, b"", false).number == 20,
         1..=8 => false,
         _ => true,
     }
@@ -161,7 +166,8 @@ fn hex(bytes: &[u8]) -> String {
     if bytes.is_empty() {
         return "-".into();
     }
-    bytes.iter().map(|byte| format!("{byte:02x}")).collect()
+    let digit = |value: u8| char::from(b"0123456789abcdef"[usize::from(value)]);
+    bytes.iter().flat_map(|byte| [digit(byte >> 4), digit(byte & 15)]).collect()
 }
 
 /// "Number 7 changes nothing."
@@ -172,8 +178,8 @@ fn unchanged(parts: &Parts, before: &Parts) -> Result<(), String> {
     expect(parts.scratch.places() == before.scratch.places(), "7 changed the scratch list")
 }
 
-/// What every other number leaves: the index of the nodes; zeros past the count, past the members kept and their marks, and in the scratch
-/// list.
+/// What every other number leaves: the index of the nodes; zeros past the count, past the members kept and their marks, and in
+/// the scratch list.
 fn left(parts: &Parts, count: usize, kept: usize) -> Result<(), String> {
     let Parts { table, members, struck, scratch } = parts;
     expect(2 <= count && count <= table.size(), "the count is out of range")?;

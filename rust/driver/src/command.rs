@@ -72,8 +72,10 @@ pub enum Command {
     Convert(Conversion),
 }
 
-/// The largest buffer that a command may ask for.
+/// The largest list that a command may ask for.
 const LARGEST: usize = 1 << 20;
+/// The largest output of a conversion.
+const LARGEST_OUTPUT: usize = 1 << 24;
 
 /// The command in a line, if it is one.
 pub fn read(line: &str) -> Option<Command> {
@@ -100,7 +102,7 @@ pub fn read(line: &str) -> Option<Command> {
         _ if consequence => None,
         [word @ ("tobin" | "totext"), size, proof] if told == words.len() => Some(Command::Convert(Conversion {
             from: if word == "tobin" { Form::Text } else { Form::Binary },
-            size: places(size)?,
+            size: number(size).filter(|size| *size <= LARGEST_OUTPUT)?,
             proof: bytes(proof)?,
         })),
         [word, size, count, nodes, ref operands @ ..] => {
@@ -149,12 +151,12 @@ fn number<T: std::str::FromStr>(word: &str) -> Option<T> {
     }
 }
 
-fn places(word: &str) -> Option<usize> {
+pub fn places(word: &str) -> Option<usize> {
     number(word).filter(|size| *size <= LARGEST)
 }
 
 /// Bytes in lower-case hex, `-` for none.
-fn bytes(word: &str) -> Option<Vec<u8>> {
+pub fn bytes(word: &str) -> Option<Vec<u8>> {
     if word == "-" {
         return Some(Vec::new());
     }

@@ -6,6 +6,7 @@
 mod answer;
 mod command;
 mod lent;
+mod small;
 #[cfg(test)]
 mod tests;
 
@@ -41,10 +42,11 @@ fn filter() -> io::Result<()> {
         if asked.is_empty() {
             continue;
         }
-        let said = match std::str::from_utf8(asked).ok().and_then(command::read) {
-            Some(command) => answer::answer(&command, &mut dirt),
-            None => "error: not a command".into(),
-        };
+        let said = std::str::from_utf8(asked).ok().and_then(|asked| match small::read(asked) {
+            Some(asked) => Some(small::answer(&asked, &mut dirt)),
+            None => command::read(asked).map(|command| answer::answer(&command, &mut dirt)),
+        });
+        let said = said.unwrap_or_else(|| "error: not a command".into());
         writeln!(output, "{said}")?;
     }
 }

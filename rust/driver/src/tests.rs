@@ -2,7 +2,7 @@
 
 use crate::command::{self, Change, Index, Table};
 use crate::lent::Lists;
-use cablesalak::raw::{self, AtLeast, Checked, Columns, ColumnsMut};
+use cablesalak::raw::{self, AtLeast, Checked, Columns, ColumnsMut, ListsMut, RawMode, LINE};
 
 #[test]
 fn what_is_no_command() {
@@ -46,6 +46,23 @@ fn what_is_no_command() {
         "atleast 4 3 - 3 -1",
         "atleast 4 3 - 18446744073709551616 1",
         "at_least 4 3 - 3 1",
+        "dratb 4 2048 4096 - - !L:1=1",
+        "dratb 4 2048 4096 -",
+        "cons",
+        "cons ",
+        "cons not 4 3 - 2",
+        "cons tobin 4 -",
+        "cons cons check 4 2048 4096 - -",
+        "cons check 4 2048 4096 -",
+        "cons check 4 2048 4096 - - !H:1=1",
+        "check cons 4 2048 4096 - -",
+        "tobin 4",
+        "tobin 4 - -",
+        "tobin 4 - !HS=3",
+        "tobin -1 -",
+        "totext 4 6",
+        "totext 4 6A",
+        "totext 16777217 -",
     ];
     for line in lines {
         assert!(command::read(line).is_none(), "{line}");
@@ -65,6 +82,13 @@ fn what_is_a_command() {
         "drat 0 0 0 - -",
         "atleast 4 3 - 18446744073709551615 255",
         "atleast 0 0 @- 0 0 !L:1=2 !HS=3",
+        "dratb 4 2048 4096 70 6100 !HS=3",
+        "cons check 4 2048 4096 70 45 !LS=3",
+        "cons drat 4 2048 4096 70 300a",
+        "cons dratb 0 0 0 - -",
+        "tobin 0 -",
+        "tobin 9 312030",
+        "totext 16777216 610200",
     ];
     for line in lines {
         assert!(command::read(line).is_some(), "{line}");
@@ -136,10 +160,17 @@ fn unequal_marks() {
 
 fn refused_for_size(table: &mut ColumnsMut<'_>, marks: usize) {
     let (mut members, mut struck, mut scratch) = (vec![5u16; 2048], vec![4u8; marks], vec![6u16; 4096]);
+    let lists = &mut ListsMut { members: &mut members, struck: &mut struck, scratch: &mut scratch };
+    let refused = Checked { number: 7, in_proof: false, place: 0, lines: 0, rounds: 0, count: 9, peak: 0 };
     for call in [raw::check, raw::check_text] {
-        let said = call(table, 9, &mut members, &mut struck, &mut scratch, b"p cnf 0 0", b"0");
-        let refused = Checked { number: 7, in_proof: false, place: 0, lines: 0, rounds: 0, count: 9, peak: 0 };
-        assert_eq!(said, refused);
+        assert_eq!(call(table, 9, lists, b"p cnf 0 0", b"0"), refused);
+    }
+    for (form, consequence) in [(0, false), (0, true), (1, false), (1, true), (2, false), (2, true), (255, true)] {
+        let mode = RawMode { form, consequence };
+        assert_eq!(raw::check_in(mode, table, 9, lists, b"p cnf 0 0", b"0"), refused);
+        let mut line = [0; LINE];
+        let told = raw::report_in(mode, table, lists, Some(b"p cnf 0 0"), Some(b"0"), &mut line);
+        assert_eq!((&line[..told.length], told.status), (&b"7 0 0 0 0\n"[..], 1));
     }
     assert!(members.iter().all(|place| *place == 5) && scratch.iter().all(|place| *place == 6));
     assert!(struck.iter().all(|mark| *mark == 4));

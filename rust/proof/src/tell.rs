@@ -37,6 +37,11 @@ impl Diagrams {
         self.nodes[f].0
     }
 
+    /// The diagram's first variable, low side and high side; of a constant nothing to rely on.
+    pub fn row(&self, f: Diagram) -> (u8, Diagram, Diagram) {
+        self.nodes[f]
+    }
+
     /// The diagrams below f and f itself, children first.
     fn below(&self, f: Diagram) -> Vec<Diagram> {
         let mut found = BTreeSet::from([f]);
@@ -47,6 +52,16 @@ impl Diagrams {
         }
         // A child is always made before its parent.
         found.into_iter().filter(|&g| g > 1).collect()
+    }
+
+    /// How many paths lead from f to 0, at most what a word holds.
+    pub fn paths(&self, f: Diagram) -> u64 {
+        let mut counts: HashMap<Diagram, u64> = HashMap::from([(0, 1), (1, 0)]);
+        for g in self.below(f) {
+            let (_, low, high) = self.nodes[g];
+            counts.insert(g, counts[&low].saturating_add(counts[&high]));
+        }
+        counts[&f]
     }
 
     /// f with the variable set to the value.

@@ -34,6 +34,28 @@ fn case_e_with_a_clause() {
     assert_eq!(list("case-e", &bytes), (Some(0), wanted.into()));
 }
 
+/// A path line is shown with the number of its paths to 0.
+#[test]
+fn path_lines() {
+    let mut proof = Writer::new();
+    let odd = proof.parity(&[1, 2, 3], true);
+    proof.path(odd);
+    let wide = proof.parity(&(1..=14).collect::<Vec<u8>>(), false);
+    proof.path(wide);
+    proof.path(Entry::ZERO);
+    proof.path(Entry::ONE);
+    let bytes = proof.finish();
+    let wanted = "     0  58 07 00 00 00 00 00 00 00 01  line 1: entry 2 = an odd number of x1, x2, x3
+    10  51 02 00                       line 1: path entry 2 (an odd number of x1, x2, x3), 4 paths
+    13  58 FF 3F 00 00 00 00 00 00 00  line 2: entry 2 = an even number of x1, x2, x3, x4, x5, x6, x7, x8, x9, x10, x11, x12, x13, x14
+    23  51 02 00                       line 2: path entry 2 (an even number of x1, x2, x3, x4, x5, x6, x7, x8, x9, x10, x11, x12, x13, x14), OVER 4,096 PATHS (34)
+    26  51 00 00                       line 3: path 0 (the 0 line), 1 path
+    29  51 01 00                       line 4: path 1 (ALWAYS TRUE: 17)
+    32  45                             end, 4 lines
+";
+    assert_eq!(list("paths", &bytes), (Some(0), wanted.into()));
+}
+
 /// A striking is of no line; entries go on over it.
 #[test]
 fn strikings() {
@@ -126,6 +148,13 @@ fn faults() {
         ("10", &[0x52, 0], 1, "     0                     RECORD 52 CUT SHORT (10)"),
         ("10-strike", &[0x44, 0], 1, "     0                     RECORD 44 CUT SHORT (10)"),
         ("10-parity", &[0x58, 0, 0, 0, 0, 0, 0, 0, 0], 1, "     0                     RECORD 58 CUT SHORT (10)"),
+        ("10-path", &[0x51, 0], 1, "     0                     RECORD 51 CUT SHORT (10)"),
+        (
+            "16-path",
+            &[0x54, 1, 0x51, 0, 0, 0x45],
+            0,
+            "     2  51 00 00           line 1: path 0 (the 0 line), 1 path, A WITNESS IS LEFT (16)",
+        ),
         ("10-least", &[0x4b], 1, "     0                     RECORD 4B CUT SHORT (10)"),
         ("10-end", &[0x52, 0, 0], 1, "     3                     NO END RECORD (10)"),
         ("11", &[0x45, 0x45], 1, "     1  AFTER THE END: 1 byte (11)"),

@@ -1,6 +1,6 @@
 //! "The formula": the header, then clause by clause in file order.
 
-use crate::table::{bit, Literals, VARIABLES};
+use crate::table::Literals;
 
 const CLAUSES: u64 = 1_024;
 
@@ -20,6 +20,17 @@ pub struct Clause {
     pub place: usize,
 }
 
+impl Clause {
+    /// Adds a literal that is alone in its set.
+    pub fn add(&mut self, literal: Literals) {
+        if self.pivot.is_empty() {
+            self.pivot = literal;
+        }
+        self.literals.yes |= literal.yes;
+        self.literals.no |= literal.no;
+    }
+}
+
 /// Takes tokens and clauses from the formula behind its header, or from a DRAT text.
 pub struct Clauses<'a> {
     bytes: &'a [u8],
@@ -31,7 +42,12 @@ type Token<'a> = (usize, &'a [u8]);
 
 impl<'a> Clauses<'a> {
     pub fn new(bytes: &'a [u8], variables: u32) -> Clauses<'a> {
-        Clauses { bytes, place: 0, variables: variables.into() }
+        Clauses::at(bytes, 0, variables)
+    }
+
+    /// From a place on.
+    pub fn at(bytes: &'a [u8], place: usize, variables: u32) -> Clauses<'a> {
+        Clauses { bytes, place, variables: variables.into() }
     }
 
     /// The clause that was opened at a place, from its first token on.
@@ -43,17 +59,13 @@ impl<'a> Clauses<'a> {
             if literal.is_empty() {
                 return Ok(clause);
             }
-            if clause.pivot.is_empty() {
-                clause.pivot = literal;
-            }
-            clause.literals.yes |= literal.yes;
-            clause.literals.no |= literal.no;
+            clause.add(literal);
             token = self.token();
         }
     }
 
     /// The literal of a token, alone in its set; none for the closing `0`.
-    fn literal(&self, (place, token): Token) -> Result<Literals, Refusal> {
+    pub fn literal(&self, (place, token): Token) -> Result<Literals, Refusal> {
         let (minus, digits) = match token {
             [b'-', digits @ ..] => (true, digits),
             _ => (false, token),
@@ -62,21 +74,20 @@ impl<'a> Clauses<'a> {
         Ok(match value.ok_or(Refusal { number: 3, place })? {
             0 => Literals::default(),
             value if value > self.variables => return Err(Refusal { number: 4, place }),
-            value if minus => Literals { yes: 0, no: bit(value as u32) },
-            value => Literals { yes: bit(value as u32), no: 0 },
+            value => Literals::default().with(value as u32, !minus),
         })
     }
 
     /// The next run of bytes between spaces, tabs, CR and LF, outside comment lines: "a line whose first
     /// byte is `c` is now skipped anywhere", "also inside an open clause". A text may begin with one.
     pub fn token(&mut self) -> Option<Token<'a>> {
-        let apart = |b: &u8| is_trailing(*b) || *b == b'\n';
         loop {
-            let skipped = self.bytes[self.place..].iter().position(|b| !apart(b))?;
+            let skipped = self.bytes[self.place..].iter().position(|&b| !is_apart(b))?;
             let start = self.place + skipped;
             let (before, rest) = self.bytes.split_at(start);
             let comment = rest[0] == b'c' && before.last().is_none_or(|&b| b == b'\n');
-            let end = if comment { rest.iter().position(|&b| b == b'\n') } else { rest.iter().position(apart) };
+            let end =
+                if comment { rest.iter().position(|&b| b == b'\n') } else { rest.iter().position(|&b| is_apart(b)) };
             let length = end.unwrap_or(rest.len());
             self.place = start + length;
             if !comment {
@@ -92,8 +103,8 @@ pub struct Formula<'a> {
 }
 
 impl<'a> Formula<'a> {
-    /// Reads up to the end of the header line.
-    pub fn open(bytes: &'a [u8]) -> Result<Formula<'a>, Refusal> {
+    /// Reads up to the end of the header line, which may name so many variables.
+    pub fn open(bytes: &'a [u8], most: u32) -> Result<Formula<'a>, Refusal> {
         let mut start = 0;
         while start < bytes.len() {
             let rest = &bytes[start..];
@@ -104,7 +115,7 @@ impl<'a> Formula<'a> {
                 continue;
             }
             let (variables, clauses_left) = header(line).ok_or(Refusal { number: 1, place: start })?;
-            if variables > VARIABLES as u64 || clauses_left > CLAUSES {
+            if variables > most.into() || clauses_left > CLAUSES {
                 return Err(Refusal { number: 2, place: start });
             }
             let clauses = Clauses { bytes, place: next.min(bytes.len()), variables };
@@ -130,6 +141,11 @@ impl<'a> Formula<'a> {
         self.clauses_left -= 1;
         self.clauses.clause(place, first).map(Some)
     }
+}
+
+/// What parts two tokens.
+pub fn is_apart(b: u8) -> bool {
+    is_trailing(b) || b == b'\n'
 }
 
 fn is_trailing(b: u8) -> bool {

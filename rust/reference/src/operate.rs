@@ -293,6 +293,22 @@ impl Diagrams {
         !self.reaches_zero(f, by)
     }
 
+    /// "The assignment, smallest when read with variable 1 as the top digit, that agrees with" the literals
+    /// "and makes the line false", as a word; none where f under the literals is 1.
+    pub fn false_under(&mut self, f: NodeId, by: Literals) -> Option<u64> {
+        if self.is_one_under(f, by) {
+            return None;
+        }
+        let (mut node, mut word) = (f, by.yes);
+        while node != ZERO {
+            let (low, here) = (self.table.low(node), bit(self.table.level(node)));
+            let high = by.yes & here != 0 || (by.no & here == 0 && self.is_one_under(low, by));
+            word |= if high { here } else { 0 };
+            node = if high { self.table.high(node) } else { low };
+        }
+        Some(word)
+    }
+
     fn reaches_zero(&mut self, f: NodeId, by: Literals) -> bool {
         if f == ZERO || f == ONE {
             return f == ZERO;

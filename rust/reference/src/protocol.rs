@@ -1,367 +1,241 @@
 //! The line protocol: a command line in, an answer line out.
 
-use crate::check::{check, Lent, Member, Proof};
-use crate::index::{Change, Index, Sizes};
+use crate::books::{Books, Opening, Said};
+use crate::check::{self, check, Form, Lent, Task, Verdict};
+use crate::convert;
+use crate::dimacs::Refusal;
+use crate::judge::{Member, Profile};
 use crate::operate::Diagrams;
-use crate::table::{Full, Literals, NodeId, Table, VARIABLES, ZERO};
-use crate::tally::{self, Tally};
+use crate::single::{self, LentIndex};
+use crate::small;
+use crate::table::{bit, Literals, VARIABLES};
+use crate::why::{self, Cause, Why};
+use crate::words::{decimal, hex, push_hex, push_list, push_number, push_numbers};
 
-/// A place of a lent table, which may hold anything: variable, low, high.
-type Place = [u32; 3];
+/// The largest output list that a conversion is asked to fill: an answer shows the whole of it.
+const LARGEST_OUTPUT: u64 = 1 << 24;
 
-/// A lent table as written; places not held are zero.
-struct LentTable {
-    size: u64,
-    count: u64,
-    places: Vec<Place>,
+/// What stays from one command to the next.
+pub struct Session {
+    pub diagrams: Diagrams,
+    books: Option<Books>,
 }
 
-/// A lent index as written: in what it differs from the right one.
-#[derive(Default)]
-struct LentIndex {
-    heads: Option<u64>,
-    links: Option<u64>,
-    changes: Vec<Change>,
-}
-
-impl LentIndex {
-    fn sizes(&self, places: u64) -> Sizes {
-        let heads = self.heads.unwrap_or(places.saturating_mul(2));
-        Sizes { places, heads, links: self.links.unwrap_or(places) }
+impl Session {
+    pub fn new() -> Session {
+        Session { diagrams: Diagrams::new(), books: None }
     }
 }
 
-enum Call {
-    And(u32, u32),
-    Not(u32),
-    Cofactor(u32, u32),
-    Restrict(u32, Literals),
-    Evaluate(u32, u64),
-    AtLeast(u64, u8),
-}
-
 /// Writes the answer to a command, without the line's end.
-pub fn answer(d: &mut Diagrams, line: &[u8], out: &mut Vec<u8>) {
+pub fn answer(session: &mut Session, line: &[u8], out: &mut Vec<u8>) {
     let before = out.len();
-    if command(d, line, out).is_none() {
+    if command(session, line, out).is_none() {
         out.truncate(before);
         out.extend(b"error: not a command");
     }
 }
 
-fn command(d: &mut Diagrams, line: &[u8], out: &mut Vec<u8>) -> Option<()> {
+fn command(session: &mut Session, line: &[u8], out: &mut Vec<u8>) -> Option<()> {
     let mut words = line.split(|&b| b == b' ');
     let name = words.next()?;
+    let d = &mut session.diagrams;
     match name {
-        b"check" => return check_command(d, words, |bytes| Proof::Records(bytes), out),
-        b"drat" => return check_command(d, words, |bytes| Proof::Drat(bytes), out),
-        _ => (),
+        b"open" => open(&mut session.books, words, out),
+        b"book" => book(&mut session.books, words, out),
+        b"dump" => dump(session.books.as_ref(), words, out),
+        b"cons" => profiled(d, Profile::Consequence, words.next()?, words, out),
+        b"check" | b"drat" | b"dratb" | b"why" => profiled(d, Profile::Redundance, name, words, out),
+        b"small" => small_command(words, out),
+        b"tobin" => conversion(convert::to_binary, words, out),
+        b"totext" => conversion(convert::to_text, words, out),
+        _ => single::command(d, name, words, out),
     }
-    let lent = lent_table(&mut words)?;
-    let call = match name {
-        b"and" => Call::And(node_number(words.next()?)?, node_number(words.next()?)?),
-        b"not" => Call::Not(node_number(words.next()?)?),
-        b"cof" => Call::Cofactor(node_number(words.next()?)?, node_number(words.next()?)?),
-        b"lits" => {
-            let f = node_number(words.next()?)?;
-            Call::Restrict(f, Literals { yes: decimal(words.next()?)?, no: decimal(words.next()?)? })
-        }
-        b"eval" => Call::Evaluate(node_number(words.next()?)?, decimal(words.next()?)?),
-        b"atleast" => Call::AtLeast(decimal(words.next()?)?, u8::try_from(decimal(words.next()?)?).ok()?),
-        _ => return None,
+}
+
+/// The words MEMBERS SCRATCH FORMULA PROOF.
+fn small_command<'a>(mut words: impl Iterator<Item = &'a [u8]>, out: &mut Vec<u8>) -> Option<()> {
+    let (members, scratch) = (decimal(words.next()?)?, decimal(words.next()?)?);
+    let (formula, proof) = (hex(words.next()?)?, hex(words.next()?)?);
+    if words.next().is_some() {
+        return None;
+    }
+    let verdict = match check::lists_are_right(members, scratch) {
+        true => small::check(&formula, &proof),
+        false => small::Verdict { number: 7, place: 0, lines: 0, rounds: 0 },
     };
-    single(d, &lent, &lent_index(words)?, &call, out);
+    push_numbers(out, &[verdict.number.into(), verdict.place as u64, verdict.lines as u64, verdict.rounds]);
     Some(())
 }
 
-fn check_command<'a>(
+/// The words SIZE MEMA MEMB SCRATCH SHAREA SHAREB. A refused opening leaves what was there.
+fn open<'a>(books: &mut Option<Books>, mut words: impl Iterator<Item = &'a [u8]>, out: &mut Vec<u8>) -> Option<()> {
+    let mut number = || decimal(words.next()?);
+    let table = LentIndex::default().sizes(number()?);
+    let (members, scratch, shares) = ([number()?, number()?], number()?, [number()?, number()?]);
+    if words.next().is_some() {
+        return None;
+    }
+    match Books::open(&Opening { table, members, scratch, shares }) {
+        Ok(opened) => {
+            *books = Some(opened);
+            push_said(out, Books::opened());
+        }
+        Err(said) => push_said(out, said),
+    }
+    Some(())
+}
+
+/// The words A or B and bytes; 7 where nothing is opened.
+fn book<'a>(books: &mut Option<Books>, mut words: impl Iterator<Item = &'a [u8]>, out: &mut Vec<u8>) -> Option<()> {
+    let which = match words.next()? {
+        b"A" => 0,
+        b"B" => 1,
+        _ => return None,
+    };
+    let bytes = hex(words.next()?)?;
+    if words.next().is_some() {
+        return None;
+    }
+    push_said(out, books.as_mut().map_or(Said::early(7), |books| books.call(which, &bytes)));
+    Some(())
+}
+
+fn push_said(out: &mut Vec<u8>, said: Said) {
+    let (lines, peak) = (said.lines as u64, said.peak as u64);
+    push_numbers(out, &[said.number.into(), said.place as u64, lines, said.rounds, peak]);
+}
+
+/// The shared table and what each book holds of it; an empty one where nothing is opened.
+fn dump<'a>(books: Option<&Books>, mut words: impl Iterator<Item = &'a [u8]>, out: &mut Vec<u8>) -> Option<()> {
+    if words.next().is_some() {
+        return None;
+    }
+    let Some(books) = books else {
+        out.extend(b"2 | - | - | - | - | -");
+        return Some(());
+    };
+    push_number(out, books.table().count() as u64);
+    out.extend(b" | ");
+    single::push_table(out, books.table());
+    for which in [0, 1] {
+        out.extend(b" | ");
+        push_members(out, &books.members(which));
+    }
+    Some(())
+}
+
+type Convert = fn(&[u8]) -> Result<Vec<u8>, Refusal>;
+
+/// The words OUTSIZE and bytes.
+fn conversion<'a>(convert: Convert, mut words: impl Iterator<Item = &'a [u8]>, out: &mut Vec<u8>) -> Option<()> {
+    let size = decimal(words.next()?).filter(|&size| size <= LARGEST_OUTPUT)?;
+    let bytes = hex(words.next()?)?;
+    if words.next().is_some() {
+        return None;
+    }
+    let converted = convert::into_output(convert(&bytes), size as usize);
+    push_numbers(out, &[converted.number.into(), converted.place as u64, converted.length as u64]);
+    out.extend(b" | ");
+    push_hex(out, &converted.output);
+    Some(())
+}
+
+/// A command that is given in each profile.
+fn profiled<'a>(
     d: &mut Diagrams,
+    profile: Profile,
+    name: &[u8],
     mut words: impl Iterator<Item = &'a [u8]>,
-    form: fn(&[u8]) -> Proof,
     out: &mut Vec<u8>,
 ) -> Option<()> {
-    let mut size = || decimal(words.next()?);
-    let (places, members, scratch) = (size()?, size()?, size()?);
-    let formula = hex(words.next()?)?;
-    let proof = hex(words.next()?)?;
-    let index = lent_index(words)?;
-    // The check empties the index, so only its sizes can be named.
-    if !index.changes.is_empty() {
-        return None;
+    let form = match name {
+        b"check" => Form::Records,
+        b"drat" => Form::Text,
+        b"dratb" => Form::Binary,
+        b"why" => form(words.next()?)?,
+        _ => return None,
+    };
+    let (lent, task) = task(profile, form, words)?;
+    let verdict = check(d, &lent, &task);
+    if name == b"why" {
+        push_why(&why::why(&task, &verdict), out);
+    } else {
+        push_verdict(d, &verdict, out);
     }
-    let lent = Lent { table: index.sizes(places), members, scratch };
-    let verdict = check(d, &lent, &formula, form(&proof));
-    push_number(out, verdict.number.into());
-    let (count, peak) = (d.table.count() as u64, verdict.peak as u64);
-    for value in [verdict.place as u64, verdict.lines as u64, verdict.rounds, count, peak] {
-        out.push(b' ');
-        push_number(out, value);
-    }
-    out.extend(b" | ");
-    push_table(out, &d.table);
-    out.extend(b" | ");
-    push_list(out, b',', &verdict.members, |out, member| push_number(out, member.node.0.into()));
-    out.extend(b" | ");
-    push_marks(out, &verdict.members);
     Some(())
 }
 
-/// A single call: "7, 26, 13, then 27 or 15, then 23 where nodes are made". "A refused single call
-/// changes nothing", so its answer shows the table as lent.
-fn single(d: &mut Diagrams, lent: &LentTable, index: &LentIndex, call: &Call, out: &mut Vec<u8>) {
-    let (number, value) = match run(d, lent, index, call) {
-        Ok(value) => (0, value),
-        Err(number) => (number, 0),
-    };
-    let count = if number == 0 { d.table.count() as u64 } else { lent.count };
-    push_number(out, number.into());
-    out.push(b' ');
-    push_number(out, value.into());
-    out.push(b' ');
-    push_number(out, count);
-    match *call {
-        Call::Evaluate(..) => return,
-        Call::AtLeast(set, least) => push_excluded(out, tally::excluded(set, least).filter(|_| number == 0)),
-        _ => (),
-    }
-    out.extend(b" | ");
-    if number == 0 {
-        push_table(out, &d.table);
-    } else {
-        push_lent(out, &lent.places);
-    }
-}
-
-fn run(d: &mut Diagrams, lent: &LentTable, index: &LentIndex, call: &Call) -> Result<u32, u32> {
-    if !index.sizes(lent.size).are_right() {
-        return Err(7);
-    }
-    d.reset(lent.size as usize);
-    if !load(&mut d.table, lent) || !index_is_right(&d.table, lent.size as usize, &index.changes) {
-        return Err(26);
-    }
-    let made = match *call {
-        Call::And(f, g) => {
-            let (f, g) = (node(d, f)?, node(d, g)?);
-            d.conjoin(f, g)
-        }
-        Call::Not(f) => {
-            let f = node(d, f)?;
-            d.negate(f)
-        }
-        Call::Cofactor(f, g) => {
-            let (f, g) = (node(d, f)?, node(d, g)?);
-            if g == ZERO {
-                return Err(27);
-            }
-            d.cofactor(f, g)
-        }
-        Call::Restrict(f, by) => {
-            let f = node(d, f)?;
-            if by.clash() {
-                return Err(15);
-            }
-            d.restrict(f, by)
-        }
-        Call::AtLeast(set, least) => tally::make(d, set, Tally::AtLeast(least)),
-        Call::Evaluate(f, word) => return Ok(d.evaluate(node(d, f)?, word).into()),
-    };
-    made.map(|node| node.0).map_err(|Full| 23)
-}
-
-fn node(d: &Diagrams, number: u32) -> Result<NodeId, u32> {
-    if d.table.has(number.into()) {
-        Ok(NodeId(number))
-    } else {
-        Err(13)
-    }
-}
-
-/// "It refuses [..], in single calls, a wrong one with 26." What is not changed is right.
-fn index_is_right(table: &Table, size: usize, changes: &[Change]) -> bool {
-    changes.is_empty() || Index::of(table, size).stays_with(changes)
-}
-
-/// Takes a lent table into an empty one; false where it is not in "good order".
-fn load(table: &mut Table, lent: &LentTable) -> bool {
-    if lent.count < 2 || lent.count > lent.size || lent.count > lent.places.len().max(2) as u64 {
-        return false;
-    }
-    let (constants, others) = lent.places.split_at(lent.places.len().min(2));
-    let (nodes, free) = others.split_at(lent.count as usize - 2);
-    let zeros = |places: &[Place]| places.iter().all(|place| *place == [0; 3]);
-    zeros(constants) && zeros(free) && nodes.iter().all(|node| admit(table, *node))
-}
-
-/// Places one lent node that keeps to good order.
-fn admit(table: &mut Table, [variable, low, high]: Place) -> bool {
-    let proper = (1..=VARIABLES).contains(&variable) && low != high;
-    if !proper || !table.has(low.into()) || !table.has(high.into()) {
-        return false;
-    }
-    let (low, high) = (NodeId(low), NodeId(high));
-    let before = variable < table.level(low) && variable < table.level(high);
-    if !before || table.find(variable, low, high).is_some() {
-        return false;
-    }
-    table.push(variable, low, high);
-    true
-}
-
-fn lent_table<'a>(words: &mut impl Iterator<Item = &'a [u8]>) -> Option<LentTable> {
-    let size = decimal(words.next()?)?;
-    let count = decimal(words.next()?)?;
-    let mut places = lent_places(words.next()?)?;
-    // "Surplus places beyond SIZE are ignored."
-    places.truncate(usize::try_from(size).unwrap_or(usize::MAX));
-    Some(LentTable { size, count, places })
-}
-
-/// The words after all others that name what is wrong in the lent index.
-fn lent_index<'a>(words: impl Iterator<Item = &'a [u8]>) -> Option<LentIndex> {
-    let mut index = LentIndex::default();
-    for word in words {
-        let equals = word.iter().position(|&b| b == b'=')?;
-        let (name, value) = (&word[..equals], &word[equals + 1..]);
-        match name {
-            b"!HS" => index.heads = Some(decimal(value)?),
-            b"!LS" => index.links = Some(decimal(value)?),
-            [b'!', b'H', b':', at @ ..] => index.changes.push(Change::Head(decimal(at)?, node_number(value)?)),
-            [b'!', b'L', b':', at @ ..] => index.changes.push(Change::Link(decimal(at)?, node_number(value)?)),
-            _ => return None,
-        }
-    }
-    Some(index)
-}
-
-fn lent_places(text: &[u8]) -> Option<Vec<Place>> {
-    let (mut rest, mut places) = match text {
-        [b'@', rest @ ..] => (rest, Vec::new()),
-        _ => (text, vec![[0; 3]; 2]),
-    };
-    if rest == b"-" {
-        return Some(places);
-    }
-    loop {
-        let variable = u32::try_from(decimal(field(&mut rest, b',')?)?).ok()?;
-        let (low, high) = (field(&mut rest, b',')?, field(&mut rest, b';')?);
-        places.push([variable, node_number(low)?, node_number(high)?]);
-        if rest.is_empty() {
-            return Some(places);
-        }
-    }
-}
-
-/// The digits up to the given sign, which is passed over; the last ones end with the text.
-fn field<'a>(rest: &mut &'a [u8], end: u8) -> Option<&'a [u8]> {
-    let length = rest.iter().position(|b| !b.is_ascii_digit()).unwrap_or(rest.len());
-    let (digits, after) = rest.split_at(length);
-    *rest = match after {
-        [sign, tail @ ..] if *sign == end && !tail.is_empty() => tail,
-        [] if end == b';' => after,
-        _ => return None,
-    };
-    Some(digits)
-}
-
-/// "A number that its column or parameter cannot hold (a node number over 65,535) is no command."
-fn node_number(digits: &[u8]) -> Option<u32> {
-    u16::try_from(decimal(digits)?).ok().map(u32::from)
-}
-
-fn decimal(digits: &[u8]) -> Option<u64> {
-    if digits.is_empty() {
-        return None;
-    }
-    digits.iter().try_fold(0u64, |value, &digit| {
-        let more = digit.is_ascii_digit().then(|| (digit - b'0') as u64)?;
-        value.checked_mul(10)?.checked_add(more)
-    })
-}
-
-fn hex(digits: &[u8]) -> Option<Vec<u8>> {
-    if digits == b"-" {
-        return Some(Vec::new());
-    }
-    if digits.is_empty() || !digits.len().is_multiple_of(2) {
-        return None;
-    }
-    digits.chunks_exact(2).map(|pair| Some(hex_digit(pair[0])? << 4 | hex_digit(pair[1])?)).collect()
-}
-
-fn hex_digit(digit: u8) -> Option<u8> {
-    match digit {
-        b'0'..=b'9' => Some(digit - b'0'),
-        b'a'..=b'f' => Some(digit - b'a' + 10),
+fn form(word: &[u8]) -> Option<Form> {
+    match word {
+        b"r" => Some(Form::Records),
+        b"t" => Some(Form::Text),
+        b"b" => Some(Form::Binary),
         _ => None,
     }
 }
 
-/// A table in good order: places 2 to the count.
-fn push_table(out: &mut Vec<u8>, table: &Table) {
-    let nodes: Vec<NodeId> = (2..table.count() as u32).map(NodeId).collect();
-    push_list(out, b';', &nodes, |out, &id| {
-        push_place(out, &[table.level(id), table.low(id).0, table.high(id).0]);
+/// The words SIZE MEMBERS SCRATCH FORMULA PROOF and those that lend an index.
+fn task<'a>(profile: Profile, form: Form, mut words: impl Iterator<Item = &'a [u8]>) -> Option<(Lent, Task)> {
+    let mut size = || decimal(words.next()?);
+    let (places, members, scratch) = (size()?, size()?, size()?);
+    let (formula, proof) = (hex(words.next()?)?, hex(words.next()?)?);
+    let index = single::lent_index(words)?;
+    // The check empties the index, so only its sizes can be named.
+    if !index.changes.is_empty() {
+        return None;
+    }
+    Some((Lent { table: index.sizes(places), members, scratch }, Task { form, profile, formula, proof }))
+}
+
+fn push_verdict(d: &Diagrams, verdict: &Verdict, out: &mut Vec<u8>) {
+    let (count, peak) = (d.table.count() as u64, verdict.peak as u64);
+    let (number, place, lines) = (verdict.number.into(), verdict.place as u64, verdict.lines as u64);
+    push_numbers(out, &[number, place, lines, verdict.rounds, count, peak]);
+    out.extend(b" | ");
+    single::push_table(out, &d.table);
+    out.extend(b" | ");
+    push_members(out, &verdict.members);
+}
+
+fn push_why(why: &Why, out: &mut Vec<u8>) {
+    push_number(out, why.number.into());
+    out.extend(if why.in_proof { b" | p " } else { b" | f " });
+    push_numbers(out, &[why.start as u64, why.length as u64]);
+    out.extend(b" | ");
+    match why.cause {
+        Cause::None => out.push(b'-'),
+        Cause::Variables(own, child) => {
+            push_list(out, b',', &[*own, *child], |out, &level| push_number(out, level.into()))
+        }
+        Cause::Assignment(word) => push_number(out, *word),
+        Cause::Unshown { fixed, member } => {
+            push_list(out, b';', fixed, |out, &literals| push_literals(out, literals));
+            if let Some(member) = member {
+                out.extend(b" m");
+                push_number(out, *member as u64);
+            }
+        }
+    }
+}
+
+/// In order of variable, a minus before the false ones.
+fn push_literals(out: &mut Vec<u8>, literals: Literals) {
+    let variables: Vec<u32> = (1..=VARIABLES).filter(|&v| literals.variables() & bit(v) != 0).collect();
+    push_list(out, b',', &variables, |out, &variable| {
+        if literals.no & bit(variable) != 0 {
+            out.push(b'-');
+        }
+        push_number(out, variable.into());
     });
 }
 
-/// A lent table: to the last place that is not zero; from place 0, after `@`, where 0 or 1 is dirty.
-fn push_lent(out: &mut Vec<u8>, places: &[Place]) {
-    let used = places.iter().rposition(|place| *place != [0; 3]).map_or(0, |last| last + 1);
-    let dirty = places.iter().take(2).any(|place| *place != [0; 3]);
-    if dirty {
-        out.push(b'@');
-    }
-    let from = if dirty { 0 } else { used.min(2) };
-    push_list(out, b';', &places[from..used], push_place);
-}
-
-fn push_place(out: &mut Vec<u8>, place: &Place) {
-    for (at, &field) in place.iter().enumerate() {
-        if at > 0 {
-            out.push(b',');
-        }
-        push_number(out, field.into());
-    }
-}
-
-fn push_excluded(out: &mut Vec<u8>, excluded: Option<u64>) {
-    out.push(b' ');
-    match excluded {
-        Some(excluded) => push_number(out, excluded),
-        None => out.push(b'-'),
-    }
-}
-
-fn push_marks(out: &mut Vec<u8>, members: &[Member]) {
+/// The nodes, and the marks.
+fn push_members(out: &mut Vec<u8>, members: &[Member]) {
+    push_list(out, b',', members, |out, member| push_number(out, member.node.0.into()));
+    out.extend(b" | ");
     if members.is_empty() {
         out.push(b'-');
     }
     out.extend(members.iter().map(|member| b'0' + member.struck as u8));
-}
-
-fn push_list<T>(out: &mut Vec<u8>, between: u8, items: &[T], push: impl Fn(&mut Vec<u8>, &T)) {
-    if items.is_empty() {
-        out.push(b'-');
-    }
-    for (at, item) in items.iter().enumerate() {
-        if at > 0 {
-            out.push(between);
-        }
-        push(out, item);
-    }
-}
-
-fn push_number(out: &mut Vec<u8>, mut value: u64) {
-    let mut digits = [0u8; 20];
-    let mut at = digits.len();
-    loop {
-        at -= 1;
-        digits[at] = b'0' + (value % 10) as u8;
-        value /= 10;
-        if value == 0 {
-            break;
-        }
-    }
-    out.extend_from_slice(&digits[at..]);
 }

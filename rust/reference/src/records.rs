@@ -24,6 +24,9 @@ pub enum Record {
     Pr {
         root: EntryId,
     },
+    Path {
+        root: EntryId,
+    },
     Strike {
         member: MemberId,
     },
@@ -39,6 +42,12 @@ pub enum Record {
     End,
 }
 
+impl Record {
+    pub fn is_line(self) -> bool {
+        matches!(self, Record::Rup { .. } | Record::Pr { .. } | Record::Path { .. })
+    }
+}
+
 pub struct Reader<'a> {
     bytes: &'a [u8],
     place: usize,
@@ -46,7 +55,12 @@ pub struct Reader<'a> {
 
 impl<'a> Reader<'a> {
     pub fn new(bytes: &'a [u8]) -> Reader<'a> {
-        Reader { bytes, place: 0 }
+        Reader::at(bytes, 0)
+    }
+
+    /// From a place on.
+    pub fn at(bytes: &'a [u8], place: usize) -> Reader<'a> {
+        Reader { bytes, place }
     }
 
     pub fn place(&self) -> usize {
@@ -68,6 +82,7 @@ impl<'a> Reader<'a> {
             0x54 | 0x46 => Record::Witness { value: kind == 0x54, variable: self.body::<1>()?[0] },
             0x52 => Record::Rup { root: entry(self.body()?) },
             0x50 => Record::Pr { root: entry(self.body()?) },
+            0x51 => Record::Path { root: entry(self.body()?) },
             0x44 => Record::Strike { member: MemberId(u16::from_le_bytes(self.body()?)) },
             0x58 => Record::Parity { set: u64::from_le_bytes(self.body()?), odd: self.body::<1>()?[0] },
             0x4B => Record::AtLeast { set: u64::from_le_bytes(self.body()?), least: self.body::<1>()?[0] },

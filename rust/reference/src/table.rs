@@ -44,6 +44,14 @@ impl Literals {
     pub fn clash(self) -> bool {
         self.yes & self.no != 0
     }
+
+    /// With one literal more.
+    pub fn with(self, variable: u32, value: bool) -> Literals {
+        match value {
+            true => Literals { yes: self.yes | bit(variable), ..self },
+            false => Literals { no: self.no | bit(variable), ..self },
+        }
+    }
 }
 
 /// The bit of a variable in a 64-bit word.

@@ -10,7 +10,8 @@ use Rattle.verdict.proofs.Refuted.{check-refuted}
 -- The ways back, written by ways.py: TO-from-FROM leads from the place FROM of the code to the place TO before it.
 module _ (c : tie.After-slice-known16) where
   abbrev call-from-return : tie.After-call
-  call-from-return = c .before .before .before .before .before .before .before .before .before .before .before .before .before .before .before .before
+  call-from-return = c .before .before .before .before .before .before .before .before .before .before .before .before .before .before
+      .before .before
 
 call-requires : tie.Need-call-requires
 call-requires c κs = search needs

@@ -1,6 +1,7 @@
--- `nodes::cablesalak_at_least_nodes` meets its contract: a walk of its MIR, by hand, as that of `nodes::operation`. The nodes are loaded into three local arrays, the call over the columns is made, and the columns are written back.
--- The four calls go by their contracts (`Clipping.antt`, `Loading.antt` and `Saving.antt` of crate `columns`, `Counting.antt`), and `Calls.antt` says that the arrays' equation is the slice's.
--- Assumes nothing.
+-- `nodes::cablesalak_at_least_nodes` meets its contract: a walk of its MIR, by hand, as that of `nodes::operation`. The nodes are loaded
+-- into three local arrays, the call over the columns is made, and the columns are written back. The four calls go by their contracts
+-- (`Clipping.antt`, `Loading.antt` and `Saving.antt` of crate `columns`, `Counting.antt`), and `Calls.antt` says that the arrays' equation
+-- is the slice's. Assumes nothing.
 use mathlib.Core.Path.{_≡_, refl, sym, subst}
 use Prim.Native.Nat.{ℕ, _<_, _^_}
 use mathlib.Core.List.{List, [], _∷_}
@@ -18,9 +19,11 @@ use prog.Wp.{Heap, Calls, Loops, WpFn, Tables}
 use ghost.Atoms.{Atoms}
 use contract.Monad.{Fun}
 use contract.Running.{givenOf, tables, tablesOf}
-use types.Kit.{Given, Item, ‵, raw, given, _⊛_, some, later, ⋆, _$_, _∵_, !, qed, by, move, keep, use0, use1, use2, drop, split, join, pick, learn, rewrite, fsplit, fsplit3, fjoin, suffices, frame, await, done, group}
+use types.Kit.{Given, Item, ‵, raw, given, _⊛_, some, later, ⋆, _$_, _∵_, !, qed, by, move, keep, use0, use1, use2, drop, split, join, pick}
+use types.Kit.{learn, rewrite, fsplit, fsplit3, fjoin, suffices, frame, await, done, group}
 use types.Part.{agg, rep, whole, sub, look-in}
-use types.Run.{look, store, init, forget, stop, hop, fld, from, load, addr, lit, of-opd, and-then, no-more, assigns, land, returns, enter, alloc1, alloc0, params1, pass1, pass0, free1, free0}
+use types.Run.{look, store, init, forget, stop, hop, fld, from, load, addr, lit, of-opd, and-then, no-more, assigns, land, returns, enter}
+use types.Run.{alloc1, alloc0, params1, pass1, pass0, free1, free0}
 use sound.WpLaws.{FmC, fmOf, WpFn-mono}
 use denote.RattleType.{owns}
 use denote.Laws.{Is, shows}
@@ -37,7 +40,8 @@ use denote.Triple.Spec.{Meets, tripleOf}
 use denote.Triple.Statement.{Triple}
 use denote.Triple.Call.{calls-at}
 use denote.Triple.Table.{entered, cited}
-use denote.Triple.Walked.{says, Stays, stay-slice, stay-none, walkOf, Walks, ends-at, walked, goes-slice, goes-none, walk-meets, gave-slice, goes-gave-slice}
+use denote.Triple.Walked.{says, Stays, stay-slice, stay-none, walkOf, Walks, ends-at, walked, goes-slice, goes-none, walk-meets, gave-slice}
+use denote.Triple.Walked.{goes-gave-slice}
 use denote.Exit.{yes}
 use Rattle.table.specs.Columns.{columnsMade}
 use Rattle.single.specs.declared.least.AtLeast.{AtLeast}
@@ -82,13 +86,21 @@ abbrev Arg : Type 0
 Arg = RefT (List Node) × (RefT (List ℕ) × (RefT (List ℕ) × (ℕ × (ℕ × (ℕ × Unit {0})))))
 
 abbrev stayed : Stays (at-least-fn.ended .signature .params) (at-least-fn.ended .kept)
-stayed = (stay-slice (0 ∷ []) tt (plain (λ _. N.the-row)), (gave-slice (1 ∷ []) tt (plain (λ _. u16)), (gave-slice (2 ∷ []) tt (plain (λ _. u16)), (stay-none (λ _. usize) yes, (stay-none (λ _. u64) yes, (stay-none (λ _. u8) yes, tt))))))
+stayed = (
+  stay-slice (0 ∷ []) tt (plain (λ _. N.the-row)),
+  (
+    gave-slice (1 ∷ []) tt (plain (λ _. u16)),
+    (gave-slice (2 ∷ []) tt (plain (λ _. u16)), (stay-none (λ _. usize) yes, (stay-none (λ _. u64) yes, (stay-none (λ _. u8) yes, tt)))),
+  ),
+)
 
 abbrev at-list : {X : Type 0} → GName → ℕ → ℕ → List X → RefT (List X)
 at-list γ b o l = record { ptr = (b, o); name = γ; now = l }
 
-module _ {M : Type 1} (𝓤 : URA M) (H : Heap 𝓤) (A : Atoms 𝓤) (W : Given 𝓤 H A) (mem : Memory → SProp 𝓤) (run : Routine → Fun 𝓤) (κ₀ κ₁ κ₂ : Lft) (q₀ q₁ q₂ : Share) (bN oN : ℕ) (γN : GName) (ys : List Node) (xD xJ : RefT (List ℕ)) (count set k : ℕ)
-    (roomN : Room N.the-row (length ys)) (roomD : Room u16 (length (xD .now))) (roomJ : Room u16 (length (xJ .now))) (g-count : count < 2 ^ 64) (g-set : set < 2 ^ 64) (g-k : k < 2 ^ 8) where
+module _ {M : Type 1} (𝓤 : URA M) (H : Heap 𝓤) (A : Atoms 𝓤) (W : Given 𝓤 H A) (mem : Memory → SProp 𝓤) (run : Routine → Fun 𝓤)
+    (κ₀ κ₁ κ₂ : Lft) (q₀ q₁ q₂ : Share) (bN oN : ℕ) (γN : GName) (ys : List Node) (xD xJ : RefT (List ℕ)) (count set k : ℕ)
+    (roomN : Room N.the-row (length ys)) (roomD : Room u16 (length (xD .now))) (roomJ : Room u16 (length (xJ .now)))
+    (g-count : count < 2 ^ 64) (g-set : set < 2 ^ 64) (g-k : k < 2 ^ 8) where
   abbrev xN : RefT (List Node)
   xN = at-list γN bN oN ys
 
@@ -107,8 +119,11 @@ module _ {M : Type 1} (𝓤 : URA M) (H : Heap 𝓤) (A : Atoms 𝓤) (W : Given
   -- what the call over the arrays tells, where they held vs, ls and hs before the nodes were loaded
   abbrev Told : List ℕ → List ℕ → List ℕ → ℕ → AtLeast × Co.Last → Type 0
   Told vs ls hs m o =
-      (countedOf (columnsMade (take (length ys) (o .1 .0)) (take (length ys) (o .1 .1 .0)) (take (length ys) (o .1 .1 .1 .0)) (o .1 .1 .1 .1 .0) (o .1 .1 .1 .1 .1 .0)) (o .0) ≡ atLeastWithin (length ys) (column varOf ys vs m) (column lowOf ys ls m) (column highOf ys hs m) (xD .now) (xJ .now) count set k)
-      × (length (o .1 .0) ≡ 65536) × (length (o .1 .1 .0) ≡ 65536) × (length (o .1 .1 .1 .0) ≡ 65536) × (length (o .1 .1 .1 .1 .0) ≡ length (xD .now)) × (length (o .1 .1 .1 .1 .1 .0) ≡ length (xJ .now))
+      (countedOf (columnsMade (take (length ys) (o .1 .0)) (take (length ys) (o .1 .1 .0)) (take (length ys) (o .1 .1 .1 .0))
+      (o .1 .1 .1 .1 .0) (o .1 .1 .1 .1 .1 .0)) (o .0) ≡ atLeastWithin (length ys) (column varOf ys vs m) (column lowOf ys ls m)
+      (column highOf ys hs m) (xD .now) (xJ .now) count set k)
+      × (length (o .1 .0) ≡ 65536) × (length (o .1 .1 .0) ≡ 65536) × (length (o .1 .1 .1 .0) ≡ 65536)
+      × (length (o .1 .1 .1 .1 .0) ≡ length (xD .now)) × (length (o .1 .1 .1 .1 .1 .0) ≡ length (xJ .now))
 
   module _ (vs ls hs : List ℕ) (m : ℕ) (cut : Cut (length ys) m) (o : AtLeast × Co.Last) (told : Told vs ls hs m o) where
     -- the arrays as the call leaves them
@@ -120,33 +135,51 @@ module _ {M : Type 1} (𝓤 : URA M) (H : Heap 𝓤) (A : Atoms 𝓤) (W : Given
 
     -- what is had at exit
     abbrev Had : Val → List (Item 𝓤)
-    Had w = ‵ (flft κ₀ q₀) ∷ ‵ (flft κ₁ q₁) ∷ ‵ (flft κ₂ q₂) ∷ ‵ (MutSlice (named 0) κ₀ N.the-row .own (at-list γN bN oN ys′) (slice-vals xN)) ∷ ‵ (finally u16 (xD .name) (o .1 .1 .1 .1 .0)) ∷ ‵ (finally u16 (xJ .name) (o .1 .1 .1 .1 .1 .0)) ∷ ‵ (K.the-row .own (o .0) (w ∷ [])) ∷ []
+    Had w = ‵ (flft κ₀ q₀) ∷ ‵ (flft κ₁ q₁) ∷ ‵ (flft κ₂ q₂) ∷ ‵
+        (MutSlice (named 0) κ₀ N.the-row .own (at-list γN bN oN ys′) (slice-vals xN)) ∷ ‵ (finally u16 (xD .name) (o .1 .1 .1 .1 .0)) ∷
+        ‵ (finally u16 (xJ .name) (o .1 .1 .1 .1 .1 .0)) ∷ ‵ (K.the-row .own (o .0) (w ∷ [])) ∷ []
 
     exits : (w : Val) → ent 𝓤 (⋆ 𝓤 H A (Had w)) (Post w)
     exits w =
         qed W (Had w) ∵
-        suffices ! _ (ends-at 𝓤 H A at-least-fn.ended stayed (at-least-fn.clauses 𝓤 H A mem run) W bound w (o .0) (ys′, (o .1 .1 .1 .1 .0, (o .1 .1 .1 .1 .1 .0, (tt, (tt, (tt, tt)))))) (written-length ys cs₂ m cut, (told .4, (told .5, (tt, (tt, (tt, tt))))))) $
+        suffices ! _ (ends-at 𝓤 H A at-least-fn.ended stayed (at-least-fn.clauses 𝓤 H A mem run) W bound w (o .0)
+        (ys′, (o .1 .1 .1 .1 .0, (o .1 .1 .1 .1 .1 .0, (tt, (tt, (tt, tt))))))
+        (written-length ys cs₂ m cut, (told .4, (told .5, (tt, (tt, (tt, tt))))))) $
         says ! (at-least-whole _ _ count set k _ _ (o .0) ys m vs ls hs _ _ _ cut (told .1, told .2, told .3) (told .0)) $
         nothing ! $ move ! (3 ∷ 0 ∷ []) $ join ! $ move ! (2 ∷ 0 ∷ []) $ join ! $ move ! (1 ∷ 0 ∷ []) $ join ! $ frame ! $
-        nothing ! $ owned ! u8 (Is u8) (uint-makes 𝓤 H A W w8) k (vint w8 k ∷ []) (refl, g-k) $ fjoin ! $ owned ! u64 (Is u64) (uint-makes 𝓤 H A W w64) set (vint w64 set ∷ []) (refl, g-set) $ fjoin ! $ owned ! usize (Is usize) (uint-makes 𝓤 H A W w64) count (vint w64 count ∷ []) (refl, g-count) $ fjoin ! $
+        nothing ! $ owned ! u8 (Is u8) (uint-makes 𝓤 H A W w8) k (vint w8 k ∷ []) (refl, g-k) $ fjoin ! $
+        owned ! u64 (Is u64) (uint-makes 𝓤 H A W w64) set (vint w64 set ∷ []) (refl, g-set) $ fjoin ! $
+        owned ! usize (Is usize) (uint-makes 𝓤 H A W w64) count (vint w64 count ∷ []) (refl, g-count) $ fjoin ! $
         move ! (3 ∷ 0 ∷ []) $ fjoin ! $ move ! (2 ∷ 0 ∷ []) $ fjoin ! $ move ! (1 ∷ 0 ∷ []) $ fjoin ! $ frame ! $ done !
 
-  module _ (C : Calls 𝓤 H) (Λ : Loops 𝓤 H) (fm : FmC 𝓤 H (W .laws) C) (known-places : Triple 𝓤 (C #places) (Places 𝓤 H A mem run)) (known-load : Triple 𝓤 (C #load) (Load 𝓤 H A mem run))
+  module _ (C : Calls 𝓤 H) (Λ : Loops 𝓤 H) (fm : FmC 𝓤 H (W .laws) C) (known-places : Triple 𝓤 (C #places) (Places 𝓤 H A mem run))
+      (known-load : Triple 𝓤 (C #load) (Load 𝓤 H A mem run))
       (known-count : Triple 𝓤 (C #within) (Count 𝓤 H A mem run)) (known-save : Triple 𝓤 (C #save) (Save 𝓤 H A mem run)) where
     abbrev args : List Val
     args = only (slice-vals xN) ∷ only (slice-vals xD) ∷ only (slice-vals xJ) ∷ vint w64 count ∷ vint w64 set ∷ vint w8 k ∷ []
 
-    walk : ent 𝓤 (onEntry 𝓤 H A at-least-fn.signature (κ₀, (κ₁, (κ₂, tt))) (q₀, (q₁, (q₂, tt))) a vals) (WpFn 𝓤 H C Λ code.function args Post)
+    walk : ent 𝓤 (onEntry 𝓤 H A at-least-fn.signature (κ₀, (κ₁, (κ₂, tt))) (q₀, (q₁, (q₂, tt))) a vals)
+        (WpFn 𝓤 H C Λ code.function args Post)
     walk =
-        qed W ((‵ (flft κ₀ q₀) ⊛ (‵ (flft κ₁ q₁) ⊛ (‵ (flft κ₂ q₂) ⊛ ‵ ftrue))) ∷ ‵ (owns (MutSlice (named 0) κ₀ N.the-row ∷ MutSlice (named 1) κ₁ u16 ∷ MutSlice (named 2) κ₂ u16 ∷ usize ∷ u64 ∷ u8 ∷ []) a vals) ∷ []) ∵
+        qed W ((‵ (flft κ₀ q₀) ⊛ (‵ (flft κ₁ q₁) ⊛ (‵ (flft κ₂ q₂) ⊛ ‵ ftrue))) ∷
+        ‵ (owns (MutSlice (named 0) κ₀ N.the-row ∷ MutSlice (named 1) κ₁ u16 ∷ MutSlice (named 2) κ₂ u16 ∷ usize ∷ u64 ∷ u8 ∷ []) a
+        vals) ∷ []) ∵
         enter ! C Λ code.function args _ $
-        alloc1 ! (λ l0. alloc1 ! (λ l1. alloc1 ! (λ l2. alloc1 ! (λ l3. alloc1 ! (λ l4. alloc1 ! (λ l5. alloc1 ! (λ l6. alloc1 ! (λ l7. alloc1 ! (λ l8.
-        alloc1 ! (λ l9. alloc1 ! (λ l10. alloc1 ! (λ l11. alloc1 ! (λ l12. alloc1 ! (λ l13. alloc1 ! (λ l14. alloc1 ! (λ l15. alloc1 ! (λ l16. alloc1 ! (λ l17. alloc1 ! (λ l18.
-        alloc1 ! (λ l19. alloc1 ! (λ l20. alloc1 ! (λ l21. alloc1 ! (λ l22. alloc1 ! (λ l23. alloc1 ! (λ l24. alloc1 ! (λ l25. alloc1 ! (λ l26. alloc1 ! (λ l27. alloc1 ! (λ l28.
-        alloc1 ! (λ l29. alloc1 ! (λ l30. alloc1 ! (λ l31. alloc1 ! (λ l32. alloc1 ! (λ l33. alloc1 ! (λ l34. alloc1 ! (λ l35. alloc1 ! (λ l36. alloc1 ! (λ l37. alloc1 ! (λ l38.
+        alloc1 ! (λ l0. alloc1 ! (λ l1. alloc1 !
+        (λ l2. alloc1 ! (λ l3. alloc1 ! (λ l4. alloc1 ! (λ l5. alloc1 ! (λ l6. alloc1 ! (λ l7. alloc1 ! (λ l8.
+        alloc1 ! (λ l9. alloc1 ! (λ l10. alloc1 !
+        (λ l11. alloc1 ! (λ l12. alloc1 ! (λ l13. alloc1 ! (λ l14. alloc1 ! (λ l15. alloc1 ! (λ l16. alloc1 ! (λ l17. alloc1 ! (λ l18.
+        alloc1 ! (λ l19. alloc1 ! (λ l20. alloc1 !
+        (λ l21. alloc1 ! (λ l22. alloc1 ! (λ l23. alloc1 ! (λ l24. alloc1 ! (λ l25. alloc1 ! (λ l26. alloc1 ! (λ l27. alloc1 ! (λ l28.
+        alloc1 ! (λ l29. alloc1 ! (λ l30. alloc1 !
+        (λ l31. alloc1 ! (λ l32. alloc1 ! (λ l33. alloc1 ! (λ l34. alloc1 ! (λ l35. alloc1 ! (λ l36. alloc1 ! (λ l37. alloc1 ! (λ l38.
         alloc1 ! (λ l39.
         alloc0 ! $ params1 ! $
-        pass1 ! (init ! 76 refl (tt, (tt, (record { fits = roomN .0 }, tt)))) $ pass1 ! (init ! 74 refl (tt, (tt, (record { fits = roomD .0 }, tt)))) $ pass1 ! (init ! 72 refl (tt, (tt, (record { fits = roomJ .0 }, tt)))) $ pass1 ! (init ! 70 refl (tt, record { fits = g-count })) $ pass1 ! (init ! 68 refl (tt, record { fits = g-set })) $ pass1 ! (init ! 66 refl (tt, record { fits = g-k })) $ pass0 ! $
+        pass1 ! (init ! 76 refl (tt, (tt, (record { fits = roomN .0 }, tt)))) $
+        pass1 ! (init ! 74 refl (tt, (tt, (record { fits = roomD .0 }, tt)))) $
+        pass1 ! (init ! 72 refl (tt, (tt, (record { fits = roomJ .0 }, tt)))) $
+        pass1 ! (init ! 70 refl (tt, record { fits = g-count })) $ pass1 ! (init ! 68 refl (tt, record { fits = g-set })) $
+        pass1 ! (init ! 66 refl (tt, record { fits = g-k })) $ pass0 ! $
         -- the tokens, and what the parameters own; the nodes are opened
         move ! (80 ∷ []) $
         split ! $
@@ -163,62 +196,134 @@ module _ {M : Type 1} (𝓤 : URA M) (H : Heap 𝓤) (A : Atoms 𝓤) (W : Given
         fsplit ! $
         move ! (1 ∷ []) $
         move ! (3 ∷ 7 ∷ []) $
-        use2 W (later (‵ (row N.the-row fullShare ys bN oN) ⊛ ‵ (Left N.the-row κ₀ q₀ γN bN oN ys))) (opens N.the-row κ₀ q₀ γN bN oN 𝓤 H A W (named 0) ys) $ await ! tt $ split ! $
+        use2 W (later (‵ (row N.the-row fullShare ys bN oN) ⊛ ‵ (Left N.the-row κ₀ q₀ γN bN oN ys)))
+        (opens N.the-row κ₀ q₀ γN bN oN 𝓤 H A W (named 0) ys) $ await ! tt $ split ! $
         -- the arrays
         assigns ! (rep ! 65536 (lit ! tt)) (from ! (stop !)) (init ! 72 refl (typed w8 (lit< tt) 𝓤 H A W 65536)) $
         move ! (72 ∷ []) $
-        use1 W (some (λ (vs : List ℕ). given (length vs ≡ 65536) (‵ (row u8 fullShare vs l7 0)))) (made w8 (lit< tt) 𝓤 H A W 65536 l7) $ pick ! (λ vs. learn ! (λ eV.
+        use1 W (some (λ (vs : List ℕ). given (length vs ≡ 65536) (‵ (row u8 fullShare vs l7 0)))) (made w8 (lit< tt) 𝓤 H A W 65536 l7) $
+        pick ! (λ vs. learn ! (λ eV.
         assigns ! (rep ! 65536 (lit ! tt)) (from ! (stop !)) (init ! 71 refl (typed w16 (lit< tt) 𝓤 H A W 65536)) $
         move ! (71 ∷ []) $
-        use1 W (some (λ (ls : List ℕ). given (length ls ≡ 65536) (‵ (row u16 fullShare ls l8 0)))) (made w16 (lit< tt) 𝓤 H A W 65536 l8) $ pick ! (λ ls. learn ! (λ eL.
+        use1 W (some (λ (ls : List ℕ). given (length ls ≡ 65536) (‵ (row u16 fullShare ls l8 0)))) (made w16 (lit< tt) 𝓤 H A W 65536 l8) $
+        pick ! (λ ls. learn ! (λ eL.
         assigns ! (rep ! 65536 (lit ! tt)) (from ! (stop !)) (init ! 70 refl (typed w16 (lit< tt) 𝓤 H A W 65536)) $
         move ! (70 ∷ []) $
-        use1 W (some (λ (hs : List ℕ). given (length hs ≡ 65536) (‵ (row u16 fullShare hs l9 0)))) (made w16 (lit< tt) 𝓤 H A W 65536 l9) $ pick ! (λ hs. learn ! (λ eH.
+        use1 W (some (λ (hs : List ℕ). given (length hs ≡ 65536) (‵ (row u16 fullShare hs l9 0)))) (made w16 (lit< tt) 𝓤 H A W 65536 l9) $
+        pick ! (λ hs. learn ! (λ eH.
         -- `places`
-        assigns ! (of-opd ! (load ! (from ! (fld ! refl (stop !))) (look-in ! 84 (sub ! 1 refl (whole !))))) (from ! (stop !)) (init ! 65 refl (tt, record { fits = roomN .0 })) $
-        use0 W (raw (Places 𝓤 H A mem run .pre (P.to 𝓤 H A W mem run (length ys) (roomN .0)))) (P.before 𝓤 H A W mem run (length ys) (roomN .0)) $
-        calls-at ! fm (Places 𝓤 H A mem run) known-places (P.to 𝓤 H A W mem run (length ys) (roomN .0)) (and-then ! (load ! (from ! (stop !)) (look ! 66 refl)) (no-more !)) (λ w₀.
-        use1 W (later (some (λ (m : ℕ). given (P.Is-cut 𝓤 H A W mem run (length ys) (roomN .0) w₀ m) (‵ ftrue)))) (P.after 𝓤 H A W mem run (length ys) (roomN .0) w₀) $ await ! tt $ pick ! (λ m. learn ! (λ is-cut. drop ! $
+        assigns ! (of-opd ! (load ! (from ! (fld ! refl (stop !))) (look-in ! 84 (sub ! 1 refl (whole !))))) (from ! (stop !))
+        (init ! 65 refl (tt, record { fits = roomN .0 })) $
+        use0 W (raw (Places 𝓤 H A mem run .pre (P.to 𝓤 H A W mem run (length ys) (roomN .0))))
+        (P.before 𝓤 H A W mem run (length ys) (roomN .0)) $
+        calls-at ! fm (Places 𝓤 H A mem run) known-places (P.to 𝓤 H A W mem run (length ys) (roomN .0))
+        (and-then ! (load ! (from ! (stop !)) (look ! 66 refl)) (no-more !)) (λ w₀.
+        use1 W (later (some (λ (m : ℕ). given (P.Is-cut 𝓤 H A W mem run (length ys) (roomN .0) w₀ m) (‵ ftrue))))
+        (P.after 𝓤 H A W mem run (length ys) (roomN .0) w₀) $ await ! tt $ pick ! (λ m. learn ! (λ is-cut. drop ! $
         let cut = is-cut .0 in
-        land ! (from ! (stop !)) (init ! 69 refl (subst (λ (v : Val). T (hasTy (tyInt w64) v) × WT v) (sym (is-cut .1)) (tt, record { fits = is-cut .2 }))) $ rewrite ! 69 (λ (v : Val). ‵ (fat fullShare (tyInt w64) l10 0 v)) (is-cut .1) refl $
+        land ! (from ! (stop !)) (init ! 69 refl
+        (subst (λ (v : Val). T (hasTy (tyInt w64) v) × WT v) (sym (is-cut .1)) (tt, record { fits = is-cut .2 }))) $
+        rewrite ! 69 (λ (v : Val). ‵ (fat fullShare (tyInt w64) l10 0 v)) (is-cut .1) refl $
         -- `load`
-        assigns ! (addr ! (from ! (fld ! refl (hop ! (look-in ! 84 (sub ! 0 refl (whole !))) (stop !))))) (from ! (stop !)) (init ! 61 refl (tt, tt)) $
-        assigns ! (agg ! (and-then ! (load ! (from ! (stop !)) (look ! 61 refl)) (and-then ! (load ! (from ! (fld ! refl (stop !))) (look-in ! 84 (sub ! 1 refl (whole !)))) (no-more !)))) (from ! (stop !)) (init ! 59 refl (tt, (tt, (record { fits = roomN .0 }, tt)))) $
+        assigns ! (addr ! (from ! (fld ! refl (hop ! (look-in ! 84 (sub ! 0 refl (whole !))) (stop !))))) (from ! (stop !))
+        (init ! 61 refl (tt, tt)) $
+        assigns ! (agg ! (and-then ! (load ! (from ! (stop !)) (look ! 61 refl))
+        (and-then ! (load ! (from ! (fld ! refl (stop !))) (look-in ! 84 (sub ! 1 refl (whole !)))) (no-more !)))) (from ! (stop !))
+        (init ! 59 refl (tt, (tt, (record { fits = roomN .0 }, tt)))) $
         assigns ! (addr ! (from ! (stop !))) (from ! (stop !)) (init ! 57 refl (tt, tt)) $
-        assigns ! (agg ! (and-then ! (load ! (from ! (stop !)) (look ! 57 refl)) (and-then ! (big-lit ! (record { fits = lit< tt })) (no-more !)))) (from ! (stop !)) (init ! 55 refl (tt, (tt, (record { fits = lit< tt }, tt)))) $
+        assigns ! (agg ! (and-then ! (load ! (from ! (stop !)) (look ! 57 refl))
+        (and-then ! (big-lit ! (record { fits = lit< tt })) (no-more !)))) (from ! (stop !))
+        (init ! 55 refl (tt, (tt, (record { fits = lit< tt }, tt)))) $
         assigns ! (addr ! (from ! (stop !))) (from ! (stop !)) (init ! 53 refl (tt, tt)) $
-        assigns ! (agg ! (and-then ! (load ! (from ! (stop !)) (look ! 53 refl)) (and-then ! (big-lit ! (record { fits = lit< tt })) (no-more !)))) (from ! (stop !)) (init ! 51 refl (tt, (tt, (record { fits = lit< tt }, tt)))) $
+        assigns ! (agg ! (and-then ! (load ! (from ! (stop !)) (look ! 53 refl))
+        (and-then ! (big-lit ! (record { fits = lit< tt })) (no-more !)))) (from ! (stop !))
+        (init ! 51 refl (tt, (tt, (record { fits = lit< tt }, tt)))) $
         assigns ! (addr ! (from ! (stop !))) (from ! (stop !)) (init ! 49 refl (tt, tt)) $
-        assigns ! (agg ! (and-then ! (load ! (from ! (stop !)) (look ! 49 refl)) (and-then ! (big-lit ! (record { fits = lit< tt })) (no-more !)))) (from ! (stop !)) (init ! 47 refl (tt, (tt, (record { fits = lit< tt }, tt)))) $
+        assigns ! (agg ! (and-then ! (load ! (from ! (stop !)) (look ! 49 refl))
+        (and-then ! (big-lit ! (record { fits = lit< tt })) (no-more !)))) (from ! (stop !))
+        (init ! 47 refl (tt, (tt, (record { fits = lit< tt }, tt)))) $
         move ! (1 ∷ 0 ∷ []) $
         fjoin ! $
         move ! (1 ∷ 0 ∷ []) $
         fjoin ! $
         move ! (1 ∷ 0 ∷ []) $
         fjoin ! $
-        use1 W (later (some (λ (p : Lo.Loans). raw (Load 𝓤 H A mem run .pre (Lo.to 𝓤 H A W mem run fullShare (record { bN = bN; oN = oN; bV = l7; bL = l8; bH = l9; ys = ys; room = roomN }) (record { vs = vs; ls = ls; hs = hs; eV = eV; eL = eL; eH = eH }) m cut p)) ⊛ ‵ (Lo.Kept 𝓤 H A W mem run fullShare (record { bN = bN; oN = oN; bV = l7; bL = l8; bH = l9; ys = ys; room = roomN }) (record { vs = vs; ls = ls; hs = hs; eV = eV; eL = eL; eH = eH }) m cut p)))) (Lo.before 𝓤 H A W mem run fullShare (record { bN = bN; oN = oN; bV = l7; bL = l8; bH = l9; ys = ys; room = roomN }) (record { vs = vs; ls = ls; hs = hs; eV = eV; eL = eL; eH = eH }) m cut) $ await ! tt $ pick ! (λ p. split ! $
-        calls-at ! fm (Load 𝓤 H A mem run) known-load (Lo.to 𝓤 H A W mem run fullShare (record { bN = bN; oN = oN; bV = l7; bL = l8; bH = l9; ys = ys; room = roomN }) (record { vs = vs; ls = ls; hs = hs; eV = eV; eL = eL; eH = eH }) m cut p) (and-then ! (load ! (from ! (stop !)) (look ! 57 refl)) (and-then ! (load ! (from ! (stop !)) (look ! 67 refl)) (and-then ! (load ! (from ! (stop !)) (look ! 53 refl)) (and-then ! (load ! (from ! (stop !)) (look ! 49 refl)) (and-then ! (load ! (from ! (stop !)) (look ! 45 refl)) (no-more !)))))) (λ w₁.
-        use2 W (later (given (w₁ ≡ vunit) (‵ (Table fullShare (record { bN = bN; oN = oN; bV = l7; bL = l8; bH = l9; ys = ys; room = roomN }) ys (column varOf ys vs m) (column lowOf ys ls m) (column highOf ys hs m))))) (Lo.after 𝓤 H A W mem run fullShare (record { bN = bN; oN = oN; bV = l7; bL = l8; bH = l9; ys = ys; room = roomN }) (record { vs = vs; ls = ls; hs = hs; eV = eV; eL = eL; eH = eH }) m cut p w₁) $ await ! tt $ learn ! (λ e₁.
+        use1 W (later (some (λ (p : Lo.Loans). raw
+        (Load 𝓤 H A mem run .pre (Lo.to 𝓤 H A W mem run fullShare
+        (record { bN = bN; oN = oN; bV = l7; bL = l8; bH = l9; ys = ys; room = roomN })
+        (record { vs = vs; ls = ls; hs = hs; eV = eV; eL = eL; eH = eH }) m cut p))
+        ⊛ ‵ (Lo.Kept 𝓤 H A W mem run fullShare (record { bN = bN; oN = oN; bV = l7; bL = l8; bH = l9; ys = ys; room = roomN })
+        (record { vs = vs; ls = ls; hs = hs; eV = eV; eL = eL; eH = eH }) m cut p))))
+        (Lo.before 𝓤 H A W mem run fullShare (record { bN = bN; oN = oN; bV = l7; bL = l8; bH = l9; ys = ys; room = roomN })
+        (record { vs = vs; ls = ls; hs = hs; eV = eV; eL = eL; eH = eH }) m cut) $ await ! tt $ pick ! (λ p. split ! $
+        calls-at ! fm (Load 𝓤 H A mem run) known-load
+        (Lo.to 𝓤 H A W mem run fullShare (record { bN = bN; oN = oN; bV = l7; bL = l8; bH = l9; ys = ys; room = roomN })
+        (record { vs = vs; ls = ls; hs = hs; eV = eV; eL = eL; eH = eH }) m cut p)
+        (and-then ! (load ! (from ! (stop !)) (look ! 57 refl))
+        (and-then ! (load ! (from ! (stop !)) (look ! 67 refl))
+        (and-then ! (load ! (from ! (stop !)) (look ! 53 refl))
+        (and-then ! (load ! (from ! (stop !)) (look ! 49 refl)) (and-then ! (load ! (from ! (stop !)) (look ! 45 refl)) (no-more !))))))
+        (λ w₁.
+        use2 W (later (given (w₁ ≡ vunit) (‵ (Table fullShare
+        (record { bN = bN; oN = oN; bV = l7; bL = l8; bH = l9; ys = ys; room = roomN }) ys (column varOf ys vs m) (column lowOf ys ls m)
+        (column highOf ys hs m))))) (Lo.after 𝓤 H A W mem run fullShare
+        (record { bN = bN; oN = oN; bV = l7; bL = l8; bH = l9; ys = ys; room = roomN })
+        (record { vs = vs; ls = ls; hs = hs; eV = eV; eL = eL; eH = eH }) m cut p w₁) $ await ! tt $ learn ! (λ e₁.
         land ! (from ! (stop !)) (init ! 60 refl (subst (λ (v : Val). T (hasTy tyUnit v) × WT v) (sym e₁) (tt, tt))) $
         fsplit ! $
         let cs : Filled = loaded ys (record { vs = vs; ls = ls; hs = hs; eV = eV; eL = eL; eH = eH }) m cut in
         -- `at_least_within`
         assigns ! (addr ! (from ! (stop !))) (from ! (stop !)) (init ! 43 refl (tt, tt)) $
-        assigns ! (agg ! (and-then ! (load ! (from ! (stop !)) (look ! 43 refl)) (and-then ! (big-lit ! (record { fits = lit< tt })) (no-more !)))) (from ! (stop !)) (init ! 41 refl (tt, (tt, (record { fits = lit< tt }, tt)))) $
+        assigns ! (agg ! (and-then ! (load ! (from ! (stop !)) (look ! 43 refl))
+        (and-then ! (big-lit ! (record { fits = lit< tt })) (no-more !)))) (from ! (stop !))
+        (init ! 41 refl (tt, (tt, (record { fits = lit< tt }, tt)))) $
         assigns ! (addr ! (from ! (stop !))) (from ! (stop !)) (init ! 39 refl (tt, tt)) $
-        assigns ! (agg ! (and-then ! (load ! (from ! (stop !)) (look ! 39 refl)) (and-then ! (big-lit ! (record { fits = lit< tt })) (no-more !)))) (from ! (stop !)) (init ! 37 refl (tt, (tt, (record { fits = lit< tt }, tt)))) $
+        assigns ! (agg ! (and-then ! (load ! (from ! (stop !)) (look ! 39 refl))
+        (and-then ! (big-lit ! (record { fits = lit< tt })) (no-more !)))) (from ! (stop !))
+        (init ! 37 refl (tt, (tt, (record { fits = lit< tt }, tt)))) $
         assigns ! (addr ! (from ! (stop !))) (from ! (stop !)) (init ! 35 refl (tt, tt)) $
-        assigns ! (agg ! (and-then ! (load ! (from ! (stop !)) (look ! 35 refl)) (and-then ! (big-lit ! (record { fits = lit< tt })) (no-more !)))) (from ! (stop !)) (init ! 33 refl (tt, (tt, (record { fits = lit< tt }, tt)))) $
-        assigns ! (addr ! (from ! (fld ! refl (hop ! (look-in ! 80 (sub ! 0 refl (whole !))) (stop !))))) (from ! (stop !)) (init ! 31 refl (tt, tt)) $
-        assigns ! (agg ! (and-then ! (load ! (from ! (stop !)) (look ! 31 refl)) (and-then ! (load ! (from ! (fld ! refl (stop !))) (look-in ! 80 (sub ! 1 refl (whole !)))) (no-more !)))) (from ! (stop !)) (init ! 29 refl (tt, (tt, (record { fits = roomD .0 }, tt)))) $
-        assigns ! (addr ! (from ! (fld ! refl (hop ! (look-in ! 78 (sub ! 0 refl (whole !))) (stop !))))) (from ! (stop !)) (init ! 27 refl (tt, tt)) $
-        assigns ! (agg ! (and-then ! (load ! (from ! (stop !)) (look ! 27 refl)) (and-then ! (load ! (from ! (fld ! refl (stop !))) (look-in ! 78 (sub ! 1 refl (whole !)))) (no-more !)))) (from ! (stop !)) (init ! 25 refl (tt, (tt, (record { fits = roomJ .0 }, tt)))) $
-        assigns ! (of-opd ! (load ! (from ! (fld ! refl (stop !))) (look-in ! 82 (sub ! 1 refl (whole !))))) (from ! (stop !)) (store ! 63 refl (tt, record { fits = roomN .0 })) $
+        assigns ! (agg ! (and-then ! (load ! (from ! (stop !)) (look ! 35 refl))
+        (and-then ! (big-lit ! (record { fits = lit< tt })) (no-more !)))) (from ! (stop !))
+        (init ! 33 refl (tt, (tt, (record { fits = lit< tt }, tt)))) $
+        assigns ! (addr ! (from ! (fld ! refl (hop ! (look-in ! 80 (sub ! 0 refl (whole !))) (stop !))))) (from ! (stop !))
+        (init ! 31 refl (tt, tt)) $
+        assigns ! (agg ! (and-then ! (load ! (from ! (stop !)) (look ! 31 refl))
+        (and-then ! (load ! (from ! (fld ! refl (stop !))) (look-in ! 80 (sub ! 1 refl (whole !)))) (no-more !)))) (from ! (stop !))
+        (init ! 29 refl (tt, (tt, (record { fits = roomD .0 }, tt)))) $
+        assigns ! (addr ! (from ! (fld ! refl (hop ! (look-in ! 78 (sub ! 0 refl (whole !))) (stop !))))) (from ! (stop !))
+        (init ! 27 refl (tt, tt)) $
+        assigns ! (agg ! (and-then ! (load ! (from ! (stop !)) (look ! 27 refl))
+        (and-then ! (load ! (from ! (fld ! refl (stop !))) (look-in ! 78 (sub ! 1 refl (whole !)))) (no-more !)))) (from ! (stop !))
+        (init ! 25 refl (tt, (tt, (record { fits = roomJ .0 }, tt)))) $
+        assigns ! (of-opd ! (load ! (from ! (fld ! refl (stop !))) (look-in ! 82 (sub ! 1 refl (whole !))))) (from ! (stop !))
+        (store ! 63 refl (tt, record { fits = roomN .0 })) $
         move ! (1 ∷ 8 ∷ 7 ∷ 5 ∷ 4 ∷ []) $
         group ! 5 $
-        use1 W (later (some (λ (p : Loans). raw (Count 𝓤 H A mem run .pre (Co.to 𝓤 H A W mem run κ₁ κ₂ q₁ q₂ (record { bN = bN; oN = oN; bV = l7; bL = l8; bH = l9; ys = ys; room = roomN }) cs xD xJ (length ys) count set k (roomN .0) g-count g-set g-k p)) ⊛ ‵ (Kept (record { bN = bN; oN = oN; bV = l7; bL = l8; bH = l9; ys = ys; room = roomN }) p)))) (Co.before 𝓤 H A W mem run κ₁ κ₂ q₁ q₂ (record { bN = bN; oN = oN; bV = l7; bL = l8; bH = l9; ys = ys; room = roomN }) cs xD xJ (length ys) count set k (roomN .0) g-count g-set g-k) $ await ! tt $ pick ! (λ p. split ! $
-        calls-at ! fm (Count 𝓤 H A mem run) known-count (Co.to 𝓤 H A W mem run κ₁ κ₂ q₁ q₂ (record { bN = bN; oN = oN; bV = l7; bL = l8; bH = l9; ys = ys; room = roomN }) cs xD xJ (length ys) count set k (roomN .0) g-count g-set g-k p) (and-then ! (load ! (from ! (stop !)) (look ! 38 refl)) (and-then ! (load ! (from ! (stop !)) (look ! 34 refl)) (and-then ! (load ! (from ! (stop !)) (look ! 30 refl)) (and-then ! (load ! (from ! (stop !)) (look ! 26 refl)) (and-then ! (load ! (from ! (stop !)) (look ! 22 refl)) (and-then ! (load ! (from ! (stop !)) (look ! 60 refl)) (and-then ! (load ! (from ! (stop !)) (look ! 73 refl)) (and-then ! (load ! (from ! (stop !)) (look ! 71 refl)) (and-then ! (load ! (from ! (stop !)) (look ! 69 refl)) (no-more !)))))))))) (λ w₂.
-        use2 W (later (some (λ (o : AtLeast × Co.Last). given (Co.Told 𝓤 H A W mem run κ₁ κ₂ q₁ q₂ (record { bN = bN; oN = oN; bV = l7; bL = l8; bH = l9; ys = ys; room = roomN }) cs xD xJ (length ys) count set k (roomN .0) g-count g-set g-k o) (‵ (Co.Had 𝓤 H A W mem run κ₁ κ₂ q₁ q₂ (record { bN = bN; oN = oN; bV = l7; bL = l8; bH = l9; ys = ys; room = roomN }) cs xD xJ (length ys) count set k (roomN .0) g-count g-set g-k o w₂))))) (Co.after 𝓤 H A W mem run κ₁ κ₂ q₁ q₂ (record { bN = bN; oN = oN; bV = l7; bL = l8; bH = l9; ys = ys; room = roomN }) cs xD xJ (length ys) count set k (roomN .0) g-count g-set g-k p w₂) $ await ! tt $ pick ! (λ o. learn ! (λ told.
+        use1 W (later (some (λ (p : Loans). raw
+        (Count 𝓤 H A mem run .pre (Co.to 𝓤 H A W mem run κ₁ κ₂ q₁ q₂
+        (record { bN = bN; oN = oN; bV = l7; bL = l8; bH = l9; ys = ys; room = roomN }) cs xD xJ (length ys) count set k (roomN .0)
+        g-count g-set g-k p)) ⊛ ‵ (Kept (record { bN = bN; oN = oN; bV = l7; bL = l8; bH = l9; ys = ys; room = roomN }) p))))
+        (Co.before 𝓤 H A W mem run κ₁ κ₂ q₁ q₂ (record { bN = bN; oN = oN; bV = l7; bL = l8; bH = l9; ys = ys; room = roomN }) cs xD xJ
+        (length ys) count set k (roomN .0) g-count g-set g-k) $ await ! tt $ pick ! (λ p. split ! $
+        calls-at ! fm (Count 𝓤 H A mem run) known-count
+        (Co.to 𝓤 H A W mem run κ₁ κ₂ q₁ q₂ (record { bN = bN; oN = oN; bV = l7; bL = l8; bH = l9; ys = ys; room = roomN }) cs xD xJ
+        (length ys) count set k (roomN .0) g-count g-set g-k p)
+        (and-then ! (load ! (from ! (stop !)) (look ! 38 refl))
+        (and-then ! (load ! (from ! (stop !)) (look ! 34 refl))
+        (and-then ! (load ! (from ! (stop !)) (look ! 30 refl))
+        (and-then ! (load ! (from ! (stop !)) (look ! 26 refl))
+        (and-then ! (load ! (from ! (stop !)) (look ! 22 refl))
+        (and-then ! (load ! (from ! (stop !)) (look ! 60 refl))
+        (and-then ! (load ! (from ! (stop !)) (look ! 73 refl))
+        (and-then ! (load ! (from ! (stop !)) (look ! 71 refl))
+        (and-then ! (load ! (from ! (stop !)) (look ! 69 refl)) (no-more !)))))))))) (λ w₂.
+        use2 W (later (some (λ (o : AtLeast × Co.Last). given
+        (Co.Told 𝓤 H A W mem run κ₁ κ₂ q₁ q₂ (record { bN = bN; oN = oN; bV = l7; bL = l8; bH = l9; ys = ys; room = roomN }) cs xD xJ
+        (length ys) count set k (roomN .0) g-count g-set g-k o)
+        (‵ (Co.Had 𝓤 H A W mem run κ₁ κ₂ q₁ q₂ (record { bN = bN; oN = oN; bV = l7; bL = l8; bH = l9; ys = ys; room = roomN }) cs xD xJ
+        (length ys) count set k (roomN .0) g-count g-set g-k o w₂)))))
+        (Co.after 𝓤 H A W mem run κ₁ κ₂ q₁ q₂ (record { bN = bN; oN = oN; bV = l7; bL = l8; bH = l9; ys = ys; room = roomN }) cs xD xJ
+        (length ys) count set k (roomN .0) g-count g-set g-k p w₂) $ await ! tt $ pick ! (λ o. learn ! (λ told.
         fsplit ! $
         move ! (1 ∷ []) $
         fsplit ! $
@@ -232,61 +337,124 @@ module _ {M : Type 1} (𝓤 : URA M) (H : Heap 𝓤) (A : Atoms 𝓤) (W : Given
         peeks ! K.the-row (Is K.the-row) (shows 𝓤 H A K.the-row) (o .0) (w₂ ∷ []) (λ is.
         land ! (from ! (stop !)) (init ! 66 refl (LL.lawful K.the-type K′.the-laws 𝓤 H A W .typed (o .0) _ is .0)) $
         -- `save`
-        assigns ! (addr ! (from ! (fld ! refl (hop ! (look-in ! 83 (sub ! 0 refl (whole !))) (stop !))))) (from ! (stop !)) (init ! 24 refl (tt, tt)) $
-        assigns ! (agg ! (and-then ! (load ! (from ! (stop !)) (look ! 24 refl)) (and-then ! (load ! (from ! (fld ! refl (stop !))) (look-in ! 83 (sub ! 1 refl (whole !)))) (no-more !)))) (from ! (stop !)) (init ! 22 refl (tt, (tt, (record { fits = roomN .0 }, tt)))) $
+        assigns ! (addr ! (from ! (fld ! refl (hop ! (look-in ! 83 (sub ! 0 refl (whole !))) (stop !))))) (from ! (stop !))
+        (init ! 24 refl (tt, tt)) $
+        assigns ! (agg ! (and-then ! (load ! (from ! (stop !)) (look ! 24 refl))
+        (and-then ! (load ! (from ! (fld ! refl (stop !))) (look-in ! 83 (sub ! 1 refl (whole !)))) (no-more !)))) (from ! (stop !))
+        (init ! 22 refl (tt, (tt, (record { fits = roomN .0 }, tt)))) $
         assigns ! (addr ! (from ! (stop !))) (from ! (stop !)) (init ! 20 refl (tt, tt)) $
-        assigns ! (agg ! (and-then ! (load ! (from ! (stop !)) (look ! 20 refl)) (and-then ! (big-lit ! (record { fits = lit< tt })) (no-more !)))) (from ! (stop !)) (init ! 18 refl (tt, (tt, (record { fits = lit< tt }, tt)))) $
+        assigns ! (agg ! (and-then ! (load ! (from ! (stop !)) (look ! 20 refl))
+        (and-then ! (big-lit ! (record { fits = lit< tt })) (no-more !)))) (from ! (stop !))
+        (init ! 18 refl (tt, (tt, (record { fits = lit< tt }, tt)))) $
         assigns ! (addr ! (from ! (stop !))) (from ! (stop !)) (init ! 16 refl (tt, tt)) $
-        assigns ! (agg ! (and-then ! (load ! (from ! (stop !)) (look ! 16 refl)) (and-then ! (big-lit ! (record { fits = lit< tt })) (no-more !)))) (from ! (stop !)) (init ! 14 refl (tt, (tt, (record { fits = lit< tt }, tt)))) $
+        assigns ! (agg ! (and-then ! (load ! (from ! (stop !)) (look ! 16 refl))
+        (and-then ! (big-lit ! (record { fits = lit< tt })) (no-more !)))) (from ! (stop !))
+        (init ! 14 refl (tt, (tt, (record { fits = lit< tt }, tt)))) $
         assigns ! (addr ! (from ! (stop !))) (from ! (stop !)) (init ! 12 refl (tt, tt)) $
-        assigns ! (agg ! (and-then ! (load ! (from ! (stop !)) (look ! 12 refl)) (and-then ! (big-lit ! (record { fits = lit< tt })) (no-more !)))) (from ! (stop !)) (init ! 10 refl (tt, (tt, (record { fits = lit< tt }, tt)))) $
+        assigns ! (agg ! (and-then ! (load ! (from ! (stop !)) (look ! 12 refl))
+        (and-then ! (big-lit ! (record { fits = lit< tt })) (no-more !)))) (from ! (stop !))
+        (init ! 10 refl (tt, (tt, (record { fits = lit< tt }, tt)))) $
         move ! (6 ∷ 5 ∷ []) $
         fjoin ! $
-        use1 W (later (some (λ (p : Sa.Loans). raw (Save 𝓤 H A mem run .pre (Sa.to 𝓤 H A W mem run (record { bN = bN; oN = oN; bV = l7; bL = l8; bH = l9; ys = ys; room = roomN }) (cs₂ vs ls hs m cut o told) m cut p)) ⊛ ‵ (Sa.Kept 𝓤 H A W mem run (record { bN = bN; oN = oN; bV = l7; bL = l8; bH = l9; ys = ys; room = roomN }) (cs₂ vs ls hs m cut o told) m cut p)))) (Sa.before 𝓤 H A W mem run (record { bN = bN; oN = oN; bV = l7; bL = l8; bH = l9; ys = ys; room = roomN }) (cs₂ vs ls hs m cut o told) m cut) $ await ! tt $ pick ! (λ p. split ! $
-        calls-at ! fm (Save 𝓤 H A mem run) known-save (Sa.to 𝓤 H A W mem run (record { bN = bN; oN = oN; bV = l7; bL = l8; bH = l9; ys = ys; room = roomN }) (cs₂ vs ls hs m cut o told) m cut p) (and-then ! (load ! (from ! (stop !)) (look ! 22 refl)) (and-then ! (load ! (from ! (stop !)) (look ! 68 refl)) (and-then ! (load ! (from ! (stop !)) (look ! 18 refl)) (and-then ! (load ! (from ! (stop !)) (look ! 14 refl)) (and-then ! (load ! (from ! (stop !)) (look ! 10 refl)) (no-more !)))))) (λ w₃.
-        use2 W (later (given (w₃ ≡ vunit) (‵ (Table fullShare (record { bN = bN; oN = oN; bV = l7; bL = l8; bH = l9; ys = ys; room = roomN }) (ys′ vs ls hs m cut o told) (o .1 .0) (o .1 .1 .0) (o .1 .1 .1 .0))))) (Sa.after 𝓤 H A W mem run (record { bN = bN; oN = oN; bV = l7; bL = l8; bH = l9; ys = ys; room = roomN }) (cs₂ vs ls hs m cut o told) m cut p w₃) $ await ! tt $ learn ! (λ e₃.
+        use1 W (later (some (λ (p : Sa.Loans). raw
+        (Save 𝓤 H A mem run .pre (Sa.to 𝓤 H A W mem run (record { bN = bN; oN = oN; bV = l7; bL = l8; bH = l9; ys = ys; room = roomN })
+        (cs₂ vs ls hs m cut o told) m cut p)) ⊛ ‵
+        (Sa.Kept 𝓤 H A W mem run (record { bN = bN; oN = oN; bV = l7; bL = l8; bH = l9; ys = ys; room = roomN })
+        (cs₂ vs ls hs m cut o told) m cut p))))
+        (Sa.before 𝓤 H A W mem run (record { bN = bN; oN = oN; bV = l7; bL = l8; bH = l9; ys = ys; room = roomN })
+        (cs₂ vs ls hs m cut o told) m cut) $ await ! tt $ pick ! (λ p. split ! $
+        calls-at ! fm (Save 𝓤 H A mem run) known-save
+        (Sa.to 𝓤 H A W mem run (record { bN = bN; oN = oN; bV = l7; bL = l8; bH = l9; ys = ys; room = roomN })
+        (cs₂ vs ls hs m cut o told) m cut p)
+        (and-then ! (load ! (from ! (stop !)) (look ! 22 refl))
+        (and-then ! (load ! (from ! (stop !)) (look ! 68 refl))
+        (and-then ! (load ! (from ! (stop !)) (look ! 18 refl))
+        (and-then ! (load ! (from ! (stop !)) (look ! 14 refl)) (and-then ! (load ! (from ! (stop !)) (look ! 10 refl)) (no-more !))))))
+        (λ w₃.
+        use2 W (later (given (w₃ ≡ vunit) (‵ (Table fullShare
+        (record { bN = bN; oN = oN; bV = l7; bL = l8; bH = l9; ys = ys; room = roomN }) (ys′ vs ls hs m cut o told) (o .1 .0)
+        (o .1 .1 .0) (o .1 .1 .1 .0))))) (Sa.after 𝓤 H A W mem run
+        (record { bN = bN; oN = oN; bV = l7; bL = l8; bH = l9; ys = ys; room = roomN }) (cs₂ vs ls hs m cut o told) m cut p w₃) $
+        await ! tt $ learn ! (λ e₃.
         land ! (from ! (stop !)) (store ! 61 refl (subst (λ (v : Val). T (hasTy tyUnit v) × WT v) (sym e₃) (tt, tt))) $
         fsplit ! $
         -- the nodes are closed, and the arrays are freed with the other locals
         move ! (0 ∷ 7 ∷ []) $
-        use2 W (later (‵ (MutSlice (named 0) κ₀ N.the-row .own (at-list γN bN oN (ys′ vs ls hs m cut o told)) (slice-vals xN)) ⊛ ‵ (flft κ₀ q₀))) (closes N.the-row κ₀ q₀ γN bN oN 𝓤 H A W (named 0) ys (ys′ vs ls hs m cut o told) roomN (written-length ys (cs₂ vs ls hs m cut o told) m cut)) $ await ! tt $ split ! $
-        assigns ! (of-opd ! (load ! (from ! (stop !)) (look ! 66 refl))) (from ! (stop !)) (init ! 85 refl (LL.lawful K.the-type K′.the-laws 𝓤 H A W .typed (o .0) _ is .0)) $
+        use2 W (later (‵ (MutSlice (named 0) κ₀ N.the-row .own (at-list γN bN oN (ys′ vs ls hs m cut o told)) (slice-vals xN))
+        ⊛ ‵ (flft κ₀ q₀))) (closes N.the-row κ₀ q₀ γN bN oN 𝓤 H A W (named 0) ys (ys′ vs ls hs m cut o told) roomN
+        (written-length ys (cs₂ vs ls hs m cut o told) m cut)) $ await ! tt $ split ! $
+        assigns ! (of-opd ! (load ! (from ! (stop !)) (look ! 66 refl))) (from ! (stop !))
+        (init ! 85 refl (LL.lawful K.the-type K′.the-laws 𝓤 H A W .typed (o .0) _ is .0)) $
         move ! (2 ∷ []) $
         fsplit3 ! $
         returns ! (look ! 87 refl) $
         forget ! 87 refl $ forget ! 85 refl $ forget ! 83 refl $ forget ! 81 refl $ forget ! 79 refl $ forget ! 77 refl $ forget ! 75 refl $
-        forget ! 70 refl $ forget ! 68 refl $ forget ! 66 refl $ forget ! 64 refl $ forget ! 62 refl $ forget ! 60 refl $ forget ! 58 refl $ forget ! 56 refl $
-        forget ! 54 refl $ forget ! 52 refl $ forget ! 50 refl $ forget ! 48 refl $ forget ! 46 refl $ forget ! 44 refl $ forget ! 42 refl $ forget ! 40 refl $
-        forget ! 38 refl $ forget ! 36 refl $ forget ! 34 refl $ forget ! 32 refl $ forget ! 30 refl $ forget ! 28 refl $ forget ! 26 refl $ forget ! 24 refl $
+        forget ! 70 refl $ forget ! 68 refl $ forget ! 66 refl $ forget ! 64 refl $ forget ! 62 refl $ forget ! 60 refl $ forget ! 58 refl $
+        forget ! 56 refl $
+        forget ! 54 refl $ forget ! 52 refl $ forget ! 50 refl $ forget ! 48 refl $ forget ! 46 refl $ forget ! 44 refl $ forget ! 42 refl $
+        forget ! 40 refl $
+        forget ! 38 refl $ forget ! 36 refl $ forget ! 34 refl $ forget ! 32 refl $ forget ! 30 refl $ forget ! 28 refl $ forget ! 26 refl $
+        forget ! 24 refl $
         forget ! 22 refl $ forget ! 20 refl $ forget ! 18 refl $ forget ! 16 refl $ forget ! 14 refl $ forget ! 12 refl $
         use1 W (‵ (froom (tyArray (tyInt w8) 65536) l7 0)) (freed w8 𝓤 H A W 65536 l7 (o .1 .0) (told .1)) $
         move ! (1 ∷ []) $
         use1 W (‵ (froom (tyArray (tyInt w16) 65536) l8 0)) (freed w16 𝓤 H A W 65536 l8 (o .1 .1 .0) (told .2)) $
         move ! (2 ∷ []) $
         use1 W (‵ (froom (tyArray (tyInt w16) 65536) l9 0)) (freed w16 𝓤 H A W 65536 l9 (o .1 .1 .1 .0) (told .3)) $
-        move ! (87 ∷ 88 ∷ []) $ free1 ! $ move ! (85 ∷ 86 ∷ []) $ free1 ! $ move ! (83 ∷ 84 ∷ []) $ free1 ! $ move ! (81 ∷ 82 ∷ []) $ free1 ! $ move ! (79 ∷ 80 ∷ []) $ free1 ! $ move ! (77 ∷ 78 ∷ []) $ free1 ! $ move ! (75 ∷ 76 ∷ []) $ free1 ! $
-        move ! (2 ∷ 74 ∷ []) $ free1 ! $ move ! (1 ∷ 72 ∷ []) $ free1 ! $ move ! (0 ∷ 70 ∷ []) $ free1 ! $ move ! (67 ∷ 68 ∷ []) $ free1 ! $ move ! (65 ∷ 66 ∷ []) $ free1 ! $ move ! (63 ∷ 64 ∷ []) $ free1 ! $ move ! (61 ∷ 62 ∷ []) $ free1 ! $ move ! (59 ∷ 60 ∷ []) $ free1 ! $
-        move ! (57 ∷ 58 ∷ []) $ free1 ! $ move ! (55 ∷ 56 ∷ []) $ free1 ! $ move ! (53 ∷ 54 ∷ []) $ free1 ! $ move ! (51 ∷ 52 ∷ []) $ free1 ! $ move ! (49 ∷ 50 ∷ []) $ free1 ! $ move ! (47 ∷ 48 ∷ []) $ free1 ! $ move ! (45 ∷ 46 ∷ []) $ free1 ! $ move ! (43 ∷ 44 ∷ []) $ free1 ! $
-        move ! (41 ∷ 42 ∷ []) $ free1 ! $ move ! (39 ∷ 40 ∷ []) $ free1 ! $ move ! (37 ∷ 38 ∷ []) $ free1 ! $ move ! (35 ∷ 36 ∷ []) $ free1 ! $ move ! (33 ∷ 34 ∷ []) $ free1 ! $ move ! (31 ∷ 32 ∷ []) $ free1 ! $ move ! (29 ∷ 30 ∷ []) $ free1 ! $ move ! (27 ∷ 28 ∷ []) $ free1 ! $
-        move ! (25 ∷ 26 ∷ []) $ free1 ! $ move ! (23 ∷ 24 ∷ []) $ free1 ! $ move ! (21 ∷ 22 ∷ []) $ free1 ! $ move ! (19 ∷ 20 ∷ []) $ free1 ! $ move ! (17 ∷ 18 ∷ []) $ free1 ! $ move ! (15 ∷ 16 ∷ []) $ free1 ! $ move ! (13 ∷ 14 ∷ []) $ free1 ! $ move ! (11 ∷ 12 ∷ []) $ free1 ! $
+        move ! (87 ∷ 88 ∷ []) $ free1 ! $ move ! (85 ∷ 86 ∷ []) $ free1 ! $ move ! (83 ∷ 84 ∷ []) $ free1 ! $ move ! (81 ∷ 82 ∷ []) $
+        free1 ! $ move ! (79 ∷ 80 ∷ []) $ free1 ! $ move ! (77 ∷ 78 ∷ []) $ free1 ! $ move ! (75 ∷ 76 ∷ []) $ free1 ! $
+        move ! (2 ∷ 74 ∷ []) $ free1 ! $ move ! (1 ∷ 72 ∷ []) $ free1 ! $ move ! (0 ∷ 70 ∷ []) $ free1 ! $ move ! (67 ∷ 68 ∷ []) $ free1 ! $
+        move ! (65 ∷ 66 ∷ []) $ free1 ! $ move ! (63 ∷ 64 ∷ []) $ free1 ! $ move ! (61 ∷ 62 ∷ []) $ free1 ! $ move ! (59 ∷ 60 ∷ []) $
+        free1 ! $
+        move ! (57 ∷ 58 ∷ []) $ free1 ! $ move ! (55 ∷ 56 ∷ []) $ free1 ! $ move ! (53 ∷ 54 ∷ []) $ free1 ! $ move ! (51 ∷ 52 ∷ []) $
+        free1 ! $ move ! (49 ∷ 50 ∷ []) $ free1 ! $ move ! (47 ∷ 48 ∷ []) $ free1 ! $ move ! (45 ∷ 46 ∷ []) $ free1 ! $
+        move ! (43 ∷ 44 ∷ []) $ free1 ! $
+        move ! (41 ∷ 42 ∷ []) $ free1 ! $ move ! (39 ∷ 40 ∷ []) $ free1 ! $ move ! (37 ∷ 38 ∷ []) $ free1 ! $ move ! (35 ∷ 36 ∷ []) $
+        free1 ! $ move ! (33 ∷ 34 ∷ []) $ free1 ! $ move ! (31 ∷ 32 ∷ []) $ free1 ! $ move ! (29 ∷ 30 ∷ []) $ free1 ! $
+        move ! (27 ∷ 28 ∷ []) $ free1 ! $
+        move ! (25 ∷ 26 ∷ []) $ free1 ! $ move ! (23 ∷ 24 ∷ []) $ free1 ! $ move ! (21 ∷ 22 ∷ []) $ free1 ! $ move ! (19 ∷ 20 ∷ []) $
+        free1 ! $ move ! (17 ∷ 18 ∷ []) $ free1 ! $ move ! (15 ∷ 16 ∷ []) $ free1 ! $ move ! (13 ∷ 14 ∷ []) $ free1 ! $
+        move ! (11 ∷ 12 ∷ []) $ free1 ! $
         move ! (9 ∷ 10 ∷ []) $ free1 ! $
         free0 ! $
         keep ! (1 ∷ 6 ∷ 5 ∷ 0 ∷ 4 ∷ 3 ∷ 2 ∷ []) $
         by ! (exits vs ls hs m cut o told w₂)))))))))))))))))))))))))))))))))))))))))))))))))))))))))))))
 
-module _ {M : Type 1} (𝓤 : URA M) (H : Heap 𝓤) (A : Atoms 𝓤) (W : Given 𝓤 H A) (mem : Memory → SProp 𝓤) (run : Routine → Fun 𝓤) (𝓣 : Tables 𝓤 H) (known-places : Triple 𝓤 (𝓣 .C #places) (Places 𝓤 H A mem run)) (known-load : Triple 𝓤 (𝓣 .C #load) (Load 𝓤 H A mem run))
+module _ {M : Type 1} (𝓤 : URA M) (H : Heap 𝓤) (A : Atoms 𝓤) (W : Given 𝓤 H A) (mem : Memory → SProp 𝓤) (run : Routine → Fun 𝓤)
+    (𝓣 : Tables 𝓤 H) (known-places : Triple 𝓤 (𝓣 .C #places) (Places 𝓤 H A mem run))
+    (known-load : Triple 𝓤 (𝓣 .C #load) (Load 𝓤 H A mem run))
     (known-count : Triple 𝓤 (𝓣 .C #within) (Count 𝓤 H A mem run)) (known-save : Triple 𝓤 (𝓣 .C #save) (Save 𝓤 H A mem run)) where
   at-least-walks : Walks 𝓤 H A at-least-fn.ended stayed (WpFn 𝓤 H (𝓣 .C) (𝓣 .Λ) code.function) (at-least-fn.clauses 𝓤 H A mem run)
   at-least-walks = walked 𝓤 H A at-least-fn.ended stayed (at-least-fn.clauses 𝓤 H A mem run) (WpFn 𝓤 H (𝓣 .C) (𝓣 .Λ) code.function)
       (λ κs. (slice-vals, (slice-vals, (slice-vals, (uint-vals w64, (uint-vals w64, (uint-vals w8, tt)))))))
-      (λ κs. (mut-slice-tells (named 0) (κs .0) N.the-row, (mut-slice-tells (named 1) (κs .1 .0) u16, (mut-slice-tells (named 2) (κs .1 .1 .0) u16, (uint-tells w64, (uint-tells w64, (uint-tells w8, tt)))))))
+      (λ κs. (
+        mut-slice-tells (named 0) (κs .0) N.the-row,
+        (
+          mut-slice-tells (named 1) (κs .1 .0) u16,
+          (mut-slice-tells (named 2) (κs .1 .1 .0) u16, (uint-tells w64, (uint-tells w64, (uint-tells w8, tt)))),
+        ),
+      ))
       (λ κs qs bounds a g are. via 𝓤 _ (fst∗ 𝓤 _ (emp 𝓤))
-      (walk 𝓤 H A W mem run (κs .0) (κs .1 .0) (κs .1 .1 .0) (qs .0) (qs .1 .0) (qs .1 .1 .0) (a .0 .ptr .0) (a .0 .ptr .1) (a .0 .name) (a .0 .now) (a .1 .0) (a .1 .1 .0) (a .1 .1 .1 .0) (a .1 .1 .1 .1 .0) (a .1 .1 .1 .1 .1 .0)
-      (are .0 .0 .1) (are .1 .0 .0 .1) (are .1 .1 .0 .0 .1) (are .1 .1 .1 .0 .1) (are .1 .1 .1 .1 .0 .1) (are .1 .1 .1 .1 .1 .0 .1) (𝓣 .C) (𝓣 .Λ) (fmOf 𝓤 H (W .laws) 𝓣) known-places known-load known-count known-save))
+      (walk 𝓤 H A W mem run (κs .0) (κs .1 .0) (κs .1 .1 .0) (qs .0) (qs .1 .0) (qs .1 .1 .0) (a .0 .ptr .0) (a .0 .ptr .1) (a .0 .name)
+      (a .0 .now) (a .1 .0) (a .1 .1 .0) (a .1 .1 .1 .0) (a .1 .1 .1 .1 .0) (a .1 .1 .1 .1 .1 .0)
+      (are .0 .0 .1) (are .1 .0 .0 .1) (are .1 .1 .0 .0 .1) (are .1 .1 .1 .0 .1) (are .1 .1 .1 .1 .0 .1) (are .1 .1 .1 .1 .1 .0 .1) (𝓣 .C)
+      (𝓣 .Λ) (fmOf 𝓤 H (W .laws) 𝓣) known-places known-load known-count known-save))
 
   at-least-meets : Meets 𝓤 H A at-least-fn.signature (WpFn 𝓤 H (𝓣 .C) (𝓣 .Λ) code.function) (at-least-fn.spec 𝓤 H A mem run)
   at-least-meets =
-      walk-meets 𝓤 H A at-least-fn.ended stayed W (goes-slice 𝓤 H A W 3 0 tt (plain (λ _. N.the-row)), (goes-gave-slice 𝓤 H A W 3 1 tt (plain (λ _. u16)), (goes-gave-slice 𝓤 H A W 3 2 tt (plain (λ _. u16)), (goes-none 𝓤 H A W 3 (λ _. usize) yes (λ κs x f. refl), (goes-none 𝓤 H A W 3 (λ _. u64) yes (λ κs x f. refl), (goes-none 𝓤 H A W 3 (λ _. u8) yes (λ κs x f. refl), tt))))))
+      walk-meets 𝓤 H A at-least-fn.ended stayed W (
+        goes-slice 𝓤 H A W 3 0 tt (plain (λ _. N.the-row)),
+        (
+          goes-gave-slice 𝓤 H A W 3 1 tt (plain (λ _. u16)),
+          (
+            goes-gave-slice 𝓤 H A W 3 2 tt (plain (λ _. u16)),
+            (
+              goes-none 𝓤 H A W 3 (λ _. usize) yes (λ κs x f. refl),
+              (goes-none 𝓤 H A W 3 (λ _. u64) yes (λ κs x f. refl), (goes-none 𝓤 H A W 3 (λ _. u8) yes (λ κs x f. refl), tt)),
+            ),
+          ),
+        ),
+      )
       (at-least-fn.clauses 𝓤 H A mem run) (WpFn 𝓤 H (𝓣 .C) (𝓣 .Λ) code.function) (WpFn-mono 𝓤 H (W .laws) 𝓣 code.function) at-least-walks
 
 pub cablesalak-at-least-nodes-spec : {M : Type 1} → stated.statement M
@@ -295,7 +463,9 @@ cablesalak-at-least-nodes-spec 𝓤 H 𝓜 𝓖 𝓡 =
     entered 𝓤 H (tripleOf 𝓤 H (𝓖 .A) at-least-fn.signature (at-least-fn.spec 𝓤 H (𝓖 .A) (𝓜 .mem) (𝓡 .run)))
     (tables 𝓤 H 𝓜 𝓡 code.env .C) (tables 𝓤 H 𝓜 𝓡 code.env .Λ) #nodes·at-least code.function (code.unfolded 𝓤 H 𝓜 𝓡)
     (at-least-meets 𝓤 H (𝓖 .A) (givenOf 𝓤 H 𝓜 𝓖) (𝓜 .mem) (𝓡 .run) (tablesOf 𝓤 H 𝓜 (tables 𝓤 H 𝓜 𝓡 code.env))
-    (cited 𝓤 H (Places 𝓤 H (𝓖 .A) (𝓜 .mem) (𝓡 .run)) 𝓜 𝓡 code.env #places places-def.routine code.calls-columns·places (places-thm.met 𝓤 H 𝓜 𝓖 𝓡))
+    (cited 𝓤 H (Places 𝓤 H (𝓖 .A) (𝓜 .mem) (𝓡 .run)) 𝓜 𝓡 code.env #places places-def.routine code.calls-columns·places
+    (places-thm.met 𝓤 H 𝓜 𝓖 𝓡))
     (cited 𝓤 H (Load 𝓤 H (𝓖 .A) (𝓜 .mem) (𝓡 .run)) 𝓜 𝓡 code.env #load load-def.routine code.calls-columns·load (load-thm.met 𝓤 H 𝓜 𝓖 𝓡))
-    (cited 𝓤 H (Count 𝓤 H (𝓖 .A) (𝓜 .mem) (𝓡 .run)) 𝓜 𝓡 code.env #within within-def.routine code.calls-nodes·within·at-least-within (within-thm.met 𝓤 H 𝓜 𝓖 𝓡))
+    (cited 𝓤 H (Count 𝓤 H (𝓖 .A) (𝓜 .mem) (𝓡 .run)) 𝓜 𝓡 code.env #within within-def.routine code.calls-nodes·within·at-least-within
+    (within-thm.met 𝓤 H 𝓜 𝓖 𝓡))
     (cited 𝓤 H (Save 𝓤 H (𝓖 .A) (𝓜 .mem) (𝓡 .run)) 𝓜 𝓡 code.env #save save-def.routine code.calls-columns·save (save-thm.met 𝓤 H 𝓜 𝓖 𝓡)))

@@ -7,10 +7,10 @@ use Rattle.program.proofs.read_all.Statement.{statement}
 use Rattle.program.proofs.read_all.Tie as tie
 
 abbrev Inv-loop : tie.InvT-loop
-Inv-loop fd buffer₀ at₀ buffer at = (at ≤ length buffer₀) × (length buffer ≡ length buffer₀)
+Inv-loop argument fd buffer₀ at₀ buffer at = (at ≤ length buffer₀) × (length buffer ≡ length buffer₀)
 
 abbrev μ-loop : tie.MeasureT-loop
-μ-loop fd buffer₀ at₀ buffer at = length buffer₀ - at
+μ-loop argument fd buffer₀ at₀ buffer at = length buffer₀ - at
 
 loop-holds : tie.Need-loop-holds Inv-loop μ-loop
 loop-holds c = search needs

@@ -1,84 +1,24 @@
--- The line on two files is the definition's: the files' refusals in their order, then the check's verdict.
--- Each way out is one case of the definition. Assumes nothing.
+-- The line on two files is the definition's: the files' refusal, else the check's verdict. Assumes nothing.
+use mathlib.Core.Path.{sym, ap, _∙_}
 use borrow.Author.Needs.{needs}
-use mathlib.Core.Path.{sym, _∙_}
-use borrow.Author.Tests.{not-true, not-false}
-use Rattle.report.proofs.Saying.{no-formula, long-formula, no-proof, long-proof, both}
+use Rattle.report.specs.declared.Line.{Line}
+use Rattle.report.proofs.Saying.{said-taken, said-untaken}
 use Rattle.report.proofs.line_on.Statement.{statement}
 use Rattle.report.proofs.line_on.Tie as tie
 
-refused-requires : tie.Need-refused-requires
-refused-requires c κs = search needs
+files-requires : tie.Need-files-requires
+files-requires c κs = search needs
 
 returns : tie.Need-returns
-returns c = c .refused .ensures ∙ sym (no-formula _ _ _ _ _ (not-true _ (c .before .if1 .taken)))
-
-refused-requires-2 : tie.Need-refused-requires-2
-refused-requires-2 c κs = search needs
-
-returns-2 : tie.Need-returns-2
-returns-2 c = c .refused2 .ensures ∙ sym (long-formula _ _ _ _ _ (not-false _ (c .before .before .if1 .left)) (c .before .if2 .taken))
-
-refused-requires-3 : tie.Need-refused-requires-3
-refused-requires-3 c κs = search needs
-
--- The ways back, written by ways.py: TO-from-FROM leads from the place FROM of the code to the place TO before it.
-module _ (c : tie.Else2) where
-  abbrev else1-from-else2 : tie.Else1
-  else1-from-else2 = c .before
-
-module _ (c : tie.After-refused3) where
-  abbrev else1-from-return-3 : tie.Else1
-  else1-from-return-3 = else1-from-else2 (c .before .before)
-
-module _ (c : tie.After-check) where
-  abbrev else2-from-return-5 : tie.Else2
-  else2-from-return-5 = c .before .before .before
-
-  abbrev else1-from-return-5 : tie.Else1
-  else1-from-return-5 = else1-from-else2 else2-from-return-5
-
-module _ (c : tie.After-refused4) where
-  abbrev else2-from-return-4 : tie.Else2
-  else2-from-return-4 = c .before .before .before
-
-  abbrev else1-from-return-4 : tie.Else1
-  else1-from-return-4 = else1-from-else2 else2-from-return-4
-
-returns-3 : tie.Need-returns-3
-returns-3 c =
-    c .refused3 .ensures
-    ∙ sym (no-proof _ _ _ _ _ (not-false _ (else1-from-return-3 c .if1 .left)) (c .before .before .if2 .left) (not-true _ (c .before .if3 .taken)))
-
-refused-requires-4 : tie.Need-refused-requires-4
-refused-requires-4 c κs = search needs
-
-returns-4 : tie.Need-returns-4
-returns-4 c =
-    c .refused4 .ensures
-    ∙ sym (long-proof _ _ _ _ _ (not-false _ (else1-from-return-4 c .if1 .left)) (else2-from-return-4 c .if2 .left)
-    (not-false _ (c .before .before .if3 .left)) (c .before .if4 .taken))
+returns c = c .before .before .files .ensures ∙ sym
+    (said-untaken _ _ _ _ _ (λ z. c .if1 .taken (ap (λ (l : Line). l .number) (c .before .before .files .ensures) ∙ z)))
 
 check-requires : tie.Need-check-requires
 check-requires c κs = search needs
 
-returns-5 : tie.Need-returns-5
-returns-5 c =
-    c .check .ensures
-    ∙ sym (both _ _ _ _ _ (not-false _ (else1-from-return-5 c .if1 .left)) (else2-from-return-5 c .if2 .left)
-    (not-false _ (c .before .before .if3 .left)) (c .before .if4 .left))
+returns-2 : tie.Need-returns-2
+returns-2 c = c .check .ensures ∙ sym (said-taken _ _ _ _ _
+    (ap (λ (l : Line). l .number) (sym (c .before .before .before .files .ensures)) ∙ c .before .if1 .left))
 
 pub line-on-spec : {M : Type 1} → statement M
-line-on-spec =
-    tie.close
-    (tie.spec
-    refused-requires
-    returns
-    refused-requires-2
-    returns-2
-    refused-requires-3
-    returns-3
-    refused-requires-4
-    returns-4
-    check-requires
-    returns-5)
+line-on-spec = tie.close (tie.spec files-requires returns check-requires returns-2)

@@ -1,5 +1,5 @@
--- `cablesalak_small`: the call's contract, and what number 0 means. The idea: `small-call-refuted` about the definition that the contract cites.
--- Assumes nothing.
+-- `cablesalak_small`: the call's contract, and what number 0 means. The idea: `small-call-refuted` about the definition that the contract
+-- cites. Assumes nothing.
 use mathlib.Core.Path.{sym, ap, _∙_}
 use borrow.Author.Needs.{needs}
 use Rattle.small_verdict.specs.Small.{SmallOutcome}
@@ -34,7 +34,8 @@ module _ (c : tie.After-slice-known6) where
 returns : tie.Need-returns
 returns c = (
   call-from-return c .call .ensures,
-  λ e. small-call-refuted (start-from-return c .args .formula .now) (start-from-return c .args .proof .now) (start-from-return c .args .members .now) (start-from-return c .args .struck .now)
+  λ e. small-call-refuted (start-from-return c .args .formula .now) (start-from-return c .args .proof .now)
+      (start-from-return c .args .members .now) (start-from-return c .args .struck .now)
       (start-from-return c .args .scratch .now) (sym (ap (λ (o : SmallOutcome). o .number) (call-from-return c .call .ensures)) ∙ e),
 )
 

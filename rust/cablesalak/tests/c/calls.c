@@ -318,7 +318,9 @@ int main(void)
     checks();
     texts();
     reports();
-    for (unsigned number = 0; cablesalak_meaning(number) != 0; number++)
-        printf("%u %s\n", number, cablesalak_meaning(number));
+    for (unsigned number = 0; number < 256; number++)
+        if (cablesalak_meaning(number) != 0)
+            printf("%u %s\n", number, cablesalak_meaning(number));
+    EXPECT(cablesalak_meaning(CABLESALAK_LAST_NUMBER) != 0 && cablesalak_meaning(CABLESALAK_LAST_NUMBER + 1) == 0);
     return 0;
 }

@@ -47,6 +47,40 @@ static void same_places(void)
     EXPECT(memcmp(scratch[0], scratch[1], sizeof scratch[0]) == 0);
 }
 
+/* Both checks in a mode; the number is this one. */
+static void check_in(uint8_t form, bool consequence, const char *formula, const char *proof, size_t length, unsigned number)
+{
+    dirty();
+    const uint8_t *text = (const uint8_t *)formula, *bytes = (const uint8_t *)proof;
+    cablesalak_checked a = cablesalak_check_in(vars, PLACES, lows, PLACES, highs, PLACES, heads[0], 2 * PLACES, links[0], PLACES, 9,
+                                               members[0], MEMBERS, struck[0], MEMBERS, scratch[0], SCRATCH, text,
+                                               strlen(formula), bytes, length, form, consequence);
+    cablesalak_checked b = cablesalak_check_nodes_in(nodes, PLACES, heads[1], 2 * PLACES, links[1], PLACES, 9, members[1], MEMBERS,
+                                                     struck[1], MEMBERS, scratch[1], SCRATCH, text, strlen(formula), bytes,
+                                                     length, form, consequence);
+    EXPECT(a.number == number && b.number == number);
+    EXPECT(a.in_proof == b.in_proof && a.place == b.place && a.lines == b.lines && a.rounds == b.rounds && a.count == b.count &&
+           a.peak == b.peak);
+    same_places();
+}
+
+/* Every form, in the profile and outside. */
+static void modes(const char *all)
+{
+    const char *one = "p cnf 2 1\n1 2 0\n";
+    for (int profile = 0; profile < 2; profile++) {
+        check_in(CABLESALAK_RECORDS, profile, all, "\x4E\x02\0\0\x01\0\x51\x02\0\x51\0\0\x45", 13, 0);
+        check_in(CABLESALAK_RECORDS, profile, "p cnf 14 0\n", "\x58\xFF\x3F\0\0\0\0\0\0\x01\x51\x02\0", 13, 34);
+        check_in(CABLESALAK_RECORDS, profile, one, "\x4E\x01\0\0\x01\0\x54\x01\x50\x02\0\x45", 12, profile ? 33 : 20);
+        check_in(CABLESALAK_DRAT_TEXT, profile, all, "2 0 d 2 1 0 0", 13, 0);
+        check_in(CABLESALAK_DRAT_TEXT, profile, one, "1 0", 3, profile ? 19 : 20);
+        check_in(CABLESALAK_DRAT_BINARY, profile, all, "\x61\x04\0\x64\x04\x02\0\x61\0", 9, 0);
+        check_in(CABLESALAK_DRAT_BINARY, profile, one, "\x61\x02\0", 3, profile ? 19 : 20);
+        check_in(CABLESALAK_DRAT_BINARY, profile, one, "\x61\x80\0", 3, 31);
+        check_in(255, profile, one, "\x61\x80\0", 3, 31);
+    }
+}
+
 /* Both checks with a table of so many places and so many marks; the number is this one. */
 static void check(size_t places, size_t marks, const char *formula, const char *proof, size_t length, unsigned number)
 {
@@ -138,5 +172,6 @@ int main(void)
     check(3, MEMBERS, all, case_a, 13, 8);
     check(1, MEMBERS, all, case_a, 13, 7);
     check(PLACES, MEMBERS - 1, all, case_a, 13, 7);
+    modes(all);
     return 0;
 }

@@ -1,8 +1,8 @@
 //! Every number that a check gives: document 01's examples through the wrapper, over dirty lists.
 
 use crate::lent::Lists;
-use crate::rows::{self, Row, RECORDS};
-use cablesalak::{check, report, NodeNo, Number, Text, Variables, Workspace};
+use crate::rows::{self, Row};
+use cablesalak::{check, report, Mode, NodeNo, Number, Text, Variables, Workspace};
 
 const A: &[u8] = b"p cnf 2 4\n1 2 0\n-1 2 0\n1 -2 0\n-1 -2 0\n";
 const A_PROOF: &[u8] = b"\x4E\x02\0\0\x01\0\x52\x02\0\x52\0\0\x45";
@@ -24,7 +24,7 @@ fn run_all(rows: &[Row]) {
 
 /// "1 to 6 and 8: in the formula; 0, 9 to 23, 28 and 29: in the proof."
 fn run(row: &Row, marks: &str, workspace: &mut Workspace) {
-    let verdict = rows::run(&RECORDS, row, marks, workspace);
+    let verdict = rows::run(Mode::RECORDS, row, marks, workspace);
     let formula = matches!(verdict.number.code(), 1..=6 | 8);
     assert_eq!(verdict.text, Some(if formula { Text::Formula } else { Text::Proof }), "{}", verdict.number);
     // The program's table has 4,096 places.

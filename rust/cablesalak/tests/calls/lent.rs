@@ -1,6 +1,9 @@
 //! Lists to lend that hold anything, and what they hold after a call.
 
-use cablesalak::{chain, check_lent, check_text_lent, ColumnsMut, Node, NodeNo, TableMut, Verdict, MEMBERS, SCRATCH};
+use cablesalak::{
+    chain, check_lent, check_lent_in, check_text_lent, ColumnsMut, ListsMut, Mode, Node, NodeNo, NodesMut, RowsMut,
+    TableMut, Verdict, MEMBERS, SCRATCH,
+};
 
 /// The lists of a check, the count beside them.
 #[derive(Clone, Debug, PartialEq, Eq)]
@@ -49,6 +52,26 @@ impl Lists {
         let Lists { vars, lows, highs, heads, links, count, members, struck, scratch } = self;
         let mut table = TableMut::new(ColumnsMut { vars, lows, highs, heads, links }, count).expect("proper size");
         check_lent(&mut table, members, struck, scratch, formula, proof)
+    }
+
+    pub fn check_in(&mut self, mode: Mode, formula: &[u8], proof: &[u8]) -> Verdict {
+        let Lists { vars, lows, highs, heads, links, count, members, struck, scratch } = self;
+        let mut table = TableMut::new(ColumnsMut { vars, lows, highs, heads, links }, count).expect("proper size");
+        check_lent_in(mode, &mut table, &mut ListsMut { members, struck, scratch }, formula, proof)
+    }
+
+    /// The same over a list of rows that holds what the columns hold, and back.
+    pub fn check_nodes(&mut self, mode: Mode, formula: &[u8], proof: &[u8]) -> Verdict {
+        let Lists { vars, lows, highs, heads, links, count, members, struck, scratch } = self;
+        let row = |place: usize| Node::new(vars[place], NodeNo(lows[place]), NodeNo(highs[place]));
+        let nodes = &mut (0..vars.len()).map(row).collect::<Vec<_>>();
+        let mut table = NodesMut::new(RowsMut { nodes, heads, links }, count).expect("proper size");
+        let verdict = table.check(mode, &mut ListsMut { members, struck, scratch }, formula, proof);
+        assert_eq!(table.evaluate(NodeNo::ONE, Default::default()), Ok(true));
+        for (place, node) in nodes.iter().enumerate() {
+            (vars[place], lows[place], highs[place]) = (node.variable, node.low.0, node.high.0);
+        }
+        verdict
     }
 
     pub fn check_text(&mut self, formula: &[u8], proof: &[u8]) -> Verdict {

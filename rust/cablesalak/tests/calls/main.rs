@@ -2,7 +2,10 @@
 
 mod at_least;
 mod checks;
+mod conversions;
 mod lent;
+mod modes;
+mod nodes;
 mod numbers;
 mod rows;
 mod singles;

@@ -1,25 +1,17 @@
-//! A row of a check's table, over dirty lists and over a workspace that other rows have used.
+//! A row of a check's table by every call that can be asked: over dirty lists, over a list of rows, over a workspace that other
+//! rows have used.
 
 use crate::lent::Lists;
-use cablesalak::{check, check_text, NodeNo, Text, Variables, Verdict, Workspace};
+use cablesalak::{check, check_text, Mode, NodeNo, Text, Variables, Verdict, Workspace};
 
 /// Places of the table, formula, proof; number, place, lines, rounds, count, peak; the clauses that are left as members.
 pub type Row<'a> = (usize, &'a [u8], &'a [u8], (u8, usize, usize, u64, usize, usize), usize);
 
-/// The calls of a form of proof.
-pub struct Form {
-    lent: fn(&mut Lists, &[u8], &[u8]) -> Verdict,
-    owned: fn(&mut Workspace, &[u8], &[u8]) -> Verdict,
-}
-
-pub const RECORDS: Form = Form { lent: Lists::check, owned: check };
-pub const TEXT: Form = Form { lent: Lists::check_text, owned: check_text };
-
-/// What both calls say of the row, and that the lists hold what goes with it. The marks are a digit for each member.
-pub fn run(form: &Form, row: &Row, marks: &str, workspace: &mut Workspace) -> Verdict {
+/// What the calls say of the row, and that the lists hold what goes with it. The marks are a digit for each member.
+pub fn run(mode: Mode, row: &Row, marks: &str, workspace: &mut Workspace) -> Verdict {
     let (size, formula, proof, said, clauses) = *row;
     let mut lists = Lists::of_size(size);
-    let verdict = (form.lent)(&mut lists, formula, proof);
+    let verdict = lists.check_in(mode, formula, proof);
     let number = verdict.number;
     let Verdict { place, lines, rounds, count, peak, .. } = verdict;
     assert_eq!((number.code(), place, lines, rounds, count, peak), said, "{number}");
@@ -34,11 +26,42 @@ pub fn run(form: &Form, row: &Row, marks: &str, workspace: &mut Workspace) -> Ve
     // What is left is a table in good order, and every member is a node of it.
     assert_eq!(lists.table().evaluate(NodeNo::ONE, Variables::NONE), Ok(true));
     assert!(lists.members.iter().all(|member| usize::from(*member) < lists.count), "{number}");
+    by_other_calls(mode, row, &verdict, &lists);
     if size == workspace.table().size() {
-        assert_eq!((form.owned)(workspace, formula, proof), verdict);
-        same(&lists, members, workspace);
+        in_workspace(mode, row, &verdict, &lists, workspace);
     }
     verdict
+}
+
+/// The calls without a mode, and the one over a list of rows: the same verdict and the same in every place.
+fn by_other_calls(mode: Mode, row: &Row, verdict: &Verdict, lists: &Lists) {
+    let (size, formula, proof, ..) = *row;
+    let mut others = vec![Lists::of_size(size)];
+    let said = others[0].check_nodes(mode, formula, proof);
+    assert_eq!(said, *verdict, "over a list of rows");
+    for (form, call) in [(Mode::RECORDS, Lists::check as fn(&mut _, &_, &_) -> _), (Mode::TEXT, Lists::check_text)] {
+        if mode == form {
+            let mut other = Lists::of_size(size);
+            assert_eq!(call(&mut other, formula, proof), *verdict);
+            others.push(other);
+        }
+    }
+    assert!(others.iter().all(|other| other == lists));
+}
+
+fn in_workspace(mode: Mode, row: &Row, verdict: &Verdict, lists: &Lists, workspace: &mut Workspace) {
+    let (_, formula, proof, said, clauses) = *row;
+    let report = workspace.report(mode, Some(formula), Some(proof));
+    assert_eq!((report.line(), report.status()), (format!("{verdict}\n").as_str(), u8::from(said.0 != 0)));
+    assert_eq!((workspace.members().len(), workspace.table().count()), (0, 2));
+    assert_eq!(workspace.table().evaluate(NodeNo::ONE, Variables::NONE), Ok(true));
+    for (form, call) in [(Mode::RECORDS, check as fn(&mut _, &_, &_) -> _), (Mode::TEXT, check_text)] {
+        if mode == form {
+            assert_eq!(call(workspace, formula, proof), *verdict);
+        }
+    }
+    assert_eq!(workspace.check(mode, formula, proof), *verdict);
+    same(lists, clauses + verdict.lines, workspace);
 }
 
 /// The workspace tells of its members what the lists hold.

@@ -1,6 +1,8 @@
-//! Every call fits a thread of 1.25 MiB, the report one of 1.375 MiB, and threads may call at the same time.
+//! Every call fits a thread of 1.25 MiB, the report with a table of its own one of 1.375 MiB, those over a list of rows one of
+//! 320 KiB more; and threads may call at the same time.
 
-use cablesalak::{check, check_text, report, Node, NodeNo, Table, Variables, Workspace};
+use crate::lent::Lists;
+use cablesalak::{check, check_text, report, to_binary, to_text, Mode, Node, NodeNo, Table, Variables, Workspace};
 use std::thread;
 
 const FORMULA: &[u8] = b"p cnf 2 4\n1 2 0\n-1 2 0\n1 -2 0\n-1 -2 0\n";
@@ -38,6 +40,26 @@ fn checks() {
     assert_eq!(check_text(&mut workspace, FORMULA, &clauses).to_string(), "20 4000 1000 0 10");
 }
 
+/// A path line of 4,096 paths, and one of 2^63.
+const PATHS: &[u8] = b"\x58\xFF\x1F\0\0\0\0\0\0\x01\x51\x02\0\x58\xFF\xFF\xFF\xFF\xFF\xFF\xFF\xFF\x01\x51\x02\0";
+
+/// The calls that take a mode, with path lines and a long binary proof, and the conversions of it.
+fn modes() {
+    let mut workspace = Workspace::new(4_096).unwrap();
+    let mode = Mode::RECORDS.in_consequence_profile();
+    assert_eq!(workspace.check(mode, b"p cnf 64 1\n0\n", PATHS).to_string(), "34 23 1 0 154");
+    let binary = to_binary(&b"2 0 ".repeat(1_000)).unwrap();
+    assert_eq!(to_text(&binary), Ok(b"2 0\n".repeat(1_000)));
+    assert_eq!(workspace.check(Mode::BINARY, FORMULA, &binary).to_string(), "20 3000 1000 0 10");
+    assert_eq!(workspace.report(Mode::BINARY, Some(FORMULA), Some(&binary)).line(), "20 3000 1000 0 10\n");
+}
+
+/// The columns are copied.
+fn rows() {
+    let mut lists = Lists::of_size(65_536);
+    assert_eq!(lists.check_nodes(Mode::RECORDS, FORMULA, PROOF).to_string(), "0 12 2 1 10");
+}
+
 /// The report has a table of its own on the stack.
 fn reports() {
     assert_eq!(report(Some(FORMULA), Some(&long_proof())).status(), 0);
@@ -58,7 +80,14 @@ fn parity() -> Table {
 #[test]
 fn threads_of_that_size() {
     let run = |calls: fn(), size| thread::Builder::new().stack_size(size).spawn(calls).unwrap();
-    let threads = [run(single_calls, 5 << 18), run(checks, 5 << 18), run(checks, 5 << 18), run(reports, 11 << 17)];
+    let threads = [
+        run(single_calls, 5 << 18),
+        run(checks, 5 << 18),
+        run(checks, 5 << 18),
+        run(modes, 5 << 18),
+        run(rows, (5 << 18) + (320 << 10)),
+        run(reports, 11 << 17),
+    ];
     assert!(threads.map(|thread| thread.join()).iter().all(Result::is_ok));
 }
 

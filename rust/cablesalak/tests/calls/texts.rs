@@ -1,8 +1,8 @@
 //! DRAT text proofs: the rows of document 02's request, proofs of solvers, and damaged copies of them.
 
 use crate::lent::Lists;
-use crate::rows::{self, Row, TEXT};
-use cablesalak::{check_text, Number, Text, Verdict, Workspace, MEMBERS, SCRATCH};
+use crate::rows::{self, Row};
+use cablesalak::{check_text, Mode, Number, Text, Verdict, Workspace, MEMBERS, SCRATCH};
 
 const A: &[u8] = b"p cnf 2 4\n1 2 0\n-1 2 0\n1 -2 0\n-1 -2 0\n";
 const D: &[u8] = b"p cnf 2 1\n1 2 0\n";
@@ -13,7 +13,7 @@ const CHAIN: &[u8] = b"p cnf 3 2\n1 2 0\n-1 3 0\n";
 fn run_all(text: Text, rows: &[(Row, &str)]) {
     let mut workspace = Workspace::new(4_096).unwrap();
     for (row, marks) in rows {
-        let verdict = rows::run(&TEXT, row, marks, &mut workspace);
+        let verdict = rows::run(Mode::TEXT, row, marks, &mut workspace);
         assert_eq!(verdict.text, Some(text), "{verdict}");
     }
 }
@@ -139,7 +139,7 @@ fn wrong_sizes() {
 }
 
 /// A formula, a proof of it from outside, and the line for the two: those of examples/drat.
-type Outside = (&'static [u8], &'static [u8], &'static str);
+pub type Outside = (&'static [u8], &'static [u8], &'static str);
 
 macro_rules! outside {
     ($formula:literal, $proof:literal, $line:literal) => {
@@ -151,7 +151,7 @@ macro_rules! outside {
     };
 }
 
-const OUTSIDE: [Outside; 7] = [
+pub const OUTSIDE: [Outside; 7] = [
     outside!("pigeons.cnf", "pigeons-cadical.drat", "0 552 48 461 149"),
     outside!("pigeons.cnf", "pigeons-cryptominisat.drat", "0 1076 58 406 208"),
     outside!("parities.cnf", "parities-cadical.drat", "0 1048 52 256 231"),

@@ -36,4 +36,5 @@ returns-2 : tie.Need-returns-2 Inv-loop μ-loop
 returns-2 c = search needs
 
 pub print-marks-spec : {M : Type 1} → statement M
-print-marks-spec = tie.close (tie.spec Inv-loop μ-loop loop-holds returns shared-slice-read-byte byte-requires add-i loop-less loop-again returns-2)
+print-marks-spec = tie.close (tie.spec Inv-loop μ-loop loop-holds returns shared-slice-read-byte byte-requires add-i loop-less loop-again
+    returns-2)

@@ -224,7 +224,8 @@ is-entry-requires c κs = start-from-else3 c .pre .2
 returns-4 : tie.Need-returns-4
 returns-4 c = λ ds ks ms ss. let s = start-from-then4 c in (
   node-13-low _ _ _ (few (else3-from-then4 c) ds ks ms ss) (variable (else3-from-then4 c) ds ks ms ss)
-      (entry-told (lent s ds ks ms ss) (s .args .st) (room s ds ks ms ss) _ _ _ (c .before .is-entry .ensures) (not-true _ (c .if4 .taken))),
+      (entry-told (lent s ds ks ms ss) (s .args .st) (room s ds ks ms ss) _ _ _ (c .before .is-entry .ensures)
+      (not-true _ (c .if4 .taken))),
   λ e. omega (arith, e),
 )
 
@@ -234,7 +235,8 @@ is-entry-requires-2 c κs = start-from-else4 c .pre .2
 returns-5 : tie.Need-returns-5
 returns-5 c = λ ds ks ms ss. let s = start-from-then5 c in (
   node-13-high _ _ _ (few (else3-from-then5 c) ds ks ms ss) (variable (else3-from-then5 c) ds ks ms ss)
-      (entry-told (lent s ds ks ms ss) (s .args .st) (room s ds ks ms ss) _ _ _ (c .before .is-entry2 .ensures) (not-true _ (c .if5 .taken))),
+      (entry-told (lent s ds ks ms ss) (s .args .st) (room s ds ks ms ss) _ _ _ (c .before .is-entry2 .ensures)
+      (not-true _ (c .if5 .taken))),
   λ e. omega (arith, e),
 )
 

@@ -1,7 +1,8 @@
 -- `at_least_within` says 7, or lends the arrays' first n places to the call. Assumes nothing.
 use native.Mathlib.Omega.{arith}
 use borrow.Author.Needs.{needs}
-use Rattle.nodes.proofs.First.{first-length, at-least-past, at-least-first}
+use Rattle.columns.proofs.First.{first-length}
+use Rattle.nodes.proofs.First.{at-least-past, at-least-first}
 use Rattle.nodes.proofs.within.at_least_within.Statement.{statement}
 use Rattle.nodes.proofs.within.at_least_within.Tie as tie
 
@@ -40,7 +41,8 @@ module _ (c : tie.After-slice-known10) where
   start-from-return-2 = start-from-else1 else1-from-return-2
 
 returns : tie.Need-returns
-returns c = at-least-past _ _ _ _ _ _ _ _ _ (c .if1 .taken) (start-from-then1 c .pre .0) (start-from-then1 c .pre .1) (start-from-then1 c .pre .2)
+returns c = at-least-past _ _ _ _ _ _ _ _ _ (c .if1 .taken) (start-from-then1 c .pre .0) (start-from-then1 c .pre .1)
+    (start-from-then1 c .pre .2)
 
 slice-relend-prefix-at-least : tie.Need-slice-relend-prefix-at-least
 slice-relend-prefix-at-least c = search needs
@@ -52,13 +54,15 @@ slice-relend-prefix-at-least-2 : tie.Need-slice-relend-prefix-at-least-2
 slice-relend-prefix-at-least-2 c = search needs
 
 slice-aggregate-at-least-2 : tie.Need-slice-aggregate-at-least-2
-slice-aggregate-at-least-2 c = first-length _ _ (omega (arith, c .before .before .if1 .left)) (start-from-slice-aggregate-at-least-2 c .pre .1)
+slice-aggregate-at-least-2 c = first-length _ _ (omega (arith, c .before .before .if1 .left))
+    (start-from-slice-aggregate-at-least-2 c .pre .1)
 
 slice-relend-prefix-at-least-3 : tie.Need-slice-relend-prefix-at-least-3
 slice-relend-prefix-at-least-3 c = search needs
 
 slice-aggregate-at-least-3 : tie.Need-slice-aggregate-at-least-3
-slice-aggregate-at-least-3 c = first-length _ _ (omega (arith, else1-from-slice-aggregate-at-least-3 c .if1 .left)) (start-from-slice-aggregate-at-least-3 c .pre .2)
+slice-aggregate-at-least-3 c = first-length _ _ (omega (arith, else1-from-slice-aggregate-at-least-3 c .if1 .left))
+    (start-from-slice-aggregate-at-least-3 c .pre .2)
 
 at-least-requires : tie.Need-at-least-requires
 at-least-requires c κs = search needs
@@ -82,7 +86,9 @@ returns-2 : tie.Need-returns-2
 returns-2 c =
     let start = start-from-return-2 c in
     let after-call = at-least-from-return-2 c in
-    at-least-first _ _ _ _ _ _ _ _ _ _ _ _ _ _ _ (omega (arith, else1-from-return-2 c .if1 .left)) (start .pre) (after-call .at-least .kept .0) (after-call .at-least .kept .1 .0) (after-call .at-least .kept .1 .1 .0) (after-call .at-least .ensures)
+    at-least-first _ _ _ _ _ _ _ _ _ _ _ _ _ _ _ (omega (arith, else1-from-return-2 c .if1 .left)) (start .pre)
+    (after-call .at-least .kept .0) (after-call .at-least .kept .1 .0) (after-call .at-least .kept .1 .1 .0)
+    (after-call .at-least .ensures)
 
 pub at-least-within-spec : {M : Type 1} → statement M
 at-least-within-spec =

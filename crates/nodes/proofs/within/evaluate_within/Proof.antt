@@ -1,7 +1,8 @@
 -- `evaluate_within` says 7, or lends the arrays' first n places to the evaluation. Assumes nothing.
 use native.Mathlib.Omega.{arith}
 use borrow.Author.Needs.{needs}
-use Rattle.nodes.proofs.First.{first-length, evaluation-past, evaluation-first}
+use Rattle.columns.proofs.First.{first-length}
+use Rattle.nodes.proofs.First.{evaluation-past, evaluation-first}
 use Rattle.nodes.proofs.within.evaluate_within.Statement.{statement}
 use Rattle.nodes.proofs.within.evaluate_within.Tie as tie
 
@@ -36,7 +37,8 @@ slice-aggregate-evaluate : tie.Need-slice-aggregate-evaluate
 slice-aggregate-evaluate c = first-length _ _ (omega (arith, c .before .if1 .left)) (start-from-slice-aggregate-evaluate c .pre .0)
 
 slice-aggregate-evaluate-2 : tie.Need-slice-aggregate-evaluate-2
-slice-aggregate-evaluate-2 c = first-length _ _ (omega (arith, c .before .before .if1 .left)) (start-from-slice-aggregate-evaluate-2 c .pre .1)
+slice-aggregate-evaluate-2 c = first-length _ _ (omega (arith, c .before .before .if1 .left))
+    (start-from-slice-aggregate-evaluate-2 c .pre .1)
 
 slice-aggregate-evaluate-3 : tie.Need-slice-aggregate-evaluate-3
 slice-aggregate-evaluate-3 c = first-length _ _ (omega (arith, else1-from-evaluate-call c .if1 .left)) (start-from-evaluate-call c .pre .2)

@@ -1,7 +1,8 @@
 -- `operation_within` says 7, or lends the arrays' first n places to the operation. Assumes nothing.
 use native.Mathlib.Omega.{arith}
 use borrow.Author.Needs.{needs}
-use Rattle.nodes.proofs.First.{first-length, operation-past, operation-first}
+use Rattle.columns.proofs.First.{first-length}
+use Rattle.nodes.proofs.First.{operation-past, operation-first}
 use Rattle.nodes.proofs.within.operation_within.Statement.{statement}
 use Rattle.nodes.proofs.within.operation_within.Tie as tie
 
@@ -53,7 +54,8 @@ module _ (c : tie.After-slice-known10) where
   start-from-return-2 = start-from-else1 else1-from-return-2
 
 returns : tie.Need-returns
-returns c = operation-past _ _ _ _ _ _ _ _ _ _ (c .if1 .taken) (start-from-then1 c .pre .0) (start-from-then1 c .pre .1) (start-from-then1 c .pre .2)
+returns c = operation-past _ _ _ _ _ _ _ _ _ _ (c .if1 .taken) (start-from-then1 c .pre .0) (start-from-then1 c .pre .1)
+    (start-from-then1 c .pre .2)
 
 second-requires : tie.Need-second-requires
 second-requires c κs = search needs
@@ -68,13 +70,15 @@ slice-relend-prefix-call-2 : tie.Need-slice-relend-prefix-call-2
 slice-relend-prefix-call-2 c = search needs
 
 slice-aggregate-call-2 : tie.Need-slice-aggregate-call-2
-slice-aggregate-call-2 c = first-length _ _ (omega (arith, else1-from-slice-aggregate-call-2 c .if1 .left)) (start-from-slice-aggregate-call-2 c .pre .1)
+slice-aggregate-call-2 c = first-length _ _ (omega (arith, else1-from-slice-aggregate-call-2 c .if1 .left))
+    (start-from-slice-aggregate-call-2 c .pre .1)
 
 slice-relend-prefix-call-3 : tie.Need-slice-relend-prefix-call-3
 slice-relend-prefix-call-3 c = search needs
 
 slice-aggregate-call-3 : tie.Need-slice-aggregate-call-3
-slice-aggregate-call-3 c = first-length _ _ (omega (arith, else1-from-slice-aggregate-call-3 c .if1 .left)) (start-from-slice-aggregate-call-3 c .pre .2)
+slice-aggregate-call-3 c = first-length _ _ (omega (arith, else1-from-slice-aggregate-call-3 c .if1 .left))
+    (start-from-slice-aggregate-call-3 c .pre .2)
 
 call-requires : tie.Need-call-requires
 call-requires c κs = search needs
@@ -98,7 +102,9 @@ returns-2 : tie.Need-returns-2
 returns-2 c =
     let start = start-from-return-2 c in
     let after-call = call-from-return-2 c in
-    operation-first _ _ _ _ _ _ _ _ _ _ _ _ _ _ _ _ _ (omega (arith, else1-from-return-2 c .if1 .left)) (start .pre) (after-call .call .kept .0) (after-call .call .kept .1 .0) (after-call .call .kept .1 .1 .0) (second-from-return-2 c .second .ensures .0) (after-call .call .ensures)
+    operation-first _ _ _ _ _ _ _ _ _ _ _ _ _ _ _ _ _ (omega (arith, else1-from-return-2 c .if1 .left)) (start .pre)
+    (after-call .call .kept .0) (after-call .call .kept .1 .0) (after-call .call .kept .1 .1 .0)
+    (second-from-return-2 c .second .ensures .0) (after-call .call .ensures)
 
 pub operation-within-spec : {M : Type 1} → statement M
 operation-within-spec =

@@ -86,8 +86,10 @@ put-number-returns t c =
     put-small (then1-from-return c .if1 .taken) (c .before .before .put-byte .ensures)
 
 put-number-put-number-requires : (t : ℕ) → put-number-lts.Need-put-number-requires (callees t) (put-number-at t) put-number.Post
-put-number-put-number-requires t c κs =
-    (omega (arith, start-from-put-number-call c .pre .0, c .before .if1 .left), omega (arith, length-more _ (c .before .if1 .left), start-from-put-number-call c .pre .1))
+put-number-put-number-requires t c κs = (
+  omega (arith, start-from-put-number-call c .pre .0, c .before .if1 .left),
+  omega (arith, length-more _ (c .before .if1 .left), start-from-put-number-call c .pre .1),
+)
 
 put-number-cast-put-byte-2 : (t : ℕ) → put-number-lts.Need-cast-put-byte-2 (callees t) (put-number-at t) put-number.Post
 put-number-cast-put-byte-2 t c = search needs
@@ -97,7 +99,13 @@ put-number-add-put-byte-2 t c = search needs
 
 put-number-put-byte-requires-2 : (t : ℕ) → put-number-lts.Need-put-byte-requires-2 (callees t) (put-number-at t) put-number.Post
 put-number-put-byte-requires-2 t c κs =
-    omega (arith, put-number-from-put-byte-call-2 c .put-number .ensures .place, put-number-from-put-byte-call-2 c .put-number .kept .1 .0, length-more _ (else1-from-put-byte-call-2 c .if1 .left), start-from-put-byte-call-2 c .pre .1)
+    omega (
+      arith,
+      put-number-from-put-byte-call-2 c .put-number .ensures .place,
+      put-number-from-put-byte-call-2 c .put-number .kept .1 .0,
+      length-more _ (else1-from-put-byte-call-2 c .if1 .left),
+      start-from-put-byte-call-2 c .pre .1,
+    )
 
 put-number-same-length-2 : (t : ℕ) → put-number-lts.Need-same-length-2 (callees t) (put-number-at t) put-number.Post
 put-number-same-length-2 t c = search needs

@@ -86,7 +86,8 @@ returns c =
       start-from-return c .pre,
     ) in
     let all =
-    put-whole _ (first .put-field .ensures .0) (second .put-field2 .ensures .0) (third .put-field3 .ensures .0) (fourth .put-field4 .ensures .0) (last .put-field5 .ensures .0) in
+    put-whole _ (first .put-field .ensures .0) (second .put-field2 .ensures .0) (third .put-field3 .ensures .0)
+    (fourth .put-field4 .ensures .0) (last .put-field5 .ensures .0) in
     (all .held, (all .rest, (within, sym (length-take-le _ _ within))))
 
 pub put-fields-spec : {M : Type 1} → statement M

@@ -4,7 +4,6 @@ use borrow.Author.Tests.{le-leb, lt-leb, eq-eqb, ne-eqb}
 use borrow.Author.Needs.{needs}
 use Rattle.small.proofs.line.quiet_test.Statement.{statement}
 use Rattle.small.proofs.line.quiet_test.Tie as tie
-use Rattle.small.proofs.line.quiet_test.Lts as lts
 
 waits-requires : tie.Need-waits-requires
 waits-requires c κs = search needs
@@ -16,10 +15,20 @@ returns-2 : tie.Need-returns-2
 returns-2 c = rw (sym (c .before .before .waits .ensures) ∙ c .before .if1 .left, le-leb _ _ (c .if2 .taken))
 
 returns-3 : tie.Need-returns-3
-returns-3 c = rw (sym (c .before .before .before .waits .ensures) ∙ c .before .before .if1 .left, lt-leb _ _ (c .before .if2 .left), eq-eqb _ _ (c .if3 .taken))
+returns-3 c = rw (
+  sym (c .before .before .before .waits .ensures) ∙ c .before .before .if1 .left,
+  lt-leb _ _ (c .before .if2 .left),
+  eq-eqb
+      _ _ (c .if3 .taken),
+)
 
 returns-4 : tie.Need-returns-4
-returns-4 c = rw (sym (c .before .before .before .waits .ensures) ∙ c .before .before .if1 .left, lt-leb _ _ (c .before .if2 .left), ne-eqb _ _ (c .if3 .left))
+returns-4 c = rw (
+  sym (c .before .before .before .waits .ensures) ∙ c .before .before .if1 .left,
+  lt-leb _ _ (c .before .if2 .left),
+  ne-eqb
+      _ _ (c .if3 .left),
+)
 
 pub quiet-test-spec : {M : Type 1} → statement M
 quiet-test-spec =

@@ -5,7 +5,6 @@ use Rattle.small.specs.Lent.{rootTest}
 use borrow.Author.Needs.{needs}
 use Rattle.small.proofs.line.root_test.Statement.{statement}
 use Rattle.small.proofs.line.root_test.Tie as tie
-use Rattle.small.proofs.line.root_test.Lts as lts
 
 enum-told : tie.Need-enum-told
 enum-told c = search needs
@@ -48,13 +47,19 @@ module _ (c : tie.After-witness-test) where
   start-from-return-2 = enum-told2-from-return-2 .before .before
 
 returns : tie.Need-returns
-returns c = c .quiet-test .ensures ∙ ap (λ (k : Rule). rootTest k (start-from-return c .args .witness .positive) (start-from-return c .args .witness .negative) (start-from-return c .args .lines) (start-from-return c .args .g)) (sym (enum-told-from-return c .enum-told .given .1))
+returns c = c .quiet-test .ensures ∙ ap (λ (k : Rule). rootTest k (start-from-return c .args .witness .positive)
+    (start-from-return c .args .witness .negative) (start-from-return c .args .lines) (start-from-return c .args .g))
+    (sym (enum-told-from-return c .enum-told .given .1))
 
 returns-2 : tie.Need-returns-2
-returns-2 c = c .witness-test .ensures ∙ ap (λ (k : Rule). rootTest k (start-from-return-2 c .args .witness .positive) (start-from-return-2 c .args .witness .negative) (start-from-return-2 c .args .lines) (start-from-return-2 c .args .g)) (sym (enum-told2-from-return-2 c .enum-told2 .given .1))
+returns-2 c = c .witness-test .ensures ∙ ap (λ (k : Rule). rootTest k (start-from-return-2 c .args .witness .positive)
+    (start-from-return-2 c .args .witness .negative) (start-from-return-2 c .args .lines) (start-from-return-2 c .args .g))
+    (sym (enum-told2-from-return-2 c .enum-told2 .given .1))
 
 returns-3 : tie.Need-returns-3
-returns-3 c = c .quiet-test2 .ensures ∙ ap (λ (k : Rule). rootTest k (start-from-return-3 c .args .witness .positive) (start-from-return-3 c .args .witness .negative) (start-from-return-3 c .args .lines) (start-from-return-3 c .args .g)) (sym (enum-told3-from-return-3 c .enum-told3 .given .1))
+returns-3 c = c .quiet-test2 .ensures ∙ ap (λ (k : Rule). rootTest k (start-from-return-3 c .args .witness .positive)
+    (start-from-return-3 c .args .witness .negative) (start-from-return-3 c .args .lines) (start-from-return-3 c .args .g))
+    (sym (enum-told3-from-return-3 c .enum-told3 .given .1))
 
 pub root-test-spec : {M : Type 1} → statement M
 root-test-spec =

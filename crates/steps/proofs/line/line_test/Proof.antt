@@ -363,7 +363,8 @@ is-entry-requires c κs = start-from-is-entry-call c .pre .2
 returns : tie.Need-returns
 returns c = λ ds ks ms ss. let s = start-from-then1 c in (
   line-13 64 (state s ds ks ms ss) (s .args .root .0) (s .args .rule)
-      (entry-told (lent s ds ks ms ss) (s .args .st) (room s ds ks ms ss) _ _ _ (c .before .is-entry .ensures) (not-true _ (c .if1 .taken))),
+      (entry-told (lent s ds ks ms ss) (s .args .st) (room s ds ks ms ss) _ _ _ (c .before .is-entry .ensures)
+      (not-true _ (c .if1 .taken))),
   λ e. omega (arith, e),
 )
 

@@ -1,0 +1,14 @@
+pub mod Orders
+pub mod Counted
+pub mod Nodes
+pub mod Passing
+pub mod RunPasses
+pub mod InOrder
+pub mod Refusals
+pub mod EndPasses
+pub mod FormulaPeak
+pub mod Widths
+pub mod Rounds
+pub mod Alike
+pub mod EnoughRoom
+pub mod EnoughPlaces

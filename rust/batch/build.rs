@@ -1,0 +1,34 @@
+//! What the results name the checker by: the archive's SHA-256, and the commit of the tree.
+
+#[path = "src/sha256.rs"]
+#[allow(dead_code)]
+mod sha256;
+
+use std::process::Command;
+use std::{env, fs};
+
+const FOLDER: &str = "CABLESALAK_ARCHIVE_FOLDER";
+
+/// What git says; nothing where there is no git or no repository.
+fn git(words: &[&str]) -> Option<String> {
+    let said = Command::new("git").args(words).output().ok()?;
+    let text = String::from_utf8(said.stdout).ok()?;
+    said.status.success().then(|| text.trim().to_string())
+}
+
+fn main() {
+    let beside = || format!("{}/../../target/staticlib", env::var("CARGO_MANIFEST_DIR").unwrap());
+    let archive = format!("{}/libexport.a", env::var(FOLDER).unwrap_or_else(|_| beside()));
+    let bytes = fs::read(&archive).unwrap_or_else(|error| {
+        panic!("{archive}: {error}: write it with `rt staticlib export`, or name its folder in {FOLDER}")
+    });
+    // A `+` after the commit means that files differ from it. It is asked for when the commit, the archive or a source linked here changes.
+    let commit = git(&["describe", "--always", "--dirty=+"]);
+    let head = git(&["rev-parse", "--path-format=absolute", "--git-path", "logs/HEAD"]);
+    for path in [&archive, "src", "../cablesalak/src", "../proof/src"].into_iter().chain(head.as_deref()) {
+        println!("cargo:rerun-if-changed={path}");
+    }
+    println!("cargo:rerun-if-env-changed={FOLDER}");
+    println!("cargo:rustc-env=ARCHIVE={}", sha256::hex(&sha256::of(&bytes)));
+    println!("cargo:rustc-env=COMMIT={}", commit.as_deref().unwrap_or("unknown"));
+}

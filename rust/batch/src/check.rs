@@ -1,0 +1,128 @@
+//! The check of one pair. Every call of the proved library is here.
+
+use crate::files::{Refusal, Room, Source, LONGEST};
+use crate::form::Form;
+use crate::pairs::Pair;
+use crate::sha256::hex;
+use cablesalak::{Mode, Number, Text, Workspace};
+use std::time::Instant;
+
+pub use cablesalak::{PLACES, VERSION};
+
+/// What a verdict depends on besides the two files and the proof's form.
+#[derive(Clone, Copy, Debug, PartialEq, Eq)]
+pub struct Settings {
+    /// The places of the table.
+    pub places: usize,
+    /// Whether only lines pass that follow from the formula (02, 11/14).
+    pub consequence: bool,
+}
+
+impl Default for Settings {
+    /// Those of the programs.
+    fn default() -> Settings {
+        Settings { places: 4_096, consequence: false }
+    }
+}
+
+/// The file that a place is in.
+#[derive(Clone, Copy, Debug, PartialEq, Eq)]
+pub enum Place {
+    Nowhere,
+    Formula,
+    Proof,
+}
+
+/// The answer on a pair: the program's line, the file that its place is in, and the two files.
+#[derive(Clone, Copy, Debug, PartialEq, Eq)]
+pub struct Answer {
+    pub number: u8,
+    pub file: Place,
+    pub place: u64,
+    pub lines: u64,
+    pub rounds: u64,
+    pub peak: u64,
+    /// How long the check took; 0 where none was made.
+    pub nanoseconds: u64,
+    pub formula: Source,
+    pub proof: Source,
+    /// The two files are those of an earlier verdict, so that they were not checked again.
+    pub known: bool,
+}
+
+impl Answer {
+    /// Before a check.
+    fn of(formula: Source, proof: Source) -> Answer {
+        let (number, file) = (0, Place::Nowhere);
+        let (place, lines, rounds, peak, nanoseconds) = (0, 0, 0, 0, 0);
+        Answer { number, file, place, lines, rounds, peak, nanoseconds, formula, proof, known: false }
+    }
+
+    /// The two digests in hex; nothing where a file was not read.
+    fn digests(&self) -> Option<String> {
+        Some(hex(&self.formula.digest?) + &hex(&self.proof.digest?))
+    }
+}
+
+/// A number's meaning in a few words.
+pub fn meaning(number: u8) -> Option<String> {
+    Number::try_from(number).ok().map(|number| number.to_string())
+}
+
+/// What a worker keeps from pair to pair: only room. A check empties it first.
+pub struct Checker {
+    settings: Settings,
+    workspace: Workspace,
+    formula: Room,
+    proof: Room,
+}
+
+impl Checker {
+    /// None where the table cannot have so many places.
+    pub fn new(settings: Settings) -> Option<Checker> {
+        let workspace = Workspace::new(settings.places).ok()?;
+        Some(Checker { settings, workspace, formula: Room::default(), proof: Room::default() })
+    }
+
+    /// The answer on the pair, with the program's line. `known` is the two digests, in hex, of a verdict that is known; or nothing.
+    pub fn check(&mut self, pair: &Pair, known: &str) -> Answer {
+        let sources = [self.formula.read(pair.formula.as_deref()), self.proof.read(pair.proof.as_deref())];
+        let [formula, proof] = sources.map(Result::unwrap_or_default);
+        let mut answer = Answer::of(formula, proof);
+        // The formula's refusal comes first, as in the program.
+        if let Some(refusal) = sources.iter().find_map(|source| source.err()) {
+            (answer.number, answer.place) = match refusal {
+                Refusal::TooLong => (Number::FileTooLong.code(), LONGEST as u64),
+                Refusal::Unreadable => (Number::FileUnreadable.code(), 0),
+            };
+            return answer;
+        }
+        if !known.is_empty() && answer.digests().as_deref() == Some(known) {
+            answer.known = true;
+            return answer;
+        }
+        self.judge(pair.form, &mut answer);
+        answer
+    }
+
+    /// The call of the library on the two files that were read.
+    fn judge(&mut self, form: Form, answer: &mut Answer) {
+        let form = match form {
+            Form::Records => cablesalak::Form::Records,
+            Form::Text => cablesalak::Form::Text,
+            Form::Binary => cablesalak::Form::Binary,
+        };
+        let mode = Mode { form, consequence: self.settings.consequence };
+        let began = Instant::now();
+        let said = self.workspace.check(mode, self.formula.text(), self.proof.text());
+        answer.nanoseconds = began.elapsed().as_nanos() as u64;
+        answer.number = said.number.code();
+        answer.file = match said.text {
+            None => Place::Nowhere,
+            Some(Text::Formula) => Place::Formula,
+            Some(Text::Proof) => Place::Proof,
+        };
+        (answer.place, answer.lines) = (said.place as u64, said.lines as u64);
+        (answer.rounds, answer.peak) = (said.rounds, said.peak as u64);
+    }
+}

@@ -1,0 +1,109 @@
+//! A pair of the results: its outcome, and its files as far as they are still those that were checked.
+
+use crate::html::escaped;
+use crate::refusal;
+use crate::sentence::sentence;
+use crate::words::Words;
+use batch::files::Room;
+use batch::json::Value;
+use batch::record::Class;
+use batch::sha256;
+use std::fmt::Write;
+use std::path::Path;
+
+pub struct Pair {
+    result: Value,
+    /// The number of its run on the page, where that is known.
+    run: Option<usize>,
+    pub formula: Option<Vec<u8>>,
+    pub proof: Option<Vec<u8>>,
+    pub words: Words,
+}
+
+/// A file's bytes, where they have the digest, or none is asked for.
+fn quoted(name: Option<&str>, digest: Option<&str>) -> Option<Vec<u8>> {
+    let mut room = Room::default();
+    let source = room.read(Some(Path::new(name?))).ok()?;
+    let is_right = digest.is_none_or(|digest| source.digest.is_some_and(|found| sha256::hex(&found) == digest));
+    is_right.then(|| room.text().to_vec())
+}
+
+impl Pair {
+    pub fn new(result: Value, run: Option<usize>) -> Pair {
+        // Where no check came to its end there is no digest and no verdict on any bytes: the question is quoted as it is now.
+        let is_unread = matches!(result.text("outcome"), Some("time limit" | "ended"));
+        let digest = |name| result.text(name).or((!is_unread).then_some("not read"));
+        let formula = quoted(result.text("formula"), digest("formula_sha256"));
+        let proof = quoted(result.text("proof"), Some(result.text("proof_sha256").unwrap_or("not read")));
+        let words = Words::of(&formula.as_deref().map_or("".into(), String::from_utf8_lossy));
+        Pair { result, run, formula, proof, words }
+    }
+
+    pub fn text(&self, name: &str) -> &str {
+        self.result.text(name).unwrap_or("")
+    }
+
+    pub fn number(&self, name: &str) -> u64 {
+        self.result.number(name).unwrap_or(0)
+    }
+
+    pub fn class(&self) -> Class {
+        Class::of(self.text("outcome"))
+    }
+
+    /// A file's name and digest.
+    pub fn file(&self, name: &str) -> String {
+        let digest = match self.text(&format!("{name}_sha256")) {
+            "" => "not read".into(),
+            digest => format!("SHA-256 <code>{}</code>", escaped(digest)),
+        };
+        let file = escaped(self.text(name));
+        format!("<dt>{name}</dt><dd>{file}<br><span class=\"soft\">{digest}</span></dd>")
+    }
+
+    /// What came of the proof. `id` is the section's own.
+    pub fn section(&self, id: usize) -> String {
+        let class = class_name(self.class());
+        let mut out =
+            format!("<section class=\"{class}\">\n<h4 class=\"is\">{}</h4>\n{}<dl>", self.said(), self.why(id));
+        if !self.text("proof").is_empty() {
+            out += &self.file("proof");
+        }
+        if self.class() != Class::NoVerdict {
+            let fields = ["number", "place", "lines", "rounds", "peak"].map(|name| self.number(name).to_string());
+            let run = self.run.map_or("of no known run".into(), |run| format!("run {run}"));
+            let form = escaped(self.text("form"));
+            let _ = write!(out, "<dt>checker’s line</dt><dd><code>{}</code>, {form}, {run}</dd>", fields.join(" "));
+        }
+        out + "</dl>\n</section>\n"
+    }
+
+    fn said(&self) -> &'static str {
+        match self.class() {
+            Class::Refuted => "✓ accepted: it shows that no case can meet every rule",
+            Class::Refused => "✗ refused: it does not show it",
+            Class::NoVerdict => "– not checked to its end",
+        }
+    }
+
+    fn why(&self, id: usize) -> String {
+        match self.text("outcome") {
+            "refuted" => String::new(),
+            "refused" => refusal::refusal(self, id),
+            "time limit" => "<p>The time limit was reached.</p>\n".into(),
+            "ended" => "<p>The checking process was ended from outside, or by a fault of the machine.</p>\n".into(),
+            _ if self.text("proof").is_empty() => "<p>There is no proof for this question.</p>\n".into(),
+            _ if self.text("formula").is_empty() => "<p>There is no formula for this proof.</p>\n".into(),
+            _ => format!("<p>{}</p>\n", escaped(sentence(self.number("number")))),
+        }
+    }
+}
+
+/// The class that colours.
+pub fn class_name(class: Class) -> &'static str {
+    match class {
+        Class::Refuted => "refuted",
+        Class::Refused => "refused",
+        Class::NoVerdict => "none",
+    }
+}
