@@ -1,20 +1,25 @@
--- Rows of explanations: each number with its piece, and the causes of 14, 18 and 19. (02, 8/14)
+-- Rows of explanations: each number with its piece, and the causes of 14, 18 and 19, among them those of path lines (02, 12/14), of the
+-- consequence profile (02, 11/14) and of binary DRAT (02, 9/14). (02, 8/14)
 use mathlib.Core.Path.{_≡_}
-use mathlib.Core.Bool.{true, false}
+use mathlib.Core.Bool.{Bool, true, false}
 use mathlib.Core.List.{List, [] as []ᴸ, _∷_ as _∷ᴸ_}
 use mathlib.Core.Option.{none, some}
 use Prim.Native.Nat.{ℕ}
 use Prim.Native.String.{String}
 use Rattle.dimacs.specs.Texts.{bytes, plus, minus}
-use Rattle.commands.specs.Commands.{inRecords, inText}
+use Rattle.commands.specs.declared.Form.{Form}
+use Rattle.commands.specs.declared.Form.the-variants.{Records, Text, Binary}
+use Rattle.commands.specs.Commands.{inForm, inRecords, inText}
 use Rattle.causes.specs.Parts.{Part}
 use Rattle.causes.specs.Causes.{plain, variables, assignment, fixed}
 use Rattle.causes.specs.Explanation.{Explanation, explained, explanation}
 
--- What is shown of a formula and a proof with a table of s places; the same of a DRAT text.
+-- What is shown of a formula and a proof with a table of s places; the same of a DRAT text; the same of any form, within the consequence
+-- profile or not, with a table of 4,096 places.
 pub data Row : Type 0 where
   recorded : (s : ℕ) (formula : String) (proof : List ℕ) (shown : Explanation) → Row
   texted : (s : ℕ) (formula text : String) (shown : Explanation) → Row
+  moded : (form : Form) (profile : Bool) (formula : String) (proof : List ℕ) (shown : Explanation) → Row
 
 abbrev pub ofFormula : ℕ → ℕ → Part
 ofFormula start end = record { inProof = false; start = start; end = end }
@@ -25,6 +30,7 @@ ofProof start end = record { inProof = true; start = start; end = end }
 abbrev pub Shows : Row → Type 0
 Shows (recorded s formula proof shown) = explanation inRecords s (bytes formula) proof ≡ shown
 Shows (texted s formula text shown) = explanation inText s (bytes formula) (bytes text) ≡ shown
+Shows (moded form profile formula proof shown) = explanation (inForm form profile) 4096 (bytes formula) proof ≡ shown
 
 abbrev pub ShowsAll : List Row → Type 0
 ShowsAll []ᴸ = Unit {0}
@@ -76,3 +82,24 @@ rows =
     texted 4 "p cnf 2 1\n1 2 0\n" "1 0" (explained 23 (ofProof 0 3) plain) ∷ᴸ
     texted 4096 "p cnf 2 1\n1 2 0\n" "" (explained 20 (ofProof 0 0) plain) ∷ᴸ
     texted 4096 "p cnf 2 4\n1 2 0\n-1 2 0\n1 -2 0\n-1 -2 0\n" "2 0 0\n" (explained 30 (ofFormula 0 0) plain) ∷ᴸ []ᴸ
+
+-- Path lines, the consequence profile and binary DRAT.
+abbrev pub laterRows : List Row
+laterRows =
+    moded Records false "p cnf 3 2\n1 2 0\n-2 3 0\n" (0x4E ∷ᴸ 0x01 ∷ᴸ 0x00 ∷ᴸ 0x00 ∷ᴸ 0x01 ∷ᴸ 0x00 ∷ᴸ 0x51 ∷ᴸ 0x02 ∷ᴸ 0x00 ∷ᴸ []ᴸ) (explained 19 (ofProof 6 9) (fixed ((plus 2 ∷ᴸ []ᴸ) ∷ᴸ (plus 3 ∷ᴸ []ᴸ) ∷ᴸ []ᴸ) none)) ∷ᴸ
+    moded Records false "p cnf 3 2\n1 2 0\n-2 3 0\n" (0x51 ∷ᴸ 0x00 ∷ᴸ 0x00 ∷ᴸ []ᴸ) (explained 19 (ofProof 0 3) (fixed []ᴸ none)) ∷ᴸ
+    moded Records false "p cnf 3 2\n1 2 0\n-1 3 0\n" (0x4E ∷ᴸ 0x03 ∷ᴸ 0x00 ∷ᴸ 0x00 ∷ᴸ 0x01 ∷ᴸ 0x00 ∷ᴸ 0x4E ∷ᴸ 0x02 ∷ᴸ 0x00 ∷ᴸ 0x00 ∷ᴸ 0x01 ∷ᴸ 0x00 ∷ᴸ 0x4E ∷ᴸ 0x01 ∷ᴸ 0x02 ∷ᴸ 0x00 ∷ᴸ 0x03 ∷ᴸ 0x00 ∷ᴸ 0x51 ∷ᴸ 0x04 ∷ᴸ 0x00 ∷ᴸ []ᴸ) (explained 19 (ofProof 18 21) (fixed ((plus 2 ∷ᴸ []ᴸ) ∷ᴸ []ᴸ) none)) ∷ᴸ
+    moded Records true "p cnf 3 2\n1 2 0\n-2 3 0\n" (0x4E ∷ᴸ 0x01 ∷ᴸ 0x00 ∷ᴸ 0x00 ∷ᴸ 0x01 ∷ᴸ 0x00 ∷ᴸ 0x51 ∷ᴸ 0x02 ∷ᴸ 0x00 ∷ᴸ []ᴸ) (explained 19 (ofProof 6 9) (fixed ((plus 2 ∷ᴸ []ᴸ) ∷ᴸ (plus 3 ∷ᴸ []ᴸ) ∷ᴸ []ᴸ) none)) ∷ᴸ
+    moded Records true "p cnf 2 2\n1 2 0\n-1 -2 0\n" (0x4E ∷ᴸ 0x01 ∷ᴸ 0x00 ∷ᴸ 0x00 ∷ᴸ 0x01 ∷ᴸ 0x00 ∷ᴸ 0x54 ∷ᴸ 0x01 ∷ᴸ 0x50 ∷ᴸ 0x02 ∷ᴸ 0x00 ∷ᴸ []ᴸ) (explained 33 (ofProof 8 11) plain) ∷ᴸ
+    moded Text true "p cnf 3 2\n1 2 0\n-2 3 0\n" (bytes "1 0\n") (explained 19 (ofProof 0 3) (fixed ((plus 2 ∷ᴸ []ᴸ) ∷ᴸ (plus 3 ∷ᴸ []ᴸ) ∷ᴸ []ᴸ) none)) ∷ᴸ
+    moded Text true "p cnf 3 2\n1 2 0\n-2 3 0\n" (bytes "3 1 0\n-1 0\n") (explained 19 (ofProof 6 10) (fixed []ᴸ none)) ∷ᴸ
+    moded Text true "p cnf 2 2\n1 2 0\n-1 -2 0\n" (bytes "0\n") (explained 19 (ofProof 0 1) (fixed []ᴸ none)) ∷ᴸ
+    moded Binary true "p cnf 3 2\n1 2 0\n-2 3 0\n" (0x61 ∷ᴸ 0x02 ∷ᴸ 0x00 ∷ᴸ []ᴸ) (explained 19 (ofProof 0 3) (fixed ((plus 2 ∷ᴸ []ᴸ) ∷ᴸ (plus 3 ∷ᴸ []ᴸ) ∷ᴸ []ᴸ) none)) ∷ᴸ
+    moded Binary false "p cnf 2 2\n1 2 0\n-1 -2 0\n" (0x61 ∷ᴸ 0x02 ∷ᴸ 0x80 ∷ᴸ []ᴸ) (explained 6 (ofProof 0 3) plain) ∷ᴸ
+    moded Binary false "p cnf 2 2\n1 2 0\n-1 -2 0\n" (0x61 ∷ᴸ 0x02 ∷ᴸ 0x06 ∷ᴸ 0x00 ∷ᴸ []ᴸ) (explained 4 (ofProof 2 3) plain) ∷ᴸ
+    moded Binary false "p cnf 2 2\n1 2 0\n-1 -2 0\n" (0x61 ∷ᴸ 0x82 ∷ᴸ 0x80 ∷ᴸ 0x80 ∷ᴸ 0x00 ∷ᴸ 0x00 ∷ᴸ []ᴸ) (explained 31 (ofProof 1 5) plain) ∷ᴸ
+    moded Binary false "p cnf 2 2\n1 2 0\n-1 -2 0\n" (0x62 ∷ᴸ 0x02 ∷ᴸ 0x00 ∷ᴸ []ᴸ) (explained 9 (ofProof 0 1) plain) ∷ᴸ
+    moded Binary false "p cnf 2 2\n1 2 0\n-1 -2 0\n" (0x61 ∷ᴸ 0x02 ∷ᴸ 0x03 ∷ᴸ 0x00 ∷ᴸ []ᴸ) (explained 17 (ofProof 0 4) plain) ∷ᴸ
+    moded Binary false "p cnf 2 2\n1 2 0\n-1 -2 0\n" (0x64 ∷ᴸ 0x02 ∷ᴸ 0x00 ∷ᴸ []ᴸ) (explained 28 (ofProof 0 3) plain) ∷ᴸ
+    moded Binary false "p cnf 2 2\n1 2 0\n-1 -2 0\n" (0x61 ∷ᴸ 0x02 ∷ᴸ 0x00 ∷ᴸ []ᴸ) (explained 19 (ofProof 0 3) (fixed []ᴸ (some 1))) ∷ᴸ
+    moded Binary false "p cnf 2 2\n1 2 0\n-1 -2 0\n" []ᴸ (explained 20 (ofProof 0 0) plain) ∷ᴸ []ᴸ

@@ -4,6 +4,7 @@ use Rattle.pieces.proofs.proof_end.Statement.{statement}
 use Rattle.pieces.proofs.proof_end.Tie as tie
 use Rattle.pieces.proofs.proof_end.Reads as reads
 use Rattle.pieces.proofs.proof_end.Lts as lts
+use Rattle.pieces.proofs.binary_end.Reads as binary-end-reads
 use Rattle.pieces.proofs.clause_end.Reads as clause-end-reads
 use Rattle.pieces.proofs.record_end.Reads as record-end-reads
 use Rattle.pieces.proofs.token_end.Reads as token-end-reads
@@ -40,6 +41,14 @@ returns-2 c = rw (c .before .before .enum-told2 .given .1, le-leb _ _ (c .before
 clause-end-requires : tie.Need-clause-end-requires
 clause-end-requires c κs = search needs
 
+-- src/lib.rt:205:25
+enum-told-3 : tie.Need-enum-told-3
+enum-told-3 c = search needs
+
+-- src/lib.rt:205:25
+binary-end-requires : tie.Need-binary-end-requires
+binary-end-requires c κs = search needs
+
 -- src/lib.rt:144:1
 returns-3 : tie.Need-returns-3
 returns-3 c = rw (c .before .before .enum-told .given .1, ne-eqb _ _ (c .before .if1 .left)) (c .record-end .ensures)
@@ -47,6 +56,10 @@ returns-3 c = rw (c .before .before .enum-told .given .1, ne-eqb _ _ (c .before 
 -- src/lib.rt:144:1
 returns-4 : tie.Need-returns-4
 returns-4 c = rw (c .before .before .enum-told2 .given .1, lt-leb _ _ (c .before .if2 .left)) (c .clause-end .ensures)
+
+-- src/lib.rt:144:1
+returns-5 : tie.Need-returns-5
+returns-5 c = rw (c .before .enum-told3 .given .1) (c .binary-end .ensures)
 
 pub proof-end-spec : {M : Type 1} → statement M
 proof-end-spec =
@@ -60,5 +73,8 @@ proof-end-spec =
     token-end-requires
     returns-2
     clause-end-requires
+    enum-told-3
+    binary-end-requires
     returns-3
-    returns-4)
+    returns-4
+    returns-5)
