@@ -1,5 +1,6 @@
--- Where `ending` says that the check ends is where its verdict is given. The idea: the two go through the same clauses and commands. Assumes nothing.
-use mathlib.Core.Path.{_≡_, refl, subst}
+-- Where `ending` says that the check ends is where its verdict is given. The idea: the two go through the same clauses and commands.
+-- Assumes nothing.
+use mathlib.Core.Path.{_≡_, refl}
 use mathlib.Core.List.{List, [], _∷_, _++_}
 use Prim.Native.Nat.{ℕ, zero, suc, _-_, _≤_, _<_}
 use native.Mathlib.Omega.{arith}
@@ -22,7 +23,8 @@ use Rattle.verdict.proofs.Commands.{step-taken, command-goes}
 use Rattle.verdict.proofs.Ends.{reached-in}
 use Rattle.verdict.proofs.Formula.{NamedHeader, header-named}
 use Rattle.verdict.proofs.Numbers.{making-refused}
-use Rattle.causes.specs.Explanation.{Ending, unread, ended, endsAfter, commandsEnding, afterPlacing, clausesEnding, endingAfterHeader, ending}
+use Rattle.causes.specs.Explanation.{ended, endsAfter, commandsEnding, afterPlacing, clausesEnding, endingAfterHeader}
+use Rattle.causes.specs.Explanation.{ending}
 use Rattle.causes.specs.Shows.{EndsAt, formula-refused, proof-stopped, proof-spent}
 
 -- ---- the places of a formula that is refused
@@ -33,7 +35,8 @@ Places s (clause ls first rest) = (first ≤ length s) × Places s rest
 Places s complete = Unit {0}
 Places s (refusal number place) = place ≤ length s
 
-then-placed : (s : List ℕ) (n : ℕ) (x : Next) (rest : ℕ → Reading) → NextIn s n x → ((at : ℕ) → at ≤ length s → Places s (rest at)) → Places s (readingThen x rest)
+then-placed : (s : List ℕ) (n : ℕ) (x : Next) (rest : ℕ → Reading) → NextIn s n x → ((at : ℕ) → at ≤ length s → Places s (rest at)) →
+    Places s (readingThen x rest)
 then-placed s n (closed ls first at) rest i h = (omega (arith, i .0), h at (i .1))
 then-placed s n dimacs.ended rest i h = tt
 then-placed s n (refused number place) rest i h = i
@@ -41,7 +44,8 @@ then-placed s n (refused number place) rest i h = i
 clauses-placed : (s : List ℕ) (n left at : ℕ) → at ≤ length s → Places s (clausesFrom s n left at)
 unfolding clausesFrom
 clauses-placed s n zero at h = then-placed s n (nextClause s n zero at) (λ at. complete) (next-in s n zero at h) (λ at k. tt)
-clauses-placed s n (suc left) at h = then-placed s n (nextClause s n (suc left) at) (λ at. clausesFrom s n left at) (next-in s n (suc left) at h) (λ at k. clauses-placed s n left at k)
+clauses-placed s n (suc left) at h = then-placed s n (nextClause s n (suc left) at) (λ at. clausesFrom s n left at)
+    (next-in s n (suc left) at h) (λ at k. clauses-placed s n left at k)
 
 module _ (mode : Mode) (s : ℕ) (text proof : List ℕ) where
   commands-end : (n steps : ℕ) (st : State) (at : ℕ) (m : Meant) → Reached mode s text proof n st at m → length proof - at < steps
@@ -56,11 +60,13 @@ module _ (mode : Mode) (s : ℕ) (text proof : List ℕ) where
       go : (x : Step) → step (mode .consequence) n s st (commandIn mode proof n at) ≡ x
           → ((st′ : State) (at′ : ℕ) (m′ : Meant) → Reached mode s text proof n st′ at′ m′ → length proof - at′ < steps
           → EndsAt mode s text proof (commands steps mode n s proof st′ at′) (commandsEnding steps mode n s proof st′ at′))
-          → EndsAt mode s text proof (afterStep x st at (λ st′. commands steps mode n s proof st′ next-at)) (endsAfter x (ended n st at) (λ st′. commandsEnding steps mode n s proof st′ next-at))
+          → EndsAt mode s text proof (afterStep x st at (λ st′. commands steps mode n s proof st′ next-at))
+          (endsAfter x (ended n st at) (λ st′. commandsEnding steps mode n s proof st′ next-at))
       go (stop number offset) e rec = proof-stopped R e
       go (spent number peak) e rec = proof-spent R e
       go (next st′) e rec =
-          let T : CommandTaken (mode .consequence) n s st (commandIn mode proof n at) st′ = step-taken (mode .consequence) n s st (commandIn mode proof n at) st′ e in
+          let T : CommandTaken (mode .consequence) n s st (commandIn mode proof n at) st′ =
+          step-taken (mode .consequence) n s st (commandIn mode proof n at) st′ e in
           let (on, inside) = command-goes (mode .consequence) (mode .form) proof n s st st′ at (reached-in mode s text proof R) T in
           rec st′ next-at _ (goes R T) (omega (arith, on, inside))
 
@@ -68,9 +74,12 @@ module _ (mode : Mode) (s : ℕ) (text proof : List ℕ) where
     clauses-end : (r : Reading) (t : List Node) (ms : List ℕ) (fs : List Function) → Places text r → Making s text n many t ms fs r
         → EndsAt mode s text proof (clauses mode n s proof t ms r) (clausesEnding mode n s proof t ms r)
     unfolding clauses clausesEnding
-    clauses-end complete t ms fs p M = commands-end n (suc (length proof)) (begun t ms) (start (mode .form) proof) _ (begins M) (omega arith)
-    clauses-end (refusal number place) t ms fs p M = let early = making-refused s text M in formula-refused (early .0, omega (arith, early .1)) p
-    clauses-end (clause ls first rest) t ms fs p M = go (place s t (meaning.clause n ls)) refl (λ t₁ ms₁ fs₁. clauses-end rest t₁ ms₁ fs₁ (p .1))
+    clauses-end complete t ms fs p M = commands-end n (suc (length proof)) (begun t ms) (start (mode .form) proof) _ (begins M)
+        (omega arith)
+    clauses-end (refusal number place) t ms fs p M = let early = making-refused s text M in
+        formula-refused (early .0, omega (arith, early .1)) p
+    clauses-end (clause ls first rest) t ms fs p M = go (place s t (meaning.clause n ls)) refl
+        (λ t₁ ms₁ fs₁. clauses-end rest t₁ ms₁ fs₁ (p .1))
       where
         go : (x : Placing) → place s t (meaning.clause n ls) ≡ x
             → ((t₁ : List Node) (ms₁ : List ℕ) (fs₁ : List Function) → Making s text n many t₁ ms₁ fs₁ rest
@@ -85,6 +94,8 @@ module _ (mode : Mode) (s : ℕ) (text proof : List ℕ) where
   unfolding verdict ending
   ending-is = go (header text) refl (header-in text) (header-named text)
     where
-      go : (h : Header) → header text ≡ h → HeaderIn text h → NamedHeader h → EndsAt mode s text proof (checkAfterHeader mode s text proof h) (endingAfterHeader mode s text proof h)
-      go (Proper n many at) e i named = clauses-end n many (clausesFrom text n many at) emptied [] [] (clauses-placed text n many at (i .2)) (opened e)
+      go : (h : Header) → header text ≡ h → HeaderIn text h → NamedHeader h →
+          EndsAt mode s text proof (checkAfterHeader mode s text proof h) (endingAfterHeader mode s text proof h)
+      go (Proper n many at) e i named = clauses-end n many (clausesFrom text n many at) emptied [] [] (clauses-placed text n many at (i .2))
+          (opened e)
       go (Improper number place) e i named = formula-refused (named .0, omega (arith, named .1)) i

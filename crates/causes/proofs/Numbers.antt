@@ -18,7 +18,8 @@ number-of : (t : Bool) (x y : Explanation) → cond t x y .number ≡ cond t (x 
 number-of true x y = refl
 number-of false x y = refl
 
-pub explanation-number : (mode : Mode) (s : ℕ) (text proof : List ℕ) → explanation mode s text proof .number ≡ orThirty (verdict mode s text proof .number)
+pub explanation-number : (mode : Mode) (s : ℕ) (text proof : List ℕ) → explanation mode s text proof .number
+    ≡ orThirty (verdict mode s text proof .number)
 unfolding explanation
 explanation-number mode s text proof = number-of (eqb (verdict mode s text proof .number) 0) _ _
 
@@ -26,7 +27,8 @@ explanation-number mode s text proof = number-of (eqb (verdict mode s text proof
 pub why-number : (mode : Mode) (c : Columns) (count : ℕ) (members struck scratch text proof : List ℕ)
     → why mode c members struck scratch text proof .number ≡ orThirty (check mode c count members struck scratch text proof .number)
 unfolding why check outcome
-why-number mode c count members struck scratch text proof = go (lentFits c members struck scratch) _ _ _ _ (explanation-number mode (length (c .vars)) text proof) refl
+why-number mode c count members struck scratch text proof = go (lentFits c members struck scratch) _ _ _ _
+    (explanation-number mode (length (c .vars)) text proof) refl
   where
     go : (t : Bool) (x y : Explanation) (a b : CheckOutcome) → x .number ≡ orThirty (a .number) → y .number ≡ orThirty (b .number)
         → cond t x y .number ≡ orThirty (cond t a b .number)

@@ -1,8 +1,8 @@
--- The literals that are named for a path line that is not shown are those of the first path whose propagation does not conflict. The idea: path
--- after path, as the turns go. Assumes nothing.
-use mathlib.Core.Path.{_≡_, refl, sym, ap, _∙_}
+-- The literals that are named for a path line that is not shown are those of the first path whose propagation does not conflict. The idea:
+-- path after path, as the turns go. Assumes nothing.
+use mathlib.Core.Path.{_≡_, refl, ap}
 use mathlib.Core.Bool.{Bool, true, false, _&&_, cond}
-use mathlib.Core.List.{List, [], _∷_, _++_}
+use mathlib.Core.List.{List, [], _∷_}
 use mathlib.Core.Option.{none}
 use Prim.Native.Nat.{ℕ}
 use Rattle.meaning.specs.Diagram.{Diagram}
@@ -34,11 +34,33 @@ module _ (n : ℕ) (ms : List Diagram) where
       go : (b : Bool) → unitProp n (byPath n c ms) .conflict ≡ b → (b && pathTurns n ms cs .shown) ≡ false
           → (pathTurns n ms cs .shown ≡ false → Found cs)
           → (rounds : List (List Literal)) × (chosen b ≡ fixed rounds none) × PathFails n ms (c ∷ cs) rounds
-      go false q f rec =
-          (fixes n (byPath n c ms), refl, record { before = []; path = c; after = cs; parts = refl; fixes = fixes-so n (byPath n c ms) (map-reduced n _ ms (λ f. literals-reduced n (makesTrue c) (makesFalse c) f)) q; shown = refl })
+      go false q f rec = (
+        fixes n (byPath n c ms),
+        refl,
+        record {
+          before = [];
+          path = c;
+          after = cs;
+          parts = refl;
+          fixes =
+              fixes-so n (byPath n c ms) (map-reduced n _ ms (λ f. literals-reduced n (makesTrue c) (makesFalse c) f)) q;
+          shown = refl;
+        },
+      )
       go true q f rec =
-          let (rounds, is, so) = rec f in
-          (rounds, is, record { before = c ∷ so .before; path = so .path; after = so .after; parts = ap (_∷_ c) (so .parts); fixes = so .fixes; shown = both (so .before) (so .shown) })
+          let (rounds, is, so) = rec f in (
+            rounds,
+            is,
+            record {
+              before = c ∷ so .before;
+              path = so .path;
+              after = so .after;
+              parts = ap (_∷_ c) (so .parts);
+              fixes =
+                  so .fixes;
+              shown = both (so .before) (so .shown);
+            },
+          )
         where
           both : (before : List (List Literal)) → pathTurns n ms before .shown ≡ true → pathTurns n ms (c ∷ before) .shown ≡ true
           both before h = rw q h

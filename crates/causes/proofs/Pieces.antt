@@ -1,8 +1,7 @@
--- The piece that is shown is a part of its text. The idea: the check's place lies in the text, and so does the end of the line, token, record or
--- clause there. Assumes nothing.
-use mathlib.Core.Path.{_≡_, refl, sym, ap, _∙_, subst}
-use mathlib.Core.Logic.{_⊎_, inl, inr}
-use mathlib.Core.Bool.{Bool, true, false, not, _&&_, _||_, cond}
+-- The piece that is shown is a part of its text. The idea: the check's place lies in the text, and so does the end of the line, token,
+-- record or clause there. Assumes nothing.
+use mathlib.Core.Path.{_≡_, refl, sym, ap, subst}
+use mathlib.Core.Bool.{Bool, true, false, _&&_, _||_, cond}
 use mathlib.Core.List.{List, [], _∷_}
 use Prim.Native.Nat.{ℕ, _+_, _-_, _≤_, _<_}
 use native.Mathlib.Omega.{arith}
@@ -17,7 +16,7 @@ use Rattle.dimacs.specs.Clauses.{Next, closed, ended, refused, clauseFrom}
 use Rattle.dimacs.proofs.Runs.{past-least, past-most}
 use Rattle.dimacs.proofs.Between.{between-least, between-most}
 use Rattle.records.specs.declared.Record.{Record}
-use Rattle.records.specs.declared.Record.the-variants.{NodeEntry, Witness, ProofLine, Strike, SetEntry, End, CutShort, UnknownKind, NoRecord}
+use Rattle.records.specs.declared.Record.the-variants.{End}
 use Rattle.records.specs.Records.{recordAt, lengthOf, numberOf}
 use Rattle.records.proofs.Reading.{record-none}
 use Rattle.records.proofs.Laws.{record-within}
@@ -29,19 +28,18 @@ use Rattle.commands.specs.Commands.{Groups, cut, groups, groupsIn, binaryRead}
 use Rattle.commands.proofs.Groups.{Well, groups-well}
 use Rattle.commands.proofs.Reading.{Fault, ClauseIn, clause-in}
 use Rattle.commands.proofs.Onward.{CommandIn, drat-in}
-use Rattle.verdict.specs.Steps.{State, Step, next, stop, spent, waiting, recordStep, endStep}
-use Rattle.verdict.specs.Clausal.{addStep, strikeClause}
-use Rattle.verdict.specs.Check.{shutOut, finish, step, Verdict, verdict}
-use Rattle.verdict.specs.Run.{commandIn}
+use Rattle.verdict.specs.Steps.{State, Step, next, stop, waiting, recordStep, endStep}
+use Rattle.verdict.specs.Check.{shutOut, step, Verdict, verdict}
 use Rattle.verdict.proofs.Steps as steps
 use Rattle.verdict.proofs.Offsets.{Offset, at-record, at-striking, behind-end, Placed, shut-placed}
 use Rattle.verdict.proofs.ClauseSays.{AddedSays, added-says, StruckSays, struck-says, FinishSays, finish-says}
 use Rattle.verdict.proofs.Ends.{reached-in}
 use Rattle.verdict.proofs.Numbers.{NumberedIn, reached-numbered, spent-number}
-use Rattle.causes.specs.Parts.{Part, nothing, formulaEnd, recordEnd, closedEnd, clauseEnd, groupsEnd, readEnd, binaryEnd, proofEnd, partOf}
+use Rattle.causes.specs.Parts.{nothing, formulaEnd, recordEnd, closedEnd, clauseEnd, groupsEnd, readEnd, binaryEnd, proofEnd}
+use Rattle.causes.specs.Parts.{partOf}
 use Rattle.causes.specs.Causes.{plain}
-use Rattle.causes.specs.Explanation.{Ending, Explanation, explained, explanation, causeIn, ending}
-use Rattle.causes.specs.Shows.{EndsAt, formula-refused, proof-stopped, proof-spent, textOf, Inside}
+use Rattle.causes.specs.Explanation.{Ending, explained, explanation, causeIn, ending}
+use Rattle.causes.specs.Shows.{EndsAt, formula-refused, proof-stopped, proof-spent, Inside}
 use Rattle.causes.proofs.Ending.{ending-is}
 
 -- An end of a piece that starts at a place of s.
@@ -68,19 +66,22 @@ begun s at e = go (ltb at (length s)) refl
   where
     go : (t : Bool) → ltb at (length s) ≡ t → at < length s
     go true h = ltb-true at (length s) h
-    go false h = let q : numberOf (recordAt s at) ≡ 10 = ap numberOf (record-none s at (ltb-false at (length s) h)) in absurd (omega (arith, q, e))
+    go false h = let q : numberOf (recordAt s at) ≡ 10 = ap numberOf (record-none s at (ltb-false at (length s) h)) in
+        absurd (omega (arith, q, e))
 
 record-ends : (s : List ℕ) (at : ℕ) → at ≤ length s → Ends s at (recordEnd s at (recordAt s at))
 record-ends s at h =
     either s at (eqb (numberOf (recordAt s at)) 0) (at + lengthOf (recordAt s at)) _
-    (λ t. let within : at + lengthOf (recordAt s at) ≤ length s = record-within s at refl (eqb-true (numberOf (recordAt s at)) 0 t) in (omega arith, within))
+    (λ t. let within : at + lengthOf (recordAt s at) ≤ length s = record-within s at refl (eqb-true (numberOf (recordAt s at)) 0 t) in
+    (omega arith, within))
     (λ _. either s at (eqb (numberOf (recordAt s at)) 9) (at + 1) (length s)
     (λ t. let lt : at < length s = begun s at (eqb-true (numberOf (recordAt s at)) 9 t) in (omega arith, omega (arith, lt)))
     (λ _. (h, omega arith)))
 
 -- ---- a text
 
-closed-ends : (F : ℕ → ℕ → ℕ → Type 0) (s : List ℕ) (n first at from : ℕ) → at ≤ from → from ≤ length s → (x : Next) → ClauseIn F s n first from x → Ends s at (closedEnd s x)
+closed-ends : (F : ℕ → ℕ → ℕ → Type 0) (s : List ℕ) (n first at from : ℕ) → at ≤ from → from ≤ length s → (x : Next) →
+    ClauseIn F s n first from x → Ends s at (closedEnd s x)
 closed-ends F s n first at from le most (closed ls f behind) i = (omega (arith, le, i .0), i .1)
 closed-ends F s n first at from le most ended i = absurd i
 closed-ends F s n first at from le most (refused number place) i = (omega (arith, le, most), omega arith)
@@ -92,9 +93,12 @@ clause-ends s at h =
     let behind : at ≤ body = omega (arith, between-least s (at + 1)) in
     either s at (ltb at (length s)) _ (length s)
     (λ t. let lt : at < length s = ltb-true at (length s) t in
-    either s at (isWord s at (100 ∷ [])) (closedEnd s (clauseFrom s 64 (length s - body) at body)) (closedEnd s (clauseFrom s 64 (length s - at) at at))
-    (λ _. closed-ends Fault s 64 at at body behind (between-most s (at + 1) (omega (arith, lt))) (clauseFrom s 64 (length s - body) at body) (clause-in s 64 at (length s - body) body behind h))
-    (λ _. closed-ends Fault s 64 at at at (omega arith) h (clauseFrom s 64 (length s - at) at at) (clause-in s 64 at (length s - at) at (omega arith) h)))
+    either s at (isWord s at (100 ∷ [])) (closedEnd s (clauseFrom s 64 (length s - body) at body))
+    (closedEnd s (clauseFrom s 64 (length s - at) at at))
+    (λ _. closed-ends Fault s 64 at at body behind (between-most s (at + 1) (omega (arith, lt))) (clauseFrom s 64 (length s - body) at body)
+    (clause-in s 64 at (length s - body) body behind h))
+    (λ _. closed-ends Fault s 64 at at at (omega arith) h (clauseFrom s 64 (length s - at) at at)
+    (clause-in s 64 at (length s - at) at (omega arith) h)))
     (λ _. (h, omega arith))
 
 -- ---- the place
@@ -124,11 +128,13 @@ unfolding step
 step-record profile n s st r more x e = e
 
 -- A clause of a text, and its end, are refused at their first byte; a fault where it stands.
-added-at : (profile : Bool) (n s : ℕ) (st : State) (ls : List Literal) (number offset : ℕ) → step profile n s st (added ls) ≡ stop number offset → offset ≡ 0
+added-at : (profile : Bool) (n s : ℕ) (st : State) (ls : List Literal) (number offset : ℕ) → step profile n s st (added ls)
+    ≡ stop number offset → offset ≡ 0
 unfolding step
 added-at profile n s st ls number offset e = subst AddedSays e (added-says profile n s st ls) .1
 
-struck-at : (profile : Bool) (n s : ℕ) (st : State) (ls : List Literal) (number offset : ℕ) → step profile n s st (struckOut ls) ≡ stop number offset → offset ≡ 0
+struck-at : (profile : Bool) (n s : ℕ) (st : State) (ls : List Literal) (number offset : ℕ) → step profile n s st (struckOut ls)
+    ≡ stop number offset → offset ≡ 0
 unfolding step
 struck-at profile n s st ls number offset e = subst StruckSays e (struck-says n st ls) .1
 
@@ -136,7 +142,8 @@ finished-at : (profile : Bool) (n s : ℕ) (st : State) (number offset : ℕ) �
 unfolding step
 finished-at profile n s st number offset e = subst FinishSays e (finish-says st) .1
 
-wrong-at : (profile : Bool) (n s : ℕ) (st : State) (k o number offset : ℕ) → step profile n s st (wrong k o) ≡ stop number offset → o ≡ offset
+wrong-at : (profile : Bool) (n s : ℕ) (st : State) (k o number offset : ℕ) → step profile n s st (wrong k o) ≡ stop number offset → o
+    ≡ offset
 unfolding step
 wrong-at profile n s st k o number offset e = cc
 
@@ -148,7 +155,8 @@ module _ (profile : Bool) (n s : ℕ) (st : State) (proof : List ℕ) (at : ℕ)
   abbrev more : Bool
   more = ltb (at + lengthOf here) (length proof)
 
-  record-stops : (number offset : ℕ) → cond (shutOut profile here) (stop 33 0) (recordStep n s st more here) ≡ stop number offset → Ends proof (at + offset) (proofEnd Records number proof (at + offset))
+  record-stops : (number offset : ℕ) → cond (shutOut profile here) (stop 33 0) (recordStep n s st more here) ≡ stop number offset →
+      Ends proof (at + offset) (proofEnd Records number proof (at + offset))
   record-stops number offset e = go (subst (Placed st here) e (shut-placed profile n s st more here))
     where
       at-start : offset ≡ 0 → eqb number 11 ≡ false → Ends proof (at + offset) (proofEnd Records number proof (at + offset))
@@ -159,8 +167,9 @@ module _ (profile : Bool) (n s : ℕ) (st : State) (proof : List ℕ) (at : ℕ)
       behind : offset ≡ 1 → number ≡ 11 → here ≡ End → Ends proof (at + offset) (proofEnd Records number proof (at + offset))
       behind o k is =
           let q : ended-by End ≡ stop 11 offset =
-              subst (λ (r : Record). ended-by r ≡ stop 11 offset) is (subst (λ (x : ℕ). ended-by here ≡ stop x offset) k e) in
-          let lt : at + 1 < length proof = ltb-true (at + 1) (length proof) (end-so profile n s st (ltb (at + 1) (length proof)) offset q) in
+          subst (λ (r : Record). ended-by r ≡ stop 11 offset) is (subst (λ (x : ℕ). ended-by here ≡ stop x offset) k e) in
+          let lt : at + 1 < length proof = ltb-true (at + 1) (length proof) (end-so profile n s st (ltb (at + 1) (length proof)) offset q)
+          in
           rw (o, k) (omega arith, omega (arith, lt))
         where
           ended-by : Record → Step
@@ -182,7 +191,8 @@ groups-ends s at h (groups number many last) e =
     let W : Well (drop at s) number many last = groups-well (drop at s) number many last e in
     (omega arith, omega (arith, W .within, length-drop at s))
 
-read-ends : (s : List ℕ) (at : ℕ) → at ≤ length s → (c : Command) (after : ℕ) → CommandIn Binary s 64 at c after → Ends s at (readEnd s c after)
+read-ends : (s : List ℕ) (at : ℕ) → at ≤ length s → (c : Command) (after : ℕ) → CommandIn Binary s 64 at c after →
+    Ends s at (readEnd s c after)
 read-ends s at h (recorded r more) after i = absurd i
 read-ends s at h (added ls) after i = (omega (arith, i .0), i .1)
 read-ends s at h (struckOut ls) after i = (omega (arith, i .0), i .1)
@@ -193,18 +203,21 @@ binary-ends : (number : ℕ) (s : List ℕ) (at : ℕ) → at ≤ length s → E
 unfolding binaryEnd
 binary-ends number s at h =
     either s at (eqb number 9 && ltb at (length s)) (at + 1) _
-    (λ t. let lt : at < length s = ltb-true at (length s) (and-both (eqb number 9) (ltb at (length s)) t .1) in (omega arith, omega (arith, lt)))
+    (λ t. let lt : at < length s = ltb-true at (length s) (and-both (eqb number 9) (ltb at (length s)) t .1) in
+    (omega arith, omega (arith, lt)))
     (λ _. either s at (eqb number 4 || eqb number 31) (groupsEnd at (groupsIn (drop at s))) _
     (λ _. groups-ends s at h (groupsIn (drop at s)) refl)
     (λ _. read-ends s at h (binaryRead s 64 at .command) (binaryRead s 64 at .next) (drat-in Binary refl s 64 at h)))
 
 -- A command of a DRAT proof is refused in the proof.
-drat-stops : (profile : Bool) (form : Form) → isDrat form ≡ true → (n s : ℕ) (st : State) (proof : List ℕ) (at : ℕ) → at ≤ length proof → (number offset : ℕ) → step profile n s st (commandAt form proof n at .command) ≡ stop number offset
+drat-stops : (profile : Bool) (form : Form) → isDrat form ≡ true → (n s : ℕ) (st : State) (proof : List ℕ) (at : ℕ) → at ≤ length proof →
+    (number offset : ℕ) → step profile n s st (commandAt form proof n at .command) ≡ stop number offset
     → at + offset ≤ length proof
 drat-stops profile form drat n s st proof at inside number offset e =
     go (commandAt form proof n at .command) (commandAt form proof n at .next) (drat-in form drat proof n at inside) e
   where
-    go : (c : Command) (after : ℕ) → CommandIn form proof n at c after → step profile n s st c ≡ stop number offset → at + offset ≤ length proof
+    go : (c : Command) (after : ℕ) → CommandIn form proof n at c after → step profile n s st c ≡ stop number offset →
+        at + offset ≤ length proof
     go (recorded r more) after i e = absurd i
     go (added ls) after i e = omega (arith, inside, added-at profile n s st ls number offset e)
     go (struckOut ls) after i e = omega (arith, inside, struck-at profile n s st ls number offset e)
@@ -212,10 +225,13 @@ drat-stops profile form drat n s st proof at inside number offset e =
     go finished after i e = omega (arith, inside, finished-at profile n s st number offset e)
 
 module _ (mode : Mode) (s : ℕ) (text proof : List ℕ) where
-  stop-ends : (profile : Bool) (form : Form) (n : ℕ) (st : State) (at : ℕ) → at ≤ length proof → (number offset : ℕ) → step profile n s st (commandAt form proof n at .command) ≡ stop number offset
+  stop-ends : (profile : Bool) (form : Form) (n : ℕ) (st : State) (at : ℕ) → at ≤ length proof → (number offset : ℕ) →
+      step profile n s st (commandAt form proof n at .command) ≡ stop number offset
       → Ends proof (at + offset) (proofEnd form number proof (at + offset))
-  stop-ends profile Records n st at inside number offset e = record-stops profile n s st proof at inside number offset (step-record profile n s st _ _ _ e)
-  stop-ends profile Text n st at inside number offset e = text-ends number proof (at + offset) (drat-stops profile Text refl n s st proof at inside number offset e)
+  stop-ends profile Records n st at inside number offset e = record-stops profile n s st proof at inside number offset
+      (step-record profile n s st _ _ _ e)
+  stop-ends profile Text n st at inside number offset e = text-ends number proof (at + offset)
+      (drat-stops profile Text refl n s st proof at inside number offset e)
   stop-ends profile Binary n st at inside number offset e =
       binary-ends number proof (at + offset) (drat-stops profile Binary refl n s st proof at inside number offset e)
 
@@ -228,12 +244,15 @@ module _ (mode : Mode) (s : ℕ) (text proof : List ℕ) where
 
   part-inside : (v : Verdict) (x : Ending) → EndsAt mode s text proof v x → Inside text proof (partOf mode text proof v)
   unfolding partOf
-  part-inside _ _ (formula-refused {number} {place} k i) = let (least, most) = formula-ends number text place i in record { order = least; end = most }
+  part-inside _ _ (formula-refused {number} {place} k i) = let (least, most) = formula-ends number text place i in
+      record { order = least; end = most }
   part-inside _ _ (proof-stopped {n} {number} {offset} {at} {st} R e) =
-      let (least, most) = stop-ends (mode .consequence) (mode .form) n st at (reached-in mode s text proof R) number offset e in record { order = least; end = most }
+      let (least, most) = stop-ends (mode .consequence) (mode .form) n st at (reached-in mode s text proof R) number offset e in
+      record { order = least; end = most }
   part-inside _ _ (proof-spent {n} {number} {peak} {at} {st} R e) =
       let late = spent-number (mode .form) number peak (subst (NumberedIn (mode .form)) e (reached-numbered mode s text proof R)) in
-      let (least, most) = spent-ends (mode .form) at (reached-in mode s text proof R) number (late .0) in record { order = least; end = most }
+      let (least, most) = spent-ends (mode .form) at (reached-in mode s text proof R) number (late .0) in
+      record { order = least; end = most }
 
   -- THEOREM: the piece that is shown is a part of the formula or of the proof.
   pub piece-inside : Inside text proof (explanation mode s text proof .part)

@@ -14,9 +14,11 @@ use Rattle.causes.specs.Explanation.{explanation}
 use Rattle.causes.specs.Rows.{ShowsAll, rows, laterRows}
 
 pub shown : ShowsAll rows
-unfolding explanation clausesFrom textRead recordAt above inWord place clause diagramFrom same? rup pr witnessed valueFrom diagramAt ℕ-discrete
+unfolding explanation clausesFrom textRead recordAt above inWord place clause diagramFrom same? rup pr witnessed valueFrom diagramAt
+    ℕ-discrete
 shown = (refl, (refl, (refl, (refl, (refl, (refl, (refl, (refl, (refl, (refl, (refl, (refl, (refl, (refl, (refl, (refl, (refl, (refl, (refl, (refl, (refl, (refl, (refl, (refl, (refl, (refl, (refl, (refl, (refl, (refl, (refl, (refl, (refl, (refl, (refl, (refl, (refl, (refl, (refl, (refl, (refl, (refl, (refl, (refl, tt))))))))))))))))))))))))))))))))))))))))))))
 
 pub shown-later : ShowsAll laterRows
-unfolding explanation clausesFrom textRead binaryRead recordAt above inWord place clause diagramFrom same? rup pr pathLine witnessed valueFrom diagramAt ℕ-discrete
+unfolding explanation clausesFrom textRead binaryRead recordAt above inWord place clause diagramFrom same? rup pr pathLine witnessed
+    valueFrom diagramAt ℕ-discrete
 shown-later = (refl, (refl, (refl, (refl, (refl, (refl, (refl, (refl, (refl, (refl, (refl, (refl, (refl, (refl, (refl, (refl, (refl, tt)))))))))))))))))

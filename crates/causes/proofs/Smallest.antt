@@ -1,6 +1,6 @@
--- The assignment shown for 18 is the smallest that agrees with the witness and makes the line false. The idea: the list of all assignments rises
--- when they are read with variable 1 as the top digit, so the first that fits is the smallest; one fits, or the witness would make the line 1.
--- Assumes nothing.
+-- The assignment shown for 18 is the smallest that agrees with the witness and makes the line false. The idea: the list of all assignments
+-- rises when they are read with variable 1 as the top digit, so the first that fits is the smallest; one fits, or the witness would make
+-- the line 1. Assumes nothing.
 use mathlib.Core.Path.{_≡_, refl, sym, ap, _∙_, subst}
 use mathlib.Core.Logic.{_⊎_, inl, inr}
 use mathlib.Core.Bool.{Bool, true, false, not, _&&_, cond}
@@ -8,10 +8,10 @@ use mathlib.Core.List.{List, [], _∷_, _++_, map}
 use Prim.Native.Nat.{ℕ, zero, suc, _+_, _-_, _^_, _≤_, _<_}
 use native.Mathlib.Omega.{arith}
 use lib.ListN.{length, getD}
-use Rattle.meaning.specs.Diagram.{Assignment, holds, Diagram, leaf, same, value, valueFrom}
+use Rattle.meaning.specs.Diagram.{Assignment, Diagram, leaf, value, valueFrom}
 use Rattle.meaning.specs.Operations.{assignments, forced, cofactorLiterals}
 use Rattle.meaning.specs.Rules.{witnessed}
-use Rattle.meaning.proofs.Booleans.{t≢f, and-both, not-true, not-not}
+use Rattle.meaning.proofs.Booleans.{t≢f, and-both, not-not}
 use Rattle.meaning.proofs.Assignments.{Listed, listed, AllLong, all-long}
 use Rattle.meaning.proofs.Values.{diagram-is}
 use Rattle.meaning.proofs.Pointwise.{forced-length}
@@ -47,7 +47,8 @@ listed-append a (x ∷ xs) ys (inr h) = go (listed-append a xs ys h)
     go (inl p) = inl (inr p)
     go (inr q) = inr q
 
-rises-append : (xs ys : List Assignment) → Rises xs → Rises ys → ((a b : Assignment) → Listed a xs → Listed b ys → digits a ≤ digits b) → Rises (xs ++ ys)
+rises-append : (xs ys : List Assignment) → Rises xs → Rises ys → ((a b : Assignment) → Listed a xs → Listed b ys → digits a ≤ digits b) →
+    Rises (xs ++ ys)
 rises-append [] ys r q less = q
 rises-append (x ∷ xs) ys r q less =
     ((λ b h. go b (listed-append b xs ys h)), rises-append xs ys (r .1) q (λ a b h k. less a b (inr h) k))
@@ -62,7 +63,8 @@ listed-under v a [] h = absurd h
 listed-under v a (x ∷ xs) (inl e) = (x, e, inl refl)
 listed-under v a (x ∷ xs) (inr h) = let (c, e, l) = listed-under v a xs h in (c, e, inr l)
 
-rises-under : (v : Bool) (n : ℕ) (xs : List Assignment) → ((a : Assignment) → Listed a xs → length a ≡ n) → Rises xs → Rises (map (_∷_ v) xs)
+rises-under : (v : Bool) (n : ℕ) (xs : List Assignment) → ((a : Assignment) → Listed a xs → length a ≡ n) → Rises xs →
+    Rises (map (_∷_ v) xs)
 unfolding digits
 rises-under v n [] long r = tt
 rises-under v n (x ∷ xs) long r = ((λ b h. go b (listed-under v b xs h)), rises-under v n xs (λ a h. long a (inr h)) (r .1))
@@ -82,7 +84,8 @@ all-rise (suc n) =
     (rises-under false n (assignments n) (all-long n) (all-rise n)) (rises-under true n (assignments n) (all-long n) (all-rise n))
     (λ a b h k. go a b (listed-under false a (assignments n) h) (listed-under true b (assignments n) k))
   where
-    go : (a b : Assignment) → (c : Assignment) × (a ≡ false ∷ c) × Listed c (assignments n) → (d : Assignment) × (b ≡ true ∷ d) × Listed d (assignments n)
+    go : (a b : Assignment) → (c : Assignment) × (a ≡ false ∷ c) × Listed c (assignments n) → (d : Assignment) × (b ≡ true ∷ d)
+        × Listed d (assignments n)
         → digits a ≤ digits b
     go a b (c, e, l) (d, f, k) =
         let p : length c ≡ n = all-long n c l in
@@ -95,14 +98,16 @@ all-rise (suc n) =
 
 -- What is known of the first with a property: it is listed, has it and is least; or none has it.
 abbrev Found : (Assignment → Bool) → List Assignment → Type 0
-Found p xs = Listed (firstWith p xs) xs × (p (firstWith p xs) ≡ true) × ((b : Assignment) → Listed b xs → p b ≡ true → digits (firstWith p xs) ≤ digits b)
+Found p xs = Listed (firstWith p xs) xs × (p (firstWith p xs) ≡ true)
+    × ((b : Assignment) → Listed b xs → p b ≡ true → digits (firstWith p xs) ≤ digits b)
 
 first-is : (p : Assignment → Bool) (xs : List Assignment) → Rises xs → Found p xs ⊎ ((b : Assignment) → Listed b xs → p b ≡ false)
 unfolding firstWith
 first-is p [] r = inr (λ b h. absurd h)
 first-is p (a ∷ xs) r = go (p a) refl (first-is p xs (r .1))
   where
-    later : ((b : Assignment) → Listed b xs → p b ≡ true → digits (firstWith p xs) ≤ digits b) → p a ≡ false → (b : Assignment) → (b ≡ a) ⊎ Listed b xs → p b ≡ true
+    later : ((b : Assignment) → Listed b xs → p b ≡ true → digits (firstWith p xs) ≤ digits b) → p a ≡ false → (b : Assignment) →
+        (b ≡ a) ⊎ Listed b xs → p b ≡ true
         → digits (firstWith p xs) ≤ digits b
     later least e b (inl q) h = t≢f (sym h ∙ ap p q ∙ e)
     later least e b (inr l) h = least b l h
@@ -117,7 +122,8 @@ first-is p (a ∷ xs) r = go (p a) refl (first-is p xs (r .1))
 
     go : (t : Bool) → p a ≡ t → Found p xs ⊎ ((b : Assignment) → Listed b xs → p b ≡ false)
         → (Listed (cond t a (firstWith p xs)) (a ∷ xs) × (p (cond t a (firstWith p xs)) ≡ true)
-        × ((b : Assignment) → Listed b (a ∷ xs) → p b ≡ true → digits (cond t a (firstWith p xs)) ≤ digits b)) ⊎ ((b : Assignment) → Listed b (a ∷ xs) → p b ≡ false)
+        × ((b : Assignment) → Listed b (a ∷ xs) → p b ≡ true → digits (cond t a (firstWith p xs)) ≤ digits b)) ⊎
+        ((b : Assignment) → Listed b (a ∷ xs) → p b ≡ false)
     go true e x = inl (inl refl, e, λ b h k. first-least b h)
     go false e (inl (l, q, least)) = inl (inr l, q, later least e)
     go false e (inr none-later) = inr (none-fits e none-later)
@@ -149,7 +155,8 @@ module _ (P N : ℕ → Bool) where
     where
       go : (P i ≡ true → b ≡ true) × (P i ≡ false → N i ≡ true → b ≡ false) → AgreesFrom P N (suc i) a → (k : ℕ) → v - i ≡ k
           → (P v ≡ true → getD (b ∷ a) k false ≡ true) × (P v ≡ false → N v ≡ true → getD (b ∷ a) k false ≡ false)
-      go here later zero e = let at-i : v ≡ i = omega (arith, lo, e) in ((λ p. here .0 (ap P (sym at-i) ∙ p)), λ p q. here .1 (ap P (sym at-i) ∙ p) (ap N (sym at-i) ∙ q))
+      go here later zero e = let at-i : v ≡ i = omega (arith, lo, e) in
+          ((λ p. here .0 (ap P (sym at-i) ∙ p)), λ p q. here .1 (ap P (sym at-i) ∙ p) (ap N (sym at-i) ∙ q))
       go here later (suc k) e =
           let x = later v (omega (arith, lo, e)) (omega (arith, hi)) in
           let k-is : v - suc i ≡ k = omega (arith, e) in (rw k-is at x)
@@ -164,7 +171,8 @@ module _ (P N : ℕ → Bool) where
       let rest : agrees P N (suc i) a ≡ true = so-agrees (suc i) a (λ v lo hi. shift v lo (h v (omega (arith, lo)) (omega (arith, hi)))) in
       rw (both-test (P i) (N i) b (here .0) (here .1)) rest
     where
-      shift : (v : ℕ) → suc i ≤ v → (P v ≡ true → getD (b ∷ a) (v - i) false ≡ true) × (P v ≡ false → N v ≡ true → getD (b ∷ a) (v - i) false ≡ false)
+      shift : (v : ℕ) → suc i ≤ v → (P v ≡ true → getD (b ∷ a) (v - i) false ≡ true)
+          × (P v ≡ false → N v ≡ true → getD (b ∷ a) (v - i) false ≡ false)
           → (P v ≡ true → getD a (v - suc i) false ≡ true) × (P v ≡ false → N v ≡ true → getD a (v - suc i) false ≡ false)
       shift v lo x = let e : v - i ≡ suc (v - suc i) = omega (arith, lo) in (rw e at x)
 
@@ -174,7 +182,8 @@ module _ (P N : ℕ → Bool) where
   forced-agrees i (b ∷ a) = go (P i) (N i) (forced-agrees (suc i) a)
     where
       go : (p q : Bool) → agrees P N (suc i) (forced P N (suc i) a) ≡ true
-          → (cond p (cond p true (cond q false b)) (cond q (not (cond p true (cond q false b))) true) && agrees P N (suc i) (forced P N (suc i) a)) ≡ true
+          → (cond p (cond p true (cond q false b)) (cond q (not (cond p true (cond q false b))) true)
+          && agrees P N (suc i) (forced P N (suc i) a)) ≡ true
       go true q h = h
       go false true h = h
       go false false h = h
@@ -199,12 +208,14 @@ module _ (n : ℕ) (P N : ℕ → Bool) (g : Diagram) where
       go false true e f = t≢f f
       go false false e f = t≢f (sym e)
 
-  -- THEOREM: where the witness does not make the line 1, `smallest` is the smallest assignment that agrees with it and makes the line false.
+  -- THEOREM: where the witness does not make the line 1, `smallest` is the smallest assignment that agrees with it and makes the line
+  -- false.
   pub smallest-so : witnessed n P N g ≡ false → Smallest n P N g (smallest n P N g)
   unfolding smallest AllLong Agrees
   smallest-so w = go (first-is fits (assignments n) (all-rise n))
     where
-      go : Found fits (assignments n) ⊎ ((b : Assignment) → Listed b (assignments n) → fits b ≡ false) → Smallest n P N g (firstWith fits (assignments n))
+      go : Found fits (assignments n) ⊎ ((b : Assignment) → Listed b (assignments n) → fits b ≡ false) →
+          Smallest n P N g (firstWith fits (assignments n))
       go (inr none-fits) = t≢f (sym (none-one none-fits) ∙ w)
       go (inl (l, holds-there, least)) =
           let a : Assignment = firstWith fits (assignments n) in

@@ -1,5 +1,5 @@
--- What `why` shows, a theorem a sentence of 02's 8/14: the number is the check's; the piece is a part of its text; the cause of 14, 18 and 19 is true of
--- the command that is refused; every other number is its own cause. Assumes nothing.
+-- What `why` shows, a theorem a sentence of 02's 8/14: the number is the check's; the piece is a part of its text; the cause of 14, 18 and
+-- 19 is true of the command that is refused; every other number is its own cause. Assumes nothing.
 use mathlib.Core.Path.{_≡_, refl, sym, subst}
 use mathlib.Core.Bool.{true}
 use mathlib.Core.List.{List}
@@ -11,8 +11,10 @@ use Rattle.causes.proofs.Causes.{hasCause, cause-so}
 
 module _ (mode : Mode) (s : ℕ) (text proof : List ℕ) where
   -- The cause of each of the three numbers; `Caused` (Shows) says what it is for each command.
-  cause-of : (k : ℕ) → hasCause k ≡ true → explanation mode s text proof .number ≡ k → TrueCause mode s text proof k (explanation mode s text proof .cause)
-  cause-of k has e = subst (λ (x : ℕ). TrueCause mode s text proof x (explanation mode s text proof .cause)) e (cause-so mode s text proof (subst (λ (x : ℕ). hasCause x ≡ true) (sym e) has))
+  cause-of : (k : ℕ) → hasCause k ≡ true → explanation mode s text proof .number ≡ k →
+      TrueCause mode s text proof k (explanation mode s text proof .cause)
+  cause-of k has e = subst (λ (x : ℕ). TrueCause mode s text proof x (explanation mode s text proof .cause)) e
+      (cause-so mode s text proof (subst (λ (x : ℕ). hasCause x ≡ true) (sym e) has))
 
   -- THEOREM: for 14 "the two variables, the low child's if both offend".
   pub why-14 : explanation mode s text proof .number ≡ 14 → TrueCause mode s text proof 14 (explanation mode s text proof .cause)

@@ -14,7 +14,7 @@ use Rattle.dimacs.specs.Clauses.{Reading, clause, complete, refusal, clausesFro
 use Rattle.commands.specs.declared.Mode.{Mode}
 use Rattle.commands.specs.Commands.{start, commandAt}
 use Rattle.verdict.specs.Steps.{State, emptied, begun, Step, next, stop, spent}
-use Rattle.verdict.specs.Check.{step, Verdict, verdict, lentFits}
+use Rattle.verdict.specs.Check.{step, verdict, lentFits}
 use Rattle.causes.specs.Parts.{Part, nothing, partOf}
 use Rattle.causes.specs.Causes.{Cause, plain, cause}
 

@@ -1,7 +1,7 @@
 -- What is said of an explanation, as 02 words it: the piece lies in its text, and the cause is what it is called. No call open to others
 -- cites this file: the theorems on what `why` shows do.
 use mathlib.Core.Path.{_≡_}
-use mathlib.Core.Logic.{_≢_, _⊎_}
+use mathlib.Core.Logic.{_⊎_}
 use mathlib.Core.Bool.{Bool, true, false, cond}
 use mathlib.Core.List.{List, [], _∷_, _++_}
 use mathlib.Core.Option.{none, some}
@@ -27,12 +27,13 @@ use Rattle.verdict.specs.Taken.{Meant}
 use Rattle.verdict.specs.Run.{commandIn, Reached}
 use Rattle.verdict.specs.Cases.{unitsTo}
 use Rattle.causes.specs.Parts.{Part}
-use Rattle.causes.specs.Causes.{Cause, plain, variables, assignment, fixed, turnMembers}
+use Rattle.causes.specs.Causes.{Cause, variables, assignment, fixed, turnMembers}
 use Rattle.causes.specs.Explanation.{Ending, unread, ended}
 
 -- ---- the end
 
--- The ending is where the verdict is given: the formula is refused, with one of its numbers; or a command ends the proof in the state reached.
+-- The ending is where the verdict is given: the formula is refused, with one of its numbers; or a command ends the proof in the state
+-- reached.
 pub data EndsAt (mode : Mode) (s : ℕ) (text proof : List ℕ) : Verdict → Ending → Type 0 where
   formula-refused : {number place peak : ℕ} → (1 ≤ number) × (number ≤ 8) → place ≤ length text
       → EndsAt mode s text proof (refusedFormula number place peak) unread
@@ -124,7 +125,8 @@ pub record PathFails (n : ℕ) (ms : List Diagram) (cs : List (List Literal)) (r
 
 -- What a cause says of the command that is refused with a number, in the state before it. Of a clause its last try.
 pub data Caused (profile : Bool) (n : ℕ) (st : State) : Command → ℕ → Cause → Type 0 where
-  not-before : {b : NodeBody} {more : Bool} {v w : ℕ} → Offends st b v w → Caused profile n st (recorded (NodeEntry b) more) 14 (variables v w)
+  not-before : {b : NodeBody} {more : Bool} {v w : ℕ} → Offends st b v w →
+      Caused profile n st (recorded (NodeEntry b) more) 14 (variables v w)
   not-witnessed : {root : EntryNo} {more : Bool} {a : Assignment}
       → Smallest n (inWord (st .positive)) (inWord (st .negative)) (diagramIn st (entryNode st (root .0))) a
       → Caused profile n st (recorded (ProofLine Pr root) more) 18 (assignment a)
@@ -133,10 +135,11 @@ pub data Caused (profile : Bool) (n : ℕ) (st : State) : Command → ℕ → Ca
   pr-fails : {root : EntryNo} {more : Bool} {rounds : List (List Literal)} {i : ℕ}
       → PrFails n (inWord (st .positive)) (inWord (st .negative)) st (diagramIn st (entryNode st (root .0))) rounds i
       → Caused profile n st (recorded (ProofLine Pr root) more) 19 (fixed rounds (some i))
-  path-fails : {root : EntryNo} {more : Bool} {rounds : List (List Literal)} 
+  path-fails : {root : EntryNo} {more : Bool} {rounds : List (List Literal)}
       → PathFails n (liveMembers st) (paths (diagramIn st (entryNode st (root .0)))) rounds
       → Caused profile n st (recorded (ProofLine Path root) more) 19 (fixed rounds none)
-  first-try-fails : {ls : List Literal} {rounds : List (List Literal)} → (profile ≡ true) ⊎ (ls ≡ []) → RupFails n st (meaning.clause n ls) rounds
+  first-try-fails : {ls : List Literal} {rounds : List (List Literal)} → (profile ≡ true) ⊎ (ls ≡ []) →
+      RupFails n st (meaning.clause n ls) rounds
       → Caused profile n st (added ls) 19 (fixed rounds none)
   clause-fails : {p : Literal} {ls : List Literal} {rounds : List (List Literal)} {i : ℕ} → profile ≡ false
       → PrFails n (makesTrue (witness p (p ∷ ls))) (makesFalse (witness p (p ∷ ls))) st (meaning.clause n (p ∷ ls)) rounds i

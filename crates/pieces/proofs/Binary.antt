@@ -14,7 +14,7 @@ use Rattle.commands.specs.declared.DratClause.{DratClause}
 use Rattle.commands.specs.declared.binary.GroupsRead.{GroupsRead}
 use Rattle.commands.specs.declared.Command.the-variants as code-variants
 use Rattle.commands.specs.declared.Read as code-read
-use Rattle.commands.specs.Commands.{Command, recorded, added, struckOut, wrong, finished, Read, Groups, cut, groups, groupsIn, binaryRead}
+use Rattle.commands.specs.Commands.{Command, recorded, added, struckOut, wrong, finished, Groups, cut, groups, groupsIn, binaryRead}
 use Rattle.commands.specs.Inner.{commandOf, readOf, groupsRead}
 use Rattle.causes.specs.Parts.{groupsEnd, readEnd, binaryEnd}
 
@@ -55,31 +55,39 @@ read-finished s (struckOut ls) next e = let z : _≡_ {A = ℕ} 0 1 = cc in absu
 read-finished s (wrong k p) next e = refl
 read-finished s finished next e = refl
 
-module _ (s : List ℕ) (x : Read) (r : code-read.Read) (is : r ≡ readOf x) where
-  command-is : commandOf (x .command) ≡ r .command
+module _ (s : List ℕ) (at : ℕ) (r : code-read.Read) (is : r ≡ readOf (binaryRead s 64 at)) where
+  command-is : commandOf (binaryRead s 64 at .command) ≡ r .command
   command-is = sym (ap (λ (z : code-read.Read). z .command) is)
 
-  next-is : r .next ≡ x .next
+  next-is : r .next ≡ binaryRead s 64 at .next
   next-is = ap (λ (z : code-read.Read). z .next) is
 
-  pub ends-added : (w : DratClause) → r .command ≡ code-variants.Added w → r .next ≡ readEnd s (x .command) (x .next)
-  ends-added w e = next-is ∙ read-added s (x .command) (x .next) w (command-is ∙ e)
+  abbrev clauseStop : ℕ
+  clauseStop = readEnd s (binaryRead s 64 at .command) (binaryRead s 64 at .next)
 
-  pub ends-struck : (w : DratClause) → r .command ≡ code-variants.Struck w → r .next ≡ readEnd s (x .command) (x .next)
-  ends-struck w e = next-is ∙ read-struck s (x .command) (x .next) w (command-is ∙ e)
+  pub ends-added : (w : DratClause) → r .command ≡ code-variants.Added w → r .next ≡ clauseStop
+  ends-added w e = next-is ∙ read-added s (binaryRead s 64 at .command) (binaryRead s 64 at .next) w (command-is ∙ e)
 
-  pub ends-recorded : (q : Record) (more : Bool) → r .command ≡ code-variants.Recorded q more → length s ≡ readEnd s (x .command) (x .next)
-  ends-recorded q more e = read-recorded s (x .command) (x .next) q more (command-is ∙ e)
+  pub ends-struck : (w : DratClause) → r .command ≡ code-variants.Struck w → r .next ≡ clauseStop
+  ends-struck w e = next-is ∙ read-struck s (binaryRead s 64 at .command) (binaryRead s 64 at .next) w (command-is ∙ e)
 
-  pub ends-wrong : (number offset : ℕ) → r .command ≡ code-variants.Wrong number offset → length s ≡ readEnd s (x .command) (x .next)
-  ends-wrong number offset e = read-wrong s (x .command) (x .next) number offset (command-is ∙ e)
+  pub ends-recorded : (q : Record) (more : Bool) → r .command ≡ code-variants.Recorded q more → length s ≡ clauseStop
+  ends-recorded q more e = read-recorded s (binaryRead s 64 at .command) (binaryRead s 64 at .next) q more (command-is ∙ e)
 
-  pub ends-finished : r .command ≡ code-variants.Finished → length s ≡ readEnd s (x .command) (x .next)
-  ends-finished e = read-finished s (x .command) (x .next) (command-is ∙ e)
+  pub ends-wrong : (number offset : ℕ) → r .command ≡ code-variants.Wrong number offset → length s ≡ clauseStop
+  ends-wrong number offset e =
+      read-wrong s (binaryRead s 64 at .command) (binaryRead s 64 at .next) number offset (command-is ∙ e)
 
-pub ends-groups : (at : ℕ) (g : Groups) (r : GroupsRead) → r ≡ groupsRead 64 at g → r .end ≡ groupsEnd at g
-ends-groups at cut r e = ap (λ (z : GroupsRead). z .end) e
-ends-groups at (groups number many last) r e = ap (λ (z : GroupsRead). z .end) e
+  pub ends-finished : r .command ≡ code-variants.Finished → length s ≡ clauseStop
+  ends-finished e = read-finished s (binaryRead s 64 at .command) (binaryRead s 64 at .next) (command-is ∙ e)
+
+groups-stop : (at : ℕ) (g : Groups) (r : GroupsRead) → r ≡ groupsRead 64 at g → r .end ≡ groupsEnd at g
+groups-stop at cut r e = ap (λ (z : GroupsRead). z .end) e
+groups-stop at (groups number many last) r e = ap (λ (z : GroupsRead). z .end) e
+
+pub ends-groups : (s : List ℕ) (at : ℕ) (r : GroupsRead) → r ≡ groupsRead 64 at (groupsIn (drop at s))
+    → r .end ≡ groupsEnd at (groupsIn (drop at s))
+ends-groups s at = groups-stop at (groupsIn (drop at s))
 
 not-both : (t : Bool) → (t && false) ≡ false
 not-both true = refl

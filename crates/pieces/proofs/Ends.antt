@@ -1,10 +1,9 @@
 -- One step of the walks to the end of a token and of a line, and the end of what is read of a clause. Assumes nothing.
-use mathlib.Core.Path.{_≡_, refl, sym, ap, _∙_}
-use mathlib.Core.Bool.{Bool, true, false, not, cond}
+use mathlib.Core.Path.{_≡_, sym, ap, _∙_}
+use mathlib.Core.Bool.{true, false, not}
 use mathlib.Core.List.{List, [], _∷_}
 use Prim.Native.Nat.{ℕ, _+_, _-_, _≤_, _<_}
 use lib.ListN.{length, getD}
-use lib.Dec.{eqb}
 use borrow.Author.Tests.{eq-eqb, ne-eqb, lt-ltb, le-ltb}
 use Rattle.dimacs.specs.declared.ClosedClause.{ClosedClause}
 use Rattle.dimacs.specs.declared.Clause.{Clause}
@@ -54,7 +53,8 @@ module _ (s : List ℕ) (at : ℕ) where
   unfolding clauseEnd
   clause-struck from r lt word is e = e ∙ rw (lt-ltb at (length s) lt, word, is)
 
-  pub clause-added : (r : ℕ) → at < length s → isWord s at (100 ∷ []) ≡ false → r ≡ closedEnd s (clauseFrom s 64 (length s - at) at at) → r ≡ clauseEnd s at
+  pub clause-added : (r : ℕ) → at < length s → isWord s at (100 ∷ []) ≡ false → r ≡ closedEnd s (clauseFrom s 64 (length s - at) at at) → r
+      ≡ clauseEnd s at
   unfolding clauseEnd
   clause-added r lt word e = e ∙ rw (lt-ltb at (length s) lt, word)
 

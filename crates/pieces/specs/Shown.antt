@@ -4,10 +4,9 @@ use mathlib.Core.List.{List, []}
 use Prim.Native.Nat.{ℕ, _+_, _-_}
 use lib.ListN.{length, take, drop}
 use lib.Dec.{leb}
-use denote.Ref.{RefT, ptr, now}
+use denote.Ref.{RefT, ptr}
 use Rattle.commands.specs.declared.Form.{Form}
 use Rattle.causes.specs.Parts as causes
-use Rattle.causes.specs.Shows.{textOf}
 use Rattle.pieces.specs.declared.Part.{Part}
 
 -- The end of the piece at the place of a number, in the formula or in the proof.

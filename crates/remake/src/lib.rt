@@ -1,7 +1,7 @@
 // The records of a line done again over what the check leaves. (02, 8/14)
+use records::Record;
 use state::State;
 use state::Step;
-use records::Record;
 ghost use mathlib.Core.Path.{_≡_};
 ghost use Prim.Native.Nat.{_≤_};
 ghost use lib.ListN.{length};

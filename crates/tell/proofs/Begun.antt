@@ -9,7 +9,7 @@ use lib.ListN.{length, getD, take, length-replicate, length-append}
 use lib.Seq.{length-take-le, getD-take, take-append-seam}
 use Rattle.table.specs.Nodes.{Node, at, blank}
 use Rattle.table.specs.Columns.{Columns, columnsMade, storedAs}
-use Rattle.table.specs.Indexed.{Table, tableOf, listsOf, size, nodesOf, indexed, Good}
+use Rattle.table.specs.Indexed.{tableOf, nodesOf, indexed, Good}
 use Rattle.table.specs.Lists.{Inside}
 use Rattle.table.proofs.Order.{Ordered}
 use Rattle.table.proofs.Growth.{ordered-dropped}
@@ -17,7 +17,8 @@ use Rattle.table.proofs.Written.{nodes-indexed, good-indexed}
 use Rattle.table.proofs.InOrder.{left-stored}
 use Rattle.table.proofs.Zeros.{zeros-at}
 use Rattle.records.specs.declared.Record.{Record}
-use Rattle.records.specs.declared.Record.the-variants.{NodeEntry, Witness, ProofLine, Strike, SetEntry, End, CutShort, UnknownKind, NoRecord}
+use Rattle.records.specs.declared.Record.the-variants.{NodeEntry, Witness, ProofLine, Strike, SetEntry, End, CutShort, UnknownKind}
+use Rattle.records.specs.declared.Record.the-variants.{NoRecord}
 use Rattle.records.specs.Records.{recordAt, lengthOf}
 use Rattle.commands.specs.Commands.{inRecords}
 use Rattle.verdict.specs.Steps as check
@@ -29,7 +30,7 @@ use Rattle.verdict.proofs.Ends.{reached-standing}
 use Rattle.state.specs.declared.State.{State}
 use Rattle.state.specs.States.{Lent, tableIn, stateOf, Held}
 use Rattle.why.specs.Again.{Rest, onLine, asBegun, Redo, Retaken, done, then, lineStart, Walk, again}
-use Rattle.why.proofs.Again.{LineSoFar, so-far, retaken-again}
+use Rattle.why.proofs.Again.{so-far, retaken-again}
 use Rattle.remake.specs.Remade.{Remakes}
 use Rattle.tell.specs.Begun.{lineState, lineRest}
 
@@ -53,7 +54,8 @@ pub record LeftOf (s m c : ℕ) (st : check.State) (l : Lent) : Type 0 where
   pub struck : l .struck ≡ st .struck ++ zeros (m - length (st .struck))
   pub scratch : l .scratch ≡ zeros c
 
-module _ (s m c : ℕ) (two : 2 ≤ s) (most : s ≤ 65536) (wide : 2048 ≤ m) (long : 4096 ≤ c) (n : ℕ) (narrow : n ≤ 64) (st : check.State) (meant : Meant) (S : Standing s n meant st)
+module _ (s m c : ℕ) (two : 2 ≤ s) (most : s ≤ 65536) (wide : 2048 ≤ m) (long : 4096 ≤ c) (n : ℕ) (narrow : n ≤ 64) (st : check.State)
+    (meant : Meant) (S : Standing s n meant st)
     (l : Lent) (L : LeftOf s m c st l) where
   abbrev nodes : List Node
   nodes = take (st .kept) (st .nodes)
@@ -92,7 +94,8 @@ module _ (s m c : ℕ) (two : 2 ≤ s) (most : s ≤ 65536) (wide : 2048 ≤ m) 
   few = omega (arith, S .many, S .lines, wide)
 
   members-long : length (l .members) ≡ m
-  members-long = ap length (L .members) ∙ length-append (st .members) (zeros (m - many)) ∙ ap (λ (k : ℕ). many + k) (length-replicate (m - many) 0) ∙ omega (arith, few)
+  members-long = ap length (L .members) ∙ length-append (st .members) (zeros (m - many))
+      ∙ ap (λ (k : ℕ). many + k) (length-replicate (m - many) 0) ∙ omega (arith, few)
 
   struck-long : length (l .struck) ≡ m
   struck-long =
@@ -101,7 +104,8 @@ module _ (s m c : ℕ) (two : 2 ≤ s) (most : s ≤ 65536) (wide : 2048 ≤ m) 
 
   struck-are : take many (l .struck) ≡ st .struck
   struck-are =
-      ap (λ (k : ℕ). take k (l .struck)) (sym (S .marks)) ∙ ap (take (length (st .struck))) (L .struck) ∙ take-append-seam (st .struck) (zeros (m - length (st .struck)))
+      ap (λ (k : ℕ). take k (l .struck)) (sym (S .marks)) ∙ ap (take (length (st .struck))) (L .struck)
+      ∙ take-append-seam (st .struck) (zeros (m - length (st .struck)))
 
   -- The lists hold the state as its line began.
   pub begun-held : Held n l first
@@ -124,7 +128,8 @@ module _ (s m c : ℕ) (two : 2 ≤ s) (most : s ≤ 65536) (wide : 2048 ≤ m) 
     lines = S .lines;
     room = omega (arith, members-long, wide);
     marked = struck-long ∙ sym members-long;
-    unmarked = λ i p. ap (λ (xs : List ℕ). getD xs i 0) (L .struck) ∙ behind (st .struck) (m - length (st .struck)) i (omega (arith, S .marks, p));
+    unmarked = λ i p. ap (λ (xs : List ℕ). getD xs i 0) (L .struck) ∙ behind (st .struck) (m - length (st .struck)) i
+        (omega (arith, S .marks, p));
     rounds = omega arith;
   }
 
@@ -160,7 +165,8 @@ redo-marks n s st CutShort st′ T = absurd T
 redo-marks n s st UnknownKind st′ T = absurd T
 redo-marks n s st NoRecord st′ T = absurd T
 
-retaken-marks : (n s : ℕ) (proof : List ℕ) (st : check.State) (at : ℕ) (st′ : check.State) (to : ℕ) → Retaken n s proof st at st′ to → st′ .struck ≡ st .struck
+retaken-marks : (n s : ℕ) (proof : List ℕ) (st : check.State) (at : ℕ) (st′ : check.State) (to : ℕ) → Retaken n s proof st at st′ to →
+    st′ .struck ≡ st .struck
 retaken-marks n s proof st at _ _ done = refl
 retaken-marks n s proof st at st′ to (then {st₁ = x} form F W) =
     retaken-marks n s proof x (at + lengthOf (recordAt proof at)) st′ to W ∙ redo-marks n s st (recordAt proof at) x F
@@ -177,7 +183,8 @@ pub record SameLine (st x : check.State) : Type 0 where
   pub positive : x .positive ≡ st .positive
   pub negative : x .negative ≡ st .negative
 
-module _ (s m c : ℕ) (two : 2 ≤ s) (most : s ≤ 65536) (wide : 2048 ≤ m) (long : 4096 ≤ c) (text proof : List ℕ) {n : ℕ} {st : check.State} {at : ℕ} {meant : Meant}
+module _ (s m c : ℕ) (two : 2 ≤ s) (most : s ≤ 65536) (wide : 2048 ≤ m) (long : 4096 ≤ c) (text proof : List ℕ) {n : ℕ} {st : check.State}
+    {at : ℕ} {meant : Meant}
     (R : Reached inRecords s text proof n st at meant) (l : Lent) (L : LeftOf s m c st l) where
   abbrev from : ℕ
   from = so-far s text proof R .from
@@ -194,8 +201,11 @@ module _ (s m c : ℕ) (two : 2 ≤ s) (most : s ≤ 65536) (wide : 2048 ≤ m) 
   retaken : (o : Rest) × Retaken n s proof (stateOf l begunOne) from (onLine o st) at
   retaken =
       let (narrow, S) = reached-standing inRecords s text proof R in
-      let (o, W) = so-far s text proof R .redone (lineRest l (st .kept) (length (st .members)) (st .lines)) in
-      (o, subst (λ (x : check.State). Retaken n s proof x from (onLine o st) at) (sym (begun-is s m c two most wide long n narrow st meant S l L)) W)
+      let (o, W) = so-far s text proof R .redone (lineRest l (st .kept) (length (st .members)) (st .lines)) in (
+        o,
+        subst (λ (x : check.State). Retaken n s proof x from (onLine o st) at)
+            (sym (begun-is s m c two most wide long n narrow st meant S l L)) W,
+      )
 
   pub remakes : Remakes n s proof (stateOf l begunOne) from at
   remakes = record { last = onLine (retaken .0) st; taken = retaken .1 }
@@ -203,9 +213,19 @@ module _ (s m c : ℕ) (two : 2 ≤ s) (most : s ≤ 65536) (wide : 2048 ≤ m) 
   marks-same : onLine (retaken .0) st .struck ≡ st .struck
   marks-same =
       let (narrow, W) = reached-standing inRecords s text proof R in
-      retaken-marks n s proof (stateOf l begunOne) from (onLine (retaken .0) st) at (retaken .1) ∙ struck-are s m c two most wide long n narrow st meant W l L
+      retaken-marks n s proof (stateOf l begunOne) from (onLine (retaken .0) st) at (retaken .1)
+      ∙ struck-are s m c two most wide long n narrow st meant W l L
 
   pub remade-same : SameLine st (again at n s proof (stateOf l begunOne) from at)
   remade-same =
       let is = retaken-again n s proof at (stateOf l begunOne) from (onLine (retaken .0) st) at (retaken .1) (omega arith) in
-      subst (SameLine st) (sym is) (record { nodes = refl; kept = refl; members = refl; struck = marks-same; entries = refl; positive = refl; negative = refl })
+      subst (SameLine st) (sym is) (record {
+        nodes = refl;
+        kept = refl;
+        members = refl;
+        struck = marks-same;
+        entries = refl;
+        positive =
+            refl;
+        negative = refl;
+      })

@@ -1,10 +1,10 @@
 -- How many members a reached state has: the header's clauses and the lines so far. The idea: a formula that is read to its end has as many
 -- clauses as its header wants. Assumes nothing.
-use mathlib.Core.Path.{_≡_, refl, sym, ap, ap₂, _∙_, subst}
-use mathlib.Core.Logic.{_⊎_, inl, inr}
+use mathlib.Core.Path.{_≡_, refl, sym, ap, _∙_, subst}
+use mathlib.Core.Logic.{inl, inr}
 use mathlib.Core.Bool.{Bool, true, false, cond}
 use mathlib.Core.List.{List, [], _∷_, _++_}
-use Prim.Native.Nat.{ℕ, zero, suc, _+_, _-_, _≤_, _<_}
+use Prim.Native.Nat.{ℕ, zero, suc, _+_, _-_}
 use native.Mathlib.Omega.{arith}
 use lib.ListN.{length, length-append}
 use lib.Seq.{slice}
@@ -17,14 +17,16 @@ use Rattle.dimacs.specs.declared.Token.the-variants.{Closing, Literal, Wrong}
 use Rattle.dimacs.specs.Header.{header}
 use Rattle.dimacs.specs.Text.{tokenEnd, between}
 use Rattle.dimacs.specs.Numbers.{tokenOf}
-use Rattle.dimacs.specs.Clauses.{Next, closed, ended, refused, literalThen, afterToken, clauseFrom, nextClause, Reading, clause, complete, refusal, readingThen, clausesFrom}
+use Rattle.dimacs.specs.Clauses.{Next, closed, ended, refused, afterToken, clauseFrom, nextClause, Reading, clause, complete}
+use Rattle.dimacs.specs.Clauses.{readingThen, clausesFrom}
 use Rattle.records.specs.declared.Record.{Record}
-use Rattle.records.specs.declared.Record.the-variants.{NodeEntry, Witness, ProofLine, Strike, SetEntry, End, CutShort, UnknownKind, NoRecord}
+use Rattle.records.specs.declared.Record.the-variants.{NodeEntry, Witness, ProofLine, Strike, SetEntry, End, CutShort, UnknownKind}
+use Rattle.records.specs.declared.Record.the-variants.{NoRecord}
 use Rattle.commands.specs.declared.Mode.{Mode}
 use Rattle.commands.specs.Commands.{Command, recorded, added, struckOut, wrong, finished}
-use Rattle.verdict.specs.Steps.{State, begun, withEntry}
+use Rattle.verdict.specs.Steps.{State, withEntry}
 use Rattle.verdict.specs.Taken.{Function, Meant, Taken}
-use Rattle.verdict.specs.ClauseTaken.{ClauseTaken, TriesTaken, ClauseStruck}
+use Rattle.verdict.specs.ClauseTaken.{ClauseTaken, TriesTaken}
 use Rattle.verdict.specs.Run.{Making, opened, made, commandIn, CommandTaken, Reached, begins, goes}
 
 module _ (s : List ℕ) (n : ℕ) where
@@ -46,13 +48,15 @@ module _ (s : List ℕ) (n : ℕ) where
   clause-ended (suc k) first at e =
       let end = tokenEnd s at in
       by-test (ltb at (length s)) (afterToken (tokenOf n (slice at end s)) first at end (clauseFrom s n k first (between s end))) 6 first
-      (after-ended (tokenOf n (slice at end s)) first at end (clauseFrom s n k first (between s end)) (clause-ended k first (between s end))) e
+      (after-ended (tokenOf n (slice at end s)) first at end (clauseFrom s n k first (between s end))
+      (clause-ended k first (between s end))) e
 
   next-ended : (left at : ℕ) → nextClause s n (suc left) at ≡ ended → ⊥
   unfolding nextClause
   next-ended left at e =
       let first = between s at in
-      by-test (ltb first (length s)) (clauseFrom s n (length s - first) first first) 5 (length s) (clause-ended (length s - first) first first) e
+      by-test (ltb first (length s)) (clauseFrom s n (length s - first) first first) 5 (length s)
+      (clause-ended (length s - first) first first) e
 
   -- A reading that is complete wants no clause more.
   complete-none : (left at : ℕ) → clausesFrom s n left at ≡ complete → left ≡ 0
@@ -94,7 +98,8 @@ pub record Underway (s : ℕ) (text : List ℕ) (n many : ℕ) (ms : List ℕ) (
   pub is : rest ≡ clausesFrom text n wanted place
 
 module _ (s : ℕ) (text : List ℕ) (n many : ℕ) where
-  making-counted : {t : List Node} {ms : List ℕ} {fs : List Function} {rest : Reading} → Making s text n many t ms fs rest → Underway s text n many ms rest
+  making-counted : {t : List Node} {ms : List ℕ} {fs : List Function} {rest : Reading} → Making s text n many t ms fs rest →
+      Underway s text n many ms rest
   making-counted (opened {at} e) = record { header-end = at; proper = e; wanted = many; place = at; counted = omega arith; is = refl }
   making-counted (made {ms = ms} {k = k} {ls = ls} {first = first} {rest = rest} M p) =
       let U = making-counted M in

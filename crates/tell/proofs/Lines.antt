@@ -1,5 +1,5 @@
 -- The cause of a line that is refused with 19, over the header's variables, is what `rup_cause` and `pr_cause` tell. Assumes nothing.
-use mathlib.Core.Path.{_≡_, refl, sym, ap, ap₂, _∙_, subst}
+use mathlib.Core.Path.{_≡_, refl, sym, ap, ap₂, _∙_}
 use mathlib.Core.Logic.{_≢_}
 use mathlib.Core.Bool.{Bool, true, false}
 use mathlib.Core.List.{List, [], _∷_}
@@ -7,7 +7,6 @@ use mathlib.Core.Option.{none, some}
 use Prim.Native.Nat.{ℕ, suc, _≤_, _<_}
 use native.Mathlib.Omega.{arith}
 use lib.ListN.{length, getD, take}
-use lib.Dec.{eqb}
 use Rattle.meaning.specs.Diagram.{Diagram, leaf, same, Reduced}
 use Rattle.meaning.specs.Operations.{Literal, negation, cofactorLiterals}
 use Rattle.meaning.specs.Rules.{Line, byDiagram, prTurns}
@@ -16,17 +15,17 @@ use Rattle.meaning.proofs.Booleans.{t≢f}
 use Rattle.meaning.proofs.Ends.{AllReduced, byDiagram-reduced}
 use Rattle.meaning.proofs.Pointwise.{literals-reduced}
 use Rattle.table.specs.Nodes.{diagramAt}
-use Rattle.table.specs.Indexed.{Table, size, nodesOf}
+use Rattle.table.specs.Indexed.{Table, nodesOf}
 use Rattle.table.specs.Lists.{diagramsOf, Inside}
 use Rattle.table.proofs.Numbers.{reduced-to}
 use Rattle.table.proofs.Written.{length-nodes, good-ordered}
 use Rattle.verdict.specs.Steps as check
-use Rattle.verdict.specs.Steps.{diagramIn, isLive, liveMembers, unstruck}
+use Rattle.verdict.specs.Steps.{diagramIn, liveMembers, unstruck}
 use Rattle.judge.proofs.Fits.{constant-turn}
 use Rattle.judge.proofs.Negations.{not-one}
 use Rattle.state.specs.declared.State.{State}
 use Rattle.state.specs.States.{Lent, tableIn, stateOf, Held}
-use Rattle.causes.specs.Causes.{Cause, fixed, fixes, rupCause, turnMembers, unshown, prCause}
+use Rattle.causes.specs.Causes.{fixed, fixes, rupCause, prCause}
 use Rattle.tell.specs.Failed.{byNot, turnLine, underWitness, PrTold}
 use Rattle.tell.proofs.Named.{first-named, many-are, member-is, live-is}
 use Rattle.tell.proofs.Refused.{members-inside, live-inside}
@@ -40,7 +39,8 @@ module _ (n : ℕ) (L : Lent) (x : State) (H : Held n L x) where
   S = stateOf L x
 
   reduced : (k : ℕ) → k < x .count → Reduced 1 (suc n) (diagramAt (nodesOf T) k)
-  reduced k p = reduced-to n (nodesOf T) (good-ordered T (H .entries .good)) (H .entries .uses) k (omega (arith, length-nodes T (H .entries .good), p))
+  reduced k p = reduced-to n (nodesOf T) (good-ordered T (H .entries .good)) (H .entries .uses) k
+      (omega (arith, length-nodes T (H .entries .good), p))
 
   all-reduced : (ks : List ℕ) → Inside (x .count) ks → AllReduced n (diagramsOf (nodesOf T) ks)
   all-reduced [] inside = tt
@@ -55,7 +55,8 @@ module _ (n : ℕ) (L : Lent) (x : State) (H : Held n L x) where
 
     -- THEOREM: of a RUP line.
     pub rup-cause-is : rupCause n (liveMembers S) G ≡ fixed (fixes 64 (byNot G (liveMembers S))) none
-    rup-cause-is = rup-cause-width n (H .entries .narrow) G (reduced g inside) (not-one T (H .entries .good) g inside ne) (liveMembers S) live-reduced
+    rup-cause-is = rup-cause-width n (H .entries .narrow) G (reduced g inside) (not-one T (H .entries .good) g inside ne) (liveMembers S)
+        live-reduced
 
     abbrev msₙ : List Diagram
     msₙ = byDiagram n (negation n G) (liveMembers S)
@@ -83,9 +84,11 @@ module _ (n : ℕ) (L : Lent) (x : State) (H : Held n L x) where
       member-reduced j h = reduced (getD (S .members) j 0) (members-inside n L x H j (omega (arith, h, many-are L x m-room s-room)))
 
       -- a turn over n variables
-      turn-is : (j : ℕ) → j < x .members → prTurns n P N msₙ (member j ∷ []) .shown ≡ turnLine p q (byNot G (liveMembers S)) (diagramIn S (getD (L .members) j 0)) .shown
+      turn-is : (j : ℕ) → j < x .members → prTurns n P N msₙ (member j ∷ []) .shown
+          ≡ turnLine p q (byNot G (liveMembers S)) (diagramIn S (getD (L .members) j 0)) .shown
       turn-is j h =
-          sym (turn-width n (H .entries .narrow) P N msₙ (byDiagram-reduced n (negation n G) (liveMembers S)) (member j) (member-reduced j h) (literals-reduced n P N (member j)))
+          sym (turn-width n (H .entries .narrow) P N msₙ (byDiagram-reduced n (negation n G) (liveMembers S)) (member j)
+          (member-reduced j h) (literals-reduced n P N (member j)))
           ∙ ap₂ (λ (ds : List Diagram) (k : ℕ). turnLine p q ds (diagramIn S k) .shown) (sym same-ms) (member-is L x m-room s-room j h)
 
       other-of : (f : Diagram) → prTurns n P N msₙ (f ∷ []) .shown ≡ false → same (cofactorLiterals n P N f) (leaf true) ≡ false
@@ -96,14 +99,19 @@ module _ (n : ℕ) (L : Lent) (x : State) (H : Held n L x) where
           go true e = t≢f (sym (ap (λ (M : Line). M .shown) (constant-turn n P N msₙ f e)) ∙ hidden)
 
       -- THEOREM: of a PR line, by what is told of it.
-      pub pr-cause-is : (i rounds : ℕ) (words : List ℕ) → PrTold (nodesOf T) p q (byNot G (liveMembers S)) (L .members) (L .struck) (x .members) i rounds words
-          → prCause n P N S G ≡ fixed (fixes 64 (byNot (underWitness p q (diagramIn S (getD (L .members) i 0))) (byNot G (liveMembers S)))) (some i)
+      pub pr-cause-is : (i rounds : ℕ) (words : List ℕ) → PrTold (nodesOf T) p q (byNot G (liveMembers S)) (L .members) (L .struck)
+          (x .members) i rounds words
+          → prCause n P N S G ≡ fixed (fixes 64 (byNot (underWitness p q (diagramIn S (getD (L .members) i 0))) (byNot G (liveMembers S))))
+          (some i)
       unfolding prCause
       pr-cause-is i rounds words W =
           let hidden : prTurns n P N msₙ (member i ∷ []) .shown ≡ false = turn-is i (W .inside) ∙ W .hidden in
           first-named n S P N msₙ i (live-is L x m-room s-room i (W .inside) ∙ W .live) hidden
-          (λ j h e. turn-is j (omega (arith, h, W .inside)) ∙ W .lowest j h (sym (live-is L x m-room s-room j (omega (arith, h, W .inside))) ∙ e))
+          (λ j h e. turn-is j (omega (arith, h, W .inside)) ∙ W .lowest j h
+          (sym (live-is L x m-room s-room j (omega (arith, h, W .inside))) ∙ e))
           (length (S .members)) 0 (omega arith) (omega (arith, many-are L x m-room s-room, W .inside))
           ∙ ap (λ (r : List (List Literal)). fixed r (some i))
-          (sym (turn-fixes-width n (H .entries .narrow) P N msₙ (byDiagram-reduced n (negation n G) (liveMembers S)) (member i) (member-reduced i (W .inside)) (literals-reduced n P N (member i)) (other-of (member i) hidden))
-          ∙ ap₂ (λ (ds : List Diagram) (k : ℕ). fixes 64 (byNot (underWitness p q (diagramIn S k)) ds)) (sym same-ms) (member-is L x m-room s-room i (W .inside)))
+          (sym (turn-fixes-width n (H .entries .narrow) P N msₙ (byDiagram-reduced n (negation n G) (liveMembers S)) (member i)
+          (member-reduced i (W .inside)) (literals-reduced n P N (member i)) (other-of (member i) hidden))
+          ∙ ap₂ (λ (ds : List Diagram) (k : ℕ). fixes 64 (byNot (underWitness p q (diagramIn S k)) ds)) (sym same-ms)
+          (member-is L x m-room s-room i (W .inside)))

@@ -2,19 +2,19 @@
 -- Assumes nothing.
 use mathlib.Core.Path.{_≡_, refl, sym, ap, ap₂, _∙_, subst}
 use mathlib.Core.Bool.{Bool, true, false}
-use mathlib.Core.List.{List, [], _∷_, _++_}
+use mathlib.Core.List.{List}
 use Prim.Native.Nat.{ℕ, _≤_, _<_}
 use native.Mathlib.Omega.{arith}
-use lib.ListN.{length, getD, take, replicate, length-replicate, getD-replicate}
+use lib.ListN.{length, getD, take, replicate, getD-replicate}
 use lib.Seq.{length-take-le, getD-take}
 use Rattle.meaning.specs.Diagram.{Diagram}
-use Rattle.meaning.specs.Rules.{Line, base, prTurns, pr}
+use Rattle.meaning.specs.Rules.{Line, prTurns, pr}
 use Rattle.meaning.specs.Words.{inWord}
 use Rattle.meaning.proofs.Booleans.{t≢f}
-use Rattle.table.specs.Nodes.{Node, diagramAt}
+use Rattle.table.specs.Nodes.{diagramAt}
 use Rattle.table.specs.Indexed.{Table, size, nodesOf, Good}
-use Rattle.table.specs.Making.{Room, placedAll, Reach, turnsReach, keptReach, lineReach}
-use Rattle.table.specs.Lists.{diagramsOf, Inside, room, Extended}
+use Rattle.table.specs.Making.{Reach, turnsReach, keptReach, lineReach}
+use Rattle.table.specs.Lists.{diagramsOf, Inside}
 use Rattle.table.proofs.Outcomes.{Longer, droppedTo, undone}
 use Rattle.table.proofs.Extended.{extended-longer, diagrams-kept}
 use Rattle.supports.specs.Supports.{Support, Supports}
@@ -56,7 +56,8 @@ module _ (T : Table) (G : Good T) (live : List ℕ) (inside : Inside (T .count) 
     abbrev turned : List Diagram → List Diagram → Line
     turned first ds = prTurns 64 (inWord p) (inWord n) first ds
 
-    reach-turns : lineReach (size T) (nodesOf T) (pr 64 (inWord p) (inWord n) ms g) ≡ turnsReach (size T) (turned (byNot g ms) ms .turns) (nodesOf T₁)
+    reach-turns : lineReach (size T) (nodesOf T) (pr 64 (inWord p) (inWord n) ms g)
+        ≡ turnsReach (size T) (turned (byNot g ms) ms .turns) (nodesOf T₁)
     unfolding pr lineReach
     reach-turns = ap (keptReach (size T) (turned (byNot g ms) ms .turns)) (B .places)
 
@@ -77,7 +78,8 @@ module _ (T : Table) (G : Good T) (live : List ℕ) (inside : Inside (T .count) 
       member-same : (j : ℕ) → j < many → diagramAt (nodesOf T₁) (getD members j 0) ≡ diagramAt (nodesOf T) (getD members j 0)
       member-same j h =
           long .kept (getD members j 0)
-          (subst (λ (k : ℕ). k < T .count) (getD-take many members j 0 h) (m-inside j (omega (arith, h, length-take-le many members m-room))))
+          (subst (λ (k : ℕ). k < T .count) (getD-take many members j 0 h)
+          (m-inside j (omega (arith, h, length-take-le many members m-room))))
 
       pub pr-told : (i rounds : ℕ) (words : List ℕ) → Lowest T₁ p n (diagramsOf (nodesOf T₁) list) members struck many i
           → Fixed (byNot (underWitness p n (diagramAt (nodesOf T₁) (getD members i 0))) (diagramsOf (nodesOf T₁) list)) rounds words
@@ -85,11 +87,14 @@ module _ (T : Table) (G : Good T) (live : List ℕ) (inside : Inside (T .count) 
       pr-told i rounds words L F = record {
         inside = L .inside;
         live = L .live;
-        hidden = sym (ap₂ (λ (ds : List Diagram) (f : Diagram). turnLine p n ds f .shown) list-is (member-same i (L .inside))) ∙ L .fails .unshown;
+        hidden = sym (ap₂ (λ (ds : List Diagram) (f : Diagram). turnLine p n ds f .shown) list-is (member-same i (L .inside)))
+            ∙ L .fails .unshown;
         lowest = λ j h e.
-            sym (ap₂ (λ (ds : List Diagram) (f : Diagram). turnLine p n ds f .shown) list-is (member-same j (omega (arith, h, L .inside)))) ∙ L .lowest j h e;
+            sym (ap₂ (λ (ds : List Diagram) (f : Diagram). turnLine p n ds f .shown) list-is (member-same j (omega (arith, h, L .inside))))
+            ∙ L .lowest j h e;
         fixed = subst (λ (f : Diagram). Fixed (byNot (underWitness p n f) (byNot g ms)) rounds words) (member-same i (L .inside))
-            (subst (λ (ds : List Diagram). Fixed (byNot (underWitness p n (diagramAt (nodesOf T₁) (getD members i 0))) ds) rounds words) list-is F);
+            (subst (λ (ds : List Diagram). Fixed (byNot (underWitness p n (diagramAt (nodesOf T₁) (getD members i 0))) ds) rounds words)
+            list-is F);
       }
 
     pub pr-undone : (T₂ T₃ : Table) → T₂ ≡ T₁ → T₃ ≡ droppedTo (T .count) T₂ → T₃ ≡ T

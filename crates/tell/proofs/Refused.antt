@@ -1,10 +1,10 @@
 -- A line that is refused with 19, over the lists that hold the state: what `rup_cause` and `pr_cause` ask of it. Assumes nothing.
-use mathlib.Core.Path.{_≡_, refl, sym, ap, _∙_, subst}
+use mathlib.Core.Path.{_≡_, refl, sym, _∙_, subst}
 use mathlib.Core.Bool.{Bool, true, false, not, cond}
 use mathlib.Core.List.{List}
 use Prim.Native.Nat.{ℕ, zero, suc, _≤_, _<_, max}
 use native.Mathlib.Omega.{arith}
-use lib.ListN.{length, getD, take}
+use lib.ListN.{getD, take}
 use Rattle.meaning.specs.Rules.{Line}
 use Rattle.meaning.specs.Words.{inWord}
 use Rattle.table.specs.Indexed.{Table, size, nodesOf}
@@ -14,7 +14,7 @@ use Rattle.walks.specs.Readable.{Roomy}
 use Rattle.records.specs.declared.Rule.{Rule}
 use Rattle.records.specs.declared.Rule.the-variants.{Rup, Pr}
 use Rattle.verdict.specs.Steps as check
-use Rattle.verdict.specs.Steps.{Step, next, stop, spent, accepted, isEntry, entryNode, unstruck, judged, lineStep}
+use Rattle.verdict.specs.Steps.{Step, next, stop, spent, accepted, entryNode, unstruck, judged, lineStep}
 use Rattle.verdict.specs.Taken.{lineOf}
 use Rattle.judge.specs.Lines.{Negatable}
 use Rattle.judge.proofs.Widths.{rup-at, pr-at}
@@ -81,14 +81,20 @@ module _ (n : ℕ) (L : Lent) (x : State) (H : Held n L x) where
         go : (r : Rule) → lineOf 64 S r g ≡ lineOf n S r g
         go Rup = rup-at n (H .entries .narrow) T (H .entries .good) (H .entries .uses) live live-inside g root-inside (fits .not-one)
         go Pr =
-            pr-at n (H .entries .narrow) T (H .entries .good) (H .entries .uses) live live-inside g root-inside (fits .not-one) (inWord (x .witness .positive)) (inWord (x .witness .negative))
+            pr-at n (H .entries .narrow) T (H .entries .good) (H .entries .uses) live live-inside g root-inside (fits .not-one)
+            (inWord (x .witness .positive)) (inWord (x .witness .negative))
 
     -- THEOREM: the line over 64 variables finds room and is not shown.
     pub refused-unshown : Unshown T (lineOf 64 S rule g)
     refused-unshown = subst (Unshown T) (sym width) (judged-19 g (lineOf n S rule g) peak (told .1))
 
     pub refused-ready : (memo : List ℕ) → Roomy (T .vars) memo → Negatable T (take (x .members) (L .members)) memo g
-    refused-ready memo room = record { ready = record { good = H .entries .good; inside = members-inside; room = room }; inside = root-inside; not-one = fits .not-one }
+    refused-ready memo room = record {
+      ready = record { good = H .entries .good; inside = members-inside; room = room };
+      inside =
+          root-inside;
+      not-one = fits .not-one;
+    }
 
     pub refused-few : x .members ≤ 2048
     refused-few = omega (arith, H .many, H .lines)

@@ -1,15 +1,13 @@
 -- A RUP line that finds room and is not shown: its trace is not `full`, and dropping its nodes gives the table back. Assumes nothing.
-use mathlib.Core.Path.{_≡_, refl, sym, ap, _∙_, subst}
+use mathlib.Core.Path.{_≡_, refl, sym, ap, _∙_}
 use mathlib.Core.Bool.{Bool, true, false}
-use mathlib.Core.List.{List, _++_}
+use mathlib.Core.List.{List}
 use Prim.Native.Nat.{ℕ}
-use lib.ListN.{length}
 use Rattle.meaning.specs.Diagram.{Diagram}
-use Rattle.meaning.specs.Rules.{base, unitProp, rup}
+use Rattle.meaning.specs.Rules.{unitProp, rup}
 use Rattle.meaning.proofs.Booleans.{t≢f}
-use Rattle.table.specs.Nodes.{Node}
 use Rattle.table.specs.Indexed.{Table, size, nodesOf, Good}
-use Rattle.table.specs.Making.{placedAll, reached, lineReach, Reach}
+use Rattle.table.specs.Making.{reached, lineReach, Reach}
 use Rattle.table.specs.Lists.{room}
 use Rattle.table.proofs.Outcomes.{droppedTo, undone}
 use Rattle.table.proofs.Extended.{extended-longer}

@@ -1,28 +1,28 @@
 -- The turn of a member that is not shown, traced: h is not 1, all finds room, and the propagation is that of the members by not-h. Assumes
 -- nothing.
-use mathlib.Core.Path.{_≡_, refl, sym, ap, ap₂, _∙_, subst}
-use mathlib.Core.Bool.{Bool, true, false, not}
-use mathlib.Core.List.{List, [], _∷_, _++_}
-use Prim.Native.Nat.{ℕ, _≤_, _<_}
+use mathlib.Core.Path.{_≡_, refl, sym, ap, ap₂, _∙_}
+use mathlib.Core.Bool.{Bool, true, false}
+use mathlib.Core.List.{List}
+use Prim.Native.Nat.{ℕ, _<_}
 use native.Mathlib.Omega.{arith}
 use lib.ListN.{length}
 use Rattle.meaning.specs.Diagram.{Diagram, leaf, same}
 use Rattle.meaning.specs.Operations.{cofactorLiterals}
-use Rattle.meaning.specs.Rules.{Line, prTurns, rup, unitProp}
+use Rattle.meaning.specs.Rules.{Line, rup, unitProp}
 use Rattle.meaning.specs.Words.{inWord}
 use Rattle.meaning.proofs.Booleans.{t≢f}
 use Rattle.table.specs.Nodes.{diagramAt}
-use Rattle.table.specs.Indexed.{Table, size, nodesOf, Good, Outcome}
-use Rattle.table.specs.Making.{Reach, reach, reached, lineReach}
+use Rattle.table.specs.Indexed.{Table, size, nodesOf, Outcome}
+use Rattle.table.specs.Making.{Reach, reached}
 use Rattle.table.specs.Lists.{diagramsOf, room, Extended}
 use Rattle.walks.specs.Readable.{ListReady}
 use Rattle.walks.specs.Constant.{oneAt}
 use Rattle.operate.specs.declared.Operation.the-variants.{Literals}
 use Rattle.operate.specs.Operate.{result}
 use Rattle.operate.specs.Inner.{applied}
-use Rattle.judge.specs.Lines.{LineSays, Negatable}
+use Rattle.judge.specs.Lines.{LineSays}
 use Rattle.judge.proofs.Fits.{constant-turn, turn-shown, rup-reach}
-use Rattle.judge.proofs.Turning.{judgedAs, turn-full, turn-ready, turn-judged}
+use Rattle.judge.proofs.Turning.{judgedAs, turn-full, turn-judged}
 use Rattle.causes.specs.Causes.{fixes}
 use Rattle.traces.specs.declared.Traced.{Traced}
 use Rattle.traces.specs.Traced.{fixedAs}
@@ -46,7 +46,8 @@ module _ (T : Table) (list memo : List ℕ) (R : ListReady T list memo) (f p n :
     unfolding oneAt
     turn-other = go (same (cofactorLiterals 64 (inWord p) (inWord n) F) (leaf true)) refl
       where
-        go : (b : Bool) → same (cofactorLiterals 64 (inWord p) (inWord n) F) (leaf true) ≡ b → same (cofactorLiterals 64 (inWord p) (inWord n) F) (leaf true) ≡ false
+        go : (b : Bool) → same (cofactorLiterals 64 (inWord p) (inWord n) F) (leaf true) ≡ b →
+            same (cofactorLiterals 64 (inWord p) (inWord n) F) (leaf true) ≡ false
         go false e = e
         go true e = t≢f (sym (ap (λ (L : Line). L .shown) (constant-turn 64 (inWord p) (inWord n) ms F e)) ∙ U .unshown)
 
@@ -95,21 +96,26 @@ module _ (T : Table) (list memo : List ℕ) (R : ListReady T list memo) (f p n :
             go true q =
                 let S : LineSays (o .table) (rup 64 ms₁ root₁) 64 (judgedAs true false 0 0 (length (nodesOf T₁))) T₁ = record {
                   extended = L .extended;
-                  reaches = rup-reach (size (o .table)) (nodesOf (o .table)) 64 ms₁ root₁ ∙ ap reached (L .places ∙ ap (λ (b : Bool). room b (nodesOf T₁)) q);
+                  reaches = rup-reach (size (o .table)) (nodesOf (o .table)) 64 ms₁ root₁
+                      ∙ ap reached (L .places ∙ ap (λ (b : Bool). room b (nodesOf T₁)) q);
                   shown = λ z. t≢f z;
                   rounds = λ z. t≢f z;
                   most = omega arith;
                 } in
-                t≢f (sym (U .fits) ∙ ap (λ (y : Reach). y .fits) (turn-judged T list memo R f p n inside turn-other o e turn-room (judgedAs true false 0 0 (length (nodesOf T₁))) T₁ S .reaches))
+                t≢f (sym (U .fits) ∙ ap (λ (y : Reach). y .fits)
+                (turn-judged T list memo R f p n inside turn-other o e turn-room (judgedAs true false 0 0 (length (nodesOf T₁))) T₁ S
+                .reaches))
 
         pub turn-fixed : Fixed (byNot (underWitness p n F) ms) (r .rounds) words
         turn-fixed = record {
           rounds-are = L .rounds not-full ∙ ap₂ (λ (g : Diagram) (ds : List Diagram). length (fixes 64 (byNot g ds))) root-same list-same;
-          words-are = L .fixed not-full ∙ ap₂ (λ (g : Diagram) (ds : List Diagram). fixedAs (length words) (fixes 64 (byNot g ds))) root-same list-same;
+          words-are = L .fixed not-full ∙ ap₂ (λ (g : Diagram) (ds : List Diagram). fixedAs (length words) (fixes 64 (byNot g ds)))
+              root-same list-same;
         }
 
         pub turn-undone : (T₂ : Table) → T₂ ≡ droppedTo (T .count) T₁ → T₂ ≡ T
-        turn-undone T₂ q = q ∙ undone T (R .good) T₁ (extended-longer T T₁ (R .good) (extended-trans T (o .table) T₁ (R .good) turn-grown (L .extended)))
+        turn-undone T₂ q = q ∙ undone T (R .good) T₁
+            (extended-longer T T₁ (R .good) (extended-trans T (o .table) T₁ (R .good) turn-grown (L .extended)))
 
         pub turn-more : Extended T T₁
         turn-more = extended-trans T (o .table) T₁ (R .good) turn-grown (L .extended)

@@ -2,7 +2,7 @@
 -- line is not. A word of ones has every variable. Assumes nothing.
 use mathlib.Core.Path.{_≡_, refl, sym, ap, ap₂, _∙_, subst}
 use mathlib.Core.Bool.{Bool, true, false, not, _&&_, _||_, cond}
-use mathlib.Core.List.{List, [], _∷_, _++_}
+use mathlib.Core.List.{List, [], _∷_}
 use Prim.Native.Nat.{ℕ, zero, suc, _+_, _-_, _≤_, _<_}
 use native.Mathlib.Omega.{arith}
 use native.Mathlib.Decide.{ℕ-discrete, decLt}
@@ -10,14 +10,13 @@ use lib.ListN.{length, getD, take, drop, drop-of-length-le}
 use lib.Seq.{length-take-le, getD-take, drop-cons}
 use lib.Dec.{eqb}
 use Rattle.meaning.specs.Diagram.{Diagram, leaf, node, same, Reduced}
-use Rattle.meaning.specs.Operations.{cofactorLiterals}
-use Rattle.meaning.specs.Rules.{Line, prTurns, rup, base, unitProp}
+use Rattle.meaning.specs.Rules.{Line, prTurns}
 use Rattle.meaning.specs.Words.{inWord}
 use Rattle.meaning.specs.Uses.{Uses}
 use Rattle.meaning.proofs.Booleans.{t≢f, and-both}
-use Rattle.table.specs.Nodes.{Node, diagramAt}
+use Rattle.table.specs.Nodes.{diagramAt}
 use Rattle.table.specs.Indexed.{Table, size, nodesOf, Good}
-use Rattle.table.specs.Making.{placedAll, Reach, reach, reached, turnsReach, lineReach}
+use Rattle.table.specs.Making.{Reach, reach, turnsReach, lineReach}
 use Rattle.table.specs.Lists.{diagramsOf}
 use Rattle.table.proofs.Numbers.{diagramAt-reduced}
 use Rattle.table.proofs.Written.{length-nodes, good-ordered}
@@ -70,12 +69,14 @@ uses-every i (node v l h) one R = (
 pub every-support : (T : Table) → Good T → (f : ℕ) → f < T .count → Support everyVariable (diagramAt (nodesOf T) f)
 unfolding Support
 every-support T G f inside =
-    uses-every 1 (diagramAt (nodesOf T) f) (omega arith) (diagramAt-reduced (nodesOf T) (good-ordered T G) f (omega (arith, length-nodes T G, inside)))
+    uses-every 1 (diagramAt (nodesOf T) f) (omega arith)
+    (diagramAt-reduced (nodesOf T) (good-ordered T G) f (omega (arith, length-nodes T G, inside)))
 
 -- ---- one turn
 
 -- A line that finds room is judged without `full`.
-pub says-fits : (T : Table) (line : Line) (bound : ℕ) (r : Judged) (T₁ : Table) → LineSays T line bound r T₁ → lineReach (size T) (nodesOf T) line .fits ≡ true → r .shown ≡ line .shown
+pub says-fits : (T : Table) (line : Line) (bound : ℕ) (r : Judged) (T₁ : Table) → LineSays T line bound r T₁ →
+    lineReach (size T) (nodesOf T) line .fits ≡ true → r .shown ≡ line .shown
 says-fits T line bound r T₁ S fits = S .shown (go (r .full) refl)
   where
     go : (b : Bool) → r .full ≡ b → r .full ≡ false
@@ -133,9 +134,11 @@ module _ (T : Table) (p n : ℕ) (ms : List Diagram) (members struck : List ℕ)
     module _ (i : ℕ) (inside : i < many) where
       rest-is : restOf i ≡ cond (live i) (getD members i 0 ∷ restOf (suc i)) (restOf (suc i))
       rest-is =
-          ap₂ (λ (xs ys : List ℕ). unstruck xs ys) (drop-cons S i 0 (omega (arith, len-S, inside))) (drop-cons M i 0 (omega (arith, len-M, inside)))
+          ap₂ (λ (xs ys : List ℕ). unstruck xs ys) (drop-cons S i 0 (omega (arith, len-S, inside)))
+          (drop-cons M i 0 (omega (arith, len-M, inside)))
           ∙ unstruck-here (getD S i 0) (getD M i 0) (drop (suc i) S) (drop (suc i) M)
-          ∙ ap₂ (λ (k m : ℕ). cond (eqb k 0) (m ∷ restOf (suc i)) (restOf (suc i))) (getD-take many struck i 0 inside) (getD-take many members i 0 inside)
+          ∙ ap₂ (λ (k m : ℕ). cond (eqb k 0) (m ∷ restOf (suc i)) (restOf (suc i))) (getD-take many struck i 0 inside)
+          (getD-take many members i 0 inside)
 
       rest-live : live i ≡ true → restOf i ≡ getD members i 0 ∷ restOf (suc i)
       rest-live e = rest-is ∙ ap (λ (b : Bool). cond b (getD members i 0 ∷ restOf (suc i)) (restOf (suc i))) e
@@ -149,19 +152,23 @@ module _ (T : Table) (p n : ℕ) (ms : List Diagram) (members struck : List ℕ)
       abbrev fs : List Diagram
       fs = diagramsOf (nodesOf T) (restOf (suc i))
 
-      reach-line : (gs : List Diagram) → lineReach (size T) (nodesOf T) (prTurns 64 (inWord p) (inWord n) ms gs) ≡ turnsReach (size T) (prTurns 64 (inWord p) (inWord n) ms gs .turns) (nodesOf T)
+      reach-line : (gs : List Diagram) → lineReach (size T) (nodesOf T) (prTurns 64 (inWord p) (inWord n) ms gs)
+          ≡ turnsReach (size T) (prTurns 64 (inWord p) (inWord n) ms gs .turns) (nodesOf T)
       reach-line gs = turns-reach 64 (inWord p) (inWord n) ms (size T) (nodesOf T) gs
 
       module _ (W : Searching i) where
         whole : live i ≡ true → Unshown T (prTurns 64 (inWord p) (inWord n) ms (f ∷ fs))
         whole e = subst (λ (ks : List ℕ). Unshown T (lineOf ks)) (rest-live e) (W .left)
 
-        on : live i ≡ true → one i .shown ≡ true → (lineReach (size T) (nodesOf T) (one i) .fits ≡ true) × Unshown T (lineOf (restOf (suc i)))
+        on : live i ≡ true → one i .shown ≡ true → (lineReach (size T) (nodesOf T) (one i) .fits ≡ true)
+            × Unshown T (lineOf (restOf (suc i)))
         on e shown =
-            let G : GoesOn (size T) (nodesOf T) (one i) (prTurns 64 (inWord p) (inWord n) ms fs) (prTurns 64 (inWord p) (inWord n) ms (f ∷ fs)) =
+            let G : GoesOn (size T) (nodesOf T) (one i) (prTurns 64 (inWord p) (inWord n) ms fs)
+            (prTurns 64 (inWord p) (inWord n) ms (f ∷ fs)) =
             goes-on (size T) (nodesOf T) 64 (inWord p) (inWord n) ms f fs shown in
             let U = whole e in
-            let both = and-both (turnsReach (size T) (one i .turns) (nodesOf T) .fits) (turnsReach (size T) (prTurns 64 (inWord p) (inWord n) ms fs .turns) (nodesOf T) .fits)
+            let both = and-both (turnsReach (size T) (one i .turns) (nodesOf T) .fits)
+            (turnsReach (size T) (prTurns 64 (inWord p) (inWord n) ms fs .turns) (nodesOf T) .fits)
             (sym (ap (λ (x : Reach). x .fits) (G .reach)) ∙ sym (ap (λ (x : Reach). x .fits) (reach-line (f ∷ fs))) ∙ U .fits) in (
               ap (λ (x : Reach). x .fits) (reach-line (f ∷ [])) ∙ both .0,
               record { fits = ap (λ (x : Reach). x .fits) (reach-line fs) ∙ both .1; unshown = sym (G .shown) ∙ U .unshown },
@@ -169,7 +176,8 @@ module _ (T : Table) (p n : ℕ) (ms : List Diagram) (members struck : List ℕ)
 
         off : live i ≡ true → one i .shown ≡ false → lineReach (size T) (nodesOf T) (one i) .fits ≡ true
         off e hidden =
-            let G : Stops (size T) (nodesOf T) (one i) (prTurns 64 (inWord p) (inWord n) ms (f ∷ fs)) = stops (size T) (nodesOf T) 64 (inWord p) (inWord n) ms f fs hidden in
+            let G : Stops (size T) (nodesOf T) (one i) (prTurns 64 (inWord p) (inWord n) ms (f ∷ fs)) =
+            stops (size T) (nodesOf T) 64 (inWord p) (inWord n) ms f fs hidden in
             ap (λ (x : Reach). x .fits) (reach-line (f ∷ []) ∙ sym (G .reach) ∙ sym (reach-line (f ∷ fs))) ∙ whole e .fits
 
         -- the turn finds room

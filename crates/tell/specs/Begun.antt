@@ -1,6 +1,5 @@
 -- The state with which a line that was refused is done again. No call open to others cites this file.
 use mathlib.Core.Bool.{false}
-use mathlib.Core.List.{List}
 use Prim.Native.Nat.{ℕ}
 use lib.ListN.{take}
 use Rattle.words.specs.Sets.{noLiterals}

@@ -2,12 +2,12 @@
 use mathlib.Core.Path.{_≡_}
 use mathlib.Core.Bool.{true, false}
 use mathlib.Core.List.{List, [], _∷_}
-use Prim.Native.Nat.{ℕ, _≤_, _<_}
+use Prim.Native.Nat.{ℕ, _<_}
 use lib.ListN.{length, getD}
 use lib.Dec.{eqb}
 use Rattle.meaning.specs.Diagram.{Diagram}
 use Rattle.meaning.specs.Operations.{negation, cofactorLiterals}
-use Rattle.meaning.specs.Rules.{Line, byDiagram, rup, prTurns}
+use Rattle.meaning.specs.Rules.{Line, byDiagram, prTurns}
 use Rattle.meaning.specs.Words.{inWord}
 use Rattle.table.specs.Nodes.{Node, diagramAt}
 use Rattle.table.specs.Indexed.{Table, size, nodesOf}
@@ -52,7 +52,8 @@ pub record Lowest (t : Table) (positive negative : ℕ) (ms : List Diagram) (mem
       → turnLine positive negative ms (diagramAt (nodesOf t) (getD members j 0)) .shown ≡ true
 
 -- Of the first `many` members `member` is the lowest that is not struck and whose turn is not shown; its turn's rounds and their words.
-pub record PrTold (t : List Node) (positive negative : ℕ) (ms : List Diagram) (members struck : List ℕ) (many member rounds : ℕ) (words : List ℕ)
+pub record PrTold (t : List Node) (positive negative : ℕ) (ms : List Diagram) (members struck : List ℕ) (many member rounds : ℕ)
+    (words : List ℕ)
     : Type 0 where
   pub inside : member < many
   pub live : eqb (getD struck member 0) 0 ≡ true

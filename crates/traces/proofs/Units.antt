@@ -1,10 +1,10 @@
--- The literals that `unitsTo` lists are those of U, and a round's words have their variables. The idea: they are listed variable by variable; a word is
--- taken digit by digit. Assumes nothing.
-use mathlib.Core.Path.{_≡_, refl, sym, ap, ap₂, _∙_, subst}
+-- The literals that `unitsTo` lists are those of U, and a round's words have their variables. The idea: they are listed variable by
+-- variable; a word is taken digit by digit. Assumes nothing.
+use mathlib.Core.Path.{_≡_, refl, sym, ap, ap₂, _∙_}
 use mathlib.Core.Bool.{Bool, true, false, _&&_, _||_, cond}
 use mathlib.Core.List.{List, [], _∷_, _++_}
-use Prim.Native.Nat.{ℕ, zero, suc, _+_, _-_, _*_, _/_, _%_, _^_, _≤_, _<_}
-use native.Mathlib.Nat.{div-div-eq-div-mul, div-one, pow-suc}
+use Prim.Native.Nat.{ℕ, zero, suc, _+_, _-_, _*_, _/_, _%_, _^_, _<_}
+use native.Mathlib.Nat.{div-div-eq-div-mul, div-one}
 use native.Mathlib.Omega.{arith}
 use lib.Dec.{eqb, leb}
 use borrow.Author.Tests.{eqb-false, le-leb, lt-leb, leb-true, leb-false}
@@ -121,7 +121,8 @@ units-has n (suc w) f v s =
     below false b = refl
 
     go : (e : Bool) → eqb (suc w) v ≡ e
-        → ((leb 1 v && (leb v w && isUnit n f v s)) || (e && cond s (isUnit n f (suc w) true) (isUnit n f (suc w) false))) ≡ (leb 1 v && (leb v (suc w) && isUnit n f v s))
+        → ((leb 1 v && (leb v w && isUnit n f v s)) || (e && cond s (isUnit n f (suc w) true) (isUnit n f (suc w) false)))
+        ≡ (leb 1 v && (leb v (suc w) && isUnit n f v s))
     go true e =
         let is : v ≡ suc w = sym (eqb-eq (suc w) v e) in
         rw (is, lt-leb (suc w) w (omega arith), le-leb 1 (suc w) (omega arith), le-leb (suc w) (suc w) (omega arith)) (at-sign s)

@@ -1,12 +1,12 @@
--- The line's entries and witness, read once more over what the check leaves, give the state before the refused record, but for marks, counts and
--- peak. The idea: no record that makes an entry or a witness looks at those; a line that is taken starts all anew. Assumes nothing.
+-- The line's entries and witness, read once more over what the check leaves, give the state before the refused record, but for marks,
+-- counts and peak. The idea: no record that makes an entry or a witness looks at those; a line that is taken starts all anew. Assumes
+-- nothing.
 use mathlib.Core.Path.{_≡_, refl, sym, ap, ap₂, _∙_, subst}
 use mathlib.Core.Bool.{Bool, true, false, not, cond}
 use mathlib.Core.List.{List, [], _∷_, _++_}
 use Prim.Native.Nat.{ℕ, zero, suc, _+_, _-_, _≤_, _<_, max}
 use native.Mathlib.Omega.{arith}
 use lib.ListN.{length, take}
-use lib.Dec.{ltb}
 use lib.Seq.{take-append-le, take-all}
 use borrow.Author.Tests.{lt-ltb, le-ltb}
 use Rattle.meaning.proofs.Booleans.{t≢f}
@@ -17,18 +17,20 @@ use Rattle.records.specs.declared.NodeBody.{NodeBody}
 use Rattle.records.specs.declared.SetKind.{SetKind}
 use Rattle.records.specs.declared.SetBody.{SetBody}
 use Rattle.records.specs.declared.Record.{Record}
-use Rattle.records.specs.declared.Record.the-variants.{NodeEntry, Witness, ProofLine, Strike, SetEntry, End, CutShort, UnknownKind, NoRecord}
+use Rattle.records.specs.declared.Record.the-variants.{NodeEntry, Witness, ProofLine, Strike, SetEntry, End, CutShort, UnknownKind}
+use Rattle.records.specs.declared.Record.the-variants.{NoRecord}
 use Rattle.records.specs.Records.{recordAt, lengthOf, numberOf}
 use Rattle.records.proofs.Laws.{record-takes}
 use Rattle.commands.specs.Commands.{inRecords}
-use Rattle.verdict.specs.Steps.{State, withEntry, withWitness, withMarks, Step, next, stop, spent, isEntry, entryNode, nodeStep, witnessStep, setStep, assigned, accepted, begun, recordStep}
-use Rattle.verdict.specs.Check.{left}
-use Rattle.verdict.specs.Taken.{Meant, Taken, NodeTaken, WitnessTaken, LineTaken, StrikeTaken, SetTaken}
+use Rattle.verdict.specs.Steps.{State, withEntry, withWitness, Step, isEntry, entryNode}
+use Rattle.verdict.specs.Steps.{assigned, begun, recordStep}
+use Rattle.verdict.specs.Taken.{Meant, Taken, NodeTaken, WitnessTaken, StrikeTaken, SetTaken}
 use Rattle.verdict.specs.Run.{Reached, begins, goes}
 use Rattle.verdict.proofs.Steps.{taken-record, next-form}
-use Rattle.verdict.proofs.Standing.{Standing, record-extends}
+use Rattle.verdict.proofs.Standing.{record-extends}
 use Rattle.verdict.proofs.Ends.{reached-standing}
-use Rattle.why.specs.Again.{Walk, here, past, lineBegun, isLine, lineStart, reached, againStep, again, Rest, onLine, asBegun, Redo, Retaken, done, then}
+use Rattle.why.specs.Again.{Walk, here, past, isLine, lineStart, reached, againStep, again, Rest, onLine, asBegun, Redo}
+use Rattle.why.specs.Again.{Retaken, done, then}
 
 -- ---- walks over records
 
@@ -36,7 +38,8 @@ pub walk-most : (proof : List ℕ) (at to : ℕ) → Walk proof at to → at ≤
 walk-most proof at _ here = omega arith
 walk-most proof at to (past form W) = omega (arith, walk-most proof (at + lengthOf (recordAt proof at)) to W)
 
-walk-on : (proof : List ℕ) (at to : ℕ) → Walk proof at to → numberOf (recordAt proof to) ≡ 0 → Walk proof at (to + lengthOf (recordAt proof to))
+walk-on : (proof : List ℕ) (at to : ℕ) → Walk proof at to → numberOf (recordAt proof to) ≡ 0 →
+    Walk proof at (to + lengthOf (recordAt proof to))
 walk-on proof at _ here form = past form here
 walk-on proof at to (past first W) form = past first (walk-on proof (at + lengthOf (recordAt proof at)) to W form)
 
@@ -47,7 +50,8 @@ module _ (proof : List ℕ) where
   start-end (suc k) start at to h = rw (le-ltb at to h)
 
   start-step : (k start at to : ℕ) → at < to
-      → lineStart (suc k) proof start at to ≡ lineStart k proof (cond (isLine (recordAt proof at)) (at + lengthOf (recordAt proof at)) start) (at + lengthOf (recordAt proof at)) to
+      → lineStart (suc k) proof start at to ≡ lineStart k proof
+      (cond (isLine (recordAt proof at)) (at + lengthOf (recordAt proof at)) start) (at + lengthOf (recordAt proof at)) to
   unfolding lineStart
   start-step k start at to h = rw (lt-ltb at to h)
 
@@ -55,7 +59,8 @@ module _ (proof : List ℕ) where
   start-ends start at to h = start-end (to - at) start at to h
 
   -- Enough steps are enough.
-  start-fuel : (k m start at to : ℕ) → Walk proof at to → to ≤ at + k → to ≤ at + m → lineStart k proof start at to ≡ lineStart m proof start at to
+  start-fuel : (k m start at to : ℕ) → Walk proof at to → to ≤ at + k → to ≤ at + m → lineStart k proof start at to
+      ≡ lineStart m proof start at to
   start-fuel k m start at _ here h g = start-end k start at at (omega arith) ∙ sym (start-end m start at at (omega arith))
   start-fuel zero m start at to (past form W) h g =
       absurd (omega (arith, record-takes (recordAt proof at) form, walk-most proof (at + lengthOf (recordAt proof at)) to W, h))
@@ -69,13 +74,16 @@ module _ (proof : List ℕ) where
       ∙ sym (start-step m start at to (omega (arith, takes, on)))
 
   -- The first record of a walk, and the rest.
-  pub walk-first : (at to : ℕ) → Walk proof at to → at < to → (numberOf (recordAt proof at) ≡ 0) × Walk proof (at + lengthOf (recordAt proof at)) to
+  pub walk-first : (at to : ℕ) → Walk proof at to → at < to → (numberOf (recordAt proof at) ≡ 0)
+      × Walk proof (at + lengthOf (recordAt proof at)) to
   walk-first at _ here lt = absurd (omega (arith, lt))
   walk-first at to (past form W) lt = (form, W)
 
   -- One step of the search for the line's start.
-  pub start-goes : (start at to : ℕ) → Walk proof at to → at < to → (r : Record) → r ≡ recordAt proof at → (len : ℕ) → len ≡ lengthOf r → (start′ : ℕ) → start′ ≡ cond (isLine r) (at + len) start
-      → (1 ≤ len) × Walk proof (at + len) to × (lineStart (to - at) proof start at to ≡ lineStart (to - (at + len)) proof start′ (at + len) to)
+  pub start-goes : (start at to : ℕ) → Walk proof at to → at < to → (r : Record) → r ≡ recordAt proof at → (len : ℕ) → len ≡ lengthOf r →
+      (start′ : ℕ) → start′ ≡ cond (isLine r) (at + len) start
+      → (1 ≤ len) × Walk proof (at + len) to × (lineStart (to - at) proof start at to
+      ≡ lineStart (to - (at + len)) proof start′ (at + len) to)
   start-goes start at to W lt r is len long start′ behind =
       let (form, rest) = walk-first at to W lt in
       let takes : 1 ≤ lengthOf (recordAt proof at) = record-takes (recordAt proof at) form in
@@ -107,8 +115,10 @@ module _ (proof : List ℕ) where
       let takes : 1 ≤ lengthOf (recordAt proof at) = record-takes (recordAt proof at) first in
       let on : at + lengthOf (recordAt proof at) ≤ to = walk-most proof (at + lengthOf (recordAt proof at)) to W in
       start-step k start at (to + lengthOf (recordAt proof to)) (omega (arith, takes, on))
-      ∙ start-on k (cond (isLine (recordAt proof at)) (at + lengthOf (recordAt proof at)) start) (at + lengthOf (recordAt proof at)) to W form (omega (arith, takes, enough))
-      ∙ ap (cond (isLine (recordAt proof to)) (to + lengthOf (recordAt proof to))) (sym (start-step k start at to (omega (arith, takes, on))))
+      ∙ start-on k (cond (isLine (recordAt proof at)) (at + lengthOf (recordAt proof at)) start) (at + lengthOf (recordAt proof at)) to W
+      form (omega (arith, takes, enough))
+      ∙ ap (cond (isLine (recordAt proof to)) (to + lengthOf (recordAt proof to)))
+      (sym (start-step k start at to (omega (arith, takes, on))))
 
   module _ (n s : ℕ) where
     again-end : (k : ℕ) (st : State) (at to : ℕ) → to ≤ at → again k n s proof st at to ≡ st
@@ -169,7 +179,8 @@ module _ (n s : ℕ) (o : Rest) (st st′ : State) where
 
   witness-again : (v : ℕ) (b : Bool) → WitnessTaken n st v b st′ → Redone (Witness v b)
   witness-again v b T =
-      let taken : WitnessTaken n (onLine o st) v b (withWitness (onLine o st) (assigned b (st .positive) v) (assigned (not b) (st .negative) v)) =
+      let taken : WitnessTaken n (onLine o st) v b
+      (withWitness (onLine o st) (assigned b (st .positive) v) (assigned (not b) (st .negative) v)) =
       record { least = T .least; most = T .most; new-positive = T .new-positive; new-negative = T .new-negative; is = refl } in
       (o, subst (WitnessTaken n (onLine o st) v b) (ap (onLine o) (T .is)) taken)
 
@@ -188,24 +199,35 @@ module _ (n s : ℕ) (o : Rest) (st st′ : State) where
   other-again NoRecord T e = absurd T
 
 -- One record more is done last.
-retaken-on : (n s : ℕ) (proof : List ℕ) (st : State) (at : ℕ) (st₁ : State) (to : ℕ) (st₂ : State) → Retaken n s proof st at st₁ to → numberOf (recordAt proof to) ≡ 0
+retaken-on : (n s : ℕ) (proof : List ℕ) (st : State) (at : ℕ) (st₁ : State) (to : ℕ) (st₂ : State) → Retaken n s proof st at st₁ to →
+    numberOf (recordAt proof to) ≡ 0
     → Redo n s st₁ (recordAt proof to) st₂ → Retaken n s proof st at st₂ (to + lengthOf (recordAt proof to))
 retaken-on n s proof st at _ _ st₂ done form R = then form R done
 retaken-on n s proof st at st₁ to st₂ (then {st₁ = x} first F W) form R =
     then first F (retaken-on n s proof x (at + lengthOf (recordAt proof at)) st₁ to st₂ W form R)
 
-pub retaken-walk : (n s : ℕ) (proof : List ℕ) (st : State) (at : ℕ) (st′ : State) (to : ℕ) → Retaken n s proof st at st′ to → Walk proof at to
+pub retaken-walk : (n s : ℕ) (proof : List ℕ) (st : State) (at : ℕ) (st′ : State) (to : ℕ) → Retaken n s proof st at st′ to →
+    Walk proof at to
 retaken-walk n s proof st at _ _ done = here
-retaken-walk n s proof st at st′ to (then {st₁ = x} form F W) = past form (retaken-walk n s proof x (at + lengthOf (recordAt proof at)) st′ to W)
+retaken-walk n s proof st at st′ to (then {st₁ = x} form F W) = past form
+    (retaken-walk n s proof x (at + lengthOf (recordAt proof at)) st′ to W)
 
 -- `again` does them.
-pub retaken-again : (n s : ℕ) (proof : List ℕ) (k : ℕ) (st : State) (at : ℕ) (st′ : State) (to : ℕ) → Retaken n s proof st at st′ to → to ≤ at + k → again k n s proof st at to ≡ st′
+pub retaken-again : (n s : ℕ) (proof : List ℕ) (k : ℕ) (st : State) (at : ℕ) (st′ : State) (to : ℕ) → Retaken n s proof st at st′ to →
+    to ≤ at + k → again k n s proof st at to ≡ st′
 retaken-again n s proof k st at _ _ done h = again-end proof n s k st at at (omega arith)
 retaken-again n s proof zero st at st′ to (then {st₁ = x} form F W) h =
-    absurd (omega (arith, record-takes (recordAt proof at) form, walk-most proof (at + lengthOf (recordAt proof at)) to (retaken-walk n s proof x (at + lengthOf (recordAt proof at)) st′ to W), h))
+    absurd (omega (
+      arith,
+      record-takes (recordAt proof at) form,
+      walk-most proof (at + lengthOf (recordAt proof at)) to
+          (retaken-walk n s proof x (at + lengthOf (recordAt proof at)) st′ to W),
+      h,
+    ))
 retaken-again n s proof (suc k) st at st′ to (then {st₁ = x} form F W) h =
     let takes : 1 ≤ lengthOf (recordAt proof at) = record-takes (recordAt proof at) form in
-    let on : at + lengthOf (recordAt proof at) ≤ to = walk-most proof (at + lengthOf (recordAt proof at)) to (retaken-walk n s proof x (at + lengthOf (recordAt proof at)) st′ to W) in
+    let on : at + lengthOf (recordAt proof at) ≤ to = walk-most proof (at + lengthOf (recordAt proof at)) to
+    (retaken-walk n s proof x (at + lengthOf (recordAt proof at)) st′ to W) in
     again-step proof n s k st at to (omega (arith, takes, on))
     ∙ ap (λ (y : State). again k n s proof y (at + lengthOf (recordAt proof at)) to) (redo-again n s st (recordAt proof at) x F)
     ∙ retaken-again n s proof k x (at + lengthOf (recordAt proof at)) st′ to W (omega (arith, takes, h))
@@ -213,7 +235,8 @@ retaken-again n s proof (suc k) st at st′ to (then {st₁ = x} form F W) h =
 -- ---- the line's beginning
 
 -- A record that is no line keeps what stays if the line is not accepted, and the members.
-same-kept : (n s : ℕ) (st st′ : State) (r : Record) → Taken n s st r st′ → isLine r ≡ false → (st′ .kept ≡ st .kept) × (st′ .members ≡ st .members)
+same-kept : (n s : ℕ) (st st′ : State) (r : Record) → Taken n s st r st′ → isLine r ≡ false → (st′ .kept ≡ st .kept)
+    × (st′ .members ≡ st .members)
 same-kept n s st st′ (NodeEntry b) T e = (sym (ap (λ (x : State). x .kept) (T .is)), sym (ap (λ (x : State). x .members) (T .is)))
 same-kept n s st st′ (Witness v b) T e = (sym (ap (λ (x : State). x .kept) (T .is)), sym (ap (λ (x : State). x .members) (T .is)))
 same-kept n s st st′ (ProofLine rule root) T e = t≢f e
@@ -224,10 +247,12 @@ same-kept n s st st′ CutShort T e = absurd T
 same-kept n s st st′ UnknownKind T e = absurd T
 same-kept n s st st′ NoRecord T e = absurd T
 
-begun-same : (o : Rest) (st st′ : State) → (st′ .kept ≡ st .kept) × (st′ .members ≡ st .members) → Extends (st .nodes) (st′ .nodes) → st .kept ≤ length (st .nodes)
+begun-same : (o : Rest) (st st′ : State) → (st′ .kept ≡ st .kept) × (st′ .members ≡ st .members) → Extends (st .nodes) (st′ .nodes) →
+    st .kept ≤ length (st .nodes)
     → onLine o (asBegun st′) ≡ onLine o (asBegun st)
 begun-same o st st′ (kept, members) (more, grown) inside =
-    ap₂ made (ap₂ (λ (k : ℕ) (t : List Node). take k t) kept grown ∙ take-append-le (st .kept) (st .nodes) more inside) kept ∙ ap (made₂ (take (st .kept) (st .nodes)) (st .kept)) members
+    ap₂ made (ap₂ (λ (k : ℕ) (t : List Node). take k t) kept grown ∙ take-append-le (st .kept) (st .nodes) more inside) kept
+    ∙ ap (made₂ (take (st .kept) (st .nodes)) (st .kept)) members
   where
     made₂ : List Node → ℕ → List ℕ → State
     made₂ t k ms = record {
@@ -248,9 +273,11 @@ begun-same o st st′ (kept, members) (more, grown) inside =
     made t k = made₂ t k (st′ .members)
 
 -- A line that is taken begins anew.
-line-fresh : (n s : ℕ) (st st′ : State) (r : Record) → Taken n s st r st′ → isLine r ≡ true → (o : Rest) → onLine o (asBegun st′) ≡ onLine o st′
+line-fresh : (n s : ℕ) (st st′ : State) (r : Record) → Taken n s st r st′ → isLine r ≡ true → (o : Rest) → onLine o (asBegun st′)
+    ≡ onLine o st′
 line-fresh n s st st′ (ProofLine rule root) T e o =
-    subst (λ (x : State). onLine o (asBegun x) ≡ onLine o x) (T .is) (ap (made (st .members ++ _ ∷ [])) (take-all (length (st .nodes)) (st .nodes) (omega arith)))
+    subst (λ (x : State). onLine o (asBegun x) ≡ onLine o x) (T .is)
+    (ap (made (st .members ++ _ ∷ [])) (take-all (length (st .nodes)) (st .nodes) (omega arith)))
   where
     made : List ℕ → List Node → State
     made ms t = record {
@@ -302,7 +329,8 @@ pub record LineSoFar (n s : ℕ) (proof : List ℕ) (st : State) (at : ℕ) : Ty
   pub starts : (k : ℕ) → at ≤ k → lineStart k proof 0 0 at ≡ from
   pub redone : (o : Rest) → (o′ : Rest) × Retaken n s proof (onLine o (asBegun st)) from (onLine o′ st) at
 
-so-far-on : (n s : ℕ) (proof : List ℕ) (st st′ : State) (at : ℕ) → LineSoFar n s proof st at → Taken n s st (recordAt proof at) st′ → numberOf (recordAt proof at) ≡ 0
+so-far-on : (n s : ℕ) (proof : List ℕ) (st st′ : State) (at : ℕ) → LineSoFar n s proof st at → Taken n s st (recordAt proof at) st′ →
+    numberOf (recordAt proof at) ≡ 0
     → Extends (st .nodes) (st′ .nodes) → st .kept ≤ length (st .nodes) → LineSoFar n s proof st′ (at + lengthOf (recordAt proof at))
 so-far-on n s proof st st′ at L T form grown inside = go (isLine (recordAt proof at)) refl
   where
@@ -313,8 +341,13 @@ so-far-on n s proof st st′ at L T form grown inside = go (isLine (recordAt pro
     go true e = record {
       walked = walk-on proof 0 at (L .walked) form;
       from = to;
-      starts = λ k enough. start-on proof k 0 0 at (L .walked) form (omega (arith, enough)) ∙ ap (λ (b : Bool). cond b to (lineStart k proof 0 0 at)) e;
-      redone = λ o. (o, subst (λ (x : State). Retaken n s proof x to (onLine o st′) to) (sym (line-fresh n s st st′ (recordAt proof at) T e o)) done);
+      starts = λ k enough. start-on proof k 0 0 at (L .walked) form (omega (arith, enough))
+          ∙ ap (λ (b : Bool). cond b to (lineStart k proof 0 0 at)) e;
+      redone = λ o. (
+        o,
+        subst (λ (x : State). Retaken n s proof x to (onLine o st′) to)
+            (sym (line-fresh n s st st′ (recordAt proof at) T e o)) done,
+      );
     }
     go false e = record {
       walked = walk-on proof 0 at (L .walked) form;
@@ -330,12 +363,14 @@ so-far-on n s proof st st′ at L T form grown inside = go (isLine (recordAt pro
         more o (o′, W) =
             let (o″, F) = other-again n s o′ st st′ (recordAt proof at) T e in (
               o″,
-              subst (λ (x : State). Retaken n s proof x (L .from) (onLine o″ st′) to) (sym (begun-same o st st′ (same-kept n s st st′ (recordAt proof at) T e) grown inside))
+              subst (λ (x : State). Retaken n s proof x (L .from) (onLine o″ st′) to)
+                  (sym (begun-same o st st′ (same-kept n s st st′ (recordAt proof at) T e) grown inside))
                   (retaken-on n s proof (onLine o (asBegun st)) (L .from) (onLine o′ st) at (onLine o″ st′) W form F),
             )
 
 -- THEOREM: in every state reached the line's records done again from where the line starts give the state.
-pub so-far : (s : ℕ) (text proof : List ℕ) {n : ℕ} {st : State} {at : ℕ} {m : Meant} → Reached inRecords s text proof n st at m → LineSoFar n s proof st at
+pub so-far : (s : ℕ) (text proof : List ℕ) {n : ℕ} {st : State} {at : ℕ} {m : Meant} → Reached inRecords s text proof n st at m →
+    LineSoFar n s proof st at
 so-far s text proof {n} (begins {many} {t} {ms} M) =
     record {
       walked = here;
@@ -345,5 +380,6 @@ so-far s text proof {n} (begins {many} {t} {ms} M) =
     }
 so-far s text proof {n} (goes {st} {st′} {at} R T) =
     let (narrow, S) = reached-standing inRecords s text proof R in
-    so-far-on n s proof st st′ at (so-far s text proof R) T (next-form n s st false (recordAt proof at) st′ (taken-record n s st false (recordAt proof at) st′ T))
+    so-far-on n s proof st st′ at (so-far s text proof R) T
+    (next-form n s st false (recordAt proof at) st′ (taken-record n s st false (recordAt proof at) st′ T))
     (record-extends S narrow (recordAt proof at) st′ T) (S .kept)

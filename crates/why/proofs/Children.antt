@@ -17,7 +17,9 @@ above-first count t v child p = rw (getD-take count t child blank p)
 module _ (vs ls hs : List ℕ) (count : ℕ) (R : Readable vs ls hs count) (v low high : ℕ) (l : low < count) (h : high < count) (r : Bool)
     (is : r ≡ above (rows vs ls hs) v low) where
   pub high-child : r ≡ true → getD vs high 0 ≡ at (nodesIn vs ls hs count) (cond (above (nodesIn vs ls hs count) v low) high low) .var
-  high-child e = sym (rw (above-first count (rows vs ls hs) v low l ∙ sym is ∙ e) (ap (λ (x : Node). x .var) (node-in vs ls hs count R high h)))
+  high-child e = sym (rw (above-first count (rows vs ls hs) v low l ∙ sym is ∙ e)
+      (ap (λ (x : Node). x .var) (node-in vs ls hs count R high h)))
 
   pub low-child : r ≡ false → getD vs low 0 ≡ at (nodesIn vs ls hs count) (cond (above (nodesIn vs ls hs count) v low) high low) .var
-  low-child e = sym (rw (above-first count (rows vs ls hs) v low l ∙ sym is ∙ e) (ap (λ (x : Node). x .var) (node-in vs ls hs count R low l)))
+  low-child e = sym (rw (above-first count (rows vs ls hs) v low l ∙ sym is ∙ e)
+      (ap (λ (x : Node). x .var) (node-in vs ls hs count R low l)))

@@ -1,14 +1,14 @@
--- Deciding a variable of a word keeps the smallest assignment. The idea: `taken-true` and `taken-false` with sets that are words. Assumes nothing.
+-- Deciding a variable of a word keeps the smallest assignment. The idea: `taken-true` and `taken-false` with sets that are words. Assumes
+-- nothing.
 use mathlib.Core.Path.{_≡_, refl, sym, ap, _∙_, subst}
 use mathlib.Core.Bool.{Bool, true, false, _||_, cond}
 use mathlib.Core.List.{List}
-use Prim.Native.Nat.{ℕ, zero, suc, _+_, _≤_, _<_}
+use Prim.Native.Nat.{ℕ, suc, _+_, _≤_, _<_}
 use native.Mathlib.Omega.{arith}
 use lib.ListN.{length}
 use lib.Dec.{eqb}
 use borrow.Author.Tests.{eqb-false}
 use Rattle.meaning.specs.Diagram.{Assignment, Diagram, leaf, same, Reduced}
-use Rattle.meaning.specs.Operations.{cofactorLiterals}
 use Rattle.meaning.specs.Rules.{witnessed}
 use Rattle.meaning.specs.Words.{inWord, assignmentOf}
 use Rattle.meaning.proofs.Booleans.{t≢f, not-true, or-left, or-right, eqb-eq, eq-eqb}
@@ -27,18 +27,20 @@ use Rattle.why.proofs.Greedy.{smallest-one, taken-true, taken-false, al
 
 -- ---- sets that have the same variables
 
-module _ (n : ℕ) (g : Diagram) (P N P′ N′ : ℕ → Bool) (p : (v : ℕ) → 1 ≤ v → v ≤ n → P v ≡ P′ v) (q : (v : ℕ) → 1 ≤ v → v ≤ n → N v ≡ N′ v) where
-  witnessed-cong : witnessed n P N g ≡ witnessed n P′ N′ g
-  unfolding witnessed
-  witnessed-cong = ap (λ (f : Diagram). same f (leaf true)) (literals-cong n P N P′ N′ g p q)
+module _ (n : ℕ) (g : Diagram) (P N P′ N′ : ℕ → Bool) (p : (v : ℕ) → 1 ≤ v → v ≤ n → P v ≡ P′ v) (q : (v : ℕ) → 1 ≤ v → v ≤ n → N v ≡ N′ v)
+  where
+    witnessed-cong : witnessed n P N g ≡ witnessed n P′ N′ g
+    unfolding witnessed
+    witnessed-cong = ap (λ (f : Diagram). same f (leaf true)) (literals-cong n P N P′ N′ g p q)
 
-  agrees-cong : (a : Assignment) → length a ≡ n → Agrees P N a → Agrees P′ N′ a
-  unfolding Agrees
-  agrees-cong a len so v lo hi =
-      let most : v ≤ n = omega (arith, hi, len) in
-      ((λ e. so v lo hi .0 (p v lo most ∙ e)), λ e f. so v lo hi .1 (p v lo most ∙ e) (q v lo most ∙ f))
+    agrees-cong : (a : Assignment) → length a ≡ n → Agrees P N a → Agrees P′ N′ a
+    unfolding Agrees
+    agrees-cong a len so v lo hi =
+        let most : v ≤ n = omega (arith, hi, len) in
+        ((λ e. so v lo hi .0 (p v lo most ∙ e)), λ e f. so v lo hi .1 (p v lo most ∙ e) (q v lo most ∙ f))
 
-smallest-cong : (n : ℕ) (g : Diagram) (P N P′ N′ : ℕ → Bool) → ((v : ℕ) → 1 ≤ v → v ≤ n → P v ≡ P′ v) → ((v : ℕ) → 1 ≤ v → v ≤ n → N v ≡ N′ v)
+smallest-cong : (n : ℕ) (g : Diagram) (P N P′ N′ : ℕ → Bool) → ((v : ℕ) → 1 ≤ v → v ≤ n → P v ≡ P′ v) →
+    ((v : ℕ) → 1 ≤ v → v ≤ n → N v ≡ N′ v)
     → witnessed n P N g ≡ false → smallest n P N g ≡ smallest n P′ N′ g
 smallest-cong n g P N P′ N′ p q open-there =
     let A : Smallest n P N g (smallest n P N g) = smallest-so n P N g open-there in
@@ -48,7 +50,8 @@ smallest-cong n g P N P′ N′ p q open-there =
       long = A .long;
       agrees = agrees-cong n g P N P′ N′ p q (smallest n P N g) (A .long) (A .agrees);
       false-there = A .false-there;
-      least = λ b len so off. A .least b len (agrees-cong n g P′ N′ P N (λ v lo hi. sym (p v lo hi)) (λ v lo hi. sym (q v lo hi)) b len so) off;
+      least = λ b len so off. A .least b len (agrees-cong n g P′ N′ P N (λ v lo hi. sym (p v lo hi)) (λ v lo hi. sym (q v lo hi)) b len so)
+          off;
     })
     (smallest-so n P′ N′ g open-too)
 
@@ -65,7 +68,15 @@ pub record Narrowed (n : ℕ) (g : Diagram) (u₀ u : Literals) (v : ℕ) : Type
 
 pub narrowed-first : (n : ℕ) (g : Diagram) (u : Literals) → Shut n g u → Narrowed n g u u 1
 narrowed-first n g u S =
-    record { least = omega arith; most = omega arith; decided = λ w lo hi. absurd (omega (arith, lo, hi)); open-there = S .open-there; is = refl; within = S .within }
+    record {
+      least = omega arith;
+      most = omega arith;
+      decided = λ w lo hi. absurd (omega (arith, lo, hi));
+      open-there = S .open-there;
+      is =
+          refl;
+      within = S .within;
+    }
 
 pub narrowed-last : (n : ℕ) (g : Diagram) (u₀ u : Literals) (v : ℕ) → Narrowed n g u₀ u v → n < v
     → assignmentOf n (u .positive) ≡ smallest n (inWord (u₀ .positive)) (inWord (u₀ .negative)) g
@@ -105,7 +116,8 @@ module _ (n : ℕ) (narrow : n ≤ 64) (t : List Node) (k : ℕ) (red : Reduced 
   unfolding oneAt witnessed
   one-is p q = witnessed-width n 64 narrow (inWord p) (inWord q) (diagramAt t k) red
 
-  decided-more : (p q : ℕ) → ((w : ℕ) → 1 ≤ w → (inWord (u .positive) w || inWord (u .negative) w) ≡ true → (inWord p w || inWord q w) ≡ true)
+  decided-more : (p q : ℕ) → ((w : ℕ) → 1 ≤ w → (inWord (u .positive) w || inWord (u .negative) w) ≡ true → (inWord p w || inWord q w)
+      ≡ true)
       → (inWord p v || inWord q v) ≡ true → Decided (inWord p) (inWord q) (suc v)
   decided-more p q keeps has-it w lo hi = go (eqb w v) refl
     where
@@ -119,7 +131,8 @@ module _ (n : ℕ) (narrow : n ≤ 64) (t : List Node) (k : ℕ) (red : Reduced 
   unfolding g P N
   made-true np nn one =
       let low-one : witnessed n P (withIt N v) g ≡ true =
-      sym (witnessed-cong n g P (inWord (withVariable (u .negative) v)) P (withIt N v) (λ x lo hi. refl) (with-is (u .negative))) ∙ sym (one-is (u .positive) (withVariable (u .negative) v)) ∙ one in
+      sym (witnessed-cong n g P (inWord (withVariable (u .negative) v)) P (withIt N v) (λ x lo hi. refl) (with-is (u .negative)))
+      ∙ sym (one-is (u .positive) (withVariable (u .negative) v)) ∙ one in
       let (open-after, same-one) = taken-true n g P N v (W .least) inside np nn (W .open-there) low-one in
       let open-word : witnessed n (inWord (withVariable (u .positive) v)) N g ≡ false =
       witnessed-cong n g (inWord (withVariable (u .positive) v)) N (withIt P v) N (with-is (u .positive)) (λ x lo hi. refl) ∙ open-after in
@@ -130,7 +143,8 @@ module _ (n : ℕ) (narrow : n ≤ 64) (t : List Node) (k : ℕ) (red : Reduced 
             (λ w lo h. rw (in-with (u .positive) v w (W .least) lo) (wider (inWord (u .positive) w) (eqb v w) (inWord (u .negative) w) h))
             (rw (in-with (u .positive) v v (W .least) (W .least), eq-eqb v v refl) (it (inWord (u .positive) v) (inWord (u .negative) v)));
         open-there = open-word;
-        is = smallest-cong n g (inWord (withVariable (u .positive) v)) N (withIt P v) N (with-is (u .positive)) (λ x lo hi. refl) open-word ∙ same-one ∙ W .is;
+        is = smallest-cong n g (inWord (withVariable (u .positive) v)) N (withIt P v) N (with-is (u .positive)) (λ x lo hi. refl) open-word
+            ∙ same-one ∙ W .is;
         within = λ w over. in-with (u .positive) v w (W .least) (omega (arith, over)) ∙ beyond w over;
       }
     where
@@ -151,9 +165,11 @@ module _ (n : ℕ) (narrow : n ≤ 64) (t : List Node) (k : ℕ) (red : Reduced 
       → Narrowed n (diagramAt t k) u₀ (record { positive = u .positive; negative = withVariable (u .negative) v }) (suc v)
   unfolding g P N
   made-false np nn not-one =
-      let open-word : witnessed n P (inWord (withVariable (u .negative) v)) g ≡ false = sym (one-is (u .positive) (withVariable (u .negative) v)) ∙ not-one in
+      let open-word : witnessed n P (inWord (withVariable (u .negative) v)) g ≡ false =
+      sym (one-is (u .positive) (withVariable (u .negative) v)) ∙ not-one in
       let low-open : witnessed n P (withIt N v) g ≡ false =
-      sym (witnessed-cong n g P (inWord (withVariable (u .negative) v)) P (withIt N v) (λ x lo hi. refl) (with-is (u .negative))) ∙ open-word in
+      sym (witnessed-cong n g P (inWord (withVariable (u .negative) v)) P (withIt N v) (λ x lo hi. refl) (with-is (u .negative)))
+      ∙ open-word in
       record {
         least = omega arith;
         most = omega (arith, inside);
@@ -179,10 +195,14 @@ module _ (n : ℕ) (narrow : n ≤ 64) (t : List Node) (k : ℕ) (red : Reduced 
   -- Deciding v keeps the smallest assignment.
   pub narrowed-next : Narrowed n (diagramAt t k) u₀ (decidedIn t k u v) (suc v)
   unfolding decidedIn P N
-  narrowed-next = go (inWord (u .positive) v) refl (inWord (u .negative) v) refl (oneAt t (u .positive) (withVariable (u .negative) v) k) refl
+  narrowed-next = go (inWord (u .positive) v) refl (inWord (u .negative) v) refl (oneAt t (u .positive) (withVariable (u .negative) v) k)
+      refl
     where
-      go : (a : Bool) → inWord (u .positive) v ≡ a → (b : Bool) → inWord (u .negative) v ≡ b → (c : Bool) → oneAt t (u .positive) (withVariable (u .negative) v) k ≡ c
-          → Narrowed n (diagramAt t k) u₀ (cond a u (cond b u (cond c (record { positive = withVariable (u .positive) v; negative = u .negative }) (record { positive = u .positive; negative = withVariable (u .negative) v })))) (suc v)
+      go : (a : Bool) → inWord (u .positive) v ≡ a → (b : Bool) → inWord (u .negative) v ≡ b → (c : Bool) →
+          oneAt t (u .positive) (withVariable (u .negative) v) k ≡ c
+          → Narrowed n (diagramAt t k) u₀ (cond a u
+          (cond b u (cond c (record { positive = withVariable (u .positive) v; negative = u .negative })
+          (record { positive = u .positive; negative = withVariable (u .negative) v })))) (suc v)
       go true p b q c e = kept (or-left (inWord (u .positive) v) (inWord (u .negative) v) p)
       go false p true q c e = kept (or-right (inWord (u .positive) v) (inWord (u .negative) v) q)
       go false p false q true e = made-true p q e
@@ -191,7 +211,8 @@ module _ (n : ℕ) (narrow : n ≤ 64) (t : List Node) (k : ℕ) (red : Reduced 
   pub narrowed-on : (r : Literals) → r ≡ decidedIn t k u v → Narrowed n (diagramAt t k) u₀ r (v + 1)
   narrowed-on r is =
       let one-more : v + 1 ≡ suc v = omega arith in
-      subst (λ (x : ℕ). Narrowed n (diagramAt t k) u₀ r x) (sym one-more) (subst (λ (x : Literals). Narrowed n (diagramAt t k) u₀ x (suc v)) (sym is) narrowed-next)
+      subst (λ (x : ℕ). Narrowed n (diagramAt t k) u₀ r x) (sym one-more)
+      (subst (λ (x : Literals). Narrowed n (diagramAt t k) u₀ x (suc v)) (sym is) narrowed-next)
 
 -- ---- the code's cases
 
@@ -205,7 +226,8 @@ module _ (t : List Node) (g : ℕ) (u : Literals) (v : ℕ) where
   decided-negative e f = rw (e, f)
 
   pub decided-high : inWord (u .positive) v ≡ false → inWord (u .negative) v ≡ false → (off on : ℕ) → off ≡ withVariable (u .negative) v
-      → oneAt t (u .positive) off g ≡ true → on ≡ withVariable (u .positive) v → record { positive = on; negative = u .negative } ≡ decidedIn t g u v
+      → oneAt t (u .positive) off g ≡ true → on ≡ withVariable (u .positive) v → record { positive = on; negative = u .negative }
+      ≡ decidedIn t g u v
   unfolding decidedIn
   decided-high e f off on o one is = rw (e, f, is, ap (λ (x : ℕ). oneAt t (u .positive) x g) (sym o) ∙ one)
 

@@ -1,14 +1,15 @@
--- The smallest assignment found variable by variable: a variable is false where some assignment that agrees with all decided so far makes the line
--- false, else true. The idea: variables decided first are the higher digits, so that each decision keeps the smallest. Assumes nothing.
+-- The smallest assignment found variable by variable: a variable is false where some assignment that agrees with all decided so far makes
+-- the line false, else true. The idea: variables decided first are the higher digits, so that each decision keeps the smallest. Assumes
+-- nothing.
 use mathlib.Core.Path.{_≡_, refl, sym, ap, ap₂, _∙_, subst}
-use mathlib.Core.Bool.{Bool, true, false, not, _&&_, _||_, cond}
-use mathlib.Core.List.{List, [], _∷_}
+use mathlib.Core.Bool.{Bool, true, false, not, _||_, cond}
+use mathlib.Core.List.{[], _∷_}
 use Prim.Native.Nat.{ℕ, zero, suc, _+_, _-_, _^_, _≤_, _<_}
 use native.Mathlib.Omega.{arith}
 use lib.ListN.{length, getD}
 use lib.Seq.{ext-getD}
 use lib.Dec.{eqb}
-use Rattle.meaning.specs.Diagram.{Assignment, holds, Diagram, leaf, same, value, valueFrom}
+use Rattle.meaning.specs.Diagram.{Assignment, holds, Diagram, leaf, value, valueFrom}
 use Rattle.meaning.specs.Operations.{forced, cofactorLiterals}
 use Rattle.meaning.specs.Rules.{witnessed}
 use Rattle.meaning.specs.Words.{inWord, truthFrom, assignmentOf}
@@ -18,7 +19,7 @@ use Rattle.meaning.proofs.Units.{same-eq}
 use Rattle.meaning.proofs.Words.{truth-at}
 use Rattle.causes.specs.Causes.{agrees, smallest}
 use Rattle.causes.specs.Shows.{digits, Agrees, Smallest}
-use Rattle.causes.proofs.Smallest.{digits-below, agrees-so, so-agrees, smallest-so}
+use Rattle.causes.proofs.Smallest.{digits-below, so-agrees, smallest-so}
 use Rattle.why.specs.Greedy.{Decided, withIt}
 
 -- ---- digits
@@ -52,7 +53,8 @@ digits-same (x ∷ a) (y ∷ b) e d = go x y d (digits-same a b (omega (arith, e
     powers : 2 ^ length a ≡ 2 ^ length b
     powers = ap (λ (k : ℕ). 2 ^ k) long
 
-    go : (x y : Bool) → cond x (2 ^ length a) 0 + digits a ≡ cond y (2 ^ length b) 0 + digits b → (digits a ≡ digits b → a ≡ b) → x ∷ a ≡ y ∷ b
+    go : (x y : Bool) → cond x (2 ^ length a) 0 + digits a ≡ cond y (2 ^ length b) 0 + digits b → (digits a ≡ digits b → a ≡ b) → x ∷ a
+        ≡ y ∷ b
     go true true d rec = ap (_∷_ true) (rec (omega (arith, d, powers)))
     go false false d rec = ap (_∷_ false) (rec (omega (arith, d)))
     go true false d rec = absurd (omega (arith, d, powers, digits-below b))
@@ -60,7 +62,8 @@ digits-same (x ∷ a) (y ∷ b) e d = go x y d (digits-same a b (omega (arith, e
 
 pub smallest-one : (n : ℕ) (P N : ℕ → Bool) (g : Diagram) (a b : Assignment) → Smallest n P N g a → Smallest n P N g b → a ≡ b
 smallest-one n P N g a b A B =
-    digits-same a b (A .long ∙ sym (B .long)) (omega (arith, A .least b (B .long) (B .agrees) (B .false-there), B .least a (A .long) (A .agrees) (A .false-there)))
+    digits-same a b (A .long ∙ sym (B .long)) (omega
+    (arith, A .least b (B .long) (B .agrees) (B .false-there), B .least a (A .long) (A .agrees) (A .false-there)))
 
 truth-length : (i k w : ℕ) → length (truthFrom i k w) ≡ k
 unfolding truthFrom
@@ -134,7 +137,13 @@ module _ (n : ℕ) (g : Diagram) where
         let fits : Agrees (withIt P v) N a = true-agrees a (A .agrees) t in
         let open-after : witnessed n (withIt P v) N g ≡ false = some-fits (withIt P v) N a (A .long) fits (A .false-there) in
         let B : Smallest n (withIt P v) N g a =
-        record { long = A .long; agrees = fits; false-there = A .false-there; least = λ b len so off. A .least b len (agrees-true b so) off } in
+        record {
+          long = A .long;
+          agrees = fits;
+          false-there = A .false-there;
+          least =
+              λ b len so off. A .least b len (agrees-true b so) off;
+        } in
         (open-after, smallest-one n (withIt P v) N g (smallest n (withIt P v) N g) a (smallest-so n (withIt P v) N g open-after) B)
       where
         go : (a : Assignment) → Smallest n P N g a → (x : Bool) → holds a v ≡ x → holds a v ≡ true
@@ -142,7 +151,8 @@ module _ (n : ℕ) (g : Diagram) where
         go a A false e = t≢f (sym (one-there P (withIt N v) one a (A .long) (false-agrees a (A .agrees) e)) ∙ A .false-there)
 
     -- Two assignments that agree with what is decided are one below v.
-    one-below : Decided P N v → (a b : Assignment) → length a ≡ n → length b ≡ n → Agrees P N a → Agrees P N b → (k : ℕ) → k < v - 1 → getD a k false ≡ getD b k false
+    one-below : Decided P N v → (a b : Assignment) → length a ≡ n → length b ≡ n → Agrees P N a → Agrees P N b → (k : ℕ) → k < v - 1 →
+        getD a k false ≡ getD b k false
     unfolding Agrees
     one-below decided a b la lb A B k lt = go (P (suc k)) refl
       where
@@ -161,7 +171,8 @@ module _ (n : ℕ) (g : Diagram) where
             let q : N (suc k) ≡ true = rw e at (decided (suc k) (omega arith) (omega (arith, lt))) in at-a .1 e q ∙ sym (at-b .1 e q)
 
     -- Some assignment with v false fits: v is false.
-    pub taken-false : Decided P N v → witnessed n P N g ≡ false → witnessed n P (withIt N v) g ≡ false → smallest n P (withIt N v) g ≡ smallest n P N g
+    pub taken-false : Decided P N v → witnessed n P N g ≡ false → witnessed n P (withIt N v) g ≡ false → smallest n P (withIt N v) g
+        ≡ smallest n P N g
     unfolding Agrees
     taken-false decided open-before open-after =
         let a : Assignment = smallest n P N g in
@@ -172,7 +183,8 @@ module _ (n : ℕ) (g : Diagram) where
         let f : holds b v ≡ false = B .agrees v lo (omega (arith, hi, B .long)) .1 new-true (or-it (N v)) in
         let off : holds a v ≡ false = not-true (holds a v) (λ t. absurd (omega (
           arith,
-          digits-less a b (A .long ∙ sym (B .long)) (v - 1) (omega (arith, A .long, hi, lo)) (one-below decided a b (A .long) (B .long) (A .agrees) b-fits) t f,
+          digits-less a b (A .long ∙ sym (B .long)) (v - 1) (omega (arith, A .long, hi, lo))
+              (one-below decided a b (A .long) (B .long) (A .agrees) b-fits) t f,
           A .least b (B .long) b-fits (B .false-there),
         ))) in
         let C : Smallest n P (withIt N v) g a = record {
@@ -189,7 +201,8 @@ module _ (n : ℕ) (g : Diagram) where
 
   -- ---- all decided
 
-  pub all-decided : (p : ℕ) (N : ℕ → Bool) → Decided (inWord p) N (suc n) → witnessed n (inWord p) N g ≡ false → assignmentOf n p ≡ smallest n (inWord p) N g
+  pub all-decided : (p : ℕ) (N : ℕ → Bool) → Decided (inWord p) N (suc n) → witnessed n (inWord p) N g ≡ false → assignmentOf n p
+      ≡ smallest n (inWord p) N g
   unfolding Agrees
   all-decided p N decided open-after =
       let a : Assignment = smallest n (inWord p) N g in

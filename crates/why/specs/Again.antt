@@ -1,5 +1,5 @@
--- The state before a refused record, made anew from what the check leaves: its nodes, members and marks. The entries and the witness of the line
--- are read once more from where the line starts. No call open to others cites this file.
+-- The state before a refused record, made anew from what the check leaves: its nodes, members and marks. The entries and the witness of the
+-- line are read once more from where the line starts. No call open to others cites this file.
 use mathlib.Core.Path.{_≡_}
 use mathlib.Core.Bool.{Bool, true, false, cond}
 use mathlib.Core.List.{List, []}

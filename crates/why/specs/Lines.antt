@@ -18,6 +18,7 @@ use Rattle.traces.specs.Traced.{fixedAs}
 -- the rounds.
 pub record LineTraced (t : Table) (ms : List Diagram) (g : Diagram) (r : Traced) (t′ : Table) (words : List ℕ) : Type 0 where
   pub extended : Extended t t′
-  pub places : placedAll (size t) (nodesOf t) (base 64 ms g ++ unitProp 64 (byDiagram 64 (negation 64 g) ms) .made) ≡ room (r .full) (nodesOf t′)
+  pub places : placedAll (size t) (nodesOf t) (base 64 ms g ++ unitProp 64 (byDiagram 64 (negation 64 g) ms) .made)
+      ≡ room (r .full) (nodesOf t′)
   pub rounds : r .full ≡ false → r .rounds ≡ length (fixes 64 (byDiagram 64 (negation 64 g) ms))
   pub fixed : r .full ≡ false → words ≡ fixedAs (length words) (fixes 64 (byDiagram 64 (negation 64 g) ms))

@@ -2,9 +2,6 @@ use Rattle.pieces.proofs.Binary.{ends-added, ends-struck, ends-recorded
 use borrow.Author.Needs.{needs}
 use Rattle.pieces.proofs.binary_clause_end.Statement.{statement}
 use Rattle.pieces.proofs.binary_clause_end.Tie as tie
-use Rattle.pieces.proofs.binary_clause_end.Reads as reads
-use Rattle.pieces.proofs.binary_clause_end.Lts as lts
-use Rattle.commands.proofs.command_at.Reads as command-at-reads
 
 command-at-requires : tie.Need-command-at-requires
 command-at-requires c κs = search needs

@@ -3,10 +3,6 @@ use Rattle.pieces.proofs.Binary.{binary-byte, binary-four, binary-large
 use borrow.Author.Needs.{needs}
 use Rattle.pieces.proofs.binary_end.Statement.{statement}
 use Rattle.pieces.proofs.binary_end.Tie as tie
-use Rattle.pieces.proofs.binary_end.Reads as reads
-use Rattle.pieces.proofs.binary_end.Lts as lts
-use Rattle.pieces.proofs.binary_clause_end.Reads as binary-clause-end-reads
-use Rattle.pieces.proofs.groups_end.Reads as groups-end-reads
 
 add-result : tie.Need-add-result
 add-result c = search needs

@@ -3,11 +3,6 @@ use Rattle.pieces.proofs.Ends.{clause-struck, clause-added, clause-none
 use borrow.Author.Needs.{needs}
 use Rattle.pieces.proofs.clause_end.Statement.{statement}
 use Rattle.pieces.proofs.clause_end.Tie as tie
-use Rattle.pieces.proofs.clause_end.Reads as reads
-use Rattle.pieces.proofs.clause_end.Lts as lts
-use Rattle.dimacs.proofs.is_letter.Reads as is-letter-reads
-use Rattle.dimacs.proofs.skip_between.Reads as skip-between-reads
-use Rattle.pieces.proofs.closed_end.Reads as closed-end-reads
 
 -- src/lib.rt:109:12
 is-letter-requires : tie.Need-is-letter-requires
@@ -27,7 +22,9 @@ closed-end-requires c κs = search needs
 
 -- src/lib.rt:111:13
 returns : tie.Need-returns
-returns c = clause-struck _ _ _ _ (c .before .before .before .before .if1 .taken) (sym (c .before .before .before .is-letter .ensures) ∙ c .before .before .if2 .taken) (c .before .skip-between .ensures .0) (c .closed-end .ensures)
+returns c = clause-struck _ _ _ _ (c .before .before .before .before .if1 .taken)
+    (sym (c .before .before .before .is-letter .ensures) ∙ c .before .before .if2 .taken) (c .before .skip-between .ensures .0)
+    (c .closed-end .ensures)
 
 -- src/lib.rt:113:9
 closed-end-requires-2 : tie.Need-closed-end-requires-2
@@ -35,7 +32,8 @@ closed-end-requires-2 c κs = search needs
 
 -- src/lib.rt:113:9
 returns-2 : tie.Need-returns-2
-returns-2 c = clause-added _ _ _ (c .before .before .before .if1 .taken) (sym (c .before .before .is-letter .ensures) ∙ c .before .if2 .left) (c .closed-end2 .ensures)
+returns-2 c = clause-added _ _ _ (c .before .before .before .if1 .taken)
+    (sym (c .before .before .is-letter .ensures) ∙ c .before .if2 .left) (c .closed-end2 .ensures)
 
 -- src/lib.rt:104:1
 returns-3 : tie.Need-returns-3

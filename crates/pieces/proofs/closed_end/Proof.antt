@@ -2,9 +2,6 @@ use Rattle.pieces.proofs.Ends.{ends-closed, ends-open, ends-refused}
 use borrow.Author.Needs.{needs}
 use Rattle.pieces.proofs.closed_end.Statement.{statement}
 use Rattle.pieces.proofs.closed_end.Tie as tie
-use Rattle.pieces.proofs.closed_end.Reads as reads
-use Rattle.pieces.proofs.closed_end.Lts as lts
-use Rattle.dimacs.proofs.open_clause.Reads as open-clause-reads
 
 -- src/lib.rt:96:11
 open-clause-requires : tie.Need-open-clause-requires

@@ -2,10 +2,6 @@ use borrow.Author.Tests.{le-leb, lt-leb}
 use borrow.Author.Needs.{needs}
 use Rattle.pieces.proofs.formula_end.Statement.{statement}
 use Rattle.pieces.proofs.formula_end.Tie as tie
-use Rattle.pieces.proofs.formula_end.Reads as reads
-use Rattle.pieces.proofs.formula_end.Lts as lts
-use Rattle.pieces.proofs.line_end.Reads as line-end-reads
-use Rattle.pieces.proofs.token_end.Reads as token-end-reads
 
 -- src/lib.rt:76:9
 line-end-requires : tie.Need-line-end-requires

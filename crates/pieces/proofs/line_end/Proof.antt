@@ -7,8 +7,6 @@ use Rattle.dimacs.specs.Text.{lineEnd}
 use Rattle.pieces.proofs.Ends.{line-over, line-stops, line-goes}
 use Rattle.pieces.proofs.line_end.Statement.{statement}
 use Rattle.pieces.proofs.line_end.Tie as tie
-use Rattle.pieces.proofs.line_end.Reads as reads
-use Rattle.pieces.proofs.line_end.Lts as lts
 
 abbrev Inv-loop : tie.InvT-loop
 Inv-loop s at i₀ i = (at ≤ i) × (i ≤ length s) × (lineEnd s at ≡ lineEnd s i)
@@ -38,7 +36,12 @@ loop-less c = search needs
 
 -- src/lib.rt:55:5
 loop-again : tie.Need-loop-again Inv-loop μ-loop
-loop-again c = (omega arith, omega arith, c .before .before .before .loop .inv .2 ∙ line-goes _ _ (c .before .before .loop-test .taken) (c .if1 .left))
+loop-again c = (
+  omega arith,
+  omega arith,
+  c .before .before .before .loop .inv .2
+      ∙ line-goes _ _ (c .before .before .loop-test .taken) (c .if1 .left),
+)
 
 -- src/lib.rt:50:1
 returns-2 : tie.Need-returns-2 Inv-loop μ-loop

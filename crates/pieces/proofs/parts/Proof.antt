@@ -1,8 +1,6 @@
 use borrow.Author.Tests.{eq-eqb, ne-eqb}
 use Rattle.pieces.proofs.parts.Statement.{statement}
 use Rattle.pieces.proofs.parts.Tie as tie
-use Rattle.pieces.proofs.parts.Reads as reads
-use Rattle.pieces.proofs.parts.Lts as lts
 
 -- src/lib.rt:29:9
 returns : tie.Need-returns

@@ -1,9 +1,5 @@
 use Rattle.pieces.proofs.piece_end.Statement.{statement}
 use Rattle.pieces.proofs.piece_end.Tie as tie
-use Rattle.pieces.proofs.piece_end.Reads as reads
-use Rattle.pieces.proofs.piece_end.Lts as lts
-use Rattle.pieces.proofs.formula_end.Reads as formula-end-reads
-use Rattle.pieces.proofs.proof_end.Reads as proof-end-reads
 
 -- src/lib.rt:170:9
 proof-end-requires : tie.Need-proof-end-requires

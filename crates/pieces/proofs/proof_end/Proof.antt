@@ -2,12 +2,6 @@ use borrow.Author.Tests.{eq-eqb, ne-eqb, le-leb, lt-leb}
 use borrow.Author.Needs.{needs}
 use Rattle.pieces.proofs.proof_end.Statement.{statement}
 use Rattle.pieces.proofs.proof_end.Tie as tie
-use Rattle.pieces.proofs.proof_end.Reads as reads
-use Rattle.pieces.proofs.proof_end.Lts as lts
-use Rattle.pieces.proofs.binary_end.Reads as binary-end-reads
-use Rattle.pieces.proofs.clause_end.Reads as clause-end-reads
-use Rattle.pieces.proofs.record_end.Reads as record-end-reads
-use Rattle.pieces.proofs.token_end.Reads as token-end-reads
 
 -- src/lib.rt:150:16
 enum-told : tie.Need-enum-told

@@ -5,8 +5,6 @@ use Rattle.meaning.proofs.Booleans.{t≢f}
 use borrow.Author.Needs.{needs}
 use Rattle.pieces.proofs.shown.Statement.{statement}
 use Rattle.pieces.proofs.shown.Tie as tie
-use Rattle.pieces.proofs.shown.Reads as reads
-use Rattle.pieces.proofs.shown.Lts as lts
 
 -- src/lib.rt:186:13
 slice-aggregate-result : tie.Need-slice-aggregate-result
@@ -22,7 +20,8 @@ slice-aggregate-result-2 c = search needs
 
 -- src/lib.rt:189:13
 returns-2 : tie.Need-returns-2
-returns-2 c = rw (c .before .before .before .if1 .taken, le-leb _ _ (c .before .before .if2 .left), lt-leb _ _ (c .before .if3 .taken)) (refl, λ h. t≢f (sym h))
+returns-2 c = rw (c .before .before .before .if1 .taken, le-leb _ _ (c .before .before .if2 .left), lt-leb _ _ (c .before .if3 .taken))
+    (refl, λ h. t≢f (sym h))
 
 -- src/lib.rt:191:16
 part-result-start : tie.Need-part-result-start
@@ -34,7 +33,8 @@ part-result-end c = search needs
 
 -- src/lib.rt:191:9
 returns-3 : tie.Need-returns-3
-returns-3 c = rw (c .before .before .before .if1 .taken, le-leb _ _ (c .before .before .if2 .left), le-leb _ _ (c .before .if3 .left)) (refl, λ _. refl)
+returns-3 c = rw (c .before .before .before .if1 .taken, le-leb _ _ (c .before .before .if2 .left), le-leb _ _ (c .before .if3 .left))
+    (refl, λ _. refl)
 
 -- src/lib.rt:194:9
 slice-aggregate-result-3 : tie.Need-slice-aggregate-result-3
@@ -50,7 +50,8 @@ slice-aggregate-result-4 c = search needs
 
 -- src/lib.rt:197:9
 returns-5 : tie.Need-returns-5
-returns-5 c = rw (c .before .before .before .if1 .left, le-leb _ _ (c .before .before .if4 .left), lt-leb _ _ (c .before .if5 .taken)) (refl, λ h. t≢f (sym h))
+returns-5 c = rw (c .before .before .before .if1 .left, le-leb _ _ (c .before .before .if4 .left), lt-leb _ _ (c .before .if5 .taken))
+    (refl, λ h. t≢f (sym h))
 
 -- src/lib.rt:199:5
 part-result-start-2 : tie.Need-part-result-start-2
@@ -62,7 +63,8 @@ part-result-end-2 c = search needs
 
 -- src/lib.rt:176:1
 returns-6 : tie.Need-returns-6
-returns-6 c = rw (c .before .before .before .if1 .left, le-leb _ _ (c .before .before .if4 .left), le-leb _ _ (c .before .if5 .left)) (refl, λ _. refl)
+returns-6 c = rw (c .before .before .before .if1 .left, le-leb _ _ (c .before .before .if4 .left), le-leb _ _ (c .before .if5 .left))
+    (refl, λ _. refl)
 
 pub shown-spec : {M : Type 1} → statement M
 shown-spec =

@@ -7,9 +7,6 @@ use Rattle.dimacs.specs.Text.{tokenEnd}
 use Rattle.pieces.proofs.Ends.{token-over, token-stops, token-goes}
 use Rattle.pieces.proofs.token_end.Statement.{statement}
 use Rattle.pieces.proofs.token_end.Tie as tie
-use Rattle.pieces.proofs.token_end.Reads as reads
-use Rattle.pieces.proofs.token_end.Lts as lts
-use Rattle.pieces.proofs.parts.Reads as parts-reads
 
 abbrev Inv-loop : tie.InvT-loop
 Inv-loop s at i₀ i = (at ≤ i) × (i ≤ length s) × (tokenEnd s at ≡ tokenEnd s i)
@@ -31,7 +28,8 @@ parts-requires c κs = search needs
 
 -- src/lib.rt:42:13
 returns : tie.Need-returns Inv-loop μ-loop
-returns c = token-stops _ _ (c .before .before .before .loop-test .taken) (sym (c .if1 .taken) ∙ c .before .parts .ensures) ∙ sym (c .before .before .before .before .loop .inv .2)
+returns c = token-stops _ _ (c .before .before .before .loop-test .taken) (sym (c .if1 .taken) ∙ c .before .parts .ensures)
+    ∙ sym (c .before .before .before .before .loop .inv .2)
 
 -- src/lib.rt:44:9
 add-i : tie.Need-add-i Inv-loop μ-loop
@@ -43,7 +41,12 @@ loop-less c = search needs
 
 -- src/lib.rt:40:5
 loop-again : tie.Need-loop-again Inv-loop μ-loop
-loop-again c = (omega arith, omega arith, c .before .before .before .before .loop .inv .2 ∙ token-goes _ _ (c .before .before .before .loop-test .taken) (sym (c .if1 .left) ∙ c .before .parts .ensures))
+loop-again c = (
+  omega arith,
+  omega arith,
+  c .before .before .before .before .loop .inv .2
+      ∙ token-goes _ _ (c .before .before .before .loop-test .taken) (sym (c .if1 .left) ∙ c .before .parts .ensures),
+)
 
 -- src/lib.rt:35:1
 returns-2 : tie.Need-returns-2 Inv-loop μ-loop

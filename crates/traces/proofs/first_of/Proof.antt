@@ -5,9 +5,6 @@ use Rattle.propagate.proofs.Quieting.{units-all}
 use borrow.Author.Needs.{needs}
 use Rattle.traces.proofs.first_of.Statement.{statement}
 use Rattle.traces.proofs.first_of.Tie as tie
-use Rattle.traces.proofs.first_of.Reads as reads
-use Rattle.traces.proofs.first_of.Lts as lts
-use Rattle.unit_search.proofs.first_units.Reads as first-units-reads
 
 -- src/lib.rt:88:61
 slice-aggregate-first-units : tie.Need-slice-aggregate-first-units
@@ -15,7 +12,11 @@ slice-aggregate-first-units c = search needs
 
 -- src/lib.rt:88:5
 first-units-requires : tie.Need-first-units-requires
-first-units-requires c κs = let a = c .before .before .before .before .before .before .before .args in (c .before .before .before .before .before .before .before .pre, units-all (diagramsOf (nodesIn (a .vars .now) (a .lows .now) (a .highs .now) (a .count)) (a .list .now)))
+first-units-requires c κs = let a = c .before .before .before .before .before .before .before .args in (
+  c .before .before .before .before .before .before .before .pre,
+  units-all
+      (diagramsOf (nodesIn (a .vars .now) (a .lows .now) (a .highs .now) (a .count)) (a .list .now)),
+)
 
 -- src/lib.rt:82:1
 same-length : tie.Need-same-length

@@ -5,8 +5,6 @@ use lib.ListN.{length-set}
 use borrow.Author.Needs.{needs}
 use Rattle.traces.proofs.note.Statement.{statement}
 use Rattle.traces.proofs.note.Tie as tie
-use Rattle.traces.proofs.note.Reads as reads
-use Rattle.traces.proofs.note.Lts as lts
 
 -- src/lib.rt:87:13
 mul-i : tie.Need-mul-i

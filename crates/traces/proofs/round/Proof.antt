@@ -10,10 +10,6 @@ use Rattle.touched.specs.Places.{AllBut, Untouched}
 use borrow.Author.Needs.{needs}
 use Rattle.traces.proofs.round.Statement.{statement}
 use Rattle.traces.proofs.round.Tie as tie
-use Rattle.traces.proofs.round.Reads as reads
-use Rattle.traces.proofs.round.Lts as lts
-use Rattle.members.proofs.all_by.Reads as all-by-reads
-use Rattle.touched.proofs.touched_places.Reads as touched-places-reads
 
 -- src/lib.rt:59:57
 slice-aggregate-touched-places : tie.Need-slice-aggregate-touched-places
@@ -29,15 +25,36 @@ array-share-prefix-places c = search needs
 
 -- src/lib.rt:69:9
 slice-aggregate-all-by : tie.Need-slice-aggregate-all-by
-slice-aggregate-all-by c = sym (length-take-le _ _ (omega (arith, c .before .before .before .before .before .before .before .before .before .before .touched-places .ensures .0, c .before .before .before .before .before .before .before .before .before .before .before .before .before .before .before .before .before .before .before .before .before .before .pre .1, c .before .before .before .before .before .before .before .before .before .before .before .before .before .before .before .before .before .before .before .before .before .before .pre .4, c .before .before .before .before .before .before .before .before .before .before .touched-places .kept .1 .1 .0)))
+slice-aggregate-all-by c = sym (length-take-le _ _
+    (omega (
+      arith,
+      c .before .before .before .before .before .before .before .before .before .before .touched-places .ensures .0,
+      c .before .before .before .before .before .before .before .before .before .before .before .before .before .before .before .before
+          .before .before .before .before .before .before .pre .1,
+      c .before .before .before .before .before .before .before .before .before
+          .before .before .before .before .before .before .before .before .before .before .before .before .before .pre .4,
+      c .before .before .before .before .before .before .before .before .before .before .touched-places .kept .1 .1 .0,
+    )))
 
 -- src/lib.rt:60:5
 all-by-requires : tie.Need-all-by-requires
 all-by-requires c κs =
-    let r = c .before .before .before .before .before .before .before .before .before .before .before .before .before .before .before .before .before .before .before .before .before .before .pre in
-    let a = c .before .before .before .before .before .before .before .before .before .before .before .before .before .before .before .before .before .before .before .before .before .before .args in
-    let t = c .before .before .before .before .before .before .before .before .before .before .touched-places in
-    ((r .0, omega (arith, r .0 .good .least), refl), (r .1, r .2, refl, support-leaf _ 1 0 (omega arith), subst (λ (k : ℕ). AllBut k (take (t .result) (t .last .1 .1 .0)) (Untouched (a .words .now) (bitOr (a .u .positive) (a .u .negative)))) (r .1) (t .ensures .1)))
+    let r = c .before .before .before .before .before .before .before .before .before .before .before .before .before .before .before
+    .before .before .before .before .before .before .before .pre in
+    let a = c .before .before .before .before .before .before .before .before .before .before .before .before .before .before .before
+    .before .before .before .before .before .before .before .args in
+    let t = c .before .before .before .before .before .before .before .before .before .before .touched-places in (
+      (r .0, omega (arith, r .0 .good .least), refl),
+      (
+        r .1,
+        r .2,
+        refl,
+        support-leaf _ 1 0 (omega arith),
+        subst
+            (λ (k : ℕ). AllBut k (take (t .result) (t .last .1 .1 .0)) (Untouched (a .words .now) (bitOr (a .u .positive) (a .u .negative))))
+            (r .1) (t .ensures .1),
+      ),
+    )
 
 -- src/lib.rt:30:1
 same-length : tie.Need-same-length

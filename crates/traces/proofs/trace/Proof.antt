@@ -14,12 +14,17 @@ use Rattle.traces.proofs.trace.Statement.{statement}
 use Rattle.traces.proofs.trace.Tie as tie
 
 abbrev Inv-loop : tie.InvT-loop
-Inv-loop vars₀ lows₀ highs₀ heads₀ links₀ memo₀ list₀ words₀ fixed₀ count n₀ rounds₀ vars lows highs heads links memo list words fixed n rounds =
-    Tracing (tableOf vars₀ lows₀ highs₀ heads₀ links₀ count) (diagramsOf (nodesOf (tableOf vars₀ lows₀ highs₀ heads₀ links₀ count)) list₀) (length fixed₀) (tableOf vars lows highs heads links n) list memo words fixed rounds
-    × (length vars ≡ length vars₀) × (length lows ≡ length lows₀) × (length highs ≡ length highs₀) × (length heads ≡ length heads₀) × (length links ≡ length links₀) × (length memo ≡ length memo₀) × (length list ≡ length list₀) × (length words ≡ length words₀) × (length fixed ≡ length fixed₀)
+Inv-loop vars₀ lows₀ highs₀ heads₀ links₀ memo₀ list₀ words₀ fixed₀ count n₀ rounds₀ vars lows highs heads links memo list words fixed n
+    rounds =
+    Tracing (tableOf vars₀ lows₀ highs₀ heads₀ links₀ count) (diagramsOf (nodesOf (tableOf vars₀ lows₀ highs₀ heads₀ links₀ count)) list₀)
+    (length fixed₀) (tableOf vars lows highs heads links n) list memo words fixed rounds
+    × (length vars ≡ length vars₀) × (length lows ≡ length lows₀) × (length highs ≡ length highs₀) × (length heads ≡ length heads₀)
+    × (length links ≡ length links₀) × (length memo ≡ length memo₀) × (length list ≡ length list₀) × (length words ≡ length words₀)
+    × (length fixed ≡ length fixed₀)
 
 abbrev μ-loop : tie.MeasureT-loop
-μ-loop vars₀ lows₀ highs₀ heads₀ links₀ memo₀ list₀ words₀ fixed₀ count n₀ rounds₀ vars lows highs heads links memo list words fixed n rounds =
+μ-loop vars₀ lows₀ highs₀ heads₀ links₀ memo₀ list₀ words₀ fixed₀ count n₀ rounds₀ vars lows highs heads links memo list words fixed n
+    rounds =
     64 - rounds
 
 abbrev entry : tie.Start Inv-loop μ-loop → Table
@@ -30,14 +35,25 @@ here l = let w = l .loop in tableOf (w .vars) (w .lows) (w .highs) (w .heads) (w
 
 abbrev after : tie.After-round Inv-loop μ-loop → Table
 after c =
-    let y = c .round in tableOf (y .last .0) (y .last .1 .0) (y .last .1 .1 .0) (y .last .1 .1 .1 .0) (y .last .1 .1 .1 .1 .0) (y .result .count)
+    let y = c .round in tableOf (y .last .0) (y .last .1 .0) (y .last .1 .1 .0) (y .last .1 .1 .1 .0) (y .last .1 .1 .1 .1 .0)
+    (y .result .count)
 
 loop-holds : tie.Need-loop-holds Inv-loop μ-loop
 loop-holds c =
     let s = c .before .before .before .before .before .before .before .before .before in
     let a = s .args in
-    let r = s .pre in
-    (tracing-first (entry s) (a .list .now) (a .memo .now) (a .words .now) (a .fixed .now) (r .0 .0) (r .0 .1) (r .0 .2) (r .1 .1), refl, refl, refl, refl, refl, refl, refl, refl, refl)
+    let r = s .pre in (
+      tracing-first (entry s) (a .list .now) (a .memo .now) (a .words .now) (a .fixed .now) (r .0 .0) (r .0 .1) (r .0 .2) (r .1 .1),
+      refl,
+      refl,
+      refl,
+      refl,
+      refl,
+      refl,
+      refl,
+      refl,
+      refl,
+    )
 
 same-length : tie.Need-same-length Inv-loop μ-loop
 same-length c =
@@ -81,15 +97,19 @@ returns c =
     let l = c .before in
     let a = s .args in
     let w = l .loop in
-    tracing-last (entry s) (s .pre .0 .0 .good) (diagramsOf (nodesOf (entry s)) (a .list .now)) (length (a .fixed .now)) (s .pre .0 .4) (here l) (w .list) (w .memo) (w .words) (w .fixed) (w .rounds) (w .inv .0) (c .if1 .taken)
+    tracing-last (entry s) (s .pre .0 .0 .good) (diagramsOf (nodesOf (entry s)) (a .list .now)) (length (a .fixed .now)) (s .pre .0 .4)
+    (here l) (w .list) (w .memo) (w .words) (w .fixed) (w .rounds) (w .inv .0) (c .if1 .taken)
 
 first-of-requires : tie.Need-first-of-requires Inv-loop μ-loop
 first-of-requires c κs =
-    let s = c .before .before .before .before .before .before .before .before .before .before .before .before .before .before .before .before in
+    let s = c .before .before .before .before .before .before .before .before .before .before .before .before .before .before .before
+    .before in
     let l = c .before .before .before .before .before .before in
     let a = s .args in
     let w = l .loop in
-    let R = tracing-ready (entry s) (s .pre .0 .0 .good) (diagramsOf (nodesOf (entry s)) (a .list .now)) (length (a .fixed .now)) (s .pre .0 .4) (here l) (w .list) (w .memo) (w .words) (w .fixed) (w .rounds) (w .inv .0) in (good-readable (here l) (R .good), R .inside, R .room)
+    let R = tracing-ready (entry s) (s .pre .0 .0 .good) (diagramsOf (nodesOf (entry s)) (a .list .now)) (length (a .fixed .now))
+    (s .pre .0 .4) (here l) (w .list) (w .memo) (w .words) (w .fixed) (w .rounds) (w .inv .0) in
+    (good-readable (here l) (R .good), R .inside, R .room)
 
 enum-told : tie.Need-enum-told Inv-loop μ-loop
 enum-told c =
@@ -117,7 +137,8 @@ same-length-14 c =
 
 same-length-15 : tie.Need-same-length-15 Inv-loop μ-loop
 same-length-15 c =
-    c .before .before .before .before .first-of .kept .1 .1 .1 .0 ∙ c .before .before .before .before .before .before .before .before .before .before .before .loop .inv .6
+    c .before .before .before .before .first-of .kept .1 .1 .1 .0 ∙ c .before .before .before .before .before .before .before .before
+    .before .before .before .loop .inv .6
 
 same-length-16 : tie.Need-same-length-16 Inv-loop μ-loop
 same-length-16 c =
@@ -134,11 +155,15 @@ same-length-18 c =
 returns-2 : tie.Need-returns-2 Inv-loop μ-loop
 unfolding nodesOf
 returns-2 c =
-    let s = c .before .before .before .before .before .before .before .before .before .before .before .before .before .before .before .before .before .before .before .before .before in
+    let s = c .before .before .before .before .before .before .before .before .before .before .before .before .before .before .before
+    .before .before .before .before .before .before in
     let l = c .before .before .before .before .before .before .before .before .before .before .before in
     let a = s .args in
     let w = l .loop in
-    tracing-still (entry s) (s .pre .0 .0 .good) (diagramsOf (nodesOf (entry s)) (a .list .now)) (length (a .fixed .now)) (s .pre .0 .4) (here l) (w .list) (w .memo) (w .words) (w .fixed) (w .rounds) (w .inv .0) (subst (AreFirst 64 (diagramsOf (nodesOf (here l)) (w .list))) (c .enum-told .given .1) (c .before .before .before .before .first-of .ensures))
+    tracing-still (entry s) (s .pre .0 .0 .good) (diagramsOf (nodesOf (entry s)) (a .list .now)) (length (a .fixed .now)) (s .pre .0 .4)
+    (here l) (w .list) (w .memo) (w .words) (w .fixed) (w .rounds) (w .inv .0)
+    (subst (AreFirst 64 (diagramsOf (nodesOf (here l)) (w .list))) (c .enum-told .given .1)
+    (c .before .before .before .before .first-of .ensures))
 
 enum-known-u : tie.Need-enum-known-u Inv-loop μ-loop
 enum-known-u c =
@@ -146,108 +171,255 @@ enum-known-u c =
 
 note-requires : tie.Need-note-requires Inv-loop μ-loop
 note-requires c κs =
-    let s = c .before .before .before .before .before .before .before .before .before .before .before .before .before .before .before .before .before .before .before .before .before .before .before in
+    let s = c .before .before .before .before .before .before .before .before .before .before .before .before .before .before .before
+    .before .before .before .before .before .before .before .before in
     let l = c .before .before .before .before .before .before .before .before .before .before .before .before .before in
     let a = s .args in
-    let w = l .loop in
-    (omega (arith, w .inv .0 .going .most, c .before .before .before .before .before .before .before .before .before .before .before .before .if1 .left), omega (arith, w .inv .0 .long, s .pre .1 .0))
+    let w = l .loop in (
+      omega (
+        arith,
+        w .inv .0 .going .most,
+        c .before .before .before .before .before .before .before .before .before .before .before .before
+            .if1 .left,
+      ),
+      omega (arith, w .inv .0 .long, s .pre .1 .0),
+    )
 
 round-requires : tie.Need-round-requires Inv-loop μ-loop
 unfolding nodesOf
 round-requires c κs =
-    let s = c .before .before .before .before .before .before .before .before .before .before .before .before .before .before .before .before .before .before .before .before .before .before .before .before .before .before .before .before .before .before .before .before .before .before in
-    let l = c .before .before .before .before .before .before .before .before .before .before .before .before .before .before .before .before .before .before .before .before .before .before .before .before in
+    let s = c .before .before .before .before .before .before .before .before .before .before .before .before .before .before .before
+    .before .before .before .before .before .before .before .before .before .before .before .before .before .before .before .before
+    .before .before .before in
+    let l = c .before .before .before .before .before .before .before .before .before .before .before .before .before .before .before
+    .before .before .before .before .before .before .before .before .before in
     let a = s .args in
     let w = l .loop in
-    let R = tracing-ready (entry s) (s .pre .0 .0 .good) (diagramsOf (nodesOf (entry s)) (a .list .now)) (length (a .fixed .now)) (s .pre .0 .4) (here l) (w .list) (w .memo) (w .words) (w .fixed) (w .rounds) (w .inv .0) in
-    let F = subst (AreFirst 64 (diagramsOf (nodesOf (here l)) (w .list))) (c .before .before .before .before .before .before .before .before .before .before .before .before .before .u .given .1) (c .before .before .before .before .before .before .before .before .before .before .before .before .before .before .before .before .before .first-of .ensures) in
-    (record { good = R .good; inside = R .inside; room = omega (arith, R .room, c .before .before .before .before .before .before .before .before .before .before .before .before .before .before .before .before .before .first-of .kept .1 .1 .1 .0) }, w .inv .0 .worded, w .inv .0 .supports, F .0, omega (arith, w .inv .7, s .pre .0 .3))
+    let R = tracing-ready (entry s) (s .pre .0 .0 .good) (diagramsOf (nodesOf (entry s)) (a .list .now)) (length (a .fixed .now))
+    (s .pre .0 .4) (here l) (w .list) (w .memo) (w .words) (w .fixed) (w .rounds) (w .inv .0) in
+    let F = subst (AreFirst 64 (diagramsOf (nodesOf (here l)) (w .list)))
+    (c .before .before .before .before .before .before .before .before .before .before .before .before .before .u .given .1)
+    (c .before .before .before .before .before .before .before .before .before .before .before .before .before .before .before .before
+    .before .first-of .ensures) in (
+      record {
+        good = R .good;
+        inside = R .inside;
+        room = omega (
+          arith,
+          R .room,
+          c .before .before .before .before .before .before .before .before .before .before .before .before .before .before
+              .before .before .before .first-of .kept .1 .1 .1 .0,
+        );
+      },
+      w .inv .0 .worded,
+      w .inv .0 .supports,
+      F .0,
+      omega (arith, w .inv .7, s .pre .0 .3),
+    )
 
 same-length-19 : tie.Need-same-length-19 Inv-loop μ-loop
 same-length-19 c =
-    c .before .before .before .before .before .before .before .before .before .before .before .before .before .before .before .before .before .round .kept .0 ∙ c .before .before .before .before .before .before .before .before .before .before .before .before .before .before .before .before .before .before .before .before .before .before .before .before .before .before .before .before .before .before .before .before .before .before .before .before .before .before .before .before .before .before .loop .inv .1
+    c .before .before .before .before .before .before .before .before .before .before .before .before .before .before .before .before
+    .before .round .kept .0 ∙ c .before .before .before .before .before .before .before .before .before .before .before .before .before
+    .before .before .before .before .before .before .before .before .before .before .before .before .before .before .before .before
+    .before .before .before .before .before .before .before .before .before .before .before .before .before .loop .inv .1
 
 same-length-20 : tie.Need-same-length-20 Inv-loop μ-loop
 same-length-20 c =
-    c .before .before .before .before .before .before .before .before .before .before .before .before .before .before .before .before .before .round .kept .1 .0 ∙ c .before .before .before .before .before .before .before .before .before .before .before .before .before .before .before .before .before .before .before .before .before .before .before .before .before .before .before .before .before .before .before .before .before .before .before .before .before .before .before .before .before .before .loop .inv .2
+    c .before .before .before .before .before .before .before .before .before .before .before .before .before .before .before .before
+    .before .round .kept .1 .0 ∙ c .before .before .before .before .before .before .before .before .before .before .before .before
+    .before .before .before .before .before .before .before .before .before .before .before .before .before .before .before .before
+    .before .before .before .before .before .before .before .before .before .before .before .before .before .before .loop .inv .2
 
 same-length-21 : tie.Need-same-length-21 Inv-loop μ-loop
 same-length-21 c =
-    c .before .before .before .before .before .before .before .before .before .before .before .before .before .before .before .before .before .round .kept .1 .1 .0 ∙ c .before .before .before .before .before .before .before .before .before .before .before .before .before .before .before .before .before .before .before .before .before .before .before .before .before .before .before .before .before .before .before .before .before .before .before .before .before .before .before .before .before .before .loop .inv .3
+    c .before .before .before .before .before .before .before .before .before .before .before .before .before .before .before .before
+    .before .round .kept .1 .1 .0 ∙ c .before .before .before .before .before .before .before .before .before .before .before .before
+    .before .before .before .before .before .before .before .before .before .before .before .before .before .before .before .before
+    .before .before .before .before .before .before .before .before .before .before .before .before .before .before .loop .inv .3
 
 same-length-22 : tie.Need-same-length-22 Inv-loop μ-loop
 same-length-22 c =
-    c .before .before .before .before .before .before .before .before .before .before .before .before .before .before .before .before .before .round .kept .1 .1 .1 .0 ∙ c .before .before .before .before .before .before .before .before .before .before .before .before .before .before .before .before .before .before .before .before .before .before .before .before .before .before .before .before .before .before .before .before .before .before .before .before .before .before .before .before .before .before .loop .inv .4
+    c .before .before .before .before .before .before .before .before .before .before .before .before .before .before .before .before
+    .before .round .kept .1 .1 .1 .0 ∙ c .before .before .before .before .before .before .before .before .before .before .before .before
+    .before .before .before .before .before .before .before .before .before .before .before .before .before .before .before .before
+    .before .before .before .before .before .before .before .before .before .before .before .before .before .before .loop .inv .4
 
 same-length-23 : tie.Need-same-length-23 Inv-loop μ-loop
 same-length-23 c =
-    c .before .before .before .before .before .before .before .before .before .before .before .before .before .before .before .before .before .round .kept .1 .1 .1 .1 .0 ∙ c .before .before .before .before .before .before .before .before .before .before .before .before .before .before .before .before .before .before .before .before .before .before .before .before .before .before .before .before .before .before .before .before .before .before .before .before .before .before .before .before .before .before .loop .inv .5
+    c .before .before .before .before .before .before .before .before .before .before .before .before .before .before .before .before
+    .before .round .kept .1 .1 .1 .1 .0 ∙ c .before .before .before .before .before .before .before .before .before .before .before
+    .before .before .before .before .before .before .before .before .before .before .before .before .before .before .before .before
+    .before .before .before .before .before .before .before .before .before .before .before .before .before .before .before .loop .inv
+    .5
 
 same-length-24 : tie.Need-same-length-24 Inv-loop μ-loop
 same-length-24 c =
-    c .before .before .before .before .before .before .before .before .before .before .before .before .before .before .before .before .before .round .kept .1 .1 .1 .1 .1 .0 ∙ c .before .before .before .before .before .before .before .before .before .before .before .before .before .before .before .before .before .before .before .before .before .before .before .before .before .before .before .before .before .before .before .before .before .before .before .first-of .kept .1 .1 .1 .0 ∙ c .before .before .before .before .before .before .before .before .before .before .before .before .before .before .before .before .before .before .before .before .before .before .before .before .before .before .before .before .before .before .before .before .before .before .before .before .before .before .before .before .before .before .loop .inv .6
+    c .before .before .before .before .before .before .before .before .before .before .before .before .before .before .before .before
+    .before .round .kept .1 .1 .1 .1 .1 .0 ∙ c .before .before .before .before .before .before .before .before .before .before .before
+    .before .before .before .before .before .before .before .before .before .before .before .before .before .before .before .before
+    .before .before .before .before .before .before .before .before .first-of .kept .1 .1 .1 .0
+    ∙ c .before .before .before .before .before .before .before .before .before .before .before .before .before .before .before .before
+    .before .before .before .before .before .before .before .before .before .before .before .before .before .before .before .before
+    .before .before .before .before .before .before .before .before .before .before .loop .inv .6
 
 same-length-25 : tie.Need-same-length-25 Inv-loop μ-loop
 same-length-25 c =
-    c .before .before .before .before .before .before .before .before .before .before .before .before .before .before .before .before .before .round .kept .1 .1 .1 .1 .1 .1 .0 ∙ c .before .before .before .before .before .before .before .before .before .before .before .before .before .before .before .before .before .before .before .before .before .before .before .before .before .before .before .before .before .before .before .before .before .before .before .before .before .before .before .before .before .before .loop .inv .7
+    c .before .before .before .before .before .before .before .before .before .before .before .before .before .before .before .before
+    .before .round .kept .1 .1 .1 .1 .1 .1 .0 ∙ c .before .before .before .before .before .before .before .before .before .before
+    .before .before .before .before .before .before .before .before .before .before .before .before .before .before .before .before
+    .before .before .before .before .before .before .before .before .before .before .before .before .before .before .before .before
+    .loop .inv .7
 
 same-length-26 : tie.Need-same-length-26 Inv-loop μ-loop
 same-length-26 c =
-    c .before .before .before .before .before .before .before .before .before .before .before .before .before .before .before .before .before .round .kept .1 .1 .1 .1 .1 .1 .1 .0 ∙ c .before .before .before .before .before .before .before .before .before .before .before .before .before .before .before .before .before .before .before .before .before .before .before .before .before .before .before .before .before .before .before .before .before .before .before .before .before .before .before .before .before .before .loop .inv .8
+    c .before .before .before .before .before .before .before .before .before .before .before .before .before .before .before .before
+    .before .round .kept .1 .1 .1 .1 .1 .1 .1 .0 ∙ c .before .before .before .before .before .before .before .before .before .before
+    .before .before .before .before .before .before .before .before .before .before .before .before .before .before .before .before
+    .before .before .before .before .before .before .before .before .before .before .before .before .before .before .before .before
+    .loop .inv .8
 
 same-length-27 : tie.Need-same-length-27 Inv-loop μ-loop
 same-length-27 c =
-    c .before .before .before .before .before .before .before .before .before .before .before .before .before .before .before .before .before .before .before .before .before .before .before .before .before .before .before .before .note .kept .0 ∙ c .before .before .before .before .before .before .before .before .before .before .before .before .before .before .before .before .before .before .before .before .before .before .before .before .before .before .before .before .before .before .before .before .before .before .before .before .before .before .before .before .before .before .loop .inv .9
+    c .before .before .before .before .before .before .before .before .before .before .before .before .before .before .before .before
+    .before .before .before .before .before .before .before .before .before .before .before .before .note .kept .0
+    ∙ c .before .before .before .before .before .before .before .before .before .before .before .before .before .before .before .before
+    .before .before .before .before .before .before .before .before .before .before .before .before .before .before .before .before
+    .before .before .before .before .before .before .before .before .before .before .loop .inv .9
 
 returns-3 : tie.Need-returns-3 Inv-loop μ-loop
 unfolding nodesOf
 returns-3 c =
-    let s = c .before .before .before .before .before .before .before .before .before .before .before .before .before .before .before .before .before .before .before .before .before .before .before .before .before .before .before .before .before .before .before .before .before .before .before .before .before .before .before .before .before .before .before .before .before .before .before .before .before .before .before .before in
-    let l = c .before .before .before .before .before .before .before .before .before .before .before .before .before .before .before .before .before .before .before .before .before .before .before .before .before .before .before .before .before .before .before .before .before .before .before .before .before .before .before .before .before .before in
+    let s = c .before .before .before .before .before .before .before .before .before .before .before .before .before .before .before
+    .before .before .before .before .before .before .before .before .before .before .before .before .before .before .before .before
+    .before .before .before .before .before .before .before .before .before .before .before .before .before .before .before .before
+    .before .before .before .before .before in
+    let l = c .before .before .before .before .before .before .before .before .before .before .before .before .before .before .before
+    .before .before .before .before .before .before .before .before .before .before .before .before .before .before .before .before
+    .before .before .before .before .before .before .before .before .before .before .before in
     let a = s .args in
     let w = l .loop in
-    let y = c .before .before .before .before .before .before .before .before .before .before .before .before .before .before .before .before .before .round in
-    let F = subst (AreFirst 64 (diagramsOf (nodesOf (here l)) (w .list))) (c .before .before .before .before .before .before .before .before .before .before .before .before .before .before .before .before .before .before .before .before .before .before .before .before .before .before .before .before .before .before .before .u .given .1) (c .before .before .before .before .before .before .before .before .before .before .before .before .before .before .before .before .before .before .before .before .before .before .before .before .before .before .before .before .before .before .before .before .before .before .before .first-of .ensures) in
-    let less : w .rounds < 64 = omega (arith, w .inv .0 .going .most, c .before .before .before .before .before .before .before .before .before .before .before .before .before .before .before .before .before .before .before .before .before .before .before .before .before .before .before .before .before .before .before .before .before .before .before .before .before .before .before .before .before .if1 .left) in
-    tracing-full (entry s) (s .pre .0 .0 .good) (diagramsOf (nodesOf (entry s)) (a .list .now)) (length (a .fixed .now)) (s .pre .0 .4) (here l) (w .list) (w .memo) (w .words) (w .fixed) (w .rounds) (w .inv .0) less (c .before .before .before .before .before .before .before .before .before .before .before .before .before .before .before .before .before .before .before .before .before .before .before .before .before .before .before .before .before .before .before .u .given .0 .0) (F .0) (y .result .full) (after (c .before .before .before .before .before .before .before .before .before .before .before .before .before .before .before .before .before)) (y .last .1 .1 .1 .1 .1 .1 .0) (y .ensures .0) (c .if2 .taken) _
+    let y = c .before .before .before .before .before .before .before .before .before .before .before .before .before .before .before
+    .before .before .round in
+    let F = subst (AreFirst 64 (diagramsOf (nodesOf (here l)) (w .list)))
+    (c .before .before .before .before .before .before .before .before .before .before .before .before .before .before .before .before
+    .before .before .before .before .before .before .before .before .before .before .before .before .before .before .before .u .given
+    .1) (c .before .before .before .before .before .before .before .before .before .before .before .before .before .before .before
+    .before .before .before .before .before .before .before .before .before .before .before .before .before .before .before .before
+    .before .before .before .before .first-of .ensures) in
+    let less : w .rounds < 64 = omega (
+      arith,
+      w .inv .0 .going .most,
+      c .before .before .before .before .before .before .before .before
+          .before .before .before .before .before .before .before .before .before .before .before .before .before .before .before .before
+          .before .before .before .before .before .before .before .before .before .before .before .before .before .before .before .before
+          .before .if1 .left,
+    ) in
+    tracing-full (entry s) (s .pre .0 .0 .good) (diagramsOf (nodesOf (entry s)) (a .list .now)) (length (a .fixed .now)) (s .pre .0 .4)
+    (here l) (w .list) (w .memo) (w .words) (w .fixed) (w .rounds) (w .inv .0) less
+    (c .before .before .before .before .before .before .before .before .before .before .before .before .before .before .before .before
+    .before .before .before .before .before .before .before .before .before .before .before .before .before .before .before .u .given .0
+    .0) (F .0) (y .result .full) (after (c .before .before .before .before .before .before .before .before .before .before .before
+    .before .before .before .before .before .before)) (y .last .1 .1 .1 .1 .1 .1 .0) (y .ensures .0) (c .if2 .taken) _
 
 add-rounds : tie.Need-add-rounds Inv-loop μ-loop
 add-rounds c =
-    let s = c .before .before .before .before .before .before .before .before .before .before .before .before .before .before .before .before .before .before .before .before .before .before .before .before .before .before .before .before .before .before .before .before .before .before .before .before .before .before .before .before .before .before .before .before .before .before .before .before .before .before .before .before in
-    let l = c .before .before .before .before .before .before .before .before .before .before .before .before .before .before .before .before .before .before .before .before .before .before .before .before .before .before .before .before .before .before .before .before .before .before .before .before .before .before .before .before .before .before in
+    let s = c .before .before .before .before .before .before .before .before .before .before .before .before .before .before .before
+    .before .before .before .before .before .before .before .before .before .before .before .before .before .before .before .before
+    .before .before .before .before .before .before .before .before .before .before .before .before .before .before .before .before
+    .before .before .before .before .before in
+    let l = c .before .before .before .before .before .before .before .before .before .before .before .before .before .before .before
+    .before .before .before .before .before .before .before .before .before .before .before .before .before .before .before .before
+    .before .before .before .before .before .before .before .before .before .before .before in
     let a = s .args in
     let w = l .loop in
-    omega (arith, w .inv .0 .going .most, c .before .before .before .before .before .before .before .before .before .before .before .before .before .before .before .before .before .before .before .before .before .before .before .before .before .before .before .before .before .before .before .before .before .before .before .before .before .before .before .before .before .if1 .left)
+    omega (
+      arith,
+      w .inv .0 .going .most,
+      c .before .before .before .before .before .before .before .before .before .before .before .before
+          .before .before .before .before .before .before .before .before .before .before .before .before .before .before .before .before
+          .before .before .before .before .before .before .before .before .before .before .before .before .before .if1 .left,
+    )
 
 loop-less : tie.Need-loop-less Inv-loop μ-loop
 loop-less c =
-    let s = c .before .before .before .before .before .before .before .before .before .before .before .before .before .before .before .before .before .before .before .before .before .before .before .before .before .before .before .before .before .before .before .before .before .before .before .before .before .before .before .before .before .before .before .before .before .before .before .before .before .before .before .before in
-    let l = c .before .before .before .before .before .before .before .before .before .before .before .before .before .before .before .before .before .before .before .before .before .before .before .before .before .before .before .before .before .before .before .before .before .before .before .before .before .before .before .before .before .before in
+    let s = c .before .before .before .before .before .before .before .before .before .before .before .before .before .before .before
+    .before .before .before .before .before .before .before .before .before .before .before .before .before .before .before .before
+    .before .before .before .before .before .before .before .before .before .before .before .before .before .before .before .before
+    .before .before .before .before .before in
+    let l = c .before .before .before .before .before .before .before .before .before .before .before .before .before .before .before
+    .before .before .before .before .before .before .before .before .before .before .before .before .before .before .before .before
+    .before .before .before .before .before .before .before .before .before .before .before in
     let a = s .args in
     let w = l .loop in
-    omega (arith, w .inv .0 .going .most, c .before .before .before .before .before .before .before .before .before .before .before .before .before .before .before .before .before .before .before .before .before .before .before .before .before .before .before .before .before .before .before .before .before .before .before .before .before .before .before .before .before .if1 .left)
+    omega (
+      arith,
+      w .inv .0 .going .most,
+      c .before .before .before .before .before .before .before .before .before .before .before .before
+          .before .before .before .before .before .before .before .before .before .before .before .before .before .before .before .before
+          .before .before .before .before .before .before .before .before .before .before .before .before .before .if1 .left,
+    )
 
 loop-again : tie.Need-loop-again Inv-loop μ-loop
 unfolding nodesOf
 loop-again c =
-    let s = c .before .before .before .before .before .before .before .before .before .before .before .before .before .before .before .before .before .before .before .before .before .before .before .before .before .before .before .before .before .before .before .before .before .before .before .before .before .before .before .before .before .before .before .before .before .before .before .before .before .before .before .before in
-    let l = c .before .before .before .before .before .before .before .before .before .before .before .before .before .before .before .before .before .before .before .before .before .before .before .before .before .before .before .before .before .before .before .before .before .before .before .before .before .before .before .before .before .before in
+    let s = c .before .before .before .before .before .before .before .before .before .before .before .before .before .before .before
+    .before .before .before .before .before .before .before .before .before .before .before .before .before .before .before .before
+    .before .before .before .before .before .before .before .before .before .before .before .before .before .before .before .before
+    .before .before .before .before .before in
+    let l = c .before .before .before .before .before .before .before .before .before .before .before .before .before .before .before
+    .before .before .before .before .before .before .before .before .before .before .before .before .before .before .before .before
+    .before .before .before .before .before .before .before .before .before .before .before in
     let a = s .args in
     let w = l .loop in
-    let y = c .before .before .before .before .before .before .before .before .before .before .before .before .before .before .before .before .before .round in
-    let F = subst (AreFirst 64 (diagramsOf (nodesOf (here l)) (w .list))) (c .before .before .before .before .before .before .before .before .before .before .before .before .before .before .before .before .before .before .before .before .before .before .before .before .before .before .before .before .before .before .before .u .given .1) (c .before .before .before .before .before .before .before .before .before .before .before .before .before .before .before .before .before .before .before .before .before .before .before .before .before .before .before .before .before .before .before .before .before .before .before .first-of .ensures) in
-    let less : w .rounds < 64 = omega (arith, w .inv .0 .going .most, c .before .before .before .before .before .before .before .before .before .before .before .before .before .before .before .before .before .before .before .before .before .before .before .before .before .before .before .before .before .before .before .before .before .before .before .before .before .before .before .before .before .if1 .left) in
-    let t = tracing-on (entry s) (s .pre .0 .0 .good) (diagramsOf (nodesOf (entry s)) (a .list .now)) (length (a .fixed .now)) (s .pre .0 .4) (here l) (w .list) (w .memo) (w .words) (w .fixed) (w .rounds) (w .inv .0) less (c .before .before .before .before .before .before .before .before .before .before .before .before .before .before .before .before .before .before .before .before .before .before .before .before .before .before .before .before .before .before .before .u .given .0 .0) (F .0) (y .result .full) (after (c .before .before .before .before .before .before .before .before .before .before .before .before .before .before .before .before .before)) (y .last .1 .1 .1 .1 .1 .1 .0) (y .ensures .0) (c .if2 .left) (y .last .1 .1 .1 .1 .1 .0) (y .kept .1 .1 .1 .1 .1 .0 ∙ c .before .before .before .before .before .before .before .before .before .before .before .before .before .before .before .before .before .before .before .before .before .before .before .before .before .before .before .before .before .before .before .before .before .before .before .first-of .kept .1 .1 .1 .0) (y .last .1 .1 .1 .1 .1 .1 .1 .0) (y .kept .1 .1 .1 .1 .1 .1 .1 .0 ∙ w .inv .0 .worded ∙ sym (y .kept .1 .1 .1 .1 .1 .1 .0)) (y .ensures .1 (c .if2 .left)) (s .pre .1 .0) (c .before .before .before .before .before .before .before .before .before .before .before .before .before .before .before .before .before .before .before .before .before .before .before .before .before .before .before .before .note .ensures .1 .0) (c .before .before .before .before .before .before .before .before .before .before .before .before .before .before .before .before .before .before .before .before .before .before .before .before .before .before .before .before .note .ensures .1 .1) in (
-      subst (λ (x : List ℕ). Tracing (entry s) (diagramsOf (nodesOf (entry s)) (a .list .now)) (length (a .fixed .now)) (after (c .before .before .before .before .before .before .before .before .before .before .before .before .before .before .before .before .before)) (y .last .1 .1 .1 .1 .1 .1 .0) (y .last .1 .1 .1 .1 .1 .0) (y .last .1 .1 .1 .1 .1 .1 .1 .0) x (w .rounds + 1)) (sym (c .before .before .before .before .before .before .before .before .before .before .before .before .before .before .before .before .before .before .before .before .before .before .before .before .before .before .before .before .note .ensures .0)) t,
+    let y = c .before .before .before .before .before .before .before .before .before .before .before .before .before .before .before
+    .before .before .round in
+    let F = subst (AreFirst 64 (diagramsOf (nodesOf (here l)) (w .list)))
+    (c .before .before .before .before .before .before .before .before .before .before .before .before .before .before .before .before
+    .before .before .before .before .before .before .before .before .before .before .before .before .before .before .before .u .given
+    .1) (c .before .before .before .before .before .before .before .before .before .before .before .before .before .before .before
+    .before .before .before .before .before .before .before .before .before .before .before .before .before .before .before .before
+    .before .before .before .before .first-of .ensures) in
+    let less : w .rounds < 64 = omega (
+      arith,
+      w .inv .0 .going .most,
+      c .before .before .before .before .before .before .before .before
+          .before .before .before .before .before .before .before .before .before .before .before .before .before .before .before .before
+          .before .before .before .before .before .before .before .before .before .before .before .before .before .before .before .before
+          .before .if1 .left,
+    ) in
+    let t = tracing-on (entry s) (s .pre .0 .0 .good) (diagramsOf (nodesOf (entry s)) (a .list .now)) (length (a .fixed .now))
+    (s .pre .0 .4) (here l) (w .list) (w .memo) (w .words) (w .fixed) (w .rounds) (w .inv .0) less
+    (c .before .before .before .before .before .before .before .before .before .before .before .before .before .before .before .before
+    .before .before .before .before .before .before .before .before .before .before .before .before .before .before .before .u .given .0
+    .0) (F .0) (y .result .full) (after (c .before .before .before .before .before .before .before .before .before .before .before
+    .before .before .before .before .before .before)) (y .last .1 .1 .1 .1 .1 .1 .0) (y .ensures .0) (c .if2 .left)
+    (y .last .1 .1 .1 .1 .1 .0) (y .kept .1 .1 .1 .1 .1 .0 ∙ c .before .before .before .before .before .before .before .before .before
+    .before .before .before .before .before .before .before .before .before .before .before .before .before .before .before .before
+    .before .before .before .before .before .before .before .before .before .before .first-of .kept .1 .1 .1 .0)
+    (y .last .1 .1 .1 .1 .1 .1 .1 .0) (y .kept .1 .1 .1 .1 .1 .1 .1 .0 ∙ w .inv .0 .worded ∙ sym (y .kept .1 .1 .1 .1 .1 .1 .0))
+    (y .ensures .1 (c .if2 .left)) (s .pre .1 .0)
+    (c .before .before .before .before .before .before .before .before .before .before .before .before .before .before .before .before
+    .before .before .before .before .before .before .before .before .before .before .before .before .note .ensures .1 .0)
+    (c .before .before .before .before .before .before .before .before .before .before .before .before .before .before .before .before
+    .before .before .before .before .before .before .before .before .before .before .before .before .note .ensures .1 .1) in (
+      subst (λ (x : List ℕ). Tracing (entry s) (diagramsOf (nodesOf (entry s)) (a .list .now)) (length (a .fixed .now))
+          (after (c .before .before .before .before .before .before .before .before .before .before .before .before .before .before .before
+          .before .before)) (y .last .1 .1 .1 .1 .1 .1 .0) (y .last .1 .1 .1 .1 .1 .0) (y .last .1 .1 .1 .1 .1 .1 .1 .0) x (w .rounds + 1))
+          (sym (c .before .before .before .before .before .before .before .before .before .before .before .before .before .before .before
+          .before .before .before .before .before .before .before .before .before .before .before .before .before .note .ensures .0)) t,
       y .kept .0 ∙ w .inv .1,
       y .kept .1 .0 ∙ w .inv .2,
       y .kept .1 .1 .0 ∙ w .inv .3,
       y .kept .1 .1 .1 .0 ∙ w .inv .4,
       y .kept .1 .1 .1 .1 .0 ∙ w .inv .5,
-      y .kept .1 .1 .1 .1 .1 .0 ∙ c .before .before .before .before .before .before .before .before .before .before .before .before .before .before .before .before .before .before .before .before .before .before .before .before .before .before .before .before .before .before .before .before .before .before .before .first-of .kept .1 .1 .1 .0 ∙ w .inv .6,
+      y .kept .1 .1 .1 .1 .1 .0 ∙ c .before .before .before .before .before .before .before .before .before .before .before .before .before
+          .before .before .before .before .before .before .before .before .before .before .before .before .before .before .before .before
+          .before .before .before .before .before .before .first-of .kept .1 .1 .1 .0 ∙ w .inv .6,
       y .kept .1 .1 .1 .1 .1 .1 .0 ∙ w .inv .7,
       y .kept .1 .1 .1 .1 .1 .1 .1 .0 ∙ w .inv .8,
-      c .before .before .before .before .before .before .before .before .before .before .before .before .before .before .before .before .before .before .before .before .before .before .before .before .before .before .before .before .note .kept .0 ∙ w .inv .9,
+      c .before .before .before .before .before .before .before .before .before .before .before .before .before .before .before .before
+          .before .before .before .before .before .before .before .before .before .before .before .before .note .kept .0 ∙ w .inv .9,
     )
 
 pub trace-spec : {M : Type 1} → statement M

@@ -12,7 +12,6 @@ use Rattle.meaning.specs.Words.{inWord}
 use Rattle.table.specs.Nodes.{diagramAt}
 use Rattle.table.specs.Indexed.{Table, tableOf, nodesOf}
 use Rattle.table.specs.Lists.{diagramsOf}
-use Rattle.supports.specs.Supports.{Supports}
 use Rattle.verdict.specs.Steps.{unstruck}
 use Rattle.judge.specs.Lines.{Negatable}
 use Rattle.steps.proofs.Strikings.{unstruck-inside}
@@ -23,7 +22,8 @@ use Rattle.tell.proofs.pr.pr_cause.Tie as tie
 
 module _ (s : tie.Start) where
   abbrev before : Table
-  before = tableOf (s .args .vars .now) (s .args .lows .now) (s .args .highs .now) (s .args .heads .now) (s .args .links .now) (s .args .count)
+  before = tableOf (s .args .vars .now) (s .args .lows .now) (s .args .highs .now) (s .args .heads .now) (s .args .links .now)
+      (s .args .count)
 
   -- the members that are not struck
   abbrev live : List ℕ
@@ -36,7 +36,8 @@ module _ (s : tie.Start) where
   ready = record {
     ready = record {
       good = s .pre .0 .0 .ready .good;
-      inside = unstruck-inside (s .args .count) (take (s .args .many) (s .args .struck .now)) (take (s .args .many) (s .args .members .now)) (s .pre .0 .0 .ready .inside);
+      inside = unstruck-inside (s .args .count) (take (s .args .many) (s .args .struck .now)) (take (s .args .many) (s .args .members .now))
+          (s .pre .0 .0 .ready .inside);
       room = s .pre .0 .0 .ready .room;
     };
     inside = s .pre .0 .0 .inside;
@@ -72,7 +73,8 @@ module _ (c : tie.After-live-members) where
   scratch-length = length-take-le m (begun .args .scratch .now) (omega (arith, few, begun .pre .0 .4))
 
   gathered-ready : Negatable (before begun) gathered (begun .args .memo .now) (begun .args .g .0)
-  gathered-ready = subst (λ (ks : List ℕ). Negatable (before begun) ks (begun .args .memo .now) (begun .args .g .0)) (sym gathered-is) (ready begun)
+  gathered-ready = subst (λ (ks : List ℕ). Negatable (before begun) ks (begun .args .memo .now) (begun .args .g .0)) (sym gathered-is)
+      (ready begun)
 
 slice-aggregate-live-members : tie.Need-slice-aggregate-live-members
 slice-aggregate-live-members c =
@@ -80,7 +82,8 @@ slice-aggregate-live-members c =
 
 live-members-requires : tie.Need-live-members-requires
 live-members-requires c κs =
-    let s = (c .before .before .before .before .before .before .before .before .before .before .before .before) in (omega (arith, s .pre .0 .2, s .pre .0 .3), omega (arith, s .pre .0 .2, s .pre .0 .3, s .pre .0 .5), omega (arith, s .pre .0 .2))
+    let s = (c .before .before .before .before .before .before .before .before .before .before .before .before) in
+    (omega (arith, s .pre .0 .2, s .pre .0 .3), omega (arith, s .pre .0 .2, s .pre .0 .3, s .pre .0 .5), omega (arith, s .pre .0 .2))
 
 array-share-prefix-live : tie.Need-array-share-prefix-live
 array-share-prefix-live c =
@@ -124,7 +127,8 @@ slice-aggregate-pr-over-5 c =
 
 array-borrow-prefix-secondwords : tie.Need-array-borrow-prefix-secondwords
 array-borrow-prefix-secondwords c =
-    let a = (c .before .before .before .before .before .before .before .before .before .before .before .before .before) in omega (arith, few a)
+    let a = (c .before .before .before .before .before .before .before .before .before .before .before .before .before) in
+    omega (arith, few a)
 
 slice-aggregate-pr-over-6 : tie.Need-slice-aggregate-pr-over-6
 slice-aggregate-pr-over-6 c =
@@ -153,7 +157,8 @@ pr-over-requires c κs =
         ones-support B (s .pre .0 .0 .ready .good) (gathered a) (gathered-ready a .ready .inside) (m a) (gathered-length a) (few a),
         own,
         own,
-        subst (λ (ks : List ℕ). Unshown B (pr 64 (inWord (s .args .witness .positive)) (inWord (s .args .witness .negative)) (diagramsOf (nodesOf B) ks) (root s))) (sym (gathered-is a)) (s .pre .0 .6),
+        subst (λ (ks : List ℕ). Unshown B (pr 64 (inWord (s .args .witness .positive)) (inWord (s .args .witness .negative))
+            (diagramsOf (nodesOf B) ks) (root s))) (sym (gathered-is a)) (s .pre .0 .6),
         s .pre .1 .0,
         s .pre .1 .1,
       ),
@@ -161,31 +166,38 @@ pr-over-requires c κs =
 
 same-length : tie.Need-same-length
 same-length c =
-    (c .before .before .before .before .before .before .before .before .before .before .before .before .before .before .before .before .before .before .before .before .before) .pr-over .kept .0
+    (c .before .before .before .before .before .before .before .before .before .before .before .before .before .before .before .before
+    .before .before .before .before .before) .pr-over .kept .0
 
 same-length-2 : tie.Need-same-length-2
 same-length-2 c =
-    (c .before .before .before .before .before .before .before .before .before .before .before .before .before .before .before .before .before .before .before .before .before) .pr-over .kept .1 .0
+    (c .before .before .before .before .before .before .before .before .before .before .before .before .before .before .before .before
+    .before .before .before .before .before) .pr-over .kept .1 .0
 
 same-length-3 : tie.Need-same-length-3
 same-length-3 c =
-    (c .before .before .before .before .before .before .before .before .before .before .before .before .before .before .before .before .before .before .before .before .before) .pr-over .kept .1 .1 .0
+    (c .before .before .before .before .before .before .before .before .before .before .before .before .before .before .before .before
+    .before .before .before .before .before) .pr-over .kept .1 .1 .0
 
 same-length-4 : tie.Need-same-length-4
 same-length-4 c =
-    (c .before .before .before .before .before .before .before .before .before .before .before .before .before .before .before .before .before .before .before .before .before) .pr-over .kept .1 .1 .1 .0
+    (c .before .before .before .before .before .before .before .before .before .before .before .before .before .before .before .before
+    .before .before .before .before .before) .pr-over .kept .1 .1 .1 .0
 
 same-length-5 : tie.Need-same-length-5
 same-length-5 c =
-    (c .before .before .before .before .before .before .before .before .before .before .before .before .before .before .before .before .before .before .before .before .before) .pr-over .kept .1 .1 .1 .1 .0
+    (c .before .before .before .before .before .before .before .before .before .before .before .before .before .before .before .before
+    .before .before .before .before .before) .pr-over .kept .1 .1 .1 .1 .0
 
 same-length-6 : tie.Need-same-length-6
 same-length-6 c =
-    (c .before .before .before .before .before .before .before .before .before .before .before .before .before .before .before .before .before .before .before .before .before) .pr-over .kept .1 .1 .1 .1 .1 .0
+    (c .before .before .before .before .before .before .before .before .before .before .before .before .before .before .before .before
+    .before .before .before .before .before) .pr-over .kept .1 .1 .1 .1 .1 .0
 
 same-length-7 : tie.Need-same-length-7
 same-length-7 c =
-    (c .before .before .before .before .before .before .before .before .before .before .before .before .before .before .before .before .before .before .before .before .before) .pr-over .kept .1 .1 .1 .1 .1 .1 .0
+    (c .before .before .before .before .before .before .before .before .before .before .before .before .before .before .before .before
+    .before .before .before .before .before) .pr-over .kept .1 .1 .1 .1 .1 .1 .0
 
 same-length-8 : tie.Need-same-length-8
 same-length-8 c =
@@ -193,17 +205,23 @@ same-length-8 c =
 
 same-length-9 : tie.Need-same-length-9
 same-length-9 c =
-    (c .before .before .before .before .before .before .before .before .before .before .before .before .before .before .before .before .before .before .before .before .before) .pr-over .kept .1 .1 .1 .1 .1 .1 .1 .1 .1 .1 .1 .1 .1 .1 .1 .0
+    (c .before .before .before .before .before .before .before .before .before .before .before .before .before .before .before .before
+    .before .before .before .before .before) .pr-over .kept .1 .1 .1 .1 .1 .1 .1 .1 .1 .1 .1 .1 .1 .1 .1 .0
 
 returns : tie.Need-returns
 returns c =
-    let a = (c .before .before .before .before .before .before .before .before .before .before .before .before .before .before .before .before .before .before .before .before .before .before .before .before .before .before .before .before .before .before .before .before .before .before .before .before .before) in
+    let a = (c .before .before .before .before .before .before .before .before .before .before .before .before .before .before .before
+    .before .before .before .before .before .before .before .before .before .before .before .before .before .before .before .before
+    .before .before .before .before .before .before) in
     let s = begun a in
     let B = before s in
-    let r = (c .before .before .before .before .before .before .before .before .before .before .before .before .before .before .before .before .before .before .before .before .before) .pr-over in (
+    let r = (c .before .before .before .before .before .before .before .before .before .before .before .before .before .before .before
+    .before .before .before .before .before .before) .pr-over in (
       (
         r .ensures .0 .0,
-        subst (λ (ks : List ℕ). PrTold (nodesOf B) (s .args .witness .positive) (s .args .witness .negative) (byNot (root s) (diagramsOf (nodesOf B) ks)) (s .args .members .now) (s .args .struck .now) (s .args .many) (r .result .member) (r .result .rounds) (r .last .1 .1 .1 .1 .1 .1 .1 .1 .1 .1 .1 .1 .1 .1 .1 .0))
+        subst (λ (ks : List ℕ). PrTold (nodesOf B) (s .args .witness .positive) (s .args .witness .negative)
+            (byNot (root s) (diagramsOf (nodesOf B) ks)) (s .args .members .now) (s .args .struck .now) (s .args .many) (r .result .member)
+            (r .result .rounds) (r .last .1 .1 .1 .1 .1 .1 .1 .1 .1 .1 .1 .1 .1 .1 .1 .0))
             (gathered-is a) (r .ensures .0 .1),
       ),
       r .ensures .1,

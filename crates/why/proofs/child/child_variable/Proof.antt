@@ -15,7 +15,8 @@ shared-slice-read-result : tie.Need-shared-slice-read-result
 shared-slice-read-result c = let r = c .before .before .before .before .before .before .before .pre in omega (arith, r .2, r .0 .within)
 
 returns : tie.Need-returns
-returns c = let r = c .before .before .before .before .before .before .before .pre in high-child _ _ _ _ (r .0) _ _ _ (r .1) (r .2) _ (c .before .before .before .stands-above .ensures) (c .before .before .if1 .taken)
+returns c = let r = c .before .before .before .before .before .before .before .pre in
+    high-child _ _ _ _ (r .0) _ _ _ (r .1) (r .2) _ (c .before .before .before .stands-above .ensures) (c .before .before .if1 .taken)
 
 cast-j : tie.Need-cast-j
 cast-j c = search needs
@@ -24,7 +25,8 @@ shared-slice-read-result-2 : tie.Need-shared-slice-read-result-2
 shared-slice-read-result-2 c = let r = c .before .before .before .before .before .before .before .pre in omega (arith, r .1, r .0 .within)
 
 returns-2 : tie.Need-returns-2
-returns-2 c = let r = c .before .before .before .before .before .before .before .pre in low-child _ _ _ _ (r .0) _ _ _ (r .1) (r .2) _ (c .before .before .before .stands-above .ensures) (c .before .before .if1 .left)
+returns-2 c = let r = c .before .before .before .before .before .before .before .pre in
+    low-child _ _ _ _ (r .0) _ _ _ (r .1) (r .2) _ (c .before .before .before .stands-above .ensures) (c .before .before .if1 .left)
 
 pub child-variable-spec : {M : Type 1} → statement M
 child-variable-spec =

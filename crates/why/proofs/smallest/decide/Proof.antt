@@ -4,11 +4,6 @@ use Rattle.why.proofs.Deciding.{decided-positive, decided-negative, dec
 use borrow.Author.Needs.{needs}
 use Rattle.why.proofs.smallest.decide.Statement.{statement}
 use Rattle.why.proofs.smallest.decide.Tie as tie
-use Rattle.why.proofs.smallest.decide.Reads as reads
-use Rattle.why.proofs.smallest.decide.Lts as lts
-use Rattle.walks.proofs.is_one.Reads as is-one-reads
-use Rattle.words.proofs.in_word.Reads as in-word-reads
-use Rattle.words.proofs.with_variable.Reads as with-variable-reads
 
 -- src/smallest.rt:33:8
 in-word-requires : tie.Need-in-word-requires
@@ -24,7 +19,8 @@ in-word-requires-2 c κs = search needs
 
 -- src/smallest.rt:37:9
 returns-2 : tie.Need-returns-2
-returns-2 c = decided-negative _ _ _ _ (sym (c .before .before .before .in-word .ensures) ∙ c .before .before .if1 .left) (sym (c .before .in-word2 .ensures) ∙ c .if2 .taken)
+returns-2 c = decided-negative _ _ _ _ (sym (c .before .before .before .in-word .ensures) ∙ c .before .before .if1 .left)
+    (sym (c .before .in-word2 .ensures) ∙ c .if2 .taken)
 
 -- src/smallest.rt:39:9
 with-variable-requires : tie.Need-with-variable-requires
@@ -44,7 +40,12 @@ same-length c = search needs
 
 -- src/smallest.rt:45:9
 returns-3 : tie.Need-returns-3
-returns-3 c = decided-high _ _ _ _ (sym (c .before .before .before .before .before .before .before .before .before .before .in-word .ensures) ∙ c .before .before .before .before .before .before .before .before .before .if1 .left) (sym (c .before .before .before .before .before .before .before .before .in-word2 .ensures) ∙ c .before .before .before .before .before .before .before .if2 .left) _ _ (c .before .before .before .before .before .before .with-variable .ensures) (sym (c .before .before .before .before .is-one .ensures) ∙ c .before .if3 .taken) (c .with-variable2 .ensures)
+returns-3 c = decided-high _ _ _ _ (sym (c .before .before .before .before .before .before .before .before .before .before .in-word
+    .ensures) ∙ c .before .before .before .before .before .before .before .before .before .if1 .left)
+    (sym (c .before .before .before .before .before .before .before .before .in-word2 .ensures)
+    ∙ c .before .before .before .before .before .before .before .if2 .left) _ _
+    (c .before .before .before .before .before .before .with-variable .ensures)
+    (sym (c .before .before .before .before .is-one .ensures) ∙ c .before .if3 .taken) (c .with-variable2 .ensures)
 
 -- src/smallest.rt:14:1
 same-length-2 : tie.Need-same-length-2
@@ -52,7 +53,11 @@ same-length-2 c = search needs
 
 -- src/smallest.rt:14:1
 returns-4 : tie.Need-returns-4
-returns-4 c = decided-low _ _ _ _ (sym (c .before .before .before .before .before .before .before .before .before .in-word .ensures) ∙ c .before .before .before .before .before .before .before .before .if1 .left) (sym (c .before .before .before .before .before .before .before .in-word2 .ensures) ∙ c .before .before .before .before .before .before .if2 .left) _ (c .before .before .before .before .before .with-variable .ensures) (sym (c .before .before .before .is-one .ensures) ∙ c .if3 .left)
+returns-4 c = decided-low _ _ _ _ (sym (c .before .before .before .before .before .before .before .before .before .in-word .ensures)
+    ∙ c .before .before .before .before .before .before .before .before .if1 .left)
+    (sym (c .before .before .before .before .before .before .before .in-word2 .ensures)
+    ∙ c .before .before .before .before .before .before .if2 .left) _ (c .before .before .before .before .before .with-variable .ensures)
+    (sym (c .before .before .before .is-one .ensures) ∙ c .if3 .left)
 
 pub decide-spec : {M : Type 1} → statement M
 decide-spec =

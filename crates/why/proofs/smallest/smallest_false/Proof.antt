@@ -8,13 +8,11 @@ use Rattle.walks.specs.Readable.{nodesIn}
 use Rattle.why.proofs.Deciding.{Narrowed, narrowed-first, narrowed-on, narrowed-last}
 use Rattle.why.proofs.smallest.smallest_false.Statement.{statement}
 use Rattle.why.proofs.smallest.smallest_false.Tie as tie
-use Rattle.why.proofs.smallest.smallest_false.Reads as reads
-use Rattle.why.proofs.smallest.smallest_false.Lts as lts
-use Rattle.why.proofs.smallest.decide.Reads as decide-reads
 
 abbrev Inv-loop : tie.InvT-loop
 Inv-loop vars lows highs memo₀ count variables g positive₀ negative₀ v₀ memo positive negative v =
-    (length memo ≡ length memo₀) × Narrowed variables (diagramAt (nodesIn vars lows highs count) (g .0)) (record { positive = positive₀; negative = negative₀ }) (record { positive = positive; negative = negative }) v
+    (length memo ≡ length memo₀) × Narrowed variables (diagramAt (nodesIn vars lows highs count) (g .0))
+    (record { positive = positive₀; negative = negative₀ }) (record { positive = positive; negative = negative }) v
 
 abbrev μ-loop : tie.MeasureT-loop
 μ-loop vars lows highs memo₀ count variables g positive₀ negative₀ v₀ memo positive negative v = suc variables - v
@@ -25,11 +23,23 @@ loop-holds c = (refl, narrowed-first _ _ _ (c .before .before .before .before .p
 
 -- src/smallest.rt:82:13
 decide-requires : tie.Need-decide-requires Inv-loop μ-loop
-decide-requires c κs = (c .before .before .before .before .before .before .before .pre .0, c .before .before .before .before .before .before .before .pre .1, omega (arith, c .before .before .before .before .before .before .before .pre .2, c .before .before .loop .inv .0), c .before .before .loop .inv .1 .least, omega (arith, c .before .loop-test .taken, c .before .before .before .before .before .before .before .pre .3))
+decide-requires c κs = (
+  c .before .before .before .before .before .before .before .pre .0,
+  c .before .before .before .before .before .before .before .pre .1,
+  omega
+      (arith, c .before .before .before .before .before .before .before .pre .2, c .before .before .loop .inv .0),
+  c .before .before .loop .inv .1 .least,
+  omega
+      (arith, c .before .loop-test .taken, c .before .before .before .before .before .before .before .pre .3),
+)
 
 -- src/smallest.rt:94:9
 add-v : tie.Need-add-v Inv-loop μ-loop
-add-v c = omega (arith, c .before .before .before .before .loop-test .taken, c .before .before .before .before .before .before .before .before .before .before .pre .3)
+add-v c = omega (
+  arith,
+  c .before .before .before .before .loop-test .taken,
+  c .before .before .before .before .before .before .before .before .before .before .pre .3,
+)
 
 -- src/smallest.rt:81:5
 loop-less : tie.Need-loop-less Inv-loop μ-loop
@@ -37,7 +47,13 @@ loop-less c = omega (arith, c .before .before .before .before .loop-test .taken)
 
 -- src/smallest.rt:81:5
 loop-again : tie.Need-loop-again Inv-loop μ-loop
-loop-again c = (c .before .before .decide .kept .1 .1 .1 .0 ∙ c .before .before .before .before .before .loop .inv .0, narrowed-on _ (c .before .before .before .before .before .before .before .before .before .before .pre .3) _ _ (c .before .before .before .before .before .before .before .before .before .before .pre .4 .reduced) _ _ _ (c .before .before .before .before .before .loop .inv .1) (c .before .before .before .before .loop-test .taken) _ (c .before .before .decide .ensures))
+loop-again c = (
+  c .before .before .decide .kept .1 .1 .1 .0 ∙ c .before .before .before .before .before .loop .inv .0,
+  narrowed-on _ (c .before .before .before .before .before .before .before .before .before .before .pre .3) _ _
+      (c .before .before .before .before .before .before .before .before .before .before .pre .4 .reduced) _ _ _
+      (c .before .before .before .before .before .loop .inv .1) (c .before .before .before .before .loop-test .taken) _
+      (c .before .before .decide .ensures),
+)
 
 -- src/smallest.rt:57:1
 same-length : tie.Need-same-length Inv-loop μ-loop
