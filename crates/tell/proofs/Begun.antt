@@ -1,7 +1,7 @@
 -- What the check leaves, as the line in which it was refused began: the lists lent hold that state, and the line's records done again
 -- over them give the state before the refused record, but for marks, counts and peak. Assumes nothing.
 use mathlib.Core.Path.{_≡_, refl, sym, ap, ap₂, _∙_, subst}
-use mathlib.Core.Bool.{false}
+use mathlib.Core.Bool.{Bool, false}
 use mathlib.Core.List.{List, [], _∷_, _++_}
 use Prim.Native.Nat.{ℕ, zero, suc, _+_, _-_, _≤_, _<_}
 use native.Mathlib.Omega.{arith}
@@ -20,7 +20,8 @@ use Rattle.records.specs.declared.Record.{Record}
 use Rattle.records.specs.declared.Record.the-variants.{NodeEntry, Witness, ProofLine, Strike, SetEntry, End, CutShort, UnknownKind}
 use Rattle.records.specs.declared.Record.the-variants.{NoRecord}
 use Rattle.records.specs.Records.{recordAt, lengthOf}
-use Rattle.commands.specs.Commands.{inRecords}
+use Rattle.commands.specs.declared.Form.the-variants.{Records}
+use Rattle.commands.specs.Commands.{inForm}
 use Rattle.verdict.specs.Steps as check
 use Rattle.verdict.specs.Check.{zeros}
 use Rattle.verdict.specs.Taken.{Function, Meant, Valued}
@@ -183,25 +184,25 @@ pub record SameLine (st x : check.State) : Type 0 where
   pub positive : x .positive ≡ st .positive
   pub negative : x .negative ≡ st .negative
 
-module _ (s m c : ℕ) (two : 2 ≤ s) (most : s ≤ 65536) (wide : 2048 ≤ m) (long : 4096 ≤ c) (text proof : List ℕ) {n : ℕ} {st : check.State}
-    {at : ℕ} {meant : Meant}
-    (R : Reached inRecords s text proof n st at meant) (l : Lent) (L : LeftOf s m c st l) where
+module _ (s m c : ℕ) (two : 2 ≤ s) (most : s ≤ 65536) (wide : 2048 ≤ m) (long : 4096 ≤ c) (profile : Bool)
+    (text proof : List ℕ) {n : ℕ} {st : check.State} {at : ℕ} {meant : Meant}
+    (R : Reached (inForm Records profile) s text proof n st at meant) (l : Lent) (L : LeftOf s m c st l) where
   abbrev from : ℕ
-  from = so-far s text proof R .from
+  from = so-far profile s text proof R .from
 
   pub start-is : lineStart at proof 0 0 at ≡ from
-  start-is = so-far s text proof R .starts at (omega arith)
+  start-is = so-far profile s text proof R .starts at (omega arith)
 
   pub start-walks : Walk proof 0 at
-  start-walks = so-far s text proof R .walked
+  start-walks = so-far profile s text proof R .walked
 
   abbrev begunOne : State
   begunOne = lineState (st .kept) (length (st .members)) (st .lines)
 
   retaken : (o : Rest) × Retaken n s proof (stateOf l begunOne) from (onLine o st) at
   retaken =
-      let (narrow, S) = reached-standing inRecords s text proof R in
-      let (o, W) = so-far s text proof R .redone (lineRest l (st .kept) (length (st .members)) (st .lines)) in (
+      let (narrow, S) = reached-standing (inForm Records profile) s text proof R in
+      let (o, W) = so-far profile s text proof R .redone (lineRest l (st .kept) (length (st .members)) (st .lines)) in (
         o,
         subst (λ (x : check.State). Retaken n s proof x from (onLine o st) at)
             (sym (begun-is s m c two most wide long n narrow st meant S l L)) W,
@@ -212,7 +213,7 @@ module _ (s m c : ℕ) (two : 2 ≤ s) (most : s ≤ 65536) (wide : 2048 ≤ m) 
 
   marks-same : onLine (retaken .0) st .struck ≡ st .struck
   marks-same =
-      let (narrow, W) = reached-standing inRecords s text proof R in
+      let (narrow, W) = reached-standing (inForm Records profile) s text proof R in
       retaken-marks n s proof (stateOf l begunOne) from (onLine (retaken .0) st) at (retaken .1)
       ∙ struck-are s m c two most wide long n narrow st meant W l L
 

@@ -143,20 +143,21 @@ module _ (n s : ℕ) (st st′ : State) where
   record-grows UnknownKind T = absurd T
   record-grows NoRecord T = absurd T
 
-  tries-grow : (ls : List meaning.Literal) (T : ClauseTaken n s st ls st′) → Grows st st′
-  tries-grow ls T = go ls (T .tried)
+  tries-grow : (profile : Bool) (ls : List meaning.Literal) (T : ClauseTaken profile n s st ls st′) → Grows st st′
+  tries-grow profile ls T = go profile ls (T .tried)
     where
-      go : (ks : List meaning.Literal) → TriesTaken n s (withEntry st (T .nodes) (T .node)) (T .node) ks st′ → Grows st st′
-      go ks (inl W) = line-grows _ _ (W .is) refl refl
-      go [] (inr W) = absurd W
-      go (p ∷ ks) (inr W) = line-grows _ _ (W .passes .is) refl refl
+      go : (b : Bool) (ks : List meaning.Literal) → TriesTaken b n s (withEntry st (T .nodes) (T .node)) (T .node) ks st′ → Grows st st′
+      go b ks (inl W) = line-grows _ _ (W .is) refl refl
+      go true ks (inr W) = absurd W
+      go false [] (inr W) = absurd W
+      go false (p ∷ ks) (inr W) = line-grows _ _ (W .passes .is) refl refl
 
-  command-grows : (x : Command) → CommandTaken n s st x st′ → Grows st st′
-  command-grows (recorded r more) T = record-grows r T
-  command-grows (added ls) T = tries-grow ls T
-  command-grows (struckOut ls) T = same-grows _ (T .is) refl refl
-  command-grows (wrong k o) T = absurd T
-  command-grows finished T = absurd T
+  command-grows : (profile : Bool) (x : Command) → CommandTaken profile n s st x st′ → Grows st st′
+  command-grows profile (recorded r more) T = record-grows r (T .1)
+  command-grows profile (added ls) T = tries-grow profile ls T
+  command-grows profile (struckOut ls) T = same-grows _ (T .is) refl refl
+  command-grows profile (wrong k o) T = absurd T
+  command-grows profile finished T = absurd T
 
 module _ (mode : Mode) (s : ℕ) (text proof : List ℕ) where
   -- THEOREM: a reached state has the header's clauses and its lines as members.
@@ -171,5 +172,5 @@ module _ (mode : Mode) (s : ℕ) (text proof : List ℕ) where
         clauses = C .clauses;
         header-end = C .header-end;
         proper = C .proper;
-        counted = omega (arith, C .counted, command-grows n s st st′ (commandIn mode proof n at) T);
+        counted = omega (arith, C .counted, command-grows n s st st′ (mode .consequence) (commandIn mode proof n at) T);
       }

@@ -12,7 +12,7 @@ use Rattle.table.specs.Making.{lineReach}
 use Rattle.table.specs.Lists.{Inside}
 use Rattle.walks.specs.Readable.{Roomy}
 use Rattle.records.specs.declared.Rule.{Rule}
-use Rattle.records.specs.declared.Rule.the-variants.{Rup, Pr}
+use Rattle.records.specs.declared.Rule.the-variants.{Rup, Pr, Path}
 use Rattle.verdict.specs.Steps as check
 use Rattle.verdict.specs.Steps.{Step, next, stop, spent, accepted, entryNode, unstruck, judged, lineStep}
 use Rattle.verdict.specs.Taken.{lineOf}
@@ -24,6 +24,7 @@ use Rattle.entries.proofs.Entries.{entry-in}
 use Rattle.entries.proofs.Stops.{unless, unless-refused}
 use Rattle.steps.specs.Tests.{lineRefusal}
 use Rattle.steps.proofs.Stops.{line-is, LineFits, line-fits}
+use Rattle.steps.proofs.PathWidths.{path-at}
 use Rattle.steps.proofs.Strikings.{unstruck-inside}
 use Rattle.tell.specs.Failed.{Unshown}
 
@@ -83,6 +84,7 @@ module _ (n : ℕ) (L : Lent) (x : State) (H : Held n L x) where
         go Pr =
             pr-at n (H .entries .narrow) T (H .entries .good) (H .entries .uses) live live-inside g root-inside (fits .not-one)
             (inWord (x .witness .positive)) (inWord (x .witness .negative))
+        go Path = path-at n (H .entries .narrow) T (H .entries .good) (H .entries .uses) live live-inside g
 
     -- THEOREM: the line over 64 variables finds room and is not shown.
     pub refused-unshown : Unshown T (lineOf 64 S rule g)

@@ -21,7 +21,8 @@ use Rattle.records.specs.declared.Record.the-variants.{NodeEntry, Witness, Proo
 use Rattle.records.specs.declared.Record.the-variants.{NoRecord}
 use Rattle.records.specs.Records.{recordAt, lengthOf, numberOf}
 use Rattle.records.proofs.Laws.{record-takes}
-use Rattle.commands.specs.Commands.{inRecords}
+use Rattle.commands.specs.declared.Form.the-variants.{Records}
+use Rattle.commands.specs.Commands.{inForm}
 use Rattle.verdict.specs.Steps.{State, withEntry, withWitness, Step, isEntry, entryNode}
 use Rattle.verdict.specs.Steps.{assigned, begun, recordStep}
 use Rattle.verdict.specs.Taken.{Meant, Taken, NodeTaken, WitnessTaken, StrikeTaken, SetTaken}
@@ -369,17 +370,17 @@ so-far-on n s proof st st′ at L T form grown inside = go (isLine (recordAt pro
             )
 
 -- THEOREM: in every state reached the line's records done again from where the line starts give the state.
-pub so-far : (s : ℕ) (text proof : List ℕ) {n : ℕ} {st : State} {at : ℕ} {m : Meant} → Reached inRecords s text proof n st at m →
-    LineSoFar n s proof st at
-so-far s text proof {n} (begins {many} {t} {ms} M) =
+pub so-far : (profile : Bool) (s : ℕ) (text proof : List ℕ) {n : ℕ} {st : State} {at : ℕ} {m : Meant}
+    → Reached (inForm Records profile) s text proof n st at m → LineSoFar n s proof st at
+so-far profile s text proof {n} (begins {many} {t} {ms} M) =
     record {
       walked = here;
       from = 0;
       starts = λ k enough. start-end proof k 0 0 0 (omega arith);
       redone = λ o. (o, subst (λ (x : State). Retaken n s proof x 0 (onLine o (begun t ms)) 0) (sym (begun-fresh o t ms)) done);
     }
-so-far s text proof {n} (goes {st} {st′} {at} R T) =
-    let (narrow, S) = reached-standing inRecords s text proof R in
-    so-far-on n s proof st st′ at (so-far s text proof R) T
-    (next-form n s st false (recordAt proof at) st′ (taken-record n s st false (recordAt proof at) st′ T))
-    (record-extends S narrow (recordAt proof at) st′ T) (S .kept)
+so-far profile s text proof {n} (goes {st} {st′} {at} R T) =
+    let (narrow, S) = reached-standing (inForm Records profile) s text proof R in
+    so-far-on n s proof st st′ at (so-far profile s text proof R) (T .1)
+    (next-form n s st false (recordAt proof at) st′ (taken-record n s st false (recordAt proof at) st′ (T .1)))
+    (record-extends S narrow (recordAt proof at) st′ (T .1)) (S .kept)
