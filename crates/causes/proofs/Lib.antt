@@ -1,0 +1,10 @@
+pub mod Fixes
+pub mod Smallest
+pub mod Turns
+pub mod PathFails
+pub mod Ending
+pub mod Pieces
+pub mod Causes
+pub mod Numbers
+pub mod Why
+pub mod Rows

@@ -1,0 +1,4 @@
+pub mod Told
+pub mod Refused
+pub mod Witnesses
+pub mod LastTry

@@ -1,0 +1,2 @@
+pub mod Redoing
+pub mod Remaking

@@ -1,0 +1,10 @@
+pub mod Counted
+pub mod Begun
+pub mod Rupping
+pub mod Turns
+pub mod Traced
+pub mod PrTold
+pub mod Named
+pub mod Refused
+pub mod Widths
+pub mod Lines

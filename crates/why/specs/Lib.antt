@@ -1,0 +1,3 @@
+pub mod Again
+pub mod Greedy
+pub mod Lines
