@@ -13,10 +13,6 @@ use Rattle.pieces.specs.declared.Part.{Part}
 abbrev pub pieceEnd : Form → List ℕ → List ℕ → ℕ → Bool → ℕ → ℕ
 pieceEnd form formula proof number inProof at = cond inProof (causes.proofEnd form number proof at) (causes.formulaEnd number formula at)
 
--- The code's part, as the definition's.
-abbrev pub shownPart : Part → causes.Part
-shownPart p = record { inProof = p .«in_proof»; start = p .start; end = p .end }
-
 -- A part of its text; anything else is empty.
 abbrev pub isPart : Part → List ℕ → Bool
 isPart p text = leb (p .start) (p .end) && leb (p .end) (length text)

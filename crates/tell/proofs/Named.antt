@@ -1,9 +1,9 @@
 -- What `pr_cause` tells is the definition's cause: the first live member that is not shown, in a state as the code holds it. Assumes
 -- nothing.
-use mathlib.Core.Path.{_≡_, refl, sym, ap, ap₂, _∙_, subst}
+use mathlib.Core.Path.{_≡_, refl, ap, ap₂, _∙_, subst}
 use mathlib.Core.Bool.{Bool, true, false, _&&_}
 use mathlib.Core.List.{List, [], _∷_}
-use mathlib.Core.Option.{none, some}
+use mathlib.Core.Option.{some}
 use Prim.Native.Nat.{ℕ, zero, suc, _+_, _≤_, _<_}
 use native.Mathlib.Omega.{arith}
 use native.Mathlib.Decide.{decLt}
@@ -13,13 +13,11 @@ use lib.Dec.{eqb}
 use borrow.Author.Tests.{lt-ltb}
 use Rattle.meaning.specs.Diagram.{Diagram}
 use Rattle.meaning.specs.Rules.{prTurns}
-use Rattle.meaning.specs.Words.{inWord}
 use Rattle.verdict.specs.Steps as check
-use Rattle.verdict.specs.Steps.{diagramIn, isLive, liveMembers}
+use Rattle.verdict.specs.Steps.{diagramIn, isLive}
 use Rattle.state.specs.declared.State.{State}
 use Rattle.state.specs.States.{Lent, stateOf}
-use Rattle.causes.specs.Causes.{Cause, fixed, fixes, rupCause, turnMembers, unshown, prCause}
-use Rattle.tell.specs.Failed.{byNot, turnLine, PrTold}
+use Rattle.causes.specs.Causes.{Cause, fixed, fixes, turnMembers, unshown}
 
 -- ---- the first that is named
 
@@ -82,25 +80,3 @@ module _ (l : Lent) (x : State) (m-room : x .members ≤ length (l .members)) (s
   live-is j h =
       ap₂ _&&_ (lt-ltb j (length (st .members)) (omega (arith, h, many-are)))
       (ap (λ (k : ℕ). eqb k 0) (getD-take (x .members) (l .struck) j 0 h))
-
-  -- THEOREM: over 64 variables the cause is the member and the rounds that `pr_cause` tells.
-  pub pr-named : (p n g i rounds : ℕ) (words : List ℕ)
-      → PrTold (st .nodes) p n (byNot (diagramIn st g) (liveMembers st)) (l .members) (l .struck) (x .members) i rounds words
-      → prCause 64 (inWord p) (inWord n) st (diagramIn st g)
-      ≡ fixed (fixes 64 (turnMembers 64 (inWord p) (inWord n) (byNot (diagramIn st g) (liveMembers st))
-      (diagramIn st (getD (l .members) i 0)))) (some i)
-  unfolding prCause
-  pr-named p n g i rounds words T =
-      let ms = byNot (diagramIn st g) (liveMembers st) in
-      let turn-of : (j : ℕ) → j < x .members → prTurns 64 (inWord p) (inWord n) ms (diagramIn st (getD (st .members) j 0) ∷ []) .shown
-      ≡ turnLine p n ms (diagramIn st (getD (l .members) j 0)) .shown =
-      λ j h. ap (λ (k : ℕ). turnLine p n ms (diagramIn st k) .shown) (member-is j h) in
-      first-named 64 st (inWord p) (inWord n) ms i (live-is i (T .inside) ∙ T .live) (turn-of i (T .inside) ∙ T .hidden)
-      (λ j h e. turn-of j (omega (arith, h, T .inside)) ∙ T .lowest j h (sym (live-is j (omega (arith, h, T .inside))) ∙ e))
-      (length (st .members)) 0 (omega arith) (omega (arith, many-are, T .inside))
-      ∙ ap (λ (k : ℕ). fixed (fixes 64 (turnMembers 64 (inWord p) (inWord n) ms (diagramIn st k))) (some i)) (member-is i (T .inside))
-
-  -- The cause of a RUP line over 64 variables.
-  pub rup-named : (g : ℕ) → rupCause 64 (liveMembers st) (diagramIn st g) ≡ fixed (fixes 64 (byNot (diagramIn st g) (liveMembers st))) none
-  unfolding rupCause
-  rup-named g = refl

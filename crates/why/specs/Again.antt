@@ -4,31 +4,14 @@ use mathlib.Core.Path.{_≡_}
 use mathlib.Core.Bool.{Bool, true, false, cond}
 use mathlib.Core.List.{List, []}
 use Prim.Native.Nat.{ℕ, zero, suc, _+_}
-use lib.ListN.{length, take}
+use lib.ListN.{take}
 use lib.Dec.{ltb}
 use Rattle.records.specs.declared.Record.{Record}
 use Rattle.records.specs.declared.Record.the-variants.{NodeEntry, Witness, ProofLine, Strike, SetEntry, End}
 use Rattle.records.specs.declared.Record.the-variants.{CutShort, UnknownKind, NoRecord}
 use Rattle.records.specs.Records.{recordAt, lengthOf, numberOf}
 use Rattle.verdict.specs.Steps.{State, Step, next, stop, spent, nodeStep, witnessStep, setStep}
-use Rattle.verdict.specs.Check.{Verdict}
 use Rattle.verdict.specs.Taken.{NodeTaken, WitnessTaken, SetTaken}
-
--- The state that a check leaves, as the line in which it was refused began: no entries, no witness.
-abbrev pub lineBegun : Verdict → State
-lineBegun v = record {
-  nodes = v .nodes;
-  kept = length (v .nodes);
-  members = v .members;
-  struck = v .struck;
-  entries = [];
-  positive = 0;
-  negative = 0;
-  lines = v .lines;
-  rounds = v .rounds;
-  peak = v .peak;
-  refuted = false;
-}
 
 -- Records of right form one after another, from a place to another.
 pub data Walk (proof : List ℕ) : ℕ → ℕ → Type 0 where
