@@ -17,7 +17,7 @@ use Rattle.records.specs.declared.Rule.the-variants.{Rup, Pr, Path}
 use Rattle.records.specs.declared.Record.{Record}
 use Rattle.records.specs.declared.Record.the-variants.{NodeEntry, Witness, ProofLine, Strike, SetEntry, End}
 use Rattle.records.specs.declared.Record.the-variants.{CutShort, UnknownKind, NoRecord}
-use Rattle.clausal.specs.Drat.{has, without}
+use Rattle.clausal.specs.Literals.{has, without}
 use Rattle.clausal.specs.Tries.{makesTrue, makesFalse, witness}
 use Rattle.paths.specs.Paths.{paths, byPath}
 use Rattle.commands.specs.Commands.{Command, recorded, added, struckOut, wrong, finished}

@@ -15,7 +15,8 @@ use Rattle.meaning.proofs.Booleans.{t≢f, not-not, or-cases}
 use Rattle.meaning.proofs.Pointwise.{negation-value}
 use Rattle.meaning.proofs.Units.{same-eq}
 use Rattle.meaning.specs.Literals.{OfVariables}
-use Rattle.clausal.specs.Drat.{Clause, negated, alike, has, In, Plain, allFalse, Refutes, falsified, propagated, negation}
+use Rattle.clausal.specs.Drat.{In, Plain, allFalse, Refutes, falsified, propagated, negation}
+use Rattle.clausal.specs.Literals.{Clause, negated, alike, has}
 use Rattle.clausal.proofs.Literals.{alike-eq, eq-alike, negated-twice, has-here, has-there, has-within, each-allFalse}
 use Rattle.clausal.proofs.Literals.{each-allFalseBut, not-allFalse, AllOfVariables, in-within}
 use Rattle.clausal.proofs.Under.{under, making, making-length, making-true, making-other, under-some, under-false}

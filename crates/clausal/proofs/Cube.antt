@@ -15,7 +15,8 @@ use Rattle.meaning.proofs.Pointwise.{forced-length, clause-value, negation-valu
 use Rattle.meaning.proofs.Nearest.{Nearest, nearest-unique, nearest-is}
 use Rattle.meaning.proofs.Cofactor.{cofactor-value, cofactor-reduced}
 use Rattle.meaning.specs.Literals.{OfVariables}
-use Rattle.clausal.specs.Drat.{Clause, literal, has, Plain, negation}
+use Rattle.clausal.specs.Drat.{Plain, negation}
+use Rattle.clausal.specs.Literals.{Clause, literal, has}
 use Rattle.clausal.specs.Tries.{makesTrue, makesFalse}
 use Rattle.clausal.proofs.Literals.{negations, has-negation, negation-has, negations-plain, has-within}
 use Rattle.clausal.proofs.Under.{forcedBy, forced-holds, false-there, clause-some, clause-none}

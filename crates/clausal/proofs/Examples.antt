@@ -8,8 +8,9 @@ use native.Mathlib.Decide.{ℕ-discrete}
 use Rattle.meaning.specs.Diagram.{Diagram, diagramFrom, valueFrom, same?}
 use Rattle.meaning.specs.Operations.{Literal, clause}
 use Rattle.meaning.specs.Rules.{rup}
-use Rattle.clausal.specs.Drat.{Clause, literal, has, allFalse, allFalseBut, falsified, propagated, Rup}
-use Rattle.clausal.specs.Tries.{shownBy}
+use Rattle.clausal.specs.Drat.{allFalse, allFalseBut, falsified, propagated, Rup}
+use Rattle.clausal.specs.Literals.{Clause, literal, has}
+use Rattle.clausal.specs.Shown.{shownBy}
 
 -- 1, -1 and so on, as DIMACS writes them
 abbrev p1 : Literal

@@ -9,7 +9,8 @@ use Rattle.meaning.specs.Operations.{clause}
 use Rattle.meaning.specs.Operations as meaning
 use Rattle.meaning.specs.Rules.{unitProp, byDiagram, rup}
 use Rattle.meaning.specs.Literals.{OfVariables}
-use Rattle.clausal.specs.Drat.{Clause, negated, Plain, negation, Rup}
+use Rattle.clausal.specs.Drat.{Plain, negation, Rup}
+use Rattle.clausal.specs.Literals.{Clause, negated}
 use Rattle.clausal.proofs.Literals.{negations, has-negation, negations-plain, AllOfVariables}
 use Rattle.clausal.proofs.Under.{under}
 use Rattle.clausal.proofs.Propagation.{unitProp-refutes, unitProp-closes}

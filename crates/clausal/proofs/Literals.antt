@@ -9,7 +9,8 @@ use lib.Dec.{eqb}
 use Rattle.meaning.specs.Operations.{Literal}
 use Rattle.meaning.proofs.Booleans.{t≢f, not-not, and-both, or-cases, or-left, or-right, eqb-eq, eq-eqb, beq-eq, eq-beq}
 use Rattle.meaning.specs.Literals.{OfVariables}
-use Rattle.clausal.specs.Drat.{Clause, literal, negated, alike, has, without, In, Plain, AllPlain, allFalse, allFalseBut}
+use Rattle.clausal.specs.Drat.{In, Plain, AllPlain, allFalse, allFalseBut}
+use Rattle.clausal.specs.Literals.{Clause, literal, negated, alike, has, without}
 
 pub alike-eq : (k l : Literal) → alike k l ≡ true → k ≡ l
 unfolding alike

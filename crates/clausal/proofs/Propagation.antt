@@ -16,7 +16,8 @@ use Rattle.meaning.proofs.Booleans.{t≢f, or-neither}
 use Rattle.meaning.proofs.Units.{eq-same}
 use Rattle.meaning.proofs.Ends.{inUse, fewer, more-rounds}
 use Rattle.meaning.specs.Literals.{OfVariables}
-use Rattle.clausal.specs.Drat.{Clause, literal, negated, has, In, Plain, allFalse, allFalseBut, Refutes, falsified, propagated}
+use Rattle.clausal.specs.Drat.{In, Plain, allFalse, allFalseBut, Refutes, falsified, propagated}
+use Rattle.clausal.specs.Literals.{Clause, literal, negated, has}
 use Rattle.clausal.specs.Drat.{negation}
 use Rattle.clausal.proofs.Literals.{has-cases, has-there, Among, has-within, allFalse-each, each-allFalse, allFalseBut-each}
 use Rattle.clausal.proofs.Literals.{each-allFalseBut, AllOfVariables, in-within}

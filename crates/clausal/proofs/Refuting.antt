@@ -7,7 +7,8 @@ use mathlib.Core.List.{List, [], _∷_, _++_}
 use Prim.Native.Nat.{_+_}
 use Rattle.meaning.specs.Operations.{Literal}
 use Rattle.meaning.proofs.Booleans.{t≢f}
-use Rattle.clausal.specs.Drat.{Clause, negated, has, In, Plain, Refutes, falsified, propagated, negation, Rup}
+use Rattle.clausal.specs.Drat.{In, Plain, Refutes, falsified, propagated, negation, Rup}
+use Rattle.clausal.specs.Literals.{Clause, negated, has}
 use Rattle.clausal.proofs.Literals.{negated-twice, has-here, has-cases, has-there, Among, negations, allFalse-each, each-allFalse}
 use Rattle.clausal.proofs.Literals.{allFalseBut-each, each-allFalseBut}
 use Rattle.clausal.proofs.Propagation.{Closed, closed-stays}

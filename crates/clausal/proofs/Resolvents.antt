@@ -7,7 +7,8 @@ use mathlib.Core.List.{List, [], _∷_, _++_}
 use Prim.Native.Nat.{_+_}
 use Rattle.meaning.specs.Operations.{Literal}
 use Rattle.meaning.proofs.Booleans.{t≢f}
-use Rattle.clausal.specs.Drat.{Clause, negated, alike, has, without, In, allFalse, Refutes, falsified, propagated, negation, Rup}
+use Rattle.clausal.specs.Drat.{In, allFalse, Refutes, falsified, propagated, negation, Rup}
+use Rattle.clausal.specs.Literals.{Clause, negated, alike, has, without}
 use Rattle.clausal.proofs.Literals.{alike-eq, eq-alike, negated-twice, has-here, has-cases, has-there, has-append, has-left}
 use Rattle.clausal.proofs.Literals.{has-right, Among, negations, has-negation, allFalse-each, each-allFalse, allFalseBut-each}
 use Rattle.clausal.proofs.Literals.{each-allFalseBut, has-without, without-has}

@@ -15,7 +15,8 @@ use Rattle.meaning.proofs.Pointwise.{forced-length, clause-value, clause-reduce
 use Rattle.meaning.proofs.PointwiseSteps.{literals-none}
 use Rattle.meaning.proofs.Units.{same-eq, eq-same}
 use Rattle.meaning.specs.Literals.{OfVariables}
-use Rattle.clausal.specs.Drat.{Clause, negated, has, Plain}
+use Rattle.clausal.specs.Drat.{Plain}
+use Rattle.clausal.specs.Literals.{Clause, negated, has}
 use Rattle.clausal.specs.Tries.{makesTrue, makesFalse}
 use Rattle.clausal.proofs.Literals.{has-here, has-cases, has-there, negations, has-negation, negations-plain, has-within}
 use Rattle.clausal.proofs.Under.{forcedBy, under, under-value, under-reduced, false-there, same-there, clause-some, clause-none}

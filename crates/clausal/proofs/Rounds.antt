@@ -19,7 +19,8 @@ use Rattle.meaning.proofs.Pointwise.{forced-length, forced-at, literals-value, 
 use Rattle.meaning.proofs.PointwiseSteps.{literals-cong}
 use Rattle.meaning.proofs.Ends.{AllReduced}
 use Rattle.meaning.specs.Literals.{OfVariables}
-use Rattle.clausal.specs.Drat.{Clause, literal, negated, alike, has, In, Plain}
+use Rattle.clausal.specs.Drat.{In, Plain}
+use Rattle.clausal.specs.Literals.{Clause, literal, negated, alike, has}
 use Rattle.clausal.specs.Tries.{makesTrue, makesFalse}
 use Rattle.clausal.proofs.Literals.{eq-alike, negated-twice, has-cases, has-or, has-within, allFalseBut-each}
 use Rattle.clausal.proofs.Under.{forcedBy, under, under-value, under-reduced, Left, unit-left, left-unit}

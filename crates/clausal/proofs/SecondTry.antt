@@ -13,7 +13,8 @@ use Rattle.meaning.specs.Rules.{unitProp, byDiagram, afterTurn, prTurns, witnes
 use Rattle.meaning.proofs.Booleans.{t≢f, and-both}
 use Rattle.meaning.proofs.Units.{same-eq, eq-same}
 use Rattle.meaning.specs.Literals.{OfVariables}
-use Rattle.clausal.specs.Drat.{Clause, negated, alike, has, without, In, Plain, AllPlain, negation, Rup, Rat}
+use Rattle.clausal.specs.Drat.{In, Plain, AllPlain, negation, Rup, Rat}
+use Rattle.clausal.specs.Literals.{Clause, negated, alike, has, without}
 use Rattle.clausal.specs.Tries.{makesTrue, makesFalse, witness}
 use Rattle.clausal.proofs.Literals.{alike-eq, eq-alike, negated-twice, negated-differs, has-here, has-cases, has-there, has-append}
 use Rattle.clausal.proofs.Literals.{has-left, has-right, Among, negations, has-negation, negation-has, negations-plain}

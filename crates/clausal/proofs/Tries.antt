@@ -9,8 +9,10 @@ use Rattle.meaning.specs.Operations.{clause}
 use Rattle.meaning.specs.Rules.{rup, pr}
 use Rattle.meaning.proofs.Booleans.{or-cases, or-left, or-right}
 use Rattle.meaning.specs.Literals.{OfVariables}
-use Rattle.clausal.specs.Drat.{Clause, Plain, AllPlain, Rup, Rat, Accepted}
-use Rattle.clausal.specs.Tries.{makesTrue, makesFalse, witness, shownBy}
+use Rattle.clausal.specs.Drat.{Plain, AllPlain, Rup, Rat, Accepted}
+use Rattle.clausal.specs.Literals.{Clause}
+use Rattle.clausal.specs.Tries.{makesTrue, makesFalse, witness}
+use Rattle.clausal.specs.Shown.{shownBy}
 use Rattle.clausal.proofs.Literals.{has-here, AllOfVariables}
 use Rattle.clausal.proofs.FirstTry.{rup-only, rup-all}
 use Rattle.clausal.proofs.SecondTry.{rat-only, rat-all}

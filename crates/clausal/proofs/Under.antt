@@ -10,7 +10,8 @@ use native.Mathlib.Omega.{arith}
 use native.Mathlib.Decide.{ℕ-discrete}
 use lib.ListN.{length, set, replicate, length-set, length-replicate}
 use lib.Seq.{getD-set-same, getD-set-other}
-use Rattle.meaning.specs.Diagram.{Assignment, holds, Diagram, leaf, valueFrom, value, Reduced}
+use Rattle.meaning.specs.Diagram.{Assignment, holds, Diagram, leaf, valueFrom, value}
+use Rattle.meaning.specs.Reduced.{Reduced}
 use Rattle.meaning.specs.Operations.{Literal, literalValue, clauseValue, clause, forced, cofactorLiterals, isUnit}
 use Rattle.meaning.proofs.Booleans.{t≢f, not-true, or-left, or-right, beq-eq, eq-beq}
 use Rattle.meaning.proofs.Canonical.{unique}
@@ -18,7 +19,8 @@ use Rattle.meaning.proofs.Assignments.{all-every}
 use Rattle.meaning.proofs.Pointwise.{forced-length, forced-at, clause-value, literals-value, literals-reduced}
 use Rattle.meaning.proofs.Units.{unit-holds}
 use Rattle.meaning.specs.Literals.{OfVariables}
-use Rattle.clausal.specs.Drat.{Clause, literal, negated, alike, has, Plain, allFalse, allFalseBut}
+use Rattle.clausal.specs.Drat.{Plain, allFalse, allFalseBut}
+use Rattle.clausal.specs.Literals.{Clause, literal, negated, alike, has}
 use Rattle.clausal.specs.Tries.{makesTrue, makesFalse}
 use Rattle.clausal.proofs.Literals.{alike-eq, eq-alike, negated-twice, negated-differs, has-here, has-cases, has-there, has-within}
 use Rattle.clausal.proofs.Literals.{allFalse-each, each-allFalse, allFalseBut-each, each-allFalseBut, not-allFalse, Said, is-true}

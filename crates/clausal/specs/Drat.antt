@@ -1,40 +1,13 @@
 -- Unit propagation, RUP and RAT over clauses that are lists of literals: the public definitions of DRAT. No diagram occurs here. (02,
--- 4/14: "exactly what RUP and RAT over clauses accept")
+-- 4/14: "exactly what RUP and RAT over clauses accept") No call open to others cites this file: the theorem on the two tries does.
 use mathlib.Core.Path.{_≡_}
 use mathlib.Core.Logic.{_⊎_}
-use mathlib.Core.Bool.{Bool, true, false, not, _&&_, _||_, cond, Bool·beq}
+use mathlib.Core.Bool.{Bool, true, _&&_, _||_}
 use mathlib.Core.List.{List, [], _∷_, _++_, map}
-use Prim.Native.Nat.{ℕ}
-use lib.Dec.{eqb}
 use Rattle.meaning.specs.Operations.{Literal}
+use Rattle.clausal.specs.Literals.{Clause, negated, alike, has, without}
 
 -- ---- literals and clauses
-
--- A list of literals stands for their set: order and repeats say nothing, but that a clause's first literal is its pivot.
-abbrev pub Clause : Type 0
-Clause = List Literal
-
-abbrev pub literal : ℕ → Bool → Literal
-literal v s = record { variable = v; positive = s }
-
-abbrev pub negated : Literal → Literal
-negated l = literal (l .variable) (not (l .positive))
-
--- Whether the literals are one.
-unfoldable pub alike : Literal → Literal → Bool
-alike k l = eqb (k .variable) (l .variable) && Bool·beq (k .positive) (l .positive)
-
--- Whether the literal is among those listed.
-unfoldable pub has : List Literal → Literal → Bool
-unfolding alike
-has [] l = false
-has (k ∷ ks) l = alike k l || has ks l
-
--- The clause without a literal.
-unfoldable pub without : Literal → Clause → Clause
-unfolding alike
-without l [] = []
-without l (k ∷ ks) = cond (alike k l) (without l ks) (k ∷ without l ks)
 
 -- The clause is one of the formula's.
 abbrev pub In : Clause → List Clause → Type 0

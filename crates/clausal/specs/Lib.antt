@@ -1,2 +1,4 @@
 pub mod Drat
 pub mod Tries
+pub mod Literals
+pub mod Shown

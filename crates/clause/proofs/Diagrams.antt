@@ -5,7 +5,8 @@ use mathlib.Core.Bool.{Bool, true, false, not, _&&_, _||_, cond}
 use Prim.Native.Nat.{ℕ, zero, suc, _+_, _≤_}
 use native.Mathlib.Omega.{arith}
 use native.Mathlib.Decide.{ℕ-discrete}
-use Rattle.meaning.specs.Diagram.{Assignment, holds, Diagram, leaf, node, branch, value, Reduced}
+use Rattle.meaning.specs.Diagram.{Assignment, holds, Diagram, leaf, node, branch, value}
+use Rattle.meaning.specs.Reduced.{Reduced}
 use Rattle.meaning.specs.Words.{inWord}
 use Rattle.meaning.proofs.Booleans.{t≢f, both-ways, or-cases, or-left, or-right, and-commutes}
 use Rattle.meaning.proofs.Canonical.{branch-same, branch-differ}

@@ -5,7 +5,8 @@ use mathlib.Core.Bool.{false}
 use mathlib.Core.List.{List}
 use Prim.Native.Nat.{ℕ, _≤_}
 use lib.ListN.{length}
-use Rattle.meaning.specs.Diagram.{Assignment, Diagram, value, Reduced}
+use Rattle.meaning.specs.Diagram.{Assignment, Diagram, value}
+use Rattle.meaning.specs.Reduced.{Reduced}
 use Rattle.meaning.specs.Operations.{Literal, clauseValue, clause}
 use Rattle.meaning.proofs.Values.{diagram-reduced, diagram-value}
 use Rattle.meaning.specs.Literals.{OfVariables}

@@ -1,4 +1,5 @@
--- Rows about DRAT proofs: the commands of a proof with their first bytes, and the number and the place of its fault. (02, 4/14 and 9/14)
+-- Rows about DRAT proofs: the commands of a proof with their first bytes, and the number and the place of its fault. (02, 4/14 and 9/14) No
+-- call open to others cites this file.
 use mathlib.Core.Path.{_≡_}
 use mathlib.Core.List.{List, [] as []ᴸ, _∷_ as _∷ᴸ_}
 use Prim.Native.Nat.{ℕ, zero, suc, _+_}

@@ -14,7 +14,8 @@ use Rattle.table.specs.Nodes.{Node, diagramAt}
 use Rattle.table.specs.Columns.{Columns, columnsMade}
 use Rattle.dimacs.specs.Clauses.{formula}
 use Rattle.records.specs.declared.Rule.{Rule}
-use Rattle.clausal.specs.Drat.{Clause, Plain, AllPlain, Accepted}
+use Rattle.clausal.specs.Drat.{Plain, AllPlain, Accepted}
+use Rattle.clausal.specs.Literals.{Clause}
 use Rattle.commands.specs.declared.Form.{Form}
 use Rattle.commands.specs.declared.Mode.{Mode}
 use Rattle.commands.specs.Commands.{Command, added, inRecords, isDrat, inForm}

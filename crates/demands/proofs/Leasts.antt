@@ -9,7 +9,8 @@ use native.Mathlib.Omega.{arith}
 use lib.ListN.{length}
 use lib.Seq.{length-take-le}
 use borrow.Author.Tests.{ne-eqb}
-use Rattle.meaning.specs.Diagram.{Diagram, value, Reduced}
+use Rattle.meaning.specs.Diagram.{Diagram, value}
+use Rattle.meaning.specs.Reduced.{Reduced}
 use Rattle.meaning.specs.Sets.{atLeastValue, atLeast}
 use Rattle.meaning.specs.Words.{inWord}
 use Rattle.meaning.proofs.Values.{diagram-reduced}

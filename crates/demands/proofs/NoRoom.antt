@@ -10,7 +10,8 @@ use lib.ListN.{length}
 use lib.Seq.{length-take-le}
 use lib.Dec.{eqb, ltb, leb}
 use borrow.Author.Tests.{eqb-true, leb-true, not-false}
-use Rattle.meaning.specs.Diagram.{Diagram, leaf, same, Reduced}
+use Rattle.meaning.specs.Diagram.{Diagram, leaf, same}
+use Rattle.meaning.specs.Reduced.{Reduced}
 use Rattle.meaning.specs.Operations as meaning
 use Rattle.meaning.specs.Rules.{Line, witnessed}
 use Rattle.meaning.specs.Words.{inWord}

@@ -20,7 +20,7 @@ use Rattle.table.proofs.Order.{Ordered}
 use Rattle.table.proofs.Growth.{Extends, diagramAt-grown}
 use Rattle.table.proofs.Placing.{After, Made, place-after}
 use Rattle.dimacs.specs.Clauses.{Reading, complete, formula}
-use Rattle.clausal.specs.Drat.{Clause}
+use Rattle.clausal.specs.Literals.{Clause}
 use Rattle.clausal.proofs.Literals.{AllOfVariables}
 use Rattle.commands.specs.declared.Form.{Form}
 use Rattle.commands.specs.declared.Form.the-variants.{Records, Text, Binary}

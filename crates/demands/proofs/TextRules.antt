@@ -11,7 +11,8 @@ use Rattle.meaning.specs.Literals.{OfVariables}
 use Rattle.meaning.proofs.Booleans.{t≢f}
 use Rattle.table.specs.Nodes.{Node}
 use Rattle.table.specs.Making.{lineReach}
-use Rattle.clausal.specs.Drat.{Clause, Plain, AllPlain, Accepted}
+use Rattle.clausal.specs.Drat.{Plain, AllPlain, Accepted}
+use Rattle.clausal.specs.Literals.{Clause}
 use Rattle.clausal.proofs.Rest.{plain-not-one}
 use Rattle.commands.specs.declared.Form.{Form}
 use Rattle.commands.specs.Commands.{Command, added, isDrat, inForm}

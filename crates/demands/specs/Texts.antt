@@ -12,7 +12,7 @@ use Rattle.dimacs.specs.Header.{header}
 use Rattle.dimacs.specs.Clauses.{formula}
 use Rattle.commands.specs.declared.Mode.{Mode}
 use Rattle.commands.specs.Commands.{Command, recorded, added, struckOut, wrong, finished, start}
-use Rattle.clausal.specs.Drat.{Clause}
+use Rattle.clausal.specs.Literals.{Clause}
 use Rattle.verdict.specs.Steps.{State, diagramIn, unstruck}
 use Rattle.verdict.specs.Run.{commandIn, nextIn, variablesOf}
 use Rattle.verdict.specs.Satisfies.{clausesOf}

@@ -8,7 +8,8 @@ use lib.ListN.{length, set}
 use lib.Dec.{eqb, leb}
 use lib.Seq.{length-take-le}
 use borrow.Author.Tests.{leb-false, lt-leb, le-leb, lt-ltb, le-ltb}
-use Rattle.meaning.specs.Diagram.{Diagram, Reduced}
+use Rattle.meaning.specs.Diagram.{Diagram}
+use Rattle.meaning.specs.Reduced.{Reduced}
 use Rattle.meaning.proofs.Booleans.{t≢f}
 use Rattle.meaning.proofs.Values.{reduced-to}
 use Rattle.meaning.proofs.Words.{one-shifted}

@@ -8,7 +8,7 @@ use native.Mathlib.Omega.{arith}
 use native.Mathlib.Decide.{ℕ-discrete}
 use lib.ListN.{length, getD, set, take, length-set}
 use lib.Seq.{take-suc-set, getD-set-same, getD-set-other}
-use Rattle.meaning.specs.Diagram.{Reduced}
+use Rattle.meaning.specs.Reduced.{Reduced}
 use Rattle.meaning.specs.Operations as meaning
 use Rattle.meaning.proofs.Values.{diagram-reduced, reduced-to}
 use Rattle.table.specs.Nodes.{Node, Placing, full, placed, place}

@@ -5,7 +5,7 @@ use mathlib.Core.Bool.{Bool}
 use mathlib.Core.List.{List, [], _∷_}
 use Prim.Native.Nat.{ℕ, suc, _≤_, _<_}
 use native.Mathlib.Omega.{arith}
-use Rattle.meaning.specs.Diagram.{Reduced}
+use Rattle.meaning.specs.Reduced.{Reduced}
 use Rattle.meaning.specs.Rules.{rup, pr, witnessed}
 use Rattle.meaning.specs.Words.{inWord}
 use Rattle.meaning.proofs.Ends.{AllReduced}

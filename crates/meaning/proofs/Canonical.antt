@@ -8,7 +8,8 @@ use Prim.Native.Nat.{ℕ, zero, suc, _+_, _-_, _≤_, _<_}
 use native.Mathlib.Omega.{arith}
 use native.Mathlib.Decide.{ℕ-discrete}
 use lib.ListN.{length}
-use Rattle.meaning.specs.Diagram.{Assignment, Diagram, leaf, node, same?, valueFrom, Reduced, branch, diagramFrom}
+use Rattle.meaning.specs.Diagram.{Assignment, Diagram, leaf, node, same?, valueFrom, branch, diagramFrom}
+use Rattle.meaning.specs.Reduced.{Reduced}
 
 -- ---- branch
 

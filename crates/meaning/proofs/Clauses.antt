@@ -8,7 +8,8 @@ use Prim.Native.Nat.{ℕ, zero, suc, _+_, _≤_, _<_}
 use native.Mathlib.Omega.{arith}
 use native.Mathlib.Decide.{ℕ-discrete}
 use lib.Dec.{eqb}
-use Rattle.meaning.specs.Diagram.{Assignment, holds, Diagram, leaf, valueFrom, value, Reduced, branch}
+use Rattle.meaning.specs.Diagram.{Assignment, holds, Diagram, leaf, valueFrom, value, branch}
+use Rattle.meaning.specs.Reduced.{Reduced}
 use Rattle.meaning.specs.Operations.{Literal, literalValue, clauseValue, clause}
 use Rattle.meaning.proofs.Canonical.{branch-same, branch-reduced}
 use Rattle.meaning.proofs.Values.{branch-at, diagram-is}

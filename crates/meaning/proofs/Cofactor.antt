@@ -10,7 +10,8 @@ use native.Mathlib.Decide.{ℕ-discrete}
 use lib.ListN.{length}
 use lib.Dec.{eqb}
 use borrow.Author.Tests.{eqb-false}
-use Rattle.meaning.specs.Diagram.{Assignment, Diagram, leaf, node, same?, valueFrom, value, Reduced, branch, diagramFrom}
+use Rattle.meaning.specs.Diagram.{Assignment, Diagram, leaf, node, same?, valueFrom, value, branch, diagramFrom}
+use Rattle.meaning.specs.Reduced.{Reduced}
 use Rattle.meaning.specs.Operations.{nearest, cofactor}
 use Rattle.meaning.proofs.Canonical.{canonical, branch-same, reduced-from, diagramFrom-cong, diagramFrom-reduced, diagramFrom-value}
 use Rattle.meaning.proofs.Canonical.{side, side-reduced, side-value, side-zero}

@@ -5,7 +5,8 @@ use mathlib.Core.Logic.{_≢_}
 use mathlib.Core.Bool.{Bool, true, false, not}
 use Prim.Native.Nat.{ℕ, zero, suc, _+_, _-_, _≤_}
 use native.Mathlib.Omega.{arith}
-use Rattle.meaning.specs.Diagram.{Diagram, leaf, node, valueFrom, value, Reduced, branch}
+use Rattle.meaning.specs.Diagram.{Diagram, leaf, node, valueFrom, value, branch}
+use Rattle.meaning.specs.Reduced.{Reduced}
 use Rattle.meaning.specs.Operations.{cofactor}
 use Rattle.meaning.proofs.Canonical.{unique, side, side-reduced, side-zero}
 use Rattle.meaning.proofs.Nearest.{nearest-is, sat-of}

@@ -9,7 +9,8 @@ use Prim.Native.Nat.{ℕ, zero, suc, _+_, _≤_, _<_}
 use native.Mathlib.Omega.{arith}
 use native.Mathlib.Decide.{ℕ-discrete}
 use lib.Dec.{eqb}
-use Rattle.meaning.specs.Diagram.{Diagram, leaf, node, same?, same, Reduced, branch}
+use Rattle.meaning.specs.Diagram.{Diagram, leaf, node, same?, same, branch}
+use Rattle.meaning.specs.Reduced.{Reduced}
 use Rattle.meaning.specs.Operations.{cofactorLiterals, isUnit}
 use Rattle.meaning.specs.Rules.{any, conflicts, hasUnit, firstWithUnit, byDiagram, byUnits, Propagation, round, still, taking}
 use Rattle.meaning.specs.Rules.{propagate}

@@ -5,7 +5,8 @@ use mathlib.Core.Logic.{_≢_}
 use mathlib.Core.Bool.{Bool, true, false, cond}
 use mathlib.Core.List.{List, [], _∷_}
 use Prim.Native.Nat.{ℕ, suc, _≤_}
-use Rattle.meaning.specs.Diagram.{Diagram, leaf, same, Reduced}
+use Rattle.meaning.specs.Diagram.{Diagram, leaf, same}
+use Rattle.meaning.specs.Reduced.{Reduced}
 use Rattle.meaning.specs.Operations.{negation, cofactorLiterals}
 use Rattle.meaning.specs.Rules.{Propagation, Line, unitProp, byDiagram, base, rup, afterTurn, prTurns, witnessed, pr}
 use Rattle.meaning.proofs.Booleans.{t≢f}

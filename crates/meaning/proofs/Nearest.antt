@@ -12,7 +12,8 @@ use native.Mathlib.Nat.{pow-succ'}
 use lib.ListN.{length}
 use lib.Dec.{leb}
 use borrow.Author.Tests.{leb-true, leb-false}
-use Rattle.meaning.specs.Diagram.{Assignment, holds, Diagram, leaf, valueFrom, Reduced}
+use Rattle.meaning.specs.Diagram.{Assignment, holds, Diagram, leaf, valueFrom}
+use Rattle.meaning.specs.Reduced.{Reduced}
 use Rattle.meaning.specs.Operations.{sum, distance, assignments, nearer, nearestOf, orElse, nearest}
 use Rattle.meaning.proofs.Canonical.{unique}
 use Rattle.meaning.proofs.Booleans.{t≢f}

@@ -8,8 +8,9 @@ use Prim.Native.Nat.{ℕ, suc, _+_, _-_, _≤_, _<_}
 use native.Mathlib.Omega.{arith}
 use native.Mathlib.Decide.{ℕ-discrete}
 use lib.ListN.{length, getD}
-use Rattle.meaning.specs.Diagram.{Assignment, holds, Diagram, value, Reduced}
-use Rattle.meaning.specs.Operations.{Literal, clauseValue, clause, entry, conjunction, negation, forced, cofactorLiterals}
+use Rattle.meaning.specs.Diagram.{Assignment, Diagram, value}
+use Rattle.meaning.specs.Reduced.{Reduced}
+use Rattle.meaning.specs.Operations.{Literal, clauseValue, clause, conjunction, negation, forced, cofactorLiterals}
 use Rattle.meaning.proofs.Values.{value-agree, value-from, diagram-reduced, diagram-value, diagram-from}
 
 -- ---- the assignment with the literals made true
@@ -45,10 +46,6 @@ module _ (n : ℕ) (a : Assignment) (len : length a ≡ n) where
   pub clause-value : (ls : List Literal) → value (clause n ls) a ≡ clauseValue ls a
   unfolding clause
   clause-value ls = diagram-value n _ a len
-
-  pub entry-value : (v : ℕ) (l h : Diagram) → value (entry n v l h) a ≡ cond (holds a v) (value h a) (value l a)
-  unfolding entry
-  entry-value v l h = diagram-value n _ a len
 
   pub conjunction-value : (f g : Diagram) → value (conjunction n f g) a ≡ (value f a && value g a)
   unfolding conjunction

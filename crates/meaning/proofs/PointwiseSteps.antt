@@ -7,7 +7,8 @@ use Prim.Native.Nat.{ℕ, suc, _-_, _≤_}
 use native.Mathlib.Omega.{arith}
 use lib.ListN.{length, take}
 use lib.Seq.{getD-take, length-take-le}
-use Rattle.meaning.specs.Diagram.{Assignment, holds, Diagram, leaf, node, valueFrom, value, Reduced, branch}
+use Rattle.meaning.specs.Diagram.{Assignment, holds, Diagram, leaf, node, valueFrom, value, branch}
+use Rattle.meaning.specs.Reduced.{Reduced}
 use Rattle.meaning.specs.Operations.{conjunction, negation, forced, cofactorLiterals}
 use Rattle.meaning.proofs.Canonical.{reduced-from, branch-reduced, side, side-reduced}
 use Rattle.meaning.proofs.Booleans.{not-not, not-cond, and-cond, and-same, and-commutes}

@@ -9,7 +9,8 @@ use native.Mathlib.Omega.{arith}
 use native.Mathlib.Decide.{decLt}
 use lib.Dec.{eqb, leb}
 use borrow.Author.Tests.{le-leb, lt-leb, eq-eqb, ne-eqb}
-use Rattle.meaning.specs.Diagram.{Assignment, Diagram, leaf, node, Reduced, branch, diagramFrom}
+use Rattle.meaning.specs.Diagram.{Assignment, Diagram, leaf, node, branch, diagramFrom}
+use Rattle.meaning.specs.Reduced.{Reduced}
 use Rattle.meaning.specs.Sets.{truesFrom, isOdd, parityValue, parity, atLeastValue, atLeast}
 use Rattle.meaning.specs.Tallies.{tallyFrom, parityFrom, atLeastFrom}
 use Rattle.meaning.proofs.Booleans.{t≢f, not-not}

@@ -10,7 +10,8 @@ use native.Mathlib.Decide.{ℕ-discrete}
 use lib.ListN.{length, set, replicate, length-set, length-replicate, getD-replicate}
 use lib.Seq.{getD-set-same, getD-set-other}
 use lib.Dec.{eqb}
-use Rattle.meaning.specs.Diagram.{Assignment, holds, Diagram, leaf, node, same?, same, valueFrom, value, Reduced}
+use Rattle.meaning.specs.Diagram.{Assignment, holds, Diagram, leaf, node, same?, same, valueFrom, value}
+use Rattle.meaning.specs.Reduced.{Reduced}
 use Rattle.meaning.specs.Operations.{isUnit}
 use Rattle.meaning.specs.Branchwise.{unitAt}
 use Rattle.meaning.proofs.Canonical.{reduced-from, unique}

@@ -8,7 +8,8 @@ use native.Mathlib.Omega.{arith}
 use native.Mathlib.Decide.{ℕ-discrete}
 use lib.Dec.{leb}
 use borrow.Author.Tests.{leb-true, le-leb}
-use Rattle.meaning.specs.Diagram.{Diagram, leaf, node, same?, Reduced, branch}
+use Rattle.meaning.specs.Diagram.{Diagram, leaf, node, same?, branch}
+use Rattle.meaning.specs.Reduced.{Reduced}
 use Rattle.meaning.specs.Operations.{negation, cofactorLiterals, cofactor}
 use Rattle.meaning.proofs.Booleans.{t≢f, and-both, or-cases, eqb-eq}
 use Rattle.meaning.proofs.Canonical.{branch-same, branch-differ, reduced-from, side, side-reduced}

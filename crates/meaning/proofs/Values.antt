@@ -7,7 +7,8 @@ use native.Mathlib.Omega.{arith}
 use native.Mathlib.Decide.{ℕ-discrete, decLe}
 use lib.ListN.{length, getD, set, take, length-set}
 use lib.Seq.{getD-set-same, getD-set-other, getD-take, length-take-le}
-use Rattle.meaning.specs.Diagram.{Assignment, holds, Diagram, leaf, node, same?, valueFrom, value, Reduced, branch, diagram}
+use Rattle.meaning.specs.Diagram.{Assignment, holds, Diagram, leaf, node, same?, valueFrom, value, branch, diagram}
+use Rattle.meaning.specs.Reduced.{Reduced}
 use Rattle.meaning.proofs.Canonical.{reduced-from, canonical, unique, diagramFrom-cong, diagramFrom-reduced, diagramFrom-value, side}
 use Rattle.meaning.proofs.Booleans.{cond-same}
 

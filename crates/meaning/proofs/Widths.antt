@@ -7,7 +7,8 @@ use mathlib.Core.List.{List, [], _∷_}
 use mathlib.Core.Option.{Option, none, some}
 use Prim.Native.Nat.{ℕ, zero, suc, _+_, _-_, _≤_}
 use native.Mathlib.Omega.{arith}
-use Rattle.meaning.specs.Diagram.{Diagram, leaf, same, Reduced}
+use Rattle.meaning.specs.Diagram.{Diagram, leaf, same}
+use Rattle.meaning.specs.Reduced.{Reduced}
 use Rattle.meaning.specs.Operations.{negation}
 use Rattle.meaning.specs.Rules.{any, conflicts, hasUnit, firstWithUnit, byUnits, Propagation, round, still, taking, propagate}
 use Rattle.meaning.specs.Rules.{unitProp}

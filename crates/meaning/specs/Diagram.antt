@@ -1,9 +1,8 @@
 -- Assignments, diagrams, their values, and the one reduced ordered diagram of a Boolean function.
 use mathlib.Core.Path.{_≡_}
-use mathlib.Core.Logic.{_≢_}
 use mathlib.Core.Bool.{Bool, true, false, cond, Bool-discrete}
 use mathlib.Core.List.{List, [], _∷_}
-use Prim.Native.Nat.{ℕ, zero, suc, _-_, _≤_, _<_}
+use Prim.Native.Nat.{ℕ, zero, suc, _-_}
 use native.Mathlib.Decide.{ℕ-discrete}
 use lib.ListN.{getD}
 
@@ -38,12 +37,6 @@ valueFrom i (node v l h) a = cond (getD a (v - i) false) (valueFrom i h a) (valu
 -- of its low where it is false." (01, Values)
 abbrev pub value : Diagram → Assignment → Bool
 value f a = valueFrom 1 f a
-
--- Reduced and ordered, with variables from i up to and not including e: variables rise towards the leaves and no node's
--- two sides are equal. (01, The table: "low differs from high", "smaller than those of its children"; 002, section 2)
-abbrev pub Reduced : ℕ → ℕ → Diagram → Type 0
-Reduced i e (leaf b) = Unit {0}
-Reduced i e (node v l h) = (i ≤ v) × (v < e) × (l ≢ h) × Reduced (suc v) e l × Reduced (suc v) e h
 
 -- Variable v over two diagrams; equal sides need no node. (01, The proof: "Equal children give that child")
 unfoldable pub branch : ℕ → Diagram → Diagram → Diagram

@@ -7,3 +7,4 @@ pub mod Sets
 pub mod Tallies
 pub mod Literals
 pub mod Uses
+pub mod Reduced

@@ -27,10 +27,6 @@ unfoldable pub clause : ℕ → List Literal → Diagram
 unfolding clauseValue
 clause n ls = diagram n (clauseValue ls)
 
--- "a node record's entry has the value of its high entry where its variable is true, of its low entry where it is false" (01, Values)
-unfoldable pub entry : ℕ → ℕ → Diagram → Diagram → Diagram
-entry n v low high = diagram n (λ a. cond (holds a v) (value high a) (value low a))
-
 -- ---- conjunction, negation, cofactor by literals
 
 -- "A conjunction is 1 where both diagrams are [..]; elsewhere [it] is 0." (01, Values)

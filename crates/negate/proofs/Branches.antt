@@ -7,7 +7,8 @@ use mathlib.Core.Option.{Option, none, some}
 use Prim.Native.Nat.{ℕ, _≤_, _<_}
 use native.Mathlib.Omega.{arith}
 use lib.ListN.{length, getD}
-use Rattle.meaning.specs.Diagram.{Diagram, node, Reduced}
+use Rattle.meaning.specs.Diagram.{Diagram, node}
+use Rattle.meaning.specs.Reduced.{Reduced}
 use Rattle.meaning.specs.Operations.{negation}
 use Rattle.meaning.proofs.PointwiseSteps.{negation-leaf, negation-node}
 use Rattle.table.specs.declared.NodeNo.{NodeNo}

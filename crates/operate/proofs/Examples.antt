@@ -6,7 +6,8 @@ use mathlib.Core.Bool.{true, false}
 use Prim.Native.Nat.{ℕ}
 use native.Mathlib.Omega.{arith}
 use native.Mathlib.Decide.{ℕ-discrete}
-use Rattle.meaning.specs.Diagram.{Diagram, leaf, node, same?, valueFrom, Reduced, diagramFrom}
+use Rattle.meaning.specs.Diagram.{Diagram, leaf, node, same?, valueFrom, diagramFrom}
+use Rattle.meaning.specs.Reduced.{Reduced}
 use Rattle.meaning.specs.Operations.{cofactor}
 use Rattle.meaning.proofs.CofactorSteps.{cofactor-width}
 use Rattle.operate.specs.declared.Operation.the-variants.{Cofactor}

@@ -7,7 +7,8 @@ use Prim.Native.Nat.{ℕ, suc, _-_, _≤_, _<_}
 use native.Mathlib.Omega.{arith}
 use lib.ListN.{length, getD}
 use lib.Seq.{getD-take}
-use Rattle.meaning.specs.Diagram.{Diagram, node, Reduced}
+use Rattle.meaning.specs.Diagram.{Diagram, node}
+use Rattle.meaning.specs.Reduced.{Reduced}
 use Rattle.meaning.proofs.Canonical.{diagramFrom-reduced}
 use Rattle.meaning.proofs.Pointwise.{conjunction-reduced, negation-reduced, literals-reduced, conjunction-from, negation-from}
 use Rattle.meaning.proofs.Pointwise.{literals-from}

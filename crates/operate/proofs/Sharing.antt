@@ -7,7 +7,8 @@ use native.Mathlib.Omega.{arith}
 use lib.ListN.{getD}
 use lib.Bits.{bitOr}
 use borrow.Author.Tests.{le-ltb}
-use Rattle.meaning.specs.Diagram.{Diagram, Reduced}
+use Rattle.meaning.specs.Diagram.{Diagram}
+use Rattle.meaning.specs.Reduced.{Reduced}
 use Rattle.meaning.specs.Words.{inWord}
 use Rattle.meaning.specs.Uses.{Uses, Forces}
 use Rattle.meaning.proofs.Booleans.{t≢f, not-true, or-neither}

@@ -9,7 +9,8 @@ use native.Mathlib.Omega.{arith}
 use native.Mathlib.Decide.{ℕ-discrete}
 use lib.ListN.{getD}
 use borrow.Author.Tests.{eq-eqb, ne-eqb, le-ltb}
-use Rattle.meaning.specs.Diagram.{Diagram, leaf, node, branch, Reduced}
+use Rattle.meaning.specs.Diagram.{Diagram, leaf, node, branch}
+use Rattle.meaning.specs.Reduced.{Reduced}
 use Rattle.meaning.specs.Operations.{conjunction, negation, cofactor, cofactorLiterals}
 use Rattle.meaning.proofs.Canonical.{branch-differ, side, side-zero}
 use Rattle.meaning.proofs.Pointwise.{negation-reduced}

@@ -6,7 +6,8 @@ use Prim.Native.Nat.{ℕ, _≤_, _<_}
 use native.Mathlib.Omega.{arith}
 use native.Mathlib.Decide.{ℕ-discrete}
 use borrow.Author.Tests.{eq-eqb, ne-eqb, lt-ltb, le-ltb}
-use Rattle.meaning.specs.Diagram.{Diagram, leaf, Reduced}
+use Rattle.meaning.specs.Diagram.{Diagram, leaf}
+use Rattle.meaning.specs.Reduced.{Reduced}
 use Rattle.meaning.specs.Operations.{conjunction, cofactor}
 use Rattle.meaning.proofs.PointwiseSteps.{negation-leaf, zero-conjunction, one-conjunction, conjunction-zero, conjunction-one}
 use Rattle.meaning.proofs.PointwiseSteps.{conjunction-same, literals-leaf}

@@ -8,7 +8,8 @@ use mathlib.Core.List.{List, [], _∷_}
 use mathlib.Core.Option.{Option, none, some}
 use Prim.Native.Nat.{ℕ, zero, suc, _+_, _≤_, _<_}
 use native.Mathlib.Omega.{arith}
-use Rattle.meaning.specs.Diagram.{Diagram, Reduced}
+use Rattle.meaning.specs.Diagram.{Diagram}
+use Rattle.meaning.specs.Reduced.{Reduced}
 use Rattle.meaning.specs.Rules.{conflicts, hasUnit, firstWithUnit, byUnits, Propagation, round, still, taking, propagate, unitProp}
 use Rattle.meaning.proofs.Booleans.{t≢f, both-ways, not-true}
 use Rattle.meaning.proofs.Units.{variableIn}

@@ -10,7 +10,8 @@ use native.Mathlib.Numerals.{add-one}
 use native.Mathlib.Decide.{decLt}
 use lib.ListN.{length, getD, drop, drop-of-length-le}
 use lib.Seq.{drop-cons}
-use Rattle.meaning.specs.Diagram.{Diagram, Reduced}
+use Rattle.meaning.specs.Diagram.{Diagram}
+use Rattle.meaning.specs.Reduced.{Reduced}
 use Rattle.meaning.specs.Operations.{Literal}
 use Rattle.meaning.specs.Rules.{Propagation, Line, unitProp, afterTurn}
 use Rattle.meaning.proofs.Booleans.{t≢f, and-true}

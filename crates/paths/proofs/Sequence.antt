@@ -10,7 +10,8 @@ use native.Mathlib.Omega.{arith}
 use native.Mathlib.Decide.{decLt}
 use lib.ListN.{length, getD, length-append, length-map}
 use lib.Dec.{eqb}
-use Rattle.meaning.specs.Diagram.{Diagram, leaf, node, Reduced}
+use Rattle.meaning.specs.Diagram.{Diagram, leaf, node}
+use Rattle.meaning.specs.Reduced.{Reduced}
 use Rattle.meaning.specs.Operations.{Literal, cofactorLiterals}
 use Rattle.meaning.specs.Literals.{OfVariables}
 use Rattle.meaning.specs.Words.{inWord}
@@ -21,7 +22,7 @@ use Rattle.meaning.proofs.PointwiseSteps.{literals-cong}
 use Rattle.words.specs.declared.Literals.{Literals}
 use Rattle.words.specs.Sets.{has as hasWord, withLiteral, withAll, literalsOf}
 use Rattle.words.proofs.LiteralSets.{in-set}
-use Rattle.clausal.specs.Drat.{literal, has, alike}
+use Rattle.clausal.specs.Literals.{literal, has, alike}
 use Rattle.clausal.specs.Tries.{makesTrue, makesFalse}
 use Rattle.paths.specs.declared.NextPath.{NextPath}
 use Rattle.paths.specs.Paths.{paths, byPath, pathCount}

@@ -13,7 +13,7 @@ use Rattle.meaning.specs.Operations.{Literal, forced, cofactorLiterals}
 use Rattle.meaning.specs.Rules.{unitProp, afterTurn}
 use Rattle.meaning.proofs.Booleans.{t≢f, and-both}
 use Rattle.meaning.proofs.Pointwise.{forced-length, forced-at, literals-value}
-use Rattle.clausal.specs.Drat.{literal, has}
+use Rattle.clausal.specs.Literals.{literal, has}
 use Rattle.clausal.specs.Tries.{makesTrue, makesFalse}
 use Rattle.clausal.proofs.Literals.{has-cases}
 use Rattle.meaning.proofs.Soundness.{Satisfies, unitProp-sound}

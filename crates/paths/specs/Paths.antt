@@ -5,7 +5,7 @@ use Prim.Native.Nat.{ℕ, _+_}
 use Rattle.meaning.specs.Diagram.{Diagram, leaf, node}
 use Rattle.meaning.specs.Operations.{Literal, cofactorLiterals}
 use Rattle.meaning.specs.Rules.{unitProp, Line, afterTurn}
-use Rattle.clausal.specs.Drat.{literal, has}
+use Rattle.clausal.specs.Literals.{literal, has}
 use Rattle.clausal.specs.Tries.{makesTrue, makesFalse}
 
 -- "each path from the root to 0, with its literals c"; "Paths are taken low side first". A path asks the variables of the diagram alone.

@@ -7,7 +7,8 @@ use Prim.Native.Nat.{ℕ, suc, _+_, _-_, _≤_, _<_}
 use native.Mathlib.Omega.{arith}
 use native.Mathlib.Numerals.{add-one}
 use lib.ListN.{getD}
-use Rattle.meaning.specs.Diagram.{Diagram, leaf, node, Reduced, branch}
+use Rattle.meaning.specs.Diagram.{Diagram, leaf, node, branch}
+use Rattle.meaning.specs.Reduced.{Reduced}
 use Rattle.meaning.proofs.Booleans.{not-not}
 use Rattle.meaning.proofs.Canonical.{reduced-from, branch-differ}
 use Rattle.table.specs.Nodes.{at, diagramAt}

@@ -7,7 +7,8 @@ use native.Mathlib.Omega.{arith}
 use native.Mathlib.Decide.{ℕ-discrete}
 use lib.Dec.{eqb}
 use borrow.Author.Tests.{lt-ltb, ne-eqb}
-use Rattle.meaning.specs.Diagram.{leaf, Reduced, branch}
+use Rattle.meaning.specs.Diagram.{leaf, branch}
+use Rattle.meaning.specs.Reduced.{Reduced}
 use Rattle.meaning.specs.Words.{inWord}
 use Rattle.meaning.proofs.Canonical.{reduced-from, branch-same}
 use Rattle.meaning.specs.Sets.{atLeast, sizeFrom, sizeOf}

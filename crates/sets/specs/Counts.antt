@@ -1,4 +1,4 @@
--- What is said of the assignments that an at-least diagram excludes. (02, 5/14)
+-- What is said of the assignments that an at-least diagram excludes. (02, 5/14) No call open to others cites this file.
 use mathlib.Core.Bool.{cond}
 use Prim.Native.Nat.{ℕ}
 use lib.Dec.{leb}

@@ -16,7 +16,7 @@ use Rattle.words.proofs.LiteralSets.{in-set}
 use Rattle.table.specs.Nodes.{Node, Placing, full, placed, place}
 use Rattle.table.proofs.Order.{Ordered}
 use Rattle.table.proofs.Placing.{After, place-after}
-use Rattle.meaning.specs.Diagram.{Reduced}
+use Rattle.meaning.specs.Reduced.{Reduced}
 use Rattle.meaning.proofs.Values.{reduced-to, diagram-reduced}
 use Rattle.clause.proofs.Literals.{within-more, clause-of-words}
 use Rattle.dimacs.specs.declared.Header.{Header}

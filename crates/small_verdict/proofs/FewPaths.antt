@@ -4,7 +4,8 @@ use Prim.Native.Nat.{ℕ, zero, suc, _+_, _^_, _≤_}
 use native.Mathlib.Nat.{pow-suc}
 use native.Mathlib.Omega.{arith}
 use lib.Pow.{pow-lt}
-use Rattle.meaning.specs.Diagram.{Diagram, leaf, node, Reduced}
+use Rattle.meaning.specs.Diagram.{Diagram, leaf, node}
+use Rattle.meaning.specs.Reduced.{Reduced}
 use Rattle.paths.specs.Paths.{pathCount}
 
 -- k variables are left from i on

@@ -9,7 +9,8 @@ use lib.ListN.{length, take, drop, replicate, List·getD-eq-default}
 use lib.Seq.{length-take-le, take-append-seam, getD-drop}
 use Rattle.meaning.proofs.Booleans.{and-both}
 use Rattle.table.specs.Nodes.{Node, blank, find, goodPlaces}
-use Rattle.table.specs.Index.{headsOf, linksOf, sameNumbers, goodOrder, findByIndex}
+use Rattle.table.specs.Index.{headsOf, linksOf, sameNumbers, goodOrder}
+use Rattle.table.specs.Lookup.{findByIndex}
 use Rattle.table.specs.Columns.{rows, sizeFits, padded, columnsMade, columnsOf, storedAs}
 use Rattle.table.specs.Indexed.{indexed, Table, tableOf, listsOf, size, nodesOf, Good}
 use Rattle.table.proofs.Order.{both-true, every-blank, Ordered, GoodPlaces, good-places, in-good-places}

@@ -13,7 +13,8 @@ use lib.Seq.{getD-append-seam}
 use borrow.Author.Tests.{lt-ltb, le-ltb}
 use Rattle.table.specs.declared.NodeNo.{NodeNo}
 use Rattle.table.specs.declared.Found.the-variants.{At, Nothing}
-use Rattle.table.specs.Nodes.{Node, nodeOf, blank, at, find, put, orAppend, placed, full, tookPlace}
+use Rattle.table.specs.Nodes.{Node, nodeOf, blank, at, find, put, orAppend, placed, full}
+use Rattle.table.specs.Indexed.{tookPlace}
 use Rattle.table.specs.Columns.{padded, NodeColumns, columnsOf}
 use Rattle.table.specs.Index.{bucket, bucketAt}
 use Rattle.table.specs.Indexed.{Index, indexMade, insert, indexFrom, indexOf, Table, tableOf, size, nodesOf, indexed, Good, Outcome}

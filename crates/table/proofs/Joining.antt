@@ -3,7 +3,8 @@
 use mathlib.Core.Path.{_≡_, refl, sym, ap, _∙_}
 use mathlib.Core.List.{List}
 use Prim.Native.Nat.{ℕ}
-use Rattle.meaning.specs.Diagram.{Diagram, Reduced, same?, branch}
+use Rattle.meaning.specs.Diagram.{Diagram, same?, branch}
+use Rattle.meaning.specs.Reduced.{Reduced}
 use Rattle.meaning.proofs.Canonical.{branch-same, branch-differ}
 use Rattle.table.specs.Nodes.{Node, Placing, full, placed, put, andThen, place}
 use Rattle.table.proofs.Order.{Ordered}

@@ -13,7 +13,8 @@ use lib.Seq.{ext-getD, getD-set-other}
 use lib.Dec.{eqb, ltb}
 use borrow.Author.Tests.{eq-eqb, ne-eqb, eqb-true, lt-ltb, le-ltb, le-leb}
 use Rattle.table.specs.Nodes.{Node, nodeOf, at, alike, find}
-use Rattle.table.specs.Index.{bucket, bucketAt, highest, listedFrom, headsOf, linksOf, sameNumbers, chainFrom, findByIndex}
+use Rattle.table.specs.Index.{bucket, bucketAt, highest, listedFrom, headsOf, linksOf, sameNumbers}
+use Rattle.table.specs.Lookup.{chainFrom, findByIndex}
 use Rattle.table.specs.Indexed.{indexFrom, indexOf, Table, nodesOf, Good}
 use Rattle.meaning.proofs.Booleans.{t≢f, and-both}
 use Rattle.table.proofs.Zeros.{zeros-at}

@@ -8,7 +8,8 @@ use Prim.Native.Nat.{ℕ, zero, suc, _≤_, _<_}
 use native.Mathlib.Omega.{arith}
 use lib.ListN.{length, take}
 use lib.Seq.{length-take-le, getD-take}
-use Rattle.meaning.specs.Diagram.{Assignment, leaf, node, value, Reduced}
+use Rattle.meaning.specs.Diagram.{Assignment, leaf, node, value}
+use Rattle.meaning.specs.Reduced.{Reduced}
 use Rattle.meaning.proofs.Canonical.{unique}
 use Rattle.table.specs.Nodes.{Node, blank, at, diagramWithin, diagramAt}
 use Rattle.table.proofs.Order.{same-node, Fits, Ordered, GoodPlaces}

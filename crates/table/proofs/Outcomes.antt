@@ -7,7 +7,8 @@ use Prim.Native.Nat.{ℕ, suc, _≤_, _<_}
 use native.Mathlib.Omega.{arith}
 use lib.ListN.{length, take}
 use lib.Seq.{take-take, take-length}
-use Rattle.meaning.specs.Diagram.{Diagram, Reduced, branch}
+use Rattle.meaning.specs.Diagram.{Diagram, branch}
+use Rattle.meaning.specs.Reduced.{Reduced}
 use Rattle.meaning.proofs.Canonical.{reduced-from, branch-reduced}
 use Rattle.table.specs.Nodes.{Node, at, diagramAt, Placing, full, placed, put, andThen, place}
 use Rattle.table.specs.Indexed.{Table, size, nodesOf, indexed, Good, Outcome, written}

@@ -13,7 +13,8 @@ use lib.ListN.{length, drop, length-drop}
 use lib.Seq.{getD-drop}
 use lib.Dec.{ltb}
 use borrow.Author.Tests.{ltb-true, ltb-false, eq-eqb, ne-eqb}
-use Rattle.meaning.specs.Diagram.{Diagram, leaf, node, Reduced, branch}
+use Rattle.meaning.specs.Diagram.{Diagram, leaf, node, branch}
+use Rattle.meaning.specs.Reduced.{Reduced}
 use Rattle.meaning.proofs.Canonical.{reduced-from, branch-same, branch-differ}
 use Rattle.table.specs.Nodes.{Node, nodeOf, blank, at, alike, diagramAt, Placing, full, placed, findFrom, find, orAppend, put}
 use Rattle.table.specs.Nodes.{andThen, place}

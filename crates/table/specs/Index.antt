@@ -1,11 +1,10 @@
 -- The index lent with a table: the chain of a node, the heads and links, good order with them, and looking up by them. (02, 7/14)
 use mathlib.Core.Bool.{Bool, true, false, _&&_, cond}
 use mathlib.Core.List.{List, [], _∷_}
-use mathlib.Core.Option.{Option, none, some}
 use Prim.Native.Nat.{ℕ, zero, suc, _+_, _*_, _%_}
-use lib.ListN.{length, getD, take}
+use lib.ListN.{length, take}
 use lib.Dec.{eqb, ltb, leb}
-use Rattle.table.specs.Nodes.{Node, at, alike, goodPlaces}
+use Rattle.table.specs.Nodes.{Node, at, goodPlaces}
 
 -- The chain of a node among n: "The key is variable plus low times 12,582,917 plus high times 4,256,249, in 32 bits, running over the
 -- top on purpose; its remainder by the number of heads picks the chain."
@@ -53,17 +52,3 @@ unfolding goodPlaces sameNumbers headsOf linksOf
 goodOrder rows count heads links =
     let t = take count rows in
     goodPlaces rows count && (sameNumbers heads (headsOf (length rows) t) && sameNumbers links (linksOf (length rows) t))
-
--- ---- looking up
-
--- Down a chain from place k, by the links: the place that holds x. There are at most as many steps as nodes.
-unfoldable pub chainFrom : ℕ → List ℕ → List Node → ℕ → Node → Option ℕ
-unfolding alike
-chainFrom zero links t k x = none
-chainFrom (suc steps) links t k x =
-    let later = chainFrom steps links t (getD links k 0) x in cond (eqb k 0) none (cond (alike (at t k) x) (some k) later)
-
--- The place of a node among the nodes t, by the index: from the head of its chain on. Beside it stands `find`, the walk from place 2.
-unfoldable pub findByIndex : List ℕ → List ℕ → List Node → Node → Option ℕ
-unfolding chainFrom bucket
-findByIndex heads links t x = chainFrom (length t) links t (getD heads (bucket (length heads) (x .var) (x .low) (x .high)) 0) x

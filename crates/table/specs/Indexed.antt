@@ -3,6 +3,7 @@ use mathlib.Core.Path.{_≡_}
 use mathlib.Core.Bool.{Bool, true, false}
 use mathlib.Core.List.{List}
 use Prim.Native.Nat.{ℕ, zero, suc, _-_, _*_, _≤_}
+use lib.Dec.{ltb}
 use lib.ListN.{length, getD, set, take, replicate}
 use mathlib.Core.Option.{Option, none, some}
 use Rattle.table.specs.declared.Placed.{Placed}
@@ -98,3 +99,8 @@ unfoldable pub written : ℕ → Placing → Outcome
 unfolding indexed
 written s (full t) = record { table = indexed s t; full = true; node = 0 }
 written s (placed t k) = record { table = indexed s t; full = false; node = k }
+
+-- "Placing a node shall tell, besides its number, whether it took a new place": the nodes t have become one more. (02, 2/14)
+unfoldable pub tookPlace : List Node → Placing → Bool
+tookPlace t (full t₁) = false
+tookPlace t (placed t₁ k) = ltb (length t) (length t₁)

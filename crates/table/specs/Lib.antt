@@ -4,3 +4,4 @@ pub mod Columns
 pub mod Indexed
 pub mod Making
 pub mod Lists
+pub mod Lookup

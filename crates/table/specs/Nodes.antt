@@ -109,11 +109,6 @@ unfoldable pub put : ℕ → List Node → ℕ → ℕ → ℕ → Placing
 unfolding orAppend find
 put s t v l h = cond (eqb l h) (placed t l) (orAppend s t (nodeOf v l h) (find t (nodeOf v l h)))
 
--- "Placing a node shall tell, besides its number, whether it took a new place": the nodes t have become one more. (02, 2/14)
-unfoldable pub tookPlace : List Node → Placing → Bool
-tookPlace t (full t₁) = false
-tookPlace t (placed t₁ k) = ltb (length t) (length t₁)
-
 unfoldable pub andThen : Placing → (List Node → ℕ → Placing) → Placing
 andThen (full t) next = full t
 andThen (placed t k) next = next t k

@@ -9,7 +9,8 @@ use native.Mathlib.Decide.{ℕ-discrete, decLt}
 use lib.ListN.{length, getD, take, drop, drop-of-length-le}
 use lib.Seq.{length-take-le, getD-take, drop-cons}
 use lib.Dec.{eqb}
-use Rattle.meaning.specs.Diagram.{Diagram, leaf, node, same, Reduced}
+use Rattle.meaning.specs.Diagram.{Diagram, leaf, node, same}
+use Rattle.meaning.specs.Reduced.{Reduced}
 use Rattle.meaning.specs.Rules.{Line, prTurns}
 use Rattle.meaning.specs.Words.{inWord}
 use Rattle.meaning.specs.Uses.{Uses}

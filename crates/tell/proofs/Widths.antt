@@ -5,7 +5,8 @@ use mathlib.Core.Bool.{Bool, true, false}
 use mathlib.Core.List.{List, [], _∷_}
 use mathlib.Core.Option.{none}
 use Prim.Native.Nat.{ℕ, suc, _≤_}
-use Rattle.meaning.specs.Diagram.{Diagram, leaf, same, Reduced}
+use Rattle.meaning.specs.Diagram.{Diagram, leaf, same}
+use Rattle.meaning.specs.Reduced.{Reduced}
 use Rattle.meaning.specs.Operations.{Literal, negation, cofactorLiterals}
 use Rattle.meaning.specs.Rules.{Line, byDiagram, rup, prTurns}
 use Rattle.meaning.proofs.Booleans.{t≢f}

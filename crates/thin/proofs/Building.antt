@@ -8,7 +8,8 @@ use Prim.Native.Nat.{ℕ, zero, suc, _<_}
 use native.Mathlib.Omega.{arith}
 use lib.ListN.{getD}
 use lib.Dec.{eqb}
-use Rattle.meaning.specs.Diagram.{Diagram, Reduced, branch}
+use Rattle.meaning.specs.Diagram.{Diagram, branch}
+use Rattle.meaning.specs.Reduced.{Reduced}
 use Rattle.table.specs.Nodes.{diagramAt}
 use Rattle.table.specs.Indexed.{Table, nodesOf, Good, Outcome}
 use Rattle.table.proofs.Written.{length-nodes, good-ordered}

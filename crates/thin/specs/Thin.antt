@@ -5,7 +5,8 @@ use mathlib.Core.List.{List, [], _∷_}
 use Prim.Native.Nat.{ℕ, zero, suc, _≤_, _<_}
 use lib.ListN.{length, getD}
 use lib.Dec.{eqb}
-use Rattle.meaning.specs.Diagram.{Diagram, Reduced, branch}
+use Rattle.meaning.specs.Diagram.{Diagram, branch}
+use Rattle.meaning.specs.Reduced.{Reduced}
 use Rattle.table.specs.declared.Found.{Found}
 use Rattle.table.specs.declared.Found.the-variants.{At, Nothing}
 use Rattle.table.specs.Nodes.{diagramAt, place}

@@ -19,7 +19,7 @@ use Rattle.table.specs.Indexed.{Table, size, nodesOf, Good}
 use Rattle.table.specs.Lists.{diagramsOf}
 use Rattle.words.specs.declared.Literals as words
 use Rattle.words.specs.Sets as sets
-use Rattle.clausal.specs.Drat.{has, literal}
+use Rattle.clausal.specs.Literals.{has, literal}
 use Rattle.clausal.specs.Tries.{makesTrue, makesFalse}
 use Rattle.operate.specs.declared.Operation.the-variants.{Literals}
 use Rattle.operate.specs.Operate.{result}

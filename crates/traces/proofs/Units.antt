@@ -12,7 +12,7 @@ use Rattle.meaning.specs.Diagram.{Diagram}
 use Rattle.meaning.specs.Operations.{Literal, isUnit}
 use Rattle.meaning.specs.Words.{inWord}
 use Rattle.meaning.proofs.Booleans.{eqb-eq, and-false}
-use Rattle.clausal.specs.Drat.{alike, has, literal}
+use Rattle.clausal.specs.Literals.{alike, has, literal}
 use Rattle.verdict.specs.Cases.{unitsTo}
 use Rattle.traces.specs.Traced.{wordFrom}
 

@@ -6,7 +6,7 @@ use Prim.Native.Nat.{ℕ, zero, suc, _+_, _-_, _*_}
 use lib.ListN.{length}
 use Rattle.meaning.specs.Diagram.{Diagram}
 use Rattle.meaning.specs.Operations.{Literal}
-use Rattle.clausal.specs.Drat.{has}
+use Rattle.clausal.specs.Literals.{has}
 use Rattle.clausal.specs.Tries.{makesTrue, makesFalse}
 use Rattle.meaning.specs.Rules.{unitProp}
 use Rattle.table.specs.Indexed.{Table, size, nodesOf}

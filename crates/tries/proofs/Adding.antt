@@ -8,7 +8,8 @@ use Prim.Native.Nat.{ℕ, suc, _≤_, _<_, max}
 use native.Mathlib.Omega.{arith}
 use lib.ListN.{length, take, set}
 use borrow.Author.Tests.{le-leb, lt-leb}
-use Rattle.meaning.specs.Diagram.{leaf, same, Reduced}
+use Rattle.meaning.specs.Diagram.{leaf, same}
+use Rattle.meaning.specs.Reduced.{Reduced}
 use Rattle.meaning.specs.Operations.{Literal, clause}
 use Rattle.meaning.proofs.Booleans.{t≢f}
 use Rattle.meaning.proofs.Units.{same-eq, eq-same}

@@ -17,7 +17,7 @@ use Rattle.words.specs.declared.Literals.{Literals}
 use Rattle.words.specs.Sets.{literalsOf, withVariable, without as without-word, has as has-word}
 use Rattle.words.proofs.Variables.{in-without}
 use Rattle.words.proofs.LiteralSets.{in-set}
-use Rattle.clausal.specs.Drat.{Clause, literal, negated, alike, has, without}
+use Rattle.clausal.specs.Literals.{Clause, literal, negated, alike, has, without}
 use Rattle.clausal.specs.Tries.{makesTrue, makesFalse, witness}
 use Rattle.clausal.proofs.Literals.{alike-eq, eq-alike, negated-twice, has-here, has-cases, has-there, negations, has-negation}
 use Rattle.clausal.proofs.Literals.{negation-has, has-without, without-has}

@@ -14,8 +14,9 @@ use Rattle.meaning.proofs.Booleans.{t≢f}
 use Rattle.meaning.specs.Literals.{OfVariables}
 use Rattle.table.specs.Making.{lineReach}
 use Rattle.table.specs.Nodes.{Node}
-use Rattle.clausal.specs.Drat.{Clause, Plain, AllPlain, Accepted}
-use Rattle.clausal.specs.Tries.{shownBy}
+use Rattle.clausal.specs.Drat.{Plain, AllPlain, Accepted}
+use Rattle.clausal.specs.Literals.{Clause}
+use Rattle.clausal.specs.Shown.{shownBy}
 use Rattle.clausal.proofs.Literals.{AllOfVariables}
 use Rattle.clausal.proofs.Rest.{plain-not-one}
 use Rattle.clausal.proofs.Tries.{two-tries}

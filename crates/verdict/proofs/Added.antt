@@ -22,7 +22,8 @@ use Rattle.table.specs.Making.{lineReach}
 use Rattle.table.proofs.Growth.{Extends, extends-length, diagramAt-grown}
 use Rattle.table.proofs.Placing.{After, Made, place-after}
 use Rattle.clausal.specs.Tries.{makesTrue, makesFalse, witness}
-use Rattle.clausal.specs.Drat.{Clause, Plain, AllPlain, Accepted}
+use Rattle.clausal.specs.Drat.{Plain, AllPlain, Accepted}
+use Rattle.clausal.specs.Literals.{Clause}
 use Rattle.clausal.proofs.Literals.{has-here, AllOfVariables}
 use Rattle.clausal.proofs.Rest.{not-one-plain}
 use Rattle.clausal.proofs.SecondTry.{pivot-witnessed}

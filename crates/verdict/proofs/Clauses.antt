@@ -7,7 +7,8 @@ use mathlib.Core.List.{List, [], _∷_, _++_, map, append-assoc}
 use Prim.Native.Nat.{ℕ, zero, suc, _+_, _-_, _≤_, _<_}
 use native.Mathlib.Omega.{arith}
 use lib.ListN.{length, length-append, length-replicate}
-use Rattle.meaning.specs.Diagram.{Assignment, holds, Diagram, value, Reduced}
+use Rattle.meaning.specs.Diagram.{Assignment, holds, Diagram, value}
+use Rattle.meaning.specs.Reduced.{Reduced}
 use Rattle.meaning.specs.Operations as meaning
 use Rattle.meaning.proofs.Values.{diagram-reduced, reduced-to}
 use Rattle.meaning.specs.Literals.{OfVariables}

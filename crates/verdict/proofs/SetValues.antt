@@ -7,7 +7,8 @@ use Prim.Native.Nat.{ℕ, zero, suc, _^_, _<_}
 use native.Mathlib.Omega.{arith}
 use lib.ListN.{replicate}
 use lib.Dec.{eqb, leb}
-use Rattle.meaning.specs.Diagram.{Assignment, value, Reduced}
+use Rattle.meaning.specs.Diagram.{Assignment, value}
+use Rattle.meaning.specs.Reduced.{Reduced}
 use Rattle.meaning.specs.Sets.{truesFrom, isOdd, parityValue, parity, atLeastValue, atLeast}
 use Rattle.meaning.specs.Words.{inWord}
 use Rattle.meaning.proofs.Values.{diagram-reduced}

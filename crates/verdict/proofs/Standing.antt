@@ -8,7 +8,8 @@ use Prim.Native.Nat.{ℕ, zero, suc, _+_, _≤_, _<_}
 use native.Mathlib.Omega.{arith}
 use lib.ListN.{length, getD, set, take, length-append, length-set}
 use borrow.Author.Tests.{ltb-true}
-use Rattle.meaning.specs.Diagram.{Assignment, Diagram, value, valueFrom, Reduced, branch}
+use Rattle.meaning.specs.Diagram.{Assignment, Diagram, value, valueFrom, branch}
+use Rattle.meaning.specs.Reduced.{Reduced}
 use Rattle.meaning.proofs.Canonical.{reduced-from, branch-reduced}
 use Rattle.meaning.proofs.Values.{reduced-to, branch-at}
 use Rattle.table.specs.Nodes.{Node, at, diagramAt, placed, put}

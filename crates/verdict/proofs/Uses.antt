@@ -9,7 +9,8 @@ use native.Mathlib.Omega.{arith}
 use native.Mathlib.Decide.{decLt}
 use lib.ListN.{length, List·getD-append}
 use lib.Dec.{eqb, ltb}
-use Rattle.meaning.specs.Diagram.{Diagram, leaf, node, Reduced}
+use Rattle.meaning.specs.Diagram.{Diagram, leaf, node}
+use Rattle.meaning.specs.Reduced.{Reduced}
 use Rattle.meaning.proofs.Canonical.{reduced-from}
 use Rattle.table.specs.Nodes.{Node, nodeOf, blank, Placing, full, placed, find, orAppend, put, andThen, place}
 use Rattle.table.specs.Indexed.{nodesOf, written}

@@ -1,4 +1,4 @@
--- Rows about binary DRAT proofs: what is printed, and the marks that are left. (02, 9/14)
+-- Rows about binary DRAT proofs: what is printed, and the marks that are left. (02, 9/14) No call open to others cites this file.
 use mathlib.Core.List.{List, [] as []ᴸ, _∷_ as _∷ᴸ_}
 use Rattle.verdict.specs.Cases.{Row, coded, prints, A-formula, D-formula}
 

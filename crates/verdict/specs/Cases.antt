@@ -1,5 +1,5 @@
 -- 01's cases A to J as one table, and the examples of its table of numbers as another. (01, The program and its line; What the call says
--- and leaves)
+-- and leaves) No call open to others cites this file.
 use mathlib.Core.Path.{_≡_}
 use mathlib.Core.Bool.{true, false, cond}
 use mathlib.Core.List.{List, [] as []ᴸ, _∷_ as _∷ᴸ_, _++_ as _++ᴸ_}

@@ -10,7 +10,7 @@ use Rattle.meaning.specs.Operations as meaning
 use Rattle.meaning.specs.Rules.{Line, rup, pr}
 use Rattle.table.specs.Nodes.{Placing, full, placed, place}
 use Rattle.table.specs.Making.{lineReach}
-use Rattle.clausal.specs.Drat.{has, without}
+use Rattle.clausal.specs.Literals.{has, without}
 use Rattle.clausal.specs.Tries.{makesTrue, makesFalse, witness}
 use Rattle.verdict.specs.Steps.{State, withEntry, withMarks, Step, next, stop, spent, accepted, judged}
 use Rattle.verdict.specs.Steps.{diagramIn, unstruck, liveMembers, isLive}

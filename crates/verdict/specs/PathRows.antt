@@ -1,4 +1,4 @@
--- Rows about path lines and about the consequence profile: what is printed. (02, 12/14 and 11/14)
+-- Rows about path lines and about the consequence profile: what is printed. (02, 12/14 and 11/14) No call open to others cites this file.
 use mathlib.Core.List.{List, [] as []ᴸ, _∷_ as _∷ᴸ_}
 use Prim.Native.Nat.{ℕ}
 use Prim.Native.String.{String}

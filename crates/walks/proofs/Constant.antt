@@ -7,7 +7,8 @@ use mathlib.Core.List.{List}
 use Prim.Native.Nat.{ℕ, _≤_, _<_}
 use native.Mathlib.Omega.{arith}
 use lib.ListN.{length, getD, set}
-use Rattle.meaning.specs.Diagram.{Diagram, leaf, node, same?, same, branch, Reduced}
+use Rattle.meaning.specs.Diagram.{Diagram, leaf, node, same?, same, branch}
+use Rattle.meaning.specs.Reduced.{Reduced}
 use Rattle.meaning.specs.Operations.{cofactorLiterals}
 use Rattle.meaning.specs.Words.{inWord}
 use Rattle.meaning.proofs.Booleans.{t≢f, not-true, and-same}

@@ -8,7 +8,8 @@ use native.Mathlib.Omega.{arith}
 use lib.ListN.{length}
 use lib.Dec.{eqb}
 use borrow.Author.Tests.{eqb-false}
-use Rattle.meaning.specs.Diagram.{Assignment, Diagram, leaf, same, Reduced}
+use Rattle.meaning.specs.Diagram.{Assignment, Diagram, leaf, same}
+use Rattle.meaning.specs.Reduced.{Reduced}
 use Rattle.meaning.specs.Rules.{witnessed}
 use Rattle.meaning.specs.Words.{inWord, assignmentOf}
 use Rattle.meaning.proofs.Booleans.{t≢f, not-true, or-left, or-right, eqb-eq, eq-eqb}

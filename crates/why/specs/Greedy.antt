@@ -4,7 +4,8 @@ use mathlib.Core.Bool.{Bool, true, false, _||_, cond}
 use mathlib.Core.List.{List}
 use Prim.Native.Nat.{ℕ, suc, _≤_, _<_}
 use lib.Dec.{eqb}
-use Rattle.meaning.specs.Diagram.{Diagram, Reduced}
+use Rattle.meaning.specs.Diagram.{Diagram}
+use Rattle.meaning.specs.Reduced.{Reduced}
 use Rattle.meaning.specs.Rules.{witnessed}
 use Rattle.meaning.specs.Words.{inWord}
 use Rattle.words.specs.declared.Literals.{Literals}
