@@ -8,7 +8,7 @@ ghost use lib.ListN.{length};
 ghost use Rattle.table.specs.Nodes.{diagramAt};
 ghost use Rattle.walks.specs.Readable.{Readable, Roomy, nodesIn};
 ghost use Rattle.table.specs.Lists.{Inside};
-ghost use Rattle.supports.specs.Supports.{Supports, WordOf, WordMemo, SupportMemo, withForced, withNode};
+ghost use Rattle.supports.specs.Supports.{Support, Supports, WordOf, WordMemo, SupportMemo, withForced, withNode};
 
 // The word with a node's variable v where one of the node's children is 0.
 fn with_forced(word: u64, v: u8, low: NodeNo, high: NodeNo) -> u64
@@ -63,6 +63,23 @@ fn word_from(
     let word = with_node(a | b, v, low, high, all);
     memo[i] = word;
     word
+}
+
+// All variables of a node, by the same traversal.
+pub fn support_from(
+    vars: &[u8],
+    lows: &[u16],
+    highs: &[u16],
+    memo: &mut [u64],
+    count: usize,
+    f: NodeNo,
+) -> u64
+    requires { ⌜ Readable (now vars) (now lows) (now highs) count × (f .0 < count) × Roomy (now vars) (now memo) ⌝ }
+    requires { ⌜ SupportMemo (now memo) (nodesIn (now vars) (now lows) (now highs) count) ⌝ }
+    ensures { λ r. ⌜ Support r (diagramAt (nodesIn (now (vars .entry)) (now (lows .entry)) (now (highs .entry)) count) (f .0)) ⌝ }
+    ensures { λ _. ⌜ SupportMemo (now (memo .exit)) (nodesIn (now (vars .entry)) (now (lows .entry)) (now (highs .entry)) count) ⌝ }
+{
+    word_from(vars, lows, highs, memo, count, f, true)
 }
 
 // Fills the memo with the words of all nodes, each from those of its children, which stand before it.
