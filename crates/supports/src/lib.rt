@@ -45,7 +45,9 @@ fn word_from(
     requires { ⌜ Readable (now vars) (now lows) (now highs) count × (f .0 < count) × Roomy (now vars) (now memo) ⌝ }
     requires { ⌜ WordMemo (WordOf all) (now memo) (nodesIn (now vars) (now lows) (now highs) count) ⌝ }
     ensures { λ r. ⌜ WordOf all r (diagramAt (nodesIn (now (vars .entry)) (now (lows .entry)) (now (highs .entry)) count) (f .0)) ⌝ }
-    ensures { λ _. ⌜ WordMemo (WordOf all) (now (memo .exit)) (nodesIn (now (vars .entry)) (now (lows .entry)) (now (highs .entry)) count) ⌝ }
+    ensures { λ _. ⌜ (
+        let nodes = nodesIn (now (vars .entry)) (now (lows .entry)) (now (highs .entry)) count in
+        WordMemo (WordOf all) (now (memo .exit)) nodes) ⌝ }
 {
     if f.0 < 2 {
         return 0;
