@@ -38,10 +38,10 @@ use Rattle.shares.proofs.Sane.{starts}
 use Rattle.shares.proofs.Rooms.{own-in, never-full}
 use Rattle.alone.specs.Copies.{Shareable}
 use Rattle.book_parts.specs.Gives.{GiveReady, Gives}
-use Rattle.book_judge.specs.declared.Said.{Said}
-use Rattle.book_judge.specs.Says.{listsMade, saidOutcome, saidBy, unfitSaid, FirstReady}
-use Rattle.book_judge.proofs.Tests.{Tested, holding-tested}
-use Rattle.book_judge.proofs.Ending.{made-is}
+use Rattle.book_line.specs.declared.Said.{Said}
+use Rattle.book_line.specs.Says.{listsMade, saidOutcome, saidBy, unfitSaid, FirstReady}
+use Rattle.book_line.proofs.Tests.{Tested, holding-tested}
+use Rattle.book_line.proofs.Ending.{made-is}
 
 take-whole : {A : Type 0} (xs : List A) → take (length xs) xs ≡ xs
 take-whole [] = refl

@@ -26,9 +26,9 @@ use Rattle.shares.specs.Books.{Holding, BookLists, BookOutcome, padded, members
 use Rattle.shares.proofs.Desks.{padded-length}
 use Rattle.alone.specs.Copies.{Known, Copyable, Adopts, FoundAll, FoundBy}
 use Rattle.book_parts.proofs.Lasting.{found-members}
-use Rattle.book_judge.specs.declared.Said.{Said}
-use Rattle.book_judge.specs.Says.{saidOutcome, unfitSaid, Remade, Prepared}
-use Rattle.book_judge.proofs.Tests.{Tested, holding-tested}
+use Rattle.book_line.specs.declared.Said.{Said}
+use Rattle.book_line.specs.Says.{saidOutcome, unfitSaid, Remade, Prepared}
+use Rattle.book_line.proofs.Tests.{Tested, holding-tested}
 
 -- ---- lists with zeros above
 

@@ -25,9 +25,9 @@ use Rattle.shares.specs.Shares.{sharing}
 use Rattle.shares.specs.Alone.{Alone, Result, places, stateOf, repeated, laterCall, byStage, aloneCall}
 use Rattle.shares.specs.Books.{Holding, Called, BookLists, BookOutcome, allLess, holding, aloneOf, unfit, sharedAfter, refusedAfter, isAccepted, judged, charged, bookLeaves}
 use Rattle.book_parts.proofs.Lasting.{FirstState, first-held}
-use Rattle.book_judge.specs.declared.Said.{Said}
-use Rattle.book_judge.specs.Says.{saidOutcome, saidBy, unfitSaid, firstState, LineReady, Remade, ownNodes}
-use Rattle.book_judge.proofs.Tests.{Tested, holding-tested}
+use Rattle.book_line.specs.declared.Said.{Said}
+use Rattle.book_line.specs.Says.{saidOutcome, saidBy, unfitSaid, firstState, LineReady, Remade, ownNodes}
+use Rattle.book_line.proofs.Tests.{Tested, holding-tested}
 
 module _ (T : Table) (l : BookLists) (b : Book) (lent : Lent) (owncount : ℕ) (M : Remade T l b lent owncount) where
   abbrev h : Holding

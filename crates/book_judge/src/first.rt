@@ -1,5 +1,5 @@
 // A book's first call: its formula read into its own table, then shared or refused.
-use crate::Said;
+use book_line::Said;
 use book_parts::first::First;
 use shares::Book;
 ghost use mathlib.Core.Path.{_≡_};
@@ -10,13 +10,13 @@ ghost use Rattle.table.specs.Making.{all};
 ghost use Rattle.verdict.specs.Steps.{emptied};
 ghost use Rattle.shares.specs.Alone.{bookRead, bookUnread};
 ghost use Rattle.shares.specs.Books.{charged, holding, bookLeaves};
-ghost use Rattle.book_judge.specs.Says.{listsMade, saidOutcome, FirstReady};
+ghost use Rattle.book_line.specs.Says.{listsMade, saidOutcome, FirstReady};
 
 // The book that a formula leaves.
 fn read(share: usize, variables: u8, clauses: usize, count: usize) -> Book
     ensures { λ r. ⌜ r ≡ bookRead share variables clauses count count ⌝ }
 {
-    let charge = crate::back::less_constants(count);
+    let charge = book_line::back::less_constants(count);
     Book {
         share,
         stage: shares::Stage::Lines,
@@ -42,7 +42,7 @@ fn unread(share: usize, number: u8, place: usize, peak: usize) -> Book
         lines: 0,
         rounds: 0,
         charge: 0,
-        peak: crate::back::less_constants(peak),
+        peak: book_line::back::less_constants(peak),
         refuted: false,
     }
 }
@@ -81,7 +81,7 @@ pub fn judge_first(
         (charged 64 (size T) (nodesOf T) (holding b l) (now (bytes .entry)) (all emptied))) ⌝ }
 {
     if vars.len() - count < b.share {
-        return crate::back::unfit(count, b);
+        return book_line::back::unfit(count, b);
     }
     clearing::clear_numbers(scratch);
     match book_parts::first::read_formula(ownvars, ownlows, ownhighs, ownheads, ownlinks, found, bytes) {
@@ -90,8 +90,8 @@ pub fn judge_first(
             place,
             peak,
         } => {
-            crate::back::keep(own, members, struck, strikes, 0, 0);
-            crate::back::said_by(number, place, count, unread(b.share, number, place, peak))
+            book_line::back::keep(own, members, struck, strikes, 0, 0);
+            book_line::back::said_by(number, place, count, unread(b.share, number, place, peak))
         }
         First::Made {
             variables,
@@ -116,7 +116,7 @@ pub fn judge_first(
                 made,
                 count,
             );
-            crate::back::said_by(
+            book_line::back::said_by(
                 35,
                 bytes.len(),
                 after,

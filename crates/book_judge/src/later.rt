@@ -1,5 +1,5 @@
 // A book's later call: its own table made again, the test of free places, and the call by its stage.
-use crate::Said;
+use book_line::Said;
 use alone::Adopted;
 use shares::Book;
 use shares::Stage;
@@ -18,7 +18,7 @@ ghost use Rattle.shares.specs.Shares.{alone};
 ghost use Rattle.shares.specs.Alone.{places};
 ghost use Rattle.shares.specs.Books.{padded, charged, holding, bookLeaves};
 ghost use Rattle.alone.specs.Copies.{Copyable, Adopts, FoundBy};
-ghost use Rattle.book_judge.specs.Says.{listsMade, saidOutcome, Remade, Prepared};
+ghost use Rattle.book_line.specs.Says.{listsMade, saidOutcome, Remade, Prepared};
 
 // The book's own nodes and members copied from the shared table, and its members' marks.
 pub fn remake(
@@ -109,15 +109,15 @@ pub fn judge_remade(
         (charged 64 (size T) (nodesOf T) (holding b l) (now (bytes .entry)) (all (nodesOf (tableIn lent owncount))))) ⌝ }
 {
     if vars.len() - count < b.share + 2 - owncount {
-        return crate::back::unfit(count, b);
+        return book_line::back::unfit(count, b);
     }
     let stage = b.stage;
     match stage {
-        Stage::Formula => crate::back::unfit(count, b),
-        Stage::Bound { number, place } => crate::back::said_by(number, place, count, b),
+        Stage::Formula => book_line::back::unfit(count, b),
+        Stage::Bound { number, place } => book_line::back::said_by(number, place, count, b),
         Stage::Lines => {
-            let first = crate::back::first_state(b, owncount);
-            let said = crate::line::run_line(
+            let first = book_line::back::first_state(b, owncount);
+            let said = book_line::line::run_line(
                 ownvars,
                 ownlows,
                 ownhighs,
@@ -204,7 +204,7 @@ pub fn judge_later(
         b.clauses + b.lines,
     );
     if a.full {
-        return crate::back::unfit(count, b);
+        return book_line::back::unfit(count, b);
     }
     judge_remade(
         ownvars,

@@ -4,7 +4,7 @@ use native.Mathlib.Omega.{arith}
 use Rattle.table.specs.Indexed.{Table, tableOf}
 use Rattle.shares.specs.Books.{BookLists}
 use Rattle.book_parts.specs.Firsts.{verdictBy, ReadBy}
-use Rattle.book_judge.specs.Says.{listsMade}
+use Rattle.book_line.specs.Says.{listsMade}
 use Rattle.book_judge.proofs.Formulas.{first-unfit, formula-unread, first-shareable, first-give-ready, formula-read}
 use borrow.Author.Needs.{needs}
 use Rattle.book_judge.proofs.first.judge_first.Statement.{statement}

@@ -5,7 +5,7 @@ use Rattle.table.specs.Indexed.{Table, tableOf}
 use Rattle.conflict.specs.Marks.{unmarked}
 use Rattle.state.specs.States.{Lent, lentOf}
 use Rattle.shares.specs.Books.{BookLists}
-use Rattle.book_judge.specs.Says.{listsMade}
+use Rattle.book_line.specs.Says.{listsMade}
 use Rattle.book_judge.proofs.Preparing.{few, passed, copyable, short-is, all-is, remade}
 use borrow.Author.Needs.{needs}
 use Rattle.book_judge.proofs.later.judge_later.Statement.{statement}

@@ -5,7 +5,7 @@ use Rattle.table.specs.Indexed.{Table, tableOf}
 use Rattle.verdict.specs.Check.{zeros}
 use Rattle.state.specs.States.{Lent, lentOf, Held}
 use Rattle.shares.specs.Books.{BookLists}
-use Rattle.book_judge.specs.Says.{listsMade, LineReady}
+use Rattle.book_line.specs.Says.{listsMade, LineReady}
 use Rattle.book_judge.proofs.Remaking.{passed, held, line-ready, unfit-is, bound-is, line-ran}
 use borrow.Author.Needs.{needs}
 use Rattle.book_judge.proofs.later.judge_remade.Statement.{statement}
