@@ -5,12 +5,16 @@ use mathlib.Core.List.{List}
 use Prim.Native.Nat.{ℕ, _+_, _≤_}
 use native.Mathlib.Omega.{arith}
 use lib.ListN.{length, take}
+use lib.Dec.{leb}
+use borrow.Author.Tests.{leb-true}
+use Rattle.meaning.proofs.Booleans.{and-both}
 use Rattle.table.specs.Index.{goodOrder}
 use Rattle.table.specs.Columns.{rows, sizeFits, Columns, columnsMade}
 use Rattle.table.specs.Indexed.{Table, tableOf, size, nodesOf}
 use Rattle.table.proofs.Written.{length-nodes}
 use Rattle.table.proofs.InOrder.{lent-good}
 use Rattle.shares.specs.declared.Book.{Book}
+use Rattle.shares.specs.Alone.{places}
 use Rattle.shares.specs.Books.{BookLists, BookOutcome, allLess, numbersFit, holdingFits, holding, ownTable, bookFits, charged, bookCall, bookLeaves, bookOutcomeAt, bookOutcome}
 use Rattle.book_open.proofs.Sizes.{ListsFit, lists-fit}
 use Rattle.book_line.specs.declared.Said.{Said}
@@ -19,6 +23,19 @@ use Rattle.book_line.proofs.Tests as judge
 use Rattle.book_call.specs.Calls.{CallReady}
 
 -- ---- numbers, members and marks
+
+pub few-members : (size : ℕ) (b : Book) → numbersFit size b ≡ true → b .clauses + b .lines ≤ 2048
+unfolding numbersFit
+few-members size b e =
+    let w = and-both (leb (places b) size && (leb (b .variables) 64 && leb (b .clauses) 1024))
+    ((leb (b .lines) 1024 && leb (b .rounds) 268435456) && (leb (b .charge) (b .share) && leb (b .peak) (b .share))) e in
+    let x = and-both (leb (places b) size) (leb (b .variables) 64 && leb (b .clauses) 1024) (w .0) in
+    let y = and-both (leb (b .variables) 64) (leb (b .clauses) 1024) (x .1) in
+    let z = and-both (leb (b .lines) 1024 && leb (b .rounds) 268435456) (leb (b .charge) (b .share) && leb (b .peak) (b .share)) (w .1) in
+    let u = and-both (leb (b .lines) 1024) (leb (b .rounds) 268435456) (z .0) in
+    let p : b .clauses ≤ 1024 = leb-true (b .clauses) 1024 (y .1) in
+    let q : b .lines ≤ 1024 = leb-true (b .lines) 1024 (u .0) in
+    omega arith
 
 module _ (size count : ℕ) (b : Book) (l : BookLists) where
   pub numbers-beyond : numbersFit size b ≡ false → false ≡ holdingFits size count (holding b l)

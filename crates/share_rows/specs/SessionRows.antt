@@ -240,6 +240,13 @@ abbrev pub Limits : List Limit → Type 0
 Limits []ᴸ = Unit {0}
 Limits (x ∷ᴸ xs) = (bookCall 4 (x .size) three (x .held) end .answer .number ≡ x .number) × Limits xs
 
+-- Node 2 alone, and one mark 0.
+abbrev one : List ℕ
+one = 2 ∷ᴸ []ᴸ
+
+abbrev none : List ℕ
+none = 0 ∷ᴸ []ᴸ
+
 -- "one of its members not below the count or with a mark above 1, kept variables, clauses, lines or rounds above 64, 1,024, 1,024 or
 -- 268,435,456, a kept charge or peak above its share, or fewer free places than its share less its charge"
 abbrev pub limits : List Limit
@@ -265,12 +272,6 @@ limits =
     ∷ᴸ at 6 (holds (kept 1 1 0 0 1 1) one none one) 26
     ∷ᴸ at 6 (holds (kept 1 1 0 0 2 2) one none (2 ∷ᴸ 3 ∷ᴸ []ᴸ)) 20
     ∷ᴸ []ᴸ
-  where
-    abbrev one : List ℕ
-    one = 2 ∷ᴸ []ᴸ
-
-    abbrev none : List ℕ
-    none = 0 ∷ᴸ []ᴸ
 
 -- ---- openings
 
