@@ -26,7 +26,7 @@ WORDS = {
     "sets": "parity, at least", "binomial": "C(n, k), stored",
     "clearing": "lists made all zero", "columns": "nodes to columns, back",
     "shares": "two books, defined", "share_rows": "sessions computed", "alone": "a book's own table", "book_parts": "a book's call, in parts",
-    "book_open": "opened for two books", "book_line": "a line's call", "book_judge": "first and later calls", "book_call": "a book's call",
+    "book_open": "opened for two books", "book_line": "a line's call", "book_judge": "first and later calls", "book_sizes": "working arrays", "book_call": "a book's call",
     "books_export": "two books, for C, Rust",
     "clausal": "RUP, RAT on clauses", "commands": "what stands next", "convert": "DRAT, text and binary", "tries": "a clause's step",
 }

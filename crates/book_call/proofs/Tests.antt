@@ -1,5 +1,5 @@
 -- What the tests of a book's call come to: 7, 26, and what is known once they are passed. Assumes nothing.
-use mathlib.Core.Path.{_≡_, refl, sym, ap, _∙_, subst}
+use mathlib.Core.Path.{_≡_, sym, ap, _∙_}
 use mathlib.Core.Bool.{Bool, true, false, _&&_}
 use mathlib.Core.List.{List}
 use Prim.Native.Nat.{ℕ, _+_, _≤_}
@@ -9,18 +9,19 @@ use lib.Dec.{leb}
 use borrow.Author.Tests.{leb-true}
 use Rattle.meaning.proofs.Booleans.{and-both}
 use Rattle.table.specs.Index.{goodOrder}
-use Rattle.table.specs.Columns.{rows, sizeFits, Columns, columnsMade}
+use Rattle.table.specs.Columns.{rows, Columns, columnsMade}
 use Rattle.table.specs.Indexed.{Table, tableOf, size, nodesOf}
 use Rattle.table.proofs.Written.{length-nodes}
 use Rattle.table.proofs.InOrder.{lent-good}
 use Rattle.shares.specs.declared.Book.{Book}
 use Rattle.shares.specs.Alone.{places}
-use Rattle.shares.specs.Books.{BookLists, BookOutcome, allLess, numbersFit, holdingFits, holding, ownTable, bookFits, charged, bookCall, bookLeaves, bookOutcomeAt, bookOutcome}
-use Rattle.book_open.proofs.Sizes.{ListsFit, lists-fit}
+use Rattle.shares.specs.Books.{BookLists, BookOutcome, allLess, numbersFit, holdingFits, holding, ownTable, bookFits, charged, bookCall}
+use Rattle.shares.specs.Books.{bookLeaves, bookOutcomeAt, bookOutcome}
+use Rattle.book_open.proofs.Sizes.{lists-fit}
 use Rattle.book_line.specs.declared.Said.{Said}
 use Rattle.book_line.specs.Says.{saidOutcome, unfitSaid}
 use Rattle.book_line.proofs.Tests as judge
-use Rattle.book_call.specs.Calls.{CallReady}
+use Rattle.book_sizes.specs.Calls.{CallReady}
 
 -- ---- numbers, members and marks
 
@@ -87,7 +88,7 @@ module _ (vs ls hs ds ks : List ℕ) (count : ℕ) (l : BookLists) (scratch : Li
       unfolding bookCall
       outcome-unfit h r q =
           let g : holdingFits (length vs) (length (nodesOf T)) (holding b l) ≡ false =
-              ap (λ (n : ℕ). holdingFits (length vs) n (holding b l)) nodes-count ∙ h in
+          ap (λ (n : ℕ). holdingFits (length vs) n (holding b l)) nodes-count ∙ h in
           ap (saidOutcome c l scratch) q ∙ sym (called ∙ rw g)
 
       module _ (h : holdingFits (length vs) count (holding b l) ≡ true) where
@@ -95,7 +96,8 @@ module _ (vs ls hs ds ks : List ℕ) (count : ℕ) (l : BookLists) (scratch : Li
         holding-in = ap (λ (n : ℕ). holdingFits (length vs) n (holding b l)) nodes-count ∙ h
 
         pub outcome-done : (o : BookOutcome)
-            → o ≡ bookLeaves c count l scratch b (charged 64 (length vs) (nodesOf T) (holding b l) bytes (ownTable (b .stage) (nodesOf T) (holding b l)))
+            → o ≡ bookLeaves c count l scratch b
+            (charged 64 (length vs) (nodesOf T) (holding b l) bytes (ownTable (b .stage) (nodesOf T) (holding b l)))
             → o ≡ bookOutcome c count l scratch b bytes
         unfolding bookCall
         outcome-done o q =

@@ -8,11 +8,15 @@ ghost use Rattle.table.specs.Columns.{columnsMade};
 ghost use Rattle.shares.specs.Books.{holdingFits, holding, bookOutcome};
 ghost use Rattle.book_line.specs.Says.{listsMade, saidOutcome};
 
-mod sizes;
-mod stage;
-
 // Whether the book's numbers, members and marks are within their limits.
-fn holding_fits(members: &[u16], struck: &[u8], own: &[u16], size: usize, count: usize, b: Book) -> bool
+fn holding_fits(
+    members: &[u16],
+    struck: &[u8],
+    own: &[u16],
+    size: usize,
+    count: usize,
+    b: Book,
+) -> bool
     requires { ⌜ (2 ≤ size) × (2048 ≤ length (now members)) × (length (now struck) ≡ length (now members)) ⌝ }
     ensures { λ r. ⌜ r ≡ holdingFits size count (holding b (listsMade (now (members .entry)) (now (struck .entry)) (now (own .entry)))) ⌝ }
 {
@@ -44,7 +48,17 @@ pub fn call(
         saidOutcome left (listsMade (now (members .exit)) (now (struck .exit)) (now (own .exit))) (now (scratch .exit)) r
         ≡ bookOutcome c count l (now (scratch .entry)) b (now (bytes .entry))) ⌝ }
 {
-    if !book_open::book_fits(vars, lows, highs, heads, links, own, members, struck, scratch) {
+    if !book_open::book_fits(
+        vars,
+        lows,
+        highs,
+        heads,
+        links,
+        own,
+        members,
+        struck,
+        scratch,
+    ) {
         return Said {
             number: 7,
             place: 0,
@@ -62,10 +76,49 @@ pub fn call(
         return book_line::back::unfit(count, b);
     }
     if vars.len() <= 64 {
-        return sizes::call_64(vars, lows, highs, heads, links, own, members, struck, scratch, count, b, bytes);
+        return book_sizes::sizes::call_64(
+            vars,
+            lows,
+            highs,
+            heads,
+            links,
+            own,
+            members,
+            struck,
+            scratch,
+            count,
+            b,
+            bytes,
+        );
     }
     if vars.len() <= 4096 {
-        return sizes::call_4096(vars, lows, highs, heads, links, own, members, struck, scratch, count, b, bytes);
+        return book_sizes::sizes::call_4096(
+            vars,
+            lows,
+            highs,
+            heads,
+            links,
+            own,
+            members,
+            struck,
+            scratch,
+            count,
+            b,
+            bytes,
+        );
     }
-    sizes::call_65536(vars, lows, highs, heads, links, own, members, struck, scratch, count, b, bytes)
+    book_sizes::sizes::call_65536(
+        vars,
+        lows,
+        highs,
+        heads,
+        links,
+        own,
+        members,
+        struck,
+        scratch,
+        count,
+        b,
+        bytes,
+    )
 }

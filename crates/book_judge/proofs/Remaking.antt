@@ -1,17 +1,16 @@
 -- A later call once the own table is made again: the state before the first record, and the call by the free places and the stage.
 -- Assumes nothing.
-use mathlib.Core.Path.{_≡_, refl, sym, ap, ap₂, _∙_, subst}
-use mathlib.Core.Bool.{Bool, true, false, cond}
-use mathlib.Core.List.{List, [], _++_}
+use mathlib.Core.Path.{_≡_, refl, sym, ap, ap₂, _∙_}
+use mathlib.Core.Bool.{Bool, cond}
+use mathlib.Core.List.{List, []}
 use Prim.Native.Nat.{ℕ, _+_, _-_, _≤_, _<_, max}
 use native.Mathlib.Omega.{arith}
-use lib.ListN.{length, getD, take, drop}
-use lib.Dec.{ltb}
+use lib.ListN.{length, drop}
 use borrow.Author.Tests.{lt-ltb, le-ltb}
 use Rattle.table.specs.Nodes.{Node}
 use Rattle.table.specs.Columns.{Columns}
 use Rattle.table.specs.Making.{all}
-use Rattle.table.specs.Indexed.{Table, size, nodesOf, listsOf, Good}
+use Rattle.table.specs.Indexed.{Table, size, nodesOf, listsOf}
 use Rattle.table.proofs.Written.{length-nodes}
 use Rattle.verdict.specs.Steps as check
 use Rattle.verdict.specs.Check.{zeros}
@@ -23,8 +22,9 @@ use Rattle.shares.specs.declared.Stage.the-variants.{Lines, Bound}
 use Rattle.shares.specs.declared.Book.{Book}
 use Rattle.shares.specs.Shares.{sharing}
 use Rattle.shares.specs.Alone.{Alone, Result, places, stateOf, repeated, laterCall, byStage, aloneCall}
-use Rattle.shares.specs.Books.{Holding, Called, BookLists, BookOutcome, allLess, holding, aloneOf, unfit, sharedAfter, refusedAfter, isAccepted, judged, charged, bookLeaves}
-use Rattle.book_parts.proofs.Lasting.{FirstState, first-held}
+use Rattle.shares.specs.Books.{Holding, Called, BookLists, BookOutcome, holding, aloneOf, unfit, sharedAfter, refusedAfter, isAccepted}
+use Rattle.shares.specs.Books.{judged, charged, bookLeaves}
+use Rattle.book_parts.proofs.Lasting.{first-held}
 use Rattle.book_line.specs.declared.Said.{Said}
 use Rattle.book_line.specs.Says.{saidOutcome, saidBy, unfitSaid, firstState, LineReady, Remade, ownNodes}
 use Rattle.book_line.proofs.Tests.{Tested, holding-tested}
@@ -106,32 +106,45 @@ module _ (T : Table) (l : BookLists) (b : Book) (lent : Lent) (owncount : ℕ) (
     abbrev Leaves : BookOutcome → Type 0
     Leaves o = o ≡ bookLeaves (listsOf T) (T .count) l scratch b (charged 64 (size T) (nodesOf T) h bytes (all t))
 
-    pub unfit-is : size T - T .count < places b - owncount → (r : Said) → r ≡ unfitSaid (T .count) b → Leaves (saidOutcome (listsOf T) l scratch r)
+    pub unfit-is : size T - T .count < places b - owncount → (r : Said) → r ≡ unfitSaid (T .count) b →
+        Leaves (saidOutcome (listsOf T) l scratch r)
     unfit-is less r er =
         ap (saidOutcome (listsOf T) l scratch) er
-        ∙ sym (ap (λ (x : Bool). bookLeaves (listsOf T) (T .count) l scratch b (cond x (unfit (nodesOf T) h) done)) (lt-ltb (size T - length (nodesOf T)) (places b - length t) (omega (arith, less, len, shared-len))))
+        ∙ sym (ap (λ (x : Bool). bookLeaves (listsOf T) (T .count) l scratch b (cond x (unfit (nodesOf T) h) done))
+        (lt-ltb (size T - length (nodesOf T)) (places b - length t) (omega (arith, less, len, shared-len))))
 
     module _ (enough : places b - owncount ≤ size T - T .count) where
       goes-on : (o : BookOutcome) → o ≡ bookLeaves (listsOf T) (T .count) l scratch b done → Leaves o
       goes-on o e =
-          e ∙ sym (ap (λ (x : Bool). bookLeaves (listsOf T) (T .count) l scratch b (cond x (unfit (nodesOf T) h) done)) (le-ltb (size T - length (nodesOf T)) (places b - length t) (omega (arith, enough, len, shared-len))))
+          e ∙ sym (ap (λ (x : Bool). bookLeaves (listsOf T) (T .count) l scratch b (cond x (unfit (nodesOf T) h) done))
+          (le-ltb (size T - length (nodesOf T)) (places b - length t) (omega (arith, enough, len, shared-len))))
 
       by-stage : (s : Stage) → b .stage ≡ s → aloneCall 64 a bytes ≡ byStage 64 s a bytes
       unfolding aloneCall
       by-stage s e = ap (λ (s : Stage). byStage 64 s a bytes) e
 
-      pub line-is : b .stage ≡ Lines → (o : BookOutcome) → o ≡ bookLeaves (listsOf T) (T .count) l scratch b (judged (size T) (nodesOf T) h (laterCall 64 a bytes)) → Leaves o
-      line-is stage o e = goes-on o (e ∙ sym (ap (λ (r : Result). bookLeaves (listsOf T) (T .count) l scratch b (judged (size T) (nodesOf T) h r)) (by-stage Lines stage)))
+      pub line-is : b .stage ≡ Lines → (o : BookOutcome) → o ≡ bookLeaves (listsOf T) (T .count) l scratch b
+          (judged (size T) (nodesOf T) h (laterCall 64 a bytes)) → Leaves o
+      line-is stage o e = goes-on o (e ∙ sym (ap
+          (λ (r : Result). bookLeaves (listsOf T) (T .count) l scratch b (judged (size T) (nodesOf T) h r)) (by-stage Lines stage)))
 
-      pub line-ran : b .stage ≡ Lines → (first : State) → first ≡ firstState b owncount → (d : Columns) (l′ : BookLists) (r : Said) (left : List ℕ) → left ≡ zeros (length scratch)
-          → saidOutcome d l′ (zeros (length scratch)) r ≡ bookLeaves (listsOf T) (T .count) l scratch b (judged (size T) (nodesOf T) h (laterCall 64 (aloneOf (nodesOf T) h (ownNodes lent first)) bytes)) → Leaves (saidOutcome d l′ left r)
+      pub line-ran : b .stage ≡ Lines → (first : State) → first ≡ firstState b owncount →
+          (d : Columns) (l′ : BookLists) (r : Said) (left : List ℕ) → left ≡ zeros (length scratch)
+          → saidOutcome d l′ (zeros (length scratch)) r ≡ bookLeaves (listsOf T) (T .count) l scratch b
+          (judged (size T) (nodesOf T) h (laterCall 64 (aloneOf (nodesOf T) h (ownNodes lent first)) bytes)) →
+          Leaves (saidOutcome d l′ left r)
       line-ran stage first ef d l′ r left es e =
           line-is stage (saidOutcome d l′ left r) (ap (λ (xs : List ℕ). saidOutcome d l′ xs r) es ∙ e
-          ∙ ap (λ (st : State). bookLeaves (listsOf T) (T .count) l scratch b (judged (size T) (nodesOf T) h (laterCall 64 (aloneOf (nodesOf T) h (ownNodes lent st)) bytes))) ef)
+          ∙ ap (λ (st : State). bookLeaves (listsOf T) (T .count) l scratch b
+          (judged (size T) (nodesOf T) h (laterCall 64 (aloneOf (nodesOf T) h (ownNodes lent st)) bytes))) ef)
 
-      pub bound-is : (number place : ℕ) → b .stage ≡ Bound number place → (r : Said) → r ≡ saidBy number place (T .count) b → Leaves (saidOutcome (listsOf T) l scratch r)
+      pub bound-is : (number place : ℕ) → b .stage ≡ Bound number place → (r : Said) → r ≡ saidBy number place (T .count) b →
+          Leaves (saidOutcome (listsOf T) l scratch r)
       bound-is number place stage r er =
           let x : Result = repeated number place a in
           goes-on (saidOutcome (listsOf T) l scratch r) (ap (saidOutcome (listsOf T) l scratch) er
-          ∙ sym (ap (λ (r : Result). bookLeaves (listsOf T) (T .count) l scratch b (judged (size T) (nodesOf T) h r)) (by-stage (Bound number place) stage)
-          ∙ ap (λ (s : Stage). bookLeaves (listsOf T) (T .count) l scratch b (cond (isAccepted s (x .answer)) (sharedAfter (nodesOf T) h x (sharing (size T) (nodesOf T) [] (drop 2 (x .after .nodes)))) (refusedAfter s (nodesOf T) h x))) stage))
+          ∙ sym (ap (λ (r : Result). bookLeaves (listsOf T) (T .count) l scratch b (judged (size T) (nodesOf T) h r))
+          (by-stage (Bound number place) stage)
+          ∙ ap (λ (s : Stage). bookLeaves (listsOf T) (T .count) l scratch b
+          (cond (isAccepted s (x .answer)) (sharedAfter (nodesOf T) h x (sharing (size T) (nodesOf T) [] (drop 2 (x .after .nodes))))
+          (refusedAfter s (nodesOf T) h x))) stage))

@@ -3,7 +3,6 @@ use book_line::Said;
 use book_parts::first::First;
 use shares::Book;
 ghost use mathlib.Core.Path.{_≡_};
-ghost use lib.ListN.{length};
 ghost use Rattle.table.specs.Columns.{columnsMade};
 ghost use Rattle.table.specs.Indexed.{tableOf, nodesOf, size};
 ghost use Rattle.table.specs.Making.{all};
@@ -69,7 +68,8 @@ pub fn judge_first(
     b: Book,
     bytes: &[u8],
 ) -> Said
-    requires { ⌜ FirstReady (tableOf (now vars) (now lows) (now highs) (now heads) (now links) count) (listsMade (now members) (now struck) (now own)) b
+    requires { ⌜ FirstReady (tableOf (now vars) (now lows) (now highs) (now heads) (now links) count)
+        (listsMade (now members) (now struck) (now own)) b
         (tableOf (now ownvars) (now ownlows) (now ownhighs) (now ownheads) (now ownlinks) 2) (now found) (now strikes) ⌝ }
     ensures { λ r. ⌜ (
         let c = columnsMade (now (vars .entry)) (now (lows .entry)) (now (highs .entry)) (now (heads .entry)) (now (links .entry)) in
@@ -84,7 +84,15 @@ pub fn judge_first(
         return book_line::back::unfit(count, b);
     }
     clearing::clear_numbers(scratch);
-    match book_parts::first::read_formula(ownvars, ownlows, ownhighs, ownheads, ownlinks, found, bytes) {
+    match book_parts::first::read_formula(
+        ownvars,
+        ownlows,
+        ownhighs,
+        ownheads,
+        ownlinks,
+        found,
+        bytes,
+    ) {
         First::Refused {
             number,
             place,

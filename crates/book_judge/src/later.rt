@@ -1,6 +1,6 @@
 // A book's later call: its own table made again, the test of free places, and the call by its stage.
-use book_line::Said;
 use alone::Adopted;
+use book_line::Said;
 use shares::Book;
 use shares::Stage;
 ghost use mathlib.Core.Path.{_≡_};
@@ -40,11 +40,15 @@ pub fn remake(
     charge: usize,
     m: usize,
 ) -> Adopted
-    requires { ⌜ Copyable (now vars) (now lows) (now highs) count (tableOf (now ownvars) (now ownlows) (now ownhighs) (now ownheads) (now ownlinks) 2) (now known)
-        × (charge ≤ length (now own)) × (m ≤ length (now members)) × (m ≤ length (now struck)) × (m ≤ length (now found)) × (m ≤ length (now strikes)) ⌝ }
+    requires { ⌜ Copyable (now vars) (now lows) (now highs) count
+        (tableOf (now ownvars) (now ownlows) (now ownhighs) (now ownheads) (now ownlinks) 2) (now known)
+        × (charge ≤ length (now own)) × (m ≤ length (now members)) × (m ≤ length (now struck)) × (m ≤ length (now found)) ×
+        (m ≤ length (now strikes)) ⌝ }
     ensures { λ r. ⌜ (
-        let before = tableOf (now (ownvars .entry)) (now (ownlows .entry)) (now (ownhighs .entry)) (now (ownheads .entry)) (now (ownlinks .entry)) 2 in
-        let after = tableOf (now (ownvars .exit)) (now (ownlows .exit)) (now (ownhighs .exit)) (now (ownheads .exit)) (now (ownlinks .exit)) (r .count) in
+        let before = tableOf (now (ownvars .entry)) (now (ownlows .entry)) (now (ownhighs .entry)) (now (ownheads .entry))
+        (now (ownlinks .entry)) 2 in
+        let after = tableOf (now (ownvars .exit)) (now (ownlows .exit)) (now (ownhighs .exit)) (now (ownheads .exit))
+        (now (ownlinks .exit)) (r .count) in
         let T = nodesIn (now (vars .entry)) (now (lows .entry)) (now (highs .entry)) count in
         Adopts T before (take charge (now (own .entry)) ++ take m (now (members .entry))) (r .full) after (now (known .exit))
         × FoundBy (r .full) T (nodesOf after) (take m (now (members .entry))) (now (found .entry)) (now (found .exit))) ⌝ }
@@ -94,14 +98,17 @@ pub fn judge_remade(
     b: Book,
     bytes: &[u8],
 ) -> Said
-    requires { ⌜ Remade (tableOf (now vars) (now lows) (now highs) (now heads) (now links) count) (listsMade (now members) (now struck) (now own)) b
-        (lentOf (now ownvars) (now ownlows) (now ownhighs) (now ownheads) (now ownlinks) (now found) (now scratch) (now strikes)) owncount ⌝ }
+    requires { ⌜ Remade (tableOf (now vars) (now lows) (now highs) (now heads) (now links) count)
+        (listsMade (now members) (now struck) (now own)) b
+        (lentOf (now ownvars) (now ownlows) (now ownhighs) (now ownheads) (now ownlinks) (now found) (now scratch)
+        (now strikes)) owncount ⌝ }
     requires { ⌜ (now marks ≡ unmarked (length (now ownvars))) × Roomy (now ownvars) (now memo) × (b .stage ≡ Formula → ⊥) ⌝ }
     ensures { λ r. ⌜ (
         let c = columnsMade (now (vars .entry)) (now (lows .entry)) (now (highs .entry)) (now (heads .entry)) (now (links .entry)) in
         let T = tableOf (now (vars .entry)) (now (lows .entry)) (now (highs .entry)) (now (heads .entry)) (now (links .entry)) count in
         let l = listsMade (now (members .entry)) (now (struck .entry)) (now (own .entry)) in
-        let lent = lentOf (now (ownvars .entry)) (now (ownlows .entry)) (now (ownhighs .entry)) (now (ownheads .entry)) (now (ownlinks .entry))
+        let lent = lentOf (now (ownvars .entry)) (now (ownlows .entry)) (now (ownhighs .entry)) (now (ownheads .entry))
+        (now (ownlinks .entry))
         (now (found .entry)) (now (scratch .entry)) (now (strikes .entry)) in
         let left = columnsMade (now (vars .exit)) (now (lows .exit)) (now (highs .exit)) (now (heads .exit)) (now (links .exit)) in
         saidOutcome left (listsMade (now (members .exit)) (now (struck .exit)) (now (own .exit))) (now (scratch .exit)) r
@@ -172,8 +179,10 @@ pub fn judge_later(
     b: Book,
     bytes: &[u8],
 ) -> Said
-    requires { ⌜ Prepared (tableOf (now vars) (now lows) (now highs) (now heads) (now links) count) (listsMade (now members) (now struck) (now own)) b
-        (lentOf (now ownvars) (now ownlows) (now ownhighs) (now ownheads) (now ownlinks) (now found) (now scratch) (now strikes)) (now known) ⌝ }
+    requires { ⌜ Prepared (tableOf (now vars) (now lows) (now highs) (now heads) (now links) count)
+        (listsMade (now members) (now struck) (now own)) b
+        (lentOf (now ownvars) (now ownlows) (now ownhighs) (now ownheads) (now ownlinks) (now found) (now scratch) (now strikes))
+        (now known) ⌝ }
     requires { ⌜ (now marks ≡ unmarked (length (now ownvars))) × Roomy (now ownvars) (now memo) × (b .stage ≡ Formula → ⊥) ⌝ }
     ensures { λ r. ⌜ (
         let c = columnsMade (now (vars .entry)) (now (lows .entry)) (now (highs .entry)) (now (heads .entry)) (now (links .entry)) in
@@ -182,7 +191,8 @@ pub fn judge_later(
         let left = columnsMade (now (vars .exit)) (now (lows .exit)) (now (highs .exit)) (now (heads .exit)) (now (links .exit)) in
         saidOutcome left (listsMade (now (members .exit)) (now (struck .exit)) (now (own .exit))) (now (scratch .exit)) r
         ≡ bookLeaves c count l (now (scratch .entry)) b
-        (charged 64 (size T) (nodesOf T) (holding b l) (now (bytes .entry)) (alone (places b) (nodesOf T) (holding b l .own ++ holding b l .members)))) ⌝ }
+        (charged 64 (size T) (nodesOf T) (holding b l) (now (bytes .entry))
+        (alone (places b) (nodesOf T) (holding b l .own ++ holding b l .members)))) ⌝ }
 {
     let a = remake(
         vars,

@@ -6,7 +6,7 @@ use Prim.Native.Nat.{ℕ, _+_, _-_, _≤_, _<_, max}
 use lib.ListN.{length, getD, take}
 use Rattle.table.specs.Nodes.{Node}
 use Rattle.table.specs.Columns.{Columns}
-use Rattle.table.specs.Making.{Room, all}
+use Rattle.table.specs.Making.{all}
 use Rattle.table.specs.Indexed.{Table, size, nodesOf, indexed, Good}
 use Rattle.verdict.specs.Steps.{emptied}
 use Rattle.verdict.specs.Check.{zeros}
@@ -99,7 +99,8 @@ pub record Remade (T : Table) (l : BookLists) (b : Book) (lent : Lent) (owncount
   pub members : 2048 ≤ length (l .members)
   pub struck : length (l .struck) ≡ length (l .members)
   pub scratch : 4096 ≤ length (lent .scratch)
-  pub found : take (b .clauses + b .lines) (lent .members) ≡ membersIn (places b) (nodesOf T) (nodesOf (tableIn lent owncount)) (holding b l .members)
+  pub found : take (b .clauses + b .lines) (lent .members) ≡ membersIn (places b) (nodesOf T) (nodesOf (tableIn lent owncount))
+      (holding b l .members)
   pub inside : (i : ℕ) → i < b .clauses + b .lines → getD (lent .members) i 0 < owncount
   pub rest : (i : ℕ) → b .clauses + b .lines ≤ i → _≡_ {A = ℕ} (getD (lent .members) i 0) 0
   pub marks : take (b .clauses + b .lines) (lent .struck) ≡ holding b l .struck

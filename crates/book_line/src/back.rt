@@ -1,8 +1,8 @@
 // What a call says and keeps, and what a refused one writes back.
 use crate::Said;
-use state::State;
 use shares::Book;
 use shares::Stage;
+use state::State;
 use words::Literals;
 ghost use mathlib.Core.Path.{_≡_};
 ghost use Prim.Native.Nat.{_+_, _-_, _≤_, max};

@@ -1,10 +1,9 @@
 // A book's later call once its own table is made again: records up to a line or to what ends the call, and what is written back.
 use crate::Said;
 use book_parts::line::Ending;
-use state::State;
 use shares::Book;
+use state::State;
 ghost use mathlib.Core.Path.{_≡_};
-ghost use Prim.Native.Nat.{_≤_};
 ghost use lib.ListN.{length};
 ghost use Rattle.table.specs.Columns.{columnsMade};
 ghost use Rattle.table.specs.Indexed.{tableOf, nodesOf, size};
@@ -42,20 +41,24 @@ pub fn run_line(
     bytes: &[u8],
 ) -> Said
     requires { ⌜ (
-        let lent = lentOf (now ownvars) (now ownlows) (now ownhighs) (now ownheads) (now ownlinks) (now found) (now scratch) (now strikes) in
+        let lent = lentOf (now ownvars) (now ownlows) (now ownhighs) (now ownheads) (now ownlinks) (now found) (now scratch)
+        (now strikes) in
         Held 64 lent first × (now marks ≡ unmarked (length (now ownvars))) × Roomy (now ownvars) (now memo)) ⌝ }
-    requires { ⌜ LineReady (tableOf (now vars) (now lows) (now highs) (now heads) (now links) count) (listsMade (now members) (now struck) (now own)) b
+    requires { ⌜ LineReady (tableOf (now vars) (now lows) (now highs) (now heads) (now links) count)
+        (listsMade (now members) (now struck) (now own)) b
         (lentOf (now ownvars) (now ownlows) (now ownhighs) (now ownheads) (now ownlinks) (now found) (now scratch) (now strikes)) first ⌝ }
     ensures { λ r. ⌜ (
         let c = columnsMade (now (vars .entry)) (now (lows .entry)) (now (highs .entry)) (now (heads .entry)) (now (links .entry)) in
         let T = tableOf (now (vars .entry)) (now (lows .entry)) (now (highs .entry)) (now (heads .entry)) (now (links .entry)) count in
         let l = listsMade (now (members .entry)) (now (struck .entry)) (now (own .entry)) in
-        let lent = lentOf (now (ownvars .entry)) (now (ownlows .entry)) (now (ownhighs .entry)) (now (ownheads .entry)) (now (ownlinks .entry))
+        let lent = lentOf (now (ownvars .entry)) (now (ownlows .entry)) (now (ownhighs .entry)) (now (ownheads .entry))
+        (now (ownlinks .entry))
         (now (found .entry)) (now (scratch .entry)) (now (strikes .entry)) in
         let left = columnsMade (now (vars .exit)) (now (lows .exit)) (now (highs .exit)) (now (heads .exit)) (now (links .exit)) in
         saidOutcome left (listsMade (now (members .exit)) (now (struck .exit)) (now (own .exit))) (zeros (length (now (scratch .entry)))) r
         ≡ bookLeaves c count l (now (scratch .entry)) b
-        (judged (size T) (nodesOf T) (holding b l) (laterCall 64 (aloneOf (nodesOf T) (holding b l) (ownNodes lent first)) (now (bytes .entry))))) ⌝ }
+        (judged (size T) (nodesOf T) (holding b l)
+        (laterCall 64 (aloneOf (nodesOf T) (holding b l) (ownNodes lent first)) (now (bytes .entry))))) ⌝ }
 {
     match book_parts::line::read_line(
         ownvars,

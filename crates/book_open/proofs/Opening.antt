@@ -1,8 +1,8 @@
 -- The opening's outcome from its parts. Assumes nothing.
 use mathlib.Core.Path.{_≡_, sym, ap, ap₂, _∙_}
-use mathlib.Core.Bool.{Bool, true, false, _&&_}
+use mathlib.Core.Bool.{true, false}
 use mathlib.Core.List.{List}
-use Prim.Native.Nat.{ℕ, _+_, _*_, _≤_}
+use Prim.Native.Nat.{ℕ, _+_, _*_}
 use lib.ListN.{length}
 use lib.Dec.{leb}
 use Rattle.table.specs.Columns.{Columns, columnsMade, storedAs}
@@ -15,7 +15,7 @@ use Rattle.shares.specs.Alone.{openedBook}
 use Rattle.shares.specs.Books.{BookLists, bookFits, OpenOutcome, refusal, emptiedLists, openOutcome}
 use Rattle.book_open.specs.declared.Opened.{Opened}
 use Rattle.book_open.specs.Opens.{listsOf, openedOutcome, unopenedSaid}
-use Rattle.book_open.proofs.Sizes.{ListsFit, lists-fit}
+use Rattle.book_open.proofs.Sizes.{lists-fit}
 
 module _ (vs ls hs ds ks : List ℕ) (count : ℕ) (la lb : BookLists) (scratch : List ℕ) (ba bb : Book) (shareA shareB : ℕ) where
   abbrev c : Columns
@@ -71,10 +71,13 @@ module _ (vs ls hs ds ks : List ℕ) (count : ℕ) (la lb : BookLists) (scratch 
               (record { number = 35; count = 2; first = x; second = y }) ≡ whole
           opens oa ma sa ob mb sb scratch′ e₁ e₂ e₃ e₄ e₅ e₆ e₇ x y p q =
               let A : listsOf ma sa oa ≡ emptiedLists la =
-                  ap₂ (λ (u w : List ℕ). listsOf u w oa) e₂ e₃ ∙ ap (listsOf (zeros (length (la .members))) (zeros (length (la .struck)))) e₁ in
+              ap₂ (λ (u w : List ℕ). listsOf u w oa) e₂ e₃ ∙ ap (listsOf (zeros (length (la .members))) (zeros (length (la .struck))))
+              e₁ in
               let B : listsOf mb sb ob ≡ emptiedLists lb =
-                  ap₂ (λ (u w : List ℕ). listsOf u w ob) e₅ e₆ ∙ ap (listsOf (zeros (length (lb .members))) (zeros (length (lb .struck)))) e₄ in
+              ap₂ (λ (u w : List ℕ). listsOf u w ob) e₅ e₆ ∙ ap (listsOf (zeros (length (lb .members))) (zeros (length (lb .struck))))
+              e₄ in
               ap₂ (λ (d : Columns) (a : BookLists). made d a (listsOf mb sb ob) scratch′ x y) columns-left A
               ∙ ap₂ (λ (b : BookLists) (s : List ℕ). made (storedAs (length vs) emptied) (emptiedLists la) b s x y) B e₇
-              ∙ ap₂ (λ (u w : Book). made (storedAs (length vs) emptied) (emptiedLists la) (emptiedLists lb) (zeros (length scratch)) u w) p q
+              ∙ ap₂ (λ (u w : Book). made (storedAs (length vs) emptied) (emptiedLists la) (emptiedLists lb) (zeros (length scratch)) u w) p
+              q
               ∙ opened-is

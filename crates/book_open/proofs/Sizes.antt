@@ -39,7 +39,8 @@ module _ (c : Columns) (l : BookLists) (scratch : List ℕ) where
       let w = and-both (lentFits c (l .members) (l .struck) scratch) (eqb (length (l .own)) (length (c .vars))) e in
       let x = and-both columns-fit
       (leb 2048 (length (l .members)) && (eqb (length (l .struck)) (length (l .members)) && leb 4096 (length scratch))) (w .0) in
-      let y = and-both (leb 2048 (length (l .members))) (eqb (length (l .struck)) (length (l .members)) && leb 4096 (length scratch)) (x .1) in
+      let y = and-both (leb 2048 (length (l .members))) (eqb (length (l .struck)) (length (l .members)) && leb 4096 (length scratch)) (x .1)
+      in
       let z = and-both (eqb (length (l .struck)) (length (l .members))) (leb 4096 (length scratch)) (y .1) in
       record {
         columns = x .0;

@@ -132,10 +132,30 @@ pub fn call(
         (listsOf (now (memberssecond .exit)) (now (strucksecond .exit)) (now (ownsecond .exit))) (now (scratch .exit)) r
         ≡ openOutcome c count a b (now (scratch .entry)) first second share sharesecond) ⌝ }
 {
-    if !book_fits(vars, lows, highs, heads, links, own, members, struck, scratch) {
+    if !book_fits(
+        vars,
+        lows,
+        highs,
+        heads,
+        links,
+        own,
+        members,
+        struck,
+        scratch,
+    ) {
         return unopened(7, count, first, second);
     }
-    if !book_fits(vars, lows, highs, heads, links, ownsecond, memberssecond, strucksecond, scratch) {
+    if !book_fits(
+        vars,
+        lows,
+        highs,
+        heads,
+        links,
+        ownsecond,
+        memberssecond,
+        strucksecond,
+        scratch,
+    ) {
         return unopened(7, count, first, second);
     }
     if !shares_fit(vars.len(), share, sharesecond) {

@@ -12,8 +12,16 @@ ghost use Rattle.book_parts.specs.Firsts.{verdictBy, ReadBy};
 
 // All clauses are made; or a number, its place and the greatest count.
 pub enum First {
-    Made { variables: u8, count: usize, made: usize },
-    Refused { number: u8, place: usize, peak: usize },
+    Made {
+        variables: u8,
+        count: usize,
+        made: usize,
+    },
+    Refused {
+        number: u8,
+        place: usize,
+        peak: usize,
+    },
 }
 
 // The formula's clauses made, with table and member list emptied. Where it is refused both are then anything.
@@ -28,8 +36,10 @@ pub fn read_formula(
 ) -> First
     requires { ⌜ Opened (tableOf (now vars) (now lows) (now highs) (now heads) (now links) 2) (now members) ⌝ }
     ensures { λ r. ⌜ verdict inRecords (length (now (vars .entry))) (now (formula .entry)) []
-        ≡ verdictBy (now (vars .exit)) (now (lows .exit)) (now (highs .exit)) (now (heads .exit)) (now (links .exit)) (now (members .exit)) r ⌝ }
-    ensures { λ r. ⌜ ReadBy (now (formula .entry)) (now (vars .exit)) (now (lows .exit)) (now (highs .exit)) (now (heads .exit)) (now (links .exit))
+        ≡ verdictBy (now (vars .exit)) (now (lows .exit)) (now (highs .exit)) (now (heads .exit)) (now (links .exit))
+        (now (members .exit)) r ⌝ }
+    ensures { λ r. ⌜ ReadBy (now (formula .entry)) (now (vars .exit)) (now (lows .exit)) (now (highs .exit)) (now (heads .exit))
+        (now (links .exit))
         (now (members .exit)) r ⌝ }
 {
     match dimacs::read_header(formula) {
@@ -42,7 +52,18 @@ pub fn read_formula(
             variables,
             clauses,
             end,
-        } => match formula::read_clauses(vars, lows, highs, heads, links, members, formula, variables, clauses, end) {
+        } => match formula::read_clauses(
+            vars,
+            lows,
+            highs,
+            heads,
+            links,
+            members,
+            formula,
+            variables,
+            clauses,
+            end,
+        ) {
             Start::Refused {
                 number,
                 place,

@@ -1,7 +1,7 @@
 // The records of a book's call, in the book's own table: up to a line that is accepted, or to a record that ends the call.
+use records::Record;
 use state::State;
 use state::Step;
-use records::Record;
 ghost use mathlib.Core.Path.{_≡_};
 ghost use mathlib.Core.Bool.{_&&_};
 ghost use Prim.Native.Nat.{suc, _≤_};
@@ -14,7 +14,11 @@ ghost use Rattle.book_parts.specs.Lines.{beyondBy, endingOf, EndsHeld};
 
 // How a call's records end: with a number, its place and the greatest count; or with a line accepted, in the state after it.
 pub enum Ending {
-    Ended { number: u8, place: usize, peak: usize },
+    Ended {
+        number: u8,
+        place: usize,
+        peak: usize,
+    },
     Taken(State),
 }
 
@@ -109,7 +113,22 @@ fn book_step(
             offset: records::record_length(r),
         };
     }
-    steps::record_step(vars, lows, highs, heads, links, memo, marks, members, scratch, struck, st, 64, more, r)
+    steps::record_step(
+        vars,
+        lows,
+        highs,
+        heads,
+        links,
+        memo,
+        marks,
+        members,
+        scratch,
+        struck,
+        st,
+        64,
+        more,
+        r,
+    )
 }
 
 // Record after record, up to a line that is accepted or to one that ends the call. The scratch list is then anything.

@@ -80,16 +80,31 @@ pub fn give(
     m: usize,
     count: usize,
 ) -> usize
-    requires { ⌜ Shareable (tableOf (now vars) (now lows) (now highs) (now heads) (now links) count) (now ownvars) (now ownlows) (now ownhighs) owncount (now own) ⌝ }
+    requires { ⌜ (
+        let before = tableOf (now vars) (now lows) (now highs) (now heads) (now links) count in
+        Shareable before (now ownvars) (now ownlows) (now ownhighs) owncount (now own)) ⌝ }
     requires { ⌜ GiveReady owncount m (now found) (now marks) (now members) (now struck) ⌝ }
     ensures { λ r. ⌜ (
         let before = tableOf (now (vars .entry)) (now (lows .entry)) (now (highs .entry)) (now (heads .entry)) (now (links .entry)) count in
         let after = tableOf (now (vars .exit)) (now (lows .exit)) (now (highs .exit)) (now (heads .exit)) (now (links .exit)) r in
         let nodes = drop 2 (nodesIn (now (ownvars .entry)) (now (ownlows .entry)) (now (ownhighs .entry)) owncount) in
-        Gives before nodes after (owncount - 2) m (now (found .entry)) (now (marks .entry)) (length (now (own .entry))) (length (now (members .entry)))
+        Gives before nodes after (owncount - 2) m (now (found .entry)) (now (marks .entry)) (length (now (own .entry)))
+        (length (now (members .entry)))
         (length (now (struck .entry))) (now (own .exit)) (now (members .exit)) (now (struck .exit))) ⌝ }
 {
-    let made = alone::share(ownvars, ownlows, ownhighs, vars, lows, highs, heads, links, own, owncount, count);
+    let made = alone::share(
+        ownvars,
+        ownlows,
+        ownhighs,
+        vars,
+        lows,
+        highs,
+        heads,
+        links,
+        own,
+        owncount,
+        count,
+    );
     renumber(members, own, found, m);
     zero_numbers_from(members, m);
     zero_numbers_from(own, owncount - 2);

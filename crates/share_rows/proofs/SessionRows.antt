@@ -22,11 +22,13 @@ use Rattle.shares.specs.Sessions.{session}
 use Rattle.share_rows.specs.SessionRows.{PlaysAll, sessions, Limits, limits, openingNumber}
 
 pub sessions-play : PlaysAll sessions
-unfolding session header recordAt clausesFrom verdict same? ℕ-discrete diagramFrom valueFrom bookCall aloneCall lineCall bookStep recordStep alone sharing diagramIn numberIn placedAll place put diagramAt rup pr witnessed inWord parity clause above pathLine pathCount
+unfolding session header recordAt clausesFrom verdict same? ℕ-discrete diagramFrom valueFrom bookCall aloneCall lineCall bookStep recordStep
+    alone sharing diagramIn numberIn placedAll place put diagramAt rup pr witnessed inWord parity clause above pathLine pathCount
 sessions-play = ((refl, refl), ((refl, refl), ((refl, refl), ((refl, refl), ((refl, refl), ((refl, refl), ((refl, refl), ((refl, refl), ((refl, refl), ((refl, refl), ((refl, refl), ((refl, refl), tt))))))))))))
 
 pub at-limits : Limits limits
-unfolding recordAt same? ℕ-discrete diagramFrom valueFrom bookCall aloneCall lineCall bookStep recordStep alone sharing diagramIn numberIn placedAll place put diagramAt above
+unfolding recordAt same? ℕ-discrete diagramFrom valueFrom bookCall aloneCall lineCall bookStep recordStep alone sharing diagramIn numberIn
+    placedAll place put diagramAt above
 at-limits = (refl, (refl, (refl, (refl, (refl, (refl, (refl, (refl, (refl, (refl, (refl, (refl, (refl, (refl, (refl, (refl, (refl, (refl, (refl, (refl, tt))))))))))))))))))))
 
 -- "the shares' sum plus 2 is at most the size": 35, else 32, after 7.

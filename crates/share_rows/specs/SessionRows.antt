@@ -74,118 +74,118 @@ leave nodes membersA struckA membersB struckB = record {
 abbrev session-1 : Session
 session-1 =
     plays 8 3 3
-      (ofA (bytes "p cnf 1 1\n1 0\n") ∷ᴸ ofB (bytes "p cnf 1 1\n1 0\n") ∷ᴸ ofA (over 1 0 1 (rupLine 2 []ᴸ)) ∷ᴸ ofB end ∷ᴸ ofA end ∷ᴸ []ᴸ)
-      (say 35 14 0 0 1 ∷ᴸ say 35 14 0 0 1 ∷ᴸ say 35 9 1 0 2 ∷ᴸ say 20 0 0 0 1 ∷ᴸ say 20 0 1 0 2 ∷ᴸ []ᴸ)
-      (leave (entry 1 0 1 ∷ᴸ []ᴸ)
-      (2 ∷ᴸ 2 ∷ᴸ []ᴸ) (0 ∷ᴸ 0 ∷ᴸ []ᴸ) (2 ∷ᴸ []ᴸ) (0 ∷ᴸ []ᴸ))
+    (ofA (bytes "p cnf 1 1\n1 0\n") ∷ᴸ ofB (bytes "p cnf 1 1\n1 0\n") ∷ᴸ ofA (over 1 0 1 (rupLine 2 []ᴸ)) ∷ᴸ ofB end ∷ᴸ ofA end ∷ᴸ []ᴸ)
+    (say 35 14 0 0 1 ∷ᴸ say 35 14 0 0 1 ∷ᴸ say 35 9 1 0 2 ∷ᴸ say 20 0 0 0 1 ∷ᴸ say 20 0 1 0 2 ∷ᴸ []ᴸ)
+    (leave (entry 1 0 1 ∷ᴸ []ᴸ)
+    (2 ∷ᴸ 2 ∷ᴸ []ᴸ) (0 ∷ᴸ 0 ∷ᴸ []ᴸ) (2 ∷ᴸ []ᴸ) (0 ∷ᴸ []ᴸ))
 
 -- 8 where the charge would pass the share, though the table has free places; 19 of a path line.
 abbrev session-2 : Session
 session-2 =
     plays 8 1 5
-      (ofA (bytes "p cnf 2 1\n1 2 0\n") ∷ᴸ ofB (bytes "p cnf 2 1\n1 2 0\n") ∷ᴸ ofA (over 1 0 1 (rupLine 2 []ᴸ)) ∷ᴸ
-       ofB (oddEven 3 1 (pathRecord 0 []ᴸ)) ∷ᴸ []ᴸ)
-      (say 8 10 0 0 1 ∷ᴸ say 35 16 0 0 2 ∷ᴸ say 8 10 0 0 1 ∷ᴸ say 19 10 0 0 4 ∷ᴸ []ᴸ)
-      (leave (entry 2 0 1 ∷ᴸ entry 1 2 1 ∷ᴸ []ᴸ)
-      []ᴸ []ᴸ (3 ∷ᴸ []ᴸ) (0 ∷ᴸ []ᴸ))
+    (ofA (bytes "p cnf 2 1\n1 2 0\n") ∷ᴸ ofB (bytes "p cnf 2 1\n1 2 0\n") ∷ᴸ ofA (over 1 0 1 (rupLine 2 []ᴸ)) ∷ᴸ
+    ofB (oddEven 3 1 (pathRecord 0 []ᴸ)) ∷ᴸ []ᴸ)
+    (say 8 10 0 0 1 ∷ᴸ say 35 16 0 0 2 ∷ᴸ say 8 10 0 0 1 ∷ᴸ say 19 10 0 0 4 ∷ᴸ []ᴸ)
+    (leave (entry 2 0 1 ∷ᴸ entry 1 2 1 ∷ᴸ []ᴸ)
+    []ᴸ []ᴸ (3 ∷ᴸ []ᴸ) (0 ∷ᴸ []ᴸ))
 
 -- 23 where the charge would pass the share, though the other book has placed the node; the call's nodes are dropped.
 abbrev session-3 : Session
 session-3 =
     plays 10 2 6
-      (ofB (bytes "p cnf 2 4\n1 2 0\n-1 2 0\n1 -2 0\n-1 -2 0\n") ∷ᴸ ofA (bytes "p cnf 2 1\n1 2 0\n") ∷ᴸ
-       ofA (over 2 1 0 (rupLine 2 []ᴸ)) ∷ᴸ ofB (over 2 0 1 (rupLine 2 []ᴸ)) ∷ᴸ ofA end ∷ᴸ []ᴸ)
-      (say 35 38 0 0 6 ∷ᴸ say 35 16 0 0 2 ∷ᴸ say 23 0 0 0 2 ∷ᴸ say 23 6 0 0 6 ∷ᴸ say 23 0 0 0 2 ∷ᴸ []ᴸ)
-      (leave (entry 2 0 1 ∷ᴸ entry 1 2 1 ∷ᴸ entry 1 1 2 ∷ᴸ entry 2 1 0 ∷ᴸ entry 1 5 1 ∷ᴸ entry 1 1 5 ∷ᴸ []ᴸ)
-      (3 ∷ᴸ []ᴸ) (0 ∷ᴸ []ᴸ) (3 ∷ᴸ 4 ∷ᴸ 6 ∷ᴸ 7 ∷ᴸ []ᴸ) (0 ∷ᴸ 0 ∷ᴸ 0 ∷ᴸ 0 ∷ᴸ []ᴸ))
+    (ofB (bytes "p cnf 2 4\n1 2 0\n-1 2 0\n1 -2 0\n-1 -2 0\n") ∷ᴸ ofA (bytes "p cnf 2 1\n1 2 0\n") ∷ᴸ
+    ofA (over 2 1 0 (rupLine 2 []ᴸ)) ∷ᴸ ofB (over 2 0 1 (rupLine 2 []ᴸ)) ∷ᴸ ofA end ∷ᴸ []ᴸ)
+    (say 35 38 0 0 6 ∷ᴸ say 35 16 0 0 2 ∷ᴸ say 23 0 0 0 2 ∷ᴸ say 23 6 0 0 6 ∷ᴸ say 23 0 0 0 2 ∷ᴸ []ᴸ)
+    (leave (entry 2 0 1 ∷ᴸ entry 1 2 1 ∷ᴸ entry 1 1 2 ∷ᴸ entry 2 1 0 ∷ᴸ entry 1 5 1 ∷ᴸ entry 1 1 5 ∷ᴸ []ᴸ)
+    (3 ∷ᴸ []ᴸ) (0 ∷ᴸ []ᴸ) (3 ∷ᴸ 4 ∷ᴸ 6 ∷ᴸ 7 ∷ᴸ []ᴸ) (0 ∷ᴸ 0 ∷ᴸ 0 ∷ᴸ 0 ∷ᴸ []ᴸ))
 
 -- Case A line by line: 35, 35, 0; the other book's calls between them.
 abbrev session-4 : Session
 session-4 =
     plays 22 12 8
-      (ofA (bytes "p cnf 2 4\n1 2 0\n-1 2 0\n1 -2 0\n-1 -2 0\n") ∷ᴸ ofB (bytes "p cnf 2 2\n1 2 0\n-1 -2 0\n") ∷ᴸ
-       ofA (over 2 0 1 (rupLine 2 []ᴸ)) ∷ᴸ ofB (over 1 1 0 (rupLine 2 []ᴸ)) ∷ᴸ ofA (rupLine 0 []ᴸ) ∷ᴸ ofA end ∷ᴸ ofA end ∷ᴸ []ᴸ)
-      (say 35 38 0 0 6 ∷ᴸ say 35 24 0 0 4 ∷ᴸ say 35 9 1 0 8 ∷ᴸ say 19 6 0 0 6 ∷ᴸ say 35 3 2 1 8 ∷ᴸ say 0 0 2 1 8 ∷ᴸ say 0 0 2 1 8 ∷ᴸ []ᴸ)
-      (leave (entry 2 0 1 ∷ᴸ entry 1 2 1 ∷ᴸ entry 1 1 2 ∷ᴸ entry 2 1 0 ∷ᴸ entry 1 5 1 ∷ᴸ entry 1 1 5 ∷ᴸ []ᴸ)
-      (3 ∷ᴸ 4 ∷ᴸ 6 ∷ᴸ 7 ∷ᴸ 2 ∷ᴸ 0 ∷ᴸ []ᴸ) (0 ∷ᴸ 0 ∷ᴸ 0 ∷ᴸ 0 ∷ᴸ 0 ∷ᴸ 0 ∷ᴸ []ᴸ) (3 ∷ᴸ 7 ∷ᴸ []ᴸ) (0 ∷ᴸ 0 ∷ᴸ []ᴸ))
+    (ofA (bytes "p cnf 2 4\n1 2 0\n-1 2 0\n1 -2 0\n-1 -2 0\n") ∷ᴸ ofB (bytes "p cnf 2 2\n1 2 0\n-1 -2 0\n") ∷ᴸ
+    ofA (over 2 0 1 (rupLine 2 []ᴸ)) ∷ᴸ ofB (over 1 1 0 (rupLine 2 []ᴸ)) ∷ᴸ ofA (rupLine 0 []ᴸ) ∷ᴸ ofA end ∷ᴸ ofA end ∷ᴸ []ᴸ)
+    (say 35 38 0 0 6 ∷ᴸ say 35 24 0 0 4 ∷ᴸ say 35 9 1 0 8 ∷ᴸ say 19 6 0 0 6 ∷ᴸ say 35 3 2 1 8 ∷ᴸ say 0 0 2 1 8 ∷ᴸ say 0 0 2 1 8 ∷ᴸ []ᴸ)
+    (leave (entry 2 0 1 ∷ᴸ entry 1 2 1 ∷ᴸ entry 1 1 2 ∷ᴸ entry 2 1 0 ∷ᴸ entry 1 5 1 ∷ᴸ entry 1 1 5 ∷ᴸ []ᴸ)
+    (3 ∷ᴸ 4 ∷ᴸ 6 ∷ᴸ 7 ∷ᴸ 2 ∷ᴸ 0 ∷ᴸ []ᴸ) (0 ∷ᴸ 0 ∷ᴸ 0 ∷ᴸ 0 ∷ᴸ 0 ∷ᴸ 0 ∷ᴸ []ᴸ) (3 ∷ᴸ 7 ∷ᴸ []ᴸ) (0 ∷ᴸ 0 ∷ᴸ []ᴸ))
 
 -- Path lines, entries and strikings before the line; a struck member; the rounds of both calls.
 abbrev session-5 : Session
 session-5 =
     plays 22 12 8
-      (ofA (bytes "p cnf 2 4\n1 2 0\n-1 2 0\n1 -2 0\n-1 -2 0\n") ∷ᴸ ofA (strike 3 (over 2 0 1 (pathRecord 2 []ᴸ))) ∷ᴸ
-       ofB (bytes "p cnf 1 1\n1 0\n") ∷ᴸ ofA (pathRecord 0 []ᴸ) ∷ᴸ ofA end ∷ᴸ []ᴸ)
-      (say 35 38 0 0 6 ∷ᴸ say 35 12 1 0 8 ∷ᴸ say 35 14 0 0 1 ∷ᴸ say 19 0 1 0 8 ∷ᴸ say 19 0 1 0 8 ∷ᴸ []ᴸ)
-      (leave (entry 2 0 1 ∷ᴸ entry 1 2 1 ∷ᴸ entry 1 1 2 ∷ᴸ entry 2 1 0 ∷ᴸ entry 1 5 1 ∷ᴸ entry 1 1 5 ∷ᴸ entry 1 0 1 ∷ᴸ []ᴸ)
-      (3 ∷ᴸ 4 ∷ᴸ 6 ∷ᴸ 7 ∷ᴸ 2 ∷ᴸ []ᴸ) (0 ∷ᴸ 0 ∷ᴸ 0 ∷ᴸ 1 ∷ᴸ 0 ∷ᴸ []ᴸ) (8 ∷ᴸ []ᴸ) (0 ∷ᴸ []ᴸ))
+    (ofA (bytes "p cnf 2 4\n1 2 0\n-1 2 0\n1 -2 0\n-1 -2 0\n") ∷ᴸ ofA (strike 3 (over 2 0 1 (pathRecord 2 []ᴸ))) ∷ᴸ
+    ofB (bytes "p cnf 1 1\n1 0\n") ∷ᴸ ofA (pathRecord 0 []ᴸ) ∷ᴸ ofA end ∷ᴸ []ᴸ)
+    (say 35 38 0 0 6 ∷ᴸ say 35 12 1 0 8 ∷ᴸ say 35 14 0 0 1 ∷ᴸ say 19 0 1 0 8 ∷ᴸ say 19 0 1 0 8 ∷ᴸ []ᴸ)
+    (leave (entry 2 0 1 ∷ᴸ entry 1 2 1 ∷ᴸ entry 1 1 2 ∷ᴸ entry 2 1 0 ∷ᴸ entry 1 5 1 ∷ᴸ entry 1 1 5 ∷ᴸ entry 1 0 1 ∷ᴸ []ᴸ)
+    (3 ∷ᴸ 4 ∷ᴸ 6 ∷ᴸ 7 ∷ᴸ 2 ∷ᴸ []ᴸ) (0 ∷ᴸ 0 ∷ᴸ 0 ∷ᴸ 1 ∷ᴸ 0 ∷ᴸ []ᴸ) (8 ∷ᴸ []ᴸ) (0 ∷ᴸ []ᴸ))
 
 -- 10 at the length of a call without a line or end; the mark set in it stays, and a later line changes nothing.
 abbrev session-6 : Session
 session-6 =
     plays 12 4 6
-      (ofA (bytes "p cnf 2 1\n1 2 0\n") ∷ᴸ ofA (strike 0 []ᴸ) ∷ᴸ ofA (over 1 0 1 (rupLine 2 []ᴸ)) ∷ᴸ ofB (bytes "p cnf 1 1\n1 0\n") ∷ᴸ
-       ofB []ᴸ ∷ᴸ ofB end ∷ᴸ []ᴸ)
-      (say 35 16 0 0 2 ∷ᴸ say 10 3 0 0 2 ∷ᴸ say 10 3 0 0 2 ∷ᴸ say 35 14 0 0 1 ∷ᴸ say 10 0 0 0 1 ∷ᴸ say 10 0 0 0 1 ∷ᴸ []ᴸ)
-      (leave (entry 2 0 1 ∷ᴸ entry 1 2 1 ∷ᴸ entry 1 0 1 ∷ᴸ []ᴸ)
-      (3 ∷ᴸ []ᴸ) (1 ∷ᴸ []ᴸ) (4 ∷ᴸ []ᴸ) (0 ∷ᴸ []ᴸ))
+    (ofA (bytes "p cnf 2 1\n1 2 0\n") ∷ᴸ ofA (strike 0 []ᴸ) ∷ᴸ ofA (over 1 0 1 (rupLine 2 []ᴸ)) ∷ᴸ ofB (bytes "p cnf 1 1\n1 0\n") ∷ᴸ
+    ofB []ᴸ ∷ᴸ ofB end ∷ᴸ []ᴸ)
+    (say 35 16 0 0 2 ∷ᴸ say 10 3 0 0 2 ∷ᴸ say 10 3 0 0 2 ∷ᴸ say 35 14 0 0 1 ∷ᴸ say 10 0 0 0 1 ∷ᴸ say 10 0 0 0 1 ∷ᴸ []ᴸ)
+    (leave (entry 2 0 1 ∷ᴸ entry 1 2 1 ∷ᴸ entry 1 0 1 ∷ᴸ []ᴸ)
+    (3 ∷ᴸ []ᴸ) (1 ∷ᴸ []ᴸ) (4 ∷ᴸ []ᴸ) (0 ∷ᴸ []ᴸ))
 
 -- 11 just after the line, before 13; 11 after the end record.
 abbrev session-7 : Session
 session-7 =
     plays 20 4 14
-      (ofA (bytes "p cnf 2 1\n1 2 0\n") ∷ᴸ ofB (bytes "p cnf 2 4\n1 2 0\n-1 2 0\n1 -2 0\n-1 -2 0\n") ∷ᴸ ofA (rupLine 9 end) ∷ᴸ
-       ofB (0x45 ∷ᴸ end) ∷ᴸ ofA end ∷ᴸ []ᴸ)
-      (say 35 16 0 0 2 ∷ᴸ say 35 38 0 0 6 ∷ᴸ say 11 3 0 0 2 ∷ᴸ say 11 1 0 0 6 ∷ᴸ say 11 3 0 0 2 ∷ᴸ []ᴸ)
-      (leave (entry 2 0 1 ∷ᴸ entry 1 2 1 ∷ᴸ entry 1 1 2 ∷ᴸ entry 2 1 0 ∷ᴸ entry 1 5 1 ∷ᴸ entry 1 1 5 ∷ᴸ []ᴸ)
-      (3 ∷ᴸ []ᴸ) (0 ∷ᴸ []ᴸ) (3 ∷ᴸ 4 ∷ᴸ 6 ∷ᴸ 7 ∷ᴸ []ᴸ) (0 ∷ᴸ 0 ∷ᴸ 0 ∷ᴸ 0 ∷ᴸ []ᴸ))
+    (ofA (bytes "p cnf 2 1\n1 2 0\n") ∷ᴸ ofB (bytes "p cnf 2 4\n1 2 0\n-1 2 0\n1 -2 0\n-1 -2 0\n") ∷ᴸ ofA (rupLine 9 end) ∷ᴸ
+    ofB (0x45 ∷ᴸ end) ∷ᴸ ofA end ∷ᴸ []ᴸ)
+    (say 35 16 0 0 2 ∷ᴸ say 35 38 0 0 6 ∷ᴸ say 11 3 0 0 2 ∷ᴸ say 11 1 0 0 6 ∷ᴸ say 11 3 0 0 2 ∷ᴸ []ᴸ)
+    (leave (entry 2 0 1 ∷ᴸ entry 1 2 1 ∷ᴸ entry 1 1 2 ∷ᴸ entry 2 1 0 ∷ᴸ entry 1 5 1 ∷ᴸ entry 1 1 5 ∷ᴸ []ᴸ)
+    (3 ∷ᴸ []ᴸ) (0 ∷ᴸ []ᴸ) (3 ∷ᴸ 4 ∷ᴸ 6 ∷ᴸ 7 ∷ᴸ []ᴸ) (0 ∷ᴸ 0 ∷ᴸ 0 ∷ᴸ 0 ∷ᴸ []ᴸ))
 
 -- A witness and its PR line in one call; a witness that waits at the end of the next is 16.
 abbrev session-8 : Session
 session-8 =
     plays 12 4 6
-      (ofA (bytes "p cnf 2 1\n1 2 0\n") ∷ᴸ ofA (over 1 0 1 (84 ∷ᴸ 1 ∷ᴸ (prLine 2 []ᴸ))) ∷ᴸ ofA (70 ∷ᴸ 1 ∷ᴸ end) ∷ᴸ ofA end ∷ᴸ []ᴸ)
-      (say 35 16 0 0 2 ∷ᴸ say 35 11 1 0 4 ∷ᴸ say 16 2 1 0 4 ∷ᴸ say 16 2 1 0 4 ∷ᴸ []ᴸ)
-      (leave (entry 2 0 1 ∷ᴸ entry 1 2 1 ∷ᴸ entry 1 0 1 ∷ᴸ []ᴸ)
-      (3 ∷ᴸ 4 ∷ᴸ []ᴸ) (0 ∷ᴸ 0 ∷ᴸ []ᴸ) []ᴸ []ᴸ)
+    (ofA (bytes "p cnf 2 1\n1 2 0\n") ∷ᴸ ofA (over 1 0 1 (84 ∷ᴸ 1 ∷ᴸ (prLine 2 []ᴸ))) ∷ᴸ ofA (70 ∷ᴸ 1 ∷ᴸ end) ∷ᴸ ofA end ∷ᴸ []ᴸ)
+    (say 35 16 0 0 2 ∷ᴸ say 35 11 1 0 4 ∷ᴸ say 16 2 1 0 4 ∷ᴸ say 16 2 1 0 4 ∷ᴸ []ᴸ)
+    (leave (entry 2 0 1 ∷ᴸ entry 1 2 1 ∷ᴸ entry 1 0 1 ∷ᴸ []ᴸ)
+    (3 ∷ᴸ 4 ∷ᴸ []ᴸ) (0 ∷ᴸ 0 ∷ᴸ []ᴸ) []ᴸ []ᴸ)
 
 -- Refused formulas: 5 and 2; the later calls repeat them, whatever their bytes.
 abbrev session-9 : Session
 session-9 =
     plays 8 3 3
-      (ofA (bytes "p cnf 1 2\n1 0\n") ∷ᴸ ofB (bytes "p cnf 65 1\n1 0\n") ∷ᴸ ofA (bytes "p cnf 1 1\n1 0\n") ∷ᴸ ofB end ∷ᴸ []ᴸ)
-      (say 5 14 0 0 1 ∷ᴸ say 2 0 0 0 0 ∷ᴸ say 5 14 0 0 1 ∷ᴸ say 2 0 0 0 0 ∷ᴸ []ᴸ)
-      (leave []ᴸ
-      []ᴸ []ᴸ []ᴸ []ᴸ)
+    (ofA (bytes "p cnf 1 2\n1 0\n") ∷ᴸ ofB (bytes "p cnf 65 1\n1 0\n") ∷ᴸ ofA (bytes "p cnf 1 1\n1 0\n") ∷ᴸ ofB end ∷ᴸ []ᴸ)
+    (say 5 14 0 0 1 ∷ᴸ say 2 0 0 0 0 ∷ᴸ say 5 14 0 0 1 ∷ᴸ say 2 0 0 0 0 ∷ᴸ []ᴸ)
+    (leave []ᴸ
+    []ᴸ []ᴸ []ᴸ []ᴸ)
 
 -- 12 by the book's own header, whatever the other book's names; 13, 14.
 abbrev session-10 : Session
 session-10 =
     plays 14 4 8
-      (ofA (bytes "p cnf 1 1\n1 0\n") ∷ᴸ ofB (bytes "p cnf 2 4\n1 2 0\n-1 2 0\n1 -2 0\n-1 -2 0\n") ∷ᴸ
-       ofA (over 2 0 1 (rupLine 2 []ᴸ)) ∷ᴸ ofB (over 2 0 1 (over 2 0 2 (rupLine 2 []ᴸ))) ∷ᴸ ofB end ∷ᴸ []ᴸ)
-      (say 35 14 0 0 1 ∷ᴸ say 35 38 0 0 6 ∷ᴸ say 12 0 0 0 1 ∷ᴸ say 14 6 0 0 6 ∷ᴸ say 14 6 0 0 6 ∷ᴸ []ᴸ)
-      (leave (entry 1 0 1 ∷ᴸ entry 2 0 1 ∷ᴸ entry 1 3 1 ∷ᴸ entry 1 1 3 ∷ᴸ entry 2 1 0 ∷ᴸ entry 1 6 1 ∷ᴸ entry 1 1 6 ∷ᴸ []ᴸ)
-      (2 ∷ᴸ []ᴸ) (0 ∷ᴸ []ᴸ) (4 ∷ᴸ 5 ∷ᴸ 7 ∷ᴸ 8 ∷ᴸ []ᴸ) (0 ∷ᴸ 0 ∷ᴸ 0 ∷ᴸ 0 ∷ᴸ []ᴸ))
+    (ofA (bytes "p cnf 1 1\n1 0\n") ∷ᴸ ofB (bytes "p cnf 2 4\n1 2 0\n-1 2 0\n1 -2 0\n-1 -2 0\n") ∷ᴸ
+    ofA (over 2 0 1 (rupLine 2 []ᴸ)) ∷ᴸ ofB (over 2 0 1 (over 2 0 2 (rupLine 2 []ᴸ))) ∷ᴸ ofB end ∷ᴸ []ᴸ)
+    (say 35 14 0 0 1 ∷ᴸ say 35 38 0 0 6 ∷ᴸ say 12 0 0 0 1 ∷ᴸ say 14 6 0 0 6 ∷ᴸ say 14 6 0 0 6 ∷ᴸ []ᴸ)
+    (leave (entry 1 0 1 ∷ᴸ entry 2 0 1 ∷ᴸ entry 1 3 1 ∷ᴸ entry 1 1 3 ∷ᴸ entry 2 1 0 ∷ᴸ entry 1 6 1 ∷ᴸ entry 1 1 6 ∷ᴸ []ᴸ)
+    (2 ∷ᴸ []ᴸ) (0 ∷ᴸ []ᴸ) (4 ∷ᴸ 5 ∷ᴸ 7 ∷ᴸ 8 ∷ᴸ []ᴸ) (0 ∷ᴸ 0 ∷ᴸ 0 ∷ᴸ 0 ∷ᴸ []ᴸ))
 
 -- 19, and 14 once the call has placed a node; both are repeated.
 abbrev session-11 : Session
 session-11 =
     plays 24 12 10
-      (ofA (bytes "p cnf 2 4\n1 2 0\n-1 2 0\n1 -2 0\n-1 -2 0\n") ∷ᴸ ofB (bytes "p cnf 2 2\n1 2 0\n-1 -2 0\n") ∷ᴸ ofA (rupLine 0 []ᴸ) ∷ᴸ
-       ofB (over 1 0 1 (over 2 1 2 (rupLine 1 []ᴸ))) ∷ᴸ ofA end ∷ᴸ []ᴸ)
-      (say 35 38 0 0 6 ∷ᴸ say 35 24 0 0 4 ∷ᴸ say 19 0 0 0 6 ∷ᴸ say 14 6 0 0 5 ∷ᴸ say 19 0 0 0 6 ∷ᴸ []ᴸ)
-      (leave (entry 2 0 1 ∷ᴸ entry 1 2 1 ∷ᴸ entry 1 1 2 ∷ᴸ entry 2 1 0 ∷ᴸ entry 1 5 1 ∷ᴸ entry 1 1 5 ∷ᴸ []ᴸ)
-      (3 ∷ᴸ 4 ∷ᴸ 6 ∷ᴸ 7 ∷ᴸ []ᴸ) (0 ∷ᴸ 0 ∷ᴸ 0 ∷ᴸ 0 ∷ᴸ []ᴸ) (3 ∷ᴸ 7 ∷ᴸ []ᴸ) (0 ∷ᴸ 0 ∷ᴸ []ᴸ))
+    (ofA (bytes "p cnf 2 4\n1 2 0\n-1 2 0\n1 -2 0\n-1 -2 0\n") ∷ᴸ ofB (bytes "p cnf 2 2\n1 2 0\n-1 -2 0\n") ∷ᴸ ofA (rupLine 0 []ᴸ) ∷ᴸ
+    ofB (over 1 0 1 (over 2 1 2 (rupLine 1 []ᴸ))) ∷ᴸ ofA end ∷ᴸ []ᴸ)
+    (say 35 38 0 0 6 ∷ᴸ say 35 24 0 0 4 ∷ᴸ say 19 0 0 0 6 ∷ᴸ say 14 6 0 0 5 ∷ᴸ say 19 0 0 0 6 ∷ᴸ []ᴸ)
+    (leave (entry 2 0 1 ∷ᴸ entry 1 2 1 ∷ᴸ entry 1 1 2 ∷ᴸ entry 2 1 0 ∷ᴸ entry 1 5 1 ∷ᴸ entry 1 1 5 ∷ᴸ []ᴸ)
+    (3 ∷ᴸ 4 ∷ᴸ 6 ∷ᴸ 7 ∷ᴸ []ᴸ) (0 ∷ᴸ 0 ∷ᴸ 0 ∷ᴸ 0 ∷ᴸ []ᴸ) (3 ∷ᴸ 7 ∷ᴸ []ᴸ) (0 ∷ᴸ 0 ∷ᴸ []ᴸ))
 
 -- 20 and 17 bind; a later line changes nothing.
 abbrev session-12 : Session
 session-12 =
     plays 24 12 10
-      (ofA (bytes "p cnf 2 1\n1 2 0\n") ∷ᴸ ofB (bytes "p cnf 2 2\n1 2 0\n-1 -2 0\n") ∷ᴸ ofA end ∷ᴸ ofB (rupLine 1 []ᴸ) ∷ᴸ
-       ofA (over 1 0 1 (rupLine 2 []ᴸ)) ∷ᴸ []ᴸ)
-      (say 35 16 0 0 2 ∷ᴸ say 35 24 0 0 4 ∷ᴸ say 20 0 0 0 2 ∷ᴸ say 17 0 0 0 4 ∷ᴸ say 20 0 0 0 2 ∷ᴸ []ᴸ)
-      (leave (entry 2 0 1 ∷ᴸ entry 1 2 1 ∷ᴸ entry 2 1 0 ∷ᴸ entry 1 1 4 ∷ᴸ []ᴸ)
-      (3 ∷ᴸ []ᴸ) (0 ∷ᴸ []ᴸ) (3 ∷ᴸ 5 ∷ᴸ []ᴸ) (0 ∷ᴸ 0 ∷ᴸ []ᴸ))
+    (ofA (bytes "p cnf 2 1\n1 2 0\n") ∷ᴸ ofB (bytes "p cnf 2 2\n1 2 0\n-1 -2 0\n") ∷ᴸ ofA end ∷ᴸ ofB (rupLine 1 []ᴸ) ∷ᴸ
+    ofA (over 1 0 1 (rupLine 2 []ᴸ)) ∷ᴸ []ᴸ)
+    (say 35 16 0 0 2 ∷ᴸ say 35 24 0 0 4 ∷ᴸ say 20 0 0 0 2 ∷ᴸ say 17 0 0 0 4 ∷ᴸ say 20 0 0 0 2 ∷ᴸ []ᴸ)
+    (leave (entry 2 0 1 ∷ᴸ entry 1 2 1 ∷ᴸ entry 2 1 0 ∷ᴸ entry 1 1 4 ∷ᴸ []ᴸ)
+    (3 ∷ᴸ []ᴸ) (0 ∷ᴸ []ᴸ) (3 ∷ᴸ 5 ∷ᴸ []ᴸ) (0 ∷ᴸ 0 ∷ᴸ []ᴸ))
 
 -- The sessions, as an independent checker plays them too (rust/reference: `open`, `book`, `dump`).
 abbrev pub sessions : List Session

@@ -4,7 +4,7 @@ use Prim.Native.Nat.{ℕ}
 use Rattle.table.specs.Nodes.{Node}
 use Rattle.verdict.specs.Steps.{emptied}
 use Rattle.shares.specs.Alone.{Answer, openedBook}
-use Rattle.shares.specs.Books.{Holding, Called, bookCall}
+use Rattle.shares.specs.Books.{Holding, bookCall}
 use Rattle.shares.specs.Turns.{Turn, ofA, ofB}
 
 pub record Two : Type 0 where

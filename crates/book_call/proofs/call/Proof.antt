@@ -14,7 +14,6 @@ module _ (s : tie.Start) where
   abbrev lists : BookLists
   lists = let a = s .args in listsMade (a .members .now) (a .struck .now) (a .own .now)
 
-
 book-fits-requires : tie.Need-book-fits-requires
 book-fits-requires c κs =
     search needs
@@ -297,12 +296,14 @@ returns : tie.Need-returns
 returns c =
     let s = start-from-then1 c in
     let a = s .args in
-    outcome-7 (a .vars .now) (a .lows .now) (a .highs .now) (a .heads .now) (a .links .now) (a .count) (lists s) (a .scratch .now) (a .b) (a .bytes .now)
+    outcome-7 (a .vars .now) (a .lows .now) (a .highs .now) (a .heads .now) (a .links .now) (a .count) (lists s) (a .scratch .now) (a .b)
+    (a .bytes .now)
     (sym (book-fits-from-then1 c .book-fits .ensures) ∙ not-true _ (c .if1 .taken))
 
 order-fits-requires : tie.Need-order-fits-requires
 order-fits-requires c κs =
-    lists-fit _ _ _ (sym (book-fits-from-order-fits-call c .book-fits .ensures) ∙ not-false _ (else1-from-order-fits-call c .if1 .left)) .columns
+    lists-fit _ _ _ (sym (book-fits-from-order-fits-call c .book-fits .ensures) ∙ not-false _ (else1-from-order-fits-call c .if1 .left))
+    .columns
 
 unfit-requires : tie.Need-unfit-requires
 unfit-requires c κs =
@@ -348,13 +349,15 @@ returns-2 : tie.Need-returns-2
 returns-2 c =
     let s = start-from-return-2 c in
     let a = s .args in
-    outcome-disordered (a .vars .now) (a .lows .now) (a .highs .now) (a .heads .now) (a .links .now) (a .count) (lists s) (a .scratch .now) (a .b) (a .bytes .now)
+    outcome-disordered (a .vars .now) (a .lows .now) (a .highs .now) (a .heads .now) (a .links .now) (a .count) (lists s) (a .scratch .now)
+    (a .b) (a .bytes .now)
     (sym (book-fits-from-return-2 c .book-fits .ensures) ∙ not-false _ (else1-from-return-2 c .if1 .left))
     (sym (order-fits-from-return-2 c .order-fits .ensures) ∙ not-true _ (then2-from-return-2 c .if2 .taken)) _ (c .unfit .ensures)
 
 holding-fits-requires : tie.Need-holding-fits-requires
 holding-fits-requires c κs =
-    let w = lists-fit _ _ _ (sym (book-fits-from-holding-fits-call c .book-fits .ensures) ∙ not-false _ (else1-from-holding-fits-call c .if1 .left)) in
+    let w = lists-fit _ _ _ (sym (book-fits-from-holding-fits-call c .book-fits .ensures)
+    ∙ not-false _ (else1-from-holding-fits-call c .if1 .left)) in
     (sized _ _ _ _ _ (w .columns) .least, w .members, w .struck)
 
 unfit-requires-2 : tie.Need-unfit-requires-2
@@ -401,7 +404,8 @@ returns-3 : tie.Need-returns-3
 returns-3 c =
     let s = start-from-return-3 c in
     let a = s .args in
-    outcome-unfit (a .vars .now) (a .lows .now) (a .highs .now) (a .heads .now) (a .links .now) (a .count) (lists s) (a .scratch .now) (a .b) (a .bytes .now)
+    outcome-unfit (a .vars .now) (a .lows .now) (a .highs .now) (a .heads .now) (a .links .now) (a .count) (lists s) (a .scratch .now)
+    (a .b) (a .bytes .now)
     (sym (book-fits-from-return-3 c .book-fits .ensures) ∙ not-false _ (else1-from-return-3 c .if1 .left))
     (sym (order-fits-from-return-3 c .order-fits .ensures) ∙ not-false _ (else2-from-return-3 c .if2 .left))
     (sym (holding-fits-from-return-3 c .holding-fits .ensures) ∙ not-true _ (then3-from-return-3 c .if3 .taken)) _ (c .unfit2 .ensures)
@@ -409,10 +413,13 @@ returns-3 c =
 call-64-requires : tie.Need-call-64-requires
 call-64-requires c κs =
     let s = start-from-call-64-call c in
-    let a = s .args in
-    (ready (a .vars .now) (a .lows .now) (a .highs .now) (a .heads .now) (a .links .now) (a .count) (lists s) (a .scratch .now) (a .b) (a .bytes .now) (sym (book-fits-from-call-64-call c .book-fits .ensures) ∙ not-false _ (else1-from-call-64-call c .if1 .left))
-    (sym (order-fits-from-call-64-call c .order-fits .ensures) ∙ not-false _ (else2-from-call-64-call c .if2 .left))
-    (sym (holding-fits-from-call-64-call c .holding-fits .ensures) ∙ not-false _ (else3-from-call-64-call c .if3 .left)), then4-from-call-64-call c .if4 .taken)
+    let a = s .args in (
+      ready (a .vars .now) (a .lows .now) (a .highs .now) (a .heads .now) (a .links .now) (a .count) (lists s) (a .scratch .now) (a .b)
+          (a .bytes .now) (sym (book-fits-from-call-64-call c .book-fits .ensures) ∙ not-false _ (else1-from-call-64-call c .if1 .left))
+          (sym (order-fits-from-call-64-call c .order-fits .ensures) ∙ not-false _ (else2-from-call-64-call c .if2 .left))
+          (sym (holding-fits-from-call-64-call c .holding-fits .ensures) ∙ not-false _ (else3-from-call-64-call c .if3 .left)),
+      then4-from-call-64-call c .if4 .taken,
+    )
 
 same-length-28 : tie.Need-same-length-28
 same-length-28 c =
@@ -454,18 +461,23 @@ returns-4 : tie.Need-returns-4
 returns-4 c =
     let s = start-from-return-4 c in
     let a = s .args in
-    outcome-done (a .vars .now) (a .lows .now) (a .highs .now) (a .heads .now) (a .links .now) (a .count) (lists s) (a .scratch .now) (a .b) (a .bytes .now)
+    outcome-done (a .vars .now) (a .lows .now) (a .highs .now) (a .heads .now) (a .links .now) (a .count) (lists s) (a .scratch .now) (a .b)
+    (a .bytes .now)
     (sym (book-fits-from-return-4 c .book-fits .ensures) ∙ not-false _ (else1-from-return-4 c .if1 .left))
     (sym (order-fits-from-return-4 c .order-fits .ensures) ∙ not-false _ (else2-from-return-4 c .if2 .left))
-    (sym (holding-fits-from-return-4 c .holding-fits .ensures) ∙ not-false _ (else3-from-return-4 c .if3 .left)) _ (call-64-from-return-4 c .call-64 .ensures)
+    (sym (holding-fits-from-return-4 c .holding-fits .ensures) ∙ not-false _ (else3-from-return-4 c .if3 .left)) _
+    (call-64-from-return-4 c .call-64 .ensures)
 
 call-4096-requires : tie.Need-call-4096-requires
 call-4096-requires c κs =
     let s = start-from-call-4096-call c in
-    let a = s .args in
-    (ready (a .vars .now) (a .lows .now) (a .highs .now) (a .heads .now) (a .links .now) (a .count) (lists s) (a .scratch .now) (a .b) (a .bytes .now) (sym (book-fits-from-call-4096-call c .book-fits .ensures) ∙ not-false _ (else1-from-call-4096-call c .if1 .left))
-    (sym (order-fits-from-call-4096-call c .order-fits .ensures) ∙ not-false _ (else2-from-call-4096-call c .if2 .left))
-    (sym (holding-fits-from-call-4096-call c .holding-fits .ensures) ∙ not-false _ (else3-from-call-4096-call c .if3 .left)), then5-from-call-4096-call c .if5 .taken)
+    let a = s .args in (
+      ready (a .vars .now) (a .lows .now) (a .highs .now) (a .heads .now) (a .links .now) (a .count) (lists s) (a .scratch .now) (a .b)
+          (a .bytes .now) (sym (book-fits-from-call-4096-call c .book-fits .ensures) ∙ not-false _ (else1-from-call-4096-call c .if1 .left))
+          (sym (order-fits-from-call-4096-call c .order-fits .ensures) ∙ not-false _ (else2-from-call-4096-call c .if2 .left))
+          (sym (holding-fits-from-call-4096-call c .holding-fits .ensures) ∙ not-false _ (else3-from-call-4096-call c .if3 .left)),
+      then5-from-call-4096-call c .if5 .taken,
+    )
 
 same-length-37 : tie.Need-same-length-37
 same-length-37 c =
@@ -507,18 +519,24 @@ returns-5 : tie.Need-returns-5
 returns-5 c =
     let s = start-from-return-5 c in
     let a = s .args in
-    outcome-done (a .vars .now) (a .lows .now) (a .highs .now) (a .heads .now) (a .links .now) (a .count) (lists s) (a .scratch .now) (a .b) (a .bytes .now)
+    outcome-done (a .vars .now) (a .lows .now) (a .highs .now) (a .heads .now) (a .links .now) (a .count) (lists s) (a .scratch .now) (a .b)
+    (a .bytes .now)
     (sym (book-fits-from-return-5 c .book-fits .ensures) ∙ not-false _ (else1-from-return-5 c .if1 .left))
     (sym (order-fits-from-return-5 c .order-fits .ensures) ∙ not-false _ (else2-from-return-5 c .if2 .left))
-    (sym (holding-fits-from-return-5 c .holding-fits .ensures) ∙ not-false _ (else3-from-return-5 c .if3 .left)) _ (call-4096-from-return-5 c .call-4096 .ensures)
+    (sym (holding-fits-from-return-5 c .holding-fits .ensures) ∙ not-false _ (else3-from-return-5 c .if3 .left)) _
+    (call-4096-from-return-5 c .call-4096 .ensures)
 
 call-65536-requires : tie.Need-call-65536-requires
 call-65536-requires c κs =
     let s = start-from-call-65536-call c in
-    let a = s .args in
-    (ready (a .vars .now) (a .lows .now) (a .highs .now) (a .heads .now) (a .links .now) (a .count) (lists s) (a .scratch .now) (a .b) (a .bytes .now) (sym (book-fits-from-call-65536-call c .book-fits .ensures) ∙ not-false _ (else1-from-call-65536-call c .if1 .left))
-    (sym (order-fits-from-call-65536-call c .order-fits .ensures) ∙ not-false _ (else2-from-call-65536-call c .if2 .left))
-    (sym (holding-fits-from-call-65536-call c .holding-fits .ensures) ∙ not-false _ (else3-from-call-65536-call c .if3 .left)), sized _ _ _ _ _ (lists-fit _ _ _ (sym (book-fits-from-call-65536-call c .book-fits .ensures) ∙ not-false _ (else1-from-call-65536-call c .if1 .left)) .columns) .most)
+    let a = s .args in (
+      ready (a .vars .now) (a .lows .now) (a .highs .now) (a .heads .now) (a .links .now) (a .count) (lists s) (a .scratch .now) (a .b)
+          (a .bytes .now) (sym (book-fits-from-call-65536-call c .book-fits .ensures) ∙ not-false _ (else1-from-call-65536-call c .if1 .left))
+          (sym (order-fits-from-call-65536-call c .order-fits .ensures) ∙ not-false _ (else2-from-call-65536-call c .if2 .left))
+          (sym (holding-fits-from-call-65536-call c .holding-fits .ensures) ∙ not-false _ (else3-from-call-65536-call c .if3 .left)),
+      sized _ _ _ _ _ (lists-fit _ _ _ (sym (book-fits-from-call-65536-call c .book-fits .ensures)
+          ∙ not-false _ (else1-from-call-65536-call c .if1 .left)) .columns) .most,
+    )
 
 same-length-46 : tie.Need-same-length-46
 same-length-46 c =
@@ -560,11 +578,21 @@ returns-6 : tie.Need-returns-6
 returns-6 c =
     let s = start-from-return-6 c in
     let a = s .args in
-    outcome-done (a .vars .now) (a .lows .now) (a .highs .now) (a .heads .now) (a .links .now) (a .count) (lists s) (a .scratch .now) (a .b) (a .bytes .now)
+    outcome-done (a .vars .now) (a .lows .now) (a .highs .now) (a .heads .now) (a .links .now) (a .count) (lists s) (a .scratch .now) (a .b)
+    (a .bytes .now)
     (sym (book-fits-from-return-6 c .book-fits .ensures) ∙ not-false _ (else1-from-return-6 c .if1 .left))
     (sym (order-fits-from-return-6 c .order-fits .ensures) ∙ not-false _ (else2-from-return-6 c .if2 .left))
-    (sym (holding-fits-from-return-6 c .holding-fits .ensures) ∙ not-false _ (else3-from-return-6 c .if3 .left)) _ (call-65536-from-return-6 c .call-65536 .ensures)
+    (sym (holding-fits-from-return-6 c .holding-fits .ensures) ∙ not-false _ (else3-from-return-6 c .if3 .left)) _
+    (call-65536-from-return-6 c .call-65536 .ensures)
 
 pub call-spec : {M : Type 1} → statement M
 call-spec =
-    tie.close (tie.spec book-fits-requires same-length same-length-2 same-length-3 same-length-4 same-length-5 same-length-6 same-length-7 same-length-8 same-length-9 returns order-fits-requires unfit-requires same-length-10 same-length-11 same-length-12 same-length-13 same-length-14 same-length-15 same-length-16 same-length-17 same-length-18 returns-2 holding-fits-requires unfit-requires-2 same-length-19 same-length-20 same-length-21 same-length-22 same-length-23 same-length-24 same-length-25 same-length-26 same-length-27 returns-3 call-64-requires same-length-28 same-length-29 same-length-30 same-length-31 same-length-32 same-length-33 same-length-34 same-length-35 same-length-36 returns-4 call-4096-requires same-length-37 same-length-38 same-length-39 same-length-40 same-length-41 same-length-42 same-length-43 same-length-44 same-length-45 returns-5 call-65536-requires same-length-46 same-length-47 same-length-48 same-length-49 same-length-50 same-length-51 same-length-52 same-length-53 same-length-54 returns-6)
+    tie.close (tie.spec book-fits-requires same-length same-length-2 same-length-3 same-length-4 same-length-5 same-length-6 same-length-7
+    same-length-8 same-length-9 returns order-fits-requires unfit-requires same-length-10 same-length-11 same-length-12 same-length-13
+    same-length-14 same-length-15 same-length-16 same-length-17 same-length-18 returns-2 holding-fits-requires unfit-requires-2
+    same-length-19 same-length-20 same-length-21 same-length-22 same-length-23 same-length-24 same-length-25 same-length-26
+    same-length-27 returns-3 call-64-requires same-length-28 same-length-29 same-length-30 same-length-31 same-length-32 same-length-33
+    same-length-34 same-length-35 same-length-36 returns-4 call-4096-requires same-length-37 same-length-38 same-length-39
+    same-length-40 same-length-41 same-length-42 same-length-43 same-length-44 same-length-45 returns-5 call-65536-requires
+    same-length-46 same-length-47 same-length-48 same-length-49 same-length-50 same-length-51 same-length-52 same-length-53
+    same-length-54 returns-6)

@@ -1,7 +1,6 @@
 -- `holding_fits` is the definition's test. Assumes nothing.
 use mathlib.Core.Path.{sym, _∙_}
 use native.Mathlib.Omega.{arith}
-use borrow.Author.Needs.{needs}
 use borrow.Author.Tests.{not-true, not-false}
 use Rattle.shares.specs.Books.{BookLists}
 use Rattle.book_line.specs.Says.{listsMade}
@@ -61,18 +60,25 @@ returns c =
 
 add-members-fit : tie.Need-add-members-fit
 add-members-fit c =
-    omega (arith, few-members _ _ (sym (numbers-fit-from-members-fit-call c .numbers-fit .ensures) ∙ not-false _ (else1-from-members-fit-call c .if1 .left)))
+    omega (
+      arith,
+      few-members _ _ (sym (numbers-fit-from-members-fit-call c .numbers-fit .ensures)
+          ∙ not-false _ (else1-from-members-fit-call c .if1 .left)),
+    )
 
 members-fit-requires : tie.Need-members-fit-requires
 members-fit-requires c κs =
     let s = start-from-members-fit-call c in
-    let m = few-members _ _ (sym (numbers-fit-from-members-fit-call c .numbers-fit .ensures) ∙ not-false _ (else1-from-members-fit-call c .if1 .left)) in
+    let m = few-members _ _ (sym (numbers-fit-from-members-fit-call c .numbers-fit .ensures)
+    ∙ not-false _ (else1-from-members-fit-call c .if1 .left)) in
     (omega (arith, m, s .pre .1), omega (arith, m, s .pre .1, s .pre .2))
 
 returns-2 : tie.Need-returns-2
 returns-2 c =
     let s = start-from-return-2 c in
-    numbers-within (s .args .size) (s .args .count) (s .args .b) (lists s) (sym (numbers-fit-from-return-2 c .numbers-fit .ensures) ∙ not-false _ (else1-from-return-2 c .if1 .left)) _ (c .members-fit .ensures)
+    numbers-within (s .args .size) (s .args .count) (s .args .b) (lists s)
+    (sym (numbers-fit-from-return-2 c .numbers-fit .ensures) ∙ not-false _ (else1-from-return-2 c .if1 .left)) _
+    (c .members-fit .ensures)
 
 pub holding-fits-spec : {M : Type 1} → statement M
 holding-fits-spec =

@@ -14,7 +14,8 @@ returns c = unfit-columns _ _ _ (sym (c .before .size-fits .ensures) ∙ not-tru
 
 returns-2 : tie.Need-returns-2
 returns-2 c =
-    sym (fit-columns _ _ _ (sym (c .before .before .size-fits .ensures) ∙ not-false _ (c .before .if1 .left)) ∙ rw (lt-leb _ _ (c .if2 .taken)))
+    sym (fit-columns _ _ _ (sym (c .before .before .size-fits .ensures) ∙ not-false _ (c .before .if1 .left))
+    ∙ rw (lt-leb _ _ (c .if2 .taken)))
 
 returns-3 : tie.Need-returns-3
 returns-3 c =
@@ -23,12 +24,14 @@ returns-3 c =
 
 returns-4 : tie.Need-returns-4
 returns-4 c =
-    sym (fit-columns _ _ _ (sym (c .before .before .before .before .size-fits .ensures) ∙ not-false _ (c .before .before .before .if1 .left))
+    sym (fit-columns _ _ _ (sym (c .before .before .before .before .size-fits .ensures)
+    ∙ not-false _ (c .before .before .before .if1 .left))
     ∙ rw (le-leb _ _ (c .before .before .if2 .left), eq-eqb _ _ (c .before .if3 .left), lt-leb _ _ (c .if4 .taken)))
 
 returns-5 : tie.Need-returns-5
 returns-5 c =
-    sym (fit-columns _ _ _ (sym (c .before .before .before .before .size-fits .ensures) ∙ not-false _ (c .before .before .before .if1 .left))
+    sym (fit-columns _ _ _ (sym (c .before .before .before .before .size-fits .ensures)
+    ∙ not-false _ (c .before .before .before .if1 .left))
     ∙ rw (le-leb _ _ (c .before .before .if2 .left), eq-eqb _ _ (c .before .if3 .left), le-leb _ _ (c .if4 .left)))
 
 pub book-fits-spec : {M : Type 1} → statement M

@@ -6,7 +6,6 @@ use Rattle.book_open.proofs.Opening.{first-unfit, second-unfit, shares-
 use Rattle.book_open.proofs.call.Statement.{statement}
 use Rattle.book_open.proofs.call.Tie as tie
 
-
 book-fits-requires : tie.Need-book-fits-requires
 book-fits-requires c κs =
     search needs
@@ -149,7 +148,8 @@ module _ (c : tie.After-as-opened2) where
 
 returns : tie.Need-returns
 returns c =
-    first-unfit _ _ _ _ _ _ _ _ _ _ _ _ _ (sym (book-fits-from-return c .book-fits .ensures) ∙ not-true _ (then1-from-return c .if1 .taken)) _
+    first-unfit _ _ _ _ _ _ _ _ _ _ _ _ _ (sym (book-fits-from-return c .book-fits .ensures) ∙ not-true _ (then1-from-return c .if1 .taken))
+    _
     (c .unopened .ensures)
 
 book-fits-requires-2 : tie.Need-book-fits-requires-2
@@ -210,7 +210,8 @@ same-length-21 c =
 
 returns-2 : tie.Need-returns-2
 returns-2 c =
-    second-unfit _ _ _ _ _ _ _ _ _ _ _ _ _ (sym (book-fits-from-return-2 c .book-fits .ensures) ∙ not-false _ (else1-from-return-2 c .if1 .left))
+    second-unfit _ _ _ _ _ _ _ _ _ _ _ _ _ (sym (book-fits-from-return-2 c .book-fits .ensures)
+    ∙ not-false _ (else1-from-return-2 c .if1 .left))
     (sym (book-fits2-from-return-2 c .book-fits2 .ensures) ∙ not-true _ (then2-from-return-2 c .if2 .taken)) _ (c .unopened2 .ensures)
 
 shares-fit-requires : tie.Need-shares-fit-requires
@@ -271,7 +272,8 @@ same-length-33 c =
 
 returns-3 : tie.Need-returns-3
 returns-3 c =
-    shares-unfit _ _ _ _ _ _ _ _ _ _ _ _ _ (sym (book-fits-from-return-3 c .book-fits .ensures) ∙ not-false _ (else1-from-return-3 c .if1 .left))
+    shares-unfit _ _ _ _ _ _ _ _ _ _ _ _ _ (sym (book-fits-from-return-3 c .book-fits .ensures)
+    ∙ not-false _ (else1-from-return-3 c .if1 .left))
     (sym (book-fits2-from-return-3 c .book-fits2 .ensures) ∙ not-false _ (else2-from-return-3 c .if2 .left))
     (sym (shares-fit-from-return-3 c .shares-fit .ensures) ∙ not-true _ (then3-from-return-3 c .if3 .taken)) _ (c .unopened3 .ensures)
 
@@ -351,10 +353,18 @@ returns-4 c =
     opens _ _ _ _ _ _ _ _ _ _ _ _ _ (sym (book-fits-from-return-4 c .book-fits .ensures) ∙ not-false _ (else1-from-return-4 c .if1 .left))
     (sym (book-fits2-from-return-4 c .book-fits2 .ensures) ∙ not-false _ (else2-from-return-4 c .if2 .left))
     (sym (shares-fit-from-return-4 c .shares-fit .ensures) ∙ not-false _ (else3-from-return-4 c .if3 .left)) _ _ _ _ _ (e .ensures .0)
-    (e .ensures .1 .0) (e .ensures .1 .1 .0) (e .ensures .1 .1 .1 .0) (e .ensures .1 .1 .1 .1 .0) _ _ _ _ _ _ _ (x .ensures .0) (x .ensures .1 .0)
+    (e .ensures .1 .0) (e .ensures .1 .1 .0) (e .ensures .1 .1 .1 .0) (e .ensures .1 .1 .1 .1 .0) _ _ _ _ _ _ _ (x .ensures .0)
+    (x .ensures .1 .0)
     (x .ensures .1 .1) (y .ensures .0) (y .ensures .1 .0) (y .ensures .1 .1) (e .ensures .1 .1 .1 .1 .1) _ _
     (as-opened-from-return-4 c .as-opened .ensures) (c .as-opened2 .ensures)
 
 pub call-spec : {M : Type 1} → statement M
 call-spec =
-    tie.close (tie.spec book-fits-requires unopened-requires same-length same-length-2 same-length-3 same-length-4 same-length-5 same-length-6 same-length-7 same-length-8 same-length-9 returns book-fits-requires-2 unopened-requires-2 same-length-10 same-length-11 same-length-12 same-length-13 same-length-14 same-length-15 same-length-16 same-length-17 same-length-18 same-length-19 same-length-20 same-length-21 returns-2 shares-fit-requires unopened-requires-3 same-length-22 same-length-23 same-length-24 same-length-25 same-length-26 same-length-27 same-length-28 same-length-29 same-length-30 same-length-31 same-length-32 same-length-33 returns-3 empty-requires clear-lists-requires clear-lists-requires-2 as-opened-requires as-opened-requires-2 same-length-34 same-length-35 same-length-36 same-length-37 same-length-38 same-length-39 same-length-40 same-length-41 same-length-42 same-length-43 same-length-44 same-length-45 returns-4)
+    tie.close (tie.spec book-fits-requires unopened-requires same-length same-length-2 same-length-3 same-length-4 same-length-5
+    same-length-6 same-length-7 same-length-8 same-length-9 returns book-fits-requires-2 unopened-requires-2 same-length-10
+    same-length-11 same-length-12 same-length-13 same-length-14 same-length-15 same-length-16 same-length-17 same-length-18
+    same-length-19 same-length-20 same-length-21 returns-2 shares-fit-requires unopened-requires-3 same-length-22 same-length-23
+    same-length-24 same-length-25 same-length-26 same-length-27 same-length-28 same-length-29 same-length-30 same-length-31
+    same-length-32 same-length-33 returns-3 empty-requires clear-lists-requires clear-lists-requires-2 as-opened-requires
+    as-opened-requires-2 same-length-34 same-length-35 same-length-36 same-length-37 same-length-38 same-length-39 same-length-40
+    same-length-41 same-length-42 same-length-43 same-length-44 same-length-45 returns-4)

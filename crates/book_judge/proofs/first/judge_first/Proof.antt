@@ -1,6 +1,5 @@
 -- `judge_first`: the formula read, then shared or refused (Formulas). Assumes nothing.
-use mathlib.Core.Path.{sym, ap, _∙_, subst}
-use native.Mathlib.Omega.{arith}
+use mathlib.Core.Path.{ap, _∙_, subst}
 use Rattle.table.specs.Indexed.{Table, tableOf}
 use Rattle.shares.specs.Books.{BookLists}
 use Rattle.book_parts.specs.Firsts.{verdictBy, ReadBy}
@@ -120,7 +119,8 @@ module _ (c : tie.After-said-by2) where
 returns : tie.Need-returns
 returns c =
     let s = start-from-return c in
-    first-unfit (shared s) (lists s) (s .args .b) (empty s) (s .args .found .now) (s .args .strikes .now) (s .pre) (s .args .bytes .now) (s .args .scratch .now) (then1-from-return c .if1 .taken) _ (c .unfit .ensures)
+    first-unfit (shared s) (lists s) (s .args .b) (empty s) (s .args .found .now) (s .args .strikes .now) (s .pre) (s .args .bytes .now)
+    (s .args .scratch .now) (then1-from-return c .if1 .taken) _ (c .unfit .ensures)
 
 clear-numbers-requires : tie.Need-clear-numbers-requires
 clear-numbers-requires c κs =
@@ -155,8 +155,17 @@ give-requires c κs =
     let s = start-from-give-call c in
     let y = read-formula-from-give-call c .read-formula in
     let g = variables-from-give-call c .variables .given .1 in
-    let B = subst (ReadBy (s .args .bytes .now) (y .last .0) (y .last .1 .0) (y .last .1 .1 .0) (y .last .1 .1 .1 .0) (y .last .1 .1 .1 .1 .0) (y .last .1 .1 .1 .1 .1 .0)) g (y .ensures .1) in
-    (first-shareable (shared s) (lists s) (s .args .b) (empty s) (s .args .found .now) (s .args .strikes .now) (s .pre) (s .args .bytes .now) (s .args .scratch .now) (else1-from-give-call c .if1 .left) _ _ (tableOf (y .last .0) (y .last .1 .0) (y .last .1 .1 .0) (y .last .1 .1 .1 .0) (y .last .1 .1 .1 .1 .0) _) (y .last .1 .1 .1 .1 .1 .0) (y .kept .0) (B .0) (y .kept .1 .1 .1 .1 .1 .0), first-give-ready (shared s) (lists s) (s .args .b) (empty s) (s .args .found .now) (s .args .strikes .now) (s .pre) (s .args .bytes .now) (s .args .scratch .now) (else1-from-give-call c .if1 .left) _ _ (tableOf (y .last .0) (y .last .1 .0) (y .last .1 .1 .0) (y .last .1 .1 .1 .0) (y .last .1 .1 .1 .1 .0) _) (y .last .1 .1 .1 .1 .1 .0) (y .kept .0) (B .0) (y .kept .1 .1 .1 .1 .1 .0))
+    let B = subst (ReadBy (s .args .bytes .now) (y .last .0) (y .last .1 .0) (y .last .1 .1 .0) (y .last .1 .1 .1 .0)
+    (y .last .1 .1 .1 .1 .0) (y .last .1 .1 .1 .1 .1 .0)) g (y .ensures .1) in (
+      first-shareable (shared s) (lists s) (s .args .b) (empty s) (s .args .found .now) (s .args .strikes .now) (s .pre)
+          (s .args .bytes .now) (s .args .scratch .now) (else1-from-give-call c .if1 .left) _ _
+          (tableOf (y .last .0) (y .last .1 .0) (y .last .1 .1 .0) (y .last .1 .1 .1 .0) (y .last .1 .1 .1 .1 .0) _)
+          (y .last .1 .1 .1 .1 .1 .0) (y .kept .0) (B .0) (y .kept .1 .1 .1 .1 .1 .0),
+      first-give-ready (shared s) (lists s) (s .args .b) (empty s) (s .args .found .now) (s .args .strikes .now) (s .pre)
+          (s .args .bytes .now) (s .args .scratch .now) (else1-from-give-call c .if1 .left) _ _
+          (tableOf (y .last .0) (y .last .1 .0) (y .last .1 .1 .0) (y .last .1 .1 .1 .0) (y .last .1 .1 .1 .1 .0) _)
+          (y .last .1 .1 .1 .1 .1 .0) (y .kept .0) (B .0) (y .kept .1 .1 .1 .1 .1 .0),
+    )
 
 read-requires : tie.Need-read-requires
 read-requires c κs =
@@ -212,7 +221,11 @@ returns-2 c =
     let y = read-formula-from-return-2 c .read-formula in
     let g = number-from-return-2 c .number .given .1 in
     let k = keep-from-return-2 c .keep in
-    formula-unread (shared s) (lists s) (s .args .b) (empty s) (s .args .found .now) (s .args .strikes .now) (s .pre) (s .args .bytes .now) (s .args .scratch .now) (else1-from-return-2 c .if1 .left) _ _ _ (y .ensures .0 ∙ ap (verdictBy (y .last .0) (y .last .1 .0) (y .last .1 .1 .0) (y .last .1 .1 .1 .0) (y .last .1 .1 .1 .1 .0) (y .last .1 .1 .1 .1 .1 .0)) g) _ _ _ (k .ensures .0) (k .ensures .1 .0) (k .ensures .1 .1) _ (c .before .unread .ensures) _ (c .said-by .ensures) _ (clear-numbers-from-return-2 c .clear-numbers .ensures)
+    formula-unread (shared s) (lists s) (s .args .b) (empty s) (s .args .found .now) (s .args .strikes .now) (s .pre) (s .args .bytes .now)
+    (s .args .scratch .now) (else1-from-return-2 c .if1 .left) _ _ _
+    (y .ensures .0 ∙ ap (verdictBy (y .last .0) (y .last .1 .0) (y .last .1 .1 .0) (y .last .1 .1 .1 .0) (y .last .1 .1 .1 .1 .0)
+    (y .last .1 .1 .1 .1 .1 .0)) g) _ _ _ (k .ensures .0) (k .ensures .1 .0) (k .ensures .1 .1) _ (c .before .unread .ensures) _
+    (c .said-by .ensures) _ (clear-numbers-from-return-2 c .clear-numbers .ensures)
 
 same-length-11 : tie.Need-same-length-11
 same-length-11 c =
@@ -279,8 +292,15 @@ returns-3 c =
     let s = start-from-return-3 c in
     let y = read-formula-from-return-3 c .read-formula in
     let g = variables-from-return-3 c .variables .given .1 in
-    let B = subst (ReadBy (s .args .bytes .now) (y .last .0) (y .last .1 .0) (y .last .1 .1 .0) (y .last .1 .1 .1 .0) (y .last .1 .1 .1 .1 .0) (y .last .1 .1 .1 .1 .1 .0)) g (y .ensures .1) in
-    formula-read (shared s) (lists s) (s .args .b) (empty s) (s .args .found .now) (s .args .strikes .now) (s .pre) (s .args .bytes .now) (s .args .scratch .now) (else1-from-return-3 c .if1 .left) _ _ (tableOf (y .last .0) (y .last .1 .0) (y .last .1 .1 .0) (y .last .1 .1 .1 .0) (y .last .1 .1 .1 .1 .0) _) (y .last .1 .1 .1 .1 .1 .0) (y .kept .0) (B .0) (y .kept .1 .1 .1 .1 .1 .0) (y .ensures .0 ∙ ap (verdictBy (y .last .0) (y .last .1 .0) (y .last .1 .1 .0) (y .last .1 .1 .1 .0) (y .last .1 .1 .1 .1 .0) (y .last .1 .1 .1 .1 .1 .0)) g) (B .1) _ _ _ _ (give-from-return-3 c .give .ensures) _ (c .before .read .ensures) _ (c .said-by2 .ensures) _ (clear-numbers-from-return-3 c .clear-numbers .ensures)
+    let B = subst (ReadBy (s .args .bytes .now) (y .last .0) (y .last .1 .0) (y .last .1 .1 .0) (y .last .1 .1 .1 .0)
+    (y .last .1 .1 .1 .1 .0) (y .last .1 .1 .1 .1 .1 .0)) g (y .ensures .1) in
+    formula-read (shared s) (lists s) (s .args .b) (empty s) (s .args .found .now) (s .args .strikes .now) (s .pre) (s .args .bytes .now)
+    (s .args .scratch .now) (else1-from-return-3 c .if1 .left) _ _
+    (tableOf (y .last .0) (y .last .1 .0) (y .last .1 .1 .0) (y .last .1 .1 .1 .0) (y .last .1 .1 .1 .1 .0) _)
+    (y .last .1 .1 .1 .1 .1 .0) (y .kept .0) (B .0) (y .kept .1 .1 .1 .1 .1 .0)
+    (y .ensures .0 ∙ ap (verdictBy (y .last .0) (y .last .1 .0) (y .last .1 .1 .0) (y .last .1 .1 .1 .0) (y .last .1 .1 .1 .1 .0)
+    (y .last .1 .1 .1 .1 .1 .0)) g) (B .1) _ _ _ _ (give-from-return-3 c .give .ensures) _ (c .before .read .ensures) _
+    (c .said-by2 .ensures) _ (clear-numbers-from-return-3 c .clear-numbers .ensures)
 
 pub judge-first-spec : {M : Type 1} → statement M
 judge-first-spec =

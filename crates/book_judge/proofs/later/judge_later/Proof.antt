@@ -21,11 +21,13 @@ module _ (s : tie.Start) where
   abbrev lent : Lent
   lent =
       let a = s .args in
-      lentOf (a .ownvars .now) (a .ownlows .now) (a .ownhighs .now) (a .ownheads .now) (a .ownlinks .now) (a .found .now) (a .scratch .now) (a .strikes .now)
+      lentOf (a .ownvars .now) (a .ownlows .now) (a .ownhighs .now) (a .ownheads .now) (a .ownlinks .now) (a .found .now) (a .scratch .now)
+      (a .strikes .now)
 
 module _ (x : tie.After-remake) where
   abbrev made : Table
-  made = let y = x .remake .last in tableOf (y .1 .1 .1 .0) (y .1 .1 .1 .1 .0) (y .1 .1 .1 .1 .1 .0) (y .1 .1 .1 .1 .1 .1 .0) (y .1 .1 .1 .1 .1 .1 .1 .0) (x .remake .result .count)
+  made = let y = x .remake .last in tableOf (y .1 .1 .1 .0) (y .1 .1 .1 .1 .0) (y .1 .1 .1 .1 .1 .0) (y .1 .1 .1 .1 .1 .1 .0)
+      (y .1 .1 .1 .1 .1 .1 .1 .0) (x .remake .result .count)
 
 -- The ways back, written by ways.py: TO-from-FROM leads from the place FROM of the code to the place TO before it.
 module _ (c : tie.After-struct-known) where
@@ -89,8 +91,14 @@ remake-requires c κs =
     let s = start-from-remake-call c in
     let Q = s .pre .0 in
     let m = few (shared s) (lists s) (s .args .b) (lent s) (s .args .known .now) (s .pre .0) in
-    let t = passed (shared s) (lists s) (s .args .b) (lent s) (s .args .known .now) (s .pre .0) in
-    (copyable (shared s) (lists s) (s .args .b) (lent s) (s .args .known .now) (s .pre .0), omega (arith, t .charge, t .places-in, Q .own), omega (arith, m, Q .members), omega (arith, m, Q .members, Q .struck), omega (arith, m, Q .room), omega (arith, m, Q .room, Q .marked))
+    let t = passed (shared s) (lists s) (s .args .b) (lent s) (s .args .known .now) (s .pre .0) in (
+      copyable (shared s) (lists s) (s .args .b) (lent s) (s .args .known .now) (s .pre .0),
+      omega (arith, t .charge, t .places-in, Q .own),
+      omega (arith, m, Q .members),
+      omega (arith, m, Q .members, Q .struck),
+      omega (arith, m, Q .room),
+      omega (arith, m, Q .room, Q .marked),
+    )
 
 unfit-requires : tie.Need-unfit-requires
 unfit-requires c κs =
@@ -156,14 +164,19 @@ returns : tie.Need-returns
 returns c =
     let s = start-from-return c in
     let x = remake-from-return c in
-    short-is (shared s) (lists s) (s .args .b) (lent s) (s .args .known .now) (s .pre .0) (x .remake .result .full) (made x) (x .remake .last .1 .1 .1 .1 .1 .1 .1 .1 .0) (x .remake .ensures .0 .0) (then1-from-return c .if1 .taken) (s .args .bytes .now) (s .args .scratch .now) _ (c .unfit .ensures)
+    short-is (shared s) (lists s) (s .args .b) (lent s) (s .args .known .now) (s .pre .0) (x .remake .result .full) (made x)
+    (x .remake .last .1 .1 .1 .1 .1 .1 .1 .1 .0) (x .remake .ensures .0 .0) (then1-from-return c .if1 .taken) (s .args .bytes .now)
+    (s .args .scratch .now) _ (c .unfit .ensures)
 
 judge-remade-requires : tie.Need-judge-remade-requires
 judge-remade-requires c κs =
     let s = start-from-judge-remade-call c in
     let x = remake-from-judge-remade-call c in
     let y = x .remake in (
-      remade (shared s) (lists s) (s .args .b) (lent s) (s .args .known .now) (s .pre .0) (y .result .full) (made x) (y .last .1 .1 .1 .1 .1 .1 .1 .1 .0) (y .ensures .0 .0) (else1-from-judge-remade-call c .if1 .left) (y .last .1 .1 .1 .1 .1 .1 .1 .1 .1 .0) (y .last .1 .1 .1 .1 .1 .1 .1 .1 .1 .1 .0) (y .ensures .0 .1) (y .kept .1 .1 .1 .1 .1 .1 .1 .1 .1 .0) (y .ensures .1),
+      remade (shared s) (lists s) (s .args .b) (lent s) (s .args .known .now) (s .pre .0) (y .result .full) (made x)
+          (y .last .1 .1 .1 .1 .1 .1 .1 .1 .0) (y .ensures .0 .0) (else1-from-judge-remade-call c .if1 .left)
+          (y .last .1 .1 .1 .1 .1 .1 .1 .1 .1 .0) (y .last .1 .1 .1 .1 .1 .1 .1 .1 .1 .1 .0) (y .ensures .0 .1)
+          (y .kept .1 .1 .1 .1 .1 .1 .1 .1 .1 .0) (y .ensures .1),
       (s .pre .1 .0 ∙ ap unmarked (sym (y .kept .1 .1 .1 .0)), omega (arith, s .pre .1 .1, y .kept .1 .1 .1 .0), s .pre .1 .2),
     )
 
@@ -201,7 +214,8 @@ same-length-22 c =
 
 same-length-23 : tie.Need-same-length-23
 same-length-23 c =
-    judge-remade-from-return-2 c .judge-remade .kept .1 .1 .1 .1 .1 .1 .1 .0 ∙ remake-from-return-2 c .remake .kept .1 .1 .1 .1 .1 .1 .1 .1 .1 .0
+    judge-remade-from-return-2 c .judge-remade .kept .1 .1 .1 .1 .1 .1 .1 .0
+    ∙ remake-from-return-2 c .remake .kept .1 .1 .1 .1 .1 .1 .1 .1 .1 .0
 
 same-length-24 : tie.Need-same-length-24
 same-length-24 c =
@@ -209,7 +223,8 @@ same-length-24 c =
 
 same-length-25 : tie.Need-same-length-25
 same-length-25 c =
-    judge-remade-from-return-2 c .judge-remade .kept .1 .1 .1 .1 .1 .1 .1 .1 .1 .0 ∙ remake-from-return-2 c .remake .kept .1 .1 .1 .1 .1 .1 .1 .1 .1 .1 .0
+    judge-remade-from-return-2 c .judge-remade .kept .1 .1 .1 .1 .1 .1 .1 .1 .1 .0
+    ∙ remake-from-return-2 c .remake .kept .1 .1 .1 .1 .1 .1 .1 .1 .1 .1 .0
 
 same-length-26 : tie.Need-same-length-26
 same-length-26 c =
@@ -247,7 +262,9 @@ returns-2 : tie.Need-returns-2
 returns-2 c =
     let s = start-from-return-2 c in
     let x = remake-from-return-2 c in
-    all-is (shared s) (lists s) (s .args .b) (lent s) (s .args .known .now) (s .pre .0) (x .remake .result .full) (made x) (x .remake .last .1 .1 .1 .1 .1 .1 .1 .1 .0) (x .remake .ensures .0 .0) (else1-from-return-2 c .if1 .left) (s .args .bytes .now) (s .args .scratch .now) _ (judge-remade-from-return-2 c .judge-remade .ensures)
+    all-is (shared s) (lists s) (s .args .b) (lent s) (s .args .known .now) (s .pre .0) (x .remake .result .full) (made x)
+    (x .remake .last .1 .1 .1 .1 .1 .1 .1 .1 .0) (x .remake .ensures .0 .0) (else1-from-return-2 c .if1 .left) (s .args .bytes .now)
+    (s .args .scratch .now) _ (judge-remade-from-return-2 c .judge-remade .ensures)
 
 pub judge-later-spec : {M : Type 1} → statement M
 judge-later-spec =

@@ -21,7 +21,8 @@ module _ (s : tie.Start) where
   abbrev lent : Lent
   lent =
       let a = s .args in
-      lentOf (a .ownvars .now) (a .ownlows .now) (a .ownhighs .now) (a .ownheads .now) (a .ownlinks .now) (a .found .now) (a .scratch .now) (a .strikes .now)
+      lentOf (a .ownvars .now) (a .ownlows .now) (a .ownhighs .now) (a .ownheads .now) (a .ownlinks .now) (a .found .now) (a .scratch .now)
+      (a .strikes .now)
 
 -- src/later.rt:109:8
 sub-if1 : tie.Need-sub-if1
@@ -123,7 +124,8 @@ module _ (c : tie.After-slice-known37) where
 returns : tie.Need-returns
 returns c =
     let s = start-from-return c in
-    unfit-is (shared s) (lists s) (s .args .b) (lent s) (s .args .owncount) (s .pre .0) (s .args .bytes .now) (s .args .scratch .now) (then1-from-return c .if1 .taken) _ (c .unfit .ensures)
+    unfit-is (shared s) (lists s) (s .args .b) (lent s) (s .args .owncount) (s .pre .0) (s .args .bytes .now) (s .args .scratch .now)
+    (then1-from-return c .if1 .taken) _ (c .unfit .ensures)
 
 -- src/later.rt:114:27
 enum-told : tie.Need-enum-told
@@ -157,8 +159,14 @@ run-line-requires : tie.Need-run-line-requires
 run-line-requires c κs =
     let s = start-from-run-line-call c in
     let e = sym (first-state-from-run-line-call c .first-state .ensures) in (
-      (subst (Held 64 (lent s)) e (held (shared s) (lists s) (s .args .b) (lent s) (s .args .owncount) (s .pre .0)), s .pre .1 .0, s .pre .1 .1),
-      subst (LineReady (shared s) (lists s) (s .args .b) (lent s)) e (line-ready (shared s) (lists s) (s .args .b) (lent s) (s .args .owncount) (s .pre .0) (enum-told2-from-run-line-call c .enum-told2 .given .1) (else1-from-run-line-call c .if1 .left)),
+      (
+        subst (Held 64 (lent s)) e (held (shared s) (lists s) (s .args .b) (lent s) (s .args .owncount) (s .pre .0)),
+        s .pre .1 .0,
+        s .pre .1 .1,
+      ),
+      subst (LineReady (shared s) (lists s) (s .args .b) (lent s)) e
+          (line-ready (shared s) (lists s) (s .args .b) (lent s) (s .args .owncount) (s .pre .0)
+          (enum-told2-from-run-line-call c .enum-told2 .given .1) (else1-from-run-line-call c .if1 .left)),
     )
 
 -- src/later.rt:142:13
@@ -175,7 +183,8 @@ returns-2 c =
 returns-3 : tie.Need-returns-3
 returns-3 c =
     let s = start-from-return-3 c in
-    bound-is (shared s) (lists s) (s .args .b) (lent s) (s .args .owncount) (s .pre .0) (s .args .bytes .now) (s .args .scratch .now) (else1-from-return-3 c .if1 .left) _ _ (stage-from-return-3 c .stage .given .1) _ (c .said-by .ensures)
+    bound-is (shared s) (lists s) (s .args .b) (lent s) (s .args .owncount) (s .pre .0) (s .args .bytes .now) (s .args .scratch .now)
+    (else1-from-return-3 c .if1 .left) _ _ (stage-from-return-3 c .stage .given .1) _ (c .said-by .ensures)
 
 -- src/later.rt:71:1
 same-length : tie.Need-same-length
@@ -272,7 +281,9 @@ returns-4 : tie.Need-returns-4
 returns-4 c =
     let s = start-from-return-4 c in
     let x = run-line-from-return-4 c .run-line in
-    line-ran (shared s) (lists s) (s .args .b) (lent s) (s .args .owncount) (s .pre .0) (s .args .bytes .now) (s .args .scratch .now) (else1-from-return-4 c .if1 .left) (enum-told2-from-return-4 c .enum-told2 .given .1) _ (first-state-from-return-4 c .first-state .ensures)
+    line-ran (shared s) (lists s) (s .args .b) (lent s) (s .args .owncount) (s .pre .0) (s .args .bytes .now) (s .args .scratch .now)
+    (else1-from-return-4 c .if1 .left) (enum-told2-from-return-4 c .enum-told2 .given .1) _
+    (first-state-from-return-4 c .first-state .ensures)
     _ _ _ _ (clear-numbers-from-return-4 c .clear-numbers .ensures ∙ ap zeros (x .kept .1 .1 .1 .1 .1 .1 .1 .1 .0)) (x .ensures)
 
 pub judge-remade-spec : {M : Type 1} → statement M

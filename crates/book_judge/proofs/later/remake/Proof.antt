@@ -1,7 +1,6 @@
 -- `remake`: the marks copied, then the own table. Assumes nothing.
 use mathlib.Core.Path.{sym, ap₂, _∙_}
 use native.Mathlib.Omega.{arith}
-use lib.ListN.{take}
 use lib.Seq.{length-take-le}
 use Rattle.shares.specs.Books.{padded}
 use borrow.Author.Needs.{needs}
@@ -116,8 +115,11 @@ same-length-8 c =
 -- src/later.rt:22:1
 returns : tie.Need-returns
 returns c =
-    let k = copy-marks-from-return c .copy-marks in
-    (rebuild-from-return c .rebuild .ensures, zero-marks-from-from-return c .zero-marks-from .ensures ∙ ap₂ padded (k .ensures) (k .kept .0))
+    let k = copy-marks-from-return c .copy-marks in (
+      rebuild-from-return c .rebuild .ensures,
+      zero-marks-from-from-return c .zero-marks-from .ensures
+          ∙ ap₂ padded (k .ensures) (k .kept .0),
+    )
 
 pub remake-spec : {M : Type 1} → statement M
 remake-spec =

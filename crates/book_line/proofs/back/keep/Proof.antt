@@ -1,8 +1,5 @@
 -- `keep`: the parts one after the other. Assumes nothing.
-use mathlib.Core.Path.{ap, ap₂, _∙_}
-use mathlib.Core.List.{List}
-use Prim.Native.Nat.{ℕ}
-use lib.ListN.{take}
+use mathlib.Core.Path.{ap₂, _∙_}
 use Rattle.shares.specs.Books.{padded}
 use borrow.Author.Needs.{needs}
 use Rattle.book_line.proofs.back.keep.Statement.{statement}

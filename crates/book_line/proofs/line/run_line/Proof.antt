@@ -1,6 +1,5 @@
 -- `run_line`: the records, then sharing or what a refused call leaves (Ending). Assumes nothing.
-use mathlib.Core.Path.{_≡_, sym, ap, _∙_, subst}
-use Prim.Native.Nat.{ℕ}
+use mathlib.Core.Path.{ap, _∙_, subst}
 use native.Mathlib.Omega.{arith}
 use Rattle.state.specs.States.{Lent, lentOf}
 use Rattle.book_parts.specs.Lines.{endingOf, EndsHeld}
@@ -15,7 +14,8 @@ module _ (x : tie.After-read-line) where
   abbrev left : Lent
   left =
       let y = x .read-line .last in
-      lentOf (y .0) (y .1 .0) (y .1 .1 .0) (y .1 .1 .1 .0) (y .1 .1 .1 .1 .0) (y .1 .1 .1 .1 .1 .1 .1 .0) (y .1 .1 .1 .1 .1 .1 .1 .1 .0) (y .1 .1 .1 .1 .1 .1 .1 .1 .1 .0)
+      lentOf (y .0) (y .1 .0) (y .1 .1 .0) (y .1 .1 .1 .0) (y .1 .1 .1 .1 .0) (y .1 .1 .1 .1 .1 .1 .1 .0) (y .1 .1 .1 .1 .1 .1 .1 .1 .0)
+      (y .1 .1 .1 .1 .1 .1 .1 .1 .1 .0)
 
 -- The ways back, written by ways.py: TO-from-FROM leads from the place FROM of the code to the place TO before it.
 module _ (c : tie.After-read-line-arg10) where
@@ -145,8 +145,10 @@ give-requires c κs =
     let g = st-from-give-call c .st .given .1 in
     let m = s .args .first .members in
     let e = x .read-line .ensures .0 .0 ∙ ap (endingOf (left x) m) g in
-    let H = subst (EndsHeld (left x) m) g (x .read-line .ensures .0 .1) in
-    (shareable _ _ _ _ _ (s .pre .1) (s .pre .0 .0) (s .args .bytes .now) (s .args .scratch .now) (left x) _ e H, give-ready _ _ _ _ _ (s .pre .1) (s .pre .0 .0) (s .args .bytes .now) (s .args .scratch .now) (left x) _ e H)
+    let H = subst (EndsHeld (left x) m) g (x .read-line .ensures .0 .1) in (
+      shareable _ _ _ _ _ (s .pre .1) (s .pre .0 .0) (s .args .bytes .now) (s .args .scratch .now) (left x) _ e H,
+      give-ready _ _ _ _ _ (s .pre .1) (s .pre .0 .0) (s .args .bytes .now) (s .args .scratch .now) (left x) _ e H,
+    )
 
 -- src/line.rt:98:57
 with-line-requires : tie.Need-with-line-requires
@@ -237,7 +239,8 @@ returns c =
     let m = s .args .first .members in
     let e = x .read-line .ensures .0 .0 ∙ ap (endingOf (left x) m) g in
     let k = keep-from-return c .keep in
-    refused-is _ _ _ _ _ (s .pre .1) (s .pre .0 .0) (s .args .bytes .now) (s .args .scratch .now) _ _ _ (left x .struck) e _ _ _ (k .ensures .0) (k .ensures .1 .0) (k .ensures .1 .1) _ (c .before .bound .ensures) _ (c .said-by .ensures)
+    refused-is _ _ _ _ _ (s .pre .1) (s .pre .0 .0) (s .args .bytes .now) (s .args .scratch .now) _ _ _ (left x .struck) e _ _ _
+    (k .ensures .0) (k .ensures .1 .0) (k .ensures .1 .1) _ (c .before .bound .ensures) _ (c .said-by .ensures)
 
 -- src/line.rt:20:1
 same-length-14 : tie.Need-same-length-14
@@ -339,7 +342,8 @@ returns-2 c =
     let e = x .read-line .ensures .0 .0 ∙ ap (endingOf (left x) m) g in
     let H = subst (EndsHeld (left x) m) g (x .read-line .ensures .0 .1) in
     let k = give-from-return-2 c .give in
-    accepted-is _ _ _ _ _ (s .pre .1) (s .pre .0 .0) (s .args .bytes .now) (s .args .scratch .now) (left x) _ e H _ _ _ _ (k .ensures) _ (c .before .with-line .ensures) _ (c .said-by2 .ensures)
+    accepted-is _ _ _ _ _ (s .pre .1) (s .pre .0 .0) (s .args .bytes .now) (s .args .scratch .now) (left x) _ e H _ _ _ _ (k .ensures) _
+    (c .before .with-line .ensures) _ (c .said-by2 .ensures)
 
 pub run-line-spec : {M : Type 1} → statement M
 run-line-spec =

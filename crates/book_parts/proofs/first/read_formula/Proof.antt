@@ -11,7 +11,6 @@ use borrow.Author.Needs.{needs}
 use Rattle.book_parts.proofs.first.read_formula.Statement.{statement}
 use Rattle.book_parts.proofs.first.read_formula.Tie as tie
 
-
 read-header-requires : tie.Need-read-header-requires
 read-header-requires c κs =
     tt
@@ -91,7 +90,9 @@ module _ (c : tie.After-known-told4) where
 
 read-clauses-requires : tie.Need-read-clauses-requires
 read-clauses-requires c κs =
-    let s = start-from-read-clauses-call c in let e = (sym (read-header-from-read-clauses-call c .read-header .ensures) ∙ variables-from-read-clauses-call c .variables .given .1) in (s .pre, subst (HeaderIn (s .args .formula .now)) e (header-in (s .args .formula .now)))
+    let s = start-from-read-clauses-call c in let e =
+    (sym (read-header-from-read-clauses-call c .read-header .ensures) ∙ variables-from-read-clauses-call c .variables .given .1) in
+    (s .pre, subst (HeaderIn (s .args .formula .now)) e (header-in (s .args .formula .now)))
 
 enum-known-number-2 : tie.Need-enum-known-number-2
 enum-known-number-2 c =
@@ -103,7 +104,11 @@ enum-known-count c =
 
 returns : tie.Need-returns
 returns c =
-    let s = start-from-return c in (header-refused (length (s .args .vars .now)) _ _ _ (sym (read-header-from-return c .read-header .ensures) ∙ number-from-return c .number .given .1), tt)
+    let s = start-from-return c in (
+      header-refused (length (s .args .vars .now)) _ _ _
+          (sym (read-header-from-return c .read-header .ensures) ∙ number-from-return c .number .given .1),
+      tt,
+    )
 
 same-length : tie.Need-same-length
 same-length c =
@@ -131,7 +136,13 @@ same-length-6 c =
 
 returns-2 : tie.Need-returns-2
 returns-2 c =
-    let s = start-from-return-2 c in let r = read-clauses-from-return-2 c in let x = r .read-clauses .last in let e = (sym (read-header-from-return-2 c .read-header .ensures) ∙ variables-from-return-2 c .variables .given .1) in (header-proper (length (s .args .vars .now)) _ _ _ _ e ∙ r .read-clauses .ensures .0 inRecords [] ∙ ap (saidFrom inRecords _ [] (x .0) (x .1 .0) (x .1 .1 .0) (x .1 .1 .1 .0) (x .1 .1 .1 .1 .0) (x .1 .1 .1 .1 .1 .0)) (number2-from-return-2 c .number2 .given .1), tt)
+    let s = start-from-return-2 c in let r = read-clauses-from-return-2 c in let x = r .read-clauses .last in let e =
+    (sym (read-header-from-return-2 c .read-header .ensures) ∙ variables-from-return-2 c .variables .given .1) in (
+      header-proper (length (s .args .vars .now)) _ _ _ _ e ∙ r .read-clauses .ensures .0 inRecords []
+          ∙ ap (saidFrom inRecords _ [] (x .0) (x .1 .0) (x .1 .1 .0) (x .1 .1 .1 .0) (x .1 .1 .1 .1 .0) (x .1 .1 .1 .1 .1 .0))
+          (number2-from-return-2 c .number2 .given .1),
+      tt,
+    )
 
 same-length-7 : tie.Need-same-length-7
 same-length-7 c =
@@ -159,7 +170,15 @@ same-length-12 c =
 
 returns-3 : tie.Need-returns-3
 returns-3 c =
-    let s = start-from-return-3 c in let r = read-clauses-from-return-3 c in let x = r .read-clauses .last in let e = (sym (read-header-from-return-3 c .read-header .ensures) ∙ variables-from-return-3 c .variables .given .1) in let q = count-from-return-3 c .count .given .1 in let B = subst (Begins _ (x .0) (x .1 .0) (x .1 .1 .0) (x .1 .1 .1 .0) (x .1 .1 .1 .1 .0) (x .1 .1 .1 .1 .1 .0)) q (r .read-clauses .ensures .1) in (header-proper (length (s .args .vars .now)) _ _ _ _ e ∙ r .read-clauses .ensures .0 inRecords [] ∙ ap (saidFrom inRecords _ [] (x .0) (x .1 .0) (x .1 .1 .0) (x .1 .1 .1 .0) (x .1 .1 .1 .1 .0) (x .1 .1 .1 .1 .1 .0)) q ∙ begun-said _ _ _ (B .good) _, (B, sym (ap variablesOf e)))
+    let s = start-from-return-3 c in let r = read-clauses-from-return-3 c in let x = r .read-clauses .last in let e =
+    (sym (read-header-from-return-3 c .read-header .ensures) ∙ variables-from-return-3 c .variables .given .1) in let q =
+    count-from-return-3 c .count .given .1 in let B = subst
+    (Begins _ (x .0) (x .1 .0) (x .1 .1 .0) (x .1 .1 .1 .0) (x .1 .1 .1 .1 .0) (x .1 .1 .1 .1 .1 .0)) q (r .read-clauses .ensures .1) in (
+      header-proper (length (s .args .vars .now)) _ _ _ _ e ∙ r .read-clauses .ensures .0 inRecords []
+          ∙ ap (saidFrom inRecords _ [] (x .0) (x .1 .0) (x .1 .1 .0) (x .1 .1 .1 .0) (x .1 .1 .1 .1 .0) (x .1 .1 .1 .1 .1 .0)) q
+          ∙ begun-said _ _ _ (B .good) _,
+      (B, sym (ap variablesOf e)),
+    )
 
 pub read-formula-spec : {M : Type 1} → statement M
 read-formula-spec =

@@ -14,7 +14,6 @@ abbrev μ-loop : tie.MeasureT-loop
 μ-loop members struck m count i₀ i =
     m - i
 
-
 loop-holds : tie.Need-loop-holds Inv-loop μ-loop
 loop-holds c =
     fitting-start _ _ _ _
@@ -90,7 +89,8 @@ cast-if1 c =
 
 returns : tie.Need-returns Inv-loop μ-loop
 returns c =
-    member-beyond _ _ _ _ (start-from-then1 c .pre .0) (start-from-then1 c .pre .1) _ (at-loop-from-then1 c .loop .inv) (in-loop-from-then1 c .loop-test .taken) (c .if1 .taken)
+    member-beyond _ _ _ _ (start-from-then1 c .pre .0) (start-from-then1 c .pre .1) _ (at-loop-from-then1 c .loop .inv)
+    (in-loop-from-then1 c .loop-test .taken) (c .if1 .taken)
 
 shared-slice-read-if2 : tie.Need-shared-slice-read-if2 Inv-loop μ-loop
 shared-slice-read-if2 c =
@@ -98,7 +98,8 @@ shared-slice-read-if2 c =
 
 returns-2 : tie.Need-returns-2 Inv-loop μ-loop
 returns-2 c =
-    mark-beyond _ _ _ _ (start-from-then2 c .pre .0) (start-from-then2 c .pre .1) _ (at-loop-from-then2 c .loop .inv) (in-loop-from-then2 c .loop-test .taken) (c .if2 .taken)
+    mark-beyond _ _ _ _ (start-from-then2 c .pre .0) (start-from-then2 c .pre .1) _ (at-loop-from-then2 c .loop .inv)
+    (in-loop-from-then2 c .loop-test .taken) (c .if2 .taken)
 
 add-i : tie.Need-add-i Inv-loop μ-loop
 add-i c =
@@ -110,7 +111,8 @@ loop-less c =
 
 loop-again : tie.Need-loop-again Inv-loop μ-loop
 loop-again c =
-    fitting-next _ _ _ _ (start-from-else2 c .pre .0) (start-from-else2 c .pre .1) _ (at-loop-from-else2 c .loop .inv) (in-loop-from-else2 c .loop-test .taken) (omega (arith, else1-from-else2 c .if1 .left)) (omega (arith, c .if2 .left))
+    fitting-next _ _ _ _ (start-from-else2 c .pre .0) (start-from-else2 c .pre .1) _ (at-loop-from-else2 c .loop .inv)
+    (in-loop-from-else2 c .loop-test .taken) (omega (arith, else1-from-else2 c .if1 .left)) (omega (arith, c .if2 .left))
 
 returns-3 : tie.Need-returns-3 Inv-loop μ-loop
 returns-3 c =

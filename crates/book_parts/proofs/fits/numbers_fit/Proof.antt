@@ -1,9 +1,9 @@
 -- `numbers_fit`: each test in the order of the definition (Fitting). Assumes nothing.
-use Rattle.book_parts.proofs.Fitting.{share-beyond, variables-beyond, clauses-beyond, lines-beyond, rounds-beyond, charge-beyond, peak-last}
+use Rattle.book_parts.proofs.Fitting.{share-beyond, variables-beyond, clauses-beyond, lines-beyond, rounds-beyond, charge-beyond}
+use Rattle.book_parts.proofs.Fitting.{peak-last}
 use borrow.Author.Needs.{needs}
 use Rattle.book_parts.proofs.fits.numbers_fit.Statement.{statement}
 use Rattle.book_parts.proofs.fits.numbers_fit.Tie as tie
-
 
 sub-if1 : tie.Need-sub-if1
 sub-if1 c =
@@ -123,7 +123,7 @@ module _ (c : tie.After-struct-known7) where
 
 returns : tie.Need-returns
 returns c =
-    share-beyond _ _ (start-from-then1 c .pre)  (c .if1 .taken)
+    share-beyond _ _ (start-from-then1 c .pre) (c .if1 .taken)
 
 returns-2 : tie.Need-returns-2
 returns-2 c =
@@ -135,19 +135,24 @@ returns-3 c =
 
 returns-4 : tie.Need-returns-4
 returns-4 c =
-    lines-beyond _ _ (start-from-then4 c .pre) (else1-from-then4 c .if1 .left) (else2-from-then4 c .if2 .left) (else3-from-then4 c .if3 .left) (c .if4 .taken)
+    lines-beyond _ _ (start-from-then4 c .pre) (else1-from-then4 c .if1 .left) (else2-from-then4 c .if2 .left)
+    (else3-from-then4 c .if3 .left) (c .if4 .taken)
 
 returns-5 : tie.Need-returns-5
 returns-5 c =
-    rounds-beyond _ _ (start-from-then5 c .pre) (else1-from-then5 c .if1 .left) (else2-from-then5 c .if2 .left) (else3-from-then5 c .if3 .left) (else4-from-then5 c .if4 .left) (c .if5 .taken)
+    rounds-beyond _ _ (start-from-then5 c .pre) (else1-from-then5 c .if1 .left) (else2-from-then5 c .if2 .left)
+    (else3-from-then5 c .if3 .left) (else4-from-then5 c .if4 .left) (c .if5 .taken)
 
 returns-6 : tie.Need-returns-6
 returns-6 c =
-    charge-beyond _ _ (start-from-then6 c .pre) (else1-from-then6 c .if1 .left) (else2-from-then6 c .if2 .left) (else3-from-then6 c .if3 .left) (else4-from-then6 c .if4 .left) (else5-from-then6 c .if5 .left) (c .if6 .taken)
+    charge-beyond _ _ (start-from-then6 c .pre) (else1-from-then6 c .if1 .left) (else2-from-then6 c .if2 .left)
+    (else3-from-then6 c .if3 .left) (else4-from-then6 c .if4 .left) (else5-from-then6 c .if5 .left) (c .if6 .taken)
 
 returns-7 : tie.Need-returns-7
 returns-7 c =
-    peak-last _ _ (start-from-return-7 c .pre) (else1-from-return-7 c .if1 .left) (else2-from-return-7 c .if2 .left) (else3-from-return-7 c .if3 .left) (else4-from-return-7 c .if4 .left) (else5-from-return-7 c .if5 .left) (else6-from-return-7 c .if6 .left)
+    peak-last _ _ (start-from-return-7 c .pre) (else1-from-return-7 c .if1 .left) (else2-from-return-7 c .if2 .left)
+    (else3-from-return-7 c .if3 .left) (else4-from-return-7 c .if4 .left) (else5-from-return-7 c .if5 .left)
+    (else6-from-return-7 c .if6 .left)
 
 pub numbers-fit-spec : {M : Type 1} → statement M
 numbers-fit-spec =

@@ -6,7 +6,6 @@ use borrow.Author.Needs.{needs}
 use Rattle.book_parts.proofs.line.book_step.Statement.{statement}
 use Rattle.book_parts.proofs.line.book_step.Tie as tie
 
-
 is-beyond-requires : tie.Need-is-beyond-requires
 is-beyond-requires c κs =
     search needs
@@ -77,7 +76,12 @@ record-length-requires c κs =
 
 returns-2 : tie.Need-returns-2
 returns-2 c =
-    let s = start-from-return-2 c in let e = else1-from-return-2 c in let f = is-followed-line-from-return-2 c in let q = sym (is-beyond-from-return-2 c .is-beyond .ensures) ∙ e .if1 .left in (line-stops _ _ _ _ (s .pre .0) _ _ q (sym (f .is-followed-line .ensures) ∙ then2-from-return-2 c .if2 .taken) _ (c .record-length .ensures), s .pre .1)
+    let s = start-from-return-2 c in let e = else1-from-return-2 c in let f = is-followed-line-from-return-2 c in let q =
+    sym (is-beyond-from-return-2 c .is-beyond .ensures) ∙ e .if1 .left in (
+      line-stops _ _ _ _ (s .pre .0) _ _ q (sym (f .is-followed-line .ensures) ∙ then2-from-return-2 c .if2 .taken) _
+          (c .record-length .ensures),
+      s .pre .1,
+    )
 
 record-step-requires : tie.Need-record-step-requires
 record-step-requires c κs =
@@ -125,7 +129,15 @@ same-length-10 c =
 
 returns-3 : tie.Need-returns-3
 returns-3 c =
-    let s = start-from-return-3 c in let e = else1-from-return-3 c in let f = is-followed-line-from-return-3 c in let q = sym (is-beyond-from-return-3 c .is-beyond .ensures) ∙ e .if1 .left in let a = record-step-from-return-3 c in let x = a .record-step .last in (record-steps _ _ _ _ (s .pre .0) _ _ q (sym (f .is-followed-line .ensures) ∙ else2-from-return-3 c .if2 .left) (lentOf (x .0) (x .1 .0) (x .1 .1 .0) (x .1 .1 .1 .0) (x .1 .1 .1 .1 .0) (x .1 .1 .1 .1 .1 .1 .1 .0) (x .1 .1 .1 .1 .1 .1 .1 .1 .0) (x .1 .1 .1 .1 .1 .1 .1 .1 .1 .0)) _ (a .record-step .ensures .0), a .record-step .ensures .1)
+    let s = start-from-return-3 c in let e = else1-from-return-3 c in let f = is-followed-line-from-return-3 c in let q =
+    sym (is-beyond-from-return-3 c .is-beyond .ensures) ∙ e .if1 .left in let a = record-step-from-return-3 c in let x =
+    a .record-step .last in (
+      record-steps _ _ _ _ (s .pre .0) _ _ q
+          (sym (f .is-followed-line .ensures) ∙ else2-from-return-3 c .if2 .left)
+          (lentOf (x .0) (x .1 .0) (x .1 .1 .0) (x .1 .1 .1 .0) (x .1 .1 .1 .1 .0) (x .1 .1 .1 .1 .1 .1 .1 .0) (x .1 .1 .1 .1 .1 .1 .1 .1 .0)
+          (x .1 .1 .1 .1 .1 .1 .1 .1 .1 .0)) _ (a .record-step .ensures .0),
+      a .record-step .ensures .1,
+    )
 
 pub book-step-spec : {M : Type 1} → statement M
 book-step-spec =

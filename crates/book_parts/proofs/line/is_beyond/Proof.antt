@@ -6,7 +6,6 @@ use borrow.Author.Needs.{needs}
 use Rattle.book_parts.proofs.line.is_beyond.Statement.{statement}
 use Rattle.book_parts.proofs.line.is_beyond.Tie as tie
 
-
 enum-known-r : tie.Need-enum-known-r
 enum-known-r c =
     search needs
@@ -120,7 +119,11 @@ returns-6 c =
 
 returns-7 : tie.Need-returns-7
 returns-7 c =
-    c .is-beyond .ensures ∙ rw (r3-from-return-7 c .r3 .given .1, lt-ltb (start-from-return-7 c .args .count) 4096 (omega (arith, else2-from-return-7 c .if2 .left)))
+    c .is-beyond .ensures ∙ rw (
+      r3-from-return-7 c .r3 .given .1,
+      lt-ltb (start-from-return-7 c .args .count) 4096
+          (omega (arith, else2-from-return-7 c .if2 .left)),
+    )
 
 returns-8 : tie.Need-returns-8
 returns-8 c =

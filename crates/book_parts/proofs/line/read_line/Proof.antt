@@ -1,5 +1,5 @@
--- `read_line` says what the definition says of the call's records: at the loop's head what is to be said is what is left to be said (Reading).
--- Assumes nothing.
+-- `read_line` says what the definition says of the call's records: at the loop's head what is to be said is what is left to be said
+-- (Reading). Assumes nothing.
 use mathlib.Core.Path.{_≡_, refl, sym, ap, _∙_}
 use Prim.Native.Nat.{ℕ, suc, _+_, _-_, _^_, _≤_, _<_}
 use native.Mathlib.Omega.{arith}
@@ -8,21 +8,27 @@ use Rattle.conflict.specs.Marks.{unmarked}
 use Rattle.records.specs.Records.{lengthOf}
 use Rattle.state.specs.States.{Lent, lentOf, stateOf}
 use Rattle.shares.specs.Alone.{lineCall}
-use Rattle.book_parts.proofs.Reading.{Reading, reading-start, reading-asks, reading-near, reading-stop, reading-spent, reading-taken, reading-goes, reading-next}
+use Rattle.book_parts.proofs.Reading.{Reading, reading-start, reading-asks, reading-near, reading-stop, reading-spent, reading-taken}
+use Rattle.book_parts.proofs.Reading.{reading-goes, reading-next}
 use Rattle.commands.proofs.Stream.{record-short}
 use borrow.Author.Needs.{needs}
 use Rattle.book_parts.proofs.line.read_line.Statement.{statement}
 use Rattle.book_parts.proofs.line.read_line.Tie as tie
 
 abbrev Inv-loop : tie.InvT-loop
-Inv-loop vars₀ lows₀ highs₀ heads₀ links₀ memo₀ marks₀ members₀ scratch₀ struck₀ variables bytes state₀ at₀ vars lows highs heads links memo marks members scratch struck state at =
+Inv-loop vars₀ lows₀ highs₀ heads₀ links₀ memo₀ marks₀ members₀ scratch₀ struck₀ variables bytes state₀ at₀ vars lows highs heads links memo
+    marks members scratch struck state at =
     Reading variables (length vars₀) bytes
-    (lineCall (suc (length bytes)) 64 variables (length vars₀) bytes (stateOf (lentOf vars₀ lows₀ highs₀ heads₀ links₀ members₀ scratch₀ struck₀) state₀) 0)
+    (lineCall (suc (length bytes)) 64 variables (length vars₀) bytes
+    (stateOf (lentOf vars₀ lows₀ highs₀ heads₀ links₀ members₀ scratch₀ struck₀) state₀) 0)
     (state₀ .members) (lentOf vars lows highs heads links members scratch struck) marks memo state at
-    × (length vars ≡ length vars₀) × (length lows ≡ length lows₀) × (length highs ≡ length highs₀) × (length heads ≡ length heads₀) × (length links ≡ length links₀) × (length memo ≡ length memo₀) × (length marks ≡ length marks₀) × (length members ≡ length members₀) × (length scratch ≡ length scratch₀) × (length struck ≡ length struck₀)
+    × (length vars ≡ length vars₀) × (length lows ≡ length lows₀) × (length highs ≡ length highs₀) × (length heads ≡ length heads₀)
+    × (length links ≡ length links₀) × (length memo ≡ length memo₀) × (length marks ≡ length marks₀)
+    × (length members ≡ length members₀) × (length scratch ≡ length scratch₀) × (length struck ≡ length struck₀)
 
 abbrev μ-loop : tie.MeasureT-loop
-μ-loop vars₀ lows₀ highs₀ heads₀ links₀ memo₀ marks₀ members₀ scratch₀ struck₀ variables bytes state₀ at₀ vars lows highs heads links memo marks members scratch struck state at =
+μ-loop vars₀ lows₀ highs₀ heads₀ links₀ memo₀ marks₀ members₀ scratch₀ struck₀ variables bytes state₀ at₀ vars lows highs heads links memo
+    marks members scratch struck state at =
     length bytes + 1 - at
 
 -- what a step leaves
@@ -30,8 +36,8 @@ module _ (a : tie.After-book-step Inv-loop μ-loop) where
   abbrev lent : Lent
   lent =
       let x = a .book-step .last in
-      lentOf (x .0) (x .1 .0) (x .1 .1 .0) (x .1 .1 .1 .0) (x .1 .1 .1 .1 .0) (x .1 .1 .1 .1 .1 .1 .1 .0) (x .1 .1 .1 .1 .1 .1 .1 .1 .0) (x .1 .1 .1 .1 .1 .1 .1 .1 .1 .0)
-
+      lentOf (x .0) (x .1 .0) (x .1 .1 .0) (x .1 .1 .1 .0) (x .1 .1 .1 .1 .0) (x .1 .1 .1 .1 .1 .1 .1 .0) (x .1 .1 .1 .1 .1 .1 .1 .1 .0)
+      (x .1 .1 .1 .1 .1 .1 .1 .1 .1 .0)
 
 -- a place in the bytes is a machine number
 place-fits : (a : tie.In-loop Inv-loop μ-loop) → a .before .loop .at + 10 < 2 ^ 64
@@ -165,7 +171,12 @@ record-length-requires c κs =
 
 add-next : tie.Need-add-next Inv-loop μ-loop
 add-next c =
-    let n = c .record-length .ensures in omega (arith, place-fits (in-loop-from-add-next c), record-short (record-from-from-add-next c .record-from .result), n)
+    let n = c .record-length .ensures in omega (
+      arith,
+      place-fits (in-loop-from-add-next c),
+      record-short (record-from-from-add-next c .record-from .result),
+      n,
+    )
 
 book-step-requires : tie.Need-book-step-requires Inv-loop μ-loop
 book-step-requires c κs =
@@ -177,7 +188,10 @@ enum-known-number c =
 
 add-t46 : tie.Need-add-t46 Inv-loop μ-loop
 add-t46 c =
-    let g = at-loop-from-return c in let G = g .loop .inv .0 in let a = book-step-from-return c in let k = record-length-from-return c in let f = record-from-from-return c in let near = reading-near _ _ _ _ _ _ _ _ _ _ G _ (f .record-from .ensures) _ (ap (λ n. g .loop .at + n) (k .record-length .ensures ∙ ap lengthOf (f .record-from .ensures))) _ refl (lent a) _ (a .book-step .ensures .0) _ _ (number-from-return c .number .given .1) in omega (arith, bytes-fit (in-loop-from-return c) _ near)
+    let g = at-loop-from-return c in let G = g .loop .inv .0 in let a = book-step-from-return c in let k = record-length-from-return c in
+    let f = record-from-from-return c in let near = reading-near _ _ _ _ _ _ _ _ _ _ G _ (f .record-from .ensures) _
+    (ap (λ n. g .loop .at + n) (k .record-length .ensures ∙ ap lengthOf (f .record-from .ensures))) _ refl (lent a) _
+    (a .book-step .ensures .0) _ _ (number-from-return c .number .given .1) in omega (arith, bytes-fit (in-loop-from-return c) _ near)
 
 same-length : tie.Need-same-length Inv-loop μ-loop
 same-length c =
@@ -221,7 +235,13 @@ same-length-10 c =
 
 returns : tie.Need-returns Inv-loop μ-loop
 returns c =
-    let g = at-loop-from-return c in let G = g .loop .inv .0 in let a = book-step-from-return c in let k = record-length-from-return c in let f = record-from-from-return c in (reading-stop _ _ _ _ _ _ _ _ _ _ G _ (f .record-from .ensures) _ (ap (λ n. g .loop .at + n) (k .record-length .ensures ∙ ap lengthOf (f .record-from .ensures))) _ refl (lent a) _ (a .book-step .ensures .0) _ _ (number-from-return c .number .given .1), a .book-step .ensures .1 ∙ ap unmarked (g .loop .inv .1))
+    let g = at-loop-from-return c in let G = g .loop .inv .0 in let a = book-step-from-return c in let k = record-length-from-return c in
+    let f = record-from-from-return c in (
+      reading-stop _ _ _ _ _ _ _ _ _ _ G _ (f .record-from .ensures) _
+          (ap (λ n. g .loop .at + n) (k .record-length .ensures ∙ ap lengthOf (f .record-from .ensures))) _ refl (lent a) _
+          (a .book-step .ensures .0) _ _ (number-from-return c .number .given .1),
+      a .book-step .ensures .1 ∙ ap unmarked (g .loop .inv .1),
+    )
 
 enum-known-number-2 : tie.Need-enum-known-number-2 Inv-loop μ-loop
 enum-known-number-2 c =
@@ -269,7 +289,14 @@ same-length-20 c =
 
 returns-2 : tie.Need-returns-2 Inv-loop μ-loop
 returns-2 c =
-    let g = at-loop-from-return-2 c in let G = g .loop .inv .0 in let a = book-step-from-return-2 c in let k = record-length-from-return-2 c in let f = record-from-from-return-2 c in (reading-spent _ _ _ _ _ _ _ _ _ _ G _ (f .record-from .ensures) _ (ap (λ n. g .loop .at + n) (k .record-length .ensures ∙ ap lengthOf (f .record-from .ensures))) _ refl (lent a) _ (a .book-step .ensures .0) _ _ (number2-from-return-2 c .number2 .given .1), a .book-step .ensures .1 ∙ ap unmarked (g .loop .inv .1))
+    let g = at-loop-from-return-2 c in let G = g .loop .inv .0 in let a = book-step-from-return-2 c in let k =
+    record-length-from-return-2 c in let f = record-from-from-return-2 c in (
+      reading-spent _ _ _ _ _ _ _ _ _ _ G _ (f .record-from .ensures) _
+          (ap (λ n. g .loop .at + n) (k .record-length .ensures ∙ ap lengthOf (f .record-from .ensures))) _ refl (lent a) _
+          (a .book-step .ensures .0) _ _ (number2-from-return-2 c .number2 .given .1),
+      a .book-step .ensures .1
+          ∙ ap unmarked (g .loop .inv .1),
+    )
 
 enum-known-s : tie.Need-enum-known-s Inv-loop μ-loop
 enum-known-s c =
@@ -321,15 +348,41 @@ same-length-30 c =
 
 returns-3 : tie.Need-returns-3 Inv-loop μ-loop
 returns-3 c =
-    let g = at-loop-from-then1 c in let G = g .loop .inv .0 in let a = book-step-from-then1 c in let k = record-length-from-then1 c in let f = record-from-from-then1 c in (reading-taken _ _ _ _ _ _ _ _ _ _ G _ (f .record-from .ensures) _ (ap (λ n. g .loop .at + n) (k .record-length .ensures ∙ ap lengthOf (f .record-from .ensures))) _ refl (lent a) _ (a .book-step .ensures .0) _ (s-from-then1 c .s .given .1) (sym (c .before .is-line .ensures) ∙ c .if1 .taken), a .book-step .ensures .1 ∙ ap unmarked (g .loop .inv .1))
+    let g = at-loop-from-then1 c in let G = g .loop .inv .0 in let a = book-step-from-then1 c in let k = record-length-from-then1 c in
+    let f = record-from-from-then1 c in (
+      reading-taken _ _ _ _ _ _ _ _ _ _ G _ (f .record-from .ensures) _
+          (ap (λ n. g .loop .at + n) (k .record-length .ensures ∙ ap lengthOf (f .record-from .ensures))) _ refl (lent a) _
+          (a .book-step .ensures .0) _ (s-from-then1 c .s .given .1) (sym (c .before .is-line .ensures) ∙ c .if1 .taken),
+      a .book-step .ensures .1 ∙ ap unmarked (g .loop .inv .1),
+    )
 
 loop-less : tie.Need-loop-less Inv-loop μ-loop
 loop-less c =
-    let g = at-loop-from-else1 c in let G = g .loop .inv .0 in let a = book-step-from-else1 c in let k = record-length-from-else1 c in let f = record-from-from-else1 c in let on = reading-goes _ _ _ _ _ _ _ _ _ _ G _ (f .record-from .ensures) _ (ap (λ n. g .loop .at + n) (k .record-length .ensures ∙ ap lengthOf (f .record-from .ensures))) _ refl (lent a) _ (a .book-step .ensures .0) _ (s-from-else1 c .s .given .1) in omega (arith, on .0, on .1)
+    let g = at-loop-from-else1 c in let G = g .loop .inv .0 in let a = book-step-from-else1 c in let k = record-length-from-else1 c in
+    let f = record-from-from-else1 c in let on = reading-goes _ _ _ _ _ _ _ _ _ _ G _ (f .record-from .ensures) _
+    (ap (λ n. g .loop .at + n) (k .record-length .ensures ∙ ap lengthOf (f .record-from .ensures))) _ refl (lent a) _
+    (a .book-step .ensures .0) _ (s-from-else1 c .s .given .1) in omega (arith, on .0, on .1)
 
 loop-again : tie.Need-loop-again Inv-loop μ-loop
 loop-again c =
-    let g = at-loop-from-else1 c in let G = g .loop .inv .0 in let a = book-step-from-else1 c in let k = record-length-from-else1 c in let f = record-from-from-else1 c in let q = a .book-step .kept in (reading-next _ _ _ _ _ _ _ _ _ _ G _ (f .record-from .ensures) _ (ap (λ n. g .loop .at + n) (k .record-length .ensures ∙ ap lengthOf (f .record-from .ensures))) _ refl (lent a) _ (a .book-step .ensures .0) _ (s-from-else1 c .s .given .1) (sym (c .before .is-line .ensures) ∙ c .if1 .left) _ _ (q .0) (a .book-step .ensures .1) (q .1 .1 .1 .1 .1 .0), q .0 ∙ g .loop .inv .1, q .1 .0 ∙ g .loop .inv .2, q .1 .1 .0 ∙ g .loop .inv .3, q .1 .1 .1 .0 ∙ g .loop .inv .4, q .1 .1 .1 .1 .0 ∙ g .loop .inv .5, q .1 .1 .1 .1 .1 .0 ∙ g .loop .inv .6, q .1 .1 .1 .1 .1 .1 .0 ∙ g .loop .inv .7, q .1 .1 .1 .1 .1 .1 .1 .0 ∙ g .loop .inv .8, q .1 .1 .1 .1 .1 .1 .1 .1 .0 ∙ g .loop .inv .9, q .1 .1 .1 .1 .1 .1 .1 .1 .1 .0 ∙ g .loop .inv .10)
+    let g = at-loop-from-else1 c in let G = g .loop .inv .0 in let a = book-step-from-else1 c in let k = record-length-from-else1 c in
+    let f = record-from-from-else1 c in let q = a .book-step .kept in (
+      reading-next _ _ _ _ _ _ _ _ _ _ G _ (f .record-from .ensures) _
+          (ap (λ n. g .loop .at + n) (k .record-length .ensures ∙ ap lengthOf (f .record-from .ensures))) _ refl (lent a) _
+          (a .book-step .ensures .0) _ (s-from-else1 c .s .given .1) (sym (c .before .is-line .ensures) ∙ c .if1 .left) _ _ (q .0)
+          (a .book-step .ensures .1) (q .1 .1 .1 .1 .1 .0),
+      q .0 ∙ g .loop .inv .1,
+      q .1 .0 ∙ g .loop .inv .2,
+      q .1 .1 .0 ∙ g .loop .inv .3,
+      q .1 .1 .1 .0 ∙ g .loop .inv .4,
+      q .1 .1 .1 .1 .0 ∙ g .loop .inv .5,
+      q .1 .1 .1 .1 .1 .0 ∙ g .loop .inv .6,
+      q .1 .1 .1 .1 .1 .1 .0
+          ∙ g .loop .inv .7,
+      q .1 .1 .1 .1 .1 .1 .1 .0 ∙ g .loop .inv .8,
+      q .1 .1 .1 .1 .1 .1 .1 .1 .0 ∙ g .loop .inv .9,
+      q .1 .1 .1 .1 .1 .1 .1 .1 .1 .0 ∙ g .loop .inv .10,
+    )
 
 same-length-31 : tie.Need-same-length-31 Inv-loop μ-loop
 same-length-31 c =

@@ -1,7 +1,6 @@
 -- `rebuild`: the own nodes, then the members, placed one after the other (Making). Assumes nothing.
 use mathlib.Core.Path.{_∙_}
 use Rattle.book_parts.proofs.Making.{ready-again, first-short, then-members}
-use borrow.Author.Needs.{needs}
 use Rattle.book_parts.proofs.own.rebuild.Statement.{statement}
 use Rattle.book_parts.proofs.own.rebuild.Tie as tie
 
@@ -74,7 +73,8 @@ returns c =
 
 adopt-members-requires : tie.Need-adopt-members-requires
 adopt-members-requires c κs =
-    let s = start-from-adopt-members-call c in let a = adopt-from-adopt-members-call c in (ready-again _ _ _ _ _ _ (s .pre .0) _ _ _ _ (a .adopt .ensures) (a .adopt .kept .1 .1 .1 .1 .1 .1 .1 .1 .0), s .pre .1)
+    let s = start-from-adopt-members-call c in let a = adopt-from-adopt-members-call c in
+    (ready-again _ _ _ _ _ _ (s .pre .0) _ _ _ _ (a .adopt .ensures) (a .adopt .kept .1 .1 .1 .1 .1 .1 .1 .1 .0), s .pre .1)
 
 same-length-7 : tie.Need-same-length-7
 same-length-7 c =
@@ -98,7 +98,8 @@ same-length-11 c =
 
 same-length-12 : tie.Need-same-length-12
 same-length-12 c =
-    adopt-members-from-return-2 c .adopt-members .kept .1 .1 .1 .1 .1 .1 .1 .1 .0 ∙ adopt-from-return-2 c .adopt .kept .1 .1 .1 .1 .1 .1 .1 .1 .0
+    adopt-members-from-return-2 c .adopt-members .kept .1 .1 .1 .1 .1 .1 .1 .1 .0
+    ∙ adopt-from-return-2 c .adopt .kept .1 .1 .1 .1 .1 .1 .1 .1 .0
 
 same-length-13 : tie.Need-same-length-13
 same-length-13 c =
@@ -106,7 +107,10 @@ same-length-13 c =
 
 returns-2 : tie.Need-returns-2
 returns-2 c =
-    let a = adopt-from-return-2 c in let b = adopt-members-from-return-2 c in (then-members _ _ _ _ _ _ _ (a .adopt .ensures) (else1-from-return-2 c .if1 .left) _ _ _ (b .adopt-members .ensures .0), b .adopt-members .ensures .1)
+    let a = adopt-from-return-2 c in let b = adopt-members-from-return-2 c in (
+      then-members _ _ _ _ _ _ _ (a .adopt .ensures) (else1-from-return-2 c .if1 .left) _ _ _ (b .adopt-members .ensures .0),
+      b .adopt-members .ensures .1,
+    )
 
 pub rebuild-spec : {M : Type 1} → statement M
 rebuild-spec =

@@ -15,7 +15,6 @@ abbrev μ-loop : tie.MeasureT-loop
 μ-loop struck₀ marks m i₀ struck i =
     m - i
 
-
 loop-holds : tie.Need-loop-holds Inv-loop μ-loop
 loop-holds c =
     front-start (λ x. x) _ _ _
@@ -56,7 +55,8 @@ loop-less c =
 
 loop-again : tie.Need-loop-again Inv-loop μ-loop
 loop-again c =
-    let s = start-from-loop-again c in front-next (λ x. x) _ _ _ (s .pre .0) (s .pre .1) _ _ (at-loop-from-loop-again c .loop .inv) (in-loop-from-loop-again c .loop-test .taken) _ refl
+    let s = start-from-loop-again c in front-next (λ x. x) _ _ _ (s .pre .0) (s .pre .1) _ _ (at-loop-from-loop-again c .loop .inv)
+    (in-loop-from-loop-again c .loop-test .taken) _ refl
 
 same-length : tie.Need-same-length Inv-loop μ-loop
 same-length c =
@@ -64,7 +64,8 @@ same-length c =
 
 returns : tie.Need-returns Inv-loop μ-loop
 returns c =
-    let s = start-from-return c in front-end (λ x. x) _ _ _ (s .pre .0) (s .pre .1) _ _ (at-loop-from-return c .loop .inv) (c .loop-test .left) ∙ map-same _
+    let s = start-from-return c in front-end (λ x. x) _ _ _ (s .pre .0) (s .pre .1) _ _ (at-loop-from-return c .loop .inv)
+    (c .loop-test .left) ∙ map-same _
 
 pub copy-marks-spec : {M : Type 1} → statement M
 copy-marks-spec =

@@ -5,7 +5,6 @@ use native.Mathlib.Omega.{arith}
 use lib.ListN.{take}
 use Rattle.shares.specs.Books.{padded}
 use Rattle.book_parts.proofs.Giving.{gives}
-use borrow.Author.Needs.{needs}
 use Rattle.book_parts.proofs.put.give.Statement.{statement}
 use Rattle.book_parts.proofs.put.give.Tie as tie
 
@@ -87,7 +86,15 @@ share-requires c κs =
 
 renumber-requires : tie.Need-renumber-requires
 renumber-requires c κs =
-    let s = start-from-renumber-call c in let R = s .pre .1 in ((R .members, R .found), λ i p. omega (arith, R .inside i p, share-from-renumber-call c .share .kept .1 .1 .1 .1 .1 .1 .1 .1 .0, s .pre .0 .room))
+    let s = start-from-renumber-call c in let R = s .pre .1 in (
+      (R .members, R .found),
+      λ i p. omega (
+        arith,
+        R .inside i p,
+        share-from-renumber-call c .share .kept .1 .1 .1 .1 .1 .1 .1 .1 .0,
+        s .pre .0 .room,
+      ),
+    )
 
 zero-numbers-from-requires : tie.Need-zero-numbers-from-requires
 zero-numbers-from-requires c κs =
@@ -99,7 +106,8 @@ sub-zero-numbers-from c =
 
 zero-numbers-from-requires-2 : tie.Need-zero-numbers-from-requires-2
 zero-numbers-from-requires-2 c κs =
-    let s = start-from-zero-numbers-from-call-2 c in omega (arith, s .pre .0 .room, s .pre .0 .readable .least, share-from-zero-numbers-from-call-2 c .share .kept .1 .1 .1 .1 .1 .1 .1 .1 .0)
+    let s = start-from-zero-numbers-from-call-2 c in omega
+    (arith, s .pre .0 .room, s .pre .0 .readable .least, share-from-zero-numbers-from-call-2 c .share .kept .1 .1 .1 .1 .1 .1 .1 .1 .0)
 
 copy-marks-requires : tie.Need-copy-marks-requires
 copy-marks-requires c κs =
@@ -149,9 +157,12 @@ returns c =
     let a = share-from-return c .share in
     let r = renumber-from-return c .renumber in
     let k = copy-marks-from-return c .copy-marks in
-    gives _ _ _ _ _ _ _ _ _ _ (S .readable .least) (a .last .1 .1 .1 .1 .1 .1 .1 .1 .0) (a .ensures) (R .found) (R .inside) (r .last .0) (r .ensures) _
+    gives _ _ _ _ _ _ _ _ _ _ (S .readable .least) (a .last .1 .1 .1 .1 .1 .1 .1 .1 .0) (a .ensures) (R .found) (R .inside) (r .last .0)
+    (r .ensures) _
     (zero-numbers-from-from-return c .zero-numbers-from .ensures ∙ ap (padded (take (s .args .m) (r .last .0))) (r .kept .0)) _
-    (zero-numbers-from2-from-return c .zero-numbers-from2 .ensures ∙ ap (padded (take (s .args .owncount - 2) (a .last .1 .1 .1 .1 .1 .1 .1 .1 .0))) (a .kept .1 .1 .1 .1 .1 .1 .1 .1 .0)) (k .last .0) (k .ensures) _
+    (zero-numbers-from2-from-return c .zero-numbers-from2 .ensures ∙ ap
+    (padded (take (s .args .owncount - 2) (a .last .1 .1 .1 .1 .1 .1 .1 .1 .0))) (a .kept .1 .1 .1 .1 .1 .1 .1 .1 .0)) (k .last .0)
+    (k .ensures) _
     (zero-marks-from-from-return c .zero-marks-from .ensures ∙ ap (padded (take (s .args .m) (k .last .0))) (k .kept .0))
 
 pub give-spec : {M : Type 1} → statement M

@@ -15,7 +15,6 @@ abbrev μ-loop : tie.MeasureT-loop
 μ-loop members₀ own found m i₀ members i =
     m - i
 
-
 loop-holds : tie.Need-loop-holds Inv-loop μ-loop
 loop-holds c =
     front-start _ _ _ _
@@ -67,7 +66,12 @@ mul-members c =
 
 slice-write-members : tie.Need-slice-write-members Inv-loop μ-loop
 slice-write-members c =
-    omega (arith, in-loop-from-loop-again c .loop-test .taken, start-from-loop-again c .pre .0 .0, at-loop-from-loop-again c .loop .inv .long)
+    omega (
+      arith,
+      in-loop-from-loop-again c .loop-test .taken,
+      start-from-loop-again c .pre .0 .0,
+      at-loop-from-loop-again c .loop .inv .long,
+    )
 
 add-i : tie.Need-add-i Inv-loop μ-loop
 add-i c =
@@ -79,7 +83,8 @@ loop-less c =
 
 loop-again : tie.Need-loop-again Inv-loop μ-loop
 loop-again c =
-    let s = start-from-loop-again c in front-next _ _ _ _ (s .pre .0 .0) (s .pre .0 .1) _ _ (at-loop-from-loop-again c .loop .inv) (in-loop-from-loop-again c .loop-test .taken) _ (c .number-in .ensures)
+    let s = start-from-loop-again c in front-next _ _ _ _ (s .pre .0 .0) (s .pre .0 .1) _ _ (at-loop-from-loop-again c .loop .inv)
+    (in-loop-from-loop-again c .loop-test .taken) _ (c .number-in .ensures)
 
 same-length : tie.Need-same-length Inv-loop μ-loop
 same-length c =
@@ -87,7 +92,8 @@ same-length c =
 
 returns : tie.Need-returns Inv-loop μ-loop
 returns c =
-    let s = start-from-return c in front-end _ _ _ _ (s .pre .0 .0) (s .pre .0 .1) _ _ (at-loop-from-return c .loop .inv) (c .loop-test .left)
+    let s = start-from-return c in front-end _ _ _ _ (s .pre .0 .0) (s .pre .0 .1) _ _ (at-loop-from-return c .loop .inv)
+    (c .loop-test .left)
 
 pub renumber-spec : {M : Type 1} → statement M
 renumber-spec =

@@ -2,7 +2,7 @@
 use mathlib.Core.Path.{_≡_, refl, sym, ap, _∙_}
 use mathlib.Core.Bool.{true, false}
 use mathlib.Core.List.{List, _++_}
-use Prim.Native.Nat.{ℕ, _≤_}
+use Prim.Native.Nat.{ℕ}
 use native.Mathlib.Omega.{arith}
 use lib.ListN.{length}
 use Rattle.meaning.proofs.Booleans.{t≢f}
@@ -20,7 +20,7 @@ use Rattle.shares.specs.Alone.{places}
 use Rattle.shares.specs.Books.{Holding, BookLists, BookOutcome, holding, ownTable, charged, bookLeaves}
 use Rattle.book_line.specs.Says.{Prepared, FirstReady}
 use Rattle.book_judge.proofs.Preparing.{passed}
-use Rattle.book_call.specs.Calls.{awaitsFormula}
+use Rattle.book_sizes.specs.Calls.{awaitsFormula}
 
 first-stage : (g : Stage) → awaitsFormula g ≡ true → g ≡ Formula
 first-stage Formula e = refl

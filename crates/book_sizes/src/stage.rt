@@ -12,7 +12,7 @@ ghost use Rattle.verdict.specs.Check.{zeros};
 ghost use Rattle.state.specs.States.{lentOf};
 ghost use Rattle.shares.specs.Books.{charged, holding, ownTable, bookLeaves};
 ghost use Rattle.book_line.specs.Says.{listsMade, saidOutcome, Prepared};
-ghost use Rattle.book_call.specs.Calls.{awaitsFormula};
+ghost use Rattle.book_sizes.specs.Calls.{awaitsFormula};
 
 // Whether the formula is still to be read.
 fn awaits_formula(stage: Stage) -> bool
@@ -50,9 +50,13 @@ pub fn judge(
     b: Book,
     bytes: &[u8],
 ) -> Said
-    requires { ⌜ Prepared (tableOf (now vars) (now lows) (now highs) (now heads) (now links) count) (listsMade (now members) (now struck) (now own)) b
-        (lentOf (now ownvars) (now ownlows) (now ownhighs) (now ownheads) (now ownlinks) (now found) (now scratch) (now strikes)) (now known) ⌝ }
-    requires { ⌜ (now marks ≡ unmarked (length (now ownvars))) × Roomy (now ownvars) (now memo) × (now strikes ≡ zeros (length (now found))) ⌝ }
+    requires { ⌜ Prepared (tableOf (now vars) (now lows) (now highs) (now heads) (now links) count)
+        (listsMade (now members) (now struck) (now own)) b
+        (lentOf (now ownvars) (now ownlows) (now ownhighs) (now ownheads) (now ownlinks) (now found) (now scratch) (now strikes))
+        (now known) ⌝ }
+    requires { ⌜ (now marks ≡ unmarked (length (now ownvars)))
+        × Roomy (now ownvars) (now memo)
+        × (now strikes ≡ zeros (length (now found))) ⌝ }
     ensures { λ r. ⌜ (
         let c = columnsMade (now (vars .entry)) (now (lows .entry)) (now (highs .entry)) (now (heads .entry)) (now (links .entry)) in
         let T = tableOf (now (vars .entry)) (now (lows .entry)) (now (highs .entry)) (now (heads .entry)) (now (links .entry)) count in

@@ -8,7 +8,7 @@ ghost use Rattle.table.specs.Columns.{columnsMade};
 ghost use Rattle.table.specs.Indexed.{tableOf, nodesOf, size};
 ghost use Rattle.shares.specs.Books.{charged, holding, ownTable, bookLeaves};
 ghost use Rattle.book_line.specs.Says.{listsMade, saidOutcome};
-ghost use Rattle.book_call.specs.Calls.{CallReady};
+ghost use Rattle.book_sizes.specs.Calls.{CallReady};
 
 // The memo's cells, for a table of up to so many places.
 const CELLS_64: usize = 1024;
@@ -32,7 +32,8 @@ pub fn call_64(
     b: Book,
     bytes: &[u8],
 ) -> Said
-    requires { ⌜ CallReady (tableOf (now vars) (now lows) (now highs) (now heads) (now links) count) (listsMade (now members) (now struck) (now own))
+    requires { ⌜ CallReady (tableOf (now vars) (now lows) (now highs) (now heads) (now links) count)
+        (listsMade (now members) (now struck) (now own))
         (now scratch) b
         × (length (now vars) ≤ 64) ⌝ }
     ensures { λ r. ⌜ (
@@ -96,7 +97,8 @@ pub fn call_4096(
     b: Book,
     bytes: &[u8],
 ) -> Said
-    requires { ⌜ CallReady (tableOf (now vars) (now lows) (now highs) (now heads) (now links) count) (listsMade (now members) (now struck) (now own))
+    requires { ⌜ CallReady (tableOf (now vars) (now lows) (now highs) (now heads) (now links) count)
+        (listsMade (now members) (now struck) (now own))
         (now scratch) b
         × (length (now vars) ≤ 4096) ⌝ }
     ensures { λ r. ⌜ (
@@ -160,7 +162,8 @@ pub fn call_65536(
     b: Book,
     bytes: &[u8],
 ) -> Said
-    requires { ⌜ CallReady (tableOf (now vars) (now lows) (now highs) (now heads) (now links) count) (listsMade (now members) (now struck) (now own))
+    requires { ⌜ CallReady (tableOf (now vars) (now lows) (now highs) (now heads) (now links) count)
+        (listsMade (now members) (now struck) (now own))
         (now scratch) b
         × (length (now vars) ≤ 65536) ⌝ }
     ensures { λ r. ⌜ (

@@ -5,9 +5,9 @@ use Rattle.table.specs.Indexed.{Table, tableOf}
 use Rattle.state.specs.States.{Lent, lentOf}
 use Rattle.shares.specs.Books.{BookLists}
 use Rattle.book_line.specs.Says.{listsMade}
-use Rattle.book_call.proofs.Stages.{later-stage, first-is, later-is, first-ready}
-use Rattle.book_call.proofs.stage.judge.Statement.{statement}
-use Rattle.book_call.proofs.stage.judge.Tie as tie
+use Rattle.book_sizes.proofs.Stages.{later-stage, first-is, later-is, first-ready}
+use Rattle.book_sizes.proofs.stage.judge.Statement.{statement}
+use Rattle.book_sizes.proofs.stage.judge.Tie as tie
 
 module _ (s : tie.Start) where
   abbrev shared : Table
@@ -21,7 +21,6 @@ module _ (s : tie.Start) where
       let a = s .args in
       lentOf (a .ownvars .now) (a .ownlows .now) (a .ownhighs .now) (a .ownheads .now) (a .ownlinks .now) (a .found .now) (a .scratch .now)
       (a .strikes .now)
-
 
 awaits-formula-requires : tie.Need-awaits-formula-requires
 awaits-formula-requires c κs =
@@ -159,13 +158,20 @@ returns : tie.Need-returns
 returns c =
     let s = start-from-return c in
     first-is (shared s) (lists s) (s .args .b) (s .args .bytes .now) (s .args .scratch .now) _
-    (sym (awaits-formula-from-return c .awaits-formula .ensures) ∙ then1-from-return c .if1 .taken) (judge-first-from-return c .judge-first .ensures)
+    (sym (awaits-formula-from-return c .awaits-formula .ensures) ∙ then1-from-return c .if1 .taken)
+    (judge-first-from-return c .judge-first .ensures)
 
 judge-later-requires : tie.Need-judge-later-requires
 judge-later-requires c κs =
-    let s = start-from-judge-later-call c in
-    (s .pre .0, (s .pre .1 .0, s .pre .1 .1, later-stage _
-    (sym (awaits-formula-from-judge-later-call c .awaits-formula .ensures) ∙ else1-from-judge-later-call c .if1 .left)))
+    let s = start-from-judge-later-call c in (
+      s .pre .0,
+      (
+        s .pre .1 .0,
+        s .pre .1 .1,
+        later-stage _
+            (sym (awaits-formula-from-judge-later-call c .awaits-formula .ensures) ∙ else1-from-judge-later-call c .if1 .left),
+      ),
+    )
 
 same-length-17 : tie.Need-same-length-17
 same-length-17 c =
@@ -252,4 +258,8 @@ returns-2 c =
 
 pub judge-spec : {M : Type 1} → statement M
 judge-spec =
-    tie.close (tie.spec awaits-formula-requires judge-first-requires same-length same-length-2 same-length-3 same-length-4 same-length-5 same-length-6 same-length-7 same-length-8 same-length-9 same-length-10 same-length-11 same-length-12 same-length-13 same-length-14 same-length-15 same-length-16 returns judge-later-requires same-length-17 same-length-18 same-length-19 same-length-20 same-length-21 same-length-22 same-length-23 same-length-24 same-length-25 same-length-26 same-length-27 same-length-28 same-length-29 same-length-30 same-length-31 same-length-32 same-length-33 same-length-34 same-length-35 returns-2)
+    tie.close (tie.spec awaits-formula-requires judge-first-requires same-length same-length-2 same-length-3 same-length-4 same-length-5
+    same-length-6 same-length-7 same-length-8 same-length-9 same-length-10 same-length-11 same-length-12 same-length-13 same-length-14
+    same-length-15 same-length-16 returns judge-later-requires same-length-17 same-length-18 same-length-19 same-length-20
+    same-length-21 same-length-22 same-length-23 same-length-24 same-length-25 same-length-26 same-length-27 same-length-28
+    same-length-29 same-length-30 same-length-31 same-length-32 same-length-33 same-length-34 same-length-35 returns-2)

@@ -14,7 +14,7 @@ use Rattle.shares.specs.Alone.{places}
 use Rattle.shares.specs.Books.{BookLists, holding}
 use Rattle.book_line.specs.Says.{Prepared}
 use Rattle.book_line.proofs.Tests.{Tested, holding-tested}
-use Rattle.book_call.specs.Calls.{CallReady}
+use Rattle.book_sizes.specs.Calls.{CallReady}
 
 module _ (T : Table) (l : BookLists) (scratch : List ℕ) (b : Book) (R : CallReady T l scratch b) where
   pub tested : Tested (size T) b

@@ -2,15 +2,14 @@
 use mathlib.Core.Path.{refl, ap, _∙_}
 use Prim.Native.Nat.{_+_, _*_, _≤_}
 use native.Mathlib.Omega.{arith}
-use borrow.Author.Needs.{needs}
 use Rattle.table.specs.Indexed.{Table, tableOf}
 use Rattle.table.proofs.Zeros.{part-zeros, length-part, length-whole, whole-zeros}
 use Rattle.conflict.specs.Marks.{unmarked}
 use Rattle.shares.specs.Books.{BookLists}
 use Rattle.book_line.specs.Says.{listsMade}
-use Rattle.book_call.proofs.Arrays.{places-most, prepared}
-use Rattle.book_call.proofs.sizes.call_64.Statement.{statement}
-use Rattle.book_call.proofs.sizes.call_64.Tie as tie
+use Rattle.book_sizes.proofs.Arrays.{places-most, prepared}
+use Rattle.book_sizes.proofs.sizes.call_64.Statement.{statement}
+use Rattle.book_sizes.proofs.sizes.call_64.Tie as tie
 
 module _ (s : tie.Start) where
   abbrev shared : Table
@@ -161,7 +160,8 @@ judge-requires c κs =
     let b = s .args .b in (
       prepared (shared s) (lists s) (s .args .scratch .now) b (s .pre .0) _ _ _ _ _ (part-zeros (b .share + 2) 64 (within s))
           (part-zeros (b .share + 2) 64 (within s)) (part-zeros (b .share + 2) 64 (within s))
-          (part-zeros (2 * (b .share + 2)) 128 (omega (arith, within s))) (part-zeros (b .share + 2) 64 (within s)) _ _ _ 64 2048 refl refl refl
+          (part-zeros (2 * (b .share + 2)) 128 (omega (arith, within s))) (part-zeros (b .share + 2) 64 (within s)) _ _ _ 64 2048 refl refl
+          refl
           (s .pre .1) (omega arith),
       (
         part-zeros (b .share + 2) 64 (within s) ∙ ap unmarked (length-part (b .share + 2) 64 (within s)),
@@ -212,4 +212,8 @@ returns c =
 
 pub call-64-spec : {M : Type 1} → statement M
 call-64-spec =
-    tie.close (tie.spec add-places array-borrow-prefix-ownvars slice-aggregate-judge array-borrow-prefix-ownlows slice-aggregate-judge-2 array-borrow-prefix-ownhighs slice-aggregate-judge-3 mul-ownheads array-borrow-prefix-ownheads slice-aggregate-judge-4 array-borrow-prefix-ownlinks slice-aggregate-judge-5 slice-aggregate-judge-6 slice-aggregate-judge-7 array-borrow-prefix-marks slice-aggregate-judge-8 slice-aggregate-judge-9 slice-aggregate-judge-10 judge-requires same-length same-length-2 same-length-3 same-length-4 same-length-5 same-length-6 same-length-7 same-length-8 same-length-9 returns)
+    tie.close (tie.spec add-places array-borrow-prefix-ownvars slice-aggregate-judge array-borrow-prefix-ownlows slice-aggregate-judge-2
+    array-borrow-prefix-ownhighs slice-aggregate-judge-3 mul-ownheads array-borrow-prefix-ownheads slice-aggregate-judge-4
+    array-borrow-prefix-ownlinks slice-aggregate-judge-5 slice-aggregate-judge-6 slice-aggregate-judge-7 array-borrow-prefix-marks
+    slice-aggregate-judge-8 slice-aggregate-judge-9 slice-aggregate-judge-10 judge-requires same-length same-length-2 same-length-3
+    same-length-4 same-length-5 same-length-6 same-length-7 same-length-8 same-length-9 returns)
