@@ -1,0 +1,1 @@
+// Sessions of two books by computation.
