@@ -34,14 +34,11 @@ WORDS = {
     "exactness": "orders, counts, room",
     "small": "the check over words", "small_export": "its own archive",
     "clausal": "RUP, RAT on clauses", "commands": "what stands next", "convert": "DRAT, text and binary", "tries": "a clause's step",
-}
-OPEN = {"checker", "nodes", "node_check", "export", "small_export", "refute", "refute_drat", "refute_in", "drat_convert", "cases", "changes"}
     "shares": "two books, defined", "share_rows": "sessions computed", "alone": "a book's own table", "book_parts": "a book's call, in parts",
     "book_open": "opened for two books", "book_line": "a line's call", "book_judge": "first and later calls", "book_sizes": "working arrays", "book_call": "a book's call",
     "books_export": "two books, for C, Rust",
-    "clausal": "RUP, RAT on clauses", "commands": "what stands next", "convert": "DRAT, text and binary", "tries": "a clause's step",
 }
-OPEN = {"checker", "nodes", "export", "books_export", "refute", "refute_drat", "cases", "changes"}
+OPEN = {"checker", "nodes", "node_check", "export", "small_export", "books_export", "refute", "refute_drat", "refute_in", "drat_convert", "cases", "changes"}
 WIDTH, HEIGHT, ACROSS, UP, TOP = 158, 44, 190, 78, 64
 SOLID, DASHED = "#444444", "#3b6fb5"
 
