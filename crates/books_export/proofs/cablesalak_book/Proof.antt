@@ -63,8 +63,10 @@ returns c =
     let a = start-from-return c .args in
     c .booked-as .ensures _ _ _ ∙ call-from-return c .call .ensures
     ∙ ap (λ (b : Book). bookOutcome (columnsMade (a .vars .now) (a .lows .now) (a .highs .now) (a .heads .now) (a .links .now)) (a .count)
-    (listsMade (a .members .now) (a .struck .now) (a .own .now)) (a .scratch .now) b (a .bytes .now)) (book-of-from-return c .book-of .ensures)
+    (listsMade (a .members .now) (a .struck .now) (a .own .now)) (a .scratch .now) b (a .bytes .now))
+    (book-of-from-return c .book-of .ensures)
 
 pub cablesalak-book-spec : {M : Type 1} → statement M
 cablesalak-book-spec =
-    tie.close (tie.spec book-of-requires call-requires booked-as-requires same-length same-length-2 same-length-3 same-length-4 same-length-5 same-length-6 same-length-7 same-length-8 same-length-9 returns)
+    tie.close (tie.spec book-of-requires call-requires booked-as-requires same-length same-length-2 same-length-3 same-length-4
+    same-length-5 same-length-6 same-length-7 same-length-8 same-length-9 returns)

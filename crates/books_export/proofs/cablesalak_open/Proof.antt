@@ -8,7 +8,6 @@ use Rattle.books_export.proofs.Forms.{opening-is}
 use Rattle.books_export.proofs.cablesalak_open.Statement.{statement}
 use Rattle.books_export.proofs.cablesalak_open.Tie as tie
 
-
 book-of-requires : tie.Need-book-of-requires
 book-of-requires c κs =
     search needs
@@ -107,12 +106,16 @@ same-length-12 c =
 returns : tie.Need-returns
 returns c =
     let a = start-from-return c .args in
-    opening-is _ _ _ _ (call-from-return c .call .result) _ _ (packed-from-return c .packed .ensures) (c .packed2 .ensures)
+    opening-is _ _ _ _ (call-from-return c .call .result) (packed-from-return c .packed .result)
+    (c .packed2 .result) (packed-from-return c .packed .ensures) (c .packed2 .ensures)
     (λ (u v : Book). openOutcome (columnsMade (a .vars .now) (a .lows .now) (a .highs .now) (a .heads .now) (a .links .now)) (a .count)
-    (listsMade (a .members .now) (a .struck .now) (a .own .now)) (listsMade (a .memberssecond .now) (a .strucksecond .now) (a .ownsecond .now))
+    (listsMade (a .members .now) (a .struck .now) (a .own .now))
+    (listsMade (a .memberssecond .now) (a .strucksecond .now) (a .ownsecond .now))
     (a .scratch .now) u v (a .share) (a .sharesecond)) _ _ _ _ (call-from-return c .call .ensures) (book-of-from-return c .book-of .ensures)
     (book-of2-from-return c .book-of2 .ensures)
 
 pub cablesalak-open-spec : {M : Type 1} → statement M
 cablesalak-open-spec =
-    tie.close (tie.spec book-of-requires book-of-requires-2 call-requires packed-requires packed-requires-2 same-length same-length-2 same-length-3 same-length-4 same-length-5 same-length-6 same-length-7 same-length-8 same-length-9 same-length-10 same-length-11 same-length-12 returns)
+    tie.close (tie.spec book-of-requires book-of-requires-2 call-requires packed-requires packed-requires-2 same-length same-length-2
+    same-length-3 same-length-4 same-length-5 same-length-6 same-length-7 same-length-8 same-length-9 same-length-10 same-length-11
+    same-length-12 returns)

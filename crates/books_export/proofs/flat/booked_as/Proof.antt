@@ -8,7 +8,7 @@ packed-requires : tie.Need-packed-requires
 packed-requires c κs = search needs
 
 returns : tie.Need-returns
-returns c = booked-is (c .before .args .said) _ (c .packed .ensures)
+returns c = booked-is (c .before .args .said) (c .packed .result) (c .packed .ensures)
 
 pub booked-as-spec : {M : Type 1} → statement M
 booked-as-spec = tie.close (tie.spec packed-requires returns)
