@@ -8,8 +8,6 @@ use Rattle.books_export.specs.Kept.{listsMade}
 use Rattle.books_export.proofs.cablesalak_book.Statement.{statement}
 use Rattle.books_export.proofs.cablesalak_book.Tie as tie
 
--- The ways back, written by ways.py: TO-from-FROM leads from the place FROM of the code to the place TO before it.
-
 book-of-requires : tie.Need-book-of-requires
 book-of-requires c κs =
     search needs
@@ -21,6 +19,23 @@ call-requires c κs =
 booked-as-requires : tie.Need-booked-as-requires
 booked-as-requires c κs =
     search needs
+
+-- The ways back, written by ways.py: TO-from-FROM leads from the place FROM of the code to the place TO before it.
+module _ (c : tie.After-book-of) where
+  abbrev start-from-book-of : tie.Start
+  start-from-book-of = c .before .before .before .before .before .before .before .before .before .before .before .before .before .before
+      .before .before .before .before .before .before
+
+module _ (c : tie.After-booked-as) where
+  abbrev call-from-return : tie.After-call
+  call-from-return = c .before .before .before .before .before .before .before .before .before .before .before .before .before .before
+      .before .before .before .before .before
+
+  abbrev book-of-from-return : tie.After-book-of
+  book-of-from-return = call-from-return .before
+
+  abbrev start-from-return : tie.Start
+  start-from-return = start-from-book-of book-of-from-return
 
 same-length : tie.Need-same-length
 same-length c =
