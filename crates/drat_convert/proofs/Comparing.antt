@@ -9,7 +9,7 @@ use lib.ListN.{length, getD, drop}
 use lib.Dec.{eqb}
 use lib.Seq.{drop-cons}
 use borrow.Author.Tests.{eq-eqb, ne-eqb}
-use Rattle.report.proofs.Digits.{by}
+use Rattle.dimacs.proofs.Cases.{by}
 use Rattle.drat_convert.specs.declared.Direction.the-variants.{ToBinary, ToText, Unknown}
 use Rattle.drat_convert.specs.Converting.{sameBytes, toBinaryWord, toTextWord, directionNamed}
 

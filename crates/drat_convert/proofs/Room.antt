@@ -20,7 +20,7 @@ use Rattle.convert.specs.Convert.{Lines, linesOf, codeOf, groupsOf, binaryLiter
 use Rattle.convert.specs.Convert.{convertedBy, toBinary, toText, plainFrom, plain}
 use Rattle.convert.proofs.Canonical.{Bytes, binary-own}
 use Rattle.convert.proofs.Plain.{text-own}
-use Rattle.report.proofs.Digits.{by}
+use Rattle.dimacs.proofs.Cases.{by}
 use Rattle.drat_convert.specs.Converting.{conversionTo}
 
 -- ---- a literal

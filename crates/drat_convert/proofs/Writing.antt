@@ -14,7 +14,7 @@ use Rattle.commands.specs.declared.Form.the-variants.{Text, Binary}
 use Rattle.convert.specs.Convert.{Lines, linesOf, binaryLine, textLine, printed, Conversion, conversionOf, settled, convertedBy, toBinary}
 use Rattle.convert.specs.Convert.{toText}
 use Rattle.report.specs.Line.{fieldText, Put}
-use Rattle.report.proofs.Digits.{by}
+use Rattle.dimacs.proofs.Cases.{by}
 use Rattle.report.proofs.Putting.{put-then}
 use Rattle.drat_convert.specs.Converting.{conversionLine, conversionTo, writtenFor}
 

@@ -8,11 +8,8 @@ use native.Mathlib.Omega.{arith}
 use lib.ListN.{length, length-append}
 use lib.Dec.{ltb}
 use borrow.Author.Tests.{ltb-true, ltb-false, lt-ltb, le-ltb}
+use Rattle.dimacs.proofs.Cases.{by}
 use Rattle.report.specs.Line.{decimalBy, decimal}
-
-pub by : {P : Type 0} (t : Bool) → (t ≡ true → P) → (t ≡ false → P) → P
-by true f g = f refl
-by false f g = g refl
 
 one-digit : (steps n : ℕ) → n < 10 → decimalBy (suc steps) n ≡ (48 + n) ∷ []
 unfolding decimalBy

@@ -25,7 +25,8 @@ use Rattle.verdict.specs.Satisfies.{clausesOf, readToEnd, satisfies}
 use Rattle.report.specs.declared.Line.{Line}
 use Rattle.report.specs.Line.{decimalBy, decimal, fieldText, lineBytes, numbersAfter, numbersOf}
 use Rattle.report.specs.Files.{ofFiles, said}
-use Rattle.report.proofs.Digits.{by, decimal-small, decimal-more}
+use Rattle.dimacs.proofs.Cases.{by}
+use Rattle.report.proofs.Digits.{decimal-small, decimal-more}
 use Rattle.report.proofs.Saying.{said-refuted}
 
 digit-read : (m d : ℕ) (xs : List ℕ) → d < 10 → numbersAfter m ((48 + d) ∷ xs) ≡ numbersAfter (m * 10 + d) xs

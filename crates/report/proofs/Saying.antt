@@ -16,7 +16,7 @@ use Rattle.verdict.specs.Satisfies.{clausesOf, readToEnd, satisfies}
 use Rattle.verdict.proofs.Refuted.{refuted}
 use Rattle.report.specs.declared.Line.{Line}
 use Rattle.report.specs.Files.{fileRefused, ofVerdict, ofFile, ofFiles, said, statusOf}
-use Rattle.report.proofs.Digits.{by}
+use Rattle.dimacs.proofs.Cases.{by}
 
 -- ---- the call with lists of zeros
 

@@ -13,7 +13,7 @@ use Rattle.verdict.specs.Satisfies.{Unsatisfiable}
 use Rattle.verdict.proofs.Refuted.{check-refuted}
 use Rattle.report.specs.declared.Line.{Line}
 use Rattle.report.specs.Files.{fileRefused, statusOf}
-use Rattle.report.proofs.Digits.{by}
+use Rattle.dimacs.proofs.Cases.{by}
 use Rattle.report.proofs.Saying.{refusalOf, files-taken, files-refused, status-zero}
 use Rattle.report_in.specs.Lent.{ReportOutcome, reportOutcome, ofCheck, reportOn}
 
