@@ -152,6 +152,48 @@ fn what_is_missing_is_told() {
     assert!(!page(&folder, &["results"]).contains("always one of"));
 }
 
+/// Results by two methods, and a results file in which they disagree: the proved archives never do, so it is made of one that agrees.
+#[test]
+fn two_methods() {
+    let folder = folder("twice-page");
+    copy(&folder, &["case-a.cnf", "case-a.proof", "papers.cnf", "papers.proof"]);
+    all(&folder, &["-q", "--twice", "-o", "results", "."]);
+    let agreed = page(&folder, &["results"]);
+    is_sound(&agreed);
+    for text in [
+        "<dt>by truth table</dt><dd>the same number, place, lines and rounds</dd>",
+        "– not checked by two methods, as it was to be",
+        "(over six variables)",
+        "all rules<br>by two methods",
+        "archive of the truth table, SHA-256 <code>",
+    ] {
+        assert!(agreed.contains(text), "{text}");
+    }
+    assert!(!agreed.contains("disagree"));
+    let results = fs::read_to_string(folder.join("results")).unwrap();
+    let second = "\"second\":{\"number\":19,\"place\":9,\"lines\":1,\"rounds\":0}";
+    let other = results.replace("\"second\":\"agrees\"", second).replace("\"refuted\",", "\"disagreed\",");
+    assert_ne!(other, results);
+    fs::write(folder.join("other"), other).unwrap();
+    let disagreed = page(&folder, &["other"]);
+    is_sound(&disagreed);
+    for text in [
+        "<title>Refutations: 0 of 2 questions</title>",
+        "<li class=\"alarm\"><b>1</b> ‼ methods disagree</li>",
+        "‼ No verdict: the two methods disagree",
+        "<code>0 12 2 1 10</code>, records, run 1",
+        "<dt>by truth table</dt><dd><code>19 9 1 0</code></dd>",
+    ] {
+        assert!(disagreed.contains(text), "{text}");
+    }
+    assert!(disagreed.find("‼ methods disagree</td>") < disagreed.find("– no verdict</td>"), "it comes first");
+    // By one method before: both results are on the page.
+    all(&folder, &["-q", "-o", "once", "."]);
+    let both = page(&folder, &["once", "results"]);
+    assert!(both.contains("<title>Refutations: 2 of 2 questions</title>"));
+    assert_eq!(both.matches("<section class=\"").count(), 4);
+}
+
 #[test]
 fn statuses() {
     let folder = folder("page-statuses");

@@ -11,6 +11,12 @@ use batch::sha256;
 use std::fmt::Write;
 use std::path::Path;
 
+const DISAGREED: &str = "The check over diagrams and the check by truth table give different lines. It is proved that they never do. So the \
+machine, the compiler or the linking of the program is at fault. Rely on no result of this program on this machine until that is settled.";
+
+const NOT_TWICE: &str =
+    "The check by truth table takes formulas of at most six variables, and proofs in records. Check it by one method.";
+
 pub struct Pair {
     result: Value,
     /// The number of its run on the page, where that is known.
@@ -75,14 +81,35 @@ impl Pair {
             let form = escaped(self.text("form"));
             let _ = write!(out, "<dt>checker’s line</dt><dd><code>{}</code>, {form}, {run}</dd>", fields.join(" "));
         }
+        if let Some(second) = self.second() {
+            let _ = write!(out, "<dt>by truth table</dt><dd>{second}</dd>");
+        }
         out + "</dl>\n</section>\n"
+    }
+
+    /// What the second method gave, where it was asked.
+    fn second(&self) -> Option<String> {
+        match self.result.get("second")? {
+            Value::Text(word) if word == "agrees" => Some("the same number, place, lines and rounds".into()),
+            Value::Text(word) if word == "none" => {
+                Some("no answer: the number is about a table, and it has none".into())
+            }
+            line @ Value::Object(_) => {
+                let fields =
+                    ["number", "place", "lines", "rounds"].map(|name| line.number(name).unwrap_or(0).to_string());
+                Some(format!("<code>{}</code>", fields.join(" ")))
+            }
+            _ => None,
+        }
     }
 
     fn said(&self) -> &'static str {
         match self.class() {
             Class::Refuted => "✓ accepted: it shows that no case can meet every rule",
             Class::Refused => "✗ refused: it does not show it",
+            Class::NoVerdict if self.text("outcome") == "not twice" => "– not checked by two methods, as it was to be",
             Class::NoVerdict => "– not checked to its end",
+            Class::Disagreed => "‼ the two methods disagree",
         }
     }
 
@@ -92,6 +119,8 @@ impl Pair {
             "refused" => refusal::refusal(self, id),
             "time limit" => "<p>The time limit was reached.</p>\n".into(),
             "ended" => "<p>The checking process was ended from outside, or by a fault of the machine.</p>\n".into(),
+            "disagreed" => format!("<p>{DISAGREED}</p>\n"),
+            "not twice" => format!("<p>{NOT_TWICE} <span class=\"soft\">({})</span></p>\n", escaped(self.text("why"))),
             _ if self.text("proof").is_empty() => "<p>There is no proof for this question.</p>\n".into(),
             _ if self.text("formula").is_empty() => "<p>There is no formula for this proof.</p>\n".into(),
             _ => format!("<p>{}</p>\n", escaped(sentence(self.number("number")))),
@@ -105,5 +134,6 @@ pub fn class_name(class: Class) -> &'static str {
         Class::Refuted => "refuted",
         Class::Refused => "refused",
         Class::NoVerdict => "none",
+        Class::Disagreed => "alarm",
     }
 }

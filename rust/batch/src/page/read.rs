@@ -28,8 +28,8 @@ pub struct Results {
     pub questions: Vec<Question>,
 }
 
-/// Names, form and profile: of each the last result counts.
-type Key = (String, String, String, bool);
+/// Names, form, profile, and whether by two methods: of each the last result counts.
+type Key = (String, String, String, bool, bool);
 
 #[derive(Default)]
 struct Reading {
@@ -51,8 +51,8 @@ impl Reading {
             }
             Some("pair") => {
                 let word = |name| value.text(name).unwrap_or("").to_string();
-                let consequence = self.run.is_some_and(|run| is_in_profile(&self.runs[run].record));
-                let key = (word("formula"), word("proof"), word("form"), consequence);
+                let is = |what: fn(&Value) -> bool| self.run.is_some_and(|run| what(&self.runs[run].record));
+                let key = (word("formula"), word("proof"), word("form"), is(is_in_profile), is(is_twice));
                 self.pairs.insert(key, (value, self.run));
             }
             Some(kind @ ("fault" | "end")) => {
@@ -80,7 +80,8 @@ impl Reading {
             question.pairs.push(Pair::new(value, run.map(|run| run + 1)));
         }
         let mut questions: Vec<Question> = questions.into_values().collect();
-        let rank = |class| [Class::Refused, Class::NoVerdict, Class::Refuted].iter().position(|&other| other == class);
+        let ranks = [Class::Disagreed, Class::Refused, Class::NoVerdict, Class::Refuted];
+        let rank = |class| ranks.iter().position(|&other| other == class);
         questions.sort_by_key(|question| rank(question.class()));
         Results { runs: self.runs, questions }
     }
@@ -88,6 +89,10 @@ impl Reading {
 
 pub fn is_in_profile(run: &Value) -> bool {
     run.get("consequence") == Some(&Value::Truth(true))
+}
+
+pub fn is_twice(run: &Value) -> bool {
+    run.get("twice") == Some(&Value::Truth(true))
 }
 
 pub fn read(names: &[OsString]) -> io::Result<Results> {
