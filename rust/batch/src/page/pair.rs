@@ -1,13 +1,13 @@
 //! A pair of the results: its outcome, and its files as far as they are still those that were checked.
 
-use crate::html::escaped;
 use crate::refusal;
 use crate::sentence::sentence;
-use crate::words::Words;
 use batch::files::Room;
 use batch::json::Value;
 use batch::record::Class;
 use batch::sha256;
+use explain::text::escaped;
+use explain::words::Words;
 use std::fmt::Write;
 use std::path::Path;
 

@@ -1,10 +1,10 @@
 //! Why a proof is refused: the sentence, the place, and what stands there.
 
-use crate::html::escaped;
-use crate::line::{self, Found};
 use crate::pair::Pair;
 use crate::sentence::sentence;
-use crate::{binary, picture};
+use explain::line::{self, Found};
+use explain::text::escaped;
+use explain::{binary, picture};
 
 /// The most bytes of a text that are quoted before the place, and after it.
 const BEFORE: usize = 200;
@@ -47,17 +47,8 @@ fn in_text(pair: &Pair, bytes: &[u8], place: usize, file: &str) -> String {
     let (before, marked, after) =
         (part(start.max(place.saturating_sub(BEFORE)), place), part(place, word), part(word, end));
     let quoted = format!("<p class=\"bytes\">{before}<mark>{marked}</mark>{after}</p>");
-    let clause = if file == "proof" { text_clause(&bytes[place..]) } else { Vec::new() };
+    let clause = if file == "proof" { explain::text::clause(&bytes[place..]) } else { Vec::new() };
     format!("<p>It is in line {row} of the {file}, byte {place}:</p>\n{quoted}{}", in_words(pair, file, &clause))
-}
-
-/// The literals of the clause that a DRAT text begins with.
-fn text_clause(bytes: &[u8]) -> Vec<i64> {
-    let text = String::from_utf8_lossy(bytes);
-    let lines = text.lines().filter(|line| !line.starts_with('c'));
-    let tokens = lines.flat_map(str::split_ascii_whitespace).skip_while(|&token| token == "d");
-    let literals = tokens.map_while(|token| token.parse::<i64>().ok());
-    literals.take_while(|&literal| literal != 0).collect()
 }
 
 /// The bytes of the clause or literal at the place.
