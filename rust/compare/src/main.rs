@@ -102,7 +102,7 @@ fn in_other_form(
     }
 }
 
-/// Of some of the checks, why they are refused: the number is the check's, 30 where it did not refuse, and the piece starts at its place.
+/// Of some of the checks, and of all that have a cause beside their number, why they are refused: the number is the check's, 30 where it did not refuse, and the piece starts at its place.
 fn explained<'a>(
     options: &Options,
     filters: &mut [Filter; 2],
@@ -110,7 +110,8 @@ fn explained<'a>(
     checks: impl Iterator<Item = (&'a String, &'a String)>,
     tally: &mut Tally,
 ) {
-    let asked = checks.filter(|_| random.percent(35)).filter_map(|(command, answer)| why::of(command, answer));
+    let asked = checks.filter_map(|(command, answer)| why::of(command, answer));
+    let asked = asked.filter(|(_, wanted)| random.percent(25) || wanted.has_cause());
     let (questions, wanted): (Vec<String>, Vec<why::Wanted>) = asked.unzip();
     let answers = agreed(options, filters, &questions, tally);
     for ((question, answer), wanted) in questions.iter().zip(&answers).zip(&wanted) {

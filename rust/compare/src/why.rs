@@ -29,6 +29,11 @@ pub fn of(command: &str, answer: &str) -> Option<(String, Wanted)> {
 }
 
 impl Wanted {
+    /// Whether there is more to say than the number.
+    pub fn has_cause(&self) -> bool {
+        matches!(self.number, 14 | 18 | 19)
+    }
+
     /// Whether the answer has this number and a piece that starts at this place.
     pub fn met(&self, answer: &str) -> bool {
         let mut parts = answer.split(" | ");
