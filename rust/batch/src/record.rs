@@ -162,28 +162,44 @@ fn put_answer(out: &mut String, answer: &Answer) {
         Some(why) => drop(write!(out, r#","why":"{why}""#)),
         None => put_verdict(out, answer),
     }
-    for (name, source) in [("formula", formula), ("proof", proof)] {
+    let names = [(r#","formula_sha256":""#, r#"","formula_bytes":"#), (r#","proof_sha256":""#, r#"","proof_bytes":"#)];
+    for ((before, after), source) in names.into_iter().zip([formula, proof]) {
         if let Source { digest: Some(digest), bytes } = source {
-            let _ = write!(out, r#","{name}_sha256":""#);
+            out.push_str(before);
             put_hex(out, digest);
-            let _ = write!(out, r#"","{name}_bytes":{bytes}"#);
+            put_number(out, after, *bytes);
         }
     }
     let _ = write!(out, r#","seconds":{}.{:06}"#, nanoseconds / 1_000_000_000, nanoseconds / 1_000 % 1_000_000);
 }
 
+/// A name and a number. There are many of them, and `write!` takes three times as long.
+fn put_number(out: &mut String, name: &str, number: u64) {
+    let (mut digits, mut at, mut rest) = ([0; 20], 20, number);
+    while at == 20 || rest > 0 {
+        at -= 1;
+        digits[at] = b'0' + (rest % 10) as u8;
+        rest /= 10;
+    }
+    out.push_str(name);
+    out.extend(str::from_utf8(&digits[at..]));
+}
+
 fn put_verdict(out: &mut String, answer: &Answer) {
     let Answer { number, file, place, lines, rounds, peak, second, .. } = answer;
-    let _ = write!(out, r#","number":{number}"#);
+    put_number(out, r#","number":"#, (*number).into());
     if let Some(meaning) = meaning(*number) {
         let _ = write!(out, r#","meaning":{}"#, Quoted(&meaning));
     }
-    let file = match file {
-        Place::Nowhere => "null",
-        Place::Formula => "\"formula\"",
-        Place::Proof => "\"proof\"",
-    };
-    let _ = write!(out, r#","file":{file},"place":{place},"lines":{lines},"rounds":{rounds},"peak":{peak}"#);
+    out.push_str(match file {
+        Place::Nowhere => r#","file":null"#,
+        Place::Formula => r#","file":"formula""#,
+        Place::Proof => r#","file":"proof""#,
+    });
+    put_number(out, r#","place":"#, *place);
+    put_number(out, r#","lines":"#, *lines);
+    put_number(out, r#","rounds":"#, *rounds);
+    put_number(out, r#","peak":"#, *peak);
     let _ = match second {
         Second::Agrees => write!(out, r#","second":"agrees""#),
         Second::NoTable => write!(out, r#","second":"none""#),
@@ -254,6 +270,13 @@ mod tests {
         assert_eq!(date(951_782_400), "2000-02-29T00:00:00Z");
         assert_eq!(date(4_107_542_399), "2100-02-28T23:59:59Z");
         assert_eq!(date(1_794_926_596), "2026-11-17T14:43:16Z");
+    }
+
+    #[test]
+    fn numbers() {
+        let mut out = String::new();
+        [0, 9, 10, 4_096, u64::MAX].map(|number| put_number(&mut out, " ", number));
+        assert_eq!(out, " 0 9 10 4096 18446744073709551615");
     }
 
     #[test]

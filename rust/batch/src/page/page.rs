@@ -79,26 +79,25 @@ fn notices(runs: &[Run]) -> String {
     format!("<h2>What is missing</h2>\n<ul>\n<li>{}</li>\n</ul>\n", found.join("</li>\n<li>"))
 }
 
+/// Each run: when it began, the checker, and what else its verdicts depend on.
 fn checkers(runs: &[Run]) -> String {
-    let mut out = String::from(
-        "<h2>By which checker</h2>\n<table><thead><tr><th scope=\"col\">run</th><th scope=\"col\">began</th><th scope=\"col\">checker</th>\
-         <th scope=\"col\">rules</th><th scope=\"col\" class=\"n\">places</th></tr></thead><tbody>\n",
-    );
+    let mut out = String::from("<h2>By which checker</h2>\n<dl>\n");
     for (at, run) in runs.iter().enumerate() {
         let text = |name| escaped(run.record.text(name).unwrap_or(""));
-        let profile = if is_in_profile(&run.record) { "consequence" } else { "all rules" };
-        let methods = if is_twice(&run.record) { "<br>by two methods" } else { "" };
-        let places = run.record.number("places").unwrap_or(0);
-        let (began, checker, commit) = (text("began"), text("checker"), text("commit"));
+        let profile = if is_in_profile(&run.record) { "consequence profile" } else { "all rules" };
+        let methods = if is_twice(&run.record) { ", by two methods" } else { "" };
+        let (began, places) = (text("began").replace('T', " "), run.record.number("places").unwrap_or(0));
         let _ = writeln!(
             out,
-            "<tr><td>{}</td><td>{began}</td><td>{checker} {commit}{}{}</td><td>{profile}{methods}</td><td class=\"n\">{places}</td></tr>",
+            "<dt>run {}</dt><dd>{} {}, began {began}; {profile}{methods}; {places} places{}{}</dd>",
             at + 1,
+            text("checker"),
+            text("commit"),
             sum("archive", &text("archive_sha256")),
             sum("archive of the truth table", &text("small_archive_sha256")),
         );
     }
-    out + "</tbody></table>\n"
+    out + "</dl>\n"
 }
 
 /// An archive's digest, where there is one.

@@ -108,6 +108,8 @@ impl Pair {
             Class::Refuted => "✓ accepted: it shows that no case can meet every rule",
             Class::Refused => "✗ refused: it does not show it",
             Class::NoVerdict if self.text("outcome") == "not twice" => "– not checked by two methods, as it was to be",
+            Class::NoVerdict if self.text("proof").is_empty() => "– nothing to check",
+            Class::NoVerdict if self.text("formula").is_empty() => "– nothing to check it against",
             Class::NoVerdict => "– not checked to its end",
             Class::Disagreed => "‼ the two methods disagree",
         }

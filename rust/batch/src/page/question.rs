@@ -3,6 +3,7 @@
 use crate::pair::{class_name, Pair};
 use batch::record::Class;
 use explain::text::escaped;
+use std::collections::HashSet;
 use std::fmt::Write;
 
 /// At least one pair. The formula is refuted where one of its proofs is accepted, and the methods disagree on none.
@@ -31,8 +32,10 @@ impl Question {
         }
     }
 
+    /// How many proofs there are, however often each was checked.
     pub fn proofs(&self) -> usize {
-        self.pairs.iter().filter(|pair| !pair.text("proof").is_empty()).count()
+        let names: HashSet<&str> = self.pairs.iter().map(|pair| pair.text("proof")).collect();
+        names.iter().filter(|name| !name.is_empty()).count()
     }
 
     /// Its row of the table of questions.
@@ -53,6 +56,7 @@ impl Question {
         match self.class() {
             Class::Refuted => "✓ Refuted: no case at all can meet every rule.",
             Class::Refused => "✗ Not shown. No proof was accepted. That does not say that such a case exists.",
+            Class::NoVerdict if self.proofs() == 0 => "– No verdict: nobody has handed in a proof.",
             Class::NoVerdict => "– No verdict: no proof was checked to its end, as it was to be.",
             Class::Disagreed => "‼ No verdict: the two methods disagree, which must never be. Act on neither.",
         }
