@@ -1,13 +1,28 @@
-//! The check of one pair. Every call of the proved library is here.
+//! The check of one pair. Every call of the proved library is here and in `twice.rs`.
 
 use crate::files::{Refusal, Room, Source, LONGEST};
 use crate::form::Form;
 use crate::pairs::Pair;
 use crate::sha256::hex;
-use cablesalak::{Mode, Number, Text, Workspace};
+use crate::twice::{Second, Table};
+use cablesalak::{Explanation, Mode, Number, Text, Workspace};
 use std::time::Instant;
 
 pub use cablesalak::{PLACES, VERSION};
+
+fn mode(settings: Settings, form: Form) -> Mode {
+    let form = match form {
+        Form::Records => cablesalak::Form::Records,
+        Form::Text => cablesalak::Form::Text,
+        Form::Binary => cablesalak::Form::Binary,
+    };
+    Mode { form, consequence: settings.consequence }
+}
+
+/// Why a check is refused (02, 8/14). None where the table cannot have so many places.
+pub fn explained<'a>(settings: Settings, form: Form, formula: &'a [u8], proof: &'a [u8]) -> Option<Explanation<'a>> {
+    Some(Workspace::new(settings.places).ok()?.why(mode(settings, form), formula, proof))
+}
 
 /// What a verdict depends on besides the two files and the proof's form.
 #[derive(Clone, Copy, Debug, PartialEq, Eq)]
@@ -16,12 +31,14 @@ pub struct Settings {
     pub places: usize,
     /// Whether only lines pass that follow from the formula (02, 11/14).
     pub consequence: bool,
+    /// Whether each pair is checked by truth table too (02, 14/14).
+    pub twice: bool,
 }
 
 impl Default for Settings {
     /// Those of the programs.
     fn default() -> Settings {
-        Settings { places: 4_096, consequence: false }
+        Settings { places: 4_096, consequence: false, twice: false }
     }
 }
 
@@ -42,8 +59,10 @@ pub struct Answer {
     pub lines: u64,
     pub rounds: u64,
     pub peak: u64,
-    /// How long the check took; 0 where none was made.
+    /// How long the check took, or both; 0 where none was made.
     pub nanoseconds: u64,
+    /// What the check by truth table gives.
+    pub second: Second,
     pub formula: Source,
     pub proof: Source,
     /// The two files are those of an earlier verdict, so that they were not checked again.
@@ -55,7 +74,8 @@ impl Answer {
     fn of(formula: Source, proof: Source) -> Answer {
         let (number, file) = (0, Place::Nowhere);
         let (place, lines, rounds, peak, nanoseconds) = (0, 0, 0, 0, 0);
-        Answer { number, file, place, lines, rounds, peak, nanoseconds, formula, proof, known: false }
+        let second = Second::NotAsked;
+        Answer { number, file, place, lines, rounds, peak, nanoseconds, second, formula, proof, known: false }
     }
 
     /// The two digests in hex; nothing where a file was not read.
@@ -73,6 +93,7 @@ pub fn meaning(number: u8) -> Option<String> {
 pub struct Checker {
     settings: Settings,
     workspace: Workspace,
+    truth_table: Table,
     formula: Room,
     proof: Room,
 }
@@ -81,7 +102,8 @@ impl Checker {
     /// None where the table cannot have so many places.
     pub fn new(settings: Settings) -> Option<Checker> {
         let workspace = Workspace::new(settings.places).ok()?;
-        Some(Checker { settings, workspace, formula: Room::default(), proof: Room::default() })
+        let (truth_table, formula, proof) = (Table::default(), Room::default(), Room::default());
+        Some(Checker { settings, workspace, truth_table, formula, proof })
     }
 
     /// The answer on the pair, with the program's line. `known` is the two digests, in hex, of a verdict that is known; or nothing.
@@ -101,21 +123,23 @@ impl Checker {
             answer.known = true;
             return answer;
         }
+        if self.settings.twice && pair.form != Form::Records {
+            answer.second = Second::NoRecords;
+            return answer;
+        }
+        let began = Instant::now();
         self.judge(pair.form, &mut answer);
+        if self.settings.twice {
+            answer.second = self.truth_table.second(&answer, self.formula.text(), self.proof.text());
+        }
+        answer.nanoseconds = began.elapsed().as_nanos() as u64;
         answer
     }
 
     /// The call of the library on the two files that were read.
     fn judge(&mut self, form: Form, answer: &mut Answer) {
-        let form = match form {
-            Form::Records => cablesalak::Form::Records,
-            Form::Text => cablesalak::Form::Text,
-            Form::Binary => cablesalak::Form::Binary,
-        };
-        let mode = Mode { form, consequence: self.settings.consequence };
-        let began = Instant::now();
+        let mode = mode(self.settings, form);
         let said = self.workspace.check(mode, self.formula.text(), self.proof.text());
-        answer.nanoseconds = began.elapsed().as_nanos() as u64;
         answer.number = said.number.code();
         answer.file = match said.text {
             None => Place::Nowhere,

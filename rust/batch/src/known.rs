@@ -3,7 +3,7 @@
 use crate::check::Settings;
 use crate::json::Value;
 use crate::pairs::Pair;
-use crate::record::{name, Class, ARCHIVE};
+use crate::record::{name, Class, ARCHIVE, SMALL_ARCHIVE};
 use std::collections::HashMap;
 
 /// Two SHA-256 in hex.
@@ -30,7 +30,7 @@ impl Known {
                     let word = |name| value.text(name).unwrap_or_default().to_string();
                     let digests = word("formula_sha256") + &word("proof_sha256");
                     let class = Class::of(&word("outcome"));
-                    if class != Class::NoVerdict && digests.len() == DIGESTS {
+                    if matches!(class, Class::Refuted | Class::Refused) && digests.len() == DIGESTS {
                         known.insert((word("formula"), word("proof"), word("form")), (digests, class));
                     }
                 }
@@ -50,11 +50,13 @@ impl Known {
     }
 }
 
-/// Whether the run was of this archive, with these settings.
+/// Whether the run was of this archive, or of these two, with these settings.
 fn is_of(run: &Value, settings: Settings) -> bool {
     run.text("archive_sha256") == Some(ARCHIVE)
         && run.number("places") == Some(settings.places as u64)
         && run.get("consequence") == Some(&Value::Truth(settings.consequence))
+        && (run.get("twice") == Some(&Value::Truth(true))) == settings.twice
+        && (!settings.twice || run.text("small_archive_sha256") == Some(SMALL_ARCHIVE))
 }
 
 #[cfg(test)]
@@ -85,9 +87,16 @@ mod tests {
         assert_eq!(known(&text, profile), None);
         assert_eq!(known(&text, Settings { places: 64, ..usual }), None);
         assert_eq!(known(&text.replace(ARCHIVE, &"0".repeat(64)), usual), None);
-        assert_eq!(known(&text.replace("refuted", "time limit"), usual), None);
+        for outcome in ["time limit", "not twice", "disagreed"] {
+            assert_eq!(known(&text.replace("refuted", outcome), usual), None);
+        }
         assert_eq!(known(&text.replace("\"text\"", "\"binary\""), usual), None);
         assert_eq!(known(&(text.clone() + &results(usual, "2")), usual).as_deref(), Some("2"));
+        // By both methods, and of both archives.
+        let twice = Settings { twice: true, ..usual };
+        let both = results(twice, "4");
+        assert_eq!([known(&both, twice).as_deref(), known(&both, usual).as_deref()], [Some("4"), None]);
+        assert_eq!([known(&text, twice), known(&both.replace(SMALL_ARCHIVE, &"0".repeat(64)), twice)], [None, None]);
         // A cut line that has swallowed the next run's.
         let cut = format!("{}{}", &text[..text.len() - 9], results(profile, "3"));
         assert_eq!(known(&cut, usual), None);

@@ -1,4 +1,4 @@
-//! Many pairs of a formula and a proof, checked through the wrapper of the proved library: `refute-all` checks them, `refute-page` makes
+//! Many pairs of a formula and a proof, checked through the wrappers of the proved library: `refute-all` checks them, `refute-page` makes
 //! a page of the results. Every verdict is the library's; this crate has files, processes and words.
 
 pub mod check;
@@ -14,4 +14,5 @@ pub mod pool;
 pub mod record;
 pub mod results;
 pub mod sha256;
+pub mod twice;
 pub mod worker;

@@ -6,7 +6,7 @@ mod run;
 
 use batch::check::VERSION;
 use batch::pairs::Found;
-use batch::record::{ARCHIVE, COMMIT};
+use batch::record::{ARCHIVE, COMMIT, SMALL_ARCHIVE};
 use batch::worker::{self, Start};
 use options::{Options, USAGE};
 use std::env;
@@ -25,7 +25,7 @@ fn main() -> ExitCode {
         // 0 is kept for what is refuted.
         Some(options) if options.help => print(2, USAGE),
         Some(options) if options.version => {
-            print(0, &format!("refute-all {VERSION} commit {COMMIT} archive {ARCHIVE}"))
+            print(0, &format!("refute-all {VERSION} commit {COMMIT} archive {ARCHIVE} small archive {SMALL_ARCHIVE}"))
         }
         Some(options) => check(&options),
     }

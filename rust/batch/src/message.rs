@@ -3,6 +3,7 @@
 use crate::check::{Answer, Place};
 use crate::files::Source;
 use crate::sha256::Digest;
+use crate::twice::{Line, Second};
 
 #[derive(Clone, Copy, Debug, PartialEq, Eq)]
 pub enum Message {
@@ -13,11 +14,29 @@ pub enum Message {
 }
 
 /// Words of eight bytes, then the two digests.
-const WORDS: usize = 16;
+const WORDS: usize = 20;
+/// The second method's answers, but for a line of its own.
+const SECONDS: [Second; 6] =
+    [Second::NotAsked, Second::Agrees, Second::NoTable, Second::OverSix, Second::NoRecords, Second::NoAnswer];
 /// What a message has, as bits of its first word.
 const ANSWERED: u64 = 1;
 const BEGUN: u64 = 2;
 const DRAINED: u64 = 4;
+
+/// The second method's answer in words: its number here, or its line's number beyond them; place, lines and rounds.
+fn second(second: Second) -> [u64; 4] {
+    match second {
+        Second::Differs(Line { number, place, lines, rounds }) => {
+            [SECONDS.len() as u64 + u64::from(number), place, lines, rounds]
+        }
+        _ => [SECONDS.iter().position(|&one| one == second).unwrap_or(0) as u64, 0, 0, 0],
+    }
+}
+
+fn second_of([kind, place, lines, rounds]: [u64; 4]) -> Second {
+    let differs = || Line { number: (kind - SECONDS.len() as u64) as u8, place, lines, rounds };
+    SECONDS.get(kind as usize).copied().unwrap_or_else(|| Second::Differs(differs()))
+}
 
 impl Message {
     pub const BYTES: usize = 8 * WORDS + 64;
@@ -44,9 +63,10 @@ impl Message {
             let line = [a.number.into(), a.file as u64, a.place, a.lines, a.rounds, a.peak, a.nanoseconds];
             words[4..11].copy_from_slice(&line);
             words[11] = a.known.into();
-            for (two, source) in words[12..].chunks_exact_mut(2).zip([a.formula, a.proof]) {
+            for (two, source) in words[12..16].chunks_exact_mut(2).zip([a.formula, a.proof]) {
                 two.copy_from_slice(&[source.digest.is_some().into(), source.bytes]);
             }
+            words[16..].copy_from_slice(&second(a.second));
         }
         words
     }
@@ -80,7 +100,8 @@ impl Message {
             let file = [Place::Nowhere, Place::Formula, Place::Proof][word(5) as usize % 3];
             let (number, place, lines, rounds, peak) = (word(4) as u8, word(6), word(7), word(8), word(9));
             let (nanoseconds, known, formula, proof) = (word(10), word(11) != 0, source(0), source(1));
-            Answer { number, file, place, lines, rounds, peak, nanoseconds, formula, proof, known }
+            let second = second_of([word(16), word(17), word(18), word(19)]);
+            Answer { number, file, place, lines, rounds, peak, nanoseconds, second, formula, proof, known }
         };
         let answered = (word(0) & ANSWERED != 0).then(|| (word(3) as u32, answer()));
         let begun = (word(0) & BEGUN != 0).then(|| word(2) as u32);
@@ -104,6 +125,7 @@ mod tests {
             rounds: 1 << 40,
             peak: 4,
             nanoseconds: 5,
+            second: Second::NotAsked,
             formula,
             proof,
             known: true,
@@ -115,6 +137,11 @@ mod tests {
             Message::Drained { worker: 4 },
         ];
         for message in messages {
+            assert_eq!(Message::unpacked(&message.packed()), message);
+        }
+        let lines = [0, 19, 255].map(|number| Second::Differs(Line { number, place: 1, lines: 2, rounds: 1 << 40 }));
+        for second in SECONDS.into_iter().chain(lines) {
+            let message = Message::Turn { worker: 1, answered: Some((0, Answer { second, ..answer })), begun: Some(9) };
             assert_eq!(Message::unpacked(&message.packed()), message);
         }
         // POSIX promises that a pipe keeps writes of at most 512 bytes whole.

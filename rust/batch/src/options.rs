@@ -16,11 +16,12 @@ pub const USAGE: &str = "usage: refute-all [OPTIONS] FOLDER|MANIFEST..
   -p K/N    only part K of N: each N-th pair, from the K-th
   -q        no lines and no progress
   --consequence  only lines pass that follow from the formula
+  --twice        each pair is checked by truth table too, and both must agree: records, at most six variables
   --places N     places of the table, 2 to 65536 (default: 4096)
   --version, --help
 Prints a line a pair as it comes: 'number place lines rounds peak', or '-' and why there is none; tab, formula, tab, proof.
 Status: 0 every pair is refuted; 1 each has a verdict, not all are refuted; 2 some pair has no verdict, something named could
-not be read, there is no pair, or wrong use; 3 the results could not be written.";
+not be read, there is no pair, or wrong use; 3 the results could not be written; 4 the two methods of --twice disagree.";
 
 /// Where results go.
 pub enum Results {
@@ -71,7 +72,10 @@ impl Options {
                 _ => options.names.push(word.into()),
             }
         }
-        (options.version || options.help || !options.names.is_empty()).then_some(options)
+        // The check by truth table has no profile.
+        let is_one_profile = !(options.settings.twice && options.settings.consequence);
+        let is_whole = options.version || options.help || !options.names.is_empty();
+        (is_whole && is_one_profile).then_some(options)
     }
 
     /// Takes an option and the value that follows it, in the same word or in the next.
@@ -87,6 +91,7 @@ impl Options {
             "--version" => self.version = true,
             "--help" => self.help = true,
             "--consequence" => self.settings.consequence = true,
+            "--twice" => self.settings.twice = true,
             "-j" => self.workers = word()?.parse().ok().filter(|workers| (1..=1_024).contains(workers))?,
             "-p" => self.part = Some(part(&word()?)?),
             "-t" => self.limit = limit(&word()?)?,
@@ -123,10 +128,14 @@ mod tests {
     fn proper_lines() {
         let options = read("-j3 -t 0.5 -p 2/4 --places 64 --consequence -q -r out a -- -b").unwrap();
         assert_eq!((options.workers, options.limit), (3, Some(Duration::from_millis(500))));
-        assert_eq!((options.part, options.settings), (Some((2, 4)), Settings { places: 64, consequence: true }));
+        assert_eq!(
+            (options.part, options.settings),
+            (Some((2, 4)), Settings { places: 64, consequence: true, twice: false })
+        );
         assert_eq!(options.names, [PathBuf::from("a"), PathBuf::from("-b")]);
         assert!(options.quiet && matches!(options.results, Results::Resumed(path) if path == *"out"));
         assert_eq!(read("-t0 a").unwrap().limit, None);
+        assert!(read("--twice a").unwrap().settings.twice);
         assert!(read("--version").unwrap().version && read("--help").unwrap().help);
     }
 
@@ -134,7 +143,9 @@ mod tests {
     fn wrong_lines() {
         let wrong =
             ["-q", "-x a", "--wrong a", "-j 0 a", "-j x a", "-j", "-t -1 a", "-t nan a", "-p 0/2 a", "-p 3/2 a"];
-        for words in wrong.into_iter().chain(["-p 1 a", "--places 1 a", "--places 65537 a", "-o"]) {
+        for words in
+            wrong.into_iter().chain(["-p 1 a", "--places 1 a", "--places 65537 a", "-o", "--twice --consequence a"])
+        {
             assert!(read(words).is_none(), "{words}");
         }
     }

@@ -40,7 +40,11 @@ impl Progress {
     fn words(&self, counts: &Counts) -> String {
         let Counts { refuted, refused, no_verdict, .. } = counts;
         let (done, all) = (counts.pairs(), self.all);
-        format!("{done} of {all}: {refuted} refuted, {refused} refused, {no_verdict} without a verdict")
+        let disagreed = match counts.disagreed {
+            0 => String::new(),
+            count => format!(", {count} ON WHICH THE TWO METHODS DISAGREE"),
+        };
+        format!("{done} of {all}: {refuted} refuted, {refused} refused, {no_verdict} without a verdict{disagreed}")
     }
 
     /// The last state; `known` of the pairs were known before.

@@ -9,7 +9,7 @@ use batch::pool::{Observer, Outcome, Pool};
 use batch::record::{self, Class, Counts};
 use batch::results::{self, explained, Out};
 use std::fs::File;
-use std::io::{self, Stdout};
+use std::io::{self, Stdout, Write};
 use std::path::Path;
 
 struct Run<'a> {
@@ -34,7 +34,11 @@ impl Observer for Run<'_> {
                 return Ok(());
             }
         }
-        self.counts.add(Class::of(outcome.name()));
+        let class = Class::of(outcome.name());
+        self.counts.add(class);
+        if class == Class::Disagreed {
+            self.alarm(pair, &outcome);
+        }
         if let Some(file) = &mut self.file {
             record::put_pair(&mut file.held, pair, &outcome);
         }
@@ -58,6 +62,14 @@ impl Observer for Run<'_> {
 }
 
 impl Run<'_> {
+    /// A disagreement is reported on standard error too, quiet or not.
+    fn alarm(&self, pair: &Pair, outcome: &Outcome) {
+        let mut line = String::new();
+        record::put_line(&mut line, pair, outcome);
+        self.progress.clear();
+        let _ = write!(io::stderr(), "refute-all: {}", line.trim_start_matches("- "));
+    }
+
     /// Writes the run's last record, and makes sure that the file is on the disk.
     fn end(&mut self) -> io::Result<()> {
         if let Some(file) = &mut self.file {

@@ -97,11 +97,12 @@ pub fn hex(digest: &Digest) -> String {
 
 /// Writes the digest after the text.
 pub fn put_hex(out: &mut String, digest: &Digest) {
-    let digit = |four: u8| char::from(b"0123456789abcdef"[usize::from(four)]);
-    for byte in digest {
-        out.push(digit(byte >> 4));
-        out.push(digit(byte & 15));
+    let digit = |four: u8| b"0123456789abcdef"[usize::from(four)];
+    let mut digits = [0; 64];
+    for (two, byte) in digits.chunks_exact_mut(2).zip(digest) {
+        two.copy_from_slice(&[digit(byte >> 4), digit(byte & 15)]);
     }
+    out.extend(str::from_utf8(&digits));
 }
 
 #[cfg(test)]

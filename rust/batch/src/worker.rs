@@ -32,22 +32,24 @@ pub struct Start {
 
 impl Start {
     /// The words of the command line.
-    pub fn words(&self) -> [String; 6] {
-        let Start { pool, list, settings: Settings { places, consequence }, worker } = self;
+    pub fn words(&self) -> [String; 7] {
+        let Start { pool, list, settings: Settings { places, consequence, twice }, worker } = self;
         [
             WORD.into(),
             pool.to_string(),
             list.to_string(),
             places.to_string(),
             consequence.to_string(),
+            twice.to_string(),
             worker.to_string(),
         ]
     }
 
     pub fn read(words: &[OsString]) -> Option<Start> {
         let words: Vec<&str> = words.iter().map(|word| word.to_str()).collect::<Option<_>>()?;
-        let [WORD, pool, list, places, consequence, worker] = words[..] else { return None };
-        let settings = Settings { places: places.parse().ok()?, consequence: consequence.parse().ok()? };
+        let [WORD, pool, list, places, consequence, twice, worker] = words[..] else { return None };
+        let (consequence, twice) = (consequence.parse().ok()?, twice.parse().ok()?);
+        let settings = Settings { places: places.parse().ok()?, consequence, twice };
         Some(Start { pool: pool.parse().ok()?, list: list.parse().ok()?, settings, worker: worker.parse().ok()? })
     }
 }

@@ -1,4 +1,4 @@
-//! `refute-all` as it is started: lines, statuses, results, resuming, parts, forms, the profile, the time limit.
+//! `refute-all` as it is started: lines, statuses, results, resuming, parts, forms, the profile, two methods, the time limit.
 
 mod common;
 
@@ -114,6 +114,48 @@ fn forms_and_profile() {
     fs::rename(folder.join("two-bands.bdrat"), folder.join("stored")).unwrap();
     fs::write(folder.join("list"), "two-bands.cnf\tstored\tbinary\n").unwrap();
     all(&folder, &["list"]).is(0, &["0 22 3 10 32\ttwo-bands.cnf\tstored"]);
+}
+
+#[test]
+fn two_methods() {
+    let folder = folder("twice");
+    copy(&folder, &["case-a.cnf", "case-a.proof", "shift.cnf", "shift.proof"]);
+    let (case_a, shift) = ("0 12 2 1 10\t./case-a.cnf\t./case-a.proof", "0 91 3 0 87\t./shift.cnf\t./shift.proof");
+    all(&folder, &["--twice", "-o", "results", "."]).is(0, &[case_a, shift]);
+    let results = || fs::read_to_string(folder.join("results")).unwrap();
+    assert_eq!(results().matches("\"second\":\"agrees\"").count(), 2);
+    assert!(results().contains("\"twice\":true") && results().contains("\"small_archive_sha256\":\""));
+    // Known by both methods; by one alone they are checked again, and by both again after that.
+    all(&folder, &["--twice", "-r", "results", "."]).is(0, &[]);
+    all(&folder, &["-r", "results", "."]).is(0, &[case_a, shift]);
+    all(&folder, &["--twice", "-p", "2/2", "-r", "results", "."]).is(0, &[]);
+    // What cannot be checked twice has no line and no verdict; a refusal about the table has no second answer.
+    copy(&folder, &["papers.cnf", "papers.proof", "batch/two-bands.cnf", "batch/two-bands.drat"]);
+    fs::write(folder.join("case-a-short.proof"), b"\x45").unwrap();
+    let wanted = [
+        "- not twice: no records\t./two-bands.cnf\t./two-bands.drat",
+        "- not twice: over six variables\t./papers.cnf\t./papers.proof",
+        case_a,
+        shift,
+        "20 0 0 0 8\t./case-a.cnf\t./case-a-short.proof",
+    ];
+    let said = all(&folder, &["--twice", "-o", "more", "."]);
+    said.is(2, &wanted);
+    assert!(said.error.contains("5 of 5: 2 refuted, 1 refused, 2 without a verdict"), "{}", said.error);
+    let more = fs::read_to_string(folder.join("more")).unwrap();
+    for record in more.lines().filter(|line| line.contains("\"outcome\":\"not twice\"")) {
+        assert!(record.contains("\"why\":\"") && !record.contains("\"number\""), "{record}");
+    }
+    all(&folder, &["--twice", "-r", "more", "."]).is(2, &wanted[..2]);
+    // A table of 9 places is full in the proof of case A, and in the clauses of the other.
+    let full = ["23 0 1 0 9\t./case-a.cnf\t./case-a.proof"];
+    fs::write(folder.join("list"), "case-a.cnf\tcase-a.proof\n").unwrap();
+    let said = all(&folder, &["--twice", "--places", "9", "-o", "full", "list"]);
+    assert_eq!((said.status, said.lines.len()), (Some(1), full.len()), "{}", said.error);
+    assert!(said.lines[0].starts_with("23 "), "{}", said.lines[0]);
+    assert!(fs::read_to_string(folder.join("full")).unwrap().contains("\"second\":\"none\""));
+    // The check by truth table has no profile.
+    all(&folder, &["--twice", "--consequence", "."]).is(2, &[]);
 }
 
 #[test]

@@ -1,4 +1,4 @@
-//! The batch's lines are those of the proved call `report`, on pairs damaged at random, in every form and in both profiles.
+//! The batch's lines are those of the proved call `report`, on pairs damaged at random, in every form, in both profiles and by both methods.
 //! `examples/test-batch` compares them with the programs' lines.
 
 mod common;
@@ -7,7 +7,7 @@ mod damage;
 
 use cablesalak::{Form, Mode, Workspace};
 use common::{all, folder, EXAMPLES};
-use std::collections::BTreeSet;
+use std::collections::{BTreeMap, BTreeSet};
 use std::env;
 use std::fs;
 use std::path::Path;
@@ -39,10 +39,32 @@ fn compare(folder: &Path, consequence: bool) -> BTreeSet<String> {
     numbers
 }
 
+/// By both methods: the lines are those of the check over diagrams, but for what cannot be checked twice.
+fn compare_twice(folder: &Path) {
+    let files = |line: &str| line.split_once('\t').map(|(_, files)| files.to_string()).unwrap();
+    let once: BTreeMap<String, String> =
+        all(folder, &["pairs"]).lines.into_iter().map(|line| (files(&line), line)).collect();
+    let said = all(folder, &["--twice", "pairs"]);
+    assert_eq!((said.status, said.lines.len()), (Some(2), once.len()), "{}", said.error);
+    let mut numbers = BTreeMap::new();
+    for line in &said.lines {
+        match line.strip_prefix("- ") {
+            Some(why) if why.starts_with("not twice: no records") => assert!(!line.ends_with(".proof"), "{line}"),
+            Some(why) => assert!(why.starts_with("not twice: over six variables"), "{line}"),
+            None => {
+                assert_eq!(line, &once[&files(line)]);
+                *numbers.entry(line.split(' ').next().unwrap()).or_insert(0) += 1;
+            }
+        }
+    }
+    assert!(numbers.len() > 10 && numbers["0"] > pairs() / 100, "{numbers:?}");
+}
+
 #[test]
 fn lines_are_the_proved_calls() {
     let folder = folder("lines");
     damage::damage(Path::new(EXAMPLES), &folder.join("pairs"), pairs(), 1).unwrap();
+    compare_twice(&folder);
     let (outside, inside) = (compare(&folder, false), compare(&folder, true));
     assert!(outside.len() > 18, "{outside:?}");
     for number in ["0", "9", "19", "24", "25", "28", "31", "33"] {

@@ -79,6 +79,7 @@ fn the_demonstration() {
         "Its witness: not “Ann holds the keys”.",
         "<mark>61 00</mark>",
         "In words: the contradiction itself.",
+        "– No verdict: nobody has handed in a proof.",
         "<code>0 87 5 4 36</code>, records, run 1",
         "SHA-256 <code>acf7ab47fc8d5827e90c1d5950aacff1054ee9e92dc1df5afda61c2249c793dd</code>",
         "<strong>Nobody shows here</strong>",
@@ -150,6 +151,68 @@ fn what_is_missing_is_told() {
     assert!(said.contains("always one of"));
     fs::write(folder.join("case-a.cnf"), "p cnf 1 1\n1 0\n").unwrap();
     assert!(!page(&folder, &["results"]).contains("always one of"));
+}
+
+/// A clause of a DRAT proof is drawn too; a long name is cut in the picture and whole in the words.
+#[test]
+fn pictures() {
+    let folder = folder("pictures");
+    let name = "ä".repeat(40);
+    let formula = format!("c fact 1 {name}\np cnf 2 2\n1 2 0\n-1 2 0\n");
+    fs::write(folder.join("a.cnf"), formula).unwrap();
+    fs::write(folder.join("a-1.drat"), "1 -2 0\n").unwrap();
+    fs::write(folder.join("a-2.bdrat"), b"\x61\x03\0").unwrap();
+    fs::write(folder.join("a-3.proof"), b"\x58\x03\0\0\0\0\0\0\0\x01\x51\x02\0\x45").unwrap();
+    all(&folder, &["-q", "--consequence", "-o", "results", "."]);
+    let page = page(&folder, &["results"]);
+    is_sound(&page);
+    assert_eq!(page.matches("<svg ").count(), 3);
+    assert_eq!(page.matches(&format!(">“{}…”</text>", "ä".repeat(31))).count(), 3);
+    assert!(page.contains(&format!("In words: if fact 2, then “{name}”.")));
+    assert!(page.contains(&format!("It claims: an odd number of “{name}”, fact 2.")));
+}
+
+/// Results by two methods, and a results file in which they disagree: the proved archives never do, so it is made of one that agrees.
+#[test]
+fn two_methods() {
+    let folder = folder("twice-page");
+    copy(&folder, &["case-a.cnf", "case-a.proof", "papers.cnf", "papers.proof"]);
+    all(&folder, &["-q", "--twice", "-o", "results", "."]);
+    let agreed = page(&folder, &["results"]);
+    is_sound(&agreed);
+    for text in [
+        "<dt>by truth table</dt><dd>the same number, place, lines and rounds</dd>",
+        "– not checked by two methods, as it was to be",
+        "(over six variables)",
+        "all rules, by two methods; 4096 places",
+        "archive of the truth table, SHA-256 <code>",
+    ] {
+        assert!(agreed.contains(text), "{text}");
+    }
+    assert!(!agreed.contains("disagree"));
+    let results = fs::read_to_string(folder.join("results")).unwrap();
+    let second = "\"second\":{\"number\":19,\"place\":9,\"lines\":1,\"rounds\":0}";
+    let other = results.replace("\"second\":\"agrees\"", second).replace("\"refuted\",", "\"disagreed\",");
+    assert_ne!(other, results);
+    fs::write(folder.join("other"), other).unwrap();
+    let disagreed = page(&folder, &["other"]);
+    is_sound(&disagreed);
+    for text in [
+        "<title>Refutations: 0 of 2 questions</title>",
+        "<li class=\"alarm\"><b>1</b> ‼ methods disagree</li>",
+        "‼ No verdict: the two methods disagree",
+        "<code>0 12 2 1 10</code>, records, run 1",
+        "<dt>by truth table</dt><dd><code>19 9 1 0</code></dd>",
+    ] {
+        assert!(disagreed.contains(text), "{text}");
+    }
+    assert!(disagreed.find("‼ methods disagree</td>") < disagreed.find("– no verdict</td>"), "it comes first");
+    // By one method before: both results are on the page.
+    all(&folder, &["-q", "-o", "once", "."]);
+    let both = page(&folder, &["once", "results"]);
+    assert!(both.contains("<title>Refutations: 2 of 2 questions</title>"));
+    assert_eq!(both.matches("<section class=\"").count(), 4);
+    assert!(both.contains("checked the proofs: 2 in all."), "a proof that was checked twice is one");
 }
 
 #[test]

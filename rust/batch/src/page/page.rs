@@ -1,10 +1,12 @@
 //! The page as a whole.
 
-use crate::html::{escaped, STYLE};
 use crate::question::Question;
-use crate::read::{is_in_profile, Results, Run};
+use crate::read::{is_in_profile, is_twice, Results, Run};
 use batch::record::Class;
+use explain::text::escaped;
 use std::fmt::Write;
+
+const STYLE: &str = include_str!("style.css");
 
 /// A page of more questions than this would be too large for a browser with every rule in it.
 const MOST_IN_FULL: usize = 500;
@@ -47,12 +49,16 @@ fn head(questions: &[Question]) -> String {
     let count = |class| questions.iter().filter(|question| question.class() == class).count();
     let (refuted, refused, none) = (count(Class::Refuted), count(Class::Refused), count(Class::NoVerdict));
     let (all, proofs) = (questions.len(), questions.iter().map(Question::proofs).sum::<usize>());
+    let alarm = match count(Class::Disagreed) {
+        0 => String::new(),
+        count => format!("<li class=\"alarm\"><b>{count}</b> ‼ methods disagree</li>\n"),
+    };
     format!(
         "<!DOCTYPE html>\n<html lang=\"en\">\n<head>\n<meta charset=\"utf-8\">\n\
          <meta name=\"viewport\" content=\"width=device-width, initial-scale=1\">\n\
          <meta http-equiv=\"Content-Security-Policy\" content=\"default-src 'none'; style-src 'unsafe-inline'\">\n\
          <title>Refutations: {refuted} of {all} questions</title>\n<style>\n{STYLE}</style>\n</head>\n<body>\n<main>\n\
-         <h1>What the proofs show</h1>\n{INTRODUCTION}: {proofs} in all.</p>\n<ul class=\"all\">\n\
+         <h1>What the proofs show</h1>\n{INTRODUCTION}: {proofs} in all.</p>\n<ul class=\"all\">\n{alarm}\
          <li class=\"refuted\"><b>{refuted}</b> ✓ refuted</li>\n<li class=\"refused\"><b>{refused}</b> ✗ not shown</li>\n\
          <li class=\"none\"><b>{none}</b> – without a verdict</li>\n</ul>\n"
     )
@@ -73,25 +79,31 @@ fn notices(runs: &[Run]) -> String {
     format!("<h2>What is missing</h2>\n<ul>\n<li>{}</li>\n</ul>\n", found.join("</li>\n<li>"))
 }
 
+/// Each run: when it began, the checker, and what else its verdicts depend on.
 fn checkers(runs: &[Run]) -> String {
-    let mut out = String::from(
-        "<h2>By which checker</h2>\n<table><thead><tr><th scope=\"col\">run</th><th scope=\"col\">began</th><th scope=\"col\">checker</th>\
-         <th scope=\"col\">profile</th><th scope=\"col\" class=\"n\">places</th></tr></thead><tbody>\n",
-    );
+    let mut out = String::from("<h2>By which checker</h2>\n<dl>\n");
     for (at, run) in runs.iter().enumerate() {
         let text = |name| escaped(run.record.text(name).unwrap_or(""));
-        let profile = if is_in_profile(&run.record) { "consequence" } else { "all rules" };
+        let profile = if is_in_profile(&run.record) { "consequence profile" } else { "all rules" };
+        let methods = if is_twice(&run.record) { ", by two methods" } else { "" };
+        let (began, places) = (text("began").replace('T', " "), run.record.number("places").unwrap_or(0));
         let _ = writeln!(
             out,
-            "<tr><td>{}</td><td>{}</td><td>{} {}<br><span class=\"soft\">archive SHA-256 <code>{}</code></span></td><td>{profile}</td>\
-             <td class=\"n\">{}</td></tr>",
+            "<dt>run {}</dt><dd>{} {}, began {began}; {profile}{methods}; {places} places{}{}</dd>",
             at + 1,
-            text("began"),
             text("checker"),
             text("commit"),
-            text("archive_sha256"),
-            run.record.number("places").unwrap_or(0)
+            sum("archive", &text("archive_sha256")),
+            sum("archive of the truth table", &text("small_archive_sha256")),
         );
     }
-    out + "</tbody></table>\n"
+    out + "</dl>\n"
+}
+
+/// An archive's digest, where there is one.
+fn sum(of: &str, digest: &str) -> String {
+    match digest {
+        "" => String::new(),
+        _ => format!("<br><span class=\"soft\">{of}, SHA-256 <code>{digest}</code></span>"),
+    }
 }

@@ -1,11 +1,12 @@
 //! A question: a formula with all of its proofs.
 
-use crate::html::escaped;
 use crate::pair::{class_name, Pair};
 use batch::record::Class;
+use explain::text::escaped;
+use std::collections::HashSet;
 use std::fmt::Write;
 
-/// At least one pair. The formula is refuted where one of its proofs is accepted.
+/// At least one pair. The formula is refuted where one of its proofs is accepted, and the methods disagree on none.
 pub struct Question {
     pub pairs: Vec<Pair>,
 }
@@ -13,7 +14,8 @@ pub struct Question {
 impl Question {
     pub fn class(&self) -> Class {
         let has = |class: Class| self.pairs.iter().any(|pair| pair.class() == class);
-        [Class::Refuted, Class::Refused].into_iter().find(|&class| has(class)).unwrap_or(Class::NoVerdict)
+        let classes = [Class::Disagreed, Class::Refuted, Class::Refused];
+        classes.into_iter().find(|&class| has(class)).unwrap_or(Class::NoVerdict)
     }
 
     /// A pair whose formula can be quoted, if there is one.
@@ -30,8 +32,10 @@ impl Question {
         }
     }
 
+    /// How many proofs there are, however often each was checked.
     pub fn proofs(&self) -> usize {
-        self.pairs.iter().filter(|pair| !pair.text("proof").is_empty()).count()
+        let names: HashSet<&str> = self.pairs.iter().map(|pair| pair.text("proof")).collect();
+        names.iter().filter(|name| !name.is_empty()).count()
     }
 
     /// Its row of the table of questions.
@@ -41,6 +45,7 @@ impl Question {
             Class::Refuted => "✓ refuted",
             Class::Refused => "✗ not shown",
             Class::NoVerdict => "– no verdict",
+            Class::Disagreed => "‼ methods disagree",
         };
         format!(
             "<tr><td><a href=\"#q{id}\">{words}</a></td><td class=\"n\">{proofs}</td><td class=\"is {class}\">{result}</td></tr>\n"
@@ -51,7 +56,9 @@ impl Question {
         match self.class() {
             Class::Refuted => "✓ Refuted: no case at all can meet every rule.",
             Class::Refused => "✗ Not shown. No proof was accepted. That does not say that such a case exists.",
-            Class::NoVerdict => "– No verdict: no check came to its end.",
+            Class::NoVerdict if self.proofs() == 0 => "– No verdict: nobody has handed in a proof.",
+            Class::NoVerdict => "– No verdict: no proof was checked to its end, as it was to be.",
+            Class::Disagreed => "‼ No verdict: the two methods disagree, which must never be. Act on neither.",
         }
     }
 
@@ -67,7 +74,7 @@ impl Question {
             let _ = writeln!(out, "<dl>{}</dl>\n{rules}", first.file("formula"));
         }
         let mut pairs: Vec<&Pair> = self.pairs.iter().collect();
-        pairs.sort_by_key(|pair| pair.class() != Class::Refuted);
+        pairs.sort_by_key(|pair| (pair.class() != Class::Disagreed, pair.class() != Class::Refuted));
         for (at, pair) in pairs.iter().enumerate() {
             out += &pair.section(1_000 * id + at);
         }

@@ -2,6 +2,7 @@
 
 use crate::pair::Pair;
 use crate::question::Question;
+use batch::check::Settings;
 use batch::json::Value;
 use batch::record::Class;
 use batch::results::explained;
@@ -28,8 +29,8 @@ pub struct Results {
     pub questions: Vec<Question>,
 }
 
-/// Names, form and profile: of each the last result counts.
-type Key = (String, String, String, bool);
+/// Names, form, profile, and whether by two methods: of each the last result counts.
+type Key = (String, String, String, bool, bool);
 
 #[derive(Default)]
 struct Reading {
@@ -51,8 +52,8 @@ impl Reading {
             }
             Some("pair") => {
                 let word = |name| value.text(name).unwrap_or("").to_string();
-                let consequence = self.run.is_some_and(|run| is_in_profile(&self.runs[run].record));
-                let key = (word("formula"), word("proof"), word("form"), consequence);
+                let is = |what: fn(&Value) -> bool| self.run.is_some_and(|run| what(&self.runs[run].record));
+                let key = (word("formula"), word("proof"), word("form"), is(is_in_profile), is(is_twice));
                 self.pairs.insert(key, (value, self.run));
             }
             Some(kind @ ("fault" | "end")) => {
@@ -77,17 +78,29 @@ impl Reading {
             let digest = value.text("formula_sha256").or(digests.get(&formula).map(String::as_str)).unwrap_or("");
             let key = (formula.clone(), if formula.is_empty() { proof } else { digest.to_string() });
             let question = questions.entry(key).or_insert(Question { pairs: Vec::new() });
-            question.pairs.push(Pair::new(value, run.map(|run| run + 1)));
+            let settings = run.and_then(|run| settings(&self.runs[run].record));
+            question.pairs.push(Pair::new(value, run.map(|run| run + 1), settings));
         }
         let mut questions: Vec<Question> = questions.into_values().collect();
-        let rank = |class| [Class::Refused, Class::NoVerdict, Class::Refuted].iter().position(|&other| other == class);
+        let ranks = [Class::Disagreed, Class::Refused, Class::NoVerdict, Class::Refuted];
+        let rank = |class| ranks.iter().position(|&other| other == class);
         questions.sort_by_key(|question| rank(question.class()));
         Results { runs: self.runs, questions }
     }
 }
 
+/// What the run's verdicts depend on besides the files.
+fn settings(run: &Value) -> Option<Settings> {
+    let places = run.number("places").and_then(|places| places.try_into().ok())?;
+    Some(Settings { places, consequence: is_in_profile(run), twice: is_twice(run) })
+}
+
 pub fn is_in_profile(run: &Value) -> bool {
     run.get("consequence") == Some(&Value::Truth(true))
+}
+
+pub fn is_twice(run: &Value) -> bool {
+    run.get("twice") == Some(&Value::Truth(true))
 }
 
 pub fn read(names: &[OsString]) -> io::Result<Results> {

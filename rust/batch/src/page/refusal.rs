@@ -1,10 +1,13 @@
 //! Why a proof is refused: the sentence, the place, and what stands there.
 
-use crate::html::escaped;
-use crate::line::{self, Found};
 use crate::pair::Pair;
 use crate::sentence::sentence;
-use crate::{binary, picture};
+use batch::check::explained;
+use batch::form::Form;
+use explain::line::{self, Found};
+use explain::text::escaped;
+use explain::{binary, cause, picture};
+use proof::{Diagram, Diagrams, Record};
 
 /// The most bytes of a text that are quoted before the place, and after it.
 const BEFORE: usize = 200;
@@ -13,6 +16,10 @@ const AFTER: usize = 400;
 const MOST_IN_WORDS: usize = 1_000;
 /// The most bytes that are quoted in hex.
 const MOST_HEX: usize = 64;
+
+const CAPTION: &str =
+    "The claim as a diagram. From the top: where the fact holds follow the full line, else the broken one. At 1 the \
+claim holds, at 0 it does not.";
 
 /// Numbers about a whole clause of a DRAT proof, which can be put in words.
 fn is_about_a_clause(number: u64) -> bool {
@@ -27,18 +34,33 @@ pub fn refusal(pair: &Pair, id: usize) -> String {
     let body = match bytes {
         None => format!("<p>It is at byte {place} of the {file}, which is no longer there as it was checked.</p>"),
         Some(bytes) if place >= bytes.len() => format!("<p>It is at the end of the {file}, byte {place}.</p>"),
-        Some(bytes) if file == "formula" || pair.text("form") == "text" => in_text(pair, bytes, place, file),
-        Some(bytes) if pair.text("form") == "binary" => in_binary(pair, bytes, place),
+        Some(bytes) if file == "formula" || pair.text("form") == "text" => in_text(pair, bytes, place, file, id),
+        Some(bytes) if pair.text("form") == "binary" => in_binary(pair, bytes, place, id),
         Some(bytes) => match line::find(bytes, place) {
             None => format!("<p>It is at byte {place} of the proof.</p>"),
             Some(found) => in_records(pair, found, place, id),
         },
     };
-    format!("{head}{body}\n")
+    format!("{head}{body}{}\n", cause(pair).unwrap_or_default())
+}
+
+/// The cause in sentences, by the proved library, where there is more to say than the number and the files are those that were checked.
+fn cause(pair: &Pair) -> Option<String> {
+    let (formula, proof, settings) = (pair.formula.as_ref()?, pair.proof.as_ref()?, pair.settings?);
+    let form = Form::named(pair.text("form").as_bytes())?;
+    let why = explained(settings, form, formula, proof)?;
+    if u64::from(why.number.code()) != pair.number("number") || why.place as u64 != pair.number("place") {
+        return None;
+    }
+    let found = if form == Form::Records { line::find(proof, why.place) } else { None };
+    let is_path = matches!(found, Some(Found { record: Some(Record::Path { .. }), .. }));
+    let lines = cause::sentences(&pair.words, &why.cause, is_path);
+    let said: Vec<String> = lines.iter().map(|line| escaped(line.trim_start())).collect();
+    (!said.is_empty()).then(|| format!("\n<p>{}</p>", said.join("<br>")))
 }
 
 /// The line of a text that has the place, and the word there marked.
-fn in_text(pair: &Pair, bytes: &[u8], place: usize, file: &str) -> String {
+fn in_text(pair: &Pair, bytes: &[u8], place: usize, file: &str, id: usize) -> String {
     let start = bytes[..place].iter().rposition(|&byte| byte == b'\n').map_or(0, |at| at + 1);
     let end = bytes[place..].iter().position(|&byte| byte == b'\n').map_or(bytes.len(), |more| place + more);
     let word = bytes[place..end].iter().position(u8::is_ascii_whitespace).map_or(end, |more| place + more);
@@ -47,33 +69,34 @@ fn in_text(pair: &Pair, bytes: &[u8], place: usize, file: &str) -> String {
     let (before, marked, after) =
         (part(start.max(place.saturating_sub(BEFORE)), place), part(place, word), part(word, end));
     let quoted = format!("<p class=\"bytes\">{before}<mark>{marked}</mark>{after}</p>");
-    let clause = if file == "proof" { text_clause(&bytes[place..]) } else { Vec::new() };
-    format!("<p>It is in line {row} of the {file}, byte {place}:</p>\n{quoted}{}", in_words(pair, file, &clause))
-}
-
-/// The literals of the clause that a DRAT text begins with.
-fn text_clause(bytes: &[u8]) -> Vec<i64> {
-    let text = String::from_utf8_lossy(bytes);
-    let lines = text.lines().filter(|line| !line.starts_with('c'));
-    let tokens = lines.flat_map(str::split_ascii_whitespace).skip_while(|&token| token == "d");
-    let literals = tokens.map_while(|token| token.parse::<i64>().ok());
-    literals.take_while(|&literal| literal != 0).collect()
+    let clause = if file == "proof" { explain::text::clause(&bytes[place..]) } else { Vec::new() };
+    format!("<p>It is in line {row} of the {file}, byte {place}:</p>\n{quoted}{}", in_words(pair, file, &clause, id))
 }
 
 /// The bytes of the clause or literal at the place.
-fn in_binary(pair: &Pair, bytes: &[u8], place: usize) -> String {
+fn in_binary(pair: &Pair, bytes: &[u8], place: usize, id: usize) -> String {
     let clause = binary::clause(&bytes[place..]);
     let marked = hex(&bytes[place..place + clause.length]);
-    let words = in_words(pair, "proof", &clause.literals);
+    let words = in_words(pair, "proof", &clause.literals, id);
     format!("<p>It is at byte {place} of the proof:</p>\n<p class=\"bytes\"><mark>{marked}</mark></p>{words}")
 }
 
-fn in_words(pair: &Pair, file: &str, clause: &[i64]) -> String {
+/// A clause of a DRAT proof in words and as a picture, where the number is about a clause.
+fn in_words(pair: &Pair, file: &str, clause: &[i64], id: usize) -> String {
     if file != "proof" || !is_about_a_clause(pair.number("number")) {
         return String::new();
     }
     let said = if clause.is_empty() { "the contradiction itself".into() } else { pair.words.clause(clause) };
-    format!("\n<p>In words: {}.</p>", escaped(&said))
+    let drawn = line::clause(clause).map(|(diagrams, f)| figure(pair, &diagrams, f, &said, id));
+    format!("\n<p>In words: {}.</p>{}", escaped(&said), drawn.unwrap_or_default())
+}
+
+/// A claim's diagram with its caption; nothing for a constant, and where it has too many nodes.
+fn figure(pair: &Pair, diagrams: &Diagrams, f: Diagram, said: &str, id: usize) -> String {
+    match picture::picture(diagrams, f, &pair.words, said, id) {
+        Some(drawn) if f > 1 => format!("\n<figure>{drawn}<figcaption>{CAPTION}</figcaption></figure>"),
+        _ => String::new(),
+    }
 }
 
 fn hex(bytes: &[u8]) -> String {
@@ -105,12 +128,5 @@ fn in_records(pair: &Pair, mut found: Found, place: usize, id: usize) -> String 
         _ => "what its diagram says, which is too large to be shown".into(),
     };
     out += &format!("\n<p>It claims: {}.</p>", escaped(&words));
-    let drawn = picture::picture(&found.diagrams, f, &pair.words, &words, id);
-    if let Some(drawn) = drawn.filter(|_| f > 1) {
-        out += &format!(
-            "\n<figure>{drawn}<figcaption>The claim as a diagram. From the top: where the fact holds follow the full line, else the \
-             broken one. At 1 the claim holds, at 0 it does not.</figcaption></figure>"
-        );
-    }
-    out
+    out + &figure(pair, &found.diagrams, f, &words, id)
 }

@@ -1,6 +1,7 @@
 //! The record at a place of a proof, and the diagram that it is about.
 
 use proof::{Diagram, Diagrams, Reader, Record};
+use std::collections::BTreeMap;
 
 pub struct Found {
     /// The line of the proof that the record belongs to, counted from 1.
@@ -59,6 +60,27 @@ fn root(record: Record) -> Option<u16> {
     }
 }
 
+/// A clause's diagram; none where a variable is not one of 1 to 64. A clause with both signs of a variable is always true.
+pub fn clause(literals: &[i64]) -> Option<(Diagrams, Diagram)> {
+    let mut diagrams = Diagrams::default();
+    let mut signs: BTreeMap<u8, bool> = BTreeMap::new();
+    for &literal in literals {
+        let variable = u8::try_from(literal.unsigned_abs()).ok().filter(|variable| (1..=64).contains(variable))?;
+        if signs.insert(variable, literal > 0).is_some_and(|sign| sign != (literal > 0)) {
+            return Some((diagrams, 1));
+        }
+    }
+    let above = |f, (&variable, &sign): (&u8, &bool)| {
+        if sign {
+            diagrams.node(variable, f, 1)
+        } else {
+            diagrams.node(variable, 1, f)
+        }
+    };
+    let f = signs.iter().rev().fold(0, above);
+    Some((diagrams, f))
+}
+
 /// What the record is, in words.
 pub fn kind(record: Option<Record>) -> &'static str {
     match record {
@@ -110,6 +132,12 @@ mod tests {
         assert_eq!(found.diagram.map(|f| found.diagrams.row(f)), Some((1, 0, 1)));
         assert_eq!(find(proof, 20).unwrap().record, Some(Record::End));
         assert!(find(proof, 1).is_none());
+        let (diagrams, f) = clause(&[3, -1, 3]).unwrap();
+        let (variable, low, high) = diagrams.row(f);
+        assert_eq!((variable, low, diagrams.row(high)), (1, 1, (3, 0, 1)));
+        assert_eq!(clause(&[]).map(|(_, f)| f), Some(0));
+        assert_eq!(clause(&[2, -2]).map(|(_, f)| f), Some(1));
+        assert!(clause(&[65]).is_none() && clause(&[i64::MIN]).is_none());
         // Bytes that are no record; entries and variables that are not there.
         assert_eq!(find(b"\x00", 0).map(|found| (found.record, found.bytes)), Some((None, vec![0])));
         assert_eq!(find(b"\x52\xff\xff", 0).map(|found| found.diagram), Some(None));

@@ -1,6 +1,6 @@
 //! A diagram as a picture (SVG): a row for each fact, a broken line to the low side (the fact is false), a full one to the high side.
 
-use crate::html::escaped;
+use crate::text::escaped;
 use crate::words::Words;
 use proof::{Diagram, Diagrams};
 use std::collections::{BTreeMap, HashMap, HashSet};
@@ -13,6 +13,8 @@ const ROW: f64 = 64.0;
 const COLUMN: f64 = 72.0;
 const MARGIN: f64 = 40.0;
 const RADIUS: f64 = 17.0;
+/// A longer name is cut in the picture; the claim in words has it whole.
+const LONGEST_LABEL: usize = 32;
 
 /// Where everything stands.
 struct Layout {
@@ -41,6 +43,18 @@ pub fn picture(diagrams: &Diagrams, f: Diagram, words: &Words, said: &str, id: u
     Some(out + "</svg>\n")
 }
 
+/// How a picture in a file of its own is drawn.
+const STYLE: &str = "text { font: 14px sans-serif } .in { text-anchor: middle } circle, rect { fill: white; stroke: black; stroke-width: 1.5 } \
+    .row { stroke: #ccc; fill: none } .low, .high { stroke: black; stroke-width: 1.5; fill: none } .low { stroke-dasharray: 4 4 }";
+
+/// The picture as a file of its own.
+pub fn file(diagrams: &Diagrams, f: Diagram, words: &Words, said: &str) -> Option<String> {
+    let drawn = picture(diagrams, f, words, said, 0)?;
+    let inner = drawn.strip_prefix("<svg")?;
+    let (head, rest) = inner.split_once('>')?;
+    Some(format!("<svg xmlns=\"http://www.w3.org/2000/svg\"{head}><style>{STYLE}</style>{rest}"))
+}
+
 /// The diagrams below f, f first, the constants among them; none where there are more nodes than this.
 pub fn below(diagrams: &Diagrams, f: Diagram, most: usize) -> Option<Vec<Diagram>> {
     let (mut found, mut seen) = (vec![f], HashSet::from([f]));
@@ -58,12 +72,21 @@ pub fn below(diagrams: &Diagrams, f: Diagram, most: usize) -> Option<Vec<Diagram
     Some(found)
 }
 
+/// A fact's name beside its row.
+fn label(words: &Words, variable: u8) -> String {
+    let name = words.fact(variable.into());
+    match name.char_indices().nth(LONGEST_LABEL) {
+        None => name,
+        Some((end, _)) => format!("{}…”", name[..end].trim_end()),
+    }
+}
+
 /// A node stands near the middle of those above it, and no two in one place.
 fn layout(diagrams: &Diagrams, nodes: &[Diagram], words: &Words) -> Layout {
     let mut rows: BTreeMap<u8, Vec<Diagram>> = BTreeMap::new();
     nodes.iter().for_each(|&g| rows.entry(diagrams.variable(g)).or_default().push(g));
     let widest = rows.values().map(Vec::len).max().unwrap_or(1) as f64;
-    let labels = rows.keys().filter(|&&v| v <= 64).map(|&v| words.fact(v.into()).chars().count()).max().unwrap_or(0);
+    let labels = rows.keys().filter(|&&v| v <= 64).map(|&v| label(words, v).chars().count()).max().unwrap_or(0);
     let left = MARGIN + 8.0 * labels as f64;
     let (width, height) = (left + widest * COLUMN + MARGIN, rows.len() as f64 * ROW + 16.0);
     let (mut at, mut above): (HashMap<_, _>, HashMap<Diagram, Vec<f64>>) = (HashMap::new(), HashMap::new());
@@ -92,7 +115,7 @@ fn put_labels(out: &mut String, layout: &Layout, words: &Words) {
     for (row, &variable) in layout.rows.keys().enumerate().filter(|(_, &variable)| variable <= 64) {
         let y = row as f64 * ROW + ROW / 2.0;
         let (from, to, base) = (layout.left - 20.0, layout.width - 8.0, y + 5.0);
-        let name = escaped(&words.fact(variable.into()));
+        let name = escaped(&label(words, variable));
         let _ = writeln!(
             out,
             "<path class=\"row\" d=\"M{from:.0} {y:.0}H{to:.0}\"/><text x=\"8\" y=\"{base:.0}\">{name}</text>"
@@ -105,10 +128,10 @@ fn put_edges(out: &mut String, diagrams: &Diagrams, layout: &Layout, g: Diagram)
     let (x, y) = layout.at[&g];
     for (child, class, side) in [(low, "low", -1.0), (high, "high", 1.0)] {
         let (to, below) = layout.at[&child];
-        // Two sides that go straight down would hide each other.
-        let bend = side * if (to - x).abs() < 1.0 { 16.0 } else { 5.0 };
+        // Two sides that go straight down would hide each other: they stay apart.
+        let (bend, to) = if (to - x).abs() < 1.0 { (11.0, to + side * 8.0) } else { (5.0, to) };
         let (from_x, from_y) = (x + side * 9.0, y + 14.0);
-        let (by_x, by_y, end) = ((x + to) / 2.0 + bend, (y + below) / 2.0, below - RADIUS - 1.0);
+        let (by_x, by_y, end) = ((x + to) / 2.0 + side * bend, (y + below) / 2.0, below - RADIUS);
         let _ = writeln!(
             out,
             "<path class=\"{class}\" d=\"M{from_x:.0} {from_y:.0}Q{by_x:.0} {by_y:.0} {to:.0} {end:.0}\"/>"
