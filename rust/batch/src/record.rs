@@ -275,7 +275,9 @@ mod tests {
     #[test]
     fn numbers() {
         let mut out = String::new();
-        [0, 9, 10, 4_096, u64::MAX].map(|number| put_number(&mut out, " ", number));
+        for number in [0, 9, 10, 4_096, u64::MAX] {
+            put_number(&mut out, " ", number);
+        }
         assert_eq!(out, " 0 9 10 4096 18446744073709551615");
     }
 
