@@ -59,7 +59,8 @@ enum cablesalak_number {
     CABLESALAK_FILE_TOO_LONG = 24,
     /* Of a program: a file cannot be read. */
     CABLESALAK_FILE_UNREADABLE = 25,
-    /* Of a single call: the lent table is not in good order, or its index is not right. */
+    /* Of a single call and a book's call: the lent table is not in good order, or its index is not right. Of a book's call also: what is
+     * kept for the book does not fit. */
     CABLESALAK_NOT_IN_ORDER = 26,
     /* Of a single call: a cofactor by the diagram 0 has no value. */
     CABLESALAK_COFACTOR_BY_ZERO = 27,
@@ -69,14 +70,18 @@ enum cablesalak_number {
     CABLESALAK_NO_SUCH_PARITY = 29,
     /* A literal of a binary DRAT proof has surplus groups (more than one, and the last is 0), or is the literal 1. */
     CABLESALAK_WRONG_GROUPS = 31,
+    /* Of the opening for two books: their shares' sum plus 2 is greater than the table's places. */
+    CABLESALAK_SHARES_DO_NOT_FIT = 32,
     /* In the consequence profile: a PR line. */
     CABLESALAK_PR_IN_PROFILE = 33,
     /* A path line's diagram has more than 4,096 paths to 0. */
-    CABLESALAK_TOO_MANY_PATHS = 34
+    CABLESALAK_TOO_MANY_PATHS = 34,
+    /* Of the opening for two books and of a book's call: not refused, and not yet refuted. */
+    CABLESALAK_ACCEPTED_SO_FAR = 35
 };
 
-/* The greatest number of the table above. There is none of 30 and 32. */
-#define CABLESALAK_LAST_NUMBER 34
+/* The greatest number of the table above. There is none of 30. */
+#define CABLESALAK_LAST_NUMBER 35
 
 /* A number's meaning in a few words; null for what is no number. */
 static inline const char *cablesalak_meaning(unsigned number)
@@ -113,8 +118,10 @@ static inline const char *cablesalak_meaning(unsigned number)
     case CABLESALAK_NO_SUCH_MEMBER: return "no such member, or struck already";
     case CABLESALAK_NO_SUCH_PARITY: return "parity byte above 1";
     case CABLESALAK_WRONG_GROUPS: return "surplus groups, or a literal 1";
+    case CABLESALAK_SHARES_DO_NOT_FIT: return "two books' shares do not fit the table";
     case CABLESALAK_PR_IN_PROFILE: return "a PR line in the consequence profile";
     case CABLESALAK_TOO_MANY_PATHS: return "over 4,096 paths";
+    case CABLESALAK_ACCEPTED_SO_FAR: return "accepted so far";
     default: return 0;
     }
 }

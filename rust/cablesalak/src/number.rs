@@ -100,7 +100,8 @@ numbers! {
     FileTooLong = 24, "a file over 65,536 bytes";
     /// Of a program: a file cannot be read.
     FileUnreadable = 25, "a file cannot be read";
-    /// Of a single call: the lent table is not in good order, or its index is not right.
+    /// Of a single call and a book's call: the lent table is not in good order, or its index is not right. Of a book's call also: what
+    /// is kept for the book does not fit.
     NotInOrder = 26, "table not in good order";
     /// Of a single call: a cofactor by the diagram 0 has no value.
     CofactorByZero = 27, "cofactor by 0";
@@ -110,14 +111,18 @@ numbers! {
     NoSuchParity = 29, "parity byte above 1";
     /// A literal of a binary DRAT proof has surplus groups (more than one, and the last is 0), or is the literal 1.
     WrongGroups = 31, "surplus groups, or a literal 1";
+    /// Of the opening for two books: their shares' sum plus 2 is greater than the table's places.
+    SharesDoNotFit = 32, "two books' shares do not fit the table";
     /// In the consequence profile: a PR line.
     PrInProfile = 33, "a PR line in the consequence profile";
     /// A path line's diagram has more than 4,096 paths to 0.
     TooManyPaths = 34, "over 4,096 paths";
+    /// Of the opening for two books and of a book's call: not refused, and not yet refuted.
+    AcceptedSoFar = 35, "accepted so far";
 }
 
 impl Number {
-    /// All numbers with a name, in their order. There is none of 30 and 32.
+    /// All numbers with a name, in their order. There is none of 30.
     pub fn all() -> impl Iterator<Item = Number> {
         KNOWN.iter().copied()
     }
