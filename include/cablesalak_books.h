@@ -34,14 +34,14 @@
 #define CABLESALAK_BOOK_MEMBERS 2048
 #define CABLESALAK_BOOK_SCRATCH 4096
 
-/* How far a book is. Any number above 2 is read as 2. */
+/* How far a book is. Every byte above 2 is read as 2. */
 enum cablesalak_stage {
     CABLESALAK_STAGE_FORMULA = 0, /* its formula is still to be read */
     CABLESALAK_STAGE_LINES = 1,   /* lines are awaited, or the end */
     CABLESALAK_STAGE_BOUND = 2    /* it is refused, or 0 was given: later calls repeat `number` and `place` */
 };
 
-/* What is kept for a book. */
+/* What is kept for a book. Every byte may be anything: a struct that no call left is judged by what it holds. */
 typedef struct {
     size_t share;      /* its share of places */
     uint8_t stage;     /* how far it is */
@@ -53,7 +53,7 @@ typedef struct {
     uint64_t rounds;   /* their rounds of unit propagation: at most 268,435,456 */
     size_t charge;     /* how many nodes are its own, whoever placed them: at most the share */
     size_t peak;       /* the greatest charge so far, dropped nodes included: at most the share */
-    bool refuted;      /* whether an accepted line is the diagram 0 */
+    uint8_t refuted;   /* 0 unless an accepted line is the diagram 0 */
 } cablesalak_kept;
 
 /* The answer of a book's call. Lines, rounds and peak run on from the book's first call; with 7 and 26 all but the number and the count
@@ -172,7 +172,7 @@ typedef struct {
 /* The lists of a table with so many places in CABLESALAK_BOOKS_WORDS(places) words. What they hold does not matter before the opening. */
 static inline cablesalak_books cablesalak_books_in(uint16_t *memory, size_t places)
 {
-    static const cablesalak_kept none = {0, 0, 0, 0, 0, 0, 0, 0, 0, 0, false};
+    static const cablesalak_kept none = {0, 0, 0, 0, 0, 0, 0, 0, 0, 0, 0};
     cablesalak_books books;
     books.places = places;
     books.count = 2;

@@ -24,8 +24,8 @@ pub struct Kept {
     pub charge: usize,
     /// The greatest charge so far, dropped nodes included.
     pub peak: usize,
-    /// Whether an accepted line is the diagram 0.
-    pub refuted: bool,
+    /// 0 unless an accepted line is the diagram 0.
+    pub refuted: u8,
 }
 
 /// What a book's call answers.
