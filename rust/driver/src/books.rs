@@ -216,7 +216,7 @@ fn left(now: &Opened, before: &Opened, which: usize, said: &Booked) -> Result<()
     expect(held.struck.zero_from(members), "a mark past the members is not zero")?;
     expect(held.struck.places().iter().all(|mark| *mark <= 1), "a mark is neither 0 nor 1")?;
     expect(held.own.zero_from(kept.charge), "a place past the own nodes is not zero")?;
-    expect(kept.charge <= kept.peak && kept.peak <= kept.share, "the charge passes the peak, or the peak the share")?;
+    expect(kept.charge <= kept.share && kept.peak <= kept.share, "the charge or the peak passes the share")?;
     if said.number == ACCEPTED {
         let free = (kept.stage, kept.number, kept.place) == (1, was.kept.number, was.kept.place);
         expect(free, "an accepted call binds the book")?;
@@ -237,6 +237,7 @@ fn left(now: &Opened, before: &Opened, which: usize, said: &Booked) -> Result<()
 fn accepted(now: &Opened, before: &Opened, which: usize) -> Result<(), String> {
     let (table, held) = (&now.table, &now.held[which]);
     expect(before.count <= now.count && now.count <= table.size(), "the count is out of range")?;
+    expect(held.kept.charge <= held.kept.peak, "the charge passes the peak")?;
     expect((0..before.count).all(|place| table.node(place) == before.table.node(place)), "a node was changed")?;
     expect(table.zero_from(now.count), "a place past the count is not zero")?;
     expect(table.indexed(now.count), "the index is not that of the nodes")?;
@@ -310,12 +311,16 @@ fn open(asked: &Opening, opened: &mut Option<Opened>, dirt: &mut Dirt) -> Answer
     Ok(format!("{} 0 0 0 0", said.number))
 }
 
-/// What a call answers that is lent what is kept with changes, and what it leaves; the books that are open stay as they are.
+/// What a call answers that is lent what is kept with changes, and, where the sizes are proper, what it leaves; the books that are open stay
+/// as they are.
 fn altered(opened: &Option<Opened>, which: usize, bytes: &[u8], changes: &[Change], dirt: &mut Dirt) -> Answered {
     let mut lent = opened.clone().unwrap_or_else(nothing);
     for change in changes {
         change.apply(&mut lent, which);
     }
     let said = lent.call(which, bytes, dirt)?;
+    if !lent.fits(which) {
+        return Ok(said);
+    }
     Ok(format!("{said} | {} | {}", lent.dump(), lent.shown(which)))
 }
