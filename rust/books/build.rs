@@ -13,6 +13,8 @@ fn main() {
     println!("cargo:rerun-if-changed={folder}/{ARCHIVE}");
     println!("cargo:rustc-link-search=native={folder}");
     println!("cargo:rustc-link-lib=static=books_export");
+    // For the tests, which link C programs too.
+    println!("cargo:rustc-env=CABLESALAK_FOLDER={folder}");
     assert!(
         Path::new(&folder).join(ARCHIVE).exists(),
         "no {ARCHIVE} in {folder}: write it with `rt staticlib books_export`, or name its folder in {FOLDER}"
