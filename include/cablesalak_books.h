@@ -20,7 +20,7 @@
  * say nothing of the formula. Nodes of a table in good order have equal numbers exactly when they have the same value under every
  * assignment, whichever book placed them.
  *
- * Stack: less than @STACK@, whatever the table. Threads: calls at the same time are fine where no list that one of them writes to is lent
+ * Stack: less than 1.625 MiB, whatever the table. Threads: calls at the same time are fine where no list that one of them writes to is lent
  * to another; the calls of two books on one table therefore follow one another. */
 #ifndef CABLESALAK_BOOKS_H
 #define CABLESALAK_BOOKS_H

@@ -21,14 +21,14 @@ enum cablesalak_number {
     CABLESALAK_CLAUSE_OPEN = 6,
     /* A lent part is too short or too long, or columns that belong together differ in length; a conversion's output is too short. */
     CABLESALAK_WRONG_SIZE = 7,
-    /* A clause wants a new node and every place of the table is taken. */
+    /* A clause wants a new node and every place of the table, or of the book's share, is taken. */
     CABLESALAK_FULL_AT_CLAUSE = 8,
     /* A record's first byte is none of 4E, 58, 4B, 54, 46, 52, 50, 51, 44, 45; a clause of a binary DRAT proof opens with neither 61
      * nor 64. */
     CABLESALAK_UNKNOWN_KIND = 9,
-    /* The proof ends within a record, or without an end record. */
+    /* The proof ends within a record, or without an end record; a book's call within a record, or without a line and without the end. */
     CABLESALAK_CUT_SHORT = 10,
-    /* A byte follows the end record. */
+    /* A byte follows the end record; in a book's call also: a line. */
     CABLESALAK_BYTES_AFTER_END = 11,
     /* A record names variable 0, or one greater than the header's number of variables, be it in a set. */
     CABLESALAK_NO_SUCH_VARIABLE = 12,
@@ -53,7 +53,8 @@ enum cablesalak_number {
     CABLESALAK_TOO_MANY_ENTRIES = 21,
     /* The proof has more than 1,024 lines; a DRAT proof more than 1,024 clauses to add. */
     CABLESALAK_TOO_MANY_LINES = 22,
-    /* An entry, a DRAT clause, a line's work or a single call wants a new node and every place of the table is taken. */
+    /* An entry, a DRAT clause, a line's work or a single call wants a new node and every place of the table, or of the book's share, is
+     * taken. */
     CABLESALAK_TABLE_FULL = 23,
     /* Of a program: a file is longer than 65,536 bytes. */
     CABLESALAK_FILE_TOO_LONG = 24,

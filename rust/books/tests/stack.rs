@@ -6,7 +6,8 @@ use cablesalak_books::{Book, Books};
 use common::{A, END, TWO, ZERO};
 use std::thread;
 
-const STACK: usize = 8 << 20;
+/// 1.625 MiB.
+const STACK: usize = 13 << 17;
 
 /// The largest table; both books on the deepest entries, PR lines, a path line of 4,096 paths and many lines.
 fn calls() {

@@ -65,7 +65,7 @@ fn record(kind: u8) -> Option<(usize, bool)> {
         0x58 | 0x4B => (10, false),
         0x54 | 0x46 => (2, false),
         0x44 => (3, false),
-        0x52 | 0x50 | 0x51 => (3, true),
+        0x50..=0x52 => (3, true),
         _ => return None,
     })
 }
