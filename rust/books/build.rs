@@ -7,7 +7,11 @@ const FOLDER: &str = "CABLESALAK_ARCHIVE_FOLDER";
 const ARCHIVE: &str = "libbooks_export.a";
 
 fn main() {
-    let beside = || format!("{}/../../target/staticlib", env::var("CARGO_MANIFEST_DIR").unwrap());
+    // The repository's, or where `bin/install` puts it beside this crate.
+    let own = env::var("CARGO_MANIFEST_DIR").unwrap();
+    let in_repository = Path::new(&own).join("../../crates.txt").exists();
+    let beside =
+        || format!("{own}/{}", if in_repository { "../../target/staticlib" } else { "../../../../lib/cablesalak" });
     let folder = env::var(FOLDER).unwrap_or_else(|_| beside());
     println!("cargo:rerun-if-env-changed={FOLDER}");
     println!("cargo:rerun-if-changed={folder}/{ARCHIVE}");
