@@ -117,8 +117,7 @@ pub word-leaf : (all : Bool) (t : List Node) (k word : ℕ) → k < 2 → WordOf
 word-leaf true t k word p = support-leaf t k word p
 word-leaf false t k word p = forced-leaf t k word p
 
-pub word-node : (all : Bool) (vs ls hs : List ℕ) (count : ℕ) (R : Readable vs ls hs count) (k : ℕ) (two : 2 ≤ k) (inside : k < count)
-    (a b : ℕ)
+pub word-node : (all : Bool) (vs ls hs : List ℕ) (count : ℕ) (R : Readable vs ls hs count) (k : ℕ) (two : 2 ≤ k) (inside : k < count) (a b : ℕ)
     → WordOf all a (diagramAt (nodesIn vs ls hs count) (getD ls k 0)) → WordOf all b (diagramAt (nodesIn vs ls hs count) (getD hs k 0))
     → WordOf all (withNode all (bitOr a b) (getD vs k 0) (getD ls k 0) (getD hs k 0)) (diagramAt (nodesIn vs ls hs count) k)
 unfolding withNode

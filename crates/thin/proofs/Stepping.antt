@@ -136,8 +136,7 @@ module _ (kind : Kind) (by : words.Literals) (t : Table) (f g : ℕ) (H : Given 
   module _ (nothing : settledOf (t .vars) kind by f g ≡ Nothing) where
     pub pair-left : (a b : NodeNo) → descentOf op₃ (sides t f g) ≡ descent.One a b → Says (One a b)
     pair-left a b e =
-        let L : OneLeft op₃ noMemo t f g (a .0) (b .0) = step-one op₃ noMemo t f g (H .ready) (settled-two kind by t f g H nothing) a b e in
-            (
+        let L : OneLeft op₃ noMemo t f g (a .0) (b .0) = step-one op₃ noMemo t f g (H .ready) (settled-two kind by t f g H nothing) a b e in (
           record { ready = L .ready; share = shared-side op₃ (by .positive) t f g (a .0) (b .0) (L .side-of) (H .share) },
           L .after,
           sym (L .same),

@@ -531,8 +531,7 @@ call-65536-requires c κs =
     let s = start-from-call-65536-call c in
     let a = s .args in (
       ready (a .vars .now) (a .lows .now) (a .highs .now) (a .heads .now) (a .links .now) (a .count) (lists s) (a .scratch .now) (a .b)
-          (a .bytes .now) (sym (book-fits-from-call-65536-call c .book-fits .ensures)
-              ∙ not-false _ (else1-from-call-65536-call c .if1 .left))
+          (a .bytes .now) (sym (book-fits-from-call-65536-call c .book-fits .ensures) ∙ not-false _ (else1-from-call-65536-call c .if1 .left))
           (sym (order-fits-from-call-65536-call c .order-fits .ensures) ∙ not-false _ (else2-from-call-65536-call c .if2 .left))
           (sym (holding-fits-from-call-65536-call c .holding-fits .ensures) ∙ not-false _ (else3-from-call-65536-call c .if3 .left)),
       sized _ _ _ _ _ (lists-fit _ _ _ (sym (book-fits-from-call-65536-call c .book-fits .ensures)

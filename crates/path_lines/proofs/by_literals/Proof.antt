@@ -178,8 +178,7 @@ returns : tie.Need-returns
 returns c =
     let s = start-from-return c in
     let b = all-by-from-return c .all-by in
-    let after = tableOf (b .last .0) (b .last .1 .0) (b .last .1 .1 .0) (b .last .1 .1 .1 .0) (b .last .1 .1 .1 .1 .0) (b .result .count) in
-        (
+    let after = tableOf (b .last .0) (b .last .1 .0) (b .last .1 .1 .0) (b .last .1 .1 .1 .0) (b .last .1 .1 .1 .1 .0) (b .result .count) in (
       subst (λ l. AllMade (before s) (unitResults (s .args .literals) (before s) l) (b .result .full) after (b .last .1 .1 .1 .1 .1 .1 .0))
           (copy-from-return c .copy .ensures) (b .ensures .0),
       b .ensures .1 .0,

@@ -215,8 +215,7 @@ returns-2 c =
     let a = apply-from-then2 c in
     let s = start a in (
       turn-full (before s) (s .args .first .now) (s .args .memo .now) (s .pre .0 .0) (s .args .f .0) (s .args .witness .positive)
-          (s .args .witness .negative) (s .pre .0 .3) (told (is-one-from-then2 c) false (else1-from-then2 c .if1 .left)) (made a)
-              (made-is a)
+          (s .args .witness .negative) (s .pre .0 .3) (told (is-one-from-then2 c) false (else1-from-then2 c .if1 .left)) (made a) (made-is a)
           (c .if2 .taken),
       s .pre .0 .1,
     )

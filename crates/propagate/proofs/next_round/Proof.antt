@@ -166,8 +166,7 @@ returns-3 c =
     let f = subst (AreFirst 64 (diagramsOf (nodesOf
     (tableOf (a .vars .now) (a .lows .now) (a .highs .now) (a .heads .now) (a .links .now) (a .count))) (a .list .now)))
     (u-from-return-3 c .u .given .1) (first-units-from-return-3 c .first-units .ensures) in (
-      (omega (arith, r .0 .2, else2-from-return-3 c .if2 .left), (sym (y .ensures .0) ∙ else1-from-return-3 c .if1 .left), f .0, f .1,
-          f .2),
+      (omega (arith, r .0 .2, else2-from-return-3 c .if2 .left), (sym (y .ensures .0) ∙ else1-from-return-3 c .if1 .left), f .0, f .1, f .2),
       y .ensures .1,
     )
 

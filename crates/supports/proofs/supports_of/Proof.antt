@@ -233,8 +233,7 @@ loop-again-2 c =
     let a = start-from-loop-less-2 c .args in
     let w = at-loop-from-loop-less-2 c .loop in
     let y = word-from-from-loop-less-2 c .word-from in (
-      filled-next (nodesIn (a .vars .now) (a .lows .now) (a .highs .now) (a .count)) (a .list .now) (w .words) (w .i) (y .result)
-          (w .inv .0)
+      filled-next (nodesIn (a .vars .now) (a .lows .now) (a .highs .now) (a .count)) (a .list .now) (w .words) (w .i) (y .result) (w .inv .0)
           (in-loop-from-loop-less-2 c .loop-test .taken) (y .ensures .0),
       y .ensures .1,
       y .kept .1 .1 .1 .0 ∙ w .inv .2,

@@ -51,8 +51,7 @@ all-by-requires c κs =
         refl,
         support-leaf _ 1 0 (omega arith),
         subst
-            (λ (k : ℕ). AllBut k (take (t .result) (t .last .1 .1 .0))
-                (Untouched (a .words .now) (bitOr (a .u .positive) (a .u .negative))))
+            (λ (k : ℕ). AllBut k (take (t .result) (t .last .1 .1 .0)) (Untouched (a .words .now) (bitOr (a .u .positive) (a .u .negative))))
             (r .1) (t .ensures .1),
       ),
     )

@@ -134,8 +134,7 @@ returns-3 c =
     a .record-step .last in (
       record-steps _ _ _ _ (s .pre .0) _ _ q
           (sym (f .is-followed-line .ensures) ∙ else2-from-return-3 c .if2 .left)
-          (lentOf (x .0) (x .1 .0) (x .1 .1 .0) (x .1 .1 .1 .0) (x .1 .1 .1 .1 .0) (x .1 .1 .1 .1 .1 .1 .1 .0)
-              (x .1 .1 .1 .1 .1 .1 .1 .1 .0)
+          (lentOf (x .0) (x .1 .0) (x .1 .1 .0) (x .1 .1 .1 .0) (x .1 .1 .1 .1 .0) (x .1 .1 .1 .1 .1 .1 .1 .0) (x .1 .1 .1 .1 .1 .1 .1 .1 .0)
           (x .1 .1 .1 .1 .1 .1 .1 .1 .1 .0)) _ (a .record-step .ensures .0),
       a .record-step .ensures .1,
     )
