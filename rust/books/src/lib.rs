@@ -134,7 +134,12 @@ impl Held {
     }
 }
 
-/// Two books on one table.
+/// Two books on one table. All of it is private:
+///
+/// ```compile_fail
+/// let mut books = cablesalak_books::Books::open(22, [10, 10]).unwrap();
+/// books.count = 3;
+/// ```
 #[derive(Clone)]
 pub struct Books {
     vars: Vec<u8>,
