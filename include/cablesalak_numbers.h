@@ -21,14 +21,14 @@ enum cablesalak_number {
     CABLESALAK_CLAUSE_OPEN = 6,
     /* A lent part is too short or too long, or columns that belong together differ in length; a conversion's output is too short. */
     CABLESALAK_WRONG_SIZE = 7,
-    /* A clause wants a new node and every place of the table is taken. */
+    /* A clause wants a new node and every place of the table, or of the book's share, is taken. */
     CABLESALAK_FULL_AT_CLAUSE = 8,
     /* A record's first byte is none of 4E, 58, 4B, 54, 46, 52, 50, 51, 44, 45; a clause of a binary DRAT proof opens with neither 61
      * nor 64. */
     CABLESALAK_UNKNOWN_KIND = 9,
-    /* The proof ends within a record, or without an end record. */
+    /* The proof ends within a record, or without an end record; a book's call within a record, or without a line and without the end. */
     CABLESALAK_CUT_SHORT = 10,
-    /* A byte follows the end record. */
+    /* A byte follows the end record; in a book's call also: a line. */
     CABLESALAK_BYTES_AFTER_END = 11,
     /* A record names variable 0, or one greater than the header's number of variables, be it in a set. */
     CABLESALAK_NO_SUCH_VARIABLE = 12,
@@ -53,13 +53,15 @@ enum cablesalak_number {
     CABLESALAK_TOO_MANY_ENTRIES = 21,
     /* The proof has more than 1,024 lines; a DRAT proof more than 1,024 clauses to add. */
     CABLESALAK_TOO_MANY_LINES = 22,
-    /* An entry, a DRAT clause, a line's work or a single call wants a new node and every place of the table is taken. */
+    /* An entry, a DRAT clause, a line's work or a single call wants a new node and every place of the table, or of the book's share, is
+     * taken. */
     CABLESALAK_TABLE_FULL = 23,
     /* Of a program: a file is longer than 65,536 bytes. */
     CABLESALAK_FILE_TOO_LONG = 24,
     /* Of a program: a file cannot be read. */
     CABLESALAK_FILE_UNREADABLE = 25,
-    /* Of a single call: the lent table is not in good order, or its index is not right. */
+    /* Of a single call and a book's call: the lent table is not in good order, or its index is not right. Of a book's call also: what is
+     * kept for the book does not fit. */
     CABLESALAK_NOT_IN_ORDER = 26,
     /* Of a single call: a cofactor by the diagram 0 has no value. */
     CABLESALAK_COFACTOR_BY_ZERO = 27,
@@ -71,14 +73,18 @@ enum cablesalak_number {
     CABLESALAK_NOT_REFUSED = 30,
     /* A literal of a binary DRAT proof has surplus groups (more than one, and the last is 0), or is the literal 1. */
     CABLESALAK_WRONG_GROUPS = 31,
+    /* Of the opening for two books: their shares' sum plus 2 is greater than the table's places. */
+    CABLESALAK_SHARES_DO_NOT_FIT = 32,
     /* In the consequence profile: a PR line. */
     CABLESALAK_PR_IN_PROFILE = 33,
     /* A path line's diagram has more than 4,096 paths to 0. */
-    CABLESALAK_TOO_MANY_PATHS = 34
+    CABLESALAK_TOO_MANY_PATHS = 34,
+    /* Of the opening for two books and of a book's call: not refused, and not yet refuted. */
+    CABLESALAK_ACCEPTED_SO_FAR = 35
 };
 
-/* The greatest number of the table above. There is none of 32. */
-#define CABLESALAK_LAST_NUMBER 34
+/* The greatest number of the table above. */
+#define CABLESALAK_LAST_NUMBER 35
 
 /* A number's meaning in a few words; null for what is no number. */
 static inline const char *cablesalak_meaning(unsigned number)
@@ -116,8 +122,10 @@ static inline const char *cablesalak_meaning(unsigned number)
     case CABLESALAK_NO_SUCH_PARITY: return "parity byte above 1";
     case CABLESALAK_NOT_REFUSED: return "the check did not refuse";
     case CABLESALAK_WRONG_GROUPS: return "surplus groups, or a literal 1";
+    case CABLESALAK_SHARES_DO_NOT_FIT: return "two books' shares do not fit the table";
     case CABLESALAK_PR_IN_PROFILE: return "a PR line in the consequence profile";
     case CABLESALAK_TOO_MANY_PATHS: return "over 4,096 paths";
+    case CABLESALAK_ACCEPTED_SO_FAR: return "accepted so far";
     default: return 0;
     }
 }

@@ -36,7 +36,7 @@ WORDS = {
     "clausal": "RUP, RAT on clauses", "commands": "what stands next", "convert": "DRAT, text and binary", "tries": "a clause's step",
     "shares": "two books, defined", "share_rows": "sessions computed", "alone": "a book's own table", "book_parts": "a book's call, in parts",
     "book_open": "opened for two books", "book_line": "a line's call", "book_judge": "first and later calls", "book_sizes": "working arrays", "book_call": "a book's call",
-    "books_export": "two books, for C, Rust",
+    "book_kept": "what is kept, as lent", "books_export": "two books, for C, Rust",
 }
 OPEN = {"checker", "nodes", "node_check", "export", "small_export", "books_export", "refute", "refute_drat", "refute_in", "drat_convert", "cases", "changes"}
 WIDTH, HEIGHT, ACROSS, UP, TOP = 158, 44, 190, 78, 64

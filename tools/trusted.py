@@ -16,7 +16,7 @@ from pathlib import Path
 OPEN = ["checker", "nodes", "node_check", "export", "report", "report_in", "small_export", "books_export"]
 PROGRAM = {("report", "Files"), ("report", "Line")}
 SMALL = {("small_verdict", "Small"), ("small", "Checked")}
-BOOKS = {("shares", "Shares"), ("shares", "Alone"), ("shares", "Books"), ("books_export", "Kept"),
+BOOKS = {("shares", "Shares"), ("shares", "Alone"), ("shares", "Books"), ("book_kept", "Kept"), ("book_kept", "Calls"),
          ("verdict", "Run"), ("verdict", "Taken"), ("verdict", "ClauseTaken")}
 KIT = ("Prim.", "mathlib.", "native.", "lib.", "io.")
 USE = re.compile(r"^(?:ghost )?use ([^\s{;]+?)\.?(?:\{([^}]*)\})?(?: as \S+)?;?$", re.M)

@@ -1,1 +1,2 @@
 pub mod SessionRows
+pub mod KeptRows

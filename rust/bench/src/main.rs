@@ -4,6 +4,7 @@
 //! stack a call takes. WORD is `single`, `check`, `drat`, `slow` or `stack`. With `--write` nothing is timed: formula,
 //! proof and places of each check in records are written to files of the folder, for tools/speed.py.
 
+mod books;
 mod drat;
 mod pairs;
 mod slow;
@@ -44,6 +45,9 @@ fn main() {
     }
     if wanted("stack") {
         stack::report(&options.driver, &[workloads::single(), workloads::check(), drat::all()].concat());
+        for (name, commands) in books::sessions() {
+            stack::report_all(&options.driver, &name, &commands);
+        }
     }
 }
 

@@ -8,22 +8,27 @@ const LARGEST: usize = 8 << 20;
 
 pub fn report(driver: &str, workloads: &[Workload]) {
     for workload in workloads {
-        match least(driver, &workload.command) {
-            Some(bytes) => println!("{:<44} {:>9} KiB of stack", workload.name, bytes >> 10),
-            None => println!("{:<44} more than {} KiB of stack", workload.name, LARGEST >> 10),
-        }
+        report_all(driver, &workload.name, std::slice::from_ref(&workload.command));
     }
 }
 
-/// The least stack, in steps, on which the command is answered.
-fn least(driver: &str, command: &str) -> Option<usize> {
+/// The same of commands that follow one another.
+pub fn report_all(driver: &str, name: &str, commands: &[String]) {
+    match least(driver, commands) {
+        Some(bytes) => println!("{name:<44} {:>9} KiB of stack", bytes >> 10),
+        None => println!("{name:<44} more than {} KiB of stack", LARGEST >> 10),
+    }
+}
+
+/// The least stack, in steps, on which the commands are answered.
+fn least(driver: &str, commands: &[String]) -> Option<usize> {
     let (mut too_small, mut enough) = (0, LARGEST / STEP);
-    if !answered(driver, command, LARGEST) {
+    if !answered(driver, commands, LARGEST) {
         return None;
     }
     while enough - too_small > 1 {
         let middle = (too_small + enough) / 2;
-        if answered(driver, command, middle * STEP) {
+        if answered(driver, commands, middle * STEP) {
             enough = middle;
         } else {
             too_small = middle;
@@ -33,9 +38,9 @@ fn least(driver: &str, command: &str) -> Option<usize> {
 }
 
 /// Whether a driver on this stack answers, rather than ends early.
-fn answered(driver: &str, command: &str, stack: usize) -> bool {
+fn answered(driver: &str, commands: &[String], stack: usize) -> bool {
     let mut filter = Filter::start(&format!("{driver} --stack {stack}"));
-    let answers = filter.ask(&[command.to_string()]);
+    let answers = filter.ask(commands);
     filter.end();
-    answers.len() == 1
+    answers.len() == commands.len()
 }

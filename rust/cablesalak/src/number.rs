@@ -62,14 +62,14 @@ numbers! {
     ClauseOpen = 6, "last clause open";
     /// A lent part is too short or too long, or columns that belong together differ in length; a conversion's output is too short.
     WrongSize = 7, "a lent part of wrong size";
-    /// A clause wants a new node and every place of the table is taken.
+    /// A clause wants a new node and every place of the table, or of the book's share, is taken.
     FullAtClause = 8, "table full at a clause";
     /// A record's first byte is none of `4E`, `58`, `4B`, `54`, `46`, `52`, `50`, `51`, `44`, `45`; a clause of a binary DRAT
     /// proof opens with neither `61` nor `64`.
     UnknownKind = 9, "unknown kind";
-    /// The proof ends within a record, or without an end record.
+    /// The proof ends within a record, or without an end record; a book's call within a record, or without a line and without the end.
     CutShort = 10, "record cut short, or no end record";
-    /// A byte follows the end record.
+    /// A byte follows the end record; in a book's call also: a line.
     BytesAfterEnd = 11, "bytes after the end";
     /// A record names variable 0, or one greater than the header's number of variables, be it in a set.
     NoSuchVariable = 12, "variable 0 or beyond the header";
@@ -94,13 +94,15 @@ numbers! {
     TooManyEntries = 21, "over 4,096 entries";
     /// The proof has more than 1,024 lines; a DRAT proof more than 1,024 clauses to add.
     TooManyLines = 22, "over 1,024 lines";
-    /// An entry, a DRAT clause, a line's work or a single call wants a new node and every place of the table is taken.
+    /// An entry, a DRAT clause, a line's work or a single call wants a new node and every place of the table, or of the book's share, is
+    /// taken.
     TableFull = 23, "table full elsewhere";
     /// Of a program: a file is longer than 65,536 bytes.
     FileTooLong = 24, "a file over 65,536 bytes";
     /// Of a program: a file cannot be read.
     FileUnreadable = 25, "a file cannot be read";
-    /// Of a single call: the lent table is not in good order, or its index is not right.
+    /// Of a single call and a book's call: the lent table is not in good order, or its index is not right. Of a book's call also: what
+    /// is kept for the book does not fit.
     NotInOrder = 26, "table not in good order";
     /// Of a single call: a cofactor by the diagram 0 has no value.
     CofactorByZero = 27, "cofactor by 0";
@@ -112,14 +114,18 @@ numbers! {
     NotRefused = 30, "the check did not refuse";
     /// A literal of a binary DRAT proof has surplus groups (more than one, and the last is 0), or is the literal 1.
     WrongGroups = 31, "surplus groups, or a literal 1";
+    /// Of the opening for two books: their shares' sum plus 2 is greater than the table's places.
+    SharesDoNotFit = 32, "two books' shares do not fit the table";
     /// In the consequence profile: a PR line.
     PrInProfile = 33, "a PR line in the consequence profile";
     /// A path line's diagram has more than 4,096 paths to 0.
     TooManyPaths = 34, "over 4,096 paths";
+    /// Of the opening for two books and of a book's call: not refused, and not yet refuted.
+    AcceptedSoFar = 35, "accepted so far";
 }
 
 impl Number {
-    /// All numbers with a name, in their order. There is none of 32.
+    /// All numbers with a name, in their order.
     pub fn all() -> impl Iterator<Item = Number> {
         KNOWN.iter().copied()
     }

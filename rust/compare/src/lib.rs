@@ -1,6 +1,8 @@
 //! Generators of commands for the filters of the line protocol, and the filters as child processes.
 
+pub mod alter;
 pub mod binary;
+pub mod books;
 pub mod check;
 pub mod clausal;
 pub mod convert;
@@ -11,6 +13,7 @@ mod fault;
 pub mod filter;
 pub mod formula;
 mod index;
+pub mod kept;
 mod large;
 pub mod outside;
 pub mod paths;

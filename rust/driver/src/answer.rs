@@ -223,7 +223,7 @@ fn clauses(formula: &[u8]) -> usize {
 }
 
 /// A table as the protocol shows it: to the last place that is not zero, from place 0 where 0 or 1 is dirty.
-fn shown(lists: &Lists) -> String {
+pub fn shown(lists: &Lists) -> String {
     let zero = |place: &usize| lists.node(*place) == (0, 0, 0);
     let size = lists.size();
     let dirty = !(0..size.min(2)).all(|place| zero(&place));
@@ -242,7 +242,7 @@ fn shown(lists: &Lists) -> String {
 }
 
 /// Marks as digits, `-` for none.
-fn digits(marks: &[u8]) -> String {
+pub fn digits(marks: &[u8]) -> String {
     if marks.is_empty() {
         return "-".into();
     }
@@ -250,7 +250,7 @@ fn digits(marks: &[u8]) -> String {
 }
 
 /// Numbers joined by commas, `-` for none.
-fn numbers(list: &[u16]) -> String {
+pub fn numbers(list: &[u16]) -> String {
     if list.is_empty() {
         return "-".into();
     }

@@ -152,7 +152,7 @@ fn index(words: &[&str]) -> Option<Index> {
 }
 
 /// A number in decimal digits that its type can hold.
-fn number<T: std::str::FromStr>(word: &str) -> Option<T> {
+pub fn number<T: std::str::FromStr>(word: &str) -> Option<T> {
     if word.bytes().all(|byte| byte.is_ascii_digit()) {
         word.parse().ok()
     } else {
@@ -197,7 +197,7 @@ fn table(word: &str) -> Option<Vec<Node>> {
     Some(nodes)
 }
 
-fn node(word: &str) -> Option<Node> {
+pub fn node(word: &str) -> Option<Node> {
     let mut fields = word.split(',');
     let node = (number(fields.next()?)?, number(fields.next()?)?, number(fields.next()?)?);
     if fields.next().is_none() {

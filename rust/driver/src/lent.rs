@@ -19,6 +19,7 @@ impl Dirt {
 }
 
 /// A lent buffer.
+#[derive(Clone)]
 pub struct Lent<T> {
     all: Vec<T>,
     guard: T,
@@ -38,6 +39,12 @@ impl<T: Copy + Default + PartialEq> Lent<T> {
         let mut lent = Self::zeros(size, guard);
         lent.lend().fill_with(fill);
         lent
+    }
+
+    /// The same places in a buffer of another size, zeros above them.
+    pub fn resized(&self, size: usize) -> Self {
+        let mut places = self.places().iter().copied();
+        Self::filled(size, self.guard, || places.next().unwrap_or_default())
     }
 
     pub fn lend(&mut self) -> &mut [T] {
@@ -62,6 +69,7 @@ impl<T: Copy + Default + PartialEq> Lent<T> {
 }
 
 /// The lists of a lent table: three columns and the index.
+#[derive(Clone)]
 pub struct Lists {
     pub vars: Lent<u8>,
     pub lows: Lent<u16>,
@@ -133,7 +141,7 @@ impl Lists {
 
     /// Heads and links as document 02 has them for the nodes below the count: a chain's head is its node of highest number, and a
     /// node's link the highest lower one of its chain; all others are 0.
-    fn right_index(&self, count: usize) -> (Vec<u16>, Vec<u16>) {
+    pub fn right_index(&self, count: usize) -> (Vec<u16>, Vec<u16>) {
         let (mut heads, mut links) = (vec![0u16; 2 * self.size()], vec![0u16; self.size()]);
         for (place, link) in links.iter_mut().enumerate().take(count).skip(2) {
             let (variable, low, high) = self.node(place);

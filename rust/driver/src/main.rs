@@ -3,7 +3,9 @@
 //! `driver [--stack BYTES]`: the calls are made in a thread with a stack of that size, 2 MiB if none is given, which is
 //! what a thread of a Rust program has.
 
+mod altered;
 mod answer;
+mod books;
 mod command;
 mod lent;
 mod small;
@@ -29,6 +31,7 @@ fn filter() -> io::Result<()> {
     let mut input = BufReader::with_capacity(1 << 16, io::stdin().lock());
     let mut output = BufWriter::new(io::stdout().lock());
     let mut dirt = Dirt(1);
+    let mut opened = None;
     let mut line = Vec::new();
     loop {
         // The other side may be waiting, unless its next whole command is here already.
@@ -43,9 +46,14 @@ fn filter() -> io::Result<()> {
         if asked.is_empty() {
             continue;
         }
-        let said = std::str::from_utf8(asked).ok().and_then(|asked| match small::read(asked) {
-            Some(asked) => Some(small::answer(&asked, &mut dirt)),
-            None => command::read(asked).map(|command| answer::answer(&command, &mut dirt)),
+        let said = std::str::from_utf8(asked).ok().and_then(|asked| {
+            if let Some(asked) = books::read(asked) {
+                return Some(books::answer(&asked, &mut opened, &mut dirt));
+            }
+            match small::read(asked) {
+                Some(asked) => Some(small::answer(&asked, &mut dirt)),
+                None => command::read(asked).map(|command| answer::answer(&command, &mut dirt)),
+            }
         });
         let said = said.unwrap_or_else(|| "error: not a command".into());
         writeln!(output, "{said}")?;

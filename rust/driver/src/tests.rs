@@ -1,7 +1,8 @@
 //! What the line protocol cannot ask, and the driver's own reading.
 
+use crate::books;
 use crate::command::{self, Change, Index, Table};
-use crate::lent::Lists;
+use crate::lent::{Dirt, Lists};
 use cablesalak::raw::{self, AtLeast, Checked, Columns, ColumnsMut, ListsMut, RawMode, LINE};
 
 #[test]
@@ -56,6 +57,26 @@ fn what_is_no_command() {
         "cons check 4 2048 4096 -",
         "cons check 4 2048 4096 - - !H:1=1",
         "check cons 4 2048 4096 - -",
+        "open 8 2048 2048 4096 3",
+        "open 8 2048 2048 4096 3 3 3",
+        "open 8 2048 2048 4096 3 18446744073709551616",
+        "open 8 2048 2048 4096 3 3 !heads=3",
+        "book C 45",
+        "book A",
+        "book A 4E",
+        "book A 45 !count=3",
+        "dump A",
+        "kept",
+        "kept C",
+        "altered A",
+        "altered A 45 ",
+        "altered A 45 count=3",
+        "altered A 45 !counts=3",
+        "altered A 45 !own",
+        "altered A 45 !own:1",
+        "altered A 45 !own:1=65536",
+        "altered A 45 !count:1=1",
+        "altered A 45 !node=1,0",
         "tobin 4",
         "tobin 4 - -",
         "tobin 4 - !HS=3",
@@ -65,7 +86,7 @@ fn what_is_no_command() {
         "totext 16777217 -",
     ];
     for line in lines {
-        assert!(command::read(line).is_none(), "{line}");
+        assert!(command::read(line).is_none() && books::read(line).is_none(), "{line}");
     }
 }
 
@@ -194,4 +215,32 @@ fn right_index() {
     // 1 + 342 times 12,582,917 = 4,303,357,615 is 8,390,319 over the top, with the remainder 15.
     let over = Table { size: 8, count: 3, nodes: vec![(0, 0, 0), (0, 0, 0), (1, 342, 0)], index: Index::default() };
     assert_eq!(Lists::holding(&over).places().heads[15], 2);
+}
+
+/// The commands of two books, and what a change does to a lent list.
+#[test]
+fn books() {
+    let lines = [
+        "open 0 0 0 0 0 18446744073709551615",
+        "book A -",
+        "book B 45",
+        "dump",
+        "kept B",
+        "altered A 45",
+        "altered B - !count=18446744073709551615 !own:9=65535 !own=9 !node=64,0,1 !refuted=255 !scratch=0",
+    ];
+    assert!(lines.iter().all(|line| books::read(line).is_some()));
+    let mut opened = None;
+    let mut says = |line: &str| books::answer(&books::read(line).unwrap(), &mut opened, &mut Dirt(1));
+    assert_eq!((says("book A -"), says("dump")), ("7 0 0 0 0".into(), "2 | - | - | - | - | -".into()));
+    assert_eq!(
+        (says("open 8 2048 2048 4096 3 3"), says("open 8 2048 2048 4096 3 4")),
+        ("35 0 0 0 0".into(), "32 0 0 0 0".into())
+    );
+    assert_eq!(says("book A 7020636e66203120310a3120300a"), "35 14 0 0 1");
+    assert_eq!(says("altered A 45 !scratch=4095"), "7 0 0 0 0");
+    let altered = says("altered A 45 !node=1,1,0 !struck:0=1 !variables=64");
+    assert_eq!(altered, "20 0 0 0 1 | 4 | 1,0,1;1,1,0 | 2 | 1 | - | - | 3 2 20 0 64 1 0 0 1 1 0 | 2");
+    assert_eq!(says("kept A"), "3 1 0 0 1 1 0 0 1 1 0 | 2");
+    assert_eq!(says("dump"), "3 | 1,0,1 | 2 | 0 | - | -");
 }

@@ -1,10 +1,11 @@
--- `cablesalak_book`: a book's call in its flat form (Forms). Assumes nothing.
+-- `cablesalak_book`: a book's call, with every field of what is kept (Forms). Assumes nothing.
 use mathlib.Core.Path.{ap, _∙_}
 use borrow.Author.Needs.{needs}
 use Rattle.table.specs.Columns.{columnsMade}
 use Rattle.shares.specs.declared.Book.{Book}
 use Rattle.shares.specs.Books.{bookOutcome}
-use Rattle.books_export.specs.Kept.{listsMade}
+use Rattle.book_kept.specs.Calls.{listsMade}
+use Rattle.books_export.proofs.Forms.{booked-is}
 use Rattle.books_export.proofs.cablesalak_book.Statement.{statement}
 use Rattle.books_export.proofs.cablesalak_book.Tie as tie
 
@@ -16,8 +17,8 @@ call-requires : tie.Need-call-requires
 call-requires c κs =
     search needs
 
-booked-as-requires : tie.Need-booked-as-requires
-booked-as-requires c κs =
+kept-as-requires : tie.Need-kept-as-requires
+kept-as-requires c κs =
     search needs
 
 -- The ways back, written by ways.py: TO-from-FROM leads from the place FROM of the code to the place TO before it.
@@ -26,7 +27,7 @@ module _ (c : tie.After-book-of) where
   start-from-book-of = c .before .before .before .before .before .before .before .before .before .before .before .before .before .before
       .before .before .before .before .before .before
 
-module _ (c : tie.After-booked-as) where
+module _ (c : tie.After-kept-as) where
   abbrev call-from-return : tie.After-call
   call-from-return = c .before .before .before .before .before .before .before .before .before .before .before .before .before .before
       .before .before .before .before .before
@@ -76,12 +77,13 @@ same-length-9 c =
 returns : tie.Need-returns
 returns c =
     let a = start-from-return c .args in
-    c .booked-as .ensures _ _ _ ∙ call-from-return c .call .ensures
+    booked-is _ _ _ (call-from-return c .call .result) (a .book) (c .kept-as .result) (c .kept-as .ensures) _
+    (call-from-return c .call .ensures
     ∙ ap (λ (b : Book). bookOutcome (columnsMade (a .vars .now) (a .lows .now) (a .highs .now) (a .heads .now) (a .links .now)) (a .count)
     (listsMade (a .members .now) (a .struck .now) (a .own .now)) (a .scratch .now) b (a .bytes .now))
-    (book-of-from-return c .book-of .ensures)
+    (book-of-from-return c .book-of .ensures))
 
 pub cablesalak-book-spec : {M : Type 1} → statement M
 cablesalak-book-spec =
-    tie.close (tie.spec book-of-requires call-requires booked-as-requires same-length same-length-2 same-length-3 same-length-4
+    tie.close (tie.spec book-of-requires call-requires kept-as-requires same-length same-length-2 same-length-3 same-length-4
     same-length-5 same-length-6 same-length-7 same-length-8 same-length-9 returns)

@@ -1,9 +1,10 @@
--- `cablesalak_open`: the opening in its flat form (Forms). Assumes nothing.
+-- `cablesalak_open`: the opening, with every field of what is kept (Forms). Assumes nothing.
+use mathlib.Core.Path.{ap₂, _∙_}
 use borrow.Author.Needs.{needs}
 use Rattle.table.specs.Columns.{columnsMade}
 use Rattle.shares.specs.declared.Book.{Book}
 use Rattle.shares.specs.Books.{openOutcome}
-use Rattle.books_export.specs.Kept.{listsMade}
+use Rattle.book_kept.specs.Calls.{listsMade}
 use Rattle.books_export.proofs.Forms.{opening-is}
 use Rattle.books_export.proofs.cablesalak_open.Statement.{statement}
 use Rattle.books_export.proofs.cablesalak_open.Tie as tie
@@ -20,12 +21,12 @@ call-requires : tie.Need-call-requires
 call-requires c κs =
     search needs
 
-packed-requires : tie.Need-packed-requires
-packed-requires c κs =
+kept-opened-requires : tie.Need-kept-opened-requires
+kept-opened-requires c κs =
     search needs
 
-packed-requires-2 : tie.Need-packed-requires-2
-packed-requires-2 c κs =
+kept-opened-requires-2 : tie.Need-kept-opened-requires-2
+kept-opened-requires-2 c κs =
     search needs
 
 -- The ways back, written by ways.py: TO-from-FROM leads from the place FROM of the code to the place TO before it.
@@ -34,17 +35,17 @@ module _ (c : tie.After-book-of) where
   start-from-book-of = c .before .before .before .before .before .before .before .before .before .before .before .before .before .before
       .before .before .before .before .before .before .before .before .before .before .before
 
-module _ (c : tie.After-packed) where
-  abbrev call-from-packed : tie.After-call
-  call-from-packed = c .before .before .before .before .before .before .before .before .before .before .before .before .before .before
+module _ (c : tie.After-kept-opened) where
+  abbrev call-from-kept-opened : tie.After-call
+  call-from-kept-opened = c .before .before .before .before .before .before .before .before .before .before .before .before .before .before
       .before .before .before .before .before .before .before .before .before .before .before
 
-module _ (c : tie.After-packed2) where
-  abbrev packed-from-return : tie.After-packed
-  packed-from-return = c .before
+module _ (c : tie.After-kept-opened2) where
+  abbrev kept-opened-from-return : tie.After-kept-opened
+  kept-opened-from-return = c .before
 
   abbrev call-from-return : tie.After-call
-  call-from-return = call-from-packed packed-from-return
+  call-from-return = call-from-kept-opened kept-opened-from-return
 
   abbrev book-of2-from-return : tie.After-book-of2
   book-of2-from-return = call-from-return .before
@@ -106,16 +107,19 @@ same-length-12 c =
 returns : tie.Need-returns
 returns c =
     let a = start-from-return c .args in
-    opening-is _ _ _ _ (call-from-return c .call .result) (packed-from-return c .packed .result)
-    (c .packed2 .result) (packed-from-return c .packed .ensures) (c .packed2 .ensures)
-    (λ (u v : Book). openOutcome (columnsMade (a .vars .now) (a .lows .now) (a .highs .now) (a .heads .now) (a .links .now)) (a .count)
+    opening-is _ _ _ _ (call-from-return c .call .result) (a .first) (a .second) (kept-opened-from-return c .kept-opened .result)
+    (c .kept-opened2 .result) (a .share) (a .sharesecond) (kept-opened-from-return c .kept-opened .ensures) (c .kept-opened2 .ensures) _
+    (call-from-return c .call .ensures
+    ∙ ap₂ (λ (u v : Book). openOutcome (columnsMade (a .vars .now) (a .lows .now) (a .highs .now) (a .heads .now) (a .links .now))
+        (a .count)
     (listsMade (a .members .now) (a .struck .now) (a .own .now))
     (listsMade (a .memberssecond .now) (a .strucksecond .now) (a .ownsecond .now))
-    (a .scratch .now) u v (a .share) (a .sharesecond)) _ _ _ _ (call-from-return c .call .ensures) (book-of-from-return c .book-of .ensures)
-    (book-of2-from-return c .book-of2 .ensures)
+    (a .scratch .now) u v (a .share) (a .sharesecond)) (book-of-from-return c .book-of .ensures)
+    (book-of2-from-return c .book-of2 .ensures))
 
 pub cablesalak-open-spec : {M : Type 1} → statement M
 cablesalak-open-spec =
-    tie.close (tie.spec book-of-requires book-of-requires-2 call-requires packed-requires packed-requires-2 same-length same-length-2
+    tie.close (tie.spec book-of-requires book-of-requires-2 call-requires kept-opened-requires kept-opened-requires-2 same-length
+        same-length-2
     same-length-3 same-length-4 same-length-5 same-length-6 same-length-7 same-length-8 same-length-9 same-length-10 same-length-11
     same-length-12 returns)

@@ -1,7 +1,7 @@
 -- `stage_of` is the definition's choice. Assumes nothing.
-use Rattle.books_export.proofs.Forms.{is-formula, is-lines, is-bound}
-use Rattle.books_export.proofs.flat.stage_of.Statement.{statement}
-use Rattle.books_export.proofs.flat.stage_of.Tie as tie
+use Rattle.book_kept.proofs.Forms.{is-formula, is-lines, is-bound}
+use Rattle.book_kept.proofs.stage_of.Statement.{statement}
+use Rattle.book_kept.proofs.stage_of.Tie as tie
 
 returns : tie.Need-returns
 returns c = is-formula _ _ _ (c .if1 .taken)

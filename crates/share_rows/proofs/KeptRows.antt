@@ -1,0 +1,54 @@
+-- The calls as they are linked by computation, with every field of what is kept. Assumes nothing.
+use mathlib.Core.Path.{_≡_, refl}
+use native.Mathlib.Decide.{ℕ-discrete}
+use Rattle.meaning.specs.Diagram.{diagramFrom, same?, valueFrom}
+use Rattle.meaning.specs.Operations.{clause}
+use Rattle.meaning.specs.Rules.{rup}
+use Rattle.meaning.specs.Words.{inWord}
+use Rattle.table.specs.Nodes.{place, put, above, diagramAt}
+use Rattle.table.specs.Index.{goodOrder, bucket}
+use Rattle.table.specs.Columns.{rows, sizeFits, storedAs}
+use Rattle.table.specs.Making.{placedAll}
+use Rattle.dimacs.specs.Header.{header}
+use Rattle.dimacs.specs.Clauses.{clausesFrom}
+use Rattle.records.specs.Records.{recordAt}
+use Rattle.verdict.specs.Steps.{recordStep}
+use Rattle.verdict.specs.Check.{verdict, lentFits}
+use Rattle.shares.specs.Shares.{diagramIn, alone, numberIn, sharing}
+use Rattle.shares.specs.Alone.{aloneCall, lineCall, bookStep}
+use Rattle.shares.specs.Books.{bookCall, bookFits, bookOutcomeAt, openOutcome}
+use Rattle.share_rows.specs.KeptRows.{Rows, causes, disorders, orders, bytesKept, lineRow, LineComes, Openings, openingRows}
+
+pub causes-come : Rows causes
+unfolding bookOutcomeAt bucket bookFits lentFits sizeFits rows storedAs goodOrder header recordAt clausesFrom verdict same? ℕ-discrete
+    diagramFrom valueFrom bookCall aloneCall
+    lineCall bookStep recordStep alone sharing diagramIn numberIn placedAll place put diagramAt clause above
+causes-come = ((refl, refl), ((refl, refl), ((refl, refl), ((refl, refl), ((refl, refl), ((refl, refl), ((refl, refl), ((refl, refl), ((refl, refl), ((refl, refl), ((refl, refl), ((refl, refl), ((refl, refl), ((refl, refl), ((refl, refl), ((refl, refl), ((refl, refl), ((refl, refl), ((refl, refl), ((refl, refl), tt))))))))))))))))))))
+
+pub disorders-come : Rows disorders
+unfolding bookOutcomeAt bucket bookFits lentFits sizeFits rows storedAs goodOrder header recordAt clausesFrom verdict same? ℕ-discrete
+    diagramFrom valueFrom bookCall aloneCall
+    lineCall bookStep recordStep alone sharing diagramIn numberIn placedAll place put diagramAt clause above
+disorders-come = ((refl, refl), ((refl, refl), ((refl, refl), ((refl, refl), ((refl, refl), tt)))))
+
+pub orders-come : Rows orders
+unfolding bookOutcomeAt bucket bookFits lentFits sizeFits rows storedAs goodOrder header recordAt clausesFrom verdict same? ℕ-discrete
+    diagramFrom valueFrom bookCall aloneCall
+    lineCall bookStep recordStep alone sharing diagramIn numberIn placedAll place put diagramAt clause above
+orders-come = ((refl, refl), ((refl, refl), ((refl, refl), ((refl, refl), ((refl, refl), ((refl, refl), ((refl, refl), ((refl, refl), tt))))))))
+
+pub bytes-come : Rows bytesKept
+unfolding bookOutcomeAt bucket bookFits lentFits sizeFits rows storedAs goodOrder header recordAt clausesFrom verdict same? ℕ-discrete
+    diagramFrom valueFrom bookCall aloneCall
+    lineCall bookStep recordStep alone sharing diagramIn numberIn placedAll place put diagramAt clause above
+bytes-come = ((refl, refl), ((refl, refl), ((refl, refl), ((refl, refl), ((refl, refl), ((refl, refl), tt))))))
+
+pub line-comes : LineComes lineRow
+unfolding bookOutcomeAt bucket bookFits lentFits sizeFits rows storedAs goodOrder header recordAt clausesFrom verdict same? ℕ-discrete
+    diagramFrom valueFrom bookCall aloneCall
+    lineCall bookStep recordStep alone sharing diagramIn numberIn placedAll place put diagramAt clause above rup inWord
+line-comes = (refl, refl)
+
+pub openings-come : Openings openingRows
+unfolding openOutcome bookFits lentFits sizeFits storedAs
+openings-come = (refl, refl, refl, (refl, refl, refl, (refl, refl, refl, (refl, refl, refl, (refl, refl, refl, (refl, refl, refl, (refl, refl, refl, tt)))))))
