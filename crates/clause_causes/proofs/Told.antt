@@ -55,16 +55,16 @@ numbers rounds hasMember member words = record {
 }
 
 module _ (r : Failed) (words : List ℕ) (rs : List (List Literal)) (a : r .rounds ≡ length rs) (b : words ≡ fixedAs (length words) rs) where
-  numbers-are : (h : Bool) (i : ℕ) → r .has_member ≡ h → r .member ≡ i → numbers (length rs) h i (fixedAs (length words) rs) ≡ toldOf r words
+  numbers-are : (h : Bool) (i : ℕ) → r .«has_member» ≡ h → r .member ≡ i → numbers (length rs) h i (fixedAs (length words) rs) ≡ toldOf r words
   numbers-are h i x y =
       ap₂ (λ (m : ℕ) (ws : List ℕ). numbers m h i ws) (sym a) (sym b)
       ∙ ap₂ (λ (f : Bool) (j : ℕ). numbers (r .rounds) f j words) (sym x) (sym y)
 
-  none-told : r .has_member ≡ false → r .member ≡ 0 → told (length words) (fixed rs none) ≡ toldOf r words
+  none-told : r .«has_member» ≡ false → r .member ≡ 0 → told (length words) (fixed rs none) ≡ toldOf r words
   unfolding told
   none-told x y = numbers-are false 0 x y
 
-  member-told : r .has_member ≡ true → told (length words) (fixed rs (some (r .member))) ≡ toldOf r words
+  member-told : r .«has_member» ≡ true → told (length words) (fixed rs (some (r .member))) ≡ toldOf r words
   unfolding told
   member-told x = numbers-are true (r .member) x refl
 

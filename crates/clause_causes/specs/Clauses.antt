@@ -43,7 +43,7 @@ toldOf r words = record {
   child = 0;
   word = 0;
   rounds = r .rounds;
-  hasMember = r .has_member;
+  hasMember = r .«has_member»;
   member = r .member;
   words = words;
 }
@@ -58,13 +58,13 @@ TryFails t live g u (First v b) = Unshown t (prIn t live g (witnessWords u v b))
 -- Of the propagation: its rounds and their words, and no member.
 abbrev pub FirstTold : List Node → List ℕ → ℕ → Failed → List ℕ → Type 0
 FirstTold t live g r words =
-    (r .has_member ≡ false) × (r .member ≡ 0) × Fixed (byNot (diagramAt t g) (diagramsOf t live)) (r .rounds) words
+    (r .«has_member» ≡ false) × (r .member ≡ 0) × Fixed (byNot (diagramAt t g) (diagramsOf t live)) (r .rounds) words
 
 -- Of the lowest member that is not shown: its turn's.
 abbrev pub SecondTold : List Node → List ℕ → List ℕ → ℕ → ℕ → Literals → Failed → List ℕ → Type 0
 SecondTold t members struck many g w r words =
     let live = unstruck (take many struck) (take many members) in
-    (r .has_member ≡ true)
+    (r .«has_member» ≡ true)
     × PrTold t (w .positive) (w .negative) (byNot (diagramAt t g) (diagramsOf t live)) members struck many (r .member) (r .rounds) words
 
 abbrev pub TryTold : List Node → List ℕ → List ℕ → ℕ → ℕ → Literals → Pivot → Failed → List ℕ → Type 0
