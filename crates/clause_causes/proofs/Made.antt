@@ -1,5 +1,5 @@
--- A refused clause's diagram made again: the state with its nodes is held, and its last try fails over them. The idea: the refusal says that
--- there was room. Assumes nothing.
+-- A refused clause's diagram made again: the state with its nodes is held, and its last try fails over them. The idea: the refusal says
+-- that there was room. Assumes nothing.
 use mathlib.Core.Path.{_≡_, refl, sym, ap, _∙_, subst}
 use mathlib.Core.Bool.{Bool, true, false}
 use mathlib.Core.List.{List, [], _∷_}

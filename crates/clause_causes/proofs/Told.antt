@@ -55,7 +55,8 @@ numbers rounds hasMember member words = record {
 }
 
 module _ (r : Failed) (words : List ℕ) (rs : List (List Literal)) (a : r .rounds ≡ length rs) (b : words ≡ fixedAs (length words) rs) where
-  numbers-are : (h : Bool) (i : ℕ) → r .«has_member» ≡ h → r .member ≡ i → numbers (length rs) h i (fixedAs (length words) rs) ≡ toldOf r words
+  numbers-are : (h : Bool) (i : ℕ) → r .«has_member» ≡ h → r .member ≡ i → numbers (length rs) h i (fixedAs (length words) rs)
+      ≡ toldOf r words
   numbers-are h i x y =
       ap₂ (λ (m : ℕ) (ws : List ℕ). numbers m h i ws) (sym a) (sym b)
       ∙ ap₂ (λ (f : Bool) (j : ℕ). numbers (r .rounds) f j words) (sym x) (sym y)
@@ -89,7 +90,8 @@ module _ (n : ℕ) (L : Lent) (st : State) (H : Held n L st) (T₁ : Table) (k :
   abbrev G : Diagram
   G = diagramAt (nodesOf T₁) k
 
-  all-kept : (ls : List Literal) → Made n L st T₁ k ls → (ks : List ℕ) → Inside (st .count) ks → map (diagramIn S) ks ≡ map (diagramIn S₁) ks
+  all-kept : (ls : List Literal) → Made n L st T₁ k ls → (ks : List ℕ) → Inside (st .count) ks → map (diagramIn S) ks
+      ≡ map (diagramIn S₁) ks
   all-kept ls M [] inside = refl
   all-kept ls M (j ∷ ks) inside =
       ap₂ _∷_ (sym (M .kept j (inside 0 (omega arith)))) (all-kept ls M ks (λ i p. inside (suc i) (omega arith)))
@@ -134,10 +136,12 @@ module _ (n : ℕ) (L : Lent) (st : State) (H : Held n L st) (T₁ : Table) (k :
         S S₁ (st .members) live-still (member-same (q ∷ ls) M) (clause n (q ∷ ls)) G (sym (M .is)) (live-same (q ∷ ls) M) many-are many-are
 
     second-told : (r : Failed) (words : List ℕ) → SecondTold (nodesOf T₁) (L .members) (L .struck) (st .members) k u r words
-        → told (length words) (prCause n (makesTrue (witness q (q ∷ ls))) (makesFalse (witness q (q ∷ ls))) S (clause n (q ∷ ls))) ≡ toldOf r words
+        → told (length words) (prCause n (makesTrue (witness q (q ∷ ls))) (makesFalse (witness q (q ∷ ls))) S (clause n (q ∷ ls)))
+        ≡ toldOf r words
     second-told r words F =
         ap (told (length words))
-        (words-cause ∙ pr-cause-is n L₁ st₁ (M .held) k (M .inside) (M .not-one) (u .positive) (u .negative) (r .member) (r .rounds) words (F .1))
+        (words-cause ∙ pr-cause-is n L₁ st₁ (M .held) k (M .inside) (M .not-one) (u .positive) (u .negative) (r .member) (r .rounds) words
+        (F .1))
         ∙ member-told r words
         (fixes 64 (byNot (underWitness (u .positive) (u .negative) (diagramAt (nodesOf T₁) (getD (L .members) (r .member) 0)))
         (byNot G (diagramsOf (nodesOf T₁) live))))
@@ -183,7 +187,8 @@ module _ (L : Lent) (st : State) (c : DratClause) (R : ClauseRefused L st c) (T�
       → told (length words) (clauseCause (R .profile) (R .n) (stateOf L st) (R .literals)) ≡ toldOf r words
   code-told r words F =
       try-told (R .n) L st (R .held) T₁ k (R .profile) (R .literals) (R .within) is-made r words
-      (subst (λ (x : DratClause). TryTold (nodesOf T₁) (L .members) (L .struck) (st .members) k (x .literals) (x .pivot) r words) (sym (R .is)) F)
+      (subst (λ (x : DratClause). TryTold (nodesOf T₁) (L .members) (L .struck) (st .members) k (x .literals) (x .pivot) r words)
+      (sym (R .is)) F)
 
   -- the clause's nodes dropped
   pub code-undone : (T₂ T₃ : Table) → T₂ ≡ T₁ → T₃ ≡ droppedTo (st .count) T₂ → T₃ ≡ tableIn L (st .count)

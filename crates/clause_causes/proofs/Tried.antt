@@ -11,11 +11,12 @@ use Rattle.meaning.specs.Rules.{rup, pr}
 use Rattle.meaning.specs.Words.{inWord}
 use Rattle.words.specs.declared.Literals.{Literals}
 use Rattle.words.specs.Sets.{literalsOf}
-use Rattle.table.specs.Nodes.{diagramAt}
+use Rattle.table.specs.Nodes.{Node, diagramAt}
 use Rattle.table.specs.Indexed.{Table, nodesOf}
 use Rattle.table.specs.Lists.{diagramsOf}
 use Rattle.clausal.specs.Tries.{makesTrue, makesFalse, witness}
-use Rattle.commands.specs.declared.Pivot.the-variants.{Nothing}
+use Rattle.commands.specs.declared.Pivot.{Pivot}
+use Rattle.commands.specs.declared.Pivot.the-variants.{Nothing, First}
 use Rattle.commands.specs.Inner.{pivotOf}
 use Rattle.judge.proofs.Widths.{rup-at, pr-at}
 use Rattle.verdict.specs.Steps as check
@@ -29,7 +30,8 @@ use Rattle.tries.proofs.SecondTry.{second-same}
 use Rattle.record_causes.proofs.LastTry.{lastLine}
 use Rattle.tell.specs.Failed.{Unshown}
 use Rattle.tell.proofs.Refused.{live-inside}
-use Rattle.clause_causes.specs.Clauses.{TryFails}
+use Rattle.clause_causes.specs.declared.Failed.{Failed}
+use Rattle.clause_causes.specs.Clauses.{TryFails, FirstTold, SecondTold, TryTold}
 use Rattle.clause_causes.proofs.Made.{lentMade, stateMade, Made}
 
 -- The words of the witness of the clause with the pivot q.
@@ -71,3 +73,24 @@ module _ (n : ℕ) (L : Lent) (st : State) (T₁ : Table) (k : ℕ) where
   try-fails true ls w M U = subst (Unshown T₁) (rup-is ls M) U
   try-fails false [] w M U = subst (Unshown T₁) (rup-is [] M) U
   try-fails false (q ∷ ls) w M U = subst (Unshown T₁) (second-is q ls w M) U
+
+-- ---- the code's answers, by the pivot
+
+module _ (t : Table) (alive : List ℕ) (g : ℕ) (u : Literals) (pivot : Pivot) where
+  pub first-fails : pivot ≡ Nothing → TryFails t alive g u pivot → Unshown t (rupIn t alive g)
+  first-fails e F = subst (TryFails t alive g u) e F
+
+  pub second-fails : (v : ℕ) (b : Bool) → pivot ≡ First v b → (w : Literals) → w ≡ witnessWords u v b → TryFails t alive g u pivot
+      → Unshown t (prIn t alive g w)
+  second-fails v b e w is F = subst (λ (x : Literals). Unshown t (prIn t alive g x)) (sym is) (subst (TryFails t alive g u) e F)
+
+module _ (t : List Node) (members struck : List ℕ) (many g : ℕ) (u : Literals) (pivot : Pivot) (r : Failed) (words : List ℕ) where
+  pub first-answer : pivot ≡ Nothing → FirstTold t (unstruck (take many struck) (take many members)) g r words
+      → TryTold t members struck many g u pivot r words
+  first-answer e F = subst (λ (q : Pivot). TryTold t members struck many g u q r words) (sym e) F
+
+  pub second-answer : (v : ℕ) (b : Bool) → pivot ≡ First v b → (w : Literals) → w ≡ witnessWords u v b
+      → SecondTold t members struck many g w r words → TryTold t members struck many g u pivot r words
+  second-answer v b e w is F =
+      subst (λ (q : Pivot). TryTold t members struck many g u q r words) (sym e)
+      (subst (λ (x : Literals). SecondTold t members struck many g x r words) is F)

@@ -45,7 +45,8 @@ module _ (n : ℕ) (P N P′ N′ : ℕ → Bool) (p : (v : ℕ) → 1 ≤ v →
         let f′ = diagramIn B (getD (B .members) i 0) in
         ap₂ (λ (a s : Bool). here n ms i a s (cofactorLiterals n P N f) (unshown k n P N ms A (suc i))) (live i)
         (ap (λ (l : Line). l .shown) (turn-same f f′ (kept i h)))
-        ∙ ap₂ (λ (d : Diagram) (x : Cause). here n ms i (isLive B i) (prTurns n P′ N′ ms (f′ ∷ []) .shown) d x) (under f f′ (kept i h)) later
+        ∙ ap₂ (λ (d : Diagram) (x : Cause). here n ms i (isLive B i) (prTurns n P′ N′ ms (f′ ∷ []) .shown) d x) (under f f′ (kept i h))
+        later
 
     none-same : (i : ℕ) → unshown zero n P N ms A i ≡ unshown zero n P′ N′ ms B i
     unfolding unshown
@@ -60,6 +61,7 @@ module _ (n : ℕ) (P N P′ N′ : ℕ → Bool) (p : (v : ℕ) → 1 ≤ v →
       → prCause n P N A D ≡ prCause n P′ N′ B E
   unfolding prCause
   pr-cause-same D E e l a b =
-      ap₂ (λ (m : ℕ) (ms : List Diagram). unshown m n P N ms A 0) a (ap₂ (λ (d : Diagram) (ds : List Diagram). byDiagram n (negation n d) ds) e l)
+      ap₂ (λ (m : ℕ) (ms : List Diagram). unshown m n P N ms A 0) a
+      (ap₂ (λ (d : Diagram) (ds : List Diagram). byDiagram n (negation n d) ds) e l)
       ∙ unshown-same (byDiagram n (negation n E) (liveMembers B)) many 0 (omega arith)
       ∙ ap (λ (m : ℕ). unshown m n P′ N′ (byDiagram n (negation n E) (liveMembers B)) B 0) (sym b)
