@@ -1,10 +1,10 @@
--- What is told of a refused clause's last try is the definition's cause. The idea: the members keep their diagrams while the clause's is
+-- What the code gives of a refused clause's last try is the definition's cause. The idea: the members keep their diagrams while the clause's is
 -- made. Assumes nothing.
 use mathlib.Core.Path.{_≡_, refl, sym, ap, ap₂, _∙_, subst}
 use mathlib.Core.Bool.{Bool, true, false, cond}
 use mathlib.Core.List.{List, [], _∷_, map}
 use mathlib.Core.Option.{none, some}
-use Prim.Native.Nat.{ℕ, suc, _≤_, _<_}
+use Prim.Native.Nat.{ℕ, suc, _<_}
 use native.Mathlib.Omega.{arith}
 use lib.ListN.{length, getD, take}
 use lib.Seq.{length-take-le}
@@ -30,9 +30,9 @@ use Rattle.state.specs.declared.State.{State}
 use Rattle.state.specs.States.{Lent, tableIn, stateOf, Held}
 use Rattle.tries.proofs.Adding.{outcomeAt, grown}
 use Rattle.tries.proofs.Setting.{witness-true, witness-false}
-use Rattle.causes.specs.Causes.{Cause, fixed, fixes, rupCause, prCause, clauseCause}
+use Rattle.causes.specs.Causes.{fixed, fixes, rupCause, prCause, clauseCause}
 use Rattle.causes.specs.Answers.{fixedAs, Told, told}
-use Rattle.tell.specs.Failed.{Fixed, byNot, underWitness, PrTold}
+use Rattle.tell.specs.Failed.{byNot, underWitness}
 use Rattle.tell.proofs.Refused.{members-inside, live-inside}
 use Rattle.tell.proofs.Lines.{rup-cause-is, pr-cause-is}
 use Rattle.clause_causes.specs.declared.Failed.{Failed}
@@ -181,7 +181,7 @@ module _ (L : Lent) (st : State) (c : DratClause) (R : ClauseRefused L st c) (T�
       (try-fails (R .n) L st T₁ k (R .profile) (R .literals) (R .within) is-made
       (last-fails (R .n) L st (R .held) (R .literals) (R .within) T₁ p placed-so (R .profile) (R .peak) (R .refused)))
 
-  -- THEOREM: what the code tells of it is the clause's cause.
+  -- THEOREM: what the code gives of it is the clause's cause.
   pub code-told : (r : Failed) (words : List ℕ)
       → TryTold (nodesOf T₁) (L .members) (L .struck) (st .members) k (c .literals) (c .pivot) r words
       → told (length words) (clauseCause (R .profile) (R .n) (stateOf L st) (R .literals)) ≡ toldOf r words

@@ -14,7 +14,6 @@ use Rattle.words.specs.Sets.{literalsOf}
 use Rattle.table.specs.Nodes.{Node, diagramAt}
 use Rattle.table.specs.Indexed.{Table, nodesOf}
 use Rattle.table.specs.Lists.{diagramsOf}
-use Rattle.clausal.specs.Tries.{makesTrue, makesFalse, witness}
 use Rattle.commands.specs.declared.Pivot.{Pivot}
 use Rattle.commands.specs.declared.Pivot.the-variants.{Nothing, First}
 use Rattle.commands.specs.Inner.{pivotOf}
@@ -67,7 +66,7 @@ module _ (n : ℕ) (L : Lent) (st : State) (T₁ : Table) (k : ℕ) where
       sym (second-same n (M .held .entries .narrow) q ls w (liveMembers S₁) u refl)
       ∙ pr-is (q ∷ ls) M (inWord (u .positive)) (inWord (u .negative))
 
-  -- THEOREM: what the code asks of the last try.
+  -- THEOREM: what the code requires of the last try.
   pub try-fails : (profile : Bool) (ls : List Literal) → OfVariables n ls → Made n L st T₁ k ls → Unshown T₁ (lastLine profile n S₁ ls)
       → TryFails T₁ live k (literalsOf ls) (cond profile Nothing (pivotOf ls))
   try-fails true ls w M U = subst (Unshown T₁) (rup-is ls M) U

@@ -1,4 +1,4 @@
--- An added clause that is refused with 19: what is asked of it, and what its last try tells. No call open to others cites this file.
+-- An added clause that is refused with 19: what is required of it, and what its last try gives. No call open to others cites this file.
 use mathlib.Core.Path.{_≡_}
 use mathlib.Core.Bool.{Bool, true, false}
 use mathlib.Core.List.{List}
@@ -36,7 +36,7 @@ pub record ClauseRefused (lent : Lent) (st : State) (clause : DratClause) : Type
   pub is : triedAs profile (clauseWords literals) ≡ clause
   pub refused : addStep profile n (length (lent .vars)) (stateOf lent st) literals ≡ spent 19 peak
 
--- The cause in numbers, of an answer and the words told.
+-- The cause in numbers, from an answer and its words.
 abbrev pub toldOf : Failed → List ℕ → Told
 toldOf r words = record {
   variable = 0;

@@ -117,8 +117,8 @@ fn tried_cause(
     }
 }
 
-// The cause of an added clause that is refused with 19 in the state held, its literals being those that are told in `fixed`. The clause's
-// diagram is made again and dropped: table and marks are then as before.
+// The cause of an added clause that is refused with 19 in the state held; the literals go into `fixed`. The clause's diagram is made again
+// and dropped: table and marks are then as before.
 pub fn clause_cause(
     vars: &mut [u8],
     lows: &mut [u16],

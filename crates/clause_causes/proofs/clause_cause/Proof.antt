@@ -1,9 +1,8 @@
--- `clause_cause`: the clause is made, its last try told, and its nodes are dropped. The ways out are laws of Told. Assumes nothing.
+-- `clause_cause`: the clause is made, its last try traced, and its nodes are dropped. The answers are laws of Told. Assumes nothing.
 use mathlib.Core.Path.{_≡_, sym, ap, _∙_, subst}
 use mathlib.Core.List.{List}
 use Prim.Native.Nat.{ℕ}
 use native.Mathlib.Omega.{arith}
-use borrow.Author.Needs.{needs}
 use Rattle.table.specs.Indexed.{Table, tableOf, Good}
 use Rattle.table.proofs.Outcomes.{Grown}
 use Rattle.conflict.specs.Marks.{unmarked}
@@ -28,11 +27,44 @@ module _ (s : tie.Start) where
   abbrev refused : ClauseRefused lent (s .args .st) (s .args .clause)
   refused = s .pre .6
 
+-- The ways back, written by ways.py: TO-from-FROM leads from the place FROM of the code to the place TO before it.
+module _ (c : tie.After-make-arg5) where
+  abbrev start-from-make-call : tie.Start
+  start-from-make-call = c .before .before .before .before .before .before .before .before .before .before .before .before .before .before
+      .before .before
+
+module _ (c : tie.After-make) where
+  abbrev start-from-make : tie.Start
+  start-from-make = start-from-make-call (c .before)
+
+module _ (c : tie.After-tried-cause-arg9) where
+  abbrev make-from-tried-cause-call : tie.After-make
+  make-from-tried-cause-call = c .before .before .before .before .before .before .before .before .before .before .before .before .before
+      .before .before .before .before .before .before
+
+module _ (c : tie.After-tried-cause) where
+  abbrev make-from-tried-cause : tie.After-make
+  make-from-tried-cause = make-from-tried-cause-call (c .before)
+
+module _ (c : tie.After-drop-to-arg5) where
+  abbrev tried-cause-from-drop-to-call : tie.After-tried-cause
+  tried-cause-from-drop-to-call = c .before .before .before .before .before .before .before .before .before .before .before .before .before
+      .before .before .before .before .before .before .before .before .before .before
+
+module _ (c : tie.After-slice-known28) where
+  abbrev drop-to-from-return : tie.After-drop-to
+  drop-to-from-return = c .before .before .before .before .before .before .before .before .before .before
+
+  abbrev tried-cause-from-return : tie.After-tried-cause
+  tried-cause-from-return = tried-cause-from-drop-to-call (drop-to-from-return .before)
+
+  abbrev make-from-return : tie.After-make
+  make-from-return = make-from-tried-cause tried-cause-from-return
+
 -- the clause is made
 module _ (a : tie.After-make) where
   abbrev start : tie.Start
-  start = a .before .before .before .before .before .before .before .before .before .before .before .before .before .before .before .before
-      .before
+  start = start-from-make a
 
   abbrev table₁ : Table
   table₁ = tableOf (a .make .last .0) (a .make .last .1 .0) (a .make .last .1 .1 .0) (a .make .last .1 .1 .1 .0)
@@ -43,11 +75,10 @@ module _ (a : tie.After-make) where
   larger = grown (tableIn (lent start) (start .args .st .count)) (held start .entries .good) (start .args .clause .literals) table₁
       (a .make .result) (a .make .ensures)
 
--- its last try is told
+-- its last try is traced
 module _ (b : tie.After-tried-cause) where
   abbrev made : tie.After-make
-  made = b .before .before .before .before .before .before .before .before .before .before .before .before .before .before .before .before
-      .before .before .before .before
+  made = make-from-tried-cause b
 
   abbrev table₂ : Table
   table₂ = let q = b .tried-cause in tableOf (q .last .0) (q .last .1 .0) (q .last .1 .1 .0) (q .last .1 .1 .1 .0) (q .last .1 .1 .1 .1 .0)
@@ -60,14 +91,11 @@ module _ (b : tie.After-tried-cause) where
   back = b .tried-cause .ensures .0 .0
 
 make-requires : tie.Need-make-requires
-make-requires c κs =
-    held (c .before .before .before .before .before .before .before .before .before .before .before .before .before .before .before .before)
-    .entries .good
+make-requires c κs = held (start-from-make-call c) .entries .good
 
 tried-cause-requires : tie.Need-tried-cause-requires
 tried-cause-requires c κs =
-    let a = (c .before .before .before .before .before .before .before .before .before .before .before .before .before .before .before
-    .before .before .before .before) in
+    let a = make-from-tried-cause-call c in
     let s = start a in
     let H = held s in (
       (
@@ -88,97 +116,51 @@ tried-cause-requires c κs =
 
 drop-to-requires : tie.Need-drop-to-requires
 drop-to-requires c κs =
-    let b = (c .before .before .before .before .before .before .before .before .before .before .before .before .before .before .before
-    .before .before .before .before .before .before .before .before) in
+    let b = tried-cause-from-drop-to-call c in
     let a = made b in
     (subst Good (sym (back b)) (larger a .good), held (start a) .entries .good .least, larger a .more)
 
 same-length : tie.Need-same-length
 same-length c =
-    (c .before .before .before .before .before .before .before .before .before .before) .drop-to .kept .0
-    ∙ (c .before .before .before .before .before .before .before .before .before .before .before .before .before .before .before .before
-    .before .before .before .before .before .before .before .before .before .before .before .before .before .before .before .before
-    .before .before) .tried-cause .kept .0 ∙ (c .before .before .before .before .before .before .before .before .before .before .before
-    .before .before .before .before .before .before .before .before .before .before .before .before .before .before .before .before
-    .before .before .before .before .before .before .before .before .before .before .before .before .before .before .before .before
-    .before .before .before .before .before .before .before .before .before .before .before) .make .kept .0
+    drop-to-from-return c .drop-to .kept .0 ∙ tried-cause-from-return c .tried-cause .kept .0 ∙ make-from-return c .make .kept .0
 
 same-length-2 : tie.Need-same-length-2
 same-length-2 c =
-    (c .before .before .before .before .before .before .before .before .before .before) .drop-to .kept .1 .0
-    ∙ (c .before .before .before .before .before .before .before .before .before .before .before .before .before .before .before .before
-    .before .before .before .before .before .before .before .before .before .before .before .before .before .before .before .before
-    .before .before) .tried-cause .kept .1 .0
-    ∙ (c .before .before .before .before .before .before .before .before .before .before .before .before .before .before .before .before
-    .before .before .before .before .before .before .before .before .before .before .before .before .before .before .before .before
-    .before .before .before .before .before .before .before .before .before .before .before .before .before .before .before .before
-    .before .before .before .before .before .before) .make .kept .1 .0
+    drop-to-from-return c .drop-to .kept .1 .0 ∙ tried-cause-from-return c .tried-cause .kept .1 .0 ∙ make-from-return c .make .kept .1 .0
 
 same-length-3 : tie.Need-same-length-3
 same-length-3 c =
-    (c .before .before .before .before .before .before .before .before .before .before) .drop-to .kept .1 .1 .0
-    ∙ (c .before .before .before .before .before .before .before .before .before .before .before .before .before .before .before .before
-    .before .before .before .before .before .before .before .before .before .before .before .before .before .before .before .before
-    .before .before) .tried-cause .kept .1 .1 .0
-    ∙ (c .before .before .before .before .before .before .before .before .before .before .before .before .before .before .before .before
-    .before .before .before .before .before .before .before .before .before .before .before .before .before .before .before .before
-    .before .before .before .before .before .before .before .before .before .before .before .before .before .before .before .before
-    .before .before .before .before .before .before) .make .kept .1 .1 .0
+    drop-to-from-return c .drop-to .kept .1 .1 .0 ∙ tried-cause-from-return c .tried-cause .kept .1 .1 .0
+    ∙ make-from-return c .make .kept .1 .1 .0
 
 same-length-4 : tie.Need-same-length-4
 same-length-4 c =
-    (c .before .before .before .before .before .before .before .before .before .before) .drop-to .kept .1 .1 .1 .0
-    ∙ (c .before .before .before .before .before .before .before .before .before .before .before .before .before .before .before .before
-    .before .before .before .before .before .before .before .before .before .before .before .before .before .before .before .before
-    .before .before) .tried-cause .kept .1 .1 .1 .0
-    ∙ (c .before .before .before .before .before .before .before .before .before .before .before .before .before .before .before .before
-    .before .before .before .before .before .before .before .before .before .before .before .before .before .before .before .before
-    .before .before .before .before .before .before .before .before .before .before .before .before .before .before .before .before
-    .before .before .before .before .before .before) .make .kept .1 .1 .1 .0
+    drop-to-from-return c .drop-to .kept .1 .1 .1 .0 ∙ tried-cause-from-return c .tried-cause .kept .1 .1 .1 .0
+    ∙ make-from-return c .make .kept .1 .1 .1 .0
 
 same-length-5 : tie.Need-same-length-5
 same-length-5 c =
-    (c .before .before .before .before .before .before .before .before .before .before) .drop-to .kept .1 .1 .1 .1 .0
-    ∙ (c .before .before .before .before .before .before .before .before .before .before .before .before .before .before .before .before
-    .before .before .before .before .before .before .before .before .before .before .before .before .before .before .before .before
-    .before .before) .tried-cause .kept .1 .1 .1 .1 .0
-    ∙ (c .before .before .before .before .before .before .before .before .before .before .before .before .before .before .before .before
-    .before .before .before .before .before .before .before .before .before .before .before .before .before .before .before .before
-    .before .before .before .before .before .before .before .before .before .before .before .before .before .before .before .before
-    .before .before .before .before .before .before) .make .kept .1 .1 .1 .1 .0
+    drop-to-from-return c .drop-to .kept .1 .1 .1 .1 .0 ∙ tried-cause-from-return c .tried-cause .kept .1 .1 .1 .1 .0
+    ∙ make-from-return c .make .kept .1 .1 .1 .1 .0
 
 same-length-6 : tie.Need-same-length-6
-same-length-6 c =
-    (c .before .before .before .before .before .before .before .before .before .before .before .before .before .before .before .before
-    .before .before .before .before .before .before .before .before .before .before .before .before .before .before .before .before
-    .before .before) .tried-cause .kept .1 .1 .1 .1 .1 .0
+same-length-6 c = tried-cause-from-return c .tried-cause .kept .1 .1 .1 .1 .1 .0
 
 same-length-7 : tie.Need-same-length-7
-same-length-7 c =
-    (c .before .before .before .before .before .before .before .before .before .before .before .before .before .before .before .before
-    .before .before .before .before .before .before .before .before .before .before .before .before .before .before .before .before
-    .before .before) .tried-cause .kept .1 .1 .1 .1 .1 .1 .0
+same-length-7 c = tried-cause-from-return c .tried-cause .kept .1 .1 .1 .1 .1 .1 .0
 
 same-length-8 : tie.Need-same-length-8
-same-length-8 c =
-    (c .before .before .before .before .before .before .before .before .before .before .before .before .before .before .before .before
-    .before .before .before .before .before .before .before .before .before .before .before .before .before .before .before .before
-    .before .before) .tried-cause .kept .1 .1 .1 .1 .1 .1 .1 .1 .0
+same-length-8 c = tried-cause-from-return c .tried-cause .kept .1 .1 .1 .1 .1 .1 .1 .1 .0
 
 same-length-9 : tie.Need-same-length-9
-same-length-9 c =
-    (c .before .before .before .before .before .before .before .before .before .before .before .before .before .before .before .before
-    .before .before .before .before .before .before .before .before .before .before .before .before .before .before .before .before
-    .before .before) .tried-cause .kept .1 .1 .1 .1 .1 .1 .1 .1 .1 .1 .0
+same-length-9 c = tried-cause-from-return c .tried-cause .kept .1 .1 .1 .1 .1 .1 .1 .1 .1 .1 .0
 
 returns : tie.Need-returns
 returns c =
-    let b = (c .before .before .before .before .before .before .before .before .before .before .before .before .before .before .before
-    .before .before .before .before .before .before .before .before .before .before .before .before .before .before .before .before
-    .before .before .before) in
+    let b = tried-cause-from-return c in
     let a = made b in
     let s = start a in
-    let d = (c .before .before .before .before .before .before .before .before .before .before) .drop-to in (
+    let d = drop-to-from-return c .drop-to in (
       (λ R. ap (λ (m : ℕ). told m (clauseCause (R .profile) (R .n) (stateOf (lent s) (s .args .st)) (R .literals)))
           (sym (b .tried-cause .kept .1 .1 .1 .1 .1 .1 .1 .1 .1 .1 .0))
           ∙ code-told (lent s) (s .args .st) (s .args .clause) R (table₁ a) (a .make .result) (a .make .ensures) (b .tried-cause .result)
