@@ -1,16 +1,13 @@
 -- A line that is refused with 19, over the lists that hold the state: what its rule's function asks, and that what it tells is the cause.
 -- Assumes nothing.
 use mathlib.Core.Path.{_≡_, refl, sym, ap, _∙_, subst}
-use mathlib.Core.Bool.{Bool, false, true, not}
+use mathlib.Core.Bool.{false, true, not}
 use mathlib.Core.List.{List}
-use mathlib.Core.Option.{none, some}
 use Prim.Native.Nat.{ℕ, _≤_}
-use native.Mathlib.Omega.{arith}
 use lib.ListN.{length, getD, take}
 use lib.Dec.{eqb, ltb, leb}
 use borrow.Author.Tests.{ltb-false}
 use Rattle.meaning.specs.Diagram.{Diagram}
-use Rattle.meaning.specs.Rules.{Line}
 use Rattle.meaning.specs.Words.{inWord}
 use Rattle.table.specs.Nodes.{diagramAt}
 use Rattle.table.specs.Indexed.{Table, size, nodesOf}
@@ -24,7 +21,7 @@ use Rattle.verdict.specs.Steps.{spent, isEntry, entryNode, waiting, diagramIn, 
 use Rattle.verdict.specs.Taken.{lineOf}
 use Rattle.verdict.proofs.Steps.{past-early}
 use Rattle.state.specs.declared.State.{State}
-use Rattle.state.specs.States.{Lent, tableIn, stateOf, Held}
+use Rattle.state.specs.States.{Lent, tableIn, stateOf}
 use Rattle.causes.specs.Causes.{fixed, fixes, rupCause, prCause, pathCause, lineCause}
 use Rattle.causes.specs.Answers.{told}
 use Rattle.tell.specs.Failed.{Unshown, Fixed, byNot, underWitness, PrTold}
@@ -113,8 +110,10 @@ module _ (L : Lent) (x : State) (root : ℕ) where
       pr-tells i rounds F R =
           let p = x .witness .positive in
           let q = x .witness .negative in
-          let W : PrTold (nodesOf T) p q (byNot (G (entryNode S root)) (liveMembers S)) (L .members) (L .struck) (x .members) i rounds words =
-          subst (λ (k : ℕ). PrTold (nodesOf T) p q (byNot (G k) (liveMembers S)) (L .members) (L .struck) (x .members) i rounds words) is F in
+          let W : PrTold (nodesOf T) p q (byNot (G (entryNode S root)) (liveMembers S)) (L .members) (L .struck) (x .members) i rounds words
+          =
+          subst (λ (k : ℕ). PrTold (nodesOf T) p q (byNot (G k) (liveMembers S)) (L .members) (L .struck) (x .members) i rounds words) is F
+          in
           told-turn m words rounds
           (fixes 64 (byNot (underWitness p q (diagramIn S (getD (L .members) i 0))) (byNot (G (entryNode S root)) (liveMembers S))))
           (W .fixed .rounds-are) kept (W .fixed .words-are) i
@@ -127,7 +126,8 @@ module _ (L : Lent) (x : State) (root : ℕ) where
           let X : PathTold (liveMembers S) (G (entryNode S root)) rounds words =
           subst (λ (k : ℕ). PathTold (liveMembers S) (G k) rounds words) is F in
           told-rounds m words rounds (X .literals) (X .rounds-are) kept (X .words-are)
-          ∙ ap (told m) (sym (path-line (R .n) S (G (entryNode S root)) ∙ path-cause-is (R .n) L x (R .held) (G (entryNode S root)) ∙ X .cause))
+          ∙ ap (told m) (sym (path-line (R .n) S (G (entryNode S root)) ∙ path-cause-is (R .n) L x (R .held) (G (entryNode S root))
+          ∙ X .cause))
 
       -- The same, the rule being that one.
       pub tells-as : (r : Cause) (rule rule′ : Rule) → rule ≡ rule′ → Tells r rule′ → Tells r rule

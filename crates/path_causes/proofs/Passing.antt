@@ -26,7 +26,7 @@ use Rattle.paths.specs.Walk.{afterFrom, noPath}
 use Rattle.paths.proofs.Sequence.{by-words}
 use Rattle.path_lines.specs.Turns.{byWords, turnBy}
 use Rattle.path_lines.proofs.Turning.{Turning, Next, turning-none, next-after, rises, turns-full, turns-on}
-use Rattle.causes.specs.Causes.{Cause, fixed, fixes, pathFails, pathCause}
+use Rattle.causes.specs.Causes.{fixed, fixes, pathFails, pathCause}
 use Rattle.tell.specs.Failed.{Unshown}
 use Rattle.path_causes.specs.Failing.{FirstFailing}
 
