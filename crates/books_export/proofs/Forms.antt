@@ -37,7 +37,7 @@ booked-is d l s said k x e o q = ap with e ∙ ap (keptOutcome k) q
 pub opening-is : (d : Columns) (a b : BookLists) (s : List ℕ) (said : Opened) (k k′ x x′ : Kept) (shareA shareB : ℕ)
     → x ≡ keptOpened (said .number) shareA k → x′ ≡ keptOpened (said .number) shareB k′ → (o : OpenOutcome) → openedOutcome d a b s said ≡ o
     → openingOutcome d a b s (record { number = said .number; count = said .count; first = x; second = x′ })
-        ≡ openingBy k k′ shareA shareB o
+    ≡ openingBy k k′ shareA shareB o
 opening-is d a b s said k k′ x x′ shareA shareB e e′ o q = ap₂ with e e′ ∙ ap (openingBy k k′ shareA shareB) q
   where
     with : Kept → Kept → KeptOpening

@@ -1,5 +1,5 @@
 -- The calls as they are linked by computation, with every field of what is kept. Assumes nothing.
-use mathlib.Core.Path.{_≡_, refl}
+use mathlib.Core.Path.{refl}
 use native.Mathlib.Decide.{ℕ-discrete}
 use Rattle.meaning.specs.Diagram.{diagramFrom, same?, valueFrom}
 use Rattle.meaning.specs.Operations.{clause}
@@ -19,36 +19,42 @@ use Rattle.shares.specs.Alone.{aloneCall, lineCall, bookStep}
 use Rattle.shares.specs.Books.{bookCall, bookFits, bookOutcomeAt, openOutcome}
 use Rattle.share_rows.specs.KeptRows.{Rows, causes, disorders, orders, bytesKept, lineRow, LineComes, Openings, openingRows}
 
+-- Each cause of 26, at its limit and beyond it.
 pub causes-come : Rows causes
-unfolding bookOutcomeAt bucket bookFits lentFits sizeFits rows storedAs goodOrder header recordAt clausesFrom verdict same? ℕ-discrete
-    diagramFrom valueFrom bookCall aloneCall
-    lineCall bookStep recordStep alone sharing diagramIn numberIn placedAll place put diagramAt clause above
-causes-come = ((refl, refl), ((refl, refl), ((refl, refl), ((refl, refl), ((refl, refl), ((refl, refl), ((refl, refl), ((refl, refl), ((refl, refl), ((refl, refl), ((refl, refl), ((refl, refl), ((refl, refl), ((refl, refl), ((refl, refl), ((refl, refl), ((refl, refl), ((refl, refl), ((refl, refl), ((refl, refl), tt))))))))))))))))))))
+unfolding bookOutcomeAt bookFits lentFits sizeFits rows storedAs goodOrder bucket header recordAt clausesFrom verdict same? ℕ-discrete
+    diagramFrom valueFrom bookCall aloneCall lineCall bookStep recordStep alone sharing diagramIn numberIn placedAll place put diagramAt
+    clause above
+causes-come = (refl, (refl, (refl, (refl, (refl, (refl, (refl, (refl, (refl, (refl, (refl, (refl, (refl, (refl, (refl, (refl, (refl, (refl, (refl, (refl, tt))))))))))))))))))))
 
+-- A table out of good order.
 pub disorders-come : Rows disorders
-unfolding bookOutcomeAt bucket bookFits lentFits sizeFits rows storedAs goodOrder header recordAt clausesFrom verdict same? ℕ-discrete
-    diagramFrom valueFrom bookCall aloneCall
-    lineCall bookStep recordStep alone sharing diagramIn numberIn placedAll place put diagramAt clause above
-disorders-come = ((refl, refl), ((refl, refl), ((refl, refl), ((refl, refl), ((refl, refl), tt)))))
+unfolding bookOutcomeAt bookFits lentFits sizeFits rows storedAs goodOrder bucket header recordAt clausesFrom verdict same? ℕ-discrete
+    diagramFrom valueFrom bookCall aloneCall lineCall bookStep recordStep alone sharing diagramIn numberIn placedAll place put diagramAt
+    clause above
+disorders-come = (refl, (refl, (refl, (refl, (refl, tt)))))
 
+-- Two faults at once.
 pub orders-come : Rows orders
-unfolding bookOutcomeAt bucket bookFits lentFits sizeFits rows storedAs goodOrder header recordAt clausesFrom verdict same? ℕ-discrete
-    diagramFrom valueFrom bookCall aloneCall
-    lineCall bookStep recordStep alone sharing diagramIn numberIn placedAll place put diagramAt clause above
-orders-come = ((refl, refl), ((refl, refl), ((refl, refl), ((refl, refl), ((refl, refl), ((refl, refl), ((refl, refl), ((refl, refl), tt))))))))
+unfolding bookOutcomeAt bookFits lentFits sizeFits rows storedAs goodOrder bucket header recordAt clausesFrom verdict same? ℕ-discrete
+    diagramFrom valueFrom bookCall aloneCall lineCall bookStep recordStep alone sharing diagramIn numberIn placedAll place put diagramAt
+    clause above
+orders-come = (refl, (refl, (refl, (refl, (refl, (refl, (refl, (refl, tt))))))))
 
+-- Bytes that no call writes.
 pub bytes-come : Rows bytesKept
-unfolding bookOutcomeAt bucket bookFits lentFits sizeFits rows storedAs goodOrder header recordAt clausesFrom verdict same? ℕ-discrete
-    diagramFrom valueFrom bookCall aloneCall
-    lineCall bookStep recordStep alone sharing diagramIn numberIn placedAll place put diagramAt clause above
-bytes-come = ((refl, refl), ((refl, refl), ((refl, refl), ((refl, refl), ((refl, refl), ((refl, refl), tt))))))
+unfolding bookOutcomeAt bookFits lentFits sizeFits rows storedAs goodOrder bucket header recordAt clausesFrom verdict same? ℕ-discrete
+    diagramFrom valueFrom bookCall aloneCall lineCall bookStep recordStep alone sharing diagramIn numberIn placedAll place put diagramAt
+    clause above
+bytes-come = (refl, (refl, (refl, (refl, (refl, (refl, tt))))))
 
+-- An accepted line.
 pub line-comes : LineComes lineRow
-unfolding bookOutcomeAt bucket bookFits lentFits sizeFits rows storedAs goodOrder header recordAt clausesFrom verdict same? ℕ-discrete
-    diagramFrom valueFrom bookCall aloneCall
-    lineCall bookStep recordStep alone sharing diagramIn numberIn placedAll place put diagramAt clause above rup inWord
-line-comes = (refl, refl)
+unfolding bookOutcomeAt bookFits lentFits sizeFits rows storedAs goodOrder bucket header recordAt clausesFrom verdict same? ℕ-discrete
+    diagramFrom valueFrom bookCall aloneCall lineCall bookStep recordStep alone sharing diagramIn numberIn placedAll place put diagramAt
+    clause above rup inWord
+line-comes = refl
 
+-- 7 before 32, 32 before 35.
 pub openings-come : Openings openingRows
 unfolding openOutcome bookFits lentFits sizeFits storedAs
-openings-come = (refl, refl, refl, (refl, refl, refl, (refl, refl, refl, (refl, refl, refl, (refl, refl, refl, (refl, refl, refl, (refl, refl, refl, tt)))))))
+openings-come = (refl, (refl, (refl, (refl, (refl, (refl, (refl, tt)))))))

@@ -39,8 +39,16 @@ row columns count lists scratch lent bytes says left = record {
   left = left;
 }
 
+-- What is said, and the struct that comes back.
+pub record Came : Type 0 where
+  pub answer : Answer
+  pub kept : Kept
+
+abbrev came : Answer → Kept → Came
+came answer kept = record { answer = answer; kept = kept }
+
 abbrev Comes : Row → KeptOutcome → Type 0
-Comes x o = (o .answer ≡ x .says) × (o .kept ≡ x .left)
+Comes x o = came (o .answer) (o .kept) ≡ came (x .says) (x .left)
 
 abbrev pub Rows : List Row → Type 0
 Rows []ᴸ = Unit {0}
@@ -145,7 +153,7 @@ formula = bytes "p cnf 1 1\n1 0\n"
 abbrev pub orders : List Row
 orders =
     row (stored 8) 5 (lists 8 5 2 (ownOne 8)) 4095 (kept 9 77 99 65 1025 1025 268435457 4 4 9) end (refusal 7)
-        (kept 9 77 99 65 1025 1025 268435457 4 4 9)
+    (kept 9 77 99 65 1025 1025 268435457 4 4 9)
     ∷ᴸ row (stored 8) 4 (lists 8 2 0 (ownOne 7)) 4096 (awaits 1 1 0 0 1 1) end (refusal 7) (awaits 1 1 0 0 1 1)
     ∷ᴸ row (stored 8) 5 plain 4096 (kept 0 77 99 0 0 0 0 0 0 0) formula (say 35 14 0 0 1) (kept 1 77 99 1 1 0 0 1 1 0)
     ∷ᴸ row (stored 8) 5 plain 4096 (kept 0 77 99 65 0 0 0 0 0 0) formula (refusal 26) (kept 0 77 99 65 0 0 0 0 0 0)
@@ -164,7 +172,8 @@ bytesKept =
     ∷ᴸ row (stored 8) 5 plain 4096 (kept 1 77 99 1 1 0 0 1 1 9) end (say 0 0 0 0 1) (kept 2 0 0 1 1 0 0 1 1 9)
     ∷ᴸ row (stored 8) 5 plain 4096 (kept 1 77 99 1 1 0 0 1 1 9) []ᴸ (say 10 0 0 0 1) (kept 2 10 0 1 1 0 0 1 1 9)
     ∷ᴸ row (stored 8) 5 plain 4096 (kept 0 77 99 0 0 0 0 0 0 9) formula (say 35 14 0 0 1) (kept 1 77 99 1 1 0 0 1 1 0)
-    ∷ᴸ row (stored 8) 5 plain 4096 (kept 0 77 99 64 1024 1024 7 3 3 9) end (say 1 1 0 0 0) (kept 2 1 1 0 0 0 0 0 0 0)
+    ∷ᴸ row (stored 8) 5 plain 4096 (kept 0 77 99 64 1024 1024 7 3 3 9) (bytes "p cnf 1 2\n1 0\n") (say 5 14 0 0 1)
+    (kept 2 5 14 0 0 0 0 0 1 0)
     ∷ᴸ []ᴸ
 
 -- An accepted line, the rules taken at 4 variables: number and place, which no stage uses, are as they were lent.
@@ -212,10 +221,18 @@ abbrev openingOf : OpeningRow → KeptOpening
 openingOf x =
     keptOpening (stored 8) 5 plain (lists 8 2 0 (zeros (x .own))) (zeros (x .scratch)) was wasSecond (x .shareA) (x .shareB)
 
+pub record Both : Type 0 where
+  pub answer : Answer
+  pub first : Kept
+  pub second : Kept
+
+abbrev both : Answer → Kept → Kept → Both
+both answer first second = record { answer = answer; first = first; second = second }
+
 abbrev pub Openings : List OpeningRow → Type 0
 Openings []ᴸ = Unit {0}
 Openings (x ∷ᴸ xs) =
-    (openingOf x .answer ≡ refusal (x .number)) × (openingOf x .first ≡ x .first) × (openingOf x .second ≡ x .second) × Openings xs
+    (both (openingOf x .answer) (openingOf x .first) (openingOf x .second) ≡ both (refusal (x .number)) (x .first) (x .second)) × Openings xs
 
 -- 7 before 32, by either book's lists; 32 before 35: all as it was lent. 35: zeros.
 abbrev pub openingRows : List OpeningRow

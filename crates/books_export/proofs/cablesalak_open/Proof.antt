@@ -111,7 +111,7 @@ returns c =
     (c .kept-opened2 .result) (a .share) (a .sharesecond) (kept-opened-from-return c .kept-opened .ensures) (c .kept-opened2 .ensures) _
     (call-from-return c .call .ensures
     ∙ ap₂ (λ (u v : Book). openOutcome (columnsMade (a .vars .now) (a .lows .now) (a .highs .now) (a .heads .now) (a .links .now))
-        (a .count)
+    (a .count)
     (listsMade (a .members .now) (a .struck .now) (a .own .now))
     (listsMade (a .memberssecond .now) (a .strucksecond .now) (a .ownsecond .now))
     (a .scratch .now) u v (a .share) (a .sharesecond)) (book-of-from-return c .book-of .ensures)
@@ -120,6 +120,6 @@ returns c =
 pub cablesalak-open-spec : {M : Type 1} → statement M
 cablesalak-open-spec =
     tie.close (tie.spec book-of-requires book-of-requires-2 call-requires kept-opened-requires kept-opened-requires-2 same-length
-        same-length-2
+    same-length-2
     same-length-3 same-length-4 same-length-5 same-length-6 same-length-7 same-length-8 same-length-9 same-length-10 same-length-11
     same-length-12 returns)
