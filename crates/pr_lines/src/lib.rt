@@ -107,7 +107,8 @@ pub fn turn(
     )
 }
 
-// The turns of all members, by place, up to one that is `full` or does not conflict. Each one's nodes are dropped before the next.
+// The turns of all members, by place, up to one that is `full` or does not conflict. Each one's nodes are dropped before the next. A member
+// whose node had its turn has the same rounds and reaches no more, so its turn is not worked out again.
 fn turns(
     vars: &mut [u8],
     lows: &mut [u16],
@@ -151,6 +152,7 @@ fn turns(
 {
     let mut rounds: u64 = 0;
     let mut peak: usize = count;
+    let mut judged = [0u32; 4096];
     let mut i: usize = 0;
     while i < members.len() {
         let f = NodeNo(members[i]);
@@ -192,7 +194,10 @@ fn turns(
                 peak,
             };
         }
-        i += 1;
+        turn_memo::store(&mut judged, f, t.rounds);
+        let next = turn_memo::pass_stored(members, &judged, i + 1, rounds);
+        rounds = next.rounds;
+        i = next.place;
     }
     judge::Judged {
         full: false,

@@ -47,6 +47,27 @@ pub fn excluding(first: usize, second: usize) -> Problem {
     problem(&lines, store, 0)
 }
 
+/// So many lines that are one and the same node, x1 or at least 12 of 58 variables, behind two such lines of other variables; then so
+/// many PR lines, each of which gives every member a turn. No line places a node that is not there.
+pub fn equal(lines: usize, repeats: usize) -> Problem {
+    let formula = Formula { variables: 64, clauses: vec![vec![1], vec![3]] };
+    let mut builder = Builder::new(&formula);
+    let halves = [0x5555_5555_5555_5540, 0xaaaa_aaaa_aaaa_aa80_u64];
+    let members = halves.map(|set| (3, set)).into_iter().chain(vec![(1, halves[0] | halves[1]); lines]);
+    for (variable, set) in members {
+        let below = builder.writer.set(0x4b, set, 12);
+        let root = builder.writer.node(variable, below, 1);
+        builder.writer.line(0x52, root);
+    }
+    for _ in 0..repeats {
+        let below = builder.writer.node(6, 0, 1);
+        let root = builder.writer.node(5, below, 1);
+        builder.writer.witness(Literals { positive: 0b1_0100, negative: 0 });
+        builder.writer.line(0x50, root);
+    }
+    Problem { formula, builder }
+}
+
 /// The nodes of all remainders at the first of 31 variables, every second one from `first` on. The last weights are powers
 /// of 2, so that no two remainders are one node.
 fn counter(store: &mut Diagrams, random: &mut Random, modulus: usize, first: u8, ends: [Node; 2]) -> Vec<Node> {

@@ -30,6 +30,7 @@ pub fn all() -> Vec<Workload> {
         workloads::proof("wide levels, 6 of 200", &pairs::wide(8, 200, 6, 0), 4_096),
         workloads::proof("wide levels that exclude each other, 3 of 240", &pairs::wide_excluding(8, 240, 3), 4_096),
         workloads::proof("PR lines over wide levels", &pairs::wide(8, 200, 6, 5), 4_096),
+        workloads::proof("200 equal members, 200 PR lines", &pairs::equal(200, 200), 4_096),
         workloads::proof("counters apart, by 130", &pairs::apart(130, 0), 65_536),
     ]);
     all

@@ -119,7 +119,7 @@ pub fn check() -> Vec<Workload> {
 pub fn proof(name: &str, problem: &families::Problem, places: usize) -> Workload {
     let mut writer = problem.builder.writer.clone();
     writer.end();
-    let name = format!("{name} ({} lines, {places} places)", problem.builder.lines.len());
+    let name = format!("{name} ({} lines, {places} places)", writer.lines.len().saturating_sub(1));
     whole(name, "check", places, &problem.formula.text(), &writer.bytes)
 }
 

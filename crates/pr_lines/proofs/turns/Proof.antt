@@ -4,9 +4,9 @@ use mathlib.Core.Path.{_≡_, refl, sym, ap, _∙_, subst}
 use mathlib.Core.Bool.{true, false, not}
 use mathlib.Core.List.{List, [], _∷_}
 use Rattle.meaning.proofs.Booleans.{not-not}
-use Prim.Native.Nat.{ℕ, _+_, _-_, _*_, _<_}
+use Prim.Native.Nat.{ℕ, _+_, _-_, _*_, _<_, max}
 use native.Mathlib.Omega.{arith}
-use lib.ListN.{length, getD}
+use lib.ListN.{length, getD, length-replicate}
 use borrow.Author.Needs.{needs}
 use Rattle.meaning.specs.Rules.{Line, prTurns}
 use Rattle.meaning.specs.Words.{inWord}
@@ -20,22 +20,27 @@ use Rattle.judge.specs.Lines.{LineSays}
 use Rattle.judge.proofs.Worded.{member-worded, worded-again}
 use Rattle.judge.proofs.Ready.{again-ready}
 use Rattle.judge.proofs.Turning.{judgedAs, Turning, turning-none, turns-done, turns-full, turns-end, turns-on}
+use Rattle.turn_memo.specs.Turns.{Passes}
+use Rattle.turn_memo.proofs.Known.{Known, known-none, known-stored, passes-least}
+use Rattle.pr_lines.proofs.Equal.{Turned, turned-higher, turned-judged, turning-passed}
 use Rattle.pr_lines.proofs.turns.Statement.{statement}
 use Rattle.pr_lines.proofs.turns.Tie as tie
 
 abbrev Inv-loop : tie.InvT-loop
 Inv-loop vars₀ lows₀ highs₀ heads₀ links₀ memo₀ marks₀ members memberwords first firstwords second₀ secondwords₀ count witness rounds₀ peak₀
-    i₀ vars lows highs heads links memo marks second secondwords rounds peak i =
+    judged₀ i₀ vars lows highs heads links memo marks second secondwords rounds peak judged i =
     (tableOf vars lows highs heads links count ≡ tableOf vars₀ lows₀ highs₀ heads₀ links₀ count)
     × Turning (tableOf vars₀ lows₀ highs₀ heads₀ links₀ count) first members (witness .positive) (witness .negative) i rounds peak
     × (marks ≡ unmarked (length vars₀))
     × (length memo ≡ length memo₀)
     × (length second ≡ length second₀)
     × (length secondwords ≡ length secondwords₀)
+    × Known judged (Turned (tableOf vars₀ lows₀ highs₀ heads₀ links₀ count) first (witness .positive) (witness .negative) peak)
+    × (length judged ≡ 4096)
 
 abbrev μ-loop : tie.MeasureT-loop
 μ-loop vars₀ lows₀ highs₀ heads₀ links₀ memo₀ marks₀ members memberwords first firstwords second₀ secondwords₀ count witness rounds₀ peak₀
-    i₀ vars lows highs heads links memo marks second secondwords rounds peak i =
+    judged₀ i₀ vars lows highs heads links memo marks second secondwords rounds peak judged i =
     length members - i
 
 module _ (s : tie.Start Inv-loop μ-loop) where
@@ -123,17 +128,8 @@ module _ (c : tie.After-struct-known Inv-loop μ-loop) where
   turn-from-add-rounds = turn-from-drop-to drop-to-from-add-rounds
 
 module _ (c : tie.Else2 Inv-loop μ-loop) where
-  abbrev drop-to-from-else2 : tie.After-drop-to Inv-loop μ-loop
-  drop-to-from-else2 = drop-to-from-add-rounds (c .before .before)
-
-  abbrev else1-from-else2 : tie.Else1 Inv-loop μ-loop
-  else1-from-else2 = else1-from-drop-to-call (drop-to-from-else2 .before)
-
-  abbrev greater-from-else2 : tie.After-greater Inv-loop μ-loop
-  greater-from-else2 = else1-from-else2 .before
-
   abbrev turn-from-else2 : tie.After-turn Inv-loop μ-loop
-  turn-from-else2 = turn-from-greater greater-from-else2
+  turn-from-else2 = turn-from-add-rounds (c .before .before)
 
 module _ (c : tie.Then2 Inv-loop μ-loop) where
   abbrev drop-to-from-then2 : tie.After-drop-to Inv-loop μ-loop
@@ -153,6 +149,42 @@ module _ (c : tie.Then2 Inv-loop μ-loop) where
 
   abbrev start-from-then2 : tie.Start Inv-loop μ-loop
   start-from-then2 = start-from-at-loop at-loop-from-then2
+
+module _ (c : tie.After-judged Inv-loop μ-loop) where
+  abbrev turn-from-store-call : tie.After-turn Inv-loop μ-loop
+  turn-from-store-call = turn-from-else2 (c .before)
+
+  abbrev at-loop-from-store-call : tie.At-loop Inv-loop μ-loop
+  at-loop-from-store-call = at-loop-from-turn turn-from-store-call
+
+module _ (c : tie.After-judged3 Inv-loop μ-loop) where
+  abbrev store-from-pass-stored-call : tie.After-store Inv-loop μ-loop
+  store-from-pass-stored-call = c .before .before
+
+  abbrev turn-from-pass-stored-call : tie.After-turn Inv-loop μ-loop
+  turn-from-pass-stored-call = turn-from-else2 (store-from-pass-stored-call .before .before)
+
+  abbrev at-loop-from-pass-stored-call : tie.At-loop Inv-loop μ-loop
+  at-loop-from-pass-stored-call = at-loop-from-turn turn-from-pass-stored-call
+
+module _ (c : tie.After-pass-stored Inv-loop μ-loop) where
+  abbrev store-from-loop-again : tie.After-store Inv-loop μ-loop
+  store-from-loop-again = c .before .before .before
+
+  abbrev else2-from-loop-again : tie.Else2 Inv-loop μ-loop
+  else2-from-loop-again = store-from-loop-again .before .before
+
+  abbrev drop-to-from-loop-again : tie.After-drop-to Inv-loop μ-loop
+  drop-to-from-loop-again = drop-to-from-add-rounds (else2-from-loop-again .before .before)
+
+  abbrev else1-from-loop-again : tie.Else1 Inv-loop μ-loop
+  else1-from-loop-again = else1-from-drop-to-call (drop-to-from-loop-again .before)
+
+  abbrev greater-from-loop-again : tie.After-greater Inv-loop μ-loop
+  greater-from-loop-again = else1-from-loop-again .before
+
+  abbrev turn-from-loop-again : tie.After-turn Inv-loop μ-loop
+  turn-from-loop-again = turn-from-greater greater-from-loop-again
 
 -- what a turn leaves
 module _ (a : tie.After-turn Inv-loop μ-loop) where
@@ -204,14 +236,16 @@ loop-holds c =
       refl,
       refl,
       refl,
+      known-none 4096 (Turned (before s) (s .args .first .now) (s .args .witness .positive) (s .args .witness .negative) (s .args .count)),
+      length-replicate {A = ℕ} 4096 0,
     )
 
-mul-t21 : tie.Need-mul-t21 Inv-loop μ-loop
-mul-t21 c =
+mul-t23 : tie.Need-mul-t23 Inv-loop μ-loop
+mul-t23 c =
     search needs
 
-shared-slice-read-t24 : tie.Need-shared-slice-read-t24 Inv-loop μ-loop
-shared-slice-read-t24 c =
+shared-slice-read-t26 : tie.Need-shared-slice-read-t26 Inv-loop μ-loop
+shared-slice-read-t26 c =
     search needs
 
 mul-turn : tie.Need-mul-turn Inv-loop μ-loop
@@ -368,30 +402,101 @@ returns-2 c =
       unmarked-again a,
     )
 
-add-i : tie.Need-add-i Inv-loop μ-loop
-add-i c =
-    let a = turn-from-else2 c in omega (arith, more a, start a .pre .0 .4)
+slice-aggregate-store : tie.Need-slice-aggregate-store Inv-loop μ-loop
+slice-aggregate-store c =
+    sym (at-loop-from-store-call c .loop .inv .7)
+
+store-requires : tie.Need-store-requires Inv-loop μ-loop
+store-requires c κs =
+    (at-loop-from-store-call c .loop .inv .7, said (turn-from-store-call c) .most)
+
+slice-aggregate-pass-stored : tie.Need-slice-aggregate-pass-stored Inv-loop μ-loop
+slice-aggregate-pass-stored c =
+    sym (store-from-pass-stored-call c .store .kept .0 ∙ at-loop-from-pass-stored-call c .loop .inv .7)
+
+add-pass-stored : tie.Need-add-pass-stored Inv-loop μ-loop
+add-pass-stored c =
+    let a = turn-from-pass-stored-call c in omega (arith, more a, start a .pre .0 .4)
+
+pass-stored-requires : tie.Need-pass-stored-requires Inv-loop μ-loop
+pass-stored-requires c κs =
+    let a = turn-from-pass-stored-call c in (
+      store-from-pass-stored-call c .store .kept .0 ∙ reached a .loop .inv .7,
+      start a .pre .0 .4,
+      omega (arith, said a .most, reached a .loop .inv .1 .most),
+    )
+
+-- the members passed, and what is known of the turns judged
+module _ (c : tie.After-pass-stored Inv-loop μ-loop) where
+  abbrev last : tie.After-turn Inv-loop μ-loop
+  last = turn-from-loop-again c
+
+  abbrev judged₁ : List ℕ
+  judged₁ = store-from-loop-again c .store .last .0
+
+  abbrev Equal : ℕ → ℕ → ℕ → Type 0
+  Equal = Turned (before (start last)) (start last .args .first .now) (start last .args .witness .positive)
+      (start last .args .witness .negative)
+
+  passes : Passes (start last .args .members .now) judged₁ (reached last .loop .i + 1)
+      (reached last .loop .rounds + last .turn .result .rounds) (c .pass-stored .result .place) (c .pass-stored .result .rounds)
+  passes = c .pass-stored .ensures
+
+  conflicted : last .turn .result .shown ≡ true
+  conflicted = sym (not-not (last .turn .result .shown)) ∙ ap not (else2-from-loop-again c .if2 .left)
+
+  known : Known judged₁ (Equal (max (reached last .loop .peak) (last .turn .result .peak)))
+  known =
+      known-stored (reached last .loop .judged) judged₁ (Equal (reached last .loop .peak))
+      (Equal (max (reached last .loop .peak) (last .turn .result .peak))) (member last) (last .turn .result .rounds)
+      (reached last .loop .inv .6)
+      (turned-higher (before (start last)) (start last .args .first .now) (start last .args .witness .positive)
+      (start last .args .witness .negative) (reached last .loop .peak) (max (reached last .loop .peak) (last .turn .result .peak))
+      (omega arith))
+      (turned-judged (before (start last)) (start last .args .first .now) (start last .args .witness .positive)
+      (start last .args .witness .negative) (good (start last)) (reached last .loop .peak) (member last) (last .turn .result) (table₁ last)
+      (said last) (else1-from-loop-again c .if1 .left) conflicted)
+      (said last .most) (store-from-loop-again c .store .ensures)
+
+  turning : Turning (before (start last)) (start last .args .first .now) (start last .args .members .now)
+      (start last .args .witness .positive) (start last .args .witness .negative) (c .pass-stored .result .place)
+      (c .pass-stored .result .rounds) (max (reached last .loop .peak) (last .turn .result .peak))
+  turning =
+      turning-passed (before (start last)) (start last .args .first .now) (start last .args .witness .positive)
+      (start last .args .witness .negative) (good (start last)) (start last .args .members .now) judged₁ (reached last .loop .i + 1)
+      (reached last .loop .rounds + last .turn .result .rounds) (c .pass-stored .result .place) (c .pass-stored .result .rounds)
+      (max (reached last .loop .peak) (last .turn .result .peak)) known
+      (turns-on (before (start last)) (start last .args .first .now) (start last .args .members .now) (start last .args .witness .positive)
+      (start last .args .witness .negative) (good (start last)) (reached last .loop .i) (reached last .loop .rounds) (reached last .loop .peak)
+      (reached last .loop .inv .1) (more last) (last .turn .result) (table₁ last) (said last) (else1-from-loop-again c .if1 .left) conflicted)
+      passes
 
 loop-less : tie.Need-loop-less Inv-loop μ-loop
 loop-less c =
-    let a = turn-from-else2 c in omega (arith, more a)
+    let a = turn-from-loop-again c in
+    omega (
+      arith,
+      more a,
+      passes-least (start a .args .members .now) (judged₁ c) (reached a .loop .i + 1)
+          (reached a .loop .rounds + a .turn .result .rounds) (c .pass-stored .result .place) (c .pass-stored .result .rounds) (passes c),
+    )
 
 loop-again : tie.Need-loop-again Inv-loop μ-loop
 loop-again c =
-    let d = drop-to-from-else2 c in
-    let a = turned d in
+    let d = drop-to-from-loop-again c in
+    let a = turn-from-loop-again c in
     let s = start a in
-    let w = reached a .loop in (
+    let w = reached a .loop in
+    let g = sym (greater-from-loop-again c .greater .ensures) in (
       as-before d,
       subst (Turning (before s) (s .args .first .now) (s .args .members .now) (s .args .witness .positive) (s .args .witness .negative)
-          (w .i + 1) (w .rounds + a .turn .result .rounds)) (sym (greater-from-else2 c .greater .ensures))
-          (turns-on (before s) (s .args .first .now) (s .args .members .now) (s .args .witness .positive) (s .args .witness .negative)
-          (good s) (w .i) (w .rounds) (w .peak) (w .inv .1) (more a) (a .turn .result) (table₁ a) (said a)
-          (else1-from-else2 c .if1 .left) (sym (not-not (a .turn .result .shown)) ∙ ap not (c .if2 .left))),
+          (c .pass-stored .result .place) (c .pass-stored .result .rounds)) g (turning c),
       unmarked-again a,
       a .turn .kept .1 .1 .1 .1 .1 .0 ∙ w .inv .3,
       a .turn .kept .1 .1 .1 .1 .1 .1 .1 .1 .1 .0 ∙ w .inv .4,
       a .turn .kept .1 .1 .1 .1 .1 .1 .1 .1 .1 .1 .0 ∙ w .inv .5,
+      subst (λ (m : ℕ). Known (judged₁ c) (Equal c m)) g (known c),
+      store-from-loop-again c .store .kept .0 ∙ w .inv .7,
     )
 
 same-length-19 : tie.Need-same-length-19 Inv-loop μ-loop
@@ -448,8 +553,8 @@ turns-spec =
     Inv-loop
     μ-loop
     loop-holds
-    mul-t21
-    shared-slice-read-t24
+    mul-t23
+    shared-slice-read-t26
     mul-turn
     shared-slice-read-turn
     turn-requires
@@ -476,7 +581,11 @@ turns-spec =
     same-length-17
     same-length-18
     returns-2
-    add-i
+    slice-aggregate-store
+    store-requires
+    slice-aggregate-pass-stored
+    add-pass-stored
+    pass-stored-requires
     loop-less
     loop-again
     same-length-19
