@@ -1,7 +1,7 @@
 -- A refused command over the lists that hold the state: what the functions ask that its cause is worked out by, and that what they tell is
 -- the cause of every command that the code's one stands for. Assumes nothing.
 use mathlib.Core.Path.{_≡_, sym, ap, _∙_, subst}
-use mathlib.Core.Bool.{Bool}
+use mathlib.Core.Bool.{Bool, false}
 use mathlib.Core.List.{List}
 use Prim.Native.Nat.{ℕ, _+_, _^_, _<_}
 use lib.ListN.{length}

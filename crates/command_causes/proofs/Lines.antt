@@ -3,10 +3,10 @@
 use mathlib.Core.Path.{_≡_, refl, sym, ap, _∙_, subst}
 use mathlib.Core.Bool.{false, true, not}
 use mathlib.Core.List.{List}
-use Prim.Native.Nat.{ℕ, _≤_}
+use Prim.Native.Nat.{ℕ, _+_, _≤_, _<_}
 use lib.ListN.{length, getD, take}
 use lib.Dec.{eqb, ltb, leb}
-use borrow.Author.Tests.{ltb-false}
+use borrow.Author.Tests.{ltb-true, ltb-false}
 use Rattle.meaning.specs.Diagram.{Diagram}
 use Rattle.meaning.specs.Words.{inWord}
 use Rattle.table.specs.Nodes.{diagramAt}
@@ -22,6 +22,8 @@ use Rattle.verdict.specs.Taken.{lineOf}
 use Rattle.verdict.proofs.Steps.{past-early}
 use Rattle.state.specs.declared.State.{State}
 use Rattle.state.specs.States.{Lent, tableIn, stateOf}
+use Rattle.entries.proofs.Entries.{entry-is}
+use Rattle.record_causes.proofs.Refused.{room}
 use Rattle.causes.specs.Causes.{fixed, fixes, rupCause, prCause, pathCause, lineCause}
 use Rattle.causes.specs.Answers.{told}
 use Rattle.tell.specs.Failed.{Unshown, Fixed, byNot, underWitness, PrTold}
@@ -73,6 +75,21 @@ module _ (L : Lent) (x : State) (root : ℕ) where
   abbrev G : ℕ → Diagram
   G g = diagramAt (nodesOf T) g
 
+  -- The cause of the answer and its words, for every way in which the line is refused; m words are lent.
+  module _ (m : ℕ) (words : List ℕ) where
+    abbrev pub Tells : Cause → Rule → Type 0
+    Tells r rule = (R : LineRefused L x rule root) → toldBy r words ≡ told m (lineCause (R .n) 19 S rule (diagramIn S (entryNode S root)))
+
+    -- The same, the rule being that one.
+    pub tells-as : (r : Cause) (rule rule′ : Rule) → rule ≡ rule′ → Tells r rule′ → Tells r rule
+    tells-as r rule rule′ e W = subst (Tells r) (sym e) W
+
+  -- its entry is there
+  pub root-below : (rule : Rule) → LineRefused L x rule root → root < x .entries + 2
+  root-below rule R =
+      ltb-true root (x .entries + 2) (sym (entry-is L x (room (R .n) (size T) L x (R .held)) root)
+      ∙ fits (R .n) L x (R .held) rule root (R .peak) (R .refused) .entry)
+
   -- the node of the line, as it is read from the scratch list
   module _ (g : ℕ) (is : g ≡ entryNode S root) where
     at-node : (P : ℕ → Type 0) → P (entryNode S root) → P g
@@ -90,11 +107,7 @@ module _ (L : Lent) (x : State) (root : ℕ) where
     paths-few R = at-node (λ (k : ℕ). pathCount (G k) ≤ 4096) (few-paths (R .n) (size T) S root (R .peak) (R .refused))
 
     module _ (m : ℕ) (words : List ℕ) (kept : length words ≡ m) where
-      -- The answer's cause, for every way in which the line is refused.
-      abbrev pub Tells : Cause → Rule → Type 0
-      Tells r rule = (R : LineRefused L x rule root) → toldBy r words ≡ told m (lineCause (R .n) 19 S rule (diagramIn S (entryNode S root)))
-
-      pub rup-tells : (rounds : ℕ) → Fixed (byNot (G g) (liveMembers S)) rounds words → Tells (ofRounds rounds false 0) Rup
+      pub rup-tells : (rounds : ℕ) → Fixed (byNot (G g) (liveMembers S)) rounds words → Tells m words (ofRounds rounds false 0) Rup
       rup-tells rounds F R =
           let X : Fixed (byNot (G (entryNode S root)) (liveMembers S)) rounds words =
           subst (λ (k : ℕ). Fixed (byNot (G k) (liveMembers S)) rounds words) is F in
@@ -106,7 +119,7 @@ module _ (L : Lent) (x : State) (root : ℕ) where
       pub pr-tells : (i rounds : ℕ)
           → PrTold (nodesOf T) (x .witness .positive) (x .witness .negative) (byNot (G g) (liveMembers S)) (L .members) (L .struck)
           (x .members) i rounds words
-          → Tells (ofRounds rounds true i) Pr
+          → Tells m words (ofRounds rounds true i) Pr
       pr-tells i rounds F R =
           let p = x .witness .positive in
           let q = x .witness .negative in
@@ -121,14 +134,10 @@ module _ (L : Lent) (x : State) (root : ℕ) where
           ∙ pr-cause-is (R .n) L x (R .held) (entryNode S root) (root-inside (R .n) L x (R .held) Pr root (R .peak) (R .refused))
           (fits (R .n) L x (R .held) Pr root (R .peak) (R .refused) .not-one) p q i rounds words W))
 
-      pub path-tells : (rounds : ℕ) → PathTold (liveMembers S) (G g) rounds words → Tells (ofRounds rounds false 0) Path
+      pub path-tells : (rounds : ℕ) → PathTold (liveMembers S) (G g) rounds words → Tells m words (ofRounds rounds false 0) Path
       path-tells rounds F R =
           let X : PathTold (liveMembers S) (G (entryNode S root)) rounds words =
           subst (λ (k : ℕ). PathTold (liveMembers S) (G k) rounds words) is F in
           told-rounds m words rounds (X .literals) (X .rounds-are) kept (X .words-are)
           ∙ ap (told m) (sym (path-line (R .n) S (G (entryNode S root)) ∙ path-cause-is (R .n) L x (R .held) (G (entryNode S root))
           ∙ X .cause))
-
-      -- The same, the rule being that one.
-      pub tells-as : (r : Cause) (rule rule′ : Rule) → rule ≡ rule′ → Tells r rule′ → Tells r rule
-      tells-as r rule rule′ e W = subst (Tells r) (sym e) W

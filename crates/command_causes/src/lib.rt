@@ -8,6 +8,7 @@ use records::EntryNo;
 use records::NodeBody;
 use records::Rule;
 ghost use mathlib.Core.Path.{_≡_};
+ghost use Prim.Native.Nat.{_^_, _<_};
 ghost use Rattle.command_causes.specs.Causes.{ofNumbers, ofRounds};
 
 // The two variables of 14; the word of 18's assignment; the rounds of 19, and the member that was not shown where one is named. What a
@@ -35,6 +36,7 @@ pub enum Refused {
 // The cause of 14 or 18, or none.
 fn of_numbers(variable: u8, child: u8, word: u64) -> Cause
     ensures { λ r. ⌜ r ≡ ofNumbers variable child word ⌝ }
+    ensures { λ _. ⌜ word < 2 ^ 64 ⌝ }
 {
     Cause {
         variable,
@@ -47,15 +49,15 @@ fn of_numbers(variable: u8, child: u8, word: u64) -> Cause
 }
 
 // The cause of 19.
-fn of_rounds(rounds: usize, has_member: bool, member: usize) -> Cause
-    ensures { λ r. ⌜ r ≡ ofRounds rounds has_member member ⌝ }
+fn of_rounds(rounds: usize, named: bool, member: usize) -> Cause
+    ensures { λ r. ⌜ r ≡ ofRounds rounds named member ⌝ }
 {
     Cause {
         variable: 0,
         child: 0,
         word: 0,
         rounds,
-        has_member,
+        has_member: named,
         member,
     }
 }
