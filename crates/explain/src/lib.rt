@@ -132,8 +132,10 @@ fn command_in(proof: &[u8], at: usize, variables: u8, mode: Mode) -> Command
         let read = commandAt (mode .form) (now (proof .entry)) variables at in
         r ≡ admitted (mode .consequence) (commandOf (read .command))) ⌝ }
 {
-    let read = commands::command_at(proof, at, variables, mode.form);
-    profile::admitted(read.command, mode.consequence)
+    let form = mode.form;
+    let read = commands::command_at(proof, at, variables, form);
+    let command = read.command;
+    profile::admitted(command, mode.consequence)
 }
 
 // The cause of what the check refuses with 14, 18 or 19, over what it leaves, which is then as it was.
@@ -315,10 +317,11 @@ fn explained<'a>(
         (now (members .entry)) (now (struck .entry)) (now (scratch .entry))) ⌝ }
 {
     let number = checked.number;
+    let form = mode.form;
     let end = pieces::piece_end(
         formula,
         proof,
-        mode.form,
+        form,
         number,
         checked.in_proof,
         checked.place,

@@ -57,7 +57,7 @@ remake-requires c κs =
     let s = start e in
     let b = begun e in
     let f = (c .before .before .before .before .before .before .before .before .before .before) in
-    remake-asks (s .args .mode) (s .args .formula .now) (s .args .proof .now) (lent s) (s .args .count) (s .args .lines) (s .args .place) (s .pre .0) (s .pre .1) (s .pre .2) (b .begun-of .result) (b .begun-of .ensures) (records e) (f .line-start .result) (f .line-start .ensures) _ _ (s .pre .3) (s .pre .4)
+    remake-asks (s .args .mode) (s .args .formula .now) (s .args .proof .now) (lent s) (s .args .count) (s .args .lines) (s .args .place) (s .pre .0) (s .pre .1) (s .pre .2) (b .begun-of .result) (b .begun-of .ensures) (records e) (f .line-start .result) (f .line-start .ensures) (s .args .marks .now) (s .args .memo .now) (s .pre .3) (s .pre .4)
 
 same-length : tie.Need-same-length
 same-length c =
