@@ -1,5 +1,4 @@
 -- TEMPORARY. Assumes all.
-use borrow.Author.Needs.{needs}
 use Rattle.explain.proofs.stub.cause.Statement.{statement}
 use Rattle.explain.proofs.stub.cause.Tie as tie
 
