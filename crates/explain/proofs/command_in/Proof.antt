@@ -1,0 +1,1 @@
+-- command_in

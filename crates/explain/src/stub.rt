@@ -1,0 +1,70 @@
+// TEMPORARY: the cause of a refused command, until command_causes is merged.
+use crate::Cause;
+use commands::Command;
+use state::State;
+ghost use mathlib.Core.Path.{_≡_};
+ghost use mathlib.Core.Bool.{Bool, true};
+ghost use Prim.Native.Nat.{ℕ, _≤_};
+ghost use lib.ListN.{length};
+ghost use Rattle.table.specs.Indexed.{tableOf};
+ghost use Rattle.walks.specs.Readable.{Roomy};
+ghost use Rattle.conflict.specs.Marks.{unmarked};
+ghost use Rattle.commands.specs.Commands as read;
+ghost use Rattle.commands.specs.Inner.{commandOf};
+ghost use Rattle.profile.specs.Admitted.{admitted};
+ghost use Rattle.verdict.specs.Check.{zeros};
+ghost use Rattle.state.specs.States.{lentOf, stateOf, Held};
+ghost use Rattle.tries.specs.Commands.{CommandFits, PivotOfFits};
+ghost use Rattle.causes.specs.Causes as causes;
+ghost use Rattle.causes.specs.Answers.{told};
+ghost use Rattle.line_again.specs.Before.{hasCause};
+ghost use Rattle.explain.specs.Stub.{toldBy, RefusedWith, RefusedBy};
+
+pub fn cause(
+    vars: &mut [u8],
+    lows: &mut [u16],
+    highs: &mut [u16],
+    heads: &mut [u16],
+    links: &mut [u16],
+    memo: &mut [u64],
+    marks: &mut [u8],
+    members: &[u16],
+    scratch: &mut [u16],
+    struck: &[u8],
+    fixed: &mut [u64],
+    st: State,
+    variables: u8,
+    number: u8,
+    command: Command,
+) -> Cause
+    requires { ⌜ (
+        let lent = lentOf (now vars) (now lows) (now highs) (now heads) (now links) (now members) (now scratch) (now struck) in
+        Held variables lent st
+        × (now marks ≡ unmarked (length (now vars)))
+        × Roomy (now vars) (now memo)
+        × PivotOfFits command
+        × (128 ≤ length (now fixed))
+        × (now fixed ≡ zeros (length (now fixed)))
+        × (hasCause number ≡ true)
+        × RefusedBy variables (length (now vars)) (stateOf lent st) number command) ⌝ }
+    ensures { λ r. ⌜ (
+        let lent = lentOf (now (vars .entry)) (now (lows .entry)) (now (highs .entry)) (now (heads .entry)) (now (links .entry))
+        (now (members .entry)) (now (scratch .entry)) (now (struck .entry)) in
+        (profile : Bool) (c : read.Command) → admitted profile (commandOf c) ≡ command → CommandFits variables c →
+        RefusedWith profile variables (length (now (vars .entry))) (stateOf lent st) number c →
+        toldBy r (now (fixed .exit)) ≡ told (length (now (fixed .entry))) (causes.cause profile variables number (stateOf lent st) c)) ⌝ }
+    ensures { λ _. ⌜ (
+        let before = tableOf (now (vars .entry)) (now (lows .entry)) (now (highs .entry)) (now (heads .entry)) (now (links .entry)) (st .count) in
+        let after = tableOf (now (vars .exit)) (now (lows .exit)) (now (highs .exit)) (now (heads .exit)) (now (links .exit)) (st .count) in
+        after ≡ before) ⌝ }
+    ensures { λ _. ⌜ now (marks .exit) ≡ unmarked (length (now (vars .entry))) ⌝ }
+{
+    Cause {
+        variable: 0,
+        child: 0,
+        word: 0,
+        rounds: 0,
+        has_member: false,
+        member: 0,
+    }
+}
